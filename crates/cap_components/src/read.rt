@@ -68,7 +68,7 @@ pub fn directory_in<'a>(parts: &Parts<'a>, format: Format) -> Result<Directory<'
 
 /// The Header, and the Directory in the format that it names.
 #[tactic(auto, unfolding(crate::specs::Components::read_directory))]
-pub(crate) fn opening_in<'a>(parts: &Parts<'a>) -> Result<Opening<'a>, PackFault>
+pub fn opening_in<'a>(parts: &Parts<'a>) -> Result<Opening<'a>, PackFault>
     ensures { GivesOpening parts.now result }
 {
     let header = header_in(parts)?;

@@ -29,14 +29,18 @@ pub fn read_package<'p, 'a>(parts: &'p Parts<'a>) -> Result<Components<'p, 'a>, 
     read_opened(parts, opening_in(parts))
 }
 
-/// The components of a package of which no part that must be there is absent.
+/// The components of a package of which no part that must be there is absent, where the Header and the Directory were
+/// read.
 #[tactic(auto, unfolding(crate::specs::ReadPackage::read_whole))]
-pub fn read_whole<'p, 'a>(parts: &'p Parts<'a>) -> Result<Components<'p, 'a>, PackFault>
+pub fn read_whole_opened<'p, 'a>(
+    parts: &'p Parts<'a>,
+    opening: Result<Opening<'a>, PackFault>,
+) -> Result<Components<'p, 'a>, PackFault>
+    requires { GivesOpening parts.now opening }
     ensures value { Answers components_seen result (read_whole parts.now) }
     ensures parts { IfOk result (λ all. all.parts.now ≡ parts.now) }
     ensures infos { IfOk result (λ all. HaveInfos all) }
 {
-    let opening = opening_in(parts);
     none_missing(parts, &opening)?;
     read_opened(parts, opening)
 }

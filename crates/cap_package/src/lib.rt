@@ -32,6 +32,6 @@ pub use header_checks::header;
 pub use package_type::Package;
 pub use packages::Packages;
 pub use packages_iter::PackagesIter;
-pub use packaging::{agreed_package, package};
+pub use packaging::{agreed_package, package, package_opened};
 pub use places::StaticPlaces;
 pub use static_place::StaticPlace;

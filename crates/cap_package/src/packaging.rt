@@ -5,23 +5,29 @@ ghost use Rattle.cap_package.specs.Agreement.{package_from};
 ghost use Rattle.cap_package.specs.FirstFault.{Tells};
 ghost use Rattle.cap_package.specs.StandsFor.{StandsFor, HavePackage};
 ghost use Rattle.cap_components.specs.Infos.{HaveInfos};
+ghost use Rattle.cap_components.specs.Openings.{GivesOpening};
 ghost use Rattle.cap_components.specs.PackageRecord.{PackageRecord};
 
 use crate::agreement::{counts_agree, members_agree, places_agree};
 use crate::method_checks::method_starts;
 use crate::package_type::Package;
 use cap_components::{
-    Components, PackFault, Parts, customs_formed, interface_offsets, read_package, read_whole,
+    Components, Opening, PackFault, Parts, customs_formed, interface_offsets, opening_in,
+    read_package, read_whole_opened,
 };
 
 /// The components of the package that the parts stand for.
 #[tactic(auto, unfolding(crate::specs::Agreement::package_from))]
-fn agreeing<'p, 'a>(parts: &'p Parts<'a>) -> Result<Components<'p, 'a>, PackFault>
+fn agreeing<'p, 'a>(
+    parts: &'p Parts<'a>,
+    opening: Result<Opening<'a>, PackFault>,
+) -> Result<Components<'p, 'a>, PackFault>
+    requires { GivesOpening parts.now opening }
     ensures value { Answers components_seen result (package_from parts.now) }
     ensures parts { IfOk result (λ all. all.parts.now ≡ parts.now) }
     ensures infos { IfOk result (λ all. HaveInfos all) }
 {
-    let all = read_whole(parts)?;
+    let all = read_whole_opened(parts, opening)?;
     customs_formed(parts, &all.directory)?;
     let interfaces = interface_offsets(&all.classes);
     let starts = method_starts(all.descriptor.methods_but(&interfaces));
@@ -32,7 +38,6 @@ fn agreeing<'p, 'a>(parts: &'p Parts<'a>) -> Result<Components<'p, 'a>, PackFaul
 }
 
 /// The package that the parts stand for, or why they stand for none.
-#[tactic(auto, using(crate::proofs::FirstTold::first_told))]
 pub fn package<'p, 'a>(parts: &'p Parts<'a>) -> Result<Package<'p, 'a>, PackFault>
     ensures value { result ≡ package_from parts.now }
     // A package exactly where nothing is at fault; else the first condition by number that is broken, at its
@@ -42,7 +47,23 @@ pub fn package<'p, 'a>(parts: &'p Parts<'a>) -> Result<Package<'p, 'a>, PackFaul
     ensures stands { IfOk result (λ p. StandsFor parts.now p) }
     ensures only { (p : PackageRecord) → StandsFor parts.now p → result ≡ Ok p }
 {
-    match agreeing(parts) {
+    package_opened(parts, opening_in(parts))
+}
+
+/// The same for parts of which the Header and the Directory were read, as those are that were loaded by what the
+/// Directory says.
+#[tactic(auto, using(crate::proofs::FirstTold::first_told))]
+pub fn package_opened<'p, 'a>(
+    parts: &'p Parts<'a>,
+    opening: Result<Opening<'a>, PackFault>,
+) -> Result<Package<'p, 'a>, PackFault>
+    requires { GivesOpening parts.now opening }
+    ensures value { result ≡ package_from parts.now }
+    ensures tells { Tells parts.now result }
+    ensures stands { IfOk result (λ p. StandsFor parts.now p) }
+    ensures only { (p : PackageRecord) → StandsFor parts.now p → result ≡ Ok p }
+{
+    match agreeing(parts, opening) {
         Ok(all) => Ok(Package { all }),
         Err(fault) => Err(fault),
     }

@@ -4,7 +4,7 @@ use Rattle.cap_package.specs.Agreement.{package_from}
 use Rattle.cap_package.specs.FirstFault.{Tells}
 use Rattle.cap_package.proofs.FirstTold.{first_told}
 use Rattle.cap_package.proofs.OneRecord.{answer_is, stands_only}
-use Rattle.cap_package.proofs.packaging.package.Goals as goal
+use Rattle.cap_package.proofs.packaging.package_opened.Goals as goal
 
 pub invariant_of-result : goal.invariant_of-result
 invariant_of-result c = (ap package_from c.in-Ok.ensures.parts ∙ c.in-Ok.ensures.value, c.in-Ok.ensures.infos)
