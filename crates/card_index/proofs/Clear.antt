@@ -1,22 +1,24 @@
 -- A pass over an index that raises no register is a card typing over the index.
-use Rattle.std.proofs.Common.{◌≡◌, ℕ, zero, suc, ◌+◌, ◌<◌, ◌≤◌, ◌⊎◌, inl, inr, ⊎_elim, Bool, true, false, ◌==◌, if◌then◌else◌, List, [], ◌∷◌, length, get_or, All, refl, sym, ◌∙◌, ap, subst, arith, Contains}
+use Rattle.std.proofs.Common.{◌≡◌, ℕ, ◌+◌, ◌<◌, ◌≤◌, ⊎_elim, Bool, true, false, ◌==◌, if◌then◌else◌, List, [], ◌∷◌, refl, sym, ◌∙◌, ap, subst, arith, Contains}
 use Rattle.std.proofs.lemmas.List.Elements.{All-contains}
 use Rattle.jc_base.specs.declared.ty.Ty.{Ty}
 use Rattle.jc_base.specs.World.{Linked}
 use Rattle.jc_decode.specs.declared.insn.Placed.{Placed}
 use Rattle.jc_decode.specs.Listing.{falls, listing, Lists}
+use Rattle.jc_decode.proofs.Elements.{Contains-first, Contains-later}
 use Rattle.jc_control.specs.Method.{Method, IsMethodOf}
 use Rattle.jc_control.specs.WellFormed.{HasInstruction, IsPlace, IsWellFormed}
 use Rattle.jc_control.specs.Laws.{InstructionsArePlaced}
 use Rattle.jc_decode.specs.Laws.{InstructionsAreListed}
 use Rattle.jc_rules.specs.Laws.{RuleRests}
-use Rattle.card_typing.specs.Place.{IsEntry}
+use Rattle.card_typing.specs.Place.{IsEntry, IsFallenInto, fallen_first, fallen_from}
 use Rattle.card_typing.specs.Typing.{IsLeastCardTyping}
 use Rattle.card_typing.specs.Met.{Arrives}
 use Rattle.card_typing.specs.Pass.{IsQuiet, quiet_end, quiet_more}
 use Rattle.card_typing.proofs.Quiet.{contains-either, eq-same, eq-other, arrived-empty, stack-in, stacks, quiet-typing}
-use Rattle.card_index.specs.IndexTyping.{IsIndex, AreClear, IndexTyping, HasIndexTyping}
-use Rattle.card_index.specs.Pass.{IsClearAt, IsQuietOver, quiet_over_end, quiet_over_more}
+use Rattle.card_index.specs.IndexTyping.{IsIndex, AreClear, HasIndexTyping}
+use Rattle.card_index.specs.Met.{IsOpenOver}
+use Rattle.card_index.specs.Pass.{IsQuietOver, quiet_over_end, quiet_over_more}
 
 -- the instructions of a list stand from its first place on
 later-place : (code : List ℕ) (at : ℕ) (is : List Placed) → Lists code at is → (j : Placed) → Contains is j → at ≤ j.place
@@ -29,18 +31,22 @@ module _ (w : Linked) (m : Method) (index : List ℕ) (regs : List Ty) where
   plain _ _ _ (quiet_over_end b given) = quiet_end b given
   plain _ _ _ (quiet_over_more b given stack after o i is a c p u) = quiet_more b given stack after o i is a p (plain (falls i.insn.op) after is u)
 
-  empty-here : (b : Bool) (given stack : List Ty) (i : Placed) → Arrives w m b given i.place stack → IsClearAt m index i.place b stack → Contains index i.place → stack ≡ []
-  empty-here true given stack i a c here = c.empty here refl
-  empty-here false given stack i a c here = arrived-empty w m a refl (c.entry here)
+  empty-here : (b : Bool) (given stack : List Ty) (i : Placed) → (b ≡ true → IsFallenInto m i.place) → Arrives w m b given i.place stack → IsOpenOver m index i.place stack → Contains index i.place → stack ≡ []
+  empty-here true given stack i fallen a c here = c.listed here (fallen refl)
+  empty-here false given stack i fallen a c here = arrived-empty w m a refl (λ e. (c.entry e).1 here)
 
   module _ (ordered : InstructionsAreListed) where
-    clear-in : (at : ℕ) (is : List Placed) (b : Bool) (given : List Ty) (u : IsQuietOver w m index regs b given is) → Lists m.code at is → (j : Placed) → Contains is j → Contains index j.place
+    clear-in : (at : ℕ) (is : List Placed) (b : Bool) (given : List Ty) (u : IsQuietOver w m index regs b given is) → Lists m.code at is → ((j : Placed) → Contains is j → HasInstruction m.code j) → (b ≡ true → IsFallenInto m at)
+        → (j : Placed) → Contains is j → Contains index j.place
         → ¬ (IsEntry m j.place) × (stack-in w m regs b given is (plain b given is u) j.place ≡ [])
     unfolding stack-in plain
-    clear-in at _ _ _ (quiet_over_end b given) l j inside here = absurd (omega (arith, inside.1))
-    clear-in at _ _ _ (quiet_over_more b given stack after o i is a c p u) l j inside here =
-        ⊎_elim (λ same. this same) (λ later. rest later (clear-in (at + i.insn.len) is (falls i.insn.op) after u l.2 j later here)) (contains-either i is j inside)
+    clear-in at _ _ _ (quiet_over_end b given) l stands fallen j inside here = absurd (omega (arith, inside.1))
+    clear-in at _ _ _ (quiet_over_more b given stack after o i is a c p u) l stands fallen j inside here =
+        ⊎_elim (λ same. this same) (λ later. rest later (clear-in (at + i.insn.len) is (falls i.insn.op) after u l.2 (λ k in_rest. stands k (Contains-later i is k in_rest)) falls_on j later here)) (contains-either i is j inside)
       where
+        falls_on : falls i.insn.op ≡ true → IsFallenInto m (at + i.insn.len)
+        falls_on e = subst (λ n. IsFallenInto m (n + i.insn.len)) l.0 (fallen_from i (stands i (Contains-first i is)) e)
+
         tail : ℕ → List Ty
         tail q = stack-in w m regs (falls i.insn.op) after is (plain (falls i.insn.op) after is u) q
 
@@ -48,8 +54,8 @@ module _ (w : Linked) (m : Method) (index : List ℕ) (regs : List Ty) where
         this same =
             let listed : Contains index i.place = subst (λ (k : Placed). Contains index k.place) (sym same) here in
             let own : (j.place == i.place) ≡ true = subst (λ (k : Placed). (k.place == i.place) ≡ true) same (eq-same i.place) in (
-              subst (λ (k : Placed). ¬ (IsEntry m k.place)) same (c.entry listed),
-              ap (λ (t : Bool). if t then stack else tail j.place) own ∙ empty-here b given stack i a c listed,
+              subst (λ (k : Placed). ¬ (IsEntry m k.place)) same (λ e. (c.entry e).1 listed),
+              ap (λ (t : Bool). if t then stack else tail j.place) own ∙ empty-here b given stack i (λ e. subst (IsFallenInto m) (sym l.0) (fallen e)) a c listed,
             )
 
         rest : Contains is j → ¬ (IsEntry m j.place) × (tail j.place ≡ []) → ¬ (IsEntry m j.place) × ((if j.place == i.place then stack else tail j.place) ≡ [])
@@ -76,4 +82,4 @@ index-typing w rests placed ordered m index regs mo formed whole least u = recor
     clear q here =
         let place : IsPlace m.code q = All-contains (IsPlace m.code) index q whole.places here in
         subst (λ n. ¬ (IsEntry m n) × (stack-in w m regs true [] (listing m.code) quiet n ≡ [])) place.2
-        (clear-in w m index regs ordered 0 (listing m.code) true [] u (ordered m.code).lists place.0 place.1 (subst (Contains index) (sym place.2) here))
+        (clear-in w m index regs ordered 0 (listing m.code) true [] u (ordered m.code).lists (λ j in_code. in_code) (λ e. fallen_first) place.0 place.1 (subst (Contains index) (sym place.2) here))

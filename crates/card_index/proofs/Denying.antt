@@ -1,6 +1,6 @@
 -- What a refusal over an index says of card typings.
-use Rattle.std.proofs.Common.{◌≡◌, ◌≢◌, ℕ, zero, suc, ◌+◌, ◌<◌, ◌≤◌, inl, inr, List, [], ◌∷◌, length, get_or, All, refl, sym, ◌∙◌, ap, subst, arith}
-use Rattle.std.specs.Prelude.{ℤ, pos}
+use Rattle.std.proofs.Common.{◌≡◌, ℕ, ⊎_elim, inl, inr, List, [], get_or, All, refl, arith}
+use Rattle.std.specs.Prelude.{pos}
 use Rattle.std.proofs.lemmas.List.Elements.{All-contains}
 use Rattle.std.proofs.lemmas.Option.{slice_get-get_or}
 use Rattle.jc_base.specs.Index.{IsAscending}
@@ -8,21 +8,21 @@ use Rattle.jc_base.specs.declared.ty.Ty.{Ty}
 use Rattle.jc_base.specs.Class.{ClassTable}
 use Rattle.jc_base.specs.World.{Linked}
 use Rattle.jc_base.proofs.Lists.{All-slice_get}
-use Rattle.jc_decode.specs.declared.insn.Placed.{Placed}
 use Rattle.jc_decode.specs.Listing.{listing, targets}
 use Rattle.jc_decode.proofs.Elements.{Contains-slice_get}
-use Rattle.jc_control.specs.Method.{Method, IsMethodOf}
+use Rattle.jc_control.specs.Method.{Method}
 use Rattle.jc_control.specs.WellFormed.{IsPlace, IsTargetPlace, IsWellFormed}
 use Rattle.jc_rules.specs.Demand.{Frame}
 use Rattle.jc_rules.specs.Flow.{CellsBelow, no_cells, more_cells}
 use Rattle.card_typing.specs.declared.fault.CardFault.{CardFault}
 use Rattle.card_typing.specs.declared.fault.CardKind.{CardKind}
 use Rattle.card_typing.specs.Place.{IsTarget}
-use Rattle.card_typing.specs.Typing.{CardTyping, HasCardTyping}
-use Rattle.card_typing.specs.Refusal.{IsWrong, wrong_entry, wrong_target, IsRefused, refused_flaw, refused_state, fault_of, fault_at}
+use Rattle.card_typing.specs.Met.{IsMet, met_start, met_next}
+use Rattle.card_typing.specs.Refusal.{IsWrong, wrong_entry, wrong_room, wrong_target, IsRefused, refused_flaw, refused_state, fault_of, fault_at}
 use Rattle.card_typing.specs.Laws.{MetIsBelow, RefusalDenies}
-use Rattle.card_index.specs.IndexTyping.{IsIndex, IndexTyping, HasIndexTyping, IsExactIndex}
-use Rattle.card_index.specs.Refusal.{IsBadEntry, bad_place, bad_order, IsFirstLacking, IsWrongOver, wrong_anyway, wrong_listed_entry, wrong_listed_stack, IsRefusedOver, over_flaw, over_entry, over_target, over_state}
+use Rattle.card_index.specs.IndexTyping.{IsExactIndex}
+use Rattle.card_index.specs.Met.{IsMetOver, met_over_start, met_over_next}
+use Rattle.card_index.specs.Refusal.{IsBadEntry, bad_place, bad_order, IsFirstLacking, IsWrongOver, wrong_over_entry, wrong_over_room, wrong_over_stack, wrong_over_open, IsRefusedOver, over_flaw, over_entry, over_target, over_state}
 use Rattle.card_index.specs.Laws.{IndexedIsTyped, ExactServes, ExactRefuses, RefusalDeniesOver}
 
 below-empty : (t : ClassTable) (xs ys : List Ty) → CellsBelow t xs ys → ys ≡ [] → xs ≡ []
@@ -31,6 +31,11 @@ below-empty t _ _ (more_cells b bs) e = absurd cc
 
 pub indexed-typed : (w : Linked) → IndexedIsTyped w
 indexed-typed w m index h = record { regs = h.regs; stacks = h.stacks; typing = h.typing.typing }
+
+-- a state that is met over an index is met without one
+pub met-plainly : (w : Linked) (m : Method) (index : List ℕ) (q : ℕ) (f : Frame) → IsMetOver w m index q f → IsMet w m q f
+met-plainly w m index _ _ (met_over_start stack a) = met_start stack a
+met-plainly w m index _ _ (met_over_next i q before after o stack met suits passed goes a) = met_next i q before after o stack (met-plainly w m index i.place before met) passed goes a
 
 -- an index with a bad entry is none
 pub no-bad : (m : Method) (index : List ℕ) → IsAscending index → All (IsPlace m.code) index → (k : ℕ) → IsBadEntry m.code index k → ⊥
@@ -54,12 +59,20 @@ module _ (w : Linked) (below : MetIsBelow w) (denies : RefusalDenies w) where
       by _ _ (over_target place q k formed up places first) = first.lacks.fails (h.typing.indexed.complete q (lacking-target m index place q first))
       by _ _ (over_state i before k kind formed whole there met wrong) = wrongly kind k wrong
         where
+          plainly : IsMet w m i.place before
+          plainly = met-plainly w m index i.place before met
+
+          anyway : (g : CardKind) (s : Frame) → IsWrong w m i before g s → ⊥
+          anyway g s bad = denies m (fault_at i.place g s) s mo (refused_state i before s g formed there plainly bad) (indexed-typed w m index h)
+
           wrongly : (g : CardKind) (s : Frame) → IsWrongOver w m index i before g s → ⊥
-          wrongly _ _ (wrong_anyway g s bad) = denies m (fault_at i.place g s) s mo (refused_state i before s g formed there met bad) (indexed-typed w m index h)
-          wrongly _ _ (wrong_listed_entry entry listed) = (h.typing.clear i.place listed).0 entry
-          wrongly _ _ (wrong_listed_stack free listed fallen deep) =
-              let under = below m h.regs h.stacks i.place before mo h.typing.typing met in
+          wrongly _ _ (wrong_over_entry entry from) = ⊎_elim (λ fallen. anyway _ _ (wrong_entry entry (inl fallen))) (λ listed. (h.typing.clear i.place listed).0 entry) from
+          wrongly _ _ (wrong_over_room entry alone full) =
+              anyway _ _ (wrong_room entry (λ from. alone (⊎_elim (λ fallen. inl fallen) (λ target. inr (whole.complete i.place target)) from)) full)
+          wrongly _ _ (wrong_over_stack free listed fallen deep) =
+              let under = below m h.regs h.stacks i.place before mo h.typing.typing plainly in
               deep (below-empty w.classes before.stack (h.stacks i.place) under.stack ((h.typing.clear i.place listed).1))
+          wrongly _ _ (wrong_over_open g s suits bad) = anyway g s bad
 
 -- ---- the exact index
 
@@ -90,9 +103,10 @@ exact-refuses w m index fault kept exact r = by fault kept r
     by _ _ (over_flaw flaw k first) = refused_flaw flaw k first
     by _ _ (over_entry n k formed first) = absurd (no-bad m index exact.ascending (exact-places m index formed exact) n first.bad)
     by _ _ (over_target place q k formed up places first) = absurd (first.lacks.fails ((exact.targets q).1 (lacking-target m index place q first)))
-    by _ _ (over_state i before k kind formed whole there met wrong) = refused_state i before k kind formed there met (plainly kind k wrong)
+    by _ _ (over_state i before k kind formed whole there met wrong) = refused_state i before k kind formed there (met-plainly w m index i.place before met) (plainly kind k wrong)
       where
         plainly : (g : CardKind) (s : Frame) → IsWrongOver w m index i before g s → IsWrong w m i before g s
-        plainly _ _ (wrong_anyway g s bad) = bad
-        plainly _ _ (wrong_listed_entry entry listed) = wrong_entry entry (inr ((exact.targets i.place).0 listed))
-        plainly _ _ (wrong_listed_stack free listed fallen deep) = wrong_target free ((exact.targets i.place).0 listed) fallen deep
+        plainly _ _ (wrong_over_entry entry from) = wrong_entry entry (⊎_elim (λ fallen. inl fallen) (λ listed. inr ((exact.targets i.place).0 listed)) from)
+        plainly _ _ (wrong_over_room entry alone full) = wrong_room entry (λ from. alone (⊎_elim (λ fallen. inl fallen) (λ target. inr ((exact.targets i.place).1 target)) from)) full
+        plainly _ _ (wrong_over_stack free listed fallen deep) = wrong_target free ((exact.targets i.place).0 listed) fallen deep
+        plainly _ _ (wrong_over_open g s suits bad) = bad

@@ -1,6 +1,5 @@
 -- A walk over an index comes to a place with a stack, which may stand there or not.
-use Rattle.std.proofs.Common.{◌≡◌, ℕ, zero, suc, ◌<◌, ◌≤◌, ◌⊎◌, inl, inr, Bool, true, false, List, [], ◌∷◌, length, MatchBool, Contains, Result, Ok, Err, IfOk, IfErr, refl, sym, ◌∙◌, ap, subst, arith}
-use Rattle.std.proofs.lemmas.Bool.{false≢true}
+use Rattle.std.proofs.Common.{◌≡◌, ℕ, zero, suc, ◌<◌, ◌≤◌, ◌⊎◌, inl, inr, ⊎_elim, Bool, true, false, List, [], length, MatchBool, Contains, Result, Ok, Err, IfOk, IfErr, refl, sym, ◌∙◌, ap, subst, arith}
 use Rattle.jc_base.specs.declared.ty.Ty.{Ty}
 use Rattle.jc_base.specs.declared.ty.Ty.TheVariants.{Class}
 use Rattle.jc_ops.specs.declared.fault.RuleFault.TheVariants.{Overflow}
@@ -12,15 +11,14 @@ use Rattle.card_typing.specs.declared.fault.CardFault.{CardFault}
 use Rattle.card_typing.specs.declared.fault.CardKind.TheVariants.{Rule, StackAtTarget, HandlerEntered}
 use Rattle.card_typing.specs.Place.{IsTarget, IsEntry, IsFallenInto, CatchesAt}
 use Rattle.card_typing.specs.Met.{Arrives, IsOpenTo}
-use Rattle.card_typing.specs.Refusal.{wrong_entry}
 use Rattle.card_verify.specs.declared.verifier.Verifier.{Verifier}
 use Rattle.card_verify.specs.declared.pass.Arrival.{Arrival}
-use Rattle.card_verify.specs.Walk.{IsLanded, IsMislanded, IsVisited, IsStopped, IsStepped, IsFailing, IsPut, IsBlocked, IsShared, left}
-use Rattle.card_verify.proofs.Landing.{no-cells, some-cells, when-true, arrived, falling, within, landed, entered, landed-caught, mislanded-room, put-depth}
+use Rattle.card_verify.specs.Walk.{IsStepped, IsFailing, IsPut, IsShared, left}
+use Rattle.card_verify.proofs.Landing.{no-cells, some-cells, when-true, when-false, arrived, falling, within, landed, entered, landed-caught, put-depth}
 use Rattle.card_index.specs.declared.indexed.Indexed.{Indexed}
 use Rattle.card_index.specs.Indexed.{subject, world_in, listed}
-use Rattle.card_index.specs.Pass.{IsClearAt}
-use Rattle.card_index.specs.Refusal.{IsWrongOver, wrong_anyway, wrong_listed_entry, wrong_listed_stack}
+use Rattle.card_index.specs.Met.{IsOpenOver}
+use Rattle.card_index.specs.Refusal.{wrong_over_entry, wrong_over_room, wrong_over_stack, wrong_over_open}
 use Rattle.card_index.specs.Walk.{IsIndexed, IsTold, IsBlockedOver, IsSharedOver, IsLandedOver, IsMislandedOver, IsVisitedOver, IsStoppedOver}
 
 pub told-true : (x : Indexed) (place : ℕ) (here : Bool) → IsTold x place here → Contains (listed x) place → here ≡ true
@@ -46,9 +44,10 @@ module _ (x : Indexed) (is : IsIndexed x) (place : ℕ) (arrival : Arrival) (her
     pub landed-over : ¬ (IsBlockedOver here arrival) → IsLandedOver x place arrival stack (cells stack (left arrival))
     landed-over other = record {
       landed = landed v place arrival stack free fallen (λ b. other (b.0, listed-target b.1));
-      clear = record {
-        entry = λ c. free;
-        empty = λ c falls. ap (cells stack) (none-left other (told-true x place here told c) (left arrival) refl) ∙ no-cells stack;
+      suits = record {
+        entry = λ e. absurd (free e);
+        caught = λ e. absurd (free e);
+        listed = λ c f. ap (cells stack) (none-left other (told-true x place here told c) (left arrival) refl) ∙ no-cells stack;
       };
     }
 
@@ -57,7 +56,7 @@ module _ (x : Indexed) (is : IsIndexed x) (place : ℕ) (arrival : Arrival) (her
     mislanded-over-target depth is_left le blocked = record {
       arrives = subst (λ (n : ℕ). Arrives (world_in x) m arrival.may_fall (cells stack arrival.depth) place (cells stack n)) (sym is_left) (arrived v place arrival stack free fallen arrival.may_fall refl);
       wrong = λ i regs at.
-          wrong_listed_stack
+          wrong_over_stack
           (λ e. free (subst (IsEntry m) at e))
           (subst (Contains (listed x)) (sym at) (when-true (Contains (listed x) place) here told blocked.1))
           (subst (IsFallenInto m) (sym at) (when-true (IsFallenInto m place) arrival.may_fall fallen (falling v place arrival stack free fallen arrival.may_fall refl blocked.0)))
@@ -72,14 +71,24 @@ module _ (x : Indexed) (is : IsIndexed x) (place : ℕ) (arrival : Arrival) (her
     unshared other (inl falls) = other (inl falls)
     unshared other (inr t) = other (inr (listed-target t))
 
+    unlisted : ¬ (IsSharedOver here arrival) → ¬ (Contains (listed x) place)
+    unlisted other l = other (inr (told-true x place here told l))
+
+    unfallen : ¬ (IsSharedOver here arrival) → (b : Bool) → arrival.may_fall ≡ b → ¬ (IsFallenInto m place)
+    unfallen other true e f = other (inl e)
+    unfallen other false e f = when-false (IsFallenInto m place) arrival.may_fall fallen e f
+
     pub landed-over-caught : ¬ (depth ≡ 0) → ¬ (IsSharedOver here arrival) → IsLandedOver x place arrival before (cells after depth)
-    landed-over-caught deep other = record {
-      landed = landed-caught v place arrival before after depth c entry catches room long put fallen deep (unshared other);
-      clear = record {
-        entry = λ l. absurd (other (inr (told-true x place here told l)));
-        empty = λ l falls. absurd (other (inr (told-true x place here told l)));
-      };
-    }
+    landed-over-caught deep other =
+        let l = landed-caught v place arrival before after depth c entry catches room long put fallen deep (unshared other) in
+        record {
+          landed = l;
+          suits = record {
+            entry = λ e. ((l.suits.entry e).0, unlisted other);
+            caught = λ e. l.suits.caught e;
+            listed = λ c f. absurd (unlisted other c);
+          };
+        }
 
     pub over-depth : depth ≤ m.rec.max_stack
     over-depth = put-depth v place arrival before after depth c entry catches room long put fallen
@@ -87,27 +96,35 @@ module _ (x : Indexed) (is : IsIndexed x) (place : ℕ) (arrival : Arrival) (her
     pub mislanded-over-entry : IsSharedOver here arrival → IsMislandedOver x arrival before after (record { place = place; depth = depth; kind = HandlerEntered })
     mislanded-over-entry from = record {
       arrives = entered v place arrival before after depth c entry catches room long put fallen;
-      wrong = λ i regs at. by i regs at from;
+      wrong = λ i regs at.
+          wrong_over_entry (subst (IsEntry m) (sym at) entry)
+          (subst (λ q. IsFallenInto m q ⊎ Contains (listed x) q) (sym at)
+          (⊎_elim (λ falls. inl (when-true (IsFallenInto m place) arrival.may_fall fallen falls)) (λ h. inr (when-true (Contains (listed x) place) here told h)) from));
       within = let most = over-depth in omega (arith, most, long, room);
     }
-      where
-        by : (i : Placed) (regs : List Ty) → i.place ≡ place → IsSharedOver here arrival
-            → IsWrongOver (world_in x) m (listed x) i (record { regs = regs; stack = cells after depth }) HandlerEntered (record { regs = regs; stack = cells after depth })
-        by i regs at (inl falls) =
-            wrong_anyway HandlerEntered (record { regs = regs; stack = cells after depth })
-            (wrong_entry (subst (IsEntry m) (sym at) entry) (inl (subst (IsFallenInto m) (sym at) (when-true (IsFallenInto m place) arrival.may_fall fallen falls))))
-        by i regs at (inr h) = wrong_listed_entry (subst (IsEntry m) (sym at) entry) (subst (Contains (listed x)) (sym at) (when-true (Contains (listed x) place) here told h))
+
+    no-room : depth ≡ 0 → IsPut before (Class c) after depth → m.rec.max_stack ≡ 0
+    no-room none (inl full) = sym room ∙ full.0
+    no-room none (inr there) = absurd (omega (arith, there.1, none))
 
     pub mislanded-over-room : depth ≡ 0 → ¬ (IsSharedOver here arrival) → IsMislandedOver x arrival before after (record { place = place; depth = depth; kind = Rule Overflow })
-    mislanded-over-room none other =
-        let mis = mislanded-room v place arrival before after depth c entry catches room long put fallen none (unshared other) in
-        record { arrives = mis.arrives; wrong = λ i regs at. wrong_anyway (Rule Overflow) (record { regs = regs; stack = cells after depth }) (mis.wrong i regs at); within = mis.within }
+    mislanded-over-room none other = record {
+      arrives = entered v place arrival before after depth c entry catches room long put fallen;
+      wrong = λ i regs at.
+          wrong_over_room (subst (IsEntry m) (sym at) entry)
+          (subst (λ q. ¬ (IsFallenInto m q ⊎ Contains (listed x) q)) (sym at) (λ either. ⊎_elim (unfallen other arrival.may_fall refl) (unlisted other) either))
+          (no-room none put);
+      within = omega (arith, none);
+    }
 
 -- ---- what a visit comes to
 
 module _ (x : Indexed) (i : Placed) (arrival : Arrival) (place : ℕ) (here : place ≡ i.place) (regs stack : List Ty) where
   pub over-suits : (given : List Ty) → IsLandedOver x place arrival stack given → IsOpenTo (subject x) i.place given
   over-suits given l = subst (λ n. IsOpenTo (subject x) n given) here l.landed.suits
+
+  over-open : (given : List Ty) → IsLandedOver x place arrival stack given → IsOpenOver (subject x) (listed x) i.place given
+  over-open given l = subst (λ n. IsOpenOver (subject x) (listed x) n given) here l.suits
 
   pub over-arrives : (given : List Ty) → IsLandedOver x place arrival stack given → Arrives (world_in x) (subject x) arrival.may_fall (cells stack arrival.depth) i.place given
   over-arrives given l = subst (λ n. Arrives (world_in x) (subject x) arrival.may_fall (cells stack arrival.depth) n given) here l.landed.arrives
@@ -127,7 +144,7 @@ module _ (x : Indexed) (i : Placed) (arrival : Arrival) (place : ℕ) (here : pl
     pub visited-over : (r : Result Outcome CardFault) → IfOk r (λ o. IsStepped x.verifier i regs given regs_after stack_after o) → IfOk r (λ o. IsVisitedOver x i arrival regs stack regs_after stack_after o)
     visited-over (Ok o) s = record {
       visited = record { given = given; arrives = over-arrives given l; stepped = s };
-      clear = subst (λ n. IsClearAt (subject x) (listed x) n arrival.may_fall given) here l.clear;
+      suits = over-open given l;
     }
     visited-over (Err f) s = tt
 
@@ -137,6 +154,6 @@ module _ (x : Indexed) (i : Placed) (arrival : Arrival) (place : ℕ) (here : pl
       given = given;
       arrives = over-arrives given l;
       place = s.place;
-      wrong = wrong_anyway f.kind _ s.wrong;
+      wrong = wrong_over_open f.kind _ (over-open given l) s.wrong;
       within = s.within;
     }

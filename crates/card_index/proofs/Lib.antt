@@ -6,4 +6,5 @@ pub mod Landed
 pub mod Walked
 pub mod Ordered
 pub mod Verified
+pub mod OneRefusal
 pub mod Tallies

@@ -1,5 +1,5 @@
 -- What the verifier over an index answers.
-use Rattle.std.proofs.Common.{◌≡◌, ◌⊎◌, inr, ℕ, zero, suc, ◌+◌, ◌*◌, ◌^◌, ◌<◌, ◌≤◌, List, [], length, All, Result, Ok, Err, IsErr, OnOk, OnErr, IfErr, sum_by, refl, sym, ◌∙◌, ap, subst, arith}
+use Rattle.std.proofs.Common.{◌≡◌, inr, ℕ, ◌+◌, ◌*◌, ◌≤◌, List, length, All, Result, Ok, Err, IsErr, OnOk, OnErr, IfErr, sum_by, refl, sym, ◌∙◌, ap, subst, arith}
 use Rattle.std.specs.Prelude.{ℤ, pos, negsuc}
 use Rattle.std.proofs.lemmas.List.Elements.{All-contains, All-weaker}
 use Rattle.jc_base.specs.Index.{IsAscending}
@@ -35,7 +35,7 @@ use Rattle.card_index.specs.Bound.{AreCounted, AreCountedTo, AreCountedBy, instr
 use Rattle.card_index.specs.Indexed.{subject, world_in, listed}
 use Rattle.card_index.specs.IndexTyping.{IsIndex, HasIndexTyping}
 use Rattle.card_index.specs.Laws.{RefusalDeniesOver}
-use Rattle.card_index.specs.Refusal.{IsListedTarget, LeadsToListed, IsFirstLacking, IsFormKind, IsWrongOver, wrong_anyway, wrong_listed_entry, wrong_listed_stack, IsRefusedOver, over_flaw, over_entry, over_target, over_state}
+use Rattle.card_index.specs.Refusal.{IsListedTarget, LeadsToListed, IsFirstLacking, IsFormKind, IsWrongOver, wrong_over_entry, wrong_over_room, wrong_over_stack, wrong_over_open, IsRefusedOver, over_flaw, over_entry, over_target, over_state}
 use Rattle.card_index.specs.Walk.{IsFinishedOver, IsPlaceNumber, IsNotIndexed}
 use Rattle.card_index.proofs.Clear.{plain, index-typing}
 use Rattle.card_index.proofs.Denying.{no-bad, lacking-target}
@@ -136,9 +136,10 @@ module _ (w : Linked) (m : Method) (index : List ℕ) where
   wrong-never i before _ _ (wrong_end after o s a j f e) h = h
 
   over-never : (i : Placed) (before : Frame) (kind : CardKind) (kept : Frame) → IsWrongOver w m index i before kind kept → ¬ (IsFormKind kind)
-  over-never i before _ _ (wrong_anyway kind kept wrong) h = wrong-never i before kind kept wrong h
-  over-never i before _ _ (wrong_listed_entry e l) h = h
-  over-never i before _ _ (wrong_listed_stack f l n d) h = h
+  over-never i before _ _ (wrong_over_entry e f) h = h
+  over-never i before _ _ (wrong_over_room e f n) h = h
+  over-never i before _ _ (wrong_over_stack f l n d) h = h
+  over-never i before _ _ (wrong_over_open kind kept suits wrong) h = wrong-never i before kind kept wrong h
 
   form-never : (fault : CardFault) (kept : Frame) → FlawsAreTold w → IsWellFormed m → IsIndex m index → IsRefusedOver w m index fault kept → ¬ (IsFormKind fault.kind)
   form-never _ _ told formed whole (over_flaw flaw kept first) h = (told m (fault_of flaw) kept (refused_flaw flaw kept first)).0 (told-flaw flaw) formed

@@ -1,5 +1,5 @@
 -- Laws of card typings over a target index.
-use Rattle.std.specs.Prelude.{ℕ, ◌↔◌, List}
+use Rattle.std.specs.Prelude.{◌≡◌, ℕ, ◌↔◌, List}
 use Rattle.jc_base.specs.World.{Linked}
 use Rattle.jc_control.specs.Method.{Method, IsMethodOf}
 use Rattle.jc_rules.specs.Demand.{Frame}
@@ -7,7 +7,7 @@ use Rattle.card_typing.specs.declared.fault.CardFault.{CardFault}
 use Rattle.card_typing.specs.Typing.{HasCardTyping}
 use Rattle.card_typing.specs.Refusal.{IsRefused}
 use Rattle.card_index.specs.IndexTyping.{HasIndexTyping, IsExactIndex}
-use Rattle.card_index.specs.Refusal.{IsRefusedOver}
+use Rattle.card_index.specs.Refusal.{IsFormKind, IsRefusedOver}
 
 -- a method with a card typing over any index has a card typing
 abbrev pub IndexedIsTyped : Linked → Type 0
@@ -32,3 +32,13 @@ RefusalDeniesOver w =
     → IsMethodOf w m
     → IsRefusedOver w m index fault kept
     → ¬ (HasIndexTyping w m index)
+
+-- a method is refused over an index in one way: no two refusals tell different faults, and where a state is at fault one
+-- frame is kept
+abbrev pub RefusalIsOne : Linked → Type 0
+RefusalIsOne w =
+    (m : Method) (index : List ℕ) (fault other : CardFault) (kept held : Frame)
+    → IsMethodOf w m
+    → IsRefusedOver w m index fault kept
+    → IsRefusedOver w m index other held
+    → (fault ≡ other) × (¬ (IsFormKind fault.kind) → kept ≡ held)

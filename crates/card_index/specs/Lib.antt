@@ -1,4 +1,5 @@
 pub mod IndexTyping
+pub mod Met
 pub mod Refusal
 pub mod Pass
 pub mod Indexed

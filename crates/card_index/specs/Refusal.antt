@@ -1,9 +1,10 @@
 -- Why the verifier on the card refuses a method over a target index (Leroy 2002, section 3).
-use Rattle.std.specs.Prelude.{◌≡◌, ◌≢◌, ℕ, ℤ, pos, negsuc, ◌+◌, ◌<◌, ◌≤◌, List, [], Some, All, slice_get, Contains, ⊤}
+use Rattle.std.specs.Prelude.{◌≡◌, ◌≢◌, ◌⊎◌, ℕ, ℤ, pos, negsuc, ◌+◌, ◌<◌, ◌≤◌, List, [], Some, All, slice_get, Contains, ⊤}
 use Rattle.jc_base.specs.Index.{IsAscending}
 use Rattle.jc_base.specs.World.{Linked}
 use Rattle.jc_decode.specs.declared.insn.Placed.{Placed}
 use Rattle.jc_decode.specs.Listing.{listing, targets}
+use Rattle.jc_ops.specs.declared.fault.RuleFault.TheVariants.{Overflow}
 use Rattle.jc_control.specs.Method.{Method}
 use Rattle.jc_control.specs.WellFormed.{HasInstruction, IsPlace, IsWellFormed}
 use Rattle.jc_control.specs.FirstFailing.{IsFirstFailing}
@@ -12,11 +13,11 @@ use Rattle.jc_control.specs.declared.flaw.Flaw.{Flaw}
 use Rattle.jc_rules.specs.Demand.{Frame}
 use Rattle.card_typing.specs.declared.fault.CardFault.{CardFault}
 use Rattle.card_typing.specs.declared.fault.CardKind.{CardKind}
-use Rattle.card_typing.specs.declared.fault.CardKind.TheVariants.{Code, StackAtTarget, HandlerEntered, BadTarget, BadHandler, BadIndex, NotIndexed}
+use Rattle.card_typing.specs.declared.fault.CardKind.TheVariants.{Code, Rule, StackAtTarget, HandlerEntered, BadTarget, BadHandler, BadIndex, NotIndexed}
 use Rattle.card_typing.specs.Place.{IsEntry, IsFallenInto}
-use Rattle.card_typing.specs.Met.{IsMet}
 use Rattle.card_typing.specs.Refusal.{IsWrong, fault_of, fault_at}
 use Rattle.card_index.specs.IndexTyping.{IsIndex}
+use Rattle.card_index.specs.Met.{IsOpenOver, IsMetOver}
 
 -- ---- what is wrong with an index
 
@@ -49,17 +50,31 @@ pub record IsFirstLacking (code index : List ℕ) (place : ℕ) (target : ℤ) :
 
 -- ---- what is wrong with a state
 
--- what is wrong at an instruction with a frame, and the frame that is kept: what is wrong without the index; or a handler
--- begins at a place of the index; or a place of the index is fallen into with cells on the stack
+-- What is wrong first at an instruction with a frame over the index, and the frame that is kept. A handler begins at the
+-- place, which is fallen into or listed; or there is no room for the object that it catches; a listed place is fallen into
+-- with cells on the stack; and where the place may have the stack, what is wrong without the index: the rule refuses, a
+-- branch or switch leaves cells on the stack, the last instruction falls through.
 pub data IsWrongOver (w : Linked) (m : Method) (index : List ℕ) (i : Placed) (before : Frame) : CardKind → Frame → Type 0 where
-  wrong_anyway : (kind : CardKind) (kept : Frame) → IsWrong w m i before kind kept → IsWrongOver w m index i before kind kept
-  wrong_listed_entry : IsEntry m i.place → Contains index i.place → IsWrongOver w m index i before HandlerEntered before
-  wrong_listed_stack :
+  wrong_over_entry :
+      IsEntry m i.place
+      → IsFallenInto m i.place ⊎ Contains index i.place
+      → IsWrongOver w m index i before HandlerEntered before
+  wrong_over_room :
+      IsEntry m i.place
+      → ¬ (IsFallenInto m i.place ⊎ Contains index i.place)
+      → m.rec.max_stack ≡ 0
+      → IsWrongOver w m index i before (Rule Overflow) before
+  wrong_over_stack :
       ¬ (IsEntry m i.place)
       → Contains index i.place
       → IsFallenInto m i.place
       → before.stack ≢ []
       → IsWrongOver w m index i before StackAtTarget before
+  wrong_over_open :
+      (kind : CardKind) (kept : Frame)
+      → IsOpenOver m index i.place before.stack
+      → IsWrong w m i before kind kept
+      → IsWrongOver w m index i before kind kept
 
 -- the refusals that tell what is wrong with the form of the method or with the index, and none of a state
 abbrev pub IsFormKind : CardKind → Type 0
@@ -71,7 +86,7 @@ IsFormKind (NotIndexed target) = ⊤
 IsFormKind _ = ⊥
 
 -- the reasons to refuse a method over an index, in the order in which they are looked for: its first flaw; the first bad
--- entry of the index; the first target that it lacks; or what is wrong with a met state
+-- entry of the index; the first target that it lacks; or what is wrong with a state that is met over it
 pub data IsRefusedOver (w : Linked) (m : Method) (index : List ℕ) : CardFault → Frame → Type 0 where
   over_flaw : (flaw : Flaw) (kept : Frame) → IsFirstFlaw m flaw → IsRefusedOver w m index (fault_of flaw) kept
   over_entry :
@@ -91,6 +106,6 @@ pub data IsRefusedOver (w : Linked) (m : Method) (index : List ℕ) : CardFault 
       → IsWellFormed m
       → IsIndex m index
       → HasInstruction m.code i
-      → IsMet w m i.place before
+      → IsMetOver w m index i.place before
       → IsWrongOver w m index i before kind kept
       → IsRefusedOver w m index (fault_at i.place kind kept) kept

@@ -9,18 +9,19 @@ use Rattle.jc_rules.specs.Stack.{cells}
 use Rattle.jc_rules.specs.Apply.{frame_of}
 use Rattle.card_typing.specs.declared.fault.CardFault.{CardFault}
 use Rattle.card_typing.specs.declared.fault.CardKind.TheVariants.{NotIndexed}
-use Rattle.card_typing.specs.Met.{Arrives, IsMet}
+use Rattle.card_typing.specs.Met.{Arrives, GoesTo, IsMet}
 use Rattle.card_typing.specs.Place.{IsEntry}
 use Rattle.card_verify.specs.declared.pass.Arrival.{Arrival}
 use Rattle.card_verify.specs.Ahead.{IsLeastFrom}
-use Rattle.card_verify.specs.Walk.{IsVerifier, IsLanded, IsVisited, left}
+use Rattle.card_verify.specs.Walk.{IsVerifier, IsLanded, IsVisited, IsBegun, IsComing, left}
 use Rattle.card_index.specs.declared.indexed.Indexed.{Indexed}
 use Rattle.card_index.specs.declared.entries.Entries.{Entries}
 use Rattle.card_index.specs.declared.scan.Lacking.{Lacking}
 use Rattle.card_index.specs.Indexed.{subject, world_in, listed}
 use Rattle.card_index.specs.IndexTyping.{IsIndex}
+use Rattle.card_index.specs.Met.{IsOpenOver, IsMetOver}
 use Rattle.card_index.specs.Refusal.{IsWrongOver}
-use Rattle.card_index.specs.Pass.{IsClearAt, IsQuietOver}
+use Rattle.card_index.specs.Pass.{IsQuietOver}
 
 -- a well-formed method of a world with a whole index
 pub record IsIndexed (x : Indexed) : Type 0 where
@@ -43,10 +44,19 @@ IsSharedOver here arrival = (arrival.may_fall ≡ true) ⊎ (here ≡ true)
 abbrev pub IsTold : Indexed → ℕ → Bool → Type 0
 IsTold x place here = MatchBool here (Contains (listed x) place) (¬ (Contains (listed x) place))
 
+-- a walk comes to a place, which may be the end: the state with which it goes on is met over the index
+pub record IsComingOver (x : Indexed) (at : ℕ) (arrival : Arrival) (regs stack : List Ty) : Type 0 where
+  pub coming : IsComing x.verifier at arrival regs stack
+  pub met :
+      (q : ℕ) (given : List Ty)
+      → GoesTo (subject x) at q
+      → Arrives (world_in x) (subject x) arrival.may_fall (cells stack arrival.depth) q given
+      → IsMetOver (world_in x) (subject x) (listed x) q (record { regs = regs; stack = given })
+
 -- the stack with which a walk comes to a place may stand there
 pub record IsLandedOver (x : Indexed) (place : ℕ) (arrival : Arrival) (before stack : List Ty) : Type 0 where
   pub landed : IsLanded x.verifier place arrival before stack
-  pub clear : IsClearAt (subject x) (listed x) place arrival.may_fall stack
+  pub suits : IsOpenOver (subject x) (listed x) place stack
 
 -- or it may not
 pub record IsMislandedOver (x : Indexed) (arrival : Arrival) (before after : List Ty) (fault : CardFault) : Type 0 where
@@ -64,7 +74,7 @@ pub record IsMislandedOver (x : Indexed) (arrival : Arrival) (before after : Lis
 pub record IsVisitedOver (x : Indexed) (i : Placed) (arrival : Arrival)
     (regs stack regs_after stack_after : List Ty) (o : Outcome) : Type 0 where
   pub visited : IsVisited x.verifier i arrival regs stack regs_after stack_after o
-  pub clear : IsClearAt (subject x) (listed x) i.place arrival.may_fall visited.given
+  pub suits : IsOpenOver (subject x) (listed x) i.place visited.given
 
 -- or something is
 pub record IsStoppedOver (x : Indexed) (i : Placed) (arrival : Arrival)
@@ -77,7 +87,20 @@ pub record IsStoppedOver (x : Indexed) (i : Placed) (arrival : Arrival)
       (frame_of regs_after stack_after fault.depth)
   pub within : fault.depth ≤ length stack_after
 
--- the registers after a pass are as before, and nothing was wrong
+-- a pass can begin with these registers: what is met then is met over the index
+pub record IsBegunOver (x : Indexed) (regs stack : List Ty) : Type 0 where
+  pub begun : IsBegun x.verifier regs stack
+  pub met :
+      (given : List Ty)
+      → Arrives (world_in x) (subject x) true [] 0 given
+      → IsMetOver (world_in x) (subject x) (listed x) 0 (record { regs = regs; stack = given })
+
+-- the registers after a pass: less is left for them to rise, and another pass can begin; or they are as before, and
+-- nothing was wrong
+pub record IsRaisedOver (x : Indexed) (regs regs_after stack_after : List Ty) : Type 0 where
+  pub less : sum_by (rises_left (world_in x).classes) regs_after < sum_by (rises_left (world_in x).classes) regs
+  pub again : IsBegunOver x regs_after stack_after
+
 pub record IsSettledOver (x : Indexed) (regs regs_after : List Ty) : Type 0 where
   pub same : regs_after ≡ regs
   pub quiet : IsQuietOver (world_in x) (subject x) (listed x) regs true [] (listing (subject x).code)

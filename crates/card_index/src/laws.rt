@@ -1,14 +1,21 @@
-ghost use Rattle.card_index.specs.Laws.{IndexedIsTyped, ExactServes, ExactRefuses, RefusalDeniesOver};
+ghost use Rattle.card_index.specs.Laws.{IndexedIsTyped, ExactServes, ExactRefuses, RefusalDeniesOver, RefusalIsOne};
 
 use card_typing::card_laws;
 use jc_base::World;
+use jc_control::{first_flaw_is_one, flaws_decide};
+use jc_rules::rule_laws;
 
-/// What card typings over a target index have to do with card typings, and with refusals over it.
+/// What card typings over a target index have to do with card typings, and with refusals over it, of which a method has
+/// one at most.
 pub fn index_laws(world: &World<'_>)
     ensures typed { IndexedIsTyped world.now }
     ensures exact { ExactServes world.now }
     ensures exact_refuses { ExactRefuses world.now }
     ensures denies { RefusalDeniesOver world.now }
+    ensures one { RefusalIsOne world.now }
 {
     card_laws(world);
+    rule_laws(world);
+    flaws_decide();
+    first_flaw_is_one();
 }

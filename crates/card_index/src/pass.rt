@@ -6,11 +6,11 @@ ghost use Rattle.jc_rules.specs.Stack.{cells};
 ghost use Rattle.jc_rules.specs.Apply.{frame_of};
 ghost use Rattle.card_typing.specs.Place.{IsEntry, IsFallenInto};
 ghost use Rattle.card_typing.specs.Met.{IsOpenTo};
-ghost use Rattle.card_verify.specs.Walk.{HasSlices, IsBegun, IsComing, IsFailing, IsRaisedBy, IsStepped};
+ghost use Rattle.card_verify.specs.Walk.{HasSlices, IsComing, IsFailing, IsStepped};
 ghost use Rattle.card_index.specs.Bound.{AreCountedTo};
 ghost use Rattle.card_index.specs.Indexed.{subject, world_in, listed};
 ghost use Rattle.card_index.specs.Refusal.{IsRefusedOver};
-ghost use Rattle.card_index.specs.Walk.{IsIndexed, HasEntry, IsTold, IsBlockedOver, IsSharedOver, IsLandedOver, IsMislandedOver, IsVisitedOver, IsStoppedOver, IsSettledOver};
+ghost use Rattle.card_index.specs.Walk.{IsIndexed, IsBegunOver, HasEntry, IsTold, IsBlockedOver, IsSharedOver, IsLandedOver, IsMislandedOver, IsVisitedOver, IsStoppedOver, IsRaisedOver, IsSettledOver};
 
 use crate::counted::apply_counted;
 use crate::entries::Entries;
@@ -32,11 +32,11 @@ impl Indexed<'_, '_> {
         steps: &mut Steps<L>,
     ) -> Result<bool, CardFault>
         requires indexed { IsIndexed self.now }
-        requires begun { IsBegun self.now.verifier regs.old stack.old }
+        requires begun { IsBegunOver self.now regs.old stack.old }
         ensures done { IfOk result
             (λ rose.
             MatchBool rose
-            (IsRaisedBy self.now.verifier regs.old regs.new stack.new)
+            (IsRaisedOver self.now regs.old regs.new stack.new)
             (IsSettledOver self.now regs.old regs.new)) }
         ensures refused { IfErr result
             (λ fault.

@@ -7,12 +7,12 @@ ghost use Rattle.jc_decode.specs.Listing.{listing};
 ghost use Rattle.jc_rules.specs.Demand.{Frame};
 ghost use Rattle.jc_rules.specs.Apply.{frame_of};
 ghost use Rattle.card_typing.specs.Typing.{IsLeastCardTyping};
-ghost use Rattle.card_verify.specs.Walk.{HasSlices, IsBegun};
+ghost use Rattle.card_verify.specs.Walk.{HasSlices};
 ghost use Rattle.card_index.specs.Bound.{AreCounted, AreCountedTo, AreCountedBy, instruction_count, target_count, most_passes, step_bound};
 ghost use Rattle.card_index.specs.Indexed.{subject, world_in, listed};
 ghost use Rattle.card_index.specs.IndexTyping.{IsIndex, HasIndexTyping};
 ghost use Rattle.card_index.specs.Refusal.{IsFirstBadEntry, IsFirstLacking, LeadsToListed, IsFormKind, IsRefusedOver};
-ghost use Rattle.card_index.specs.Walk.{IsIndexed, IsFinishedOver, IsPlaceNumber, IsNotIndexed};
+ghost use Rattle.card_index.specs.Walk.{IsIndexed, IsBegunOver, IsFinishedOver, IsPlaceNumber, IsNotIndexed};
 
 use crate::form::is_rest_formed;
 use crate::indexed::Indexed;
@@ -255,7 +255,7 @@ impl Indexed<'_, '_> {
         steps: &mut Steps<L>,
     ) -> Result<(), CardFault>
         requires indexed { IsIndexed self.now }
-        requires begun { IsBegun self.now.verifier regs.old stack.old }
+        requires begun { IsBegunOver self.now regs.old stack.old }
         ensures finished { OnOk result (IsFinishedOver self.now regs.new) }
         ensures refused { IfErr result
             (λ fault.

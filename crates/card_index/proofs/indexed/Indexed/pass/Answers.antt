@@ -8,16 +8,16 @@ use Rattle.card_verify.specs.declared.pass.Arrival.{Arrival}
 use Rattle.card_verify.specs.Walk.{IsComing}
 use Rattle.card_verify.proofs.Landing.{no-cells}
 use Rattle.card_verify.proofs.Nearest.{next-whole}
-use Rattle.card_verify.proofs.Walking.{coming-first, coming-next, next-place, next-stands}
-use Rattle.card_index.specs.Walk.{IsProgressOver}
+use Rattle.card_verify.proofs.Walking.{next-place, next-stands}
+use Rattle.card_index.specs.Walk.{IsComingOver, IsProgressOver}
 use Rattle.card_index.proofs.Costs.{one-more, one-more-cost, cost-within}
-use Rattle.card_index.proofs.Walked.{refused-over-at, progress-over-first, progress-over-next, pass-over-done}
+use Rattle.card_index.proofs.Walked.{coming-over-first, coming-over-next, refused-over-at, progress-over-first, progress-over-next, pass-over-done}
 use Rattle.card_index.proofs.indexed.Indexed.pass.Goals as goal
 
 pub walk-init : goal.walk-init
 walk-init g c = record {
   whole = search rules;
-  coming = coming-first c.args.self.now.verifier c.requires.indexed.verifier _ c.args.regs.now c.args.stack.now refl refl (no-cells c.args.stack.now) c.requires.begun;
+  coming = coming-over-first c.args.self.now c.requires.indexed _ c.args.regs.now c.args.stack.now refl refl (no-cells c.args.stack.now) c.requires.begun;
   ahead = c.of-entries.ensures.is;
   low = omega (arith, c.of-entries.ensures.from);
   progress = progress-over-first c.args.self.now c.requires.indexed c.args.regs.now (cells c.args.stack.now 0) (no-cells c.args.stack.now);
@@ -37,7 +37,7 @@ visit-requires-clause-stands g c =
 pub visit-requires-clause-coming : goal.visit-requires-clause-coming
 visit-requires-clause-coming g c =
     let place = next-place c.args.self.now.verifier c.requires.indexed.verifier c.walk.yielded (rest_of c.walk.placed-iterator) c.in-Some.placed (rest_of c.next.new.self) c.walk.invariant.whole c.in-Some.ensures.steps in
-    subst (λ n. IsComing c.args.self.now.verifier n c.walk.arrival c.walk.regs c.walk.stack) (sym place) c.walk.invariant.coming
+    subst (λ n. IsComing c.args.self.now.verifier n c.walk.arrival c.walk.regs c.walk.stack) (sym place) c.walk.invariant.coming.coming
 
 pub returns-in-Err-clause-refused : goal.returns-in-Err-clause-refused
 returns-in-Err-clause-refused g c =
@@ -46,7 +46,7 @@ returns-in-Err-clause-refused g c =
     let place = next-place v c.requires.indexed.verifier c.walk.yielded (rest_of c.walk.placed-iterator) c.in-Some.placed (rest_of c.next.new.self) c.walk.invariant.whole c.in-Some.ensures.steps in
     let there = next-stands v c.requires.indexed.verifier c.walk.yielded (rest_of c.walk.placed-iterator) c.in-Some.placed (rest_of c.next.new.self) c.walk.invariant.whole c.in-Some.ensures.steps in
     refused-over-at x c.requires.indexed c.in-Some.placed there c.walk.arrival c.walk.regs c.walk.stack c.visit.new.regs c.visit.new.stack c.in-Err.fault
-    (subst (λ n. IsComing v n c.walk.arrival c.walk.regs c.walk.stack) (sym place) c.walk.invariant.coming) c.in-Err.ensures.stopped
+    (subst (λ n. IsComingOver x n c.walk.arrival c.walk.regs c.walk.stack) (sym place) c.walk.invariant.coming) c.in-Err.ensures.stopped
 
 pub returns-in-Err-clause-cost : goal.returns-in-Err-clause-cost
 returns-in-Err-clause-cost g c = λ b lt.
@@ -72,13 +72,13 @@ walk-preserved g c =
     let o = c.in-Ok.outcome in
     let place = next-place v c.requires.indexed.verifier c.walk.yielded (rest_of c.walk.placed-iterator) i (rest_of c.next.new.self) c.walk.invariant.whole c.in-Some.ensures.steps in
     let there = next-stands v c.requires.indexed.verifier c.walk.yielded (rest_of c.walk.placed-iterator) i (rest_of c.next.new.self) c.walk.invariant.whole c.in-Some.ensures.steps in
-    let come = subst (λ n. IsComing v n c.walk.arrival c.walk.regs c.walk.stack) (sym place) c.walk.invariant.coming in
+    let come = subst (λ n. IsComingOver x n c.walk.arrival c.walk.regs c.walk.stack) (sym place) c.walk.invariant.coming in
     let next : i.place + i.insn.len ≡ end_from 0 (c.walk.yielded ++ i ∷ []) = ap (λ n. n + i.insn.len) place ∙ sym (end-after 0 c.walk.yielded i) in
     let arrival : Arrival = record { may_fall = c.falls.result; depth = o.depth } in
     record {
       whole = next-whole c.walk.yielded (rest_of c.walk.placed-iterator) i (rest_of c.next.new.self) (listing v.code.bytes.now) c.walk.invariant.whole c.in-Some.ensures.steps;
-      coming = subst (λ n. IsComing v n arrival c.visit.new.regs c.visit.new.stack) next
-          (coming-next v c.requires.indexed.verifier i there c.walk.arrival arrival c.walk.regs c.walk.stack c.visit.new.regs c.visit.new.stack o c.falls.ensures refl come c.in-Ok.ensures.passed.visited);
+      coming = subst (λ n. IsComingOver x n arrival c.visit.new.regs c.visit.new.stack) next
+          (coming-over-next x c.requires.indexed i there c.walk.arrival arrival c.walk.regs c.walk.stack c.visit.new.regs c.visit.new.stack o c.falls.ensures refl come c.in-Ok.ensures.passed);
       ahead = c.moved-entries.ensures.is;
       low = omega (arith, c.moved-entries.ensures.from, next);
       progress = subst (λ (a : Bool). IsProgressOver x c.args.regs.now a c.visit.new.regs c.falls.result (cells c.visit.new.stack o.depth) (c.walk.yielded ++ i ∷ [])) (sym c.either-rose.ensures)

@@ -1,13 +1,13 @@
 use Rattle.std.proofs.Common.{◌≡◌, ◌⊎◌, ℕ, ◌+◌, ◌*◌, ◌^◌, ◌<◌, ◌≤◌, length, sum_by}
 use Rattle.jc_base.specs.Order.{rises_left}
-use Rattle.card_verify.specs.Walk.{IsBegun}
 use Rattle.card_index.specs.Bound.{instruction_count}
 use Rattle.card_index.specs.Indexed.{subject, world_in, listed}
+use Rattle.card_index.specs.Walk.{IsBegunOver}
 use Rattle.card_index.proofs.indexed.Indexed.settle.Given as goal
 
 abbrev pub invariant-passes : goal.invariant-passes
 invariant-passes g l = record {
-  begun : IsBegun l.self.verifier l.regs l.stack;
+  begun : IsBegunOver l.self l.regs l.stack;
   forward : l.fn.steps ≤ l.steps;
   twice : (l.regs ≡ l.fn.regs) ⊎ (l.fn.steps + instruction_count (subject l.self) ≤ l.steps);
   cost :

@@ -1,12 +1,13 @@
 use Rattle.std.proofs.Common.{◌+◌, ◌*◌, sym, ◌∙◌, arith}
 use Rattle.card_typing.specs.Typing.{IsLeastCardTyping}
-use Rattle.card_verify.proofs.Answering.{begun-start, on-ok}
+use Rattle.card_verify.proofs.Answering.{on-ok}
 use Rattle.card_verify.proofs.Starting.{start-length}
 use Rattle.card_index.specs.Bound.{instruction_count}
 use Rattle.card_index.specs.Indexed.{subject, world_in, listed}
 use Rattle.card_index.specs.IndexTyping.{HasIndexTyping}
 use Rattle.card_index.specs.Walk.{IsFinishedOver}
 use Rattle.card_index.proofs.Verified.{finished-least, finished-typing, passes-within, counted-of}
+use Rattle.card_index.proofs.Walked.{begun-over-start}
 use Rattle.card_index.proofs.indexed.Indexed.verify_types.Goals as goal
 
 pub begin-requires : goal.begin-requires
@@ -28,7 +29,7 @@ settle-requires-clause-indexed g c = record {
 
 pub settle-requires-clause-begun : goal.settle-requires-clause-begun
 settle-requires-clause-begun g c =
-    begun-start c.args.self.now.verifier c.begin.new.regs c.args.stack.now c.begin.ensures
+    begun-over-start c.args.self.now c.begin.new.regs c.args.stack.now c.begin.ensures
     (record { registers = c.begin.auto.regs ∙ c.requires.slices.registers; cells = c.requires.slices.cells })
 
 pub returns-clause-typing : goal.returns-clause-typing
