@@ -1,6 +1,6 @@
 -- What it means that nothing is wrong, or something is, at an instruction over a stack of shorts.
 use Rattle.std.proofs.Common.{◌≡◌, ◌≢◌, ◌∙◌, sym, ap, subst, ℕ, Bool, true, false, Result, Ok, Err, List, [], length, refl, arith, ◌==◌, eq-eqb}
-use Rattle.std.proofs.lemmas.Bool.{eqb-true, ltb-true, and_parts}
+use Rattle.std.proofs.lemmas.Bool.{eqb-true, ltb-true, and_parts, both_ways}
 use Rattle.std.proofs.lemmas.Bool.Decides.{nat_tests}
 use Rattle.std.specs.Prelude.{if◌then◌else◌, ◌&&◌, nat_lt}
 use Rattle.cap_bare.specs.declared.bare.Bare.{Bare}
@@ -28,9 +28,6 @@ pub record Passing (code : List ℕ) (bare : Bare) (i : Placed) (depth next : �
   pub rule : Applied bare (instruction_of i.insn) depth after
   pub branch : jumps i.insn.op ≡ true → after ≡ 0
   pub leaves : Leaves code i after next (falls i.insn.op)
-
-true≢false : (b : Bool) → b ≡ true → b ≡ false → ⊥
-true≢false b e f = cc
 
 at-target : (depth : ℕ) (t : Bool) → (nat_lt 0 depth && t) ≡ false → t ≡ true → depth ≡ 0
 at-target depth t e h = grind (arith, nat_tests)
@@ -62,7 +59,7 @@ module _ (code : List ℕ) (bare : Bare) (i : Placed) where
   leaves-ok true f l after next h e = absurd (cc)
   leaves-ok false true true after next h e = absurd (cc)
   leaves-ok false true false after next h e =
-      (refl, ((λ same. true≢false (place_after i == length code) (eq-eqb (place_after i) (length code) same) e), cc))
+      (refl, ((λ same. both_ways (place_after i == length code) e (eq-eqb (place_after i) (length code) same)), cc))
   leaves-ok false false l after next h e = (refl, cc)
 
   leaves-is : (falling last : Bool) (after next : ℕ) → Leaves code i after next falling → (place_after i == length code) ≡ last

@@ -3,7 +3,7 @@ use Rattle.std.proofs.Common.{◌≡◌, ◌∙◌, sym, ap, subst, ℕ, zero, s
 use Rattle.std.specs.Prelude.{ℤ, pos, negsuc, is_ok, IsTrue, ◌↔◌, slice_get}
 use Rattle.std.specs.List.{list_any}
 use Rattle.std.proofs.lemmas.Bool.{eqb-true}
-use Rattle.std.proofs.lemmas.Bool.Decides.{nat_tests}
+use Rattle.std.proofs.lemmas.Bool.Decides.{nat_tests, same_from_decides}
 use Rattle.std.proofs.lemmas.List.Elements.{All-weaker, All-contains_itself}
 use Rattle.std.proofs.lemmas.List.Folds.{Any-from_list_any, list_any_at}
 use Rattle.jc_decode.specs.declared.insn.Insn.{Insn}
@@ -31,12 +31,6 @@ any-of test xs x c h = list_any_at test xs c.0 x c.1 (ap test c.2 ∙ h)
 
 any-from : {A : Type 0} (test : A → Bool) (xs : List A) → list_any test xs ≡ true → (x : A) × Contains xs x × (test x ≡ true)
 any-from test xs h = let a = Any-from_list_any test xs h in (a.1, (a.0, a.2, a.3), a.4)
-
--- two tests that say the same
-same-test : (a b : Bool) → (a ≡ true → b ≡ true) → (b ≡ true → a ≡ true) → a ≡ b
-same-test true b f g = sym (f refl)
-same-test false true f g = g refl
-same-test false false f g = refl
 
 at-true : (place : ℕ) (t : ℤ) → t ≡ pos place → is_at place t ≡ true
 at-true place t e = rw e (eq-eqb place place refl)
@@ -72,7 +66,7 @@ module _ (code : List ℕ) where
 
   pub target-is : (place : ℕ) (r : Bool) → (r ≡ true → IsTarget code place) → (IsTarget code place → r ≡ true)
       → r ≡ is_target code place
-  target-is place r f g = same-test r (is_target code place) (λ e. target-true place (f e)) (λ e. g (target-from place e))
+  target-is place r f g = same_from_decides {P = is_target code place ≡ true} r (is_target code place) ((λ e. target-true place (f e)), (λ e. g (target-from place e))) ((λ e. e), (λ e. e))
 
   -- ---- an instruction leads to one place at most
 

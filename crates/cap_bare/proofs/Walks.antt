@@ -1,6 +1,6 @@
 -- The second walk accepts exactly what has a card typing, and refuses at a met state.
 use Rattle.std.proofs.Common.{◌≡◌, ◌≢◌, ◌∙◌, sym, ap, subst, ℕ, zero, suc, ◌+◌, ◌-◌, ◌<◌, ◌≤◌, Bool, true, false, Option, Some, None, Result, Ok, Err, List, [], ◌∷◌, ⊎_elim, Contains, length, replicate, refl, arith, ◌==◌, eq-eqb}
-use Rattle.std.proofs.lemmas.Bool.{eqb-true}
+use Rattle.std.proofs.lemmas.Bool.{eqb-true, both_ways}
 use Rattle.std.proofs.lemmas.List.{length-replicate, length-append}
 use Rattle.std.proofs.lemmas.List.Elements.{All-contains}
 use Rattle.jc_decode.proofs.Elements.{Contains-either, nothing-in}
@@ -24,9 +24,6 @@ use Rattle.cap_bare.proofs.Instructions.{IsInside, here-inside, IsHere, Lists, h
 use Rattle.cap_bare.proofs.Places.{target-true, target-from}
 use Rattle.cap_bare.proofs.Rule.{applied-from, applies, shorts-none, shorts-length, written-named}
 use Rattle.cap_bare.proofs.Passing.{Passing, Leaves, passed-ok, passed-is, passed-err}
-
-true≢false : (b : Bool) → b ≡ true → b ≡ false → ⊥
-true≢false b e f = cc
 
 -- the register list of shorts
 get-short : (n x : ℕ) → x < n → IsSomeAnd (slice_get (shorts n) x) (λ k. IsBelow short k)
@@ -238,7 +235,7 @@ module _ (code : List ℕ) (bare : Bare) where
             let empty : is ≡ [] = list-past (place_after i) is rest (omega arith) in
             let ok : first_wrong code bare next is ≡ Ok tt = ap (first_wrong code bare next) empty in absurd (cc)
         by_end next p false t more h =
-            let ne : (place_after i) ≢ length code = λ k. true≢false ((place_after i) == length code) (eq-eqb (place_after i) (length code) k) t in
+            let ne : (place_after i) ≢ length code = λ k. both_ways ((place_after i) == length code) t (eq-eqb (place_after i) (length code) k) in
             let le = inside.inside in
             let passes : Passes code bare i registers (shorts depth) (shorts p.after) = record {
               stands = s;

@@ -139,17 +139,17 @@ until_taken g step h all s now xs after t =
 
 -- ---- items move on
 
-grows : {X : Type 0} (g : Grammar X) (bytes : List ℕ) (at : ℕ) (x : X) (after : ℕ) → Spells g bytes at x after → at ≤ after
+pub moves_on : {X : Type 0} (g : Grammar X) (bytes : List ℕ) (at : ℕ) (x : X) (after : ℕ) → Spells g bytes at x after → at ≤ after
 unfolding Spells
-grows (give y) bytes at x after h = omega (arith, h.1)
-grows (number w wrong) bytes at n after h = omega (arith, h.2)
-grows (piece n) bytes at part after h = omega (arith, h.2)
-grows remaining bytes at n after h = omega (arith, h.1)
-grows place bytes at n after h = omega (arith, h.1)
-grows finish bytes at x after h = omega (arith, h.1)
-grows (g >>= next) bytes at y after h =
-    let a = grows g bytes at h.0 h.1 h.2 in
-    let b = grows (next h.0) bytes h.1 y after h.3 in
+moves_on (give y) bytes at x after h = omega (arith, h.1)
+moves_on (number w wrong) bytes at n after h = omega (arith, h.2)
+moves_on (piece n) bytes at part after h = omega (arith, h.2)
+moves_on remaining bytes at n after h = omega (arith, h.1)
+moves_on place bytes at n after h = omega (arith, h.1)
+moves_on finish bytes at x after h = omega (arith, h.1)
+moves_on (g >>= next) bytes at y after h =
+    let a = moves_on g bytes at h.0 h.1 h.2 in
+    let b = moves_on (next h.0) bytes h.1 y after h.3 in
     omega (arith, a, b)
 
 -- what begins with a number has the bytes of that number at least
@@ -158,5 +158,5 @@ unfolding Spells
 moves w wrong then now x after t =
     let h = read-spells (info_of now.part) (number w wrong >>= then) now.info.bytes.now now.at x after.at t.value in
     let a : h.1 ≡ now.at + w = h.2.2 in
-    let b = grows (then h.0) now.info.bytes.now h.1 x after.at h.3 in
+    let b = moves_on (then h.0) now.info.bytes.now h.1 x after.at h.3 in
     omega (arith, a, b)

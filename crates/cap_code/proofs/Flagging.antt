@@ -1,26 +1,18 @@
 -- Flags of the targets of instructions.
 use Rattle.std.proofs.Common.{◌≡◌, ◌<◌, ◌≤◌, ◌+◌, ◌⊎◌, inl, inr, ⊎_elim, ℕ, zero, suc, Bool, true, false, cond, List, [], ◌∷◌, length, Some, refl, sym, ap, ◌∙◌, subst, arith, Contains}
 use Rattle.std.specs.Prelude.{ℤ, pos, negsuc, replicate, slice_get, slice_set, nat_lt, ◌&&◌}
-use Rattle.std.proofs.lemmas.Bool.{false≢true}
-use Rattle.std.proofs.lemmas.Bool.Decides.{nat_tests}
+use Rattle.std.proofs.lemmas.Bool.{false≢true, and_parts, lt-ltb, ltb-true}
 use Rattle.std.proofs.lemmas.List.{length-set, length-replicate}
 use Rattle.jc_decode.specs.declared.insn.Placed.{Placed}
 use Rattle.jc_decode.specs.Laws.{AreListed}
 use Rattle.jc_decode.specs.Listing.{listing, targets}
 use Rattle.jc_decode.specs.Places.{IsTargetIn}
 use Rattle.jc_decode.proofs.Elements.{nothing-in, Contains-first, Contains-later, Contains-either}
-use Rattle.jc_decode.proofs.Passed.{and-parts}
 use Rattle.jc_control.specs.Flags.{flag, IsFlagged, Marks}
 use Rattle.jc_control.specs.WellFormed.{IsPlace}
 use Rattle.jc_control.proofs.Marked.{flag-none, flagged-inside, flag-here, flag-kept, flag-only}
 use Rattle.cap_code.specs.ExactIndex.{IsPlacedTarget, IsExactIndexOf}
 use Rattle.cap_code.specs.Marking.{mark, marked, all_marked, flagged_from}
-
-below : (m n : ℕ) → nat_lt m n ≡ true → m < n
-below m n h = grind (arith, nat_tests)
-
-is_below : (m n : ℕ) → m < n → nat_lt m n ≡ true
-is_below m n h = grind (arith, nat_tests)
 
 -- ---- one target
 
@@ -37,11 +29,11 @@ mark_kept place fs (negsuc n) q h = h
 mark_kept place fs (pos p) q h = by (place p && nat_lt p (length fs)) refl
   where
     by : (b : Bool) → (place p && nat_lt p (length fs)) ≡ b → IsFlagged (cond b (slice_set fs p true) fs) q
-    by true e = flag-kept fs p q (below p (length fs) (and-parts (place p) (nat_lt p (length fs)) e).1) h
+    by true e = flag-kept fs p q (ltb-true p (length fs) (and_parts (place p) (nat_lt p (length fs)) e).1) h
     by false e = h
 
 mark_one : (place : ℕ → Bool) (fs : List Bool) (p : ℕ) → place p ≡ true → p < length fs → IsFlagged (mark place fs (pos p)) p
-mark_one place fs p e lt = by (place p) (nat_lt p (length fs)) e (is_below p (length fs) lt)
+mark_one place fs p e lt = by (place p) (nat_lt p (length fs)) e (lt-ltb p (length fs) lt)
   where
     by : (a b : Bool) → a ≡ true → b ≡ true → IsFlagged (cond (a && b) (slice_set fs p true) fs) p
     by true true e f = flag-here fs p lt
@@ -59,7 +51,7 @@ mark_only place fs (pos p) q h = by (place p && nat_lt p (length fs)) refl h
     by : (b : Bool) → (place p && nat_lt p (length fs)) ≡ b → IsFlagged (cond b (slice_set fs p true) fs) q → IsFlagged fs q ⊎ IsMarked place (pos p) q
     by true e h =
         ⊎_elim inl
-        (λ same. inr (record { is = ap pos (sym same); known = subst (λ k. place k ≡ true) (sym same) (and-parts (place p) (nat_lt p (length fs)) e).0 }))
+        (λ same. inr (record { is = ap pos (sym same); known = subst (λ k. place k ≡ true) (sym same) (and_parts (place p) (nat_lt p (length fs)) e).0 }))
         (flag-only fs p q h)
     by false e h = inl h
 

@@ -2,6 +2,7 @@
 use Rattle.std.proofs.Common.{◌≡◌, ℕ, zero, suc, ◌+◌, ◌-◌, ◌/◌, ◌≤◌, ◌<◌, Bool, true, false, cond, List, [], ◌∷◌, length, take, Option, Some, None, Ok, Err, IfSome, IfNone, option_map, option_and_then, refl, sym, ◌∙◌, subst, inl, inr, arith}
 use Rattle.std.specs.Result.{result_ok}
 use Rattle.std.proofs.lemmas.Bool.{cases_lt}
+use Rattle.std.proofs.lemmas.Option.{option_and_then_some}
 use Rattle.cap_bytes.specs.declared.fault.FormFault.{FormFault}
 use Rattle.cap_bytes.specs.Number.{number_at}
 use Rattle.cap_bytes.specs.Grammar.{any, piece, give, ◌>>=◌, when}
@@ -21,10 +22,6 @@ value_of r = option_map (λ p. p.0) (result_ok r)
 found : {X : Type 0} (r : Reading X) (x : X) → value_of r ≡ Some x → (after : ℕ) × (r ≡ Ok (x, after))
 found (Ok y) x h = let e : y.0 ≡ x = cc in (y.1, rw (← e) refl)
 found (Err e) x h = absurd cc
-
-some_of : {X Y : Type 0} (f : X → Option Y) (o : Option X) (y : Y) → option_and_then f o ≡ Some y → (x : X) × (o ≡ Some x) × (f x ≡ Some y)
-some_of f None y h = absurd cc
-some_of f (Some x) y h = (x, refl, h)
 
 some_then : {X Y : Type 0} (f : X → Option Y) (o : Option X) (x : X) (y : Y) → o ≡ Some x → f x ≡ Some y → option_and_then f o ≡ Some y
 some_then f o x y h k = rw (h, k) refl
@@ -58,15 +55,15 @@ spelled-types ns ts h = rw (spelled-read (info_of 11) type_items ns 0 ts h.0 h.1
 
 types-stand : (bytes : List ℕ) (at : ℕ) (ts : List TypeItem) → types_at bytes at ≡ Some ts → TypesAt bytes at ts
 types-stand bytes at ts h =
-    let count = some_of (λ n. option_and_then types_in (nibbles_at bytes (at + 1) n)) (number_at 1 at bytes) ts h in
-    let ns = some_of types_in (nibbles_at bytes (at + 1) count.0) ts count.2 in
-    let r = found (read (info_of 11) type_descriptor bytes at) ns.0 (nibbles-there bytes at ∙ some_then (λ n. nibbles_at bytes (at + 1) n) (number_at 1 at bytes) count.0 ns.0 count.1 ns.1) in
+    option_and_then_some (λ n. option_and_then types_in (nibbles_at bytes (at + 1) n)) (number_at 1 at bytes) ts h (λ count has_count has_types.
+    option_and_then_some types_in (nibbles_at bytes (at + 1) count) ts has_types (λ ns has_nibbles spelled.
+    let r = found (read (info_of 11) type_descriptor bytes at) ns (nibbles-there bytes at ∙ some_then (λ n. nibbles_at bytes (at + 1) n) (number_at 1 at bytes) count ns has_count has_nibbles) in
     record {
-      nibbles = ns.0;
+      nibbles = ns;
       after = r.0;
-      there = read-spells (info_of 11) type_descriptor bytes at ns.0 r.0 r.1;
-      spelled = types-spelled ns.0 ts ns.2;
-    }
+      there = read-spells (info_of 11) type_descriptor bytes at ns r.0 r.1;
+      spelled = types-spelled ns ts spelled;
+    }))
 
 types-found : (bytes : List ℕ) (at : ℕ) (ts : List TypeItem) → TypesAt bytes at ts → types_at bytes at ≡ Some ts
 types-found bytes at ts h =
@@ -147,8 +144,8 @@ alone (u ∷ v ∷ ts) t h = absurd cc
 
 type-stands : (bytes : List ℕ) (at : ℕ) (t : TypeItem) → type_at bytes at ≡ Some t → TypesAt bytes at (t ∷ [])
 type-stands bytes at t h =
-    let ts = some_of only (types_at bytes at) t (sym (type-only bytes at) ∙ h) in
-    subst (λ us. TypesAt bytes at us) (alone ts.0 t ts.2) (types-stand bytes at ts.0 ts.1)
+    option_and_then_some only (types_at bytes at) t (sym (type-only bytes at) ∙ h)
+    (λ ts there one. subst (λ us. TypesAt bytes at us) (alone ts t one) (types-stand bytes at ts there))
 
 type-found : (bytes : List ℕ) (at : ℕ) (t : TypeItem) → TypesAt bytes at (t ∷ []) → type_at bytes at ≡ Some t
 type-found bytes at t h = type-only bytes at ∙ rw (types-found bytes at (t ∷ []) h) refl

@@ -10,7 +10,7 @@ use Rattle.std.specs.Str.{bytes_eq}
 use Rattle.std.specs.declared.cmp.Ordering.{Ordering}
 use Rattle.std.specs.declared.cmp.Ordering.TheVariants.{Less, Equal, Greater}
 use Rattle.std.specs.Ordering.{nat_cmp, eq_by_cmp, is_eq}
-use Rattle.std.specs.Cmp.{eq_by_cmp_equiv}
+use Rattle.std.specs.Cmp.{eq_by_cmp_equiv, Equal-is}
 use Rattle.std.specs.Cmp.Lexicographic.{slice_cmp, nat_list_cmp_total}
 use Rattle.std.specs.FinMap as map
 use Rattle.std.specs.FinMap.Entries.{by_order}
@@ -28,15 +28,11 @@ abbrev found : List ℕ → List Held → Option (List ℕ)
 found q rs = map.find order q rs
 
 -- ---- keys
-equal_so : (o : Ordering) → is_eq o ≡ true → o ≡ Equal
-equal_so Less e = cc
-equal_so Equal e = refl
-equal_so Greater e = cc
 
-same_key : (k q : List ℕ) → eq_by_cmp order k q ≡ true → k ≡ q
-same_key k q e = map.slice_cmp-IsAntisymmetric map.nat_cmp-IsAntisymmetric k q (equal_so (order k q) e)
+pub same_key : (k q : List ℕ) → eq_by_cmp order k q ≡ true → k ≡ q
+same_key k q e = map.slice_cmp-IsAntisymmetric map.nat_cmp-IsAntisymmetric k q ((Equal-is (order k q)).0 e)
 
-own_key : (k : List ℕ) → eq_by_cmp order k k ≡ true
+pub own_key : (k : List ℕ) → eq_by_cmp order k k ≡ true
 own_key k = (eq_by_cmp_equiv nat_list_cmp_total).refl k
 
 other_key : (k q : List ℕ) → eq_by_cmp order k q ≡ false → eq_by_cmp order q k ≡ false

@@ -1,7 +1,7 @@
 -- A dataflow typing of a method that is listed with its instructions: where each row passes a test, the frames are a typing.
 use Rattle.std.proofs.Common.{◌≡◌, ◌≤◌, ◌<◌, ◌+◌, ◌⊎◌, inl, inr, ℕ, zero, suc, ℤ, pos, negsuc, Bool, true, false, cond, List, [], ◌∷◌, length, map, Option, Some, None, Result, Ok, Err, refl, sym, ap, subst, ◌∙◌, arith, leb-true, ltb-true, eqb-true, eq-eqb, Contains, All}
 use Rattle.std.specs.Prelude.{is_ok, ◌&&◌, ◌==◌, not, nat_le, nat_lt, slice_get, slice_set, IsTrue, IsSomeAnd}
-use Rattle.std.proofs.lemmas.Bool.{and_parts}
+use Rattle.std.proofs.lemmas.Bool.{and_parts, not-true}
 use Rattle.jc_base.specs.declared.ty.Ty.{Ty}
 use Rattle.jc_base.specs.declared.ty.Ty.TheVariants.{Bottom, Short, IntHigh, IntLow, Null, Class, ArrBool, ArrByte, ArrShort, ArrInt, ArrRef, Fresh, Top}
 use Rattle.jc_base.specs.declared.record.Handler.{Handler}
@@ -343,10 +343,6 @@ row_listed [] r h = absurd h
 row_listed (x ∷ xs) r (inl e) = inl (ap placed_of e)
 row_listed (x ∷ xs) r (inr h) = inr (row_listed xs r h)
 
-not_true : (b : Bool) → not b ≡ true → b ≡ false
-not_true true e = absurd (cc)
-not_true false e = refl
-
 same_place : (p : ℕ) → (p == p) ≡ true
 same_place p = eq-eqb p p refl
 
@@ -357,7 +353,7 @@ row_at_place (x ∷ xs) r e (inl s) =
     (ap (λ (b : Bool). cond b (Some x.before) (frame_at xs x.placed.place)) (same_place x.placed.place))
 row_at_place (x ∷ xs) r e (inr h) =
     let both = and_parts (all_true (is_elsewhere x) xs) (are_apart xs) e in
-    let other = not_true (x.placed.place == r.placed.place) (has_true (is_elsewhere x) xs r both.0 h) in
+    let other = not-true (x.placed.place == r.placed.place) (has_true (is_elsewhere x) xs r both.0 h) in
     ap (λ (b : Bool). cond b (Some x.before) (frame_at xs r.placed.place)) other ∙ row_at_place xs r both.1 h
 
 resolves_if : (r : Result Operation RuleFault) → is_ok r ≡ true → Ok (given_or_throw r) ≡ r

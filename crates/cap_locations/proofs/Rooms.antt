@@ -2,7 +2,7 @@
 use Rattle.std.proofs.Common.{◌≡◌, ◌≤◌, ◌<◌, ℕ, Bool, true, false, cond, List, Option, Some, None, Ok, refl, arith, rules}
 use Rattle.std.specs.Prelude.{map, replicate, not, ◌&&◌, ◌||◌, ◌==◌, nat_le, IfSome, unsigned_abs}
 use Rattle.std.specs.List.{range_with_len}
-use Rattle.std.proofs.lemmas.Bool.{leb-true}
+use Rattle.std.proofs.lemmas.Bool.{leb-true, and_parts, not-true}
 use Rattle.std.proofs.lemmas.Bool.Decides.{nat_tests}
 use Rattle.jc_decode.specs.declared.insn.Insn.{Insn}
 use Rattle.jc_decode.specs.declared.pool_index.PoolIndex.{PoolIndex}
@@ -13,8 +13,9 @@ use Rattle.jc_decode.specs.Decoding.{decoded}
 use Rattle.jc_decode.specs.Forms.{is_between, bytes_by, length_of}
 use Rattle.jc_decode.specs.PoolIndex.{has_short_index, has_index, has_second_index, first_index, second_index, pool_index}
 use Rattle.cap_locations.specs.Indices.{HasIndexInside}
-use Rattle.jc_decode.proofs.Passed.{passed-at, and-parts, or-rest}
+use Rattle.jc_decode.proofs.Passed.{passed-at, or-rest}
 use Rattle.jc_decode.proofs.Sized.{length-decoded}
+use Rattle.jc_decode.proofs.PoolIndices.{second-op}
 
 -- opcode by opcode: no switch, and so many bytes
 abbrev has_bytes : ℕ → ℕ → Bool
@@ -43,25 +44,16 @@ second_room-all = refl
 
 long : (i : Insn) (code : List ℕ) (at n : ℕ) → decoded code at ≡ Ok i → has_bytes n i.op ≡ true → n ≤ i.len
 long i code at n d h =
-    let p = and-parts (not (is_switch i.op)) (nat_le n (bytes_by (layout_of i.op))) h in
+    let p = and_parts (not (is_switch i.op)) (nat_le n (bytes_by (layout_of i.op))) h in
     let size : length_of i ≡ i.len = length-decoded code at i d in
-    let own : is_switch i.op ≡ false = no_switch (is_switch i.op) p.0 in
+    let own : is_switch i.op ≡ false = not-true (is_switch i.op) p.0 in
     let bytes : length_of i ≡ bytes_by (layout_of i.op) = by (is_switch i.op) own in
     let enough : n ≤ bytes_by (layout_of i.op) = leb-true _ _ p.1 in
     omega arith
   where
-    no_switch : (b : Bool) → not b ≡ true → b ≡ false
-    no_switch true e = absurd (cc)
-    no_switch false e = refl
-
     by : (b : Bool) → b ≡ false → cond b i.len (bytes_by (layout_of i.op)) ≡ bytes_by (layout_of i.op)
     by true e = absurd (cc)
     by false e = refl
-
-second-op : (a b c : Bool) → (a || (b && c)) ≡ true → (a || b) ≡ true
-second-op true b c h = refl
-second-op false true c h = refl
-second-op false false c h = absurd (cc)
 
 small-second : (op : ℕ) → (op == 142 || is_between 148 149 op) ≡ true → op < 256
 small-second op h = grind (arith, nat_tests)

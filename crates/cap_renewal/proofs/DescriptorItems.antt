@@ -4,10 +4,11 @@ use Rattle.std.specs.Prelude.{if◌then◌else◌}
 use Rattle.cap_bytes.specs.Grammar.{u1, u2, repeat, table}
 use Rattle.cap_bytes.specs.Spelling.{Spells, Stands, info_of}
 use Rattle.cap_bytes.proofs.Wide.{read_within}
+use Rattle.cap_bytes.proofs.UntilLoops.{moves_on}
 use Rattle.cap_desc.specs.DescriptorFormat.{Field, Method, Class, Descriptor, method_flags, field_descriptor_info, method_descriptor_info, class_descriptor_info, descriptor_info}
 use Rattle.cap_writing.specs.Edit.{Edit, patched_all, AreInside, FitBytes}
 use Rattle.cap_writing.specs.Renewal.{Renews, IsEdited, AreSame}
-use Rattle.cap_writing.proofs.Same.{spelled_same, same_part, moves_on}
+use Rattle.cap_writing.proofs.Same.{spelled_same, same_part}
 use Rattle.cap_writing.proofs.Patches.{edited_split, edited_last, inside_to, inside_from}
 use Rattle.cap_renewal.specs.declared.new_methods.NewMethod.{NewMethod}
 use Rattle.cap_renewal.specs.NewMethods.{AreBytes, AreSmall, IsSmall, numbers_of}

@@ -1,7 +1,9 @@
 -- Each method of a class with its record as it is written, and with the member that is written for it.
-use Rattle.std.proofs.Common.{◌≡◌, ◌+◌, ℕ, zero, suc, List, [], ◌∷◌, ◌++◌, length, map, replicate, Bool, true, false, cond, Option, Some, None, inl, inr, refl, sym, ap, subst, ◌∙◌, arith}
-use Rattle.std.specs.Prelude.{if◌then◌else◌, ◌==◌, slice_index, find}
+use Rattle.std.proofs.Common.{◌≡◌, ◌+◌, ℕ, zero, suc, List, [], ◌∷◌, ◌++◌, length, map, replicate, Bool, true, false, cond, Option, Some, None, inl, inr, refl, sym, ap, subst, ◌∙◌}
+use Rattle.std.specs.Prelude.{if◌then◌else◌, slice_index, find}
 use Rattle.std.proofs.lemmas.List.{map-append}
+use Rattle.std.proofs.lemmas.Bool.{eqb-true, eqb-false}
+use Rattle.std.proofs.lemmas.Option.{same_Some}
 use Rattle.cap_desc.specs.DescriptorFormat.{Method, Class}
 use Rattle.cap_desc.specs.Members.{methods_but}
 use Rattle.cap_components.specs.PackageRecord.{PackageRecord, described_methods, names_interface}
@@ -157,18 +159,6 @@ stays size room ms o h =
     let empty : slot (by_offset size ms) o ≡ None = ap (λ t. slot t o) (by_offset_is size ms) ∙ kept at_offset_of (replicate size None) ms o h ∙ slot_none size o in
     ap (offset_or o) (none_new (indexes_of size (blocks room ms)) (start_of room ms) (by_offset size ms) o empty)
 
-other_number : (a n : ℕ) → (a == n) ≡ false → a ≡ n → ⊥
-other_number a n e s = true_false (ap (λ k. k == n) s ∙ same n) e
-  where
-    same : (n : ℕ) → (n == n) ≡ true
-    same n = grind arith
-
-    true_false : {b : Bool} → b ≡ true → b ≡ false → ⊥
-    true_false t f = absurd cc
-
-same_number : (a n : ℕ) → (a == n) ≡ true → a ≡ n
-same_number a n e = grind arith
-
 pub data Finding {X : Type 0} (p : X → Bool) (xs : List X) : Type 0 where
   nowhere : find p xs ≡ None → Each (λ x. p x ≡ false) xs → Finding p xs
   first : (x : X) → find p xs ≡ Some x → Has xs x → p x ≡ true → Finding p xs
@@ -197,7 +187,7 @@ renamed p q laid ms w told o =
   where
     at_one : (z : Pair) → IsMemberOf p.methods.info z.source z.member → IsToldOf (places p ms) (indexes_of (length p.methods.info) (blocks (length p.methods.handlers) ms)) z → stood_at o (change_in (places p ms) z) ≡ true
         → (renewed_method (places p ms) z.source.method).method_offset ≡ to (places p ms) o
-    at_one z is t e = t.offset ∙ ap (to (places p ms)) (is.offset ∙ same_number z.source.method.method_offset o e)
+    at_one z is t e = t.offset ∙ ap (to (places p ms)) (is.offset ∙ eqb-true z.source.method.method_offset o e)
 
     by : Finding (stood_at o) (map (change_in (places p ms)) (pairs_in p laid ms)) → offset_by o (find (stood_at o) (map (change_in (places p ms)) (pairs_in p laid ms))) ≡ to (places p ms) o
     by (nowhere f h) =
@@ -207,12 +197,9 @@ renamed p q laid ms w told o =
         let others : Each (λ (m : Member). at_offset_of m ≡ Some o → ⊥) ms =
         subst (Each (λ (m : Member). at_offset_of m ≡ Some o → ⊥)) (pair_members p.methods.info (sources p laid) ms w.members)
         (each_map (λ (m : Member). at_offset_of m ≡ Some o → ⊥) member_in zs (each_of (λ (z : Pair). at_offset_of z.member ≡ Some o → ⊥) zs
-        (λ z g. λ e. other_number z.source.method.method_offset o (each_at (λ (x : Pair). stood_at o (change_in (places p ms) x) ≡ false) zs z none g)
-        (sym (each_at (λ (x : Pair). IsMemberOf p.methods.info x.source x.member) zs z is g).offset ∙ some_same z.member.offset o e)))) in
+        (λ z g. λ e. eqb-false z.source.method.method_offset o (each_at (λ (x : Pair). stood_at o (change_in (places p ms) x) ≡ false) zs z none g)
+        (sym (each_at (λ (x : Pair). IsMemberOf p.methods.info x.source x.member) zs z is g).offset ∙ same_Some z.member.offset o e)))) in
         ap (offset_by o) f ∙ sym (stays (length p.methods.info) (length p.methods.handlers) ms o others)
-      where
-        some_same : (a b : ℕ) → Some a ≡ Some b → a ≡ b
-        some_same a b e = cc
     by (first c f h t) =
         let zs = pairs_in p laid ms in
         let z = has_source (change_in (places p ms)) zs c h in

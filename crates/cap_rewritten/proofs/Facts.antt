@@ -2,7 +2,8 @@
 use Rattle.std.proofs.Common.{◌≡◌, ◌≤◌, ◌+◌, ℕ, List, [], ◌∷◌, length, map, filter_map, Bool, true, false, Option, Some, None, not, refl, sym, ap, subst, ◌∙◌, arith, ltb-false}
 use Rattle.std.specs.Prelude.{if◌then◌else◌, nat_lt, ◌==◌}
 use Rattle.std.specs.Int.RustNames.{bit_and}
-use Rattle.std.proofs.lemmas.Bool.{false≢true}
+use Rattle.std.proofs.lemmas.Bool.{false≢true, both_ways}
+use Rattle.std.proofs.lemmas.List.{length-map}
 use Rattle.jc_base.proofs.Eaching.{Each-from_All}
 use Rattle.cap_method.specs.MethodFormat.{Header}
 use Rattle.cap_desc.specs.DescriptorFormat.{Method}
@@ -22,7 +23,7 @@ use Rattle.cap_rewritten.specs.Rewritten.{bare_method, IsRewritten}
 use Rattle.cap_rewritten.specs.Laying.{IsFor, IsLaidFor, AreLaidFor}
 use Rattle.cap_rewritten.proofs.Lists.{Each, Has, each_at, each_of, map_each, none_each, each_none, faults_map}
 use Rattle.cap_rewritten.proofs.Agreed.{Agrees}
-use Rattle.cap_rewritten.proofs.Zipped.{length_map, now_of, source_of, method_of, old_of, changes_now, changes_source, sources_method, length_but}
+use Rattle.cap_rewritten.proofs.Zipped.{now_of, source_of, method_of, old_of, changes_now, changes_source, sources_method, length_but}
 use Rattle.cap_rewritten.proofs.Bare.{but_same, same_interfaces, alike, same_arguments}
 use Rattle.cap_rewritten.proofs.Kept.{map_twice}
 use Rattle.cap_rewritten.proofs.Headers.{moved}
@@ -43,10 +44,10 @@ many_sources p laid q r = sources_method 0 (described_methods p) (laid_but (name
 as_many : (p q : PackageRecord) (laid : List (Option Laid)) → IsRewritten p laid q → length (sources p laid) ≡ length (described_methods q)
 as_many p q laid r =
     let a = ap length (many_sources p laid q r) in
-    let b = length_map method_of (sources p laid) in
+    let b = length-map (sources p laid) method_of in
     let c = ap length (bare_described p q laid r) in
-    let d = length_map bare_method (described_methods q) in
-    let e = length_map bare_method (described_methods p) in
+    let d = length-map (described_methods q) bare_method in
+    let e = length-map (described_methods p) bare_method in
     omega arith
 
 pub news : (p q : PackageRecord) (laid : List (Option Laid)) → IsRewritten p laid q → map now_of (changes p laid q) ≡ described_methods q
@@ -132,9 +133,6 @@ pub plain : (b : Bool) → (bit_and (if b then 0 else 8) 4 == 4) ≡ false
 plain true = refl
 plain false = refl
 
-no_more : (b : Bool) → b ≡ true → b ≡ false → ⊥
-no_more b t f = false≢true (sym f ∙ t)
-
 pub is_well : (p q : PackageRecord) (old m : Method) (l : Option Laid) (w : WasWell p old) → IsFor w.header l → IsAs p q old l m → IsWell q w.header.nargs m
 is_well p q old m None w f is =
     let mv = moved p.methods.info q.methods.info old.method_offset m.method_offset w.header is.header w.there in
@@ -144,8 +142,8 @@ is_well p q old m None w f is =
       arguments = refl;
       registers = w.registers;
       bare = λ t. is.no_code;
-      some = λ e. absurd (no_more (is_abstract w.header) f e);
-      short = λ e. absurd (no_more (is_abstract w.header) f e);
+      some = λ e. absurd (both_ways (is_abstract w.header) e f);
+      short = λ e. absurd (both_ways (is_abstract w.header) e f);
     }
 is_well p q old m (Some laid) w f is =
     let long = is.long in
@@ -157,7 +155,7 @@ is_well p q old m (Some laid) w f is =
       there = is.header;
       arguments = f.arguments;
       registers = f.registers;
-      bare = λ t. absurd (no_more (is_abstract (header_of (numbers_of laid))) t a);
+      bare = λ t. absurd (both_ways (is_abstract (header_of (numbers_of laid))) a t);
       some = λ e. omega arith;
       short = λ e. omega arith;
     }

@@ -1,7 +1,7 @@
 -- Each entry of the handler table is owned by exactly one method, in whose code it lies.
 use Rattle.std.proofs.Common.{◌≡◌, ◌≤◌, ◌<◌, ◌+◌, ◌-◌, ℕ, zero, suc, List, [], ◌∷◌, ◌++◌, length, map, take, drop, sum_by, filter, filter_map, slice_get, max, Bool, true, false, cond, not, ◌&&◌, Option, Some, None, inl, inr, refl, sym, ap, subst, ◌∙◌, arith}
 use Rattle.std.specs.Prelude.{if◌then◌else◌, nat_lt, nat_le, ◌==◌}
-use Rattle.std.proofs.lemmas.Bool.{false≢true, leb-true}
+use Rattle.std.proofs.lemmas.Bool.{false≢true, leb-true, le-leb, lt-ltb}
 use Rattle.std.proofs.lemmas.Option.{slice_get_within}
 use Rattle.cap_method.specs.declared.handler.HandlerInfo.{HandlerInfo}
 use Rattle.cap_desc.specs.DescriptorFormat.{Method}
@@ -261,13 +261,7 @@ within_code info m size h e i =
     let before = i.before in
     let end : code_end info m ≡ code_start info m + m.bytecode_count = refl in
     four_tests (nat_le (code_start info m) h.start) (nat_le (h.start + h.length) (code_end info m)) (nat_le (code_start info m) h.entry) (nat_lt h.entry (code_end info m))
-    (grind arith) (le_true (h.start + h.length) (code_end info m) (omega arith)) (grind arith) (lt_true h.entry (code_end info m) (omega arith))
-  where
-    le_true : (a b : ℕ) → a ≤ b → nat_le a b ≡ true
-    le_true a b h = grind arith
-
-    lt_true : (a b : ℕ) → a < b → nat_lt a b ≡ true
-    lt_true a b h = grind arith
+    (grind arith) (le-leb (h.start + h.length) (code_end info m) (omega arith)) (grind arith) (lt-ltb h.entry (code_end info m) (omega arith))
 
 owner_within : (p q : PackageRecord) (all : List Change) (c : Change) (k : ℕ) (h : HandlerInfo) (l : Option Laid) (x : _) → IsFor x l → IsAs p q c.source.method l c.now → IsWritten p q all c
     → slice_get q.methods.handlers k ≡ Some h → below handlers_in (block p) all (block p c) ≤ k → k < below handlers_in (block p) all (block p c) + c.now.handler_count → is_within q.methods.info h c.now ≡ true

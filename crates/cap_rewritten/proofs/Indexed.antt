@@ -3,6 +3,8 @@ use Rattle.std.proofs.Common.{◌≡◌, ◌≤◌, ◌<◌, ◌+◌, ℕ, suc, 
 use Rattle.std.specs.Prelude.{if◌then◌else◌, nat_lt, ◌==◌}
 use Rattle.std.proofs.lemmas.List.{map-append}
 use Rattle.std.proofs.lemmas.List.Filters.{sum_by-filter_both}
+use Rattle.std.proofs.lemmas.Option.{same_Some}
+use Rattle.std.proofs.lemmas.Bool.{lt-ltb, le-ltb}
 use Rattle.cap_components.specs.Parts.{Lent}
 use Rattle.cap_components.specs.PackageRecord.{PackageRecord, described_methods}
 use Rattle.cap_package.specs.StandsFor.{StandsFor}
@@ -41,16 +43,13 @@ alone_each : (o : ℕ) (ms : List Member) → IsAlone o ms → Each (λ (m : Mem
 alone_each o [] a = tt
 alone_each o (m ∷ ms) a = (a.0, alone_each o ms a.1)
 
-some_same : (a b : ℕ) → Some a ≡ Some b → a ≡ b
-some_same a b e = cc
-
 pub apart_by : (size : ℕ) (ms : List Member) → AreMembers size ms → AreApart ms → AreApartBy at_offset_of size ms
 apart_by size [] a d = tt
 apart_by size (m ∷ ms) a d =
     let in_size = a.0.within in
     let others = alone_each m.offset ms d.0 in (
-      (λ i e. let s = some_same m.offset i e in omega arith),
-      each_of (Differ at_offset_of m) ms (λ y h. λ i e f. each_at (λ (x : Member). x.offset ≡ m.offset → ⊥) ms y others h (some_same y.offset i f ∙ sym (some_same m.offset i e))),
+      (λ i e. let s = same_Some m.offset i e in omega arith),
+      each_of (Differ at_offset_of m) ms (λ y h. λ i e f. each_at (λ (x : Member). x.offset ≡ m.offset → ⊥) ms y others h (same_Some y.offset i f ∙ sym (same_Some m.offset i e))),
       apart_by size ms a.1 d.1,
     )
 
@@ -132,7 +131,7 @@ had_first p s i e = by (s.method.handler_count == 0) refl
     by : (b : Bool) → (s.method.handler_count == 0) ≡ b → HadFirst p s i
     by true h = absurd (none_some (ap (λ b. if b then None else Some s.method.handler_index) (sym h) ∙ e))
     by false h =
-        let k : s.method.handler_index ≡ i = some_same s.method.handler_index i (ap (λ b. if b then None else Some s.method.handler_index) (sym h) ∙ e) in
+        let k : s.method.handler_index ≡ i = same_Some s.method.handler_index i (ap (λ b. if b then None else Some s.method.handler_index) (sym h) ∙ e) in
         record { some = h; index = k; block = ap (λ b. if b then length p.methods.handlers + s.number else s.method.handler_index) h ∙ k }
 
 pub record HadNone (p : PackageRecord) (s : FormerMethod) : Type 0 where
@@ -208,11 +207,8 @@ below_early : (p : PackageRecord) (s : FormerMethod) (o : Option ℕ) (i n : ℕ
 below_early p s o i n e lt (had j k h) = ap (key_below i) k ∙ ap (λ m. nat_lt m i) (sym h.block) ∙ ap (nat_lt (block_of p s)) (sym e)
 below_early p s o i n e lt (had_not k h) =
     let b = h.block in
-    let f : nat_lt (block_of p s) n ≡ false = not_lt (block_of p s) n (omega arith) in
+    let f : nat_lt (block_of p s) n ≡ false = le-ltb (block_of p s) n (omega arith) in
     ap (key_below i) k ∙ sym f
-  where
-    not_lt : (a b : ℕ) → b ≤ a → nat_lt a b ≡ false
-    not_lt a b h = grind arith
 
 early_rank : (p q : PackageRecord) (laid : List (Option Laid)) (ms : List Member) (z : Pair) (i : ℕ) → IsWrittenAnew p laid ms q → Each (Known p q ms) (pairs_in p laid ms) → Has (pairs_in p laid ms) z
     → AreApartBy first_of (length p.methods.handlers) ms → first_handler z.source.method ≡ Some i → HadFirst p z.source i → HasRank p laid ms z
@@ -254,12 +250,9 @@ had_bool (Some i) = refl
 below_all : (p : PackageRecord) (s : FormerMethod) (o : Option ℕ) → ClaimsInside (length p.methods.handlers) s.method → WasFirst p s o → key_below (length p.methods.handlers) o ≡ not (had_none_of o)
 below_all p s None c f = refl
 below_all p s (Some i) c (had j k h) =
-    let e = some_same i j k in
+    let e = same_Some i j k in
     let low = first_low p s j c h in
-    lt_true i (length p.methods.handlers) (omega arith)
-  where
-    lt_true : (a b : ℕ) → a < b → nat_lt a b ≡ true
-    lt_true a b h = grind arith
+    lt-ltb i (length p.methods.handlers) (omega arith)
 below_all p s (Some i) c (had_not k h) = absurd cc
 
 -- of two methods, one that had handlers comes before one that had none, and of those the one with the lesser number
@@ -267,31 +260,19 @@ late_before : (p : PackageRecord) (s : FormerMethod) (o : Option ℕ) (k n : ℕ
 late_before p s o k n e lt c (had i f h) =
     let b = h.block in
     let low = first_low p s i c h in
-    lt_true (block_of p s) k (omega arith)
-  where
-    lt_true : (a b : ℕ) → a < b → nat_lt a b ≡ true
-    lt_true a b h = grind arith
+    lt-ltb (block_of p s) k (omega arith)
 late_before p s o k n e lt c (had_not f h) =
     let b = h.block in
-    lt_true (block_of p s) k (omega arith)
-  where
-    lt_true : (a b : ℕ) → a < b → nat_lt a b ≡ true
-    lt_true a b h = grind arith
+    lt-ltb (block_of p s) k (omega arith)
 
 late_after : (p : PackageRecord) (s : FormerMethod) (o : Option ℕ) (k n : ℕ) → k ≡ length p.methods.handlers + n → n ≤ s.number → ClaimsInside (length p.methods.handlers) s.method → WasFirst p s o → nat_lt (block_of p s) k ≡ not (had_none_of o)
 late_after p s o k n e le c (had i f h) =
     let b = h.block in
     let low = first_low p s i c h in
-    lt_true (block_of p s) k (omega arith) ∙ ap (λ x. not (had_none_of x)) (sym f)
-  where
-    lt_true : (a b : ℕ) → a < b → nat_lt a b ≡ true
-    lt_true a b h = grind arith
+    lt-ltb (block_of p s) k (omega arith) ∙ ap (λ x. not (had_none_of x)) (sym f)
 late_after p s o k n e le c (had_not f h) =
     let b = h.block in
-    lt_false (block_of p s) k (omega arith) ∙ ap (λ x. not (had_none_of x)) (sym f)
-  where
-    lt_false : (a b : ℕ) → b ≤ a → nat_lt a b ≡ false
-    lt_false a b h = grind arith
+    le-ltb (block_of p s) k (omega arith) ∙ ap (λ x. not (had_none_of x)) (sym f)
 
 rising_pairs : (p q : PackageRecord) (laid : List (Option Laid)) (ms : List Member) → IsWrittenAnew p laid ms q → Rising (λ (z : Pair). z.source.number) (pairs_in p laid ms)
 rising_pairs p q laid ms w = rising_map (λ (s : FormerMethod). s.number) source_in (pairs_in p laid ms)
@@ -409,10 +390,7 @@ length_bodies (Some m ∷ table) =
 
 below_size : (size : ℕ) (ms : List Member) → AreMembers size ms → Each (λ (m : Member). key_below size (at_offset_of m) ≡ true) ms
 below_size size [] a = tt
-below_size size (m ∷ ms) a = (lt_true m.offset size a.0.within, below_size size ms a.1)
-  where
-    lt_true : (a b : ℕ) → a < b → nat_lt a b ≡ true
-    lt_true a b h = grind arith
+below_size size (m ∷ ms) a = (lt-ltb m.offset size a.0.within, below_size size ms a.1)
 
 pub whole_info : (p q : PackageRecord) (laid : List (Option Laid)) (ms : List Member) → IsWrittenAnew p laid ms q → Each (Known p q ms) (pairs_in p laid ms)
     → length q.methods.info ≡ methods_begin q + sum_by (size_in q) (map (change_in (places p ms)) (pairs_in p laid ms))

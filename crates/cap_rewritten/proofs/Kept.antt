@@ -2,6 +2,7 @@
 use Rattle.std.proofs.Common.{◌≡◌, ℕ, List, [], ◌∷◌, ◌++◌, length, map, sum_by, count_by, filter_map, find, Bool, true, false, cond, Option, Some, None, option_map, refl, sym, ap, ◌∙◌, arith}
 use Rattle.std.specs.Prelude.{if◌then◌else◌, ◌==◌}
 use Rattle.std.proofs.lemmas.List.Sums.{sum_by-cons}
+use Rattle.std.proofs.lemmas.List.{length-map}
 use Rattle.cap_frame.specs.DirectoryFormat.{DirectoryItems}
 use Rattle.cap_pool.specs.ExportFormat.{Exported}
 use Rattle.cap_class.specs.ClassFormat.{is_interface}
@@ -31,7 +32,6 @@ use Rattle.cap_rewritten.specs.Changes.{changes, now_at}
 use Rattle.cap_rewritten.specs.Rewritten.{bare_method, bare_class, HasSameDescription, IsRewritten}
 use Rattle.cap_rewritten.proofs.Lists.{none_append, append_none, faults_map, faults_same, faults_alike}
 use Rattle.cap_rewritten.proofs.Agreed.{Agrees}
-use Rattle.cap_rewritten.proofs.Zipped.{length_map}
 use Rattle.cap_rewritten.proofs.Bare.{any_map, same_interfaces, in_same, alike, ref_of, same_arguments, same_field}
 
 -- ---- lists
@@ -72,7 +72,7 @@ differ_same what a b c d e h n = rw (e, h) n
 
 count_map : {X : Type 0} (g : X → X) (o : Option (List X)) → count_if (option_map (map g) o) ≡ count_if o
 count_map g None = refl
-count_map g (Some xs) = length_map g xs
+count_map g (Some xs) = length-map xs g
 
 pub record HasSameNumbers (q : PackageRecord) : Type 0 where
   pub imports : disagreements Imports q.directory.import_count (length q.imports) ≡ []
@@ -98,7 +98,7 @@ same_numbers parts p q laid a r =
       array_sizes = differ_same ArrayBytes q.directory.array_init_size p.directory.array_init_size (array_bytes q.statics.arrays) (array_bytes p.statics.arrays)
           (ap (λ (d : DirectoryItems). d.array_init_size) r.directory) (ap (λ (s : Statics). array_bytes s.arrays) r.statics) a.array_sizes;
       pool = differ_same PoolTypes (length q.description.items.pool_types) (length p.description.items.pool_types) (length q.pool) (length p.pool)
-          (ap length r.description.pool_types) (ap length r.pool ∙ length_map (renewed_entry f) p.pool) a.pool;
+          (ap length r.description.pool_types) (ap length r.pool ∙ length-map p.pool (renewed_entry f)) a.pool;
       image_sum = differ_same ImageSegments q.statics.image_size p.statics.image_size (image_bytes q.statics) (image_bytes p.statics)
           (ap (λ (s : Statics). s.image_size) r.statics) (ap image_bytes r.statics) a.image_sum;
     }

@@ -2,6 +2,7 @@
 use Rattle.std.proofs.Common.{◌≡◌, ◌≤◌, ◌<◌, ◌+◌, ℕ, zero, suc, List, [], ◌∷◌, ◌++◌, length, filter, replicate, sum_by, take, drop, flat_map, option_to_list, Bool, true, false, cond, Option, Some, None, is_none, inl, inr, refl, sym, ap, ◌∙◌, arith, append_assoc}
 use Rattle.std.specs.Prelude.{if◌then◌else◌, ◌==◌, slice_set, slice_index}
 use Rattle.std.proofs.lemmas.List.Sums.{sum_by-cons}
+use Rattle.std.proofs.lemmas.Option.{same_Some}
 use Rattle.cap_method.specs.declared.handler.HandlerInfo.{HandlerInfo}
 use Rattle.cap_renewal.specs.declared.new_methods.NewMethod.{NewMethod}
 use Rattle.cap_renewal.specs.NewMethods.{to}
@@ -78,9 +79,6 @@ none_of (Some i) e = absurd cc
 some_none : (i : ℕ) → Some i ≡ None → ⊥
 some_none i e = absurd cc
 
-some_one : (i j : ℕ) → Some i ≡ Some j → i ≡ j
-some_one i j e = cc
-
 -- one that had handlers stands among those that had
 pub early : (room : ℕ) (ms : List Member) (i : ℕ) (m : Member) → slot (firsts room ms) i ≡ Some m → first_of m ≡ Some i
     → ((j : ℕ) (b : Member) → slot (firsts room ms) j ≡ Some b → Has ms b × (first_of b ≡ Some j)) → ((b : Member) → Has ms b → b.offset ≡ m.offset → b ≡ m)
@@ -94,7 +92,7 @@ early room ms i m e first hold one =
       is = ap (λ xs. xs ++ filter had_none ms) (in_slot table i m e) ∙ append_assoc (present (take i table)) (m ∷ present (drop (suc i) table)) (filter had_none ms);
       total = total_front table i;
       others = each_parts P (present (drop (suc i) table)) (filter had_none ms)
-          (each_after P table (suc i) (λ j b h g. λ s. let k = hold j b g in let n = some_one j i (sym k.1 ∙ ap first_of (one b k.0 s) ∙ first) in absurd (omega arith)))
+          (each_after P table (suc i) (λ j b h g. λ s. let k = hold j b g in let n = same_Some j i (sym k.1 ∙ ap first_of (one b k.0 s) ∙ first) in absurd (omega arith)))
           (each_late P ms (λ b h n. λ s. some_none i (sym first ∙ sym (ap first_of (one b h s)) ∙ none_of (first_of b) n)));
     }
 

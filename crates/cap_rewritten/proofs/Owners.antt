@@ -2,6 +2,7 @@
 use Rattle.std.proofs.Common.{◌≡◌, ◌≤◌, ◌<◌, ◌+◌, ℕ, zero, suc, List, [], ◌∷◌, filter, sum_by, Bool, true, false, cond, ◌&&◌, ◌⊎◌, inl, inr, refl, sym, ap, subst, ◌∙◌, arith, ltb-true, ltb-false}
 use Rattle.std.specs.Prelude.{nat_lt, nat_le, ◌==◌}
 use Rattle.std.proofs.lemmas.List.Sums.{sum_by-cons}
+use Rattle.std.proofs.lemmas.Bool.{eqb-true, ne_eqb, lt-ltb}
 use Rattle.cap_rewritten.proofs.Lists.{Each, Has, each_of, filter_none, filter_alike, has_filter}
 use Rattle.cap_rewritten.proofs.Sums.{sum_le, sum_more, sum_each, sum_none, filter_every}
 
@@ -93,24 +94,14 @@ pub data AtMostOne {X : Type 0} (key : X → ℕ) (n : ℕ) (xs : List X) : Type
   no_one : filter (is_at key n) xs ≡ [] → AtMostOne key n xs
   one : (x : X) → filter (is_at key n) xs ≡ x ∷ [] → Has xs x → key x ≡ n → AtMostOne key n xs
 
-is_same : (a n : ℕ) → (a == n) ≡ true → a ≡ n
-is_same a n e = grind arith
-
-is_other : (a n : ℕ) → (a ≡ n → ⊥) → (a == n) ≡ false
-is_other a n h = by (a == n) refl
-  where
-    by : (b : Bool) → (a == n) ≡ b → b ≡ false
-    by true e = absurd (h (is_same a n e))
-    by false e = refl
-
 at_most_one : {X : Type 0} (key : X → ℕ) (n : ℕ) (xs : List X) → Distinct key xs → AtMostOne key n xs
 at_most_one key n [] d = no_one refl
 at_most_one {X = X} key n (x ∷ xs) d = by (key x == n) refl (at_most_one key n xs d.1)
   where
     by : (b : Bool) → (key x == n) ≡ b → AtMostOne key n xs → AtMostOne key n (x ∷ xs)
     by true e others =
-        let same = is_same (key x) n e in
-        let rest : filter (is_at key n) xs ≡ [] = filter_none (is_at key n) xs (each_of (λ y. is_at key n y ≡ false) xs (λ y h. is_other (key y) n (λ s. apart xs y d.0 h (s ∙ sym same)))) in
+        let same = eqb-true (key x) n e in
+        let rest : filter (is_at key n) xs ≡ [] = filter_none (is_at key n) xs (each_of (λ y. is_at key n y ≡ false) xs (λ y h. ne_eqb (key y) n (λ s. apart xs y d.0 h (s ∙ sym same)))) in
         one x (ap (λ c. cond c (x ∷ filter (is_at key n) xs) (filter (is_at key n) xs)) e ∙ ap (λ ys. x ∷ ys) rest) (inl refl) same
       where
         apart : (ys : List X) (y : X) → Each (λ z. key z ≡ key x → ⊥) ys → Has ys y → key y ≡ key x → ⊥
@@ -135,13 +126,10 @@ rises a n m h e = grind arith
 -- a piece before the key ends before the number
 pub ends_before : {X : Type 0} (size key : X → ℕ) (xs : List X) (n : ℕ) (x : X) → Has xs x → key x < n → below size key xs (key x) + size x ≤ below size key xs n
 ends_before size key xs n x h lt =
-    sum_more size (is_below key (key x)) (is_below key n) xs x (λ y e. rises (key y) (key x) n (omega arith) e) (itself (key x)) (before (key x) n lt) h
+    sum_more size (is_below key (key x)) (is_below key n) xs x (λ y e. rises (key y) (key x) n (omega arith) e) (itself (key x)) (lt-ltb (key x) n lt) h
   where
     itself : (a : ℕ) → nat_lt a a ≡ false
     itself a = grind arith
-
-    before : (a n : ℕ) → a < n → nat_lt a n ≡ true
-    before a n h = grind arith
 
 pub begins_after : {X : Type 0} (size key : X → ℕ) (xs : List X) (n m : ℕ) → n ≤ m → below size key xs n ≤ below size key xs m
 begins_after size key xs n m h = sum_le size (is_below key n) (is_below key m) xs (λ y e. rises (key y) n m h e)
@@ -161,7 +149,7 @@ lies_at : {X : Type 0} (size key : X → ℕ) (xs : List X) (k n : ℕ) (x : X) 
     → (key x < n) ⊎ ((key x ≡ n) ⊎ (n < key x)) → lies_in size key xs k x ≡ is_at key n x
 lies_at size key xs k n x h low high at (inl lt) =
     let e = ends_before size key xs n x h lt in
-    let f : (key x == n) ≡ false = is_other (key x) n (λ s. absurd (omega arith)) in
+    let f : (key x == n) ≡ false = ne_eqb (key x) n (λ s. absurd (omega arith)) in
     after_it (nat_le (below size key xs (key x)) k) k (below size key xs (key x) + size x) (omega arith) ∙ sym f
 lies_at size key xs k n x h low high at (inr (inl same)) =
     let f : (key x == n) ≡ true = grind arith in
@@ -170,7 +158,7 @@ lies_at size key xs k n x h low high at (inr (inl same)) =
     in_it k (below size key xs (key x)) (below size key xs (key x) + size x) (omega arith) (omega arith) ∙ sym f
 lies_at size key xs k n x h low high at (inr (inr lt)) =
     let e = begins_after size key xs (suc n) (key x) (omega arith) in
-    let f : (key x == n) ≡ false = is_other (key x) n (λ s. absurd (omega arith)) in
+    let f : (key x == n) ≡ false = ne_eqb (key x) n (λ s. absurd (omega arith)) in
     before_it (nat_lt k (below size key xs (key x) + size x)) k (below size key xs (key x)) (omega arith) ∙ sym f
 
 at_of : {X : Type 0} (key : X → ℕ) (n : ℕ) (xs : List X) (x y : X) → filter (is_at key n) xs ≡ y ∷ [] → Has xs x → key x ≡ n → x ≡ y

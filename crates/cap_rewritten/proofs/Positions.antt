@@ -1,6 +1,6 @@
 -- An offset that named a method names the one at the same position when it is renewed.
-use Rattle.std.proofs.Common.{◌≡◌, ℕ, zero, suc, List, [], ◌∷◌, map, find, slice_get, Bool, true, false, cond, Option, Some, inl, inr, refl, sym, ap, ◌∙◌, arith}
-use Rattle.std.specs.Prelude.{◌==◌}
+use Rattle.std.proofs.Common.{◌≡◌, ℕ, zero, suc, List, [], ◌∷◌, map, find, slice_get, cond, Option, Some, inl, inr, refl, sym, ap, ◌∙◌}
+use Rattle.std.proofs.lemmas.Bool.{ne_eqb}
 use Rattle.cap_desc.specs.DescriptorFormat.{Method}
 use Rattle.cap_components.specs.Parts.{Lent}
 use Rattle.cap_components.specs.PackageRecord.{PackageRecord}
@@ -17,16 +17,6 @@ use Rattle.cap_rewritten.proofs.Facts.{news, olds}
 use Rattle.cap_rewritten.proofs.Standing.{offset_of, apart}
 use Rattle.cap_rewritten.proofs.Names.{same_number}
 
-other : (a n : ℕ) → (a ≡ n → ⊥) → (a == n) ≡ false
-other a n h = by (a == n) refl
-  where
-    same : (a n : ℕ) → (a == n) ≡ true → a ≡ n
-    same a n e = grind arith
-
-    by : (b : Bool) → (a == n) ≡ b → b ≡ false
-    by true e = absurd (h (same a n e))
-    by false e = refl
-
 has_get : (cs : List Change) (k : ℕ) (c : Change) → slice_get cs k ≡ Some c → Has cs c
 has_get [] k c e = absurd cc
 has_get (x ∷ cs) zero c e = let s : c ≡ x = cc in inl s
@@ -39,7 +29,7 @@ find_at (x ∷ cs) zero c e d =
     ap (λ b. cond b (Some x) (find (stood_at (offset_of c)) cs)) (ap (λ y. stood_at (offset_of c) y) s ∙ same_number (offset_of c)) ∙ ap Some s
 find_at (x ∷ cs) (suc k) c e d =
     let h = each_at (λ (y : Change). offset_of y ≡ offset_of x → ⊥) cs c d.0 (has_get cs k c e) in
-    ap (λ b. cond b (Some x) (find (stood_at (offset_of c)) cs)) (other (offset_of x) (offset_of c) (λ s. h (sym s))) ∙ find_at cs k c e d.1
+    ap (λ b. cond b (Some x) (find (stood_at (offset_of c)) cs)) (ne_eqb (offset_of x) (offset_of c) (λ s. h (sym s))) ∙ find_at cs k c e d.1
 
 pub record IsAt (cs : List Change) (k : ℕ) (m : Method) : Type 0 where
   pub change : Change

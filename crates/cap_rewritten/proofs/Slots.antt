@@ -2,6 +2,7 @@
 use Rattle.std.proofs.Common.{◌≡◌, ◌<◌, ◌+◌, ℕ, zero, suc, List, [], ◌∷◌, length, filter, replicate, sum_by, Bool, true, false, cond, Option, Some, None, ◌⊎◌, inl, inr, refl, sym, ap, subst, ◌∙◌, arith}
 use Rattle.std.specs.Prelude.{if◌then◌else◌, nat_lt, ◌==◌, slice_set, slice_index_or}
 use Rattle.std.proofs.lemmas.List.Sums.{sum_by-cons}
+use Rattle.std.proofs.lemmas.Bool.{eqb-true, eqb-false}
 use Rattle.cap_laying.specs.declared.member.Member.{Member}
 use Rattle.cap_laying.specs.Member.{placed, by_offset, body_size, size_if, end_from}
 use Rattle.cap_laying.specs.MethodInfo.{place_of}
@@ -126,12 +127,6 @@ held_by key table m (Some i) j b k e = at_slot table i j k e
     at_slot : (table : List (Option Member)) (i j : ℕ) → key m ≡ Some i → slot (slice_set table i (Some m)) j ≡ Some b → (slot table j ≡ Some b) ⊎ ((b ≡ m) × (key b ≡ Some j))
     at_slot table i j k e = by (i == j) refl
       where
-        same : (i j : ℕ) → (i == j) ≡ true → i ≡ j
-        same i j e = grind arith
-
-        differ : (i j : ℕ) → (i == j) ≡ false → i ≡ j → ⊥
-        differ i j e s = absurd (grind arith)
-
         first : (table : List (Option Member)) (j : ℕ) → slot (slice_set table j (Some m)) j ≡ Some b → (slot table j ≡ Some b) ⊎ (b ≡ m)
         first [] j e = inl e
         first (s ∷ table) zero e = let q : b ≡ m = cc in inr q
@@ -139,13 +134,13 @@ held_by key table m (Some i) j b k e = at_slot table i j k e
 
         by : (t : Bool) → (i == j) ≡ t → (slot table j ≡ Some b) ⊎ ((b ≡ m) × (key b ≡ Some j))
         by true t =
-            let s = same i j t in
+            let s = eqb-true i j t in
             held (first table j (subst (λ n. slot (slice_set table n (Some m)) j ≡ Some b) s e))
           where
             held : (slot table j ≡ Some b) ⊎ (b ≡ m) → (slot table j ≡ Some b) ⊎ ((b ≡ m) × (key b ≡ Some j))
             held (inl h) = inl h
-            held (inr h) = inr (h, ap key h ∙ k ∙ ap Some (same i j t))
-        by false t = inl (sym (set_other table j i m (differ i j t)) ∙ e)
+            held (inr h) = inr (h, ap key h ∙ k ∙ ap Some (eqb-true i j t))
+        by false t = inl (sym (set_other table j i m (eqb-false i j t)) ∙ e)
 
 -- what a slot has is one of those that were put there
 pub holds : (key : Member → Option ℕ) (table : List (Option Member)) (ms : List Member) (j : ℕ) (b : Member) → slot (put_all key table ms) j ≡ Some b → (slot table j ≡ Some b) ⊎ (Has ms b × (key b ≡ Some j))

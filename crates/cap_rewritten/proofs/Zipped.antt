@@ -1,15 +1,11 @@
 -- The changes of methods, one for each method of a class before and after.
-use Rattle.std.proofs.Common.{◌≡◌, ◌≤◌, ◌+◌, ℕ, suc, List, [], ◌∷◌, ◌++◌, length, take, drop, map, Bool, true, false, Option, refl, ap, arith, length-append, length-drop, length-take}
+use Rattle.std.proofs.Common.{◌≡◌, ◌≤◌, ◌+◌, ℕ, List, [], ◌∷◌, ◌++◌, length, take, drop, map, Bool, true, false, Option, refl, ap, arith, length-append, length-drop, length-take}
 use Rattle.std.specs.Prelude.{if◌then◌else◌}
 use Rattle.cap_desc.specs.DescriptorFormat.{Method, Class}
 use Rattle.cap_desc.specs.Members.{methods_of, methods_but}
 use Rattle.jc_decode.specs.declared.symbols.Laid.{Laid}
 use Rattle.cap_rewritten.specs.Changes.{FormerMethod, Change, laid_but, sources_from, changes_of}
 use Rattle.cap_rewritten.proofs.Lists.{Each}
-
-pub length_map : {X Y : Type 0} (f : X → Y) (xs : List X) → length (map f xs) ≡ length xs
-length_map f [] = refl
-length_map f (x ∷ xs) = ap suc (length_map f xs)
 
 abbrev pub now_of : Change → Method
 now_of c = c.now

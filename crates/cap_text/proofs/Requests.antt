@@ -1,10 +1,10 @@
 -- A list of words asks for one thing: each number and each argument has one word.
 use Rattle.std.proofs.Common.{◌≡◌, ℕ, ℤ, pos, negsuc, List, [], ◌∷◌, sym, ◌∙◌, ap, arith, rules, codes, subst, refl, FitsSigned, w32}
-use Rattle.std.specs.Prelude.{Ok, ◌+◌, ◌*◌, ◌==◌, length, false}
-use Rattle.std.proofs.lemmas.Bool.Decides.{nat_tests}
+use Rattle.std.specs.Prelude.{Ok, ◌+◌, ◌*◌, length}
 use Rattle.std.specs.Fmt.{signed_decimal}
 use Rattle.std.specs.Str.Parse.{AllDigits}
 use Rattle.std.proofs.lemmas.Fmt.{decimal_injective, signed_decimal_injective, decimal_is_IsNumeral}
+use Rattle.std.proofs.lemmas.Bool.{eqb-false}
 use Rattle.cap_text.specs.Word.{IsArgWord, AreArgWords}
 use Rattle.cap_text.specs.Probe.{ProbeRequest, IsProbe}
 use Rattle.cap_text.specs.Show.{ShowRequest, IsShow}
@@ -146,21 +146,18 @@ named name operands (transform t) is = ap key is.0
 named name operands (trial r) is = ap key is.0
 named name operands (generate g) is = ap key is.0
 
-apart : (m n : ℕ) → (m == n) ≡ false → m ≡ n → ⊥
-apart m n differ same = grind (arith, nat_tests)
-
 -- words that begin with the command's name and are outside its grammar ask for nothing
 only_check : (name : List ℕ) (operands : List (List ℕ)) → name ≡ codes "check" → ((c : CheckRequest) → IsCheck operands c → ⊥)
     → (r : Request) → IsRequest (name ∷ operands) r → ⊥
 unfolding first key key_of
 only_check name operands called none (check c) is = none c is.1
-only_check name operands called none r is = apart (key_of r) 9905 refl (sym (named name operands r is) ∙ ap key called)
+only_check name operands called none r is = eqb-false (key_of r) 9905 refl (sym (named name operands r is) ∙ ap key called)
 
 only_verify : (name : List ℕ) (operands : List (List ℕ)) → name ≡ codes "verify" → ((v : VerifyRequest) → IsVerify operands v → ⊥)
     → (r : Request) → IsRequest (name ∷ operands) r → ⊥
 unfolding first key key_of
 only_verify name operands called none (verify v) is = none v is.1
-only_verify name operands called none r is = apart (key_of r) 11806 refl (sym (named name operands r is) ∙ ap key called)
+only_verify name operands called none r is = eqb-false (key_of r) 11806 refl (sym (named name operands r is) ∙ ap key called)
 
 none_of : (words : List (List ℕ)) (name : List ℕ) (operands : List (List ℕ)) → words ≡ name ∷ operands
     → ((r : Request) → IsRequest (name ∷ operands) r → ⊥) → IsUsage words
@@ -187,4 +184,4 @@ one_request (name ∷ operands) (transform t) (transform u) is_r is_s = ap trans
 one_request (name ∷ operands) (trial r) (trial s) is_r is_s = ap trial (one_run operands r s is_r.1 is_s.1)
 one_request (name ∷ operands) (generate g) (generate h) is_r is_s = ap generate (one_generate operands g h is_r.1 is_s.1)
 one_request (name ∷ operands) r s is_r is_s =
-    absurd (apart (key_of r) (key_of s) refl (sym (named name operands r is_r) ∙ named name operands s is_s))
+    absurd (eqb-false (key_of r) (key_of s) refl (sym (named name operands r is_r) ∙ named name operands s is_s))

@@ -2,6 +2,7 @@
 use Rattle.std.proofs.Common.{◌≡◌, ◌≤◌, ◌<◌, ℕ, Bool, true, false, cond, List, [], ◌∷◌, ◌++◌, filter, find, Some, None, refl, sym, ap, ◌∙◌, arith}
 use Rattle.std.specs.Prelude.{◌==◌, ◌&&◌, not, nat_le, IsTrue}
 use Rattle.std.proofs.lemmas.Bool.Decides.{nat_tests}
+use Rattle.std.proofs.lemmas.Bool.{eqb-true, ne_eqb}
 use Rattle.cap_frame.specs.Tags.{index_aid}
 use Rattle.cap_frame.specs.DirectoryFormat.{Custom, is_new_tag, and_that_of}
 use Rattle.cap_directory.specs.Laws.{AreCustoms}
@@ -11,16 +12,6 @@ use Rattle.cap_directory.specs.declared.sizes.IndexChange.TheVariants.{Kept, Dro
 
 abbrev pub has_tag : ℕ → Custom → Bool
 has_tag tag c = c.tag == tag
-
-pub same_tag : (a b : ℕ) → (a == b) ≡ true → a ≡ b
-same_tag a b e = grind (arith, nat_tests)
-
-pub other_tag : (a b : ℕ) → (a ≡ b → ⊥) → (a == b) ≡ false
-other_tag a b h = by (a == b) refl
-  where
-    by : (b' : Bool) → (a == b) ≡ b' → b' ≡ false
-    by true e = absurd (h (same_tag a b e))
-    by false e = refl
 
 find_front : (tag : ℕ) (xs ys : List Custom) → find (has_tag tag) ys ≡ None → find (has_tag tag) (xs ++ ys) ≡ find (has_tag tag) xs
 find_front tag [] ys e = e
@@ -44,12 +35,12 @@ find_other change tag (c ∷ cs) h = by (drops change) (c.tag == 128) (c.tag == 
     by false x y e f r = ap (λ b. cond b (Some c) (find (has_tag tag) (filter (stays change) cs))) f ∙ ap (λ o. cond y (Some c) o) r
     by true false y e f r = ap (λ b. cond b (Some c) (find (has_tag tag) (filter (stays change) cs))) f ∙ ap (λ o. cond y (Some c) o) r
     by true true false e f r = r
-    by true true true e f r = absurd (h (sym (same_tag c.tag tag f) ∙ same_tag c.tag 128 e))
+    by true true true e f r = absurd (h (sym (eqb-true c.tag tag f) ∙ eqb-true c.tag 128 e))
 
 entry_other : (change : IndexChange) (tag : ℕ) → (tag ≡ 128 → ⊥) → find (has_tag tag) (index_entry change) ≡ None
 entry_other Kept tag h = refl
 entry_other Dropped tag h = refl
-entry_other (Written size) tag h = ap (λ b. cond b (Some (record { tag = 128; size = size; aid = index_aid })) None) (other_tag 128 tag (λ e. h (sym e)))
+entry_other (Written size) tag h = ap (λ b. cond b (Some (record { tag = 128; size = size; aid = index_aid })) None) (ne_eqb 128 tag (λ e. h (sym e)))
 
 pub found_other : (change : IndexChange) (tag : ℕ) (cs : List Custom) → (tag ≡ 128 → ⊥) → find (has_tag tag) (new_customs change cs) ≡ find (has_tag tag) cs
 found_other change tag cs h = find_front tag (filter (stays change) cs) (index_entry change) (entry_other change tag h) ∙ find_other change tag cs h
@@ -96,7 +87,7 @@ tag_found named (x ∷ xs) tag c a e = by (x.tag == tag) refl e (λ k. tag_found
   where
     by : (b : Bool) → (x.tag == tag) ≡ b → cond b (Some x) (find (has_tag tag) xs) ≡ Some c → (find (has_tag tag) xs ≡ Some c → IsCustomTag tag) → IsCustomTag tag
     by true f e rest =
-        let same = same_tag x.tag tag f in
+        let same = eqb-true x.tag tag f in
         let least = new_least named x.tag a.0 in
         let most = a.1 in
         record { least = omega arith; most = omega arith }

@@ -1,7 +1,7 @@
 -- The parts of a package whose methods are written anew.
-use Rattle.std.proofs.Common.{◌≡◌, ◌<◌, ◌⊎◌, inl, inr, ℕ, Bool, true, false, List, length, Option, refl, sym, subst, arith}
+use Rattle.std.proofs.Common.{◌≡◌, ◌<◌, ◌⊎◌, inl, inr, ℕ, Bool, true, false, List, length, Option, sym, subst, arith}
 use Rattle.std.specs.Prelude.{◌==◌}
-use Rattle.std.proofs.lemmas.Bool.Decides.{nat_tests}
+use Rattle.std.proofs.lemmas.Bool.{ne_eqb}
 use Rattle.cap_components.specs.Parts.{Lent, held}
 use Rattle.cap_components.specs.PackageRecord.{PackageRecord}
 use Rattle.jc_decode.specs.declared.symbols.Laid.{Laid}
@@ -25,27 +25,20 @@ other_than : (This That : Type 0) (b : Bool) → b ≡ false → Either b This T
 other_than This That true e x = absurd (cc)
 other_than This That false e x = x
 
-unlike : (tag n : ℕ) → (tag ≡ n → ⊥) → (tag == n) ≡ false
-unlike tag n h = by (tag == n) refl
-  where
-    by : (b : Bool) → (tag == n) ≡ b → b ≡ false
-    by true e = absurd (h (grind (arith, nat_tests)))
-    by false e = refl
-
 module _ (p : PackageRecord) (news : List (Option NewMethod)) (methods references : List ℕ) (index : Index) (parts : List Lent) (f : AreFiled (IsFile p news methods references index) 256 parts) where
   other_file : (tag : ℕ) → tag < 256 → (tag ≡ 0) ⊎ (12 < tag) → (tag ≡ 128 → ⊥) → held parts tag ≡ held p.parts tag
   other_file tag lt (inl zero) not_index = subst (λ t. held parts t ≡ held p.parts t) (sym zero) (f.each 0 (omega arith))
   other_file tag lt (inr high) not_index =
-      other_than _ _ (tag == 128) (unlike tag 128 not_index)
-      (other_than _ _ (tag == 12) (unlike tag 12 (λ e. omega arith))
-      (other_than _ _ (tag == 11) (unlike tag 11 (λ e. omega arith))
-      (other_than _ _ (tag == 10) (unlike tag 10 (λ e. omega arith))
-      (other_than _ _ (tag == 9) (unlike tag 9 (λ e. omega arith))
-      (other_than _ _ (tag == 7) (unlike tag 7 (λ e. omega arith))
-      (other_than _ _ (tag == 6) (unlike tag 6 (λ e. omega arith))
-      (other_than _ _ (tag == 5) (unlike tag 5 (λ e. omega arith))
-      (other_than _ _ (tag == 3) (unlike tag 3 (λ e. omega arith))
-      (other_than _ _ (tag == 2) (unlike tag 2 (λ e. omega arith)) (f.each tag lt))))))))))
+      other_than _ _ (tag == 128) (ne_eqb tag 128 not_index)
+      (other_than _ _ (tag == 12) (ne_eqb tag 12 (λ e. omega arith))
+      (other_than _ _ (tag == 11) (ne_eqb tag 11 (λ e. omega arith))
+      (other_than _ _ (tag == 10) (ne_eqb tag 10 (λ e. omega arith))
+      (other_than _ _ (tag == 9) (ne_eqb tag 9 (λ e. omega arith))
+      (other_than _ _ (tag == 7) (ne_eqb tag 7 (λ e. omega arith))
+      (other_than _ _ (tag == 6) (ne_eqb tag 6 (λ e. omega arith))
+      (other_than _ _ (tag == 5) (ne_eqb tag 5 (λ e. omega arith))
+      (other_than _ _ (tag == 3) (ne_eqb tag 3 (λ e. omega arith))
+      (other_than _ _ (tag == 2) (ne_eqb tag 2 (λ e. omega arith)) (f.each tag lt))))))))))
 
   pub parts_of : ArePartsOf p news methods references index parts
   parts_of = record {

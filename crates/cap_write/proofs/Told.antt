@@ -1,7 +1,7 @@
 -- The sizes that the Directory of a package tells are those of its parts.
 use Rattle.std.proofs.Common.{◌≡◌, ◌≤◌, ◌<◌, ◌+◌, ◌-◌, ℕ, zero, suc, Bool, true, false, cond, List, [], ◌∷◌, ◌++◌, length, map, find, filter_map, Option, Some, None, Result, Ok, Err, ◌⊎◌, inl, inr, refl, sym, ap, subst, ◌∙◌, arith}
 use Rattle.std.specs.Prelude.{◌==◌, ◌&&◌, nat_le, slice_get, slice_index, unwrap_or, is_some, if◌then◌else◌}
-use Rattle.std.proofs.lemmas.Bool.{cases_eq}
+use Rattle.std.proofs.lemmas.Bool.{cases_eq, eqb-true}
 use Rattle.std.proofs.lemmas.Bool.Decides.{nat_tests}
 use Rattle.std.proofs.lemmas.List.{get_or_past}
 use Rattle.cap_bytes.specs.declared.fault.FormFault.{FormFault}
@@ -33,7 +33,7 @@ use Rattle.cap_directory.specs.NewDirectory.{new_size, sizes_from}
 use Rattle.cap_directory.specs.declared.sizes.Sizes.{Sizes}
 use Rattle.cap_directory.proofs.Kept.{size_known}
 use Rattle.cap_directory.proofs.NewStands.{sizes_counted}
-use Rattle.cap_write.proofs.Customs.{has_tag, same_tag}
+use Rattle.cap_write.proofs.Customs.{has_tag}
 
 -- ---- a part and its size
 
@@ -42,7 +42,7 @@ zero_of true n f e h = grind (arith, nat_tests)
 zero_of false n f e h = absurd (cc)
 
 same_of : (b : Bool) (m n : ℕ) (f : PackFault) → (m == n) ≡ b → cond b None (Some f) ≡ None → n ≡ m
-same_of true m n f e h = sym (same_tag m n e)
+same_of true m n f e h = sym (eqb-true m n e)
 same_of false m n f e h = absurd (cc)
 
 formed_ok : {X : Type 0} (r : Result X FormFault) (x : X) → formed r ≡ Ok x → r ≡ Ok x
@@ -154,7 +154,7 @@ found_has [] tag c e = absurd (cc)
 found_has (x ∷ xs) tag c e = by (x.tag == tag) refl e (λ k. found_has xs tag c k)
   where
     by : (b : Bool) → (x.tag == tag) ≡ b → cond b (Some x) (find (has_tag tag) xs) ≡ Some c → (find (has_tag tag) xs ≡ Some c → Has (map (λ (y : Custom). y.tag) xs) tag) → (tag ≡ x.tag) ⊎ Has (map (λ (y : Custom). y.tag) xs) tag
-    by true f e rest = inl (sym (same_tag x.tag tag f))
+    by true f e rest = inl (sym (eqb-true x.tag tag f))
     by false f e rest = inr (rest e)
 
 pub custom_told : (p : PackageRecord) (tag : ℕ) (c : Custom) → StandsFor p.parts p → find (has_tag tag) p.directory.customs ≡ Some c → Tells p tag

@@ -1,7 +1,7 @@
 -- What is written is the package with the code that is laid, and a package again.
 use Rattle.std.proofs.Common.{◌≡◌, ◌≤◌, ◌-◌, ◌⊎◌, inl, inr, ℕ, Bool, true, false, List, length, map, find, Option, Some, None, Result, option_map, refl, sym, ap, subst, ◌∙◌, arith}
 use Rattle.std.specs.Prelude.{◌↔◌, ◌&&◌, not, nat_le, bytes_eq, slice_get, slice_index, unwrap_or, if◌then◌else◌}
-use Rattle.std.proofs.lemmas.Bool.{cases_eq}
+use Rattle.std.proofs.lemmas.Bool.{cases_eq, not-false}
 use Rattle.std.proofs.lemmas.Bool.Decides.{nat_tests}
 use Rattle.std.proofs.lemmas.Slice.Eq.{bytes_eq-Decides}
 use Rattle.cap_frame.specs.Tags.{index_aid}
@@ -93,14 +93,10 @@ custom_by : (parts others : List Lent) (tag : ℕ) (o : Option Custom) → ((c :
 custom_by parts others tag None h = refl
 custom_by parts others tag (Some c) h = ap (λ r. Some (custom_with r c)) (same_under parts others tag (h c refl))
 
-other_by : (b : Bool) → not b ≡ false → b ≡ true
-other_by true e = refl
-other_by false e = absurd (cc)
-
 no_other : (p : PackageRecord) (c : CustomItems) → keeps_index p ≡ false → IsCustom p 128 c → ⊥
 no_other p c k h =
     let e : not (bytes_eq c.aid index_aid) ≡ false = ap has_other_aid (sym h.there) ∙ k in
-    h.other (refl, (bytes_eq-Decides c.aid index_aid).0 (other_by (bytes_eq c.aid index_aid) e))
+    h.other (refl, (bytes_eq-Decides c.aid index_aid).0 (not-false (bytes_eq c.aid index_aid) e))
 
 no_custom : (o : Option CustomItems) (c : CustomItems) → o ≡ None → o ≡ Some c → ⊥
 no_custom o c e f = absurd (cc)

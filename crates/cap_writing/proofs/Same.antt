@@ -5,6 +5,7 @@ use Rattle.byteorder.specs.Endian.{big_from}
 use Rattle.cap_bytes.specs.Number.{number_at}
 use Rattle.cap_bytes.specs.Grammar.{Grammar, give, number, piece, remaining, place, finish, ◌>>=◌}
 use Rattle.cap_bytes.specs.Spelling.{Spells}
+use Rattle.cap_bytes.proofs.UntilLoops.{moves_on}
 use Rattle.cap_writing.specs.Renewal.{AreSame}
 
 pub same_part : (low high a b : ℕ) (bytes out : List ℕ) → AreSame low high bytes out → low ≤ a → b ≤ high → AreSame a b bytes out
@@ -36,20 +37,6 @@ piece_same n at bytes out len s =
     let few : i < n = omega (arith, length-take n (drop at out)) in
     get_or-take n (drop at out) i 0 few ∙ get_or-drop at out i 0 ∙ s.each (at + i) (omega arith) (omega arith)
     ∙ sym (get_or-take n (drop at bytes) i 0 few ∙ get_or-drop at bytes i 0))
-
--- items move on
-pub moves_on : {X : Type 0} (g : Grammar X) (bytes : List ℕ) (at : ℕ) (x : X) (after : ℕ) → Spells g bytes at x after → at ≤ after
-unfolding Spells
-moves_on (give y) bytes at x after h = omega (arith, h.1)
-moves_on (number w wrong) bytes at n after h = omega (arith, h.2)
-moves_on (piece n) bytes at part after h = omega (arith, h.2)
-moves_on remaining bytes at n after h = omega (arith, h.1)
-moves_on place bytes at n after h = omega (arith, h.1)
-moves_on finish bytes at x after h = omega (arith, h.1)
-moves_on (g >>= next) bytes at y after h =
-    let a = moves_on g bytes at h.0 h.1 h.2 in
-    let b = moves_on (next h.0) bytes h.1 y after h.3 in
-    omega (arith, a, b)
 
 pub spelled_same : {X : Type 0} (g : Grammar X) (bytes out : List ℕ) (at : ℕ) (x : X) (after : ℕ) → length out ≡ length bytes → AreSame at after bytes out → Spells g bytes at x after → Spells g out at x after
 unfolding Spells

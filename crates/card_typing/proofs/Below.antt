@@ -1,7 +1,8 @@
 -- Each met state is below every card typing, and where something is wrong with one there is none.
-use Rattle.std.proofs.Common.{◌≡◌, ℕ, ◌+◌, ◌≤◌, inl, inr, true, List, [], ◌∷◌, length, All, refl, sym, ◌∙◌, ap, subst, arith, IsTrue}
-use Rattle.std.proofs.lemmas.List.Elements.{All-contains}
+use Rattle.std.proofs.Common.{◌≡◌, ℕ, ◌+◌, ◌≤◌, inl, inr, true, List, [], ◌∷◌, length, All, sym, ◌∙◌, ap, subst, arith, IsTrue}
+use Rattle.std.proofs.lemmas.List.Elements.{All-contains, All-nil, All-cons}
 use Rattle.std.proofs.lemmas.Bool.{false≢true}
+use Rattle.std.proofs.lemmas.List.{nil_from_length}
 use Rattle.jc_base.specs.declared.ty.Ty.{Ty}
 use Rattle.jc_base.specs.declared.ty.Ty.TheVariants.{Bottom, Class}
 use Rattle.jc_base.specs.Order.{IsKnown}
@@ -27,12 +28,8 @@ use Rattle.jc_control.specs.declared.flaw.Flaw.TheVariants as flaws
 use Rattle.card_typing.specs.Refusal.{fault_of, IsFlawKind, IsWrong, wrong_entry, wrong_room, wrong_target, wrong_rule, wrong_branch, wrong_end, refused_flaw, refused_state}
 use Rattle.card_typing.specs.Laws.{MetIsBelow, RefusalDenies, FlawsAreTold}
 use Rattle.card_typing.proofs.Sites.{site_of, at-site, refuses-at-site}
-use Rattle.card_typing.proofs.Own.{all_none, all_more, of_world, start-length, start-known}
+use Rattle.card_typing.proofs.Own.{of_world, start-length, start-known}
 use Rattle.card_typing.proofs.Flowing.{IsSolid, none-solid, entered-solid, given-solid}
-
-no-length : {X : Type 0} (xs : List X) → length xs ≡ 0 → xs ≡ []
-no-length [] e = refl
-no-length (x ∷ xs) e = absurd (omega arith)
 
 -- what the verifier's laws of rules say
 pub record AreCardRules (w : Linked) : Type 0 where
@@ -42,7 +39,7 @@ pub record AreCardRules (w : Linked) : Type 0 where
 
 module _ (w : Linked) (is : AreCardRules w) (m : Method) (mo : IsMethodOf w m) (regs : List Ty) (stacks : ℕ → List Ty) (ty : CardTyping w m regs stacks) where
   below-empty : {xs ys : List Ty} → CellsBelow w.classes xs ys → ys ≡ [] → xs ≡ []
-  below-empty {xs} {ys} below e = no-length xs (is.rules.order.lengths below ∙ ap length e)
+  below-empty {xs} {ys} below e = nil_from_length xs (is.rules.order.lengths below ∙ ap length e)
 
   -- a frame that is met at a place, and the typing's stack there
   record IsHeld (q : ℕ) (met : Frame) : Type 0 where
@@ -97,8 +94,8 @@ module _ (w : Linked) (is : AreCardRules w) (m : Method) (mo : IsMethodOf w m) (
   held-empty : (q : ℕ) (after : List Ty) → CellsBelow w.classes after regs → length after ≤ 255 → All (IsKnown w.classes) after → stacks q ≡ [] → IsHeld q (record { regs = after; stack = [] })
   held-empty q after le few known e = record {
     below = record { regs = le; stack = subst (CellsBelow w.classes []) (sym e) no_cells };
-    known = record { few = few; regs = known; stack = all_none (IsKnown w.classes); object = is.rules.world.chains.objects };
-    full = all_none IsNotBottom;
+    known = record { few = few; regs = known; stack = All-nil (IsKnown w.classes); object = is.rules.world.chains.objects };
+    full = All-nil IsNotBottom;
     solid = none-solid w (stacks q) e;
   }
 
@@ -110,10 +107,10 @@ module _ (w : Linked) (is : AreCardRules w) (m : Method) (mo : IsMethodOf w m) (
         known = record {
           few = few;
           regs = known;
-          stack = all_more (IsKnown w.classes) (Class c) [] catches.class (all_none (IsKnown w.classes));
+          stack = All-cons (IsKnown w.classes) (Class c) [] catches.class (All-nil (IsKnown w.classes));
           object = is.rules.world.chains.objects;
         };
-        full = all_more IsNotBottom (Class c) [] tt (all_none IsNotBottom);
+        full = All-cons IsNotBottom (Class c) [] tt (All-nil IsNotBottom);
         solid = entered-solid w is.rules m mo regs stacks ty q there;
       }
 
@@ -187,7 +184,7 @@ refusal-denies w is flaws m _ _ mo (refused_state i before kept kind formed ther
 
 -- ---- what a refusal tells
 
-fault-kind : (flaw : Flaw) → IsFlawKind (fault_of flaw).kind
+pub fault-kind : (flaw : Flaw) → IsFlawKind (fault_of flaw).kind
 fault-kind (flaws.Code place end) = tt
 fault-kind (flaws.BadTarget place target) = tt
 fault-kind (flaws.BadHandler entry number) = tt

@@ -1,7 +1,7 @@
 -- A card typing gives a dataflow typing in which unset registers hold no value.
 use Rattle.std.proofs.Common.{◌≡◌, ℕ, ◌+◌, ◌<◌, ◌≤◌, ⊎_elim, Bool, true, false, if◌then◌else◌, List, [], ◌∷◌, length, All, Some, refl, sym, subst, arith, Contains}
 use Rattle.std.specs.Prelude.{ℤ, pos, map}
-use Rattle.std.proofs.lemmas.List.Elements.{All-contains}
+use Rattle.std.proofs.lemmas.List.Elements.{All-contains, All-nil, All-cons}
 use Rattle.jc_base.specs.declared.ty.Ty.{Ty}
 use Rattle.jc_base.specs.declared.ty.Ty.TheVariants.{Bottom, Class}
 use Rattle.jc_base.specs.declared.record.Handler.{Handler}
@@ -10,6 +10,7 @@ use Rattle.jc_base.specs.World.{Linked}
 use Rattle.jc_decode.specs.declared.insn.Placed.{Placed}
 use Rattle.jc_decode.specs.Cases.{cases}
 use Rattle.jc_decode.specs.Listing.{jumps, target, targets}
+use Rattle.jc_decode.proofs.Elements.{nothing-in}
 use Rattle.jc_control.specs.Method.{Method, IsMethodOf}
 use Rattle.jc_control.specs.WellFormed.{HasInstruction, IsPlace, IsTargetPlace, IsBoundary, IsHandlerOf}
 use Rattle.jc_control.specs.Control.{IsSuccessor, falls_through, jumped, IsReached, begins, follows, caught, IsLeader, led_to, entered}
@@ -22,10 +23,7 @@ use Rattle.card_typing.specs.Place.{IsEntry, IsTarget}
 use Rattle.card_typing.specs.Typing.{frame_at, IsTyped, IsEntered, CardTyping}
 use Rattle.card_typing.specs.Laws.{CardIsFlow}
 use Rattle.card_typing.proofs.Sites.{site_of, at-site}
-use Rattle.card_typing.proofs.Own.{all_none, all_more, of_world, start-length}
-
-nothing-in : {X : Type 0} (x : X) → Contains [] x → ⊥
-nothing-in x c = absurd (omega (arith, c.1))
+use Rattle.card_typing.proofs.Own.{of_world, start-length}
 
 -- only a branch or switch has targets
 jumps-where : (code : List ℕ) (i : Placed) (z : ℤ) → Contains (targets code i) z → jumps i.insn.op ≡ true
@@ -42,7 +40,7 @@ pub record IsSolid (w : Linked) (stack : List Ty) : Type 0 where
   pub no_top : All IsNotTop stack
 
 pub none-solid : (w : Linked) (stack : List Ty) → stack ≡ [] → IsSolid w stack
-none-solid w stack e = subst (IsSolid w) (sym e) (record { known = all_none (IsKnown w.classes); no_top = all_none IsNotTop })
+none-solid w stack e = subst (IsSolid w) (sym e) (record { known = All-nil (IsKnown w.classes); no_top = All-nil IsNotTop })
 
 module _ (w : Linked) (is : AreRules w) (m : Method) (mo : IsMethodOf w m) (regs : List Ty) (stacks : ℕ → List Ty) (ty : CardTyping w m regs stacks) where
   few : length regs ≤ 255
@@ -53,8 +51,8 @@ module _ (w : Linked) (is : AreRules w) (m : Method) (mo : IsMethodOf w m) (regs
 
   pub entered-solid : (q : ℕ) → IsEntered w m stacks q → IsSolid w (stacks q)
   entered-solid q e = subst (IsSolid w) (sym e.stack) (record {
-    known = all_more (IsKnown w.classes) (Class e.class) [] e.catches.class (all_none (IsKnown w.classes));
-    no_top = all_more IsNotTop (Class e.class) [] tt (all_none IsNotTop);
+    known = All-cons (IsKnown w.classes) (Class e.class) [] e.catches.class (All-nil (IsKnown w.classes));
+    no_top = All-cons IsNotTop (Class e.class) [] tt (All-nil IsNotTop);
   })
 
   pub given-solid : (i : Placed) (t : IsTyped w m regs stacks i) → IsSolid w (stacks i.place) → IsSolid w t.after.stack
@@ -109,10 +107,10 @@ module _ (w : Linked) (is : AreRules w) (m : Method) (mo : IsMethodOf w m) (regs
         record { regs = is.order.self regs; stack = subst (CellsBelow w.classes (Class h.class ∷ [])) (sym e.stack) (more_cells (e.catches.above h there refl) no_cells) }
 
     leader-ready : (q : ℕ) → IsLeader m q → All IsNotFresh (stacks q)
-    leader-ready _ (led_to {i = i} {q = q} there r among) = subst (All IsNotFresh) (sym (ty.targets q (target-of i q there among)).1) (all_none IsNotFresh)
+    leader-ready _ (led_to {i = i} {q = q} there r among) = subst (All IsNotFresh) (sym (ty.targets q (target-of i q there among)).1) (All-nil IsNotFresh)
     leader-ready _ (entered {h = h} r there covers) =
         let e = ty.entries h.entry (entry-of h there) in
-        subst (All IsNotFresh) (sym e.stack) (all_more IsNotFresh (Class e.class) [] tt (all_none IsNotFresh))
+        subst (All IsNotFresh) (sym e.stack) (All-cons IsNotFresh (Class e.class) [] tt (All-nil IsNotFresh))
 
     flow-typing : FlowTyping w m Bottom (λ p. Some (frame_at regs stacks p))
     flow-typing = record {
@@ -125,7 +123,7 @@ module _ (w : Linked) (is : AreRules w) (m : Method) (mo : IsMethodOf w m) (regs
             after = t.after;
             steps = t.applies;
             below = λ q s. succ-below i there q s;
-            ready = λ j. subst (All IsNotFresh) (sym (t.branch j)) (all_none IsNotFresh);
+            ready = λ j. subst (All IsNotFresh) (sym (t.branch j)) (All-nil IsNotFresh);
           };
       stays = λ i there r goes. ((ty.typed i there).goes_on goes).inside;
       handlers = λ p h r there covers. caught-below p h there;

@@ -1,49 +1,26 @@
 -- What holds of a method of the world, of its start and of the classes that its handlers catch.
-use Rattle.std.proofs.Common.{◌≡◌, ℕ, zero, suc, ◌+◌, ◌<◌, ◌||◌, Bool, true, false, if◌then◌else◌, List, [], ◌∷◌, ◌++◌, length, replicate, All, MatchBool, refl, ◌∙◌, ap, arith, length-append, length-take}
+use Rattle.std.proofs.Common.{◌≡◌, ◌+◌, ◌<◌, Bool, true, false, if◌then◌else◌, [], ◌∷◌, ◌++◌, length, replicate, All, refl, ◌∙◌, ap, arith, length-append, length-take}
 use Rattle.std.specs.List.{Contains}
 use Rattle.std.proofs.lemmas.List.{length-replicate}
-use Rattle.std.proofs.lemmas.List.Elements.{All-append, All-contains}
+use Rattle.std.proofs.lemmas.List.Elements.{All-append, All-contains, All-nil, All-cons, All-replicate}
+use Rattle.std.proofs.lemmas.Bool.{or_parts}
 use Rattle.jc_base.specs.declared.ty.Ty.{Ty}
 use Rattle.jc_base.specs.declared.ty.Ty.TheVariants.{Bottom, Short, IntHigh, IntLow, Null, Class, ArrBool, ArrByte, ArrShort, ArrInt, ArrRef, Fresh, Top}
 use Rattle.jc_base.specs.declared.record.Handler.{Handler}
 use Rattle.jc_base.specs.Class.{ClassTable, IsClass, is_interface}
 use Rattle.jc_base.specs.Cell.{IsDeclared}
 use Rattle.jc_base.specs.Order.{IsKnown}
-use Rattle.jc_base.specs.Linked.{IsMethod, IsHandler, IsCodeLength, list_at, lacks_code, receiver_words}
+use Rattle.jc_base.specs.Linked.{IsMethod, IsHandler, list_at, lacks_code, receiver_words}
 use Rattle.jc_base.specs.World.{Linked, IsWorld}
 use Rattle.jc_base.proofs.Lists.{All-slice_get}
+use Rattle.jc_base.proofs.CodeLengths.{has_code}
 use Rattle.jc_control.specs.Method.{Method, IsMethodOf}
 use Rattle.jc_rules.specs.Flow.{start_frame, receiver_of, IsNotFresh}
+use Rattle.jc_rules.proofs.Types.{declared-not_fresh}
 
 -- ---- lists
 
-pub all_none : {X : Type 0} (P : X → Type 0) → All P []
-all_none P k d lt = absurd (omega arith)
-
-pub all_more : {X : Type 0} (P : X → Type 0) (x : X) (xs : List X) → P x → All P xs → All P (x ∷ xs)
-all_more P x xs p all zero d lt = p
-all_more P x xs p all (suc k) d lt = all k d (omega arith)
-
-pub all_same : {X : Type 0} (P : X → Type 0) (n : ℕ) (x : X) → P x → All P (replicate n x)
-all_same P zero x p = all_none P
-all_same P (suc n) x p = all_more P x (replicate n x) p (all_same P n x p)
-
 -- ---- types
-
-declared-ready : (t : ClassTable) (ty : Ty) → IsDeclared t ty → IsNotFresh ty
-declared-ready t (Fresh p c) h = h
-declared-ready t Bottom h = tt
-declared-ready t Short h = tt
-declared-ready t IntHigh h = tt
-declared-ready t IntLow h = tt
-declared-ready t Null h = tt
-declared-ready t (Class c) h = tt
-declared-ready t ArrBool h = tt
-declared-ready t ArrByte h = tt
-declared-ready t ArrShort h = tt
-declared-ready t ArrInt h = tt
-declared-ready t (ArrRef c) h = tt
-declared-ready t Top h = tt
 
 declared-known : (t : ClassTable) (ty : Ty) → IsDeclared t ty → IsKnown t ty
 declared-known t Bottom h = tt
@@ -60,14 +37,6 @@ declared-known t (ArrRef c) h = h
 declared-known t (Fresh p c) h = absurd h
 declared-known t Top h = tt
 
-right_of_or : (a b : Bool) → (a || b) ≡ false → b ≡ false
-right_of_or true b e = absurd (cc)
-right_of_or false b e = e
-
-has_code : (b : Bool) (n : ℕ) → MatchBool b (n ≡ 0) (IsCodeLength n) → 0 < n → b ≡ false
-has_code true n h lt = absurd (omega arith)
-has_code false n h lt = refl
-
 module _ (w : Linked) (is : IsWorld w) (m : Method) (mo : IsMethodOf w m) where
   pub of_world : IsMethod w.infos w.pools w.classes m.rec
   of_world = All-slice_get (IsMethod w.infos w.pools w.classes) w.methods m.number m.rec is.methods mo.rec
@@ -81,19 +50,19 @@ module _ (w : Linked) (is : IsWorld w) (m : Method) (mo : IsMethodOf w m) where
       let filled : 0 < m.rec.code_len = omega (arith, mo.filled) in
       record {
         number = of_world.class;
-        class = right_of_or m.rec.is_abstract (is_interface w.classes m.rec.class) (has_code (lacks_code w.classes m.rec) m.rec.code_len of_world.code filled);
+        class = (or_parts m.rec.is_abstract (is_interface w.classes m.rec.class) (has_code (lacks_code w.classes m.rec) m.rec.code_len of_world.code filled)).1;
       }
 
   module _ (P : Ty → Type 0) (class : P (Class m.rec.class)) (declared : (ty : Ty) → IsDeclared w.classes ty → P ty) (unset : P Bottom) where
     receiver-all : (b : Bool) → All P (if b then [] else Class m.rec.class ∷ [])
-    receiver-all true = all_none P
-    receiver-all false = all_more P (Class m.rec.class) [] class (all_none P)
+    receiver-all true = All-nil P
+    receiver-all false = All-cons P (Class m.rec.class) [] class (All-nil P)
 
     start-all : All P (start_frame m.rec Bottom).regs
     start-all =
         All-append P (receiver_of m.rec ++ m.rec.sig.args) (replicate m.rec.max_locals Bottom)
         (All-append P (receiver_of m.rec) m.rec.sig.args (receiver-all m.rec.is_static) (λ k d lt. declared _ (of_world.arguments k d lt)))
-        (all_same P m.rec.max_locals Bottom unset)
+        (All-replicate P m.rec.max_locals Bottom unset)
 
   receiver-length : (b : Bool) → length (if b then [] else Class m.rec.class ∷ []) ≡ receiver_words b
   receiver-length true = refl
@@ -108,4 +77,4 @@ module _ (w : Linked) (is : IsWorld w) (m : Method) (mo : IsMethodOf w m) where
   start-known = start-all (IsKnown w.classes) own_class (declared-known w.classes) tt
 
   pub start-ready : All IsNotFresh (start_frame m.rec Bottom).regs
-  start-ready = start-all IsNotFresh tt (declared-ready w.classes) tt
+  start-ready = start-all IsNotFresh tt (declared-not_fresh w.classes) tt

@@ -1,5 +1,6 @@
 -- The rule of a method of the world, by the record of the method and by the site of the instruction.
-use Rattle.std.proofs.Common.{◌≡◌, ℕ, Option, Some, subst}
+use Rattle.std.proofs.Common.{ℕ, subst}
+use Rattle.std.proofs.lemmas.Option.{same_Some}
 use Rattle.jc_base.specs.World.{Linked}
 use Rattle.jc_decode.specs.declared.insn.Insn.{Insn}
 use Rattle.jc_ops.specs.declared.fault.RuleFault.{RuleFault}
@@ -14,9 +15,6 @@ use Rattle.card_typing.specs.Laws.{RuleIsOfRecord}
 abbrev pub site_of : Method → ℕ → Site
 site_of m place = record { method = m.number; place = place }
 
-some-same : {X : Type 0} {a b : X} {o : Option X} → o ≡ Some a → o ≡ Some b → a ≡ b
-some-same e f = cc
-
 module _ (w : Linked) (m : Method) (mo : IsMethodOf w m) where
   pub at-site :
       {p : ℕ} {i : Insn} {mode : Mode} {f g : Frame} {o : Outcome}
@@ -28,7 +26,7 @@ module _ (w : Linked) (m : Method) (mo : IsMethodOf w m) where
       {p : ℕ} {i : Insn} {mode : Mode} {f g : Frame} {o : Outcome}
       → Applies w (site_of m p) i mode f g o
       → RuleApplies w m.rec p i mode f g o
-  of-site {p} {i} {mode} {f} {g} {o} a = subst (λ r. RuleApplies w r p i mode f g o) (some-same a.is_method mo.rec) a.rule
+  of-site {p} {i} {mode} {f} {g} {o} a = subst (λ r. RuleApplies w r p i mode f g o) (same_Some _ _ (sym a.is_method ∙ mo.rec)) a.rule
 
   pub refuses-at-site :
       {p : ℕ} {i : Insn} {f : Frame} {fault : RuleFault}
@@ -40,7 +38,7 @@ module _ (w : Linked) (m : Method) (mo : IsMethodOf w m) where
       {p : ℕ} {i : Insn} {f : Frame} {fault : RuleFault}
       → Refuses w (site_of m p) i f fault
       → RuleRefuses w m.rec p i f fault
-  refuses-of-site {p} {i} {f} {fault} r = subst (λ rec. RuleRefuses w rec p i f fault) (some-same r.is_method mo.rec) r.rule
+  refuses-of-site {p} {i} {f} {fault} r = subst (λ rec. RuleRefuses w rec p i f fault) (same_Some _ _ (sym r.is_method ∙ mo.rec)) r.rule
 
 pub rule-is-of-record : (w : Linked) → RuleIsOfRecord w
 rule-is-of-record w = record {

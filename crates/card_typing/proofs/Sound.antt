@@ -1,5 +1,6 @@
 -- What holds of each met state.
 use Rattle.std.proofs.Common.{ℕ, Bool, List, [], All, arith}
+use Rattle.std.proofs.lemmas.List.Elements.{All-nil, All-cons}
 use Rattle.jc_base.specs.declared.ty.Ty.{Ty}
 use Rattle.jc_base.specs.declared.ty.Ty.TheVariants.{Bottom, Class}
 use Rattle.jc_base.specs.Order.{IsKnown}
@@ -13,14 +14,14 @@ use Rattle.jc_rules.specs.Laws.{RuleRaises}
 use Rattle.card_typing.specs.Met.{Arrives, arrives_falling, arrives_empty, arrives_caught, arrives_full, IsMet, met_start, met_next}
 use Rattle.card_typing.specs.Laws.{IsSoundState, MetIsSound}
 use Rattle.card_typing.proofs.Sites.{site_of, at-site}
-use Rattle.card_typing.proofs.Own.{all_none, all_more, of_world, start-length, start-known, start-ready}
+use Rattle.card_typing.proofs.Own.{of_world, start-length, start-known, start-ready}
 
 -- a stack that arrives has types of the world where the given one has
 arrives-known : (w : Linked) (m : Method) {b : Bool} {given : List Ty} {q : ℕ} {stack : List Ty} → Arrives w m b given q stack → All (IsKnown w.classes) given → All (IsKnown w.classes) stack
 arrives-known w m (arrives_falling free e) all = all
-arrives-known w m (arrives_empty free e) all = all_none (IsKnown w.classes)
-arrives-known w m (arrives_caught c entry room catches) all = all_more (IsKnown w.classes) (Class c) [] catches.class (all_none (IsKnown w.classes))
-arrives-known w m (arrives_full entry none) all = all_none (IsKnown w.classes)
+arrives-known w m (arrives_empty free e) all = All-nil (IsKnown w.classes)
+arrives-known w m (arrives_caught c entry room catches) all = All-cons (IsKnown w.classes) (Class c) [] catches.class (All-nil (IsKnown w.classes))
+arrives-known w m (arrives_full entry none) all = All-nil (IsKnown w.classes)
 
 module _ (w : Linked) (is : AreRules w) (raises : RuleRaises w) (m : Method) (mo : IsMethodOf w m) where
   start-sound : (stack : List Ty) → All (IsKnown w.classes) stack → IsSoundState w m (record { regs = (start_frame m.rec Bottom).regs; stack = stack })
@@ -36,7 +37,7 @@ module _ (w : Linked) (is : AreRules w) (raises : RuleRaises w) (m : Method) (mo
   }
 
   sound : (q : ℕ) (met : Frame) → IsMet w m q met → IsSoundState w m met
-  sound _ _ (met_start stack a) = start-sound stack (arrives-known w m a (all_none (IsKnown w.classes)))
+  sound _ _ (met_start stack a) = start-sound stack (arrives-known w m a (All-nil (IsKnown w.classes)))
   sound _ _ (met_next i q before after o stack met passed goes a) =
       let s = sound i.place before met in
       let k = is.keeps (site_of m i.place) i.insn Card before after o s.known (at-site w m mo passed.applies) in

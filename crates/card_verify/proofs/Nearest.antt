@@ -1,8 +1,7 @@
 -- The nearest place ahead is the least.
 use Rattle.std.proofs.Common.{◌≡◌, ℕ, ◌+◌, ◌<◌, ◌≤◌, ◌⊎◌, inl, inr, ⊎_elim, Bool, true, false, ◌&&◌, if◌then◌else◌, Option, Some, None, List, [], ◌∷◌, ◌++◌, length, slice_get, get_or, IsSomeAnd, MatchBool, refl, sym, ◌∙◌, ap, subst, arith, append_assoc, Contains}
-use Rattle.std.specs.Prelude.{ℤ, pos, negsuc, fold, nat_le, nat_lt}
-use Rattle.std.proofs.lemmas.Bool.{false≢true, cases_lt}
-use Rattle.std.proofs.lemmas.Bool.Decides.{nat_tests}
+use Rattle.std.specs.Prelude.{ℤ, pos, negsuc, fold, nat_le}
+use Rattle.std.proofs.lemmas.Bool.{false≢true, cases_lt, leb-true, leb-false, ltb-true, ltb-false}
 use Rattle.std.proofs.lemmas.Option.{slice_get_within, slice_get-get_or, get_or_from_slice_get}
 use Rattle.std.proofs.lemmas.List.Elements.{Contains-append_left, Contains-push, Contains-push_cases}
 use Rattle.jc_base.specs.declared.record.Handler.{Handler}
@@ -13,18 +12,6 @@ use Rattle.jc_decode.proofs.Elements.{Contains-first, Contains-later, Contains-e
 use Rattle.jc_control.specs.Method.{Method}
 use Rattle.card_typing.specs.Place.{IsTarget, IsEntry}
 use Rattle.card_verify.specs.Ahead.{IsLeastFrom, IsClear, is_nearer, least_or_none, nearer, nearer_target}
-
-le-true : (a b : ℕ) → nat_le a b ≡ true → a ≤ b
-le-true a b h = grind (arith, nat_tests)
-
-le-false : (a b : ℕ) → nat_le a b ≡ false → b < a
-le-false a b h = grind (arith, nat_tests)
-
-lt-true : (a b : ℕ) → nat_lt a b ≡ true → a < b
-lt-true a b h = grind (arith, nat_tests)
-
-lt-false : (a b : ℕ) → nat_lt a b ≡ false → b ≤ a
-lt-false a b h = grind (arith, nat_tests)
 
 -- a set of the same numbers
 pub least-same : (S T : ℕ → Type 0) (from : ℕ) (o : Option ℕ) → ((q : ℕ) → S q → T q) → ((q : ℕ) → T q → S q) → IsLeastFrom S from o → IsLeastFrom T from o
@@ -56,11 +43,11 @@ module _ (S : ℕ → Type 0) (from : ℕ) where
   step-farther p b le h = (inl h.0, h.1, λ q w ge. ⊎_elim (λ s. h.2 q s ge) (λ e. omega (arith, pos-same p q e, le)) w)
 
   step-here : (p : ℕ) (best : Option ℕ) (a b : Bool) → nat_le from p ≡ a → is_nearer p best ≡ b → IsLeastFrom S from best → IsLeastFrom (With (pos p)) from (if a && b then Some p else best)
-  step-here p best false b e f h = step-past p best (le-false from p e) h
-  step-here p None true true e f h = step-first p (le-true from p e) h
+  step-here p best false b e f h = step-past p best (leb-false from p e) h
+  step-here p None true true e f h = step-first p (leb-true from p e) h
   step-here p None true false e f h = absurd (false≢true (sym f))
-  step-here p (Some b) true true e f h = step-nearer p b (le-true from p e) (lt-true p b f) h
-  step-here p (Some b) true false e f h = step-farther p b (lt-false p b f) h
+  step-here p (Some b) true true e f h = step-nearer p b (leb-true from p e) (ltb-true p b f) h
+  step-here p (Some b) true false e f h = step-farther p b (ltb-false p b f) h
 
   pub nearer-step : (t : ℤ) (best : Option ℕ) → IsLeastFrom S from best → IsLeastFrom (With t) from (nearer_target from best t)
   nearer-step (pos p) best h = step-here p best (nat_le from p) (is_nearer p best) refl refl h

@@ -10,6 +10,7 @@ use Rattle.jc_decode.specs.declared.insn.Placed.{Placed}
 use Rattle.jc_decode.specs.Listing.{falls, listing, Lists, end_from}
 use Rattle.jc_control.specs.Method.{Method}
 use Rattle.jc_control.specs.WellFormed.{HasInstruction}
+use Rattle.jc_control.proofs.Listed.{at-end}
 use Rattle.jc_decode.specs.Laws.{AreListed}
 use Rattle.jc_rules.specs.declared.rule.Outcome.{Outcome}
 use Rattle.jc_rules.specs.Demand.{AreKnown}
@@ -27,11 +28,6 @@ use Rattle.card_verify.specs.Verifier.{method, world_of}
 use Rattle.card_verify.specs.Walk.{IsVerifier, IsComing, IsVisited, IsStopped, IsBegun, IsRaisedBy, IsSettled, IsProgress}
 
 -- ---- lists of instructions
-
--- the next instruction of a list begins where those before it end
-pub at-end : (code : List ℕ) (at : ℕ) (before : List Placed) (i : Placed) (after : List Placed) → Lists code at (before ++ i ∷ after) → i.place ≡ end_from at before
-at-end code at [] i after l = l.0
-at-end code at (p ∷ ps) i after l = at-end code (at + p.insn.len) ps i after l.2
 
 -- ---- places that are not fallen into
 

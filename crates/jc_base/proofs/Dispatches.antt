@@ -1,7 +1,7 @@
 -- The cells of an instance and the methods that it runs, from what holds of each class record.
-use Rattle.std.proofs.Common.{◌≡◌, ℕ, zero, suc, ◌+◌, ◌-◌, ◌<◌, ◌≤◌, ◌⊎◌, inl, inr, Bool, true, false, List, [], ◌∷◌, ◌++◌, length, reverse, Option, Some, None, refl, sym, ap, subst, ◌∙◌, arith}
+use Rattle.std.proofs.Common.{◌≡◌, ℕ, ◌+◌, ◌-◌, ◌<◌, ◌≤◌, ◌⊎◌, inl, inr, Bool, true, false, List, [], ◌∷◌, ◌++◌, length, reverse, Option, Some, None, refl, sym, ap, subst, ◌∙◌, arith}
 use Rattle.std.specs.Prelude.{◌==◌, nat_lt, IfSome, IsSomeAnd, slice_get, flat_map, option_and_then}
-use Rattle.std.proofs.lemmas.Bool.{eqb-true, eq-eqb}
+use Rattle.std.proofs.lemmas.Bool.{eqb-true, eq-eqb, lt-ltb, le-ltb}
 use Rattle.std.proofs.lemmas.List.{append-nil, reverse-append, length-append}
 use Rattle.std.proofs.lemmas.List.Concat.{flat_map-append, flat_map-cons}
 use Rattle.std.proofs.lemmas.Option.{slice_get_within}
@@ -13,7 +13,7 @@ use Rattle.jc_base.specs.Class.{ClassTable, AreClasses, IsNextOnChain, parent_of
 use Rattle.jc_base.specs.Order.{Below, joined, subclass, is_below, is_on_chain}
 use Rattle.jc_base.specs.Dispatch.{package_of, public_of, visible_of, cell_count, own_cells, cells_of, entry_at, nearest_of, visible_in, dispatched, signature_of, signature_at}
 use Rattle.jc_base.specs.Linked.{AreLinkedClasses, IsLinkedClass, IsDispatch, IsInherited, Dispatches, AreDispatched, cells_above, visible_from}
-use Rattle.jc_base.proofs.Lists.{All-slice_get}
+use Rattle.jc_base.proofs.Lists.{All-slice_get, slice_get-some}
 use Rattle.jc_base.proofs.Subtypes.{is_below-from_Below}
 use Rattle.jc_base.proofs.Climbs.{climb, chain-front, on_alone, on_next}
 
@@ -109,6 +109,15 @@ nearest-next : (t : ClassTable) (home c p : ℕ) → IsNextOnChain t c p → (pa
 unfolding visible_in nearest_of
 nearest-next t home c p next e = rw (next.chain_is, e) refl
 
+-- an entry of a class's own lists, read from its record
+pub entry-public : (t : ClassTable) (c token : ℕ) (r : ClassRec) → slice_get t.records c ≡ Some r → token < 128 → slice_get r.public token ≡ entry_at t c token
+unfolding entry_at public_of
+entry-public t c token r e lt = rw (lt-ltb token 128 lt, e) refl
+
+pub entry-visible : (t : ClassTable) (c token : ℕ) (r : ClassRec) → slice_get t.records c ≡ Some r → 128 ≤ token → slice_get r.visible (token - 128) ≡ entry_at t c token
+unfolding entry_at visible_of
+entry-visible t c token r e ge = rw (le-ltb token 128 ge, e) refl
+
 -- ---- the methods that an object runs
 
 -- a list has at a token a method with the signature of n, which objects of class r inherit
@@ -117,11 +126,6 @@ pub record Runs (t : ClassTable) (methods : List MethodRec) (r : ℕ) (list : Li
   pub found : slice_get list token ≡ Some method
   pub signature : signature_of methods method ≡ signature_of methods n
   pub inherited : IsSomeAnd (slice_get methods method) (IsInherited t r)
-
-slice_get-some : {X : Type 0} (xs : List X) (n : ℕ) → n < length xs → (x : X) × (slice_get xs n ≡ Some x)
-slice_get-some [] n h = absurd (omega arith)
-slice_get-some (x ∷ xs) zero h = (x, refl)
-slice_get-some (x ∷ xs) (suc n) h = slice_get-some xs n (omega arith)
 
 from_inherited : (t : ClassTable) (methods : List MethodRec) (r : ℕ) (from list : List ℕ) (token m n : ℕ) → IsDispatch t methods r from list → slice_get from token ≡ Some m → signature_of methods m ≡ signature_of methods n
     → Runs t methods r list token n

@@ -1,5 +1,5 @@
 -- What holds of each element, and of one among them, by recursion and by position.
-use Rattle.std.proofs.Common.{inl, inr, List, [], ◌∷◌, refl, subst, arith, Contains, All}
+use Rattle.std.proofs.Common.{inl, inr, List, [], ◌∷◌, refl, subst, arith, Contains, All, ◌++◌, ◌⊎◌}
 use Rattle.std.proofs.lemmas.List.Elements.{All-nil, All-cons, All-head, All-tail, Contains-append_right, Contains-append_cases, Contains-push_cases}
 use Rattle.jc_base.specs.Each.{Each, IsAmong}
 
@@ -30,6 +30,20 @@ pub Each-at : {X : Type 0} (P : X → Type 0) (x : X) (xs : List X) → Each P x
 Each-at P x [] each among = absurd among
 Each-at P x (y ∷ ys) each (inl here) = subst P here each.0
 Each-at P x (y ∷ ys) each (inr later) = Each-at P x ys each.1 later
+
+pub Each-append : {X : Type 0} (P : X → Type 0) (xs ys : List X) → Each P xs → Each P ys → Each P (xs ++ ys)
+Each-append P [] ys each others = others
+Each-append P (x ∷ xs) ys each others = (each.0, Each-append P xs ys each.1 others)
+
+pub Each-weaker : {X : Type 0} (P Q : X → Type 0) → ((x : X) → P x → Q x) → (xs : List X) → Each P xs → Each Q xs
+Each-weaker P Q f [] each = tt
+Each-weaker P Q f (x ∷ xs) each = (f x each.0, Each-weaker P Q f xs each.1)
+
+-- one of two lists, one after the other, is among the one or the other
+pub IsAmong-append_cases : {X : Type 0} (x : X) (xs ys : List X) → IsAmong x (xs ++ ys) → IsAmong x xs ⊎ IsAmong x ys
+IsAmong-append_cases x [] ys among = inr among
+IsAmong-append_cases x (y ∷ xs) ys (inl here) = inl (inl here)
+IsAmong-append_cases x (y ∷ xs) ys (inr later) = elim (IsAmong-append_cases x xs ys later) [ inl a ↦ inl (inr a) | inr b ↦ inr b ]
 
 pub Each-from_among : {X : Type 0} (P : X → Type 0) (xs : List X) → ((x : X) → IsAmong x xs → P x) → Each P xs
 Each-from_among P [] f = tt

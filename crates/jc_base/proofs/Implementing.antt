@@ -1,5 +1,5 @@
 -- Whether a class implements an interface is decided, and what an interface extends comes to an end.
-use Rattle.std.proofs.Common.{◌≡◌, ◌<◌, ◌≤◌, inl, inr, ℕ, ◌==◌, Bool, true, false, List, [], length, Option, Some, None, refl, subst, arith}
+use Rattle.std.proofs.Common.{◌≡◌, ◌<◌, ◌≤◌, inl, inr, ℕ, ◌==◌, Bool, true, false, List, length, Option, Some, None, refl, subst, arith}
 use Rattle.std.specs.Prelude.{All, Contains, IfSome, MatchBool, slice_get}
 use Rattle.std.specs.List.{list_any, range_with_len}
 use Rattle.std.proofs.lemmas.Bool.{eqb-true, eq-eqb, false_from_ne_true, or_cases, or_left, or_right}
@@ -24,11 +24,8 @@ use Rattle.jc_base.proofs.Subtypes.{below_class}
 
 -- ---- what extends another
 
-nothing : (b : ℕ) (A : Type 0) → Contains [] b → A
-nothing b A h = absurd (omega (arith, h.1))
-
 from-record : (t : ClassTable) (i j : ℕ) (o : Option ClassRec) → slice_get t.records i ≡ o → Contains (extended_in o) j → i < length t.records
-from-record t i j None e h = nothing j (i < length t.records) h
+from-record t i j None e h = absurd (omega (arith, h.1))
 from-record t i j (Some r) e h = slice_get_within t.records i r e
 
 pub extends-from : (t : ClassTable) (i j : ℕ) → Contains (extended t i) j → i < length t.records
@@ -97,7 +94,7 @@ extended-inside_by t methods r true e is = rw e (All-map (λ j. j < length t.rec
 extended-inside_by t methods r false e is = rw e (All-nil (λ j. j < length t.records))
 
 inside_by : (packages : ℕ) (t : ClassTable) (methods : List MethodRec) (i j : ℕ) (o : Option ClassRec) → slice_get t.records i ≡ o → IfSome o (IsLinkedClass packages t methods i) → Contains (extended_in o) j → j < length t.records
-inside_by packages t methods i j None e is h = nothing j (j < length t.records) h
+inside_by packages t methods i j None e is h = absurd (omega (arith, h.1))
 inside_by packages t methods i j (Some r) e is h = All-contains (λ k. k < length t.records) (extended_in (Some r)) j (extended-inside_by t methods r r.interface refl is.implements) h
 
 extends-inside : (packages : ℕ) (t : ClassTable) (methods : List MethodRec) → AreLinkedClasses packages t methods → (i j : ℕ) → Contains (extended t i) j → j < length t.records

@@ -2,7 +2,7 @@
 use Rattle.std.proofs.Common.{◌≡◌, ℕ, zero, suc, ◌<◌, ◌⊎◌, inl, inr, Bool, true, false, List, [], ◌∷◌, get_or, refl, subst, arith}
 use Rattle.std.specs.Prelude.{◌==◌, ◌||◌, ◌&&◌, Contains}
 use Rattle.std.specs.List.{list_any}
-use Rattle.std.proofs.lemmas.Bool.{eqb-true, eq-eqb, false≢true, cases_lt}
+use Rattle.std.proofs.lemmas.Bool.{eqb-true, eq-eqb, false≢true, cases_lt, or_left, or_right, and_from}
 use Rattle.std.proofs.lemmas.List.Folds.{list_any_at}
 use Rattle.std.proofs.lemmas.List.Elements.{Contains-append_right}
 use Rattle.jc_base.specs.Leads.{Leads, at_once, further, leads_below}
@@ -14,18 +14,6 @@ either false b e = inr e
 pub both : (a b : Bool) → (a && b) ≡ true → (a ≡ true) × (b ≡ true)
 both true b e = (refl, e)
 both false b e = absurd (false≢true e)
-
-pub left : (a b : Bool) → a ≡ true → (a || b) ≡ true
-left true b e = refl
-left false b e = absurd (false≢true e)
-
-pub right : (a b : Bool) → b ≡ true → (a || b) ≡ true
-right true b e = refl
-right false b e = e
-
-pub and : (a b : Bool) → a ≡ true → b ≡ true → (a && b) ≡ true
-and true b e f = f
-and false b e f = absurd (false≢true e)
 
 pub any-contains : (xs : List ℕ) (b : ℕ) → list_any (λ x. x == b) xs ≡ true → Contains xs b
 any-contains [] b e = absurd (false≢true e)
@@ -77,16 +65,16 @@ leads-sound next (suc n) a b e = elim (either (leads_below next n a b) (leads_be
 leads-step : (next : ℕ → List ℕ) (n a b : ℕ) → Contains (next a) b → leads_below next n a b ≡ true
 unfolding leads_below
 leads-step next zero a b h = contains-any (next a) b h
-leads-step next (suc n) a b h = left (leads_below next n a b) (leads_below next n a n && leads_below next n n b) (leads-step next n a b h)
+leads-step next (suc n) a b h = or_left (leads_below next n a b) (leads_below next n a n && leads_below next n n b) (leads-step next n a b h)
 
 -- to n and from there
 over : (next : ℕ → List ℕ) (n a b : ℕ) → leads_below next n a n ≡ true → leads_below next n n b ≡ true → leads_below next (suc n) a b ≡ true
 unfolding leads_below
-over next n a b e f = right (leads_below next n a b) (leads_below next n a n && leads_below next n n b) (and (leads_below next n a n) (leads_below next n n b) e f)
+over next n a b e f = or_right (leads_below next n a b) (leads_below next n a n && leads_below next n n b) (and_from (leads_below next n a n) (leads_below next n n b) e f)
 
 below : (next : ℕ → List ℕ) (n a b : ℕ) → leads_below next n a b ≡ true → leads_below next (suc n) a b ≡ true
 unfolding leads_below
-below next n a b e = left (leads_below next n a b) (leads_below next n a n && leads_below next n n b) e
+below next n a b e = or_left (leads_below next n a b) (leads_below next n a n && leads_below next n n b) e
 
 -- either not over n, or to n and from there
 parts : (next : ℕ → List ℕ) (n a b : ℕ) → leads_below next (suc n) a b ≡ true → (leads_below next n a b ≡ true) ⊎ ((leads_below next n a n ≡ true) × (leads_below next n n b ≡ true))

@@ -14,6 +14,7 @@ pub mod JoinsOfAll
 pub mod Orders
 pub mod Dispatches
 pub mod Bodies
+pub mod CodeLengths
 pub mod Concreteness
 pub mod Instances
 pub mod Objects

@@ -1,6 +1,6 @@
 -- Reading what holds of the elements of a list at one of them.
-use Rattle.std.proofs.Common.{◌≡◌, ℕ, zero, suc, ◌+◌, ◌-◌, ◌<◌, ◌≤◌, List, [], ◌∷◌, ◌++◌, length, reverse, Option, Some, None, sym, ap, subst, arith}
-use Rattle.std.specs.Prelude.{All, IfSome, slice_get, sum_by}
+use Rattle.std.proofs.Common.{◌≡◌, ℕ, zero, suc, ◌+◌, ◌-◌, ◌<◌, ◌≤◌, List, [], ◌∷◌, ◌++◌, length, reverse, Option, Some, None, sym, ap, subst, arith, refl, set}
+use Rattle.std.specs.Prelude.{All, IfSome, slice_get, sum_by, IsSomeAnd}
 use Rattle.jc_base.specs.declared.ty.Kind.{Kind}
 use Rattle.jc_base.specs.declared.ty.Kind.TheVariants.{Ref, Byte, Short, Int}
 use Rattle.jc_base.specs.declared.record.StaticRec.{StaticRec}
@@ -23,6 +23,14 @@ IfSome-is P (Some y) x h e =
     let same : y ≡ x = cc in
     subst P same h
 
+-- a value of which something holds
+pub IsSomeAnd-some : {X : Type 0} (P : X → Type 0) (o : Option X) → IsSomeAnd o P → (x : X) × (o ≡ Some x) × P x
+IsSomeAnd-some P (Some x) h = (x, refl, h)
+IsSomeAnd-some P None h = absurd h
+
+pub IsSomeAnd-from : {X : Type 0} (P : X → Type 0) (o : Option X) (x : X) → o ≡ Some x → P x → IsSomeAnd o P
+IsSomeAnd-from {X} P o x e h = subst (λ (p : Option X). IsSomeAnd p P) (sym e) h
+
 -- the list of a number is the element there
 pub list_at-slice_get : {X : Type 0} (xss : List (List X)) (n : ℕ) (xs : List X) → slice_get xss n ≡ Some xs → list_at xss n ≡ xs
 list_at-slice_get [] n xs e = absurd cc
@@ -43,6 +51,24 @@ slice_get-farther (x ∷ xs) ys k zero e = absurd (omega arith)
 slice_get-farther (x ∷ xs) ys k (suc n) e =
     let less : n ≡ length xs + k = omega arith in
     slice_get-farther xs ys k n less
+
+pub slice_get-some : {X : Type 0} (xs : List X) (n : ℕ) → n < length xs → (x : X) × (slice_get xs n ≡ Some x)
+slice_get-some [] n h = absurd (omega arith)
+slice_get-some (x ∷ xs) zero h = (x, refl)
+slice_get-some (x ∷ xs) (suc n) h = slice_get-some xs n (omega arith)
+
+-- what stands in a list that is written at one place
+pub slice_get-set_here : {X : Type 0} (xs : List X) (i : ℕ) (x : X) → i < length xs → slice_get (set xs i x) i ≡ Some x
+slice_get-set_here [] i x h = absurd (omega arith)
+slice_get-set_here (y ∷ ys) zero x h = refl
+slice_get-set_here (y ∷ ys) (suc i) x h = slice_get-set_here ys i x (omega arith)
+
+pub slice_get-set_other : {X : Type 0} (xs : List X) (i j : ℕ) (x : X) → (i ≡ j → ⊥) → slice_get (set xs i x) j ≡ slice_get xs j
+slice_get-set_other [] i j x ne = refl
+slice_get-set_other (y ∷ ys) zero zero x ne = absurd (ne refl)
+slice_get-set_other (y ∷ ys) zero (suc j) x ne = refl
+slice_get-set_other (y ∷ ys) (suc i) zero x ne = refl
+slice_get-set_other (y ∷ ys) (suc i) (suc j) x ne = slice_get-set_other ys i j x (λ e. ne (ap suc e))
 
 -- what holds of each element, last first
 pub All-reverse : {X : Type 0} (P : X → Type 0) (xs : List X) → All P xs → All P (reverse xs)

@@ -44,7 +44,7 @@ is_below-top t Top = refl
 
 -- ---- transitive
 
-top_below : (t : ClassTable) (c : Ty) → is_below t Top c ≡ true → c ≡ Top
+pub top_below : (t : ClassTable) (c : Ty) → is_below t Top c ≡ true → c ≡ Top
 unfolding is_below
 top_below t Top e = refl
 top_below t c e = absurd (false≢true e)

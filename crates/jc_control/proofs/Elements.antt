@@ -1,22 +1,11 @@
 -- Elements of lists by their numbers, and lists that are gone over from the front.
-use Rattle.std.proofs.Common.{◌≡◌, ◌<◌, ◌+◌, ℕ, zero, suc, Some, None, List, [], ◌∷◌, ◌++◌, length, take, drop, refl, sym, ap, ◌∙◌, arith, append_assoc, Contains, All}
+use Rattle.std.proofs.Common.{◌≡◌, ◌<◌, ◌+◌, ℕ, zero, suc, Some, List, [], ◌∷◌, ◌++◌, length, take, refl, sym, ap, ◌∙◌, arith, append_assoc, Contains, All}
 use Rattle.std.specs.Prelude.{slice_get}
 use Rattle.std.proofs.lemmas.List.{append-nil}
 use Rattle.std.proofs.lemmas.List.Elements.{All-contains}
 use Rattle.jc_decode.proofs.Elements.{Contains-slice_get}
 use Rattle.jc_control.specs.FirstFailing.{IsFirstFailing}
-
--- after the first n elements comes the n-th
-pub drop-here : {A : Type 0} (xs : List A) (n : ℕ) (x : A) → slice_get xs n ≡ Some x → drop n xs ≡ x ∷ drop (n + 1) xs
-drop-here [] n x h = absurd (cc)
-drop-here (y ∷ ys) zero x h = ap (λ (z : _). z ∷ ys) (cc)
-drop-here (y ∷ ys) (suc n) x h = let e : suc n + 1 ≡ suc (n + 1) = omega arith in rw e (drop-here ys n x h)
-
-pub drop-past : {A : Type 0} (xs : List A) (n : ℕ) → slice_get xs n ≡ None → drop n xs ≡ []
-drop-past [] zero h = refl
-drop-past [] (suc n) h = refl
-drop-past (y ∷ ys) zero h = absurd (cc)
-drop-past (y ∷ ys) (suc n) h = drop-past ys n h
+use Rattle.jc_base.proofs.Lists.{All-slice_get}
 
 -- where a list is gone over, the next element is the one of the number of those before it
 pub here-in : {A : Type 0} (before : List A) (x : A) (after whole : List A) → before ++ x ∷ after ≡ whole → slice_get whole (length before) ≡ Some x
@@ -44,7 +33,7 @@ slice_get-take (y ∷ ys) (suc k) (suc n) x h e = slice_get-take ys k n x (omega
 
 -- an element before the n-th is among the first n
 pub taken-in : {A : Type 0} (P : A → Type 0) (xs : List A) (k n : ℕ) (x : A) → All P (take n xs) → k < n → slice_get xs k ≡ Some x → P x
-taken-in P xs k n x all h e = slice_get-in P (take n xs) k x all (slice_get-take xs k n x h e)
+taken-in P xs k n x all h e = All-slice_get P (take n xs) k x all (slice_get-take xs k n x h e)
 
 -- a step along a list
 pub at-next : {A : Type 0} (before rest : List A) (x : A) (after whole : List A) → before ++ rest ≡ whole → rest ≡ x ∷ after → before ++ x ∷ after ≡ whole

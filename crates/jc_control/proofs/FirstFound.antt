@@ -13,7 +13,8 @@ use Rattle.jc_control.specs.FirstFailing.{IsFirstFailing}
 use Rattle.jc_control.specs.Scan.{LeadsToPlaces, IsFirstStray, IsStop, IsFirstBadHandler}
 use Rattle.jc_decode.specs.Laws.{AreListed}
 use Rattle.jc_decode.proofs.Elements.{slice_get-Contains, Contains-slice_get}
-use Rattle.jc_control.proofs.Elements.{slice_get-in, taken-in}
+use Rattle.jc_control.proofs.Elements.{taken-in}
+use Rattle.jc_base.proofs.Lists.{All-slice_get}
 
 module _ (m : Method) (law : AreListed m.code) where
   -- an instruction before the first that leads astray leads to places
@@ -43,7 +44,7 @@ module _ (m : Method) (law : AreListed m.code) where
 
       none-before : (other : Spot) (g : Flaw) → IsFlaw m other g → ¬ ComesBefore other (in_code s.from.place s.target_number)
       none-before _ _ (flaw_target i k t there get astray) (inl lower) =
-          astray (slice_get-in (IsTargetPlace m.code) (targets m.code i) k t (earlier-leads s.number s.from s.instruction i there lower) get)
+          astray (All-slice_get (IsTargetPlace m.code) (targets m.code i) k t (earlier-leads s.number s.from s.instruction i there lower) get)
       none-before _ _ (flaw_target i k t there get astray) (inr (same, fewer)) =
           let here : i ≡ s.from = law.one i s.from there stands same in
           astray (taken-in (IsTargetPlace m.code) (targets m.code s.from) k s.target_number t s.target_is.before fewer
@@ -55,7 +56,7 @@ module _ (m : Method) (law : AreListed m.code) where
 module _ (m : Method) where
   -- where all instructions lead to places no target is a flaw
   no-stray : All (LeadsToPlaces m.code) (listing m.code) → (i : Placed) (k : ℕ) (t : ℤ) → HasInstruction m.code i → slice_get (targets m.code i) k ≡ Some t → IsTargetPlace m.code t
-  no-stray all i k t there get = slice_get-in (IsTargetPlace m.code) (targets m.code i) k t (All-contains (LeadsToPlaces m.code) (listing m.code) i all there) get
+  no-stray all i k t there get = All-slice_get (IsTargetPlace m.code) (targets m.code i) k t (All-contains (LeadsToPlaces m.code) (listing m.code) i all there) get
 
   pub stop-first : (f : Flaw) → All (LeadsToPlaces m.code) (listing m.code) → IsStop m.code f → IsFirstFlaw m f
   stop-first f all s = subst (IsFirstFlaw m) (sym s.is) (record {

@@ -4,6 +4,7 @@ use Rattle.std.specs.Prelude.{ℤ, pos, negsuc, slice_get}
 use Rattle.std.proofs.lemmas.Bool.{cases_lt, cases_eq}
 use Rattle.std.proofs.lemmas.Option.{slice_get-get_or}
 use Rattle.jc_base.specs.declared.record.Handler.{Handler}
+use Rattle.jc_base.proofs.Lists.{All-slice_get}
 use Rattle.jc_decode.specs.declared.insn.Placed.{Placed}
 use Rattle.jc_decode.specs.declared.insn.CodeEnd.{CodeEnd}
 use Rattle.jc_decode.specs.Decoding.{decoded}
@@ -18,7 +19,6 @@ use Rattle.jc_control.specs.Laws.{FlawsDecide, FirstFlawIsOne}
 use Rattle.jc_decode.specs.Laws.{AreListed, InstructionsAreListed}
 use Rattle.jc_decode.proofs.Elements.{Contains-either, Contains-first, Contains-later, nothing-in}
 use Rattle.jc_decode.proofs.Listed.{err-of}
-use Rattle.jc_control.proofs.Elements.{slice_get-in}
 
 -- ---- each condition holds or does not
 
@@ -66,9 +66,9 @@ all-decided P xs decided never k d inside = by_case (decided _)
 -- ---- well formed, or flawed
 
 flawless : (m : Method) → IsWellFormed m → (spot : Spot) (f : Flaw) → ¬ IsFlaw m spot f
-flawless m w _ _ (flaw_target i n t there get astray) = astray (slice_get-in (IsTargetPlace m.code) (targets m.code i) n t (w.targets i there) get)
+flawless m w _ _ (flaw_target i n t there get astray) = astray (All-slice_get (IsTargetPlace m.code) (targets m.code i) n t (w.targets i there) get)
 flawless m w _ _ (flaw_end end goes_on why) = goes_on w.ends
-flawless m w _ _ (flaw_handler n h get bad) = bad (slice_get-in (IsHandlerOf m.code) m.rec.handlers n h w.handlers get)
+flawless m w _ _ (flaw_handler n h get bad) = bad (All-slice_get (IsHandlerOf m.code) m.rec.handlers n h w.handlers get)
 
 well-formed : (m : Method) → AreListed m.code → ((spot : Spot) (f : Flaw) → ¬ IsFlaw m spot f) → IsWellFormed m
 well-formed m law none = record {

@@ -15,7 +15,7 @@ live-to m s control h live = record { place = live.place; marked = (control.reac
 pub live-handlers-lead : LiveHandlersLead
 live-handlers-lead = λ m h live. (caught live.reached live.listed live.covers, entered live.reached live.listed live.covers)
 
-leader-reached : (m : Method) (q : ℕ) → IsLeader m q → IsReached m q
+pub leader-reached : (m : Method) (q : ℕ) → IsLeader m q → IsReached m q
 leader-reached m _ (led_to stands reached among) = follows stands reached (jumped among)
 leader-reached m _ (entered reached listed covers) = caught reached listed covers
 

@@ -4,7 +4,7 @@ use Rattle.std.specs.Prelude.{ℤ, slice_get}
 use Rattle.std.proofs.lemmas.Option.{slice_get_within}
 use Rattle.jc_decode.specs.declared.insn.Placed.{Placed}
 use Rattle.jc_decode.specs.Listing.{targets}
-use Rattle.jc_control.proofs.Elements.{drop-here, drop-past}
+use Rattle.jc_decode.proofs.Elements.{drop-here, drop-past}
 
 -- the number of a target is small
 pub target-number : (code : List ℕ) (p : Placed) (n : ℕ) (t : ℤ) → length code ≤ 65535 → length (targets code p) ≤ length code + 1

@@ -109,7 +109,7 @@ default-cases xs at i d = by_layout (layout_of i.op)
     by_layout (Err e) = refl
     by_layout (Ok l) = by_cases l.cases (at + 1 + total_width l)
 
-no_cases : (xs : List ℕ) (at : ℕ) (i : Insn) (e : CodeEnd) → layout_of i.op ≡ Err e → cases xs at i ≡ []
+pub no_cases : (xs : List ℕ) (at : ℕ) (i : Insn) (e : CodeEnd) → layout_of i.op ≡ Err e → cases xs at i ≡ []
 unfolding cases
 no_cases xs at i e is = rw is refl
 

@@ -1,5 +1,5 @@
 -- Elements of lists.
-use Rattle.std.proofs.Common.{◌≡◌, ◌⊎◌, inl, inr, ℕ, zero, suc, Some, List, [], ◌∷◌, refl, ap, ◌∙◌, arith, Contains}
+use Rattle.std.proofs.Common.{◌≡◌, ◌⊎◌, inl, inr, ℕ, zero, suc, Some, List, [], ◌∷◌, refl, ap, ◌∙◌, arith, Contains, None, drop, ◌+◌}
 use Rattle.std.specs.Prelude.{slice_get}
 use Rattle.std.proofs.lemmas.Option.{slice_get_within, slice_get-get_or, get_or_from_slice_get}
 use Rattle.std.proofs.lemmas.List.Elements.{Contains-append_right}
@@ -25,3 +25,15 @@ Contains-either y xs x c = by_number c.0 (slice_get-Contains (y ∷ xs) x c)
 
 pub nothing-in : {A : Type 0} (x : A) → Contains [] x → ⊥
 nothing-in x c = absurd (omega (arith, c.1))
+
+-- after the first n elements comes the n-th
+pub drop-here : {A : Type 0} (xs : List A) (n : ℕ) (x : A) → slice_get xs n ≡ Some x → drop n xs ≡ x ∷ drop (n + 1) xs
+drop-here [] n x h = absurd (cc)
+drop-here (y ∷ ys) zero x h = ap (λ (z : _). z ∷ ys) (cc)
+drop-here (y ∷ ys) (suc n) x h = let e : suc n + 1 ≡ suc (n + 1) = omega arith in rw e (drop-here ys n x h)
+
+pub drop-past : {A : Type 0} (xs : List A) (n : ℕ) → slice_get xs n ≡ None → drop n xs ≡ []
+drop-past [] zero h = refl
+drop-past [] (suc n) h = refl
+drop-past (y ∷ ys) zero h = absurd (cc)
+drop-past (y ∷ ys) (suc n) h = drop-past ys n h

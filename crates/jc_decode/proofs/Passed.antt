@@ -1,6 +1,6 @@
 -- What a test that all opcodes pass says of one.
-use Rattle.std.proofs.Common.{◌≡◌, ◌∙◌, ◌<◌, ℕ, Bool, true, false, List, get_or, refl, sym, ap, arith}
-use Rattle.std.specs.Prelude.{map, replicate, not, ◌&&◌, ◌||◌}
+use Rattle.std.proofs.Common.{◌≡◌, ◌∙◌, ◌<◌, ℕ, Bool, true, false, List, get_or, sym, ap, arith}
+use Rattle.std.specs.Prelude.{map, replicate, not, ◌||◌}
 use Rattle.std.specs.List.{range_with_len}
 use Rattle.std.proofs.lemmas.List.{get_or-replicate}
 use Rattle.std.proofs.lemmas.List.FromFn.{get_or-map-range_with_len}
@@ -9,10 +9,6 @@ pub passed-at : (test : ℕ → Bool) → map test (range_with_len 0 256) ≡ re
 passed-at test all op h =
     sym (get_or-map-range_with_len test 0 256 op op false h (omega arith))
     ∙ ap (λ (bs : List Bool). get_or bs op false) all ∙ get_or-replicate 256 op true false h
-
-pub and-parts : (a b : Bool) → (a && b) ≡ true → (a ≡ true) × (b ≡ true)
-and-parts true b h = (refl, h)
-and-parts false b h = absurd (cc)
 
 pub or-rest : (a b : Bool) → (not a || b) ≡ true → a ≡ true → b ≡ true
 or-rest true b h e = h

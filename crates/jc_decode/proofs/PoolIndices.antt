@@ -68,7 +68,7 @@ first-at op h = let small : op < 256 = grind (arith, nat_tests) in or-rest _ _ (
 first-at2 : (op : ℕ) → has_index op ≡ true → has_first 2 (layout_of op) ≡ true
 first-at2 op h = let small : op < 256 = grind (arith, nat_tests) in or-rest _ _ (passed-at two_bytes two_bytes-all op small) h
 
-second-op : (a b c : Bool) → (a || (b && c)) ≡ true → (a || b) ≡ true
+pub second-op : (a b c : Bool) → (a || (b && c)) ≡ true → (a || b) ≡ true
 second-op true b c h = refl
 second-op false true c h = refl
 second-op false false c h = absurd (cc)

@@ -4,7 +4,7 @@ use Rattle.std.specs.Prelude.{ℤ, pos, ◌+ℤ◌, ◌<ℤ◌, ◌≤ℤ◌, in
 use Rattle.std.specs.List.{find, range_with_len}
 use Rattle.std.proofs.lemmas.Int.{ints}
 use Rattle.std.proofs.lemmas.Bool.{cases_lt, not-false}
-use Rattle.std.proofs.lemmas.Option.{slice_get_within}
+use Rattle.std.proofs.lemmas.Option.{slice_get_within, same_Some}
 use Rattle.std.proofs.lemmas.List.FromFn.{length-map-range_with_len}
 use Rattle.jc_decode.specs.declared.layout.Operand.{Operand}
 use Rattle.jc_decode.specs.declared.layout.Cases.{Cases}
@@ -20,15 +20,12 @@ use Rattle.jc_decode.specs.Cases.{cases, range_case, pair_case, is_range, has_ra
 use Rattle.jc_decode.proofs.Decoded.{Begins-decoded, from_bind}
 use Rattle.jc_decode.proofs.Tables.{cases-by, slice_get-map-range, range_order}
 
-some-same : {A : Type 0} (x y : A) (o : Option A) → o ≡ Some x → o ≡ Some y → x ≡ y
-some-same x y o h k = cc
-
 -- an element of what f gives of the numbers below count
 map-range-some : (f : ℕ → Case) (count n : ℕ) (c : Case) → slice_get (map f (range_with_len 0 count)) n ≡ Some c → (n < count) × (c ≡ f n)
 map-range-some f count n c h =
     let inside = slice_get_within (map f (range_with_len 0 count)) n c h in
     let below : n < count = omega (arith, inside, length-map-range_with_len f 0 count) in
-    (below, some-same c (f n) _ h (slice_get-map-range f count n below))
+    (below, same_Some c (f n) (sym h ∙ slice_get-map-range f count n below))
 
 -- a search that finds nothing
 first-none : (p : ℕ → Bool) (a k : ℕ) → find p (range_with_len a (suc k)) ≡ None → (p a ≡ false) × (find p (range_with_len (a + 1) k) ≡ None)

@@ -1,10 +1,12 @@
 -- What is answered for a method of the world.
-use Rattle.std.proofs.Common.{◌≡◌, ℕ, ◌<◌, ◌≤◌, Bool, true, false, List, length, Option, Some, option_map, IsSomeAnd, MatchBool, slice_get, sym, ◌∙◌, ap, subst, arith, length-take}
+use Rattle.std.proofs.Common.{◌≡◌, ℕ, ◌<◌, ◌≤◌, List, length, Option, Some, option_map, IsSomeAnd, slice_get, sym, ◌∙◌, ap, subst, arith, length-take}
 use Rattle.std.proofs.lemmas.Option.{slice_get_within, same_Some}
 use Rattle.jc_base.specs.declared.ty.Ty.TheVariants.{Top, Bottom}
 use Rattle.jc_base.specs.declared.record.MethodRec.{MethodRec}
-use Rattle.jc_base.specs.Linked.{IsCodeLength, lacks_code}
+use Rattle.jc_base.specs.Linked.{lacks_code}
 use Rattle.jc_base.specs.World.{Linked, code_of}
+use Rattle.jc_base.proofs.Lists.{IsSomeAnd-from}
+use Rattle.jc_base.proofs.CodeLengths.{length-short}
 use Rattle.jc_rules.specs.FlowLaws.{AreRules, TopIsBottom}
 use Rattle.jc_control.specs.Method.{Method, IsMethodOf, method_in, method_with}
 use Rattle.jc_rules.specs.Demand.{Frame}
@@ -16,7 +18,7 @@ use Rattle.jc_control.specs.declared.flaw.ControlEnd.TheVariants.{Flawed, Memory
 use Rattle.jc_control.specs.Flaw.{IsFirstFlaw}
 use Rattle.jc_control.specs.ControlFlow.{TellsFlaw}
 use Rattle.jc_control.specs.Laws.{FlawsDecide}
-use Rattle.jc_flow.proofs.Derived.{some_to, some_at, at_some, some_map, of_world}
+use Rattle.jc_flow.proofs.Derived.{some_to, some_at, some_map, of_world}
 use Rattle.jc_flow.specs.declared.end.FlowEnd.{FlowEnd}
 use Rattle.jc_flow.specs.declared.end.FlowEnd.TheVariants.{NoTyping, Code, BadTarget, FallsOff, BadHandler, Memory}
 use Rattle.jc_flow.specs.Fails.{IsFailure}
@@ -25,10 +27,6 @@ use Rattle.jc_flow.proofs.Never.{none-where-fails, none-where-falls}
 
 pub number-below : {X : Type 0} (P : X → Type 0) (xs : List X) (n : ℕ) → IsSomeAnd (slice_get xs n) P → n < length xs
 number-below P xs n h = some_to P (n < length xs) (slice_get xs n) (λ x e p. slice_get_within xs n x e) h
-
-length-short : (b : Bool) (n : ℕ) → MatchBool b (n ≡ 0) (IsCodeLength n) → n ≤ 32767
-length-short true n h = omega (arith, h)
-length-short false n h = h.most
 
 module _ (w : Linked) (n : ℕ) (rec : MethodRec) (code : List ℕ) (here : slice_get w.methods n ≡ Some rec) (bytes : option_map (code_of w.infos) (slice_get w.methods n) ≡ Some code) where
   own_code : code_of w.infos rec ≡ code
@@ -41,7 +39,7 @@ module _ (w : Linked) (n : ℕ) (rec : MethodRec) (code : List ℕ) (here : slic
   of-method P h = some_at P method-is h
 
   pub to-method : (P : Method → Type 0) → P (record { number = n; rec = rec; code = code }) → IsSomeAnd (method_in w n) P
-  to-method P h = at_some P method-is h
+  to-method P h = IsSomeAnd-from P _ _ method-is h
 
   pub code-short : AreRules w → IsMethodOf w (record { number = n; rec = rec; code = code }) → length code ≤ 32767
   code-short is mo =

@@ -2,6 +2,7 @@
 use Rattle.std.proofs.Common.{◌≡◌, ℕ, zero, suc, ◌⊎◌, inl, inr, false, length, replicate, Option, Some, None, IsSomeAnd, refl, sym, ◌∙◌, ap, subst, arith}
 use Rattle.std.proofs.lemmas.List.{length-replicate}
 use Rattle.std.proofs.lemmas.Option.{none-some}
+use Rattle.std.proofs.lemmas.List.Elements.{All-nil}
 use Rattle.jc_base.specs.declared.ty.Ty.TheVariants.{Top}
 use Rattle.jc_base.specs.World.{Linked}
 use Rattle.jc_rules.specs.Demand.{Frame}
@@ -13,7 +14,6 @@ use Rattle.jc_flow.specs.declared.table.PutEnd.{PutEnd}
 use Rattle.jc_flow.specs.declared.table.PutEnd.TheVariants.{Clash, Memory}
 use Rattle.jc_flow.specs.Found.{Found, IsPending, Prevents}
 use Rattle.jc_flow.specs.Progress.{IsHeld, AreHeld, IsClosed, AreClosed}
-use Rattle.jc_flow.proofs.Frames.{all_none}
 use Rattle.jc_flow.specs.Fails.{IsFailure}
 use Rattle.jc_flow.specs.Visit.{Goes, broken_at}
 use Rattle.jc_control.specs.Laws.{InstructionsArePlaced}
@@ -41,8 +41,8 @@ module _ (w : Linked) (m : Method) where
     derived = derived_start;
     place = (placed m formed).first mo.filled;
     room = omega arith;
-    no_top = all_none IsNotTop;
-    ready = λ l. all_none IsNotFresh;
+    no_top = All-nil IsNotTop;
+    ready = λ l. All-nil IsNotFresh;
   }
 
   pub begun-closed : (old new : Found) → old ≡ empty (length m.code) → Goes w m old new → AreClosed w m new

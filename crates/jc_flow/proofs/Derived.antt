@@ -1,18 +1,20 @@
 -- What holds of each derived frame, and that each flow typing is above it.
-use Rattle.std.proofs.Common.{◌≡◌, ℕ, ◌+◌, ◌<◌, ◌||◌, Bool, true, false, if◌then◌else◌, List, [], ◌∷◌, ◌++◌, length, replicate, All, Option, Some, None, IsSomeAnd, MatchBool, refl, sym, ◌∙◌, ap, subst, arith, length-append, length-take}
+use Rattle.std.proofs.Common.{◌≡◌, ℕ, ◌+◌, ◌<◌, Bool, true, false, if◌then◌else◌, [], ◌∷◌, ◌++◌, length, replicate, All, Option, Some, None, IsSomeAnd, refl, ◌∙◌, ap, subst, arith, length-append, length-take}
 use Rattle.std.specs.List.{Contains}
 use Rattle.std.proofs.lemmas.List.{length-replicate}
-use Rattle.std.proofs.lemmas.List.Elements.{All-append}
+use Rattle.std.proofs.lemmas.List.Elements.{All-append, All-contains, All-nil, All-cons, All-replicate}
+use Rattle.std.proofs.lemmas.Bool.{or_parts}
 use Rattle.jc_base.specs.declared.ty.Ty.{Ty}
-use Rattle.jc_base.specs.declared.ty.Ty.TheVariants.{Bottom, Short, IntHigh, IntLow, Null, Class, ArrBool, ArrByte, ArrShort, ArrInt, ArrRef, Fresh, Top}
+use Rattle.jc_base.specs.declared.ty.Ty.TheVariants.{Class, Top}
 use Rattle.jc_base.specs.declared.record.Handler.{Handler}
-use Rattle.jc_base.specs.Class.{ClassTable, IsClass, is_interface}
+use Rattle.jc_base.specs.Class.{IsClass, is_interface}
 use Rattle.jc_base.specs.Cell.{IsDeclared}
 use Rattle.jc_base.specs.Order.{IsKnown}
-use Rattle.jc_base.specs.Linked.{IsMethod, IsHandler, IsCodeLength, list_at, lacks_code, receiver_words}
+use Rattle.jc_base.specs.Linked.{IsMethod, IsHandler, list_at, lacks_code, receiver_words}
 use Rattle.jc_base.specs.World.{Linked}
 use Rattle.jc_rules.specs.FlowLaws.{AreRules}
 use Rattle.jc_base.proofs.Lists.{All-slice_get}
+use Rattle.jc_base.proofs.CodeLengths.{has_code}
 use Rattle.jc_decode.specs.declared.insn.Placed.{Placed}
 use Rattle.jc_rules.specs.declared.effect.Mode.TheVariants.{Flow}
 use Rattle.jc_rules.specs.Demand.{Frame, AreKnown}
@@ -21,13 +23,11 @@ use Rattle.jc_control.specs.WellFormed.{HasInstruction}
 use Rattle.jc_control.specs.Control.{IsReached, begins, follows, caught}
 use Rattle.jc_rules.specs.Flow.{IsFit, FrameBelow, At, Merges, FlowSteps, start_frame, caught_frame, receiver_of, IsNotFresh, IsDerived, derived_start, derived_caught, derived_next, derived_joined, FlowTyping, IsFollowed}
 use Rattle.jc_rules.specs.Laws.{IsNotBottom, Keeps, FallsTo}
+use Rattle.jc_rules.proofs.Types.{declared-not_fresh}
 use Rattle.jc_flow.proofs.Steps.{site_of, at-site}
-use Rattle.jc_flow.proofs.Frames.{all_none, all_more, all_same, frame-trans, join-least, join-length, join-all, full-join}
+use Rattle.jc_flow.proofs.Frames.{frame-trans, join-least, join-length, join-all, full-join}
 
 -- ---- elements
-
-pub all_contained : {X : Type 0} (P : X → Type 0) (xs : List X) (x : X) → All P xs → Contains xs x → P x
-all_contained P xs x all here = subst P here.2 (all here.0 x here.1)
 
 pub some_both : {X : Type 0} (P Q R : X → Type 0) (o : Option X) → ((x : X) → o ≡ Some x → P x → Q x → R x) → IsSomeAnd o P → IsSomeAnd o Q → IsSomeAnd o R
 some_both P Q R None f p q = p
@@ -44,32 +44,6 @@ some_map P Q (Some x) f p = f x p
 pub some_at : {X : Type 0} (P : X → Type 0) {o : Option X} {x : X} → o ≡ Some x → IsSomeAnd o P → P x
 some_at P {o} {x} e h = subst (λ r. IsSomeAnd r P) e h
 
-pub at_some : {X : Type 0} (P : X → Type 0) {o : Option X} {x : X} → o ≡ Some x → P x → IsSomeAnd o P
-at_some P {o} {x} e h = subst (λ r. IsSomeAnd r P) (sym e) h
-
-pub declared-ready : (t : ClassTable) (ty : Ty) → IsDeclared t ty → IsNotFresh ty
-declared-ready t Bottom h = tt
-declared-ready t Short h = tt
-declared-ready t IntHigh h = tt
-declared-ready t IntLow h = tt
-declared-ready t Null h = tt
-declared-ready t (Class c) h = tt
-declared-ready t ArrBool h = tt
-declared-ready t ArrByte h = tt
-declared-ready t ArrShort h = tt
-declared-ready t ArrInt h = tt
-declared-ready t (ArrRef c) h = tt
-declared-ready t (Fresh p c) h = h
-declared-ready t Top h = tt
-
-right_of_or : (a b : Bool) → (a || b) ≡ false → b ≡ false
-right_of_or true b e = absurd (cc)
-right_of_or false b e = e
-
-has_code : (b : Bool) (n : ℕ) → MatchBool b (n ≡ 0) (IsCodeLength n) → 0 < n → b ≡ false
-has_code true n h lt = absurd (omega arith)
-has_code false n h lt = refl
-
 module _ (w : Linked) (is : AreRules w) (m : Method) (mo : IsMethodOf w m) where
   -- ---- the method
 
@@ -77,7 +51,7 @@ module _ (w : Linked) (is : AreRules w) (m : Method) (mo : IsMethodOf w m) where
   of_world = All-slice_get (IsMethod w.infos w.pools w.classes) w.methods m.number m.rec is.world.methods mo.rec
 
   pub handler_of : (h : Handler) → Contains m.rec.handlers h → IsHandler w.classes (list_at w.pools m.rec.package) m.rec.code_len h
-  handler_of h c = all_contained (IsHandler w.classes (list_at w.pools m.rec.package) m.rec.code_len) m.rec.handlers h of_world.handlers c
+  handler_of h c = All-contains (IsHandler w.classes (list_at w.pools m.rec.package) m.rec.code_len) m.rec.handlers h of_world.handlers c
 
   own_class : IsClass w.classes m.rec.class
   own_class =
@@ -85,7 +59,7 @@ module _ (w : Linked) (is : AreRules w) (m : Method) (mo : IsMethodOf w m) where
       let filled : 0 < m.rec.code_len = omega (arith, mo.filled) in
       record {
         number = of_world.class;
-        class = right_of_or m.rec.is_abstract (is_interface w.classes m.rec.class) (has_code (lacks_code w.classes m.rec) m.rec.code_len of_world.code filled);
+        class = (or_parts m.rec.is_abstract (is_interface w.classes m.rec.class) (has_code (lacks_code w.classes m.rec) m.rec.code_len of_world.code filled)).1;
       }
 
   -- ---- the frame of a derived state
@@ -98,14 +72,14 @@ module _ (w : Linked) (is : AreRules w) (m : Method) (mo : IsMethodOf w m) where
 
   module _ (P : Ty → Type 0) (class : P (Class m.rec.class)) (declared : (ty : Ty) → IsDeclared w.classes ty → P ty) (top : P Top) where
     receiver-all : (b : Bool) → All P (if b then [] else Class m.rec.class ∷ [])
-    receiver-all true = all_none P
-    receiver-all false = all_more P (Class m.rec.class) [] class (all_none P)
+    receiver-all true = All-nil P
+    receiver-all false = All-cons P (Class m.rec.class) [] class (All-nil P)
 
     start-all : All P (start_frame m.rec Top).regs
     start-all =
         All-append P (receiver_of m.rec ++ m.rec.sig.args) (replicate m.rec.max_locals Top)
         (All-append P (receiver_of m.rec) m.rec.sig.args (receiver-all m.rec.is_static) (λ k d lt. declared _ (of_world.arguments k d lt)))
-        (all_same P m.rec.max_locals Top top)
+        (All-replicate P m.rec.max_locals Top top)
 
   receiver-length : (b : Bool) → length (if b then [] else Class m.rec.class ∷ []) ≡ receiver_words b
   receiver-length true = refl
@@ -121,12 +95,12 @@ module _ (w : Linked) (is : AreRules w) (m : Method) (mo : IsMethodOf w m) where
     known = record {
       few = omega (arith, start-length, of_world.registers);
       regs = start-all (IsKnown w.classes) own_class is.declared tt;
-      stack = all_none (IsKnown w.classes);
+      stack = All-nil (IsKnown w.classes);
       object = is.world.chains.objects;
     };
     count = start-length;
-    no_fresh = start-all IsNotFresh tt (declared-ready w.classes) tt;
-    no_bottom = all_none IsNotBottom;
+    no_fresh = start-all IsNotFresh tt (declared-not_fresh w.classes) tt;
+    no_bottom = All-nil IsNotBottom;
   }
 
   pub caught-fine : (h : Handler) (f : Frame) → Contains m.rec.handlers h → IsFine f → IsFine (caught_frame h f)
@@ -134,12 +108,12 @@ module _ (w : Linked) (is : AreRules w) (m : Method) (mo : IsMethodOf w m) where
     known = record {
       few = fine.known.few;
       regs = fine.known.regs;
-      stack = all_more (IsKnown w.classes) (Class h.class) [] (handler_of h c).class (all_none (IsKnown w.classes));
+      stack = All-cons (IsKnown w.classes) (Class h.class) [] (handler_of h c).class (All-nil (IsKnown w.classes));
       object = fine.known.object;
     };
     count = fine.count;
     no_fresh = fine.no_fresh;
-    no_bottom = all_more IsNotBottom (Class h.class) [] tt (all_none IsNotBottom);
+    no_bottom = All-cons IsNotBottom (Class h.class) [] tt (All-nil IsNotBottom);
   }
 
   pub step-keeps : (i : Placed) (f g : Frame) → IsFine f → FlowSteps w m i f g → Keeps w f g

@@ -1,5 +1,6 @@
 -- Frames are ordered cell by cell, and joined cell by cell.
-use Rattle.std.proofs.Common.{◌≡◌, ℕ, zero, suc, true, List, [], ◌∷◌, length, replicate, All, sym, arith}
+use Rattle.std.proofs.Common.{◌≡◌, ℕ, true, List, length, All, sym}
+use Rattle.std.proofs.lemmas.List.Elements.{All-nil, All-cons, All-head, All-tail}
 use Rattle.jc_base.specs.declared.ty.Ty.{Ty}
 use Rattle.jc_base.specs.declared.ty.Ty.TheVariants.{Bottom, Short, IntHigh, IntLow, Null, Class, ArrBool, ArrByte, ArrShort, ArrInt, ArrRef, Fresh, Top}
 use Rattle.jc_base.specs.Class.{ClassTable}
@@ -9,26 +10,6 @@ use Rattle.jc_rules.specs.Demand.{Frame}
 use Rattle.jc_rules.specs.Flow.{CellsBelow, no_cells, more_cells, FrameBelow, CellsJoin, none_joined, more_joined, IsNotFresh, IsNotTop}
 use Rattle.jc_rules.specs.Laws.{IsNotBottom}
 use Rattle.jc_rules.specs.FlowLaws.{IsOrderOfCells}
-
--- ---- all cells of a list
-
-module _ {X : Type 0} (P : X → Type 0) where
-  pub all_none : All P []
-  all_none k d lt = absurd (omega arith)
-
-  pub all_more : (x : X) (xs : List X) → P x → All P xs → All P (x ∷ xs)
-  all_more x xs p all zero d lt = p
-  all_more x xs p all (suc k) d lt = all k d (omega arith)
-
-  pub all_first : (x : X) (xs : List X) → All P (x ∷ xs) → P x
-  all_first x xs all = all 0 x (omega arith)
-
-  pub all_rest : (x : X) (xs : List X) → All P (x ∷ xs) → All P xs
-  all_rest x xs all k d lt = all (suc k) d (omega arith)
-
-  pub all_same : (n : ℕ) (x : X) → P x → All P (replicate n x)
-  all_same zero x p = all_none
-  all_same (suc n) x p = all_more x (replicate n x) p (all_same n x p)
 
 -- neither an uninitialised object nor Top
 abbrev pub IsReady : Ty → Type 0
@@ -46,8 +27,8 @@ module _ (t : ClassTable) where
   -- what holds of what is below something of which it holds
   module _ (P Q : Ty → Type 0) (falls : (a b : Ty) → Below t a b → Q b → P a) where
     pub cells-fall : {xs ys : List Ty} → CellsBelow t xs ys → All Q ys → All P xs
-    cells-fall no_cells all = all_none P
-    cells-fall (more_cells {a} {b} {xs} {ys} h p) all = all_more P a xs (falls a b h (all_first Q b ys all)) (cells-fall p (all_rest Q b ys all))
+    cells-fall no_cells all = All-nil P
+    cells-fall (more_cells {a} {b} {xs} {ys} h p) all = All-cons P a xs (falls a b h (All-head Q b ys all)) (cells-fall p (All-tail Q b ys all))
 
   -- ---- the join
 
@@ -71,7 +52,7 @@ module _ (t : ClassTable) where
     pub join-all : {xs ys js : List Ty} → CellsJoin t xs ys js → All P xs → All P ys → All P js
     join-all none_joined p q = p
     join-all (more_joined {a} {b} {j} {xs} {ys} {js} h rest) p q =
-        all_more P j js (joins a b j (all_first P a xs p) (all_first P b ys q) h) (join-all rest (all_rest P a xs p) (all_rest P b ys q))
+        All-cons P j js (joins a b j (All-head P a xs p) (All-head P b ys q) h) (join-all rest (All-tail P a xs p) (All-tail P b ys q))
 
   module _ (are : IsOrderOfTypes t) where
     -- ---- Bottom, Top and uninitialised objects

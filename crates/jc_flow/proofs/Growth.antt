@@ -4,6 +4,7 @@ use Rattle.std.proofs.lemmas.List.{length-set, get_or-set_same, get_or-set_other
 use Rattle.std.proofs.lemmas.List.Sums.{sum_by-set}
 use Rattle.jc_base.specs.Class.{ClassTable}
 use Rattle.jc_base.specs.World.{Linked}
+use Rattle.jc_base.proofs.Lists.{IsSomeAnd-from}
 use Rattle.jc_rules.specs.Demand.{Frame}
 use Rattle.jc_control.specs.Method.{Method}
 use Rattle.jc_rules.specs.Flow.{FrameBelow, At, Merges, derived_joined, IsNotFresh, caught_frame}
@@ -13,7 +14,7 @@ use Rattle.jc_flow.specs.Found.{Found, IsPending, with_state, taken, Lands, come
 use Rattle.jc_flow.specs.Progress.{IsHeld, AreHeld, IsClosed, AreClosed, rises_there, one_if, work, Grown}
 use Rattle.jc_flow.proofs.Frames.{frame-same, frame-trans, join-left, join-right, join-length, join-all}
 use Rattle.jc_flow.proofs.Landing.{state_at-read}
-use Rattle.jc_flow.proofs.Derived.{some_to, some_map, at_some}
+use Rattle.jc_flow.proofs.Derived.{some_to, some_map}
 
 pub same_or_not : (p q : ℕ) → (q ≡ p) ⊎ (q ≢ p)
 same_or_not zero zero = inl refl
@@ -67,7 +68,7 @@ pending-left found p q n h = get_or-set_other found.pending p q false false n �
 module _ (t : ClassTable) (order : IsOrderOfCells t) (most : ℕ) where
   pub grown-same : (found : Found) → Grown t most found found
   grown-same found = record {
-    above = λ p f e. at_some (FrameBelow t f) e (frame-same t order f);
+    above = λ p f e. IsSomeAnd-from (FrameBelow t f) _ _ e (frame-same t order f);
     stays = λ p. inl refl;
     keeps = λ p h. h;
     less = omega arith;
@@ -110,8 +111,8 @@ module _ (t : ClassTable) (order : IsOrderOfCells t) (most : ℕ) where
     pub set-grown : (o : Option Frame) → state_at old.states place ≡ o → rises_of t j < rises_there t most o → ((g : Frame) → o ≡ Some g → FrameBelow t g j) → Grown t most old (with_state old place j)
     set-grown o e lt below = record {
       above = λ p f h. elim (same_or_not place p) [
-        | inl here ↦ subst (λ q. At (state_at (with_state old place j).states) q (FrameBelow t f)) (sym here) (at_some (FrameBelow t f) (state_at-here old.states place j inside) (below f (sym e ∙ ap (state_at old.states) (sym here) ∙ h)))
-        | inr n ↦ at_some (FrameBelow t f) (state_at-other old.states place p j n ∙ h) (frame-same t order f)
+        | inl here ↦ subst (λ q. At (state_at (with_state old place j).states) q (FrameBelow t f)) (sym here) (IsSomeAnd-from (FrameBelow t f) _ _ (state_at-here old.states place j inside) (below f (sym e ∙ ap (state_at old.states) (sym here) ∙ h)))
+        | inr n ↦ IsSomeAnd-from (FrameBelow t f) _ _ (state_at-other old.states place p j n ∙ h) (frame-same t order f)
       ];
       stays = λ p. elim (same_or_not place p) [
         | inl here ↦ inr (subst (IsPending (with_state old place j)) (sym here) (pending-here old place j flag))
@@ -136,11 +137,11 @@ module _ (t : ClassTable) (order : IsOrderOfCells t) (most : ℕ) where
 
   pub lands-above : {old new : Found} {place : ℕ} {f : Frame} → place < length old.states → Lands t old place f new → At (state_at new.states) place (FrameBelow t f)
   lands-above {old} {new} {place} {f} inside (comes_first e is) =
-      subst (λ x. At (state_at x.states) place (FrameBelow t f)) (sym is) (at_some (FrameBelow t f) (state_at-here old.states place f inside) (frame-same t order f))
+      subst (λ x. At (state_at x.states) place (FrameBelow t f)) (sym is) (IsSomeAnd-from (FrameBelow t f) _ _ (state_at-here old.states place f inside) (frame-same t order f))
   lands-above {old} {new} {place} {f} inside (stays g e merges is) =
-      subst (λ x. At (state_at x.states) place (FrameBelow t f)) (sym is) (at_some (FrameBelow t f) e (record { regs = join-right t merges.regs; stack = join-right t merges.stack }))
+      subst (λ x. At (state_at x.states) place (FrameBelow t f)) (sym is) (IsSomeAnd-from (FrameBelow t f) _ _ e (record { regs = join-right t merges.regs; stack = join-right t merges.stack }))
   lands-above {old} {new} {place} {f} inside (rises g j e merges lt is) =
-      subst (λ x. At (state_at x.states) place (FrameBelow t f)) (sym is) (at_some (FrameBelow t f) (state_at-here old.states place j inside) (record { regs = join-right t merges.regs; stack = join-right t merges.stack }))
+      subst (λ x. At (state_at x.states) place (FrameBelow t f)) (sym is) (IsSomeAnd-from (FrameBelow t f) _ _ (state_at-here old.states place j inside) (record { regs = join-right t merges.regs; stack = join-right t merges.stack }))
 
   -- ---- a place is taken
 

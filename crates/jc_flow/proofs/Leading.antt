@@ -3,6 +3,7 @@ use Rattle.std.proofs.Common.{◌≡◌, ℕ, ◌+◌, ◌<◌, ◌≤◌, inl, 
 use Rattle.std.specs.Prelude.{ℤ, pos, negsuc, ◌≤ℤ◌, ◌<ℤ◌}
 use Rattle.std.specs.List.{Contains}
 use Rattle.std.proofs.lemmas.Int.{ints}
+use Rattle.std.proofs.lemmas.List.Elements.{All-contains, All-nil, All-cons}
 use Rattle.jc_base.specs.declared.ty.Ty.{Ty}
 use Rattle.jc_base.specs.declared.ty.Ty.TheVariants.{Class}
 use Rattle.jc_base.specs.declared.record.Handler.{Handler}
@@ -24,8 +25,7 @@ use Rattle.jc_flow.specs.declared.table.PutEnd.{PutEnd}
 use Rattle.jc_flow.specs.declared.table.PutEnd.TheVariants.{Clash, Memory}
 use Rattle.jc_flow.specs.Found.{Found, Prevents}
 use Rattle.jc_flow.specs.Progress.{IsHeld, AreHeld, most_rises}
-use Rattle.jc_flow.proofs.Frames.{all_none, all_more}
-use Rattle.jc_flow.proofs.Derived.{derived-fine, step-keeps, all_contained, some_to}
+use Rattle.jc_flow.proofs.Derived.{derived-fine, step-keeps, some_to}
 use Rattle.jc_flow.proofs.Growth.{grown-same}
 use Rattle.jc_flow.specs.Fails.{FailsAt, fails_leader, fails_merge, fails_caught, fails_handler, IsFailure}
 use Rattle.jc_flow.specs.Visit.{HasStepped, Goes, broken_at}
@@ -81,7 +81,7 @@ module _ (w : Linked) (is : AreRules w) (m : Method) (mo : IsMethodOf w m) (form
   next-held on ready = step-held (p + insn.len) (falls_through on) (inside-code m.code (is.placed m formed).next (record { place = p; insn = insn }) stands (st.stays on)) ready
 
   pub target-there : (t : ℤ) → Contains (targets m.code (record { place = p; insn = insn })) t → IsTargetPlace m.code t
-  target-there t c = all_contained (IsTargetPlace m.code) (targets m.code (record { place = p; insn = insn })) t (formed.targets (record { place = p; insn = insn }) stands) c
+  target-there t c = All-contains (IsTargetPlace m.code) (targets m.code (record { place = p; insn = insn })) t (formed.targets (record { place = p; insn = insn }) stands) c
 
   pub target-held : (q : ℕ) → Contains (targets m.code (record { place = p; insn = insn })) (pos q) → IsHeld w m q g
   target-held q c = step-held q (jumped c) (target-there (pos q) c) (λ l. st.ready (targets-jump m.code (record { place = p; insn = insn }) (pos q) c))
@@ -92,10 +92,10 @@ module _ (w : Linked) (is : AreRules w) (m : Method) (mo : IsMethodOf w m) (form
   pub caught-held : (h : Handler) → Contains m.rec.handlers h → Covers h p → ¬ (m.rec.max_stack ≡ 0) → IsHeld w m h.entry (caught_frame h f)
   caught-held h c cov n = record {
     derived = derived_caught here.derived c cov;
-    place = (all_contained (IsHandlerOf m.code) m.rec.handlers h formed.handlers c).entry;
+    place = (All-contains (IsHandlerOf m.code) m.rec.handlers h formed.handlers c).entry;
     room = omega (arith, n);
-    no_top = all_more IsNotTop (Class h.class) [] tt (all_none IsNotTop);
-    ready = λ l. all_more IsNotFresh (Class h.class) [] tt (all_none IsNotFresh);
+    no_top = All-cons IsNotTop (Class h.class) [] tt (All-nil IsNotTop);
+    ready = λ l. All-cons IsNotFresh (Class h.class) [] tt (All-nil IsNotFresh);
   }
 
   -- ---- where it fails

@@ -1,5 +1,6 @@
 -- What the instruction at the place of a frame does.
-use Rattle.std.proofs.Common.{◌≡◌, ℕ, ◌+◌, ◌≤◌, List, length, reverse, All, IsTrue, Option, Some, Result, Ok, Err, refl, sym, ◌∙◌, ap, subst}
+use Rattle.std.proofs.Common.{◌≡◌, ℕ, ◌+◌, ◌≤◌, List, length, reverse, All, IsTrue, Result, Ok, Err, refl, sym, ◌∙◌, ap, subst}
+use Rattle.std.proofs.lemmas.Option.{same_Some}
 use Rattle.jc_base.specs.declared.ty.Ty.{Ty}
 use Rattle.jc_base.specs.World.{Linked}
 use Rattle.jc_decode.specs.declared.insn.Insn.{Insn}
@@ -36,21 +37,18 @@ all-to_slice P slice stack e all = All-turned P slice (subst (All P) (sym e) all
 abbrev pub site_of : Method → ℕ → Site
 site_of m place = record { method = m.number; place = place }
 
-some-same : {X : Type 0} {a b : X} {o : Option X} → o ≡ Some a → o ≡ Some b → a ≡ b
-some-same e f = cc
-
 module _ (w : Linked) (m : Method) (mo : IsMethodOf w m) where
   pub at-site : {p : ℕ} {i : Insn} {f g : Frame} {o : Outcome} → RuleApplies w m.rec p i Flow f g o → Applies w (site_of m p) i Flow f g o
   at-site a = record { method = m.rec; is_method = mo.rec; rule = a }
 
   pub of-site : {p : ℕ} {i : Insn} {f g : Frame} {o : Outcome} → Applies w (site_of m p) i Flow f g o → RuleApplies w m.rec p i Flow f g o
-  of-site {p} {i} {f} {g} {o} a = subst (λ r. RuleApplies w r p i Flow f g o) (some-same a.is_method mo.rec) a.rule
+  of-site {p} {i} {f} {g} {o} a = subst (λ r. RuleApplies w r p i Flow f g o) (same_Some _ _ (sym a.is_method ∙ mo.rec)) a.rule
 
   pub refuses-at-site : {p : ℕ} {i : Insn} {f : Frame} {fault : RuleFault} → RuleRefuses w m.rec p i f fault → Refuses w (site_of m p) i f fault
   refuses-at-site r = record { method = m.rec; is_method = mo.rec; rule = r }
 
   pub refuses-of-site : {p : ℕ} {i : Insn} {f : Frame} {fault : RuleFault} → Refuses w (site_of m p) i f fault → RuleRefuses w m.rec p i f fault
-  refuses-of-site {p} {i} {f} {fault} r = subst (λ rec. RuleRefuses w rec p i f fault) (some-same r.is_method mo.rec) r.rule
+  refuses-of-site {p} {i} {f} {fault} r = subst (λ rec. RuleRefuses w rec p i f fault) (same_Some _ _ (sym r.is_method ∙ mo.rec)) r.rule
 
 module _ (code : List ℕ) (listed : AreListed code) (p : ℕ) (here : IsPlace code p) where
   pub decoded-here : decoded code p ≡ Ok here.0.insn

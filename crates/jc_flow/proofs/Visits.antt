@@ -2,7 +2,7 @@
 use Rattle.std.proofs.Common.{◌≡◌, ℕ, ◌+◌, ◌<◌, ◌≤◌, List, length, get_or, take, All, IsTrue, Option, Some, sym, ◌∙◌, ap, subst, arith}
 use Rattle.std.specs.Prelude.{ℤ, pos, negsuc, Contains}
 use Rattle.std.proofs.lemmas.List.{take_all}
-use Rattle.std.proofs.lemmas.List.Elements.{All-more}
+use Rattle.std.proofs.lemmas.List.Elements.{All-more, All-contains}
 use Rattle.jc_base.specs.declared.record.Handler.{Handler}
 use Rattle.jc_base.specs.World.{Linked}
 use Rattle.jc_rules.specs.FlowLaws.{AreRules, IsOrderOfCells}
@@ -17,7 +17,7 @@ use Rattle.jc_rules.specs.Flow.{At, FrameBelow, IsFollowed, caught_frame}
 use Rattle.jc_rules.specs.Typing.{state_at}
 use Rattle.jc_flow.specs.Found.{Found}
 use Rattle.jc_flow.specs.Progress.{IsHeld, IsClosed, most_rises}
-use Rattle.jc_flow.proofs.Derived.{derived-fine, all_contained}
+use Rattle.jc_flow.proofs.Derived.{derived-fine}
 use Rattle.jc_flow.proofs.Growth.{grown-trans, at-grown}
 use Rattle.jc_flow.specs.declared.edges.Step.{Step}
 use Rattle.jc_flow.specs.Scratch.{Scratched, SuitsMethod}
@@ -101,14 +101,14 @@ module _ (w : Linked) (m : Method) (s : Step) (is : IsStep w m s) (h : Handler) 
 module _ (w : Linked) (is : AreRules w) (m : Method) (t0 t1 t2 t3 : Found) (p : ℕ) (f g : Frame) (insn : Insn) (here : IsHeld w m p f) (stepped : HasStepped w m p f g insn) (g1 : Goes w m t0 t1) (g2 : Goes w m t1 t2) (g3 : Goes w m t2 t3) (caught : All (IsCaught w p f t1) m.rec.handlers) (on : IsTrue (falls insn.op) → At (state_at t2.states) (p + insn.len) (FrameBelow w.classes g)) (reached : All (IsAtTarget w g t3) (targets m.code (record { place = p; insn = insn }))) where
   to-successor : (q : ℕ) → IsSuccessor m.code (record { place = p; insn = insn }) q → At (state_at t3.states) q (FrameBelow w.classes g)
   to-successor q (falls_through falls_on) = goes-above w is.order m t2 t3 g g3 q (on falls_on)
-  to-successor q (jumped c) = all_contained (IsAtTarget w g t3) (targets m.code (record { place = p; insn = insn })) (pos q) reached c
+  to-successor q (jumped c) = All-contains (IsAtTarget w g t3) (targets m.code (record { place = p; insn = insn })) (pos q) reached c
 
   same-instruction : (i : Placed) → HasInstruction m.code i → i.place ≡ p → record { place = p; insn = insn } ≡ i
   same-instruction i st e = (is.listed m.code).one (record { place = p; insn = insn }) i (stands-here m.code (is.listed m.code) p here.place insn stepped.decodes) st (sym e)
 
   visit-closed : IsClosed w m t3 p f
   visit-closed = record {
-    handlers = λ h c cov. goes-above w is.order m t1 t3 (caught_frame h f) (goes-on w is.order m t1 t2 t3 g2 g3) h.entry (all_contained (IsCaught w p f t1) m.rec.handlers h caught c cov);
+    handlers = λ h c cov. goes-above w is.order m t1 t3 (caught_frame h f) (goes-on w is.order m t1 t2 t3 g2 g3) h.entry (All-contains (IsCaught w p f t1) m.rec.handlers h caught c cov);
     rule = λ i st e. subst (λ j. IsFollowed w m (state_at t3.states) j f) (same-instruction i st e)
         (record { after = g; steps = stepped.steps; below = to-successor; ready = stepped.ready });
     stays = λ i st e. subst (λ j. IsTrue (falls j.insn.op) → j.place + j.insn.len < length m.code) (same-instruction i st e) stepped.stays;

@@ -1,7 +1,7 @@
 -- What is left of each package's lists, once those of some methods are taken.
 use Rattle.std.proofs.Common.{◌≡◌, ℕ, zero, suc, ◌+◌, ◌<◌, Bool, true, false, List, [], ◌∷◌, length, take, drop, get_or, eqb, cond, Option, Some, None, refl, sym, ap, subst, ◌∙◌, arith}
 use Rattle.std.specs.Prelude.{slice_get, slice_set, count_by, ◌==◌, ◌&&◌}
-use Rattle.std.proofs.lemmas.Bool.{eqb-true, false≢true}
+use Rattle.std.proofs.lemmas.Bool.{eqb-true, false≢true, eq-eqb}
 use Rattle.std.proofs.lemmas.List.Sums.{count_by_more_no, count_by_more_yes}
 use Rattle.std.proofs.lemmas.Option.{slice_get_within, get_or_from_slice_get}
 use Rattle.jc_base.specs.declared.record.MethodRec.{MethodRec}
@@ -71,15 +71,12 @@ set-other (ys ∷ yss) zero (suc k) xs ne = refl
 set-other (ys ∷ yss) (suc n) zero xs ne = refl
 set-other (ys ∷ yss) (suc n) (suc k) xs ne = set-other yss n k xs (λ e. ne (ap suc e))
 
-same-number : (n k : ℕ) → n ≡ k → (n == k) ≡ true
-same-number n k e = grind (arith, e)
-
 set-by : (same : Bool) (xss : List (List (List ℕ))) (n k : ℕ) (xs : List (List ℕ)) → n < length xss → (n == k) ≡ same → xs ≡ drop 1 (list_at xss n)
     → list_at (slice_set xss n xs) k ≡ cond (same && true) (drop 1 (list_at xss k)) (list_at xss k)
 set-by true xss n k xs lt e is =
     let at : n ≡ k = eqb-true n k e in
     subst (λ j. list_at (slice_set xss n xs) j ≡ drop 1 (list_at xss j)) at (set-here xss n xs lt ∙ is)
-set-by false xss n k xs lt e is = set-other xss n k xs (λ same. false≢true (sym e ∙ same-number n k same))
+set-by false xss n k xs lt e is = set-other xss n k xs (λ same. false≢true (sym e ∙ eq-eqb n k same))
 
 -- a method with code has taken the first list of its package
 pub taken-with : (xss : List (List (List ℕ))) (m : MethodRec) (xs : List (List ℕ)) (index : Option (List ℕ)) → m.package < length xss → has_code m ≡ true

@@ -1,7 +1,6 @@
 -- What a linked world says of the entries of a constant pool.
 use Rattle.std.proofs.Common.{◌≡◌, ℕ, ◌+◌, ◌-◌, ◌<◌, ◌≤◌, true, false, nat_lt, List, [], ◌∷◌, ◌++◌, length, refl, subst, arith, All, Option, Some, None, IfSome, IsSomeAnd, slice_get, cond, Contains, flat_map, reverse, get_or}
 use Rattle.std.proofs.lemmas.List.Elements.{All-contains, All-append}
-use Rattle.std.proofs.lemmas.Bool.Decides.{nat_tests}
 use Rattle.std.proofs.lemmas.Option.{slice_get_within}
 use Rattle.jc_base.proofs.Lists.{All-slice_get}
 use Rattle.jc_base.specs.declared.record.Member.{Member}
@@ -121,18 +120,3 @@ module _ (w : Linked) (is : IsWorld w) where
   member-known known (Virtual c token) h = (h.0, entry-receives c token)
   member-known known (Super c n) h = (h.0, super-receives c n (parent_of w.classes c) h.1)
   member-known known (StaticCall n) h = h
-
-lt_true : (a b : ℕ) → a < b → nat_lt a b ≡ true
-lt_true a b h = grind (arith, nat_tests)
-
-lt_false : (a b : ℕ) → b ≤ a → nat_lt a b ≡ false
-lt_false a b h = grind (arith, nat_tests)
-
--- an entry of a class's own lists, read from its record
-pub entry-public : (t : ClassTable) (c token : ℕ) (r : ClassRec) → slice_get t.records c ≡ Some r → token < 128 → slice_get r.public token ≡ entry_at t c token
-unfolding entry_at public_of
-entry-public t c token r e lt = rw (lt_true token 128 lt, e) refl
-
-pub entry-visible : (t : ClassTable) (c token : ℕ) (r : ClassRec) → slice_get t.records c ≡ Some r → 128 ≤ token → slice_get r.visible (token - 128) ≡ entry_at t c token
-unfolding entry_at visible_of
-entry-visible t c token r e ge = rw (lt_false token 128 ge, e) refl

@@ -1,7 +1,8 @@
 -- What the operation of an instruction speaks of is in the world.
-use Rattle.std.proofs.Common.{◌≡◌, ℕ, ◌+◌, ◌/◌, ◌%◌, ◌<◌, ◌≤◌, ◌==◌, ◌&&◌, not, ◌||◌, if◌then◌else◌, cond, zero, suc, Bool, true, false, List, [], ◌∷◌, ◌++◌, length, Option, Some, None, IfSome, IsSomeAnd, Result, Ok, Err, IfOk, slice_get, slice_index_or, filter, All, Contains, refl, sym, ◌∙◌, subst, arith}
+use Rattle.std.proofs.Common.{◌≡◌, ℕ, ◌+◌, ◌/◌, ◌%◌, ◌<◌, ◌≤◌, ◌==◌, ◌&&◌, not, if◌then◌else◌, cond, zero, suc, Bool, true, false, List, [], ◌∷◌, ◌++◌, length, Option, Some, None, IfSome, IsSomeAnd, Result, Ok, Err, IfOk, slice_get, slice_index_or, filter, All, Contains, refl, sym, ◌∙◌, subst, arith}
 use Rattle.std.specs.List.{range_with_len}
 use Rattle.std.proofs.lemmas.Bool.Decides.{nat_tests}
+use Rattle.std.proofs.lemmas.Bool.{and_parts, not-true, eqb-true, eqb-false, or_parts}
 use Rattle.jc_base.specs.declared.ty.Ty.{Ty}
 use Rattle.jc_base.specs.declared.ty.Ty.TheVariants.{IntLow, Class, ArrBool, ArrByte, ArrShort, ArrInt, ArrRef}
 use Rattle.jc_base.specs.declared.ty.Kind.{Kind}
@@ -69,35 +70,17 @@ table-fine : all_fine table ≡ true
 unfolding all_fine is_fine needs_nothing table by_sort by_width by_kind first_four by_register literals binary orders_all branching unused
 table-fine = refl
 
-both_true : (a b : Bool) → (a && b) ≡ true → (a ≡ true) × (b ≡ true)
-both_true true b h = (refl, h)
-both_true false b h = absurd (cc)
-
 fine-at : (rs : List Row) (n : ℕ) → all_fine rs ≡ true → is_fine (slice_index_or rs n unused) ≡ true
 unfolding all_fine is_fine needs_nothing unused
 fine-at [] n h = refl
-fine-at (r ∷ rs) zero h = (both_true (is_fine r) (all_fine rs) h).0
-fine-at (r ∷ rs) (suc n) h = fine-at rs n (both_true (is_fine r) (all_fine rs) h).1
+fine-at (r ∷ rs) zero h = (and_parts (is_fine r) (all_fine rs) h).0
+fine-at (r ∷ rs) (suc n) h = fine-at rs n (and_parts (is_fine r) (all_fine rs) h).1
 
 row-fine : (n : ℕ) → is_fine (row_at n) ≡ true
 unfolding row_at
 row-fine n = fine-at table n table-fine
 
 -- ---- tests
-
-not_true : (b : Bool) → not b ≡ true → b ≡ false
-not_true true h = absurd (cc)
-not_true false h = refl
-
-either_false : (a b : Bool) → (a || b) ≡ false → b ≡ false
-either_false true b h = absurd (cc)
-either_false false b h = h
-
-equal-true : (a b : ℕ) → (a == b) ≡ true → a ≡ b
-equal-true a b h = grind (arith, nat_tests)
-
-equal-false : (a b : ℕ) → (a == b) ≡ false → a ≡ b → ⊥
-equal-false a b h e = grind (arith, nat_tests)
 
 taken-sound : {X : Type 0} (P : X → Type 0) (b : Bool) (pool : ℕ) (x : X) → (b ≡ true → P x) → IfOk (taken_if b pool x) P
 taken-sound P true pool x h = h refl
@@ -134,8 +117,8 @@ unfolding described
 described-is methods c token n m h e =
     let p : passes (is_described c token) (slice_get methods n) ≡ true = only-passes (λ n. passes (is_described c token) (slice_get methods n)) (range_with_len 0 (length methods)) n h in
     let q : is_described c token m ≡ true = subst (λ o. passes (is_described c token) o ≡ true) e p in
-    let r = both_true (m.class == c) (m.token == token) q in
-    (equal-true m.class c r.0, equal-true m.token token r.1)
+    let r = and_parts (m.class == c) (m.token == token) q in
+    (eqb-true m.class c r.0, eqb-true m.token token r.1)
 
 module _ (w : Linked) (is : IsWorld w) (decides : ConcreteDecides w.classes w.methods) where
   method-is : (n : ℕ) (m : MethodRec) → slice_get w.methods n ≡ Some m → IsMethod w.infos w.pools w.classes m
@@ -158,7 +141,7 @@ module _ (w : Linked) (is : IsWorld w) (decides : ConcreteDecides w.classes w.me
       taken-sound (IsFieldOf w) (same_kind k kind && not (c == object w.classes)) pool (record { class = c; cell = cell; kind = kind; ty = ty }) (λ b. record {
         cells = h;
         ty = All-slice_get (IsDeclared w.classes) (cells_of w.classes c) cell ty (cells-declared w is c) h.first;
-        not_object = equal-false c (object w.classes) (not_true (c == object w.classes) (both_true (same_kind k kind) (not (c == object w.classes)) b).1);
+        not_object = eqb-false c (object w.classes) (not-true (c == object w.classes) (and_parts (same_kind k kind) (not (c == object w.classes)) b).1);
       })
   field-sound pool k _ h = tt
 
@@ -187,7 +170,7 @@ module _ (w : Linked) (is : IsWorld w) (decides : ConcreteDecides w.classes w.me
           entry = e;
           receiver_is = refl;
           inherited = inherited;
-          body = λ alike. has_body c (object w.classes) m.is_abstract alike (not_true (c == object w.classes && m.is_abstract) b);
+          body = λ alike. has_body c (object w.classes) m.is_abstract alike (not-true (c == object w.classes && m.is_abstract) b);
         };
         known = h;
         room = argument_room w.infos w.pools w.classes m (method-is n m q) inherited.dynamic;
@@ -210,7 +193,7 @@ module _ (w : Linked) (is : IsWorld w) (decides : ConcreteDecides w.classes w.me
         rec = m;
         is_method = q;
         chosen = record {
-          body = not_true (lacks_code w.classes m) b;
+          body = not-true (lacks_code w.classes m) b;
           dynamic = inherited.dynamic;
           receives = (inherited.no_constructor, h, joined (subclass e) inherited.class);
         };
@@ -219,7 +202,7 @@ module _ (w : Linked) (is : IsWorld w) (decides : ConcreteDecides w.classes w.me
       })
 
   own_class : (n : ℕ) (m : MethodRec) → slice_get w.methods n ≡ Some m → lacks_code w.classes m ≡ false → IsClass w.classes m.class
-  own_class n m q body = record { number = (method-is n m q).class; class = either_false m.is_abstract (is_interface w.classes m.class) body }
+  own_class n m q body = record { number = (method-is n m q).class; class = (or_parts m.is_abstract (is_interface w.classes m.class) body).1 }
 
   own-receives : (m : MethodRec) (b : Bool) → m.is_init ≡ b → IsClass w.classes m.class → IsReceiverOf w m (Some (if b then Receiver m.class else Value (Class m.class)))
   own-receives m true e h = (e, refl, h)
@@ -232,9 +215,9 @@ module _ (w : Linked) (is : IsWorld w) (decides : ConcreteDecides w.classes w.me
   own-sound : (pool n : ℕ) → IfOk (special_callee w pool (Some (StaticCall n))) (IsCalleeOf w)
   own-sound pool n =
       callee-by (λ m. not m.is_static && not (lacks_code w.classes m)) pool n (slice_get w.methods n) (λ m. Some (own_receiver m)) choices.Special (λ m q b.
-      let parts = both_true (not m.is_static) (not (lacks_code w.classes m)) b in
-      let dynamic : m.is_static ≡ false = not_true m.is_static parts.0 in
-      let body : lacks_code w.classes m ≡ false = not_true (lacks_code w.classes m) parts.1 in
+      let parts = and_parts (not m.is_static) (not (lacks_code w.classes m)) b in
+      let dynamic : m.is_static ≡ false = not-true m.is_static parts.0 in
+      let body : lacks_code w.classes m ≡ false = not-true (lacks_code w.classes m) parts.1 in
       let class : IsClass w.classes m.class = own_class n m q body in
       record {
         rec = m;
@@ -257,7 +240,7 @@ module _ (w : Linked) (is : IsWorld w) (decides : ConcreteDecides w.classes w.me
       record {
         rec = m;
         is_method = q;
-        chosen = record { body = not_true (lacks_code w.classes m) parts.2; static = parts.0; no_constructor = not_true m.is_init parts.1; receiver_is = refl };
+        chosen = record { body = not-true (lacks_code w.classes m) parts.2; static = parts.0; no_constructor = not-true m.is_init parts.1; receiver_is = refl };
         known = tt;
         room = omega (arith, declared.words, declared.registers);
       })
@@ -274,7 +257,7 @@ module _ (w : Linked) (is : IsWorld w) (decides : ConcreteDecides w.classes w.me
   described-sound pool nargs c token (Some n) few interface e =
       callee-by (λ m. nargs == length m.sig.args + 1) pool n (slice_get w.methods n) (λ m. Some (Value (Class (object w.classes)))) (choices.Interface c token nargs) (λ m q b.
       let names = described-is w.methods c token n m e q in
-      let words : nargs ≡ length m.sig.args + 1 = equal-true nargs (length m.sig.args + 1) b in
+      let words : nargs ≡ length m.sig.args + 1 = eqb-true nargs (length m.sig.args + 1) b in
       record {
         rec = m;
         is_method = q;

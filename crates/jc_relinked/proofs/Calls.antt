@@ -1,7 +1,7 @@
 -- A StaticMethodref of the last package names the method of the same number.
 use Rattle.std.proofs.Common.{◌≡◌, ◌≤◌, ◌<◌, ◌+◌, ◌*◌, ℕ, List, [], ◌∷◌, ◌++◌, length, Bool, true, false, not, Option, Some, None, option_map, option_and_then, slice_index, ◌⊎◌, inl, inr, refl, sym, ap, subst, ◌∙◌, arith}
 use Rattle.std.specs.Prelude.{if◌then◌else◌, nat_lt, ◌==◌}
-use Rattle.std.proofs.lemmas.Bool.{false≢true, and_parts}
+use Rattle.std.proofs.lemmas.Bool.{false≢true, and_parts, eqb-true}
 use Rattle.byteorder.specs.Endian.{big_bytes}
 use Rattle.byteorder.specs.Numbers.{big_number-reads_back}
 use Rattle.cap_desc.specs.DescriptorFormat.{Class, Method}
@@ -70,9 +70,6 @@ homes_after k n (p ∷ ps) le =
 
 -- ---- a method that stands at a place is described there
 
-is_same : (a b : ℕ) → (a == b) ≡ true → a ≡ b
-is_same a b e = grind arith
-
 record StandsIn (k o : ℕ) (m : NumberedMethod) : Type 0 where
   pub placed : m.placed ≡ true
   pub home : m.home ≡ k
@@ -86,7 +83,7 @@ stands_in k o m e = by m.placed refl e
         (if b then Some (record { «package» = m.home; offset = m.record_of.method_offset }) else None) ≡ true → StandsIn k o m
     by true h f =
         let both = and_parts (k == m.home) (o == m.record_of.method_offset) f in
-        record { placed = h; home = sym (is_same k m.home both.0); offset = sym (is_same o m.record_of.method_offset both.1) }
+        record { placed = h; home = sym (eqb-true k m.home both.0); offset = sym (eqb-true o m.record_of.method_offset both.1) }
     by false h f = absurd (false≢true f)
 
 has_front : {X : Type 0} (xs ys : List X) (x : X) → Has xs x → Has (xs ++ ys) x

@@ -1,7 +1,7 @@
 -- In the new world each method has what is laid for it.
 use Rattle.std.proofs.Common.{◌≡◌, ◌≤◌, ◌<◌, ◌+◌, ◌-◌, ℕ, zero, suc, List, [], ◌∷◌, ◌++◌, length, take, drop, map, min, Bool, true, false, Option, Some, None, option_map, slice_get, slice_index, inl, inr, refl, sym, ap, subst, ◌∙◌, arith}
 use Rattle.std.specs.Prelude.{if◌then◌else◌, IsSomeAnd, nat_le, nat_lt, unwrap_or, ◌==◌, ◌&&◌}
-use Rattle.std.proofs.lemmas.Bool.{false≢true, leb-true}
+use Rattle.std.proofs.lemmas.Bool.{false≢true, leb-true, eqb-true, eqb-false}
 use Rattle.std.proofs.lemmas.Option.{slice_get-map}
 use Rattle.cap_bytes.specs.Number.{number_at}
 use Rattle.cap_components.specs.MethodPlaces.{size_by, code_start, code_end}
@@ -151,12 +151,6 @@ class_by_named ps throwable k pool code_at [] n c i e s = absurd cc
 class_by_named ps throwable k pool code_at (h ∷ hs) n c i e s =
     by (h.index == i) refl n e (λ m f. class_by_named ps throwable k pool code_at hs m c i f s)
   where
-    is_same : (a b : ℕ) → (a == b) ≡ true → a ≡ b
-    is_same a b e = grind arith
-
-    not_other : (a b : ℕ) → (a == b) ≡ false → a ≡ b → ⊥
-    not_other a b e f = absurd (grind arith)
-
     by : (b : Bool) → (h.index == i) ≡ b → (m : ℕ) → slice_get (map (handler_named ps throwable k pool code_at) (h ∷ hs)) m ≡ Some c
         → ((m : ℕ) → slice_get (map (handler_named ps throwable k pool code_at) hs) m ≡ Some c
         → class_by (map (handler_named ps throwable k pool code_at) hs) i ≡ caught ps throwable k pool i)
@@ -164,10 +158,10 @@ class_by_named ps throwable k pool code_at (h ∷ hs) n c i e s =
         (map (handler_named ps throwable k pool code_at) hs) i) ≡ caught ps throwable k pool i
     by true f m e more =
         ap (λ b. if b then caught ps throwable k pool h.index else class_by (map (handler_named ps throwable k pool code_at) hs) i)
-        f ∙ ap (caught ps throwable k pool) (is_same h.index i f)
+        f ∙ ap (caught ps throwable k pool) (eqb-true h.index i f)
     by false f zero e more =
         let g : handler_named ps throwable k pool code_at h ≡ c = cc in
-        absurd (not_other h.index i f (ap (λ (x : Handler). x.index) g ∙ s))
+        absurd (eqb-false h.index i f (ap (λ (x : Handler). x.index) g ∙ s))
     by false f (suc m) e more =
         ap (λ b. if b then caught ps throwable k pool h.index else class_by (map (handler_named ps throwable k pool code_at) hs) i)
         f ∙ more m e

@@ -2,7 +2,7 @@
 use Rattle.std.proofs.Common.{◌≡◌, ◌+◌, ℕ, suc, List, [], ◌∷◌, ◌++◌, length, take, drop, map, Bool, true, false, Option, refl, sym, ap, subst, ◌∙◌, arith, length-append, length-take, length-drop}
 use Rattle.std.specs.Prelude.{if◌then◌else◌}
 use Rattle.std.proofs.lemmas.Bool.{false≢true}
-use Rattle.std.proofs.lemmas.List.{map-append, take-append-drop}
+use Rattle.std.proofs.lemmas.List.{map-append, take-append-drop, length-map}
 use Rattle.cap_desc.specs.DescriptorFormat.{Method, Class}
 use Rattle.cap_desc.specs.Members.{methods_of, methods_but}
 use Rattle.cap_package.specs.PackageRecord.{PackageRecord}
@@ -12,7 +12,6 @@ use Rattle.jc_resolve.proofs.Pairwise.{each-split, each-append}
 use Rattle.cap_rewritten.specs.Changes.{Change, laid_but, sources_from, changes_of}
 use Rattle.cap_rewritten.specs.Rewritten.{bare_method, bare_class}
 use Rattle.cap_rewritten.proofs.Lists.{Each}
-use Rattle.cap_rewritten.proofs.Zipped.{length_map}
 
 -- a method of the Descriptor before and after, with the numbers of its class and of itself, its class before and after, and what is
 -- laid for it
@@ -61,7 +60,7 @@ same_bares set c d s = sym (bare_by (set d.class_ref) d.methods) ∙ ap (λ (x :
     ∙ bare_by (set c.class_ref) c.methods
 
 as_many : (ms ns : List Method) → map bare_method ns ≡ map bare_method ms → length ns ≡ length ms
-as_many ms ns e = sym (length_map bare_method ns) ∙ ap length e ∙ length_map bare_method ms
+as_many ms ns e = sym (length-map ns bare_method) ∙ ap length e ∙ length-map ms bare_method
 
 -- the elements that are laid for the methods of the first class
 many_taken : (c : Class) (cs : List Class) (laid : List (Option Laid)) → length laid ≡ length (methods_of (c ∷ cs))

@@ -2,7 +2,7 @@
 use Rattle.std.proofs.Common.{◌≡◌, ◌≤◌, ◌<◌, ◌+◌, ℕ, List, [], ◌∷◌, ◌++◌, length, map, flat_map, Bool, true, false, Option, Some, None, option_map, inl, inr, refl, sym, ap, subst, ◌∙◌, arith}
 use Rattle.std.specs.Prelude.{if◌then◌else◌, ◌==◌, ◌||◌}
 use Rattle.std.specs.List.{list_any, cons_option}
-use Rattle.std.proofs.lemmas.Bool.{false≢true}
+use Rattle.std.proofs.lemmas.Bool.{false≢true, eqb-true}
 use Rattle.cap_class.specs.ClassFormat.{Class, Interface}
 use Rattle.cap_desc.specs.declared.type_item.TypeItem.{TypeItem}
 use Rattle.cap_desc.specs.DescriptorFormat as described
@@ -135,9 +135,6 @@ last_entry parts ps p q laid o s r short e = by (o == 0xFFFF) refl
     is_last : (n : ℕ) → (n == 0xFFFF) ≡ true → n ≡ 0xFFFF
     is_last n e = grind arith
 
-    is_same : (a b : ℕ) → (a == b) ≡ true → a ≡ b
-    is_same a b e = grind arith
-
     low_by : (n at size count end long : ℕ) → n ≡ at → end ≡ at + (size + count) → 1 ≤ size → end ≤ long → long ≤ 65535 → n < 65535
     low_by n at size count end long a b c d e = omega arith
 
@@ -160,7 +157,7 @@ last_entry parts ps p q laid o s r short e = by (o == 0xFFFF) refl
         ∙ is_told (is_method_at (class_methods p) o) (NoMethodAt o) k in
         let d = has_any (λ (c : Change). c.source.method.method_offset == o) cs
         (sym (any_map (λ (m : Method). m.method_offset == o) old_of cs) ∙ there) in
-        let at : offset_of d.0 ≡ o = is_same (offset_of d.0) o d.2 in
+        let at : offset_of d.0 ≡ o = eqb-true (offset_of d.0) o d.2 in
         let is = now_has cs d.0 d.1 (apart parts p q laid (agrees parts p s.agree) r) in
         let ends = ends_inside p q cs d.0 (each_at (IsWritten p q cs) cs d.0 (all_written p q laid r) d.1) d.1 r.long in
         let size = sizes_end q.methods.info d.0.now in

@@ -1,5 +1,6 @@
 -- The same things are at fault with numbers, imports and class references.
 use Rattle.std.proofs.Common.{◌≡◌, ◌+◌, ℕ, suc, List, [], ◌∷◌, ◌++◌, length, map, flat_map, filter_map, Bool, Option, option_to_list, refl, sym, ap, ◌∙◌, arith, length-append}
+use Rattle.std.proofs.lemmas.List.{length-map}
 use Rattle.std.specs.List.{range_with_len, cons_option}
 use Rattle.cap_desc.specs.DescriptorFormat.{Method, Field, Class}
 use Rattle.cap_desc.specs.Members.{methods_of, fields_of}
@@ -20,16 +21,12 @@ use Rattle.jc_rewritten.proofs.Names.{places_same, met_same, named_same}
 
 -- ---- numbers
 
-length_map : {X Y : Type 0} (f : X → Y) (xs : List X) → length (map f xs) ≡ length xs
-length_map f [] = refl
-length_map f (x ∷ xs) = ap suc (length_map f xs)
-
 many_classes : (ps : List PackageRecord) (p q : PackageRecord) (laid : List (Option Laid)) → IsRewritten p laid q
     → length (numbered_classes (and_last ps q)) ≡ length (numbered_classes (and_last ps p))
 many_classes ps p q laid r =
-    sym (length_map place_of_class (numbered_classes (and_last ps q)))
+    sym (length-map (numbered_classes (and_last ps q)) place_of_class)
     ∙ ap length (places_same (now_at (changes p laid q)) ps p q r.classes)
-    ∙ length_map place_of_class (numbered_classes (and_last ps p))
+    ∙ length-map (numbered_classes (and_last ps p)) place_of_class
 
 many_in_class : (k : ℕ) (p : PackageRecord) (n : ℕ) (c : Class) (i : ℕ) (ms : List Method)
     → length (methods_of_class k p n c i ms) ≡ length ms
@@ -66,8 +63,8 @@ many_methods : (ps : List PackageRecord) (p q : PackageRecord) (laid : List (Opt
 many_methods ps p q laid r =
     let a = (alike (names_interface p.classes) p.description.items.classes q.description.items.classes
     r.description.classes).methods in
-    many_methods_after 0 ps p q (sym (length_map bare_method (methods_of q.description.items.classes)) ∙ ap length a
-    ∙ length_map bare_method (methods_of p.description.items.classes))
+    many_methods_after 0 ps p q (sym (length-map (methods_of q.description.items.classes) bare_method) ∙ ap length a
+    ∙ length-map (methods_of p.description.items.classes) bare_method)
 
 -- ---- references
 

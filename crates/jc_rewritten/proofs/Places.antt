@@ -1,7 +1,8 @@
 -- The places of methods: an offset is renewed to that of the method of the same number.
 use Rattle.std.proofs.Common.{◌≡◌, ◌<◌, ◌+◌, ℕ, suc, List, [], ◌∷◌, ◌++◌, length, map, find, Bool, true, false, cond, not, Option, Some, None, ◌⊎◌, inl, inr, refl, sym, ap, subst, ◌∙◌, arith}
 use Rattle.std.specs.Prelude.{if◌then◌else◌, ◌==◌, ◌&&◌}
-use Rattle.std.proofs.lemmas.List.{map-append}
+use Rattle.std.proofs.lemmas.List.{map-append, length-map}
+use Rattle.std.proofs.lemmas.Bool.{eqb-true, eqb-false, ne_eqb}
 use Rattle.cap_desc.specs.DescriptorFormat.{Method, Class}
 use Rattle.cap_desc.specs.Members.{methods_but}
 use Rattle.cap_package.specs.PackageRecord.{PackageRecord, names_interface}
@@ -81,10 +82,6 @@ both_parts (x ∷ xs) (y ∷ ys) us vs l e =
     let r = both_parts xs ys us vs (omega arith) t in
     (rw (h, r.0) refl, r.1)
 
-length_map : {X Y : Type 0} (f : X → Y) (xs : List X) → length (map f xs) ≡ length xs
-length_map f [] = refl
-length_map f (x ∷ xs) = ap suc (length_map f xs)
-
 abbrev tested : (ℕ → Bool) → Method → Bool
 tested test m = test m.method_offset
 
@@ -105,8 +102,8 @@ flags_by now was set c d cs ds false e r s h others =
     sym (ap (λ b. if b then d.methods else map bare_method d.methods) (ap set r ∙ e)) ∙ ap (λ (x : Class). x.methods) s
     ∙ ap (λ b. if b then c.methods else map bare_method c.methods) e in
     let l : length (map (tested now) d.methods) ≡ length (map (tested was) c.methods) =
-    length_map (tested now) d.methods ∙ sym (length_map bare_method d.methods) ∙ ap length same ∙ length_map bare_method c.methods
-    ∙ sym (length_map (tested was) c.methods) in
+    length-map d.methods (tested now) ∙ sym (length-map d.methods bare_method) ∙ ap length same ∙ length-map c.methods bare_method
+    ∙ sym (length-map c.methods (tested was)) in
     let parts = both_parts (map (tested now) d.methods) (map (tested was) c.methods) (map (tested now) (methods_but set ds))
     (map (tested was) (methods_but set cs)) l
     (sym (map-append (tested now) d.methods (methods_but set ds)) ∙ h ∙ map-append (tested was) c.methods (methods_but set cs)) in
@@ -147,17 +144,11 @@ differ_now p q all c d ws hc hd ne same = by (compare (offset_of c) (offset_of d
 equal_if : (a b x y : ℕ) → (a ≡ b → x ≡ y) → ((a ≡ b → ⊥) → x ≡ y → ⊥) → (x == y) ≡ (a == b)
 equal_if a b x y there apart_now = by (a == b) refl (x == y) refl
   where
-    same : (a b : ℕ) → (a == b) ≡ true → a ≡ b
-    same a b e = grind arith
-
-    other : (a b : ℕ) → (a == b) ≡ false → a ≡ b → ⊥
-    other a b e s = absurd (grind arith)
-
     by : (s : Bool) → (a == b) ≡ s → (t : Bool) → (x == y) ≡ t → (x == y) ≡ (a == b)
     by true e true g = g ∙ sym e
     by false e false g = g ∙ sym e
-    by true e false g = absurd (other x y g (there (same a b e)))
-    by false e true g = absurd (apart_now (other a b e) (same x y g))
+    by true e false g = absurd (eqb-false x y g (there (eqb-true a b e)))
+    by false e true g = absurd (apart_now (eqb-false a b e) (eqb-true x y g))
 
 find_has : (cs : List Change) (c : Change) → Has cs c → Distinct offset_of cs → find (stood_at (offset_of c)) cs ≡ Some c
 find_has [] c h d = absurd h
@@ -166,18 +157,8 @@ find_has (x ∷ cs) c (inl s) d =
     ∙ same_number (offset_of c)) ∙ ap Some (sym s)
 find_has (x ∷ cs) c (inr h) d =
     let ne = each_at (λ (y : Change). offset_of y ≡ offset_of x → ⊥) cs c d.0 h in
-    ap (λ b. cond b (Some x) (find (stood_at (offset_of c)) cs)) (not_same (offset_of x) (offset_of c) (λ s. ne (sym s)))
+    ap (λ b. cond b (Some x) (find (stood_at (offset_of c)) cs)) (ne_eqb (offset_of x) (offset_of c) (λ s. ne (sym s)))
     ∙ find_has cs c h d.1
-  where
-    not_same : (a n : ℕ) → (a ≡ n → ⊥) → (a == n) ≡ false
-    not_same a n h = by (a == n) refl
-      where
-        same : (a n : ℕ) → (a == n) ≡ true → a ≡ n
-        same a n e = grind arith
-
-        by : (b : Bool) → (a == n) ≡ b → b ≡ false
-        by true e = absurd (h (same a n e))
-        by false e = refl
 
 pub now_has : (cs : List Change) (c : Change) → Has cs c → Distinct offset_of cs → now_at cs (offset_of c) ≡ c.now.method_offset
 unfolding now_at
@@ -260,7 +241,7 @@ earlier_method ps p q laid k o r lt =
           ∙ flags_alike (λ x. false) (λ x. false) set p.description.items.classes q.description.items.classes r.description.classes
           (map_false (methods_but set q.description.items.classes) (methods_but set p.description.items.classes)
           (ap length (sym (but_same (names_interface q.classes) set q.description.items.classes (to_set p q laid r))
-          ∙ sym (news p q laid r)) ∙ length_map now_of (changes p laid q) ∙ sym (length_map old_of (changes p laid q))
+          ∙ sym (news p q laid r)) ∙ length-map (changes p laid q) now_of ∙ sym (length-map (changes p laid q) old_of)
           ∙ ap length (olds p q laid r)))
           ∙ sym (ap (λ b. flagged (λ x. b && o == x) set p.description.items.classes) no)
           ∙ sym (in_classes k n o p 0 p.description.items.classes);

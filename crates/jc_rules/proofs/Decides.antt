@@ -1,5 +1,6 @@
 -- The rule of an instruction has one outcome: it applies with one result, or it refuses with one fault.
-use Rattle.std.proofs.Common.{◌≡◌, ℕ, ◌≤◌, List, length, Option, Some, Result, Ok, Err, slice_get, slice_set, refl, sym, ◌∙◌, ap, subst, arith}
+use Rattle.std.proofs.Common.{◌≡◌, ℕ, ◌≤◌, List, length, Some, Result, Ok, Err, slice_get, slice_set, refl, sym, ◌∙◌, ap, subst, arith}
+use Rattle.std.proofs.lemmas.Option.{same_Some}
 use Rattle.jc_base.specs.declared.record.MethodRec.{MethodRec}
 use Rattle.jc_base.specs.declared.ty.Ty.{Ty}
 use Rattle.jc_base.specs.Class.{ClassTable}
@@ -33,10 +34,7 @@ breaks-unique t f (here n e) (later h b) = absurd (n h)
 breaks-unique t f (later h b) (here n e) = absurd (n h)
 breaks-unique t f (later h b) (later g c) = breaks-unique t f b c
 
-some-same : {X : Type 0} {a b : X} {o : Option X} → o ≡ Some a → o ≡ Some b → a ≡ b
-some-same e f = cc
-
-ok-same : {op other : Operation} → ◌≡◌ {A = Result Operation RuleFault} (Ok op) (Ok other) → op ≡ other
+pub ok-same : {op other : Operation} → ◌≡◌ {A = Result Operation RuleFault} (Ok op) (Ok other) → op ≡ other
 ok-same e = cc
 
 err-same : {fault other : RuleFault} → ◌≡◌ {A = Result Operation RuleFault} (Err fault) (Err other) → fault ≡ other
@@ -111,7 +109,7 @@ module _ (w : Linked) (are : IsOrderOfTypes w.classes) (decided : OperationsAreD
   -- the rule by the other's method and operation
   same-rule : {f g : Frame} {o p : Outcome} → (a : Applies w site i mode before f o) → (b : Applies w site i mode before g p) → OperationApplies w a.method.max_stack a.rule.operation mode before g p
   same-rule {g = g} {p = p} a b =
-      let method : b.method ≡ a.method = some-same b.is_method a.is_method in
+      let method : b.method ≡ a.method = same_Some _ _ (sym b.is_method ∙ a.is_method) in
       let op : b.rule.operation ≡ a.rule.operation =
       ok-same (decided a.method site.place i (Ok b.rule.operation) (Ok a.rule.operation) (subst (λ m. Resolves w m site.place i (Ok b.rule.operation)) method b.rule.resolves) a.rule.resolves) in
       subst (λ x. OperationApplies w a.method.max_stack x mode before g p) op
@@ -119,7 +117,7 @@ module _ (w : Linked) (are : IsOrderOfTypes w.classes) (decided : OperationsAreD
 
   -- the refusal by the other's method
   same-refusal : {m : MethodRec} {fault : RuleFault} → slice_get w.methods site.method ≡ Some m → (r : Refuses w site i before fault) → RuleRefuses w m site.place i before fault
-  same-refusal {m = m} {fault = fault} e r = subst (λ (x : MethodRec). RuleRefuses w x site.place i before fault) (some-same r.is_method e) r.rule
+  same-refusal {m = m} {fault = fault} e r = subst (λ (x : MethodRec). RuleRefuses w x site.place i before fault) (same_Some _ _ (sym r.is_method ∙ e)) r.rule
 
   rules-refuse : (m : MethodRec) {fault other : RuleFault} → RuleRefuses w m site.place i before fault → RuleRefuses w m site.place i before other → fault ≡ other
   rules-refuse m {fault = fault} {other = other} (unresolved h) (unresolved g) = err-same (decided m site.place i (Err fault) (Err other) h g)

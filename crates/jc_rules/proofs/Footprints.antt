@@ -30,7 +30,7 @@ use Rattle.jc_rules.specs.declared.effect.Mode.{Mode}
 use Rattle.jc_rules.specs.declared.effect.Mode.TheVariants.{Card, Flow}
 use Rattle.jc_rules.specs.Effect.{listed, changed, needed, depth_after, reg, Writes, WritesCells, Stores, rises}
 use Rattle.jc_rules.specs.Demand.{Frame, Meets, Satisfies, SatisfiesAll}
-use Rattle.jc_rules.specs.Rule.{cell, on_stack, replacing, or_null, ready_with, call_effect, args_at, result_at, result_given, wrote, demands, effect}
+use Rattle.jc_rules.specs.Rule.{cell, on_stack, replacing, or_null, ready_with, call_effect, args_at, result_at, result_given, wrote, demands, effect, receiver_wanted}
 use Rattle.jc_rules.specs.Footprint.{cells_asked, registers_asked, registers_read, IsThere, AreThere, Footprint, footprint_of, footprint, cells_taken, cells_given, MetIsThere, AskedIsThere, AgreeOn, OperationReads, written_by, OperationLeaves, FootprintIsOne, OperationNamesNone, LeavesAlike, AlikeLeaveAlike}
 use Rattle.jc_rules.proofs.Effects.{Suits, suits, sound-known, length-changed}
 
@@ -50,6 +50,11 @@ met-there t f (Held x ty) h = read-there f.regs x (Meets t (Value ty)) (slice_ge
 pub met-is-there : (w : Linked) → MetIsThere w
 met-is-there w f [] h = tt
 met-is-there w f (d ∷ ds) h = (met-there w.classes f d h.0, met-is-there w f ds h.1)
+
+-- a receiver is asked of the stack alone
+pub receiver-registers : (n : ℕ) (o : Option Want) → registers_asked (receiver_wanted n o) ≡ 0
+receiver-registers n None = refl
+receiver-registers n (Some want) = refl
 
 registers-least : (regs depth : ℕ) (ds : List Demand) → AreThere regs depth ds → registers_asked ds ≤ regs
 registers-least regs depth [] h = omega arith

@@ -134,9 +134,6 @@ module _ (t : ClassTable) (regs other_regs new_regs stack other_stack new_stack 
   )
 
 -- where one of two types is above the other, it is their join
-pub join-above : (t : ClassTable) (a b : Ty) → Below t b a → IsJoin t a b a
-join-above t a b below = record { left = same; right = below; least = λ u p q. p }
-
 pub join-over : (t : ClassTable) (a b : Ty) → Below t a b → IsJoin t a b b
 join-over t a b below = record { left = below; right = same; least = λ u p q. q }
 

@@ -47,6 +47,7 @@ use Rattle.jc_rules.specs.Whole.{OperationKeepsWhole}
 use Rattle.jc_rules.specs.Flow.{IsNotTop}
 use Rattle.jc_rules.proofs.Falls.{low-up, LowUp, half-up, some-or}
 use Rattle.jc_rules.proofs.Demands.{SatisfiesAll-front, SatisfiesAll-rest, SatisfiesAll-append}
+use Rattle.jc_rules.proofs.Types.{declared-not_top, no-half}
 
 -- ---- lists
 
@@ -62,21 +63,6 @@ whole-append (paired_int g) h = paired_int (whole-append g h)
 whole-append (paired_cell n g) h = paired_cell n (whole-append g h)
 
 -- the same from the bottom
-no-half : (a : Ty) → IsNoHalf a → ¬ (IsHalf a)
-no-half IntHigh n = λ k. n
-no-half IntLow n = λ k. n
-no-half Bottom n = λ k. k
-no-half Short n = λ k. k
-no-half Null n = λ k. k
-no-half (Class c) n = λ k. k
-no-half ArrBool n = λ k. k
-no-half ArrByte n = λ k. k
-no-half ArrShort n = λ k. k
-no-half ArrInt n = λ k. k
-no-half (ArrRef c) n = λ k. k
-no-half (Fresh p c) n = λ k. k
-no-half Top n = λ k. k
-
 half-not : (a : Ty) → ¬ (IsHalf a) → IsNoHalf a
 half-not IntHigh n = n tt
 half-not IntLow n = n tt
@@ -350,22 +336,7 @@ module _ (t : ClassTable) where
   seen-half (ArrRef c) h = λ k. k
   seen-half _ h = absurd h
 
--- a declared type is no Top; a field's first cell is no low half
-declared-topless : (t : ClassTable) (ty : Ty) → IsDeclared t ty → IsNotTop ty
-declared-topless t Top h = absurd h
-declared-topless t Bottom h = tt
-declared-topless t Short h = tt
-declared-topless t IntHigh h = tt
-declared-topless t IntLow h = tt
-declared-topless t Null h = tt
-declared-topless t (Class c) h = tt
-declared-topless t ArrBool h = tt
-declared-topless t ArrByte h = tt
-declared-topless t ArrShort h = tt
-declared-topless t ArrInt h = tt
-declared-topless t (ArrRef c) h = tt
-declared-topless t (Fresh p c) h = tt
-
+-- a field's first cell is no low half
 kind-low : (k : Kind) (ty : Ty) → IsOfKind k ty → ¬ (ty ≡ IntLow)
 kind-low kinds.Ref ty h = λ e. subst IsReference e h
 kind-low kinds.Byte ty h = λ e. absurd (cc)
@@ -571,7 +542,7 @@ module _ (t : ClassTable) (f : Frame) (whole : IsPaired f.stack) where
 -- ---- operations
 
 declared-args : (w : Linked) (m : MethodRec) → IsMethod w.infos w.pools w.classes m → All IsNotTop (reverse m.sig.args)
-declared-args w m is = λ k d lt. declared-topless w.classes _ (All-reverse (IsDeclared w.classes) m.sig.args is.arguments k d lt)
+declared-args w m is = λ k d lt. declared-not_top w.classes _ (All-reverse (IsDeclared w.classes) m.sig.args is.arguments k d lt)
 
 -- the first cell of a result is no low half
 first-no_low : (result : Option Ty) → IfSome result IsFirstCell → IfSome result (λ ty. ¬ (ty ≡ IntLow))
@@ -591,7 +562,7 @@ module _ (w : Linked) (is : IsWorld w) (f : Frame) (whole : IsPaired f.stack) (m
 
   keep-return : (result : Option Ty) → IfSome result (IsResult w.classes) → SatisfiesAll w.classes f (return_demands result) → IsPaired (changed (return_effect result).change f.stack)
   keep-return None h all = whole
-  keep-return (Some ty) h all = value-gone w.classes f whole ty [] (declared-topless w.classes ty h.declared) h.no_low (SatisfiesAll-append w.classes f (value_wanted ty) [] all tt)
+  keep-return (Some ty) h all = value-gone w.classes f whole ty [] (declared-not_top w.classes ty h.declared) h.no_low (SatisfiesAll-append w.classes f (value_wanted ty) [] all tt)
 
   keeps-whole : (op : Operation) → IsSound w m place op → SatisfiesAll w.classes f (demands w op) → IsPaired (changed (effect w op f).change f.stack)
   keeps-whole (ops.Constant c) sound all = keep-constant w.classes f whole c
@@ -607,10 +578,10 @@ module _ (w : Linked) (is : IsWorld w) (f : Frame) (whole : IsPaired f.stack) (m
   keeps-whole (ops.Switch width) sound all = number-gone w.classes f whole width all
   keeps-whole (ops.StaticRead field) sound all = whole-append (whole-given w.classes field.ty (kind-low field.kind field.ty sound.kind)) whole
   keeps-whole (ops.StaticWrite field) sound all =
-      value-gone w.classes f whole field.ty [] (declared-topless w.classes field.ty sound.ty) (kind-low field.kind field.ty sound.kind) (SatisfiesAll-append w.classes f (value_wanted field.ty) [] all tt)
+      value-gone w.classes f whole field.ty [] (declared-not_top w.classes field.ty sound.ty) (kind-low field.kind field.ty sound.kind) (SatisfiesAll-append w.classes f (value_wanted field.ty) [] all tt)
   keeps-whole (ops.FieldRead field h) sound all = keep-read w.classes f whole h field.class field.ty (kind-low field.kind field.ty sound.cells.kind) all
   keeps-whole (ops.FieldWrite field h) sound all =
-      keep-write w.classes f whole h field.class field.ty (declared-topless w.classes field.ty sound.ty) (kind-low field.kind field.ty sound.cells.kind) all
+      keep-write w.classes f whole h field.class field.ty (declared-not_top w.classes field.ty sound.ty) (kind-low field.kind field.ty sound.cells.kind) all
   keeps-whole (ops.Call c) sound all = keep-called c (slice_get w.methods c.method) refl sound all
   keeps-whole (ops.New p c) sound all = whole-append (whole-one w.classes (Fresh p c) (λ k. k)) whole
   keeps-whole (ops.NewArray ty) sound all =

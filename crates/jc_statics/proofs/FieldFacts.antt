@@ -1,7 +1,7 @@
 -- The static fields of packages have their types, and their words too.
-use Rattle.std.proofs.Common.{◌≡◌, ℕ, zero, suc, ◌+◌, ◌*◌, ◌/◌, ◌%◌, ◌≤◌, ◌<◌, Bool, true, false, ◌&&◌, eqb, leb, List, [], ◌∷◌, ◌++◌, length, get_or, map, Option, Some, refl, sym, ap, subst, ◌∙◌, inl, inr, arith, append_assoc, length-append}
+use Rattle.std.proofs.Common.{◌≡◌, ℕ, zero, suc, ◌+◌, ◌*◌, ◌/◌, ◌%◌, ◌≤◌, ◌<◌, true, false, ◌&&◌, eqb, leb, List, [], ◌∷◌, ◌++◌, length, get_or, map, Option, Some, refl, sym, ap, subst, ◌∙◌, inl, inr, arith, append_assoc, length-append}
 use Rattle.std.specs.Prelude.{All, slice_get, option_map}
-use Rattle.std.proofs.lemmas.Bool.{le-leb, eqb-true}
+use Rattle.std.proofs.lemmas.Bool.{le-leb, eqb-true, and_parts}
 use Rattle.std.proofs.lemmas.List.{length-map}
 use Rattle.std.proofs.lemmas.Option.{slice_get-map, slice_get_within, slice_get_cases}
 use Rattle.std.proofs.lemmas.List.Elements.{All-nil, All-cons, All-head, All-tail, All-append, All-map}
@@ -66,10 +66,6 @@ sites_known n arrays (p ∷ qs) home first before e f le known =
 
 -- ---- references
 
-and_first : (a b : Bool) → (a && b) ≡ true → a ≡ true
-and_first true b h = refl
-and_first false b h = absurd cc
-
 reference_type : (n r : ℕ) → kind_of (record { nibble = n; class_ref = r }) ≡ kinds.Ref → is_type n ≡ true → eqb n 1 ≡ false → 6 ≤ n
 unfolding kind_of
 reference_type zero r k typed void = absurd cc
@@ -83,7 +79,7 @@ reference_type (suc (suc (suc (suc (suc (suc n)))))) r k typed void = omega arit
 even_place : (s : Statics) (p : ImagePlace) → 6 ≤ p.ty.nibble → is_in_image s p ≡ true → p.offset % 2 ≡ 0
 even_place s p le h =
     let i : (eqb (p.offset % 2) 0 && leb (p.offset + 2) (2 * s.reference_count)) ≡ true = rw (le-leb 6 p.ty.nibble le) at h in
-    eqb-true _ _ (and_first _ _ i)
+    eqb-true _ _ (and_parts _ _ i).0
 
 at_reference : (n : ℕ) → n % 2 ≡ 0 → n ≡ 2 * (n / 2)
 at_reference n h = omega arith

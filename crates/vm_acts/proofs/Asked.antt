@@ -30,7 +30,7 @@ wanted-call args receiver d h =
     let both = wanted-args (reverse args) (receiver_wanted (length args) receiver) 0 d (omega arith) h in
     wanted-receiver (length args) d receiver (omega (arith, both.0, length-reverse args)) both.1
 
-count-args : (o : Option MethodRec) → length (args_at o) ≡ of_method 0 (λ (m : MethodRec). length m.sig.args) o
+pub count-args : (o : Option MethodRec) → length (args_at o) ≡ of_method 0 (λ (m : MethodRec). length m.sig.args) o
 count-args None = refl
 count-args (Some m) = refl
 

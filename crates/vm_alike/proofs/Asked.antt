@@ -2,7 +2,7 @@
 use Rattle.std.proofs.Common.{◌≡◌, ℕ, suc, ◌+◌, ◌<◌, ◌≤◌, Bool, true, false, if◌then◌else◌, List, [], ◌∷◌, length, map, refl, sym, ap, ◌∙◌, subst, arith}
 use Rattle.std.specs.Prelude.{nat_lt, ◌&&◌, Option, Some, None, option_map, IsSomeAnd, MatchBool, slice_get, unwrap_or}
 use Rattle.std.specs.List.{list_all}
-use Rattle.std.proofs.lemmas.Bool.{false≢true}
+use Rattle.std.proofs.lemmas.Bool.{false≢true, and_parts}
 use Rattle.std.proofs.lemmas.List.{length-map}
 use Rattle.std.proofs.lemmas.Option.{slice_get-map, unwrap_or-slice_get}
 use Rattle.jc_base.specs.declared.ty.Ty.{Ty}
@@ -36,7 +36,7 @@ use Rattle.vm_step.specs.Tests.{fault_before}
 use Rattle.vm_sound.specs.Frames.{least_types, types_in}
 use Rattle.vm_sound.proofs.Cells.{cell-at}
 use Rattle.xf_landed.specs.Laid.{renamed}
-use Rattle.xf_landed.proofs.Renaming.{ready_demand, are_ready, and-first, and-second, all-renamed}
+use Rattle.xf_landed.proofs.Renaming.{ready_demand, are_ready, all-renamed}
 use Rattle.xf_landed.proofs.Operations.{demands-ready}
 use Rattle.vm_alike.specs.Alike.{renamed_cell}
 use Rattle.vm_alike.proofs.Cells.{types-renamed}
@@ -64,8 +64,8 @@ module _ (w : Linked) (world : IsWorld w) where
   tests-hold types [] h = tt
   tests-hold types (d ∷ ds) h = (
     of-true (satisfies w.classes types d) (Satisfies w.classes types d) ((are-decided w.classes order).demand types d)
-        (and-first (satisfies w.classes types d) (list_all (satisfies w.classes types) ds) h),
-    tests-hold types ds (and-second (satisfies w.classes types d) (list_all (satisfies w.classes types) ds) h),
+        (and_parts (satisfies w.classes types d) (list_all (satisfies w.classes types) ds) h).0,
+    tests-hold types ds (and_parts (satisfies w.classes types d) (list_all (satisfies w.classes types) ds) h).1,
   )
 
   pub passed-asks :
@@ -87,21 +87,21 @@ stack-renamed :
     → SatisfiesAll t (record { regs = regs; stack = stack }) ds → SatisfiesAll t (record { regs = regs; stack = map (renamed f) stack }) ds
 stack-renamed f t regs stack [] r h = tt
 stack-renamed f t regs stack (Registers x n ∷ ds) r h =
-    (h.0, stack-renamed f t regs stack ds (and-second (ready_demand (Registers x n)) (are_ready ds) r) h.1)
+    (h.0, stack-renamed f t regs stack ds (and_parts (ready_demand (Registers x n)) (are_ready ds) r).1 h.1)
 stack-renamed f t regs stack (Held x ty ∷ ds) r h =
-    (h.0, stack-renamed f t regs stack ds (and-second (ready_demand (Held x ty)) (are_ready ds) r) h.1)
+    (h.0, stack-renamed f t regs stack ds (and_parts (ready_demand (Held x ty)) (are_ready ds) r).1 h.1)
 stack-renamed f t regs stack (Depth n ∷ ds) r h = (
   (all-renamed f t (record { regs = regs; stack = stack }) (Depth n ∷ []) refl (h.0, tt)).0,
-  stack-renamed f t regs stack ds (and-second (ready_demand (Depth n)) (are_ready ds) r) h.1,
+  stack-renamed f t regs stack ds (and_parts (ready_demand (Depth n)) (are_ready ds) r).1 h.1,
 )
 stack-renamed f t regs stack (Cut n ∷ ds) r h = (
   (all-renamed f t (record { regs = regs; stack = stack }) (Cut n ∷ []) refl (h.0, tt)).0,
-  stack-renamed f t regs stack ds (and-second (ready_demand (Cut n)) (are_ready ds) r) h.1,
+  stack-renamed f t regs stack ds (and_parts (ready_demand (Cut n)) (are_ready ds) r).1 h.1,
 )
 stack-renamed f t regs stack (ACell n want ∷ ds) r h =
-    let own : ready_demand (ACell n want) ≡ true = and-first (ready_demand (ACell n want)) (are_ready ds) r in (
+    let own : ready_demand (ACell n want) ≡ true = (and_parts (ready_demand (ACell n want)) (are_ready ds) r).0 in (
       (all-renamed f t (record { regs = regs; stack = stack }) (ACell n want ∷ []) (ap (λ b. b && true) own) (h.0, tt)).0,
-      stack-renamed f t regs stack ds (and-second (ready_demand (ACell n want)) (are_ready ds) r) h.1,
+      stack-renamed f t regs stack ds (and_parts (ready_demand (ACell n want)) (are_ready ds) r).1 h.1,
     )
 
 -- ---- other registers

@@ -22,6 +22,7 @@ use Rattle.jc_rules.specs.declared.demand.Demand.{Demand}
 use Rattle.jc_rules.specs.Demand.{Frame as Types, Meets, SatisfiesAll}
 use Rattle.jc_rules.specs.Flow.{IsNotFresh, IsNotTop}
 use Rattle.jc_rules.specs.Rule.{cells_wanted, receiver_wanted, call_demands, return_demands}
+use Rattle.jc_rules.proofs.Types.{declared-not_fresh, declared-not_top}
 use Rattle.vm_store.specs.declared.cell.Cell.{Cell}
 use Rattle.vm_store.specs.declared.cell.Cell.TheVariants as cells
 use Rattle.vm_store.specs.declared.kind.ObjectKind.{ObjectKind}
@@ -38,7 +39,6 @@ use Rattle.vm_step.specs.Calls.{class_of, served, made_at, readied, with_ready, 
 use Rattle.vm_step.specs.Numbers.{handle_at}
 use Rattle.vm_sound.specs.Frames.{least_types}
 use Rattle.vm_sound.proofs.Cells.{cell-at}
-use Rattle.vm_sound.proofs.Fields.{declared-kept, declared-topless}
 use Rattle.vm_sound.proofs.Ready.{not-over-top}
 use Rattle.xf_landed.specs.Laid.{renamed}
 use Rattle.vm_alike.specs.Alike.{ArePlain, IsOneToOne, KeepsPlain, renamed_cell}
@@ -97,7 +97,7 @@ module _ (x : Pair) (t : ClassTable) (are : AreClasses t) where
 
   pub declared-stays :
       (n : ℕ) (ty : Ty) → IsDeclared t ty → IsSomeAnd (slice_get stack_types n) (Meets t (Value ty)) → CellStays x n
-  declared-stays n ty d h = tested-stays n ty (declared-kept t ty d) (declared-topless t ty d) h
+  declared-stays n ty d h = tested-stays n ty (declared-not_fresh t ty d) (declared-not_top t ty d) h
 
   module _ (regs : List Ty) where
     wanted-stay :
@@ -319,7 +319,7 @@ module _ (x : Pair) (t : ClassTable) (are : AreClasses t) where
 
   declared-plain :
       (n : ℕ) (ty : Ty) → IsDeclared t ty → IsSomeAnd (slice_get stack_types n) (Meets t (Value ty)) → CellIsPlain n
-  declared-plain n ty d h = tested-plain n ty (declared-kept t ty d) (declared-topless t ty d) h
+  declared-plain n ty d h = tested-plain n ty (declared-not_fresh t ty d) (declared-not_top t ty d) h
 
   renamed-keeps : KeepsPlain tagged (renamed_cell x.rename)
   renamed-keeps = record { empty = refl; short = λ n. refl; high = λ n. refl; low = λ n. refl; reference = λ h. refl }

@@ -15,6 +15,7 @@ use Rattle.jc_base.specs.Dispatch.{of_record, own_cells, cells_of}
 use Rattle.jc_base.specs.Linked.{IsLinkedClass, IsStatic}
 use Rattle.jc_base.specs.World.{Linked, IsWorld}
 use Rattle.jc_rules.specs.Flow.{IsNotFresh, IsNotTop}
+use Rattle.jc_rules.proofs.Types.{declared-not_top, declared-not_fresh}
 use Rattle.vm_store.specs.declared.cell.Cell.{Cell}
 use Rattle.vm_store.specs.declared.kind.ObjectKind.{ObjectKind}
 use Rattle.vm_store.specs.declared.kind.ObjectKind.TheVariants.{Instance, Booleans, Bytes, Shorts, Ints, References}
@@ -23,7 +24,6 @@ use Rattle.vm_store.specs.State.{Object, map_object}
 use Rattle.vm_store.specs.Objects.{repeated}
 use Rattle.vm_store.specs.Laws.{CellsHave, IsTypedObject, cell_types}
 use Rattle.vm_sound.specs.State.{field_types, static_types}
-use Rattle.vm_sound.proofs.Fields.{declared-kept, declared-topless}
 use Rattle.vm_alike.specs.Alike.{renamed_cell}
 use Rattle.vm_alike.specs.Laws.{TypedStatesStay}
 
@@ -58,7 +58,7 @@ module _ (w : Linked) (world : IsWorld w) where
       → All IsKept (of_record [] (λ r. r.own) o)
   own-kept-by packages c None linked = All-nil IsKept
   own-kept-by packages c (Some r) linked =
-      All-weaker (IsDeclared w.classes) IsKept (λ ty d. (declared-kept w.classes ty d, declared-topless w.classes ty d)) r.own
+      All-weaker (IsDeclared w.classes) IsKept (λ ty d. (declared-not_fresh w.classes ty d, declared-not_top w.classes ty d)) r.own
       linked.own
 
   own-kept : (c : ℕ) → All IsKept (own_cells w.classes c)
@@ -112,7 +112,7 @@ module _ (w : Linked) (world : IsWorld w) where
   statics-kept (f ∷ fs) all =
       let own = All-head (IsStatic (length w.infos) w.classes w.arrays) f fs all in
       All-append IsKept (field_types f.kind f.ty) (static_types fs)
-      (field-kept f.kind f.ty (declared-kept w.classes f.ty own.ty, declared-topless w.classes f.ty own.ty))
+      (field-kept f.kind f.ty (declared-not_fresh w.classes f.ty own.ty, declared-not_top w.classes f.ty own.ty))
       (statics-kept fs (All-tail (IsStatic (length w.infos) w.classes w.arrays) f fs all))
 
   pub typed-states-stay : TypedStatesStay w

@@ -1,5 +1,5 @@
 -- Loads, stores and increments in two states that are alike, each of its own registers.
-use Rattle.std.proofs.Common.{◌≡◌, ℕ, zero, suc, ◌+◌, ◌<◌, ◌≤◌, ◌⊎◌, inl, inr, List, [], ◌∷◌, length, map, drop, set, refl, sym, ap, ◌∙◌, subst, arith, length-set, true}
+use Rattle.std.proofs.Common.{◌≡◌, ℕ, zero, suc, ◌+◌, ◌<◌, ◌≤◌, ◌⊎◌, inl, inr, List, [], ◌∷◌, length, map, drop, set, sym, ap, ◌∙◌, subst, arith, length-set, true}
 use Rattle.std.specs.Prelude.{ℤ, Some, slice_get}
 use Rattle.std.specs.Int.{w16, w32, int_wrapping_add}
 use Rattle.std.proofs.lemmas.List.{drop-map}
@@ -21,20 +21,9 @@ use Rattle.vm_alike.specs.Alike.{renamed_cell}
 use Rattle.vm_alike.proofs.Cells.{nth-renamed, loaded-stays}
 use Rattle.vm_alike.proofs.Twins.{Pair, one, two, first, second, Kept, Does, goes_both, twins, replaced-does}
 use Rattle.vm_alike.proofs.Storing.{CellStays}
+use Rattle.jc_base.proofs.Lists.{slice_get-set_here, slice_get-set_other}
 
 -- ---- registers that are written
-
-pub get-set-other : {X : Type 0} (xs : List X) (i j : ℕ) (a : X) → (i ≡ j → ⊥) → slice_get (set xs i a) j ≡ slice_get xs j
-get-set-other [] i j a h = refl
-get-set-other (x ∷ xs) zero zero a h = absurd (h refl)
-get-set-other (x ∷ xs) zero (suc j) a h = refl
-get-set-other (x ∷ xs) (suc i) zero a h = refl
-get-set-other (x ∷ xs) (suc i) (suc j) a h = get-set-other xs i j a (λ e. h (ap suc e))
-
-pub get-set-here : {X : Type 0} (xs : List X) (i : ℕ) (a : X) → i < length xs → slice_get (set xs i a) i ≡ Some a
-get-set-here [] i a h = absurd (omega (arith, h))
-get-set-here (x ∷ xs) zero a h = refl
-get-set-here (x ∷ xs) (suc i) a h = get-set-here xs i a (omega (arith, h))
 
 -- the footprint of one register, and of two
 pub record Writes (p : Footprint) (x n : ℕ) : Type 0 where
@@ -49,7 +38,7 @@ outside p x n k w (inr le) j small e = let r = w.register in let s = w.written i
 kept-one : (p : Footprint) (x : ℕ) (registers : List Cell) (c : Cell) → Writes p x 1 → Kept p registers (set registers x c)
 kept-one p x registers c w = record {
   count = length-set registers x c;
-  others = λ k out. get-set-other registers x k c (λ e. outside p x 1 k w out 0 (omega arith) (omega (arith, e)));
+  others = λ k out. slice_get-set_other registers x k c (λ e. outside p x 1 k w out 0 (omega arith) (omega (arith, e)));
 }
 
 kept-two :
@@ -58,8 +47,8 @@ kept-two :
 kept-two p x registers c d w = record {
   count = length-set (set registers x c) (x + 1) d ∙ length-set registers x c;
   others = λ k out.
-      get-set-other (set registers x c) (x + 1) k d (λ e. outside p x 2 k w out 1 (omega arith) e)
-      ∙ get-set-other registers x k c (λ e. outside p x 2 k w out 0 (omega arith) (omega (arith, e)));
+      slice_get-set_other (set registers x c) (x + 1) k d (λ e. outside p x 2 k w out 1 (omega arith) e)
+      ∙ slice_get-set_other registers x k c (λ e. outside p x 2 k w out 0 (omega arith) (omega (arith, e)));
 }
 
 module _ (x : Pair) where
@@ -89,8 +78,8 @@ module _ (x : Pair) where
       let first_place : x.print.register + n ≡ a = omega (arith, u, w, lt) in
       let other_place : x.other_print.register + n ≡ b = omega (arith, v, w, lt) in
       ap (slice_get (set x.registers b c)) other_place
-      ∙ (get-set-here x.registers b c (omega (arith, h))
-      ∙ (sym (get-set-here x.frame.registers a c (omega (arith, g)))
+      ∙ (slice_get-set_here x.registers b c (omega (arith, h))
+      ∙ (sym (slice_get-set_here x.frame.registers a c (omega (arith, g)))
       ∙ ap (slice_get (set x.frame.registers a c)) (sym first_place)))
 
   -- both of two that are written
@@ -98,12 +87,12 @@ module _ (x : Pair) where
       (registers : List Cell) (a : ℕ) (c d : Cell) → a + 2 ≤ length registers → slice_get (set (set registers a c) (a + 1) d) a
       ≡ Some c
   at-first registers a c d h =
-      get-set-other (set registers a c) (a + 1) a d (λ e. omega (arith, e)) ∙ get-set-here registers a c (omega (arith, h))
+      slice_get-set_other (set registers a c) (a + 1) a d (λ e. omega (arith, e)) ∙ slice_get-set_here registers a c (omega (arith, h))
 
   at-second :
       (registers : List Cell) (a : ℕ) (c d : Cell) → a + 2 ≤ length registers
       → slice_get (set (set registers a c) (a + 1) d) (a + 1) ≡ Some d
-  at-second registers a c d h = get-set-here (set registers a c) (a + 1) d (let e = length-set registers a c in omega (arith, h, e))
+  at-second registers a c d h = slice_get-set_here (set registers a c) (a + 1) d (let e = length-set registers a c in omega (arith, h, e))
 
   two-written :
       (a b : ℕ) (c d : Cell) → Ranged a b 2 → (n : ℕ) → n < x.print.written

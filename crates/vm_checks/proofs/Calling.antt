@@ -15,6 +15,7 @@ use Rattle.jc_rules.specs.declared.demand.Demand.TheVariants.{Cell}
 use Rattle.jc_rules.specs.Demand.{satisfies, AreKnownDemands, IsKnownDemand}
 use Rattle.jc_rules.specs.Footprint.{registers_asked, cells_asked}
 use Rattle.jc_rules.specs.Rule.{cells_wanted, receiver_wanted, call_demands}
+use Rattle.jc_rules.proofs.Footprints.{receiver-registers}
 use Rattle.vm_store.specs.Cells.{Cells}
 use Rattle.vm_store.specs.State.{State, top}
 use Rattle.vm_step.specs.declared.ending.Fault.{Fault}
@@ -31,10 +32,6 @@ known-at t (e ∷ ds) (suc n) d h lt = known-at t ds n d h.1 (omega (arith, lt))
 args-registers : (n : ℕ) (tys : List Ty) (ds : List Demand) → registers_asked (cells_wanted n tys ++ ds) ≡ registers_asked ds
 args-registers n [] ds = refl
 args-registers n (ty ∷ tys) ds = args-registers (n + 1) tys ds
-
-receiver-registers : (n : ℕ) (o : Option Want) → registers_asked (receiver_wanted n o) ≡ 0
-receiver-registers n None = refl
-receiver-registers n (Some want) = refl
 
 call-registers : (args : List Ty) (o : Option Want) → registers_asked (call_demands args o) ≡ 0
 call-registers args o = args-registers 0 (reverse args) (receiver_wanted (length args) o) ∙ receiver-registers (length args) o
@@ -83,14 +80,6 @@ module _ {A : Type 0} (k : Cells A) (w : Linked) (args : List Ty) (o : Option Wa
   one-unmet le h = rw (no-registers, enough le, h) refl
 
 -- ---- as tests
-
-pub all-both : {A : Type 0} (p : A → Bool) (xs ys : List A) → list_all p (xs ++ ys) ≡ (list_all p xs && list_all p ys)
-all-both p [] ys = refl
-all-both p (x ∷ xs) ys = by (p x) (all-both p xs ys)
-  where
-    by : (b : Bool) → list_all p (xs ++ ys) ≡ (list_all p xs && list_all p ys) → (b && list_all p (xs ++ ys)) ≡ ((b && list_all p xs) && list_all p ys)
-    by true e = e
-    by false e = refl
 
 -- the n-th argument from the last one on is wanted first
 pub next-argument : (p : Demand → Bool) (args : List Ty) (n : ℕ) (d : Ty) → n < length args

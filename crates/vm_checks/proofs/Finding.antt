@@ -1,6 +1,6 @@
 -- Where the tests before an operation pass, what it speaks of is there.
 use Rattle.std.proofs.Common.{◌≡◌, ℕ, inr, Bool, true, false, List, [], ◌∷◌, ◌++◌, length, refl, ap, subst}
-use Rattle.std.specs.Prelude.{Option, Some, None, ◌==◌, MatchBool, IsSome, reverse, slice_get, ⊤}
+use Rattle.std.specs.Prelude.{Some, ◌==◌, MatchBool, IsSome, reverse, slice_get, ⊤}
 use Rattle.jc_base.specs.declared.ty.Ty.{Ty}
 use Rattle.jc_base.specs.declared.ty.Ty.TheVariants.{Bottom, Class, ArrBool, ArrByte, ArrShort, ArrInt, ArrRef}
 use Rattle.jc_base.specs.declared.ty.Kind.{Kind}
@@ -32,11 +32,11 @@ use Rattle.vm_store.specs.Typing.{least_type}
 use Rattle.vm_store.specs.Cells.{tagged, word_of}
 use Rattle.vm_store.specs.State.{State, top, nth}
 use Rattle.vm_store.specs.Objects.{kinds, object_at}
-use Rattle.vm_step.specs.Methods.{of_method}
 use Rattle.vm_step.specs.Calls.{args_of, class_of}
 use Rattle.vm_step.specs.Tests.{types_of}
 use Rattle.vm_fields.specs.Found.{IsNullOr, IsObject, MayCompare}
 use Rattle.vm_acts.specs.Reaches.{Finds, HasReceiver, IsInCode}
+use Rattle.vm_acts.proofs.Asked.{count-args}
 use Rattle.vm_checks.specs.Shaped.{IsShaped}
 use Rattle.vm_checks.proofs.Objects.{null-or}
 use Rattle.vm_checks.proofs.Tested.{cell-is}
@@ -60,10 +60,6 @@ size-of fields.Ref ty h = ref-size ty h
 size-of fields.Byte ty h = ap value_size h
 size-of fields.Short ty h = ap value_size h
 size-of fields.Int ty h = ap value_size h
-
-count-args : (o : Option MethodRec) → length (args_at o) ≡ of_method 0 (λ (m : MethodRec). length m.sig.args) o
-count-args None = refl
-count-args (Some m) = refl
 
 module _ (w : Linked) (is : IsWorld w) (s : State TaggedCell) (kept : IsShaped w s) where
   abbrev frame : Frame

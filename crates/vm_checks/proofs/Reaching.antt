@@ -1,6 +1,6 @@
 -- What the tests before an operation say of the objects, fields and classes that it speaks of.
 use Rattle.std.proofs.Common.{◌≡◌, ℕ, zero, suc, ◌+◌, ◌<◌, ◌≤◌, ◌⊎◌, inl, inr, true, List, [], ◌∷◌, length, IsTrue, refl, sym, ap, ◌∙◌, subst, arith}
-use Rattle.std.specs.Prelude.{◌↔◌, Option, Some, None, All, Any, IsSome, IsSomeAnd, sum_by, slice_get, slice_index_or}
+use Rattle.std.specs.Prelude.{◌↔◌, Option, Some, None, All, Any, IsSome, IsSomeAnd, sum_by, slice_get, slice_index_or, is_some}
 use Rattle.std.proofs.lemmas.Bool.{eqb-true}
 use Rattle.std.proofs.lemmas.Option.{slice_get_within}
 use Rattle.std.proofs.lemmas.List.{length-append}
@@ -39,10 +39,6 @@ use Rattle.vm_acts.specs.Reaches.{HasStatic}
 use Rattle.vm_checks.specs.Shaped.{IsShapedObject, IsShapedFor}
 use Rattle.vm_checks.proofs.Objects.{null-or, HasKind, HasObject, has-object, cell-object, never}
 
-some-is : {X : Type 0} (o : Option X) (x : X) → o ≡ Some x → IsSome o
-some-is None x e = absurd (cc)
-some-is (Some y) x e = refl
-
 module _ (w : Linked) (is : IsWorld w) (s : State Cell) (shaped : All (IsShapedObject w.classes) s.heap) where
   t : ClassTable
   t = w.classes
@@ -57,7 +53,7 @@ module _ (w : Linked) (is : IsWorld w) (s : State Cell) (shaped : All (IsShapedO
   some-object h kind e = has-object w.classes s h kind shaped e
 
   there : (h : ℕ) (kind : ObjectKind) → HasObject w.classes s h kind → IsSome (object_at s h)
-  there h kind o = some-is (object_at s h) o.object o.there
+  there h kind o = ap is_some o.there
 
   recorded-for : (kind : ObjectKind) (n : ℕ) → IsShapedFor w.classes kind n → IsRecorded w.classes kind
   recorded-for (Instance c) n h = h.0.number

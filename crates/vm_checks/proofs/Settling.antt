@@ -2,7 +2,7 @@
 use Rattle.std.proofs.Common.{◌≡◌, ℕ, ◌+◌, ◌-◌, ◌<◌, ◌≤◌, Bool, true, false, List, [], ◌∷◌, ◌++◌, length, replicate, take, drop, refl, sym, ap, ◌∙◌, subst, arith, length-drop, length-take}
 use Rattle.std.specs.Prelude.{ℤ, Option, Some, None, All, if◌then◌else◌, nat_lt, slice_index}
 use Rattle.std.proofs.lemmas.Bool.{ltb-false, ltb-true}
-use Rattle.std.proofs.lemmas.List.Elements.{All-nil, All-cons, All-head, All-tail}
+use Rattle.std.proofs.lemmas.List.Elements.{All-nil, All-cons, All-head, All-tail, All-push}
 use Rattle.std.proofs.lemmas.List.{length-map, length-append, length-replicate, length-reverse}
 use Rattle.jc_base.specs.declared.record.Handler.{Handler}
 use Rattle.jc_base.specs.Class.{IsClass}
@@ -36,7 +36,7 @@ use Rattle.vm_step.specs.Settled.{unless_fault, is_over, is_past, is_target, pla
 use Rattle.vm_step.specs.Step.{Steps, misplaced, unresolved, performs}
 use Rattle.vm_values.specs.Lead.{TakesCells}
 use Rattle.vm_checks.specs.Shaped.{IsShaped, IsShapedFrame, IsShapedObject, IsShapedFor}
-use Rattle.vm_checks.proofs.Staying.{Fine, Next, next-stack, first-of, others-of, all-last, shaped-next, shaped-place, shaped-ended, shaped-left, shaped-made}
+use Rattle.vm_checks.proofs.Staying.{Fine, Next, next-stack, first-of, others-of, shaped-next, shaped-place, shaped-ended, shaped-left, shaped-made}
 use Rattle.vm_checks.proofs.Shaping.{act-fine}
 use Rattle.vm_checks.proofs.Sufficing.{tested}
 
@@ -82,7 +82,7 @@ module _ (w : Linked) where
     method = n.method;
     registers = n.registers;
     others = n.others;
-    objects = all-last (IsShapedObject w.classes) z.heap (record { kind = kind; cells = cells }) n.objects h;
+    objects = All-push (IsShapedObject w.classes) z.heap (record { kind = kind; cells = cells }) n.objects h;
     statics = n.statics;
   }
 

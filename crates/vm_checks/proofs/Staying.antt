@@ -1,5 +1,5 @@
 -- A step keeps the shape of frames, objects and static fields: what each act leaves, and what the step makes of it.
-use Rattle.std.proofs.Common.{◌≡◌, ℕ, zero, suc, ◌+◌, ◌<◌, ◌≤◌, List, [], ◌∷◌, ◌++◌, length, set, refl, sym, ap, ◌∙◌, subst, arith}
+use Rattle.std.proofs.Common.{◌≡◌, ℕ, zero, suc, ◌+◌, ◌<◌, ◌≤◌, List, [], ◌∷◌, length, set, refl, sym, ap, ◌∙◌, subst, arith}
 use Rattle.std.specs.Prelude.{All}
 use Rattle.std.proofs.lemmas.List.Elements.{All-nil, All-cons, All-head, All-tail, All-push}
 use Rattle.std.proofs.lemmas.List.{length-set}
@@ -12,13 +12,10 @@ use Rattle.vm_store.specs.Value.{with_object_value, with_static_value}
 use Rattle.vm_step.specs.Act.{Act, goes, jumps, makes, calls}
 use Rattle.vm_step.specs.Methods.{max_stack_of}
 use Rattle.vm_values.specs.Lead.{TakesCells}
+use Rattle.vm_values.proofs.Copies.{front}
 use Rattle.vm_checks.specs.Shaped.{IsShaped, IsShapedFrame, IsShapedObject, IsShapedFor}
 
 -- ---- lists
-
-front : {A : Type 0} (fs : List (Frame A)) → 0 < length fs → first_frame fs ∷ other_frames fs ≡ fs
-front [] h = absurd (omega (arith, h))
-front (f ∷ fs) h = refl
 
 pub first-of : {A : Type 0} (P : Frame A → Type 0) (fs : List (Frame A)) → 0 < length fs → All P fs → P (first_frame fs)
 first-of P [] lt h = absurd (omega (arith, lt))
@@ -27,9 +24,6 @@ first-of P (f ∷ fs) lt h = All-head P f fs h
 pub others-of : {A : Type 0} (P : Frame A → Type 0) (fs : List (Frame A)) → All P fs → All P (other_frames fs)
 others-of P [] h = All-nil P
 others-of P (f ∷ fs) h = All-tail P f fs h
-
-pub all-last : {A : Type 0} (P : A → Type 0) (xs : List A) (x : A) → All P xs → P x → All P (xs ++ x ∷ [])
-all-last P xs x h p = All-push P xs x h p
 
 written : {A : Type 0} (t : ClassTable) (heap : List (Object A)) (h i : ℕ) (c : A) → All (IsShapedObject t) heap → All (IsShapedObject t) (write_object heap h i c)
 written t [] h i c all = all
@@ -156,6 +150,6 @@ module _ {A : Type 0} (w : Linked) where
   pub shaped-made : (s : State A) (kind : ObjectKind) (cells : List A) → IsShaped w s → IsShapedFor w.classes kind (length cells) → IsShaped w (with_object s kind cells)
   shaped-made s kind cells kept h = record {
     frames = kept.frames;
-    objects = all-last (IsShapedObject w.classes) s.heap (record { kind = kind; cells = cells }) kept.objects h;
+    objects = All-push (IsShapedObject w.classes) s.heap (record { kind = kind; cells = cells }) kept.objects h;
     statics = kept.statics;
   }

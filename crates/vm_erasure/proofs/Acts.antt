@@ -2,7 +2,7 @@
 use Rattle.std.proofs.Common.{◌≡◌, ℕ, zero, suc, ◌+◌, ◌<◌, ◌*◌, ◌/◌, ◌==◌, ◌||◌, Bool, true, false, if◌then◌else◌, List, [], ◌∷◌, ◌++◌, length, map, reverse, take, drop, set, refl, sym, ap, ◌∙◌, arith}
 use Rattle.std.specs.Prelude.{ℤ, pos, negsuc, Option, Some, None, find, slice_get, unwrap_or}
 use Rattle.std.specs.Int.{w16, w32, int_wrapping_add}
-use Rattle.std.proofs.lemmas.List.{map-append, take-map, drop-map, map-set, length-map, reverse-append}
+use Rattle.std.proofs.lemmas.List.{map-append, take-map, drop-map, map-set, length-map}
 use Rattle.jc_base.specs.declared.ty.Ty.{Ty}
 use Rattle.jc_base.specs.declared.ty.Ty.TheVariants.{Bottom, Short, IntHigh, IntLow, Null, Class, ArrBool, ArrByte, ArrShort, ArrInt, ArrRef, Fresh, Top}
 use Rattle.jc_base.specs.declared.ty.Kind.{Kind}
@@ -54,7 +54,7 @@ use Rattle.vm_store.specs.Objects.{kinds, object_cells, array_cells}
 use Rattle.vm_store.specs.Value.{value_in, value_on, kept, with_object_value, with_static_value}
 use Rattle.vm_store.specs.Erasing.{ReadsErased, ObjectsErase, CellsErase}
 use Rattle.vm_store.proofs.CellTypes.{words-erase}
-use Rattle.vm_store.proofs.Erasing.{states-erase}
+use Rattle.vm_store.proofs.Erasing.{states-erase, reverse-erased}
 use Rattle.vm_step.specs.declared.ending.Value.TheVariants as values
 use Rattle.vm_step.specs.declared.exception.Exception.{Exception}
 use Rattle.vm_step.specs.declared.exception.Exception.TheVariants as exceptions
@@ -81,15 +81,6 @@ null-erased h a b e = go (h == 0)
 some-erased : {X : Type 0} (exception : Exception) (o : Option X) (a : X → Act Cell) (b : X → Act ℕ) → ((x : X) → b x ≡ erased_act (a x)) → if_some exception o b ≡ erased_act (if_some exception o a)
 some-erased exception None a b e = refl
 some-erased exception (Some x) a b e = e x
-
--- ---- lists
-
-pub map-reverse : (xs : List Cell) → map word_of (reverse xs) ≡ reverse (map word_of xs)
-map-reverse [] = refl
-map-reverse (x ∷ xs) =
-    ap (map word_of) (reverse-append (x ∷ []) xs)
-    ∙ (map-append word_of (reverse xs) (x ∷ [])
-    ∙ (ap (λ ys. ys ++ word_of x ∷ []) (map-reverse xs) ∙ sym (reverse-append (word_of x ∷ []) (map word_of xs))))
 
 module _ (w : Linked) (f : Frame Cell) (below : List (Frame Cell)) (heap : List (Object Cell)) (statics : List Cell) where
   -- the state of words with other registers and another stack on top
@@ -134,7 +125,7 @@ module _ (w : Linked) (f : Frame Cell) (below : List (Frame Cell)) (heap : List 
   replaced-is count value other e =
       ap (framed (map word_of f.registers))
       (ap (λ vs. reverse vs ++ drop count (map word_of f.stack)) (sym e)
-      ∙ (ap (λ vs. vs ++ drop count (map word_of f.stack)) (sym (map-reverse value))
+      ∙ (ap (λ vs. vs ++ drop count (map word_of f.stack)) (sym (reverse-erased value))
       ∙ (ap (λ vs. map word_of (reverse value) ++ vs) (drop-map word_of count f.stack) ∙ sym (map-append word_of (reverse value) (drop count f.stack)))))
 
   numbers-are : (width : Width) (n : ℤ) → map word_of (number_cells tagged width n) ≡ number_cells words width n

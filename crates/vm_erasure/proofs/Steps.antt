@@ -16,7 +16,7 @@ use Rattle.vm_store.specs.State.{State, Frame, Object, map_frame, map_object, er
 use Rattle.vm_store.specs.Objects.{has_room, instance_cells, with_object}
 use Rattle.vm_store.specs.Value.{with_value}
 use Rattle.vm_store.specs.Erasing.{ReadsErased, FramesErase, ObjectsErase}
-use Rattle.vm_store.proofs.Erasing.{states-erase}
+use Rattle.vm_store.proofs.Erasing.{states-erase, reverse-erased}
 use Rattle.vm_step.specs.declared.ending.Value.{Value}
 use Rattle.vm_step.specs.declared.ending.Ending.TheVariants.{Plain, Faulted}
 use Rattle.vm_step.specs.declared.ending.Plain.TheVariants.{Returned, TooDeep, HeapFull}
@@ -33,7 +33,7 @@ use Rattle.vm_step.specs.Settled.{unless_fault, fault_next, fault_target, place_
 use Rattle.vm_step.specs.Step.{Steps, misplaced, unresolved, performs, performed}
 use Rattle.vm_step.specs.Run.{Runs, stands, stops, steps}
 use Rattle.vm_erasure.specs.Erasure.{erased_act, erased_outcome, IsNoFault, StepsErase, RunsErase}
-use Rattle.vm_erasure.proofs.Acts.{act-erases, map-reverse}
+use Rattle.vm_erasure.proofs.Acts.{act-erases}
 
 -- tests that are passed
 unless-none : (s : State Cell) (o : Option Fault) (x : Outcome Cell) → IsNoFault (unless_fault s o x) → (unless_fault s o x ≡ x) × IsNoFault x
@@ -109,7 +109,7 @@ module _ (w : Linked) where
       let back : State Cell = with_stack z (with_value cs (top z).stack) in
       let after : ℕ = place_after (instruction_at (code_at w (top z).method) (top z).place) in
       let cells_are : with_value (map word_of cs) (map word_of (top z).stack) ≡ map word_of (with_value cs (top z).stack) =
-      ap (λ xs. xs ++ map word_of (top z).stack) (sym (map-reverse cs)) ∙ sym (map-append word_of (reverse cs) (top z).stack) in
+      ap (λ xs. xs ++ map word_of (top z).stack) (sym (reverse-erased cs)) ∙ sym (map-append word_of (reverse cs) (top z).stack) in
       let back_is : with_stack (erased z) (with_value (map word_of cs) (top (erased z)).stack) ≡ erased back =
       ap (λ (g : Frame ℕ). with_stack (erased z) (with_value (map word_of cs) g.stack)) (sym (reads z).top_is)
       ∙ (ap (with_stack (erased z)) cells_are ∙ sym ((frames z).stack (with_value cs (top z).stack))) in

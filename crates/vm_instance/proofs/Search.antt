@@ -2,7 +2,7 @@
 use Rattle.std.proofs.Common.{◌≡◌, ◌+◌, ◌<◌, ◌≤◌, ◌⊎◌, inl, inr, ℕ, zero, suc, ◌==◌, Bool, true, false, List, [], ◌∷◌, length, map, take, set, get_or, replicate, refl, sym, ap, ◌∙◌, subst, arith}
 use Rattle.std.specs.Prelude.{Some, All, Contains, MatchBool, ◌||◌, if◌then◌else◌, slice_get}
 use Rattle.std.specs.List.{list_any}
-use Rattle.std.proofs.lemmas.Bool.{false≢true, false_from_ne_true}
+use Rattle.std.proofs.lemmas.Bool.{false≢true, false_from_ne_true, or_left, or_right, or_from}
 use Rattle.std.proofs.Math.ListN.{get_or-map}
 use Rattle.std.proofs.lemmas.List.{length-map, take_all}
 use Rattle.std.proofs.lemmas.List.Folds.{list_any_more}
@@ -25,27 +25,15 @@ pub record NoneExtends (t : ClassTable) (sought : ℕ) (interfaces : List Iface)
 
 -- ---- tests of the elements of a list
 
-or-left : (a b : Bool) → a ≡ true → a || b ≡ true
-or-left true b h = refl
-or-left false b h = absurd (false≢true h)
-
-or-right : (a b : Bool) → b ≡ true → a || b ≡ true
-or-right true b h = refl
-or-right false b h = h
-
-or-neither : (a b : Bool) → a ≡ false → b ≡ false → a || b ≡ false
-or-neither true b h k = absurd (false≢true (sym h))
-or-neither false b h k = k
-
 pub or-first : (a b : Bool) → a ≡ false → a || b ≡ b
 or-first true b h = absurd (false≢true (sym h))
 or-first false b h = refl
 
 any-contains : (p : ℕ → Bool) (xs : List Iface) (b : ℕ) → Contains (map (λ (e : Iface). e.class) xs) b → p b ≡ true → list_any (λ (e : Iface). p e.class) xs ≡ true
 any-contains p [] b (k, lt, e) h = absurd (omega (arith, lt))
-any-contains p (x ∷ xs) b (zero, lt, e) h = let same : x.class ≡ b = e in or-left (p x.class) (list_any (λ (e : Iface). p e.class) xs) (subst (λ z. p z ≡ true) (sym same) h)
+any-contains p (x ∷ xs) b (zero, lt, e) h = let same : x.class ≡ b = e in or_left (p x.class) (list_any (λ (e : Iface). p e.class) xs) (subst (λ z. p z ≡ true) (sym same) h)
 any-contains p (x ∷ xs) b (suc k, lt, e) h =
-    or-right (p x.class) (list_any (λ (e : Iface). p e.class) xs) (any-contains p xs b (k, omega (arith, lt), e) h)
+    or_right (p x.class) (list_any (λ (e : Iface). p e.class) xs) (any-contains p xs b (k, omega (arith, lt), e) h)
 
 contains-at : (xs : List Iface) (k : ℕ) (e : Iface) → k < length xs → e ≡ get_or xs k e → Contains (map (λ (x : Iface). x.class) xs) e.class
 contains-at xs k e lt is =
@@ -75,7 +63,7 @@ pub none-more :
     → NoneExtends t sought (take i xs) → i < length xs → e ≡ get_or xs i e → is_or_extends t e.class sought ≡ false → NoneExtends t sought (take (i + 1) xs)
 none-more t sought xs i e so_far lt is here =
     let p : Iface → Bool = λ x. is_or_extends t x.class sought in
-    record { none = list_any_more p xs i e lt ∙ or-neither (list_any p (take i xs)) (p (get_or xs i e)) so_far.none (sym (ap p is) ∙ here) }
+    record { none = list_any_more p xs i e lt ∙ or_from (list_any p (take i xs)) (p (get_or xs i e)) so_far.none (sym (ap p is) ∙ here) }
 
 pub none-all : (t : ClassTable) (sought : ℕ) (xs : List Iface) (n : ℕ) → NoneExtends t sought (take n xs) → length xs ≤ n → NoneExtends t sought xs
 none-all t sought xs n h enough = subst (NoneExtends t sought) (take_all n xs enough) h
@@ -171,8 +159,8 @@ named-known t packages methods i r class at linked k e lt is =
 
 pub any-found : (p : Iface → Bool) (xs : List Iface) (k : ℕ) (e : Iface) → k < length xs → e ≡ get_or xs k e → p e ≡ true → list_any p xs ≡ true
 any-found p [] k e lt is h = absurd (omega (arith, lt))
-any-found p (x ∷ xs) zero e lt is h = or-left (p x) (list_any p xs) (sym (ap p is) ∙ h)
-any-found p (x ∷ xs) (suc k) e lt is h = or-right (p x) (list_any p xs) (any-found p xs k e (omega (arith, lt)) is h)
+any-found p (x ∷ xs) zero e lt is h = or_left (p x) (list_any p xs) (sym (ap p is) ∙ h)
+any-found p (x ∷ xs) (suc k) e lt is h = or_right (p x) (list_any p xs) (any-found p xs k e (omega (arith, lt)) is h)
 
 -- ---- up the chain of superclasses
 
@@ -187,16 +175,16 @@ pub implements-end :
     (t : ClassTable) (c sought : ℕ) → IsEndOfChain t c → list_any (λ x. is_or_extends t x sought) (implemented t c) ≡ false → implements t c sought ≡ false
 unfolding implements
 implements-end t c sought end h =
-    ap (list_any (λ a. list_any (λ i. is_or_extends t i sought) (implemented t a))) end.chain_is ∙ or-neither (list_any (λ i. is_or_extends t i sought) (implemented t c)) false h refl
+    ap (list_any (λ a. list_any (λ i. is_or_extends t i sought) (implemented t a))) end.chain_is ∙ or_from (list_any (λ i. is_or_extends t i sought) (implemented t c)) false h refl
 
 -- a class that names it implements it: it is the first on its chain
 here-over :
     (t : ClassTable) (sought n c : ℕ) → list_any (λ x. is_or_extends t x sought) (implemented t c) ≡ true
     → list_any (λ a. list_any (λ i. is_or_extends t i sought) (implemented t a)) (chain_over t n c) ≡ true
 unfolding chain_over
-here-over t sought zero c h = or-left (list_any (λ i. is_or_extends t i sought) (implemented t c)) false h
+here-over t sought zero c h = or_left (list_any (λ i. is_or_extends t i sought) (implemented t c)) false h
 here-over t sought (suc n) c h =
-    or-left (list_any (λ i. is_or_extends t i sought) (implemented t c)) (list_any (λ a. list_any (λ i. is_or_extends t i sought) (implemented t a)) (list_of (chain_over t n) (parent_of t c))) h
+    or_left (list_any (λ i. is_or_extends t i sought) (implemented t c)) (list_any (λ a. list_any (λ i. is_or_extends t i sought) (implemented t a)) (list_of (chain_over t n) (parent_of t c))) h
 
 pub implements-here :
     (t : ClassTable) (c sought : ℕ) → list_any (λ x. is_or_extends t x sought) (implemented t c) ≡ true → implements t c sought ≡ true

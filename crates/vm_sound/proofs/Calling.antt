@@ -12,7 +12,7 @@ use Rattle.jc_base.specs.Order.{Below, same}
 use Rattle.jc_base.specs.Cell.{IsDeclared}
 use Rattle.jc_base.specs.Linked.{lacks_code}
 use Rattle.jc_base.specs.World.{Linked, IsWorld}
-use Rattle.jc_base.proofs.Lists.{All-reverse}
+use Rattle.jc_base.proofs.Lists.{All-reverse, IsSomeAnd-some}
 use Rattle.jc_base.proofs.Orders.{order-of-types}
 use Rattle.jc_control.specs.Control.{falls_through}
 use Rattle.jc_ops.specs.declared.want.Want.{Want}
@@ -46,7 +46,7 @@ use Rattle.vm_step.specs.Methods.{of_method}
 use Rattle.vm_step.specs.Settled.{entered_call}
 use Rattle.vm_sound.specs.Frames.{Typings, least_types, types_in, types_with, class_made, IsStacked, result_of, IsWaiting}
 use Rattle.vm_sound.specs.Laws.{IsSafe, AreTypings}
-use Rattle.vm_sound.proofs.CellTypes.{some-is, stacked-filled, stacked-alike}
+use Rattle.vm_sound.proofs.CellTypes.{stacked-filled, stacked-alike}
 use Rattle.vm_sound.proofs.Cells.{IsCellAt, cell-at, stacked-at}
 use Rattle.vm_sound.proofs.Receivers.{IsNewOf, types-readied, stacked-readied, arguments-kept}
 use Rattle.vm_sound.proofs.Entering.{types-turned, wanted-below, entered-typed, method-known}
@@ -291,7 +291,7 @@ module _ (w : Linked) (world : IsWorld w) (assigned : Typings) (typings : AreTyp
             place-told r x stacked =
                 let there : IsSomeAnd (class_made w here.turn.stands.rec x.place) (λ c. kind_of_handle (kinds_of heap) x.handle ≡ Some (Instance c)) =
                 subst (IsStacked w here.turn.stands.rec (kinds_of heap)) x.cell_is stacked in
-                let found = some-is (λ (c : ℕ). kind_of_handle (kinds_of heap) x.handle ≡ Some (Instance c)) (class_made w here.turn.stands.rec x.place) there in
+                let found = IsSomeAnd-some (λ (c : ℕ). kind_of_handle (kinds_of heap) x.handle ≡ Some (Instance c)) (class_made w here.turn.stands.rec x.place) there in
                 let kinds : ◌≡◌ {A = Option ObjectKind} (Some (Instance found.0)) (Some (Instance class)) = sym found.2 ∙ x.kind in
                 let one : found.0 ≡ class = cc in
                 found.1 ∙ ap Some one

@@ -32,13 +32,6 @@ pub some-both : {X : Type 0} (P Q : X → Type 0) (o : Option X) → IsSomeAnd o
 some-both P Q (Some x) h k = (h, k)
 some-both P Q None h k = absurd h
 
-pub some-is : {X : Type 0} (P : X → Type 0) (o : Option X) → IsSomeAnd o P → (x : X) × (o ≡ Some x) × P x
-some-is P (Some x) h = (x, refl, h)
-some-is P None h = absurd h
-
-pub some-from : {X : Type 0} (P : X → Type 0) (o : Option X) (x : X) → o ≡ Some x → P x → IsSomeAnd o P
-some-from {X} P o x e h = subst (λ (p : Option X). IsSomeAnd p P) (sym e) h
-
 -- ---- types that may be kept
 
 pub declared-ready : (t : ClassTable) (ty : Ty) → IsDeclared t ty → IsReady ty

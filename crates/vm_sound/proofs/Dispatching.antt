@@ -1,5 +1,5 @@
 -- The method that a call runs has code, and takes the receiver.
-use Rattle.std.proofs.Common.{◌≡◌, ℕ, ◌-◌, ◌⊎◌, inl, inr, Bool, true, false, if◌then◌else◌, List, [], ◌∷◌, ◌++◌, length, refl, sym, ap, ◌∙◌, subst}
+use Rattle.std.proofs.Common.{◌≡◌, ℕ, ◌-◌, inl, inr, Bool, true, false, if◌then◌else◌, List, [], ◌∷◌, length, refl, sym, ap, ◌∙◌, subst}
 use Rattle.std.specs.Prelude.{Option, Some, None, IsSomeAnd, All, slice_get, nat_lt, ◌==◌, find, cond, flat_map, option_and_then, option_map}
 use Rattle.std.proofs.lemmas.Bool.{eq-eqb, eqb-true, MatchBool-at_false, or_from}
 use Rattle.std.proofs.lemmas.Option.{same_Some, option_and_then_some}
@@ -19,13 +19,13 @@ use Rattle.jc_base.specs.World.{Linked, IsWorld}
 use Rattle.jc_base.proofs.Chains.{interface_read}
 use Rattle.jc_base.proofs.Climbs.{chain-front, on_chain-class}
 use Rattle.jc_base.proofs.Dispatches.{on_chain-from_Below, are_dispatched, public_read}
-use Rattle.jc_base.proofs.Lists.{All-slice_get, IfSome-is}
+use Rattle.jc_base.proofs.Lists.{All-slice_get, IfSome-is, IsSomeAnd-some}
 use Rattle.jc_base.proofs.Objects.{public-methods_run}
 use Rattle.jc_base.proofs.Subtypes.{Below-from_is_below}
 use Rattle.jc_base.proofs.Tests.{found-passes, test-from_some}
-use Rattle.jc_base.proofs.Eaching.{Contains-from_IsAmong}
+use Rattle.jc_base.proofs.Eaching.{Contains-from_IsAmong, IsAmong-append_cases}
 use Rattle.vm_step.specs.Calls.{interfaces_of, serving, served}
-use Rattle.vm_sound.proofs.CellTypes.{some-is, some-both}
+use Rattle.vm_sound.proofs.CellTypes.{some-both}
 
 -- a method that runs for an object of class r, with the signature of another
 pub record RunsFor (w : Linked) (r n : ℕ) (sig : Sig) : Type 0 where
@@ -65,14 +65,9 @@ dispatched-body t methods r c token n concrete e = go (nat_lt token 128) e
 
 -- ---- lists one after another
 
-among-joined : {X : Type 0} (x : X) (xs ys : List X) → IsAmong x (xs ++ ys) → IsAmong x xs ⊎ IsAmong x ys
-among-joined x [] ys h = inr h
-among-joined x (z ∷ zs) ys (inl here) = inl (inl here)
-among-joined x (z ∷ zs) ys (inr more) = elim (among-joined x zs ys more) [ inl a ↦ inl (inr a) | inr b ↦ inr b ]
-
 among-mapped : {X Y : Type 0} (g : X → List Y) (xs : List X) (y : Y) → IsAmong y (flat_map g xs) → (x : X) × IsAmong x xs × IsAmong y (g x)
 among-mapped g [] y h = absurd h
-among-mapped g (x ∷ xs) y h = elim (among-joined y (g x) (flat_map g xs) h) [
+among-mapped g (x ∷ xs) y h = elim (IsAmong-append_cases y (g x) (flat_map g xs) h) [
   | inl here ↦ (x, inl refl, here)
   | inr more ↦ let rest = among-mapped g xs y more in (rest.0, inr rest.1, rest.2)
 ]
@@ -98,7 +93,7 @@ module _ (w : Linked) (world : IsWorld w) where
       → signature_of w.methods n ≡ signature_of w.methods other → HasBody w.methods n → IsSomeAnd (slice_get w.methods n) (IsInherited w.classes r)
       → RunsFor w r n o.sig
   inherited-runs r n other o concrete was sig body inherited =
-      let both = some-is (λ (m : MethodRec). (m.is_abstract ≡ false) × IsInherited w.classes r m) (slice_get w.methods n)
+      let both = IsSomeAnd-some (λ (m : MethodRec). (m.is_abstract ≡ false) × IsInherited w.classes r m) (slice_get w.methods n)
       (some-both (λ (m : MethodRec). m.is_abstract ≡ false) (IsInherited w.classes r) (slice_get w.methods n) body inherited) in
       record {
         rec = both.0;

@@ -11,12 +11,12 @@ use Rattle.jc_base.specs.Class.{ClassTable}
 use Rattle.jc_base.specs.Order.{Below}
 use Rattle.jc_base.specs.Linked.{IsMethod, IsCodeLength, lacks_code, receiver_words, list_at}
 use Rattle.jc_base.specs.World.{Linked, IsWorld, code_of}
-use Rattle.jc_base.proofs.Lists.{All-slice_get}
+use Rattle.jc_base.proofs.Lists.{All-slice_get, IsSomeAnd-some}
 use Rattle.jc_control.specs.Method.{Method, IsMethodOf, method_with}
 use Rattle.jc_control.specs.Control.{begins}
 use Rattle.jc_decode.proofs.Listed.{all-are-listed}
+use Rattle.jc_decode.proofs.Elements.{drop-here}
 use Rattle.jc_control.proofs.Closing.{instructions-are-placed}
-use Rattle.jc_control.proofs.Elements.{drop-here}
 use Rattle.jc_rules.specs.Demand.{Frame as Types, SatisfiesAll}
 use Rattle.jc_rules.specs.Rule.{cells_wanted}
 use Rattle.jc_rules.specs.Flow.{CellsBelow, no_cells, more_cells, FrameBelow, receiver_of, start_frame, FlowTyping}
@@ -29,7 +29,7 @@ use Rattle.vm_store.specs.Cells.{tagged}
 use Rattle.vm_store.specs.State.{Frame, registers_of, register_count, entered}
 use Rattle.vm_sound.specs.Frames.{Typings, least_types, types_in, IsStacked, IsTypedFrame}
 use Rattle.vm_sound.specs.Laws.{AreTypings}
-use Rattle.vm_sound.proofs.CellTypes.{some-is, some-weaker}
+use Rattle.vm_sound.proofs.CellTypes.{some-weaker}
 use Rattle.vm_sound.proofs.Places.{place-instruction}
 use Rattle.vm_sound.proofs.Turns.{frame-trans}
 
@@ -55,7 +55,7 @@ types-turned t unset ks cs = map-reverse (least_type t unset ks) cs
 pub wanted-below : (t : ClassTable) (f : Types) (n : ℕ) (tys : List Ty) → SatisfiesAll t f (cells_wanted n tys) → CellsBelow t (take (length tys) (drop n f.stack)) tys
 wanted-below t f n [] h = no_cells
 wanted-below t f n (ty ∷ tys) h =
-    let found = some-is (λ a. Below t a ty) (slice_get f.stack n) h.0 in
+    let found = IsSomeAnd-some (λ a. Below t a ty) (slice_get f.stack n) h.0 in
     let e : drop n f.stack ≡ found.0 ∷ drop (n + 1) f.stack = drop-here f.stack n found.0 found.1 in
     subst (λ (xs : List Ty). CellsBelow t (take (suc (length tys)) xs) (ty ∷ tys)) (sym e) (more_cells found.2 (wanted-below t f (n + 1) tys h.1))
 

@@ -3,7 +3,7 @@ use Rattle.std.proofs.Common.{◌≡◌, ℕ, ◌+◌, true, List, [], ◌∷◌
 use Rattle.std.specs.Prelude.{Some, IsSomeAnd, slice_get, slice_index_or, option_and_then}
 use Rattle.std.proofs.lemmas.Bool.{eqb-true}
 use Rattle.jc_base.specs.declared.ty.Ty.{Ty}
-use Rattle.jc_base.specs.declared.ty.Ty.TheVariants.{Bottom, Short, IntHigh, IntLow, Null, Class, ArrBool, ArrByte, ArrShort, ArrInt, ArrRef, Fresh, Top}
+use Rattle.jc_base.specs.declared.ty.Ty.TheVariants.{Short, IntHigh, IntLow, Class, ArrBool, ArrByte, ArrShort, ArrInt, ArrRef}
 use Rattle.jc_base.specs.declared.ty.Kind.{Kind}
 use Rattle.jc_base.specs.declared.ty.Kind.TheVariants as fields
 use Rattle.jc_base.specs.Class.{ClassTable, AreClasses, object}
@@ -27,8 +27,8 @@ use Rattle.jc_ops.specs.declared.want.Want.TheVariants.{Value}
 use Rattle.jc_rules.specs.declared.effect.Cells.TheVariants as given
 use Rattle.jc_rules.specs.Demand.{SatisfiesAll}
 use Rattle.jc_rules.specs.Rule.{effect, replacing, value_given, value_wanted, value_size}
-use Rattle.jc_rules.specs.Flow.{IsNotTop, IsNotFresh}
 use Rattle.jc_rules.proofs.Demands.{SatisfiesAll-front, SatisfiesAll-rest}
+use Rattle.jc_rules.proofs.Types.{declared-not_top, declared-not_fresh}
 use Rattle.vm_store.specs.declared.cell.Cell.{Cell as StoreCell}
 use Rattle.vm_store.specs.declared.cell.Cell.TheVariants as cells
 use Rattle.vm_store.specs.declared.kind.ObjectKind.{ObjectKind}
@@ -57,36 +57,6 @@ use Rattle.vm_sound.proofs.ArrayWrites.{IsHeld, held-at}
 use Rattle.vm_sound.proofs.Turning.{Here, null-safe}
 
 -- ---- the types of fields
-
-pub declared-topless : (t : ClassTable) (ty : Ty) → IsDeclared t ty → IsNotTop ty
-declared-topless t Top h = h
-declared-topless t Bottom h = tt
-declared-topless t Short h = tt
-declared-topless t IntHigh h = tt
-declared-topless t IntLow h = tt
-declared-topless t Null h = tt
-declared-topless t (Class c) h = tt
-declared-topless t ArrBool h = tt
-declared-topless t ArrByte h = tt
-declared-topless t ArrShort h = tt
-declared-topless t ArrInt h = tt
-declared-topless t (ArrRef c) h = tt
-declared-topless t (Fresh p c) h = tt
-
-pub declared-kept : (t : ClassTable) (ty : Ty) → IsDeclared t ty → IsNotFresh ty
-declared-kept t (Fresh p c) h = h
-declared-kept t Top h = tt
-declared-kept t Bottom h = tt
-declared-kept t Short h = tt
-declared-kept t IntHigh h = tt
-declared-kept t IntLow h = tt
-declared-kept t Null h = tt
-declared-kept t (Class c) h = tt
-declared-kept t ArrBool h = tt
-declared-kept t ArrByte h = tt
-declared-kept t ArrShort h = tt
-declared-kept t ArrInt h = tt
-declared-kept t (ArrRef c) h = tt
 
 -- the cells of a value by its kind
 pub record IsOneCell (ty : Ty) : Type 0 where
@@ -149,13 +119,13 @@ module _ (w : Linked) (world : IsWorld w) (assigned : Typings) (f : Frame StoreC
         (replaced (record { frames = f ∷ below; heap = heap; statics = statics }) taken (value_in tagged kind (object_cells (with_heap heap) h) i)))
     read-value-safe h i taken fields.Ref ty op is does falls of_kind declared first second =
         read-one-safe w world assigned f below heap statics here h i taken ty ty op is (does ∙ ap (replacing taken) (one-cell fields.Ref ty of_kind refl).given_is) falls refl
-        (cell-read w world assigned f below heap statics here h i ty (declared-topless w.classes ty declared) (declared-kept w.classes ty declared) first)
+        (cell-read w world assigned f below heap statics here h i ty (declared-not_top w.classes ty declared) (declared-not_fresh w.classes ty declared) first)
     read-value-safe h i taken fields.Byte ty op is does falls of_kind declared first second =
         read-one-safe w world assigned f below heap statics here h i taken ty ty op is (does ∙ ap (replacing taken) (one-cell fields.Byte ty of_kind refl).given_is) falls refl
-        (cell-read w world assigned f below heap statics here h i ty (declared-topless w.classes ty declared) (declared-kept w.classes ty declared) first)
+        (cell-read w world assigned f below heap statics here h i ty (declared-not_top w.classes ty declared) (declared-not_fresh w.classes ty declared) first)
     read-value-safe h i taken fields.Short ty op is does falls of_kind declared first second =
         read-one-safe w world assigned f below heap statics here h i taken ty ty op is (does ∙ ap (replacing taken) (one-cell fields.Short ty of_kind refl).given_is) falls refl
-        (cell-read w world assigned f below heap statics here h i ty (declared-topless w.classes ty declared) (declared-kept w.classes ty declared) first)
+        (cell-read w world assigned f below heap statics here h i ty (declared-not_top w.classes ty declared) (declared-not_fresh w.classes ty declared) first)
     read-value-safe h i taken fields.Int ty op is does falls of_kind declared first second =
         read-int-safe w world assigned f below heap statics here h i taken op is (does ∙ ap (λ a. replacing taken (value_given a)) of_kind) falls
         (cell-read w world assigned f below heap statics here h i IntHigh tt tt (first ∙ ap Some of_kind))

@@ -9,6 +9,7 @@ use Rattle.jc_base.specs.declared.ty.Ty.{Ty}
 use Rattle.jc_base.specs.declared.ty.Ty.TheVariants.{Bottom}
 use Rattle.jc_base.specs.declared.record.MethodRec.{MethodRec}
 use Rattle.jc_base.specs.World.{Linked, code_of}
+use Rattle.jc_base.proofs.Lists.{IsSomeAnd-some}
 use Rattle.jc_control.specs.Method.{method_with}
 use Rattle.jc_decode.proofs.Listed.{all-are-listed}
 use Rattle.jc_control.proofs.Listed.{place-inside}
@@ -37,7 +38,7 @@ use Rattle.vm_step.specs.Settled.{fault_next, is_there, fault_target, unless_fau
 use Rattle.vm_sound.specs.Frames.{Typings, least_types, types_in, types_with, IsStacked, Standing, IsTypedFrame, at_next, IsWaiting, AreWaiting}
 use Rattle.vm_sound.specs.State.{IsMade, static_types, IsTypedState}
 use Rattle.vm_sound.specs.Laws.{IsSafe}
-use Rattle.vm_sound.proofs.CellTypes.{some-is, some-both, some-weaker, stacked-alike}
+use Rattle.vm_sound.proofs.CellTypes.{some-both, some-weaker, stacked-alike}
 use Rattle.vm_sound.proofs.Places.{instruction-there}
 use Rattle.vm_sound.proofs.Turns.{frame-trans}
 
@@ -88,7 +89,7 @@ module _ (w : Linked) (assigned : Typings) where
       let m = method_with w f.method st.rec in
       let there = instruction-there (code_of w.infos st.rec) f.place st.instruction st.there in
       let exact = types_in w.classes (assigned.unset f.method) ks f in
-      let both = some-is (λ (g : Types). FrameBelow w.classes exact g × IsFit m g) ((assigned.frames f.method) f.place)
+      let both = IsSomeAnd-some (λ (g : Types). FrameBelow w.classes exact g × IsFit m g) ((assigned.frames f.method) f.place)
       (some-both (FrameBelow w.classes exact) (IsFit m) ((assigned.frames f.method) f.place) typed.below (st.typing.fit f.place st.reached)) in
       let same : length f.stack ≡ length both.0.stack =
       sym (length-map f.stack (least_type w.classes (assigned.unset f.method) ks)) ∙ cells-length w.classes both.2.0.stack in

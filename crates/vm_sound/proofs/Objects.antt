@@ -9,6 +9,7 @@ use Rattle.jc_base.specs.Class.{object, throwable}
 use Rattle.jc_base.specs.Order.{Below, same, null_object, null_array, of_booleans, of_bytes, of_shorts, of_ints, of_references, IsArray}
 use Rattle.jc_base.specs.Dispatch.{IsConcrete}
 use Rattle.jc_base.specs.World.{Linked, IsWorld, code_of}
+use Rattle.jc_base.proofs.Lists.{IsSomeAnd-from}
 use Rattle.jc_ops.specs.declared.operation.TypeTest.{TypeTest}
 use Rattle.jc_ops.specs.declared.operation.TypeTest.TheVariants as tests
 use Rattle.jc_ops.specs.declared.operation.Operation.{Operation}
@@ -37,7 +38,7 @@ use Rattle.vm_step.specs.Settled.{goes_to, settled}
 use Rattle.vm_sound.specs.Frames.{Typings, types_in, class_made, class_of_new, class_made_by, IsStacked, IsTypedFrame, AreWaiting, result_of}
 use Rattle.vm_sound.specs.State.{IsMade}
 use Rattle.vm_sound.specs.Laws.{IsSafe}
-use Rattle.vm_sound.proofs.CellTypes.{stacked-filled, stacked-falls, types-fall, some-from}
+use Rattle.vm_sound.proofs.CellTypes.{stacked-filled, stacked-falls, types-fall}
 use Rattle.vm_sound.proofs.Growing.{all-waiting-fall}
 use Rattle.vm_sound.proofs.Handles.{kinds_of, kind-type, new-kind, kinds-more}
 use Rattle.vm_sound.proofs.Ready.{value-ready}
@@ -117,7 +118,7 @@ module _ (w : Linked) (world : IsWorld w) (assigned : Typings) (f : Frame Cell) 
         made-safe 0 (Fresh place class) (Instance class) (instance_cells tagged w.classes class) (λ h. cells.Fresh h place) (ops.New place class) is refl refl
         (with-instance w heap statics here.store world class concrete)
         (subst (λ a. Below w.classes a (Fresh place class)) (sym ty) same)
-        (some-from (λ c. kind_of_handle more handle ≡ Some (Instance c)) (class_made w here.turn.stands.rec place) class (class-told place class is at) kind)
+        (IsSomeAnd-from (λ c. kind_of_handle more handle ≡ Some (Instance c)) (class_made w here.turn.stands.rec place) class (class-told place class is at) kind)
 
     -- an array, whose type stands for the elements of an interface too
     kind-seen : (ty : Ty) → IsArray ty → type_of_kind w.classes (kind_of_type ty) ≡ seen w.classes ty

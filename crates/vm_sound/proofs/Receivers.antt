@@ -11,6 +11,7 @@ use Rattle.jc_base.specs.Class.{ClassTable, AreClasses}
 use Rattle.jc_base.specs.Order.{Below}
 use Rattle.jc_base.specs.Cell.{IsDeclared}
 use Rattle.jc_base.specs.World.{Linked}
+use Rattle.jc_base.proofs.Lists.{IsSomeAnd-some, IsSomeAnd-from}
 use Rattle.jc_ops.specs.declared.want.Want.TheVariants.{Value, Receiver}
 use Rattle.jc_rules.specs.declared.effect.Cells.{Cells}
 use Rattle.jc_rules.specs.declared.effect.Change.TheVariants.{Replace}
@@ -18,6 +19,7 @@ use Rattle.jc_rules.specs.Demand.{IsFreshOf}
 use Rattle.jc_rules.specs.Effect.{ready}
 use Rattle.jc_rules.specs.Rule.{ready_with}
 use Rattle.jc_rules.specs.Flow.{CellsBelow, more_cells, IsNotFresh}
+use Rattle.jc_rules.proofs.Types.{declared-not_top, declared-not_fresh}
 use Rattle.vm_store.specs.declared.cell.Cell.{Cell}
 use Rattle.vm_store.specs.declared.cell.Cell.TheVariants as cells
 use Rattle.vm_store.specs.declared.kind.ObjectKind.{ObjectKind}
@@ -29,10 +31,9 @@ use Rattle.vm_store.proofs.SeenClasses.{fresh-at}
 use Rattle.vm_store.specs.Laws.{IsFilled}
 use Rattle.vm_step.specs.Calls.{made_at}
 use Rattle.vm_sound.specs.Frames.{least_types, class_made, IsStacked}
-use Rattle.vm_sound.proofs.CellTypes.{IsReadyCell, some-is, some-from, stacked-filled}
+use Rattle.vm_sound.proofs.CellTypes.{IsReadyCell, stacked-filled}
 use Rattle.vm_sound.proofs.Handles.{kind-type}
 use Rattle.vm_sound.proofs.Ready.{value-ready}
-use Rattle.vm_sound.proofs.Fields.{declared-topless, declared-kept}
 
 -- ---- what is no object on which a constructor is to be called
 
@@ -217,7 +218,7 @@ module _ (w : Linked) (are : AreClasses w.classes) (m : MethodRec) (unset : Ty) 
           record {
             type_is = ap (least_type w.classes unset ks) cell_is ∙ (ty ∙ sym (ap (ready place class) ty ∙ after_is));
             stacked = subst (IsStacked w m ks) (sym cell_is)
-                (some-from (λ (x : ℕ). kind_of_handle ks h ≡ Some (Instance x)) (class_made w m p) c told kind);
+                (IsSomeAnd-from (λ (x : ℕ). kind_of_handle ks h ≡ Some (Instance x)) (class_made w m p) c told kind);
           }
 
   cell-readied : (c : Cell) → IsStacked w m ks c → IsReadied c
@@ -227,7 +228,7 @@ module _ (w : Linked) (are : AreClasses w.classes) (m : MethodRec) (unset : Ty) 
   cell-readied (cells.Low n) h = record { type_is = refl; stacked = tt }
   cell-readied (cells.Ref n) h = record { type_is = sym (ready-kept place class (type_of_handle w.classes ks n) (reference-not_fresh n)); stacked = tt }
   cell-readied (cells.Fresh n p) h =
-      let found = some-is (λ (c : ℕ). kind_of_handle ks n ≡ Some (Instance c)) (class_made w m p) h in
+      let found = IsSomeAnd-some (λ (c : ℕ). kind_of_handle ks n ≡ Some (Instance c)) (class_made w m p) h in
       new-readied n p found.0 found.2 found.1
 
   -- of all cells of a stack
@@ -254,6 +255,6 @@ module _ (w : Linked) (are : AreClasses w.classes) (m : MethodRec) (unset : Ty) 
       let parts = below-parts w.classes below in
       let declared = All-head (IsDeclared w.classes) ty tys d in
       let filled = stacked-filled w m ks c (All-head (IsStacked w m ks) c cs h) in
-      let ready_cell = value-ready w.classes are unset ks c ty filled (declared-kept w.classes ty declared) (declared-topless w.classes ty declared) parts.0 in
+      let ready_cell = value-ready w.classes are unset ks c ty filled (declared-not_fresh w.classes ty declared) (declared-not_top w.classes ty declared) parts.0 in
       ap (λ d. d ∷ map (made_ready place) cs) (cell-kept place c ready_cell)
       ∙ ap (λ ds. c ∷ ds) (arguments-kept cs tys (All-tail (IsStacked w m ks) c cs h) (All-tail (IsDeclared w.classes) ty tys d) parts.1)

@@ -16,6 +16,7 @@ use Rattle.jc_rules.specs.Effect.{listed}
 use Rattle.jc_rules.specs.Rule.{result_at, result_given, value_wanted}
 use Rattle.jc_rules.specs.Flow.{CellsBelow, no_cells, more_cells}
 use Rattle.jc_rules.proofs.CellLists.{cells-trans}
+use Rattle.jc_rules.proofs.Types.{declared-not_top, declared-not_fresh}
 use Rattle.vm_store.specs.declared.cell.Cell.{Cell}
 use Rattle.vm_store.specs.declared.cell.Cell.TheVariants as cells
 use Rattle.vm_store.specs.Cells.{tagged}
@@ -33,7 +34,6 @@ use Rattle.vm_sound.proofs.Ready.{value-ready}
 use Rattle.vm_sound.proofs.Cells.{cell-at, one-stacked, two-stacked, stacked-at}
 use Rattle.vm_sound.proofs.Finish.{gives-safe}
 use Rattle.vm_sound.proofs.Registers.{asked-of}
-use Rattle.vm_sound.proofs.Fields.{declared-topless, declared-kept}
 use Rattle.vm_sound.proofs.Turning.{Here}
 
 -- a result is one cell, unless it is an int
@@ -59,7 +59,7 @@ module _ (w : Linked) (world : IsWorld w) (assigned : Typings) (f : Frame Cell) 
         let asked = subst (SatisfiesAll t (types_in t (assigned.unset f.method) ks f)) one.wanted (asked-of w world assigned f below heap statics here (ops.Return (Some ty)) is) in
         let at = cell-at t (assigned.unset f.method) ks f.stack 0 (λ a. Below t a ty) asked.0 in
         let filled = stacked-filled w here.turn.stands.rec ks c (stacked-at w here.turn.stands.rec ks f.stack 0 at.inside here.turn.stacked) in
-        let ready = value-ready t world.chains (assigned.unset f.method) ks c ty filled (declared-kept t ty declared) (declared-topless t ty declared) at.holds in
+        let ready = value-ready t world.chains (assigned.unset f.method) ks c ty filled (declared-not_fresh t ty declared) (declared-not_top t ty declared) at.holds in
         gives-safe w assigned below heap statics (Some ty) value (c ∷ []) here.store (waits-for (Some ty) result)
         (cells-trans t (bottoms-below t (assigned.unset f.method) ks (c ∷ []))
         (subst (CellsBelow t (least_types t (assigned.unset f.method) ks (c ∷ []))) (sym one.given_is) (more_cells at.holds no_cells)))

@@ -18,7 +18,7 @@ use Rattle.jc_base.specs.Order.{Below, same, null_object, null_array, of_boolean
 use Rattle.jc_base.specs.Cell.{IsReference, IsOfKind, AreWhole, no_cells as no_whole, whole_int, one_cell, IsNoHalf, IsInitialHandle, AreInitialWords, AreElementsOf}
 use Rattle.jc_base.specs.Linked.{IsStatic, lacks_code, receiver_words}
 use Rattle.jc_base.specs.World.{Linked, IsWorld}
-use Rattle.jc_base.proofs.Lists.{All-slice_get, slice_get-front}
+use Rattle.jc_base.proofs.Lists.{All-slice_get, slice_get-front, IsSomeAnd-some}
 use Rattle.jc_rules.specs.Flow.{CellsBelow, no_cells, more_cells, receiver_of}
 use Rattle.jc_rules.proofs.CellLists.{cells-append, cells-length}
 use Rattle.vm_store.specs.declared.cell.Cell.{Cell}
@@ -41,7 +41,6 @@ use Rattle.vm_sound.specs.Frames.{Typings, least_types}
 use Rattle.vm_sound.specs.State.{IsMade, field_types, static_types, IsTypedState}
 use Rattle.vm_sound.specs.Laws.{AreTypings, StartsAreTyped}
 use Rattle.vm_sound.specs.Handed.{nargs_of, StartsHandAll}
-use Rattle.vm_sound.proofs.CellTypes.{some-is}
 use Rattle.vm_sound.proofs.Handles.{kinds_of, kind-type, new-kind, kinds-more}
 use Rattle.vm_sound.proofs.References.{null-reference}
 use Rattle.vm_sound.proofs.Stores.{have-more}
@@ -134,7 +133,7 @@ module _ (w : Linked) (world : IsWorld w) where
   handle-has : (ty : Ty) (h : ℕ) → IsReference ty → IsInitialHandle w.classes w.arrays ty h → HasType w.classes (kinds_of (map (initial_object tagged) w.arrays)) (cells.Ref h) ty
   handle-has ty zero r h = null (null-reference w.classes ty r)
   handle-has ty (suc k) r h =
-      let found = some-is (λ (a : ArrayRec). Below w.classes a.kind ty) (slice_get w.arrays k) h in
+      let found = IsSomeAnd-some (λ (a : ArrayRec). Below w.classes a.kind ty) (slice_get w.arrays k) h in
       let elements = All-slice_get (λ (a : ArrayRec). AreElementsOf a.kind a.initial) w.arrays k found.0 world.arrays found.1 in
       reference (initial-kind w.arrays k found.0 found.1)
       (subst (λ a. Below w.classes a ty) (sym (kind-is w.classes found.0.kind found.0.initial elements)) found.2)

@@ -21,6 +21,7 @@ use Rattle.jc_rules.specs.declared.effect.Cells.TheVariants as given
 use Rattle.jc_rules.specs.Demand.{SatisfiesAll}
 use Rattle.jc_rules.specs.Rule.{effect, replacing, value_given, value_wanted, value_size}
 use Rattle.jc_rules.specs.Flow.{IsNotTop, IsNotFresh, no_cells, more_cells}
+use Rattle.jc_rules.proofs.Types.{declared-not_top, declared-not_fresh}
 use Rattle.vm_store.specs.declared.cell.Cell.{Cell}
 use Rattle.vm_store.specs.declared.cell.Cell.TheVariants as cells
 use Rattle.vm_store.specs.declared.kind.ObjectKind.{ObjectKind}
@@ -42,7 +43,7 @@ use Rattle.vm_sound.proofs.Finish.{IsTypedStore}
 use Rattle.vm_sound.proofs.Registers.{asked-of}
 use Rattle.vm_sound.proofs.Writes.{some-nth}
 use Rattle.vm_sound.proofs.ArrayWrites.{held-at}
-use Rattle.vm_sound.proofs.Fields.{declared-topless, declared-kept, one-cell, value-held}
+use Rattle.vm_sound.proofs.Fields.{one-cell, value-held}
 use Rattle.vm_sound.proofs.Turning.{Here, replace-safe}
 
 -- ---- cells that have types
@@ -151,7 +152,7 @@ module _ (w : Linked) (world : IsWorld w) (assigned : Typings) (f : Frame Cell) 
     static-one slot kind ty one is field =
         let c : Cell = slice_index_or statics slot cells.Empty in
         let at = slot-at w world slot kind ty field.there in
-        let read = static-cell slot ty (declared-topless w.classes ty field.ty) (declared-kept w.classes ty field.ty) at.first in
+        let read = static-cell slot ty (declared-not_top w.classes ty field.ty) (declared-not_fresh w.classes ty field.ty) at.first in
         replace-safe w world assigned f below heap statics here 0 (given.One ty) (c ∷ []) heap statics
         (ap (λ o. effect w o (types_in w.classes (assigned.unset f.method) (kinds_of heap) f)) is ∙ ap (replacing 0) (one-cell kind ty field.kind one).given_is) (ap falls_from is)
         (more_cells read.lower no_cells) (one-stacked w here.turn.stands.rec (kinds_of heap) c read.ready) here.store refl

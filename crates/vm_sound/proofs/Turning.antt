@@ -8,6 +8,7 @@ use Rattle.jc_base.specs.declared.ty.Ty.TheVariants.{Class}
 use Rattle.jc_base.specs.World.{Linked, IsWorld}
 use Rattle.jc_base.specs.Dispatch.{cells_of, IsConcrete}
 use Rattle.jc_base.specs.Order.{Below, is_on_chain}
+use Rattle.jc_base.proofs.Lists.{IsSomeAnd-from}
 use Rattle.jc_control.specs.Control.{falls_through}
 use Rattle.jc_ops.specs.Next.{falls_from}
 use Rattle.jc_rules.specs.declared.effect.Cells.{Cells}
@@ -36,7 +37,7 @@ use Rattle.vm_step.specs.Raising.{ends, thrown, raised}
 use Rattle.vm_step.specs.Settled.{goes_to, settled}
 use Rattle.vm_sound.specs.Frames.{Typings, least_types, types_in, IsStacked, IsTypedFrame, result_of, AreWaiting}
 use Rattle.vm_sound.specs.Laws.{IsSafe}
-use Rattle.vm_sound.proofs.CellTypes.{some-from, types-fall}
+use Rattle.vm_sound.proofs.CellTypes.{types-fall}
 use Rattle.vm_sound.proofs.Going.{goes-on}
 use Rattle.vm_sound.proofs.Growing.{all-waiting-fall}
 use Rattle.vm_sound.proofs.Handles.{kinds_of, kind-type, new-kind, kinds-more}
@@ -143,7 +144,7 @@ module _ (w : Linked) (world : IsWorld w) (assigned : Typings) (f : Frame Cell) 
     catching more = (
       record {
         stands = here.turn.stands;
-        regs = some-from (λ (g : Types). CellsBelow w.classes (least_types w.classes (assigned.unset f.method) (kinds_of heap ++ more) f.registers) g.regs)
+        regs = IsSomeAnd-from (λ (g : Types). CellsBelow w.classes (least_types w.classes (assigned.unset f.method) (kinds_of heap ++ more) f.registers) g.regs)
             ((assigned.frames f.method) f.place) here.turn.above here.turn.held
             (cells-trans w.classes (types-fall w.classes (assigned.unset f.method) (kinds_of heap) more f.registers) here.turn.under.regs);
       },

@@ -8,6 +8,7 @@ use Rattle.jc_base.specs.Class.{ClassTable}
 use Rattle.jc_base.specs.Laws.{IsOrderOfTypes}
 use Rattle.jc_base.specs.World.{Linked, IsWorld, code_of}
 use Rattle.jc_base.proofs.Orders.{order-of-types}
+use Rattle.jc_base.proofs.Lists.{IsSomeAnd-some, IsSomeAnd-from}
 use Rattle.jc_decode.specs.Listing.{targets}
 use Rattle.jc_control.specs.Method.{method_with}
 use Rattle.jc_control.specs.WellFormed.{IsPlace, IsTargetPlace}
@@ -31,7 +32,7 @@ use Rattle.vm_store.specs.State.{Frame}
 use Rattle.vm_step.specs.Methods.{of_method, code_at, instruction_at}
 use Rattle.vm_step.specs.Settled.{place_after}
 use Rattle.vm_sound.specs.Frames.{Typings, least_types, types_in, types_with, IsStacked, Standing, IsTypedFrame, at_next, IsWaiting}
-use Rattle.vm_sound.proofs.CellTypes.{some-both, some-is, some-from, some-weaker, not_bottoms, bottoms-below}
+use Rattle.vm_sound.proofs.CellTypes.{some-both, some-weaker, not_bottoms, bottoms-below}
 use Rattle.vm_sound.proofs.Places.{IsThere, instruction-there, place-instruction}
 
 pub frame-trans : (t : ClassTable) {f g h : Types} → FrameBelow t f g → FrameBelow t g h → FrameBelow t f h
@@ -68,7 +69,7 @@ module _ (w : Linked) (world : IsWorld w) (assigned : Typings) where
       (st.typing.rules st.instruction there.stands (subst (IsReached m) (sym there.at) st.reached)) in
       let fit : At (assigned.frames f.method) f.place (IsFit m) = st.typing.fit f.place st.reached in
       let exact = types_in w.classes (assigned.unset f.method) ks f in
-      let all = some-is (λ (g : Types). FrameBelow w.classes exact g × (IsFollowed w m (assigned.frames f.method) st.instruction g × IsFit m g)) ((assigned.frames f.method) f.place)
+      let all = IsSomeAnd-some (λ (g : Types). FrameBelow w.classes exact g × (IsFollowed w m (assigned.frames f.method) st.instruction g × IsFit m g)) ((assigned.frames f.method) f.place)
       (some-both (FrameBelow w.classes exact) (λ g. IsFollowed w m (assigned.frames f.method) st.instruction g × IsFit m g) ((assigned.frames f.method) f.place) typed.below
       (some-both (IsFollowed w m (assigned.frames f.method) st.instruction) (IsFit m) ((assigned.frames f.method) f.place) rules fit)) in
       let above : Types = all.0 in
@@ -174,7 +175,7 @@ module _ (w : Linked) (world : IsWorld w) (assigned : Typings) where
           reached = st.reached;
           typing = st.typing;
         };
-        regs = some-from (λ (g : Types). CellsBelow w.classes (least_types w.classes (assigned.unset f.method) ks registers) g.regs) ((assigned.frames f.method) f.place) turn.above turn.held held;
+        regs = IsSomeAnd-from (λ (g : Types). CellsBelow w.classes (least_types w.classes (assigned.unset f.method) ks registers) g.regs) ((assigned.frames f.method) f.place) turn.above turn.held held;
         next = record {
           rec = st.rec;
           is_method = st.is_method;

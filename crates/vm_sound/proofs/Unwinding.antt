@@ -15,6 +15,7 @@ use Rattle.jc_base.proofs.Climbs.{on_object}
 use Rattle.jc_base.proofs.Eaching.{Contains-from_IsAmong}
 use Rattle.jc_base.proofs.Subtypes.{Below-from_is_below}
 use Rattle.jc_base.proofs.Tests.{found-passes}
+use Rattle.jc_base.proofs.Lists.{IsSomeAnd-some}
 use Rattle.jc_control.specs.Method.{method_with}
 use Rattle.jc_control.specs.WellFormed.{IsHandlerOf}
 use Rattle.jc_control.specs.Control.{Covers, IsReached, caught}
@@ -38,7 +39,7 @@ use Rattle.vm_step.specs.Raising.{running, ends, catches, handler_for, caught_by
 use Rattle.vm_step.specs.Raising.{caught as caught_in}
 use Rattle.vm_sound.specs.Frames.{Typings, least_types, IsStacked, Standing, IsTypedFrame, result_of, AreWaiting}
 use Rattle.vm_sound.specs.Laws.{IsSafe}
-use Rattle.vm_sound.proofs.CellTypes.{some-is, some-both, some-weaker}
+use Rattle.vm_sound.proofs.CellTypes.{some-both, some-weaker}
 use Rattle.vm_sound.proofs.Places.{place-instruction}
 use Rattle.vm_sound.proofs.Turns.{frame-trans}
 use Rattle.vm_sound.proofs.Finish.{IsTypedStore, plain-safe}
@@ -104,11 +105,11 @@ module _ (w : Linked) (assigned : Typings) (ks : List ObjectKind) where
       let by = catcher f st.rec st.is_method class h e in
       let handlers = st.typing.handlers f.place h st.reached by.listed by.covers in
       let entered : IsReached m h.entry = caught st.reached by.listed by.covers in
-      let here = some-is (λ (g : Types). CellsBelow w.classes (least_types w.classes (assigned.unset f.method) ks f.registers) g.regs × At (assigned.frames f.method) h.entry (FrameBelow w.classes (caught_frame h g)))
+      let here = IsSomeAnd-some (λ (g : Types). CellsBelow w.classes (least_types w.classes (assigned.unset f.method) ks f.registers) g.regs × At (assigned.frames f.method) h.entry (FrameBelow w.classes (caught_frame h g)))
       ((assigned.frames f.method) f.place)
       (some-both (λ (g : Types). CellsBelow w.classes (least_types w.classes (assigned.unset f.method) ks f.registers) g.regs) (λ g. At (assigned.frames f.method) h.entry (FrameBelow w.classes (caught_frame h g)))
       ((assigned.frames f.method) f.place) catching.regs handlers) in
-      let there = some-is (λ (g : Types). FrameBelow w.classes (caught_frame h here.0) g × IsFit m g) ((assigned.frames f.method) h.entry)
+      let there = IsSomeAnd-some (λ (g : Types). FrameBelow w.classes (caught_frame h here.0) g × IsFit m g) ((assigned.frames f.method) h.entry)
       (some-both (FrameBelow w.classes (caught_frame h here.0)) (IsFit m) ((assigned.frames f.method) h.entry) here.2.1 (st.typing.fit h.entry entered)) in
       let exact : Types = record { regs = least_types w.classes (assigned.unset f.method) ks f.registers; stack = least_type w.classes (assigned.unset f.method) ks (cells.Ref handle) ∷ [] } in
       let lower : FrameBelow w.classes exact (caught_frame h here.0) =

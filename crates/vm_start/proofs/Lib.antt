@@ -5,6 +5,5 @@ pub mod Writes
 pub mod Elements
 pub mod Fields
 pub mod Handing
-pub mod Erased
 pub mod Beginning
 pub mod Sizes

@@ -1,2 +1,3 @@
 pub mod Running
+pub mod Erased
 pub mod Lasting

@@ -7,7 +7,7 @@ use Rattle.jc_base.specs.declared.ty.Ty.TheVariants.{Bottom, Short, IntHigh, Int
 use Rattle.jc_base.specs.Class.{ClassTable, AreClasses}
 use Rattle.jc_base.specs.Order.{Below, same, nothing, is_below}
 use Rattle.jc_base.specs.Order.{anything as below_top}
-use Rattle.jc_base.proofs.Subtypes.{is_below-from_Below}
+use Rattle.jc_base.proofs.Subtypes.{is_below-from_Below, top_below}
 use Rattle.jc_base.proofs.Lists.{slice_get-front}
 use Rattle.vm_store.specs.declared.cell.Cell.{Cell}
 use Rattle.vm_store.specs.declared.cell.Cell.TheVariants as cells
@@ -21,17 +21,12 @@ use Rattle.vm_store.specs.Cells.{tagged, words, word_of, loaded_as, made_ready, 
 
 -- ---- types with nothing above them but Top
 
-top_only : (t : ClassTable) (u : Ty) → is_below t Top u ≡ true → u ≡ Top
-unfolding is_below
-top_only t Top h = refl
-top_only t u h = absurd (false≢true h)
-
 module _ (t : ClassTable) (ks : List ObjectKind) where
   top_has : (c : Cell) (u : Ty) → u ≡ Top → HasType t ks c u
   top_has c u e = subst (HasType t ks c) (sym e) anything
 
   above_top : AreClasses t → (c : Cell) (u : Ty) → Below t Top u → HasType t ks c u
-  above_top are c u b = top_has c u (top_only t u (is_below-from_Below t are b))
+  above_top are c u b = top_has c u (top_below t u (is_below-from_Below t are b))
 
   above_short : (n : _) (u : Ty) → is_below t Short u ≡ true → HasType t ks (cells.Short n) u
   unfolding is_below

@@ -24,14 +24,14 @@ use Rattle.vm_store.specs.Erasing.{ReadsErased, FramesErase, ObjectsErase, Cells
 
 -- ---- lists of cells
 
-reverse-erased : (xs : List Cell) → map word_of (reverse xs) ≡ reverse (map word_of xs)
+pub reverse-erased : (xs : List Cell) → map word_of (reverse xs) ≡ reverse (map word_of xs)
 reverse-erased [] = refl
 reverse-erased (x ∷ xs) =
     ap (map word_of) (reverse-append (x ∷ []) xs)
     ∙ (map-append word_of (reverse xs) (x ∷ [])
     ∙ (ap (λ ys. ys ++ word_of x ∷ []) (reverse-erased xs) ∙ sym (reverse-append (word_of x ∷ []) (map word_of xs))))
 
-empty-erased : (n : ℕ) → map word_of (replicate n Empty) ≡ replicate n 0
+pub empty-erased : (n : ℕ) → map word_of (replicate n Empty) ≡ replicate n 0
 empty-erased zero = refl
 empty-erased (suc n) = ap (λ ys. 0 ∷ ys) (empty-erased n)
 
@@ -88,7 +88,7 @@ reads s = record {
 frame-erased : (s : State Cell) (f : Frame Cell) → erased (with_top s f) ≡ with_top (erased s) (map_frame word_of f)
 frame-erased s f = ap (λ fs. record (erased s) { frames = map_frame word_of f ∷ fs }) (others-erased s.frames)
 
-entered-erased : (methods : List MethodRec) (m : ℕ) (args : List Cell) → map_frame word_of (entered tagged methods m args) ≡ entered words methods m (map word_of args)
+pub entered-erased : (methods : List MethodRec) (m : ℕ) (args : List Cell) → map_frame word_of (entered tagged methods m args) ≡ entered words methods m (map word_of args)
 entered-erased methods m args =
     let k = register_count methods m in
     ap (λ rs. record { method = m; place = 0; registers = rs; stack = [] })

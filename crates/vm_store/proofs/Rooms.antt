@@ -1,30 +1,13 @@
 -- Whether one more object has room.
-use Rattle.std.proofs.Common.{◌≡◌, ℕ, ◌+◌, ◌<◌, ◌≤◌, Bool, true, false, List, length, refl, sym, ◌∙◌, ap, arith}
+use Rattle.std.proofs.Common.{◌≡◌, ℕ, ◌+◌, ◌<◌, ◌≤◌, true, false, List, length, sym, ◌∙◌, ap, arith}
 use Rattle.std.specs.Prelude.{IsTrue, nat_lt, nat_le, ◌&&◌}
-use Rattle.std.proofs.lemmas.Bool.Decides.{nat_tests}
-use Rattle.std.proofs.lemmas.Bool.{false≢true}
+use Rattle.std.proofs.lemmas.Bool.{lt-ltb, le-ltb, ltb-true, leb-true, and_parts}
 use Rattle.vm_store.specs.declared.header.Header.{Header}
 use Rattle.vm_store.specs.State.{State}
 use Rattle.vm_store.specs.Objects.{has_room, cell_count}
 use Rattle.vm_store.specs.Layout.{objects_in, Follow}
 use Rattle.vm_store.proofs.Heaps.{sum-objects}
 use Rattle.std.proofs.lemmas.List.{length-map}
-
-lt-true : (a b : ℕ) → a < b → nat_lt a b ≡ true
-lt-true a b h = grind (arith, nat_tests)
-
-not-lt : (a b : ℕ) → b ≤ a → nat_lt a b ≡ false
-not-lt a b h = grind (arith, nat_tests)
-
-true-lt : (a b : ℕ) → nat_lt a b ≡ true → a < b
-true-lt a b h = grind (arith, nat_tests)
-
-true-le : (a b : ℕ) → nat_le a b ≡ true → a ≤ b
-true-le a b h = grind (arith, nat_tests)
-
-both-true : (a b : Bool) → a && b ≡ true → (a ≡ true) × (b ≡ true)
-both-true true b h = (refl, h)
-both-true false b h = absurd (false≢true h)
 
 -- what room means
 pub record HasRoom (objects cells more : ℕ) : Type 0 where
@@ -33,8 +16,8 @@ pub record HasRoom (objects cells more : ℕ) : Type 0 where
 
 pub room-means : {A : Type 0} (s : State A) (n : ℕ) → IsTrue (has_room s n) → HasRoom (length s.heap) (cell_count s) n
 room-means s n h =
-    let b = both-true (nat_lt (length s.heap) 4096) (nat_le (cell_count s + n) 32768) h in
-    record { one = true-lt (length s.heap) 4096 b.0; all = true-le (cell_count s + n) 32768 b.1 }
+    let b = and_parts (nat_lt (length s.heap) 4096) (nat_le (cell_count s + n) 32768) h in
+    record { one = ltb-true (length s.heap) 4096 b.0; all = leb-true (cell_count s + n) 32768 b.1 }
 
 module _ {A : Type 0} (s : State A) (xs : List A) (hs : List Header) (end : ℕ) (heap : s.heap ≡ objects_in xs hs) (follow : Follow 0 hs end) (enough : end ≤ length xs) where
   pub cells_counted : cell_count s ≡ end
@@ -45,7 +28,7 @@ module _ {A : Type 0} (s : State A) (xs : List A) (hs : List Header) (end : ℕ)
 
   pub room_then : (n : ℕ) → length hs < 4096 → nat_le (end + n) 32768 ≡ has_room s n
   room_then n few =
-      let t : nat_lt (length s.heap) 4096 ≡ true = lt-true (length s.heap) 4096 (omega (arith, few, objects_counted)) in
+      let t : nat_lt (length s.heap) 4096 ≡ true = lt-ltb (length s.heap) 4096 (omega (arith, few, objects_counted)) in
       ap (λ k. nat_le (k + n) 32768) (sym cells_counted) ∙ ap (λ b. b && nat_le (cell_count s + n) 32768) (sym t)
 
   pub room_for : (n : ℕ) → IsTrue (has_room s n) → HasRoom (length hs) end n
@@ -55,5 +38,5 @@ module _ {A : Type 0} (s : State A) (xs : List A) (hs : List Header) (end : ℕ)
 
   pub room_else : (n : ℕ) → 4096 ≤ length hs → false ≡ has_room s n
   room_else n many =
-      let f : nat_lt (length s.heap) 4096 ≡ false = not-lt (length s.heap) 4096 (omega (arith, many, objects_counted)) in
+      let f : nat_lt (length s.heap) 4096 ≡ false = le-ltb (length s.heap) 4096 (omega (arith, many, objects_counted)) in
       ap (λ b. b && nat_le (cell_count s + n) 32768) (sym f)

@@ -23,7 +23,7 @@ kinds-kept s zero i c = record { kept = refl }
 kinds-kept s (suc h) i c = record { kept = kinds-write s.heap h i c }
 
 -- a write keeps how many cells an object has
-length-write : {A : Type 0} (os : List (Object A)) (h i : ℕ) (c : A) → length (cells_in (slice_get (write_object os h i c) h)) ≡ length (cells_in (slice_get os h))
+pub length-write : {A : Type 0} (os : List (Object A)) (h i : ℕ) (c : A) → length (cells_in (slice_get (write_object os h i c) h)) ≡ length (cells_in (slice_get os h))
 length-write [] h i c = refl
 length-write (o ∷ os) zero i c = length-set o.cells i c
 length-write (o ∷ os) (suc h) i c = length-write os h i c

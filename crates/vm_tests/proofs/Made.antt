@@ -1,6 +1,5 @@
 -- A new object, by its handle, and one of which a cell is written.
 use Rattle.std.proofs.Common.{◌≡◌, ℕ, zero, suc, ◌+◌, ◌*◌, List, [], ◌∷◌, ◌++◌, length, refl, sym, ◌∙◌, ap, subst, arith}
-use Rattle.std.proofs.lemmas.List.{length-set}
 use Rattle.std.proofs.lemmas.Bool.{false≢true}
 use Rattle.std.specs.Prelude.{Some, IsSome, slice_get, slice_set}
 use Rattle.vm_store.specs.declared.kind.ObjectKind.{ObjectKind}
@@ -14,6 +13,7 @@ use Rattle.vm_store.specs.Kind.{element_width}
 use Rattle.vm_store.specs.Cells.{Cells}
 use Rattle.vm_store.specs.Objects.{array_cells, instance_cells, cells_in, object_at, object_cells, with_object, with_object_cell, write_object}
 use Rattle.vm_store.proofs.Fills.{length-array}
+use Rattle.vm_store.proofs.TypedHeaps.{length-write}
 
 last-object : {A : Type 0} (os : List (Object A)) (o : Object A) → slice_get (os ++ o ∷ []) (length os) ≡ Some o
 last-object [] o = refl
@@ -54,11 +54,6 @@ made_there s t kind cells h made at =
 
 -- ---- an object of which a cell is written
 
-written-cells : {A : Type 0} (os : List (Object A)) (h i : ℕ) (c : A) → length (cells_in (slice_get (write_object os h i c) h)) ≡ length (cells_in (slice_get os h))
-written-cells [] h i c = refl
-written-cells (o ∷ os) zero i c = length-set o.cells i c
-written-cells (o ∷ os) (suc h) i c = written-cells os h i c
-
 written-there : {A : Type 0} (os : List (Object A)) (h i : ℕ) (c : A) → IsSome (slice_get os h) → IsSome (slice_get (write_object os h i c) h)
 written-there [] h i c there = there
 written-there (o ∷ os) zero i c there = refl
@@ -69,7 +64,7 @@ kept_cells s t h i c is = ap (λ x. length (object_cells x h)) is ∙ go h
   where
     go : (h : ℕ) → length (object_cells (with_object_cell s h i c) h) ≡ length (object_cells s h)
     go zero = refl
-    go (suc h) = written-cells s.heap h i c
+    go (suc h) = length-write s.heap h i c
 
 pub kept_there : {A : Type 0} (s t : State A) (h i : ℕ) (c : A) → t ≡ with_object_cell s h i c → IsSome (object_at s h) → IsSome (object_at t h)
 kept_there s t h i c is there = subst (λ x. IsSome (object_at x h)) (sym is) (go h there)

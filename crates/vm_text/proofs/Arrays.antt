@@ -1,5 +1,5 @@
 -- The elements of an array of numbers, read one by one and told as a list.
-use Rattle.std.proofs.Common.{◌≡◌, ◌<◌, ◌≤◌, ℕ, zero, suc, ◌+◌, ℤ, Bool, true, false, length, Option, Some, None, refl, sym, ap, ◌∙◌, arith}
+use Rattle.std.proofs.Common.{◌≡◌, ◌<◌, ℕ, zero, suc, ◌+◌, ℤ, Bool, true, false, length, Option, Some, None, refl, sym, ap, ◌∙◌, arith}
 use Rattle.std.specs.Prelude.{nat_lt, if◌then◌else◌, map, slice_get, option_map, option_and_then}
 use Rattle.std.specs.List.{range_with_len}
 use Rattle.std.proofs.lemmas.Bool.{ltb-true, ltb-false}
@@ -20,16 +20,13 @@ given_at f a (suc n) (suc i) below =
     let same : a + 1 + i ≡ a + suc i = omega arith in
     given_at f (a + 1) n i (omega (arith, below)) ∙ ap (λ k. Some (f k)) same
 
-past_all : {X : Type 0} (f : ℕ → X) (n i : ℕ) → n ≤ i → slice_get (map f (range_with_len 0 n)) i ≡ None
-past_all f n i past = let long = length-map-range_with_len f 0 n in slice_get_past (map f (range_with_len 0 n)) i (omega (arith, long, past))
-
 told : (t : Option Ty) (b : Bool) (f : ℕ → ℤ) (n i : ℕ) → nat_lt i n ≡ b
     → (if b then if_numbers t (f i) else None)
     ≡ option_and_then (λ (a : NumberArray). slice_get a.elements i) (option_map (λ ty. record { ty = ty; elements = map f (range_with_len 0 n) }) t)
 told None true f n i is = refl
 told None false f n i is = refl
 told (Some ty) true f n i is = let same : 0 + i ≡ i = omega arith in sym (given_at f 0 n i (ltb-true i n is) ∙ ap (λ k. Some (f k)) same)
-told (Some ty) false f n i is = sym (past_all f n i (ltb-false i n is))
+told (Some ty) false f n i is = let long = length-map-range_with_len f 0 n in sym (slice_get_past (map f (range_with_len 0 n)) i (omega (arith, long, ltb-false i n is)))
 
 counted : (t : Option Ty) (f : ℕ → ℤ) (n : ℕ)
     → if_numbers t n ≡ option_map (λ (a : NumberArray). length a.elements) (option_map (λ ty. record { ty = ty; elements = map f (range_with_len 0 n) }) t)

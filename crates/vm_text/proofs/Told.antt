@@ -3,19 +3,13 @@ use Rattle.std.proofs.Common.{◌≡◌, ◌<◌, ℕ, zero, suc, ◌+◌, ℤ, 
 use Rattle.std.specs.Prelude.{take, slice_get, option_map, option_and_then}
 use Rattle.std.specs.List.{flat_map}
 use Rattle.std.proofs.lemmas.Grind.{flat_map-append}
+use Rattle.std.proofs.lemmas.Option.{slice_get_within, get_or_from_slice_get}
+use Rattle.std.proofs.lemmas.List.{take_more}
 use Rattle.vm_step.specs.declared.ending.Value.{Value}
 use Rattle.cap_text.specs.Ending.{static_line, static_lines, element_text}
 use Rattle.cap_text.specs.Room.{Roomed, Writes}
 use Rattle.cap_text.proofs.Rooms.{both}
 use Rattle.vm_text.specs.Left.{NumberArray, elements_in}
-
-next_taken : {X : Type 0} (xs : List X) (n : ℕ) (x : X) → slice_get xs n ≡ Some x → take (n + 1) xs ≡ take n xs ++ x ∷ []
-next_taken {X} xs n x is = let same : n + 1 ≡ suc n = omega arith in ap (λ k. take k xs) same ∙ go xs n is
-  where
-    go : (ys : List X) (m : ℕ) → slice_get ys m ≡ Some x → take (suc m) ys ≡ take m ys ++ x ∷ []
-    go [] m e = absurd (cc)
-    go (y ∷ ys) zero e = cc
-    go (y ∷ ys) (suc m) e = ap (λ zs. y ∷ zs) (go ys m e)
 
 pub nothing : (a : Roomed) → Writes a a []
 nothing a = record { text = sym (append-nil a.text); used = omega arith; whole = omega arith }
@@ -34,8 +28,9 @@ element_found (Some a) i r is = sym is
 pub one_element : (a b c : Roomed) (xs : List ℤ) (i : ℕ) (x : ℤ) → slice_get xs i ≡ Some x
     → Writes a b (flat_map element_text (take i xs)) → Writes b c (element_text x) → Writes a c (flat_map element_text (take (i + 1) xs))
 one_element a b c xs i x is before one =
+    let taken : take (i + 1) xs ≡ take i xs ++ x ∷ [] = take_more xs i x (slice_get_within xs i x is) ∙ ap (λ y. take i xs ++ y ∷ []) (get_or_from_slice_get xs i x x is) in
     let all : flat_map element_text (take (i + 1) xs) ≡ flat_map element_text (take i xs) ++ element_text x
-    = ap (flat_map element_text) (next_taken xs i x is) ∙ flat_map-append element_text (take i xs) (x ∷ [])
+    = ap (flat_map element_text) taken ∙ flat_map-append element_text (take i xs) (x ∷ [])
     ∙ ap (λ t. flat_map element_text (take i xs) ++ t) (append-nil (element_text x)) in
     subst (Writes a c) (sym all) (both a b c (flat_map element_text (take i xs)) (element_text x) before one)
 
@@ -52,8 +47,9 @@ pub one_field : (a b c : Roomed) (xs : List Value) (n : ℕ) (x : Value) → len
     → Writes a b (static_lines 0 (take n xs)) → Writes b c (static_line n x) → Writes a c (static_lines 0 (take (n + 1) xs))
 one_field a b c xs n x long is before one =
     let place : 0 + length (take n xs) ≡ n = omega (arith, long) in
+    let taken : take (n + 1) xs ≡ take n xs ++ x ∷ [] = take_more xs n x (slice_get_within xs n x is) ∙ ap (λ y. take n xs ++ y ∷ []) (get_or_from_slice_get xs n x x is) in
     let all : static_lines 0 (take (n + 1) xs) ≡ static_lines 0 (take n xs) ++ static_line n x
-    = ap (static_lines 0) (next_taken xs n x is) ∙ lines_joined 0 (take n xs) x ∙ ap (λ k. static_lines 0 (take n xs) ++ static_line k x) place in
+    = ap (static_lines 0) taken ∙ lines_joined 0 (take n xs) x ∙ ap (λ k. static_lines 0 (take n xs) ++ static_line k x) place in
     subst (Writes a c) (sym all) (both a b c (static_lines 0 (take n xs)) (static_line n x) before one)
 
 -- ---- within a list

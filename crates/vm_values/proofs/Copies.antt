@@ -17,7 +17,7 @@ copied_under cells copied under h =
     sym (drop-drop under copied (ys ++ cells)) ∙ ap (drop under) (drop_at ys cells copied len) in
     cc
 
-front : {A : Type 0} (fs : List (Frame A)) → 0 < length fs → first_frame fs ∷ other_frames fs ≡ fs
+pub front : {A : Type 0} (fs : List (Frame A)) → 0 < length fs → first_frame fs ∷ other_frames fs ≡ fs
 front [] h = absurd (omega (arith, h))
 front (f ∷ fs) h = refl
 

@@ -14,7 +14,7 @@ use Rattle.jc_decode.specs.declared.layout.Cases.TheVariants.{Absent as NoCases}
 use Rattle.jc_decode.specs.Layout.{layout_of, total_width}
 use Rattle.jc_decode.specs.Cases.{cases, cases_in, cases_by, is_table, has_cases, is_switch}
 use Rattle.jc_decode.specs.Listing.{is_branch, jumps, target, targets}
-use Rattle.jc_control.proofs.Elements.{drop-here, drop-past}
+use Rattle.jc_decode.proofs.Elements.{drop-here, drop-past}
 use Rattle.jc_control.proofs.TargetLists.{target-number}
 
 module _ (p : Case → Bool) (cs : List Case) where

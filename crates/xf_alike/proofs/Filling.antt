@@ -3,6 +3,7 @@ use Rattle.std.proofs.Common.{◌≡◌, ℕ, true, inl, ◌+◌, ◌<◌, ◌�
 use Rattle.std.specs.Prelude.{Option, Some, None, Contains, is_some}
 use Rattle.jc_base.specs.World.{Linked}
 use Rattle.jc_base.proofs.Eaching.{Contains-from_IsAmong}
+use Rattle.jc_base.proofs.Lists.{IsSomeAnd-some}
 use Rattle.jc_decode.specs.declared.insn.Placed.{Placed}
 use Rattle.jc_decode.specs.declared.symbols.Laid.{Laid}
 use Rattle.jc_decode.specs.Listing.{listing}
@@ -13,7 +14,6 @@ use Rattle.jc_control.specs.Control.{IsReached, begins}
 use Rattle.jc_control.proofs.Closing.{instructions-are-placed}
 use Rattle.jc_rules.specs.Demand.{Frame as Types}
 use Rattle.jc_rules.specs.Flow.{At, IsFollowed}
-use Rattle.vm_sound.proofs.CellTypes.{some-is}
 use Rattle.xf_plan.specs.Source.{Source}
 use Rattle.xf_emission.specs.Emission.{rewritten}
 use Rattle.xf_emission.specs.Group.{body}
@@ -30,7 +30,7 @@ some-step s planned stand =
     let i : Placed = first.0 in
     let reached : IsReached s.method i.place = subst (IsReached s.method) (sym first.2) begins in
     let also : is_some (s.frames i.place) ≡ true = (planned.frames.reached i.place).1 reached in
-    let found = some-is (λ (g : Types). IsFollowed s.world s.method s.frames i g) (s.frames i.place) (planned.typing.rules i first.1 reached) in
+    let found = IsSomeAnd-some (λ (g : Types). IsFollowed s.world s.method s.frames i g) (s.frames i.place) (planned.typing.rules i first.1 reached) in
     let applies = found.2.steps.1 in
     let g = group-steps stand s i applies.operation planned.code first.1 also (sym applies.resolves) in
     let most = stand-inside s (body_at s i.place) (body s i applies.operation) g.body_steps in

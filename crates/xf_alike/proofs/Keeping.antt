@@ -44,7 +44,7 @@ use Rattle.vm_sound.proofs.Going.{goes-on}
 use Rattle.vm_sound.proofs.Places.{IsThere, instruction-there}
 use Rattle.vm_erasure.specs.Erasure.{IsNoFault}
 use Rattle.vm_erasure.proofs.Together.{safe-free}
-use Rattle.vm_alike.specs.Alike.{renamed_cell, renamed_new, KeepsPlain, StayAlike}
+use Rattle.vm_alike.specs.Alike.{renamed_cell, renamed_new, StayAlike}
 use Rattle.vm_alike.specs.Running.{HaveKeys, keys_at, Executes, RunAlike, ComeAlike, next_alike, target_alike, call_alike, return_alike, exception_alike, throw_alike, end_alike}
 use Rattle.vm_alike.proofs.Settling.{unless-none}
 use Rattle.xf_alike.specs.Counterparts.{IsKept, AreCounterparts}
@@ -52,6 +52,7 @@ use Rattle.xf_alike.specs.Beside.{AreTop, top_kept, WaitBeside, wait_kept, AreUn
 use Rattle.xf_alike.proofs.Typed.{AreLaws, first-runs, frames-typed}
 use Rattle.xf_alike.proofs.Settling.{Settles, settled-now, settles-as, under-length, beside, enters, gives, kept-code, kept-room}
 use Rattle.xf_alike.proofs.Throwing.{CatchBeside, catch_kept, throws-settle, raises-settle}
+use Rattle.xf_groups.proofs.Plain.{renamed-keeps}
 
 -- ---- the same places
 
@@ -70,9 +71,6 @@ own-cells (c ∷ cs) = ap (λ d. d ∷ map (renamed_cell own) cs) (own-cell c) �
 own-new : (op : Operation) → renamed_new own op ≡ op
 own-new (ops.New p class) = refl
 own-new _ = refl
-
-keeps-plain : (e : ℕ → ℕ) → KeepsPlain tagged (renamed_cell e)
-keeps-plain e = record { empty = refl; short = λ n. refl; high = λ n. refl; low = λ n. refl; reference = λ h. refl }
 
 have-keys : (op : Operation) (xs ys : List ℤ) → xs ≡ ys → HaveKeys op xs ys
 have-keys (ops.Switch width) xs ys e = e
@@ -188,7 +186,7 @@ module _ (v w : Linked) (typings : Typings) (laws : AreLaws v) (pair : AreCounte
         (calls-settle y u stays m method count fetched resolved place handed acts (subst (IsSafe v typings) enter safe))
     come-settles m o p fetched resolved (return_alike value cs plain acts is also) safe =
         settles-as v w typings o p (given_to tagged v value cs (without_top z)) (given_to tagged w value cs (without_top t)) is also
-        (gives v w typings laws pair value cs (λ e. plain (renamed_cell e) (keeps-plain e)) z.heap t.heap z.statics t.statics heap statics under
+        (gives v w typings laws pair value cs (λ e. plain (renamed_cell e) (renamed-keeps e)) z.heap t.heap z.statics t.statics heap statics under
         (subst (IsSafe v typings) is safe))
     come-settles m o p fetched resolved (exception_alike exception acts is also) safe =
         settles-as v w typings o p (raised tagged v exception z) (raised tagged w exception t) is also

@@ -2,12 +2,13 @@
 use Rattle.std.proofs.Common.{◌≡◌, ℕ, suc, ◌+◌, ◌<◌, ◌≤◌, List, [], ◌∷◌, ◌++◌, length, drop, if◌then◌else◌, ◌∙◌, ap, arith}
 use Rattle.std.specs.Prelude.{ℤ, pos, negsuc, ◌≤ℤ◌, ◌<ℤ◌, get_or}
 use Rattle.std.proofs.lemmas.Int.{ints}
+use Rattle.std.proofs.lemmas.List.{drop_more}
 use Rattle.jc_base.specs.declared.record.Handler.{Handler}
 use Rattle.jc_ops.specs.declared.operation.Operation.{Operation}
 use Rattle.xf_plan.specs.Source.{Source}
 use Rattle.xf_emission.specs.Jump.{IsNearBy, lead, leads, stub, stubs_of}
 use Rattle.xf_emission.specs.Emission.{caught, caught_from, is_live, range, ranges_from}
-use Rattle.xf_code.proofs.Steps.{rest-cons, rest-none}
+use Rattle.xf_code.proofs.Steps.{rest-none}
 
 pub near-low : (t : ℤ) → IsNearBy t → pos 0 ≤ℤ t
 near-low (pos q) h = omega (arith, ints)
@@ -36,7 +37,7 @@ module _ (s : Source) (hs : List Handler) (n : ℕ) where
   caught-next d lt =
       let next : suc n ≡ n + 1 = omega arith in
       let h = get_or hs n d in
-      ap (caught_from s n) (rest-cons hs n d lt) ∙ ap (λ k. (if is_live s h then caught s n h else []) ++ caught_from s k (drop (n + 1) hs)) next
+      ap (caught_from s n) (drop_more hs n d lt) ∙ ap (λ k. (if is_live s h then caught s n h else []) ++ caught_from s k (drop (n + 1) hs)) next
 
   pub caught-none : length hs ≤ n → caught_from s n (drop n hs) ≡ []
   caught-none le = ap (caught_from s n) (rest-none hs n le)
@@ -46,7 +47,7 @@ module _ (s : Source) (hs : List Handler) (n : ℕ) where
   ranges-next d lt =
       let next : suc n ≡ n + 1 = omega arith in
       let h = get_or hs n d in
-      ap (ranges_from s n) (rest-cons hs n d lt) ∙ ap (λ k. (if is_live s h then range s n h ∷ [] else []) ++ ranges_from s k (drop (n + 1) hs)) next
+      ap (ranges_from s n) (drop_more hs n d lt) ∙ ap (λ k. (if is_live s h then range s n h ∷ [] else []) ++ ranges_from s k (drop (n + 1) hs)) next
 
   pub ranges-none : length hs ≤ n → ranges_from s n (drop n hs) ≡ []
   ranges-none le = ap (ranges_from s n) (rest-none hs n le)

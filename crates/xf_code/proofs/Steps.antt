@@ -1,7 +1,7 @@
 -- Steps of loops that append items.
-use Rattle.std.proofs.Common.{◌≡◌, ℕ, zero, suc, ◌+◌, ◌<◌, ◌≤◌, List, [], ◌∷◌, ◌++◌, length, drop, All, map, flat_map, refl, sym, ◌∙◌, ap, arith, append_assoc, drop-cons, subst}
+use Rattle.std.proofs.Common.{◌≡◌, ℕ, zero, suc, ◌+◌, ◌<◌, ◌≤◌, List, [], ◌∷◌, ◌++◌, length, drop, All, map, flat_map, refl, sym, ◌∙◌, ap, arith, append_assoc, subst}
 use Rattle.std.specs.Prelude.{get_or}
-use Rattle.std.proofs.lemmas.List.{append-nil}
+use Rattle.std.proofs.lemmas.List.{append-nil, drop_more}
 use Rattle.std.proofs.lemmas.List.Concat.{flat_map-cons}
 
 -- what is appended was first among what is left
@@ -13,10 +13,6 @@ goes-on items step rest left whole now first is inv =
 pub ended : {X : Type 0} (items rest whole : List X) → rest ≡ [] → items ++ rest ≡ whole → items ≡ whole
 ended items rest whole none inv = sym (append-nil items) ∙ ap (λ xs. items ++ xs) (sym none) ∙ inv
 
--- the rest of a list from the n-th element on
-pub rest-cons : {X : Type 0} (xs : List X) (n : ℕ) (d : X) → n < length xs → drop n xs ≡ get_or xs n d ∷ drop (n + 1) xs
-rest-cons xs n d lt = let next : suc n ≡ n + 1 = omega arith in drop-cons xs n d lt ∙ ap (λ k. get_or xs n d ∷ drop k xs) next
-
 pub rest-none : {X : Type 0} (xs : List X) (n : ℕ) → length xs ≤ n → drop n xs ≡ []
 rest-none [] zero le = refl
 rest-none [] (suc n) le = refl
@@ -24,10 +20,10 @@ rest-none (x ∷ xs) zero le = absurd (omega arith)
 rest-none (x ∷ xs) (suc n) le = rest-none xs n (omega arith)
 
 pub map-first : {X Y : Type 0} (f : X → Y) (xs : List X) (n : ℕ) (d : X) → n < length xs → map f (drop n xs) ≡ f (get_or xs n d) ∷ map f (drop (n + 1) xs)
-map-first f xs n d lt = ap (map f) (rest-cons xs n d lt)
+map-first f xs n d lt = ap (map f) (drop_more xs n d lt)
 
 pub flat-first : {X Y : Type 0} (f : X → List Y) (xs : List X) (n : ℕ) (d : X) → n < length xs → flat_map f (drop n xs) ≡ f (get_or xs n d) ++ flat_map f (drop (n + 1) xs)
-flat-first f xs n d lt = ap (flat_map f) (rest-cons xs n d lt) ∙ flat_map-cons f (get_or xs n d) (drop (n + 1) xs)
+flat-first f xs n d lt = ap (flat_map f) (drop_more xs n d lt) ∙ flat_map-cons f (get_or xs n d) (drop (n + 1) xs)
 
 pub all-first : {X : Type 0} (P : X → Type 0) (xs after : List X) (x : X) → xs ≡ x ∷ after → All P xs → P x
 all-first P xs after x e h = let all : All P (x ∷ after) = subst (All P) e h in all 0 x (omega arith)

@@ -16,13 +16,10 @@ use Rattle.jc_decode.specs.Decoding.{range_count, decoded}
 use Rattle.jc_decode.specs.Cases.{cases, range_case, pair_case, with_default, HasTable}
 use Rattle.jc_decode.specs.Listing.{jumps, target, targets}
 use Rattle.jc_decode.proofs.Tables.{cases-by, range_table, pairs_table}
+use Rattle.jc_decode.proofs.Defaults.{no_cases}
 
 has-table : (xs : List ℕ) (at : ℕ) (i : Insn) → decoded xs at ≡ Ok i → HasTable xs at i
 has-table xs at i h switch = ap (with_default i.x) h
-
-no-cases : (xs : List ℕ) (at : ℕ) (i : Insn) (e : CodeEnd) → layout_of i.op ≡ Err e → cases xs at i ≡ []
-unfolding cases
-no-cases xs at i e is = rw is refl
 
 few-cases : (xs : List ℕ) (at : ℕ) (i : Insn) → decoded xs at ≡ Ok i → 2 * length (cases xs at i) ≤ length xs
 few-cases xs at i h = by_layout (layout_of i.op) refl
@@ -46,7 +43,7 @@ few-cases xs at i h = by_layout (layout_of i.op) refl
 
     by_layout : (r : Result Layout CodeEnd) → layout_of i.op ≡ r → 2 * length (cases xs at i) ≤ length xs
     by_layout (Ok l) is = by_cases l l.cases is refl
-    by_layout (Err e) is = omega (arith, ap length (no-cases xs at i e is))
+    by_layout (Err e) is = omega (arith, ap length (no_cases xs at i e is))
 
 pub few-targets : (xs : List ℕ) (p : Placed) → length xs ≤ 32767 → p.place < length xs → decoded xs p.place ≡ Ok p.insn → p.place / 2 + length (targets xs p) ≤ 32768
 unfolding targets

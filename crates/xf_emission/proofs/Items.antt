@@ -5,6 +5,7 @@ use Rattle.jc_base.specs.declared.ty.Kind.{Kind}
 use Rattle.jc_base.specs.declared.ty.Kind.TheVariants as kinds
 use Rattle.jc_base.specs.declared.ty.Ty.{Ty}
 use Rattle.jc_base.specs.declared.ty.Ty.TheVariants.{Short, IntHigh}
+use Rattle.jc_base.proofs.Eaching.{Each-append}
 use Rattle.jc_decode.specs.declared.symbols.Item.{Item}
 use Rattle.jc_decode.specs.declared.symbols.Item.TheVariants.{Plain}
 use Rattle.jc_decode.specs.Layout.{layout_of, opcode}
@@ -17,7 +18,6 @@ use Rattle.xf_homes.specs.Walk.{has, same_home}
 use Rattle.xf_plan.specs.Source.{Source}
 use Rattle.xf_plan.specs.Plan.{register, stack_homes, needed}
 use Rattle.jc_ops.specs.declared.operation.Operation.{Operation}
-use Rattle.xf_homes.proofs.Rising.{each-append}
 use Rattle.xf_emission.specs.declared.origin.Origin.{Origin}
 use Rattle.xf_emission.specs.declared.origin.Origin.TheVariants.{After}
 use Rattle.xf_emission.specs.Move.{with_byte, load_op, store_op, load, store, copy, loads, spill}
@@ -33,7 +33,7 @@ each-if P false xs ys a b = b
 
 pub each-flat : {X Y : Type 0} (P : Y → Type 0) (f : X → List Y) (xs : List X) → ((x : X) → Each P (f x)) → Each P (flat_map f xs)
 each-flat P f [] h = tt
-each-flat P f (x ∷ xs) h = each-append P (f x) (flat_map f xs) (h x) (each-flat P f xs h)
+each-flat P f (x ∷ xs) h = Each-append P (f x) (flat_map f xs) (h x) (each-flat P f xs h)
 
 pub each-map : {X Y : Type 0} (P : Y → Type 0) (f : X → Y) (xs : List X) → ((x : X) → P (f x)) → Each P (map f xs)
 each-map P f [] h = tt
@@ -82,7 +82,7 @@ module _ (code : List ℕ) (all : List Item) (s : Source) (small : (h : Home) �
 
     locals-suit : (x n : ℕ) → Each (IsItem code all) (locals_copies s o q x n)
     locals-suit x zero = tt
-    locals-suit x (suc n) = each-append (IsItem code all) (local_copies s o q x) (locals_copies s o q (suc x) n) (local-suits x) (locals-suit (suc x) n)
+    locals-suit x (suc n) = Each-append (IsItem code all) (local_copies s o q x) (locals_copies s o q (suc x) n) (local-suits x) (locals-suit (suc x) n)
 
     pub copies-suit : Each (IsItem code all) (copies s o q)
     unfolding copies
@@ -92,13 +92,13 @@ module _ (code : List ℕ) (all : List Item) (s : Source) (small : (h : Home) �
   cells-suit [] ks = tt
   cells-suit (h ∷ hs) [] = tt
   cells-suit (h ∷ hs) (k ∷ ks) =
-      each-append (IsItem code all) (if same_home h k then [] else copy s h k) (cell_copies s hs ks)
+      Each-append (IsItem code all) (if same_home h k then [] else copy s h k) (cell_copies s hs ks)
       (each-if (IsItem code all) (same_home h k) [] (copy s h k) tt (copy-suits h k)) (cells-suit hs ks)
 
   pub taken-suits : (p : ℕ) (op : Operation) (n q : ℕ) → Each (IsItem code all) (taken s p op n q)
   unfolding taken
   taken-suits p op n q =
-      each-append (IsItem code all) (cell_copies s (under s p n) (stack_homes s q)) (copies s (After p op) q) (cells-suit (under s p n) (stack_homes s q)) (copies-suit (After p op) q)
+      Each-append (IsItem code all) (cell_copies s (under s p n) (stack_homes s q)) (copies s (After p op) q) (cells-suit (under s p n) (stack_homes s q)) (copies-suit (After p op) q)
 
   -- ---- what is emitted beside
 

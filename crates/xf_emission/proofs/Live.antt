@@ -3,6 +3,7 @@ use Rattle.std.proofs.Common.{◌≡◌, ℕ, zero, suc, ◌+◌, ◌-◌, ◌<�
 use Rattle.std.specs.Prelude.{is_some, nat_lt}
 use Rattle.std.proofs.lemmas.Bool.Decides.{nat_tests}
 use Rattle.std.proofs.lemmas.List.Elements.{All-contains, Contains-append_right}
+use Rattle.std.proofs.lemmas.Bool.{both_ways}
 use Rattle.jc_base.specs.declared.record.Handler.{Handler}
 use Rattle.jc_control.specs.WellFormed.{IsBoundary, IsHandlerOf}
 use Rattle.jc_control.specs.Control.{IsReached, IsLive}
@@ -92,10 +93,7 @@ module _ (s : Source) (listed : AreListed s.method.code) (has : HasFrames s) whe
       by false e f =
           let past : h.end ≤ first_reached s h.start = grind (arith, nat_tests, e) in
           let dead = f.none l.place l.covers.from (omega (arith, past, l.covers.before)) in
-          absurd (no (is_some (s.frames l.place)) dead (there l.place l.reached))
-        where
-          no : (b : Bool) → b ≡ false → b ≡ true → ⊥
-          no b e f = absurd (cc)
+          absurd (both_ways (is_some (s.frames l.place)) dead (there l.place l.reached))
 
   pub keeps-live : All (IsHandlerOf s.method.code) s.method.rec.handlers → (n : ℕ) (before hs : List Handler) → before ++ hs ≡ s.method.rec.handlers → KeepsLive s.method hs (ranges_from s n hs)
   keeps-live formed n before [] e = none_left
@@ -104,13 +102,10 @@ module _ (s : Source) (listed : AreListed s.method.code) (has : HasFrames s) whe
       by (is_live s h) refl (All-contains (IsHandlerOf s.method.code) s.method.rec.handlers h formed c) c
       (keeps-live formed (suc n) (before ++ h ∷ []) hs (moves-on before (h ∷ hs) hs s.method.rec.handlers h refl e))
     where
-      no : (b : Bool) → b ≡ false → b ≡ true → ⊥
-      no b e f = absurd (cc)
-
       by : (b : Bool) → is_live s h ≡ b → IsHandlerOf s.method.code h → Contains s.method.rec.handlers h → KeepsLive s.method hs (ranges_from s (suc n) hs)
           → KeepsLive s.method (h ∷ hs) ((if b then range s n h ∷ [] else []) ++ ranges_from s (suc n) hs)
       by true e is c rest = live_kept (live-is h is c e) refl rest
-      by false e is c rest = dead_left (λ l. no (is_live s h) e (is-live h is l)) rest
+      by false e is c rest = dead_left (λ l. both_ways (is_live s h) e (is-live h is l)) rest
 
 pub live-are-kept : InstructionsAreListed → LiveAreKept
 unfolding ranges

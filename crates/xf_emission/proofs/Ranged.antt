@@ -1,8 +1,9 @@
 -- The ranges of a rewritten method are such as are laid.
-use Rattle.std.proofs.Common.{◌≡◌, ◌⊎◌, ℕ, suc, ◌-◌, ◌<◌, ◌≤◌, Bool, true, false, if◌then◌else◌, inl, inr, List, [], ◌∷◌, ◌++◌, length, All, refl, sym, ◌∙◌, ap, subst, arith, length-append}
+use Rattle.std.proofs.Common.{◌≡◌, ◌⊎◌, ℕ, suc, ◌-◌, ◌<◌, ◌≤◌, Bool, true, false, if◌then◌else◌, inl, inr, List, [], ◌∷◌, ◌++◌, length, All, refl, sym, ◌∙◌, ap, subst, arith, length-append, ne_of_lt}
 use Rattle.std.specs.Prelude.{is_some, nat_lt, ◌==◌, slice_get, Some}
 use Rattle.std.proofs.lemmas.Bool.Decides.{nat_tests}
 use Rattle.std.proofs.lemmas.List.Elements.{All-contains}
+use Rattle.std.proofs.lemmas.Bool.{ne_eqb, both_ways}
 use Rattle.jc_base.specs.Each.{Each, IsAmong}
 use Rattle.jc_base.specs.declared.record.Handler.{Handler}
 use Rattle.jc_base.proofs.Eaching.{All-from_Each}
@@ -24,9 +25,6 @@ use Rattle.xf_emission.proofs.Stubs.{all-rise}
 use Rattle.xf_emission.proofs.Once.{labels-stand-once, named-among}
 use Rattle.xf_emission.proofs.Live.{IsFirst, is-first}
 
-not-equal : (m a : ℕ) → m < a → (m == a) ≡ false
-not-equal m a lt = grind (arith, nat_tests)
-
 -- a lesser label stands for no later a place
 place-rises : (low high a b : ℕ) (xs : List Item) → Rises low high (labels xs) → IsAmong a (labels xs) → a ≤ b → place_of a xs ≤ place_of b xs
 place-rises low high a b [] r at le = absurd at
@@ -42,16 +40,13 @@ place-rises low high a b (Label m ∷ xs) r at le = by (m == a) refl at (λ late
 
     by : (c : Bool) → (m == a) ≡ c → (m ≡ a) ⊎ IsAmong a (labels xs) → (IsAmong a (labels xs) → place_of a xs ≤ place_of b xs) → (if c then 0 else place_of a xs) ≤ (if m == b then 0 else place_of b xs)
     by true e at rest = omega arith
-    by false e (inl same) rest = absurd (differ (m == a) e (ap (λ k. m == k) (sym same) ∙ itself m))
+    by false e (inl same) rest = absurd (both_ways (m == a) e (ap (λ k. m == k) (sym same) ∙ itself m))
       where
         itself : (k : ℕ) → (k == k) ≡ true
         itself k = grind (arith, nat_tests)
-
-        differ : (c : Bool) → c ≡ false → c ≡ true → ⊥
-        differ c e f = absurd (cc)
     by false e (inr later) rest =
         let far : m < b = omega (arith, above (suc m) high a (labels xs) r.2 later, le) in
-        subst (λ c. place_of a xs ≤ (if c then 0 else place_of b xs)) (sym (not-equal m b far)) (rest later)
+        subst (λ c. place_of a xs ≤ (if c then 0 else place_of b xs)) (sym (ne_eqb m b (ne_of_lt far))) (rest later)
 
 module _ (s : Source) (code : IsCode s) (placed : (p : ℕ) → is_some (s.frames p) ≡ true → IsPlace s.method.code p) where
   place-label : (p : ℕ) → is_some (s.frames p) ≡ true → IsLabelOf s p
@@ -77,15 +72,12 @@ module _ (s : Source) (code : IsCode s) (placed : (p : ℕ) → is_some (s.frame
   first-rises : (p q : ℕ) → p ≤ q → q ≤ length s.method.code → first_reached s p ≤ first_reached s q
   first-rises p q le within = by (nat_lt (first_reached s q) (first_reached s p)) refl (first-is p) (first-is q)
     where
-      differ : (c : Bool) → c ≡ false → c ≡ true → ⊥
-      differ c e f = absurd (cc)
-
       by : (b : Bool) → nat_lt (first_reached s q) (first_reached s p) ≡ b → IsFirst s.frames p (length s.method.code - p) (first_reached s p) → IsFirst s.frames q (length s.method.code - q) (first_reached s q)
           → first_reached s p ≤ first_reached s q
       by false e f g = grind (arith, nat_tests, e)
       by true e f g =
           let lt : first_reached s q < first_reached s p = grind (arith, nat_tests, e) in
-          absurd (differ (is_some (s.frames (first_reached s q))) (f.none (first_reached s q) (omega (arith, g.from)) lt) (g.there (omega (arith, lt, f.to))))
+          absurd (both_ways (is_some (s.frames (first_reached s q))) (f.none (first_reached s q) (omega (arith, g.from)) lt) (g.there (omega (arith, lt, f.to))))
 
   once : (l : ℕ) → IsLabelOf s l → IsOnce (items s) l
   once l named = labels-stand-once s code l named

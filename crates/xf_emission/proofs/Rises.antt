@@ -3,6 +3,7 @@ use Rattle.std.proofs.Common.{◌≡◌, ℕ, suc, ◌+◌, ◌<◌, ◌≤◌, 
 use Rattle.std.specs.Prelude.{count_by, cond, ◌==◌}
 use Rattle.std.proofs.lemmas.List.Sums.{sum_by-cons}
 use Rattle.std.proofs.lemmas.Bool.Decides.{nat_tests}
+use Rattle.std.proofs.lemmas.Bool.{ne_eqb}
 use Rattle.jc_base.specs.Each.{IsAmong}
 
 -- each is at least the number before it and one, the first at least low, and all are below high
@@ -25,9 +26,6 @@ rises-append low mid high (x ∷ xs) ys r s = (r.0, below mid high ys (omega (ar
 pub rises-none : (low high : ℕ) → low ≤ high → Rises low high []
 rises-none low high le = le
 
-same-not : (x l : ℕ) → l < x → (x == l) ≡ false
-same-not x l lt = grind (arith, nat_tests)
-
 same-yes : (x : ℕ) → (x == x) ≡ true
 same-yes x = grind (arith, nat_tests)
 
@@ -35,7 +33,7 @@ same-yes x = grind (arith, nat_tests)
 pub count-below : (low high l : ℕ) (xs : List ℕ) → l < low → Rises low high xs → count_by (λ m. m == l) xs ≡ 0
 count-below low high l [] lt r = refl
 count-below low high l (x ∷ xs) lt r =
-    let no : (x == l) ≡ false = same-not x l (omega (arith, r.0)) in
+    let no : (x == l) ≡ false = ne_eqb x l (λ e. omega (arith, e, r.0)) in
     sum_by-cons (λ m. cond (m == l) 1 0) x xs ∙ ap (λ b. cond b 1 0 + count_by (λ m. m == l) xs) no ∙ omega (arith, count-below (suc x) high l xs (omega (arith, r.0)) r.2)
 
 -- one that stands among them occurs once

@@ -15,6 +15,7 @@ use Rattle.jc_ops.specs.declared.operation.Operation.{Operation}
 use Rattle.jc_ops.specs.declared.operation.Operation.TheVariants as ops
 use Rattle.jc_ops.specs.Row.{row_at, table, unused, by_sort, by_width, by_kind, first_four, by_register, literals, binary, orders_all, branching}
 use Rattle.jc_ops.specs.Resolve.{resolved, on, new_object}
+use Rattle.jc_rules.proofs.Decides.{ok-same}
 
 -- what the emission asks of an operation: a branch, a switch, an increment, a read or a write of a field of `this`, or something else
 pub data Kind : Type 0 where
@@ -59,14 +60,11 @@ record Gives (resolve : Linked → MethodRec → ℕ → Insn → Result Operati
   kind : (w : Linked) (m : MethodRec) (place : ℕ) (i : Insn) (op : Operation) → resolve w m place i ≡ Ok op → op_kind op ≡ k
   moved : (w : Linked) (m : MethodRec) (place other : ℕ) (i : Insn) (op : Operation) → resolve w m place i ≡ Ok op → resolve w m other i ≡ Ok (moved_to other op)
 
-pub ok-same : (a op : Operation) → ◌≡◌ {A = Result Operation RuleFault} (Ok a) (Ok op) → a ≡ op
-ok-same a op e = cc
-
 -- the operation is at hand
 plain : (f : Insn → Operation) (k : Kind) → ((i : Insn) (n : ℕ) → ◌≡◌ {A = Kind × Operation} (op_kind (f i), f i) (k, moved_to n (f i))) → Gives (λ w m place i. Ok (f i)) k
 plain f k is = record {
-  kind = λ w m place i op e. ap op_kind (sym (ok-same (f i) op e)) ∙ ap (λ q. q.0) (is i place);
-  moved = λ w m place other i op e. ap Ok (ap (λ q. q.1) (is i other) ∙ ap (moved_to other) (ok-same (f i) op e));
+  kind = λ w m place i op e. ap op_kind (sym (ok-same e)) ∙ ap (λ q. q.0) (is i place);
+  moved = λ w m place other i op e. ap Ok (ap (λ q. q.1) (is i other) ∙ ap (moved_to other) (ok-same e));
 }
 
 -- it is made of what is named
@@ -78,11 +76,11 @@ named {X = X} f find k is = record {
 }
   where
     by-kind : (r : Result X RuleFault) (op : Operation) → on f r ≡ Ok op → op_kind op ≡ k
-    by-kind (Ok x) op e = ap op_kind (sym (ok-same (f x) op e)) ∙ ap (λ q. q.0) (is x 0)
+    by-kind (Ok x) op e = ap op_kind (sym (ok-same e)) ∙ ap (λ q. q.0) (is x 0)
     by-kind (Err fault) op e = absurd (cc)
 
     by-place : (r : Result X RuleFault) (other : ℕ) (op : Operation) → on f r ≡ Ok op → on f r ≡ Ok (moved_to other op)
-    by-place (Ok x) other op e = ap Ok (ap (λ q. q.1) (is x other) ∙ ap (moved_to other) (ok-same (f x) op e))
+    by-place (Ok x) other op e = ap Ok (ap (λ q. q.1) (is x other) ∙ ap (moved_to other) (ok-same e))
     by-place (Err fault) other op e = absurd (cc)
 
 -- an object is made at the place
@@ -96,7 +94,7 @@ made pool find = record {
     by-kind w place pool (Some (ClassOf c)) op e = by (is_concrete w.classes w.methods c) e
       where
         by : (b : Bool) → (if b then Ok (ops.New place c) else Err (NotConcrete c)) ≡ Ok op → op_kind op ≡ other_kind
-        by true e = ap op_kind (sym (ok-same (ops.New place c) op e))
+        by true e = ap op_kind (sym (ok-same e))
         by false e = absurd (cc)
     by-kind w place pool m op e = absurd (cc)
 
@@ -104,7 +102,7 @@ made pool find = record {
     by-place w place other pool (Some (ClassOf c)) op e = by (is_concrete w.classes w.methods c) e
       where
         by : (b : Bool) → (if b then Ok (ops.New place c) else Err (NotConcrete c)) ≡ Ok op → (if b then Ok (ops.New other c) else Err (NotConcrete c)) ≡ Ok (moved_to other op)
-        by true e = ap (λ o. Ok (moved_to other o)) (ok-same (ops.New place c) op e)
+        by true e = ap (λ o. Ok (moved_to other o)) (ok-same e)
         by false e = absurd (cc)
     by-place w place other pool m op e = absurd (cc)
 

@@ -1,8 +1,8 @@
 -- Where the groups of a rewritten method stand.
-use Rattle.std.proofs.Common.{◌≡◌, ◌⊎◌, ℕ, suc, ◌+◌, ◌<◌, ◌≤◌, Bool, true, false, if◌then◌else◌, inl, inr, List, [], ◌∷◌, ◌++◌, flat_map, length, All, Contains, Option, Some, None, refl, sym, ◌∙◌, ap, subst, arith, append_assoc}
-use Rattle.std.specs.Prelude.{is_some, ◌==◌}
-use Rattle.std.proofs.lemmas.Bool.Decides.{nat_tests}
+use Rattle.std.proofs.Common.{◌≡◌, ◌⊎◌, ℕ, suc, ◌+◌, ◌≤◌, Bool, true, false, if◌then◌else◌, inl, inr, List, [], ◌∷◌, ◌++◌, flat_map, length, All, Contains, Option, Some, None, refl, sym, ◌∙◌, ap, subst, arith, append_assoc}
+use Rattle.std.specs.Prelude.{is_some}
 use Rattle.std.proofs.lemmas.List.Concat.{flat_map-append, flat_map-cons}
+use Rattle.std.proofs.lemmas.Bool.{ne_eqb}
 use Rattle.jc_base.specs.Each.{Each}
 use Rattle.jc_base.proofs.Eaching.{All-from_Each}
 use Rattle.jc_decode.specs.declared.insn.Placed.{Placed}
@@ -44,12 +44,9 @@ split (y ∷ ys) x c = by (Contains-either y ys x c) (split ys x)
 
 -- ---- labels before a place
 
-not-same : (m l : ℕ) → m < l → (m == l) ≡ false
-not-same m l lt = grind (arith, nat_tests)
-
 pub none-named : (low high l : ℕ) (xs : List Item) → high ≤ l → Rises low high (labels xs) → Each (λ x. is_label l x ≡ false) xs
 none-named low high l [] le r = tt
-none-named low high l (Label m ∷ xs) le r = (not-same m l (omega (arith, r.1)), none-named (suc m) high l xs le r.2)
+none-named low high l (Label m ∷ xs) le r = (ne_eqb m l (λ e. omega (arith, e, r.1, le)), none-named (suc m) high l xs le r.2)
 none-named low high l (Plain i ∷ xs) le r = (refl, none-named low high l xs le r)
 none-named low high l (Branch op m ∷ xs) le r = (refl, none-named low high l xs le r)
 none-named low high l (Switch i at ls ∷ xs) le r = (refl, none-named low high l xs le r)

@@ -6,7 +6,7 @@ use Rattle.std.proofs.lemmas.Bool.{and_parts}
 use Rattle.jc_base.specs.Each.{Each}
 use Rattle.jc_base.specs.declared.ty.Kind.{Kind}
 use Rattle.jc_base.specs.declared.record.Handler.{Handler}
-use Rattle.jc_base.proofs.Eaching.{All-from_Each}
+use Rattle.jc_base.proofs.Eaching.{All-from_Each, Each-append}
 use Rattle.jc_decode.specs.declared.insn.Placed.{Placed}
 use Rattle.jc_decode.specs.declared.symbols.Item.{Item}
 use Rattle.jc_decode.specs.declared.symbols.Item.TheVariants.{Branch, Switch}
@@ -27,7 +27,6 @@ use Rattle.jc_ops.specs.declared.operation.Operation.TheVariants as ops
 use Rattle.jc_rules.specs.Demand.{Frame}
 use Rattle.xf_homes.specs.declared.home.Home.{Home}
 use Rattle.xf_homes.specs.Walk.{operands_of}
-use Rattle.xf_homes.proofs.Rising.{each-append}
 use Rattle.xf_plan.specs.Source.{Source}
 use Rattle.xf_plan.specs.Plan.{register, local, needed, stack_homes, is_leader, operation}
 use Rattle.xf_emission.specs.declared.origin.Origin.TheVariants.{Start, After, Entry}
@@ -140,11 +139,11 @@ module _ (all : List Item) (s : Source) (small : (h : Home) → register s h < 2
     spill-if-suits : (over : Bool) (n : ℕ) → Each (IsItem s.method.code all) (spill_if over s i.place n)
     spill-if-suits over n =
         each-if (IsItem s.method.code all) over (spill s (stack_homes s i.place) ++ loads s (operands s i.place n)) []
-        (each-append (IsItem s.method.code all) (spill s (stack_homes s i.place)) (loads s (operands s i.place n)) (spill-suits s.method.code all s small (stack_homes s i.place)) (loads-suit s.method.code all s small (operands s i.place n))) tt
+        (Each-append (IsItem s.method.code all) (spill s (stack_homes s i.place)) (loads s (operands s i.place n)) (spill-suits s.method.code all s small (stack_homes s i.place)) (loads-suit s.method.code all s small (operands s i.place n))) tt
 
     branch-items : (n : ℕ) → operands_of s.world (Ok op) ≡ Some n → jumps_from op ≡ true → Each (IsItem s.method.code all) (branch s i op n)
     unfolding branch
-    branch-items n asks j = each-append (IsItem s.method.code all) (spill_if (has_under s i.place n) s i.place n) (jump_to i op _ ∷ []) (spill-if-suits (has_under s i.place n) n) (jump-suits n asks j, tt)
+    branch-items n asks j = Each-append (IsItem s.method.code all) (spill_if (has_under s i.place n) s i.place n) (jump_to i op _ ∷ []) (spill-if-suits (has_under s i.place n) n) (jump-suits n asks j, tt)
 
     first-place-once : jumps_from op ≡ true → IsOnce all (first_place (targets s.method.code i))
     first-place-once j = by (targets s.method.code i) e.places (target-count (sym e.alike ∙ j))
@@ -156,14 +155,14 @@ module _ (all : List Item) (s : Source) (small : (h : Home) → register s h < 2
     gone-suits : jumps_from op ≡ true → Each (IsItem s.method.code all) (gone s i.place op (first_place (targets s.method.code i)))
     gone-suits j =
         let q = first_place (targets s.method.code i) in
-        each-append (IsItem s.method.code all) (spill s (stack_homes s q)) (copies s (After i.place op) q ++ goto q ∷ []) (spill-suits s.method.code all s small (stack_homes s q))
-        (each-append (IsItem s.method.code all) (copies s (After i.place op) q) (goto q ∷ []) (copies-suit s.method.code all s small (After i.place op) q) ((refl, first-place-once j), tt))
+        Each-append (IsItem s.method.code all) (spill s (stack_homes s q)) (copies s (After i.place op) q ++ goto q ∷ []) (spill-suits s.method.code all s small (stack_homes s q))
+        (Each-append (IsItem s.method.code all) (copies s (After i.place op) q) (goto q ∷ []) (copies-suit s.method.code all s small (After i.place op) q) ((refl, first-place-once j), tt))
 
     -- ---- falling
 
     fall-suits : (q : ℕ) → Each (IsItem s.method.code all) (fall s i.place op q)
     fall-suits q =
-        each-append (IsItem s.method.code all) (if is_leader s q then spill s (stack_homes s q) else []) (copies s (After i.place op) q)
+        Each-append (IsItem s.method.code all) (if is_leader s q then spill s (stack_homes s q) else []) (copies s (After i.place op) q)
         (each-if (IsItem s.method.code all) (is_leader s q) (spill s (stack_homes s q)) [] (spill-suits s.method.code all s small (stack_homes s q)) tt) (copies-suit s.method.code all s small (After i.place op) q)
 
     fall-by-suits : (n : Option ℕ) (q : ℕ) → Each (IsItem s.method.code all) (fall_by s i.place op n q)
@@ -171,7 +170,7 @@ module _ (all : List Item) (s : Source) (small : (h : Home) → register s h < 2
     fall-by-suits (Some n) q =
         each-if (IsItem s.method.code all) (has_under s i.place n) (fall_over s i.place op n q) (fall s i.place op q)
         (each-if (IsItem s.method.code all) (is_leader s q) (taken s i.place op n q) (copies s (After i.place op) q ++ loads s (under s i.place n)) (taken-suits s.method.code all s small i.place op n q)
-        (each-append (IsItem s.method.code all) (copies s (After i.place op) q) (loads s (under s i.place n)) (copies-suit s.method.code all s small (After i.place op) q) (loads-suit s.method.code all s small (under s i.place n))))
+        (Each-append (IsItem s.method.code all) (copies s (After i.place op) q) (loads s (under s i.place n)) (copies-suit s.method.code all s small (After i.place op) q) (loads-suit s.method.code all s small (under s i.place n))))
         (fall-suits q)
 
     fallen-suits : Each (IsItem s.method.code all) (fallen s i op)
@@ -184,13 +183,13 @@ module _ (all : List Item) (s : Source) (small : (h : Home) → register s h < 2
 
     stub-suits : (q l : ℕ) (copied : List Item) → Each (IsItem s.method.code all) copied → IsOnce all q → Each (IsItem s.method.code all) (stub_of l q copied)
     stub-suits q l [] h once = tt
-    stub-suits q l (x ∷ xs) h once = (tt {0}, each-append (IsItem s.method.code all) (x ∷ xs) (goto q ∷ []) h ((refl, once), tt))
+    stub-suits q l (x ∷ xs) h once = (tt {0}, Each-append (IsItem s.method.code all) (x ∷ xs) (goto q ∷ []) h ((refl, once), tt))
 
     stubs-suit-from : (n k : ℕ) (ts : List ℤ) → ((j : ℕ) (t : ℤ) → slice_get ts j ≡ Some t → IsOnce all (place t)) → Each (IsItem s.method.code all) (stubs_of s i.place op n k ts)
     unfolding stub
     stubs-suit-from n k [] h = tt
     stubs-suit-from n k (t ∷ ts) h =
-        each-append (IsItem s.method.code all) (stub s i.place op n k t) (stubs_of s i.place op n (suc k) ts)
+        Each-append (IsItem s.method.code all) (stub s i.place op n k t) (stubs_of s i.place op n (suc k) ts)
         (stub-suits (place t) (stub_label i.place k) (taken s i.place op n (place t)) (taken-suits s.method.code all s small i.place op n (place t)) (h 0 t refl))
         (stubs-suit-from n (suc k) ts (λ j u at. h (suc j) u at))
 
@@ -222,7 +221,7 @@ module _ (all : List Item) (s : Source) (small : (h : Home) → register s h < 2
 
   pub done-suits : (i : Placed) (r : Result Operation RuleFault) → ((op : Operation) → r ≡ Ok op → IsEmitted all s i op) → Each (IsItem s.method.code all) (done s i r)
   done-suits i (Err fault) h = tt
-  done-suits i (Ok op) h = each-append (IsItem s.method.code all) (body s i op) (fallen s i op) (body-suits i op (h op refl)) (fallen-suits i op (h op refl))
+  done-suits i (Ok op) h = Each-append (IsItem s.method.code all) (body s i op) (fallen s i op) (body-suits i op (h op refl)) (fallen-suits i op (h op refl))
 
   entered-suits : (p : ℕ) → Each (IsItem s.method.code all) (entrance s p)
   entered-suits p = (tt {0}, each-if (IsItem s.method.code all) (is_leader s p) (loads s (stack_homes s p)) [] (loads-suit s.method.code all s small (stack_homes s p)) tt)
@@ -235,7 +234,7 @@ module _ (all : List Item) (s : Source) (small : (h : Home) → register s h < 2
         by : (f : Option Frame) → s.frames i.place ≡ f → Each (IsItem s.method.code all) (group_by s i f)
         by None at = tt
         by (Some f) at =
-            each-append (IsItem s.method.code all) (entrance s i.place) (done s i (operation s i)) (entered-suits i.place)
+            Each-append (IsItem s.method.code all) (entrance s i.place) (done s i (operation s i)) (entered-suits i.place)
             (done-suits i (operation s i) (λ op is. emitted i op st (ap is_some at) is))
 
     stubs-suit : (i : Placed) → Contains (listing s.method.code) i → Each (IsItem s.method.code all) (stubs s i)
@@ -253,14 +252,14 @@ module _ (all : List Item) (s : Source) (small : (h : Home) → register s h < 2
     caught-suits : (n : ℕ) (h : Handler) → IsOnce all h.entry → Each (IsItem s.method.code all) (caught s n h)
     caught-suits n h once = (
       tt {0},
-      each-append (IsItem s.method.code all) (spill s (stack_homes s h.entry)) (copies s (Entry h.entry) h.entry ++ goto h.entry ∷ []) (spill-suits s.method.code all s small (stack_homes s h.entry))
-          (each-append (IsItem s.method.code all) (copies s (Entry h.entry) h.entry) (goto h.entry ∷ []) (copies-suit s.method.code all s small (Entry h.entry) h.entry) ((refl, once), tt)),
+      Each-append (IsItem s.method.code all) (spill s (stack_homes s h.entry)) (copies s (Entry h.entry) h.entry ++ goto h.entry ∷ []) (spill-suits s.method.code all s small (stack_homes s h.entry))
+          (Each-append (IsItem s.method.code all) (copies s (Entry h.entry) h.entry) (goto h.entry ∷ []) (copies-suit s.method.code all s small (Entry h.entry) h.entry) ((refl, once), tt)),
     )
 
     caught-suit-from : (n : ℕ) (hs : List Handler) → Each (λ h. is_live s h ≡ true → IsOnce all h.entry) hs → Each (IsItem s.method.code all) (caught_from s n hs)
     caught-suit-from n [] o = tt
     caught-suit-from n (h ∷ hs) o =
-        each-append (IsItem s.method.code all) (if is_live s h then caught s n h else []) (caught_from s (suc n) hs) (by (is_live s h) refl) (caught-suit-from (suc n) hs o.1)
+        Each-append (IsItem s.method.code all) (if is_live s h then caught s n h else []) (caught_from s (suc n) hs) (by (is_live s h) refl) (caught-suit-from (suc n) hs o.1)
       where
         by : (b : Bool) → is_live s h ≡ b → Each (IsItem s.method.code all) (if b then caught s n h else [])
         by true live = caught-suits n h (o.0 live)
@@ -269,15 +268,15 @@ module _ (all : List Item) (s : Source) (small : (h : Home) → register s h < 2
     each-of : {X : Type 0} (f : X → List Item) (xs whole : List X) → ((x : X) → Contains xs x → Contains whole x) → ((x : X) → Contains whole x → Each (IsItem s.method.code all) (f x)) → Each (IsItem s.method.code all) (flat_map f xs)
     each-of f [] whole inside h = tt
     each-of f (x ∷ xs) whole inside h =
-        each-append (IsItem s.method.code all) (f x) (flat_map f xs) (h x (inside x (0, omega arith, refl)))
+        Each-append (IsItem s.method.code all) (f x) (flat_map f xs) (h x (inside x (0, omega arith, refl)))
         (each-of f xs whole (λ y c. inside y (suc c.0, omega (arith, c.1), c.2)) h)
 
     pub items-suit : Each (λ h. is_live s h ≡ true → IsOnce all h.entry) s.method.rec.handlers → Each (IsItem s.method.code all) (items s)
     unfolding items
     items-suit entries =
-        each-append (IsItem s.method.code all) (copies s Start 0) _ (copies-suit s.method.code all s small Start 0)
-        (each-append (IsItem s.method.code all) (flat_map (group s) (listing s.method.code)) _ (each-of (group s) (listing s.method.code) (listing s.method.code) (λ x c. c) group-suits) (
+        Each-append (IsItem s.method.code all) (copies s Start 0) _ (copies-suit s.method.code all s small Start 0)
+        (Each-append (IsItem s.method.code all) (flat_map (group s) (listing s.method.code)) _ (each-of (group s) (listing s.method.code) (listing s.method.code) (λ x c. c) group-suits) (
           tt {0},
-          each-append (IsItem s.method.code all) (flat_map (stubs s) (listing s.method.code)) (caught_from s 0 s.method.rec.handlers) (each-of (stubs s) (listing s.method.code) (listing s.method.code) (λ x c. c) stubs-suit)
+          Each-append (IsItem s.method.code all) (flat_map (stubs s) (listing s.method.code)) (caught_from s 0 s.method.rec.handlers) (each-of (stubs s) (listing s.method.code) (listing s.method.code) (λ x c. c) stubs-suit)
               (caught-suit-from 0 s.method.rec.handlers entries),
         ))

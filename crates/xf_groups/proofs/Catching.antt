@@ -1,7 +1,7 @@
 -- From a step of a group the same handlers catch as from its place, in the same order.
 use Rattle.std.proofs.Common.{◌≡◌, ℕ, zero, suc, ◌+◌, ◌-◌, ◌<◌, ◌≤◌, ◌&&◌, Bool, true, false, if◌then◌else◌, cond, inl, inr, List, [], ◌∷◌, ◌++◌, length, map, flat_map, refl, sym, ap, ◌∙◌, subst, arith, append_assoc}
 use Rattle.std.specs.Prelude.{Option, Some, None, Ok, ◌==◌, find, is_some, nat_le, nat_lt, slice_get}
-use Rattle.std.proofs.lemmas.Bool.{false≢true, and_parts, and_from}
+use Rattle.std.proofs.lemmas.Bool.{false≢true, and_parts, and_from, and_left, and_right}
 use Rattle.std.proofs.lemmas.Bool.Decides.{nat_tests}
 use Rattle.std.proofs.lemmas.List.{length-append}
 use Rattle.std.proofs.lemmas.List.Concat.{flat_map-append}
@@ -110,14 +110,6 @@ module _
       omega (arith, at, last, c1, c2, c3, c4, c5)
 
 -- ---- tests of two numbers
-
-first-false : (x y : Bool) → x ≡ false → (x && y) ≡ false
-first-false true y a = absurd (cc)
-first-false false y a = refl
-
-second-false : (x y : Bool) → y ≡ false → (x && y) ≡ false
-second-false true y b = b
-second-false false y b = refl
 
 -- ---- one place, and a step of its group
 
@@ -265,7 +257,7 @@ module _
             (label-most (first_reached s h.start)) in
             let one : nat_le (place (label_at (first_reached s h.start))) (place n) ≡ false = grind (arith, nat_tests, more) in
             let two : nat_le h.start i.place ≡ false = grind (arith, nat_tests, lt) in
-            first-false _ _ one ∙ sym (first-false _ _ two)
+            and_left _ _ one ∙ sym (and_left _ _ two)
         by false true e k =
             let le : h.start ≤ i.place = grind (arith, nat_tests, e) in
             let lt : i.place < h.end = grind (arith, nat_tests, k) in
@@ -301,7 +293,7 @@ module _
             (place (label_at (first_reached s h.start))
             + (place (label_at (first_reached s h.end)) - place (label_at (first_reached s h.start)))) ≡ false =
             grind (arith, nat_tests, sum) in
-            second-false _ _ one ∙ sym (second-false _ _ k)
+            and_right _ _ one ∙ sym (and_right _ _ k)
 
     -- ---- the search
 

@@ -21,6 +21,7 @@ use Rattle.jc_ops.specs.Sound.{OperationsAreDecided}
 use Rattle.jc_rules.specs.Demand.{Frame as Types}
 use Rattle.jc_rules.specs.Flow.{FrameBelow}
 use Rattle.jc_base.specs.declared.ty.Ty.TheVariants.{Top}
+use Rattle.jc_base.proofs.Eaching.{Each-weaker}
 use Rattle.jc_decode.proofs.Elements.{Contains-slice_get}
 use Rattle.vm_sound.proofs.Going.{jumps-on}
 use Rattle.vm_sound.specs.Frames.{least_types, types_in}
@@ -48,7 +49,6 @@ use Rattle.vm_alike.proofs.Settling.{unless-none}
 use Rattle.xf_homes.specs.declared.home.Home.{Home}
 use Rattle.xf_homes.specs.Order.{register_sum}
 use Rattle.xf_homes.specs.Walk.{operands_of}
-use Rattle.xf_homes.proofs.Rising.{each-map}
 use Rattle.xf_landed.specs.Laws.{DemandsAreKept, OperationsAreKept}
 use Rattle.xf_plan.specs.Source.{Source}
 use Rattle.xf_plan.specs.Plan.{stack_homes, is_leader, needed, operation}
@@ -281,7 +281,7 @@ module _
         stack = a.stack;
         holds = record {
           stored = λ l e. absurd (false≢true (sym (unstored-fork s.world op n some l) ∙ e));
-          others = λ l. each-map (Holds s (top y).registers (top x)) _ (λ h held free. held) (needed s i.place l) (a.locals l);
+          others = λ l. Each-weaker (Holds s (top y).registers (top x)) _ (λ h held free. held) (needed s i.place l) (a.locals l);
         };
       } in
       let c = falls-arrive v w s place laid stand follow needs fill spills stay edges few_copies few_cells i op z u y x stands reached does
@@ -323,7 +323,7 @@ module _
       let before : HoldsAfter s i.place op q (top y) (top x) =
       record {
         stored = λ l e. absurd (false≢true (sym (unstored-fork s.world op n some l) ∙ e));
-        others = λ l. each-map (Holds s (top y).registers (top x)) _ (λ h held free. held) (needed s i.place l) (a.locals l);
+        others = λ l. Each-weaker (Holds s (top y).registers (top x)) _ (λ h held free. held) (needed s i.place l) (a.locals l);
       } in
       let c = led-arrives v w s place laid stand follow executed needs fill cells_run edges few_copies few_cells i.place n op y x typed
       a.equal a.of leader leads from_p m bare (subst (Each (Holds s (slots (top y)) (top x))) (sym none) tt) before stubs i k refl stands does

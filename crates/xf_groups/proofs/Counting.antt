@@ -3,7 +3,7 @@ use Rattle.std.proofs.Common.{◌≡◌, ◌≢◌, ℕ, suc, ◌+◌, ◌<◌, 
 use Rattle.std.specs.Prelude.{ℤ, pos, Option, Some, None, Ok, All, is_some, nat_lt, slice_get}
 use Rattle.std.proofs.lemmas.Bool.Decides.{nat_tests}
 use Rattle.jc_base.specs.declared.ty.Ty.{Ty}
-use Rattle.jc_base.specs.declared.ty.Ty.TheVariants.{Short, IntHigh, IntLow, Top}
+use Rattle.jc_base.specs.declared.ty.Ty.TheVariants.{Short, IntHigh, IntLow}
 use Rattle.jc_base.specs.Each.{Each, IsAmong}
 use Rattle.jc_base.specs.Laws.{IsOrderOfTypes}
 use Rattle.jc_base.specs.Order.{Below}
@@ -22,7 +22,7 @@ use Rattle.jc_ops.specs.declared.operation.Sort.TheVariants as sorts
 use Rattle.jc_ops.specs.declared.operation.Width.{Width}
 use Rattle.jc_ops.specs.declared.operation.Width.TheVariants as widths
 use Rattle.jc_ops.specs.Resolve.{Resolves}
-use Rattle.jc_rules.specs.Flow.{CellsBelow, IsNotTop}
+use Rattle.jc_rules.specs.Flow.{CellsBelow}
 use Rattle.jc_rules.specs.Footprint.{footprint}
 use Rattle.jc_rules.specs.Laws.{IsNotBottom}
 use Rattle.jc_rules.specs.Rule.{demands}
@@ -51,6 +51,7 @@ use Rattle.xf_typing.proofs.Below.{loads-same, value-below}
 use Rattle.xf_typing.proofs.Carried.{is-high}
 use Rattle.xf_typing.proofs.Ready.{IsValueAt, value-is}
 use Rattle.xf_typing.proofs.Rows.{increased-at}
+use Rattle.xf_typing.proofs.Edging.{kept-not-top}
 use Rattle.xf_held.specs.Held.{Holds, HoldsLocals}
 use Rattle.xf_held.specs.Laws.{AreApart, HomesStay, IncrementsRunAlike, StepsExecute, WrittenHold}
 use Rattle.xf_held.specs.Moves.{IsExecutable, letter_of, size}
@@ -102,10 +103,6 @@ number-type widths.Int _ b e f = absurd (cc)
 
 some-of : (a b : Ty) → Some a ≡ Some b → a ≡ b
 some-of a b e = cc
-
-kept-no-top : (ty : Ty) → IsKept ty → IsNotTop ty
-kept-no-top Top k = k
-kept-no-top _ k = tt
 
 wide-or : (ty : Ty) → (width ty ≡ 1) ⊎ (ty ≡ IntHigh)
 wide-or IntHigh = inr refl
@@ -191,7 +188,7 @@ module _
           some-of below.0 home.ty (sym below.1 ∙ (ap (value_at home.frame.regs) same ∙ home.value)) in
           let le : Below v.classes home.ty k.ty = subst (λ a. Below v.classes a k.ty) u below.2 in
           let loads = loads-same v.classes types home.ty k.ty le
-          (All-slice_get IsNotBottom home.frame.regs x home.ty home.full own.first) (kept-no-top k.ty kept) in
+          (All-slice_get IsNotBottom home.frame.regs x home.ty home.full own.first) (kept-not-top k.ty kept) in
           let ty : home.ty ≡ k.ty = number-type counted home.ty k.ty home.letter_is loads in
           inl (ap (λ r. record { slot = r; ty = k.ty }) same ∙ ap (λ a. record { slot = x; ty = a }) (sym ty))
 

@@ -5,6 +5,7 @@ use Rattle.std.proofs.lemmas.Bool.{false≢true}
 use Rattle.std.proofs.lemmas.List.{drop-map, length-append, length-reverse, take-map}
 use Rattle.jc_base.specs.Each.{Each, IsAmong}
 use Rattle.jc_base.specs.World.{Linked, IsWorld}
+use Rattle.jc_base.proofs.Eaching.{Each-weaker}
 use Rattle.jc_decode.specs.declared.insn.Placed.{Placed}
 use Rattle.jc_decode.specs.declared.symbols.Item.{Item}
 use Rattle.jc_decode.specs.Laws.{InstructionsAreListed}
@@ -33,7 +34,6 @@ use Rattle.xf_homes.specs.declared.home.Home.{Home}
 use Rattle.xf_homes.specs.Home.{KeepsStack}
 use Rattle.xf_homes.specs.Laws.{HasRegister}
 use Rattle.xf_homes.specs.Walk.{operands_of}
-use Rattle.xf_homes.proofs.Rising.{each-map}
 use Rattle.xf_landed.specs.Laws.{DemandsAreKept, OperationsAreKept}
 use Rattle.xf_plan.specs.Source.{Source}
 use Rattle.xf_plan.specs.Plan.{stack_homes, is_leader, needed, operation}
@@ -293,7 +293,7 @@ module _
     before : HoldsAfter s i.place op q' (top y) (top x)
     before = record {
       stored = λ l e. absurd (false≢true (sym (unstored-fork s.world op n own-some l) ∙ e));
-      others = λ l. each-map (Holds s (top z).registers (top x)) _ (λ h held free. held) (needed s i.place l) (locals l);
+      others = λ l. Each-weaker (Holds s (top z).registers (top x)) _ (λ h held free. held) (needed s i.place l) (locals l);
     }
 
     -- the source stays in y, and the target comes to its group

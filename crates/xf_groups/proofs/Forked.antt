@@ -5,6 +5,7 @@ use Rattle.std.proofs.lemmas.List.{length-map}
 use Rattle.std.proofs.lemmas.Option.{slice_get-map, slice_get_within, same_Some}
 use Rattle.jc_base.specs.Each.{Each}
 use Rattle.jc_base.specs.World.{Linked, IsWorld}
+use Rattle.jc_base.proofs.Lists.{slice_get-some}
 use Rattle.jc_decode.specs.declared.insn.Case.{Case}
 use Rattle.jc_decode.specs.declared.insn.Insn.{Insn}
 use Rattle.jc_decode.specs.declared.insn.Placed.{Placed}
@@ -17,7 +18,6 @@ use Rattle.jc_decode.specs.Symbols.{Step, jump, place_of}
 use Rattle.jc_ops.specs.declared.operation.Operation.{Operation}
 use Rattle.jc_ops.specs.declared.operation.Operation.TheVariants as ops
 use Rattle.vm_alike.specs.Running.{HaveKeys}
-use Rattle.xf_landed.proofs.Steps.{some-within}
 use Rattle.xf_plan.specs.Source.{Source}
 use Rattle.xf_emission.specs.Emission.{items}
 use Rattle.xf_emission.specs.Jump.{first_label, jump_to, lead, leads}
@@ -116,7 +116,7 @@ module _
           let lt = slice_get_within (map label_at (labels_of s i op n)) k m e in
           let one = length-map (labels_of s i op n) label_at in
           let two = leads-count s i.place op n 0 (targets s.method.code i) in
-          some-within (targets s.method.code i) k (omega (arith, lt, one, two))
+          slice_get-some (targets s.method.code i) k (omega (arith, lt, one, two))
 
       to :
           (k m : ℕ) (t : ℤ)

@@ -5,6 +5,7 @@ use Rattle.std.proofs.lemmas.Bool.{le-ltb}
 use Rattle.jc_base.specs.declared.record.MethodRec.{MethodRec}
 use Rattle.jc_base.specs.declared.ty.Ty.TheVariants.{Bottom}
 use Rattle.jc_base.specs.World.{Linked}
+use Rattle.jc_base.proofs.Lists.{slice_get-some}
 use Rattle.jc_decode.specs.declared.insn.Case.{Case}
 use Rattle.jc_decode.specs.declared.insn.Insn.{Insn}
 use Rattle.jc_decode.specs.declared.insn.Placed.{Placed}
@@ -33,7 +34,6 @@ use Rattle.xf_held.specs.Moves.{IsExecutable}
 use Rattle.vm_sound.proofs.Passing.{passes-before}
 use Rattle.xf_held.specs.Laws.{ExecutesStep, StepsExecute}
 use Rattle.xf_held.proofs.Standing.{steps-stand-at-places}
-use Rattle.xf_landed.proofs.Steps.{some-within}
 
 -- a jump's only target by its operand
 module _ (code : List ℕ) (j : Placed) (to : ℤ) where
@@ -83,7 +83,7 @@ module _
       let to : target j.place j.insn.x ≡ pos (place k) = target-is code j (pos (place k)) jumping_on ex.is.leads in
       let here : j.place ≡ f.place = (instruction-there code f.place j ex.executes.fetched.instruction).at in
       let own : target f.place j.insn.x ≡ pos (place k) = subst (λ p. target p j.insn.x ≡ pos (place k)) here to in
-      let s = some-within all k inside in
+      let s = slice_get-some all k inside in
       let stands = steps-stand-at-places code place all k s.0 are s.1 in
       let before : fault_before tagged w op t ≡ None = passes-before w world.chains f below heap statics op tt in
       let there : is_target code (pos (place k)) ≡ true = ap is_there stands.found in

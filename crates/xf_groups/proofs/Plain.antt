@@ -7,6 +7,7 @@ use Rattle.std.proofs.lemmas.Bool.{false≢true}
 use Rattle.jc_base.specs.declared.record.MethodRec.{MethodRec}
 use Rattle.jc_base.specs.Each.{Each}
 use Rattle.jc_base.specs.World.{Linked, IsWorld}
+use Rattle.jc_base.proofs.Eaching.{Each-weaker}
 use Rattle.jc_decode.specs.declared.insn.Insn.{Insn}
 use Rattle.jc_decode.specs.declared.insn.Placed.{Placed}
 use Rattle.jc_decode.specs.Listing.{listing, targets}
@@ -32,7 +33,6 @@ use Rattle.vm_alike.specs.Alike.{AreAlike, KeepsPlain, StayAlike, renamed_cell, 
 use Rattle.vm_alike.specs.Running.{ComeAlike, Executes, HaveKeys, call_alike, end_alike, exception_alike, keys_at, next_alike, return_alike, target_alike, throw_alike, top_code}
 use Rattle.xf_homes.specs.declared.home.Home.{Home}
 use Rattle.xf_homes.specs.Order.{register_sum}
-use Rattle.xf_homes.proofs.Rising.{each-map}
 use Rattle.xf_plan.specs.Source.{Source}
 use Rattle.xf_plan.specs.Plan.{needed, operation, register}
 use Rattle.xf_emission.specs.Edge.{is_stored}
@@ -197,7 +197,7 @@ module _
           stack = stay.alike.stack;
           holds = record {
             stored = λ x h. absurd (false≢true (sym (unstored x) ∙ h));
-            others = λ x. each-map (Holds s (top y).registers (top u)) _ (λ h held free. held) (needed s i.place x) (kept y u stay x);
+            others = λ x. Each-weaker (Holds s (top y).registers (top u)) _ (λ h held free. held) (needed s i.place x) (kept y u stay x);
           };
         }
 

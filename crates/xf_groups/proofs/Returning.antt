@@ -4,6 +4,7 @@ use Rattle.std.specs.Prelude.{Some, None, Ok, is_some, slice_get}
 use Rattle.std.proofs.lemmas.Bool.{false≢true}
 use Rattle.jc_base.specs.Each.{Each}
 use Rattle.jc_base.specs.World.{Linked}
+use Rattle.jc_base.proofs.Eaching.{Each-weaker}
 use Rattle.jc_decode.specs.declared.insn.Placed.{Placed}
 use Rattle.jc_decode.specs.declared.symbols.Item.TheVariants.{Plain}
 use Rattle.jc_decode.specs.Listing.{listing}
@@ -12,7 +13,6 @@ use Rattle.jc_decode.specs.Symbols.{Step}
 use Rattle.jc_control.specs.WellFormed.{IsPlace, HasInstruction}
 use Rattle.jc_ops.specs.declared.operation.Callee.{Callee}
 use Rattle.jc_ops.specs.declared.operation.Operation.TheVariants.{Call}
-use Rattle.xf_homes.proofs.Rising.{each-map}
 use Rattle.vm_store.specs.declared.cell.Cell.{Cell}
 use Rattle.vm_store.specs.State.{State, Frame, IsRunning, top}
 use Rattle.vm_step.specs.Methods.{code_at, instruction_at}
@@ -104,7 +104,7 @@ module _
         holds = record {
           stored = λ x e. absurd (false≢true e);
           others = λ x.
-              each-map (Holds s (top z).registers (top t)) _ (λ h held free. held) (needed s i.place x) (after.locals x);
+              Each-weaker (Holds s (top z).registers (top t)) _ (λ h held free. held) (needed s i.place x) (after.locals x);
         };
       }) typed after.next (after.at ∙ ap (λ k. place (body_at s i.place + k)) (sym kept))
       (fallen-plain s i op refl refl) in

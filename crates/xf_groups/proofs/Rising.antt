@@ -1,5 +1,5 @@
 -- Groups follow one another, and no two places of reached instructions are laid as one.
-use Rattle.std.proofs.Common.{◌≡◌, ℕ, zero, suc, ◌+◌, ◌<◌, ◌≤◌, ◌⊎◌, inl, inr, Bool, true, false, if◌then◌else◌, List, [], ◌∷◌, ◌++◌, flat_map, length, refl, sym, ap, ◌∙◌, subst, arith, append_assoc}
+use Rattle.std.proofs.Common.{◌≡◌, ℕ, zero, suc, ◌+◌, ◌<◌, ◌≤◌, ◌⊎◌, inl, inr, Bool, true, false, if◌then◌else◌, List, [], ◌∷◌, ◌++◌, flat_map, length, sym, ap, ◌∙◌, subst, arith, append_assoc}
 use Rattle.std.specs.Prelude.{Option, Some, None, Ok, Contains, IsSome, is_some, cond, nat_lt, slice_get}
 use Rattle.std.proofs.lemmas.Bool.Decides.{nat_tests}
 use Rattle.std.proofs.lemmas.List.{length-append}
@@ -19,6 +19,7 @@ use Rattle.xf_emission.specs.Laws.{GroupStands, GroupsStand, LabelsStandOnce, Is
 use Rattle.xf_landed.proofs.Steps.{at-contains}
 use Rattle.xf_groups.specs.Laid.{count_of, group_at}
 use Rattle.xf_groups.proofs.Placing.{count-append, group-begins, place-once}
+use Rattle.jc_base.proofs.Lists.{slice_get-farther}
 
 -- ---- where an instruction stands in a listing
 
@@ -33,10 +34,6 @@ split-at (p ∷ ps) zero i e = let same : p ≡ i = cc in record { before = []; 
 split-at (p ∷ ps) (suc k) i e =
     let rest = split-at ps k i e in
     record { before = p ∷ rest.before; after = rest.after; parts = ap (λ qs. p ∷ qs) rest.parts }
-
-at-place : (before : List Placed) (i : Placed) (after : List Placed) → slice_get (before ++ i ∷ after) (length before) ≡ Some i
-at-place [] i after = refl
-at-place (b ∷ before) i after = at-place before i after
 
 at-before : (before after : List Placed) (k : ℕ) (x : Placed) → slice_get before k ≡ Some x → slice_get (before ++ after) k ≡ Some x
 at-before [] after k x e = absurd (let lt = slice_get_within [] k x e in omega (arith, lt))
@@ -79,7 +76,7 @@ module _
 
       -- its number in the listing
       own : slice_get (listing s.method.code) (length g.earlier) ≡ Some i
-      own = ap (λ ps. slice_get ps (length g.earlier)) g.listed ∙ at-place g.earlier i g.later
+      own = ap (λ ps. slice_get ps (length g.earlier)) g.listed ∙ slice_get-farther g.earlier (i ∷ g.later) 0 (length g.earlier) (omega arith)
 
       after-it :
           (n : ℕ)

@@ -12,7 +12,7 @@ use Rattle.jc_base.specs.Each.{Each, IsAmong}
 use Rattle.jc_base.specs.Laws.{IsOrderOfTypes, SameTypeDecides}
 use Rattle.jc_base.specs.Order.{Below}
 use Rattle.jc_base.specs.World.{Linked, IsWorld}
-use Rattle.jc_base.proofs.Lists.{All-slice_get}
+use Rattle.jc_base.proofs.Lists.{All-slice_get, slice_get-set_here, slice_get-set_other}
 use Rattle.jc_decode.specs.declared.insn.Insn.{Insn}
 use Rattle.jc_decode.specs.declared.insn.Placed.{Placed}
 use Rattle.jc_decode.specs.declared.symbols.Item.{Item}
@@ -44,7 +44,6 @@ use Rattle.vm_erasure.specs.Erasure.{IsNoFault}
 use Rattle.vm_alike.specs.Alike.{renamed_cell}
 use Rattle.vm_alike.specs.Running.{Executes}
 use Rattle.vm_alike.proofs.Asked.{passed-asks}
-use Rattle.vm_alike.proofs.Registering.{get-set-here, get-set-other}
 use Rattle.vm_alike.proofs.Settling.{unless-none}
 use Rattle.xf_homes.specs.declared.home.Home.{Home}
 use Rattle.xf_homes.specs.Laws.{NeededAreKept}
@@ -138,7 +137,7 @@ module _ (t : ClassTable) (ks : List ObjectKind) (x : ℕ) where
       (registers rest : List Cell) (c : Cell) (ty : Ty) → x + 1 ≤ length registers → IsCellOf t ks ty c
       → (nth tagged (set registers x c) x ≡ c) × IsSomeAnd (slice_get (set registers x c) x) (IsCellOf t ks ty)
   one-put registers rest c ty le is =
-      let here : slice_get (set registers x c) x ≡ Some c = get-set-here registers x c (omega (arith, le)) in
+      let here : slice_get (set registers x c) x ≡ Some c = slice_get-set_here registers x c (omega (arith, le)) in
       (nth-is (set registers x c) x c here, subst (λ o. IsSomeAnd o (IsCellOf t ks ty)) (sym here) is)
 
   reference-put :
@@ -150,7 +149,7 @@ module _ (t : ClassTable) (ks : List ObjectKind) (x : ℕ) where
       record {
         split = ap (λ (d : Cell). d ∷ rest) (sym p.0);
         value = (p.1, tt);
-        others = λ n e. get-set-other registers x n c (λ same. same-number n same e);
+        others = λ n e. slice_get-set_other registers x n c (λ same. same-number n same e);
         count = length-set registers x c;
         low = λ e. absurd (cc);
       }
@@ -164,7 +163,7 @@ module _ (t : ClassTable) (ks : List ObjectKind) (x : ℕ) where
       record {
         split = ap (λ (d : Cell). d ∷ rest) (sym p.0);
         value = (p.1, tt);
-        others = λ n e. get-set-other registers x n c (λ same. same-number n same e);
+        others = λ n e. slice_get-set_other registers x n c (λ same. same-number n same e);
         count = length-set registers x c;
         low = λ e. absurd (cc);
       }
@@ -184,9 +183,9 @@ module _ (t : ClassTable) (ks : List ObjectKind) (x : ℕ) where
   int-put registers (c ∷ d ∷ rest) le h k =
       let first = set registers x d in
       let count : length first ≡ length registers = length-set registers x d in
-      let second : slice_get (set first (x + 1) c) (x + 1) ≡ Some c = get-set-here first (x + 1) c (omega (arith, le, count)) in
+      let second : slice_get (set first (x + 1) c) (x + 1) ≡ Some c = slice_get-set_here first (x + 1) c (omega (arith, le, count)) in
       let here : slice_get (set first (x + 1) c) x ≡ Some d =
-      get-set-other first (x + 1) x c (λ e. omega (arith, e)) ∙ get-set-here registers x d (omega (arith, le)) in
+      slice_get-set_other first (x + 1) x c (λ e. omega (arith, e)) ∙ slice_get-set_here registers x d (omega (arith, le)) in
       record {
         split =
             ap (λ (a : Cell). a ∷ d ∷ rest) (sym (nth-is (set first (x + 1) c) (x + 1) c second))
@@ -197,7 +196,7 @@ module _ (t : ClassTable) (ks : List ObjectKind) (x : ℕ) where
         );
         others = λ n e.
             let both = or_parts (n == x) (n == x + 1) e in
-            get-set-other first (x + 1) n c (λ same. second-number n same both.1) ∙ get-set-other registers x n d (λ same. same-number n same both.0);
+            slice_get-set_other first (x + 1) n c (λ same. second-number n same both.1) ∙ slice_get-set_other registers x n d (λ same. same-number n same both.0);
         count = length-set first (x + 1) c ∙ count;
         low = λ e. subst (λ o. IsSomeAnd o (IsCellOf t ks IntLow)) (sym second) h;
       }

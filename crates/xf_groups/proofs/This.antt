@@ -21,6 +21,7 @@ use Rattle.jc_rules.specs.Flow.{IsDerived, IsFollowed}
 use Rattle.jc_rules.specs.Footprint.{footprint, registers_asked, registers_read}
 use Rattle.jc_rules.specs.Laws.{IsNotBottom}
 use Rattle.jc_rules.specs.Rule.{demands}
+use Rattle.jc_rules.proofs.Decides.{ok-same}
 use Rattle.vm_store.specs.declared.cell.Cell.{Cell}
 use Rattle.vm_store.specs.Cells.{tagged}
 use Rattle.vm_store.specs.State.{State, top}
@@ -41,7 +42,6 @@ use Rattle.xf_plan.specs.Source.{Source}
 use Rattle.xf_plan.specs.Plan.{needed, operation, register}
 use Rattle.xf_emission.specs.Edge.{is_stored}
 use Rattle.xf_emission.specs.Group.{body}
-use Rattle.xf_emission.proofs.RowByRow.{ok-same}
 use Rattle.xf_typing.specs.Whole.{DerivedAreWhole}
 use Rattle.xf_typing.proofs.Below.{loads-same}
 use Rattle.xf_typing.proofs.Running.{found-below, is-reference, local-at, value-one}
@@ -83,7 +83,7 @@ this-home v w s place laid types whole kept i op c held stands reached does =
     by (Some f) e h d =
         let here : Resolves v s.method.rec i.place i.insn (Ok op) =
         subst (λ u. Resolves u s.method.rec i.place i.insn (Ok op)) laid.world (sym does) in
-        let same : h.steps.1.operation ≡ op = ok-same h.steps.1.operation op (h.steps.1.resolves ∙ sym here) in
+        let same : h.steps.1.operation ≡ op = ok-same (h.steps.1.resolves ∙ sym here) in
         let asked : SatisfiesAll v.classes f (demands v op) = subst (λ k. SatisfiesAll v.classes f (demands v k)) same h.steps.1.does.asked in
         let full = (whole s.method i.place f (method-of v w s place laid)
         (subst (λ u. IsDerived u s.method Top i.place f) laid.world d)).regs in

@@ -8,6 +8,7 @@ use Rattle.jc_base.specs.Laws.{IsOrderOfTypes}
 use Rattle.jc_base.specs.Order.{Below}
 use Rattle.jc_base.specs.World.{Linked, IsWorld}
 use Rattle.jc_base.specs.declared.ty.Ty.TheVariants.{Bottom, Class}
+use Rattle.jc_base.proofs.Eaching.{Each-weaker}
 use Rattle.jc_decode.specs.declared.insn.Insn.{Insn}
 use Rattle.jc_decode.specs.declared.insn.Placed.{Placed}
 use Rattle.jc_decode.specs.declared.symbols.Item.{Item}
@@ -56,7 +57,6 @@ use Rattle.vm_alike.proofs.Cells.{in-stays, object-stays, replaced-renamed}
 use Rattle.vm_alike.proofs.Settling.{unless-none}
 use Rattle.xf_homes.specs.declared.home.Home.{Home}
 use Rattle.xf_homes.specs.Value.{width}
-use Rattle.xf_homes.proofs.Rising.{each-map}
 use Rattle.xf_landed.specs.Apart.{apart_from_code}
 use Rattle.xf_landed.specs.Laws.{OperationsAreKept}
 use Rattle.xf_plan.specs.Source.{Source}
@@ -123,7 +123,7 @@ cells-same z t (suc h) e = ap (λ (os : List (Object Cell)). cells_in (slice_get
 
 pub same-locals : (s : Source) (p : ℕ) (f g k : Frame Cell) → k.registers ≡ g.registers → HoldsLocals s p f g → HoldsLocals s p f k
 same-locals s p f g k e locals x =
-    each-map (Holds s f.registers g) (Holds s f.registers k) (λ h held. record {
+    Each-weaker (Holds s f.registers g) (Holds s f.registers k) (λ h held. record {
       known = held.known;
       there = subst (λ (rs : List Cell). register s h + width h.ty ≤ length rs) (sym e) held.there;
       equal = λ n lt. ap (λ (rs : List Cell). slice_get rs (register s h + n)) e ∙ held.equal n lt;
@@ -359,7 +359,7 @@ module _
                 stack = stack_is;
                 holds = record {
                   stored = λ x k. absurd (never k);
-                  others = λ x. each-map (Holds s f.registers (top t)) _
+                  others = λ x. Each-weaker (Holds s f.registers (top t)) _
                       (λ a own free. record { known = own.known; there = own.there; equal = own.equal }) (needed s i.place x) (b.held.locals x);
                 };
               }) refl refl (ex.ends ∙ ap place last);

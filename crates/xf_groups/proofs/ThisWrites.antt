@@ -3,6 +3,7 @@ use Rattle.std.proofs.Common.{◌≡◌, ℕ, zero, suc, ◌+◌, ◌-◌, ◌<�
 use Rattle.std.specs.Prelude.{Option, Some, None, Ok, IfSome, IsSomeAnd, is_some, slice_get, drop}
 use Rattle.jc_base.specs.Linked.{IsMethod}
 use Rattle.jc_base.proofs.Lists.{All-slice_get}
+use Rattle.jc_base.proofs.Eaching.{Each-weaker}
 use Rattle.std.proofs.lemmas.List.{length-map}
 use Rattle.jc_base.specs.Cell.{IsDeclared, IsOfKind, width as cells_of_kind}
 use Rattle.jc_base.specs.Class.{ClassTable}
@@ -58,7 +59,6 @@ use Rattle.vm_alike.proofs.Asked.{register-same}
 use Rattle.vm_alike.proofs.Settling.{unless-none}
 use Rattle.xf_homes.specs.declared.home.Home.{Home}
 use Rattle.xf_homes.specs.Value.{width}
-use Rattle.xf_homes.proofs.Rising.{each-map}
 use Rattle.xf_landed.specs.Apart.{apart_from_code}
 use Rattle.xf_landed.specs.Laws.{OperationsAreKept}
 use Rattle.xf_plan.specs.Source.{Source}
@@ -377,7 +377,7 @@ module _
                 stack = stack_is;
                 holds = record {
                   stored = λ x k. absurd (never k);
-                  others = λ x. each-map (Holds s f.registers (top t)) _
+                  others = λ x. Each-weaker (Holds s f.registers (top t)) _
                       (λ a own free. record { known = own.known; there = own.there; equal = own.equal }) (needed s i.place x) (b.held.locals x);
                 };
               }) refl refl (ex.ends ∙ ap place last);

@@ -4,6 +4,7 @@ use Rattle.std.specs.Prelude.{ℤ, pos, negsuc, unsigned_abs, All, Contains, Ok,
 use Rattle.std.proofs.lemmas.Bool.{false≢true}
 use Rattle.jc_base.specs.Each.{Each}
 use Rattle.jc_base.specs.World.{Linked, IsWorld}
+use Rattle.jc_base.proofs.Eaching.{Each-weaker}
 use Rattle.jc_decode.specs.declared.insn.Case.{Case}
 use Rattle.jc_decode.specs.declared.insn.Placed.{Placed}
 use Rattle.jc_decode.specs.Cases.{cases}
@@ -31,7 +32,6 @@ use Rattle.vm_alike.specs.Alike.{renamed_cell}
 use Rattle.vm_alike.specs.Running.{Executes}
 use Rattle.vm_alike.proofs.Settling.{unless-none}
 use Rattle.xf_homes.specs.declared.home.Home.{Home}
-use Rattle.xf_homes.proofs.Rising.{each-map}
 use Rattle.xf_plan.specs.Source.{Source}
 use Rattle.xf_plan.specs.Plan.{stack_homes, is_leader, needed, operation}
 use Rattle.xf_emission.specs.declared.origin.Origin.TheVariants.{After}
@@ -156,7 +156,7 @@ module _
       record {
         stored = λ x k. absurd (false≢true k);
         others = λ x.
-            each-map (Holds s (top z).registers (top u)) _ (λ h held free. held) (needed s i.place x)
+            Each-weaker (Holds s (top z).registers (top u)) _ (λ h held free. held) (needed s i.place x)
             (subst (λ p. Each (Holds s (top z).registers (top u)) (needed s p x)) turn.here (e.held.locals x));
       } in
       let c = spilled-goes v w s place laid stand follow executed needs fill spills edges few_copies few_cells y u (After i.place op) typed_y

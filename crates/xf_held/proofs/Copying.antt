@@ -8,7 +8,6 @@ use Rattle.vm_store.specs.declared.cell.Cell.{Cell}
 use Rattle.vm_store.specs.declared.cell.Cell.TheVariants.{Empty}
 use Rattle.vm_store.specs.Cells.{tagged}
 use Rattle.vm_store.specs.State.{Frame, nth}
-use Rattle.vm_alike.proofs.Registering.{get-set-other, get-set-here}
 use Rattle.xf_homes.specs.declared.home.Home.{Home}
 use Rattle.xf_homes.specs.Value.{width}
 use Rattle.xf_plan.specs.Source.{Source}
@@ -16,6 +15,7 @@ use Rattle.xf_plan.specs.Plan.{register}
 use Rattle.xf_held.specs.Held.{Holds}
 use Rattle.xf_held.specs.Laws.{AreApart}
 use Rattle.xf_held.specs.Moves.{size, copied, CopiesKeepHomes}
+use Rattle.jc_base.proofs.Lists.{slice_get-set_here, slice_get-set_other}
 
 -- ---- registers after a copy
 
@@ -31,7 +31,7 @@ first-copied rs from to there inside =
     let here : to + 0 ≡ to = omega arith in
     let back : from ≡ from + 0 = omega arith in
     ap (slice_get (set rs to (nth tagged rs from))) here
-    ∙ (get-set-here rs to (nth tagged rs from) (omega (arith, inside))
+    ∙ (slice_get-set_here rs to (nth tagged rs from) (omega (arith, inside))
     ∙ (sym (slice_get-get_or rs from Empty (omega (arith, there))) ∙ ap (slice_get rs) back))
 
 pub copied-count : (sort : Sort) (from to : ℕ) (rs : List Cell) → length (copied tagged sort from to rs) ≡ length rs
@@ -45,12 +45,12 @@ copied-other :
     (sort : Sort) (from to : ℕ) (rs : List Cell) (n : ℕ) → (n < to) ⊎ (to + size sort ≤ n)
     → slice_get (copied tagged sort from to rs) n ≡ slice_get rs n
 copied-other sorts.Reference from to rs n out =
-    get-set-other rs to n (nth tagged rs from) (λ e. beside to 1 n out 0 (omega arith) (omega (arith, e)))
+    slice_get-set_other rs to n (nth tagged rs from) (λ e. beside to 1 n out 0 (omega arith) (omega (arith, e)))
 copied-other sorts.Short from to rs n out =
-    get-set-other rs to n (nth tagged rs from) (λ e. beside to 1 n out 0 (omega arith) (omega (arith, e)))
+    slice_get-set_other rs to n (nth tagged rs from) (λ e. beside to 1 n out 0 (omega arith) (omega (arith, e)))
 copied-other sorts.Int from to rs n out =
-    get-set-other (set rs to (nth tagged rs from)) (to + 1) n (nth tagged rs (from + 1)) (λ e. beside to 2 n out 1 (omega arith) e)
-    ∙ get-set-other rs to n (nth tagged rs from) (λ e. beside to 2 n out 0 (omega arith) (omega (arith, e)))
+    slice_get-set_other (set rs to (nth tagged rs from)) (to + 1) n (nth tagged rs (from + 1)) (λ e. beside to 2 n out 1 (omega arith) e)
+    ∙ slice_get-set_other rs to n (nth tagged rs from) (λ e. beside to 2 n out 0 (omega arith) (omega (arith, e)))
 
 -- one that was written has what the other had
 copied-here :
@@ -64,12 +64,12 @@ copied-here sorts.Int from to rs zero lt there inside =
     let here : to + 0 ≡ to = omega arith in
     let back : from ≡ from + 0 = omega arith in
     ap (slice_get (set (set rs to (nth tagged rs from)) (to + 1) (nth tagged rs (from + 1)))) here
-    ∙ (get-set-other (set rs to (nth tagged rs from)) (to + 1) to (nth tagged rs (from + 1)) (λ e. omega (arith, e))
-    ∙ (get-set-here rs to (nth tagged rs from) (omega (arith, inside))
+    ∙ (slice_get-set_other (set rs to (nth tagged rs from)) (to + 1) to (nth tagged rs (from + 1)) (λ e. omega (arith, e))
+    ∙ (slice_get-set_here rs to (nth tagged rs from) (omega (arith, inside))
     ∙ (sym (slice_get-get_or rs from Empty (omega (arith, there))) ∙ ap (slice_get rs) back)))
 copied-here sorts.Int from to rs (suc zero) lt there inside =
     let count = length-set rs to (nth tagged rs from) in
-    get-set-here (set rs to (nth tagged rs from)) (to + 1) (nth tagged rs (from + 1)) (omega (arith, inside, count))
+    slice_get-set_here (set rs to (nth tagged rs from)) (to + 1) (nth tagged rs (from + 1)) (omega (arith, inside, count))
     ∙ sym (slice_get-get_or rs (from + 1) Empty (omega (arith, there)))
 copied-here sorts.Int from to rs (suc (suc k)) lt there inside = absurd (omega (arith, lt))
 

@@ -1,7 +1,7 @@
 -- The copies of an edge: from where it begins to the homes that are needed where it leads.
 use Rattle.std.proofs.Common.{◌≡◌, ◌⊎◌, inl, inr, ℕ, zero, suc, ◌+◌, ◌*◌, ◌<◌, ◌≤◌, Bool, true, false, if◌then◌else◌, List, [], ◌∷◌, ◌++◌, length, map, replicate, refl, sym, ap, ◌∙◌, subst, arith, length-append}
 use Rattle.std.specs.Prelude.{Option, Some, None, IfSome, slice_get}
-use Rattle.std.proofs.lemmas.Bool.{cases_lt}
+use Rattle.std.proofs.lemmas.Bool.{cases_lt, both_ways}
 use Rattle.jc_base.specs.declared.ty.Ty.{Ty}
 use Rattle.jc_base.specs.Class.{object}
 use Rattle.jc_base.specs.Each.{Each, IsAmong}
@@ -45,9 +45,6 @@ some-same a b e = cc
 
 none-some : (h : Home) → ◌≡◌ {A = Option Home} None (Some h) → ⊥
 none-some h e = absurd (cc)
-
-differ : (b : Bool) → b ≡ true → b ≡ false → ⊥
-differ b e f = absurd (cc)
 
 pub home-same : (a b : Home) → a.slot ≡ b.slot → a.ty ≡ b.ty → a ≡ b
 home-same a b e f = ap (λ (n : ℕ). record { slot = n; ty = a.ty }) e ∙ ap (λ (u : Ty). record { slot = b.slot; ty = u }) f
@@ -148,7 +145,7 @@ module _ (v w : Linked) (l : AreLaws v w) (place : ℕ → ℕ) (steps : List St
             }
           where
             single : (k.ty ≡ from.ty) ⊎ (letter_of from.ty ≡ sorts.Reference) → has (held s o x from) from ≡ true → has (held s o x from) k ≡ false → letter_of from.ty ≡ sorts.Reference
-            single (inl same) there e = absurd (differ (has (held s o x from) from) there (ap (has (held s o x from)) (home-same from k c.slot (sym same)) ∙ e))
+            single (inl same) there e = absurd (both_ways (has (held s o x from) from) (ap (has (held s o x from)) (home-same from k c.slot (sym same)) ∙ e) there)
             single (inr reference) there e = reference
 
         by : (stored_at o k.slot ≡ true) ⊎ ((other : Home) × IsCarried s o k other) → FromHere (held s o x from) from k

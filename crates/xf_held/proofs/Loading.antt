@@ -7,6 +7,7 @@ use Rattle.jc_base.specs.declared.ty.Ty.TheVariants.{Bottom, Short, IntHigh}
 use Rattle.jc_base.specs.declared.record.MethodRec.{MethodRec}
 use Rattle.jc_base.specs.Each.{Each}
 use Rattle.jc_base.specs.World.{Linked}
+use Rattle.jc_base.proofs.Lists.{slice_get-some}
 use Rattle.jc_decode.specs.Listing.{listing}
 use Rattle.jc_decode.specs.Standing.{AreSteps}
 use Rattle.jc_decode.specs.Symbols.{Step}
@@ -30,7 +31,6 @@ use Rattle.vm_step.specs.Step.{Steps}
 use Rattle.vm_step.specs.Values.{with_load}
 use Rattle.vm_sound.specs.Frames.{least_types}
 use Rattle.vm_sound.proofs.Places.{instruction-there}
-use Rattle.xf_landed.proofs.Steps.{some-within}
 use Rattle.xf_emission.specs.Move.{with_byte, load_op, store_op}
 use Rattle.xf_homes.specs.declared.home.Home.{Home}
 use Rattle.xf_plan.specs.Source.{Source}
@@ -70,7 +70,7 @@ pub step-place :
     (code : List ℕ) (place : ℕ → ℕ) (steps : List Step) (n : ℕ) → AreSteps code place 0 steps (listing code) → n < length steps
     → IsPlace code (place n)
 step-place code place steps n are lt =
-    let s = some-within steps n lt in
+    let s = slice_get-some steps n lt in
     let here = steps-stand-at-places code place steps n s.0 are s.1 in
     let there = instruction-there code (place n) here.instruction here.found in
     (here.instruction, there.stands, there.at)

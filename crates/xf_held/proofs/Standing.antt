@@ -1,15 +1,14 @@
 -- The instruction at the place of a step, in code that stands for steps whose places rise.
 use Rattle.std.proofs.Common.{◌≡◌, ℕ, zero, suc, ◌+◌, ◌-◌, ◌<◌, ◌≤◌, ◌==◌, false, cond, List, [], ◌∷◌, length, sym, ap, ◌∙◌, subst, arith, refl}
 use Rattle.std.specs.Prelude.{Some, Ok, IfSome, find, slice_get}
-use Rattle.std.proofs.lemmas.Bool.{eq-eqb}
-use Rattle.std.proofs.lemmas.Bool.Decides.{nat_tests}
+use Rattle.std.proofs.lemmas.Bool.{eq-eqb, ne_eqb}
 use Rattle.std.proofs.lemmas.List.Elements.{All-weaker}
 use Rattle.std.proofs.lemmas.Option.{slice_get_within}
 use Rattle.jc_base.specs.declared.record.MethodRec.{MethodRec}
 use Rattle.jc_base.specs.Cell.{IsDeclared}
 use Rattle.jc_base.specs.Linked.{IsMethod}
 use Rattle.jc_base.specs.World.{Linked, IsWorld}
-use Rattle.jc_base.proofs.Lists.{All-slice_get}
+use Rattle.jc_base.proofs.Lists.{All-slice_get, slice_get-some}
 use Rattle.jc_decode.specs.declared.insn.Placed.{Placed}
 use Rattle.jc_decode.proofs.Listed.{all-are-listed}
 use Rattle.jc_ops.specs.declared.operation.Operation.{Operation}
@@ -19,7 +18,7 @@ use Rattle.jc_ops.specs.Sound.{OperationsAreSound}
 use Rattle.vm_store.specs.State.{top}
 use Rattle.xf_landed.proofs.Forms.{resolves-renamed}
 use Rattle.xf_landed.proofs.Operations.{operation_renamed}
-use Rattle.xf_landed.proofs.Steps.{some-within, step-at}
+use Rattle.xf_landed.proofs.Steps.{step-at}
 use Rattle.vm_alike.specs.Alike.{renamed_new}
 use Rattle.jc_decode.specs.Listing.{listing}
 use Rattle.jc_decode.specs.Standing.{IsStep, AreSteps}
@@ -28,9 +27,6 @@ use Rattle.jc_decode.proofs.Elements.{Contains-slice_get}
 use Rattle.vm_step.specs.Methods.{code_at, instruction_at}
 use Rattle.xf_held.specs.Moves.{IsExecutable}
 use Rattle.xf_held.specs.Laws.{StepsStandAtPlaces, StepsExecute}
-
-differ : (a b : ℕ) → a < b → (a == b) ≡ false
-differ a b lt = grind (arith, nat_tests, lt)
 
 module _ (code : List ℕ) (place : ℕ → ℕ) where
   -- among the instructions of the steps from a number on
@@ -65,7 +61,7 @@ module _ (code : List ℕ) (place : ℕ → ℕ) where
       let number : suc m + k ≡ m + suc k = omega arith in
       let earlier : place m < place (m + suc k) = rise m (m + suc k) (omega arith) (omega (arith, inside)) in
       let other : p.place ≡ place m = h.0 in
-      let apart : (p.place == place (m + suc k)) ≡ false = differ p.place (place (m + suc k)) (omega (arith, earlier, other)) in
+      let apart : (p.place == place (m + suc k)) ≡ false = ne_eqb p.place (place (m + suc k)) (λ same. omega (arith, same, earlier, other)) in
       record {
         instruction = rest.instruction;
         found = ap (λ b. cond b (Some p) (find (λ (i : Placed). i.place == place (m + suc k)) ps)) apart
@@ -80,7 +76,7 @@ module _ (code : List ℕ) (place : ℕ → ℕ) where
 module _ (code : List ℕ) (place : ℕ → ℕ) (steps : List Step) (are : AreSteps code place 0 steps (listing code)) where
   rises-once : (k : ℕ) → k < length steps → place k < place (suc k)
   rises-once k lt =
-      let s = some-within steps k lt in
+      let s = slice_get-some steps k lt in
       let x = step-at code place 0 steps (listing code) are k s.0 s.1 in
       let a = all-are-listed code in
       let long : 0 < x.placed.insn.len = a.long x.placed.place x.placed.insn

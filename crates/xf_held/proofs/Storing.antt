@@ -4,7 +4,7 @@ use Rattle.std.specs.Prelude.{Some, slice_get, sum_by}
 use Rattle.std.proofs.lemmas.List.{take_all, length-reverse, reverse-reverse}
 use Rattle.std.proofs.lemmas.List.Sums.{sum_by-cons}
 use Rattle.std.proofs.lemmas.Option.{slice_get-get_or}
-use Rattle.jc_base.proofs.Lists.{slice_get-farther}
+use Rattle.jc_base.proofs.Lists.{slice_get-farther, slice_get-set_here, slice_get-set_other}
 use Rattle.jc_base.specs.Class.{ClassTable, object}
 use Rattle.jc_base.specs.declared.ty.Ty.TheVariants.{Bottom, Short, IntHigh, IntLow, Class}
 use Rattle.jc_base.specs.World.{Linked}
@@ -20,7 +20,6 @@ use Rattle.vm_store.specs.Cells.{tagged}
 use Rattle.vm_store.specs.State.{Frame, nth}
 use Rattle.vm_sound.specs.Frames.{least_types}
 use Rattle.vm_alike.proofs.Asked.{register-same}
-use Rattle.vm_alike.proofs.Registering.{get-set-other, get-set-here}
 use Rattle.xf_homes.specs.declared.home.Home.{Home}
 use Rattle.xf_homes.specs.Order.{SlotsFollow as Follow, register_sum}
 use Rattle.xf_homes.specs.Value.{width}
@@ -114,12 +113,12 @@ stored-other :
     (letter : Sort) (values : List Cell) (slot r : ℕ) (registers : List Cell) (n : ℕ) → (n < r) ⊎ (r + size letter ≤ n)
     → slice_get (stored letter values slot r registers) n ≡ slice_get registers n
 stored-other sorts.Reference values slot r registers n out =
-    get-set-other registers r n (nth tagged values slot) (λ e. beside r 1 n out 0 (omega arith) (omega (arith, e)))
+    slice_get-set_other registers r n (nth tagged values slot) (λ e. beside r 1 n out 0 (omega arith) (omega (arith, e)))
 stored-other sorts.Short values slot r registers n out =
-    get-set-other registers r n (nth tagged values slot) (λ e. beside r 1 n out 0 (omega arith) (omega (arith, e)))
+    slice_get-set_other registers r n (nth tagged values slot) (λ e. beside r 1 n out 0 (omega arith) (omega (arith, e)))
 stored-other sorts.Int values slot r registers n out =
-    get-set-other (set registers r (nth tagged values slot)) (r + 1) n (nth tagged values (slot + 1)) (λ e. beside r 2 n out 1 (omega arith) e)
-    ∙ get-set-other registers r n (nth tagged values slot) (λ e. beside r 2 n out 0 (omega arith) (omega (arith, e)))
+    slice_get-set_other (set registers r (nth tagged values slot)) (r + 1) n (nth tagged values (slot + 1)) (λ e. beside r 2 n out 1 (omega arith) e)
+    ∙ slice_get-set_other registers r n (nth tagged values slot) (λ e. beside r 2 n out 0 (omega arith) (omega (arith, e)))
 
 first-stored :
     (values : List Cell) (slot r : ℕ) (registers : List Cell) → slot + 1 ≤ length values → r + 1 ≤ length registers
@@ -128,7 +127,7 @@ first-stored values slot r registers there inside =
     let here : r + 0 ≡ r = omega arith in
     let back : slot ≡ slot + 0 = omega arith in
     ap (slice_get (set registers r (nth tagged values slot))) here
-    ∙ (get-set-here registers r (nth tagged values slot) (omega (arith, inside))
+    ∙ (slice_get-set_here registers r (nth tagged values slot) (omega (arith, inside))
     ∙ (sym (slice_get-get_or values slot Empty (omega (arith, there))) ∙ ap (slice_get values) back))
 
 stored-here :
@@ -140,11 +139,11 @@ stored-here sorts.Reference values slot r registers (suc k) lt there inside = ab
 stored-here sorts.Short values slot r registers zero lt there inside = first-stored values slot r registers there inside
 stored-here sorts.Short values slot r registers (suc k) lt there inside = absurd (omega (arith, lt))
 stored-here sorts.Int values slot r registers zero lt there inside =
-    get-set-other (set registers r (nth tagged values slot)) (r + 1) (r + 0) (nth tagged values (slot + 1)) (λ e. omega (arith, e))
+    slice_get-set_other (set registers r (nth tagged values slot)) (r + 1) (r + 0) (nth tagged values (slot + 1)) (λ e. omega (arith, e))
     ∙ first-stored values slot r registers (omega (arith, there)) (omega (arith, inside))
 stored-here sorts.Int values slot r registers (suc zero) lt there inside =
     let count = length-set registers r (nth tagged values slot) in
-    get-set-here (set registers r (nth tagged values slot)) (r + 1) (nth tagged values (slot + 1)) (omega (arith, inside, count))
+    slice_get-set_here (set registers r (nth tagged values slot)) (r + 1) (nth tagged values (slot + 1)) (omega (arith, inside, count))
     ∙ sym (slice_get-get_or values (slot + 1) Empty (omega (arith, there)))
 stored-here sorts.Int values slot r registers (suc (suc k)) lt there inside = absurd (omega (arith, lt))
 

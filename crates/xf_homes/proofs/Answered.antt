@@ -1,6 +1,6 @@
 -- What is answered for a method of the world.
 use Rattle.std.proofs.Common.{◌≡◌, ℕ, ◌+◌, ◌<◌, ◌≤◌, inl, inr, Bool, true, false, List, length, Option, Some, None, option_map, IsSome, IsSomeAnd, IfSome, Result, Ok, Err, IfOk, IfErr, MatchBool, slice_get, refl, sym, ◌∙◌, ap, subst, arith, length-take}
-use Rattle.std.specs.Prelude.{pos}
+use Rattle.std.specs.Prelude.{pos, is_some}
 use Rattle.std.proofs.lemmas.Option.{same_Some}
 use Rattle.std.proofs.lemmas.List.Elements.{All-contains}
 use Rattle.jc_base.specs.declared.ty.Ty.TheVariants.{Top}
@@ -23,6 +23,7 @@ use Rattle.jc_control.specs.Laws.{FlawsDecide, ArePlaced}
 use Rattle.jc_rules.specs.Demand.{Frame}
 use Rattle.jc_rules.specs.Flow.{FlowTyping}
 use Rattle.jc_rules.specs.Typing.{state_at}
+use Rattle.jc_rules.proofs.Types.{declared-not_top}
 use Rattle.xf_homes.specs.declared.home.Home.{Home}
 use Rattle.xf_homes.specs.declared.finding.HomeEnd.{HomeEnd}
 use Rattle.xf_homes.specs.declared.finding.HomeEnd.TheVariants.{Registers, Memory}
@@ -30,7 +31,6 @@ use Rattle.xf_homes.specs.Order.{AreHomes}
 use Rattle.xf_homes.specs.Walk.{argument_homes, code_events, with_events, homes_found}
 use Rattle.xf_homes.specs.Answer.{IsTypingOf, IsCounted, TellsEnd}
 use Rattle.xf_homes.proofs.AllHomes.{IsTyped, are-homes}
-use Rattle.xf_homes.proofs.OwnRegisters.{declared-topless}
 
 -- ---- options
 
@@ -72,10 +72,6 @@ module _ (w : Linked) (m : Method) (frames : ℕ → Option Frame) (ty : FlowTyp
   reached-placed (follows {i = i} {q = q} st r to) = next-placed i st r to
   reached-placed (caught {h = h} {p = p} r c cov) = (All-contains (IsHandlerOf m.code) m.rec.handlers h ty.formed.handlers c).entry
 
-some-there : {X : Type 0} (o : Option X) (x : X) → o ≡ Some x → IsSome o
-some-there None x e = absurd (cc)
-some-there (Some y) x e = refl
-
 is-there : {X : Type 0} (o : Option X) → IsSome o → (x : X) × (o ≡ Some x)
 is-there None h = absurd (cc)
 is-there (Some x) h = (x, refl)
@@ -90,11 +86,11 @@ module _ (w : Linked) (m : Method) (typing : List (Option Frame)) (typed : IsTyp
     marks = flow.leaders;
     listed = listed;
     sizes = λ p f e. some-fact (λ g. length g.regs ≡ m.rec.nargs + m.rec.max_locals) (state_at typing p) f e (typed.registers p);
-    there = λ p f e. (typed.reached p).0 (some-there (state_at typing p) f e);
+    there = λ p f e. (typed.reached p).0 (ap is_some e);
     placed = λ p r. reached-placed w m (state_at typing) typed.least.typing placed mo.filled r;
     framed = λ p r. is-there (state_at typing p) ((typed.reached p).1 r);
     whole = method.whole;
-    topless = λ k d lt. declared-topless w.classes _ (method.arguments k d lt);
+    topless = λ k d lt. declared-not_top w.classes _ (method.arguments k d lt);
     words = method.words;
   }
 

@@ -1,15 +1,15 @@
 -- What is kept of a list of events at rising spots: each pair once, at the first spot at which it is met.
-use Rattle.std.proofs.Common.{◌≡◌, ℕ, ◌⊎◌, inl, inr, Bool, true, false, ◌&&◌, ◌||◌, ◌==◌, if◌then◌else◌, List, [], ◌∷◌, ◌++◌, Option, Some, None, refl, sym, ◌∙◌, ap, subst, arith, append_assoc}
+use Rattle.std.proofs.Common.{◌≡◌, ℕ, ◌⊎◌, inl, inr, Bool, true, false, ◌||◌, ◌==◌, if◌then◌else◌, List, [], ◌∷◌, ◌++◌, Option, Some, None, refl, sym, ◌∙◌, ap, subst, arith, append_assoc}
 use Rattle.std.specs.Prelude.{fold}
 use Rattle.std.specs.List.{list_any}
-use Rattle.std.proofs.lemmas.Bool.{false≢true, and_parts}
+use Rattle.std.proofs.lemmas.Bool.{false≢true, and_parts, and_from}
 use Rattle.std.proofs.lemmas.Bool.Decides.{nat_tests}
 use Rattle.std.proofs.lemmas.List.{append-nil}
 use Rattle.jc_base.specs.declared.ty.Ty.{Ty}
 use Rattle.jc_base.specs.Each.{Each, IsAmong}
 use Rattle.jc_base.specs.SameType.{same_type}
 use Rattle.jc_base.specs.Laws.{SameTypeDecides}
-use Rattle.jc_base.proofs.Eaching.{Each-from_among}
+use Rattle.jc_base.proofs.Eaching.{Each-from_among, IsAmong-append_cases}
 use Rattle.xf_homes.specs.declared.home.Home.{Home}
 use Rattle.xf_homes.specs.Home.{Spot, ComesBefore}
 use Rattle.xf_homes.specs.Walk.{Event, same_home, has, with_value, with_event, with_events}
@@ -61,24 +61,12 @@ pub among-right : {X : Type 0} (x : X) (xs ys : List X) → IsAmong x ys → IsA
 among-right x [] ys a = a
 among-right x (y ∷ xs) ys a = inr (among-right x xs ys a)
 
-pub among-either : {X : Type 0} (x : X) (xs ys : List X) → IsAmong x (xs ++ ys) → IsAmong x xs ⊎ IsAmong x ys
-among-either x [] ys a = inr a
-among-either x (y ∷ xs) ys (inl e) = inl (inl e)
-among-either x (y ∷ xs) ys (inr a) = by (among-either x xs ys a)
-  where
-    by : IsAmong x xs ⊎ IsAmong x ys → IsAmong x (y ∷ xs) ⊎ IsAmong x ys
-    by (inl l) = inl (inr l)
-    by (inr r) = inr r
-
 pub each-occurs : (P : Spot → Type 0) (es : List Event) (s : Spot) (h : Home) → Each (λ e. P e.spot) es → Occurs es s h → P s
 each-occurs P [] s h each o = absurd o
 each-occurs P (e ∷ es) s h each (inl at) = subst P at.spot each.0
 each-occurs P (e ∷ es) s h each (inr o) = each-occurs P es s h each.1 o
 
 -- ---- equal homes
-
-both-true : (a b : Bool) → a ≡ true → b ≡ true → a && b ≡ true
-both-true a b p q = rw (p, q) refl
 
 module _ (same : SameTypeDecides) where
   pub homes-equal : (a b : Home) → same_home a b ≡ true → a ≡ b
@@ -89,7 +77,7 @@ module _ (same : SameTypeDecides) where
       ap (λ (n : ℕ). record { slot = n; ty = a.ty }) slots ∙ ap (λ (t : Ty). record { slot = b.slot; ty = t }) types
 
   pub home-itself : (a : Home) → same_home a a ≡ true
-  home-itself a = let slots : (a.slot == a.slot) ≡ true = grind (arith, nat_tests) in both-true (a.slot == a.slot) (same_type a.ty a.ty) slots ((same a.ty a.ty).1 refl)
+  home-itself a = let slots : (a.slot == a.slot) ≡ true = grind (arith, nat_tests) in and_from (a.slot == a.slot) (same_type a.ty a.ty) slots ((same a.ty a.ty).1 refl)
 
   pub has-among : (homes : List Home) (h : Home) → has homes h ≡ true → IsAmong h homes
   unfolding has
@@ -168,7 +156,7 @@ module _ (same : SameTypeDecides) where
 
         later : (h : Home) (s : Spot) → ¬ (IsAmong h before) → Occurs es s h → (b : Bool) → same_home home h ≡ b → (home ≡ h) ⊎ IsAmong h k.new
         later h s n o true q = inl (homes-equal home h q)
-        later h s n o false q = inr (k.all h s o (λ a. split (among-either h before (home ∷ []) a)))
+        later h s n o false q = inr (k.all h s o (λ a. split (IsAmong-append_cases h before (home ∷ []) a)))
           where
             split : IsAmong h before ⊎ IsAmong h (home ∷ []) → ⊥
             split (inl b) = n b

@@ -5,8 +5,7 @@ use Rattle.std.proofs.lemmas.List.Elements.{All-head, All-tail}
 use Rattle.jc_base.specs.declared.ty.Ty.{Ty}
 use Rattle.jc_base.specs.declared.ty.Ty.TheVariants.{Bottom, Short, IntHigh, IntLow, Null, Class, ArrBool, ArrByte, ArrShort, ArrInt, ArrRef, Fresh, Top}
 use Rattle.jc_base.specs.declared.record.MethodRec.{MethodRec}
-use Rattle.jc_base.specs.Class.{ClassTable}
-use Rattle.jc_base.specs.Cell.{IsDeclared, IsNoHalf, AreWhole, no_cells, whole_int, one_cell}
+use Rattle.jc_base.specs.Cell.{IsNoHalf, AreWhole, no_cells, whole_int, one_cell}
 use Rattle.jc_base.specs.Each.{IsAmong}
 use Rattle.jc_base.specs.Linked.{receiver_words}
 use Rattle.jc_rules.specs.Flow.{IsNotTop}
@@ -17,21 +16,6 @@ use Rattle.xf_homes.specs.Order.{SlotsFollow, register_sum}
 use Rattle.xf_homes.specs.Walk.{values_from, argument_homes}
 
 -- ---- single cells
-
-pub declared-topless : (t : ClassTable) (ty : Ty) → IsDeclared t ty → IsNotTop ty
-declared-topless t Top h = h
-declared-topless t Bottom h = tt
-declared-topless t Short h = tt
-declared-topless t IntHigh h = tt
-declared-topless t IntLow h = tt
-declared-topless t Null h = tt
-declared-topless t (Class c) h = tt
-declared-topless t ArrBool h = tt
-declared-topless t ArrByte h = tt
-declared-topless t ArrShort h = tt
-declared-topless t ArrInt h = tt
-declared-topless t (ArrRef c) h = tt
-declared-topless t (Fresh p c) h = tt
 
 -- a cell that is a value by itself
 record IsOwnValue (a : Ty) : Type 0 where

@@ -5,7 +5,7 @@ use Rattle.jc_base.specs.declared.ty.Ty.{Ty}
 use Rattle.jc_base.specs.declared.record.Handler.{Handler}
 use Rattle.jc_base.specs.Each.{Each, IsAmong}
 use Rattle.jc_base.specs.World.{Linked}
-use Rattle.jc_base.proofs.Eaching.{Each-from_among}
+use Rattle.jc_base.proofs.Eaching.{Each-from_among, Each-append, Each-weaker}
 use Rattle.jc_decode.specs.declared.insn.Placed.{Placed}
 use Rattle.jc_decode.specs.Listing.{listing}
 use Rattle.jc_control.specs.Method.{Method}
@@ -15,20 +15,10 @@ use Rattle.xf_homes.specs.Home.{ComesBefore, register_count}
 use Rattle.xf_homes.specs.Walk.{Event, caught_events, local_events, locals_events, cells_events, stack_events, keeps_stack, frame_events, place_events, code_events}
 use Rattle.xf_homes.proofs.Events.{Rising}
 
--- ---- lists
-
-pub each-map : {X : Type 0} (P Q : X → Type 0) → ((x : X) → P x → Q x) → (xs : List X) → Each P xs → Each Q xs
-each-map P Q f [] each = tt
-each-map P Q f (x ∷ xs) each = (f x each.0, each-map P Q f xs each.1)
-
-pub each-append : {X : Type 0} (P : X → Type 0) (xs ys : List X) → Each P xs → Each P ys → Each P (xs ++ ys)
-each-append P [] ys f g = g
-each-append P (x ∷ xs) ys f g = (f.0, each-append P xs ys f.1 g)
-
 rising-append : (P Q : Event → Type 0) → ((a b : Event) → P a → Q b → ComesBefore a.spot b.spot) → (xs ys : List Event) → Each P xs → Each Q ys → Rising xs → Rising ys → Rising (xs ++ ys)
 rising-append P Q before [] ys p q r s = s
 rising-append P Q before (x ∷ xs) ys p q r s = (
-  each-append (λ k. ComesBefore x.spot k.spot) xs ys r.0 (each-map Q (λ k. ComesBefore x.spot k.spot) (λ k qk. before x k p.0 qk) ys q),
+  Each-append (λ k. ComesBefore x.spot k.spot) xs ys r.0 (Each-weaker Q (λ k. ComesBefore x.spot k.spot) (λ k qk. before x k p.0 qk) ys q),
   rising-append P Q before xs ys p.1 q r.1 s,
 )
 
@@ -62,7 +52,7 @@ module _ (frames : ℕ → Option Frame) (handlers : List Handler) (p : ℕ) whe
   caught-rising : (x n : ℕ) (hs : List Handler) → Rising (caught_events frames p x n hs)
   caught-rising x n [] = tt
   caught-rising x n (h ∷ hs) = (
-    each-map (IsOfLocal p x (suc (suc n))) (λ k. ComesBefore (record { place = p; slot = x; time = suc n }) k.spot) (later-time x (suc n)) (caught_events frames p x (suc n) hs)
+    Each-weaker (IsOfLocal p x (suc (suc n))) (λ k. ComesBefore (record { place = p; slot = x; time = suc n }) k.spot) (later-time x (suc n)) (caught_events frames p x (suc n) hs)
         (caught-of_local x (suc n) (suc n) hs (omega arith)),
     caught-rising x (suc n) hs,
   )
@@ -70,7 +60,7 @@ module _ (frames : ℕ → Option Frame) (handlers : List Handler) (p : ℕ) whe
   pub local-rising : (x : ℕ) → Rising (local_events frames handlers p x)
   unfolding local_events
   local-rising x = (
-    each-map (IsOfLocal p x 1) (λ k. ComesBefore (record { place = p; slot = x; time = 0 }) k.spot) (later-time x 0) (caught_events frames p x 0 handlers)
+    Each-weaker (IsOfLocal p x 1) (λ k. ComesBefore (record { place = p; slot = x; time = 0 }) k.spot) (later-time x 0) (caught_events frames p x 0 handlers)
         (caught-of_local x 0 0 handlers (omega arith)),
     caught-rising x 0 handlers,
   )
@@ -79,7 +69,7 @@ module _ (frames : ℕ → Option Frame) (handlers : List Handler) (p : ℕ) whe
   unfolding local_events
   local-between x to lt = (
     record { place = refl; low = omega arith; high = lt },
-    each-map (IsOfLocal p x 1) (IsBetween p x to) (λ e of. record { place = of.place; low = omega (arith, of.slot); high = omega (arith, of.slot, lt) }) (caught_events frames p x 0 handlers)
+    Each-weaker (IsOfLocal p x 1) (IsBetween p x to) (λ e of. record { place = of.place; low = omega (arith, of.slot); high = omega (arith, of.slot, lt) }) (caught_events frames p x 0 handlers)
         (caught-of_local x 0 0 handlers (omega arith)),
   )
 
@@ -88,9 +78,9 @@ module _ (frames : ℕ → Option Frame) (handlers : List Handler) (p : ℕ) whe
   locals-between : (x n to : ℕ) → x + n ≤ to → Each (IsBetween p x to) (locals_events frames handlers p x n)
   locals-between x zero to le = tt
   locals-between x (suc n) to le =
-      each-append (IsBetween p x to) (local_events frames handlers p x) (locals_events frames handlers p (suc x) n)
+      Each-append (IsBetween p x to) (local_events frames handlers p x) (locals_events frames handlers p (suc x) n)
       (local-between x to (omega arith))
-      (each-map (IsBetween p (suc x) to) (IsBetween p x to) (λ e b. record { place = b.place; low = omega (arith, b.low); high = b.high }) (locals_events frames handlers p (suc x) n)
+      (Each-weaker (IsBetween p (suc x) to) (IsBetween p x to) (λ e b. record { place = b.place; low = omega (arith, b.low); high = b.high }) (locals_events frames handlers p (suc x) n)
       (locals-between (suc x) n to (omega arith)))
 
   locals-rising : (x n : ℕ) → Rising (locals_events frames handlers p x n)
@@ -109,7 +99,7 @@ module _ (frames : ℕ → Option Frame) (handlers : List Handler) (p : ℕ) whe
   pub cells-rising : (slot : ℕ) (cells : List Ty) (i n : ℕ) → Rising (cells_events p slot cells i n)
   cells-rising slot cells i zero = tt
   cells-rising slot cells i (suc n) = (
-    each-map (IsFrom p (suc (slot + i))) (λ k. ComesBefore (record { place = p; slot = slot + i; time = 0 }) k.spot) (λ k f. inr (sym f.place, inl f.low)) (cells_events p slot cells (suc i) n)
+    Each-weaker (IsFrom p (suc (slot + i))) (λ k. ComesBefore (record { place = p; slot = slot + i; time = 0 }) k.spot) (λ k f. inr (sym f.place, inl f.low)) (cells_events p slot cells (suc i) n)
         (cells-from slot cells (suc i) n (suc (slot + i)) (omega arith)),
     cells-rising slot cells (suc i) n,
   )
@@ -154,10 +144,10 @@ module _ (w : Linked) (m : Method) (frames : ℕ → Option Frame) (leaders : Li
   frame-place : (i : Placed) (o : Option Frame) → Each (IsAtPlace i.place) (frame_events w m frames leaders i o)
   frame-place i None = tt
   frame-place i (Some f) =
-      each-append (IsAtPlace i.place) (locals_events frames m.rec.handlers i.place 0 (register_count m.rec)) (stack_events (keeps_stack w m.rec leaders i (length f.stack)) i.place (register_count m.rec) (reverse f.stack))
-      (each-map (IsBetween i.place 0 (register_count m.rec)) (IsAtPlace i.place) (λ e b. b.place) (locals_events frames m.rec.handlers i.place 0 (register_count m.rec))
+      Each-append (IsAtPlace i.place) (locals_events frames m.rec.handlers i.place 0 (register_count m.rec)) (stack_events (keeps_stack w m.rec leaders i (length f.stack)) i.place (register_count m.rec) (reverse f.stack))
+      (Each-weaker (IsBetween i.place 0 (register_count m.rec)) (IsAtPlace i.place) (λ e b. b.place) (locals_events frames m.rec.handlers i.place 0 (register_count m.rec))
       (locals-between frames m.rec.handlers i.place 0 (register_count m.rec) (register_count m.rec) (omega arith)))
-      (each-map (IsFrom i.place (register_count m.rec)) (IsAtPlace i.place) (λ e b. b.place) (stack_events (keeps_stack w m.rec leaders i (length f.stack)) i.place (register_count m.rec) (reverse f.stack))
+      (Each-weaker (IsFrom i.place (register_count m.rec)) (IsAtPlace i.place) (λ e b. b.place) (stack_events (keeps_stack w m.rec leaders i (length f.stack)) i.place (register_count m.rec) (reverse f.stack))
       (stack-from frames m.rec.handlers i.place (keeps_stack w m.rec leaders i (length f.stack)) (register_count m.rec) (reverse f.stack)))
 
   place-rising : (i : Placed) → Rising (place_events w m frames leaders i)
@@ -171,8 +161,8 @@ module _ (w : Linked) (m : Method) (frames : ℕ → Option Frame) (leaders : Li
   flat-later : (p : ℕ) (is : List Placed) → Each (λ (j : Placed). p < j.place) is → Each (λ e. p < e.spot.place) (flat_map (place_events w m frames leaders) is)
   flat-later p [] each = tt
   flat-later p (i ∷ is) each =
-      rw flat_map-cons (each-append (λ e. p < e.spot.place) (place_events w m frames leaders i) (flat_map (place_events w m frames leaders) is)
-      (each-map (IsAtPlace i.place) (λ e. p < e.spot.place) (λ e at. omega (arith, at, each.0)) (place_events w m frames leaders i) (place-place i)) (flat-later p is each.1))
+      rw flat_map-cons (Each-append (λ e. p < e.spot.place) (place_events w m frames leaders i) (flat_map (place_events w m frames leaders) is)
+      (Each-weaker (IsAtPlace i.place) (λ e. p < e.spot.place) (λ e at. omega (arith, at, each.0)) (place_events w m frames leaders i) (place-place i)) (flat-later p is each.1))
 
   flat-rising : (is : List Placed) → ArePlacesRising is → Rising (flat_map (place_events w m frames leaders) is)
   flat-rising [] r = tt

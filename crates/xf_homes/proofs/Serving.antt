@@ -6,6 +6,7 @@ use Rattle.std.proofs.lemmas.Option.{same_Some}
 use Rattle.jc_base.specs.Each.{IsAmong}
 use Rattle.jc_base.specs.World.{Linked}
 use Rattle.jc_base.specs.Laws.{SameTypeDecides}
+use Rattle.jc_base.proofs.Eaching.{IsAmong-append_cases}
 use Rattle.jc_control.specs.Method.{Method}
 use Rattle.jc_rules.specs.Demand.{Frame}
 use Rattle.xf_homes.specs.declared.home.Home.{Home}
@@ -14,7 +15,7 @@ use Rattle.xf_homes.specs.Home.{Spot, IsMet, met_local, met_cell, IsHome}
 use Rattle.xf_homes.specs.Order.{SlotsFollow, register_sum, AreHomes}
 use Rattle.xf_homes.specs.Walk.{same_home, has, register_from}
 use Rattle.xf_homes.specs.Laws.{HasRegister, Serve, HomesServe}
-use Rattle.xf_homes.proofs.Events.{among-left, among-right, among-either, homes-equal, home-itself, has-among, among-has}
+use Rattle.xf_homes.proofs.Events.{among-left, among-right, homes-equal, home-itself, has-among, among-has}
 
 -- the sum of one more
 sum-more : (k : Home) (ks : List Home) → register_sum (k ∷ ks) ≡ width k.ty + register_sum ks
@@ -104,7 +105,7 @@ module _ (same : SameTypeDecides) where
         by (inr met) = met-among h met (has are.arguments h) refl
 
     among-home : (h : Home) → IsAmong h homes → IsHome w m frames h
-    among-home h a = by (among-either h are.arguments are.others (subst (IsAmong h) are.parts a))
+    among-home h a = by (IsAmong-append_cases h are.arguments are.others (subst (IsAmong h) are.parts a))
       where
         by : IsAmong h are.arguments ⊎ IsAmong h are.others → IsHome w m frames h
         by (inl argument) = inl ((are.declared h).0 argument)

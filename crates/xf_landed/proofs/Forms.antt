@@ -2,7 +2,7 @@
 use Rattle.std.proofs.Common.{◌≡◌, ◌≢◌, ℕ, ◌<◌, ◌==◌, Bool, true, false, cond, if◌then◌else◌, ℤ, pos, List, [], ◌∷◌, map, get_or, set, Option, Some, None, IfSome, Result, Ok, Err, refl, sym, ◌∙◌, ap, subst, arith}
 use Rattle.std.specs.Prelude.{◌||◌, nat_le, find}
 use Rattle.std.specs.List.{list_all, range_with_len}
-use Rattle.std.proofs.lemmas.Bool.{eqb-true}
+use Rattle.std.proofs.lemmas.Bool.{eqb-true, and_parts}
 use Rattle.std.proofs.lemmas.Bool.Decides.{nat_tests}
 use Rattle.std.proofs.lemmas.List.{get_or-set_other, get_or_past}
 use Rattle.std.proofs.lemmas.List.FromFn.{get_or-map-range_with_len}
@@ -27,7 +27,6 @@ use Rattle.jc_ops.specs.Row.{table, row_at, unused, by_sort, by_width, by_kind, 
 use Rattle.jc_ops.specs.Resolve.{short_of, new_object, resolved, Resolves}
 use Rattle.jc_ops.specs.Sound.{IsSound, OperationsAreSound}
 use Rattle.xf_landed.proofs.Operations.{operation_renamed}
-use Rattle.xf_landed.proofs.Renaming.{and-first, and-second}
 
 -- ---- opcodes that are no byte
 
@@ -39,8 +38,8 @@ past-span op lt s rest true true x y r e = absurd (grind (arith, nat_tests, lt, 
 past-spans : (op : ℕ) → 255 < op → (ss : List Span) → list_all (λ s. nat_le s.last 255) ss ≡ true → find (holds op) ss ≡ None
 past-spans op lt [] e = refl
 past-spans op lt (s ∷ ss) e =
-    let first = and-first (nat_le s.last 255) (list_all (λ s. nat_le s.last 255) ss) e in
-    let rest = past-spans op lt ss (and-second (nat_le s.last 255) (list_all (λ s. nat_le s.last 255) ss) e) in
+    let first = (and_parts (nat_le s.last 255) (list_all (λ s. nat_le s.last 255) ss) e).0 in
+    let rest = past-spans op lt ss (and_parts (nat_le s.last 255) (list_all (λ s. nat_le s.last 255) ss) e).1 in
     past-span op lt s (find (holds op) ss) (nat_le s.last 255) (holds op s) refl refl rest first
 
 no-layout : (op : ℕ) → 255 < op → is_switch op ≡ false

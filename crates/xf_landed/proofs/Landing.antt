@@ -12,6 +12,7 @@ use Rattle.jc_base.specs.declared.record.MethodRec.{MethodRec}
 use Rattle.jc_base.specs.Cell.{IsDeclared}
 use Rattle.jc_base.specs.Order.{Below}
 use Rattle.jc_base.specs.World.{Linked, IsWorld, member_at}
+use Rattle.jc_base.proofs.Lists.{slice_get-some}
 use Rattle.jc_decode.specs.declared.insn.Insn.{Insn}
 use Rattle.jc_decode.specs.declared.insn.Placed.{Placed}
 use Rattle.jc_decode.specs.declared.symbols.Laid.{Laid}
@@ -40,7 +41,7 @@ use Rattle.xf_landed.specs.Laws.{LaidIsTyped}
 use Rattle.xf_landed.proofs.Forms.{falls-form, jumps-form, resolves-renamed}
 use Rattle.xf_landed.proofs.Operations.{operation_renamed, operation-renamed}
 use Rattle.xf_landed.proofs.Renaming.{frame_renamed, cells-renamed, regs-stay}
-use Rattle.xf_landed.proofs.Steps.{at-contains, some-within, all-contained, contains-map, Preimage, preimage, rises-from, one-to-one, number_of, number-is, IsLaidAt, step-at, same-count, end-is}
+use Rattle.xf_landed.proofs.Steps.{at-contains, all-contained, contains-map, Preimage, preimage, rises-from, one-to-one, number_of, number-is, IsLaidAt, step-at, same-count, end-is}
 
 -- ---- places, and as many numbers beyond the end
 
@@ -106,7 +107,7 @@ module _
     -- ---- places
 
     there : (k : ℕ) → k < count → (s : Step) × (slice_get all k ≡ Some s)
-    there k lt = some-within all k lt
+    there k lt = slice_get-some all k lt
 
     place-rises : (k : ℕ) → k < count → place k < place (suc k)
     place-rises k lt =

@@ -1,8 +1,7 @@
 -- The rule of an operation applies alike where the places of uninitialised objects are renamed one to one.
 use Rattle.std.proofs.Common.{◌≡◌, ℕ, suc, ◌+◌, ◌-◌, ◌==◌, Bool, true, false, inl, inr, ⊎_elim, if◌then◌else◌, List, [], ◌∷◌, ◌++◌, map, take, drop, Option, Some, None, option_map, IsSomeAnd, slice_get, All, refl, sym, ◌∙◌, ap, subst, arith}
-use Rattle.std.specs.Prelude.{◌&&◌}
 use Rattle.std.specs.List.{list_all}
-use Rattle.std.proofs.lemmas.Bool.{eqb-true}
+use Rattle.std.proofs.lemmas.Bool.{eqb-true, and_parts}
 use Rattle.std.proofs.lemmas.Bool.Decides.{nat_tests}
 use Rattle.std.proofs.lemmas.List.{map-append, take-map, drop-map, length-map}
 use Rattle.std.proofs.lemmas.Option.{slice_get-map}
@@ -41,14 +40,6 @@ ready_demand _ = true
 
 abbrev pub are_ready : List Demand → Bool
 are_ready ds = list_all ready_demand ds
-
-pub and-first : (a b : Bool) → (a && b) ≡ true → a ≡ true
-and-first true b e = refl
-and-first false b e = absurd (cc)
-
-pub and-second : (a b : Bool) → (a && b) ≡ true → b ≡ true
-and-second true b e = e
-and-second false b e = absurd (cc)
 
 -- ---- the same apart from places
 
@@ -153,7 +144,8 @@ module _ (f : ℕ → ℕ) where
   pub all-renamed : (t : ClassTable) (g : Frame) (ds : List Demand) → are_ready ds ≡ true → SatisfiesAll t g ds → SatisfiesAll t (frame_renamed g) ds
   all-renamed t g [] r h = tt
   all-renamed t g (d ∷ ds) r h =
-      (holds-renamed t g d (and-first (ready_demand d) (are_ready ds) r) h.0, all-renamed t g ds (and-second (ready_demand d) (are_ready ds) r) h.1)
+      let both = and_parts (ready_demand d) (are_ready ds) r in
+      (holds-renamed t g d both.0 h.0, all-renamed t g ds both.1 h.1)
 
   -- ---- what is done
 

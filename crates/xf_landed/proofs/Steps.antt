@@ -16,11 +16,6 @@ use Rattle.jc_decode.proofs.Elements.{Contains-slice_get}
 pub at-contains : {X : Type 0} (xs : List X) (x : X) (c : Contains xs x) → slice_get xs c.0 ≡ Some x
 at-contains xs x c = slice_get-get_or xs c.0 x c.1 ∙ ap (λ y. Some y) c.2
 
-pub some-within : {X : Type 0} (xs : List X) (k : ℕ) → k < length xs → (x : X) × (slice_get xs k ≡ Some x)
-some-within [] k lt = absurd (omega (arith, lt))
-some-within (x ∷ xs) zero lt = (x, refl)
-some-within (x ∷ xs) (suc k) lt = some-within xs k (omega (arith, lt))
-
 pub all-contained : {X : Type 0} (P : X → Type 0) (xs : List X) → ((x : X) → Contains xs x → P x) → All P xs
 all-contained P xs h k d lt = h (get_or xs k d) (Contains-get_or xs k d lt)
 

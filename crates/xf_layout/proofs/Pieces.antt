@@ -1,7 +1,8 @@
 -- The bytes of one item are it wherever they stand at a place.
 use Rattle.std.proofs.Common.{◌≡◌, ◌+◌, ℕ, Bool, true, false, cond, Result, Ok, Err, List, [], ◌∷◌, ◌++◌, length, refl, ap, ◌∙◌, subst, arith, map}
-use Rattle.std.specs.Prelude.{ℤ, pos, ◌+ℤ◌, ◌-ℤ◌, ◌||◌}
+use Rattle.std.specs.Prelude.{ℤ, pos, ◌+ℤ◌, ◌-ℤ◌}
 use Rattle.std.proofs.lemmas.Int.{ints}
+use Rattle.std.proofs.lemmas.Bool.{or_parts, or_right}
 use Rattle.jc_decode.specs.declared.insn.Insn.{Insn}
 use Rattle.jc_decode.specs.declared.insn.Case.{Case}
 use Rattle.jc_decode.specs.declared.insn.CodeEnd.{CodeEnd}
@@ -74,15 +75,11 @@ restated : (code : List ℕ) (here : ℕ) (same : Insn) (long : ℕ) (ds es ks l
 restated code here same long ds es ks ls d k s =
     record { insn = s.insn; there = s.there; alike = s.alike; sized = s.sized; led_to = s.led_to ∙ d; keyed = s.keyed ∙ k }
 
-or-false : (a b : Bool) → (a || b) ≡ false → b ≡ false
-or-false true b h = absurd (cc)
-or-false false b h = h
-
 -- an instruction that names no place
 pub plain-piece : (source : List ℕ) (place : ℕ → ℕ) (here : ℕ) (i short : Insn) (xs : List ℕ) (at : ℕ) (bytes : List ℕ)
     → ReadsBack xs at short bytes → essence short ≡ essence i → jumps short.op ≡ false → IsPiece source place here (Plain i) bytes
 plain-piece source place here i short xs at bytes reads alike still before after start =
-    let none : cases xs at short ≡ [] = no-cases xs at short (or-false (is_branch short.op) (is_switch short.op) still) in
+    let none : cases xs at short ≡ [] = no-cases xs at short (or_parts (is_branch short.op) (is_switch short.op) still).1 in
     let stands = read-back xs at short bytes reads i alike here before after start in
     let leads : leads_from here short (cases xs at short) ≡ [] = rw still refl in
     let keys : map (λ c. c.key) (cases xs at short) ≡ [] = ap (map (λ (c : Case). c.key)) none in
@@ -126,14 +123,10 @@ pub switch-piece : (source : List ℕ) (place : ℕ → ℕ) (here : ℕ) (i : I
     → IsPiece source place here (Switch i from (l ∷ ls)) bytes
 switch-piece source place here i from l ls s bytes reads alike switch x led_so count before after start =
     let stands = read-back bytes 0 s bytes reads i alike here before after start in
-    let jumps_so : jumps s.op ≡ true = or-true (is_branch s.op) (is_switch s.op) switch in
+    let jumps_so : jumps s.op ≡ true = or_right (is_branch s.op) (is_switch s.op) switch in
     let leads : leads_from here s (cases bytes 0 s) ≡ leads_to place (l ∷ ls) =
     rw (jumps_so, led_so)
     (ap (λ (d : ℤ). d ∷ map (λ c. target here c.offset) (led place here ls (cases source from i))) (ap (target here) x ∙ there-and-back here (place l))
     ∙ ap (λ (ds : List ℤ). pos (place l) ∷ ds) (leads-led place here ls (cases source from i) count)) in
     let keys : map (λ c. c.key) (cases bytes 0 s) ≡ map (λ c. c.key) (cases source from i) = ap (map (λ (c : Case). c.key)) led_so ∙ keys-led place here ls (cases source from i) in
     restated (before ++ (bytes ++ after)) here i (length bytes) _ _ _ _ leads keys stands
-  where
-    or-true : (a b : Bool) → b ≡ true → (a || b) ≡ true
-    or-true true b h = refl
-    or-true false b h = h

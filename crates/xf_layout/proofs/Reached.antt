@@ -1,5 +1,5 @@
 -- Where labels stand in code that is not too long, and that its short jumps fit.
-use Rattle.std.proofs.Common.{◌≡◌, ◌≤◌, ◌+◌, ℕ, zero, suc, Bool, true, false, cond, Some, List, [], ◌∷◌, length, drop, refl, sym, ap, ◌∙◌, subst, arith, All, ◌<◌, get_or}
+use Rattle.std.proofs.Common.{◌≡◌, ◌≤◌, ◌+◌, ℕ, zero, suc, Bool, true, false, cond, Some, List, [], ◌∷◌, length, refl, sym, ap, ◌∙◌, subst, arith, All, ◌<◌, get_or}
 use Rattle.std.specs.Prelude.{pos, ◌-ℤ◌, ◌==◌, slice_get, slice_index, IsTrue}
 use Rattle.std.proofs.lemmas.List.Elements.{All-nil, All-cons, All-weaker, All-get_or}
 use Rattle.std.proofs.lemmas.Option.{slice_get_read}
@@ -94,12 +94,6 @@ range-placed items p plan few r range = record {
     instruction-rises p.forms.items (place_of r.from items) (place_of r.to items) range.order,
   );
 }
-
--- after the first k elements comes the k-th
-pub drop-here : {A : Type 0} (xs : List A) (k : ℕ) (x : A) → slice_get xs k ≡ Some x → drop k xs ≡ x ∷ drop (k + 1) xs
-drop-here [] k x h = absurd (cc)
-drop-here (y ∷ ys) zero x h = ap (λ (z : _). z ∷ ys) (cc)
-drop-here (y ∷ ys) (suc k) x h = let e : suc k + 1 ≡ suc (k + 1) = omega arith in rw e (drop-here ys k x h)
 
 -- the items reach to the end of the code
 pub items-end : (source : List ℕ) (place : ℕ → ℕ) (code : List ℕ) (here : ℕ) (items : List Item) (fs : List Form) → ItemsStand source place code here items fs

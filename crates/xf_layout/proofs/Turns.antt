@@ -3,7 +3,7 @@
 use Rattle.std.proofs.Common.{◌≡◌, ◌≤◌, ◌+◌, ℕ, zero, suc, Bool, true, false, Option, Some, None, List, [], ◌∷◌, refl, sym, ap, ◌∙◌, arith, cond}
 use Rattle.std.specs.Prelude.{pos, ◌-ℤ◌, not, slice_get, count_by}
 use Rattle.std.specs.Option.{option_map}
-use Rattle.std.proofs.lemmas.Bool.{false≢true}
+use Rattle.std.proofs.lemmas.Bool.{false≢true, not-false}
 use Rattle.std.proofs.lemmas.List.Sums.{sum_by-cons}
 use Rattle.jc_decode.specs.declared.symbols.Item.{Item}
 use Rattle.jc_decode.specs.declared.symbols.Item.TheVariants.{Plain, Branch, Switch, Label}
@@ -141,11 +141,7 @@ fit-same place fs placed same k l here =
     let far : not (is_near (distance fs k l)) ≡ false =
     ap (λ (x : ℕ). not (is_near (pos x -ℤ pos (begins fs k)))) (sym at) ∙ ap (λ (x : ℕ). not (is_near (pos (place l) -ℤ pos x))) start
     ∙ not-of (is_near (pos (place l) -ℤ pos (0 + begins fs k))) now in
-    by_test (is_near (distance fs k l)) far
+    not-false (is_near (distance fs k l)) far
   where
     not-of : (b : Bool) → Some (Jump l (not b)) ≡ Some (Jump l false) → not b ≡ false
     not-of b e = cc
-
-    by_test : (b : Bool) → not b ≡ false → b ≡ true
-    by_test true e = refl
-    by_test false e = absurd (false≢true (sym e))

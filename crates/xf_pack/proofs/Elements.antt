@@ -1,11 +1,13 @@
 -- What is laid for the methods of the last package, as the world and as the writer ask for it.
-use Rattle.std.proofs.Common.{◌≡◌, ℕ, zero, suc, ◌+◌, ◌<◌, ◌≤◌, List, [], ◌∷◌, ◌++◌, length, drop, Option, Some, None, IsSomeAnd, refl, sym, ap, subst, ◌∙◌, arith}
+use Rattle.std.proofs.Common.{◌≡◌, ℕ, zero, suc, ◌+◌, ◌<◌, ◌≤◌, List, [], ◌∷◌, ◌++◌, length, drop, Option, Some, sym, ap, subst, ◌∙◌, arith, add-one}
 use Rattle.std.specs.Prelude.{slice_get}
 use Rattle.std.proofs.Math.ListN.{drop_of_length-le}
 use Rattle.cap_package.specs.PackageRecord.{PackageRecord}
 use Rattle.jc_base.specs.declared.record.MethodRec.{MethodRec}
 use Rattle.jc_base.specs.World.{Linked}
+use Rattle.jc_base.proofs.Lists.{IsSomeAnd-some}
 use Rattle.jc_decode.specs.declared.symbols.Laid.{Laid}
+use Rattle.jc_decode.proofs.Elements.{drop-here}
 use Rattle.jc_link.specs.World.{IsLinked}
 use Rattle.jc_rewritten.specs.Last.{and_last}
 use Rattle.xf_world.specs.Laid.{AreLaidElements, AreLaidOf}
@@ -30,15 +32,6 @@ each-at Is n (y ∷ xs) (suc k) x each e =
     let same : n + suc k ≡ suc n + k = omega arith in
     rw same (each-at Is (suc n) xs k x each.1 e)
 
-drop-next : {X : Type 0} (xs : List X) (n : ℕ) (x : X) → slice_get xs n ≡ Some x → drop n xs ≡ x ∷ drop (suc n) xs
-drop-next [] n x e = absurd cc
-drop-next (y ∷ xs) zero x e = let same : y ≡ x = cc in ap (λ z. z ∷ xs) same
-drop-next (y ∷ xs) (suc n) x e = drop-next xs n x e
-
-pub some-such : {X : Type 0} (P : X → Type 0) (o : Option X) → IsSomeAnd o P → (x : X) × (o ≡ Some x) × P x
-some-such P None h = absurd h
-some-such P (Some x) h = (x, refl, h)
-
 -- ---- each method with its element
 
 abbrev pub AreWell : Linked → ℕ → List MethodRec → List (Option Laid) → Type 0
@@ -52,8 +45,8 @@ well-from w n [] each all =
     let none : drop n w.methods ≡ [] = drop_of_length-le w.methods (omega (arith, all)) in
     subst (λ (rs : List MethodRec). AreWell w n rs []) (sym none) (tt {0})
 well-from w n (l ∷ ls) each all =
-    let here = some-such (IsLaidWell w n l) (slice_get w.methods n) each.0 in
-    subst (λ (rs : List MethodRec). AreWell w n rs (l ∷ ls)) (sym (drop-next w.methods n here.0 here.1))
+    let here = IsSomeAnd-some (IsLaidWell w n l) (slice_get w.methods n) each.0 in
+    subst (λ (rs : List MethodRec). AreWell w n rs (l ∷ ls)) (sym (drop-here w.methods n here.0 here.1 ∙ ap (λ (k : ℕ). here.0 ∷ drop k w.methods) (add-one n)))
     (here.2, well-from w (suc n) ls each.1 (omega (arith, all)))
 
 elements-of : (w : Linked) (n : ℕ) (rs : List MethodRec) (ls : List (Option Laid)) → AreWell w n rs ls → AreLaidElements w n rs ls

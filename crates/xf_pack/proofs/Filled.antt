@@ -3,6 +3,7 @@ use Rattle.std.proofs.Common.{◌≡◌, ℕ, zero, suc, ◌+◌, ◌<◌, ◌�
 use Rattle.std.specs.Prelude.{slice_get}
 use Rattle.jc_base.specs.declared.ty.Ty.TheVariants.{Top}
 use Rattle.jc_base.specs.World.{Linked}
+use Rattle.jc_base.proofs.Lists.{IsSomeAnd-some}
 use Rattle.jc_decode.specs.declared.insn.Placed.{Placed}
 use Rattle.jc_decode.specs.declared.symbols.Item.{Item}
 use Rattle.jc_decode.specs.declared.symbols.Item.TheVariants.{Label}
@@ -35,7 +36,6 @@ use Rattle.xf_emission.specs.Emission.{AreSymbolsOf, caught_from, items, rewritt
 use Rattle.xf_typing.proofs.Typings.{count-steps}
 use Rattle.xf_typing.proofs.Walks.{count, count-append}
 use Rattle.xf_typing.proofs.Numbers.{right-some, body-some}
-use Rattle.xf_pack.proofs.Elements.{some-such}
 
 -- of two lists one after the other
 first-counts : (xs ys : List Item) → 0 < count xs → 0 < count (xs ++ ys)
@@ -66,7 +66,7 @@ module _ (s : Source) (listed : InstructionsAreListed) (mo : IsMethodOf s.world 
       let i = first.0 in
       let stands : HasInstruction s.method.code i = Contains-slice_get (listing s.method.code) 0 i (ap (λ (ps : List Placed). slice_get ps 0) first.2) in
       let reached : IsReached s.method i.place = subst (IsReached s.method) (sym first.3) begins in
-      let at = some-such (IsFollowed s.world s.method s.frames i) (s.frames i.place) (typing.rules i stands reached) in
+      let at = IsSomeAnd-some (IsFollowed s.world s.method s.frames i) (s.frames i.place) (typing.rules i stands reached) in
       let followed = at.2 in
       let own : 0 < count (group s i) = group-counts s i at.0 followed.steps.1.operation at.1 (sym followed.steps.1.resolves) in
       right-some (copies s Start 0) _

@@ -9,9 +9,9 @@ use Rattle.cap_method.specs.declared.handler.HandlerInfo.{HandlerInfo}
 use Rattle.cap_package.specs.HandlerChecks.{claims, is_within, claim_fault, numbered, numbered_fault}
 use Rattle.cap_package.specs.PackageRecord.{PackageRecord, described_methods}
 use Rattle.cap_package.specs.StandsFor.{StandsFor}
-use Rattle.xf_landed.proofs.Steps.{some-within}
 use Rattle.jc_resolve.proofs.Faultless.{IsOneOf, faultless, both_empty}
 use Rattle.cap_rewritten.proofs.Handlers.{one_owner}
+use Rattle.jc_base.proofs.Lists.{slice_get-some}
 
 -- how many entries of a table of so many a method has, and how many several methods have
 abbrev pub entry_count : ℕ → Method → ℕ
@@ -84,7 +84,7 @@ module _ (p : PackageRecord) (agreed : StandsFor p.parts p) where
 
   once : (n : ℕ) → n < length p.methods.handlers → length (filter (claims n) (described_methods p)) ≤ 1
   once n lt =
-      let h = some-within p.methods.handlers n lt in
+      let h = slice_get-some p.methods.handlers n lt in
       let place : 0 + n ≡ n = omega arith in
       let fault = faultless (numbered_fault p.methods.info (described_methods p)) (numbered 0 p.methods.handlers) (0 + n, h.0) entries-owned (entry-numbered p.methods.handlers 0 n h.0 h.1) in
       one_owner p.methods.info (described_methods p) n h.0 (rw place at fault)

@@ -13,8 +13,7 @@ use Rattle.cap_class.specs.ClassFormat.{Class, is_interface}
 use Rattle.cap_desc.specs.DescriptorFormat as described
 use Rattle.cap_package.specs.PackageRecord.{PackageRecord, names_interface}
 use Rattle.first_fault.specs.First.{AllEmpty}
-use Rattle.jc_base.proofs.Lists.{All-slice_get}
-use Rattle.xf_landed.proofs.Steps.{some-within}
+use Rattle.jc_base.proofs.Lists.{All-slice_get, slice_get-some}
 use Rattle.jc_resolve.specs.declared.place.RecordPlace.{RecordPlace}
 use Rattle.jc_resolve.specs.Conditions.{conditions}
 use Rattle.jc_resolve.specs.NamedMethods.{have_headers, is_class}
@@ -86,7 +85,7 @@ module _ (ps : List PackageRecord) (k : ℕ) (p : PackageRecord) (at : slice_get
       let place : RecordPlace = record { «package» = k; offset = reference } in
       let found = position-Some (same_place place) (class_places ps) n place e in
       let many : length (class_places ps) ≡ length (numbered_classes ps) = length-map (numbered_classes ps) place_of_class in
-      let c = some-within (numbered_classes ps) n (let lt = found.0 in omega (arith, lt, many)) in
+      let c = slice_get-some (numbered_classes ps) n (let lt = found.0 in omega (arith, lt, many)) in
       let stands : slice_get (class_places ps) n ≡ Some (place_of_class c.0) = slice_get-map place_of_class (numbered_classes ps) n ∙ ap (option_map place_of_class) c.1 in
       let here : same_place place (place_of_class c.0) ≡ true = subst (λ (q : RecordPlace). same_place place q ≡ true) (get_or_from_slice_get (class_places ps) n (place_of_class c.0) place stands) found.1 in
       let recorded = All-slice_get (IsRecorded ps) (numbered_classes ps) n c.0 (all-recorded ps) c.1 in

@@ -2,7 +2,7 @@
 use Rattle.std.proofs.Common.{◌≡◌, ◌⊎◌, Bool, true, false, MatchBool, IsSomeAnd, ℕ, zero, suc, ◌+◌, ◌<◌, ◌≤◌, List, [], ◌∷◌, ◌++◌, length, map, drop, Option, Some, None, refl, sym, ap, subst, ◌∙◌, arith, inl, inr, length-append}
 use Rattle.std.specs.Prelude.{All, slice_get}
 use Rattle.std.proofs.lemmas.Bool.{cases_lt}
-use Rattle.std.proofs.lemmas.List.{length-map, map-append}
+use Rattle.std.proofs.lemmas.List.{length-map, map-append, append-nil, append_assoc}
 use Rattle.std.proofs.lemmas.List.Elements.{All-nil, All-cons, All-head, All-tail, All-append, All-map, All-weaker}
 use Rattle.std.proofs.lemmas.Option.{slice_get_within}
 use Rattle.std.proofs.Math.Seq.{drop-append_seam}
@@ -10,7 +10,7 @@ use Rattle.cap_desc.specs.DescriptorFormat.{Class, Method}
 use Rattle.cap_package.specs.PackageRecord.{PackageRecord}
 use Rattle.jc_base.specs.declared.record.MethodRec.{MethodRec}
 use Rattle.jc_base.specs.World.{Linked}
-use Rattle.xf_landed.proofs.Steps.{some-within}
+use Rattle.jc_base.proofs.Lists.{slice_get-some}
 use Rattle.jc_resolve.specs.NamedMethods.{named_method, named_methods}
 use Rattle.jc_resolve.specs.Numbering.{NumberedMethod, numbered, methods_of_class, methods_of_classes, methods_after, numbered_methods}
 use Rattle.jc_resolve.proofs.NumberedLaws.{IsDescribed, all-described}
@@ -32,24 +32,16 @@ all-back P [] (y ∷ ys) (suc n) x all e le = all-back P [] ys n x (All-tail P y
 all-back P (z ∷ xs) ys zero x all e le = absurd (omega (arith, le))
 all-back P (z ∷ xs) ys (suc n) x all e le = all-back P xs ys n x all e (omega (arith, le))
 
-append-none : {X : Type 0} (xs : List X) → xs ++ [] ≡ xs
-append-none [] = refl
-append-none (x ∷ xs) = ap (λ ys. x ∷ ys) (append-none xs)
-
-append-append : {X : Type 0} (xs ys zs : List X) → xs ++ (ys ++ zs) ≡ (xs ++ ys) ++ zs
-append-append [] ys zs = refl
-append-append (x ∷ xs) ys zs = ap (λ us. x ∷ us) (append-append xs ys zs)
-
 -- ---- numbered methods
 
 after-last : (k : ℕ) (ps : List PackageRecord) (p : PackageRecord) → methods_after k (and_last ps p) ≡ methods_after k ps ++ methods_of_classes (k + length ps) p 0 p.description.items.classes
 after-last k [] p =
     let same : k + 0 ≡ k = omega arith in
-    rw same (append-none (methods_of_classes k p 0 p.description.items.classes))
+    rw same (append-nil (methods_of_classes k p 0 p.description.items.classes))
 after-last k (q ∷ ps) p =
     let same : (k + 1) + length ps ≡ k + suc (length ps) = omega arith in
     ap (λ ms. methods_of_classes k q 0 q.description.items.classes ++ ms) (after-last (k + 1) ps p)
-    ∙ append-append (methods_of_classes k q 0 q.description.items.classes) (methods_after (k + 1) ps) (methods_of_classes ((k + 1) + length ps) p 0 p.description.items.classes)
+    ∙ sym (append_assoc (methods_of_classes k q 0 q.description.items.classes) (methods_after (k + 1) ps) (methods_of_classes ((k + 1) + length ps) p 0 p.description.items.classes))
     ∙ ap (λ n. (methods_of_classes k q 0 q.description.items.classes ++ methods_after (k + 1) ps) ++ methods_of_classes n p 0 p.description.items.classes) same
 
 class-home : (k : ℕ) (p : PackageRecord) (i : ℕ) (c : Class) (j : ℕ) (ms : List Method) → All (λ (m : NumberedMethod). m.home ≡ k) (methods_of_class k p i c j ms)
@@ -126,7 +118,7 @@ module _ (ps : List PackageRecord) (p : PackageRecord) (roles : List ℕ) where
 
 not-below : (w : Linked) (f g : ℕ) → BeginsLast w f → BeginsLast w g → f < g → ⊥
 not-below w f g a b lt =
-    let r = some-within w.methods f (omega (arith, lt, b.within)) in
+    let r = slice_get-some w.methods f (omega (arith, lt, b.within)) in
     let less = b.before f r.0 r.1 lt in
     let same = a.last f r.0 r.1 (omega arith) in
     omega (arith, less, same)

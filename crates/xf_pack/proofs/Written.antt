@@ -11,8 +11,8 @@ use Rattle.cap_package.specs.StandsFor.{StandsFor}
 use Rattle.cap_write.specs.Condition.{MayBeLaid}
 use Rattle.cap_write.specs.WrittenPackage.{HaveRewritten, IsTooLong, IsWritten}
 use Rattle.jc_base.specs.World.{Linked}
+use Rattle.jc_base.proofs.Lists.{slice_get-some}
 use Rattle.jc_decode.specs.declared.symbols.Laid.{Laid}
-use Rattle.xf_landed.proofs.Steps.{some-within}
 use Rattle.jc_link.specs.World.{IsLinked}
 use Rattle.jc_resolve.specs.declared.fault.LinkFault.{LinkFault}
 use Rattle.jc_resolve.specs.declared.fault.LinkFault.TheVariants.{TooManyPackages}
@@ -95,7 +95,7 @@ module _ (ps : List PackageRecord) (roles : List ℕ) (w : Linked) (linked : IsL
 pub linked-has-last : (ps : List PackageRecord) (roles : List ℕ) (w : Linked) → IsLinked ps roles w → HasLast w
 linked-has-last ps roles w l =
     let some = linked-some ps roles w l in
-    let p = some-within ps (length ps - 1) (omega (arith, some)) in
+    let p = slice_get-some ps (length ps - 1) (omega (arith, some)) in
     linked-last ps roles w l p.0 (length ps - 1) p.1 (omega (arith, some))
 
 -- ---- what is told of packages that link

@@ -8,7 +8,7 @@ use Rattle.jc_base.specs.Class.{IsClass}
 use Rattle.jc_base.specs.Each.{Each, IsAmong}
 use Rattle.jc_base.specs.declared.record.Handler.{Handler}
 use Rattle.jc_base.specs.declared.record.MethodRec.{MethodRec}
-use Rattle.jc_base.proofs.Eaching.{All-from_Each}
+use Rattle.jc_base.proofs.Eaching.{All-from_Each, Each-weaker}
 use Rattle.jc_decode.specs.Cases.{cases}
 use Rattle.jc_decode.specs.declared.insn.Placed.{Placed}
 use Rattle.jc_decode.specs.declared.symbols.Item.{Item}
@@ -22,7 +22,6 @@ use Rattle.jc_control.specs.Method.{IsMethodOf}
 use Rattle.jc_control.specs.WellFormed.{IsPlace, IsTargetPlace, IsHandlerOf, HasInstruction as IsListed}
 use Rattle.jc_flow.proofs.Derived.{of_world}
 use Rattle.xf_homes.specs.Walk.{operands_of}
-use Rattle.xf_homes.proofs.Rising.{each-map}
 use Rattle.xf_plan.specs.Source.{Source}
 use Rattle.xf_plan.specs.Plan.{is_leader, operation}
 use Rattle.xf_emission.specs.Group.{entrance, group}
@@ -132,8 +131,8 @@ module _ (s : Source) (l : AreLaws s.world) (ready : IsReady s) (code : IsCode s
         high = handler_label 256;
         rise = all-rise s code.bytes code.lists code.short code.few;
         named = items-name IsEmptied s emitted (entries s.method.rec.handlers (λ h c. c));
-        caught = each-map (IsCaught s l.rules mo by_pool) (λ (q : Range). IsAmong q.entry (labels (items s)) × (asks_of s q.entry ≡ catching (class_by s.method.rec.handlers q.pool))) (λ q t. (t.0, t.1)) (ranges_from s 0 hs) all;
-        classes = each-map (IsCaught s l.rules mo by_pool) (λ (q : Range). IsClass s.world.classes (class_by s.method.rec.handlers q.pool)) (λ q t. t.2) (ranges_from s 0 hs) all;
+        caught = Each-weaker (IsCaught s l.rules mo by_pool) (λ (q : Range). IsAmong q.entry (labels (items s)) × (asks_of s q.entry ≡ catching (class_by s.method.rec.handlers q.pool))) (λ q t. (t.0, t.1)) (ranges_from s 0 hs) all;
+        classes = Each-weaker (IsCaught s l.rules mo by_pool) (λ (q : Range). IsClass s.world.classes (class_by s.method.rec.handlers q.pool)) (λ q t. t.2) (ranges_from s 0 hs) all;
         order = ranges-filled s code listed ready.has full 0 hs (handlers-are s code listed ready.has full);
         no_others = λ m c a asks. no-others s listed code m c a asks;
       }

@@ -1,6 +1,7 @@
 -- A walk along all items gives each place a stack, as a card typing has it.
-use Rattle.std.proofs.Common.{◌≡◌, ◌≢◌, ◌⊎◌, ℕ, zero, suc, ◌+◌, ◌<◌, ◌≤◌, ◌==◌, Bool, true, false, if◌then◌else◌, inl, inr, List, [], ◌∷◌, slice_get, Option, Some, None, refl, sym, ◌∙◌, ap, subst, arith}
+use Rattle.std.proofs.Common.{◌≡◌, ◌≢◌, ◌⊎◌, ℕ, zero, suc, ◌+◌, ◌<◌, ◌≤◌, ◌==◌, Bool, true, false, if◌then◌else◌, inl, inr, List, [], ◌∷◌, slice_get, Option, Some, None, refl, sym, ◌∙◌, ap, subst, arith, ne_of_gt}
 use Rattle.std.proofs.lemmas.Bool.Decides.{nat_tests}
+use Rattle.std.proofs.lemmas.Bool.{ne_eqb}
 use Rattle.jc_base.specs.Each.{IsAmong}
 use Rattle.jc_base.specs.declared.ty.Ty.{Ty}
 use Rattle.jc_base.specs.declared.record.MethodRec.{MethodRec}
@@ -43,9 +44,6 @@ later-step source all x xs k is = refl
 
 itself : (n : ℕ) → (n == n) ≡ true
 itself n = grind (arith, nat_tests)
-
-apart : (m n : ℕ) → n < m → (m == n) ≡ false
-apart m n lt = grind (arith, nat_tests)
 
 pub among-above : (low high l : ℕ) (xs : List ℕ) → Rises low high xs → IsAmong l xs → low ≤ l
 among-above low high l [] r a = absurd a
@@ -171,7 +169,7 @@ module _ (w : Linked) (r : MethodRec) (regs : List Ty) (asks : ℕ → Asked) wh
         stack = t.here ∙ ap (λ (y : Bool). holding (if y then t.stack else stack_at f n)) (sym (itself n));
         rest = xs;
         flow = f;
-        later = λ q lt. ap (λ (y : Bool). if y then t.stack else stack_at f q) (apart q n lt);
+        later = λ q lt. ap (λ (y : Bool). if y then t.stack else stack_at f q) (ne_eqb q n (ne_of_gt lt));
         size = omega (arith, count-step x xs is);
         labelled = λ l among lt. (subst (IsAmong l) (labels-step x xs is) among, omega (arith, place-step l x xs is));
         beyond = λ low high l rise among. (subst (IsAmong l) (sym (labels-step x xs is)) among, omega (arith, place-step l x xs is));
@@ -185,10 +183,10 @@ module _ (w : Linked) (r : MethodRec) (regs : List Ty) (asks : ℕ → Asked) wh
         before = u.before;
         after = u.after;
         turn = u.turn;
-        stack = u.stack ∙ ap (λ (y : Bool). holding (if y then t.stack else stack_at f u.place)) (sym (apart u.place n far));
+        stack = u.stack ∙ ap (λ (y : Bool). holding (if y then t.stack else stack_at f u.place)) (sym (ne_eqb u.place n (ne_of_gt far)));
         rest = u.rest;
         flow = u.flow;
-        later = λ q lt. let beyond : n < q = omega (arith, far, lt) in ap (λ (y : Bool). if y then t.stack else stack_at f q) (apart q n beyond) ∙ u.later q lt;
+        later = λ q lt. let beyond : n < q = omega (arith, far, lt) in ap (λ (y : Bool). if y then t.stack else stack_at f q) (ne_eqb q n (ne_of_gt beyond)) ∙ u.later q lt;
         size = omega (arith, count-step x xs is, u.size);
         labelled = λ l among lt.
             let p = place-step l x xs is in
@@ -254,5 +252,5 @@ module _ (w : Linked) (r : MethodRec) (regs : List Ty) (asks : ℕ → Asked) wh
       let far : n < suc n + place_of l xs = omega arith in
       record {
         inside = omega (arith, p, count-step x xs is, r.inside);
-        stack = ap (λ (q : ℕ). if q == n then t.stack else stack_at f q) same ∙ ap (λ (y : Bool). if y then t.stack else stack_at f (suc n + place_of l xs)) (apart (suc n + place_of l xs) n far) ∙ r.stack;
+        stack = ap (λ (q : ℕ). if q == n then t.stack else stack_at f q) same ∙ ap (λ (y : Bool). if y then t.stack else stack_at f (suc n + place_of l xs)) (ne_eqb (suc n + place_of l xs) n (ne_of_gt far)) ∙ r.stack;
       }

@@ -3,6 +3,7 @@ use Rattle.std.proofs.Common.{◌≡◌, ℕ, zero, suc, ◌+◌, ◌-◌, ◌<�
 use Rattle.std.specs.Prelude.{nat_le, nat_lt}
 use Rattle.std.proofs.lemmas.Bool.Decides.{nat_tests}
 use Rattle.std.proofs.lemmas.List.{append-nil, reverse-append, reverse-reverse, length-reverse}
+use Rattle.std.proofs.lemmas.List.Elements.{All-head, All-tail}
 use Rattle.jc_base.specs.Cell.{AreWhole, no_cells as no_whole, whole_int, one_cell, IsNoHalf}
 use Rattle.jc_base.specs.Class.{object}
 use Rattle.jc_base.specs.Laws.{IsOrderOfTypes}
@@ -20,7 +21,6 @@ use Rattle.jc_rules.specs.Apply.{OperationApplies}
 use Rattle.jc_rules.specs.Demand.{Frame}
 use Rattle.jc_rules.specs.Flow.{IsNotTop}
 use Rattle.jc_rules.specs.Laws.{IsNotBottom}
-use Rattle.jc_flow.proofs.Frames.{all_first, all_rest}
 use Rattle.xf_homes.specs.declared.home.Home.{Home}
 use Rattle.xf_homes.specs.Home.{IsConditional, register_count}
 use Rattle.xf_homes.specs.Value.{value_at}
@@ -51,7 +51,7 @@ one-fork w op (a ∷ rest) after regs P h e full whole does = record {
   operands = a ∷ [];
   parts = ap (λ (us : List Ty). a ∷ us) (sym e);
   size = refl;
-  whole = one_cell (whole a h (all_first IsNotBottom a rest full)) no_whole;
+  whole = one_cell (whole a h (All-head IsNotBottom a rest full)) no_whole;
   applies = does a h;
 }
 
@@ -65,7 +65,7 @@ two-fork w op (a ∷ b ∷ rest) after regs P Q h g e full whole does = record {
   operands = a ∷ b ∷ [];
   parts = ap (λ (us : List Ty). a ∷ b ∷ us) (sym e);
   size = refl;
-  whole = whole a b h g (all_first IsNotBottom a (b ∷ rest) full) (all_first IsNotBottom b rest (all_rest IsNotBottom a (b ∷ rest) full));
+  whole = whole a b h g (All-head IsNotBottom a (b ∷ rest) full) (All-head IsNotBottom b rest (All-tail IsNotBottom a (b ∷ rest) full));
   applies = does a b h g;
 }
 

@@ -51,7 +51,7 @@ kept-is (Fresh p c) h = absurd h
 kept-is Top h = absurd h
 kept-is ty h = tt
 
-kept-not-top : (ty : Ty) → IsKept ty → IsNotTop ty
+pub kept-not-top : (ty : Ty) → IsKept ty → IsNotTop ty
 kept-not-top Top h = absurd h
 kept-not-top ty h = tt
 

@@ -4,6 +4,7 @@ use Rattle.std.specs.Prelude.{nat_lt}
 use Rattle.std.specs.List.{range_with_len}
 use Rattle.std.proofs.lemmas.Bool.Decides.{nat_tests}
 use Rattle.std.proofs.lemmas.List.{length-reverse, append-nil}
+use Rattle.std.proofs.lemmas.List.Elements.{All-head, All-tail}
 use Rattle.jc_base.proofs.Lists.{All-reverse}
 use Rattle.jc_base.specs.Cell.{IsDeclared}
 use Rattle.jc_base.specs.Each.{Each}
@@ -28,7 +29,6 @@ use Rattle.jc_rules.specs.Apply.{OperationApplies}
 use Rattle.jc_rules.specs.Demand.{Frame}
 use Rattle.jc_rules.specs.Flow.{IsNotFresh, IsNotTop}
 use Rattle.jc_rules.specs.Footprint.{footprint}
-use Rattle.jc_flow.proofs.Frames.{all_first, all_rest}
 use Rattle.xf_homes.specs.declared.home.Home.{Home}
 use Rattle.xf_homes.specs.Home.{IsConditional, KeepsStack}
 use Rattle.xf_homes.specs.Walk.{operands_of}
@@ -75,7 +75,7 @@ each-left P (h ∷ hs) ks e = (e.0, each-left P hs ks e.1)
 
 pub all-right : (P : Ty → Type 0) (xs ys : List Ty) → All P (xs ++ ys) → All P ys
 all-right P [] ys all = all
-all-right P (x ∷ xs) ys all = all-right P xs ys (all_rest P x (xs ++ ys) all)
+all-right P (x ∷ xs) ys all = all-right P xs ys (All-tail P x (xs ++ ys) all)
 
 pub empty-is : (xs : List Ty) → length xs ≡ 0 → xs ≡ []
 empty-is [] e = refl
@@ -83,7 +83,7 @@ empty-is (x ∷ xs) e = absurd (omega (arith, e))
 
 pub named-all : (new : ℕ → ℕ) (apart : (a b : ℕ) → new a ≡ new b → a ≡ b) (xs : List Ty) → All IsNotFresh xs → map (named new apart) xs ≡ xs
 named-all new apart [] all = refl
-named-all new apart (x ∷ xs) all = ap (λ (u : Ty). u ∷ map (named new apart) xs) (one x (all_first IsNotFresh x xs all)) ∙ ap (λ (us : List Ty). x ∷ us) (named-all new apart xs (all_rest IsNotFresh x xs all))
+named-all new apart (x ∷ xs) all = ap (λ (u : Ty). u ∷ map (named new apart) xs) (one x (All-head IsNotFresh x xs all)) ∙ ap (λ (us : List Ty). x ∷ us) (named-all new apart xs (All-tail IsNotFresh x xs all))
   where
     one : (a : Ty) → IsNotFresh a → named new apart a ≡ a
     one (Fresh p c) h = absurd h

@@ -3,6 +3,7 @@ use Rattle.std.proofs.Common.{◌≡◌, inl, ℕ, suc, ◌+◌, ◌≤◌, Bool
 use Rattle.std.proofs.lemmas.Bool.Decides.{nat_tests}
 use Rattle.std.proofs.lemmas.List.{append-nil, length-reverse}
 use Rattle.std.proofs.lemmas.List.Sums.{sum_by-append}
+use Rattle.std.proofs.lemmas.List.Elements.{All-head, All-tail}
 use Rattle.jc_base.proofs.Lists.{All-reverse}
 use Rattle.jc_base.specs.Cell.{AreWhole, no_cells as no_whole, whole_int, one_cell, IsDeclared, IsNoHalf}
 use Rattle.jc_base.specs.Each.{Each}
@@ -20,8 +21,8 @@ use Rattle.jc_control.specs.WellFormed.{HasInstruction}
 use Rattle.jc_rules.specs.Demand.{Frame}
 use Rattle.jc_rules.specs.Flow.{CellsBelow, no_cells, more_cells, IsNotTop}
 use Rattle.jc_rules.specs.Laws.{IsNotBottom}
+use Rattle.jc_rules.proofs.Decides.{ok-same}
 use Rattle.jc_flow.proofs.Derived.{of_world}
-use Rattle.jc_flow.proofs.Frames.{all_first, all_rest}
 use Rattle.xf_homes.specs.declared.home.Home.{Home}
 use Rattle.xf_homes.specs.Home.{IsConditional, register_count}
 use Rattle.xf_homes.specs.Laws.{HomesServe}
@@ -33,7 +34,6 @@ use Rattle.xf_plan.specs.Plan.{stack_homes, cells_from, is_leader, operation}
 use Rattle.xf_emission.specs.Emission.{rewritten}
 use Rattle.xf_emission.specs.Jump.{has_under, operands, under}
 use Rattle.xf_emission.specs.Move.{load_op}
-use Rattle.xf_emission.proofs.RowByRow.{ok-same}
 use Rattle.xf_landed.specs.Laid.{record_with}
 use Rattle.xf_typing.specs.Planned.{IsPlanned, Keeps}
 use Rattle.xf_typing.specs.Edges.{AreMatched, none_matched, more_matched, IsForkedAt, ForksAreCut, ForksMatch}
@@ -66,8 +66,8 @@ module _ (s : Source) (l : AreLaws s.world) where
       → AreMatched s (cells_from slot (pre ++ (xs ++ over)) (length pre) (length xs)) (cells_from slot (before ++ ys) (length before) (length ys))
   matched-homes slot pre before over e no_whole no_cells full top top2 a b = none_matched
   matched-homes slot pre before over e (whole_int {types = us} is) (more_cells {a = h} {b = p} {xs = xs} {ys = ys} le (more_cells {a = c} {b = d} {xs = zs} {ys = vs} ge more)) full top top2 a b =
-      let high : p ≡ IntHigh = high-only s.world.classes l.rules.types p ((l.rules.types.decided IntHigh p).1 le) (all_first IsNotTop p (d ∷ vs) top2) in
-      let low : d ≡ IntLow = low-only s.world.classes l.rules.types d ((l.rules.types.decided IntLow d).1 ge) (all_first IsNotTop d vs (all_rest IsNotTop p (d ∷ vs) top2)) in
+      let high : p ≡ IntHigh = high-only s.world.classes l.rules.types p ((l.rules.types.decided IntHigh p).1 le) (All-head IsNotTop p (d ∷ vs) top2) in
+      let low : d ≡ IntLow = low-only s.world.classes l.rules.types d ((l.rules.types.decided IntLow d).1 ge) (All-head IsNotTop d vs (All-tail IsNotTop p (d ∷ vs) top2)) in
       let left_is = home-int slot pre (us ++ over) (length us) in
       let right_is : cells_from slot (before ++ p ∷ d ∷ vs) (length before) (suc (suc (length vs))) ≡ record { slot = slot + length before; ty = IntHigh } ∷ cells_from slot ((before ++ IntHigh ∷ IntLow ∷ []) ++ vs) (length (before ++ IntHigh ∷ IntLow ∷ [])) (length vs) =
       ap (λ (y : Ty). cells_from slot (before ++ y ∷ d ∷ vs) (length before) (suc (suc (length vs)))) high
@@ -77,24 +77,24 @@ module _ (s : Source) (l : AreLaws s.world) where
       let b2 = subst (Each (Keeps s)) right_is b in
       let lengths : length (pre ++ IntHigh ∷ IntLow ∷ []) ≡ length (before ++ IntHigh ∷ IntLow ∷ []) = omega (arith, length-append pre (IntHigh ∷ IntLow ∷ []), length-append before (IntHigh ∷ IntLow ∷ []), e) in
       let rest = matched-homes slot (pre ++ IntHigh ∷ IntLow ∷ []) (before ++ IntHigh ∷ IntLow ∷ []) over lengths is more
-      (all_rest IsNotBottom IntLow us (all_rest IsNotBottom IntHigh (IntLow ∷ us) full)) (all_rest IsNotTop IntLow us (all_rest IsNotTop IntHigh (IntLow ∷ us) top)) (all_rest IsNotTop d vs (all_rest IsNotTop p (d ∷ vs) top2)) a2.1 b2.1 in
+      (All-tail IsNotBottom IntLow us (All-tail IsNotBottom IntHigh (IntLow ∷ us) full)) (All-tail IsNotTop IntLow us (All-tail IsNotTop IntHigh (IntLow ∷ us) top)) (All-tail IsNotTop d vs (All-tail IsNotTop p (d ∷ vs) top2)) a2.1 b2.1 in
       let slots : slot + length pre ≡ slot + length before = ap (λ (k : ℕ). slot + k) e in
       subst (λ (hs : List Home). AreMatched s hs (cells_from slot (before ++ p ∷ d ∷ vs) (length before) (suc (suc (length vs))))) (sym left_is)
       (subst (λ (ks : List Home). AreMatched s (record { slot = slot + length pre; ty = IntHigh } ∷ cells_from slot ((pre ++ IntHigh ∷ IntLow ∷ []) ++ (us ++ over)) (length (pre ++ IntHigh ∷ IntLow ∷ [])) (length us)) ks) (sym right_is)
       (more_matched slots a2.0 b2.0 refl rest))
   matched-homes slot pre before over e (one_cell {a = u} {types = us} h is) (more_cells {a = c} {b = p} {xs = xs} {ys = vs} le more) full top top2 a b =
-      let whole : IsNoHalf p = no-half-above s.world.classes l.rules.types u p le (all_first IsNotBottom u us full) h in
-      let left_is = home-one slot pre u (us ++ over) (length us) h (all_first IsNotTop u us top) in
-      let right_is = home-one slot before p vs (length vs) whole (all_first IsNotTop p vs top2) in
+      let whole : IsNoHalf p = no-half-above s.world.classes l.rules.types u p le (All-head IsNotBottom u us full) h in
+      let left_is = home-one slot pre u (us ++ over) (length us) h (All-head IsNotTop u us top) in
+      let right_is = home-one slot before p vs (length vs) whole (All-head IsNotTop p vs top2) in
       let a2 = subst (Each (Keeps s)) left_is a in
       let b2 = subst (Each (Keeps s)) right_is b in
       let lengths : length (pre ++ u ∷ []) ≡ length (before ++ p ∷ []) = omega (arith, length-append pre (u ∷ []), length-append before (p ∷ []), e) in
       let rest = matched-homes slot (pre ++ u ∷ []) (before ++ p ∷ []) over lengths is more
-      (all_rest IsNotBottom u us full) (all_rest IsNotTop u us top) (all_rest IsNotTop p vs top2) a2.1 b2.1 in
+      (All-tail IsNotBottom u us full) (All-tail IsNotTop u us top) (All-tail IsNotTop p vs top2) a2.1 b2.1 in
       let slots : slot + length pre ≡ slot + length before = ap (λ (k : ℕ). slot + k) e in
       subst (λ (hs : List Home). AreMatched s hs (cells_from slot (before ++ p ∷ vs) (length before) (suc (length vs)))) (sym left_is)
       (subst (λ (ks : List Home). AreMatched s (record { slot = slot + length pre; ty = u } ∷ cells_from slot ((pre ++ u ∷ []) ++ (us ++ over)) (length (pre ++ u ∷ [])) (length us)) ks) (sym right_is)
-      (more_matched slots a2.0 b2.0 (loads-same s.world.classes l.rules.types u p le (all_first IsNotBottom u us full) (all_first IsNotTop p vs top2)) rest))
+      (more_matched slots a2.0 b2.0 (loads-same s.world.classes l.rules.types u p le (All-head IsNotBottom u us full) (All-head IsNotTop p vs top2)) rest))
 
 module _ (s : Source) (l : AreLaws s.world) (dw : DerivedAreWhole s.world) (sv : HomesServe s.world) (plan : IsPlanned s) where
   abbrev new : ℕ → ℕ
@@ -117,7 +117,7 @@ module _ (s : Source) (l : AreLaws s.world) (dw : DerivedAreWhole s.world) (sv :
     k = run-of new apart s l (ready s l dw sv plan) r (record-for s) asks res plan.code i f st at
 
     same_op : op ≡ k.op
-    same_op = ok-same op k.op (sym names ∙ k.run.resolves)
+    same_op = ok-same (sym names ∙ k.run.resolves)
 
     takes : operands_of s.world (Ok k.op) ≡ Some n
     takes = subst (λ (o : Operation). operands_of s.world (Ok o) ≡ Some n) same_op some

@@ -39,6 +39,7 @@ use Rattle.jc_rules.specs.Flow.{IsNotFresh}
 use Rattle.jc_rules.specs.FlowLaws.{AreRules}
 use Rattle.jc_rules.specs.Apply.{OperationApplies}
 use Rattle.jc_rules.specs.Rule.{demands, effect, replacing, cell, number, value_given, value_wanted, value_size, cells_wanted, receiver_wanted, return_demands, result_given, result_at, args_at, array_wanted, seen, element}
+use Rattle.jc_rules.proofs.Types.{declared-not_fresh}
 use Rattle.xf_typing.proofs.Moves.{applies-by}
 use Rattle.xf_typing.proofs.Renames.{named, named_op, same-named, IsSteady, IsSteadyWant, all-named, replaced, value-same, result-same, under-named, exchange-named, cell-named, element-same, element-ready, call-named}
 
@@ -82,10 +83,6 @@ module _ (new : ℕ → ℕ) (apart : (a b : ℕ) → new a ≡ new b → a ≡ 
   array-steady kinds.Short = tt
   array-steady kinds.Int = tt
 
-  declared-ready : (ty : Ty) → IsDeclared w.classes ty → IsNotFresh ty
-  declared-ready (Fresh p c) h = h
-  declared-ready ty h = tt
-
   named-type-ready : (ty : Ty) → IsNamedType w.classes ty → IsNotFresh (seen w.classes ty)
   named-type-ready (Class c) h = tt
   named-type-ready ArrBool h = tt
@@ -121,7 +118,7 @@ module _ (new : ℕ → ℕ) (apart : (a b : ℕ) → new a ≡ new b → a ≡ 
 
   declared-some : (result : Option Ty) → IfSome result (IsDeclared w.classes) → IfSome result IsNotFresh
   declared-some None h = tt
-  declared-some (Some ty) h = declared-ready ty h
+  declared-some (Some ty) h = declared-not_fresh w.classes ty h
 
   return-steady : (result : Option Ty) → IfSome result IsNotFresh → Each (IsSteady new apart) (return_demands result)
   return-steady None h = tt
@@ -187,22 +184,22 @@ module _ (new : ℕ → ℕ) (apart : (a b : ℕ) → new a ≡ new b → a ≡ 
   renames m place (ops.Branch (branches.Shorts o)) sound res kept regs st = by-replacing (ops.Branch (branches.Shorts o)) regs st 2 given.Nothing refl (tt, (tt, tt)) refl refl refl
   renames m place (ops.Switch widths.Short) sound res kept regs st = by-replacing (ops.Switch widths.Short) regs st 1 given.Nothing refl (tt, tt) refl refl refl
   renames m place (ops.Switch widths.Int) sound res kept regs st = by-replacing (ops.Switch widths.Int) regs st 2 given.Nothing refl (tt, (tt, tt)) refl refl refl
-  renames m place (ops.StaticRead f) sound res kept regs st = by-replacing (ops.StaticRead f) regs st 0 (value_given f.ty) refl tt (value-same new apart f.ty (declared-ready f.ty sound.ty)) refl refl
-  renames m place (ops.StaticWrite f) sound res kept regs st = by-replacing (ops.StaticWrite f) regs st (value_size f.ty) given.Nothing refl (value-steady f.ty (declared-ready f.ty sound.ty)) refl refl refl
+  renames m place (ops.StaticRead f) sound res kept regs st = by-replacing (ops.StaticRead f) regs st 0 (value_given f.ty) refl tt (value-same new apart f.ty (declared-not_fresh w.classes f.ty sound.ty)) refl refl
+  renames m place (ops.StaticWrite f) sound res kept regs st = by-replacing (ops.StaticWrite f) regs st (value_size f.ty) given.Nothing refl (value-steady f.ty (declared-not_fresh w.classes f.ty sound.ty)) refl refl refl
   renames m place (ops.FieldRead f holders.Stack) sound res kept regs st =
-      by-replacing (ops.FieldRead f holders.Stack) regs st 1 (value_given f.ty) refl (tt, tt) (value-same new apart f.ty (declared-ready f.ty sound.ty)) refl refl
+      by-replacing (ops.FieldRead f holders.Stack) regs st 1 (value_given f.ty) refl (tt, tt) (value-same new apart f.ty (declared-not_fresh w.classes f.ty sound.ty)) refl refl
   renames m place (ops.FieldRead f holders.This) sound res kept regs st =
-      by-replacing (ops.FieldRead f holders.This) regs st 0 (value_given f.ty) refl (tt, (tt, tt)) (value-same new apart f.ty (declared-ready f.ty sound.ty)) refl refl
+      by-replacing (ops.FieldRead f holders.This) regs st 0 (value_given f.ty) refl (tt, (tt, tt)) (value-same new apart f.ty (declared-not_fresh w.classes f.ty sound.ty)) refl refl
   renames m place (ops.FieldWrite f holders.Stack) sound res kept regs st =
-      by-replacing (ops.FieldWrite f holders.Stack) regs st (value_size f.ty + 1) given.Nothing refl (each-steady (value_wanted f.ty) _ (value-steady f.ty (declared-ready f.ty sound.ty)) (tt, tt)) refl refl refl
+      by-replacing (ops.FieldWrite f holders.Stack) regs st (value_size f.ty + 1) given.Nothing refl (each-steady (value_wanted f.ty) _ (value-steady f.ty (declared-not_fresh w.classes f.ty sound.ty)) (tt, tt)) refl refl refl
   renames m place (ops.FieldWrite f holders.This) sound res kept regs st =
-      by-replacing (ops.FieldWrite f holders.This) regs st (value_size f.ty) given.Nothing refl (tt, each-steady (value_wanted f.ty) _ (value-steady f.ty (declared-ready f.ty sound.ty)) (tt, tt)) refl refl refl
+      by-replacing (ops.FieldWrite f holders.This) regs st (value_size f.ty) given.Nothing refl (tt, each-steady (value_wanted f.ty) _ (value-steady f.ty (declared-not_fresh w.classes f.ty sound.ty)) (tt, tt)) refl refl refl
   renames m place (ops.Call c) sound res kept regs st =
       let is = method-at c.method sound.rec sound.is_method in
       let args = args_at (slice_get w.methods c.method) in
       let own : args ≡ sound.rec.sig.args = ap args_at sound.is_method in
       let result : result_at (slice_get w.methods c.method) ≡ sound.rec.sig.result = ap result_at sound.is_method in
-      let ready : All IsNotFresh sound.rec.sig.args = λ k d lt. declared-ready _ (is.arguments k d lt) in
+      let ready : All IsNotFresh sound.rec.sig.args = λ k d lt. declared-not_fresh w.classes _ (is.arguments k d lt) in
       let cells : Each (IsSteady new apart) (cells_wanted 0 (reverse args)) =
       subst (λ (tys : List Ty). Each (IsSteady new apart) (cells_wanted 0 (reverse tys))) (sym own) (cells-steady 0 (reverse sound.rec.sig.args) (All-reverse IsNotFresh sound.rec.sig.args ready)) in
       record {
@@ -225,7 +222,7 @@ module _ (new : ℕ → ℕ) (apart : (a b : ℕ) → new a ≡ new b → a ≡ 
       by-replacing (ops.Return (Some ty)) regs st (value_size ty) given.Nothing refl (value-steady ty (returned ty (subst (λ (o : Option Ty). IfSome o (IsDeclared w.classes)) (sym sound.0) res))) refl refl refl
     where
       returned : (ty : Ty) → IsDeclared w.classes ty → IsNotFresh ty
-      returned ty h = declared-ready ty h
+      returned ty h = declared-not_fresh w.classes ty h
 
   -- it applies to a stack with other places, and gives that stack with other places
   pub applies-named :

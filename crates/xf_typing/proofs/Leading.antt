@@ -1,6 +1,7 @@
 -- Where control comes together: the stack is stored into its homes before, and loaded from them after.
 use Rattle.std.proofs.Common.{◌≡◌, ◌⊎◌, ℕ, zero, suc, ◌+◌, Bool, true, false, if◌then◌else◌, inl, inr, List, [], ◌∷◌, ◌++◌, length, map, reverse, All, Option, Some, None, IsSomeAnd, IfSome, refl, sym, ◌∙◌, ap, subst, arith}
 use Rattle.std.proofs.lemmas.List.{length-map}
+use Rattle.std.proofs.lemmas.List.Elements.{All-head, All-tail}
 use Rattle.jc_base.proofs.Lists.{All-reverse}
 use Rattle.jc_base.specs.Cell.{IsDeclared}
 use Rattle.jc_base.specs.Class.{ClassTable}
@@ -19,7 +20,6 @@ use Rattle.jc_ops.specs.declared.operation.Operation.TheVariants as ops
 use Rattle.jc_rules.specs.Demand.{Frame}
 use Rattle.jc_rules.specs.Flow.{CellsBelow, no_cells, more_cells, FrameBelow, At, IsFit, IsNotFresh, IsNotTop}
 use Rattle.jc_rules.specs.Laws.{IsNotBottom}
-use Rattle.jc_flow.proofs.Frames.{all_first, all_rest}
 use Rattle.xf_homes.specs.declared.home.Home.{Home}
 use Rattle.xf_homes.specs.Home.{register_count, KeepsStack}
 use Rattle.xf_homes.specs.Value.{value_at}
@@ -52,8 +52,8 @@ named-one new apart a h = refl
 pub named-under : (new : ℕ → ℕ) (apart : (a b : ℕ) → new a ≡ new b → a ≡ b) (t : ClassTable) (types : IsOrderOfTypes t) {xs ys : List Ty} → CellsBelow t xs ys → All IsNotFresh ys → All IsNotTop ys → map (named new apart) xs ≡ xs
 named-under new apart t types no_cells f n = refl
 named-under new apart t types (more_cells {a = a} {b = b} {xs = xs} {ys = ys} p ps) f n =
-    ap (λ (u : Ty). u ∷ map (named new apart) xs) (named-one new apart a (not-fresh t types a b p (all_first IsNotFresh b ys f) (all_first IsNotTop b ys n)))
-    ∙ ap (λ (us : List Ty). a ∷ us) (named-under new apart t types ps (all_rest IsNotFresh b ys f) (all_rest IsNotTop b ys n))
+    ap (λ (u : Ty). u ∷ map (named new apart) xs) (named-one new apart a (not-fresh t types a b p (All-head IsNotFresh b ys f) (All-head IsNotTop b ys n)))
+    ∙ ap (λ (us : List Ty). a ∷ us) (named-under new apart t types ps (All-tail IsNotFresh b ys f) (All-tail IsNotTop b ys n))
 
 module _ (new : ℕ → ℕ) (apart : (a b : ℕ) → new a ≡ new b → a ≡ b) (s : Source) (l : AreLaws s.world) (ready : IsReady s) (r : MethodRec) (own_rec : IsRecordFor s.method.rec r) (asks : ℕ → Asked) (res : IfSome s.method.rec.sig.result (IsDeclared s.world.classes)) (code : IsCode s) where
   -- ---- the homes of a stack that is kept

@@ -1,5 +1,6 @@
 -- The homes of two stacks, one below the other: they are at the same slots, each with a type below.
 use Rattle.std.proofs.Common.{◌≡◌, ℕ, suc, ◌+◌, List, [], ◌∷◌, ◌++◌, length, All, Option, None, sym, ◌∙◌, ap, subst, arith, append_assoc, length-append}
+use Rattle.std.proofs.lemmas.List.Elements.{All-head, All-tail}
 use Rattle.jc_base.specs.Cell.{AreWhole, no_cells as no_whole, whole_int, one_cell, IsNoHalf}
 use Rattle.jc_base.specs.Each.{Each}
 use Rattle.jc_base.specs.Order.{Below}
@@ -8,7 +9,6 @@ use Rattle.jc_base.specs.declared.ty.Ty.{Ty}
 use Rattle.jc_base.specs.declared.ty.Ty.TheVariants.{IntHigh, IntLow}
 use Rattle.jc_rules.specs.Flow.{CellsBelow, no_cells, more_cells, IsNotTop}
 use Rattle.jc_rules.specs.Laws.{IsNotBottom}
-use Rattle.jc_flow.proofs.Frames.{all_first, all_rest}
 use Rattle.xf_homes.specs.declared.home.Home.{Home}
 use Rattle.xf_homes.specs.Value.{value_at}
 use Rattle.xf_plan.specs.Source.{Source}
@@ -58,8 +58,8 @@ module _ (s : Source) (l : AreLaws s.world) (ready : IsReady s) (r : MethodRec) 
       → Under (cells_from slot (pre ++ (xs ++ over)) (length pre) (length xs)) (cells_from slot (before ++ ys) (length before) (length ys))
   matched slot pre before over e no_whole no_cells full top top2 a b = none_under
   matched slot pre before over e (whole_int {types = us} is) (more_cells {a = h} {b = p} {xs = xs} {ys = ys} le (more_cells {a = c} {b = d} {xs = zs} {ys = vs} ge more)) full top top2 a b =
-      let high : p ≡ IntHigh = high-only s.world.classes l.rules.types p ((l.rules.types.decided IntHigh p).1 le) (all_first IsNotTop p (d ∷ vs) top2) in
-      let low : d ≡ IntLow = low-only s.world.classes l.rules.types d ((l.rules.types.decided IntLow d).1 ge) (all_first IsNotTop d vs (all_rest IsNotTop p (d ∷ vs) top2)) in
+      let high : p ≡ IntHigh = high-only s.world.classes l.rules.types p ((l.rules.types.decided IntHigh p).1 le) (All-head IsNotTop p (d ∷ vs) top2) in
+      let low : d ≡ IntLow = low-only s.world.classes l.rules.types d ((l.rules.types.decided IntLow d).1 ge) (All-head IsNotTop d vs (All-tail IsNotTop p (d ∷ vs) top2)) in
       let left_is = home-int slot pre (us ++ over) (length us) in
       let right_is : cells_from slot (before ++ p ∷ d ∷ vs) (length before) (suc (suc (length vs))) ≡ record { slot = slot + length before; ty = IntHigh } ∷ cells_from slot ((before ++ IntHigh ∷ IntLow ∷ []) ++ vs) (length (before ++ IntHigh ∷ IntLow ∷ [])) (length vs) =
       ap (λ (y : Ty). cells_from slot (before ++ y ∷ d ∷ vs) (length before) (suc (suc (length vs)))) high
@@ -69,19 +69,19 @@ module _ (s : Source) (l : AreLaws s.world) (ready : IsReady s) (r : MethodRec) 
       let b2 = subst Standing right_is b in
       let lengths : length (pre ++ IntHigh ∷ IntLow ∷ []) ≡ length (before ++ IntHigh ∷ IntLow ∷ []) = omega (arith, length-append pre (IntHigh ∷ IntLow ∷ []), length-append before (IntHigh ∷ IntLow ∷ []), e) in
       let rest = matched slot (pre ++ IntHigh ∷ IntLow ∷ []) (before ++ IntHigh ∷ IntLow ∷ []) over lengths is more
-      (all_rest IsNotBottom IntLow us (all_rest IsNotBottom IntHigh (IntLow ∷ us) full)) (all_rest IsNotTop IntLow us (all_rest IsNotTop IntHigh (IntLow ∷ us) top)) (all_rest IsNotTop d vs (all_rest IsNotTop p (d ∷ vs) top2)) a2.1 b2.1 in
+      (All-tail IsNotBottom IntLow us (All-tail IsNotBottom IntHigh (IntLow ∷ us) full)) (All-tail IsNotTop IntLow us (All-tail IsNotTop IntHigh (IntLow ∷ us) top)) (All-tail IsNotTop d vs (All-tail IsNotTop p (d ∷ vs) top2)) a2.1 b2.1 in
       let slots : slot + length pre ≡ slot + length before = ap (λ (k : ℕ). slot + k) e in
       subst (λ (hs : List Home). Under hs (cells_from slot (before ++ p ∷ d ∷ vs) (length before) (suc (suc (length vs))))) (sym left_is)
       (subst (λ (ks : List Home). Under (record { slot = slot + length pre; ty = IntHigh } ∷ cells_from slot ((pre ++ IntHigh ∷ IntLow ∷ []) ++ (us ++ over)) (length (pre ++ IntHigh ∷ IntLow ∷ [])) (length us)) ks) (sym right_is)
       (more_under slots a2.0 b2.0 (subst (Below s.world.classes IntHigh) high le) rest))
   matched slot pre before over e (one_cell {a = u} {types = us} h is) (more_cells {a = c} {b = p} {xs = xs} {ys = vs} le more) full top top2 a b =
-      let whole : IsNoHalf p = no-half-above s.world.classes l.rules.types u p le (all_first IsNotBottom u us full) h in
-      let left_is = home-one slot pre u (us ++ over) (length us) h (all_first IsNotTop u us top) in
-      let right_is = home-one slot before p vs (length vs) whole (all_first IsNotTop p vs top2) in
+      let whole : IsNoHalf p = no-half-above s.world.classes l.rules.types u p le (All-head IsNotBottom u us full) h in
+      let left_is = home-one slot pre u (us ++ over) (length us) h (All-head IsNotTop u us top) in
+      let right_is = home-one slot before p vs (length vs) whole (All-head IsNotTop p vs top2) in
       let a2 = subst Standing left_is a in
       let b2 = subst Standing right_is b in
       let lengths : length (pre ++ u ∷ []) ≡ length (before ++ p ∷ []) = omega (arith, length-append pre (u ∷ []), length-append before (p ∷ []), e) in
-      let rest = matched slot (pre ++ u ∷ []) (before ++ p ∷ []) over lengths is more (all_rest IsNotBottom u us full) (all_rest IsNotTop u us top) (all_rest IsNotTop p vs top2) a2.1 b2.1 in
+      let rest = matched slot (pre ++ u ∷ []) (before ++ p ∷ []) over lengths is more (All-tail IsNotBottom u us full) (All-tail IsNotTop u us top) (All-tail IsNotTop p vs top2) a2.1 b2.1 in
       let slots : slot + length pre ≡ slot + length before = ap (λ (k : ℕ). slot + k) e in
       subst (λ (hs : List Home). Under hs (cells_from slot (before ++ p ∷ vs) (length before) (suc (length vs)))) (sym left_is)
       (subst (λ (ks : List Home). Under (record { slot = slot + length pre; ty = u } ∷ cells_from slot ((pre ++ u ∷ []) ++ (us ++ over)) (length (pre ++ u ∷ [])) (length us)) ks) (sym right_is)

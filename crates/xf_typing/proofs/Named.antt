@@ -4,6 +4,7 @@ use Rattle.std.specs.Prelude.{ℤ, is_some, slice_get}
 use Rattle.jc_base.specs.Each.{Each}
 use Rattle.jc_base.specs.declared.ty.Kind.{Kind}
 use Rattle.jc_base.specs.declared.record.Handler.{Handler}
+use Rattle.jc_base.proofs.Eaching.{Each-append}
 use Rattle.jc_decode.specs.declared.insn.Placed.{Placed}
 use Rattle.jc_decode.specs.declared.symbols.Item.{Item}
 use Rattle.jc_decode.specs.Listing.{listing, targets}
@@ -19,7 +20,6 @@ use Rattle.jc_rules.specs.Demand.{Frame}
 use Rattle.xf_homes.specs.declared.home.Home.{Home}
 use Rattle.xf_homes.specs.Home.{register_count}
 use Rattle.xf_homes.specs.Walk.{has, same_home, operands_of}
-use Rattle.xf_homes.proofs.Rising.{each-append}
 use Rattle.xf_plan.specs.Source.{Source}
 use Rattle.xf_plan.specs.Plan.{local, needed, stack_homes, is_leader, operation}
 use Rattle.xf_emission.specs.declared.origin.Origin.{Origin}
@@ -71,7 +71,7 @@ module _ (P : ℕ → Type 0) (s : Source) where
 
     locals-name : (x n : ℕ) → Each IsNamed (locals_copies s o q x n)
     locals-name x zero = tt
-    locals-name x (suc n) = each-append IsNamed (local_copies s o q x) (locals_copies s o q (suc x) n) (local-names x) (locals-name (suc x) n)
+    locals-name x (suc n) = Each-append IsNamed (local_copies s o q x) (locals_copies s o q (suc x) n) (local-names x) (locals-name (suc x) n)
 
     copies-name : Each IsNamed (copies s o q)
     unfolding copies
@@ -81,13 +81,13 @@ module _ (P : ℕ → Type 0) (s : Source) where
   cells-name [] ks = tt
   cells-name (h ∷ hs) [] = tt
   cells-name (h ∷ hs) (k ∷ ks) =
-      each-append IsNamed (if same_home h k then [] else copy s h k) (cell_copies s hs ks)
+      Each-append IsNamed (if same_home h k then [] else copy s h k) (cell_copies s hs ks)
       (each-if IsNamed (same_home h k) [] (copy s h k) tt (copy-names h k)) (cells-name hs ks)
 
   taken-names : (p : ℕ) (op : Operation) (n q : ℕ) → Each IsNamed (taken s p op n q)
   unfolding taken
   taken-names p op n q =
-      each-append IsNamed (cell_copies s (under s p n) (stack_homes s q)) (copies s (After p op) q) (cells-name (under s p n) (stack_homes s q)) (copies-name (After p op) q)
+      Each-append IsNamed (cell_copies s (under s p n) (stack_homes s q)) (copies s (After p op) q) (cells-name (under s p n) (stack_homes s q)) (copies-name (After p op) q)
 
   -- ---- instructions
 
@@ -152,9 +152,9 @@ module _ (P : ℕ → Type 0) (s : Source) where
     branch-names : (n : ℕ) → operands_of s.world (Ok op) ≡ Some n → jumps_from op ≡ true → Each IsNamed (branch s i op n)
     unfolding branch
     branch-names n asks j =
-        each-append IsNamed (spill_if (has_under s i.place n) s i.place n) (jump_to i op _ ∷ [])
+        Each-append IsNamed (spill_if (has_under s i.place n) s i.place n) (jump_to i op _ ∷ [])
         (each-if IsNamed (has_under s i.place n) (spill s (stack_homes s i.place) ++ loads s (operands s i.place n)) []
-        (each-append IsNamed (spill s (stack_homes s i.place)) (loads s (operands s i.place n)) (spill-names (stack_homes s i.place)) (loads-name (operands s i.place n))) tt)
+        (Each-append IsNamed (spill s (stack_homes s i.place)) (loads s (operands s i.place n)) (spill-names (stack_homes s i.place)) (loads-name (operands s i.place n))) tt)
         (jump-names n asks j, tt {0})
 
     first-place-named : jumps_from op ≡ true → P (first_place (targets s.method.code i))
@@ -167,14 +167,14 @@ module _ (P : ℕ → Type 0) (s : Source) where
     gone-names : jumps_from op ≡ true → Each IsNamed (gone s i.place op (first_place (targets s.method.code i)))
     gone-names j =
         let q = first_place (targets s.method.code i) in
-        each-append IsNamed (spill s (stack_homes s q)) (copies s (After i.place op) q ++ goto q ∷ []) (spill-names (stack_homes s q))
-        (each-append IsNamed (copies s (After i.place op) q) (goto q ∷ []) (copies-name (After i.place op) q) ((first-place-named j, tt {0}), tt {0}))
+        Each-append IsNamed (spill s (stack_homes s q)) (copies s (After i.place op) q ++ goto q ∷ []) (spill-names (stack_homes s q))
+        (Each-append IsNamed (copies s (After i.place op) q) (goto q ∷ []) (copies-name (After i.place op) q) ((first-place-named j, tt {0}), tt {0}))
 
     -- ---- falling
 
     fall-names : (q : ℕ) → Each IsNamed (fall s i.place op q)
     fall-names q =
-        each-append IsNamed (if is_leader s q then spill s (stack_homes s q) else []) (copies s (After i.place op) q)
+        Each-append IsNamed (if is_leader s q then spill s (stack_homes s q) else []) (copies s (After i.place op) q)
         (each-if IsNamed (is_leader s q) (spill s (stack_homes s q)) [] (spill-names (stack_homes s q)) tt) (copies-name (After i.place op) q)
 
     fall-by-names : (n : Option ℕ) (q : ℕ) → Each IsNamed (fall_by s i.place op n q)
@@ -182,7 +182,7 @@ module _ (P : ℕ → Type 0) (s : Source) where
     fall-by-names (Some n) q =
         each-if IsNamed (has_under s i.place n) (fall_over s i.place op n q) (fall s i.place op q)
         (each-if IsNamed (is_leader s q) (taken s i.place op n q) (copies s (After i.place op) q ++ loads s (under s i.place n)) (taken-names i.place op n q)
-        (each-append IsNamed (copies s (After i.place op) q) (loads s (under s i.place n)) (copies-name (After i.place op) q) (loads-name (under s i.place n))))
+        (Each-append IsNamed (copies s (After i.place op) q) (loads s (under s i.place n)) (copies-name (After i.place op) q) (loads-name (under s i.place n))))
         (fall-names q)
 
     fallen-names : Each IsNamed (fallen s i op)
@@ -195,13 +195,13 @@ module _ (P : ℕ → Type 0) (s : Source) where
 
     stub-names : (q l : ℕ) (copied : List Item) → Each IsNamed copied → P q → Each IsNamed (stub_of l q copied)
     stub-names q l [] h own = tt
-    stub-names q l (x ∷ xs) h own = (tt {0}, each-append IsNamed (x ∷ xs) (goto q ∷ []) h ((own, tt {0}), tt {0}))
+    stub-names q l (x ∷ xs) h own = (tt {0}, Each-append IsNamed (x ∷ xs) (goto q ∷ []) h ((own, tt {0}), tt {0}))
 
     stubs-name-from : (n k : ℕ) (ts : List ℤ) → ((j : ℕ) (t : ℤ) → slice_get ts j ≡ Some t → P (place t)) → Each IsNamed (stubs_of s i.place op n k ts)
     unfolding stub
     stubs-name-from n k [] h = tt
     stubs-name-from n k (t ∷ ts) h =
-        each-append IsNamed (stub s i.place op n k t) (stubs_of s i.place op n (suc k) ts)
+        Each-append IsNamed (stub s i.place op n k t) (stubs_of s i.place op n (suc k) ts)
         (stub-names (place t) (stub_label i.place k) (taken s i.place op n (place t)) (taken-names i.place op n (place t)) (h 0 t refl))
         (stubs-name-from n (suc k) ts (λ j u at. h (suc j) u at))
 
@@ -229,7 +229,7 @@ module _ (P : ℕ → Type 0) (s : Source) where
   module _ (emitted : (i : Placed) (op : Operation) → Contains (listing s.method.code) i → is_some (s.frames i.place) ≡ true → operation s i ≡ Ok op → Names i op) where
     done-names : (i : Placed) (r : Result Operation RuleFault) → ((op : Operation) → r ≡ Ok op → Names i op) → Each IsNamed (done s i r)
     done-names i (Err fault) h = tt
-    done-names i (Ok op) h = each-append IsNamed (body s i op) (fallen s i op) (body-names i op (h op refl)) (fallen-names i op (h op refl))
+    done-names i (Ok op) h = Each-append IsNamed (body s i op) (fallen s i op) (body-names i op (h op refl)) (fallen-names i op (h op refl))
 
     entered-names : (p : ℕ) → Each IsNamed (entrance s p)
     entered-names p = (tt {0}, each-if IsNamed (is_leader s p) (loads s (stack_homes s p)) [] (loads-name (stack_homes s p)) tt)
@@ -241,7 +241,7 @@ module _ (P : ℕ → Type 0) (s : Source) where
         by : (f : Option Frame) → s.frames i.place ≡ f → Each IsNamed (group_by s i f)
         by None at = tt
         by (Some f) at =
-            each-append IsNamed (entrance s i.place) (done s i (operation s i)) (entered-names i.place)
+            Each-append IsNamed (entrance s i.place) (done s i (operation s i)) (entered-names i.place)
             (done-names i (operation s i) (λ op is. emitted i op st (ap is_some at) is))
 
     stubs-name : (i : Placed) → Contains (listing s.method.code) i → Each IsNamed (stubs s i)
@@ -259,14 +259,14 @@ module _ (P : ℕ → Type 0) (s : Source) where
     caught-names : (n : ℕ) (h : Handler) → P h.entry → Each IsNamed (caught s n h)
     caught-names n h own = (
       tt {0},
-      each-append IsNamed (spill s (stack_homes s h.entry)) (copies s (Entry h.entry) h.entry ++ goto h.entry ∷ []) (spill-names (stack_homes s h.entry))
-          (each-append IsNamed (copies s (Entry h.entry) h.entry) (goto h.entry ∷ []) (copies-name (Entry h.entry) h.entry) ((own, tt {0}), tt {0})),
+      Each-append IsNamed (spill s (stack_homes s h.entry)) (copies s (Entry h.entry) h.entry ++ goto h.entry ∷ []) (spill-names (stack_homes s h.entry))
+          (Each-append IsNamed (copies s (Entry h.entry) h.entry) (goto h.entry ∷ []) (copies-name (Entry h.entry) h.entry) ((own, tt {0}), tt {0})),
     )
 
     caught-name-from : (n : ℕ) (hs : List Handler) → Each (λ h. is_live s h ≡ true → P h.entry) hs → Each IsNamed (caught_from s n hs)
     caught-name-from n [] o = tt
     caught-name-from n (h ∷ hs) o =
-        each-append IsNamed (if is_live s h then caught s n h else []) (caught_from s (suc n) hs) (by (is_live s h) refl) (caught-name-from (suc n) hs o.1)
+        Each-append IsNamed (if is_live s h then caught s n h else []) (caught_from s (suc n) hs) (by (is_live s h) refl) (caught-name-from (suc n) hs o.1)
       where
         by : (b : Bool) → is_live s h ≡ b → Each IsNamed (if b then caught s n h else [])
         by true live = caught-names n h (o.0 live)
@@ -275,15 +275,15 @@ module _ (P : ℕ → Type 0) (s : Source) where
     each-of : {X : Type 0} (f : X → List Item) (xs whole : List X) → ((x : X) → Contains xs x → Contains whole x) → ((x : X) → Contains whole x → Each IsNamed (f x)) → Each IsNamed (flat_map f xs)
     each-of f [] whole inside h = tt
     each-of f (x ∷ xs) whole inside h =
-        each-append IsNamed (f x) (flat_map f xs) (h x (inside x (0, omega arith, refl)))
+        Each-append IsNamed (f x) (flat_map f xs) (h x (inside x (0, omega arith, refl)))
         (each-of f xs whole (λ y c. inside y (suc c.0, omega (arith, c.1), c.2)) h)
 
     pub items-name : Each (λ h. is_live s h ≡ true → P h.entry) s.method.rec.handlers → Each IsNamed (items s)
     unfolding items
     items-name entries =
-        each-append IsNamed (copies s Start 0) _ (copies-name Start 0)
-        (each-append IsNamed (flat_map (group s) (listing s.method.code)) _ (each-of (group s) (listing s.method.code) (listing s.method.code) (λ x c. c) group-names) (
+        Each-append IsNamed (copies s Start 0) _ (copies-name Start 0)
+        (Each-append IsNamed (flat_map (group s) (listing s.method.code)) _ (each-of (group s) (listing s.method.code) (listing s.method.code) (λ x c. c) group-names) (
           tt {0},
-          each-append IsNamed (flat_map (stubs s) (listing s.method.code)) (caught_from s 0 s.method.rec.handlers) (each-of (stubs s) (listing s.method.code) (listing s.method.code) (λ x c. c) stubs-name)
+          Each-append IsNamed (flat_map (stubs s) (listing s.method.code)) (caught_from s 0 s.method.rec.handlers) (each-of (stubs s) (listing s.method.code) (listing s.method.code) (λ x c. c) stubs-name)
               (caught-name-from 0 s.method.rec.handlers entries),
         ))

@@ -1,7 +1,9 @@
 -- The registers of homes: values that are no uninitialised objects, the arguments first.
 use Rattle.std.proofs.Common.{◌≡◌, ◌⊎◌, ℕ, zero, suc, ◌+◌, ◌-◌, ◌<◌, Bool, true, false, if◌then◌else◌, inl, inr, List, [], ◌∷◌, ◌++◌, length, drop, reverse, replicate, slice_get, All, Option, Some, Result, Ok, IsSomeAnd, refl, sym, ◌∙◌, ap, subst, arith, append_assoc, length-append}
 use Rattle.std.proofs.lemmas.List.Sums.{sum_by-cons}
+use Rattle.std.proofs.lemmas.List.Elements.{All-nil, All-cons, All-head, All-tail}
 use Rattle.jc_base.proofs.Lists.{All-reverse}
+use Rattle.jc_base.proofs.Eaching.{IsAmong-append_cases}
 use Rattle.jc_base.specs.Each.{IsAmong}
 use Rattle.jc_base.specs.Class.{ClassTable}
 use Rattle.jc_base.specs.Laws.{ClassesAreObjects, SameTypeDecides, IsOrderOfTypes}
@@ -28,14 +30,12 @@ use Rattle.jc_rules.specs.Demand.{Frame}
 use Rattle.jc_rules.specs.Flow.{CellsBelow, no_cells, more_cells, IsFollowed, derived_start, IsNotFresh, IsNotTop, start_frame, receiver_of}
 use Rattle.jc_rules.specs.FlowLaws.{AreRules}
 use Rattle.jc_rules.specs.Laws.{IsNotBottom}
-use Rattle.jc_flow.proofs.Frames.{all_none, all_more, all_first, all_rest}
 use Rattle.jc_flow.proofs.Derived.{of_world}
 use Rattle.xf_homes.specs.declared.home.Home.{Home}
 use Rattle.xf_homes.specs.Home.{argument_types, IsConditional, KeepsStack, Spot, IsMet, met_local, met_cell}
 use Rattle.xf_homes.specs.Laws.{NeededAreKept}
 use Rattle.xf_homes.specs.Order.{AreHomes, SlotsFollow, register_sum}
 use Rattle.xf_homes.specs.Value.{value_at, width}
-use Rattle.xf_homes.proofs.Events.{among-either}
 use Rattle.xf_plan.specs.Source.{Source}
 use Rattle.xf_emission.specs.Laws.{IsCode}
 use Rattle.xf_typing.specs.Typed.{cells_of_value, registers_of}
@@ -59,13 +59,13 @@ module _ (t : ClassTable) (types : IsOrderOfTypes t) where
 
   one-taken : (P : Ty → Type 0) (stack : List Ty) (b : Ty) → ((a : Ty) → Below t a b → P a) → IsSomeAnd (slice_get stack 0) (λ found. Below t found b) → All P (drop 1 stack) → All P stack
   one-taken P [] b is h all = absurd h
-  one-taken P (a ∷ rest) b is h all = all_more P a rest (is a h) all
+  one-taken P (a ∷ rest) b is h all = All-cons P a rest (is a h) all
 
   two-taken : (P : Ty → Type 0) (stack : List Ty) (b c : Ty) → ((a : Ty) → Below t a b → P a) → ((a : Ty) → Below t a c → P a)
       → IsSomeAnd (slice_get stack 0) (λ found. Below t found b) → IsSomeAnd (slice_get stack 1) (λ found. Below t found c) → All P (drop 2 stack) → All P stack
   two-taken P [] b c is has h g all = absurd h
   two-taken P (a ∷ []) b c is has h g all = absurd g
-  two-taken P (a ∷ d ∷ rest) b c is has h g all = all_more P a (d ∷ rest) (is a h) (all_more P d rest (has d g) all)
+  two-taken P (a ∷ d ∷ rest) b c is has h g all = All-cons P a (d ∷ rest) (is a h) (All-cons P d rest (has d g) all)
 
 pub conditional-ready : (w : Linked) (types : IsOrderOfTypes w.classes) (limit : ℕ) (op : Operation) (before after : Frame) (o : Outcome) → IsConditional op → OperationApplies w limit op Flow before after o → All IsNotFresh after.stack → All IsNotFresh before.stack
 conditional-ready w types limit (ops.Branch branches.Always) f after o is a all = absurd is
@@ -148,16 +148,16 @@ both-below t ys vs no_cells le = le
 both-below t ys vs (more_cells p ps) le = more_cells p (both-below t ys vs ps le)
 
 all-registers : (P : Ty → Type 0) (hs : List Home) → ((h : Home) → IsAmong h hs → P h.ty) → P IntLow → All P (registers_of hs)
-all-registers P [] h low = all_none P
+all-registers P [] h low = All-nil P
 all-registers P (k ∷ ks) h low = by k.ty (h k (inl refl)) (all-registers P ks (λ j a. h j (inr a)) low)
   where
     by : (ty : Ty) → P ty → All P (registers_of ks) → All P (cells_of_value ty ++ registers_of ks)
-    by IntHigh p all = all_more P IntHigh (IntLow ∷ registers_of ks) p (all_more P IntLow (registers_of ks) low all)
-    by ty p all = all_more P ty (registers_of ks) p all
+    by IntHigh p all = All-cons P IntHigh (IntLow ∷ registers_of ks) p (All-cons P IntLow (registers_of ks) low all)
+    by ty p all = All-cons P ty (registers_of ks) p all
 
 pub all-left : (P : Ty → Type 0) (xs ys : List Ty) → All P (xs ++ ys) → All P xs
-all-left P [] ys all = all_none P
-all-left P (x ∷ xs) ys all = all_more P x xs (all_first P x (xs ++ ys) all) (all-left P xs ys (all_rest P x (xs ++ ys) all))
+all-left P [] ys all = All-nil P
+all-left P (x ∷ xs) ys all = All-cons P x xs (All-head P x (xs ++ ys) all) (all-left P xs ys (All-tail P x (xs ++ ys) all))
 
 plain-ready : (ty : Ty) → IsPlainValue ty → IsNotFresh ty
 plain-ready (Fresh p c) h = absurd h
@@ -221,7 +221,7 @@ module _ (same_is : SameTypeDecides) (kept : NeededAreKept) (s : Source) (object
       arguments-ready = all-left IsNotFresh (argument_types s.method.rec) (replicate s.method.rec.max_locals Top) start_whole.ready
 
       home-plain : (h : Home) → IsAmong h s.homes → IsPlainValue h.ty × IsKnown s.world.classes h.ty
-      home-plain h a = by (among-either h are.arguments are.others (subst (IsAmong h) are.parts a))
+      home-plain h a = by (IsAmong-append_cases h are.arguments are.others (subst (IsAmong h) are.parts a))
         where
           by : IsAmong h are.arguments ⊎ IsAmong h are.others → IsPlainValue h.ty × IsKnown s.world.classes h.ty
           by (inl argument) = value-plain s.world.classes (argument_types s.method.rec) h.slot h.ty ((are.declared h).0 argument) arguments-known arguments-full arguments-ready

@@ -25,7 +25,8 @@ use Rattle.jc_ops.specs.Resolve.{resolved, on, instance_field, short_of}
 use Rattle.jc_ops.specs.Row.{row_at, table, unused, by_sort, by_width, by_kind, first_four, by_register, literals, binary, orders_all, branching}
 use Rattle.xf_emission.specs.Move.{with_byte}
 use Rattle.xf_emission.proofs.RowByRow as kind
-use Rattle.xf_emission.proofs.RowByRow.{kind_at, kinds, op_kind, kind-of, ok-same}
+use Rattle.xf_emission.proofs.RowByRow.{kind_at, kinds, op_kind, kind-of}
+use Rattle.jc_rules.proofs.Decides.{ok-same}
 
 -- ---- the opcodes of a kind
 
@@ -108,7 +109,7 @@ increased-at w m r place n i width x k amount lt small e = by (one-of i.op 89 90
     here op own = ap (λ o. resolved w m place i (row_at o)) (sym own) ∙ e
 
     moved : (a : Operation) → ◌≡◌ {A = Result Operation RuleFault} (Ok a) (Ok (ops.Increment width x amount)) → ◌≡◌ {A = Result Operation RuleFault} (Ok (at-register k a)) (Ok (ops.Increment width k amount))
-    moved a f = ap (λ o. Ok (at-register k o)) (ok-same a (ops.Increment width x amount) f)
+    moved a f = ap (λ o. Ok (at-register k o)) (ok-same f)
 
     byte : (v : Width) → ◌≡◌ {A = Result Operation RuleFault} (Ok (ops.Increment v (k % 256) i.y)) (Ok (ops.Increment v k i.y))
     byte v = ap (λ (j : ℕ). Ok (ops.Increment v j i.y)) (byte-small k small)
@@ -128,12 +129,12 @@ on-stack op = op
 
 read-again : (found : Result InstanceField RuleFault) (f : InstanceField) → on (λ g. ops.FieldRead g holders.This) found ≡ Ok (ops.FieldRead f holders.This) → on (λ g. ops.FieldRead g holders.Stack) found ≡ Ok (ops.FieldRead f holders.Stack)
 unfolding on-stack
-read-again (Ok g) f e = ap (λ o. Ok (on-stack o)) (ok-same (ops.FieldRead g holders.This) (ops.FieldRead f holders.This) e)
+read-again (Ok g) f e = ap (λ o. Ok (on-stack o)) (ok-same e)
 read-again (Err fault) f e = absurd (cc)
 
 write-again : (found : Result InstanceField RuleFault) (f : InstanceField) → on (λ g. ops.FieldWrite g holders.This) found ≡ Ok (ops.FieldWrite f holders.This) → on (λ g. ops.FieldWrite g holders.Stack) found ≡ Ok (ops.FieldWrite f holders.Stack)
 unfolding on-stack
-write-again (Ok g) f e = ap (λ o. Ok (on-stack o)) (ok-same (ops.FieldWrite g holders.This) (ops.FieldWrite f holders.This) e)
+write-again (Ok g) f e = ap (λ o. Ok (on-stack o)) (ok-same e)
 write-again (Err fault) f e = absurd (cc)
 
 -- a read of a field of `this`, as that of an object on the stack

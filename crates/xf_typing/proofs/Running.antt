@@ -1,7 +1,7 @@
 -- An instruction that control reaches, in rewritten code: from a stack below that of its frame, to one below that of what it leaves.
 use Rattle.std.proofs.Common.{◌≡◌, ℕ, ◌+◌, ◌<◌, ◌≤◌, Bool, true, false, if◌then◌else◌, List, [], ◌∷◌, ◌++◌, length, map, slice_get, All, Option, Some, None, Ok, IsSomeAnd, IfSome, refl, sym, ◌∙◌, ap, subst, arith}
 use Rattle.std.proofs.lemmas.List.{length-map, map-append}
-use Rattle.std.proofs.lemmas.List.Elements.{All-append}
+use Rattle.std.proofs.lemmas.List.Elements.{All-append, All-nil, All-cons}
 use Rattle.std.proofs.lemmas.Bool.{both_ways}
 use Rattle.jc_base.specs.Cell.{IsDeclared, IsNoHalf}
 use Rattle.jc_base.specs.Class.{ClassTable, object}
@@ -35,7 +35,6 @@ use Rattle.jc_rules.specs.Footprint.{OperationNamesNone}
 use Rattle.jc_rules.specs.Laws.{IsNotBottom, OperationFalls, OperationKeeps, OperationRests}
 use Rattle.jc_rules.specs.Rule.{or_null}
 use Rattle.jc_rules.specs.Whole.{OperationKeepsWhole}
-use Rattle.jc_flow.proofs.Frames.{all_none, all_more}
 use Rattle.xf_homes.specs.declared.home.Home.{Home}
 use Rattle.xf_homes.specs.Laws.{NeededAreKept}
 use Rattle.xf_homes.specs.Value.{value_at, value_of}
@@ -169,8 +168,8 @@ pub local-at : (s : Source) (p x : ℕ) (f : Frame) (ty : Ty) → s.frames p ≡
 local-at s p x f ty e v = ap (λ (o : Option Frame). home_of x (local_of o x)) e ∙ ap (home_of x) v
 
 pub cells-plain : (P : Ty → Type 0) (ty : Ty) → P ty → P IntLow → All P (cells_on ty)
-cells-plain P IntHigh p low = all_more P IntLow (IntHigh ∷ []) low (all_more P IntHigh [] p (all_none P))
-cells-plain P ty p low = all_more P ty [] p (all_none P)
+cells-plain P IntHigh p low = All-cons P IntLow (IntHigh ∷ []) low (All-cons P IntHigh [] p (All-nil P))
+cells-plain P ty p low = All-cons P ty [] p (All-nil P)
 
 plain-full : (ty : Ty) → IsPlainValue ty → IsNotBottom ty
 plain-full Bottom h = absurd h

@@ -3,6 +3,7 @@ use Rattle.std.proofs.Common.{◌≡◌, ◌≢◌, ◌⊎◌, ℕ, zero, suc, �
 use Rattle.std.specs.Prelude.{pos, ℤ, ◌==◌}
 use Rattle.std.proofs.lemmas.Bool.Decides.{nat_tests}
 use Rattle.std.proofs.lemmas.List.{length-map}
+use Rattle.std.proofs.lemmas.List.Elements.{All-head, All-tail}
 use Rattle.jc_base.specs.Cell.{IsDeclared, IsNoHalf}
 use Rattle.jc_base.specs.Class.{ClassTable, object}
 use Rattle.jc_base.specs.Each.{Each, IsAmong}
@@ -25,11 +26,11 @@ use Rattle.jc_ops.specs.declared.operation.Width.TheVariants as widths
 use Rattle.jc_rules.specs.declared.effect.Mode.TheVariants.{Flow}
 use Rattle.jc_rules.specs.declared.rule.Outcome.{Outcome}
 use Rattle.jc_rules.specs.Apply.{OperationApplies}
-use Rattle.jc_rules.specs.Demand.{Frame, IsHalf}
+use Rattle.jc_rules.specs.Demand.{Frame}
 use Rattle.jc_rules.specs.Flow.{CellsBelow, no_cells, more_cells, FrameBelow, IsNotFresh}
 use Rattle.jc_rules.specs.Laws.{IsNotBottom}
 use Rattle.jc_rules.specs.Rule.{cell}
-use Rattle.jc_flow.proofs.Frames.{all_first, all_rest}
+use Rattle.jc_rules.proofs.Types.{no-half}
 use Rattle.xf_homes.specs.declared.home.Home.{Home}
 use Rattle.xf_homes.specs.Home.{asked_here, IsAsked}
 use Rattle.xf_homes.specs.Laws.{IsAskedBefore, AreAskedInOrder}
@@ -78,11 +79,6 @@ set-length : (xs : List Ty) (x : ℕ) (a : Ty) → length (set xs x a) ≡ lengt
 set-length [] x a = refl
 set-length (b ∷ bs) zero a = refl
 set-length (b ∷ bs) (suc x) a = ap suc (set-length bs x a)
-
-no-half : (a : Ty) → IsNoHalf a → ¬ (IsHalf a)
-no-half IntHigh h k = absurd h
-no-half IntLow h k = absurd h
-no-half a h k = absurd k
 
 one-cell-on : (ty : Ty) → (ty ≡ IntHigh → ⊥) → cells_on ty ≡ ty ∷ []
 one-cell-on IntHigh n = absurd (n refl)
@@ -259,8 +255,8 @@ module _ (new : ℕ → ℕ) (apart : (a b : ℕ) → new a ≡ new b → a ≡ 
     fresh = ap (map (named new apart)) k.st_is ∙ ap (λ (a : Ty). a ∷ map (named new apart) k.rest) (named-ready k.v fresh);
     lesser = record {
       below = subst (CellsBelow s.world.classes k.rest) (sym (under ∙ ap (drop 1) k.fs_is)) k.more;
-      full = all_rest IsNotBottom k.v k.rest (subst (All IsNotBottom) k.st_is lesser.full);
-      known = all_rest (IsKnown s.world.classes) k.v k.rest (subst (All (IsKnown s.world.classes)) k.st_is lesser.known);
+      full = All-tail IsNotBottom k.v k.rest (subst (All IsNotBottom) k.st_is lesser.full);
+      known = All-tail (IsKnown s.world.classes) k.v k.rest (subst (All (IsKnown s.world.classes)) k.st_is lesser.known);
     };
     shorter = omega (arith, ap length k.st_is);
     pops = λ n room. pops n (map (named new apart) k.rest) room;
@@ -269,8 +265,8 @@ module _ (new : ℕ → ℕ) (apart : (a b : ℕ) → new a ≡ new b → a ≡ 
   stacked : (letter : Sort) (x limit : ℕ) (f after : Frame) (o : Outcome) (st : List Ty) → All IsNotBottom f.stack → OperationApplies s.world limit (ops.Store letter x) Flow f after o → IsLesser s.world f st → IsStacked letter x after st
   stacked sorts.Reference x limit f after o st full a lesser =
       let k = has-top s.world.classes (λ c. Below s.world.classes c (Class (object s.world.classes))) st f.stack lesser.below a.asked.1.0 in
-      let c_full = all_first IsNotBottom k.c k.cs (subst (All IsNotBottom) k.fs_is full) in
-      let v_full = all_first IsNotBottom k.v k.rest (subst (All IsNotBottom) k.st_is lesser.full) in
+      let c_full = All-head IsNotBottom k.c k.cs (subst (All IsNotBottom) k.fs_is full) in
+      let v_full = All-head IsNotBottom k.v k.rest (subst (All IsNotBottom) k.st_is lesser.full) in
       let c = is-reference s.world.classes l.rules.types k.c (object s.world.classes) k.has c_full in
       let v = is-reference s.world.classes l.rules.types k.v (object s.world.classes) (joined k.below k.has) v_full in
       let value : a.regs.value ≡ k.c = a.regs.stored ∙ ap (λ (us : List Ty). cell us 0) k.fs_is in
@@ -281,7 +277,7 @@ module _ (new : ℕ → ℕ) (apart : (a b : ℕ) → new a ≡ new b → a ≡ 
       (λ n us room. pop-one n k.v us v.no_half room)
   stacked sorts.Short x limit f after o st full a lesser =
       let k = has-top s.world.classes (λ c. Below s.world.classes c Short) st f.stack lesser.below a.asked.1.0 in
-      let v_full = all_first IsNotBottom k.v k.rest (subst (All IsNotBottom) k.st_is lesser.full) in
+      let v_full = All-head IsNotBottom k.v k.rest (subst (All IsNotBottom) k.st_is lesser.full) in
       let own = is-short s.world.classes l.rules.types k.v (joined k.below k.has) v_full in
       one-stacked sorts.Short x f after st (λ c. Below s.world.classes c Short) k Short
       (ap (λ (rs : List Ty). slice_get rs x) a.regs.after_is ∙ set-within f.regs x a.regs.value (omega (arith, a.asked.0)) ∙ ap Some a.regs.stored) a.stack (subst IsNoHalf (sym own) tt) (subst IsNotFresh (sym own) tt)
@@ -292,11 +288,11 @@ module _ (new : ℕ → ℕ) (apart : (a b : ℕ) → new a ≡ new b → a ≡ 
       let k = has-top s.world.classes (λ c. Below s.world.classes c IntLow) st f.stack lesser.below a.asked.1.0 in
       let j = has-top s.world.classes (λ c. Below s.world.classes c IntHigh) k.rest k.cs k.more (subst (λ (us : List Ty). IsSomeAnd (slice_get us 1) (λ c. Below s.world.classes c IntHigh)) k.fs_is a.asked.1.1.0) in
       let all_full = subst (All IsNotBottom) k.st_is lesser.full in
-      let rest_full = subst (All IsNotBottom) j.st_is (all_rest IsNotBottom k.v k.rest all_full) in
+      let rest_full = subst (All IsNotBottom) j.st_is (All-tail IsNotBottom k.v k.rest all_full) in
       let all_known = subst (All (IsKnown s.world.classes)) k.st_is lesser.known in
-      let rest_known = subst (All (IsKnown s.world.classes)) j.st_is (all_rest (IsKnown s.world.classes) k.v k.rest all_known) in
-      let low = is-low s.world.classes l.rules.types k.v (joined k.below k.has) (all_first IsNotBottom k.v k.rest all_full) in
-      let high = is-high s.world.classes l.rules.types j.v (joined j.below j.has) (all_first IsNotBottom j.v j.rest rest_full) in
+      let rest_known = subst (All (IsKnown s.world.classes)) j.st_is (All-tail (IsKnown s.world.classes) k.v k.rest all_known) in
+      let low = is-low s.world.classes l.rules.types k.v (joined k.below k.has) (All-head IsNotBottom k.v k.rest all_full) in
+      let high = is-high s.world.classes l.rules.types j.v (joined j.below j.has) (All-head IsNotBottom j.v j.rest rest_full) in
       let whole : st ≡ IntLow ∷ IntHigh ∷ j.rest = k.st_is ∙ ap (λ (us : List Ty). k.v ∷ us) j.st_is ∙ ap (λ (u : Ty). u ∷ j.v ∷ j.rest) low ∙ ap (λ (u : Ty). IntLow ∷ u ∷ j.rest) high in
       let frame : f.stack ≡ k.c ∷ j.c ∷ j.cs = k.fs_is ∙ ap (λ (us : List Ty). k.c ∷ us) j.fs_is in
       let set_high : slice_get a.regs.between x ≡ Some IntHigh = ap (λ (rs : List Ty). slice_get rs x) a.regs.high.after_is ∙ set-within f.regs x a.regs.high.value (omega (arith, a.asked.0)) ∙ ap Some a.regs.high.stored in
@@ -312,8 +308,8 @@ module _ (new : ℕ → ℕ) (apart : (a b : ℕ) → new a ≡ new b → a ≡ 
         fresh = ap (map (named new apart)) whole;
         lesser = record {
           below = subst (CellsBelow s.world.classes j.rest) (sym (a.stack ∙ ap (drop 2) frame)) j.more;
-          full = all_rest IsNotBottom j.v j.rest rest_full;
-          known = all_rest (IsKnown s.world.classes) j.v j.rest rest_known;
+          full = All-tail IsNotBottom j.v j.rest rest_full;
+          known = All-tail (IsKnown s.world.classes) j.v j.rest rest_known;
         };
         shorter = omega (arith, ap length whole);
         pops = λ n room. pop-two n (map (named new apart) j.rest) room;

@@ -2,6 +2,7 @@
 use Rattle.std.proofs.Common.{◌≡◌, ◌≢◌, ℕ, suc, ◌+◌, ◌-◌, ◌<◌, ◌≤◌, Bool, true, false, if◌then◌else◌, List, [], ◌∷◌, ◌++◌, length, map, drop, slice_get, All, Option, Some, IsSomeAnd, IfSome, Ok, refl, sym, ◌∙◌, ap, subst, arith, length-append}
 use Rattle.std.proofs.lemmas.Bool.Decides.{nat_tests}
 use Rattle.std.proofs.lemmas.List.{length-map, map-append}
+use Rattle.std.proofs.lemmas.List.Elements.{All-nil, All-cons, All-head, All-tail}
 use Rattle.jc_base.specs.Cell.{IsDeclared, IsReference, IsOfKind, IsNoHalf}
 use Rattle.jc_base.specs.Class.{ClassTable}
 use Rattle.jc_base.specs.Order.{Below, same, joined, is_below, IsKnown}
@@ -32,8 +33,7 @@ use Rattle.jc_rules.specs.Effect.{listed}
 use Rattle.jc_rules.specs.Flow.{IsNotFresh, IsNotTop}
 use Rattle.jc_rules.specs.Laws.{IsNotBottom}
 use Rattle.jc_rules.specs.Rule.{demands, value_given, value_wanted, value_size}
-use Rattle.jc_flow.proofs.Frames.{all_none, all_more, all_first, all_rest}
-use Rattle.jc_flow.proofs.Derived.{declared-ready}
+use Rattle.jc_rules.proofs.Types.{declared-not_fresh}
 use Rattle.xf_homes.specs.declared.home.Home.{Home}
 use Rattle.xf_homes.specs.Value.{value_at}
 use Rattle.xf_homes.specs.Walk.{local_of}
@@ -59,31 +59,31 @@ use Rattle.xf_typing.proofs.Running.{AreLaws, IsRecordFor, IsRun, IsPassed, has-
 
 given-full : (t : ClassTable) (ty : Ty) → IsDeclared t ty → All IsNotBottom (listed (value_given ty))
 given-full t Bottom h = absurd h
-given-full t IntHigh h = all_more IsNotBottom IntLow (IntHigh ∷ []) tt (all_more IsNotBottom IntHigh [] tt (all_none IsNotBottom))
-given-full t Short h = all_more IsNotBottom Short [] tt (all_none IsNotBottom)
-given-full t IntLow h = all_more IsNotBottom IntLow [] tt (all_none IsNotBottom)
-given-full t Null h = all_more IsNotBottom Null [] tt (all_none IsNotBottom)
-given-full t (Class c) h = all_more IsNotBottom (Class c) [] tt (all_none IsNotBottom)
-given-full t ArrBool h = all_more IsNotBottom ArrBool [] tt (all_none IsNotBottom)
-given-full t ArrByte h = all_more IsNotBottom ArrByte [] tt (all_none IsNotBottom)
-given-full t ArrShort h = all_more IsNotBottom ArrShort [] tt (all_none IsNotBottom)
-given-full t ArrInt h = all_more IsNotBottom ArrInt [] tt (all_none IsNotBottom)
-given-full t (ArrRef c) h = all_more IsNotBottom (ArrRef c) [] tt (all_none IsNotBottom)
+given-full t IntHigh h = All-cons IsNotBottom IntLow (IntHigh ∷ []) tt (All-cons IsNotBottom IntHigh [] tt (All-nil IsNotBottom))
+given-full t Short h = All-cons IsNotBottom Short [] tt (All-nil IsNotBottom)
+given-full t IntLow h = All-cons IsNotBottom IntLow [] tt (All-nil IsNotBottom)
+given-full t Null h = All-cons IsNotBottom Null [] tt (All-nil IsNotBottom)
+given-full t (Class c) h = All-cons IsNotBottom (Class c) [] tt (All-nil IsNotBottom)
+given-full t ArrBool h = All-cons IsNotBottom ArrBool [] tt (All-nil IsNotBottom)
+given-full t ArrByte h = All-cons IsNotBottom ArrByte [] tt (All-nil IsNotBottom)
+given-full t ArrShort h = All-cons IsNotBottom ArrShort [] tt (All-nil IsNotBottom)
+given-full t ArrInt h = All-cons IsNotBottom ArrInt [] tt (All-nil IsNotBottom)
+given-full t (ArrRef c) h = All-cons IsNotBottom (ArrRef c) [] tt (All-nil IsNotBottom)
 given-full t (Fresh p c) h = absurd h
 given-full t Top h = absurd h
 
 given-known : (t : ClassTable) (ty : Ty) → IsDeclared t ty → All (IsKnown t) (listed (value_given ty))
 given-known t Bottom h = absurd h
-given-known t IntHigh h = all_more (IsKnown t) IntLow (IntHigh ∷ []) tt (all_more (IsKnown t) IntHigh [] tt (all_none (IsKnown t)))
-given-known t Short h = all_more (IsKnown t) Short [] tt (all_none (IsKnown t))
-given-known t IntLow h = all_more (IsKnown t) IntLow [] tt (all_none (IsKnown t))
-given-known t Null h = all_more (IsKnown t) Null [] tt (all_none (IsKnown t))
-given-known t (Class c) h = all_more (IsKnown t) (Class c) [] h (all_none (IsKnown t))
-given-known t ArrBool h = all_more (IsKnown t) ArrBool [] tt (all_none (IsKnown t))
-given-known t ArrByte h = all_more (IsKnown t) ArrByte [] tt (all_none (IsKnown t))
-given-known t ArrShort h = all_more (IsKnown t) ArrShort [] tt (all_none (IsKnown t))
-given-known t ArrInt h = all_more (IsKnown t) ArrInt [] tt (all_none (IsKnown t))
-given-known t (ArrRef c) h = all_more (IsKnown t) (ArrRef c) [] h (all_none (IsKnown t))
+given-known t IntHigh h = All-cons (IsKnown t) IntLow (IntHigh ∷ []) tt (All-cons (IsKnown t) IntHigh [] tt (All-nil (IsKnown t)))
+given-known t Short h = All-cons (IsKnown t) Short [] tt (All-nil (IsKnown t))
+given-known t IntLow h = All-cons (IsKnown t) IntLow [] tt (All-nil (IsKnown t))
+given-known t Null h = All-cons (IsKnown t) Null [] tt (All-nil (IsKnown t))
+given-known t (Class c) h = All-cons (IsKnown t) (Class c) [] h (All-nil (IsKnown t))
+given-known t ArrBool h = All-cons (IsKnown t) ArrBool [] tt (All-nil (IsKnown t))
+given-known t ArrByte h = All-cons (IsKnown t) ArrByte [] tt (All-nil (IsKnown t))
+given-known t ArrShort h = All-cons (IsKnown t) ArrShort [] tt (All-nil (IsKnown t))
+given-known t ArrInt h = All-cons (IsKnown t) ArrInt [] tt (All-nil (IsKnown t))
+given-known t (ArrRef c) h = All-cons (IsKnown t) (ArrRef c) [] h (All-nil (IsKnown t))
 given-known t (Fresh p c) h = absurd h
 given-known t Top h = absurd h
 
@@ -183,7 +183,7 @@ module _ (new : ℕ → ℕ) (apart : (a b : ℕ) → new a ≡ new b → a ≡ 
       regs = registers_of s.homes
 
       pushed : map (named new apart) (cells ++ st) ≡ cells ++ map (named new apart) st
-      pushed = map-append (named new apart) cells st ∙ ap (λ (us : List Ty). us ++ map (named new apart) st) (sym (value-same new apart fld.ty (declared-ready s.world.classes fld.ty run.sound.ty)))
+      pushed = map-append (named new apart) cells st ∙ ap (λ (us : List Ty). us ++ map (named new apart) st) (sym (value-same new apart fld.ty (declared-not_fresh s.world.classes fld.ty run.sound.ty)))
 
       room : length (cells ++ map (named new apart) st) ≤ s.method.rec.max_stack
       room = omega (arith, ap length run.does.stack, length-append cells f.stack, length-append cells (map (named new apart) st), length-map st (named new apart), l.rules.order.lengths lesser.below, run.does.room)
@@ -359,9 +359,9 @@ module _ (new : ℕ → ℕ) (apart : (a b : ℕ) → new a ≡ new b → a ≡ 
           let top = has-top s.world.classes (λ c. Below s.world.classes c IntLow) st f.stack lesser.below asked.0 in
           let next = has-top s.world.classes (λ c. Below s.world.classes c IntHigh) top.rest top.cs top.more (subst (λ (us : List Ty). IsSomeAnd (slice_get us 1) (λ c. Below s.world.classes c IntHigh)) top.fs_is asked.1.0) in
           let all_full = subst (All IsNotBottom) top.st_is lesser.full in
-          let rest_full = subst (All IsNotBottom) next.st_is (all_rest IsNotBottom top.v top.rest all_full) in
-          let low = is-low s.world.classes l.rules.types top.v (joined top.below top.has) (all_first IsNotBottom top.v top.rest all_full) in
-          let high = is-high s.world.classes l.rules.types next.v (joined next.below next.has) (all_first IsNotBottom next.v next.rest rest_full) in
+          let rest_full = subst (All IsNotBottom) next.st_is (All-tail IsNotBottom top.v top.rest all_full) in
+          let low = is-low s.world.classes l.rules.types top.v (joined top.below top.has) (All-head IsNotBottom top.v top.rest all_full) in
+          let high = is-high s.world.classes l.rules.types next.v (joined next.below next.has) (All-head IsNotBottom next.v next.rest rest_full) in
           let us = map (named new apart) next.rest in
           let whole : st ≡ IntLow ∷ IntHigh ∷ next.rest = top.st_is ∙ ap (λ (us : List Ty). top.v ∷ us) next.st_is ∙ ap (λ (u : Ty). u ∷ next.v ∷ next.rest) low ∙ ap (λ (u : Ty). IntLow ∷ u ∷ next.rest) high in
           let shape : map (named new apart) st ≡ IntLow ∷ IntHigh ∷ us = ap (map (named new apart)) whole in

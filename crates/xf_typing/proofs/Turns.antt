@@ -8,7 +8,6 @@ use Rattle.jc_base.specs.Cell.{IsDeclared}
 use Rattle.jc_base.specs.Order.{IsKnown}
 use Rattle.jc_base.specs.World.{Linked, member_at}
 use Rattle.jc_decode.specs.declared.insn.Insn.{Insn}
-use Rattle.jc_ops.specs.declared.want.Want.{Want}
 use Rattle.jc_ops.specs.declared.operation.Arithmetic.TheVariants as arithmetic
 use Rattle.jc_ops.specs.declared.operation.Branch.TheVariants as branches
 use Rattle.jc_ops.specs.declared.operation.Holder.TheVariants as holders
@@ -31,6 +30,7 @@ use Rattle.jc_rules.specs.Footprint.{registers_asked, OperationNamesNone}
 use Rattle.jc_rules.specs.Laws.{IsNotBottom, OperationFalls, OperationKeeps, OperationRests}
 use Rattle.jc_rules.specs.Apply.{OperationApplies}
 use Rattle.jc_rules.specs.Rule.{demands, value_wanted, cells_wanted, receiver_wanted, args_at, return_demands}
+use Rattle.jc_rules.proofs.Footprints.{receiver-registers}
 use Rattle.xf_emission.proofs.RowByRow.{moved_to, resolved-elsewhere}
 use Rattle.xf_typing.proofs.Renames.{named, named_op}
 use Rattle.xf_typing.proofs.Kept.{IsKeptOperation, applies-named}
@@ -60,10 +60,6 @@ value-none ty = refl
 cells-none : (n : ℕ) (tys : List Ty) → registers_asked (cells_wanted n tys) ≡ 0
 cells-none n [] = refl
 cells-none n (ty ∷ tys) = cells-none (n + 1) tys
-
-receiver-none : (n : ℕ) (receiver : Option Want) → registers_asked (receiver_wanted n receiver) ≡ 0
-receiver-none n None = refl
-receiver-none n (Some want) = refl
 
 return-none : (result : Option Ty) → registers_asked (return_demands result) ≡ 0
 return-none None = refl
@@ -110,7 +106,7 @@ none-asked w (ops.FieldRead f holders.Stack) h = refl
 none-asked w (ops.FieldWrite f holders.Stack) h = none-append (value_wanted f.ty) _ (value-none f.ty) refl
 none-asked w (ops.Call c) h =
     let args = args_at (slice_get w.methods c.method) in
-    none-append (cells_wanted 0 (reverse args)) (receiver_wanted (length args) c.receiver) (cells-none 0 (reverse args)) (receiver-none (length args) c.receiver)
+    none-append (cells_wanted 0 (reverse args)) (receiver_wanted (length args) c.receiver) (cells-none 0 (reverse args)) (receiver-registers (length args) c.receiver)
 none-asked w (ops.New p c) h = refl
 none-asked w (ops.NewArray ty) h = refl
 none-asked w ops.Throw h = refl

@@ -2,6 +2,7 @@
 use Rattle.std.proofs.Common.{◌≡◌, ℕ, zero, suc, ◌+◌, ◌<◌, ◌≤◌, Bool, true, false, if◌then◌else◌, inl, inr, List, [], ◌∷◌, length, map, slice_get, All, Contains, Option, Some, None, IsSomeAnd, refl, sym, ◌∙◌, ap, subst, arith}
 use Rattle.std.specs.Prelude.{pos, ◌==◌}
 use Rattle.std.proofs.lemmas.Simd.{map-map}
+use Rattle.std.proofs.lemmas.List.Elements.{All-contains}
 use Rattle.jc_base.specs.Each.{Each, IsAmong}
 use Rattle.jc_base.specs.Class.{IsClass}
 use Rattle.jc_base.specs.Order.{IsKnown, same, Below}
@@ -10,6 +11,7 @@ use Rattle.jc_base.specs.declared.record.MethodRec.{MethodRec}
 use Rattle.jc_base.specs.declared.ty.Ty.{Ty}
 use Rattle.jc_base.specs.declared.ty.Ty.TheVariants.{Bottom, Class}
 use Rattle.jc_base.specs.World.{Linked}
+use Rattle.jc_base.proofs.Eaching.{All-from_Each}
 use Rattle.jc_decode.specs.declared.insn.Insn.{Insn}
 use Rattle.jc_decode.specs.declared.insn.Placed.{Placed}
 use Rattle.jc_decode.specs.declared.symbols.Item.{Item}
@@ -34,13 +36,8 @@ use Rattle.xf_typing.proofs.Bridge.{stack_at, comes-next, left-empty, IsTurned, 
 
 -- ---- lists
 
-each-at : {X : Type 0} (P : X → Type 0) (xs : List X) (k : ℕ) (x : X) → Each P xs → slice_get xs k ≡ Some x → P x
-each-at P [] k x h e = absurd (cc)
-each-at P (y ∷ ys) zero x h e = let own : y ≡ x = cc in subst P own h.0
-each-at P (y ∷ ys) (suc k) x h e = each-at P ys k x h.1 e
-
 each-in : {X : Type 0} (P : X → Type 0) (xs : List X) (x : X) → Each P xs → Contains xs x → P x
-each-in P xs x h c = each-at P xs c.0 x h (at-contains xs x c)
+each-in P xs x h c = All-contains P xs x (All-from_Each P xs h) c
 
 among-in : {X : Type 0} (xs : List X) (x : X) → IsAmong x xs → Contains xs x
 among-in xs x a = let p = found xs x a in Contains-slice_get xs p.0 x p.1

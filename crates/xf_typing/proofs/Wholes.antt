@@ -1,6 +1,6 @@
 -- Derived states have whole stacks, and no register without a value.
 use Rattle.std.proofs.Common.{◌≡◌, ℕ, suc, Bool, true, false, if◌then◌else◌, List, [], ◌∷◌, ◌++◌, replicate, All, refl, sym, subst, arith}
-use Rattle.std.proofs.lemmas.List.Elements.{All-append}
+use Rattle.std.proofs.lemmas.List.Elements.{All-append, All-nil, All-cons, All-replicate}
 use Rattle.jc_base.proofs.Lists.{All-reverse}
 use Rattle.jc_base.specs.declared.ty.Ty.{Ty}
 use Rattle.jc_base.specs.declared.ty.Ty.TheVariants.{Bottom, IntHigh, IntLow, Class, Top}
@@ -18,7 +18,7 @@ use Rattle.jc_rules.specs.FlowLaws.{AreRules}
 use Rattle.jc_rules.specs.Laws.{IsNotBottom}
 use Rattle.jc_rules.specs.Whole.{IsWholeStack, OperationKeepsWhole}
 use Rattle.jc_flow.proofs.Derived.{of_world, derived-fine, step-keeps}
-use Rattle.jc_flow.proofs.Frames.{all_none, all_more, all_same, join-all, full-join}
+use Rattle.jc_flow.proofs.Frames.{join-all, full-join}
 use Rattle.xf_typing.specs.Whole.{DerivedAreWhole}
 
 -- ---- types above a half of an int, and above what is none
@@ -87,15 +87,15 @@ module _ (w : Linked) (is : AreRules w) (keeps : OperationKeepsWhole w) (m : Met
     whole : IsWholeStack f.stack
 
   receiver-full : (b : Bool) → All IsNotBottom (if b then [] else Class m.rec.class ∷ [])
-  receiver-full true = all_none IsNotBottom
-  receiver-full false = all_more IsNotBottom (Class m.rec.class) [] tt (all_none IsNotBottom)
+  receiver-full true = All-nil IsNotBottom
+  receiver-full false = All-cons IsNotBottom (Class m.rec.class) [] tt (All-nil IsNotBottom)
 
   start-good : IsGood (start_frame m.rec Top)
   start-good = record {
     regs =
         All-append IsNotBottom (receiver_of m.rec ++ m.rec.sig.args) (replicate m.rec.max_locals Top)
         (All-append IsNotBottom (receiver_of m.rec) m.rec.sig.args (receiver-full m.rec.is_static) (λ k d lt. declared-full w.classes _ ((of_world w is m mo).arguments k d lt)))
-        (all_same IsNotBottom m.rec.max_locals Top tt);
+        (All-replicate IsNotBottom m.rec.max_locals Top tt);
     whole = no_cells;
   }
 

@@ -23,7 +23,7 @@ use Rattle.xf_world.proofs.Catching.{element-at, element-there, pools-laid}
 
 -- ---- the method of a number
 
-in-world : (w : Linked) (m : Method) → IsMethodOf w m → method_in w m.number ≡ Some m
+pub in-world : (w : Linked) (m : Method) → IsMethodOf w m → method_in w m.number ≡ Some m
 in-world w m mo =
     ap (option_map (method_with w m.number)) mo.rec
     ∙ ap (λ code. Some (record { number = m.number; rec = m.rec; code = code })) (sym mo.code)

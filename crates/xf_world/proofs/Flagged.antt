@@ -1,10 +1,9 @@
 -- The places of a code as flags, for a control flow that is told of and not computed.
-use Rattle.std.proofs.Common.{◌≡◌, ℕ, zero, suc, Bool, true, false, inl, inr, List, [], ◌∷◌, Option, Some, None, refl, sym, ap, subst, ◌∙◌, arith}
+use Rattle.std.proofs.Common.{◌≡◌, ℕ, zero, suc, Bool, true, false, inl, inr, List, [], ◌∷◌, None, refl, sym, ap, subst, ◌∙◌, arith}
 use Rattle.std.specs.Prelude.{Contains, slice_index_or}
-use Rattle.std.proofs.Math.ListN.{get_or}
 use Rattle.std.proofs.lemmas.Bool.{cases_eq, both_ways}
 use Rattle.std.proofs.lemmas.List.{get_or_past}
-use Rattle.jc_decode.specs.declared.insn.Insn.{Insn}
+use Rattle.std.proofs.lemmas.Option.{none-some}
 use Rattle.jc_decode.specs.declared.insn.Placed.{Placed}
 use Rattle.jc_decode.specs.Listing.{listing}
 use Rattle.jc_decode.proofs.Elements.{Contains-first, Contains-later, Contains-either, nothing-in}
@@ -71,11 +70,8 @@ places-flagged code p = (flagged (listing code) p, λ x. standing (listing code)
 abbrev pub bare : List ℕ → Listed
 bare code = record { begins = flags (listing code); insns = [] }
 
-none-held : (o : Option Insn) (i : Insn) → o ≡ None → o ≡ Some i → ⊥
-none-held o i e g = cc
-
 pub bare-listing : (code : List ℕ) → IsListingOf code (bare code)
 bare-listing code = record {
   begins = places-flagged code;
-  decodes = λ p i h. absurd (none-held (get_or [] p None) i (get_or_past [] p None (omega arith)) h);
+  decodes = λ p i h. absurd (none-some i (sym (get_or_past [] p None (omega arith)) ∙ h));
 }

@@ -8,9 +8,10 @@ use Rattle.jc_decode.specs.Listing.{listing, targets}
 use Rattle.jc_control.specs.WellFormed.{IsTargetPlace}
 use Rattle.jc_control.specs.declared.flaw.Flaw.TheVariants.{BadTarget}
 use Rattle.jc_control.specs.Scan.{LeadsToPlaces}
-use Rattle.jc_control.proofs.Elements.{at-next, go-on, contained-in, first-failing, slice_get-in}
+use Rattle.jc_control.proofs.Elements.{at-next, go-on, contained-in, first-failing}
 use Rattle.jc_control.proofs.Listed.{next-within, next-end}
 use Rattle.jc_control.proofs.scan.check_targets.Goals as goal
+use Rattle.jc_base.proofs.Lists.{All-slice_get}
 
 pub stray_target-requires-clause-decoded : goal.stray_target-requires-clause-decoded
 stray_target-requires-clause-decoded c =
@@ -30,7 +31,7 @@ returns-in-Some-stray_target-clause-flawed c =
       number = length c.walk.yielded;
       from = i;
       instruction = first-failing (LeadsToPlaces code) c.walk.yielded i (rest_of c.next.new.self) (listing code) whole c.walk.invariant.so_far
-          (λ leads. stray.1.fails (slice_get-in (IsTargetPlace code) (targets code i) stray.0 c.in-Some-stray_target.target leads stray.1.here));
+          (λ leads. stray.1.fails (All-slice_get (IsTargetPlace code) (targets code i) stray.0 c.in-Some-stray_target.target leads stray.1.here));
       target_number = stray.0;
       target = c.in-Some-stray_target.target;
       target_is = stray.1;

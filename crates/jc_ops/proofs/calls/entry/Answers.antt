@@ -1,6 +1,6 @@
 use Rattle.std.proofs.Common.{◌∙◌}
-use Rattle.jc_ops.proofs.Members.{entry-public, entry-visible}
 use Rattle.jc_ops.proofs.calls.entry.Goals as goal
+use Rattle.jc_base.proofs.Dispatches.{entry-public, entry-visible}
 
 pub returns-then-token-lt128 : goal.returns-then-token-lt128
 returns-then-token-lt128 c =

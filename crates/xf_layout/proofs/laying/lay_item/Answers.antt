@@ -1,7 +1,8 @@
-use Rattle.std.proofs.Common.{◌≡◌, ◌∙◌, ℕ, Bool, true, false, arith, rules, refl, sym, ap, subst, cond, length}
-use Rattle.std.specs.Prelude.{FitsSigned, slice_index, pos, ◌-ℤ◌, not}
+use Rattle.std.proofs.Common.{◌≡◌, ◌∙◌, ℕ, Bool, arith, rules, sym, ap, subst, cond, length}
+use Rattle.std.specs.Prelude.{FitsSigned, slice_index, pos, ◌-ℤ◌}
 use Rattle.std.specs.Int.{w16}
 use Rattle.std.proofs.lemmas.Int.{to_z-of_z}
+use Rattle.std.proofs.lemmas.Bool.{not-true}
 use Rattle.jc_decode.specs.declared.insn.Insn.{Insn}
 use Rattle.jc_decode.specs.declared.symbols.Item.{Item}
 use Rattle.jc_decode.specs.Encoding.{encoding}
@@ -12,10 +13,6 @@ use Rattle.xf_layout.specs.Form.{IsForm}
 use Rattle.xf_layout.specs.Laid.{Adds}
 use Rattle.xf_layout.proofs.Adding.{plain-adds, jump-adds, switch-form, switch-few}
 use Rattle.xf_layout.proofs.laying.lay_item.Goals as goal
-
-not-true : (b : Bool) → not b ≡ true → b ≡ false
-not-true true h = absurd (cc)
-not-true false h = refl
 
 pub returns-in-Plain : goal.returns-in-Plain
 returns-in-Plain c =

@@ -3,10 +3,11 @@ use Rattle.std.specs.Prelude.{slice_index}
 use Rattle.std.proofs.lemmas.List.{append-nil, drop_all}
 use Rattle.std.proofs.lemmas.Slice.Zip.{AllZip-long}
 use Rattle.jc_decode.specs.declared.symbols.Item.{Item}
+use Rattle.jc_decode.proofs.Elements.{drop-here}
 use Rattle.xf_layout.specs.declared.form.Form.{Form}
 use Rattle.xf_layout.specs.Form.{IsForm}
 use Rattle.xf_layout.specs.Laid.{Adds, IsNearFrom, ItemsStand}
-use Rattle.xf_layout.proofs.Reached.{begins-start, begins-end, begins-more, form-of, form-few, item-reached, form-near, drop-here, reads-at}
+use Rattle.xf_layout.proofs.Reached.{begins-start, begins-end, begins-more, form-of, form-few, item-reached, form-near, reads-at}
 use Rattle.xf_layout.proofs.Stood.{next-stands}
 use Rattle.xf_layout.proofs.laying.lay_items.Goals as goal
 

@@ -1,23 +1,22 @@
 -- The state in which a run of words begins is that of tagged cells without their kinds.
-use Rattle.std.proofs.Common.{◌≡◌, ◌+◌, ◌-◌, ℕ, zero, suc, ℤ, List, [], ◌∷◌, ◌++◌, length, map, refl, sym, ap, ◌∙◌, Option, Some, None}
-use Rattle.std.specs.Prelude.{replicate, flat_map, slice_get}
-use Rattle.std.proofs.lemmas.List.{map-append, length-map}
+use Rattle.std.proofs.Common.{◌≡◌, ◌+◌, ◌-◌, ℕ, List, [], ◌∷◌, ◌++◌, length, map, refl, ap, ◌∙◌}
+use Rattle.std.specs.Prelude.{flat_map, slice_get}
+use Rattle.std.proofs.lemmas.List.{map-append}
 use Rattle.jc_base.specs.declared.ty.Ty.{Ty}
 use Rattle.jc_base.specs.declared.ty.Ty.TheVariants as types
 use Rattle.jc_base.specs.declared.ty.Kind.{Kind}
 use Rattle.jc_base.specs.declared.ty.Kind.TheVariants as fields
-use Rattle.jc_base.specs.declared.record.MethodRec.{MethodRec}
 use Rattle.jc_base.specs.declared.record.StaticRec.{StaticRec}
 use Rattle.jc_base.specs.declared.record.ArrayRec.{ArrayRec}
 use Rattle.jc_base.specs.World.{Linked}
 use Rattle.vm_store.specs.declared.cell.Cell.{Cell}
-use Rattle.vm_store.specs.declared.cell.Cell.TheVariants.{Empty}
 use Rattle.vm_store.specs.declared.kind.ObjectKind.{ObjectKind}
 use Rattle.vm_store.specs.declared.kind.ObjectKind.TheVariants.{Instance, Booleans, Bytes, Shorts, Ints, References}
-use Rattle.vm_store.specs.Cells.{Cells, tagged, words, word_of, short_of_word}
-use Rattle.vm_store.specs.State.{State, Frame, Object, erased, map_state, map_object, map_frame, entered, register_count}
+use Rattle.vm_store.specs.Cells.{tagged, words, word_of, short_of_word}
+use Rattle.vm_store.specs.State.{State, Frame, Object, erased, map_object, map_frame, entered}
 use Rattle.vm_store.specs.Objects.{with_object}
 use Rattle.vm_store.specs.Value.{byte_of_word}
+use Rattle.vm_store.proofs.Erasing.{entered-erased}
 use Rattle.vm_step.specs.Objects.{kind_of_type}
 use Rattle.vm_step.specs.Methods.{of_method}
 use Rattle.vm_step.specs.Arguments.{Argument, number, null, bytes}
@@ -27,10 +26,6 @@ use Rattle.vm_step.specs.Start.{field_cells, int_cells, element_cells, initial_o
 each-word : (f : ℕ → Cell) (ws : List ℕ) → map word_of (map f ws) ≡ map (λ w. word_of (f w)) ws
 each-word f [] = refl
 each-word f (w ∷ ws) = ap (λ (xs : List ℕ). word_of (f w) ∷ xs) (each-word f ws)
-
-empty-words : (n : ℕ) → map word_of (replicate n Empty) ≡ replicate n 0
-empty-words zero = refl
-empty-words (suc n) = ap (λ (xs : List ℕ). 0 ∷ xs) (empty-words n)
 
 -- ---- what the world has
 
@@ -116,15 +111,6 @@ handed-erased objects (arg ∷ args) (ty ∷ tys) =
     map-append word_of (argument_cells tagged objects arg ty) rest
     ∙ (ap (λ (xs : List ℕ). xs ++ map word_of rest) (argument-erased objects arg ty)
     ∙ ap (λ (xs : List ℕ). argument_cells words objects arg ty ++ xs) (handed-erased (objects + arrays_made arg) args tys))
-
-entered-erased : (methods : List MethodRec) (method : ℕ) (cells : List Cell) → map_frame word_of (entered tagged methods method cells) ≡ entered words methods method (map word_of cells)
-entered-erased methods method cells =
-    let count = register_count methods method in
-    let framed : List ℕ → Frame ℕ = λ regs. record { method = method; place = 0; registers = regs; stack = [] } in
-    ap framed
-    (map-append word_of cells (replicate (count - length cells) Empty)
-    ∙ (ap (λ (xs : List ℕ). map word_of cells ++ xs) (empty-words (count - length cells))
-    ∙ ap (λ (n : ℕ). map word_of cells ++ replicate (count - n) 0) (sym (length-map cells word_of))))
 
 pub entry-erased : (w : Linked) (entry : ℕ) (args : List Argument) → erased (entry_state tagged w entry args) ≡ entry_state words w entry args
 entry-erased w entry args =
