@@ -1,7 +1,11 @@
--- What comes before a command: its words, the room for their paths, and why none begins.
+-- What comes before a command: its words, the room for their paths, and why none begins; and the status with which it ends.
 use Rattle.std.specs.Prelude.{ℕ, ◌^◌, ◌-◌, max, min, List, [], ◌∷◌, length}
 use Rattle.std.specs.declared.io.ErrorKind.{ErrorKind}
 use Rattle.std.specs.declared.io.ErrorKind.TheVariants.{OutOfMemory}
+use Rattle.capcheck_core.specs.Answers.{IsVerdict}
+use Rattle.capcheck_core.specs.Outside.{Outside}
+use Rattle.capcheck_core.specs.Report.{IsReported, Seen}
+use Rattle.capcheck_core.specs.declared.verdict.Verdict.{Verdict}
 use Rattle.capcheck.specs.declared.NoStart.{NoStart}
 use Rattle.capcheck.specs.declared.NoStart.TheVariants.{Memory, Words}
 
@@ -23,3 +27,13 @@ counted n = min n (2 ^ 32 - 1)
 abbrev pub longest_from : ℕ → List (List ℕ) → ℕ
 longest_from least [] = least
 longest_from least (word ∷ words) = longest_from (max least (counted (length word))) words
+
+-- the command that the words spell ends with this status over some folders, the memory of some card and some output
+pub record EndsWith (words : List (List ℕ)) (status : ℕ) : Type 0 where
+  pub before : Outside
+  pub after : Outside
+  pub verdict : Verdict
+  pub answered : IsVerdict words before after verdict
+  pub begun : Seen
+  pub ended : Seen
+  pub reported : IsReported verdict begun ended status

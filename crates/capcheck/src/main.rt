@@ -7,7 +7,7 @@ ghost use Rattle.std.specs.Prelude.{◌≡◌, ◌≤◌, map, drop, length, str
 ghost use Rattle.std.specs.Vec.Iter.{into_iter_items};
 ghost use Rattle.std.specs.IoError.{error_kind};
 ghost use Rattle.capcheck.specs.declared.NoStart.TheVariants.{Memory};
-ghost use Rattle.capcheck.specs.Start.{counted, longest_from, start_by, status_of};
+ghost use Rattle.capcheck.specs.Start.{EndsWith, counted, longest_from, start_by, status_of};
 
 use cap_files::{DirFolder, OutSink, Words};
 use capcheck_core::capcheck;
@@ -70,7 +70,9 @@ fn run(rt: &HostRuntime) -> Result<u8, NoStart> {
 }
 
 /// Runs the command that the words spell, over the machine's folders and standard output.
-fn run_words(rt: &HostRuntime, words: &Words) -> Result<u8, NoStart> {
+fn run_words(rt: &HostRuntime, words: &Words) -> Result<u8, NoStart>
+    ensures { IfOk result (EndsWith words.now) }
+{
     let alloc = rt.alloc();
     let mut folder = DirFolder::new(rt, alloc, longest(words))?;
     let mut out = OutSink::new(rt.stdout());

@@ -1,7 +1,8 @@
 -- The package that is generated makes one world, in which its methods can be run.
-use Rattle.std.proofs.Common.{◌≡◌, ◌⊎◌, ◌<◌, ◌+◌, ◌-◌, ◌/◌, ◌%◌, ℕ, zero, suc, ℤ, pos, Bool, true, false, List, [], ◌∷◌, ◌++◌, length, map, Option, Some, None, inl, inr, refl, sym, ap, subst, ◌∙◌, arith}
-use Rattle.std.specs.Prelude.{slice_get, not, nat_lt, if◌then◌else◌, fold, ◌+ℤ◌, IsSomeAnd, IfOk, MatchBool, MatchResult, Result, Ok, Err, string_bytes}
+use Rattle.std.proofs.Common.{◌≡◌, ◌⊎◌, ◌<◌, ◌≤◌, ◌+◌, ◌-◌, ◌/◌, ◌%◌, ℕ, zero, suc, ℤ, pos, Bool, true, false, List, [], ◌∷◌, ◌++◌, length, map, Option, Some, None, inl, inr, refl, sym, ap, subst, ◌∙◌, arith}
+use Rattle.std.specs.Prelude.{slice_get, not, nat_lt, if◌then◌else◌, fold, ◌+ℤ◌, IsSomeAnd, IfOk, OnErr, MatchBool, MatchResult, Result, Ok, Err, string_bytes}
 use Rattle.std.specs.List.{range_with_len}
+use Rattle.std.proofs.lemmas.Option.{slice_get_within}
 use Rattle.cap_gen.specs.Linked.{roles, method_record}
 use Rattle.cap_gen.specs.Record.{package_record}
 use Rattle.cap_package.specs.PackageRecord.{PackageRecord}
@@ -47,7 +48,7 @@ use Rattle.vm_offend.proofs.Accepting.{accepted-typed}
 use Rattle.cap_gen.proofs.Placed.{at_each}
 use Rattle.capcheck_core.specs.declared.verdict.Verdict.{Verdict}
 use Rattle.capcheck_core.specs.declared.verdict.Verdict.TheVariants.{Done, Refused, Limit, Malformed, Usage, ReadFault, StoreFault, Memory}
-use Rattle.capcheck_core.specs.Generate.{generated, run_of, short_of, short_ended, AreRun, ComeOfRuns, HaveEntries, GeneratesIn, IsNew, IsRunOf, RunsAll, TellsParts}
+use Rattle.capcheck_core.specs.Generate.{generated, run_of, short_of, short_ended, AreBegun, AreRun, ComeOfRuns, HaveEntries, GeneratesIn, IsKeptOrBegun, IsNew, IsRunOf, RunsAll, TellsParts}
 use Rattle.capcheck_core.specs.Defend.{ComesTo, method_entered}
 use Rattle.capcheck_core.specs.Outside.{Card, Outside, Untouched, card}
 use Rattle.capcheck_core.specs.Run.{HoldsWords}
@@ -156,16 +157,16 @@ ended_short (ended (endings.Faulted f) s) ending is = absurd (cc)
 
 -- ---- the runs so far
 
--- the first methods were run, and the memory holds the words of what the last of them left
-pub record HaveRun (w : Linked) (k : ℕ) (c : Card) (sum : ℤ) : Type 0 where
+-- the first methods were run, and the memory holds the words of what the last of them left; where none was, it is as it was
+pub record HaveRun (w : Linked) (k : ℕ) (begun c : Card) (sum : ℤ) : Type 0 where
   pub outcomes : List (Outcome Cell)
   pub count : length outcomes ≡ k
   pub come : ComeOfRuns w outcomes
   pub total : sum ≡ fold ◌+ℤ◌ (pos 0) (map short_of outcomes)
-  pub holds : (k ≡ 0) ⊎ IsSomeAnd (slice_get outcomes (k - 1)) (HoldsWords w c)
+  pub holds : ((k ≡ 0) × (c ≡ begun)) ⊎ IsSomeAnd (slice_get outcomes (k - 1)) (HoldsWords w c)
 
-pub none_run : (w : Linked) (c : Card) → HaveRun w 0 c (pos 0)
-none_run w c = record { outcomes = []; count = refl; come = λ k o there. absurd (cc); total = refl; holds = inl refl }
+pub none_run : (w : Linked) (c : Card) → HaveRun w 0 c c (pos 0)
+none_run w c = record { outcomes = []; count = refl; come = λ k o there. absurd (cc); total = refl; holds = inl (refl, refl) }
 
 -- what stands in a list to which one is appended
 there_or_last : {X : Type 0} (xs : List X) (x y : X) (n : ℕ) → slice_get (xs ++ x ∷ []) n ≡ Some y
@@ -201,9 +202,9 @@ sum_more start [] o = refl
 sum_more start (p ∷ ps) o = sum_more (start +ℤ short_of p) ps o
 
 -- one more
-pub one_run_more : (w : Linked) (k : ℕ) (before c : Card) (sum more : ℤ) (ending : PlainEnding) → HaveRun w k before sum → IsRunOf w k c ending
-    → more ≡ sum +ℤ short_ended ending → HaveRun w (k + 1) c more
-one_run_more w k before c sum more ending have is adds =
+pub one_run_more : (w : Linked) (k : ℕ) (begun before c : Card) (sum more : ℤ) (ending : PlainEnding) → HaveRun w k begun before sum → IsRunOf w k c ending
+    → more ≡ sum +ℤ short_ended ending → HaveRun w (k + 1) begun c more
+one_run_more w k begun before c sum more ending have is adds =
     let o = is.outcome in
     let os = have.outcomes in
     let count : length (os ++ o ∷ []) ≡ k + 1 = length_more os o ∙ ap (λ n. n + 1) have.count in
@@ -219,18 +220,50 @@ one_run_more w k before c sum more ending have is adds =
           (subst (λ found. IsSomeAnd found (HoldsWords w c)) (sym there) is.holds));
     }
 
-held_last : (w : Linked) (c : Card) (os : List (Outcome Cell)) → (◌≡◌ {A = ℕ} 200 0) ⊎ IsSomeAnd (slice_get os 199) (HoldsWords w c)
+held_last : (w : Linked) (begun c : Card) (os : List (Outcome Cell)) → ((◌≡◌ {A = ℕ} 200 0) × (c ≡ begun)) ⊎ IsSomeAnd (slice_get os 199) (HoldsWords w c)
     → IsSomeAnd (slice_get os 199) (HoldsWords w c)
-held_last w c os (inl none) = absurd (cc)
-held_last w c os (inr holds) = holds
+held_last w begun c os (inl none) = let zero_is = none.0 in absurd (cc)
+held_last w begun c os (inr holds) = holds
 
-pub all_run : (w : Linked) (c : Card) (sum : ℤ) → HaveRun w 200 c sum → AreRun w c sum
-all_run w c sum have = record {
+pub all_run : (w : Linked) (begun c : Card) (sum : ℤ) → HaveRun w 200 begun c sum → AreRun w c sum
+all_run w begun c sum have = record {
   outcomes = have.outcomes;
   count = have.count;
   come = have.come;
   total = have.total;
-  holds = held_last w c have.outcomes have.holds;
+  holds = held_last w begun c have.outcomes have.holds;
+}
+
+-- they are begun, or the memory is as it was
+pub some_run : (w : Linked) (k : ℕ) (begun c : Card) (sum : ℤ) → k ≤ 200 → HaveRun w k begun c sum → IsKeptOrBegun w begun c
+some_run w k begun c sum most have = by have.holds
+  where
+    by : ((k ≡ 0) × (c ≡ begun)) ⊎ IsSomeAnd (slice_get have.outcomes (k - 1)) (HoldsWords w c) → IsKeptOrBegun w begun c
+    by (inl none) = inl none.1
+    by (inr holds) = from (slice_get have.outcomes (k - 1)) refl holds
+      where
+        from : (o : Option (Outcome Cell)) → slice_get have.outcomes (k - 1) ≡ o → IsSomeAnd o (HoldsWords w c) → IsKeptOrBegun w begun c
+        from None at h = absurd h
+        from (Some o) at h =
+            let below = slice_get_within have.outcomes (k - 1) o at in
+            let count = have.count in
+            inr (record {
+              outcomes = have.outcomes;
+              last = k - 1;
+              few = omega (arith, most, below, count);
+              count = have.count ∙ omega (arith, below, count);
+              come = have.come;
+              holds = holds;
+            })
+
+pub run_begun : (w : Linked) (c : Card) (sum : ℤ) → AreRun w c sum → AreBegun w c
+run_begun w c sum run = record {
+  outcomes = run.outcomes;
+  last = 199;
+  few = omega arith;
+  count = run.count;
+  come = run.come;
+  holds = run.holds;
 }
 
 -- in the whole memory of a card
@@ -247,6 +280,29 @@ run_wider w ram heap fields others sum long run = record {
     by : (o : Option (Outcome Cell)) → IsSomeAnd o (HoldsWords w (card ram heap fields)) → IsSomeAnd o (HoldsWords w (card ram heap (fields ++ others)))
     by None h = h
     by (Some o) h = wider w ram heap fields others o long h
+
+pub begun_wider : (w : Linked) (ram heap fields others : List ℕ) (begun : Card) → length fields ≡ static_cells w
+    → IsKeptOrBegun w begun (card ram heap fields) → IsKeptOrBegun w (card begun.ram begun.heap (begun.statics ++ others)) (card ram heap (fields ++ others))
+begun_wider w ram heap fields others begun long (inl same) = inl (ap (λ (c : Card). card c.ram c.heap (c.statics ++ others)) same)
+begun_wider w ram heap fields others begun long (inr some) = inr (record {
+  outcomes = some.outcomes;
+  last = some.last;
+  few = some.few;
+  count = some.count;
+  come = some.come;
+  holds = by (slice_get some.outcomes some.last) some.holds;
+})
+  where
+    by : (o : Option (Outcome Cell)) → IsSomeAnd o (HoldsWords w (card ram heap fields)) → IsSomeAnd o (HoldsWords w (card ram heap (fields ++ others)))
+    by None h = h
+    by (Some o) h = wider w ram heap fields others o long h
+
+pub begun_in_card : {E : Type 0} (w : Linked) (ram heap fields others whole : List ℕ) (begun : Card) (end : Result ℤ E) → length fields ≡ static_cells w
+    → begun.statics ++ others ≡ whole → OnErr end (IsKeptOrBegun w begun (card ram heap fields))
+    → OnErr end (IsKeptOrBegun w (card begun.ram begun.heap whole) (card ram heap (fields ++ others)))
+begun_in_card w ram heap fields others whole begun (Ok sum) long is some = tt {0}
+begun_in_card w ram heap fields others whole begun (Err e) long is some =
+    subst (λ all. IsKeptOrBegun w (card begun.ram begun.heap all) (card ram heap (fields ++ others))) is (begun_wider w ram heap fields others begun long some)
 
 -- what comes of one run, from what its machine did
 pub one_run : (w : Linked) (k number : ℕ) (m after : Machine) (ram heap statics ram_after heap_after statics_after : List ℕ) (ending : PlainEnding)
@@ -311,12 +367,12 @@ entries_there seed w new parts size linked world n alike numbered =
 pub carded_there : (seed : ℕ) (w new : Linked) (parts : List Lent) (size : ℕ) → IsNew seed w parts new size → HaveCardTypings new
 carded_there seed w new parts size n = subst HaveCardTypings n.world n.made.anew.carded
 
-pub told_of : {E : Type 0} (seed : ℕ) (w new : Linked) (parts : List Lent) (c : Card) (size made_size : ℕ) (sum : ℤ) (text : Result _ E) (verdict : Verdict)
+pub told_of : {E : Type 0} (seed : ℕ) (w new : Linked) (parts : List Lent) (before c : Card) (size made_size : ℕ) (sum : ℤ) (text : Result _ E) (verdict : Verdict)
     → IsNew seed w parts new made_size → size ≡ length (method_info seed) → RunsAll new c sum → IfOk text (λ t. string_bytes t ≡ generate_text size made_size sum)
-    → MatchResult text (λ t. verdict ≡ Done t) (λ _. verdict ≡ Memory) → TellsParts seed w parts c verdict
-told_of seed w new parts c size made_size sum (Ok t) verdict n is runs says result =
+    → MatchResult text (λ t. verdict ≡ Done t) (λ _. verdict ≡ Memory) → TellsParts seed w parts before c verdict
+told_of seed w new parts before c size made_size sum (Ok t) verdict n is runs says result =
     let there : RunsAll n.made.world c sum = subst (λ v. RunsAll v c sum) (sym n.world) runs in
-    subst (TellsParts seed w parts c) (sym result) (
+    subst (TellsParts seed w parts before c) (sym result) (
       n.made,
       record {
         carded = there.0;
@@ -326,15 +382,21 @@ told_of seed w new parts c size made_size sum (Ok t) verdict n is runs says resu
         prints = says ∙ (ap (λ k. generate_text k made_size sum) is ∙ ap (λ k. generate_text (length (method_info seed)) k sum) n.is_size);
       },
     )
-told_of seed w new parts c size made_size sum (Err e) verdict n is runs says result = subst (TellsParts seed w parts c) (sym result) (n.made, tt {0})
+told_of seed w new parts before c size made_size sum (Err e) verdict n is runs says result =
+    let there : RunsAll n.made.world c sum = subst (λ v. RunsAll v c sum) (sym n.world) runs in
+    subst (TellsParts seed w parts before c) (sym result) (n.made, inr (run_begun n.made.world c sum there.2))
+
+-- without memory for its world nothing is run
+pub untold_there : (seed : ℕ) (w : Linked) (parts : List Lent) (c : Card) → IsTransformed (generated seed) roles w parts → TellsParts seed w parts c c Memory
+untold_there seed w parts c made = (made, inl refl)
 
 -- all is stored, and of it is told
 pub all_told : (g : GenerateRequest) (w : Linked) (parts stores : List Lent) (before after : Outside) (verdict : Verdict) → AreInOrder parts (Some roles) stores
-    → AreStored g.out stores before.folders after.folders → TellsParts g.seed w parts after.card verdict → GeneratesIn g w before after verdict
+    → AreStored g.out stores before.folders after.folders → TellsParts g.seed w parts before.card after.card verdict → GeneratesIn g w before after verdict
 all_told g w parts stores before after (Done text) order stored told =
     record { stored = record { stores = stores; brings = record { parts = parts; made = told.0; order = order }; stored = stored }; told = told.1 }
 all_told g w parts stores before after Memory order stored told =
-    inr (record { stores = stores; brings = record { parts = parts; made = told.0; order = order }; stored = stored })
+    inr (record { stored = record { stores = stores; brings = record { parts = parts; made = told.0; order = order }; stored = stored }; card = told.1 })
 all_told g w parts stores before after (Refused text) order stored told = absurd told.1
 all_told g w parts stores before after (Limit text) order stored told = absurd told.1
 all_told g w parts stores before after (Malformed text) order stored told = absurd told.1

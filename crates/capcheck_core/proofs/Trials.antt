@@ -117,12 +117,13 @@ tried packages roles w parts new r steps c source target text has count d run pr
 
 -- ---- where nothing ran in the card's memory
 
-pub untried_there : (c : Card) (verdict : Verdict) → IsUntriedKept c c verdict
-untried_there c (Done text) = tt {0}
-untried_there c (Refused text) = refl
-untried_there c (Limit text) = refl
-untried_there c (Malformed text) = refl
-untried_there c Usage = refl
-untried_there c ReadFault = refl
-untried_there c StoreFault = refl
-untried_there c Memory = tt {0}
+pub untried_there : (packages : List PackageRecord) (roles : List ℕ) (w : Linked) (r : RunRequest) (c : Card) (verdict : Verdict)
+    → IsUntriedKept packages roles w r c c verdict
+untried_there packages roles w r c (Done text) = tt {0}
+untried_there packages roles w r c (Refused text) = refl
+untried_there packages roles w r c (Limit text) = refl
+untried_there packages roles w r c (Malformed text) = refl
+untried_there packages roles w r c Usage = refl
+untried_there packages roles w r c ReadFault = refl
+untried_there packages roles w r c StoreFault = refl
+untried_there packages roles w r c Memory = inl refl

@@ -1,6 +1,6 @@
 -- What `gen` may answer, by its number, what it stores, and what it leaves in the memory of the card (JCVM 2.2, chapter 6; Leroy 2002,
 -- sections 3 and 4).
-use Rattle.std.specs.Prelude.{◌≡◌, ℕ, ℤ, pos, ◌*◌, ◌/◌, ◌%◌, ◌+ℤ◌, ◌≤ℤ◌, neg_ℤ, List, [], ◌∷◌, length, map, IsSomeAnd, string_bytes, ◌⊎◌, ◌<◌, None, Some, fold, slice_get}
+use Rattle.std.specs.Prelude.{◌≡◌, ℕ, ℤ, pos, ◌+◌, ◌*◌, ◌/◌, ◌%◌, ◌+ℤ◌, ◌≤ℤ◌, neg_ℤ, List, [], ◌∷◌, length, map, IsSomeAnd, string_bytes, ◌⊎◌, ◌<◌, None, Some, fold, slice_get}
 use Rattle.cap_gen.specs.Linked.{roles}
 use Rattle.cap_gen.specs.Methods.{method_info}
 use Rattle.cap_gen.specs.Record.{package_record}
@@ -62,6 +62,19 @@ pub record AreRun (w : Linked) (c : Card) (sum : ℤ) : Type 0 where
   pub total : sum ≡ fold ◌+ℤ◌ (pos 0) (map short_of outcomes)
   pub holds : IsSomeAnd (slice_get outcomes 199) (HoldsWords w c)
 
+-- the first of them, at least one, are run one after the other, and the memory holds the words of what the last of these leaves
+pub record AreBegun (w : Linked) (c : Card) : Type 0 where
+  pub outcomes : List (Outcome Cell)
+  pub last : ℕ
+  pub few : last < 200
+  pub count : length outcomes ≡ last + 1
+  pub come : ComeOfRuns w outcomes
+  pub holds : IsSomeAnd (slice_get outcomes last) (HoldsWords w c)
+
+-- the memory is as it was, or they are run in it, as far as they were begun
+abbrev pub IsKeptOrBegun : Linked → Card → Card → Type 0
+IsKeptOrBegun w before after = (after ≡ before) ⊎ AreBegun w after
+
 -- ---- the answers
 
 -- the package that is generated, alone
@@ -88,6 +101,11 @@ pub record IsGenerated (g : GenerateRequest) (w : Linked) (before after : Outsid
   pub stored : IsStored g w before after
   pub told : IsTold g.seed stored.brings.made.made stored.brings.made.world after.card text
 
+-- they are stored, and then there is no memory to run all methods or to tell of them
+pub record IsUntold (g : GenerateRequest) (w : Linked) (before after : Outside) : Type 0 where
+  pub stored : IsStored g w before after
+  pub card : IsKeptOrBegun stored.brings.made.world before.card after.card
+
 -- the answers where the generated package makes this world. Where a limit were passed, or there is no memory, nothing is stored; but there
 -- may be no memory for the rest after all is stored. Before that the card's memory is as it was
 abbrev pub GeneratesIn : GenerateRequest → Linked → Outside → Outside → Verdict → Type 0
@@ -96,7 +114,7 @@ GeneratesIn g w before after StoreFault =
     IsBroughtInPart (generated g.seed) roles w g.out before.folders after.folders × (after.card ≡ before.card)
 GeneratesIn g w before after (Limit text) =
     Untouched before after × (SaysLimited w (string_bytes text) ⊎ SaysLong (generated g.seed) w (string_bytes text))
-GeneratesIn g w before after Memory = Untouched before after ⊎ IsStored g w before after
+GeneratesIn g w before after Memory = Untouched before after ⊎ IsUntold g w before after
 GeneratesIn g w before after _ = ⊥
 
 -- the outside is as it was when the command began, and as it is afterwards; there may be no memory for the generated package's world
@@ -140,11 +158,12 @@ pub record IsNew (seed : ℕ) (w : Linked) (parts : List Lent) (new : Linked) (s
   pub is_size : size ≡ length made.made.methods.info
 
 -- the answers where all is stored, by the package that the parts stand for and its world
-abbrev pub TellsNew : ℕ → PackageRecord → Linked → Card → Verdict → Type 0
-TellsNew seed made w c (Done text) = IsTold seed made w c (string_bytes text)
-TellsNew seed made w c Memory = Unit {0}
-TellsNew seed made w c _ = ⊥
+abbrev pub TellsNew : ℕ → PackageRecord → Linked → Card → Card → Verdict → Type 0
+TellsNew seed made w before after (Done text) = IsTold seed made w after (string_bytes text)
+TellsNew seed made w before after Memory = IsKeptOrBegun w before after
+TellsNew seed made w before after _ = ⊥
 
 -- the same by the parts
-abbrev pub TellsParts : ℕ → Linked → List Lent → Card → Verdict → Type 0
-TellsParts seed w parts c verdict = (made : IsTransformed (generated seed) roles w parts) × TellsNew seed made.made made.world c verdict
+abbrev pub TellsParts : ℕ → Linked → List Lent → Card → Card → Verdict → Type 0
+TellsParts seed w parts before after verdict =
+    (made : IsTransformed (generated seed) roles w parts) × TellsNew seed made.made made.world before after verdict

@@ -1,6 +1,6 @@
 -- What `trial` may answer, by the packages and the roles in its folders, and what it leaves in the memory of the card
 -- (Leroy 2002, sections 3 and 4).
-use Rattle.std.specs.Prelude.{◌≡◌, ℕ, ◌*◌, List, string_bytes}
+use Rattle.std.specs.Prelude.{◌≡◌, ◌⊎◌, ℕ, ◌*◌, List, string_bytes}
 use Rattle.cap_package.specs.PackageRecord.{PackageRecord}
 use Rattle.cap_package.specs.Parts.{Lent}
 use Rattle.jc_base.specs.World.{Linked}
@@ -53,16 +53,17 @@ TriesIn packages roles w r c (Done text) = IsTried packages roles w r c (string_
 TriesIn packages roles w r c (Malformed text) = IsUntried packages roles w r (string_bytes text)
 TriesIn packages roles w r c verdict = StopsBefore packages w verdict
 
--- where nothing ran in it, the card's memory is as it was; after both runs there may be no memory for the text
-abbrev pub IsUntriedKept : Card → Card → Verdict → Type 0
-IsUntriedKept before after (Done text) = Unit {0}
-IsUntriedKept before after Memory = Unit {0}
-IsUntriedKept before after verdict = after ≡ before
+-- where nothing ran in it, the card's memory is as it was; there may be no memory for the text that tells of both runs
+abbrev pub IsUntriedKept : List PackageRecord → List ℕ → Linked → RunRequest → Card → Card → Verdict → Type 0
+IsUntriedKept packages roles w r before after (Done text) = Unit {0}
+IsUntriedKept packages roles w r before after Memory = (after ≡ before) ⊎ ((text : List ℕ) × IsTried packages roles w r after text)
+IsUntriedKept packages roles w r before after verdict = after ≡ before
 
 -- its last step: it runs the entry twice, the second time in the memory of the card, and leaves the folders as they are
 abbrev pub TriesWorld : RunRequest → Own
 TriesWorld r packages roles w before after verdict =
-    (after.folders ≡ before.folders) × TriesIn packages roles w r after.card verdict × IsUntriedKept before.card after.card verdict
+    (after.folders ≡ before.folders) × TriesIn packages roles w r after.card verdict
+    × IsUntriedKept packages roles w r before.card after.card verdict
 
 -- the outside is as it was when the command began, and as it is afterwards
 abbrev pub Tries : RunRequest → Outside → Outside → Verdict → Type 0

@@ -1,12 +1,12 @@
 //! `gen`: a package from a number, in the form that a verifier on the card accepts, and the runs of its methods.
-ghost use Rattle.std.specs.Prelude.{◌≡◌, ◌<◌, ◌+◌, ◌+ℤ◌, [], ◌∷◌, length, IfOk};
+ghost use Rattle.std.specs.Prelude.{◌≡◌, ◌<◌, ◌+◌, ◌+ℤ◌, [], ◌∷◌, length, IfOk, OnErr};
 ghost use Rattle.cap_gen.specs.Linked.{roles};
 ghost use Rattle.cap_gen.specs.Methods.{method_info};
 ghost use Rattle.cap_text.specs.Generate.{generate_request};
 ghost use Rattle.jc_link.specs.World.{IsLinked};
 ghost use Rattle.vm_offend.specs.Sized.{AreSized};
 ghost use Rattle.xf_pack.specs.Transformed.{IsTransformed};
-ghost use Rattle.capcheck_core.specs.Generate.{generated, run_of, short_ended, AreRun, GeneratesIn, Generates, HasEntry, HaveEntries, IsNew, IsRunOf, IsSumOfShorts, RunsAll, TellsParts};
+ghost use Rattle.capcheck_core.specs.Generate.{generated, run_of, short_ended, AreRun, GeneratesIn, Generates, HasEntry, HaveEntries, IsKeptOrBegun, IsNew, IsRunOf, IsSumOfShorts, RunsAll, TellsParts};
 ghost use Rattle.capcheck_core.specs.Outside.{outside, card};
 ghost use Rattle.capcheck_core.specs.Run.{HasLengths};
 ghost use Rattle.capcheck_core.specs.Verify.{HaveCardTypings};
@@ -141,6 +141,7 @@ fn store<F: Folder>(
 }
 
 // Links what was stored.
+#[tactic(auto, using(crate::proofs::Generates::untold_there))]
 fn run_stored(
     alloc: Global,
     seed: u32,
@@ -155,7 +156,8 @@ fn run_stored(
     requires linked { IsLinked (generated seed) roles world.now }
     requires made { IsTransformed (generated seed) roles world.now parts.now }
     requires size { size ≡ length (method_info seed) }
-    ensures { TellsParts seed world.now parts.now (card ram.new heap.new statics.new) result }
+    ensures { TellsParts seed world.now parts.now (card ram.old heap.old statics.old)
+        (card ram.new heap.new statics.new) result }
 {
     let Ok(lent) = parts.lend(alloc) else {
         return Verdict::Memory;
@@ -191,7 +193,8 @@ fn run_new(
     requires linked { IsLinked (generated _seed) roles world.now }
     requires made { IsNew _seed world.now _parts.now new.now made_size }
     requires size { size ≡ length (method_info _seed) }
-    ensures { TellsParts _seed world.now _parts.now (card ram.new heap.new statics.new) result }
+    ensures { TellsParts _seed world.now _parts.now (card ram.old heap.old statics.old)
+        (card ram.new heap.new statics.new) result }
 {
     starts_refuse_alike(world);
     let _whole = world.classes();
@@ -213,7 +216,8 @@ fn sum_of(
     requires card { HasLengths (card ram.old heap.old statics.old) }
     requires carded { HaveCardTypings world.now }
     requires entries { HaveEntries world.now }
-    ensures { IfOk result (RunsAll world.now (card ram.new heap.new statics.new)) }
+    ensures runs { IfOk result (RunsAll world.now (card ram.new heap.new statics.new)) }
+    ensures begun { OnErr result (IsKeptOrBegun world.now (card ram.old heap.old statics.old) (card ram.new heap.new statics.new)) }
 {
     typed_code_never_fails(world);
     let mut room = CardRoom::new();
@@ -241,6 +245,7 @@ fn run_all(
     requires entries { HaveEntries accepted.now }
     requires sized { AreSized accepted.now ram.old heap.old statics.old }
     ensures runs { IfOk result (AreRun accepted.now (card ram.new heap.new statics.new)) }
+    ensures begun { OnErr result (IsKeptOrBegun accepted.now (card ram.old heap.old statics.old) (card ram.new heap.new statics.new)) }
     ensures length { length statics.new ≡ length statics.old }
 {
     let mut sum = 0i32;

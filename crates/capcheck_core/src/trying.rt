@@ -40,7 +40,8 @@ pub(crate) fn try_last(
     requires card { HasLengths (card ram.old heap.old statics.old) }
     requires linked { IsLinked packages.now roles world.now }
     ensures tries { TriesIn packages.now roles world.now (run_request run.now) (card ram.new heap.new statics.new) result }
-    ensures kept { IsUntriedKept (card ram.old heap.old statics.old) (card ram.new heap.new statics.new) result }
+    ensures kept { IsUntriedKept packages.now roles world.now (run_request run.now)
+        (card ram.old heap.old statics.old) (card ram.new heap.new statics.new) result }
 {
     match transform_linked(alloc, packages, roles, world) {
         Ok(parts) => try_parts(
@@ -66,7 +67,8 @@ fn try_parts(
     requires linked { IsLinked packages.now roles world.now }
     requires made { IsTransformed packages.now roles world.now parts.now }
     ensures tries { TriesIn packages.now roles world.now (run_request run.now) (card ram.new heap.new statics.new) result }
-    ensures kept { IsUntriedKept (card ram.old heap.old statics.old) (card ram.new heap.new statics.new) result }
+    ensures kept { IsUntriedKept packages.now roles world.now (run_request run.now)
+        (card ram.old heap.old statics.old) (card ram.new heap.new statics.new) result }
 {
     match defend(alloc, world, run) {
         Verdict::Done(source) => try_new(
@@ -105,7 +107,8 @@ fn try_new(
     requires made { IsTransformed packages.now roles world.now parts.now }
     requires defended { IsDefended world.now (run_request run.now) source.now }
     ensures tries { TriesIn packages.now roles world.now (run_request run.now) (card ram.new heap.new statics.new) result }
-    ensures kept { IsUntriedKept (card ram.old heap.old statics.old) (card ram.new heap.new statics.new) result }
+    ensures kept { IsUntriedKept packages.now roles world.now (run_request run.now)
+        (card ram.old heap.old statics.old) (card ram.new heap.new statics.new) result }
 {
     let Ok(lent) = parts.lend(alloc) else {
         return Verdict::Memory;
@@ -159,7 +162,8 @@ fn run_new(
     requires made { HasNew _packages.now _roles world.now _parts.now new.now }
     requires defended { IsDefended world.now (run_request run.now) source.now }
     ensures tries { TriesIn _packages.now _roles world.now (run_request run.now) (card ram.new heap.new statics.new) result }
-    ensures kept { IsUntriedKept (card ram.old heap.old statics.old) (card ram.new heap.new statics.new) result }
+    ensures kept { IsUntriedKept _packages.now _roles world.now (run_request run.now)
+        (card ram.old heap.old statics.old) (card ram.new heap.new statics.new) result }
 {
     starts_refuse_alike(world);
     let steps = STEPS_EACH * u64::from(run.budget);

@@ -40,7 +40,7 @@ abbrev pub cells_with : TypeItem → Ty → List Ty
 cells_with t ty = if t.nibble == 5 then IntHigh ∷ IntLow ∷ [] else ty ∷ []
 
 abbrev pub cells_of_type : List PackageRecord → ℕ → ℕ → TypeItem → List Ty
-cells_of_type ps object k t = if t.nibble == 5 then IntHigh ∷ IntLow ∷ [] else type_of ps object k t ∷ []
+cells_of_type ps object k t = cells_with t (type_of ps object k t)
 
 -- how a field keeps a value of a type: boolean and byte as a byte
 unfoldable pub kind_of : TypeItem → Kind

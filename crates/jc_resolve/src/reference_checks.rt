@@ -15,14 +15,10 @@ ghost use Rattle.jc_resolve.specs.References.{class_named};
 use crate::class_index::Index;
 use crate::fault::LinkFault;
 use crate::least::lesser;
+use crate::world_types::{ARRAY, REFERENCE};
 use cap_bytes::Table;
 use cap_desc::{DescClass, DescClasses, DescFields, DescPart, TypeItem};
 use cap_package::{Package, Packages, field_type};
-
-/// The nibbles of a reference and of an array of references.
-const REFERENCE: u8 = 6;
-
-const ARRAY: u8 = 14;
 
 #[tactic(auto, unfolding(crate::specs::Conditions::no_class_fault))]
 fn reference_fault(index: &Index<'_, '_, '_>, package: u16, reference: u16) -> Option<LinkFault>

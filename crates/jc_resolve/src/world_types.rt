@@ -20,9 +20,9 @@ const VOID: u8 = 1;
 
 const INT: u8 = 5;
 
-const REFERENCE: u8 = 6;
+pub(crate) const REFERENCE: u8 = 6;
 
-const ARRAY: u8 = 14;
+pub(crate) const ARRAY: u8 = 14;
 
 /// The class as which a type knows what was named: object where that is an interface, or no class.
 fn class_or_object(index: &Index<'_, '_, '_>, object: u16, named: Option<u16>) -> u16
@@ -48,7 +48,7 @@ fn type_class(index: &Index<'_, '_, '_>, object: u16, package: u16, reference: u
     class_or_object(index, object, index.class_named(package, reference))
 }
 
-/// The same, where a reference that names no class is counted in the least fault so far.
+/// The same; a reference that names no class is counted in the least fault so far.
 fn type_class_checked(
     index: &Index<'_, '_, '_>,
     object: u16,
@@ -80,7 +80,7 @@ pub(crate) fn type_of(index: &Index<'_, '_, '_>, object: u16, package: u16, item
     }
 }
 
-/// The type of a value, where a reference that names no class is counted in the least fault so far.
+/// The type of a value; a reference in it that names no class is counted in the least fault so far.
 #[tactic(auto, unfolding(crate::specs::WorldTypes::type_of))]
 fn type_checked(
     index: &Index<'_, '_, '_>,

@@ -6,7 +6,7 @@ use Rattle.capcheck_core.proofs.generating.run_all.Given as goal
 
 abbrev pub invariant-methods : goal.invariant-methods
 invariant-methods l = record {
-  run : HaveRun l.accepted l.number (card l.ram l.heap l.statics) l.sum;
+  run : HaveRun l.accepted l.number (card l.initial.ram l.initial.heap l.initial.statics) (card l.ram l.heap l.statics) l.sum;
   sized : AreSized l.accepted l.ram l.heap l.statics;
   sum : IsSumOfShorts l.number l.sum;
 }
