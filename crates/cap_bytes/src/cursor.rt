@@ -2,7 +2,8 @@ ghost use Rattle.std.specs.Prelude.{◌≤◌, length};
 
 use crate::view::View;
 
-/// The items of a component's info, taken one after the other from the first on.
+/// The items of a component's info, taken one after the other from the first on. After an error it is open where the
+/// cursor stands: nothing more is taken then.
 #[derive(Clone, Copy)]
 pub struct Cursor<'a> {
     pub info: View<'a>,

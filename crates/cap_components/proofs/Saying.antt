@@ -35,7 +35,7 @@ info-read parts tag g info items h = rw (h.there, reading_where (file_of tag) (c
 items_read : {X : Type 0} (parts : List Lent) (tag : ℕ) (g : Grammar X) (info : List ℕ) (items : X) → Holds parts tag g info items → formed (reading (info_of tag) g info) ≡ Ok items
 items_read parts tag g info items h = ap formed (reading_where (info_of tag) g info items h.said)
 
-part_read : {X : Type 0} (parts : List Lent) (tag : ℕ) (g : Grammar X) (items : X) → Says parts tag g items → read_part g tag parts ≡ Ok items
+pub part_read : {X : Type 0} (parts : List Lent) (tag : ℕ) (g : Grammar X) (items : X) → Says parts tag g items → read_part g tag parts ≡ Ok items
 unfolding read_part
 part_read parts tag g items h = rw (info-read parts tag g h.0 items h.1) (items_read parts tag g h.0 items h.1)
 
@@ -79,7 +79,7 @@ then_ok : {A B : Type 0} (r : Result A PackFault) (next : A → Result B PackFau
 then_ok (Ok x) next y h = (x, refl, h)
 then_ok (Err e) next y h = absurd cc
 
-formed_ok : {X : Type 0} (r : Result X FormFault) (x : X) → formed r ≡ Ok x → r ≡ Ok x
+pub formed_ok : {X : Type 0} (r : Result X FormFault) (x : X) → formed r ≡ Ok x → r ≡ Ok x
 formed_ok (Ok y) x h = cc
 formed_ok (Err e) x h = absurd cc
 

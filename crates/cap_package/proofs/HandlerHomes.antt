@@ -1,5 +1,6 @@
 -- The entries of the handler table that have a home, as the claims of methods tell it.
 use Rattle.std.proofs.Common.{◌≡◌, ℕ, ◌+◌, ◌<◌, ◌≤◌, Bool, true, false, cond, eqb, leb, ltb, ◌&&◌, ◌||◌, not, List, [], ◌∷◌, length, fold, filter, Option, Some, None, refl, sym, ap, ◌∙◌, inl, inr, arith, eq-eqb, ne_eqb, leb-true, le-ltb}
+use Rattle.std.proofs.lemmas.Bool.{cond-false}
 use Rattle.offset_set.specs.Tallies.{with_one}
 use Rattle.cap_method.specs.declared.handler.HandlerInfo.{HandlerInfo}
 use Rattle.cap_desc.specs.DescriptorFormat.{Method}
@@ -192,14 +193,10 @@ claims_by m n true e none =
     le-ltb n (m.handler_index + m.handler_count) (omega (arith, le, none))
 claims_by m n false e none = refl
 
-not_chosen : {X : Type 0} (b : Bool) (x y : X) → b ≡ false → cond b x y ≡ y
-not_chosen true x y e = absurd cc
-not_chosen false x y e = refl
-
 claims_none : (info : List ℕ) (p : ℕ × HandlerInfo) (c : Claimed) (m : Method) → m.handler_count ≡ 0 → claim_one info m c p ≡ c
 unfolding claim_one
 claims_none info p c m none =
-    not_chosen (claims p.0 m) (record {
+    cond-false (claims p.0 m) (record {
       owned = with_one c.owned p.0;
       strays =
           cond (is_within info p.1 m) c.strays (λ o. eqb p.0 o || c.strays o);

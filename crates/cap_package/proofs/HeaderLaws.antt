@@ -6,8 +6,8 @@ use Rattle.cap_bytes.specs.Spelling.{Spells, info_of}
 use Rattle.cap_bytes.proofs.Laws.{spelled-read}
 use Rattle.cap_method.specs.MethodFormat.{Header, method_flags, header_after, header_info}
 use Rattle.cap_desc.specs.DescriptorFormat.{Method}
-use Rattle.cap_components.specs.declared.fault.PackFault.TheVariants.{MethodOutside}
-use Rattle.cap_package.specs.HeaderChecks.{header_in}
+use Rattle.cap_components.specs.declared.fault.PackFault.TheVariants.{MethodOutside, TooManyRegisters}
+use Rattle.cap_package.specs.HeaderChecks.{header_in, registers_fault}
 use Rattle.cap_package.specs.MethodChecks.{size_by, code_start, code_end, outside_fault}
 
 -- a byte that is there
@@ -85,3 +85,14 @@ has-header info m h =
     let least = size_least (number_at 1 m.method_offset info) in
     let first = byte_at info m.method_offset (omega arith) in
     header_at info m.method_offset first.0 first.1 (omega arith)
+
+-- ---- registers
+
+registers_most : (m : Method) (h : Header) (b : Bool) → ltb 255 (h.nargs + h.max_locals) ≡ b → cond b (Some (TooManyRegisters m.method_offset (h.nargs + h.max_locals))) None ≡ None → h.nargs + h.max_locals ≤ 255
+registers_most m h true e none = absurd cc
+registers_most m h false e none = ltb-false 255 (h.nargs + h.max_locals) e
+
+-- a method that has not too many registers has at most 255
+pub few_registers : (info : List ℕ) (m : Method) (h : Header) → header_in info m.method_offset ≡ Some h → registers_fault info m ≡ None → h.nargs + h.max_locals ≤ 255
+unfolding registers_fault
+few_registers info m h at none = registers_most m h (ltb 255 (h.nargs + h.max_locals)) refl (rw at at none)

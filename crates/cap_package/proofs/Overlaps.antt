@@ -6,8 +6,7 @@ use Rattle.std.proofs.lemmas.List.Elements.{filter_map-append}
 use Rattle.first_fault.specs.Order.{two}
 use Rattle.first_fault.proofs.LeastFaults.{least_in, least-at_fault}
 use Rattle.offset_set.specs.Sets.{nearest}
-use Rattle.offset_set.specs.Tallies.{Tallied, none_counted, with_all, counted, IsNearest}
-use Rattle.offset_set.proofs.Tallying.{all-counted}
+use Rattle.offset_set.specs.Tallies.{Tallied, counted, IsNearest}
 use Rattle.offset_set.proofs.Next.{is-nearest}
 use Rattle.cap_bytes.specs.Number.{number_at}
 use Rattle.cap_desc.specs.DescriptorFormat.{Method, Field}
@@ -23,10 +22,7 @@ use Rattle.cap_package.proofs.Neighbours.{least-neighbour}
 use Rattle.cap_package.proofs.StaticsKnown.{takes_byte}
 use Rattle.cap_package.proofs.HeaderLaws.{size_least}
 
--- the starts that were counted one after the other, and the nearest of them
-pub counted_all : (starts : List ℕ) → with_all none_counted starts ≡ counted starts
-counted_all starts = all-counted starts
-
+-- the nearest of the starts that were counted
 near_known : (t : Tallied) (starts : List ℕ) (offset : ℕ) (near : Option ℕ) → t ≡ counted starts → IsNearest t offset near → near
     ≡ nearest starts offset
 near_known t starts offset near e h = is-nearest starts offset near (subst (λ k. IsNearest k offset near) e h)
@@ -46,7 +42,7 @@ past_other n a b lt = elim (cases_lt n a) [
 
 -- ---- methods
 
-method_some : (info : List ℕ) (m : Method) → m.method_offset < code_end info m
+pub method_some : (info : List ℕ) (m : Method) → m.method_offset < code_end info m
 unfolding code_start code_end
 method_some info m =
     let some = size_least (number_at 1 m.method_offset info) in

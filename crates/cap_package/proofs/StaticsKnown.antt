@@ -34,7 +34,7 @@ none_of : {X Y : Type 0} (f : X → Option Y) (xs : List X) → filter_map f xs 
 none_of f [] h = tt {0}
 none_of f (x ∷ xs) h = none_first f xs (f x) (none_of f xs) h
 
-both_empty : {X : Type 0} (xs ys : List X) → xs ++ ys ≡ [] → (xs ≡ []) × (ys ≡ [])
+pub both_empty : {X : Type 0} (xs ys : List X) → xs ++ ys ≡ [] → (xs ≡ []) × (ys ≡ [])
 both_empty [] ys h = (refl, h)
 both_empty (x ∷ xs) ys h = absurd cc
 

@@ -19,7 +19,7 @@ use cap_pool::Export;
 use offset_set::{Offsets, Tally};
 
 /// How often the Descriptor describes the class record at each offset.
-#[tactic(auto, using(crate::proofs::Overlaps::counted_all))]
+#[tactic(auto, using(offset_set::proofs::Tallying::all_counted))]
 pub(crate) fn descriptions(descriptors: DescClasses<'_>) -> Tally
     ensures { tallied result ≡ counted (map (λ (d : desc.Class). d.class_ref) (described_left descriptors.entry)) }
 {

@@ -15,7 +15,7 @@ use cap_desc::{MethodInfo, MethodsBut};
 use offset_set::Tally;
 
 /// Where the described methods begin.
-#[tactic(auto, using(crate::proofs::Overlaps::counted_all))]
+#[tactic(auto, using(offset_set::proofs::Tallying::all_counted))]
 pub(crate) fn method_starts(described: MethodsBut<'_, '_>) -> Tally
     ensures { tallied result ≡ counted (map method_start (methods_but_left described.entry)) }
 {

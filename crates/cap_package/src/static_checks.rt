@@ -59,7 +59,7 @@ pub(crate) fn place_in(descriptor: &DescPart<'_>, field: &FieldInfo) -> Option<S
 }
 
 /// Where the static fields begin in the image.
-#[tactic(auto, using(crate::proofs::Overlaps::counted_all))]
+#[tactic(auto, using(offset_set::proofs::Tallying::all_counted))]
 fn static_starts(places: StaticPlaces<'_>) -> Tally
     ensures { tallied result ≡ counted (map static_start (places_left places.entry)) }
 {

@@ -1,6 +1,7 @@
 -- A class record with other offsets in its dispatch tables.
 use Rattle.std.proofs.Common.{◌≡◌, ℕ, zero, suc, ◌+◌, ◌-◌, ◌*◌, ◌%◌, ◌≤◌, List, [], ◌∷◌, ◌++◌, length, map, Bool, true, false, refl, sym, ap, subst, ◌∙◌, arith}
 use Rattle.std.specs.Prelude.{nat_lt}
+use Rattle.std.proofs.lemmas.List.{length-map}
 use Rattle.cap_bytes.specs.declared.format.Format.{Format}
 use Rattle.cap_bytes.specs.Grammar.{Grammar, number, u1, u2, repeat, table, when, at_most, ◌>>=◌, give}
 use Rattle.cap_bytes.specs.Spelling.{Spells, Stands, info_of}
@@ -16,7 +17,7 @@ use Rattle.cap_renewal.specs.ClassEdits.{renewed_class, class_edits, classes_edi
 use Rattle.cap_renewal.specs.Rooms.{TablesFit, AllRooms}
 use Rattle.cap_renewal.specs.Along.{number_edits, two_bytes, table_edits}
 use Rattle.cap_renewal.proofs.Items.{all_inside, all_fit, all_renewed, all_wide}
-use Rattle.cap_renewal.proofs.Numbers.{number_item, number_fit, wide_u2, length_map}
+use Rattle.cap_renewal.proofs.Numbers.{number_item, number_fit, wide_u2}
 
 -- ---- the two tables
 
@@ -104,8 +105,8 @@ tables_renewed to bytes out at t after len s ed =
     let vi = visible_inside to bytes at t after h in
     let two = edited_split (table_edits to (at + 4) t.public) (table_edits to mid t.visible) at mid after bytes out (inside_from (table_edits to (at + 4) t.public) at (at + 4) mid (omega arith) pi) vi ed in
     let one = edited_split [] (table_edits to (at + 4) t.public) at (at + 4) mid bytes out (omega arith) pi two.0 in
-    let cp = length_map to t.public in
-    let cv = length_map to t.visible in
+    let cp = length-map t.public to in
+    let cv = length-map t.visible to in
     let e = h.end in
     let publics = all_renewed u2 (number_edits to) two_bytes to bytes (number_item to bytes) out len h.public_count (at + 4) t.public mid h.public one.1 in
     let visibles = all_renewed u2 (number_edits to) two_bytes to bytes (number_item to bytes) out len h.visible_count mid t.visible after h.visible two.1 in

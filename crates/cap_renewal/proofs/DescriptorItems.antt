@@ -1,6 +1,7 @@
 -- A class descriptor with other numbers of methods.
 use Rattle.std.proofs.Common.{◌≡◌, ℕ, ◌+◌, ◌*◌, ◌≤◌, List, [], length, map, Option, Bool, true, false, refl, sym, subst, ◌∙◌, arith}
 use Rattle.std.specs.Prelude.{if◌then◌else◌}
+use Rattle.std.proofs.lemmas.List.{length-map}
 use Rattle.cap_bytes.specs.Grammar.{u1, u2, repeat, table}
 use Rattle.cap_bytes.specs.Spelling.{Spells, Stands, info_of}
 use Rattle.cap_bytes.proofs.Wide.{read_within}
@@ -14,7 +15,7 @@ use Rattle.cap_renewal.specs.declared.new_methods.NewMethod.{NewMethod}
 use Rattle.cap_renewal.specs.NewMethods.{AreBytes, AreSmall, IsSmall, numbers_of}
 use Rattle.cap_renewal.specs.DescriptorEdits.{method_by, renewed_method, edits_to, method_edits, method_width, methods_edits, before_methods, renewed_class, class_edits, class_width, descriptor_edits, renewed_descriptor}
 use Rattle.cap_renewal.proofs.Items.{IsItem, IsFit, all_inside, all_fit, all_renewed, all_wide, IsRenewing, has_more}
-use Rattle.cap_renewal.proofs.Numbers.{number_small, wide_u2, length_map}
+use Rattle.cap_renewal.proofs.Numbers.{number_small, wide_u2}
 use Rattle.cap_renewal.proofs.News.{small_numbers}
 
 -- ---- a method
@@ -238,7 +239,7 @@ by_renewed false news bytes out at c after len h ed =
     let mid = at + before_methods c in
     let both = edited_split [] (methods_edits news mid c.methods) at mid after bytes out (omega arith) (methods_inside news bytes at c after p) ed in
     let s = both.0 in
-    let count = length_map (renewed_method news) c.methods in
+    let count = length-map c.methods (renewed_method news) in
     let end = p.end in
     class_made out at (record c { methods = map (renewed_method news) c.methods }) after (record {
       byte = p.byte;

@@ -1,5 +1,6 @@
 -- An exported class with other offsets of methods.
 use Rattle.std.proofs.Common.{◌≡◌, ℕ, ◌+◌, ◌*◌, ◌≤◌, List, [], length, map, refl, subst, arith}
+use Rattle.std.proofs.lemmas.List.{length-map}
 use Rattle.cap_bytes.specs.Grammar.{u1, u2, repeat, table}
 use Rattle.cap_bytes.specs.Spelling.{Spells, Stands, info_of}
 use Rattle.cap_bytes.proofs.Wide.{read_within}
@@ -12,7 +13,7 @@ use Rattle.cap_renewal.specs.NewMethods.{AreBytes, KeepsSmall}
 use Rattle.cap_renewal.specs.ExportEdits.{renewed_exported, exported_edits, exported_width, export_edits}
 use Rattle.cap_renewal.specs.Along.{number_edits, two_bytes}
 use Rattle.cap_renewal.proofs.Items.{IsItem, IsFit, all_inside, all_fit, all_renewed, all_wide, IsRenewing, has_more}
-use Rattle.cap_renewal.proofs.Numbers.{number_item, number_fit, wide_u2, length_map}
+use Rattle.cap_renewal.proofs.Numbers.{number_item, number_fit, wide_u2}
 
 record HasExported (bytes : List ℕ) (at : ℕ) (c : Exported) (after : ℕ) : Type 0 where
   field_count : ℕ
@@ -72,7 +73,7 @@ exported_item to bytes = record {
       let end = p.end in
       let mid = at + (4 + 2 * length c.fields) in
       let both = edited_split [] (exported_edits to at c) at mid after bytes out (omega arith) (methods_inside to bytes at c after p) ed in
-      let count = length_map to c.methods in
+      let count = length-map c.methods to in
       exported_made out at (renewed_exported to c) after (record {
         field_count = p.field_count;
         method_count = p.method_count;

@@ -1,6 +1,6 @@
 -- Numbers of two bytes, and tables of them.
-use Rattle.std.proofs.Common.{◌≡◌, ℕ, ◌+◌, ◌<◌, List, length, map, drop, Some, None, Bool, true, false, cond, slice_index, refl, arith}
-use Rattle.std.proofs.lemmas.List.{get_or-drop, length-map}
+use Rattle.std.proofs.Common.{◌≡◌, ℕ, ◌+◌, ◌<◌, List, drop, Some, None, Bool, true, false, cond, slice_index, refl, arith}
+use Rattle.std.proofs.lemmas.List.{get_or-drop}
 use Rattle.byteorder.specs.Endian.{big_from, big_number}
 use Rattle.cap_bytes.specs.Number.{number_at}
 use Rattle.cap_bytes.specs.Grammar.{u2}
@@ -40,6 +40,3 @@ number_fit to bytes are keeps = record { fit = λ at n after h. (keeps.each n (n
 pub wide_u2 : (bytes : List ℕ) (at n after : ℕ) → Spells u2 bytes at n after → after ≡ at + 2
 unfolding Spells
 wide_u2 bytes at n after h = h.2
-
-pub length_map : {X : Type 0} (f : X → X) (xs : List X) → length (map f xs) ≡ length xs
-length_map f xs = length-map xs f

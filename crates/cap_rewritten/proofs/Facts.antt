@@ -1,5 +1,5 @@
 -- What is known of each method before and after.
-use Rattle.std.proofs.Common.{◌≡◌, ◌≤◌, ◌+◌, ℕ, List, [], ◌∷◌, length, map, filter_map, Bool, true, false, Option, Some, None, not, refl, sym, ap, subst, ◌∙◌, arith, ltb-false}
+use Rattle.std.proofs.Common.{◌≡◌, ◌≤◌, ◌+◌, ℕ, List, [], ◌∷◌, length, map, filter_map, Bool, true, false, Option, Some, None, not, refl, sym, ap, subst, ◌∙◌, arith}
 use Rattle.std.specs.Prelude.{if◌then◌else◌, nat_lt, ◌==◌}
 use Rattle.std.specs.Int.RustNames.{bit_and}
 use Rattle.std.proofs.lemmas.Bool.{false≢true, both_ways}
@@ -13,7 +13,7 @@ use Rattle.cap_components.specs.Parts.{Lent}
 use Rattle.cap_components.specs.PackageRecord.{PackageRecord, described_methods, names_interface}
 use Rattle.cap_package.specs.MethodChecks.{code_end, outside_fault}
 use Rattle.cap_package.specs.HeaderChecks.{header_in, is_abstract, is_static, registers_fault, registers_by, length_fault, length_by, arguments_fault, arguments_by, abstract_fault, abstract_by}
-use Rattle.cap_package.proofs.HeaderLaws.{has-header, ends-within}
+use Rattle.cap_package.proofs.HeaderLaws.{has-header, ends-within, few_registers}
 use Rattle.cap_laying.specs.HeaderBytes.{header_of, is_compact}
 use Rattle.cap_laying.specs.Member.{numbers_of}
 use Rattle.jc_decode.specs.declared.symbols.Laid.{Laid}
@@ -94,12 +94,6 @@ pub record WasWell (p : PackageRecord) (m : Method) : Type 0 where
 pub few_by : (b : Bool) (f : PackFault) → (if b then Some f else None) ≡ None → b ≡ false
 few_by true f e = absurd cc
 few_by false f e = refl
-
-few_registers : (info : List ℕ) (m : Method) (h : Header) → header_in info m.method_offset ≡ Some h → registers_fault info m ≡ None → h.nargs + h.max_locals ≤ 255
-unfolding registers_fault
-few_registers info m h there e =
-    let k : registers_by m (Some h) ≡ None = ap (registers_by m) (sym there) ∙ e in
-    ltb-false 255 (h.nargs + h.max_locals) (few_by (nat_lt 255 (h.nargs + h.max_locals)) _ k)
 
 was_well : (p : PackageRecord) (m : Method) → outside_fault p.methods.info (length p.methods.handlers) m ≡ None → registers_fault p.methods.info m ≡ None → arguments_fault p.methods.info p.description m ≡ None → WasWell p m
 was_well p m o r a =

@@ -10,6 +10,7 @@ use Rattle.cap_components.specs.Parts.{Lent}
 use Rattle.cap_components.specs.PackageRecord.{PackageRecord, described_methods, handlers_of}
 use Rattle.cap_package.specs.MethodChecks.{code_start, code_end}
 use Rattle.cap_package.specs.HandlerChecks.{claims, owners, is_within, has_home, entry_fault, claim_fault, numbered, numbered_fault}
+use Rattle.cap_package.proofs.StaticsKnown.{both_empty}
 use Rattle.cap_laying.specs.HandlerTable.{AreInside, entries_at}
 use Rattle.jc_decode.specs.declared.symbols.Laid.{Laid}
 use Rattle.jc_decode.specs.declared.symbols.Handler.{Handler}
@@ -17,7 +18,7 @@ use Rattle.cap_rewritten.specs.Changes.{FormerMethod, Change, changes, sources_f
 use Rattle.cap_rewritten.specs.Written.{IsAs, IsWritten, handlers_in, block_of}
 use Rattle.cap_rewritten.specs.Rewritten.{IsRewritten}
 use Rattle.cap_rewritten.specs.Laying.{IsFor, AreLaidFor}
-use Rattle.cap_rewritten.proofs.Lists.{Each, Has, each_at, each_of, none_each, each_none, none_append, append_none, filter_map_in, filter_alike, has_filter}
+use Rattle.cap_rewritten.proofs.Lists.{Each, Has, each_at, each_of, none_each, each_none, append_none, filter_map_in, filter_alike, has_filter}
 use Rattle.cap_rewritten.proofs.Sums.{sum_beside}
 use Rattle.cap_rewritten.proofs.Owners.{below, is_below, lies_in, Distinct, owned}
 use Rattle.cap_rewritten.proofs.Agreed.{Agrees}
@@ -52,7 +53,7 @@ pub owned_once : (parts : List Lent) (p : PackageRecord) → Agrees parts p → 
 owned_once parts p a i lt =
     let info = p.methods.info in
     let ms = described_methods p in
-    let both = none_append (filter_map (numbered_fault info ms) (numbered 0 p.methods.handlers)) (filter_map (claim_fault (length p.methods.handlers)) ms) a.handlers in
+    let both = both_empty (filter_map (numbered_fault info ms) (numbered 0 p.methods.handlers)) (filter_map (claim_fault (length p.methods.handlers)) ms) a.handlers in
     let at = numbered_at (λ x. numbered_fault info ms x ≡ None) 0 p.methods.handlers (none_each (numbered_fault info ms) (numbered 0 p.methods.handlers) both.0) i lt in
     let e : 0 + i ≡ i = omega arith in
     subst (λ k. length (filter (claims k) ms) ≤ 1) e (one_owner info ms (0 + i) at.0 at.1)
@@ -75,7 +76,7 @@ all_claims parts p a =
     let info = p.methods.info in
     let ms = described_methods p in
     let n = length p.methods.handlers in
-    let both = none_append (filter_map (numbered_fault info ms) (numbered 0 p.methods.handlers)) (filter_map (claim_fault n) ms) a.handlers in
+    let both = both_empty (filter_map (numbered_fault info ms) (numbered 0 p.methods.handlers)) (filter_map (claim_fault n) ms) a.handlers in
     let each = none_each (claim_fault n) ms both.1 in
     each_of (ClaimsInside n) ms (λ m h. claims_inside n m (each_at (λ x. claim_fault n x ≡ None) ms m each h))
 

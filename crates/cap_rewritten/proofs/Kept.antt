@@ -23,6 +23,7 @@ use Rattle.cap_package.specs.CountChecks.{differ, array_bytes, image_bytes, inst
 use Rattle.cap_package.specs.HeaderChecks.{is_static}
 use Rattle.cap_package.specs.Agreement.{or_none}
 use Rattle.cap_package.specs.FirstFault.{disagreements}
+use Rattle.cap_package.proofs.StaticsKnown.{both_empty}
 use Rattle.cap_renewal.specs.AppletEdits.{renewed_applet}
 use Rattle.cap_renewal.specs.PoolEdits.{renewed_entry}
 use Rattle.cap_renewal.specs.ClassEdits.{renewed_class}
@@ -30,7 +31,7 @@ use Rattle.cap_renewal.specs.ExportEdits.{renewed_exported}
 use Rattle.jc_decode.specs.declared.symbols.Laid.{Laid}
 use Rattle.cap_rewritten.specs.Changes.{changes, now_at}
 use Rattle.cap_rewritten.specs.Rewritten.{bare_method, bare_class, HasSameDescription, IsRewritten}
-use Rattle.cap_rewritten.proofs.Lists.{none_append, append_none, faults_map, faults_same, faults_alike}
+use Rattle.cap_rewritten.proofs.Lists.{append_none, faults_map, faults_same, faults_alike}
 use Rattle.cap_rewritten.proofs.Agreed.{Agrees}
 use Rattle.cap_rewritten.proofs.Bare.{any_map, same_interfaces, in_same, alike, ref_of, same_arguments, same_field}
 
@@ -170,7 +171,7 @@ pub same_places : (parts : List Lent) (p q : PackageRecord) (laid : List (Option
     → filter_map (image_fault q.statics q.description) (fields q) ++ filter_map (filled_fault (array_kinds q.statics.arrays) q.description) (fields q) ≡ []
 same_places parts p q laid a r =
     let set = names_interface p.classes in
-    let both = none_append (filter_map (image_fault p.statics p.description) (fields p)) (filter_map (filled_fault (array_kinds p.statics.arrays) p.description) (fields p)) a.places in
+    let both = both_empty (filter_map (image_fault p.statics p.description) (fields p)) (filter_map (filled_fault (array_kinds p.statics.arrays) p.description) (fields p)) a.places in
     append_none (filter_map (image_fault q.statics q.description) (fields q)) (filter_map (filled_fault (array_kinds q.statics.arrays) q.description) (fields q))
     (ap (λ s. filter_map (image_fault s q.description) (fields q)) r.statics
     ∙ ap (filter_map (image_fault p.statics q.description)) (same_fields p q laid r)
@@ -230,8 +231,8 @@ same_classes parts p q laid a r =
     let ds = q.description.items.classes in
     let cs = p.description.items.classes in
     let same = (alike (names_interface p.classes) cs ds r.description.classes).refs in
-    let first = none_append (filter_map (undescribed_fault cs) p.classes ++ filter_map (not_own_fault p.classes) (map ref_of cs)) (filter_map (no_class_fault p.classes) (map (λ (c : Exported). c.class_offset) (or_none p.export))) a.classes in
-    let second = none_append (filter_map (undescribed_fault cs) p.classes) (filter_map (not_own_fault p.classes) (map ref_of cs)) first.0 in
+    let first = both_empty (filter_map (undescribed_fault cs) p.classes ++ filter_map (not_own_fault p.classes) (map ref_of cs)) (filter_map (no_class_fault p.classes) (map (λ (c : Exported). c.class_offset) (or_none p.export))) a.classes in
+    let second = both_empty (filter_map (undescribed_fault cs) p.classes) (filter_map (not_own_fault p.classes) (map ref_of cs)) first.0 in
     let no_class : (ns : List ℕ) → filter_map (no_class_fault q.classes) ns ≡ filter_map (no_class_fault p.classes) ns = λ ns.
     ap (λ xs. filter_map (no_class_fault xs) ns) r.classes ∙ faults_same (no_class_fault (map (renewed_class f) p.classes)) (no_class_fault p.classes) ns (no_class_same f p.classes) in
     let not_own : (ns : List ℕ) → filter_map (not_own_fault q.classes) ns ≡ filter_map (not_own_fault p.classes) ns = λ ns.
@@ -279,8 +280,8 @@ same_types parts p q laid a r =
     let d = p.description in
     let e = q.description in
     let same = (alike set d.items.classes e.items.classes r.description.classes).methods in
-    let first = none_append (filter_map (field_type_fault d) (fields p) ++ filter_map (method_type_fault d 510) (methods_of d.items.classes)) (filter_map (method_type_fault d 254) (interface_methods p)) a.types in
-    let second = none_append (filter_map (field_type_fault d) (fields p)) (filter_map (method_type_fault d 510) (methods_of d.items.classes)) first.0 in
+    let first = both_empty (filter_map (field_type_fault d) (fields p) ++ filter_map (method_type_fault d 510) (methods_of d.items.classes)) (filter_map (method_type_fault d 254) (interface_methods p)) a.types in
+    let second = both_empty (filter_map (field_type_fault d) (fields p)) (filter_map (method_type_fault d 510) (methods_of d.items.classes)) first.0 in
     append_none (filter_map (field_type_fault e) (fields q) ++ filter_map (method_type_fault e 510) (methods_of e.items.classes)) (filter_map (method_type_fault e 254) (interface_methods q))
     (append_none (filter_map (field_type_fault e) (fields q)) (filter_map (method_type_fault e 510) (methods_of e.items.classes))
     (ap (filter_map (field_type_fault e)) (same_fields p q laid r)

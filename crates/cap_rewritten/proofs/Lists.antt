@@ -1,6 +1,7 @@
 -- Facts of each element of a list, and lists in which nothing is at fault.
 use Rattle.std.proofs.Common.{◌≡◌, List, [], ◌∷◌, ◌++◌, map, filter, filter_map, Bool, true, false, cond, Option, Some, None, ◌⊎◌, inl, inr, refl, sym, ap, subst, ◌∙◌}
 use Rattle.std.specs.List.{cons_option}
+use Rattle.first_fault.proofs.LeastFaults.{faultless_first}
 
 -- ---- each element
 
@@ -31,21 +32,13 @@ map_each P g (x ∷ xs) h = (h.0, map_each P g xs h.1)
 
 -- ---- nothing at fault
 
-pub fault_none : {F : Type 0} (o : Option F) (rest : List F) → cons_option o rest ≡ [] → (o ≡ None) × (rest ≡ [])
-fault_none None rest e = (refl, e)
-fault_none (Some y) rest e = absurd cc
-
 pub none_each : {F X : Type 0} (f : X → Option F) (xs : List X) → filter_map f xs ≡ [] → Each (λ x. f x ≡ None) xs
 none_each f [] e = tt
-none_each f (x ∷ xs) e = let r = fault_none (f x) (filter_map f xs) e in (r.0, none_each f xs r.1)
+none_each f (x ∷ xs) e = let r = faultless_first (f x) (filter_map f xs) e in (r.0, none_each f xs r.1)
 
 pub each_none : {F X : Type 0} (f : X → Option F) (xs : List X) → Each (λ x. f x ≡ None) xs → filter_map f xs ≡ []
 each_none f [] h = refl
 each_none f (x ∷ xs) h = ap (λ o. cons_option o (filter_map f xs)) h.0 ∙ each_none f xs h.1
-
-pub none_append : {F : Type 0} (xs ys : List F) → xs ++ ys ≡ [] → (xs ≡ []) × (ys ≡ [])
-none_append [] ys e = (refl, e)
-none_append (x ∷ xs) ys e = absurd cc
 
 pub append_none : {F : Type 0} (xs ys : List F) → xs ≡ [] → ys ≡ [] → xs ++ ys ≡ []
 append_none xs ys e h = rw (e, h) refl

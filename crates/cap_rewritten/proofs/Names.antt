@@ -15,13 +15,14 @@ use Rattle.cap_package.specs.NameChecks.{is_method_at, no_method_fault, no_entry
 use Rattle.cap_package.specs.Agreement.{or_none}
 use Rattle.cap_package.specs.StandsFor.{StandsFor}
 use Rattle.cap_package.proofs.InfoLaws.{info-short}
+use Rattle.cap_package.proofs.StaticsKnown.{both_empty}
 use Rattle.cap_renewal.specs.AppletEdits.{renewed_applet}
 use Rattle.cap_renewal.specs.ClassEdits.{renewed_class}
 use Rattle.cap_renewal.specs.ExportEdits.{renewed_exported}
 use Rattle.jc_decode.specs.declared.symbols.Laid.{Laid}
 use Rattle.cap_rewritten.specs.Changes.{Change, changes, stood_at, offset_by, now_at}
 use Rattle.cap_rewritten.specs.Rewritten.{IsRewritten}
-use Rattle.cap_rewritten.proofs.Lists.{Each, Has, each_at, each_of, none_each, each_none, none_append, append_none, faults_map}
+use Rattle.cap_rewritten.proofs.Lists.{Each, Has, each_at, each_of, none_each, each_none, append_none, faults_map}
 use Rattle.cap_rewritten.proofs.Agreed.{agrees}
 use Rattle.cap_rewritten.proofs.Zipped.{now_of, old_of}
 use Rattle.cap_rewritten.proofs.Bare.{any_map}
@@ -154,8 +155,8 @@ all_named parts p q laid s r =
     let after : is_method_at (described_methods q) ≡ is = ap is_method_at (sym (news p q laid r)) in
     let a = (agrees parts p s.agree).names in
     let installs : Option (List Applet) → List ℕ = λ o. map (λ (x : Applet). x.install) (or_none o) in
-    let first = none_append (filter_map (no_entry_fault (is_method_at (described_methods p))) (table_entries p.classes) ++ filter_map (no_method_fault (is_method_at (described_methods p))) (exported_methods (or_none p.export))) (filter_map (no_method_fault (is_method_at (described_methods p))) (map (λ (x : Applet). x.install) (or_none p.applets))) a in
-    let second = none_append (filter_map (no_entry_fault (is_method_at (described_methods p))) (table_entries p.classes)) (filter_map (no_method_fault (is_method_at (described_methods p))) (exported_methods (or_none p.export))) first.0 in
+    let first = both_empty (filter_map (no_entry_fault (is_method_at (described_methods p))) (table_entries p.classes) ++ filter_map (no_method_fault (is_method_at (described_methods p))) (exported_methods (or_none p.export))) (filter_map (no_method_fault (is_method_at (described_methods p))) (map (λ (x : Applet). x.install) (or_none p.applets))) a in
+    let second = both_empty (filter_map (no_entry_fault (is_method_at (described_methods p))) (table_entries p.classes)) (filter_map (no_method_fault (is_method_at (described_methods p))) (exported_methods (or_none p.export))) first.0 in
     let methods : (offsets : List ℕ) → filter_map (no_method_fault (is_method_at (described_methods p))) offsets ≡ [] → filter_map (no_method_fault (is_method_at (described_methods q))) (map f offsets) ≡ [] = λ offsets e.
     ap (λ t. filter_map (no_method_fault t) (map f offsets)) after
     ∙ none_named (no_method_fault was) (no_method_fault is) f offsets (method_now cs) (ap (λ t. filter_map (no_method_fault t) offsets) (sym before) ∙ e) in

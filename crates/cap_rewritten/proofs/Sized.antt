@@ -1,8 +1,7 @@
 -- Parts whose sizes the Directory tells, and which say what every package says.
 use Rattle.std.proofs.Common.{◌≡◌, ◌-◌, ℕ, List, [], ◌∷◌, ◌++◌, length, map, filter_map, find, Bool, true, false, cond, Option, Some, None, Ok, Err, option_map, inl, inr, refl, ap, subst, ◌∙◌, arith}
 use Rattle.std.specs.Prelude.{if◌then◌else◌, ◌==◌, nat_le, ◌&&◌, slice_get, unwrap_or}
-use Rattle.cap_bytes.specs.Grammar.{Grammar}
-use Rattle.cap_bytes.specs.Spelling.{Stands, info_of, file_of}
+use Rattle.cap_bytes.specs.Spelling.{Stands, file_of}
 use Rattle.cap_bytes.proofs.Laws.{reading_where}
 use Rattle.cap_frame.specs.Frame.{component}
 use Rattle.cap_frame.specs.HeaderFormat.{header_info}
@@ -11,20 +10,16 @@ use Rattle.cap_frame.specs.Directory.{size_in, custom_size_in}
 use Rattle.cap_components.specs.declared.fault.PackFault.{PackFault}
 use Rattle.cap_components.specs.declared.fault.PackFault.TheVariants.{MissingPart}
 use Rattle.cap_components.specs.Parts.{Lent, held}
-use Rattle.cap_components.specs.Components.{formed, info_in, read_part, read_directory}
+use Rattle.cap_components.specs.Components.{info_in, read_directory}
 use Rattle.cap_components.specs.PackageRecord.{PackageRecord}
 use Rattle.cap_components.specs.PartChecks.{required, optional, custom_tags, absent_fault, absent_by, sized_fault, form_fault, form_by, size_fault, size_by}
-use Rattle.cap_components.specs.Saying.{Says, AreSaid}
-use Rattle.cap_components.proofs.Saying.{info-read}
+use Rattle.cap_components.specs.Saying.{AreSaid}
+use Rattle.cap_components.proofs.Saying.{part_read}
 use Rattle.cap_package.specs.FirstFault.{missing_parts}
 use Rattle.cap_rewritten.specs.Laws.{IsSizeOf, HasSizes}
 use Rattle.cap_rewritten.proofs.Lists.{Each, Has, each_none, each_of, append_none}
 
 -- ---- what is said is read
-
-pub part_read : {X : Type 0} (parts : List Lent) (tag : ℕ) (g : Grammar X) (items : X) → Says parts tag g items → read_part g tag parts ≡ Ok items
-unfolding read_part
-part_read parts tag g items h = rw (info-read parts tag g h.0 items h.1) (ap formed (reading_where (info_of tag) g h.0 items h.1.said))
 
 pub directory_read : (parts : List Lent) (p : PackageRecord) → AreSaid parts p → read_directory parts ≡ Ok p.directory
 unfolding read_directory

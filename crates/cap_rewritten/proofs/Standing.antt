@@ -8,11 +8,12 @@ use Rattle.cap_components.specs.Parts.{Lent}
 use Rattle.cap_components.specs.PackageRecord.{PackageRecord, described_methods}
 use Rattle.cap_package.specs.Pairs.{pairs}
 use Rattle.cap_package.specs.MethodChecks.{code_start, code_end, share_byte, overlap_fault, overlap_pair, outside_fault}
+use Rattle.cap_package.proofs.StaticsKnown.{both_empty}
 use Rattle.jc_decode.specs.declared.symbols.Laid.{Laid}
 use Rattle.cap_rewritten.specs.Changes.{Change, changes}
 use Rattle.cap_rewritten.specs.Written.{IsWritten, size_in, methods_begin}
 use Rattle.cap_rewritten.specs.Rewritten.{IsRewritten}
-use Rattle.cap_rewritten.proofs.Lists.{Each, Has, each_at, each_of, map_each, none_each, each_none, none_append, append_none, faults_map, faults_append}
+use Rattle.cap_rewritten.proofs.Lists.{Each, Has, each_at, each_of, map_each, none_each, each_none, append_none, faults_map, faults_append}
 use Rattle.cap_rewritten.proofs.Sums.{sum_beside}
 use Rattle.cap_rewritten.proofs.Owners.{below, is_below, Distinct, ends_before}
 use Rattle.cap_rewritten.proofs.Agreed.{Agrees}
@@ -47,7 +48,7 @@ all_apart : (p : PackageRecord) (ms : List Method) → Each (WasWell p) ms → f
 all_apart p [] w e = tt
 all_apart p (m ∷ ms) w e =
     let info = p.methods.info in
-    let both = none_append (filter_map (overlap_pair info) (map (λ y. (m, y)) ms)) (filter_map (overlap_pair info) (pairs ms)) (sym (split m ms) ∙ e) in
+    let both = both_empty (filter_map (overlap_pair info) (map (λ y. (m, y)) ms)) (filter_map (overlap_pair info) (pairs ms)) (sym (split m ms) ∙ e) in
     let each = none_each (λ y. overlap_fault info m y) ms (sym (faults_map (overlap_pair info) (λ y. (m, y)) ms) ∙ both.0) in
     let apart = each_of (λ (y : Method). y.method_offset ≡ m.method_offset → ⊥) ms
     (λ y h. stood_apart info m y w.0.within (each_at (WasWell p) ms y w.1 h).within (each_at (λ x. overlap_fault info m x ≡ None) ms y each h)) in

@@ -4,13 +4,14 @@ use Rattle.std.specs.Prelude.{min, max, ◌||◌}
 use Rattle.std.specs.List.{filter_map}
 use Rattle.std.proofs.lemmas.Bool.{ltb-false}
 use Rattle.std.proofs.lemmas.List.Elements.{filter_map-append}
+use Rattle.first_fault.proofs.LeastFaults.{faultless_first}
 use Rattle.cap_desc.specs.DescriptorFormat.{Method}
 use Rattle.cap_components.specs.declared.fault.PackFault.{PackFault}
 use Rattle.cap_components.specs.declared.fault.PackFault.TheVariants.{MethodOverlaps, MethodOutside}
 use Rattle.cap_package.specs.MethodChecks.{code_start, code_end, size_by, share_byte, overlap_fault, overlap_pair, outside_fault}
 use Rattle.cap_package.specs.Pairs.{pairs}
+use Rattle.cap_package.proofs.StaticsKnown.{both_empty}
 use Rattle.cap_bytes.specs.Number.{number_at}
-use Rattle.cap_rewritten.proofs.Lists.{none_append, fault_none}
 
 -- a method ends in the info, two bytes or more after its offset
 pub record EndsInside (info : List ℕ) (m : Method) : Type 0 where
@@ -43,7 +44,7 @@ ends_inside info n m none =
 
 pub all_end : (info : List ℕ) (n : ℕ) (ms : List Method) → filter_map (outside_fault info n) ms ≡ [] → AllEnd info ms
 all_end info n [] e = tt
-all_end info n (m ∷ ms) e = let f = fault_none (outside_fault info n m) (filter_map (outside_fault info n) ms) e in (ends_inside info n m f.0, all_end info n ms f.1)
+all_end info n (m ∷ ms) e = let f = faultless_first (outside_fault info n m) (filter_map (outside_fault info n) ms) e in (ends_inside info n m f.0, all_end info n ms f.1)
 
 -- no offset of a list is another one
 abbrev pub IsNone : ℕ → List ℕ → Type 0
@@ -82,11 +83,11 @@ differ info a b ea eb none same =
 one_apart : (info : List ℕ) (a : Method) (ms : List Method) → EndsInside info a → AllEnd info ms → filter_map (overlap_pair info) (map (λ b. (a, b)) ms) ≡ [] → IsNone a.method_offset (map offset_of ms)
 one_apart info a [] ea es e = tt
 one_apart info a (b ∷ ms) ea es e =
-    let f = fault_none (overlap_fault info a b) (filter_map (overlap_pair info) (map (λ b. (a, b)) ms)) e in
+    let f = faultless_first (overlap_fault info a b) (filter_map (overlap_pair info) (map (λ b. (a, b)) ms)) e in
     (differ info a b ea es.0 f.0, one_apart info a ms ea es.1 f.1)
 
 pub all_apart : (info : List ℕ) (ms : List Method) → AllEnd info ms → filter_map (overlap_pair info) (pairs ms) ≡ [] → AreDistinct (map offset_of ms)
 all_apart info [] es e = tt
 all_apart info (a ∷ ms) es e =
-    let parts = none_append (filter_map (overlap_pair info) (map (λ b. (a, b)) ms)) (filter_map (overlap_pair info) (pairs ms)) (sym (filter_map-append (overlap_pair info) (map (λ b. (a, b)) ms) (pairs ms)) ∙ e) in
+    let parts = both_empty (filter_map (overlap_pair info) (map (λ b. (a, b)) ms)) (filter_map (overlap_pair info) (pairs ms)) (sym (filter_map-append (overlap_pair info) (map (λ b. (a, b)) ms) (pairs ms)) ∙ e) in
     (one_apart info a ms es.0 es.1 parts.0, all_apart info ms es.1 parts.1)

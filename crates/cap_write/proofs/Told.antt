@@ -4,7 +4,6 @@ use Rattle.std.specs.Prelude.{◌==◌, ◌&&◌, nat_le, slice_get, slice_index
 use Rattle.std.proofs.lemmas.Bool.{cases_eq, eqb-true}
 use Rattle.std.proofs.lemmas.Bool.Decides.{nat_tests}
 use Rattle.std.proofs.lemmas.List.{get_or_past}
-use Rattle.cap_bytes.specs.declared.fault.FormFault.{FormFault}
 use Rattle.cap_bytes.specs.declared.format.Format.{Format}
 use Rattle.cap_bytes.specs.declared.format.Format.TheVariants.{V21, V22}
 use Rattle.cap_bytes.specs.Grammar.{Grammar}
@@ -18,15 +17,16 @@ use Rattle.cap_frame.specs.Directory.{size_in, custom_size_in}
 use Rattle.cap_components.specs.declared.fault.PackFault.{PackFault}
 use Rattle.cap_components.specs.declared.fault.PackFault.TheVariants.{MissingPart, SizeDisagrees}
 use Rattle.cap_components.specs.Parts.{Lent, held}
-use Rattle.cap_components.specs.Components.{formed, framed, info_in}
+use Rattle.cap_components.specs.Components.{framed, info_in}
 use Rattle.cap_components.specs.PackageRecord.{PackageRecord}
 use Rattle.cap_components.specs.PartChecks.{required, optional, components, custom_tags, absent_fault, absent_by, sized_fault, form_fault, form_by, size_fault, size_by}
 use Rattle.cap_components.specs.Saying.{Holds, SaysIf}
-use Rattle.cap_components.proofs.Saying.{info-read}
+use Rattle.cap_components.proofs.Saying.{info-read, formed_ok}
 use Rattle.cap_package.specs.FirstFault.{missing_parts}
 use Rattle.cap_package.specs.StandsFor.{StandsFor}
+use Rattle.cap_package.proofs.StaticsKnown.{both_empty}
 use Rattle.cap_rewritten.specs.Laws.{IsSizeOf}
-use Rattle.cap_rewritten.proofs.Lists.{Each, Has, each_at, none_each, none_append}
+use Rattle.cap_rewritten.proofs.Lists.{Each, Has, each_at, none_each}
 use Rattle.cap_rewritten.proofs.Agreed.{agrees}
 use Rattle.cap_rewritten.proofs.Sized.{directory_read}
 use Rattle.cap_directory.specs.NewDirectory.{new_size, sizes_from}
@@ -44,10 +44,6 @@ zero_of false n f e h = absurd (cc)
 same_of : (b : Bool) (m n : ℕ) (f : PackFault) → (m == n) ≡ b → cond b None (Some f) ≡ None → n ≡ m
 same_of true m n f e h = sym (eqb-true m n e)
 same_of false m n f e h = absurd (cc)
-
-formed_ok : {X : Type 0} (r : Result X FormFault) (x : X) → formed r ≡ Ok x → r ≡ Ok x
-formed_ok (Ok y) x e = let same : y ≡ x = cc in ap Ok same
-formed_ok (Err f) x e = absurd (cc)
 
 info_framed : (parts : List Lent) (tag : ℕ) (file info : List ℕ) → held parts tag ≡ Some file → info_in parts tag ≡ Ok info → Stands (component tag) file info
 unfolding info_in
@@ -99,9 +95,9 @@ has_told p s =
     let d = p.directory in
     let a = agrees parts p s.agree in
     let m : missing_parts parts (Ok d) ≡ [] = ap (missing_parts parts) (sym (directory_read parts p s.said)) ∙ s.missing in
-    let both = none_append (filter_map (absent_fault parts) required ++ filter_map (sized_fault parts d) optional) (filter_map (sized_fault parts d) (custom_tags d)) m in
-    let front = none_append (filter_map (absent_fault parts) required) (filter_map (sized_fault parts d) optional) both.0 in
-    let sizes = none_append (filter_map (size_fault parts d) components) (filter_map (size_fault parts d) (custom_tags d)) a.sizes in
+    let both = both_empty (filter_map (absent_fault parts) required ++ filter_map (sized_fault parts d) optional) (filter_map (sized_fault parts d) (custom_tags d)) m in
+    let front = both_empty (filter_map (absent_fault parts) required) (filter_map (sized_fault parts d) optional) both.0 in
+    let sizes = both_empty (filter_map (size_fault parts d) components) (filter_map (size_fault parts d) (custom_tags d)) a.sizes in
     record {
       optional_sized = none_each (sized_fault parts d) optional front.1;
       customs_sized = none_each (sized_fault parts d) (custom_tags d) both.1;

@@ -3,6 +3,7 @@ use Rattle.std.proofs.Common.{◌≡◌, ◌⊎◌, ◌<◌, ◌≤◌, ◌+◌,
 use Rattle.std.specs.Prelude.{slice_get, not, nat_lt, if◌then◌else◌, fold, ◌+ℤ◌, IsSomeAnd, IfOk, OnErr, MatchBool, MatchResult, Result, Ok, Err, string_bytes}
 use Rattle.std.specs.List.{range_with_len}
 use Rattle.std.proofs.lemmas.Option.{slice_get_within}
+use Rattle.std.proofs.lemmas.List.{length_push}
 use Rattle.cap_gen.specs.Linked.{roles, method_record}
 use Rattle.cap_gen.specs.Record.{package_record}
 use Rattle.cap_package.specs.PackageRecord.{PackageRecord}
@@ -184,10 +185,6 @@ last_there : {X : Type 0} (xs : List X) (x : X) → slice_get (xs ++ x ∷ []) (
 last_there [] x = refl
 last_there (y ∷ ys) x = last_there ys x
 
-length_more : {X : Type 0} (xs : List X) (x : X) → length (xs ++ x ∷ []) ≡ length xs + 1
-length_more [] x = refl
-length_more (y ∷ ys) x = let more = length_more ys x in omega (arith, more)
-
 come_more : (w : Linked) (os : List (Outcome Cell)) (o : Outcome Cell) → ComeOfRuns w os → ComesTo w (run_of (length os)) o
     → ComeOfRuns w (os ++ o ∷ [])
 come_more w os o come comes k p there =
@@ -207,7 +204,7 @@ pub one_run_more : (w : Linked) (k : ℕ) (begun before c : Card) (sum more : �
 one_run_more w k begun before c sum more ending have is adds =
     let o = is.outcome in
     let os = have.outcomes in
-    let count : length (os ++ o ∷ []) ≡ k + 1 = length_more os o ∙ ap (λ n. n + 1) have.count in
+    let count : length (os ++ o ∷ []) ≡ k + 1 = length_push os o ∙ ap (λ n. n + 1) have.count in
     let there : slice_get (os ++ o ∷ []) k ≡ Some o = subst (λ n. slice_get (os ++ o ∷ []) n ≡ Some o) have.count (last_there os o) in
     let before_it : (k + 1) - 1 ≡ k = omega arith in
     let old_sum : ℤ = fold ◌+ℤ◌ (pos 0) (map short_of os) in

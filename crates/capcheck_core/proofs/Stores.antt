@@ -1,16 +1,15 @@
 -- Parts that are stored in a folder one after the other, what it then holds, and the order of a package's parts.
 use Rattle.std.proofs.Common.{◌≡◌, ◌<◌, ◌≤◌, ◌+◌, ℕ, suc, List, [], ◌∷◌, ◌++◌, Option, Some, None, IsSome, IsNone, Bool, true, false, cond, eqb, get_or, length, length-append, drop, refl, sym, ap, subst, ◌∙◌, inl, inr, ◌⊎◌, arith, take}
 use Rattle.std.specs.Prelude.{IfSome, IsSomeAnd}
-use Rattle.std.specs.Cmp.{eq_by_cmp_equiv}
 use Rattle.std.specs.Cmp.Lexicographic.{slice_cmp, nat_list_cmp_total}
 use Rattle.std.specs.declared.cmp.Ordering.{Ordering}
-use Rattle.std.specs.declared.cmp.Ordering.TheVariants.{Less, Equal, Greater}
-use Rattle.std.specs.Ordering.{nat_cmp, eq_by_cmp, is_eq}
+use Rattle.std.specs.Ordering.{nat_cmp, eq_by_cmp}
 use Rattle.std.specs.FinMap as map
 use Rattle.std.proofs.lemmas.Bool.{ne_eqb, eqb-true, eqb-false}
 use Rattle.std.proofs.Math.Nat.{eq-or-lt_of_le}
 use Rattle.cap_files.specs.Counts.{Rose}
 use Rattle.cap_files.specs.Folder.{Parts, Folders}
+use Rattle.cap_files.proofs.Keys.{same_key, own_key}
 use Rattle.cap_package.specs.Parts.{Lent, held, HasEachOnce}
 use Rattle.cap_components.proofs.PartsLemmas.{held-other, held-same, HasEachOnce-push}
 use Rattle.capcheck_core.specs.Loads.{Rise, with_file}
@@ -154,17 +153,6 @@ all_in_order parts others middle stores top roles so_far whole some first last =
 
 abbrev order : List ℕ → List ℕ → Ordering
 order = slice_cmp nat_cmp
-
-equal_so : (o : Ordering) → is_eq o ≡ true → o ≡ Equal
-equal_so Less e = cc
-equal_so Equal e = refl
-equal_so Greater e = cc
-
-same_key : (k q : List ℕ) → eq_by_cmp order k q ≡ true → k ≡ q
-same_key k q e = map.slice_cmp-IsAntisymmetric map.nat_cmp-IsAntisymmetric k q (equal_so (order k q) e)
-
-own_key : (k : List ℕ) → eq_by_cmp order k k ≡ true
-own_key k = (eq_by_cmp_equiv nat_list_cmp_total).refl k
 
 other_key : (dir : List ℕ) (tag t : ℕ) → (t ≡ tag → ⊥) → eq_by_cmp order (tag ∷ dir) (t ∷ dir) ≡ false
 other_key dir tag t differ = by (eq_by_cmp order (tag ∷ dir) (t ∷ dir)) refl

@@ -1,12 +1,13 @@
 -- The methods with code of the last package, one after the other.
-use Rattle.std.proofs.Common.{zero, suc, [], ◌∷◌, get_or, count_by, ◌≡◌, ◌⊎◌, ℕ, ◌+◌, ◌<◌, ◌≤◌, Bool, true, false, List, length, take, drop, Option, Some, None, option_map, slice_get, refl, sym, ap, subst, ◌∙◌, inl, inr, arith, true≢false}
+use Rattle.std.proofs.Common.{count_by, ◌≡◌, ◌⊎◌, ℕ, ◌+◌, ◌<◌, ◌≤◌, Bool, true, false, List, length, take, drop, Option, Some, None, option_map, slice_get, refl, sym, ap, subst, ◌∙◌, inl, inr, arith, true≢false}
 use Rattle.std.specs.Prelude.{IsSomeAnd, ◌==◌, nat_lt}
 use Rattle.std.proofs.lemmas.Bool.{eq-eqb, eqb-true, lt-ltb, ltb-true, and_parts}
 use Rattle.std.proofs.lemmas.List.{length-take, take_all}
 use Rattle.std.proofs.lemmas.List.Sums.{count_by_more_yes, count_by_more_no}
 use Rattle.std.specs.Int.{from_bool}
 use Rattle.std.proofs.Math.Nat.{eq-or-lt_of_le}
-use Rattle.std.proofs.lemmas.Option.{slice_get_within}
+use Rattle.std.proofs.lemmas.Option.{slice_get_within, get_or_from_slice_get}
+use Rattle.xf_world.proofs.Accepted.{in-world}
 use Rattle.jc_base.specs.declared.ty.Ty.TheVariants.{Top}
 use Rattle.jc_base.specs.declared.record.MethodRec.{MethodRec}
 use Rattle.jc_base.specs.World.{Linked, code_of}
@@ -26,18 +27,11 @@ use Rattle.capcheck_core.specs.CheckEnds.{IsTypedAt, FailsAt}
 
 -- ---- a method by its number
 
--- a method of the world is the one of its number
-in_world : (w : Linked) (m : Method) → IsMethodOf w m → method_in w m.number ≡ Some m
-in_world w m is =
-    let code = sym is.code in
-    let same : method_with w m.number m.rec ≡ m = λ i. record { number = m.number; rec = m.rec; code = code i } in
-    ap (option_map (method_with w m.number)) is.rec ∙ ap Some same
-
 -- what is known of the method of a number holds of it
 known : (w : Linked) (n : ℕ) (P : Method → Type 0) → IsSomeAnd (method_in w n) P → (m : Method) → IsMethodOf w m → m.number ≡ n → P m
 known w n P some m is e =
     let at : IsSomeAnd (method_in w m.number) P = subst (λ k. IsSomeAnd (method_in w k) P) (sym e) some in
-    subst (λ o. IsSomeAnd o P) (in_world w m is) at
+    subst (λ o. IsSomeAnd o P) (in-world w m is) at
 
 pub typed_at : (w : Linked) (n : ℕ) (t : List (Option Frame)) → IsSomeAnd (method_in w n) (λ m. IsLeastTyping w m Top (state_at t)) → IsTypedAt w n
 typed_at w n t least = λ m of_last e.
@@ -105,20 +99,15 @@ none_below w = λ m of_last below. absurd (omega (arith, below))
 
 -- ---- the count of them
 
-at_get : {X : Type 0} (xs : List X) (n : ℕ) (x d : X) → slice_get xs n ≡ Some x → get_or xs n d ≡ x
-at_get [] n x d e = absurd cc
-at_get (y ∷ ys) zero x d e = cc
-at_get (y ∷ ys) (suc n) x d e = at_get ys n x d e
-
 pub counted : (p : MethodRec → Bool) (xs : List MethodRec) (n : ℕ) (o : Option MethodRec) (asked : Bool) → slice_get xs n ≡ o → option_map p o ≡ Some asked
     → count_by p (take (n + 1) xs) ≡ count_by p (take n xs) + from_bool asked
 counted p xs n None asked at e = absurd cc
 counted p xs n (Some x) true at e =
     let test : p x ≡ true = cc in
-    count_by_more_yes p xs n x (slice_get_within xs n x at) (ap p (at_get xs n x x at) ∙ test)
+    count_by_more_yes p xs n x (slice_get_within xs n x at) (ap p (get_or_from_slice_get xs n x x at) ∙ test)
 counted p xs n (Some x) false at e =
     let test : p x ≡ false = cc in
-    let same = count_by_more_no p xs n x (slice_get_within xs n x at) (ap p (at_get xs n x x at) ∙ test) in
+    let same = count_by_more_no p xs n x (slice_get_within xs n x at) (ap p (get_or_from_slice_get xs n x x at) ∙ test) in
     same ∙ omega arith
 
 pub one_counted : (w : Linked) (n count one : ℕ) (asked : Bool) → option_map (is_of_last (length w.infos)) (slice_get w.methods n) ≡ Some asked → one ≡ from_bool asked

@@ -5,7 +5,7 @@ use Rattle.jc_base.specs.declared.ty.Ty.{Ty}
 use Rattle.jc_base.specs.World.{Linked}
 use Rattle.jc_decode.specs.declared.insn.Placed.{Placed}
 use Rattle.jc_decode.specs.Listing.{falls, listing, Lists}
-use Rattle.jc_decode.proofs.Elements.{Contains-first, Contains-later}
+use Rattle.jc_decode.proofs.Elements.{Contains-first, Contains-later, Contains-either}
 use Rattle.jc_control.specs.Method.{Method, IsMethodOf}
 use Rattle.jc_control.specs.WellFormed.{HasInstruction, IsPlace, IsWellFormed}
 use Rattle.jc_control.specs.Laws.{InstructionsArePlaced}
@@ -15,7 +15,7 @@ use Rattle.card_typing.specs.Place.{IsEntry, IsFallenInto, fallen_first, fallen_
 use Rattle.card_typing.specs.Typing.{IsLeastCardTyping}
 use Rattle.card_typing.specs.Met.{Arrives}
 use Rattle.card_typing.specs.Pass.{IsQuiet, quiet_end, quiet_more}
-use Rattle.card_typing.proofs.Quiet.{contains-either, eq-same, eq-other, arrived-empty, stack-in, stacks, quiet-typing}
+use Rattle.card_typing.proofs.Quiet.{eq-same, eq-other, arrived-empty, stack-in, stacks, quiet-typing}
 use Rattle.card_index.specs.IndexTyping.{IsIndex, AreClear, HasIndexTyping}
 use Rattle.card_index.specs.Met.{IsOpenOver}
 use Rattle.card_index.specs.Pass.{IsQuietOver, quiet_over_end, quiet_over_more}
@@ -24,7 +24,7 @@ use Rattle.card_index.specs.Pass.{IsQuietOver, quiet_over_end, quiet_over_more}
 later-place : (code : List ℕ) (at : ℕ) (is : List Placed) → Lists code at is → (j : Placed) → Contains is j → at ≤ j.place
 later-place code at [] l j c = absurd (omega (arith, c.1))
 later-place code at (p ∷ ps) l j c =
-    ⊎_elim (λ same. let here : at ≡ j.place = sym l.0 ∙ ap (λ (k : Placed). k.place) same in omega (arith, here)) (λ later. let le = later-place code (at + p.insn.len) ps l.2 j later in omega (arith, le)) (contains-either p ps j c)
+    ⊎_elim (λ same. let here : at ≡ j.place = sym l.0 ∙ ap (λ (k : Placed). k.place) same in omega (arith, here)) (λ later. let le = later-place code (at + p.insn.len) ps l.2 j later in omega (arith, le)) (Contains-either p ps j c)
 
 module _ (w : Linked) (m : Method) (index : List ℕ) (regs : List Ty) where
   pub plain : (b : Bool) (given : List Ty) (is : List Placed) → IsQuietOver w m index regs b given is → IsQuiet w m regs b given is
@@ -42,7 +42,7 @@ module _ (w : Linked) (m : Method) (index : List ℕ) (regs : List Ty) where
     unfolding stack-in plain
     clear-in at _ _ _ (quiet_over_end b given) l stands fallen j inside here = absurd (omega (arith, inside.1))
     clear-in at _ _ _ (quiet_over_more b given stack after o i is a c p u) l stands fallen j inside here =
-        ⊎_elim (λ same. this same) (λ later. rest later (clear-in (at + i.insn.len) is (falls i.insn.op) after u l.2 (λ k in_rest. stands k (Contains-later i is k in_rest)) falls_on j later here)) (contains-either i is j inside)
+        ⊎_elim (λ same. this same) (λ later. rest later (clear-in (at + i.insn.len) is (falls i.insn.op) after u l.2 (λ k in_rest. stands k (Contains-later i is k in_rest)) falls_on j later here)) (Contains-either i is j inside)
       where
         falls_on : falls i.insn.op ≡ true → IsFallenInto m (at + i.insn.len)
         falls_on e = subst (λ n. IsFallenInto m (n + i.insn.len)) l.0 (fallen_from i (stands i (Contains-first i is)) e)

@@ -3,12 +3,9 @@ use Rattle.std.proofs.Common.{◌≡◌, ℕ, zero, suc, ◌+◌, ◌-◌, ◌*�
 use Rattle.std.proofs.Math.Nat.{mul_assoc, suc-mul, pow-succ'}
 use Rattle.std.proofs.Math.Pow.{pow_mono}
 use Rattle.std.proofs.lemmas.Bool.{cases_lt}
-use Rattle.std.proofs.lemmas.Option.{slice_get_within, slice_get-get_or, get_or_from_slice_get}
+use Rattle.std.proofs.lemmas.Option.{slice_get_within, slice_get-get_or, get_or_from_slice_get, same_Some}
 use Rattle.jc_base.specs.Index.{IsAscending}
 use Rattle.card_index.proofs.Costs.{grow}
-
-some-one : (a b : ℕ) → Some a ≡ Some b → a ≡ b
-some-one a b e = cc
 
 -- ---- ascending lists
 
@@ -22,7 +19,7 @@ ascending-far index up k (suc j) p q lt at there =
     ⊎_elim (λ less. let far = ascending-far index up k j p (get_or index j 0) less at before in omega (arith, far, next))
     (λ le.
     let same : k ≡ j = omega (arith, le, lt) in
-    let own : p ≡ get_or index j 0 = some-one p (get_or index j 0) (sym at ∙ ap (slice_get index) same ∙ before) in
+    let own : p ≡ get_or index j 0 = same_Some p (get_or index j 0) (sym at ∙ ap (slice_get index) same ∙ before) in
     omega (arith, own, next)) (cases_lt k j)
 
 -- ---- what is known between the halves
@@ -84,7 +81,7 @@ module _ (index : List ℕ) (up : IsAscending index) (place low high taken middl
     inside = so_far.inside;
     below = λ k q lt here. ⊎_elim (λ earlier. let far = ascending-far index up k middle q found earlier here at in omega (arith, far, less)) (λ ge.
         let same : k ≡ middle = omega (arith, lt, ge) in
-        let own : q ≡ found = some-one q found (sym here ∙ ap (slice_get index) same ∙ at) in
+        let own : q ≡ found = same_Some q found (sym here ∙ ap (slice_get index) same ∙ at) in
         omega (arith, own, less)) (cases_lt k middle);
     above = so_far.above;
     fewer = halves (high - low) (high - (middle + 1)) taken (length index) (omega (arith, some, half)) so_far.fewer;
@@ -98,7 +95,7 @@ module _ (index : List ℕ) (up : IsAscending index) (place low high taken middl
     below = so_far.below;
     above = λ k q le here. ⊎_elim (λ earlier. absurd (omega (arith, earlier, le))) (λ ge. ⊎_elim (λ later. let far = ascending-far index up middle k found q later at here in omega (arith, far, more)) (λ no.
         let same : k ≡ middle = omega (arith, le, no) in
-        let own : q ≡ found = some-one q found (sym here ∙ ap (slice_get index) same ∙ at) in
+        let own : q ≡ found = same_Some q found (sym here ∙ ap (slice_get index) same ∙ at) in
         omega (arith, own, more)) (cases_lt middle k)) (cases_lt k middle);
     fewer = halves (high - low) (middle - low) taken (length index) (omega (arith, some, half)) so_far.fewer;
     seldom = seldom-next;

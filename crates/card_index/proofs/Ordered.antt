@@ -3,7 +3,7 @@ use Rattle.std.proofs.Common.{◌≡◌, ℕ, zero, suc, ◌+◌, ◌-◌, ◌<�
 use Rattle.std.proofs.lemmas.Bool.{cases_lt}
 use Rattle.std.proofs.lemmas.List.{append-nil}
 use Rattle.std.proofs.lemmas.List.Elements.{Contains-push_cases}
-use Rattle.std.proofs.lemmas.Option.{slice_get_within, slice_get-get_or, get_or_from_slice_get}
+use Rattle.std.proofs.lemmas.Option.{slice_get_within, slice_get-get_or, get_or_from_slice_get, same_Some}
 use Rattle.jc_base.specs.Index.{IsAscending}
 use Rattle.jc_base.proofs.Lists.{slice_get-farther}
 use Rattle.jc_decode.specs.declared.insn.Placed.{Placed}
@@ -13,9 +13,6 @@ use Rattle.jc_decode.specs.Laws.{AreListed}
 use Rattle.jc_decode.proofs.Elements.{Contains-slice_get}
 use Rattle.card_index.specs.Refusal.{IsBadEntry, bad_place, bad_order, IsFirstBadEntry}
 use Rattle.card_index.specs.Seeking.{IsSought, HasNone}
-
-number-one : (a b : ℕ) → Some a ≡ Some b → a ≡ b
-number-one a b e = cc
 
 -- ---- an instruction in the middle of a list
 
@@ -74,11 +71,11 @@ module _ (code index : List ℕ) (order : AreListed code) (k least : ℕ) (left 
       whole = append_assoc before (s.found ∷ []) new ∙ together;
       so_far = λ j q lt there. ⊎_elim (λ less. let old = is.so_far j q less there in (old.0, omega (arith, old.1, le))) (λ ge.
           let same : j ≡ k = omega (arith, lt, ge) in
-          let own : q ≡ p = number-one q p (sym there ∙ ap (slice_get index) same ∙ at) in
+          let own : q ≡ p = same_Some q p (sym there ∙ ap (slice_get index) same ∙ at) in
           (subst (IsPlace code) (sym own) place, omega (arith, own))) (cases_lt j k);
       up = λ j o q lt there next. ⊎_elim (λ less. is.up j o q less there next) (λ ge.
           let same : j + 1 ≡ k = omega (arith, lt, ge) in
-          let own : q ≡ p = number-one q p (sym next ∙ ap (slice_get index) same ∙ at) in
+          let own : q ≡ p = same_Some q p (sym next ∙ ap (slice_get index) same ∙ at) in
           let old = (is.so_far j o (omega (arith, lt)) there).1 in
           omega (arith, own, old, le)) (cases_lt (j + 1) k);
       last = inr (k, p, refl, at, refl);

@@ -20,12 +20,9 @@ use Rattle.card_verify.proofs.Answering.{on-method}
 use Rattle.card_index.specs.Counting.{IsByIndex, CountsByIndex}
 use Rattle.card_index.specs.IndexTyping.{HasIndexTyping}
 
-number-same : (a b : ℕ) → Some a ≡ Some b → a ≡ b
-number-same a b e = cc
-
 -- what stands in a list with one more at its end: an element of the list, or the last one
 pushed : (xs : List ℕ) (x k y : ℕ) → slice_get (xs ++ x ∷ []) k ≡ Some y → (k < length xs) × (slice_get xs k ≡ Some y) ⊎ (k ≡ length xs) × (x ≡ y)
-pushed [] x zero y e = inr (refl, number-same x y e)
+pushed [] x zero y e = inr (refl, same_Some x y e)
 pushed [] x (suc k) y e = absurd cc
 pushed (z ∷ xs) x zero y e = inl (omega arith, e)
 pushed (z ∷ xs) x (suc k) y e = ⊎_elim (λ old. inl (omega (arith, old.0), old.1)) (λ last. inr (ap suc last.0, last.1)) (pushed xs x k y e)

@@ -27,7 +27,8 @@ use Rattle.card_typing.specs.declared.fault.CardFault.{CardFault}
 use Rattle.card_typing.specs.declared.fault.CardKind.{CardKind}
 use Rattle.card_typing.specs.Typing.{IsLeastCardTyping}
 use Rattle.card_typing.specs.Laws.{FlawsAreTold, QuietIsLeast}
-use Rattle.card_typing.specs.Refusal.{IsFlawKind, IsWrong, wrong_entry, wrong_room, wrong_target, wrong_rule, wrong_branch, wrong_end, refused_flaw, fault_of}
+use Rattle.card_typing.specs.Refusal.{IsWrong, wrong_entry, wrong_room, wrong_target, wrong_rule, wrong_branch, wrong_end, refused_flaw, fault_of}
+use Rattle.card_typing.proofs.Below.{fault-kind}
 use Rattle.card_verify.specs.Answers.{TellsFlaw}
 use Rattle.card_index.specs.declared.indexed.Indexed.{Indexed}
 use Rattle.card_index.specs.declared.scan.Lacking.{Lacking}
@@ -64,11 +65,6 @@ formed-by m index ends handlers places leads = record {
     place-of (negsuc n) c = c
 
 -- ---- what a flaw tells
-
-told-flaw : (flaw : Flaw) → IsFlawKind (fault_of flaw).kind
-told-flaw (flaws.Code place end) = tt
-told-flaw (flaws.BadTarget place target) = tt
-told-flaw (flaws.BadHandler entry number) = tt
 
 flaw-form : (flaw : Flaw) → IsFormKind (fault_of flaw).kind
 flaw-form (flaws.Code place end) = tt
@@ -142,7 +138,7 @@ module _ (w : Linked) (m : Method) (index : List ℕ) where
   over-never i before _ _ (wrong_over_open kind kept suits wrong) h = wrong-never i before kind kept wrong h
 
   form-never : (fault : CardFault) (kept : Frame) → FlawsAreTold w → IsWellFormed m → IsIndex m index → IsRefusedOver w m index fault kept → ¬ (IsFormKind fault.kind)
-  form-never _ _ told formed whole (over_flaw flaw kept first) h = (told m (fault_of flaw) kept (refused_flaw flaw kept first)).0 (told-flaw flaw) formed
+  form-never _ _ told formed whole (over_flaw flaw kept first) h = (told m (fault_of flaw) kept (refused_flaw flaw kept first)).0 (fault-kind flaw) formed
   form-never _ _ told formed whole (over_entry k kept f first) h = no-bad m index whole.ascending whole.places k first.bad
   form-never _ _ told formed whole (over_target place q kept f up places first) h = first.lacks.fails (whole.complete q (lacking-target m index place q first))
   form-never _ _ told formed whole (over_state i before kept kind f is there met wrong) h = over-never i before kind kept wrong h

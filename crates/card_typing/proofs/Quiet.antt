@@ -1,5 +1,5 @@
 -- A pass that raises no register is a card typing.
-use Rattle.std.proofs.Common.{◌≡◌, ℕ, zero, suc, ◌+◌, ◌<◌, ◌≤◌, ◌⊎◌, inl, inr, ⊎_elim, Bool, true, false, ◌==◌, if◌then◌else◌, get_or, List, [], ◌∷◌, length, All, refl, sym, ◌∙◌, ap, subst, arith, Contains, IsTrue}
+use Rattle.std.proofs.Common.{◌≡◌, ℕ, zero, suc, ◌+◌, ◌<◌, ◌≤◌, ◌⊎◌, inl, inr, ⊎_elim, Bool, true, false, ◌==◌, if◌then◌else◌, List, [], ◌∷◌, length, All, refl, sym, ◌∙◌, ap, subst, arith, Contains, IsTrue}
 use Rattle.std.specs.Prelude.{pos}
 use Rattle.std.proofs.lemmas.List.Elements.{All-contains}
 use Rattle.std.proofs.lemmas.Bool.{false≢true}
@@ -12,6 +12,7 @@ use Rattle.jc_decode.specs.Listing.{falls, targets, listing, Lists, end_from}
 use Rattle.jc_control.specs.Method.{Method, IsMethodOf}
 use Rattle.jc_control.specs.WellFormed.{HasInstruction, IsPlace, IsTargetPlace, IsHandlerOf, IsWellFormed}
 use Rattle.jc_decode.specs.Laws.{InstructionsAreListed}
+use Rattle.jc_decode.proofs.Elements.{Contains-either}
 use Rattle.jc_control.specs.Laws.{InstructionsArePlaced}
 use Rattle.jc_rules.specs.declared.rule.Outcome.{Outcome}
 use Rattle.jc_rules.specs.Flow.{CellsBelow, IsNotFresh, start_frame}
@@ -24,14 +25,6 @@ use Rattle.card_typing.specs.Pass.{IsQuiet, quiet_end, quiet_more}
 use Rattle.card_typing.specs.Laws.{MetIsBelow, MetIsSound, QuietIsLeast}
 
 -- ---- lists
-
--- the first element of a list, or one after it
-pub contains-either : {X : Type 0} (y : X) (xs : List X) (x : X) → Contains (y ∷ xs) x → (y ≡ x) ⊎ Contains xs x
-contains-either y xs x c = by c.0 c.1 c.2
-  where
-    by : (n : ℕ) → n < length (y ∷ xs) → get_or (y ∷ xs) n x ≡ x → (y ≡ x) ⊎ Contains xs x
-    by zero lt e = inl e
-    by (suc n) lt e = inr (n, omega arith, e)
 
 pub eq-same : (n : ℕ) → (n == n) ≡ true
 eq-same n = grind arith
@@ -111,7 +104,7 @@ module _ (w : Linked) (m : Method) (regs : List Ty) where
     unfolding stack-in
     visits at _ _ _ (quiet_end b given) l end from room agree j c = absurd (omega (arith, c.1))
     visits at _ _ _ (quiet_more b given stack after o i is a p u) l end from room agree j c =
-        ⊎_elim (λ same. subst (IsVisited stacks) same this) (λ later. visits (at + i.insn.len) is (falls i.insn.op) after u l.2 end fallen (after-room i p) agrees j later) (contains-either i is j c)
+        ⊎_elim (λ same. subst (IsVisited stacks) same this) (λ later. visits (at + i.insn.len) is (falls i.insn.op) after u l.2 end fallen (after-room i p) agrees j later) (Contains-either i is j c)
       where
         place : i.place ≡ at
         place = l.0

@@ -9,6 +9,11 @@ use Rattle.first_fault.specs.Least.{lesser, least_of, least_from}
 use Rattle.first_fault.specs.First.{IsLeast}
 use Rattle.first_fault.proofs.Places.{up_to-refl, up_to-before, before-then, before-up_to, before-true, before-false}
 
+-- the first of several things, and the others
+pub faultless_first : {Y : Type 0} (o : Option Y) (ys : List Y) → cons_option o ys ≡ [] → (o ≡ None) × (ys ≡ [])
+faultless_first None ys e = (refl, e)
+faultless_first (Some y) ys e = absurd cc
+
 module _ {F : Type 0} (place : F → Place) where
   -- the least of a list of faults, beside one that was seen before
   abbrev pub least_in : Option F → List F → Option F

@@ -1,23 +1,15 @@
 -- Numbers that lead to others, and the test that computes it.
-use Rattle.std.proofs.Common.{◌≡◌, ℕ, zero, suc, ◌<◌, ◌⊎◌, inl, inr, Bool, true, false, List, [], ◌∷◌, get_or, refl, subst, arith}
-use Rattle.std.specs.Prelude.{◌==◌, ◌||◌, ◌&&◌, Contains}
+use Rattle.std.proofs.Common.{◌≡◌, ℕ, zero, suc, ◌<◌, ◌⊎◌, inl, inr, true, List, [], ◌∷◌, get_or, subst, arith}
+use Rattle.std.specs.Prelude.{◌==◌, ◌&&◌, Contains}
 use Rattle.std.specs.List.{list_any}
-use Rattle.std.proofs.lemmas.Bool.{eqb-true, eq-eqb, false≢true, cases_lt, or_left, or_right, and_from}
+use Rattle.std.proofs.lemmas.Bool.{eqb-true, eq-eqb, false≢true, cases_lt, or_left, or_right, and_from, and_parts, or_cases}
 use Rattle.std.proofs.lemmas.List.Folds.{list_any_at}
 use Rattle.std.proofs.lemmas.List.Elements.{Contains-append_right}
 use Rattle.jc_base.specs.Leads.{Leads, at_once, further, leads_below}
 
-pub either : (a b : Bool) → (a || b) ≡ true → (a ≡ true) ⊎ (b ≡ true)
-either true b e = inl refl
-either false b e = inr e
-
-pub both : (a b : Bool) → (a && b) ≡ true → (a ≡ true) × (b ≡ true)
-both true b e = (refl, e)
-both false b e = absurd (false≢true e)
-
 pub any-contains : (xs : List ℕ) (b : ℕ) → list_any (λ x. x == b) xs ≡ true → Contains xs b
 any-contains [] b e = absurd (false≢true e)
-any-contains (x ∷ xs) b e = elim (either (x == b) (list_any (λ y. y == b) xs) e) [
+any-contains (x ∷ xs) b e = elim (or_cases (x == b) (list_any (λ y. y == b) xs) e) [
   | inl here ↦ (0, omega arith, eqb-true x b here)
   | inr more ↦ Contains-append_right (x ∷ []) xs b (any-contains xs b more)
 ]
@@ -55,10 +47,10 @@ Leads-from {a = a} n inside (further {b = b} h rest) = inside a b h
 pub leads-sound : (next : ℕ → List ℕ) (n a b : ℕ) → leads_below next n a b ≡ true → Leads next a b
 unfolding leads_below
 leads-sound next zero a b e = at_once (any-contains (next a) b e)
-leads-sound next (suc n) a b e = elim (either (leads_below next n a b) (leads_below next n a n && leads_below next n n b) e) [
+leads-sound next (suc n) a b e = elim (or_cases (leads_below next n a b) (leads_below next n a n && leads_below next n n b) e) [
   | inl below ↦ leads-sound next n a b below
   | inr through ↦
-      let two = both (leads_below next n a n) (leads_below next n n b) through in
+      let two = and_parts (leads_below next n a n) (leads_below next n n b) through in
       Leads-join (leads-sound next n a n two.0) (leads-sound next n n b two.1)
 ]
 
@@ -79,9 +71,9 @@ below next n a b e = or_left (leads_below next n a b) (leads_below next n a n &&
 -- either not over n, or to n and from there
 parts : (next : ℕ → List ℕ) (n a b : ℕ) → leads_below next (suc n) a b ≡ true → (leads_below next n a b ≡ true) ⊎ ((leads_below next n a n ≡ true) × (leads_below next n n b ≡ true))
 unfolding leads_below
-parts next n a b e = elim (either (leads_below next n a b) (leads_below next n a n && leads_below next n n b) e) [
+parts next n a b e = elim (or_cases (leads_below next n a b) (leads_below next n a n && leads_below next n n b) e) [
   | inl h ↦ inl h
-  | inr h ↦ inr (both (leads_below next n a n) (leads_below next n n b) h)
+  | inr h ↦ inr (and_parts (leads_below next n a n) (leads_below next n n b) h)
 ]
 
 -- to n, and from n

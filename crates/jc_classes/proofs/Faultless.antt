@@ -5,13 +5,14 @@ use Rattle.std.specs.List.{range_with_len}
 use Rattle.std.specs.Option.{option_flatten}
 use Rattle.std.proofs.lemmas.Bool.{false≢true}
 use Rattle.std.proofs.lemmas.List.Elements.{All-nil, All-cons}
+use Rattle.first_fault.proofs.LeastFaults.{faultless_first}
 use Rattle.jc_base.specs.declared.record.Iface.{Iface}
 use Rattle.jc_base.specs.declared.record.MethodRec.{MethodRec}
 use Rattle.jc_hierarchy.specs.Outline.{LineTable}
 use Rattle.jc_base.specs.Dispatch.{signature_of, signature_at}
 use Rattle.jc_resolve.specs.declared.fault.LinkFault.TheVariants.{Hole, OverrideType, InterfaceType}
 use Rattle.jc_resolve.specs.declared.named.NamedClass.{NamedClass}
-use Rattle.jc_resolve.proofs.Faultless.{faultless_first, both_faultless, flat_faultless}
+use Rattle.jc_resolve.proofs.Faultless.{both_faultless, flat_faultless}
 use Rattle.jc_classes.specs.Layout.{public_entries, visible_entries}
 use Rattle.jc_classes.specs.Signatures.{method_in, signature_in, same_signature}
 use Rattle.jc_classes.specs.Conditions.{Entry, entries_from, entries_in, may_stand, hole_fault, holes, Replacement, replacements_from, replacements_in, override_fault, overrides, layout_above, visible_above, Implementation, implemented_by, implementations_in, interface_fault, serves_all, unserved}

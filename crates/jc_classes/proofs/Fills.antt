@@ -1,12 +1,12 @@
 -- The slots of classes as they are filled.
-use Rattle.std.proofs.Common.{◌≡◌, ℕ, zero, suc, ◌+◌, ◌≤◌, ◌<◌, set, List, [], ◌∷◌, ◌++◌, length, map, length-set, get_or, append_assoc, append-nil, replicate, ◌⊎◌, Option, Some, None, refl, sym, ap, subst, ◌∙◌, arith, inl, inr}
+use Rattle.std.proofs.Common.{◌≡◌, ℕ, zero, suc, ◌+◌, ◌≤◌, ◌<◌, set, List, [], ◌∷◌, ◌++◌, length, map, length-set, get_or, append_assoc, append-nil, replicate, Option, Some, None, refl, sym, ap, subst, ◌∙◌, arith, inl, inr}
 use Rattle.std.specs.List.{range_with_len}
 use Rattle.std.proofs.lemmas.List.{length-replicate}
 use Rattle.std.specs.Prelude.{All, filter_map, IfSome, IsSome, slice_get}
 use Rattle.std.specs.Option.{option_to_list, option_map, option_flatten, option_and_then}
-use Rattle.std.proofs.lemmas.Bool.{cases_lt, false≢true}
+use Rattle.std.proofs.lemmas.Bool.{cases_lt, false≢true, cases_eq}
 use Rattle.std.proofs.lemmas.List.Sums.{sum_by-le}
-use Rattle.jc_base.proofs.Lists.{All-slice_get}
+use Rattle.jc_base.proofs.Lists.{All-slice_get, slice_get-set_here, slice_get-set_other}
 use Rattle.jc_base.specs.Class.{list_of}
 use Rattle.jc_hierarchy.specs.Outline.{LineTable, AreLines, chain, parent_of}
 use Rattle.jc_hierarchy.proofs.Bare.{next_on_chain, chain-length, chain-front, parent_of-class}
@@ -21,27 +21,6 @@ use Rattle.jc_classes.proofs.Steps.{layout_step}
 
 -- ---- a write to a slot
 
-pub slice_get-set_here : {X : Type 0} (xs : List X) (i : ℕ) (x : X) → i < length xs → slice_get (set xs i x) i ≡ Some x
-slice_get-set_here [] i x h = absurd (omega arith)
-slice_get-set_here (y ∷ ys) zero x h = refl
-slice_get-set_here (y ∷ ys) (suc i) x h = slice_get-set_here ys i x (omega arith)
-
-pub slice_get-set_other : {X : Type 0} (xs : List X) (i j : ℕ) (x : X) → (i ≡ j → ⊥) → slice_get (set xs i x) j ≡ slice_get xs j
-slice_get-set_other [] i j x ne = refl
-slice_get-set_other (y ∷ ys) zero zero x ne = absurd (ne refl)
-slice_get-set_other (y ∷ ys) zero (suc j) x ne = refl
-slice_get-set_other (y ∷ ys) (suc i) zero x ne = refl
-slice_get-set_other (y ∷ ys) (suc i) (suc j) x ne = slice_get-set_other ys i j x (λ e. ne (ap suc e))
-
-pub same_or_other : (i j : ℕ) → (i ≡ j) ⊎ (i ≡ j → ⊥)
-same_or_other i j = elim (cases_lt i j) [
-  | inl lt ↦ inr (λ e. omega arith)
-  | inr le ↦ elim (cases_lt j i) [
-    | inl lt ↦ inr (λ e. omega arith)
-    | inr ge ↦ inl (omega arith)
-  ]
-]
-
 pub filled-here : (slots : List (Option ClassLayout)) (c : ℕ) (l : ClassLayout) → c < length slots → slot_at (set slots c (Some l)) c ≡ Some l
 unfolding slot_at
 filled-here slots c l h = ap option_flatten (slice_get-set_here slots c (Some l) h)
@@ -54,7 +33,7 @@ pub slots_filled : (t : LineTable) (classes : List NamedClass) (slots : List (Op
     → AreSlots t classes (set slots c (Some l))
 slots_filled t classes slots c l are h is = record {
   count = length-set slots c (Some l) ∙ are.count;
-  right = λ d. elim (same_or_other c d) [
+  right = λ d. elim (cases_eq c d) [
     | inl e ↦
         let within : c < length slots = omega (arith, are.count) in
         let here : slot_at (set slots c (Some l)) d ≡ Some l = ap (slot_at (set slots c (Some l))) (sym e) ∙ filled-here slots c l within in
@@ -66,7 +45,7 @@ slots_filled t classes slots c l are h is = record {
 pub slots_kept : (t : LineTable) (classes : List NamedClass) (slots : List (Option ClassLayout)) (c : ℕ) (l : ClassLayout) → AreSlots t classes slots → c < length classes → l ≡ layout_of t classes c
     → Keeps t classes slots (set slots c (Some l))
 slots_kept t classes slots c l are h is = record {
-  filled = λ d was. elim (same_or_other c d) [
+  filled = λ d was. elim (cases_eq c d) [
     | inl e ↦
         let within : c < length slots = omega (arith, are.count) in
         ap (slot_at (set slots c (Some l))) (sym e) ∙ filled-here slots c l within ∙ ap Some (is ∙ ap (layout_of t classes) e)

@@ -2,13 +2,12 @@
 use Rattle.std.proofs.Common.{◌≡◌, ℕ, zero, suc, ◌+◌, ◌<◌, set, get_or, take, Bool, true, false, List, [], ◌∷◌, ◌++◌, append-nil, length, replicate, Option, Some, refl, sym, ap, subst, ◌∙◌, inl, inr}
 use Rattle.std.specs.Prelude.{◌==◌, ◌||◌, ◌&&◌, not, IfSome, slice_get, if◌then◌else◌}
 use Rattle.std.specs.List.{list_all}
-use Rattle.std.proofs.lemmas.Bool.{eqb-true, eq-eqb, false_from_ne_true}
+use Rattle.std.proofs.lemmas.Bool.{eqb-true, eq-eqb, false_from_ne_true, cases_eq}
 use Rattle.std.proofs.lemmas.List.{length-set, length-replicate, take_more}
 use Rattle.std.proofs.lemmas.Option.{slice_get_within}
 use Rattle.jc_base.specs.declared.record.MethodRec.{MethodRec}
-use Rattle.jc_base.proofs.Lists.{IfSome-is}
+use Rattle.jc_base.proofs.Lists.{IfSome-is, slice_get-set_here, slice_get-set_other}
 use Rattle.jc_classes.specs.Groups.{AreGroups, IsAdded, methods_of}
-use Rattle.jc_classes.proofs.Fills.{slice_get-set_here, slice_get-set_other, same_or_other}
 
 pub added : (m : MethodRec) (old new : List (List MethodRec)) (before after : List MethodRec) → slice_get old m.class ≡ Some before → after ≡ before ++ (m ∷ []) → new ≡ set old m.class after → IsAdded m old new
 added m old new before after found e is = record { before = before; found = found; set_is = is ∙ ap (set old m.class) e }
@@ -38,7 +37,7 @@ methods_by (x ∷ xs) m d b e = keep_or_skip x b (x.class == d) m (methods_of xs
 pub groups_more : (n : ℕ) (methods : List MethodRec) (m : MethodRec) (old new : List (List MethodRec)) → AreGroups n methods old → IsAdded m old new → AreGroups n (methods ++ (m ∷ [])) new
 groups_more n methods m old new are is = record {
   count = ap length is.set_is ∙ length-set old m.class (is.before ++ (m ∷ [])) ∙ are.count;
-  each = λ d. elim (same_or_other m.class d) [
+  each = λ d. elim (cases_eq m.class d) [
     | inl e ↦
         let before : is.before ≡ methods_of methods m.class = IfSome-is (λ g. g ≡ methods_of methods m.class) (slice_get old m.class) is.before (are.each m.class) is.found in
         let here : slice_get new m.class ≡ Some (is.before ++ (m ∷ [])) = ap (λ (gs : List (List MethodRec)). slice_get gs m.class) is.set_is ∙ slice_get-set_here old m.class (is.before ++ (m ∷ [])) (slice_get_within old m.class is.before is.found) in

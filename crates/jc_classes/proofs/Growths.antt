@@ -2,7 +2,7 @@
 use Rattle.std.proofs.Common.{◌≡◌, ℕ, zero, suc, ◌+◌, ◌≤◌, ◌<◌, min, get_or, Bool, true, false, not, List, [], ◌∷◌, length, flat_map, Option, Some, None, ◌⊎◌, refl, sym, ap, ◌∙◌, arith, inl, inr, eqb-true}
 use Rattle.std.specs.Prelude.{All, IfSome, is_some, ◌==◌, ◌&&◌, ◌||◌, if◌then◌else◌, filter_map, slice_get, option_map}
 use Rattle.std.specs.List.{range_with_len, list_any}
-use Rattle.std.proofs.lemmas.Bool.{cases_lt, false≢true}
+use Rattle.std.proofs.lemmas.Bool.{cases_lt, false≢true, and_parts}
 use Rattle.jc_base.proofs.Lists.{All-slice_get}
 use Rattle.jc_base.specs.declared.record.MethodRec.{MethodRec}
 use Rattle.jc_base.specs.Class.{list_of}
@@ -69,14 +69,6 @@ adds_all methods c first to table inherited list e is past before = record {
 
 -- ---- entries that may stand in a list
 
-both_first : (a b : Bool) → (a && b) ≡ true → a ≡ true
-both_first true b e = refl
-both_first false b e = absurd (false≢true e)
-
-both_second : (a b : Bool) → (a && b) ≡ true → b ≡ true
-both_second true b e = e
-both_second false b e = absurd (false≢true e)
-
 or_true : (b : Bool) → (b || true) ≡ true
 or_true true = refl
 or_true false = refl
@@ -85,10 +77,10 @@ own_stands : (t : LineTable) (c : ℕ) (o : Option MethodRec) → own_by c o ≡
 own_stands t c None e = absurd (false≢true e)
 own_stands t c (Some m) e =
     let plain : Bool = not m.is_static && not m.is_init in
-    let same : m.class ≡ c = eqb-true m.class c (both_first (m.class == c) plain e) in
+    let same : m.class ≡ c = eqb-true m.class c (and_parts (m.class == c) plain e).0 in
     ap (λ (d : ℕ). is_on_chain t d c && plain) same
     ∙ ap (λ (b : Bool). b && plain) (on_chain-here t c)
-    ∙ both_second (m.class == c) plain e
+    ∙ (and_parts (m.class == c) plain e).1
 
 on_above : (t : LineTable) (d c p : ℕ) → chain t c ≡ c ∷ chain t p → is_on_chain t d p ≡ true → is_on_chain t d c ≡ true
 unfolding is_on_chain
@@ -98,8 +90,8 @@ above_stands : (t : LineTable) (c p : ℕ) (o : Option MethodRec) → chain t c 
 above_stands t c p None step e = absurd (false≢true e)
 above_stands t c p (Some m) step e =
     let plain : Bool = not m.is_static && not m.is_init in
-    ap (λ (b : Bool). b && plain) (on_above t m.class c p step (both_first (is_on_chain t m.class p) plain e))
-    ∙ both_second (is_on_chain t m.class p) plain e
+    ap (λ (b : Bool). b && plain) (on_above t m.class c p step (and_parts (is_on_chain t m.class p) plain e).0)
+    ∙ (and_parts (is_on_chain t m.class p) plain e).1
 
 -- each entry of a list, by its token
 pub record Stand (t : LineTable) (c : ℕ) (methods : List MethodRec) (list : List (Option ℕ)) : Type 0 where

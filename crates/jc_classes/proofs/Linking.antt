@@ -3,7 +3,7 @@ use Rattle.std.proofs.Common.{◌≡◌, ℕ, ◌+◌, ◌<◌, ◌≤◌, max, 
 use Rattle.std.specs.Prelude.{◌==◌, ◌&&◌, ◌||◌, not, All, IfOk, IfSome, IsSomeAnd, MatchBool, slice_get, option_map, option_and_then, if◌then◌else◌}
 use Rattle.std.specs.List.{list_all}
 use Rattle.std.specs.Option.{option_flatten}
-use Rattle.std.proofs.lemmas.Bool.{false≢true, and_parts, eq-eqb}
+use Rattle.std.proofs.lemmas.Bool.{false≢true, and_parts, eq-eqb, not-true}
 use Rattle.std.proofs.lemmas.List.Elements.{All-nil, All-cons, All-weaker}
 use Rattle.std.proofs.lemmas.List.FromFn.{length-map-range_with_len}
 use Rattle.std.proofs.lemmas.Option.{slice_get_cases, slice_get_within}
@@ -43,10 +43,6 @@ use Rattle.jc_classes.proofs.Faultless.{AllStand, public_stand, visible_stand, I
 
 -- ---- methods in dispatch lists
 
-not_true : (b : Bool) → not b ≡ true → b ≡ false
-not_true true e = absurd (false≢true e)
-not_true false e = refl
-
 below_by : (u : ClassTable) → AreClasses u → (d c : ℕ) → is_on_chain u d c ≡ true → Below u (Class c) (Class d)
 unfolding is_below
 below_by u are d c on = Below-from_is_below u are (Class c) (Class d) on
@@ -58,8 +54,8 @@ inherited_by t u alike are c (Some m) e =
     let flags = and_parts (not m.is_static) (not m.is_init) both.1 in
     record {
       class = below_by u are m.class c (on_chain-alike t u alike m.class c ∙ both.0);
-      dynamic = not_true m.is_static flags.0;
-      no_constructor = not_true m.is_init flags.1;
+      dynamic = not-true m.is_static flags.0;
+      no_constructor = not-true m.is_init flags.1;
     }
 
 dispatch_built : (t : LineTable) (u : ClassTable) → AreAlike t u → AreClasses u → (methods : List MethodRec) (c : ℕ) (own inherited : List (Option ℕ)) (from : List ℕ) → AllStand t c methods own → IsListed inherited → length inherited ≤ length own → Agrees methods inherited own

@@ -1,19 +1,12 @@
 -- A test of each item of a list, item by item.
-use Rattle.std.proofs.Common.{◌≡◌, ℕ, zero, suc, ◌+◌, ◌≤◌, drop, Bool, true, false, List, [], ◌∷◌, length, Some, sym, ap, ◌∙◌, arith}
+use Rattle.std.proofs.Common.{◌≡◌, ℕ, ◌+◌, ◌≤◌, drop, Bool, true, false, List, length, Some, sym, ap, ◌∙◌}
 use Rattle.std.specs.Prelude.{◌&&◌, slice_get}
 use Rattle.std.specs.List.{list_all}
 use Rattle.std.proofs.lemmas.List.{drop_all}
-
-drop_at_item : {X : Type 0} (xs : List X) (i : ℕ) (x : X) → slice_get xs i ≡ Some x → drop i xs ≡ x ∷ drop (suc i) xs
-drop_at_item [] i x e = absurd cc
-drop_at_item (y ∷ ys) zero x e = let same : y ≡ x = cc in ap (λ z. z ∷ ys) same
-drop_at_item (y ∷ ys) (suc i) x e = drop_at_item ys i x e
-
-pub drop_item : {X : Type 0} (xs : List X) (i : ℕ) (x : X) → slice_get xs i ≡ Some x → drop i xs ≡ x ∷ drop (i + 1) xs
-drop_item xs i x e = let more : suc i ≡ i + 1 = omega arith in drop_at_item xs i x e ∙ ap (λ (k : ℕ). x ∷ drop k xs) more
+use Rattle.cap_package.proofs.Given.{drop_here}
 
 passed_is : {X : Type 0} (p : X → Bool) (xs : List X) (i : ℕ) (x : X) (b : Bool) → slice_get xs i ≡ Some x → p x ≡ b → list_all p (drop i xs) ≡ (b && list_all p (drop (i + 1) xs))
-passed_is p xs i x b e t = ap (list_all p) (drop_item xs i x e) ∙ ap (λ (c : Bool). c && list_all p (drop (i + 1) xs)) t
+passed_is p xs i x b e t = ap (list_all p) (drop_here xs i x e) ∙ ap (λ (c : Bool). c && list_all p (drop (i + 1) xs)) t
 
 -- an item that passes, one that fails, and the end
 pub all_next : {X : Type 0} (p : X → Bool) (xs : List X) (i : ℕ) (x : X) → slice_get xs i ≡ Some x → true ≡ p x → list_all p (drop i xs) ≡ list_all p xs → list_all p (drop (i + 1) xs) ≡ list_all p xs

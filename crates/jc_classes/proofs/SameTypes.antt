@@ -2,7 +2,7 @@
 use Rattle.std.proofs.Common.{◌≡◌, ℕ, suc, ◌+◌, ◌<◌, Bool, true, false, List, [], ◌∷◌, length, drop, get_or, refl, sym, ap, subst, ◌∙◌, ◌≤◌, arith, drop-cons, add-one}
 use Rattle.std.proofs.lemmas.List.{drop_all}
 use Rattle.std.specs.Prelude.{◌&&◌, ◌↔◌, IsTrue, Option, Some, None}
-use Rattle.std.proofs.lemmas.Bool.{false≢true}
+use Rattle.std.proofs.lemmas.Bool.{false≢true, and_parts}
 use Rattle.jc_base.specs.declared.ty.Ty.{Ty}
 use Rattle.jc_base.specs.declared.record.Sig.{Sig}
 use Rattle.jc_base.specs.declared.record.MethodRec.{MethodRec}
@@ -10,20 +10,12 @@ use Rattle.jc_base.specs.SameType.{same_type}
 use Rattle.jc_base.proofs.SameTypes.{same_type-equal, same_type-itself}
 use Rattle.jc_classes.specs.Signatures.{same_types, same_result, same_sig, same_signature, signature_in}
 
-both-first : (a b : Bool) → (a && b) ≡ true → a ≡ true
-both-first true b h = refl
-both-first false b h = absurd (false≢true h)
-
-both-second : (a b : Bool) → (a && b) ≡ true → b ≡ true
-both-second true b h = h
-both-second false b h = absurd (false≢true h)
-
 -- lists of different lengths are not the same
 pub same-lengths : (xs ys : List Ty) → same_types xs ys ≡ true → length xs ≡ length ys
 same-lengths [] [] e = refl
 same-lengths [] (y ∷ ys) e = absurd (false≢true e)
 same-lengths (x ∷ xs) [] e = absurd (false≢true e)
-same-lengths (x ∷ xs) (y ∷ ys) e = ap suc (same-lengths xs ys (both-second (same_type x y) (same_types xs ys) e))
+same-lengths (x ∷ xs) (y ∷ ys) e = ap suc (same-lengths xs ys (and_parts (same_type x y) (same_types xs ys) e).1)
 
 lengths_differ : (xs ys : List Ty) → (length xs ≡ length ys → ⊥) → (b : Bool) → same_types xs ys ≡ b → false ≡ b
 lengths_differ xs ys ne true e = absurd (ne (same-lengths xs ys e))
@@ -62,8 +54,8 @@ same_types-equal [] [] e = refl
 same_types-equal [] (y ∷ ys) e = absurd (false≢true e)
 same_types-equal (x ∷ xs) [] e = absurd (false≢true e)
 same_types-equal (x ∷ xs) (y ∷ ys) e =
-    let first : x ≡ y = same_type-equal x y (both-first (same_type x y) (same_types xs ys) e) in
-    let rest : xs ≡ ys = same_types-equal xs ys (both-second (same_type x y) (same_types xs ys) e) in
+    let first : x ≡ y = same_type-equal x y (and_parts (same_type x y) (same_types xs ys) e).0 in
+    let rest : xs ≡ ys = same_types-equal xs ys (and_parts (same_type x y) (same_types xs ys) e).1 in
     rw (first, rest) refl
 
 same_types-itself : (xs : List Ty) → same_types xs xs ≡ true
@@ -83,8 +75,8 @@ same_result-itself (Some a) = same_type-itself a
 same_sig-equal : (a b : Sig) → same_sig a b ≡ true → a ≡ b
 unfolding same_sig
 same_sig-equal a b e =
-    let args : a.args ≡ b.args = same_types-equal a.args b.args (both-first (same_types a.args b.args) (same_result a.result b.result) e) in
-    let results : a.result ≡ b.result = same_result-equal a.result b.result (both-second (same_types a.args b.args) (same_result a.result b.result) e) in
+    let args : a.args ≡ b.args = same_types-equal a.args b.args (and_parts (same_types a.args b.args) (same_result a.result b.result) e).0 in
+    let results : a.result ≡ b.result = same_result-equal a.result b.result (and_parts (same_types a.args b.args) (same_result a.result b.result) e).1 in
     equal_parts a b args results where
       equal_parts : (a b : Sig) → a.args ≡ b.args → a.result ≡ b.result → a ≡ b
       equal_parts a b e f = ap (λ (xs : List Ty). let s : Sig = record { args = xs; result = a.result } in s) e ∙ ap (λ (r : Option Ty). let s : Sig = record { args = b.args; result = r } in s) f

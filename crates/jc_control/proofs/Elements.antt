@@ -2,7 +2,6 @@
 use Rattle.std.proofs.Common.{◌≡◌, ◌<◌, ◌+◌, ℕ, zero, suc, Some, List, [], ◌∷◌, ◌++◌, length, take, refl, sym, ap, ◌∙◌, arith, append_assoc, Contains, All}
 use Rattle.std.specs.Prelude.{slice_get}
 use Rattle.std.proofs.lemmas.List.{append-nil}
-use Rattle.std.proofs.lemmas.List.Elements.{All-contains}
 use Rattle.jc_decode.proofs.Elements.{Contains-slice_get}
 use Rattle.jc_control.specs.FirstFailing.{IsFirstFailing}
 use Rattle.jc_base.proofs.Lists.{All-slice_get}
@@ -21,9 +20,6 @@ contained-in before x after whole h = Contains-slice_get whole (length before) x
 
 pub go-on : {A : Type 0} (before : List A) (x : A) (after whole : List A) → before ++ x ∷ after ≡ whole → (before ++ x ∷ []) ++ after ≡ whole
 go-on before x after whole h = append_assoc before (x ∷ []) after ∙ h
-
-pub slice_get-in : {A : Type 0} (P : A → Type 0) (xs : List A) (n : ℕ) (x : A) → All P xs → slice_get xs n ≡ Some x → P x
-slice_get-in P xs n x all h = All-contains P xs x all (Contains-slice_get xs n x h)
 
 pub slice_get-take : {A : Type 0} (xs : List A) (k n : ℕ) (x : A) → k < n → slice_get xs k ≡ Some x → slice_get (take n xs) k ≡ Some x
 slice_get-take [] k n x h e = absurd (cc)

@@ -13,17 +13,14 @@ use Rattle.jc_hierarchy.specs.Ancestor.{superclass, superclass_in, extended, ext
 use Rattle.jc_base.proofs.Leading.{leads-sound, leads-complete}
 use Rattle.jc_base.proofs.Tests.{same_truth}
 
-nothing : (b : ℕ) (A : Type 0) → Contains [] b → A
-nothing b A h = absurd (omega (arith, h.1))
-
 -- ---- what has something above it, and what stands there
 
 superclass-from : (cs : List NamedClass) (a b : ℕ) (o : Option NamedClass) → slice_get cs a ≡ o → Contains (superclass_in o) b → a < length cs
-superclass-from cs a b None e h = nothing b (a < length cs) h
+superclass-from cs a b None e h = let none : Contains [] b = h in absurd (omega (arith, none.1))
 superclass-from cs a b (Some r) e h = slice_get_within cs a r e
 
 extended-from : (cs : List NamedClass) (a b : ℕ) (o : Option NamedClass) → slice_get cs a ≡ o → Contains (extended_in o) b → a < length cs
-extended-from cs a b None e h = nothing b (a < length cs) h
+extended-from cs a b None e h = let none : Contains [] b = h in absurd (omega (arith, none.1))
 extended-from cs a b (Some r) e h = slice_get_within cs a r e
 
 pub above-from : (cs : List NamedClass) (interfaces : Bool) (a b : ℕ) → Contains (above cs interfaces a) b → a < length cs
@@ -45,7 +42,7 @@ extended-inside cs r false e is = rw e (All-nil (λ p. p < length cs))
 
 inside_by : (cs : List NamedClass) (f : Option NamedClass → List ℕ) (a b : ℕ) (o : Option NamedClass) → All (HasKnownLine cs) cs → f None ≡ []
     → ((r : NamedClass) → HasKnownLine cs r → All (λ p. p < length cs) (f (Some r))) → slice_get cs a ≡ o → Contains (f o) b → b < length cs
-inside_by cs f a b None known none some e h = nothing b (b < length cs) (subst (λ xs. Contains xs b) none h)
+inside_by cs f a b None known none some e h = let there : Contains [] b = subst (λ xs. Contains xs b) none h in absurd (omega (arith, there.1))
 inside_by cs f a b (Some r) known none some e h = All-contains (λ p. p < length cs) (f (Some r)) b (some r (All-slice_get (HasKnownLine cs) cs a r known e)) h
 
 pub above-inside : (cs : List NamedClass) (interfaces : Bool) → All (HasKnownLine cs) cs → (a b : ℕ) → Contains (above cs interfaces a) b → b < length cs

@@ -2,7 +2,7 @@
 use Rattle.std.proofs.Common.{◌≡◌, ℕ, zero, suc, ◌<◌, ◌≤◌, ◌⊎◌, inl, inr, Bool, true, false, List, [], ◌∷◌, map, length, Option, Some, None, refl, sym, ap, subst, ◌∙◌, arith}
 use Rattle.std.specs.Prelude.{◌==◌, ◌||◌, ◌&&◌, nat_lt, All, Contains, slice_get, slice_index}
 use Rattle.std.specs.Option.{option_map, option_to_list}
-use Rattle.std.proofs.lemmas.Bool.{false≢true, eqb-true, ltb-true}
+use Rattle.std.proofs.lemmas.Bool.{false≢true, eqb-true, ltb-true, and_parts, or_cases}
 use Rattle.std.proofs.lemmas.Option.{slice_get-map, slice_get-get_or, slice_get_within}
 use Rattle.std.proofs.lemmas.List.{length-map}
 use Rattle.std.proofs.lemmas.List.Elements.{All-nil, All-cons, Contains-push, Contains-push_cases}
@@ -17,7 +17,6 @@ use Rattle.jc_hierarchy.specs.Conditions.{names_class, class_in, fits_role}
 use Rattle.jc_hierarchy.specs.Outline.{LineTable, IsClass, AreLines, is_interface_line, is_interface as interface_in_table, parent_of, parent_in_line, object, chain, chain_over, line_of, outline}
 use Rattle.jc_hierarchy.proofs.Bare.{chain_alone, chain_above, chain_over-front}
 use Rattle.jc_hierarchy.proofs.Above.{is_above-sound}
-use Rattle.jc_base.proofs.Leading.{both, either}
 use Rattle.jc_hierarchy.proofs.Faultless.{NoFault}
 use Rattle.jc_hierarchy.proofs.Ranks.{rank, rank-most, rank-falls}
 
@@ -163,8 +162,8 @@ chain-ends cs first roles known sound (suc m) c is h =
 
 fitting-class : (cs : List NamedClass) (first throwable k c : ℕ) → fits_role cs first throwable k c ≡ true → names_class cs c ≡ true
 fitting-class cs first throwable k c e =
-    let part = both (nat_lt c first && names_class cs c) (nat_lt k 2 || c == throwable || is_above cs false throwable c) e in
-    (both (nat_lt c first) (names_class cs c) part.0).1
+    let part = and_parts (nat_lt c first && names_class cs c) (nat_lt k 2 || c == throwable || is_above cs false throwable c) e in
+    (and_parts (nat_lt c first) (names_class cs c) part.0).1
 
 named-plain : (cs : List NamedClass) (c : ℕ) (o : Option NamedClass) → slice_get cs c ≡ o → class_in o ≡ true → IsPlain cs c
 named-plain cs c None e h = absurd (false≢true h)
@@ -182,9 +181,9 @@ role-plain cs first roles sound k h =
 -- a role from 2 on is throwable, or throwable is its ancestor
 thrown-by : (cs : List NamedClass) (first throwable k c : ℕ) → 2 ≤ k → fits_role cs first throwable k c ≡ true → (throwable ≡ c) ⊎ IsAncestor cs throwable c
 thrown-by cs first throwable k c h e =
-    let part = both (nat_lt c first && names_class cs c) (nat_lt k 2 || c == throwable || is_above cs false throwable c) e in
-    elim (either (nat_lt k 2 || c == throwable) (is_above cs false throwable c) part.1) [
-      | inl low ↦ elim (either (nat_lt k 2) (c == throwable) low) [
+    let part = and_parts (nat_lt c first && names_class cs c) (nat_lt k 2 || c == throwable || is_above cs false throwable c) e in
+    elim (or_cases (nat_lt k 2 || c == throwable) (is_above cs false throwable c) part.1) [
+      | inl low ↦ elim (or_cases (nat_lt k 2) (c == throwable) low) [
         | inl two ↦ absurd (omega (arith, ltb-true k 2 two))
         | inr same ↦ inl (sym (eqb-true c throwable same))
       ]

@@ -10,7 +10,8 @@ use Rattle.jc_resolve.specs.declared.fault.LinkFault.TheVariants.{SuperIsInterfa
 use Rattle.jc_resolve.specs.declared.named.NamedClass.{NamedClass}
 use Rattle.jc_resolve.specs.Named.{is_interface}
 use Rattle.first_fault.specs.First.{AllEmpty}
-use Rattle.jc_resolve.proofs.Faultless.{faultless_first, faultless_at, flat_faultless}
+use Rattle.first_fault.proofs.LeastFaults.{faultless_first}
+use Rattle.jc_resolve.proofs.Faultless.{faultless_at, flat_faultless}
 use Rattle.jc_hierarchy.specs.Ancestor.{is_above}
 use Rattle.jc_hierarchy.specs.Conditions.{numbered, names_class, super_fault, cycle_fault, fits_role, role_fault, root_fault, named_interfaces, interface_fault, conditions}
 

@@ -4,7 +4,7 @@ use Rattle.std.specs.Prelude.{Contains, slice_get}
 use Rattle.std.specs.List.{list_all}
 use Rattle.std.specs.Option.{option_to_list}
 use Rattle.std.proofs.Math.Seq.{get_or-append_seam}
-use Rattle.std.proofs.lemmas.Bool.{false≢true, false_from_ne_true, cases_lt}
+use Rattle.std.proofs.lemmas.Bool.{false≢true, false_from_ne_true, cases_lt, and_parts}
 use Rattle.std.proofs.lemmas.List.{get_or_append_left, get_or_past, length-append}
 use Rattle.std.proofs.lemmas.List.Folds.{list_all-map}
 use Rattle.std.proofs.lemmas.List.Elements.{Contains-append_cases, Contains-push_cases}
@@ -13,7 +13,6 @@ use Rattle.jc_resolve.specs.declared.named.NamedClass.{NamedClass}
 use Rattle.jc_base.specs.Leads.{Leads, at_once, further}
 use Rattle.jc_hierarchy.specs.Ancestor.{superclass, superclass_in, extended, extended_in, above, is_above}
 use Rattle.jc_hierarchy.specs.Marks.{rests_on}
-use Rattle.jc_base.proofs.Leading.{both}
 use Rattle.jc_hierarchy.proofs.Above.{is_above-sound}
 
 -- a number is settled
@@ -27,7 +26,7 @@ pub record AreSettled (cs : List NamedClass) (settled : List Bool) : Type 0 wher
 all-contained : (p : ℕ → Bool) (xs : List ℕ) (e : ℕ) → list_all p xs ≡ true → Contains xs e → p e ≡ true
 all-contained p [] e all h = absurd (omega (arith, h.1))
 all-contained p (x ∷ xs) e all h =
-    let two = both (p x) (list_all p xs) all in
+    let two = and_parts (p x) (list_all p xs) all in
     elim (Contains-append_cases (x ∷ []) xs e h) [
       | inl here ↦ elim (Contains-push_cases [] x e here) [
         | inl none ↦ absurd (omega (arith, none.1))
@@ -35,9 +34,6 @@ all-contained p (x ∷ xs) e all h =
       ]
       | inr more ↦ all-contained p xs e two.1 more
     ]
-
-nowhere : (e : ℕ) (A : Type 0) → Contains [] e → A
-nowhere e A h = absurd (omega (arith, h.1))
 
 rests-by : (settled : List Bool) (r : NamedClass) (e : ℕ) (interfaces b : Bool) → r.interface ≡ b → rests_on settled r ≡ true
     → (interfaces ≡ true → Contains (extended_in (Some r)) e) → (interfaces ≡ false → Contains (superclass_in (Some r)) e) → IsSettled settled e
@@ -47,10 +43,10 @@ rests-by settled r e true true i all ext sup =
     all-contained (λ n. get_or settled n false) (map (λ (n : Iface). n.class) r.interfaces) e (list_all-map (λ n. get_or settled n false) (λ (n : Iface). n.class) r.interfaces ∙ each) h
 rests-by settled r e true false i all ext sup =
     let h : Contains [] e = rw i at (ext refl) in
-    nowhere e (IsSettled settled e) h
+    absurd (omega (arith, h.1))
 rests-by settled r e false true i all ext sup =
     let h : Contains [] e = rw i at (sup refl) in
-    nowhere e (IsSettled settled e) h
+    absurd (omega (arith, h.1))
 rests-by settled r e false false i all ext sup =
     let one : list_all (λ p. get_or settled p false) (option_to_list r.parent) ≡ true = rw i at all in
     let h : Contains (option_to_list r.parent) e = rw i at (sup refl) in

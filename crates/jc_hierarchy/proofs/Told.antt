@@ -1,9 +1,10 @@
 -- The answer tells the first fault, or the lines and what is known of them.
-use Rattle.std.proofs.Common.{◌≡◌, ℕ, zero, suc, ◌<◌, ◌≤◌, Bool, true, false, not, List, [], ◌∷◌, map, length, Option, Some, None, Result, Ok, Err, refl, sym, ap, subst, ◌∙◌, arith}
+use Rattle.std.proofs.Common.{◌≡◌, ℕ, zero, suc, ◌<◌, ◌≤◌, true, false, List, [], ◌∷◌, map, length, Option, Some, None, Result, Ok, Err, refl, sym, ap, subst, ◌∙◌, arith}
 use Rattle.std.specs.Prelude.{All, IfSome, IfOk, slice_get, slice_index}
 use Rattle.std.specs.Option.{option_map}
 use Rattle.std.proofs.lemmas.Option.{slice_get-map}
 use Rattle.std.proofs.lemmas.List.{length-map}
+use Rattle.std.proofs.lemmas.Bool.{not-false}
 use Rattle.jc_base.specs.declared.record.Iface.{Iface}
 use Rattle.jc_base.proofs.Lists.{All-slice_get, IfSome-is}
 use Rattle.jc_resolve.specs.declared.fault.LinkFault.{LinkFault}
@@ -77,10 +78,7 @@ interface-by cs c None e h no_class = absurd (past cs c h e) where
   past [] i h e = omega arith
   past (x ∷ xs) zero h e = cc
   past (x ∷ xs) (suc i) h e = past xs i (omega arith) e
-interface-by cs c (Some r) e h no_class = not_false r.interface no_class where
-  not_false : (b : Bool) → not b ≡ false → b ≡ true
-  not_false true e = refl
-  not_false false e = absurd cc
+interface-by cs c (Some r) e h no_class = not-false r.interface no_class
 
 interface-made : (cs : List NamedClass) (roles : List ℕ) (c : ℕ) → c < length cs → names_class cs c ≡ false → interface_in_table (outline cs roles) c ≡ true
 unfolding interface_in_table names_class

@@ -1,7 +1,7 @@
 -- What the handlers of named methods catch, where nothing is at fault.
 use Rattle.std.proofs.Common.{◌≡◌, ℕ, zero, suc, ◌+◌, ◌<◌, Bool, true, false, List, length, Option, Some, None, refl, sym, ap, ◌∙◌, arith}
 use Rattle.std.specs.Prelude.{All, map, slice_get, option_map, option_and_then, unwrap_or, not, ◌==◌, ◌||◌, if◌then◌else◌}
-use Rattle.std.proofs.lemmas.Bool.{false≢true, and_parts, eqb-true, eq-eqb}
+use Rattle.std.proofs.lemmas.Bool.{false≢true, and_parts, eqb-true, eq-eqb, not-true}
 use Rattle.std.proofs.lemmas.List.Elements.{All-nil, All-map, All-take, All-drop, All-weaker}
 use Rattle.cap_bytes.specs.declared.class_reference.ClassReference.{ClassReference}
 use Rattle.cap_pool.specs.PoolFormat.{Entry}
@@ -44,10 +44,6 @@ pub record AreCaught (ps : List PackageRecord) (t : ClassTable) (statics : List 
   pub throwables : IsClass t (throwable t)
   pub at : (i : ℕ) → slice_get members i ≡ option_and_then (member_of ps t statics k) (slice_get pool i)
 
-not_true : (b : Bool) → not b ≡ true → b ≡ false
-not_true true e = absurd (false≢true e)
-not_true false e = refl
-
 module _ (ps : List PackageRecord) (t : ClassTable) (statics : List StaticRec) (k : ℕ) (pool : List Entry) (members : List Member) (are : AreCaught ps t statics k pool members) where
   -- a Classref's member
   class_is : (e : Entry) (r : ClassReference) (c : ℕ) → referred e ≡ ClassEntry r → class_referred ps k r ≡ Some c → member_of ps t statics k e ≡ Some (ClassOf c)
@@ -61,7 +57,7 @@ module _ (ps : List PackageRecord) (t : ClassTable) (statics : List StaticRec) (
       let low : c < length (numbered_classes ps) = IfSome-is (λ d. d < length (numbered_classes ps)) (class_referred ps k r) c (class-below ps k r) is in
       record {
         catches = are.at (suc n) ∙ ap (option_and_then (member_of ps t statics k)) at ∙ class_is e r c entry is;
-        class = record { number = omega (arith, are.count, low); class = not_true (is_interface t c) both.0 };
+        class = record { number = omega (arith, are.count, low); class = not-true (is_interface t c) both.0 };
         thrown = Below-from_is_below t are.chains (Class c) (Class (throwable t)) both.1;
       }
 

@@ -4,6 +4,7 @@ use Rattle.std.specs.Prelude.{All, filter_map, slice_get, option_and_then, is_no
 use Rattle.std.specs.List.{cons_option}
 use Rattle.std.proofs.lemmas.Bool.{false≢true}
 use Rattle.std.proofs.lemmas.List.Elements.{All-nil, All-cons}
+use Rattle.first_fault.proofs.LeastFaults.{faultless_first}
 use Rattle.cap_pool.specs.PoolFormat.{Entry}
 use Rattle.cap_method.specs.declared.handler.HandlerInfo.{HandlerInfo}
 use Rattle.cap_package.specs.PackageRecord.{PackageRecord}
@@ -12,7 +13,7 @@ use Rattle.jc_base.specs.declared.record.StaticRec.{StaticRec}
 use Rattle.jc_base.specs.Class.{ClassTable}
 use Rattle.jc_base.specs.Linked.{list_at}
 use Rattle.jc_resolve.specs.declared.fault.LinkFault.TheVariants.{NoMember, BadCatch}
-use Rattle.jc_resolve.proofs.Faultless.{faultless_first, both_faultless}
+use Rattle.jc_resolve.proofs.Faultless.{both_faultless}
 use Rattle.jc_members.specs.Members.{member_of}
 use Rattle.jc_members.specs.Pools.{PoolPlace, places_from, places_after, member_fault, pools_after}
 use Rattle.jc_members.specs.Catches.{HandlerPlace, handlers_from, handlers_after, catches, catch_fault}

@@ -1,6 +1,6 @@
 -- What an entry names by cases is what is computed, and at most one member is named.
-use Rattle.std.proofs.Common.{◌≡◌, ℕ, ◌⊎◌, Bool, true, false, cond, eqb, ltb, ◌||◌, List, [], ◌∷◌, Option, Some, None, option_map, option_and_then, is_some, refl, sym, ap, subst, ◌∙◌, inl, inr}
-use Rattle.std.proofs.lemmas.Bool.{ltb-true, eqb-true, eq-eqb, lt-ltb}
+use Rattle.std.proofs.Common.{◌≡◌, ℕ, Bool, true, false, cond, eqb, ltb, List, [], ◌∷◌, Option, Some, None, option_map, option_and_then, is_some, refl, sym, ap, subst, ◌∙◌, inl, inr}
+use Rattle.std.proofs.lemmas.Bool.{ltb-true, eqb-true, eq-eqb, lt-ltb, or_cases, or_left, or_right}
 use Rattle.std.proofs.lemmas.Option.{same_Some}
 use Rattle.cap_bytes.specs.declared.class_reference.ClassReference.{ClassReference}
 use Rattle.cap_pool.specs.PoolFormat.{Entry}
@@ -51,18 +51,6 @@ only-one (y ∷ z ∷ zs) x h = absurd cc
 some-there : {X : Type 0} (o : Option X) → is_some o ≡ true → (x : X) × (o ≡ Some x)
 some-there None h = absurd cc
 some-there (Some x) h = (x, refl)
-
-either-true : (a b : Bool) → a || b ≡ true → (a ≡ true) ⊎ (b ≡ true)
-either-true true b h = inl refl
-either-true false b h = inr h
-
-left-true : (a b : Bool) → a ≡ true → a || b ≡ true
-left-true true b h = refl
-left-true false b h = absurd cc
-
-right-true : (a b : Bool) → b ≡ true → a || b ≡ true
-right-true true b h = refl
-right-true false b h = h
 
 -- ---- places
 
@@ -139,14 +127,14 @@ module _ (ps : List PackageRecord) (t : ClassTable) (statics : List StaticRec) (
       virtual_methodref r token a.0 is (proper-from ps t k r a.0 a.1) b.0 (sym (same_Some (Virtual a.0 token) m b.1))
 
   may-from : (c token p : ℕ) → may_name t c token p ≡ true → MayName t c token p
-  may-from c token p h = elim (either-true (ltb token 128) (eqb (package_of t p) (package_of t c)) h) [
+  may-from c token p h = elim (or_cases (ltb token 128) (eqb (package_of t p) (package_of t c)) h) [
     | inl low ↦ inl (ltb-true token 128 low)
     | inr same ↦ inr (eqb-true (package_of t p) (package_of t c) same)
   ]
 
   may-to : (c token p : ℕ) → MayName t c token p → may_name t c token p ≡ true
-  may-to c token p (inl low) = left-true (ltb token 128) (eqb (package_of t p) (package_of t c)) (lt-ltb token 128 low)
-  may-to c token p (inr same) = right-true (ltb token 128) (eqb (package_of t p) (package_of t c)) (eq-eqb (package_of t p) (package_of t c) same)
+  may-to c token p (inl low) = or_left (ltb token 128) (eqb (package_of t p) (package_of t c)) (lt-ltb token 128 low)
+  may-to c token p (inr same) = or_right (ltb token 128) (eqb (package_of t p) (package_of t c)) (eq-eqb (package_of t p) (package_of t c) same)
 
   super-from : (r : ClassReference) (token : ℕ) → referred e ≡ SuperMethod r token → super_member ps t k r token ≡ Some m → NamesMember ps t statics k e m
   unfolding super_member super_of super_by

@@ -20,12 +20,12 @@ use Rattle.jc_base.specs.declared.record.Member.{Member}
 use Rattle.jc_base.specs.declared.record.Member.TheVariants.{StaticCall}
 use Rattle.jc_base.specs.declared.record.StaticRec.{StaticRec}
 use Rattle.jc_base.specs.Class.{ClassTable}
+use Rattle.jc_base.proofs.Eaching.{Each-append}
 use Rattle.jc_decode.specs.declared.symbols.Laid.{Laid}
 use Rattle.jc_members.specs.Entries.{place_in, method_place}
 use Rattle.jc_members.specs.Members.{call_member, member_of}
 use Rattle.jc_resolve.specs.declared.place.RecordPlace.{RecordPlace}
 use Rattle.jc_resolve.specs.Numbering.{NumberedMethod, methods_of_class, methods_of_classes, methods_after, numbered_methods, place_of_method, method_places, is_at, is_placed, method_at}
-use Rattle.jc_resolve.proofs.Pairwise.{each-append}
 use Rattle.cap_rewritten.specs.Changes.{Change, changes, now_at}
 use Rattle.cap_rewritten.specs.Written.{IsWritten}
 use Rattle.cap_rewritten.specs.Rewritten.{IsRewritten}
@@ -51,7 +51,7 @@ homes_class k p i c j (m ∷ ms) = (refl, homes_class k p i c (j + 1) ms)
 pub homes_classes : (k : ℕ) (p : PackageRecord) (i : ℕ) (cs : List Class)
     → Each (λ (m : NumberedMethod). m.home ≡ k) (methods_of_classes k p i cs)
 homes_classes k p i [] = tt
-homes_classes k p i (c ∷ cs) = each-append (λ (m : NumberedMethod). m.home ≡ k) (methods_of_class k p i c 0 c.methods)
+homes_classes k p i (c ∷ cs) = Each-append (λ (m : NumberedMethod). m.home ≡ k) (methods_of_class k p i c 0 c.methods)
     (methods_of_classes k p (i + 1) cs) (homes_class k p i c 0 c.methods) (homes_classes k p (i + 1) cs)
 
 below_all : (k n : ℕ) (ms : List NumberedMethod) → k < n → Each (λ (m : NumberedMethod). m.home ≡ k) ms
@@ -63,7 +63,7 @@ pub homes_after : (k n : ℕ) (ps : List PackageRecord) → k + length ps ≤ n
     → Each (λ (m : NumberedMethod). m.home < n) (methods_after k ps)
 homes_after k n [] le = tt
 homes_after k n (p ∷ ps) le =
-    each-append (λ (m : NumberedMethod). m.home < n) (methods_of_classes k p 0 p.description.items.classes)
+    Each-append (λ (m : NumberedMethod). m.home < n) (methods_of_classes k p 0 p.description.items.classes)
     (methods_after (k + 1) ps)
     (below_all k n (methods_of_classes k p 0 p.description.items.classes) (omega arith)
     (homes_classes k p 0 p.description.items.classes)) (homes_after (k + 1) n ps (omega arith))

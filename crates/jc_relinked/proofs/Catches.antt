@@ -11,6 +11,7 @@ use Rattle.cap_pool.specs.PoolReference.{referred}
 use Rattle.cap_package.specs.PackageRecord.{PackageRecord, handlers_of}
 use Rattle.cap_package.specs.Parts.{Lent}
 use Rattle.cap_package.specs.StandsFor.{StandsFor}
+use Rattle.cap_package.proofs.StaticsKnown.{both_empty}
 use Rattle.cap_laying.specs.HandlerTable.{entries_at}
 use Rattle.cap_renewal.specs.PoolEdits.{renewed_entry}
 use Rattle.cap_renewal.proofs.RenewedEntries.{asked-same}
@@ -25,7 +26,7 @@ use Rattle.jc_resolve.specs.NamedMethods.{handler_named}
 use Rattle.cap_rewritten.specs.Changes.{Change, changes, now_at}
 use Rattle.cap_rewritten.specs.Written.{IsAs, IsWritten, handlers_in, block_of}
 use Rattle.cap_rewritten.specs.Rewritten.{IsRewritten}
-use Rattle.cap_rewritten.proofs.Lists.{Each, each_at, none_each, each_none, none_append, append_none, faults_append}
+use Rattle.cap_rewritten.proofs.Lists.{Each, each_at, none_each, each_none, append_none, faults_append}
 use Rattle.cap_rewritten.proofs.Owners.{below, owned}
 use Rattle.cap_rewritten.proofs.Agreed.{agrees}
 use Rattle.cap_rewritten.proofs.Facts.{all_written}
@@ -178,7 +179,7 @@ module _ (ps : List PackageRecord) (p q : PackageRecord) (laid : List (Option La
     all_catches parts k (x ∷ xs) s all e none =
         let fault = catch_fault old t in
         let own = handlers_from k x.pool 0 x.methods.handlers in
-        let both = none_append (filter_map fault own) (filter_map fault (handlers_after (k + 1) (and_last xs p)))
+        let both = both_empty (filter_map fault own) (filter_map fault (handlers_after (k + 1) (and_last xs p)))
         (sym (faults_append fault own (handlers_after (k + 1) (and_last xs p))) ∙ none) in
         faults_append (catch_fault now t) own (handlers_after (k + 1) (and_last xs q))
         ∙ append_none (filter_map (catch_fault now t) own) (filter_map (catch_fault now t) (handlers_after (k + 1) (and_last xs q)))
@@ -198,11 +199,11 @@ module _ (ps : List PackageRecord) (p q : PackageRecord) (laid : List (Option La
     own_catches k [] e none =
         let z : k ≡ length ps = omega (arith, e) in
         let own = handlers_from k p.pool 0 p.methods.handlers in
-        let both = none_append (filter_map (catch_fault old t) own) [] (sym (faults_append (catch_fault old t) own []) ∙ none) in
+        let both = both_empty (filter_map (catch_fault old t) own) [] (sym (faults_append (catch_fault old t) own []) ∙ none) in
         subst (λ j. Each (Catches old j p.pool) p.methods.handlers) z (each_catches old k p.pool 0 p.methods.handlers both.0)
     own_catches k (x ∷ xs) e none =
         let own = handlers_from k x.pool 0 x.methods.handlers in
-        let both = none_append (filter_map (catch_fault old t) own)
+        let both = both_empty (filter_map (catch_fault old t) own)
         (filter_map (catch_fault old t) (handlers_after (k + 1) (and_last xs p)))
         (sym (faults_append (catch_fault old t) own (handlers_after (k + 1) (and_last xs p))) ∙ none) in
         own_catches (k + 1) xs (omega (arith, e)) both.1

@@ -6,6 +6,7 @@ use Rattle.cap_pool.specs.PoolFormat.{Entry}
 use Rattle.cap_package.specs.PackageRecord.{PackageRecord}
 use Rattle.cap_package.specs.Parts.{Lent}
 use Rattle.cap_package.specs.StandsFor.{StandsFor}
+use Rattle.cap_package.proofs.StaticsKnown.{both_empty}
 use Rattle.cap_renewal.specs.PoolEdits.{renewed_entry}
 use Rattle.jc_base.specs.declared.record.Member.{Member}
 use Rattle.jc_base.specs.declared.record.StaticRec.{StaticRec}
@@ -16,7 +17,7 @@ use Rattle.jc_members.specs.Pools.{PoolPlace, places_from, places_after, member_
 use Rattle.jc_resolve.specs.declared.fault.LinkFault.TheVariants.{NoMember}
 use Rattle.cap_rewritten.specs.Changes.{changes, now_at}
 use Rattle.cap_rewritten.specs.Rewritten.{IsRewritten}
-use Rattle.cap_rewritten.proofs.Lists.{Each, none_each, none_append, append_none, faults_append}
+use Rattle.cap_rewritten.proofs.Lists.{Each, none_each, append_none, faults_append}
 use Rattle.jc_rewritten.specs.Last.{and_last}
 use Rattle.jc_relinked.proofs.Members.{earlier_member}
 use Rattle.jc_relinked.proofs.Calls.{renewed_member}
@@ -92,7 +93,7 @@ module _ (parts : List Lent) (ps : List PackageRecord) (p q : PackageRecord) (la
       subst (λ j. AreSamePools j []) z
       (let fault = member_fault old t statics in
       let before = subst (λ j. filter_map fault (places_after j (p ∷ [])) ≡ []) (sym z) none in
-      let both = none_append (filter_map fault (places_from (length ps) 0 p.pool)) []
+      let both = both_empty (filter_map fault (places_from (length ps) 0 p.pool)) []
       (sym (faults_append fault (places_from (length ps) 0 p.pool) []) ∙ before) in
       let last = last_pool 0 p.pool (none_each fault (places_from (length ps) 0 p.pool) both.0) in
       record {
@@ -106,7 +107,7 @@ module _ (parts : List Lent) (ps : List PackageRecord) (p q : PackageRecord) (la
       let lt : k < length ps = omega (arith, e) in
       let fault = member_fault old t statics in
       let own = places_from k 0 x.pool in
-      let both = none_append (filter_map fault own) (filter_map fault (places_after (k + 1) (and_last xs p)))
+      let both = both_empty (filter_map fault own) (filter_map fault (places_after (k + 1) (and_last xs p)))
       (sym (faults_append fault own (places_after (k + 1) (and_last xs p))) ∙ none) in
       let rest = all_pools (k + 1) xs (omega (arith, e)) both.1 in
       record {

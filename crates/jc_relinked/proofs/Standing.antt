@@ -15,6 +15,7 @@ use Rattle.cap_package.specs.PackageRecord.{PackageRecord, names_interface, desc
 use Rattle.cap_package.specs.Parts.{Lent}
 use Rattle.cap_package.specs.StandsFor.{StandsFor}
 use Rattle.cap_package.proofs.InfoLaws.{info-short}
+use Rattle.cap_package.proofs.StaticsKnown.{both_empty}
 use Rattle.cap_laying.specs.HandlerTable.{stops, entry_at, entries_at}
 use Rattle.cap_laying.specs.HeaderBytes.{header_of}
 use Rattle.cap_laying.specs.Member.{numbers_of}
@@ -36,7 +37,7 @@ use Rattle.jc_link.specs.World.{IsLinked}
 use Rattle.cap_rewritten.specs.Changes.{changes, now_at}
 use Rattle.cap_rewritten.specs.Written.{HasCode, IsAs}
 use Rattle.cap_rewritten.specs.Rewritten.{IsRewritten}
-use Rattle.cap_rewritten.proofs.Lists.{Each, Has, none_each, none_append, has_filter}
+use Rattle.cap_rewritten.proofs.Lists.{Each, Has, none_each, has_filter}
 use Rattle.cap_rewritten.proofs.Agreed.{Agrees, agrees}
 use Rattle.cap_rewritten.proofs.Facts.{news}
 use Rattle.cap_rewritten.proofs.Handlers.{has_map, get_drop, get_take}
@@ -127,7 +128,7 @@ pub handlers_end : (parts : List Lent) (q : PackageRecord) (m : Method) → Agre
     → Each (λ (h : HandlerInfo). h.start + h.length ≤ code_end q.methods.info m) (handlers_of q m)
 handlers_end parts q m a has =
     let info = q.methods.info in
-    let both = none_append _ _ a.handlers in
+    let both = both_empty _ _ a.handlers in
     let each = none_each (numbered_fault info (described_methods q)) (numbered 0 q.methods.handlers) both.0 in
     get_each (λ (h : HandlerInfo). h.start + h.length ≤ code_end info m) (handlers_of q m) (λ j h e.
     let less = taken_below m.handler_count j (drop m.handler_index q.methods.handlers) h e in

@@ -3,12 +3,13 @@ use Rattle.std.proofs.Common.{◌≡◌, ◌+◌, ℕ, suc, List, [], ◌∷◌,
 use Rattle.std.specs.Prelude.{if◌then◌else◌}
 use Rattle.std.proofs.lemmas.Bool.{false≢true}
 use Rattle.std.proofs.lemmas.List.{map-append, take-append-drop, length-map}
+use Rattle.jc_base.proofs.Eaching.{Each-append}
 use Rattle.cap_desc.specs.DescriptorFormat.{Method, Class}
 use Rattle.cap_desc.specs.Members.{methods_of, methods_but}
 use Rattle.cap_package.specs.PackageRecord.{PackageRecord}
 use Rattle.jc_decode.specs.declared.symbols.Laid.{Laid}
 use Rattle.jc_resolve.specs.Numbering.{NumberedMethod, numbered, methods_of_class, methods_of_classes}
-use Rattle.jc_resolve.proofs.Pairwise.{each-split, each-append}
+use Rattle.jc_resolve.proofs.Pairwise.{each-split}
 use Rattle.cap_rewritten.specs.Changes.{Change, laid_but, sources_from, changes_of}
 use Rattle.cap_rewritten.specs.Rewritten.{bare_method, bare_class}
 use Rattle.cap_rewritten.proofs.Lists.{Each}
@@ -195,11 +196,11 @@ told_by : (set : ℕ → Bool) (P : Change → Type 0) (n i : ℕ) (c d : Class)
     → ((k : ℕ) → Each P (changes_of (sources_from k rest lrest) nrest) → Each (IsTwin set P) others)
     → Each (IsTwin set P) (twins_of_class i c d 0 c.methods d.methods ls ++ others)
 told_by set P n i c d ls lrest rest nrest others true e r bares long h more =
-    each-append (IsTwin set P) (twins_of_class i c d 0 c.methods d.methods ls) others
+    Each-append (IsTwin set P) (twins_of_class i c d 0 c.methods d.methods ls) others
     (is_class set P i c d 0 c.methods d.methods ls r bares (λ f. absurd (false≢true (sym f ∙ e)))) (more n h)
 told_by set P n i c d ls lrest rest nrest others false e r bares long h more =
     let t = told_class P n i c d 0 c.methods d.methods ls rest lrest nrest (as_many c.methods d.methods bares) long h in
-    each-append (IsTwin set P) (twins_of_class i c d 0 c.methods d.methods ls) others
+    Each-append (IsTwin set P) (twins_of_class i c d 0 c.methods d.methods ls) others
     (is_class set P i c d 0 c.methods d.methods ls r bares (λ f. t.0)) (more (n + length c.methods) t.1)
 
 pub each_twin : (set : ℕ → Bool) (P : Change → Type 0) (n i : ℕ) (cs ds : List Class) (laid : List (Option Laid))

@@ -4,6 +4,8 @@ use Rattle.std.specs.Prelude.{All, slice_get, option_map}
 use Rattle.std.proofs.lemmas.Bool.{leb-true}
 use Rattle.std.proofs.lemmas.List.Elements.{All-head, All-tail}
 use Rattle.std.proofs.lemmas.Option.{slice_get-map}
+use Rattle.jc_base.specs.Each.{Each}
+use Rattle.jc_base.proofs.Eaching.{Each-append, Each-weaker}
 use Rattle.cap_bytes.specs.Grammar.{at_most, when, give, ◌>>=◌}
 use Rattle.cap_bytes.specs.declared.format.Format.{Format}
 use Rattle.cap_bytes.specs.Spelling.{Spells, Stands}
@@ -12,7 +14,7 @@ use Rattle.cap_package.specs.PackageRecord.{PackageRecord}
 use Rattle.jc_resolve.specs.declared.place.RecordPlace.{RecordPlace}
 use Rattle.jc_resolve.specs.Named.{IsAgreed}
 use Rattle.jc_resolve.specs.Numbering.{NumberedClass, numbered_class, classes_of, classes_after, numbered_classes, place_of_class, class_places}
-use Rattle.jc_resolve.proofs.Pairwise.{Each, each-append, each-weaker, each-map, Pairwise, pairwise-append, one-place}
+use Rattle.jc_resolve.proofs.Pairwise.{each-map, Pairwise, pairwise-append, one-place}
 use Rattle.jc_resolve.proofs.Repeats.{goes_on}
 
 -- ---- one component
@@ -59,8 +61,8 @@ one_more at mid c cs xs here rest e =
     let lt = here.moves in
     let same = here.here in
     subst (AreRising at) (sym e) (record {
-      from = (omega arith, each-weaker (λ (d : Class). mid ≤ d.offset) (λ (d : Class). at ≤ d.offset) (λ d le. omega arith) cs rest.from);
-      rising = (each-weaker (λ (d : Class). mid ≤ d.offset) (IsLower c) (λ d le. omega arith) cs rest.from, rest.rising);
+      from = (omega arith, Each-weaker (λ (d : Class). mid ≤ d.offset) (λ (d : Class). at ≤ d.offset) (λ d le. omega arith) cs rest.from);
+      rising = (Each-weaker (λ (d : Class). mid ≤ d.offset) (IsLower c) (λ d le. omega arith) cs rest.from, rest.rising);
     })
 
 rises_when : (n : ℕ) (s b : Bool) (bytes : List ℕ) (at : ℕ) (xs : List Class) (after : ℕ)
@@ -102,8 +104,8 @@ homes_from : (k : ℕ) (ps : List PackageRecord) → Each (λ (c : NumberedClass
 homes_from k [] = tt {0}
 homes_from k (p ∷ ps) =
     let P = λ (c : NumberedClass). k ≤ c.home in
-    each-append P (classes_of k p) (classes_after (k + 1) ps) (of_one p.classes)
-    (each-weaker (λ (c : NumberedClass). k + 1 ≤ c.home) P (λ c le. omega arith) (classes_after (k + 1) ps) (homes_from (k + 1) ps))
+    Each-append P (classes_of k p) (classes_after (k + 1) ps) (of_one p.classes)
+    (Each-weaker (λ (c : NumberedClass). k + 1 ≤ c.home) P (λ c le. omega arith) (classes_after (k + 1) ps) (homes_from (k + 1) ps))
   where
     of_one : (cs : List Class) → Each (λ (c : NumberedClass). k ≤ c.home) (map (numbered_class k p) cs)
     of_one [] = tt {0}
@@ -112,7 +114,7 @@ homes_from k (p ∷ ps) =
 in_package : (k : ℕ) (p : PackageRecord) (cs : List Class) → Pairwise IsLower cs → Pairwise IsBefore (map (numbered_class k p) cs)
 in_package k p [] h = tt {0}
 in_package k p (c ∷ cs) h =
-    (each-map (IsBefore (numbered_class k p c)) (numbered_class k p) cs (each-weaker (IsLower c) (λ d. IsBefore (numbered_class k p c) (numbered_class k p d)) (λ d lt. inr (refl, lt)) cs h.0), in_package k p cs h.1)
+    (each-map (IsBefore (numbered_class k p c)) (numbered_class k p) cs (Each-weaker (IsLower c) (λ d. IsBefore (numbered_class k p c) (numbered_class k p d)) (λ d lt. inr (refl, lt)) cs h.0), in_package k p cs h.1)
 
 classes_before : (k : ℕ) (ps : List PackageRecord) → All IsAgreed ps → Pairwise IsBefore (classes_after k ps)
 classes_before k [] agreed = tt {0}
@@ -124,7 +126,7 @@ classes_before k (p ∷ ps) agreed =
   where
     across : (cs : List Class) → Each (λ (c : NumberedClass). Each (IsBefore c) (classes_after (k + 1) ps)) (map (numbered_class k p) cs)
     across [] = tt {0}
-    across (c ∷ cs) = (each-weaker (λ (d : NumberedClass). k + 1 ≤ d.home) (IsBefore (numbered_class k p c)) (λ d le. inl (omega arith)) (classes_after (k + 1) ps) (homes_from (k + 1) ps), across cs)
+    across (c ∷ cs) = (Each-weaker (λ (d : NumberedClass). k + 1 ≤ d.home) (IsBefore (numbered_class k p c)) (λ d le. inl (omega arith)) (classes_after (k + 1) ps) (homes_from (k + 1) ps), across cs)
 
 never_before : (c d : NumberedClass) (place : RecordPlace) → place_of_class c ≡ place → place_of_class d ≡ place → IsBefore c d → ⊥
 never_before c d place e f (inl lt) =

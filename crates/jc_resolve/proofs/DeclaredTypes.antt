@@ -55,7 +55,7 @@ interface_numbered ps object c = ap interface_by (slice_get-map (named_class ps 
 
 -- ---- what is named is a number
 
-named_at : (ps : List PackageRecord) (o : Option RecordPlace) → IfSome (option_and_then (class_at ps) o) (λ c. c < length (numbered_classes ps))
+pub named_at : (ps : List PackageRecord) (o : Option RecordPlace) → IfSome (option_and_then (class_at ps) o) (λ c. c < length (numbered_classes ps))
 named_at ps None = tt
 named_at ps (Some place) = class_below ps place (class_at ps place) refl
 

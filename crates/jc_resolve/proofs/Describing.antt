@@ -5,6 +5,7 @@ use Rattle.std.specs.List.{position_from, filter_map}
 use Rattle.std.proofs.lemmas.Bool.{eqb-true, eqb-false, eq-eqb, ne_eqb, lt-ltb, le-ltb}
 use Rattle.std.proofs.lemmas.Iterator.Adapters.{position_from-zero}
 use Rattle.std.proofs.lemmas.List.Sums.{sum_by-cons}
+use Rattle.first_fault.proofs.LeastFaults.{faultless_first}
 use Rattle.cap_class.specs.ClassFormat.{Class}
 use Rattle.cap_desc.specs.DescriptorFormat as described
 use Rattle.cap_desc.specs.DescriptorFormat.{Field}
@@ -13,12 +14,12 @@ use Rattle.cap_package.specs.Agreement.{or_none}
 use Rattle.cap_package.specs.NameChecks.{undescribed_fault, no_class_fault, not_own_fault}
 use Rattle.cap_components.specs.declared.fault.PackFault.{PackFault}
 use Rattle.cap_package.specs.PackageRecord.{PackageRecord}
+use Rattle.cap_package.proofs.StaticsKnown.{both_empty}
 use Rattle.jc_resolve.specs.Described.{describes_at, IsDescribedOnce, AreDescribedOnce, place_at, spot_of_record, AreFound}
 use Rattle.jc_resolve.specs.Named.{IsAgreed}
 use Rattle.jc_resolve.specs.NamedClasses.{describes, is_instance, fields_described, instance_fields}
 use Rattle.jc_resolve.specs.Numbering.{is_at}
 use Rattle.jc_resolve.specs.Numbers.{Numbered, number_at}
-use Rattle.jc_resolve.proofs.Faultless.{faultless_first, both_empty}
 use Rattle.jc_resolve.proofs.NumberLaws.{numbered-first}
 
 -- ---- the one thing of a list that passes a test

@@ -1,8 +1,10 @@
 -- Where nothing of a list is at fault, nothing is wrong with a thing of it.
-use Rattle.std.proofs.Common.{◌≡◌, ℕ, zero, suc, List, [], ◌∷◌, ◌++◌, flat_map, Option, Some, None, refl, sym, ap, subst, ◌∙◌, ◌⊎◌, inl, inr}
+use Rattle.std.proofs.Common.{◌≡◌, ℕ, zero, suc, List, [], ◌∷◌, ◌++◌, flat_map, Option, Some, None, sym, ap, subst, ◌∙◌, ◌⊎◌, inl, inr}
 use Rattle.std.specs.Prelude.{slice_get}
-use Rattle.std.specs.List.{filter_map, cons_option}
+use Rattle.std.specs.List.{filter_map}
 use Rattle.std.proofs.lemmas.List.Elements.{filter_map-append}
+use Rattle.first_fault.proofs.LeastFaults.{faultless_first}
+use Rattle.cap_package.proofs.StaticsKnown.{both_empty}
 
 -- ---- things of lists
 
@@ -31,11 +33,6 @@ one_of_get (y ∷ xs) (suc i) x at = inr (one_of_get xs i x at)
 
 -- ---- nothing is at fault
 
--- the first of several things, and the others
-pub faultless_first : {Y : Type 0} (o : Option Y) (ys : List Y) → cons_option o ys ≡ [] → (o ≡ None) × (ys ≡ [])
-faultless_first None ys e = (refl, e)
-faultless_first (Some y) ys e = absurd cc
-
 pub faultless : {X Y : Type 0} (f : X → Option Y) (xs : List X) (x : X) → filter_map f xs ≡ [] → IsOneOf xs x → f x ≡ None
 faultless f [] x e h = absurd h
 faultless f (y ∷ xs) x e (inl same) = ap f same ∙ (faultless_first (f y) (filter_map f xs) e).0
@@ -43,11 +40,6 @@ faultless f (y ∷ xs) x e (inr h) = faultless f xs x (faultless_first (f y) (fi
 
 pub faultless_at : {X Y : Type 0} (f : X → Option Y) (xs : List X) (i : ℕ) (x : X) → filter_map f xs ≡ [] → slice_get xs i ≡ Some x → f x ≡ None
 faultless_at f xs i x e at = faultless f xs x e (one_of_get xs i x at)
-
--- two lists one after the other
-pub both_empty : {Y : Type 0} (xs ys : List Y) → xs ++ ys ≡ [] → (xs ≡ []) × (ys ≡ [])
-both_empty [] ys e = (refl, e)
-both_empty (x ∷ xs) ys e = absurd cc
 
 pub both_faultless : {X Y : Type 0} (f : X → Option Y) (xs ys : List X) → filter_map f (xs ++ ys) ≡ [] → (filter_map f xs ≡ []) × (filter_map f ys ≡ [])
 both_faultless f xs ys e = both_empty (filter_map f xs) (filter_map f ys) (sym (filter_map-append f xs ys) ∙ e)

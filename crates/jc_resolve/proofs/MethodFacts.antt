@@ -8,7 +8,7 @@ use Rattle.cap_desc.specs.DescriptorFormat.{Method}
 use Rattle.cap_desc.specs.Members.{methods_of}
 use Rattle.cap_components.specs.declared.count_kind.CountKind.TheVariants.{ArgumentWords, AbstractCode}
 use Rattle.cap_components.specs.declared.fault.PackFault.{PackFault}
-use Rattle.cap_components.specs.declared.fault.PackFault.TheVariants.{TooManyRegisters, MethodLength, CountDisagrees, BadType}
+use Rattle.cap_components.specs.declared.fault.PackFault.TheVariants.{MethodLength, CountDisagrees, BadType}
 use Rattle.cap_package.specs.Descriptions.{Description, argument_words}
 use Rattle.cap_package.specs.HandlerChecks.{claim_fault, numbered, numbered_fault}
 use Rattle.cap_package.specs.HeaderChecks.{header_in, is_abstract, registers_fault, length_fault, this_words, arguments_fault, abstract_fault}
@@ -16,17 +16,14 @@ use Rattle.cap_package.specs.MethodChecks.{code_start, code_end, outside_fault}
 use Rattle.cap_package.specs.TypeChecks.{method_type_by, method_type_fault, field_type_fault}
 use Rattle.cap_package.specs.PackageRecord.{PackageRecord, described_methods, interface_methods, handlers_of, fields}
 use Rattle.cap_package.specs.StandsFor.{StandsFor}
-use Rattle.cap_package.proofs.HeaderLaws.{HasHeader, has-header, ends-within}
+use Rattle.cap_package.proofs.HeaderLaws.{HasHeader, has-header, ends-within, few_registers}
 use Rattle.cap_package.proofs.InfoLaws.{info-short}
+use Rattle.cap_package.proofs.StaticsKnown.{both_empty}
 use Rattle.jc_base.specs.Linked.{IsCodeLength}
-use Rattle.jc_resolve.proofs.Faultless.{IsOneOf, faultless, both_empty}
+use Rattle.jc_resolve.proofs.Faultless.{IsOneOf, faultless}
 use Rattle.jc_resolve.proofs.OwnedHandlers.{LiesIn, handlers-lie}
 
 -- ---- tests of one method
-
-registers_most : (m : Method) (h : Header) (b : Bool) → ltb 255 (h.nargs + h.max_locals) ≡ b → cond b (Some (TooManyRegisters m.method_offset (h.nargs + h.max_locals))) None ≡ None → h.nargs + h.max_locals ≤ 255
-registers_most m h true e none = absurd cc
-registers_most m h false e none = ltb-false 255 (h.nargs + h.max_locals) e
 
 -- the number of a method's bytes, by whether it is abstract
 abbrev pub HasLength : Bool → ℕ → Type 0
@@ -85,10 +82,6 @@ pub record IsPlaced (p : PackageRecord) (m : Method) : Type 0 where
   pub length : HasLength (is_abstract header) m.bytecode_count
   pub handlers : All (LiesIn p.methods.info m) (handlers_of p m)
 
-registers_of : (info : List ℕ) (m : Method) (h : Header) → header_in info m.method_offset ≡ Some h → registers_fault info m ≡ None → h.nargs + h.max_locals ≤ 255
-unfolding registers_fault
-registers_of info m h at none = registers_most m h (ltb 255 (h.nargs + h.max_locals)) refl (rw at at none)
-
 length_of : (info : List ℕ) (m : Method) (h : Header) → header_in info m.method_offset ≡ Some h → abstract_fault info m ≡ None → length_fault info m ≡ None → HasLength (is_abstract h) m.bytecode_count
 unfolding abstract_fault length_fault
 length_of info m h at none some = has_length m.bytecode_count (CountDisagrees AbstractCode m.bytecode_count 0) (MethodLength m.method_offset m.bytecode_count) (is_abstract h) (rw at at none) (rw at at some)
@@ -142,7 +135,7 @@ module _ (p : PackageRecord) (agreed : StandsFor p.parts p) where
         words = words.words;
         told = words.told;
         nargs = nargs_of info p.description m h.header words.words h.there words.told arguments;
-        registers = registers_of info m h.header h.there registers;
+        registers = few_registers info m h.header h.there registers;
         length = length_of info m h.header h.there abstract lengths;
         handlers = handlers-lie info (described_methods p) p.methods.handlers m entries_owned one;
       }

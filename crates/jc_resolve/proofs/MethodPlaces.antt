@@ -1,29 +1,32 @@
 -- No two methods stand at one place of a Method component, and no two of a package have the same two numbers.
-use Rattle.std.proofs.Common.{◌≡◌, ℕ, ◌+◌, ◌<◌, ◌≤◌, ◌⊎◌, Bool, true, false, not, ltb, leb, max, min, cond, List, [], ◌∷◌, ◌++◌, length, map, Option, Some, None, refl, sym, ap, subst, ◌∙◌, arith, inl, inr}
+use Rattle.std.proofs.Common.{◌≡◌, ℕ, ◌+◌, ◌<◌, ◌≤◌, ◌⊎◌, Bool, true, false, not, ltb, max, min, cond, List, [], ◌∷◌, ◌++◌, length, map, Option, Some, None, refl, sym, ap, subst, ◌∙◌, arith, inl, inr}
 use Rattle.std.specs.Prelude.{All, slice_get, option_map}
 use Rattle.std.specs.List.{filter_map}
 use Rattle.std.proofs.lemmas.Bool.{lt-ltb, true≢false}
 use Rattle.std.proofs.lemmas.List.Elements.{All-head, All-tail}
 use Rattle.std.proofs.lemmas.Option.{slice_get-map}
-use Rattle.cap_bytes.specs.Number.{number_at}
+use Rattle.first_fault.proofs.LeastFaults.{faultless_first}
 use Rattle.cap_components.specs.declared.fault.PackFault.{PackFault}
 use Rattle.cap_components.specs.declared.fault.PackFault.TheVariants.{MethodOverlaps}
 use Rattle.cap_desc.specs.DescriptorFormat as described
 use Rattle.cap_desc.specs.DescriptorFormat.{Method}
 use Rattle.cap_desc.specs.Members.{methods_but}
-use Rattle.cap_package.specs.MethodChecks.{size_by, code_start, code_end, overlap_fault, overlap_pair, outside_fault}
+use Rattle.cap_package.specs.MethodChecks.{code_end, overlap_fault, overlap_pair, outside_fault}
 use Rattle.cap_package.specs.PackageRecord.{PackageRecord, names_interface, described_methods}
 use Rattle.cap_package.specs.Pairs.{pairs}
 use Rattle.cap_package.proofs.HeaderLaws.{ends-within}
+use Rattle.cap_package.proofs.Overlaps.{method_some}
 use Rattle.jc_base.specs.declared.record.MethodRec.{MethodRec}
+use Rattle.jc_base.specs.Each.{Each}
+use Rattle.jc_base.proofs.Eaching.{Each-append, Each-weaker}
 use Rattle.jc_resolve.specs.declared.place.RecordPlace.{RecordPlace}
 use Rattle.jc_resolve.specs.Named.{IsAgreed}
 use Rattle.jc_resolve.specs.NamedMethods.{named_method, named_methods}
 use Rattle.jc_resolve.specs.Numbering.{NumberedMethod, numbered, is_placed, methods_of_class, methods_of_classes, methods_after, numbered_methods, place_of_method, method_places}
 use Rattle.jc_resolve.specs.OwnPlaces.{HaveOwnPlaces}
 use Rattle.jc_resolve.proofs.ClassPlaces.{classes_apart}
-use Rattle.jc_resolve.proofs.Faultless.{faultless_first, both_faultless}
-use Rattle.jc_resolve.proofs.Pairwise.{Each, each-append, each-split, each-weaker, Pairwise, pairwise-append, pairwise-split, one-place}
+use Rattle.jc_resolve.proofs.Faultless.{both_faultless}
+use Rattle.jc_resolve.proofs.Pairwise.{each-split, Pairwise, pairwise-append, pairwise-split, one-place}
 
 -- ---- the methods that a package describes
 
@@ -38,18 +41,6 @@ all_faultless f (x ∷ xs) e = let both = faultless_first (f x) (filter_map f xs
 abbrev IsApart : Method → Method → Type 0
 IsApart a b = a.method_offset ≡ b.method_offset → ⊥
 
-size_some : (o : Option ℕ) → 2 ≤ size_by o
-size_some None = omega arith
-size_some (Some first) = by (leb 128 first)
-  where
-    by : (b : Bool) → 2 ≤ cond b 4 2
-    by true = omega arith
-    by false = omega arith
-
-long_code : (info : List ℕ) (m : Method) → m.method_offset < code_end info m
-unfolding code_end code_start
-long_code info m = let size = size_some (number_at 1 m.method_offset info) in omega arith
-
 shared_by : (fault : PackFault) (b : Bool) → cond b (Some fault) None ≡ None → b ≡ false
 shared_by fault true h = absurd cc
 shared_by fault false h = refl
@@ -61,8 +52,8 @@ no_share info a b h = shared_by (MethodOverlaps (min a.method_offset b.method_of
 -- a method that shares no byte with one that lies in the info stands elsewhere
 stands_apart : (info : List ℕ) (a b : Method) → code_end info a ≤ length info → overlap_fault info a b ≡ None → IsApart a b
 stands_apart info a b inside none same =
-    let first = long_code info a in
-    let second = long_code info b in
+    let first = method_some info a in
+    let second = method_some info b in
     let below : max a.method_offset b.method_offset < min (min (code_end info a) (code_end info b)) (length info) = omega arith in
     true≢false (sym (lt-ltb _ _ below) ∙ no_share info a b none)
 
@@ -71,7 +62,7 @@ pairs_apart info count [] inside e = tt {0}
 pairs_apart info count (m ∷ ms) inside e =
     let both = both_faultless (overlap_pair info) (map (λ n. (m, n)) ms) (pairs ms) e in
     let none = each_faultless (overlap_pair info) (λ n. (m, n)) ms both.0 in
-    (each-weaker (λ n. overlap_fault info m n ≡ None) (IsApart m) (λ n h. stands_apart info m n (ends-within info count m inside.0) h) ms none, pairs_apart info count ms inside.1 both.1)
+    (Each-weaker (λ n. overlap_fault info m n ≡ None) (IsApart m) (λ n h. stands_apart info m n (ends-within info count m inside.0) h) ms none, pairs_apart info count ms inside.1 both.1)
 
 described_apart : (p : PackageRecord) → IsAgreed p → Pairwise IsApart (described_methods p)
 described_apart p agreed =
@@ -126,17 +117,17 @@ module _ (k : ℕ) (p : PackageRecord) where
           → Each (IsElsewhere a) (methods_of_class k p number c 0 c.methods ++ methods_of_classes k p (number + 1) cs)
       by false e g rest =
           let both = each-split (IsApart a) c.methods (methods_but interfaces cs) g in
-          each-append (IsElsewhere a) (methods_of_class k p number c 0 c.methods) (methods_of_classes k p (number + 1) cs) (in_class a k p number c 0 c.methods both.0) (rest both.1)
-      by true e g rest = each-append (IsElsewhere a) (methods_of_class k p number c 0 c.methods) (methods_of_classes k p (number + 1) cs) (not_placed a k p number c 0 c.methods (ap not e)) (rest g)
+          Each-append (IsElsewhere a) (methods_of_class k p number c 0 c.methods) (methods_of_classes k p (number + 1) cs) (in_class a k p number c 0 c.methods both.0) (rest both.1)
+      by true e g rest = Each-append (IsElsewhere a) (methods_of_class k p number c 0 c.methods) (methods_of_classes k p (number + 1) cs) (not_placed a k p number c 0 c.methods (ap not e)) (rest g)
 
   -- the methods of a class, before others
   class_differs : (number : ℕ) (c : described.Class) (i : ℕ) (ms : List Method) (others : List NumberedMethod) → Pairwise IsApart ms → Each (λ a. Each (IsElsewhere a) others) ms → Pairwise Differ others → Pairwise Differ (methods_of_class k p number c i ms ++ others)
   class_differs number c i [] others a b d = d
   class_differs number c i (m ∷ ms) others a b d =
       let P = λ (n : NumberedMethod) (f : IsElsewhere m n) (place : RecordPlace) (here : At place (numbered k p number c i m)) (there : At place n). f place there (offset_by (is_placed p c) k m place here) in
-      let front = each-weaker (IsElsewhere m) (Differ (numbered k p number c i m)) P (methods_of_class k p number c (i + 1) ms) (in_class m k p number c (i + 1) ms a.0) in
-      let back = each-weaker (IsElsewhere m) (Differ (numbered k p number c i m)) P others b.0 in
-      (each-append (Differ (numbered k p number c i m)) (methods_of_class k p number c (i + 1) ms) others front back, class_differs number c (i + 1) ms others a.1 b.1 d)
+      let front = Each-weaker (IsElsewhere m) (Differ (numbered k p number c i m)) P (methods_of_class k p number c (i + 1) ms) (in_class m k p number c (i + 1) ms a.0) in
+      let back = Each-weaker (IsElsewhere m) (Differ (numbered k p number c i m)) P others b.0 in
+      (Each-append (Differ (numbered k p number c i m)) (methods_of_class k p number c (i + 1) ms) others front back, class_differs number c (i + 1) ms others a.1 b.1 d)
 
   -- those of a class that stands elsewhere
   unplaced_differs : (number : ℕ) (c : described.Class) (i : ℕ) (ms : List Method) (others : List NumberedMethod) → is_placed p c ≡ false → Pairwise Differ others → Pairwise Differ (methods_of_class k p number c i ms ++ others)
@@ -160,7 +151,7 @@ module _ (k : ℕ) (p : PackageRecord) where
       by false e g rest =
           let s = pairwise-split IsApart c.methods (methods_but interfaces cs) g in
           class_differs number c 0 c.methods (methods_of_classes k p (number + 1) cs) s.front
-          (each-weaker (λ a. Each (IsApart a) (methods_but interfaces cs)) (λ a. Each (IsElsewhere a) (methods_of_classes k p (number + 1) cs)) (λ a f. elsewhere a (number + 1) cs f) c.methods s.across) (rest s.back)
+          (Each-weaker (λ a. Each (IsApart a) (methods_but interfaces cs)) (λ a. Each (IsElsewhere a) (methods_of_classes k p (number + 1) cs)) (λ a f. elsewhere a (number + 1) cs f) c.methods s.across) (rest s.back)
       by true e g rest = unplaced_differs number c 0 c.methods (methods_of_classes k p (number + 1) cs) (ap not e) (rest g)
 
 -- ---- numbers
@@ -183,23 +174,23 @@ of_class : (k : ℕ) (p : PackageRecord) (number : ℕ) (c : described.Class) (i
 of_class k p number c i [] = tt {0}
 of_class k p number c i (m ∷ ms) = (
   record { home = refl; class = refl; method = omega arith },
-  each-weaker (IsOfClass k number (i + 1)) (IsOfClass k number i) (λ n h. let low = h.method in record { home = h.home; class = h.class; method = omega arith }) (methods_of_class k p number c (i + 1) ms) (of_class k p number c (i + 1) ms),
+  Each-weaker (IsOfClass k number (i + 1)) (IsOfClass k number i) (λ n h. let low = h.method in record { home = h.home; class = h.class; method = omega arith }) (methods_of_class k p number c (i + 1) ms) (of_class k p number c (i + 1) ms),
 )
 
 of_classes : (k : ℕ) (p : PackageRecord) (number : ℕ) (cs : List described.Class) → Each (IsOf k number) (methods_of_classes k p number cs)
 of_classes k p number [] = tt {0}
 of_classes k p number (c ∷ cs) =
-    each-append (IsOf k number) (methods_of_class k p number c 0 c.methods) (methods_of_classes k p (number + 1) cs)
-    (each-weaker (IsOfClass k number 0) (IsOf k number) (λ n h. let same = h.class in record { home = h.home; class = omega arith }) (methods_of_class k p number c 0 c.methods) (of_class k p number c 0 c.methods))
-    (each-weaker (IsOf k (number + 1)) (IsOf k number) (λ n h. let low = h.class in record { home = h.home; class = omega arith }) (methods_of_classes k p (number + 1) cs) (of_classes k p (number + 1) cs))
+    Each-append (IsOf k number) (methods_of_class k p number c 0 c.methods) (methods_of_classes k p (number + 1) cs)
+    (Each-weaker (IsOfClass k number 0) (IsOf k number) (λ n h. let same = h.class in record { home = h.home; class = omega arith }) (methods_of_class k p number c 0 c.methods) (of_class k p number c 0 c.methods))
+    (Each-weaker (IsOf k (number + 1)) (IsOf k number) (λ n h. let low = h.class in record { home = h.home; class = omega arith }) (methods_of_classes k p (number + 1) cs) (of_classes k p (number + 1) cs))
 
 class_earlier : (k : ℕ) (p : PackageRecord) (number : ℕ) (c : described.Class) (i : ℕ) (ms : List Method) (others : List NumberedMethod) → Each (IsOf k (number + 1)) others → Pairwise IsEarlier others → Pairwise IsEarlier (methods_of_class k p number c i ms ++ others)
 class_earlier k p number c i [] others later d = d
 class_earlier k p number c i (m ∷ ms) others later d =
     let here = numbered k p number c i m in (
-      each-append (IsEarlier here) (methods_of_class k p number c (i + 1) ms) others
-          (each-weaker (IsOfClass k number (i + 1)) (IsEarlier here) (λ n h. let low = h.method in inr (sym h.home, inr (sym h.class, omega arith))) (methods_of_class k p number c (i + 1) ms) (of_class k p number c (i + 1) ms))
-          (each-weaker (IsOf k (number + 1)) (IsEarlier here) (λ n h. let low = h.class in inr (sym h.home, inl (omega arith))) others later),
+      Each-append (IsEarlier here) (methods_of_class k p number c (i + 1) ms) others
+          (Each-weaker (IsOfClass k number (i + 1)) (IsEarlier here) (λ n h. let low = h.method in inr (sym h.home, inr (sym h.class, omega arith))) (methods_of_class k p number c (i + 1) ms) (of_class k p number c (i + 1) ms))
+          (Each-weaker (IsOf k (number + 1)) (IsEarlier here) (λ n h. let low = h.class in inr (sym h.home, inl (omega arith))) others later),
       class_earlier k p number c (i + 1) ms others later d,
     )
 
@@ -213,9 +204,9 @@ homes_from : (k : ℕ) (ps : List PackageRecord) → Each (λ (n : NumberedMetho
 homes_from k [] = tt {0}
 homes_from k (p ∷ ps) =
     let P = λ (n : NumberedMethod). k ≤ n.home in
-    each-append P (methods_of_classes k p 0 p.description.items.classes) (methods_after (k + 1) ps)
-    (each-weaker (IsOf k 0) P (λ n h. let same = h.home in omega arith) (methods_of_classes k p 0 p.description.items.classes) (of_classes k p 0 p.description.items.classes))
-    (each-weaker (λ (n : NumberedMethod). k + 1 ≤ n.home) P (λ n le. omega arith) (methods_after (k + 1) ps) (homes_from (k + 1) ps))
+    Each-append P (methods_of_classes k p 0 p.description.items.classes) (methods_after (k + 1) ps)
+    (Each-weaker (IsOf k 0) P (λ n h. let same = h.home in omega arith) (methods_of_classes k p 0 p.description.items.classes) (of_classes k p 0 p.description.items.classes))
+    (Each-weaker (λ (n : NumberedMethod). k + 1 ≤ n.home) P (λ n le. omega arith) (methods_after (k + 1) ps) (homes_from (k + 1) ps))
 
 other_homes : (m n : NumberedMethod) → m.home < n.home → Differ m n
 other_homes m n lt place here there =
@@ -230,7 +221,7 @@ packages_differ k (p ∷ ps) agreed =
     pairwise-append Differ own (methods_after (k + 1) ps)
     (classes_differ k p 0 p.description.items.classes (described_apart p (All-head IsAgreed p ps agreed)))
     (packages_differ (k + 1) ps (All-tail IsAgreed p ps agreed))
-    (each-weaker (IsOf k 0) (λ m. Each (Differ m) (methods_after (k + 1) ps)) (λ m h. let same = h.home in each-weaker (λ (n : NumberedMethod). k + 1 ≤ n.home) (Differ m) (λ n le. other_homes m n (omega arith)) (methods_after (k + 1) ps) (homes_from (k + 1) ps)) own (of_classes k p 0 p.description.items.classes))
+    (Each-weaker (IsOf k 0) (λ m. Each (Differ m) (methods_after (k + 1) ps)) (λ m h. let same = h.home in Each-weaker (λ (n : NumberedMethod). k + 1 ≤ n.home) (Differ m) (λ n le. other_homes m n (omega arith)) (methods_after (k + 1) ps) (homes_from (k + 1) ps)) own (of_classes k p 0 p.description.items.classes))
 
 packages_earlier : (k : ℕ) (ps : List PackageRecord) → Pairwise IsEarlier (methods_after k ps)
 packages_earlier k [] = tt {0}
@@ -239,7 +230,7 @@ packages_earlier k (p ∷ ps) =
     pairwise-append IsEarlier own (methods_after (k + 1) ps)
     (classes_earlier k p 0 p.description.items.classes)
     (packages_earlier (k + 1) ps)
-    (each-weaker (IsOf k 0) (λ m. Each (IsEarlier m) (methods_after (k + 1) ps)) (λ m h. let same = h.home in each-weaker (λ (n : NumberedMethod). k + 1 ≤ n.home) (IsEarlier m) (λ n le. inl (omega arith)) (methods_after (k + 1) ps) (homes_from (k + 1) ps)) own (of_classes k p 0 p.description.items.classes))
+    (Each-weaker (IsOf k 0) (λ m. Each (IsEarlier m) (methods_after (k + 1) ps)) (λ m h. let same = h.home in Each-weaker (λ (n : NumberedMethod). k + 1 ≤ n.home) (IsEarlier m) (λ n le. inl (omega arith)) (methods_after (k + 1) ps) (homes_from (k + 1) ps)) own (of_classes k p 0 p.description.items.classes))
 
 at_place : (o : Option NumberedMethod) (place : RecordPlace) → option_map place_of_method o ≡ Some (Some place) → (m : NumberedMethod) × (o ≡ Some m) × At place m
 at_place None place h = absurd cc

@@ -65,7 +65,7 @@ claimed_lies info ms m number h e one claim =
 
 -- ---- the entries that a method names
 
-entry_numbered : (hs : List HandlerInfo) (n i : ℕ) (h : HandlerInfo) → slice_get hs i ≡ Some h → IsOneOf {F = ℕ × HandlerInfo} (numbered n hs) (n + i, h)
+pub entry_numbered : (hs : List HandlerInfo) (n i : ℕ) (h : HandlerInfo) → slice_get hs i ≡ Some h → IsOneOf {F = ℕ × HandlerInfo} (numbered n hs) (n + i, h)
 entry_numbered [] n i h e = absurd cc
 entry_numbered (g ∷ gs) n zero h e =
     let same : g ≡ h = cc in

@@ -2,23 +2,12 @@
 use Rattle.std.proofs.Common.{◌≡◌, ℕ, zero, suc, ◌<◌, Bool, true, false, ltb, List, [], ◌∷◌, ◌++◌, map, Some, refl, subst, arith}
 use Rattle.std.specs.Prelude.{slice_get}
 use Rattle.std.proofs.lemmas.Bool.{ltb-true, ltb-false}
-
--- what holds of each thing
-abbrev pub Each : {X : Type 0} → (X → Type 0) → List X → Type 0
-Each P [] = Unit {0}
-Each P (x ∷ xs) = P x × Each P xs
-
-pub each-append : {X : Type 0} (P : X → Type 0) (xs ys : List X) → Each P xs → Each P ys → Each P (xs ++ ys)
-each-append P [] ys a b = b
-each-append P (x ∷ xs) ys a b = (a.0, each-append P xs ys a.1 b)
+use Rattle.jc_base.specs.Each.{Each}
+use Rattle.jc_base.proofs.Eaching.{Each-append}
 
 pub each-split : {X : Type 0} (P : X → Type 0) (xs ys : List X) → Each P (xs ++ ys) → Each P xs × Each P ys
 each-split P [] ys a = (tt {0}, a)
 each-split P (x ∷ xs) ys a = let r = each-split P xs ys a.1 in ((a.0, r.0), r.1)
-
-pub each-weaker : {X : Type 0} (P Q : X → Type 0) → ((x : X) → P x → Q x) → (xs : List X) → Each P xs → Each Q xs
-each-weaker P Q f [] a = tt {0}
-each-weaker P Q f (x ∷ xs) a = (f x a.0, each-weaker P Q f xs a.1)
 
 pub each-map : {X Y : Type 0} (P : Y → Type 0) (f : X → Y) (xs : List X) → Each (λ x. P (f x)) xs → Each P (map f xs)
 each-map P f [] a = tt {0}
@@ -36,7 +25,7 @@ Pairwise R (x ∷ xs) = Each (R x) xs × Pairwise R xs
 
 pub pairwise-append : {X : Type 0} (R : X → X → Type 0) (xs ys : List X) → Pairwise R xs → Pairwise R ys → Each (λ x. Each (R x) ys) xs → Pairwise R (xs ++ ys)
 pairwise-append R [] ys a b c = b
-pairwise-append R (x ∷ xs) ys a b c = (each-append (R x) xs ys a.0 c.0, pairwise-append R xs ys a.1 b c.1)
+pairwise-append R (x ∷ xs) ys a b c = (Each-append (R x) xs ys a.0 c.0, pairwise-append R xs ys a.1 b c.1)
 
 pub record IsSplit {X : Type 0} (R : X → X → Type 0) (xs ys : List X) : Type 0 where
   pub front : Pairwise R xs

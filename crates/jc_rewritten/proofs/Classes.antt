@@ -14,6 +14,7 @@ use Rattle.cap_package.specs.PackageRecord.{described_methods as class_methods}
 use Rattle.cap_package.specs.Descriptions.{Description, field_type}
 use Rattle.cap_package.specs.NameChecks.{is_method_at, no_entry_fault, no_method_fault, table_entries}
 use Rattle.cap_package.specs.StandsFor.{StandsFor}
+use Rattle.cap_package.proofs.StaticsKnown.{both_empty}
 use Rattle.cap_bytes.specs.Number.{number_at}
 use Rattle.cap_components.specs.MethodPlaces.{size_by, code_end}
 use Rattle.cap_renewal.specs.ClassEdits.{renewed_class}
@@ -26,7 +27,7 @@ use Rattle.jc_resolve.proofs.Pairwise.{each-split}
 use Rattle.cap_rewritten.specs.Changes.{Change, changes, now_at}
 use Rattle.cap_rewritten.specs.Written.{IsWritten}
 use Rattle.cap_rewritten.specs.Rewritten.{bare_class, IsRewritten}
-use Rattle.cap_rewritten.proofs.Lists.{Each, Has, each_at, each_of, none_each, none_append}
+use Rattle.cap_rewritten.proofs.Lists.{Each, Has, each_at, each_of, none_each}
 use Rattle.cap_rewritten.proofs.Agreed.{agrees}
 use Rattle.cap_rewritten.proofs.Zipped.{old_of}
 use Rattle.cap_rewritten.proofs.Bare.{any_map, same_field}
@@ -238,7 +239,7 @@ classes_link parts ps p q laid object s r short =
     let is = is_method_at (class_methods p) in
     let P : ℕ → Type 0 = λ o. no_entry_fault is o ≡ None in
     let a = (agrees parts p s.agree).names in
-    let entries = none_each (no_entry_fault is) (table_entries p.classes) (none_append _ _ (none_append _ _ a).0).0 in
+    let entries = none_each (no_entry_fault is) (table_entries p.classes) (both_empty _ _ (both_empty _ _ a).0).0 in
     let tables = tables_named P p.classes entries in
     let z : length ps ≡ 0 + length ps = omega arith in
     let last = each_of (λ (c : Class). named_class (and_last ps q) object (numbered_class (length ps) q (renewed_class f c))

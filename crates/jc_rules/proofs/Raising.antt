@@ -142,9 +142,6 @@ pub top-above : (t : ClassTable) (a b : Ty) → ¬ (IsNotTop a) → Below t b a
 top-above t Top b h = anything
 top-above t _ b h = absurd (h tt)
 
-pub not_both : {b : Bool} → b ≡ false → b ≡ true → ⊥
-not_both e f = cc
-
 -- a type above another has fewer rises left, where they are not the same
 pub rises-above : (t : ClassTable) (a b : Ty) → StaysOrRises t a b → ¬ (b ≡ a) → rises_left t b < rises_left t a
 rises-above t a b (inl e) n = absurd (n (sym e))

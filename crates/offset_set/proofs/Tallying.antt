@@ -51,5 +51,5 @@ counted-after (n ∷ ns) t =
     (fun_ext (λ offset. repeated_next (eqb n offset) (t.met offset) (t.repeated offset) (is_among ns offset) (is_repeated ns offset)))
 
 -- the offsets of a list were counted
-pub all-counted : (ns : List ℕ) → with_all none_counted ns ≡ counted ns
-all-counted ns = counted-after ns none_counted
+pub all_counted : (ns : List ℕ) → with_all none_counted ns ≡ counted ns
+all_counted ns = counted-after ns none_counted

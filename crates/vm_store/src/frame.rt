@@ -36,8 +36,10 @@ impl Model for TaggedFrame {
 }
 
 impl TaggedFrame {
-    /// A frame of no method.
+    /// An empty frame, at the beginning of the method of number 0.
     pub fn new() -> TaggedFrame
+        ensures method { result.method ≡ 0 }
+        ensures place { result.place ≡ 0 }
         ensures registers { result.registers ≡ [] }
         ensures stack { result.stack ≡ [] }
     {

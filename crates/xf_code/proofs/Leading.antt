@@ -2,13 +2,12 @@
 use Rattle.std.proofs.Common.{◌≡◌, ℕ, suc, ◌+◌, ◌<◌, ◌≤◌, List, [], ◌∷◌, ◌++◌, length, drop, if◌then◌else◌, ◌∙◌, ap, arith}
 use Rattle.std.specs.Prelude.{ℤ, pos, negsuc, ◌≤ℤ◌, ◌<ℤ◌, get_or}
 use Rattle.std.proofs.lemmas.Int.{ints}
-use Rattle.std.proofs.lemmas.List.{drop_more}
+use Rattle.std.proofs.lemmas.List.{drop_more, drop_all}
 use Rattle.jc_base.specs.declared.record.Handler.{Handler}
 use Rattle.jc_ops.specs.declared.operation.Operation.{Operation}
 use Rattle.xf_plan.specs.Source.{Source}
 use Rattle.xf_emission.specs.Jump.{IsNearBy, lead, leads, stub, stubs_of}
 use Rattle.xf_emission.specs.Emission.{caught, caught_from, is_live, range, ranges_from}
-use Rattle.xf_code.proofs.Steps.{rest-none}
 
 pub near-low : (t : ℤ) → IsNearBy t → pos 0 ≤ℤ t
 near-low (pos q) h = omega (arith, ints)
@@ -40,7 +39,7 @@ module _ (s : Source) (hs : List Handler) (n : ℕ) where
       ap (caught_from s n) (drop_more hs n d lt) ∙ ap (λ k. (if is_live s h then caught s n h else []) ++ caught_from s k (drop (n + 1) hs)) next
 
   pub caught-none : length hs ≤ n → caught_from s n (drop n hs) ≡ []
-  caught-none le = ap (caught_from s n) (rest-none hs n le)
+  caught-none le = ap (caught_from s n) (drop_all n hs le)
 
   pub ranges-next : (d : Handler) → n < length hs
       → ranges_from s n (drop n hs) ≡ (if is_live s (get_or hs n d) then range s n (get_or hs n d) ∷ [] else []) ++ ranges_from s (n + 1) (drop (n + 1) hs)
@@ -50,4 +49,4 @@ module _ (s : Source) (hs : List Handler) (n : ℕ) where
       ap (ranges_from s n) (drop_more hs n d lt) ∙ ap (λ k. (if is_live s h then range s n h ∷ [] else []) ++ ranges_from s k (drop (n + 1) hs)) next
 
   pub ranges-none : length hs ≤ n → ranges_from s n (drop n hs) ≡ []
-  ranges-none le = ap (ranges_from s n) (rest-none hs n le)
+  ranges-none le = ap (ranges_from s n) (drop_all n hs le)

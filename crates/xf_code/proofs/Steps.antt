@@ -1,5 +1,5 @@
 -- Steps of loops that append items.
-use Rattle.std.proofs.Common.{◌≡◌, ℕ, zero, suc, ◌+◌, ◌<◌, ◌≤◌, List, [], ◌∷◌, ◌++◌, length, drop, All, map, flat_map, refl, sym, ◌∙◌, ap, arith, append_assoc, subst}
+use Rattle.std.proofs.Common.{◌≡◌, ℕ, suc, ◌+◌, ◌<◌, List, [], ◌∷◌, ◌++◌, length, drop, All, map, flat_map, sym, ◌∙◌, ap, arith, append_assoc, subst}
 use Rattle.std.specs.Prelude.{get_or}
 use Rattle.std.proofs.lemmas.List.{append-nil, drop_more}
 use Rattle.std.proofs.lemmas.List.Concat.{flat_map-cons}
@@ -12,12 +12,6 @@ goes-on items step rest left whole now first is inv =
 -- nothing is left
 pub ended : {X : Type 0} (items rest whole : List X) → rest ≡ [] → items ++ rest ≡ whole → items ≡ whole
 ended items rest whole none inv = sym (append-nil items) ∙ ap (λ xs. items ++ xs) (sym none) ∙ inv
-
-pub rest-none : {X : Type 0} (xs : List X) (n : ℕ) → length xs ≤ n → drop n xs ≡ []
-rest-none [] zero le = refl
-rest-none [] (suc n) le = refl
-rest-none (x ∷ xs) zero le = absurd (omega arith)
-rest-none (x ∷ xs) (suc n) le = rest-none xs n (omega arith)
 
 pub map-first : {X Y : Type 0} (f : X → Y) (xs : List X) (n : ℕ) (d : X) → n < length xs → map f (drop n xs) ≡ f (get_or xs n d) ∷ map f (drop (n + 1) xs)
 map-first f xs n d lt = ap (map f) (drop_more xs n d lt)

@@ -1,15 +1,15 @@
 -- Each entry of the handler table of a package belongs to one method, so that the handlers of all methods are no more than the table has.
-use Rattle.std.proofs.Common.{◌≡◌, ℕ, zero, suc, ◌+◌, ◌-◌, ◌<◌, ◌≤◌, Bool, true, false, ◌&&◌, ltb, leb, min, List, [], ◌∷◌, ◌++◌, length, filter, cond, Some, refl, sym, ap, subst, ◌∙◌, inl, inr, arith}
-use Rattle.std.specs.Prelude.{slice_get}
+use Rattle.std.proofs.Common.{◌≡◌, ℕ, zero, suc, ◌+◌, ◌-◌, ◌<◌, ◌≤◌, Bool, true, false, ◌&&◌, ltb, leb, min, List, [], ◌∷◌, ◌++◌, length, filter, cond, refl, sym, ap, subst, ◌∙◌, arith}
 use Rattle.std.specs.List.{filter_map}
 use Rattle.std.proofs.lemmas.Bool.{ltb-true, ltb-false, leb-true, leb-false}
 use Rattle.cap_desc.specs.DescriptorFormat.{Method, Class}
 use Rattle.cap_desc.specs.Members.{methods_but}
-use Rattle.cap_method.specs.declared.handler.HandlerInfo.{HandlerInfo}
 use Rattle.cap_package.specs.HandlerChecks.{claims, is_within, claim_fault, numbered, numbered_fault}
 use Rattle.cap_package.specs.PackageRecord.{PackageRecord, described_methods}
 use Rattle.cap_package.specs.StandsFor.{StandsFor}
-use Rattle.jc_resolve.proofs.Faultless.{IsOneOf, faultless, both_empty}
+use Rattle.cap_package.proofs.StaticsKnown.{both_empty}
+use Rattle.jc_resolve.proofs.Faultless.{faultless}
+use Rattle.jc_resolve.proofs.OwnedHandlers.{entry_numbered}
 use Rattle.cap_rewritten.proofs.Handlers.{one_owner}
 use Rattle.jc_base.proofs.Lists.{slice_get-some}
 
@@ -66,16 +66,6 @@ sum-within (suc many) ms one =
 
 -- ---- a package
 
-entry-numbered : (hs : List HandlerInfo) (n i : ℕ) (h : HandlerInfo) → slice_get hs i ≡ Some h → IsOneOf {F = ℕ × HandlerInfo} (numbered n hs) (n + i, h)
-entry-numbered [] n i h e = absurd cc
-entry-numbered (g ∷ gs) n zero h e =
-    let same : g ≡ h = cc in
-    let zero_more : n + 0 ≡ n = omega arith in
-    inl (rw (zero_more, same) refl)
-entry-numbered (g ∷ gs) n (suc i) h e =
-    let more : n + suc i ≡ (n + 1) + i = omega arith in
-    inr (rw more (entry-numbered gs (n + 1) i h e))
-
 module _ (p : PackageRecord) (agreed : StandsFor p.parts p) where
   entries-owned : filter_map (numbered_fault p.methods.info (described_methods p)) (numbered 0 p.methods.handlers) ≡ []
   entries-owned =
@@ -86,7 +76,7 @@ module _ (p : PackageRecord) (agreed : StandsFor p.parts p) where
   once n lt =
       let h = slice_get-some p.methods.handlers n lt in
       let place : 0 + n ≡ n = omega arith in
-      let fault = faultless (numbered_fault p.methods.info (described_methods p)) (numbered 0 p.methods.handlers) (0 + n, h.0) entries-owned (entry-numbered p.methods.handlers 0 n h.0 h.1) in
+      let fault = faultless (numbered_fault p.methods.info (described_methods p)) (numbered 0 p.methods.handlers) (0 + n, h.0) entries-owned (entry_numbered p.methods.handlers 0 n h.0 h.1) in
       one_owner p.methods.info (described_methods p) n h.0 (rw place at fault)
 
   pub entries-within : entry_sum (length p.methods.handlers) (described_methods p) ≤ length p.methods.handlers

@@ -11,7 +11,8 @@ use Rattle.cap_package.specs.Agreement.{or_none}
 use Rattle.cap_package.specs.NameChecks.{undescribed_fault, no_class_fault, not_own_fault, is_class_at}
 use Rattle.cap_package.specs.PackageRecord.{PackageRecord}
 use Rattle.cap_package.specs.StandsFor.{StandsFor}
-use Rattle.jc_resolve.proofs.Faultless.{IsOneOf, faultless, both_empty}
+use Rattle.cap_package.proofs.StaticsKnown.{both_empty}
+use Rattle.jc_resolve.proofs.Faultless.{IsOneOf, faultless}
 
 one_of_map : (cs : List Class) (c : Class) → IsOneOf cs c → IsOneOf (map (λ (d : Class). d.class_ref) cs) c.class_ref
 one_of_map [] c one = absurd one

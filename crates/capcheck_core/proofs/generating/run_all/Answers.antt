@@ -40,7 +40,7 @@ returns-clause-runs c =
     let begun = card c.args.ram.now c.args.heap.now c.args.statics.now in
     all_run w begun now sum (subst (λ n. HaveRun w n begun now sum) (omega arith) c.methods.invariant.run)
 
-pub returns-in-Err-clause-begun : goal.returns-in-Err-clause-begun
-returns-in-Err-clause-begun c =
+pub returns-in_err-args-clause-begun : goal.returns-in-Err-clause-begun
+returns-in_err-args-clause-begun c =
     some_run c.args.accepted.now c.methods.number (card c.args.ram.now c.args.heap.now c.args.statics.now) (card c.methods.ram c.methods.heap c.methods.statics) _
     (omega arith) c.methods.invariant.run

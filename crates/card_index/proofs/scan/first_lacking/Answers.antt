@@ -3,10 +3,11 @@ use Rattle.std.specs.Prelude.{FitsSigned}
 use Rattle.std.specs.Int.{w32}
 use Rattle.std.proofs.lemmas.Int.{to_z-of_z}
 use Rattle.std.proofs.lemmas.List.Elements.{All-push}
+use Rattle.jc_base.proofs.Lists.{All-slice_get}
 use Rattle.jc_decode.specs.Instructions.{rest_of}
 use Rattle.jc_decode.specs.Listing.{listing, targets}
 use Rattle.jc_control.specs.FirstFailing.{IsFirstFailing}
-use Rattle.jc_control.proofs.Elements.{at-next, go-on, contained-in, first-failing, slice_get-in}
+use Rattle.jc_control.proofs.Elements.{at-next, go-on, contained-in, first-failing}
 use Rattle.card_index.specs.Refusal.{IsListedTarget, LeadsToListed}
 use Rattle.card_index.proofs.Costs.{sum-more-cost, sum-within}
 use Rattle.card_index.proofs.scan.first_lacking.Goals as goal
@@ -31,7 +32,7 @@ returns-in-Some-first_lacking_of-clause-some g c =
       from = i;
       at = refl;
       instruction = first-failing (LeadsToListed code c.args.index.now) c.walk.yielded i (rest_of c.next.new.self) (listing code) whole c.walk.invariant.so_far
-          (λ leads. lacks.1.fails (slice_get-in (IsListedTarget c.args.index.now) (targets code i) lacks.0 t leads lacks.1.here));
+          (λ leads. lacks.1.fails (All-slice_get (IsListedTarget c.args.index.now) (targets code i) lacks.0 t leads lacks.1.here));
       target_number = lacks.0;
       lacks = lacks.1;
     })

@@ -1,4 +1,5 @@
-use Rattle.jc_rules.proofs.Raising.{not_both, join-over, rises-above}
+use Rattle.std.proofs.lemmas.Bool.{both_ways}
+use Rattle.jc_rules.proofs.Raising.{join-over, rises-above}
 use Rattle.jc_rules.proofs.state.higher.Goals as goal
 use Rattle.jc_base.proofs.Joins.{IsJoin-above}
 
@@ -11,4 +12,4 @@ returns-then-below-2 c = IsJoin-above c.args.classes.now (c.below-else-below.ens
 
 pub returns-else-below-2 : goal.returns-else-below-2
 returns-else-below-2 c =
-    (c.join.ensures.is, c.join.ensures.known, c.types_are_ordered.ensures.order.rises c.join.ensures.is (λ h. not_both c.if-below-2.false (c.below-else-below.ensures.is.1 h)))
+    (c.join.ensures.is, c.join.ensures.known, c.types_are_ordered.ensures.order.rises c.join.ensures.is (λ h. both_ways _ c.if-below-2.false (c.below-else-below.ensures.is.1 h)))

@@ -3,12 +3,12 @@ use Rattle.std.specs.Prelude.{FitsSigned, slice_index, pos, ◌-ℤ◌}
 use Rattle.std.specs.Int.{w16}
 use Rattle.std.proofs.lemmas.Int.{to_z-of_z}
 use Rattle.std.proofs.lemmas.Bool.{not-true}
+use Rattle.std.proofs.lemmas.Result.{on_ok_weaker}
 use Rattle.jc_decode.specs.declared.insn.Insn.{Insn}
 use Rattle.jc_decode.specs.declared.symbols.Item.{Item}
 use Rattle.jc_decode.specs.Encoding.{encoding}
 use Rattle.jc_decode.specs.Forms.{length_of}
 use Rattle.jc_decode.specs.Symbols.{IsItem}
-use Rattle.jc_decode.proofs.Appending.{OnOk-then}
 use Rattle.xf_layout.specs.Form.{IsForm}
 use Rattle.xf_layout.specs.Laid.{Adds}
 use Rattle.xf_layout.proofs.Adding.{plain-adds, jump-adds, switch-form, switch-few}
@@ -23,7 +23,7 @@ returns-in-Plain c =
     let item = subst (IsItem source c.requires.item.0) c.in-Plain.is c.requires.item.1 in
     let form = subst (λ (x : Item). IsForm x c.args.form) c.in-Plain.is c.requires.form in
     let e = c.short_form.ensures in
-    OnOk-then c.encode.result
+    on_ok_weaker c.encode.result
     (λ appended. subst (λ (x : Item). Adds source place x c.args.form c.args.code.now.items c.encode.new.to.items) (sym c.in-Plain.is)
     (plain-adds source place i short c.args.form c.args.code.now.items c.encode.new.to.items (encoding source 0 short) source 0 (ap length_of e.value)
     form appended c.encode.ensures.read_back c.encode.ensures.long (e.same item.0) (e.jumps ∙ not-true _ item.1)))
@@ -42,7 +42,7 @@ returns-in-Branch c =
     let x : j.x ≡ pos (place c.in-Branch.label) -ℤ pos (length old) =
     ap (λ (k : Insn). k.x) e.value ∙ to_z-of_z w16 c.distance-offset.result fits ∙ c.distance-offset.ensures
     ∙ ap (λ (m : ℕ). pos m -ℤ pos c.len.result) c.at.ensures ∙ ap (λ (m : ℕ). pos (place c.in-Branch.label) -ℤ pos m) here in
-    OnOk-then c.encode-in-Branch.result
+    on_ok_weaker c.encode-in-Branch.result
     (λ appended. subst (λ (x : Item). Adds source place x c.args.form old c.encode-in-Branch.new.to.items) (sym c.in-Branch.is)
     (jump-adds source place c.in-Branch.op c.in-Branch.label j c.args.form old c.encode-in-Branch.new.to.items (encoding source 0 j) source 0 form appended
     c.encode-in-Branch.ensures.read_back c.encode-in-Branch.ensures.long (e.long ∙ ap (λ (b : Bool). cond b 3 2) c.is_wide.ensures) e.same e.jumps e.only x))
@@ -62,7 +62,7 @@ returns-in-Switch c =
     let new = c.lay_switch.new.code.items in
     let item = subst (IsItem source c.requires.item.0) c.in-Switch.is c.requires.item.1 in
     let form = subst (λ (x : Item). IsForm x c.args.form) c.in-Switch.is c.requires.form in
-    OnOk-then c.lay_switch.result
+    on_ok_weaker c.lay_switch.result
     (λ adds. subst (λ (x : Item). Adds source place x c.args.form old new) (sym c.in-Switch.is)
     (switch-form source place c.in-Switch.insn c.in-Switch.at c.in-Switch.labels c.args.form old new form item.0 adds))
     c.lay_switch.ensures
