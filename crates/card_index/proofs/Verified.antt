@@ -32,7 +32,7 @@ use Rattle.card_typing.proofs.Below.{fault-kind}
 use Rattle.card_verify.specs.Answers.{TellsFlaw}
 use Rattle.card_index.specs.declared.indexed.Indexed.{Indexed}
 use Rattle.card_index.specs.declared.scan.Lacking.{Lacking}
-use Rattle.card_index.specs.Bound.{AreCounted, AreCountedTo, AreCountedBy, instruction_count, target_count, most_passes, step_bound}
+use Rattle.card_index.specs.Bound.{AreCounted, AreCountedTo, AreCountedBy, entries_read, instruction_count, target_count, most_passes, step_bound}
 use Rattle.card_index.specs.Indexed.{subject, world_in, listed}
 use Rattle.card_index.specs.IndexTyping.{IsIndex, HasIndexTyping}
 use Rattle.card_index.specs.Laws.{RefusalDeniesOver}
@@ -78,6 +78,22 @@ pub form-flawed : (m : Method) (r : Result (Unit {0}) CardFault) → IfErr r (λ
 form-flawed m (Ok t) h = tt
 form-flawed m (Err fault) h = form-of-flaw m fault h
 
+flaw-reads : (entries : ℕ) (flaw : Flaw) → entries_read entries (fault_of flaw).kind ≡ 0
+flaw-reads entries (flaws.Code place end) = refl
+flaw-reads entries (flaws.BadTarget place target) = refl
+flaw-reads entries (flaws.BadHandler entry number) = refl
+
+-- no entry is read before a flaw is told
+pub reads-of-flaw : (m : Method) (entries most : ℕ) (fault : CardFault) → TellsFlaw m fault → entries_read entries fault.kind ≤ most
+reads-of-flaw m entries most fault t =
+    let none : entries_read entries fault.kind ≡ 0 = ap (λ (f : CardFault). entries_read entries f.kind) t.2 ∙ flaw-reads entries t.0 in
+    omega (arith, none)
+
+pub reads-flawed : (m : Method) (entries most : ℕ) (r : Result (Unit {0}) CardFault) → IfErr r (λ (fault : CardFault). TellsFlaw m fault)
+    → IfErr r (λ (fault : CardFault). entries_read entries fault.kind ≤ most)
+reads-flawed m entries most (Ok t) h = tt
+reads-flawed m entries most (Err fault) h = reads-of-flaw m entries most fault h
+
 -- ---- refusals
 
 module _ (w : Linked) (m : Method) (index : List ℕ) where
@@ -117,6 +133,16 @@ module _ (w : Linked) (m : Method) (index : List ℕ) where
 
   pub form-of-lacking : (f : Lacking) (fault : CardFault) → IsWellFormed m → IsFirstLacking m.code index f.place f.target → IsNotIndexed f fault → IsFormKind fault.kind
   form-of-lacking f fault formed first told = form-by f fault f.target refl (by-target f.place f.target formed first) told
+
+  reads-by : (f : Lacking) (fault : CardFault) (entries : ℕ) (t : ℤ) → f.target ≡ t → IsTargetPlace m.code t → IsNotIndexed f fault → entries_read entries fault.kind ≤ entries
+  reads-by f fault entries (pos q) e place told =
+      let all : entries_read entries fault.kind ≡ entries = ap (λ (g : CardFault). entries_read entries g.kind) (told q e) in
+      omega (arith, all)
+  reads-by f fault entries (negsuc n) e place told = absurd place
+
+  pub reads-of-lacking : (f : Lacking) (fault : CardFault) (entries : ℕ) → IsWellFormed m → IsFirstLacking m.code index f.place f.target → IsNotIndexed f fault
+      → entries_read entries fault.kind ≤ entries
+  reads-of-lacking f fault entries formed first told = reads-by f fault entries f.target refl (by-target f.place f.target formed first) told
 
   pub none-over : (regs stack : List Ty) (r : Result (Unit {0}) CardFault) → RefusalDeniesOver w → IsMethodOf w m → IfErr r (λ (fault : CardFault). IsRefusedOver w m index fault (frame_of regs stack fault.depth)) → OnErr r (¬ (HasIndexTyping w m index))
   none-over regs stack (Ok t) denies mo h = tt
@@ -180,6 +206,12 @@ ok-always P (Ok t) h = h
 ok-always P (Err fault) h = tt
 
 -- ---- what is counted
+
+-- so many entries are read at the least
+pub read-by : (entries most before after : ℕ) (r : Result (Unit {0}) CardFault) → before + most ≤ after
+    → IfErr r (λ (fault : CardFault). entries_read entries fault.kind ≤ most) → IfErr r (λ (fault : CardFault). before + entries_read entries fault.kind ≤ after)
+read-by entries most before after (Ok t) read few = tt
+read-by entries most before after (Err fault) read few = omega (arith, read, few)
 
 pub counted-of : (m : Method) (regs begun : List Ty) (before after : ℕ) (r : Result (Unit {0}) CardFault) → begun ≡ (start_frame m.rec Bottom).regs → OnOk r (before + instruction_count m ≤ after)
     → OnOk r (¬ (regs ≡ begun) → before + 2 * instruction_count m ≤ after) → OnOk r (AreCounted m 0 regs before after)

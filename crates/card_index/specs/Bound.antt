@@ -9,6 +9,8 @@ use Rattle.jc_decode.specs.Listing.{listing, targets}
 use Rattle.jc_control.specs.Method.{Method}
 use Rattle.jc_rules.specs.Flow.{start_frame}
 use Rattle.card_typing.specs.declared.fault.CardFault.{CardFault}
+use Rattle.card_typing.specs.declared.fault.CardKind.{CardKind}
+use Rattle.card_typing.specs.declared.fault.CardKind.TheVariants.{BadIndex, NotIndexed}
 use Rattle.card_index.specs.Refusal.{IsFormKind}
 
 -- the instructions of a method
@@ -38,10 +40,17 @@ pub record AreCountedTo (m : Method) (entries place before after : ℕ) : Type 0
   pub stands : slice_get (listing m.code) number ≡ Some here
   pub counted : before + (entries + number) ≤ after
 
+-- the entries, of so many, that are read before what is wrong with the index is told: those up to a bad one, or all where a target
+-- is lacking; a flaw of the method may be told before any
+abbrev pub entries_read : ℕ → CardKind → ℕ
+entries_read entries (BadIndex number) = number + 1
+entries_read entries (NotIndexed target) = entries
+entries_read entries _ = 0
+
 -- of a refusal: the form of the method or the index is at fault, or a state is
 abbrev pub AreCountedBy : Method → ℕ → ℕ → ℕ → CardFault → Type 0
 AreCountedBy m entries before after fault =
-    IsFormKind fault.kind × (before ≤ after)
+    IsFormKind fault.kind × (before + entries_read entries fault.kind ≤ after)
     ⊎ AreCountedTo m entries fault.place before after
 
 -- over an index of so many entries, whose number has so many binary digits

@@ -25,6 +25,7 @@ pub(crate) fn bad_entry<L: Ledger>(
     // Each entry is read once at most, and where none is bad each is read.
     ensures cost { steps.new ≤ steps.old + length index.now }
     ensures read { IfNone result (steps.old + length index.now ≤ steps.new) }
+    ensures read_to { IfSome result (λ number. steps.old + (number + 1) ≤ steps.new) }
 {
     instructions_are_listed();
     let mut left = Instructions::of(code);

@@ -8,7 +8,7 @@ ghost use Rattle.jc_rules.specs.Demand.{Frame};
 ghost use Rattle.jc_rules.specs.Apply.{frame_of};
 ghost use Rattle.card_typing.specs.Typing.{IsLeastCardTyping};
 ghost use Rattle.card_verify.specs.Walk.{HasSlices};
-ghost use Rattle.card_index.specs.Bound.{AreCounted, AreCountedTo, AreCountedBy, instruction_count, target_count, most_passes, step_bound};
+ghost use Rattle.card_index.specs.Bound.{AreCounted, AreCountedTo, AreCountedBy, entries_read, instruction_count, target_count, most_passes, step_bound};
 ghost use Rattle.card_index.specs.Indexed.{subject, world_in, listed};
 ghost use Rattle.card_index.specs.IndexTyping.{IsIndex, HasIndexTyping};
 ghost use Rattle.card_index.specs.Refusal.{IsFirstBadEntry, IsFirstLacking, LeadsToListed, IsFormKind, IsRefusedOver};
@@ -124,6 +124,8 @@ impl Indexed<'_, '_> {
         ensures form { IfErr result (λ fault. IsFormKind fault.kind) }
         ensures forward { steps.old ≤ steps.new }
         ensures read { OnOk result (steps.old + length (listed self.now) ≤ steps.new) }
+        ensures read_to { IfErr result
+            (λ fault. steps.old + entries_read (length (listed self.now)) fault.kind ≤ steps.new) }
         ensures cost { (b : ℕ)
             → length (listed self.now) < 2 ^ b
             → steps.new ≤ steps.old + (length (listed self.now) + target_count (subject self.now) * b) }
@@ -145,6 +147,8 @@ impl Indexed<'_, '_> {
             (λ fault.
             (kept : Frame) → IsRefusedOver (world_in self.now) (subject self.now) (listed self.now) fault kept) }
         ensures form { IfErr result (λ fault. IsFormKind fault.kind) }
+        ensures all_read { IfErr result
+            (λ fault. entries_read (length (listed self.now)) fault.kind ≤ length (listed self.now)) }
         ensures forward { steps.old ≤ steps.new }
         ensures cost { (b : ℕ)
             → length (listed self.now) < 2 ^ b
@@ -165,6 +169,7 @@ impl Indexed<'_, '_> {
             (λ fault.
             (kept : Frame) → IsRefusedOver (world_in self.now) (subject self.now) (listed self.now) fault kept) }
         ensures form { IfErr result (λ fault. IsFormKind fault.kind) }
+        ensures read_to { IfErr result (λ fault. entries_read (length (listed self.now)) fault.kind ≤ entry + 1) }
     {
         match self.verifier.check_form() {
             Ok(()) => Err(CardFault {
@@ -187,6 +192,8 @@ impl Indexed<'_, '_> {
             (λ fault.
             (kept : Frame) → IsRefusedOver (world_in self.now) (subject self.now) (listed self.now) fault kept) }
         ensures form { IfErr result (λ fault. IsFormKind fault.kind) }
+        ensures all_read { IfErr result
+            (λ fault. entries_read (length (listed self.now)) fault.kind ≤ length (listed self.now)) }
     {
         instructions_are_listed();
         match self.verifier.check_form() {
@@ -205,6 +212,8 @@ impl Indexed<'_, '_> {
             (λ fault.
             (kept : Frame) → IsRefusedOver (world_in self.now) (subject self.now) (listed self.now) fault kept) }
         ensures form { IfErr result (λ fault. IsFormKind fault.kind) }
+        ensures all_read { IfErr result
+            (λ fault. entries_read (length (listed self.now)) fault.kind ≤ length (listed self.now)) }
     {
         if is_rest_formed(self.verifier) {
             return Ok(());

@@ -23,6 +23,12 @@ returns-then-not-seek-clause-bad g c =
     ordered-none code c.args.index.now (c.instructions_are_listed.ensures code) c.entries.k c.entries.least (rest_of c.entries.left) c.entries.invariant.ordered c.from-place.result
     (c.entry.ensures.is ∙ ap Some (sym c.from-place.ensures)) c.if-place-least.false c.if-not-seek.ensures
 
+pub returns-then-place-least-clause-read_to : goal.returns-then-place-least-clause-read_to
+returns-then-place-least-clause-read_to g c = omega (arith, c.entry.ensures.one, c.entries.invariant.cost)
+
+pub returns-then-not-seek-clause-read_to : goal.returns-then-not-seek-clause-read_to
+returns-then-not-seek-clause-read_to g c = omega (arith, c.entry.ensures.one, c.entries.invariant.cost)
+
 pub entries-preserved : goal.entries-preserved
 entries-preserved g c =
     let code = c.args.code.bytes.now in

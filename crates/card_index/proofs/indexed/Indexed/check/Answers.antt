@@ -2,7 +2,7 @@ use Rattle.std.proofs.Common.{◌+◌, ◌≤◌, length, arith}
 use Rattle.jc_control.specs.WellFormed.{IsWellFormed}
 use Rattle.card_index.specs.Indexed.{subject, listed}
 use Rattle.card_index.specs.IndexTyping.{IsIndex}
-use Rattle.card_index.proofs.Verified.{not-ok, ok-always}
+use Rattle.card_index.proofs.Verified.{not-ok, ok-always, read-by}
 use Rattle.card_index.proofs.indexed.Indexed.check.Goals as goal
 
 pub returns-in-Some-clause-formed : goal.returns-in-Some-clause-formed
@@ -27,3 +27,14 @@ pub returns-in-None-clause-read : goal.returns-in-None-clause-read
 returns-in-None-clause-read g c =
     ok-always (c.args.steps.now + length (listed c.args.self.now) ≤ c.check_targets.new.steps) c.check_targets.result
     (omega (arith, c.in-None.ensures.read, c.check_targets.ensures.forward))
+
+pub returns-in-Some-clause-read_to : goal.returns-in-Some-clause-read_to
+returns-in-Some-clause-read_to g c =
+    let x = c.args.self.now in
+    read-by (length (listed x)) (c.in-Some.entry + 1) c.args.steps.now c.bad_entry.new.steps c.refuse_entry.result c.in-Some.ensures.read_to c.refuse_entry.ensures.read_to
+
+pub returns-in-None-clause-read_to : goal.returns-in-None-clause-read_to
+returns-in-None-clause-read_to g c =
+    let x = c.args.self.now in
+    read-by (length (listed x)) (length (listed x)) c.args.steps.now c.check_targets.new.steps c.check_targets.result
+    (omega (arith, c.in-None.ensures.read, c.check_targets.ensures.forward)) c.check_targets.ensures.all_read

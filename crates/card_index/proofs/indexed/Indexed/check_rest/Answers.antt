@@ -1,6 +1,6 @@
-use Rattle.std.proofs.Common.{Result, Ok, Err, IfErr}
+use Rattle.std.proofs.Common.{Result, Ok, Err, IfErr, length}
 use Rattle.card_index.specs.Indexed.{subject, world_in, listed}
-use Rattle.card_index.proofs.Verified.{formed-by, over-flawed, form-flawed}
+use Rattle.card_index.proofs.Verified.{formed-by, over-flawed, form-flawed, reads-flawed}
 use Rattle.card_index.proofs.indexed.Indexed.check_rest.Goals as goal
 
 pub returns-then-is_rest_formed-clause-formed : goal.returns-then-is_rest_formed-clause-formed
@@ -15,3 +15,8 @@ returns-clause-refused c =
 
 pub returns-clause-form : goal.returns-clause-form
 returns-clause-form c = form-flawed (subject c.args.self.now) c.check_form.result c.check_form.ensures.flawed
+
+pub returns-clause-all_read : goal.returns-clause-all_read
+returns-clause-all_read c =
+    let x = c.args.self.now in
+    reads-flawed (subject x) (length (listed x)) (length (listed x)) c.check_form.result c.check_form.ensures.flawed

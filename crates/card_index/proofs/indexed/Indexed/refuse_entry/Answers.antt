@@ -1,6 +1,7 @@
+use Rattle.std.proofs.Common.{◌+◌, length}
 use Rattle.card_index.specs.Refusal.{over_entry}
 use Rattle.card_index.specs.Indexed.{subject, world_in, listed}
-use Rattle.card_index.proofs.Verified.{over-of-flaw, form-of-flaw}
+use Rattle.card_index.proofs.Verified.{over-of-flaw, form-of-flaw, reads-of-flaw}
 use Rattle.card_index.proofs.indexed.Indexed.refuse_entry.Goals as goal
 
 pub returns-in-Ok-clause-refused : goal.returns-in-Ok-clause-refused
@@ -13,3 +14,8 @@ returns-in-Err-clause-refused c =
 
 pub returns-in-Err-clause-form : goal.returns-in-Err-clause-form
 returns-in-Err-clause-form c = form-of-flaw (subject c.args.self.now) c.in-Err.fault c.in-Err.ensures.flawed
+
+pub returns-in-Err-clause-read_to : goal.returns-in-Err-clause-read_to
+returns-in-Err-clause-read_to c =
+    let x = c.args.self.now in
+    reads-of-flaw (subject x) (length (listed x)) (c.args.entry + 1) c.in-Err.fault c.in-Err.ensures.flawed

@@ -39,7 +39,7 @@ returns-in-Ok-clause-counted_to g c =
     counted-by-state (subject x) (length (listed x)) c.args.steps.now c.check.new.steps c.verify_types.new.steps c.in-Ok.ensures.read c.verify_types.result c.verify_types.ensures.counted_to
 
 pub returns-in-Err-clause-counted_to : goal.returns-in-Err-clause-counted_to
-returns-in-Err-clause-counted_to g c = inl (c.in-Err.ensures.form, c.check.ensures.forward)
+returns-in-Err-clause-counted_to g c = inl (c.in-Err.ensures.form, c.in-Err.ensures.read_to)
 
 pub returns-in-Ok-clause-as_before : goal.returns-in-Ok-clause-as_before
 returns-in-Ok-clause-as_before g c =
