@@ -253,6 +253,10 @@ some_run w k begun c sum most have = by have.holds
               holds = holds;
             })
 
+pub begun_unless : {A E : Type 0} (w : Linked) (begun c : Card) (end : Result A E) → IsKeptOrBegun w begun c → OnErr end (IsKeptOrBegun w begun c)
+begun_unless w begun c (Ok a) some = tt {0}
+begun_unless w begun c (Err e) some = some
+
 pub run_begun : (w : Linked) (c : Card) (sum : ℤ) → AreRun w c sum → AreBegun w c
 run_begun w c sum run = record {
   outcomes = run.outcomes;

@@ -6,6 +6,7 @@ pub mod Stores
 pub mod Transforms
 pub mod Trials
 pub mod PackageLoads
+pub mod Shown
 pub mod Typings
 pub mod Cardings
 pub mod Worlds

@@ -1,26 +1,28 @@
 -- The parts that are loaded have rising tags, and a folder that tells what it holds has one list of them.
-use Rattle.std.proofs.Common.{◌≡◌, ◌<◌, ◌≤◌, ◌+◌, ℕ, zero, suc, List, [], ◌∷◌, ◌++◌, Option, Some, None, IsNone, Bool, true, false, true≢false, eqb, ltb, slice_index_or, map, refl, sym, ap, subst, ◌∙◌, inl, inr, ◌⊎◌, arith, length}
-use Rattle.std.specs.Prelude.{Result, IfSome, IsSomeAnd, is_some, Ok, Err, ◌&&◌, ◌||◌}
-use Rattle.std.specs.List.{range_with_len}
+use Rattle.std.proofs.Common.{◌≡◌, ◌<◌, ◌≤◌, ◌+◌, ℕ, zero, suc, List, [], ◌∷◌, ◌++◌, Option, Some, None, IsNone, Bool, true, false, true≢false, eqb, ltb, leb, refl, sym, ap, subst, ◌∙◌, inl, inr, ◌⊎◌, arith, length, drop, append_assoc}
+use Rattle.std.specs.Prelude.{Result, IfSome, slice_get, IsSomeAnd, is_some, Ok, Err, ◌&&◌, ◌||◌}
 use Rattle.std.specs.FinMap as fin_map
-use Rattle.std.proofs.lemmas.List.FromFn.{get_or-map-range_with_len, map-range_with_len_more}
-use Rattle.std.proofs.lemmas.Bool.{ne_eqb, eq-eqb, eqb-true, ltb-true, ltb-false}
+use Rattle.std.proofs.Math.Bool.{and-false}
+use Rattle.std.proofs.lemmas.List.{append-nil}
+use Rattle.std.proofs.lemmas.Bool.{ne_eqb, eq-eqb, eqb-true, eqb-false, ltb-true, ltb-false, lt-leb}
 use Rattle.std.proofs.Math.Nat.{eq-or-lt_of_le}
 use Rattle.cap_bytes.specs.Grammar.{Grammar}
 use Rattle.cap_bytes.specs.Spelling.{info_of}
 use Rattle.cap_bytes.specs.Reading.{reading}
 use Rattle.cap_frame.specs.HeaderFormat.{HeaderItems, header_info}
-use Rattle.cap_frame.specs.DirectoryFormat.{directory_info}
+use Rattle.cap_frame.specs.DirectoryFormat.{Custom, DirectoryItems, directory_info}
+use Rattle.cap_frame.specs.Directory.{size_in, custom_size_in}
 use Rattle.cap_files.specs.Folder.{Parts, Folders, Holds, IsTooLong, Loads}
 use Rattle.cap_files.specs.declared.folder.LoadEnd.{LoadEnd}
 use Rattle.cap_components.specs.declared.fault.PackFault.{PackFault}
 use Rattle.cap_components.specs.Components.{framed, formed, info_in, read_part, read_directory, ◌>>=◌}
-use Rattle.cap_package.specs.Parts.{Lent, held}
+use Rattle.cap_package.specs.Parts.{Lent, held, HasEachOnce}
 use Rattle.cap_components.proofs.PartsLemmas.{held-other, held-same}
-use Rattle.capcheck_core.specs.Loads.{is_required, is_optional, is_sized, is_asked, asked_tags, Has, with_file, Rise, AreLoaded, IsFirstLong}
+use Rattle.cap_package.proofs.Given.{drop_here}
+use Rattle.capcheck_core.specs.Loads.{is_required, is_optional, is_some_size, is_sized, is_asked, Has, with_file, Rise, AreLoaded, AreParts, IsAdded, IsFirstLong}
 use Rattle.capcheck_core.specs.declared.load.LoadStop.{LoadStop}
 use Rattle.capcheck_core.specs.declared.load.LoadStop.TheVariants.{TooLong, Failed, Memory}
-use Rattle.capcheck_core.specs.LoadEnds.{LoadsParts, LoadsNext}
+use Rattle.capcheck_core.specs.LoadEnds.{LoadsParts, LoadsFile, EndsSized, EndsAsked}
 
 pub none_some : (bytes : List ℕ) → ◌≡◌ {A = Option (List ℕ)} None (Some bytes) → ⊥
 none_some bytes e = cc
@@ -132,14 +134,6 @@ asked_more tag top parts file le = by (ltb tag 3) refl
     by true e = asked_kept tag top parts file (inl (ltb-true tag 3 e))
     by false e = let from : 3 ≤ tag = ltb-false tag 3 e in asked_kept tag top parts file (inr (omega (arith, from, le)))
 
--- the table of the tags up to one
-pub asked_next : (parts : List Lent) (tag : ℕ) → map (is_asked parts) (range_with_len 0 (tag + 1)) ≡ map (is_asked parts) (range_with_len 0 tag) ++ is_asked parts tag ∷ []
-asked_next parts tag = map-range_with_len_more (is_asked parts) 0 tag tag (omega arith)
-
--- what the table of all tags tells
-pub wanted_at : (asked : List Bool) (parts : List Lent) (tag : ℕ) → asked ≡ asked_tags parts → tag < 256 → slice_index_or asked tag false ≡ is_asked parts tag
-wanted_at asked parts tag are byte = ap (λ xs. slice_index_or xs tag false) are ∙ get_or-map-range_with_len (is_asked parts) 0 256 tag tag false byte (omega arith)
-
 -- ---- the parts with one more
 
 -- no part of the next tag is loaded yet
@@ -197,44 +191,174 @@ has_read before dir to tag r there is known loads =
 pub begun : (before : Folders) (dir : List ℕ) (parts : List Lent) → parts ≡ [] → AreLoaded before dir 1 parts
 begun before dir parts none = subst (λ ps. AreLoaded before dir 1 ps) (sym none) (loaded_unasked before dir 0 [] (loaded_none before dir) refl)
 
--- the parts with the next one
-next : (before after : Folders) (dir : List ℕ) (tag : ℕ) (parts more : List Lent) → AreLoaded before dir tag parts
-    → LoadsNext before after dir tag parts more (Ok tt) → AreLoaded before dir (suc tag) more
-next before after dir tag parts more loaded (inl added) =
-    subst (λ ps. AreLoaded before dir (suc tag) ps) (sym added.adds) (loaded_asked before dir tag parts loaded added.file added.asked added.has)
-next before after dir tag parts more loaded (inr skipped) =
-    subst (λ ps. AreLoaded before dir (suc tag) ps) (sym skipped.same) (loaded_unasked before dir tag parts loaded skipped.unasked)
-
-pub next_loaded : (before now after : Folders) (dir : List ℕ) (tag : ℕ) (parts more : List Lent) → AreLoaded before dir tag parts → now ≡ before
-    → LoadsNext now after dir tag parts more (Ok tt) → AreLoaded before dir (tag + 1) more
-next_loaded before now after dir tag parts more loaded same loads =
+-- the parts with one more that is asked for
+pub one_more : (before now : Folders) (dir : List ℕ) (tag : ℕ) (parts more : List Lent) → AreLoaded before dir tag parts → now ≡ before
+    → is_asked parts tag ≡ true → IsAdded now dir tag parts more → AreLoaded before dir (tag + 1) more
+one_more before now dir tag parts more loaded same asked added =
+    let here : IsAdded before dir tag parts more = subst (λ f. IsAdded f dir tag parts more) same added in
     let step : suc tag ≡ tag + 1 = omega arith in
-    let here : LoadsNext before after dir tag parts more (Ok tt) = subst (λ f. LoadsNext f after dir tag parts more (Ok tt)) same loads in
-    subst (λ n. AreLoaded before dir n more) step (next before after dir tag parts more loaded here)
+    subst (λ n. AreLoaded before dir n more) step
+    (subst (λ ps. AreLoaded before dir (suc tag) ps) (sym here.adds) (loaded_asked before dir tag parts loaded here.file asked here.has))
 
--- the next one leaves what is asked for, of the first tags and of those after the Directory
-pub next_known : (now after : Folders) (dir : List ℕ) (from to tag t : ℕ) (parts more : List Lent) → (to ≤ 3) ⊎ (3 ≤ from) → from ≤ tag → t < to
-    → LoadsNext now after dir tag parts more (Ok tt) → is_asked more t ≡ is_asked parts t
-next_known now after dir from to tag t parts more phase low below (inl added) = ap (λ ps. is_asked ps t) added.adds ∙ asked_kept t tag parts added.file (side phase)
-  where
-    side : (to ≤ 3) ⊎ (3 ≤ from) → (t < 3) ⊎ (3 ≤ tag)
-    side (inl few) = inl (omega (arith, few, below))
-    side (inr high) = inr (omega (arith, high, low))
-next_known now after dir from to tag t parts more phase low below (inr skipped) = ap (λ ps. is_asked ps t) skipped.same
+-- the parts with one that is not asked for
+pub none_more : (before : Folders) (dir : List ℕ) (tag : ℕ) (parts : List Lent) → AreLoaded before dir tag parts → is_asked parts tag ≡ false → AreLoaded before dir (tag + 1) parts
+none_more before dir tag parts loaded unasked =
+    let step : suc tag ≡ tag + 1 = omega arith in
+    subst (λ n. AreLoaded before dir n parts) step (loaded_unasked before dir tag parts loaded unasked)
 
--- the loads stop at the next one
-stopped : (before after : Folders) (dir : List ℕ) (tag : ℕ) (parts more : List Lent) (stop : LoadStop) → tag < 256 → AreLoaded before dir tag parts
-    → LoadsNext before after dir tag parts more (Err stop) → LoadsParts before after dir (Err stop)
-stopped before after dir tag parts more (TooLong part) byte loaded (is, asked, long) =
+-- the loads stop at one that is asked for
+stopped : (before after : Folders) (dir : List ℕ) (tag : ℕ) (parts old more : List Lent) (stop : LoadStop) → tag < 256 → AreLoaded before dir tag parts
+    → is_asked parts tag ≡ true → LoadsFile before after dir tag old more (Err stop) → LoadsParts before after dir (Err stop)
+stopped before after dir tag parts old more (TooLong part) byte loaded asked (is, long) =
     subst (λ t. IsFirstLong before dir t) (sym is) (record { byte = byte; parts = parts; loaded = loaded; asked = asked; holds = long })
-stopped before after dir tag parts more Failed byte loaded (asked, fails) =
+stopped before after dir tag parts old more Failed byte loaded asked fails =
     (tag, record { byte = byte; parts = parts; loaded = loaded; asked = asked; holds = fails })
-stopped before after dir tag parts more Memory byte loaded loads = tt {0}
+stopped before after dir tag parts old more Memory byte loaded asked loads = tt {0}
 
-pub stopped_there : (before now after : Folders) (dir : List ℕ) (tag : ℕ) (parts more : List Lent) (stop : LoadStop) → tag < 256 → AreLoaded before dir tag parts → now ≡ before
-    → LoadsNext now after dir tag parts more (Err stop) → LoadsParts before after dir (Err stop)
-stopped_there before now after dir tag parts more stop byte loaded same loads =
-    stopped before after dir tag parts more stop byte loaded (subst (λ f. LoadsNext f after dir tag parts more (Err stop)) same loads)
+pub stopped_there : (before now after : Folders) (dir : List ℕ) (tag : ℕ) (parts old more : List Lent) (stop : LoadStop) → tag < 256 → AreLoaded before dir tag parts → now ≡ before
+    → is_asked parts tag ≡ true → LoadsFile now after dir tag old more (Err stop) → LoadsParts before after dir (Err stop)
+stopped_there before now after dir tag parts old more stop byte loaded same asked loads =
+    stopped before after dir tag parts old more stop byte loaded asked (subst (λ f. LoadsFile f after dir tag old more (Err stop)) same loads)
+
+-- ---- parts after the Header and the Directory
+
+-- a list without a part has none of its tag at its end
+pub absent_after : (tag : ℕ) (first rest : List Lent) → held (first ++ rest) tag ≡ None → IsNone (held rest tag)
+absent_after tag [] rest none = ap is_some none
+absent_after tag (l ∷ ls) rest none = by (eqb l.part tag) refl (absent_after tag ls rest)
+  where
+    by : (b : Bool) → eqb l.part tag ≡ b → (held (ls ++ rest) tag ≡ None → IsNone (held rest tag)) → IsNone (held rest tag)
+    by true e after = absurd (none_some l.bytes (sym none ∙ held-same tag l (ls ++ rest) e))
+    by false e after = after (sym (held-other tag l (ls ++ rest) e) ∙ none)
+
+file_after : (first rest : List Lent) (tag : ℕ) (file : Option (List ℕ)) → first ++ with_file rest tag file ≡ with_file (first ++ rest) tag file
+file_after first rest tag None = refl
+file_after first rest tag (Some bytes) = sym (append_assoc first rest (lent_of tag bytes ∷ []))
+
+-- what is added to the rest is added to all
+pub added_after : (before : Folders) (dir : List ℕ) (tag : ℕ) (first rest more : List Lent) → IsAdded before dir tag rest more → IsAdded before dir tag (first ++ rest) (first ++ more)
+added_after before dir tag first rest more added =
+    record { file = added.file; has = added.has; adds = ap (λ ps. first ++ ps) added.adds ∙ file_after first rest tag added.file }
+
+-- the Header and the Directory of the first parts
+abbrev pub Kept : List Lent → List Lent → Type 0
+Kept first all = (held all 1 ≡ held first 1) × (held all 2 ≡ held first 2)
+
+pub kept_none : (first : List Lent) → Kept first (first ++ [])
+kept_none first = (ap (λ ps. held ps 1) (append-nil first), ap (λ ps. held ps 2) (append-nil first))
+
+pub kept_more : (before : Folders) (dir : List ℕ) (tag : ℕ) (first parts more : List Lent) → 3 ≤ tag → Kept first parts → IsAdded before dir tag parts more → Kept first more
+kept_more before dir tag first parts more from kept added = (
+  ap (λ ps. held ps 1) added.adds ∙ file_other 1 tag parts added.file (ne_eqb tag 1 (λ s. absurd (omega (arith, from, s)))) ∙ kept.0,
+  ap (λ ps. held ps 2) added.adds ∙ file_other 2 tag parts added.file (ne_eqb tag 2 (λ s. absurd (omega (arith, from, s)))) ∙ kept.1,
+)
+
+pub kept_asked : (tag : ℕ) (first parts : List Lent) → Kept first parts → is_asked parts tag ≡ is_asked first tag
+kept_asked tag first parts kept = asked_by tag parts first kept.0 kept.1
+
+-- tags that rise are each once
+pub rise_once : (low top : ℕ) (parts : List Lent) → Rise low top parts → HasEachOnce parts
+rise_once low top [] rise = tt {0}
+rise_once low top (lent ∷ parts) rise =
+    (ap is_some (below_none (suc lent.part) top lent.part parts rise.2 (omega arith)), rise_once (suc lent.part) top parts rise.2)
+
+-- ---- a list after another one
+
+-- a part in a list that has none of a tag is of another tag
+another : (tag : ℕ) (parts : List Lent) (lent : Lent) (more : List Lent) → IsNone (held (parts ++ lent ∷ more) tag) → eqb lent.part tag ≡ false
+another tag [] lent more absent = by (eqb lent.part tag) refl
+  where
+    by : (b : Bool) → eqb lent.part tag ≡ b → eqb lent.part tag ≡ false
+    by true e = absurd (none_some lent.bytes (sym (nothing (held (lent ∷ more) tag) absent) ∙ held-same tag lent more e))
+    by false e = e
+another tag (l ∷ ls) lent more absent = by (eqb l.part tag) refl (another tag ls lent more)
+  where
+    by : (b : Bool) → eqb l.part tag ≡ b → (IsNone (held (ls ++ lent ∷ more) tag) → eqb lent.part tag ≡ false) → eqb lent.part tag ≡ false
+    by true e rest = absurd (none_some l.bytes (sym (nothing (held (l ∷ (ls ++ lent ∷ more)) tag) absent) ∙ held-same tag l (ls ++ lent ∷ more) e))
+    by false e rest = rest (subst (λ o. IsNone o) (held-other tag l (ls ++ lent ∷ more) e) absent)
+
+-- where each part stands once, those before one are of other tags
+absent_before : (parts : List Lent) (lent : Lent) (more : List Lent) → HasEachOnce (parts ++ lent ∷ more) → IsNone (held parts lent.part)
+absent_before [] lent more each = refl
+absent_before (l ∷ ls) lent more each =
+    let other : eqb l.part lent.part ≡ false = ne_eqb l.part lent.part (λ h. eqb-false lent.part l.part (another l.part ls lent more each.0) (sym h)) in
+    subst (λ o. IsNone o) (sym (held-other lent.part l ls other)) (absent_before ls lent more each.1)
+
+pub next_new : (all parts more : List Lent) (n : ℕ) (lent : Lent) → slice_get more n ≡ Some lent → all ++ drop n more ≡ parts ++ more
+    → HasEachOnce (parts ++ more) → IsNone (held all lent.part)
+next_new all parts more n lent at whole each =
+    absent_before all lent (drop (n + 1) more) (subst HasEachOnce (sym whole ∙ ap (λ ps. all ++ ps) (drop_here more n lent at)) each)
+
+pub next_lent : (all parts more new : List Lent) (n : ℕ) (lent : Lent) → slice_get more n ≡ Some lent → new ≡ all ++ lent ∷ []
+    → all ++ drop n more ≡ parts ++ more → new ++ drop (n + 1) more ≡ parts ++ more
+next_lent all parts more new n lent at pushed whole =
+    ap (λ ps. ps ++ drop (n + 1) more) pushed ∙ append_assoc all (lent ∷ []) (drop (n + 1) more) ∙ ap (λ ps. all ++ ps) (sym (drop_here more n lent at)) ∙ whole
+
+-- ---- the end of the loads
+
+rise_up : (low top more : ℕ) (parts : List Lent) → Rise low top parts → top ≤ more → Rise low more parts
+rise_up low top more [] rise le = tt {0}
+rise_up low top more (lent ∷ parts) rise le =
+    let below = rise.1 in
+    (rise.0, omega (arith, below, le), rise_up (suc lent.part) top more parts rise.2 le)
+
+-- all parts are loaded where no other is asked for
+pub loaded_all : (before : Folders) (dir : List ℕ) (top : ℕ) (parts : List Lent) → top ≤ 256 → AreLoaded before dir top parts
+    → ((tag : ℕ) → top ≤ tag → tag < 256 → is_asked parts tag ≡ false) → AreParts before dir parts
+loaded_all before dir top parts high loaded none = record {
+  rising = rise_up 0 top 256 parts loaded.rising high;
+  asked = λ tag below is. asked_at tag below is (ltb tag top) refl;
+  unasked = λ tag below is. unasked_at tag is (ltb tag top) refl;
+}
+  where
+    asked_at : (tag : ℕ) → tag < 256 → is_asked parts tag ≡ true → (b : Bool) → ltb tag top ≡ b → Has before dir tag (held parts tag)
+    asked_at tag below is true e = loaded.asked tag (ltb-true tag top e) is
+    asked_at tag below is false e = absurd (true≢false (sym is ∙ none tag (ltb-false tag top e) below))
+
+    unasked_at : (tag : ℕ) → is_asked parts tag ≡ false → (b : Bool) → ltb tag top ≡ b → IsNone (held parts tag)
+    unasked_at tag is true e = loaded.unasked tag (ltb-true tag top e) is
+    unasked_at tag is false e = ap is_some (above_none 0 top tag parts loaded.rising (ltb-false tag top e))
+
+unnamed : (customs : List Custom) (tag : ℕ) → length customs ≡ 0 → custom_size_in customs tag ≡ None
+unnamed [] tag none = refl
+unnamed (custom ∷ customs) tag none = absurd cc
+
+unsized : (directory : DirectoryItems) (tag : ℕ) → 13 ≤ tag → length directory.customs ≡ 0 → is_some_size (size_in directory tag) ≡ false
+unsized directory tag from none =
+    let above : leb tag 12 ≡ false = lt-leb tag 12 (omega (arith, from)) in
+    rw (above, and-false (leb 1 tag), unnamed directory.customs tag none) refl
+
+-- where there is no custom component, none after Debug has a size
+pub ends_sized : (directory : DirectoryItems) → length directory.customs ≡ 0 → EndsSized directory 13
+ends_sized directory none = record { low = omega arith; high = omega arith; none = λ tag from below. unsized directory tag from none }
+
+-- no component has a tag beyond a byte
+pub ends_bytes : (directory : DirectoryItems) → EndsSized directory 256
+ends_bytes directory = record { low = omega arith; high = omega arith; none = λ tag from below. absurd (omega (arith, from, below)) }
+
+unrequired : (tag : ℕ) → 13 ≤ tag → is_required tag ≡ false
+unrequired tag from =
+    let low : leb tag 2 ≡ false = lt-leb tag 2 (omega (arith, from)) in
+    let middle : leb tag 9 ≡ false = lt-leb tag 9 (omega (arith, from)) in
+    let last : eqb tag 11 ≡ false = ne_eqb tag 11 (λ s. absurd (omega (arith, from, s))) in
+    rw (low, middle, last, and-false (leb 1 tag), and-false (leb 4 tag)) refl
+
+unasked : (parts : List Lent) (tag : ℕ) → 13 ≤ tag → is_sized (read_directory parts) tag ≡ false → is_asked parts tag ≡ false
+unasked parts tag from none = rw (unrequired tag from, none, and-false (is_optional tag)) refl
+
+pub ends_asked : (parts : List Lent) (directory : DirectoryItems) (top : ℕ) → read_directory parts ≡ Ok directory → EndsSized directory top → EndsAsked parts top
+ends_asked parts directory top read ends = record {
+  low = ends.low;
+  high = ends.high;
+  none = λ tag from below.
+      let low = ends.low in
+      unasked parts tag (omega (arith, from, low)) (ap (λ d. is_sized d tag) read ∙ ends.none tag from below);
+}
+
+-- where no sizes are told
+pub ends_untold : (parts : List Lent) (fault : PackFault) → read_directory parts ≡ Err fault → EndsAsked parts 13
+ends_untold parts fault read =
+    record { low = omega arith; high = omega arith; none = λ tag from below. unasked parts tag from (ap (λ d. is_sized d tag) read) }
 
 -- ---- a folder that tells has one list of parts
 

@@ -6,12 +6,13 @@ pub mod MethodFile
 pub mod Probe
 pub mod Loads
 pub mod LoadEnds
-pub mod Show
 pub mod Roles
 pub mod Packages
 pub mod PackageEnds
+pub mod Show
 pub mod OverFolders
 pub mod World
+pub mod OverLoads
 pub mod Typed
 pub mod Check
 pub mod Verify

@@ -1,7 +1,7 @@
 -- The parts of a package's folder, as they are loaded: by rising tag, the components that every package has (JCVM 2.2, section 6.1),
 -- and the other ones to which the Directory gives a size that is not 0 (section 6.4). Where the
 -- Header or the Directory is absent or malformed, no sizes are told.
-use Rattle.std.specs.Prelude.{◌≡◌, ℕ, suc, ◌<◌, ◌≤◌, Bool, true, false, not, ◌&&◌, ◌||◌, ◌==◌, nat_le, List, [], ◌∷◌, ◌++◌, length, filter, map, Option, Some, None, IsNone, Result, Ok, Err, refl}
+use Rattle.std.specs.Prelude.{◌≡◌, ℕ, suc, ◌<◌, ◌≤◌, Bool, true, false, not, ◌&&◌, ◌||◌, ◌==◌, nat_le, List, [], ◌∷◌, ◌++◌, length, filter, Option, Some, None, IsNone, Result, Ok, Err, refl}
 use Rattle.cap_frame.specs.DirectoryFormat.{DirectoryItems}
 use Rattle.cap_frame.specs.Directory.{size_in}
 use Rattle.cap_components.specs.declared.fault.PackFault.{PackFault}
@@ -36,10 +36,6 @@ is_sized (Err fault) tag = false
 abbrev pub is_asked : List Lent → ℕ → Bool
 is_asked parts tag = is_required tag || (is_optional tag && is_sized (read_directory parts) tag)
 
--- for each tag whether it is asked for
-abbrev pub asked_tags : List Lent → List Bool
-asked_tags parts = map (is_asked parts) (range_with_len 0 256)
-
 -- what a folder has for a part: nothing, or a file that is not too long
 abbrev pub Has : Folders → List ℕ → ℕ → Option (List ℕ) → Type 0
 Has before dir tag None = IsAbsent before (tag ∷ dir)
@@ -62,17 +58,11 @@ pub record AreLoaded (before : Folders) (dir : List ℕ) (top : ℕ) (parts : Li
   pub asked : (tag : ℕ) → tag < top → is_asked parts tag ≡ true → Has before dir tag (held parts tag)
   pub unasked : (tag : ℕ) → tag < top → is_asked parts tag ≡ false → IsNone (held parts tag)
 
--- what was loaded for a tag that was asked for, with the parts before and after it
+-- what was loaded for a tag, with the parts before and after it
 pub record IsAdded (before : Folders) (dir : List ℕ) (tag : ℕ) (parts more : List Lent) : Type 0 where
-  pub asked : is_asked parts tag ≡ true
   pub file : Option (List ℕ)
   pub has : Has before dir tag file
   pub adds : more ≡ with_file parts tag file
-
--- nothing was loaded for a tag that was not asked for
-pub record IsSkipped (tag : ℕ) (parts more : List Lent) : Type 0 where
-  pub unasked : is_asked parts tag ≡ false
-  pub same : more ≡ parts
 
 -- the parts below this tag are loaded, the one with this tag is asked for, and of its key this is true
 pub record StopsAt (before : Folders) (dir : List ℕ) (tag : ℕ) (P : List ℕ → Type 0) : Type 0 where

@@ -1,21 +1,21 @@
 -- Why packages and roles were not loaded, and when.
-use Rattle.std.specs.Prelude.{◌≡◌, ℕ, ◌≤◌, List, ◌++◌, length, All, Result, Ok, Err, string_bytes}
-use Rattle.std.specs.List.{AllZip}
+use Rattle.std.specs.Prelude.{◌≡◌, ℕ, List, length, Option, Some, None, Result, Ok, Err, string_bytes}
 use Rattle.cap_files.specs.Folder.{Folders, LoadFails}
 use Rattle.cap_components.specs.declared.fault.PackFault.TheVariants.{Form}
 use Rattle.cap_package.specs.Parts.{Lent}
+use Rattle.cap_package.specs.PackageRecord.{PackageRecord}
 use Rattle.cap_package.specs.FirstFault.{Tells}
-use Rattle.cap_package.specs.StandsFor.{HavePackage}
+use Rattle.cap_package.specs.StandsFor.{StandsFor}
 use Rattle.cap_text.specs.Line.{malformed_line, not_linked_line}
 use Rattle.jc_link.specs.LinkFault.TheVariants.{TooManyPackages}
-use Rattle.capcheck_core.specs.declared.packages.Loaded.{Loaded}
 use Rattle.capcheck_core.specs.declared.packages.PackagesStop.{PackagesStop}
 use Rattle.capcheck_core.specs.declared.packages.PackagesStop.TheVariants.{TooMany, Malformed, Failed, Memory}
 use Rattle.capcheck_core.specs.declared.verdict.Verdict.{Verdict}
 use Rattle.capcheck_core.specs.declared.verdict.Verdict.TheVariants as verdicts
-use Rattle.capcheck_core.specs.Loads.{AreParts, FailsParts}
+use Rattle.capcheck_core.specs.Loads.{AreLoaded, FailsParts}
+use Rattle.capcheck_core.specs.LoadEnds.{AreRest}
 use Rattle.capcheck_core.specs.Roles.{AreRolesIn, LacksRoles, IsNoRoles, roles_key}
-use Rattle.capcheck_core.specs.Packages.{AreGiven, AreTooMany, LacksPackage, IsFirstWhere, IsFirstAtFault, IsFailed}
+use Rattle.capcheck_core.specs.Packages.{HasLongPart, LacksPackage}
 
 -- the folders after loads of packages: as before, unless one failed
 abbrev pub PackagesStopLeaves : Folders → Folders → PackagesStop → Type 0
@@ -44,59 +44,39 @@ LoadsRoles before after dir (Err Failed) = LoadFails before (roles_key dir) afte
 LoadsRoles before after dir (Err Memory) = Unit {0}
 LoadsRoles before after dir (Err (TooMany count)) = ⊥
 
--- ---- packages
+-- the roles that were given, or else those beside the first package
+abbrev pub RolesBeside : Folders → Folders → List ℕ → Option (List ℕ) → Result (List ℕ) PackagesStop → Type 0
+RolesBeside before after dir None result = LoadsRoles before after dir result
+RolesBeside before after dir (Some given) (Ok roles) = roles ≡ given
+RolesBeside before after dir (Some given) (Err stop) = ⊥
 
--- whether parts stand for a package, by the answer for the package of a number
-abbrev pub Agrees : List Lent → ℕ → Result (Unit {0}) PackagesStop → Type 0
-Agrees parts number (Ok done) = HavePackage parts
-Agrees parts number (Err (Malformed n fault)) = (n ≡ number) × Tells parts (Err fault)
-Agrees parts number (Err Memory) = Unit {0}
-Agrees parts number (Err _) = ⊥
+-- ---- a package
 
--- parts are loaded from a folder, and stand for a package
-pub record IsLoadedPackage (before : Folders) (dir : List ℕ) (parts : List Lent) : Type 0 where
-  pub loaded : AreParts before dir parts
-  pub whole : HavePackage parts
+-- the loads of the Header and the Directory of the package of a number, by their answer
+abbrev pub LoadsOpening : Folders → Folders → List ℕ → ℕ → Result (List Lent) PackagesStop → Type 0
+LoadsOpening before after dir number (Ok first) = AreLoaded before dir 3 first
+LoadsOpening before after dir number (Err (Malformed n fault)) = (n ≡ number) × HasLongPart before dir fault
+LoadsOpening before after dir number (Err Failed) = FailsParts before dir after
+LoadsOpening before after dir number (Err Memory) = Unit {0}
+LoadsOpening before after dir number (Err (TooMany count)) = ⊥
 
--- the load of the package of a number, by its answer
-abbrev pub LoadsPackage : Folders → Folders → List ℕ → ℕ → Result (List Lent) PackagesStop → Type 0
-LoadsPackage before after dir number (Ok parts) = IsLoadedPackage before dir parts
-LoadsPackage before after dir number (Err (Malformed n fault)) = (n ≡ number) × LacksPackage before dir fault
-LoadsPackage before after dir number (Err Failed) = FailsParts before dir after
-LoadsPackage before after dir number (Err Memory) = Unit {0}
-LoadsPackage before after dir number (Err (TooMany count)) = ⊥
+-- the loads of its other parts, by their answer
+abbrev pub LoadsOthers : Folders → Folders → List ℕ → ℕ → List Lent → Result (List Lent) PackagesStop → Type 0
+LoadsOthers before after dir number first (Ok rest) = AreRest before dir first rest
+LoadsOthers before after dir number first (Err stop) = LoadsOpening before after dir number (Err stop)
 
--- the packages of folders were loaded after others
-pub record AreAdded (before : Folders) (dirs : List (List ℕ)) (old new : List (List Lent)) : Type 0 where
-  pub more : List (List Lent)
-  pub adds : new ≡ old ++ more
-  pub loaded : AllZip (AreParts before) dirs more
-  pub whole : All HavePackage more
+-- the package of a number that parts stand for, by the answer
+abbrev pub ReadsPackage : List Lent → ℕ → Result PackageRecord PackagesStop → Type 0
+ReadsPackage parts number (Ok p) = StandsFor parts p
+ReadsPackage parts number (Err (Malformed n fault)) = (n ≡ number) × Tells parts (Err fault)
+ReadsPackage parts number (Err _) = ⊥
 
--- the loads of the packages of folders after others, by their answer
-abbrev pub LoadsOthers : Folders → Folders → List (List ℕ) → List (List Lent) → List (List Lent) → Result (Unit {0}) PackagesStop → Type 0
-LoadsOthers before after dirs old new (Ok done) = AreAdded before dirs old new
-LoadsOthers before after dirs old new (Err (Malformed number fault)) = IsFirstWhere before (length old) dirs
-    (λ n dir. (number ≡ n) × LacksPackage before dir fault)
-LoadsOthers before after dirs old new (Err Failed) = IsFirstWhere before (length old) dirs (λ n dir. FailsParts before dir after)
-LoadsOthers before after dirs old new (Err Memory) = Unit {0}
-LoadsOthers before after dirs old new (Err (TooMany count)) = ⊥
-
--- ---- both
-
--- these are the parts in at most 16 folders and the roles beside the first, and each folder's parts stand for a package
-pub record AreAllLoaded (before : Folders) (dirs : List (List ℕ)) (loaded : Loaded) : Type 0 where
-  pub few : length dirs ≤ 16
-  pub given : AreGiven before dirs loaded.packages.items loaded.roles
-  pub whole : All HavePackage loaded.packages.items
-
--- the loads of all packages and the roles, by their answer
-abbrev pub LoadsPackages : Folders → Folders → List (List ℕ) → Result Loaded PackagesStop → Type 0
-LoadsPackages before after dirs (Ok loaded) = AreAllLoaded before dirs loaded
-LoadsPackages before after dirs (Err (TooMany count)) = AreTooMany dirs count
-LoadsPackages before after dirs (Err (Malformed number fault)) = IsFirstAtFault before dirs number fault
-LoadsPackages before after dirs (Err Failed) = IsFailed before dirs after
-LoadsPackages before after dirs (Err Memory) = Unit {0}
+-- why the package of a number was not loaded, from the Header on
+abbrev pub StopsPackage : Folders → Folders → List ℕ → ℕ → PackagesStop → Type 0
+StopsPackage before after dir number (Malformed n fault) = (n ≡ number) × LacksPackage before dir fault
+StopsPackage before after dir number Failed = FailsParts before dir after
+StopsPackage before after dir number Memory = Unit {0}
+StopsPackage before after dir number (TooMany count) = ⊥
 
 -- ---- the verdict for it
 

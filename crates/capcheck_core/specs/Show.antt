@@ -1,5 +1,5 @@
 -- What `show` may answer, by the parts in its folder.
-use Rattle.std.specs.Prelude.{◌≡◌, ℕ, List, string_bytes, Err, ◌⊎◌}
+use Rattle.std.specs.Prelude.{◌≡◌, ℕ, List, string_bytes, Result, Ok, Err, ◌⊎◌}
 use Rattle.cap_files.specs.Folder.{Folders}
 use Rattle.cap_components.specs.declared.fault.PackFault.{PackFault}
 use Rattle.cap_components.specs.declared.fault.PackFault.TheVariants.{PartTooLong}
@@ -12,7 +12,9 @@ use Rattle.cap_text.specs.Line.{malformed_line}
 use Rattle.cap_text.specs.Table.{component_table}
 use Rattle.capcheck_core.specs.declared.verdict.Verdict.{Verdict}
 use Rattle.capcheck_core.specs.declared.verdict.Verdict.TheVariants.{Done, Malformed, ReadFault, Memory}
+use Rattle.capcheck_core.specs.declared.packages.PackagesStop.{PackagesStop}
 use Rattle.capcheck_core.specs.Loads.{AreParts, IsFirstLong, FailsParts}
+use Rattle.capcheck_core.specs.PackageEnds.{PackagesStopLeaves, StopsPackage}
 
 -- the parts stand for a package, and the text is its component table
 pub record IsShown (parts : List Lent) (text : List ℕ) : Type 0 where
@@ -61,3 +63,14 @@ FailsFolder s before after _ = ⊥
 -- what a show answers, and when: the folders are as they were when it began, and as they are afterwards
 abbrev pub Shows : ShowRequest → Folders → Folders → Verdict → Type 0
 Shows s before after verdict = ((after ≡ before) × ShowsFolder s before verdict) ⊎ FailsFolder s before after verdict
+
+-- the component table of a package, where there is memory for it
+abbrev pub IsTable : PackageRecord → Verdict → Type 0
+IsTable shown (Done text) = string_bytes text ≡ component_table shown
+IsTable shown Memory = Unit {0}
+IsTable shown _ = ⊥
+
+-- a show that comes as far as the package, or why its parts were not loaded
+abbrev pub ShowsOrStops : ShowRequest → Folders → Folders → Result Verdict PackagesStop → Type 0
+ShowsOrStops s before after (Ok verdict) = (after ≡ before) × ShowsFolder s before verdict
+ShowsOrStops s before after (Err stop) = PackagesStopLeaves before after stop × StopsPackage before after s.dir 0 stop

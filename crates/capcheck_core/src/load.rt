@@ -1,23 +1,32 @@
-ghost use Rattle.std.specs.Prelude.{◌≡◌, ◌≤◌, ◌⊎◌, true, false, length, IsNone, IfOk, slice_index_or};
+ghost use Rattle.std.specs.Prelude.{◌≡◌, ◌≤◌, ◌++◌, length, IsNone, IfOk};
 ghost use Rattle.cap_components.specs.Components.{Answers, info_in, read_part, read_directory};
 ghost use Rattle.cap_frame.specs.Directory.{directory_items, size_in};
 ghost use Rattle.cap_frame.specs.DirectoryFormat.{directory_info};
 ghost use Rattle.cap_frame.specs.Framed.{info_bytes};
 ghost use Rattle.cap_frame.specs.Header.{header_items};
 ghost use Rattle.cap_frame.specs.HeaderFormat.{header_info};
-ghost use Rattle.cap_package.specs.Parts.{held};
-ghost use Rattle.capcheck_core.specs.Loads.{is_required, is_optional, is_some_size, is_sized, is_asked, asked_tags, AreLoaded};
-ghost use Rattle.capcheck_core.specs.LoadEnds.{LoadsParts, LoadsAsked, LoadsNext, LoadsBelow, LoadsLeave};
+ghost use Rattle.cap_package.specs.Parts.{held, HasEachOnce};
+ghost use Rattle.capcheck_core.specs.Loads.{is_required, is_optional, is_some_size, is_sized, is_asked, AreLoaded};
+ghost use Rattle.capcheck_core.specs.LoadEnds.{LoadsFile, LoadsFirst, LoadsRest, EndsAsked, EndsSized, LoadsLeave};
 
 use cap_bytes::{Format, Part, View};
 use cap_components::PackFault;
 use cap_files::{Folder, LoadEnd};
 use cap_frame::{Directory, Header, directory, frame, header};
-use cap_package::OwnedParts;
+use cap_package::{OwnedParts, Parts};
 use std::alloc::{AllocError, Global};
 
-/// The tag after that of the Directory, which stands after the Header.
+/// The tag of the Header.
+const HEADER: Part = Part(1);
+
+/// The tag of the Directory.
+const DIRECTORY: Part = Part(2);
+
+/// The tag after that of the Directory.
 const AFTER_DIRECTORY: u16 = 3;
+
+/// The tag after that of Debug, the last component of the standard.
+const AFTER_DEBUG: u16 = 13;
 
 /// Why the parts of a folder were not loaded.
 #[derive(Clone, Copy)]
@@ -41,94 +50,76 @@ impl From<AllocError> for LoadStop {
     }
 }
 
-/// The parts of a package's folder, by rising tag: those that every package has, and those that the
-/// Directory gives a size that is not 0, where they are there (sections 6.1 and 6.4 of the
-/// specification). The Directory is read once, when it and the Header are loaded.
-pub fn load_parts<F: Folder>(
+/// The Header and the Directory in a package's folder, where they are there: they tell what else is asked for.
+pub fn load_first<F: Folder>(
     alloc: Global,
     folder: &mut F,
     dir: &str,
 ) -> Result<OwnedParts, LoadStop>
-    ensures loads { LoadsParts (F.folders folder.old) (F.folders folder.new)
-        dir.now result }
+    ensures loads { LoadsFirst (F.folders folder.old) (F.folders folder.new) dir.now result }
     ensures folders { LoadsLeave (F.folders folder.old) (F.folders folder.new) result }
 {
     let mut parts = OwnedParts::new(alloc);
-    let first = asked(alloc, &parts)?;
-    load_tags(alloc, folder, dir, 1, AFTER_DIRECTORY, &first, &mut parts)?;
-    let all = asked(alloc, &parts)?;
-    load_tags(alloc, folder, dir, AFTER_DIRECTORY, 256, &all, &mut parts)?;
-    Ok(parts)
-}
-
-// Loads the parts from a tag on and below another, where they are asked for.
-fn load_tags<F: Folder>(
-    alloc: Global,
-    folder: &mut F,
-    dir: &str,
-    from: u16,
-    to: u16,
-    asked: &[bool],
-    parts: &mut OwnedParts,
-) -> Result<(), LoadStop>
-    requires low { from ≤ to }
-    requires high { to ≤ 256 }
-    requires phase { (to ≤ 3) ⊎ (3 ≤ from) }
-    requires asked { asked.now ≡ asked_tags parts.old }
-    requires loaded { AreLoaded (F.folders folder.old) dir.now from parts.old }
-    ensures loads { LoadsBelow (F.folders folder.old) (F.folders folder.new)
-        dir.now to parts.new result }
-    ensures folders { LoadsLeave (F.folders folder.old) (F.folders folder.new) result }
-{
-    'tags: for tag in from..to {
-        let wanted = is_wanted(asked, tag);
-        match load_next(alloc, folder, dir, Part(tag as u8), wanted, parts) {
-            Ok(()) => {}
-            Err(stop) => return Err(stop),
-        }
-    }
-    Ok(())
-}
-
-fn is_wanted(asked: &[bool], tag: u16) -> bool
-    ensures { result ≡ slice_index_or asked.now tag false }
-{
-    matches!(asked.get(tag as usize), Some(true))
-}
-
-// Loads the next part, where it is asked for.
-fn load_next<F: Folder>(
-    alloc: Global,
-    folder: &mut F,
-    dir: &str,
-    part: Part,
-    wanted: bool,
-    parts: &mut OwnedParts,
-) -> Result<(), LoadStop>
-    requires absent { IsNone (held parts.old part.0) }
-    requires wanted { is_asked parts.old part.0 ≡ wanted }
-    ensures loads { LoadsNext (F.folders folder.old) (F.folders folder.new)
-        dir.now part.0 parts.old parts.new result }
-    ensures folders { LoadsLeave (F.folders folder.old) (F.folders folder.new) result }
-{
-    if wanted {
-        load_asked(alloc, folder, dir, part, parts)
-    } else {
-        Ok(())
+    load_file(alloc, folder, dir, HEADER, &mut parts)?;
+    match load_file(alloc, folder, dir, DIRECTORY, &mut parts) {
+        Ok(()) => Ok(parts),
+        Err(stop) => Err(stop),
     }
 }
 
-// Loads a part, and appends it where the folder has it.
+/// The other parts of a package's folder, by rising tag: those that every package has, and those that the
+/// Directory gives a size that is not 0, where they are there (sections 6.1 and 6.4 of the
+/// specification).
+pub fn load_rest<F: Folder>(
+    alloc: Global,
+    folder: &mut F,
+    dir: &str,
+    first: &OwnedParts,
+) -> Result<OwnedParts, LoadStop>
+    requires { AreLoaded (F.folders folder.old) dir.now 3 first.now }
+    ensures loads { LoadsRest (F.folders folder.old) (F.folders folder.new) dir.now first.now result }
+    ensures folders { LoadsLeave (F.folders folder.old) (F.folders folder.new) result }
+{
+    let sizes = directory_of(first);
+    load_asked(alloc, folder, dir, first, &sizes)
+}
+
+// Loads the parts after the Directory that are asked for.
 fn load_asked<F: Folder>(
     alloc: Global,
     folder: &mut F,
     dir: &str,
+    first: &OwnedParts,
+    sizes: &Result<Directory<'_>, PackFault>,
+) -> Result<OwnedParts, LoadStop>
+    requires first { AreLoaded (F.folders folder.old) dir.now 3 first.now }
+    requires sizes { Answers directory_items sizes.now (read_directory first.now) }
+    ensures loads { LoadsRest (F.folders folder.old) (F.folders folder.new) dir.now first.now result }
+    ensures folders { LoadsLeave (F.folders folder.old) (F.folders folder.new) result }
+{
+    let mut rest = OwnedParts::new(alloc);
+    let end = end_of(first, sizes);
+    'tags: for tag in AFTER_DIRECTORY..end {
+        if asks(first, sizes, tag as u8) {
+            match load_file(alloc, folder, dir, Part(tag as u8), &mut rest) {
+                Ok(()) => {}
+                Err(stop) => return Err(stop),
+            }
+        }
+    }
+    Ok(rest)
+}
+
+// Loads a part, and appends it where the folder has it.
+fn load_file<F: Folder>(
+    alloc: Global,
+    folder: &mut F,
+    dir: &str,
     part: Part,
     parts: &mut OwnedParts,
 ) -> Result<(), LoadStop>
-    requires absent { IsNone (held parts.old part.0) }
-    requires asked { is_asked parts.old part.0 ≡ true }
-    ensures loads { LoadsAsked (F.folders folder.old) (F.folders folder.new)
+    requires { IsNone (held parts.old part.0) }
+    ensures loads { LoadsFile (F.folders folder.old) (F.folders folder.new)
         dir.now part.0 parts.old parts.new result }
     ensures folders { LoadsLeave (F.folders folder.old) (F.folders folder.new) result }
 {
@@ -145,17 +136,39 @@ fn load_asked<F: Folder>(
     }
 }
 
-// For each tag whether its part is asked for, by the parts that are loaded.
-#[tactic(auto, using(crate::proofs::Loads::asked_next))]
-fn asked(alloc: Global, parts: &OwnedParts) -> Result<Vec<bool>, AllocError>
-    ensures { IfOk result (λ asked. asked.items ≡ asked_tags parts.now) }
+/// A borrowed list, and after it another one.
+pub fn lend_after<'a>(more: &'a OwnedParts, parts: Parts<'a>) -> Result<Parts<'a>, AllocError>
+    requires { HasEachOnce (parts ++ more.now) }
+    ensures { IfOk result (λ all. all ≡ parts.entry ++ more.now) }
 {
-    let sizes = directory_of(parts);
-    let mut asked = Vec::with_capacity(alloc, 256)?;
-    'tags: for tag in 0..256u16 {
-        asked.push(asks(parts, &sizes, tag as u8))?;
+    let mut all = parts;
+    'parts: for n in 0..more.len() {
+        let (part, bytes) = more.at(n);
+        all.push(part, bytes)?;
     }
-    Ok(asked)
+    Ok(all)
+}
+
+// The tag after the last one that may be asked for: where the Directory names no custom component, that after Debug's.
+fn end_of(first: &OwnedParts, sizes: &Result<Directory<'_>, PackFault>) -> u16
+    requires { Answers directory_items sizes.now (read_directory first.now) }
+    ensures { EndsAsked first.now result }
+{
+    match sizes {
+        Ok(directory) => end_after(directory),
+        Err(_) => AFTER_DEBUG,
+    }
+}
+
+// The tag after the last one to which the Directory may give a size.
+fn end_after(directory: &Directory<'_>) -> u16
+    ensures { EndsSized (directory_items directory.now) result }
+{
+    if directory.custom_count() == 0 {
+        AFTER_DEBUG
+    } else {
+        256
+    }
 }
 
 // Whether a part is asked for, by the sizes that the loaded ones tell.

@@ -1,13 +1,16 @@
-ghost use Rattle.std.specs.Prelude.{◌≡◌, ◌≢◌, ◌+◌, ◌∷◌, ◌≤◌, length, min, vec_len};
+ghost use Rattle.std.specs.Prelude.{◌≡◌, ◌≢◌, ◌≤◌, length, min};
 ghost use Rattle.cap_files.specs.WordsLeft.{words_left};
+ghost use Rattle.cap_components.specs.declared.fault.PackFault.TheVariants.{PartTooLong};
+ghost use Rattle.capcheck_core.specs.declared.packages.PackagesStop.TheVariants.{Malformed};
+ghost use Rattle.capcheck_core.specs.Loads.{AreLoaded};
 ghost use Rattle.capcheck_core.specs.Roles.{IsNoRoles};
-ghost use Rattle.capcheck_core.specs.PackageEnds.{ReadsRoles, LoadsRoles, Agrees, LoadsPackage, LoadsOthers, LoadsPackages, PackagesLeave, IsStop};
+ghost use Rattle.capcheck_core.specs.PackageEnds.{ReadsRoles, RolesBeside, LoadsRoles, LoadsOpening, LoadsOthers, ReadsPackage, PackagesLeave, IsStop};
 
-use crate::load::{LoadStop, load_parts};
+use crate::load::{LoadStop, load_first, load_rest};
 use crate::verdict::Verdict;
 use cap_bytes::{FormFault, FormKind, Part};
 use cap_files::{Folder, LoadEnd, WordsIter};
-use cap_package::{OwnedParts, PackFault, Parts, package};
+use cap_package::{OwnedParts, PackFault, Package, Parts, package};
 use cap_text::{malformed, not_linked};
 use jc_link::LinkFault;
 use std::alloc::{AllocError, Global};
@@ -16,14 +19,7 @@ use std::alloc::{AllocError, Global};
 const ROLES: Part = Part(0);
 
 /// The most packages that a world has.
-const MOST: u32 = 16;
-
-/// The parts of the packages in several folders, in order, and the roles beside the first.
-#[derive(Drop)]
-pub struct Loaded {
-    pub packages: Vec<OwnedParts>,
-    pub roles: [u8; 8],
-}
+pub(crate) const MOST: u32 = 16;
 
 /// Why packages and roles were not loaded.
 #[derive(Clone, Copy)]
@@ -68,28 +64,8 @@ impl PackagesStop {
     }
 }
 
-/// The packages in the folders, and the roles beside the first: for each folder in turn its parts
-/// are loaded and must stand for a package, and the roles are loaded after the first. More than 16
-/// folders are not loaded.
-pub fn load_packages<F: Folder>(
-    alloc: Global,
-    folder: &mut F,
-    dirs: WordsIter<'_>,
-) -> Result<Loaded, PackagesStop>
-    ensures loads { LoadsPackages (F.folders folder.old) (F.folders folder.new)
-        (words_left dirs.entry) result }
-    ensures folders { PackagesLeave (F.folders folder.old) (F.folders folder.new) result }
-{
-    let count = count_of(dirs);
-    let mut others = dirs;
-    match others.next() {
-        Some(first) if count <= MOST => load_first(alloc, folder, first, others),
-        _ => Err(PackagesStop::TooMany(count)),
-    }
-}
-
-// How many folders there are, as far as 32 bits count them.
-fn count_of(dirs: WordsIter<'_>) -> u32
+/// How many folders there are, as far as 32 bits count them.
+pub(crate) fn count_of(dirs: WordsIter<'_>) -> u32
     ensures { result ≡ min (length (words_left dirs.entry)) 4294967295 }
 {
     let mut count = 0u32;
@@ -99,95 +75,77 @@ fn count_of(dirs: WordsIter<'_>) -> u32
     count
 }
 
-// The packages in a folder and in the others, and the roles beside the first.
-fn load_first<F: Folder>(
-    alloc: Global,
-    folder: &mut F,
-    dir: &str,
-    others: WordsIter<'_>,
-) -> Result<Loaded, PackagesStop>
-    requires few { length (words_left others) ≤ 15 }
-    ensures loads { LoadsPackages (F.folders folder.old) (F.folders folder.new)
-        (dir.now ∷ words_left others.entry) result }
-    ensures folders { PackagesLeave (F.folders folder.old) (F.folders folder.new) result }
-{
-    let parts = load_package(alloc, folder, dir, 0)?;
-    let roles = load_roles(alloc, folder, dir)?;
-    let mut packages = Vec::new(alloc);
-    match packages.push(parts) {
-        Ok(()) => {}
-        Err(_) => return Err(PackagesStop::Memory),
-    }
-    match load_others(alloc, folder, others, &mut packages) {
-        Ok(()) => Ok(Loaded { packages, roles }),
-        Err(stop) => Err(stop),
-    }
-}
-
-// Appends the packages in the folders.
-fn load_others<F: Folder>(
-    alloc: Global,
-    folder: &mut F,
-    dirs: WordsIter<'_>,
-    packages: &mut Vec<OwnedParts>,
-) -> Result<(), PackagesStop>
-    requires few { vec_len packages.old + length (words_left dirs) ≤ 16 }
-    ensures loads { LoadsOthers (F.folders folder.old) (F.folders folder.new)
-        (words_left dirs.entry) packages.old.items packages.new.items result }
-    ensures folders { PackagesLeave (F.folders folder.old) (F.folders folder.new) result }
-{
-    'dirs: for dir in dirs {
-        let number = packages.len() as u16;
-        match load_package(alloc, folder, dir, number) {
-            Ok(parts) => match packages.push(parts) {
-                Ok(()) => {}
-                Err(_) => return Err(PackagesStop::Memory),
-            },
-            Err(stop) => return Err(stop),
-        }
-    }
-    Ok(())
-}
-
-// The parts of the package of a number, where they stand for one.
-fn load_package<F: Folder>(
+/// The Header and the Directory of the package of a number.
+pub(crate) fn load_opening<F: Folder>(
     alloc: Global,
     folder: &mut F,
     dir: &str,
     number: u16,
 ) -> Result<OwnedParts, PackagesStop>
-    ensures loads { LoadsPackage (F.folders folder.old) (F.folders folder.new)
-        dir.now number result }
+    ensures loads { LoadsOpening (F.folders folder.old) (F.folders folder.new) dir.now number result }
     ensures folders { PackagesLeave (F.folders folder.old) (F.folders folder.new) result }
 {
-    match load_parts(alloc, folder, dir) {
-        Ok(parts) => {
-            agree(alloc, &parts, number)?;
-            Ok(parts)
-        }
-        Err(LoadStop::TooLong(part)) => Err(PackagesStop::Malformed(
-            number,
-            PackFault::PartTooLong(part.0),
-        )),
+    match load_first(alloc, folder, dir) {
+        Ok(first) => Ok(first),
+        Err(LoadStop::TooLong(part)) => Err(too_long(number, part)),
         Err(LoadStop::Failed) => Err(PackagesStop::Failed),
         Err(LoadStop::Memory) => Err(PackagesStop::Memory),
     }
 }
 
-// Tries whether the parts of the package of a number stand for one.
-fn agree(alloc: Global, owned: &OwnedParts, number: u16) -> Result<(), PackagesStop>
-    ensures { Agrees owned.now number result }
+/// The other parts of the package of a number.
+pub(crate) fn load_others<F: Folder>(
+    alloc: Global,
+    folder: &mut F,
+    dir: &str,
+    number: u16,
+    first: &OwnedParts,
+) -> Result<OwnedParts, PackagesStop>
+    requires { AreLoaded (F.folders folder.old) dir.now 3 first.now }
+    ensures loads { LoadsOthers (F.folders folder.old) (F.folders folder.new) dir.now number first.now result }
+    ensures folders { PackagesLeave (F.folders folder.old) (F.folders folder.new) result }
 {
-    let parts = owned.lend(alloc)?;
-    lent_agree(&parts, number)
+    match load_rest(alloc, folder, dir, first) {
+        Ok(rest) => Ok(rest),
+        Err(LoadStop::TooLong(part)) => Err(too_long(number, part)),
+        Err(LoadStop::Failed) => Err(PackagesStop::Failed),
+        Err(LoadStop::Memory) => Err(PackagesStop::Memory),
+    }
 }
 
-fn lent_agree(parts: &Parts<'_>, number: u16) -> Result<(), PackagesStop>
-    ensures { Agrees parts.now number result }
+// A part of the package of a number is longer than a component can be.
+fn too_long(number: u16, part: Part) -> PackagesStop
+    ensures { result ≡ Malformed number (PartTooLong part.0) }
+{
+    PackagesStop::Malformed(number, PackFault::PartTooLong(part.0))
+}
+
+/// The package of a number that the parts stand for.
+pub(crate) fn read_parts<'p, 'a>(
+    parts: &'p Parts<'a>,
+    number: u16,
+) -> Result<Package<'p, 'a>, PackagesStop>
+    ensures { ReadsPackage parts.now number result }
 {
     match package(parts) {
-        Ok(_) => Ok(()),
+        Ok(package) => Ok(package),
         Err(fault) => Err(PackagesStop::Malformed(number, fault)),
+    }
+}
+
+/// The roles: those that are given, and else those beside the first package.
+pub(crate) fn roles_beside<F: Folder>(
+    alloc: Global,
+    folder: &mut F,
+    dir: &str,
+    given: Option<[u8; 8]>,
+) -> Result<[u8; 8], PackagesStop>
+    ensures loads { RolesBeside (F.folders folder.old) (F.folders folder.new) dir.now given result }
+    ensures folders { PackagesLeave (F.folders folder.old) (F.folders folder.new) result }
+{
+    match given {
+        Some(roles) => Ok(roles),
+        None => load_roles(alloc, folder, dir),
     }
 }
 

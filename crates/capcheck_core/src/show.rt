@@ -1,43 +1,43 @@
 ghost use Rattle.cap_text.specs.Show.{show_request};
-ghost use Rattle.capcheck_core.specs.Show.{ShowsParts, Shows};
+ghost use Rattle.capcheck_core.specs.Show.{Shows, ShowsOrStops, IsTable};
 
-use crate::load::{LoadStop, load_parts};
+use crate::load::lend_after;
+use crate::packages::{PackagesStop, load_opening, load_others, read_parts};
 use crate::verdict::Verdict;
 use cap_files::Folder;
-use cap_package::{OwnedParts, PackFault, Parts, package};
-use cap_text::{Show, component_table, malformed};
+use cap_package::Package;
+use cap_text::{Show, component_table};
 use std::alloc::Global;
 
 /// Prints the component table of the package of a folder.
 pub fn show<F: Folder>(alloc: Global, folder: &mut F, show: &Show<'_>) -> Verdict
     ensures answers { Shows (show_request show.now) (F.folders folder.old) (F.folders folder.new) result }
 {
-    match load_parts(alloc, folder, show.dir) {
-        Ok(parts) => show_parts(alloc, parts),
-        Err(LoadStop::TooLong(part)) => Verdict::malformed(malformed(
-            alloc,
-            0,
-            PackFault::PartTooLong(part.0),
-        )),
-        Err(LoadStop::Failed) => Verdict::ReadFault,
-        Err(LoadStop::Memory) => Verdict::Memory,
+    match show_package(alloc, folder, show) {
+        Ok(verdict) => verdict,
+        Err(stop) => stop.verdict(alloc),
     }
 }
 
-fn show_parts(alloc: Global, owned: OwnedParts) -> Verdict
-    ensures { ShowsParts owned result }
+// The table of the package, or why its parts were not loaded.
+fn show_package<F: Folder>(
+    alloc: Global,
+    folder: &mut F,
+    show: &Show<'_>,
+) -> Result<Verdict, PackagesStop>
+    ensures { ShowsOrStops (show_request show.now) (F.folders folder.old) (F.folders folder.new) result }
 {
-    match owned.lend(alloc) {
-        Ok(parts) => show_lent(alloc, parts),
-        Err(_) => Verdict::Memory,
-    }
+    let first = load_opening(alloc, folder, show.dir, 0)?;
+    let opened = first.lend(alloc)?;
+    let rest = load_others(alloc, folder, show.dir, 0, &first)?;
+    let parts = lend_after(&rest, opened)?;
+    let package = read_parts(&parts, 0)?;
+    Ok(table_of(alloc, &package))
 }
 
-fn show_lent(alloc: Global, parts: Parts<'_>) -> Verdict
-    ensures { ShowsParts parts.entry result }
+// The table of a package.
+fn table_of(alloc: Global, package: &Package<'_, '_>) -> Verdict
+    ensures { IsTable «package».now result }
 {
-    match package(&parts) {
-        Ok(package) => Verdict::done(component_table(alloc, &package)),
-        Err(fault) => Verdict::malformed(malformed(alloc, 0, fault)),
-    }
+    Verdict::done(component_table(alloc, package))
 }

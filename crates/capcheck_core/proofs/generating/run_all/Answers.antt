@@ -3,7 +3,7 @@ use Rattle.std.proofs.Common.{◌≡◌, ◌+◌, ℤ, arith, rules, subst, sym,
 use Rattle.std.proofs.lemmas.Int.{to_z-of_z}
 use Rattle.capcheck_core.specs.Generate.{IsSumOfShorts}
 use Rattle.capcheck_core.specs.Outside.{card}
-use Rattle.capcheck_core.proofs.Generates.{HaveRun, none_run, one_run_more, all_run, some_run}
+use Rattle.capcheck_core.proofs.Generates.{HaveRun, none_run, one_run_more, all_run, some_run, begun_unless}
 use Rattle.capcheck_core.proofs.generating.run_all.Goals as goal
 
 pub methods-init : goal.methods-init
@@ -40,7 +40,9 @@ returns-clause-runs c =
     let begun = card c.args.ram.now c.args.heap.now c.args.statics.now in
     all_run w begun now sum (subst (λ n. HaveRun w n begun now sum) (omega arith) c.methods.invariant.run)
 
-pub returns-in_err-args-clause-begun : goal.returns-in-Err-clause-begun
+pub returns-in_err-args-clause-begun : goal.returns-in_err-args-clause-begun
 returns-in_err-args-clause-begun c =
-    some_run c.args.accepted.now c.methods.number (card c.args.ram.now c.args.heap.now c.args.statics.now) (card c.methods.ram c.methods.heap c.methods.statics) _
-    (omega arith) c.methods.invariant.run
+    let w = c.args.accepted.now in
+    let begun = card c.args.ram.now c.args.heap.now c.args.statics.now in
+    let now = card c.methods.ram c.methods.heap c.methods.statics in
+    begun_unless w begun now c.from_residual.result (some_run w c.methods.number begun now _ (omega arith) c.methods.invariant.run)
