@@ -7,21 +7,21 @@ use Rattle.std.proofs.lemmas.Bool.{eqb-true, and_parts}
 use Rattle.std.proofs.lemmas.List.FromFn.{get_or-map-range_with_len}
 use Rattle.cap_bare.specs.declared.format.TheConstants.{FORMATS}
 use Rattle.cap_bare.specs.declared.format.Format.{Format}
-use Rattle.cap_bare.specs.Format.{formats, format_of}
+use Rattle.cap_bare.specs.Format.{formats, instruction_format}
 
 -- what stands at a place of the table, or nothing after its end
 abbrev pub entry_at : ℕ → Option Format
 entry_at opcode = get_or FORMATS opcode None
 
-pub entries-are : map entry_at (range_with_len 0 256) ≡ map format_of (range_with_len 0 256)
-unfolding format_of
+pub entries-are : map entry_at (range_with_len 0 256) ≡ map instruction_format (range_with_len 0 256)
+unfolding instruction_format
 entries-are = refl
 
-pub entry-is : (opcode : ℕ) → opcode < 256 → entry_at opcode ≡ format_of opcode
+pub entry-is : (opcode : ℕ) → opcode < 256 → entry_at opcode ≡ instruction_format opcode
 entry-is opcode h =
     sym (get_or-map-range_with_len entry_at 0 256 opcode opcode None h (omega arith))
     ∙ ap (λ (t : List (Option Format)). get_or t opcode None) entries-are
-    ∙ get_or-map-range_with_len format_of 0 256 opcode opcode None h (omega arith)
+    ∙ get_or-map-range_with_len instruction_format 0 256 opcode opcode None h (omega arith)
 
 module _ (test : ℕ → Format → Bool) (op : ℕ) (f : Format) where
   abbrev row_of : Option (ℕ × Format) → Option Format
@@ -42,6 +42,6 @@ module _ (test : ℕ → Format → Bool) (op : ℕ) (f : Format) where
           subst (λ (n : ℕ). test n f ≡ true) (eqb-true row.0 op e) (subst (λ (g : Format). test row.0 g ≡ true) same here)
       by_test false e here more h = more h
 
-  pub row-passes : list_all (λ row. test row.0 row.1) formats ≡ true → format_of op ≡ Some f → test op f ≡ true
-  unfolding format_of
+  pub row-passes : list_all (λ row. test row.0 row.1) formats ≡ true → instruction_format op ≡ Some f → test op f ≡ true
+  unfolding instruction_format
   row-passes all h = passes-in formats all h

@@ -18,7 +18,7 @@ use Rattle.jc_decode.proofs.Listing.{listing_from-more, listing_from-end}
 use Rattle.jc_decode.proofs.Elements.{Contains-first}
 use Rattle.jc_decode.proofs.Listed.{end-after, found-in, one-in, after-in, next-in, before-in}
 use Rattle.cap_bare.specs.Format.{is_bare}
-use Rattle.cap_bare.specs.Code.{in_scope, fetched, instructions, instructions_from, code_end, HasInstruction, IsPlace}
+use Rattle.cap_bare.specs.Code.{in_scope, fetched, instructions, instructions_from, instructions_end, HasInstruction, IsPlace}
 use Rattle.cap_bare.specs.Window.{IsSuffixAt}
 
 abbrev pub here : ℕ → Insn → Placed
@@ -134,7 +134,7 @@ module _ (code : List ℕ) where
   stands-here i s = record { place = refl; found = (found-in (fetched code) 0 (instructions code) i (lists-instructions 0) s).is }
 
   -- after each the next begins, or they end
-  pub stands-next : (i : Placed) → HasInstruction code i → (place_after i ≡ code_end code) ⊎ IsPlace code (place_after i)
+  pub stands-next : (i : Placed) → HasInstruction code i → (place_after i ≡ instructions_end code) ⊎ IsPlace code (place_after i)
   stands-next i s = next-in (fetched code) 0 (instructions code) i (lists-instructions 0) s
 
   pub one-at : (i j : Placed) → HasInstruction code i → HasInstruction code j → i.place ≡ j.place → i ≡ j
@@ -147,7 +147,7 @@ module _ (code : List ℕ) where
   fetched-long at i h = (IsWithin-decoded code at i (fetched-decoded at i h)).one
 
   -- all that stand are before the place where they end
-  pub before-end : (i : Placed) → HasInstruction code i → i.place < code_end code
+  pub before-end : (i : Placed) → HasInstruction code i → i.place < instructions_end code
   before-end i s = before-in (fetched code) fetched-long 0 (instructions code) i (lists-instructions 0) s
 
   -- ---- the places that are reached by decoding one instruction after another
@@ -176,7 +176,7 @@ module _ (code : List ℕ) where
       (Contains-append_right r.before (i ∷ instructions_from code (place_after i)) i (Contains-first i (instructions_from code (place_after i))))
 
   -- where no instruction is found they end
-  pub ends-at : (at : ℕ) (end : CodeEnd) → (r : IsSuffixAt code at) → fetched code at ≡ Err end → code_end code ≡ at
+  pub ends-at : (at : ℕ) (end : CodeEnd) → (r : IsSuffixAt code at) → fetched code at ≡ Err end → instructions_end code ≡ at
   ends-at at end r h =
       ap (end_from 0) (r.whole ∙ ap (λ (is : List Placed). r.before ++ is) (instructions-none at end h) ∙ append-nil r.before) ∙ r.ends
 

@@ -19,7 +19,7 @@ use Rattle.cap_bare.specs.declared.instruction.Instruction.{Instruction}
 use Rattle.cap_bare.specs.declared.instruction.Instruction.TheVariants.{Nop, Test, Compare, Goto, Return}
 use Rattle.cap_bare.specs.declared.format.Format.{Format}
 use Rattle.cap_bare.specs.declared.format.Format.TheVariants.{Implied, Constant, Loads, Stores, Increments}
-use Rattle.cap_bare.specs.Format.{format_of, is_bare, resolved, instruction_of, FitsFormat}
+use Rattle.cap_bare.specs.Format.{instruction_format, is_bare, resolved, instruction_of, FitsFormat}
 use Rattle.cap_bare.proofs.Formats.{row-passes}
 
 abbrev is_s1 : Operand → Bool
@@ -88,11 +88,11 @@ record Agrees (op : ℕ) (f : Format) : Type 0 where
   pub branches : (not (branches (shape f)) || jumps op) ≡ true
   pub goes_on : (not (goes_on (shape f)) || falls op) ≡ true
 
-all-agree : (op : ℕ) (f : Format) → format_of op ≡ Some f → agrees op f ≡ true
+all-agree : (op : ℕ) (f : Format) → instruction_format op ≡ Some f → agrees op f ≡ true
 unfolding layout_of opcode
 all-agree op f h = row-passes agrees op f refl h
 
-agree-at : (op : ℕ) (f : Format) → format_of op ≡ Some f → Agrees op f
+agree-at : (op : ℕ) (f : Format) → instruction_format op ≡ Some f → Agrees op f
 agree-at op f h =
     let a = and_parts _ _ (all-agree op f h) in
     let b = and_parts _ _ a.1 in
@@ -112,7 +112,7 @@ has-fits f (Ok l) insn e h = reads-fits f l insn e h
 has-fits f (Err end) insn e h = absurd h
 
 -- what a layout's operands fit, the format of the same opcode reads
-pub format-fits : (op : ℕ) (f : Format) (insn : Insn) → format_of op ≡ Some f → FitsLayout insn (layout_of op) → FitsFormat f insn
+pub format-fits : (op : ℕ) (f : Format) (insn : Insn) → instruction_format op ≡ Some f → FitsLayout insn (layout_of op) → FitsFormat f insn
 format-fits op f insn e h = has-fits f (layout_of op) insn (agree-at op f e).reads h
 
 -- an opcode of bare methods has a row
@@ -121,8 +121,8 @@ bare-row None h = absurd (cc)
 bare-row (Some f) h = (f, refl)
 
 module _ (i : Insn) (bare : is_bare i.op ≡ true) where
-  abbrev row : (f : Format) × (format_of i.op ≡ Some f)
-  row = bare-row (format_of i.op) bare
+  abbrev row : (f : Format) × (instruction_format i.op ≡ Some f)
+  row = bare-row (instruction_format i.op) bare
 
   pub no-switch : is_switch i.op ≡ false
   no-switch = not-true (is_switch i.op) (agree-at i.op row.0 row.1).single

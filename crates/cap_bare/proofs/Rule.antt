@@ -11,7 +11,7 @@ use Rattle.cap_bare.specs.declared.fault.BareKind.{BareKind}
 use Rattle.cap_bare.specs.declared.fault.BareKind.TheVariants.{NoLocal, Underflow, Overflow}
 use Rattle.cap_bare.specs.Effects.{register_of, register_read, register_written, cells_taken, cells_given}
 use Rattle.cap_bare.specs.Typing.{Kind, bottom, short, IsBelow, below_itself, below_short, shorts, register_count, Applies}
-use Rattle.cap_bare.specs.Met.{Fails, fails_local, fails_cells, fails_room}
+use Rattle.cap_bare.specs.Met.{RuleFails, fails_local, fails_cells, fails_room}
 use Rattle.cap_bare.specs.Walk.{within, applied}
 
 -- lists of shorts
@@ -138,21 +138,21 @@ applied-from bare i registers depth after a =
 
 -- the first failure of the rule
 within-err : (bare : Bare) (i : Instruction) (o : Option ℕ) (stack : List Kind) (depth : ℕ) (kind : BareKind) (rest : Result ℕ BareKind) → register_of i ≡ o
-    → (IfSome o (λ x. x < register_count bare) → rest ≡ Err kind → Fails bare i stack kind)
-    → within bare o depth rest ≡ Err kind → Fails bare i stack kind
+    → (IfSome o (λ x. x < register_count bare) → rest ≡ Err kind → RuleFails bare i stack kind)
+    → within bare o depth rest ≡ Err kind → RuleFails bare i stack kind
 within-err bare i None stack depth kind rest e more h = more tt h
 within-err bare i (Some x) stack depth kind rest e more h = by_test (nat_lt x (register_count bare)) refl h
   where
     by_test : (b : Bool) → nat_lt x (register_count bare) ≡ b → (if b then rest else Err (NoLocal x)) ≡ Err kind
-        → Fails bare i stack kind
+        → RuleFails bare i stack kind
     by_test true t h = more (ltb-true _ _ t) h
     by_test false t h =
         let same : NoLocal x ≡ kind = cc in
         let le : register_count bare ≤ x = grind (arith, nat_tests) in
-        subst (Fails bare i stack) same (fails_local x e le)
+        subst (RuleFails bare i stack) same (fails_local x e le)
 
 pub applied-err : (bare : Bare) (i : Instruction) (depth : ℕ) (kind : BareKind) → applied bare i depth ≡ Err kind
-    → Fails bare i (shorts depth) kind
+    → RuleFails bare i (shorts depth) kind
 applied-err bare i depth kind h =
     within-err bare i (register_of i) (shorts depth) depth kind _ refl
     (λ local k. by_test local (nat_lt depth (cells_taken i)) refl (nat_lt bare.max_stack (depth - cells_taken i + cells_given i)) refl k) h
@@ -160,15 +160,15 @@ applied-err bare i depth kind h =
     by_test : IfSome (register_of i) (λ x. x < register_count bare) → (b : Bool) → nat_lt depth (cells_taken i) ≡ b
         → (c : Bool) → nat_lt bare.max_stack (depth - cells_taken i + cells_given i) ≡ c
         → (if b then Err Underflow else if c then Err Overflow else Ok (depth - cells_taken i + cells_given i)) ≡ Err kind
-        → Fails bare i (shorts depth) kind
+        → RuleFails bare i (shorts depth) kind
     by_test local true d c e k =
         let same : Underflow ≡ kind = cc in
         let lt : length (shorts depth) < cells_taken i = omega (arith, ltb-true _ _ d, shorts-length depth) in
-        subst (Fails bare i (shorts depth)) same (fails_cells local lt)
+        subst (RuleFails bare i (shorts depth)) same (fails_cells local lt)
     by_test local false d true e k =
         let same : Overflow ≡ kind = cc in
         let enough : cells_taken i ≤ depth = grind (arith, nat_tests) in
         let lt : bare.max_stack < length (shorts (cells_given i) ++ shorts (depth - cells_taken i)) =
         omega (arith, ltb-true _ _ e, ap length (shorts-join (cells_given i) (depth - cells_taken i)), shorts-length (depth - cells_taken i + cells_given i)) in
-        subst (Fails bare i (shorts depth)) same (fails_room local (shorts (depth - cells_taken i)) (shorts-split depth (cells_taken i) enough) lt)
+        subst (RuleFails bare i (shorts depth)) same (fails_room local (shorts (depth - cells_taken i)) (shorts-split depth (cells_taken i) enough) lt)
     by_test local false d false e k = absurd (cc)

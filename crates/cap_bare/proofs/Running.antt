@@ -19,7 +19,7 @@ use Rattle.cap_bare.specs.Effects.{register_of, cells_taken, cells_given}
 use Rattle.cap_bare.specs.Code.{fetched, HasInstruction, IsPlace, IsTargetPlace}
 use Rattle.cap_bare.specs.Typing.{Kind, shorts, register_count, IsTyped, CardTyping}
 use Rattle.cap_bare.specs.Walk.{is_place}
-use Rattle.cap_bare.specs.Machine.{Frame, State, Outcome, running, returned, faulted, jump_fault, local_fault, stack_fault, Lead, leads, gives, frame, top, second, acted, acts, branch_target, has_register, at_place, settled, performed, step, go_on, after, entered, IsFault, IsSafe, IsFaultFree}
+use Rattle.cap_bare.specs.Machine.{Frame, State, Outcome, running, returned, faulted, jump_fault, local_fault, stack_fault, Lead, leads, gives, frame, top, second, acted, acts, branch_target, has_register, place_number, settled, performed, step, go_on, after, entered, IsFault, IsSafe, IsFaultFree}
 use Rattle.cap_bare.proofs.Operands.{branches, goes_on as falls_on, branches-jumps, goes_on-falls}
 use Rattle.cap_bare.proofs.Instructions.{here, is-here, fetched-bare, reached-first, stands-at, stands-here, stands-next, ends-at}
 use Rattle.cap_bare.proofs.Places.{place-true, leads-there, branch-leads}
@@ -118,14 +118,14 @@ module _ (code : List ℕ) (bare : Bare) where
   pub record Settled (to : ℤ) (f : Frame) : Type 0 where
     pub room : length f.stack ≤ bare.max_stack
     pub there : is_place code to ≡ true
-    pub is : settled code bare (leads to f) ≡ running (record { place = at_place to; frame = f })
+    pub is : settled code bare (leads to f) ≡ running (record { place = place_number to; frame = f })
 
   pub settled-from : (to : ℤ) (f : Frame) → (IsFault (settled code bare (leads to f)) → ⊥) → Settled to f
   settled-from to f h = by_tests (nat_lt bare.max_stack (length f.stack)) refl (is_place code to) refl refl h
     where
       by_tests : (b : Bool) → nat_lt bare.max_stack (length f.stack) ≡ b → (c : Bool) → is_place code to ≡ c
-          → settled code bare (leads to f) ≡ (if b then faulted stack_fault else if c then running (record { place = at_place to; frame = f }) else faulted jump_fault)
-          → (IsFault (if b then faulted stack_fault else if c then running (record { place = at_place to; frame = f }) else faulted jump_fault) → ⊥)
+          → settled code bare (leads to f) ≡ (if b then faulted stack_fault else if c then running (record { place = place_number to; frame = f }) else faulted jump_fault)
+          → (IsFault (if b then faulted stack_fault else if c then running (record { place = place_number to; frame = f }) else faulted jump_fault) → ⊥)
           → Settled to f
       by_tests true k c t e h = absurd (h tt)
       by_tests false k false t e h = absurd (h tt)
@@ -181,7 +181,7 @@ module _ (code : List ℕ) (bare : Bare) where
       goes_out : (n : ℤ) → step code bare s ≡ returned n → Goes s
 
     settled-is : (to : ℤ) (f : Frame) → length f.stack ≤ bare.max_stack → is_place code to ≡ true
-        → settled code bare (leads to f) ≡ running (record { place = at_place to; frame = f })
+        → settled code bare (leads to f) ≡ running (record { place = place_number to; frame = f })
     settled-is to f room p = let k = le-ltb bare.max_stack (length f.stack) room in rw (k, p) refl
 
     -- the place that an instruction leads to has the stack that it leaves
@@ -280,8 +280,8 @@ module _ (code : List ℕ) (bare : Bare) where
             let same : length g.stack ≡ length k.after = omega arith in
             let room : length g.stack ≤ bare.max_stack = omega (arith, same, k.applies.room) in
             let here : IsTargetPlace code to = subst (IsTargetPlace code) (sym n.is) n.there in
-            let at : at_place to ≡ n.place = ap at_place n.is in
-            goes_on (record { place = at_place to; frame = g }) (e ∙ settled-is to g room (place-true code to here))
+            let at : place_number to ≡ n.place = ap place_number n.is in
+            goes_on (record { place = place_number to; frame = g }) (e ∙ settled-is to g room (place-true code to here))
             (record {
               place = subst (IsPlace code) (sym at) n.there;
               registers = r ∙ a.registers;

@@ -9,15 +9,15 @@ use Rattle.jc_decode.specs.declared.insn.Placed.{Placed}
 use Rattle.cap_bare.specs.Format.{instruction_of}
 use Rattle.cap_bare.specs.Code.{IsFirstFlaw, IsFlawKind, IsWellFormed}
 use Rattle.cap_bare.specs.Typing.{CardTyping, Kind}
-use Rattle.cap_bare.specs.Met.{IsRefused, IsWrong, Fails, fails_local, fails_cells, fails_room, wrong_target, wrong_rule, wrong_branch, wrong_end, refused_flaw, refused_state}
-use Rattle.cap_bare.specs.Walk.{Finds}
+use Rattle.cap_bare.specs.Met.{IsRefused, IsWrong, RuleFails, fails_local, fails_cells, fails_room, wrong_target, wrong_rule, wrong_branch, wrong_end, refused_flaw, refused_state}
+use Rattle.cap_bare.specs.Walk.{WalksFind}
 use Rattle.cap_bare.specs.Machine.{IsFaultFree}
 use Rattle.cap_bare.proofs.WellFormed.{flaw-not, flaw-kind, first-one}
 use Rattle.cap_bare.proofs.Walks.{typing, refused-at, accepts}
 use Rattle.cap_bare.proofs.Running.{fault-free}
 
 -- what is wrong with a state is no flaw
-fails-kind : (bare : Bare) (i : Instruction) (stack : List Kind) (kind : BareKind) → Fails bare i stack kind → IsFlawKind kind → ⊥
+fails-kind : (bare : Bare) (i : Instruction) (stack : List Kind) (kind : BareKind) → RuleFails bare i stack kind → IsFlawKind kind → ⊥
 fails-kind bare i stack _ (fails_local x e le) h = h
 fails-kind bare i stack _ (fails_cells l lt) h = h
 fails-kind bare i stack _ (fails_room l rest e lt) h = h
@@ -37,32 +37,32 @@ refused-kind code bare _ (refused_state i registers stack kind w s m k) =
     ((λ h _. wrong-kind code bare i registers stack kind k h), (λ h. absurd (h w)))
 
 module _ (code : List ℕ) (bare : Bare) where
-  pub verdict-accepted : (r : Result (Unit {0}) BareFault) → Finds code bare r → OnOk r (CardTyping code bare)
+  pub verdict-accepted : (r : Result (Unit {0}) BareFault) → WalksFind code bare r → OnOk r (CardTyping code bare)
   verdict-accepted (Ok u) h = typing code bare h.0 h.1
   verdict-accepted (Err f) h = tt
 
-  refused-by : (f : BareFault) → Finds code bare (Err f) → IsRefused code bare f
+  refused-by : (f : BareFault) → WalksFind code bare (Err f) → IsRefused code bare f
   refused-by f h = ⊎_elim (λ first. refused_flaw f first) (λ wrong. refused-at code bare wrong.0 f wrong.1) h
 
-  pub verdict-refused : (r : Result (Unit {0}) BareFault) → Finds code bare r → IfErr r (λ f. IsRefused code bare f)
+  pub verdict-refused : (r : Result (Unit {0}) BareFault) → WalksFind code bare r → IfErr r (λ f. IsRefused code bare f)
   verdict-refused (Ok u) h = tt
   verdict-refused (Err f) h = refused-by f h
 
-  pub verdict-complete : (r : Result (Unit {0}) BareFault) → Finds code bare r → CardTyping code bare → IsOk r
+  pub verdict-complete : (r : Result (Unit {0}) BareFault) → WalksFind code bare r → CardTyping code bare → IsOk r
   verdict-complete (Ok u) h t = refl
   verdict-complete (Err f) h t =
       ⊎_elim (λ first. absurd (flaw-not code f t.well_formed first.flaw)) (λ wrong. let ok = accepts code bare t in absurd (cc (ok, wrong.1))) h
 
-  pub verdict-first : (r : Result (Unit {0}) BareFault) → Finds code bare r → (f : BareFault) → IsFirstFlaw code f → r ≡ Err f
+  pub verdict-first : (r : Result (Unit {0}) BareFault) → WalksFind code bare r → (f : BareFault) → IsFirstFlaw code f → r ≡ Err f
   verdict-first (Ok u) h f k = absurd (flaw-not code f h.0 k.flaw)
   verdict-first (Err g) h f k =
       ⊎_elim (λ first. ap Err (first-one code g f first k)) (λ wrong. absurd (flaw-not code f wrong.0 k.flaw)) h
 
-  pub verdict-kind : (r : Result (Unit {0}) BareFault) → Finds code bare r
+  pub verdict-kind : (r : Result (Unit {0}) BareFault) → WalksFind code bare r
       → IfErr r (λ f. IsFlawKind f.kind ↔ (IsWellFormed code → ⊥))
   verdict-kind (Ok u) h = tt
   verdict-kind (Err f) h = refused-kind code bare f (refused-by f h)
 
-  pub verdict-safe : (r : Result (Unit {0}) BareFault) → Finds code bare r → 1 ≤ length code → OnOk r (IsFaultFree code bare)
+  pub verdict-safe : (r : Result (Unit {0}) BareFault) → WalksFind code bare r → 1 ≤ length code → OnOk r (IsFaultFree code bare)
   verdict-safe (Ok u) h filled = fault-free code bare filled (typing code bare h.0 h.1)
   verdict-safe (Err f) h filled = tt

@@ -18,7 +18,7 @@ use Rattle.cap_bare.specs.Effects.{register_written, cells_taken, cells_given}
 use Rattle.cap_bare.specs.Code.{fetched, instructions, HasInstruction, IsPlace, IsTargetPlace, IsTarget, IsWellFormed, fault}
 use Rattle.cap_bare.specs.Window.{IsSuffixAt}
 use Rattle.cap_bare.specs.Typing.{Kind, bottom, short, IsBelow, below_itself, shorts, register_count, Applies, IsTyped, CardTyping}
-use Rattle.cap_bare.specs.Met.{declared, raised, raised_at, Passes, IsMet, met_entry, met_next, IsRefused, refused_state}
+use Rattle.cap_bare.specs.Met.{declared, with_raised, raised_at, Passes, IsMet, met_entry, met_next, IsRefused, refused_state}
 use Rattle.cap_bare.specs.Walk.{passed, then_on, first_wrong}
 use Rattle.cap_bare.proofs.Instructions.{IsInside, here-inside, IsHere, Lists, head-here, tail-lists, lists-instructions, stands-here, reached-first, reached-after, stands-at, ends-at}
 use Rattle.cap_bare.proofs.Places.{target-true, target-from}
@@ -200,7 +200,7 @@ module _ (code : List ℕ) (bare : Bare) where
     refused [] at depth registers f r l e m h = absurd (cc)
     refused (i ∷ is) at depth registers f r l e m h =
         by_answer (passed code bare i depth) refl
-        (λ next. refused is (place_after i) next (raised (instruction_of i.insn) registers) f (reached-after code at i r here) rest
+        (λ next. refused is (place_after i) next (with_raised (instruction_of i.insn) registers) f (reached-after code at i r here) rest
         (raised-length (register_written (instruction_of i.insn)) registers ∙ e)) h
       where
         here : IsHere code at i
@@ -228,7 +228,7 @@ module _ (code : List ℕ) (bare : Bare) where
         stack-next after next false k = ap shorts (sym k)
 
         by_end : (next : ℕ) → Passing code bare i depth next → (b : Bool) → ((place_after i) == length code) ≡ b
-            → (IsMet code bare (place_after i) (raised (instruction_of i.insn) registers) (shorts next) → first_wrong code bare next is ≡ Err f → IsRefused code bare f)
+            → (IsMet code bare (place_after i) (with_raised (instruction_of i.insn) registers) (shorts next) → first_wrong code bare next is ≡ Err f → IsRefused code bare f)
             → first_wrong code bare next is ≡ Err f → IsRefused code bare f
         by_end next p true t more h =
             let last = eqb-true (place_after i) (length code) t in
@@ -245,11 +245,11 @@ module _ (code : List ℕ) (bare : Bare) where
               goes_on = goes-on p.after next (falls i.insn.op) p.leaves;
             } in
             more
-            (subst (IsMet code bare (place_after i) (raised (instruction_of i.insn) registers)) (stack-next p.after next (falls i.insn.op) p.leaves)
+            (subst (IsMet code bare (place_after i) (with_raised (instruction_of i.insn) registers)) (stack-next p.after next (falls i.insn.op) p.leaves)
             (met_next i registers (shorts depth) (shorts p.after) met passes (omega arith))) h
 
         by_answer : (q : Result ℕ BareKind) → passed code bare i depth ≡ q
-            → ((next : ℕ) → IsMet code bare (place_after i) (raised (instruction_of i.insn) registers) (shorts next) → first_wrong code bare next is ≡ Err f → IsRefused code bare f)
+            → ((next : ℕ) → IsMet code bare (place_after i) (with_raised (instruction_of i.insn) registers) (shorts next) → first_wrong code bare next is ≡ Err f → IsRefused code bare f)
             → then_on i.place q (λ next. first_wrong code bare next is) ≡ Err f → IsRefused code bare f
         by_answer (Err kind) k more h =
             let same : fault i.place kind ≡ f = cc in

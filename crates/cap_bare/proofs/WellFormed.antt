@@ -9,7 +9,7 @@ use Rattle.jc_decode.specs.Listing.{targets}
 use Rattle.jc_decode.proofs.Listed.{found-in}
 use Rattle.cap_bare.specs.declared.fault.BareFault.{BareFault}
 use Rattle.cap_bare.specs.declared.fault.BareKind.TheVariants.{Code, BadTarget}
-use Rattle.cap_bare.specs.Code.{fetched, instructions_from, code_end, HasInstruction, IsTargetPlace, IsWellFormed, IsFlaw, flaw_end, flaw_target, IsFirstFlaw, IsFlawKind, fault}
+use Rattle.cap_bare.specs.Code.{fetched, instructions_from, instructions_end, HasInstruction, IsTargetPlace, IsWellFormed, IsFlaw, flaw_end, flaw_target, IsFirstFlaw, IsFlawKind, fault}
 use Rattle.cap_bare.specs.Window.{IsSuffixAt}
 use Rattle.cap_bare.proofs.Instructions.{here, is-here, lists-instructions, one-at, reached-first, reached-after, stands-at, ends-at, before-end, none-past}
 use Rattle.cap_bare.proofs.Places.{leads-one}
@@ -45,7 +45,7 @@ module _ (code : List ℕ) where
   astray i t leads c away = away (All-contains (IsTargetPlace code) (targets code i) t leads c)
 
   -- no flaw is before it
-  pub clear-least : (at : ℕ) → IsClear at → at ≤ code_end code → (f : BareFault) → IsFlaw code f → at ≤ f.place
+  pub clear-least : (at : ℕ) → IsClear at → at ≤ instructions_end code → (f : BareFault) → IsFlaw code f → at ≤ f.place
   clear-least at c le _ (flaw_end end ne e) = le
   clear-least at c le _ (flaw_target i t s leads away) = ⊎_elim (λ h. absurd (astray i t h leads away)) (λ h. h) (either at i c s)
 
@@ -63,7 +63,7 @@ module _ (code : List ℕ) where
       → IsFirstFlaw code (fault at (Code end))
   clear-missing at end c lt e =
       let ends = ends-at code at end c.reached e in
-      let flaw : IsFlaw code (fault (code_end code) (Code end)) =
+      let flaw : IsFlaw code (fault (instructions_end code) (Code end)) =
       flaw_end end (λ same. omega (arith, ends, same)) (subst (λ (n : ℕ). fetched code n ≡ Err end) (sym ends) e) in
       record {
         flaw = subst (λ (n : ℕ). IsFlaw code (fault n (Code end))) ends flaw;

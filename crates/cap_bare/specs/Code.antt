@@ -14,7 +14,7 @@ use Rattle.jc_decode.specs.Places.{BeginsIn, IsTargetPlaceIn, AllLeadInto, IsTar
 use Rattle.cap_bare.specs.declared.fault.BareFault.{BareFault}
 use Rattle.cap_bare.specs.declared.fault.BareKind.{BareKind}
 use Rattle.cap_bare.specs.declared.fault.BareKind.TheVariants.{Code, BadTarget}
-use Rattle.cap_bare.specs.Format.{format_of, is_bare}
+use Rattle.cap_bare.specs.Format.{instruction_format, is_bare}
 
 -- what is decoded where this opcode stands: one that bare methods do not have is out of scope, whatever follows it
 abbrev pub in_scope : Option ℕ → Result Insn CodeEnd → Result Insn CodeEnd
@@ -33,8 +33,8 @@ abbrev pub instructions : List ℕ → List Placed
 instructions code = instructions_from code 0
 
 -- where they end
-abbrev pub code_end : List ℕ → ℕ
-code_end code = end_from 0 (instructions code)
+abbrev pub instructions_end : List ℕ → ℕ
+instructions_end code = end_from 0 (instructions code)
 
 -- i is one of the instructions of the code
 abbrev pub HasInstruction : List ℕ → Placed → Type 0
@@ -53,7 +53,7 @@ IsTarget code place = IsTargetIn code (instructions code) place
 
 -- the code decodes to its end, and each branch leads to the place of an instruction
 pub record IsWellFormed (code : List ℕ) : Type 0 where
-  pub ends : code_end code ≡ length code
+  pub ends : instructions_end code ≡ length code
   pub leads : AllLeadInto code (instructions code)
 
 abbrev pub fault : ℕ → BareKind → BareFault
@@ -62,8 +62,8 @@ fault place kind = record { place = place; kind = kind }
 -- a place that keeps the code from being well formed: no instruction is there though the code goes on, or the
 -- branch there leads to no place
 pub data IsFlaw (code : List ℕ) : BareFault → Type 0 where
-  flaw_end : (end : CodeEnd) → code_end code ≢ length code → fetched code (code_end code) ≡ Err end
-      → IsFlaw code (fault (code_end code) (Code end))
+  flaw_end : (end : CodeEnd) → instructions_end code ≢ length code → fetched code (instructions_end code) ≡ Err end
+      → IsFlaw code (fault (instructions_end code) (Code end))
   flaw_target : (i : Placed) (target : ℤ) → HasInstruction code i → Contains (targets code i) target → ¬ (IsTargetPlace code target)
       → IsFlaw code (fault i.place (BadTarget target))
 
@@ -81,10 +81,10 @@ IsFlawKind _ = ⊥
 -- sconst_0, and an invokestatic, which bare methods do not have
 stops : instructions (3 ∷ 141 ∷ 0 ∷ 0 ∷ [])
     ≡ record { place = 0; insn = record { op = 3; x = pos 0; y = pos 0; z = pos 0; len = 1 } } ∷ []
-unfolding instructions_from listing_from at_most decoded layout_of opcode format_of
+unfolding instructions_from listing_from at_most decoded layout_of opcode instruction_format
 stops = refl
 
 -- half a goto_w is out of scope too
 half : fetched (168 ∷ 0 ∷ []) 0 ≡ Err (OutOfScope 168)
-unfolding fetched decoded layout_of opcode format_of
+unfolding fetched decoded layout_of opcode instruction_format
 half = refl

@@ -66,12 +66,12 @@ formats =
     ∷ []
 
 -- how an opcode makes an instruction, where bare methods have it
-unfoldable pub format_of : ℕ → Option Format
-format_of opcode = option_map (λ row. row.1) (find (λ row. row.0 == opcode) formats)
+unfoldable pub instruction_format : ℕ → Option Format
+instruction_format opcode = option_map (λ row. row.1) (find (λ row. row.0 == opcode) formats)
 
 -- whether bare methods have an opcode
 abbrev pub is_bare : ℕ → Bool
-is_bare opcode = is_some (format_of opcode)
+is_bare opcode = is_some (instruction_format opcode)
 
 -- the instruction with these operands
 abbrev pub resolved : Format → Insn → Instruction
@@ -83,7 +83,7 @@ resolved Increments insn = Increment (unsigned_abs insn.x) insn.y
 
 -- what the instruction does; one that bare methods do not have does nothing
 abbrev pub instruction_of : Insn → Instruction
-instruction_of insn = unwrap_or (option_map (λ format. resolved format insn) (format_of insn.op)) Nop
+instruction_of insn = unwrap_or (option_map (λ format. resolved format insn) (instruction_format insn.op)) Nop
 
 -- the operands that a format reads lie in their ranges: a byte for a register, a short for the others
 abbrev pub FitsFormat : Format → Insn → Type 0

@@ -91,16 +91,16 @@ abbrev pub has_register : Bare → Option ℕ → Bool
 has_register bare None = true
 has_register bare (Some x) = nat_lt x (register_count bare)
 
-abbrev pub at_place : ℤ → ℕ
-at_place (pos place) = place
-at_place _ = 0
+abbrev pub place_number : ℤ → ℕ
+place_number (pos place) = place
+place_number _ = 0
 
 -- the tests after an instruction: room on the stack, and a place to go on at
 abbrev pub settled : List ℕ → Bare → Lead → Outcome
 settled code bare (gives n) = returned n
 settled code bare (leads to f) =
     if nat_lt bare.max_stack (length f.stack) then faulted stack_fault
-    else if is_place code to then running (record { place = at_place to; frame = f })
+    else if is_place code to then running (record { place = place_number to; frame = f })
     else faulted jump_fault
 
 -- the tests before an instruction: its register, and cells enough
@@ -143,6 +143,6 @@ abbrev pub IsFaultFree : List ℕ → Bare → Type 0
 IsFaultFree code bare = (args : List ℤ) → length args ≡ bare.nargs → IsSafe code bare (entered bare args)
 
 -- a run's answer: the result, or that no ending is reached
-abbrev pub Answers : BareEnd → Outcome → Type 0
-Answers (Returned n) outcome = outcome ≡ returned n
-Answers Spent outcome = (s : State) × (outcome ≡ running s)
+abbrev pub RunAnswers : BareEnd → Outcome → Type 0
+RunAnswers (Returned n) outcome = outcome ≡ returned n
+RunAnswers Spent outcome = (s : State) × (outcome ≡ running s)

@@ -23,8 +23,8 @@ raised_at None registers = registers
 raised_at (Some x) registers = slice_set registers x short
 
 -- a store raises its register to the least type above what was there and a short, which is that of shorts
-abbrev pub raised : Instruction → List Kind → List Kind
-raised i registers = raised_at (register_written i) registers
+abbrev pub with_raised : Instruction → List Kind → List Kind
+with_raised i registers = raised_at (register_written i) registers
 
 -- nothing is wrong at an instruction, with these registers and this stack before it and that stack after it
 pub record Passes (code : List ℕ) (bare : Bare) (i : Placed) (registers stack after : List Kind) : Type 0 where
@@ -40,17 +40,17 @@ pub data IsMet (code : List ℕ) (bare : Bare) : ℕ → List Kind → List Kind
   met_entry : IsMet code bare 0 (declared bare) []
   met_next : (i : Placed) (registers stack after : List Kind) → IsMet code bare i.place registers stack
       → Passes code bare i registers stack after → place_after i < length code
-      → IsMet code bare (place_after i) (raised (instruction_of i.insn) registers) (if falls i.insn.op then after else [])
+      → IsMet code bare (place_after i) (with_raised (instruction_of i.insn) registers) (if falls i.insn.op then after else [])
   met_again : (i : Placed) (registers stack after : List Kind) → IsMet code bare i.place registers stack
       → Passes code bare i registers stack after → place_after i ≡ length code
-      → IsMet code bare 0 (raised (instruction_of i.insn) registers) []
+      → IsMet code bare 0 (with_raised (instruction_of i.insn) registers) []
 
 -- the first failure of an instruction's rule on a stack: its register, the cells that it takes, the room
-pub data Fails (bare : Bare) (i : Instruction) (stack : List Kind) : BareKind → Type 0 where
-  fails_local : (x : ℕ) → register_of i ≡ Some x → register_count bare ≤ x → Fails bare i stack (NoLocal x)
-  fails_cells : IfSome (register_of i) (λ x. x < register_count bare) → length stack < cells_taken i → Fails bare i stack Underflow
+pub data RuleFails (bare : Bare) (i : Instruction) (stack : List Kind) : BareKind → Type 0 where
+  fails_local : (x : ℕ) → register_of i ≡ Some x → register_count bare ≤ x → RuleFails bare i stack (NoLocal x)
+  fails_cells : IfSome (register_of i) (λ x. x < register_count bare) → length stack < cells_taken i → RuleFails bare i stack Underflow
   fails_room : IfSome (register_of i) (λ x. x < register_count bare) → (rest : List Kind) → stack ≡ shorts (cells_taken i) ++ rest
-      → bare.max_stack < length (shorts (cells_given i) ++ rest) → Fails bare i stack Overflow
+      → bare.max_stack < length (shorts (cells_given i) ++ rest) → RuleFails bare i stack Overflow
 
 -- no target is fallen into with cells on the stack
 abbrev pub LandsEmpty : List ℕ → Placed → List Kind → Type 0
@@ -67,7 +67,7 @@ pub data IsWrong (code : List ℕ) (bare : Bare) (i : Placed) (registers stack :
   wrong_rule :
       (kind : BareKind)
       → LandsEmpty code i stack
-      → Fails bare (instruction_of i.insn) stack kind
+      → RuleFails bare (instruction_of i.insn) stack kind
       → IsWrong code bare i registers stack kind
   wrong_branch :
       (after : List Kind)

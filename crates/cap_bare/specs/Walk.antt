@@ -66,6 +66,6 @@ first_wrong code bare depth [] = Ok tt
 first_wrong code bare depth (i ∷ is) = then_on i.place (passed code bare i depth) (λ after. first_wrong code bare after is)
 
 -- what the walks find: nothing wrong in a well-formed method; its first flaw; or what is wrong first in a well-formed one
-abbrev pub Finds : List ℕ → Bare → Result (Unit {0}) BareFault → Type 0
-Finds code bare (Ok u) = IsWellFormed code × (first_wrong code bare 0 (instructions code) ≡ Ok tt)
-Finds code bare (Err f) = IsFirstFlaw code f ⊎ (IsWellFormed code × (first_wrong code bare 0 (instructions code) ≡ Err f))
+abbrev pub WalksFind : List ℕ → Bare → Result (Unit {0}) BareFault → Type 0
+WalksFind code bare (Ok u) = IsWellFormed code × (first_wrong code bare 0 (instructions code) ≡ Ok tt)
+WalksFind code bare (Err f) = IsFirstFlaw code f ⊎ (IsWellFormed code × (first_wrong code bare 0 (instructions code) ≡ Err f))

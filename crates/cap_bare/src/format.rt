@@ -1,7 +1,7 @@
 ghost use Rattle.std.specs.Prelude.{◌≡◌};
 ghost use Rattle.jc_decode.specs.Layout.{layout_of};
 ghost use Rattle.jc_decode.specs.Decoding.{FitsLayout};
-ghost use Rattle.cap_bare.specs.Format.{format_of, resolved, instruction_of, FitsFormat};
+ghost use Rattle.cap_bare.specs.Format.{instruction_format, resolved, instruction_of, FitsFormat};
 
 use self::Format::{Constant, Implied, Increments, Loads, Stores};
 use crate::instruction::Instruction;
@@ -29,7 +29,7 @@ pub enum Format {
 impl Format {
     /// How this opcode makes an instruction, where bare methods have it.
     pub fn of(opcode: u8) -> Option<Format>
-        ensures { result ≡ format_of opcode }
+        ensures { result ≡ instruction_format opcode }
     {
         if (opcode as usize) < FORMATS.len() {
             FORMATS[opcode as usize]

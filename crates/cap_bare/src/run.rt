@@ -1,7 +1,7 @@
 ghost use Rattle.std.specs.Prelude.{◌≡◌, ◌≤◌, length, Ok};
 ghost use Rattle.jc_decode.specs.Decoding.{decoded};
 ghost use Rattle.cap_bare.specs.Typing.{CardTyping, IsCompact, register_count};
-ghost use Rattle.cap_bare.specs.Machine.{Answers, after, branch_target, entered, step, IsSafe};
+ghost use Rattle.cap_bare.specs.Machine.{RunAnswers, after, branch_target, entered, step, IsSafe};
 ghost use Rattle.cap_bare.specs.Leading.{state_at, stepped};
 
 use crate::bare::Bare;
@@ -36,7 +36,7 @@ pub fn bare_run(code: View<'_>, bare: Bare, args: &[i16], budget: u64) -> BareEn
     requires compact { IsCompact bare }
     requires accepted { CardTyping code.bytes.now bare }
     requires arguments { length args.now ≡ bare.nargs }
-    ensures { Answers result (after budget code.entry.bytes.now bare (entered bare args.now)) }
+    ensures { RunAnswers result (after budget code.entry.bytes.now bare (entered bare args.now)) }
 {
     let mut frame = Frame::entered(bare, args);
     let mut place = 0;

@@ -5,7 +5,7 @@ ghost use Rattle.jc_decode.specs.Listing.{targets};
 ghost use Rattle.cap_bare.specs.Code.{instructions, IsFirstFlaw, IsFlawKind, IsPlace, IsTarget, IsTargetPlace, IsWellFormed, HasInstruction};
 ghost use Rattle.cap_bare.specs.Typing.{CardTyping, IsCompact};
 ghost use Rattle.cap_bare.specs.Met.{IsRefused};
-ghost use Rattle.cap_bare.specs.Walk.{is_at, is_place, is_target, applied, passed, first_wrong, Finds};
+ghost use Rattle.cap_bare.specs.Walk.{is_at, is_place, is_target, applied, passed, first_wrong, WalksFind};
 ghost use Rattle.cap_bare.specs.Window.{IsFromOn, IsSuffixAt, IsTrailing};
 ghost use Rattle.cap_bare.specs.Machine.{IsFaultFree};
 
@@ -43,7 +43,7 @@ pub fn bare_verify(code: View<'_>, bare: Bare) -> Result<(), BareFault>
 fn walked(code: View<'_>, bare: Bare) -> Result<(), BareFault>
     requires short { length code.bytes.now ≤ 32767 }
     requires stack { bare.max_stack ≤ 15 }
-    ensures { Finds code.entry.bytes.now bare result }
+    ensures { WalksFind code.entry.bytes.now bare result }
 {
     find_flaw(code)?;
     find_wrong(code, bare)

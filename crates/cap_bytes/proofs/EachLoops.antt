@@ -7,7 +7,7 @@ use Rattle.cap_bytes.specs.declared.cursor.Cursor.{Cursor}
 use Rattle.cap_bytes.specs.Grammar.{Grammar, each, repeat, give, number, ◌>>=◌}
 use Rattle.cap_bytes.specs.Spelling.{Origin, info_of}
 use Rattle.cap_bytes.specs.Reading.{read, number_read, tested}
-use Rattle.cap_bytes.specs.Taking.{next, Taken, Fails}
+use Rattle.cap_bytes.specs.Taking.{next, Taken, TakingFails}
 use Rattle.cap_bytes.proofs.Laws.{then_ok, read_ok}
 use Rattle.cap_bytes.proofs.Loops.{end_of, err_of, ok_of, forget}
 
@@ -32,10 +32,10 @@ each_more g step count start first i now s x after so_far lt h =
       part = h.part ∙ so_far.part;
     }
 
-end_fault : {X S : Type 0} (g : S → Grammar X) (step : S → X → S) (n : ℕ) (now : Cursor) (s : S) (fault : FormFault) → Fails (g s) now fault → end_of (next (each (suc n) g step s) now) ≡ Err fault
+end_fault : {X S : Type 0} (g : S → Grammar X) (step : S → X → S) (n : ℕ) (now : Cursor) (s : S) (fault : FormFault) → TakingFails (g s) now fault → end_of (next (each (suc n) g step s) now) ≡ Err fault
 end_fault g step n now s fault h = rw h.answer refl
 
-pub each_fault : {X S : Type 0} (g : S → Grammar X) (step : S → X → S) (count : ℕ) (start : Cursor) (first : S) (i : ℕ) (now : Cursor) (s : S) (fault : FormFault) → HasPassedEach g step count start first i now s → i < count → Fails (g s) now fault → Fails (each count g step first) start fault
+pub each_fault : {X S : Type 0} (g : S → Grammar X) (step : S → X → S) (count : ℕ) (start : Cursor) (first : S) (i : ℕ) (now : Cursor) (s : S) (fault : FormFault) → HasPassedEach g step count start first i now s → i < count → TakingFails (g s) now fault → TakingFails (each count g step first) start fault
 each_fault g step count start first i now s fault so_far lt h =
     let k : count - i ≡ suc (count - (i + 1)) = omega arith in
     let e : end_of (next (each (suc (count - (i + 1))) g step s) now) ≡ Err fault = end_fault g step (count - (i + 1)) now s fault h in

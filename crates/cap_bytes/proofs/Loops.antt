@@ -7,7 +7,7 @@ use Rattle.cap_bytes.specs.Grammar.{Grammar, give, ◌>>=◌, repeat}
 use Rattle.cap_bytes.specs.Spelling.{Origin, info_of}
 use Rattle.cap_bytes.specs.Reading.{Reading, and_then, read, is_read, value_or}
 use Rattle.cap_bytes.proofs.Laws.{then_ok, pair_ok, read_ok}
-use Rattle.cap_bytes.specs.Taking.{next, Taken, Fails, gives, Gives, given}
+use Rattle.cap_bytes.specs.Taking.{next, Taken, TakingFails, gives, Gives, given}
 
 -- the place after the items of a reading, without their value
 abbrev pub end_of : {X : Type 0} → Reading X → Result ℕ FormFault
@@ -47,10 +47,10 @@ passed_more g count start i now x after so_far lt h =
       part = h.part ∙ so_far.part;
     }
 
-end_fault : {X : Type 0} (g : Grammar X) (n : ℕ) (now : Cursor) (fault : FormFault) → Fails g now fault → end_of (next (repeat (suc n) g) now) ≡ Err fault
+end_fault : {X : Type 0} (g : Grammar X) (n : ℕ) (now : Cursor) (fault : FormFault) → TakingFails g now fault → end_of (next (repeat (suc n) g) now) ≡ Err fault
 end_fault g n now fault h = rw h.answer refl
 
-pub passed_fault : {X : Type 0} (g : Grammar X) (count : ℕ) (start : Cursor) (i : ℕ) (now : Cursor) (fault : FormFault) → HasPassed g count start i now → i < count → Fails g now fault → Fails (repeat count g) start fault
+pub passed_fault : {X : Type 0} (g : Grammar X) (count : ℕ) (start : Cursor) (i : ℕ) (now : Cursor) (fault : FormFault) → HasPassed g count start i now → i < count → TakingFails g now fault → TakingFails (repeat count g) start fault
 passed_fault g count start i now fault so_far lt h =
     let k : count - i ≡ suc (count - (i + 1)) = omega arith in
     let e : end_of (next (repeat (suc (count - (i + 1))) g) now) ≡ Err fault = end_fault g (count - (i + 1)) now fault h in
@@ -127,7 +127,7 @@ pub gives_none : {X : Type 0} (g : Grammar X) (left : ℕ) (now : Cursor) → le
 unfolding gives given
 gives_none g left now h = rw h refl
 
-pub gives_not : {X : Type 0} (g : Grammar X) (left : ℕ) (now : Cursor) (fault : FormFault) → Gives (repeat left g) now → 0 < left → Fails g now fault → ⊥
+pub gives_not : {X : Type 0} (g : Grammar X) (left : ℕ) (now : Cursor) (fault : FormFault) → Gives (repeat left g) now → 0 < left → TakingFails g now fault → ⊥
 unfolding gives given
 gives_not g left now fault h lt f =
     let e : IsTrue (is_read (next (repeat (suc (left - 1)) g) now)) = subst (λ n. IsTrue (is_read (next (repeat n g) now))) (one_less left lt) h in

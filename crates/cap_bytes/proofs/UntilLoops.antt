@@ -7,7 +7,7 @@ use Rattle.cap_bytes.specs.Grammar.{Grammar, at_most, until_end, repeat, give, n
 use Rattle.cap_bytes.specs.declared.fault.FormKind.{FormKind}
 use Rattle.cap_bytes.specs.Spelling.{Origin, info_of, Spells}
 use Rattle.cap_bytes.specs.Reading.{Reading, and_then, read}
-use Rattle.cap_bytes.specs.Taking.{next, Taken, Fails}
+use Rattle.cap_bytes.specs.Taking.{next, Taken, TakingFails}
 use Rattle.cap_bytes.proofs.Laws.{then_ok, pair_ok, read_ok, read-spells}
 use Rattle.cap_bytes.proofs.EachLoops.{ReadsAll}
 
@@ -84,10 +84,10 @@ until_more g step start first i now s x after so_far lt h moved =
       part = h.part ∙ so_far.part;
     }
 
-one_fault : {X S : Type 0} (g : S → Grammar X) (step : S → X → S) (i n : ℕ) (now : Cursor) (s : S) (fault : FormFault) → now.at < length now.info.bytes.now → Fails (g s) now fault → plus i (size_of (next (at_most (suc n) g step s) now)) ≡ Err fault
+one_fault : {X S : Type 0} (g : S → Grammar X) (step : S → X → S) (i n : ℕ) (now : Cursor) (s : S) (fault : FormFault) → now.at < length now.info.bytes.now → TakingFails (g s) now fault → plus i (size_of (next (at_most (suc n) g step s) now)) ≡ Err fault
 one_fault g step i n now s fault lt h = rw (one_item g step n now s lt, h.answer) refl
 
-pub until_fault : {X S : Type 0} (g : S → Grammar X) (step : S → X → S) (start : Cursor) (first : S) (i : ℕ) (now : Cursor) (s : S) (fault : FormFault) → HasPassedUntil g step start first i now s → now.at < length now.info.bytes.now → Fails (g s) now fault → Fails (until_end g step first) start fault
+pub until_fault : {X S : Type 0} (g : S → Grammar X) (step : S → X → S) (start : Cursor) (first : S) (i : ℕ) (now : Cursor) (s : S) (fault : FormFault) → HasPassedUntil g step start first i now s → now.at < length now.info.bytes.now → TakingFails (g s) now fault → TakingFails (until_end g step first) start fault
 until_fault g step start first i now s fault so_far lt h =
     let enough = so_far.enough in
     let k : so_far.fuel ≡ suc (so_far.fuel - 1) = omega arith in

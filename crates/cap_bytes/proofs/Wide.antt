@@ -11,7 +11,7 @@ use Rattle.byteorder.specs.Endian.{big_number}
 use Rattle.cap_bytes.specs.Grammar.{Grammar, give, number, piece, remaining, place, finish, ◌>>=◌, repeat}
 use Rattle.cap_bytes.specs.Spelling.{Spells, Origin, info_of}
 use Rattle.cap_bytes.specs.Reading.{Reading, read, is_read, value_or}
-use Rattle.cap_bytes.specs.Taking.{next, Taken, Fails, gives, Gives, given, IsAhead}
+use Rattle.cap_bytes.specs.Taking.{next, Taken, TakingFails, gives, Gives, given, IsAhead}
 use Rattle.cap_bytes.proofs.Laws.{then_ok, pair_ok, read_ok, read-spells}
 use Rattle.cap_bytes.proofs.Loops.{length_given}
 
@@ -119,7 +119,7 @@ nth_given w g left k now there x after wide h lt a t =
 not_both : {X : Type 0} (x : X) (after : ℕ) (fault : FormFault) → read_ok x after ≡ Err fault → ⊥
 not_both x after fault e = cc
 
-pub nth_not : {X : Type 0} (other : Option X) (w : ℕ) (g : Grammar X) (left k : ℕ) (now there : Cursor) (fault : FormFault) → IsWide w g → Gives (repeat left g) now → k < left → IsAhead now k w there → Fails g there fault → other ≡ slice_get (given [] (repeat left g) now) k
+pub nth_not : {X : Type 0} (other : Option X) (w : ℕ) (g : Grammar X) (left k : ℕ) (now there : Cursor) (fault : FormFault) → IsWide w g → Gives (repeat left g) now → k < left → IsAhead now k w there → TakingFails g there fault → other ≡ slice_get (given [] (repeat left g) now) k
 nth_not other w g left k now there fault wide h lt a f =
     let n = nth_known w g left k now there wide h lt a in
     let e : read_ok n.0 (there.at + w) ≡ Err fault = sym n.1 ∙ f.answer in

@@ -31,19 +31,19 @@ pub record Taken {X : Type 0} (g : Grammar X) (before : Cursor) (x : X) (after :
   pub part : after.part ≡ before.part
 
 -- the first item that breaks the grammar gives this fault
-pub record Fails {X : Type 0} (g : Grammar X) (before : Cursor) (fault : FormFault) : Type 0 where
+pub record TakingFails {X : Type 0} (g : Grammar X) (before : Cursor) (fault : FormFault) : Type 0 where
   pub answer : next g before ≡ Err fault
 
 -- the items are taken, and the result is their value; or the first of them that breaks the grammar
 -- gives the fault
 abbrev pub Takes : {R X : Type 0} → (R → X) → Grammar X → Cursor → Result R FormFault → Cursor → Type 0
 Takes view g before (Ok x) after = Taken g before (view x) after
-Takes view g before (Err fault) after = Fails g before fault
+Takes view g before (Err fault) after = TakingFails g before fault
 
 -- the same where the value is passed over
-abbrev pub Passes : {R X : Type 0} → Grammar X → Cursor → Result R FormFault → Cursor → Type 0
-Passes {X = X} g before (Ok r) after = (x : X) × Taken g before x after
-Passes g before (Err fault) after = Fails g before fault
+abbrev pub PassesOver : {R X : Type 0} → Grammar X → Cursor → Result R FormFault → Cursor → Type 0
+PassesOver {X = X} g before (Ok r) after = (x : X) × Taken g before x after
+PassesOver g before (Err fault) after = TakingFails g before fault
 
 -- ---- what is known to be next
 

@@ -1,7 +1,7 @@
 ghost use Rattle.std.specs.Prelude.{◌≡◌, length, slice_get, IfOk};
 ghost use Rattle.std.specs.Iterator.{YieldsFirst, item_count};
 ghost use Rattle.cap_bytes.specs.Grammar.{repeat, table, u2};
-ghost use Rattle.cap_bytes.specs.Taking.{Takes, Passes};
+ghost use Rattle.cap_bytes.specs.Taking.{Takes, PassesOver};
 ghost use Rattle.cap_bytes.specs.Table.{numbers};
 
 use crate::cursor::Cursor;
@@ -22,7 +22,7 @@ impl<'a> Cursor<'a> {
 
     #[tactic(auto, using(crate::proofs::Loops::passing))]
     fn pass_table(&mut self, count: u16) -> Result<(), FormFault>
-        ensures { Passes (repeat count u2) self.old result self.new }
+        ensures { PassesOver (repeat count u2) self.old result self.new }
     {
         'numbers: for _ in 0..count {
             self.u2()?;

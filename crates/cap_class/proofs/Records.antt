@@ -5,7 +5,7 @@ use Rattle.cap_bytes.specs.declared.fault.FormKind.TheVariants.{BadValue, Remote
 use Rattle.cap_bytes.specs.declared.fault.FormFault.{FormFault}
 use Rattle.cap_bytes.specs.declared.cursor.Cursor.{Cursor}
 use Rattle.cap_bytes.specs.Grammar.{repeat, table, until_end}
-use Rattle.cap_bytes.specs.Taking.{Taken, Fails}
+use Rattle.cap_bytes.specs.Taking.{Taken, TakingFails}
 use Rattle.cap_bytes.specs.Spelling.{Spells}
 use Rattle.cap_bytes.proofs.Laws.{read-spells, spelled-read}
 use Rattle.cap_bytes.proofs.EachLoops.{ReadsAll}
@@ -45,7 +45,7 @@ pub counted : (n : ℕ) (now : Cursor) (xs : List Class) (after : Cursor) → Ta
 counted n now xs after t e = subst (λ (k : ℕ). Taken (repeat k any_record) now xs after) e (until_taken record_info is_after any_record reads_all false now xs after t)
 
 -- a table of no entries is always there
-pub never_fails : (now : Cursor) (fault : FormFault) → Fails (table 0) now fault → ⊥
+pub never_fails : (now : Cursor) (fault : FormFault) → TakingFails (table 0) now fault → ⊥
 unfolding table
 never_fails now fault h = let e = h.answer in absurd cc
 

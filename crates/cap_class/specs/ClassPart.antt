@@ -4,7 +4,7 @@ use Rattle.cap_bytes.specs.Grammar.{repeat, until_end}
 use Rattle.cap_bytes.specs.Table.{numbers}
 use Rattle.cap_bytes.specs.declared.fault.FormFault.{FormFault}
 use Rattle.cap_bytes.specs.declared.cursor.Cursor.{Cursor}
-use Rattle.cap_bytes.specs.Taking.{Taken, Fails, given}
+use Rattle.cap_bytes.specs.Taking.{Taken, TakingFails, given}
 use Rattle.cap_class.specs.declared.class_info.Instance.{Instance}
 use Rattle.cap_class.specs.declared.class_info.DispatchTables.{DispatchTables}
 use Rattle.cap_class.specs.declared.class_info.ClassInfo.{ClassInfo}
@@ -59,4 +59,4 @@ abbrev pub PassesRecords : Cursor → Result ℕ FormFault → Cursor → Type 0
 PassesRecords before (Ok count) after = (xs : List format.Class)
     × Taken (until_end record_info is_after false) before xs after
     × Taken (repeat count any_record) before xs after
-PassesRecords before (Err fault) after = Fails (until_end record_info is_after false) before fault
+PassesRecords before (Err fault) after = TakingFails (until_end record_info is_after false) before fault

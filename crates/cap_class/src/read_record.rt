@@ -2,7 +2,7 @@ ghost use Rattle.std.specs.Prelude.{◌≡◌, ◌≤◌, [], length, IfOk};
 ghost use Rattle.std.specs.Iterator.{YieldsFirstBy, item_count};
 ghost use Rattle.cap_bytes.specs.Grammar.{repeat, table};
 ghost use Rattle.cap_bytes.specs.Table.{numbers};
-ghost use Rattle.cap_bytes.specs.Taking.{Takes, Passes};
+ghost use Rattle.cap_bytes.specs.Taking.{Takes, PassesOver};
 ghost use Rattle.cap_class.specs.ClassFormat.{interface_info, instance_info, tables_info, record_info, beyond_first, is_interface, class_flags};
 ghost use Rattle.cap_class.specs.Lists.{interface_seen, interfaces_left};
 ghost use Rattle.cap_class.specs.ClassPart.{instance_seen, tables_seen, class_seen};
@@ -32,7 +32,7 @@ fn interface<'a>(items: &mut Cursor<'a>, extended: bool) -> Result<Implemented<'
 /// Passes over so many interfaces.
 #[tactic(auto, using(cap_bytes::proofs::Loops::passing))]
 fn pass_interfaces(items: &mut Cursor<'_>, count: u8, extended: bool) -> Result<(), FormFault>
-    ensures { Passes (repeat count (interface_info extended)) items.old result items.new }
+    ensures { PassesOver (repeat count (interface_info extended)) items.old result items.new }
 {
     'interfaces: for _ in 0..count {
         interface(items, extended)?;

@@ -24,7 +24,7 @@ use Rattle.cap_components.specs.Components.{◌>>=◌, formed, framed, there, in
 use Rattle.cap_components.specs.Descriptions.{Description}
 use Rattle.cap_components.specs.PackageRecord.{PackageRecord}
 use Rattle.cap_components.specs.ReadPackage.{read_after, read_package}
-use Rattle.cap_components.specs.Saying.{Holds, Says, SaysIf, AreSaid, IsBroken, in_file, in_info, Fails, absent, broken, FailsOr, BreaksOr, IsFirstAfter, IsFirstFailing}
+use Rattle.cap_components.specs.Saying.{Holds, Says, SaysIf, AreSaid, IsBroken, in_file, in_info, PartFails, absent, broken, FailsOr, BreaksOr, IsFirstAfter, IsFirstFailingPart}
 
 -- ---- what is said is read
 
@@ -251,57 +251,57 @@ formed_err : {X : Type 0} (r : Result X FormFault) (fault : PackFault) → forme
 formed_err (Ok y) fault h = absurd cc
 formed_err (Err e) fault h = (e, refl, cc)
 
-framed_fails : {X : Type 0} (parts : List Lent) (tag : ℕ) (g : Grammar X) (fault : PackFault) (o : Option (List ℕ)) → held parts tag ≡ o → framed tag o ≡ Err fault → Fails parts tag g fault
+framed_fails : {X : Type 0} (parts : List Lent) (tag : ℕ) (g : Grammar X) (fault : PackFault) (o : Option (List ℕ)) → held parts tag ≡ o → framed tag o ≡ Err fault → PartFails parts tag g fault
 framed_fails parts tag g fault None e h =
     absent e (let same : MissingPart tag ≡ fault = cc in sym same)
 framed_fails parts tag g fault (Some file) e h =
     let f = formed_err (reading (file_of tag) (component tag) file) fault h in
     broken f.0 f.2 (in_file file e (breaks (file_of tag) (component tag) file f.0 f.1))
 
-info_fails : {X : Type 0} (parts : List Lent) (tag : ℕ) (g : Grammar X) (fault : PackFault) → info_in parts tag ≡ Err fault → Fails parts tag g fault
+info_fails : {X : Type 0} (parts : List Lent) (tag : ℕ) (g : Grammar X) (fault : PackFault) → info_in parts tag ≡ Err fault → PartFails parts tag g fault
 unfolding info_in
 info_fails parts tag g fault h = framed_fails parts tag g fault (held parts tag) refl h
 
-items_fail : {X : Type 0} (parts : List Lent) (tag : ℕ) (g : Grammar X) (fault : PackFault) (info : List ℕ) → info_in parts tag ≡ Ok info → formed (reading (info_of tag) g info) ≡ Err fault → Fails parts tag g fault
+items_fail : {X : Type 0} (parts : List Lent) (tag : ℕ) (g : Grammar X) (fault : PackFault) (info : List ℕ) → info_in parts tag ≡ Ok info → formed (reading (info_of tag) g info) ≡ Err fault → PartFails parts tag g fault
 items_fail parts tag g fault info e h =
     let i = has_info parts tag info e in
     let f = formed_err (reading (info_of tag) g info) fault h in
     broken f.0 f.2 (in_info i.file info i.there i.framed (breaks (info_of tag) g info f.0 f.1))
 
-part_by : {X : Type 0} (parts : List Lent) (tag : ℕ) (g : Grammar X) (fault : PackFault) → IsRefused (info_in parts tag) (λ info. formed (reading (info_of tag) g info)) fault → Fails parts tag g fault
+part_by : {X : Type 0} (parts : List Lent) (tag : ℕ) (g : Grammar X) (fault : PackFault) → IsRefused (info_in parts tag) (λ info. formed (reading (info_of tag) g info)) fault → PartFails parts tag g fault
 part_by parts tag g fault (by_first e) = info_fails parts tag g fault e
 part_by parts tag g fault (by_next info e h) = items_fail parts tag g fault info e h
 
-part_fails : {X : Type 0} (parts : List Lent) (tag : ℕ) (g : Grammar X) (fault : PackFault) → read_part g tag parts ≡ Err fault → Fails parts tag g fault
+part_fails : {X : Type 0} (parts : List Lent) (tag : ℕ) (g : Grammar X) (fault : PackFault) → read_part g tag parts ≡ Err fault → PartFails parts tag g fault
 unfolding read_part
 part_fails parts tag g fault h = part_by parts tag g fault (then_err (info_in parts tag) (λ info. formed (reading (info_of tag) g info)) fault h)
 
-methods_by : (parts : List Lent) (fault : PackFault) → IsRefused (info_in parts 7) (λ info. formed (reading (info_of 7) methods_info info) >>= λ handlers. answer {A = Methods} (record { info = info; handlers = handlers })) fault → Fails parts 7 methods_info fault
+methods_by : (parts : List Lent) (fault : PackFault) → IsRefused (info_in parts 7) (λ info. formed (reading (info_of 7) methods_info info) >>= λ handlers. answer {A = Methods} (record { info = info; handlers = handlers })) fault → PartFails parts 7 methods_info fault
 methods_by parts fault (by_first e) = info_fails parts 7 methods_info fault e
 methods_by parts fault (by_next info e h) = items_by (then_err (formed (reading (info_of 7) methods_info info)) (λ handlers. answer {A = Methods} (record { info = info; handlers = handlers })) fault h)
   where
-    items_by : IsRefused (formed (reading (info_of 7) methods_info info)) (λ handlers. answer {A = Methods} (record { info = info; handlers = handlers })) fault → Fails parts 7 methods_info fault
+    items_by : IsRefused (formed (reading (info_of 7) methods_info info)) (λ handlers. answer {A = Methods} (record { info = info; handlers = handlers })) fault → PartFails parts 7 methods_info fault
     items_by (by_first k) = items_fail parts 7 methods_info fault info e k
     items_by (by_next handlers k l) = no_answer {A = Methods} (record { info = info; handlers = handlers }) fault l
 
-methods_fail : (parts : List Lent) (fault : PackFault) → read_methods parts ≡ Err fault → Fails parts 7 methods_info fault
+methods_fail : (parts : List Lent) (fault : PackFault) → read_methods parts ≡ Err fault → PartFails parts 7 methods_info fault
 unfolding read_methods
 methods_fail parts fault h = methods_by parts fault (then_err (info_in parts 7) _ fault h)
 
-description_by : (parts : List Lent) (fault : PackFault) → IsRefused (info_in parts 11) (λ info. formed (reading (info_of 11) descriptor_info info) >>= λ items. answer {A = Description} (record { info = info; items = items })) fault → Fails parts 11 descriptor_info fault
+description_by : (parts : List Lent) (fault : PackFault) → IsRefused (info_in parts 11) (λ info. formed (reading (info_of 11) descriptor_info info) >>= λ items. answer {A = Description} (record { info = info; items = items })) fault → PartFails parts 11 descriptor_info fault
 description_by parts fault (by_first e) = info_fails parts 11 descriptor_info fault e
 description_by parts fault (by_next info e h) = items_by (then_err (formed (reading (info_of 11) descriptor_info info)) (λ items. answer {A = Description} (record { info = info; items = items })) fault h)
   where
-    items_by : IsRefused (formed (reading (info_of 11) descriptor_info info)) (λ items. answer {A = Description} (record { info = info; items = items })) fault → Fails parts 11 descriptor_info fault
+    items_by : IsRefused (formed (reading (info_of 11) descriptor_info info)) (λ items. answer {A = Description} (record { info = info; items = items })) fault → PartFails parts 11 descriptor_info fault
     items_by (by_first k) = items_fail parts 11 descriptor_info fault info e k
     items_by (by_next items k l) = no_answer {A = Description} (record { info = info; items = items }) fault l
 
-description_fails : (parts : List Lent) (fault : PackFault) → read_description parts ≡ Err fault → Fails parts 11 descriptor_info fault
+description_fails : (parts : List Lent) (fault : PackFault) → read_description parts ≡ Err fault → PartFails parts 11 descriptor_info fault
 unfolding read_description
 description_fails parts fault h = description_by parts fault (then_err (info_in parts 11) _ fault h)
 
 -- a part that may be absent is refused only where it is there and breaks its format
-some_fails : {X : Type 0} (parts : List Lent) (tag : ℕ) (g : Grammar X) (fault : PackFault) (file : List ℕ) → held parts tag ≡ Some file → Fails parts tag g fault → (form : FormFault) × (fault ≡ Form form) × IsBroken parts tag g form
+some_fails : {X : Type 0} (parts : List Lent) (tag : ℕ) (g : Grammar X) (fault : PackFault) (file : List ℕ) → held parts tag ≡ Some file → PartFails parts tag g fault → (form : FormFault) × (fault ≡ Form form) × IsBroken parts tag g form
 some_fails parts tag g fault file e (absent none same) = absurd (let both : None ≡ Some file = sym none ∙ e in cc)
 some_fails parts tag g fault file e (broken form same b) = (form, same, b)
 
@@ -320,7 +320,7 @@ part_step : {X B : Type 0} (parts : List Lent) (tag : ℕ) (g : Grammar X) (faul
 part_step parts tag g fault next others (by_first e) known = inl (part_fails parts tag g fault e)
 part_step parts tag g fault next others (by_next x e h) known = inr ((x, part_says parts tag g x e), known x h)
 
-header_step : {B : Type 0} (parts : List Lent) (fault : PackFault) (next : HeaderItems → Result B PackFault) → IsRefused (read_part header_info 1 parts) next fault → ((x : HeaderItems) → next x ≡ Err fault → IsFirstAfter x.format parts fault) → IsFirstFailing parts fault
+header_step : {B : Type 0} (parts : List Lent) (fault : PackFault) (next : HeaderItems → Result B PackFault) → IsRefused (read_part header_info 1 parts) next fault → ((x : HeaderItems) → next x ≡ Err fault → IsFirstAfter x.format parts fault) → IsFirstFailingPart parts fault
 header_step parts fault next (by_first e) known = inl (part_fails parts 1 header_info fault e)
 header_step parts fault next (by_next x e h) known = inr (x, part_says parts 1 header_info x e, known x h)
 
@@ -332,7 +332,7 @@ methods_step : {B : Type 0} (parts : List Lent) (fault : PackFault) (next : Meth
 methods_step parts fault next others (by_first e) known = inl (methods_fail parts fault e)
 methods_step parts fault next others (by_next m e h) known = inr ((m.handlers, (m.info, methods_say parts m e)), known m h)
 
-last_step : {B : Type 0} (parts : List Lent) (fault : PackFault) (next : Description → B) → IsRefused (read_description parts) (λ d. answer (next d)) fault → Fails parts 11 descriptor_info fault
+last_step : {B : Type 0} (parts : List Lent) (fault : PackFault) (next : Description → B) → IsRefused (read_description parts) (λ d. answer (next d)) fault → PartFails parts 11 descriptor_info fault
 last_step parts fault next (by_first e) = description_fails parts fault e
 last_step parts fault next (by_next d e h) = no_answer (next d) fault h
 
@@ -351,13 +351,13 @@ after_fails parts header fault h1 =
     last_step parts fault _ (then_err _ _ fault h10))))))))))
 
 -- of parts that are refused the first component by tag fails so
-pub read-fails : (parts : List Lent) (fault : PackFault) → read_package parts ≡ Err fault → IsFirstFailing parts fault
+pub read-fails : (parts : List Lent) (fault : PackFault) → read_package parts ≡ Err fault → IsFirstFailingPart parts fault
 unfolding read_package
 read-fails parts fault h = header_step parts fault (read_after parts) (then_err _ _ fault h) (λ header k. after_fails parts header fault k)
 
 -- ---- what fails is refused
 
-part_refused : {X : Type 0} (parts : List Lent) (tag : ℕ) (g : Grammar X) (fault : PackFault) → Fails parts tag g fault → read_part g tag parts ≡ Err fault
+part_refused : {X : Type 0} (parts : List Lent) (tag : ℕ) (g : Grammar X) (fault : PackFault) → PartFails parts tag g fault → read_part g tag parts ≡ Err fault
 unfolding read_part info_in
 part_refused parts tag g fault (absent none same) = rw none (ap Err (sym same))
 part_refused parts tag g fault (broken form same (in_file file e b)) = rw (e, refused_where (file_of tag) (component tag) file form b) (ap Err (sym same))
@@ -374,14 +374,14 @@ held_refused parts tag g fault form same b =
     let file = broken_there parts tag g form b in
     rw (file.1, part_refused parts tag g fault (broken form same b)) refl
 
-methods_refused : (parts : List Lent) (fault : PackFault) → Fails parts 7 methods_info fault → read_methods parts ≡ Err fault
+methods_refused : (parts : List Lent) (fault : PackFault) → PartFails parts 7 methods_info fault → read_methods parts ≡ Err fault
 unfolding read_methods info_in
 methods_refused parts fault (absent none same) = rw none (ap Err (sym same))
 methods_refused parts fault (broken form same (in_file file e b)) = rw (e, refused_where (file_of 7) (component 7) file form b) (ap Err (sym same))
 methods_refused parts fault (broken form same (in_info file info e s b)) =
     rw (e, reading_where (file_of 7) (component 7) file info s, refused_where (info_of 7) methods_info info form b) (ap Err (sym same))
 
-description_refused : (parts : List Lent) (fault : PackFault) → Fails parts 11 descriptor_info fault → read_description parts ≡ Err fault
+description_refused : (parts : List Lent) (fault : PackFault) → PartFails parts 11 descriptor_info fault → read_description parts ≡ Err fault
 unfolding read_description info_in
 description_refused parts fault (absent none same) = rw none (ap Err (sym same))
 description_refused parts fault (broken form same (in_file file e b)) = rw (e, refused_where (file_of 11) (component 11) file form b) (ap Err (sym same))
@@ -392,7 +392,7 @@ part_back : {X B : Type 0} (parts : List Lent) (tag : ℕ) (g : Grammar X) (faul
 part_back parts tag g fault next others (inl f) known = rw (part_refused parts tag g fault f) refl
 part_back parts tag g fault next others (inr h) known = rw (part_read parts tag g h.0.0 h.0.1) (known h.0.0 h.1)
 
-header_back : {B : Type 0} (parts : List Lent) (fault : PackFault) (next : HeaderItems → Result B PackFault) → IsFirstFailing parts fault → ((x : HeaderItems) → IsFirstAfter x.format parts fault → next x ≡ Err fault) → (read_part header_info 1 parts >>= next) ≡ Err fault
+header_back : {B : Type 0} (parts : List Lent) (fault : PackFault) (next : HeaderItems → Result B PackFault) → IsFirstFailingPart parts fault → ((x : HeaderItems) → IsFirstAfter x.format parts fault → next x ≡ Err fault) → (read_part header_info 1 parts >>= next) ≡ Err fault
 header_back parts fault next (inl f) known = rw (part_refused parts 1 header_info fault f) refl
 header_back parts fault next (inr h) known = rw (part_read parts 1 header_info h.0 h.1) (known h.0 h.2)
 
@@ -406,7 +406,7 @@ methods_back parts fault next others (inr h) known =
     let m : Methods = record { info = h.0.1.0; handlers = h.0.0 } in
     rw (methods_read parts m h.0.1.1) (known m h.1)
 
-last_back : {B : Type 0} (parts : List Lent) (fault : PackFault) (next : Description → Result B PackFault) → Fails parts 11 descriptor_info fault → (read_description parts >>= next) ≡ Err fault
+last_back : {B : Type 0} (parts : List Lent) (fault : PackFault) (next : Description → Result B PackFault) → PartFails parts 11 descriptor_info fault → (read_description parts >>= next) ≡ Err fault
 last_back parts fault next f = rw (description_refused parts fault f) refl
 
 after_refused : (parts : List Lent) (header : HeaderItems) (fault : PackFault) → IsFirstAfter header.format parts fault → read_after parts header ≡ Err fault
@@ -424,7 +424,7 @@ after_refused parts header fault h1 =
     last_back parts fault _ h10)))))))))
 
 -- parts of which a component fails are refused so
-pub fails-read : (parts : List Lent) (fault : PackFault) → IsFirstFailing parts fault → read_package parts ≡ Err fault
+pub fails-read : (parts : List Lent) (fault : PackFault) → IsFirstFailingPart parts fault → read_package parts ≡ Err fault
 unfolding read_package
 fails-read parts fault h = header_back parts fault (read_after parts) h (λ header k. after_refused parts header fault k)
 

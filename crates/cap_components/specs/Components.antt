@@ -17,9 +17,9 @@ use Rattle.cap_components.specs.Parts.{Lent, held}
 use Rattle.cap_components.specs.Descriptions.{Description}
 
 -- what a function returned, seen by a view, is this answer
-abbrev pub Answers : {R X : Type 0} → (R → X) → Result R PackFault → Result X PackFault → Type 0
-Answers view (Ok r) answer = answer ≡ Ok (view r)
-Answers view (Err fault) answer = answer ≡ Err fault
+abbrev pub AnswersAs : {R X : Type 0} → (R → X) → Result R PackFault → Result X PackFault → Type 0
+AnswersAs view (Ok r) answer = answer ≡ Ok (view r)
+AnswersAs view (Err fault) answer = answer ≡ Err fault
 
 abbrev pub formed : {X : Type 0} → Result X FormFault → Result X PackFault
 formed (Ok x) = Ok x

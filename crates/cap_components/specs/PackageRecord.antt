@@ -11,7 +11,7 @@ use Rattle.cap_pool.specs.LocationFormat.{LocationItems}
 use Rattle.cap_class.specs.ClassFormat.{Class, is_interface}
 use Rattle.cap_method.specs.StaticFormat.{Statics, Array}
 use Rattle.cap_method.specs.declared.handler.HandlerInfo.{HandlerInfo}
-use Rattle.cap_desc.specs.DescriptorFormat.{Method, Field}
+use Rattle.cap_desc.specs.DescriptorFormat.{MethodDescriptor, FieldDescriptor}
 use Rattle.cap_desc.specs.Members.{methods_in, methods_but, fields_of}
 use Rattle.cap_components.specs.MethodPlaces.{code_start}
 use Rattle.cap_components.specs.Parts.{Lent}
@@ -52,21 +52,21 @@ names_interface classes reference = list_any (λ (c : Class). c.offset == refere
 
 -- the methods that the Descriptor describes with a place in the Method component: those of classes. A method is one of a
 -- class unless the reference of its class names an interface, also where it names no record.
-abbrev pub described_methods : PackageRecord → List Method
+abbrev pub described_methods : PackageRecord → List MethodDescriptor
 described_methods p = methods_but (names_interface p.classes) p.description.items.classes
 
 -- the methods of interfaces
-abbrev pub interface_methods : PackageRecord → List Method
+abbrev pub interface_methods : PackageRecord → List MethodDescriptor
 interface_methods p = methods_in (names_interface p.classes) p.description.items.classes
 
 -- the fields that it describes
-abbrev pub fields : PackageRecord → List Field
+abbrev pub fields : PackageRecord → List FieldDescriptor
 fields p = fields_of p.description.items.classes
 
 -- a method's code
-abbrev pub code_of : PackageRecord → Method → List ℕ
+abbrev pub code_of : PackageRecord → MethodDescriptor → List ℕ
 code_of p m = take m.bytecode_count (drop (code_start p.methods.info m) p.methods.info)
 
 -- the handlers of a method
-abbrev pub handlers_of : PackageRecord → Method → List HandlerInfo
+abbrev pub handlers_of : PackageRecord → MethodDescriptor → List HandlerInfo
 handlers_of p m = take m.handler_count (drop m.handler_index p.methods.handlers)

@@ -67,13 +67,13 @@ pub data IsBroken {X : Type 0} (parts : List Lent) (tag : ℕ) (g : Grammar X) (
       → IsBroken parts tag g form
 
 -- the part with this tag is absent, or it breaks its format
-pub data Fails {X : Type 0} (parts : List Lent) (tag : ℕ) (g : Grammar X) (fault : PackFault) : Type 0 where
-  absent : held parts tag ≡ None → fault ≡ MissingPart tag → Fails parts tag g fault
-  broken : (form : FormFault) → fault ≡ Form form → IsBroken parts tag g form → Fails parts tag g fault
+pub data PartFails {X : Type 0} (parts : List Lent) (tag : ℕ) (g : Grammar X) (fault : PackFault) : Type 0 where
+  absent : held parts tag ≡ None → fault ≡ MissingPart tag → PartFails parts tag g fault
+  broken : (form : FormFault) → fault ≡ Form form → IsBroken parts tag g form → PartFails parts tag g fault
 
 -- a part that every package has fails, or it says something and others fail
 abbrev pub FailsOr : {X : Type 0} → List Lent → ℕ → Grammar X → PackFault → Type 0 → Type 0
-FailsOr parts tag g fault others = Fails parts tag g fault ⊎ (((items : _) × Says parts tag g items) × others)
+FailsOr parts tag g fault others = PartFails parts tag g fault ⊎ (((items : _) × Says parts tag g items) × others)
 
 -- a part that may be absent breaks its format, or it says something, or is absent, and others fail
 abbrev pub BreaksOr : {X : Type 0} → List Lent → ℕ → Grammar X → PackFault → Type 0 → Type 0
@@ -92,10 +92,10 @@ IsFirstAfter format parts fault =
     (FailsOr parts 8 statics_info fault
     (FailsOr parts 9 locations_info fault
     (BreaksOr parts 10 export_info fault
-    (Fails parts 11 descriptor_info fault)))))))))
+    (PartFails parts 11 descriptor_info fault)))))))))
 
 -- the first component by tag that fails: the Header, or the first of the others in the format that it names
-abbrev pub IsFirstFailing : List Lent → PackFault → Type 0
-IsFirstFailing parts fault =
-    Fails parts 1 header_info fault
+abbrev pub IsFirstFailingPart : List Lent → PackFault → Type 0
+IsFirstFailingPart parts fault =
+    PartFails parts 1 header_info fault
     ⊎ ((header : HeaderItems) × Says parts 1 header_info header × IsFirstAfter header.format parts fault)

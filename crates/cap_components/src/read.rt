@@ -19,7 +19,7 @@ ghost use Rattle.cap_class.specs.ClassFormat.{classes_info};
 ghost use Rattle.cap_method.specs.StaticPart.{statics_seen};
 ghost use Rattle.cap_method.specs.StaticFormat.{statics_info};
 ghost use Rattle.cap_components.specs.Descriptions.{description};
-ghost use Rattle.cap_components.specs.Components.{Answers, info_in, read_part, read_if_held, read_methods, read_description};
+ghost use Rattle.cap_components.specs.Components.{AnswersAs, info_in, read_part, read_if_held, read_methods, read_description};
 ghost use Rattle.cap_components.specs.MethodsSeen.{methods_seen};
 ghost use Rattle.cap_components.specs.IfThere.{seen_if};
 ghost use Rattle.cap_components.specs.Openings.{GivesOpening};
@@ -37,7 +37,7 @@ use cap_pool::{Export, Locations, Pool, export, locations, pool};
 /// The info of the component with a tag.
 #[tactic(auto, using(crate::proofs::Infos::read_or_refused), unfolding(crate::specs::Components::info_in))]
 pub fn info_in<'a>(parts: &Parts<'a>, tag: u8) -> Result<View<'a>, PackFault>
-    ensures value { Answers info_bytes result (info_in parts.now tag) }
+    ensures value { AnswersAs info_bytes result (info_in parts.now tag) }
     ensures few { IfOk result (λ info. length info.bytes.now ≤ 65535) }
 {
     match parts.get(Part(tag)) {
@@ -49,7 +49,7 @@ pub fn info_in<'a>(parts: &Parts<'a>, tag: u8) -> Result<View<'a>, PackFault>
 /// The Header component.
 #[tactic(auto, using(crate::proofs::Infos::read_or_refused), unfolding(crate::specs::Components::read_part))]
 pub fn header_in<'a>(parts: &Parts<'a>) -> Result<Header<'a>, PackFault>
-    ensures value { Answers header_items result (read_part header_info 1 parts.now) }
+    ensures value { AnswersAs header_items result (read_part header_info 1 parts.now) }
     ensures info { IfOk result (λ x. info_in parts.now 1 ≡ Ok x.info.bytes.now) }
 {
     let info = info_in(parts, 1)?;
@@ -59,7 +59,7 @@ pub fn header_in<'a>(parts: &Parts<'a>) -> Result<Header<'a>, PackFault>
 /// The Directory component in a format.
 #[tactic(auto, using(crate::proofs::Infos::read_or_refused), unfolding(crate::specs::Components::read_part))]
 pub fn directory_in<'a>(parts: &Parts<'a>, format: Format) -> Result<Directory<'a>, PackFault>
-    ensures value { Answers directory_items result (read_part (directory_info format) 2 parts.now) }
+    ensures value { AnswersAs directory_items result (read_part (directory_info format) 2 parts.now) }
     ensures info { IfOk result (λ x. info_in parts.now 2 ≡ Ok x.info.bytes.now) }
 {
     let info = info_in(parts, 2)?;
@@ -79,7 +79,7 @@ pub fn opening_in<'a>(parts: &Parts<'a>) -> Result<Opening<'a>, PackFault>
 /// The Import component.
 #[tactic(auto, using(crate::proofs::Infos::read_or_refused), unfolding(crate::specs::Components::read_part))]
 pub fn imports_in<'a>(parts: &Parts<'a>) -> Result<Imports<'a>, PackFault>
-    ensures value { Answers packages result (read_part imports_info 4 parts.now) }
+    ensures value { AnswersAs packages result (read_part imports_info 4 parts.now) }
     ensures info { IfOk result (λ x. info_in parts.now 4 ≡ Ok x.info.bytes.now) }
 {
     let info = info_in(parts, 4)?;
@@ -89,7 +89,7 @@ pub fn imports_in<'a>(parts: &Parts<'a>) -> Result<Imports<'a>, PackFault>
 /// The ConstantPool component.
 #[tactic(auto, using(crate::proofs::Infos::read_or_refused), unfolding(crate::specs::Components::read_part))]
 pub fn pool_in<'a>(parts: &Parts<'a>) -> Result<Pool<'a>, PackFault>
-    ensures value { Answers entries result (read_part pool_info 5 parts.now) }
+    ensures value { AnswersAs entries result (read_part pool_info 5 parts.now) }
     ensures info { IfOk result (λ x. info_in parts.now 5 ≡ Ok x.info.bytes.now) }
 {
     let info = info_in(parts, 5)?;
@@ -99,7 +99,7 @@ pub fn pool_in<'a>(parts: &Parts<'a>) -> Result<Pool<'a>, PackFault>
 /// The Class component in a format.
 #[tactic(auto, using(crate::proofs::Infos::read_or_refused), unfolding(crate::specs::Components::read_part))]
 pub fn classes_in<'a>(parts: &Parts<'a>, format: Format) -> Result<ClassPart<'a>, PackFault>
-    ensures value { Answers records result (read_part (classes_info format) 6 parts.now) }
+    ensures value { AnswersAs records result (read_part (classes_info format) 6 parts.now) }
     ensures info { IfOk result (λ x. info_in parts.now 6 ≡ Ok x.info.bytes.now) }
 {
     let info = info_in(parts, 6)?;
@@ -109,7 +109,7 @@ pub fn classes_in<'a>(parts: &Parts<'a>, format: Format) -> Result<ClassPart<'a>
 /// The StaticField component.
 #[tactic(auto, using(crate::proofs::Infos::read_or_refused), unfolding(crate::specs::Components::read_part))]
 pub fn statics_in<'a>(parts: &Parts<'a>) -> Result<StaticPart<'a>, PackFault>
-    ensures value { Answers statics_seen result (read_part statics_info 8 parts.now) }
+    ensures value { AnswersAs statics_seen result (read_part statics_info 8 parts.now) }
     ensures info { IfOk result (λ x. info_in parts.now 8 ≡ Ok x.info.bytes.now) }
 {
     let info = info_in(parts, 8)?;
@@ -119,7 +119,7 @@ pub fn statics_in<'a>(parts: &Parts<'a>) -> Result<StaticPart<'a>, PackFault>
 /// The ReferenceLocation component.
 #[tactic(auto, using(crate::proofs::Infos::read_or_refused), unfolding(crate::specs::Components::read_part))]
 pub fn locations_in<'a>(parts: &Parts<'a>) -> Result<Locations<'a>, PackFault>
-    ensures value { Answers location_items result (read_part locations_info 9 parts.now) }
+    ensures value { AnswersAs location_items result (read_part locations_info 9 parts.now) }
     ensures info { IfOk result (λ x. info_in parts.now 9 ≡ Ok x.info.bytes.now) }
 {
     let info = info_in(parts, 9)?;
@@ -129,7 +129,7 @@ pub fn locations_in<'a>(parts: &Parts<'a>) -> Result<Locations<'a>, PackFault>
 /// The Method component.
 #[tactic(auto, using(crate::proofs::Infos::read_or_refused), unfolding(crate::specs::Components::read_methods))]
 pub fn methods_in<'a>(parts: &Parts<'a>) -> Result<MethodPart<'a>, PackFault>
-    ensures { Answers methods_seen result (read_methods parts.now) }
+    ensures { AnswersAs methods_seen result (read_methods parts.now) }
 {
     let info = info_in(parts, 7)?;
     Ok(cap_method::methods(info)?)
@@ -138,7 +138,7 @@ pub fn methods_in<'a>(parts: &Parts<'a>) -> Result<MethodPart<'a>, PackFault>
 /// The Descriptor component.
 #[tactic(auto, using(crate::proofs::Infos::read_or_refused), unfolding(crate::specs::Components::read_description))]
 pub fn descriptor_in<'a>(parts: &Parts<'a>) -> Result<DescPart<'a>, PackFault>
-    ensures { Answers description result (read_description parts.now) }
+    ensures { AnswersAs description result (read_description parts.now) }
 {
     let info = info_in(parts, 11)?;
     Ok(cap_desc::descriptor(info)?)
@@ -147,7 +147,7 @@ pub fn descriptor_in<'a>(parts: &Parts<'a>) -> Result<DescPart<'a>, PackFault>
 /// The Applet component.
 #[tactic(auto, using(crate::proofs::Infos::read_or_refused), unfolding(crate::specs::Components::read_part))]
 fn held_applets<'a>(parts: &Parts<'a>) -> Result<Applets<'a>, PackFault>
-    ensures value { Answers applets_of result (read_part applets_info 3 parts.now) }
+    ensures value { AnswersAs applets_of result (read_part applets_info 3 parts.now) }
     ensures info { IfOk result (λ x. info_in parts.now 3 ≡ Ok x.info.bytes.now) }
 {
     let info = info_in(parts, 3)?;
@@ -157,7 +157,7 @@ fn held_applets<'a>(parts: &Parts<'a>) -> Result<Applets<'a>, PackFault>
 /// The Applet component, where it is there.
 #[tactic(auto, unfolding(crate::specs::Components::read_if_held))]
 pub fn applets_in<'a>(parts: &Parts<'a>) -> Result<Option<Applets<'a>>, PackFault>
-    ensures value { Answers (seen_if applets_of) result (read_if_held applets_info 3 parts.now) }
+    ensures value { AnswersAs (seen_if applets_of) result (read_if_held applets_info 3 parts.now) }
     ensures info { IfOk result (λ o. IfSome o (λ x. info_in parts.now 3 ≡ Ok x.info.bytes.now)) }
 {
     if parts.get(Part(3)).is_none() {
@@ -169,7 +169,7 @@ pub fn applets_in<'a>(parts: &Parts<'a>) -> Result<Option<Applets<'a>>, PackFaul
 /// The Export component.
 #[tactic(auto, using(crate::proofs::Infos::read_or_refused), unfolding(crate::specs::Components::read_part))]
 fn held_export<'a>(parts: &Parts<'a>) -> Result<Export<'a>, PackFault>
-    ensures value { Answers exported result (read_part export_info 10 parts.now) }
+    ensures value { AnswersAs exported result (read_part export_info 10 parts.now) }
     ensures info { IfOk result (λ x. info_in parts.now 10 ≡ Ok x.info.bytes.now) }
 {
     let info = info_in(parts, 10)?;
@@ -179,7 +179,7 @@ fn held_export<'a>(parts: &Parts<'a>) -> Result<Export<'a>, PackFault>
 /// The Export component, where it is there.
 #[tactic(auto, unfolding(crate::specs::Components::read_if_held))]
 pub fn export_in<'a>(parts: &Parts<'a>) -> Result<Option<Export<'a>>, PackFault>
-    ensures value { Answers (seen_if exported) result (read_if_held export_info 10 parts.now) }
+    ensures value { AnswersAs (seen_if exported) result (read_if_held export_info 10 parts.now) }
     ensures info { IfOk result (λ o. IfSome o (λ x. info_in parts.now 10 ≡ Ok x.info.bytes.now)) }
 {
     if parts.get(Part(10)).is_none() {

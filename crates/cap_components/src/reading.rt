@@ -1,7 +1,7 @@
 ghost use Rattle.std.specs.Prelude.{◌≡◌, IfOk};
 ghost use Rattle.offset_set.specs.Bits.{holds};
 ghost use Rattle.cap_class.specs.ClassPart.{records};
-ghost use Rattle.cap_components.specs.Components.{Answers};
+ghost use Rattle.cap_components.specs.Components.{AnswersAs};
 ghost use Rattle.cap_components.specs.ComponentsSeen.{components_seen};
 ghost use Rattle.cap_components.specs.Infos.{HaveInfos};
 ghost use Rattle.cap_components.specs.Openings.{IsOpening, GivesOpening};
@@ -22,7 +22,7 @@ use offset_set::Offsets;
 
 /// The components of a package, in the order of their tags.
 pub fn read_package<'p, 'a>(parts: &'p Parts<'a>) -> Result<Components<'p, 'a>, PackFault>
-    ensures value { Answers components_seen result (read_package parts.now) }
+    ensures value { AnswersAs components_seen result (read_package parts.now) }
     ensures parts { IfOk result (λ all. all.parts.now ≡ parts.now) }
     ensures infos { IfOk result (λ all. HaveInfos all) }
 {
@@ -37,7 +37,7 @@ pub fn read_whole_opened<'p, 'a>(
     opening: Result<Opening<'a>, PackFault>,
 ) -> Result<Components<'p, 'a>, PackFault>
     requires { GivesOpening parts.now opening }
-    ensures value { Answers components_seen result (read_whole parts.now) }
+    ensures value { AnswersAs components_seen result (read_whole parts.now) }
     ensures parts { IfOk result (λ all. all.parts.now ≡ parts.now) }
     ensures infos { IfOk result (λ all. HaveInfos all) }
 {
@@ -52,7 +52,7 @@ fn read_opened<'p, 'a>(
     opening: Result<Opening<'a>, PackFault>,
 ) -> Result<Components<'p, 'a>, PackFault>
     requires { GivesOpening parts.now opening }
-    ensures value { Answers components_seen result (read_package parts.now) }
+    ensures value { AnswersAs components_seen result (read_package parts.now) }
     ensures parts { IfOk result (λ all. all.parts.now ≡ parts.now) }
     ensures infos { IfOk result (λ all. HaveInfos all) }
 {
@@ -69,7 +69,7 @@ fn read_after<'p, 'a>(
     opening: Opening<'a>,
 ) -> Result<Components<'p, 'a>, PackFault>
     requires { IsOpening parts.now opening }
-    ensures value { Answers components_seen result (read_package parts.now) }
+    ensures value { AnswersAs components_seen result (read_package parts.now) }
     ensures parts { IfOk result (λ all. all.parts.now ≡ parts.now) }
     ensures infos { IfOk result (λ all. HaveInfos all) }
 {

@@ -8,7 +8,7 @@ use Rattle.cap_bytes.specs.declared.cursor.Cursor.{Cursor}
 use Rattle.cap_bytes.specs.Grammar.{Grammar, give, number, piece, ◌>>=◌, any, repeat}
 use Rattle.cap_bytes.specs.Spelling.{Origin, cut, info_of}
 use Rattle.cap_bytes.specs.Reading.{Reading, read, value_or}
-use Rattle.cap_bytes.specs.Taking.{next, Taken, Fails, Gives, gives, given}
+use Rattle.cap_bytes.specs.Taking.{next, Taken, TakingFails, Gives, gives, given}
 use Rattle.cap_bytes.specs.Spelling.{Spells, Breaks}
 use Rattle.cap_bytes.proofs.Laws.{read-spells, read-breaks}
 
@@ -81,7 +81,7 @@ taken-width m g otherwise part before after h t =
     let x = h.reach (info_of before.part) before.info.bytes.now before.at s.0 in
     (record { value = value_is (next g before) otherwise x.0 (before.at + m) after.at x.1 s.2; info = t.info; part = t.part }, rw x.1 refl)
 
-pub fails-width : {X : Type 0} (m : ℕ) (g : Grammar X) (before : Cursor) (fault : FormFault) → HasWidth m g → Fails (piece m) before fault → Fails g before fault
+pub fails-width : {X : Type 0} (m : ℕ) (g : Grammar X) (before : Cursor) (fault : FormFault) → HasWidth m g → TakingFails (piece m) before fault → TakingFails g before fault
 unfolding Breaks
 fails-width m g before fault h f =
     let b = read-breaks (info_of before.part) (piece m) before.info.bytes.now before.at fault f.answer in

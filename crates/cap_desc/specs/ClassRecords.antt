@@ -5,10 +5,10 @@ use Rattle.cap_bytes.specs.Table.{numbers}
 use Rattle.cap_bytes.specs.Taking.{given}
 use Rattle.cap_desc.specs.declared.class.DescClass.{DescClass}
 use Rattle.cap_desc.specs.declared.lists.DescClasses.{DescClasses}
-use Rattle.cap_desc.specs.DescriptorFormat.{Class, class_descriptor_info}
+use Rattle.cap_desc.specs.DescriptorFormat.{ClassDescriptor, class_descriptor_info}
 use Rattle.cap_desc.specs.MemberLists.{fields_left, methods_left}
 
-abbrev pub described_class_seen : DescClass → Class
+abbrev pub described_class_seen : DescClass → ClassDescriptor
 described_class_seen c = record {
   token = c.token;
   class_ref = c.class_ref;
@@ -17,5 +17,5 @@ described_class_seen c = record {
   methods = methods_left c.methods;
 }
 
-abbrev pub described_left : DescClasses → List Class
+abbrev pub described_left : DescClasses → List ClassDescriptor
 described_left x = given [] (repeat x.left class_descriptor_info) x.items

@@ -5,14 +5,14 @@ use Rattle.std.specs.Int.RustNames.{bit_and}
 use Rattle.cap_bytes.specs.Grammar.{Grammar, u1, u2, piece, repeat, table, counted, place, give, ◌>>=◌}
 
 -- a field_descriptor_info: bytes are the three of its field_ref, ty its type
-pub record Field : Type 0 where
+pub record FieldDescriptor : Type 0 where
   pub token : ℕ
   pub flags : ℕ
   pub bytes : List ℕ
   pub ty : ℕ
 
 -- a method_descriptor_info
-pub record Method : Type 0 where
+pub record MethodDescriptor : Type 0 where
   pub token : ℕ
   pub flags : ℕ
   pub method_offset : ℕ
@@ -22,17 +22,17 @@ pub record Method : Type 0 where
   pub handler_index : ℕ
 
 -- a class_descriptor_info
-pub record Class : Type 0 where
+pub record ClassDescriptor : Type 0 where
   pub token : ℕ
   pub class_ref : ℕ
   pub interfaces : List ℕ
-  pub fields : List Field
-  pub methods : List Method
+  pub fields : List FieldDescriptor
+  pub methods : List MethodDescriptor
 
 -- the component: types_start is the offset of constant_pool_count, from which the offsets of type
 -- descriptors count
 pub record Descriptor : Type 0 where
-  pub classes : List Class
+  pub classes : List ClassDescriptor
   pub types_start : ℕ
   pub pool_types : List ℕ
 
@@ -44,7 +44,7 @@ field_flags byte = bit_and byte 0x1F
 abbrev pub method_flags : ℕ → ℕ
 method_flags byte = bit_and byte 0xDF
 
-abbrev pub field_descriptor_info : Grammar Field
+abbrev pub field_descriptor_info : Grammar FieldDescriptor
 field_descriptor_info = do
   token ← u1
   flags ← u1
@@ -52,7 +52,7 @@ field_descriptor_info = do
   ty ← u2
   give (record { token = token; flags = field_flags flags; bytes = bytes; ty = ty })
 
-abbrev pub method_descriptor_info : Grammar Method
+abbrev pub method_descriptor_info : Grammar MethodDescriptor
 method_descriptor_info = do
   token ← u1
   flags ← u1
@@ -72,7 +72,7 @@ method_descriptor_info = do
   })
 
 -- the flags of a class are unread: its record in the Class component tells whether it is an interface
-abbrev pub class_descriptor_info : Grammar Class
+abbrev pub class_descriptor_info : Grammar ClassDescriptor
 class_descriptor_info = do
   token ← u1
   flags ← u1

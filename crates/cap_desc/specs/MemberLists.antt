@@ -4,10 +4,10 @@ use Rattle.cap_bytes.specs.Grammar.{repeat}
 use Rattle.cap_bytes.specs.Taking.{given}
 use Rattle.cap_desc.specs.declared.lists.DescFields.{DescFields}
 use Rattle.cap_desc.specs.declared.lists.DescMethods.{DescMethods}
-use Rattle.cap_desc.specs.DescriptorFormat.{Field, Method, field_descriptor_info, method_descriptor_info}
+use Rattle.cap_desc.specs.DescriptorFormat.{FieldDescriptor, MethodDescriptor, field_descriptor_info, method_descriptor_info}
 
-abbrev pub fields_left : DescFields → List Field
+abbrev pub fields_left : DescFields → List FieldDescriptor
 fields_left x = given [] (repeat x.left field_descriptor_info) x.items
 
-abbrev pub methods_left : DescMethods → List Method
+abbrev pub methods_left : DescMethods → List MethodDescriptor
 methods_left x = given [] (repeat x.left method_descriptor_info) x.items

@@ -1,12 +1,12 @@
 -- A field's and a method's descriptor as values of the program.
 use Rattle.cap_desc.specs.declared.records.FieldInfo.{FieldInfo}
 use Rattle.cap_desc.specs.declared.records.MethodInfo.{MethodInfo}
-use Rattle.cap_desc.specs.DescriptorFormat.{Field, Method}
+use Rattle.cap_desc.specs.DescriptorFormat.{FieldDescriptor, MethodDescriptor}
 
-abbrev pub field_seen : FieldInfo → Field
+abbrev pub field_seen : FieldInfo → FieldDescriptor
 field_seen f = record { token = f.token; flags = f.flags.0; bytes = f.bytes; ty = f.ty }
 
-abbrev pub method_seen : MethodInfo → Method
+abbrev pub method_seen : MethodInfo → MethodDescriptor
 method_seen m = record {
   token = m.token;
   flags = m.flags.0;

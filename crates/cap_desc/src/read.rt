@@ -2,7 +2,7 @@ ghost use Rattle.std.specs.Prelude.{◌≡◌, ◌≤◌, length, IfOk, IfErr};
 ghost use Rattle.cap_bytes.specs.Grammar.{repeat};
 ghost use Rattle.cap_bytes.specs.Exact.{IsExact};
 ghost use Rattle.cap_bytes.specs.Spelling.{info_of, Stands, Breaks};
-ghost use Rattle.cap_bytes.specs.Taking.{Takes, Passes, Reads};
+ghost use Rattle.cap_bytes.specs.Taking.{Takes, PassesOver, Reads};
 ghost use Rattle.cap_desc.specs.DescriptorFormat.{class_descriptor_info, descriptor_info};
 ghost use Rattle.cap_desc.specs.ClassRecords.{described_left};
 ghost use Rattle.cap_desc.specs.Descriptors.{descriptor_seen};
@@ -18,7 +18,7 @@ const DESCRIPTOR: u8 = 11;
 /// Passes over so many classes.
 #[tactic(auto, using(cap_bytes::proofs::Loops::passing))]
 fn pass_classes(items: &mut Cursor<'_>, count: u8) -> Result<(), FormFault>
-    ensures { Passes (repeat count class_descriptor_info) items.old result items.new }
+    ensures { PassesOver (repeat count class_descriptor_info) items.old result items.new }
 {
     'classes: for _ in 0..count {
         take::class_descriptor_info(items)?;

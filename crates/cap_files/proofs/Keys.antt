@@ -14,7 +14,7 @@ use Rattle.std.specs.Cmp.{eq_by_cmp_equiv, Equal-is}
 use Rattle.std.specs.Cmp.Lexicographic.{slice_cmp, nat_list_cmp_total}
 use Rattle.std.specs.FinMap as map
 use Rattle.std.specs.FinMap.Entries.{by_order}
-use Rattle.cap_files.specs.Room.{Room, size_of, taken, suffices}
+use Rattle.cap_files.specs.Room.{Room, size_of, bytes_taken, suffices}
 use Rattle.cap_files.specs.Records.{has_key, without}
 use Rattle.cap_files.specs.Distinct.{AreDistinct}
 
@@ -189,7 +189,7 @@ sum_none (r ∷ rs) e = absurd (omega arith)
 missing_entry : (k : List ℕ) (rs : List Held) → found k rs ≡ None → map.get (map.from_entries {R = order} rs) k ≡ None
 missing_entry k rs none = map.get-from_entries nat_list_cmp_total rs k ∙ none
 
-taken_is : (rs : List Held) → AreDistinct rs → taken (map.from_entries rs) ≡ sum_by size_of rs
+taken_is : (rs : List Held) → AreDistinct rs → bytes_taken (map.from_entries rs) ≡ sum_by size_of rs
 taken_is [] apart = sum_none (map.entries map.empty) (sym (map.len-entries map.empty) ∙ map.len-empty order (List ℕ))
 taken_is (r ∷ rs) apart =
     let m = map.from_entries {R = order} rs in
@@ -226,9 +226,9 @@ held_put k v rs apart =
     ap map.len (sym (map_put k v rs apart)) ∙ held_is _ (distinct_put k v rs apart) ∙ length-append rest ((k, v) ∷ []) ∙ omega arith
 
 pub taken_put : (k v : List ℕ) (rs : List Held) → AreDistinct rs
-    → taken (map.insert (map.from_entries rs) k v) ≡ sum_by size_of (without (position (has_key k) rs) rs) + size_of (k, v)
+    → bytes_taken (map.insert (map.from_entries rs) k v) ≡ sum_by size_of (without (position (has_key k) rs) rs) + size_of (k, v)
 taken_put k v rs apart =
-    ap taken (sym (map_put k v rs apart)) ∙ taken_is _ (distinct_put k v rs apart) ∙ sum_by_push size_of (without (position (has_key k) rs) rs) (k, v)
+    ap bytes_taken (sym (map_put k v rs apart)) ∙ taken_is _ (distinct_put k v rs apart) ∙ sum_by_push size_of (without (position (has_key k) rs) rs) (k, v)
 
 pub suffices_put : (k v : List ℕ) (rs : List Held) (room : Room) → AreDistinct rs
     → suffices room (map.insert (map.from_entries rs) k v)

@@ -9,8 +9,8 @@ abbrev pub no_calls : Counted
 no_calls = record { made = 0; faults = 0; failures = [] }
 
 -- one more call is to fail
-abbrev pub listed : Counted → ℕ → ℕ → Counted
-listed calls call keep = record calls { failures = calls.failures ++ record { call = call; keep = keep } ∷ [] }
+abbrev pub with_failure : Counted → ℕ → ℕ → Counted
+with_failure calls call keep = record calls { failures = calls.failures ++ record { call = call; keep = keep } ∷ [] }
 
 -- how many bytes a call keeps that is to fail, by the first failure that is listed with its number
 abbrev pub keep_at : ℕ → List Failure → Option ℕ
@@ -21,8 +21,8 @@ abbrev pub next_keep : Counted → Option ℕ
 next_keep calls = keep_at (one_more calls.made) calls.failures
 
 -- the counts after a call, and after a failure
-abbrev pub counted : Counted → Counted
-counted calls = record calls { made = one_more calls.made }
+abbrev pub one_more_call : Counted → Counted
+one_more_call calls = record calls { made = one_more calls.made }
 
 abbrev pub faulted : Counted → Counted
 faulted calls = record calls { faults = one_more calls.faults }

@@ -41,10 +41,10 @@ TakesAny bytes (Ok count) = (count ≤ length bytes) × (count ≡ 0 → length 
 TakesAny bytes (Err _) = Unit {0}
 
 -- what a call that opens a file to be read found: the file; none exactly where the error is that there is no such file; else a failure
-abbrev pub Finds : {F : Type 0} → Result F Error → Result (Option F) DiskFailed → Type 0
-Finds (Ok file) found = found ≡ Ok (Some file)
-Finds (Err error) (Ok found) = (found ≡ None) × (error_kind error ≡ NotFound)
-Finds (Err error) (Err failed) = error_kind error ≢ NotFound
+abbrev pub FindsFile : {F : Type 0} → Result F Error → Result (Option F) DiskFailed → Type 0
+FindsFile (Ok file) found = found ≡ Ok (Some file)
+FindsFile (Err error) (Ok found) = (found ≡ None) × (error_kind error ≡ NotFound)
+FindsFile (Err error) (Err failed) = error_kind error ≢ NotFound
 
 -- what an open file's handle tells
 abbrev pub of_open : {F : Type 0} → (F → Option (List ℕ)) → Option F → Option (List ℕ)

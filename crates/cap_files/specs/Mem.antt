@@ -6,7 +6,7 @@ use Rattle.cap_files.specs.declared.mem_folder.MemFolder.{MemFolder}
 use Rattle.cap_files.specs.declared.mem_sink.MemSink.{MemSink}
 use Rattle.cap_files.specs.Folder.{Folders}
 use Rattle.cap_files.specs.CallCounts.{Counted}
-use Rattle.cap_files.specs.Calls.{next_keep, counted, faulted, listed}
+use Rattle.cap_files.specs.Calls.{next_keep, one_more_call, faulted, with_failure}
 use Rattle.cap_files.specs.Shelf as shelf
 use Rattle.cap_files.specs.Tape as tape
 
@@ -16,7 +16,7 @@ is_due calls = is_some (next_keep calls)
 
 -- the counts after a call, and whether it failed
 abbrev pub called : Counted → Bool → Counted
-called calls failed = if failed then faulted (counted calls) else counted calls
+called calls failed = if failed then faulted (one_more_call calls) else one_more_call calls
 
 -- ---- folders
 -- a folder from outside: it always tells what it holds, and does not tell which loads failed
@@ -34,10 +34,10 @@ set folder key bytes = record folder { shelf = shelf.placed folder.shelf key byt
 
 -- the n-th load is to fail; the n-th store, after `keep` bytes
 abbrev pub load_listed : MemFolder → ℕ → MemFolder
-load_listed folder n = record folder { loads = listed folder.loads n 0 }
+load_listed folder n = record folder { loads = with_failure folder.loads n 0 }
 
 abbrev pub store_listed : MemFolder → ℕ → ℕ → MemFolder
-store_listed folder n keep = record folder { stores = listed folder.stores n keep }
+store_listed folder n keep = record folder { stores = with_failure folder.stores n keep }
 
 -- after a load
 abbrev pub loaded : MemFolder → MemFolder
@@ -51,8 +51,8 @@ FailsWhenDue calls (Err Memory) = IsTrue (not (is_due calls))
 FailsWhenDue calls (Err Failed) = IsTrue (is_due calls)
 
 -- whether a store succeeds
-abbrev pub is_stored : MemFolder → List ℕ → List ℕ → Bool
-is_stored folder key bytes = not (is_due folder.stores) && shelf.has_room folder.shelf key bytes
+abbrev pub store_succeeds : MemFolder → List ℕ → List ℕ → Bool
+store_succeeds folder key bytes = not (is_due folder.stores) && shelf.has_room folder.shelf key bytes
 
 -- the bytes that are kept, where so many are listed or none
 abbrev pub kept_of : Option ℕ → List ℕ → List ℕ
@@ -67,7 +67,7 @@ kept calls bytes = kept_of (next_keep calls) bytes
 abbrev pub stored : MemFolder → List ℕ → List ℕ → MemFolder
 stored folder key bytes = record folder {
   shelf = shelf.placed folder.shelf key (kept folder.stores bytes);
-  stores = called folder.stores (not (is_stored folder key bytes));
+  stores = called folder.stores (not (store_succeeds folder key bytes));
 }
 
 -- ---- a sink
@@ -81,7 +81,7 @@ faults_of sink = sink.puts.faults
 
 -- the n-th put is to fail after `keep` bytes
 abbrev pub put_listed : MemSink → ℕ → ℕ → MemSink
-put_listed sink n keep = record sink { puts = listed sink.puts n keep }
+put_listed sink n keep = record sink { puts = with_failure sink.puts n keep }
 
 -- whether a put succeeds
 abbrev pub is_put : MemSink → List ℕ → Bool

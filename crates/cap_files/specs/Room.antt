@@ -8,8 +8,8 @@ abbrev pub size_of : List ℕ × List ℕ → ℕ
 size_of (key, bytes) = length (drop 1 key) + length bytes
 
 -- how many bytes all parts take
-abbrev pub taken : Parts → ℕ
-taken parts = sum_by size_of (map.entries parts)
+abbrev pub bytes_taken : Parts → ℕ
+bytes_taken parts = sum_by size_of (map.entries parts)
 
 -- how many parts there may be, and how many bytes they may take
 pub record Room : Type 0 where
@@ -18,4 +18,4 @@ pub record Room : Type 0 where
 
 -- the room suffices for the parts
 abbrev pub suffices : Room → Parts → Bool
-suffices room parts = nat_le (map.len parts) room.parts && nat_le (taken parts) room.bytes
+suffices room parts = nat_le (map.len parts) room.parts && nat_le (bytes_taken parts) room.bytes

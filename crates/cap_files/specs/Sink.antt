@@ -3,13 +3,14 @@ use Rattle.std.specs.Prelude.{◌≡◌, ℕ, ◌≤◌, List, [], ◌++◌, len
 use Rattle.cap_files.specs.declared.sink.SinkFailed.{SinkFailed}
 
 -- the bytes were taken after those that were there. A device may cease to tell what it took, and never begins to
-abbrev pub Taken : Option (List ℕ) → List ℕ → Option (List ℕ) → Type 0
-Taken before bytes after = IfSome after (λ now. IsSomeAnd before (λ text. now ≡ text ++ bytes))
+abbrev pub TakesWhole : Option (List ℕ) → List ℕ → Option (List ℕ) → Type 0
+TakesWhole before bytes after = IfSome after (λ now. IsSomeAnd before (λ text. now ≡ text ++ bytes))
 
 -- some of the bytes were taken, the first ones, and none only where there are none; or after a failure none
 abbrev pub TakesSome : Option (List ℕ) → List ℕ → Option (List ℕ) → Result ℕ SinkFailed → Type 0
-TakesSome before bytes after (Ok count) = (count ≤ length bytes) × (count ≡ 0 → length bytes ≡ 0) × Taken before (take count bytes) after
-TakesSome before bytes after (Err _) = Taken before [] after
+TakesSome before bytes after (Ok count) =
+    (count ≤ length bytes) × (count ≡ 0 → length bytes ≡ 0) × TakesWhole before (take count bytes) after
+TakesSome before bytes after (Err _) = TakesWhole before [] after
 
 -- what was received after a put, by its answer: the piece after what was there, and after a failure the first bytes of the piece. A
 -- device may cease to tell what it received, and never begins to

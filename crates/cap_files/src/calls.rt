@@ -1,5 +1,5 @@
 ghost use Rattle.std.specs.Prelude.{◌≡◌, ◌≤◌, ◌++◌, ◌∷◌, [], length, nat_lt, IfOk, if◌then◌else◌};
-ghost use Rattle.cap_files.specs.Calls.{no_calls, next_keep, counted, faulted, listed, keep_at};
+ghost use Rattle.cap_files.specs.Calls.{no_calls, next_keep, one_more_call, faulted, with_failure, keep_at};
 
 use crate::count::raise;
 use std::alloc::{AllocError, Global};
@@ -50,7 +50,7 @@ impl Calls {
     /// Lists a call that is to fail, unless 32 are listed.
     pub(crate) fn fail(&mut self, call: u32, keep: u32) -> bool
         ensures room { result ≡ nat_lt (length self.old.failures) 32 }
-        ensures after { self.new ≡ (if result then listed self.old call keep else self.old) }
+        ensures after { self.new ≡ (if result then with_failure self.old call keep else self.old) }
     {
         if self.failures.len() >= MOST_FAILURES {
             return false;
@@ -62,7 +62,7 @@ impl Calls {
     /// Counts a call, and answers how many bytes it keeps if it is to fail.
     pub(crate) fn next(&mut self) -> Option<u32>
         ensures keep { result ≡ next_keep self.old }
-        ensures after { self.new ≡ counted self.old }
+        ensures after { self.new ≡ one_more_call self.old }
     {
         raise(&mut self.made);
         keep_of(&self.failures, self.made)

@@ -1,7 +1,7 @@
 ghost use Rattle.std.specs.Prelude.{◌≡◌, ◌≤◌, None, IfOk};
 ghost use Rattle.std.specs.Option.{option_map};
 ghost use Rattle.cap_files.specs.Counts.{one_more};
-ghost use Rattle.cap_files.specs.Disk.{Finds, of_open};
+ghost use Rattle.cap_files.specs.Disk.{FindsFile, of_open};
 
 use crate::count::raise;
 use crate::disk::{Disk, DiskFailed};
@@ -134,7 +134,7 @@ impl<'a, R: Files> Disk for FileSystem<'a, R> {
 // The file that was opened to be read, or none where there is no such file. Every other error is a
 // failure.
 fn found<F>(opened: io::Result<F>) -> Result<Option<F>, DiskFailed>
-    ensures { Finds opened result }
+    ensures { FindsFile opened result }
 {
     match opened {
         Ok(file) => Ok(Some(file)),

@@ -2,7 +2,7 @@ ghost use Rattle.std.specs.Prelude.{◌≡◌, length, nat_lt, is_ok, IfOk, if�
 ghost use Rattle.cap_files.specs.Calls.{no_calls};
 ghost use Rattle.cap_files.specs.Folder.{Loads, LoadLeaves, Stores, StoreCounts, key_of};
 ghost use Rattle.cap_files.specs.Shelf.{empty_shelf, has_room};
-ghost use Rattle.cap_files.specs.Mem.{folders_of, set, load_listed, store_listed, loaded, FailsWhenDue, is_stored, stored};
+ghost use Rattle.cap_files.specs.Mem.{folders_of, set, load_listed, store_listed, loaded, FailsWhenDue, store_succeeds, stored};
 
 use crate::calls::Calls;
 use crate::folder::{Folder, LoadEnd, StoreFailed};
@@ -89,7 +89,7 @@ impl Folder for MemFolder {
     fn store(&mut self, dir: &str, part: Part, bytes: &[u8]) -> Result<(), StoreFailed>
         ensures bytes { Stores (folders_of self.old).held (key_of part dir.now) bytes.now (folders_of self.new).held result }
         ensures counts { StoreCounts (folders_of self.old) (folders_of self.new) result }
-        ensures stored { is_ok result ≡ is_stored self.old (key_of part dir.now) bytes.now }
+        ensures stored { is_ok result ≡ store_succeeds self.old (key_of part dir.now) bytes.now }
         ensures after { self.new ≡ stored self.old (key_of part dir.now) bytes.now }
     {
         match self.stores.next() {

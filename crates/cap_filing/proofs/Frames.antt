@@ -8,7 +8,7 @@ use Rattle.cap_bytes.specs.declared.fault.FormKind.{FormKind}
 use Rattle.cap_bytes.specs.Grammar.{give, number, piece, finish, only, ◌>>=◌}
 use Rattle.cap_bytes.specs.Spelling.{Stands}
 use Rattle.cap_frame.specs.Frame.{other_tag, component}
-use Rattle.cap_writing.specs.Writing.{Writes}
+use Rattle.cap_writing.specs.Writing.{SpellsInPlace}
 use Rattle.cap_writing.proofs.Written.{writes_give, writes_number, writes_piece, writes_finish, writes_then, writes_stands}
 use Rattle.cap_filing.specs.Files.{file_bytes}
 
@@ -42,12 +42,12 @@ file_stands tag info t s =
     let fits : head < 256 ^ 3 = omega arith in
     let high : head / 65536 ≡ tag = omega arith in
     let low : n ≡ head % 65536 = omega arith in
-    let first : Writes total (number 3 (other_tag tag)) 0 (big_bytes 3 head) head = writes_number total 3 head 0 (other_tag tag) fits (only_this tag (head / 65536) _ high) in
-    let second : Writes total (piece (head % 65536)) 3 info info = writes_piece total (head % 65536) 3 info low in
+    let first : SpellsInPlace total (number 3 (other_tag tag)) 0 (big_bytes 3 head) head = writes_number total 3 head 0 (other_tag tag) fits (only_this tag (head / 65536) _ high) in
+    let second : SpellsInPlace total (piece (head % 65536)) 3 info info = writes_piece total (head % 65536) 3 info low in
     let end : total ≡ 3 + length info = three in
-    let last : Writes total (finish >>= λ end. give info) (3 + length info) ([] ++ []) info = writes_then total (3 + length info) finish (λ end. give info) [] [] (tt {0}) info (writes_finish total (3 + length info) end) (writes_give total (3 + length info + 0) info) in
+    let last : SpellsInPlace total (finish >>= λ end. give info) (3 + length info) ([] ++ []) info = writes_then total (3 + length info) finish (λ end. give info) [] [] (tt {0}) info (writes_finish total (3 + length info) end) (writes_give total (3 + length info + 0) info) in
     let rest = writes_then total 3 (piece (head % 65536)) (λ info. finish >>= λ end. give info) info ([] ++ []) info info second last in
-    let all : Writes total (component tag) 0 (big_bytes 3 head ++ (info ++ ([] ++ []))) info = writes_then total 0 (number 3 (other_tag tag)) (λ head. piece (head % 65536) >>= λ info. finish >>= λ end. give info) (big_bytes 3 head) (info ++ ([] ++ [])) head info first rest in
+    let all : SpellsInPlace total (component tag) 0 (big_bytes 3 head ++ (info ++ ([] ++ []))) info = writes_then total 0 (number 3 (other_tag tag)) (λ head. piece (head % 65536) >>= λ info. finish >>= λ end. give info) (big_bytes 3 head) (info ++ ([] ++ [])) head info first rest in
     let bytes : big_bytes 3 head ++ (info ++ ([] ++ [])) ≡ file_bytes tag info =
     ap (λ xs. big_bytes 3 head ++ xs) (append-nil info) ∙ ap (λ xs. xs ++ info) (three_bytes tag n t (omega arith)) in
-    writes_stands (component tag) (file_bytes tag info) info (subst (λ xs. Writes total (component tag) 0 xs info) bytes all)
+    writes_stands (component tag) (file_bytes tag info) info (subst (λ xs. SpellsInPlace total (component tag) 0 xs info) bytes all)

@@ -8,7 +8,7 @@ use Rattle.cap_bytes.specs.declared.fault.FormFault.{FormFault}
 use Rattle.cap_bytes.specs.declared.fault.FormKind.{FormKind}
 use Rattle.cap_bytes.specs.declared.cursor.Cursor.{Cursor}
 use Rattle.cap_bytes.specs.Grammar.{that, each, repeat}
-use Rattle.cap_bytes.specs.Taking.{Taken, Fails}
+use Rattle.cap_bytes.specs.Taking.{Taken, TakingFails}
 use Rattle.cap_bytes.proofs.EachLoops.{ReadsAll, each_taken, loose_first, HasPassedEach, each_none, each_more, each_fault, each_all}
 use Rattle.cap_frame.specs.DirectoryFormat.{Custom, custom_info, after_tag, is_new_tag, and_that_of, none}
 use Rattle.cap_frame.specs.Tags.{named_in}
@@ -55,7 +55,7 @@ named_more count start i now named custom after so_far lt t within =
       flags = length-set named custom.tag true ∙ so_far.flags;
     }
 
-pub named_fault : (count : ℕ) (start : Cursor) (i : ℕ) (now : Cursor) (named : List Bool) (fault : FormFault) → HasNamed count start i now named → i < count → Fails (custom_info (named_in named)) now fault → Fails (each count custom_info and_that_of none) start fault
+pub named_fault : (count : ℕ) (start : Cursor) (i : ℕ) (now : Cursor) (named : List Bool) (fault : FormFault) → HasNamed count start i now named → i < count → TakingFails (custom_info (named_in named)) now fault → TakingFails (each count custom_info and_that_of none) start fault
 named_fault count start i now named fault so_far lt f = each_fault custom_info and_that_of count start none i now (named_in named) fault so_far.passed lt f
 
 pub named_all : (count : ℕ) (start : Cursor) (i : ℕ) (now : Cursor) (named : List Bool) → HasNamed count start i now named → count ≤ i → (xs : List Custom) × Taken (each count custom_info and_that_of none) start xs now

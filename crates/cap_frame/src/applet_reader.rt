@@ -2,7 +2,7 @@ ghost use Rattle.std.specs.Prelude.{◌≡◌, ◌≤◌, length, IfOk, IfErr};
 ghost use Rattle.cap_bytes.specs.Grammar.{repeat};
 ghost use Rattle.cap_bytes.specs.Exact.{IsExact};
 ghost use Rattle.cap_bytes.specs.Spelling.{info_of, Stands, Breaks};
-ghost use Rattle.cap_bytes.specs.Taking.{Takes, Passes, Reads};
+ghost use Rattle.cap_bytes.specs.Taking.{Takes, PassesOver, Reads};
 ghost use Rattle.cap_frame.specs.AppletFormat.{applet_info, applets_info};
 ghost use Rattle.cap_frame.specs.Applets.{applet_seen, applets_of};
 
@@ -43,7 +43,7 @@ fn read(info: View<'_>) -> Result<Applets<'_>, FormFault>
 /// Passes over so many applets.
 #[tactic(auto, using(cap_bytes::proofs::Loops::passing))]
 fn pass_applets(items: &mut Cursor<'_>, count: u8) -> Result<(), FormFault>
-    ensures { Passes (repeat count applet_info) items.old result items.new }
+    ensures { PassesOver (repeat count applet_info) items.old result items.new }
 {
     'applets: for _ in 0..count {
         applet_info(items)?;

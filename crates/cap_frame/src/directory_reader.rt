@@ -2,7 +2,7 @@ ghost use Rattle.std.specs.Prelude.{◌≡◌, ◌≤◌, length, IfOk, IfErr};
 ghost use Rattle.cap_bytes.specs.Grammar.{each};
 ghost use Rattle.cap_bytes.specs.Exact.{IsExact};
 ghost use Rattle.cap_bytes.specs.Spelling.{info_of, Stands, Breaks};
-ghost use Rattle.cap_bytes.specs.Taking.{Takes, Passes, Reads};
+ghost use Rattle.cap_bytes.specs.Taking.{Takes, PassesOver, Reads};
 ghost use Rattle.cap_frame.specs.Directory.{custom_seen, customs_left, image_sizes_seen, directory_items};
 ghost use Rattle.cap_frame.specs.DirectoryFormat.{custom_info, after_tag, customs_info, and_that_of, none, size_count, image_sizes_info, directory_info};
 ghost use Rattle.cap_frame.specs.Tags.{named_in};
@@ -88,7 +88,7 @@ fn customs<'a>(items: &mut Cursor<'a>) -> Result<CustomEntries<'a>, FormFault>
 /// Passes over so many custom components, no two of one tag.
 #[tactic(auto, using(crate::proofs::Customs::naming))]
 fn pass_customs(items: &mut Cursor<'_>, count: u8) -> Result<(), FormFault>
-    ensures { Passes (each count custom_info and_that_of none) items.old result items.new }
+    ensures { PassesOver (each count custom_info and_that_of none) items.old result items.new }
 {
     let mut named = [false; 256];
     'customs: for _ in 0..count {

@@ -1,6 +1,6 @@
 ghost use Rattle.std.specs.Iterator.{YieldsFirstBy, item_count};
 ghost use Rattle.cap_bytes.specs.Grammar.{repeat};
-ghost use Rattle.cap_bytes.specs.Taking.{Takes, Passes};
+ghost use Rattle.cap_bytes.specs.Taking.{Takes, PassesOver};
 ghost use Rattle.cap_frame.specs.PackageFormat.{package_info};
 ghost use Rattle.cap_frame.specs.Packages.{package_seen, packages_left};
 
@@ -21,7 +21,7 @@ pub(crate) fn package_info<'a>(items: &mut Cursor<'a>) -> Result<PackageInfo<'a>
 /// Passes over so many packages.
 #[tactic(auto, using(cap_bytes::proofs::Loops::passing))]
 pub(crate) fn pass_packages(items: &mut Cursor<'_>, count: u8) -> Result<(), FormFault>
-    ensures { Passes (repeat count package_info) items.old result items.new }
+    ensures { PassesOver (repeat count package_info) items.old result items.new }
 {
     'packages: for _ in 0..count {
         package_info(items)?;

@@ -4,28 +4,28 @@ use Rattle.std.specs.Prelude.{◌&&◌, nat_le, nat_lt}
 use Rattle.std.specs.List.{filter_map, cons_option}
 use Rattle.std.proofs.lemmas.List.Elements.{filter_map-append}
 use Rattle.std.proofs.lemmas.Bool.{and_parts}
-use Rattle.cap_desc.specs.DescriptorFormat.{Method}
+use Rattle.cap_desc.specs.DescriptorFormat.{MethodDescriptor}
 use Rattle.cap_package.specs.MethodChecks.{code_start, code_end, overlap_fault, overlap_pair}
 use Rattle.cap_package.specs.Pairs.{pairs}
 
 -- each method begins where the one before it ends, or after that, and the first at a place or after it
-abbrev pub follow : List ℕ → ℕ → List Method → Bool
+abbrev pub follow : List ℕ → ℕ → List MethodDescriptor → Bool
 follow info at [] = true
 follow info at (m ∷ ms) = nat_le at m.method_offset && follow info (code_end info m) ms
 
-abbrev BeginFrom : ℕ → List Method → Type 0
+abbrev BeginFrom : ℕ → List MethodDescriptor → Type 0
 BeginFrom at [] = Unit {0}
 BeginFrom at (m ∷ ms) = (at ≤ m.method_offset) × BeginFrom at ms
 
-later : (at from : ℕ) (ms : List Method) → at ≤ from → BeginFrom from ms → BeginFrom at ms
+later : (at from : ℕ) (ms : List MethodDescriptor) → at ≤ from → BeginFrom from ms → BeginFrom at ms
 later at from [] h b = tt
 later at from (m ∷ ms) h b = let first = b.0 in (omega arith, later at from ms h b.1)
 
-ends_after : (info : List ℕ) (m : Method) → m.method_offset ≤ code_end info m
+ends_after : (info : List ℕ) (m : MethodDescriptor) → m.method_offset ≤ code_end info m
 unfolding code_end code_start
 ends_after info m = omega arith
 
-all_begin : (info : List ℕ) (at : ℕ) (ms : List Method) → follow info at ms ≡ true → BeginFrom at ms
+all_begin : (info : List ℕ) (at : ℕ) (ms : List MethodDescriptor) → follow info at ms ≡ true → BeginFrom at ms
 all_begin info at [] e = tt
 all_begin info at (m ∷ ms) e =
     let both = and_parts (nat_le at m.method_offset) (follow info (code_end info m) ms) e in
@@ -33,18 +33,18 @@ all_begin info at (m ∷ ms) e =
     let after = ends_after info m in
     (first, later at (code_end info m) ms (omega arith) (all_begin info (code_end info m) ms both.1))
 
-shares_none : (info : List ℕ) (a b : Method) → code_end info a ≤ b.method_offset → overlap_fault info a b ≡ None
+shares_none : (info : List ℕ) (a b : MethodDescriptor) → code_end info a ≤ b.method_offset → overlap_fault info a b ≡ None
 unfolding overlap_fault
 shares_none info a b h =
     let e : nat_lt (max a.method_offset b.method_offset) (min (min (code_end info a) (code_end info b)) (length info)) ≡ false = grind arith in
     rw e refl
 
-none_after : (info : List ℕ) (m : Method) (ms : List Method) → BeginFrom (code_end info m) ms → filter_map (overlap_pair info) (map (λ y. (m, y)) ms) ≡ []
+none_after : (info : List ℕ) (m : MethodDescriptor) (ms : List MethodDescriptor) → BeginFrom (code_end info m) ms → filter_map (overlap_pair info) (map (λ y. (m, y)) ms) ≡ []
 none_after info m [] b = refl
 none_after info m (y ∷ ys) b =
     ap (λ o. cons_option o (filter_map (overlap_pair info) (map (λ z. (m, z)) ys))) (shares_none info m y b.0) ∙ none_after info m ys b.1
 
-pub none_overlap : (info : List ℕ) (at : ℕ) (ms : List Method) → follow info at ms ≡ true → filter_map (overlap_pair info) (pairs ms) ≡ []
+pub none_overlap : (info : List ℕ) (at : ℕ) (ms : List MethodDescriptor) → follow info at ms ≡ true → filter_map (overlap_pair info) (pairs ms) ≡ []
 none_overlap info at [] e = refl
 none_overlap info at (m ∷ ms) e =
     let rest = (and_parts (nat_le at m.method_offset) (follow info (code_end info m) ms) e).1 in

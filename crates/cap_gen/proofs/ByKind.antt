@@ -2,15 +2,15 @@
 use Rattle.std.proofs.Common.{◌≡◌, ◌+◌, ◌%◌, ℕ, zero, suc, List, [], ◌∷◌, ◌++◌, refl, sym, ap, ◌∙◌, arith, append_assoc, length}
 use Rattle.byteorder.specs.Endian.{big_bytes}
 use Rattle.cap_laying.specs.HandlerTable.{entry_bytes, entries_at, table_bytes}
-use Rattle.cap_gen.specs.Shape.{of_kind, handlers_of_kind, body}
+use Rattle.cap_gen.specs.Shape.{of_kind, handlers_of_kind, shape_bytes}
 use Rattle.cap_gen.specs.Methods.{first_constant, second_constant, method_bytes, code_offset, code_size, method_offset, handlers, handler_index, entry_table}
 use Rattle.cap_gen.specs.Described.{described_bytes}
 
-bytes_of : (seed k c d n : ℕ) → k % 4 ≡ n → c ≡ first_constant seed k → d ≡ second_constant seed k → method_bytes seed k ≡ body (of_kind n c d)
+bytes_of : (seed k c d n : ℕ) → k % 4 ≡ n → c ≡ first_constant seed k → d ≡ second_constant seed k → method_bytes seed k ≡ shape_bytes (of_kind n c d)
 unfolding method_bytes
 bytes_of seed k c d n e f g =
-    ap (λ (m : ℕ). body (of_kind m (first_constant seed k) (second_constant seed k))) e
-    ∙ (ap (λ (x : ℕ). body (of_kind n x (second_constant seed k))) (sym f) ∙ ap (λ (x : ℕ). body (of_kind n c x)) (sym g))
+    ap (λ (m : ℕ). shape_bytes (of_kind m (first_constant seed k) (second_constant seed k))) e
+    ∙ (ap (λ (x : ℕ). shape_bytes (of_kind n x (second_constant seed k))) (sym f) ∙ ap (λ (x : ℕ). shape_bytes (of_kind n c x)) (sym g))
 
 pub choosing_bytes : (seed k c d : ℕ) → k % 4 ≡ 0 → c ≡ first_constant seed k → d ≡ second_constant seed k
     → method_bytes seed k ≡ 0x02 ∷ 0x20 ∷ 0x1C ∷ 0x1D ∷ 0x60 ∷ 6 ∷ 0x10 ∷ c ∷ 0x70 ∷ 4 ∷ 0x10 ∷ d ∷ 0x41 ∷ 0x78 ∷ []

@@ -14,9 +14,9 @@ use Rattle.cap_package.specs.Pairs.{pairs}
 use Rattle.cap_package.specs.Agreement.{or_none}
 use Rattle.cap_package.specs.FirstFault.{disagreements}
 use Rattle.cap_package.specs.StaticChecks.{share_pair, place_in, image_fault, array_kinds, filled_fault, kind_at, is_static_at, no_static_fault}
-use Rattle.cap_package.specs.NameChecks.{is_method_at, no_method_fault, no_entry_fault, table_entries, exported_methods, exported_fields, undescribed_fault, no_class_fault, not_own_fault}
+use Rattle.cap_package.specs.NameChecks.{is_method_at, no_method_fault, no_entry_fault, table_entries, exported_methods, exported_fields, undescribed_fault, undescribed_class_fault, not_own_fault}
 use Rattle.cap_package.specs.TypeChecks.{field_type_fault, method_type_fault}
-use Rattle.cap_package.specs.CountChecks.{differ, array_bytes, image_bytes, instance_fault, cells_of, count_if}
+use Rattle.cap_package.specs.CountChecks.{differ, array_bytes, image_bytes, instance_fault, described_cells, count_if}
 use Rattle.cap_gen.specs.Methods.{each_from}
 use Rattle.cap_gen.specs.Described.{methods, described_bytes, descriptor_bytes}
 use Rattle.cap_gen.specs.Generated.{generated}
@@ -51,7 +51,7 @@ module _ (seed : ℕ) where
   pools_agree = refl
 
   pub instances_agree : at_fault (instance_fault (package_record seed).classes (package_record seed).description) (package_record seed).description.items.classes ≡ []
-  unfolding differ instance_fault cells_of field_type
+  unfolding differ instance_fault described_cells field_type
   instances_agree = refl
 
   pub sums_agree : disagreements ImageSegments (package_record seed).statics.image_size (image_bytes (package_record seed).statics) ≡ []
@@ -67,9 +67,9 @@ module _ (seed : ℕ) where
   all_named = refl
 
   pub all_described : (at_fault (undescribed_fault (package_record seed).description.items.classes) (package_record seed).classes
-      ++ at_fault (not_own_fault (package_record seed).classes) (map (λ (d : described.Class). d.class_ref) (package_record seed).description.items.classes))
-      ++ at_fault (no_class_fault (package_record seed).classes) (map (λ (c : Exported). c.class_offset) (or_none (package_record seed).export)) ≡ []
-  unfolding undescribed_fault not_own_fault no_class_fault
+      ++ at_fault (not_own_fault (package_record seed).classes) (map (λ (d : described.ClassDescriptor). d.class_ref) (package_record seed).description.items.classes))
+      ++ at_fault (undescribed_class_fault (package_record seed).classes) (map (λ (c : Exported). c.class_offset) (or_none (package_record seed).export)) ≡ []
+  unfolding undescribed_fault not_own_fault undescribed_class_fault
   all_described = refl
 
   pub all_typed : (at_fault (field_type_fault (package_record seed).description) (fields (package_record seed))

@@ -4,16 +4,16 @@ use Rattle.cap_laying.specs.HandlerTable.{entry_bytes}
 use Rattle.cap_locations.specs.Component.{component_bytes}
 use Rattle.cap_components.specs.Parts.{Lent}
 use Rattle.cap_gen.specs.declared.plain.TheConstants.{DESCRIPTOR_HEAD, DESCRIPTOR_TAIL, STATIC_FIELD, REF_LOCATION}
-use Rattle.cap_gen.specs.Methods.{each_from, each, method_bytes, entry_table, entries, method_info}
+use Rattle.cap_gen.specs.Methods.{each_from, each_method, method_bytes, entry_table, entries, method_info}
 use Rattle.cap_gen.specs.Described.{described_bytes, descriptor_bytes, location_bytes}
 use Rattle.cap_gen.specs.Generated.{file, generated}
 use Rattle.cap_gen.specs.Plain.{first_parts}
 
-pub method_file : (seed : ℕ) → (0x07 ∷ 0x0F ∷ 0xA1 ∷ 100 ∷ []) ++ (each entry_table ++ each (method_bytes seed)) ≡ (file 7 (method_info seed)).bytes
+pub method_file : (seed : ℕ) → (0x07 ∷ 0x0F ∷ 0xA1 ∷ 100 ∷ []) ++ (each_method entry_table ++ each_method (method_bytes seed)) ≡ (file 7 (method_info seed)).bytes
 unfolding each_from method_bytes entry_table entry_bytes entries method_info
 method_file seed = refl
 
-pub descriptor_file : DESCRIPTOR_HEAD ++ (each described_bytes ++ DESCRIPTOR_TAIL) ≡ (file 11 descriptor_bytes).bytes
+pub descriptor_file : DESCRIPTOR_HEAD ++ (each_method described_bytes ++ DESCRIPTOR_TAIL) ≡ (file 11 descriptor_bytes).bytes
 unfolding each_from described_bytes descriptor_bytes
 descriptor_file = refl
 
@@ -23,20 +23,20 @@ unfolding each_from method_bytes entry_table entry_bytes entries method_info des
 whole seed = refl
 
 -- what is left where the pieces were appended one after the other
-pub method_steps : (seed : ℕ) (none head table all : List ℕ) → none ≡ [] → head ≡ none ++ 0x07 ∷ 0x0F ∷ 0xA1 ∷ 100 ∷ [] → table ≡ head ++ each entry_table
-    → all ≡ table ++ each (method_bytes seed) → all ≡ (file 7 (method_info seed)).bytes
+pub method_steps : (seed : ℕ) (none head table all : List ℕ) → none ≡ [] → head ≡ none ++ 0x07 ∷ 0x0F ∷ 0xA1 ∷ 100 ∷ [] → table ≡ head ++ each_method entry_table
+    → all ≡ table ++ each_method (method_bytes seed) → all ≡ (file 7 (method_info seed)).bytes
 method_steps seed none head table all a b c d =
     let H : List ℕ = 0x07 ∷ 0x0F ∷ 0xA1 ∷ 100 ∷ [] in
     let first : head ≡ H = b ∙ ap (λ (xs : List ℕ). xs ++ H) a in
-    d ∙ (ap (λ (xs : List ℕ). xs ++ each (method_bytes seed)) (c ∙ ap (λ (xs : List ℕ). xs ++ each entry_table) first)
-    ∙ (append_assoc H (each entry_table) (each (method_bytes seed)) ∙ method_file seed))
+    d ∙ (ap (λ (xs : List ℕ). xs ++ each_method (method_bytes seed)) (c ∙ ap (λ (xs : List ℕ). xs ++ each_method entry_table) first)
+    ∙ (append_assoc H (each_method entry_table) (each_method (method_bytes seed)) ∙ method_file seed))
 
-pub descriptor_steps : (none head records all : List ℕ) → none ≡ [] → head ≡ none ++ DESCRIPTOR_HEAD → records ≡ head ++ each described_bytes
+pub descriptor_steps : (none head records all : List ℕ) → none ≡ [] → head ≡ none ++ DESCRIPTOR_HEAD → records ≡ head ++ each_method described_bytes
     → all ≡ records ++ DESCRIPTOR_TAIL → all ≡ (file 11 descriptor_bytes).bytes
 descriptor_steps none head records all a b c d =
     let first : head ≡ DESCRIPTOR_HEAD = b ∙ ap (λ (xs : List ℕ). xs ++ DESCRIPTOR_HEAD) a in
-    d ∙ (ap (λ (xs : List ℕ). xs ++ DESCRIPTOR_TAIL) (c ∙ ap (λ (xs : List ℕ). xs ++ each described_bytes) first)
-    ∙ (append_assoc DESCRIPTOR_HEAD (each described_bytes) DESCRIPTOR_TAIL ∙ descriptor_file))
+    d ∙ (ap (λ (xs : List ℕ). xs ++ DESCRIPTOR_TAIL) (c ∙ ap (λ (xs : List ℕ). xs ++ each_method described_bytes) first)
+    ∙ (append_assoc DESCRIPTOR_HEAD (each_method described_bytes) DESCRIPTOR_TAIL ∙ descriptor_file))
 
 pub parts_steps : (seed : ℕ) (a b c d e : List Lent) (ms ds : List ℕ) → a ≡ first_parts → ms ≡ (file 7 (method_info seed)).bytes
     → b ≡ a ++ record { part = 7; bytes = ms } ∷ [] → c ≡ b ++ record { part = 8; bytes = STATIC_FIELD } ∷ []

@@ -26,7 +26,7 @@ use Rattle.jc_rules.specs.declared.effect.Cells.TheVariants as given
 use Rattle.jc_rules.specs.declared.effect.Mode.TheVariants.{Flow}
 use Rattle.jc_rules.specs.declared.effect.Effect.{Effect}
 use Rattle.jc_rules.specs.Demand.{Frame, Meets, Satisfies, SatisfiesAll}
-use Rattle.jc_rules.specs.Effect.{changed, WritesCells, rises}
+use Rattle.jc_rules.specs.Effect.{changed, WritesCells, raises_register}
 use Rattle.jc_rules.specs.Rule.{demands, effect, wrote}
 use Rattle.jc_rules.specs.Flow.{CellsBelow, no_cells, more_cells, FrameBelow, start_frame, caught_frame, IsNotFresh, IsNotTop, At, FlowSteps, IsFollowed, IsFit, FlowTyping, HasFlowTyping}
 use Rattle.jc_control.specs.Method.{Method}
@@ -511,7 +511,7 @@ module _ (w : Linked) (m : Method) (rows : List Row) (a : AreRows w m rows) wher
           ends = ends_at op;
           depth = length (after_row w m.rec r).stack;
           wrote = wrote e.store.register e.store.cells;
-          rose = rises w.classes Flow e.store r.before.regs;
+          rose = raises_register w.classes Flow e.store r.before.regs;
         },
         record {
           operation = op;

@@ -7,7 +7,7 @@ use Rattle.jc_decode.specs.Layout.{opcode, layout_of}
 use Rattle.jc_decode.specs.Decoding.{decoded}
 use Rattle.jc_decode.specs.Listing.{listing, listing_from, at_most, targets}
 use Rattle.jc_decode.specs.Cases.{cases}
-use Rattle.jc_ops.specs.Row.{table, row_at, unused, by_sort, by_width, by_kind, first_four, by_register, literals, binary, orders_all, branching}
+use Rattle.jc_ops.specs.Row.{table, row_at, unused, by_sort, by_width, by_kind, first_four, by_register, literals, binaries, orders_all, branching}
 use Rattle.jc_rules.specs.Demand.{Frame}
 use Rattle.jc_rules.specs.Flow.{HasFlowTyping}
 use Rattle.jc_control.specs.Method.{Method}
@@ -56,19 +56,19 @@ rows kind c d frames = rows_of (listing (of_kind kind c d).code) frames
 
 module _ (w : Linked) (n k c d : ℕ) where
   choosing_rows : AreRows w (method_of n 0 k c d) (rows 0 c d choosing_frames)
-  unfolding listing listing_from at_most decoded layout_of opcode targets cases row_at table by_sort by_width by_kind first_four by_register literals binary orders_all branching unused
+  unfolding listing listing_from at_most decoded layout_of opcode targets cases row_at table by_sort by_width by_kind first_four by_register literals binaries orders_all branching unused
   choosing_rows = record { listed = refl; ends = refl; start = refl; handlers = refl; apart = refl; each = refl }
 
   reusing_rows : AreRows w (method_of n 1 k c d) (rows 1 c d reusing_frames)
-  unfolding listing listing_from at_most decoded layout_of opcode targets cases row_at table by_sort by_width by_kind first_four by_register literals binary orders_all branching unused
+  unfolding listing listing_from at_most decoded layout_of opcode targets cases row_at table by_sort by_width by_kind first_four by_register literals binaries orders_all branching unused
   reusing_rows = record { listed = refl; ends = refl; start = refl; handlers = refl; apart = refl; each = refl }
 
   dividing_rows : AreRows w (method_of n 2 k c d) (rows 2 c d dividing_frames)
-  unfolding listing listing_from at_most decoded layout_of opcode targets cases row_at table by_sort by_width by_kind first_four by_register literals binary orders_all branching unused
+  unfolding listing listing_from at_most decoded layout_of opcode targets cases row_at table by_sort by_width by_kind first_four by_register literals binaries orders_all branching unused
   dividing_rows = record { listed = refl; ends = refl; start = refl; handlers = refl; apart = refl; each = refl }
 
   looping_rows : AreRows w (method_of n 3 k c d) (rows 3 c d looping_frames)
-  unfolding listing listing_from at_most decoded layout_of opcode targets cases row_at table by_sort by_width by_kind first_four by_register literals binary orders_all branching unused
+  unfolding listing listing_from at_most decoded layout_of opcode targets cases row_at table by_sort by_width by_kind first_four by_register literals binaries orders_all branching unused
   looping_rows = record { listed = refl; ends = refl; start = refl; handlers = refl; apart = refl; each = refl }
 
 -- the kinds by number

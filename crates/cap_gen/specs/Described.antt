@@ -3,14 +3,14 @@
 use Rattle.std.specs.Prelude.{◌≡◌, refl, ℕ, List, [], ◌∷◌, ◌++◌, map, length}
 use Rattle.std.specs.List.{flat_map, range_with_len}
 use Rattle.byteorder.specs.Endian.{big_bytes}
-use Rattle.cap_desc.specs.DescriptorFormat.{Method, Field, Class, Descriptor}
+use Rattle.cap_desc.specs.DescriptorFormat.{MethodDescriptor, FieldDescriptor, ClassDescriptor, Descriptor}
 use Rattle.cap_locations.specs.Catches.{catch_places}
 use Rattle.cap_locations.specs.Distances.{distances}
 use Rattle.cap_locations.specs.Component.{component_bytes}
-use Rattle.cap_gen.specs.Methods.{each, method_offset, code_size, handlers, handler_index}
+use Rattle.cap_gen.specs.Methods.{each_method, method_offset, code_size, handlers, handler_index}
 
 -- a method: public and static, of the type whose descriptor stands after the types of two pool entries
-abbrev pub method : ℕ → Method
+abbrev pub method : ℕ → MethodDescriptor
 method k = record {
   token = k;
   flags = 9;
@@ -21,7 +21,7 @@ method k = record {
   handler_index = handler_index k;
 }
 
-unfoldable pub methods : List Method
+unfoldable pub methods : List MethodDescriptor
 methods = map method (range_with_len 0 200)
 
 -- its record
@@ -30,11 +30,11 @@ described_bytes k = k ∷ 9 ∷ (big_bytes 2 (method_offset k) ++ (big_bytes 2 6
     ++ (big_bytes 2 (length (handlers k)) ++ big_bytes 2 (handler_index k)))))
 
 -- a static field of a short, at the first offset of the image
-abbrev pub field : Field
+abbrev pub field : FieldDescriptor
 field = record { token = 0; flags = 9; bytes = 0 ∷ 0 ∷ 0 ∷ []; ty = 0x8004 }
 
 -- the class with the methods, the first of eight records of ten bytes after the size of the signature pool
-abbrev pub first_class : Class
+abbrev pub first_class : ClassDescriptor
 first_class = record { token = 0; class_ref = 2; interfaces = []; fields = field ∷ []; methods = methods }
 
 -- its record up to the methods
@@ -42,13 +42,13 @@ abbrev pub first_bytes : List ℕ
 first_bytes = 0 ∷ 1 ∷ 0 ∷ 2 ∷ 0 ∷ 0 ∷ 1 ∷ 0 ∷ 200 ∷ 0 ∷ 9 ∷ 0 ∷ 0 ∷ 0 ∷ 0x80 ∷ 4 ∷ []
 
 -- the other classes have no members
-abbrev pub bare_class : ℕ → ℕ → Class
+abbrev pub bare_class : ℕ → ℕ → ClassDescriptor
 bare_class token reference = record { token = token; class_ref = reference; interfaces = []; fields = []; methods = [] }
 
-abbrev pub bare_bytes : Class → List ℕ
+abbrev pub bare_bytes : ClassDescriptor → List ℕ
 bare_bytes c = c.token ∷ 1 ∷ (big_bytes 2 c.class_ref ++ 0 ∷ 0 ∷ 0 ∷ 0 ∷ 0 ∷ [])
 
-abbrev pub bare_classes : List Class
+abbrev pub bare_classes : List ClassDescriptor
 bare_classes = bare_class 1 12 ∷ bare_class 2 22 ∷ bare_class 3 32 ∷ bare_class 4 42 ∷ bare_class 5 52 ∷ bare_class 6 62
     ∷ bare_class 7 72 ∷ []
 
@@ -58,7 +58,7 @@ type_bytes = 0 ∷ 2 ∷ 0xFF ∷ 0xFF ∷ 0xFF ∷ 0xFF ∷ 3 ∷ 0x44 ∷ 0x40
 
 -- the info of the Descriptor: the classes after their number, and the types
 unfoldable pub descriptor_bytes : List ℕ
-descriptor_bytes = 8 ∷ (first_bytes ++ (each described_bytes ++ (flat_map bare_bytes bare_classes ++ type_bytes)))
+descriptor_bytes = 8 ∷ (first_bytes ++ (each_method described_bytes ++ (flat_map bare_bytes bare_classes ++ type_bytes)))
 
 -- what it says: the types of the pool stand after 2480 bytes
 abbrev pub descriptor : Descriptor
@@ -66,7 +66,7 @@ descriptor = record { classes = first_class ∷ bare_classes; types_start = 2480
 
 -- the places in the Method component that name a pool entry: no instruction does, and of the handlers those that catch a class
 abbrev pub pool_places : List ℕ
-pool_places = catch_places 1 (each handlers)
+pool_places = catch_places 1 (each_method handlers)
 
 abbrev pub pool_distances : List ℕ
 pool_distances = distances 0 pool_places

@@ -4,14 +4,14 @@ use Rattle.std.specs.List.{flat_map, range_with_len}
 use Rattle.jc_decode.specs.declared.symbols.Handler.{Handler}
 use Rattle.cap_method.specs.declared.handler.HandlerInfo.{HandlerInfo}
 use Rattle.cap_laying.specs.HandlerTable.{entries_at, table_bytes}
-use Rattle.cap_gen.specs.Shape.{Shape, of_kind, handlers_of_kind, body}
+use Rattle.cap_gen.specs.Shape.{Shape, of_kind, handlers_of_kind, shape_bytes}
 
 -- what the methods give, one after the other: two hundred, or those from one on
 unfoldable pub each_from : {X : Type 0} → (ℕ → List X) → ℕ → List X
 each_from f k = flat_map f (range_with_len k (200 - k))
 
-abbrev pub each : {X : Type 0} → (ℕ → List X) → List X
-each f = each_from f 0
+abbrev pub each_method : {X : Type 0} → (ℕ → List X) → List X
+each_method f = each_from f 0
 
 -- the constants of a method, by the seed and its number
 abbrev pub first_constant : ℕ → ℕ → ℕ
@@ -26,7 +26,7 @@ shape seed k = of_kind (k % 4) (first_constant seed k) (second_constant seed k)
 
 -- the header and the code of a method
 unfoldable pub method_bytes : ℕ → ℕ → List ℕ
-method_bytes seed k = body (shape seed k)
+method_bytes seed k = shape_bytes (shape seed k)
 
 -- codes have twelve and sixteen bytes in turn, and the header before each has two; the handler table has 801
 abbrev pub code_size : ℕ → ℕ
@@ -55,11 +55,11 @@ entry_table k = table_bytes (entries_of k)
 
 -- the handler table
 unfoldable pub entries : List HandlerInfo
-entries = each entries_of
+entries = each_method entries_of
 
 -- the info: the handler table after its length, and the methods
 unfoldable pub method_info : ℕ → List ℕ
-method_info seed = length entries ∷ (each entry_table ++ each (method_bytes seed))
+method_info seed = length entries ∷ (each_method entry_table ++ each_method (method_bytes seed))
 
 -- the first method of the package of seed 7: 7 or 7 + 0
 first : method_bytes 7 0 ≡ 0x02 ∷ 0x20 ∷ 0x1C ∷ 0x1D ∷ 0x60 ∷ 6 ∷ 0x10 ∷ 7 ∷ 0x70 ∷ 4 ∷ 0x10 ∷ 7 ∷ 0x41 ∷ 0x78 ∷ []

@@ -63,5 +63,5 @@ abbrev pub numbers_of : Shape → HeaderNumbers
 numbers_of s = record { max_stack = 2; nargs = 2; max_locals = s.max_locals }
 
 -- its bytes in the Method component: a compact header, and the code
-abbrev pub body : Shape → List ℕ
-body s = compact_bytes (numbers_of s) ++ s.code
+abbrev pub shape_bytes : Shape → List ℕ
+shape_bytes s = compact_bytes (numbers_of s) ++ s.code

@@ -1,7 +1,7 @@
 ghost use Rattle.std.specs.Prelude.{◌≡◌, ◌<◌, ◌++◌, length, IfOk, OnOk};
 ghost use Rattle.cap_gen.specs.Described.{described_bytes, descriptor_bytes};
 ghost use Rattle.cap_gen.specs.Generated.{file};
-ghost use Rattle.cap_gen.specs.Methods.{code_size, each, handler_index, handlers};
+ghost use Rattle.cap_gen.specs.Methods.{code_size, each_method, handler_index, handlers};
 
 use crate::methods::{COUNT, method_offset, put_numbers};
 use crate::plain::{DESCRIPTOR_HEAD, DESCRIPTOR_TAIL};
@@ -50,7 +50,7 @@ fn put_described(number: u8, out: &mut Vec<u8>) -> Result<(), AllocError>
 
 /// Appends the records of the methods.
 fn put_records(out: &mut Vec<u8>) -> Result<(), AllocError>
-    ensures { OnOk result (out.new.items ≡ out.old.items ++ each described_bytes) }
+    ensures { OnOk result (out.new.items ≡ out.old.items ++ each_method described_bytes) }
 {
     'methods: for number in 0..COUNT {
         put_described(number, out)?;

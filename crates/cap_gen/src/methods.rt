@@ -1,7 +1,7 @@
 ghost use Rattle.std.specs.Prelude.{◌≡◌, ◌<◌, ◌++◌, IfOk, OnOk};
 ghost use Rattle.byteorder.specs.Endian.{big_bytes};
 ghost use Rattle.cap_gen.specs.Generated.{file};
-ghost use Rattle.cap_gen.specs.Methods.{each, entry_table, first_constant, method_bytes, method_info};
+ghost use Rattle.cap_gen.specs.Methods.{each_method, entry_table, first_constant, method_bytes, method_info};
 ghost use Rattle.cap_gen.specs.Methods.{method_offset, second_constant};
 
 use std::alloc::{AllocError, Global};
@@ -90,7 +90,7 @@ fn put_entries(number: u8, out: &mut Vec<u8>) -> Result<(), AllocError>
 
 /// Appends the handler table without its length.
 fn put_table(out: &mut Vec<u8>) -> Result<(), AllocError>
-    ensures { OnOk result (out.new.items ≡ out.old.items ++ each entry_table) }
+    ensures { OnOk result (out.new.items ≡ out.old.items ++ each_method entry_table) }
 {
     'methods: for number in 0..COUNT {
         put_entries(number, out)?;
@@ -100,7 +100,7 @@ fn put_table(out: &mut Vec<u8>) -> Result<(), AllocError>
 
 /// Appends the methods.
 fn put_methods(seed: u32, out: &mut Vec<u8>) -> Result<(), AllocError>
-    ensures { OnOk result (out.new.items ≡ out.old.items ++ each (method_bytes seed)) }
+    ensures { OnOk result (out.new.items ≡ out.old.items ++ each_method (method_bytes seed)) }
 {
     'methods: for number in 0..COUNT {
         put_method(seed, number, out)?;

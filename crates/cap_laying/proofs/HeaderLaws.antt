@@ -5,9 +5,9 @@ use Rattle.std.proofs.lemmas.Bool.{leb-true}
 use Rattle.std.proofs.lemmas.List.{take-append-drop, length-take, length-drop}
 use Rattle.cap_bytes.specs.Grammar.{u1, give, any, ◌>>=◌}
 use Rattle.cap_bytes.specs.Spelling.{Spells}
-use Rattle.cap_method.specs.MethodFormat.{Header, header_info, header_after, compact_header, extended_header, method_flags}
+use Rattle.cap_method.specs.MethodFormat.{Header, method_header, header_after, compact_header, extended_header, method_flags}
 use Rattle.cap_method.specs.MethodPart.{HeaderAt}
-use Rattle.cap_writing.specs.Writing.{Writes}
+use Rattle.cap_writing.specs.Writing.{SpellsInPlace}
 use Rattle.cap_writing.proofs.Written.{writes_give, writes_number, writes_then}
 use Rattle.cap_laying.specs.HeaderBytes.{HeaderNumbers, is_compact, compact_bytes, extended_bytes, header_bytes, header_size, header_of}
 use Rattle.cap_laying.specs.declared.member.Body.{Body}
@@ -16,11 +16,11 @@ use Rattle.cap_laying.specs.declared.member.Body.TheVariants.{Header as Lead}
 use Rattle.cap_laying.specs.Member.{numbers_of, body_bytes, body_size}
 use Rattle.cap_laying.specs.Laws.{AreBytes}
 
-pub writes_u1 : (total n at : ℕ) → n < 256 → Writes total u1 at (n ∷ []) n
+pub writes_u1 : (total n at : ℕ) → n < 256 → SpellsInPlace total u1 at (n ∷ []) n
 writes_u1 total n at h =
     let e : n % 256 ≡ n = omega arith in
-    let w : Writes total u1 at ((n % 256) ∷ []) n = writes_number total 1 n at any h refl in
-    subst (λ k. Writes total u1 at (k ∷ []) n) e w
+    let w : SpellsInPlace total u1 at ((n % 256) ∷ []) n = writes_number total 1 n at any h refl in
+    subst (λ k. SpellsInPlace total u1 at (k ∷ []) n) e w
 
 -- the three tests
 compact_facts : (a b c : Bool) → a && b && c ≡ true → (a ≡ true) × (b ≡ true) × (c ≡ true)
@@ -29,7 +29,7 @@ compact_facts true true false h = absurd (cc)
 compact_facts true false c h = absurd (cc)
 compact_facts false b c h = absurd (cc)
 
-compact_written : (total at : ℕ) (n : HeaderNumbers) → n.max_stack ≤ 15 → n.nargs ≤ 15 → n.max_locals ≤ 15 → Writes total header_info at (compact_bytes n) (record { flags = 0; size = 2; max_stack = n.max_stack; nargs = n.nargs; max_locals = n.max_locals })
+compact_written : (total at : ℕ) (n : HeaderNumbers) → n.max_stack ≤ 15 → n.nargs ≤ 15 → n.max_locals ≤ 15 → SpellsInPlace total method_header at (compact_bytes n) (record { flags = 0; size = 2; max_stack = n.max_stack; nargs = n.nargs; max_locals = n.max_locals })
 compact_written total at n a b c =
     let second = 16 * n.nargs + n.max_locals in
     let small : nat_le 128 n.max_stack ≡ false = grind arith in
@@ -38,31 +38,31 @@ compact_written total at n a b c =
     let d : second / 16 ≡ n.nargs = omega arith in
     let m : second % 16 ≡ n.max_locals = omega arith in
     let read : Header = record { flags = method_flags n.max_stack; size = 2; max_stack = n.max_stack % 16; nargs = second / 16; max_locals = second % 16 } in
-    let one : Writes total (compact_header n.max_stack) (at + length (n.max_stack ∷ [])) (second ∷ []) read =
+    let one : SpellsInPlace total (compact_header n.max_stack) (at + length (n.max_stack ∷ [])) (second ∷ []) read =
     writes_then total (at + length (n.max_stack ∷ [])) u1 (λ k. give (record { flags = method_flags n.max_stack; size = 2; max_stack = n.max_stack % 16; nargs = k / 16; max_locals = k % 16 })) (second ∷ []) [] second read
     (writes_u1 total second (at + length (n.max_stack ∷ [])) (omega arith)) (writes_give total (at + length (n.max_stack ∷ []) + length (second ∷ [])) read) in
-    let two : Writes total header_info at (n.max_stack ∷ second ∷ []) read =
+    let two : SpellsInPlace total method_header at (n.max_stack ∷ second ∷ []) read =
     writes_then total at u1 (λ first. header_after (nat_le 128 first) first) (n.max_stack ∷ []) (second ∷ []) n.max_stack read (writes_u1 total n.max_stack at (omega arith)) (rw small one) in
     let flags : method_flags n.max_stack ≡ 0 = rw q refl in
     let same : read ≡ record { flags = 0; size = 2; max_stack = n.max_stack; nargs = n.nargs; max_locals = n.max_locals } = rw (flags, r, d, m) refl in
-    subst (λ h. Writes total header_info at (n.max_stack ∷ second ∷ []) h) same two
+    subst (λ h. SpellsInPlace total method_header at (n.max_stack ∷ second ∷ []) h) same two
 
-extended_written : (total at : ℕ) (n : HeaderNumbers) → AreBytes n → Writes total header_info at (extended_bytes n) (record { flags = 8; size = 4; max_stack = n.max_stack; nargs = n.nargs; max_locals = n.max_locals })
+extended_written : (total at : ℕ) (n : HeaderNumbers) → AreBytes n → SpellsInPlace total method_header at (extended_bytes n) (record { flags = 8; size = 4; max_stack = n.max_stack; nargs = n.nargs; max_locals = n.max_locals })
 extended_written total at n are =
     let read : Header = record { flags = 8; size = 4; max_stack = n.max_stack; nargs = n.nargs; max_locals = n.max_locals } in
-    let three : Writes total (u1 >>= λ k. give (record { flags = 8; size = 4; max_stack = n.max_stack; nargs = n.nargs; max_locals = k })) (at + 1 + 1 + 1) (n.max_locals ∷ []) read =
+    let three : SpellsInPlace total (u1 >>= λ k. give (record { flags = 8; size = 4; max_stack = n.max_stack; nargs = n.nargs; max_locals = k })) (at + 1 + 1 + 1) (n.max_locals ∷ []) read =
     writes_then total (at + 1 + 1 + 1) u1 (λ k. give (record { flags = 8; size = 4; max_stack = n.max_stack; nargs = n.nargs; max_locals = k })) (n.max_locals ∷ []) [] n.max_locals read (writes_u1 total n.max_locals (at + 1 + 1 + 1) are.max_locals) (writes_give total (at + 1 + 1 + 1 + 1) read) in
-    let two : Writes total (u1 >>= λ j. u1 >>= λ k. give (record { flags = 8; size = 4; max_stack = n.max_stack; nargs = j; max_locals = k })) (at + 1 + 1) (n.nargs ∷ n.max_locals ∷ []) read =
+    let two : SpellsInPlace total (u1 >>= λ j. u1 >>= λ k. give (record { flags = 8; size = 4; max_stack = n.max_stack; nargs = j; max_locals = k })) (at + 1 + 1) (n.nargs ∷ n.max_locals ∷ []) read =
     writes_then total (at + 1 + 1) u1 (λ j. u1 >>= λ k. give (record { flags = 8; size = 4; max_stack = n.max_stack; nargs = j; max_locals = k })) (n.nargs ∷ []) (n.max_locals ∷ []) n.nargs read (writes_u1 total n.nargs (at + 1 + 1) are.nargs) three in
-    let one : Writes total (extended_header 128) (at + 1) (n.max_stack ∷ n.nargs ∷ n.max_locals ∷ []) read =
+    let one : SpellsInPlace total (extended_header 128) (at + 1) (n.max_stack ∷ n.nargs ∷ n.max_locals ∷ []) read =
     writes_then total (at + 1) u1 (λ i. u1 >>= λ j. u1 >>= λ k. give (record { flags = 8; size = 4; max_stack = i; nargs = j; max_locals = k })) (n.max_stack ∷ []) (n.nargs ∷ n.max_locals ∷ []) n.max_stack read (writes_u1 total n.max_stack (at + 1) are.max_stack) two in
     writes_then total at u1 (λ first. header_after (nat_le 128 first) first) (128 ∷ []) (n.max_stack ∷ n.nargs ∷ n.max_locals ∷ []) 128 read (writes_u1 total 128 at (omega arith)) one
 
-header_written : (total at : ℕ) (n : HeaderNumbers) → AreBytes n → Writes total header_info at (header_bytes n) (header_of n)
+header_written : (total at : ℕ) (n : HeaderNumbers) → AreBytes n → SpellsInPlace total method_header at (header_bytes n) (header_of n)
 unfolding header_bytes
 header_written total at n are = by (is_compact n) refl
   where
-    by : (b : Bool) → is_compact n ≡ b → Writes total header_info at (if b then compact_bytes n else extended_bytes n) (record { flags = if b then 0 else 8; size = if b then 2 else 4; max_stack = n.max_stack; nargs = n.nargs; max_locals = n.max_locals })
+    by : (b : Bool) → is_compact n ≡ b → SpellsInPlace total method_header at (if b then compact_bytes n else extended_bytes n) (record { flags = if b then 0 else 8; size = if b then 2 else 4; max_stack = n.max_stack; nargs = n.nargs; max_locals = n.max_locals })
     by true e =
         let f = compact_facts (nat_le n.max_stack 15) (nat_le n.nargs 15) (nat_le n.max_locals 15) e in
         compact_written total at n (leb-true _ _ f.0) (leb-true _ _ f.1) (leb-true _ _ f.2)
@@ -85,9 +85,9 @@ header_back n info at are e =
     let after = drop size (drop at info) in
     let whole : take at info ++ (header_bytes n ++ after) ≡ info =
     ap (λ h. take at info ++ (h ++ after)) (sym e) ∙ ap (λ xs. take at info ++ xs) (take-append-drop size (drop at info)) ∙ take-append-drop at info in
-    let s : Spells header_info (take at info ++ (header_bytes n ++ after)) at (header_of n) (at + length (header_bytes n)) =
+    let s : Spells method_header (take at info ++ (header_bytes n ++ after)) at (header_of n) (at + length (header_bytes n)) =
     (header_written (length (take at info) + (length (header_bytes n) + length after)) at n are).there (take at info) after front refl in
-    (at + length (header_bytes n), subst (λ bytes. Spells header_info bytes at (header_of n) (at + length (header_bytes n))) whole s)
+    (at + length (header_bytes n), subst (λ bytes. Spells method_header bytes at (header_of n) (at + length (header_bytes n))) whole s)
   where
     some_bytes : (n : HeaderNumbers) → 2 ≤ header_size n
     some_bytes n = by (is_compact n)

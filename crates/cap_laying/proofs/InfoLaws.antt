@@ -8,18 +8,18 @@ use Rattle.cap_bytes.specs.Grammar.{u1, u2, any, give, repeat, rest, counted, �
 use Rattle.cap_bytes.specs.Spelling.{Spells, Stands}
 use Rattle.cap_method.specs.declared.handler.HandlerInfo.{HandlerInfo}
 use Rattle.cap_method.specs.MethodFormat.{handler_info, methods_info}
-use Rattle.cap_writing.specs.Writing.{Writes}
+use Rattle.cap_writing.specs.Writing.{SpellsInPlace}
 use Rattle.cap_writing.proofs.Written.{writes_give, writes_number, writes_piece, writes_then, writes_stands}
 use Rattle.cap_laying.specs.declared.member.Member.{Member}
 use Rattle.cap_laying.specs.HandlerTable.{active, entry_bytes, table_bytes}
 use Rattle.cap_laying.specs.Member.{body_bytes, body_size, bodies, bytes_if, size_if}
-use Rattle.cap_laying.specs.MethodInfo.{method_info, methods_start, place_of, IsSmallEntry, AreSmallEntries, IsWritten}
+use Rattle.cap_laying.specs.MethodInfo.{method_info, methods_start, place_in_table, IsSmallEntry, AreSmallEntries, IsWritten}
 use Rattle.cap_laying.proofs.HeaderLaws.{writes_u1, length_body}
 
-writes_u2 : (total n at : ℕ) → n < 65536 → Writes total u2 at (big_bytes 2 n) n
+writes_u2 : (total n at : ℕ) → n < 65536 → SpellsInPlace total u2 at (big_bytes 2 n) n
 writes_u2 total n at h = writes_number total 2 n at any h refl
 
-entry_written : (total at : ℕ) (e : HandlerInfo) → IsSmallEntry e → Writes total handler_info at (entry_bytes e) e
+entry_written : (total at : ℕ) (e : HandlerInfo) → IsSmallEntry e → SpellsInPlace total handler_info at (entry_bytes e) e
 unfolding entry_bytes
 entry_written total at e small =
     let a = active e in
@@ -28,17 +28,17 @@ entry_written total at e small =
     let p1 = at + length (big_bytes 2 e.start) in
     let p2 = p1 + length (big_bytes 2 a) in
     let p3 = p2 + length (big_bytes 2 e.entry) in
-    let four : Writes total (u2 >>= λ index. give (record { start = e.start; stop = nat_le (2 ^ 15) a; length = a % 2 ^ 15; entry = e.entry; index = index })) p3 (big_bytes 2 e.index ++ []) read =
+    let four : SpellsInPlace total (u2 >>= λ index. give (record { start = e.start; stop = nat_le (2 ^ 15) a; length = a % 2 ^ 15; entry = e.entry; index = index })) p3 (big_bytes 2 e.index ++ []) read =
     writes_then total p3 u2 (λ index. give (record { start = e.start; stop = nat_le (2 ^ 15) a; length = a % 2 ^ 15; entry = e.entry; index = index })) (big_bytes 2 e.index) [] e.index read (writes_u2 total e.index p3 small.index) (writes_give total (p3 + length (big_bytes 2 e.index)) read) in
-    let four' : Writes total (u2 >>= λ index. give (record { start = e.start; stop = nat_le (2 ^ 15) a; length = a % 2 ^ 15; entry = e.entry; index = index })) p3 (big_bytes 2 e.index) read = subst (λ xs. Writes total (u2 >>= λ index. give (record { start = e.start; stop = nat_le (2 ^ 15) a; length = a % 2 ^ 15; entry = e.entry; index = index })) p3 xs read) (append-nil (big_bytes 2 e.index)) four in
-    let three : Writes total (u2 >>= λ entry. u2 >>= λ index. give (record { start = e.start; stop = nat_le (2 ^ 15) a; length = a % 2 ^ 15; entry = entry; index = index })) p2 (big_bytes 2 e.entry ++ big_bytes 2 e.index) read =
+    let four' : SpellsInPlace total (u2 >>= λ index. give (record { start = e.start; stop = nat_le (2 ^ 15) a; length = a % 2 ^ 15; entry = e.entry; index = index })) p3 (big_bytes 2 e.index) read = subst (λ xs. SpellsInPlace total (u2 >>= λ index. give (record { start = e.start; stop = nat_le (2 ^ 15) a; length = a % 2 ^ 15; entry = e.entry; index = index })) p3 xs read) (append-nil (big_bytes 2 e.index)) four in
+    let three : SpellsInPlace total (u2 >>= λ entry. u2 >>= λ index. give (record { start = e.start; stop = nat_le (2 ^ 15) a; length = a % 2 ^ 15; entry = entry; index = index })) p2 (big_bytes 2 e.entry ++ big_bytes 2 e.index) read =
     writes_then total p2 u2 (λ entry. u2 >>= λ index. give (record { start = e.start; stop = nat_le (2 ^ 15) a; length = a % 2 ^ 15; entry = entry; index = index })) (big_bytes 2 e.entry) (big_bytes 2 e.index) e.entry read (writes_u2 total e.entry p2 small.entry) four' in
-    let two : Writes total (u2 >>= λ active. u2 >>= λ entry. u2 >>= λ index. give (record { start = e.start; stop = nat_le (2 ^ 15) active; length = active % 2 ^ 15; entry = entry; index = index })) p1 (big_bytes 2 a ++ (big_bytes 2 e.entry ++ big_bytes 2 e.index)) read =
+    let two : SpellsInPlace total (u2 >>= λ active. u2 >>= λ entry. u2 >>= λ index. give (record { start = e.start; stop = nat_le (2 ^ 15) active; length = active % 2 ^ 15; entry = entry; index = index })) p1 (big_bytes 2 a ++ (big_bytes 2 e.entry ++ big_bytes 2 e.index)) read =
     writes_then total p1 u2 (λ active. u2 >>= λ entry. u2 >>= λ index. give (record { start = e.start; stop = nat_le (2 ^ 15) active; length = active % 2 ^ 15; entry = entry; index = index })) (big_bytes 2 a) (big_bytes 2 e.entry ++ big_bytes 2 e.index) a read (writes_u2 total a p1 facts.0) three in
-    let one : Writes total handler_info at (big_bytes 2 e.start ++ (big_bytes 2 a ++ (big_bytes 2 e.entry ++ big_bytes 2 e.index))) read =
+    let one : SpellsInPlace total handler_info at (big_bytes 2 e.start ++ (big_bytes 2 a ++ (big_bytes 2 e.entry ++ big_bytes 2 e.index))) read =
     writes_then total at u2 (λ start. u2 >>= λ active. u2 >>= λ entry. u2 >>= λ index. give (record { start = start; stop = nat_le (2 ^ 15) active; length = active % 2 ^ 15; entry = entry; index = index })) (big_bytes 2 e.start) (big_bytes 2 a ++ (big_bytes 2 e.entry ++ big_bytes 2 e.index)) e.start read (writes_u2 total e.start at small.start) two in
     let same : read ≡ e = rw (facts.1, facts.2) refl in
-    subst (λ x. Writes total handler_info at (big_bytes 2 e.start ++ (big_bytes 2 a ++ (big_bytes 2 e.entry ++ big_bytes 2 e.index))) x) same one
+    subst (λ x. SpellsInPlace total handler_info at (big_bytes 2 e.start ++ (big_bytes 2 a ++ (big_bytes 2 e.entry ++ big_bytes 2 e.index))) x) same one
   where
     active_facts : (e : HandlerInfo) → e.length < 32768 → (active e < 65536) × (nat_le (2 ^ 15) (active e) ≡ e.stop) × (active e % 2 ^ 15 ≡ e.length)
     active_facts e h = by e.stop
@@ -47,13 +47,13 @@ entry_written total at e small =
         by true = (omega arith, grind arith, omega arith)
         by false = (omega arith, grind arith, omega arith)
 
-table_written : (total at : ℕ) (es : List HandlerInfo) → AreSmallEntries es → Writes total (repeat (length es) handler_info) at (table_bytes es) es
+table_written : (total at : ℕ) (es : List HandlerInfo) → AreSmallEntries es → SpellsInPlace total (repeat (length es) handler_info) at (table_bytes es) es
 table_written total at [] small = writes_give total at []
 table_written total at (e ∷ es) small =
     let next = at + length (entry_bytes e) in
-    let more : Writes total (repeat (length es) handler_info >>= λ xs. give (e ∷ xs)) next (table_bytes es ++ []) (e ∷ es) =
+    let more : SpellsInPlace total (repeat (length es) handler_info >>= λ xs. give (e ∷ xs)) next (table_bytes es ++ []) (e ∷ es) =
     writes_then total next (repeat (length es) handler_info) (λ xs. give (e ∷ xs)) (table_bytes es) [] es (e ∷ es) (table_written total next es small.1) (writes_give total (next + length (table_bytes es)) (e ∷ es)) in
-    let more' : Writes total (repeat (length es) handler_info >>= λ xs. give (e ∷ xs)) next (table_bytes es) (e ∷ es) = subst (λ xs. Writes total (repeat (length es) handler_info >>= λ xs. give (e ∷ xs)) next xs (e ∷ es)) (append-nil (table_bytes es)) more in
+    let more' : SpellsInPlace total (repeat (length es) handler_info >>= λ xs. give (e ∷ xs)) next (table_bytes es) (e ∷ es) = subst (λ xs. SpellsInPlace total (repeat (length es) handler_info >>= λ xs. give (e ∷ xs)) next xs (e ∷ es)) (append-nil (table_bytes es)) more in
     writes_then total at handler_info (λ x. repeat (length es) handler_info >>= λ xs. give (x ∷ xs)) (entry_bytes e) (table_bytes es) e (e ∷ es) (entry_written total at e small.0) more'
 
 length_entry : (e : HandlerInfo) → length (entry_bytes e) ≡ 8
@@ -76,7 +76,7 @@ length_table (e ∷ es) =
     let one = length_entry e in
     omega arith
 
-writes_rest : (total at : ℕ) (bytes : List ℕ) → total ≡ at + length bytes → Writes total rest at bytes bytes
+writes_rest : (total at : ℕ) (bytes : List ℕ) → total ≡ at + length bytes → SpellsInPlace total rest at bytes bytes
 unfolding Spells
 writes_rest total at bytes e = record {
   there = λ before after l t.
@@ -97,16 +97,16 @@ info_stands es tail few small =
     let total = length info in
     let at = 1 + length (table_bytes es) in
     let long : total ≡ at + length tail = omega (arith, length-append (table_bytes es) tail) in
-    let list : Writes total (counted handler_info) 0 (n ∷ table_bytes es) es = writes_then total 0 u1 (λ k. repeat k handler_info) (n ∷ []) (table_bytes es) n es (writes_u1 total n 0 (omega arith)) (table_written total 1 es small) in
-    let after : Writes total (rest >>= λ methods. give es) (0 + length (n ∷ table_bytes es)) (tail ++ []) es =
+    let list : SpellsInPlace total (counted handler_info) 0 (n ∷ table_bytes es) es = writes_then total 0 u1 (λ k. repeat k handler_info) (n ∷ []) (table_bytes es) n es (writes_u1 total n 0 (omega arith)) (table_written total 1 es small) in
+    let after : SpellsInPlace total (rest >>= λ methods. give es) (0 + length (n ∷ table_bytes es)) (tail ++ []) es =
     writes_then total (0 + length (n ∷ table_bytes es)) rest (λ methods. give es) tail [] tail es (writes_rest total (0 + length (n ∷ table_bytes es)) tail (omega arith)) (writes_give total (0 + length (n ∷ table_bytes es) + length tail) es) in
-    let after' : Writes total (rest >>= λ methods. give es) (0 + length (n ∷ table_bytes es)) tail es = subst (λ xs. Writes total (rest >>= λ methods. give es) (0 + length (n ∷ table_bytes es)) xs es) (append-nil tail) after in
-    let whole : Writes total methods_info 0 ((n ∷ table_bytes es) ++ tail) es = writes_then total 0 (counted handler_info) (λ handlers. rest >>= λ methods. give handlers) (n ∷ table_bytes es) tail es es list after' in
+    let after' : SpellsInPlace total (rest >>= λ methods. give es) (0 + length (n ∷ table_bytes es)) tail es = subst (λ xs. SpellsInPlace total (rest >>= λ methods. give es) (0 + length (n ∷ table_bytes es)) xs es) (append-nil tail) after in
+    let whole : SpellsInPlace total methods_info 0 ((n ∷ table_bytes es) ++ tail) es = writes_then total 0 (counted handler_info) (λ handlers. rest >>= λ methods. give handlers) (n ∷ table_bytes es) tail es es list after' in
     writes_stands methods_info info es whole
 
 -- ---- each method at its place
 
-pub bodies_there : (table : List (Option Member)) (lead : List ℕ) (at n : ℕ) (m : Member) → length lead ≡ at → slice_index_or table n None ≡ Some m → take (body_size m.body) (drop (place_of at table n) (lead ++ bodies table)) ≡ body_bytes m.body
+pub bodies_there : (table : List (Option Member)) (lead : List ℕ) (at n : ℕ) (m : Member) → length lead ≡ at → slice_index_or table n None ≡ Some m → take (body_size m.body) (drop (place_in_table at table n) (lead ++ bodies table)) ≡ body_bytes m.body
 bodies_there [] lead at n m l e = absurd (cc)
 bodies_there (None ∷ ms) lead at zero m l e = absurd (cc)
 bodies_there (Some k ∷ ms) lead at zero m l e =
@@ -119,7 +119,7 @@ bodies_there (s ∷ ms) lead at (suc n) m l e =
     let long = length_slot s in
     let front = length-append lead (bytes_if s) in
     let r = bodies_there ms (lead ++ bytes_if s) (at + size_if s) n m (omega arith) e in
-    subst (λ xs. take (body_size m.body) (drop (place_of (at + size_if s) ms n) xs) ≡ body_bytes m.body) (append_assoc lead (bytes_if s) (bodies ms)) r
+    subst (λ xs. take (body_size m.body) (drop (place_in_table (at + size_if s) ms n) xs) ≡ body_bytes m.body) (append_assoc lead (bytes_if s) (bodies ms)) r
   where
     length_slot : (s : Option Member) → length (bytes_if s) ≡ size_if s
     length_slot None = refl

@@ -14,9 +14,9 @@ use Rattle.cap_laying.specs.NewPlaces.{new_method, news_from, AreSmallBodies}
 use Rattle.jc_decode.specs.declared.symbols.Handler.{Handler}
 use Rattle.cap_method.specs.declared.handler.HandlerInfo.{HandlerInfo}
 use Rattle.cap_laying.specs.HandlerTable.{entries_at, table_bytes}
-use Rattle.cap_laying.specs.Blocks.{block_entries, entries_of, put_by, put_firsts, firsts, had_none, blocks, IsPlacedBody, ArePlaced, total_handlers}
-use Rattle.cap_laying.specs.MethodInfo.{method_info, place_of}
-use Rattle.cap_laying.specs.Members.{IsAlone, AreApart, IsWhole, IsMember, AreMembers}
+use Rattle.cap_laying.specs.Blocks.{block_entries, entries_of, put_by, put_firsts, firsts, had_none, blocks, IsPlacedBody, ArePlacedBodies, total_handlers}
+use Rattle.cap_laying.specs.MethodInfo.{method_info, place_in_table}
+use Rattle.cap_laying.specs.Members.{IsAlone, AreApart, HasHandlersInside, MayBeMember, AreMembers}
 use Rattle.cap_laying.proofs.PlaceLaws.{end_grows}
 
 -- what holds of each method of a list, and of each that a table has
@@ -128,8 +128,8 @@ own_slots size ms are apart = placed_own (replicate size None) size ms (length_n
 -- ---- its new place
 
 pub record IsPlaced (indexes : List ℕ) (at : ℕ) (table : List (Option Member)) (o : ℕ) (m : Member) : Type 0 where
-  pub new : at_offset (news_from indexes at table) o ≡ Some (new_method indexes (place_of at table o) m)
-  pub within : place_of at table o + body_size m.body ≤ end_from at table
+  pub new : at_offset (news_from indexes at table) o ≡ Some (new_method indexes (place_in_table at table o) m)
+  pub within : place_in_table at table o + body_size m.body ≤ end_from at table
 
 is_placed : (indexes : List ℕ) (at : ℕ) (table : List (Option Member)) (o : ℕ) (m : Member) → slot table o ≡ Some m → IsPlaced indexes at table o m
 is_placed indexes at [] o m e = absurd (cc)
@@ -145,40 +145,40 @@ is_placed indexes at (s ∷ ms) (suc o) m e =
 offset_is : (o : ℕ) (n : Option NewMethod) (m : NewMethod) → n ≡ Some m → offset_or o n ≡ m.offset
 offset_is o n m e = rw e refl
 
-pub to_place : (indexes : List ℕ) (at : ℕ) (table : List (Option Member)) (o : ℕ) (m : Member) → slot table o ≡ Some m → (to (news_from indexes at table) o ≡ place_of at table o) × (place_of at table o + body_size m.body ≤ end_from at table)
+pub to_place : (indexes : List ℕ) (at : ℕ) (table : List (Option Member)) (o : ℕ) (m : Member) → slot table o ≡ Some m → (to (news_from indexes at table) o ≡ place_in_table at table o) × (place_in_table at table o + body_size m.body ≤ end_from at table)
 unfolding to
 to_place indexes at table o m e =
     let p = is_placed indexes at table o m e in
-    (offset_is o (at_offset (news_from indexes at table) o) (new_method indexes (place_of at table o) m) p.new, p.within)
+    (offset_is o (at_offset (news_from indexes at table) o) (new_method indexes (place_in_table at table o) m) p.new, p.within)
 
-pub is_new : (indexes : List ℕ) (at : ℕ) (table : List (Option Member)) (o : ℕ) (m : Member) → slot table o ≡ Some m → at_offset (news_from indexes at table) o ≡ Some (new_method indexes (place_of at table o) m)
+pub is_new : (indexes : List ℕ) (at : ℕ) (table : List (Option Member)) (o : ℕ) (m : Member) → slot table o ≡ Some m → at_offset (news_from indexes at table) o ≡ Some (new_method indexes (place_in_table at table o) m)
 is_new indexes at table o m e = (is_placed indexes at table o m e).new
 
 -- a method whose body is whole lies in the info
-placed_body : (at : ℕ) (b : Body) → IsWhole b → at + body_size b ≤ 65535 → IsPlacedBody at b
+placed_body : (at : ℕ) (b : Body) → HasHandlersInside b → at + body_size b ≤ 65535 → IsPlacedBody at b
 placed_body at (Code laid) whole h = (omega arith, whole)
 placed_body at (Lead header) whole h = tt
 
-all_placed : (indexes : List ℕ) (at size : ℕ) (table : List (Option Member)) (bs : List Member) → end_from at table ≤ 65535 → All (IsInSlot table) bs → All (IsMember size) bs → ArePlaced (news_from indexes at table) bs
+all_placed : (indexes : List ℕ) (at size : ℕ) (table : List (Option Member)) (bs : List Member) → end_from at table ≤ 65535 → All (IsInSlot table) bs → All (MayBeMember size) bs → ArePlacedBodies (news_from indexes at table) bs
 all_placed indexes at size table [] end own are = tt
 all_placed indexes at size table (b ∷ bs) end own are =
     let p = to_place indexes at table b.offset b own.0 in
     let within = p.1 in
-    (subst (λ o. IsPlacedBody o b.body) (sym p.0) (placed_body (place_of at table b.offset) b.body are.0.whole (omega arith)), all_placed indexes at size table bs end own.1 are.1)
+    (subst (λ o. IsPlacedBody o b.body) (sym p.0) (placed_body (place_in_table at table b.offset) b.body are.0.whole (omega arith)), all_placed indexes at size table bs end own.1 are.1)
 
-members_all : (size : ℕ) (ms : List Member) → AreMembers size ms → All (IsMember size) ms
+members_all : (size : ℕ) (ms : List Member) → AreMembers size ms → All (MayBeMember size) ms
 members_all size [] h = tt
 members_all size (m ∷ ms) h = (h.0, members_all size ms h.1)
 
-pub blocks_placed : (size room at : ℕ) (indexes : List ℕ) (ms : List Member) → AreMembers size ms → AreApart ms → end_from at (by_offset size ms) ≤ 65535 → ArePlaced (news_from indexes at (by_offset size ms)) (blocks room ms)
+pub blocks_placed : (size room at : ℕ) (indexes : List ℕ) (ms : List Member) → AreMembers size ms → AreApart ms → end_from at (by_offset size ms) ≤ 65535 → ArePlacedBodies (news_from indexes at (by_offset size ms)) (blocks room ms)
 blocks_placed size room at indexes ms are apart end =
     all_placed indexes at size (by_offset size ms) (blocks room ms) end
     (blocks_all (IsInSlot (by_offset size ms)) room ms (own_slots size ms are apart))
-    (blocks_all (IsMember size) room ms (members_all size ms are))
+    (blocks_all (MayBeMember size) room ms (members_all size ms are))
 
 -- ---- what the steps ask for
 
-within_of : (size : ℕ) (ms : List Member) → All (IsMember size) ms → AreWithin size ms
+within_of : (size : ℕ) (ms : List Member) → All (MayBeMember size) ms → AreWithin size ms
 within_of size [] h = tt
 within_of size (m ∷ ms) h = (h.0.within, within_of size ms h.1)
 
@@ -186,15 +186,15 @@ pub members_within : (size : ℕ) (ms : List Member) → AreMembers size ms → 
 members_within size ms are = within_of size ms (members_all size ms are)
 
 pub blocks_within : (size room : ℕ) (ms : List Member) → AreMembers size ms → AreWithin size (blocks room ms)
-blocks_within size room ms are = within_of size (blocks room ms) (blocks_all (IsMember size) room ms (members_all size ms are))
+blocks_within size room ms are = within_of size (blocks room ms) (blocks_all (MayBeMember size) room ms (members_all size ms are))
 
-small_slots : (size : ℕ) (table : List (Option Member)) → AllIf (IsMember size) table → AreSmallBodies table
+small_slots : (size : ℕ) (table : List (Option Member)) → AllIf (MayBeMember size) table → AreSmallBodies table
 small_slots size [] h = tt
 small_slots size (None ∷ ms) h = (tt, small_slots size ms h.1)
 small_slots size (Some m ∷ ms) h = (h.0.small, small_slots size ms h.1)
 
 pub members_small : (size : ℕ) (ms : List Member) → AreMembers size ms → AreSmallBodies (by_offset size ms)
-members_small size ms are = small_slots size (by_offset size ms) (offset_all (IsMember size) size ms (members_all size ms are))
+members_small size ms are = small_slots size (by_offset size ms) (offset_all (MayBeMember size) size ms (members_all size ms are))
 
 -- ---- how many handlers there are
 

@@ -4,7 +4,7 @@ use Rattle.cap_laying.specs.declared.member.Member.{Member}
 use Rattle.cap_laying.specs.HandlerTable.{table_bytes}
 use Rattle.cap_laying.specs.Member.{body_size, bodies, by_offset}
 use Rattle.cap_laying.specs.NewPlaces.{new_method, news_from}
-use Rattle.cap_laying.specs.Blocks.{blocks, entries_of, indexes_of}
+use Rattle.cap_laying.specs.Blocks.{blocks, entries_of, handler_indexes}
 use Rattle.cap_laying.specs.Members.{MayBeWritten, new_places, start_of, written_info}
 use Rattle.cap_laying.specs.Standing.{StandsAnew, AllStand}
 use Rattle.cap_laying.proofs.InfoLaws.{bodies_there}
@@ -16,7 +16,7 @@ unfolding new_places written_info
 stands_anew size room ms m own =
     let table = by_offset size ms in
     let order = blocks room ms in
-    let indexes = indexes_of size order in
+    let indexes = handler_indexes size order in
     let at = start_of room ms in
     let news = news_from indexes at table in
     let entries = entries_of news order in

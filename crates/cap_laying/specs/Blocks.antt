@@ -32,17 +32,17 @@ abbrev pub blocks : ℕ → List Member → List Member
 blocks room ms = flat_map option_to_list (firsts room ms) ++ filter had_none ms
 
 -- the number of a method's first entry, when so many come before it, and 0 where it has none
-abbrev pub index_after : ℕ → ℕ → ℕ
-index_after before count = if count == 0 then 0 else before
+abbrev pub first_entry : ℕ → ℕ → ℕ
+first_entry before count = if count == 0 then 0 else before
 
 -- the numbers by the former offsets of the methods
 abbrev pub put_indexes : List ℕ → ℕ → List Member → List ℕ
 put_indexes indexes before [] = indexes
 put_indexes indexes before (b ∷ bs) =
-    put_indexes (slice_set indexes b.offset (index_after before (length (handlers_of b.body)))) (before + length (handlers_of b.body)) bs
+    put_indexes (slice_set indexes b.offset (first_entry before (length (handlers_of b.body)))) (before + length (handlers_of b.body)) bs
 
-unfoldable pub indexes_of : ℕ → List Member → List ℕ
-indexes_of size blocks = put_indexes (replicate size 0) 0 blocks
+unfoldable pub handler_indexes : ℕ → List Member → List ℕ
+handler_indexes size blocks = put_indexes (replicate size 0) 0 blocks
 
 -- the entries of a method that stands at its new place, and those of all
 abbrev pub block_entries : List (Option NewMethod) → Member → List HandlerInfo
@@ -57,9 +57,9 @@ IsPlacedBody at (Code laid) =
     (at + lead_size (Code laid) + length laid.now.code ≤ 65535) × AreInside (length laid.now.code) laid.now.handlers
 IsPlacedBody at (Header header) = Unit {0}
 
-abbrev pub ArePlaced : List (Option NewMethod) → List Member → Type 0
-ArePlaced news [] = Unit {0}
-ArePlaced news (b ∷ bs) = IsPlacedBody (to news b.offset) b.body × ArePlaced news bs
+abbrev pub ArePlacedBodies : List (Option NewMethod) → List Member → Type 0
+ArePlacedBodies news [] = Unit {0}
+ArePlacedBodies news (b ∷ bs) = IsPlacedBody (to news b.offset) b.body × ArePlacedBodies news bs
 
 -- how many handlers methods have
 abbrev pub total_handlers : List Member → ℕ

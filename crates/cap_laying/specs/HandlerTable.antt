@@ -14,13 +14,13 @@ abbrev pub stops : Handler → List Handler → Bool
 stops h later = not (list_any (is_in h) later)
 
 -- the entry of a handler of code that begins at an offset
-abbrev pub entry_at : ℕ → Bool → Handler → HandlerInfo
-entry_at start stop h = record { start = start + h.start; stop = stop; length = h.length; entry = start + h.entry; index = h.pool }
+abbrev pub handler_entry : ℕ → Bool → Handler → HandlerInfo
+handler_entry start stop h = record { start = start + h.start; stop = stop; length = h.length; entry = start + h.entry; index = h.pool }
 
 -- the entries of a method's handlers, in their order
 abbrev pub entries_at : ℕ → List Handler → List HandlerInfo
 entries_at start [] = []
-entries_at start (h ∷ hs) = entry_at start (stops h hs) h ∷ entries_at start hs
+entries_at start (h ∷ hs) = handler_entry start (stops h hs) h ∷ entries_at start hs
 
 -- the stop bit stands above the length
 abbrev pub active : HandlerInfo → ℕ

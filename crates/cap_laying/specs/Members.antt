@@ -7,7 +7,7 @@ use Rattle.cap_laying.specs.declared.member.Member.{Member}
 use Rattle.cap_laying.specs.HandlerTable.{AreInside}
 use Rattle.cap_laying.specs.Member.{by_offset, end_from}
 use Rattle.cap_laying.specs.NewPlaces.{IsSmallBody, news_from}
-use Rattle.cap_laying.specs.Blocks.{blocks, entries_of, indexes_of, total_handlers}
+use Rattle.cap_laying.specs.Blocks.{blocks, entries_of, handler_indexes, total_handlers}
 use Rattle.cap_laying.specs.MethodInfo.{method_info}
 
 -- no other method stood at this offset
@@ -21,18 +21,18 @@ AreApart [] = Unit {0}
 AreApart (m ∷ ms) = IsAlone m.offset ms × AreApart ms
 
 -- a method has at most 32,767 bytes of code, in which its handlers lie
-abbrev pub IsWhole : Body → Type 0
-IsWhole (Code laid) = AreInside (length laid.now.code) laid.now.handlers
-IsWhole (Header header) = Unit {0}
+abbrev pub HasHandlersInside : Body → Type 0
+HasHandlersInside (Code laid) = AreInside (length laid.now.code) laid.now.handlers
+HasHandlersInside (Header header) = Unit {0}
 
-pub record IsMember (size : ℕ) (m : Member) : Type 0 where
+pub record MayBeMember (size : ℕ) (m : Member) : Type 0 where
   pub within : m.offset < size
   pub small : IsSmallBody m.body
-  pub whole : IsWhole m.body
+  pub whole : HasHandlersInside m.body
 
 abbrev pub AreMembers : ℕ → List Member → Type 0
 AreMembers size [] = Unit {0}
-AreMembers size (m ∷ ms) = IsMember size m × AreMembers size ms
+AreMembers size (m ∷ ms) = MayBeMember size m × AreMembers size ms
 
 -- the methods of a component: they stood apart in an info of so many bytes, and have at most 255 handlers
 pub record MayBeWritten (size : ℕ) (ms : List Member) : Type 0 where
@@ -48,7 +48,7 @@ start_of room ms = 1 + 8 * total_handlers (blocks room ms)
 
 -- where each stands, by its former offset
 unfoldable pub new_places : ℕ → ℕ → List Member → List (Option NewMethod)
-new_places size room ms = news_from (indexes_of size (blocks room ms)) (start_of room ms) (by_offset size ms)
+new_places size room ms = news_from (handler_indexes size (blocks room ms)) (start_of room ms) (by_offset size ms)
 
 -- the info of the component
 unfoldable pub written_info : ℕ → ℕ → List Member → List ℕ

@@ -16,10 +16,10 @@ abbrev pub methods_start : List HandlerInfo → ℕ
 methods_start entries = 1 + 8 * length entries
 
 -- the offset at which the n-th method of a table stands, where the first stands at a place
-abbrev pub place_of : ℕ → List (Option Member) → ℕ → ℕ
-place_of at [] n = at
-place_of at (m ∷ ms) zero = at
-place_of at (m ∷ ms) (suc n) = place_of (at + size_if m) ms n
+abbrev pub place_in_table : ℕ → List (Option Member) → ℕ → ℕ
+place_in_table at [] n = at
+place_in_table at (m ∷ ms) zero = at
+place_in_table at (m ∷ ms) (suc n) = place_in_table (at + size_if m) ms n
 
 -- the entries have numbers that their items hold
 pub record IsSmallEntry (e : HandlerInfo) : Type 0 where
@@ -36,4 +36,4 @@ AreSmallEntries (e ∷ es) = IsSmallEntry e × AreSmallEntries es
 pub record IsWritten (entries : List HandlerInfo) (table : List (Option Member)) (info : List ℕ) : Type 0 where
   pub stands : Stands methods_info info entries
   pub bodies : (n : ℕ) (m : Member) → slice_index_or table n None ≡ Some m
-      → take (body_size m.body) (drop (place_of (methods_start entries) table n) info) ≡ body_bytes m.body
+      → take (body_size m.body) (drop (place_in_table (methods_start entries) table n) info) ≡ body_bytes m.body

@@ -4,7 +4,7 @@ use Rattle.cap_renewal.specs.NewMethods.{at_offset, to}
 use Rattle.cap_laying.specs.declared.member.Member.{Member}
 use Rattle.cap_laying.specs.Member.{body_bytes, body_size}
 use Rattle.cap_laying.specs.NewPlaces.{new_method}
-use Rattle.cap_laying.specs.Blocks.{blocks, indexes_of}
+use Rattle.cap_laying.specs.Blocks.{blocks, handler_indexes}
 use Rattle.cap_laying.specs.Members.{MayBeWritten, new_places, written_info}
 
 -- its header and its code stand at its new offset, inside the info, and its numbers are told of it
@@ -12,7 +12,7 @@ pub record StandsAnew (size room : ℕ) (all : List Member) (m : Member) : Type 
   pub bytes : take (body_size m.body) (drop (to (new_places size room all) m.offset) (written_info size room all))
       ≡ body_bytes m.body
   pub numbers : at_offset (new_places size room all) m.offset
-      ≡ Some (new_method (indexes_of size (blocks room all)) (to (new_places size room all) m.offset) m)
+      ≡ Some (new_method (handler_indexes size (blocks room all)) (to (new_places size room all) m.offset) m)
 
 abbrev pub AllStand : ℕ → ℕ → List Member → List Member → Type 0
 AllStand size room all [] = Unit {0}

@@ -1,7 +1,7 @@
 ghost use Rattle.std.specs.Prelude.{◌≡◌, ◌≤◌, ◌+◌, ◌++◌, IfOk, OnOk, filter, length};
 ghost use Rattle.std.specs.List.{flat_map};
 ghost use Rattle.std.specs.Option.{option_to_list};
-ghost use Rattle.cap_laying.specs.Blocks.{ArePlaced, IsPlacedBody, blocks, entries_of, firsts, had_none, indexes_of, total_handlers};
+ghost use Rattle.cap_laying.specs.Blocks.{ArePlacedBodies, IsPlacedBody, blocks, entries_of, firsts, had_none, handler_indexes, total_handlers};
 ghost use Rattle.cap_laying.specs.HandlerTable.{entries_at, table_bytes};
 ghost use Rattle.cap_laying.specs.Member.{AreWithin, handlers_of, lead_size};
 
@@ -83,7 +83,7 @@ pub(crate) fn handler_count(body: Body<'_>) -> usize
 
 /// The number of the first entry of each method in the table of the blocks, by its former offset in an info of
 /// so many bytes: 0 where it has none. There are at most 255 entries.
-#[tactic(auto, unfolding(crate::specs::Blocks::indexes_of))]
+#[tactic(auto, unfolding(crate::specs::Blocks::handler_indexes))]
 pub(crate) fn indexes(
     alloc: Global,
     size: usize,
@@ -91,7 +91,7 @@ pub(crate) fn indexes(
 ) -> Result<Vec<u16>, AllocError>
     requires within { AreWithin size blocks.now }
     requires few { total_handlers blocks.now ≤ 255 }
-    ensures { IfOk result (λ i. i.items ≡ indexes_of size blocks.now) }
+    ensures { IfOk result (λ i. i.items ≡ handler_indexes size blocks.now) }
 {
     let mut indexes = vec![in alloc; 0; size]?;
     let mut before = 0;
@@ -110,7 +110,7 @@ pub(crate) fn put_table(
     news: &NewMethods,
     out: &mut Vec<u8>,
 ) -> Result<(), AllocError>
-    requires { ArePlaced news.now blocks.now }
+    requires { ArePlacedBodies news.now blocks.now }
     ensures { OnOk result (out.new.items ≡ out.old.items ++ table_bytes (entries_of news.now blocks.now)) }
 {
     'members: for block in blocks {

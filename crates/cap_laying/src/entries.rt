@@ -1,5 +1,5 @@
 ghost use Rattle.std.specs.Prelude.{◌≡◌, ◌≤◌, ◌<◌, ◌+◌, ◌++◌, List, length, OnOk};
-ghost use Rattle.cap_laying.specs.HandlerTable.{AreInside, IsInside, entries_at, entry_at, entry_bytes, is_in, stops, table_bytes};
+ghost use Rattle.cap_laying.specs.HandlerTable.{AreInside, IsInside, entries_at, handler_entry, entry_bytes, is_in, stops, table_bytes};
 
 use jc_decode::Handler;
 use std::alloc::AllocError;
@@ -56,7 +56,7 @@ fn put_entry(
 ) -> Result<(), AllocError>
     requires inside { IsInside size handler }
     requires end { start + size ≤ 65535 }
-    ensures { OnOk result (out.new.items ≡ out.old.items ++ entry_bytes (entry_at start stop handler)) }
+    ensures { OnOk result (out.new.items ≡ out.old.items ++ entry_bytes (handler_entry start stop handler)) }
 {
     let active = if stop {
         0x8000 + handler.length

@@ -5,7 +5,7 @@ ghost use Rattle.cap_laying.specs.NewPlaces.{AreSmallBodies, IsSmallIf};
 ghost use Rattle.cap_laying.specs.References.{block_catches, body_indices, indices_if, method_indices, references_info};
 ghost use Rattle.cap_locations.specs.Catches.{catch_places};
 ghost use Rattle.cap_locations.specs.Telling.{IsFew, AppendsDistances};
-ghost use Rattle.jc_decode.specs.PoolIndex.{bytes_of};
+ghost use Rattle.jc_decode.specs.PoolIndex.{bytes_of_index};
 
 use crate::headers::header_size;
 use crate::member::{Body, Member};
@@ -49,7 +49,7 @@ fn tell_methods(
     requires end { end_from start table.now ≤ 65535 }
     requires order { told.old.last ≤ start }
     requires few { IsFew told.old }
-    ensures told { OnOk result (AppendsDistances told.old (method_indices (bytes_of width) start table.now) told.new) }
+    ensures told { OnOk result (AppendsDistances told.old (method_indices (bytes_of_index width) start table.now) told.new) }
     ensures few { OnOk result (IsFew told.new) }
 {
     let mut at = start;
@@ -71,7 +71,7 @@ fn tell_slot(
     requires end { at + size_if slot.now ≤ 65535 }
     requires order { told.old.last ≤ at }
     requires few { IsFew told.old }
-    ensures told { OnOk result (AppendsDistances told.old (indices_if (bytes_of width) at slot.now) told.new) }
+    ensures told { OnOk result (AppendsDistances told.old (indices_if (bytes_of_index width) at slot.now) told.new) }
     ensures few { OnOk result (IsFew told.new) }
     ensures last { OnOk result (told.new.last ≤ at + size_if slot.now) }
     ensures end { IfOk result (λ end. end ≡ at + size_if slot.now) }
@@ -91,7 +91,7 @@ fn tell_body(width: IndexWidth, at: u16, body: Body<'_>, told: &mut Told) -> Res
     requires end { at + body_size body ≤ 65535 }
     requires order { told.old.last ≤ at }
     requires few { IsFew told.old }
-    ensures told { OnOk result (AppendsDistances told.old (body_indices (bytes_of width) at body.entry) told.new) }
+    ensures told { OnOk result (AppendsDistances told.old (body_indices (bytes_of_index width) at body.entry) told.new) }
     ensures few { OnOk result (IsFew told.new) }
     ensures last { OnOk result (told.new.last ≤ at + body_size body.entry) }
 {

@@ -4,12 +4,12 @@ use Rattle.std.specs.List.{flat_map}
 use Rattle.jc_decode.specs.declared.insn.Insn.{Insn}
 use Rattle.jc_decode.specs.declared.insn.Placed.{Placed}
 use Rattle.jc_decode.specs.declared.pool_index.PoolIndex.{PoolIndex}
-use Rattle.jc_decode.specs.PoolIndex.{pool_index, bytes_of}
+use Rattle.jc_decode.specs.PoolIndex.{pool_index, bytes_of_index}
 
 -- the place of an index of so many bytes, of an instruction at a place
 abbrev pub index_by : ℕ → ℕ → Option PoolIndex → List ℕ
 index_by width place None = []
-index_by width place (Some i) = if bytes_of i.width == width then (place + i.at) ∷ [] else []
+index_by width place (Some i) = if bytes_of_index i.width == width then (place + i.at) ∷ [] else []
 
 abbrev pub index_places : ℕ → ℕ → Placed → List ℕ
 index_places width start p = index_by width (start + p.place) (pool_index p.insn)

@@ -3,7 +3,7 @@ ghost use Rattle.cap_locations.specs.Indices.{HasIndexInside, index_by, indices}
 ghost use Rattle.cap_locations.specs.Telling.{IsFew, AppendsDistances};
 ghost use Rattle.jc_decode.specs.Encoding.{IsAllowed};
 ghost use Rattle.jc_decode.specs.Listing.{listing};
-ghost use Rattle.jc_decode.specs.PoolIndex.{bytes_of, pool_index};
+ghost use Rattle.jc_decode.specs.PoolIndex.{bytes_of_index, pool_index};
 
 use crate::told::Told;
 use cap_bytes::View;
@@ -24,7 +24,7 @@ pub fn tell_indices(
     requires order { told.old.last ≤ start }
     requires few { IsFew told.old }
     ensures few { OnOk result (IsFew told.new) }
-    ensures told { OnOk result (AppendsDistances told.old (indices (bytes_of width) start (listing code.entry.bytes.now)) told.new) }
+    ensures told { OnOk result (AppendsDistances told.old (indices (bytes_of_index width) start (listing code.entry.bytes.now)) told.new) }
     ensures last { OnOk result (told.new.last ≤ start + length code.entry.bytes.now) }
     ensures begun { OnErr result (take (length told.old.bytes.items) told.new.bytes.items ≡ told.old.bytes.items) }
 {
@@ -45,7 +45,7 @@ fn tell_insn(width: IndexWidth, place: u16, insn: Insn, told: &mut Told) -> Resu
     requires order { told.old.last ≤ place }
     requires few { IsFew told.old }
     ensures few { OnOk result (IsFew told.new) }
-    ensures told { OnOk result (AppendsDistances told.old (index_by (bytes_of width) place (pool_index insn)) told.new) }
+    ensures told { OnOk result (AppendsDistances told.old (index_by (bytes_of_index width) place (pool_index insn)) told.new) }
     ensures last { OnOk result (told.new.last ≤ place + insn.len) }
     ensures begun { OnErr result (take (length told.old.bytes.items) told.new.bytes.items ≡ told.old.bytes.items) }
 {
@@ -67,7 +67,7 @@ fn tell_index(
     requires order { told.old.last < place + index.at }
     requires few { IsFew told.old }
     ensures few { OnOk result (IsFew told.new) }
-    ensures told { OnOk result (AppendsDistances told.old (index_by (bytes_of width) place (Some index)) told.new) }
+    ensures told { OnOk result (AppendsDistances told.old (index_by (bytes_of_index width) place (Some index)) told.new) }
     ensures last { OnOk result (told.new.last ≤ place + index.at) }
     ensures begun { OnErr result (take (length told.old.bytes.items) told.new.bytes.items ≡ told.old.bytes.items) }
 {
@@ -78,7 +78,7 @@ fn tell_index(
 }
 
 fn bytes_of(width: IndexWidth) -> u8
-    ensures { result ≡ bytes_of width }
+    ensures { result ≡ bytes_of_index width }
 {
     match width {
         IndexWidth::One => 1,

@@ -10,16 +10,16 @@ use Rattle.cap_bytes.specs.Spelling.{Spells, info_of}
 use Rattle.cap_bytes.specs.Taking.{Takes}
 use Rattle.cap_bytes.proofs.Laws.{spelled-read, read-spells, Spells-one}
 use Rattle.cap_method.specs.declared.header.MethodHeader.{MethodHeader}
-use Rattle.cap_method.specs.MethodFormat.{Header, header_info}
+use Rattle.cap_method.specs.MethodFormat.{Header, method_header}
 use Rattle.cap_method.specs.MethodPart.{header_seen, HeaderAt}
 
-pub header_found : (r : Result MethodHeader FormFault) (before after : Cursor) → Takes header_seen header_info before r after → IfSome (result_ok r) (λ h. HeaderAt before.info.bytes.now before.at (header_seen h))
-header_found (Ok h) before after t = (after.at, read-spells (info_of before.part) header_info before.info.bytes.now before.at (header_seen h) after.at t.value)
+pub header_found : (r : Result MethodHeader FormFault) (before after : Cursor) → Takes header_seen method_header before r after → IfSome (result_ok r) (λ h. HeaderAt before.info.bytes.now before.at (header_seen h))
+header_found (Ok h) before after t = (after.at, read-spells (info_of before.part) method_header before.info.bytes.now before.at (header_seen h) after.at t.value)
 header_found (Err fault) before after t = tt
 
-pub header_none : (r : Result MethodHeader FormFault) (before after : Cursor) → Takes header_seen header_info before r after → IfNone (result_ok r) ((h : Header) → HeaderAt before.info.bytes.now before.at h → ⊥)
+pub header_none : (r : Result MethodHeader FormFault) (before after : Cursor) → Takes header_seen method_header before r after → IfNone (result_ok r) ((h : Header) → HeaderAt before.info.bytes.now before.at h → ⊥)
 header_none (Ok h) before after t = tt
-header_none (Err fault) before after t = λ h there. let e = spelled-read (info_of before.part) header_info before.info.bytes.now before.at h there.0 there.1 in let f = t.answer in absurd cc
+header_none (Err fault) before after t = λ h there. let e = spelled-read (info_of before.part) method_header before.info.bytes.now before.at h there.0 there.1 in let f = t.answer in absurd cc
 
 reaches : (b : Bool) (w at n : ℕ) (bytes : List ℕ) → leb (at + w) (length bytes) ≡ b → cond b (Some (big_number w (drop at bytes))) None ≡ Some n → at + w ≤ length bytes
 reaches true w at n bytes e h = leb-true _ _ e
@@ -32,4 +32,4 @@ header_within bytes offset h there past = let first = reaches _ 1 offset there.1
 
 -- and one at most stands there
 pub header_one : (bytes : List ℕ) (offset : ℕ) (g h : Header) → HeaderAt bytes offset g → HeaderAt bytes offset h → g ≡ h
-header_one bytes offset g h p q = sym (Spells-one header_info bytes offset g h p.0 q.0 p.1 q.1).0
+header_one bytes offset g h p q = sym (Spells-one method_header bytes offset g h p.0 q.0 p.1 q.1).0

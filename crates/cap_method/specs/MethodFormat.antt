@@ -50,5 +50,5 @@ header_after true first = extended_header first
 header_after false first = compact_header first
 
 -- the highest bit of the first byte tells the two apart
-abbrev pub header_info : Grammar Header
-header_info = u1 >>= λ first. header_after (nat_le 128 first) first
+abbrev pub method_header : Grammar Header
+method_header = u1 >>= λ first. header_after (nat_le 128 first) first

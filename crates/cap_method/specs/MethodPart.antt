@@ -7,7 +7,7 @@ use Rattle.cap_method.specs.declared.handler.HandlerInfo.{HandlerInfo}
 use Rattle.cap_method.specs.declared.handlers.Handlers.{Handlers}
 use Rattle.cap_method.specs.declared.header.MethodHeader.{MethodHeader}
 use Rattle.cap_method.specs.declared.method_part.MethodPart.{MethodPart}
-use Rattle.cap_method.specs.MethodFormat.{Header, handler_info, header_info}
+use Rattle.cap_method.specs.MethodFormat.{Header, handler_info, method_header}
 
 -- the entries of the handler table that an iterator has left
 abbrev pub handlers_left : Handlers → List HandlerInfo
@@ -22,4 +22,4 @@ header_seen h = record { flags = h.flags.0; size = h.size; max_stack = h.max_sta
 
 -- a header stands at this offset of the info
 abbrev pub HeaderAt : List ℕ → ℕ → Header → Type 0
-HeaderAt bytes offset header = (after : ℕ) × Spells header_info bytes offset header after
+HeaderAt bytes offset header = (after : ℕ) × Spells method_header bytes offset header after

@@ -2,9 +2,9 @@ ghost use Rattle.std.specs.Prelude.{◌≡◌, ◌≤◌, length, IfOk, IfErr, I
 ghost use Rattle.std.specs.Iterator.{YieldsFirst, item_count};
 ghost use Rattle.cap_bytes.specs.Exact.{IsExact};
 ghost use Rattle.cap_bytes.specs.Spelling.{info_of, Stands, Breaks};
-ghost use Rattle.cap_bytes.specs.Taking.{Takes, Passes, Reads, same};
+ghost use Rattle.cap_bytes.specs.Taking.{Takes, PassesOver, Reads, same};
 ghost use Rattle.cap_bytes.specs.Grammar.{repeat};
-ghost use Rattle.cap_method.specs.MethodFormat.{Header, handler_info, methods_info, header_info};
+ghost use Rattle.cap_method.specs.MethodFormat.{Header, handler_info, methods_info, method_header};
 ghost use Rattle.cap_method.specs.MethodPart.{handlers, handlers_left, header_seen, HeaderAt};
 
 use crate::handler::HandlerInfo;
@@ -37,7 +37,7 @@ fn handler(items: &mut Cursor<'_>) -> Result<HandlerInfo, FormFault>
 /// Passes over so many handlers.
 #[tactic(auto, using(cap_bytes::proofs::Loops::passing))]
 fn pass_handlers(items: &mut Cursor<'_>, count: u8) -> Result<(), FormFault>
-    ensures { Passes (repeat count handler_info) items.old result items.new }
+    ensures { PassesOver (repeat count handler_info) items.old result items.new }
 {
     'handlers: for _ in 0..count {
         handler(items)?;
@@ -100,7 +100,7 @@ impl<'a> Iterator for Handlers<'a> {
 
 /// The next header.
 fn header(items: &mut Cursor<'_>) -> Result<MethodHeader, FormFault>
-    ensures { Takes header_seen header_info items.old result items.new }
+    ensures { Takes header_seen method_header items.old result items.new }
 {
     let first = items.u1()?;
     let flags = MethodFlags::of(first);

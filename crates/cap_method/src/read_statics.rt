@@ -2,7 +2,7 @@ ghost use Rattle.std.specs.Prelude.{◌≡◌, ◌≤◌, length, IfOk, IfErr, o
 ghost use Rattle.std.specs.Iterator.{YieldsFirstBy, item_count};
 ghost use Rattle.cap_bytes.specs.Exact.{IsExact};
 ghost use Rattle.cap_bytes.specs.Spelling.{info_of, Stands, Breaks};
-ghost use Rattle.cap_bytes.specs.Taking.{Takes, Passes, Reads, bytes};
+ghost use Rattle.cap_bytes.specs.Taking.{Takes, PassesOver, Reads, bytes};
 ghost use Rattle.cap_bytes.specs.Grammar.{repeat};
 ghost use Rattle.cap_method.specs.StaticFormat.{is_primitive, is_whole, array_init_info, array_inits, non_default_values, statics_info};
 ghost use Rattle.cap_method.specs.StaticPart.{array_seen, arrays_left, statics_seen};
@@ -47,7 +47,7 @@ fn array_init<'a>(items: &mut Cursor<'a>) -> Result<ArrayInit<'a>, FormFault>
 /// Passes over so many initial arrays.
 #[tactic(auto, using(cap_bytes::proofs::Loops::passing))]
 fn pass_arrays(items: &mut Cursor<'_>, count: u16) -> Result<(), FormFault>
-    ensures { Passes (repeat count array_init_info) items.old result items.new }
+    ensures { PassesOver (repeat count array_init_info) items.old result items.new }
 {
     'arrays: for _ in 0..count {
         array_init(items)?;

@@ -3,17 +3,17 @@ use Rattle.std.proofs.Common.{◌≡◌, ℕ, ◌+◌, ◌≤◌, Bool, true, fa
 use Rattle.std.proofs.lemmas.List.Sums.{sum_by-cons}
 use mathlib.Core.Path.{fun_ext}
 use Rattle.offset_set.specs.Sets.{is_among, is_repeated}
-use Rattle.offset_set.specs.Tallies.{Tallied, counted, once}
+use Rattle.offset_set.specs.Tallies.{Tallied, tally_of, once}
 use Rattle.cap_class.specs.ClassFormat.{Class}
 use Rattle.cap_desc.specs.DescriptorFormat as desc
 use Rattle.cap_components.specs.declared.fault.PackFault.TheVariants.{ClassUndescribed}
-use Rattle.cap_package.specs.NameChecks.{undescribed_fault, no_class_fault, not_own_fault, is_class_at, own, class_unless}
+use Rattle.cap_package.specs.NameChecks.{undescribed_fault, undescribed_class_fault, not_own_fault, is_class_at, own, class_unless}
 
-abbrev pub refs : List desc.Class → List ℕ
-refs = map (λ (d : desc.Class). d.class_ref)
+abbrev pub refs : List desc.ClassDescriptor → List ℕ
+refs = map (λ (d : desc.ClassDescriptor). d.class_ref)
 
-abbrev count : ℕ → List desc.Class → ℕ
-count offset = count_by (λ (d : desc.Class). eqb d.class_ref offset)
+abbrev count : ℕ → List desc.ClassDescriptor → ℕ
+count offset = count_by (λ (d : desc.ClassDescriptor). eqb d.class_ref offset)
 
 -- ---- how often an offset is counted
 
@@ -43,7 +43,7 @@ tells_next false some many n t = record {
   two = λ h. (let e = t.two h in omega (arith, e));
 }
 
-tells : (ds : List desc.Class) (offset : ℕ) → Tells (is_among (refs ds) offset) (is_repeated (refs ds) offset) (count offset ds)
+tells : (ds : List desc.ClassDescriptor) (offset : ℕ) → Tells (is_among (refs ds) offset) (is_repeated (refs ds) offset) (count offset ds)
 tells [] offset = record {
   none = λ h. refl;
   one = λ h. absurd (true≢false (sym h));
@@ -53,7 +53,7 @@ tells [] offset = record {
 tells (d ∷ ds) offset =
     subst (Tells (eqb d.class_ref offset || is_among (refs ds) offset)
     ((eqb d.class_ref offset && is_among (refs ds) offset) || is_repeated (refs ds) offset))
-    (sym (sum_by-cons (λ (e : desc.Class). cond (eqb e.class_ref offset) 1 0) d ds))
+    (sym (sum_by-cons (λ (e : desc.ClassDescriptor). cond (eqb e.class_ref offset) 1 0) d ds))
     (tells_next (eqb d.class_ref offset) (is_among (refs ds) offset) (is_repeated (refs ds) offset) (count offset ds)
     (tells ds offset))
 
@@ -69,17 +69,17 @@ just_one false many n t =
     let e = t.none refl in
     sym (ne_eqb n 1 (λ same. omega (arith, e, same)))
 
-once_counted : (ds : List desc.Class) (offset : ℕ) → once (counted (refs ds)) offset ≡ eqb (count offset ds) 1
+once_counted : (ds : List desc.ClassDescriptor) (offset : ℕ) → once (tally_of (refs ds)) offset ≡ eqb (count offset ds) 1
 once_counted ds offset = just_one (is_among (refs ds) offset) (is_repeated (refs ds) offset) (count offset ds) (tells ds offset)
 
-pub described_once : (t : Tallied) (ds : List desc.Class) → t ≡ counted (refs ds) →
+pub described_once : (t : Tallied) (ds : List desc.ClassDescriptor) → t ≡ tally_of (refs ds) →
     (λ (c : Class). class_unless (once t) c.offset) ≡ undescribed_fault ds
 unfolding undescribed_fault
 described_once t ds e = rw e (fun_ext (λ c. ap (λ b. cond b None (Some (ClassUndescribed c.offset))) (once_counted ds c.offset)))
 
 pub class_there : (starts : ℕ → Bool) (classes : List Class) → starts ≡ is_class_at classes →
-    class_unless starts ≡ no_class_fault classes
-unfolding no_class_fault
+    class_unless starts ≡ undescribed_class_fault classes
+unfolding undescribed_class_fault
 class_there starts classes e = rw e refl
 
 pub own_there : (starts : ℕ → Bool) (classes : List Class) → starts ≡ is_class_at classes →

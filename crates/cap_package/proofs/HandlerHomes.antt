@@ -3,11 +3,11 @@ use Rattle.std.proofs.Common.{◌≡◌, ℕ, ◌+◌, ◌<◌, ◌≤◌, Bool,
 use Rattle.std.proofs.lemmas.Bool.{cond-false}
 use Rattle.offset_set.specs.Tallies.{with_one}
 use Rattle.cap_method.specs.declared.handler.HandlerInfo.{HandlerInfo}
-use Rattle.cap_desc.specs.DescriptorFormat.{Method}
+use Rattle.cap_desc.specs.DescriptorFormat.{MethodDescriptor}
 use Rattle.cap_components.specs.declared.fault.PackFault.{PackFault}
 use Rattle.cap_components.specs.declared.fault.PackFault.TheVariants.{HandlerOutside}
 use Rattle.cap_components.specs.Order.{lesser, least_from, least_of}
-use Rattle.cap_package.specs.HandlerChecks.{claims, owners, is_within, has_home, entry_fault, numbered, numbered_fault}
+use Rattle.cap_package.specs.HandlerChecks.{claims, owners, is_within, has_home, handler_fault, numbered, numbered_fault}
 use Rattle.cap_package.specs.HandlerClaims.{Claimed, none_claimed, claim_one, claim_table, home_fault}
 use Rattle.cap_package.proofs.Neighbours.{Has}
 
@@ -41,7 +41,7 @@ here_by c n true true = rw (eq-eqb n n refl) refl
 here_by c n true false = rw (eq-eqb n n refl) refl
 here_by c n false within = refl
 
-here : (info : List ℕ) (m : Method) (c : Claimed) (n : ℕ) (h : HandlerInfo) →
+here : (info : List ℕ) (m : MethodDescriptor) (c : Claimed) (n : ℕ) (h : HandlerInfo) →
     entry (claim_one info m c (n, h)) n ≡ after (claims n m) (is_within info h m) (entry c n)
 unfolding claim_one
 here info m c n h = here_by c n (claims n m) (is_within info h m)
@@ -54,7 +54,7 @@ there_by c k n true true e = rw e refl
 there_by c k n true false e = rw e refl
 there_by c k n false within e = refl
 
-there : (info : List ℕ) (m : Method) (c : Claimed) (k n : ℕ) (h : HandlerInfo) → (k ≡ n → ⊥) → entry (claim_one info m c (k, h)) n
+there : (info : List ℕ) (m : MethodDescriptor) (c : Claimed) (k n : ℕ) (h : HandlerInfo) → (k ≡ n → ⊥) → entry (claim_one info m c (k, h)) n
     ≡ entry c n
 unfolding claim_one
 there info m c k n h apart = there_by c k n (claims k m) (is_within info h m) (ne_eqb k n apart)
@@ -62,7 +62,7 @@ there info m c k n h apart = there_by c k n (claims k m) (is_within info h m) (n
 -- ---- a table
 
 -- entries from a number on leave those before it
-before : (info : List ℕ) (m : Method) (c : Claimed) (k n : ℕ) (hs : List HandlerInfo) → n < k →
+before : (info : List ℕ) (m : MethodDescriptor) (c : Claimed) (k n : ℕ) (hs : List HandlerInfo) → n < k →
     entry (claim_table info (numbered k hs) c m) n ≡ entry c n
 before info m c k n [] lt = refl
 before info m c k n (h ∷ hs) lt =
@@ -77,7 +77,7 @@ from_on n k h (g ∷ hs) (inr has) =
     let le = from_on n (k + 1) h hs has in
     omega (arith, le)
 
-claimed_table : (info : List ℕ) (m : Method) (c : Claimed) (n k : ℕ) (h : HandlerInfo) (hs : List HandlerInfo) →
+claimed_table : (info : List ℕ) (m : MethodDescriptor) (c : Claimed) (n k : ℕ) (h : HandlerInfo) (hs : List HandlerInfo) →
     Has {X = ℕ × HandlerInfo} (n, h) (numbered k hs) →
     entry (claim_table info (numbered k hs) c m) n ≡ after (claims n m) (is_within info h m) (entry c n)
 claimed_table info m c n k h [] has = absurd has
@@ -94,10 +94,10 @@ claimed_table info m c n k h (g ∷ hs) (inr has) =
 
 -- ---- methods
 
-abbrev afters : List ℕ → ℕ → HandlerInfo → Entry → List Method → Entry
+abbrev afters : List ℕ → ℕ → HandlerInfo → Entry → List MethodDescriptor → Entry
 afters info n h = fold (λ e m. after (claims n m) (is_within info h m) e)
 
-claimed_all : (info : List ℕ) (ms : List Method) (c : Claimed) (n : ℕ) (h : HandlerInfo) (hs : List HandlerInfo) →
+claimed_all : (info : List ℕ) (ms : List MethodDescriptor) (c : Claimed) (n : ℕ) (h : HandlerInfo) (hs : List HandlerInfo) →
     Has {X = ℕ × HandlerInfo} (n, h) (numbered 0 hs) →
     entry (fold (claim_table info (numbered 0 hs)) c ms) n ≡ afters info n h (entry c n) ms
 claimed_all info [] c n h hs has = refl
@@ -110,10 +110,10 @@ is_none [] = true
 is_none (x ∷ xs) = false
 
 module _ (info : List ℕ) (n : ℕ) (h : HandlerInfo) where
-  abbrev test : Method → Bool
+  abbrev test : MethodDescriptor → Bool
   test m = claims n m
 
-  two_owners : (ms : List Method) (stray : Bool) → is_good (afters info n h (record { met = true; twice = true; stray = stray })
+  two_owners : (ms : List MethodDescriptor) (stray : Bool) → is_good (afters info n h (record { met = true; twice = true; stray = stray })
       ms) ≡ false
   two_owners [] stray = refl
   two_owners (m ∷ ms) stray = by (claims n m) (is_within info h m) (two_owners ms)
@@ -124,7 +124,7 @@ module _ (info : List ℕ) (n : ℕ) (h : HandlerInfo) where
       by true w known = known (not w || stray)
       by false w known = known stray
 
-  one_owner : (ms : List Method) (stray : Bool) →
+  one_owner : (ms : List MethodDescriptor) (stray : Bool) →
       is_good (afters info n h (record { met = true; twice = false; stray = stray }) ms) ≡ (is_none (filter test ms) && not stray)
   one_owner [] stray = refl
   one_owner (m ∷ ms) stray = by (claims n m) (is_within info h m) (one_owner ms stray)
@@ -137,13 +137,13 @@ module _ (info : List ℕ) (n : ℕ) (h : HandlerInfo) where
       by true w known = two_owners ms (not w || stray)
       by false w known = known
 
-  home_by : (m : Method) (rest : List Method) (w : Bool) → is_within info h m ≡ w →
+  home_by : (m : MethodDescriptor) (rest : List MethodDescriptor) (w : Bool) → is_within info h m ≡ w →
       (is_none rest && not (not w || false)) ≡ has_home info h (m ∷ rest)
   home_by m [] true e = sym e
   home_by m [] false e = sym e
   home_by m (x ∷ rest) w e = refl
 
-  no_owner : (ms : List Method) →
+  no_owner : (ms : List MethodDescriptor) →
       is_good (afters info n h (record { met = false; twice = false; stray = false }) ms) ≡ has_home info h (filter test ms)
   no_owner [] = refl
   no_owner (m ∷ ms) = by (claims n m) (is_within info h m) refl (no_owner ms)
@@ -157,9 +157,9 @@ module _ (info : List ℕ) (n : ℕ) (h : HandlerInfo) where
 
 -- ---- the table's faults
 
-home_told : (info : List ℕ) (ms : List Method) (hs : List HandlerInfo) (p : ℕ × HandlerInfo) → Has p (numbered 0 hs) →
+home_told : (info : List ℕ) (ms : List MethodDescriptor) (hs : List HandlerInfo) (p : ℕ × HandlerInfo) → Has p (numbered 0 hs) →
     home_fault (fold (claim_table info (numbered 0 hs)) none_claimed ms) p ≡ numbered_fault info ms p
-unfolding entry_fault owners
+unfolding handler_fault owners
 home_told info ms hs p has =
     ap (λ b. cond b None (Some (HandlerOutside p.0)))
     (ap is_good (claimed_all info ms none_claimed p.0 p.1 hs has) ∙ no_owner info p.0 p.1 ms)
@@ -172,7 +172,7 @@ same_faults f g (x ∷ xs) least same =
     ap (λ o. least_from (lesser least o) f xs) (same x (inl refl))
     ∙ same_faults f g xs (lesser least (g x)) (λ y has. same y (inr has))
 
-pub homes_told : (info : List ℕ) (ms : List Method) (hs : List HandlerInfo) (c : Claimed) →
+pub homes_told : (info : List ℕ) (ms : List MethodDescriptor) (hs : List HandlerInfo) (c : Claimed) →
     c ≡ fold (claim_table info (numbered 0 hs)) none_claimed ms →
     least_of (home_fault c) (numbered 0 hs) ≡ least_of (numbered_fault info ms) (numbered 0 hs)
 homes_told info ms hs c e =
@@ -186,14 +186,14 @@ no_entries (h ∷ hs) f e = absurd cc
 
 -- ---- a method without handlers claims nothing
 
-claims_by : (m : Method) (n : ℕ) (b : Bool) → leb m.handler_index n ≡ b → m.handler_count ≡ 0 →
+claims_by : (m : MethodDescriptor) (n : ℕ) (b : Bool) → leb m.handler_index n ≡ b → m.handler_count ≡ 0 →
     (b && ltb n (m.handler_index + m.handler_count)) ≡ false
 claims_by m n true e none =
     let le = leb-true m.handler_index n e in
     le-ltb n (m.handler_index + m.handler_count) (omega (arith, le, none))
 claims_by m n false e none = refl
 
-claims_none : (info : List ℕ) (p : ℕ × HandlerInfo) (c : Claimed) (m : Method) → m.handler_count ≡ 0 → claim_one info m c p ≡ c
+claims_none : (info : List ℕ) (p : ℕ × HandlerInfo) (c : Claimed) (m : MethodDescriptor) → m.handler_count ≡ 0 → claim_one info m c p ≡ c
 unfolding claim_one
 claims_none info p c m none =
     cond-false (claims p.0 m) (record {
@@ -203,7 +203,7 @@ claims_none info p c m none =
     }) c
     (claims_by m p.0 (leb m.handler_index p.0) refl none)
 
-pub claims_nothing : (info : List ℕ) (table : List (ℕ × HandlerInfo)) (c : Claimed) (m : Method) → m.handler_count ≡ 0 →
+pub claims_nothing : (info : List ℕ) (table : List (ℕ × HandlerInfo)) (c : Claimed) (m : MethodDescriptor) → m.handler_count ≡ 0 →
     claim_table info table c m ≡ c
 claims_nothing info [] c m none = refl
 claims_nothing info (p ∷ table) c m none =

@@ -4,8 +4,8 @@ use Rattle.std.proofs.lemmas.Bool.{false≢true, le-leb, ltb-false}
 use Rattle.cap_bytes.specs.Number.{number_at}
 use Rattle.cap_bytes.specs.Spelling.{Spells, info_of}
 use Rattle.cap_bytes.proofs.Laws.{spelled-read}
-use Rattle.cap_method.specs.MethodFormat.{Header, method_flags, header_after, header_info}
-use Rattle.cap_desc.specs.DescriptorFormat.{Method}
+use Rattle.cap_method.specs.MethodFormat.{Header, method_flags, header_after, method_header}
+use Rattle.cap_desc.specs.DescriptorFormat.{MethodDescriptor}
 use Rattle.cap_components.specs.declared.fault.PackFault.TheVariants.{MethodOutside, TooManyRegisters}
 use Rattle.cap_package.specs.HeaderChecks.{header_in, registers_fault}
 use Rattle.cap_package.specs.MethodChecks.{size_by, code_start, code_end, outside_fault}
@@ -24,9 +24,9 @@ pub record HasHeader (info : List ℕ) (offset : ℕ) : Type 0 where
   pub there : header_in info offset ≡ Some header
   pub size : header.size ≡ size_by (number_at 1 offset info)
 
-header_found : (info : List ℕ) (offset after : ℕ) (h : Header) → Spells header_info info offset h after → header_in info offset ≡ Some h
+header_found : (info : List ℕ) (offset after : ℕ) (h : Header) → Spells method_header info offset h after → header_in info offset ≡ Some h
 unfolding header_in
-header_found info offset after h s = rw (spelled-read (info_of 7) header_info info offset h after s) refl
+header_found info offset after h s = rw (spelled-read (info_of 7) method_header info offset h after s) refl
 
 header_by : (info : List ℕ) (offset first : ℕ) (b : Bool) → leb 128 first ≡ b → number_at 1 offset info ≡ Some first → offset + cond b 4 2 ≤ length info → HasHeader info offset
 unfolding Spells
@@ -53,13 +53,13 @@ header_by info offset first false e at h =
       size = rw (at, e) refl;
     }
 
-within_by : (m : Method) (a b : Bool) → cond (a || b) (Some (MethodOutside m.method_offset)) None ≡ None → b ≡ false
+within_by : (m : MethodDescriptor) (a b : Bool) → cond (a || b) (Some (MethodOutside m.method_offset)) None ≡ None → b ≡ false
 within_by m true b e = absurd cc
 within_by m false true e = absurd cc
 within_by m false false e = refl
 
 -- a method that is not outside ends within the info
-pub ends-within : (info : List ℕ) (count : ℕ) (m : Method) → outside_fault info count m ≡ None → code_end info m ≤ length info
+pub ends-within : (info : List ℕ) (count : ℕ) (m : MethodDescriptor) → outside_fault info count m ≡ None → code_end info m ≤ length info
 unfolding outside_fault
 ends-within info count m e = ltb-false (length info) (code_end info m) (within_by m (ltb m.method_offset (1 + 8 * count)) (ltb (length info) (code_end info m)) e)
 
@@ -79,7 +79,7 @@ header_at info offset first at h =
     let size = size_told info offset first at in
     header_by info offset first (leb 128 first) refl at (omega arith)
 
-pub has-header : (info : List ℕ) (m : Method) → code_end info m ≤ length info → HasHeader info m.method_offset
+pub has-header : (info : List ℕ) (m : MethodDescriptor) → code_end info m ≤ length info → HasHeader info m.method_offset
 unfolding code_end code_start
 has-header info m h =
     let least = size_least (number_at 1 m.method_offset info) in
@@ -88,11 +88,11 @@ has-header info m h =
 
 -- ---- registers
 
-registers_most : (m : Method) (h : Header) (b : Bool) → ltb 255 (h.nargs + h.max_locals) ≡ b → cond b (Some (TooManyRegisters m.method_offset (h.nargs + h.max_locals))) None ≡ None → h.nargs + h.max_locals ≤ 255
+registers_most : (m : MethodDescriptor) (h : Header) (b : Bool) → ltb 255 (h.nargs + h.max_locals) ≡ b → cond b (Some (TooManyRegisters m.method_offset (h.nargs + h.max_locals))) None ≡ None → h.nargs + h.max_locals ≤ 255
 registers_most m h true e none = absurd cc
 registers_most m h false e none = ltb-false 255 (h.nargs + h.max_locals) e
 
 -- a method that has not too many registers has at most 255
-pub few_registers : (info : List ℕ) (m : Method) (h : Header) → header_in info m.method_offset ≡ Some h → registers_fault info m ≡ None → h.nargs + h.max_locals ≤ 255
+pub few_registers : (info : List ℕ) (m : MethodDescriptor) (h : Header) → header_in info m.method_offset ≡ Some h → registers_fault info m ≡ None → h.nargs + h.max_locals ≤ 255
 unfolding registers_fault
 few_registers info m h at none = registers_most m h (ltb 255 (h.nargs + h.max_locals)) refl (rw at at none)

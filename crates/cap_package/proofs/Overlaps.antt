@@ -6,10 +6,10 @@ use Rattle.std.proofs.lemmas.List.Elements.{filter_map-append}
 use Rattle.first_fault.specs.Order.{two}
 use Rattle.first_fault.proofs.LeastFaults.{least_in, least-at_fault}
 use Rattle.offset_set.specs.Sets.{nearest}
-use Rattle.offset_set.specs.Tallies.{Tallied, counted, IsNearest}
+use Rattle.offset_set.specs.Tallies.{Tallied, tally_of, IsNearest}
 use Rattle.offset_set.proofs.Next.{is-nearest}
 use Rattle.cap_bytes.specs.Number.{number_at}
-use Rattle.cap_desc.specs.DescriptorFormat.{Method, Field}
+use Rattle.cap_desc.specs.DescriptorFormat.{MethodDescriptor, FieldDescriptor}
 use Rattle.cap_components.specs.declared.fault.PackFault.{PackFault}
 use Rattle.cap_components.specs.declared.fault.PackFault.TheVariants.{MethodOverlaps, StaticOverlaps}
 use Rattle.cap_components.specs.Order.{pack_place, least_of}
@@ -23,7 +23,7 @@ use Rattle.cap_package.proofs.StaticsKnown.{takes_byte}
 use Rattle.cap_package.proofs.HeaderLaws.{size_least}
 
 -- the nearest of the starts that were counted
-near_known : (t : Tallied) (starts : List ℕ) (offset : ℕ) (near : Option ℕ) → t ≡ counted starts → IsNearest t offset near → near
+near_known : (t : Tallied) (starts : List ℕ) (offset : ℕ) (near : Option ℕ) → t ≡ tally_of starts → IsNearest t offset near → near
     ≡ nearest starts offset
 near_known t starts offset near e h = is-nearest starts offset near (subst (λ k. IsNearest k offset near) e h)
 
@@ -42,13 +42,13 @@ past_other n a b lt = elim (cases_lt n a) [
 
 -- ---- methods
 
-pub method_some : (info : List ℕ) (m : Method) → m.method_offset < code_end info m
+pub method_some : (info : List ℕ) (m : MethodDescriptor) → m.method_offset < code_end info m
 unfolding code_start code_end
 method_some info m =
     let some = size_least (number_at 1 m.method_offset info) in
     omega (arith, some)
 
-method_up : (info : List ℕ) (a b : Method) → a.method_offset ≤ b.method_offset → overlap_pair info (a, b)
+method_up : (info : List ℕ) (a b : MethodDescriptor) → a.method_offset ≤ b.method_offset → overlap_pair info (a, b)
     ≡ cond (ltb b.method_offset (method_end info a)) (Some (MethodOverlaps a.method_offset b.method_offset)) None
 unfolding overlap_fault
 method_up info a b le =
@@ -56,7 +56,7 @@ method_up info a b le =
     let high : max a.method_offset b.method_offset ≡ b.method_offset = omega arith in
     rw (low, high, past_end b.method_offset (code_end info a) (code_end info b) (length info) (method_some info b)) refl
 
-method_down : (info : List ℕ) (a b : Method) → b.method_offset ≤ a.method_offset → overlap_pair info (a, b)
+method_down : (info : List ℕ) (a b : MethodDescriptor) → b.method_offset ≤ a.method_offset → overlap_pair info (a, b)
     ≡ cond (ltb a.method_offset (method_end info b)) (Some (MethodOverlaps b.method_offset a.method_offset)) None
 unfolding overlap_fault
 method_down info a b le =
@@ -65,7 +65,7 @@ method_down info a b le =
     let turned : min (code_end info a) (code_end info b) ≡ min (code_end info b) (code_end info a) = omega arith in
     rw (low, high, turned, past_end a.method_offset (code_end info b) (code_end info a) (length info) (method_some info a)) refl
 
-method_own : (info : List ℕ) (a b : Method) → a.method_offset ≡ b.method_offset → a.method_offset < method_end info a →
+method_own : (info : List ℕ) (a b : MethodDescriptor) → a.method_offset ≡ b.method_offset → a.method_offset < method_end info a →
     b.method_offset < method_end info b
 method_own info a b same lt =
     let some = method_some info b in
@@ -75,7 +75,7 @@ method_placed : (m n : ℕ) → pack_place (MethodOverlaps m n) ≡ two m n
 unfolding pack_place
 method_placed m n = refl
 
-pub method_neighbours : (info : List ℕ) (ms : List Method) → least_of (method_reach info (map method_start ms)) ms
+pub method_neighbours : (info : List ℕ) (ms : List MethodDescriptor) → least_of (method_reach info (map method_start ms)) ms
     ≡ least_of (overlap_pair info) (pairs ms)
 unfolding method_reach
 method_neighbours info ms =
@@ -83,7 +83,7 @@ method_neighbours info ms =
     (method_down info) (method_own info) ms)
 
 -- what is found with the nearest start
-pub method_reaches : (t : Tallied) (starts : List ℕ) (info : List ℕ) (m : Method) (near : Option ℕ) → t ≡ counted starts →
+pub method_reaches : (t : Tallied) (starts : List ℕ) (info : List ℕ) (m : MethodDescriptor) (near : Option ℕ) → t ≡ tally_of starts →
     IsNearest t m.method_offset near → reach_by MethodOverlaps m.method_offset (method_end info m) near ≡ method_reach info starts m
 unfolding method_reach
 method_reaches t starts info m near e h =
@@ -117,7 +117,7 @@ unfolding pack_place
 static_placed m n = refl
 
 -- the pairs of fields at fault are those of their places
-shared_by : (d : Description) (p : ImagePlace) (g : Field) (gs : List Field) (o : Option ImagePlace) →
+shared_by : (d : Description) (p : ImagePlace) (g : FieldDescriptor) (gs : List FieldDescriptor) (o : Option ImagePlace) →
     filter_map (λ h. share_by (Some p) (place_in d h)) gs
     ≡ filter_map share_places (map (λ q. (p, q)) (filter_map (place_in d) gs)) →
     cons_option (share_by (Some p) o) (filter_map (λ h. share_by (Some p) (place_in d h)) gs)
@@ -125,22 +125,22 @@ shared_by : (d : Description) (p : ImagePlace) (g : Field) (gs : List Field) (o 
 shared_by d p g gs None known = known
 shared_by d p g gs (Some q) known = ap (cons_option (share_places (p, q))) known
 
-shared : (d : Description) (p : ImagePlace) (gs : List Field) → filter_map (λ h. share_by (Some p) (place_in d h)) gs
+shared : (d : Description) (p : ImagePlace) (gs : List FieldDescriptor) → filter_map (λ h. share_by (Some p) (place_in d h)) gs
     ≡ filter_map share_places (map (λ q. (p, q)) (filter_map (place_in d) gs))
 shared d p [] = refl
 shared d p (g ∷ gs) = shared_by d p g gs (place_in d g) (shared d p gs)
 
-none_shared : (d : Description) (gs : List Field) → filter_map (λ h. share_by None (place_in d h)) gs ≡ []
+none_shared : (d : Description) (gs : List FieldDescriptor) → filter_map (λ h. share_by None (place_in d h)) gs ≡ []
 none_shared d [] = refl
 none_shared d (g ∷ gs) = none_shared d gs
 
-of_pairs : (d : Description) (f : Field) (gs : List Field) → filter_map (share_pair d) (map (λ g. (f, g)) gs)
+of_pairs : (d : Description) (f : FieldDescriptor) (gs : List FieldDescriptor) → filter_map (share_pair d) (map (λ g. (f, g)) gs)
     ≡ filter_map (λ h. share_by (place_in d f) (place_in d h)) gs
 unfolding share_fault
 of_pairs d f [] = refl
 of_pairs d f (g ∷ gs) = ap (cons_option (share_by (place_in d f) (place_in d g))) (of_pairs d f gs)
 
-first_shared : (d : Description) (f : Field) (fs : List Field) (o : Option ImagePlace) → filter_map (share_pair d) (pairs fs)
+first_shared : (d : Description) (f : FieldDescriptor) (fs : List FieldDescriptor) (o : Option ImagePlace) → filter_map (share_pair d) (pairs fs)
     ≡ filter_map share_places (pairs (filter_map (place_in d) fs)) →
     filter_map (λ h. share_by o (place_in d h)) fs ++ filter_map (share_pair d) (pairs fs)
     ≡ filter_map share_places (pairs (cons_option o (filter_map (place_in d) fs)))
@@ -150,7 +150,7 @@ first_shared d f fs (Some p) known =
     ∙ ap (λ ys. filter_map share_places (map (λ q. (p, q)) (filter_map (place_in d) fs)) ++ ys) known
     ∙ sym (filter_map-append share_places (map (λ q. (p, q)) (filter_map (place_in d) fs)) (pairs (filter_map (place_in d) fs)))
 
-all_shared : (d : Description) (fs : List Field) → filter_map (share_pair d) (pairs fs)
+all_shared : (d : Description) (fs : List FieldDescriptor) → filter_map (share_pair d) (pairs fs)
     ≡ filter_map share_places (pairs (filter_map (place_in d) fs))
 all_shared d [] = refl
 all_shared d (f ∷ fs) =
@@ -158,7 +158,7 @@ all_shared d (f ∷ fs) =
     ∙ ap (λ xs. xs ++ filter_map (share_pair d) (pairs fs)) (of_pairs d f fs)
     ∙ first_shared d f fs (place_in d f) (all_shared d fs)
 
-pub static_neighbours : (d : Description) (fs : List Field) →
+pub static_neighbours : (d : Description) (fs : List FieldDescriptor) →
     least_of (static_reach (map static_start (filter_map (place_in d) fs))) (filter_map (place_in d) fs)
     ≡ least_of (share_pair d) (pairs fs)
 unfolding static_reach
@@ -169,7 +169,7 @@ static_neighbours d fs =
     ∙ ap (least_in pack_place None) (sym (all_shared d fs))
     ∙ sym (least-at_fault pack_place (share_pair d) (pairs fs) None)
 
-pub static_reaches : (t : Tallied) (starts : List ℕ) (p : ImagePlace) (near : Option ℕ) → t ≡ counted starts →
+pub static_reaches : (t : Tallied) (starts : List ℕ) (p : ImagePlace) (near : Option ℕ) → t ≡ tally_of starts →
     IsNearest t p.offset near → reach_by StaticOverlaps p.offset (static_end p) near ≡ static_reach starts p
 unfolding static_reach
 static_reaches t starts p near e h = ap (reach_by StaticOverlaps p.offset (static_end p)) (near_known t starts p.offset near e h)

@@ -7,7 +7,7 @@ use Rattle.std.proofs.lemmas.Option.{slice_get-map}
 use Rattle.std.proofs.lemmas.List.Elements.{All-nil, All-cons}
 use Rattle.cap_method.specs.StaticFormat.{Array, Statics}
 use Rattle.cap_desc.specs.declared.type_item.TypeItem.{TypeItem}
-use Rattle.cap_desc.specs.DescriptorFormat.{Field}
+use Rattle.cap_desc.specs.DescriptorFormat.{FieldDescriptor}
 use Rattle.cap_components.specs.declared.fault.PackFault.{PackFault}
 use Rattle.cap_components.specs.declared.fault.PackFault.TheVariants.{StaticOutside, StaticOverlaps}
 use Rattle.cap_components.specs.Descriptions.{Description, field_type}
@@ -52,21 +52,21 @@ none_map f g (w ∷ ws) h = (h.0, none_map f g ws h.1)
 
 -- ---- the place of a field
 
-record IsPlaceOf (f : Field) (t : TypeItem) (p : ImagePlace) : Type 0 where
+record IsPlaceOf (f : FieldDescriptor) (t : TypeItem) (p : ImagePlace) : Type 0 where
   offset : p.offset ≡ image_offset f
   ty : p.ty ≡ t
 
-static_by : (f : Field) (t : TypeItem) (p : ImagePlace) (b : Bool) → cond b (Some (record { offset = image_offset f; ty = t })) None ≡ Some p → IsPlaceOf f t p
+static_by : (f : FieldDescriptor) (t : TypeItem) (p : ImagePlace) (b : Bool) → cond b (Some (record { offset = image_offset f; ty = t })) None ≡ Some p → IsPlaceOf f t p
 static_by f t p true h =
     let same : record { offset = image_offset f; ty = t } ≡ p = cc in
     subst (IsPlaceOf f t) same (record { offset = refl; ty = refl })
 static_by f t p false h = absurd cc
 
-record ComesFrom (d : Description) (f : Field) (p : ImagePlace) : Type 0 where
+record ComesFrom (d : Description) (f : FieldDescriptor) (p : ImagePlace) : Type 0 where
   offset : p.offset ≡ image_offset f
   typed : IsFieldType p.ty
 
-place_from : (d : Description) (f : Field) (p : ImagePlace) (o : Option TypeItem) → field_type d f.ty ≡ o → place_by f o ≡ Some p → ComesFrom d f p
+place_from : (d : Description) (f : FieldDescriptor) (p : ImagePlace) (o : Option TypeItem) → field_type d f.ty ≡ o → place_by f o ≡ Some p → ComesFrom d f p
 place_from d f p None e h = absurd cc
 place_from d f p (Some t) e h =
     let s = static_by f t p (is_static f.flags) h in
@@ -88,14 +88,14 @@ fills_at arrays k a e =
     let half : (2 * k) / 2 ≡ k = omega arith in
     rw (even, half, slice_get-map (λ (x : Array). x.kind) arrays k, e) refl
 
-filled_at : (arrays : List Array) (d : Description) (f : Field) (p : ImagePlace) (k : ℕ) (a : Array) → place_in d f ≡ Some p → image_offset f ≡ 2 * k → slice_get arrays k ≡ Some a → filled_fault (array_kinds arrays) d f ≡ None → p.ty.nibble ≡ a.kind + 8
+filled_at : (arrays : List Array) (d : Description) (f : FieldDescriptor) (p : ImagePlace) (k : ℕ) (a : Array) → place_in d f ≡ Some p → image_offset f ≡ 2 * k → slice_get arrays k ≡ Some a → filled_fault (array_kinds arrays) d f ≡ None → p.ty.nibble ≡ a.kind + 8
 unfolding filled_fault
 filled_at arrays d f p k a e at there h =
     let g : filled_by (kind_at (array_kinds arrays) (2 * k)) (place_in d f) ≡ None = subst (λ n. filled_by (kind_at (array_kinds arrays) n) (place_in d f) ≡ None) at h in
     let i : filled_by (Some a.kind) (Some p) ≡ None = rw (fills_at arrays k a there, e) at g in
     filled_by_kind a.kind p (StaticOutside p.offset) (eqb p.ty.nibble (a.kind + 8)) refl i
 
-place_known : (s : Statics) (d : Description) (f : Field) (p : ImagePlace) → place_in d f ≡ Some p → image_fault s d f ≡ None → filled_fault (array_kinds s.arrays) d f ≡ None → IsStaticPlace s p
+place_known : (s : Statics) (d : Description) (f : FieldDescriptor) (p : ImagePlace) → place_in d f ≡ Some p → image_fault s d f ≡ None → filled_fault (array_kinds s.arrays) d f ≡ None → IsStaticPlace s p
 unfolding place_in image_fault
 place_known s d f p e image fills =
     let from = place_from d f p (field_type d f.ty) refl e in
@@ -106,11 +106,11 @@ place_known s d f p e image fills =
       filled = λ k a there at. filled_at s.arrays d f p k a e (sym from.offset ∙ at) there fills;
     }
 
-place_first : (s : Statics) (d : Description) (f : Field) (fs : List Field) (o : Option ImagePlace) → place_in d f ≡ o → image_fault s d f ≡ None → filled_fault (array_kinds s.arrays) d f ≡ None → All (IsStaticPlace s) (filter_map (place_in d) fs) → All (IsStaticPlace s) (cons_option o (filter_map (place_in d) fs))
+place_first : (s : Statics) (d : Description) (f : FieldDescriptor) (fs : List FieldDescriptor) (o : Option ImagePlace) → place_in d f ≡ o → image_fault s d f ≡ None → filled_fault (array_kinds s.arrays) d f ≡ None → All (IsStaticPlace s) (filter_map (place_in d) fs) → All (IsStaticPlace s) (cons_option o (filter_map (place_in d) fs))
 place_first s d f fs None e image fills others = others
 place_first s d f fs (Some p) e image fills others = All-cons (IsStaticPlace s) p (filter_map (place_in d) fs) (place_known s d f p e image fills) others
 
-places_known : (s : Statics) (d : Description) (fs : List Field) → NoneOf (image_fault s d) fs → NoneOf (filled_fault (array_kinds s.arrays) d) fs → All (IsStaticPlace s) (filter_map (place_in d) fs)
+places_known : (s : Statics) (d : Description) (fs : List FieldDescriptor) → NoneOf (image_fault s d) fs → NoneOf (filled_fault (array_kinds s.arrays) d) fs → All (IsStaticPlace s) (filter_map (place_in d) fs)
 places_known s d [] images fills = All-nil (IsStaticPlace s)
 places_known s d (f ∷ fs) images fills = place_first s d f fs (place_in d f) refl images.0 fills.0 (places_known s d fs images.1 fills.1)
 
@@ -142,22 +142,22 @@ apart_by p q fault false e h same =
 abbrev IsApart : ImagePlace → ImagePlace → Type 0
 IsApart p q = p.offset ≡ q.offset → ⊥
 
-next_apart : (d : Description) (p : ImagePlace) (fs : List Field) (o : Option ImagePlace) → share_by (Some p) o ≡ None → All (IsApart p) (filter_map (place_in d) fs) → All (IsApart p) (cons_option o (filter_map (place_in d) fs))
+next_apart : (d : Description) (p : ImagePlace) (fs : List FieldDescriptor) (o : Option ImagePlace) → share_by (Some p) o ≡ None → All (IsApart p) (filter_map (place_in d) fs) → All (IsApart p) (cons_option o (filter_map (place_in d) fs))
 next_apart d p fs None h others = others
 next_apart d p fs (Some q) h others =
     All-cons (IsApart p) q (filter_map (place_in d) fs)
     (apart_by p q (StaticOverlaps (min p.offset q.offset) (max p.offset q.offset)) (ltb (max p.offset q.offset) (min (p.offset + width_of p.ty) (q.offset + width_of q.ty))) refl h) others
 
-others_apart : (d : Description) (p : ImagePlace) (fs : List Field) → NoneOf (share_fault d (Some p)) fs → All (IsApart p) (filter_map (place_in d) fs)
+others_apart : (d : Description) (p : ImagePlace) (fs : List FieldDescriptor) → NoneOf (share_fault d (Some p)) fs → All (IsApart p) (filter_map (place_in d) fs)
 unfolding share_fault
 others_apart d p [] none = All-nil (IsApart p)
 others_apart d p (f ∷ fs) none = next_apart d p fs (place_in d f) none.0 (others_apart d p fs none.1)
 
-first_apart : (d : Description) (fs : List Field) (o : Option ImagePlace) → NoneOf (share_fault d o) fs → AreApart (filter_map (place_in d) fs) → AreApart (cons_option o (filter_map (place_in d) fs))
+first_apart : (d : Description) (fs : List FieldDescriptor) (o : Option ImagePlace) → NoneOf (share_fault d o) fs → AreApart (filter_map (place_in d) fs) → AreApart (cons_option o (filter_map (place_in d) fs))
 first_apart d fs None none others = others
 first_apart d fs (Some p) none others = (others_apart d p fs none, others)
 
-all_apart : (d : Description) (fs : List Field) → NoneOf (share_pair d) (pairs fs) → AreApart (filter_map (place_in d) fs)
+all_apart : (d : Description) (fs : List FieldDescriptor) → NoneOf (share_pair d) (pairs fs) → AreApart (filter_map (place_in d) fs)
 all_apart d [] none = tt {0}
 all_apart d (f ∷ fs) none =
     first_apart d fs (place_in d f) (none_map (share_pair d) (λ g. (f, g)) fs (none_front (share_pair d) (map (λ g. (f, g)) fs) (pairs fs) none))

@@ -18,7 +18,7 @@ use Rattle.cap_package.specs.MethodChecks.{overlap_pair, outside_fault}
 use Rattle.cap_package.specs.HeaderChecks.{registers_fault, length_fault, arguments_fault, abstract_fault}
 use Rattle.cap_package.specs.HandlerChecks.{numbered, numbered_fault, claim_fault}
 use Rattle.cap_package.specs.StaticChecks.{share_pair, image_fault, array_kinds, filled_fault, is_static_at, no_static_fault}
-use Rattle.cap_package.specs.NameChecks.{is_method_at, no_method_fault, no_entry_fault, table_entries, exported_methods, exported_fields, undescribed_fault, no_class_fault, not_own_fault}
+use Rattle.cap_package.specs.NameChecks.{is_method_at, no_method_fault, no_entry_fault, table_entries, exported_methods, exported_fields, undescribed_fault, undescribed_class_fault, not_own_fault}
 use Rattle.cap_package.specs.TypeChecks.{field_type_fault, method_type_fault}
 use Rattle.cap_package.specs.CountChecks.{differ, array_bytes, image_bytes, instance_fault, count_if}
 
@@ -70,8 +70,8 @@ abbrev pub class_condition : PackageRecord → Option PackFault
 class_condition p =
     least_from
     (least_from (least_of (undescribed_fault p.description.items.classes) p.classes)
-    (not_own_fault p.classes) (map (λ (d : described.Class). d.class_ref) p.description.items.classes))
-    (no_class_fault p.classes) (map (λ (c : Exported). c.class_offset) (or_none p.export))
+    (not_own_fault p.classes) (map (λ (d : described.ClassDescriptor). d.class_ref) p.description.items.classes))
+    (undescribed_class_fault p.classes) (map (λ (c : Exported). c.class_offset) (or_none p.export))
 
 abbrev pub register_condition : PackageRecord → Option PackFault
 register_condition p = least_of (registers_fault p.methods.info) (described_methods p)

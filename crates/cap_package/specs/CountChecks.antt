@@ -4,7 +4,7 @@ use Rattle.cap_class.specs.ClassFormat.{Class, is_interface}
 use Rattle.cap_method.specs.StaticFormat.{Array, Statics}
 use Rattle.cap_desc.specs.declared.type_item.TypeItem.{TypeItem}
 use Rattle.cap_desc.specs.DescriptorFormat as described
-use Rattle.cap_desc.specs.DescriptorFormat.{Field}
+use Rattle.cap_desc.specs.DescriptorFormat.{FieldDescriptor}
 use Rattle.cap_components.specs.Descriptions.{Description, field_type, words_of}
 use Rattle.cap_package.specs.HeaderChecks.{is_static}
 use Rattle.cap_components.specs.declared.count_kind.CountKind.{CountKind}
@@ -25,24 +25,24 @@ abbrev pub image_bytes : Statics → ℕ
 image_bytes s = 2 * s.reference_count + s.default_value_count + length s.values
 
 -- the cells of an instance field
-abbrev pub cells_by : Option TypeItem → ℕ
-cells_by None = 1
-cells_by (Some t) = words_of t
+abbrev pub described_cells_by : Option TypeItem → ℕ
+described_cells_by None = 1
+described_cells_by (Some t) = words_of t
 
-unfoldable pub cells_of : Description → Field → ℕ
-cells_of d f = if is_static f.flags then 0 else cells_by (field_type d f.ty)
+unfoldable pub described_cells : Description → FieldDescriptor → ℕ
+described_cells d f = if is_static f.flags then 0 else described_cells_by (field_type d f.ty)
 
 -- the cells of a class's own instance fields
-abbrev pub instance_cells : Description → List Field → ℕ
-instance_cells d = sum_by (cells_of d)
+abbrev pub own_instance_cells : Description → List FieldDescriptor → ℕ
+own_instance_cells d = sum_by (described_cells d)
 
 -- a class's declared instance size is another than the cells of its fields
-abbrev pub instance_by : Description → described.Class → Option Class → Option PackFault
+abbrev pub instance_by : Description → described.ClassDescriptor → Option Class → Option PackFault
 instance_by d c None = None
 instance_by d c (Some entry) = if is_interface entry.flags then None
-    else differ InstanceCells entry.instance_size (instance_cells d c.fields)
+    else differ InstanceCells entry.instance_size (own_instance_cells d c.fields)
 
-unfoldable pub instance_fault : List Class → Description → described.Class → Option PackFault
+unfoldable pub instance_fault : List Class → Description → described.ClassDescriptor → Option PackFault
 instance_fault classes d c = instance_by d c (find (λ (r : Class). r.offset == c.class_ref) classes)
 
 abbrev pub count_if : {X : Type 0} → Option (List X) → ℕ

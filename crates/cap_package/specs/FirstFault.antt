@@ -16,13 +16,13 @@ use Rattle.cap_components.specs.Order.{pack_place}
 use Rattle.cap_package.specs.Pairs.{pairs}
 use Rattle.cap_components.specs.Components.{read_directory}
 use Rattle.cap_components.specs.PackageRecord.{PackageRecord, described_methods, interface_methods, fields}
-use Rattle.cap_components.specs.Saying.{AreSaid, IsFirstFailing}
+use Rattle.cap_components.specs.Saying.{AreSaid, IsFirstFailingPart}
 use Rattle.cap_components.specs.PartChecks.{required, optional, absent_fault, sized_fault, form_fault, size_fault, components, custom_tags}
 use Rattle.cap_package.specs.MethodChecks.{overlap_pair, outside_fault}
 use Rattle.cap_package.specs.HeaderChecks.{registers_fault, length_fault, arguments_fault, abstract_fault}
 use Rattle.cap_package.specs.HandlerChecks.{numbered, numbered_fault, claim_fault}
 use Rattle.cap_package.specs.StaticChecks.{share_pair, image_fault, array_kinds, filled_fault, is_static_at, no_static_fault}
-use Rattle.cap_package.specs.NameChecks.{is_method_at, no_method_fault, no_entry_fault, table_entries, exported_methods, exported_fields, undescribed_fault, no_class_fault, not_own_fault}
+use Rattle.cap_package.specs.NameChecks.{is_method_at, no_method_fault, no_entry_fault, table_entries, exported_methods, exported_fields, undescribed_fault, undescribed_class_fault, not_own_fault}
 use Rattle.cap_package.specs.TypeChecks.{field_type_fault, method_type_fault}
 use Rattle.cap_package.specs.CountChecks.{differ, array_bytes, image_bytes, instance_fault, count_if}
 use Rattle.cap_package.specs.Agreement.{or_none}
@@ -76,8 +76,8 @@ member_lists p =
     -- classes that are not described once, and names of none
     ∷ ((at_fault (undescribed_fault p.description.items.classes) p.classes
     ++ at_fault (not_own_fault p.classes)
-    (map (λ (d : described.Class). d.class_ref) p.description.items.classes))
-    ++ at_fault (no_class_fault p.classes) (map (λ (c : Exported). c.class_offset) (or_none p.export)))
+    (map (λ (d : described.ClassDescriptor). d.class_ref) p.description.items.classes))
+    ++ at_fault (undescribed_class_fault p.classes) (map (λ (c : Exported). c.class_offset) (or_none p.export)))
     -- registers
     ∷ at_fault (registers_fault p.methods.info) (described_methods p)
     -- types
@@ -107,4 +107,4 @@ Tells parts (Ok p) = (missing_parts parts (read_directory parts) ≡ []) × AreS
 Tells parts (Err fault) =
     IsLeast pack_place (missing_parts parts (read_directory parts)) fault
     ⊎ ((missing_parts parts (read_directory parts) ≡ [])
-    × (IsFirstFailing parts fault ⊎ ((p : PackageRecord) × AreSaid parts p × IsFirst pack_place (conditions_of parts p) fault)))
+    × (IsFirstFailingPart parts fault ⊎ ((p : PackageRecord) × AreSaid parts p × IsFirst pack_place (conditions_of parts p) fault)))

@@ -4,7 +4,7 @@ use Rattle.offset_set.specs.Bits.{holds}
 use Rattle.offset_set.specs.Sets.{nowhere, also}
 use Rattle.offset_set.specs.Tallies.{Tallied, tallied, none_counted, with_one, once}
 use Rattle.cap_method.specs.declared.handler.HandlerInfo.{HandlerInfo}
-use Rattle.cap_desc.specs.DescriptorFormat.{Method}
+use Rattle.cap_desc.specs.DescriptorFormat.{MethodDescriptor}
 use Rattle.cap_components.specs.declared.fault.PackFault.{PackFault}
 use Rattle.cap_components.specs.declared.fault.PackFault.TheVariants.{HandlerOutside}
 use Rattle.cap_package.specs.declared.handler_claims.HandlerClaims.{HandlerClaims}
@@ -22,12 +22,12 @@ abbrev pub none_claimed : Claimed
 none_claimed = record { owned = none_counted; strays = nowhere }
 
 -- a method claims an entry with its number, or does not
-unfoldable pub claim_one : List ℕ → Method → Claimed → ℕ × HandlerInfo → Claimed
+unfoldable pub claim_one : List ℕ → MethodDescriptor → Claimed → ℕ × HandlerInfo → Claimed
 claim_one info m c p = if claims p.0 m
     then record { owned = with_one c.owned p.0; strays = if is_within info p.1 m then c.strays else also p.0 c.strays }
     else c
 
-abbrev pub claim_table : List ℕ → List (ℕ × HandlerInfo) → Claimed → Method → Claimed
+abbrev pub claim_table : List ℕ → List (ℕ × HandlerInfo) → Claimed → MethodDescriptor → Claimed
 claim_table info table c m = fold (claim_one info m) c table
 
 -- the entry with a number has one owner, in whose code it lies

@@ -4,13 +4,13 @@ use Rattle.std.specs.List.{list_any}
 use Rattle.cap_pool.specs.ExportFormat.{Exported}
 use Rattle.cap_class.specs.ClassFormat.{Class}
 use Rattle.cap_desc.specs.DescriptorFormat as described
-use Rattle.cap_desc.specs.DescriptorFormat.{Method}
+use Rattle.cap_desc.specs.DescriptorFormat.{MethodDescriptor}
 use Rattle.cap_components.specs.declared.fault.PackFault.{PackFault}
 use Rattle.cap_components.specs.declared.fault.PackFault.TheVariants.{NoMethodAt, ClassUndescribed}
 
 -- one of the methods stands at an offset
-abbrev pub is_method_at : List Method → ℕ → Bool
-is_method_at methods offset = list_any (λ (m : Method). m.method_offset == offset) methods
+abbrev pub is_method_at : List MethodDescriptor → ℕ → Bool
+is_method_at methods offset = list_any (λ (m : MethodDescriptor). m.method_offset == offset) methods
 
 -- an offset at which no method stands
 unfoldable pub no_method_fault : (ℕ → Bool) → ℕ → Option PackFault
@@ -35,14 +35,15 @@ exported_fields [] = []
 exported_fields (c ∷ cs) = c.fields ++ exported_fields cs
 
 -- a class record is not described exactly once
-unfoldable pub undescribed_fault : List described.Class → Class → Option PackFault
+unfoldable pub undescribed_fault : List described.ClassDescriptor → Class → Option PackFault
 undescribed_fault descriptions c = if count_by
-    (λ (d : described.Class). d.class_ref == c.offset) descriptions == 1 then None
+    (λ (d : described.ClassDescriptor). d.class_ref == c.offset) descriptions == 1 then None
     else Some (ClassUndescribed c.offset)
 
 -- an offset names no class record
-unfoldable pub no_class_fault : List Class → ℕ → Option PackFault
-no_class_fault classes offset = if list_any (λ (c : Class). c.offset == offset) classes then None else Some (ClassUndescribed offset)
+unfoldable pub undescribed_class_fault : List Class → ℕ → Option PackFault
+undescribed_class_fault classes offset =
+    if list_any (λ (c : Class). c.offset == offset) classes then None else Some (ClassUndescribed offset)
 
 -- one of the class records starts at an offset
 abbrev pub is_class_at : List Class → ℕ → Bool

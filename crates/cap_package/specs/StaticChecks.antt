@@ -4,14 +4,14 @@ use Rattle.std.specs.Prelude.{ℕ, ◌+◌, ◌*◌, ◌/◌, ◌%◌, Bool, Lis
 use Rattle.std.specs.List.{list_any}
 use Rattle.cap_method.specs.StaticFormat.{Array, Statics}
 use Rattle.cap_desc.specs.declared.type_item.TypeItem.{TypeItem}
-use Rattle.cap_desc.specs.DescriptorFormat.{Field}
+use Rattle.cap_desc.specs.DescriptorFormat.{FieldDescriptor}
 use Rattle.cap_components.specs.Descriptions.{Description, field_type}
 use Rattle.cap_package.specs.HeaderChecks.{is_static}
 use Rattle.cap_components.specs.declared.fault.PackFault.{PackFault}
 use Rattle.cap_components.specs.declared.fault.PackFault.TheVariants.{StaticOverlaps, StaticOutside, NoStaticAt}
 
 -- the offset of a static field in the image
-abbrev pub image_offset : Field → ℕ
+abbrev pub image_offset : FieldDescriptor → ℕ
 image_offset f = slice_index f.bytes 1 * 256 + slice_index f.bytes 2
 
 -- the bytes of a value of a type in the image: one for boolean and byte, four for int, two for the others
@@ -26,11 +26,11 @@ pub record ImagePlace : Type 0 where
   pub offset : ℕ
   pub ty : TypeItem
 
-abbrev pub place_by : Field → Option TypeItem → Option ImagePlace
+abbrev pub place_by : FieldDescriptor → Option TypeItem → Option ImagePlace
 place_by f None = None
 place_by f (Some t) = if is_static f.flags then Some (record { offset = image_offset f; ty = t }) else None
 
-unfoldable pub place_in : Description → Field → Option ImagePlace
+unfoldable pub place_in : Description → FieldDescriptor → Option ImagePlace
 place_in d f = place_by f (field_type d f.ty)
 
 -- two static fields share a byte
@@ -41,10 +41,10 @@ share_by (Some p) (Some q) =
     if nat_lt (max p.offset q.offset) (min (p.offset + width_of p.ty) (q.offset + width_of q.ty))
     then Some (StaticOverlaps (min p.offset q.offset) (max p.offset q.offset)) else None
 
-unfoldable pub share_fault : Description → Option ImagePlace → Field → Option PackFault
+unfoldable pub share_fault : Description → Option ImagePlace → FieldDescriptor → Option PackFault
 share_fault d p g = share_by p (place_in d g)
 
-abbrev pub share_pair : Description → Field × Field → Option PackFault
+abbrev pub share_pair : Description → FieldDescriptor × FieldDescriptor → Option PackFault
 share_pair d p = share_fault d (place_in d p.0) p.1
 
 -- a place lies in the part of the image for its kind
@@ -57,7 +57,7 @@ abbrev pub image_by : Statics → Option ImagePlace → Option PackFault
 image_by s None = None
 image_by s (Some p) = if is_in_image s p then None else Some (StaticOutside p.offset)
 
-unfoldable pub image_fault : Statics → Description → Field → Option PackFault
+unfoldable pub image_fault : Statics → Description → FieldDescriptor → Option PackFault
 image_fault s d f = image_by s (place_in d f)
 
 -- the types of the initial arrays, in the order in which they fill the references
@@ -74,15 +74,15 @@ filled_by None p = None
 filled_by (Some kind) None = None
 filled_by (Some kind) (Some p) = if p.ty.nibble == kind + 8 then None else Some (StaticOutside p.offset)
 
-unfoldable pub filled_fault : List ℕ → Description → Field → Option PackFault
+unfoldable pub filled_fault : List ℕ → Description → FieldDescriptor → Option PackFault
 filled_fault kinds d f = filled_by (kind_at kinds (image_offset f)) (place_in d f)
 
 -- a field stands at an offset of the image
-abbrev pub stands_at : ℕ → Field → Bool
+abbrev pub stands_at : ℕ → FieldDescriptor → Bool
 stands_at offset f = is_static f.flags && image_offset f == offset
 
 -- one of the fields is static and stands at an offset of the image
-abbrev pub is_static_at : List Field → ℕ → Bool
+abbrev pub is_static_at : List FieldDescriptor → ℕ → Bool
 is_static_at fields offset = list_any (stands_at offset) fields
 
 -- an exported offset at which no static field stands

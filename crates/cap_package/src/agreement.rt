@@ -1,10 +1,10 @@
 ghost use Rattle.std.specs.Prelude.{◌≡◌, map};
 ghost use Rattle.offset_set.specs.Bits.{holds};
-ghost use Rattle.offset_set.specs.Tallies.{tallied, counted};
+ghost use Rattle.offset_set.specs.Tallies.{tallied, tally_of};
 ghost use Rattle.cap_pool.specs.ExportFormat.{Exported};
 ghost use Rattle.cap_class.specs.ClassPart.{records};
 ghost use Rattle.cap_components.specs.PackageRecord.{names_interface, described_methods};
-ghost use Rattle.cap_package.specs.NameChecks.{no_method_fault, exported_methods, no_class_fault, is_class_at, is_method_at};
+ghost use Rattle.cap_package.specs.NameChecks.{no_method_fault, exported_methods, undescribed_class_fault, is_class_at, is_method_at};
 ghost use Rattle.cap_package.specs.Agreement.{or_none, places_agree, counts_agree, members_agree, named_condition, class_condition, export_condition};
 ghost use Rattle.cap_package.specs.Reaches.{method_start};
 ghost use Rattle.cap_components.specs.ComponentsSeen.{components_seen};
@@ -33,7 +33,7 @@ pub(crate) fn places_agree(
     starts: &Tally,
 ) -> Result<(), PackFault>
     requires known { holds interfaces.now ≡ names_interface (records all.now.classes) }
-    requires starts { tallied starts.now ≡ counted (map method_start (described_methods (components_seen all.now))) }
+    requires starts { tallied starts.now ≡ tally_of (map method_start (described_methods (components_seen all.now))) }
     ensures { result ≡ places_agree (components_seen all.now) }
 {
     let described = all.descriptor.methods_but(interfaces);
@@ -134,7 +134,7 @@ fn export_classes(
     requires { holds starts.now ≡ is_class_at (records all.now.classes) }
     ensures { result
         ≡ least_from least
-        (no_class_fault (records all.now.classes))
+        (undescribed_class_fault (records all.now.classes))
         (map (λ (c : Exported). c.class_offset) (or_none (components_seen all.now).export)) }
 {
     match &all.export {
@@ -172,7 +172,7 @@ pub(crate) fn members_agree(
     starts: &Tally,
 ) -> Result<(), PackFault>
     requires known { holds interfaces.now ≡ names_interface (records all.now.classes) }
-    requires starts { tallied starts.now ≡ counted (map method_start (described_methods (components_seen all.now))) }
+    requires starts { tallied starts.now ≡ tally_of (map method_start (described_methods (components_seen all.now))) }
     ensures { result ≡ members_agree (components_seen all.now) }
 {
     let described = all.descriptor.methods_but(interfaces);

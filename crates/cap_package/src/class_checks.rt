@@ -1,6 +1,6 @@
 ghost use Rattle.std.specs.Prelude.{◌≡◌, map, if◌then◌else◌, Some, None};
 ghost use Rattle.offset_set.specs.Bits.{holds};
-ghost use Rattle.offset_set.specs.Tallies.{tallied, counted, once};
+ghost use Rattle.offset_set.specs.Tallies.{tallied, tally_of, once};
 ghost use Rattle.cap_pool.specs.Export.{export_seen as exported};
 ghost use Rattle.cap_pool.specs.ExportFormat.{Exported};
 ghost use Rattle.cap_class.specs.ClassFormat.{Class};
@@ -21,7 +21,7 @@ use offset_set::{Offsets, Tally};
 /// How often the Descriptor describes the class record at each offset.
 #[tactic(auto, using(offset_set::proofs::Tallying::all_counted))]
 pub(crate) fn descriptions(descriptors: DescClasses<'_>) -> Tally
-    ensures { tallied result ≡ counted (map (λ (d : desc.Class). d.class_ref) (described_left descriptors.entry)) }
+    ensures { tallied result ≡ tally_of (map (λ (d : desc.ClassDescriptor). d.class_ref) (described_left descriptors.entry)) }
 {
     let mut described = Tally::none();
     'classes: for class in descriptors {
@@ -68,7 +68,7 @@ pub(crate) fn descriptors_named(
     ensures { result
         ≡ least_from least
         (class_unless (own (holds starts.now)))
-        (map (λ (d : desc.Class). d.class_ref) (described_left descriptors.entry)) }
+        (map (λ (d : desc.ClassDescriptor). d.class_ref) (described_left descriptors.entry)) }
 {
     let mut least = least;
     'classes: for class in descriptors {

@@ -6,7 +6,7 @@ ghost use Rattle.cap_desc.specs.MemberRecords.{field_seen};
 ghost use Rattle.cap_desc.specs.MemberLists.{fields_left};
 ghost use Rattle.cap_components.specs.Order.{least_of, least_from, refused};
 ghost use Rattle.cap_components.specs.Descriptions.{description};
-ghost use Rattle.cap_package.specs.CountChecks.{differ, array_bytes, cells_of, instance_cells, instance_by, instance_fault};
+ghost use Rattle.cap_package.specs.CountChecks.{differ, array_bytes, described_cells, own_instance_cells, instance_by, instance_fault};
 
 use crate::class_search::ClassSearch;
 use crate::least::keep_lesser;
@@ -47,9 +47,9 @@ pub(crate) fn array_bytes(statics: &StaticPart<'_>) -> u32
 }
 
 /// The cells of an instance field, and 0 of a static one.
-#[tactic(auto, unfolding(crate::specs::CountChecks::cells_of))]
+#[tactic(auto, unfolding(crate::specs::CountChecks::described_cells))]
 fn cells_of(descriptor: &DescPart<'_>, field: &FieldInfo) -> u32
-    ensures value { result ≡ cells_of (description descriptor.now) (field_seen field.now) }
+    ensures value { result ≡ described_cells (description descriptor.now) (field_seen field.now) }
     ensures few { result ≤ 2 }
 {
     if field.flags.is_static() {
@@ -63,7 +63,7 @@ fn cells_of(descriptor: &DescPart<'_>, field: &FieldInfo) -> u32
 
 /// The cells of a class's own instance fields.
 fn instance_cells(descriptor: &DescPart<'_>, class: &DescClass<'_>) -> u32
-    ensures { result ≡ instance_cells (description descriptor.now) (described_class_seen class.now).fields }
+    ensures { result ≡ own_instance_cells (description descriptor.now) (described_class_seen class.now).fields }
 {
     let count = class.field_count();
     let mut cells: u32 = 0;

@@ -1,5 +1,5 @@
 ghost use Rattle.std.specs.Prelude.{◌≡◌, ◌≤◌, length, map};
-ghost use Rattle.offset_set.specs.Tallies.{tallied, counted};
+ghost use Rattle.offset_set.specs.Tallies.{tallied, tally_of};
 ghost use Rattle.cap_desc.specs.MemberRecords.{method_seen};
 ghost use Rattle.cap_desc.specs.MembersLeft.{methods_but_left};
 ghost use Rattle.cap_components.specs.declared.fault.PackFault.TheVariants.{MethodOverlaps};
@@ -17,7 +17,7 @@ use offset_set::Tally;
 /// Where the described methods begin.
 #[tactic(auto, using(offset_set::proofs::Tallying::all_counted))]
 pub(crate) fn method_starts(described: MethodsBut<'_, '_>) -> Tally
-    ensures { tallied result ≡ counted (map method_start (methods_but_left described.entry)) }
+    ensures { tallied result ≡ tally_of (map method_start (methods_but_left described.entry)) }
 {
     let mut starts = Tally::none();
     'methods: for method in described {
@@ -53,7 +53,7 @@ pub(crate) fn methods_apart(
     starts: &Tally,
 ) -> Result<(), PackFault>
     requires short { length info.bytes.now ≤ 65535 }
-    requires starts { tallied starts.now ≡ counted (map method_start (methods_but_left described)) }
+    requires starts { tallied starts.now ≡ tally_of (map method_start (methods_but_left described)) }
     ensures { result ≡ refused (least_of (overlap_pair info.entry.bytes.now) (pairs (methods_but_left described.entry))) }
 {
     let mut least = None;

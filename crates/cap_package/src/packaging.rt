@@ -1,5 +1,5 @@
 ghost use Rattle.std.specs.Prelude.{◌≡◌, IfOk, Ok};
-ghost use Rattle.cap_components.specs.Components.{Answers};
+ghost use Rattle.cap_components.specs.Components.{AnswersAs};
 ghost use Rattle.cap_components.specs.ComponentsSeen.{components_seen};
 ghost use Rattle.cap_package.specs.Agreement.{package_from};
 ghost use Rattle.cap_package.specs.FirstFault.{Tells};
@@ -23,7 +23,7 @@ fn agreeing<'p, 'a>(
     opening: Result<Opening<'a>, PackFault>,
 ) -> Result<Components<'p, 'a>, PackFault>
     requires { GivesOpening parts.now opening }
-    ensures value { Answers components_seen result (package_from parts.now) }
+    ensures value { AnswersAs components_seen result (package_from parts.now) }
     ensures parts { IfOk result (λ all. all.parts.now ≡ parts.now) }
     ensures infos { IfOk result (λ all. HaveInfos all) }
 {

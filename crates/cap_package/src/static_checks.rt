@@ -1,5 +1,5 @@
 ghost use Rattle.std.specs.Prelude.{◌≡◌, option_map, map};
-ghost use Rattle.offset_set.specs.Tallies.{tallied, counted};
+ghost use Rattle.offset_set.specs.Tallies.{tallied, tally_of};
 ghost use Rattle.cap_method.specs.StaticPart.{statics_seen};
 ghost use Rattle.cap_desc.specs.MemberRecords.{field_seen};
 ghost use Rattle.cap_desc.specs.MembersLeft.{fields_of_left};
@@ -61,7 +61,7 @@ pub(crate) fn place_in(descriptor: &DescPart<'_>, field: &FieldInfo) -> Option<S
 /// Where the static fields begin in the image.
 #[tactic(auto, using(offset_set::proofs::Tallying::all_counted))]
 fn static_starts(places: StaticPlaces<'_>) -> Tally
-    ensures { tallied result ≡ counted (map static_start (places_left places.entry)) }
+    ensures { tallied result ≡ tally_of (map static_start (places_left places.entry)) }
 {
     let mut starts = Tally::none();
     'places: for place in places {

@@ -1,6 +1,6 @@
 ghost use Rattle.std.specs.Iterator.{YieldsFirstBy, item_count};
 ghost use Rattle.cap_bytes.specs.Grammar.{repeat};
-ghost use Rattle.cap_bytes.specs.Taking.{Takes, Passes};
+ghost use Rattle.cap_bytes.specs.Taking.{Takes, PassesOver};
 ghost use Rattle.cap_pool.specs.Export.{exported_class_seen, exported_left};
 ghost use Rattle.cap_pool.specs.ExportFormat.{class_export_info};
 
@@ -31,7 +31,7 @@ pub(crate) fn class<'a>(items: &mut Cursor<'a>) -> Result<ExportedClass<'a>, For
 /// Passes over so many classes.
 #[tactic(auto, using(cap_bytes::proofs::Loops::passing))]
 pub(crate) fn pass_classes(items: &mut Cursor<'_>, count: u8) -> Result<(), FormFault>
-    ensures { Passes (repeat count class_export_info) items.old result items.new }
+    ensures { PassesOver (repeat count class_export_info) items.old result items.new }
 {
     'classes: for _ in 0..count {
         class(items)?;

@@ -1,6 +1,6 @@
 ghost use Rattle.std.specs.Iterator.{YieldsFirstBy, item_count};
 ghost use Rattle.cap_bytes.specs.Grammar.{repeat};
-ghost use Rattle.cap_bytes.specs.Taking.{Takes, Passes};
+ghost use Rattle.cap_bytes.specs.Taking.{Takes, PassesOver};
 ghost use Rattle.cap_pool.specs.Pool.{entries_left, entry_seen};
 ghost use Rattle.cap_pool.specs.PoolFormat.{entry_info};
 
@@ -25,7 +25,7 @@ pub(crate) fn entry(items: &mut Cursor<'_>) -> Result<PoolEntry, FormFault>
 /// Passes over so many entries.
 #[tactic(auto, using(cap_bytes::proofs::Loops::passing))]
 pub(crate) fn pass_entries(items: &mut Cursor<'_>, count: u16) -> Result<(), FormFault>
-    ensures { Passes (repeat count entry_info) items.old result items.new }
+    ensures { PassesOver (repeat count entry_info) items.old result items.new }
 {
     'entries: for _ in 0..count {
         entry(items)?;

@@ -6,7 +6,7 @@ use Rattle.cap_bytes.specs.Grammar.{u1, u2, repeat, table}
 use Rattle.cap_bytes.specs.Spelling.{Spells, Stands, info_of}
 use Rattle.cap_bytes.proofs.Wide.{read_within}
 use Rattle.cap_bytes.proofs.UntilLoops.{moves_on}
-use Rattle.cap_desc.specs.DescriptorFormat.{Field, Method, Class, Descriptor, method_flags, field_descriptor_info, method_descriptor_info, class_descriptor_info, descriptor_info}
+use Rattle.cap_desc.specs.DescriptorFormat.{FieldDescriptor, MethodDescriptor, ClassDescriptor, Descriptor, method_flags, field_descriptor_info, method_descriptor_info, class_descriptor_info, descriptor_info}
 use Rattle.cap_writing.specs.Edit.{Edit, patched_all, AreInside, FitBytes}
 use Rattle.cap_writing.specs.Renewal.{Renews, IsEdited, AreSame}
 use Rattle.cap_writing.proofs.Same.{spelled_same, same_part}
@@ -20,7 +20,7 @@ use Rattle.cap_renewal.proofs.News.{small_numbers}
 
 -- ---- a method
 
-record HasMethod (bytes : List ℕ) (at : ℕ) (m : Method) (after : ℕ) : Type 0 where
+record HasMethod (bytes : List ℕ) (at : ℕ) (m : MethodDescriptor) (after : ℕ) : Type 0 where
   byte : ℕ
   token : Spells u1 bytes at m.token (at + 1)
   flags : Spells u1 bytes (at + 1) byte (at + 2)
@@ -32,7 +32,7 @@ record HasMethod (bytes : List ℕ) (at : ℕ) (m : Method) (after : ℕ) : Type
   index : Spells u2 bytes (at + 10) m.handler_index (at + 12)
   end : after ≡ at + 12
 
-has_method : (bytes : List ℕ) (at : ℕ) (m : Method) (after : ℕ) → Spells method_descriptor_info bytes at m after → HasMethod bytes at m after
+has_method : (bytes : List ℕ) (at : ℕ) (m : MethodDescriptor) (after : ℕ) → Spells method_descriptor_info bytes at m after → HasMethod bytes at m after
 unfolding Spells
 has_method bytes at m after h =
     let f = h.3 in
@@ -63,15 +63,15 @@ has_method bytes at m after h =
       end = z ∙ m12;
     })
 
-method_made : (bytes : List ℕ) (at : ℕ) (m : Method) (after : ℕ) → HasMethod bytes at m after → Spells method_descriptor_info bytes at m after
+method_made : (bytes : List ℕ) (at : ℕ) (m : MethodDescriptor) (after : ℕ) → HasMethod bytes at m after → Spells method_descriptor_info bytes at m after
 unfolding Spells
 method_made bytes at m after h =
     (m.token, at + 1, h.token, (h.byte, at + 2, h.flags, (m.method_offset, at + 4, h.offset, (m.type_offset, at + 6, h.type_of, (m.bytecode_count, at + 8, h.bytecodes, (m.handler_count, at + 10, h.handlers, (m.handler_index, at + 12, h.index, (same m h.byte h.flagged, h.end))))))))
   where
-    same : (m : Method) (byte : ℕ) → m.flags ≡ method_flags byte → m ≡ record { token = m.token; flags = method_flags byte; method_offset = m.method_offset; type_offset = m.type_offset; bytecode_count = m.bytecode_count; handler_count = m.handler_count; handler_index = m.handler_index }
+    same : (m : MethodDescriptor) (byte : ℕ) → m.flags ≡ method_flags byte → m ≡ record { token = m.token; flags = method_flags byte; method_offset = m.method_offset; type_offset = m.type_offset; bytecode_count = m.bytecode_count; handler_count = m.handler_count; handler_index = m.handler_index }
     same m byte e = rw (← e) refl
 
-edited_method : (bytes out : List ℕ) (at : ℕ) (m : Method) (n : NewMethod) (after : ℕ) → length out ≡ length bytes → HasMethod bytes at m after → IsEdited (edits_to at n) at after bytes out → HasMethod out at (method_by m n) after
+edited_method : (bytes out : List ℕ) (at : ℕ) (m : MethodDescriptor) (n : NewMethod) (after : ℕ) → length out ≡ length bytes → HasMethod bytes at m after → IsEdited (edits_to at n) at after bytes out → HasMethod out at (method_by m n) after
 unfolding Spells
 edited_method bytes out at m n after len p ed =
     let end = p.end in
@@ -109,7 +109,7 @@ method_fit news bytes are small = record {
 
 -- ---- a class
 
-wide_field : (bytes : List ℕ) (at : ℕ) (f : Field) (after : ℕ) → Spells field_descriptor_info bytes at f after → after ≡ at + 7
+wide_field : (bytes : List ℕ) (at : ℕ) (f : FieldDescriptor) (after : ℕ) → Spells field_descriptor_info bytes at f after → after ≡ at + 7
 unfolding Spells
 wide_field bytes at f after h =
     let a = h.2.2 in
@@ -119,7 +119,7 @@ wide_field bytes at f after h =
     let e = h.3.3.3.3.1 in
     omega arith
 
-record HasClass (bytes : List ℕ) (at : ℕ) (c : Class) (after : ℕ) : Type 0 where
+record HasClass (bytes : List ℕ) (at : ℕ) (c : ClassDescriptor) (after : ℕ) : Type 0 where
   byte : ℕ
   interface_count : ℕ
   field_count : ℕ
@@ -135,7 +135,7 @@ record HasClass (bytes : List ℕ) (at : ℕ) (c : Class) (after : ℕ) : Type 0
   methods : Spells (repeat method_count method_descriptor_info) bytes (at + before_methods c) c.methods after
   end : after ≡ at + class_width c
 
-has_class : (bytes : List ℕ) (at : ℕ) (c : Class) (after : ℕ) → Spells class_descriptor_info bytes at c after → HasClass bytes at c after
+has_class : (bytes : List ℕ) (at : ℕ) (c : ClassDescriptor) (after : ℕ) → Spells class_descriptor_info bytes at c after → HasClass bytes at c after
 unfolding Spells table
 has_class bytes at c after h =
     let f = h.3 in
@@ -176,7 +176,7 @@ has_class bytes at c after h =
       end = omega (arith, mw, mf);
     })
 
-class_made : (bytes : List ℕ) (at : ℕ) (c : Class) (after : ℕ) → HasClass bytes at c after → Spells class_descriptor_info bytes at c after
+class_made : (bytes : List ℕ) (at : ℕ) (c : ClassDescriptor) (after : ℕ) → HasClass bytes at c after → Spells class_descriptor_info bytes at c after
 unfolding Spells table
 class_made bytes at c after h = (
   c.token,
@@ -211,27 +211,27 @@ class_made bytes at c after h = (
 )
 
 -- the same with a test of the reference that is known
-class_by : Bool → List (Option NewMethod) → Class → Class
+class_by : Bool → List (Option NewMethod) → ClassDescriptor → ClassDescriptor
 class_by b news c = if b then c else record c { methods = map (renewed_method news) c.methods }
 
-edits_by : Bool → List (Option NewMethod) → ℕ → Class → List Edit
+edits_by : Bool → List (Option NewMethod) → ℕ → ClassDescriptor → List Edit
 edits_by b news at c = if b then [] else methods_edits news (at + before_methods c) c.methods
 
-methods_inside : (news : List (Option NewMethod)) (bytes : List ℕ) (at : ℕ) (c : Class) (after : ℕ) → HasClass bytes at c after → AreInside (methods_edits news (at + before_methods c) c.methods) (at + before_methods c) after
+methods_inside : (news : List (Option NewMethod)) (bytes : List ℕ) (at : ℕ) (c : ClassDescriptor) (after : ℕ) → HasClass bytes at c after → AreInside (methods_edits news (at + before_methods c) c.methods) (at + before_methods c) after
 methods_inside news bytes at c after p = all_inside method_descriptor_info (method_edits news) method_width (renewed_method news) bytes (method_item news bytes) p.method_count (at + before_methods c) c.methods after p.methods
 
-by_inside : (b : Bool) (news : List (Option NewMethod)) (bytes : List ℕ) (at : ℕ) (c : Class) (after : ℕ) → HasClass bytes at c after → AreInside (edits_by b news at c) at after
+by_inside : (b : Bool) (news : List (Option NewMethod)) (bytes : List ℕ) (at : ℕ) (c : ClassDescriptor) (after : ℕ) → HasClass bytes at c after → AreInside (edits_by b news at c) at after
 unfolding edits_by
 by_inside true news bytes at c after p = let e = p.end in omega arith
 by_inside false news bytes at c after p = inside_from (methods_edits news (at + before_methods c) c.methods) at (at + before_methods c) after (omega arith) (methods_inside news bytes at c after p)
 
-by_fit : (b : Bool) (news : List (Option NewMethod)) (bytes : List ℕ) (at : ℕ) (c : Class) (after : ℕ) → AreBytes bytes → AreSmall news → HasClass bytes at c after → FitBytes (edits_by b news at c)
+by_fit : (b : Bool) (news : List (Option NewMethod)) (bytes : List ℕ) (at : ℕ) (c : ClassDescriptor) (after : ℕ) → AreBytes bytes → AreSmall news → HasClass bytes at c after → FitBytes (edits_by b news at c)
 unfolding edits_by
 by_fit true news bytes at c after are small p = tt
 by_fit false news bytes at c after are small p =
     all_fit method_descriptor_info (method_edits news) method_width (renewed_method news) bytes (method_item news bytes) (method_fit news bytes are small) p.method_count (at + before_methods c) c.methods after p.methods
 
-by_renewed : (b : Bool) (news : List (Option NewMethod)) (bytes out : List ℕ) (at : ℕ) (c : Class) (after : ℕ) → length out ≡ length bytes → Spells class_descriptor_info bytes at c after → IsEdited (edits_by b news at c) at after bytes out → Spells class_descriptor_info out at (class_by b news c) after
+by_renewed : (b : Bool) (news : List (Option NewMethod)) (bytes out : List ℕ) (at : ℕ) (c : ClassDescriptor) (after : ℕ) → length out ≡ length bytes → Spells class_descriptor_info bytes at c after → IsEdited (edits_by b news at c) at after bytes out → Spells class_descriptor_info out at (class_by b news c) after
 unfolding edits_by class_by
 by_renewed true news bytes out at c after len h ed = spelled_same class_descriptor_info bytes out at c after len ed h
 by_renewed false news bytes out at c after len h ed =
@@ -258,11 +258,11 @@ by_renewed false news bytes out at c after len h ed =
       end = omega arith;
     })
 
-edits_are : (interfaces : ℕ → Bool) (news : List (Option NewMethod)) (at : ℕ) (c : Class) → class_edits interfaces news at c ≡ edits_by (interfaces c.class_ref) news at c
+edits_are : (interfaces : ℕ → Bool) (news : List (Option NewMethod)) (at : ℕ) (c : ClassDescriptor) → class_edits interfaces news at c ≡ edits_by (interfaces c.class_ref) news at c
 unfolding edits_by
 edits_are interfaces news at c = refl
 
-class_is : (interfaces : ℕ → Bool) (news : List (Option NewMethod)) (c : Class) → class_by (interfaces c.class_ref) news c ≡ renewed_class interfaces news c
+class_is : (interfaces : ℕ → Bool) (news : List (Option NewMethod)) (c : ClassDescriptor) → class_by (interfaces c.class_ref) news c ≡ renewed_class interfaces news c
 unfolding class_by
 class_is interfaces news c = refl
 
@@ -280,7 +280,7 @@ class_fit interfaces news bytes are small = record {
 }
 
 -- the methods of a class that is no interface stand in the info
-pub class_room : (bytes : List ℕ) (at : ℕ) (c : Class) (after : ℕ) → Spells class_descriptor_info bytes at c after → after ≡ at + before_methods c + 12 * length c.methods
+pub class_room : (bytes : List ℕ) (at : ℕ) (c : ClassDescriptor) (after : ℕ) → Spells class_descriptor_info bytes at c after → after ≡ at + before_methods c + 12 * length c.methods
 class_room bytes at c after h = let e = (has_class bytes at c after h).end in omega arith
 
 -- ---- the component

@@ -1,7 +1,7 @@
 -- The numbers of methods that are written anew.
 use Rattle.std.proofs.Common.{◌<◌, ℕ, zero, suc, List, [], ◌∷◌, ◌++◌, Option, Some, None}
 use Rattle.cap_renewal.specs.declared.new_methods.NewMethod.{NewMethod}
-use Rattle.cap_desc.specs.DescriptorFormat.{Method}
+use Rattle.cap_desc.specs.DescriptorFormat.{MethodDescriptor}
 use Rattle.cap_renewal.specs.NewMethods.{at_offset, offset_or, to, numbers_or, numbers_of, IsSmall, IsSmallIf, AreSmall, KeepsSmall}
 
 small_or : (n : Option NewMethod) (o : ℕ) → IsSmallIf n → o < 65536 → offset_or o n < 65536
@@ -30,10 +30,10 @@ one_small news m all a b c d = push_small news (Some m) (record { offset = a; by
 pub no_more : (news : List (Option NewMethod)) → AreSmall news → AreSmall (news ++ None ∷ [])
 no_more news all = push_small news None tt all
 
-small_by : (m : Method) (n : Option NewMethod) → IsSmallIf n → m.method_offset < 65536 → m.bytecode_count < 65536 → m.handler_count < 65536 → m.handler_index < 65536 → IsSmall (numbers_or m n)
+small_by : (m : MethodDescriptor) (n : Option NewMethod) → IsSmallIf n → m.method_offset < 65536 → m.bytecode_count < 65536 → m.handler_count < 65536 → m.handler_index < 65536 → IsSmall (numbers_or m n)
 small_by m None s a b c d = record { offset = a; bytecode_count = b; handler_count = c; handler_index = d }
 small_by m (Some n) s a b c d = s
 
-pub small_numbers : (news : List (Option NewMethod)) (m : Method) → AreSmall news → m.method_offset < 65536 → m.bytecode_count < 65536 → m.handler_count < 65536 → m.handler_index < 65536 → IsSmall (numbers_of news m)
+pub small_numbers : (news : List (Option NewMethod)) (m : MethodDescriptor) → AreSmall news → m.method_offset < 65536 → m.bytecode_count < 65536 → m.handler_count < 65536 → m.handler_index < 65536 → IsSmall (numbers_of news m)
 unfolding numbers_of
 small_numbers news m s a b c d = small_by m (at_offset news m.method_offset) (s.each m.method_offset) a b c d

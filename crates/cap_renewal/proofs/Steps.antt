@@ -1,7 +1,7 @@
 -- One edit of a loop over a table, and the edits of one method.
 use Rattle.std.proofs.Common.{◌≡◌, ℕ, ◌+◌, ◌*◌, List, ◌∷◌, ◌++◌, length, Option, true, false, refl, sym, ◌∙◌}
 use Rattle.cap_class.specs.ClassFormat.{Class, is_interface}
-use Rattle.cap_desc.specs.DescriptorFormat.{Method}
+use Rattle.cap_desc.specs.DescriptorFormat.{MethodDescriptor}
 use Rattle.cap_writing.specs.Edit.{patched, patched_all}
 use Rattle.cap_writing.proofs.Patches.{patched_append}
 use Rattle.cap_renewal.specs.declared.new_methods.NewMethod.{NewMethod}
@@ -14,7 +14,7 @@ pub one_edit : (to : ℕ → ℕ) (at o : ℕ) (os all now new whole : List ℕ)
     → patched_all (table_edits to at all) now ≡ whole → patched_all (table_edits to (at + 2) os) new ≡ whole
 one_edit to at o os all now new whole e p h = rw p (rw e at h)
 
-pub one_method : (news : List (Option NewMethod)) (at : ℕ) (m : Method) (ms all : List Method) (now new whole : List ℕ) → all ≡ m ∷ ms → new ≡ patched_all (edits_to at (numbers_of news m)) now
+pub one_method : (news : List (Option NewMethod)) (at : ℕ) (m : MethodDescriptor) (ms all : List MethodDescriptor) (now new whole : List ℕ) → all ≡ m ∷ ms → new ≡ patched_all (edits_to at (numbers_of news m)) now
     → patched_all (methods_edits news at all) now ≡ whole → patched_all (methods_edits news (at + 12) ms) new ≡ whole
 one_method news at m ms all now new whole e p h =
     let whole_is : patched_all (method_edits news at m ++ methods_edits news (at + 12) ms) now ≡ whole = rw e at h in

@@ -1,6 +1,6 @@
 -- Where the methods of a package stand after they are written anew, by the offset at which each stood.
 use Rattle.std.specs.Prelude.{◌<◌, ℕ, List, Option, Some, None, slice_index, slice_index_or}
-use Rattle.cap_desc.specs.DescriptorFormat.{Method}
+use Rattle.cap_desc.specs.DescriptorFormat.{MethodDescriptor}
 use Rattle.cap_renewal.specs.declared.new_methods.NewMethod.{NewMethod}
 
 -- the method that stood at an offset, if one did
@@ -16,7 +16,7 @@ unfoldable pub to : List (Option NewMethod) → ℕ → ℕ
 to news offset = offset_or offset (at_offset news offset)
 
 -- the numbers that the Descriptor tells of a method
-abbrev pub numbers_or : Method → Option NewMethod → NewMethod
+abbrev pub numbers_or : MethodDescriptor → Option NewMethod → NewMethod
 numbers_or m None = record {
   offset = m.method_offset;
   bytecode_count = m.bytecode_count;
@@ -26,7 +26,7 @@ numbers_or m None = record {
 numbers_or m (Some n) = n
 
 -- the same after it was written: of one that did not stand at its offset they stay
-unfoldable pub numbers_of : List (Option NewMethod) → Method → NewMethod
+unfoldable pub numbers_of : List (Option NewMethod) → MethodDescriptor → NewMethod
 numbers_of news m = numbers_or m (at_offset news m.method_offset)
 
 -- the numbers have two bytes

@@ -13,7 +13,7 @@ use Rattle.cap_package.specs.MethodChecks.{overlap_pair, outside_fault}
 use Rattle.cap_package.specs.HeaderChecks.{registers_fault, length_fault, arguments_fault, abstract_fault}
 use Rattle.cap_package.specs.HandlerChecks.{numbered, numbered_fault, claim_fault}
 use Rattle.cap_package.specs.StaticChecks.{share_pair, image_fault, array_kinds, filled_fault, is_static_at, no_static_fault}
-use Rattle.cap_package.specs.NameChecks.{is_method_at, no_method_fault, no_entry_fault, table_entries, exported_methods, exported_fields, undescribed_fault, no_class_fault, not_own_fault}
+use Rattle.cap_package.specs.NameChecks.{is_method_at, no_method_fault, no_entry_fault, table_entries, exported_methods, exported_fields, undescribed_fault, undescribed_class_fault, not_own_fault}
 use Rattle.cap_package.specs.TypeChecks.{field_type_fault, method_type_fault}
 use Rattle.cap_package.specs.CountChecks.{array_bytes, image_bytes, instance_fault, count_if}
 use Rattle.cap_package.specs.Agreement.{or_none}
@@ -42,8 +42,8 @@ pub record Agrees (parts : List Lent) (p : PackageRecord) : Type 0 where
       ++ at_fault (no_method_fault (is_method_at (described_methods p))) (exported_methods (or_none p.export)))
       ++ at_fault (no_method_fault (is_method_at (described_methods p))) (map (λ (a : Applet). a.install) (or_none p.applets)) ≡ []
   pub classes : (at_fault (undescribed_fault p.description.items.classes) p.classes
-      ++ at_fault (not_own_fault p.classes) (map (λ (d : described.Class). d.class_ref) p.description.items.classes))
-      ++ at_fault (no_class_fault p.classes) (map (λ (c : Exported). c.class_offset) (or_none p.export)) ≡ []
+      ++ at_fault (not_own_fault p.classes) (map (λ (d : described.ClassDescriptor). d.class_ref) p.description.items.classes))
+      ++ at_fault (undescribed_class_fault p.classes) (map (λ (c : Exported). c.class_offset) (or_none p.export)) ≡ []
   pub registers : at_fault (registers_fault p.methods.info) (described_methods p) ≡ []
   pub types : (at_fault (field_type_fault p.description) (fields p)
       ++ at_fault (method_type_fault p.description 510) (methods_of p.description.items.classes))

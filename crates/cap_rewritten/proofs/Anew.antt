@@ -4,7 +4,7 @@ use Rattle.std.specs.Prelude.{if◌then◌else◌, slice_index, find}
 use Rattle.std.proofs.lemmas.List.{map-append}
 use Rattle.std.proofs.lemmas.Bool.{eqb-true, eqb-false}
 use Rattle.std.proofs.lemmas.Option.{same_Some}
-use Rattle.cap_desc.specs.DescriptorFormat.{Method, Class}
+use Rattle.cap_desc.specs.DescriptorFormat.{MethodDescriptor, ClassDescriptor}
 use Rattle.cap_desc.specs.Members.{methods_but}
 use Rattle.cap_components.specs.PackageRecord.{PackageRecord, described_methods, names_interface}
 use Rattle.cap_renewal.specs.declared.new_methods.NewMethod.{NewMethod}
@@ -14,7 +14,7 @@ use Rattle.cap_laying.specs.declared.member.Member.{Member}
 use Rattle.cap_laying.specs.Member.{code_size, handlers_of}
 use Rattle.cap_laying.specs.NewPlaces.{new_method, new_if, news_from}
 use Rattle.cap_laying.specs.Member.{by_offset, size_if}
-use Rattle.cap_laying.specs.Blocks.{blocks, indexes_of}
+use Rattle.cap_laying.specs.Blocks.{blocks, handler_indexes}
 use Rattle.cap_laying.specs.Members.{new_places, start_of}
 use Rattle.cap_laying.specs.Standing.{StandsAnew, AllStand}
 use Rattle.jc_decode.specs.declared.symbols.Laid.{Laid}
@@ -77,31 +77,31 @@ changes_are info news (s ∷ ss) (m ∷ ms) a = ap (λ xs. record { source = s; 
 
 -- ---- the Descriptor
 
-but_by : (set : ℕ → Bool) (f : Method → Method) (c : Class) (b : Bool) (us : List Class) (vs : List Method) → set c.class_ref ≡ b → methods_but set us ≡ map f vs
+but_by : (set : ℕ → Bool) (f : MethodDescriptor → MethodDescriptor) (c : ClassDescriptor) (b : Bool) (us : List ClassDescriptor) (vs : List MethodDescriptor) → set c.class_ref ≡ b → methods_but set us ≡ map f vs
     → methods_but set ((if b then c else record c { methods = map f c.methods }) ∷ us) ≡ map f (if b then vs else c.methods ++ vs)
 but_by set f c true us vs e h = ap (λ b. if b then methods_but set us else c.methods ++ methods_but set us) e ∙ h
 but_by set f c false us vs e h =
     ap (λ b. if b then methods_but set us else map f c.methods ++ methods_but set us) e ∙ ap (λ ms. map f c.methods ++ ms) h ∙ sym (map-append f c.methods vs)
 
-but_renewed : (set : ℕ → Bool) (news : List (Option NewMethod)) (cs : List Class) → methods_but set (map (renewed_class set news) cs) ≡ map (renewed_method news) (methods_but set cs)
+but_renewed : (set : ℕ → Bool) (news : List (Option NewMethod)) (cs : List ClassDescriptor) → methods_but set (map (renewed_class set news) cs) ≡ map (renewed_method news) (methods_but set cs)
 but_renewed set news [] = refl
 but_renewed set news (c ∷ cs) = but_by set (renewed_method news) c (set c.class_ref) (map (renewed_class set news) cs) (methods_but set cs) refl (but_renewed set news cs)
 
-bare_renewed : (news : List (Option NewMethod)) (ms : List Method) → map bare_method (map (renewed_method news) ms) ≡ map bare_method ms
+bare_renewed : (news : List (Option NewMethod)) (ms : List MethodDescriptor) → map bare_method (map (renewed_method news) ms) ≡ map bare_method ms
 bare_renewed news [] = refl
 bare_renewed news (m ∷ ms) = ap (λ ns. bare_method m ∷ ns) (bare_renewed news ms)
 
-bare_by : (set : ℕ → Bool) (news : List (Option NewMethod)) (c : Class) (b : Bool) → set c.class_ref ≡ b → bare_class set (if b then c else record c { methods = map (renewed_method news) c.methods }) ≡ bare_class set c
+bare_by : (set : ℕ → Bool) (news : List (Option NewMethod)) (c : ClassDescriptor) (b : Bool) → set c.class_ref ≡ b → bare_class set (if b then c else record c { methods = map (renewed_method news) c.methods }) ≡ bare_class set c
 bare_by set news c true e = refl
 bare_by set news c false e =
     ap (λ b. with_methods (if b then map (renewed_method news) c.methods else map bare_method (map (renewed_method news) c.methods))) e
     ∙ ap with_methods (bare_renewed news c.methods)
     ∙ ap (λ b. with_methods (if b then c.methods else map bare_method c.methods)) (sym e)
   where
-    with_methods : List Method → Class
+    with_methods : List MethodDescriptor → ClassDescriptor
     with_methods ms = record c { methods = ms }
 
-pub bare_classes : (set : ℕ → Bool) (news : List (Option NewMethod)) (cs : List Class) → map (bare_class set) (map (renewed_class set news) cs) ≡ map (bare_class set) cs
+pub bare_classes : (set : ℕ → Bool) (news : List (Option NewMethod)) (cs : List ClassDescriptor) → map (bare_class set) (map (renewed_class set news) cs) ≡ map (bare_class set) cs
 bare_classes set news [] = refl
 bare_classes set news (c ∷ cs) =
     ap (λ d. d ∷ map (bare_class set) (map (renewed_class set news) cs)) (bare_by set news c (set c.class_ref) refl) ∙ ap (λ ds. bare_class set c ∷ ds) (bare_classes set news cs)
@@ -132,17 +132,17 @@ pub record IsToldOf (news : List (Option NewMethod)) (indexes : List ℕ) (z : P
   pub many : (renewed_method news z.source.method).handler_count ≡ length (handlers_of z.member.body)
   pub index : (renewed_method news z.source.method).handler_index ≡ slice_index indexes z.member.offset
 
-pub is_told_of : (info : List ℕ) (size room : ℕ) (all : List Member) (z : Pair) → IsMemberOf info z.source z.member → StandsAnew size room all z.member → IsToldOf (new_places size room all) (indexes_of size (blocks room all)) z
+pub is_told_of : (info : List ℕ) (size room : ℕ) (all : List Member) (z : Pair) → IsMemberOf info z.source z.member → StandsAnew size room all z.member → IsToldOf (new_places size room all) (handler_indexes size (blocks room all)) z
 unfolding numbers_of
 is_told_of info size room all z is st =
     let news = new_places size room all in
-    let n : at_offset news z.source.method.method_offset ≡ Some (new_method (indexes_of size (blocks room all)) (to news z.member.offset) z.member) = ap (at_offset news) (sym is.offset) ∙ st.numbers in
+    let n : at_offset news z.source.method.method_offset ≡ Some (new_method (handler_indexes size (blocks room all)) (to news z.member.offset) z.member) = ap (at_offset news) (sym is.offset) ∙ st.numbers in
     let e = ap (λ o. method_by z.source.method (numbers_or z.source.method o)) n in
     record {
-      offset = ap (λ (m : Method). m.method_offset) e;
-      count = ap (λ (m : Method). m.bytecode_count) e;
-      many = ap (λ (m : Method). m.handler_count) e;
-      index = ap (λ (m : Method). m.handler_index) e;
+      offset = ap (λ (m : MethodDescriptor). m.method_offset) e;
+      count = ap (λ (m : MethodDescriptor). m.bytecode_count) e;
+      many = ap (λ (m : MethodDescriptor). m.handler_count) e;
+      index = ap (λ (m : MethodDescriptor). m.handler_index) e;
     }
 
 -- ---- offsets
@@ -157,7 +157,7 @@ stays : (size room : ℕ) (ms : List Member) (o : ℕ) → Each (λ (m : Member)
 unfolding to new_places
 stays size room ms o h =
     let empty : slot (by_offset size ms) o ≡ None = ap (λ t. slot t o) (by_offset_is size ms) ∙ kept at_offset_of (replicate size None) ms o h ∙ slot_none size o in
-    ap (offset_or o) (none_new (indexes_of size (blocks room ms)) (start_of room ms) (by_offset size ms) o empty)
+    ap (offset_or o) (none_new (handler_indexes size (blocks room ms)) (start_of room ms) (by_offset size ms) o empty)
 
 pub data Finding {X : Type 0} (p : X → Bool) (xs : List X) : Type 0 where
   nowhere : find p xs ≡ None → Each (λ x. p x ≡ false) xs → Finding p xs
@@ -179,13 +179,13 @@ has_source g (x ∷ xs) y (inr h) = let r = has_source g xs y h in (r.0, inr r.1
 
 -- names of methods are renewed as the offsets of described methods change
 pub renamed : (p q : PackageRecord) (laid : List (Option Laid)) (ms : List Member) → IsWrittenAnew p laid ms q
-    → Each (λ (z : Pair). IsToldOf (places p ms) (indexes_of (length p.methods.info) (blocks (length p.methods.handlers) ms)) z) (pairs_in p laid ms)
+    → Each (λ (z : Pair). IsToldOf (places p ms) (handler_indexes (length p.methods.info) (blocks (length p.methods.handlers) ms)) z) (pairs_in p laid ms)
     → (o : ℕ) → now_at (changes p laid q) o ≡ to (places p ms) o
 unfolding now_at
 renamed p q laid ms w told o =
     ap (λ cs. offset_by o (find (stood_at o) cs)) (all_changes p q laid ms w) ∙ by (look (stood_at o) (map (change_in (places p ms)) (pairs_in p laid ms)))
   where
-    at_one : (z : Pair) → IsMemberOf p.methods.info z.source z.member → IsToldOf (places p ms) (indexes_of (length p.methods.info) (blocks (length p.methods.handlers) ms)) z → stood_at o (change_in (places p ms) z) ≡ true
+    at_one : (z : Pair) → IsMemberOf p.methods.info z.source z.member → IsToldOf (places p ms) (handler_indexes (length p.methods.info) (blocks (length p.methods.handlers) ms)) z → stood_at o (change_in (places p ms) z) ≡ true
         → (renewed_method (places p ms) z.source.method).method_offset ≡ to (places p ms) o
     at_one z is t e = t.offset ∙ ap (to (places p ms)) (is.offset ∙ eqb-true z.source.method.method_offset o e)
 
@@ -204,5 +204,5 @@ renamed p q laid ms w told o =
         let zs = pairs_in p laid ms in
         let z = has_source (change_in (places p ms)) zs c h in
         let is = each_at (λ (x : Pair). IsMemberOf p.methods.info x.source x.member) zs z.0 (pair_each p.methods.info (sources p laid) ms w.members) z.1 in
-        let told_one = each_at (λ (x : Pair). IsToldOf (places p ms) (indexes_of (length p.methods.info) (blocks (length p.methods.handlers) ms)) x) zs z.0 told z.1 in
+        let told_one = each_at (λ (x : Pair). IsToldOf (places p ms) (handler_indexes (length p.methods.info) (blocks (length p.methods.handlers) ms)) x) zs z.0 told z.1 in
         ap (offset_by o) f ∙ ap (λ (x : Change). x.now.method_offset) z.2 ∙ at_one z.0 is told_one (ap (stood_at o) (sym z.2) ∙ t)

@@ -4,7 +4,7 @@ use Rattle.std.proofs.lemmas.List.{drop-drop}
 use Rattle.cap_bytes.specs.Number.{number_at}
 use Rattle.cap_bytes.specs.Spelling.{info_of}
 use Rattle.cap_bytes.proofs.Laws.{spelled-read}
-use Rattle.cap_method.specs.MethodFormat.{Header, header_info}
+use Rattle.cap_method.specs.MethodFormat.{Header, method_header}
 use Rattle.cap_method.specs.MethodPart.{HeaderAt}
 use Rattle.cap_components.specs.MethodPlaces.{size_by}
 use Rattle.cap_package.specs.HeaderChecks.{header_in}
@@ -33,7 +33,7 @@ take_more (suc k) n (x ∷ xs) = let e : suc k + n ≡ suc (k + n) = omega arith
 
 pub header_there : (info : List ℕ) (at : ℕ) (h : Header) → HeaderAt info at h → header_in info at ≡ Some h
 unfolding header_in
-header_there info at h s = rw (spelled-read (info_of 7) header_info info at h s.0 s.1) refl
+header_there info at h s = rw (spelled-read (info_of 7) method_header info at h s.0 s.1) refl
 
 pub record IsCodeAt (info : List ℕ) (at : ℕ) (laid : Laid) : Type 0 where
   pub header : header_in info at ≡ Some (header_of (numbers_of laid))

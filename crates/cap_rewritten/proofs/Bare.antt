@@ -6,7 +6,7 @@ use Rattle.std.proofs.lemmas.List.{map-append, drop-drop}
 use Rattle.cap_bytes.specs.Number.{number_at}
 use Rattle.cap_class.specs.ClassFormat.{is_interface}
 use Rattle.cap_class.specs.ClassFormat as of_class
-use Rattle.cap_desc.specs.DescriptorFormat.{Method, Class}
+use Rattle.cap_desc.specs.DescriptorFormat.{MethodDescriptor, ClassDescriptor}
 use Rattle.cap_desc.specs.Members.{methods_of, methods_in, methods_but, fields_of}
 use Rattle.cap_desc.specs.TypeFormat.{types_at, type_at, nibbles_at, types_in, one_type_in}
 use Rattle.cap_components.specs.Descriptions.{Description, argument_words, field_type, words_in, no_void}
@@ -24,71 +24,71 @@ pub same_interfaces : (f : ℕ → ℕ) (cs : List of_class.Class) (r : ℕ) →
 unfolding names_interface
 same_interfaces f cs r = any_map (λ (c : of_class.Class). c.offset == r && is_interface c.flags) (renewed_class f) cs
 
-but_by : (b c : Bool) (ms us vs : List Method) → b ≡ c → us ≡ vs → (if b then us else ms ++ us) ≡ (if c then vs else ms ++ vs)
+but_by : (b c : Bool) (ms us vs : List MethodDescriptor) → b ≡ c → us ≡ vs → (if b then us else ms ++ us) ≡ (if c then vs else ms ++ vs)
 but_by b c ms us vs e h = rw (e, h) refl
 
-pub but_same : (s t : ℕ → Bool) (cs : List Class) → ((r : ℕ) → s r ≡ t r) → methods_but s cs ≡ methods_but t cs
+pub but_same : (s t : ℕ → Bool) (cs : List ClassDescriptor) → ((r : ℕ) → s r ≡ t r) → methods_but s cs ≡ methods_but t cs
 but_same s t [] h = refl
 but_same s t (c ∷ cs) h = but_by (s c.class_ref) (t c.class_ref) c.methods (methods_but s cs) (methods_but t cs) (h c.class_ref) (but_same s t cs h)
 
-in_by : (b c : Bool) (ms us vs : List Method) → b ≡ c → us ≡ vs → (if b then ms ++ us else us) ≡ (if c then ms ++ vs else vs)
+in_by : (b c : Bool) (ms us vs : List MethodDescriptor) → b ≡ c → us ≡ vs → (if b then ms ++ us else us) ≡ (if c then ms ++ vs else vs)
 in_by b c ms us vs e h = rw (e, h) refl
 
-pub in_same : (s t : ℕ → Bool) (cs : List Class) → ((r : ℕ) → s r ≡ t r) → methods_in s cs ≡ methods_in t cs
+pub in_same : (s t : ℕ → Bool) (cs : List ClassDescriptor) → ((r : ℕ) → s r ≡ t r) → methods_in s cs ≡ methods_in t cs
 in_same s t [] h = refl
 in_same s t (c ∷ cs) h = in_by (s c.class_ref) (t c.class_ref) c.methods (methods_in s cs) (methods_in t cs) (h c.class_ref) (in_same s t cs h)
 
 -- ---- methods, fields and classes of the Descriptor
 
-bare_but_by : (b : Bool) (ms us vs : List Method) → us ≡ map bare_method vs → (if b then us else (if b then ms else map bare_method ms) ++ us) ≡ map bare_method (if b then vs else ms ++ vs)
+bare_but_by : (b : Bool) (ms us vs : List MethodDescriptor) → us ≡ map bare_method vs → (if b then us else (if b then ms else map bare_method ms) ++ us) ≡ map bare_method (if b then vs else ms ++ vs)
 bare_but_by true ms us vs e = e
 bare_but_by false ms us vs e = ap (λ xs. map bare_method ms ++ xs) e ∙ sym (map-append bare_method ms vs)
 
-pub bare_but : (set : ℕ → Bool) (cs : List Class) → methods_but set (map (bare_class set) cs) ≡ map bare_method (methods_but set cs)
+pub bare_but : (set : ℕ → Bool) (cs : List ClassDescriptor) → methods_but set (map (bare_class set) cs) ≡ map bare_method (methods_but set cs)
 bare_but set [] = refl
 bare_but set (c ∷ cs) = bare_but_by (set c.class_ref) c.methods (methods_but set (map (bare_class set) cs)) (methods_but set cs) (bare_but set cs)
 
-bare_in_by : (b : Bool) (ms us vs : List Method) → us ≡ vs → (if b then (if b then ms else map bare_method ms) ++ us else us) ≡ (if b then ms ++ vs else vs)
+bare_in_by : (b : Bool) (ms us vs : List MethodDescriptor) → us ≡ vs → (if b then (if b then ms else map bare_method ms) ++ us else us) ≡ (if b then ms ++ vs else vs)
 bare_in_by true ms us vs e = ap (λ xs. ms ++ xs) e
 bare_in_by false ms us vs e = e
 
-pub bare_in : (set : ℕ → Bool) (cs : List Class) → methods_in set (map (bare_class set) cs) ≡ methods_in set cs
+pub bare_in : (set : ℕ → Bool) (cs : List ClassDescriptor) → methods_in set (map (bare_class set) cs) ≡ methods_in set cs
 bare_in set [] = refl
 bare_in set (c ∷ cs) = bare_in_by (set c.class_ref) c.methods (methods_in set (map (bare_class set) cs)) (methods_in set cs) (bare_in set cs)
 
-bare_twice : (ms : List Method) → map bare_method (map bare_method ms) ≡ map bare_method ms
+bare_twice : (ms : List MethodDescriptor) → map bare_method (map bare_method ms) ≡ map bare_method ms
 bare_twice [] = refl
 bare_twice (m ∷ ms) = ap (λ ns. bare_method m ∷ ns) (bare_twice ms)
 
-bare_of_by : (b : Bool) (ms us vs : List Method) → map bare_method us ≡ map bare_method vs → map bare_method ((if b then ms else map bare_method ms) ++ us) ≡ map bare_method (ms ++ vs)
+bare_of_by : (b : Bool) (ms us vs : List MethodDescriptor) → map bare_method us ≡ map bare_method vs → map bare_method ((if b then ms else map bare_method ms) ++ us) ≡ map bare_method (ms ++ vs)
 bare_of_by true ms us vs e = map-append bare_method ms us ∙ ap (λ xs. map bare_method ms ++ xs) e ∙ sym (map-append bare_method ms vs)
 bare_of_by false ms us vs e =
     map-append bare_method (map bare_method ms) us ∙ ap (λ xs. xs ++ map bare_method us) (bare_twice ms) ∙ ap (λ xs. map bare_method ms ++ xs) e ∙ sym (map-append bare_method ms vs)
 
-bare_of : (set : ℕ → Bool) (cs : List Class) → map bare_method (methods_of (map (bare_class set) cs)) ≡ map bare_method (methods_of cs)
+bare_of : (set : ℕ → Bool) (cs : List ClassDescriptor) → map bare_method (methods_of (map (bare_class set) cs)) ≡ map bare_method (methods_of cs)
 bare_of set [] = refl
 bare_of set (c ∷ cs) = bare_of_by (set c.class_ref) c.methods (methods_of (map (bare_class set) cs)) (methods_of cs) (bare_of set cs)
 
-bare_fields : (set : ℕ → Bool) (cs : List Class) → fields_of (map (bare_class set) cs) ≡ fields_of cs
+bare_fields : (set : ℕ → Bool) (cs : List ClassDescriptor) → fields_of (map (bare_class set) cs) ≡ fields_of cs
 bare_fields set [] = refl
 bare_fields set (c ∷ cs) = ap (λ fs. c.fields ++ fs) (bare_fields set cs)
 
-abbrev pub ref_of : Class → ℕ
+abbrev pub ref_of : ClassDescriptor → ℕ
 ref_of c = c.class_ref
 
-bare_refs : (set : ℕ → Bool) (cs : List Class) → map ref_of (map (bare_class set) cs) ≡ map ref_of cs
+bare_refs : (set : ℕ → Bool) (cs : List ClassDescriptor) → map ref_of (map (bare_class set) cs) ≡ map ref_of cs
 bare_refs set [] = refl
 bare_refs set (c ∷ cs) = ap (λ rs. c.class_ref ∷ rs) (bare_refs set cs)
 
 -- two lists of classes that are the same but for the places of methods
-pub record AreAlike (set : ℕ → Bool) (cs ds : List Class) : Type 0 where
+pub record AreAlike (set : ℕ → Bool) (cs ds : List ClassDescriptor) : Type 0 where
   pub described : map bare_method (methods_but set ds) ≡ map bare_method (methods_but set cs)
   pub interfaces : methods_in set ds ≡ methods_in set cs
   pub methods : map bare_method (methods_of ds) ≡ map bare_method (methods_of cs)
   pub fields : fields_of ds ≡ fields_of cs
   pub refs : map ref_of ds ≡ map ref_of cs
 
-pub alike : (set : ℕ → Bool) (cs ds : List Class) → map (bare_class set) ds ≡ map (bare_class set) cs → AreAlike set cs ds
+pub alike : (set : ℕ → Bool) (cs ds : List ClassDescriptor) → map (bare_class set) ds ≡ map (bare_class set) cs → AreAlike set cs ds
 alike set cs ds e = record {
   described = sym (bare_but set ds) ∙ ap (methods_but set) e ∙ bare_but set cs;
   interfaces = sym (bare_in set ds) ∙ ap (methods_in set) e ∙ bare_in set cs;

@@ -6,7 +6,7 @@ use Rattle.std.proofs.lemmas.Bool.{false≢true, both_ways}
 use Rattle.std.proofs.lemmas.List.{length-map}
 use Rattle.jc_base.proofs.Eaching.{Each-from_All}
 use Rattle.cap_method.specs.MethodFormat.{Header}
-use Rattle.cap_desc.specs.DescriptorFormat.{Method}
+use Rattle.cap_desc.specs.DescriptorFormat.{MethodDescriptor}
 use Rattle.cap_components.specs.declared.fault.PackFault.{PackFault}
 use Rattle.cap_components.specs.Descriptions.{argument_words}
 use Rattle.cap_components.specs.Parts.{Lent}
@@ -20,7 +20,7 @@ use Rattle.jc_decode.specs.declared.symbols.Laid.{Laid}
 use Rattle.cap_rewritten.specs.Changes.{FormerMethod, Change, sources, changes, now_at, laid_but}
 use Rattle.cap_rewritten.specs.Written.{IsAs, IsWritten}
 use Rattle.cap_rewritten.specs.Rewritten.{bare_method, IsRewritten}
-use Rattle.cap_rewritten.specs.Laying.{IsFor, IsLaidFor, AreLaidFor}
+use Rattle.cap_rewritten.specs.Laying.{IsFor, FitsHeader, AreLaidFor}
 use Rattle.cap_rewritten.proofs.Lists.{Each, Has, each_at, each_of, map_each, none_each, each_none, faults_map}
 use Rattle.cap_rewritten.proofs.Agreed.{Agrees}
 use Rattle.cap_rewritten.proofs.Zipped.{now_of, source_of, method_of, old_of, changes_now, changes_source, sources_method, length_but}
@@ -60,14 +60,14 @@ pub olds : (p q : PackageRecord) (laid : List (Option Laid)) → IsRewritten p l
 olds p q laid r = sym (map_twice method_of source_of (changes p laid q)) ∙ ap (map method_of) (froms p q laid r) ∙ many_sources p laid q r
 
 -- what holds of each method before holds of each change
-pub old_each : (p q : PackageRecord) (laid : List (Option Laid)) (P : Method → Type 0) → IsRewritten p laid q → Each P (described_methods p) → Each (λ (c : Change). P c.source.method) (changes p laid q)
+pub old_each : (p q : PackageRecord) (laid : List (Option Laid)) (P : MethodDescriptor → Type 0) → IsRewritten p laid q → Each P (described_methods p) → Each (λ (c : Change). P c.source.method) (changes p laid q)
 old_each p q laid P r h = map_each P old_of (changes p laid q) (subst (Each P) (sym (olds p q laid r)) h)
 
 pub source_each : (p q : PackageRecord) (laid : List (Option Laid)) (P : FormerMethod → Type 0) → IsRewritten p laid q → Each P (sources p laid) → Each (λ (c : Change). P c.source) (changes p laid q)
 source_each p q laid P r h = map_each P source_of (changes p laid q) (subst (Each P) (sym (froms p q laid r)) h)
 
 -- nothing is at fault after where nothing is at each change
-pub no_faults : (p q : PackageRecord) (laid : List (Option Laid)) (f : Method → Option PackFault) → IsRewritten p laid q → Each (λ (c : Change). f c.now ≡ None) (changes p laid q) → filter_map f (described_methods q) ≡ []
+pub no_faults : (p q : PackageRecord) (laid : List (Option Laid)) (f : MethodDescriptor → Option PackFault) → IsRewritten p laid q → Each (λ (c : Change). f c.now ≡ None) (changes p laid q) → filter_map f (described_methods q) ≡ []
 no_faults p q laid f r h = ap (filter_map f) (sym (news p q laid r)) ∙ faults_map f now_of (changes p laid q) ∙ each_none (λ c. f c.now) (changes p laid q) h
 
 each_same : (cs : List Change) → map (λ (c : Change). bare_method c.now) cs ≡ map (λ (c : Change). bare_method c.source.method) cs → Each (λ (c : Change). bare_method c.now ≡ bare_method c.source.method) cs
@@ -84,7 +84,7 @@ bares p q laid r =
 
 -- ---- a method before
 
-pub record WasWell (p : PackageRecord) (m : Method) : Type 0 where
+pub record WasWell (p : PackageRecord) (m : MethodDescriptor) : Type 0 where
   pub header : Header
   pub there : header_in p.methods.info m.method_offset ≡ Some header
   pub within : code_end p.methods.info m ≤ length p.methods.info
@@ -95,13 +95,13 @@ pub few_by : (b : Bool) (f : PackFault) → (if b then Some f else None) ≡ Non
 few_by true f e = absurd cc
 few_by false f e = refl
 
-was_well : (p : PackageRecord) (m : Method) → outside_fault p.methods.info (length p.methods.handlers) m ≡ None → registers_fault p.methods.info m ≡ None → arguments_fault p.methods.info p.description m ≡ None → WasWell p m
+was_well : (p : PackageRecord) (m : MethodDescriptor) → outside_fault p.methods.info (length p.methods.handlers) m ≡ None → registers_fault p.methods.info m ≡ None → arguments_fault p.methods.info p.description m ≡ None → WasWell p m
 was_well p m o r a =
     let within = ends-within p.methods.info (length p.methods.handlers) m o in
     let h = has-header p.methods.info m within in
     record { header = h.header; there = h.there; within = within; registers = few_registers p.methods.info m h.header h.there r; arguments = a }
 
-all_well : (p : PackageRecord) (ms : List Method) → Each (λ m. outside_fault p.methods.info (length p.methods.handlers) m ≡ None) ms → Each (λ m. registers_fault p.methods.info m ≡ None) ms
+all_well : (p : PackageRecord) (ms : List MethodDescriptor) → Each (λ m. outside_fault p.methods.info (length p.methods.handlers) m ≡ None) ms → Each (λ m. registers_fault p.methods.info m ≡ None) ms
     → Each (λ m. arguments_fault p.methods.info p.description m ≡ None) ms → Each (WasWell p) ms
 all_well p [] o r a = tt
 all_well p (m ∷ ms) o r a = (was_well p m o.0 r.0 a.0, all_well p ms o.1 r.1 a.1)
@@ -114,7 +114,7 @@ wells parts p a = all_well p (described_methods p)
 
 -- ---- the same method after
 
-pub record IsWell (q : PackageRecord) (nargs : ℕ) (m : Method) : Type 0 where
+pub record IsWell (q : PackageRecord) (nargs : ℕ) (m : MethodDescriptor) : Type 0 where
   pub header : Header
   pub there : header_in q.methods.info m.method_offset ≡ Some header
   pub arguments : header.nargs ≡ nargs
@@ -127,7 +127,7 @@ pub plain : (b : Bool) → (bit_and (if b then 0 else 8) 4 == 4) ≡ false
 plain true = refl
 plain false = refl
 
-pub is_well : (p q : PackageRecord) (old m : Method) (l : Option Laid) (w : WasWell p old) → IsFor w.header l → IsAs p q old l m → IsWell q w.header.nargs m
+pub is_well : (p q : PackageRecord) (old m : MethodDescriptor) (l : Option Laid) (w : WasWell p old) → IsFor w.header l → IsAs p q old l m → IsWell q w.header.nargs m
 is_well p q old m None w f is =
     let mv = moved p.methods.info q.methods.info old.method_offset m.method_offset w.header is.header w.there in
     record {
@@ -161,12 +161,12 @@ pub record Fact (p q : PackageRecord) (c : Change) : Type 0 where
   pub fits : IsFor was.header c.source.laid
   pub written : IsAs p q c.source.method c.source.laid c.now
 
-fact : (p q : PackageRecord) (all : List Change) (c : Change) → WasWell p c.source.method → IsLaidFor p c.source → IsWritten p q all c → bare_method c.now ≡ bare_method c.source.method → Fact p q c
+fact : (p q : PackageRecord) (all : List Change) (c : Change) → WasWell p c.source.method → FitsHeader p c.source → IsWritten p q all c → bare_method c.now ≡ bare_method c.source.method → Fact p q c
 fact p q all c w f is same =
     let fits = f w.header w.there in
     record { was = w; well = is_well p q c.source.method c.now c.source.laid w fits is.is; same = same; fits = fits; written = is.is }
 
-all_facts : (p q : PackageRecord) (all cs : List Change) → Each (λ (c : Change). WasWell p c.source.method) cs → Each (λ (c : Change). IsLaidFor p c.source) cs → Each (IsWritten p q all) cs
+all_facts : (p q : PackageRecord) (all cs : List Change) → Each (λ (c : Change). WasWell p c.source.method) cs → Each (λ (c : Change). FitsHeader p c.source) cs → Each (IsWritten p q all) cs
     → Each (λ (c : Change). bare_method c.now ≡ bare_method c.source.method) cs → Each (Fact p q) cs
 all_facts p q all [] w f is same = tt
 all_facts p q all (c ∷ cs) w f is same = (fact p q all c w.0 f.0 is.0 same.0, all_facts p q all cs w.1 f.1 is.1 same.1)
@@ -174,7 +174,7 @@ all_facts p q all (c ∷ cs) w f is same = (fact p q all c w.0 f.0 is.0 same.0, 
 pub facts : (parts : List Lent) (p q : PackageRecord) (laid : List (Option Laid)) → Agrees parts p → AreLaidFor p laid → IsRewritten p laid q → Each (Fact p q) (changes p laid q)
 facts parts p q laid a f r =
     let cs = changes p laid q in
-    all_facts p q cs cs (old_each p q laid (WasWell p) r (wells parts p a)) (source_each p q laid (IsLaidFor p) r (Each-from_All (IsLaidFor p) (sources p laid) f))
+    all_facts p q cs cs (old_each p q laid (WasWell p) r (wells parts p a)) (source_each p q laid (FitsHeader p) r (Each-from_All (FitsHeader p) (sources p laid) f))
     (Each-from_All (IsWritten p q cs) cs r.written) (bares p q laid r)
 
 pub all_written : (p q : PackageRecord) (laid : List (Option Laid)) → IsRewritten p laid q → Each (IsWritten p q (changes p laid q)) (changes p laid q)
@@ -182,14 +182,14 @@ all_written p q laid r = Each-from_All (IsWritten p q (changes p laid q)) (chang
 
 -- ---- conditions on headers
 
-few : (m : Method) (h : Header) → h.nargs + h.max_locals ≤ 255 → registers_by m (Some h) ≡ None
+few : (m : MethodDescriptor) (h : Header) → h.nargs + h.max_locals ≤ 255 → registers_by m (Some h) ≡ None
 few m h le = let e : nat_lt 255 (h.nargs + h.max_locals) ≡ false = grind arith in rw e refl
 
-registers_well : (q : PackageRecord) (n : ℕ) (m : Method) → IsWell q n m → registers_fault q.methods.info m ≡ None
+registers_well : (q : PackageRecord) (n : ℕ) (m : MethodDescriptor) → IsWell q n m → registers_fault q.methods.info m ≡ None
 unfolding registers_fault
 registers_well q n m w = ap (registers_by m) w.there ∙ few m w.header w.registers
 
-long_by : (m : Method) (h : Header) (b : Bool) → is_abstract h ≡ b → (is_abstract h ≡ false → 1 ≤ m.bytecode_count) → (is_abstract h ≡ false → m.bytecode_count ≤ 32767) → length_by m (Some h) ≡ None
+long_by : (m : MethodDescriptor) (h : Header) (b : Bool) → is_abstract h ≡ b → (is_abstract h ≡ false → 1 ≤ m.bytecode_count) → (is_abstract h ≡ false → m.bytecode_count ≤ 32767) → length_by m (Some h) ≡ None
 long_by m h true e some short = rw e refl
 long_by m h false e some short =
     let a = some e in
@@ -198,19 +198,19 @@ long_by m h false e some short =
     let y : nat_lt 32767 m.bytecode_count ≡ false = grind arith in
     rw (e, x, y) refl
 
-length_well : (q : PackageRecord) (n : ℕ) (m : Method) → IsWell q n m → length_fault q.methods.info m ≡ None
+length_well : (q : PackageRecord) (n : ℕ) (m : MethodDescriptor) → IsWell q n m → length_fault q.methods.info m ≡ None
 unfolding length_fault
 length_well q n m w = ap (length_by m) w.there ∙ long_by m w.header (is_abstract w.header) refl w.some w.short
 
-bare_by : (m : Method) (h : Header) (b : Bool) → is_abstract h ≡ b → (is_abstract h ≡ true → m.bytecode_count ≡ 0) → abstract_by m (Some h) ≡ None
+bare_by : (m : MethodDescriptor) (h : Header) (b : Bool) → is_abstract h ≡ b → (is_abstract h ≡ true → m.bytecode_count ≡ 0) → abstract_by m (Some h) ≡ None
 bare_by m h true e bare = let z = bare e in rw (e, z) refl
 bare_by m h false e bare = rw e refl
 
-abstract_well : (q : PackageRecord) (n : ℕ) (m : Method) → IsWell q n m → abstract_fault q.methods.info m ≡ None
+abstract_well : (q : PackageRecord) (n : ℕ) (m : MethodDescriptor) → IsWell q n m → abstract_fault q.methods.info m ≡ None
 unfolding abstract_fault
 abstract_well q n m w = ap (abstract_by m) w.there ∙ bare_by m w.header (is_abstract w.header) refl w.bare
 
-argued : (old m : Method) (h k : Header) (words : Option ℕ) → k.nargs ≡ h.nargs → m.flags ≡ old.flags → arguments_by old (Some h) words ≡ None → arguments_by m (Some k) words ≡ None
+argued : (old m : MethodDescriptor) (h k : Header) (words : Option ℕ) → k.nargs ≡ h.nargs → m.flags ≡ old.flags → arguments_by old (Some h) words ≡ None → arguments_by m (Some k) words ≡ None
 argued old m h k None e f n = refl
 argued old m h k (Some words) e f n =
     let t = few_by (not (h.nargs == words + (if is_static old.flags then 0 else 1))) _ (turned (h.nargs == words + (if is_static old.flags then 0 else 1)) _ n) in
@@ -229,8 +229,8 @@ unfolding arguments_fault
 arguments_well p q c f same =
     let old = c.source.method in
     let m = c.now in
-    let flags : m.flags ≡ old.flags = ap (λ (x : Method). x.flags) f.same in
-    let types : m.type_offset ≡ old.type_offset = ap (λ (x : Method). x.type_offset) f.same in
+    let flags : m.flags ≡ old.flags = ap (λ (x : MethodDescriptor). x.flags) f.same in
+    let types : m.type_offset ≡ old.type_offset = ap (λ (x : MethodDescriptor). x.type_offset) f.same in
     let words : argument_words q.description m.type_offset ≡ argument_words p.description old.type_offset = same m.type_offset ∙ ap (argument_words p.description) types in
     let n : arguments_by old (Some f.was.header) (argument_words p.description old.type_offset) ≡ None =
     ap (λ h. arguments_by old h (argument_words p.description old.type_offset)) (sym f.was.there) ∙ f.was.arguments in

@@ -17,12 +17,12 @@ use Rattle.cap_renewal.specs.ExportEdits.{renewed_exported}
 use Rattle.cap_renewal.specs.DescriptorEdits.{renewed_method}
 use Rattle.cap_desc.specs.DescriptorFormat.{Descriptor}
 use Rattle.cap_laying.specs.declared.member.Member.{Member}
-use Rattle.cap_laying.specs.Blocks.{blocks, index_after, block_entries}
+use Rattle.cap_laying.specs.Blocks.{blocks, first_entry, block_entries}
 use Rattle.cap_laying.specs.Laws.{HeadersReadBack}
 use Rattle.cap_laying.specs.Standing.{MethodsStand}
 use Rattle.jc_decode.specs.declared.symbols.Laid.{Laid}
 use Rattle.cap_rewritten.specs.Changes.{changes, now_at}
-use Rattle.cap_rewritten.specs.Written.{IsWritten, size_in, handlers_in, caught_before, methods_begin}
+use Rattle.cap_rewritten.specs.Written.{IsWritten, size_written, handlers_in, caught_before, methods_begin}
 use Rattle.cap_rewritten.specs.Laying.{AreLaidFor}
 use Rattle.cap_rewritten.specs.Rewritten.{HasSameDescription, bare_class, IsRewritten}
 use Rattle.cap_rewritten.specs.Writing.{IsWrittenAnew, places}
@@ -91,7 +91,7 @@ same_description p q laid ms w =
 -- ---- methods
 
 index_if : (p q : PackageRecord) (laid : List (Option Laid)) (ms : List Member) (z : Pair) → IsWrittenAnew p laid ms q → Known p q ms z → (r : HasRank p laid ms z)
-    → (renewed_method (places p ms) z.source.method).handler_index ≡ index_after r.before (many_of z.member)
+    → (renewed_method (places p ms) z.source.method).handler_index ≡ first_entry r.before (many_of z.member)
 index_if p q laid ms z w k r = k.told.index ∙ index_among (length p.methods.info) (blocks (length p.methods.handlers) ms) z.member r.before r.among k.within
 
 handlers_if : (p q : PackageRecord) (laid : List (Option Laid)) (ms : List Member) (z : Pair) → IsWrittenAnew p laid ms q → Known p q ms z → HasRank p laid ms z
@@ -100,7 +100,7 @@ handlers_if p q laid ms z w k r =
     let m = renewed_method (places p ms) z.source.method in
     ap (λ n. take n (drop m.handler_index q.methods.handlers)) k.told.many
     ∙ ap (λ n. take (many_of z.member) (drop n q.methods.handlers)) (index_if p q laid ms z w k r)
-    ∙ ap (λ hs. take (many_of z.member) (drop (index_after r.before (many_of z.member)) hs)) w.handlers
+    ∙ ap (λ hs. take (many_of z.member) (drop (first_entry r.before (many_of z.member)) hs)) w.handlers
     ∙ entries_among (places p ms) (blocks (length p.methods.handlers) ms) z.member r.before r.among
 
 written_one : (parts : List Lent) (p q : PackageRecord) (laid : List (Option Laid)) (ms : List Member) (z : Pair) → StandsFor parts p → IsWrittenAnew p laid ms q → Each (Known p q ms) (pairs_in p laid ms) → Has (pairs_in p laid ms) z
@@ -148,6 +148,6 @@ rewrites back stand parts p q laid ms s l w =
       description = same_description p q laid ms w;
       each = w.each;
       written = subst (λ xs. All (IsWritten p q xs) xs) (sym are) each;
-      long = whole_info p q laid ms w ks ∙ ap (λ xs. methods_begin q + sum_by (size_in q) xs) (sym are);
+      long = whole_info p q laid ms w ks ∙ ap (λ xs. methods_begin q + sum_by (size_written q) xs) (sym are);
       handlers = all_handlers parts p q laid ms s w ks ∙ ap (sum_by handlers_in) (sym are);
     }

@@ -4,12 +4,12 @@ use Rattle.std.specs.Prelude.{if◌then◌else◌, nat_lt, nat_le, ◌==◌}
 use Rattle.std.proofs.lemmas.Bool.{false≢true, leb-true, le-leb, lt-ltb}
 use Rattle.std.proofs.lemmas.Option.{slice_get_within}
 use Rattle.cap_method.specs.declared.handler.HandlerInfo.{HandlerInfo}
-use Rattle.cap_desc.specs.DescriptorFormat.{Method}
+use Rattle.cap_desc.specs.DescriptorFormat.{MethodDescriptor}
 use Rattle.cap_components.specs.declared.fault.PackFault.TheVariants.{HandlerOutside}
 use Rattle.cap_components.specs.Parts.{Lent}
 use Rattle.cap_components.specs.PackageRecord.{PackageRecord, described_methods, handlers_of}
 use Rattle.cap_package.specs.MethodChecks.{code_start, code_end}
-use Rattle.cap_package.specs.HandlerChecks.{claims, owners, is_within, has_home, entry_fault, claim_fault, numbered, numbered_fault}
+use Rattle.cap_package.specs.HandlerChecks.{claims, owners, is_within, has_home, handler_fault, claim_fault, numbered, numbered_fault}
 use Rattle.cap_package.proofs.StaticsKnown.{both_empty}
 use Rattle.cap_laying.specs.HandlerTable.{AreInside, entries_at}
 use Rattle.jc_decode.specs.declared.symbols.Laid.{Laid}
@@ -37,16 +37,16 @@ numbered_at P n (x ∷ xs) h (suc i) lt =
     let e : n + 1 + i ≡ n + suc i = omega arith in
     (r.0, subst (λ k. P (k, r.0)) e r.1)
 
-pub one_home : (info : List ℕ) (h : HandlerInfo) (ms : List Method) → has_home info h ms ≡ true → length ms ≤ 1
+pub one_home : (info : List ℕ) (h : HandlerInfo) (ms : List MethodDescriptor) → has_home info h ms ≡ true → length ms ≤ 1
 one_home info h [] e = omega arith
 one_home info h (m ∷ []) e = omega arith
 one_home info h (m ∷ n ∷ ms) e = absurd (false≢true e)
 
-pub one_owner : (info : List ℕ) (ms : List Method) (number : ℕ) (h : HandlerInfo) → entry_fault info ms number h ≡ None → length (filter (claims number) ms) ≤ 1
-unfolding entry_fault owners
+pub one_owner : (info : List ℕ) (ms : List MethodDescriptor) (number : ℕ) (h : HandlerInfo) → handler_fault info ms number h ≡ None → length (filter (claims number) ms) ≤ 1
+unfolding handler_fault owners
 one_owner info ms number h e = one_home info h (filter (claims number) ms) (is_told (has_home info h (filter (claims number) ms)) _ e)
 
-abbrev pub OwnedOnce : ℕ → List Method → Type 0
+abbrev pub OwnedOnce : ℕ → List MethodDescriptor → Type 0
 OwnedOnce n ms = (i : ℕ) → i < n → length (filter (claims i) ms) ≤ 1
 
 pub owned_once : (parts : List Lent) (p : PackageRecord) → Agrees parts p → OwnedOnce (length p.methods.handlers) (described_methods p)
@@ -58,13 +58,13 @@ owned_once parts p a i lt =
     let e : 0 + i ≡ i = omega arith in
     subst (λ k. length (filter (claims k) ms) ≤ 1) e (one_owner info ms (0 + i) at.0 at.1)
 
-abbrev pub ClaimsInside : ℕ → Method → Type 0
+abbrev pub ClaimsInside : ℕ → MethodDescriptor → Type 0
 ClaimsInside n m = (m.handler_count == 0) ≡ false → m.handler_index + m.handler_count ≤ n
 
 pub some_count : (n : ℕ) → (n == 0) ≡ false → 1 ≤ n
 some_count n e = grind arith
 
-claims_inside : (n : ℕ) (m : Method) → claim_fault n m ≡ None → ClaimsInside n m
+claims_inside : (n : ℕ) (m : MethodDescriptor) → claim_fault n m ≡ None → ClaimsInside n m
 unfolding claim_fault
 claims_inside n m e some =
     let f : not (m.handler_count == 0) && nat_lt n (m.handler_index + m.handler_count) ≡ false = few_by (not (m.handler_count == 0) && nat_lt n (m.handler_index + m.handler_count)) _ e in
@@ -82,7 +82,7 @@ all_claims parts p a =
 
 -- ---- blocks are apart
 
-pub distinct_numbers : (n : ℕ) (ms : List Method) (ls : List (Option Laid)) → Distinct (λ (s : FormerMethod). s.number) (sources_from n ms ls)
+pub distinct_numbers : (n : ℕ) (ms : List MethodDescriptor) (ls : List (Option Laid)) → Distinct (λ (s : FormerMethod). s.number) (sources_from n ms ls)
 distinct_numbers n [] ls = tt
 distinct_numbers n (m ∷ ms) [] = tt
 distinct_numbers n (m ∷ ms) (l ∷ ls) =
@@ -105,7 +105,7 @@ fewer : {X : Type 0} (b : Bool) (x : X) (xs : List X) → length xs ≤ length (
 fewer true x xs = omega arith
 fewer false x xs = omega arith
 
-claims_first : (m : Method) → (m.handler_count == 0) ≡ false → claims m.handler_index m ≡ true
+claims_first : (m : MethodDescriptor) → (m.handler_count == 0) ≡ false → claims m.handler_index m ≡ true
 claims_first m e =
     let s = some_count m.handler_count e in
     let a : nat_le m.handler_index m.handler_index ≡ true = grind arith in
@@ -113,7 +113,7 @@ claims_first m e =
     rw (a, b) refl
 
 -- two methods that claim one entry
-claimed_twice : (ms : List Method) (m n : Method) (i : ℕ) → Has ms n → claims i m ≡ true → claims i n ≡ true → length (filter (claims i) (m ∷ ms)) ≤ 1 → ⊥
+claimed_twice : (ms : List MethodDescriptor) (m n : MethodDescriptor) (i : ℕ) → Has ms n → claims i m ≡ true → claims i n ≡ true → length (filter (claims i) (m ∷ ms)) ≤ 1 → ⊥
 claimed_twice ms m n i h e f le =
     let k : length (filter (claims i) (m ∷ ms)) ≡ suc (length (filter (claims i) ms)) = ap (λ b. length (cond b (m ∷ filter (claims i) ms) (filter (claims i) ms))) e in
     let l = many_has (filter (claims i) ms) n (has_filter (claims i) ms n h f) in
@@ -253,7 +253,7 @@ entry_within start size (h ∷ hs) (suc j) e a g = entry_within start size hs j 
 four_tests : (a b c d : Bool) → a ≡ true → b ≡ true → c ≡ true → d ≡ true → a && b && c && d ≡ true
 four_tests a b c d e f g h = rw (e, f, g, h) refl
 
-within_code : (info : List ℕ) (m : Method) (size : ℕ) (h : HandlerInfo) → m.bytecode_count ≡ size → IsEntryOf (code_start info m) size h → is_within info h m ≡ true
+within_code : (info : List ℕ) (m : MethodDescriptor) (size : ℕ) (h : HandlerInfo) → m.bytecode_count ≡ size → IsEntryOf (code_start info m) size h → is_within info h m ≡ true
 unfolding code_end
 within_code info m size h e i =
     let low = i.low in
@@ -289,11 +289,11 @@ numbered_all P n (x ∷ xs) f =
     let e : n + 0 ≡ n = omega arith in
     (subst (λ k. P (k, x)) e (f 0 x refl), numbered_all P (n + 1) xs (λ i y g. let s : n + suc i ≡ n + 1 + i = omega arith in subst (λ k. P (k, y)) s (f (suc i) y g)))
 
-entry_home : (info : List ℕ) (ms : List Method) (k : ℕ) (h : HandlerInfo) (m : Method) → owners k ms ≡ m ∷ [] → is_within info h m ≡ true → entry_fault info ms k h ≡ None
-unfolding entry_fault
+entry_home : (info : List ℕ) (ms : List MethodDescriptor) (k : ℕ) (h : HandlerInfo) (m : MethodDescriptor) → owners k ms ≡ m ∷ [] → is_within info h m ≡ true → handler_fault info ms k h ≡ None
+unfolding handler_fault
 entry_home info ms k h m e w = rw (e, w) refl
 
-one_entry : (parts : List Lent) (p q : PackageRecord) (laid : List (Option Laid)) → Agrees parts p → AreLaidFor p laid → IsRewritten p laid q → (k : ℕ) (h : HandlerInfo) → slice_get q.methods.handlers k ≡ Some h → entry_fault q.methods.info (described_methods q) k h ≡ None
+one_entry : (parts : List Lent) (p q : PackageRecord) (laid : List (Option Laid)) → Agrees parts p → AreLaidFor p laid → IsRewritten p laid q → (k : ℕ) (h : HandlerInfo) → slice_get q.methods.handlers k ≡ Some h → handler_fault q.methods.info (described_methods q) k h ≡ None
 one_entry parts p q laid a l r k h g =
     let cs = changes p laid q in
     let less = slice_get_within q.methods.handlers k h g in
@@ -303,7 +303,7 @@ one_entry parts p q laid a l r k h g =
     entry_home q.methods.info (described_methods q) k h o.owner.now (owners_are p q laid k o.owner r o.alone)
     (owner_within p q cs o.owner k h o.owner.source.laid f.was.header f.fits f.written w g o.low o.high)
 
-claim_none : (n : ℕ) (m : Method) → ((m.handler_count == 0) ≡ false → m.handler_index + m.handler_count ≤ n) → claim_fault n m ≡ None
+claim_none : (n : ℕ) (m : MethodDescriptor) → ((m.handler_count == 0) ≡ false → m.handler_index + m.handler_count ≤ n) → claim_fault n m ≡ None
 unfolding claim_fault
 claim_none n m h = by (m.handler_count == 0) refl
   where
@@ -328,6 +328,6 @@ all_home parts p q laid a l r =
     let info = q.methods.info in
     append_none (filter_map (numbered_fault info ms) (numbered 0 q.methods.handlers)) (filter_map (claim_fault (length q.methods.handlers)) ms)
     (each_none (numbered_fault info ms) (numbered 0 q.methods.handlers) (numbered_all (λ x. numbered_fault info ms x ≡ None) 0 q.methods.handlers
-    (λ i h g. let e : i ≡ 0 + i = omega arith in subst (λ k. entry_fault info ms k h ≡ None) e (one_entry parts p q laid a l r i h g))))
+    (λ i h g. let e : i ≡ 0 + i = omega arith in subst (λ k. handler_fault info ms k h ≡ None) e (one_entry parts p q laid a l r i h g))))
     (no_faults p q laid (claim_fault (length q.methods.handlers)) r (each_of (λ (c : Change). claim_fault (length q.methods.handlers) c.now ≡ None) cs
     (λ c h. claims_now p q cs c (each_at (IsWritten p q cs) cs c (all_written p q laid r) h) h r.handlers)))

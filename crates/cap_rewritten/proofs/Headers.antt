@@ -9,7 +9,7 @@ use Rattle.cap_bytes.specs.Number.{number_at}
 use Rattle.cap_bytes.specs.Spelling.{Spells, info_of}
 use Rattle.cap_bytes.specs.Reading.{Reading, read}
 use Rattle.cap_bytes.proofs.Laws.{spelled-read, read-spells}
-use Rattle.cap_method.specs.MethodFormat.{Header, header_info, header_after}
+use Rattle.cap_method.specs.MethodFormat.{Header, method_header, header_after}
 use Rattle.cap_components.specs.MethodPlaces.{size_by}
 use Rattle.cap_package.specs.HeaderChecks.{header_in}
 use Rattle.cap_rewritten.specs.Written.{lead_bytes}
@@ -70,8 +70,8 @@ of_read (Err e) h k = absurd cc
 pub is_read : (info : List ℕ) (offset : ℕ) (h : Header) → header_in info offset ≡ Some h → IsRead info offset h
 unfolding header_in Spells
 is_read info offset h e =
-    let r = of_read (read (info_of 7) header_info info offset) h e in
-    let s : Spells header_info info offset h r.0 = read-spells (info_of 7) header_info info offset h r.0 r.1 in
+    let r = of_read (read (info_of 7) method_header info offset) h e in
+    let s : Spells method_header info offset h r.0 = read-spells (info_of 7) method_header info offset h r.0 r.1 in
     record {
       first = s.0;
       after = r.0;
@@ -82,8 +82,8 @@ is_read info offset h e =
 pub read_is : (info : List ℕ) (offset : ℕ) (h : Header) → IsRead info offset h → header_in info offset ≡ Some h
 unfolding header_in Spells
 read_is info offset h r =
-    let s : Spells header_info info offset h r.after = (r.first, offset + 1, (r.there, refl, refl), r.rest) in
-    rw (spelled-read (info_of 7) header_info info offset h r.after s) refl
+    let s : Spells method_header info offset h r.after = (r.first, offset + 1, (r.there, refl, refl), r.rest) in
+    rw (spelled-read (info_of 7) method_header info offset h r.after s) refl
 
 size_read : (b : Bool) (first at after : ℕ) (info : List ℕ) (h : Header) → Spells (header_after b first) info at h after → h.size ≡ (if b then 4 else 2)
 unfolding Spells

@@ -13,7 +13,7 @@ use Rattle.cap_renewal.specs.DescriptorEdits.{renewed_method}
 use Rattle.cap_laying.specs.declared.member.Member.{Member}
 use Rattle.cap_laying.specs.HandlerTable.{table_bytes}
 use Rattle.cap_laying.specs.Member.{body_bytes, bodies, by_offset}
-use Rattle.cap_laying.specs.Blocks.{blocks, firsts, had_none, entries_of, indexes_of, total_handlers}
+use Rattle.cap_laying.specs.Blocks.{blocks, firsts, had_none, entries_of, handler_indexes, total_handlers}
 use Rattle.cap_laying.specs.MethodInfo.{method_info}
 use Rattle.cap_laying.specs.Members.{AreMembers, AreApart, IsAlone, new_places, start_of, written_info}
 use Rattle.cap_laying.proofs.HeaderLaws.{length_body}
@@ -21,7 +21,7 @@ use Rattle.cap_laying.proofs.InfoLaws.{length_table as length_bytes}
 use Rattle.cap_laying.proofs.Owned.{to_place, total_append, length_table as length_entries}
 use Rattle.jc_decode.specs.declared.symbols.Laid.{Laid}
 use Rattle.cap_rewritten.specs.Changes.{FormerMethod, Change, sources}
-use Rattle.cap_rewritten.specs.Written.{size_in, handlers_in, stood_before, block_of, methods_begin}
+use Rattle.cap_rewritten.specs.Written.{size_written, handlers_in, stood_before, block_of, methods_begin}
 use Rattle.cap_rewritten.specs.Writing.{first_handler, IsWrittenAnew, places}
 use Rattle.cap_rewritten.proofs.Lists.{Each, Has, each_at, each_of, each_map}
 use Rattle.cap_rewritten.proofs.Agreed.{agrees}
@@ -77,7 +77,7 @@ unfolding new_places
 place_among size room ms m a d h =
     let table = by_offset size ms in
     let at = start_of room ms in
-    (to_place (indexes_of size (blocks room ms)) at table m.offset m (own_slot size ms m a d h)).0
+    (to_place (handler_indexes size (blocks room ms)) at table m.offset m (own_slot size ms m a d h)).0
     ∙ place_is at table m.offset
     ∙ ap (λ t. at + sum_slots size_of m.offset t) (by_offset_is size ms)
     ∙ ap (λ n. at + n) (sum_put size_of at_offset_of size m.offset ms (apart_by size ms a d))
@@ -97,14 +97,14 @@ starts p q laid ms w =
     omega arith
 
 pub placed_known : (p q : PackageRecord) (laid : List (Option Laid)) (ms : List Member) (z : Pair) → IsWrittenAnew p laid ms q → Each (Known p q ms) (pairs_in p laid ms) → Has (pairs_in p laid ms) z
-    → (renewed_method (places p ms) z.source.method).method_offset ≡ methods_begin q + sum_by (size_in q) (filter (stood_before (change_in (places p ms) z)) (map (change_in (places p ms)) (pairs_in p laid ms)))
+    → (renewed_method (places p ms) z.source.method).method_offset ≡ methods_begin q + sum_by (size_written q) (filter (stood_before (change_in (places p ms) z)) (map (change_in (places p ms)) (pairs_in p laid ms)))
 placed_known p q laid ms z w ks h =
     let zs = pairs_in p laid ms in
     let size = length p.methods.info in
     let room = length p.methods.handlers in
     let news = places p ms in
     let k = each_at (Known p q ms) zs z ks h in
-    let sizes : Each (λ (y : Pair). size_of y.member ≡ size_in q (change_in news y)) zs = each_of (λ (y : Pair). size_of y.member ≡ size_in q (change_in news y)) zs (λ y g. sym (size_known p q ms y (each_at (Known p q ms) zs y ks g))) in
+    let sizes : Each (λ (y : Pair). size_of y.member ≡ size_written q (change_in news y)) zs = each_of (λ (y : Pair). size_of y.member ≡ size_written q (change_in news y)) zs (λ y g. sym (size_known p q ms y (each_at (Known p q ms) zs y ks g))) in
     let tests : Each (λ (y : Pair). nat_lt y.member.offset z.member.offset ≡ nat_lt y.source.method.method_offset z.source.method.method_offset) zs =
     each_of (λ (y : Pair). nat_lt y.member.offset z.member.offset ≡ nat_lt y.source.method.method_offset z.source.method.method_offset) zs
     (λ y g. ap (λ n. nat_lt n z.member.offset) (each_at (Known p q ms) zs y ks g).is.offset ∙ ap (nat_lt y.source.method.method_offset) k.is.offset) in
@@ -112,8 +112,8 @@ placed_known p q laid ms z w ks h =
     ∙ place_among size room ms z.member w.may.each w.may.apart (has_member p q laid ms z w h)
     ∙ ap (λ n. n + sum_by size_of (filter (λ (y : Member). nat_lt y.offset z.member.offset) ms)) (starts p q laid ms w)
     ∙ ap (λ n. methods_begin q + n) (over_pairs p q laid ms size_of (λ (y : Member). nat_lt y.offset z.member.offset) w
-    ∙ sums_agree (λ (y : Pair). size_of y.member) (λ (y : Pair). size_in q (change_in news y)) (λ (y : Pair). nat_lt y.member.offset z.member.offset) (λ (y : Pair). nat_lt y.source.method.method_offset z.source.method.method_offset) zs sizes tests
-    ∙ sym (sum_through (size_in q) (stood_before (change_in news z)) (change_in news) zs))
+    ∙ sums_agree (λ (y : Pair). size_of y.member) (λ (y : Pair). size_written q (change_in news y)) (λ (y : Pair). nat_lt y.member.offset z.member.offset) (λ (y : Pair). nat_lt y.source.method.method_offset z.source.method.method_offset) zs sizes tests
+    ∙ sym (sum_through (size_written q) (stood_before (change_in news z)) (change_in news) zs))
 
 -- ---- blocks
 
@@ -393,7 +393,7 @@ below_size size [] a = tt
 below_size size (m ∷ ms) a = (lt-ltb m.offset size a.0.within, below_size size ms a.1)
 
 pub whole_info : (p q : PackageRecord) (laid : List (Option Laid)) (ms : List Member) → IsWrittenAnew p laid ms q → Each (Known p q ms) (pairs_in p laid ms)
-    → length q.methods.info ≡ methods_begin q + sum_by (size_in q) (map (change_in (places p ms)) (pairs_in p laid ms))
+    → length q.methods.info ≡ methods_begin q + sum_by (size_written q) (map (change_in (places p ms)) (pairs_in p laid ms))
 unfolding written_info
 whole_info p q laid ms w ks =
     let size = length p.methods.info in
@@ -411,11 +411,11 @@ whole_info p q laid ms w ks =
     ∙ ap (λ n. sum_slots size_of n (put_all at_offset_of (replicate size None) ms)) (length_table at_offset_of size ms)
     ∙ sum_put size_of at_offset_of size size ms (apart_by size ms w.may.each w.may.apart)
     ∙ sums_all size_of (λ m. key_below size (at_offset_of m)) ms (below_size size ms w.may.each) in
-    let f : sum_by size_of ms ≡ sum_by (size_in q) (map (change_in news) zs) =
+    let f : sum_by size_of ms ≡ sum_by (size_written q) (map (change_in news) zs) =
     ap (sum_by size_of) (sym (filter_every ms)) ∙ over_pairs p q laid ms size_of (λ m. true) w
-    ∙ sums_agree (λ (y : Pair). size_of y.member) (λ (y : Pair). size_in q (change_in news y)) (λ y. true) (λ y. true) zs
-    (each_of (λ (y : Pair). size_of y.member ≡ size_in q (change_in news y)) zs (λ y g. sym (size_known p q ms y (each_at (Known p q ms) zs y ks g)))) (each_of (λ (y : Pair). true ≡ true) zs (λ y g. refl))
-    ∙ ap (sum_by (λ (y : Pair). size_in q (change_in news y))) (filter_every zs) ∙ sym (sum_map (size_in q) (change_in news) zs) in
+    ∙ sums_agree (λ (y : Pair). size_of y.member) (λ (y : Pair). size_written q (change_in news y)) (λ y. true) (λ y. true) zs
+    (each_of (λ (y : Pair). size_of y.member ≡ size_written q (change_in news y)) zs (λ y g. sym (size_known p q ms y (each_at (Known p q ms) zs y ks g)))) (each_of (λ (y : Pair). true ≡ true) zs (λ y g. refl))
+    ∙ ap (sum_by (λ (y : Pair). size_written q (change_in news y))) (filter_every zs) ∙ sym (sum_map (size_written q) (change_in news) zs) in
     let g = ap length w.handlers in
     let i : length (method_info entries table) ≡ suc (length (table_bytes entries ++ bodies table)) = refl in
     omega (arith, a, b, c, d, e, f, g, i)

@@ -8,18 +8,18 @@ use Rattle.cap_pool.specs.ExportFormat.{Exported}
 use Rattle.cap_class.specs.ClassFormat.{is_interface}
 use Rattle.cap_class.specs.ClassFormat as of_class
 use Rattle.cap_method.specs.StaticFormat.{Statics}
-use Rattle.cap_desc.specs.DescriptorFormat.{Method, Field, Class}
+use Rattle.cap_desc.specs.DescriptorFormat.{MethodDescriptor, FieldDescriptor, ClassDescriptor}
 use Rattle.cap_desc.specs.Members.{methods_of}
 use Rattle.cap_components.specs.Descriptions.{Description}
 use Rattle.cap_components.specs.Parts.{Lent}
 use Rattle.cap_components.specs.PackageRecord.{PackageRecord, interface_methods, fields, names_interface}
 use Rattle.cap_package.specs.Pairs.{pairs}
 use Rattle.cap_package.specs.StaticChecks.{place_in, place_by, share_fault, share_by, share_pair, image_fault, image_by, array_kinds, filled_fault, filled_by, kind_at, image_offset, is_static_at, no_static_fault}
-use Rattle.cap_package.specs.NameChecks.{exported_fields, undescribed_fault, no_class_fault, not_own_fault}
+use Rattle.cap_package.specs.NameChecks.{exported_fields, undescribed_fault, undescribed_class_fault, not_own_fault}
 use Rattle.cap_package.specs.TypeChecks.{field_type_fault, field_type_by, method_type_fault, method_type_by}
 use Rattle.cap_components.specs.declared.count_kind.CountKind.{CountKind}
 use Rattle.cap_components.specs.declared.count_kind.CountKind.TheVariants.{Imports, Applets, ImageSize, InitialArrays, ArrayBytes, PoolTypes, InstanceCells, ImageSegments}
-use Rattle.cap_package.specs.CountChecks.{differ, array_bytes, image_bytes, instance_fault, instance_by, cells_of, cells_by, count_if}
+use Rattle.cap_package.specs.CountChecks.{differ, array_bytes, image_bytes, instance_fault, instance_by, described_cells, described_cells_by, count_if}
 use Rattle.cap_package.specs.HeaderChecks.{is_static}
 use Rattle.cap_package.specs.Agreement.{or_none}
 use Rattle.cap_package.specs.FirstFault.{disagreements}
@@ -106,22 +106,22 @@ same_numbers parts p q laid a r =
 
 -- ---- instance sizes
 
-same_cells : (set : ℕ → Bool) (d e : Description) (f : Field) → HasSameDescription set d e → cells_of e f ≡ cells_of d f
-unfolding cells_of
-same_cells set d e f h = ap (λ t. if is_static f.flags then 0 else cells_by t) (same_field set d e f.ty h)
+same_cells : (set : ℕ → Bool) (d e : Description) (f : FieldDescriptor) → HasSameDescription set d e → described_cells e f ≡ described_cells d f
+unfolding described_cells
+same_cells set d e f h = ap (λ t. if is_static f.flags then 0 else described_cells_by t) (same_field set d e f.ty h)
 
-instance_same : (set : ℕ → Bool) (f : ℕ → ℕ) (d e : Description) (c : Class) (o : Option of_class.Class) → HasSameDescription set d e → instance_by e c (option_map (renewed_class f) o) ≡ instance_by d c o
+instance_same : (set : ℕ → Bool) (f : ℕ → ℕ) (d e : Description) (c : ClassDescriptor) (o : Option of_class.Class) → HasSameDescription set d e → instance_by e c (option_map (renewed_class f) o) ≡ instance_by d c o
 instance_same set f d e c None h = refl
 instance_same set f d e c (Some entry) h =
-    ap (λ n. if is_interface entry.flags then None else differ InstanceCells entry.instance_size n) (sum_same (cells_of e) (cells_of d) c.fields (λ x. same_cells set d e x h))
+    ap (λ n. if is_interface entry.flags then None else differ InstanceCells entry.instance_size n) (sum_same (described_cells e) (described_cells d) c.fields (λ x. same_cells set d e x h))
 
-instances_same : (set : ℕ → Bool) (f : ℕ → ℕ) (classes : List of_class.Class) (d e : Description) (c : Class) → HasSameDescription set d e → instance_fault (map (renewed_class f) classes) e c ≡ instance_fault classes d c
+instances_same : (set : ℕ → Bool) (f : ℕ → ℕ) (classes : List of_class.Class) (d e : Description) (c : ClassDescriptor) → HasSameDescription set d e → instance_fault (map (renewed_class f) classes) e c ≡ instance_fault classes d c
 unfolding instance_fault
 instances_same set f classes d e c h =
     ap (instance_by e c) (find_map (λ (r : of_class.Class). r.offset == c.class_ref) (renewed_class f) classes)
     ∙ instance_same set f d e c (find (λ (r : of_class.Class). r.offset == c.class_ref) classes) h
 
-instance_bare : (set : ℕ → Bool) (classes : List of_class.Class) (d : Description) (c : Class) → instance_fault classes d c ≡ instance_fault classes d (bare_class set c)
+instance_bare : (set : ℕ → Bool) (classes : List of_class.Class) (d : Description) (c : ClassDescriptor) → instance_fault classes d c ≡ instance_fault classes d (bare_class set c)
 unfolding instance_fault
 instance_bare set classes d c = by (find (λ (r : of_class.Class). r.offset == c.class_ref) classes)
   where
@@ -142,19 +142,19 @@ same_instances parts p q laid a r =
 
 -- ---- static fields
 
-same_place : (set : ℕ → Bool) (d e : Description) (f : Field) → HasSameDescription set d e → place_in e f ≡ place_in d f
+same_place : (set : ℕ → Bool) (d e : Description) (f : FieldDescriptor) → HasSameDescription set d e → place_in e f ≡ place_in d f
 unfolding place_in
 same_place set d e f h = ap (place_by f) (same_field set d e f.ty h)
 
-share_same : (set : ℕ → Bool) (d e : Description) (x : Field × Field) → HasSameDescription set d e → share_pair e x ≡ share_pair d x
+share_same : (set : ℕ → Bool) (d e : Description) (x : FieldDescriptor × FieldDescriptor) → HasSameDescription set d e → share_pair e x ≡ share_pair d x
 unfolding share_fault
 share_same set d e x h = ap (λ o. share_by o (place_in e x.1)) (same_place set d e x.0 h) ∙ ap (share_by (place_in d x.0)) (same_place set d e x.1 h)
 
-image_same : (set : ℕ → Bool) (s : Statics) (d e : Description) (f : Field) → HasSameDescription set d e → image_fault s e f ≡ image_fault s d f
+image_same : (set : ℕ → Bool) (s : Statics) (d e : Description) (f : FieldDescriptor) → HasSameDescription set d e → image_fault s e f ≡ image_fault s d f
 unfolding image_fault
 image_same set s d e f h = ap (image_by s) (same_place set d e f h)
 
-filled_same : (set : ℕ → Bool) (kinds : List ℕ) (d e : Description) (f : Field) → HasSameDescription set d e → filled_fault kinds e f ≡ filled_fault kinds d f
+filled_same : (set : ℕ → Bool) (kinds : List ℕ) (d e : Description) (f : FieldDescriptor) → HasSameDescription set d e → filled_fault kinds e f ≡ filled_fault kinds d f
 unfolding filled_fault
 filled_same set kinds d e f h = ap (filled_by (kind_at kinds (image_offset f))) (same_place set d e f h)
 
@@ -200,18 +200,18 @@ same_exports parts p q laid a r =
 
 -- ---- classes
 
-count_refs : (cs : List Class) (n : ℕ) → count_by (λ (d : Class). d.class_ref == n) cs ≡ count_by (λ r. r == n) (map ref_of cs)
+count_refs : (cs : List ClassDescriptor) (n : ℕ) → count_by (λ (d : ClassDescriptor). d.class_ref == n) cs ≡ count_by (λ r. r == n) (map ref_of cs)
 count_refs cs n = sym (sum_map (λ r. cond (r == n) 1 0) ref_of cs)
 
-undescribed_same : (f : ℕ → ℕ) (cs ds : List Class) (c : of_class.Class) → map ref_of ds ≡ map ref_of cs → undescribed_fault ds (renewed_class f c) ≡ undescribed_fault cs c
+undescribed_same : (f : ℕ → ℕ) (cs ds : List ClassDescriptor) (c : of_class.Class) → map ref_of ds ≡ map ref_of cs → undescribed_fault ds (renewed_class f c) ≡ undescribed_fault cs c
 unfolding undescribed_fault
 undescribed_same f cs ds c e =
-    let n : count_by (λ (d : Class). d.class_ref == c.offset) ds ≡ count_by (λ (d : Class). d.class_ref == c.offset) cs =
+    let n : count_by (λ (d : ClassDescriptor). d.class_ref == c.offset) ds ≡ count_by (λ (d : ClassDescriptor). d.class_ref == c.offset) cs =
     count_refs ds c.offset ∙ ap (count_by (λ r. r == c.offset)) e ∙ sym (count_refs cs c.offset) in
     rw n refl
 
-no_class_same : (f : ℕ → ℕ) (cs : List of_class.Class) (n : ℕ) → no_class_fault (map (renewed_class f) cs) n ≡ no_class_fault cs n
-unfolding no_class_fault
+no_class_same : (f : ℕ → ℕ) (cs : List of_class.Class) (n : ℕ) → undescribed_class_fault (map (renewed_class f) cs) n ≡ undescribed_class_fault cs n
+unfolding undescribed_class_fault
 no_class_same f cs n = rw (any_map (λ (c : of_class.Class). c.offset == n) (renewed_class f) cs) refl
 
 not_own_same : (f : ℕ → ℕ) (cs : List of_class.Class) (n : ℕ) → not_own_fault (map (renewed_class f) cs) n ≡ not_own_fault cs n
@@ -224,21 +224,21 @@ offsets_same f (Some cs) = map_twice (λ (c : Exported). c.class_offset) (renewe
 
 pub same_classes : (parts : List Lent) (p q : PackageRecord) (laid : List (Option Laid)) → Agrees parts p → IsRewritten p laid q
     → (filter_map (undescribed_fault q.description.items.classes) q.classes
-    ++ filter_map (not_own_fault q.classes) (map (λ (d : Class). d.class_ref) q.description.items.classes))
-    ++ filter_map (no_class_fault q.classes) (map (λ (c : Exported). c.class_offset) (or_none q.export)) ≡ []
+    ++ filter_map (not_own_fault q.classes) (map (λ (d : ClassDescriptor). d.class_ref) q.description.items.classes))
+    ++ filter_map (undescribed_class_fault q.classes) (map (λ (c : Exported). c.class_offset) (or_none q.export)) ≡ []
 same_classes parts p q laid a r =
     let f = now_at (changes p laid q) in
     let ds = q.description.items.classes in
     let cs = p.description.items.classes in
     let same = (alike (names_interface p.classes) cs ds r.description.classes).refs in
-    let first = both_empty (filter_map (undescribed_fault cs) p.classes ++ filter_map (not_own_fault p.classes) (map ref_of cs)) (filter_map (no_class_fault p.classes) (map (λ (c : Exported). c.class_offset) (or_none p.export))) a.classes in
+    let first = both_empty (filter_map (undescribed_fault cs) p.classes ++ filter_map (not_own_fault p.classes) (map ref_of cs)) (filter_map (undescribed_class_fault p.classes) (map (λ (c : Exported). c.class_offset) (or_none p.export))) a.classes in
     let second = both_empty (filter_map (undescribed_fault cs) p.classes) (filter_map (not_own_fault p.classes) (map ref_of cs)) first.0 in
-    let no_class : (ns : List ℕ) → filter_map (no_class_fault q.classes) ns ≡ filter_map (no_class_fault p.classes) ns = λ ns.
-    ap (λ xs. filter_map (no_class_fault xs) ns) r.classes ∙ faults_same (no_class_fault (map (renewed_class f) p.classes)) (no_class_fault p.classes) ns (no_class_same f p.classes) in
+    let no_class : (ns : List ℕ) → filter_map (undescribed_class_fault q.classes) ns ≡ filter_map (undescribed_class_fault p.classes) ns = λ ns.
+    ap (λ xs. filter_map (undescribed_class_fault xs) ns) r.classes ∙ faults_same (undescribed_class_fault (map (renewed_class f) p.classes)) (undescribed_class_fault p.classes) ns (no_class_same f p.classes) in
     let not_own : (ns : List ℕ) → filter_map (not_own_fault q.classes) ns ≡ filter_map (not_own_fault p.classes) ns = λ ns.
     ap (λ xs. filter_map (not_own_fault xs) ns) r.classes
     ∙ faults_same (not_own_fault (map (renewed_class f) p.classes)) (not_own_fault p.classes) ns (not_own_same f p.classes) in
-    append_none (filter_map (undescribed_fault ds) q.classes ++ filter_map (not_own_fault q.classes) (map ref_of ds)) (filter_map (no_class_fault q.classes) (map (λ (c : Exported). c.class_offset) (or_none q.export)))
+    append_none (filter_map (undescribed_fault ds) q.classes ++ filter_map (not_own_fault q.classes) (map ref_of ds)) (filter_map (undescribed_class_fault q.classes) (map (λ (c : Exported). c.class_offset) (or_none q.export)))
     (append_none (filter_map (undescribed_fault ds) q.classes) (filter_map (not_own_fault q.classes) (map ref_of ds))
     (ap (filter_map (undescribed_fault ds)) r.classes
     ∙ faults_map (undescribed_fault ds) (renewed_class f) p.classes
@@ -246,21 +246,21 @@ same_classes parts p q laid a r =
     ∙ second.0)
     (not_own (map ref_of ds) ∙ ap (filter_map (not_own_fault p.classes)) same ∙ second.1))
     (no_class (map (λ (c : Exported). c.class_offset) (or_none q.export))
-    ∙ ap (λ o. filter_map (no_class_fault p.classes) (map (λ (c : Exported). c.class_offset) (or_none o))) r.export
-    ∙ ap (filter_map (no_class_fault p.classes)) (offsets_same f p.export)
+    ∙ ap (λ o. filter_map (undescribed_class_fault p.classes) (map (λ (c : Exported). c.class_offset) (or_none o))) r.export
+    ∙ ap (filter_map (undescribed_class_fault p.classes)) (offsets_same f p.export)
     ∙ first.1)
 
 -- ---- types
 
-field_same : (set : ℕ → Bool) (d e : Description) (f : Field) → HasSameDescription set d e → field_type_fault e f ≡ field_type_fault d f
+field_same : (set : ℕ → Bool) (d e : Description) (f : FieldDescriptor) → HasSameDescription set d e → field_type_fault e f ≡ field_type_fault d f
 unfolding field_type_fault
 field_same set d e f h = ap (field_type_by f.ty) (same_field set d e f.ty h)
 
-method_same : (set : ℕ → Bool) (d e : Description) (most : ℕ) (m : Method) → HasSameDescription set d e → method_type_fault e most m ≡ method_type_fault d most m
+method_same : (set : ℕ → Bool) (d e : Description) (most : ℕ) (m : MethodDescriptor) → HasSameDescription set d e → method_type_fault e most m ≡ method_type_fault d most m
 unfolding method_type_fault
 method_same set d e most m h = ap (method_type_by most m.type_offset) (same_arguments set d e m.type_offset h)
 
-method_bare : (d : Description) (most : ℕ) (m : Method) → method_type_fault d most m ≡ method_type_fault d most (bare_method m)
+method_bare : (d : Description) (most : ℕ) (m : MethodDescriptor) → method_type_fault d most m ≡ method_type_fault d most (bare_method m)
 unfolding method_type_fault
 method_bare d most m = refl
 

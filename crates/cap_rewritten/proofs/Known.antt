@@ -3,7 +3,7 @@ use Rattle.std.proofs.Common.{◌≡◌, ◌≤◌, ◌<◌, ◌+◌, ℕ, List,
 use Rattle.cap_bytes.specs.Number.{number_at}
 use Rattle.jc_base.proofs.Eaching.{Each-from_All}
 use Rattle.cap_method.specs.MethodFormat.{Header}
-use Rattle.cap_desc.specs.DescriptorFormat.{Method}
+use Rattle.cap_desc.specs.DescriptorFormat.{MethodDescriptor}
 use Rattle.cap_components.specs.MethodPlaces.{size_by, code_start}
 use Rattle.cap_components.specs.Parts.{Lent}
 use Rattle.cap_components.specs.PackageRecord.{PackageRecord, described_methods, names_interface, handlers_of}
@@ -17,14 +17,14 @@ use Rattle.cap_laying.specs.declared.member.Member.{Member}
 use Rattle.cap_laying.specs.HandlerTable.{entries_at}
 use Rattle.cap_laying.specs.Member.{body_bytes, body_size, code_size, lead_size}
 use Rattle.cap_laying.specs.Member.{handlers_of as laid_handlers}
-use Rattle.cap_laying.specs.Blocks.{blocks, indexes_of, block_entries}
+use Rattle.cap_laying.specs.Blocks.{blocks, handler_indexes, block_entries}
 use Rattle.cap_laying.specs.Members.{AreMembers}
 use Rattle.cap_laying.specs.Laws.{HeadersReadBack}
 use Rattle.cap_laying.specs.Standing.{StandsAnew, MethodsStand}
 use Rattle.jc_decode.specs.declared.symbols.Laid.{Laid}
 use Rattle.cap_rewritten.specs.Changes.{FormerMethod, sources, laid_but}
-use Rattle.cap_rewritten.specs.Written.{IsAs, size_in, lead_bytes}
-use Rattle.cap_rewritten.specs.Laying.{IsCodeFor, IsFor, IsLaidFor, AreLaidFor}
+use Rattle.cap_rewritten.specs.Written.{IsAs, size_written, lead_bytes}
+use Rattle.cap_rewritten.specs.Laying.{IsCodeFor, IsFor, FitsHeader, AreLaidFor}
 use Rattle.cap_rewritten.specs.Writing.{IsBodyOf, IsMemberOf, HasSmallStack, IsWrittenAnew, places}
 use Rattle.cap_rewritten.proofs.Lists.{Each, each_at, each_of, map_each}
 use Rattle.cap_rewritten.proofs.Agreed.{agrees}
@@ -46,7 +46,7 @@ of_sources p q laid ms P w h = map_each P source_in (pairs_in p laid ms) (subst 
 pub of_members : (p q : PackageRecord) (laid : List (Option Laid)) (ms : List Member) (P : Member → Type 0) → IsWrittenAnew p laid ms q → Each P ms → Each (λ (z : Pair). P z.member) (pairs_in p laid ms)
 of_members p q laid ms P w h = map_each P member_in (pairs_in p laid ms) (subst (Each P) (sym (pair_members p.methods.info (sources p laid) ms w.members)) h)
 
-pub of_methods : (p q : PackageRecord) (laid : List (Option Laid)) (ms : List Member) (P : Method → Type 0) → IsWrittenAnew p laid ms q → Each P (described_methods p) → Each (λ (z : Pair). P z.source.method) (pairs_in p laid ms)
+pub of_methods : (p q : PackageRecord) (laid : List (Option Laid)) (ms : List Member) (P : MethodDescriptor → Type 0) → IsWrittenAnew p laid ms q → Each P (described_methods p) → Each (λ (z : Pair). P z.source.method) (pairs_in p laid ms)
 of_methods p q laid ms P w h = of_sources p q laid ms (λ (s : FormerMethod). P s.method) w (map_each P method_of (sources p laid) (subst (Each P) (sym (was_described p q laid ms w)) h))
 
 each_within : (size : ℕ) (ms : List Member) → AreMembers size ms → Each (λ (m : Member). m.offset < size) ms
@@ -85,21 +85,21 @@ body_lead xs ys s (Lead header) at i = i.1.size ∙ sym i.1.long
 
 pub record Known (p q : PackageRecord) (ms : List Member) (z : Pair) : Type 0 where
   pub is : IsMemberOf p.methods.info z.source z.member
-  pub told : IsToldOf (places p ms) (indexes_of (length p.methods.info) (blocks (length p.methods.handlers) ms)) z
+  pub told : IsToldOf (places p ms) (handler_indexes (length p.methods.info) (blocks (length p.methods.handlers) ms)) z
   pub was : WasWell p z.source.method
   pub inside : ClaimsInside (length p.methods.handlers) z.source.method
   pub within : z.member.offset < length p.methods.info
   pub body : IsBodyAt p.methods.info q.methods.info z.source z.member.body (to (places p ms) z.member.offset)
 
 pub told_all : (p q : PackageRecord) (laid : List (Option Laid)) (ms : List Member) → IsWrittenAnew p laid ms q → MethodsStand
-    → Each (λ (z : Pair). IsToldOf (places p ms) (indexes_of (length p.methods.info) (blocks (length p.methods.handlers) ms)) z) (pairs_in p laid ms)
+    → Each (λ (z : Pair). IsToldOf (places p ms) (handler_indexes (length p.methods.info) (blocks (length p.methods.handlers) ms)) z) (pairs_in p laid ms)
 told_all p q laid ms w stand =
     let zs = pairs_in p laid ms in
     let size = length p.methods.info in
     let room = length p.methods.handlers in
     let is = pair_each p.methods.info (sources p laid) ms w.members in
     let st = of_members p q laid ms (StandsAnew size room ms) w (standing size room ms ms (stand size room ms w.may)) in
-    each_of (λ (z : Pair). IsToldOf (places p ms) (indexes_of size (blocks room ms)) z) zs
+    each_of (λ (z : Pair). IsToldOf (places p ms) (handler_indexes size (blocks room ms)) z) zs
     (λ z h. is_told_of p.methods.info size room ms z (each_at (λ (x : Pair). IsMemberOf p.methods.info x.source x.member) zs z is h) (each_at (λ (x : Pair). StandsAnew size room ms x.member) zs z st h))
 
 pub known : (parts : List Lent) (p q : PackageRecord) (laid : List (Option Laid)) (ms : List Member) → StandsFor parts p → AreLaidFor p laid → IsWrittenAnew p laid ms q → MethodsStand → HeadersReadBack → Each (Known p q ms) (pairs_in p laid ms)
@@ -114,18 +114,18 @@ known parts p q laid ms s l w stand back =
     let was = of_methods p q laid ms (WasWell p) w (wells parts p a) in
     let inside = of_methods p q laid ms (ClaimsInside room) w (all_claims parts p a) in
     let within = of_members p q laid ms (λ (m : Member). m.offset < size) w (each_within size ms w.may.each) in
-    let fits = of_sources p q laid ms (IsLaidFor p) w (Each-from_All (IsLaidFor p) (sources p laid) l) in
+    let fits = of_sources p q laid ms (FitsHeader p) w (Each-from_All (FitsHeader p) (sources p laid) l) in
     let small = of_sources p q laid ms HasSmallStack w (Each-from_All HasSmallStack (sources p laid) w.stacks) in
     each_of (Known p q ms) zs (λ z h.
     let i = each_at (λ (x : Pair). IsMemberOf p.methods.info x.source x.member) zs z is h in
     let ok = each_at (λ (x : Pair). WasWell p x.source.method) zs z was h in
-    let f = each_at (λ (x : Pair). IsLaidFor p x.source) zs z fits h in
+    let f = each_at (λ (x : Pair). FitsHeader p x.source) zs z fits h in
     let bytes = (each_at (λ (x : Pair). StandsAnew size room ms x.member) zs z st h).bytes in
     let e = sizes_end p.methods.info z.source.method in
     let end = ok.within in
     record {
       is = i;
-      told = each_at (λ (x : Pair). IsToldOf (places p ms) (indexes_of size (blocks room ms)) x) zs z told h;
+      told = each_at (λ (x : Pair). IsToldOf (places p ms) (handler_indexes size (blocks room ms)) x) zs z told h;
       was = ok;
       inside = each_at (λ (x : Pair). ClaimsInside room x.source.method) zs z inside h;
       within = each_at (λ (x : Pair). x.member.offset < size) zs z within h;
@@ -135,10 +135,10 @@ known parts p q laid ms s l w stand back =
     })
 
 -- its size is that of its body
-pub size_known : (p q : PackageRecord) (ms : List Member) (z : Pair) → Known p q ms z → size_in q (change_in (places p ms) z) ≡ body_size z.member.body
+pub size_known : (p q : PackageRecord) (ms : List Member) (z : Pair) → Known p q ms z → size_written q (change_in (places p ms) z) ≡ body_size z.member.body
 size_known p q ms z k =
     let at = to (places p ms) z.member.offset in
-    let a : size_in q (change_in (places p ms) z) ≡ size_by (number_at 1 at q.methods.info) + (renewed_method (places p ms) z.source.method).bytecode_count =
+    let a : size_written q (change_in (places p ms) z) ≡ size_by (number_at 1 at q.methods.info) + (renewed_method (places p ms) z.source.method).bytecode_count =
     ap (λ n. size_by (number_at 1 n q.methods.info) + (renewed_method (places p ms) z.source.method).bytecode_count) k.told.offset in
     a ∙ ap (λ n. size_by (number_at 1 at q.methods.info) + n) k.told.count ∙ body_long p.methods.info q.methods.info z.source z.member.body at k.body
 
@@ -148,7 +148,7 @@ start_known p q ms z k =
     let at = to (places p ms) z.member.offset in
     ap (λ n. n + size_by (number_at 1 n q.methods.info)) k.told.offset ∙ ap (λ n. at + n) (body_lead p.methods.info q.methods.info z.source z.member.body at k.body)
 
-as_laid_by : (p q : PackageRecord) (s : FormerMethod) (m : Method) (b : Body) (at : ℕ) → IsBodyAt p.methods.info q.methods.info s b at → m.method_offset ≡ at → m.bytecode_count ≡ code_size b → m.handler_count ≡ length (laid_handlers b)
+as_laid_by : (p q : PackageRecord) (s : FormerMethod) (m : MethodDescriptor) (b : Body) (at : ℕ) → IsBodyAt p.methods.info q.methods.info s b at → m.method_offset ≡ at → m.bytecode_count ≡ code_size b → m.handler_count ≡ length (laid_handlers b)
     → code_start q.methods.info m ≡ at + lead_size b → handlers_of q m ≡ entries_at (at + lead_size b) (laid_handlers b) → IsAs p q s.method s.laid m
 as_laid_by p q s m (Code laid) at i offset count many start handlers =
     subst (λ o. IsAs p q s.method o m) (sym i.0) (record {

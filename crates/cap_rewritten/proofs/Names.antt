@@ -7,7 +7,7 @@ use Rattle.std.proofs.lemmas.List.{map-append}
 use Rattle.cap_frame.specs.AppletFormat.{Applet}
 use Rattle.cap_pool.specs.ExportFormat.{Exported}
 use Rattle.cap_class.specs.ClassFormat.{Class}
-use Rattle.cap_desc.specs.DescriptorFormat.{Method}
+use Rattle.cap_desc.specs.DescriptorFormat.{MethodDescriptor}
 use Rattle.cap_components.specs.declared.fault.PackFault.{PackFault}
 use Rattle.cap_components.specs.Parts.{Lent}
 use Rattle.cap_components.specs.PackageRecord.{PackageRecord, described_methods}
@@ -66,10 +66,10 @@ same_number n = grind arith
 names_now : (cs : List Change) (offset : ℕ) → is_method_at (map old_of cs) offset ≡ true → is_method_at (map now_of cs) (now_at cs offset) ≡ true
 unfolding now_at
 names_now cs offset e =
-    let f = find_any (stood_at offset) cs (sym (any_map (λ (m : Method). m.method_offset == offset) old_of cs) ∙ e) in
+    let f = find_any (stood_at offset) cs (sym (any_map (λ (m : MethodDescriptor). m.method_offset == offset) old_of cs) ∙ e) in
     let to : offset_by offset (find (stood_at offset) cs) ≡ f.x.now.method_offset = ap (offset_by offset) f.is in
     ap (is_method_at (map now_of cs)) to
-    ∙ any_map (λ (m : Method). m.method_offset == f.x.now.method_offset) now_of cs
+    ∙ any_map (λ (m : MethodDescriptor). m.method_offset == f.x.now.method_offset) now_of cs
     ∙ any_has (λ (c : Change). c.now.method_offset == f.x.now.method_offset) cs f.x f.has (same_number f.x.now.method_offset)
 
 pub is_told : (b : Bool) (f : PackFault) → (if b then None else Some f) ≡ None → b ≡ true
@@ -100,7 +100,7 @@ entry_now cs offset last e = by (offset == 0xFFFF) refl
         either (now_at cs offset == 0xFFFF) (no_method_fault (is_method_at (map now_of cs)) (now_at cs offset)) (method_now cs offset k)
 
 -- no method stood at 0xFFFF
-below_last : (p : PackageRecord) (m : Method) → WasWell p m → length p.methods.info ≤ 65535 → (m.method_offset == 0xFFFF) ≡ false
+below_last : (p : PackageRecord) (m : MethodDescriptor) → WasWell p m → length p.methods.info ≤ 65535 → (m.method_offset == 0xFFFF) ≡ false
 below_last p m w short =
     let e = sizes_end p.methods.info m in
     let s = sizes_some p.methods.info m in

@@ -8,7 +8,7 @@ use Rattle.cap_renewal.specs.declared.new_methods.NewMethod.{NewMethod}
 use Rattle.cap_renewal.specs.NewMethods.{to}
 use Rattle.cap_laying.specs.declared.member.Member.{Member}
 use Rattle.cap_laying.specs.Member.{handlers_of, lead_size}
-use Rattle.cap_laying.specs.Blocks.{blocks, firsts, had_none, index_after, put_indexes, indexes_of, block_entries, entries_of, total_handlers}
+use Rattle.cap_laying.specs.Blocks.{blocks, firsts, had_none, first_entry, put_indexes, handler_indexes, block_entries, entries_of, total_handlers}
 use Rattle.cap_laying.proofs.Owned.{total_append, length_entries as length_at, length_table}
 use Rattle.cap_rewritten.proofs.Lists.{Each, Has, each_at}
 use Rattle.cap_rewritten.proofs.AsLaid.{take_front, drop_front}
@@ -141,27 +141,27 @@ length_set (x ∷ xs) (suc i) k = ap suc (length_set xs i k)
 
 length_indexes : (xs : List ℕ) (before : ℕ) (bs : List Member) → length (put_indexes xs before bs) ≡ length xs
 length_indexes xs before [] = refl
-length_indexes xs before (b ∷ bs) = length_indexes (slice_set xs b.offset (index_after before (many_of b))) (before + many_of b) bs ∙ length_set xs b.offset (index_after before (many_of b))
+length_indexes xs before (b ∷ bs) = length_indexes (slice_set xs b.offset (first_entry before (many_of b))) (before + many_of b) bs ∙ length_set xs b.offset (first_entry before (many_of b))
 
 indexes_parts : (xs : List ℕ) (before : ℕ) (as_ bs : List Member) → put_indexes xs before (as_ ++ bs) ≡ put_indexes (put_indexes xs before as_) (before + total_handlers as_) bs
 indexes_parts xs before [] bs = ap (λ n. put_indexes xs n bs) (omega arith)
 indexes_parts xs before (a ∷ as_) bs =
     let e : before + many_of a + total_handlers as_ ≡ before + (many_of a + total_handlers as_) = omega arith in
-    indexes_parts (slice_set xs a.offset (index_after before (many_of a))) (before + many_of a) as_ bs
-    ∙ ap (λ n. put_indexes (put_indexes (slice_set xs a.offset (index_after before (many_of a))) (before + many_of a) as_) n bs) e
+    indexes_parts (slice_set xs a.offset (first_entry before (many_of a))) (before + many_of a) as_ bs
+    ∙ ap (λ n. put_indexes (put_indexes (slice_set xs a.offset (first_entry before (many_of a))) (before + many_of a) as_) n bs) e
 
 index_stays : (xs : List ℕ) (before i : ℕ) (bs : List Member) → Each (λ (b : Member). b.offset ≡ i → ⊥) bs → slice_index (put_indexes xs before bs) i ≡ slice_index xs i
 index_stays xs before i [] h = refl
 index_stays xs before i (b ∷ bs) h =
-    index_stays (slice_set xs b.offset (index_after before (many_of b))) (before + many_of b) i bs h.1 ∙ set_elsewhere xs i b.offset (index_after before (many_of b)) h.0
+    index_stays (slice_set xs b.offset (first_entry before (many_of b))) (before + many_of b) i bs h.1 ∙ set_elsewhere xs i b.offset (first_entry before (many_of b)) h.0
 
 length_zeros : (n : ℕ) → length (replicate {A = ℕ} n 0) ≡ n
 length_zeros zero = refl
 length_zeros (suc n) = ap suc (length_zeros n)
 
 pub index_among : (size : ℕ) (bs : List Member) (m : Member) (before : ℕ) → IsAmong bs m before → m.offset < size
-    → slice_index (indexes_of size bs) m.offset ≡ index_after before (many_of m)
-unfolding indexes_of
+    → slice_index (handler_indexes size bs) m.offset ≡ first_entry before (many_of m)
+unfolding handler_indexes
 index_among size bs m before a lt =
     let start : List ℕ = replicate size 0 in
     let led = put_indexes start 0 a.lead in
@@ -171,14 +171,14 @@ index_among size bs m before a lt =
     ap (λ xs. slice_index (put_indexes start 0 xs) m.offset) a.is
     ∙ ap (λ xs. slice_index xs m.offset) (indexes_parts start 0 a.lead (m ∷ a.rest))
     ∙ ap (λ n. slice_index (put_indexes led n (m ∷ a.rest)) m.offset) e
-    ∙ index_stays (slice_set led m.offset (index_after before (many_of m))) (before + many_of m) m.offset a.rest a.others
-    ∙ set_there led m.offset (index_after before (many_of m)) (omega arith)
+    ∙ index_stays (slice_set led m.offset (first_entry before (many_of m))) (before + many_of m) m.offset a.rest a.others
+    ∙ set_there led m.offset (first_entry before (many_of m)) (omega arith)
 
 entries_parts : (news : List (Option NewMethod)) (as_ bs : List Member) → entries_of news (as_ ++ bs) ≡ entries_of news as_ ++ entries_of news bs
 entries_parts news [] bs = refl
 entries_parts news (a ∷ as_) bs = ap (λ xs. block_entries news a ++ xs) (entries_parts news as_ bs) ∙ sym (append_assoc (block_entries news a) (entries_of news as_) (entries_of news bs))
 
-pub entries_among : (news : List (Option NewMethod)) (bs : List Member) (m : Member) (before : ℕ) → IsAmong bs m before → take (many_of m) (drop (index_after before (many_of m)) (entries_of news bs)) ≡ block_entries news m
+pub entries_among : (news : List (Option NewMethod)) (bs : List Member) (m : Member) (before : ℕ) → IsAmong bs m before → take (many_of m) (drop (first_entry before (many_of m)) (entries_of news bs)) ≡ block_entries news m
 entries_among news bs m before a = by (many_of m == 0) refl
   where
     none : (n : ℕ) → (n == 0) ≡ true → n ≡ 0

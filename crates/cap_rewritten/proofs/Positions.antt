@@ -1,7 +1,7 @@
 -- An offset that named a method names the one at the same position when it is renewed.
 use Rattle.std.proofs.Common.{◌≡◌, ℕ, zero, suc, List, [], ◌∷◌, map, find, slice_get, cond, Option, Some, inl, inr, refl, sym, ap, ◌∙◌}
 use Rattle.std.proofs.lemmas.Bool.{ne_eqb}
-use Rattle.cap_desc.specs.DescriptorFormat.{Method}
+use Rattle.cap_desc.specs.DescriptorFormat.{MethodDescriptor}
 use Rattle.cap_components.specs.Parts.{Lent}
 use Rattle.cap_components.specs.PackageRecord.{PackageRecord}
 use Rattle.cap_package.specs.StandsFor.{StandsFor}
@@ -31,12 +31,12 @@ find_at (x ∷ cs) (suc k) c e d =
     let h = each_at (λ (y : Change). offset_of y ≡ offset_of x → ⊥) cs c d.0 (has_get cs k c e) in
     ap (λ b. cond b (Some x) (find (stood_at (offset_of c)) cs)) (ne_eqb (offset_of x) (offset_of c) (λ s. h (sym s))) ∙ find_at cs k c e d.1
 
-pub record IsAt (cs : List Change) (k : ℕ) (m : Method) : Type 0 where
+pub record IsAt (cs : List Change) (k : ℕ) (m : MethodDescriptor) : Type 0 where
   pub change : Change
   pub there : slice_get cs k ≡ Some change
   pub is : change.source.method ≡ m
 
-get_old : (cs : List Change) (k : ℕ) (m : Method) → slice_get (map old_of cs) k ≡ Some m → IsAt cs k m
+get_old : (cs : List Change) (k : ℕ) (m : MethodDescriptor) → slice_get (map old_of cs) k ≡ Some m → IsAt cs k m
 get_old [] k m e = absurd cc
 get_old (c ∷ cs) zero m e = let s : c.source.method ≡ m = cc in record { change = c; there = refl; is = s }
 get_old (c ∷ cs) (suc k) m e = let r = get_old cs k m e in record { change = r.change; there = r.there; is = r.is }
@@ -51,7 +51,7 @@ unfolding now_at
 names_stay parts p q laid s r offset position n =
     let cs = changes p laid q in
     let i = get_old cs position n.method (ap (λ ms. slice_get ms position) (olds p q laid r) ∙ n.there) in
-    let at : offset_of i.change ≡ offset = ap (λ (m : Method). m.method_offset) i.is ∙ n.stands in
+    let at : offset_of i.change ≡ offset = ap (λ (m : MethodDescriptor). m.method_offset) i.is ∙ n.stands in
     let found = find_at cs position i.change i.there (apart parts p q laid (agrees parts p s.agree) r) in
     record {
       method = i.change.now;

@@ -3,7 +3,7 @@ use Rattle.std.proofs.Common.{◌≡◌, ◌≤◌, ◌<◌, ◌+◌, ℕ, List,
 use Rattle.std.proofs.lemmas.List.Sums.{sum_by-cons, sum_by-append}
 use Rattle.std.proofs.lemmas.List.Filters.{sum_by-filter_both}
 use Rattle.std.proofs.lemmas.List.Elements.{filter-append}
-use Rattle.cap_desc.specs.DescriptorFormat.{Method}
+use Rattle.cap_desc.specs.DescriptorFormat.{MethodDescriptor}
 use Rattle.jc_decode.specs.declared.symbols.Laid.{Laid}
 use Rattle.cap_rewritten.specs.Changes.{FormerMethod, sources_from}
 use Rattle.cap_rewritten.proofs.Lists.{Each, Has, each_at, each_of, filter_map_in}
@@ -62,7 +62,7 @@ rising_map {X = X} number g (x ∷ xs) r = (each_map_back xs r.0, rising_map num
     each_map_back [] h = tt
     each_map_back (y ∷ ys) h = (h.0, each_map_back ys h.1)
 
-pub rising_sources : (n : ℕ) (ms : List Method) (ls : List (Option Laid)) → Rising (λ (s : FormerMethod). s.number) (sources_from n ms ls)
+pub rising_sources : (n : ℕ) (ms : List MethodDescriptor) (ls : List (Option Laid)) → Rising (λ (s : FormerMethod). s.number) (sources_from n ms ls)
 rising_sources n [] ls = tt
 rising_sources n (m ∷ ms) [] = tt
 rising_sources n (m ∷ ms) (l ∷ ls) =

@@ -5,7 +5,7 @@ use Rattle.std.proofs.lemmas.List.Sums.{sum_by-cons}
 use Rattle.std.proofs.lemmas.Bool.{eqb-true, eqb-false}
 use Rattle.cap_laying.specs.declared.member.Member.{Member}
 use Rattle.cap_laying.specs.Member.{placed, by_offset, body_size, size_if, end_from}
-use Rattle.cap_laying.specs.MethodInfo.{place_of}
+use Rattle.cap_laying.specs.MethodInfo.{place_in_table}
 use Rattle.cap_laying.specs.Blocks.{put_by, put_firsts, firsts}
 use Rattle.cap_laying.proofs.Owned.{set_other, set_same, length_set, length_none}
 use Rattle.cap_rewritten.proofs.Lists.{Each, Has, each_at, each_of}
@@ -219,7 +219,7 @@ size_is : (s : Option Member) → size_if s ≡ weight_if size_of s
 size_is None = refl
 size_is (Some m) = refl
 
-pub place_is : (at : ℕ) (table : List (Option Member)) (n : ℕ) → place_of at table n ≡ at + sum_slots size_of n table
+pub place_is : (at : ℕ) (table : List (Option Member)) (n : ℕ) → place_in_table at table n ≡ at + sum_slots size_of n table
 place_is at [] zero = omega arith
 place_is at [] (suc n) = omega arith
 place_is at (s ∷ table) zero = omega arith

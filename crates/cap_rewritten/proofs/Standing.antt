@@ -2,7 +2,7 @@
 use Rattle.std.proofs.Common.{◌≡◌, ◌≤◌, ◌<◌, ◌+◌, ◌*◌, ℕ, List, [], ◌∷◌, ◌++◌, length, map, sum_by, filter_map, min, max, Bool, true, false, Option, None, ◌⊎◌, inl, inr, refl, sym, ap, subst, ◌∙◌, arith, ltb-true, ltb-false}
 use Rattle.std.specs.Prelude.{nat_lt}
 use Rattle.cap_bytes.specs.Number.{number_at}
-use Rattle.cap_desc.specs.DescriptorFormat.{Method}
+use Rattle.cap_desc.specs.DescriptorFormat.{MethodDescriptor}
 use Rattle.cap_components.specs.MethodPlaces.{size_by}
 use Rattle.cap_components.specs.Parts.{Lent}
 use Rattle.cap_components.specs.PackageRecord.{PackageRecord, described_methods}
@@ -11,7 +11,7 @@ use Rattle.cap_package.specs.MethodChecks.{code_start, code_end, share_byte, ove
 use Rattle.cap_package.proofs.StaticsKnown.{both_empty}
 use Rattle.jc_decode.specs.declared.symbols.Laid.{Laid}
 use Rattle.cap_rewritten.specs.Changes.{Change, changes}
-use Rattle.cap_rewritten.specs.Written.{IsWritten, size_in, methods_begin}
+use Rattle.cap_rewritten.specs.Written.{IsWritten, size_written, methods_begin}
 use Rattle.cap_rewritten.specs.Rewritten.{IsRewritten}
 use Rattle.cap_rewritten.proofs.Lists.{Each, Has, each_at, each_of, map_each, none_each, each_none, append_none, faults_map, faults_append}
 use Rattle.cap_rewritten.proofs.Sums.{sum_beside}
@@ -21,11 +21,11 @@ use Rattle.cap_rewritten.proofs.Zipped.{now_of, old_of}
 use Rattle.cap_rewritten.proofs.Headers.{some_bytes}
 use Rattle.cap_rewritten.proofs.Facts.{WasWell, wells, news, olds, no_faults, all_written, few_by}
 
-pub sizes_end : (info : List ℕ) (m : Method) → code_end info m ≡ m.method_offset + (size_by (number_at 1 m.method_offset info) + m.bytecode_count)
+pub sizes_end : (info : List ℕ) (m : MethodDescriptor) → code_end info m ≡ m.method_offset + (size_by (number_at 1 m.method_offset info) + m.bytecode_count)
 unfolding code_end code_start
 sizes_end info m = omega arith
 
-pub sizes_some : (info : List ℕ) (m : Method) → 1 ≤ size_by (number_at 1 m.method_offset info)
+pub sizes_some : (info : List ℕ) (m : MethodDescriptor) → 1 ≤ size_by (number_at 1 m.method_offset info)
 sizes_some info m = let s = some_bytes (number_at 1 m.method_offset info) in let e = s.1 in omega arith
 
 -- ---- they stood apart
@@ -33,7 +33,7 @@ sizes_some info m = let s = some_bytes (number_at 1 m.method_offset info) in let
 abbrev pub offset_of : Change → ℕ
 offset_of c = c.source.method.method_offset
 
-stood_apart : (info : List ℕ) (a b : Method) → code_end info a ≤ length info → code_end info b ≤ length info → overlap_fault info a b ≡ None → b.method_offset ≡ a.method_offset → ⊥
+stood_apart : (info : List ℕ) (a b : MethodDescriptor) → code_end info a ≤ length info → code_end info b ≤ length info → overlap_fault info a b ≡ None → b.method_offset ≡ a.method_offset → ⊥
 unfolding overlap_fault
 stood_apart info a b ha hb e s =
     let shares = few_by (share_byte info a b) _ e in
@@ -44,17 +44,17 @@ stood_apart info a b ha hb e s =
     let sb = sizes_some info b in
     absurd (omega arith)
 
-all_apart : (p : PackageRecord) (ms : List Method) → Each (WasWell p) ms → filter_map (overlap_pair p.methods.info) (pairs ms) ≡ [] → Distinct (λ (m : Method). m.method_offset) ms
+all_apart : (p : PackageRecord) (ms : List MethodDescriptor) → Each (WasWell p) ms → filter_map (overlap_pair p.methods.info) (pairs ms) ≡ [] → Distinct (λ (m : MethodDescriptor). m.method_offset) ms
 all_apart p [] w e = tt
 all_apart p (m ∷ ms) w e =
     let info = p.methods.info in
     let both = both_empty (filter_map (overlap_pair info) (map (λ y. (m, y)) ms)) (filter_map (overlap_pair info) (pairs ms)) (sym (split m ms) ∙ e) in
     let each = none_each (λ y. overlap_fault info m y) ms (sym (faults_map (overlap_pair info) (λ y. (m, y)) ms) ∙ both.0) in
-    let apart = each_of (λ (y : Method). y.method_offset ≡ m.method_offset → ⊥) ms
+    let apart = each_of (λ (y : MethodDescriptor). y.method_offset ≡ m.method_offset → ⊥) ms
     (λ y h. stood_apart info m y w.0.within (each_at (WasWell p) ms y w.1 h).within (each_at (λ x. overlap_fault info m x ≡ None) ms y each h)) in
     (apart, all_apart p ms w.1 both.1)
   where
-    split : (m : Method) (ms : List Method) → filter_map (overlap_pair p.methods.info) (pairs (m ∷ ms)) ≡ filter_map (overlap_pair p.methods.info) (map (λ y. (m, y)) ms) ++ filter_map (overlap_pair p.methods.info) (pairs ms)
+    split : (m : MethodDescriptor) (ms : List MethodDescriptor) → filter_map (overlap_pair p.methods.info) (pairs (m ∷ ms)) ≡ filter_map (overlap_pair p.methods.info) (map (λ y. (m, y)) ms) ++ filter_map (overlap_pair p.methods.info) (pairs ms)
     split m ms = faults_append (overlap_pair p.methods.info) (map (λ y. (m, y)) ms) (pairs ms)
 
 pub distinct_map : {X Y : Type 0} (key : Y → ℕ) (g : X → Y) (xs : List X) → Distinct key (map g xs) → Distinct (λ x. key (g x)) xs
@@ -63,12 +63,12 @@ distinct_map key g (x ∷ xs) d = (map_each (λ y. key y ≡ key (g x) → ⊥) 
 
 pub apart : (parts : List Lent) (p q : PackageRecord) (laid : List (Option Laid)) → Agrees parts p → IsRewritten p laid q → Distinct offset_of (changes p laid q)
 apart parts p q laid a r =
-    distinct_map (λ (m : Method). m.method_offset) old_of (changes p laid q)
-    (subst (Distinct (λ (m : Method). m.method_offset)) (sym (olds p q laid r)) (all_apart p (described_methods p) (wells parts p a) a.overlaps))
+    distinct_map (λ (m : MethodDescriptor). m.method_offset) old_of (changes p laid q)
+    (subst (Distinct (λ (m : MethodDescriptor). m.method_offset)) (sym (olds p q laid r)) (all_apart p (described_methods p) (wells parts p a) a.overlaps))
 
 -- ---- they stand apart
 
-place_of : (p q : PackageRecord) (all : List Change) (c : Change) → IsWritten p q all c → c.now.method_offset ≡ methods_begin q + below (size_in q) offset_of all (offset_of c)
+place_of : (p q : PackageRecord) (all : List Change) (c : Change) → IsWritten p q all c → c.now.method_offset ≡ methods_begin q + below (size_written q) offset_of all (offset_of c)
 place_of p q all c w = w.place
 
 pub one_ends : (p q : PackageRecord) (all : List Change) (c d : Change) → IsWritten p q all c → IsWritten p q all d → Has all c → offset_of c < offset_of d → code_end q.methods.info c.now ≤ d.now.method_offset
@@ -76,7 +76,7 @@ one_ends p q all c d w v h lt =
     let a = place_of p q all c w in
     let b = place_of p q all d v in
     let e = sizes_end q.methods.info c.now in
-    let k = ends_before (size_in q) offset_of all (offset_of d) c h lt in
+    let k = ends_before (size_written q) offset_of all (offset_of d) c h lt in
     omega arith
 
 pub compare : (a b : ℕ) → (a ≡ b → ⊥) → (a < b) ⊎ (b < a)
@@ -87,7 +87,7 @@ compare a b h = by (nat_lt a b) (nat_lt b a) refl refl
     by false true e f = inr (ltb-true b a f)
     by false false e f = let u = ltb-false a b e in let v = ltb-false b a f in absurd (h (omega arith))
 
-shares_none : (info : List ℕ) (a b : Method) → (code_end info a ≤ b.method_offset) ⊎ (code_end info b ≤ a.method_offset) → overlap_fault info a b ≡ None
+shares_none : (info : List ℕ) (a b : MethodDescriptor) → (code_end info a ≤ b.method_offset) ⊎ (code_end info b ≤ a.method_offset) → overlap_fault info a b ≡ None
 unfolding overlap_fault
 shares_none info a b (inl h) =
     let e : nat_lt (max a.method_offset b.method_offset) (min (min (code_end info a) (code_end info b)) (length info)) ≡ false = grind arith in
@@ -121,7 +121,7 @@ stand_apart parts p q laid a r =
 
 -- ---- they lie in the info
 
-lies_inside : (info : List ℕ) (n : ℕ) (m : Method) → 1 + 8 * n ≤ m.method_offset → code_end info m ≤ length info → outside_fault info n m ≡ None
+lies_inside : (info : List ℕ) (n : ℕ) (m : MethodDescriptor) → 1 + 8 * n ≤ m.method_offset → code_end info m ≤ length info → outside_fault info n m ≡ None
 unfolding outside_fault
 lies_inside info n m low high =
     let a : nat_lt m.method_offset (1 + 8 * n) ≡ false = grind arith in
@@ -131,11 +131,11 @@ lies_inside info n m low high =
 itself : (a : ℕ) → nat_lt a a ≡ false
 itself a = grind arith
 
-pub ends_inside : (p q : PackageRecord) (all : List Change) (c : Change) → IsWritten p q all c → Has all c → length q.methods.info ≡ methods_begin q + sum_by (size_in q) all → code_end q.methods.info c.now ≤ length q.methods.info
+pub ends_inside : (p q : PackageRecord) (all : List Change) (c : Change) → IsWritten p q all c → Has all c → length q.methods.info ≡ methods_begin q + sum_by (size_written q) all → code_end q.methods.info c.now ≤ length q.methods.info
 ends_inside p q all c w h long =
     let a = place_of p q all c w in
     let e = sizes_end q.methods.info c.now in
-    let k = sum_beside (size_in q) (is_below offset_of (offset_of c)) all c (itself (offset_of c)) h in
+    let k = sum_beside (size_written q) (is_below offset_of (offset_of c)) all c (itself (offset_of c)) h in
     omega arith
 
 pub lie_inside : (p q : PackageRecord) (laid : List (Option Laid)) → IsRewritten p laid q → filter_map (outside_fault q.methods.info (length q.methods.handlers)) (described_methods q) ≡ []

@@ -1,7 +1,7 @@
 -- The methods of a package's classes before and after they are written anew. A method is named by its position in the
 -- Descriptor, since its offset changes.
 use Rattle.std.specs.Prelude.{◌+◌, ℕ, Bool, List, [], ◌∷◌, ◌++◌, length, take, drop, find, Option, Some, None, ◌==◌, if◌then◌else◌}
-use Rattle.cap_desc.specs.DescriptorFormat.{Method, Class}
+use Rattle.cap_desc.specs.DescriptorFormat.{MethodDescriptor, ClassDescriptor}
 use Rattle.cap_components.specs.PackageRecord.{PackageRecord, described_methods, names_interface}
 use Rattle.jc_decode.specs.declared.symbols.Laid.{Laid}
 
@@ -9,23 +9,23 @@ use Rattle.jc_decode.specs.declared.symbols.Laid.{Laid}
 -- it, if any
 pub record FormerMethod : Type 0 where
   pub number : ℕ
-  pub method : Method
+  pub method : MethodDescriptor
   pub laid : Option Laid
 
 -- the same, with its record as it is now
 pub record Change : Type 0 where
   pub source : FormerMethod
-  pub now : Method
+  pub now : MethodDescriptor
 
 -- ---- the code that is laid, one element for each method of the Descriptor
 
 -- the elements for the methods of the classes whose references are not in a set
-abbrev pub laid_but : (ℕ → Bool) → List Class → List (Option Laid) → List (Option Laid)
+abbrev pub laid_but : (ℕ → Bool) → List ClassDescriptor → List (Option Laid) → List (Option Laid)
 laid_but set [] laid = []
 laid_but set (c ∷ cs) laid = if set c.class_ref then laid_but set cs (drop (length c.methods) laid)
     else take (length c.methods) laid ++ laid_but set cs (drop (length c.methods) laid)
 
-abbrev pub sources_from : ℕ → List Method → List (Option Laid) → List FormerMethod
+abbrev pub sources_from : ℕ → List MethodDescriptor → List (Option Laid) → List FormerMethod
 sources_from number [] laid = []
 sources_from number (m ∷ ms) [] = []
 sources_from number (m ∷ ms) (l ∷ ls) = record { number = number; method = m; laid = l } ∷ sources_from (number + 1) ms ls
@@ -36,7 +36,7 @@ sources p laid = sources_from 0 (described_methods p) (laid_but (names_interface
 
 -- ---- before and after
 
-abbrev pub changes_of : List FormerMethod → List Method → List Change
+abbrev pub changes_of : List FormerMethod → List MethodDescriptor → List Change
 changes_of [] ms = []
 changes_of (s ∷ ss) [] = []
 changes_of (s ∷ ss) (m ∷ ms) = record { source = s; now = m } ∷ changes_of ss ms

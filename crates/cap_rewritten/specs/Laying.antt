@@ -20,8 +20,8 @@ abbrev pub IsFor : Header → Option Laid → Type 0
 IsFor h None = is_abstract h ≡ true
 IsFor h (Some laid) = IsCodeFor h laid
 
-abbrev pub IsLaidFor : PackageRecord → FormerMethod → Type 0
-IsLaidFor p s = (h : Header) → header_in p.methods.info s.method.method_offset ≡ Some h → IsFor h s.laid
+abbrev pub FitsHeader : PackageRecord → FormerMethod → Type 0
+FitsHeader p s = (h : Header) → header_in p.methods.info s.method.method_offset ≡ Some h → IsFor h s.laid
 
 abbrev pub AreLaidFor : PackageRecord → List (Option Laid) → Type 0
-AreLaidFor p laid = All (IsLaidFor p) (sources p laid)
+AreLaidFor p laid = All (FitsHeader p) (sources p laid)

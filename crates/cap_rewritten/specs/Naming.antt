@@ -1,6 +1,6 @@
 -- Methods are named by their positions among the methods of classes in the Descriptor.
 use Rattle.std.specs.Prelude.{◌≡◌, ℕ, List, Option, Some, slice_get}
-use Rattle.cap_desc.specs.DescriptorFormat.{Method}
+use Rattle.cap_desc.specs.DescriptorFormat.{MethodDescriptor}
 use Rattle.cap_components.specs.Parts.{Lent}
 use Rattle.cap_components.specs.PackageRecord.{PackageRecord, described_methods}
 use Rattle.cap_package.specs.StandsFor.{StandsFor}
@@ -10,7 +10,7 @@ use Rattle.cap_rewritten.specs.Rewritten.{IsRewritten}
 
 -- the method at a position stands at an offset
 pub record Names (p : PackageRecord) (offset position : ℕ) : Type 0 where
-  pub method : Method
+  pub method : MethodDescriptor
   pub there : slice_get (described_methods p) position ≡ Some method
   pub stands : method.method_offset ≡ offset
 

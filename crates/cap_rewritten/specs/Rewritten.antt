@@ -3,7 +3,7 @@
 use Rattle.std.specs.Prelude.{◌≡◌, ◌+◌, ◌↔◌, ℕ, Bool, List, length, drop, map, sum_by, All, Option, Some, None, option_map, if◌then◌else◌}
 use Rattle.cap_frame.specs.Tags.{index_aid}
 use Rattle.cap_frame.specs.DirectoryFormat.{DirectoryItems}
-use Rattle.cap_desc.specs.DescriptorFormat.{Method, Class}
+use Rattle.cap_desc.specs.DescriptorFormat.{MethodDescriptor, ClassDescriptor}
 use Rattle.cap_desc.specs.Members.{methods_of}
 use Rattle.cap_components.specs.Parts.{held}
 use Rattle.cap_components.specs.Descriptions.{Description}
@@ -15,16 +15,16 @@ use Rattle.cap_renewal.specs.ClassEdits.{renewed_class}
 use Rattle.cap_renewal.specs.ExportEdits.{renewed_exported}
 use Rattle.jc_decode.specs.declared.symbols.Laid.{Laid}
 use Rattle.cap_rewritten.specs.Changes.{changes, now_at}
-use Rattle.cap_rewritten.specs.Written.{IsWritten, size_in, handlers_in, methods_begin}
+use Rattle.cap_rewritten.specs.Written.{IsWritten, size_written, handlers_in, methods_begin}
 
 -- ---- the Descriptor
 
 -- a method but for what tells of its code
-abbrev pub bare_method : Method → Method
+abbrev pub bare_method : MethodDescriptor → MethodDescriptor
 bare_method m = record m { method_offset = 0; bytecode_count = 0; handler_count = 0; handler_index = 0 }
 
 -- a class with such methods; those of an interface stay, where `interfaces` are the references of the interfaces
-abbrev pub bare_class : (ℕ → Bool) → Class → Class
+abbrev pub bare_class : (ℕ → Bool) → ClassDescriptor → ClassDescriptor
 bare_class interfaces c = record c { methods = if interfaces c.class_ref then c.methods else map bare_method c.methods }
 
 -- the same classes, fields, methods and types
@@ -65,5 +65,5 @@ pub record IsRewritten (p : PackageRecord) (laid : List (Option Laid)) (q : Pack
   -- the methods, with nothing between or after them
   pub each : length laid ≡ length (methods_of p.description.items.classes)
   pub written : All (IsWritten p q (changes p laid q)) (changes p laid q)
-  pub long : length q.methods.info ≡ methods_begin q + sum_by (size_in q) (changes p laid q)
+  pub long : length q.methods.info ≡ methods_begin q + sum_by (size_written q) (changes p laid q)
   pub handlers : length q.methods.handlers ≡ sum_by handlers_in (changes p laid q)

@@ -1,6 +1,6 @@
 -- What is written, component by component, when code is laid for the methods of a package.
 use Rattle.std.specs.Prelude.{◌≡◌, ◌<◌, ◌↔◌, ℕ, List, [], ◌∷◌, length, map, All, Option, Some, None, IfSome, option_map, ◌==◌, if◌then◌else◌}
-use Rattle.cap_desc.specs.DescriptorFormat.{Method}
+use Rattle.cap_desc.specs.DescriptorFormat.{MethodDescriptor}
 use Rattle.cap_desc.specs.Members.{methods_of}
 use Rattle.cap_components.specs.Parts.{held}
 use Rattle.cap_components.specs.PackageRecord.{PackageRecord, names_interface}
@@ -26,7 +26,7 @@ use Rattle.cap_rewritten.specs.Rewritten.{HasSameCounts, IsCustom}
 -- ---- the methods that are written
 
 -- the first entry of the handler table that a method had, where it had one
-abbrev pub first_handler : Method → Option ℕ
+abbrev pub first_handler : MethodDescriptor → Option ℕ
 first_handler m = if m.handler_count == 0 then None else Some m.handler_index
 
 -- the code that is laid for a method, or the header that stood at its offset

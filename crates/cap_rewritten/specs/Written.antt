@@ -1,7 +1,7 @@
 -- What each method is that is written anew, and where it and its handlers stand (JCVM 2.2, section 6.9).
 use Rattle.std.specs.Prelude.{◌≡◌, ◌+◌, ◌*◌, ℕ, Bool, List, length, take, drop, filter, sum_by, Option, Some, None, nat_lt, ◌==◌, if◌then◌else◌}
 use Rattle.cap_bytes.specs.Number.{number_at}
-use Rattle.cap_desc.specs.DescriptorFormat.{Method}
+use Rattle.cap_desc.specs.DescriptorFormat.{MethodDescriptor}
 use Rattle.cap_components.specs.MethodPlaces.{size_by, code_start}
 use Rattle.cap_components.specs.PackageRecord.{PackageRecord, code_of, handlers_of}
 use Rattle.cap_package.specs.HeaderChecks.{header_in}
@@ -14,7 +14,7 @@ use Rattle.cap_rewritten.specs.Changes.{FormerMethod, Change}
 -- ---- what it is
 
 -- it has the code that is laid, with its numbers and its handlers
-pub record HasCode (q : PackageRecord) (laid : Laid) (m : Method) : Type 0 where
+pub record HasCode (q : PackageRecord) (laid : Laid) (m : MethodDescriptor) : Type 0 where
   pub header : header_in q.methods.info m.method_offset ≡ Some (header_of (numbers_of laid))
   pub long : m.bytecode_count ≡ length laid.code
   pub code : code_of q m ≡ laid.code
@@ -26,20 +26,20 @@ unfoldable pub lead_bytes : List ℕ → ℕ → List ℕ
 lead_bytes info offset = take (size_by (number_at 1 offset info)) (drop offset info)
 
 -- it has the header that it had, and no code
-pub record HasHeader (p q : PackageRecord) (old m : Method) : Type 0 where
+pub record HasHeader (p q : PackageRecord) (old m : MethodDescriptor) : Type 0 where
   pub header : lead_bytes q.methods.info m.method_offset ≡ lead_bytes p.methods.info old.method_offset
   pub no_code : m.bytecode_count ≡ 0
   pub no_handlers : m.handler_count ≡ 0
 
-abbrev pub IsAs : PackageRecord → PackageRecord → Method → Option Laid → Method → Type 0
+abbrev pub IsAs : PackageRecord → PackageRecord → MethodDescriptor → Option Laid → MethodDescriptor → Type 0
 IsAs p q old None m = HasHeader p q old m
 IsAs p q old (Some laid) m = HasCode q laid m
 
 -- ---- where it stands
 
 -- the bytes of its header and its code
-abbrev pub size_in : PackageRecord → Change → ℕ
-size_in q c = size_by (number_at 1 c.now.method_offset q.methods.info) + c.now.bytecode_count
+abbrev pub size_written : PackageRecord → Change → ℕ
+size_written q c = size_by (number_at 1 c.now.method_offset q.methods.info) + c.now.bytecode_count
 
 abbrev pub handlers_in : Change → ℕ
 handlers_in c = c.now.handler_count
@@ -64,5 +64,5 @@ methods_begin q = 1 + 8 * length q.methods.handlers
 -- handlers stand after theirs
 pub record IsWritten (p q : PackageRecord) (all : List Change) (c : Change) : Type 0 where
   pub is : IsAs p q c.source.method c.source.laid c.now
-  pub place : c.now.method_offset ≡ methods_begin q + sum_by (size_in q) (filter (stood_before c) all)
+  pub place : c.now.method_offset ≡ methods_begin q + sum_by (size_written q) (filter (stood_before c) all)
   pub index : c.now.handler_index ≡ (if c.now.handler_count == 0 then 0 else sum_by handlers_in (filter (caught_before p c) all))

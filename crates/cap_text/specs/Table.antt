@@ -49,8 +49,8 @@ unfoldable pub custom_lines : DirectoryItems → List ℕ
 custom_lines d = flat_map custom_line d.customs
 
 -- the lines of a package in this format with this identifier and version and with these sizes
-unfoldable pub table_of : Format → Package → DirectoryItems → List ℕ
-table_of format p d = (package_line format p ++ component_lines d) ++ custom_lines d
+unfoldable pub table_lines : Format → Package → DirectoryItems → List ℕ
+table_lines format p d = (package_line format p ++ component_lines d) ++ custom_lines d
 
 abbrev pub component_table : PackageRecord → List ℕ
-component_table p = table_of p.header.format p.header.package_of p.directory
+component_table p = table_lines p.header.format p.header.package_of p.directory

@@ -5,7 +5,7 @@ use Rattle.std.specs.List.{filter_map}
 use Rattle.std.proofs.lemmas.Bool.{ltb-false}
 use Rattle.std.proofs.lemmas.List.Elements.{filter_map-append}
 use Rattle.first_fault.proofs.LeastFaults.{faultless_first}
-use Rattle.cap_desc.specs.DescriptorFormat.{Method}
+use Rattle.cap_desc.specs.DescriptorFormat.{MethodDescriptor}
 use Rattle.cap_components.specs.declared.fault.PackFault.{PackFault}
 use Rattle.cap_components.specs.declared.fault.PackFault.TheVariants.{MethodOverlaps, MethodOutside}
 use Rattle.cap_package.specs.MethodChecks.{code_start, code_end, size_by, share_byte, overlap_fault, overlap_pair, outside_fault}
@@ -14,11 +14,11 @@ use Rattle.cap_package.proofs.StaticsKnown.{both_empty}
 use Rattle.cap_bytes.specs.Number.{number_at}
 
 -- a method ends in the info, two bytes or more after its offset
-pub record EndsInside (info : List ℕ) (m : Method) : Type 0 where
+pub record EndsInside (info : List ℕ) (m : MethodDescriptor) : Type 0 where
   pub two : m.method_offset + 2 ≤ code_end info m
   pub ends : code_end info m ≤ length info
 
-abbrev pub AllEnd : List ℕ → List Method → Type 0
+abbrev pub AllEnd : List ℕ → List MethodDescriptor → Type 0
 AllEnd info [] = Unit {0}
 AllEnd info (m ∷ ms) = EndsInside info m × AllEnd info ms
 
@@ -35,14 +35,14 @@ outside_none true b f e = absurd (cc)
 outside_none false true f e = absurd (cc)
 outside_none false false f e = refl
 
-ends_inside : (info : List ℕ) (n : ℕ) (m : Method) → outside_fault info n m ≡ None → EndsInside info m
+ends_inside : (info : List ℕ) (n : ℕ) (m : MethodDescriptor) → outside_fault info n m ≡ None → EndsInside info m
 unfolding outside_fault code_end code_start
 ends_inside info n m none =
     let s = size_two (number_at 1 m.method_offset info) in
     let e = ltb-false (length info) (code_end info m) (outside_none _ _ (MethodOutside m.method_offset) none) in
     record { two = omega arith; ends = e }
 
-pub all_end : (info : List ℕ) (n : ℕ) (ms : List Method) → filter_map (outside_fault info n) ms ≡ [] → AllEnd info ms
+pub all_end : (info : List ℕ) (n : ℕ) (ms : List MethodDescriptor) → filter_map (outside_fault info n) ms ≡ [] → AllEnd info ms
 all_end info n [] e = tt
 all_end info n (m ∷ ms) e = let f = faultless_first (outside_fault info n m) (filter_map (outside_fault info n) ms) e in (ends_inside info n m f.0, all_end info n ms f.1)
 
@@ -55,7 +55,7 @@ abbrev pub AreDistinct : List ℕ → Type 0
 AreDistinct [] = Unit {0}
 AreDistinct (o ∷ os) = IsNone o os × AreDistinct os
 
-abbrev pub offset_of : Method → ℕ
+abbrev pub offset_of : MethodDescriptor → ℕ
 offset_of m = m.method_offset
 
 test_false : (b : Bool) (f : PackFault) → cond b (Some f) None ≡ None → b ≡ false
@@ -68,7 +68,7 @@ max_same n = grind arith
 least_above : (o a b c : ℕ) → o < a → o < b → o < c → o < min (min a b) c
 least_above o a b c x y z = grind arith
 
-differ : (info : List ℕ) (a b : Method) → EndsInside info a → EndsInside info b → overlap_fault info a b ≡ None → b.method_offset ≡ a.method_offset → ⊥
+differ : (info : List ℕ) (a b : MethodDescriptor) → EndsInside info a → EndsInside info b → overlap_fault info a b ≡ None → b.method_offset ≡ a.method_offset → ⊥
 unfolding overlap_fault
 differ info a b ea eb none same =
     let f = test_false (share_byte info a b) (MethodOverlaps (min a.method_offset b.method_offset) (max a.method_offset b.method_offset)) none in
@@ -80,13 +80,13 @@ differ info a b ea eb none same =
     let above = least_above a.method_offset (code_end info a) (code_end info b) (length info) (omega arith) (omega arith) (omega arith) in
     omega arith
 
-one_apart : (info : List ℕ) (a : Method) (ms : List Method) → EndsInside info a → AllEnd info ms → filter_map (overlap_pair info) (map (λ b. (a, b)) ms) ≡ [] → IsNone a.method_offset (map offset_of ms)
+one_apart : (info : List ℕ) (a : MethodDescriptor) (ms : List MethodDescriptor) → EndsInside info a → AllEnd info ms → filter_map (overlap_pair info) (map (λ b. (a, b)) ms) ≡ [] → IsNone a.method_offset (map offset_of ms)
 one_apart info a [] ea es e = tt
 one_apart info a (b ∷ ms) ea es e =
     let f = faultless_first (overlap_fault info a b) (filter_map (overlap_pair info) (map (λ b. (a, b)) ms)) e in
     (differ info a b ea es.0 f.0, one_apart info a ms ea es.1 f.1)
 
-pub all_apart : (info : List ℕ) (ms : List Method) → AllEnd info ms → filter_map (overlap_pair info) (pairs ms) ≡ [] → AreDistinct (map offset_of ms)
+pub all_apart : (info : List ℕ) (ms : List MethodDescriptor) → AllEnd info ms → filter_map (overlap_pair info) (pairs ms) ≡ [] → AreDistinct (map offset_of ms)
 all_apart info [] es e = tt
 all_apart info (a ∷ ms) es e =
     let parts = both_empty (filter_map (overlap_pair info) (map (λ b. (a, b)) ms)) (filter_map (overlap_pair info) (pairs ms)) (sym (filter_map-append (overlap_pair info) (map (λ b. (a, b)) ms) (pairs ms)) ∙ e) in

@@ -1,7 +1,7 @@
 -- Code that may be laid is short, and its handlers lie in it.
 use Rattle.std.proofs.Common.{◌≤◌, ℕ, Bool, true, false, List, [], ◌∷◌, ◌++◌, length, map, Option, Some, None, arith}
 use Rattle.std.specs.Prelude.{if◌then◌else◌}
-use Rattle.cap_desc.specs.DescriptorFormat.{Method, Class}
+use Rattle.cap_desc.specs.DescriptorFormat.{MethodDescriptor, ClassDescriptor}
 use Rattle.cap_desc.specs.Members.{methods_but}
 use Rattle.cap_components.specs.Parts.{Lent}
 use Rattle.cap_components.specs.PackageRecord.{PackageRecord, names_interface}
@@ -25,20 +25,20 @@ AreLaidWell (None ∷ ls) = AreLaidWell ls
 AreLaidWell (Some l ∷ ls) = IsLaidWell l × AreLaidWell ls
 
 -- each method that has to be written is well in the package
-abbrev AreWell : PackageRecord → List (Option Method) → Type 0
+abbrev AreWell : PackageRecord → List (Option MethodDescriptor) → Type 0
 AreWell p [] = Unit {0}
 AreWell p (None ∷ ms) = AreWell p ms
 AreWell p (Some m ∷ ms) = WasWell p m × AreWell p ms
 
-well_none : (p : PackageRecord) (ms : List Method) (ns : List (Option Method)) → AreWell p ns → AreWell p (map no_method ms ++ ns)
+well_none : (p : PackageRecord) (ms : List MethodDescriptor) (ns : List (Option MethodDescriptor)) → AreWell p ns → AreWell p (map no_method ms ++ ns)
 well_none p [] ns h = h
 well_none p (m ∷ ms) ns h = well_none p ms ns h
 
-well_some : (p : PackageRecord) (ms ks : List Method) (ns : List (Option Method)) → Each (WasWell p) (ms ++ ks) → (Each (WasWell p) ks → AreWell p ns) → AreWell p (map Some ms ++ ns)
+well_some : (p : PackageRecord) (ms ks : List MethodDescriptor) (ns : List (Option MethodDescriptor)) → Each (WasWell p) (ms ++ ks) → (Each (WasWell p) ks → AreWell p ns) → AreWell p (map Some ms ++ ns)
 well_some p [] ks ns h f = f h
 well_some p (m ∷ ms) ks ns h f = (h.0, well_some p ms ks ns h.1 f)
 
-well_for : (p : PackageRecord) (set : ℕ → Bool) (cs : List Class) → Each (WasWell p) (methods_but set cs) → AreWell p (methods_for set cs)
+well_for : (p : PackageRecord) (set : ℕ → Bool) (cs : List ClassDescriptor) → Each (WasWell p) (methods_but set cs) → AreWell p (methods_for set cs)
 well_for p set [] h = tt
 well_for p set (c ∷ cs) h = by (set c.class_ref) h (λ k. well_for p set cs k)
   where
@@ -47,10 +47,10 @@ well_for p set (c ∷ cs) h = by (set c.class_ref) h (λ k. well_for p set cs k)
     by true h f = well_none p c.methods (methods_for set cs) (f h)
     by false h f = well_some p c.methods (methods_but set cs) (methods_for set cs) h f
 
-laid_one : (p : PackageRecord) (m : Method) (l : Laid) → WasWell p m → IsElement p.methods.info (Some m) (Some l) → length l.handlers ≤ 255 → IsLaidWell l
+laid_one : (p : PackageRecord) (m : MethodDescriptor) (l : Laid) → WasWell p m → IsElement p.methods.info (Some m) (Some l) → length l.handlers ≤ 255 → IsLaidWell l
 laid_one p m l w e few = let c = e w.header w.there in record { short = c.short; few = few; inside = c.inside }
 
-laid_all : (p : PackageRecord) (ms : List (Option Method)) (ls : List (Option Laid)) → AreWell p ms → AreElements p.methods.info ms ls → handler_sum ls ≤ 255 → AreLaidWell ls
+laid_all : (p : PackageRecord) (ms : List (Option MethodDescriptor)) (ls : List (Option Laid)) → AreWell p ms → AreElements p.methods.info ms ls → handler_sum ls ≤ 255 → AreLaidWell ls
 laid_all p [] [] w e few = tt
 laid_all p [] (l ∷ ls) w e few = absurd e
 laid_all p (m ∷ ms) [] w e few = tt

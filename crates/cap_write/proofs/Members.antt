@@ -2,7 +2,7 @@
 use Rattle.std.proofs.Common.{◌≡◌, ◌≤◌, ◌<◌, ◌+◌, ℕ, zero, suc, Bool, true, false, cond, leb, List, [], ◌∷◌, ◌++◌, length, drop, map, Option, Some, None, refl, sym, ap, subst, ◌∙◌, arith}
 use Rattle.std.proofs.lemmas.List.{length-take}
 use Rattle.cap_bytes.specs.Number.{number_at}
-use Rattle.cap_desc.specs.DescriptorFormat.{Method, Class}
+use Rattle.cap_desc.specs.DescriptorFormat.{MethodDescriptor, ClassDescriptor}
 use Rattle.cap_desc.specs.Members.{methods_but}
 use Rattle.cap_components.specs.MethodPlaces.{size_by}
 use Rattle.cap_components.specs.Parts.{Lent}
@@ -14,10 +14,10 @@ use Rattle.cap_laying.specs.declared.member.Body.TheVariants.{Code, Header}
 use Rattle.cap_laying.specs.declared.member.Member.{Member}
 use Rattle.cap_laying.specs.Blocks.{total_handlers}
 use Rattle.cap_laying.specs.Member.{handlers_of}
-use Rattle.cap_laying.specs.Members.{IsAlone, AreApart, IsWhole, AreMembers, MayBeWritten}
+use Rattle.cap_laying.specs.Members.{IsAlone, AreApart, HasHandlersInside, AreMembers, MayBeWritten}
 use Rattle.cap_laying.specs.NewPlaces.{IsSmallBody}
 use Rattle.cap_rewritten.specs.Written.{lead_bytes}
-use Rattle.cap_write.specs.Described.{SeenBody, code, lead, SeenMember, body_seen, member_seen, body_at, first_of_them, others_of_them, seen_methods, seen_classes, seen_package}
+use Rattle.cap_write.specs.Described.{SeenBody, code, lead, SeenMember, body_seen, member_seen, seen_body, first_of_them, others_of_them, seen_methods, seen_classes, seen_package}
 use Rattle.cap_write.specs.Condition.{handler_sum, MayBeLaid}
 use Rattle.cap_write.proofs.LaidWell.{IsLaidWell, AreLaidWell, laid_well}
 use Rattle.cap_write.proofs.Apart.{AllEnd, IsNone, AreDistinct, offset_of, all_end, all_apart}
@@ -68,11 +68,11 @@ lead_short : (info : List ℕ) (offset : ℕ) → length (lead_bytes info offset
 unfolding lead_bytes
 lead_short info offset = omega (arith, length-take (size_by (number_at 1 offset info)) (drop offset info), size_four (number_at 1 offset info))
 
-good_body : (info : List ℕ) (offset : ℕ) (l : Option Laid) → IsLaidIf l → IsGood (body_at info offset l)
+good_body : (info : List ℕ) (offset : ℕ) (l : Option Laid) → IsLaidIf l → IsGood (seen_body info offset l)
 good_body info offset None h = lead_short info offset
 good_body info offset (Some l) h = h
 
-good_methods : (info : List ℕ) (ms : List Method) (ls : List (Option Laid)) → AllEnd info ms → AreLaidWell ls → AreGood (length info) (seen_methods info ms ls)
+good_methods : (info : List ℕ) (ms : List MethodDescriptor) (ls : List (Option Laid)) → AllEnd info ms → AreLaidWell ls → AreGood (length info) (seen_methods info ms ls)
 good_methods info [] ls ends laid = tt
 good_methods info (m ∷ ms) ls ends laid =
     let two = ends.0.two in
@@ -83,11 +83,11 @@ good_both : (size : ℕ) (xs ys : List SeenMember) → AreGood size xs → AreGo
 good_both size [] ys a b = b
 good_both size (x ∷ xs) ys a b = (a.0, good_both size xs ys a.1 b)
 
-end_front : (info : List ℕ) (xs ys : List Method) → AllEnd info (xs ++ ys) → AllEnd info xs × AllEnd info ys
+end_front : (info : List ℕ) (xs ys : List MethodDescriptor) → AllEnd info (xs ++ ys) → AllEnd info xs × AllEnd info ys
 end_front info [] ys h = (tt, h)
 end_front info (x ∷ xs) ys h = let r = end_front info xs ys h.1 in ((h.0, r.0), r.1)
 
-good_classes : (set : ℕ → Bool) (info : List ℕ) (cs : List Class) (ls : List (Option Laid)) → AllEnd info (methods_but set cs) → AreLaidWell ls → AreGood (length info) (seen_classes set info cs ls)
+good_classes : (set : ℕ → Bool) (info : List ℕ) (cs : List ClassDescriptor) (ls : List (Option Laid)) → AllEnd info (methods_but set cs) → AreLaidWell ls → AreGood (length info) (seen_classes set info cs ls)
 good_classes set info [] ls ends laid = tt
 good_classes set info (c ∷ cs) ls ends laid = by (set c.class_ref) ends (λ e. good_classes set info cs (drop (length c.methods) ls) e (drop_laid (length c.methods) ls laid))
   where
@@ -105,11 +105,11 @@ map_both : {X Y : Type 0} (f : X → Y) (xs ys : List X) → map f (xs ++ ys) �
 map_both f [] ys = refl
 map_both f (x ∷ xs) ys = ap (λ zs. f x ∷ zs) (map_both f xs ys)
 
-offsets_methods : (info : List ℕ) (ms : List Method) (ls : List (Option Laid)) → map seen_offset (seen_methods info ms ls) ≡ map offset_of ms
+offsets_methods : (info : List ℕ) (ms : List MethodDescriptor) (ls : List (Option Laid)) → map seen_offset (seen_methods info ms ls) ≡ map offset_of ms
 offsets_methods info [] ls = refl
 offsets_methods info (m ∷ ms) ls = ap (λ os. m.method_offset ∷ os) (offsets_methods info ms (others_of_them ls))
 
-pub offsets_classes : (set : ℕ → Bool) (info : List ℕ) (cs : List Class) (ls : List (Option Laid)) → map seen_offset (seen_classes set info cs ls) ≡ map offset_of (methods_but set cs)
+pub offsets_classes : (set : ℕ → Bool) (info : List ℕ) (cs : List ClassDescriptor) (ls : List (Option Laid)) → map seen_offset (seen_classes set info cs ls) ≡ map offset_of (methods_but set cs)
 offsets_classes set info [] ls = refl
 offsets_classes set info (c ∷ cs) ls = by (set c.class_ref) (offsets_classes set info cs (drop (length c.methods) ls))
   where
@@ -135,7 +135,7 @@ abbrev laid_count : Option Laid → ℕ
 laid_count None = 0
 laid_count (Some l) = length l.handlers
 
-count_at : (info : List ℕ) (offset : ℕ) (l : Option Laid) → seen_count (body_at info offset l) ≡ laid_count l
+count_at : (info : List ℕ) (offset : ℕ) (l : Option Laid) → seen_count (seen_body info offset l) ≡ laid_count l
 count_at info offset None = refl
 count_at info offset (Some l) = refl
 
@@ -147,7 +147,7 @@ drop_none : (n : ℕ) → drop {A = Option Laid} n [] ≡ []
 drop_none zero = refl
 drop_none (suc n) = refl
 
-total_methods : (info : List ℕ) (ms : List Method) (ls : List (Option Laid)) → seen_total (seen_methods info ms ls) + handler_sum (drop (length ms) ls) ≤ handler_sum ls
+total_methods : (info : List ℕ) (ms : List MethodDescriptor) (ls : List (Option Laid)) → seen_total (seen_methods info ms ls) + handler_sum (drop (length ms) ls) ≤ handler_sum ls
 total_methods info [] ls = omega arith
 total_methods info (m ∷ ms) [] =
     let r = total_methods info ms [] in
@@ -168,7 +168,7 @@ drop_less zero ls = omega arith
 drop_less (suc n) [] = omega arith
 drop_less (suc n) (l ∷ ls) = let r = drop_less n ls in let s = sum_first l ls in omega arith
 
-total_classes : (set : ℕ → Bool) (info : List ℕ) (cs : List Class) (ls : List (Option Laid)) → seen_total (seen_classes set info cs ls) ≤ handler_sum ls
+total_classes : (set : ℕ → Bool) (info : List ℕ) (cs : List ClassDescriptor) (ls : List (Option Laid)) → seen_total (seen_classes set info cs ls) ≤ handler_sum ls
 total_classes set info [] ls = omega arith
 total_classes set info (c ∷ cs) ls = by (set c.class_ref) (total_classes set info cs (drop (length c.methods) ls))
   where
@@ -182,7 +182,7 @@ total_classes set info (c ∷ cs) ls = by (set c.class_ref) (total_classes set i
 
 -- ---- the members that are seen so
 
-small_good : (b : Body) → IsGood (body_seen b) → IsSmallBody b × IsWhole b
+small_good : (b : Body) → IsGood (body_seen b) → IsSmallBody b × HasHandlersInside b
 small_good (Code laid) h = ((h.short, h.few), h.inside)
 small_good (Header header) h = (h, tt)
 

@@ -3,7 +3,7 @@ use Rattle.std.proofs.Common.{◌≡◌, ◌≤◌, ◌+◌, ◌*◌, ℕ, zero,
 use Rattle.std.proofs.lemmas.List.{length-map}
 use Rattle.cap_bytes.specs.Grammar.{repeat}
 use Rattle.cap_bytes.specs.Spelling.{Spells}
-use Rattle.cap_desc.specs.DescriptorFormat.{Class, class_descriptor_info}
+use Rattle.cap_desc.specs.DescriptorFormat.{ClassDescriptor, class_descriptor_info}
 use Rattle.cap_desc.specs.Members.{methods_but}
 use Rattle.cap_components.specs.Parts.{Lent}
 use Rattle.cap_components.specs.PackageRecord.{PackageRecord, described_methods, names_interface}
@@ -20,7 +20,7 @@ use Rattle.cap_write.specs.PlainComponent.{AreSmallMembers}
 use Rattle.cap_write.proofs.Apart.{offset_of}
 use Rattle.cap_write.proofs.Members.{offsets_classes, seen_offset}
 
-classes_room : (set : ℕ → Bool) (bytes : List ℕ) (n at : ℕ) (cs : List Class) (after : ℕ) → Spells (repeat n class_descriptor_info) bytes at cs after → at + 12 * length (methods_but set cs) ≤ after
+classes_room : (set : ℕ → Bool) (bytes : List ℕ) (n at : ℕ) (cs : List ClassDescriptor) (after : ℕ) → Spells (repeat n class_descriptor_info) bytes at cs after → at + 12 * length (methods_but set cs) ≤ after
 unfolding Spells
 classes_room set bytes zero at cs after h = rw h.0 (omega (arith, h.1))
 classes_room set bytes (suc n) at cs after h =
@@ -30,7 +30,7 @@ classes_room set bytes (suc n) at cs after h =
     let same : g.1 ≡ after = omega (arith, g.3.1) in
     rw g.3.0 (by h.0 g.0 (set h.0.class_ref) (omega (arith, one, rest, same)) (omega (arith, one, rest, same, length-append h.0.methods (methods_but set g.0))))
   where
-    by : (c : Class) (cs : List Class) (b : Bool) → at + 12 * length (methods_but set cs) ≤ after → at + 12 * length (c.methods ++ methods_but set cs) ≤ after → at + 12 * length (cond b (methods_but set cs) (c.methods ++ methods_but set cs)) ≤ after
+    by : (c : ClassDescriptor) (cs : List ClassDescriptor) (b : Bool) → at + 12 * length (methods_but set cs) ≤ after → at + 12 * length (c.methods ++ methods_but set cs) ≤ after → at + 12 * length (cond b (methods_but set cs) (c.methods ++ methods_but set cs)) ≤ after
     by c cs true x y = x
     by c cs false x y = y
 

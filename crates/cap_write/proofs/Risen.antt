@@ -7,7 +7,7 @@ use Rattle.std.proofs.lemmas.Bool.{cases_eq}
 use Rattle.std.proofs.lemmas.Bool.Decides.{nat_tests}
 use Rattle.std.proofs.lemmas.List.{append-nil}
 use Rattle.cap_components.specs.Parts.{Lent, is_of, bytes_of, held}
-use Rattle.cap_write.specs.Filed.{IsRising, lents, Puts, AreFiled}
+use Rattle.cap_write.specs.Filed.{IsRising, lents, PutsFile, AreFiled}
 
 held_old : (parts others : List Lent) (tag : ℕ) (file : List ℕ) → held parts tag ≡ Some file → held (parts ++ others) tag ≡ Some file
 held_old [] others tag file h = absurd (cc)
@@ -66,7 +66,7 @@ held_kept k parts file tag other = by (held parts tag) refl
     by None e = held_new parts (lents k file) tag e ∙ lents_other k tag file other ∙ sym e
     by (Some f) e = held_old parts (lents k file) tag f e ∙ sym e
 
-pub filed_more : (Is : ℕ → Option (List ℕ) → Type 0) (k : ℕ) (old new : List Lent) → AreFiled Is k old → Puts (Is k) k old new → AreFiled Is (k + 1) new
+pub filed_more : (Is : ℕ → Option (List ℕ) → Type 0) (k : ℕ) (old new : List Lent) → AreFiled Is k old → PutsFile (Is k) k old new → AreFiled Is (k + 1) new
 filed_more Is k old new f p = subst (AreFiled Is (k + 1)) (sym p.put) (record {
   each = λ tag lt. by tag lt (cases_eq tag k);
   none = λ tag le. held_kept k old p.file tag (λ e. omega arith) ∙ f.none tag (omega arith);

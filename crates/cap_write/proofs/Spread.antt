@@ -9,7 +9,7 @@ use Rattle.jc_decode.specs.declared.pool_index.PoolIndex.{PoolIndex}
 use Rattle.jc_decode.specs.declared.pool_index.IndexWidth.{IndexWidth}
 use Rattle.jc_decode.specs.declared.pool_index.IndexWidth.TheVariants.{One, Two}
 use Rattle.jc_decode.specs.declared.symbols.Handler.{Handler}
-use Rattle.jc_decode.specs.PoolIndex.{bytes_of, pool_index}
+use Rattle.jc_decode.specs.PoolIndex.{bytes_of_index, pool_index}
 use Rattle.jc_decode.specs.Listing.{listing, listing_end, end_from as insns_end, Lists}
 use Rattle.jc_decode.proofs.Decoded.{IsWithin-decoded}
 use Rattle.jc_decode.proofs.Listed.{all-are-listed}
@@ -77,7 +77,7 @@ record AreFew (at long : ℕ) (one two : List ℕ) : Type 0 where
   two_between : AreBetween at (at + long) two
   few : 2 * (length one + length two) ≤ long
 
-one_index : (at long place : ℕ) (w : IndexWidth) → at ≤ place → place ≤ at + long → 2 ≤ long → AreFew at long (cond (bytes_of w == 1) (place ∷ []) []) (cond (bytes_of w == 2) (place ∷ []) [])
+one_index : (at long place : ℕ) (w : IndexWidth) → at ≤ place → place ≤ at + long → 2 ≤ long → AreFew at long (cond (bytes_of_index w == 1) (place ∷ []) []) (cond (bytes_of_index w == 2) (place ∷ []) [])
 one_index at long place One a b c = record { one_between = between_one at (at + long) place a b; two_between = between_none at (at + long) (omega arith); few = omega arith }
 one_index at long place Two a b c = record { one_between = between_none at (at + long) (omega arith); two_between = between_one at (at + long) place a b; few = omega arith }
 

@@ -9,7 +9,7 @@ use Rattle.cap_renewal.specs.NewMethods.{to}
 use Rattle.cap_laying.specs.declared.member.Body.{Body}
 use Rattle.cap_laying.specs.declared.member.Body.TheVariants.{Code, Header}
 use Rattle.cap_laying.specs.declared.member.Member.{Member}
-use Rattle.cap_laying.specs.Blocks.{ArePlaced, IsPlacedBody, blocks, entries_of, indexes_of}
+use Rattle.cap_laying.specs.Blocks.{ArePlacedBodies, IsPlacedBody, blocks, entries_of, handler_indexes}
 use Rattle.cap_laying.specs.HandlerTable.{AreInside, entries_at}
 use Rattle.cap_laying.specs.Member.{by_offset, handlers_of, lead_size}
 use Rattle.cap_laying.specs.MethodInfo.{AreSmallEntries}
@@ -42,7 +42,7 @@ unfolding Fits
 all_fit [] h = tt
 all_fit (m ∷ ms) h = (h.0, all_fit ms h.1)
 
-small_all : (news : List (Option NewMethod)) (bs : List Member) → ArePlaced news bs → All Fits bs → AreSmallEntries (entries_of news bs)
+small_all : (news : List (Option NewMethod)) (bs : List Member) → ArePlacedBodies news bs → All Fits bs → AreSmallEntries (entries_of news bs)
 unfolding Fits
 small_all news [] placed fit = tt
 small_all news (b ∷ bs) placed fit =
@@ -52,7 +52,7 @@ pub table_stands : (size room : ℕ) (ms : List Member) → MayBeWritten size ms
 unfolding written_info written_size new_places
 table_stands size room ms may fit short =
     let bs = blocks room ms in
-    let placed = blocks_placed size room (start_of room ms) (indexes_of size bs) ms may.each may.apart short in
+    let placed = blocks_placed size room (start_of room ms) (handler_indexes size bs) ms may.each may.apart short in
     let entries = entries_of (new_places size room ms) bs in
     let few : length entries ≤ 255 = omega (arith, length_table (new_places size room ms) bs, total_blocks room ms, may.few) in
     let small : AreSmallEntries entries = small_all (new_places size room ms) bs placed (blocks_all Fits room ms (all_fit ms fit)) in

@@ -1,7 +1,7 @@
 -- What is asked of the code that a package is written with.
 use Rattle.std.specs.Prelude.{◌≡◌, ◌≤◌, ◌+◌, ℕ, Bool, List, [], ◌∷◌, ◌++◌, length, map, Option, Some, None, if◌then◌else◌}
 use Rattle.cap_method.specs.MethodFormat.{Header}
-use Rattle.cap_desc.specs.DescriptorFormat.{Method, Class}
+use Rattle.cap_desc.specs.DescriptorFormat.{MethodDescriptor, ClassDescriptor}
 use Rattle.cap_components.specs.PackageRecord.{PackageRecord, names_interface}
 use Rattle.cap_package.specs.HeaderChecks.{header_in}
 use Rattle.jc_decode.specs.declared.symbols.Laid.{Laid}
@@ -15,21 +15,21 @@ handler_sum (Some l ∷ ls) = length l.handlers + handler_sum ls
 -- ---- an element for each method record
 
 -- the method records of classes in order; of a class that is an interface nothing is asked but their number
-abbrev pub no_method : Method → Option Method
+abbrev pub no_method : MethodDescriptor → Option MethodDescriptor
 no_method m = None
 
-abbrev pub methods_for : (ℕ → Bool) → List Class → List (Option Method)
+abbrev pub methods_for : (ℕ → Bool) → List ClassDescriptor → List (Option MethodDescriptor)
 methods_for interfaces [] = []
 methods_for interfaces (c ∷ cs) =
     (if interfaces c.class_ref then map no_method c.methods else map Some c.methods) ++ methods_for interfaces cs
 
 -- the element of a method: of a class, what may be laid under its header; of an interface, None
-abbrev pub IsElement : List ℕ → Option Method → Option Laid → Type 0
+abbrev pub IsElement : List ℕ → Option MethodDescriptor → Option Laid → Type 0
 IsElement info None None = Unit {0}
 IsElement info None (Some l) = ⊥
 IsElement info (Some m) l = (h : Header) → header_in info m.method_offset ≡ Some h → IsFor h l
 
-abbrev pub AreElements : List ℕ → List (Option Method) → List (Option Laid) → Type 0
+abbrev pub AreElements : List ℕ → List (Option MethodDescriptor) → List (Option Laid) → Type 0
 AreElements info [] [] = Unit {0}
 AreElements info [] (l ∷ ls) = ⊥
 AreElements info (m ∷ ms) [] = ⊥

@@ -12,7 +12,7 @@ lents tag None = []
 lents tag (Some file) = record { part = tag; bytes = file } ∷ []
 
 -- a file that is such is put, if there is one
-pub record Puts (Is : Option (List ℕ) → Type 0) (tag : ℕ) (old new : List Lent) : Type 0 where
+pub record PutsFile (Is : Option (List ℕ) → Type 0) (tag : ℕ) (old new : List Lent) : Type 0 where
   pub file : Option (List ℕ)
   pub is : Is file
   pub put : new ≡ old ++ lents tag file

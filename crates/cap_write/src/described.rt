@@ -5,7 +5,7 @@ ghost use Rattle.cap_desc.specs.Descriptors.{descriptor_seen};
 ghost use Rattle.cap_desc.specs.MemberLists.{methods_left};
 ghost use Rattle.cap_desc.specs.MemberRecords.{method_seen};
 ghost use Rattle.cap_rewritten.specs.Written.{lead_bytes};
-ghost use Rattle.cap_write.specs.Described.{body_at, body_seen, first_of_them, member_seen, seen_class, seen_classes, seen_method, seen_methods};
+ghost use Rattle.cap_write.specs.Described.{seen_body, body_seen, first_of_them, member_seen, seen_class, seen_classes, seen_method, seen_methods};
 
 use cap_bytes::View;
 use cap_desc::{DescClass, DescMethods, DescPart, MethodInfo};
@@ -102,7 +102,7 @@ fn member<'a>(method: &MethodInfo, info: View<'a>, laid: &'a [Option<Laid>]) -> 
 
 /// What it is written as.
 fn body<'a>(info: View<'a>, offset: u16, laid: &'a [Option<Laid>]) -> Body<'a>
-    ensures { body_seen result ≡ body_at info.entry.bytes.now offset (first_of_them laid.now) }
+    ensures { body_seen result ≡ seen_body info.entry.bytes.now offset (first_of_them laid.now) }
 {
     match laid.first() {
         Some(Some(laid)) => Body::Code(laid),

@@ -1,7 +1,7 @@
 ghost use Rattle.std.specs.Prelude.{IfOk, IsNone, OnOk};
 ghost use Rattle.cap_components.specs.Parts.{held};
 ghost use Rattle.cap_write.specs.Files.{AreShortInfos, IsFileOf};
-ghost use Rattle.cap_write.specs.Filed.{AreFiled, Puts};
+ghost use Rattle.cap_write.specs.Filed.{AreFiled, PutsFile};
 
 use crate::files::file;
 use crate::index::NewIndex;
@@ -38,7 +38,7 @@ fn put_part(
 ) -> Result<(), AllocError>
     requires short { AreShortInfos written.now index.now }
     requires absent { IsNone (held parts.old tag) }
-    ensures { OnOk result (Puts (IsFileOf «package».now written.now index.now tag) tag parts.old parts.new) }
+    ensures { OnOk result (PutsFile (IsFileOf «package».now written.now index.now tag) tag parts.old parts.new) }
 {
     match file(alloc, package, written, index, tag)? {
         Some(bytes) => parts.put(Part(tag), bytes),

@@ -6,20 +6,20 @@ use Rattle.byteorder.specs.Numbers.{length-bytes_high_first}
 use Rattle.cap_bytes.specs.declared.fault.FormKind.{FormKind}
 use Rattle.cap_bytes.specs.Grammar.{Grammar, give, number, piece, finish, ◌>>=◌}
 use Rattle.cap_bytes.specs.Spelling.{Spells, Stands}
-use Rattle.cap_writing.specs.Writing.{Writes}
+use Rattle.cap_writing.specs.Writing.{SpellsInPlace}
 use Rattle.cap_writing.proofs.Patches.{number_there}
 
-pub writes_give : {X : Type 0} (total at : ℕ) (x : X) → Writes total (give x) at [] x
+pub writes_give : {X : Type 0} (total at : ℕ) (x : X) → SpellsInPlace total (give x) at [] x
 unfolding Spells
 writes_give total at x = record { there = λ before after l t. (refl, omega arith) }
 
-pub writes_number : (total w n at : ℕ) (wrong : ℕ → Option FormKind) → n < 256 ^ w → wrong n ≡ None → Writes total (number w wrong) at (big_bytes w n) n
+pub writes_number : (total w n at : ℕ) (wrong : ℕ → Option FormKind) → n < 256 ^ w → wrong n ≡ None → SpellsInPlace total (number w wrong) at (big_bytes w n) n
 unfolding Spells
 writes_number total w n at wrong fits right = record {
   there = λ before after l t. (number_there w n at before after fits l, right, ap (λ k. at + k) (length-bytes_high_first w n));
 }
 
-pub writes_piece : (total n at : ℕ) (bytes : List ℕ) → length bytes ≡ n → Writes total (piece n) at bytes bytes
+pub writes_piece : (total n at : ℕ) (bytes : List ℕ) → length bytes ≡ n → SpellsInPlace total (piece n) at bytes bytes
 unfolding Spells
 writes_piece total n at bytes len = record {
   there = λ before after l t.
@@ -31,13 +31,13 @@ writes_piece total n at bytes len = record {
       );
 }
 
-pub writes_finish : (total at : ℕ) → total ≡ at → Writes total finish at [] (tt {0})
+pub writes_finish : (total at : ℕ) → total ≡ at → SpellsInPlace total finish at [] (tt {0})
 unfolding Spells
 writes_finish total at e = record {
   there = λ before after l t. let whole = length-append before after in (omega arith, omega arith);
 }
 
-pub writes_then : {X Y : Type 0} (total at : ℕ) (g : Grammar X) (next : X → Grammar Y) (out rest : List ℕ) (x : X) (y : Y) → Writes total g at out x → Writes total (next x) (at + length out) rest y → Writes total (g >>= next) at (out ++ rest) y
+pub writes_then : {X Y : Type 0} (total at : ℕ) (g : Grammar X) (next : X → Grammar Y) (out rest : List ℕ) (x : X) (y : Y) → SpellsInPlace total g at out x → SpellsInPlace total (next x) (at + length out) rest y → SpellsInPlace total (g >>= next) at (out ++ rest) y
 unfolding Spells
 writes_then total at g next out rest x y first second = record {
   there = λ before after l t.
@@ -60,7 +60,7 @@ writes_then total at g next out rest x y first second = record {
     pair_is e d = rw (e, d) refl
 
 -- bytes that spell a value whole stand for it
-pub writes_stands : {X : Type 0} (g : Grammar X) (out : List ℕ) (x : X) → Writes (length out) g 0 out x → Stands g out x
+pub writes_stands : {X : Type 0} (g : Grammar X) (out : List ℕ) (x : X) → SpellsInPlace (length out) g 0 out x → Stands g out x
 unfolding Stands
 writes_stands g out x w =
     let s : Spells g (out ++ []) 0 x (0 + length out) = w.there [] [] refl (omega arith) in

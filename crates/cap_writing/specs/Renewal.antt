@@ -10,7 +10,7 @@ pub record AreSame (low high : ℕ) (bytes out : List ℕ) : Type 0 where
   pub each : (k : ℕ) → low ≤ k → k < high → slice_index out k ≡ slice_index bytes k
 
 -- the number of an edit stands at its place, in its two bytes
-pub record IsThere (e : Edit) (out : List ℕ) : Type 0 where
+pub record IsApplied (e : Edit) (out : List ℕ) : Type 0 where
   pub number : number_at 2 e.at out ≡ Some e.number
   pub bytes : take 2 (drop e.at out) ≡ big_bytes 2 e.number
 
@@ -18,7 +18,7 @@ pub record IsThere (e : Edit) (out : List ℕ) : Type 0 where
 abbrev pub IsEdited : List Edit → ℕ → ℕ → List ℕ → List ℕ → Type 0
 IsEdited [] low high bytes out = AreSame low high bytes out
 IsEdited (e ∷ es) low high bytes out =
-    AreSame low e.at bytes out × IsThere e out × IsEdited es (e.at + 2) high bytes out
+    AreSame low e.at bytes out × IsApplied e out × IsEdited es (e.at + 2) high bytes out
 
 -- whole bytes are others but for the numbers of the edits
 pub record Renews (edits : List Edit) (bytes out : List ℕ) : Type 0 where

@@ -4,6 +4,6 @@ use Rattle.cap_bytes.specs.Grammar.{Grammar}
 use Rattle.cap_bytes.specs.Spelling.{Spells}
 
 -- the bytes spell the value at a place of so many bytes, whatever stands before and after
-pub record Writes {X : Type 0} (total : ℕ) (g : Grammar X) (at : ℕ) (out : List ℕ) (x : X) : Type 0 where
+pub record SpellsInPlace {X : Type 0} (total : ℕ) (g : Grammar X) (at : ℕ) (out : List ℕ) (x : X) : Type 0 where
   pub there : (before after : List ℕ) → length before ≡ at → length before + (length out + length after) ≡ total
       → Spells g (before ++ (out ++ after)) at x (at + length out)

@@ -20,13 +20,13 @@ start_by OutOfMemory = Memory
 start_by _ = Words
 
 -- a length as 32 bits count it, where it stands still at their end
-abbrev pub counted : ℕ → ℕ
-counted n = min n (2 ^ 32 - 1)
+abbrev pub in_32_bits : ℕ → ℕ
+in_32_bits n = min n (2 ^ 32 - 1)
 
 -- the length of the longest word, and no less than this
 abbrev pub longest_from : ℕ → List (List ℕ) → ℕ
 longest_from least [] = least
-longest_from least (word ∷ words) = longest_from (max least (counted (length word))) words
+longest_from least (word ∷ words) = longest_from (max least (in_32_bits (length word))) words
 
 -- the command that the words spell ends with this status over some folders, the memory of some card and some output
 pub record EndsWith (words : List (List ℕ)) (status : ℕ) : Type 0 where

@@ -7,7 +7,7 @@ ghost use Rattle.std.specs.Prelude.{◌≡◌, ◌≤◌, map, drop, length, str
 ghost use Rattle.std.specs.Vec.Iter.{into_iter_items};
 ghost use Rattle.std.specs.IoError.{error_kind};
 ghost use Rattle.capcheck.specs.declared.NoStart.TheVariants.{Memory};
-ghost use Rattle.capcheck.specs.Start.{EndsWith, counted, longest_from, start_by, status_of};
+ghost use Rattle.capcheck.specs.Start.{EndsWith, in_32_bits, longest_from, start_by, status_of};
 
 use cap_files::{DirFolder, OutSink, Words};
 use capcheck_core::capcheck;
@@ -120,7 +120,7 @@ fn no_words(error: io::Error) -> NoStart
 /// The length of the longest word in bytes.
 fn longest(words: &Words) -> u32
     ensures value { result ≡ longest_from 0 words.now }
-    ensures longest { All (λ word. counted (length word) ≤ result) words.now }
+    ensures longest { All (λ word. in_32_bits (length word) ≤ result) words.now }
 {
     let mut longest = 0;
     'words: for word in words.iter() {

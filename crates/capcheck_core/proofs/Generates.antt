@@ -49,11 +49,11 @@ use Rattle.vm_offend.proofs.Accepting.{accepted-typed}
 use Rattle.cap_gen.proofs.Placed.{at_each}
 use Rattle.capcheck_core.specs.declared.verdict.Verdict.{Verdict}
 use Rattle.capcheck_core.specs.declared.verdict.Verdict.TheVariants.{Done, Refused, Limit, Malformed, Usage, ReadFault, StoreFault, Memory}
-use Rattle.capcheck_core.specs.Generate.{generated, run_of, short_of, short_ended, AreBegun, AreRun, ComeOfRuns, HaveEntries, GeneratesIn, IsKeptOrBegun, IsNew, IsRunOf, RunsAll, TellsParts}
+use Rattle.capcheck_core.specs.Generate.{generated, run_of, short_result, short_ended, AreBegun, AreRun, ComeOfRuns, HaveEntries, GeneratesIn, IsKeptOrBegun, IsNew, ComesOfRun, RunsAll, TellsParts}
 use Rattle.capcheck_core.specs.Defend.{ComesTo, method_entered}
 use Rattle.capcheck_core.specs.Outside.{Card, Outside, Untouched, card}
 use Rattle.capcheck_core.specs.Run.{HoldsWords}
-use Rattle.capcheck_core.specs.Stores.{AreInOrder, AreStored}
+use Rattle.capcheck_core.specs.Stores.{AreInStoreOrder, AreStored}
 use Rattle.capcheck_core.specs.Transform.{StopsBefore}
 use Rattle.capcheck_core.specs.Verify.{HaveCardTypings}
 use Rattle.capcheck_core.proofs.Ran.{holds, wider}
@@ -151,7 +151,7 @@ plain_of (endings.Plain p) = p
 plain_of (endings.Faulted f) = plains.Spent
 
 -- the short of what a run comes to is that of its ending
-pub ended_short : (o : Outcome Cell) (ending : PlainEnding) → answer (ending_of o) ≡ endings.Plain ending → short_of o ≡ short_ended ending
+pub ended_short : (o : Outcome Cell) (ending : PlainEnding) → answer (ending_of o) ≡ endings.Plain ending → short_result o ≡ short_ended ending
 ended_short (running s) ending is = let spent : plains.Spent ≡ ending = ap plain_of is in ap short_ended spent
 ended_short (ended (endings.Plain p) s) ending is = let same : p ≡ ending = ap plain_of is in ap short_ended same
 ended_short (ended (endings.Faulted f) s) ending is = absurd (cc)
@@ -163,7 +163,7 @@ pub record HaveRun (w : Linked) (k : ℕ) (begun c : Card) (sum : ℤ) : Type 0 
   pub outcomes : List (Outcome Cell)
   pub count : length outcomes ≡ k
   pub come : ComeOfRuns w outcomes
-  pub total : sum ≡ fold ◌+ℤ◌ (pos 0) (map short_of outcomes)
+  pub total : sum ≡ fold ◌+ℤ◌ (pos 0) (map short_result outcomes)
   pub holds : ((k ≡ 0) × (c ≡ begun)) ⊎ IsSomeAnd (slice_get outcomes (k - 1)) (HoldsWords w c)
 
 pub none_run : (w : Linked) (c : Card) → HaveRun w 0 c c (pos 0)
@@ -193,13 +193,13 @@ come_more w os o come comes k p there =
       | inr last ↦ subst (λ n. ComesTo w (run_of n) p) (sym last.0) (subst (ComesTo w (run_of (length os))) last.1 comes)
     ]
 
-sum_more : (start : ℤ) (os : List (Outcome Cell)) (o : Outcome Cell) → fold ◌+ℤ◌ start (map short_of (os ++ o ∷ []))
-    ≡ fold ◌+ℤ◌ start (map short_of os) +ℤ short_of o
+sum_more : (start : ℤ) (os : List (Outcome Cell)) (o : Outcome Cell) → fold ◌+ℤ◌ start (map short_result (os ++ o ∷ []))
+    ≡ fold ◌+ℤ◌ start (map short_result os) +ℤ short_result o
 sum_more start [] o = refl
-sum_more start (p ∷ ps) o = sum_more (start +ℤ short_of p) ps o
+sum_more start (p ∷ ps) o = sum_more (start +ℤ short_result p) ps o
 
 -- one more
-pub one_run_more : (w : Linked) (k : ℕ) (begun before c : Card) (sum more : ℤ) (ending : PlainEnding) → HaveRun w k begun before sum → IsRunOf w k c ending
+pub one_run_more : (w : Linked) (k : ℕ) (begun before c : Card) (sum more : ℤ) (ending : PlainEnding) → HaveRun w k begun before sum → ComesOfRun w k c ending
     → more ≡ sum +ℤ short_ended ending → HaveRun w (k + 1) begun c more
 one_run_more w k begun before c sum more ending have is adds =
     let o = is.outcome in
@@ -207,7 +207,7 @@ one_run_more w k begun before c sum more ending have is adds =
     let count : length (os ++ o ∷ []) ≡ k + 1 = length_push os o ∙ ap (λ n. n + 1) have.count in
     let there : slice_get (os ++ o ∷ []) k ≡ Some o = subst (λ n. slice_get (os ++ o ∷ []) n ≡ Some o) have.count (last_there os o) in
     let before_it : (k + 1) - 1 ≡ k = omega arith in
-    let old_sum : ℤ = fold ◌+ℤ◌ (pos 0) (map short_of os) in
+    let old_sum : ℤ = fold ◌+ℤ◌ (pos 0) (map short_result os) in
     record {
       outcomes = os ++ o ∷ [];
       count = count;
@@ -309,7 +309,7 @@ begun_in_card w ram heap fields others whole begun (Err e) long is some =
 pub one_run : (w : Linked) (k number : ℕ) (m after : Machine) (ram heap statics ram_after heap_after statics_after : List ℕ) (ending : PlainEnding)
     → method_entered w (run_of k).entry ≡ Some number → IsBegun w number (run_of k).args m ram heap statics
     → Follows w 1000 (running (entry_state tagged w number (run_of k).args)) after ram_after heap_after statics_after ending
-    → IsRunOf w k (card ram_after heap_after statics_after) ending
+    → ComesOfRun w k (card ram_after heap_after statics_after) ending
 one_run w k number m after ram heap statics ram_after heap_after statics_after ending entered begun follows = record {
   outcome = follows.after;
   comes = record { number = number; entered = entered; begins = begun.begins; runs = follows.runs };
@@ -392,7 +392,7 @@ pub untold_there : (seed : ℕ) (w : Linked) (parts : List Lent) (c : Card) → 
 untold_there seed w parts c made = (made, inl refl)
 
 -- all is stored, and of it is told
-pub all_told : (g : GenerateRequest) (w : Linked) (parts stores : List Lent) (before after : Outside) (verdict : Verdict) → AreInOrder parts (Some roles) stores
+pub all_told : (g : GenerateRequest) (w : Linked) (parts stores : List Lent) (before after : Outside) (verdict : Verdict) → AreInStoreOrder parts (Some roles) stores
     → AreStored g.out stores before.folders after.folders → TellsParts g.seed w parts before.card after.card verdict → GeneratesIn g w before after verdict
 all_told g w parts stores before after (Done text) order stored told =
     record { stored = record { stores = stores; brings = record { parts = parts; made = told.0; order = order }; stored = stored }; told = told.1 }

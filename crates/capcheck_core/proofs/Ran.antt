@@ -24,7 +24,7 @@ use Rattle.vm_offend.specs.declared.machine.Machine.{Machine}
 use Rattle.vm_offend.specs.Sized.{static_cells}
 use Rattle.vm_offend.specs.Held.{AreWordsOf, IsOutcomeOfRun, Follows, state_of, ending_of}
 use Rattle.vm_offend.specs.Begun.{IsBegun}
-use Rattle.vm_text.specs.Left.{Readout, numbers_of, left_by}
+use Rattle.vm_text.specs.Left.{Readout, number_array, left_by}
 use Rattle.vm_text.specs.Lent.{lent_state, IsLentRun}
 use Rattle.vm_text.specs.Laws.{TextsAreAlike}
 use Rattle.vm_text.specs.Text.{left_text, run_text, outcome_text}
@@ -94,9 +94,9 @@ holds w m ram heap statics o are =
 
 -- ---- the text
 
-named_same : (x y : State ℕ) (h : ℕ) → x.heap ≡ y.heap → option_and_then (numbers_of words) (object_at x h) ≡ option_and_then (numbers_of words) (object_at y h)
+named_same : (x y : State ℕ) (h : ℕ) → x.heap ≡ y.heap → option_and_then (number_array words) (object_at x h) ≡ option_and_then (number_array words) (object_at y h)
 named_same x y zero objects = refl
-named_same x y (suc n) objects = ap (λ all. option_and_then (numbers_of words) (slice_get all n)) objects
+named_same x y (suc n) objects = ap (λ all. option_and_then (number_array words) (slice_get all n)) objects
 
 -- frames are not told
 left_same : (w : Linked) (x y : State ℕ) → x.heap ≡ y.heap → x.statics ≡ y.statics → left_by words w x ≡ left_by words w y

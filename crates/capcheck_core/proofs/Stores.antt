@@ -14,7 +14,7 @@ use Rattle.cap_package.specs.Parts.{Lent, held, HasEachOnce}
 use Rattle.cap_components.proofs.PartsLemmas.{held-other, held-same, HasEachOnce-push}
 use Rattle.capcheck_core.specs.Loads.{Rise, with_file}
 use Rattle.capcheck_core.specs.Roles.{roles_tag}
-use Rattle.capcheck_core.specs.Stores.{stored, AreStored, IsPartlyStored, IsBrokenOff, AreInOrder, AreThere, HasAllButHeader, HasHeaderLast, header_tag}
+use Rattle.capcheck_core.specs.Stores.{stored, AreStored, IsPartlyStored, IsBrokenOff, AreInStoreOrder, StandWhole, HasAllButHeader, HasHeaderLast, header_tag}
 use Rattle.capcheck_core.proofs.Loads.{none_some, lent_of, above_none, below_none, rise_wider, rise_push, file_other, file_same}
 
 -- ---- one store more
@@ -135,7 +135,7 @@ bytes_of_some (Some bytes) some = (bytes, refl)
 
 pub all_in_order : (parts others middle stores : List Lent) (top : ℕ) (roles : Option (List ℕ)) → AreInOrderBelow parts top others → top ≡ 256
     → IsSome (held parts header_tag) → middle ≡ with_file others roles_tag roles → stores ≡ with_file middle header_tag (held parts header_tag)
-    → AreInOrder parts roles stores
+    → AreInStoreOrder parts roles stores
 all_in_order parts others middle stores top roles so_far whole some first last =
     let header = bytes_of_some (held parts header_tag) some in
     let all : AreInOrderBelow parts 256 others = subst (λ n. AreInOrderBelow parts n others) whole so_far in
@@ -189,7 +189,7 @@ nothing None none = refl
 nothing (Some bytes) none = absurd cc
 
 -- a part that is stored once is there
-get_stored : (dir : List ℕ) (old : Parts) (parts : List Lent) → HasEachOnce parts → AreThere dir parts (stored dir old parts)
+get_stored : (dir : List ℕ) (old : Parts) (parts : List Lent) → HasEachOnce parts → StandWhole dir parts (stored dir old parts)
 get_stored dir old [] each tag bytes is = absurd (none_some bytes is)
 get_stored dir old (l ∷ ls) each tag bytes is = by (eqb l.part tag) refl (get_stored dir (map.insert old (l.part ∷ dir) l.bytes) ls each.1 tag bytes)
   where
@@ -290,7 +290,7 @@ roles_each others (Some bytes) rise =
     (is_none (held others roles_tag) (below_none 2 256 0 others rise (omega arith)))
 
 pub header_last : (dir : List ℕ) (parts : List Lent) (roles : Option (List ℕ)) (stores : List Lent) (before after : Folders)
-    (order : AreInOrder parts roles stores) → IsBrokenOff dir stores before after
+    (order : AreInStoreOrder parts roles stores) → IsBrokenOff dir stores before after
     → HasHeaderLast dir order.header (with_file order.others roles_tag roles) before after
 header_last dir parts roles stores before after order off = over after.held before.held off.held
   where

@@ -8,7 +8,7 @@ use Rattle.jc_base.specs.World.{Linked}
 use Rattle.jc_control.specs.Method.{Method, IsMethodOf}
 use Rattle.cap_text.specs.declared.line.MethodNumber.{MethodNumber}
 use Rattle.xf_pack.specs.Transformed.{IsTransformed}
-use Rattle.capcheck_core.specs.Stores.{AreInOrder, IsBrokenOff, header_tag}
+use Rattle.capcheck_core.specs.Stores.{AreInStoreOrder, IsBrokenOff, header_tag}
 use Rattle.capcheck_core.specs.Transform.{roles_beside, IsBroughtInPart}
 use Rattle.capcheck_core.specs.Typed.{number_of}
 use Rattle.capcheck_core.proofs.Stores.{header_last}
@@ -19,10 +19,10 @@ has_header parts p stands = subst IsSome (sym stands.said.header.1.there) refl
 
 -- where the stores are broken off, the Header is the last of them
 pub brought_in_part : (packages : List PackageRecord) (roles : List ℕ) (w : Linked) (out : List ℕ) (parts stores : List Lent) (given : Option (List ℕ))
-    (before after : Folders) → IsTransformed packages roles w parts → AreInOrder parts given stores → given ≡ roles_beside packages roles
+    (before after : Folders) → IsTransformed packages roles w parts → AreInStoreOrder parts given stores → given ≡ roles_beside packages roles
     → IsBrokenOff out stores before after → IsBroughtInPart packages roles w out before after
 brought_in_part packages roles w out parts stores given before after made order beside off =
-    let ordered : AreInOrder parts (roles_beside packages roles) stores = subst (λ r. AreInOrder parts r stores) beside order in
+    let ordered : AreInStoreOrder parts (roles_beside packages roles) stores = subst (λ r. AreInStoreOrder parts r stores) beside order in
     record {
       stores = stores;
       brings = record { parts = parts; made = made; order = ordered };

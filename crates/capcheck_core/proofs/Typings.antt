@@ -18,12 +18,12 @@ use Rattle.jc_rules.specs.Flow.{IsLeastTyping, HasFlowTyping}
 use Rattle.jc_rules.specs.Typing.{state_at}
 use Rattle.jc_flow.specs.declared.end.FlowEnd.{FlowEnd}
 use Rattle.jc_flow.specs.declared.end.FlowEnd.TheVariants.{NoTyping, Code, BadTarget, FallsOff, BadHandler, Memory}
-use Rattle.jc_flow.specs.Infer.{TellsEnd, HasNone}
+use Rattle.jc_flow.specs.Infer.{TellsEnd, LacksTyping}
 use Rattle.cap_text.specs.declared.line.MethodNumber.{MethodNumber}
 use Rattle.cap_text.specs.Line.{typed_line, refused_flow_line}
 use Rattle.jc_control.specs.Asked.{IsOfLast}
 use Rattle.capcheck_core.specs.Typed.{is_of_last, AreTypedBelow, count_of_last, number_of, TellsTyped, TellsUntyped}
-use Rattle.capcheck_core.specs.CheckEnds.{IsTypedAt, FailsAt}
+use Rattle.capcheck_core.specs.CheckEnds.{IsTypedMethod, FailsMethod}
 
 -- ---- a method by its number
 
@@ -33,7 +33,7 @@ known w n P some m is e =
     let at : IsSomeAnd (method_in w m.number) P = subst (λ k. IsSomeAnd (method_in w k) P) (sym e) some in
     subst (λ o. IsSomeAnd o P) (in-world w m is) at
 
-pub typed_at : (w : Linked) (n : ℕ) (t : List (Option Frame)) → IsSomeAnd (method_in w n) (λ m. IsLeastTyping w m Top (state_at t)) → IsTypedAt w n
+pub typed_at : (w : Linked) (n : ℕ) (t : List (Option Frame)) → IsSomeAnd (method_in w n) (λ m. IsLeastTyping w m Top (state_at t)) → IsTypedMethod w n
 typed_at w n t least = λ m of_last e.
     let l = known w n (λ m. IsLeastTyping w m Top (state_at t)) least m of_last.method e in
     record { frames = state_at t; typing = l.typing }
@@ -53,7 +53,7 @@ of_last_passes w m is =
     passes (length w.infos) m.rec is.last (has_code w.infos m.rec (subst (λ c. 0 < length c) is.method.code is.method.filled))
 
 -- a method that fails the test is none of the last package with code
-pub none_at : (w : Linked) (n : ℕ) → option_map (is_of_last (length w.infos)) (slice_get w.methods n) ≡ Some false → IsTypedAt w n
+pub none_at : (w : Linked) (n : ℕ) → option_map (is_of_last (length w.infos)) (slice_get w.methods n) ≡ Some false → IsTypedMethod w n
 none_at w n fails = λ m of_last e.
     let at : slice_get w.methods n ≡ Some m.rec = subst (λ k. slice_get w.methods k ≡ Some m.rec) e of_last.method.rec in
     let test : Some (is_of_last (length w.infos) m.rec) ≡ Some false = sym (ap (option_map (is_of_last (length w.infos))) at) ∙ fails in
@@ -67,8 +67,8 @@ some_code packages (Some rec) e =
     ltb-true 0 rec.code_len (and_parts (rec.package + 1 == packages) (nat_lt 0 rec.code_len) test).1
 
 failed : (w : Linked) (n : ℕ) (end : FlowEnd) (o : Option MethodRec) → slice_get w.methods n ≡ o → option_map (is_of_last (length w.infos)) o ≡ Some true
-    → IsSomeAnd (option_map (method_with w n) o) (IsMethodOf w) → IsSomeAnd (option_map (method_with w n) o) (λ m. HasNone w m end)
-    → IsSomeAnd (option_map (method_with w n) o) (λ m. TellsEnd w m end) → FailsAt w n end
+    → IsSomeAnd (option_map (method_with w n) o) (IsMethodOf w) → IsSomeAnd (option_map (method_with w n) o) (λ m. LacksTyping w m end)
+    → IsSomeAnd (option_map (method_with w n) o) (λ m. TellsEnd w m end) → FailsMethod w n end
 failed w n end None at e is none tells = absurd is
 failed w n end (Some rec) at e is none tells =
     let test : is_of_last (length w.infos) rec ≡ true = cc in
@@ -82,7 +82,7 @@ failed w n end (Some rec) at e is none tells =
 
 -- the end says why no typing of the method of a number was found
 pub fails_at : (w : Linked) (n : ℕ) (end : FlowEnd) → option_map (is_of_last (length w.infos)) (slice_get w.methods n) ≡ Some true
-    → IsSomeAnd (method_in w n) (IsMethodOf w) → IsSomeAnd (method_in w n) (λ m. HasNone w m end) → IsSomeAnd (method_in w n) (λ m. TellsEnd w m end) → FailsAt w n end
+    → IsSomeAnd (method_in w n) (IsMethodOf w) → IsSomeAnd (method_in w n) (λ m. LacksTyping w m end) → IsSomeAnd (method_in w n) (λ m. TellsEnd w m end) → FailsMethod w n end
 fails_at w n end e is none tells = failed w n end (slice_get w.methods n) refl e is none tells
 
 -- ---- all of them
@@ -90,7 +90,7 @@ fails_at w n end e is none tells = failed w n end (slice_get w.methods n) refl e
 split : (m n : ℕ) → m < n + 1 → (m ≡ n) ⊎ (m < n)
 split m n below = eq-or-lt_of_le (omega (arith, below))
 
-pub one_more : (w : Linked) (n : ℕ) → AreTypedBelow w n → IsTypedAt w n → AreTypedBelow w (n + 1)
+pub one_more : (w : Linked) (n : ℕ) → AreTypedBelow w n → IsTypedMethod w n → AreTypedBelow w (n + 1)
 one_more w n typed at = λ m of_last below.
     elim (split m.number n below) [ inl e ↦ at m of_last e | inr less ↦ typed m of_last less ]
 
@@ -118,7 +118,7 @@ one_counted w n count one asked e is before =
 
 -- ---- the verdicts
 
-no_typing : (w : Linked) (m : Method) (end : FlowEnd) → (end ≡ Memory → ⊥) → HasNone w m end → HasFlowTyping w m Top → ⊥
+no_typing : (w : Linked) (m : Method) (end : FlowEnd) → (end ≡ Memory → ⊥) → LacksTyping w m end → HasFlowTyping w m Top → ⊥
 no_typing w m Memory known none = absurd (known refl)
 no_typing w m (NoTyping p fault) known none = none
 no_typing w m (FallsOff p) known none = none
@@ -127,7 +127,7 @@ no_typing w m (BadTarget p target) known none = none
 no_typing w m (BadHandler entry number) known none = none
 
 -- the method that was not typed is the first
-pub first_untyped : (w : Linked) (n : ℕ) (end : FlowEnd) (number : MethodNumber) (text : List ℕ) → AreTypedBelow w n → FailsAt w n end → (end ≡ Memory → ⊥)
+pub first_untyped : (w : Linked) (n : ℕ) (end : FlowEnd) (number : MethodNumber) (text : List ℕ) → AreTypedBelow w n → FailsMethod w n end → (end ≡ Memory → ⊥)
     → option_map number_of (slice_get w.methods n) ≡ Some number → text ≡ refused_flow_line number end → TellsUntyped w text
 first_untyped w n end number text earlier f known named prints =
     let at : slice_get w.methods n ≡ Some f.method.rec = subst (λ k. slice_get w.methods k ≡ Some f.method.rec) f.number f.of_last.method.rec in

@@ -25,7 +25,7 @@ use Rattle.capcheck_core.specs.Verdict.{status_of}
 use Rattle.capcheck_core.specs.Outside.{Outside}
 use Rattle.capcheck_core.specs.Loads.{AreParts, FailsParts}
 use Rattle.capcheck_core.specs.Roles.{AreRolesIn, LacksRoles, BreaksRoles, roles_key}
-use Rattle.capcheck_core.specs.Packages.{AreRoles, LacksPackage, IsFirstWhere, IsFirstStop}
+use Rattle.capcheck_core.specs.Packages.{AreRoleBytes, LacksPackage, IsFirstWhere, IsFirstStop}
 use Rattle.capcheck_core.specs.OverFolders.{StopsAtLoad, OfGiven, OverFolders}
 use Rattle.capcheck_core.specs.World.{Own, StopsAtLink, OverWorld}
 use Rattle.capcheck_core.specs.Completeness.{CanLink}
@@ -74,7 +74,7 @@ module _ (before : Folders) (held : Parts) (told : before.held ≡ Some held) wh
   one_file : (key xs ys : List ℕ) → IsThere before key xs → IsThere before key ys → xs ≡ ys
   one_file key xs ys s t = let a = file_of key xs s in let b = file_of key ys t in cc
 
-  one_roles : (dirs : List (List ℕ)) (rs qs : List ℕ) → AreRoles before dirs rs → AreRoles before dirs qs → rs ≡ qs
+  one_roles : (dirs : List (List ℕ)) (rs qs : List ℕ) → AreRoleBytes before dirs rs → AreRoleBytes before dirs qs → rs ≡ qs
   one_roles [] rs qs r q = absurd r
   one_roles (dir ∷ dirs) rs qs r q = one_file (roles_key dir) rs qs r.there q.there
 
@@ -120,7 +120,7 @@ module _ (before : Folders) (held : Parts) (told : before.held ≡ Some held) wh
       → ((n : ℕ) (dir : List ℕ) (parts : List Lent) (p : PackageRecord) → AreParts before dir parts → StandsFor parts p → P n dir → ⊥)
       → ((dir roles : List ℕ) → AreRolesIn before dir roles → R dir → ⊥)
       → (dirs : List (List ℕ)) (parts : List (List Lent)) (ps : List PackageRecord) (roles : List ℕ)
-      → AllZip (AreParts before) dirs parts → AllZip StandsFor parts ps → AreRoles before dirs roles → IsFirstStop before dirs P R → ⊥
+      → AllZip (AreParts before) dirs parts → AllZip StandsFor parts ps → AreRoleBytes before dirs roles → IsFirstStop before dirs P R → ⊥
   no_stop P R never none [] parts ps roles loaded stand are stop = stop
   no_stop P R never none (dir ∷ dirs) [] ps roles loaded stand are stop = absurd loaded
   no_stop P R never none (dir ∷ dirs) (x ∷ xs) [] roles loaded stand are stop = absurd stand
@@ -151,7 +151,7 @@ counted dirs before world can =
     sym (AllZip-long (AreParts before) dirs can.parts can.given.parts_are) ∙ sym (AllZip-long StandsFor can.parts can.made.packages can.made.stand)
 
 -- roles stand beside a first package
-no_folders : (before : Folders) (dirs : List (List ℕ)) (roles : List ℕ) → length dirs ≡ 0 → AreRoles before dirs roles → ⊥
+no_folders : (before : Folders) (dirs : List (List ℕ)) (roles : List ℕ) → length dirs ≡ 0 → AreRoleBytes before dirs roles → ⊥
 no_folders before [] roles none are = are
 no_folders before (dir ∷ dirs) roles none are = absurd (omega (arith, none))
 

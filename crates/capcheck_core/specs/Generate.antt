@@ -45,9 +45,9 @@ abbrev pub short_ended : endings.Plain → ℤ
 short_ended (Returned (Short n)) = n
 short_ended _ = pos 0
 
-abbrev pub short_of : Outcome Cell → ℤ
-short_of (ended (Plain ending) s) = short_ended ending
-short_of _ = pos 0
+abbrev pub short_result : Outcome Cell → ℤ
+short_result (ended (Plain ending) s) = short_ended ending
+short_result _ = pos 0
 
 -- each is what comes of the run of the method with its number
 abbrev pub ComeOfRuns : Linked → List (Outcome Cell) → Type 0
@@ -59,7 +59,7 @@ pub record AreRun (w : Linked) (c : Card) (sum : ℤ) : Type 0 where
   pub outcomes : List (Outcome Cell)
   pub count : length outcomes ≡ 200
   pub come : ComeOfRuns w outcomes
-  pub total : sum ≡ fold ◌+ℤ◌ (pos 0) (map short_of outcomes)
+  pub total : sum ≡ fold ◌+ℤ◌ (pos 0) (map short_result outcomes)
   pub holds : IsSomeAnd (slice_get outcomes 199) (HoldsWords w c)
 
 -- the first of them, at least one, are run one after the other, and the memory holds the words of what the last of these leaves
@@ -126,19 +126,19 @@ Generates g before after verdict =
 -- ---- on the way there
 
 -- the run of the method with a number begins
-pub record HasEntry (w : Linked) (k : ℕ) : Type 0 where
+pub record BeginsRun (w : Linked) (k : ℕ) : Type 0 where
   pub number : ℕ
   pub entered : method_entered w (run_of k).entry ≡ Some number
   pub begins : start_fault w number (run_of k).args ≡ None
 
 abbrev pub HaveEntries : Linked → Type 0
-HaveEntries w = (k : ℕ) → k < 200 → HasEntry w k
+HaveEntries w = (k : ℕ) → k < 200 → BeginsRun w k
 
 -- this is what comes of the run of the method with a number, and the memory holds its words
-pub record IsRunOf (w : Linked) (k : ℕ) (c : Card) (ending : endings.Plain) : Type 0 where
+pub record ComesOfRun (w : Linked) (k : ℕ) (c : Card) (ending : endings.Plain) : Type 0 where
   pub outcome : Outcome Cell
   pub comes : ComesTo w (run_of k) outcome
-  pub short : short_of outcome ≡ short_ended ending
+  pub short : short_result outcome ≡ short_ended ending
   pub holds : HoldsWords w c outcome
 
 -- the sum of so many shorts lies within these bounds

@@ -12,7 +12,7 @@ use Rattle.capcheck_core.specs.declared.verdict.Verdict.{Verdict}
 use Rattle.capcheck_core.specs.Outside.{Outside}
 use Rattle.capcheck_core.specs.Loads.{AreParts, FailsParts}
 use Rattle.capcheck_core.specs.Roles.{LacksRoles, roles_key}
-use Rattle.capcheck_core.specs.Packages.{AreRoles, AreTooMany, LacksPackage, IsFirstWhere, IsFirstStop, IsFirstAtFault, IsFailed}
+use Rattle.capcheck_core.specs.Packages.{AreRoleBytes, AreTooMany, LacksPackage, IsFirstWhere, IsFirstStop, IsFirstAtFault, IsFailed}
 use Rattle.capcheck_core.specs.PackageEnds.{PackagesStopLeaves}
 use Rattle.capcheck_core.specs.OverFolders.{OfGiven}
 use Rattle.capcheck_core.specs.World.{Own, OverPackages, OverWorld}
@@ -26,7 +26,7 @@ GivenAfterFirst (Some given) number = Unit {0}
 
 -- the roles: those that are given, or else those beside the first of these folders
 abbrev pub RolesAre : Folders → List (List ℕ) → Option (List ℕ) → List ℕ → Type 0
-RolesAre before dirs None roles = AreRoles before dirs roles
+RolesAre before dirs None roles = AreRoleBytes before dirs roles
 RolesAre before dirs (Some given) roles = roles ≡ given
 
 -- in the order of the loads the first place in these folders where `P` is true of a package's number and folder, or `R` of the roles

@@ -20,14 +20,14 @@ pub record HasPackage (before : Folders) (dir : List ℕ) : Type 0 where
   pub whole : HavePackage parts
 
 -- the roles beside the first package
-abbrev pub AreRoles : Folders → List (List ℕ) → List ℕ → Type 0
-AreRoles before [] roles = ⊥
-AreRoles before (dir ∷ dirs) roles = AreRolesIn before dir roles
+abbrev pub AreRoleBytes : Folders → List (List ℕ) → List ℕ → Type 0
+AreRoleBytes before [] roles = ⊥
+AreRoleBytes before (dir ∷ dirs) roles = AreRolesIn before dir roles
 
 -- the parts in each folder, in order, and the roles beside the first
 pub record AreGiven (before : Folders) (dirs : List (List ℕ)) (parts : List (List Lent)) (roles : List ℕ) : Type 0 where
   pub parts_are : AllZip (AreParts before) dirs parts
-  pub roles_are : AreRoles before dirs roles
+  pub roles_are : AreRoleBytes before dirs roles
 
 -- ---- too many
 

@@ -8,7 +8,7 @@ use Rattle.cap_bare.specs.declared.fault.BareFault.{BareFault}
 use Rattle.cap_bare.specs.declared.run.BareEnd.{BareEnd}
 use Rattle.cap_bare.specs.Typing.{CardTyping}
 use Rattle.cap_bare.specs.Met.{IsRefused}
-use Rattle.cap_bare.specs.Machine.{Answers, after, entered}
+use Rattle.cap_bare.specs.Machine.{RunAnswers, after, entered}
 use Rattle.vm_step.specs.declared.start_fault.StartFault.{StartFault}
 use Rattle.cap_text.specs.Probe.{ProbeRequest}
 use Rattle.cap_text.specs.Line.{malformed_line, not_started_line, refused_bare_line, bare_ending_line}
@@ -23,7 +23,7 @@ pub record IsBareRun (bare : Bare) (code : List ℕ) (p : ProbeRequest) (text : 
   pub values : List ℤ
   pub fit : AreShorts p.args bare.nargs values
   pub end : BareEnd
-  pub ends : Answers end (after p.budget code bare (entered bare values))
+  pub ends : RunAnswers end (after p.budget code bare (entered bare values))
   pub prints : text ≡ bare_ending_line end
 
 -- the verifier finds no typing, and the text names why

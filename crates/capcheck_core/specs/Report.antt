@@ -22,10 +22,10 @@ pub record IsWhole (verdict : Verdict) (before after : Seen) (status : ℕ) : Ty
   pub whole : Received before after (text_of verdict)
 
 -- the put failed, and a prefix of the text was received
-pub record IsBroken (verdict : Verdict) (before after : Seen) (status : ℕ) : Type 0 where
+pub record IsCutShort (verdict : Verdict) (before after : Seen) (status : ℕ) : Type 0 where
   pub says : status ≡ 8
   pub risen : Rose before.faults after.faults
   pub prefix : IfSome after.received (λ now. IsSomeAnd before.received (λ text. (n : ℕ) × (now ≡ text ++ take n (text_of verdict))))
 
 abbrev pub IsReported : Verdict → Seen → Seen → ℕ → Type 0
-IsReported verdict before after status = IsWhole verdict before after status ⊎ IsBroken verdict before after status
+IsReported verdict before after status = IsWhole verdict before after status ⊎ IsCutShort verdict before after status

@@ -50,7 +50,7 @@ header_tag = 1
 
 -- the parts of a package in the order of the stores: all but the Header by rising tag, the roles where they are stored too, and
 -- the Header
-pub record AreInOrder (parts : List Lent) (roles : Option (List ℕ)) (stores : List Lent) : Type 0 where
+pub record AreInStoreOrder (parts : List Lent) (roles : Option (List ℕ)) (stores : List Lent) : Type 0 where
   pub others : List Lent
   pub rising : Rise 2 256 others
   pub same : (tag : ℕ) → 2 ≤ tag → tag < 256 → held others tag ≡ held parts tag
@@ -70,13 +70,13 @@ ends_without_roles header = refl
 -- ---- where the stores are broken off
 
 -- each of these parts stands whole in the folder
-abbrev pub AreThere : List ℕ → List Lent → Parts → Type 0
-AreThere dir parts now = (tag : ℕ) (bytes : List ℕ) → held parts tag ≡ Some bytes → map.get now (tag ∷ dir) ≡ Some bytes
+abbrev pub StandWhole : List ℕ → List Lent → Parts → Type 0
+StandWhole dir parts now = (tag : ℕ) (bytes : List ℕ) → held parts tag ≡ Some bytes → map.get now (tag ∷ dir) ≡ Some bytes
 
 -- the folder has the first bytes of a Header, and each of the other parts whole
 pub record HasAllButHeader (dir header : List ℕ) (others : List Lent) (now : Parts) : Type 0 where
   pub begun : (n : ℕ) × (map.get now (header_tag ∷ dir) ≡ Some (take n header))
-  pub whole : AreThere dir others now
+  pub whole : StandWhole dir others now
 
 -- a folder that had no Header has none, or has the first bytes of it and each of the other parts whole
 abbrev pub HasHeaderLast : List ℕ → List ℕ → List Lent → Folders → Folders → Type 0

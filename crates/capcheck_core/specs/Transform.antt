@@ -20,7 +20,7 @@ use Rattle.capcheck_core.specs.Loads.{with_file}
 use Rattle.capcheck_core.specs.Outside.{Outside}
 use Rattle.capcheck_core.specs.OverFolders.{OverFolders}
 use Rattle.capcheck_core.specs.Roles.{roles_tag}
-use Rattle.capcheck_core.specs.Stores.{AreInOrder, AreStored, IsBrokenOff, HasHeaderLast}
+use Rattle.capcheck_core.specs.Stores.{AreInStoreOrder, AreStored, IsBrokenOff, HasHeaderLast}
 use Rattle.capcheck_core.specs.Typed.{count_of_last, number_of}
 use Rattle.capcheck_core.specs.World.{Own, OverWorld}
 
@@ -34,7 +34,7 @@ roles_beside packages roles = if length packages == 1 then Some roles else None
 pub record Brings (packages : List PackageRecord) (roles : List ℕ) (w : Linked) (stores : List Lent) : Type 0 where
   pub parts : List Lent
   pub made : IsTransformed packages roles w parts
-  pub order : AreInOrder parts (roles_beside packages roles) stores
+  pub order : AreInStoreOrder parts (roles_beside packages roles) stores
 
 -- all are stored, and the text says how many methods with code the package has
 pub record IsBrought

@@ -6,7 +6,7 @@ ghost use Rattle.cap_text.specs.Generate.{generate_request};
 ghost use Rattle.jc_link.specs.World.{IsLinked};
 ghost use Rattle.vm_offend.specs.Sized.{AreSized};
 ghost use Rattle.xf_pack.specs.Transformed.{IsTransformed};
-ghost use Rattle.capcheck_core.specs.Generate.{generated, run_of, short_ended, AreRun, GeneratesIn, Generates, HasEntry, HaveEntries, IsKeptOrBegun, IsNew, IsRunOf, IsSumOfShorts, RunsAll, TellsParts};
+ghost use Rattle.capcheck_core.specs.Generate.{generated, run_of, short_ended, AreRun, GeneratesIn, Generates, BeginsRun, HaveEntries, IsKeptOrBegun, IsNew, ComesOfRun, IsSumOfShorts, RunsAll, TellsParts};
 ghost use Rattle.capcheck_core.specs.Outside.{outside, card};
 ghost use Rattle.capcheck_core.specs.Run.{HasLengths};
 ghost use Rattle.capcheck_core.specs.Verify.{HaveCardTypings};
@@ -286,10 +286,10 @@ fn run_method(
     heap: &mut [u16],
     statics: &mut [u16],
 ) -> Plain
-    requires entry { HasEntry accepted.now number }
+    requires entry { BeginsRun accepted.now number }
     requires handed { args.now ≡ (run_of number).args }
     requires sized { AreSized accepted.now ram.old heap.old statics.old }
-    ensures run { IsRunOf accepted.now number (card ram.new heap.new statics.new) result }
+    ensures run { ComesOfRun accepted.now number (card ram.new heap.new statics.new) result }
     ensures sized { AreSized accepted.now ram.new heap.new statics.new }
 {
     let entry = Entry {

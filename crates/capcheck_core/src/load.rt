@@ -1,5 +1,5 @@
 ghost use Rattle.std.specs.Prelude.{◌≡◌, ◌≤◌, ◌++◌, length, IsNone, IfOk};
-ghost use Rattle.cap_components.specs.Components.{Answers, info_in, read_part, read_directory};
+ghost use Rattle.cap_components.specs.Components.{AnswersAs, info_in, read_part, read_directory};
 ghost use Rattle.cap_frame.specs.Directory.{directory_items, size_in};
 ghost use Rattle.cap_frame.specs.DirectoryFormat.{directory_info};
 ghost use Rattle.cap_frame.specs.Framed.{info_bytes};
@@ -93,7 +93,7 @@ fn load_asked<F: Folder>(
     sizes: &Result<Directory<'_>, PackFault>,
 ) -> Result<OwnedParts, LoadStop>
     requires first { AreLoaded (F.folders folder.old) dir.now 3 first.now }
-    requires sizes { Answers directory_items sizes.now (read_directory first.now) }
+    requires sizes { AnswersAs directory_items sizes.now (read_directory first.now) }
     ensures loads { LoadsRest (F.folders folder.old) (F.folders folder.new) dir.now first.now result }
     ensures folders { LoadsLeave (F.folders folder.old) (F.folders folder.new) result }
 {
@@ -151,7 +151,7 @@ pub fn lend_after<'a>(more: &'a OwnedParts, parts: Parts<'a>) -> Result<Parts<'a
 
 // The tag after the last one that may be asked for: where the Directory names no custom component, that after Debug's.
 fn end_of(first: &OwnedParts, sizes: &Result<Directory<'_>, PackFault>) -> u16
-    requires { Answers directory_items sizes.now (read_directory first.now) }
+    requires { AnswersAs directory_items sizes.now (read_directory first.now) }
     ensures { EndsAsked first.now result }
 {
     match sizes {
@@ -173,7 +173,7 @@ fn end_after(directory: &Directory<'_>) -> u16
 
 // Whether a part is asked for, by the sizes that the loaded ones tell.
 fn asks(parts: &OwnedParts, sizes: &Result<Directory<'_>, PackFault>, tag: u8) -> bool
-    requires { Answers directory_items sizes.now (read_directory parts.now) }
+    requires { AnswersAs directory_items sizes.now (read_directory parts.now) }
     ensures { result ≡ is_asked parts.now tag }
 {
     is_required(tag) || is_optional(tag) && gives_size(parts, sizes, tag)
@@ -195,7 +195,7 @@ fn is_optional(tag: u8) -> bool
 
 // Whether the Directory, in the format that the Header names, gives the component a size that is not 0.
 fn gives_size(parts: &OwnedParts, sizes: &Result<Directory<'_>, PackFault>, tag: u8) -> bool
-    requires { Answers directory_items sizes.now (read_directory parts.now) }
+    requires { AnswersAs directory_items sizes.now (read_directory parts.now) }
     ensures { result ≡ is_sized (read_directory parts.now) tag }
 {
     match sizes {
@@ -207,7 +207,7 @@ fn gives_size(parts: &OwnedParts, sizes: &Result<Directory<'_>, PackFault>, tag:
 // The Directory component, in the format that the Header names.
 #[tactic(auto, unfolding(cap_components::specs::Components::read_directory))]
 fn directory_of(parts: &OwnedParts) -> Result<Directory<'_>, PackFault>
-    ensures { Answers directory_items result (read_directory parts.now) }
+    ensures { AnswersAs directory_items result (read_directory parts.now) }
 {
     let header = header_in(parts)?;
     directory_in(parts, header.format())
@@ -216,7 +216,7 @@ fn directory_of(parts: &OwnedParts) -> Result<Directory<'_>, PackFault>
 // The Directory component in a format.
 #[tactic(auto, using(cap_components::proofs::Infos::read_or_refused), unfolding(cap_components::specs::Components::read_part))]
 fn directory_in(parts: &OwnedParts, format: Format) -> Result<Directory<'_>, PackFault>
-    ensures { Answers directory_items result (read_part (directory_info format) 2 parts.now) }
+    ensures { AnswersAs directory_items result (read_part (directory_info format) 2 parts.now) }
 {
     let info = info_in(parts, 2)?;
     Ok(directory(info, format)?)
@@ -225,7 +225,7 @@ fn directory_in(parts: &OwnedParts, format: Format) -> Result<Directory<'_>, Pac
 // The Header component.
 #[tactic(auto, using(cap_components::proofs::Infos::read_or_refused), unfolding(cap_components::specs::Components::read_part))]
 fn header_in(parts: &OwnedParts) -> Result<Header<'_>, PackFault>
-    ensures { Answers header_items result (read_part header_info 1 parts.now) }
+    ensures { AnswersAs header_items result (read_part header_info 1 parts.now) }
 {
     let info = info_in(parts, 1)?;
     Ok(header(info)?)
@@ -234,7 +234,7 @@ fn header_in(parts: &OwnedParts) -> Result<Header<'_>, PackFault>
 // The info of the component with a tag.
 #[tactic(auto, using(cap_components::proofs::Infos::read_or_refused), unfolding(cap_components::specs::Components::info_in))]
 fn info_in(parts: &OwnedParts, tag: u8) -> Result<View<'_>, PackFault>
-    ensures value { Answers info_bytes result (info_in parts.now tag) }
+    ensures value { AnswersAs info_bytes result (info_in parts.now tag) }
     ensures few { IfOk result (λ info. length info.bytes.now ≤ 65535) }
 {
     match parts.get(Part(tag)) {

@@ -2,7 +2,7 @@ ghost use Rattle.std.specs.Prelude.{◌≡◌, IsSome, IsNone, IfOk, OnOk};
 ghost use Rattle.std.specs.Option.{option_copied};
 ghost use Rattle.cap_package.specs.Parts.{held};
 ghost use Rattle.capcheck_core.specs.Loads.{with_file};
-ghost use Rattle.capcheck_core.specs.Stores.{AreInOrder, StoresParts};
+ghost use Rattle.capcheck_core.specs.Stores.{AreInStoreOrder, StoresParts};
 
 use cap_bytes::Part;
 use cap_files::{Folder, StoreFailed};
@@ -41,7 +41,7 @@ pub fn in_order<'a>(
     roles: Option<&'a [u8]>,
 ) -> Result<Parts<'a>, AllocError>
     requires { IsSome (held parts.now HEADER.0) }
-    ensures { IfOk result (AreInOrder parts.now (option_copied roles.entry)) }
+    ensures { IfOk result (AreInStoreOrder parts.now (option_copied roles.entry)) }
 {
     let mut stores = Parts::new(alloc);
     'tags: for tag in 2..256u16 {

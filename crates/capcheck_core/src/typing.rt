@@ -1,6 +1,6 @@
 ghost use Rattle.std.specs.Prelude.{◌≡◌, ◌<◌, length, Some, option_map, slice_get};
 ghost use Rattle.capcheck_core.specs.Typed.{is_of_last, number_of, AreTypedBelow};
-ghost use Rattle.capcheck_core.specs.CheckEnds.{TypesAt, FailsAt};
+ghost use Rattle.capcheck_core.specs.CheckEnds.{TypesMethod, FailsMethod};
 ghost use Rattle.capcheck_core.specs.Check.{TypesWorld};
 
 use crate::verdict::Verdict;
@@ -26,7 +26,7 @@ pub fn type_methods(alloc: Global, world: &World<'_>) -> Verdict
 // Types a method, where it is one of the last package with code, and tells whether it is one.
 fn type_method(alloc: Global, world: &World<'_>, number: u16) -> Result<bool, FlowEnd>
     requires { number < length world.now.methods }
-    ensures { TypesAt world.now number result }
+    ensures { TypesMethod world.now number result }
 {
     if !is_of_last(world, number) {
         return Ok(false);
@@ -51,7 +51,7 @@ pub(crate) fn is_of_last(world: &World<'_>, number: u16) -> bool
 fn untyped(alloc: Global, world: &World<'_>, number: u16, end: FlowEnd) -> Verdict
     requires known { number < length world.now.methods }
     requires earlier { AreTypedBelow world.now number }
-    requires fails { FailsAt world.now number end }
+    requires fails { FailsMethod world.now number end }
     ensures { TypesWorld world.now result }
 {
     match end {

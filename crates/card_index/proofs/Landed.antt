@@ -19,13 +19,13 @@ use Rattle.card_index.specs.declared.indexed.Indexed.{Indexed}
 use Rattle.card_index.specs.Indexed.{subject, world_in, listed}
 use Rattle.card_index.specs.Met.{IsOpenOver}
 use Rattle.card_index.specs.Refusal.{wrong_over_entry, wrong_over_room, wrong_over_stack, wrong_over_open}
-use Rattle.card_index.specs.Walk.{IsIndexed, IsTold, IsBlockedOver, IsSharedOver, IsLandedOver, IsMislandedOver, IsVisitedOver, IsStoppedOver}
+use Rattle.card_index.specs.Walk.{IsIndexed, TellsListed, IsBlockedOver, IsSharedOver, IsLandedOver, IsMislandedOver, IsVisitedOver, IsStoppedOver}
 
-pub told-true : (x : Indexed) (place : ℕ) (here : Bool) → IsTold x place here → Contains (listed x) place → here ≡ true
+pub told-true : (x : Indexed) (place : ℕ) (here : Bool) → TellsListed x place here → Contains (listed x) place → here ≡ true
 told-true x place true told c = refl
 told-true x place false told c = absurd (told c)
 
-module _ (x : Indexed) (is : IsIndexed x) (place : ℕ) (arrival : Arrival) (here : Bool) (told : IsTold x place here) where
+module _ (x : Indexed) (is : IsIndexed x) (place : ℕ) (arrival : Arrival) (here : Bool) (told : TellsListed x place here) where
   abbrev m : Method
   m = subject x
 

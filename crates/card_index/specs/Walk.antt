@@ -13,7 +13,7 @@ use Rattle.card_typing.specs.Met.{Arrives, GoesTo, IsMet}
 use Rattle.card_typing.specs.Place.{IsEntry}
 use Rattle.card_verify.specs.declared.pass.Arrival.{Arrival}
 use Rattle.card_verify.specs.Ahead.{IsLeastFrom}
-use Rattle.card_verify.specs.Walk.{IsVerifier, IsLanded, IsVisited, IsBegun, IsComing, left}
+use Rattle.card_verify.specs.Walk.{IsVerifier, IsLanded, IsVisited, CanBeginPass, IsComing, left}
 use Rattle.card_index.specs.declared.indexed.Indexed.{Indexed}
 use Rattle.card_index.specs.declared.entries.Entries.{Entries}
 use Rattle.card_index.specs.declared.scan.Lacking.{Lacking}
@@ -41,8 +41,8 @@ abbrev pub IsSharedOver : Bool → Arrival → Type 0
 IsSharedOver here arrival = (arrival.may_fall ≡ true) ⊎ (here ≡ true)
 
 -- whether the index lists a place
-abbrev pub IsTold : Indexed → ℕ → Bool → Type 0
-IsTold x place here = MatchBool here (Contains (listed x) place) (¬ (Contains (listed x) place))
+abbrev pub TellsListed : Indexed → ℕ → Bool → Type 0
+TellsListed x place here = MatchBool here (Contains (listed x) place) (¬ (Contains (listed x) place))
 
 -- a walk comes to a place, which may be the end: the state with which it goes on is met over the index
 pub record IsComingOver (x : Indexed) (at : ℕ) (arrival : Arrival) (regs stack : List Ty) : Type 0 where
@@ -89,7 +89,7 @@ pub record IsStoppedOver (x : Indexed) (i : Placed) (arrival : Arrival)
 
 -- a pass can begin with these registers: what is met then is met over the index
 pub record IsBegunOver (x : Indexed) (regs stack : List Ty) : Type 0 where
-  pub begun : IsBegun x.verifier regs stack
+  pub begun : CanBeginPass x.verifier regs stack
   pub met :
       (given : List Ty)
       → Arrives (world_in x) (subject x) true [] 0 given

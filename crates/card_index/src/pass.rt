@@ -10,7 +10,7 @@ ghost use Rattle.card_verify.specs.Walk.{HasSlices, IsComing, IsFailing, IsStepp
 ghost use Rattle.card_index.specs.Bound.{AreCountedTo};
 ghost use Rattle.card_index.specs.Indexed.{subject, world_in, listed};
 ghost use Rattle.card_index.specs.Refusal.{IsRefusedOver};
-ghost use Rattle.card_index.specs.Walk.{IsIndexed, IsBegunOver, HasEntry, IsTold, IsBlockedOver, IsSharedOver, IsLandedOver, IsMislandedOver, IsVisitedOver, IsStoppedOver, IsRaisedOver, IsSettledOver};
+ghost use Rattle.card_index.specs.Walk.{IsIndexed, IsBegunOver, HasEntry, TellsListed, IsBlockedOver, IsSharedOver, IsLandedOver, IsMislandedOver, IsVisitedOver, IsStoppedOver, IsRaisedOver, IsSettledOver};
 
 use crate::counted::apply_counted;
 use crate::entries::Entries;
@@ -143,7 +143,7 @@ impl Indexed<'_, '_> {
         stack: &mut [Ty],
     ) -> Result<u8, CardFault>
         requires indexed { IsIndexed self.now }
-        requires told { IsTold self.now entries.from here }
+        requires told { TellsListed self.now entries.from here }
         requires entry { IsEntry (subject self.now) entries.from }
         requires fallen { MatchBool arrival.may_fall
             (IsFallenInto (subject self.now) entries.from)

@@ -18,7 +18,7 @@ use Rattle.card_typing.specs.Laws.{CardIsFlow, RefusalDenies, FlawsAreTold, Quie
 use Rattle.card_verify.specs.declared.verifier.Verifier.{Verifier}
 use Rattle.card_verify.specs.Answers.{IsAccepted, IsAcceptedAt, AreAcceptedBefore, AreAccepted, IsRefusedMethod, IsRefusedAt, TellsFlaw}
 use Rattle.card_verify.specs.Verifier.{method, world_of}
-use Rattle.card_verify.specs.Walk.{HasSlices, IsBegun, IsRaisedBy, IsSettled, IsFinished}
+use Rattle.card_verify.specs.Walk.{HasSlices, CanBeginPass, IsRaisedBy, IsSettled, IsFinished}
 
 -- ---- passes
 
@@ -30,12 +30,12 @@ pub settled : (v : Verifier) (regs after stack : List Ty) (rose : Bool) → Matc
 settled v regs after stack true h e = absurd (false≢true (sym e))
 settled v regs after stack false h e = h
 
-pub finished : (v : Verifier) (regs after stack : List Ty) → IsBegun v regs stack → IsSettled v regs after → IsFinished v after
+pub finished : (v : Verifier) (regs after stack : List Ty) → CanBeginPass v regs stack → IsSettled v regs after → IsFinished v after
 finished v regs after stack begun s = subst (IsFinished v) (sym s.same) (record { met = begun.met; quiet = s.quiet })
 
 -- ---- a well-formed method
 
-pub begun-start : (v : Verifier) (regs stack : List Ty) → regs ≡ (start_frame v.rec.now Bottom).regs → HasSlices v regs stack → IsBegun v regs stack
+pub begun-start : (v : Verifier) (regs stack : List Ty) → regs ≡ (start_frame v.rec.now Bottom).regs → HasSlices v regs stack → CanBeginPass v regs stack
 begun-start v regs stack e slices = record {
   met = λ given a. subst (λ (xs : List Ty). IsMet (world_of v) (method v) 0 (record { regs = xs; stack = given })) (sym e) (met_start given a);
   slices = slices;

@@ -25,7 +25,7 @@ use Rattle.card_typing.specs.Pass.{IsQuiet, quiet_end, quiet_more}
 use Rattle.card_verify.specs.declared.verifier.Verifier.{Verifier}
 use Rattle.card_verify.specs.declared.pass.Arrival.{Arrival}
 use Rattle.card_verify.specs.Verifier.{method, world_of}
-use Rattle.card_verify.specs.Walk.{IsVerifier, IsComing, IsVisited, IsStopped, IsBegun, IsRaisedBy, IsSettled, IsProgress}
+use Rattle.card_verify.specs.Walk.{IsVerifier, IsComing, IsVisited, IsStopped, CanBeginPass, IsRaisedBy, IsSettled, IsProgress}
 
 -- ---- lists of instructions
 
@@ -77,7 +77,7 @@ module _ (v : Verifier) (is : IsVerifier v) where
   abbrev m : Method
   m = method v
 
-  pub coming-first : (arrival : Arrival) (regs stack : List Ty) → arrival.may_fall ≡ true → arrival.depth ≡ 0 → cells stack arrival.depth ≡ [] → IsBegun v regs stack → IsComing v 0 arrival regs stack
+  pub coming-first : (arrival : Arrival) (regs stack : List Ty) → arrival.may_fall ≡ true → arrival.depth ≡ 0 → cells stack arrival.depth ≡ [] → CanBeginPass v regs stack → IsComing v 0 arrival regs stack
   coming-first arrival regs stack falling none empty begun = record {
     met = λ q given goes a. by q given goes (subst (λ (s : List Ty). Arrives (world_of v) m arrival.may_fall s q given) empty a);
     fallen = subst (λ (b : Bool). MatchBool b (IsFallenInto m 0) (¬ (IsFallenInto m 0))) (sym falling) fallen_first;
@@ -116,7 +116,7 @@ module _ (v : Verifier) (is : IsVerifier v) where
   never-falls at arrival regs stack end coming true e = absurd (omega (arith, coming.inside e, end))
   never-falls at arrival regs stack end coming false e = refl
 
-  pub begun-again : (at : ℕ) (arrival : Arrival) (regs stack : List Ty) → at ≡ length m.code → IsComing v at arrival regs stack → IsBegun v regs stack
+  pub begun-again : (at : ℕ) (arrival : Arrival) (regs stack : List Ty) → at ≡ length m.code → IsComing v at arrival regs stack → CanBeginPass v regs stack
   begun-again at arrival regs stack end coming = record {
     met = λ given a. coming.met 0 given (goes_again end)
         (again-arrives (world_of v) m arrival.may_fall (cells stack arrival.depth) given 0 (never-falls at arrival regs stack end coming arrival.may_fall refl) a);

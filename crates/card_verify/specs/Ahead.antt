@@ -14,13 +14,13 @@ abbrev pub IsClear : Method → ℕ → ℕ → Type 0
 IsClear m from clear = (q : ℕ) → IsTarget m q → from ≤ q → clear ≤ q
 
 -- what is known of the places from one on
-pub record IsAhead (m : Method) (a : Ahead) : Type 0 where
+pub record IsKnownAhead (m : Method) (a : Ahead) : Type 0 where
   pub entry : IsLeastFrom (IsEntry m) a.from a.entry
   pub clear : IsClear m a.from a.clear
 
 -- with so many cells left on the stack it is known whether the first of them is a target
-abbrev pub IsTold : Method → Ahead → ℕ → Type 0
-IsTold m a left = 0 < left → a.clear ≤ a.from → IsTarget m a.from
+abbrev pub IsTargetKnown : Method → Ahead → ℕ → Type 0
+IsTargetKnown m a left = 0 < left → a.clear ≤ a.from → IsTarget m a.from
 
 -- ---- as it is computed
 

@@ -133,7 +133,7 @@ pub record IsStopped (v : Verifier) (i : Placed) (arrival : Arrival)
   pub fails : IsFailing v i regs given regs_after stack_after fault
 
 -- a pass can begin with these registers: what is met then is met
-pub record IsBegun (v : Verifier) (regs stack : List Ty) : Type 0 where
+pub record CanBeginPass (v : Verifier) (regs stack : List Ty) : Type 0 where
   pub met :
       (given : List Ty)
       → Arrives (world_of v) (method v) true [] 0 given
@@ -143,7 +143,7 @@ pub record IsBegun (v : Verifier) (regs stack : List Ty) : Type 0 where
 -- the registers after a pass: less is left for them to rise, and another pass can begin; or they are as before, and nothing was wrong
 pub record IsRaisedBy (v : Verifier) (regs regs_after stack_after : List Ty) : Type 0 where
   pub less : sum_by (rises_left (world_of v).classes) regs_after < sum_by (rises_left (world_of v).classes) regs
-  pub again : IsBegun v regs_after stack_after
+  pub again : CanBeginPass v regs_after stack_after
 
 pub record IsSettled (v : Verifier) (regs regs_after : List Ty) : Type 0 where
   pub same : regs_after ≡ regs

@@ -2,7 +2,7 @@ ghost use Rattle.std.specs.Prelude.{◌≡◌, ◌<◌, ◌≤◌, fold, length,
 ghost use Rattle.jc_decode.specs.Decoding.{decoded};
 ghost use Rattle.jc_decode.specs.Listing.{targets};
 ghost use Rattle.card_typing.specs.Place.{IsTarget, IsEntry};
-ghost use Rattle.card_verify.specs.Ahead.{IsAhead, IsClear, IsTold, IsLeastFrom, is_nearer, least_or_none, nearer, nearer_target};
+ghost use Rattle.card_verify.specs.Ahead.{IsKnownAhead, IsClear, IsTargetKnown, IsLeastFrom, is_nearer, least_or_none, nearer, nearer_target};
 ghost use Rattle.card_verify.specs.Verifier.{method};
 
 use crate::verifier::Verifier;
@@ -22,7 +22,7 @@ pub struct Ahead {
 impl Ahead {
     /// What is ahead of the method's first place.
     pub fn of(verifier: Verifier<'_>) -> Ahead
-        ensures is { IsAhead (method verifier.entry) result }
+        ensures is { IsKnownAhead (method verifier.entry) result }
         ensures from { result.from ≡ 0 }
     {
         Ahead {
@@ -34,11 +34,11 @@ impl Ahead {
 
     /// What is ahead of a place further on. Whether it is a target is sought only where cells are left on the stack.
     pub fn moved(self, verifier: Verifier<'_>, place: u16, left: u8) -> Ahead
-        requires ahead { IsAhead (method verifier) self }
+        requires ahead { IsKnownAhead (method verifier) self }
         requires up { self.from ≤ place }
-        ensures is { IsAhead (method verifier.entry) result }
+        ensures is { IsKnownAhead (method verifier.entry) result }
         ensures from { result.from ≡ place }
-        ensures told { IsTold (method verifier.entry) result left }
+        ensures told { IsTargetKnown (method verifier.entry) result left }
     {
         Ahead {
             from: place,
@@ -49,7 +49,7 @@ impl Ahead {
 
     /// A place before which there is no target from a place further on.
     fn clear_at(self, verifier: Verifier<'_>, place: u16, left: u8) -> u32
-        requires ahead { IsAhead (method verifier) self }
+        requires ahead { IsKnownAhead (method verifier) self }
         requires up { self.from ≤ place }
         ensures clear { IsClear (method verifier.entry) place result }
         ensures told { 0 < left → result ≤ place → IsTarget (method verifier.entry) place }
@@ -63,7 +63,7 @@ impl Ahead {
 
     /// The least entry from a place further on.
     fn entry_at(self, verifier: Verifier<'_>, place: u16) -> Option<u32>
-        requires ahead { IsAhead (method verifier) self }
+        requires ahead { IsKnownAhead (method verifier) self }
         requires up { self.from ≤ place }
         ensures { IsLeastFrom (IsEntry (method verifier.entry)) place result }
     {
@@ -76,7 +76,7 @@ impl Ahead {
 
     /// Whether a handler begins at the place from which it looks.
     pub fn is_entry(self, verifier: Verifier<'_>) -> bool
-        requires { IsAhead (method verifier) self }
+        requires { IsKnownAhead (method verifier) self }
         ensures { MatchBool result (IsEntry (method verifier.entry) self.from) (¬ (IsEntry (method verifier.entry) self.from)) }
     {
         let _verifier = verifier;

@@ -8,8 +8,8 @@ ghost use Rattle.card_typing.specs.Place.{IsEntry, IsFallenInto};
 ghost use Rattle.card_typing.specs.Met.{IsOpenTo};
 ghost use Rattle.card_typing.specs.Refusal.{IsRefused};
 ghost use Rattle.card_verify.specs.Verifier.{method, world_of};
-ghost use Rattle.card_verify.specs.Ahead.{IsAhead, IsTold};
-ghost use Rattle.card_verify.specs.Walk.{IsVerifier, HasSlices, IsComing, IsLanded, IsMislanded, IsFailing, IsStepped, IsVisited, IsStopped, IsBegun, IsRaisedBy, IsSettled, IsLeftWell, IsLeftWrong, IsPut, IsBlocked, IsShared, left};
+ghost use Rattle.card_verify.specs.Ahead.{IsKnownAhead, IsTargetKnown};
+ghost use Rattle.card_verify.specs.Walk.{IsVerifier, HasSlices, IsComing, IsLanded, IsMislanded, IsFailing, IsStepped, IsVisited, IsStopped, CanBeginPass, IsRaisedBy, IsSettled, IsLeftWell, IsLeftWrong, IsPut, IsBlocked, IsShared, left};
 
 use crate::ahead::Ahead;
 use crate::verifier::Verifier;
@@ -39,7 +39,7 @@ impl Verifier<'_> {
     /// Walks the code once, raising registers in place, and tells whether one rose.
     pub(crate) fn pass(&self, regs: &mut [Ty], stack: &mut [Ty]) -> Result<bool, CardFault>
         requires verifier { IsVerifier self.now }
-        requires begun { IsBegun self.now regs.old stack.old }
+        requires begun { CanBeginPass self.now regs.old stack.old }
         ensures done { IfOk result
             (λ rose.
             MatchBool rose
@@ -81,9 +81,9 @@ impl Verifier<'_> {
         stack: &mut [Ty],
     ) -> Result<Outcome, CardFault>
         requires verifier { IsVerifier self.now }
-        requires ahead { IsAhead (method self.now) ahead }
+        requires ahead { IsKnownAhead (method self.now) ahead }
         requires here { ahead.from ≡ placed.place }
-        requires told { IsTold (method self.now) ahead (left arrival) }
+        requires told { IsTargetKnown (method self.now) ahead (left arrival) }
         requires stands { HasInstruction (method self.now).code placed }
         requires coming { IsComing self.now placed.place arrival regs.old stack.old }
         ensures passed { IfOk result (λ o. IsVisited self.now placed arrival regs.old stack.old regs.new stack.new o) }
@@ -99,8 +99,8 @@ impl Verifier<'_> {
     /// The depth of the stack with which the walk comes to a place, if that may be.
     fn land(&self, ahead: Ahead, arrival: Arrival, stack: &mut [Ty]) -> Result<u8, CardFault>
         requires verifier { IsVerifier self.now }
-        requires ahead { IsAhead (method self.now) ahead }
-        requires told { IsTold (method self.now) ahead (left arrival) }
+        requires ahead { IsKnownAhead (method self.now) ahead }
+        requires told { IsTargetKnown (method self.now) ahead (left arrival) }
         requires fallen { MatchBool arrival.may_fall
             (IsFallenInto (method self.now) ahead.from)
             (¬ (IsFallenInto (method self.now) ahead.from)) }
@@ -126,8 +126,8 @@ impl Verifier<'_> {
 
     /// Whether a target is fallen into with cells on the stack.
     fn is_blocked(&self, ahead: Ahead, arrival: Arrival) -> bool
-        requires ahead { IsAhead (method self.now) ahead }
-        requires told { IsTold (method self.now) ahead (left arrival) }
+        requires ahead { IsKnownAhead (method self.now) ahead }
+        requires told { IsTargetKnown (method self.now) ahead (left arrival) }
         ensures { MatchBool result (IsBlocked self.now ahead.from arrival) (¬ (IsBlocked self.now ahead.from arrival)) }
     {
         arrival.left() > 0 && ahead.clear <= u32::from(ahead.from)
@@ -143,7 +143,7 @@ impl Verifier<'_> {
     /// Where a handler begins, the object that is caught stands alone on the stack.
     fn enter(&self, ahead: Ahead, arrival: Arrival, stack: &mut [Ty]) -> Result<u8, CardFault>
         requires verifier { IsVerifier self.now }
-        requires ahead { IsAhead (method self.now) ahead }
+        requires ahead { IsKnownAhead (method self.now) ahead }
         requires entry { IsEntry (method self.now) ahead.from }
         requires fallen { MatchBool arrival.may_fall
             (IsFallenInto (method self.now) ahead.from)

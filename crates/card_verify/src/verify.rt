@@ -8,7 +8,7 @@ ghost use Rattle.card_typing.specs.Typing.{HasCardTyping, IsLeastCardTyping};
 ghost use Rattle.card_typing.specs.Refusal.{IsFlawKind, IsRefused, fault_of};
 ghost use Rattle.card_verify.specs.Answers.{TellsFlaw};
 ghost use Rattle.card_verify.specs.Verifier.{method, world_of};
-ghost use Rattle.card_verify.specs.Walk.{IsVerifier, HasSlices, IsBegun, IsFinished};
+ghost use Rattle.card_verify.specs.Walk.{IsVerifier, HasSlices, CanBeginPass, IsFinished};
 
 use crate::start::start;
 use crate::verifier::Verifier;
@@ -151,7 +151,7 @@ impl Verifier<'_> {
     /// Passes over the code until no register rises.
     fn settle(&self, regs: &mut [Ty], stack: &mut [Ty]) -> Result<(), CardFault>
         requires verifier { IsVerifier self.now }
-        requires begun { IsBegun self.now regs.old stack.old }
+        requires begun { CanBeginPass self.now regs.old stack.old }
         ensures finished { OnOk result (IsFinished self.now regs.new) }
         ensures refused { IfErr result
             (λ fault.

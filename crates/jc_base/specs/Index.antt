@@ -2,10 +2,10 @@
 use Rattle.std.specs.Prelude.{ℕ, ◌+◌, ◌*◌, List, [], ◌∷◌, ◌≡◌, ◌<◌, Some, slice_get}
 
 -- an odd last byte is left out
-abbrev pub numbers : List ℕ → List ℕ
-numbers [] = []
-numbers (high ∷ []) = []
-numbers (high ∷ low ∷ bytes) = (high * 256 + low) ∷ numbers bytes
+abbrev pub words_of_bytes : List ℕ → List ℕ
+words_of_bytes [] = []
+words_of_bytes (high ∷ []) = []
+words_of_bytes (high ∷ low ∷ bytes) = (high * 256 + low) ∷ words_of_bytes bytes
 
 -- each entry is above the one before it
 abbrev pub IsAscending : List ℕ → Type 0

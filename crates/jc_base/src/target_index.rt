@@ -1,5 +1,5 @@
 ghost use Rattle.std.specs.Prelude.{◌≡◌, ◌+◌, ◌≤◌, length, slice_get};
-ghost use Rattle.jc_base.specs.Index.{numbers};
+ghost use Rattle.jc_base.specs.Index.{words_of_bytes};
 
 use crate::steps::Steps;
 use byteorder::{BigEndian, ByteOrder};
@@ -15,11 +15,11 @@ pub struct TargetIndex<'a> {
 
 impl<'a> Model for TargetIndex<'a> {
     ghost use Rattle.std.specs.Prelude.{List, ℕ, ◌≤◌, length};
-    ghost use Rattle.jc_base.specs.Index.{numbers};
+    ghost use Rattle.jc_base.specs.Index.{words_of_bytes};
 
     ghost Value = { List ℕ };
 
-    ghost view = { λ x. numbers x.bytes.now };
+    ghost view = { λ x. words_of_bytes x.bytes.now };
 
     ghost invariant = { λ x. length x.bytes.now ≤ 65535 };
 }
@@ -28,7 +28,7 @@ impl<'a> TargetIndex<'a> {
     /// The index that these bytes spell. An odd last byte is left out.
     pub fn of(bytes: &'a [u8]) -> TargetIndex<'a>
         requires { length bytes.now ≤ 65535 }
-        ensures { result ≡ numbers bytes.now }
+        ensures { result ≡ words_of_bytes bytes.now }
     {
         TargetIndex { bytes }
     }

@@ -14,8 +14,8 @@ use Rattle.jc_resolve.specs.declared.fault.LinkFault.TheVariants.{Hole, Override
 use Rattle.jc_resolve.specs.declared.named.NamedClass.{NamedClass}
 use Rattle.jc_resolve.proofs.Faultless.{both_faultless, flat_faultless}
 use Rattle.jc_classes.specs.Layout.{public_entries, visible_entries}
-use Rattle.jc_classes.specs.Signatures.{method_in, signature_in, same_signature}
-use Rattle.jc_classes.specs.Conditions.{Entry, entries_from, entries_in, may_stand, hole_fault, holes, Replacement, replacements_from, replacements_in, override_fault, overrides, layout_above, visible_above, Implementation, implemented_by, implementations_in, interface_fault, serves_all, unserved}
+use Rattle.jc_classes.specs.Signatures.{entry_method, entry_signature, same_signature}
+use Rattle.jc_classes.specs.Conditions.{DispatchEntry, entries_from, entries_in, may_stand, hole_fault, holes, Replacement, replacements_from, replacements_in, override_fault, overrides, layout_above, visible_above, Implementation, implemented_by, implementations_in, interface_fault, serves_all, unserved}
 use Rattle.jc_classes.specs.Tables.{methods_listed}
 use Rattle.jc_classes.proofs.SameTypes.{same_signature-equal}
 use Rattle.jc_classes.proofs.Agreed.{slice_get-numbers}
@@ -29,9 +29,9 @@ class_faultless f things n c e h = flat_faultless f things (range_with_len 0 n) 
 -- each entry has a method that may stand in the list
 abbrev pub AllStand : LineTable → ℕ → List MethodRec → List (Option ℕ) → Type 0
 AllStand t c methods [] = Unit {0}
-AllStand t c methods (e ∷ es) = (may_stand t c (method_in methods e) ≡ true) × AllStand t c methods es
+AllStand t c methods (e ∷ es) = (may_stand t c (entry_method methods e) ≡ true) × AllStand t c methods es
 
-stands_by : (t : LineTable) (methods : List MethodRec) (e : Entry) (b : Bool) → may_stand t e.class (method_in methods e.method) ≡ b → hole_fault t methods e ≡ None → b ≡ true
+stands_by : (t : LineTable) (methods : List MethodRec) (e : DispatchEntry) (b : Bool) → may_stand t e.class (entry_method methods e.method) ≡ b → hole_fault t methods e ≡ None → b ≡ true
 unfolding hole_fault
 stands_by t methods e true at none = refl
 stands_by t methods e false at none =
@@ -42,9 +42,9 @@ stands_by t methods e false at none =
 pub all_stand : (t : LineTable) (methods : List MethodRec) (c token : ℕ) (list : List (Option ℕ)) → filter_map (hole_fault t methods) (entries_from c token list) ≡ [] → AllStand t c methods list
 all_stand t methods c token [] e = tt {0}
 all_stand t methods c token (m ∷ ms) e =
-    let entry : Entry = record { class = c; token = token; method = m } in
+    let entry : DispatchEntry = record { class = c; token = token; method = m } in
     let both = faultless_first (hole_fault t methods entry) (filter_map (hole_fault t methods) (entries_from c (token + 1) ms)) e in
-    (stands_by t methods entry (may_stand t c (method_in methods m)) refl both.0, all_stand t methods c (token + 1) ms both.1)
+    (stands_by t methods entry (may_stand t c (entry_method methods m)) refl both.0, all_stand t methods c (token + 1) ms both.1)
 
 pub public_stand : (t : LineTable) (classes : List NamedClass) (methods : List MethodRec) (c : ℕ) → holes t classes methods ≡ [] → c < length classes → AllStand t c methods (public_entries t classes c)
 public_stand t classes methods c none h =
@@ -79,17 +79,17 @@ listed_all P t c methods each [] stand = All-nil P
 listed_all P t c methods each (None ∷ es) stand = absurd (false≢true stand.0)
 listed_all P t c methods each (Some m ∷ es) stand = All-cons P m (methods_listed es) (each m stand.0) (listed_all P t c methods each es stand.1)
 
-signature_by : (methods : List MethodRec) (o : Option ℕ) → option_and_then (signature_of methods) o ≡ signature_in methods o
+signature_by : (methods : List MethodRec) (o : Option ℕ) → option_and_then (signature_of methods) o ≡ entry_signature methods o
 signature_by methods None = refl
 signature_by methods (Some n) = refl
 
 -- the signature at a token of a list whose entries are all there
-pub signature_listed : (methods : List MethodRec) (entries : List (Option ℕ)) (token : ℕ) → IsListed entries → signature_at methods (methods_listed entries) token ≡ signature_in methods (option_flatten (slice_get entries token))
+pub signature_listed : (methods : List MethodRec) (entries : List (Option ℕ)) (token : ℕ) → IsListed entries → signature_at methods (methods_listed entries) token ≡ entry_signature methods (option_flatten (slice_get entries token))
 signature_listed methods entries token l = ap (option_and_then (signature_of methods)) (l.at token) ∙ signature_by methods (option_flatten (slice_get entries token))
 
 -- ---- entries that replace others
 
-same_by : (methods : List MethodRec) (r : Replacement) (b : Bool) → same_signature (signature_in methods r.method) (signature_in methods r.inherited) ≡ b → override_fault methods r ≡ None → b ≡ true
+same_by : (methods : List MethodRec) (r : Replacement) (b : Bool) → same_signature (entry_signature methods r.method) (entry_signature methods r.inherited) ≡ b → override_fault methods r ≡ None → b ≡ true
 unfolding override_fault
 same_by methods r true at none = refl
 same_by methods r false at none =
@@ -98,20 +98,20 @@ same_by methods r false at none =
     absurd cc
 
 all_agree : (methods : List MethodRec) (c token : ℕ) (inherited list : List (Option ℕ)) (i : ℕ) → filter_map (override_fault methods) (replacements_from c token inherited list) ≡ [] → i < length inherited → i < length list
-    → signature_in methods (option_flatten (slice_get list i)) ≡ signature_in methods (option_flatten (slice_get inherited i))
+    → entry_signature methods (option_flatten (slice_get list i)) ≡ entry_signature methods (option_flatten (slice_get inherited i))
 all_agree methods c token [] list i e h k = absurd (omega arith)
 all_agree methods c token (x ∷ xs) [] i e h k = absurd (omega arith)
 all_agree methods c token (x ∷ xs) (m ∷ ms) zero e h k =
     let r : Replacement = record { class = c; token = token; inherited = x; method = m } in
     let none = (faultless_first (override_fault methods r) (filter_map (override_fault methods) (replacements_from c (token + 1) xs ms)) e).0 in
-    same_signature-equal (signature_in methods m) (signature_in methods x) (same_by methods r (same_signature (signature_in methods m) (signature_in methods x)) refl none)
+    same_signature-equal (entry_signature methods m) (entry_signature methods x) (same_by methods r (same_signature (entry_signature methods m) (entry_signature methods x)) refl none)
 all_agree methods c token (x ∷ xs) (m ∷ ms) (suc i) e h k =
     let r : Replacement = record { class = c; token = token; inherited = x; method = m } in
     all_agree methods c (token + 1) xs ms i (faultless_first (override_fault methods r) (filter_map (override_fault methods) (replacements_from c (token + 1) xs ms)) e).1 (omega arith) (omega arith)
 
 -- the entries of a list have the signatures of the inherited list
 pub record Agrees (methods : List MethodRec) (inherited list : List (Option ℕ)) : Type 0 where
-  pub at : (i : ℕ) → i < length inherited → i < length list → signature_in methods (option_flatten (slice_get list i)) ≡ signature_in methods (option_flatten (slice_get inherited i))
+  pub at : (i : ℕ) → i < length inherited → i < length list → entry_signature methods (option_flatten (slice_get list i)) ≡ entry_signature methods (option_flatten (slice_get inherited i))
 
 pub public_agrees : (t : LineTable) (classes : List NamedClass) (methods : List MethodRec) (c : ℕ) → overrides t classes methods ≡ [] → c < length classes → Agrees methods (layout_above t classes c).public (public_entries t classes c)
 public_agrees t classes methods c none h =

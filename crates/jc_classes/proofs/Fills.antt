@@ -15,8 +15,8 @@ use Rattle.jc_classes.proofs.Climbs.{chain_from, chain_step, climbed_whole, head
 use Rattle.jc_resolve.specs.declared.named.NamedClass.{NamedClass}
 use Rattle.jc_resolve.specs.Named.{IsSized}
 use Rattle.jc_classes.specs.declared.layout.ClassLayout.{ClassLayout}
-use Rattle.jc_classes.specs.Layout.{layouts, of_class, own_of, instance_cells, layout_of, layout_from, above_or_nothing, at_home}
-use Rattle.jc_classes.specs.Slots.{slot_at, IsFilled, AreSlots, IsMade, Keeps, IsClimb}
+use Rattle.jc_classes.specs.Layout.{layouts, of_class, own_of, instance_cells, class_layout, class_layout_from, above_or_nothing, at_home}
+use Rattle.jc_classes.specs.Slots.{slot_at, IsFilled, AreLayouts, IsMade, KeepsFilled, IsClimb}
 use Rattle.jc_classes.proofs.Steps.{layout_step}
 
 -- ---- a write to a slot
@@ -29,42 +29,42 @@ pub filled-other : (slots : List (Option ClassLayout)) (c d : ℕ) (l : ClassLay
 unfolding slot_at
 filled-other slots c d l ne = ap option_flatten (slice_get-set_other slots c d (Some l) ne)
 
-pub slots_filled : (t : LineTable) (classes : List NamedClass) (slots : List (Option ClassLayout)) (c : ℕ) (l : ClassLayout) → AreSlots t classes slots → c < length classes → l ≡ layout_of t classes c
-    → AreSlots t classes (set slots c (Some l))
+pub slots_filled : (t : LineTable) (classes : List NamedClass) (slots : List (Option ClassLayout)) (c : ℕ) (l : ClassLayout) → AreLayouts t classes slots → c < length classes → l ≡ class_layout t classes c
+    → AreLayouts t classes (set slots c (Some l))
 slots_filled t classes slots c l are h is = record {
   count = length-set slots c (Some l) ∙ are.count;
   right = λ d. elim (cases_eq c d) [
     | inl e ↦
         let within : c < length slots = omega (arith, are.count) in
         let here : slot_at (set slots c (Some l)) d ≡ Some l = ap (slot_at (set slots c (Some l))) (sym e) ∙ filled-here slots c l within in
-        subst (λ (o : Option ClassLayout). IfSome o (λ m. m ≡ layout_of t classes d)) (sym here) (is ∙ ap (layout_of t classes) e)
-    | inr ne ↦ subst (λ (o : Option ClassLayout). IfSome o (λ m. m ≡ layout_of t classes d)) (sym (filled-other slots c d l ne)) (are.right d)
+        subst (λ (o : Option ClassLayout). IfSome o (λ m. m ≡ class_layout t classes d)) (sym here) (is ∙ ap (class_layout t classes) e)
+    | inr ne ↦ subst (λ (o : Option ClassLayout). IfSome o (λ m. m ≡ class_layout t classes d)) (sym (filled-other slots c d l ne)) (are.right d)
   ];
 }
 
-pub slots_kept : (t : LineTable) (classes : List NamedClass) (slots : List (Option ClassLayout)) (c : ℕ) (l : ClassLayout) → AreSlots t classes slots → c < length classes → l ≡ layout_of t classes c
-    → Keeps t classes slots (set slots c (Some l))
+pub slots_kept : (t : LineTable) (classes : List NamedClass) (slots : List (Option ClassLayout)) (c : ℕ) (l : ClassLayout) → AreLayouts t classes slots → c < length classes → l ≡ class_layout t classes c
+    → KeepsFilled t classes slots (set slots c (Some l))
 slots_kept t classes slots c l are h is = record {
   filled = λ d was. elim (cases_eq c d) [
     | inl e ↦
         let within : c < length slots = omega (arith, are.count) in
-        ap (slot_at (set slots c (Some l))) (sym e) ∙ filled-here slots c l within ∙ ap Some (is ∙ ap (layout_of t classes) e)
+        ap (slot_at (set slots c (Some l))) (sym e) ∙ filled-here slots c l within ∙ ap Some (is ∙ ap (class_layout t classes) e)
     | inr ne ↦ filled-other slots c d l ne ∙ was
   ];
 }
 
 -- ---- the superclass's slot
 
-made_is : (t : LineTable) (classes : List NamedClass) (p : ℕ) (o : Option ClassLayout) → IsSome o → IfSome o (λ l. l ≡ layout_of t classes p) → o ≡ Some (layout_of t classes p)
+made_is : (t : LineTable) (classes : List NamedClass) (p : ℕ) (o : Option ClassLayout) → IsSome o → IfSome o (λ l. l ≡ class_layout t classes p) → o ≡ Some (class_layout t classes p)
 made_is t classes p None is e = absurd (false≢true is)
 made_is t classes p (Some l) is e = ap Some e
 
 -- a slot that is not empty holds the layout of its class
-pub filled_from : (t : LineTable) (classes : List NamedClass) (slots : List (Option ClassLayout)) (above : Option ℕ) → AreSlots t classes slots → IfSome above (λ p. IsSome (slot_at slots p)) → IfSome above (IsFilled t classes slots)
+pub filled_from : (t : LineTable) (classes : List NamedClass) (slots : List (Option ClassLayout)) (above : Option ℕ) → AreLayouts t classes slots → IfSome above (λ p. IsSome (slot_at slots p)) → IfSome above (IsFilled t classes slots)
 filled_from t classes slots None are made = tt
 filled_from t classes slots (Some p) are made = made_is t classes p (slot_at slots p) made (are.right p)
 
-pub above_filled : (t : LineTable) (classes : List NamedClass) (slots : List (Option ClassLayout)) (above : Option ℕ) → IfSome above (IsFilled t classes slots) → option_and_then (slot_at slots) above ≡ option_map (layout_of t classes) above
+pub above_filled : (t : LineTable) (classes : List NamedClass) (slots : List (Option ClassLayout)) (above : Option ℕ) → IfSome above (IsFilled t classes slots) → option_and_then (slot_at slots) above ≡ option_map (class_layout t classes) above
 above_filled t classes slots None made = refl
 above_filled t classes slots (Some p) made = made
 
@@ -92,26 +92,26 @@ cells_few t classes c all few =
     let long = chain-length t c in
     omega (arith, sum, long)
 
-pub above_few : (t : LineTable) (classes : List NamedClass) (above : Option ℕ) → All IsSized classes → length t.lines ≤ 4096 → (above_or_nothing (option_map (layout_of t classes) above)).cells ≤ 536993790
-unfolding layout_of
+pub above_few : (t : LineTable) (classes : List NamedClass) (above : Option ℕ) → All IsSized classes → length t.lines ≤ 4096 → (above_or_nothing (option_map (class_layout t classes) above)).cells ≤ 536993790
+unfolding class_layout
 above_few t classes None all few = omega arith
 above_few t classes (Some p) all few = cells_few t classes p all few
 
 -- ---- a class made from the one above it
 
-pub up_is : (t : LineTable) (classes : List NamedClass) (slots : List (Option ClassLayout)) (above : Option ℕ) (up : Option ClassLayout) → up ≡ option_and_then (slot_at slots) above → IfSome above (IsFilled t classes slots) → up ≡ option_map (layout_of t classes) above
+pub up_is : (t : LineTable) (classes : List NamedClass) (slots : List (Option ClassLayout)) (above : Option ℕ) (up : Option ClassLayout) → up ≡ option_and_then (slot_at slots) above → IfSome above (IsFilled t classes slots) → up ≡ option_map (class_layout t classes) above
 up_is t classes slots above up e made = e ∙ above_filled t classes slots above made
 
 pub up_few : (t : LineTable) (classes : List NamedClass) (slots : List (Option ClassLayout)) (above : Option ℕ) (up : Option ClassLayout) → up ≡ option_and_then (slot_at slots) above → IfSome above (IsFilled t classes slots) → HaveSuperclasses t classes
     → (above_or_nothing up).cells ≤ 536993790
 up_few t classes slots above up e made known = rw (up_is t classes slots above up e made) (above_few t classes above known.sized (omega (arith, known.few, known.count)))
 
-pub made_right : (t : LineTable) (classes : List NamedClass) (slots : List (Option ClassLayout)) (above : Option ℕ) (up : Option ClassLayout) (c : ℕ) (k : NamedClass) (made : ClassLayout) → AreSlots t classes slots → c < length classes
+pub made_right : (t : LineTable) (classes : List NamedClass) (slots : List (Option ClassLayout)) (above : Option ℕ) (up : Option ClassLayout) (c : ℕ) (k : NamedClass) (made : ClassLayout) → AreLayouts t classes slots → c < length classes
     → up ≡ option_and_then (slot_at slots) above → IfSome above (IsFilled t classes slots) → slice_get classes c ≡ Some k → chain t c ≡ c ∷ list_of (chain t) above
-    → made ≡ layout_from k (above_or_nothing up) (at_home t above c) → IsMade t classes slots (set slots c (Some made)) c
+    → made ≡ class_layout_from k (above_or_nothing up) (at_home t above c) → IsMade t classes slots (set slots c (Some made)) c
 made_right t classes slots above up c k made are known e filled at step is =
-    let same : made ≡ layout_of t classes c =
-    is ∙ ap (λ (o : Option ClassLayout). layout_from k (above_or_nothing o) (at_home t above c)) (up_is t classes slots above up e filled) ∙ sym (layout_step t classes c above k step at) in
+    let same : made ≡ class_layout t classes c =
+    is ∙ ap (λ (o : Option ClassLayout). class_layout_from k (above_or_nothing o) (at_home t above c)) (up_is t classes slots above up e filled) ∙ sym (layout_step t classes c above k step at) in
     let within : c < length slots = omega (arith, are.count) in
     record {
       slots = slots_filled t classes slots c made are known same;
@@ -163,8 +163,8 @@ down_known t classes path rest x above c are known h e whole =
 
 pub record IsDescent (t : LineTable) (classes : List NamedClass) (first : List (Option ClassLayout)) (slots : List (Option ClassLayout)) (c : ℕ) (path : List ℕ) (above : Option ℕ) : Type 0 where
   pub whole : path ++ list_of (chain t) above ≡ chain t c
-  pub right : AreSlots t classes slots
-  pub keeps : Keeps t classes first slots
+  pub right : AreLayouts t classes slots
+  pub keeps : KeepsFilled t classes first slots
   pub filled : IfSome above (IsFilled t classes slots)
   pub known : IfSome above (λ p. p < length classes)
 
@@ -172,7 +172,7 @@ above_counted : (t : LineTable) (classes : List NamedClass) (above : Option ℕ)
 above_counted t classes None known h = tt
 above_counted t classes (Some p) known h = omega (arith, known.count, h)
 
-pub descent_first : (t : LineTable) (classes : List NamedClass) (slots : List (Option ClassLayout)) (c : ℕ) (path : List ℕ) (above : Option ℕ) → HaveSuperclasses t classes → AreSlots t classes slots → IsClimb t slots c path above → IsDescent t classes slots slots c path above
+pub descent_first : (t : LineTable) (classes : List NamedClass) (slots : List (Option ClassLayout)) (c : ℕ) (path : List ℕ) (above : Option ℕ) → HaveSuperclasses t classes → AreLayouts t classes slots → IsClimb t slots c path above → IsDescent t classes slots slots c path above
 descent_first t classes slots c path above known are climb = record {
   whole = climb.whole;
   right = are;
@@ -206,7 +206,7 @@ pub ruleset fills = (descent_first, descent_last, down_step, down_known)
 
 -- slots of which those below a number are filled
 pub record AreFilledBelow (t : LineTable) (classes : List NamedClass) (slots : List (Option ClassLayout)) (n : ℕ) : Type 0 where
-  pub right : AreSlots t classes slots
+  pub right : AreLayouts t classes slots
   pub filled : (c : ℕ) → c < n → IsFilled t classes slots c
 
 nothing_there : (n c : ℕ) → option_flatten (slice_get {X = Option ClassLayout} (replicate n None) c) ≡ None
@@ -221,7 +221,7 @@ none_filled t classes slots n m e =
     record {
       right = record {
         count = ap length e ∙ length-replicate n None ∙ m;
-        right = λ c. subst (λ (o : Option ClassLayout). IfSome o (λ l. l ≡ layout_of t classes c)) (sym (ap (λ (xs : List (Option ClassLayout)). slot_at xs c) e ∙ nothing_there n c)) tt;
+        right = λ c. subst (λ (o : Option ClassLayout). IfSome o (λ l. l ≡ class_layout t classes c)) (sym (ap (λ (xs : List (Option ClassLayout)). slot_at xs c) e ∙ nothing_there n c)) tt;
       };
       filled = f;
     }
@@ -267,7 +267,7 @@ pub all_filled : (t : LineTable) (classes : List NamedClass) (slots : List (Opti
 unfolding slot_at
 all_filled t classes slots are =
     let n : length slots ≡ length classes = are.right.count in
-    all_some (layout_of t classes) slots 0 (λ c h. are.filled c (omega (arith, n)) ∙ ap (λ (k : ℕ). Some (layout_of t classes k)) (omega arith))
-    ∙ ap (λ (k : ℕ). map (layout_of t classes) (range_with_len 0 k)) n
+    all_some (class_layout t classes) slots 0 (λ c h. are.filled c (omega (arith, n)) ∙ ap (λ (k : ℕ). Some (class_layout t classes k)) (omega arith))
+    ∙ ap (λ (k : ℕ). map (class_layout t classes) (range_with_len 0 k)) n
 
 pub ruleset filled_in_turn = (none_filled, more_filled, all_filled)

@@ -20,27 +20,27 @@ use Rattle.first_fault.specs.Least.{least_from, least_of, lesser}
 use Rattle.jc_classes.specs.Known.{HaveSuperclasses}
 use Rattle.jc_classes.specs.declared.layout.ClassLayout.{ClassLayout}
 use Rattle.jc_classes.specs.Entries.{reach, reach_from, reach_of}
-use Rattle.jc_classes.specs.Layout.{of_class, public_table, visible_table, home_run, public_entries, visible_entries, instance_cells, layout_of, layouts}
-use Rattle.jc_classes.specs.Slots.{IsShort}
-use Rattle.jc_classes.specs.Signatures.{method_in}
-use Rattle.jc_classes.specs.Conditions.{Entry, entries_from, Replacement, replacements_from, long_fault}
+use Rattle.jc_classes.specs.Layout.{of_class, public_table, visible_table, home_run, public_entries, visible_entries, instance_cells, class_layout, layouts}
+use Rattle.jc_classes.specs.Slots.{HasShortLists}
+use Rattle.jc_classes.specs.Signatures.{entry_method}
+use Rattle.jc_classes.specs.Conditions.{DispatchEntry, entries_from, Replacement, replacements_from, long_fault}
 use Rattle.jc_classes.proofs.Overlays.{length-entries}
 use Rattle.jc_classes.proofs.Fills.{sized_at}
 
 -- the class of a method of an entry
-pub class_known : (methods : List MethodRec) (n : ℕ) (entry : Option ℕ) (m : MethodRec) → All (λ (k : MethodRec). k.class < n) methods → Some m ≡ method_in methods entry → m.class < n
+pub class_known : (methods : List MethodRec) (n : ℕ) (entry : Option ℕ) (m : MethodRec) → All (λ (k : MethodRec). k.class < n) methods → Some m ≡ entry_method methods entry → m.class < n
 class_known methods n None m all e = absurd cc
 class_known methods n (Some k) m all e = All-slice_get (λ (k : MethodRec). k.class < n) methods k m all (sym e)
 
 -- ---- entry by entry
 
-pub entries_next : (fault : Entry → Option LinkFault) (c token i : ℕ) (list : List (Option ℕ)) (least : Option LinkFault) (d : Option ℕ) → i < length list
+pub entries_next : (fault : DispatchEntry → Option LinkFault) (c token i : ℕ) (list : List (Option ℕ)) (least : Option LinkFault) (d : Option ℕ) → i < length list
     → least_from link_place least fault (entries_from c token (drop i list)) ≡ least_from link_place (lesser link_place least (fault (record { class = c; token = token; method = get_or list i d }))) fault (entries_from c (token + 1) (drop (i + 1) list))
 entries_next fault c token i list least d h =
     let more : suc i ≡ i + 1 = omega arith in
     ap (λ (es : List (Option ℕ)). least_from link_place least fault (entries_from c token es)) (drop-cons list i d h ∙ ap (λ (k : ℕ). get_or list i d ∷ drop k list) more)
 
-pub entries_end : (fault : Entry → Option LinkFault) (c token i : ℕ) (list : List (Option ℕ)) (least : Option LinkFault) → length list ≤ i → least_from link_place least fault (entries_from c token (drop i list)) ≡ least
+pub entries_end : (fault : DispatchEntry → Option LinkFault) (c token i : ℕ) (list : List (Option ℕ)) (least : Option LinkFault) → length list ≤ i → least_from link_place least fault (entries_from c token (drop i list)) ≡ least
 entries_end fault c token i list least h = rw (drop_all i list h) refl
 
 pub ruleset entry_folds = (entries_next, entries_end)
@@ -98,26 +98,26 @@ reach_of_few : (f : ℕ → DispatchTable) → ((c : ℕ) → reach (f c) ≤ 51
 reach_of_few f each [] = omega arith
 reach_of_few f each (c ∷ cs) = omega (arith, each c, reach_of_few f each cs)
 
-pub lists_short : (t : LineTable) (classes : List NamedClass) (c : ℕ) → All IsSized classes → IsShort (layout_of t classes c)
-unfolding layout_of public_entries visible_entries
+pub lists_short : (t : LineTable) (classes : List NamedClass) (c : ℕ) → All IsSized classes → HasShortLists (class_layout t classes c)
+unfolding class_layout public_entries visible_entries
 lists_short t classes c all = record {
   public = rw (length-entries (map (public_table classes) (chain t c))) (reach_of_few (public_table classes) (λ k. public_few classes k all) (chain t c));
   visible = rw (length-entries (map (visible_table classes) (home_run t c))) (reach_of_few (visible_table classes) (λ k. visible_few classes k all) (home_run t c));
 }
 
 -- the layout of a class in the list of all
-pub layout_is : (t : LineTable) (classes : List NamedClass) (all : List ClassLayout) (c : ℕ) (d : ClassLayout) → all ≡ layouts t classes → c < length classes → get_or all c d ≡ layout_of t classes c
-layout_is t classes all c d e h = ap (λ (ls : List ClassLayout). get_or ls c d) e ∙ get_or-map-range_with_len (layout_of t classes) 0 (length classes) c c d h (omega arith)
+pub layout_is : (t : LineTable) (classes : List NamedClass) (all : List ClassLayout) (c : ℕ) (d : ClassLayout) → all ≡ layouts t classes → c < length classes → get_or all c d ≡ class_layout t classes c
+layout_is t classes all c d e h = ap (λ (ls : List ClassLayout). get_or ls c d) e ∙ get_or-map-range_with_len (class_layout t classes) 0 (length classes) c c d h (omega arith)
 
-pub layout_short : (t : LineTable) (classes : List NamedClass) (all : List ClassLayout) (c : ℕ) (d : ClassLayout) → all ≡ layouts t classes → c < length classes → HaveSuperclasses t classes → IsShort (get_or all c d)
+pub layout_short : (t : LineTable) (classes : List NamedClass) (all : List ClassLayout) (c : ℕ) (d : ClassLayout) → all ≡ layouts t classes → c < length classes → HaveSuperclasses t classes → HasShortLists (get_or all c d)
 layout_short t classes all c d e h known = rw (layout_is t classes all c d e h) (lists_short t classes c known.sized)
 
 pub layouts_count : (t : LineTable) (classes : List NamedClass) (all : List ClassLayout) → all ≡ layouts t classes → length all ≡ length classes
-layouts_count t classes all e = ap length e ∙ length-map-range_with_len (layout_of t classes) 0 (length classes)
+layouts_count t classes all e = ap length e ∙ length-map-range_with_len (class_layout t classes) 0 (length classes)
 
 pub ruleset folds = (least_next, least_both, layout_is, layout_short, layouts_count)
 
-pub layout_at : (t : LineTable) (classes : List NamedClass) (all : List ClassLayout) (c : ℕ) (l : ClassLayout) → all ≡ layouts t classes → c < length classes → l ≡ get_or all c l → l ≡ layout_of t classes c
+pub layout_at : (t : LineTable) (classes : List NamedClass) (all : List ClassLayout) (c : ℕ) (l : ClassLayout) → all ≡ layouts t classes → c < length classes → l ≡ get_or all c l → l ≡ class_layout t classes c
 layout_at t classes all c l e h is = is ∙ layout_is t classes all c l e h
 
 -- ---- replacement by replacement
@@ -135,10 +135,10 @@ replacements_next fault c first i inherited list least d e h k =
 -- ---- the superclass among all classes
 
 pub above_at : (t : LineTable) (classes : List NamedClass) (all : List ClassLayout) (p : ℕ) (d : ClassLayout) (o : Option ℕ) → all ≡ layouts t classes → p < length t.lines → HaveSuperclasses t classes → Some p ≡ o → d ≡ get_or all p d
-    → Some d ≡ option_map (layout_of t classes) o
+    → Some d ≡ option_map (class_layout t classes) o
 above_at t classes all p d o e h known is at =
     let low : p < length classes = omega (arith, known.count) in
-    ap Some (layout_at t classes all p d e low at) ∙ ap (option_map (layout_of t classes)) is
+    ap Some (layout_at t classes all p d e low at) ∙ ap (option_map (class_layout t classes)) is
 
 pub ruleset above_in_all = (above_at, layouts_count)
 
@@ -155,7 +155,7 @@ unfolding long_fault
 long_by c cells t classes b e is = rw (← is, e) refl
 
 pub cells_are : (t : LineTable) (classes : List NamedClass) (all : List ClassLayout) (c : ℕ) (l : ClassLayout) → all ≡ layouts t classes → c < length classes → l ≡ get_or all c l → l.cells ≡ instance_cells t classes c
-unfolding layout_of
+unfolding class_layout
 cells_are t classes all c l e h is = ap (λ (x : ClassLayout). x.cells) (layout_at t classes all c l e h is)
 
 pub long_next : (t : LineTable) (classes : List NamedClass) (all : List ClassLayout) (c : ℕ) (d : ClassLayout) (least fault : Option LinkFault) → all ≡ layouts t classes → c < length classes → d ≡ get_or all c d
@@ -167,13 +167,13 @@ long_next t classes all c d least fault e h at is before =
 pub ruleset long_folds = (long_next, layouts_count)
 
 pub public_at : (t : LineTable) (classes : List NamedClass) (all : List ClassLayout) (c : ℕ) (l : ClassLayout) → all ≡ layouts t classes → c < length classes → l ≡ get_or all c l → l.public ≡ public_entries t classes c
-unfolding layout_of
+unfolding class_layout
 public_at t classes all c l e h is = ap (λ (x : ClassLayout). x.public) (layout_at t classes all c l e h is)
 
 pub public_is : (t : LineTable) (classes : List NamedClass) (all : List ClassLayout) (c : ℕ) (d : ClassLayout) → all ≡ layouts t classes → c < length classes → (get_or all c d).public ≡ public_entries t classes c
-unfolding layout_of
+unfolding class_layout
 public_is t classes all c d e h = ap (λ (x : ClassLayout). x.public) (layout_is t classes all c d e h)
 
 pub visible_is : (t : LineTable) (classes : List NamedClass) (all : List ClassLayout) (c : ℕ) (d : ClassLayout) → all ≡ layouts t classes → c < length classes → (get_or all c d).visible ≡ visible_entries t classes c
-unfolding layout_of
+unfolding class_layout
 visible_is t classes all c d e h = ap (λ (x : ClassLayout). x.visible) (layout_is t classes all c d e h)

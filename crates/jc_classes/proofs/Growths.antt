@@ -18,9 +18,9 @@ use Rattle.jc_resolve.specs.Named.{IsSized}
 use Rattle.jc_resolve.proofs.Faultless.{both_faultless}
 use Rattle.jc_classes.specs.declared.layout.ClassLayout.{ClassLayout}
 use Rattle.jc_classes.specs.Entries.{reach, overlaid}
-use Rattle.jc_classes.specs.Growth.{own_by, is_own, AddsOwn, Grows}
-use Rattle.jc_classes.specs.Layout.{above_or_nothing, at_home, layout_of, public_entries, visible_entries}
-use Rattle.jc_classes.specs.Signatures.{method_in}
+use Rattle.jc_classes.specs.Growth.{own_by, is_own, AddsOwn, GrowsLists}
+use Rattle.jc_classes.specs.Layout.{above_or_nothing, at_home, class_layout, public_entries, visible_entries}
+use Rattle.jc_classes.specs.Signatures.{entry_method}
 use Rattle.jc_classes.specs.Conditions.{entries_from, entries_in, hole_fault, may_stand, layout_above, visible_above}
 use Rattle.jc_classes.proofs.Faultless.{AllStand, all_stand, class_faultless}
 use Rattle.jc_classes.proofs.Folds.{least_both}
@@ -29,11 +29,11 @@ use Rattle.jc_classes.proofs.Steps.{public_step, visible_step}
 
 -- ---- a list and what it is made of
 
-pub public_made : (t : LineTable) (classes : List NamedClass) (c : ℕ) (above : Option ℕ) (k : NamedClass) (up : Option ClassLayout) → chain t c ≡ c ∷ list_of (chain t) above → slice_get classes c ≡ Some k → up ≡ option_map (layout_of t classes) above
+pub public_made : (t : LineTable) (classes : List NamedClass) (c : ℕ) (above : Option ℕ) (k : NamedClass) (up : Option ClassLayout) → chain t c ≡ c ∷ list_of (chain t) above → slice_get classes c ≡ Some k → up ≡ option_map (class_layout t classes) above
     → public_entries t classes c ≡ overlaid k.public (above_or_nothing up).public
 public_made t classes c above k up step at is = public_step t classes c above k step at ∙ ap (λ (o : Option ClassLayout). overlaid k.public (above_or_nothing o).public) (sym is)
 
-pub visible_made : (t : LineTable) (classes : List NamedClass) (c : ℕ) (above : Option ℕ) (k : NamedClass) (up : Option ClassLayout) → chain t c ≡ c ∷ list_of (chain t) above → slice_get classes c ≡ Some k → up ≡ option_map (layout_of t classes) above
+pub visible_made : (t : LineTable) (classes : List NamedClass) (c : ℕ) (above : Option ℕ) (k : NamedClass) (up : Option ClassLayout) → chain t c ≡ c ∷ list_of (chain t) above → slice_get classes c ≡ Some k → up ≡ option_map (class_layout t classes) above
     → visible_entries t classes c ≡ overlaid k.visible (if at_home t above c then (above_or_nothing up).visible else [])
 visible_made t classes c above k up step at is = visible_step t classes c above k step at ∙ ap (λ (o : Option ClassLayout). overlaid k.visible (if at_home t above c then (above_or_nothing o).visible else [])) (sym is)
 
@@ -95,9 +95,9 @@ above_stands t c p (Some m) step e =
 
 -- each entry of a list, by its token
 pub record Stand (t : LineTable) (c : ℕ) (methods : List MethodRec) (list : List (Option ℕ)) : Type 0 where
-  pub each : (k : ℕ) → k < length list → may_stand t c (method_in methods (get_or list k None)) ≡ true
+  pub each : (k : ℕ) → k < length list → may_stand t c (entry_method methods (get_or list k None)) ≡ true
 
-stand_at : (t : LineTable) (c : ℕ) (methods : List MethodRec) (list : List (Option ℕ)) (k : ℕ) → AllStand t c methods list → k < length list → may_stand t c (method_in methods (get_or list k None)) ≡ true
+stand_at : (t : LineTable) (c : ℕ) (methods : List MethodRec) (list : List (Option ℕ)) (k : ℕ) → AllStand t c methods list → k < length list → may_stand t c (entry_method methods (get_or list k None)) ≡ true
 stand_at t c methods [] k all h = absurd (omega arith)
 stand_at t c methods (e ∷ es) zero all h = all.0
 stand_at t c methods (e ∷ es) (suc k) all h = stand_at t c methods es k all.1 (omega arith)
@@ -106,8 +106,8 @@ stand_at t c methods (e ∷ es) (suc k) all h = stand_at t c methods es k all.1 
 grown_stand : (t : LineTable) (c : ℕ) (methods : List MethodRec) (inherited list : List (Option ℕ)) → Stand t c methods inherited → AddsOwn methods c inherited list → Stand t c methods list
 grown_stand t c methods inherited list up adds = record {
   each = λ k h. elim (adds.each k h) [
-    | inl same ↦ ap (λ (e : Option ℕ). may_stand t c (method_in methods e)) same.1 ∙ up.each k same.0
-    | inr own ↦ own_stands t c (method_in methods (get_or list k None)) own
+    | inl same ↦ ap (λ (e : Option ℕ). may_stand t c (entry_method methods e)) same.1 ∙ up.each k same.0
+    | inr own ↦ own_stands t c (entry_method methods (get_or list k None)) own
   ];
 }
 
@@ -116,7 +116,7 @@ none_stand t c methods = record { each = λ k h. absurd (omega arith) }
 
 seen_stand : (t : LineTable) (c p : ℕ) (methods : List MethodRec) (token : ℕ) (list : List (Option ℕ)) → chain t c ≡ c ∷ chain t p → filter_map (hole_fault t methods) (entries_from p token list) ≡ [] → Stand t c methods list
 seen_stand t c p methods token list step none = record {
-  each = λ k h. above_stands t c p (method_in methods (get_or list k None)) step (stand_at t p methods list k (all_stand t methods p token list none) h);
+  each = λ k h. above_stands t c p (entry_method methods (get_or list k None)) step (stand_at t p methods list k (all_stand t methods p token list none) h);
 }
 
 -- ---- the lists of the superclass
@@ -130,8 +130,8 @@ lists_seen t classes methods n p least none is h =
     (least-none link_place (filter_map (hole_fault t methods) things) (sym (least-at_fault link_place (hole_fault t methods) things None) ∙ sym is ∙ none)) h
 
 public_above_stand : (t : LineTable) (classes : List NamedClass) (methods : List MethodRec) (c : ℕ) (above : Option ℕ) → IfSome above (λ p. filter_map (hole_fault t methods) (entries_in t classes p) ≡ []) → chain t c ≡ c ∷ list_of (chain t) above
-    → Stand t c methods (above_or_nothing (option_map (layout_of t classes) above)).public
-unfolding layout_of
+    → Stand t c methods (above_or_nothing (option_map (class_layout t classes) above)).public
+unfolding class_layout
 public_above_stand t classes methods c None none step = none_stand t c methods
 public_above_stand t classes methods c (Some p) none step =
     seen_stand t c p methods 0 (public_entries t classes p) step (both_faultless (hole_fault t methods) (entries_from p 0 (public_entries t classes p)) (entries_from p 128 (visible_entries t classes p)) none).0
@@ -141,19 +141,19 @@ visible_by t c methods list true all = all
 visible_by t c methods list false all = none_stand t c methods
 
 visible_above_stand : (t : LineTable) (classes : List NamedClass) (methods : List MethodRec) (c : ℕ) (above : Option ℕ) → IfSome above (λ p. filter_map (hole_fault t methods) (entries_in t classes p) ≡ []) → chain t c ≡ c ∷ list_of (chain t) above
-    → Stand t c methods (above_or_nothing (option_map (layout_of t classes) above)).visible
-unfolding layout_of
+    → Stand t c methods (above_or_nothing (option_map (class_layout t classes) above)).visible
+unfolding class_layout
 visible_above_stand t classes methods c None none step = none_stand t c methods
 visible_above_stand t classes methods c (Some p) none step =
     seen_stand t c p methods 128 (visible_entries t classes p) step (both_faultless (hole_fault t methods) (entries_from p 0 (public_entries t classes p)) (entries_from p 128 (visible_entries t classes p)) none).1
 
 -- ---- no entry is open
 
-no_hole : (t : LineTable) (methods : List MethodRec) (c token : ℕ) (m : Option ℕ) → may_stand t c (method_in methods m) ≡ true → lesser link_place None (hole_fault t methods (record { class = c; token = token; method = m })) ≡ None
+no_hole : (t : LineTable) (methods : List MethodRec) (c token : ℕ) (m : Option ℕ) → may_stand t c (entry_method methods m) ≡ true → lesser link_place None (hole_fault t methods (record { class = c; token = token; method = m })) ≡ None
 unfolding lesser hole_fault
 no_hole t methods c token m e = rw e refl
 
-no_holes : (t : LineTable) (methods : List MethodRec) (c token : ℕ) (list : List (Option ℕ)) → ((k : ℕ) → k < length list → may_stand t c (method_in methods (get_or list k None)) ≡ true) → least_from link_place None (hole_fault t methods) (entries_from c token list) ≡ None
+no_holes : (t : LineTable) (methods : List MethodRec) (c token : ℕ) (list : List (Option ℕ)) → ((k : ℕ) → k < length list → may_stand t c (entry_method methods (get_or list k None)) ≡ true) → least_from link_place None (hole_fault t methods) (entries_from c token list) ≡ None
 no_holes t methods c token [] each = refl
 no_holes t methods c token (m ∷ ms) each =
     ap (λ (o : Option LinkFault). least_from link_place o (hole_fault t methods) (entries_from c (token + 1) ms)) (no_hole t methods c token m (each 0 (omega arith)))
@@ -170,7 +170,7 @@ none_if (Some fault) e = absurd (false≢true (sym e))
 
 -- nothing is at fault in the lists of a class that grows
 pub none_open : (t : LineTable) (classes : List NamedClass) (methods : List MethodRec) (c : ℕ) (least : Option LinkFault) → chain t c ≡ c ∷ list_of (chain t) (parent_of t c) → is_some least ≡ false
-    → least ≡ least_of link_place (hole_fault t methods) (flat_map (entries_in t classes) (range_with_len 0 c)) → IfSome (parent_of t c) (λ p. p < c) → Grows t classes methods c
+    → least ≡ least_of link_place (hole_fault t methods) (flat_map (entries_in t classes) (range_with_len 0 c)) → IfSome (parent_of t c) (λ p. p < c) → GrowsLists t classes methods c
     → None ≡ least_from link_place least (hole_fault t methods) (entries_in t classes c)
 unfolding layout_above
 none_open t classes methods c least step empty is after grows =

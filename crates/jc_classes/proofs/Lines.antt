@@ -11,7 +11,7 @@ use Rattle.jc_base.specs.Dispatch.{package_of, of_record}
 use Rattle.jc_resolve.specs.declared.named.NamedClass.{NamedClass}
 use Rattle.jc_classes.specs.declared.layout.ClassLayout.{ClassLayout}
 use Rattle.jc_hierarchy.specs.Outline.{LineTable, AreLines, IsClass as IsLineClass, EndsWithObject as LineEnds, chain as line_chain, chain_over as line_chain_over, is_on_chain as on_line_chain, object as line_object, parent_of as line_parent, parent_in_line, is_interface as line_interface, is_interface_line, package_of as line_package, package_in_line, line_of, outline}
-use Rattle.jc_classes.specs.Layout.{layout_of}
+use Rattle.jc_classes.specs.Layout.{class_layout}
 use Rattle.jc_classes.specs.Tables.{record_from, records_from, class_tables}
 
 -- the same superclasses, interfaces and roles
@@ -65,24 +65,24 @@ classes-alike t u alike are = record {
 
 -- ---- the table that is built
 
-pub record_at : (t : LineTable) (all ks : List NamedClass) (a i : ℕ) → slice_get (records_from t all a ks) i ≡ option_map (λ k. record_from k (layout_of t all (a + i))) (slice_get ks i)
+pub record_at : (t : LineTable) (all ks : List NamedClass) (a i : ℕ) → slice_get (records_from t all a ks) i ≡ option_map (λ k. record_from k (class_layout t all (a + i))) (slice_get ks i)
 record_at t all [] a i = refl
 record_at t all (k ∷ ks) a zero =
     let same : a ≡ a + 0 = omega arith in
-    ap (λ (n : ℕ). Some (record_from k (layout_of t all n))) same
+    ap (λ (n : ℕ). Some (record_from k (class_layout t all n))) same
 record_at t all (k ∷ ks) a (suc i) =
     let same : a + 1 + i ≡ a + suc i = omega arith in
-    record_at t all ks (a + 1) i ∙ ap (λ (n : ℕ). option_map (λ x. record_from x (layout_of t all n)) (slice_get ks i)) same
+    record_at t all ks (a + 1) i ∙ ap (λ (n : ℕ). option_map (λ x. record_from x (class_layout t all n)) (slice_get ks i)) same
 
 pub records-length : (t : LineTable) (all ks : List NamedClass) (a : ℕ) → length (records_from t all a ks) ≡ length ks
 records-length t all [] a = refl
 records-length t all (k ∷ ks) a = ap suc (records-length t all ks (a + 1))
 
 -- the record of a class in the table
-pub record_is : (t : LineTable) (classes : List NamedClass) (c : ℕ) → slice_get (class_tables t classes).records c ≡ option_map (λ k. record_from k (layout_of t classes c)) (slice_get classes c)
+pub record_is : (t : LineTable) (classes : List NamedClass) (c : ℕ) → slice_get (class_tables t classes).records c ≡ option_map (λ k. record_from k (class_layout t classes c)) (slice_get classes c)
 record_is t classes c =
     let same : 0 + c ≡ c = omega arith in
-    record_at t classes classes 0 c ∙ ap (λ (n : ℕ). option_map (λ k. record_from k (layout_of t classes n)) (slice_get classes c)) same
+    record_at t classes classes 0 c ∙ ap (λ (n : ℕ). option_map (λ k. record_from k (class_layout t classes n)) (slice_get classes c)) same
 
 -- lines are those of these classes
 pub record IsOutline (t : LineTable) (classes : List NamedClass) : Type 0 where
@@ -110,9 +110,9 @@ pub tables-alike : (t : LineTable) (classes : List NamedClass) → IsOutline t c
 unfolding is_interface parent_of package_of line_interface line_parent line_package
 tables-alike t classes o = record {
   count = records-length t classes classes 0 ∙ sym (ap (λ (u : LineTable). length u.lines) o.is ∙ length-map classes line_of);
-  interfaces = λ c. ap is_interface_record (record_is t classes c) ∙ same_interface (layout_of t classes c) (slice_get classes c) ∙ ap is_interface_line (sym (outline_at t classes c o));
-  parents = λ c. ap parent_in_record (record_is t classes c) ∙ same_parent (layout_of t classes c) (slice_get classes c) ∙ ap parent_in_line (sym (outline_at t classes c o));
-  packages = λ c. ap (of_record 0 (λ r. r.«package»)) (record_is t classes c) ∙ same_package (layout_of t classes c) (slice_get classes c) ∙ ap package_in_line (sym (outline_at t classes c o));
+  interfaces = λ c. ap is_interface_record (record_is t classes c) ∙ same_interface (class_layout t classes c) (slice_get classes c) ∙ ap is_interface_line (sym (outline_at t classes c o));
+  parents = λ c. ap parent_in_record (record_is t classes c) ∙ same_parent (class_layout t classes c) (slice_get classes c) ∙ ap parent_in_line (sym (outline_at t classes c o));
+  packages = λ c. ap (of_record 0 (λ r. r.«package»)) (record_is t classes c) ∙ same_package (class_layout t classes c) (slice_get classes c) ∙ ap package_in_line (sym (outline_at t classes c o));
   roles_are = refl;
 }
 
@@ -120,11 +120,11 @@ pub tables-classes : (t : LineTable) (classes : List NamedClass) → IsOutline t
 tables-classes t classes o are = classes-alike t (class_tables t classes) (tables-alike t classes o) are
 
 -- one more record
-pub records_next : (t : LineTable) (classes : List NamedClass) (c : ℕ) (k : NamedClass) (l : ClassLayout) (r : ClassRec) (records : List ClassRec) → slice_get classes c ≡ Some k → l ≡ layout_of t classes c → r ≡ record_from k l → c < length classes
+pub records_next : (t : LineTable) (classes : List NamedClass) (c : ℕ) (k : NamedClass) (l : ClassLayout) (r : ClassRec) (records : List ClassRec) → slice_get classes c ≡ Some k → l ≡ class_layout t classes c → r ≡ record_from k l → c < length classes
     → records ≡ take c (records_from t classes 0 classes) → records ++ (r ∷ []) ≡ take (c + 1) (records_from t classes 0 classes)
 records_next t classes c k l r records at same is low before =
     let low_too : c < length (records_from t classes 0 classes) = omega (arith, records-length t classes classes 0) in
-    let there : slice_get (records_from t classes 0 classes) c ≡ Some r = record_is t classes c ∙ ap (option_map (λ x. record_from x (layout_of t classes c))) at ∙ ap (λ (m : ClassLayout). Some (record_from k m)) (sym same) ∙ ap Some (sym is) in
+    let there : slice_get (records_from t classes 0 classes) c ≡ Some r = record_is t classes c ∙ ap (option_map (λ x. record_from x (class_layout t classes c))) at ∙ ap (λ (m : ClassLayout). Some (record_from k m)) (sym same) ∙ ap Some (sym is) in
     ap (λ (rs : List ClassRec). rs ++ (r ∷ [])) before
     ∙ ap (λ (x : ClassRec). take c (records_from t classes 0 classes) ++ (x ∷ [])) (sym (get_or_from_slice_get (records_from t classes 0 classes) c r r there))
     ∙ sym (take_more (records_from t classes 0 classes) c r low_too)

@@ -30,8 +30,8 @@ use Rattle.jc_hierarchy.specs.Outline.{LineTable, AreLines, IsClass as IsLineCla
 use Rattle.jc_classes.specs.Known.{HaveSuperclasses}
 use Rattle.jc_classes.specs.declared.layout.ClassLayout.{ClassLayout}
 use Rattle.jc_classes.specs.Entries.{overlaid, overlaid_at, reach}
-use Rattle.jc_classes.specs.Layout.{layout_of, public_entries, visible_entries, instance_cells, above_or_nothing, at_home}
-use Rattle.jc_classes.specs.Signatures.{signature_in}
+use Rattle.jc_classes.specs.Layout.{class_layout, public_entries, visible_entries, instance_cells, above_or_nothing, at_home}
+use Rattle.jc_classes.specs.Signatures.{entry_signature}
 use Rattle.jc_classes.specs.Conditions.{may_stand, layout_above, visible_above, implemented_by, serves, holes, overrides, unserved, long_instances, conditions}
 use Rattle.jc_classes.specs.Tables.{methods_listed, record_from, class_tables, tables_of, Links}
 use Rattle.jc_classes.proofs.Climbs.{chain_step}
@@ -86,20 +86,20 @@ parent_counted t classes c p are known e =
     let number = (next_on_chain t c p are (parent_of-class t c p e) e).class.number in
     omega (arith, known.count, number)
 
-public_built : (t : LineTable) (classes : List NamedClass) (c : ℕ) (k : NamedClass) → slice_get classes c ≡ Some k → public_of (class_tables t classes) c ≡ methods_listed (layout_of t classes c).public
+public_built : (t : LineTable) (classes : List NamedClass) (c : ℕ) (k : NamedClass) → slice_get classes c ≡ Some k → public_of (class_tables t classes) c ≡ methods_listed (class_layout t classes c).public
 unfolding public_of record_from
-public_built t classes c k e = ap (of_record [] (λ r. r.public)) (record_is t classes c ∙ ap (option_map (λ x. record_from x (layout_of t classes c))) e)
+public_built t classes c k e = ap (of_record [] (λ r. r.public)) (record_is t classes c ∙ ap (option_map (λ x. record_from x (class_layout t classes c))) e)
 
-visible_built : (t : LineTable) (classes : List NamedClass) (c : ℕ) (k : NamedClass) → slice_get classes c ≡ Some k → visible_of (class_tables t classes) c ≡ methods_listed (layout_of t classes c).visible
+visible_built : (t : LineTable) (classes : List NamedClass) (c : ℕ) (k : NamedClass) → slice_get classes c ≡ Some k → visible_of (class_tables t classes) c ≡ methods_listed (class_layout t classes c).visible
 unfolding visible_of record_from
-visible_built t classes c k e = ap (of_record [] (λ r. r.visible)) (record_is t classes c ∙ ap (option_map (λ x. record_from x (layout_of t classes c))) e)
+visible_built t classes c k e = ap (of_record [] (λ r. r.visible)) (record_is t classes c ∙ ap (option_map (λ x. record_from x (class_layout t classes c))) e)
 
-cells_built : (t : LineTable) (classes : List NamedClass) (c : ℕ) (k : NamedClass) → slice_get classes c ≡ Some k → cell_count (class_tables t classes) c ≡ (layout_of t classes c).cells
+cells_built : (t : LineTable) (classes : List NamedClass) (c : ℕ) (k : NamedClass) → slice_get classes c ≡ Some k → cell_count (class_tables t classes) c ≡ (class_layout t classes c).cells
 unfolding cell_count record_from
-cells_built t classes c k e = ap (of_record 0 (λ r. r.cells)) (record_is t classes c ∙ ap (option_map (λ x. record_from x (layout_of t classes c))) e)
+cells_built t classes c k e = ap (of_record 0 (λ r. r.cells)) (record_is t classes c ∙ ap (option_map (λ x. record_from x (class_layout t classes c))) e)
 
 abbrev above_by : LineTable → List NamedClass → Option ℕ → ClassLayout
-above_by t classes o = above_or_nothing (option_map (layout_of t classes) o)
+above_by t classes o = above_or_nothing (option_map (class_layout t classes) o)
 
 public_above_by : (t : LineTable) (classes : List NamedClass) (o : Option ℕ) → IfSome o (λ p. p < length classes) → list_of (public_of (class_tables t classes)) o ≡ methods_listed (above_by t classes o).public
 public_above_by t classes None h = refl
@@ -109,7 +109,7 @@ cells_above_by : (t : LineTable) (classes : List NamedClass) (o : Option ℕ) �
 cells_above_by t classes None h = refl
 cells_above_by t classes (Some p) h = let k = there classes p h in cells_built t classes p k.0 k.1
 
-visible_at_home : (t : LineTable) (classes : List NamedClass) (p : ℕ) (b : Bool) → p < length classes → (if b then visible_of (class_tables t classes) p else []) ≡ methods_listed (if b then (layout_of t classes p).visible else [])
+visible_at_home : (t : LineTable) (classes : List NamedClass) (p : ℕ) (b : Bool) → p < length classes → (if b then visible_of (class_tables t classes) p else []) ≡ methods_listed (if b then (class_layout t classes p).visible else [])
 visible_at_home t classes p true h = let k = there classes p h in visible_built t classes p k.0 k.1
 visible_at_home t classes p false h = refl
 
@@ -122,14 +122,14 @@ visible_above_by t classes c home (Some p) alike e h =
     ∙ visible_at_home t classes p (line_package t p == line_package t c) h
 
 -- the inherited lists have a method at each entry
-public_listed_by : (t : LineTable) (classes : List NamedClass) (methods : List MethodRec) (o : Option ℕ) → IfSome o (λ p. p < length classes) → ((p : ℕ) → p < length classes → AllStand t p methods (layout_of t classes p).public) → IsListed (above_by t classes o).public
+public_listed_by : (t : LineTable) (classes : List NamedClass) (methods : List MethodRec) (o : Option ℕ) → IfSome o (λ p. p < length classes) → ((p : ℕ) → p < length classes → AllStand t p methods (class_layout t classes p).public) → IsListed (above_by t classes o).public
 public_listed_by t classes methods None h each = listed_none
-public_listed_by t classes methods (Some p) h each = listed t p methods (layout_of t classes p).public (each p h)
+public_listed_by t classes methods (Some p) h each = listed t p methods (class_layout t classes p).public (each p h)
 
-visible_listed_by : (t : LineTable) (classes : List NamedClass) (methods : List MethodRec) (o : Option ℕ) (b : Bool) → IfSome o (λ p. p < length classes) → ((p : ℕ) → p < length classes → AllStand t p methods (layout_of t classes p).visible) → IsListed (if b then (above_by t classes o).visible else [])
+visible_listed_by : (t : LineTable) (classes : List NamedClass) (methods : List MethodRec) (o : Option ℕ) (b : Bool) → IfSome o (λ p. p < length classes) → ((p : ℕ) → p < length classes → AllStand t p methods (class_layout t classes p).visible) → IsListed (if b then (above_by t classes o).visible else [])
 visible_listed_by t classes methods o false h each = listed_none
 visible_listed_by t classes methods None true h each = listed_none
-visible_listed_by t classes methods (Some p) true h each = listed t p methods (layout_of t classes p).visible (each p h)
+visible_listed_by t classes methods (Some p) true h each = listed t p methods (class_layout t classes p).visible (each p h)
 
 overlaid_longer : (k : _) (inherited own : List (Option ℕ)) → own ≡ overlaid k inherited → length inherited ≤ length own
 overlaid_longer k inherited own e =
@@ -174,7 +174,7 @@ all_from_tests p (x ∷ xs) e =
     let both = and_parts (p x) (list_all p xs) e in
     All-cons (λ x. p x ≡ true) x xs both.0 (all_from_tests p xs both.1)
 
-served_at : (methods : List MethodRec) (entries : List (Option ℕ)) (o : Option ℕ) → IsListed entries → option_and_then (signature_at methods (methods_listed entries)) o ≡ option_and_then (λ token. signature_in methods (option_flatten (slice_get entries token))) o
+served_at : (methods : List MethodRec) (entries : List (Option ℕ)) (o : Option ℕ) → IsListed entries → option_and_then (signature_at methods (methods_listed entries)) o ≡ option_and_then (λ token. entry_signature methods (option_flatten (slice_get entries token))) o
 served_at methods entries None l = refl
 served_at methods entries (Some token) l = signature_listed methods entries token l
 
@@ -183,7 +183,7 @@ serves_by : (methods : List MethodRec) (entries : List (Option ℕ)) (i : Iface)
 serves_by methods entries i m l test e =
     let tested : serves methods entries i m ≡ true = rw (eq-eqb m.class i.class e) at test in
     served_at methods entries (slice_get i.tokens m.token) l
-    ∙ same_signature-equal (option_and_then (λ token. signature_in methods (option_flatten (slice_get entries token))) (slice_get i.tokens m.token)) (Some m.sig) tested
+    ∙ same_signature-equal (option_and_then (λ token. entry_signature methods (option_flatten (slice_get entries token))) (slice_get i.tokens m.token)) (Some m.sig) tested
 
 implemented_linked : (t : LineTable) (u : ClassTable) (classes : List NamedClass) (methods : List MethodRec) (entries : List (Option ℕ)) (is : List Iface) → AreAlike t u → HaveSuperclasses t classes → IsListed entries → All (λ (i : Iface). i.class < length classes) is → All (λ (i : Iface). line_interface t i.class ≡ true) is → AllServed methods entries is
     → All (IsImplemented u methods (methods_listed entries)) is
@@ -239,8 +239,8 @@ implements_by t u classes methods entries k true alike known l numbers interface
 implements_by t u classes methods entries k false alike known l numbers interfaces served = implemented_linked t u classes methods entries k.interfaces alike known l numbers interfaces served
 
 public_dispatch : (packages : ℕ) (t : LineTable) (classes : List NamedClass) (methods : List MethodRec) (c : ℕ) (k : NamedClass) → IsSound packages t classes methods → slice_get classes c ≡ Some k → c < length classes
-    → IsDispatch (class_tables t classes) methods c (list_of (public_of (class_tables t classes)) (parent_of (class_tables t classes) c)) (methods_listed (layout_of t classes c).public)
-unfolding layout_of layout_above
+    → IsDispatch (class_tables t classes) methods c (list_of (public_of (class_tables t classes)) (parent_of (class_tables t classes) c)) (methods_listed (class_layout t classes c).public)
+unfolding class_layout layout_above
 public_dispatch packages t classes methods c k s e low =
     let alike = tables-alike t classes s.outline in
     let parents = parents_counted t classes c (line_parent t c) s.are s.known refl in
@@ -252,8 +252,8 @@ public_dispatch packages t classes methods c k s e low =
     (ap (list_of (public_of (class_tables t classes))) (alike.parents c) ∙ public_above_by t classes (line_parent t c) parents)
 
 visible_dispatch : (packages : ℕ) (t : LineTable) (classes : List NamedClass) (methods : List MethodRec) (c : ℕ) (k : NamedClass) → IsSound packages t classes methods → slice_get classes c ≡ Some k → c < length classes
-    → IsDispatch (class_tables t classes) methods c (list_of (visible_from (class_tables t classes) k.«package») (parent_of (class_tables t classes) c)) (methods_listed (layout_of t classes c).visible)
-unfolding layout_of layout_above
+    → IsDispatch (class_tables t classes) methods c (list_of (visible_from (class_tables t classes) k.«package») (parent_of (class_tables t classes) c)) (methods_listed (class_layout t classes c).visible)
+unfolding class_layout layout_above
 visible_dispatch packages t classes methods c k s e low =
     let alike = tables-alike t classes s.outline in
     let parents = parents_counted t classes c (line_parent t c) s.are s.known refl in
@@ -264,20 +264,20 @@ visible_dispatch packages t classes methods c k s e low =
     (visible_agrees t classes methods c s.overrides low)
     (ap (list_of (visible_from (class_tables t classes) k.«package»)) (alike.parents c) ∙ visible_above_by t classes c k.«package» (line_parent t c) alike (sym (package_here t classes c k s.outline e)) parents)
 
-cells_in : (t : LineTable) (classes : List NamedClass) (c : ℕ) → (layout_of t classes c).cells ≡ instance_cells t classes c
-unfolding layout_of
+cells_in : (t : LineTable) (classes : List NamedClass) (c : ℕ) → (class_layout t classes c).cells ≡ instance_cells t classes c
+unfolding class_layout
 cells_in t classes c = refl
 
 implements_in : (packages : ℕ) (t : LineTable) (classes : List NamedClass) (methods : List MethodRec) (c : ℕ) (k : NamedClass) → IsSound packages t classes methods → slice_get classes c ≡ Some k → c < length classes → named.IsNamedClass packages (length methods) classes (line_object t) k
-    → AreInterfaces (class_tables t classes) methods (record_from k (layout_of t classes c))
-unfolding layout_of record_from
+    → AreInterfaces (class_tables t classes) methods (record_from k (class_layout t classes c))
+unfolding class_layout record_from
 implements_in packages t classes methods c k s e low n =
     let extends = IfSome-is (λ (r : NamedClass). All (λ (i : Iface). line_interface t i.class ≡ true) r.interfaces) (slice_get classes c) k (s.lines.interfaces c) e in
     let served : AllServed methods (public_entries t classes c) (implemented_by (Some k)) = subst (λ (o : Option NamedClass). AllServed methods (public_entries t classes c) (implemented_by o)) e (interfaces_met t classes methods c s.unserved low) in
     implements_by t (class_tables t classes) classes methods (public_entries t classes c) k k.interface (tables-alike t classes s.outline) s.known (listed t c methods (public_entries t classes c) (public_stand t classes methods c s.holes low)) n.interfaces extends served
 
 class_linked : (packages : ℕ) (t : LineTable) (classes : List NamedClass) (methods : List MethodRec) (c : ℕ) (k : NamedClass) → IsSound packages t classes methods → slice_get classes c ≡ Some k
-    → IsLinkedClass packages (class_tables t classes) methods c (record_from k (layout_of t classes c))
+    → IsLinkedClass packages (class_tables t classes) methods c (record_from k (class_layout t classes c))
 unfolding record_from
 class_linked packages t classes methods c k s e =
     let low : c < length classes = slice_get_within classes c k e in
@@ -287,7 +287,7 @@ class_linked packages t classes methods c k s e =
     let n : named.IsNamedClass packages (length methods) classes (line_object t) k = All-slice_get (named.IsNamedClass packages (length methods) classes (line_object t)) classes c k s.named e in
     let home : k.«package» ≡ line_package t c = sym (package_here t classes c k s.outline e) in
     let above : cells_above u (parent_of u c) ≡ (above_by t classes (line_parent t c)).cells = ap (cells_above u) (alike.parents c) ∙ cells_above_by t classes (line_parent t c) parents in
-    let own : (layout_of t classes c).cells ≡ length k.own + (above_by t classes (line_parent t c)).cells = cells_in t classes c ∙ cells_step t classes c (line_parent t c) k (chain_step t c s.are) e in
+    let own : (class_layout t classes c).cells ≡ length k.own + (above_by t classes (line_parent t c)).cells = cells_in t classes c ∙ cells_step t classes c (line_parent t c) k (chain_step t c s.are) e in
     let short = cells_short t classes c s.long low in
     record {
       home = n.home;
@@ -303,8 +303,8 @@ class_linked packages t classes methods c k s e =
 pub tables_linked : (packages : ℕ) (t : LineTable) (classes : List NamedClass) (methods : List MethodRec) → IsSound packages t classes methods → AreLinkedClasses packages (class_tables t classes) methods
 tables_linked packages t classes methods s = λ c. by c (slice_get classes c) refl where
   by : (c : ℕ) (o : Option NamedClass) → slice_get classes c ≡ o → IfSome (slice_get (class_tables t classes).records c) (IsLinkedClass packages (class_tables t classes) methods c)
-  by c None e = subst (λ (o : Option ClassRec). IfSome o (IsLinkedClass packages (class_tables t classes) methods c)) (sym (record_is t classes c ∙ ap (option_map (λ x. record_from x (layout_of t classes c))) e)) tt
-  by c (Some k) e = subst (λ (o : Option ClassRec). IfSome o (IsLinkedClass packages (class_tables t classes) methods c)) (sym (record_is t classes c ∙ ap (option_map (λ x. record_from x (layout_of t classes c))) e)) (class_linked packages t classes methods c k s e)
+  by c None e = subst (λ (o : Option ClassRec). IfSome o (IsLinkedClass packages (class_tables t classes) methods c)) (sym (record_is t classes c ∙ ap (option_map (λ x. record_from x (class_layout t classes c))) e)) tt
+  by c (Some k) e = subst (λ (o : Option ClassRec). IfSome o (IsLinkedClass packages (class_tables t classes) methods c)) (sym (record_is t classes c ∙ ap (option_map (λ x. record_from x (class_layout t classes c))) e)) (class_linked packages t classes methods c k s e)
 
 pub links : (t : LineTable) (classes : List NamedClass) (methods : List MethodRec) (table : ClassTable) → table ≡ class_tables t classes → t ≡ outline classes t.roles → AreLines t → HaveSuperclasses t classes → HaveLines classes t → AllEmpty (conditions t classes methods)
     → Links t classes methods table

@@ -7,7 +7,7 @@ use Rattle.std.proofs.lemmas.Bool.{cases_lt, ltb-false}
 use Rattle.std.proofs.lemmas.Option.{slice_get-get_or, slice_get_past}
 use Rattle.std.proofs.lemmas.List.FromFn.{length-map-range_with_len, get_or-map-range_with_len}
 use Rattle.jc_resolve.specs.declared.named.DispatchTable.{DispatchTable}
-use Rattle.jc_classes.specs.Entries.{reach, reach_from, reach_of, named_by, method_named, entries_of, overlaid, overlaid_at}
+use Rattle.jc_classes.specs.Entries.{reach, reach_from, reach_of, named_by, method_named, dispatch_list, overlaid, overlaid_at}
 
 pub map-same : {A B : Type 0} (f g : A → B) → ((x : A) → f x ≡ g x) → (xs : List A) → map f xs ≡ map g xs
 map-same f g h [] = refl
@@ -43,24 +43,24 @@ method_past (table ∷ tables) token h =
     ap (λ o. option_or o (method_named tables token)) (named_past table token here) ∙ method_past tables token rest
 
 -- the method that a dispatch list has at a token
-pub entry_is : (tables : List DispatchTable) (token : ℕ) → option_flatten (slice_get (entries_of tables) token) ≡ method_named tables token
-unfolding entries_of
+pub entry_is : (tables : List DispatchTable) (token : ℕ) → option_flatten (slice_get (dispatch_list tables) token) ≡ method_named tables token
+unfolding dispatch_list
 entry_is tables token = elim (cases_lt token (reach_of tables)) [
   | inl lt ↦ ap option_flatten (slice_get-range (method_named tables) (reach_of tables) token lt)
   | inr le ↦ ap option_flatten (slice_get-range_past (method_named tables) (reach_of tables) token le) ∙ sym (method_past tables token le)
 ]
 
-pub length-entries : (tables : List DispatchTable) → length (entries_of tables) ≡ reach_of tables
-unfolding entries_of
+pub length-entries : (tables : List DispatchTable) → length (dispatch_list tables) ≡ reach_of tables
+unfolding dispatch_list
 length-entries tables = length-map-range_with_len (method_named tables) 0 (reach_of tables)
 
-overlaid_is : (table : DispatchTable) (tables : List DispatchTable) (token : ℕ) → overlaid_at table (entries_of tables) token ≡ method_named (table ∷ tables) token
+overlaid_is : (table : DispatchTable) (tables : List DispatchTable) (token : ℕ) → overlaid_at table (dispatch_list tables) token ≡ method_named (table ∷ tables) token
 unfolding overlaid_at
 overlaid_is table tables token = ap (λ o. option_or (named_by table token) o) (entry_is tables token)
 
 -- a class's list is that of its superclass, overwritten and extended by its own table
-pub overlaid-is : (table : DispatchTable) (tables : List DispatchTable) → overlaid table (entries_of tables) ≡ entries_of (table ∷ tables)
-unfolding entries_of
+pub overlaid-is : (table : DispatchTable) (tables : List DispatchTable) → overlaid table (dispatch_list tables) ≡ dispatch_list (table ∷ tables)
+unfolding dispatch_list
 overlaid-is table tables =
-    ap (λ (n : ℕ). map (overlaid_at table (entries_of tables)) (range_with_len 0 (max n (reach table)))) (length-entries tables)
-    ∙ map-same (overlaid_at table (entries_of tables)) (method_named (table ∷ tables)) (overlaid_is table tables) (range_with_len 0 (max (reach_of tables) (reach table)))
+    ap (λ (n : ℕ). map (overlaid_at table (dispatch_list tables)) (range_with_len 0 (max n (reach table)))) (length-entries tables)
+    ∙ map-same (overlaid_at table (dispatch_list tables)) (method_named (table ∷ tables)) (overlaid_is table tables) (range_with_len 0 (max (reach_of tables) (reach table)))

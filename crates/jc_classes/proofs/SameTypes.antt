@@ -8,7 +8,7 @@ use Rattle.jc_base.specs.declared.record.Sig.{Sig}
 use Rattle.jc_base.specs.declared.record.MethodRec.{MethodRec}
 use Rattle.jc_base.specs.SameType.{same_type}
 use Rattle.jc_base.proofs.SameTypes.{same_type-equal, same_type-itself}
-use Rattle.jc_classes.specs.Signatures.{same_types, same_result, same_sig, same_signature, signature_in}
+use Rattle.jc_classes.specs.Signatures.{same_types, same_result, same_sig, same_signature, entry_signature}
 
 -- lists of different lengths are not the same
 pub same-lengths : (xs ys : List Ty) → same_types xs ys ≡ true → length xs ≡ length ys
@@ -99,10 +99,10 @@ same_signature-itself (Some a) = same_sig-itself a
 pub same_signature-exact : (a b : Option Sig) → IsTrue (same_signature a b) ↔ (a ≡ b)
 same_signature-exact a b = (λ e. same_signature-equal a b e, λ e. subst (λ (o : Option Sig). IsTrue (same_signature a o)) e (same_signature-itself a))
 
-pub same_signature-by : (methods : List MethodRec) (a b : Option ℕ) (r : Bool) → r ≡ same_signature (signature_in methods a) (signature_in methods b) → IsTrue r ↔ (signature_in methods a ≡ signature_in methods b)
-same_signature-by methods a b r e = subst (λ (x : Bool). IsTrue x ↔ (signature_in methods a ≡ signature_in methods b)) (sym e) (same_signature-exact (signature_in methods a) (signature_in methods b))
+pub same_signature-by : (methods : List MethodRec) (a b : Option ℕ) (r : Bool) → r ≡ same_signature (entry_signature methods a) (entry_signature methods b) → IsTrue r ↔ (entry_signature methods a ≡ entry_signature methods b)
+same_signature-by methods a b r e = subst (λ (x : Bool). IsTrue x ↔ (entry_signature methods a ≡ entry_signature methods b)) (sym e) (same_signature-exact (entry_signature methods a) (entry_signature methods b))
 
-pub same_entry : (methods : List MethodRec) (a b : Option ℕ) → a ≡ b → true ≡ same_signature (signature_in methods a) (signature_in methods b)
-same_entry methods a b e = sym (same_signature-itself (signature_in methods a)) ∙ ap (λ (o : Option ℕ). same_signature (signature_in methods a) (signature_in methods o)) e
+pub same_entry : (methods : List MethodRec) (a b : Option ℕ) → a ≡ b → true ≡ same_signature (entry_signature methods a) (entry_signature methods b)
+same_entry methods a b e = sym (same_signature-itself (entry_signature methods a)) ∙ ap (λ (o : Option ℕ). same_signature (entry_signature methods a) (entry_signature methods o)) e
 
 pub ruleset signatures = (same_signature-by, same_entry)

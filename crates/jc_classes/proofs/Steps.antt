@@ -11,20 +11,20 @@ use Rattle.jc_hierarchy.proofs.Bare.{chain-front}
 use Rattle.jc_resolve.specs.declared.named.NamedClass.{NamedClass}
 use Rattle.jc_resolve.specs.declared.named.DispatchTable.{DispatchTable}
 use Rattle.jc_classes.specs.declared.layout.ClassLayout.{ClassLayout}
-use Rattle.jc_classes.specs.Entries.{entries_of, overlaid}
-use Rattle.jc_classes.specs.Layout.{public_table, visible_table, own_of, home_run, public_entries, visible_entries, instance_cells, layout_of, layout_from, above_or_nothing, at_home}
+use Rattle.jc_classes.specs.Entries.{dispatch_list, overlaid}
+use Rattle.jc_classes.specs.Layout.{public_table, visible_table, own_of, home_run, public_entries, visible_entries, instance_cells, class_layout, class_layout_from, above_or_nothing, at_home}
 use Rattle.jc_classes.proofs.Overlays.{overlaid-is}
 
 abbrev pub above_of : LineTable → List NamedClass → Option ℕ → ClassLayout
-above_of t classes above = above_or_nothing (option_map (layout_of t classes) above)
+above_of t classes above = above_or_nothing (option_map (class_layout t classes) above)
 
-public_above : (t : LineTable) (classes : List NamedClass) (above : Option ℕ) → entries_of (map (public_table classes) (list_of (chain t) above)) ≡ (above_of t classes above).public
-unfolding entries_of layout_of public_entries
+public_above : (t : LineTable) (classes : List NamedClass) (above : Option ℕ) → dispatch_list (map (public_table classes) (list_of (chain t) above)) ≡ (above_of t classes above).public
+unfolding dispatch_list class_layout public_entries
 public_above t classes None = refl
 public_above t classes (Some p) = refl
 
 cells_above : (t : LineTable) (classes : List NamedClass) (above : Option ℕ) → sum_by (λ a. length (own_of classes a)) (list_of (chain t) above) ≡ (above_of t classes above).cells
-unfolding layout_of instance_cells
+unfolding class_layout instance_cells
 cells_above t classes None = refl
 cells_above t classes (Some p) = refl
 
@@ -33,9 +33,9 @@ pub public_step : (t : LineTable) (classes : List NamedClass) (c : ℕ) (above :
 unfolding public_entries public_table
 public_step t classes c above k chains e =
     let table : public_table classes c ≡ k.public = rw e refl in
-    ap (λ (cs : List ℕ). entries_of (map (public_table classes) cs)) chains
+    ap (λ (cs : List ℕ). dispatch_list (map (public_table classes) cs)) chains
     ∙ sym (overlaid-is (public_table classes c) (map (public_table classes) (list_of (chain t) above)))
-    ∙ ap (λ (x : DispatchTable). overlaid x (entries_of (map (public_table classes) (list_of (chain t) above)))) table
+    ∙ ap (λ (x : DispatchTable). overlaid x (dispatch_list (map (public_table classes) (list_of (chain t) above)))) table
     ∙ ap (overlaid k.public) (public_above t classes above)
 
 pub cells_step : (t : LineTable) (classes : List NamedClass) (c : ℕ) (above : Option ℕ) (k : NamedClass) → chain t c ≡ c ∷ list_of (chain t) above → slice_get classes c ≡ Some k
@@ -68,14 +68,14 @@ other_home t p c e =
     ∙ rw e refl
 
 visible_by : (t : LineTable) (classes : List NamedClass) (p c : ℕ) (home : Bool) → (package_of t p == package_of t c) ≡ home
-    → entries_of (map (visible_table classes) (take_while (λ a. package_of t a == package_of t c) (chain t p))) ≡ (if home then visible_entries t classes p else [])
-unfolding visible_entries entries_of
-visible_by t classes p c true e = ap (λ (cs : List ℕ). entries_of (map (visible_table classes) cs)) (same_home t p c (eqb-true (package_of t p) (package_of t c) e))
-visible_by t classes p c false e = ap (λ (cs : List ℕ). entries_of (map (visible_table classes) cs)) (other_home t p c e)
+    → dispatch_list (map (visible_table classes) (take_while (λ a. package_of t a == package_of t c) (chain t p))) ≡ (if home then visible_entries t classes p else [])
+unfolding visible_entries dispatch_list
+visible_by t classes p c true e = ap (λ (cs : List ℕ). dispatch_list (map (visible_table classes) cs)) (same_home t p c (eqb-true (package_of t p) (package_of t c) e))
+visible_by t classes p c false e = ap (λ (cs : List ℕ). dispatch_list (map (visible_table classes) cs)) (other_home t p c e)
 
 visible_above : (t : LineTable) (classes : List NamedClass) (c : ℕ) (above : Option ℕ)
-    → entries_of (map (visible_table classes) (take_while (λ a. package_of t a == package_of t c) (list_of (chain t) above))) ≡ (if at_home t above c then (above_of t classes above).visible else [])
-unfolding entries_of layout_of at_home
+    → dispatch_list (map (visible_table classes) (take_while (λ a. package_of t a == package_of t c) (list_of (chain t) above))) ≡ (if at_home t above c then (above_of t classes above).visible else [])
+unfolding dispatch_list class_layout at_home
 visible_above t classes c None = refl
 visible_above t classes c (Some p) = visible_by t classes p c (package_of t p == package_of t c) refl
 
@@ -85,14 +85,14 @@ unfolding visible_entries visible_table
 visible_step t classes c above k chains e =
     let table : visible_table classes c ≡ k.visible = rw e refl in
     let rest : List ℕ = take_while (λ a. package_of t a == package_of t c) (list_of (chain t) above) in
-    ap (λ (cs : List ℕ). entries_of (map (visible_table classes) cs)) (run_step t c (list_of (chain t) above) chains)
+    ap (λ (cs : List ℕ). dispatch_list (map (visible_table classes) cs)) (run_step t c (list_of (chain t) above) chains)
     ∙ sym (overlaid-is (visible_table classes c) (map (visible_table classes) rest))
-    ∙ ap (λ (x : DispatchTable). overlaid x (entries_of (map (visible_table classes) rest))) table
+    ∙ ap (λ (x : DispatchTable). overlaid x (dispatch_list (map (visible_table classes) rest))) table
     ∙ ap (overlaid k.visible) (visible_above t classes c above)
 
 -- what a class makes of its superclass's lists are its lists
 pub layout_step : (t : LineTable) (classes : List NamedClass) (c : ℕ) (above : Option ℕ) (k : NamedClass) → chain t c ≡ c ∷ list_of (chain t) above → slice_get classes c ≡ Some k
-    → layout_of t classes c ≡ layout_from k (above_or_nothing (option_map (layout_of t classes) above)) (at_home t above c)
-unfolding layout_of layout_from
+    → class_layout t classes c ≡ class_layout_from k (above_or_nothing (option_map (class_layout t classes) above)) (at_home t above c)
+unfolding class_layout class_layout_from
 layout_step t classes c above k chains e =
     rw (public_step t classes c above k chains e, visible_step t classes c above k chains e, cells_step t classes c above k chains e) refl

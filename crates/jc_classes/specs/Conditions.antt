@@ -10,8 +10,8 @@ use Rattle.jc_resolve.specs.declared.fault.LinkFault.TheVariants.{Hole, Override
 use Rattle.jc_resolve.specs.declared.named.NamedClass.{NamedClass}
 use Rattle.first_fault.specs.First.{at_fault}
 use Rattle.jc_classes.specs.declared.layout.ClassLayout.{ClassLayout}
-use Rattle.jc_classes.specs.Layout.{public_entries, visible_entries, instance_cells, layout_of, above_or_nothing, at_home}
-use Rattle.jc_classes.specs.Signatures.{method_in, signature_in, same_signature}
+use Rattle.jc_classes.specs.Layout.{public_entries, visible_entries, instance_cells, class_layout, above_or_nothing, at_home}
+use Rattle.jc_classes.specs.Signatures.{entry_method, entry_signature, same_signature}
 
 abbrev pub class_numbers : List NamedClass → List ℕ
 class_numbers classes = range_with_len 0 (length classes)
@@ -19,16 +19,16 @@ class_numbers classes = range_with_len 0 (length classes)
 -- ---- entries without a method
 
 -- an entry of a dispatch list of a class; tokens of package-visible entries are named from 128 on
-pub record Entry : Type 0 where
+pub record DispatchEntry : Type 0 where
   pub class : ℕ
   pub token : ℕ
   pub method : Option ℕ
 
-abbrev pub entries_from : ℕ → ℕ → List (Option ℕ) → List Entry
+abbrev pub entries_from : ℕ → ℕ → List (Option ℕ) → List DispatchEntry
 entries_from c token [] = []
 entries_from c token (m ∷ ms) = record { class = c; token = token; method = m } ∷ entries_from c (token + 1) ms
 
-abbrev pub entries_in : LineTable → List NamedClass → ℕ → List Entry
+abbrev pub entries_in : LineTable → List NamedClass → ℕ → List DispatchEntry
 entries_in t classes c = entries_from c 0 (public_entries t classes c) ++ entries_from c 128 (visible_entries t classes c)
 
 -- whether a method can stand in a dispatch list of a class: one of the class or of one of its superclasses, not static, and no constructor
@@ -36,8 +36,8 @@ abbrev pub may_stand : LineTable → ℕ → Option MethodRec → Bool
 may_stand t c None = false
 may_stand t c (Some m) = is_on_chain t m.class c && (not m.is_static && not m.is_init)
 
-unfoldable pub hole_fault : LineTable → List MethodRec → Entry → Option LinkFault
-hole_fault t methods e = if may_stand t e.class (method_in methods e.method) then None else Some (Hole e.class e.token)
+unfoldable pub hole_fault : LineTable → List MethodRec → DispatchEntry → Option LinkFault
+hole_fault t methods e = if may_stand t e.class (entry_method methods e.method) then None else Some (Hole e.class e.token)
 
 abbrev pub holes : LineTable → List NamedClass → List MethodRec → List LinkFault
 holes t classes methods = at_fault (hole_fault t methods) (flat_map (entries_in t classes) (class_numbers classes))
@@ -59,7 +59,7 @@ replacements_from c token (i ∷ is) (m ∷ ms) = record { class = c; token = to
 
 -- the lists of the superclass
 unfoldable pub layout_above : LineTable → List NamedClass → ℕ → ClassLayout
-layout_above t classes c = above_or_nothing (option_map (layout_of t classes) (parent_of t c))
+layout_above t classes c = above_or_nothing (option_map (class_layout t classes) (parent_of t c))
 
 -- the package-visible list from which that of a class is made
 abbrev pub visible_above : LineTable → List NamedClass → ℕ → List (Option ℕ)
@@ -71,8 +71,8 @@ replacements_in t classes c = replacements_from c 0 (layout_above t classes c).p
     ++ replacements_from c 128 (visible_above t classes c) (visible_entries t classes c)
 
 unfoldable pub override_fault : List MethodRec → Replacement → Option LinkFault
-override_fault methods r = if same_signature (signature_in methods r.method)
-    (signature_in methods r.inherited) then None else Some (OverrideType r.class r.token)
+override_fault methods r = if same_signature (entry_signature methods r.method)
+    (entry_signature methods r.inherited) then None else Some (OverrideType r.class r.token)
 
 abbrev pub overrides : LineTable → List NamedClass → List MethodRec → List LinkFault
 overrides t classes methods = at_fault (override_fault methods) (flat_map (replacements_in t classes) (class_numbers classes))
@@ -98,7 +98,7 @@ implementations_in t classes c = map
 -- whether the class has a public method of its signature at the token that serves a method of the interface
 abbrev pub serves : List MethodRec → List (Option ℕ) → Iface → MethodRec → Bool
 serves methods public i m = same_signature
-    (option_and_then (λ token. signature_in methods (option_flatten (slice_get public token)))
+    (option_and_then (λ token. entry_signature methods (option_flatten (slice_get public token)))
     (slice_get i.tokens m.token)) (Some m.sig)
 
 -- whether that holds of each method that the interface describes

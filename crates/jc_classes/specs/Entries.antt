@@ -29,8 +29,8 @@ method_named (table ∷ tables) token = option_or (named_by table token) (method
 -- the dispatch list of a class by the tables of the class itself, of its superclass, of the
 -- superclass of that one and so on: for each token the method of the nearest class whose table
 -- names one; an entry is open where none does
-unfoldable pub entries_of : List DispatchTable → List (Option ℕ)
-entries_of tables = map (method_named tables) (range_with_len 0 (reach_of tables))
+unfoldable pub dispatch_list : List DispatchTable → List (Option ℕ)
+dispatch_list tables = map (method_named tables) (range_with_len 0 (reach_of tables))
 
 -- an inherited list, overwritten and extended by a table
 unfoldable pub overlaid_at : DispatchTable → List (Option ℕ) → ℕ → Option ℕ

@@ -4,7 +4,7 @@ use Rattle.jc_base.specs.declared.record.MethodRec.{MethodRec}
 use Rattle.jc_hierarchy.specs.Outline.{LineTable}
 use Rattle.jc_resolve.specs.declared.named.NamedClass.{NamedClass}
 use Rattle.jc_classes.specs.Layout.{public_entries, visible_entries}
-use Rattle.jc_classes.specs.Signatures.{method_in}
+use Rattle.jc_classes.specs.Signatures.{entry_method}
 use Rattle.jc_classes.specs.Conditions.{layout_above, visible_above}
 
 -- whether a method is of the class itself, not static, and no constructor
@@ -13,7 +13,7 @@ own_by c None = false
 own_by c (Some m) = (m.class == c) && (not m.is_static && not m.is_init)
 
 abbrev pub is_own : List MethodRec → ℕ → Option ℕ → Bool
-is_own methods c entry = own_by c (method_in methods entry)
+is_own methods c entry = own_by c (entry_method methods entry)
 
 -- each entry of a list is inherited as it is, or has such a method
 pub record AddsOwn (methods : List MethodRec) (c : ℕ) (inherited list : List (Option ℕ)) : Type 0 where
@@ -22,6 +22,6 @@ pub record AddsOwn (methods : List MethodRec) (c : ℕ) (inherited list : List (
       ⊎ (is_own methods c (slice_index_or list k None) ≡ true)
 
 -- a class that adds methods of its own alone to both of its dispatch lists
-pub record Grows (t : LineTable) (classes : List NamedClass) (methods : List MethodRec) (c : ℕ) : Type 0 where
+pub record GrowsLists (t : LineTable) (classes : List NamedClass) (methods : List MethodRec) (c : ℕ) : Type 0 where
   pub public : AddsOwn methods c (layout_above t classes c).public (public_entries t classes c)
   pub visible : AddsOwn methods c (visible_above t classes c) (visible_entries t classes c)

@@ -7,7 +7,7 @@ use Rattle.jc_hierarchy.specs.Outline.{LineTable, chain, package_of}
 use Rattle.jc_resolve.specs.declared.named.DispatchTable.{DispatchTable}
 use Rattle.jc_resolve.specs.declared.named.NamedClass.{NamedClass}
 use Rattle.jc_classes.specs.declared.layout.ClassLayout.{ClassLayout}
-use Rattle.jc_classes.specs.Entries.{entries_of, overlaid}
+use Rattle.jc_classes.specs.Entries.{dispatch_list, overlaid}
 
 -- what a function gives of the class of a number, and else a default
 abbrev pub of_class : {A : Type 0} → A → (NamedClass → A) → Option NamedClass → A
@@ -30,19 +30,19 @@ home_run t c = take_while (λ a. package_of t a == package_of t c) (chain t c)
 
 -- the public dispatch list of a class, by the tables of its superclasses
 unfoldable pub public_entries : LineTable → List NamedClass → ℕ → List (Option ℕ)
-public_entries t classes c = entries_of (map (public_table classes) (chain t c))
+public_entries t classes c = dispatch_list (map (public_table classes) (chain t c))
 
 -- the package-visible dispatch list of a class: tokens of a package count for its own classes alone
 unfoldable pub visible_entries : LineTable → List NamedClass → ℕ → List (Option ℕ)
-visible_entries t classes c = entries_of (map (visible_table classes) (home_run t c))
+visible_entries t classes c = dispatch_list (map (visible_table classes) (home_run t c))
 
 -- how many cells an instance has: those of the superclasses and the class's own
 unfoldable pub instance_cells : LineTable → List NamedClass → ℕ → ℕ
 instance_cells t classes c = sum_by (λ a. length (own_of classes a)) (chain t c)
 
 -- the lists and the number of cells of a class
-unfoldable pub layout_of : LineTable → List NamedClass → ℕ → ClassLayout
-layout_of t classes c = record {
+unfoldable pub class_layout : LineTable → List NamedClass → ℕ → ClassLayout
+class_layout t classes c = record {
   public = public_entries t classes c;
   visible = visible_entries t classes c;
   cells = instance_cells t classes c;
@@ -50,7 +50,7 @@ layout_of t classes c = record {
 
 -- those of all classes, by number
 abbrev pub layouts : LineTable → List NamedClass → List ClassLayout
-layouts t classes = map (layout_of t classes) (range_with_len 0 (length classes))
+layouts t classes = map (class_layout t classes) (range_with_len 0 (length classes))
 
 -- ---- the same step by step: what a class makes of its superclass's lists
 
@@ -61,8 +61,8 @@ abbrev pub above_or_nothing : Option ClassLayout → ClassLayout
 above_or_nothing None = nothing_above
 above_or_nothing (Some up) = up
 
-unfoldable pub layout_from : NamedClass → ClassLayout → Bool → ClassLayout
-layout_from k up home = record {
+unfoldable pub class_layout_from : NamedClass → ClassLayout → Bool → ClassLayout
+class_layout_from k up home = record {
   public = overlaid k.public up.public;
   visible = overlaid k.visible (if home then up.visible else []);
   cells = length k.own + up.cells;

@@ -32,8 +32,8 @@ abbrev pub TellsSame : Type 0
 TellsSame = (a b : Option Sig) → IsTrue (same_signature a b) ↔ (a ≡ b)
 
 -- the method of an entry of a dispatch list, and its signature
-abbrev pub method_in : List MethodRec → Option ℕ → Option MethodRec
-method_in methods entry = option_and_then (slice_get methods) entry
+abbrev pub entry_method : List MethodRec → Option ℕ → Option MethodRec
+entry_method methods entry = option_and_then (slice_get methods) entry
 
-abbrev pub signature_in : List MethodRec → Option ℕ → Option Sig
-signature_in methods entry = option_map (λ m. m.sig) (method_in methods entry)
+abbrev pub entry_signature : List MethodRec → Option ℕ → Option Sig
+entry_signature methods entry = option_map (λ m. m.sig) (entry_method methods entry)

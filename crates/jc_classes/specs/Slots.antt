@@ -5,7 +5,7 @@ use Rattle.jc_base.specs.Class.{list_of}
 use Rattle.jc_hierarchy.specs.Outline.{LineTable, chain}
 use Rattle.jc_resolve.specs.declared.named.NamedClass.{NamedClass}
 use Rattle.jc_classes.specs.declared.layout.ClassLayout.{ClassLayout}
-use Rattle.jc_classes.specs.Layout.{layout_of}
+use Rattle.jc_classes.specs.Layout.{class_layout}
 
 -- the layout in the slot of a class
 unfoldable pub slot_at : List (Option ClassLayout) → ℕ → Option ClassLayout
@@ -13,15 +13,15 @@ slot_at slots c = option_flatten (slice_get slots c)
 
 -- the layout of a class is in its slot
 abbrev pub IsFilled : LineTable → List NamedClass → List (Option ClassLayout) → ℕ → Type 0
-IsFilled t classes slots c = slot_at slots c ≡ Some (layout_of t classes c)
+IsFilled t classes slots c = slot_at slots c ≡ Some (class_layout t classes c)
 
 -- one slot for each class, with the layout of the class or empty
-pub record AreSlots (t : LineTable) (classes : List NamedClass) (slots : List (Option ClassLayout)) : Type 0 where
+pub record AreLayouts (t : LineTable) (classes : List NamedClass) (slots : List (Option ClassLayout)) : Type 0 where
   pub count : length slots ≡ length classes
-  pub right : (c : ℕ) → IfSome (slot_at slots c) (λ l. l ≡ layout_of t classes c)
+  pub right : (c : ℕ) → IfSome (slot_at slots c) (λ l. l ≡ class_layout t classes c)
 
 -- what is filled stays so
-pub record Keeps (t : LineTable) (classes : List NamedClass) (old new : List (Option ClassLayout)) : Type 0 where
+pub record KeepsFilled (t : LineTable) (classes : List NamedClass) (old new : List (Option ClassLayout)) : Type 0 where
   pub filled : (c : ℕ) → IsFilled t classes old c → IsFilled t classes new c
 
 -- the classes from a class up to the one below `above`, whose slot is filled, or to the end of the chain
@@ -32,11 +32,11 @@ pub record IsClimb (t : LineTable) (slots : List (Option ClassLayout)) (c : ℕ)
 
 -- the layout of a class was made, and what was made before it stays
 pub record IsMade (t : LineTable) (classes : List NamedClass) (old new : List (Option ClassLayout)) (c : ℕ) : Type 0 where
-  pub slots : AreSlots t classes new
-  pub keeps : Keeps t classes old new
+  pub slots : AreLayouts t classes new
+  pub keeps : KeepsFilled t classes old new
   pub filled : IsFilled t classes new c
 
 -- dispatch lists that are no longer than byte tables can make them
-pub record IsShort (l : ClassLayout) : Type 0 where
+pub record HasShortLists (l : ClassLayout) : Type 0 where
   pub public : length l.public ≤ 510
   pub visible : length l.visible ≤ 510

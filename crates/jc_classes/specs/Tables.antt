@@ -15,7 +15,7 @@ use Rattle.jc_resolve.specs.Fault.{link_place}
 use Rattle.first_fault.specs.Least.{◌>>=◌, least_of, refused}
 use Rattle.first_fault.specs.First.{IsFirst, AllEmpty}
 use Rattle.jc_classes.specs.declared.layout.ClassLayout.{ClassLayout}
-use Rattle.jc_classes.specs.Layout.{layout_of}
+use Rattle.jc_classes.specs.Layout.{class_layout}
 use Rattle.jc_classes.specs.Conditions.{hole_fault, entries_in, override_fault, replacements_in, interface_fault, implementations_in, long_fault, class_numbers, conditions}
 
 -- the methods of a dispatch list
@@ -38,7 +38,7 @@ record_from k l = record {
 -- the records of classes whose numbers begin with c
 abbrev pub records_from : LineTable → List NamedClass → ℕ → List NamedClass → List ClassRec
 records_from t classes c [] = []
-records_from t classes c (k ∷ ks) = record_from k (layout_of t classes c) ∷ records_from t classes (c + 1) ks
+records_from t classes c (k ∷ ks) = record_from k (class_layout t classes c) ∷ records_from t classes (c + 1) ks
 
 -- the table of classes with these lines
 abbrev pub class_tables : LineTable → List NamedClass → ClassTable

@@ -5,10 +5,10 @@ ghost use Rattle.jc_hierarchy.specs.Outline.{chain, is_on_chain};
 ghost use Rattle.jc_resolve.specs.Fault.{link_place};
 ghost use Rattle.first_fault.specs.Least.{least_of, least_from, refused};
 ghost use Rattle.jc_classes.specs.Known.{HaveSuperclasses};
-ghost use Rattle.jc_classes.specs.Layout.{layout_of, layouts};
-ghost use Rattle.jc_classes.specs.Signatures.{method_in};
-ghost use Rattle.jc_classes.specs.Slots.{IsShort};
-ghost use Rattle.jc_classes.specs.Growth.{is_own, AddsOwn, Grows};
+ghost use Rattle.jc_classes.specs.Layout.{class_layout, layouts};
+ghost use Rattle.jc_classes.specs.Signatures.{entry_method};
+ghost use Rattle.jc_classes.specs.Slots.{HasShortLists};
+ghost use Rattle.jc_classes.specs.Growth.{is_own, AddsOwn, GrowsLists};
 ghost use Rattle.jc_classes.specs.Conditions.{may_stand, entries_from, entries_in, hole_fault, class_numbers};
 
 use crate::layout::ClassLayout;
@@ -152,7 +152,7 @@ fn holes_of(
     requires room { length marks.now ≡ length lineage.now.lines }
     requires none { (k : ℕ) → k < length marks.now → slice_index_or marks.now k false ≡ false }
     requires known { All (λ m. m.class < length lineage.now.lines) methods.now }
-    requires few { IsShort layout.now }
+    requires few { HasShortLists layout.now }
     ensures room { length marks.new ≡ length lineage.now.lines }
     ensures none { (k : ℕ) → k < length marks.new → slice_index_or marks.new k false ≡ false }
     ensures is { result
@@ -223,7 +223,7 @@ fn grows(
     requires known { HaveSuperclasses lineage.now classes.now }
     requires layouts { all.now ≡ layouts lineage.now classes.now }
     requires class { c < length classes.now }
-    ensures { IsTrue result → Grows lineage.now classes.now methods.now c }
+    ensures { IsTrue result → GrowsLists lineage.now classes.now methods.now c }
 {
     adds_own(methods, c, public_list(lineage, classes, all, c))
         && adds_own(methods, c, visible_list(lineage, classes, all, c))

@@ -2,7 +2,7 @@ ghost use Rattle.std.specs.Prelude.{◌≡◌, ◌≤◌, ◌<◌, length, optio
 ghost use Rattle.jc_resolve.specs.Named.{IsByteTable};
 ghost use Rattle.jc_classes.specs.Known.{HaveSuperclasses};
 ghost use Rattle.jc_classes.specs.Entries.{overlaid};
-ghost use Rattle.jc_classes.specs.Layout.{layout_of, layouts, public_entries, visible_entries};
+ghost use Rattle.jc_classes.specs.Layout.{class_layout, layouts, public_entries, visible_entries};
 ghost use Rattle.jc_classes.specs.Conditions.{layout_above as lists_above, visible_above as visible_from};
 
 use crate::layout::ClassLayout;
@@ -32,7 +32,7 @@ fn layout_above<'a>(
     requires known { HaveSuperclasses lineage.now classes.now }
     requires layouts { all.now ≡ layouts lineage.now classes.now }
     requires above_known { IfSome above (λ p. p < length lineage.now.lines) }
-    ensures { option_map (λ l. l.now) result ≡ option_map (layout_of lineage.now classes.now) above }
+    ensures { option_map (λ l. l.now) result ≡ option_map (class_layout lineage.now classes.now) above }
 {
     match above {
         Some(p) => Some(&all[p as usize]),

@@ -1,5 +1,5 @@
 ghost use Rattle.std.specs.Prelude.{◌≡◌, ◌<◌, ◌↔◌, All, IfSome, IsTrue, length, option_map, Some};
-ghost use Rattle.jc_classes.specs.Signatures.{same_types, same_result, same_sig, same_signature, method_in, signature_in};
+ghost use Rattle.jc_classes.specs.Signatures.{same_types, same_result, same_sig, same_signature, entry_method, entry_signature};
 
 use jc_base::{MethodRec, Methods, Sig, Ty, same_type};
 
@@ -43,8 +43,8 @@ pub(crate) fn same_sig(a: &Sig, b: &Sig) -> bool
 /// The method of an entry of a dispatch list.
 #[inline(always)]
 pub(crate) fn method_in<'a>(methods: &'a Methods, entry: Option<u16>) -> Option<&'a MethodRec>
-    ensures is { option_map (λ m. m.now) result ≡ method_in methods.now entry }
-    ensures there { IfSome result (λ m. Some m.now ≡ method_in methods.now entry) }
+    ensures is { option_map (λ m. m.now) result ≡ entry_method methods.now entry }
+    ensures there { IfSome result (λ m. Some m.now ≡ entry_method methods.now entry) }
 {
     let n = entry? as usize;
     if n < methods.len() {
@@ -58,8 +58,8 @@ pub(crate) fn method_in<'a>(methods: &'a Methods, entry: Option<u16>) -> Option<
 #[tactic(auto, using(crate::proofs::SameTypes::signatures))]
 #[inline(always)]
 pub(crate) fn same_signature(methods: &Methods, a: Option<u16>, b: Option<u16>) -> bool
-    ensures is { result ≡ same_signature (signature_in methods.now a) (signature_in methods.now b) }
-    ensures exact { IsTrue result ↔ signature_in methods.now a ≡ signature_in methods.now b }
+    ensures is { result ≡ same_signature (entry_signature methods.now a) (entry_signature methods.now b) }
+    ensures exact { IsTrue result ↔ entry_signature methods.now a ≡ entry_signature methods.now b }
 {
     // Most entries are inherited as they are.
     is_same_entry(a, b) || are_alike(method_in(methods, a), method_in(methods, b))

@@ -4,8 +4,8 @@ ghost use Rattle.jc_base.specs.Class.{list_of};
 ghost use Rattle.jc_hierarchy.specs.Outline.{chain, package_of, parent_of};
 ghost use Rattle.jc_resolve.specs.Named.{IsSized};
 ghost use Rattle.jc_classes.specs.Known.{HaveSuperclasses};
-ghost use Rattle.jc_classes.specs.Layout.{layout_of, layouts, layout_from, above_or_nothing, at_home};
-ghost use Rattle.jc_classes.specs.Slots.{IsFilled, AreSlots, IsMade, IsClimb, slot_at};
+ghost use Rattle.jc_classes.specs.Layout.{class_layout, layouts, class_layout_from, above_or_nothing, at_home};
+ghost use Rattle.jc_classes.specs.Slots.{IsFilled, AreLayouts, IsMade, IsClimb, slot_at};
 
 use crate::layout::ClassLayout;
 use crate::overlay::overlay;
@@ -96,7 +96,7 @@ fn cells_above(up: Option<&ClassLayout>) -> u32
 }
 
 /// What a class makes of the lists of its superclass.
-#[tactic(auto, unfolding(crate::specs::Layout::layout_from))]
+#[tactic(auto, unfolding(crate::specs::Layout::class_layout_from))]
 fn layout_from(
     alloc: Global,
     class: &NamedClass,
@@ -105,7 +105,7 @@ fn layout_from(
 ) -> Result<ClassLayout, AllocError>
     requires sized { IsSized class.now }
     requires few { (above_or_nothing (option_map (λ l. l.now) up)).cells ≤ 536993790 }
-    ensures { IfOk result (λ l. l ≡ layout_from class.now (above_or_nothing (option_map (λ l. l.now) up.entry)) home) }
+    ensures { IfOk result (λ l. l ≡ class_layout_from class.now (above_or_nothing (option_map (λ l. l.now) up.entry)) home) }
 {
     Ok(ClassLayout {
         public: overlay(alloc, &class.public, public_above(up))?,
@@ -141,7 +141,7 @@ fn make(
     requires class { c < length classes.now }
     requires above_known { IfSome above (λ p. p < length classes.now) }
     requires step { chain lineage.now c ≡ c ∷ list_of (chain lineage.now) above }
-    requires slots { AreSlots lineage.now classes.now slots.now.items }
+    requires slots { AreLayouts lineage.now classes.now slots.now.items }
     requires filled { IfSome above (IsFilled lineage.now classes.now slots.now.items) }
     ensures { IfOk result (λ _. IsMade lineage.now classes.now slots.old.items slots.new.items c) }
 {
@@ -163,7 +163,7 @@ fn fill(
 ) -> Result<(), AllocError>
     requires known { HaveSuperclasses lineage.now classes.now }
     requires class { c < length classes.now }
-    requires slots { AreSlots lineage.now classes.now slots.now.items }
+    requires slots { AreLayouts lineage.now classes.now slots.now.items }
     ensures { IfOk result (λ _. IsMade lineage.now classes.now slots.old.items slots.new.items c) }
 {
     let climb = climb_from(alloc, lineage, slots, c)?;

@@ -20,7 +20,7 @@ use Rattle.jc_control.specs.Control.{IsSuccessor, falls_through, jumped, Covers,
 use Rattle.jc_control.specs.declared.traversal.Traversal.{Traversal}
 use Rattle.jc_control.specs.Flags.{IsFlagged}
 use Rattle.jc_control.specs.Listing.{Listed, IsListingOf}
-use Rattle.jc_control.specs.Traversal.{Grows, IsSound, IsLedTo, IsCaught, IsClosedAt, IsClosed, IsDone, found}
+use Rattle.jc_control.specs.Traversal.{Grows, IsSoundTraversal, IsLedTo, IsCaught, IsClosedAt, IsClosed, IsDone, found}
 use Rattle.jc_control.specs.ControlFlow.{IsControlFlow}
 use Rattle.jc_control.specs.Laws.{InstructionsArePlaced}
 use Rattle.jc_control.proofs.Marked.{flag-none}
@@ -109,7 +109,7 @@ instructions-are-placed listed = λ m w. record {
   decoded = stands-reached m (listed m.code) w;
 }
 
-module _ (m : Method) (s t : Traversal) (sound : IsSound m s) (closed : IsClosed m s) (start : IsFlagged s.reached 0) (done : IsDone s t) where
+module _ (m : Method) (s t : Traversal) (sound : IsSoundTraversal m s) (closed : IsClosed m s) (start : IsFlagged s.reached 0) (done : IsDone s t) where
   closed-there : (p : ℕ) → IsFlagged s.reached p → IsClosedAt m s p
   closed-there p f = ⊎_elim (λ waits. absurd (nothing-in p (subst (λ (ps : List ℕ). Contains ps p) done.before waits))) (λ c. c) (closed p f)
 
@@ -132,7 +132,7 @@ module _ (m : Method) (s t : Traversal) (sound : IsSound m s) (closed : IsClosed
 
 -- ---- nothing found yet
 
-pub none-sound : (m : Method) (s : Traversal) (size : ℕ) → size ≡ length m.code + 1 → s.reached ≡ replicate size false → s.leaders ≡ replicate size false → s.pending.items ≡ [] → IsSound m s
+pub none-sound : (m : Method) (s : Traversal) (size : ℕ) → size ≡ length m.code + 1 → s.reached ≡ replicate size false → s.leaders ≡ replicate size false → s.pending.items ≡ [] → IsSoundTraversal m s
 none-sound m s size fits reached leaders pending = record {
   reached_size = ap length reached ∙ length-replicate size false ∙ fits;
   leaders_size = ap length leaders ∙ length-replicate size false ∙ fits;

@@ -10,7 +10,7 @@ use Rattle.jc_control.specs.WellFormed.{HasInstruction, IsTargetPlace, IsHandler
 use Rattle.jc_control.specs.declared.flaw.Flaw.{Flaw}
 use Rattle.jc_control.specs.Flaw.{Spot, in_code, in_table, ComesBefore, IsFlaw, flaw_target, flaw_end, flaw_handler, IsFirstFlaw}
 use Rattle.jc_control.specs.FirstFailing.{IsFirstFailing}
-use Rattle.jc_control.specs.Scan.{LeadsToPlaces, IsFirstStray, IsStop, IsFirstBadHandler}
+use Rattle.jc_control.specs.Scan.{LeadsToPlaces, IsFirstStray, IsEndFlaw, IsFirstBadHandler}
 use Rattle.jc_decode.specs.Laws.{AreListed}
 use Rattle.jc_decode.proofs.Elements.{slice_get-Contains, Contains-slice_get}
 use Rattle.jc_control.proofs.Elements.{taken-in}
@@ -58,7 +58,7 @@ module _ (m : Method) where
   no-stray : All (LeadsToPlaces m.code) (listing m.code) → (i : Placed) (k : ℕ) (t : ℤ) → HasInstruction m.code i → slice_get (targets m.code i) k ≡ Some t → IsTargetPlace m.code t
   no-stray all i k t there get = All-slice_get (IsTargetPlace m.code) (targets m.code i) k t (All-contains (LeadsToPlaces m.code) (listing m.code) i all there) get
 
-  pub stop-first : (f : Flaw) → All (LeadsToPlaces m.code) (listing m.code) → IsStop m.code f → IsFirstFlaw m f
+  pub stop-first : (f : Flaw) → All (LeadsToPlaces m.code) (listing m.code) → IsEndFlaw m.code f → IsFirstFlaw m f
   stop-first f all s = subst (IsFirstFlaw m) (sym s.is) (record {
     spot = in_code (listing_end m.code) 0;
     flaw = flaw_end s.end s.goes_on s.why;

@@ -10,7 +10,7 @@ use Rattle.jc_control.specs.Method.{Method}
 use Rattle.jc_control.specs.Control.{IsReached, IsLeader}
 use Rattle.jc_control.specs.declared.traversal.Traversal.{Traversal}
 use Rattle.jc_control.specs.Flags.{flag, IsFlagged}
-use Rattle.jc_control.specs.Traversal.{IsPending, IsAsBefore, IsFound, Reaches, Takes, work, Grows, IsSound, IsLed, IsLedTo, IsCaught, IsClosedAt, IsClosed}
+use Rattle.jc_control.specs.Traversal.{IsPending, IsAsBefore, IsFound, ReachesPlace, TakesUp, work, Grows, IsSoundTraversal, IsLed, IsLedTo, IsCaught, IsClosedAt, IsClosed}
 use Rattle.jc_control.proofs.Marked.{flag-here, flag-kept, flag-only}
 
 -- ---- growth
@@ -32,14 +32,14 @@ weight b = cond b 0 1
 
 module _ (place : ℕ) (old new : Traversal) where
   -- what is so where the place was known, and where it was found
-  by_flag : (X : Type 0) → (IsFlagged old.reached place → IsAsBefore old new → X) → (flag old.reached place ≡ false → IsFound place old new → X) → Reaches place old new → X
+  by_flag : (X : Type 0) → (IsFlagged old.reached place → IsAsBefore old new → X) → (flag old.reached place ≡ false → IsFound place old new → X) → ReachesPlace place old new → X
   by_flag X known found r = go (flag old.reached place) refl r
     where
       go : (b : Bool) → flag old.reached place ≡ b → MatchBool b (IsAsBefore old new) (IsFound place old new) → X
       go true e h = known e h
       go false e h = found e h
 
-  module _ (inside : place < length old.reached) (r : Reaches place old new) where
+  module _ (inside : place < length old.reached) (r : ReachesPlace place old new) where
     pub reached-here : IsFlagged new.reached place
     reached-here = by_flag (IsFlagged new.reached place)
         (λ e h. ap (λ (fs : List Bool). flag fs place) h.reached ∙ e)
@@ -90,7 +90,7 @@ module _ (place : ℕ) (old new : Traversal) where
     reached-length : length new.reached ≡ length old.reached
     reached-length = by_flag (length new.reached ≡ length old.reached) (λ e h. ap length h.reached) (λ e h. ap length h.reached ∙ length-set old.reached place true) r
 
-    pub reach-sound : (m : Method) → IsSound m old → IsReached m place → length new.leaders ≡ length old.leaders → ((p : ℕ) → IsFlagged new.leaders p → IsLeader m p) → IsSound m new
+    pub reach-sound : (m : Method) → IsSoundTraversal m old → IsReached m place → length new.leaders ≡ length old.leaders → ((p : ℕ) → IsFlagged new.leaders p → IsLeader m p) → IsSoundTraversal m new
     reach-sound m s here size leaders = record {
       reached_size = reached-length ∙ s.reached_size;
       leaders_size = size ∙ s.leaders_size;
@@ -105,8 +105,8 @@ on-ok P Q (Ok t) f h = f h
 on-ok P Q (Err e) f h = tt
 
 -- a place is reached
-module _ (m : Method) (place : ℕ) (old new : Traversal) (sound : IsSound m old) (inside : place ≤ length m.code) (same : new.leaders ≡ old.leaders) (r : Reaches place old new) where
-  pub reached-sound : IsReached m place → IsSound m new
+module _ (m : Method) (place : ℕ) (old new : Traversal) (sound : IsSoundTraversal m old) (inside : place ≤ length m.code) (same : new.leaders ≡ old.leaders) (r : ReachesPlace place old new) where
+  pub reached-sound : IsReached m place → IsSoundTraversal m new
   reached-sound here = reach-sound place old new (omega (arith, sound.reached_size)) r m sound here (ap length same)
       (λ p h. sound.leaders p (ap (λ (fs : List Bool). flag fs p) (sym same) ∙ h))
 
@@ -117,11 +117,11 @@ module _ (m : Method) (place : ℕ) (old new : Traversal) (sound : IsSound m old
   reached-found = reached-here place old new (omega (arith, sound.reached_size)) r
 
 -- control is led to a place
-module _ (m : Method) (place : ℕ) (old new : Traversal) (sound : IsSound m old) (inside : place ≤ length m.code) (one_more : new.leaders ≡ set old.leaders place true) (r : Reaches place old new) where
+module _ (m : Method) (place : ℕ) (old new : Traversal) (sound : IsSoundTraversal m old) (inside : place ≤ length m.code) (one_more : new.leaders ≡ set old.leaders place true) (r : ReachesPlace place old new) where
   led_inside : place < length old.leaders
   led_inside = omega (arith, sound.leaders_size)
 
-  pub led-sound : IsReached m place → IsLeader m place → IsSound m new
+  pub led-sound : IsReached m place → IsLeader m place → IsSoundTraversal m new
   led-sound here leader = reach-sound place old new (omega (arith, sound.reached_size)) r m sound here (ap length one_more ∙ length-set old.leaders place true)
       (λ p h. ⊎_elim (λ before. sound.leaders p before) (λ now. subst (IsLeader m) (sym now) leader)
       (flag-only old.leaders place p (ap (λ (fs : List Bool). flag fs p) (sym one_more) ∙ h)))
@@ -155,14 +155,14 @@ closed-stays m old new p reached leaders c = record {
 
 -- ---- a pending place is taken up
 
-module _ (m : Method) (place : ℕ) (old new : Traversal) (t : Takes place old new) where
+module _ (m : Method) (place : ℕ) (old new : Traversal) (t : TakesUp place old new) where
   still-pending : (p : ℕ) → IsPending new p → IsPending old p
   still-pending p h = subst (λ (ps : List ℕ). Contains ps p) (sym t.pending) (Contains-append_left new.pending.items (place ∷ []) p h)
 
   pub taken-pending : IsPending old place
   taken-pending = subst (λ (ps : List ℕ). Contains ps place) (sym t.pending) (Contains-push new.pending.items place)
 
-  pub taken-sound : IsSound m old → IsSound m new
+  pub taken-sound : IsSoundTraversal m old → IsSoundTraversal m new
   taken-sound s = record {
     reached_size = ap length t.reached ∙ s.reached_size;
     leaders_size = ap length t.leaders ∙ s.leaders_size;

@@ -26,7 +26,7 @@ pub record IsFirstStray (code : List ℕ) (f : Flaw) : Type 0 where
   pub is : f ≡ BadTarget from.place target
 
 -- the code goes on where no instruction is decoded
-pub record IsStop (code : List ℕ) (f : Flaw) : Type 0 where
+pub record IsEndFlaw (code : List ℕ) (f : Flaw) : Type 0 where
   pub goes_on : listing_end code ≢ length code
   pub end : CodeEnd
   pub why : decoded code (listing_end code) ≡ Err end

@@ -27,11 +27,11 @@ pub record IsFound (place : ℕ) (old new : Traversal) : Type 0 where
   pub reached : new.reached ≡ slice_set old.reached place true
   pub pending : new.pending.items ≡ old.pending.items ++ place ∷ []
 
-abbrev pub Reaches : ℕ → Traversal → Traversal → Type 0
-Reaches place old new = MatchBool (flag old.reached place) (IsAsBefore old new) (IsFound place old new)
+abbrev pub ReachesPlace : ℕ → Traversal → Traversal → Type 0
+ReachesPlace place old new = MatchBool (flag old.reached place) (IsAsBefore old new) (IsFound place old new)
 
 -- this place is taken up
-pub record Takes (place : ℕ) (old new : Traversal) : Type 0 where
+pub record TakesUp (place : ℕ) (old new : Traversal) : Type 0 where
   pub reached : new.reached ≡ old.reached
   pub leaders : new.leaders ≡ old.leaders
   pub pending : old.pending.items ≡ new.pending.items ++ place ∷ []
@@ -58,7 +58,7 @@ pub record Grows (old new : Traversal) : Type 0 where
 -- ---- what is found
 
 -- what is found is so, and there is a flag for each place and for the end
-pub record IsSound (m : Method) (s : Traversal) : Type 0 where
+pub record IsSoundTraversal (m : Method) (s : Traversal) : Type 0 where
   pub reached_size : length s.reached ≡ length m.code + 1
   pub leaders_size : length s.leaders ≡ length m.code + 1
   pub reached : (p : ℕ) → IsFlagged s.reached p → IsReached m p

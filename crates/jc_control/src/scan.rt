@@ -7,7 +7,7 @@ ghost use Rattle.jc_control.specs.Known.{KnowPlaces, ReadsAs};
 ghost use Rattle.jc_control.specs.Subject.{method};
 ghost use Rattle.jc_control.specs.Flaw.{IsFirstFlaw};
 ghost use Rattle.jc_control.specs.FirstFailing.{IsFirstFailing};
-ghost use Rattle.jc_control.specs.Scan.{LeadsToPlaces, IsFirstStray, IsStop, IsFirstBadHandler};
+ghost use Rattle.jc_control.specs.Scan.{LeadsToPlaces, IsFirstStray, IsEndFlaw, IsFirstBadHandler};
 
 use crate::flags::Flags;
 use crate::flaw::Flaw;
@@ -107,7 +107,7 @@ fn check_end(code: View<'_>, places: Places<'_>, end: u16) -> Result<(), Flaw>
     requires known { KnowPlaces code.bytes.now places }
     requires end { end ≡ listing_end code.bytes.now }
     ensures formed { OnOk result (listing_end code.entry.bytes.now ≡ length code.entry.bytes.now) }
-    ensures flawed { IfErr result (λ flaw. IsStop code.entry.bytes.now flaw) }
+    ensures flawed { IfErr result (λ flaw. IsEndFlaw code.entry.bytes.now flaw) }
 {
     if usize::from(end) == code.bytes.len() {
         return Ok(());

@@ -4,7 +4,7 @@ ghost use Rattle.jc_control.specs.WellFormed.{HasInstruction, IsTargetPlace, IsH
 ghost use Rattle.jc_control.specs.Control.{IsReached};
 ghost use Rattle.jc_control.specs.Flags.{IsFlagged};
 ghost use Rattle.jc_control.specs.Subject.{method};
-ghost use Rattle.jc_control.specs.Traversal.{Reaches, Takes, Grows, IsSound, IsLed, IsLedTo, IsCaught, IsClosedAt, IsDone, found};
+ghost use Rattle.jc_control.specs.Traversal.{ReachesPlace, TakesUp, Grows, IsSoundTraversal, IsLed, IsLedTo, IsCaught, IsClosedAt, IsDone, found};
 ghost use Rattle.jc_control.specs.ControlFlow.{IsControlFlow};
 ghost use Rattle.jc_control.specs.Listing.{IsListingOf};
 
@@ -61,7 +61,7 @@ impl Traversal {
 
     /// Takes up a pending place.
     fn take(&mut self) -> Option<u16>
-        ensures some { IfSome result (λ place. Takes place self.old self.new) }
+        ensures some { IfSome result (λ place. TakesUp place self.old self.new) }
         ensures none { IfNone result (IsDone self.old self.new) }
     {
         self.pending.pop()
@@ -70,7 +70,7 @@ impl Traversal {
     /// Control reaches a place.
     fn reach(&mut self, place: u16) -> Result<(), AllocError>
         requires { place < length self.old.reached }
-        ensures reached { OnOk result (Reaches place self.old self.new) }
+        ensures reached { OnOk result (ReachesPlace place self.old self.new) }
         ensures leaders { self.new.leaders ≡ self.old.leaders }
     {
         if self.reached.has(u32::from(place)) {
@@ -85,7 +85,7 @@ impl Traversal {
     fn lead(&mut self, place: u16) -> Result<(), AllocError>
         requires reached { place < length self.old.reached }
         requires leaders { place < length self.old.leaders }
-        ensures reached { OnOk result (Reaches place self.old self.new) }
+        ensures reached { OnOk result (ReachesPlace place self.old self.new) }
         ensures leaders { self.new.leaders ≡ slice_set self.old.leaders place true }
     {
         self.leaders.set(place);
@@ -96,8 +96,8 @@ impl Traversal {
     fn fall(&mut self, subject: Subject<'_>, placed: Placed) -> Result<(), AllocError>
         requires stands { HasInstruction subject.code.bytes.now placed }
         requires reached { IsReached (method subject) placed.place }
-        requires sound { IsSound (method subject) self.old }
-        ensures sound { OnOk result (IsSound (method subject.entry) self.new) }
+        requires sound { IsSoundTraversal (method subject) self.old }
+        ensures sound { OnOk result (IsSoundTraversal (method subject.entry) self.new) }
         ensures grows { OnOk result (Grows self.old self.new) }
         ensures next { OnOk result (IsTrue (falls placed.insn.op) → IsFlagged self.new.reached (placed.place + placed.insn.len)) }
     {
@@ -112,8 +112,8 @@ impl Traversal {
         requires formed { IsWellFormed (method subject) }
         requires stands { HasInstruction subject.code.bytes.now placed }
         requires reached { IsReached (method subject) placed.place }
-        requires sound { IsSound (method subject) self.old }
-        ensures sound { OnOk result (IsSound (method subject.entry) self.new) }
+        requires sound { IsSoundTraversal (method subject) self.old }
+        ensures sound { OnOk result (IsSoundTraversal (method subject.entry) self.new) }
         ensures grows { OnOk result (Grows self.old self.new) }
         ensures led { OnOk result (All (IsLedTo self.new) (targets subject.entry.code.bytes.now placed)) }
     {
@@ -136,8 +136,8 @@ impl Traversal {
         requires stands { HasInstruction subject.code.bytes.now placed }
         requires leads { Contains (targets subject.code.bytes.now placed) target }
         requires reached { IsReached (method subject) placed.place }
-        requires sound { IsSound (method subject) self.old }
-        ensures sound { OnOk result (IsSound (method subject.entry) self.new) }
+        requires sound { IsSoundTraversal (method subject) self.old }
+        ensures sound { OnOk result (IsSoundTraversal (method subject.entry) self.new) }
         ensures grows { OnOk result (Grows self.old self.new) }
         ensures led { OnOk result (IsLedTo self.new target) }
     {
@@ -148,8 +148,8 @@ impl Traversal {
     fn catch(&mut self, subject: Subject<'_>, place: u16) -> Result<(), AllocError>
         requires formed { IsWellFormed (method subject) }
         requires reached { IsReached (method subject) place }
-        requires sound { IsSound (method subject) self.old }
-        ensures sound { OnOk result (IsSound (method subject.entry) self.new) }
+        requires sound { IsSoundTraversal (method subject) self.old }
+        ensures sound { OnOk result (IsSoundTraversal (method subject.entry) self.new) }
         ensures grows { OnOk result (Grows self.old self.new) }
         ensures caught { OnOk result (All (IsCaught self.new place) subject.entry.rec.now.handlers) }
     {
@@ -171,8 +171,8 @@ impl Traversal {
         requires formed { IsHandlerOf subject.code.bytes.now handler }
         requires stands { Contains subject.rec.now.handlers handler }
         requires reached { IsReached (method subject) place }
-        requires sound { IsSound (method subject) self.old }
-        ensures sound { OnOk result (IsSound (method subject.entry) self.new) }
+        requires sound { IsSoundTraversal (method subject) self.old }
+        ensures sound { OnOk result (IsSoundTraversal (method subject.entry) self.new) }
         ensures grows { OnOk result (Grows self.old self.new) }
         ensures caught { OnOk result (IsCaught self.new place handler) }
     {
@@ -192,8 +192,8 @@ impl Traversal {
         requires formed { IsWellFormed (method subject) }
         requires listing { IsListingOf subject.code.bytes.now listing.now }
         requires reached { IsReached (method subject) place }
-        requires sound { IsSound (method subject) self.old }
-        ensures sound { OnOk result (IsSound (method subject.entry) self.new) }
+        requires sound { IsSoundTraversal (method subject) self.old }
+        ensures sound { OnOk result (IsSoundTraversal (method subject.entry) self.new) }
         ensures grows { OnOk result (Grows self.old self.new) }
         ensures closed { OnOk result (IsClosedAt (method subject.entry) self.new place) }
     {

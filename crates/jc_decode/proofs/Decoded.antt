@@ -9,7 +9,7 @@ use Rattle.jc_decode.specs.declared.layout.Cases.TheVariants.{Absent as NoCases}
 use Rattle.jc_decode.specs.declared.layout.Layout.{Layout}
 use Rattle.jc_decode.specs.declared.insn.CodeEnd.{CodeEnd}
 use Rattle.jc_decode.specs.declared.insn.Insn.{Insn}
-use Rattle.jc_decode.specs.Layout.{width, total_width, layout_of}
+use Rattle.jc_decode.specs.Layout.{operand_width, total_width, layout_of}
 use Rattle.jc_decode.specs.Decoding.{◌>>=◌, or_cut, reached, keys_rise, pairs_end, pair_width, range_end, range_count, bad_operand, operand_at, table_end, end_of_cases, decoded, Begins, IsWithin}
 
 -- a step that succeeds, and what comes of it
@@ -46,7 +46,7 @@ pub range_end-ok : (bound : Operand) (xs : List ℕ) (table : ℕ) (low high : �
     → (e ≡ table + 2 * range_count low high) × (e ≤ length xs)
 range_end-ok bound xs table low high e h = by_test (int_lt high low) h
   where
-    by_test : (b : Bool) → cond b (Err (bad_operand xs (table - width bound))) (reached xs (table + 2 * range_count low high)) ≡ Ok e
+    by_test : (b : Bool) → cond b (Err (bad_operand xs (table - operand_width bound))) (reached xs (table + 2 * range_count low high)) ≡ Ok e
         → (e ≡ table + 2 * range_count low high) × (e ≤ length xs)
     by_test true h = absurd (cc)
     by_test false h = reached-ok xs _ e h
@@ -74,8 +74,8 @@ Begins-decoded xs at i h =
     from_bind (layout_of op) _ i h1 (λ l l_is h2.
     from_bind (reached xs (at + 1 + total_width l)) _ i h2 (λ table table_is h3.
     from_bind (operand_at l.x xs (at + 1)) _ i h3 (λ x x_is h4.
-    from_bind (operand_at l.y xs (at + 1 + width l.x)) _ i h4 (λ y y_is h5.
-    from_bind (operand_at l.z xs (at + 1 + width l.x + width l.y)) _ i h5 (λ z z_is h6.
+    from_bind (operand_at l.y xs (at + 1 + operand_width l.x)) _ i h4 (λ y y_is h5.
+    from_bind (operand_at l.z xs (at + 1 + operand_width l.x + operand_width l.y)) _ i h5 (λ z z_is h6.
     from_bind (table_end l xs table y z) _ i h6 (λ end end_is h7.
     let place = reached-ok xs (at + 1 + total_width l) table table_is in
     let inside = table_end-ok l l.cases xs table y z end end_is place.1 in

@@ -13,7 +13,7 @@ use Rattle.jc_decode.specs.declared.layout.Cases.TheVariants.{Absent as NoCases}
 use Rattle.jc_decode.specs.declared.layout.Layout.{Layout}
 use Rattle.jc_decode.specs.declared.insn.Insn.{Insn}
 use Rattle.jc_decode.specs.declared.insn.CodeEnd.{CodeEnd}
-use Rattle.jc_decode.specs.Layout.{layout_of, opcode, width, total_width}
+use Rattle.jc_decode.specs.Layout.{layout_of, opcode, operand_width, total_width}
 use Rattle.jc_decode.specs.Listing.{jumps, is_branch}
 use Rattle.jc_decode.specs.Decoding.{decoded, AreBytes, range_count}
 use Rattle.jc_decode.specs.Cases.{cases, cases_by, cases_in, range_case, pair_case, is_switch, with_default, HasTable}
@@ -130,7 +130,7 @@ few-cases xs at i has = by_layout (layout_of i.op) refl
           inside,
           ap length (cases-by xs at i l (Pairs key) is_layout is),
           length-map-range_with_len (pair_case xs t key) 0 (unsigned_abs i.y),
-          add-mul (width key) 2 (unsigned_abs i.y),
+          add-mul (operand_width key) 2 (unsigned_abs i.y),
         )
 
     by_layout : (r : Result Layout CodeEnd) → layout_of i.op ≡ r → length (cases xs at i) ≤ length xs

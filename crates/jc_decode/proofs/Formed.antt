@@ -12,7 +12,7 @@ use Rattle.jc_decode.specs.declared.insn.CodeEnd.{CodeEnd}
 use Rattle.jc_decode.specs.Layout.{layout_of, opcode}
 use Rattle.jc_decode.specs.Listing.{jumps}
 use Rattle.jc_decode.specs.Encoding.{Allows, AllowsBy, IsAllowed}
-use Rattle.jc_decode.specs.Forms.{has_register, is_load_n, is_store_n, first_short, short_form, essence}
+use Rattle.jc_decode.specs.Forms.{names_register, is_load_n, is_store_n, first_short, short_form, essence}
 use Rattle.jc_decode.proofs.Passed.{passed-at, or-rest}
 
 abbrev pub is_absent : Operand → Bool
@@ -52,7 +52,7 @@ abbrev is_moved : ℕ → Bool
 is_moved op = not (is_load_n op || is_store_n op) || (has_none (layout_of op) && not (jumps op))
 
 abbrev is_named : ℕ → Bool
-is_named op = not (has_register op) || (has_byte (layout_of op) && (not (jumps op) && not (is_load_n op || is_store_n op)))
+is_named op = not (names_register op) || (has_byte (layout_of op) && (not (jumps op) && not (is_load_n op || is_store_n op)))
 
 is_moved-all : map is_moved (range_with_len 0 256) ≡ replicate 256 true
 unfolding layout_of opcode
@@ -128,7 +128,7 @@ record IsShort (op n short : ℕ) : Type 0 where
 
 abbrev is_short : ℕ → ℕ → Bool
 is_short n op =
-    not (has_register op)
+    not (names_register op)
     || ((is_load_n (first_short op + n) || is_store_n (first_short op + n))
     && ((cond (is_load_n (first_short op + n)) (21 + (first_short op + n - 24) / 4) (40 + (first_short op + n - 43) / 4) == op)
     && (cond (is_load_n (first_short op + n)) ((first_short op + n - 24) % 4) ((first_short op + n - 43) % 4) == n)))
@@ -152,9 +152,9 @@ is_short-at (suc (suc zero)) op few h = passed-at (is_short 2) is_short-all2 op 
 is_short-at (suc (suc (suc zero))) op few h = passed-at (is_short 3) is_short-all3 op h
 is_short-at (suc (suc (suc (suc n)))) op few h = absurd (omega arith)
 
-IsShort-at : (op n : ℕ) → op < 256 → has_register op ≡ true → n ≤ 3 → IsShort op n (first_short op + n)
+IsShort-at : (op n : ℕ) → op < 256 → names_register op ≡ true → n ≤ 3 → IsShort op n (first_short op + n)
 IsShort-at op n h named few =
-    let p = and_parts _ _ (or-rest (has_register op) _ (is_short-at n op few h) named) in
+    let p = and_parts _ _ (or-rest (names_register op) _ (is_short-at n op few h) named) in
     let q = and_parts _ _ p.1 in
     record { small = small (nat_le op 23) refl; moved = p.0; long = eqb-true _ _ q.0; register = eqb-true _ _ q.1 }
   where
@@ -176,21 +176,21 @@ essence-moved j op n still moved long register = by_form (is_load_n j.op) refl (
 essence-named : (i : Insn) → jumps i.op ≡ false → is_load_n i.op ≡ false → is_store_n i.op ≡ false → essence i ≡ record i { len = 0 }
 essence-named i still load store = rw (still, load, store) refl
 
-small-by : (op : ℕ) → has_register op ≡ true → op < 256
+small-by : (op : ℕ) → names_register op ≡ true → op < 256
 small-by op h = grind (arith, nat_tests)
 
 few-by : (n : ℕ) → nat_le n 3 ≡ true → n ≤ 3
 few-by n h = grind (arith, nat_tests)
 
 pub short-essence : (i : Insn) → IsAllowed i → essence (short_form i) ≡ essence i
-short-essence i allowed = by_test (has_register i.op) refl (nat_le (unsigned_abs i.x) 3) refl
+short-essence i allowed = by_test (names_register i.op) refl (nat_le (unsigned_abs i.x) 3) refl
   where
-    by_test : (a : Bool) → has_register i.op ≡ a → (b : Bool) → nat_le (unsigned_abs i.x) 3 ≡ b → essence (short_form i) ≡ essence i
+    by_test : (a : Bool) → names_register i.op ≡ a → (b : Bool) → nat_le (unsigned_abs i.x) 3 ≡ b → essence (short_form i) ≡ essence i
     by_test false e b f = rw e refl
     by_test true e false f = rw (e, f) refl
     by_test true e true f =
         let small = small-by i.op e in
-        let named = and_parts _ _ (or-rest (has_register i.op) _ (passed-at is_named is_named-all i.op small) e) in
+        let named = and_parts _ _ (or-rest (names_register i.op) _ (passed-at is_named is_named-all i.op small) e) in
         let still = and_parts _ _ named.1 in
         let n = IsNamed-allowed i (layout_of i.op) named.0 allowed in
         let few = few-by (unsigned_abs i.x) f in
@@ -203,14 +203,14 @@ short-essence i allowed = by_test (has_register i.op) refl (nat_le (unsigned_abs
         ∙ sym (essence-named i (not-true _ still.0) free.0 free.1))
 
 pub short-allowed : (i : Insn) → IsAllowed i → IsAllowed (short_form i)
-short-allowed i allowed = by_test (has_register i.op) refl (nat_le (unsigned_abs i.x) 3) refl
+short-allowed i allowed = by_test (names_register i.op) refl (nat_le (unsigned_abs i.x) 3) refl
   where
-    by_test : (a : Bool) → has_register i.op ≡ a → (b : Bool) → nat_le (unsigned_abs i.x) 3 ≡ b → IsAllowed (short_form i)
+    by_test : (a : Bool) → names_register i.op ≡ a → (b : Bool) → nat_le (unsigned_abs i.x) 3 ≡ b → IsAllowed (short_form i)
     by_test false e b f = rw e allowed
     by_test true e false f = rw (e, f) allowed
     by_test true e true f =
         let small = small-by i.op e in
-        let named = and_parts _ _ (or-rest (has_register i.op) _ (passed-at is_named is_named-all i.op small) e) in
+        let named = and_parts _ _ (or-rest (names_register i.op) _ (passed-at is_named is_named-all i.op small) e) in
         let n = IsNamed-allowed i (layout_of i.op) named.0 allowed in
         let few = few-by (unsigned_abs i.x) f in
         let short = IsShort-at i.op (unsigned_abs i.x) small e few in
@@ -218,14 +218,14 @@ short-allowed i allowed = by_test (has_register i.op) refl (nat_le (unsigned_abs
         rw (e, f) (AllowsBy-none (record i { op = first_short i.op + unsigned_abs i.x; x = pos 0 }) (layout_of (first_short i.op + unsigned_abs i.x)) other.0 refl n.y n.z)
 
 pub short-jumps : (i : Insn) → jumps (short_form i).op ≡ jumps i.op
-short-jumps i = by_test (has_register i.op) refl (nat_le (unsigned_abs i.x) 3) refl
+short-jumps i = by_test (names_register i.op) refl (nat_le (unsigned_abs i.x) 3) refl
   where
-    by_test : (a : Bool) → has_register i.op ≡ a → (b : Bool) → nat_le (unsigned_abs i.x) 3 ≡ b → jumps (short_form i).op ≡ jumps i.op
+    by_test : (a : Bool) → names_register i.op ≡ a → (b : Bool) → nat_le (unsigned_abs i.x) 3 ≡ b → jumps (short_form i).op ≡ jumps i.op
     by_test false e b f = rw e refl
     by_test true e false f = rw (e, f) refl
     by_test true e true f =
         let small = small-by i.op e in
-        let named = and_parts _ _ (or-rest (has_register i.op) _ (passed-at is_named is_named-all i.op small) e) in
+        let named = and_parts _ _ (or-rest (names_register i.op) _ (passed-at is_named is_named-all i.op small) e) in
         let still = and_parts _ _ named.1 in
         let few = few-by (unsigned_abs i.x) f in
         let short = IsShort-at i.op (unsigned_abs i.x) small e few in

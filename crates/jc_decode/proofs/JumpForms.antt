@@ -11,7 +11,7 @@ use Rattle.jc_decode.specs.declared.layout.Layout.{Layout}
 use Rattle.jc_decode.specs.declared.insn.Insn.{Insn}
 use Rattle.jc_decode.specs.declared.insn.CodeEnd.{CodeEnd}
 use Rattle.std.proofs.lemmas.Bool.{eqb-true, and_parts, not-true}
-use Rattle.jc_decode.specs.Layout.{layout_of, opcode, width, total_width}
+use Rattle.jc_decode.specs.Layout.{layout_of, opcode, operand_width, total_width}
 use Rattle.jc_decode.specs.Listing.{jumps, is_branch}
 use Rattle.jc_decode.specs.Cases.{is_switch}
 use Rattle.jc_decode.specs.Encoding.{Allows, AllowsBy, IsAllowed}
@@ -112,7 +112,7 @@ offset-width two l h =
     let z = absent-bytes l.z q.1 in
     omega (arith, x, y, z)
   where
-    absent-bytes : (o : Operand) → is_absent o ≡ true → width o ≡ 0
+    absent-bytes : (o : Operand) → is_absent o ≡ true → operand_width o ≡ 0
     absent-bytes Absent h = refl
     absent-bytes U1 h = absurd (cc)
     absent-bytes U2 h = absurd (cc)
@@ -124,7 +124,7 @@ offset-width two l h =
     absent-bytes ArrayType h = absurd (cc)
     absent-bytes TestedType h = absurd (cc)
 
-    offset-bytes : (two : Bool) (o : Operand) → is_offset two o ≡ true → 1 + width o ≡ cond two 3 2
+    offset-bytes : (two : Bool) (o : Operand) → is_offset two o ≡ true → 1 + operand_width o ≡ cond two 3 2
     offset-bytes true S1 h = absurd (cc)
     offset-bytes false S1 h = refl
     offset-bytes true S2 h = refl

@@ -18,7 +18,7 @@ use Rattle.jc_decode.specs.declared.layout.Cases.TheVariants.{Absent as NoCases}
 use Rattle.jc_decode.specs.declared.layout.Layout.{Layout}
 use Rattle.jc_decode.specs.declared.insn.CodeEnd.{CodeEnd}
 use Rattle.jc_decode.specs.declared.insn.Insn.{Insn}
-use Rattle.jc_decode.specs.Layout.{width, total_width}
+use Rattle.jc_decode.specs.Layout.{operand_width, total_width}
 use Rattle.jc_decode.specs.Decoding.{allows, value, or_cut, number_of, operand_at, end_of_cases, decoded, AreBytes, Begins}
 use Rattle.jc_decode.specs.Encoding.{bits, operand_bytes, table_bytes, encoding, encoding_by}
 use Rattle.jc_decode.proofs.Decoded.{Begins-decoded, from_bind, or_cut-ok, ok-same, table_end-ok}
@@ -77,7 +77,7 @@ number_at-bytes w at n xs bytes h = by_reach (nat_le (at + w) (length xs)) refl 
         ap (big_bytes w) (sym e) ∙ bytes-number w 0 (drop at xs) (AreBytes-drop at xs bytes) room
     by_reach false reach h = absurd (cc)
 
-number_of-bytes : (o : Operand) (at n : ℕ) (xs : List ℕ) → AreBytes xs → number_of o xs at ≡ Some n → big_bytes (width o) n ≡ take (width o) (drop at xs)
+number_of-bytes : (o : Operand) (at n : ℕ) (xs : List ℕ) → AreBytes xs → number_of o xs at ≡ Some n → big_bytes (operand_width o) n ≡ take (operand_width o) (drop at xs)
 number_of-bytes Absent at n xs bytes h = refl
 number_of-bytes U1 at n xs bytes h = number_at-bytes 1 at n xs bytes h
 number_of-bytes U2 at n xs bytes h = number_at-bytes 2 at n xs bytes h
@@ -89,7 +89,7 @@ number_of-bytes SwapWords at n xs bytes h = number_at-bytes 1 at n xs bytes h
 number_of-bytes ArrayType at n xs bytes h = number_at-bytes 1 at n xs bytes h
 number_of-bytes TestedType at n xs bytes h = number_at-bytes 1 at n xs bytes h
 
-bits-same : (o : Operand) (n : ℕ) → n < 256 ^ width o → bits o (value o n) ≡ n
+bits-same : (o : Operand) (n : ℕ) → n < 256 ^ operand_width o → bits o (value o n) ≡ n
 bits-same Absent n h = omega arith
 bits-same U1 n h = refl
 bits-same U2 n h = refl
@@ -102,12 +102,12 @@ bits-same ArrayType n h = refl
 bits-same TestedType n h = refl
 
 -- an operand that is read is written as its bytes
-operand-bytes : (o : Operand) (xs : List ℕ) (at : ℕ) (v : ℤ) → AreBytes xs → operand_at o xs at ≡ Ok v → operand_bytes o v ≡ take (width o) (drop at xs)
+operand-bytes : (o : Operand) (xs : List ℕ) (at : ℕ) (v : ℤ) → AreBytes xs → operand_at o xs at ≡ Ok v → operand_bytes o v ≡ take (operand_width o) (drop at xs)
 operand-bytes o xs at v bytes h =
     from_bind (or_cut (number_of o xs at)) _ v h (λ n n_is h1.
     let some = or_cut-ok _ n n_is in
     let same = bits-same o n (number_of-fits o xs at n bytes some) in
-    ap (λ (x : ℤ). big_bytes (width o) (bits o x)) (sym (allowed-value o (allows o n) n v h1)) ∙ ap (big_bytes (width o)) same ∙ number_of-bytes o at n xs bytes some)
+    ap (λ (x : ℤ). big_bytes (operand_width o) (bits o x)) (sym (allowed-value o (allows o n) n v h1)) ∙ ap (big_bytes (operand_width o)) same ∙ number_of-bytes o at n xs bytes some)
 
 -- two parts of a list, one after the other
 take-more : (xs : List ℕ) (at m n : ℕ) → take (m + n) (drop at xs) ≡ take m (drop at xs) ++ take n (drop (at + m) xs)
@@ -147,15 +147,15 @@ encoding-own xs at i bytes h =
     let l = b.layout in
     let inside = table_end-ok l l.cases xs (at + 1 + total_width l) i.y i.z (at + i.len) b.ends b.reaches in
     let m = i.len - (1 + total_width l) in
-    let whole : i.len ≡ 1 + (width l.x + (width l.y + (width l.z + m))) = omega (arith, inside.0) in
+    let whole : i.len ≡ 1 + (operand_width l.x + (operand_width l.y + (operand_width l.z + m))) = omega (arith, inside.0) in
     let op = opcode-byte xs at i.op b.opcode in
     let x = operand-bytes l.x xs (at + 1) i.x bytes b.x in
-    let y = operand-bytes l.y xs (at + 1 + width l.x) i.y bytes b.y in
-    let z = operand-bytes l.z xs (at + 1 + width l.x + width l.y) i.z bytes b.z in
+    let y = operand-bytes l.y xs (at + 1 + operand_width l.x) i.y bytes b.y in
+    let z = operand-bytes l.z xs (at + 1 + operand_width l.x + operand_width l.y) i.z bytes b.z in
     let t = table-own xs at i b in
-    let place : at + 1 + width l.x + width l.y + width l.z ≡ at + 1 + total_width l = omega arith in
+    let place : at + 1 + operand_width l.x + operand_width l.y + operand_width l.z ≡ at + 1 + total_width l = omega arith in
     ap (λ (r : Result Layout CodeEnd). encoding_by r xs at i) b.is_layout
-    ∙ pieces xs at i.op (operand_bytes l.x i.x) (operand_bytes l.y i.y) (operand_bytes l.z i.z) (table_bytes l xs at i) (width l.x) (width l.y) (width l.z) m
+    ∙ pieces xs at i.op (operand_bytes l.x i.x) (operand_bytes l.y i.y) (operand_bytes l.z i.z) (table_bytes l xs at i) (operand_width l.x) (operand_width l.y) (operand_width l.z) m
     op x y z (t ∙ ap (λ (k : ℕ). take m (drop k xs)) (sym place))
     ∙ ap (λ (n : ℕ). take n (drop at xs)) (sym whole)
   where

@@ -11,11 +11,11 @@ use Rattle.jc_decode.specs.declared.layout.Layout.{Layout}
 use Rattle.jc_decode.specs.declared.insn.Insn.{Insn}
 use Rattle.jc_decode.specs.declared.insn.CodeEnd.{CodeEnd}
 use Rattle.jc_decode.specs.declared.pool_index.IndexWidth.TheVariants.{One, Two}
-use Rattle.jc_decode.specs.Layout.{layout_of, opcode, width}
+use Rattle.jc_decode.specs.Layout.{layout_of, opcode, operand_width}
 use Rattle.jc_decode.specs.Decoding.{◌>>=◌, or_cut, operand_at, decoded, Begins}
 use Rattle.jc_decode.specs.Encoding.{Allows, AllowsBy, IsAllowed}
 use Rattle.jc_decode.specs.Forms.{is_between}
-use Rattle.jc_decode.specs.PoolIndex.{pool_index, first_index, second_index, bytes_of, has_short_index, has_index, has_second_index}
+use Rattle.jc_decode.specs.PoolIndex.{pool_index, first_index, second_index, bytes_of_index, has_short_index, has_index, has_second_index}
 use Rattle.jc_decode.proofs.Passed.{passed-at, or-rest}
 use Rattle.jc_decode.proofs.Decoded.{Begins-decoded}
 
@@ -37,7 +37,7 @@ has_first w (Ok l) = is_number w l.x
 has_first w (Err e) = false
 
 abbrev has_second : Result Layout CodeEnd → Bool
-has_second (Ok l) = width l.x == 1 && is_number 2 l.y
+has_second (Ok l) = operand_width l.x == 1 && is_number 2 l.y
 has_second (Err e) = false
 
 -- opcode by opcode
@@ -143,20 +143,20 @@ stands-first w i code at b h =
 stands-second : (i : Insn) (code : List ℕ) (at : ℕ) → Begins code at i → has_second (layout_of i.op) ≡ true
     → number_at 2 (at + 2) code ≡ Some (unsigned_abs i.y)
 stands-second i code at b h =
-    let named : (width b.layout.x == 1 && is_number 2 b.layout.y) ≡ true = rw b.is_layout at h in
+    let named : (operand_width b.layout.x == 1 && is_number 2 b.layout.y) ≡ true = rw b.is_layout at h in
     let parts = and_parts _ _ named in
-    let one : width b.layout.x ≡ 1 = eqb-true (width b.layout.x) 1 parts.0 in
-    let place : at + 1 + width b.layout.x ≡ at + 2 = omega (arith, one) in
-    rw (← place) (number-read 2 b.layout.y code (at + 1 + width b.layout.x) i.y parts.1 b.y)
+    let one : operand_width b.layout.x ≡ 1 = eqb-true (operand_width b.layout.x) 1 parts.0 in
+    let place : at + 1 + operand_width b.layout.x ≡ at + 2 = omega (arith, one) in
+    rw (← place) (number-read 2 b.layout.y code (at + 1 + operand_width b.layout.x) i.y parts.1 b.y)
 
 -- the index stands where it is said to stand
 pub index-stands : (i : Insn) (code : List ℕ) (at : ℕ) → decoded code at ≡ Ok i
-    → IfSome (pool_index i) (λ n. number_at (bytes_of n.width) (at + n.at) code ≡ Some n.entry)
+    → IfSome (pool_index i) (λ n. number_at (bytes_of_index n.width) (at + n.at) code ≡ Some n.entry)
 index-stands i code at h = by_test (has_short_index i.op) refl (has_index i.op) refl (has_second_index i) refl
   where
     by_test : (a : Bool) → has_short_index i.op ≡ a → (b : Bool) → has_index i.op ≡ b → (c : Bool) → has_second_index i ≡ c
         → IfSome (cond a (Some (first_index i.x One)) (cond b (Some (first_index i.x Two)) (cond c (Some (second_index i.y)) None)))
-        (λ n. number_at (bytes_of n.width) (at + n.at) code ≡ Some n.entry)
+        (λ n. number_at (bytes_of_index n.width) (at + n.at) code ≡ Some n.entry)
     by_test true e b f c g = stands-first 1 i code at (Begins-decoded code at i h) (first-at i.op e)
     by_test false e true f c g = stands-first 2 i code at (Begins-decoded code at i h) (first-at2 i.op f)
     by_test false e false f true g = stands-second i code at (Begins-decoded code at i h) (second-at i g)

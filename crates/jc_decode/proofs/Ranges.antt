@@ -15,7 +15,7 @@ use Rattle.jc_decode.specs.declared.layout.Layout.{Layout}
 use Rattle.jc_decode.specs.declared.insn.CodeEnd.{CodeEnd}
 use Rattle.jc_decode.specs.declared.insn.CodeEnd.TheVariants.{BadOperand}
 use Rattle.jc_decode.specs.declared.insn.Insn.{Insn}
-use Rattle.jc_decode.specs.Layout.{width, layout_of, opcode}
+use Rattle.jc_decode.specs.Layout.{operand_width, layout_of, opcode}
 use Rattle.jc_decode.specs.Decoding.{Begins, IsWithin, allows, decoded, operand_at, or_cut, number_of, value, AreBytes, FitsOperand, FitsLayout}
 use Rattle.jc_decode.specs.Encoding.{bits, Allows, AllowsBy, IsAllowed}
 use Rattle.jc_decode.specs.Listing.{jumps}
@@ -32,7 +32,7 @@ number_at-fits w at n xs bytes h = by_reach (nat_le (at + w) (length xs)) h
     by_reach true h = let e : big_number w (drop at xs) ≡ n = cc in omega (arith, below, e)
     by_reach false h = absurd (cc)
 
-pub number_of-fits : (o : Operand) (xs : List ℕ) (at n : ℕ) → AreBytes xs → number_of o xs at ≡ Some n → n < 256 ^ width o
+pub number_of-fits : (o : Operand) (xs : List ℕ) (at n : ℕ) → AreBytes xs → number_of o xs at ≡ Some n → n < 256 ^ operand_width o
 number_of-fits Absent xs at n bytes h = let e : 0 ≡ n = cc in omega (arith, e)
 number_of-fits U1 xs at n bytes h = number_at-fits 1 at n xs bytes h
 number_of-fits U2 xs at n bytes h = number_at-fits 2 at n xs bytes h
@@ -44,7 +44,7 @@ number_of-fits SwapWords xs at n bytes h = number_at-fits 1 at n xs bytes h
 number_of-fits ArrayType xs at n bytes h = number_at-fits 1 at n xs bytes h
 number_of-fits TestedType xs at n bytes h = number_at-fits 1 at n xs bytes h
 
-value-fits : (o : Operand) (n : ℕ) → n < 256 ^ width o → FitsOperand o (value o n)
+value-fits : (o : Operand) (n : ℕ) → n < 256 ^ operand_width o → FitsOperand o (value o n)
 value-fits Absent n h = refl
 value-fits U1 n h = h
 value-fits U2 n h = h

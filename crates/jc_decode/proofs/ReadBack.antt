@@ -18,7 +18,7 @@ use Rattle.jc_decode.specs.declared.layout.Cases.TheVariants.{Absent as NoCases}
 use Rattle.jc_decode.specs.declared.layout.Layout.{Layout}
 use Rattle.jc_decode.specs.declared.insn.CodeEnd.{CodeEnd}
 use Rattle.jc_decode.specs.declared.insn.Insn.{Insn}
-use Rattle.jc_decode.specs.Layout.{width, total_width, layout_of}
+use Rattle.jc_decode.specs.Layout.{operand_width, total_width, layout_of}
 use Rattle.jc_decode.specs.Decoding.{allows, value, number_of, operand_at, reached, bad_operand, key_at, rises, pair_width, range_count, range_end, pairs_end, end_of_cases, table_end, FitsOperand, Begins}
 use Rattle.jc_decode.specs.Cases.{cases_in, range_case, pair_case, offset_at, is_table, HasTable}
 use Rattle.jc_decode.specs.Encoding.{bits, operand_bytes, Allows, AllowsBy, IsAllowed, head_bytes, table_bytes, encoding, encoding_by, sized, ReadsBack}
@@ -36,7 +36,7 @@ number-back w n ys pre post at here place fits =
     number_at-reached w at ys len ∙ ap Some (ap (big_number w) rest ∙ big_from-bytes w n post ∙ mod-eq_of_lt fits)
 
 -- the number that an operand is written as fits its bytes, and means the operand
-bits-fit : (o : Operand) (v : ℤ) → FitsOperand o v → bits o v < 256 ^ width o
+bits-fit : (o : Operand) (v : ℤ) → FitsOperand o v → bits o v < 256 ^ operand_width o
 bits-fit Absent v h = omega arith
 bits-fit S1 v h = search (rules, arith)
 bits-fit S2 v h = search (rules, arith)
@@ -72,7 +72,7 @@ value-bits ArrayType (negsuc n) h = absurd h
 value-bits TestedType (pos n) h = refl
 value-bits TestedType (negsuc n) h = absurd h
 
-number_of-back : (o : Operand) (n : ℕ) (ys : List ℕ) (at : ℕ) → number_at (width o) at ys ≡ Some n → (o ≡ Absent → n ≡ 0) → number_of o ys at ≡ Some n
+number_of-back : (o : Operand) (n : ℕ) (ys : List ℕ) (at : ℕ) → number_at (operand_width o) at ys ≡ Some n → (o ≡ Absent → n ≡ 0) → number_of o ys at ≡ Some n
 number_of-back Absent n ys at h none = ap Some (sym (none refl))
 number_of-back U1 n ys at h none = h
 number_of-back U2 n ys at h none = h
@@ -91,7 +91,7 @@ bits-absent o v h = rw h refl
 pub operand-back : (o : Operand) (v : ℤ) (ys pre post : List ℕ) (at : ℕ) → ys ≡ pre ++ (operand_bytes o v ++ post) → at ≡ length pre → Allows o v
     → operand_at o ys at ≡ Ok v
 operand-back o v ys pre post at here place allowed =
-    let number = number-back (width o) (bits o v) ys pre post at here place (bits-fit o v allowed.0) in
+    let number = number-back (operand_width o) (bits o v) ys pre post at here place (bits-fit o v allowed.0) in
     let read = number_of-back o (bits o v) ys at number (bits-absent o v) in
     let yes : allows o (bits o v) ≡ true = search (rules, allowed.1) in
     rw (read, yes, value-bits o v allowed.0) refl
@@ -113,7 +113,7 @@ key_at-alike : (key : Operand) (xs ys : List ℕ) (t u m count n : ℕ) → Alik
     → key_at key xs t n ≡ key_at key ys u n
 key_at-alike key xs ys t u m count n a size h =
     let before = pair_before (pair_width key) n count h in
-    let part = Alike-part xs t ys u m (pair_width key * n) (width key) a (omega (arith, before, size)) in
+    let part = Alike-part xs t ys u m (pair_width key * n) (operand_width key) a (omega (arith, before, size)) in
     ap (λ (r : Result ℤ CodeEnd). result_unwrap_or r (pos 0)) (operand_at-alike key (t + pair_width key * n) (u + pair_width key * n) xs ys part)
 
 rises-alike : (key : Operand) (xs ys : List ℕ) (t u m count n : ℕ) → Alike xs t ys u m → m ≡ pair_width key * count → 1 ≤ n → n < count
@@ -128,8 +128,8 @@ range_end-alike : (bound : Operand) (xs ys : List ℕ) (t u m : ℕ) (y z : ℤ)
     → range_end bound ys u y z ≡ Ok (u + m)
 range_end-alike bound xs ys t u m y z a h = by_test (int_lt z y) h
   where
-    by_test : (b : Bool) → cond b (Err (bad_operand xs (t - width bound))) (reached xs (t + 2 * range_count y z)) ≡ Ok (t + m)
-        → cond b (Err (bad_operand ys (u - width bound))) (reached ys (u + 2 * range_count y z)) ≡ Ok (u + m)
+    by_test : (b : Bool) → cond b (Err (bad_operand xs (t - operand_width bound))) (reached xs (t + 2 * range_count y z)) ≡ Ok (t + m)
+        → cond b (Err (bad_operand ys (u - operand_width bound))) (reached ys (u + 2 * range_count y z)) ≡ Ok (u + m)
     by_test true h = absurd (cc)
     by_test false h =
         let place = reached-ok xs (t + 2 * range_count y z) (t + m) h in
@@ -172,9 +172,9 @@ pair_case-alike : (xs ys : List ℕ) (t u m count n : ℕ) (key : Operand) → A
     → pair_case xs t key n ≡ pair_case ys u key n
 pair_case-alike xs ys t u m count n key a size h =
     let before = pair_before (pair_width key) n count h in
-    let place : t + pair_width key * n + width key ≡ t + (pair_width key * n + width key) = omega arith in
-    let other : u + pair_width key * n + width key ≡ u + (pair_width key * n + width key) = omega arith in
-    let offset = offset_at-alike xs ys t u m (pair_width key * n + width key) a (omega (arith, before, size)) in
+    let place : t + pair_width key * n + operand_width key ≡ t + (pair_width key * n + operand_width key) = omega arith in
+    let other : u + pair_width key * n + operand_width key ≡ u + (pair_width key * n + operand_width key) = omega arith in
+    let offset = offset_at-alike xs ys t u m (pair_width key * n + operand_width key) a (omega (arith, before, size)) in
     rw (key_at-alike key xs ys t u m count n a size h, place, other, offset) refl
 
 pub cases_in-alike : (k : Cases) (xs ys : List ℕ) (t u m : ℕ) (i j : Insn) → i.y ≡ j.y → i.z ≡ j.z → Alike xs t ys u m → FitsTable k i.y i.z m
@@ -226,17 +226,17 @@ copied xs t m ys pre after u inside here place =
 -- where the table's copy begins
 length-head : (l : Layout) (i : Insn) (before : List ℕ)
     → (length before + 1 ≡ length (before ++ i.op ∷ []))
-    × (length before + 1 + width l.x ≡ length ((before ++ i.op ∷ []) ++ operand_bytes l.x i.x))
-    × (length before + 1 + width l.x + width l.y ≡ length (((before ++ i.op ∷ []) ++ operand_bytes l.x i.x) ++ operand_bytes l.y i.y))
+    × (length before + 1 + operand_width l.x ≡ length ((before ++ i.op ∷ []) ++ operand_bytes l.x i.x))
+    × (length before + 1 + operand_width l.x + operand_width l.y ≡ length (((before ++ i.op ∷ []) ++ operand_bytes l.x i.x) ++ operand_bytes l.y i.y))
     × (length before + 1 + total_width l ≡ length ((((before ++ i.op ∷ []) ++ operand_bytes l.x i.x) ++ operand_bytes l.y i.y) ++ operand_bytes l.z i.z))
 length-head l i before =
     let a = length-append before (i.op ∷ []) in
     let b = length-append (before ++ i.op ∷ []) (operand_bytes l.x i.x) in
     let d = length-append ((before ++ i.op ∷ []) ++ operand_bytes l.x i.x) (operand_bytes l.y i.y) in
     let e = length-append (((before ++ i.op ∷ []) ++ operand_bytes l.x i.x) ++ operand_bytes l.y i.y) (operand_bytes l.z i.z) in
-    let x = length-bytes_high_first (width l.x) (bits l.x i.x) in
-    let y = length-bytes_high_first (width l.y) (bits l.y i.y) in
-    let z = length-bytes_high_first (width l.z) (bits l.z i.z) in
+    let x = length-bytes_high_first (operand_width l.x) (bits l.x i.x) in
+    let y = length-bytes_high_first (operand_width l.y) (bits l.y i.y) in
+    let z = length-bytes_high_first (operand_width l.z) (bits l.z i.z) in
     (omega (arith, a), omega (arith, a, b, x), omega (arith, a, b, d, x, y), omega (arith, a, b, d, e, x, y, z))
 
 -- what is known of the table of an instruction in another list: it ends after m bytes, has their length and their cases
@@ -276,9 +276,9 @@ length-head_bytes l i =
       arith,
       length-append (operand_bytes l.x i.x) (operand_bytes l.y i.y ++ operand_bytes l.z i.z),
       length-append (operand_bytes l.y i.y) (operand_bytes l.z i.z),
-      length-bytes_high_first (width l.x) (bits l.x i.x),
-      length-bytes_high_first (width l.y) (bits l.y i.y),
-      length-bytes_high_first (width l.z) (bits l.z i.z),
+      length-bytes_high_first (operand_width l.x) (bits l.x i.x),
+      length-bytes_high_first (operand_width l.y) (bits l.y i.y),
+      length-bytes_high_first (operand_width l.z) (bits l.z i.z),
     )
 
 -- the table of an instruction whose bytes stand between others
@@ -307,8 +307,8 @@ Begins-between l xs at i before after is_layout allowed has =
       is_layout = is_layout;
       reaches = omega (arith, head, bytes, whole, inner);
       x = operand-back l.x i.x ys _ _ (length before + 1) c.at_x n.0 allowed.0;
-      y = operand-back l.y i.y ys _ _ (length before + 1 + width l.x) c.at_y n.1 allowed.1;
-      z = operand-back l.z i.z ys _ _ (length before + 1 + width l.x + width l.y) c.at_z n.2 allowed.2;
+      y = operand-back l.y i.y ys _ _ (length before + 1 + operand_width l.x) c.at_y n.1 allowed.1;
+      z = operand-back l.z i.z ys _ _ (length before + 1 + operand_width l.x + operand_width l.y) c.at_z n.2 allowed.2;
       ends = t.ends ∙ ap Ok (omega (arith, head, bytes));
     }
 

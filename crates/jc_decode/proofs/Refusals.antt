@@ -20,7 +20,7 @@ use Rattle.jc_decode.specs.declared.layout.Opcode.TheVariants.{Instruction, Rese
 use Rattle.jc_decode.specs.declared.insn.CodeEnd.{CodeEnd}
 use Rattle.jc_decode.specs.declared.insn.CodeEnd.TheVariants.{Cut, BadOperand, NoOpcode, OutOfScope}
 use Rattle.jc_decode.specs.declared.insn.Insn.{Insn}
-use Rattle.jc_decode.specs.Layout.{Span, width, total_width, layout_of, layout_from, opcode, holds, spans, is_out_of_scope, instruction_of}
+use Rattle.jc_decode.specs.Layout.{Span, operand_width, total_width, layout_of, layout_from, opcode, is_in_span, spans, is_out_of_scope, opcode_in_span}
 use Rattle.jc_decode.specs.Decoding.{◌>>=◌, or_cut, reached, bad_byte, bad_operand, number_of, value, allows, operand_at, key_at, rises, keys_rise, pair_width, pairs_end, range_end, range_count, end_of_cases, table_end, decoded, AreBytes}
 use Rattle.jc_decode.specs.Refusal.{HasOpcode, HasOperands, IsFirstFall, RefusesBytes, nothing_there, left_out, unused, operands_cut, forbidden, bounds_turned, range_cut, pairs_cut, key_falls}
 use Rattle.jc_decode.proofs.Decoded.{reached-ok, reached-within, or_cut-ok}
@@ -82,7 +82,7 @@ allows_all _ = true
 
 -- high stands where a table of offsets begins
 abbrev has_high : Cases → Operand → Bool
-has_high Range z = nat_le 1 (width z)
+has_high Range z = nat_le 1 (operand_width z)
 has_high _ z = true
 
 abbrev is_plain : Result Layout CodeEnd → Bool
@@ -127,7 +127,7 @@ layout_of-left_out : (op : ℕ) → is_out_of_scope op ≡ true → layout_of op
 unfolding layout_of opcode
 layout_of-left_out op h = rw h refl
 
-never-reserved : (o : Option Span) → instruction_of o ≡ Reserved → ⊥
+never-reserved : (o : Option Span) → opcode_in_span o ≡ Reserved → ⊥
 never-reserved None h = absurd (cc)
 never-reserved (Some s) h = absurd (cc)
 
@@ -135,7 +135,7 @@ reserved-left_out : (op : ℕ) → opcode op ≡ Reserved → is_out_of_scope op
 unfolding opcode
 reserved-left_out op h = by_test (is_out_of_scope op) h
   where
-    by_test : (b : Bool) → cond b Reserved (instruction_of (find (holds op) spans)) ≡ Reserved → b ≡ true
+    by_test : (b : Bool) → cond b Reserved (opcode_in_span (find (is_in_span op) spans)) ≡ Reserved → b ≡ true
     by_test true h = refl
     by_test false h = absurd (never-reserved _ h)
 
@@ -155,7 +155,7 @@ no-layout xs at op e bytes there h = by_opcode (opcode op) refl h
 
 -- ---- operands
 
-number_of-none : (o : Operand) (xs : List ℕ) (at : ℕ) → at + width o ≤ length xs → number_of o xs at ≡ None → ⊥
+number_of-none : (o : Operand) (xs : List ℕ) (at : ℕ) → at + operand_width o ≤ length xs → number_of o xs at ≡ None → ⊥
 number_of-none Absent xs at h none = absurd (cc)
 number_of-none U1 xs at h none = absurd (omega (arith, number_at-none 1 at xs none))
 number_of-none U2 xs at h none = absurd (omega (arith, number_at-none 2 at xs none))
@@ -199,7 +199,7 @@ record Forbidden (o : Operand) (xs : List ℕ) (at : ℕ) (e : CodeEnd) : Type 0
   not_allowed : allows o byte ≡ false
   is : BadOperand byte ≡ e
 
-operand_at-failed : (o : Operand) (xs : List ℕ) (at : ℕ) (e : CodeEnd) → at + width o ≤ length xs → operand_at o xs at ≡ Err e → Forbidden o xs at e
+operand_at-failed : (o : Operand) (xs : List ℕ) (at : ℕ) (e : CodeEnd) → at + operand_width o ≤ length xs → operand_at o xs at ≡ Err e → Forbidden o xs at e
 operand_at-failed o xs at e inside h = by_number (number_of o xs at) refl h
   where
     by_test : (n : ℕ) (b : Bool) → number_of o xs at ≡ Some n → allows o n ≡ b → cond b (Ok (value o n)) (Err (BadOperand n)) ≡ Err e → Forbidden o xs at e
@@ -222,7 +222,7 @@ allows_all-allows SwapWords n all refused = absurd (cc)
 allows_all-allows ArrayType n all refused = absurd (cc)
 allows_all-allows TestedType n all refused = absurd (cc)
 
-never-failed : (o : Operand) (xs : List ℕ) (at : ℕ) (e : CodeEnd) → at + width o ≤ length xs → allows_all o ≡ true → operand_at o xs at ≡ Err e → ⊥
+never-failed : (o : Operand) (xs : List ℕ) (at : ℕ) (e : CodeEnd) → at + operand_width o ≤ length xs → allows_all o ≡ true → operand_at o xs at ≡ Err e → ⊥
 never-failed o xs at e inside all h = let f = operand_at-failed o xs at e inside h in allows_all-allows o f.byte all f.not_allowed
 
 -- ---- tables
@@ -306,14 +306,14 @@ pair-there xs key t count n h inside =
 -- ---- the whole
 
 -- after the operands an instruction fails as its table does
-range-failed : (xs : List ℕ) (at t : ℕ) (l : Layout) (y z : ℤ) (e : CodeEnd) → HasOperands xs at l y z → l.cases ≡ Range → nat_le 1 (width l.z) ≡ true
+range-failed : (xs : List ℕ) (at t : ℕ) (l : Layout) (y z : ℤ) (e : CodeEnd) → HasOperands xs at l y z → l.cases ≡ Range → nat_le 1 (operand_width l.z) ≡ true
     → t ≡ at + 1 + total_width l → range_end l.z xs t y z ≡ Err e → RefusesBytes xs at e
 range-failed xs at t l y z e has is high t_is h = by_order (int_lt z y) refl h
   where
-    by_order : (b : Bool) → int_lt z y ≡ b → cond b (Err (bad_operand xs (t - width l.z))) (reached xs (t + 2 * range_count y z)) ≡ Err e → RefusesBytes xs at e
+    by_order : (b : Bool) → int_lt z y ≡ b → cond b (Err (bad_operand xs (t - operand_width l.z))) (reached xs (t + 2 * range_count y z)) ≡ Err e → RefusesBytes xs at e
     by_order true turned h =
-        let place : t - width l.z ≡ at + 1 + width l.x + width l.y = omega (arith, t_is) in
-        let there = byte-there xs (at + 1 + width l.x + width l.y) (omega (arith, has.reaches, leb-true 1 (width l.z) high)) in
+        let place : t - operand_width l.z ≡ at + 1 + operand_width l.x + operand_width l.y = omega (arith, t_is) in
+        let there = byte-there xs (at + 1 + operand_width l.x + operand_width l.y) (omega (arith, has.reaches, leb-true 1 (operand_width l.z) high)) in
         let named : BadOperand there.0 ≡ e = sym there.2 ∙ (ap (bad_operand xs) (sym place) ∙ err-same _ e _ refl h) in
         subst (RefusesBytes xs at) named (bounds_turned l y z there.0 has is (test-less z y turned) there.1)
     by_order false order h =
@@ -376,9 +376,9 @@ decoded-RefusesBytes xs at e bytes h =
     (λ bad.
     let f = operand_at-failed l.x xs (at + 1) e (omega (arith, inside)) bad in
     subst (RefusesBytes xs at) f.is (forbidden l f.byte begun inside (forbidden-byte l.x xs (at + 1) f.byte f.there f.not_allowed) f.not_allowed))
-    (λ x x_is h4. from_failed (operand_at l.y xs (at + 1 + width l.x)) _ e h4
+    (λ x x_is h4. from_failed (operand_at l.y xs (at + 1 + operand_width l.x)) _ e h4
     (λ bad. absurd (never-failed l.y xs _ e (omega (arith, inside)) second.0 bad))
-    (λ y y_is h5. from_failed (operand_at l.z xs (at + 1 + width l.x + width l.y)) _ e h5
+    (λ y y_is h5. from_failed (operand_at l.z xs (at + 1 + operand_width l.x + operand_width l.y)) _ e h5
     (λ bad. absurd (never-failed l.z xs _ e (omega (arith, inside)) third.0 bad))
     (λ z z_is h6.
     let at_table : table_end l xs (at + 1 + total_width l) y z ≡ Err e = ap (λ (t : ℕ). table_end l xs t y z) (sym place.0) ∙ from_end (table_end l xs table y z) _ e h6 in
@@ -396,9 +396,9 @@ decoded-table xs at l y z e has h =
 bad-byte-is : (xs : List ℕ) (at b : ℕ) → number_at 1 at xs ≡ Some b → bad_operand xs at ≡ BadOperand b
 bad-byte-is xs at b h = ap bad_byte h
 
-range-end-turned : (bound : Operand) (xs : List ℕ) (t : ℕ) (low high : ℤ) (b : ℕ) → high <ℤ low → number_at 1 (t - width bound) xs ≡ Some b → range_end bound xs t low high ≡ Err (BadOperand b)
+range-end-turned : (bound : Operand) (xs : List ℕ) (t : ℕ) (low high : ℤ) (b : ℕ) → high <ℤ low → number_at 1 (t - operand_width bound) xs ≡ Some b → range_end bound xs t low high ≡ Err (BadOperand b)
 range-end-turned bound xs t low high b turned there =
-    let e = less-test high low turned in rw e (ap Err (bad-byte-is xs (t - width bound) b there))
+    let e = less-test high low turned in rw e (ap Err (bad-byte-is xs (t - operand_width bound) b there))
 
 range-end-cut : (bound : Operand) (xs : List ℕ) (t : ℕ) (low high : ℤ) → low ≤ℤ high → length xs < t + 2 * range_count low high → range_end bound xs t low high ≡ Err Cut
 range-end-cut bound xs t low high order far = let e = most-test low high order in rw e (reached-past xs _ far)
@@ -423,8 +423,8 @@ RefusesBytes-decoded xs at _ (operands_cut l begun far) = rw (begun.opcode, begu
 RefusesBytes-decoded xs at _ (forbidden l b begun inside there refused) =
     rw (begun.opcode, begun.layout, reached-within xs (at + 1 + total_width l) inside, byte-forbidden l.x xs (at + 1) b there refused, refused) refl
 RefusesBytes-decoded xs at _ (bounds_turned l low high b has is turned there) =
-    let place : at + 1 + width l.x + width l.y ≡ at + 1 + total_width l - width l.z = omega arith in
-    let named : number_at 1 (at + 1 + total_width l - width l.z) xs ≡ Some b = ap (λ (p : ℕ). number_at 1 p xs) (sym place) ∙ there in
+    let place : at + 1 + operand_width l.x + operand_width l.y ≡ at + 1 + total_width l - operand_width l.z = omega arith in
+    let named : number_at 1 (at + 1 + total_width l - operand_width l.z) xs ≡ Some b = ap (λ (p : ℕ). number_at 1 p xs) (sym place) ∙ there in
     decoded-table xs at l low high (BadOperand b) has (rw is (range-end-turned l.z xs (at + 1 + total_width l) low high b turned named))
 RefusesBytes-decoded xs at _ (range_cut l low high has is order far) =
     decoded-table xs at l low high Cut has (rw is (range-end-cut l.z xs (at + 1 + total_width l) low high order far))

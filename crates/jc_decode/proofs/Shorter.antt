@@ -8,7 +8,7 @@ use Rattle.jc_decode.specs.declared.insn.Insn.{Insn}
 use Rattle.jc_decode.specs.Layout.{layout_of, opcode}
 use Rattle.jc_decode.specs.Listing.{is_branch}
 use Rattle.jc_decode.specs.Cases.{is_switch}
-use Rattle.jc_decode.specs.Forms.{has_register, is_load_n, is_store_n, is_register_move, first_short, short_form, length_of, plain_length, bytes_by}
+use Rattle.jc_decode.specs.Forms.{names_register, is_load_n, is_store_n, is_register_move, first_short, short_form, length_of, plain_length, bytes_by}
 use Rattle.jc_decode.proofs.Passed.{passed-at, or-rest}
 
 -- opcode by opcode: no switch, and so many bytes at most
@@ -63,30 +63,30 @@ length-plain i = by_kind (is_register_move i.op) refl (is_branch i.op) refl
     by_kind false e true f = length-small i 3 ((IsSmall-at i.op (branch-small i.op f)).branch f)
     by_kind false e false f = omega arith
 
-first-moved : (op n : ℕ) → has_register op ≡ true → nat_le n 3 ≡ true → (is_load_n (first_short op + n) || is_store_n (first_short op + n)) ≡ true
+first-moved : (op n : ℕ) → names_register op ≡ true → nat_le n 3 ≡ true → (is_load_n (first_short op + n) || is_store_n (first_short op + n)) ≡ true
 first-moved op n h k = by_kind (nat_le op 23) refl
   where
     by_kind : (b : Bool) → nat_le op 23 ≡ b → (is_load_n (cond b (24 + 4 * (op - 21)) (43 + 4 * (op - 40)) + n) || is_store_n (cond b (24 + 4 * (op - 21)) (43 + 4 * (op - 40)) + n)) ≡ true
     by_kind true e = grind (arith, nat_tests)
     by_kind false e = grind (arith, nat_tests)
 
-first-small : (op n : ℕ) → has_register op ≡ true → nat_le n 3 ≡ true → first_short op + n < 256
+first-small : (op n : ℕ) → names_register op ≡ true → nat_le n 3 ≡ true → first_short op + n < 256
 first-small op n h k = by_kind (nat_le op 23) refl
   where
     by_kind : (b : Bool) → nat_le op 23 ≡ b → cond b (24 + 4 * (op - 21)) (43 + 4 * (op - 40)) + n < 256
     by_kind true e = grind (arith, nat_tests)
     by_kind false e = grind (arith, nat_tests)
 
-named-moves : (op : ℕ) → has_register op ≡ true → is_register_move op ≡ true
+named-moves : (op : ℕ) → names_register op ≡ true → is_register_move op ≡ true
 named-moves op h = rw h refl
 
 pub short-no-longer : (i : Insn) → length_of (short_form i) ≤ plain_length i
-short-no-longer i = by_test (has_register i.op) refl (nat_le (unsigned_abs i.x) 3) refl
+short-no-longer i = by_test (names_register i.op) refl (nat_le (unsigned_abs i.x) 3) refl
   where
     as-it-is : short_form i ≡ i → length_of (short_form i) ≤ plain_length i
     as-it-is same = omega (arith, length-plain i, ap length_of same)
 
-    by_test : (a : Bool) → has_register i.op ≡ a → (b : Bool) → nat_le (unsigned_abs i.x) 3 ≡ b → length_of (short_form i) ≤ plain_length i
+    by_test : (a : Bool) → names_register i.op ≡ a → (b : Bool) → nat_le (unsigned_abs i.x) 3 ≡ b → length_of (short_form i) ≤ plain_length i
     by_test false e b f = as-it-is (rw e refl)
     by_test true e false f = as-it-is (rw (e, f) refl)
     by_test true e true f =

@@ -20,7 +20,7 @@ use Rattle.jc_decode.specs.declared.layout.Layout.{Layout}
 use Rattle.jc_decode.specs.declared.insn.CodeEnd.{CodeEnd}
 use Rattle.jc_decode.specs.declared.insn.Insn.{Insn}
 use Rattle.jc_decode.specs.declared.insn.Case.{Case}
-use Rattle.jc_decode.specs.Layout.{width, total_width, layout_of}
+use Rattle.jc_decode.specs.Layout.{operand_width, total_width, layout_of}
 use Rattle.jc_decode.specs.Decoding.{reached, bad_operand, key_at, rises, pair_width, range_count, range_end, pairs_end, table_end, decoded, Begins}
 use Rattle.jc_decode.specs.Cases.{cases, range_case, pair_case, offset_at, offset_place, offset_place_in, with_offset, leading}
 use Rattle.jc_decode.proofs.Decoded.{decoded-Begins, Begins-decoded, reached-within, reached-ok, pairs_end-ok, range_end-ok, from_bind}
@@ -89,30 +89,30 @@ offset-written xs p offset w =
     (operand-back S2 offset (with_offset xs p offset) (take p xs) (drop (p + 2) xs) p refl place (w.fits, search rules))
 
 -- keys are as they were
-key_at-written : (key : Operand) (xs : List ℕ) (t count n k p : ℕ) (offset : ℤ) → Written xs p offset → p ≡ t + pair_width key * n + width key
+key_at-written : (key : Operand) (xs : List ℕ) (t count n k p : ℕ) (offset : ℤ) → Written xs p offset → p ≡ t + pair_width key * n + operand_width key
     → t + pair_width key * count ≤ length xs → k < count → key_at key (with_offset xs p offset) t k ≡ key_at key xs t k
 key_at-written key xs t count n k p offset w place inside h =
     ap (λ (r : Result ℤ CodeEnd). result_unwrap_or r (pos 0))
     (operand_at-alike key (t + pair_width key * k) (t + pair_width key * k) (with_offset xs p offset) xs (by_side (cases_lt n k)))
   where
-    by_side : (n < k) ⊎ (k ≤ n) → Alike (with_offset xs p offset) (t + pair_width key * k) xs (t + pair_width key * k) (width key)
+    by_side : (n < k) ⊎ (k ≤ n) → Alike (with_offset xs p offset) (t + pair_width key * k) xs (t + pair_width key * k) (operand_width key)
     by_side (inl later) =
         let next = pair_before (pair_width key) n k later in
         let last = pair_before (pair_width key) k count h in
-        alike-after xs p offset (t + pair_width key * k) (width key) w (omega (arith, next, place)) (omega (arith, last, inside))
+        alike-after xs p offset (t + pair_width key * k) (operand_width key) w (omega (arith, next, place)) (omega (arith, last, inside))
     by_side (inr here) =
         let same = mul-le-mul_left (pair_width key) here in
-        alike-before xs p offset (t + pair_width key * k) (width key) w (omega (arith, same, place))
+        alike-before xs p offset (t + pair_width key * k) (operand_width key) w (omega (arith, same, place))
 
 -- the other offsets are as they were
-pair_offset-written : (key : Operand) (xs : List ℕ) (t count n k p : ℕ) (offset : ℤ) → Written xs p offset → p ≡ t + pair_width key * n + width key
+pair_offset-written : (key : Operand) (xs : List ℕ) (t count n k p : ℕ) (offset : ℤ) → Written xs p offset → p ≡ t + pair_width key * n + operand_width key
     → t + pair_width key * count ≤ length xs → k < count → k ≢ n
-    → offset_at (with_offset xs p offset) (t + pair_width key * k + width key) ≡ offset_at xs (t + pair_width key * k + width key)
+    → offset_at (with_offset xs p offset) (t + pair_width key * k + operand_width key) ≡ offset_at xs (t + pair_width key * k + operand_width key)
 pair_offset-written key xs t count n k p offset w place inside h other =
     ap (λ (r : Result ℤ CodeEnd). result_unwrap_or r (pos 0))
     (operand_at-alike S2 _ _ (with_offset xs p offset) xs (by_side (cases_lt n k)))
   where
-    by_side : (n < k) ⊎ (k ≤ n) → Alike (with_offset xs p offset) (t + pair_width key * k + width key) xs (t + pair_width key * k + width key) 2
+    by_side : (n < k) ⊎ (k ≤ n) → Alike (with_offset xs p offset) (t + pair_width key * k + operand_width key) xs (t + pair_width key * k + operand_width key) 2
     by_side (inl later) =
         let next = pair_before (pair_width key) n k later in
         let last = pair_before (pair_width key) k count h in
@@ -137,14 +137,14 @@ range_end-written : (bound : Operand) (xs : List ℕ) (t p e : ℕ) (y z offset 
     → range_end bound (with_offset xs p offset) t y z ≡ Ok e
 range_end-written bound xs t p e y z offset w h = by_test (int_lt z y) h
   where
-    by_test : (b : Bool) → cond b (Err (bad_operand xs (t - width bound))) (reached xs (t + 2 * range_count y z)) ≡ Ok e
-        → cond b (Err (bad_operand (with_offset xs p offset) (t - width bound))) (reached (with_offset xs p offset) (t + 2 * range_count y z)) ≡ Ok e
+    by_test : (b : Bool) → cond b (Err (bad_operand xs (t - operand_width bound))) (reached xs (t + 2 * range_count y z)) ≡ Ok e
+        → cond b (Err (bad_operand (with_offset xs p offset) (t - operand_width bound))) (reached (with_offset xs p offset) (t + 2 * range_count y z)) ≡ Ok e
     by_test true h = absurd (cc)
     by_test false h =
         let place = reached-ok xs (t + 2 * range_count y z) e h in
         reached-within (with_offset xs p offset) (t + 2 * range_count y z) (omega (arith, place.0, place.1, length-written xs p offset w)) ∙ ap Ok (sym place.0)
 
-pairs_end-written : (key : Operand) (xs : List ℕ) (t count n p e : ℕ) (offset : ℤ) → Written xs p offset → p ≡ t + pair_width key * n + width key
+pairs_end-written : (key : Operand) (xs : List ℕ) (t count n p e : ℕ) (offset : ℤ) → Written xs p offset → p ≡ t + pair_width key * n + operand_width key
     → pairs_end key xs t count ≡ Ok e → pairs_end key (with_offset xs p offset) t count ≡ Ok e
 pairs_end-written key xs t count n p e offset w place h =
     let whole = pairs_end-ok key xs t count e h in
@@ -201,16 +201,16 @@ range_case-at : (xs : List ℕ) (t n p : ℕ) (low offset : ℤ) → Written xs 
 range_case-at xs t n p low offset w place =
     ap (λ (o : ℤ). record { key = low +ℤ pos n; offset = o }) (ap (offset_at (with_offset xs p offset)) (sym place) ∙ offset-written xs p offset w)
 
-pair_case-at : (key : Operand) (xs : List ℕ) (t count n p : ℕ) (offset : ℤ) → Written xs p offset → p ≡ t + pair_width key * n + width key
+pair_case-at : (key : Operand) (xs : List ℕ) (t count n p : ℕ) (offset : ℤ) → Written xs p offset → p ≡ t + pair_width key * n + operand_width key
     → t + pair_width key * count ≤ length xs → n < count
     → pair_case (with_offset xs p offset) t key n ≡ leading offset (pair_case xs t key n)
 pair_case-at key xs t count n p offset w place inside h =
     let same = key_at-written key xs t count n n p offset w place inside h in
-    let led : offset_at (with_offset xs p offset) (t + pair_width key * n + width key) ≡ offset =
+    let led : offset_at (with_offset xs p offset) (t + pair_width key * n + operand_width key) ≡ offset =
     ap (offset_at (with_offset xs p offset)) (sym place) ∙ offset-written xs p offset w in
     rw (same, led) refl
 
-pair_case-other : (key : Operand) (xs : List ℕ) (t count n k p : ℕ) (offset : ℤ) → Written xs p offset → p ≡ t + pair_width key * n + width key
+pair_case-other : (key : Operand) (xs : List ℕ) (t count n k p : ℕ) (offset : ℤ) → Written xs p offset → p ≡ t + pair_width key * n + operand_width key
     → t + pair_width key * count ≤ length xs → k < count → k ≢ n
     → pair_case (with_offset xs p offset) t key k ≡ pair_case xs t key k
 pair_case-other key xs t count n k p offset w place inside h other =
@@ -238,7 +238,7 @@ set-range xs at n p i offset b is_range counted fits place =
     }
 
 set-pairs : (key : Operand) (xs : List ℕ) (at n p : ℕ) (i : Insn) (offset : ℤ) → (b : Begins xs at i) → b.layout.cases ≡ Pairs key → n < length (cases xs at i)
-    → FitsSigned w16 offset → p ≡ at + 1 + total_width b.layout + pair_width key * n + width key → SetCase xs at i n p offset
+    → FitsSigned w16 offset → p ≡ at + 1 + total_width b.layout + pair_width key * n + operand_width key → SetCase xs at i n p offset
 set-pairs key xs at n p i offset b is_pairs counted fits place =
     let t = at + 1 + total_width b.layout in
     let l = b.layout in

@@ -15,7 +15,7 @@ use Rattle.jc_decode.specs.declared.layout.Cases.TheVariants.{Absent as NoCases}
 use Rattle.jc_decode.specs.declared.insn.Insn.{Insn}
 use Rattle.jc_decode.specs.declared.insn.Case.{Case}
 use Rattle.jc_decode.specs.declared.insn.CodeEnd.{CodeEnd}
-use Rattle.jc_decode.specs.Layout.{opcode, width, total_width, layout_of}
+use Rattle.jc_decode.specs.Layout.{opcode, operand_width, total_width, layout_of}
 use Rattle.jc_decode.specs.Decoding.{operand_at, key_at, pair_width, range_count, decoded}
 
 -- the offset at a place of a table
@@ -29,7 +29,7 @@ range_case xs table low n = record { key = low +ℤ pos n; offset = offset_at xs
 -- the n-th case of a table of pairs that begins at this place
 abbrev pub pair_case : List ℕ → ℕ → Operand → ℕ → Case
 pair_case xs table key n =
-    record { key = key_at key xs table n; offset = offset_at xs (table + pair_width key * n + width key) }
+    record { key = key_at key xs table n; offset = offset_at xs (table + pair_width key * n + operand_width key) }
 
 abbrev pub cases_in : Cases → List ℕ → ℕ → Insn → List Case
 cases_in NoCases xs table i = []
@@ -89,7 +89,7 @@ HasTable xs at i = IsTrue (is_switch i.op) → with_default i.x (decoded xs at) 
 abbrev pub offset_place_in : Cases → ℕ → ℕ → ℕ
 offset_place_in NoCases table n = table
 offset_place_in Range table n = table + 2 * n
-offset_place_in (Pairs key) table n = table + pair_width key * n + width key
+offset_place_in (Pairs key) table n = table + pair_width key * n + operand_width key
 
 abbrev pub offset_place_by : Result Layout CodeEnd → ℕ → ℕ → ℕ
 offset_place_by (Ok l) at n = offset_place_in l.cases (at + 1 + total_width l) n

@@ -15,7 +15,7 @@ use Rattle.jc_decode.specs.declared.layout.Layout.{Layout}
 use Rattle.jc_decode.specs.declared.insn.CodeEnd.{CodeEnd}
 use Rattle.jc_decode.specs.declared.insn.CodeEnd.TheVariants.{Cut, BadOperand, NoOpcode, OutOfScope}
 use Rattle.jc_decode.specs.declared.insn.Insn.{Insn}
-use Rattle.jc_decode.specs.Layout.{opcode, width, total_width, layout_of}
+use Rattle.jc_decode.specs.Layout.{opcode, operand_width, total_width, layout_of}
 
 infixl 10 ◌>>=◌
 abbrev pub ◌>>=◌ : {A B : Type 0} → Result A CodeEnd → (A → Result B CodeEnd) → Result B CodeEnd
@@ -66,7 +66,7 @@ allows _ b = true
 -- the number that an operand's bytes are, read as unsigned
 abbrev pub number_of : Operand → List ℕ → ℕ → Option ℕ
 number_of Absent xs at = Some 0
-number_of o xs at = number_at (width o) at xs
+number_of o xs at = number_at (operand_width o) at xs
 
 -- what that number means: two's complement for a signed operand, and 0 for an absent one
 abbrev pub value : Operand → ℕ → ℤ
@@ -84,7 +84,7 @@ operand_at o xs at = do
 
 -- the bytes of one pair of a lookup switch, whose key is of this form
 abbrev pub pair_width : Operand → ℕ
-pair_width key = width key + 2
+pair_width key = operand_width key + 2
 
 -- the key of the n-th pair of a table of pairs
 abbrev pub key_at : Operand → List ℕ → ℕ → ℕ → ℤ
@@ -112,7 +112,7 @@ pairs_end key xs table count = do
 -- the place after an offset for each number from low to high, whose bytes end where the table begins
 abbrev pub range_end : Operand → List ℕ → ℕ → ℤ → ℤ → Result ℕ CodeEnd
 range_end bound xs table low high =
-    if int_lt high low then Err (bad_operand xs (table - width bound)) else reached xs (table + 2 * range_count low high)
+    if int_lt high low then Err (bad_operand xs (table - operand_width bound)) else reached xs (table + 2 * range_count low high)
 
 abbrev pub end_of_cases : Cases → Operand → List ℕ → ℕ → ℤ → ℤ → Result ℕ CodeEnd
 end_of_cases NoCases bound xs table y z = Ok table
@@ -128,8 +128,8 @@ abbrev pub decoded_as : ℕ → Layout → List ℕ → ℕ → Result Insn Code
 decoded_as op l xs at = do
   table ← reached xs (at + 1 + total_width l)
   x ← operand_at l.x xs (at + 1)
-  y ← operand_at l.y xs (at + 1 + width l.x)
-  z ← operand_at l.z xs (at + 1 + width l.x + width l.y)
+  y ← operand_at l.y xs (at + 1 + operand_width l.x)
+  z ← operand_at l.z xs (at + 1 + operand_width l.x + operand_width l.y)
   end ← table_end l xs table y z
   Ok (record { op = op; x = x; y = y; z = z; len = end - at })
 
@@ -150,7 +150,7 @@ FitsOperand Absent v = v ≡ pos 0
 FitsOperand S1 v = FitsSigned w8 v
 FitsOperand S2 v = FitsSigned w16 v
 FitsOperand S4 v = FitsSigned w32 v
-FitsOperand o (pos n) = n < 256 ^ width o
+FitsOperand o (pos n) = n < 256 ^ operand_width o
 FitsOperand o (negsuc n) = ⊥
 
 -- the operands of an instruction lie in the ranges of its layout
@@ -170,8 +170,8 @@ pub record Begins (xs : List ℕ) (at : ℕ) (i : Insn) : Type 0 where
   pub is_layout : layout_of i.op ≡ Ok layout
   pub reaches : at + 1 + total_width layout ≤ length xs
   pub x : operand_at layout.x xs (at + 1) ≡ Ok i.x
-  pub y : operand_at layout.y xs (at + 1 + width layout.x) ≡ Ok i.y
-  pub z : operand_at layout.z xs (at + 1 + width layout.x + width layout.y) ≡ Ok i.z
+  pub y : operand_at layout.y xs (at + 1 + operand_width layout.x) ≡ Ok i.y
+  pub z : operand_at layout.z xs (at + 1 + operand_width layout.x + operand_width layout.y) ≡ Ok i.z
   pub ends : table_end layout xs (at + 1 + total_width layout) i.y i.z ≡ Ok (at + i.len)
 
 -- sspush 258; the second byte of an invokestatic, read as nop; dup_x of two words below one; half a goto_w; jsr; opcode 185

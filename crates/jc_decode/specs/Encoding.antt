@@ -9,7 +9,7 @@ use Rattle.jc_decode.specs.declared.layout.Operand.TheVariants.{Absent, S1, S2, 
 use Rattle.jc_decode.specs.declared.layout.Layout.{Layout}
 use Rattle.jc_decode.specs.declared.insn.Insn.{Insn}
 use Rattle.jc_decode.specs.declared.insn.CodeEnd.{CodeEnd}
-use Rattle.jc_decode.specs.Layout.{opcode, width, total_width, layout_of}
+use Rattle.jc_decode.specs.Layout.{opcode, operand_width, total_width, layout_of}
 use Rattle.jc_decode.specs.Decoding.{allows, decoded, FitsOperand}
 use Rattle.jc_decode.specs.Cases.{cases, is_table}
 
@@ -23,7 +23,7 @@ bits _ v = unsigned_abs v
 
 -- an operand's bytes
 abbrev pub operand_bytes : Operand → ℤ → List ℕ
-operand_bytes o v = big_bytes (width o) (bits o v)
+operand_bytes o v = big_bytes (operand_width o) (bits o v)
 
 -- the instruction allows this operand
 abbrev pub Allows : Operand → ℤ → Type 0

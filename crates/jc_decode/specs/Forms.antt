@@ -13,8 +13,8 @@ abbrev pub is_between : ℕ → ℕ → ℕ → Bool
 is_between a b n = nat_le a n && nat_le n b
 
 -- aload, sload, iload and astore, sstore, istore, whose operand is a register
-abbrev pub has_register : ℕ → Bool
-has_register op = is_between 21 23 op || is_between 40 42 op
+abbrev pub names_register : ℕ → Bool
+names_register op = is_between 21 23 op || is_between 40 42 op
 
 -- the same with a register from 0 to 3 in the opcode: aload_<n> to istore_<n>
 abbrev pub is_load_n : ℕ → Bool
@@ -25,7 +25,7 @@ is_store_n op = is_between 43 54 op
 
 -- a load or store of a register, in either form
 abbrev pub is_register_move : ℕ → Bool
-is_register_move op = has_register op || is_load_n op || is_store_n op
+is_register_move op = names_register op || is_load_n op || is_store_n op
 
 -- a load or store with the register in the opcode, as the one with an operand; another instruction as it is
 abbrev pub with_operand : Insn → Insn
@@ -41,7 +41,7 @@ first_short op = if nat_le op 23 then 24 + 4 * (op - 21) else 43 + 4 * (op - 40)
 -- a load or store of one of the first four registers, as the one without an operand; another instruction as it is
 abbrev pub short_form : Insn → Insn
 short_form i =
-    if has_register i.op && nat_le (unsigned_abs i.x) 3
+    if names_register i.op && nat_le (unsigned_abs i.x) 3
     then record i { op = first_short i.op + unsigned_abs i.x; x = pos 0 }
     else i
 

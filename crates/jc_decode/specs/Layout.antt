@@ -13,21 +13,21 @@ use Rattle.jc_decode.specs.declared.insn.CodeEnd.{CodeEnd}
 use Rattle.jc_decode.specs.declared.insn.CodeEnd.TheVariants.{OutOfScope, NoOpcode}
 
 -- the number of an operand's bytes
-abbrev pub width : Operand → ℕ
-width Absent = 0
-width U1 = 1
-width U2 = 2
-width S1 = 1
-width S2 = 2
-width S4 = 4
-width DupWords = 1
-width SwapWords = 1
-width ArrayType = 1
-width TestedType = 1
+abbrev pub operand_width : Operand → ℕ
+operand_width Absent = 0
+operand_width U1 = 1
+operand_width U2 = 2
+operand_width S1 = 1
+operand_width S2 = 2
+operand_width S4 = 4
+operand_width DupWords = 1
+operand_width SwapWords = 1
+operand_width ArrayType = 1
+operand_width TestedType = 1
 
 -- the number of the bytes of all three
 abbrev pub total_width : Layout → ℕ
-total_width l = width l.x + width l.y + width l.z
+total_width l = operand_width l.x + operand_width l.y + operand_width l.z
 
 abbrev pub none : Layout
 none = record { x = Absent; y = Absent; z = Absent; cases = NoCases }
@@ -99,21 +99,21 @@ spans =
     ∷ span 181 184 (one U1)  -- putfield_<t>_this
     ∷ []
 
-abbrev pub holds : ℕ → Span → Bool
-holds op s = nat_le s.first op && nat_le op s.last
+abbrev pub is_in_span : ℕ → Span → Bool
+is_in_span op s = nat_le s.first op && nat_le op s.last
 
 -- left out here: jsr (113) and ret (114), whose subroutines need return addresses on the stack, and the
 -- two opcodes that the standard reserves for an implementation
 abbrev pub is_out_of_scope : ℕ → Bool
 is_out_of_scope op = op == 113 || op == 114 || op == 254 || op == 255
 
-abbrev pub instruction_of : Option Span → Opcode
-instruction_of None = Unused
-instruction_of (Some s) = Instruction s.layout
+abbrev pub opcode_in_span : Option Span → Opcode
+opcode_in_span None = Unused
+opcode_in_span (Some s) = Instruction s.layout
 
 -- what an opcode stands for
 unfoldable pub opcode : ℕ → Opcode
-opcode op = if is_out_of_scope op then Reserved else instruction_of (find (holds op) spans)
+opcode op = if is_out_of_scope op then Reserved else opcode_in_span (find (is_in_span op) spans)
 
 abbrev pub layout_from : ℕ → Opcode → Result Layout CodeEnd
 layout_from op (Instruction layout) = Ok layout

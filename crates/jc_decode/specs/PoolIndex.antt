@@ -7,9 +7,9 @@ use Rattle.jc_decode.specs.declared.pool_index.PoolIndex.{PoolIndex}
 use Rattle.jc_decode.specs.declared.pool_index.IndexWidth.{IndexWidth}
 use Rattle.jc_decode.specs.declared.pool_index.IndexWidth.TheVariants.{One, Two}
 
-abbrev pub bytes_of : IndexWidth → ℕ
-bytes_of One = 1
-bytes_of Two = 2
+abbrev pub bytes_of_index : IndexWidth → ℕ
+bytes_of_index One = 1
+bytes_of_index Two = 2
 
 -- getfield_<t>, putfield_<t>, getfield_<t>_this and putfield_<t>_this
 abbrev pub has_short_index : ℕ → Bool

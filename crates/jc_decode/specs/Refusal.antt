@@ -7,7 +7,7 @@ use Rattle.jc_decode.specs.declared.layout.Cases.TheVariants.{Range, Pairs}
 use Rattle.jc_decode.specs.declared.layout.Layout.{Layout}
 use Rattle.jc_decode.specs.declared.insn.CodeEnd.{CodeEnd}
 use Rattle.jc_decode.specs.declared.insn.CodeEnd.TheVariants.{Cut, BadOperand, NoOpcode, OutOfScope}
-use Rattle.jc_decode.specs.Layout.{width, total_width, is_out_of_scope, layout_of}
+use Rattle.jc_decode.specs.Layout.{operand_width, total_width, is_out_of_scope, layout_of}
 use Rattle.jc_decode.specs.Decoding.{allows, operand_at, pair_width, key_at, range_count}
 
 -- the opcode of an instruction with these operands stands at the place
@@ -22,8 +22,8 @@ pub record HasOperands (xs : List ℕ) (at : ℕ) (l : Layout) (y z : ℤ) : Typ
   pub reaches : at + 1 + total_width l ≤ length xs
   pub first : ℤ
   pub first_is : operand_at l.x xs (at + 1) ≡ Ok first
-  pub second_is : operand_at l.y xs (at + 1 + width l.x) ≡ Ok y
-  pub third_is : operand_at l.z xs (at + 1 + width l.x + width l.y) ≡ Ok z
+  pub second_is : operand_at l.y xs (at + 1 + operand_width l.x) ≡ Ok y
+  pub third_is : operand_at l.z xs (at + 1 + operand_width l.x + operand_width l.y) ≡ Ok z
 
 -- the n-th key of a table of so many pairs is the first that is not above the one before it
 pub record IsFirstFall (key : Operand) (xs : List ℕ) (table count n : ℕ) : Type 0 where
@@ -46,7 +46,7 @@ pub data RefusesBytes (xs : List ℕ) (at : ℕ) : CodeEnd → Type 0 where
       → allows l.x b ≡ false
       → RefusesBytes xs at (BadOperand b)
   bounds_turned : (l : Layout) (low high : ℤ) (b : ℕ) → HasOperands xs at l low high → l.cases ≡ Range → high <ℤ low
-      → number_at 1 (at + 1 + width l.x + width l.y) xs ≡ Some b → RefusesBytes xs at (BadOperand b)
+      → number_at 1 (at + 1 + operand_width l.x + operand_width l.y) xs ≡ Some b → RefusesBytes xs at (BadOperand b)
   range_cut : (l : Layout) (low high : ℤ) → HasOperands xs at l low high → l.cases ≡ Range → low ≤ℤ high
       → length xs < at + 1 + total_width l + 2 * range_count low high → RefusesBytes xs at Cut
   pairs_cut : (l : Layout) (key : Operand) (count z : ℤ) → HasOperands xs at l count z → l.cases ≡ Pairs key

@@ -1,5 +1,5 @@
 ghost use Rattle.std.specs.Prelude.{Ok, ◌≤ℤ◌, map, unsigned_abs, FitsSigned, ◌≡◌, ◌+◌, ◌*◌, ◌^◌, ◌<◌, ◌≤◌, IsTrue, length, slice_get};
-ghost use Rattle.jc_decode.specs.Layout.{width};
+ghost use Rattle.jc_decode.specs.Layout.{operand_width};
 ghost use Rattle.std.specs.List.{range_with_len};
 ghost use Rattle.std.specs.Int.{w16};
 ghost use Rattle.jc_decode.specs.Decoding.{decoded, pair_width, range_count};

@@ -1,6 +1,6 @@
 ghost use Rattle.std.specs.Prelude.{◌≤ℤ◌, IsTrue, ◌≡◌, ◌+◌, ◌*◌, ◌^◌, ◌<◌, ◌≤◌, ◌-◌, length, IfOk, IfErr, Ok, Err, pos, if◌then◌else◌};
 ghost use Rattle.cap_bytes.specs.Number.{number_at};
-ghost use Rattle.jc_decode.specs.Layout.{layout_of, one, width};
+ghost use Rattle.jc_decode.specs.Layout.{layout_of, one, operand_width};
 ghost use Rattle.jc_decode.specs.Decoding.{is_dup_words, is_swap_words, is_array_type, is_tested_type, or_cut, reached, bad_operand, operand_at, pair_width, key_at, rises, pairs_end, table_end, decoded, decoded_as, Begins, FitsLayout, FitsOperand, IsWithin, AreBytes};
 ghost use Rattle.jc_decode.specs.Cases.{cases, is_table_switch, KeysRise};
 ghost use Rattle.jc_decode.specs.Refusal.{RefusesBytes};
@@ -230,7 +230,7 @@ impl Operand {
 fn end_of_table(layout: Layout, code: View, table: u32, y: i32, z: i32) -> Result<u32, CodeEnd>
     requires short { length code.bytes.now ≤ 65535 }
     requires inside { table ≤ length code.bytes.now }
-    requires farther { width layout.z ≤ table }
+    requires farther { operand_width layout.z ≤ table }
     ensures value { result ≡ table_end layout code.entry.bytes.now table y z }
     ensures within { IfOk result (λ e. (table ≤ e) × (e ≤ length code.entry.bytes.now)) }
 {

@@ -2,7 +2,7 @@ ghost use Rattle.std.specs.Prelude.{◌≡◌, ℕ, List, Ok, IsTrue};
 ghost use Rattle.jc_decode.specs.Decoding.{decoded};
 ghost use Rattle.jc_decode.specs.Encoding.{IsAllowed};
 ghost use Rattle.jc_decode.specs.Listing.{jumps};
-ghost use Rattle.jc_decode.specs.Forms.{essence, first_short, has_register, is_register_move, length_of, plain_length, short_form};
+ghost use Rattle.jc_decode.specs.Forms.{essence, first_short, names_register, is_register_move, length_of, plain_length, short_form};
 
 use crate::insn::Insn;
 use crate::layout::{Cases, Layout};
@@ -72,7 +72,7 @@ impl Insn {
 
 /// The opcode of the load or store of register 0 that has no operand, where `op` is that with one.
 fn first_short(op: u8) -> u8
-    requires { IsTrue (has_register op) }
+    requires { IsTrue (names_register op) }
     ensures { result ≡ first_short op }
 {
     if op <= 23 {
@@ -84,7 +84,7 @@ fn first_short(op: u8) -> u8
 
 /// Whether this is the opcode of a load or store whose operand is a register.
 fn has_register(op: u8) -> bool
-    ensures { result ≡ has_register op }
+    ensures { result ≡ names_register op }
 {
     21 <= op && op <= 23 || 40 <= op && op <= 42
 }

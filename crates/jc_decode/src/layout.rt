@@ -1,5 +1,5 @@
 ghost use Rattle.std.specs.Prelude.{◌≡◌, IsTrue};
-ghost use Rattle.jc_decode.specs.Layout.{layout_of, one, width, total_width};
+ghost use Rattle.jc_decode.specs.Layout.{layout_of, one, operand_width, total_width};
 
 use self::Operand::{Absent, ArrayType, DupWords, SwapWords, TestedType};
 use crate::insn::CodeEnd;
@@ -65,7 +65,7 @@ pub enum Opcode {
 impl Operand {
     /// The number of its bytes.
     pub fn width(self) -> u32
-        ensures { result ≡ width self }
+        ensures { result ≡ operand_width self }
     {
         match self {
             Absent => 0,

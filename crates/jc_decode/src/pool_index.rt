@@ -2,7 +2,7 @@ ghost use Rattle.std.specs.Prelude.{◌≡◌, ◌<◌, ◌+◌, ℕ, List, Ok, 
 ghost use Rattle.cap_bytes.specs.Number.{number_at};
 ghost use Rattle.jc_decode.specs.Decoding.{decoded};
 ghost use Rattle.jc_decode.specs.Encoding.{IsAllowed};
-ghost use Rattle.jc_decode.specs.PoolIndex.{pool_index, first_index, second_index, bytes_of, has_short_index, has_index, has_second_index};
+ghost use Rattle.jc_decode.specs.PoolIndex.{pool_index, first_index, second_index, bytes_of_index, has_short_index, has_index, has_second_index};
 
 use crate::insn::Insn;
 
@@ -31,7 +31,7 @@ impl Insn {
         requires { IsAllowed self }
         ensures value { result ≡ pool_index self }
         ensures stands { (code : List ℕ) (at : ℕ) → decoded code at ≡ Ok self
-            → IfSome result (λ i. number_at (bytes_of i.width) (at + i.at) code ≡ Some i.entry) }
+            → IfSome result (λ i. number_at (bytes_of_index i.width) (at + i.at) code ≡ Some i.entry) }
     {
         self.index_of()
     }

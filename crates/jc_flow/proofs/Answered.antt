@@ -22,7 +22,7 @@ use Rattle.jc_flow.proofs.Derived.{some_to, some_at, some_map, of_world}
 use Rattle.jc_flow.specs.declared.end.FlowEnd.{FlowEnd}
 use Rattle.jc_flow.specs.declared.end.FlowEnd.TheVariants.{NoTyping, Code, BadTarget, FallsOff, BadHandler, Memory}
 use Rattle.jc_flow.specs.Fails.{IsFailure}
-use Rattle.jc_flow.specs.Infer.{HasNone, unformed_as}
+use Rattle.jc_flow.specs.Infer.{LacksTyping, unformed_as}
 use Rattle.jc_flow.proofs.Never.{none-where-fails, none-where-falls}
 
 pub number-below : {X : Type 0} (P : X → Type 0) (xs : List X) (n : ℕ) → IsSomeAnd (slice_get xs n) P → n < length xs
@@ -50,16 +50,16 @@ module _ (w : Linked) (n : ℕ) (rec : MethodRec) (code : List ℕ) (here : slic
 flaw-none : FlawsDecide → (w : Linked) (m : Method) (f : Flaw) → IsFirstFlaw m f → ¬ (HasFlowTyping w m Top)
 flaw-none decide w m f first has = (decide m).0 has.typing.formed first.spot f first.flaw
 
-unformed-none : FlawsDecide → (w : Linked) (m : Method) (end : ControlEnd) → TellsFlaw m end → HasNone w m (unformed_as end)
+unformed-none : FlawsDecide → (w : Linked) (m : Method) (end : ControlEnd) → TellsFlaw m end → LacksTyping w m (unformed_as end)
 unformed-none decide w m (Flawed (flaws.Code p e)) h = flaw-none decide w m (flaws.Code p e) h
 unformed-none decide w m (Flawed (flaws.BadTarget p t)) h = flaw-none decide w m (flaws.BadTarget p t) h
 unformed-none decide w m (Flawed (flaws.BadHandler p k)) h = flaw-none decide w m (flaws.BadHandler p k) h
 unformed-none decide w m NoControl h = tt
 
-pub none-unformed : FlawsDecide → (w : Linked) (o : Option Method) (end : ControlEnd) (r : FlowEnd) → r ≡ unformed_as end → IsSomeAnd o (λ m. TellsFlaw m end) → IsSomeAnd o (λ m. HasNone w m r)
-none-unformed decide w o end r e h = some_map (λ m. TellsFlaw m end) (λ m. HasNone w m r) o (λ m t. subst (HasNone w m) (sym e) (unformed-none decide w m end t)) h
+pub none-unformed : FlawsDecide → (w : Linked) (o : Option Method) (end : ControlEnd) (r : FlowEnd) → r ≡ unformed_as end → IsSomeAnd o (λ m. TellsFlaw m end) → IsSomeAnd o (λ m. LacksTyping w m r)
+none-unformed decide w o end r e h = some_map (λ m. TellsFlaw m end) (λ m. LacksTyping w m r) o (λ m t. subst (LacksTyping w m) (sym e) (unformed-none decide w m end t)) h
 
-pub none-failed : (w : Linked) → AreRules w → (m : Method) → IsMethodOf w m → (end : FlowEnd) → IsFailure w m end → HasNone w m end
+pub none-failed : (w : Linked) → AreRules w → (m : Method) → IsMethodOf w m → (end : FlowEnd) → IsFailure w m end → LacksTyping w m end
 none-failed w is m mo (NoTyping p fault) h = none-where-fails w is m mo p fault h
 none-failed w is m mo (FallsOff p) h = none-where-falls w is m mo p h
 none-failed w is m mo (Code p end) h = absurd h

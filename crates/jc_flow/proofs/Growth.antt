@@ -10,7 +10,7 @@ use Rattle.jc_control.specs.Method.{Method}
 use Rattle.jc_rules.specs.Flow.{FrameBelow, At, Merges, derived_joined, IsNotFresh, caught_frame}
 use Rattle.jc_rules.specs.Typing.{state_at, rises_of}
 use Rattle.jc_rules.specs.FlowLaws.{JoinsStayReady, IsOrderOfCells}
-use Rattle.jc_flow.specs.Found.{Found, IsPending, with_state, taken, Lands, comes_first, stays, rises}
+use Rattle.jc_flow.specs.Found.{Found, IsPending, with_state, taken_up, Lands, comes_first, stays, rises}
 use Rattle.jc_flow.specs.Progress.{IsHeld, AreHeld, IsClosed, AreClosed, rises_there, one_if, work, Grown}
 use Rattle.jc_flow.proofs.Frames.{frame-same, frame-trans, join-left, join-right, join-length, join-all}
 use Rattle.jc_flow.proofs.Landing.{state_at-read}
@@ -60,7 +60,7 @@ pending-kept found p q f h = elim (same_or_not p q) [
   | inr n ↦ get_or-set_other found.pending p q true false n ∙ h
 ]
 
-pub pending-left : (found : Found) (p q : ℕ) → q ≢ p → IsPending found q → IsPending (taken found p) q
+pub pending-left : (found : Found) (p q : ℕ) → q ≢ p → IsPending found q → IsPending (taken_up found p) q
 pending-left found p q n h = get_or-set_other found.pending p q false false n ∙ h
 
 -- ---- growing
@@ -145,7 +145,7 @@ module _ (t : ClassTable) (order : IsOrderOfCells t) (most : ℕ) where
 
   -- ---- a place is taken
 
-  pub taken-less : (found : Found) (p : ℕ) → IsPending found p → work t most (taken found p) < work t most found
+  pub taken-less : (found : Found) (p : ℕ) → IsPending found p → work t most (taken_up found p) < work t most found
   taken-less found p h =
       let flags = sum_by-set one_if found.pending p false false (pending-inside found p h) in
       let there : one_if (get_or found.pending p false) ≡ 1 = ap one_if h in
@@ -182,7 +182,7 @@ module _ (w : Linked) (order : IsOrderOfCells w.classes) (ready_joins : JoinsSta
   lands-held {old} {new} {place} {f} inside are_held h (rises g j e merges lt is) =
       subst (AreHeld w m) (sym is) (set-held old place j inside are_held (joined-held place g f j (are_held.held place g e) h merges))
 
-  pub taken-held : (found : Found) (p : ℕ) → AreHeld w m found → AreHeld w m (taken found p)
+  pub taken-held : (found : Found) (p : ℕ) → AreHeld w m found → AreHeld w m (taken_up found p)
   taken-held found p h = record { places = h.places; flags = length-set found.pending p false ∙ h.flags; held = h.held }
 
   -- ---- closed places
@@ -197,7 +197,7 @@ module _ (w : Linked) (order : IsOrderOfCells w.classes) (ready_joins : JoinsSta
   some-is : {g h : Frame} → ◌≡◌ {A = Option Frame} (Some g) (Some h) → g ≡ h
   some-is e = cc
 
-  module _ (most : ℕ) (old new : Found) (p : ℕ) (grown : Grown w.classes most (taken old p) new) (closed : AreClosed w m old) where
+  module _ (most : ℕ) (old new : Found) (p : ℕ) (grown : Grown w.classes most (taken_up old p) new) (closed : AreClosed w m old) where
     other-closed : (q : ℕ) (g : Frame) → q ≢ p → IsPending old q ⊎ IsClosed w m old q g → IsPending new q ⊎ IsClosed w m new q g
     other-closed q g n (inl k) = inl (grown.keeps q (pending-left old p q n k))
     other-closed q g n (inr c) = inr (closed-raised old new q g grown.above c)

@@ -8,7 +8,7 @@ use Rattle.jc_control.specs.Method.{Method, IsMethodOf}
 use Rattle.jc_control.specs.WellFormed.{IsWellFormed}
 use Rattle.jc_rules.specs.Flow.{At, FrameBelow, start_frame, IsDerived, IsLeastTyping}
 use Rattle.jc_rules.specs.Typing.{state_at}
-use Rattle.jc_flow.specs.Found.{Found, IsPending, NonePending, taken}
+use Rattle.jc_flow.specs.Found.{Found, IsPending, NonePending, taken_up}
 use Rattle.jc_flow.specs.Progress.{AreHeld, AreClosed, most_rises, work}
 use Rattle.jc_flow.proofs.Derived.{derived-fine}
 use Rattle.jc_flow.proofs.Growth.{visited, at-grown, taken-less}
@@ -16,13 +16,13 @@ use Rattle.jc_flow.proofs.Settled.{settled-least, reached-found, found-reached}
 use Rattle.jc_flow.specs.Infer.{AreReached, HaveRegisters, AreDerived, HaveKnownTypes}
 use Rattle.jc_flow.specs.Visit.{IsVisited}
 
-module _ (w : Linked) (is : AreRules w) (m : Method) (p : ℕ) (old new : Found) (v : IsVisited w m p (taken old p) new) where
+module _ (w : Linked) (is : AreRules w) (m : Method) (p : ℕ) (old new : Found) (v : IsVisited w m p (taken_up old p) new) where
   pub still-closed : AreClosed w m old → AreClosed w m new
   still-closed closed = visited w is.order is.ready m (most_rises w.classes m) old new p v.goes.grown closed v.closed
 
-module _ (w : Linked) (order : IsOrderOfCells w.classes) (m : Method) (p : ℕ) (old new : Found) (v : IsVisited w m p (taken old p) new) where
+module _ (w : Linked) (order : IsOrderOfCells w.classes) (m : Method) (p : ℕ) (old new : Found) (v : IsVisited w m p (taken_up old p) new) where
   pub still-started : At (state_at old.states) 0 (FrameBelow w.classes (start_frame m.rec Top)) → At (state_at new.states) 0 (FrameBelow w.classes (start_frame m.rec Top))
-  still-started start = at-grown w.classes order (most_rises w.classes m) (taken old p) new (start_frame m.rec Top) v.goes.grown 0 start
+  still-started start = at-grown w.classes order (most_rises w.classes m) (taken_up old p) new (start_frame m.rec Top) v.goes.grown 0 start
 
   pub still-less : IsPending old p → work w.classes (most_rises w.classes m) new < work w.classes (most_rises w.classes m) old
   still-less waits = let less = taken-less w.classes order (most_rises w.classes m) old p waits in omega (arith, v.goes.grown.less)

@@ -21,8 +21,8 @@ abbrev pub with_state : Found → ℕ → Frame → Found
 with_state found place f = record { states = slice_set found.states place (Some f); pending = slice_set found.pending place true }
 
 -- the place waits no more
-abbrev pub taken : Found → ℕ → Found
-taken found place = record { states = found.states; pending = slice_set found.pending place false }
+abbrev pub taken_up : Found → ℕ → Found
+taken_up found place = record { states = found.states; pending = slice_set found.pending place false }
 
 -- the least place that waits
 pub record IsLeastPending (found : Found) (place : ℕ) : Type 0 where

@@ -41,13 +41,13 @@ TellsEnd w m (BadHandler entry number) = IsFirstFlaw m (flaws.BadHandler entry n
 TellsEnd w m Memory = ⊤
 
 -- but for one out of memory, no typing exists
-abbrev pub HasNone : Linked → Method → FlowEnd → Type 0
-HasNone w m Memory = ⊤
-HasNone w m (NoTyping p fault) = ¬ (HasFlowTyping w m Top)
-HasNone w m (FallsOff p) = ¬ (HasFlowTyping w m Top)
-HasNone w m (Code p end) = ¬ (HasFlowTyping w m Top)
-HasNone w m (BadTarget p target) = ¬ (HasFlowTyping w m Top)
-HasNone w m (BadHandler entry number) = ¬ (HasFlowTyping w m Top)
+abbrev pub LacksTyping : Linked → Method → FlowEnd → Type 0
+LacksTyping w m Memory = ⊤
+LacksTyping w m (NoTyping p fault) = ¬ (HasFlowTyping w m Top)
+LacksTyping w m (FallsOff p) = ¬ (HasFlowTyping w m Top)
+LacksTyping w m (Code p end) = ¬ (HasFlowTyping w m Top)
+LacksTyping w m (BadTarget p target) = ¬ (HasFlowTyping w m Top)
+LacksTyping w m (BadHandler entry number) = ¬ (HasFlowTyping w m Top)
 
 -- why it is not known where control goes in the method
 abbrev pub unformed_as : ControlEnd → FlowEnd

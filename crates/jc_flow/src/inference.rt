@@ -5,7 +5,7 @@ ghost use Rattle.jc_rules.specs.Flow.{IsLeastTyping, HasFlowTyping, At, FrameBel
 ghost use Rattle.jc_rules.specs.Typing.{state_at};
 ghost use Rattle.jc_flow.specs.Progress.{AreHeld, AreClosed};
 ghost use Rattle.jc_flow.specs.Fails.{IsFailure};
-ghost use Rattle.jc_flow.specs.Infer.{AreReached, HaveRegisters, AreDerived, HaveKnownTypes, TellsEnd, HasNone, unformed_as};
+ghost use Rattle.jc_flow.specs.Infer.{AreReached, HaveRegisters, AreDerived, HaveKnownTypes, TellsEnd, LacksTyping, unformed_as};
 ghost use Rattle.jc_flow.specs.Visit.{analysed, world_of, IsAnalysis};
 
 use crate::analysis::Analysis;
@@ -39,7 +39,7 @@ pub fn infer(alloc: Global, world: &World<'_>, method: u16) -> Result<Typing, Fl
     // A typing then exists too in which unset registers hold no value.
     ensures unset { IsSomeAnd (method_in world.now method) (λ m. OnOk result (HasFlowTyping world.now m Bottom)) }
     // But for one out of memory, an end says that there is no typing, and why.
-    ensures none { IsSomeAnd (method_in world.now method) (λ m. IfErr result (HasNone world.now m)) }
+    ensures none { IsSomeAnd (method_in world.now method) (λ m. IfErr result (LacksTyping world.now m)) }
     ensures end { IsSomeAnd (method_in world.now method) (λ m. IfErr result (TellsEnd world.now m)) }
 {
     // The facts that hold of each world and of its rules, and of each method.

@@ -4,7 +4,7 @@ ghost use Rattle.jc_base.specs.Order.{IsKnown};
 ghost use Rattle.jc_rules.specs.Demand.{Frame};
 ghost use Rattle.jc_rules.specs.Held.{lent};
 ghost use Rattle.jc_rules.specs.Typing.{state_at, Clashes};
-ghost use Rattle.jc_flow.specs.Found.{Found, IsPending, IsLeastPending, NonePending, taken, with_state, HasKnown, Lands, Prevents};
+ghost use Rattle.jc_flow.specs.Found.{Found, IsPending, IsLeastPending, NonePending, taken_up, with_state, HasKnown, Lands, Prevents};
 
 use jc_base::{Classes, Ty};
 use jc_rules::{Merged, State, Typing};
@@ -75,7 +75,7 @@ impl StateTable {
     pub fn take_least(&mut self) -> Option<u16>
         ensures { MatchOption result
             (NonePending self.old × (self.new ≡ self.old))
-            (λ p. IsLeastPending self.old p × (self.new ≡ taken self.old p)) }
+            (λ p. IsLeastPending self.old p × (self.new ≡ taken_up self.old p)) }
     {
         let place = next_set(self.pending.as_slice(), self.low);
         self.low = place;

@@ -13,7 +13,7 @@ use Rattle.jc_resolve.specs.declared.named.NamedClass.{NamedClass}
 use Rattle.jc_resolve.specs.Named.{is_interface}
 use Rattle.jc_hierarchy.specs.Known.{HasKnownLine}
 use Rattle.jc_hierarchy.specs.Ancestor.{IsAncestor, superclass, superclass_in, is_above}
-use Rattle.jc_hierarchy.specs.Conditions.{names_class, class_in, fits_role}
+use Rattle.jc_hierarchy.specs.Conditions.{is_class_number, is_class_record, fits_role}
 use Rattle.jc_hierarchy.specs.Outline.{LineTable, IsClass, AreLines, is_interface_line, is_interface as interface_in_table, parent_of, parent_in_line, object, chain, chain_over, line_of, outline}
 use Rattle.jc_hierarchy.proofs.Bare.{chain_alone, chain_above, chain_over-front}
 use Rattle.jc_hierarchy.proofs.Above.{is_above-sound}
@@ -160,12 +160,12 @@ chain-ends cs first roles known sound (suc m) c is h =
 
 -- ---- roles
 
-fitting-class : (cs : List NamedClass) (first throwable k c : ℕ) → fits_role cs first throwable k c ≡ true → names_class cs c ≡ true
+fitting-class : (cs : List NamedClass) (first throwable k c : ℕ) → fits_role cs first throwable k c ≡ true → is_class_number cs c ≡ true
 fitting-class cs first throwable k c e =
-    let part = and_parts (nat_lt c first && names_class cs c) (nat_lt k 2 || c == throwable || is_above cs false throwable c) e in
-    (and_parts (nat_lt c first) (names_class cs c) part.0).1
+    let part = and_parts (nat_lt c first && is_class_number cs c) (nat_lt k 2 || c == throwable || is_above cs false throwable c) e in
+    (and_parts (nat_lt c first) (is_class_number cs c) part.0).1
 
-named-plain : (cs : List NamedClass) (c : ℕ) (o : Option NamedClass) → slice_get cs c ≡ o → class_in o ≡ true → IsPlain cs c
+named-plain : (cs : List NamedClass) (c : ℕ) (o : Option NamedClass) → slice_get cs c ≡ o → is_class_record o ≡ true → IsPlain cs c
 named-plain cs c None e h = absurd (false≢true h)
 named-plain cs c (Some r) e h = plain r.interface refl where
   plain : (b : Bool) → r.interface ≡ b → IsPlain cs c
@@ -173,7 +173,7 @@ named-plain cs c (Some r) e h = plain r.interface refl where
   plain false i = record { r = r; at = e; plain = i }
 
 pub role-plain : (cs : List NamedClass) (first : ℕ) (roles : List ℕ) → NoFault cs first roles → (k : ℕ) → k < length roles → IsPlain cs (slice_index roles k)
-unfolding names_class
+unfolding is_class_number
 role-plain cs first roles sound k h =
     let c = slice_index roles k in
     named-plain cs c (slice_get cs c) refl (fitting-class cs first (slice_index roles 1) k c (sound.fitting k c (slice_get-get_or roles k 0 h)))
@@ -181,7 +181,7 @@ role-plain cs first roles sound k h =
 -- a role from 2 on is throwable, or throwable is its ancestor
 thrown-by : (cs : List NamedClass) (first throwable k c : ℕ) → 2 ≤ k → fits_role cs first throwable k c ≡ true → (throwable ≡ c) ⊎ IsAncestor cs throwable c
 thrown-by cs first throwable k c h e =
-    let part = and_parts (nat_lt c first && names_class cs c) (nat_lt k 2 || c == throwable || is_above cs false throwable c) e in
+    let part = and_parts (nat_lt c first && is_class_number cs c) (nat_lt k 2 || c == throwable || is_above cs false throwable c) e in
     elim (or_cases (nat_lt k 2 || c == throwable) (is_above cs false throwable c) part.1) [
       | inl low ↦ elim (or_cases (nat_lt k 2) (c == throwable) low) [
         | inl two ↦ absurd (omega (arith, ltb-true k 2 two))

@@ -13,7 +13,7 @@ use Rattle.first_fault.specs.First.{AllEmpty}
 use Rattle.first_fault.proofs.LeastFaults.{faultless_first}
 use Rattle.jc_resolve.proofs.Faultless.{faultless_at, flat_faultless}
 use Rattle.jc_hierarchy.specs.Ancestor.{is_above}
-use Rattle.jc_hierarchy.specs.Conditions.{numbered, names_class, super_fault, cycle_fault, fits_role, role_fault, root_fault, named_interfaces, interface_fault, conditions}
+use Rattle.jc_hierarchy.specs.Conditions.{numbered, is_class_number, super_fault, cycle_fault, fits_role, role_fault, root_fault, named_interfaces, interface_fault, conditions}
 
 -- ---- lists in which nothing is at fault
 
@@ -53,7 +53,7 @@ pub record NoFault (cs : List NamedClass) (first : ℕ) (roles : List ℕ) : Typ
   pub fitting : (k c : ℕ) → slice_get roles k ≡ Some c → fits_role cs first (slice_index roles 1) k c ≡ true
   pub rootless : (r : NamedClass) → slice_get cs (slice_index roles 0) ≡ Some r → r.interface ≡ false → r.parent ≡ None
   pub rooted : (c : ℕ) (r : NamedClass) → slice_get cs c ≡ Some r → r.interface ≡ false → r.parent ≡ None → c ≡ slice_index roles 0
-  pub interfaces : (c : ℕ) (r : NamedClass) → slice_get cs c ≡ Some r → All (λ (i : Iface). names_class cs i.class ≡ false) r.interfaces
+  pub interfaces : (c : ℕ) (r : NamedClass) → slice_get cs c ≡ Some r → All (λ (i : Iface). is_class_number cs i.class ≡ false) r.interfaces
 
 super-none : (cs : List NamedClass) (c p : ℕ) (r : NamedClass) → super_fault cs (c, r) ≡ None → r.parent ≡ Some p → is_interface cs p ≡ false
 unfolding super_fault
@@ -86,15 +86,15 @@ rooted-is object c false r same e plain none =
     let whole = root-none object c r e plain in
     absurd (false≢true (sym (rw (same, none) at whole)))
 
-interface-none : (cs : List NamedClass) (c : ℕ) (i : Iface) → interface_fault cs (c, i) ≡ None → names_class cs i.class ≡ false
+interface-none : (cs : List NamedClass) (c : ℕ) (i : Iface) → interface_fault cs (c, i) ≡ None → is_class_number cs i.class ≡ false
 unfolding interface_fault
-interface-none cs c i e = refused-not (names_class cs i.class) (NotInterface c i.class) e
+interface-none cs c i e = refused-not (is_class_number cs i.class) (NotInterface c i.class) e
 
 interfaces-none : (cs : List NamedClass) (c : ℕ) (r : NamedClass) → filter_map (interface_fault cs) (named_interfaces cs) ≡ [] → slice_get cs c ≡ Some r
-    → All (λ (i : Iface). names_class cs i.class ≡ false) r.interfaces
+    → All (λ (i : Iface). is_class_number cs i.class ≡ false) r.interfaces
 interfaces-none cs c r e at =
     let own = flat_faultless (interface_fault cs) (λ (p : ℕ × NamedClass). map (λ (i : Iface). (p.0, i)) p.1.interfaces) (numbered cs) c (c, r) e (numbered-at 0 cs c c r (omega arith) at) in
-    All-weaker (λ (i : Iface). interface_fault cs (c, i) ≡ None) (λ (i : Iface). names_class cs i.class ≡ false) (λ i h. interface-none cs c i h) r.interfaces
+    All-weaker (λ (i : Iface). interface_fault cs (c, i) ≡ None) (λ (i : Iface). is_class_number cs i.class ≡ false) (λ i h. interface-none cs c i h) r.interfaces
     (none-all (interface_fault cs) (λ (i : Iface). (c, i)) r.interfaces own)
 
 pub no_fault : (cs : List NamedClass) (first : ℕ) (roles : List ℕ) → AllEmpty (conditions cs first roles) → NoFault cs first roles

@@ -7,19 +7,19 @@ use Rattle.std.proofs.lemmas.List.Sums.{sum_by-set}
 use Rattle.std.proofs.lemmas.List.Elements.{Contains-append_left, Contains-append_right, Contains-append_cases, Contains-push, Contains-push_cases}
 use Rattle.std.proofs.lemmas.Option.{slice_get-get_or}
 use Rattle.jc_base.specs.Leads.{Leads, at_once, further}
-use Rattle.jc_hierarchy.specs.Marks.{Marks, mark, mark_all}
+use Rattle.jc_hierarchy.specs.Marks.{MarkedNumbers, mark, mark_all}
 use Rattle.jc_base.proofs.Leading.{Leads-join}
 
 -- a number is marked
-abbrev pub IsMarked : Marks → ℕ → Type 0
+abbrev pub IsMarked : MarkedNumbers → ℕ → Type 0
 IsMarked s c = get_or s.marked c false ≡ true
 
 -- what is left to do: a number that is not marked is to be marked and then climbed from
-abbrev pub work : Marks → ℕ
+abbrev pub work : MarkedNumbers → ℕ
 work s = 2 * count_by not s.marked + length s.pending
 
 -- what marking these numbers does
-pub record Marked (ds : List ℕ) (s t : Marks) : Type 0 where
+pub record Marked (ds : List ℕ) (s t : MarkedNumbers) : Type 0 where
   pub size : length t.marked ≡ length s.marked
   pub kept : (c : ℕ) → IsMarked s c → IsMarked t c
   pub done : (c : ℕ) → Contains ds c → IsMarked t c
@@ -35,10 +35,10 @@ contains_none c h = omega (arith, h.1)
 contains_one : (d c : ℕ) → Contains (d ∷ []) c → d ≡ c
 contains_one d c h = elim (Contains-push_cases [] d c h) [ inl none ↦ absurd (contains_none c none) | inr e ↦ e ]
 
-not_marked : (s : Marks) (c : ℕ) → IsMarked s c → get_or s.marked c false ≡ false → ⊥
+not_marked : (s : MarkedNumbers) (c : ℕ) → IsMarked s c → get_or s.marked c false ≡ false → ⊥
 not_marked s c h e = false≢true (sym e ∙ h)
 
-marked_none : (s : Marks) → Marked [] s s
+marked_none : (s : MarkedNumbers) → Marked [] s s
 marked_none s = record {
   size = refl;
   kept = λ c h. h;
@@ -51,7 +51,7 @@ marked_none s = record {
 }
 
 -- a number that is marked
-marked_before : (s : Marks) (d : ℕ) → IsMarked s d → Marked (d ∷ []) s s
+marked_before : (s : MarkedNumbers) (d : ℕ) → IsMarked s d → Marked (d ∷ []) s s
 marked_before s d m = record {
   size = refl;
   kept = λ c h. h;
@@ -64,31 +64,31 @@ marked_before s d m = record {
 }
 
 -- a number that is not marked
-abbrev with : Marks → ℕ → Marks
+abbrev with : MarkedNumbers → ℕ → MarkedNumbers
 with s d = record { marked = set s.marked d true; pending = s.pending ++ d ∷ [] }
 
-still : (s : Marks) (d c : ℕ) → d < length s.marked → IsMarked s c → IsMarked (with s d) c
+still : (s : MarkedNumbers) (d c : ℕ) → d < length s.marked → IsMarked s c → IsMarked (with s d) c
 still s d c h m = elim (cases_eq c d) [
   | inl e ↦ subst (λ (x : ℕ). IsMarked (with s d) x) (sym e) (get_or-set_same s.marked d true false h)
   | inr ne ↦ get_or-set_other s.marked d c true false ne ∙ m
 ]
 
-fewer : (s : Marks) (d : ℕ) → d < length s.marked → get_or s.marked d false ≡ false → work (with s d) ≤ work s
+fewer : (s : MarkedNumbers) (d : ℕ) → d < length s.marked → get_or s.marked d false ≡ false → work (with s d) ≤ work s
 fewer s d h e =
     let n : count_by not (set s.marked d true) + cond {A = ℕ} (not (get_or s.marked d false)) 1 0 ≡ count_by not s.marked + 0 = sum_by-set (λ (b : Bool). cond {A = ℕ} (not b) 1 0) s.marked d true false h in
     let one : cond {A = ℕ} (not (get_or s.marked d false)) 1 0 ≡ 1 = rw e refl in
     omega (arith, length-append s.pending (d ∷ []))
 
-here : (s : Marks) (d : ℕ) → d < length s.marked → IsMarked (with s d) d
+here : (s : MarkedNumbers) (d : ℕ) → d < length s.marked → IsMarked (with s d) d
 here s d h = get_or-set_same s.marked d true false h
 
-before_or_here : (s : Marks) (d c : ℕ) → d < length s.marked → IsMarked (with s d) c → IsMarked s c ⊎ (d ≡ c)
+before_or_here : (s : MarkedNumbers) (d c : ℕ) → d < length s.marked → IsMarked (with s d) c → IsMarked s c ⊎ (d ≡ c)
 before_or_here s d c h m = elim (cases_eq c d) [
   | inl e ↦ inr (sym e)
   | inr ne ↦ inl (sym (get_or-set_other s.marked d c true false ne) ∙ m)
 ]
 
-marked_now : (s : Marks) (d : ℕ) → d < length s.marked → get_or s.marked d false ≡ false → Marked (d ∷ []) s (with s d)
+marked_now : (s : MarkedNumbers) (d : ℕ) → d < length s.marked → get_or s.marked d false ≡ false → Marked (d ∷ []) s (with s d)
 marked_now s d h e = record {
   size = length-set s.marked d true;
   kept = λ c m. still s d c h m;
@@ -100,7 +100,7 @@ marked_now s d h e = record {
   less = fewer s d h e;
 }
 
-mark-one : (s : Marks) (d : ℕ) (b : Bool) → d < length s.marked → get_or s.marked d false ≡ b → Marked (d ∷ []) s (mark s d)
+mark-one : (s : MarkedNumbers) (d : ℕ) (b : Bool) → d < length s.marked → get_or s.marked d false ≡ b → Marked (d ∷ []) s (mark s d)
 mark-one s d true h e =
     let read : slice_get s.marked d ≡ Some true = slice_get-get_or s.marked d false h ∙ ap Some e in
     rw read (marked_before s d e)
@@ -108,7 +108,7 @@ mark-one s d false h e =
     let read : slice_get s.marked d ≡ Some false = slice_get-get_or s.marked d false h ∙ ap Some e in
     rw read (marked_now s d h e)
 
-marked-more : (d : ℕ) (ds : List ℕ) (s t u : Marks) → Marked (d ∷ []) s t → Marked ds t u → Marked (d ∷ ds) s u
+marked-more : (d : ℕ) (ds : List ℕ) (s t u : MarkedNumbers) → Marked (d ∷ []) s t → Marked ds t u → Marked (d ∷ ds) s u
 marked-more d ds s t u g h = record {
   size = h.size ∙ g.size;
   kept = λ c m. h.kept c (g.kept c m);
@@ -132,7 +132,7 @@ marked-more d ds s t u g h = record {
 head_of : (d : ℕ) (ds : List ℕ) → Contains (d ∷ ds) d
 head_of d ds = Contains-append_left (d ∷ []) ds d (Contains-push [] d)
 
-mark-all : (ds : List ℕ) (s : Marks) → ((d : ℕ) → Contains ds d → d < length s.marked) → Marked ds s (mark_all s ds)
+mark-all : (ds : List ℕ) (s : MarkedNumbers) → ((d : ℕ) → Contains ds d → d < length s.marked) → Marked ds s (mark_all s ds)
 mark-all [] s inside = marked_none s
 mark-all (d ∷ ds) s inside =
     let first = mark-one s d (get_or s.marked d false) (inside d (head_of d ds)) refl in
@@ -142,14 +142,14 @@ mark-all (d ∷ ds) s inside =
 -- ---- a climb
 
 -- a climb from a number: what is marked stands above it, and what stands directly above what is marked is marked, or waits
-pub record IsClimb (next : ℕ → List ℕ) (n from : ℕ) (s : Marks) : Type 0 where
+pub record IsClimb (next : ℕ → List ℕ) (n from : ℕ) (s : MarkedNumbers) : Type 0 where
   pub size : length s.marked ≡ n
   pub sound : (d : ℕ) → IsMarked s d → Leads next from d
   pub begun : (d : ℕ) → Contains (next from) d → IsMarked s d
   pub closed : (d : ℕ) → IsMarked s d → Contains s.pending d ⊎ ((e : ℕ) → Contains (next d) e → IsMarked s e)
   pub known : (d : ℕ) → Contains s.pending d → IsMarked s d
 
-abbrev pub blank : ℕ → Marks
+abbrev pub blank : ℕ → MarkedNumbers
 blank n = record { marked = replicate n false; pending = [] }
 
 not_blank : (n d : ℕ) → IsMarked (blank n) d → ⊥
@@ -169,12 +169,12 @@ climb-starts next n from inside =
       known = λ d p. elim (g.known d p) [ inl none ↦ absurd (contains_none d none) | inr m ↦ m ];
     }
 
-pub record Goes (next : ℕ → List ℕ) (n from : ℕ) (s t : Marks) : Type 0 where
+pub record Goes (next : ℕ → List ℕ) (n from : ℕ) (s t : MarkedNumbers) : Type 0 where
   pub climbs : IsClimb next n from t
   pub falls : work t < work s
 
 -- one step of a climb, by which c no longer waits
-pub climb-goes : (next : ℕ → List ℕ) (n from c : ℕ) (s u : Marks) → ((a b : ℕ) → Contains (next a) b → b < n) → IsClimb next n from s
+pub climb-goes : (next : ℕ → List ℕ) (n from c : ℕ) (s u : MarkedNumbers) → ((a b : ℕ) → Contains (next a) b → b < n) → IsClimb next n from s
     → u.marked ≡ s.marked → s.pending ≡ u.pending ++ c ∷ [] → Goes next n from s (mark_all u (next c))
 climb-goes next n from c s u inside is same rest =
     let at : (d : ℕ) → IsMarked s d → IsMarked u d = λ d m. ap (λ ms. get_or ms d false) same ∙ m in
@@ -206,7 +206,7 @@ climb-goes next n from c s u inside is same rest =
       falls = omega (arith, g.less, counted);
     }
 
-follow : (next : ℕ → List ℕ) (n from x d : ℕ) (s : Marks) → IsClimb next n from s → s.pending ≡ [] → Leads next x d → ((e : ℕ) → Contains (next x) e → IsMarked s e) → IsMarked s d
+follow : (next : ℕ → List ℕ) (n from x d : ℕ) (s : MarkedNumbers) → IsClimb next n from s → s.pending ≡ [] → Leads next x d → ((e : ℕ) → Contains (next x) e → IsMarked s e) → IsMarked s d
 follow next n from x d s is none (at_once h) all = all d h
 follow next n from x d s is none (further {b = b} h rest) all = elim (is.closed b (all b h)) [
   | inl p ↦ absurd (contains_none b (subst (λ ps. Contains ps b) none p))
@@ -214,15 +214,15 @@ follow next n from x d s is none (further {b = b} h rest) all = elim (is.closed 
 ]
 
 -- where nothing waits, what stands above is marked
-pub climb-ends : (next : ℕ → List ℕ) (n from d : ℕ) (s : Marks) → IsClimb next n from s → s.pending ≡ [] → Leads next from d → IsMarked s d
+pub climb-ends : (next : ℕ → List ℕ) (n from d : ℕ) (s : MarkedNumbers) → IsClimb next n from s → s.pending ≡ [] → Leads next from d → IsMarked s d
 climb-ends next n from d s is none leads = follow next n from from d s is none leads is.begun
 
 -- ---- the steps of the loop
 
-pub climb-begun : (next : ℕ → List ℕ) (n m from : ℕ) (s t : Marks) → ((a b : ℕ) → Contains (next a) b → b < n) → m ≡ n → t ≡ blank m → s ≡ mark_all t (next from) → IsClimb next n from s
+pub climb-begun : (next : ℕ → List ℕ) (n m from : ℕ) (s t : MarkedNumbers) → ((a b : ℕ) → Contains (next a) b → b < n) → m ≡ n → t ≡ blank m → s ≡ mark_all t (next from) → IsClimb next n from s
 climb-begun next n m from s t inside same start e =
     subst (IsClimb next n from) (sym (e ∙ ap (λ x. mark_all x (next from)) (start ∙ ap blank same))) (climb-starts next n from inside)
 
-pub climb-gone : (next : ℕ → List ℕ) (n from c : ℕ) (s u t : Marks) → ((a b : ℕ) → Contains (next a) b → b < n) → IsClimb next n from s
+pub climb-gone : (next : ℕ → List ℕ) (n from c : ℕ) (s u t : MarkedNumbers) → ((a b : ℕ) → Contains (next a) b → b < n) → IsClimb next n from s
     → u.marked ≡ s.marked → s.pending ≡ u.pending ++ c ∷ [] → t ≡ mark_all u (next c) → Goes next n from s t
 climb-gone next n from c s u t inside is same rest e = subst (Goes next n from s) (sym e) (climb-goes next n from c s u inside is same rest)

@@ -18,7 +18,7 @@ use Rattle.jc_resolve.specs.Named.{package_of, package_by}
 use Rattle.first_fault.proofs.FirstTold.{IsTold, things-told, step, last, refused-first, accepted-empty}
 use Rattle.jc_resolve.specs.Due.{IsDue}
 use Rattle.jc_hierarchy.specs.Known.{HasKnownLine}
-use Rattle.jc_hierarchy.specs.Conditions.{numbered, names_class, class_in, super_fault, cycle_fault, role_fault, root_fault, named_interfaces, interface_fault, conditions}
+use Rattle.jc_hierarchy.specs.Conditions.{numbered, is_class_number, is_class_record, super_fault, cycle_fault, role_fault, root_fault, named_interfaces, interface_fault, conditions}
 use Rattle.jc_hierarchy.specs.declared.lineage_type.Line.{Line}
 use Rattle.jc_hierarchy.specs.Outline.{LineTable, AreLines, is_interface_line, is_interface as interface_in_table, package_in_line, package_of as package_in_table, parent_of, line_of, outline}
 use Rattle.jc_hierarchy.specs.Lines.{lines_agree, lineage_of, Tells, HaveLines}
@@ -72,7 +72,7 @@ earlier cs roles known c p e =
     let home : package_of cs c ≡ is.r.«package» = ap package_by is.at in
     omega (arith, package-same cs roles p, package-same cs roles c)
 
-interface-by : (cs : List NamedClass) (c : ℕ) (o : Option NamedClass) → slice_get cs c ≡ o → c < length cs → class_in o ≡ false → is_interface_line (option_map line_of o) ≡ true
+interface-by : (cs : List NamedClass) (c : ℕ) (o : Option NamedClass) → slice_get cs c ≡ o → c < length cs → is_class_record o ≡ false → is_interface_line (option_map line_of o) ≡ true
 interface-by cs c None e h no_class = absurd (past cs c h e) where
   past : (xs : List NamedClass) (i : ℕ) → i < length xs → slice_get xs i ≡ None → ⊥
   past [] i h e = omega arith
@@ -80,8 +80,8 @@ interface-by cs c None e h no_class = absurd (past cs c h e) where
   past (x ∷ xs) (suc i) h e = past xs i (omega arith) e
 interface-by cs c (Some r) e h no_class = not-false r.interface no_class
 
-interface-made : (cs : List NamedClass) (roles : List ℕ) (c : ℕ) → c < length cs → names_class cs c ≡ false → interface_in_table (outline cs roles) c ≡ true
-unfolding interface_in_table names_class
+interface-made : (cs : List NamedClass) (roles : List ℕ) (c : ℕ) → c < length cs → is_class_number cs c ≡ false → interface_in_table (outline cs roles) c ≡ true
+unfolding interface_in_table is_class_number
 interface-made cs roles c h e = ap is_interface_line (slice_get-map line_of cs c) ∙ interface-by cs c (slice_get cs c) refl h e
 
 interfaces-made : (cs : List NamedClass) (first : ℕ) (roles : List ℕ) → All (HasKnownLine cs) cs → NoFault cs first roles → (c : ℕ) (o : Option NamedClass) → slice_get cs c ≡ o

@@ -14,13 +14,13 @@ abbrev pub numbered : {X : Type 0} → List X → List (ℕ × X)
 numbered = enumerate_from 0
 
 -- whether the record of a number is there, and a class
-abbrev pub class_in : Option NamedClass → Bool
-class_in None = false
-class_in (Some r) = not r.interface
+abbrev pub is_class_record : Option NamedClass → Bool
+is_class_record None = false
+is_class_record (Some r) = not r.interface
 
 -- whether a number is that of a class, and no interface
-unfoldable pub names_class : List NamedClass → ℕ → Bool
-names_class cs c = class_in (slice_get cs c)
+unfoldable pub is_class_number : List NamedClass → ℕ → Bool
+is_class_number cs c = is_class_record (slice_get cs c)
 
 -- ---- a superclass is a class
 
@@ -39,7 +39,7 @@ cycle_fault cs (c, r) = if is_above cs r.interface c c then Some (Cycle c) else 
 -- ---- a role is a class of the first package, which has so many; from role 2 on it is throwable or a subclass of it
 
 abbrev pub fits_role : List NamedClass → ℕ → ℕ → ℕ → ℕ → Bool
-fits_role cs first throwable k c = nat_lt c first && names_class cs c && (nat_lt k 2 || c == throwable || is_above cs false throwable c)
+fits_role cs first throwable k c = nat_lt c first && is_class_number cs c && (nat_lt k 2 || c == throwable || is_above cs false throwable c)
 
 unfoldable pub role_fault : List NamedClass → ℕ → ℕ → ℕ × ℕ → Option LinkFault
 role_fault cs first throwable (k, c) = if fits_role cs first throwable k c then None else Some (NoRole k)
@@ -60,7 +60,7 @@ abbrev pub named_interfaces : List NamedClass → List (ℕ × Iface)
 named_interfaces cs = interfaces_of (numbered cs)
 
 unfoldable pub interface_fault : List NamedClass → ℕ × Iface → Option LinkFault
-interface_fault cs (c, i) = if names_class cs i.class then Some (NotInterface c i.class) else None
+interface_fault cs (c, i) = if is_class_number cs i.class then Some (NotInterface c i.class) else None
 
 -- ---- all conditions, in the order of their numbers
 

@@ -4,20 +4,20 @@ use Rattle.std.specs.List.{list_all}
 use Rattle.std.specs.Option.{option_to_list}
 use Rattle.jc_resolve.specs.declared.named.NamedClass.{NamedClass}
 
-pub record Marks : Type 0 where
+pub record MarkedNumbers : Type 0 where
   pub marked : List Bool
   pub pending : List ℕ
 
 -- with one more number marked, where it is told of the number whether it is marked
-abbrev pub mark_by : Marks → ℕ → Option Bool → Marks
+abbrev pub mark_by : MarkedNumbers → ℕ → Option Bool → MarkedNumbers
 mark_by s c (Some false) = record { marked = slice_set s.marked c true; pending = s.pending ++ c ∷ [] }
 mark_by s c _ = s
 
 -- with one more number of the list marked, and pending if it was not marked before
-abbrev pub mark : Marks → ℕ → Marks
+abbrev pub mark : MarkedNumbers → ℕ → MarkedNumbers
 mark s c = mark_by s c (slice_get s.marked c)
 
-abbrev pub mark_all : Marks → List ℕ → Marks
+abbrev pub mark_all : MarkedNumbers → List ℕ → MarkedNumbers
 mark_all = fold mark
 
 -- whether all that a record names directly above it is settled, where it is told of each number whether that is

@@ -16,9 +16,9 @@ struct Climb {
 }
 
 impl Model for Climb {
-    ghost use Rattle.jc_hierarchy.specs.Marks.{Marks};
+    ghost use Rattle.jc_hierarchy.specs.Marks.{MarkedNumbers};
 
-    ghost Value = { Marks };
+    ghost Value = { MarkedNumbers };
 
     ghost view = { λ a. record { marked = a.marked.items; pending = a.pending.items } };
 }

@@ -2,7 +2,7 @@ ghost use Rattle.std.specs.Prelude.{◌≡◌, ◌≤◌, length, map, slice_get
 ghost use Rattle.jc_resolve.specs.Fault.{link_place};
 ghost use Rattle.jc_resolve.specs.Named.{is_interface};
 ghost use Rattle.first_fault.specs.Least.{least_of, least_from, refused};
-ghost use Rattle.jc_hierarchy.specs.Conditions.{numbered, names_class, super_fault, root_fault, named_interfaces, interface_fault};
+ghost use Rattle.jc_hierarchy.specs.Conditions.{numbered, is_class_number, super_fault, root_fault, named_interfaces, interface_fault};
 
 use jc_base::{Iface, Ifaces};
 use jc_resolve::{LinkFault, NamedClass, NamedClasses, lesser, refuse};
@@ -19,9 +19,9 @@ fn is_interface(classes: &NamedClasses, c: u16) -> bool
 }
 
 /// Whether a number is that of a class, and no interface.
-#[tactic(auto, unfolding(crate::specs::Conditions::names_class))]
+#[tactic(auto, unfolding(crate::specs::Conditions::is_class_number))]
 pub(crate) fn names_class(classes: &NamedClasses, c: u16) -> bool
-    ensures { result ≡ names_class classes.now c }
+    ensures { result ≡ is_class_number classes.now c }
 {
     match classes.as_slice().get(c as usize) {
         Some(class) => !class.interface,

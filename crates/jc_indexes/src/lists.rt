@@ -1,5 +1,5 @@
 ghost use Rattle.std.specs.Prelude.{◌≡◌, ◌≤◌, [], length, drop, slice_get};
-ghost use Rattle.cap_bytes.specs.Taking.{Takes, Passes, Reads, same};
+ghost use Rattle.cap_bytes.specs.Taking.{Takes, PassesOver, Reads, same};
 ghost use Rattle.cap_bytes.specs.Grammar.{repeat};
 ghost use Rattle.cap_bytes.specs.Spelling.{info_of};
 ghost use Rattle.jc_indexes.specs.IndexFormat.{list_info, index_info};
@@ -78,7 +78,7 @@ fn list<'a>(items: &mut Cursor<'a>) -> Result<TargetIndex<'a>, FormFault>
 /// Passes over the places of so many methods.
 #[tactic(auto, using(cap_bytes::proofs::Loops::passing))]
 fn pass_lists(items: &mut Cursor<'_>, count: u16) -> Result<(), FormFault>
-    ensures { Passes (repeat count list_info) items.old result items.new }
+    ensures { PassesOver (repeat count list_info) items.old result items.new }
 {
     'methods: for _ in 0..count {
         list(items)?;

@@ -10,7 +10,7 @@ use Rattle.jc_base.proofs.Leading.{Leads-along}
 use Rattle.jc_resolve.specs.declared.named.NamedClass.{NamedClass}
 use Rattle.jc_hierarchy.specs.Ancestor as named
 use Rattle.jc_classes.specs.declared.layout.ClassLayout.{ClassLayout}
-use Rattle.jc_classes.specs.Layout.{layout_of}
+use Rattle.jc_classes.specs.Layout.{class_layout}
 use Rattle.jc_classes.specs.Tables.{record_from, records_from, class_tables}
 use Rattle.jc_link.specs.World.{classes_of, lineage_of, table_of}
 use Rattle.jc_link.specs.Known.{IsTableOf}
@@ -22,7 +22,7 @@ record-extends k l = refl
 
 records-extend : (t : LineTable) (all ks : List NamedClass) (c n : ℕ) → extended_in (slice_get (records_from t all c ks) n) ≡ named.extended_in (slice_get ks n)
 records-extend t all [] c n = refl
-records-extend t all (k ∷ ks) c zero = record-extends k (layout_of t all c)
+records-extend t all (k ∷ ks) c zero = record-extends k (class_layout t all c)
 records-extend t all (k ∷ ks) c (suc n) = records-extend t all ks (c + 1) n
 
 table-extends : (t : LineTable) (ks : List NamedClass) (n : ℕ) → extended (class_tables t ks) n ≡ named.extended ks n

@@ -10,7 +10,7 @@ use Rattle.cap_pool.specs.declared.pool_reference.PoolReference.TheVariants.{Cla
 use Rattle.cap_pool.specs.PoolReference.{referred}
 use Rattle.cap_method.specs.declared.handler.HandlerInfo.{HandlerInfo}
 use Rattle.cap_method.specs.MethodFormat.{Header}
-use Rattle.cap_desc.specs.DescriptorFormat.{Method}
+use Rattle.cap_desc.specs.DescriptorFormat.{MethodDescriptor}
 use Rattle.cap_package.specs.HeaderChecks.{header_in}
 use Rattle.cap_package.specs.PackageRecord.{PackageRecord, handlers_of}
 use Rattle.jc_base.specs.declared.ty.Ty.TheVariants.{Class}
@@ -26,9 +26,9 @@ use Rattle.jc_base.proofs.Lists.{IfSome-is}
 use Rattle.jc_base.proofs.Subtypes.{Below-from_is_below}
 use Rattle.jc_resolve.specs.Numbering.{numbered_classes}
 use Rattle.jc_resolve.specs.References.{class_referred}
-use Rattle.jc_resolve.specs.NamedMethods.{class_or_none, class_in_entry, caught, handler_named, body_by, body_of, offset_in_info}
+use Rattle.jc_resolve.specs.NamedMethods.{class_or_none, class_in_entry, caught_class, handler_named, body_by, body_of, offset_in_info}
 use Rattle.jc_members.specs.Members.{class_member, member_referred, member_of}
-use Rattle.jc_members.specs.Catches.{class_caught, caught_by, thrown_by, catches}
+use Rattle.jc_members.specs.Catches.{class_caught, class_caught_by, thrown_by, catches_throwable}
 use Rattle.jc_members.proofs.Known.{class-below}
 
 -- what a handler catches is there, and is thrown
@@ -65,46 +65,46 @@ module _ (ps : List PackageRecord) (t : ClassTable) (statics : List StaticRec) (
   by_reference n e (ClassEntry r) at is h = found_class n e r (class_referred ps k r) at is refl h
   by_reference n e other at is h = absurd (false≢true h)
 
-  by_entry : (n : ℕ) (o : Option Entry) → slice_get pool (suc n) ≡ o → thrown_by t (caught_by ps k o) ≡ true → CatchesThrown t members (suc n) (class_in_entry ps k o)
+  by_entry : (n : ℕ) (o : Option Entry) → slice_get pool (suc n) ≡ o → thrown_by t (class_caught_by ps k o) ≡ true → CatchesThrown t members (suc n) (class_in_entry ps k o)
   by_entry n None at h = absurd (false≢true h)
   by_entry n (Some e) at h = by_reference n e (referred e) at refl h
 
-  by_index : (index : ℕ) (b : Bool) → (index == 0) ≡ b → (b || thrown_by t (caught_by ps k (slice_get pool index))) ≡ true → CatchesThrown t members index (if b then throwable t else class_in_entry ps k (slice_get pool index))
+  by_index : (index : ℕ) (b : Bool) → (index == 0) ≡ b → (b || thrown_by t (class_caught_by ps k (slice_get pool index))) ≡ true → CatchesThrown t members index (if b then throwable t else class_in_entry ps k (slice_get pool index))
   by_index zero true e h = record { catches = refl; class = are.throwables; thrown = same }
   by_index zero false e h = absurd (false≢true (sym e ∙ eq-eqb 0 0 refl))
   by_index (suc n) true e h = let zero_is : suc n ≡ 0 = eqb-true (suc n) 0 e in absurd (omega arith)
   by_index (suc n) false e h = by_entry n (slice_get pool (suc n)) refl h
 
-  pub caught-thrown : (index : ℕ) → catches ps t k pool index ≡ true → CatchesThrown t members index (caught ps (throwable t) k pool index)
-  unfolding catches
+  pub caught-thrown : (index : ℕ) → catches_throwable ps t k pool index ≡ true → CatchesThrown t members index (caught_class ps (throwable t) k pool index)
+  unfolding catches_throwable
   caught-thrown index h = by_index index (index == 0) refl h
 
   -- a handler as a method has it
   abbrev pub IsThrowing : Handler → Type 0
   IsThrowing h = CatchesThrown t members h.index h.class
 
-  handler_throws : (code_at : ℕ) (h : HandlerInfo) → catches ps t k pool h.index ≡ true → IsThrowing (handler_named ps (throwable t) k pool code_at h)
+  handler_throws : (code_at : ℕ) (h : HandlerInfo) → catches_throwable ps t k pool h.index ≡ true → IsThrowing (handler_named ps (throwable t) k pool code_at h)
   unfolding handler_named
   handler_throws code_at h e = caught-thrown h.index e
 
-  pub named-throw : (code_at : ℕ) (hs : List HandlerInfo) → All (λ (h : HandlerInfo). catches ps t k pool h.index ≡ true) hs → All IsThrowing (map (handler_named ps (throwable t) k pool code_at) hs)
+  pub named-throw : (code_at : ℕ) (hs : List HandlerInfo) → All (λ (h : HandlerInfo). catches_throwable ps t k pool h.index ≡ true) hs → All IsThrowing (map (handler_named ps (throwable t) k pool code_at) hs)
   named-throw code_at hs all =
       All-map IsThrowing (handler_named ps (throwable t) k pool code_at) hs
-      (All-weaker (λ (h : HandlerInfo). catches ps t k pool h.index ≡ true) (λ (h : HandlerInfo). IsThrowing (handler_named ps (throwable t) k pool code_at h)) (λ h e. handler_throws code_at h e) hs all)
+      (All-weaker (λ (h : HandlerInfo). catches_throwable ps t k pool h.index ≡ true) (λ (h : HandlerInfo). IsThrowing (handler_named ps (throwable t) k pool code_at h)) (λ h e. handler_throws code_at h e) hs all)
 
 -- the handlers of a method of a package
 module _ (ps : List PackageRecord) (t : ClassTable) (statics : List StaticRec) (k : ℕ) (p : PackageRecord) (members : List Member) (are : AreCaught ps t statics k p.pool members)
-    (all : All (λ (h : HandlerInfo). catches ps t k p.pool h.index ≡ true) p.methods.handlers) where
+    (all : All (λ (h : HandlerInfo). catches_throwable ps t k p.pool h.index ≡ true) p.methods.handlers) where
   abbrev Throws : Handler → Type 0
   Throws h = CatchesThrown t members h.index h.class
 
-  body_by-throws : (m : Method) (sig : Sig) (o : Option Header) → All Throws (body_by ps (throwable t) k p m sig o).handlers
+  body_by-throws : (m : MethodDescriptor) (sig : Sig) (o : Option Header) → All Throws (body_by ps (throwable t) k p m sig o).handlers
   body_by-throws m sig None = All-nil Throws
   body_by-throws m sig (Some h) =
       named-throw ps t statics k p.pool members are (offset_in_info (m.method_offset + h.size)) (handlers_of p m)
-      (All-take (λ (x : HandlerInfo). catches ps t k p.pool x.index ≡ true) m.handler_count _ (All-drop (λ (x : HandlerInfo). catches ps t k p.pool x.index ≡ true) m.handler_index p.methods.handlers all))
+      (All-take (λ (x : HandlerInfo). catches_throwable ps t k p.pool x.index ≡ true) m.handler_count _ (All-drop (λ (x : HandlerInfo). catches_throwable ps t k p.pool x.index ≡ true) m.handler_index p.methods.handlers all))
 
-  pub body-throws : (m : Method) (sig : Sig) (b : Bool) → All Throws (body_of ps (throwable t) k p m sig b).handlers
+  pub body-throws : (m : MethodDescriptor) (sig : Sig) (b : Bool) → All Throws (body_of ps (throwable t) k p m sig b).handlers
   unfolding body_of
   body-throws m sig true = body_by-throws m sig (header_in p.methods.info m.method_offset)
   body-throws m sig false = All-nil Throws

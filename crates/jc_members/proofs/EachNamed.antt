@@ -18,7 +18,7 @@ use Rattle.jc_resolve.specs.Fault.{link_place}
 use Rattle.first_fault.specs.Order.{comes_before}
 use Rattle.first_fault.specs.Least.{◌>>=◌, lesser, least_from, least_of, refused}
 use Rattle.jc_members.specs.Members.{member_of}
-use Rattle.jc_members.specs.Naming.{NamesMember, NamesOnly, IsEntry, AreNamed, NamesNone, IsMissing, NamesEach}
+use Rattle.jc_members.specs.Naming.{NamesMember, NamesOnly, IsPoolEntry, AreNamed, NamesNone, LacksMember, NamesEach}
 use Rattle.jc_members.specs.Pools.{PoolPlace, places_from, places_after, pool_places, member_fault, missing_members, pools, pools_of}
 use Rattle.jc_members.proofs.Faultless.{pools-some}
 use Rattle.jc_members.proofs.NamingLaws.{member-names, names-member, names-only}
@@ -60,7 +60,7 @@ module _ (ps : List PackageRecord) where
   -- ---- the places of entries
 
   abbrev IsPlace : PoolPlace → Type 0
-  IsPlace x = IsEntry ps x.home x.number x.entry
+  IsPlace x = IsPoolEntry ps x.home x.number x.entry
 
   in_pool : (k : ℕ) (p : PackageRecord) → slice_get ps k ≡ Some p → (n : ℕ) (es : List Entry) → ((i : ℕ) (e : Entry) → slice_get es i ≡ Some e → slice_get p.pool (n + i) ≡ Some e) → All IsPlace (places_from k n es)
   in_pool k p at n [] all = All-nil IsPlace
@@ -104,17 +104,17 @@ module _ (ps : List PackageRecord) (t : ClassTable) (statics : List StaticRec) w
   nothing_named k e None is none m h = let there = sym is ∙ names-member ps t statics k e m h in absurd cc
   nothing_named k e (Some x) is none m h = absurd cc
 
-  fault_by : (x : PoolPlace) (f : LinkFault) (b : Bool) → is_none (member_of ps t statics x.home x.entry) ≡ b → cond b (Some (NoMember x.home x.number)) None ≡ Some f → IsEntry ps x.home x.number x.entry → IsMissing ps t statics f
+  fault_by : (x : PoolPlace) (f : LinkFault) (b : Bool) → is_none (member_of ps t statics x.home x.entry) ≡ b → cond b (Some (NoMember x.home x.number)) None ≡ Some f → IsPoolEntry ps x.home x.number x.entry → LacksMember ps t statics f
   fault_by x f true none h at =
       let same : NoMember x.home x.number ≡ f = cc in
-      subst (IsMissing ps t statics) same (record { of = x.entry; at = at; none = nothing_named x.home x.entry (member_of ps t statics x.home x.entry) refl none })
+      subst (LacksMember ps t statics) same (record { of = x.entry; at = at; none = nothing_named x.home x.entry (member_of ps t statics x.home x.entry) refl none })
   fault_by x f false none h at = absurd cc
 
-  missing_of : (x : PoolPlace) (f : LinkFault) → member_fault ps t statics x ≡ Some f → IsEntry ps x.home x.number x.entry → IsMissing ps t statics f
+  missing_of : (x : PoolPlace) (f : LinkFault) → member_fault ps t statics x ≡ Some f → IsPoolEntry ps x.home x.number x.entry → LacksMember ps t statics f
   unfolding member_fault
   missing_of x f h at = fault_by x f (is_none (member_of ps t statics x.home x.entry)) refl h at
 
-  fault_missing : (f : LinkFault) → least_of link_place (member_fault ps t statics) (pool_places ps) ≡ Some f → IsMissing ps t statics f
+  fault_missing : (f : LinkFault) → least_of link_place (member_fault ps t statics) (pool_places ps) ≡ Some f → LacksMember ps t statics f
   fault_missing f h =
       let x = of_one (member_fault ps t statics) (pool_places ps) f h in
       missing_of x.1 f x.3 (All-slice_get (IsPlace ps) (pool_places ps) x.0 x.1 (all_places ps) x.2)

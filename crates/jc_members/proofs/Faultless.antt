@@ -16,7 +16,7 @@ use Rattle.jc_resolve.specs.declared.fault.LinkFault.TheVariants.{NoMember, BadC
 use Rattle.jc_resolve.proofs.Faultless.{both_faultless}
 use Rattle.jc_members.specs.Members.{member_of}
 use Rattle.jc_members.specs.Pools.{PoolPlace, places_from, places_after, member_fault, pools_after}
-use Rattle.jc_members.specs.Catches.{HandlerPlace, handlers_from, handlers_after, catches, catch_fault}
+use Rattle.jc_members.specs.Catches.{HandlerPlace, handlers_from, handlers_after, catches_throwable, catch_fault}
 
 -- ---- pool entries
 
@@ -106,7 +106,7 @@ module _ (all : List PackageRecord) (t : ClassTable) (statics : List StaticRec) 
 -- ---- handlers
 
 module _ (all : List PackageRecord) (t : ClassTable) where
-  catches_by : (x : HandlerPlace) (b : Bool) → catches all t x.home x.pool x.handler.index ≡ b → catch_fault all t x ≡ None → b ≡ true
+  catches_by : (x : HandlerPlace) (b : Bool) → catches_throwable all t x.home x.pool x.handler.index ≡ b → catch_fault all t x ≡ None → b ≡ true
   unfolding catch_fault
   catches_by x true e none = refl
   catches_by x false e none =
@@ -116,14 +116,14 @@ module _ (all : List PackageRecord) (t : ClassTable) where
 
   -- a handler of a package catches all, or a class that is thrown
   abbrev pub IsCatching : ℕ → List Entry → HandlerInfo → Type 0
-  IsCatching k pool h = catches all t k pool h.index ≡ true
+  IsCatching k pool h = catches_throwable all t k pool h.index ≡ true
 
   table-catches : (k n : ℕ) (pool : List Entry) (hs : List HandlerInfo) → filter_map (catch_fault all t) (handlers_from k pool n hs) ≡ [] → All (IsCatching k pool) hs
   table-catches k n pool [] e = All-nil (IsCatching k pool)
   table-catches k n pool (h ∷ hs) e =
       let place : HandlerPlace = record { home = k; pool = pool; number = n; handler = h } in
       let both = faultless_first (catch_fault all t place) (filter_map (catch_fault all t) (handlers_from k pool (n + 1) hs)) e in
-      All-cons (IsCatching k pool) h hs (catches_by place (catches all t k pool h.index) refl both.0) (table-catches k (n + 1) pool hs both.1)
+      All-cons (IsCatching k pool) h hs (catches_by place (catches_throwable all t k pool h.index) refl both.0) (table-catches k (n + 1) pool hs both.1)
 
   pub handlers-at : (k : ℕ) (ps : List PackageRecord) (n : ℕ) (p : PackageRecord) → filter_map (catch_fault all t) (handlers_after k ps) ≡ [] → slice_get ps n ≡ Some p → All (IsCatching (k + n) p.pool) p.methods.handlers
   handlers-at k [] n p e at = absurd cc

@@ -30,7 +30,7 @@ use Rattle.jc_resolve.specs.Numbering.{NumberedClass, numbered_classes}
 use Rattle.jc_resolve.specs.NamedClasses.{fields_described, named_classes}
 use Rattle.jc_resolve.proofs.ItemKinds.{kind_right}
 use Rattle.jc_members.specs.declared.own_field.OwnField.{OwnField}
-use Rattle.jc_members.specs.Sites.{is_there, only, standing}
+use Rattle.jc_members.specs.Sites.{is_there, only, members_standing}
 use Rattle.jc_members.specs.Fields.{cells_before, fields_in, own_fields, field_sites, HasCellsOf}
 use Rattle.jc_members.specs.Members.{token_of_class, holder_of, field_of, as_of}
 use Rattle.jc_members.proofs.TokenCells.{cells_by, cells_of_own, has, with, cells_over, Stands, only_stands}
@@ -44,14 +44,14 @@ abbrev IsKindly : OwnField → Type 0
 IsKindly f = IsOfKind f.kind f.ty
 
 module _ (ps : List PackageRecord) (object_is : ℕ) where
-  kindly_typed : (k : ℕ) (d : Description) (f : described.Field) (own : List OwnField) (o : Option TypeItem) → field_type d f.ty ≡ o → All IsKindly own → All IsKindly (cons_option (typed ps object_is k d f) own)
+  kindly_typed : (k : ℕ) (d : Description) (f : described.FieldDescriptor) (own : List OwnField) (o : Option TypeItem) → field_type d f.ty ≡ o → All IsKindly own → All IsKindly (cons_option (typed ps object_is k d f) own)
   unfolding typed
   kindly_typed k d f own None e others = rw e others
   kindly_typed k d f own (Some t) e others =
       let is = field_typed d f.ty t e in
       rw e (All-cons IsKindly _ own (kind_right ps object_is k t is.typed is.no_void) others)
 
-  all_kindly : (k : ℕ) (d : Description) (fs : List described.Field) → All IsKindly (filter_map (typed ps object_is k d) fs)
+  all_kindly : (k : ℕ) (d : Description) (fs : List described.FieldDescriptor) → All IsKindly (filter_map (typed ps object_is k d) fs)
   all_kindly k d [] = All-nil IsKindly
   all_kindly k d (f ∷ fs) = kindly_typed k d f (filter_map (typed ps object_is k d) fs) (field_type d f.ty) refl (all_kindly k d fs)
 
@@ -142,7 +142,7 @@ module _ (ps : List PackageRecord) (object_is packages : ℕ) (t : ClassTable) (
 
   pub field_linked : (statics : List StaticRec) (token c : ℕ) → token < 256 → IsClass t c → IfSome (field_of (field_sites ps t) t token c) (IsMember t methods statics)
   unfolding field_of holder_of
-  field_linked statics token c lt is = by_holder (find (λ h. is_there (standing (field_sites ps t) (token_of_class h token))) (chain t c)) refl
+  field_linked statics token c lt is = by_holder (find (λ h. is_there (members_standing (field_sites ps t) (token_of_class h token))) (chain t c)) refl
     where
       is_field : (h : ℕ) (m : Member) → is_on_chain t h c ≡ true → StandsIn ps t h token m → IsMember t methods statics (as_of c m)
       is_field h m on s =
@@ -150,11 +150,11 @@ module _ (ps : List PackageRecord) (object_is packages : ℕ) (t : ClassTable) (
           (subst (λ (n : ℕ). IsField t c (cells_above t (parent_of t h) + cells_before (own_of ps (object t) s.class) n) s.field.kind s.field.ty) (sym (has_token token (own_of ps (object t) s.class) s.field s.one))
           (field_of_class c h token s.class s.field is s.there on lt s.one))
 
-      by_member : (h : ℕ) (o : Option Member) → is_on_chain t h c ≡ true → only (standing (field_sites ps t) (token_of_class h token)) ≡ o → IfSome (option_map (as_of c) o) (IsMember t methods statics)
+      by_member : (h : ℕ) (o : Option Member) → is_on_chain t h c ≡ true → only (members_standing (field_sites ps t) (token_of_class h token)) ≡ o → IfSome (option_map (as_of c) o) (IsMember t methods statics)
       by_member h None on e = tt
       by_member h (Some m) on e = is_field h m on (stands_in ps t h token m e)
 
-      by_holder : (o : Option ℕ) → find (λ h. is_there (standing (field_sites ps t) (token_of_class h token))) (chain t c) ≡ o
-          → IfSome (option_map (as_of c) (option_and_then (λ h. only (standing (field_sites ps t) (token_of_class h token))) o)) (IsMember t methods statics)
+      by_holder : (o : Option ℕ) → find (λ h. is_there (members_standing (field_sites ps t) (token_of_class h token))) (chain t c) ≡ o
+          → IfSome (option_map (as_of c) (option_and_then (λ h. only (members_standing (field_sites ps t) (token_of_class h token))) o)) (IsMember t methods statics)
       by_holder None e = tt
-      by_holder (Some h) e = by_member h (only (standing (field_sites ps t) (token_of_class h token))) (holder_on t (λ x. is_there (standing (field_sites ps t) (token_of_class x token))) c h e) refl
+      by_holder (Some h) e = by_member h (only (members_standing (field_sites ps t) (token_of_class h token))) (holder_on t (λ x. is_there (members_standing (field_sites ps t) (token_of_class x token))) c h e) refl

@@ -5,7 +5,7 @@ use Rattle.jc_base.specs.declared.record.Member.{Member}
 use Rattle.jc_base.specs.Class.{ClassTable, chain}
 use Rattle.jc_base.proofs.Climbs.{chain-front}
 use Rattle.jc_members.specs.declared.sites.Spot.{Spot}
-use Rattle.jc_members.specs.Sites.{Site, only, is_there, standing, kept_at, all_entered}
+use Rattle.jc_members.specs.Sites.{MemberSite, only, is_there, members_standing, kept_at, all_entered}
 use Rattle.jc_members.specs.Members.{token_of_class, holder_of, field_of, kept_holder, kept_field, as_of}
 use Rattle.jc_members.proofs.SiteLaws.{only_kept, some_kept}
 
@@ -13,7 +13,7 @@ found_same : (f g : ℕ → Bool) → ((x : ℕ) → f x ≡ g x) → (xs : List
 found_same f g e [] = refl
 found_same f g e (x ∷ xs) = ap₂ (λ b o. cond b (Some x) o) (e x) (found_same f g e xs)
 
-only_by : (sites : List Site) (token : ℕ) (o : Option ℕ) → option_and_then (λ h. option_flatten (kept_at (all_entered [] sites) (token_of_class h token))) o ≡ option_and_then (λ h. only (standing sites (token_of_class h token))) o
+only_by : (sites : List MemberSite) (token : ℕ) (o : Option ℕ) → option_and_then (λ h. option_flatten (kept_at (all_entered [] sites) (token_of_class h token))) o ≡ option_and_then (λ h. only (members_standing sites (token_of_class h token))) o
 only_by sites token None = refl
 only_by sites token (Some h) = only_kept sites (token_of_class h token)
 
@@ -23,9 +23,9 @@ holds_here entries t token at h =
     ap (find (λ x. is_some (kept_at entries (token_of_class x token)))) (chain-front t at).1
     ∙ ap (λ b. cond b (Some at) (find (λ x. is_some (kept_at entries (token_of_class x token))) (chain-front t at).0)) h
 
-pub field_kept : (sites : List Site) (t : ClassTable) (token c : ℕ) → kept_field (all_entered [] sites) t token c ≡ field_of sites t token c
+pub field_kept : (sites : List MemberSite) (t : ClassTable) (token c : ℕ) → kept_field (all_entered [] sites) t token c ≡ field_of sites t token c
 unfolding field_of holder_of
 field_kept sites t token c =
     ap (λ (o : Option ℕ). option_map (as_of c) (option_and_then (λ h. option_flatten (kept_at (all_entered [] sites) (token_of_class h token))) o))
     (found_same _ _ (λ h. some_kept sites (token_of_class h token)) (chain t c))
-    ∙ ap (option_map (as_of c)) (only_by sites token (find (λ h. is_there (standing sites (token_of_class h token))) (chain t c)))
+    ∙ ap (option_map (as_of c)) (only_by sites token (find (λ h. is_there (members_standing sites (token_of_class h token))) (chain t c)))

@@ -19,7 +19,7 @@ use Rattle.jc_resolve.specs.Numbering.{numbered_classes}
 use Rattle.jc_resolve.specs.References.{class_referred, place_referred}
 use Rattle.jc_resolve.proofs.DeclaredTypes.{named_at}
 use Rattle.jc_members.specs.declared.sites.Spot.{Spot}
-use Rattle.jc_members.specs.Sites.{only, standing, same_spot}
+use Rattle.jc_members.specs.Sites.{only, members_standing, same_spot}
 use Rattle.jc_members.specs.Members.{static_site, static_sites, static_at}
 
 -- ---- classes and methods
@@ -60,7 +60,7 @@ only-has P (m ∷ n ∷ ms) all = tt
 IsSite : List StaticRec → Member → Type 0
 IsSite statics m = (f : StaticRec) × Contains statics f × ((static_site f).member ≡ m)
 
-standing-sites : (statics : List StaticRec) (spot : Spot) (m : Member) → Contains (standing (static_sites statics) spot) m → IsSite statics m
+standing-sites : (statics : List StaticRec) (spot : Spot) (m : Member) → Contains (members_standing (static_sites statics) spot) m → IsSite statics m
 unfolding IsSite
 standing-sites [] spot m (k, lt, e) = absurd (omega arith)
 standing-sites (f ∷ fs) spot m h = by (same_spot spot (static_site f).spot) (standing-sites fs spot m) h
@@ -68,11 +68,11 @@ standing-sites (f ∷ fs) spot m h = by (same_spot spot (static_site f).spot) (s
     further : IsSite fs m → IsSite (f ∷ fs) m
     further (g, at, e) = (g, Contains-append_right (f ∷ []) fs g at, e)
 
-    first : Contains ((static_site f).member ∷ standing (static_sites fs) spot) m → (Contains (standing (static_sites fs) spot) m → IsSite fs m) → IsSite (f ∷ fs) m
+    first : Contains ((static_site f).member ∷ members_standing (static_sites fs) spot) m → (Contains (members_standing (static_sites fs) spot) m → IsSite fs m) → IsSite (f ∷ fs) m
     first (zero, lt, e) others = (f, (0, omega arith, refl), e)
     first (suc k, lt, e) others = further (others (k, omega arith, e))
 
-    by : (b : Bool) → (Contains (standing (static_sites fs) spot) m → IsSite fs m) → Contains (cond b ((static_site f).member ∷ standing (static_sites fs) spot) (standing (static_sites fs) spot)) m → IsSite (f ∷ fs) m
+    by : (b : Bool) → (Contains (members_standing (static_sites fs) spot) m → IsSite fs m) → Contains (cond b ((static_site f).member ∷ members_standing (static_sites fs) spot) (members_standing (static_sites fs) spot)) m → IsSite (f ∷ fs) m
     by true others at = first at others
     by false others at = further (others at)
 
@@ -83,4 +83,4 @@ is-member t methods statics m (f, (k, lt, at), e) = subst (IsMember t methods st
 pub static_there : (t : ClassTable) (methods : List MethodRec) (statics : List StaticRec) (place : RecordPlace) → IfSome (static_at statics place) (IsMember t methods statics)
 unfolding static_at
 static_there t methods statics place =
-    only-has (IsMember t methods statics) (standing (static_sites statics) (record { owner = place.package; number = place.offset })) (λ m h. is-member t methods statics m (standing-sites statics _ m h))
+    only-has (IsMember t methods statics) (members_standing (static_sites statics) (record { owner = place.package; number = place.offset })) (λ m h. is-member t methods statics m (standing-sites statics _ m h))

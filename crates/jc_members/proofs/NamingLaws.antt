@@ -19,11 +19,11 @@ use Rattle.jc_resolve.specs.declared.place.RecordPlace.{RecordPlace}
 use Rattle.jc_resolve.specs.Numbering.{method_at}
 use Rattle.jc_resolve.specs.References.{met_by, class_referred}
 use Rattle.jc_resolve.proofs.ReferenceLaws.{computed-refers, refers-computed}
-use Rattle.jc_members.specs.Sites.{only, standing}
+use Rattle.jc_members.specs.Sites.{only, members_standing}
 use Rattle.jc_members.specs.Entries.{place_in, exported_field, exported_method, place_by, field_place, method_place}
 use Rattle.jc_members.specs.Fields.{field_sites}
 use Rattle.jc_members.specs.Members.{class_member, proper_by, proper_referred, virtual_by, virtual_member, may_name, super_by, super_of, super_member, static_sites, static_at, static_member, call_member, holder_of, token_of_class, as_of, field_of, field_member, member_referred, member_of}
-use Rattle.jc_members.specs.Naming.{StandsAt, internal, imported, NamesClass, MayName, NamesMember, classref, instance_fieldref, virtual_methodref, super_methodref, static_fieldref, static_methodref}
+use Rattle.jc_members.specs.Naming.{RefersTo, internal, imported, NamesClass, MayName, NamesMember, classref, instance_fieldref, virtual_methodref, super_methodref, static_fieldref, static_methodref}
 
 -- ---- what was found, step by step
 
@@ -55,14 +55,14 @@ some-there (Some x) h = (x, refl)
 -- ---- places
 
 module _ (ps : List PackageRecord) (exported : ℕ → ℕ → ℕ → Option ℕ) (k : ℕ) (place : RecordPlace) where
-  place-from : (r : StaticReference) → place_by ps exported k r ≡ Some place → StandsAt ps exported k r place
+  place-from : (r : StaticReference) → place_by ps exported k r ≡ Some place → RefersTo ps exported k r place
   place-from (Internal offset) h = internal offset refl (sym (same_Some (place_in k offset) place h))
   place-from (External import class token) h =
       let a = then_some (λ j. option_map (place_in j) (exported j class token)) (met_by ps k import) place h in
       let b = map_some (place_in a.0) (exported a.0 class token) place a.2 in
       imported import class token a.0 b.0 refl a.1 b.1 (sym b.2)
 
-  place-to : (r : StaticReference) → StandsAt ps exported k r place → place_by ps exported k r ≡ Some place
+  place-to : (r : StaticReference) → RefersTo ps exported k r place → place_by ps exported k r ≡ Some place
   place-to r (internal offset is same) = ap (place_by ps exported k) is ∙ ap Some (sym same)
   place-to r (imported import class token j offset is met out same) =
       ap (place_by ps exported k) is
@@ -71,19 +71,19 @@ module _ (ps : List PackageRecord) (exported : ℕ → ℕ → ℕ → Option �
       ∙ ap Some (sym same)
 
 module _ (ps : List PackageRecord) (k : ℕ) (r : StaticReference) (place : RecordPlace) where
-  field_place-from : field_place ps k r ≡ Some place → StandsAt ps (exported_field ps) k r place
+  field_place-from : field_place ps k r ≡ Some place → RefersTo ps (exported_field ps) k r place
   unfolding field_place
   field_place-from h = place-from ps (exported_field ps) k place r h
 
-  field_place-to : StandsAt ps (exported_field ps) k r place → field_place ps k r ≡ Some place
+  field_place-to : RefersTo ps (exported_field ps) k r place → field_place ps k r ≡ Some place
   unfolding field_place
   field_place-to h = place-to ps (exported_field ps) k place r h
 
-  method_place-from : method_place ps k r ≡ Some place → StandsAt ps (exported_method ps) k r place
+  method_place-from : method_place ps k r ≡ Some place → RefersTo ps (exported_method ps) k r place
   unfolding method_place
   method_place-from h = place-from ps (exported_method ps) k place r h
 
-  method_place-to : StandsAt ps (exported_method ps) k r place → method_place ps k r ≡ Some place
+  method_place-to : RefersTo ps (exported_method ps) k r place → method_place ps k r ≡ Some place
   unfolding method_place
   method_place-to h = place-to ps (exported_method ps) k place r h
 
@@ -115,9 +115,9 @@ module _ (ps : List PackageRecord) (t : ClassTable) (statics : List StaticRec) (
   unfolding field_member field_of
   field-from r token is h =
       let a = then_some (field_of (field_sites ps t) t token) (proper_referred ps t k r) m h in
-      let b = map_some (as_of a.0) (option_and_then (λ i. only (standing (field_sites ps t) (token_of_class i token))) (holder_of (field_sites ps t) t token a.0)) m a.2 in
-      let d = then_some (λ i. only (standing (field_sites ps t) (token_of_class i token))) (holder_of (field_sites ps t) t token a.0) b.0 b.1 in
-      instance_fieldref r token a.0 d.0 b.0 is (proper-from ps t k r a.0 a.1) d.1 (only-one (standing (field_sites ps t) (token_of_class d.0 token)) b.0 d.2) (sym b.2)
+      let b = map_some (as_of a.0) (option_and_then (λ i. only (members_standing (field_sites ps t) (token_of_class i token))) (holder_of (field_sites ps t) t token a.0)) m a.2 in
+      let d = then_some (λ i. only (members_standing (field_sites ps t) (token_of_class i token))) (holder_of (field_sites ps t) t token a.0) b.0 b.1 in
+      instance_fieldref r token a.0 d.0 b.0 is (proper-from ps t k r a.0 a.1) d.1 (only-one (members_standing (field_sites ps t) (token_of_class d.0 token)) b.0 d.2) (sym b.2)
 
   virtual-from : (r : ClassReference) (token : ℕ) → referred e ≡ VirtualMethod r token → virtual_member ps t k r token ≡ Some m → NamesMember ps t statics k e m
   unfolding virtual_member virtual_by
@@ -149,7 +149,7 @@ module _ (ps : List PackageRecord) (t : ClassTable) (statics : List StaticRec) (
   unfolding static_member static_at
   static-from r is h =
       let a = then_some (static_at statics) (field_place ps k r) m h in
-      static_fieldref r a.0 is (field_place-from ps k r a.0 a.1) (only-one (standing (static_sites statics) (record { owner = a.0.package; number = a.0.offset })) m a.2)
+      static_fieldref r a.0 is (field_place-from ps k r a.0 a.1) (only-one (members_standing (static_sites statics) (record { owner = a.0.package; number = a.0.offset })) m a.2)
 
   call-from : (r : StaticReference) → referred e ≡ StaticMethod r → call_member ps k r ≡ Some m → NamesMember ps t statics k e m
   unfolding call_member
@@ -183,7 +183,7 @@ module _ (ps : List PackageRecord) (t : ClassTable) (statics : List StaticRec) (
   names-member (instance_fieldref r token c h f is proper holder here same) =
       ap named is
       ∙ ap (option_and_then (field_of (field_sites ps t) t token)) (proper-to ps t k r c proper)
-      ∙ ap (λ o. option_map (as_of c) (option_and_then (λ i. only (standing (field_sites ps t) (token_of_class i token))) o)) holder
+      ∙ ap (λ o. option_map (as_of c) (option_and_then (λ i. only (members_standing (field_sites ps t) (token_of_class i token))) o)) holder
       ∙ ap (λ xs. option_map (as_of c) (only xs)) here
       ∙ ap Some (sym same)
   names-member (virtual_methodref r token c is proper there same) =

@@ -11,14 +11,14 @@ use Rattle.jc_base.specs.Linked.{cells_above}
 use Rattle.jc_resolve.specs.Numbering.{NumberedClass, numbered_class, classes_of, classes_after, numbered_classes}
 use Rattle.jc_members.specs.declared.own_field.OwnField.{OwnField}
 use Rattle.jc_members.specs.declared.sites.Spot.{Spot}
-use Rattle.jc_members.specs.Sites.{Site, only, standing, same_spot}
+use Rattle.jc_members.specs.Sites.{MemberSite, only, members_standing, same_spot}
 use Rattle.jc_members.specs.Members.{token_of_class}
 use Rattle.jc_members.specs.Fields.{cells_before, field_site, class_sites, sites_of_classes, sites_after, field_sites}
 use Rattle.jc_members.proofs.TokenCells.{with}
 use Rattle.jc_members.proofs.OwnCells.{own_of}
 
 module _ (ps : List PackageRecord) (t : ClassTable) where
-  abbrev numbered_sites : ℕ → List NumberedClass → List Site
+  abbrev numbered_sites : ℕ → List NumberedClass → List MemberSite
   numbered_sites c [] = []
   numbered_sites c (n ∷ ns) = class_sites t c (own_of ps (object t) n) ++ numbered_sites (c + 1) ns
 
@@ -28,12 +28,12 @@ module _ (ps : List PackageRecord) (t : ClassTable) where
       ap (λ (i : ℕ). numbered_sites i ns) e
   sites_append c (m ∷ ms) ns =
       let e : (c + 1) + length ms ≡ c + suc (length ms) = omega arith in
-      ap (λ (sites : List Site). class_sites t c (own_of ps (object t) m) ++ sites) (sites_append (c + 1) ms ns ∙ ap (λ (i : ℕ). numbered_sites (c + 1) ms ++ numbered_sites i ns) e)
+      ap (λ (sites : List MemberSite). class_sites t c (own_of ps (object t) m) ++ sites) (sites_append (c + 1) ms ns ∙ ap (λ (i : ℕ). numbered_sites (c + 1) ms ++ numbered_sites i ns) e)
       ∙ sym (append_assoc (class_sites t c (own_of ps (object t) m)) (numbered_sites (c + 1) ms) (numbered_sites (c + suc (length ms)) ns))
 
   of_package : (k : ℕ) (p : PackageRecord) (c : ℕ) (rs : List Class) → sites_of_classes ps t k p c rs ≡ numbered_sites c (map (numbered_class k p) rs)
   of_package k p c [] = refl
-  of_package k p c (r ∷ rs) = ap (λ (sites : List Site). class_sites t c (own_of ps (object t) (numbered_class k p r)) ++ sites) (of_package k p (c + 1) rs)
+  of_package k p c (r ∷ rs) = ap (λ (sites : List MemberSite). class_sites t c (own_of ps (object t) (numbered_class k p r)) ++ sites) (of_package k p (c + 1) rs)
 
   of_packages : (c k : ℕ) (qs : List PackageRecord) → sites_after ps t c k qs ≡ numbered_sites c (classes_after k qs)
   of_packages c k [] = refl
@@ -44,12 +44,12 @@ module _ (ps : List PackageRecord) (t : ClassTable) where
 
   -- ---- the fields with a token of a class
 
-  standing_append : (spot : Spot) (xs ys : List Site) → standing (xs ++ ys) spot ≡ standing xs spot ++ standing ys spot
+  standing_append : (spot : Spot) (xs ys : List MemberSite) → members_standing (xs ++ ys) spot ≡ members_standing xs spot ++ members_standing ys spot
   standing_append spot [] ys = refl
   standing_append spot (x ∷ xs) ys = by (same_spot spot x.spot) (standing_append spot xs ys)
     where
-      by : (b : Bool) → standing (xs ++ ys) spot ≡ standing xs spot ++ standing ys spot
-          → cond b (x.member ∷ standing (xs ++ ys) spot) (standing (xs ++ ys) spot) ≡ cond b (x.member ∷ standing xs spot) (standing xs spot) ++ standing ys spot
+      by : (b : Bool) → members_standing (xs ++ ys) spot ≡ members_standing xs spot ++ members_standing ys spot
+          → cond b (x.member ∷ members_standing (xs ++ ys) spot) (members_standing (xs ++ ys) spot) ≡ cond b (x.member ∷ members_standing xs spot) (members_standing xs spot) ++ members_standing ys spot
       by true others = ap (λ (ms : List Member). x.member ∷ ms) others
       by false others = others
 
@@ -61,13 +61,13 @@ module _ (ps : List PackageRecord) (t : ClassTable) where
   turned a b = grind (arith, nat_tests)
 
   in_class : (c h token : ℕ) (own fs : List OwnField) (b : Bool) → eqb h c ≡ b
-      → standing (map (field_site (cells_above t (parent_of t c)) c own) fs) (token_of_class h token) ≡ cond b (map (field_at c own) (with fs token)) []
+      → members_standing (map (field_site (cells_above t (parent_of t c)) c own) fs) (token_of_class h token) ≡ cond b (map (field_at c own) (with fs token)) []
   in_class c h token own [] true e = refl
   in_class c h token own [] false e = refl
   in_class c h token own (f ∷ fs) true e = rw (e, turned token f.token) (by (eqb f.token token) (in_class c h token own fs true e))
     where
-      by : (b : Bool) → standing (map (field_site (cells_above t (parent_of t c)) c own) fs) (token_of_class h token) ≡ map (field_at c own) (with fs token)
-          → cond b (field_at c own f ∷ standing (map (field_site (cells_above t (parent_of t c)) c own) fs) (token_of_class h token)) (standing (map (field_site (cells_above t (parent_of t c)) c own) fs) (token_of_class h token))
+      by : (b : Bool) → members_standing (map (field_site (cells_above t (parent_of t c)) c own) fs) (token_of_class h token) ≡ map (field_at c own) (with fs token)
+          → cond b (field_at c own f ∷ members_standing (map (field_site (cells_above t (parent_of t c)) c own) fs) (token_of_class h token)) (members_standing (map (field_site (cells_above t (parent_of t c)) c own) fs) (token_of_class h token))
           ≡ map (field_at c own) (cond b (f ∷ with fs token) (with fs token))
       by true others = ap (λ (ms : List Member). field_at c own f ∷ ms) others
       by false others = others
@@ -86,14 +86,14 @@ module _ (ps : List PackageRecord) (t : ClassTable) where
   same : (a : ℕ) → eqb a a ≡ true
   same a = grind (arith, nat_tests)
 
-  none_before : (ns : List NumberedClass) (c h token : ℕ) → h < c → standing (numbered_sites c ns) (token_of_class h token) ≡ []
+  none_before : (ns : List NumberedClass) (c h token : ℕ) → h < c → members_standing (numbered_sites c ns) (token_of_class h token) ≡ []
   none_before [] c h token lt = refl
   none_before (n ∷ ns) c h token lt =
       let further : h < c + 1 = omega arith in
       standing_append (token_of_class h token) (class_sites t c (own_of ps (object t) n)) (numbered_sites (c + 1) ns)
       ∙ ap₂ ◌++◌ (in_class c h token (own_of ps (object t) n) (own_of ps (object t) n) false (other h c lt)) (none_before ns (c + 1) h token further)
 
-  located : (ns : List NumberedClass) (c i h token : ℕ) → h ≡ c + i → standing (numbered_sites c ns) (token_of_class h token) ≡ members_at h token (slice_get ns i)
+  located : (ns : List NumberedClass) (c i h token : ℕ) → h ≡ c + i → members_standing (numbered_sites c ns) (token_of_class h token) ≡ members_at h token (slice_get ns i)
   located [] c i h token e = refl
   located (n ∷ ns) c zero h token e =
       let here : h ≡ c = omega arith in
@@ -128,9 +128,9 @@ module _ (ps : List PackageRecord) (t : ClassTable) where
   found_in h token m None there found = absurd cc
   found_in h token m (Some n) there found = one_of h token m n (with (own_of ps (object t) n) token) there refl found
 
-  pub stands_in : (h token : ℕ) (m : Member) → only (standing (field_sites ps t) (token_of_class h token)) ≡ Some m → StandsIn h token m
+  pub stands_in : (h token : ℕ) (m : Member) → only (members_standing (field_sites ps t) (token_of_class h token)) ≡ Some m → StandsIn h token m
   stands_in h token m found =
       let e : h ≡ 0 + h = omega arith in
-      let are : standing (field_sites ps t) (token_of_class h token) ≡ members_at h token (slice_get (numbered_classes ps) h) =
-      ap (λ (sites : List Site). standing sites (token_of_class h token)) (of_packages 0 0 ps) ∙ located (numbered_classes ps) 0 h h token e in
+      let are : members_standing (field_sites ps t) (token_of_class h token) ≡ members_at h token (slice_get (numbered_classes ps) h) =
+      ap (λ (sites : List MemberSite). members_standing sites (token_of_class h token)) (of_packages 0 0 ps) ∙ located (numbered_classes ps) 0 h h token e in
       found_in h token m (slice_get (numbered_classes ps) h) refl (sym (ap only are) ∙ found)

@@ -7,14 +7,14 @@ use Rattle.std.proofs.lemmas.List.Elements.{filter_map-append}
 use Rattle.cap_class.specs.ClassFormat.{is_interface}
 use Rattle.cap_desc.specs.declared.type_item.TypeItem.{TypeItem}
 use Rattle.cap_desc.specs.DescriptorFormat as described
-use Rattle.cap_desc.specs.DescriptorFormat.{Field}
+use Rattle.cap_desc.specs.DescriptorFormat.{FieldDescriptor}
 use Rattle.cap_package.specs.Descriptions.{Description, field_type}
 use Rattle.cap_package.specs.HeaderChecks.{is_static}
 use Rattle.cap_package.specs.PackageRecord.{PackageRecord}
 use Rattle.jc_base.specs.declared.ty.Ty.{Ty}
 use Rattle.jc_base.specs.declared.ty.Kind.TheVariants.{Ref, Byte, Short, Int}
 use Rattle.jc_resolve.specs.Numbering.{NumberedClass}
-use Rattle.jc_resolve.specs.NamedClasses.{describes, is_instance, fields_described, instance_fields, token_of, has_token, with_token, by_token, cells_of_field, cells_of_fields, named_interface, named_proper, named_class}
+use Rattle.jc_resolve.specs.NamedClasses.{describes, is_instance_field, fields_described, instance_fields, token_of, has_token, with_token, by_token, cells_of_field, cells_of_fields, named_interface, named_proper, named_class}
 use Rattle.jc_resolve.specs.WorldTypes.{type_of, kind_of, cells_of_type}
 use Rattle.jc_members.specs.declared.own_field.OwnField.{OwnField}
 use Rattle.jc_members.specs.Fields.{field_with, own_field, fields_in, own_fields}
@@ -28,30 +28,30 @@ one_cell false false ty = refl
 
 module _ (ps : List PackageRecord) (object k : ℕ) (d : Description) where
   -- an instance field with its type, if it has one
-  unfoldable pub typed : Field → Option OwnField
+  unfoldable pub typed : FieldDescriptor → Option OwnField
   typed f = option_map (field_with ps object k f) (field_type d f.ty)
 
   -- ---- the fields of a class are the instance fields that are described of it
 
-  instance_by : (f : Field) (fs : List Field) (b : Bool) → is_static f.flags ≡ b → filter_map (own_field ps object k d) fs ≡ filter_map typed (filter is_instance fs)
-      → filter_map (own_field ps object k d) (f ∷ fs) ≡ filter_map typed (cond (not b) (f ∷ filter is_instance fs) (filter is_instance fs))
+  instance_by : (f : FieldDescriptor) (fs : List FieldDescriptor) (b : Bool) → is_static f.flags ≡ b → filter_map (own_field ps object k d) fs ≡ filter_map typed (filter is_instance_field fs)
+      → filter_map (own_field ps object k d) (f ∷ fs) ≡ filter_map typed (cond (not b) (f ∷ filter is_instance_field fs) (filter is_instance_field fs))
   unfolding own_field typed
   instance_by f fs true e others = rw e others
   instance_by f fs false e others = rw e (ap (λ (own : List OwnField). cons_option (typed f) own) others)
 
-  instances : (fs : List Field) → filter_map (own_field ps object k d) fs ≡ filter_map typed (filter is_instance fs)
+  instances : (fs : List FieldDescriptor) → filter_map (own_field ps object k d) fs ≡ filter_map typed (filter is_instance_field fs)
   instances [] = refl
   instances (f ∷ fs) = instance_by f fs (is_static f.flags) refl (instances fs)
 
-  of_record : (offset : ℕ) (c : described.Class) → fields_in ps object k d offset c ≡ filter_map typed (fields_described offset c)
+  of_record : (offset : ℕ) (c : described.ClassDescriptor) → fields_in ps object k d offset c ≡ filter_map typed (fields_described offset c)
   unfolding fields_described
   of_record offset c = by (describes offset c)
     where
-      by : (b : Bool) → cond b (filter_map (own_field ps object k d) c.fields) [] ≡ filter_map typed (cond b (filter is_instance c.fields) [])
+      by : (b : Bool) → cond b (filter_map (own_field ps object k d) c.fields) [] ≡ filter_map typed (cond b (filter is_instance_field c.fields) [])
       by true = instances c.fields
       by false = refl
 
-  pub of_records : (offset : ℕ) (cs : List described.Class) → flat_map (fields_in ps object k d offset) cs ≡ filter_map typed (flat_map (fields_described offset) cs)
+  pub of_records : (offset : ℕ) (cs : List described.ClassDescriptor) → flat_map (fields_in ps object k d offset) cs ≡ filter_map typed (flat_map (fields_described offset) cs)
   of_records offset [] = refl
   of_records offset (c ∷ cs) =
       ap₂ ◌++◌ (of_record offset c) (of_records offset cs)
@@ -59,7 +59,7 @@ module _ (ps : List PackageRecord) (object k : ℕ) (d : Description) where
 
   -- ---- and their cells
 
-  token_by : (f : Field) (token : ℕ) (fs : List Field) (b : Bool) (o : Option TypeItem) → eqb (token_of f) token ≡ b → field_type d f.ty ≡ o
+  token_by : (f : FieldDescriptor) (token : ℕ) (fs : List FieldDescriptor) (b : Bool) (o : Option TypeItem) → eqb (token_of f) token ≡ b → field_type d f.ty ≡ o
       → filter_map typed (filter (has_token token) fs) ≡ with (filter_map typed fs) token
       → filter_map typed (cond b (f ∷ filter (has_token token) fs) (filter (has_token token) fs)) ≡ with (filter_map typed (f ∷ fs)) token
   unfolding typed
@@ -68,41 +68,41 @@ module _ (ps : List PackageRecord) (object k : ℕ) (d : Description) where
   token_by f token fs true (Some t) e h others = rw (h, e) (ap (λ (own : List OwnField). field_with ps object k f t ∷ own) others)
   token_by f token fs false (Some t) e h others = rw (h, e) others
 
-  tokens : (token : ℕ) (fs : List Field) → filter_map typed (filter (has_token token) fs) ≡ with (filter_map typed fs) token
+  tokens : (token : ℕ) (fs : List FieldDescriptor) → filter_map typed (filter (has_token token) fs) ≡ with (filter_map typed fs) token
   tokens token [] = refl
   tokens token (f ∷ fs) = token_by f token fs (eqb (token_of f) token) (field_type d f.ty) refl refl (tokens token fs)
 
-  int_cells : (f : Field) (t : TypeItem) → t.nibble ≡ 5 → cells_of_type ps object k t ≡ cells_of_own (field_with ps object k f t)
+  int_cells : (f : FieldDescriptor) (t : TypeItem) → t.nibble ≡ 5 → cells_of_type ps object k t ≡ cells_of_own (field_with ps object k f t)
   unfolding kind_of type_of
   int_cells f t e = rw e refl
 
-  item_by : (f : Field) (t : TypeItem) (b : Bool) → eqb t.nibble 5 ≡ b → cells_of_type ps object k t ≡ cells_of_own (field_with ps object k f t)
+  item_by : (f : FieldDescriptor) (t : TypeItem) (b : Bool) → eqb t.nibble 5 ≡ b → cells_of_type ps object k t ≡ cells_of_own (field_with ps object k f t)
   unfolding kind_of
   item_by f t true e = int_cells f t (eqb-true t.nibble 5 e)
   item_by f t false e = rw e (sym (one_cell (t.nibble == 2 || t.nibble == 3) (t.nibble == 4) (type_of ps object k t)))
 
-  item_cells : (f : Field) (t : TypeItem) → cells_of_type ps object k t ≡ cells_of_own (field_with ps object k f t)
+  item_cells : (f : FieldDescriptor) (t : TypeItem) → cells_of_type ps object k t ≡ cells_of_own (field_with ps object k f t)
   item_cells f t = item_by f t (eqb t.nibble 5) refl
 
-  field_cells : (f : Field) (fs : List Field) (o : Option TypeItem) → field_type d f.ty ≡ o
+  field_cells : (f : FieldDescriptor) (fs : List FieldDescriptor) (o : Option TypeItem) → field_type d f.ty ≡ o
       → flat_map (cells_of_field ps object k d) fs ≡ flat_map cells_of_own (filter_map typed fs)
       → flat_map (cells_of_field ps object k d) (f ∷ fs) ≡ flat_map cells_of_own (filter_map typed (f ∷ fs))
   unfolding cells_of_field typed
   field_cells f fs None e others = rw e others
   field_cells f fs (Some t) e others = rw e (ap₂ ◌++◌ (item_cells f t) others)
 
-  all_cells : (fs : List Field) → flat_map (cells_of_field ps object k d) fs ≡ flat_map cells_of_own (filter_map typed fs)
+  all_cells : (fs : List FieldDescriptor) → flat_map (cells_of_field ps object k d) fs ≡ flat_map cells_of_own (filter_map typed fs)
   all_cells [] = refl
   all_cells (f ∷ fs) = field_cells f fs (field_type d f.ty) refl (all_cells fs)
 
-  by_tokens : (fs : List Field) (ts : List ℕ) → filter_map typed (flat_map (with_token fs) ts) ≡ flat_map (with (filter_map typed fs)) ts
+  by_tokens : (fs : List FieldDescriptor) (ts : List ℕ) → filter_map typed (flat_map (with_token fs) ts) ≡ flat_map (with (filter_map typed fs)) ts
   unfolding with_token
   by_tokens fs [] = refl
   by_tokens fs (token ∷ ts) =
       filter_map-append typed (with_token fs token) (flat_map (with_token fs) ts)
       ∙ ap₂ ◌++◌ (tokens token fs) (by_tokens fs ts)
 
-  pub cells_are : (fs : List Field) → cells_of_fields ps object k d fs ≡ cells_over (filter_map typed fs) 0 256
+  pub cells_are : (fs : List FieldDescriptor) → cells_of_fields ps object k d fs ≡ cells_over (filter_map typed fs) 0 256
   unfolding cells_of_fields
   cells_are fs =
       all_cells (by_token fs)

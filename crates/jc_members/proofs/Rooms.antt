@@ -9,10 +9,10 @@ use Rattle.jc_base.specs.Linked.{cells_above}
 use Rattle.jc_base.specs.Cell.{width}
 use Rattle.jc_members.specs.declared.own_field.OwnField.{OwnField}
 use Rattle.jc_members.specs.declared.sites.Spot.{Spot}
-use Rattle.jc_members.specs.Sites.{Site, entered, all_entered}
-use Rattle.jc_members.specs.Fields.{cells_taken, cells_before}
+use Rattle.jc_members.specs.Sites.{MemberSite, added_entry, all_entered}
+use Rattle.jc_members.specs.Fields.{cells_in_all, cells_before}
 
-pub counted : (b : Bool) (f : OwnField) (fs : List OwnField) → cells_taken (cond b (f ∷ fs) fs) ≡ cond b (width f.kind) 0 + cells_taken fs
+pub counted : (b : Bool) (f : OwnField) (fs : List OwnField) → cells_in_all (cond b (f ∷ fs) fs) ≡ cond b (width f.kind) 0 + cells_in_all fs
 counted true f fs = sum_by-cons (λ (g : OwnField). width g.kind) f fs
 counted false f fs = omega arith
 
@@ -30,8 +30,8 @@ before_most (f ∷ fs) token lt =
     let others = before_most fs token lt in
     omega (arith, here, others, taken_before f fs token, taken_before f fs 256)
 
-pub entered_both : (xs ys : List Site) (es : List (Spot × Option Member)) → all_entered es (xs ++ ys) ≡ all_entered (all_entered es xs) ys
-entered_both xs ys es = fold-append entered es xs ys
+pub entered_both : (xs ys : List MemberSite) (es : List (Spot × Option Member)) → all_entered es (xs ++ ys) ≡ all_entered (all_entered es xs) ys
+entered_both xs ys es = fold-append added_entry es xs ys
 
 -- ---- the cells of the superclass
 

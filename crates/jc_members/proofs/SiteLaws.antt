@@ -5,7 +5,7 @@ use Rattle.std.proofs.lemmas.Bool.{eqb-true, true≢false, and_parts}
 use Rattle.indexmap.specs.IndexMap.{insert_entry}
 use Rattle.jc_base.specs.declared.record.Member.{Member}
 use Rattle.jc_members.specs.declared.sites.Spot.{Spot}
-use Rattle.jc_members.specs.Sites.{Site, only, is_there, same_spot, standing, kept_at, entered, all_entered}
+use Rattle.jc_members.specs.Sites.{MemberSite, only, is_there, same_spot, members_standing, kept_at, added_entry, all_entered}
 
 -- ---- spots
 
@@ -49,8 +49,8 @@ after o [] = o
 after None (m ∷ ms) = after (Some (Some m)) ms
 after (Some x) (m ∷ ms) = after (Some None) ms
 
-met : (es : List (Spot × Option Member)) (s : Site) (q : Spot) (ms : List Member) → same_spot q s.spot ≡ true → (o : Option (Option Member)) → kept_at es q ≡ o → after (kept_at (entered es s) q) ms ≡ after o (s.member ∷ ms)
-unfolding entered after
+met : (es : List (Spot × Option Member)) (s : MemberSite) (q : Spot) (ms : List Member) → same_spot q s.spot ≡ true → (o : Option (Option Member)) → kept_at es q ≡ o → after (kept_at (added_entry es s) q) ms ≡ after o (s.member ∷ ms)
+unfolding added_entry after
 met es s q ms h o e =
     let there : kept_at es s.spot ≡ o = ap (kept_at es) (sym (same-equal q s.spot h)) ∙ e in
     ap (λ x. after x ms) (kept-inserted es q s.spot (cond (is_some (kept_at es s.spot)) None (Some s.member)))
@@ -62,20 +62,20 @@ met es s q ms h o e =
     by None = refl
     by (Some x) = refl
 
-passed : (es : List (Spot × Option Member)) (s : Site) (q : Spot) → same_spot q s.spot ≡ false → kept_at (entered es s) q ≡ kept_at es q
-unfolding entered
+passed : (es : List (Spot × Option Member)) (s : MemberSite) (q : Spot) → same_spot q s.spot ≡ false → kept_at (added_entry es s) q ≡ kept_at es q
+unfolding added_entry
 passed es s q h =
     kept-inserted es q s.spot (cond (is_some (kept_at es s.spot)) None (Some s.member))
     ∙ ap (λ b. cond b (Some (cond (is_some (kept_at es s.spot)) None (Some s.member))) (kept_at es q)) h
 
-all-kept : (xs : List Site) (es : List (Spot × Option Member)) (q : Spot) → kept_at (all_entered es xs) q ≡ after (kept_at es q) (standing xs q)
+all-kept : (xs : List MemberSite) (es : List (Spot × Option Member)) (q : Spot) → kept_at (all_entered es xs) q ≡ after (kept_at es q) (members_standing xs q)
 unfolding after
 all-kept [] es q = refl
-all-kept (s ∷ xs) es q = all-kept xs (entered es s) q ∙ by (same_spot q s.spot) refl
+all-kept (s ∷ xs) es q = all-kept xs (added_entry es s) q ∙ by (same_spot q s.spot) refl
   where
-    by : (b : Bool) → same_spot q s.spot ≡ b → after (kept_at (entered es s) q) (standing xs q) ≡ after (kept_at es q) (cond b (s.member ∷ standing xs q) (standing xs q))
-    by true h = met es s q (standing xs q) h (kept_at es q) refl
-    by false h = ap (λ o. after o (standing xs q)) (passed es s q h)
+    by : (b : Bool) → same_spot q s.spot ≡ b → after (kept_at (added_entry es s) q) (members_standing xs q) ≡ after (kept_at es q) (cond b (s.member ∷ members_standing xs q) (members_standing xs q))
+    by true h = met es s q (members_standing xs q) h (kept_at es q) refl
+    by false h = ap (λ o. after o (members_standing xs q)) (passed es s q h)
 
 several : (ms : List Member) → after (Some None) ms ≡ Some None
 unfolding after
@@ -89,8 +89,8 @@ only-after (m ∷ []) = refl
 only-after (m ∷ n ∷ ms) = ap option_flatten (several ms)
 
 -- the table keeps the only member at a spot
-pub only_kept : (xs : List Site) (q : Spot) → option_flatten (kept_at (all_entered [] xs) q) ≡ only (standing xs q)
-only_kept xs q = ap option_flatten (all-kept xs [] q) ∙ only-after (standing xs q)
+pub only_kept : (xs : List MemberSite) (q : Spot) → option_flatten (kept_at (all_entered [] xs) q) ≡ only (members_standing xs q)
+only_kept xs q = ap option_flatten (all-kept xs [] q) ∙ only-after (members_standing xs q)
 
 there-after : (x : Option Member) (ms : List Member) → is_some (after (Some x) ms) ≡ true
 unfolding after
@@ -103,8 +103,8 @@ some-after [] = refl
 some-after (m ∷ ms) = there-after (Some m) ms
 
 -- and tells whether there is any
-pub some_kept : (xs : List Site) (q : Spot) → is_some (kept_at (all_entered [] xs) q) ≡ is_there (standing xs q)
-some_kept xs q = ap is_some (all-kept xs [] q) ∙ some-after (standing xs q)
+pub some_kept : (xs : List MemberSite) (q : Spot) → is_some (kept_at (all_entered [] xs) q) ≡ is_there (members_standing xs q)
+some_kept xs q = ap is_some (all-kept xs [] q) ∙ some-after (members_standing xs q)
 
 -- ---- what was at a spot before tells how a member is entered
 
@@ -119,10 +119,10 @@ put-again q v w (x ∷ es) o e = by (λ found. put-again q v w es o found) (same
     by later false h found = rw h (ap (λ l. x ∷ l) (later found))
 
 pub several-entered : (es : List (Spot × Option Member)) (q : Spot) (m : Member) (o : Option Member) → kept_at es q ≡ Some o
-    → insert_entry same_spot (insert_entry same_spot es q (Some m)) q None ≡ entered es (record { spot = q; member = m })
-unfolding entered
+    → insert_entry same_spot (insert_entry same_spot es q (Some m)) q None ≡ added_entry es (record { spot = q; member = m })
+unfolding added_entry
 several-entered es q m o e = rw e (put-again q (Some m) None es o e)
 
-pub first-entered : (es : List (Spot × Option Member)) (q : Spot) (m : Member) → kept_at es q ≡ None → insert_entry same_spot es q (Some m) ≡ entered es (record { spot = q; member = m })
-unfolding entered
+pub first-entered : (es : List (Spot × Option Member)) (q : Spot) (m : Member) → kept_at es q ≡ None → insert_entry same_spot es q (Some m) ≡ added_entry es (record { spot = q; member = m })
+unfolding added_entry
 first-entered es q m e = rw e refl

@@ -12,7 +12,7 @@ use Rattle.jc_base.specs.declared.ty.Kind.{Kind}
 use Rattle.jc_base.specs.declared.ty.Kind.TheVariants.{Ref, Byte, Short, Int}
 use Rattle.jc_base.specs.Cell.{width}
 use Rattle.jc_members.specs.declared.own_field.OwnField.{OwnField}
-use Rattle.jc_members.specs.Fields.{cells_taken, cells_before}
+use Rattle.jc_members.specs.Fields.{cells_in_all, cells_before}
 use Rattle.jc_members.proofs.Rooms.{taken_before, counted}
 
 -- the types of the cells of a field of a kind, by the type of the first
@@ -41,7 +41,7 @@ kind_cells Byte ty = refl
 kind_cells Short ty = refl
 kind_cells Int ty = refl
 
-taken : (fs : List OwnField) → length (flat_map cells_of_own fs) ≡ cells_taken fs
+taken : (fs : List OwnField) → length (flat_map cells_of_own fs) ≡ cells_in_all fs
 taken [] = refl
 taken (f ∷ fs) =
     length-append (cells_of_own f) (flat_map cells_of_own fs)
@@ -52,7 +52,7 @@ one_more : (w n a : ℕ) → cond (nat_lt n (a + 1)) w 0 ≡ cond (nat_lt n a) w
 one_more w n a = grind (arith, nat_tests)
 
 -- before the next token stand the cells of the fields with this one too
-before_next : (own : List OwnField) (a : ℕ) → cells_before own (a + 1) ≡ cells_before own a + cells_taken (with own a)
+before_next : (own : List OwnField) (a : ℕ) → cells_before own (a + 1) ≡ cells_before own a + cells_in_all (with own a)
 before_next [] a = refl
 before_next (f ∷ own) a =
     let next = taken_before f own (a + 1) in
@@ -76,7 +76,7 @@ none_before (f ∷ own) =
 pub cells_many : (own : List OwnField) (n a : ℕ) → cells_before own a + length (cells_over own a n) ≡ cells_before own (a + n)
 cells_many own zero a = let e : a ≡ a + 0 = omega arith in rw (← e) (omega arith)
 cells_many own (suc n) a =
-    let split : length (cells_over own a (suc n)) ≡ cells_taken (with own a) + length (cells_over own (a + 1) n) =
+    let split : length (cells_over own a (suc n)) ≡ cells_in_all (with own a) + length (cells_over own (a + 1) n) =
     ap length (flat_map-append cells_of_own (with own a) (flat_map (with own) (range_with_len (a + 1) n)))
     ∙ length-append (flat_map cells_of_own (with own a)) (cells_over own (a + 1) n)
     ∙ ap (λ k. k + length (cells_over own (a + 1) n)) (taken (with own a)) in

@@ -19,9 +19,9 @@ abbrev pub class_caught : List PackageRecord → ℕ → PoolReference → Optio
 class_caught ps k (ClassEntry reference) = class_referred ps k reference
 class_caught ps k other = None
 
-abbrev pub caught_by : List PackageRecord → ℕ → Option Entry → Option ℕ
-caught_by ps k None = None
-caught_by ps k (Some e) = class_caught ps k (referred e)
+abbrev pub class_caught_by : List PackageRecord → ℕ → Option Entry → Option ℕ
+class_caught_by ps k None = None
+class_caught_by ps k (Some e) = class_caught ps k (referred e)
 
 -- a class below throwable
 abbrev pub thrown_by : ClassTable → Option ℕ → Bool
@@ -29,8 +29,8 @@ thrown_by t None = false
 thrown_by t (Some c) = not (is_interface t c) && is_below t (Class c) (Class (throwable t))
 
 -- whether a handler of a package catches all, or a class below throwable
-unfoldable pub catches : List PackageRecord → ClassTable → ℕ → List Entry → ℕ → Bool
-catches ps t k pool index = index == 0 || thrown_by t (caught_by ps k (slice_get pool index))
+unfoldable pub catches_throwable : List PackageRecord → ClassTable → ℕ → List Entry → ℕ → Bool
+catches_throwable ps t k pool index = index == 0 || thrown_by t (class_caught_by ps k (slice_get pool index))
 
 -- a handler with its number, and the number and the pool of its package
 pub record HandlerPlace : Type 0 where
@@ -51,7 +51,7 @@ abbrev pub handler_places : List PackageRecord → List HandlerPlace
 handler_places = handlers_after 0
 
 unfoldable pub catch_fault : List PackageRecord → ClassTable → HandlerPlace → Option LinkFault
-catch_fault ps t at = if catches ps t at.home at.pool at.handler.index then None else Some (BadCatch at.home at.number)
+catch_fault ps t at = if catches_throwable ps t at.home at.pool at.handler.index then None else Some (BadCatch at.home at.number)
 
 abbrev pub bad_catches : List PackageRecord → ClassTable → List LinkFault
 bad_catches ps t = at_fault (catch_fault ps t) (handler_places ps)

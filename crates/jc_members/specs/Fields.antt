@@ -15,19 +15,19 @@ use Rattle.jc_resolve.specs.declared.named.NamedClass.{NamedClass}
 use Rattle.jc_resolve.specs.NamedClasses.{describes, token_of}
 use Rattle.jc_resolve.specs.WorldTypes.{type_of, kind_of}
 use Rattle.jc_members.specs.declared.own_field.OwnField.{OwnField}
-use Rattle.jc_members.specs.Sites.{Site}
+use Rattle.jc_members.specs.Sites.{MemberSite}
 
 -- ---- the fields of a class
 
 -- an instance field, by its description in the package k; `object` is the number of class object
-abbrev pub field_with : List PackageRecord → ℕ → ℕ → described.Field → TypeItem → OwnField
+abbrev pub field_with : List PackageRecord → ℕ → ℕ → described.FieldDescriptor → TypeItem → OwnField
 field_with ps object k f ty = record { token = token_of f; kind = kind_of ty; ty = type_of ps object k ty }
 
-unfoldable pub own_field : List PackageRecord → ℕ → ℕ → Description → described.Field → Option OwnField
+unfoldable pub own_field : List PackageRecord → ℕ → ℕ → Description → described.FieldDescriptor → Option OwnField
 own_field ps object k d f = if is_static f.flags then None else option_map (field_with ps object k f) (field_type d f.ty)
 
 -- those that a record of the Descriptor has of the class at an offset
-abbrev pub fields_in : List PackageRecord → ℕ → ℕ → Description → ℕ → described.Class → List OwnField
+abbrev pub fields_in : List PackageRecord → ℕ → ℕ → Description → ℕ → described.ClassDescriptor → List OwnField
 fields_in ps object k d offset c = if describes offset c then filter_map (own_field ps object k d) c.fields else []
 
 -- the fields of a class of its own; an interface has none
@@ -35,37 +35,37 @@ unfoldable pub own_fields : List PackageRecord → ℕ → ℕ → PackageRecord
 own_fields ps object k p c = if is_interface c.flags then []
     else flat_map (fields_in ps object k p.description c.offset) p.description.items.classes
 
-abbrev pub cells_taken : List OwnField → ℕ
-cells_taken = sum_by (λ (f : OwnField). width f.kind)
+abbrev pub cells_in_all : List OwnField → ℕ
+cells_in_all = sum_by (λ (f : OwnField). width f.kind)
 
 -- the cells of the fields of lesser tokens
 abbrev pub cells_before : List OwnField → ℕ → ℕ
-cells_before fields token = cells_taken (filter (λ (f : OwnField). nat_lt f.token token) fields)
+cells_before fields token = cells_in_all (filter (λ (f : OwnField). nat_lt f.token token) fields)
 
 -- ---- the fields of all classes
 
 -- a field of the class c, whose superclass has so many cells: its first cell lies after those of
 -- the superclass and of the fields of lesser tokens
-abbrev pub field_site : ℕ → ℕ → List OwnField → OwnField → Site
+abbrev pub field_site : ℕ → ℕ → List OwnField → OwnField → MemberSite
 field_site above c fields f = record {
   spot = record { owner = c; number = f.token };
   member = Field c (above + cells_before fields f.token) f.kind f.ty;
 }
 
-abbrev pub class_sites : ClassTable → ℕ → List OwnField → List Site
+abbrev pub class_sites : ClassTable → ℕ → List OwnField → List MemberSite
 class_sites t c fields = map (field_site (cells_above t (parent_of t c)) c fields) fields
 
 -- the fields of classes of a package, whose numbers begin with c
-abbrev pub sites_of_classes : List PackageRecord → ClassTable → ℕ → PackageRecord → ℕ → List Class → List Site
+abbrev pub sites_of_classes : List PackageRecord → ClassTable → ℕ → PackageRecord → ℕ → List Class → List MemberSite
 sites_of_classes ps t k p c [] = []
 sites_of_classes ps t k p c (r ∷ rs) = class_sites t c (own_fields ps (object t) k p r) ++ sites_of_classes ps t k p (c + 1) rs
 
 -- those of packages from a number on
-abbrev pub sites_after : List PackageRecord → ClassTable → ℕ → ℕ → List PackageRecord → List Site
+abbrev pub sites_after : List PackageRecord → ClassTable → ℕ → ℕ → List PackageRecord → List MemberSite
 sites_after ps t c k [] = []
 sites_after ps t c k (p ∷ others) = sites_of_classes ps t k p c p.classes ++ sites_after ps t (c + length p.classes) (k + 1) others
 
-abbrev pub field_sites : List PackageRecord → ClassTable → List Site
+abbrev pub field_sites : List PackageRecord → ClassTable → List MemberSite
 field_sites ps t = sites_after ps t 0 0 ps
 
 -- ---- an instance of each class has room for its fields

@@ -17,7 +17,7 @@ use Rattle.jc_resolve.specs.declared.place.RecordPlace.{RecordPlace}
 use Rattle.jc_resolve.specs.Numbering.{method_at}
 use Rattle.jc_resolve.specs.References.{class_referred}
 use Rattle.jc_members.specs.declared.sites.Spot.{Spot}
-use Rattle.jc_members.specs.Sites.{Site, only, is_there, standing, kept_at}
+use Rattle.jc_members.specs.Sites.{MemberSite, only, is_there, members_standing, kept_at}
 use Rattle.jc_members.specs.Fields.{field_sites}
 use Rattle.jc_members.specs.Entries.{field_place, method_place}
 
@@ -59,15 +59,15 @@ super_member ps t k reference token = option_and_then (super_of t token) (proper
 
 -- ---- static fields
 
-abbrev pub static_site : StaticRec → Site
+abbrev pub static_site : StaticRec → MemberSite
 static_site f = record { spot = record { owner = f.package; number = f.offset }; member = Static f.slot f.kind f.ty }
 
-abbrev pub static_sites : List StaticRec → List Site
+abbrev pub static_sites : List StaticRec → List MemberSite
 static_sites = map static_site
 
 -- a StaticFieldref names the static field at a place
 unfoldable pub static_at : List StaticRec → RecordPlace → Option Member
-static_at statics place = only (standing (static_sites statics) (record { owner = place.package; number = place.offset }))
+static_at statics place = only (members_standing (static_sites statics) (record { owner = place.package; number = place.offset }))
 
 unfoldable pub static_member : List PackageRecord → List StaticRec → ℕ → StaticReference → Option Member
 static_member ps statics k reference = option_and_then (static_at statics) (field_place ps k reference)
@@ -84,8 +84,8 @@ abbrev pub token_of_class : ℕ → ℕ → Spot
 token_of_class c token = record { owner = c; number = token }
 
 -- the nearest class, among a class and its superclasses, that has an instance field with a token
-unfoldable pub holder_of : List Site → ClassTable → ℕ → ℕ → Option ℕ
-holder_of sites t token c = find (λ h. is_there (standing sites (token_of_class h token))) (chain t c)
+unfoldable pub holder_of : List MemberSite → ClassTable → ℕ → ℕ → Option ℕ
+holder_of sites t token c = find (λ h. is_there (members_standing sites (token_of_class h token))) (chain t c)
 
 -- a field of a superclass as one of the class
 abbrev pub as_of : ℕ → Member → Member
@@ -93,9 +93,9 @@ as_of c (Field holder cell kind ty) = Field c cell kind ty
 as_of c m = m
 
 -- the field that a class has with a token
-unfoldable pub field_of : List Site → ClassTable → ℕ → ℕ → Option Member
+unfoldable pub field_of : List MemberSite → ClassTable → ℕ → ℕ → Option Member
 field_of sites t token c = option_map (as_of c)
-    (option_and_then (λ h. only (standing sites (token_of_class h token))) (holder_of sites t token c))
+    (option_and_then (λ h. only (members_standing sites (token_of_class h token))) (holder_of sites t token c))
 
 -- the same by a table of the fields
 abbrev pub kept_holder : List (Spot × Option Member) → ClassTable → ℕ → ℕ → Option ℕ

@@ -23,20 +23,20 @@ use Rattle.jc_resolve.specs.References.{met_by, Refers}
 use Rattle.jc_members.specs.Entries.{place_in, exported_field, exported_method}
 use Rattle.jc_members.specs.Fields.{field_sites}
 use Rattle.jc_members.specs.Members.{static_sites, holder_of, token_of_class, as_of}
-use Rattle.jc_members.specs.Sites.{standing}
+use Rattle.jc_members.specs.Sites.{members_standing}
 
 -- where the static field or the method without dispatch stands to which a reference of the package k leads: in
 -- the package itself at an offset, or in the package that meets an import where this one exports it
-pub data StandsAt (ps : List PackageRecord) (exported : ℕ → ℕ → ℕ → Option ℕ) (k : ℕ) (r : StaticReference) (place : RecordPlace)
+pub data RefersTo (ps : List PackageRecord) (exported : ℕ → ℕ → ℕ → Option ℕ) (k : ℕ) (r : StaticReference) (place : RecordPlace)
     : Type 0 where
-  internal : (offset : ℕ) → r ≡ Internal offset → place ≡ place_in k offset → StandsAt ps exported k r place
+  internal : (offset : ℕ) → r ≡ Internal offset → place ≡ place_in k offset → RefersTo ps exported k r place
   imported :
       (import class token j offset : ℕ)
       → r ≡ External import class token
       → met_by ps k import ≡ Some j
       → exported j class token ≡ Some offset
       → place ≡ place_in j offset
-      → StandsAt ps exported k r place
+      → RefersTo ps exported k r place
 
 -- the reference is to a class that is no interface
 pub record NamesClass (ps : List PackageRecord) (t : ClassTable) (k : ℕ) (reference : ClassReference) (c : ℕ) : Type 0 where
@@ -58,7 +58,7 @@ pub data NamesMember (ps : List PackageRecord) (t : ClassTable) (statics : List 
       → referred e ≡ InstanceField r token
       → NamesClass ps t k r c
       → holder_of (field_sites ps t) t token c ≡ Some h
-      → standing (field_sites ps t) (token_of_class h token) ≡ f ∷ []
+      → members_standing (field_sites ps t) (token_of_class h token) ≡ f ∷ []
       → m ≡ as_of c f
       → NamesMember ps t statics k e m
   -- a VirtualMethodref: a token of the class's dispatch lists
@@ -83,14 +83,14 @@ pub data NamesMember (ps : List PackageRecord) (t : ClassTable) (statics : List 
   static_fieldref :
       (r : StaticReference) (place : RecordPlace)
       → referred e ≡ StaticField r
-      → StandsAt ps (exported_field ps) k r place
-      → standing (static_sites statics) (record { owner = place.package; number = place.offset }) ≡ m ∷ []
+      → RefersTo ps (exported_field ps) k r place
+      → members_standing (static_sites statics) (record { owner = place.package; number = place.offset }) ≡ m ∷ []
       → NamesMember ps t statics k e m
   -- a StaticMethodref: the method at a place
   static_methodref :
       (r : StaticReference) (place : RecordPlace) (n : ℕ)
       → referred e ≡ StaticMethod r
-      → StandsAt ps (exported_method ps) k r place
+      → RefersTo ps (exported_method ps) k r place
       → method_at ps place ≡ Some n
       → m ≡ StaticCall n
       → NamesMember ps t statics k e m
@@ -101,7 +101,7 @@ pub record NamesOnly (ps : List PackageRecord) (t : ClassTable) (statics : List 
   pub only : (other : Member) → NamesMember ps t statics k e other → other ≡ m
 
 -- the entry of a number in the pool of the package k
-pub record IsEntry (ps : List PackageRecord) (k n : ℕ) (e : Entry) : Type 0 where
+pub record IsPoolEntry (ps : List PackageRecord) (k n : ℕ) (e : Entry) : Type 0 where
   pub home : PackageRecord
   pub there : slice_get ps k ≡ Some home
   pub entry : slice_get home.pool n ≡ Some e
@@ -110,21 +110,21 @@ pub record IsEntry (ps : List PackageRecord) (k n : ℕ) (e : Entry) : Type 0 wh
 abbrev pub AreNamed : List PackageRecord → ClassTable → List StaticRec → List (List Member) → Type 0
 AreNamed ps t statics pools =
     (k n : ℕ) (e : Entry)
-    → IsEntry ps k n e
+    → IsPoolEntry ps k n e
     → (m : Member) × (slice_get (list_at pools k) n ≡ Some m) × NamesOnly ps t statics k e m
 
 -- there is an entry of the number, which names no member
 pub record NamesNone (ps : List PackageRecord) (t : ClassTable) (statics : List StaticRec) (k n : ℕ) : Type 0 where
   pub of : Entry
-  pub at : IsEntry ps k n of
+  pub at : IsPoolEntry ps k n of
   pub none : (m : Member) → ¬ (NamesMember ps t statics k of m)
 
-abbrev pub IsMissing : List PackageRecord → ClassTable → List StaticRec → LinkFault → Type 0
-IsMissing ps t statics (NoMember k n) = NamesNone ps t statics k n
-IsMissing ps t statics other = ⊥
+abbrev pub LacksMember : List PackageRecord → ClassTable → List StaticRec → LinkFault → Type 0
+LacksMember ps t statics (NoMember k n) = NamesNone ps t statics k n
+LacksMember ps t statics other = ⊥
 
 -- each entry names one member, which the pools have; or the entry that is told names none
 abbrev pub NamesEach : List PackageRecord → ClassTable → List StaticRec → Result (List (List Member)) LinkEnd → Type 0
 NamesEach ps t statics (Ok pools) = AreNamed ps t statics pools
-NamesEach ps t statics (Err (Fault fault)) = IsMissing ps t statics fault
+NamesEach ps t statics (Err (Fault fault)) = LacksMember ps t statics fault
 NamesEach ps t statics (Err Memory) = Unit {0}

@@ -16,7 +16,7 @@ is_there [] = false
 is_there (x ∷ xs) = true
 
 -- a member with the spot where it is described
-pub record Site : Type 0 where
+pub record MemberSite : Type 0 where
   pub spot : Spot
   pub member : Member
 
@@ -24,17 +24,17 @@ abbrev pub same_spot : Spot → Spot → Bool
 same_spot a b = a.owner == b.owner && a.number == b.number
 
 -- the members at a spot
-abbrev pub standing : List Site → Spot → List Member
-standing [] spot = []
-standing (s ∷ sites) spot = if same_spot spot s.spot then s.member ∷ standing sites spot else standing sites spot
+abbrev pub members_standing : List MemberSite → Spot → List Member
+members_standing [] spot = []
+members_standing (s ∷ sites) spot = if same_spot spot s.spot then s.member ∷ members_standing sites spot else members_standing sites spot
 
 -- ---- the same as a table keeps it: at each spot the one member, or that there are several
 
 abbrev pub kept_at : List (Spot × Option Member) → Spot → Option (Option Member)
 kept_at entries spot = lookup (same_spot spot) entries
 
-unfoldable pub entered : List (Spot × Option Member) → Site → List (Spot × Option Member)
-entered entries s = insert_entry same_spot entries s.spot (if is_some (kept_at entries s.spot) then None else Some s.member)
+unfoldable pub added_entry : List (Spot × Option Member) → MemberSite → List (Spot × Option Member)
+added_entry entries s = insert_entry same_spot entries s.spot (if is_some (kept_at entries s.spot) then None else Some s.member)
 
-abbrev pub all_entered : List (Spot × Option Member) → List Site → List (Spot × Option Member)
-all_entered = fold entered
+abbrev pub all_entered : List (Spot × Option Member) → List MemberSite → List (Spot × Option Member)
+all_entered = fold added_entry

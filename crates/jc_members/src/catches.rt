@@ -5,7 +5,7 @@ ghost use Rattle.jc_base.specs.Class.{IsClass, throwable};
 ghost use Rattle.jc_resolve.specs.Numbering.{numbered_classes};
 ghost use Rattle.jc_resolve.specs.Fault.{link_place};
 ghost use Rattle.first_fault.specs.Least.{least_from, least_of, refused};
-ghost use Rattle.jc_members.specs.Catches.{class_caught, caught_by, thrown_by, catches, handlers_from, handler_places, catch_fault};
+ghost use Rattle.jc_members.specs.Catches.{class_caught, class_caught_by, thrown_by, catches_throwable, handlers_from, handler_places, catch_fault};
 
 use cap_method::{HandlerInfo, Handlers};
 use cap_pool::{Pool, PoolReference};
@@ -38,14 +38,14 @@ fn class_caught(names: &Names<'_, '_, '_>, package: u16, reference: PoolReferenc
 
 /// The class or interface that an entry names, if it is a Classref.
 fn caught_by(names: &Names<'_, '_, '_>, package: u16, pool: &Pool<'_>, index: u16) -> Option<u16>
-    ensures is { result ≡ caught_by names.now.packages «package» (slice_get (entries pool.now) index) }
+    ensures is { result ≡ class_caught_by names.now.packages «package» (slice_get (entries pool.now) index) }
     ensures below { IfSome result (λ c. c < length (numbered_classes names.now.packages)) }
 {
     class_caught(names, package, pool.at(index)?.reference())
 }
 
 /// Whether a handler of a package catches all, or a class below throwable.
-#[tactic(auto, unfolding(crate::specs::Catches::catches))]
+#[tactic(auto, unfolding(crate::specs::Catches::catches_throwable))]
 fn catches(
     names: &Names<'_, '_, '_>,
     classes: &Classes,
@@ -55,7 +55,7 @@ fn catches(
 ) -> bool
     requires count { length classes.now.records ≡ length (numbered_classes names.now.packages) }
     requires throwable { IsClass classes.now (throwable classes.now) }
-    ensures { result ≡ catches names.now.packages classes.now «package» (entries pool.now) index }
+    ensures { result ≡ catches_throwable names.now.packages classes.now «package» (entries pool.now) index }
 {
     if index == 0 {
         return true;

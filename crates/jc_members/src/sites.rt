@@ -1,6 +1,6 @@
 ghost use Rattle.std.specs.Prelude.{◌≡◌, [], OnOk, IfOk, map, is_some, slice_get};
 ghost use Rattle.std.specs.Option.{option_flatten};
-ghost use Rattle.jc_members.specs.Sites.{kept_at, entered, all_entered};
+ghost use Rattle.jc_members.specs.Sites.{kept_at, added_entry, all_entered};
 ghost use Rattle.jc_members.specs.Members.{static_site, static_sites};
 
 use indexmap::IndexMap;
@@ -71,7 +71,7 @@ impl Sites {
 
     /// Keeps one more member.
     pub(crate) fn enter(&mut self, spot: Spot, member: Member) -> Result<(), AllocError>
-        ensures { OnOk result (self.new ≡ entered self.old (record { spot = spot; member = member })) }
+        ensures { OnOk result (self.new ≡ added_entry self.old (record { spot = spot; member = member })) }
     {
         if let Some(_before) = self.map.insert(spot, Some(member))? {
             // There are several.

@@ -16,7 +16,7 @@ use Rattle.jc_ops.specs.declared.operation.Operation.{Operation}
 use Rattle.jc_ops.specs.declared.operation.Operation.TheVariants as ops
 use Rattle.jc_ops.specs.declared.row.Row.{Row}
 use Rattle.jc_ops.specs.declared.row.Row.TheVariants as rows
-use Rattle.jc_ops.specs.Row.{table, row_at, unused, by_sort, by_width, by_kind, first_four, by_register, literals, binary, orders_all, branching}
+use Rattle.jc_ops.specs.Row.{table, row_at, unused, by_sort, by_width, by_kind, first_four, by_register, literals, binaries, orders_all, branching}
 use Rattle.jc_ops.specs.Resolve.{byte_of, short_of, on, static_field, instance_field, callee, class_type, tested_type, result_returned, new_object, resolved}
 use Rattle.jc_ops.specs.Next.{falls_from, jumps_from, OperationsGoAlike}
 
@@ -31,11 +31,11 @@ row_jumps (rows.Plain op) = jumps_from op
 row_jumps _ = false
 
 table-falls : map row_falls table ≡ map falls (range_with_len 0 256)
-unfolding row_falls table by_sort by_width by_kind first_four by_register literals binary orders_all branching unused
+unfolding row_falls table by_sort by_width by_kind first_four by_register literals binaries orders_all branching unused
 table-falls = refl
 
 table-jumps : map row_jumps table ≡ map jumps (range_with_len 0 256)
-unfolding row_jumps table by_sort by_width by_kind first_four by_register literals binary orders_all branching unused layout_of opcode
+unfolding row_jumps table by_sort by_width by_kind first_four by_register literals binaries orders_all branching unused layout_of opcode
 table-jumps = refl
 
 -- an element of two lists that are mapped alike

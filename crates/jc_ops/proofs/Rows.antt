@@ -3,10 +3,10 @@ use Rattle.std.proofs.Common.{◌≡◌, ℕ, ◌<◌, refl, sym, ◌∙◌, ap,
 use Rattle.std.proofs.lemmas.List.{get_or_default}
 use Rattle.jc_ops.specs.declared.row.TheConstants.{ROWS}
 use Rattle.jc_ops.specs.declared.row.Row.{Row}
-use Rattle.jc_ops.specs.Row.{table, row_at, unused, by_sort, by_width, by_kind, first_four, by_register, literals, binary, orders_all, branching}
+use Rattle.jc_ops.specs.Row.{table, row_at, unused, by_sort, by_width, by_kind, first_four, by_register, literals, binaries, orders_all, branching}
 
 pub ROWS-table : ROWS ≡ table
-unfolding table by_sort by_width by_kind first_four by_register literals binary orders_all branching unused
+unfolding table by_sort by_width by_kind first_four by_register literals binaries orders_all branching unused
 ROWS-table = refl
 
 pub length-table : length table ≡ 256

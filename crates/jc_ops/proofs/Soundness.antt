@@ -33,7 +33,7 @@ use Rattle.jc_ops.specs.declared.row.Invocation.{Invocation}
 use Rattle.jc_ops.specs.declared.row.Invocation.TheVariants as invocations
 use Rattle.jc_ops.specs.declared.row.Row.{Row}
 use Rattle.jc_ops.specs.declared.row.Row.TheVariants as rows
-use Rattle.jc_ops.specs.Row.{table, row_at, unused, by_sort, by_width, by_kind, first_four, by_register, literals, binary, orders_all, branching}
+use Rattle.jc_ops.specs.Row.{table, row_at, unused, by_sort, by_width, by_kind, first_four, by_register, literals, binaries, orders_all, branching}
 use Rattle.jc_ops.specs.Resolve.{byte_of, short_of, taken_if, on, same_kind, static_field, instance_field, callee_if, entry_callee, virtual_callee, own_receiver, special_callee, static_callee, is_described, passes, described, only, described_callee, interface_callee, callee, class_type, array_of, tested_type, returns, returned, result_type, result_returned, new_object, resolved, Resolves}
 use Rattle.jc_ops.specs.Sound.{IsKnownWant, IsStaticOf, IsFieldOf, IsReceiverOf, IsCalleeOf, IsNamedType, IsResult, IsSound, OperationsAreSound}
 use Rattle.jc_ops.proofs.Members.{argument_room, entry-inherits, super-inherits, static-known, cells-declared}
@@ -67,7 +67,7 @@ all_fine [] = true
 all_fine (r ∷ rs) = is_fine r && all_fine rs
 
 table-fine : all_fine table ≡ true
-unfolding all_fine is_fine needs_nothing table by_sort by_width by_kind first_four by_register literals binary orders_all branching unused
+unfolding all_fine is_fine needs_nothing table by_sort by_width by_kind first_four by_register literals binaries orders_all branching unused
 table-fine = refl
 
 fine-at : (rs : List Row) (n : ℕ) → all_fine rs ≡ true → is_fine (slice_index_or rs n unused) ≡ true

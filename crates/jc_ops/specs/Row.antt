@@ -54,9 +54,9 @@ literals op =
     map (λ n. rows.Plain (op n)) (negsuc 0 ∷ pos 0 ∷ pos 1 ∷ pos 2 ∷ pos 3 ∷ pos 4 ∷ pos 5 ∷ [])
 
 -- each operator on shorts and on ints
-unfoldable pub binary : List Operator → List Row
-binary [] = []
-binary (o ∷ os) = by_width (λ w. rows.Plain (ops.Arithmetic (arithmetic.Binary o w))) ++ binary os
+unfoldable pub binaries : List Operator → List Row
+binaries [] = []
+binaries (o ∷ os) = by_width (λ w. rows.Plain (ops.Arithmetic (arithmetic.Binary o w))) ++ binaries os
 
 unfoldable pub orders_all : List Order
 orders_all = orders.Equal ∷ orders.NotEqual ∷ orders.Less ∷ orders.GreaterOrEqual ∷ orders.Greater ∷ orders.LessOrEqual ∷ []
@@ -88,9 +88,9 @@ table =
     ++ by_kind (λ k. rows.Plain (ops.ArrayWrite k))
     ++ map (λ m. rows.Plain (ops.Move m)) (moves.Pop ∷ moves.PopTwo ∷ moves.Duplicate ∷ moves.DuplicateTwo ∷ [])
     ++ rows.CopyUnder ∷ rows.Exchange ∷ []
-    ++ binary (operators.Add ∷ operators.Subtract ∷ operators.Multiply ∷ operators.Divide ∷ operators.Remainder ∷ [])
+    ++ binaries (operators.Add ∷ operators.Subtract ∷ operators.Multiply ∷ operators.Divide ∷ operators.Remainder ∷ [])
     ++ by_width (λ w. rows.Plain (ops.Arithmetic (arithmetic.Negate w)))
-    ++ binary
+    ++ binaries
     (operators.ShiftLeft ∷ operators.ShiftRight ∷ operators.ShiftRightUnsigned
     ∷ operators.And ∷ operators.Or ∷ operators.ExclusiveOr ∷ [])
     ++ by_width rows.Increment

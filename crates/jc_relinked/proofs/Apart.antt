@@ -2,7 +2,7 @@
 use Rattle.std.proofs.Common.{◌≡◌, ◌+◌, ℕ, List, [], ◌∷◌, ◌++◌, length, map, Bool, true, false, Option, slice_index, refl, sym, ap, ◌∙◌, arith}
 use Rattle.std.specs.Prelude.{if◌then◌else◌, unwrap_or}
 use Rattle.std.proofs.lemmas.List.{map-append, append-nil, append_assoc}
-use Rattle.cap_desc.specs.DescriptorFormat.{Method}
+use Rattle.cap_desc.specs.DescriptorFormat.{MethodDescriptor}
 use Rattle.cap_package.specs.Agreement.{or_none}
 use Rattle.cap_package.specs.HeaderChecks.{header_in, is_static}
 use Rattle.cap_package.specs.PackageRecord.{PackageRecord, names_interface}
@@ -53,7 +53,7 @@ named_split ps q roles =
 -- ---- one method
 
 -- what a method is apart from code, by what tells it
-abbrev told : ℕ → ℕ → ℕ → Method → ℕ → Sig → Bool → MethodRec
+abbrev told : ℕ → ℕ → ℕ → MethodDescriptor → ℕ → Sig → Bool → MethodRec
 told k i j m class sig abstract = record {
   «package» = k;
   class = class;
@@ -96,7 +96,7 @@ module _ (parts new_parts : List Lent) (ps : List PackageRecord) (p q : PackageR
       ≡ signature_of was object k p.description t.old.type_offset
   unfolding signature_of
   signature_stays object k t i =
-      let offset : t.new.type_offset ≡ t.old.type_offset = ap (λ (m : Method). m.type_offset) i.bare in
+      let offset : t.new.type_offset ≡ t.old.type_offset = ap (λ (m : MethodDescriptor). m.type_offset) i.bare in
       ap (λ o. signature_in was object k (or_none o)) (same_types_named (names_interface p.classes) p.description q.description
       t.new.type_offset r.description)
       ∙ ap (signature_of was object k p.description) offset

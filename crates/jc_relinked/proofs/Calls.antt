@@ -4,7 +4,7 @@ use Rattle.std.specs.Prelude.{if◌then◌else◌, nat_lt, ◌==◌}
 use Rattle.std.proofs.lemmas.Bool.{false≢true, and_parts, eqb-true}
 use Rattle.byteorder.specs.Endian.{big_bytes}
 use Rattle.byteorder.specs.Numbers.{big_number-reads_back}
-use Rattle.cap_desc.specs.DescriptorFormat.{Class, Method}
+use Rattle.cap_desc.specs.DescriptorFormat.{ClassDescriptor, MethodDescriptor}
 use Rattle.cap_desc.specs.Members.{methods_but}
 use Rattle.cap_pool.specs.PoolFormat.{Entry}
 use Rattle.cap_pool.specs.declared.pool_reference.PoolReference.{PoolReference}
@@ -43,12 +43,12 @@ use Rattle.jc_relinked.proofs.Apart.{own_methods, after_split}
 
 -- ---- packages of methods
 
-homes_class : (k : ℕ) (p : PackageRecord) (i : ℕ) (c : Class) (j : ℕ) (ms : List Method)
+homes_class : (k : ℕ) (p : PackageRecord) (i : ℕ) (c : ClassDescriptor) (j : ℕ) (ms : List MethodDescriptor)
     → Each (λ (m : NumberedMethod). m.home ≡ k) (methods_of_class k p i c j ms)
 homes_class k p i c j [] = tt
 homes_class k p i c j (m ∷ ms) = (refl, homes_class k p i c (j + 1) ms)
 
-pub homes_classes : (k : ℕ) (p : PackageRecord) (i : ℕ) (cs : List Class)
+pub homes_classes : (k : ℕ) (p : PackageRecord) (i : ℕ) (cs : List ClassDescriptor)
     → Each (λ (m : NumberedMethod). m.home ≡ k) (methods_of_classes k p i cs)
 homes_classes k p i [] = tt
 homes_classes k p i (c ∷ cs) = Each-append (λ (m : NumberedMethod). m.home ≡ k) (methods_of_class k p i c 0 c.methods)
@@ -95,7 +95,7 @@ has_end : {X : Type 0} (xs ys : List X) (x : X) → Has ys x → Has (xs ++ ys) 
 has_end [] ys x h = h
 has_end (y ∷ xs) ys x h = inr (has_end xs ys x h)
 
-record_has : (k : ℕ) (p : PackageRecord) (i : ℕ) (c : Class) (j : ℕ) (ms : List Method) (m : NumberedMethod)
+record_has : (k : ℕ) (p : PackageRecord) (i : ℕ) (c : ClassDescriptor) (j : ℕ) (ms : List MethodDescriptor) (m : NumberedMethod)
     → Has (methods_of_class k p i c j ms) m → Has ms m.record_of × (m.placed ≡ is_placed p c)
 record_has k p i c j [] m h = absurd h
 record_has k p i c j (x ∷ ms) m (inl s) = (
@@ -105,7 +105,7 @@ record_has k p i c j (x ∷ ms) m (inl s) = (
 )
 record_has k p i c j (x ∷ ms) m (inr h) = let t = record_has k p i c (j + 1) ms m h in (inr t.0, t.1)
 
-described_has : (k : ℕ) (p : PackageRecord) (i : ℕ) (cs : List Class) (m : NumberedMethod) → Has (methods_of_classes k p i cs) m
+described_has : (k : ℕ) (p : PackageRecord) (i : ℕ) (cs : List ClassDescriptor) (m : NumberedMethod) → Has (methods_of_classes k p i cs) m
     → m.placed ≡ true → Has (methods_but (names_interface p.classes) cs) m.record_of
 described_has k p i [] m h e = absurd h
 described_has k p i (c ∷ cs) m h e =
@@ -155,7 +155,7 @@ changes_at ps p q laid o n r e =
     by m s (inr h) =
         let d = described_has (length ps) p 0 p.description.items.classes m h s.placed in
         let c = has_source old_of (changes p laid q) m.record_of (subst (λ ms. Has ms m.record_of) (sym (olds p q laid r)) d) in
-        record { change = c.0; has = c.1; at = ap (λ (x : Method). x.method_offset) (sym c.2) ∙ s.offset }
+        record { change = c.0; has = c.1; at = ap (λ (x : MethodDescriptor). x.method_offset) (sym c.2) ∙ s.offset }
 
 -- ---- an entry with a renewed offset
 

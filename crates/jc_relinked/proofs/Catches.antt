@@ -2,7 +2,7 @@
 use Rattle.std.proofs.Common.{◌≡◌, ◌≤◌, ◌<◌, ◌+◌, ◌-◌, ◌*◌, ℕ, zero, suc, List, [], ◌∷◌, length, drop, map, filter_map, Bool, true, false, Option, Some, None, option_map, ◌||◌, ◌&&◌, ◌⊎◌, inl, inr, slice_get, refl, sym, ap, subst, ◌∙◌, arith}
 use Rattle.std.specs.Prelude.{if◌then◌else◌, All, nat_lt, slice_index, ◌==◌}
 use Rattle.std.proofs.lemmas.Option.{slice_get-map, slice_get_within}
-use Rattle.cap_desc.specs.DescriptorFormat.{Method}
+use Rattle.cap_desc.specs.DescriptorFormat.{MethodDescriptor}
 use Rattle.cap_method.specs.declared.handler.HandlerInfo.{HandlerInfo}
 use Rattle.cap_pool.specs.PoolFormat.{Entry}
 use Rattle.cap_pool.specs.declared.pool_reference.PoolReference.{PoolReference}
@@ -20,7 +20,7 @@ use Rattle.jc_base.specs.Class.{ClassTable}
 use Rattle.jc_base.proofs.Eaching.{Each-from_All}
 use Rattle.jc_decode.specs.declared.symbols.Handler.{Handler as Laying}
 use Rattle.jc_decode.specs.declared.symbols.Laid.{Laid}
-use Rattle.jc_members.specs.Catches.{class_caught, caught_by, thrown_by, catches, HandlerPlace, handlers_from, handlers_after, catch_fault, bad_catches}
+use Rattle.jc_members.specs.Catches.{class_caught, class_caught_by, thrown_by, catches_throwable, HandlerPlace, handlers_from, handlers_after, catch_fault, bad_catches}
 use Rattle.jc_resolve.specs.declared.fault.LinkFault.TheVariants.{BadCatch}
 use Rattle.jc_resolve.specs.NamedMethods.{handler_named}
 use Rattle.cap_rewritten.specs.Changes.{Change, changes, now_at}
@@ -50,32 +50,32 @@ module _ (ps : List PackageRecord) (p q : PackageRecord) (laid : List (Option La
     caught_same k (ClassEntry c) = class_same ps p q laid r k c
     caught_same k other = refl
 
-    by_same : (k : ℕ) (o : Option Entry) → caught_by now k o ≡ caught_by old k o
+    by_same : (k : ℕ) (o : Option Entry) → class_caught_by now k o ≡ class_caught_by old k o
     by_same k None = refl
     by_same k (Some e) = caught_same k (referred e)
 
-    catches_same : (k : ℕ) (pool : List Entry) (index : ℕ) → catches now t k pool index ≡ catches old t k pool index
-    unfolding catches
+    catches_same : (k : ℕ) (pool : List Entry) (index : ℕ) → catches_throwable now t k pool index ≡ catches_throwable old t k pool index
+    unfolding catches_throwable
     catches_same k pool index = ap (λ c. index == 0 || thrown_by t c) (by_same k (slice_get pool index))
 
-    by_renewed : (k : ℕ) (to : ℕ → ℕ) (o : Option Entry) → caught_by old k (option_map (renewed_entry to) o) ≡ caught_by old k o
+    by_renewed : (k : ℕ) (to : ℕ → ℕ) (o : Option Entry) → class_caught_by old k (option_map (renewed_entry to) o) ≡ class_caught_by old k o
     by_renewed k to None = refl
     by_renewed k to (Some e) = asked-same (class_caught old k) None (λ o. refl) to e
 
-    catches_renewed : (k index : ℕ) → catches now t k q.pool index ≡ catches old t k p.pool index
-    unfolding catches
+    catches_renewed : (k index : ℕ) → catches_throwable now t k q.pool index ≡ catches_throwable old t k p.pool index
+    unfolding catches_throwable
     catches_renewed k index =
         let to = now_at (changes p laid q) in
         ap (λ c. index == 0 || thrown_by t c)
         (by_same k (slice_get q.pool index)
-        ∙ ap (λ es. caught_by old k (slice_get es index)) r.pool
-        ∙ ap (caught_by old k) (slice_get-map (renewed_entry to) p.pool index)
+        ∙ ap (λ es. class_caught_by old k (slice_get es index)) r.pool
+        ∙ ap (class_caught_by old k) (slice_get-map (renewed_entry to) p.pool index)
         ∙ by_renewed k to (slice_get p.pool index))
 
     -- ---- the handlers of a package
 
     abbrev Catches : List PackageRecord → ℕ → List Entry → HandlerInfo → Type 0
-    Catches xs k pool h = catches xs t k pool h.index ≡ true
+    Catches xs k pool h = catches_throwable xs t k pool h.index ≡ true
 
     fault_not : (b : Bool) (k n : ℕ) → (if b then None else Some (BadCatch k n)) ≡ None → b ≡ true
     fault_not true k n e = refl
@@ -89,7 +89,7 @@ module _ (ps : List PackageRecord) (p q : PackageRecord) (laid : List (Option La
         by : (n : ℕ) (hs : List HandlerInfo) → Each (λ (x : HandlerPlace). catch_fault xs t x ≡ None) (handlers_from k pool n hs)
             → Each (Catches xs k pool) hs
         by n [] h = tt
-        by n (x ∷ hs) h = (fault_not (catches xs t k pool x.index) k n h.0, by (n + 1) hs h.1)
+        by n (x ∷ hs) h = (fault_not (catches_throwable xs t k pool x.index) k n h.0, by (n + 1) hs h.1)
 
     no_fault : (xs : List PackageRecord) (k : ℕ) (pool : List Entry) (n : ℕ) (hs : List HandlerInfo) → Each (Catches xs k pool) hs
         → filter_map (catch_fault xs t) (handlers_from k pool n hs) ≡ []
@@ -110,16 +110,16 @@ module _ (ps : List PackageRecord) (p q : PackageRecord) (laid : List (Option La
 
     -- each handler of the code that is laid catches all, or a class below throwable
     abbrev pub LaidCatch : Change → Type 0
-    LaidCatch c = (l : Laid) → c.source.laid ≡ Some l → Each (λ (h : Laying). catches old t (length ps) p.pool h.pool ≡ true)
+    LaidCatch c = (l : Laid) → c.source.laid ≡ Some l → Each (λ (h : Laying). catches_throwable old t (length ps) p.pool h.pool ≡ true)
         l.handlers
 
     entry_catches : (start : ℕ) (hs : List Laying) (j : ℕ) (e : HandlerInfo)
-        → Each (λ (h : Laying). catches old t (length ps) p.pool h.pool ≡ true) hs → slice_get (entries_at start hs) j ≡ Some e
-        → catches old t (length ps) p.pool e.index ≡ true
+        → Each (λ (h : Laying). catches_throwable old t (length ps) p.pool h.pool ≡ true) hs → slice_get (entries_at start hs) j ≡ Some e
+        → catches_throwable old t (length ps) p.pool e.index ≡ true
     entry_catches start [] j e h g = absurd cc
     entry_catches start (x ∷ hs) zero e h g =
         let s : x.pool ≡ e.index = ap (λ o. index_or x.pool o) g in
-        ap (catches old t (length ps) p.pool) (sym s) ∙ h.0
+        ap (catches_throwable old t (length ps) p.pool) (sym s) ∙ h.0
       where
         index_or : ℕ → Option HandlerInfo → ℕ
         index_or d None = d
@@ -134,11 +134,11 @@ module _ (ps : List PackageRecord) (p q : PackageRecord) (laid : List (Option La
 
     owner_catches : (c : Change) (n : ℕ) (h : HandlerInfo) (o : Option Laid) → IsAs p q c.source.method o c.now
         → c.now.handler_index ≡ (if c.now.handler_count == 0 then 0 else below handlers_in block (changes p laid q) (block c))
-        → ((l : Laid) → o ≡ Some l → Each (λ (x : Laying). catches old t (length ps) p.pool x.pool ≡ true) l.handlers)
+        → ((l : Laid) → o ≡ Some l → Each (λ (x : Laying). catches_throwable old t (length ps) p.pool x.pool ≡ true) l.handlers)
         → slice_get q.methods.handlers n ≡ Some h
         → below handlers_in block (changes p laid q) (block c) ≤ n
         → n < below handlers_in block (changes p laid q) (block c) + c.now.handler_count
-        → catches old t (length ps) p.pool h.index ≡ true
+        → catches_throwable old t (length ps) p.pool h.index ≡ true
     owner_catches c n h None is i l g low high = let z = is.no_handlers in absurd (omega (arith, z, low, high))
     owner_catches c n h (Some laid_code) is i l g low high =
         let m = c.now in
@@ -209,39 +209,39 @@ module _ (ps : List PackageRecord) (p q : PackageRecord) (laid : List (Option La
         own_catches (k + 1) xs (omega (arith, e)) both.1
 
     named_catch : (throwable code_at : ℕ) (hs : List HandlerInfo) → Each (Catches old (length ps) p.pool) hs
-        → Each (λ (h : Handler). catches old t (length ps) p.pool h.index ≡ true)
+        → Each (λ (h : Handler). catches_throwable old t (length ps) p.pool h.index ≡ true)
         (map (handler_named old throwable (length ps) p.pool code_at) hs)
     unfolding handler_named
     named_catch throwable code_at [] h = tt
     named_catch throwable code_at (x ∷ hs) h = (h.0, named_catch throwable code_at hs h.1)
 
-    catches_all : (pool : List Entry) (index : ℕ) → index ≡ 0 → catches old t (length ps) pool index ≡ true
-    unfolding catches
-    catches_all pool index e = ap (λ n. n == 0 || thrown_by t (caught_by old (length ps) (slice_get pool n))) e
+    catches_all : (pool : List Entry) (index : ℕ) → index ≡ 0 → catches_throwable old t (length ps) pool index ≡ true
+    unfolding catches_throwable
+    catches_all pool index e = ap (λ n. n == 0 || thrown_by t (class_caught_by old (length ps) (slice_get pool n))) e
 
     -- what is laid where the handlers of the method catch so
-    pub laid_catches : (throwable code_at : ℕ) (m : Method) (hs : List Handler) (l : Laid) → bad_catches old t ≡ []
+    pub laid_catches : (throwable code_at : ℕ) (m : MethodDescriptor) (hs : List Handler) (l : Laid) → bad_catches old t ≡ []
         → hs ≡ map (handler_named old throwable (length ps) p.pool code_at) (handlers_of p m)
-        → All (λ h. (h.pool ≡ 0) ⊎ HasPoolOf hs h) l.handlers → Each (λ (h : Laying). catches old t (length ps) p.pool h.pool ≡ true)
+        → All (λ h. (h.pool ≡ 0) ⊎ HasPoolOf hs h) l.handlers → Each (λ (h : Laying). catches_throwable old t (length ps) p.pool h.pool ≡ true)
         l.handlers
     laid_catches throwable code_at m hs l none is all =
         let own = own_catches 0 ps (omega arith) none in
         let of_method = each_take (Catches old (length ps) p.pool) m.handler_count (drop m.handler_index p.methods.handlers)
         (each_drop (Catches old (length ps) p.pool) m.handler_index p.methods.handlers own) in
-        let each = subst (Each (λ (h : Handler). catches old t (length ps) p.pool h.index ≡ true)) (sym is)
+        let each = subst (Each (λ (h : Handler). catches_throwable old t (length ps) p.pool h.index ≡ true)) (sym is)
         (named_catch throwable code_at (handlers_of p m) of_method) in
         by l.handlers (Each-from_All (λ h. (h.pool ≡ 0) ⊎ HasPoolOf hs h) l.handlers all) each
       where
-        one : (x : Laying) → Each (λ (h : Handler). catches old t (length ps) p.pool h.index ≡ true) hs
-            → (x.pool ≡ 0) ⊎ HasPoolOf hs x → catches old t (length ps) p.pool x.pool ≡ true
+        one : (x : Laying) → Each (λ (h : Handler). catches_throwable old t (length ps) p.pool h.index ≡ true) hs
+            → (x.pool ≡ 0) ⊎ HasPoolOf hs x → catches_throwable old t (length ps) p.pool x.pool ≡ true
         one x each (inl e) = catches_all p.pool x.pool e
         one x each (inr a) =
             let there = at-contains hs a.1 (a.0, a.2, a.3) in
-            ap (catches old t (length ps) p.pool) (sym a.4)
-            ∙ each-at (λ (h : Handler). catches old t (length ps) p.pool h.index ≡ true) hs a.0 a.1 each there
+            ap (catches_throwable old t (length ps) p.pool) (sym a.4)
+            ∙ each-at (λ (h : Handler). catches_throwable old t (length ps) p.pool h.index ≡ true) hs a.0 a.1 each there
 
         by : (xs : List Laying) → Each (λ (h : Laying). (h.pool ≡ 0) ⊎ HasPoolOf hs h) xs
-            → Each (λ (h : Handler). catches old t (length ps) p.pool h.index ≡ true) hs
-            → Each (λ (h : Laying). catches old t (length ps) p.pool h.pool ≡ true) xs
+            → Each (λ (h : Handler). catches_throwable old t (length ps) p.pool h.index ≡ true) hs
+            → Each (λ (h : Laying). catches_throwable old t (length ps) p.pool h.pool ≡ true) xs
         by [] h each = tt
         by (x ∷ xs) h each = (one x each h.0, by xs h.1 each)

@@ -2,7 +2,7 @@
 use Rattle.std.proofs.Common.{◌≡◌, ◌<◌, ◌+◌, ℕ, List, Bool, true, false, not, Option, Some, None, ◌&&◌, slice_index, refl, sym, ap, subst, ◌∙◌, arith}
 use Rattle.std.specs.Prelude.{◌==◌}
 use Rattle.std.proofs.lemmas.Bool.{false≢true}
-use Rattle.cap_desc.specs.DescriptorFormat.{Method, Class}
+use Rattle.cap_desc.specs.DescriptorFormat.{MethodDescriptor, ClassDescriptor}
 use Rattle.cap_desc.specs.Members.{methods_but}
 use Rattle.cap_method.specs.MethodFormat.{Header}
 use Rattle.cap_package.specs.HeaderChecks.{header_in, is_abstract, abstract_fault, abstract_by}
@@ -92,7 +92,7 @@ placed_by true c e = absurd (false≢true e)
 placed_by false c e = refl
 
 -- a method that has a header is one of a class
-pub of_class : (ps : List PackageRecord) (k : ℕ) (p : PackageRecord) (c : Class) → have_headers ps k p c ≡ true
+pub of_class : (ps : List PackageRecord) (k : ℕ) (p : PackageRecord) (c : ClassDescriptor) → have_headers ps k p c ≡ true
     → names_interface p.classes c.class_ref ≡ false
 unfolding have_headers
 of_class ps k p c e = placed_by (names_interface p.classes c.class_ref) (is_class ps (class_named ps k c.class_ref)) e
@@ -106,14 +106,14 @@ twin_headers ps k p q laid t r i =
 
 -- ---- a method that code is laid for
 
-not_abstract : (m : Method) (h : Header) → 0 < m.bytecode_count → abstract_by m (Some h) ≡ None → is_abstract h ≡ false
+not_abstract : (m : MethodDescriptor) (h : Header) → 0 < m.bytecode_count → abstract_by m (Some h) ≡ None → is_abstract h ≡ false
 not_abstract m h some e = by (is_abstract h) (few_by (is_abstract h && not (m.bytecode_count == 0)) _ e)
   where
     by : (b : Bool) → b && not (m.bytecode_count == 0) ≡ false → b ≡ false
     by true f = let z : (m.bytecode_count == 0) ≡ false = grind arith in absurd (false≢true (sym f ∙ ap not z))
     by false f = refl
 
-concrete_in : (info : List ℕ) (m : Method) (h : Header) → header_in info m.method_offset ≡ Some h → 0 < m.bytecode_count
+concrete_in : (info : List ℕ) (m : MethodDescriptor) (h : Header) → header_in info m.method_offset ≡ Some h → 0 < m.bytecode_count
     → abstract_fault info m ≡ None → is_abstract h ≡ false
 unfolding abstract_fault
 concrete_in info m h there some e = not_abstract m h some (ap (abstract_by m) (sym there) ∙ e)
@@ -168,7 +168,7 @@ abbrev pub abstract_of : Option Header → Bool
 abstract_of None = true
 abstract_of (Some h) = is_abstract h
 
-abstract_body : (ps : List PackageRecord) (throwable k : ℕ) (x : PackageRecord) (m : Method) (sig : Sig) (o : Option Header)
+abstract_body : (ps : List PackageRecord) (throwable k : ℕ) (x : PackageRecord) (m : MethodDescriptor) (sig : Sig) (o : Option Header)
     → (body_by ps throwable k x m sig o).is_abstract ≡ abstract_of o
 abstract_body ps throwable k x m sig None = refl
 abstract_body ps throwable k x m sig (Some h) = refl
@@ -196,7 +196,7 @@ abstract_stays ps roles k p q laid t told i may =
     same_header : (o : Option Header) (g h : Header) → o ≡ Some g → o ≡ Some h → is_abstract g ≡ false → is_abstract h ≡ false
     same_header o g h a b e = let s : g ≡ h = cc in ap is_abstract (sym s) ∙ e
 
-pub abstract_bodies : (ps qs : List PackageRecord) (throwable k : ℕ) (x y : PackageRecord) (m n : Method) (sig sig' : Sig)
+pub abstract_bodies : (ps qs : List PackageRecord) (throwable k : ℕ) (x y : PackageRecord) (m n : MethodDescriptor) (sig sig' : Sig)
     → abstract_of (header_in y.methods.info n.method_offset) ≡ abstract_of (header_in x.methods.info m.method_offset)
     → (body_by qs throwable k y n sig' (header_in y.methods.info n.method_offset)).is_abstract
     ≡ (body_by ps throwable k x m sig (header_in x.methods.info m.method_offset)).is_abstract

@@ -70,16 +70,16 @@ module _ (ps : List PackageRecord) (p q : PackageRecord) (laid : List (Option La
 
   -- ---- instance fields
 
-  field_by : (n k : ℕ) (f : described.Field) (o : Option TypeItem) → option_map (field_with now n k f) o
+  field_by : (n k : ℕ) (f : described.FieldDescriptor) (o : Option TypeItem) → option_map (field_with now n k f) o
       ≡ option_map (field_with old n k f) o
   field_by n k f None = refl
   field_by n k f (Some t) = ap (λ u. Some (record { token = token_of f; kind = kind_of t; ty = u })) (type_same ps p q laid n k t r)
 
-  field_same : (n k : ℕ) (d : Description) (f : described.Field) → own_field now n k d f ≡ own_field old n k d f
+  field_same : (n k : ℕ) (d : Description) (f : described.FieldDescriptor) → own_field now n k d f ≡ own_field old n k d f
   unfolding own_field
   field_same n k d f = ap (λ o. if is_static f.flags then None else o) (field_by n k f (field_type d f.ty))
 
-  fields_same : (n k : ℕ) (d : Description) (offset : ℕ) (c : described.Class)
+  fields_same : (n k : ℕ) (d : Description) (offset : ℕ) (c : described.ClassDescriptor)
       → fields_in now n k d offset c ≡ fields_in old n k d offset c
   fields_same n k d offset c = ap (λ fs. if describes offset c then fs else [])
       (faults_same (own_field now n k d) (own_field old n k d) c.fields (field_same n k d))
@@ -91,12 +91,12 @@ module _ (ps : List PackageRecord) (p q : PackageRecord) (laid : List (Option La
       (flat_same (fields_in now n k x.description c.offset) (fields_in old n k x.description c.offset) x.description.items.classes
       (fields_same n k x.description c.offset))
 
-  field_stays : (n k : ℕ) (f : described.Field) → own_field old n k q.description f ≡ own_field old n k p.description f
+  field_stays : (n k : ℕ) (f : described.FieldDescriptor) → own_field old n k q.description f ≡ own_field old n k p.description f
   unfolding own_field
   field_stays n k f = ap (λ o. if is_static f.flags then None else option_map (field_with old n k f) o)
       (same_field (names_interface p.classes) p.description q.description f.ty r.description)
 
-  fields_stay : (n k offset : ℕ) (c : described.Class) → fields_in old n k q.description offset c
+  fields_stay : (n k offset : ℕ) (c : described.ClassDescriptor) → fields_in old n k q.description offset c
       ≡ fields_in old n k p.description offset c
   fields_stay n k offset c = ap (λ fs. if describes offset c then fs else [])
       (faults_same (own_field old n k q.description) (own_field old n k p.description) c.fields (field_stays n k))

@@ -11,8 +11,8 @@ use Rattle.jc_base.specs.Dispatch.{has_body, has_body_in, all_have_bodies, is_co
 use Rattle.jc_resolve.specs.declared.fault.LinkFault.TheVariants.{Hole, OverrideType, InterfaceType, RoleAbstract}
 use Rattle.jc_resolve.specs.declared.named.NamedClass.{NamedClass}
 use Rattle.jc_hierarchy.specs.Outline.{LineTable}
-use Rattle.jc_classes.specs.Conditions.{class_numbers, Entry, entries_in, may_stand, hole_fault, Replacement, replacements_in, override_fault, Implementation, implementations_in, serves, serves_all, interface_fault, conditions}
-use Rattle.jc_classes.specs.Signatures.{method_in, signature_in, same_signature}
+use Rattle.jc_classes.specs.Conditions.{class_numbers, DispatchEntry, entries_in, may_stand, hole_fault, Replacement, replacements_in, override_fault, Implementation, implementations_in, serves, serves_all, interface_fault, conditions}
+use Rattle.jc_classes.specs.Signatures.{entry_method, entry_signature, same_signature}
 use Rattle.jc_members.specs.Roles.{role_fault, thrown_roles, abstract_roles}
 use Rattle.cap_rewritten.proofs.Lists.{faults_same}
 use Rattle.xf_landed.specs.Apart.{apart_from_code}
@@ -30,7 +30,7 @@ tests_map f g (x ∷ xs) = ap (λ b. f (g x) && b) (tests_map f g xs)
 
 -- ---- an entry of a dispatch list
 
-method_bare : (ms : List MethodRec) (entry : Option ℕ) → method_in (bare ms) entry ≡ option_map apart_from_code (method_in ms entry)
+method_bare : (ms : List MethodRec) (entry : Option ℕ) → entry_method (bare ms) entry ≡ option_map apart_from_code (entry_method ms entry)
 method_bare ms None = refl
 method_bare ms (Some n) = slice_get-map apart_from_code ms n
 
@@ -39,30 +39,30 @@ signature_of : (o : Option MethodRec) → option_map (λ (m : MethodRec). m.sig)
 signature_of None = refl
 signature_of (Some m) = refl
 
-signature_bare : (ms : List MethodRec) (entry : Option ℕ) → signature_in (bare ms) entry ≡ signature_in ms entry
-signature_bare ms entry = ap (option_map (λ (m : MethodRec). m.sig)) (method_bare ms entry) ∙ signature_of (method_in ms entry)
+signature_bare : (ms : List MethodRec) (entry : Option ℕ) → entry_signature (bare ms) entry ≡ entry_signature ms entry
+signature_bare ms entry = ap (option_map (λ (m : MethodRec). m.sig)) (method_bare ms entry) ∙ signature_of (entry_method ms entry)
 
 stands_bare : (t : LineTable) (c : ℕ) (o : Option MethodRec) → may_stand t c (option_map apart_from_code o) ≡ may_stand t c o
 stands_bare t c None = refl
 stands_bare t c (Some m) = refl
 
-hole_bare : (t : LineTable) (ms : List MethodRec) (e : Entry) → hole_fault t (bare ms) e ≡ hole_fault t ms e
+hole_bare : (t : LineTable) (ms : List MethodRec) (e : DispatchEntry) → hole_fault t (bare ms) e ≡ hole_fault t ms e
 unfolding hole_fault
 hole_bare t ms e = ap (λ b. if b then None else Some (Hole e.class e.token)) (ap (may_stand t e.class) (method_bare ms e.method)
-    ∙ stands_bare t e.class (method_in ms e.method))
+    ∙ stands_bare t e.class (entry_method ms e.method))
 
 override_bare : (ms : List MethodRec) (x : Replacement) → override_fault (bare ms) x ≡ override_fault ms x
 unfolding override_fault
 override_bare ms x =
     ap (λ b. if b then None else Some (OverrideType x.class x.token))
-    (ap (λ s. same_signature s (signature_in (bare ms) x.inherited)) (signature_bare ms x.method)
-    ∙ ap (same_signature (signature_in ms x.method)) (signature_bare ms x.inherited))
+    (ap (λ s. same_signature s (entry_signature (bare ms) x.inherited)) (signature_bare ms x.method)
+    ∙ ap (same_signature (entry_signature ms x.method)) (signature_bare ms x.inherited))
 
 -- ---- interfaces
 
 token_bare : (ms : List MethodRec) (public : List (Option ℕ)) (o : Option ℕ)
-    → option_and_then (λ token. signature_in (bare ms) (option_flatten (slice_get public token))) o
-    ≡ option_and_then (λ token. signature_in ms (option_flatten (slice_get public token))) o
+    → option_and_then (λ token. entry_signature (bare ms) (option_flatten (slice_get public token))) o
+    ≡ option_and_then (λ token. entry_signature ms (option_flatten (slice_get public token))) o
 token_bare ms public None = refl
 token_bare ms public (Some token) = signature_bare ms (option_flatten (slice_get public token))
 

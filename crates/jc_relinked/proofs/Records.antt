@@ -2,7 +2,7 @@
 use Rattle.std.proofs.Common.{◌≡◌, ◌+◌, ◌-◌, ℕ, List, [], ◌∷◌, ◌++◌, Bool, true, false, not, Option, Some, None, slice_get, slice_index, refl, ap, ◌∙◌}
 use Rattle.std.specs.Prelude.{if◌then◌else◌, unwrap_or, ◌==◌, ◌&&◌}
 use Rattle.cap_desc.specs.declared.type_item.TypeItem.{TypeItem}
-use Rattle.cap_desc.specs.DescriptorFormat.{Class, Method}
+use Rattle.cap_desc.specs.DescriptorFormat.{ClassDescriptor, MethodDescriptor}
 use Rattle.cap_method.specs.declared.handler.HandlerInfo.{HandlerInfo}
 use Rattle.cap_method.specs.MethodFormat.{Header}
 use Rattle.cap_package.specs.Descriptions.{Description}
@@ -15,10 +15,10 @@ use Rattle.cap_pool.specs.PoolReference.{referred}
 use Rattle.jc_base.specs.declared.record.Sig.{Sig}
 use Rattle.jc_base.specs.declared.ty.Ty.TheVariants.{IntHigh, IntLow}
 use Rattle.jc_decode.specs.declared.symbols.Laid.{Laid}
-use Rattle.jc_resolve.specs.Numbering.{NumberedMethod, numbered, is_placed}
+use Rattle.jc_resolve.specs.Numbering.{NumberedMethod, numbered_method, is_placed}
 use Rattle.jc_resolve.specs.References.{class_named}
 use Rattle.jc_resolve.specs.WorldTypes.{cells_of_type, arguments_before, result_after, signature_in, types_named, signature_of}
-use Rattle.jc_resolve.specs.NamedMethods.{class_or_none, class_in_entry, caught, offset_in_info, handler_named, no_body, body_after, body_by, body_of, class_described, is_class, have_headers, method_with, method_as, named_method}
+use Rattle.jc_resolve.specs.NamedMethods.{class_or_none, class_in_entry, caught_class, offset_in_info, handler_named, no_body, body_after, body_by, body_of, class_described, is_class, have_headers, method_with, method_as, named_method}
 use Rattle.cap_rewritten.specs.Changes.{changes, now_at}
 use Rattle.cap_rewritten.specs.Rewritten.{IsRewritten}
 use Rattle.cap_rewritten.proofs.FromWriting.{map_same}
@@ -71,7 +71,7 @@ module _ (ps : List PackageRecord) (p q : PackageRecord) (laid : List (Option La
   entry_same k (Some e) = reference_same k (referred e)
 
   pub caught_same : (throwable k : ℕ) (pool : List Entry) (index : ℕ)
-      → caught now throwable k pool index ≡ caught was throwable k pool index
+      → caught_class now throwable k pool index ≡ caught_class was throwable k pool index
   caught_same throwable k pool index = ap (λ c. if index == 0 then throwable else c) (entry_same k (slice_get pool index))
 
   handler_same : (throwable k : ℕ) (pool : List Entry) (code_at : ℕ) (h : HandlerInfo)
@@ -87,7 +87,7 @@ module _ (ps : List PackageRecord) (p q : PackageRecord) (laid : List (Option La
         class = c;
       }) (caught_same throwable k pool h.index)
 
-  body_same : (throwable k : ℕ) (x : PackageRecord) (m : Method) (sig : Sig) (o : Option Header)
+  body_same : (throwable k : ℕ) (x : PackageRecord) (m : MethodDescriptor) (sig : Sig) (o : Option Header)
       → body_by now throwable k x m sig o ≡ body_by was throwable k x m sig o
   body_same throwable k x m sig None = refl
   body_same throwable k x m sig (Some h) =
@@ -96,7 +96,7 @@ module _ (ps : List PackageRecord) (p q : PackageRecord) (laid : List (Option La
       (map_same (handler_named now throwable k x.pool code_at) (handler_named was throwable k x.pool code_at) (handlers_of x m)
       (handler_same throwable k x.pool code_at))
 
-  bodies_same : (throwable k : ℕ) (x : PackageRecord) (m : Method) (sig : Sig) (b : Bool)
+  bodies_same : (throwable k : ℕ) (x : PackageRecord) (m : MethodDescriptor) (sig : Sig) (b : Bool)
       → body_of now throwable k x m sig b ≡ body_of was throwable k x m sig b
   unfolding body_of
   bodies_same throwable k x m sig b = ap (λ o. if b then o else no_body m.flags sig)
@@ -104,7 +104,7 @@ module _ (ps : List PackageRecord) (p q : PackageRecord) (laid : List (Option La
 
   -- ---- classes
 
-  class_same : (k : ℕ) (c : Class) → class_described now k c ≡ class_described was k c
+  class_same : (k : ℕ) (c : ClassDescriptor) → class_described now k c ≡ class_described was k c
   unfolding class_described
   class_same k c = ap (λ o. unwrap_or o 0) (named_same ps p q laid k c.class_ref r)
 
@@ -112,7 +112,7 @@ module _ (ps : List PackageRecord) (p q : PackageRecord) (laid : List (Option La
   is_class_same None = refl
   is_class_same (Some c) = ap not (interface_number_same (now_at (changes p laid q)) ps p q c r.classes)
 
-  pub headers_same : (k : ℕ) (x : PackageRecord) (c : Class) → have_headers now k x c ≡ have_headers was k x c
+  pub headers_same : (k : ℕ) (x : PackageRecord) (c : ClassDescriptor) → have_headers now k x c ≡ have_headers was k x c
   unfolding have_headers
   headers_same k x c =
       ap (λ o. is_placed x c && is_class now o) (named_same ps p q laid k c.class_ref r)
@@ -136,12 +136,12 @@ module _ (ps : List PackageRecord) (p q : PackageRecord) (laid : List (Option La
 
 -- ---- the record of a method that has a header, and of one that has none
 
-pub with_header : (ps : List PackageRecord) (roles : List ℕ) (k : ℕ) (x : PackageRecord) (i : ℕ) (c : Class) (j : ℕ) (m : Method)
+pub with_header : (ps : List PackageRecord) (roles : List ℕ) (k : ℕ) (x : PackageRecord) (i : ℕ) (c : ClassDescriptor) (j : ℕ) (m : MethodDescriptor)
     (h : Header)
     → have_headers ps k x c ≡ true
     → header_in x.methods.info m.method_offset ≡ Some h
-    → named_method ps roles (numbered k x i c j m)
-    ≡ method_with (numbered k x i c j m) (class_described ps k c)
+    → named_method ps roles (numbered_method k x i c j m)
+    ≡ method_with (numbered_method k x i c j m) (class_described ps k c)
     (signature_of ps (slice_index roles 0) k x.description m.type_offset)
     (body_after ps (slice_index roles 1) k x m h (offset_in_info (m.method_offset + h.size)))
 unfolding named_method body_of
@@ -149,14 +149,14 @@ with_header ps roles k x i c j m h headers there =
     let throwable = slice_index roles 1 in
     let sig = signature_of ps (slice_index roles 0) k x.description m.type_offset in
     let class = class_described ps k c in
-    ap (λ b. method_with (numbered k x i c j m) class sig (if b then body_by ps throwable k x m sig
+    ap (λ b. method_with (numbered_method k x i c j m) class sig (if b then body_by ps throwable k x m sig
     (header_in x.methods.info m.method_offset) else no_body m.flags sig)) headers
-    ∙ ap (λ o. method_with (numbered k x i c j m) class sig (body_by ps throwable k x m sig o)) there
+    ∙ ap (λ o. method_with (numbered_method k x i c j m) class sig (body_by ps throwable k x m sig o)) there
 
-pub without_header : (ps : List PackageRecord) (roles : List ℕ) (k : ℕ) (x : PackageRecord) (i : ℕ) (c : Class) (j : ℕ) (m : Method)
+pub without_header : (ps : List PackageRecord) (roles : List ℕ) (k : ℕ) (x : PackageRecord) (i : ℕ) (c : ClassDescriptor) (j : ℕ) (m : MethodDescriptor)
     → have_headers ps k x c ≡ false
-    → named_method ps roles (numbered k x i c j m)
-    ≡ method_with (numbered k x i c j m) (class_described ps k c)
+    → named_method ps roles (numbered_method k x i c j m)
+    ≡ method_with (numbered_method k x i c j m) (class_described ps k c)
     (signature_of ps (slice_index roles 0) k x.description m.type_offset)
     (no_body m.flags (signature_of ps (slice_index roles 0) k x.description m.type_offset))
 unfolding named_method body_of
@@ -164,5 +164,5 @@ without_header ps roles k x i c j m headers =
     let throwable = slice_index roles 1 in
     let sig = signature_of ps (slice_index roles 0) k x.description m.type_offset in
     let class = class_described ps k c in
-    ap (λ b. method_with (numbered k x i c j m) class sig (if b then body_by ps throwable k x m sig
+    ap (λ b. method_with (numbered_method k x i c j m) class sig (if b then body_by ps throwable k x m sig
     (header_in x.methods.info m.method_offset) else no_body m.flags sig)) headers

@@ -5,18 +5,18 @@ use Rattle.std.proofs.lemmas.Bool.{false≢true, leb-true, eqb-true, eqb-false}
 use Rattle.std.proofs.lemmas.Option.{slice_get-map}
 use Rattle.cap_bytes.specs.Number.{number_at}
 use Rattle.cap_components.specs.MethodPlaces.{size_by, code_start, code_end}
-use Rattle.cap_desc.specs.DescriptorFormat.{Method}
+use Rattle.cap_desc.specs.DescriptorFormat.{MethodDescriptor}
 use Rattle.cap_method.specs.declared.handler.HandlerInfo.{HandlerInfo}
 use Rattle.cap_method.specs.MethodFormat.{Header}
 use Rattle.cap_pool.specs.PoolFormat.{Entry}
 use Rattle.cap_renewal.proofs.RenewedEntries.{asked-same}
-use Rattle.cap_package.specs.HandlerChecks.{claims, owners, is_within, has_home, entry_fault, numbered, numbered_fault}
+use Rattle.cap_package.specs.HandlerChecks.{claims, owners, is_within, has_home, handler_fault, numbered, numbered_fault}
 use Rattle.cap_package.specs.PackageRecord.{PackageRecord, names_interface, described_methods, handlers_of}
 use Rattle.cap_package.specs.Parts.{Lent}
 use Rattle.cap_package.specs.StandsFor.{StandsFor}
 use Rattle.cap_package.proofs.InfoLaws.{info-short}
 use Rattle.cap_package.proofs.StaticsKnown.{both_empty}
-use Rattle.cap_laying.specs.HandlerTable.{stops, entry_at, entries_at}
+use Rattle.cap_laying.specs.HandlerTable.{stops, handler_entry, entries_at}
 use Rattle.cap_laying.specs.HeaderBytes.{header_of}
 use Rattle.cap_laying.specs.Member.{numbers_of}
 use Rattle.cap_renewal.specs.PoolEdits.{renewed_entry}
@@ -32,7 +32,7 @@ use Rattle.jc_decode.specs.declared.symbols.Handler.{Handler as Laying}
 use Rattle.jc_decode.specs.declared.symbols.Laid.{Laid}
 use Rattle.jc_resolve.specs.Named.{infos_of}
 use Rattle.jc_resolve.specs.Numbering.{numbered_methods}
-use Rattle.jc_resolve.specs.NamedMethods.{class_or_none, class_in_entry, caught, offset_in_info, handler_named, have_headers, named_method}
+use Rattle.jc_resolve.specs.NamedMethods.{class_or_none, class_in_entry, caught_class, offset_in_info, handler_named, have_headers, named_method}
 use Rattle.jc_link.specs.World.{IsLinked}
 use Rattle.cap_rewritten.specs.Changes.{changes, now_at}
 use Rattle.cap_rewritten.specs.Written.{HasCode, IsAs}
@@ -98,16 +98,16 @@ numbered_get P n (y ∷ xs) (suc i) x h e =
     let z : n + 1 + i ≡ n + suc i = omega arith in
     subst (λ k. P (k, x)) z (numbered_get P (n + 1) xs i x h.1 e)
 
-one_home : (info : List ℕ) (h : HandlerInfo) (ms : List Method) (m : Method) → has_home info h ms ≡ true → Has ms m
+one_home : (info : List ℕ) (h : HandlerInfo) (ms : List MethodDescriptor) (m : MethodDescriptor) → has_home info h ms ≡ true → Has ms m
     → is_within info h m ≡ true
 one_home info h [] m e k = absurd k
 one_home info h (x ∷ []) m e (inl s) = ap (is_within info h) s ∙ e
 one_home info h (x ∷ []) m e (inr k) = absurd k
 one_home info h (x ∷ y ∷ ms) m e k = absurd (false≢true e)
 
-entry_within : (q : PackageRecord) (m : Method) (n : ℕ) (h : HandlerInfo) → entry_fault q.methods.info (described_methods q) n h ≡ None
+entry_within : (q : PackageRecord) (m : MethodDescriptor) (n : ℕ) (h : HandlerInfo) → handler_fault q.methods.info (described_methods q) n h ≡ None
     → Has (described_methods q) m → claims n m ≡ true → is_within q.methods.info h m ≡ true
-unfolding entry_fault owners
+unfolding handler_fault owners
 entry_within q m n h e k c =
     one_home q.methods.info h (owners n (described_methods q)) m (is_told (has_home q.methods.info h (owners n (described_methods q))) _ e)
     (has_filter (claims n) (described_methods q) m k c)
@@ -117,14 +117,14 @@ four_parts true true c d e = refl
 four_parts true false c d e = absurd (false≢true e)
 four_parts false b c d e = absurd (false≢true e)
 
-claimed : (m : Method) (j : ℕ) → j < m.handler_count → claims (m.handler_index + j) m ≡ true
+claimed : (m : MethodDescriptor) (j : ℕ) → j < m.handler_count → claims (m.handler_index + j) m ≡ true
 claimed m j lt =
     let a : nat_le m.handler_index (m.handler_index + j) ≡ true = grind arith in
     let b : nat_lt (m.handler_index + j) (m.handler_index + m.handler_count) ≡ true = grind arith in
     rw (a, b) refl
 
 -- the handlers of a described method end in the info
-pub handlers_end : (parts : List Lent) (q : PackageRecord) (m : Method) → Agrees parts q → Has (described_methods q) m
+pub handlers_end : (parts : List Lent) (q : PackageRecord) (m : MethodDescriptor) → Agrees parts q → Has (described_methods q) m
     → Each (λ (h : HandlerInfo). h.start + h.length ≤ code_end q.methods.info m) (handlers_of q m)
 handlers_end parts q m a has =
     let info = q.methods.info in
@@ -137,7 +137,7 @@ handlers_end parts q m a has =
     let fault = numbered_get (λ x. numbered_fault info (described_methods q) x ≡ None) 0 q.methods.handlers (m.handler_index + j) h each
     there in
     let z : 0 + (m.handler_index + j) ≡ m.handler_index + j = omega arith in
-    let within = entry_within q m (m.handler_index + j) h (subst (λ n. entry_fault info (described_methods q) n h ≡ None) z fault) has
+    let within = entry_within q m (m.handler_index + j) h (subst (λ n. handler_fault info (described_methods q) n h ≡ None) z fault) has
     (claimed m j less) in
     leb-true (h.start + h.length) (code_end info m) (four_parts (nat_le (code_start info m) h.start)
     (nat_le (h.start + h.length) (code_end info m)) (nat_le (code_start info m) h.entry) (nat_lt h.entry (code_end info m)) within))
@@ -146,7 +146,7 @@ handlers_end parts q m a has =
 
 class_by_named : (ps : List PackageRecord) (throwable k : ℕ) (pool : List Entry) (code_at : ℕ) (hs : List HandlerInfo) (n : ℕ)
     (c : Handler) (i : ℕ) → slice_get (map (handler_named ps throwable k pool code_at) hs) n ≡ Some c → c.index ≡ i
-    → class_by (map (handler_named ps throwable k pool code_at) hs) i ≡ caught ps throwable k pool i
+    → class_by (map (handler_named ps throwable k pool code_at) hs) i ≡ caught_class ps throwable k pool i
 unfolding handler_named
 class_by_named ps throwable k pool code_at [] n c i e s = absurd cc
 class_by_named ps throwable k pool code_at (h ∷ hs) n c i e s =
@@ -154,17 +154,17 @@ class_by_named ps throwable k pool code_at (h ∷ hs) n c i e s =
   where
     by : (b : Bool) → (h.index == i) ≡ b → (m : ℕ) → slice_get (map (handler_named ps throwable k pool code_at) (h ∷ hs)) m ≡ Some c
         → ((m : ℕ) → slice_get (map (handler_named ps throwable k pool code_at) hs) m ≡ Some c
-        → class_by (map (handler_named ps throwable k pool code_at) hs) i ≡ caught ps throwable k pool i)
-        → (if h.index == i then caught ps throwable k pool h.index else class_by
-        (map (handler_named ps throwable k pool code_at) hs) i) ≡ caught ps throwable k pool i
+        → class_by (map (handler_named ps throwable k pool code_at) hs) i ≡ caught_class ps throwable k pool i)
+        → (if h.index == i then caught_class ps throwable k pool h.index else class_by
+        (map (handler_named ps throwable k pool code_at) hs) i) ≡ caught_class ps throwable k pool i
     by true f m e more =
-        ap (λ b. if b then caught ps throwable k pool h.index else class_by (map (handler_named ps throwable k pool code_at) hs) i)
-        f ∙ ap (caught ps throwable k pool) (eqb-true h.index i f)
+        ap (λ b. if b then caught_class ps throwable k pool h.index else class_by (map (handler_named ps throwable k pool code_at) hs) i)
+        f ∙ ap (caught_class ps throwable k pool) (eqb-true h.index i f)
     by false f zero e more =
         let g : handler_named ps throwable k pool code_at h ≡ c = cc in
         absurd (eqb-false h.index i f (ap (λ (x : Handler). x.index) g ∙ s))
     by false f (suc m) e more =
-        ap (λ b. if b then caught ps throwable k pool h.index else class_by (map (handler_named ps throwable k pool code_at) hs) i)
+        ap (λ b. if b then caught_class ps throwable k pool h.index else class_by (map (handler_named ps throwable k pool code_at) hs) i)
         f ∙ more m e
 
 small : (n : ℕ) → n ≤ 65535 → min n 65535 ≡ n
@@ -189,11 +189,11 @@ module _ (parts new_parts : List Lent) (ps : List PackageRecord) (p q : PackageR
   entry_renewed k to None = refl
   entry_renewed k to (Some e) = asked-same (class_or_none old k) 0 (λ o. refl) to e
 
-  caught_stays : (throwable k index : ℕ) → caught now throwable k q.pool index ≡ caught old throwable k p.pool index
+  caught_stays : (throwable k index : ℕ) → caught_class now throwable k q.pool index ≡ caught_class old throwable k p.pool index
   caught_stays throwable k index =
       let to = now_at (changes p laid q) in
       caught_same ps p q laid r throwable k q.pool index
-      ∙ ap (λ es. caught old throwable k es index) r.pool
+      ∙ ap (λ es. caught_class old throwable k es index) r.pool
       ∙ ap (λ o. if index == 0 then throwable else class_in_entry old k o) (slice_get-map (renewed_entry to) p.pool index)
       ∙ ap (λ c. if index == 0 then throwable else c) (entry_renewed k to (slice_get p.pool index))
 
@@ -209,7 +209,7 @@ module _ (parts new_parts : List Lent) (ps : List PackageRecord) (p q : PackageR
       ap (λ y. y ∷ map (handler_named now throwable last q.pool start) (entries_at start xs)) (one (stops x xs))
       ∙ ap (λ ys. catching hs x ∷ ys) (laid_handlers throwable start hs es code_at xs is h.1 e.1)
     where
-      class_is : caught now throwable last q.pool x.pool ≡ class_by hs x.pool
+      class_is : caught_class now throwable last q.pool x.pool ≡ class_by hs x.pool
       class_is =
           let a = h.0 in
           let there = at-contains hs a.1 (a.0, a.2, a.3) in
@@ -222,7 +222,7 @@ module _ (parts new_parts : List Lent) (ps : List PackageRecord) (p q : PackageR
           × (start + c - start ≡ c)
       places start a b c le = let m = small (start + a + b) le in (omega arith, omega (arith, m), omega arith)
 
-      one : (stop : Bool) → handler_named now throwable last q.pool start (entry_at start stop x) ≡ catching hs x
+      one : (stop : Bool) → handler_named now throwable last q.pool start (handler_entry start stop x) ≡ catching hs x
       one stop =
           let at = places start x.start x.length x.entry e.0 in
           let first = at.0 in
@@ -232,7 +232,7 @@ module _ (parts new_parts : List Lent) (ps : List PackageRecord) (p q : PackageR
           rw (first, end, entry, class) refl
 
   -- the code begins after the header
-  begins : (m : Method) (h : Header) → h.size ≡ size_by (number_at 1 m.method_offset q.methods.info)
+  begins : (m : MethodDescriptor) (h : Header) → h.size ≡ size_by (number_at 1 m.method_offset q.methods.info)
       → code_end q.methods.info m ≤ length q.methods.info → offset_in_info (m.method_offset + h.size) ≡ code_start q.methods.info m
   unfolding code_end code_start
   begins m h size within =

@@ -1,7 +1,7 @@
 -- The static fields and the initial arrays are the same.
 use Rattle.std.proofs.Common.{◌≡◌, ◌+◌, ℕ, List, [], ◌∷◌, ◌++◌, length, map, filter_map, sum_by, Option, refl, ap, ◌∙◌}
 use Rattle.cap_desc.specs.declared.type_item.TypeItem.{TypeItem}
-use Rattle.cap_desc.specs.DescriptorFormat.{Field}
+use Rattle.cap_desc.specs.DescriptorFormat.{FieldDescriptor}
 use Rattle.cap_method.specs.StaticFormat.{Statics}
 use Rattle.cap_package.specs.Descriptions.{Description}
 use Rattle.cap_package.specs.PackageRecord.{PackageRecord, names_interface, fields, initial_arrays}
@@ -11,7 +11,7 @@ use Rattle.jc_base.specs.declared.ty.Ty.{Ty}
 use Rattle.jc_decode.specs.declared.symbols.Laid.{Laid}
 use Rattle.jc_resolve.specs.WorldTypes.{type_of}
 use Rattle.jc_statics.specs.Arrays.{array_record, array_records}
-use Rattle.jc_statics.specs.Statics.{Site, site, sites, sites_after, cells_at, static_cells, static_record, records_from, static_records}
+use Rattle.jc_statics.specs.Statics.{StaticSite, site, sites, sites_after, cells_at, static_cells, static_record, records_from, static_records}
 use Rattle.cap_rewritten.specs.Rewritten.{HasSameDescription, IsRewritten}
 use Rattle.cap_rewritten.proofs.Lists.{faults_same}
 use Rattle.cap_rewritten.proofs.Bare.{alike, same_field}
@@ -19,7 +19,7 @@ use Rattle.jc_rewritten.specs.Last.{and_last}
 use Rattle.jc_rewritten.proofs.Lists.{flat_last}
 use Rattle.jc_rewritten.proofs.Classes.{type_same}
 
-place_same : (set : _) (d e : Description) (f : Field) → HasSameDescription set d e → place_in e f ≡ place_in d f
+place_same : (set : _) (d e : Description) (f : FieldDescriptor) → HasSameDescription set d e → place_in e f ≡ place_in d f
 unfolding place_in
 place_same set d e f h = ap (place_by f) (same_field set d e f.ty h)
 
@@ -51,7 +51,7 @@ sites_same home first [] p q laid r =
 sites_same home first (x ∷ ps) p q laid r = ap (λ ss. map (site home first x.statics) (static_places x) ++ ss)
     (sites_same (home + 1) (first + length x.statics.arrays) ps p q laid r)
 
-records_same : (now old : ℕ → TypeItem → Ty) (slot : ℕ) (ss : List Site) → ((k : ℕ) (t : TypeItem) → now k t ≡ old k t)
+records_same : (now old : ℕ → TypeItem → Ty) (slot : ℕ) (ss : List StaticSite) → ((k : ℕ) (t : TypeItem) → now k t ≡ old k t)
     → records_from now slot ss ≡ records_from old slot ss
 records_same now old slot [] h = refl
 records_same now old slot (s ∷ ss) h =

@@ -12,7 +12,7 @@ use Rattle.cap_bytes.specs.declared.class_reference.ClassReference.{ClassReferen
 use Rattle.cap_bytes.specs.ClassReference.{reference_of}
 use Rattle.cap_class.specs.ClassFormat as format
 use Rattle.cap_class.specs.ClassFormat.{Class, Interface}
-use Rattle.cap_desc.specs.DescriptorFormat.{Field}
+use Rattle.cap_desc.specs.DescriptorFormat.{FieldDescriptor}
 use Rattle.cap_frame.specs.PackageFormat.{Package}
 use Rattle.cap_package.specs.Descriptions.{Description, field_type}
 use Rattle.cap_package.specs.PackageRecord.{PackageRecord}
@@ -21,7 +21,7 @@ use Rattle.jc_resolve.specs.declared.named.NamedClass.{NamedClass}
 use Rattle.jc_resolve.specs.declared.place.RecordPlace.{RecordPlace}
 use Rattle.jc_resolve.specs.Numbering.{NumberedClass, numbered_class, classes_of, classes_after, numbered_classes, numbered_methods, same_place, place_of_class, class_places, class_at, method_at}
 use Rattle.jc_resolve.specs.References.{meets, met_by, import_of, class_named, Refers, internal, imported}
-use Rattle.jc_resolve.specs.NamedClasses.{by_token, cells_by, cells_of_field, cells_of_fields, instance_fields, entry_of, table_of, interface_named, implemented_interfaces, parent_named, named_interface, named_proper, named_class, named_classes}
+use Rattle.jc_resolve.specs.NamedClasses.{by_token, cells_by, cells_of_field, cells_of_fields, instance_fields, dispatch_entry, dispatch_table, interface_named, implemented_interfaces, parent_named, named_interface, named_proper, named_class, named_classes}
 use Rattle.jc_resolve.specs.Named.{package_by, package_of, IsDeclared, AreEntries, IsSized, IsNamedClass}
 use Rattle.jc_resolve.proofs.NumberLaws.{same-equal, position_below, method_below}
 use Rattle.jc_resolve.proofs.ReferenceLaws.{named-refers}
@@ -128,14 +128,14 @@ module _ (ps : List PackageRecord) (object : ℕ) where
   abbrev IsEntry : Option ℕ → Type 0
   IsEntry entry = IfSome entry (λ n. n < length (numbered_methods ps))
 
-  entry_within : (k offset : ℕ) → IsEntry (entry_of ps k offset)
-  unfolding entry_of
+  entry_within : (k offset : ℕ) → IsEntry (dispatch_entry ps k offset)
+  unfolding dispatch_entry
   entry_within k offset =
       let place : RecordPlace = record { «package» = k; offset = offset } in
       either IsEntry (eqb offset 0xFFFF) None (method_at ps place) tt (method_below ps place (method_at ps place) refl)
 
-  table_within : (k base : ℕ) (offsets : List ℕ) → AreEntries (length (numbered_methods ps)) (table_of ps k base offsets)
-  table_within k base offsets = All-map IsEntry (entry_of ps k) offsets (λ i d lt. entry_within k (get_or offsets i d))
+  table_within : (k base : ℕ) (offsets : List ℕ) → AreEntries (length (numbered_methods ps)) (dispatch_table ps k base offsets)
+  table_within k base offsets = All-map IsEntry (dispatch_entry ps k) offsets (λ i d lt. entry_within k (get_or offsets i d))
 
   -- ---- cells
 
@@ -143,14 +143,14 @@ module _ (ps : List PackageRecord) (object : ℕ) where
   field_declared k None = All-nil (IsDeclared (named_classes ps object) object)
   field_declared k (Some t) = cells_declared ps object k t
 
-  fields_declared : (k : ℕ) (d : Description) (fields : List Field) → All (IsDeclared (named_classes ps object) object) (flat_map (cells_of_field ps object k d) fields)
+  fields_declared : (k : ℕ) (d : Description) (fields : List FieldDescriptor) → All (IsDeclared (named_classes ps object) object) (flat_map (cells_of_field ps object k d) fields)
   unfolding cells_of_field
   fields_declared k d [] = All-nil (IsDeclared (named_classes ps object) object)
   fields_declared k d (f ∷ fields) =
       All-append (IsDeclared (named_classes ps object) object) (cells_of_field ps object k d f) (flat_map (cells_of_field ps object k d) fields)
       (field_declared k (field_type d f.ty)) (fields_declared k d fields)
 
-  own_declared : (k : ℕ) (d : Description) (fields : List Field) → All (IsDeclared (named_classes ps object) object) (cells_of_fields ps object k d fields)
+  own_declared : (k : ℕ) (d : Description) (fields : List FieldDescriptor) → All (IsDeclared (named_classes ps object) object) (cells_of_fields ps object k d fields)
   unfolding cells_of_fields
   own_declared k d fields = fields_declared k d (by_token fields)
 

@@ -8,7 +8,7 @@ use Rattle.cap_desc.specs.declared.lists.DescClasses.{DescClasses}
 use Rattle.cap_desc.specs.declared.lists.DescFields.{DescFields}
 use Rattle.cap_desc.specs.ClassRecords.{described_left}
 use Rattle.cap_desc.specs.MemberLists.{fields_left}
-use Rattle.cap_desc.specs.DescriptorFormat.{Class, Field, field_descriptor_info, method_descriptor_info, class_descriptor_info}
+use Rattle.cap_desc.specs.DescriptorFormat.{ClassDescriptor, FieldDescriptor, field_descriptor_info, method_descriptor_info, class_descriptor_info}
 use Rattle.cap_desc.specs.Members.{fields_of}
 use Rattle.jc_resolve.proofs.Repeats.{TakesEach, goes_on, spelled_within, given_within}
 
@@ -36,32 +36,32 @@ byte_takes bytes at n after le h =
     let a = goes_on u1 bytes at n after le h in
     record { room = omega (arith, h.2); reach = a.reach }
 
-field_takes : TakesEach (λ (f : Field). 1) field_descriptor_info
+field_takes : TakesEach (λ (f : FieldDescriptor). 1) field_descriptor_info
 field_takes = first_takes 1 u1 _ byte_takes
 
 fields_then : (count methods token class_ref : ℕ) (interfaces : List ℕ)
-    → TakesEach (λ (c : Class). length c.fields) (repeat count field_descriptor_info >>= λ fs. repeat methods method_descriptor_info >>= λ ms. give (record { token = token; class_ref = class_ref; interfaces = interfaces; fields = fs; methods = ms }))
+    → TakesEach (λ (c : ClassDescriptor). length c.fields) (repeat count field_descriptor_info >>= λ fs. repeat methods method_descriptor_info >>= λ ms. give (record { token = token; class_ref = class_ref; interfaces = interfaces; fields = fs; methods = ms }))
 unfolding Spells
 fields_then count methods token class_ref interfaces bytes at c after le h =
-    let a = spelled_within (λ (f : Field). 1) field_descriptor_info field_takes count bytes at h.0 h.1 le h.2 in
+    let a = spelled_within (λ (f : FieldDescriptor). 1) field_descriptor_info field_takes count bytes at h.0 h.1 le h.2 in
     let b = goes_on (repeat methods method_descriptor_info) bytes h.1 h.3.0 h.3.1 a.reach h.3.2 in
-    let e : length c.fields ≡ length h.0 = ap (λ (d : Class). length d.fields) h.3.3.0 in
+    let e : length c.fields ≡ length h.0 = ap (λ (d : ClassDescriptor). length d.fields) h.3.3.0 in
     record { room = omega (arith, a.room, b.room, e, one_each h.0, h.3.3.1); reach = omega (arith, b.reach, h.3.3.1) }
 
-class_takes : TakesEach (λ (c : Class). length c.fields) class_descriptor_info
+class_takes : TakesEach (λ (c : ClassDescriptor). length c.fields) class_descriptor_info
 class_takes =
-    let f = λ (c : Class). length c.fields in
+    let f = λ (c : ClassDescriptor). length c.fields in
     later_takes f u1 _ (λ token. later_takes f u1 _ (λ flags. later_takes f u2 _ (λ class_ref. later_takes f u1 _ (λ interface_count.
     later_takes f u2 _ (λ field_count. later_takes f u2 _ (λ method_count. later_takes f (table interface_count) _ (λ interfaces.
     fields_then field_count method_count token class_ref interfaces)))))))
 
-all_fields : (cs : List Class) → length (fields_of cs) ≡ sum_by (λ (c : Class). length c.fields) cs
+all_fields : (cs : List ClassDescriptor) → length (fields_of cs) ≡ sum_by (λ (c : ClassDescriptor). length c.fields) cs
 all_fields [] = refl
-all_fields (c ∷ cs) = omega (arith, length-append c.fields (fields_of cs), sum_by-cons (λ (d : Class). length d.fields) c cs, all_fields cs)
+all_fields (c ∷ cs) = omega (arith, length-append c.fields (fields_of cs), sum_by-cons (λ (d : ClassDescriptor). length d.fields) c cs, all_fields cs)
 
 -- the fields of several classes, and those of one
 pub fields_of-few : (x : DescClasses) → length (fields_of (described_left x)) ≤ 65535
-fields_of-few x = omega (arith, all_fields (described_left x), given_within (λ (c : Class). length c.fields) class_descriptor_info class_takes x.left x.items, x.items.few)
+fields_of-few x = omega (arith, all_fields (described_left x), given_within (λ (c : ClassDescriptor). length c.fields) class_descriptor_info class_takes x.left x.items, x.items.few)
 
 pub fields_left-few : (x : DescFields) → length (fields_left x) ≤ 65535
-fields_left-few x = omega (arith, one_each (fields_left x), given_within (λ (f : Field). 1) field_descriptor_info field_takes x.left x.items, x.items.few)
+fields_left-few x = omega (arith, one_each (fields_left x), given_within (λ (f : FieldDescriptor). 1) field_descriptor_info field_takes x.left x.items, x.items.few)

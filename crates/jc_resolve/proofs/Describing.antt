@@ -8,18 +8,18 @@ use Rattle.std.proofs.lemmas.List.Sums.{sum_by-cons}
 use Rattle.first_fault.proofs.LeastFaults.{faultless_first}
 use Rattle.cap_class.specs.ClassFormat.{Class}
 use Rattle.cap_desc.specs.DescriptorFormat as described
-use Rattle.cap_desc.specs.DescriptorFormat.{Field}
+use Rattle.cap_desc.specs.DescriptorFormat.{FieldDescriptor}
 use Rattle.cap_pool.specs.ExportFormat.{Exported}
 use Rattle.cap_package.specs.Agreement.{or_none}
-use Rattle.cap_package.specs.NameChecks.{undescribed_fault, no_class_fault, not_own_fault}
+use Rattle.cap_package.specs.NameChecks.{undescribed_fault, undescribed_class_fault, not_own_fault}
 use Rattle.cap_components.specs.declared.fault.PackFault.{PackFault}
 use Rattle.cap_package.specs.PackageRecord.{PackageRecord}
 use Rattle.cap_package.proofs.StaticsKnown.{both_empty}
 use Rattle.jc_resolve.specs.Described.{describes_at, IsDescribedOnce, AreDescribedOnce, place_at, spot_of_record, AreFound}
 use Rattle.jc_resolve.specs.Named.{IsAgreed}
-use Rattle.jc_resolve.specs.NamedClasses.{describes, is_instance, fields_described, instance_fields}
+use Rattle.jc_resolve.specs.NamedClasses.{describes, is_instance_field, fields_described, instance_fields}
 use Rattle.jc_resolve.specs.Numbering.{is_at}
-use Rattle.jc_resolve.specs.Numbers.{Numbered, number_at}
+use Rattle.jc_resolve.specs.Numbers.{Numbered, number_by_place}
 use Rattle.jc_resolve.proofs.NumberLaws.{numbered-first}
 
 -- ---- the one thing of a list that passes a test
@@ -58,40 +58,40 @@ module _ {X Y : Type 0} (t : X → Bool) (f : X → List Y) where
 
 -- ---- what the record of a class gives
 
-module _ {Y : Type 0} (f : described.Class → List Y) (ds : List described.Class) (offset : ℕ) where
+module _ {Y : Type 0} (f : described.ClassDescriptor → List Y) (ds : List described.ClassDescriptor) (offset : ℕ) where
   -- what each record gives of the class at the offset
   abbrev given : List Y
-  given = flat_map (λ (d : described.Class). cond (describes offset d) (f d) []) ds
+  given = flat_map (λ (d : described.ClassDescriptor). cond (describes offset d) (f d) []) ds
 
-  inside : offset < 0x8000 → given ≡ flat_map (λ (d : described.Class). cond (describes_at offset d) (f d) []) ds
-  inside lt = ap (λ b. flat_map (λ (d : described.Class). cond (b && eqb d.class_ref offset) (f d) []) ds) (lt-ltb offset 0x8000 lt)
+  inside : offset < 0x8000 → given ≡ flat_map (λ (d : described.ClassDescriptor). cond (describes_at offset d) (f d) []) ds
+  inside lt = ap (λ b. flat_map (λ (d : described.ClassDescriptor). cond (b && eqb d.class_ref offset) (f d) []) ds) (lt-ltb offset 0x8000 lt)
 
-  pub given-there : (d : described.Class) → offset < 0x8000 → count_by (describes_at offset) ds ≡ 1 → find (describes_at offset) ds ≡ Some d → given ≡ f d
+  pub given-there : (d : described.ClassDescriptor) → offset < 0x8000 → count_by (describes_at offset) ds ≡ 1 → find (describes_at offset) ds ≡ Some d → given ≡ f d
   given-there d lt once found = inside lt ∙ one-passed (describes_at offset) f ds d once found
 
   pub given-none : offset < 0x8000 → find (describes_at offset) ds ≡ None → given ≡ []
   given-none lt none = inside lt ∙ nothing-passed (describes_at offset) f ds none
 
-  all-none : (xs : List described.Class) → flat_map (λ (d : described.Class). cond (false && eqb d.class_ref offset) (f d) []) xs ≡ []
+  all-none : (xs : List described.ClassDescriptor) → flat_map (λ (d : described.ClassDescriptor). cond (false && eqb d.class_ref offset) (f d) []) xs ≡ []
   all-none [] = refl
   all-none (x ∷ xs) = all-none xs
 
   pub given-outside : 0x8000 ≤ offset → given ≡ []
-  given-outside le = ap (λ b. flat_map (λ (d : described.Class). cond (b && eqb d.class_ref offset) (f d) []) ds) (le-ltb offset 0x8000 le) ∙ all-none ds
+  given-outside le = ap (λ b. flat_map (λ (d : described.ClassDescriptor). cond (b && eqb d.class_ref offset) (f d) []) ds) (le-ltb offset 0x8000 le) ∙ all-none ds
 
 -- its instance fields
-abbrev fields_given : described.Class → List Field
-fields_given d = filter is_instance d.fields
+abbrev fields_given : described.ClassDescriptor → List FieldDescriptor
+fields_given d = filter is_instance_field d.fields
 
-pub fields-there : (ds : List described.Class) (offset : ℕ) (d : described.Class) → offset < 0x8000 → count_by (describes_at offset) ds ≡ 1 → find (describes_at offset) ds ≡ Some d → instance_fields ds offset ≡ filter is_instance d.fields
+pub fields-there : (ds : List described.ClassDescriptor) (offset : ℕ) (d : described.ClassDescriptor) → offset < 0x8000 → count_by (describes_at offset) ds ≡ 1 → find (describes_at offset) ds ≡ Some d → instance_fields ds offset ≡ filter is_instance_field d.fields
 unfolding instance_fields fields_described
 fields-there ds offset = given-there fields_given ds offset
 
-pub fields-none : (ds : List described.Class) (offset : ℕ) → offset < 0x8000 → find (describes_at offset) ds ≡ None → instance_fields ds offset ≡ []
+pub fields-none : (ds : List described.ClassDescriptor) (offset : ℕ) → offset < 0x8000 → find (describes_at offset) ds ≡ None → instance_fields ds offset ≡ []
 unfolding instance_fields fields_described
 fields-none ds offset = given-none fields_given ds offset
 
-pub fields-outside : (ds : List described.Class) (offset : ℕ) → 0x8000 ≤ offset → instance_fields ds offset ≡ []
+pub fields-outside : (ds : List described.ClassDescriptor) (offset : ℕ) → 0x8000 ≤ offset → instance_fields ds offset ≡ []
 unfolding instance_fields fields_described
 fields-outside ds offset = given-outside fields_given ds offset
 
@@ -103,12 +103,12 @@ turned : (a b : ℕ) (c : Bool) → eqb a b ≡ c → eqb b a ≡ c
 turned a b true e = eq-eqb b a (sym (eqb-true a b e))
 turned a b false e = ne_eqb b a (λ same. eqb-false a b e (sym same))
 
-seam : (before : List described.Class) (d : described.Class) (ds : List described.Class) → slice_get (before ++ d ∷ ds) (length before) ≡ Some d
+seam : (before : List described.ClassDescriptor) (d : described.ClassDescriptor) (ds : List described.ClassDescriptor) → slice_get (before ++ d ∷ ds) (length before) ≡ Some d
 seam [] d ds = refl
 seam (x ∷ before) d ds = seam before d ds
 
 module _ (offset : ℕ) where
-  search_on : (before ds : List described.Class) → option_and_then (slice_get (before ++ ds)) (position_from (is_at (place_at offset)) (length before) (map spot_of_record ds)) ≡ find (describes_at offset) ds
+  search_on : (before ds : List described.ClassDescriptor) → option_and_then (slice_get (before ++ ds)) (position_from (is_at (place_at offset)) (length before) (map spot_of_record ds)) ≡ find (describes_at offset) ds
   search_on before [] = refl
   search_on before (d ∷ ds) = by (search_on (before ++ d ∷ []) ds) (eqb d.class_ref offset) refl
     where
@@ -125,9 +125,9 @@ module _ (offset : ℕ) where
           ∙ ap (λ n. option_and_then (slice_get ((before ++ d ∷ []) ++ ds)) (position_from (is_at (place_at offset)) n (map spot_of_record ds))) next
           ∙ later)
 
-pub record-found : (ds : List described.Class) (t : Numbered) (offset : ℕ) → AreFound ds t → option_and_then (slice_get ds) (number_at t.entries (place_at offset)) ≡ find (describes_at offset) ds
+pub record-found : (ds : List described.ClassDescriptor) (t : Numbered) (offset : ℕ) → AreFound ds t → option_and_then (slice_get ds) (number_by_place t.entries (place_at offset)) ≡ find (describes_at offset) ds
 record-found ds t offset h =
-    ap (λ (x : Numbered). option_and_then (slice_get ds) (number_at x.entries (place_at offset))) h.numbers
+    ap (λ (x : Numbered). option_and_then (slice_get ds) (number_by_place x.entries (place_at offset))) h.numbers
     ∙ ap (option_and_then (slice_get ds)) (numbered-first (map spot_of_record ds) (place_at offset) ∙ position_from-zero (is_at (place_at offset)) (map spot_of_record ds))
     ∙ search_on offset [] ds
 
@@ -137,7 +137,7 @@ once-by : (n : ℕ) (f : PackFault) (b : Bool) → eqb n 1 ≡ b → cond b None
 once-by n f true e h = eqb-true n 1 e
 once-by n f false e h = absurd cc
 
-module _ (ds : List described.Class) where
+module _ (ds : List described.ClassDescriptor) where
   once : (c : Class) → undescribed_fault ds c ≡ None → IsDescribedOnce ds c
   unfolding undescribed_fault
   once c h = once-by (count_by (describes_at c.offset) ds) _ _ refl h
@@ -152,11 +152,11 @@ pub described-once : (p : PackageRecord) → IsAgreed p → AreDescribedOnce p.d
 described-once p agreed =
     let ds = p.description.items.classes in
     let undescribed = filter_map (undescribed_fault ds) p.classes in
-    let unnamed = filter_map (not_own_fault p.classes) (map (λ (d : described.Class). d.class_ref) ds) in
-    let unknown = filter_map (no_class_fault p.classes) (map (λ (c : Exported). c.class_offset) (or_none p.export)) in
+    let unnamed = filter_map (not_own_fault p.classes) (map (λ (d : described.ClassDescriptor). d.class_ref) ds) in
+    let unknown = filter_map (undescribed_class_fault p.classes) (map (λ (c : Exported). c.class_offset) (or_none p.export)) in
     let all = both_empty (undescribed ++ unnamed) unknown agreed.agree.1.1.1.1.1.1.1.1.1.1.1.1.1.1.1.1.1.0 in
     each_once ds p.classes (both_empty undescribed unnamed all.0).0
 
 -- and so by a list of its records
-pub once_among : (p : PackageRecord) (ds : List described.Class) → IsAgreed p → ds ≡ p.description.items.classes → AreDescribedOnce ds p.classes
-once_among p ds agreed e = subst (λ (xs : List described.Class). AreDescribedOnce xs p.classes) (sym e) (described-once p agreed)
+pub once_among : (p : PackageRecord) (ds : List described.ClassDescriptor) → IsAgreed p → ds ≡ p.description.items.classes → AreDescribedOnce ds p.classes
+once_among p ds agreed e = subst (λ (xs : List described.ClassDescriptor). AreDescribedOnce xs p.classes) (sym e) (described-once p agreed)

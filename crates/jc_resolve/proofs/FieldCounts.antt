@@ -9,12 +9,12 @@ use Rattle.cap_desc.specs.declared.records.FieldInfo.{FieldInfo}
 use Rattle.cap_desc.specs.MemberRecords.{field_seen}
 use Rattle.cap_desc.specs.declared.type_item.TypeItem.{TypeItem}
 use Rattle.cap_desc.specs.ClassRecords.{described_left}
-use Rattle.cap_desc.specs.DescriptorFormat.{Class, Field}
+use Rattle.cap_desc.specs.DescriptorFormat.{ClassDescriptor, FieldDescriptor}
 use Rattle.cap_desc.specs.Members.{fields_of}
 use Rattle.cap_package.specs.Descriptions.{Description, description, field_type}
 use Rattle.cap_package.specs.PackageRecord.{PackageRecord}
 use Rattle.jc_resolve.specs.WorldTypes.{type_of}
-use Rattle.jc_resolve.specs.NamedClasses.{describes, is_instance, fields_described, instance_fields, token_of, with_token, by_token, cells_by, cells_of_field, cells_of_fields}
+use Rattle.jc_resolve.specs.NamedClasses.{describes, is_instance_field, fields_described, instance_fields, token_of, with_token, by_token, cells_by, cells_of_field, cells_of_fields}
 use Rattle.jc_resolve.proofs.DeclaredTypes.{either}
 use Rattle.jc_resolve.proofs.DescribedFields.{fields_of-few}
 
@@ -66,17 +66,17 @@ few_by : (ps : List PackageRecord) (object k : ℕ) (o : Option TypeItem) → le
 few_by ps object k None = omega arith
 few_by ps object k (Some t) = either (λ cells. length cells ≤ 2) (eqb t.nibble 5) _ (type_of ps object k t ∷ []) (omega arith) (omega arith)
 
-cells_few : (ps : List PackageRecord) (object k : ℕ) (d : Description) (fields : List Field) → length (flat_map (cells_of_field ps object k d) fields) ≤ 2 * length fields
+cells_few : (ps : List PackageRecord) (object k : ℕ) (d : Description) (fields : List FieldDescriptor) → length (flat_map (cells_of_field ps object k d) fields) ≤ 2 * length fields
 unfolding cells_of_field
 cells_few ps object k d [] = omega arith
 cells_few ps object k d (f ∷ fields) =
     omega (arith, length-append (cells_of_field ps object k d f) (flat_map (cells_of_field ps object k d) fields), few_by ps object k (field_type d f.ty), cells_few ps object k d fields)
 
-tokens_once : (fields : List Field) → length (by_token fields) ≤ length fields
+tokens_once : (fields : List FieldDescriptor) → length (by_token fields) ≤ length fields
 unfolding with_token
 tokens_once fields = each_once token_of fields 0 256
 
-pub own_few : (ps : List PackageRecord) (object k : ℕ) (d : Description) (fields : List Field) → length (cells_of_fields ps object k d fields) ≤ 2 * length fields
+pub own_few : (ps : List PackageRecord) (object k : ℕ) (d : Description) (fields : List FieldDescriptor) → length (cells_of_fields ps object k d fields) ≤ 2 * length fields
 unfolding cells_of_fields
 own_few ps object k d fields = omega (arith, cells_few ps object k d (by_token fields), tokens_once fields)
 
@@ -90,11 +90,11 @@ filtered_few t (x ∷ xs) = filtered_by (t x) (filtered_few t xs)
     filtered_by true le = omega arith
     filtered_by false le = omega arith
 
-described_few : (offset : ℕ) (c : Class) → length (fields_described offset c) ≤ length c.fields
+described_few : (offset : ℕ) (c : ClassDescriptor) → length (fields_described offset c) ≤ length c.fields
 unfolding fields_described
-described_few offset c = either (λ fields. length fields ≤ length c.fields) (describes offset c) (filter is_instance c.fields) [] (filtered_few is_instance c.fields) (omega arith)
+described_few offset c = either (λ fields. length fields ≤ length c.fields) (describes offset c) (filter is_instance_field c.fields) [] (filtered_few is_instance_field c.fields) (omega arith)
 
-pub instance_few : (classes : List Class) (offset : ℕ) → length (instance_fields classes offset) ≤ length (fields_of classes)
+pub instance_few : (classes : List ClassDescriptor) (offset : ℕ) → length (instance_fields classes offset) ≤ length (fields_of classes)
 unfolding instance_fields
 instance_few [] offset = omega arith
 instance_few (c ∷ classes) offset =

@@ -6,7 +6,7 @@ use Rattle.std.proofs.lemmas.List.{length-map, length-take, length-drop}
 use Rattle.std.proofs.lemmas.List.Elements.{All-nil, All-map, All-weaker}
 use Rattle.cap_method.specs.declared.handler.HandlerInfo.{HandlerInfo}
 use Rattle.cap_desc.specs.DescriptorFormat as described
-use Rattle.cap_desc.specs.DescriptorFormat.{Method}
+use Rattle.cap_desc.specs.DescriptorFormat.{MethodDescriptor}
 use Rattle.cap_package.specs.HeaderChecks.{is_static, header_in}
 use Rattle.cap_package.specs.MethodChecks.{code_start, code_end}
 use Rattle.cap_package.specs.PackageRecord.{PackageRecord, names_interface, handlers_of}
@@ -45,7 +45,7 @@ bodiless info flags sig class few = record {
   few_handlers = omega arith;
 }
 
-module _ (ps : List PackageRecord) (throwable k : ℕ) (p : PackageRecord) (m : Method) (sig : Sig) where
+module _ (ps : List PackageRecord) (throwable k : ℕ) (p : PackageRecord) (m : MethodDescriptor) (sig : Sig) where
   handler_in : (code_at : ℕ) (h : HandlerInfo) → code_at ≡ code_start p.methods.info m → code_end p.methods.info m ≤ 65535 → LiesIn p.methods.info m h → HandlerLiesIn m.bytecode_count (handler_named ps throwable k p.pool code_at h)
   unfolding handler_named code_end
   handler_in code_at h at short lies =
@@ -120,7 +120,7 @@ module _ (ps : List PackageRecord) (throwable k : ℕ) (p : PackageRecord) (m : 
       bodiless p.methods.info m.flags sig class (omega arith)
 
 -- the body of a method of a class that its package describes
-module _ (ps : List PackageRecord) (object throwable k : ℕ) (p : PackageRecord) (c : described.Class) (m : Method) where
+module _ (ps : List PackageRecord) (object throwable k : ℕ) (p : PackageRecord) (c : described.ClassDescriptor) (m : MethodDescriptor) where
   abbrev sig_of : Sig
   sig_of = signature_of ps object k p.description m.type_offset
 

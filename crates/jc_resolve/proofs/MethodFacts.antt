@@ -4,7 +4,7 @@ use Rattle.std.specs.Prelude.{All, MatchBool}
 use Rattle.std.specs.List.{filter_map}
 use Rattle.std.proofs.lemmas.Bool.{ltb-false, eqb-true, eqb-false}
 use Rattle.cap_method.specs.MethodFormat.{Header}
-use Rattle.cap_desc.specs.DescriptorFormat.{Method}
+use Rattle.cap_desc.specs.DescriptorFormat.{MethodDescriptor}
 use Rattle.cap_desc.specs.Members.{methods_of}
 use Rattle.cap_components.specs.declared.count_kind.CountKind.TheVariants.{ArgumentWords, AbstractCode}
 use Rattle.cap_components.specs.declared.fault.PackFault.{PackFault}
@@ -49,7 +49,7 @@ same_words h w f false e none = absurd cc
 -- ---- words
 
 -- the argument words that a method's descriptor tells, and that they are no more than some
-pub record HasWords (d : Description) (m : Method) (most : ℕ) : Type 0 where
+pub record HasWords (d : Description) (m : MethodDescriptor) (most : ℕ) : Type 0 where
   pub words : ℕ
   pub told : argument_words d m.type_offset ≡ Some words
   pub few : words ≤ most
@@ -58,18 +58,18 @@ words_at_most : (f : PackFault) (most w : ℕ) (b : Bool) → ltb most w ≡ b �
 words_at_most f most w true e none = absurd cc
 words_at_most f most w false e none = ltb-false most w e
 
-words_by : (d : Description) (m : Method) (most : ℕ) (o : Option ℕ) → argument_words d m.type_offset ≡ o → method_type_by most m.type_offset o ≡ None → HasWords d m most
+words_by : (d : Description) (m : MethodDescriptor) (most : ℕ) (o : Option ℕ) → argument_words d m.type_offset ≡ o → method_type_by most m.type_offset o ≡ None → HasWords d m most
 words_by d m most None e none = absurd cc
 words_by d m most (Some w) e none = record { words = w; told = e; few = words_at_most (BadType m.type_offset) most w (ltb most w) refl none }
 
-words_told : (d : Description) (m : Method) (most : ℕ) → method_type_fault d most m ≡ None → HasWords d m most
+words_told : (d : Description) (m : MethodDescriptor) (most : ℕ) → method_type_fault d most m ≡ None → HasWords d m most
 unfolding method_type_fault
 words_told d m most none = words_by d m most (argument_words d m.type_offset) refl none
 
 -- ---- a method of a class
 
 -- a method that stands in the info
-pub record IsPlaced (p : PackageRecord) (m : Method) : Type 0 where
+pub record IsPlaced (p : PackageRecord) (m : MethodDescriptor) : Type 0 where
   pub header : Header
   pub there : header_in p.methods.info m.method_offset ≡ Some header
   pub begins : code_start p.methods.info m ≡ m.method_offset + header.size
@@ -82,15 +82,15 @@ pub record IsPlaced (p : PackageRecord) (m : Method) : Type 0 where
   pub length : HasLength (is_abstract header) m.bytecode_count
   pub handlers : All (LiesIn p.methods.info m) (handlers_of p m)
 
-length_of : (info : List ℕ) (m : Method) (h : Header) → header_in info m.method_offset ≡ Some h → abstract_fault info m ≡ None → length_fault info m ≡ None → HasLength (is_abstract h) m.bytecode_count
+length_of : (info : List ℕ) (m : MethodDescriptor) (h : Header) → header_in info m.method_offset ≡ Some h → abstract_fault info m ≡ None → length_fault info m ≡ None → HasLength (is_abstract h) m.bytecode_count
 unfolding abstract_fault length_fault
 length_of info m h at none some = has_length m.bytecode_count (CountDisagrees AbstractCode m.bytecode_count 0) (MethodLength m.method_offset m.bytecode_count) (is_abstract h) (rw at at none) (rw at at some)
 
-nargs_of : (info : List ℕ) (d : Description) (m : Method) (h : Header) (words : ℕ) → header_in info m.method_offset ≡ Some h → argument_words d m.type_offset ≡ Some words → arguments_fault info d m ≡ None → h.nargs ≡ words + this_words m
+nargs_of : (info : List ℕ) (d : Description) (m : MethodDescriptor) (h : Header) (words : ℕ) → header_in info m.method_offset ≡ Some h → argument_words d m.type_offset ≡ Some words → arguments_fault info d m ≡ None → h.nargs ≡ words + this_words m
 unfolding arguments_fault
 nargs_of info d m h words at told none = same_words h.nargs (words + this_words m) (CountDisagrees ArgumentWords h.nargs (words + this_words m)) (eqb h.nargs (words + this_words m)) refl (rw (at, told) at none)
 
-begins_at : (info : List ℕ) (m : Method) (x : HasHeader info m.method_offset) → code_start info m ≡ m.method_offset + x.header.size
+begins_at : (info : List ℕ) (m : MethodDescriptor) (x : HasHeader info m.method_offset) → code_start info m ≡ m.method_offset + x.header.size
 unfolding code_start
 begins_at info m x = ap (λ n. m.method_offset + n) (sym x.size)
 
@@ -112,10 +112,10 @@ module _ (p : PackageRecord) (agreed : StandsFor p.parts p) where
       let all = agreed.agree.1.1.1.1.1.1.1.1.1.1.1.1.1.1.0 in
       (both_empty (filter_map (numbered_fault p.methods.info (described_methods p)) (numbered 0 p.methods.handlers)) (filter_map (claim_fault (length p.methods.handlers)) (described_methods p)) all).0
 
-  pub interface-words : (m : Method) → IsOneOf (interface_methods p) m → HasWords p.description m 254
+  pub interface-words : (m : MethodDescriptor) → IsOneOf (interface_methods p) m → HasWords p.description m 254
   interface-words m one = words_told p.description m 254 (faultless (method_type_fault p.description 254) _ m interface_types one)
 
-  pub is-placed : (m : Method) → IsOneOf (described_methods p) m → IsOneOf (methods_of p.description.items.classes) m → IsPlaced p m
+  pub is-placed : (m : MethodDescriptor) → IsOneOf (described_methods p) m → IsOneOf (methods_of p.description.items.classes) m → IsPlaced p m
   is-placed m one any =
       let info = p.methods.info in
       let outside = faultless (outside_fault info (length p.methods.handlers)) (described_methods p) m agreed.agree.1.1.1.0 one in

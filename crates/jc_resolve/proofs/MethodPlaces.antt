@@ -9,7 +9,7 @@ use Rattle.first_fault.proofs.LeastFaults.{faultless_first}
 use Rattle.cap_components.specs.declared.fault.PackFault.{PackFault}
 use Rattle.cap_components.specs.declared.fault.PackFault.TheVariants.{MethodOverlaps}
 use Rattle.cap_desc.specs.DescriptorFormat as described
-use Rattle.cap_desc.specs.DescriptorFormat.{Method}
+use Rattle.cap_desc.specs.DescriptorFormat.{MethodDescriptor}
 use Rattle.cap_desc.specs.Members.{methods_but}
 use Rattle.cap_package.specs.MethodChecks.{code_end, overlap_fault, overlap_pair, outside_fault}
 use Rattle.cap_package.specs.PackageRecord.{PackageRecord, names_interface, described_methods}
@@ -22,7 +22,7 @@ use Rattle.jc_base.proofs.Eaching.{Each-append, Each-weaker}
 use Rattle.jc_resolve.specs.declared.place.RecordPlace.{RecordPlace}
 use Rattle.jc_resolve.specs.Named.{IsAgreed}
 use Rattle.jc_resolve.specs.NamedMethods.{named_method, named_methods}
-use Rattle.jc_resolve.specs.Numbering.{NumberedMethod, numbered, is_placed, methods_of_class, methods_of_classes, methods_after, numbered_methods, place_of_method, method_places}
+use Rattle.jc_resolve.specs.Numbering.{NumberedMethod, numbered_method, is_placed, methods_of_class, methods_of_classes, methods_after, numbered_methods, place_of_method, method_places}
 use Rattle.jc_resolve.specs.OwnPlaces.{HaveOwnPlaces}
 use Rattle.jc_resolve.proofs.ClassPlaces.{classes_apart}
 use Rattle.jc_resolve.proofs.Faultless.{both_faultless}
@@ -38,26 +38,26 @@ all_faultless : {X Z : Type 0} (f : X → Option Z) (xs : List X) → filter_map
 all_faultless f [] e = tt {0}
 all_faultless f (x ∷ xs) e = let both = faultless_first (f x) (filter_map f xs) e in (both.0, all_faultless f xs both.1)
 
-abbrev IsApart : Method → Method → Type 0
+abbrev IsApart : MethodDescriptor → MethodDescriptor → Type 0
 IsApart a b = a.method_offset ≡ b.method_offset → ⊥
 
 shared_by : (fault : PackFault) (b : Bool) → cond b (Some fault) None ≡ None → b ≡ false
 shared_by fault true h = absurd cc
 shared_by fault false h = refl
 
-no_share : (info : List ℕ) (a b : Method) → overlap_fault info a b ≡ None → ltb (max a.method_offset b.method_offset) (min (min (code_end info a) (code_end info b)) (length info)) ≡ false
+no_share : (info : List ℕ) (a b : MethodDescriptor) → overlap_fault info a b ≡ None → ltb (max a.method_offset b.method_offset) (min (min (code_end info a) (code_end info b)) (length info)) ≡ false
 unfolding overlap_fault
 no_share info a b h = shared_by (MethodOverlaps (min a.method_offset b.method_offset) (max a.method_offset b.method_offset)) (ltb (max a.method_offset b.method_offset) (min (min (code_end info a) (code_end info b)) (length info))) h
 
 -- a method that shares no byte with one that lies in the info stands elsewhere
-stands_apart : (info : List ℕ) (a b : Method) → code_end info a ≤ length info → overlap_fault info a b ≡ None → IsApart a b
+stands_apart : (info : List ℕ) (a b : MethodDescriptor) → code_end info a ≤ length info → overlap_fault info a b ≡ None → IsApart a b
 stands_apart info a b inside none same =
     let first = method_some info a in
     let second = method_some info b in
     let below : max a.method_offset b.method_offset < min (min (code_end info a) (code_end info b)) (length info) = omega arith in
     true≢false (sym (lt-ltb _ _ below) ∙ no_share info a b none)
 
-pairs_apart : (info : List ℕ) (count : ℕ) (ms : List Method) → Each (λ m. outside_fault info count m ≡ None) ms → filter_map (overlap_pair info) (pairs ms) ≡ [] → Pairwise IsApart ms
+pairs_apart : (info : List ℕ) (count : ℕ) (ms : List MethodDescriptor) → Each (λ m. outside_fault info count m ≡ None) ms → filter_map (overlap_pair info) (pairs ms) ≡ [] → Pairwise IsApart ms
 pairs_apart info count [] inside e = tt {0}
 pairs_apart info count (m ∷ ms) inside e =
     let both = both_faultless (overlap_pair info) (map (λ n. (m, n)) ms) (pairs ms) e in
@@ -79,7 +79,7 @@ At place m = place_of_method m ≡ Some place
 abbrev Differ : NumberedMethod → NumberedMethod → Type 0
 Differ m n = (place : RecordPlace) → At place m → At place n → ⊥
 
-offset_by : (b : Bool) (k : ℕ) (m : Method) (place : RecordPlace) → cond b (Some (record { «package» = k; offset = m.method_offset })) None ≡ Some place → m.method_offset ≡ place.offset
+offset_by : (b : Bool) (k : ℕ) (m : MethodDescriptor) (place : RecordPlace) → cond b (Some (record { «package» = k; offset = m.method_offset })) None ≡ Some place → m.method_offset ≡ place.offset
 offset_by true k m place h = let same : record { «package» = k; offset = m.method_offset } ≡ place = cc in ap (λ (q : RecordPlace). q.offset) same
 offset_by false k m place h = absurd cc
 
@@ -88,15 +88,15 @@ home_by true k offset place h = let same : record { «package» = k; offset = of
 home_by false k offset place h = absurd cc
 
 -- a method whose offset is not that of another, if it stands in the component
-abbrev IsElsewhere : Method → NumberedMethod → Type 0
+abbrev IsElsewhere : MethodDescriptor → NumberedMethod → Type 0
 IsElsewhere a n = (place : RecordPlace) → At place n → a.method_offset ≡ place.offset → ⊥
 
-in_class : (a : Method) (k : ℕ) (p : PackageRecord) (number : ℕ) (c : described.Class) (i : ℕ) (ms : List Method) → Each (IsApart a) ms → Each (IsElsewhere a) (methods_of_class k p number c i ms)
+in_class : (a : MethodDescriptor) (k : ℕ) (p : PackageRecord) (number : ℕ) (c : described.ClassDescriptor) (i : ℕ) (ms : List MethodDescriptor) → Each (IsApart a) ms → Each (IsElsewhere a) (methods_of_class k p number c i ms)
 in_class a k p number c i [] h = tt {0}
 in_class a k p number c i (m ∷ ms) h =
     (λ place at same. h.0 (same ∙ sym (offset_by (is_placed p c) k m place at)), in_class a k p number c (i + 1) ms h.1)
 
-not_placed : (a : Method) (k : ℕ) (p : PackageRecord) (number : ℕ) (c : described.Class) (i : ℕ) (ms : List Method) → is_placed p c ≡ false → Each (IsElsewhere a) (methods_of_class k p number c i ms)
+not_placed : (a : MethodDescriptor) (k : ℕ) (p : PackageRecord) (number : ℕ) (c : described.ClassDescriptor) (i : ℕ) (ms : List MethodDescriptor) → is_placed p c ≡ false → Each (IsElsewhere a) (methods_of_class k p number c i ms)
 not_placed a k p number c i [] e = tt {0}
 not_placed a k p number c i (m ∷ ms) e =
     (λ place at same. nowhere (record { «package» = k; offset = m.method_offset }) place (is_placed p c) e at, not_placed a k p number c (i + 1) ms e)
@@ -109,7 +109,7 @@ module _ (k : ℕ) (p : PackageRecord) where
   abbrev interfaces : ℕ → Bool
   interfaces = names_interface p.classes
 
-  elsewhere : (a : Method) (number : ℕ) (cs : List described.Class) → Each (IsApart a) (methods_but interfaces cs) → Each (IsElsewhere a) (methods_of_classes k p number cs)
+  elsewhere : (a : MethodDescriptor) (number : ℕ) (cs : List described.ClassDescriptor) → Each (IsApart a) (methods_but interfaces cs) → Each (IsElsewhere a) (methods_of_classes k p number cs)
   elsewhere a number [] h = tt {0}
   elsewhere a number (c ∷ cs) h = by (interfaces c.class_ref) refl h (λ g. elsewhere a (number + 1) cs g)
     where
@@ -121,16 +121,16 @@ module _ (k : ℕ) (p : PackageRecord) where
       by true e g rest = Each-append (IsElsewhere a) (methods_of_class k p number c 0 c.methods) (methods_of_classes k p (number + 1) cs) (not_placed a k p number c 0 c.methods (ap not e)) (rest g)
 
   -- the methods of a class, before others
-  class_differs : (number : ℕ) (c : described.Class) (i : ℕ) (ms : List Method) (others : List NumberedMethod) → Pairwise IsApart ms → Each (λ a. Each (IsElsewhere a) others) ms → Pairwise Differ others → Pairwise Differ (methods_of_class k p number c i ms ++ others)
+  class_differs : (number : ℕ) (c : described.ClassDescriptor) (i : ℕ) (ms : List MethodDescriptor) (others : List NumberedMethod) → Pairwise IsApart ms → Each (λ a. Each (IsElsewhere a) others) ms → Pairwise Differ others → Pairwise Differ (methods_of_class k p number c i ms ++ others)
   class_differs number c i [] others a b d = d
   class_differs number c i (m ∷ ms) others a b d =
-      let P = λ (n : NumberedMethod) (f : IsElsewhere m n) (place : RecordPlace) (here : At place (numbered k p number c i m)) (there : At place n). f place there (offset_by (is_placed p c) k m place here) in
-      let front = Each-weaker (IsElsewhere m) (Differ (numbered k p number c i m)) P (methods_of_class k p number c (i + 1) ms) (in_class m k p number c (i + 1) ms a.0) in
-      let back = Each-weaker (IsElsewhere m) (Differ (numbered k p number c i m)) P others b.0 in
-      (Each-append (Differ (numbered k p number c i m)) (methods_of_class k p number c (i + 1) ms) others front back, class_differs number c (i + 1) ms others a.1 b.1 d)
+      let P = λ (n : NumberedMethod) (f : IsElsewhere m n) (place : RecordPlace) (here : At place (numbered_method k p number c i m)) (there : At place n). f place there (offset_by (is_placed p c) k m place here) in
+      let front = Each-weaker (IsElsewhere m) (Differ (numbered_method k p number c i m)) P (methods_of_class k p number c (i + 1) ms) (in_class m k p number c (i + 1) ms a.0) in
+      let back = Each-weaker (IsElsewhere m) (Differ (numbered_method k p number c i m)) P others b.0 in
+      (Each-append (Differ (numbered_method k p number c i m)) (methods_of_class k p number c (i + 1) ms) others front back, class_differs number c (i + 1) ms others a.1 b.1 d)
 
   -- those of a class that stands elsewhere
-  unplaced_differs : (number : ℕ) (c : described.Class) (i : ℕ) (ms : List Method) (others : List NumberedMethod) → is_placed p c ≡ false → Pairwise Differ others → Pairwise Differ (methods_of_class k p number c i ms ++ others)
+  unplaced_differs : (number : ℕ) (c : described.ClassDescriptor) (i : ℕ) (ms : List MethodDescriptor) (others : List NumberedMethod) → is_placed p c ≡ false → Pairwise Differ others → Pairwise Differ (methods_of_class k p number c i ms ++ others)
   unplaced_differs number c i [] others e d = d
   unplaced_differs number c i (m ∷ ms) others e d = (all_differ (methods_of_class k p number c (i + 1) ms ++ others), unplaced_differs number c (i + 1) ms others e d)
     where
@@ -138,11 +138,11 @@ module _ (k : ℕ) (p : PackageRecord) where
       nowhere here place true f h = true≢false f
       nowhere here place false f h = cc
 
-      all_differ : (ns : List NumberedMethod) → Each (Differ (numbered k p number c i m)) ns
+      all_differ : (ns : List NumberedMethod) → Each (Differ (numbered_method k p number c i m)) ns
       all_differ [] = tt {0}
       all_differ (n ∷ ns) = (λ place at there. nowhere (record { «package» = k; offset = m.method_offset }) place (is_placed p c) e at, all_differ ns)
 
-  classes_differ : (number : ℕ) (cs : List described.Class) → Pairwise IsApart (methods_but interfaces cs) → Pairwise Differ (methods_of_classes k p number cs)
+  classes_differ : (number : ℕ) (cs : List described.ClassDescriptor) → Pairwise IsApart (methods_but interfaces cs) → Pairwise Differ (methods_of_classes k p number cs)
   classes_differ number [] h = tt {0}
   classes_differ number (c ∷ cs) h = by (interfaces c.class_ref) refl h (λ g. classes_differ (number + 1) cs g)
     where
@@ -170,31 +170,31 @@ pub record IsOfClass (k number low : ℕ) (n : NumberedMethod) : Type 0 where
   pub class : n.class_no ≡ number
   pub method : low ≤ n.method_no
 
-of_class : (k : ℕ) (p : PackageRecord) (number : ℕ) (c : described.Class) (i : ℕ) (ms : List Method) → Each (IsOfClass k number i) (methods_of_class k p number c i ms)
+of_class : (k : ℕ) (p : PackageRecord) (number : ℕ) (c : described.ClassDescriptor) (i : ℕ) (ms : List MethodDescriptor) → Each (IsOfClass k number i) (methods_of_class k p number c i ms)
 of_class k p number c i [] = tt {0}
 of_class k p number c i (m ∷ ms) = (
   record { home = refl; class = refl; method = omega arith },
   Each-weaker (IsOfClass k number (i + 1)) (IsOfClass k number i) (λ n h. let low = h.method in record { home = h.home; class = h.class; method = omega arith }) (methods_of_class k p number c (i + 1) ms) (of_class k p number c (i + 1) ms),
 )
 
-of_classes : (k : ℕ) (p : PackageRecord) (number : ℕ) (cs : List described.Class) → Each (IsOf k number) (methods_of_classes k p number cs)
+of_classes : (k : ℕ) (p : PackageRecord) (number : ℕ) (cs : List described.ClassDescriptor) → Each (IsOf k number) (methods_of_classes k p number cs)
 of_classes k p number [] = tt {0}
 of_classes k p number (c ∷ cs) =
     Each-append (IsOf k number) (methods_of_class k p number c 0 c.methods) (methods_of_classes k p (number + 1) cs)
     (Each-weaker (IsOfClass k number 0) (IsOf k number) (λ n h. let same = h.class in record { home = h.home; class = omega arith }) (methods_of_class k p number c 0 c.methods) (of_class k p number c 0 c.methods))
     (Each-weaker (IsOf k (number + 1)) (IsOf k number) (λ n h. let low = h.class in record { home = h.home; class = omega arith }) (methods_of_classes k p (number + 1) cs) (of_classes k p (number + 1) cs))
 
-class_earlier : (k : ℕ) (p : PackageRecord) (number : ℕ) (c : described.Class) (i : ℕ) (ms : List Method) (others : List NumberedMethod) → Each (IsOf k (number + 1)) others → Pairwise IsEarlier others → Pairwise IsEarlier (methods_of_class k p number c i ms ++ others)
+class_earlier : (k : ℕ) (p : PackageRecord) (number : ℕ) (c : described.ClassDescriptor) (i : ℕ) (ms : List MethodDescriptor) (others : List NumberedMethod) → Each (IsOf k (number + 1)) others → Pairwise IsEarlier others → Pairwise IsEarlier (methods_of_class k p number c i ms ++ others)
 class_earlier k p number c i [] others later d = d
 class_earlier k p number c i (m ∷ ms) others later d =
-    let here = numbered k p number c i m in (
+    let here = numbered_method k p number c i m in (
       Each-append (IsEarlier here) (methods_of_class k p number c (i + 1) ms) others
           (Each-weaker (IsOfClass k number (i + 1)) (IsEarlier here) (λ n h. let low = h.method in inr (sym h.home, inr (sym h.class, omega arith))) (methods_of_class k p number c (i + 1) ms) (of_class k p number c (i + 1) ms))
           (Each-weaker (IsOf k (number + 1)) (IsEarlier here) (λ n h. let low = h.class in inr (sym h.home, inl (omega arith))) others later),
       class_earlier k p number c (i + 1) ms others later d,
     )
 
-classes_earlier : (k : ℕ) (p : PackageRecord) (number : ℕ) (cs : List described.Class) → Pairwise IsEarlier (methods_of_classes k p number cs)
+classes_earlier : (k : ℕ) (p : PackageRecord) (number : ℕ) (cs : List described.ClassDescriptor) → Pairwise IsEarlier (methods_of_classes k p number cs)
 classes_earlier k p number [] = tt {0}
 classes_earlier k p number (c ∷ cs) = class_earlier k p number c 0 c.methods (methods_of_classes k p (number + 1) cs) (of_classes k p (number + 1) cs) (classes_earlier k p (number + 1) cs)
 

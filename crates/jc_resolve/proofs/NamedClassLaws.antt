@@ -50,16 +50,16 @@ names-class ps k p reference none at one =
     let fault = faultless (no_class_fault ps) (named_in class_references ps) (0 + k, reference) none.1.1.1.1.0 (named_further class_references 0 ps k p reference at one) in
     named_since ps k reference (rw place at fault)
 
-reference_described : (p : PackageRecord) (d : described.Class) → IsOneOf p.description.items.classes d → IsOneOf (class_references p) d.class_ref
+reference_described : (p : PackageRecord) (d : described.ClassDescriptor) → IsOneOf p.description.items.classes d → IsOneOf (class_references p) d.class_ref
 unfolding class_references
 reference_described p d one =
     one_of_after (flat_map references_of_class p.classes) (flat_map references_of_record p.description.items.classes ++ references_of_types p.description) d.class_ref
     (one_of_front (flat_map references_of_record p.description.items.classes) (references_of_types p.description) d.class_ref
     (one_of_flat references_of_record p.description.items.classes d d.class_ref one (inl refl)))
 
-pub describes-class : (ps : List PackageRecord) (k : ℕ) (p : PackageRecord) (d : described.Class) → AllEmpty (conditions ps) → slice_get ps k ≡ Some p → IsOneOf p.description.items.classes d → NamesClass ps k d.class_ref
+pub describes-class : (ps : List PackageRecord) (k : ℕ) (p : PackageRecord) (d : described.ClassDescriptor) → AllEmpty (conditions ps) → slice_get ps k ≡ Some p → IsOneOf p.description.items.classes d → NamesClass ps k d.class_ref
 describes-class ps k p d none at one = names-class ps k p d.class_ref none at (reference_described p d one)
 
-pub class-described : (ps : List PackageRecord) (k : ℕ) (d : described.Class) (x : NamesClass ps k d.class_ref) → class_described ps k d ≡ x.number
+pub class-described : (ps : List PackageRecord) (k : ℕ) (d : described.ClassDescriptor) (x : NamesClass ps k d.class_ref) → class_described ps k d ≡ x.number
 unfolding class_described
 class-described ps k d x = rw x.named refl

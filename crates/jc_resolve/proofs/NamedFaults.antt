@@ -5,7 +5,7 @@ use Rattle.std.proofs.lemmas.List.Sums.{fold-append}
 use Rattle.cap_class.specs.ClassFormat.{Class, Interface}
 use Rattle.cap_desc.specs.declared.type_item.TypeItem.{TypeItem}
 use Rattle.cap_desc.specs.DescriptorFormat as described
-use Rattle.cap_desc.specs.DescriptorFormat.{Field, Method}
+use Rattle.cap_desc.specs.DescriptorFormat.{FieldDescriptor, MethodDescriptor}
 use Rattle.cap_desc.specs.Members.{fields_of, methods_of}
 use Rattle.cap_package.specs.Descriptions.{Description}
 use Rattle.cap_package.specs.PackageRecord.{PackageRecord}
@@ -42,25 +42,25 @@ module _ (all : List PackageRecord) (k : ℕ) where
   pub least_classes : (c : Class) (cs : List Class) (before : Option LinkFault) → in_order before (flat_map references_of_class (c ∷ cs)) ≡ in_order (in_order before (references_of_class c)) (flat_map references_of_class cs)
   least_classes c cs before = fold-append _ before (references_of_class c) (flat_map references_of_class cs)
 
-  pub least_fields : (f : Field) (fs : List Field) (before : Option LinkFault) → in_order before (flat_map reference_of_field (f ∷ fs)) ≡ in_order (in_order before (reference_of_field f)) (flat_map reference_of_field fs)
+  pub least_fields : (f : FieldDescriptor) (fs : List FieldDescriptor) (before : Option LinkFault) → in_order before (flat_map reference_of_field (f ∷ fs)) ≡ in_order (in_order before (reference_of_field f)) (flat_map reference_of_field fs)
   least_fields f fs before = fold-append _ before (reference_of_field f) (flat_map reference_of_field fs)
 
-  pub least_without_methods : (d : described.Class) (before : Option LinkFault) → in_order before (references_without_methods d) ≡ in_order (in_order before d.interfaces) (flat_map reference_of_field d.fields)
+  pub least_without_methods : (d : described.ClassDescriptor) (before : Option LinkFault) → in_order before (references_without_methods d) ≡ in_order (in_order before d.interfaces) (flat_map reference_of_field d.fields)
   least_without_methods d before = fold-append _ before d.interfaces (flat_map reference_of_field d.fields)
 
-  pub least_records : (d : described.Class) (ds : List described.Class) (before : Option LinkFault) → in_order before (flat_map references_without_methods (d ∷ ds)) ≡ in_order (in_order before (references_without_methods d)) (flat_map references_without_methods ds)
+  pub least_records : (d : described.ClassDescriptor) (ds : List described.ClassDescriptor) (before : Option LinkFault) → in_order before (flat_map references_without_methods (d ∷ ds)) ≡ in_order (in_order before (references_without_methods d)) (flat_map references_without_methods ds)
   least_records d ds before = fold-append _ before (references_without_methods d) (flat_map references_without_methods ds)
 
-  pub least_with_methods : (d : Description) (c : described.Class) (cs : List described.Class) (before : Option LinkFault) → in_order before (flat_map (references_with_methods d) (c ∷ cs)) ≡ in_order (in_order before (references_with_methods d c)) (flat_map (references_with_methods d) cs)
+  pub least_with_methods : (d : Description) (c : described.ClassDescriptor) (cs : List described.ClassDescriptor) (before : Option LinkFault) → in_order before (flat_map (references_with_methods d) (c ∷ cs)) ≡ in_order (in_order before (references_with_methods d c)) (flat_map (references_with_methods d) cs)
   least_with_methods d c cs before = fold-append _ before (references_with_methods d c) (flat_map (references_with_methods d) cs)
 
   pub least_types : (t : TypeItem) (ts : List TypeItem) (before : Option LinkFault) → in_order before (flat_map reference_of_type (t ∷ ts)) ≡ in_order (in_order before (reference_of_type t)) (flat_map reference_of_type ts)
   least_types t ts before = fold-append _ before (reference_of_type t) (flat_map reference_of_type ts)
 
-  pub least_field_types : (d : Description) (f : Field) (fs : List Field) (before : Option LinkFault) → in_order before (flat_map (references_of_field_type d) (f ∷ fs)) ≡ in_order (in_order before (references_of_field_type d f)) (flat_map (references_of_field_type d) fs)
+  pub least_field_types : (d : Description) (f : FieldDescriptor) (fs : List FieldDescriptor) (before : Option LinkFault) → in_order before (flat_map (references_of_field_type d) (f ∷ fs)) ≡ in_order (in_order before (references_of_field_type d f)) (flat_map (references_of_field_type d) fs)
   least_field_types d f fs before = fold-append _ before (references_of_field_type d f) (flat_map (references_of_field_type d) fs)
 
-  pub least_methods : (d : Description) (m : Method) (ms : List Method) (before : Option LinkFault) → in_order before (flat_map (references_of_method d) (m ∷ ms)) ≡ in_order (in_order before (references_of_method d m)) (flat_map (references_of_method d) ms)
+  pub least_methods : (d : Description) (m : MethodDescriptor) (ms : List MethodDescriptor) (before : Option LinkFault) → in_order before (flat_map (references_of_method d) (m ∷ ms)) ≡ in_order (in_order before (references_of_method d m)) (flat_map (references_of_method d) ms)
   least_methods d m ms before = fold-append _ before (references_of_method d m) (flat_map (references_of_method d) ms)
 
   pub least_described : (p : PackageRecord) (before : Option LinkFault) → in_order before (references_described p) ≡

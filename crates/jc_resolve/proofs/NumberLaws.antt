@@ -14,7 +14,7 @@ use Rattle.cap_pool.specs.ExportFormat.{Exported}
 use Rattle.cap_package.specs.PackageRecord.{PackageRecord, names_interface}
 use Rattle.jc_resolve.specs.declared.place.RecordPlace.{RecordPlace}
 use Rattle.jc_resolve.specs.Numbering.{NumberedClass, same_place, is_at, classes_of, classes_after, numbered_classes, place_of_class, class_places, class_at, flagged_interface, is_interface_number, is_placed, methods_of_class, methods_of_classes, methods_after, numbered_methods, place_of_method, method_places, method_at}
-use Rattle.jc_resolve.specs.Numbers.{Numbered, none_numbered, number_at, entered, with_next, with_all, spot_of_class, class_spots, class_flags, spot_of_method, spots_of_classes, method_spots, AreIndexed}
+use Rattle.jc_resolve.specs.Numbers.{Numbered, none_numbered, number_by_place, added_entry, with_next, with_all, spot_of_class, class_spots, interface_flags, spot_of_method, spots_of_classes, method_spots, AreIndexed}
 
 -- ---- places
 
@@ -51,31 +51,31 @@ joined None true n rest = refl
 joined None false n rest = refl
 joined (Some x) b n rest = refl
 
-after : (es : List (RecordPlace × ℕ)) (q : RecordPlace) (n : ℕ) (place : RecordPlace) (rest o : Option ℕ) → number_at es q ≡ o → (b : Bool) → same_place place q ≡ b → or_else (number_at (entered es q n) place) rest ≡ or_else (number_at es place) (cond b (Some n) rest)
-unfolding entered or_else
-after es q n place rest (Some m) e false f = ap (λ (x : Option ℕ). or_else (number_at (if is_some x then es else insert_entry same_place es q n) place) rest) e
+after : (es : List (RecordPlace × ℕ)) (q : RecordPlace) (n : ℕ) (place : RecordPlace) (rest o : Option ℕ) → number_by_place es q ≡ o → (b : Bool) → same_place place q ≡ b → or_else (number_by_place (added_entry es q n) place) rest ≡ or_else (number_by_place es place) (cond b (Some n) rest)
+unfolding added_entry or_else
+after es q n place rest (Some m) e false f = ap (λ (x : Option ℕ). or_else (number_by_place (if is_some x then es else insert_entry same_place es q n) place) rest) e
 after es q n place rest (Some m) e true f =
-    let same : number_at es place ≡ Some m = ap (number_at es) (same-equal place q f) ∙ e in
-    ap (λ (x : Option ℕ). or_else (number_at (if is_some x then es else insert_entry same_place es q n) place) rest) e
+    let same : number_by_place es place ≡ Some m = ap (number_by_place es) (same-equal place q f) ∙ e in
+    ap (λ (x : Option ℕ). or_else (number_by_place (if is_some x then es else insert_entry same_place es q n) place) rest) e
     ∙ ap (λ (x : Option ℕ). or_else x rest) same
     ∙ sym (ap (λ (x : Option ℕ). or_else x (Some n)) same)
 after es q n place rest None e b f =
-    ap (λ (x : Option ℕ). or_else (number_at (if is_some x then es else insert_entry same_place es q n) place) rest) e
-    ∙ ap (λ l. or_else (number_at l place) rest) (insert_entry-absent same_place q n es (absent_from_lookup (same_place q) es e))
+    ap (λ (x : Option ℕ). or_else (number_by_place (if is_some x then es else insert_entry same_place es q n) place) rest) e
+    ∙ ap (λ l. or_else (number_by_place l place) rest) (insert_entry-absent same_place q n es (absent_from_lookup (same_place q) es e))
     ∙ ap (λ x. or_else x rest) (lookup_after (same_place place) es q n)
-    ∙ joined (number_at es place) (same_place place q) n rest
-    ∙ ap (λ c. or_else (number_at es place) (cond c (Some n) rest)) f
+    ∙ joined (number_by_place es place) (same_place place q) n rest
+    ∙ ap (λ c. or_else (number_by_place es place) (cond c (Some n) rest)) f
 
 -- the number that is kept at a place is that of the first thing there
-numbered-all : (spots : List (Option RecordPlace)) (t : Numbered) (place : RecordPlace) → number_at (with_all t spots).entries place ≡ or_else (number_at t.entries place) (position_from (is_at place) t.next spots)
+numbered-all : (spots : List (Option RecordPlace)) (t : Numbered) (place : RecordPlace) → number_by_place (with_all t spots).entries place ≡ or_else (number_by_place t.entries place) (position_from (is_at place) t.next spots)
 unfolding with_next
-numbered-all [] t place = or_none (number_at t.entries place)
+numbered-all [] t place = or_none (number_by_place t.entries place)
 numbered-all (None ∷ spots) t place = numbered-all spots (record { entries = t.entries; next = t.next + 1 }) place
 numbered-all (Some q ∷ spots) t place =
-    numbered-all spots (record { entries = entered t.entries q t.next; next = t.next + 1 }) place
-    ∙ after t.entries q t.next place (position_from (is_at place) (t.next + 1) spots) (number_at t.entries q) refl (same_place place q) refl
+    numbered-all spots (record { entries = added_entry t.entries q t.next; next = t.next + 1 }) place
+    ∙ after t.entries q t.next place (position_from (is_at place) (t.next + 1) spots) (number_by_place t.entries q) refl (same_place place q) refl
 
-pub numbered-first : (spots : List (Option RecordPlace)) (place : RecordPlace) → number_at (with_all none_numbered spots).entries place ≡ position (is_at place) spots
+pub numbered-first : (spots : List (Option RecordPlace)) (place : RecordPlace) → number_by_place (with_all none_numbered spots).entries place ≡ position (is_at place) spots
 unfolding or_else
 numbered-first spots place = numbered-all spots none_numbered place ∙ sym (position_from-zero (is_at place) spots)
 
@@ -95,10 +95,10 @@ position_of : (place : RecordPlace) (n : ℕ) (cs : List NumberedClass) → posi
 position_of place n [] = refl
 position_of place n (c ∷ cs) = ap (λ o. cond (same_place place (place_of_class c)) (Some n) o) (position_of place (n + 1) cs)
 
-pub class_numbered : (ps : List PackageRecord) (t : Numbered) (flags : List Bool) (m : Numbered) (exports : List (List Exported)) (met : List (List (Option ℕ))) (place : RecordPlace) → AreIndexed ps t flags m exports met → number_at t.entries place ≡ class_at ps place
+pub class_numbered : (ps : List PackageRecord) (t : Numbered) (flags : List Bool) (m : Numbered) (exports : List (List Exported)) (met : List (List (Option ℕ))) (place : RecordPlace) → AreIndexed ps t flags m exports met → number_by_place t.entries place ≡ class_at ps place
 unfolding class_at
 class_numbered ps t flags m exports met place h =
-    ap (λ (x : Numbered). number_at x.entries place) h.numbers
+    ap (λ (x : Numbered). number_by_place x.entries place) h.numbers
     ∙ numbered-first (class_spots 0 ps) place
     ∙ ap (position (is_at place)) (spots-are 0 ps)
     ∙ position_from-zero (is_at place) (map (λ c. Some (place_of_class c)) (numbered_classes ps))
@@ -125,7 +125,7 @@ class_below ps place (Some c) h = subst (λ n. c < n) (length-map (numbered_clas
 
 -- ---- flags
 
-flags-are : (k : ℕ) (ps : List PackageRecord) → class_flags ps ≡ map (λ (c : NumberedClass). is_interface c.record_of.flags) (classes_after k ps)
+flags-are : (k : ℕ) (ps : List PackageRecord) → interface_flags ps ≡ map (λ (c : NumberedClass). is_interface c.record_of.flags) (classes_after k ps)
 flags-are k [] = refl
 flags-are k (p ∷ ps) =
     ap₂ ◌++◌ (flags_of p.classes) (flags-are (k + 1) ps)
@@ -152,11 +152,11 @@ flag_read ps t flags m exports met c b h lt e = flag_numbered ps t flags m expor
 
 -- ---- methods
 
-spots_in : (k : ℕ) (p : PackageRecord) (n : ℕ) (c : described.Class) (i : ℕ) (ms : List described.Method) → map (spot_of_method k (is_placed p c)) ms ≡ map place_of_method (methods_of_class k p n c i ms)
+spots_in : (k : ℕ) (p : PackageRecord) (n : ℕ) (c : described.ClassDescriptor) (i : ℕ) (ms : List described.MethodDescriptor) → map (spot_of_method k (is_placed p c)) ms ≡ map place_of_method (methods_of_class k p n c i ms)
 spots_in k p n c i [] = refl
 spots_in k p n c i (m ∷ ms) = ap (λ l. spot_of_method k (is_placed p c) m ∷ l) (spots_in k p n c (i + 1) ms)
 
-spots_of : (k : ℕ) (p : PackageRecord) (n : ℕ) (cs : List described.Class) → spots_of_classes k (names_interface p.classes) cs ≡ map place_of_method (methods_of_classes k p n cs)
+spots_of : (k : ℕ) (p : PackageRecord) (n : ℕ) (cs : List described.ClassDescriptor) → spots_of_classes k (names_interface p.classes) cs ≡ map place_of_method (methods_of_classes k p n cs)
 spots_of k p n [] = refl
 spots_of k p n (c ∷ cs) =
     ap₂ ◌++◌ (spots_in k p n c 0 c.methods) (spots_of k p (n + 1) cs)
@@ -168,10 +168,10 @@ method_spots_are k (p ∷ ps) =
     ap₂ ◌++◌ (spots_of k p 0 p.description.items.classes) (method_spots_are (k + 1) ps)
     ∙ sym (map-append place_of_method (methods_of_classes k p 0 p.description.items.classes) (methods_after (k + 1) ps))
 
-pub method_numbered : (ps : List PackageRecord) (t : Numbered) (flags : List Bool) (m : Numbered) (exports : List (List Exported)) (met : List (List (Option ℕ))) (place : RecordPlace) → AreIndexed ps t flags m exports met → number_at m.entries place ≡ method_at ps place
+pub method_numbered : (ps : List PackageRecord) (t : Numbered) (flags : List Bool) (m : Numbered) (exports : List (List Exported)) (met : List (List (Option ℕ))) (place : RecordPlace) → AreIndexed ps t flags m exports met → number_by_place m.entries place ≡ method_at ps place
 unfolding method_at
 method_numbered ps t flags m exports met place h =
-    ap (λ (x : Numbered). number_at x.entries place) h.methods
+    ap (λ (x : Numbered). number_by_place x.entries place) h.methods
     ∙ numbered-first (method_spots 0 ps) place
     ∙ ap (position (is_at place)) (method_spots_are 0 ps)
 

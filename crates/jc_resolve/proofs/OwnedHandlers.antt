@@ -5,21 +5,21 @@ use Rattle.std.specs.List.{filter_map}
 use Rattle.std.proofs.lemmas.Bool.{false≢true, ltb-true, leb-true, lt-ltb, le-leb, and_parts, and_from}
 use Rattle.std.proofs.lemmas.List.Elements.{All-nil, All-cons}
 use Rattle.cap_method.specs.declared.handler.HandlerInfo.{HandlerInfo}
-use Rattle.cap_desc.specs.DescriptorFormat.{Method}
+use Rattle.cap_desc.specs.DescriptorFormat.{MethodDescriptor}
 use Rattle.cap_components.specs.declared.fault.PackFault.{PackFault}
 use Rattle.cap_components.specs.declared.fault.PackFault.TheVariants.{HandlerOutside}
 use Rattle.cap_package.specs.MethodChecks.{code_start, code_end}
-use Rattle.cap_package.specs.HandlerChecks.{claims, owners, is_within, has_home, entry_fault, numbered, numbered_fault}
+use Rattle.cap_package.specs.HandlerChecks.{claims, owners, is_within, has_home, handler_fault, numbered, numbered_fault}
 use Rattle.jc_resolve.proofs.Faultless.{IsOneOf, faultless}
 
 -- a handler in the code of a method
-pub record LiesIn (info : List ℕ) (m : Method) (h : HandlerInfo) : Type 0 where
+pub record LiesIn (info : List ℕ) (m : MethodDescriptor) (h : HandlerInfo) : Type 0 where
   pub start : code_start info m ≤ h.start
   pub stop : h.start + h.length ≤ code_end info m
   pub entry : code_start info m ≤ h.entry
   pub before : h.entry < code_end info m
 
-lies : (info : List ℕ) (m : Method) (h : HandlerInfo) → is_within info h m ≡ true → LiesIn info m h
+lies : (info : List ℕ) (m : MethodDescriptor) (h : HandlerInfo) → is_within info h m ≡ true → LiesIn info m h
 lies info m h e =
     let start = leb (code_start info m) h.start in
     let stop = leb (h.start + h.length) (code_end info m) in
@@ -45,9 +45,9 @@ one_kept t [] x h e = absurd h
 one_kept t (y ∷ ys) x (inl same) e = kept_by t y (filter t ys) (t y) x refl same e
 one_kept t (y ∷ ys) x (inr h) e = kept_after y (filter t ys) (t y) x (one_kept t ys x h e)
 
-only_home : (info : List ℕ) (h : HandlerInfo) (ms : List Method) (m : Method) → IsOneOf ms m → has_home info h ms ≡ true → is_within info h m ≡ true
+only_home : (info : List ℕ) (h : HandlerInfo) (ms : List MethodDescriptor) (m : MethodDescriptor) → IsOneOf ms m → has_home info h ms ≡ true → is_within info h m ≡ true
 only_home info h [] m one e = absurd one
-only_home info h (n ∷ []) m (inl same) e = subst (λ (k : Method). is_within info h k ≡ true) (sym same) e
+only_home info h (n ∷ []) m (inl same) e = subst (λ (k : MethodDescriptor). is_within info h k ≡ true) (sym same) e
 only_home info h (n ∷ []) m (inr one) e = absurd one
 only_home info h (n ∷ l ∷ ms) m one e = absurd (false≢true e)
 
@@ -55,11 +55,11 @@ home_by : (fault : PackFault) (b : Bool) → cond b None (Some fault) ≡ None �
 home_by fault true e = refl
 home_by fault false e = absurd cc
 
-claimed : (number : ℕ) (m : Method) → m.handler_index ≤ number → number < m.handler_index + m.handler_count → claims number m ≡ true
+claimed : (number : ℕ) (m : MethodDescriptor) → m.handler_index ≤ number → number < m.handler_index + m.handler_count → claims number m ≡ true
 claimed number m low high = and_from _ _ (le-leb m.handler_index number low) (lt-ltb number (m.handler_index + m.handler_count) high)
 
-claimed_lies : (info : List ℕ) (ms : List Method) (m : Method) (number : ℕ) (h : HandlerInfo) → entry_fault info ms number h ≡ None → IsOneOf ms m → claims number m ≡ true → LiesIn info m h
-unfolding entry_fault owners
+claimed_lies : (info : List ℕ) (ms : List MethodDescriptor) (m : MethodDescriptor) (number : ℕ) (h : HandlerInfo) → handler_fault info ms number h ≡ None → IsOneOf ms m → claims number m ≡ true → LiesIn info m h
+unfolding handler_fault owners
 claimed_lies info ms m number h e one claim =
     lies info m h (only_home info h (filter (claims number) ms) m (one_kept (claims number) ms m one claim) (home_by (HandlerOutside number) (has_home info h (filter (claims number) ms)) e))
 
@@ -88,7 +88,7 @@ all_taken P (x ∷ xs) zero (suc n) h =
 all_taken P (x ∷ xs) (suc i) n h =
     all_taken P xs i n (λ j y lt e. h j y lt (let same : suc i + j ≡ suc (i + j) = omega arith in rw same e))
 
-pub handlers-lie : (info : List ℕ) (ms : List Method) (hs : List HandlerInfo) (m : Method) → filter_map (numbered_fault info ms) (numbered 0 hs) ≡ [] → IsOneOf ms m → All (LiesIn info m) (take m.handler_count (drop m.handler_index hs))
+pub handlers-lie : (info : List ℕ) (ms : List MethodDescriptor) (hs : List HandlerInfo) (m : MethodDescriptor) → filter_map (numbered_fault info ms) (numbered 0 hs) ≡ [] → IsOneOf ms m → All (LiesIn info m) (take m.handler_count (drop m.handler_index hs))
 handlers-lie info ms hs m none one =
     all_taken (LiesIn info m) hs m.handler_index m.handler_count (λ j h lt e.
     let number = m.handler_index + j in

@@ -3,7 +3,7 @@ use Rattle.std.proofs.Common.{◌≡◌, ℕ, ◌+◌, Bool, true, false, List, 
 use Rattle.std.proofs.lemmas.Grind.{flat_map-append}
 use Rattle.std.proofs.lemmas.List.{map-append}
 use Rattle.std.proofs.lemmas.List.Sums.{fold-append}
-use Rattle.cap_desc.specs.DescriptorFormat.{Class, Method}
+use Rattle.cap_desc.specs.DescriptorFormat.{ClassDescriptor, MethodDescriptor}
 use Rattle.cap_desc.specs.Members.{fields_of, methods_of}
 use Rattle.cap_package.specs.PackageRecord.{PackageRecord}
 use Rattle.first_fault.specs.declared.place.Place.{Place}
@@ -73,7 +73,7 @@ module _ (fault : ℕ × ℕ → Option LinkFault) (exact : AreExact link_place 
 -- ---- the references of a Descriptor, in two passes over its records
 
 -- the methods of several records, record by record
-methods_flat : {Y : Type 0} (f : Method → List Y) (ds : List Class) → flat_map f (methods_of ds) ≡ flat_map (λ (d : Class). flat_map f d.methods) ds
+methods_flat : {Y : Type 0} (f : MethodDescriptor → List Y) (ds : List ClassDescriptor) → flat_map f (methods_of ds) ≡ flat_map (λ (d : ClassDescriptor). flat_map f d.methods) ds
 methods_flat f [] = refl
 methods_flat f (d ∷ ds) = flat_map-append f d.methods (methods_of ds) ∙ ap (λ l. flat_map f d.methods ++ l) (methods_flat f ds)
 
@@ -88,7 +88,7 @@ module _ (all : List PackageRecord) (k : ℕ) where
   on before = least_from link_place before (reference_fault all k)
 
   -- what each record names is looked at in two parts
-  records_in_two : (whole front back : Class → List ℕ) → ((d : Class) (before : Option LinkFault) → on before (whole d) ≡ on (on before (front d)) (back d)) → (ds : List Class) (before : Option LinkFault)
+  records_in_two : (whole front back : ClassDescriptor → List ℕ) → ((d : ClassDescriptor) (before : Option LinkFault) → on before (whole d) ≡ on (on before (front d)) (back d)) → (ds : List ClassDescriptor) (before : Option LinkFault)
       → on before (flat_map whole ds) ≡ on (on before (flat_map front ds)) (flat_map back ds)
   records_in_two whole front back parts [] before = refl
   records_in_two whole front back parts (d ∷ ds) before =
@@ -103,13 +103,13 @@ module _ (all : List PackageRecord) (k : ℕ) where
       ∙ ap (λ o. on (on o b) backs) (sym (fold-append _ before a fronts))
       ∙ sym (fold-append _ (on before (a ++ fronts)) b backs)
 
-  abbrev class_of : Class → List ℕ
+  abbrev class_of : ClassDescriptor → List ℕ
   class_of d = d.class_ref ∷ []
 
   descriptor_in_two : (p : PackageRecord) (before : Option LinkFault) → on before (references_described p) ≡ on (on before (references_for_methods p)) (references_besides p)
   descriptor_in_two p before =
       let ds = p.description.items.classes in
-      let types_of : Class → List ℕ = λ (d : Class). flat_map (references_of_method p.description) d.methods in
+      let types_of : ClassDescriptor → List ℕ = λ (d : ClassDescriptor). flat_map (references_of_method p.description) d.methods in
       let classes = flat_map class_of ds in
       let others = flat_map references_without_methods ds in
       let fields = flat_map (references_of_field_type p.description) (fields_of ds) in

@@ -6,7 +6,7 @@ use Rattle.cap_package.specs.PackageRecord.{PackageRecord}
 use Rattle.jc_resolve.specs.Numbering.{NumberedClass, NumberedMethod, classes_of, classes_after, methods_of_class, methods_of_classes, methods_after}
 
 module _ {Y : Type 0} (f : NumberedMethod → Y) (ys : List Y) (k : ℕ) (p : PackageRecord) where
-  pub classes_step : (n : ℕ) (c : described.Class) (cs : List described.Class) → ys ++ map f (methods_of_classes k p n (c ∷ cs)) ≡ (ys ++ map f (methods_of_class k p n c 0 c.methods)) ++ map f (methods_of_classes k p (n + 1) cs)
+  pub classes_step : (n : ℕ) (c : described.ClassDescriptor) (cs : List described.ClassDescriptor) → ys ++ map f (methods_of_classes k p n (c ∷ cs)) ≡ (ys ++ map f (methods_of_class k p n c 0 c.methods)) ++ map f (methods_of_classes k p (n + 1) cs)
   classes_step n c cs =
       ap (λ l. ys ++ l) (map-append f (methods_of_class k p n c 0 c.methods) (methods_of_classes k p (n + 1) cs))
       ∙ sym (append_assoc ys (map f (methods_of_class k p n c 0 c.methods)) (map f (methods_of_classes k p (n + 1) cs)))

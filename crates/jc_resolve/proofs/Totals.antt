@@ -18,16 +18,16 @@ length_classes k (p ∷ ps) =
 pub classes_total : (ps : List PackageRecord) → length (numbered_classes ps) ≡ class_total ps
 classes_total ps = length_classes 0 ps
 
-length_class : (k : ℕ) (p : PackageRecord) (n : ℕ) (c : described.Class) (i : ℕ) (ms : List described.Method) → length (methods_of_class k p n c i ms) ≡ length ms
+length_class : (k : ℕ) (p : PackageRecord) (n : ℕ) (c : described.ClassDescriptor) (i : ℕ) (ms : List described.MethodDescriptor) → length (methods_of_class k p n c i ms) ≡ length ms
 length_class k p n c i [] = refl
 length_class k p n c i (m ∷ ms) = ap suc (length_class k p n c (i + 1) ms)
 
-length_in : (k : ℕ) (p : PackageRecord) (n : ℕ) (cs : List described.Class) → length (methods_of_classes k p n cs) ≡ method_count cs
+length_in : (k : ℕ) (p : PackageRecord) (n : ℕ) (cs : List described.ClassDescriptor) → length (methods_of_classes k p n cs) ≡ method_count cs
 length_in k p n [] = refl
 length_in k p n (c ∷ cs) =
     length-append (methods_of_class k p n c 0 c.methods) (methods_of_classes k p (n + 1) cs)
     ∙ ap₂ ◌+◌ (length_class k p n c 0 c.methods) (length_in k p (n + 1) cs)
-    ∙ sym (sum_by-cons (λ (d : described.Class). length d.methods) c cs)
+    ∙ sym (sum_by-cons (λ (d : described.ClassDescriptor). length d.methods) c cs)
 
 pub length_methods : (k : ℕ) (ps : List PackageRecord) → length (methods_after k ps) ≡ method_total ps
 length_methods k [] = refl

@@ -6,7 +6,7 @@ use Rattle.std.specs.Option.{option_to_list}
 use Rattle.cap_class.specs.ClassFormat.{Class, Interface}
 use Rattle.cap_desc.specs.declared.type_item.TypeItem.{TypeItem}
 use Rattle.cap_desc.specs.DescriptorFormat as described
-use Rattle.cap_desc.specs.DescriptorFormat.{Field}
+use Rattle.cap_desc.specs.DescriptorFormat.{FieldDescriptor}
 use Rattle.cap_desc.specs.Members.{methods_of, fields_of}
 use Rattle.cap_desc.specs.TypeFormat.{names_class}
 use Rattle.cap_package.specs.Descriptions.{Description, field_type}
@@ -61,24 +61,24 @@ abbrev pub references_of_class : Class → List ℕ
 references_of_class c = super_references c.super_ref ++ map (λ (i : Interface). i.class_ref) c.interfaces
 
 -- the class reference of an instance field
-abbrev pub reference_of_field : Field → List ℕ
+abbrev pub reference_of_field : FieldDescriptor → List ℕ
 reference_of_field f = if is_static f.flags then [] else reference_in f.bytes ∷ []
 
 -- those of a record of the Descriptor
-abbrev pub references_of_record : described.Class → List ℕ
+abbrev pub references_of_record : described.ClassDescriptor → List ℕ
 references_of_record d = d.class_ref ∷ (d.interfaces ++ flat_map reference_of_field d.fields)
 
 -- those in type descriptors that fields and methods name
 abbrev pub reference_of_type : TypeItem → List ℕ
 reference_of_type t = if names_class t.nibble then t.class_ref ∷ [] else []
 
-abbrev pub references_of_field_type : Description → Field → List ℕ
+abbrev pub references_of_field_type : Description → FieldDescriptor → List ℕ
 references_of_field_type d f = flat_map reference_of_type (option_to_list (field_type d f.ty))
 
 abbrev pub references_of_types_at : Description → ℕ → List ℕ
 references_of_types_at d offset = flat_map reference_of_type (types_named d offset)
 
-abbrev pub references_of_method : Description → described.Method → List ℕ
+abbrev pub references_of_method : Description → described.MethodDescriptor → List ℕ
 references_of_method d m = references_of_types_at d m.type_offset
 
 abbrev pub references_of_types : Description → List ℕ

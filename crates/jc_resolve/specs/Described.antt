@@ -6,15 +6,15 @@ use Rattle.jc_resolve.specs.declared.place.RecordPlace.{RecordPlace}
 use Rattle.jc_resolve.specs.Numbers.{Numbered, none_numbered, with_all}
 
 -- a record describes the class at an offset
-abbrev pub describes_at : ℕ → described.Class → Bool
+abbrev pub describes_at : ℕ → described.ClassDescriptor → Bool
 describes_at offset d = d.class_ref == offset
 
 -- one of the records describes a class
-abbrev pub IsDescribedOnce : List described.Class → Class → Type 0
+abbrev pub IsDescribedOnce : List described.ClassDescriptor → Class → Type 0
 IsDescribedOnce ds c = count_by (describes_at c.offset) ds ≡ 1
 
 -- each of some classes is
-abbrev pub AreDescribedOnce : List described.Class → List Class → Type 0
+abbrev pub AreDescribedOnce : List described.ClassDescriptor → List Class → Type 0
 AreDescribedOnce ds [] = Unit {0}
 AreDescribedOnce ds (c ∷ cs) = IsDescribedOnce ds c × AreDescribedOnce ds cs
 
@@ -23,8 +23,8 @@ AreDescribedOnce ds (c ∷ cs) = IsDescribedOnce ds c × AreDescribedOnce ds cs
 abbrev pub place_at : ℕ → RecordPlace
 place_at offset = record { «package» = 0; offset = offset }
 
-abbrev pub spot_of_record : described.Class → Option RecordPlace
+abbrev pub spot_of_record : described.ClassDescriptor → Option RecordPlace
 spot_of_record d = Some (place_at d.class_ref)
 
-pub record AreFound (ds : List described.Class) (t : Numbered) : Type 0 where
+pub record AreFound (ds : List described.ClassDescriptor) (t : Numbered) : Type 0 where
   pub numbers : t ≡ with_all none_numbered (map spot_of_record ds)

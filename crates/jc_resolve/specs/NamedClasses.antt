@@ -4,7 +4,7 @@ use Rattle.std.specs.List.{range_with_len}
 use Rattle.cap_class.specs.ClassFormat.{Class, Interface, is_interface}
 use Rattle.cap_desc.specs.declared.type_item.TypeItem.{TypeItem}
 use Rattle.cap_desc.specs.DescriptorFormat as described
-use Rattle.cap_desc.specs.DescriptorFormat.{Field}
+use Rattle.cap_desc.specs.DescriptorFormat.{FieldDescriptor}
 use Rattle.cap_package.specs.Descriptions.{Description, field_type}
 use Rattle.cap_package.specs.HeaderChecks.{is_static}
 use Rattle.cap_package.specs.PackageRecord.{PackageRecord}
@@ -19,56 +19,56 @@ use Rattle.jc_resolve.specs.WorldTypes.{cells_of_type}
 -- ---- cells
 
 -- a record of the Descriptor is that of the class at an offset
-abbrev pub describes : ℕ → described.Class → Bool
+abbrev pub describes : ℕ → described.ClassDescriptor → Bool
 describes offset d = is_internal offset && d.class_ref == offset
 
 -- the instance fields that the Descriptor describes of the class at an offset
-abbrev pub is_instance : Field → Bool
-is_instance f = not (is_static f.flags)
+abbrev pub is_instance_field : FieldDescriptor → Bool
+is_instance_field f = not (is_static f.flags)
 
-unfoldable pub fields_described : ℕ → described.Class → List Field
-fields_described offset d = if describes offset d then filter is_instance d.fields else []
+unfoldable pub fields_described : ℕ → described.ClassDescriptor → List FieldDescriptor
+fields_described offset d = if describes offset d then filter is_instance_field d.fields else []
 
-unfoldable pub instance_fields : List described.Class → ℕ → List Field
+unfoldable pub instance_fields : List described.ClassDescriptor → ℕ → List FieldDescriptor
 instance_fields classes offset = flat_map (fields_described offset) classes
 
 -- the token of an instance field is the last of its three bytes
-abbrev pub token_of : Field → ℕ
+abbrev pub token_of : FieldDescriptor → ℕ
 token_of f = slice_index f.bytes 2
 
-abbrev pub has_token : ℕ → Field → Bool
+abbrev pub has_token : ℕ → FieldDescriptor → Bool
 has_token token f = token_of f == token
 
-unfoldable pub with_token : List Field → ℕ → List Field
+unfoldable pub with_token : List FieldDescriptor → ℕ → List FieldDescriptor
 with_token fields token = filter (has_token token) fields
 
 -- fields in the order of their tokens; those with one token as they come
-abbrev pub by_token : List Field → List Field
+abbrev pub by_token : List FieldDescriptor → List FieldDescriptor
 by_token fields = flat_map (with_token fields) (range_with_len 0 256)
 
 -- the token after the greatest of fields
-unfoldable pub tokens_end : List Field → ℕ
+unfoldable pub tokens_end : List FieldDescriptor → ℕ
 tokens_end fields = fold (λ end f. max end (token_of f + 1)) 0 fields
 
 abbrev pub cells_by : List PackageRecord → ℕ → ℕ → Option TypeItem → List Ty
 cells_by ps object k None = []
 cells_by ps object k (Some t) = cells_of_type ps object k t
 
-unfoldable pub cells_of_field : List PackageRecord → ℕ → ℕ → Description → Field → List Ty
+unfoldable pub cells_of_field : List PackageRecord → ℕ → ℕ → Description → FieldDescriptor → List Ty
 cells_of_field ps object k d f = cells_by ps object k (field_type d f.ty)
 
 -- the types of the cells of instance fields: in the order of the fields' tokens
-unfoldable pub cells_of_fields : List PackageRecord → ℕ → ℕ → Description → List Field → List Ty
+unfoldable pub cells_of_fields : List PackageRecord → ℕ → ℕ → Description → List FieldDescriptor → List Ty
 cells_of_fields ps object k d fields = flat_map (cells_of_field ps object k d) (by_token fields)
 
 -- ---- tables
 
 -- an entry of a dispatch table is the offset of a method; 0xFFFF keeps the superclass's entry
-unfoldable pub entry_of : List PackageRecord → ℕ → ℕ → Option ℕ
-entry_of ps k offset = if offset == 0xFFFF then None else method_at ps (record { «package» = k; offset = offset })
+unfoldable pub dispatch_entry : List PackageRecord → ℕ → ℕ → Option ℕ
+dispatch_entry ps k offset = if offset == 0xFFFF then None else method_at ps (record { «package» = k; offset = offset })
 
-abbrev pub table_of : List PackageRecord → ℕ → ℕ → List ℕ → DispatchTable
-table_of ps k base offsets = record { base = base; entries = map (entry_of ps k) offsets }
+abbrev pub dispatch_table : List PackageRecord → ℕ → ℕ → List ℕ → DispatchTable
+dispatch_table ps k base offsets = record { base = base; entries = map (dispatch_entry ps k) offsets }
 
 abbrev pub no_table : DispatchTable
 no_table = record { base = 0; entries = [] }
@@ -109,8 +109,8 @@ named_proper ps object c = record {
   interface = false;
   parent = parent_named ps c.home c.record_of.super_ref;
   interfaces = implemented_interfaces ps c.home c.record_of.interfaces;
-  public = table_of ps c.home c.record_of.public_base c.record_of.public;
-  visible = table_of ps c.home c.record_of.package_base c.record_of.visible;
+  public = dispatch_table ps c.home c.record_of.public_base c.record_of.public;
+  visible = dispatch_table ps c.home c.record_of.package_base c.record_of.visible;
   own = cells_of_fields ps object c.home c.of_package.description
       (instance_fields c.of_package.description.items.classes c.record_of.offset);
 }

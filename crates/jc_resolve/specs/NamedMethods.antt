@@ -9,7 +9,7 @@ use Rattle.cap_method.specs.declared.handler.HandlerInfo.{HandlerInfo}
 use Rattle.cap_method.specs.MethodFormat.{Header}
 use Rattle.cap_package.specs.HeaderChecks.{header_in, is_abstract, is_static}
 use Rattle.cap_package.specs.PackageRecord.{PackageRecord, handlers_of}
-use Rattle.cap_desc.specs.DescriptorFormat.{Class, Method}
+use Rattle.cap_desc.specs.DescriptorFormat.{ClassDescriptor, MethodDescriptor}
 use Rattle.jc_base.specs.declared.record.Handler.{Handler}
 use Rattle.jc_base.specs.declared.record.MethodRec.{MethodRec}
 use Rattle.jc_base.specs.declared.record.Sig.{Sig}
@@ -39,8 +39,8 @@ class_in_entry ps k None = 0
 class_in_entry ps k (Some e) = class_or_none ps k (referred e)
 
 -- the class that a handler catches, by its catch_type_index: throwable for 0
-abbrev pub caught : List PackageRecord → ℕ → ℕ → List Entry → ℕ → ℕ
-caught ps throwable k pool index = if index == 0 then throwable else class_in_entry ps k (slice_get pool index)
+abbrev pub caught_class : List PackageRecord → ℕ → ℕ → List Entry → ℕ → ℕ
+caught_class ps throwable k pool index = if index == 0 then throwable else class_in_entry ps k (slice_get pool index)
 
 -- an offset in an info, which has at most 65,535 bytes
 abbrev pub offset_in_info : ℕ → ℕ
@@ -53,7 +53,7 @@ handler_named ps throwable k pool code_at h = record {
   end = offset_in_info (h.start + h.length) - code_at;
   entry = h.entry - code_at;
   index = h.index;
-  class = caught ps throwable k pool h.index;
+  class = caught_class ps throwable k pool h.index;
 }
 
 -- ---- headers and code
@@ -71,7 +71,7 @@ no_body flags sig = record {
 }
 
 -- the code of a method stands after its header
-abbrev pub body_after : List PackageRecord → ℕ → ℕ → PackageRecord → Method → Header → ℕ → Body
+abbrev pub body_after : List PackageRecord → ℕ → ℕ → PackageRecord → MethodDescriptor → Header → ℕ → Body
 body_after ps throwable k p m h code_at = record {
   is_abstract = is_abstract h;
   nargs = h.nargs;
@@ -82,18 +82,18 @@ body_after ps throwable k p m h code_at = record {
   handlers = map (handler_named ps throwable k p.pool code_at) (handlers_of p m);
 }
 
-abbrev pub body_by : List PackageRecord → ℕ → ℕ → PackageRecord → Method → Sig → Option Header → Body
+abbrev pub body_by : List PackageRecord → ℕ → ℕ → PackageRecord → MethodDescriptor → Sig → Option Header → Body
 body_by ps throwable k p m sig None = no_body m.flags sig
 body_by ps throwable k p m sig (Some h) = body_after ps throwable k p m h (offset_in_info (m.method_offset + h.size))
 
-unfoldable pub body_of : List PackageRecord → ℕ → ℕ → PackageRecord → Method → Sig → Bool → Body
+unfoldable pub body_of : List PackageRecord → ℕ → ℕ → PackageRecord → MethodDescriptor → Sig → Bool → Body
 body_of ps throwable k p m sig has_header = if has_header
     then body_by ps throwable k p m sig (header_in p.methods.info m.method_offset) else no_body m.flags sig
 
 -- ---- methods
 
 -- the class that a record of the Descriptor names
-unfoldable pub class_described : List PackageRecord → ℕ → Class → ℕ
+unfoldable pub class_described : List PackageRecord → ℕ → ClassDescriptor → ℕ
 class_described ps k c = unwrap_or (class_named ps k c.class_ref) 0
 
 abbrev pub is_class : List PackageRecord → Option ℕ → Bool
@@ -101,7 +101,7 @@ is_class ps None = false
 is_class ps (Some c) = not (is_interface_number ps c)
 
 -- the methods of a class have headers, and those of an interface have none
-unfoldable pub have_headers : List PackageRecord → ℕ → PackageRecord → Class → Bool
+unfoldable pub have_headers : List PackageRecord → ℕ → PackageRecord → ClassDescriptor → Bool
 have_headers ps k p c = is_placed p c && is_class ps (class_named ps k c.class_ref)
 
 -- ACC_INIT: a constructor

@@ -61,16 +61,16 @@ pub record NumberedMethod : Type 0 where
   pub home : ℕ
   pub of_package : PackageRecord
   pub class_no : ℕ
-  pub class : described.Class
+  pub class : described.ClassDescriptor
   pub method_no : ℕ
-  pub record_of : described.Method
+  pub record_of : described.MethodDescriptor
   pub placed : Bool
 
-abbrev pub is_placed : PackageRecord → described.Class → Bool
+abbrev pub is_placed : PackageRecord → described.ClassDescriptor → Bool
 is_placed p c = not (names_interface p.classes c.class_ref)
 
-abbrev pub numbered : ℕ → PackageRecord → ℕ → described.Class → ℕ → described.Method → NumberedMethod
-numbered k p class_no c method_no m = record {
+abbrev pub numbered_method : ℕ → PackageRecord → ℕ → described.ClassDescriptor → ℕ → described.MethodDescriptor → NumberedMethod
+numbered_method k p class_no c method_no m = record {
   home = k;
   of_package = p;
   class_no = class_no;
@@ -80,13 +80,13 @@ numbered k p class_no c method_no m = record {
   placed = is_placed p c;
 }
 
-abbrev pub methods_of_class : ℕ → PackageRecord → ℕ → described.Class → ℕ → List described.Method → List NumberedMethod
+abbrev pub methods_of_class : ℕ → PackageRecord → ℕ → described.ClassDescriptor → ℕ → List described.MethodDescriptor → List NumberedMethod
 methods_of_class k p class_no c method_no [] = []
 methods_of_class k p class_no c method_no (m ∷ ms) =
-    numbered k p class_no c method_no m
+    numbered_method k p class_no c method_no m
     ∷ methods_of_class k p class_no c (method_no + 1) ms
 
-abbrev pub methods_of_classes : ℕ → PackageRecord → ℕ → List described.Class → List NumberedMethod
+abbrev pub methods_of_classes : ℕ → PackageRecord → ℕ → List described.ClassDescriptor → List NumberedMethod
 methods_of_classes k p class_no [] = []
 methods_of_classes k p class_no (c ∷ cs) = methods_of_class k p class_no c 0 c.methods ++ methods_of_classes k p (class_no + 1) cs
 

@@ -21,16 +21,16 @@ abbrev pub none_numbered : Numbered
 none_numbered = record { entries = []; next = 0 }
 
 -- the number at a place
-abbrev pub number_at : List (RecordPlace × ℕ) → RecordPlace → Option ℕ
-number_at entries place = lookup (same_place place) entries
+abbrev pub number_by_place : List (RecordPlace × ℕ) → RecordPlace → Option ℕ
+number_by_place entries place = lookup (same_place place) entries
 
-unfoldable pub entered : List (RecordPlace × ℕ) → RecordPlace → ℕ → List (RecordPlace × ℕ)
-entered entries place n = if is_some (number_at entries place) then entries else insert_entry same_place entries place n
+unfoldable pub added_entry : List (RecordPlace × ℕ) → RecordPlace → ℕ → List (RecordPlace × ℕ)
+added_entry entries place n = if is_some (number_by_place entries place) then entries else insert_entry same_place entries place n
 
 -- the next thing is numbered, which stands at a place or at none
 unfoldable pub with_next : Numbered → Option RecordPlace → Numbered
 with_next t None = record { entries = t.entries; next = t.next + 1 }
-with_next t (Some place) = record { entries = entered t.entries place t.next; next = t.next + 1 }
+with_next t (Some place) = record { entries = added_entry t.entries place t.next; next = t.next + 1 }
 
 -- the things are numbered one after the other
 abbrev pub with_all : Numbered → List (Option RecordPlace) → Numbered
@@ -45,15 +45,15 @@ abbrev pub class_spots : ℕ → List PackageRecord → List (Option RecordPlace
 class_spots k [] = []
 class_spots k (p ∷ ps) = map (spot_of_class k) p.classes ++ class_spots (k + 1) ps
 
-abbrev pub class_flags : List PackageRecord → List Bool
-class_flags [] = []
-class_flags (p ∷ ps) = map (λ (c : Class). is_interface c.flags) p.classes ++ class_flags ps
+abbrev pub interface_flags : List PackageRecord → List Bool
+interface_flags [] = []
+interface_flags (p ∷ ps) = map (λ (c : Class). is_interface c.flags) p.classes ++ interface_flags ps
 
-abbrev pub spot_of_method : ℕ → Bool → described.Method → Option RecordPlace
+abbrev pub spot_of_method : ℕ → Bool → described.MethodDescriptor → Option RecordPlace
 spot_of_method k placed m = if placed then Some (record { «package» = k; offset = m.method_offset }) else None
 
 -- the methods of classes, some of which, by their references, are interfaces
-abbrev pub spots_of_classes : ℕ → (ℕ → Bool) → List described.Class → List (Option RecordPlace)
+abbrev pub spots_of_classes : ℕ → (ℕ → Bool) → List described.ClassDescriptor → List (Option RecordPlace)
 spots_of_classes k interfaces [] = []
 spots_of_classes k interfaces (c ∷ cs) = map (spot_of_method k (not (interfaces c.class_ref))) c.methods ++ spots_of_classes k interfaces cs
 
@@ -70,7 +70,7 @@ exported_classes = map (λ (p : PackageRecord). or_none p.export)
 pub record AreIndexed (ps : List PackageRecord) (t : Numbered) (flags : List Bool) (m : Numbered)
     (exports : List (List Exported)) (met : List (List (Option ℕ))) : Type 0 where
   pub numbers : t ≡ with_all none_numbered (class_spots 0 ps)
-  pub flags_are : flags ≡ class_flags ps
+  pub flags_are : flags ≡ interface_flags ps
   pub methods : m ≡ with_all none_numbered (method_spots 0 ps)
   pub exports_are : exports ≡ exported_classes ps
   pub imports : met ≡ imports_met ps

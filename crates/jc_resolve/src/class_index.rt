@@ -4,7 +4,7 @@ ghost use Rattle.cap_class.specs.ClassPart.{classes_left};
 ghost use Rattle.cap_pool.specs.Export.{exported_class_seen};
 ghost use Rattle.jc_resolve.specs.Counts.{class_total, method_total};
 ghost use Rattle.jc_resolve.specs.Numbering.{numbered_classes, numbered_methods, class_at, method_at, is_interface_number};
-ghost use Rattle.jc_resolve.specs.Numbers.{spot_of_class, with_all, none_numbered, class_spots, class_flags};
+ghost use Rattle.jc_resolve.specs.Numbers.{spot_of_class, with_all, none_numbered, class_spots, interface_flags};
 ghost use Rattle.jc_resolve.specs.References.{met_by, place_referred, class_referred, class_named, exported_class, exported_offset, exported_field, exported_method};
 
 use crate::counts::class_total;
@@ -86,7 +86,7 @@ fn number_all(alloc: Global, packages: &Packages<'_, '_>) -> Result<ClassNumbers
     requires many { length packages.now ≤ 16 }
     requires few { class_total packages.now ≤ 4096 }
     ensures numbers { IfOk result (λ x. x.numbers ≡ with_all none_numbered (class_spots 0 packages.now)) }
-    ensures flags { IfOk result (λ x. x.interfaces.items ≡ class_flags packages.now) }
+    ensures flags { IfOk result (λ x. x.interfaces.items ≡ interface_flags packages.now) }
 {
     let count = class_total(packages) as usize;
     let mut numbers = Numbers::with_room(alloc, count)?;

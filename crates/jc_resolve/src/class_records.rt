@@ -11,7 +11,7 @@ ghost use Rattle.jc_resolve.specs.Conditions.{super_references, references_of_cl
 ghost use Rattle.jc_resolve.specs.Described.{describes_at, IsDescribedOnce};
 ghost use Rattle.jc_resolve.specs.Fault.{link_place};
 ghost use Rattle.jc_resolve.specs.Named.{IsByteTable, IsSized};
-ghost use Rattle.jc_resolve.specs.NamedClasses.{is_instance, instance_fields, with_token, cells_of_field, cells_of_fields, tokens_end, entry_of, table_of, no_table, parent_named, implemented_interfaces, interface_with, named_proper, named_class};
+ghost use Rattle.jc_resolve.specs.NamedClasses.{is_instance_field, instance_fields, with_token, cells_of_field, cells_of_fields, tokens_end, dispatch_entry, dispatch_table, no_table, parent_named, implemented_interfaces, interface_with, named_proper, named_class};
 ghost use Rattle.jc_resolve.specs.Numbering.{numbered_class, numbered_classes, classes_of};
 
 use crate::class_index::Index;
@@ -29,9 +29,9 @@ use jc_base::{Iface, Items, Ty};
 use std::alloc::{AllocError, Global};
 
 /// An entry of a dispatch table.
-#[tactic(auto, unfolding(crate::specs::NamedClasses::entry_of))]
+#[tactic(auto, unfolding(crate::specs::NamedClasses::dispatch_entry))]
 fn entry_of(index: &Index<'_, '_, '_>, package: u16, offset: u16) -> Option<u16>
-    ensures { result ≡ entry_of index.now «package» offset }
+    ensures { result ≡ dispatch_entry index.now «package» offset }
 {
     if offset == 0xFFFF {
         return None;
@@ -48,7 +48,7 @@ fn table_of(
     offsets: cap_bytes::Table<'_>,
 ) -> Result<DispatchTable, AllocError>
     requires { length (numbers offsets) ≤ 255 }
-    ensures is { IfOk result (λ t. t ≡ table_of index.now «package» base (numbers offsets.entry)) }
+    ensures is { IfOk result (λ t. t ≡ dispatch_table index.now «package» base (numbers offsets.entry)) }
     ensures sized { IfOk result IsByteTable }
 {
     let mut entries = Vec::with_capacity(alloc, offsets.len() as usize)?;
@@ -110,7 +110,7 @@ fn instance_among(
     count: u16,
     described: DescFields<'_>,
 ) -> Result<Vec<FieldInfo>, AllocError>
-    ensures { IfOk result (λ v. map field_seen v.items ≡ filter is_instance (fields_left described.entry)) }
+    ensures { IfOk result (λ v. map field_seen v.items ≡ filter is_instance_field (fields_left described.entry)) }
 {
     let mut fields = Vec::with_capacity(alloc, count as usize)?;
     'fields: for field in described {

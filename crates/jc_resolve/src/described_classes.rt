@@ -20,9 +20,9 @@ pub struct DescribedClasses<'a> {
 
 impl<'a> Model for DescribedClasses<'a> {
     ghost use Rattle.std.specs.Prelude.{List};
-    ghost use Rattle.cap_desc.specs.DescriptorFormat.{Class};
+    ghost use Rattle.cap_desc.specs.DescriptorFormat.{ClassDescriptor};
 
-    ghost Value = { List Class };
+    ghost Value = { List ClassDescriptor };
 
     ghost use Rattle.std.specs.Prelude.{map};
     ghost use Rattle.cap_desc.specs.ClassRecords.{described_class_seen};

@@ -11,8 +11,8 @@ ghost use Rattle.jc_resolve.specs.Conditions.{reference_fault, references_of_met
 ghost use Rattle.jc_resolve.specs.Fault.{link_place};
 ghost use Rattle.jc_resolve.specs.LookedUp.{references_with_methods, references_for_methods};
 ghost use Rattle.jc_resolve.specs.Named.{IsAgreed};
-ghost use Rattle.jc_resolve.specs.NamedMethods.{HasFewHandlers, class_or_none, caught, handler_named, offset_in_info, no_body, body_after, body_of, class_described, have_headers, is_init, named_method};
-ghost use Rattle.jc_resolve.specs.Numbering.{numbered, numbered_classes, numbered_methods, methods_of_class, methods_of_classes};
+ghost use Rattle.jc_resolve.specs.NamedMethods.{HasFewHandlers, class_or_none, caught_class, handler_named, offset_in_info, no_body, body_after, body_of, class_described, have_headers, is_init, named_method};
+ghost use Rattle.jc_resolve.specs.Numbering.{numbered_method, numbered_classes, numbered_methods, methods_of_class, methods_of_classes};
 ghost use Rattle.jc_resolve.specs.References.{class_named};
 
 use crate::class_index::Index;
@@ -45,7 +45,7 @@ fn class_or_none(home: Home<'_, '_, '_, '_>, reference: PoolReference) -> u16
 
 /// The class that a handler catches, by its catch_type_index.
 fn caught(home: Home<'_, '_, '_, '_>, pool: &Pool<'_>, catch_type: u16) -> u16
-    ensures { result ≡ caught home.entry.index.now (slice_index home.entry.roles 1) home.entry.number (entries pool.now) catch_type }
+    ensures { result ≡ caught_class home.entry.index.now (slice_index home.entry.roles 1) home.entry.number (entries pool.now) catch_type }
 {
     if catch_type == 0 {
         return home.roles[1] as u16;
@@ -299,7 +299,7 @@ fn method_record(
         (λ m.
         m
         ≡ named_method home.entry.index.now home.entry.roles
-        (numbered home.entry.number home.entry.of_package.now of_class.entry.class_no
+        (numbered_method home.entry.number home.entry.of_package.now of_class.entry.class_no
         (described_class_seen of_class.entry.record) method_no (method_seen method))) }
     ensures least { OnOk result
         (least.new

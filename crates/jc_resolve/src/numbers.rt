@@ -1,5 +1,5 @@
 ghost use Rattle.std.specs.Prelude.{◌≡◌, ◌+◌, ◌<◌, IfOk, OnOk};
-ghost use Rattle.jc_resolve.specs.Numbers.{none_numbered, number_at, entered, with_next};
+ghost use Rattle.jc_resolve.specs.Numbers.{none_numbered, number_by_place, added_entry, with_next};
 
 use crate::place::RecordPlace;
 use indexmap::IndexMap;
@@ -33,9 +33,9 @@ impl Numbers {
     }
 
     /// Keeps the next number at a place where none is kept.
-    #[tactic(auto, unfolding(crate::specs::Numbers::entered), using(crate::proofs::Restored::restoring))]
+    #[tactic(auto, unfolding(crate::specs::Numbers::added_entry), using(crate::proofs::Restored::restoring))]
     fn enter(&mut self, place: RecordPlace) -> Result<(), AllocError>
-        ensures { OnOk result (self.new ≡ record { entries = entered self.old.entries place self.old.next; next = self.old.next }) }
+        ensures { OnOk result (self.new ≡ record { entries = added_entry self.old.entries place self.old.next; next = self.old.next }) }
     {
         if let Some(first) = self.map.insert(place, self.next)? {
             // It stays with the first thing there.
@@ -61,7 +61,7 @@ impl Numbers {
     /// The number of the first thing at a place.
     #[inline(always)]
     pub(crate) fn at(&self, place: RecordPlace) -> Option<u16>
-        ensures { result ≡ number_at self.now.entries place }
+        ensures { result ≡ number_by_place self.now.entries place }
     {
         self.map.get(&place).copied()
     }

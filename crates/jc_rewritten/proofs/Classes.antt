@@ -6,7 +6,7 @@ use Rattle.std.proofs.lemmas.Bool.{false≢true, eqb-true}
 use Rattle.cap_class.specs.ClassFormat.{Class, Interface}
 use Rattle.cap_desc.specs.declared.type_item.TypeItem.{TypeItem}
 use Rattle.cap_desc.specs.DescriptorFormat as described
-use Rattle.cap_desc.specs.DescriptorFormat.{Field, Method}
+use Rattle.cap_desc.specs.DescriptorFormat.{FieldDescriptor, MethodDescriptor}
 use Rattle.cap_components.specs.declared.fault.PackFault.TheVariants.{NoMethodAt}
 use Rattle.cap_package.specs.Parts.{Lent}
 use Rattle.cap_package.specs.PackageRecord.{PackageRecord, names_interface}
@@ -22,7 +22,7 @@ use Rattle.jc_decode.specs.declared.symbols.Laid.{Laid}
 use Rattle.jc_resolve.specs.Numbering.{numbered_class, method_at}
 use Rattle.jc_resolve.specs.References.{class_named}
 use Rattle.jc_resolve.specs.WorldTypes.{class_or_object, type_class, type_of}
-use Rattle.jc_resolve.specs.NamedClasses.{fields_described, instance_fields, by_token, cells_by, cells_of_field, cells_of_fields, entry_of, interface_named, implemented_interfaces, parent_named, named_class, named_classes}
+use Rattle.jc_resolve.specs.NamedClasses.{fields_described, instance_fields, by_token, cells_by, cells_of_field, cells_of_fields, dispatch_entry, interface_named, implemented_interfaces, parent_named, named_class, named_classes}
 use Rattle.jc_resolve.proofs.Pairwise.{each-split}
 use Rattle.cap_rewritten.specs.Changes.{Change, changes, now_at}
 use Rattle.cap_rewritten.specs.Written.{IsWritten}
@@ -63,17 +63,17 @@ pub flat_same : {X Y : Type 0} (f g : X → List Y) (xs : List X) → ((x : X) �
 flat_same f g [] h = refl
 flat_same f g (x ∷ xs) h = ap (λ ys. ys ++ flat_map f xs) (h x) ∙ ap (λ ys. g x ++ ys) (flat_same f g xs h)
 
-pub flat_bare : {Z : Type 0} (f : described.Class → List Z) (g : described.Class → described.Class) (cs : List described.Class)
-    → ((c : described.Class) → f c ≡ f (g c)) → flat_map f cs ≡ flat_map f (map g cs)
+pub flat_bare : {Z : Type 0} (f : described.ClassDescriptor → List Z) (g : described.ClassDescriptor → described.ClassDescriptor) (cs : List described.ClassDescriptor)
+    → ((c : described.ClassDescriptor) → f c ≡ f (g c)) → flat_map f cs ≡ flat_map f (map g cs)
 flat_bare f g [] h = refl
 flat_bare f g (c ∷ cs) h = ap (λ ys. ys ++ flat_map f cs) (h c) ∙ ap (λ ys. f (g c) ++ ys) (flat_bare f g cs h)
 
 cells_same : (ps : List PackageRecord) (p q : PackageRecord) (laid : List (Option Laid)) (object k : ℕ) (d e : Description)
-    (fields : List Field) → IsRewritten p laid q → ((f : Field) → field_type e f.ty ≡ field_type d f.ty)
+    (fields : List FieldDescriptor) → IsRewritten p laid q → ((f : FieldDescriptor) → field_type e f.ty ≡ field_type d f.ty)
     → cells_of_fields (and_last ps q) object k e fields ≡ cells_of_fields (and_last ps p) object k d fields
 unfolding cells_of_fields cells_of_field
-cells_same ps p q laid object k d e fields r h = flat_same (λ (f : Field). cells_by (and_last ps q) object k (field_type e f.ty))
-    (λ (f : Field). cells_by (and_last ps p) object k (field_type d f.ty)) (by_token fields)
+cells_same ps p q laid object k d e fields r h = flat_same (λ (f : FieldDescriptor). cells_by (and_last ps q) object k (field_type e f.ty))
+    (λ (f : FieldDescriptor). cells_by (and_last ps p) object k (field_type d f.ty)) (by_token fields)
     (λ f. ap (cells_by (and_last ps q) object k) (h f) ∙ cells_by_same ps p q laid object k (field_type d f.ty) r)
 
 instances_same : (p q : PackageRecord) (laid : List (Option Laid)) (offset : ℕ) → IsRewritten p laid q
@@ -107,15 +107,15 @@ parent_same ps p q laid k reference r = ap (λ o. if reference == 0xFFFF then No
 -- ---- dispatch tables
 
 earlier_entry : (ps : List PackageRecord) (p q : PackageRecord) (laid : List (Option Laid)) (k o : ℕ) → IsRewritten p laid q
-    → k < length ps → entry_of (and_last ps q) k o ≡ entry_of (and_last ps p) k o
-unfolding entry_of
+    → k < length ps → dispatch_entry (and_last ps q) k o ≡ dispatch_entry (and_last ps p) k o
+unfolding dispatch_entry
 earlier_entry ps p q laid k o r lt = ap (λ m. if o == 0xFFFF then None else m) (earlier_method ps p q laid k o r lt)
 
 earlier_entries : (ps : List PackageRecord) (p q : PackageRecord) (laid : List (Option Laid)) (k : ℕ) (os : List ℕ)
-    → IsRewritten p laid q → k < length ps → map (entry_of (and_last ps q) k) os ≡ map (entry_of (and_last ps p) k) os
+    → IsRewritten p laid q → k < length ps → map (dispatch_entry (and_last ps q) k) os ≡ map (dispatch_entry (and_last ps p) k) os
 earlier_entries ps p q laid k [] r lt = refl
-earlier_entries ps p q laid k (o ∷ os) r lt = ap (λ e. e ∷ map (entry_of (and_last ps q) k) os) (earlier_entry ps p q laid k o r lt)
-    ∙ ap (λ es. entry_of (and_last ps p) k o ∷ es) (earlier_entries ps p q laid k os r lt)
+earlier_entries ps p q laid k (o ∷ os) r lt = ap (λ e. e ∷ map (dispatch_entry (and_last ps q) k) os) (earlier_entry ps p q laid k o r lt)
+    ∙ ap (λ es. dispatch_entry (and_last ps p) k o ∷ es) (earlier_entries ps p q laid k os r lt)
 
 pub has_any : (t : Change → Bool) (cs : List Change) → list_any t cs ≡ true → (c : Change) × Has cs c × (t c ≡ true)
 has_any t [] e = absurd (false≢true e)
@@ -128,9 +128,9 @@ has_any t (c ∷ cs) e = by (t c) refl e (λ k. has_any t cs k)
 
 last_entry : (parts : List Lent) (ps : List PackageRecord) (p q : PackageRecord) (laid : List (Option Laid)) (o : ℕ)
     → StandsFor parts p → IsRewritten p laid q → length q.methods.info ≤ 65535
-    → no_entry_fault (is_method_at (class_methods p)) o ≡ None → entry_of (and_last ps q) (length ps) (now_at (changes p laid q) o)
-    ≡ entry_of (and_last ps p) (length ps) o
-unfolding entry_of no_entry_fault no_method_fault
+    → no_entry_fault (is_method_at (class_methods p)) o ≡ None → dispatch_entry (and_last ps q) (length ps) (now_at (changes p laid q) o)
+    ≡ dispatch_entry (and_last ps p) (length ps) o
+unfolding dispatch_entry no_entry_fault no_method_fault
 last_entry parts ps p q laid o s r short e = by (o == 0xFFFF) refl
   where
     is_last : (n : ℕ) → (n == 0xFFFF) ≡ true → n ≡ 0xFFFF
@@ -157,7 +157,7 @@ last_entry parts ps p q laid o s r short e = by (o == 0xFFFF) refl
         let there : is_method_at (map old_of cs) o ≡ true = ap (λ ms. is_method_at ms o) (olds p q laid r)
         ∙ is_told (is_method_at (class_methods p) o) (NoMethodAt o) k in
         let d = has_any (λ (c : Change). c.source.method.method_offset == o) cs
-        (sym (any_map (λ (m : Method). m.method_offset == o) old_of cs) ∙ there) in
+        (sym (any_map (λ (m : MethodDescriptor). m.method_offset == o) old_of cs) ∙ there) in
         let at : offset_of d.0 ≡ o = eqb-true (offset_of d.0) o d.2 in
         let is = now_has cs d.0 d.1 (apart parts p q laid (agrees parts p s.agree) r) in
         let ends = ends_inside p q cs d.0 (each_at (IsWritten p q cs) cs d.0 (all_written p q laid r) d.1) d.1 r.long in
@@ -178,12 +178,12 @@ last_entry parts ps p q laid o s r short e = by (o == 0xFFFF) refl
 last_entries : (parts : List Lent) (ps : List PackageRecord) (p q : PackageRecord) (laid : List (Option Laid)) (os : List ℕ)
     → StandsFor parts p → IsRewritten p laid q → length q.methods.info ≤ 65535
     → Each (λ o. no_entry_fault (is_method_at (class_methods p)) o ≡ None) os
-    → map (entry_of (and_last ps q) (length ps)) (map (now_at (changes p laid q)) os)
-    ≡ map (entry_of (and_last ps p) (length ps)) os
+    → map (dispatch_entry (and_last ps q) (length ps)) (map (now_at (changes p laid q)) os)
+    ≡ map (dispatch_entry (and_last ps p) (length ps)) os
 last_entries parts ps p q laid [] s r short e = refl
 last_entries parts ps p q laid (o ∷ os) s r short e =
-    ap (λ x. x ∷ map (entry_of (and_last ps q) (length ps)) (map (now_at (changes p laid q)) os))
-    (last_entry parts ps p q laid o s r short e.0) ∙ ap (λ xs. entry_of (and_last ps p) (length ps) o ∷ xs)
+    ap (λ x. x ∷ map (dispatch_entry (and_last ps q) (length ps)) (map (now_at (changes p laid q)) os))
+    (last_entry parts ps p q laid o s r short e.0) ∙ ap (λ xs. dispatch_entry (and_last ps p) (length ps) o ∷ xs)
     (last_entries parts ps p q laid os s r short e.1)
 
 -- ---- classes

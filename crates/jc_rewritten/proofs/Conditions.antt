@@ -2,7 +2,7 @@
 use Rattle.std.proofs.Common.{◌≡◌, ◌+◌, ℕ, suc, List, [], ◌∷◌, ◌++◌, length, map, flat_map, filter_map, Bool, Option, option_to_list, refl, sym, ap, ◌∙◌, arith, length-append}
 use Rattle.std.proofs.lemmas.List.{length-map}
 use Rattle.std.specs.List.{range_with_len, cons_option}
-use Rattle.cap_desc.specs.DescriptorFormat.{Method, Field, Class}
+use Rattle.cap_desc.specs.DescriptorFormat.{MethodDescriptor, FieldDescriptor, ClassDescriptor}
 use Rattle.cap_desc.specs.Members.{methods_of, fields_of}
 use Rattle.cap_package.specs.PackageRecord.{PackageRecord, names_interface}
 use Rattle.cap_package.specs.Descriptions.{Description}
@@ -28,12 +28,12 @@ many_classes ps p q laid r =
     ∙ ap length (places_same (now_at (changes p laid q)) ps p q r.classes)
     ∙ length-map (numbered_classes (and_last ps p)) place_of_class
 
-many_in_class : (k : ℕ) (p : PackageRecord) (n : ℕ) (c : Class) (i : ℕ) (ms : List Method)
+many_in_class : (k : ℕ) (p : PackageRecord) (n : ℕ) (c : ClassDescriptor) (i : ℕ) (ms : List MethodDescriptor)
     → length (methods_of_class k p n c i ms) ≡ length ms
 many_in_class k p n c i [] = refl
 many_in_class k p n c i (m ∷ ms) = ap suc (many_in_class k p n c (i + 1) ms)
 
-many_in_classes : (k : ℕ) (p : PackageRecord) (n : ℕ) (cs : List Class)
+many_in_classes : (k : ℕ) (p : PackageRecord) (n : ℕ) (cs : List ClassDescriptor)
     → length (methods_of_classes k p n cs) ≡ length (methods_of cs)
 many_in_classes k p n [] = refl
 many_in_classes k p n (c ∷ cs) =
@@ -77,11 +77,11 @@ flat_same : {X : Type 0} (f g : X → List ℕ) (xs : List X) → ((x : X) → f
 flat_same f g [] h = refl
 flat_same f g (x ∷ xs) h = ap (λ ys. ys ++ flat_map f xs) (h x) ∙ ap (λ ys. g x ++ ys) (flat_same f g xs h)
 
-field_same : (set : ℕ → Bool) (d e : Description) (f : Field) → HasSameDescription set d e
+field_same : (set : ℕ → Bool) (d e : Description) (f : FieldDescriptor) → HasSameDescription set d e
     → references_of_field_type e f ≡ references_of_field_type d f
 field_same set d e f h = ap (λ t. flat_map reference_of_type (option_to_list t)) (same_field set d e f.ty h)
 
-method_same : (set : ℕ → Bool) (d e : Description) (m : Method) → HasSameDescription set d e
+method_same : (set : ℕ → Bool) (d e : Description) (m : MethodDescriptor) → HasSameDescription set d e
     → references_of_method e m ≡ references_of_method d m
 method_same set d e m h = ap (λ t. flat_map reference_of_type (or_none t)) (same_types_named set d e m.type_offset h)
 

@@ -3,7 +3,7 @@ use Rattle.std.proofs.Common.{◌≡◌, ◌<◌, ◌+◌, ℕ, suc, List, [], �
 use Rattle.std.specs.Prelude.{if◌then◌else◌, ◌==◌, ◌&&◌}
 use Rattle.std.proofs.lemmas.List.{map-append, length-map}
 use Rattle.std.proofs.lemmas.Bool.{eqb-true, eqb-false, ne_eqb}
-use Rattle.cap_desc.specs.DescriptorFormat.{Method, Class}
+use Rattle.cap_desc.specs.DescriptorFormat.{MethodDescriptor, ClassDescriptor}
 use Rattle.cap_desc.specs.Members.{methods_but}
 use Rattle.cap_package.specs.PackageRecord.{PackageRecord, names_interface}
 use Rattle.cap_package.specs.StandsFor.{StandsFor}
@@ -28,9 +28,9 @@ use Rattle.jc_rewritten.proofs.Lists.{position_alike}
 
 -- ---- which methods of a package stand at an offset
 
-abbrev flagged : (ℕ → Bool) → (ℕ → Bool) → List Class → List Bool
+abbrev flagged : (ℕ → Bool) → (ℕ → Bool) → List ClassDescriptor → List Bool
 flagged test interfaces [] = []
-flagged test interfaces (c ∷ cs) = map (λ (m : Method). if not (interfaces c.class_ref) then test m.method_offset else false)
+flagged test interfaces (c ∷ cs) = map (λ (m : MethodDescriptor). if not (interfaces c.class_ref) then test m.method_offset else false)
     c.methods ++ flagged test interfaces cs
 
 at_by : (n k o x : ℕ) (b : Bool) → is_at (record { «package» = n; offset = o })
@@ -38,9 +38,9 @@ at_by : (n k o x : ℕ) (b : Bool) → is_at (record { «package» = n; offset =
 at_by n k o x true = refl
 at_by n k o x false = refl
 
-in_class : (n k o : ℕ) (p : PackageRecord) (i : ℕ) (c : Class) (j : ℕ) (ms : List Method)
+in_class : (n k o : ℕ) (p : PackageRecord) (i : ℕ) (c : ClassDescriptor) (j : ℕ) (ms : List MethodDescriptor)
     → map (is_at (record { «package» = n; offset = o })) (map place_of_method (methods_of_class k p i c j ms))
-    ≡ map (λ (m : Method). if not (names_interface p.classes c.class_ref) then n == k && o == m.method_offset else false) ms
+    ≡ map (λ (m : MethodDescriptor). if not (names_interface p.classes c.class_ref) then n == k && o == m.method_offset else false) ms
 in_class n k o p i c j [] = refl
 in_class n k o p i c j (m ∷ ms) =
     ap (λ b. b ∷ map (is_at (record { «package» = n; offset = o })) (map place_of_method (methods_of_class k p i c (j + 1) ms)))
@@ -48,7 +48,7 @@ in_class n k o p i c j (m ∷ ms) =
     ∙ ap (λ bs. (if not (names_interface p.classes c.class_ref) then n == k && o == m.method_offset else false) ∷ bs)
     (in_class n k o p i c (j + 1) ms)
 
-in_classes : (n k o : ℕ) (p : PackageRecord) (i : ℕ) (cs : List Class)
+in_classes : (n k o : ℕ) (p : PackageRecord) (i : ℕ) (cs : List ClassDescriptor)
     → map (is_at (record { «package» = n; offset = o })) (map place_of_method (methods_of_classes k p i cs))
     ≡ flagged (λ x. n == k && o == x) (names_interface p.classes) cs
 in_classes n k o p i [] = refl
@@ -59,17 +59,17 @@ in_classes n k o p i (c ∷ cs) =
     (map place_of_method (methods_of_classes k p (i + 1) cs))
     ∙ ap (λ bs. bs ++ map (is_at (record { «package» = n; offset = o })) (map place_of_method (methods_of_classes k p (i + 1) cs)))
     (in_class n k o p i c 0 c.methods)
-    ∙ ap (λ bs. map (λ (m : Method). if not (names_interface p.classes c.class_ref) then n == k && o == m.method_offset else false)
+    ∙ ap (λ bs. map (λ (m : MethodDescriptor). if not (names_interface p.classes c.class_ref) then n == k && o == m.method_offset else false)
     c.methods ++ bs) (in_classes n k o p (i + 1) cs)
 
 -- ---- before and after
 
-interfaces_same : (test : ℕ → Bool) (s t : ℕ → Bool) (cs : List Class) → ((r : ℕ) → s r ≡ t r)
+interfaces_same : (test : ℕ → Bool) (s t : ℕ → Bool) (cs : List ClassDescriptor) → ((r : ℕ) → s r ≡ t r)
     → flagged test s cs ≡ flagged test t cs
 interfaces_same test s t [] h = refl
 interfaces_same test s t (c ∷ cs) h =
-    ap (λ b. map (λ (m : Method). if not b then test m.method_offset else false) c.methods ++ flagged test s cs) (h c.class_ref)
-    ∙ ap (λ bs. map (λ (m : Method). if not (t c.class_ref) then test m.method_offset else false) c.methods ++ bs)
+    ap (λ b. map (λ (m : MethodDescriptor). if not b then test m.method_offset else false) c.methods ++ flagged test s cs) (h c.class_ref)
+    ∙ ap (λ bs. map (λ (m : MethodDescriptor). if not (t c.class_ref) then test m.method_offset else false) c.methods ++ bs)
     (interfaces_same test s t cs h)
 
 both_parts : (xs ys us vs : List Bool) → length xs ≡ length ys → xs ++ us ≡ ys ++ vs → (xs ≡ ys) × (us ≡ vs)
@@ -82,24 +82,24 @@ both_parts (x ∷ xs) (y ∷ ys) us vs l e =
     let r = both_parts xs ys us vs (omega arith) t in
     (rw (h, r.0) refl, r.1)
 
-abbrev tested : (ℕ → Bool) → Method → Bool
+abbrev tested : (ℕ → Bool) → MethodDescriptor → Bool
 tested test m = test m.method_offset
 
-flags_by : (now was : ℕ → Bool) (set : ℕ → Bool) (c d : Class) (cs ds : List Class) (b : Bool) → set c.class_ref ≡ b
+flags_by : (now was : ℕ → Bool) (set : ℕ → Bool) (c d : ClassDescriptor) (cs ds : List ClassDescriptor) (b : Bool) → set c.class_ref ≡ b
     → d.class_ref ≡ c.class_ref → bare_class set d ≡ bare_class set c
     → map (tested now) (if b then methods_but set ds else d.methods ++ methods_but set ds)
     ≡ map (tested was) (if b then methods_but set cs else c.methods ++ methods_but set cs)
     → (map (tested now) (methods_but set ds) ≡ map (tested was) (methods_but set cs) → flagged now set ds ≡ flagged was set cs)
-    → map (λ (m : Method). if not b then now m.method_offset else false) d.methods ++ flagged now set ds
-    ≡ map (λ (m : Method). if not b then was m.method_offset else false) c.methods ++ flagged was set cs
+    → map (λ (m : MethodDescriptor). if not b then now m.method_offset else false) d.methods ++ flagged now set ds
+    ≡ map (λ (m : MethodDescriptor). if not b then was m.method_offset else false) c.methods ++ flagged was set cs
 flags_by now was set c d cs ds true e r s h others =
     let same : d.methods ≡ c.methods = sym (ap (λ b. if b then d.methods else map bare_method d.methods) (ap set r ∙ e))
-    ∙ ap (λ (x : Class). x.methods) s ∙ ap (λ b. if b then c.methods else map bare_method c.methods) e in
-    ap (λ ms. map (λ (m : Method). false) ms ++ flagged now set ds) same
-    ∙ ap (λ bs. map (λ (m : Method). false) c.methods ++ bs) (others h)
+    ∙ ap (λ (x : ClassDescriptor). x.methods) s ∙ ap (λ b. if b then c.methods else map bare_method c.methods) e in
+    ap (λ ms. map (λ (m : MethodDescriptor). false) ms ++ flagged now set ds) same
+    ∙ ap (λ bs. map (λ (m : MethodDescriptor). false) c.methods ++ bs) (others h)
 flags_by now was set c d cs ds false e r s h others =
     let same : map bare_method d.methods ≡ map bare_method c.methods =
-    sym (ap (λ b. if b then d.methods else map bare_method d.methods) (ap set r ∙ e)) ∙ ap (λ (x : Class). x.methods) s
+    sym (ap (λ b. if b then d.methods else map bare_method d.methods) (ap set r ∙ e)) ∙ ap (λ (x : ClassDescriptor). x.methods) s
     ∙ ap (λ b. if b then c.methods else map bare_method c.methods) e in
     let l : length (map (tested now) d.methods) ≡ length (map (tested was) c.methods) =
     length-map d.methods (tested now) ∙ sym (length-map d.methods bare_method) ∙ ap length same ∙ length-map c.methods bare_method
@@ -109,7 +109,7 @@ flags_by now was set c d cs ds false e r s h others =
     (sym (map-append (tested now) d.methods (methods_but set ds)) ∙ h ∙ map-append (tested was) c.methods (methods_but set cs)) in
     ap (λ bs. bs ++ flagged now set ds) parts.0 ∙ ap (λ bs. map (tested was) c.methods ++ bs) (others parts.1)
 
-flags_alike : (now was : ℕ → Bool) (set : ℕ → Bool) (cs ds : List Class) → map (bare_class set) ds ≡ map (bare_class set) cs
+flags_alike : (now was : ℕ → Bool) (set : ℕ → Bool) (cs ds : List ClassDescriptor) → map (bare_class set) ds ≡ map (bare_class set) cs
     → map (tested now) (methods_but set ds) ≡ map (tested was) (methods_but set cs) → flagged now set ds ≡ flagged was set cs
 flags_alike now was set [] [] e h = refl
 flags_alike now was set [] (d ∷ ds) e h = absurd cc
@@ -117,8 +117,8 @@ flags_alike now was set (c ∷ cs) [] e h = absurd cc
 flags_alike now was set (c ∷ cs) (d ∷ ds) e h =
     let s : bare_class set d ≡ bare_class set c = cc in
     let t : map (bare_class set) ds ≡ map (bare_class set) cs = cc in
-    let r : d.class_ref ≡ c.class_ref = ap (λ (x : Class). x.class_ref) s in
-    ap (λ b. map (λ (m : Method). if not b then now m.method_offset else false) d.methods ++ flagged now set ds) (ap set r)
+    let r : d.class_ref ≡ c.class_ref = ap (λ (x : ClassDescriptor). x.class_ref) s in
+    ap (λ b. map (λ (m : MethodDescriptor). if not b then now m.method_offset else false) d.methods ++ flagged now set ds) (ap set r)
     ∙ flags_by now was set c d cs ds (set c.class_ref) refl r s
     (ap (λ b. map (tested now) (if b then methods_but set ds else d.methods ++ methods_but set ds)) (sym (ap set r))
     ∙ h) (flags_alike now was set cs ds t)
@@ -247,7 +247,7 @@ earlier_method ps p q laid k o r lt =
           ∙ sym (in_classes k n o p 0 p.description.items.classes);
     }))
   where
-    map_false : (xs ys : List Method) → length xs ≡ length ys → map (λ (m : Method). false) xs ≡ map (λ (m : Method). false) ys
+    map_false : (xs ys : List MethodDescriptor) → length xs ≡ length ys → map (λ (m : MethodDescriptor). false) xs ≡ map (λ (m : MethodDescriptor). false) ys
     map_false [] [] e = refl
     map_false [] (y ∷ ys) e = absurd (omega arith)
     map_false (x ∷ xs) [] e = absurd (omega arith)

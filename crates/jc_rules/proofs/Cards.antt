@@ -13,7 +13,7 @@ use Rattle.jc_ops.specs.Sound.{OperationsAreSound}
 use Rattle.jc_rules.specs.declared.effect.Cells.{Cells}
 use Rattle.jc_rules.specs.declared.effect.Cells.TheVariants as given
 use Rattle.jc_rules.specs.declared.effect.Mode.TheVariants.{Card, Flow}
-use Rattle.jc_rules.specs.Effect.{Writes, WritesInt, WritesCells, reg, rises_at, cells_rise}
+use Rattle.jc_rules.specs.Effect.{WritesRegister, WritesInt, WritesCells, reg, rises_at, cells_rise}
 use Rattle.jc_rules.specs.Rule.{effect}
 use Rattle.jc_rules.specs.Flow.{CellsBelow, no_cells, more_cells}
 use Rattle.jc_rules.specs.Laws.{OperationFallsTo, OperationFallsOnCard, OperationRaises, OperationStays, OperationRests, RuleFallsOnCard, RuleRaises, RuleRises, RuleStays, RuleRests}
@@ -31,7 +31,7 @@ module _ (t : ClassTable) where
   cells-raised (x ∷ xs) zero h = more_cells h (cells-same t xs)
   cells-raised (x ∷ xs) (suc n) h = more_cells same (cells-raised xs n h)
 
-  write-raises : {x : ℕ} {ty : Ty} {regs after : List Ty} → Writes t Card x ty regs after → CellsBelow t regs after
+  write-raises : {x : ℕ} {ty : Ty} {regs after : List Ty} → WritesRegister t Card x ty regs after → CellsBelow t regs after
   write-raises {x} {ty} {regs} u = subst (CellsBelow t regs) (sym u.after_is) (cells-raised regs x u.stored.left)
 
   store-raises : (x : ℕ) (cells : Cells) (regs after : List Ty) → WritesCells t Card x cells regs after → CellsBelow t regs after
@@ -60,10 +60,10 @@ module _ (t : ClassTable) where
   join-above : {a b : Ty} → Below t b a → IsJoin t a b a
   join-above h = record { left = same; right = h; least = λ u p q. p }
 
-  write-stays : (regs : List Ty) (x : ℕ) {ty : Ty} → Below t ty (reg regs x) → Writes t Card x ty regs regs
+  write-stays : (regs : List Ty) (x : ℕ) {ty : Ty} → Below t ty (reg regs x) → WritesRegister t Card x ty regs regs
   write-stays regs x h = record { value = reg regs x; stored = join-above h; after_is = set-read regs x }
 
-  below-one : (x : ℕ) (ty : Ty) (regs after : List Ty) → Writes t Flow x ty regs after → CellsBelow t after regs → Below t ty (reg regs x)
+  below-one : (x : ℕ) (ty : Ty) (regs after : List Ty) → WritesRegister t Flow x ty regs after → CellsBelow t after regs → Below t ty (reg regs x)
   below-one x ty regs after u ps = under-one regs x (subst (λ ys. CellsBelow t ys regs) (u.after_is ∙ ap (set regs x) u.stored) ps)
 
   below-two : (x : ℕ) (regs after : List Ty) → WritesInt t Flow x regs after → CellsBelow t after regs → Below t IntHigh (reg regs x) × Below t IntLow (reg regs (x + 1))
@@ -126,12 +126,12 @@ module _ (t : ClassTable) where
   -- one register of lesser ones is written
   record WritesBelow (x : ℕ) (a : Ty) (xs zs : List Ty) : Type 0 where
     below : List Ty
-    writes : Writes t Card x a xs below
+    writes : WritesRegister t Card x a xs below
     lower : CellsBelow t below zs
     known : All (IsKnown t) below
 
   module _ (are : IsOrderOfTypes t) where
-    write-falls : {xs ys zs : List Ty} (x y : ℕ) (a b : Ty) → x ≡ y → Below t a b → IsKnown t a → All (IsKnown t) xs → CellsBelow t xs ys → Writes t Card y b ys zs → WritesBelow x a xs zs
+    write-falls : {xs ys zs : List Ty} (x y : ℕ) (a b : Ty) → x ≡ y → Below t a b → IsKnown t a → All (IsKnown t) xs → CellsBelow t xs ys → WritesRegister t Card y b ys zs → WritesBelow x a xs zs
     write-falls {xs} {ys} {zs} x y a b e le known all ps u =
         let held = all-or (IsKnown t) xs x tt all in
         let least = are.joins (reg xs x) a held known in
@@ -167,7 +167,7 @@ module _ (t : ClassTable) (are : IsOrderOfTypes t) where
   not-below a b e h = let q : is_below t a b ≡ true = below-computed t are h in absurd (cc)
 
   -- one register is written: it stays where the stored type is below, and else it rises
-  write-rises : (x : ℕ) (ty : Ty) (regs after : List Ty) (b : Bool) → is_below t ty (reg regs x) ≡ b → Writes t Card x ty regs after → RoseTo t regs after (not b)
+  write-rises : (x : ℕ) (ty : Ty) (regs after : List Ty) (b : Bool) → is_below t ty (reg regs x) ≡ b → WritesRegister t Card x ty regs after → RoseTo t regs after (not b)
   write-rises x ty regs after true e u =
       let le : Below t ty (reg regs x) = below-told t are ty (reg regs x) e in
       u.after_is ∙ ap (set regs x) (are.one_join u.stored (join-above t le)) ∙ sym (set-read t regs x)

@@ -18,7 +18,7 @@ use Rattle.jc_rules.specs.declared.effect.Mode.{Mode}
 use Rattle.jc_rules.specs.declared.effect.Mode.TheVariants.{Card, Flow}
 use Rattle.jc_rules.specs.declared.effect.Cells.{Cells}
 use Rattle.jc_rules.specs.declared.effect.Cells.TheVariants as given
-use Rattle.jc_rules.specs.Effect.{changed, reg, IsStored, Writes, WritesCells}
+use Rattle.jc_rules.specs.Effect.{changed, reg, IsStoredOver, WritesRegister, WritesCells}
 use Rattle.jc_rules.specs.Demand.{Frame, SatisfiesAll, IsFirstUnmet, here, later}
 use Rattle.jc_rules.specs.Rule.{effect}
 use Rattle.jc_rules.specs.Apply.{OperationApplies, OperationRefuses, unmet, full, RuleApplies, RuleRefuses, unresolved, refused_by, Applies, Refuses}
@@ -43,13 +43,13 @@ err-same e = cc
 -- ---- what is stored
 
 module _ (t : ClassTable) (are : IsOrderOfTypes t) (mode : Mode) where
-  stored-unique : (mode : Mode) (held ty a b : Ty) → IsStored t mode held ty a → IsStored t mode held ty b → a ≡ b
+  stored-unique : (mode : Mode) (held ty a b : Ty) → IsStoredOver t mode held ty a → IsStoredOver t mode held ty b → a ≡ b
   stored-unique Flow held ty a b e f = e ∙ sym f
   stored-unique Card held ty a b j k = are.one_join j k
 
-  writes-unique : {x : ℕ} {ty : Ty} {regs others f g : List Ty} → regs ≡ others → Writes t mode x ty regs f → Writes t mode x ty others g → f ≡ g
+  writes-unique : {x : ℕ} {ty : Ty} {regs others f g : List Ty} → regs ≡ others → WritesRegister t mode x ty regs f → WritesRegister t mode x ty others g → f ≡ g
   writes-unique {x} {ty} {regs} {others} {f} {g} e u v =
-      let value : u.value ≡ v.value = stored-unique mode (reg regs x) ty u.value v.value u.stored (subst (λ rs. IsStored t mode (reg rs x) ty v.value) (sym e) v.stored) in
+      let value : u.value ≡ v.value = stored-unique mode (reg regs x) ty u.value v.value u.stored (subst (λ rs. IsStoredOver t mode (reg rs x) ty v.value) (sym e) v.stored) in
       u.after_is ∙ ap (slice_set regs x) value ∙ ap (λ rs. slice_set rs x v.value) e ∙ sym v.after_is
 
   cells-unique : (x : ℕ) (cells : Cells) (regs f g : List Ty) → WritesCells t mode x cells regs f → WritesCells t mode x cells regs g → f ≡ g

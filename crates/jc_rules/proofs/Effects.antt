@@ -44,9 +44,9 @@ use Rattle.jc_rules.specs.declared.effect.Cells.TheVariants as given
 use Rattle.jc_rules.specs.declared.effect.Change.{Change}
 use Rattle.jc_rules.specs.declared.effect.Change.TheVariants.{Replace, CopyUnder, Exchange, MakeReady}
 use Rattle.jc_rules.specs.declared.effect.Effect.{Effect}
-use Rattle.jc_rules.specs.Effect.{listed, ready, changed, needed, depth_after, reg}
+use Rattle.jc_rules.specs.Effect.{in_stack_order, ready, changed, cells_needed, depth_after, reg}
 use Rattle.jc_rules.specs.Demand.{Frame, Meets, SatisfiesAll, AreKnown}
-use Rattle.jc_rules.specs.Rule.{cell, number, two_numbers, size, number_given, value_given, value_wanted, value_size, on_stack, replacing, storing, constant_effect, load_demands, load_effect, or_null, store_demands, store_effect, increment_demands, increment_effect, move_demands, move_effect, arithmetic_demands, arithmetic_effect, element, array_read_demands, array_read_effect, array_write_demands, array_write_effect, branch_demands, branch_effect, field_read_demands, field_read_effect, field_write_demands, field_write_effect, cells_wanted, call_demands, call_effect, ready_with, result_given, args_at, result_at, standing, seen, type_test_effect, array_wanted, a_reference, return_demands, return_effect, demands, effect}
+use Rattle.jc_rules.specs.Rule.{cell, number, two_numbers, size, number_given, value_given, value_wanted, value_size, on_stack, replacing, storing, constant_effect, load_demands, load_effect, or_null, store_demands, store_effect, increment_demands, increment_effect, move_demands, move_effect, arithmetic_demands, arithmetic_effect, element, array_read_demands, array_read_effect, array_write_demands, array_write_effect, branch_demands, branch_effect, field_read_demands, field_read_effect, field_write_demands, field_write_effect, cells_wanted, call_demands, call_effect, ready_with, result_given, args_at, result_at, class_in_types, seen, type_test_effect, array_wanted, a_reference, return_demands, return_effect, demands, effect}
 use Rattle.jc_rules.specs.Known.{IsValue, IsKnownCallee, IsKnownOperation}
 use Rattle.jc_rules.specs.Flow.{IsNotFresh, IsNotTop}
 use Rattle.jc_rules.specs.Laws.{IsNotBottom}
@@ -59,8 +59,8 @@ module _ (taken : ℕ) (s : List Ty) where
   private_length : (xs : List Ty) → length (xs ++ drop taken s) ≡ length s - taken + length xs
   private_length xs = simp (length-append, length-drop) (omega arith)
 
-pub length-changed : (c : Change) (s : List Ty) → needed c ≤ length s → length (changed c s) ≡ depth_after c (length s)
-length-changed (Replace taken cells) s h = private_length taken s (listed cells)
+pub length-changed : (c : Change) (s : List Ty) → cells_needed c ≤ length s → length (changed c s) ≡ depth_after c (length s)
+length-changed (Replace taken cells) s h = private_length taken s (in_stack_order cells)
 length-changed (CopyUnder copied under) s h = simp (length-append, length-take, length-drop) (omega arith)
 length-changed (Exchange top under) s h = simp (length-append, length-take, length-drop) (omega arith)
 length-changed (MakeReady taken place class cells) s h = simp (length-append, length-map, length-drop) (omega arith)
@@ -121,7 +121,7 @@ ChangeKnown t (CopyUnder copied under) = ⊤
 ChangeKnown t (Exchange top under) = ⊤
 ChangeKnown t (MakeReady taken place class cells) = IsClass t class × CellsKnown t cells
 
-pub cells-known : (t : ClassTable) (cells : Cells) → CellsKnown t cells → All (IsKnown t) (listed cells)
+pub cells-known : (t : ClassTable) (cells : Cells) → CellsKnown t cells → All (IsKnown t) (in_stack_order cells)
 cells-known t given.Nothing h k d lt = absurd (omega arith)
 cells-known t (given.One ty) h zero d lt = h.0
 cells-known t (given.One ty) h (suc k) d lt = absurd (omega arith)
@@ -129,7 +129,7 @@ cells-known t given.Int h zero d lt = tt
 cells-known t given.Int h (suc zero) d lt = tt
 cells-known t given.Int h (suc (suc k)) d lt = absurd (omega arith)
 
-pub cells-kept : (t : ClassTable) (cells : Cells) → CellsKept t cells → All (IsKnown t) (listed cells)
+pub cells-kept : (t : ClassTable) (cells : Cells) → CellsKept t cells → All (IsKnown t) (in_stack_order cells)
 cells-kept t given.Nothing h k d lt = absurd (omega arith)
 cells-kept t (given.One ty) h zero d lt = h.0
 cells-kept t (given.One ty) h (suc k) d lt = absurd (omega arith)
@@ -153,7 +153,7 @@ ready-known t place class (ArrRef c) h k = k
 ready-known t place class Top h k = k
 
 pub changed-known : (t : ClassTable) (c : Change) (s : List Ty) → ChangeKnown t c → All (IsKnown t) s → All (IsKnown t) (changed c s)
-changed-known t (Replace taken cells) s k all = All-append (IsKnown t) (listed cells) (drop taken s) (cells-known t cells k) (All-drop (IsKnown t) taken s all)
+changed-known t (Replace taken cells) s k all = All-append (IsKnown t) (in_stack_order cells) (drop taken s) (cells-known t cells k) (All-drop (IsKnown t) taken s all)
 changed-known t (CopyUnder copied under) s k all =
     All-append (IsKnown t) (take under s) (take copied s ++ drop under s) (All-take (IsKnown t) under s all)
     (All-append (IsKnown t) (take copied s) (drop under s) (All-take (IsKnown t) copied s all) (All-drop (IsKnown t) under s all))
@@ -161,7 +161,7 @@ changed-known t (Exchange top under) s k all =
     All-append (IsKnown t) (take under (drop top s)) (take top s ++ drop (top + under) s) (All-take (IsKnown t) under (drop top s) (All-drop (IsKnown t) top s all))
     (All-append (IsKnown t) (take top s) (drop (top + under) s) (All-take (IsKnown t) top s all) (All-drop (IsKnown t) (top + under) s all))
 changed-known t (MakeReady taken place class cells) s k all =
-    All-append (IsKnown t) (listed cells) (map (ready place class) (drop taken s)) (cells-known t cells k.1)
+    All-append (IsKnown t) (in_stack_order cells) (map (ready place class) (drop taken s)) (cells-known t cells k.1)
     (All-map (IsKnown t) (ready place class) (drop taken s)
     (λ i d lt. ready-known t place class (get_or (drop taken s) i d) k.0 (All-drop (IsKnown t) taken s all i d lt)))
 
@@ -197,7 +197,7 @@ ready-topless place class Top h = h
 
 -- what holds of values, and stays when objects are made ready, holds of the stack that is given
 module _ (t : ClassTable) (P : Ty → Type 0) (values : (ty : Ty) → IsValue ty → P ty) (readies : (place class : ℕ) (ty : Ty) → P ty → P (ready place class ty)) where
-  cells-each : (cells : Cells) → CellsKnown t cells → All P (listed cells)
+  cells-each : (cells : Cells) → CellsKnown t cells → All P (in_stack_order cells)
   cells-each given.Nothing h k d lt = absurd (omega arith)
   cells-each (given.One ty) h zero d lt = values ty h.1
   cells-each (given.One ty) h (suc k) d lt = absurd (omega arith)
@@ -206,7 +206,7 @@ module _ (t : ClassTable) (P : Ty → Type 0) (values : (ty : Ty) → IsValue ty
   cells-each given.Int h (suc (suc k)) d lt = absurd (omega arith)
 
   changed-each : (c : Change) (s : List Ty) → ChangeKnown t c → All P s → All P (changed c s)
-  changed-each (Replace taken cells) s k all = All-append P (listed cells) (drop taken s) (cells-each cells k) (All-drop P taken s all)
+  changed-each (Replace taken cells) s k all = All-append P (in_stack_order cells) (drop taken s) (cells-each cells k) (All-drop P taken s all)
   changed-each (CopyUnder copied under) s k all =
       All-append P (take under s) (take copied s ++ drop under s) (All-take P under s all)
       (All-append P (take copied s) (drop under s) (All-take P copied s all) (All-drop P under s all))
@@ -214,7 +214,7 @@ module _ (t : ClassTable) (P : Ty → Type 0) (values : (ty : Ty) → IsValue ty
       All-append P (take under (drop top s)) (take top s ++ drop (top + under) s) (All-take P under (drop top s) (All-drop P top s all))
       (All-append P (take top s) (drop (top + under) s) (All-take P top s all) (All-drop P (top + under) s all))
   changed-each (MakeReady taken place class cells) s k all =
-      All-append P (listed cells) (map (ready place class) (drop taken s)) (cells-each cells k.1)
+      All-append P (in_stack_order cells) (map (ready place class) (drop taken s)) (cells-each cells k.1)
       (All-map P (ready place class) (drop taken s)
       (λ i d lt. readies place class (get_or (drop taken s) i d) (All-drop P taken s all i d lt)))
 
@@ -243,8 +243,8 @@ module _ (t : ClassTable) {d : ℕ} where
 -- ---- an effect that suits a frame
 
 pub record Suits (t : ClassTable) (f : Frame) (e : Effect) : Type 0 where
-  pub there : needed e.change ≤ length f.stack
-  pub inside : e.store.register + length (listed e.store.cells) ≤ length f.regs
+  pub there : cells_needed e.change ≤ length f.stack
+  pub inside : e.store.register + length (in_stack_order e.store.cells) ≤ length f.regs
   pub stored : CellsKept t e.store.cells
   pub change : ChangeKnown t e.change
 
@@ -259,10 +259,10 @@ module _ (t : ClassTable) (f : Frame) where
   pub suits-replacing : (taken : ℕ) (cells : Cells) → taken ≤ length f.stack → CellsKnown t cells → Suits t f (replacing taken cells)
   suits-replacing taken cells h k = record { there = h; inside = omega arith; stored = tt; change = k }
 
-  pub suits-storing : (taken x : ℕ) (cells : Cells) → taken ≤ length f.stack → x + length (listed cells) ≤ length f.regs → CellsKept t cells → Suits t f (storing taken x cells)
+  pub suits-storing : (taken x : ℕ) (cells : Cells) → taken ≤ length f.stack → x + length (in_stack_order cells) ≤ length f.regs → CellsKept t cells → Suits t f (storing taken x cells)
   suits-storing taken x cells h g k = record { there = h; inside = g; stored = k; change = tt }
 
-  pub suits-on_stack : (c : Change) → needed c ≤ length f.stack → ChangeKnown t c → Suits t f (on_stack c)
+  pub suits-on_stack : (c : Change) → cells_needed c ≤ length f.stack → ChangeKnown t c → Suits t f (on_stack c)
   suits-on_stack c h k = record { there = h; inside = omega arith; stored = tt; change = k }
 
   number-there : (w : Width) (n : ℕ) → SatisfiesAll t f (number w n) → n + size w ≤ length f.stack
@@ -277,7 +277,7 @@ module _ (t : ClassTable) (f : Frame) where
   number-known widths.Short = (tt, tt)
   number-known widths.Int = tt
 
-  length-number : (w : Width) → length (listed (number_given w)) ≡ size w
+  length-number : (w : Width) → length (in_stack_order (number_given w)) ≡ size w
   length-number widths.Short = refl
   length-number widths.Int = refl
 
@@ -528,7 +528,7 @@ method-result : (w : Linked) → IsWorld w → (n : ℕ) → IfSome (result_at (
 method-result w is n = result-declared w is (slice_get w.methods n) (λ m e. IfSome-full w.classes m.sig.result (All-slice_get (IsMethod w.infos w.pools w.classes) w.methods n m is.methods e).result)
 
 module _ (t : ClassTable) (objects : IsClass t (object t)) where
-  standing-class : (c : ℕ) → c < length t.records → IsClass t (standing t c)
+  standing-class : (c : ℕ) → c < length t.records → IsClass t (class_in_types t c)
   standing-class c lt = at (is_interface t c) refl
     where
       at : (b : Bool) → is_interface t c ≡ b → IsClass t (if b then object t else c)

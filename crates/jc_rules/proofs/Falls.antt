@@ -27,7 +27,7 @@ use Rattle.jc_rules.specs.declared.effect.Store.{Store}
 use Rattle.jc_rules.specs.declared.effect.Mode.{Mode}
 use Rattle.jc_rules.specs.declared.effect.Mode.TheVariants.{Card, Flow}
 use Rattle.jc_rules.specs.declared.rule.Outcome.{Outcome}
-use Rattle.jc_rules.specs.Effect.{listed, ready, changed, reg, IsStored, Writes, WritesCells, Stores, rises}
+use Rattle.jc_rules.specs.Effect.{in_stack_order, ready, changed, reg, IsStoredOver, WritesRegister, WritesCells, StoresInRegisters, raises_register}
 use Rattle.jc_rules.specs.Demand.{Frame, IsArrayOrNull, IsHalf, IsFreshOf, Meets, Satisfies, SatisfiesAll}
 use Rattle.jc_ops.specs.Next.{falls_from, ends_at}
 use Rattle.jc_rules.specs.Rule.{cell, or_null, element, ready_with, call_demands, call_effect, cells_wanted, args_at, result_at, result_given, load_demands, load_effect, store_effect, array_read_demands, array_read_effect, wrote, demands, effect}
@@ -407,7 +407,7 @@ pub record EffectBelow (t : ClassTable) (d e : Effect) : Type 0 where
 -- a store into lesser registers, whose result is lesser
 pub record StoresBelow (t : ClassTable) (mode : Mode) (s : Store) (before after : List Ty) : Type 0 where
   pub below : List Ty
-  pub stores : Stores t mode s before below
+  pub stores : StoresInRegisters t mode s before below
   pub lower : CellsBelow t below after
 
 module _ (t : ClassTable) (are : IsOrderOfTypes t) where
@@ -427,7 +427,7 @@ module _ (t : ClassTable) (are : IsOrderOfTypes t) where
   effect-same : (e : Effect) → EffectBelow t e e
   effect-same e = record { change = change-same e.change; register = refl; cells = given-same e.store.cells }
 
-  listed-falls : (c d : Cells) → GivenBelow t c d → CellsBelow t (listed c) (listed d)
+  listed-falls : (c d : Cells) → GivenBelow t c d → CellsBelow t (in_stack_order c) (in_stack_order d)
   unfolding GivenBelow
   listed-falls given.Nothing given.Nothing h = no_cells
   listed-falls (given.One a) (given.One b) h = more_cells h no_cells
@@ -495,15 +495,15 @@ module _ (t : ClassTable) (are : IsOrderOfTypes t) where
   ready-cells place class (more_cells {a = a} {b = b} p ps) = more_cells (ready-falls place class a b p) (ready-cells place class ps)
 
   changed-same : (c : Change) {xs ys : List Ty} → CellsBelow t xs ys → CellsBelow t (changed c xs) (changed c ys)
-  changed-same (Replace m cells) ps = cells-append t (cells-same t (listed cells)) (cells-drop t m ps)
+  changed-same (Replace m cells) ps = cells-append t (cells-same t (in_stack_order cells)) (cells-drop t m ps)
   changed-same (CopyUnder m n) ps = cells-append t (cells-take t n ps) (cells-append t (cells-take t m ps) (cells-drop t n ps))
   changed-same (Exchange m n) ps = cells-append t (cells-take t n (cells-drop t m ps)) (cells-append t (cells-take t m ps) (cells-drop t (m + n) ps))
-  changed-same (MakeReady m p c cells) ps = cells-append t (cells-same t (listed cells)) (ready-cells p c (cells-drop t m ps))
+  changed-same (MakeReady m p c cells) ps = cells-append t (cells-same t (in_stack_order cells)) (ready-cells p c (cells-drop t m ps))
 
   changed-falls : (c d : Change) {xs ys : List Ty} → ChangeBelow t c d → CellsBelow t xs ys → CellsBelow t (changed c xs) (changed d ys)
   unfolding ChangeBelow
   changed-falls (Replace m cells) (Replace n others) {xs = xs} {ys = ys} h ps =
-      subst (λ k. CellsBelow t (changed (Replace m cells) xs) (listed others ++ drop k ys)) h.0 (cells-append t (listed-falls cells others h.1) (cells-drop t m ps))
+      subst (λ k. CellsBelow t (changed (Replace m cells) xs) (in_stack_order others ++ drop k ys)) h.0 (cells-append t (listed-falls cells others h.1) (cells-drop t m ps))
   changed-falls (Replace m cells) (CopyUnder k n) h ps = absurd (cc)
   changed-falls (Replace m cells) (Exchange k n) h ps = absurd (cc)
   changed-falls (Replace m cells) (MakeReady k p c others) h ps = absurd (cc)
@@ -512,11 +512,11 @@ module _ (t : ClassTable) (are : IsOrderOfTypes t) where
   changed-falls (MakeReady m p c cells) d {xs = xs} {ys = ys} h ps = subst (λ e. CellsBelow t (changed (MakeReady m p c cells) xs) (changed e ys)) h (changed-same (MakeReady m p c cells) ps)
 
   -- what is stored is below what the register holds then
-  stored-below : (mode : Mode) (held ty now : Ty) → IsStored t mode held ty now → Below t ty now
+  stored-below : (mode : Mode) (held ty now : Ty) → IsStoredOver t mode held ty now → Below t ty now
   stored-below Flow held ty now e = subst (Below t ty) (sym e) same
   stored-below Card held ty now is = is.right
 
-  write-flow : (mode : Mode) {xs ys zs : List Ty} (x y : ℕ) (a b : Ty) → x ≡ y → Below t a b → CellsBelow t xs ys → Writes t mode y b ys zs → CellsBelow t (set xs x a) zs
+  write-flow : (mode : Mode) {xs ys zs : List Ty} (x y : ℕ) (a b : Ty) → x ≡ y → Below t a b → CellsBelow t xs ys → WritesRegister t mode y b ys zs → CellsBelow t (set xs x a) zs
   write-flow mode {xs = xs} {ys = ys} x y a b e le ps u =
       subst (CellsBelow t (set xs x a)) (ap (λ n. set ys n u.value) e ∙ sym u.after_is) (cells-set t x (joined le (stored-below mode (reg ys y) b u.value u.stored)) ps)
 
@@ -750,7 +750,7 @@ module _ (w : Linked) (are : IsOrderOfTypes w.classes) (limit : ℕ) (op : Opera
       subst (CellsBelow w.classes (changed e.change lesser.stack)) (sym a.stack) (changed-falls w.classes are e.change (effect w op greater).change doing-falls.change below.stack) in
       record {
         below = record { regs = s.below; stack = changed e.change lesser.stack };
-        outcome = record { falls = falls_from op; ends = ends_at op; depth = length (changed e.change lesser.stack); wrote = wrote e.store.register e.store.cells; rose = rises w.classes target e.store lesser.regs };
+        outcome = record { falls = falls_from op; ends = ends_at op; depth = length (changed e.change lesser.stack); wrote = wrote e.store.register e.store.cells; rose = raises_register w.classes target e.store lesser.regs };
         applies = record {
           asked = asked-falls;
           regs = s.stores;

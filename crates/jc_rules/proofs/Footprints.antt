@@ -28,10 +28,10 @@ use Rattle.jc_rules.specs.declared.effect.Change.{Change}
 use Rattle.jc_rules.specs.declared.effect.Change.TheVariants.{Replace, CopyUnder, Exchange, MakeReady}
 use Rattle.jc_rules.specs.declared.effect.Mode.{Mode}
 use Rattle.jc_rules.specs.declared.effect.Mode.TheVariants.{Card, Flow}
-use Rattle.jc_rules.specs.Effect.{listed, changed, needed, depth_after, reg, Writes, WritesCells, Stores, rises}
+use Rattle.jc_rules.specs.Effect.{in_stack_order, changed, cells_needed, depth_after, reg, WritesRegister, WritesCells, StoresInRegisters, raises_register}
 use Rattle.jc_rules.specs.Demand.{Frame, Meets, Satisfies, SatisfiesAll}
 use Rattle.jc_rules.specs.Rule.{cell, on_stack, replacing, or_null, ready_with, call_effect, args_at, result_at, result_given, wrote, demands, effect, receiver_wanted}
-use Rattle.jc_rules.specs.Footprint.{cells_asked, registers_asked, registers_read, IsThere, AreThere, Footprint, footprint_of, footprint, cells_taken, cells_given, MetIsThere, AskedIsThere, AgreeOn, OperationReads, written_by, OperationLeaves, FootprintIsOne, OperationNamesNone, LeavesAlike, AlikeLeaveAlike}
+use Rattle.jc_rules.specs.Footprint.{cells_asked, registers_asked, registers_read, IsInFrame, AreInFrame, Footprint, footprint_of, footprint, cells_taken, cells_given, MetIsThere, AskedIsThere, AgreeOn, OperationReads, written_by, OperationLeaves, FootprintIsOne, OperationNamesNone, LeavesAlike, AlikeLeaveAlike}
 use Rattle.jc_rules.proofs.Effects.{Suits, suits, sound-known, length-changed}
 
 -- ---- what is asked
@@ -40,7 +40,7 @@ read-there : (xs : List Ty) (n : ℕ) (P : Ty → Type 0) (o : Option Ty) → sl
 read-there xs n P None e h = absurd h
 read-there xs n P (Some ty) e h = slice_get_within xs n ty e
 
-met-there : (t : ClassTable) (f : Frame) (d : Demand) → Satisfies t f d → IsThere (length f.regs) (length f.stack) d
+met-there : (t : ClassTable) (f : Frame) (d : Demand) → Satisfies t f d → IsInFrame (length f.regs) (length f.stack) d
 met-there t f (Registers x n) h = h
 met-there t f (Depth n) h = h
 met-there t f (Cell n want) h = read-there f.stack n (Meets t want) (slice_get f.stack n) refl h
@@ -56,7 +56,7 @@ pub receiver-registers : (n : ℕ) (o : Option Want) → registers_asked (receiv
 receiver-registers n None = refl
 receiver-registers n (Some want) = refl
 
-registers-least : (regs depth : ℕ) (ds : List Demand) → AreThere regs depth ds → registers_asked ds ≤ regs
+registers-least : (regs depth : ℕ) (ds : List Demand) → AreInFrame regs depth ds → registers_asked ds ≤ regs
 registers-least regs depth [] h = omega arith
 registers-least regs depth (Registers x n ∷ ds) h = let rest : registers_asked ds ≤ regs = registers-least regs depth ds h.1 in omega (arith, h.0)
 registers-least regs depth (Held x ty ∷ ds) h = let rest : registers_asked ds ≤ regs = registers-least regs depth ds h.1 in omega (arith, h.0)
@@ -64,7 +64,7 @@ registers-least regs depth (Depth n ∷ ds) h = registers-least regs depth ds h.
 registers-least regs depth (Cell n want ∷ ds) h = registers-least regs depth ds h.1
 registers-least regs depth (Cut n ∷ ds) h = registers-least regs depth ds h.1
 
-cells-least : (regs depth : ℕ) (ds : List Demand) → AreThere regs depth ds → cells_asked ds ≤ depth
+cells-least : (regs depth : ℕ) (ds : List Demand) → AreInFrame regs depth ds → cells_asked ds ≤ depth
 cells-least regs depth [] h = omega arith
 cells-least regs depth (Depth n ∷ ds) h = let rest : cells_asked ds ≤ depth = cells-least regs depth ds h.1 in omega (arith, h.0)
 cells-least regs depth (Cell n want ∷ ds) h = let rest : cells_asked ds ≤ depth = cells-least regs depth ds h.1 in omega (arith, h.0)
@@ -72,7 +72,7 @@ cells-least regs depth (Registers x n ∷ ds) h = cells-least regs depth ds h.1
 cells-least regs depth (Held x ty ∷ ds) h = cells-least regs depth ds h.1
 cells-least regs depth (Cut n ∷ ds) h = cells-least regs depth ds h.1
 
-asked-there : (regs depth : ℕ) (ds : List Demand) → registers_asked ds ≤ regs → cells_asked ds ≤ depth → AreThere regs depth ds
+asked-there : (regs depth : ℕ) (ds : List Demand) → registers_asked ds ≤ regs → cells_asked ds ≤ depth → AreInFrame regs depth ds
 asked-there regs depth [] r c = tt
 asked-there regs depth (Registers x n ∷ ds) r c = (omega arith, asked-there regs depth ds (omega arith) c)
 asked-there regs depth (Held x ty ∷ ds) r c = (omega arith, asked-there regs depth ds (omega arith) c)
@@ -137,7 +137,7 @@ operation-reads w op f g stack registers agree = record {
 
 -- ---- the footprint of each frame
 
-ready-footprint : (taken : ℕ) (cells : Cells) (found : Ty) (want : Want) → footprint_of (on_stack (ready_with taken cells found want)) ≡ record { taken = taken; given = length (listed cells); register = 0; written = 0 }
+ready-footprint : (taken : ℕ) (cells : Cells) (found : Ty) (want : Want) → footprint_of (on_stack (ready_with taken cells found want)) ≡ record { taken = taken; given = length (in_stack_order cells); register = 0; written = 0 }
 ready-footprint taken cells (Fresh p c) (Receiver d) = refl
 ready-footprint taken cells (Fresh p c) (Value ty) = refl
 ready-footprint taken cells (Fresh p c) Storable = refl
@@ -186,23 +186,23 @@ depth-by (CopyUnder copied under) d = omega arith
 depth-by (Exchange top under) d = omega arith
 depth-by (MakeReady taken place class cells) d = refl
 
-taken-needed : (c : Change) → cells_taken c ≤ needed c
+taken-needed : (c : Change) → cells_taken c ≤ cells_needed c
 taken-needed (Replace taken cells) = omega arith
 taken-needed (CopyUnder copied under) = omega arith
 taken-needed (Exchange top under) = omega arith
 taken-needed (MakeReady taken place class cells) = omega arith
 
-wrote-by : (x : ℕ) (cells : Cells) → wrote x cells ≡ (if length (listed cells) == 0 then None else Some (x, length (listed cells)))
+wrote-by : (x : ℕ) (cells : Cells) → wrote x cells ≡ (if length (in_stack_order cells) == 0 then None else Some (x, length (in_stack_order cells)))
 wrote-by x given.Nothing = refl
 wrote-by x (given.One ty) = refl
 wrote-by x given.Int = refl
 
 module _ (t : ClassTable) (mode : Mode) where
-  write-others : {x : ℕ} {ty : Ty} {regs after : List Ty} → Writes t mode x ty regs after → (n : ℕ) → (n < x) ⊎ (x + 1 ≤ n) → reg after n ≡ reg regs n
+  write-others : {x : ℕ} {ty : Ty} {regs after : List Ty} → WritesRegister t mode x ty regs after → (n : ℕ) → (n < x) ⊎ (x + 1 ≤ n) → reg after n ≡ reg regs n
   write-others {x = x} {regs = regs} u n (inl lt) = ap (λ rs. reg rs n) u.after_is ∙ get_or-set_other regs x n u.value Top (λ same. absurd (omega arith))
   write-others {x = x} {regs = regs} u n (inr le) = ap (λ rs. reg rs n) u.after_is ∙ get_or-set_other regs x n u.value Top (λ same. absurd (omega arith))
 
-  store-others : (x : ℕ) (cells : Cells) (regs after : List Ty) → WritesCells t mode x cells regs after → (n : ℕ) → (n < x) ⊎ (x + length (listed cells) ≤ n) → reg after n ≡ reg regs n
+  store-others : (x : ℕ) (cells : Cells) (regs after : List Ty) → WritesCells t mode x cells regs after → (n : ℕ) → (n < x) ⊎ (x + length (in_stack_order cells) ≤ n) → reg after n ≡ reg regs n
   store-others x given.Nothing regs after u n h = ap (λ rs. reg rs n) u
   store-others x (given.One ty) regs after u n h = write-others u n h
   store-others x given.Int regs after u n (inl lt) = write-others u.low n (inl (omega arith)) ∙ write-others u.high n (inl lt)
@@ -284,7 +284,7 @@ reads-none (Depth n ∷ ds) regs others e = reads-none ds regs others e
 reads-none (Cell n want ∷ ds) regs others e = reads-none ds regs others e
 reads-none (Cut n ∷ ds) regs others e = reads-none ds regs others e
 
-nothing-rises : (t : ClassTable) (mode : Mode) (regs : List Ty) → rises t mode (record { register = 0; cells = given.Nothing }) regs ≡ false
+nothing-rises : (t : ClassTable) (mode : Mode) (regs : List Ty) → raises_register t mode (record { register = 0; cells = given.Nothing }) regs ≡ false
 nothing-rises t Card regs = refl
 nothing-rises t Flow regs = refl
 
@@ -295,14 +295,14 @@ operation-names-none w limit op before after o regs none a =
     let stored : (effect w op f).store ≡ record { register = 0; cells = given.Nothing } = stores-nothing w op f none in
     record {
       asked = alike.asked a.asked;
-      regs = subst (λ s. Stores w.classes Card s regs regs) (sym stored) refl;
+      regs = subst (λ s. StoresInRegisters w.classes Card s regs regs) (sym stored) refl;
       stack = a.stack ∙ ap (λ e. changed e.change before.stack) alike.done;
       room = a.room;
       falls = a.falls;
       ends = a.ends;
       depth = a.depth;
       wrote_is = a.wrote_is ∙ ap (λ e. wrote e.store.register e.store.cells) alike.done;
-      rose_is = a.rose_is ∙ sym (ap (λ s. rises w.classes Card s regs) stored);
+      rose_is = a.rose_is ∙ sym (ap (λ s. raises_register w.classes Card s regs) stored);
     }
 
 -- ---- operations that are equal but for registers

@@ -17,7 +17,7 @@ use Rattle.jc_rules.specs.declared.effect.Cells.{Cells}
 use Rattle.jc_rules.specs.declared.effect.Cells.TheVariants as given
 use Rattle.jc_rules.specs.declared.effect.Mode.{Mode}
 use Rattle.jc_rules.specs.declared.effect.Mode.TheVariants.{Card, Flow}
-use Rattle.jc_rules.specs.Effect.{IsStored, Writes, WritesCells, reg}
+use Rattle.jc_rules.specs.Effect.{IsStoredOver, WritesRegister, WritesCells, reg}
 use Rattle.jc_rules.specs.Rule.{effect}
 use Rattle.jc_rules.specs.Flow.{IsNotFresh, IsNotTop}
 use Rattle.jc_rules.specs.Apply.{Applies}
@@ -53,21 +53,21 @@ module _ (t : ClassTable) (are : IsOrderOfTypes t) where
   join-not_fresh a b (ArrRef c) h k is = tt
   join-not_fresh a b Top h k is = tt
 
-  stored-known : (mode : Mode) (held ty now : Ty) → IsStored t mode held ty now → IsKnown t held → IsKnown t ty → IsKnown t now
+  stored-known : (mode : Mode) (held ty now : Ty) → IsStoredOver t mode held ty now → IsKnown t held → IsKnown t ty → IsKnown t now
   stored-known Flow held ty now e h k = subst (IsKnown t) (sym e) k
   stored-known Card held ty now is h k = are.known h k is
 
-  stored-not_fresh : (mode : Mode) (held ty now : Ty) → IsStored t mode held ty now → IsNotFresh held → IsNotFresh ty → IsNotFresh now
+  stored-not_fresh : (mode : Mode) (held ty now : Ty) → IsStoredOver t mode held ty now → IsNotFresh held → IsNotFresh ty → IsNotFresh now
   stored-not_fresh Flow held ty now e n m = subst IsNotFresh (sym e) m
   stored-not_fresh Card held ty now is n m = join-not_fresh held ty now n m is
 
   module _ (mode : Mode) where
     -- a register is written with what has a property that both the held type and the stored one have
-    module _ (P : Ty → Type 0) (top : P Top) (keeps : (held ty now : Ty) → IsStored t mode held ty now → P held → P ty → P now) where
-      writes-keeps : {x : ℕ} {ty : Ty} {regs after : List Ty} → Writes t mode x ty regs after → P ty → All P regs → All P after
+    module _ (P : Ty → Type 0) (top : P Top) (keeps : (held ty now : Ty) → IsStoredOver t mode held ty now → P held → P ty → P now) where
+      writes-keeps : {x : ℕ} {ty : Ty} {regs after : List Ty} → WritesRegister t mode x ty regs after → P ty → All P regs → All P after
       writes-keeps {x} {ty} {regs} u p all = subst (All P) (sym u.after_is) (All-set P regs x u.value (keeps (reg regs x) ty u.value u.stored (all-or P regs x top all) p) all)
 
-    writes-length : {x : ℕ} {ty : Ty} {regs after : List Ty} → Writes t mode x ty regs after → length after ≡ length regs
+    writes-length : {x : ℕ} {ty : Ty} {regs after : List Ty} → WritesRegister t mode x ty regs after → length after ≡ length regs
     writes-length {x} {ty} {regs} u = ap length u.after_is ∙ length-set regs x u.value
 
     stores-length : (x : ℕ) (cells : Cells) (regs after : List Ty) → WritesCells t mode x cells regs after → length after ≡ length regs
@@ -102,7 +102,7 @@ full-below t are a (Fresh p c) le n = tt
 full-below t are a Top le n = tt
 
 module _ (t : ClassTable) (are : IsOrderOfTypes t) where
-  kept-full : (mode : Mode) (held ty now : Ty) → IsStored t mode held ty now → IsNotBottom held → IsNotBottom ty → IsNotBottom now
+  kept-full : (mode : Mode) (held ty now : Ty) → IsStoredOver t mode held ty now → IsNotBottom held → IsNotBottom ty → IsNotBottom now
   kept-full Flow held ty now e h n = subst IsNotBottom (sym e) n
   kept-full Card held ty now is h n = full-below t are held now is.left h
 

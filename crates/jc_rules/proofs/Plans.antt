@@ -14,7 +14,7 @@ use Rattle.jc_rules.specs.declared.effect.Effect.{Effect}
 use Rattle.jc_rules.specs.declared.effect.Mode.{Mode}
 use Rattle.jc_rules.specs.declared.rule.Outcome.{Outcome}
 use Rattle.jc_rules.specs.Stack.{cells}
-use Rattle.jc_rules.specs.Effect.{changed, depth_after, Stores, rises}
+use Rattle.jc_rules.specs.Effect.{changed, depth_after, StoresInRegisters, raises_register}
 use Rattle.jc_rules.specs.Demand.{Frame, SatisfiesAll, AreKnown}
 use Rattle.jc_ops.specs.Next.{falls_from, ends_at}
 use Rattle.jc_rules.specs.Rule.{demands, effect, wrote}
@@ -72,17 +72,17 @@ planned-suits w is site op regs slice depth limit e room r s sound p =
 
 -- the plan is carried out
 pub plan-applies : (w : Linked) (is : IsWorld w) (limit : ℕ) (op : Operation) (mode : Mode) (before after : Frame) (e : Effect) (o : Outcome) (k : AreKnown w.classes before) → IsKnownOperation w op → IsPlan w limit op before e →
-    Stores w.classes mode e.store before.regs after.regs → after.stack ≡ changed e.change before.stack →
-    o.falls ≡ falls_from op → o.ends ≡ ends_at op → o.depth ≡ length after.stack → o.wrote ≡ wrote e.store.register e.store.cells → o.rose ≡ rises w.classes mode e.store before.regs →
+    StoresInRegisters w.classes mode e.store before.regs after.regs → after.stack ≡ changed e.change before.stack →
+    o.falls ≡ falls_from op → o.ends ≡ ends_at op → o.depth ≡ length after.stack → o.wrote ≡ wrote e.store.register e.store.cells → o.rose ≡ raises_register w.classes mode e.store before.regs →
     OperationApplies w limit op mode before after o
 plan-applies w is limit op mode before after e o k known p regs stack falls ends depth wrote_is rose_is = record {
   asked = p.asked;
-  regs = subst (λ x. Stores w.classes mode x.store before.regs after.regs) p.effect_is regs;
+  regs = subst (λ x. StoresInRegisters w.classes mode x.store before.regs after.regs) p.effect_is regs;
   stack = subst (λ x. after.stack ≡ changed x.change before.stack) p.effect_is stack;
   room = subst (λ d. d ≤ limit) (sym (ap length stack ∙ length-changed e.change before.stack (plan-suits w is before k limit op e known p).there)) p.room;
   falls = falls;
   ends = ends;
   depth = depth;
   wrote_is = subst (λ x. o.wrote ≡ wrote x.store.register x.store.cells) p.effect_is wrote_is;
-  rose_is = subst (λ x. o.rose ≡ rises w.classes mode x.store before.regs) p.effect_is rose_is;
+  rose_is = subst (λ x. o.rose ≡ raises_register w.classes mode x.store before.regs) p.effect_is rose_is;
 }

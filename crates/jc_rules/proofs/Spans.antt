@@ -6,7 +6,7 @@ use Rattle.std.proofs.lemmas.List.{append_assoc, append-nil, length-take, length
 use Rattle.jc_base.specs.declared.ty.Ty.{Ty}
 use Rattle.jc_rules.specs.Demand.{Frame}
 use Rattle.jc_rules.specs.declared.typing.Span.{Span}
-use Rattle.jc_rules.specs.Held.{parted, end_of, frame_at, span_at, frames_at, AreApart, AreSpans}
+use Rattle.jc_rules.specs.Held.{parted, end_of, frame_of_span, span_at, frames_at, AreApart, AreSpans}
 use Rattle.jc_rules.specs.Typing.{state_at}
 
 -- ---- windows of a list
@@ -64,27 +64,27 @@ module _ (cells front rest own tail : List Ty) (s : Span) (parts : cells ≡ fro
       moved (inr x) = inr (omega (arith, x, before, size))
 
 -- a frame stays where more cells come
-frame-more : (cells more : List Ty) (s : Span) → end_of s ≤ length cells → frame_at (cells ++ more) s ≡ frame_at cells s
+frame-more : (cells more : List Ty) (s : Span) → end_of s ≤ length cells → frame_of_span (cells ++ more) s ≡ frame_of_span cells s
 frame-more cells more s h = ap (parted s.registers) (window-more cells more s.at (s.registers + s.depth) h)
 
 -- ---- spans by place
 
 -- the state at a place is the frame of its span
-pub state-span : (cells : List Ty) (spans : List (Option Span)) (p : ℕ) → state_at (frames_at cells spans) p ≡ option_map (frame_at cells) (span_at spans p)
+pub state-span : (cells : List Ty) (spans : List (Option Span)) (p : ℕ) → state_at (frames_at cells spans) p ≡ option_map (frame_of_span cells) (span_at spans p)
 unfolding state_at
 state-span cells [] zero = refl
 state-span cells [] (suc p) = refl
 state-span cells (s ∷ spans) zero = refl
 state-span cells (s ∷ spans) (suc p) = state-span cells spans p
 
-pub frame-there : (cells : List Ty) (spans : List (Option Span)) (now : List (Option Frame)) (p : ℕ) (s : Span) → frames_at cells spans ≡ now → span_at spans p ≡ Some s → state_at now p ≡ Some (frame_at cells s)
-frame-there cells spans now p s v e = subst (λ xs. state_at xs p ≡ Some (frame_at cells s)) v (state-span cells spans p ∙ ap (option_map (frame_at cells)) e)
+pub frame-there : (cells : List Ty) (spans : List (Option Span)) (now : List (Option Frame)) (p : ℕ) (s : Span) → frames_at cells spans ≡ now → span_at spans p ≡ Some s → state_at now p ≡ Some (frame_of_span cells s)
+frame-there cells spans now p s v e = subst (λ xs. state_at xs p ≡ Some (frame_of_span cells s)) v (state-span cells spans p ∙ ap (option_map (frame_of_span cells)) e)
 
 pub none-there : (cells : List Ty) (spans : List (Option Span)) (now : List (Option Frame)) (p : ℕ) → frames_at cells spans ≡ now → span_at spans p ≡ None → state_at now p ≡ None
-none-there cells spans now p v e = subst (λ xs. state_at xs p ≡ None) v (state-span cells spans p ∙ ap (option_map (frame_at cells)) e)
+none-there cells spans now p v e = subst (λ xs. state_at xs p ≡ None) v (state-span cells spans p ∙ ap (option_map (frame_of_span cells)) e)
 
 -- a frame of a span has its registers
-pub frame-registers : (cells : List Ty) (s : Span) → end_of s ≤ length cells → length (frame_at cells s).regs ≡ s.registers
+pub frame-registers : (cells : List Ty) (s : Span) → end_of s ≤ length cells → length (frame_of_span cells s).regs ≡ s.registers
 frame-registers cells s h =
     let own = take (s.registers + s.depth) (drop s.at cells) in
     length-take s.registers own ∙ omega (arith, length-take (s.registers + s.depth) (drop s.at cells), length-drop s.at cells, h)
@@ -155,7 +155,7 @@ spans-more cells more spans is = record {
 }
 
 pub frames-more : (cells more : List Ty) (spans : List (Option Span)) → AreSpans cells spans → frames_at (cells ++ more) spans ≡ frames_at cells spans
-frames-more cells more spans is = frames-same (frame_at (cells ++ more)) (frame_at cells) spans (λ q s e. frame-more cells more s (is.within q s e))
+frames-more cells more spans is = frames-same (frame_of_span (cells ++ more)) (frame_of_span cells) spans (λ q s e. frame-more cells more s (is.within q s e))
 
 -- the cells change, and are as many as before
 pub spans-kept : (cells new : List Ty) (spans : List (Option Span)) → length new ≡ length cells → AreSpans cells spans → AreSpans new spans
@@ -205,13 +205,13 @@ module _ (cells more : List Ty) (spans : List (Option Span)) (is : AreSpans cell
   }
 
   -- the frame of that span is put at the place
-  pub frames-put : (f : Frame) → frame_at (cells ++ more) new ≡ f → frames_at (cells ++ more) (set spans p (Some new)) ≡ set (frames_at cells spans) p (Some f)
+  pub frames-put : (f : Frame) → frame_of_span (cells ++ more) new ≡ f → frames_at (cells ++ more) (set spans p (Some new)) ≡ set (frames_at cells spans) p (Some f)
   frames-put f e =
-      frames-set (frame_at (cells ++ more)) (frame_at cells) spans p (Some new) lt (λ q s n h. frame-more cells more s (is.within q s h))
+      frames-set (frame_of_span (cells ++ more)) (frame_of_span cells) spans p (Some new) lt (λ q s n h. frame-more cells more s (is.within q s h))
       ∙ ap (λ (g : Frame). set (frames_at cells spans) p (Some g)) e
 
 -- the frame of the cells that came
-pub frame-put : (cells regs stack : List Ty) (s : Span) → s.at ≡ length cells → s.registers ≡ length regs → s.depth ≡ length stack → frame_at (cells ++ (regs ++ stack)) s ≡ record { regs = regs; stack = reverse stack }
+pub frame-put : (cells regs stack : List Ty) (s : Span) → s.at ≡ length cells → s.registers ≡ length regs → s.depth ≡ length stack → frame_of_span (cells ++ (regs ++ stack)) s ≡ record { regs = regs; stack = reverse stack }
 frame-put cells regs stack s at registers depth =
     let own = regs ++ stack in
     let size : length own ≡ s.registers + s.depth = omega (arith, length-append regs stack, registers, depth) in
@@ -226,11 +226,11 @@ frame-put cells regs stack s at registers depth =
 -- the cells of one span change: the frames of the other places stay
 pub frames-changed : (cells new : List Ty) (spans : List (Option Span)) (p : ℕ) (s : Span) → AreSpans cells spans → span_at spans p ≡ Some s
     → ((b n : ℕ) → (b + n ≤ s.at) ⊎ (end_of s ≤ b) → take n (drop b new) ≡ take n (drop b cells))
-    → frames_at new spans ≡ set (frames_at cells spans) p (Some (frame_at new s))
+    → frames_at new spans ≡ set (frames_at cells spans) p (Some (frame_of_span new s))
 frames-changed cells new spans p s is e stays =
     let there = set-there spans p s e in
     ap (frames_at new) (sym there.1)
-    ∙ frames-set (frame_at new) (frame_at cells) spans p (Some s) there.0
+    ∙ frames-set (frame_of_span new) (frame_of_span cells) spans p (Some s) there.0
     (λ q u n h. ap (parted u.registers) (stays u.at (u.registers + u.depth) (is.apart q p u s n h e)))
 
 -- what holds holds after an error

@@ -40,7 +40,7 @@ use Rattle.jc_rules.specs.declared.demand.Demand.{Demand}
 use Rattle.jc_rules.specs.declared.demand.Demand.TheVariants.{Cell, Held}
 use Rattle.jc_rules.specs.declared.effect.Cells.{Cells}
 use Rattle.jc_rules.specs.declared.effect.Cells.TheVariants as given
-use Rattle.jc_rules.specs.Effect.{listed, ready, changed, reg}
+use Rattle.jc_rules.specs.Effect.{in_stack_order, ready, changed, reg}
 use Rattle.jc_rules.specs.Demand.{Frame, IsHalf, IsArrayOrNull, IsFreshOf, Meets, Splits, SatisfiesAll}
 use Rattle.jc_rules.specs.Rule.{constant_effect, load_demands, load_effect, store_demands, store_effect, increment_effect, move_demands, move_effect, arithmetic_demands, arithmetic_effect, array_read_demands, array_read_effect, array_write_demands, array_write_effect, branch_demands, branch_effect, field_read_demands, field_read_effect, field_write_demands, field_write_effect, type_test_effect, return_demands, return_effect, cell, number, two_numbers, size, number_given, value_given, value_wanted, value_size, or_null, element, array_wanted, a_reference, ready_with, cells_wanted, call_demands, call_effect, result_given, args_at, result_at, seen, demands, effect}
 use Rattle.jc_rules.specs.Whole.{OperationKeepsWhole}
@@ -272,7 +272,7 @@ module _ (t : ClassTable) where
 
   -- ---- cells that come
 
-  whole-given : (ty : Ty) → ¬ (ty ≡ IntLow) → IsPaired (listed (value_given ty))
+  whole-given : (ty : Ty) → ¬ (ty ≡ IntLow) → IsPaired (in_stack_order (value_given ty))
   whole-given IntHigh low = paired_int paired_empty
   whole-given IntLow low = absurd (low refl)
   whole-given Bottom low = paired_cell (λ k. k) paired_empty
@@ -287,13 +287,13 @@ module _ (t : ClassTable) where
   whole-given (Fresh p c) low = paired_cell (λ k. k) paired_empty
   whole-given Top low = paired_cell (λ k. k) paired_empty
 
-  whole-one : (ty : Ty) → ¬ (IsHalf ty) → IsPaired (listed (given.One ty))
+  whole-one : (ty : Ty) → ¬ (IsHalf ty) → IsPaired (in_stack_order (given.One ty))
   whole-one ty n = paired_cell n paired_empty
 
-  short-one : IsPaired (listed (given.One Short))
+  short-one : IsPaired (in_stack_order (given.One Short))
   short-one = paired_cell (λ k. k) paired_empty
 
-  whole-number : (width : Width) → IsPaired (listed (number_given width))
+  whole-number : (width : Width) → IsPaired (in_stack_order (number_given width))
   whole-number widths.Short = short-one
   whole-number widths.Int = paired_int paired_empty
 
@@ -361,7 +361,7 @@ receiver-takes w n m receiver choices.Static h = subst (λ o. IfSome o TakesNoHa
 receiver-takes w n m receiver (choices.Interface c token words) h = takes-class receiver (object w.classes) h.receiver_is
 
 -- what a receiver that is found makes ready leaves halves as they are
-ready-keeps : (taken : ℕ) (cells : Cells) (found : Ty) (want : Want) (s : List Ty) → IsPaired (listed cells) → IsPaired (drop taken s) → IsPaired (changed (ready_with taken cells found want) s)
+ready-keeps : (taken : ℕ) (cells : Cells) (found : Ty) (want : Want) (s : List Ty) → IsPaired (in_stack_order cells) → IsPaired (drop taken s) → IsPaired (changed (ready_with taken cells found want) s)
 ready-keeps taken cells (Fresh p c) (Receiver d) s g h = whole-append g (whole-ready p d h)
 ready-keeps taken cells (Fresh p c) (Value ty) s g h = whole-append g h
 ready-keeps taken cells (Fresh p c) Storable s g h = whole-append g h
@@ -411,7 +411,7 @@ module _ (t : ClassTable) (f : Frame) (whole : IsPaired f.stack) where
       → SatisfiesAll t f (call_demands args receiver) → IsPaired (changed (call_effect args result receiver f).change f.stack)
   keep-call args result None g top low k all = whole-append (result-whole result low) (args-rest args [] g top all)
     where
-      result-whole : (o : Option Ty) → IfSome o (λ ty. ¬ (ty ≡ IntLow)) → IsPaired (listed (result_given o))
+      result-whole : (o : Option Ty) → IfSome o (λ ty. ¬ (ty ≡ IntLow)) → IsPaired (in_stack_order (result_given o))
       result-whole None h = paired_empty
       result-whole (Some ty) h = whole-given t ty h
   keep-call args result (Some want) g top low k all =
@@ -419,7 +419,7 @@ module _ (t : ClassTable) (f : Frame) (whole : IsPaired f.stack) where
       (peel-one t f.stack (length args) want k (SatisfiesAll-rest t f (cells_wanted 0 (reverse args)) (Cell (length args) want ∷ []) all).0
       (args-rest args (Cell (length args) want ∷ []) g top all))
     where
-      result-whole : (o : Option Ty) → IfSome o (λ ty. ¬ (ty ≡ IntLow)) → IsPaired (listed (result_given o))
+      result-whole : (o : Option Ty) → IfSome o (λ ty. ¬ (ty ≡ IntLow)) → IsPaired (in_stack_order (result_given o))
       result-whole None h = paired_empty
       result-whole (Some ty) h = whole-given t ty h
 

@@ -14,7 +14,7 @@ use Rattle.jc_rules.specs.declared.effect.Effect.{Effect}
 use Rattle.jc_rules.specs.declared.effect.Mode.{Mode}
 use Rattle.jc_rules.specs.declared.rule.Outcome.{Outcome}
 use Rattle.jc_rules.specs.Stack.{cells}
-use Rattle.jc_rules.specs.Effect.{changed, Stores, depth_after, rises}
+use Rattle.jc_rules.specs.Effect.{changed, StoresInRegisters, depth_after, raises_register}
 use Rattle.jc_rules.specs.Demand.{Frame, SatisfiesAll, IsFirstUnmet}
 use Rattle.jc_ops.specs.Next.{falls_from, ends_at}
 use Rattle.jc_rules.specs.Rule.{demands, effect, wrote}
@@ -35,14 +35,14 @@ pub record HasDeclaredLengths (m : MethodRec) (regs slice : List Ty) (depth : �
 -- and what it gives has room
 pub record OperationApplies (w : Linked) (limit : ℕ) (op : Operation) (mode : Mode) (before after : Frame) (o : Outcome) : Type 0 where
   pub asked : SatisfiesAll w.classes before (demands w op)
-  pub regs : Stores w.classes mode (effect w op before).store before.regs after.regs
+  pub regs : StoresInRegisters w.classes mode (effect w op before).store before.regs after.regs
   pub stack : after.stack ≡ changed (effect w op before).change before.stack
   pub room : length after.stack ≤ limit
   pub falls : o.falls ≡ falls_from op
   pub ends : o.ends ≡ ends_at op
   pub depth : o.depth ≡ length after.stack
   pub wrote_is : o.wrote ≡ wrote (effect w op before).store.register (effect w op before).store.cells
-  pub rose_is : o.rose ≡ rises w.classes mode (effect w op before).store before.regs
+  pub rose_is : o.rose ≡ raises_register w.classes mode (effect w op before).store before.regs
 
 -- the operation refuses the frame with its first fault: of what it asks in order, then of the room
 pub data OperationRefuses (w : Linked) (limit : ℕ) (op : Operation) (before : Frame) : RuleFault → Type 0 where
@@ -92,6 +92,6 @@ pub record IsPlan (w : Linked) (limit : ℕ) (op : Operation) (before : Frame) (
   pub room : depth_after e.change (length before.stack) ≤ limit
 
 -- what is planned, or why nothing is
-abbrev pub IsPlanned : Linked → ℕ → Operation → Frame → Result Effect RuleFault → Type 0
-IsPlanned w limit op before (Ok e) = IsPlan w limit op before e
-IsPlanned w limit op before (Err fault) = OperationRefuses w limit op before fault
+abbrev pub PlansEffect : Linked → ℕ → Operation → Frame → Result Effect RuleFault → Type 0
+PlansEffect w limit op before (Ok e) = IsPlan w limit op before e
+PlansEffect w limit op before (Err fault) = OperationRefuses w limit op before fault

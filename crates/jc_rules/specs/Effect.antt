@@ -13,10 +13,10 @@ use Rattle.jc_rules.specs.declared.effect.Change.{Change}
 use Rattle.jc_rules.specs.declared.effect.Change.TheVariants.{Replace, CopyUnder, Exchange, MakeReady}
 
 -- as they stand on a stack, the top one first: an int takes its high half first
-abbrev pub listed : Cells → List Ty
-listed Nothing = []
-listed (One t) = t ∷ []
-listed Int = IntLow ∷ IntHigh ∷ []
+abbrev pub in_stack_order : Cells → List Ty
+in_stack_order Nothing = []
+in_stack_order (One t) = t ∷ []
+in_stack_order Int = IntLow ∷ IntHigh ∷ []
 
 -- a cell once the objects that the `new` at a place made are ready
 abbrev pub ready : ℕ → ℕ → Ty → Ty
@@ -25,54 +25,54 @@ ready place class t = t
 
 -- the stack afterwards
 abbrev pub changed : Change → List Ty → List Ty
-changed (Replace taken given) s = listed given ++ drop taken s
+changed (Replace taken given) s = in_stack_order given ++ drop taken s
 changed (CopyUnder copied under) s = take under s ++ (take copied s ++ drop under s)
 changed (Exchange top under) s = take under (drop top s) ++ (take top s ++ drop (top + under) s)
-changed (MakeReady taken place class given) s = listed given ++ map (ready place class) (drop taken s)
+changed (MakeReady taken place class given) s = in_stack_order given ++ map (ready place class) (drop taken s)
 
 -- the cells that must be there
-abbrev pub needed : Change → ℕ
-needed (Replace taken given) = taken
-needed (CopyUnder copied under) = max copied under
-needed (Exchange top under) = top + under
-needed (MakeReady taken place class given) = taken
+abbrev pub cells_needed : Change → ℕ
+cells_needed (Replace taken given) = taken
+cells_needed (CopyUnder copied under) = max copied under
+cells_needed (Exchange top under) = top + under
+cells_needed (MakeReady taken place class given) = taken
 
 -- the number of cells afterwards
 abbrev pub depth_after : Change → ℕ → ℕ
-depth_after (Replace taken given) d = d - taken + length (listed given)
+depth_after (Replace taken given) d = d - taken + length (in_stack_order given)
 depth_after (CopyUnder copied under) d = d + copied
 depth_after (Exchange top under) d = d
-depth_after (MakeReady taken place class given) d = d - taken + length (listed given)
+depth_after (MakeReady taken place class given) d = d - taken + length (in_stack_order given)
 
 -- a register, and Top where there is none
 abbrev pub reg : List Ty → ℕ → Ty
 reg regs x = slice_index_or regs x Top
 
 -- what a register holds once a type is stored over another: on the card the least type above both, in the dataflow what is stored
-abbrev pub IsStored : ClassTable → Mode → Ty → Ty → Ty → Type 0
-IsStored t Flow held ty now = now ≡ ty
-IsStored t Card held ty now = IsJoin t held ty now
+abbrev pub IsStoredOver : ClassTable → Mode → Ty → Ty → Ty → Type 0
+IsStoredOver t Flow held ty now = now ≡ ty
+IsStoredOver t Card held ty now = IsJoin t held ty now
 
 -- one register is written, and no other
-pub record Writes (t : ClassTable) (mode : Mode) (x : ℕ) (ty : Ty) (before after : List Ty) : Type 0 where
+pub record WritesRegister (t : ClassTable) (mode : Mode) (x : ℕ) (ty : Ty) (before after : List Ty) : Type 0 where
   pub value : Ty
-  pub stored : IsStored t mode (reg before x) ty value
+  pub stored : IsStoredOver t mode (reg before x) ty value
   pub after_is : after ≡ slice_set before x value
 
 -- two registers are written for an int: the first has its high half
 pub record WritesInt (t : ClassTable) (mode : Mode) (x : ℕ) (before after : List Ty) : Type 0 where
   pub between : List Ty
-  pub high : Writes t mode x IntHigh before between
-  pub low : Writes t mode (x + 1) IntLow between after
+  pub high : WritesRegister t mode x IntHigh before between
+  pub low : WritesRegister t mode (x + 1) IntLow between after
 
 abbrev pub WritesCells : ClassTable → Mode → ℕ → Cells → List Ty → List Ty → Type 0
 WritesCells t mode x Nothing before after = after ≡ before
-WritesCells t mode x (One ty) before after = Writes t mode x ty before after
+WritesCells t mode x (One ty) before after = WritesRegister t mode x ty before after
 WritesCells t mode x Int before after = WritesInt t mode x before after
 
 -- the registers before and after a store
-abbrev pub Stores : ClassTable → Mode → Store → List Ty → List Ty → Type 0
-Stores t mode s before after = WritesCells t mode s.register s.cells before after
+abbrev pub StoresInRegisters : ClassTable → Mode → Store → List Ty → List Ty → Type 0
+StoresInRegisters t mode s before after = WritesCells t mode s.register s.cells before after
 
 -- a register rises where what is stored over it is not below what it holds
 abbrev pub rises_at : ClassTable → List Ty → ℕ → Ty → Bool
@@ -84,6 +84,6 @@ cells_rise t regs x (One ty) = rises_at t regs x ty
 cells_rise t regs x Int = rises_at t regs x IntHigh || rises_at t regs (x + 1) IntLow
 
 -- whether a store raises a register: on the card it may; in the dataflow it replaces what is held, and raises none
-abbrev pub rises : ClassTable → Mode → Store → List Ty → Bool
-rises t Flow s regs = false
-rises t Card s regs = cells_rise t regs s.register s.cells
+abbrev pub raises_register : ClassTable → Mode → Store → List Ty → Bool
+raises_register t Flow s regs = false
+raises_register t Card s regs = cells_rise t regs s.register s.cells

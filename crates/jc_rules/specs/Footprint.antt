@@ -12,7 +12,7 @@ use Rattle.jc_rules.specs.declared.demand.Demand.TheVariants.{Registers, Depth, 
 use Rattle.jc_rules.specs.declared.effect.Change.{Change}
 use Rattle.jc_rules.specs.declared.effect.Change.TheVariants.{Replace, CopyUnder, Exchange, MakeReady}
 use Rattle.jc_rules.specs.declared.effect.Effect.{Effect}
-use Rattle.jc_rules.specs.Effect.{listed, reg}
+use Rattle.jc_rules.specs.Effect.{in_stack_order, reg}
 use Rattle.jc_rules.specs.declared.effect.Mode.{Mode}
 use Rattle.jc_rules.specs.declared.effect.Mode.TheVariants.{Card, Flow}
 use Rattle.jc_rules.specs.declared.rule.Outcome.{Outcome}
@@ -43,16 +43,16 @@ registers_read (Held x ty ∷ ds) = x ∷ registers_read ds
 registers_read (d ∷ ds) = registers_read ds
 
 -- what the demand names is there, whatever its type is
-abbrev pub IsThere : ℕ → ℕ → Demand → Type 0
-IsThere regs depth (Registers x n) = x + n ≤ regs
-IsThere regs depth (Depth n) = n ≤ depth
-IsThere regs depth (Cell n want) = n < depth
-IsThere regs depth (Cut n) = ⊤
-IsThere regs depth (Held x ty) = x < regs
+abbrev pub IsInFrame : ℕ → ℕ → Demand → Type 0
+IsInFrame regs depth (Registers x n) = x + n ≤ regs
+IsInFrame regs depth (Depth n) = n ≤ depth
+IsInFrame regs depth (Cell n want) = n < depth
+IsInFrame regs depth (Cut n) = ⊤
+IsInFrame regs depth (Held x ty) = x < regs
 
-abbrev pub AreThere : ℕ → ℕ → List Demand → Type 0
-AreThere regs depth [] = ⊤
-AreThere regs depth (d ∷ ds) = IsThere regs depth d × AreThere regs depth ds
+abbrev pub AreInFrame : ℕ → ℕ → List Demand → Type 0
+AreInFrame regs depth [] = ⊤
+AreInFrame regs depth (d ∷ ds) = IsInFrame regs depth d × AreInFrame regs depth ds
 
 -- ---- what is done
 
@@ -70,17 +70,17 @@ cells_taken (Exchange top under) = 0
 cells_taken (MakeReady taken place class cells) = taken
 
 abbrev pub cells_given : Change → ℕ
-cells_given (Replace taken cells) = length (listed cells)
+cells_given (Replace taken cells) = length (in_stack_order cells)
 cells_given (CopyUnder copied under) = copied
 cells_given (Exchange top under) = 0
-cells_given (MakeReady taken place class cells) = length (listed cells)
+cells_given (MakeReady taken place class cells) = length (in_stack_order cells)
 
 abbrev pub footprint_of : Effect → Footprint
 footprint_of e = record {
   taken = cells_taken e.change;
   given = cells_given e.change;
   register = e.store.register;
-  written = length (listed e.store.cells);
+  written = length (in_stack_order e.store.cells);
 }
 
 -- of an operation: it is that of any frame
@@ -94,13 +94,13 @@ abbrev pub MetIsThere : Linked → Type 0
 MetIsThere w =
     (f : Frame) (ds : List Demand)
     → SatisfiesAll w.classes f ds
-    → AreThere (length f.regs) (length f.stack) ds
+    → AreInFrame (length f.regs) (length f.stack) ds
 
 -- what demands name is there exactly where there are as many registers and cells as they ask for
 pub record AreAsked (regs depth : ℕ) (ds : List Demand) : Type 0 where
-  pub registers : AreThere regs depth ds → registers_asked ds ≤ regs
-  pub cells : AreThere regs depth ds → cells_asked ds ≤ depth
-  pub there : registers_asked ds ≤ regs → cells_asked ds ≤ depth → AreThere regs depth ds
+  pub registers : AreInFrame regs depth ds → registers_asked ds ≤ regs
+  pub cells : AreInFrame regs depth ds → cells_asked ds ≤ depth
+  pub there : registers_asked ds ≤ regs → cells_asked ds ≤ depth → AreInFrame regs depth ds
 
 abbrev pub AskedIsThere : Type 0
 AskedIsThere = (regs depth : ℕ) (ds : List Demand) → AreAsked regs depth ds

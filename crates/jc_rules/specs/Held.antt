@@ -24,8 +24,8 @@ abbrev pub end_of : Span → ℕ
 end_of s = s.at + (s.registers + s.depth)
 
 -- the frame of a span
-abbrev pub frame_at : List Ty → Span → Frame
-frame_at cells s = parted s.registers (take (s.registers + s.depth) (drop s.at cells))
+abbrev pub frame_of_span : List Ty → Span → Frame
+frame_of_span cells s = parted s.registers (take (s.registers + s.depth) (drop s.at cells))
 
 -- the span of a place, where it has one
 abbrev pub span_at : List (Option Span) → ℕ → Option Span
@@ -33,7 +33,7 @@ span_at spans place = flat (slice_get spans place)
 
 -- the frame of each place that has one
 abbrev pub frames_at : List Ty → List (Option Span) → List (Option Frame)
-frames_at cells spans = map (option_map (frame_at cells)) spans
+frames_at cells spans = map (option_map (frame_of_span cells)) spans
 
 -- two spans have no cell in common
 abbrev pub AreApart : Span → Span → Type 0

@@ -288,13 +288,13 @@ result_at (Some m) = m.sig.result
 -- ---- objects and types
 
 -- an interface stands for class object
-abbrev pub standing : ClassTable → ℕ → ℕ
-standing t c = if is_interface t c then object t else c
+abbrev pub class_in_types : ClassTable → ℕ → ℕ
+class_in_types t c = if is_interface t c then object t else c
 
 -- the type of an object or an array, as frames have it
 abbrev pub seen : ClassTable → Ty → Ty
-seen t (Class c) = Class (standing t c)
-seen t (ArrRef c) = ArrRef (standing t c)
+seen t (Class c) = Class (class_in_types t c)
+seen t (ArrRef c) = ArrRef (class_in_types t c)
 seen t ty = ty
 
 abbrev pub type_test_effect : TypeTest → Ty → Effect

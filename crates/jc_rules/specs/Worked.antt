@@ -13,7 +13,7 @@ use Rattle.jc_ops.specs.declared.operation.Sort.TheVariants as sorts
 use Rattle.jc_ops.specs.declared.operation.Move.TheVariants as moves
 use Rattle.jc_ops.specs.declared.operation.Operation.{Operation}
 use Rattle.jc_ops.specs.declared.operation.Operation.TheVariants as ops
-use Rattle.jc_ops.specs.Row.{table, row_at, unused, by_sort, by_width, by_kind, first_four, by_register, literals, binary, orders_all, branching}
+use Rattle.jc_ops.specs.Row.{table, row_at, unused, by_sort, by_width, by_kind, first_four, by_register, literals, binaries, orders_all, branching}
 use Rattle.jc_ops.specs.Resolve.{resolved}
 use Rattle.jc_rules.specs.declared.demand.Demand.TheVariants.{Registers, Cell}
 use Rattle.jc_rules.specs.declared.effect.Cells.TheVariants as given
@@ -41,7 +41,7 @@ module _ (w : Linked) (m : MethodRec) (f : Frame) where
       ++ replicate 2 (0, 1) ++ (0, 2) ∷ replicate 8 (0, 1) ++ replicate 4 (0, 2)
       ++ replicate 3 (2, 1) ++ (2, 2) ∷ replicate 2 (1, 0) ++ (2, 0) ∷ replicate 8 (1, 0) ++ replicate 4 (2, 0)
       ++ replicate 3 (3, 0) ++ (4, 0) ∷ []
-  unfolding counts_at counts_of row_at table by_sort by_width by_kind first_four by_register literals binary orders_all branching unused
+  unfolding counts_at counts_of row_at table by_sort by_width by_kind first_four by_register literals binaries orders_all branching unused
   first_counts = refl
 
   -- pop, pop2, dup, dup2; arithmetic from sadd to ixor, increments, conversions and icmp
@@ -50,31 +50,31 @@ module _ (w : Linked) (m : MethodRec) (f : Frame) where
       ∷ (2, 1) ∷ (4, 2) ∷ (2, 1) ∷ (4, 2) ∷ (2, 1) ∷ (4, 2) ∷ (2, 1) ∷ (4, 2) ∷ (2, 1) ∷ (4, 2) ∷ (1, 1) ∷ (2, 2)
       ∷ (2, 1) ∷ (4, 2) ∷ (2, 1) ∷ (4, 2) ∷ (2, 1) ∷ (4, 2) ∷ (2, 1) ∷ (4, 2) ∷ (2, 1) ∷ (4, 2) ∷ (2, 1) ∷ (4, 2)
       ∷ (0, 0) ∷ (0, 0) ∷ (1, 1) ∷ (1, 2) ∷ (2, 1) ∷ (2, 1) ∷ (4, 1) ∷ []
-  unfolding counts_at counts_of row_at table by_sort by_width by_kind first_four by_register literals binary orders_all branching unused
+  unfolding counts_at counts_of row_at table by_sort by_width by_kind first_four by_register literals binaries orders_all branching unused
   second_counts = refl
 
   -- the conditionals and goto, short and wide; the switches
   third_counts : map counts_at (range_with_len 96 17 ++ range_with_len 152 17 ++ range_with_len 115 4) ≡
       replicate 8 (1, 0) ++ replicate 8 (2, 0) ++ (0, 0) ∷ replicate 8 (1, 0) ++ replicate 8 (2, 0) ++ (0, 0)
       ∷ (1, 0) ∷ (2, 0) ∷ (1, 0) ∷ (2, 0) ∷ []
-  unfolding counts_at counts_of row_at table by_sort by_width by_kind first_four by_register literals binary orders_all branching unused
+  unfolding counts_at counts_of row_at table by_sort by_width by_kind first_four by_register literals binaries orders_all branching unused
   third_counts = refl
 
   -- newarray, arraylength, athrow, sinc_w, iinc_w
   last_counts : map counts_at (144 ∷ 146 ∷ 147 ∷ 150 ∷ 151 ∷ []) ≡ (1, 1) ∷ (1, 1) ∷ (1, 0) ∷ (0, 0) ∷ (0, 0) ∷ []
-  unfolding counts_at counts_of row_at table by_sort by_width by_kind first_four by_register literals binary orders_all branching unused
+  unfolding counts_at counts_of row_at table by_sort by_width by_kind first_four by_register literals binaries orders_all branching unused
   last_counts = refl
 
   -- dup_x and swap_x have their numbers in two nibbles
   moves_named :
       map (λ op. resolved w m 0 (record { op = op; x = pos 18; y = pos 0; z = pos 0; len = 2 }) (row_at op)) (63 ∷ 64 ∷ [])
       ≡ Ok (ops.Move (moves.CopyUnder 1 2)) ∷ Ok (ops.Move (moves.Exchange 1 2)) ∷ []
-  unfolding row_at table by_sort by_width by_kind first_four by_register literals binary orders_all branching unused
+  unfolding row_at table by_sort by_width by_kind first_four by_register literals binaries orders_all branching unused
   moves_named = refl
 
   -- istore_1 names two registers, and takes the low half first
   istore_named : resolved w m 0 (instruction 52) (row_at 52) ≡ Ok (ops.Store sorts.Int 1)
-  unfolding row_at table by_sort by_width by_kind first_four by_register literals binary orders_all branching unused
+  unfolding row_at table by_sort by_width by_kind first_four by_register literals binaries orders_all branching unused
   istore_named = refl
 
   istore_asks : demands w (ops.Store sorts.Int 1) ≡ Registers 1 2 ∷ Cell 0 (Value IntLow) ∷ Cell 1 (Value IntHigh) ∷ []

@@ -1,7 +1,7 @@
 ghost use Rattle.std.specs.Prelude.{◌≡◌, ◌+◌, ◌<◌, ◌≤◌, ◌∷◌, ◌++◌, length, map, max, not, All};
 ghost use Rattle.jc_base.specs.Order.{IsKnown, IsJoin, is_below};
 ghost use Rattle.jc_rules.specs.Stack.{cells};
-ghost use Rattle.jc_rules.specs.Effect.{changed, ready, listed, needed, depth_after, Writes, Stores, rises};
+ghost use Rattle.jc_rules.specs.Effect.{changed, ready, in_stack_order, cells_needed, depth_after, WritesRegister, StoresInRegisters, raises_register};
 
 use jc_base::{Classes, Ty, below, join};
 
@@ -65,7 +65,7 @@ pub enum Mode {
 impl Cells {
     /// How many cells they are: at most two.
     pub fn count(self) -> u8
-        ensures { result ≡ length (listed self) }
+        ensures { result ≡ length (in_stack_order self) }
     {
         match self {
             Cells::Nothing => 0,
@@ -96,7 +96,7 @@ impl Change {
 /// Changes the stack, which is the first `depth` cells of the slice, and tells how many cells it has then.
 pub fn change_stack(stack: &mut [Ty], depth: u8, change: Change) -> u8
     requires depth { depth ≤ length stack.old }
-    requires there { needed change ≤ depth }
+    requires there { cells_needed change ≤ depth }
     requires room { depth_after change depth ≤ length stack.old }
     requires small { length stack.old ≤ 255 }
     ensures depth { result ≡ depth_after change depth }
@@ -119,10 +119,10 @@ pub fn change_stack(stack: &mut [Ty], depth: u8, change: Change) -> u8
 }
 
 fn push(stack: &mut [Ty], depth: u8, given: Cells) -> u8
-    requires room { depth + length (listed given) ≤ length stack.old }
+    requires room { depth + length (in_stack_order given) ≤ length stack.old }
     requires small { length stack.old ≤ 255 }
-    ensures depth { result ≡ depth + length (listed given) }
-    ensures stack { cells stack.new result ≡ listed given ++ cells stack.old depth }
+    ensures depth { result ≡ depth + length (in_stack_order given) }
+    ensures stack { cells stack.new result ≡ in_stack_order given ++ cells stack.old depth }
 {
     match given {
         Cells::Nothing => depth,
@@ -197,13 +197,13 @@ fn ready(ty: Ty, place: u16, class: u16) -> Ty
 
 /// Writes what is stored into the registers, and tells whether one rose.
 pub fn change_regs(classes: &Classes, regs: &mut [Ty], store: Store, mode: Mode) -> bool
-    requires inside { store.register + length (listed store.cells) ≤ length regs.old }
+    requires inside { store.register + length (in_stack_order store.cells) ≤ length regs.old }
     requires small { length regs.old ≤ 255 }
     requires regs_known { All (IsKnown classes.now) regs.old }
-    requires stored_known { All (IsKnown classes.now) (listed store.cells) }
-    ensures value { Stores classes.now mode store regs.old regs.new }
+    requires stored_known { All (IsKnown classes.now) (in_stack_order store.cells) }
+    ensures value { StoresInRegisters classes.now mode store regs.old regs.new }
     ensures known { All (IsKnown classes.now) regs.new }
-    ensures rose { result ≡ rises classes.now mode store regs.old }
+    ensures rose { result ≡ raises_register classes.now mode store regs.old }
 {
     match store.cells {
         Cells::Nothing => false,
@@ -220,9 +220,9 @@ fn write(classes: &Classes, regs: &mut [Ty], x: u8, ty: Ty, mode: Mode) -> bool
     requires inside { x < length regs.old }
     requires regs_known { All (IsKnown classes.now) regs.old }
     requires ty_known { IsKnown classes.now ty }
-    ensures value { Writes classes.now mode x ty regs.old regs.new }
+    ensures value { WritesRegister classes.now mode x ty regs.old regs.new }
     ensures regs_known { All (IsKnown classes.now) regs.new }
-    ensures rose { result ≡ rises classes.now mode (record { register = x; cells = Cells.One ty }) regs.old }
+    ensures rose { result ≡ raises_register classes.now mode (record { register = x; cells = Cells.One ty }) regs.old }
 {
     let x = x as usize;
     match mode {

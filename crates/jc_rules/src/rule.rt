@@ -6,9 +6,9 @@ ghost use Rattle.jc_rules.specs.declared.effect.Mode.TheVariants.{Card};
 ghost use Rattle.jc_rules.specs.Stack.{cells};
 ghost use Rattle.jc_rules.specs.Effect.{depth_after};
 ghost use Rattle.jc_rules.specs.Demand.{Frame, AreKnown, frame, IsJudged};
-ghost use Rattle.jc_rules.specs.Rule.{demands, effect, return_demands, return_effect, seen, standing, wrote};
+ghost use Rattle.jc_rules.specs.Rule.{demands, effect, return_demands, return_effect, seen, class_in_types, wrote};
 ghost use Rattle.jc_rules.specs.Known.{IsKnownCallee, IsKnownOperation, IsValue};
-ghost use Rattle.jc_rules.specs.Apply.{frame_of, HasDeclaredLengths, Applies, Refuses, IsPlanned};
+ghost use Rattle.jc_rules.specs.Apply.{frame_of, HasDeclaredLengths, Applies, Refuses, PlansEffect};
 ghost use Rattle.jc_ops.specs.declared.operation.Operation.TheVariants.{Call};
 ghost use Rattle.jc_ops.specs.Sound.{IsNamedType};
 
@@ -92,7 +92,7 @@ impl Before<'_> {
 
     fn standing(&self, class: u16) -> u16
         requires { class < length self.now.world.now.classes.records }
-        ensures { result ≡ standing self.now.world.now.classes class }
+        ensures { result ≡ class_in_types self.now.world.now.classes class }
     {
         if self.world.classes().is_interface(class) {
             self.world.role(0)
@@ -135,7 +135,7 @@ fn plan(
     requires known { IsKnownOperation world.now operation }
     requires few { length stack.now ≤ 255 }
     requires world { IsWorld world.now }
-    ensures { IsPlanned world.now max_stack operation (record { regs = regs.now; stack = reverse stack.now }) result }
+    ensures { PlansEffect world.now max_stack operation (record { regs = regs.now; stack = reverse stack.now }) result }
 {
     let before = Before { world, regs, stack };
     let effect = before.rule(operation)?;

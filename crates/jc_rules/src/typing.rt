@@ -1,7 +1,7 @@
 ghost use Rattle.std.specs.Prelude.{◌≡◌, ◌+◌, ◌<◌, ◌≤◌, ◌⊎◌, ◌++◌, ℕ, ⊤, List, Some, None, length, take, drop, reverse, replicate, All, IfOk, OnOk, OnErr, IsSomeAnd, is_some, option_map, slice_get, slice_set};
 ghost use Rattle.jc_base.specs.Order.{IsKnown};
 ghost use Rattle.jc_rules.specs.Flow.{At};
-ghost use Rattle.jc_rules.specs.Held.{lent, end_of, frame_at, span_at};
+ghost use Rattle.jc_rules.specs.Held.{lent, end_of, frame_of_span, span_at};
 ghost use Rattle.jc_rules.specs.Typing.{state_at, IsMerged, IsMergedAt};
 
 use crate::held::State;
@@ -150,7 +150,7 @@ fn span_of(spans: &[Option<Span>], place: u16) -> Option<Span>
 fn lend<'a>(cells: &'a [Ty], span: Span) -> State<'a>
     requires within { end_of span ≤ length cells.now }
     requires few { span.depth ≤ 255 }
-    ensures { lent result ≡ frame_at cells.now span }
+    ensures { lent result ≡ frame_of_span cells.now span }
 {
     let own = &cells[span.at..span.at + (span.registers + span.depth)];
     State {
@@ -176,11 +176,11 @@ fn merge_span(classes: &Classes, cells: &mut [Ty], span: Span, regs: &[Ty], stac
     requires count { length regs.now ≡ span.registers }
     requires regs_known { All (IsKnown classes.now) regs.now }
     requires stack_known { All (IsKnown classes.now) stack.now }
-    requires own_regs_known { All (IsKnown classes.now) (frame_at cells.old span).regs }
-    requires own_stack_known { All (IsKnown classes.now) (frame_at cells.old span).stack }
-    ensures merged { IsMerged classes.now (frame_at cells.old span)
+    requires own_regs_known { All (IsKnown classes.now) (frame_of_span cells.old span).regs }
+    requires own_stack_known { All (IsKnown classes.now) (frame_of_span cells.old span).stack }
+    ensures merged { IsMerged classes.now (frame_of_span cells.old span)
         (record { regs = regs.now; stack = reverse stack.now })
-        (frame_at cells.new span) result }
+        (frame_of_span cells.new span) result }
     ensures len { length cells.new ≡ length cells.old }
     // The cells before and after the span stay.
     ensures elsewhere { (b n : ℕ) → (b + n ≤ span.at) ⊎ (end_of span ≤ b) → take n (drop b cells.new) ≡ take n (drop b cells.old) }

@@ -13,7 +13,7 @@ use Rattle.cap_method.specs.StaticFormat.{Array, Statics, array_init_info, is_pr
 use Rattle.cap_method.specs.declared.static_part.StaticPart.{StaticPart}
 use Rattle.cap_method.specs.StaticPart.{arrays_left, statics_seen}
 use Rattle.cap_package.specs.PackageRecord.{PackageRecord, initial_arrays}
-use Rattle.jc_statics.specs.Words.{signed, words, element_words}
+use Rattle.jc_statics.specs.Words.{signed, words_of_bytes, element_words}
 use Rattle.jc_statics.specs.Arrays.{array_type, array_record, array_records}
 use Rattle.jc_statics.specs.Known.{IsPrimitive}
 use Rattle.cap_package.proofs.Given.{drop_here}
@@ -38,7 +38,7 @@ signed_by b false e = let le = ltb-false b 128 e in inr (omega arith)
 pub signed_is : (b : ℕ) → IsByteWord (signed b)
 signed_is b = signed_by b (ltb b 128) refl
 
-pub words_length : (bytes : List ℕ) → length (words bytes) ≡ length bytes / 2
+pub words_length : (bytes : List ℕ) → length (words_of_bytes bytes) ≡ length bytes / 2
 words_length [] = refl
 words_length (high ∷ []) = refl
 words_length (high ∷ low ∷ bytes) = omega (arith, words_length bytes)
@@ -65,7 +65,7 @@ elements_of (suc (suc zero)) values one whole = All-map IsByteWord signed values
 elements_of (suc (suc (suc zero))) values one whole = All-map IsByteWord signed values (λ k d lt. signed_is (get_or values k d))
 elements_of (suc (suc (suc (suc zero)))) values one whole = tt
 elements_of (suc (suc (suc (suc (suc zero))))) values one whole =
-    even (length values) (length (words values)) (words_length values) (whole_by (length values) (eqb (length values % 4) 0) refl whole)
+    even (length values) (length (words_of_bytes values)) (words_length values) (whole_by (length values) (eqb (length values % 4) 0) refl whole)
 elements_of (suc (suc (suc (suc (suc (suc kind)))))) values one whole = absurd (omega (arith, one.high))
 
 kind_spelled : (bytes : List ℕ) (at : ℕ) (a : Array) (after : ℕ) → Spells array_init_info bytes at a after → IsPrimitive a.kind

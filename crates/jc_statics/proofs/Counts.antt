@@ -24,7 +24,7 @@ use Rattle.cap_package.specs.StaticPlaces.{static_places, places_left}
 use Rattle.cap_package.proofs.ArrayBytes.{arrays_short}
 use Rattle.jc_resolve.specs.WorldTypes.{kind_of}
 use Rattle.jc_resolve.proofs.DescribedFields.{fields_of-few, fields_left-few}
-use Rattle.jc_statics.specs.Words.{signed, words}
+use Rattle.jc_statics.specs.Words.{signed, words_of_bytes}
 use Rattle.jc_statics.specs.Arrays.{array_record, array_records, initial_cells}
 use Rattle.jc_statics.specs.Statics.{cells_at, static_cells}
 use Rattle.cap_package.proofs.Given.{drop_here}
@@ -59,7 +59,7 @@ places_few x =
 
 -- ---- cells of initial arrays
 
-words_few : (b : Bool) (bytes : List ℕ) → length (cond b (map signed bytes) (words bytes)) ≤ length bytes
+words_few : (b : Bool) (bytes : List ℕ) → length (cond b (map signed bytes) (words_of_bytes bytes)) ≤ length bytes
 words_few true bytes = omega (arith, length-map bytes signed)
 words_few false bytes = omega (arith, words_length bytes)
 

@@ -11,22 +11,22 @@ use Rattle.cap_method.specs.StaticFormat.{Statics}
 use Rattle.cap_package.specs.StaticChecks.{ImagePlace}
 use Rattle.cap_package.specs.PackageRecord.{PackageRecord}
 use Rattle.cap_package.specs.StaticPlaces.{static_places}
-use Rattle.jc_statics.specs.Statics.{Site, site, sites, sites_after, cells_at, static_cells, static_record, type_at, records_from, static_records}
+use Rattle.jc_statics.specs.Statics.{StaticSite, site, sites, sites_after, cells_at, static_cells, static_record, type_at, records_from, static_records}
 use Rattle.cap_package.proofs.Given.{drop_here}
 
 -- the cells of fields
-abbrev pub cells_in : List Site → ℕ
-cells_in = sum_by (λ (s : Site). cells_at s.place)
+abbrev pub cells_in : List StaticSite → ℕ
+cells_in = sum_by (λ (s : StaticSite). cells_at s.place)
 
 cells_at_home : (home first : ℕ) (s : Statics) (places : List ImagePlace) → cells_in (map (site home first s) places) ≡ sum_by cells_at places
 cells_at_home home first s [] = refl
 cells_at_home home first s (p ∷ places) =
-    omega (arith, sum_by-cons (λ (x : Site). cells_at x.place) (site home first s p) (map (site home first s) places), sum_by-cons cells_at p places, cells_at_home home first s places)
+    omega (arith, sum_by-cons (λ (x : StaticSite). cells_at x.place) (site home first s p) (map (site home first s) places), sum_by-cons cells_at p places, cells_at_home home first s places)
 
-records_both : (told : ℕ → TypeItem → Ty) (slot : ℕ) (xs ys : List Site) → records_from told slot (xs ++ ys) ≡ records_from told slot xs ++ records_from told (slot + cells_in xs) ys
+records_both : (told : ℕ → TypeItem → Ty) (slot : ℕ) (xs ys : List StaticSite) → records_from told slot (xs ++ ys) ≡ records_from told slot xs ++ records_from told (slot + cells_in xs) ys
 records_both told slot [] ys = let e : slot + 0 ≡ slot = omega arith in rw e refl
 records_both told slot (x ∷ xs) ys =
-    let e : slot + cells_in (x ∷ xs) ≡ (slot + cells_at x.place) + cells_in xs = omega (arith, sum_by-cons (λ (s : Site). cells_at s.place) x xs) in
+    let e : slot + cells_in (x ∷ xs) ≡ (slot + cells_at x.place) + cells_in xs = omega (arith, sum_by-cons (λ (s : StaticSite). cells_at s.place) x xs) in
     rw e (ap (λ rest. static_record slot x (type_at told x) ∷ rest) (records_both told (slot + cells_at x.place) xs ys))
 
 -- a step of going over the packages
@@ -46,14 +46,14 @@ statics_more told before after all ps n first slot next last p e h pushed to oth
 
 -- ---- slots and cells
 
-pub records_slots : (told : ℕ → TypeItem → Ty) (slot : ℕ) (xs : List Site) → AreSlots slot (records_from told slot xs)
+pub records_slots : (told : ℕ → TypeItem → Ty) (slot : ℕ) (xs : List StaticSite) → AreSlots slot (records_from told slot xs)
 records_slots told slot [] = tt {0}
 records_slots told slot (x ∷ xs) = (refl, records_slots told (slot + cells_at x.place) xs)
 
-records_cells : (told : ℕ → TypeItem → Ty) (slot : ℕ) (xs : List Site) → sum_by (λ (f : StaticRec). width f.kind) (records_from told slot xs) ≡ cells_in xs
+records_cells : (told : ℕ → TypeItem → Ty) (slot : ℕ) (xs : List StaticSite) → sum_by (λ (f : StaticRec). width f.kind) (records_from told slot xs) ≡ cells_in xs
 records_cells told slot [] = refl
 records_cells told slot (x ∷ xs) =
-    omega (arith, sum_by-cons (λ (f : StaticRec). width f.kind) (static_record slot x (type_at told x)) (records_from told (slot + cells_at x.place) xs), sum_by-cons (λ (s : Site). cells_at s.place) x xs, records_cells told (slot + cells_at x.place) xs)
+    omega (arith, sum_by-cons (λ (f : StaticRec). width f.kind) (static_record slot x (type_at told x)) (records_from told (slot + cells_at x.place) xs), sum_by-cons (λ (s : StaticSite). cells_at s.place) x xs, records_cells told (slot + cells_at x.place) xs)
 
 sites_cells : (home first : ℕ) (ps : List PackageRecord) → cells_in (sites_after home first ps) ≡ static_cells ps
 sites_cells home first [] = refl
@@ -61,7 +61,7 @@ sites_cells home first (p ∷ ps) =
     let rest = sites_after (home + 1) (first + length p.statics.arrays) ps in
     omega (
       arith,
-      sum_by-append (λ (s : Site). cells_at s.place) (map (site home first p.statics) (static_places p)) rest,
+      sum_by-append (λ (s : StaticSite). cells_at s.place) (map (site home first p.statics) (static_places p)) rest,
       sum_by-append cells_at (static_places p) (flat_map static_places ps),
       cells_at_home home first p.statics (static_places p),
       sites_cells (home + 1) (first + length p.statics.arrays) ps,

@@ -23,28 +23,28 @@ static_cells ps = sum_by cells_at (flat_map static_places ps)
 -- ---- numbers
 
 -- a static field: its package, the handle of that package's first initial array, the package's image, and the field's place in it
-pub record Site : Type 0 where
+pub record StaticSite : Type 0 where
   pub home : ℕ
   pub first : ℕ
   pub statics : Statics
   pub place : ImagePlace
 
-abbrev pub site : ℕ → ℕ → Statics → ImagePlace → Site
+abbrev pub site : ℕ → ℕ → Statics → ImagePlace → StaticSite
 site home first s place = record { home = home; first = first; statics = s; place = place }
 
 -- the fields of packages, the first of which has a number, and whose initial arrays have handles from a first one on
-abbrev pub sites_after : ℕ → ℕ → List PackageRecord → List Site
+abbrev pub sites_after : ℕ → ℕ → List PackageRecord → List StaticSite
 sites_after home first [] = []
 sites_after home first (p ∷ ps) = map (site home first p.statics) (static_places p)
     ++ sites_after (home + 1) (first + length p.statics.arrays) ps
 
 -- the static fields of all packages; handles count from 1
-abbrev pub sites : List PackageRecord → List Site
+abbrev pub sites : List PackageRecord → List StaticSite
 sites = sites_after 0 1
 
 -- ---- records
 
-abbrev pub static_record : ℕ → Site → Ty → StaticRec
+abbrev pub static_record : ℕ → StaticSite → Ty → StaticRec
 static_record slot s ty = record {
   «package» = s.home;
   offset = s.place.offset;
@@ -55,11 +55,11 @@ static_record slot s ty = record {
 }
 
 -- the type of a field, where the types that the type descriptors of packages stand for are told
-abbrev pub type_at : (ℕ → TypeItem → Ty) → Site → Ty
+abbrev pub type_at : (ℕ → TypeItem → Ty) → StaticSite → Ty
 type_at told s = told s.home s.place.ty
 
 -- fields whose cells follow one another from a slot on
-abbrev pub records_from : (ℕ → TypeItem → Ty) → ℕ → List Site → List StaticRec
+abbrev pub records_from : (ℕ → TypeItem → Ty) → ℕ → List StaticSite → List StaticRec
 records_from told slot [] = []
 records_from told slot (s ∷ others) = static_record slot s (type_at told s) ∷ records_from told (slot + cells_at s.place) others
 

@@ -6,12 +6,12 @@ abbrev pub signed : ℕ → ℕ
 signed byte = if nat_lt byte 128 then byte else 0xFF00 + byte
 
 -- the words that bytes spell, two bytes each, the high one first
-abbrev pub words : List ℕ → List ℕ
-words [] = []
-words (high ∷ []) = []
-words (high ∷ low ∷ bytes) = (high * 256 + low) ∷ words bytes
+abbrev pub words_of_bytes : List ℕ → List ℕ
+words_of_bytes [] = []
+words_of_bytes (high ∷ []) = []
+words_of_bytes (high ∷ low ∷ bytes) = (high * 256 + low) ∷ words_of_bytes bytes
 
 -- the words of the elements of an array, by the number of their type: a boolean (2) or a byte (3)
 -- is one word, a short (4) one of two bytes, an int (5) two words, the high one first
 abbrev pub element_words : ℕ → List ℕ → List ℕ
-element_words kind bytes = if nat_le kind 3 then map signed bytes else words bytes
+element_words kind bytes = if nat_le kind 3 then map signed bytes else words_of_bytes bytes

@@ -1,5 +1,5 @@
 ghost use Rattle.std.specs.Prelude.{◌≡◌, IfOk, map};
-ghost use Rattle.jc_statics.specs.Words.{signed, words, element_words};
+ghost use Rattle.jc_statics.specs.Words.{signed, words_of_bytes, element_words};
 
 use std::alloc::{AllocError, Global};
 
@@ -30,7 +30,7 @@ fn signed_words(alloc: Global, bytes: &[u8]) -> Result<Vec<u16>, AllocError>
 
 /// The words that bytes spell, two each.
 fn wide_words(alloc: Global, bytes: &[u8]) -> Result<Vec<u16>, AllocError>
-    ensures { IfOk result (λ ws. ws.items ≡ words bytes.now) }
+    ensures { IfOk result (λ ws. ws.items ≡ words_of_bytes bytes.now) }
 {
     let mut words = Vec::with_capacity(alloc, bytes.len() / 2)?;
     let mut rest = bytes;

@@ -3,7 +3,7 @@ use Rattle.std.proofs.Common.{◌≡◌, ℕ, ◌<◌, ◌≤◌, Bool, true, fa
 use Rattle.std.specs.Prelude.{MatchBool}
 use Rattle.std.proofs.lemmas.Bool.{cases_lt, or_from, or_left, or_right}
 use Rattle.offset_set.specs.Sets.{IsNext, is_among, is_repeated, lesser_of, least_above, nearest}
-use Rattle.offset_set.specs.Tallies.{IsNearest, counted}
+use Rattle.offset_set.specs.Tallies.{IsNearest, tally_of}
 
 -- ---- one alone
 
@@ -47,5 +47,5 @@ nearest_by ns offset near true h = h
 nearest_by ns offset near false h = one-next (is_among ns) offset near (least_above offset ns) h (next-above offset ns)
 
 -- what is the nearest of a tally is that of the list that was counted
-pub is-nearest : (ns : List ℕ) (offset : ℕ) (near : Option ℕ) → IsNearest (counted ns) offset near → near ≡ nearest ns offset
+pub is-nearest : (ns : List ℕ) (offset : ℕ) (near : Option ℕ) → IsNearest (tally_of ns) offset near → near ≡ nearest ns offset
 is-nearest ns offset near h = nearest_by ns offset near (is_repeated ns offset) h

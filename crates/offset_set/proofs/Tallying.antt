@@ -2,7 +2,7 @@
 use Rattle.std.proofs.Common.{◌≡◌, ℕ, Bool, true, false, eqb, ◌||◌, ◌&&◌, List, [], ◌∷◌, fold, refl, sym, ap, ◌∙◌}
 use mathlib.Core.Path.{fun_ext}
 use Rattle.offset_set.specs.Sets.{nowhere, also, is_among, is_repeated}
-use Rattle.offset_set.specs.Tallies.{Tallied, none_counted, with_one, with_all, counted}
+use Rattle.offset_set.specs.Tallies.{Tallied, none_counted, with_one, with_all, tally_of}
 
 -- what is known of some offsets, and then those of a list
 abbrev after : Tallied → List ℕ → Tallied
@@ -51,5 +51,5 @@ counted-after (n ∷ ns) t =
     (fun_ext (λ offset. repeated_next (eqb n offset) (t.met offset) (t.repeated offset) (is_among ns offset) (is_repeated ns offset)))
 
 -- the offsets of a list were counted
-pub all_counted : (ns : List ℕ) → with_all none_counted ns ≡ counted ns
+pub all_counted : (ns : List ℕ) → with_all none_counted ns ≡ tally_of ns
 all_counted ns = counted-after ns none_counted

@@ -17,8 +17,8 @@ abbrev pub none_counted : Tallied
 none_counted = record { met = nowhere; repeated = nowhere }
 
 -- the offsets of a list were counted
-abbrev pub counted : List ℕ → Tallied
-counted offsets = record { met = is_among offsets; repeated = is_repeated offsets }
+abbrev pub tally_of : List ℕ → Tallied
+tally_of offsets = record { met = is_among offsets; repeated = is_repeated offsets }
 
 -- one more offset is counted
 unfoldable pub with_one : Tallied → ℕ → Tallied

@@ -22,7 +22,7 @@ use Rattle.jc_base.proofs.Subtypes.{below_decided}
 use Rattle.jc_ops.specs.declared.operation.Choice.TheVariants as choices
 use Rattle.jc_ops.specs.declared.operation.Callee.{Callee}
 use Rattle.jc_ops.specs.Sound.{IsCalleeOf, IsChosen, IsSpecialCall, IsVirtualCall, IsInterfaceCall}
-use Rattle.vm_store.specs.State.{register_count, registers_of}
+use Rattle.vm_store.specs.State.{register_count, register_count_of}
 use Rattle.vm_step.specs.Methods.{of_method}
 use Rattle.vm_step.specs.Calls.{args_of, interfaces_of, serving, served}
 use Rattle.vm_values.specs.Lead.{TakesCells}
@@ -32,7 +32,7 @@ use Rattle.vm_dispatch.proofs.Climbing.{Is, serving-here, serving-next, serving-
 known-registers : (w : Linked) → IsWorld w → (n : ℕ) (m : MethodRec) → slice_get w.methods n ≡ Some m → (count : ℕ) → count ≤ length m.sig.args + receiver_words m.is_static → TakesCells w n count
 known-registers w is n m e count few =
     let method : IsMethod w.infos w.pools w.classes m = All-slice_get (IsMethod w.infos w.pools w.classes) w.methods n m is.methods e in
-    let counted : register_count w.methods n ≡ m.nargs + m.max_locals = ap registers_of e in
+    let counted : register_count w.methods n ≡ m.nargs + m.max_locals = ap register_count_of e in
     record { known = slice_get_within w.methods n m e; registers = omega (arith, few, method.words, counted) }
 
 args-known : (w : Linked) (n : ℕ) (m : MethodRec) → slice_get w.methods n ≡ Some m → args_of w n ≡ length m.sig.args

@@ -61,28 +61,28 @@ pub record IsInCode {A : Type 0} (w : Linked) (i : Insn) (s : State A) : Type 0 
   pub instruction : decoded (code_at w (top s).method) (top s).place ≡ Ok i
 
 -- what the operation of the instruction i speaks of
-abbrev pub Finds : {A : Type 0} → Cells A → Linked → Insn → Operation → State A → Type 0
-Finds k w i (ops.ArrayRead kind) s = HandleIs k s 1 (IsArrayFor kind s)
-Finds k w i (ops.ArrayWrite kind) s =
+abbrev pub FindsNamed : {A : Type 0} → Cells A → Linked → Insn → Operation → State A → Type 0
+FindsNamed k w i (ops.ArrayRead kind) s = HandleIs k s 1 (IsArrayFor kind s)
+FindsNamed k w i (ops.ArrayWrite kind) s =
     HandleIs k s (width kind + 1) (IsArrayFor kind s) × HandleIs k s (width kind + 1) (MayCompare k w.classes kind s)
-Finds k w i ops.ArrayLength s = HandleIs k s 0 (λ h. IsSome (object_at s h))
-Finds k w i (ops.Switch width) s = IsInCode w i s
-Finds k w i (ops.StaticRead f) s = HasStatic f s
-Finds k w i (ops.StaticWrite f) s = HasStatic f s
-Finds k w i (ops.FieldRead f holder) s =
+FindsNamed k w i ops.ArrayLength s = HandleIs k s 0 (λ h. IsSome (object_at s h))
+FindsNamed k w i (ops.Switch width) s = IsInCode w i s
+FindsNamed k w i (ops.StaticRead f) s = HasStatic f s
+FindsNamed k w i (ops.StaticWrite f) s = HasStatic f s
+FindsNamed k w i (ops.FieldRead f holder) s =
     IsOfKind f.kind f.ty × IsNullOr (held_handle k holder 0 s) (HasField f s (held_handle k holder 0 s))
-Finds k w i (ops.FieldWrite f holder) s =
+FindsNamed k w i (ops.FieldWrite f holder) s =
     IsOfKind f.kind f.ty × IsNullOr (held_handle k holder (width f.kind) s) (HasField f s (held_handle k holder (width f.kind) s))
-Finds k w i (ops.Call c) s = IsCalleeOf w c × HasReceiver k w c c.choice s
-Finds k w i (ops.New place class) s = IsClass w.classes class
-Finds k w i (ops.NewArray ty) s = IsArray ty × IsNamedType w.classes ty
-Finds k w i ops.Throw s = HandleIs k s 0 (λ h. IsSome (object_at s h))
-Finds k w i (ops.TypeTest test ty) s = HandleIs k s 0 (IsObject w.classes s) × IsNamedType w.classes ty
-Finds k w i op s = ⊤
+FindsNamed k w i (ops.Call c) s = IsCalleeOf w c × HasReceiver k w c c.choice s
+FindsNamed k w i (ops.New place class) s = IsClass w.classes class
+FindsNamed k w i (ops.NewArray ty) s = IsArray ty × IsNamedType w.classes ty
+FindsNamed k w i ops.Throw s = HandleIs k s 0 (λ h. IsSome (object_at s h))
+FindsNamed k w i (ops.TypeTest test ty) s = HandleIs k s 0 (IsObject w.classes s) × IsNamedType w.classes ty
+FindsNamed k w i op s = ⊤
 
 -- the state has what the operation asks: so many registers and cells, room for as many cells as it gives, and what it speaks of
 pub record Reaches {A : Type 0} (limit : ℕ) (k : Cells A) (w : Linked) (i : Insn) (op : Operation) (s : State A) : Type 0 where
   pub registers : registers_asked (demands w op) ≤ length (top s).registers
   pub cells : cells_asked (demands w op) ≤ length (top s).stack
   pub room : length (top s).stack + (footprint w op).given ≤ limit + (footprint w op).taken
-  pub finds : Finds k w i op s
+  pub finds : FindsNamed k w i op s

@@ -32,7 +32,7 @@ use Rattle.vm_step.specs.declared.exception.Exception.TheVariants as exceptions
 use Rattle.vm_step.specs.Act.{goes, raises, throws}
 use Rattle.vm_step.specs.Values.{with_constant, with_move, computed, negated, arithmetic_act}
 use Rattle.vm_step.specs.Branching.{is_same, is_taken, leads_if, branch_width, branch_act}
-use Rattle.vm_step.specs.Fields.{with_static_read, elements_of, index_in, at_element, array_read_act, array_length_act}
+use Rattle.vm_step.specs.Fields.{with_static_read, elements_of, element_index, at_element, array_read_act, array_length_act}
 use Rattle.vm_step.specs.Objects.{new_act, kind_of_type, array_of_count, new_array_act, throw_act, passes, may_cast, truth, type_test_act}
 use Rattle.vm_step.specs.Numbers.{handle_at, short_at, int_on, number_cells, dropped, replaced}
 use Rattle.vm_alike.specs.Alike.{renamed_cell}
@@ -143,10 +143,10 @@ module _ (x : Pair) where
         (λ h. at_element k (elements_of (second x) h)
         (λ i. goes (replaced (second x) 2 (value_in tagged kind (object_cells (second x) h) (i * width kind)))))
         (word-at x.rename x.frame.stack 1)
-        (some-does x exceptions.ArrayIndex (index_in n (elements_of (first x) h)) (index_in k (elements_of (second x) h))
+        (some-does x exceptions.ArrayIndex (element_index n (elements_of (first x) h)) (element_index k (elements_of (second x) h))
         (λ i. goes (replaced (first x) 2 (value_in tagged kind (object_cells (first x) h) (i * width kind))))
         (λ i. goes (replaced (second x) 2 (value_in tagged kind (object_cells (second x) h) (i * width kind))))
-        (ap (λ m. index_in m (elements_of (second x) h)) (short-is x.rename x.frame.stack 0) ∙ ap (index_in n) (elements-same h))
+        (ap (λ m. element_index m (elements_of (second x) h)) (short-is x.rename x.frame.stack 0) ∙ ap (element_index n) (elements-same h))
         (λ i.
         replaced-does x none falls 2 (value_in tagged kind (object_cells (first x) h) (i * width kind))
         (value_in tagged kind (object_cells (second x) h) (i * width kind))

@@ -21,7 +21,7 @@ use Rattle.jc_ops.specs.Sound.{IsSound}
 use Rattle.jc_rules.specs.declared.demand.Demand.{Demand}
 use Rattle.jc_rules.specs.declared.demand.Demand.TheVariants.{Registers, Depth, Cell as ACell, Cut, Held}
 use Rattle.jc_rules.specs.Demand.{Frame as Types, Meets, Satisfies, SatisfiesAll, satisfies}
-use Rattle.jc_rules.specs.Footprint.{registers_asked, cells_asked, registers_read, AreThere, AgreeOn}
+use Rattle.jc_rules.specs.Footprint.{registers_asked, cells_asked, registers_read, AreInFrame, AgreeOn}
 use Rattle.jc_rules.specs.Rule.{demands}
 use Rattle.jc_rules.proofs.Decided.{are-decided}
 use Rattle.jc_rules.proofs.Footprints.{asked-is-there, operation-reads}
@@ -165,7 +165,7 @@ module _ (w : Linked) (world : IsWorld w) (f : ℕ → ℕ) (ks : List ObjectKin
       → b < length (least_types w.classes Bottom ks others)
   inside b P h = many (suc b) (cell-at w.classes Bottom ks others b P h).inside
 
-  named-there : (ds : List Demand) → registers_asked ds ≤ length others → AreThere (length others) (cells_asked ds) ds
+  named-there : (ds : List Demand) → registers_asked ds ≤ length others → AreInFrame (length others) (cells_asked ds) ds
   named-there ds named = (asked-is-there (length others) (cells_asked ds) ds).there named (omega arith)
 
   -- ---- by the operation

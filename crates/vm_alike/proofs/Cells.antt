@@ -28,7 +28,7 @@ use Rattle.vm_store.specs.Kind.{cell_kind, element_cells}
 use Rattle.vm_store.specs.Typing.{least_type, type_of_handle, type_seen, fresh_seen}
 use Rattle.vm_store.specs.Cells.{tagged, word_of, loaded_as, made_ready, zero_cell}
 use Rattle.vm_store.specs.State.{Object, map_object, nth, rotated}
-use Rattle.vm_store.specs.Objects.{cells_in, instance_cells, array_cells, repeated, write_object}
+use Rattle.vm_store.specs.Objects.{cells_in, new_instance_cells, array_cells, repeated, write_object}
 use Rattle.vm_store.specs.Value.{value_in, with_value}
 use Rattle.vm_step.specs.Numbers.{handle_at, short_at, number_on}
 use Rattle.vm_step.specs.Values.{moved}
@@ -301,7 +301,7 @@ module _ (f : ℕ → ℕ) where
   zeros-stay (ty ∷ tys) = cc (zero-stays (cell_kind ty), zeros-stay tys)
 
   pub instance-stays :
-      (t : ClassTable) (class : ℕ) → map (renamed_cell f) (instance_cells tagged t class) ≡ instance_cells tagged t class
+      (t : ClassTable) (class : ℕ) → map (renamed_cell f) (new_instance_cells tagged t class) ≡ new_instance_cells tagged t class
   instance-stays t class = zeros-stay (cells_of t class)
 
   elements-stay : (ks : List CellKind) → map (renamed_cell f) (map (zero_cell tagged) ks) ≡ map (zero_cell tagged) ks

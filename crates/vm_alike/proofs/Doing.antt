@@ -38,7 +38,7 @@ use Rattle.jc_ops.specs.Sound.{IsResult, IsSound}
 use Rattle.jc_rules.specs.declared.demand.Demand.{Demand}
 use Rattle.jc_rules.specs.declared.demand.Demand.TheVariants.{Cell as ACell, Held}
 use Rattle.jc_rules.specs.Demand.{Frame as Types, Meets, SatisfiesAll}
-use Rattle.jc_rules.specs.Footprint.{registers_asked, cells_asked, registers_read, footprint, AreThere}
+use Rattle.jc_rules.specs.Footprint.{registers_asked, cells_asked, registers_read, footprint, AreInFrame}
 use Rattle.jc_rules.specs.Flow.{IsNotFresh, IsNotTop}
 use Rattle.jc_rules.specs.Rule.{value_wanted, value_size, call_demands, args_at, demands}
 use Rattle.jc_rules.proofs.Footprints.{asked-is-there}
@@ -290,7 +290,7 @@ module _
 
     named-there :
         (op : Operation) → registers_asked (demands v op) ≤ length registers
-        → AreThere (length registers) (cells_asked (demands v op)) (demands v op)
+        → AreInFrame (length registers) (cells_asked (demands v op)) (demands v op)
     named-there op named = (asked-is-there (length registers) (cells_asked (demands v op)) (demands v op)).there named (omega arith)
 
     loaded :

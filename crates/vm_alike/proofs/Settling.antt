@@ -26,7 +26,7 @@ use Rattle.vm_step.specs.Act.{Act, calls}
 use Rattle.vm_step.specs.Methods.{code_at, max_stack_of}
 use Rattle.vm_step.specs.Performed.{act}
 use Rattle.vm_step.specs.Raising.{Outcome, running, ended, ends}
-use Rattle.vm_step.specs.Settled.{unless_fault, fault_next, fault_target, is_target, is_there, place_of, with_new, goes_to, jumps_to, made, entered_call, settled}
+use Rattle.vm_step.specs.Settled.{unless_fault, fault_next, fault_target, is_target_place, is_there, place_number, with_new, goes_to, jumps_to, made, entered_call, settled}
 use Rattle.vm_sound.proofs.Places.{place-instruction}
 use Rattle.vm_sound.proofs.Finish.{pick, pick-yes}
 use Rattle.vm_erasure.specs.Erasure.{IsNoFault}
@@ -53,11 +53,11 @@ picked-last x y false true h = (refl, refl)
 picked-last x y false false h = absurd (cc)
 
 -- a target of code that is an instruction's place
-target-there : (code : List ℕ) (to : ℤ) → IsTargetPlace code to → (p : ℕ) × (to ≡ pos p) × (is_target code to ≡ true)
+target-there : (code : List ℕ) (to : ℤ) → IsTargetPlace code to → (p : ℕ) × (to ≡ pos p) × (is_target_place code to ≡ true)
 target-there code (pos p) at = let found = place-instruction code p at in (p, refl, ap is_there found.1)
 target-there code (negsuc n) at = absurd at
 
-is-place : (code : List ℕ) (to : ℤ) → is_target code to ≡ true → to ≡ pos (place_of to)
+is-place : (code : List ℕ) (to : ℤ) → is_target_place code to ≡ true → to ≡ pos (place_number to)
 is-place code (pos p) h = refl
 is-place code (negsuc n) h = absurd (cc)
 
@@ -239,9 +239,9 @@ module _ (x : Pair) where
         (n : ℕ) (to on : ℤ) (z y : State Cell) → slice_get x.targets n ≡ Some to → slice_get x.other_targets n ≡ Some on
         → AfterBoth z y → IsNoFault (jumps_to tagged v to z) → Come (jumps_to tagged v to z) (jumps_to tagged w on y)
     leads-come n to on z y here there h no_fault =
-        let passed = unless-none z (fault_target tagged v z to) (running (with_place z (place_of to))) no_fault in
+        let passed = unless-none z (fault_target tagged v z to) (running (with_place z (place_number to))) no_fault in
         let tests = picked-last StackFault JumpFault (nat_lt (max_stack_of v (top z).method) (length (top z).stack))
-        (is_target (code_at v (top z).method) to) passed.0 in
+        (is_target_place (code_at v (top z).method) to) passed.0 in
         let own : slice_get (targets (code_at w x.method) j) n ≡ Some on = ap (λ ts. slice_get ts n) (sym also) ∙ there in
         let found = target-there (code_at w x.method) on
         (All-slice_get (IsTargetPlace (code_at w x.method)) (targets (code_at w x.method) j) n on leads own) in
@@ -250,13 +250,13 @@ module _ (x : Pair) where
         ∙ fits z y 0 h (ap (nat_lt (max_stack_of v (top z).method)) (no-more (length (top z).stack)) ∙ tests.0) in
         let fine : fault_target tagged w y on ≡ None =
         pick-yes (Some StackFault) (Some JumpFault) (nat_lt (max_stack_of w (top y).method) (length (top y).stack))
-        (is_target (code_at w (top y).method) on) roomy
-        (ap (λ m. is_target (code_at w m) on) h.second.method ∙ found.2) in
-        come (jumps_to tagged v to z) (jumps_to tagged w on y) (running (with_place z (place_of to)))
-        (running (with_place y (place_of on)))
-        passed.1 (ap (λ o. unless_fault y o (running (with_place y (place_of on)))) fine)
-        (target_alike n (by-footprints (with_place z (place_of to)) (with_place y (place_of on))
-        (placed z y (place_of to) (place_of on) h))
+        (is_target_place (code_at w (top y).method) on) roomy
+        (ap (λ m. is_target_place (code_at w m) on) h.second.method ∙ found.2) in
+        come (jumps_to tagged v to z) (jumps_to tagged w on y) (running (with_place z (place_number to)))
+        (running (with_place y (place_number on)))
+        passed.1 (ap (λ o. unless_fault y o (running (with_place y (place_number on)))) fine)
+        (target_alike n (by-footprints (with_place z (place_number to)) (with_place y (place_number on))
+        (placed z y (place_number to) (place_number on) h))
         (ap (λ ts. slice_get ts n) (sym led) ∙ (here ∙ ap (λ k. Some k) (is-place (code_at v (top z).method) to tests.1)))
         (own ∙ ap (λ k. Some k) (is-place (code_at w x.method) on found.2)))
 

@@ -19,7 +19,7 @@ use Rattle.vm_store.specs.Objects.{kinds, write_object}
 use Rattle.vm_store.specs.Value.{value_on, kept, byte_of_word, with_object_value, with_static_value}
 use Rattle.vm_step.specs.declared.exception.Exception.TheVariants as exceptions
 use Rattle.vm_step.specs.Act.{Act, goes, raises}
-use Rattle.vm_step.specs.Fields.{with_static_write, held_handle, holder_width, with_field_read, field_read_act, with_field_write, field_write_act, elements_of, index_in, at_element, takes_element, keeps_kind, with_element, array_write_act}
+use Rattle.vm_step.specs.Fields.{with_static_write, held_handle, holder_width, with_field_read, field_read_act, with_field_write, field_write_act, elements_of, element_index, at_element, takes_element, keeps_kind, with_element, array_write_act}
 use Rattle.vm_step.specs.Numbers.{handle_at, short_at, dropped}
 use Rattle.vm_alike.specs.Alike.{renamed_cell}
 use Rattle.vm_alike.proofs.Cells.{Stay, nth-renamed, word-at, short-is, write-stays}
@@ -221,9 +221,9 @@ module _ (x : Pair) where
         (λ h. at_element n (elements_of (first x) h) (a h))
         (λ h. at_element k (elements_of (second x) h) (b h))
         (word-at x.rename x.frame.stack (width kind + 1))
-        (some-does x exceptions.ArrayIndex (index_in n (elements_of (first x) h)) (index_in k (elements_of (second x) h)) (a h)
+        (some-does x exceptions.ArrayIndex (element_index n (elements_of (first x) h)) (element_index k (elements_of (second x) h)) (a h)
         (b h)
-        (ap (λ m. index_in m (elements_of (second x) h)) (short-is x.rename x.frame.stack (width kind))
-        ∙ ap (index_in n) (elements-same x h))
+        (ap (λ m. element_index m (elements_of (second x) h)) (short-is x.rename x.frame.stack (width kind))
+        ∙ ap (element_index n) (elements-same x h))
         (λ i. element-does kind h i (keeps_kind tagged t kind (first x) h) (keeps_kind tagged t kind (second x) h)
         (keeps-same t kind h) stays))

@@ -51,7 +51,7 @@ pub record AreAlike {A : Type 0} (e : A → A) (s t : State A) : Type 0 where
   pub statics_stay : map e s.statics ≡ s.statics
 
 -- a state z after s in which the same frame is on top: of its registers those of the footprint may be written, and no other
-pub record Stays {A : Type 0} (p : Footprint) (s z : State A) : Type 0 where
+pub record StaysInFrame {A : Type 0} (p : Footprint) (s z : State A) : Type 0 where
   pub frames : z.frames ≡ top z ∷ other_frames s.frames
   pub method : (top z).method ≡ (top s).method
   pub count : length (top z).registers ≡ length (top s).registers
@@ -63,8 +63,8 @@ pub record Stays {A : Type 0} (p : Footprint) (s z : State A) : Type 0 where
 -- two such states, z after s and y after t, that are alike, with equal cells in the registers that were written
 pub record StayAlike {A : Type 0} (e : A → A) (p q : Footprint) (s z t y : State A) : Type 0 where
   pub alike : AreAlike e z y
-  pub first : Stays p s z
-  pub second : Stays q t y
+  pub first : StaysInFrame p s z
+  pub second : StaysInFrame q t y
   pub written :
       (n : ℕ)
       → n < p.written

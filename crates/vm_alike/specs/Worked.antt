@@ -6,7 +6,7 @@ use Rattle.vm_store.specs.declared.cell.Cell.{Cell}
 use Rattle.vm_store.specs.declared.cell.Cell.TheVariants as cells
 use Rattle.vm_store.specs.declared.kind.ObjectKind.TheVariants.{Instance, Shorts}
 use Rattle.vm_store.specs.State.{State}
-use Rattle.vm_alike.specs.Alike.{renamed_cell, renamed_new, AreAlike, Stays}
+use Rattle.vm_alike.specs.Alike.{renamed_cell, renamed_new, AreAlike, StaysInFrame}
 
 -- in the other code every place is twice as far
 abbrev twice : ℕ → ℕ
@@ -56,7 +56,7 @@ states_alike = record { frames = refl; stack = refl; heap = refl; statics = refl
 
 -- without a write of registers, the frame stays though the stack and the place are others
 stays_without_write :
-    Stays (record { taken = 1; given = 0; register = 0; written = 0 }) before
+    StaysInFrame (record { taken = 1; given = 0; register = 0; written = 0 }) before
     (record before {
       frames = record { method = 2; place = 6; registers = cells.Short (pos 3) ∷ []; stack = cells.Ref 2 ∷ [] } ∷ [];
     })

@@ -35,7 +35,7 @@ use Rattle.vm_store.specs.Objects.{kinds, object_at}
 use Rattle.vm_step.specs.Calls.{args_of, class_of}
 use Rattle.vm_step.specs.Tests.{types_of}
 use Rattle.vm_fields.specs.Found.{IsNullOr, IsObject, MayCompare}
-use Rattle.vm_acts.specs.Reaches.{Finds, HasReceiver, IsInCode}
+use Rattle.vm_acts.specs.Reaches.{FindsNamed, HasReceiver, IsInCode}
 use Rattle.vm_acts.proofs.Asked.{count-args}
 use Rattle.vm_checks.specs.Shaped.{IsShaped}
 use Rattle.vm_checks.proofs.Objects.{null-or}
@@ -87,7 +87,7 @@ module _ (w : Linked) (is : IsWorld w) (s : State TaggedCell) (kept : IsShaped w
       by true a = tt
       by false a = (a, here)
 
-  finds-write : (i : Insn) (kind : Kind) → SatisfiesAll w.classes frame (demands w (ops.ArrayWrite kind)) → Finds tagged w i (ops.ArrayWrite kind) s
+  finds-write : (i : Insn) (kind : Kind) → SatisfiesAll w.classes frame (demands w (ops.ArrayWrite kind)) → FindsNamed tagged w i (ops.ArrayWrite kind) s
   finds-write i fields.Ref h = (
     array-or-null w is s kept.objects fields.Ref (on 2) (met 2 (array_wanted w.classes fields.Ref) h.1.1.0),
     compare-refs (word_of (on 2)) (word_of (on 0))
@@ -99,13 +99,13 @@ module _ (w : Linked) (is : IsWorld w) (s : State TaggedCell) (kept : IsShaped w
   finds-write i fields.Short h = (array-or-null w is s kept.objects fields.Short (on 2) (met 2 (Value ArrShort) h.1.1.0), null-or (word_of (on 2)) ⊤ (inr tt))
   finds-write i fields.Int h = (array-or-null w is s kept.objects fields.Int (on 3) (met 3 (Value ArrInt) h.1.1.1.0), null-or (word_of (on 3)) ⊤ (inr tt))
 
-  finds-read : (i : Insn) (f : InstanceField) (holder : Holder) → IsFieldOf w f → SatisfiesAll w.classes frame (demands w (ops.FieldRead f holder)) → Finds tagged w i (ops.FieldRead f holder) s
+  finds-read : (i : Insn) (f : InstanceField) (holder : Holder) → IsFieldOf w f → SatisfiesAll w.classes frame (demands w (ops.FieldRead f holder)) → FindsNamed tagged w i (ops.FieldRead f holder) s
   finds-read i f holders.Stack field h =
       (field.cells.kind, field-or-null w is s kept.objects f field (on 0) (met 0 (Value (Class f.class)) h.0))
   finds-read i f holders.This field h =
       (field.cells.kind, field-or-null w is s kept.objects f field (nth tagged (top s).registers 0) (held 0 (Class f.class) h.1.0))
 
-  finds-put : (i : Insn) (f : InstanceField) (holder : Holder) → IsFieldOf w f → SatisfiesAll w.classes frame (demands w (ops.FieldWrite f holder)) → Finds tagged w i (ops.FieldWrite f holder) s
+  finds-put : (i : Insn) (f : InstanceField) (holder : Holder) → IsFieldOf w f → SatisfiesAll w.classes frame (demands w (ops.FieldWrite f holder)) → FindsNamed tagged w i (ops.FieldWrite f holder) s
   finds-put i f holders.Stack field h =
       let last : Satisfies w.classes frame (Cell (value_size f.ty) (Value (Class f.class))) =
       last-holds w.classes frame (value_wanted f.ty) (Cell (value_size f.ty) (Value (Class f.class))) h in
@@ -151,7 +151,7 @@ module _ (w : Linked) (is : IsWorld w) (s : State TaggedCell) (kept : IsShaped w
       drop-below (word_of (on (args_of w c.method)))
       (receiver-or-null w is s kept.objects (object w.classes) (on (args_of w c.method)) (receiver-met c (object w.classes) chosen.receiver_is h))
 
-  pub finds : (m : MethodRec) (place : ℕ) (i : Insn) (op : Operation) → IsSound w m place op → IsInCode w i s → SatisfiesAll w.classes frame (demands w op) → Finds tagged w i op s
+  pub finds : (m : MethodRec) (place : ℕ) (i : Insn) (op : Operation) → IsSound w m place op → IsInCode w i s → SatisfiesAll w.classes frame (demands w op) → FindsNamed tagged w i op s
   finds m place i (ops.Constant c) sound code h = tt
   finds m place i (ops.Load sort x) sound code h = tt
   finds m place i (ops.Store sort x) sound code h = tt

@@ -27,13 +27,13 @@ use Rattle.vm_store.specs.declared.cell.Cell.{Cell}
 use Rattle.vm_store.specs.declared.cell.Cell.TheVariants as cells
 use Rattle.vm_store.specs.declared.kind.ObjectKind.{ObjectKind}
 use Rattle.vm_store.specs.declared.kind.ObjectKind.TheVariants.{Instance, Booleans, Bytes, Shorts, Ints, References}
-use Rattle.vm_store.specs.Kind.{element_width, kind_of_handle, type_of_kind, seen_class}
+use Rattle.vm_store.specs.Kind.{element_width, kind_of_handle, type_of_kind, class_in_types}
 use Rattle.vm_store.specs.Typing.{least_type, type_seen, fresh_seen}
 use Rattle.vm_store.specs.Cells.{word_of}
 use Rattle.vm_store.specs.State.{State, Object}
 use Rattle.vm_store.specs.Objects.{kinds, object_at, object_cells, cells_in}
 use Rattle.vm_instance.specs.Instance.{IsRecorded}
-use Rattle.vm_step.specs.Calls.{class_of, class_in}
+use Rattle.vm_step.specs.Calls.{class_of, class_with_methods}
 use Rattle.vm_fields.specs.Found.{IsNullOr, IsObject, IsArrayFor, HasField}
 use Rattle.vm_acts.specs.Reaches.{HasStatic}
 use Rattle.vm_checks.specs.Shaped.{IsShapedObject, IsShapedFor}
@@ -111,7 +111,7 @@ module _ (w : Linked) (is : IsWorld w) (s : State Cell) (shaped : All (IsShapedO
   field-in f field Bytes n h b = absurd (not-above f field ((decided ArrByte (Class f.class)).1 b))
   field-in f field Shorts n h b = absurd (not-above f field ((decided ArrShort (Class f.class)).1 b))
   field-in f field Ints n h b = absurd (not-above f field ((decided ArrInt (Class f.class)).1 b))
-  field-in f field (References c) n h b = absurd (not-above f field ((decided (ArrRef (seen_class w.classes c)) (Class f.class)).1 b))
+  field-in f field (References c) n h b = absurd (not-above f field ((decided (ArrRef (class_in_types w.classes c)) (Class f.class)).1 b))
 
   pub field-or-null : (f : InstanceField) → IsFieldOf w f → (c : Cell) → Below w.classes (type_of c) (Class f.class) → IsNullOr (word_of c) (HasField f s (word_of c))
   field-or-null f field c b = null-or (word_of c) (HasField f s (word_of c)) (by (cell-object w.classes decided (kinds s) c (Class f.class) refl b))
@@ -176,7 +176,7 @@ module _ (w : Linked) (is : IsWorld w) (s : State Cell) (shaped : All (IsShapedO
   ints-below Bytes b = never w.classes decided ArrByte ArrInt b refl
   ints-below Shorts b = never w.classes decided ArrShort ArrInt b refl
   ints-below Ints b = refl
-  ints-below (References c) b = never w.classes decided (ArrRef (seen_class w.classes c)) ArrInt b refl
+  ints-below (References c) b = never w.classes decided (ArrRef (class_in_types w.classes c)) ArrInt b refl
 
   array-of : (kind : Kind) (c : Cell) (ty : Ty) → is_reference ty ≡ true → width-below kind ty → Below w.classes (type_of c) ty → IsNullOr (word_of c) (IsArrayFor kind s (word_of c))
   array-of kind c ty r wide b = null-or (word_of c) (IsArrayFor kind s (word_of c)) (by (cell-object w.classes decided (kinds s) c ty r b))
@@ -222,7 +222,7 @@ module _ (w : Linked) (is : IsWorld w) (s : State Cell) (shaped : All (IsShapedO
 
   -- ---- receivers
 
-  class-for : (kind : ObjectKind) (n : ℕ) → IsShapedFor w.classes kind n → IsClass w.classes (class_in w.classes (Some kind))
+  class-for : (kind : ObjectKind) (n : ℕ) → IsShapedFor w.classes kind n → IsClass w.classes (class_with_methods w.classes (Some kind))
   class-for (Instance c) n h = h.0
   class-for Booleans n h = is.chains.objects
   class-for Bytes n h = is.chains.objects
@@ -233,14 +233,14 @@ module _ (w : Linked) (is : IsWorld w) (s : State Cell) (shaped : All (IsShapedO
   object-is : (class : ℕ) → is_above_arrays w.classes (Class class) ≡ true → Below w.classes (Class (object w.classes)) (Class class)
   object-is class e = subst (λ c. Below w.classes (Class (object w.classes)) (Class c)) (sym (eqb-true class (object w.classes) e)) same
 
-  class-below : (kind : ObjectKind) (class : ℕ) → Below w.classes (type_of_kind w.classes kind) (Class class) → Below w.classes (Class (class_in w.classes (Some kind))) (Class class)
+  class-below : (kind : ObjectKind) (class : ℕ) → Below w.classes (type_of_kind w.classes kind) (Class class) → Below w.classes (Class (class_with_methods w.classes (Some kind))) (Class class)
   unfolding is_below
   class-below (Instance c) class b = b
   class-below Booleans class b = object-is class ((decided ArrBool (Class class)).1 b)
   class-below Bytes class b = object-is class ((decided ArrByte (Class class)).1 b)
   class-below Shorts class b = object-is class ((decided ArrShort (Class class)).1 b)
   class-below Ints class b = object-is class ((decided ArrInt (Class class)).1 b)
-  class-below (References c) class b = object-is class ((decided (ArrRef (seen_class w.classes c)) (Class class)).1 b)
+  class-below (References c) class b = object-is class ((decided (ArrRef (class_in_types w.classes c)) (Class class)).1 b)
 
   abbrev Receives : ℕ → ℕ → Type 0
   Receives class h =
@@ -249,7 +249,7 @@ module _ (w : Linked) (is : IsWorld w) (s : State Cell) (shaped : All (IsShapedO
   receives : (class h : ℕ) (kind : ObjectKind) → kind_of_handle (kinds s) h ≡ Some kind → Below w.classes (type_of_kind w.classes kind) (Class class) → Receives class h
   receives class h kind e b =
       let o = some-object h kind e in
-      let known : class_of w.classes s h ≡ class_in w.classes (Some kind) = ap (class_in w.classes) e in (
+      let known : class_of w.classes s h ≡ class_with_methods w.classes (Some kind) = ap (class_with_methods w.classes) e in (
         there h kind o,
         subst (IsClass w.classes) (sym known) (class-for kind (length o.object.cells) o.shaped),
         subst (λ c. Below w.classes (Class c) (Class class)) (sym known) (class-below kind class b),

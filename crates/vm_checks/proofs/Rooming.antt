@@ -22,7 +22,7 @@ use Rattle.jc_ops.specs.Sound.{IsSound}
 use Rattle.jc_rules.specs.declared.effect.Cells.{Cells}
 use Rattle.jc_rules.specs.declared.effect.Cells.TheVariants as given
 use Rattle.jc_rules.specs.Demand.{Frame}
-use Rattle.jc_rules.specs.Effect.{listed}
+use Rattle.jc_rules.specs.Effect.{in_stack_order}
 use Rattle.jc_rules.specs.Footprint.{footprint, cells_given}
 use Rattle.jc_rules.specs.Rule.{cell, value_given, result_given, ready_with, call_change, args_at, result_at}
 
@@ -31,7 +31,7 @@ abbrev copies : Operation → ℕ
 copies (ops.Move (moves.CopyUnder copied under)) = copied
 copies _ = 0
 
-given-cells : (cells : Cells) → length (listed cells) ≤ 2
+given-cells : (cells : Cells) → length (in_stack_order cells) ≤ 2
 given-cells given.Nothing = omega arith
 given-cells (given.One ty) = omega arith
 given-cells given.Int = omega arith

@@ -17,7 +17,7 @@ use Rattle.vm_store.specs.declared.kind.ObjectKind.TheVariants.{Instance}
 use Rattle.vm_store.specs.Kind.{cell_kind}
 use Rattle.vm_store.specs.Cells.{tagged, zero_cell}
 use Rattle.vm_store.specs.State.{Frame, State, IsRunning, other_frames, top, with_stack, with_place, with_call, without_top, without_frames, register_count, arguments, entered, frame_limit}
-use Rattle.vm_store.specs.Objects.{has_room, with_object, instance_cells}
+use Rattle.vm_store.specs.Objects.{has_room, with_object, new_instance_cells}
 use Rattle.vm_store.specs.Value.{with_value}
 use Rattle.vm_step.specs.declared.ending.Value.{Value}
 use Rattle.vm_step.specs.declared.ending.Plain.TheVariants.{Returned, TooDeep, HeapFull}
@@ -32,7 +32,7 @@ use Rattle.vm_step.specs.Calls.{class_of}
 use Rattle.vm_step.specs.Raising.{Outcome, running, ended, ends, handler_for, caught, caught_or, unwound, thrown, raised}
 use Rattle.vm_step.specs.Tests.{fault_before}
 use Rattle.vm_step.specs.Performed.{act}
-use Rattle.vm_step.specs.Settled.{unless_fault, is_over, is_past, is_target, place_of, place_after, goes_to, jumps_to, made, entered_call, given_to, with_new, settled}
+use Rattle.vm_step.specs.Settled.{unless_fault, is_over, is_past, is_target_place, place_number, return_place, goes_to, jumps_to, made, entered_call, given_to, with_new, settled}
 use Rattle.vm_step.specs.Step.{Steps, misplaced, unresolved, performs}
 use Rattle.vm_values.specs.Lead.{TakesCells}
 use Rattle.vm_checks.specs.Shaped.{IsShaped, IsShapedFrame, IsShapedObject, IsShapedFor}
@@ -73,8 +73,8 @@ module _ (w : Linked) where
 
   jumps-good : (to : ℤ) (s z : State Cell) → IsRunning s → IsShaped w s → Next w s z → Good (jumps_to tagged w to z)
   jumps-good to s z runs kept n =
-      target-tests z (running (with_place z (place_of to))) (is_over w z (length (top z).stack)) (is_target (code_at w (top z).method) to) (next-ended s z kept n)
-      (λ e. shaped-place w z (place_of to) n.running (shaped-next w s z runs kept n (ltb-false (max_stack_of w (top z).method) (length (top z).stack) e)))
+      target-tests z (running (with_place z (place_number to))) (is_over w z (length (top z).stack)) (is_target_place (code_at w (top z).method) to) (next-ended s z kept n)
+      (λ e. shaped-place w z (place_number to) n.running (shaped-next w s z runs kept n (ltb-false (max_stack_of w (top z).method) (length (top z).stack) e)))
 
   new-next : (s z : State Cell) → Next w s z → (kind : ObjectKind) (cells : List Cell) (r : Cell) → IsShapedFor w.classes kind (length cells) → Next w s (with_new z kind cells r)
   new-next s z n kind cells r h = record {
@@ -133,7 +133,7 @@ module _ (w : Linked) where
 
   returned-good : (value : Value) (cells : List Cell) (s : State Cell) → IsShaped w s → Good (given_to tagged w value cells s)
   returned-good value cells s kept =
-      let after = place_after (instruction_at (code_at w (top s).method) (top s).place) in
+      let after = return_place (instruction_at (code_at w (top s).method) (top s).place) in
       let back : State Cell = with_stack s (with_value cells (top s).stack) in
       good-if (nat_lt 0 (length s.frames)) (goes_to tagged w after s back) (ends (Plain (Returned value)) s)
       (λ more.
@@ -177,7 +177,7 @@ module _ (w : Linked) where
   raised-good : IsWorld w → (e : Exception) (s : State Cell) → IsShaped w s → Good (raised tagged w e s)
   raised-good is e s kept =
       let class = slice_index w.classes.roles (role_of e) in
-      let cells = instance_cells tagged w.classes class in
+      let cells = new_instance_cells tagged w.classes class in
       let new : State Cell = with_object s (Instance class) cells in
       let whole : IsShapedFor w.classes (Instance class) (length cells) = (role-class is e, length-map (cells_of w.classes class) (λ ty. zero_cell tagged (cell_kind ty))) in
       good-if (has_room s (length (cells_of w.classes class))) (thrown tagged w (length s.heap + 1) new) (ends (Plain HeapFull) s)

@@ -37,7 +37,7 @@ use Rattle.vm_store.specs.declared.kind.ObjectKind.TheVariants.{Instance, Boolea
 use Rattle.vm_store.specs.Kind.{kind_of_handle, cell_kind}
 use Rattle.vm_store.specs.Cells.{Cells, zero_cell}
 use Rattle.vm_store.specs.State.{State, IsRunning, top, nth, with_stack}
-use Rattle.vm_store.specs.Objects.{kinds, object_at, object_cells, instance_cells, array_cells}
+use Rattle.vm_store.specs.Objects.{kinds, object_at, object_cells, new_instance_cells, array_cells}
 use Rattle.vm_store.specs.Value.{value_in, value_on, kept}
 use Rattle.jc_base.specs.Dispatch.{cells_of, dispatched}
 use Rattle.vm_step.specs.declared.exception.Exception.{Exception}
@@ -49,12 +49,12 @@ use Rattle.jc_decode.specs.Listing.{target}
 use Rattle.vm_arithmetic.specs.Arithmetic.{short_of_word}
 use Rattle.vm_step.specs.Branching.{is_taken, branch_width, leads_if}
 use Rattle.vm_step.specs.Objects.{array_of_count, kind_of_type, may_cast}
-use Rattle.vm_step.specs.Calls.{args_of, class_of, class_in, served, readied, served_act, interface_act, chosen_act, made_at, with_ready}
-use Rattle.vm_step.specs.Fields.{with_field_read, with_field_write, held_handle, holder_width, elements_of, index_in, keeps_kind, with_element, at_element}
+use Rattle.vm_step.specs.Calls.{args_of, class_of, class_with_methods, served, readied, served_act, interface_act, chosen_act, made_at, with_ready}
+use Rattle.vm_step.specs.Fields.{with_field_read, with_field_write, held_handle, holder_width, elements_of, element_index, keeps_kind, with_element, at_element}
 use Rattle.vm_step.specs.Performed.{act}
 use Rattle.vm_values.specs.Lead.{TakesCells}
 use Rattle.vm_fields.specs.Found.{IsNullOr}
-use Rattle.vm_acts.specs.Reaches.{Finds, HasReceiver}
+use Rattle.vm_acts.specs.Reaches.{FindsNamed, HasReceiver}
 use Rattle.vm_acts.proofs.Asked.{call-cells}
 use Rattle.vm_acts.proofs.Takes.{static-takes, special-takes, virtual-takes, interface-takes}
 use Rattle.vm_checks.specs.Shaped.{IsShapedObject, IsShapedFor}
@@ -155,7 +155,7 @@ module _ {A : Type 0} (k : Cells A) (w : Linked) (is : IsWorld w) (runs : AreDis
   fine-count kind (pos n) z next named = (next, named (length (array_cells k kind n)))
   fine-count kind (negsuc n) z next named = tt {0}
 
-  instance-cells : (class : ℕ) → length (instance_cells k w.classes class) ≡ length (cells_of w.classes class)
+  instance-cells : (class : ℕ) → length (new_instance_cells k w.classes class) ≡ length (cells_of w.classes class)
   instance-cells class = length-map (cells_of w.classes class) (λ ty. zero_cell k (cell_kind ty))
 
   -- ---- calls
@@ -176,7 +176,7 @@ module _ {A : Type 0} (k : Cells A) (w : Linked) (is : IsWorld w) (runs : AreDis
   fine-served None class count takes there = tt {0}
   fine-served (Some n) class count takes there = same-stack n count takes there
 
-  fine-interface : (c : Callee) → IsCalleeOf w c → (interface token words : ℕ) → c.choice ≡ choices.Interface interface token words → (o : Option ObjectKind) → IsClass w.classes (class_in w.classes o)
+  fine-interface : (c : Callee) → IsCalleeOf w c → (interface token words : ℕ) → c.choice ≡ choices.Interface interface token words → (o : Option ObjectKind) → IsClass w.classes (class_with_methods w.classes o)
       → args_of w c.method + 1 ≤ length (top s).stack → Fine w s (interface_act w.classes interface token (args_of w c.method + 1) o s)
   fine-interface c sound interface token words e (Some (Instance of)) class there =
       fine-served (served w.classes interface token of) of (args_of w c.method + 1) (interface-takes w is c sound interface token words of e class) there
@@ -224,7 +224,7 @@ module _ {A : Type 0} (k : Cells A) (w : Linked) (is : IsWorld w) (runs : AreDis
   fine-return (Some Top) = tt {0}
 
   -- an operation that has what it asks
-  pub act-fine : (op : Operation) → cells_asked (demands w op) ≤ length (top s).stack → Finds k w i op s → Fine w s (act k w i op s)
+  pub act-fine : (op : Operation) → cells_asked (demands w op) ≤ length (top s).stack → FindsNamed k w i op s → Fine w s (act k w i op s)
   act-fine (ops.Constant c) cells found = fine-constant c
   act-fine (ops.Load sort x) cells found = next-stack w s running shaped _
   act-fine (ops.Store sort x) cells found = fine-store sort x
@@ -234,14 +234,14 @@ module _ {A : Type 0} (k : Cells A) (w : Linked) (is : IsWorld w) (runs : AreDis
   act-fine (ops.ArrayRead kind) cells found =
       let h = handle_at k (top s).stack 1 in
       fine-null w s h (λ a. at_element (short_at k (top s).stack 0) (elements_of s a) (λ n. goes (replaced s 2 (value_in k kind (object_cells s a) (n * width kind)))))
-      (fine-some w s {X = ℕ} exceptions.ArrayIndex (index_in (short_at k (top s).stack 0) (elements_of s h)) (λ n. goes (replaced s 2 (value_in k kind (object_cells s h) (n * width kind))))
+      (fine-some w s {X = ℕ} exceptions.ArrayIndex (element_index (short_at k (top s).stack 0) (elements_of s h)) (λ n. goes (replaced s 2 (value_in k kind (object_cells s h) (n * width kind))))
       (λ n. next-stack w s running shaped _))
   act-fine (ops.ArrayWrite kind) cells found =
       let h = handle_at k (top s).stack (width kind + 1) in
       let index = short_at k (top s).stack (width kind) in
       fine-null w s h
       (λ a. at_element index (elements_of s a) (λ n. if keeps_kind k w.classes kind s a then goes (with_element k kind a n s) else raises exceptions.ArrayStore))
-      (fine-some w s {X = ℕ} exceptions.ArrayIndex (index_in index (elements_of s h))
+      (fine-some w s {X = ℕ} exceptions.ArrayIndex (element_index index (elements_of s h))
       (λ n. if keeps_kind k w.classes kind s h then goes (with_element k kind h n s) else raises exceptions.ArrayStore)
       (λ n. fine-if w s (keeps_kind k w.classes kind s h) (goes (with_element k kind h n s)) (raises exceptions.ArrayStore)
       (value-written w s (dropped s (width kind + 2)) (next-stack w s running shaped _) h (n * width kind) (kept k kind (value_on k kind (top s).stack)))

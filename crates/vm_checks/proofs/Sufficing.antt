@@ -27,7 +27,7 @@ use Rattle.vm_store.specs.declared.cell.Cell.{Cell}
 use Rattle.vm_store.specs.declared.cell.Cell.TheVariants as cells
 use Rattle.vm_store.specs.declared.kind.ObjectKind.{ObjectKind}
 use Rattle.vm_store.specs.declared.kind.ObjectKind.TheVariants.{Instance, Booleans, Bytes, Shorts, Ints, References}
-use Rattle.vm_store.specs.Kind.{seen_class, type_of_kind}
+use Rattle.vm_store.specs.Kind.{class_in_types, type_of_kind}
 use Rattle.vm_store.specs.Typing.{least_type, type_seen, fresh_seen}
 use Rattle.vm_store.specs.Cells.{tagged}
 use Rattle.vm_store.specs.State.{Frame, State, Object, first_frame, top}
@@ -35,7 +35,7 @@ use Rattle.vm_store.specs.Objects.{kinds}
 use Rattle.vm_step.specs.Methods.{code_at, instruction_at}
 use Rattle.vm_step.specs.Step.{Fetches}
 use Rattle.vm_step.specs.Tests.{fault_before}
-use Rattle.vm_acts.specs.Reaches.{Finds, IsInCode}
+use Rattle.vm_acts.specs.Reaches.{FindsNamed, IsInCode}
 use Rattle.vm_checks.specs.Shaped.{IsShaped, IsShapedFrame, IsShapedObject, IsShapedFor}
 use Rattle.vm_checks.specs.Machine.{TestsReach, KnowsTypes, KeepsShape}
 use Rattle.vm_checks.proofs.Tested.{passes}
@@ -44,7 +44,7 @@ use Rattle.vm_checks.proofs.Rooming.{room-for}
 
 -- ---- known types
 
-seen-class : (t : ClassTable) → AreClasses t → (c : ℕ) → c < length t.records → IsClass t (seen_class t c)
+seen-class : (t : ClassTable) → AreClasses t → (c : ℕ) → c < length t.records → IsClass t (class_in_types t c)
 seen-class t are c lt = by (is_interface t c) refl
   where
     by : (b : Bool) → is_interface t c ≡ b → IsClass t (if b then object t else c)
@@ -123,7 +123,7 @@ result-declared w is n m e = let method : IsMethod w.infos w.pools w.classes m =
 pub record Tested (w : Linked) (s : State Cell) (i : Placed) (op : Operation) : Type 0 where
   pub registers : registers_asked (demands w op) ≤ length (top s).registers
   pub cells : cells_asked (demands w op) ≤ length (top s).stack
-  pub finds : Finds tagged w i.insn op s
+  pub finds : FindsNamed tagged w i.insn op s
   pub sound : (m : MethodRec) × IsSound w m i.place op
 
 pub tested : (w : Linked) → IsWorld w → AreDecided w.classes → OperationsAreSound w → (s : State Cell) (m : MethodRec) (i : Placed) (op : Operation) → IsShaped w s

@@ -10,18 +10,18 @@ use Rattle.vm_step.specs.Arguments.{Argument}
 use Rattle.vm_step.specs.Run.{Continues}
 use Rattle.vm_turns.specs.Turn.{outcome}
 use Rattle.vm_sound.specs.Frames.{Typings}
-use Rattle.vm_sound.specs.Laws.{AreTypings, IsSafe, RunsAreSafe, StartsAreTyped}
+use Rattle.vm_sound.specs.Laws.{AreTypings, IsTypedOutcome, RunsAreSafe, StartsAreTyped}
 use Rattle.vm_defend.specs.Held.{Held, reached, answer}
 use Rattle.vm_defend.specs.Begun.{IsBegun}
 use Rattle.vm_defend.specs.Safe.{IsPlainEnding, BeginsSafely, GoesSafely}
 
 module _ (w : Linked) where
   on : RunsAreSafe w → (typings : Typings) → AreTypings w typings → (n : ℕ) (e f : Option Ending) (s z : State Cell)
-      → Continues tagged w n (outcome e s) (outcome f z) → IsSafe w typings (outcome e s) → IsSafe w typings (outcome f z)
+      → Continues tagged w n (outcome e s) (outcome f z) → IsTypedOutcome w typings (outcome e s) → IsTypedOutcome w typings (outcome f z)
   on law typings typed n None f s z runs safe = law typings n s (outcome f z) typed safe runs
-  on law typings typed n (Some e) f s z same safe = subst (IsSafe w typings) (sym same) safe
+  on law typings typed n (Some e) f s z same safe = subst (IsTypedOutcome w typings) (sym same) safe
 
-  answered : (typings : Typings) (e : Option Ending) (s : State Cell) → IsSafe w typings (outcome e s) → IsPlainEnding (answer e)
+  answered : (typings : Typings) (e : Option Ending) (s : State Cell) → IsTypedOutcome w typings (outcome e s) → IsPlainEnding (answer e)
   answered typings None s safe = tt {0}
   answered typings (Some (Plain plain)) s safe = tt {0}
   answered typings (Some (Faulted fault)) s safe = safe
@@ -29,10 +29,10 @@ module _ (w : Linked) where
   pub goes-safely : RunsAreSafe w → (n : ℕ) (before after : Held) (a : Ending) → a ≡ answer after.ending
       → Continues tagged w n (reached before) (reached after) → GoesSafely w before after a
   goes-safely law n before after a is runs typings typed safe =
-      let come : IsSafe w typings (reached after) = on law typings typed n before.ending after.ending before.state after.state runs safe in
+      let come : IsTypedOutcome w typings (reached after) = on law typings typed n before.ending after.ending before.state after.state runs safe in
       (come, subst IsPlainEnding (sym is) (answered typings after.ending after.state come))
 
   pub begins-safely : StartsAreTyped w → (entry : ℕ) (args : List Argument) (run : Held) → IsBegun w entry args run → BeginsSafely w run
   begins-safely law entry args run begun typings typed =
-      subst (λ (e : Option Ending). IsSafe w typings (outcome e run.state)) (sym begun.goes_on)
+      subst (λ (e : Option Ending). IsTypedOutcome w typings (outcome e run.state)) (sym begun.goes_on)
       (law typings entry args run.state typed (record { begins = begun.begins; state = begun.state }))

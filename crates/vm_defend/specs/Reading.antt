@@ -71,5 +71,5 @@ abbrev pub array_value : {A : Type 0} → Cells A → State A → ℕ → ℕ �
 array_value k s h i = option_and_then (element_of k i) (object_at s h)
 
 -- the object has the element
-abbrev pub IsElement : {A : Type 0} → State A → ℕ → ℕ → Type 0
-IsElement {A} s h i = IsSomeAnd (object_at s h) (λ (o : Object A). i < element_count o)
+abbrev pub HasElement : {A : Type 0} → State A → ℕ → ℕ → Type 0
+HasElement {A} s h i = IsSomeAnd (object_at s h) (λ (o : Object A). i < element_count o)

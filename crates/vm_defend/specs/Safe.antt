@@ -4,7 +4,7 @@ use Rattle.jc_base.specs.World.{Linked}
 use Rattle.vm_step.specs.declared.ending.Ending.{Ending}
 use Rattle.vm_step.specs.declared.ending.Ending.TheVariants.{Plain, Faulted}
 use Rattle.vm_sound.specs.Frames.{Typings}
-use Rattle.vm_sound.specs.Laws.{AreTypings, IsSafe}
+use Rattle.vm_sound.specs.Laws.{AreTypings, IsTypedOutcome}
 use Rattle.vm_defend.specs.Held.{Held, reached}
 
 abbrev pub IsPlainEnding : Ending → Type 0
@@ -13,9 +13,10 @@ IsPlainEnding (Faulted fault) = ⊥
 
 -- in such a world a run that was begun is in a typed state
 abbrev pub BeginsSafely : Linked → Held → Type 0
-BeginsSafely w run = (typings : Typings) → AreTypings w typings → IsSafe w typings (reached run)
+BeginsSafely w run = (typings : Typings) → AreTypings w typings → IsTypedOutcome w typings (reached run)
 
 -- and from a typed state it comes to a typed state, and answers no fault
 abbrev pub GoesSafely : Linked → Held → Held → Ending → Type 0
 GoesSafely w before after answer =
-    (typings : Typings) → AreTypings w typings → IsSafe w typings (reached before) → IsSafe w typings (reached after) × IsPlainEnding answer
+    (typings : Typings) → AreTypings w typings → IsTypedOutcome w typings (reached before)
+    → IsTypedOutcome w typings (reached after) × IsPlainEnding answer

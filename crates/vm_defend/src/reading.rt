@@ -2,7 +2,7 @@ ghost use Rattle.std.specs.Prelude.{◌≡◌, ◌+◌, ◌≤◌, length, Some,
 ghost use Rattle.jc_base.specs.Cell.{width};
 ghost use Rattle.vm_store.specs.Cells.{tagged};
 ghost use Rattle.vm_store.specs.Objects.{object_at};
-ghost use Rattle.vm_defend.specs.Reading.{value_at, object_class, array_kind, array_length, array_value, element_in, IsElement};
+ghost use Rattle.vm_defend.specs.Reading.{value_at, object_class, array_kind, array_length, array_value, element_in, HasElement};
 
 use jc_base::{Kind, Ty};
 use vm_arithmetic::{int_of_words, short_of_word};
@@ -86,7 +86,7 @@ pub(crate) fn number_at(store: &TaggedStore, handle: u16, element: u16) -> Optio
 /// The number in an element of an array of numbers.
 fn element_in(store: &TaggedStore, handle: u16, ty: Ty, element: u16) -> i32
     requires numbers { array_kind store.now handle ≡ Some ty }
-    requires there { IsElement store.now handle element }
+    requires there { HasElement store.now handle element }
     ensures { option_map (λ o. element_in tagged o.kind o.cells element) (object_at store.now handle) ≡ Some result }
 {
     let at = usize::from(element);

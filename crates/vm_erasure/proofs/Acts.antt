@@ -62,9 +62,9 @@ use Rattle.vm_step.specs.Act.{Act, goes, jumps, makes, calls, gives, raises, thr
 use Rattle.vm_step.specs.Methods.{code_at}
 use Rattle.vm_step.specs.Values.{with_constant, with_load, with_store, incremented, with_increment, moved, computed, negated, arithmetic_act}
 use Rattle.vm_step.specs.Branching.{is_same, is_taken, leads_if, branch_width, branch_act, has_key, case_offset, switch_act}
-use Rattle.vm_step.specs.Fields.{with_static_read, with_static_write, held_handle, holder_width, with_field_read, field_read_act, with_field_write, field_write_act, elements_in, elements_of, index_in, at_element, array_read_act, takes_element, keeps_kind, with_element, array_write_act, array_length_act}
+use Rattle.vm_step.specs.Fields.{with_static_read, with_static_write, held_handle, holder_width, with_field_read, field_read_act, with_field_write, field_write_act, element_count_in, elements_of, element_index, at_element, array_read_act, takes_element, keeps_kind, with_element, array_write_act, array_length_act}
 use Rattle.vm_step.specs.Objects.{new_act, kind_of_type, array_of_count, new_array_act, throw_act, kind_passes, passes, may_cast, truth, type_test_act}
-use Rattle.vm_step.specs.Calls.{class_in, class_of, served, made_at, readied, with_ready, served_act, interface_act, chosen_act, args_of, return_act}
+use Rattle.vm_step.specs.Calls.{class_with_methods, class_of, served, made_at, readied, with_ready, served_act, interface_act, chosen_act, args_of, return_act}
 use Rattle.vm_step.specs.Performed.{act}
 use Rattle.vm_step.specs.Numbers.{handle_at, short_at, int_on, number_on, number_cells, number_width, dropped, replaced}
 use Rattle.vm_erasure.specs.Erasure.{erased_act, ActsErase}
@@ -351,7 +351,7 @@ module _ (w : Linked) (f : Frame Cell) (below : List (Frame Cell)) (heap : List 
 
   -- ---- arrays
 
-  counted-is : (os : List (Object Cell)) (h : ℕ) → elements_in (slice_get (map (map_object word_of) os) h) ≡ elements_in (slice_get os h)
+  counted-is : (os : List (Object Cell)) (h : ℕ) → element_count_in (slice_get (map (map_object word_of) os) h) ≡ element_count_in (slice_get os h)
   counted-is [] h = refl
   counted-is (o ∷ os) zero = ap (λ n. n / element_width o.kind) (length-map o.cells word_of)
   counted-is (o ∷ os) (suc h) = counted-is os h
@@ -372,7 +372,7 @@ module _ (w : Linked) (f : Frame Cell) (below : List (Frame Cell)) (heap : List 
       ∙ null-erased h (λ k. at_element x (elements_of s k) (a k)) (λ k. at_element (short_at words (map word_of f.stack) 0) (elements_of (erased s) k) (b k))
       (ap (λ z. at_element z (elements_of (erased s) h) (b h)) (short-is f.stack 0)
       ∙ (ap (λ n. at_element x n (b h)) (elements-are h)
-      ∙ some-erased exceptions.ArrayIndex (index_in x (elements_of s h)) (a h) (b h)
+      ∙ some-erased exceptions.ArrayIndex (element_index x (elements_of s h)) (a h) (b h)
       (λ i. ap goes (replaced-is 2 (value_in tagged kind (object_cells s h) (i * width kind)) _ (read-is kind h (i * width kind))))))
 
   keeps-is : (t : ClassTable) (kind : Kind) (h : ℕ)
@@ -402,7 +402,7 @@ module _ (w : Linked) (f : Frame Cell) (below : List (Frame Cell)) (heap : List 
       ∙ null-erased h (λ k. at_element x (elements_of s k) (a k)) (λ k. at_element (short_at words (map word_of f.stack) (width kind)) (elements_of (erased s) k) (b k))
       (ap (λ z. at_element z (elements_of (erased s) h) (b h)) (short-is f.stack (width kind))
       ∙ (ap (λ n. at_element x n (b h)) (elements-are h)
-      ∙ some-erased exceptions.ArrayIndex (index_in x (elements_of s h)) (a h) (b h)
+      ∙ some-erased exceptions.ArrayIndex (element_index x (elements_of s h)) (a h) (b h)
       (λ i.
       ap (λ keep. if keep then goes (with_element words kind h i (erased s)) else raises exceptions.ArrayStore) (keeps-is t kind h)
       ∙ kept-or-raised (keeps_kind tagged t kind s h) (with_element tagged kind h i s) (with_element words kind h i (erased s)) (written-is (width kind + 2) h (i * width kind) kind))))
@@ -492,7 +492,7 @@ module _ (w : Linked) (f : Frame Cell) (below : List (Frame Cell)) (heap : List 
       ∙ readied-is (made_at callee.receiver (tagged.type_of w.classes (kinds s) (nth tagged f.stack args)))
 
   class-is : (h : ℕ) → class_of w.classes (erased (record { frames = f ∷ below; heap = heap; statics = statics })) h ≡ class_of w.classes (record { frames = f ∷ below; heap = heap; statics = statics }) h
-  class-is h = ap (λ ks. class_in w.classes (kind_of_handle ks h)) reads.kinds_are
+  class-is h = ap (λ ks. class_with_methods w.classes (kind_of_handle ks h)) reads.kinds_are
 
   served-is : (o : Option ℕ) (class count : ℕ) (s : State Cell) → served_act o class count (erased s) ≡ erased_act (served_act o class count s)
   served-is None class count s = refl

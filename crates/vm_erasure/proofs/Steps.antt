@@ -13,7 +13,7 @@ use Rattle.vm_store.specs.declared.kind.ObjectKind.TheVariants.{Instance}
 use Rattle.vm_store.specs.Kind.{kind_of_handle}
 use Rattle.vm_store.specs.Cells.{tagged, words, word_of}
 use Rattle.vm_store.specs.State.{State, Frame, Object, map_frame, map_object, erased, top, with_place, with_stack, with_call, without_top, frame_limit}
-use Rattle.vm_store.specs.Objects.{has_room, instance_cells, with_object}
+use Rattle.vm_store.specs.Objects.{has_room, new_instance_cells, with_object}
 use Rattle.vm_store.specs.Value.{with_value}
 use Rattle.vm_store.specs.Erasing.{ReadsErased, FramesErase, ObjectsErase}
 use Rattle.vm_store.proofs.Erasing.{states-erase, reverse-erased}
@@ -25,11 +25,11 @@ use Rattle.vm_step.specs.declared.ending.Fault.TheVariants.{StackFault}
 use Rattle.vm_step.specs.declared.exception.Exception.{Exception}
 use Rattle.vm_step.specs.Act.{Act, goes, jumps, makes, calls, gives, raises, throws, lacks, role_of}
 use Rattle.vm_step.specs.Methods.{code_at, max_stack_of, instruction_at}
-use Rattle.vm_step.specs.Calls.{class_in, class_of}
+use Rattle.vm_step.specs.Calls.{class_with_methods, class_of}
 use Rattle.vm_step.specs.Performed.{act}
 use Rattle.vm_step.specs.Tests.{fault_before}
 use Rattle.vm_step.specs.Raising.{Outcome, running, ended, ends, handler_for, caught, caught_or, unwound, thrown, raised}
-use Rattle.vm_step.specs.Settled.{unless_fault, fault_next, fault_target, place_of, place_after, goes_to, jumps_to, with_new, made, entered_call, given_to, settled}
+use Rattle.vm_step.specs.Settled.{unless_fault, fault_next, fault_target, place_number, return_place, goes_to, jumps_to, with_new, made, entered_call, given_to, settled}
 use Rattle.vm_step.specs.Step.{Steps, misplaced, unresolved, performs, performed}
 use Rattle.vm_step.specs.Run.{Runs, stands, stops, steps}
 use Rattle.vm_erasure.specs.Erasure.{erased_act, erased_outcome, IsNoFault, StepsErase, RunsErase}
@@ -64,8 +64,8 @@ module _ (w : Linked) where
 
   jumps-erased : (to : ℤ) (z : State Cell) → IsNoFault (jumps_to tagged w to z) → jumps_to words w to (erased z) ≡ erased_outcome (jumps_to tagged w to z)
   jumps-erased to z h =
-      let passed = unless-none z (fault_target tagged w z to) (running (with_place z (place_of to))) h in
-      ap running (sym ((frames z).place (place_of to))) ∙ sym (ap erased_outcome passed.0)
+      let passed = unless-none z (fault_target tagged w z to) (running (with_place z (place_number to))) h in
+      ap running (sym ((frames z).place (place_number to))) ∙ sym (ap erased_outcome passed.0)
 
   -- ---- new objects
 
@@ -105,9 +105,9 @@ module _ (w : Linked) where
   given-erased : (value : Value) (cs : List Cell) (z : State Cell) → IsNoFault (given_to tagged w value cs z)
       → given_to words w value (map word_of cs) (erased z) ≡ erased_outcome (given_to tagged w value cs z)
   given-erased value cs z h =
-      let next : Frame ℕ → ℕ = λ g. place_after (instruction_at (code_at w g.method) g.place) in
+      let next : Frame ℕ → ℕ = λ g. return_place (instruction_at (code_at w g.method) g.place) in
       let back : State Cell = with_stack z (with_value cs (top z).stack) in
-      let after : ℕ = place_after (instruction_at (code_at w (top z).method) (top z).place) in
+      let after : ℕ = return_place (instruction_at (code_at w (top z).method) (top z).place) in
       let cells_are : with_value (map word_of cs) (map word_of (top z).stack) ≡ map word_of (with_value cs (top z).stack) =
       ap (λ xs. xs ++ map word_of (top z).stack) (sym (reverse-erased cs)) ∙ sym (map-append word_of (reverse cs) (top z).stack) in
       let back_is : with_stack (erased z) (with_value (map word_of cs) (top (erased z)).stack) ≡ erased back =
@@ -147,17 +147,17 @@ module _ (w : Linked) where
 
   thrown-erased : (handle : ℕ) (s : State Cell) → IsNoFault (thrown tagged w handle s) → thrown words w handle (erased s) ≡ erased_outcome (thrown tagged w handle s)
   thrown-erased handle s h =
-      ap (λ ks. unwound words w (class_in w.classes (kind_of_handle ks handle)) handle (erased s) (erased s).frames) (reads s).kinds_are
+      ap (λ ks. unwound words w (class_with_methods w.classes (kind_of_handle ks handle)) handle (erased s) (erased s).frames) (reads s).kinds_are
       ∙ unwound-erased (class_of w.classes s handle) handle s s.frames h
 
   raised-erased : (exception : Exception) (s : State Cell) → IsNoFault (raised tagged w exception s) → raised words w exception (erased s) ≡ erased_outcome (raised tagged w exception s)
   raised-erased exception s h =
       let class : ℕ = slice_index w.classes.roles (role_of exception) in
       let count : length (erased s).heap ≡ length s.heap = length-map s.heap (map_object word_of) in
-      let made_words : State ℕ = with_object (erased s) (Instance class) (instance_cells words w.classes class) in
-      let made_cells : State Cell = with_object s (Instance class) (instance_cells tagged w.classes class) in
+      let made_words : State ℕ = with_object (erased s) (Instance class) (new_instance_cells words w.classes class) in
+      let made_cells : State Cell = with_object s (Instance class) (new_instance_cells tagged w.classes class) in
       let same : made_words ≡ erased made_cells =
-      ap (with_object (erased s) (Instance class)) (sym ((states-erase w.methods w.classes).1.instance class)) ∙ sym ((objects s).object (Instance class) (instance_cells tagged w.classes class)) in
+      ap (with_object (erased s) (Instance class)) (sym ((states-erase w.methods w.classes).1.instance class)) ∙ sym ((objects s).object (Instance class) (new_instance_cells tagged w.classes class)) in
       ap (λ b. if b then thrown words w (length (erased s).heap + 1) made_words else ends (Plain HeapFull) (erased s)) ((reads s).room (length (cells_of w.classes class)))
       ∙ if-erased (has_room s (length (cells_of w.classes class))) (thrown tagged w (length s.heap + 1) made_cells) (ends (Plain HeapFull) s)
       (thrown words w (length (erased s).heap + 1) made_words) (ends (Plain HeapFull) (erased s))

@@ -13,7 +13,7 @@ use Rattle.vm_step.specs.Run.{Runs, stands, stops, steps}
 use Rattle.vm_step.proofs.Lasting.{runs-exist}
 use Rattle.vm_step.proofs.Running.{steps-exist, steps-one, continues-one}
 use Rattle.vm_sound.specs.Frames.{Typings}
-use Rattle.vm_sound.specs.Laws.{IsSafe, AreTypings, HasTypings}
+use Rattle.vm_sound.specs.Laws.{IsTypedOutcome, AreTypings, HasTypings}
 use Rattle.vm_sound.specs.State.{IsTypedState}
 use Rattle.vm_sound.proofs.Numbered.{methods-have-typings}
 use Rattle.vm_sound.proofs.Sound.{steps-are-safe, runs-are-safe}
@@ -21,7 +21,7 @@ use Rattle.vm_sound.proofs.Starting.{starts-are-typed}
 use Rattle.vm_erasure.specs.Erasure.{erased_outcome, IsNoFault, WordsFollow, TypedStepsFollow, TypedRunsFollow}
 use Rattle.vm_erasure.proofs.Steps.{steps-erase, runs-erase}
 
-pub safe-free : (w : Linked) (typings : Typings) (o : Outcome Cell) → IsSafe w typings o → IsNoFault o
+pub safe-free : (w : Linked) (typings : Typings) (o : Outcome Cell) → IsTypedOutcome w typings o → IsNoFault o
 safe-free w typings (running s) h = tt
 safe-free w typings (ended (Plain plain) s) h = tt
 safe-free w typings (ended (Faulted fault) s) h = h

@@ -5,7 +5,7 @@ ghost use Rattle.vm_store.specs.Objects.{object_at};
 ghost use Rattle.vm_instance.specs.Instance.{IsNamed};
 ghost use Rattle.vm_step.specs.Numbers.{handle_at};
 ghost use Rattle.vm_step.specs.Objects.{passes};
-ghost use Rattle.vm_step.specs.Fields.{elements_of, index_in, keeps_kind, array_read_act, array_write_act, array_length_act};
+ghost use Rattle.vm_step.specs.Fields.{elements_of, element_index, keeps_kind, array_read_act, array_write_act, array_length_act};
 ghost use Rattle.vm_values.specs.Lead.{goes_unless, put_or, PutStands};
 ghost use Rattle.vm_fields.specs.Found.{IsNullOr, IsObject, IsArrayFor, MayCompare};
 
@@ -114,7 +114,7 @@ fn elements_of<S: Store>(store: &S, handle: u16) -> u16
 fn element_at<S: Store>(store: &S, handle: u16, index: i16) -> Option<u16>
     requires well { S.well store.now }
     requires there { IsSome (object_at (S.state store.now) handle) }
-    ensures value { result ≡ index_in index (elements_of (S.state store.now) handle) }
+    ensures value { result ≡ element_index index (elements_of (S.state store.now) handle) }
     ensures small { IfSome result (λ n. n < 32768) }
 {
     if index < 0 {

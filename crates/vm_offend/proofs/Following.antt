@@ -11,7 +11,7 @@ use Rattle.vm_step.specs.declared.ending.Plain.TheVariants.{Spent}
 use Rattle.vm_step.specs.Raising.{Outcome, running, ended}
 use Rattle.vm_turns.specs.Turn.{outcome}
 use Rattle.vm_sound.specs.Frames.{Typings}
-use Rattle.vm_sound.specs.Laws.{IsSafe}
+use Rattle.vm_sound.specs.Laws.{IsTypedOutcome}
 use Rattle.vm_erasure.specs.Erasure.{erased_outcome}
 use Rattle.vm_defend.specs.Held.{answer}
 use Rattle.vm_defend.specs.Safe.{IsPlainEnding}
@@ -29,7 +29,7 @@ going-on e s (running t) none is = (t, refl, let now : running s ≡ running (er
 going-on e s (ended f t) none is = let now : running s ≡ ended f (erased t) = sym (ap (λ (x : Option Ending). outcome x s) none) ∙ is in absurd (cc)
 
 -- its ending is no fault
-pub plain-ending : (w : Linked) (typings : Typings) (e : Option Ending) (s : State ℕ) (o : Outcome Cell) → outcome e s ≡ erased_outcome o → IsSafe w typings o → IfSome e IsPlainEnding
+pub plain-ending : (w : Linked) (typings : Typings) (e : Option Ending) (s : State ℕ) (o : Outcome Cell) → outcome e s ≡ erased_outcome o → IsTypedOutcome w typings o → IfSome e IsPlainEnding
 plain-ending w typings None s o is safe = tt {0}
 plain-ending w typings (Some (endings.Plain plain)) s o is safe = tt {0}
 plain-ending w typings (Some (endings.Faulted fault)) s (running t) is safe = absurd (cc)

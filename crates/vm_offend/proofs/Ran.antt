@@ -16,7 +16,7 @@ use Rattle.vm_step.specs.Laws.{StepsAreOne, RunsExist, RunsGoOn}
 use Rattle.vm_step.specs.Raising.{Outcome, running}
 use Rattle.vm_step.specs.Run.{Runs}
 use Rattle.vm_turns.specs.Turn.{outcome}
-use Rattle.vm_sound.specs.Laws.{HasTypings, IsSafe, RunsAreSafe, StartsAreTyped}
+use Rattle.vm_sound.specs.Laws.{HasTypings, IsTypedOutcome, RunsAreSafe, StartsAreTyped}
 use Rattle.vm_checks.specs.Shaped.{IsShaped}
 use Rattle.vm_checks.specs.Machine.{StepsStay}
 use Rattle.vm_erasure.specs.Erasure.{erased_outcome, TypedRunsFollow}
@@ -65,7 +65,7 @@ module _ (w : Linked) (has : HasTypings w Bottom) (starts : StartsAreTyped w) (s
   -- ---- after them
 
   gone : TypedRunsFollow w → (budget : ℕ) (s z : State ℕ) (e : Option Ending) (t : State Cell) → s ≡ erased t → IsOutcomeOfRun w (running t) → Runs words w budget s (outcome e z)
-      → (o : Outcome Cell) × Runs tagged w budget t o × (outcome e z ≡ erased_outcome o) × IsSafe w has.typings o
+      → (o : Outcome Cell) × Runs tagged w budget t o × (outcome e z ≡ erased_outcome o) × IsTypedOutcome w has.typings o
   gone follow budget s z e t is r runs =
       let typed = reached-safe w has starts safe (running t) r in
       let there = follow has.typings budget t (outcome e z) has.are typed (subst (λ (x : State ℕ). Runs words w budget x (outcome e z)) is runs) in

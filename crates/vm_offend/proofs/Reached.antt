@@ -9,7 +9,7 @@ use Rattle.vm_step.specs.Raising.{Outcome, running, ended}
 use Rattle.vm_step.specs.Step.{Steps, misplaced, unresolved, performs}
 use Rattle.vm_step.specs.Run.{Runs, stands, stops, steps, Continues}
 use Rattle.vm_step.specs.Laws.{StepsAreOne, RunsExist, RunsGoOn}
-use Rattle.vm_sound.specs.Laws.{HasTypings, IsSafe, RunsAreSafe, StartsAreTyped}
+use Rattle.vm_sound.specs.Laws.{HasTypings, IsTypedOutcome, RunsAreSafe, StartsAreTyped}
 use Rattle.vm_checks.specs.Shaped.{IsShaped}
 use Rattle.vm_checks.specs.Machine.{StepsStay}
 use Rattle.vm_defend.specs.Begun.{StartsAreShaped}
@@ -27,7 +27,7 @@ module _ (w : Linked) where
     runs = on r.steps n (running r.start) o z r.runs more;
   }
 
-  pub reached-safe : (has : HasTypings w Bottom) → StartsAreTyped w → RunsAreSafe w → (o : Outcome Cell) → IsOutcomeOfRun w o → IsSafe w has.typings o
+  pub reached-safe : (has : HasTypings w Bottom) → StartsAreTyped w → RunsAreSafe w → (o : Outcome Cell) → IsOutcomeOfRun w o → IsTypedOutcome w has.typings o
   reached-safe has starts safe o r = safe has.typings r.steps r.start o has.are (starts has.typings r.entry r.args r.start has.are r.starts) r.runs
 
   -- ---- shape

@@ -3,7 +3,7 @@ ghost use Rattle.jc_base.specs.Cell.{width};
 ghost use Rattle.vm_store.specs.Cells.{words};
 ghost use Rattle.vm_store.specs.Objects.{object_at};
 ghost use Rattle.vm_words.specs.Words.{AreObjectsLaid, objects_state};
-ghost use Rattle.vm_defend.specs.Reading.{value_at, array_kind, array_length, array_value, element_in, IsElement};
+ghost use Rattle.vm_defend.specs.Reading.{value_at, array_kind, array_length, array_value, element_in, HasElement};
 
 use jc_base::{Kind, Ty};
 use vm_arithmetic::{int_of_words, short_of_word};
@@ -71,7 +71,7 @@ pub(crate) fn number_at(heap: &[u16], counts: Counts, handle: u16, element: u16)
 fn element_in(heap: &[u16], counts: Counts, handle: u16, ty: Ty, element: u16) -> i32
     requires laid { AreObjectsLaid heap.now counts }
     requires numbers { array_kind (objects_state heap.now counts) handle ≡ Some ty }
-    requires there { IsElement (objects_state heap.now counts) handle element }
+    requires there { HasElement (objects_state heap.now counts) handle element }
     ensures { option_map (λ o. element_in words o.kind o.cells element) (object_at (objects_state heap.now counts) handle)
         ≡ Some result }
 {

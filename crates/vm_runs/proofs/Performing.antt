@@ -21,7 +21,7 @@ use Rattle.vm_step.specs.Performed.{act}
 use Rattle.vm_step.specs.declared.ending.Fault.{Fault}
 use Rattle.vm_step.specs.declared.ending.Ending.TheVariants.{Faulted}
 use Rattle.vm_step.specs.Raising.{Outcome, running, ended}
-use Rattle.vm_step.specs.Settled.{is_target, settled, goes_to, unless_fault, fault_next}
+use Rattle.vm_step.specs.Settled.{is_target_place, settled, goes_to, unless_fault, fault_next}
 use Rattle.vm_step.specs.Step.{Fetches}
 use Rattle.vm_step.specs.Tests.{fault_before}
 use Rattle.vm_values.specs.declared.lead.Lead.{Lead}
@@ -122,7 +122,7 @@ module _ {A : Type 0} (w : Linked) where
     pub leads-on : (known : Known) (lead : Lead) → KnowPlaces k.checks w known → act k w i.insn op s ≡ told k w z lead → Stays lead s z → LeadsOn room w known z lead
     leads-on (Marked p) (leads.Jumps to) know e same = tt {0}
     leads-on Verified (leads.Jumps to) know e same =
-        subst (λ (n : ℕ). is_target (code_at w n) to ≡ true) (sym stay.method) ((verified know s kept runs).lands m i op to z fetches names e)
+        subst (λ (n : ℕ). is_target_place (code_at w n) to ≡ true) (sym stay.method) ((verified know s kept runs).lands m i op to z fetches names e)
     leads-on (Marked p) (leads.Gives value) know e same =
         subst (λ (x : State A). IsRunning (without_top x) → CanResume room w (Marked p) (value_width value) (without_top x)) (sym same)
         (tested-resumes room s value (Marked p) shaped (has.result know.0) know.1)

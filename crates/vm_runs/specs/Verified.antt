@@ -12,7 +12,7 @@ use Rattle.vm_step.specs.declared.ending.Value.{Value}
 use Rattle.vm_step.specs.Act.{jumps, gives}
 use Rattle.vm_step.specs.Methods.{code_at, instruction_at}
 use Rattle.vm_step.specs.Performed.{act}
-use Rattle.vm_step.specs.Settled.{is_target}
+use Rattle.vm_step.specs.Settled.{is_target_place}
 use Rattle.vm_step.specs.Step.{Fetches}
 use Rattle.vm_turns.specs.declared.known.Known.TheVariants.{Verified}
 use Rattle.vm_turns.specs.Known.{CanResume}
@@ -35,7 +35,7 @@ pub record IsVerified {A : Type 0} (room : ℕ) (k : Cells A) (w : Linked) (s : 
       → Fetches w s m i
       → Resolves w m i.place i.insn (Ok op)
       → act k w i.insn op s ≡ jumps to z
-      → is_target (code_at w (top s).method) to ≡ true
+      → is_target_place (code_at w (top s).method) to ≡ true
   pub resumes :
       (m : MethodRec) (i : Placed) (op : Operation) (value : Value) (cells : List A)
       → Fetches w s m i

@@ -28,11 +28,11 @@ use Rattle.vm_store.specs.Laws.{IsFilled}
 use Rattle.vm_step.specs.declared.exception.Exception.TheVariants as exceptions
 use Rattle.vm_step.specs.Act.{Act, goes, raises}
 use Rattle.vm_step.specs.Numbers.{short_at, replaced}
-use Rattle.vm_step.specs.Fields.{elements_of, index_in, at_element, takes_element, keeps_kind, with_element, array_write_act, array_length_act}
+use Rattle.vm_step.specs.Fields.{elements_of, element_index, at_element, takes_element, keeps_kind, with_element, array_write_act, array_length_act}
 use Rattle.vm_step.specs.Settled.{settled}
 use Rattle.vm_sound.specs.Frames.{Typings, least_types, types_in}
-use Rattle.vm_sound.specs.State.{IsMade}
-use Rattle.vm_sound.specs.Laws.{IsSafe}
+use Rattle.vm_sound.specs.State.{CanBeMade}
+use Rattle.vm_sound.specs.Laws.{IsTypedOutcome}
 use Rattle.vm_sound.proofs.CellTypes.{below-has, stacked-filled}
 use Rattle.vm_sound.proofs.Handles.{kinds_of}
 use Rattle.vm_sound.proofs.Cells.{cell-at, one-stacked, stacked-at}
@@ -67,7 +67,7 @@ module _ (w : Linked) (world : IsWorld w) (assigned : Typings) (f : Frame Cell) 
 
     -- an array keeps null and the instances of its class or interface
     kept-below :
-        (h : ℕ) (k : ObjectKind) (value : ℕ) → kind_of_handle (kinds_of heap) h ≡ Some k → Fits fields.Ref k → IsMade w k
+        (h : ℕ) (k : ObjectKind) (value : ℕ) → kind_of_handle (kinds_of heap) h ≡ Some k → Fits fields.Ref k → CanBeMade w k
         → takes_element w.classes (kinds_of heap) (kind_of_handle (kinds_of heap) h) value ≡ true
         → Below w.classes (type_of_handle w.classes (kinds_of heap) value) (element_type w.classes k)
     kept-below h (References class) value e fits made test =
@@ -78,7 +78,7 @@ module _ (w : Linked) (world : IsWorld w) (assigned : Typings) (f : Frame Cell) 
     reference-write :
         (h i : ℕ) (a : IsArrayAt w.classes heap h fields.Ref) → here.turn.operation ≡ ops.ArrayWrite fields.Ref → (h ≡ 0 → ⊥) → i < elements_of (with_heap heap) h
         → (b : Bool) → keeps_kind tagged w.classes fields.Ref (record { frames = f ∷ below; heap = heap; statics = statics }) h ≡ b
-        → IsSafe w assigned (settled tagged w (here.turn.stands.instruction.place + here.turn.stands.instruction.insn.len) (record { frames = f ∷ below; heap = heap; statics = statics })
+        → IsTypedOutcome w assigned (settled tagged w (here.turn.stands.instruction.place + here.turn.stands.instruction.insn.len) (record { frames = f ∷ below; heap = heap; statics = statics })
         (if b then goes (with_element tagged fields.Ref h i (record { frames = f ∷ below; heap = heap; statics = statics })) else raises exceptions.ArrayStore))
     reference-write h i a is some within false e = raise-safe w world assigned f below heap statics here exceptions.ArrayStore
     reference-write h i a is some within true e =
@@ -97,7 +97,7 @@ module _ (w : Linked) (world : IsWorld w) (assigned : Typings) (f : Frame Cell) 
 
     element-write :
         (fk : Kind) (h i : ℕ) (a : IsArrayAt w.classes heap h fk) → here.turn.operation ≡ ops.ArrayWrite fk → (h ≡ 0 → ⊥) → i < elements_of (with_heap heap) h
-        → IsSafe w assigned (settled tagged w (here.turn.stands.instruction.place + here.turn.stands.instruction.insn.len) (record { frames = f ∷ below; heap = heap; statics = statics })
+        → IsTypedOutcome w assigned (settled tagged w (here.turn.stands.instruction.place + here.turn.stands.instruction.insn.len) (record { frames = f ∷ below; heap = heap; statics = statics })
         (if keeps_kind tagged w.classes fk (record { frames = f ∷ below; heap = heap; statics = statics }) h
         then goes (with_element tagged fk h i (record { frames = f ∷ below; heap = heap; statics = statics }))
         else raises exceptions.ArrayStore))
@@ -132,7 +132,7 @@ module _ (w : Linked) (world : IsWorld w) (assigned : Typings) (f : Frame Cell) 
 
     pub array-write-safe :
         (fk : Kind) → here.turn.operation ≡ ops.ArrayWrite fk
-        → IsSafe w assigned (settled tagged w (here.turn.stands.instruction.place + here.turn.stands.instruction.insn.len) (record { frames = f ∷ below; heap = heap; statics = statics })
+        → IsTypedOutcome w assigned (settled tagged w (here.turn.stands.instruction.place + here.turn.stands.instruction.insn.len) (record { frames = f ∷ below; heap = heap; statics = statics })
         (array_write_act tagged w.classes fk (record { frames = f ∷ below; heap = heap; statics = statics })))
     array-write-safe fk is =
         let now : State Cell = record { frames = f ∷ below; heap = heap; statics = statics } in
@@ -144,14 +144,14 @@ module _ (w : Linked) (world : IsWorld w) (assigned : Typings) (f : Frame Cell) 
         let keep : ℕ → ℕ → Act Cell = λ n i. if keeps_kind tagged w.classes fk now n then goes (with_element tagged fk n i now) else raises exceptions.ArrayStore in
         null-safe w world assigned f below heap statics here next h
         (λ n. at_element index (elements_of now n) (λ i. keep n i))
-        (λ some. some-safe w world assigned f below heap statics here next exceptions.ArrayIndex (index_in index (elements_of now h)) (λ i. keep h i)
+        (λ some. some-safe w world assigned f below heap statics here next exceptions.ArrayIndex (element_index index (elements_of now h)) (λ i. keep h i)
         (λ i e. element-write fk h i (array-there w.classes world.chains (assigned.unset f.method) heap c fk some wanted.holds) is some (index-within index (elements_of now h) i e)))
 
     -- ---- lengths
 
     pub array-length-safe :
         here.turn.operation ≡ ops.ArrayLength
-        → IsSafe w assigned (settled tagged w (here.turn.stands.instruction.place + here.turn.stands.instruction.insn.len) (record { frames = f ∷ below; heap = heap; statics = statics })
+        → IsTypedOutcome w assigned (settled tagged w (here.turn.stands.instruction.place + here.turn.stands.instruction.insn.len) (record { frames = f ∷ below; heap = heap; statics = statics })
         (array_length_act tagged (record { frames = f ∷ below; heap = heap; statics = statics })))
     array-length-safe is =
         let now : State Cell = record { frames = f ∷ below; heap = heap; statics = statics } in

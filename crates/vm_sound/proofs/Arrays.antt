@@ -24,7 +24,7 @@ use Rattle.vm_store.specs.declared.cell.Cell.{Cell}
 use Rattle.vm_store.specs.declared.cell.Cell.TheVariants as cells
 use Rattle.vm_store.specs.declared.kind.ObjectKind.{ObjectKind}
 use Rattle.vm_store.specs.declared.kind.ObjectKind.TheVariants.{Instance, Booleans, Bytes, Shorts, Ints, References}
-use Rattle.vm_store.specs.Kind.{kind_of_handle, type_of_kind, seen_class, element_width}
+use Rattle.vm_store.specs.Kind.{kind_of_handle, type_of_kind, class_in_types, element_width}
 use Rattle.vm_store.specs.Typing.{IsReady, least_type, type_of_handle}
 use Rattle.vm_store.specs.Cells.{tagged, word_of}
 use Rattle.vm_store.specs.State.{Frame, Object, State}
@@ -34,10 +34,10 @@ use Rattle.vm_store.specs.Laws.{cell_types, type_at}
 use Rattle.vm_step.specs.declared.exception.Exception.TheVariants as exceptions
 use Rattle.vm_step.specs.Act.{goes}
 use Rattle.vm_step.specs.Numbers.{short_at, replaced}
-use Rattle.vm_step.specs.Fields.{elements_in, elements_of, index_in, at_element, array_read_act}
+use Rattle.vm_step.specs.Fields.{element_count_in, elements_of, element_index, at_element, array_read_act}
 use Rattle.vm_step.specs.Settled.{goes_to, settled}
 use Rattle.vm_sound.specs.Frames.{Typings, least_types, types_in}
-use Rattle.vm_sound.specs.Laws.{IsSafe}
+use Rattle.vm_sound.specs.Laws.{IsTypedOutcome}
 use Rattle.vm_sound.proofs.CellTypes.{has-below, IsReadyCell, stacked-filled}
 use Rattle.vm_sound.proofs.Handles.{kinds_of, kind-type}
 use Rattle.vm_sound.proofs.Ready.{value-ready}
@@ -108,7 +108,7 @@ module _ (t : ClassTable) (are : AreClasses t) where
 -- ---- the types of elements
 
 abbrev pub element_type : ClassTable → ObjectKind → Ty
-element_type t (References c) = Class (seen_class t c)
+element_type t (References c) = Class (class_in_types t c)
 element_type t Ints = IntHigh
 element_type t _ = Short
 
@@ -135,7 +135,7 @@ types-one n i ty lt = repeated-one n (i * 1) ty (omega (arith, lt, div-one n))
 
 element-first :
     (t : ClassTable) (fk : Kind) (k : ObjectKind) (n i : ℕ) → Fits fk k → i < n / element_width k → slice_get (cell_types t k n) (i * width fk) ≡ Some (element_type t k)
-element-first t fields.Ref (References c) n i fits lt = types-one n i (Class (seen_class t c)) lt
+element-first t fields.Ref (References c) n i fits lt = types-one n i (Class (class_in_types t c)) lt
 element-first t fields.Byte Bytes n i fits lt = types-one n i Short lt
 element-first t fields.Byte Booleans n i fits lt = types-one n i Short lt
 element-first t fields.Short Shorts n i fits lt = types-one n i Short lt
@@ -147,7 +147,7 @@ element-second t Ints n i fits lt = (repeated-two (n / 2) i IntHigh IntLow lt).1
 element-second t k n i fits lt = absurd fits
 
 -- the index is that of an element
-pub index-within : (z : ℤ) (count i : ℕ) → index_in z count ≡ Some i → i < count
+pub index-within : (z : ℤ) (count i : ℕ) → element_index z count ≡ Some i → i < count
 index-within (pos n) count i e = go (nat_lt n count) refl e
   where
     go : (b : Bool) → nat_lt n count ≡ b → (if b then Some n else None) ≡ Some i → i < count
@@ -187,7 +187,7 @@ array-there t are unset heap c fields.Int some meets =
 -- the types of the cells of an element of it
 module _ (t : ClassTable) (heap : List (Object Cell)) (h : ℕ) (fk : Kind) (a : IsArrayAt t heap h fk) (i : ℕ) (within : i < elements_of (with_heap heap) h) where
   counted : i < element_count a.object
-  counted = subst (λ n. i < n) (ap elements_in a.found) within
+  counted = subst (λ n. i < n) (ap element_count_in a.found) within
 
   types-at : (j : ℕ) → type_at t (with_heap heap) h j ≡ slice_get (cell_types t a.object.kind (length a.object.cells)) j
   types-at j = ap (option_and_then (λ (o : Object Cell). slice_get (cell_types t o.kind (length o.cells)) j)) a.found
@@ -258,7 +258,7 @@ module _ (w : Linked) (world : IsWorld w) (assigned : Typings) (f : Frame Cell) 
         → here.turn.operation ≡ op
         → effect w op (types_in w.classes (assigned.unset f.method) (kinds_of heap) f) ≡ replacing taken (given.One seen) → falls_from op ≡ true
         → ty ≡ seen → IsRead h i ty
-        → IsSafe w assigned (goes_to tagged w (here.turn.stands.instruction.place + here.turn.stands.instruction.insn.len) (record { frames = f ∷ below; heap = heap; statics = statics })
+        → IsTypedOutcome w assigned (goes_to tagged w (here.turn.stands.instruction.place + here.turn.stands.instruction.insn.len) (record { frames = f ∷ below; heap = heap; statics = statics })
         (replaced (record { frames = f ∷ below; heap = heap; statics = statics }) taken (slice_index_or (object_cells (with_heap heap) h) i cells.Empty ∷ [])))
     read-one-safe h i taken ty seen op is does falls e read =
         let c : Cell = slice_index_or (object_cells (with_heap heap) h) i cells.Empty in
@@ -272,7 +272,7 @@ module _ (w : Linked) (world : IsWorld w) (assigned : Typings) (f : Frame Cell) 
         → here.turn.operation ≡ op
         → effect w op (types_in w.classes (assigned.unset f.method) (kinds_of heap) f) ≡ replacing taken given.Int → falls_from op ≡ true
         → IsRead h i IntHigh → IsRead h (i + 1) IntLow
-        → IsSafe w assigned (goes_to tagged w (here.turn.stands.instruction.place + here.turn.stands.instruction.insn.len) (record { frames = f ∷ below; heap = heap; statics = statics })
+        → IsTypedOutcome w assigned (goes_to tagged w (here.turn.stands.instruction.place + here.turn.stands.instruction.insn.len) (record { frames = f ∷ below; heap = heap; statics = statics })
         (replaced (record { frames = f ∷ below; heap = heap; statics = statics }) taken
         (slice_index_or (object_cells (with_heap heap) h) i cells.Empty ∷ slice_index_or (object_cells (with_heap heap) h) (i + 1) cells.Empty ∷ [])))
     read-int-safe h i taken op is does falls high low =
@@ -287,7 +287,7 @@ module _ (w : Linked) (world : IsWorld w) (assigned : Typings) (f : Frame Cell) 
     element-read :
         (fk : Kind) (h i : ℕ) → here.turn.operation ≡ ops.ArrayRead fk → h ≡ word_of (slice_index_or f.stack 1 cells.Empty)
         → (a : IsArrayAt w.classes heap h fk) → i < elements_of (with_heap heap) h
-        → IsSafe w assigned (goes_to tagged w (here.turn.stands.instruction.place + here.turn.stands.instruction.insn.len) (record { frames = f ∷ below; heap = heap; statics = statics })
+        → IsTypedOutcome w assigned (goes_to tagged w (here.turn.stands.instruction.place + here.turn.stands.instruction.insn.len) (record { frames = f ∷ below; heap = heap; statics = statics })
         (replaced (record { frames = f ∷ below; heap = heap; statics = statics }) 2 (value_in tagged fk (object_cells (with_heap heap) h) (i * width fk))))
     element-read fields.Ref h i is at a within =
         let t = w.classes in
@@ -317,7 +317,7 @@ module _ (w : Linked) (world : IsWorld w) (assigned : Typings) (f : Frame Cell) 
 
     pub array-read-safe :
         (fk : Kind) → here.turn.operation ≡ ops.ArrayRead fk
-        → IsSafe w assigned (settled tagged w (here.turn.stands.instruction.place + here.turn.stands.instruction.insn.len) (record { frames = f ∷ below; heap = heap; statics = statics })
+        → IsTypedOutcome w assigned (settled tagged w (here.turn.stands.instruction.place + here.turn.stands.instruction.insn.len) (record { frames = f ∷ below; heap = heap; statics = statics })
         (array_read_act tagged fk (record { frames = f ∷ below; heap = heap; statics = statics })))
     array-read-safe fk is =
         let now : State Cell = record { frames = f ∷ below; heap = heap; statics = statics } in
@@ -328,6 +328,6 @@ module _ (w : Linked) (world : IsWorld w) (assigned : Typings) (f : Frame Cell) 
         let wanted = cell-at w.classes (assigned.unset f.method) (kinds_of heap) f.stack 1 (Meets w.classes (array_wanted w.classes fk)) asked.1.0 in
         null-safe w world assigned f below heap statics here next h
         (λ n. at_element (short_at tagged f.stack 0) (elements_of now n) (λ i. goes (replaced now 2 (value_in tagged fk (object_cells now n) (i * width fk)))))
-        (λ some. some-safe w world assigned f below heap statics here next exceptions.ArrayIndex (index_in (short_at tagged f.stack 0) (elements_of now h))
+        (λ some. some-safe w world assigned f below heap statics here next exceptions.ArrayIndex (element_index (short_at tagged f.stack 0) (elements_of now h))
         (λ i. goes (replaced now 2 (value_in tagged fk (object_cells now h) (i * width fk))))
         (λ i e. element-read fk h i is refl (array-there w.classes world.chains (assigned.unset f.method) heap c fk some wanted.holds) (index-within (short_at tagged f.stack 0) (elements_of now h) i e)))

@@ -32,7 +32,7 @@ use Rattle.vm_step.specs.Branching.{is_taken, leads_if, branch_act, has_key, cas
 use Rattle.vm_step.specs.Numbers.{number_on, dropped}
 use Rattle.vm_step.specs.Settled.{settled}
 use Rattle.vm_sound.specs.Frames.{Typings, types_in, IsStacked}
-use Rattle.vm_sound.specs.Laws.{IsSafe}
+use Rattle.vm_sound.specs.Laws.{IsTypedOutcome}
 use Rattle.vm_sound.proofs.Finish.{jumps-safe, code-is}
 use Rattle.vm_sound.proofs.Going.{jumps-on}
 use Rattle.vm_sound.proofs.Handles.{kinds_of}
@@ -74,7 +74,7 @@ module _ (w : Linked) (world : IsWorld w) (assigned : Typings) (f : Frame Cell) 
         → here.turn.operation ≡ op
         → effect w op (types_in w.classes (assigned.unset f.method) (kinds_of heap) f) ≡ replacing taken given.Nothing
         → Contains (targets (code_of w.infos here.turn.stands.rec) here.turn.stands.instruction) to
-        → IsSafe w assigned (settled tagged w next (record { frames = f ∷ below; heap = heap; statics = statics })
+        → IsTypedOutcome w assigned (settled tagged w next (record { frames = f ∷ below; heap = heap; statics = statics })
         (jumping to (dropped (record { frames = f ∷ below; heap = heap; statics = statics }) taken)))
     leads-safe next (pos q) taken op is does leads =
         let ks = kinds_of heap in
@@ -112,7 +112,7 @@ module _ (w : Linked) (world : IsWorld w) (assigned : Typings) (f : Frame Cell) 
         (b : Branch) (taken : Bool) (width : ℕ) → here.turn.operation ≡ ops.Branch b
         → effect w (ops.Branch b) (types_in w.classes (assigned.unset f.method) (kinds_of heap) f) ≡ replacing width given.Nothing
         → falls_from (ops.Branch b) ≡ true
-        → IsSafe w assigned (settled tagged w (here.turn.stands.instruction.place + here.turn.stands.instruction.insn.len)
+        → IsTypedOutcome w assigned (settled tagged w (here.turn.stands.instruction.place + here.turn.stands.instruction.insn.len)
         (record { frames = f ∷ below; heap = heap; statics = statics })
         (leads_if taken (target f.place here.turn.stands.instruction.insn.x) (dropped (record { frames = f ∷ below; heap = heap; statics = statics }) width)))
     branch-by b true width is does falls =
@@ -125,7 +125,7 @@ module _ (w : Linked) (world : IsWorld w) (assigned : Typings) (f : Frame Cell) 
 
     pub branch-safe :
         (b : Branch) → here.turn.operation ≡ ops.Branch b
-        → IsSafe w assigned (settled tagged w (here.turn.stands.instruction.place + here.turn.stands.instruction.insn.len)
+        → IsTypedOutcome w assigned (settled tagged w (here.turn.stands.instruction.place + here.turn.stands.instruction.insn.len)
         (record { frames = f ∷ below; heap = heap; statics = statics })
         (branch_act tagged here.turn.stands.instruction.insn b (record { frames = f ∷ below; heap = heap; statics = statics })))
     branch-safe branches.Always is =
@@ -139,7 +139,7 @@ module _ (w : Linked) (world : IsWorld w) (assigned : Typings) (f : Frame Cell) 
     switch-by :
         (width : Width) (size : ℕ) → here.turn.operation ≡ ops.Switch width
         → effect w (ops.Switch width) (types_in w.classes (assigned.unset f.method) (kinds_of heap) f) ≡ replacing size given.Nothing
-        → IsSafe w assigned (settled tagged w (here.turn.stands.instruction.place + here.turn.stands.instruction.insn.len)
+        → IsTypedOutcome w assigned (settled tagged w (here.turn.stands.instruction.place + here.turn.stands.instruction.insn.len)
         (record { frames = f ∷ below; heap = heap; statics = statics })
         (jumping
         (target f.place (case_offset here.turn.stands.instruction.insn.x (find (has_key (number_on tagged width f.stack)) (cases (code_at w f.method) f.place here.turn.stands.instruction.insn))))
@@ -159,7 +159,7 @@ module _ (w : Linked) (world : IsWorld w) (assigned : Typings) (f : Frame Cell) 
 
     pub switch-safe :
         (width : Width) → here.turn.operation ≡ ops.Switch width
-        → IsSafe w assigned (settled tagged w (here.turn.stands.instruction.place + here.turn.stands.instruction.insn.len)
+        → IsTypedOutcome w assigned (settled tagged w (here.turn.stands.instruction.place + here.turn.stands.instruction.insn.len)
         (record { frames = f ∷ below; heap = heap; statics = statics })
         (switch_act tagged (code_at w f.method) here.turn.stands.instruction.insn width (record { frames = f ∷ below; heap = heap; statics = statics })))
     switch-safe widths.Short is = switch-by widths.Short 1 is refl

@@ -26,7 +26,7 @@ use Rattle.jc_rules.specs.declared.effect.Change.TheVariants.{Replace, MakeReady
 use Rattle.jc_rules.specs.declared.effect.Effect.{Effect}
 use Rattle.jc_rules.specs.declared.effect.Mode.TheVariants.{Flow}
 use Rattle.jc_rules.specs.Demand.{SatisfiesAll, Meets}
-use Rattle.jc_rules.specs.Effect.{listed, ready, changed, Stores}
+use Rattle.jc_rules.specs.Effect.{in_stack_order, ready, changed, StoresInRegisters}
 use Rattle.jc_rules.specs.Rule.{cell, cells_wanted, call_demands, call_effect, call_change, on_stack, ready_with, result_given, args_at, result_at, effect}
 use Rattle.jc_rules.specs.Flow.{CellsBelow, no_cells, more_cells, FrameBelow, receiver_of}
 use Rattle.jc_rules.proofs.CellLists.{cells-same, cells-append}
@@ -45,7 +45,7 @@ use Rattle.vm_step.specs.Calls.{args_of}
 use Rattle.vm_step.specs.Methods.{of_method}
 use Rattle.vm_step.specs.Settled.{entered_call}
 use Rattle.vm_sound.specs.Frames.{Typings, least_types, types_in, types_with, class_made, IsStacked, result_of, IsWaiting}
-use Rattle.vm_sound.specs.Laws.{IsSafe, AreTypings}
+use Rattle.vm_sound.specs.Laws.{IsTypedOutcome, AreTypings}
 use Rattle.vm_sound.proofs.CellTypes.{stacked-filled, stacked-alike}
 use Rattle.vm_sound.proofs.Cells.{IsCellAt, cell-at, stacked-at}
 use Rattle.vm_sound.proofs.Receivers.{IsNewOf, types-readied, stacked-readied, arguments-kept}
@@ -69,7 +69,7 @@ module _ (w : Linked) (world : IsWorld w) (assigned : Typings) (typings : AreTyp
         → FrameBelow w.classes
         (types_with w.classes (assigned.unset f.method) (kinds_of heap) result (record { method = f.method; place = f.place; registers = f.registers; stack = drop count stack })) here.turn.after
         → All (IsStacked w here.turn.stands.rec (kinds_of heap)) stack
-        → IsSafe w assigned (entered_call tagged w n count
+        → IsTypedOutcome w assigned (entered_call tagged w n count
         (record { frames = record { method = f.method; place = f.place; registers = f.registers; stack = stack } ∷ below; heap = heap; statics = statics }))
     call-safe n count m result stack is lacks gives falls args lower stacked =
         let ks = kinds_of heap in
@@ -124,7 +124,7 @@ module _ (w : Linked) (world : IsWorld w) (assigned : Typings) (typings : AreTyp
         -- a frame whose stack is what the rule gives but for the result is below it
         given-below :
             (change : Change) (stack : List Cell) → on_stack (call_change m.sig.args (result_given m.sig.result) receiver (types_in w.classes (assigned.unset f.method) (kinds_of heap) f)) ≡ on_stack change
-            → listed (result_given m.sig.result) ++ least_types w.classes (assigned.unset f.method) (kinds_of heap) stack ≡ changed change (least_types w.classes (assigned.unset f.method) (kinds_of heap) f.stack)
+            → in_stack_order (result_given m.sig.result) ++ least_types w.classes (assigned.unset f.method) (kinds_of heap) stack ≡ changed change (least_types w.classes (assigned.unset f.method) (kinds_of heap) f.stack)
             → FrameBelow w.classes (types_with w.classes (assigned.unset f.method) (kinds_of heap) m.sig.result (record { method = f.method; place = f.place; registers = f.registers; stack = stack })) here.turn.after
         given-below change stack e stack_is =
             let ks = kinds_of heap in
@@ -133,11 +133,11 @@ module _ (w : Linked) (world : IsWorld w) (assigned : Typings) (typings : AreTyp
             let after = here.turn.after in
             let whole : effect w here.turn.operation exact ≡ on_stack change = does ∙ e in
             let stack_after : after.stack ≡ changed change exact.stack = a.stack ∙ ap (λ (z : Effect). changed z.change exact.stack) whole in
-            let regs_after : after.regs ≡ exact.regs = subst (λ (z : Effect). Stores w.classes Flow z.store exact.regs after.regs) whole a.regs in
+            let regs_after : after.regs ≡ exact.regs = subst (λ (z : Effect). StoresInRegisters w.classes Flow z.store exact.regs after.regs) whole a.regs in
             record {
               regs = subst (CellsBelow w.classes exact.regs) (sym regs_after) (cells-same w.classes exact.regs);
-              stack = subst (CellsBelow w.classes (listed (result_given m.sig.result) ++ least_types w.classes (assigned.unset f.method) ks stack)) (stack_is ∙ sym stack_after)
-                  (cells-same w.classes (listed (result_given m.sig.result) ++ least_types w.classes (assigned.unset f.method) ks stack));
+              stack = subst (CellsBelow w.classes (in_stack_order (result_given m.sig.result) ++ least_types w.classes (assigned.unset f.method) ks stack)) (stack_is ∙ sym stack_after)
+                  (cells-same w.classes (in_stack_order (result_given m.sig.result) ++ least_types w.classes (assigned.unset f.method) ks stack));
             }
 
         -- cells in the order of the parameters
@@ -162,19 +162,19 @@ module _ (w : Linked) (world : IsWorld w) (assigned : Typings) (typings : AreTyp
 
         pub static-call :
             receiver ≡ None → m.is_static ≡ true → lacks_code w.classes m ≡ false
-            → IsSafe w assigned (entered_call tagged w n (args_of w n) (record { frames = f ∷ below; heap = heap; statics = statics }))
+            → IsTypedOutcome w assigned (entered_call tagged w n (args_of w n) (record { frames = f ∷ below; heap = heap; statics = statics }))
         static-call none static lacks =
             let ks = kinds_of heap in
             let l : ℕ = length m.sig.args in
             let args = args-turned l f.stack (reverse m.sig.args) args-below in
             let parameters : reverse (reverse m.sig.args) ≡ receiver_of m ++ m.sig.args =
             reverse-reverse m.sig.args ∙ sym (ap (λ (b : Bool). (if b then [] else Class m.class ∷ []) ++ m.sig.args) static) in
-            subst (λ k. IsSafe w assigned (entered_call tagged w n k (record { frames = f ∷ below; heap = heap; statics = statics }))) (sym count-is)
+            subst (λ k. IsTypedOutcome w assigned (entered_call tagged w n k (record { frames = f ∷ below; heap = heap; statics = statics }))) (sym count-is)
             (call-safe n l m m.sig.result f.stack method lacks refl (ap falls_from is)
             (subst (CellsBelow w.classes (least_types w.classes (assigned.unset f.method) ks (reverse (take l f.stack)))) parameters args)
             (given-below (Replace l (result_given m.sig.result)) (drop l f.stack)
             (ap (λ r. on_stack (call_change m.sig.args (result_given m.sig.result) r (types_in w.classes (assigned.unset f.method) ks f))) none)
-            (ap (λ ts. listed (result_given m.sig.result) ++ ts) (sym (drop-map (least_type w.classes (assigned.unset f.method) ks) l f.stack))))
+            (ap (λ ts. in_stack_order (result_given m.sig.result) ++ ts) (sym (drop-map (least_type w.classes (assigned.unset f.method) ks) l f.stack))))
             here.turn.stacked)
 
         -- ---- with a receiver under the arguments
@@ -208,7 +208,7 @@ module _ (w : Linked) (world : IsWorld w) (assigned : Typings) (typings : AreTyp
               → ready_with (length m.sig.args + 1) (result_given m.sig.result) (cell (least_types w.classes (assigned.unset f.method) (kinds_of heap) f.stack) (length m.sig.args)) want
               ≡ Replace (length m.sig.args + 1) (result_given m.sig.result)
               → Below w.classes (least_type w.classes (assigned.unset f.method) (kinds_of heap) (slice_index_or f.stack (length m.sig.args) cells.Empty)) (Class o.class)
-              → IsSafe w assigned (entered_call tagged w k (args_of w n + 1) (record { frames = f ∷ below; heap = heap; statics = statics }))
+              → IsTypedOutcome w assigned (entered_call tagged w k (args_of w n + 1) (record { frames = f ∷ below; heap = heap; statics = statics }))
           run-safe k o there lacks sig dynamic plain receives =
               let ks = kinds_of heap in
               let exact = types_in w.classes (assigned.unset f.method) ks f in
@@ -219,12 +219,12 @@ module _ (w : Linked) (world : IsWorld w) (assigned : Typings) (typings : AreTyp
               let taken : CellsBelow w.classes (take (l + 1) exact.stack) (reverse m.sig.args ++ Class o.class ∷ []) =
               subst (λ ts. CellsBelow w.classes ts (reverse m.sig.args ++ Class o.class ∷ [])) (sym split) (cells-append w.classes args-below (more_cells recv no_cells)) in
               let args = args-turned (l + 1) f.stack (reverse m.sig.args ++ Class o.class ∷ []) taken in
-              subst (λ c. IsSafe w assigned (entered_call tagged w k (c + 1) (record { frames = f ∷ below; heap = heap; statics = statics }))) (sym count-is)
+              subst (λ c. IsTypedOutcome w assigned (entered_call tagged w k (c + 1) (record { frames = f ∷ below; heap = heap; statics = statics }))) (sym count-is)
               (call-safe k (l + 1) o m.sig.result f.stack there lacks (ap (λ (x : Sig). x.result) sig) (ap falls_from is)
               (subst (CellsBelow w.classes (least_types w.classes (assigned.unset f.method) ks (reverse (take (l + 1) f.stack)))) (parameters-are o sig dynamic) args)
               (given-below (Replace (l + 1) (result_given m.sig.result)) (drop (l + 1) f.stack)
               (ap (λ r. on_stack (call_change m.sig.args (result_given m.sig.result) r exact)) wants ∙ ap on_stack plain)
-              (ap (λ ts. listed (result_given m.sig.result) ++ ts) (sym (drop-map (least_type w.classes (assigned.unset f.method) ks) (l + 1) f.stack))))
+              (ap (λ ts. in_stack_order (result_given m.sig.result) ++ ts) (sym (drop-map (least_type w.classes (assigned.unset f.method) ks) (l + 1) f.stack))))
               here.turn.stacked)
 
         -- ---- a constructor, on an object that is not ready
@@ -232,7 +232,7 @@ module _ (w : Linked) (world : IsWorld w) (assigned : Typings) (typings : AreTyp
         pub construct-safe :
             (class : ℕ) → receiver ≡ Some (Receiver class) → lacks_code w.classes m ≡ false → m.is_static ≡ false → class ≡ m.class
             → (new : IsNewOf w.classes (assigned.unset f.method) (kinds_of heap) class (slice_index_or f.stack (length m.sig.args) cells.Empty))
-            → IsSafe w assigned (entered_call tagged w n (args_of w n + 1)
+            → IsTypedOutcome w assigned (entered_call tagged w n (args_of w n + 1)
             (record {
               frames = record { method = f.method; place = f.place; registers = f.registers; stack = map (made_ready new.place) f.stack } ∷ below;
               heap = heap;
@@ -279,12 +279,12 @@ module _ (w : Linked) (world : IsWorld w) (assigned : Typings) (typings : AreTyp
             let changes : on_stack (call_change m.sig.args (result_given m.sig.result) receiver exact) ≡ on_stack (MakeReady (l + 1) p class (result_given m.sig.result)) =
             ap (λ x. on_stack (call_change m.sig.args (result_given m.sig.result) x exact)) wants
             ∙ ap (λ a. on_stack (ready_with (l + 1) (result_given m.sig.result) a (Receiver class))) (at.seen ∙ new.type_is) in
-            subst (λ c. IsSafe w assigned (entered_call tagged w n (c + 1)
+            subst (λ c. IsTypedOutcome w assigned (entered_call tagged w n (c + 1)
             (record { frames = record { method = f.method; place = f.place; registers = f.registers; stack = ready_stack } ∷ below; heap = heap; statics = statics }))) (sym count-is)
             (call-safe n (l + 1) m m.sig.result ready_stack method lacks refl (ap falls_from is)
             (subst (CellsBelow t (least_types t (assigned.unset f.method) ks (reverse (take (l + 1) ready_stack)))) (parameters-are (Receiver class) wants m refl dynamic) args)
             (given-below (MakeReady (l + 1) p class (result_given m.sig.result)) (drop (l + 1) ready_stack) changes
-            (ap (λ ts. listed (result_given m.sig.result) ++ ts) types_rest))
+            (ap (λ ts. in_stack_order (result_given m.sig.result) ++ ts) types_rest))
             (stacked-readied w world.chains st.rec (assigned.unset f.method) ks p class made f.stack here.turn.stacked))
           where
             place-told : (r : Cell) → (x : IsNewOf w.classes (assigned.unset f.method) (kinds_of heap) class r) → IsStacked w here.turn.stands.rec (kinds_of heap) r → class_made w here.turn.stands.rec x.place ≡ Some class

@@ -26,7 +26,7 @@ use Rattle.vm_store.specs.declared.cell.Cell.TheVariants as cells
 use Rattle.vm_store.specs.declared.kind.ObjectKind.{ObjectKind}
 use Rattle.vm_store.specs.Typing.{least_type}
 use Rattle.vm_store.specs.Cells.{tagged}
-use Rattle.vm_store.specs.State.{Frame, registers_of, register_count, entered}
+use Rattle.vm_store.specs.State.{Frame, register_count_of, register_count, entered}
 use Rattle.vm_sound.specs.Frames.{Typings, least_types, types_in, IsStacked, IsTypedFrame}
 use Rattle.vm_sound.specs.Laws.{AreTypings}
 use Rattle.vm_sound.proofs.CellTypes.{some-weaker}
@@ -81,7 +81,7 @@ module _ (w : Linked) (world : IsWorld w) where
     registers-are args below =
         let ty : Cell → Ty = least_type w.classes (assigned.unset n) ks in
         let known = method-known n m is in
-        let count : register_count w.methods n ≡ m.nargs + m.max_locals = ap registers_of is in
+        let count : register_count w.methods n ≡ m.nargs + m.max_locals = ap register_count_of is in
         let given : length args ≡ length (receiver_of m ++ m.sig.args) = sym (length-map args ty) ∙ cells-length w.classes below in
         let all : length (receiver_of m ++ m.sig.args) ≡ length (receiver_of m) + length m.sig.args = length-append (receiver_of m) m.sig.args in
         let own : length (receiver_of m) ≡ receiver_words m.is_static = receiver-length m.is_static m.class in

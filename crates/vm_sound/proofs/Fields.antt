@@ -45,7 +45,7 @@ use Rattle.vm_step.specs.Numbers.{dropped, replaced}
 use Rattle.vm_step.specs.Fields.{held_handle, with_field_read, field_read_act, with_field_write, field_write_act}
 use Rattle.vm_step.specs.Settled.{goes_to, settled}
 use Rattle.vm_sound.specs.Frames.{Typings, least_types, types_in}
-use Rattle.vm_sound.specs.Laws.{IsSafe}
+use Rattle.vm_sound.specs.Laws.{IsTypedOutcome}
 use Rattle.vm_sound.proofs.CellTypes.{declared-ready}
 use Rattle.vm_sound.proofs.Handles.{kinds_of}
 use Rattle.vm_sound.proofs.Cells.{cell-at}
@@ -115,7 +115,7 @@ module _ (w : Linked) (world : IsWorld w) (assigned : Typings) (f : Frame StoreC
         → IsOfKind kind ty → IsDeclared w.classes ty
         → type_at w.classes (with_heap heap) h i ≡ Some ty
         → (kind ≡ fields.Int → type_at w.classes (with_heap heap) h (i + 1) ≡ Some IntLow)
-        → IsSafe w assigned (goes_to tagged w (here.turn.stands.instruction.place + here.turn.stands.instruction.insn.len) (record { frames = f ∷ below; heap = heap; statics = statics })
+        → IsTypedOutcome w assigned (goes_to tagged w (here.turn.stands.instruction.place + here.turn.stands.instruction.insn.len) (record { frames = f ∷ below; heap = heap; statics = statics })
         (replaced (record { frames = f ∷ below; heap = heap; statics = statics }) taken (value_in tagged kind (object_cells (with_heap heap) h) i)))
     read-value-safe h i taken fields.Ref ty op is does falls of_kind declared first second =
         read-one-safe w world assigned f below heap statics here h i taken ty ty op is (does ∙ ap (replacing taken) (one-cell fields.Ref ty of_kind refl).given_is) falls refl
@@ -166,7 +166,7 @@ module _ (w : Linked) (world : IsWorld w) (assigned : Typings) (f : Frame StoreC
         (class cell : ℕ) (kind : Kind) (ty : Ty) (holder : Holder)
         → here.turn.operation ≡ ops.FieldRead (record { class = class; cell = cell; kind = kind; ty = ty }) holder
         → IsFieldOf w (record { class = class; cell = cell; kind = kind; ty = ty })
-        → IsSafe w assigned (settled tagged w (here.turn.stands.instruction.place + here.turn.stands.instruction.insn.len) (record { frames = f ∷ below; heap = heap; statics = statics })
+        → IsTypedOutcome w assigned (settled tagged w (here.turn.stands.instruction.place + here.turn.stands.instruction.insn.len) (record { frames = f ∷ below; heap = heap; statics = statics })
         (field_read_act tagged (record { class = class; cell = cell; kind = kind; ty = ty }) holder (record { frames = f ∷ below; heap = heap; statics = statics })))
     field-read-safe class cell kind ty holder is field =
         let now : State StoreCell = record { frames = f ∷ below; heap = heap; statics = statics } in
@@ -179,7 +179,7 @@ module _ (w : Linked) (world : IsWorld w) (assigned : Typings) (f : Frame StoreC
       where
         by-holder :
             (place : Holder) (h : ℕ) → here.turn.operation ≡ ops.FieldRead (record { class = class; cell = cell; kind = kind; ty = ty }) place → IsObject w.classes heap h (Class class)
-            → IsSafe w assigned (goes_to tagged w (here.turn.stands.instruction.place + here.turn.stands.instruction.insn.len) (record { frames = f ∷ below; heap = heap; statics = statics })
+            → IsTypedOutcome w assigned (goes_to tagged w (here.turn.stands.instruction.place + here.turn.stands.instruction.insn.len) (record { frames = f ∷ below; heap = heap; statics = statics })
             (with_field_read tagged (record { class = class; cell = cell; kind = kind; ty = ty }) place h (record { frames = f ∷ below; heap = heap; statics = statics })))
         by-holder holders.Stack h is o =
             read-value-safe h cell 1 kind ty (ops.FieldRead (record { class = class; cell = cell; kind = kind; ty = ty }) holders.Stack) is refl refl field.cells.kind field.ty
@@ -207,7 +207,7 @@ module _ (w : Linked) (world : IsWorld w) (assigned : Typings) (f : Frame StoreC
         → (h ≡ 0 → ⊥)
         → type_at w.classes (with_heap heap) h i ≡ Some ty
         → (kind ≡ fields.Int → type_at w.classes (with_heap heap) h (i + 1) ≡ Some IntLow)
-        → IsSafe w assigned (goes_to tagged w (here.turn.stands.instruction.place + here.turn.stands.instruction.insn.len) (record { frames = f ∷ below; heap = heap; statics = statics })
+        → IsTypedOutcome w assigned (goes_to tagged w (here.turn.stands.instruction.place + here.turn.stands.instruction.insn.len) (record { frames = f ∷ below; heap = heap; statics = statics })
         (with_object_value (dropped (record { frames = f ∷ below; heap = heap; statics = statics }) taken) h i (kept tagged kind (value_on tagged kind f.stack))))
     write-value-safe h i taken fields.Ref ty op is does falls of_kind declared asked some first second =
         let value = value-held ty (one-cell fields.Ref ty of_kind refl) declared asked in
@@ -242,7 +242,7 @@ module _ (w : Linked) (world : IsWorld w) (assigned : Typings) (f : Frame StoreC
         (class cell : ℕ) (kind : Kind) (ty : Ty) (holder : Holder)
         → here.turn.operation ≡ ops.FieldWrite (record { class = class; cell = cell; kind = kind; ty = ty }) holder
         → IsFieldOf w (record { class = class; cell = cell; kind = kind; ty = ty })
-        → IsSafe w assigned (settled tagged w (here.turn.stands.instruction.place + here.turn.stands.instruction.insn.len) (record { frames = f ∷ below; heap = heap; statics = statics })
+        → IsTypedOutcome w assigned (settled tagged w (here.turn.stands.instruction.place + here.turn.stands.instruction.insn.len) (record { frames = f ∷ below; heap = heap; statics = statics })
         (field_write_act tagged (record { class = class; cell = cell; kind = kind; ty = ty }) holder (record { frames = f ∷ below; heap = heap; statics = statics })))
     field-write-safe class cell kind ty holders.Stack is field =
         let now : State StoreCell = record { frames = f ∷ below; heap = heap; statics = statics } in

@@ -14,7 +14,7 @@ use Rattle.jc_control.specs.Method.{method_with}
 use Rattle.jc_decode.proofs.Listed.{all-are-listed}
 use Rattle.jc_control.proofs.Listed.{place-inside}
 use Rattle.jc_rules.specs.Demand.{Frame as Types}
-use Rattle.jc_rules.specs.Effect.{listed}
+use Rattle.jc_rules.specs.Effect.{in_stack_order}
 use Rattle.jc_rules.specs.Rule.{result_given}
 use Rattle.jc_rules.specs.Flow.{CellsBelow, FrameBelow, IsFit}
 use Rattle.jc_rules.proofs.CellLists.{cells-length, cells-same, cells-append}
@@ -36,8 +36,8 @@ use Rattle.vm_step.specs.Methods.{of_method, code_at, max_stack_of, instruction_
 use Rattle.vm_step.specs.Raising.{Outcome, running, ends}
 use Rattle.vm_step.specs.Settled.{fault_next, is_there, fault_target, unless_fault, goes_to, jumps_to, with_new, made, entered_call, given_to}
 use Rattle.vm_sound.specs.Frames.{Typings, least_types, types_in, types_with, IsStacked, Standing, IsTypedFrame, at_next, IsWaiting, AreWaiting}
-use Rattle.vm_sound.specs.State.{IsMade, static_types, IsTypedState}
-use Rattle.vm_sound.specs.Laws.{IsSafe}
+use Rattle.vm_sound.specs.State.{CanBeMade, static_types, IsTypedState}
+use Rattle.vm_sound.specs.Laws.{IsTypedOutcome}
 use Rattle.vm_sound.proofs.CellTypes.{some-both, some-weaker, stacked-alike}
 use Rattle.vm_sound.proofs.Places.{instruction-there}
 use Rattle.vm_sound.proofs.Turns.{frame-trans}
@@ -54,17 +54,17 @@ pick-yes x y false false h k = absurd (false≢true k)
 
 -- the objects and the static fields of a typed state
 pub record IsTypedStore (w : Linked) (heap : List (Object Cell)) (statics : List Cell) : Type 0 where
-  pub made : All (IsMade w) (map (λ (o : Object Cell). o.kind) heap)
+  pub made : All (CanBeMade w) (map (λ (o : Object Cell). o.kind) heap)
   pub objects : IsTypedHeap w.classes (record { frames = []; heap = heap; statics = statics })
   pub fields : CellsHave w.classes (map (λ (o : Object Cell). o.kind) heap) statics (static_types w.statics)
 
 module _ (w : Linked) (assigned : Typings) where
   pub plain-safe : (p : Plain) (frames : List (Frame Cell)) (heap : List (Object Cell)) (statics : List Cell) → IsTypedStore w heap statics
-      → IsSafe w assigned (ends (endings.Plain p) (record { frames = frames; heap = heap; statics = statics }))
+      → IsTypedOutcome w assigned (ends (endings.Plain p) (record { frames = frames; heap = heap; statics = statics }))
   plain-safe p frames heap statics store = record { made = store.made; heap = store.objects; statics = store.fields; frames = tt }
 
-  safe-unless : (s : State Cell) (o : Option Fault) (x : Outcome Cell) → o ≡ None → IsSafe w assigned x → IsSafe w assigned (unless_fault s o x)
-  safe-unless s o x e h = subst (λ (p : Option Fault). IsSafe w assigned (unless_fault s p x)) (sym e) h
+  safe-unless : (s : State Cell) (o : Option Fault) (x : Outcome Cell) → o ≡ None → IsTypedOutcome w assigned x → IsTypedOutcome w assigned (unless_fault s o x)
+  safe-unless s o x e h = subst (λ (p : Option Fault). IsTypedOutcome w assigned (unless_fault s p x)) (sym e) h
 
   -- ---- what a typed frame has
 
@@ -123,7 +123,7 @@ module _ (w : Linked) (assigned : Typings) where
   pub goes-safe :
       (before : State Cell) (f : Frame Cell) (next : ℕ) (below : List (Frame Cell)) (heap : List (Object Cell)) (statics : List Cell)
       → IsTypedState w assigned (record { frames = record f { place = next } ∷ below; heap = heap; statics = statics })
-      → IsSafe w assigned (goes_to tagged w next before (record { frames = f ∷ below; heap = heap; statics = statics }))
+      → IsTypedOutcome w assigned (goes_to tagged w next before (record { frames = f ∷ below; heap = heap; statics = statics }))
   goes-safe before f next below heap statics typed =
       let now : State Cell = record { frames = f ∷ below; heap = heap; statics = statics } in
       let fits = has-room (map (λ (o : Object Cell). o.kind) heap) (record f { place = next }) typed.frames.0 in
@@ -133,14 +133,14 @@ module _ (w : Linked) (assigned : Typings) where
   pub jumps-safe :
       (f : Frame Cell) (to : ℕ) (below : List (Frame Cell)) (heap : List (Object Cell)) (statics : List Cell)
       → IsTypedState w assigned (record { frames = record f { place = to } ∷ below; heap = heap; statics = statics })
-      → IsSafe w assigned (jumps_to tagged w (pos to) (record { frames = f ∷ below; heap = heap; statics = statics }))
+      → IsTypedOutcome w assigned (jumps_to tagged w (pos to) (record { frames = f ∷ below; heap = heap; statics = statics }))
   jumps-safe f to below heap statics typed =
       let now : State Cell = record { frames = f ∷ below; heap = heap; statics = statics } in
       let fits = has-room (map (λ (o : Object Cell). o.kind) heap) (record f { place = to }) typed.frames.0 in
       safe-unless now (fault_target tagged w now (pos to)) (running (with_place now to))
       (target-passes f below heap statics to fits.room fits.instruction) typed
 
-  pub safe-if : (b : Bool) (x y : Outcome Cell) → IsSafe w assigned x → IsSafe w assigned y → IsSafe w assigned (if b then x else y)
+  pub safe-if : (b : Bool) (x y : Outcome Cell) → IsTypedOutcome w assigned x → IsTypedOutcome w assigned y → IsTypedOutcome w assigned (if b then x else y)
   safe-if true x y h k = h
   safe-if false x y h k = k
 
@@ -155,7 +155,7 @@ module _ (w : Linked) (assigned : Typings) where
         heap = heap ++ record { kind = kind; cells = cs } ∷ [];
         statics = statics;
       })
-      → IsSafe w assigned (made tagged w next kind cs reference (record { frames = f ∷ below; heap = heap; statics = statics }))
+      → IsTypedOutcome w assigned (made tagged w next kind cs reference (record { frames = f ∷ below; heap = heap; statics = statics }))
   makes-safe f next below heap statics kind cs reference store typed =
       let now : State Cell = record { frames = f ∷ below; heap = heap; statics = statics } in
       let top : Frame Cell = record { method = f.method; place = next; registers = f.registers; stack = reference (length heap + 1) ∷ f.stack } in
@@ -171,7 +171,7 @@ module _ (w : Linked) (assigned : Typings) where
       (f : Frame Cell) (below : List (Frame Cell)) (heap : List (Object Cell)) (statics : List Cell) (method count : ℕ)
       → IsTypedStore w heap statics
       → IsTypedState w assigned (with_call tagged w.methods (record { frames = f ∷ below; heap = heap; statics = statics }) method count)
-      → IsSafe w assigned (entered_call tagged w method count (record { frames = f ∷ below; heap = heap; statics = statics }))
+      → IsTypedOutcome w assigned (entered_call tagged w method count (record { frames = f ∷ below; heap = heap; statics = statics }))
   enters-safe f below heap statics method count store typed =
       let now : State Cell = record { frames = f ∷ below; heap = heap; statics = statics } in
       safe-if (nat_lt (length (f ∷ below)) frame_limit) (running (with_call tagged w.methods now method count)) (ends (endings.Plain TooDeep) now) typed
@@ -181,13 +181,13 @@ module _ (w : Linked) (assigned : Typings) where
   given-typed :
       (ks : List ObjectKind) (result : Option Ty) (f : Frame Cell) (value : List Cell)
       → IsWaiting w assigned ks result f
-      → CellsBelow w.classes (least_types w.classes Bottom ks (reverse value)) (listed (result_given result))
+      → CellsBelow w.classes (least_types w.classes Bottom ks (reverse value)) (in_stack_order (result_given result))
       → ((m : MethodRec) → All (IsStacked w m ks) (reverse value))
       → IsTypedFrame w assigned ks (record { method = f.method; place = (at_next w f).place; registers = f.registers; stack = reverse value ++ f.stack })
   given-typed ks result f value waits least ready =
       let next = waits.next in
-      let below : CellsBelow w.classes (least_types w.classes (assigned.unset f.method) ks (reverse value)) (listed (result_given result)) =
-      subst (λ ts. CellsBelow w.classes ts (listed (result_given result)))
+      let below : CellsBelow w.classes (least_types w.classes (assigned.unset f.method) ks (reverse value)) (in_stack_order (result_given result)) =
+      subst (λ ts. CellsBelow w.classes ts (in_stack_order (result_given result)))
       (stacked-alike w next.rec Bottom (assigned.unset f.method) ks (reverse value) (ready next.rec)) least in
       let new : List Cell = reverse value ++ f.stack in
       let exact : Types = record { regs = least_types w.classes (assigned.unset f.method) ks f.registers; stack = least_types w.classes (assigned.unset f.method) ks new } in
@@ -215,9 +215,9 @@ module _ (w : Linked) (assigned : Typings) where
       (below : List (Frame Cell)) (heap : List (Object Cell)) (statics : List Cell) (result : Option Ty) (value : Value) (cs : List Cell)
       → IsTypedStore w heap statics
       → AreWaiting w assigned (map (λ (o : Object Cell). o.kind) heap) result below
-      → CellsBelow w.classes (least_types w.classes Bottom (map (λ (o : Object Cell). o.kind) heap) (reverse cs)) (listed (result_given result))
+      → CellsBelow w.classes (least_types w.classes Bottom (map (λ (o : Object Cell). o.kind) heap) (reverse cs)) (in_stack_order (result_given result))
       → ((m : MethodRec) → All (IsStacked w m (map (λ (o : Object Cell). o.kind) heap)) (reverse cs))
-      → IsSafe w assigned (given_to tagged w value cs (record { frames = below; heap = heap; statics = statics }))
+      → IsTypedOutcome w assigned (given_to tagged w value cs (record { frames = below; heap = heap; statics = statics }))
   gives-safe [] heap statics result value cs store waits typed ready = plain-safe (Returned value) [] heap statics store
   gives-safe (f ∷ fs) heap statics result value cs store waits typed ready =
       let now : State Cell = record { frames = f ∷ fs; heap = heap; statics = statics } in

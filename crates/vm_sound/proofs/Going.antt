@@ -12,13 +12,13 @@ use Rattle.jc_ops.specs.declared.fault.RuleFault.{RuleFault}
 use Rattle.jc_ops.specs.declared.operation.Operation.{Operation}
 use Rattle.jc_ops.specs.declared.operation.Operation.TheVariants as ops
 use Rattle.jc_ops.specs.declared.operation.Constant.TheVariants as constants
-use Rattle.jc_ops.specs.Row.{table, row_at, unused, by_sort, by_width, by_kind, first_four, by_register, literals, binary, orders_all, branching}
+use Rattle.jc_ops.specs.Row.{table, row_at, unused, by_sort, by_width, by_kind, first_four, by_register, literals, binaries, orders_all, branching}
 use Rattle.jc_ops.specs.Resolve.{resolved, Resolves}
 use Rattle.jc_ops.specs.Next.{falls_from, jumps_from}
 use Rattle.jc_ops.proofs.Going.{operations-go-alike}
 
 table-length : length table ≡ 256
-unfolding table by_sort by_width by_kind first_four by_register literals binary orders_all branching unused
+unfolding table by_sort by_width by_kind first_four by_register literals binaries orders_all branching unused
 table-length = refl
 
 -- past the table nothing is an instruction

@@ -5,7 +5,7 @@ use Rattle.std.proofs.lemmas.List.Elements.{All-weaker}
 use Rattle.jc_base.specs.declared.ty.Ty.{Ty}
 use Rattle.jc_base.specs.World.{Linked}
 use Rattle.jc_rules.specs.Demand.{Frame as Types}
-use Rattle.jc_rules.specs.Effect.{listed}
+use Rattle.jc_rules.specs.Effect.{in_stack_order}
 use Rattle.jc_rules.specs.Rule.{result_given}
 use Rattle.jc_rules.specs.Flow.{CellsBelow, FrameBelow}
 use Rattle.jc_rules.proofs.CellLists.{cells-same, cells-trans, cells-append}
@@ -31,7 +31,7 @@ module _ (w : Linked) (assigned : Typings) (ks more : List ObjectKind) where
             (λ g b. record {
               regs = cells-trans w.classes (types-fall w.classes (assigned.unset f.method) ks more f.registers) b.regs;
               stack = cells-trans w.classes
-                  (cells-append w.classes (cells-same w.classes (listed (result_given result))) (types-fall w.classes (assigned.unset f.method) ks more f.stack)) b.stack;
+                  (cells-append w.classes (cells-same w.classes (in_stack_order (result_given result))) (types-fall w.classes (assigned.unset f.method) ks more f.stack)) b.stack;
             })
             ((assigned.frames f.method) (at_next w f).place) waits.below;
         stacked = All-weaker (IsStacked w next.rec ks) (IsStacked w next.rec (ks ++ more)) (stacked-falls w next.rec ks more) f.stack waits.stacked;

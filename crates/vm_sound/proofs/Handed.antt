@@ -48,16 +48,16 @@ use Rattle.vm_step.specs.declared.exception.Exception.{Exception}
 use Rattle.vm_step.specs.declared.exception.Exception.TheVariants as exceptions
 use Rattle.vm_step.specs.Act.{Act, goes, jumps, makes, calls, gives, raises, throws, lacks, unless_null, if_some}
 use Rattle.vm_step.specs.Branching.{leads_if, is_taken, branch_width}
-use Rattle.vm_step.specs.Fields.{at_element, elements_of, index_in, keeps_kind, with_element, held_handle, with_field_read, with_field_write}
+use Rattle.vm_step.specs.Fields.{at_element, elements_of, element_index, keeps_kind, with_element, held_handle, with_field_read, with_field_write}
 use Rattle.vm_step.specs.Numbers.{handle_at, short_at, replaced, dropped, number_cells}
-use Rattle.vm_step.specs.Calls.{args_of, class_in, made_at, readied, served, served_act, interface_act, call_act, chosen_act, return_act}
+use Rattle.vm_step.specs.Calls.{args_of, class_with_methods, made_at, readied, served, served_act, interface_act, call_act, chosen_act, return_act}
 use Rattle.vm_step.specs.Methods.{of_method}
 use Rattle.vm_step.specs.Objects.{array_of_count, kind_of_type, may_cast, type_test_act}
 use Rattle.vm_step.specs.Values.{arithmetic_act, binary, both_widths}
 use Rattle.vm_step.specs.Performed.{act}
 use Rattle.vm_step.specs.Step.{Fetches}
 use Rattle.vm_sound.specs.Frames.{Typings}
-use Rattle.vm_sound.specs.State.{IsMade, IsTypedState}
+use Rattle.vm_sound.specs.State.{CanBeMade, IsTypedState}
 use Rattle.vm_sound.specs.Laws.{AreTypings}
 use Rattle.vm_sound.specs.Handed.{nargs_of, OnlyCallsCall, CallsHandAll}
 use Rattle.vm_sound.proofs.Calling.{args-below, receiver-at}
@@ -133,13 +133,13 @@ call-or-none (ops.Move move) = calls_none (λ w i s. tt)
 call-or-none (ops.Arithmetic a) = calls_none (λ w i s. arithmetic-calls-none a s)
 call-or-none (ops.ArrayRead kind) = calls_none (λ w i s. null-calls-none (handle_at tagged (top s).stack 1)
     (λ h. at_element (short_at tagged (top s).stack 0) (elements_of s h) (λ i. goes (replaced s 2 (value_in tagged kind (object_cells s h) (i * width kind)))))
-    (λ h. some-calls-none exceptions.ArrayIndex (index_in (short_at tagged (top s).stack 0) (elements_of s h))
+    (λ h. some-calls-none exceptions.ArrayIndex (element_index (short_at tagged (top s).stack 0) (elements_of s h))
     (λ i. goes (replaced s 2 (value_in tagged kind (object_cells s h) (i * width kind)))) (λ n. tt {0})))
 call-or-none (ops.ArrayWrite kind) =
     calls_none (λ w i s. null-calls-none (handle_at tagged (top s).stack (width kind + 1))
     (λ h. at_element (short_at tagged (top s).stack (width kind)) (elements_of s h)
     (λ i. if keeps_kind tagged w.classes kind s h then goes (with_element tagged kind h i s) else raises exceptions.ArrayStore))
-    (λ h. some-calls-none exceptions.ArrayIndex (index_in (short_at tagged (top s).stack (width kind)) (elements_of s h))
+    (λ h. some-calls-none exceptions.ArrayIndex (element_index (short_at tagged (top s).stack (width kind)) (elements_of s h))
     (λ i. if keeps_kind tagged w.classes kind s h then goes (with_element tagged kind h i s) else raises exceptions.ArrayStore)
     (λ i. either-calls-none (keeps_kind tagged w.classes kind s h) (goes (with_element tagged kind h i s)) (raises exceptions.ArrayStore) (tt {0}) (tt {0}))))
 call-or-none ops.ArrayLength =
@@ -287,25 +287,25 @@ module _ (w : Linked) (world : IsWorld w) where
 
             virtual-handed :
                 (k count : ℕ) (y : State Cell) (token : ℕ) → IsVirtualCall w n m receiver c token → (handle ≡ 0 → ⊥)
-                → calls (unwrap_or (dispatched w.classes c token (class_in w.classes (kind_of_handle (kinds_of heap) handle))) n) (args_of w n + 1) now ≡ calls k count y
+                → calls (unwrap_or (dispatched w.classes c token (class_with_methods w.classes (kind_of_handle (kinds_of heap) handle))) n) (args_of w n + 1) now ≡ calls k count y
                 → length (arguments count (top y).stack) ≡ nargs_of w k
             virtual-handed k count y token call some e =
                 let o = its-object some in
                 elim (instance-or-array o.object.kind) [
                   | inl found ↦
-                      let made : IsMade w o.object.kind = made-at w (kinds_of heap) handle o.object.kind here.store.made o.kind_is in
-                      let concrete : IsConcrete w.classes w.methods found.0 = subst (IsMade w) found.1 made in
+                      let made : CanBeMade w o.object.kind = made-at w (kinds_of heap) handle o.object.kind here.store.made o.kind_is in
+                      let concrete : IsConcrete w.classes w.methods found.0 = subst (CanBeMade w) found.1 made in
                       let lower : Below w.classes (Class found.0) (Class c) = subst (λ k. Below w.classes (type_of_kind w.classes k) (Class c)) found.1 o.below in
                       let d = dispatch-runs w world c token found.0 n m concrete lower call.entry method in
-                      let chosen : unwrap_or (dispatched w.classes c token (class_in w.classes (kind_of_handle (kinds_of heap) handle))) n ≡ d.method =
-                      ap (λ k. unwrap_or (dispatched w.classes c token (class_in w.classes k)) n) (o.kind_is ∙ ap Some found.1) ∙ ap (λ x. unwrap_or x n) d.found in
+                      let chosen : unwrap_or (dispatched w.classes c token (class_with_methods w.classes (kind_of_handle (kinds_of heap) handle))) n ≡ d.method =
+                      ap (λ k. unwrap_or (dispatched w.classes c token (class_with_methods w.classes k)) n) (o.kind_is ∙ ap Some found.1) ∙ ap (λ x. unwrap_or x n) d.found in
                       run-handed k count y found.0 d.method d.runs (ap (λ j. calls j (args_of w n + 1) now) (sym chosen) ∙ e)
                   | inr array ↦
                       let object_is : c ≡ object w.classes = array-object w.classes o.object.kind c array (is_below-from_Below w.classes world.chains o.below) in
                       let entry : dispatched w.classes c token (object w.classes) ≡ Some n =
                       subst (λ x. dispatched w.classes c token x ≡ Some n) object_is (own-dispatched w.classes c token ∙ call.entry) in
-                      let chosen : unwrap_or (dispatched w.classes c token (class_in w.classes (kind_of_handle (kinds_of heap) handle))) n ≡ n =
-                      ap (λ k. unwrap_or (dispatched w.classes c token (class_in w.classes k)) n) o.kind_is
+                      let chosen : unwrap_or (dispatched w.classes c token (class_with_methods w.classes (kind_of_handle (kinds_of heap) handle))) n ≡ n =
+                      ap (λ k. unwrap_or (dispatched w.classes c token (class_with_methods w.classes k)) n) o.kind_is
                       ∙ (ap (λ x. unwrap_or (dispatched w.classes c token x) n) (array-class w.classes o.object.kind array) ∙ ap (λ x. unwrap_or x n) entry) in
                       whole k count y n m now (Value (Class c)) wants method refl call.inherited.dynamic refl (ap (λ j. calls j (args_of w n + 1) now) (sym chosen) ∙ e)
                 ]
@@ -326,8 +326,8 @@ module _ (w : Linked) (world : IsWorld w) where
                 let o = its-object some in
                 elim (instance-or-array o.object.kind) [
                   | inl found ↦
-                      let made : IsMade w o.object.kind = made-at w (kinds_of heap) handle o.object.kind here.store.made o.kind_is in
-                      served-handed k count y interface token found.0 (served w.classes interface token found.0) refl (subst (IsMade w) found.1 made) class at
+                      let made : CanBeMade w o.object.kind = made-at w (kinds_of heap) handle o.object.kind here.store.made o.kind_is in
+                      served-handed k count y interface token found.0 (served w.classes interface token found.0) refl (subst (CanBeMade w) found.1 made) class at
                       (ap (λ k. interface_act w.classes interface token (args_of w n + 1) k now) (sym (o.kind_is ∙ ap Some found.1)) ∙ e)
                   | inr array ↦
                       let none : lacks (object w.classes) ≡ calls k count y =
@@ -350,10 +350,10 @@ module _ (w : Linked) (world : IsWorld w) where
       chosen-handed n receiver (choices.Virtual c token) m is method chosen k count y e =
           let few : args_of w n ≡ length m.sig.args = counted n receiver (choices.Virtual c token) m is method in
           let rest = null-calls (word_of (slice_index_or f.stack (args_of w n) cells.Empty))
-          (λ h. calls (unwrap_or (dispatched w.classes c token (class_in w.classes (kind_of_handle (kinds_of heap) h))) n) (args_of w n + 1) now) k count y e in
+          (λ h. calls (unwrap_or (dispatched w.classes c token (class_with_methods w.classes (kind_of_handle (kinds_of heap) h))) n) (args_of w n + 1) now) k count y e in
           virtual-handed n receiver (choices.Virtual c token) m is method c chosen.receiver_is k count y token chosen
           (subst (λ j. word_of (slice_index_or f.stack j cells.Empty) ≡ 0 → ⊥) few rest.0)
-          (subst (λ j. calls (unwrap_or (dispatched w.classes c token (class_in w.classes (kind_of_handle (kinds_of heap) (word_of (slice_index_or f.stack j cells.Empty))))) n) (args_of w n + 1) now ≡ calls k count y) few rest.1)
+          (subst (λ j. calls (unwrap_or (dispatched w.classes c token (class_with_methods w.classes (kind_of_handle (kinds_of heap) (word_of (slice_index_or f.stack j cells.Empty))))) n) (args_of w n + 1) now ≡ calls k count y) few rest.1)
       chosen-handed n receiver (choices.Interface c token words) m is method chosen k count y e =
           let few : args_of w n ≡ length m.sig.args = counted n receiver (choices.Interface c token words) m is method in
           let rest = null-calls (word_of (slice_index_or f.stack (args_of w n) cells.Empty))

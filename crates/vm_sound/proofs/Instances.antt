@@ -15,31 +15,31 @@ use Rattle.jc_base.proofs.Subtypes.{Below-from_is_below}
 use Rattle.jc_rules.specs.Rule.{seen}
 use Rattle.vm_store.specs.declared.kind.ObjectKind.{ObjectKind}
 use Rattle.vm_store.specs.declared.kind.ObjectKind.TheVariants.{Instance, Booleans, Bytes, Shorts, Ints, References}
-use Rattle.vm_store.specs.Kind.{kind_of_handle, type_of_kind, seen_class}
+use Rattle.vm_store.specs.Kind.{kind_of_handle, type_of_kind, class_in_types}
 use Rattle.vm_instance.specs.Instance.{is_subtype, is_instance}
-use Rattle.vm_sound.specs.State.{IsMade}
+use Rattle.vm_sound.specs.State.{CanBeMade}
 
 -- each object of a typed state is one that can be made
-pub made-at : (w : Linked) (ks : List ObjectKind) (h : ℕ) (k : ObjectKind) → All (IsMade w) ks → kind_of_handle ks h ≡ Some k → IsMade w k
+pub made-at : (w : Linked) (ks : List ObjectKind) (h : ℕ) (k : ObjectKind) → All (CanBeMade w) ks → kind_of_handle ks h ≡ Some k → CanBeMade w k
 made-at w ks zero k all e = absurd (none-some k e)
-made-at w ks (suc h) k all e = All-slice_get (IsMade w) ks h k all e
+made-at w ks (suc h) k all e = All-slice_get (CanBeMade w) ks h k all e
 
 module _ (t : ClassTable) (are : AreClasses t) where
-  seen-by : (c : ℕ) (b : Bool) → is_interface t c ≡ b → (if b then object t else c) ≡ seen_class t c
+  seen-by : (c : ℕ) (b : Bool) → is_interface t c ≡ b → (if b then object t else c) ≡ class_in_types t c
   seen-by c b e = ap (λ x. if x then object t else c) (sym e)
 
   -- the class that stands for a class or an interface of the table is a class
-  seen-class : (c : ℕ) → c < length t.records → IsClass t (seen_class t c)
+  seen-class : (c : ℕ) → c < length t.records → IsClass t (class_in_types t c)
   seen-class c lt = go (is_interface t c) refl
     where
       go : (b : Bool) → is_interface t c ≡ b → IsClass t (if b then object t else c)
       go true e = are.objects
       go false e = record { number = lt; class = e }
 
-  pub seen-itself : (c : ℕ) → IsClass t c → c ≡ seen_class t c
+  pub seen-itself : (c : ℕ) → IsClass t c → c ≡ class_in_types t c
   seen-itself c is = seen-by c false is.class
 
-  object-seen : object t ≡ seen_class t (object t)
+  object-seen : object t ≡ class_in_types t (object t)
   object-seen = seen-itself (object t) are.objects
 
   -- of two classes or interfaces by number
@@ -53,19 +53,19 @@ module _ (t : ClassTable) (are : AreClasses t) where
   sub-below c d true false lt i j h = subst (λ x. Below t (Class (object t)) (Class x)) (sym (eqb-true d (object t) h)) same
   sub-below c d false false lt i j h = Below-from_is_below t are (Class c) (Class d) h
 
-  pub subtype-below : (c d : ℕ) → c < length t.records → is_subtype t c d ≡ true → Below t (Class (seen_class t c)) (Class (seen_class t d))
+  pub subtype-below : (c d : ℕ) → c < length t.records → is_subtype t c d ≡ true → Below t (Class (class_in_types t c)) (Class (class_in_types t d))
   subtype-below c d lt h = sub-below c d (is_interface t c) (is_interface t d) lt refl refl h
 
-  object-below : (k : ObjectKind) (d : ℕ) → Below t (type_of_kind t k) (Class (object t)) → (d == object t) ≡ true → Below t (type_of_kind t k) (Class (seen_class t d))
+  object-below : (k : ObjectKind) (d : ℕ) → Below t (type_of_kind t k) (Class (object t)) → (d == object t) ≡ true → Below t (type_of_kind t k) (Class (class_in_types t d))
   object-below k d b h =
-      let e : object t ≡ seen_class t d = object-seen ∙ ap (seen_class t) (sym (eqb-true d (object t) h)) in
+      let e : object t ≡ class_in_types t d = object-seen ∙ ap (class_in_types t) (sym (eqb-true d (object t) h)) in
       subst (λ x. Below t (type_of_kind t k) (Class x)) e b
 
 -- an object that can be made
 pub instance-below :
-    (w : Linked) → AreClasses w.classes → (k : ObjectKind) (ty : Ty) → IsMade w k → is_instance w.classes k ty ≡ true → Below w.classes (type_of_kind w.classes k) (seen w.classes ty)
+    (w : Linked) → AreClasses w.classes → (k : ObjectKind) (ty : Ty) → CanBeMade w k → is_instance w.classes k ty ≡ true → Below w.classes (type_of_kind w.classes k) (seen w.classes ty)
 instance-below w are (Instance c) (Class d) made h =
-    subst (λ x. Below w.classes (Class x) (Class (seen_class w.classes d))) (sym (seen-itself w.classes are c made.class)) (subtype-below w.classes are c d made.class.number h)
+    subst (λ x. Below w.classes (Class x) (Class (class_in_types w.classes d))) (sym (seen-itself w.classes are c made.class)) (subtype-below w.classes are c d made.class.number h)
 instance-below w are (References c) (ArrRef d) made h = array_array (subtype-below w.classes are c d made h)
 instance-below w are (References c) (Class d) made h = object-below w.classes are (References c) d (array_object of_references refl) h
 instance-below w are Booleans (Class d) made h = object-below w.classes are Booleans d (array_object of_booleans refl) h

@@ -29,11 +29,11 @@ use Rattle.vm_store.specs.Cells.{tagged, word_of}
 use Rattle.vm_store.specs.State.{Frame, Object, State}
 use Rattle.vm_step.specs.declared.ending.Plain.TheVariants.{InterfaceMissing}
 use Rattle.vm_step.specs.Act.{calls, lacks, unless_null}
-use Rattle.vm_step.specs.Calls.{args_of, class_in, served, made_at, readied, served_act, interface_act}
+use Rattle.vm_step.specs.Calls.{args_of, class_with_methods, served, made_at, readied, served_act, interface_act}
 use Rattle.vm_step.specs.Settled.{entered_call, settled}
 use Rattle.vm_sound.specs.Frames.{Typings, least_types}
-use Rattle.vm_sound.specs.State.{IsMade}
-use Rattle.vm_sound.specs.Laws.{IsSafe, AreTypings}
+use Rattle.vm_sound.specs.State.{CanBeMade}
+use Rattle.vm_sound.specs.Laws.{IsTypedOutcome, AreTypings}
 use Rattle.vm_sound.proofs.CellTypes.{filled-same}
 use Rattle.vm_sound.proofs.Dispatching.{RunsFor, own-dispatched, class-code, dispatch-runs, served-runs}
 use Rattle.vm_sound.proofs.Finish.{plain-safe}
@@ -54,7 +54,7 @@ instance-or-array Ints = inr (tt {0})
 instance-or-array (References c) = inr (tt {0})
 
 -- an array has the methods of class object, and is below it alone
-pub array-class : (t : ClassTable) (k : ObjectKind) → IsArrayKind k → class_in t (Some k) ≡ object t
+pub array-class : (t : ClassTable) (k : ObjectKind) → IsArrayKind k → class_with_methods t (Some k) ≡ object t
 array-class t (Instance d) h = absurd h
 array-class t Booleans h = refl
 array-class t Bytes h = refl
@@ -102,14 +102,14 @@ module _ (w : Linked) (world : IsWorld w) (assigned : Typings) (typings : AreTyp
 
           run : (k : ℕ) (o : MethodRec) → slice_get w.methods k ≡ Some o → lacks_code w.classes o ≡ false → o.sig ≡ m.sig → o.is_static ≡ false
               → Below w.classes (least_type w.classes (assigned.unset f.method) (kinds_of heap) (slice_index_or f.stack (length m.sig.args) cells.Empty)) (Class o.class)
-              → IsSafe w assigned (entered_call tagged w k (args_of w n + 1) (record { frames = f ∷ below; heap = heap; statics = statics }))
+              → IsTypedOutcome w assigned (entered_call tagged w k (args_of w n + 1) (record { frames = f ∷ below; heap = heap; statics = statics }))
           run k o there code_is sig dynamic receives =
               run-safe w world assigned typings f below heap statics here n receiver choice m is method (Value (Class c)) wants k o there code_is sig dynamic
               (ready-value (length m.sig.args + 1) (result_given m.sig.result) (cell (least_types w.classes (assigned.unset f.method) (kinds_of heap) f.stack) (length m.sig.args)) (Class c)) receives
 
           run-for : (r k : ℕ) (kind : ObjectKind) → kind ≡ Instance r → RunsFor w r k m.sig
               → least_type w.classes (assigned.unset f.method) (kinds_of heap) (slice_index_or f.stack (length m.sig.args) cells.Empty) ≡ type_of_kind w.classes kind
-              → IsSafe w assigned (entered_call tagged w k (args_of w n + 1) (record { frames = f ∷ below; heap = heap; statics = statics }))
+              → IsTypedOutcome w assigned (entered_call tagged w k (args_of w n + 1) (record { frames = f ∷ below; heap = heap; statics = statics }))
           run-for r k kind kind_is runs type_is =
               run k runs.rec runs.is_method runs.code runs.sig_is runs.dynamic
               (subst (λ a. Below w.classes a (Class runs.rec.class)) (sym (type_is ∙ ap (type_of_kind w.classes) kind_is)) runs.receives)
@@ -117,40 +117,40 @@ module _ (w : Linked) (world : IsWorld w) (assigned : Typings) (typings : AreTyp
           -- by the class of the object
           dispatched-safe :
               (token : ℕ) → IsVirtualCall w n m receiver c token → (o : IsObject w.classes heap (word_of (slice_index_or f.stack (length m.sig.args) cells.Empty)) (Class c))
-              → IsSafe w assigned (entered_call tagged w
-              (unwrap_or (dispatched w.classes c token (class_in w.classes (kind_of_handle (kinds_of heap) (word_of (slice_index_or f.stack (length m.sig.args) cells.Empty))))) n)
+              → IsTypedOutcome w assigned (entered_call tagged w
+              (unwrap_or (dispatched w.classes c token (class_with_methods w.classes (kind_of_handle (kinds_of heap) (word_of (slice_index_or f.stack (length m.sig.args) cells.Empty))))) n)
               (args_of w n + 1) (record { frames = f ∷ below; heap = heap; statics = statics }))
           dispatched-safe token call o = elim (instance-or-array o.object.kind) [
             | inl found ↦
-                let made : IsMade w o.object.kind = made-at w (kinds_of heap) (word_of (slice_index_or f.stack (length m.sig.args) cells.Empty)) o.object.kind here.store.made o.kind_is in
-                let concrete : IsConcrete w.classes w.methods found.0 = subst (IsMade w) found.1 made in
+                let made : CanBeMade w o.object.kind = made-at w (kinds_of heap) (word_of (slice_index_or f.stack (length m.sig.args) cells.Empty)) o.object.kind here.store.made o.kind_is in
+                let concrete : IsConcrete w.classes w.methods found.0 = subst (CanBeMade w) found.1 made in
                 let lower : Below w.classes (Class found.0) (Class c) = subst (λ k. Below w.classes (type_of_kind w.classes k) (Class c)) found.1 o.below in
                 let d = dispatch-runs w world c token found.0 n m concrete lower call.entry method in
-                let chosen : unwrap_or (dispatched w.classes c token (class_in w.classes (kind_of_handle (kinds_of heap) (word_of (slice_index_or f.stack (length m.sig.args) cells.Empty))))) n ≡ d.method =
-                ap (λ k. unwrap_or (dispatched w.classes c token (class_in w.classes k)) n) (o.kind_is ∙ ap Some found.1) ∙ ap (λ x. unwrap_or x n) d.found in
-                subst (λ k. IsSafe w assigned (entered_call tagged w k (args_of w n + 1) (record { frames = f ∷ below; heap = heap; statics = statics }))) (sym chosen)
+                let chosen : unwrap_or (dispatched w.classes c token (class_with_methods w.classes (kind_of_handle (kinds_of heap) (word_of (slice_index_or f.stack (length m.sig.args) cells.Empty))))) n ≡ d.method =
+                ap (λ k. unwrap_or (dispatched w.classes c token (class_with_methods w.classes k)) n) (o.kind_is ∙ ap Some found.1) ∙ ap (λ x. unwrap_or x n) d.found in
+                subst (λ k. IsTypedOutcome w assigned (entered_call tagged w k (args_of w n + 1) (record { frames = f ∷ below; heap = heap; statics = statics }))) (sym chosen)
                 (run-for found.0 d.method o.object.kind found.1 d.runs (own-type o))
             | inr array ↦
                 let object_is : c ≡ object w.classes = array-object w.classes o.object.kind c array (is_below-from_Below w.classes world.chains o.below) in
                 let entry : dispatched w.classes c token (object w.classes) ≡ Some n =
                 subst (λ x. dispatched w.classes c token x ≡ Some n) object_is (own-dispatched w.classes c token ∙ call.entry) in
-                let chosen : unwrap_or (dispatched w.classes c token (class_in w.classes (kind_of_handle (kinds_of heap) (word_of (slice_index_or f.stack (length m.sig.args) cells.Empty))))) n ≡ n =
-                ap (λ k. unwrap_or (dispatched w.classes c token (class_in w.classes k)) n) o.kind_is
+                let chosen : unwrap_or (dispatched w.classes c token (class_with_methods w.classes (kind_of_handle (kinds_of heap) (word_of (slice_index_or f.stack (length m.sig.args) cells.Empty))))) n ≡ n =
+                ap (λ k. unwrap_or (dispatched w.classes c token (class_with_methods w.classes k)) n) o.kind_is
                 ∙ (ap (λ x. unwrap_or (dispatched w.classes c token x) n) (array-class w.classes o.object.kind array) ∙ ap (λ x. unwrap_or x n) entry) in
-                subst (λ k. IsSafe w assigned (entered_call tagged w k (args_of w n + 1) (record { frames = f ∷ below; heap = heap; statics = statics }))) (sym chosen)
+                subst (λ k. IsTypedOutcome w assigned (entered_call tagged w k (args_of w n + 1) (record { frames = f ∷ below; heap = heap; statics = statics }))) (sym chosen)
                 (run n m method (class-code w world c m call.class call.inherited.class (call.body object_is)) refl call.inherited.dynamic (joined under call.inherited.class))
           ]
 
           pub virtual-safe :
               (token next : ℕ) → IsVirtualCall w n m receiver c token
-              → IsSafe w assigned (settled tagged w next (record { frames = f ∷ below; heap = heap; statics = statics })
+              → IsTypedOutcome w assigned (settled tagged w next (record { frames = f ∷ below; heap = heap; statics = statics })
               (unless_null (word_of (slice_index_or f.stack (length m.sig.args) cells.Empty))
-              (λ h. calls (unwrap_or (dispatched w.classes c token (class_in w.classes (kind_of_handle (kinds_of heap) h))) n) (args_of w n + 1)
+              (λ h. calls (unwrap_or (dispatched w.classes c token (class_with_methods w.classes (kind_of_handle (kinds_of heap) h))) n) (args_of w n + 1)
               (record { frames = f ∷ below; heap = heap; statics = statics }))))
           virtual-safe token next call =
               let h : ℕ = word_of (slice_index_or f.stack (length m.sig.args) cells.Empty) in
               null-safe w world assigned f below heap statics here next h
-              (λ h. calls (unwrap_or (dispatched w.classes c token (class_in w.classes (kind_of_handle (kinds_of heap) h))) n) (args_of w n + 1)
+              (λ h. calls (unwrap_or (dispatched w.classes c token (class_with_methods w.classes (kind_of_handle (kinds_of heap) h))) n) (args_of w n + 1)
               (record { frames = f ∷ below; heap = heap; statics = statics }))
               (λ some. dispatched-safe token call
               (handle-object w.classes world.chains heap h (Class c) tt some
@@ -160,7 +160,7 @@ module _ (w : Linked) (world : IsWorld w) (assigned : Typings) (typings : AreTyp
           served-safe :
               (interface token next r h : ℕ) (o : Option ℕ) → served w.classes interface token r ≡ o → IsConcrete w.classes w.methods r → m.class ≡ interface → m.token ≡ token
               → least_type w.classes (assigned.unset f.method) (kinds_of heap) (slice_index_or f.stack (length m.sig.args) cells.Empty) ≡ type_of_kind w.classes (Instance r)
-              → IsSafe w assigned (settled tagged w next (record { frames = f ∷ below; heap = heap; statics = statics })
+              → IsTypedOutcome w assigned (settled tagged w next (record { frames = f ∷ below; heap = heap; statics = statics })
               (served_act o r (args_of w n + 1) (record { frames = f ∷ below; heap = heap; statics = statics })))
           served-safe interface token next r h None e concrete class at type_is = plain-safe w assigned (InterfaceMissing r) (f ∷ below) heap statics here.store
           served-safe interface token next r h (Some k) e concrete class at type_is =
@@ -168,7 +168,7 @@ module _ (w : Linked) (world : IsWorld w) (assigned : Typings) (typings : AreTyp
 
           pub interface-safe :
               (interface token next : ℕ) → m.class ≡ interface → m.token ≡ token
-              → IsSafe w assigned (settled tagged w next (record { frames = f ∷ below; heap = heap; statics = statics })
+              → IsTypedOutcome w assigned (settled tagged w next (record { frames = f ∷ below; heap = heap; statics = statics })
               (unless_null (word_of (slice_index_or f.stack (length m.sig.args) cells.Empty))
               (λ h. interface_act w.classes interface token (args_of w n + 1) (kind_of_handle (kinds_of heap) h) (record { frames = f ∷ below; heap = heap; statics = statics }))))
           interface-safe interface token next class at =
@@ -181,12 +181,12 @@ module _ (w : Linked) (world : IsWorld w) (assigned : Typings) (typings : AreTyp
               (reference-handle w.classes world.chains (assigned.unset f.method) (kinds_of heap) (slice_index_or f.stack (length m.sig.args) cells.Empty) (Class c) tt under) in
               elim (instance-or-array o.object.kind) [
                 | inl found ↦
-                    let made : IsMade w o.object.kind = made-at w (kinds_of heap) h o.object.kind here.store.made o.kind_is in
-                    subst (λ k. IsSafe w assigned (settled tagged w next now (interface_act w.classes interface token (args_of w n + 1) k now))) (sym (o.kind_is ∙ ap Some found.1))
-                    (served-safe interface token next found.0 h (served w.classes interface token found.0) refl (subst (IsMade w) found.1 made) class at
+                    let made : CanBeMade w o.object.kind = made-at w (kinds_of heap) h o.object.kind here.store.made o.kind_is in
+                    subst (λ k. IsTypedOutcome w assigned (settled tagged w next now (interface_act w.classes interface token (args_of w n + 1) k now))) (sym (o.kind_is ∙ ap Some found.1))
+                    (served-safe interface token next found.0 h (served w.classes interface token found.0) refl (subst (CanBeMade w) found.1 made) class at
                     (own-type o ∙ ap (type_of_kind w.classes) found.1))
                 | inr array ↦
-                    subst (λ a. IsSafe w assigned (settled tagged w next now a))
+                    subst (λ a. IsTypedOutcome w assigned (settled tagged w next now a))
                     (sym (ap (λ k. interface_act w.classes interface token (args_of w n + 1) k now) o.kind_is ∙ array-lacks w.classes interface token (args_of w n + 1) o.object.kind now array))
                     (plain-safe w assigned (InterfaceMissing (object w.classes)) (f ∷ below) heap statics here.store)
               ])
@@ -196,14 +196,14 @@ module _ (w : Linked) (world : IsWorld w) (assigned : Typings) (typings : AreTyp
         -- what is readied before it
         readied-safe :
             (o : Option ℕ) (place : Option ℕ) → place ≡ o
-            → IsSafe w assigned (entered_call tagged w n (args_of w n + 1) (readied tagged (record { frames = f ∷ below; heap = heap; statics = statics }) o))
-            → IsSafe w assigned (entered_call tagged w n (args_of w n + 1) (readied tagged (record { frames = f ∷ below; heap = heap; statics = statics }) place))
+            → IsTypedOutcome w assigned (entered_call tagged w n (args_of w n + 1) (readied tagged (record { frames = f ∷ below; heap = heap; statics = statics }) o))
+            → IsTypedOutcome w assigned (entered_call tagged w n (args_of w n + 1) (readied tagged (record { frames = f ∷ below; heap = heap; statics = statics }) place))
         readied-safe o place e h =
-            subst (λ p. IsSafe w assigned (entered_call tagged w n (args_of w n + 1) (readied tagged (record { frames = f ∷ below; heap = heap; statics = statics }) p))) (sym e) h
+            subst (λ p. IsTypedOutcome w assigned (entered_call tagged w n (args_of w n + 1) (readied tagged (record { frames = f ∷ below; heap = heap; statics = statics }) p))) (sym e) h
 
         pub named-safe :
             (want : Want) → receiver ≡ Some want → lacks_code w.classes m ≡ false → m.is_static ≡ false → IsReceiverOf w m (Some want)
-            → IsSafe w assigned (entered_call tagged w n (args_of w n + 1)
+            → IsTypedOutcome w assigned (entered_call tagged w n (args_of w n + 1)
             (readied tagged (record { frames = f ∷ below; heap = heap; statics = statics })
             (made_at (Some want) (least_type w.classes Bottom (kinds_of heap) (slice_index_or f.stack (length m.sig.args) cells.Empty)))))
         named-safe (Value (Class c)) wants code_is dynamic receives =

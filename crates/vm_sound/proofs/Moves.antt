@@ -11,7 +11,7 @@ use Rattle.jc_ops.specs.declared.operation.Operation.TheVariants as ops
 use Rattle.jc_ops.specs.Next.{falls_from}
 use Rattle.jc_rules.specs.declared.effect.Effect.{Effect}
 use Rattle.jc_rules.specs.declared.effect.Mode.TheVariants.{Flow}
-use Rattle.jc_rules.specs.Effect.{changed, Stores}
+use Rattle.jc_rules.specs.Effect.{changed, StoresInRegisters}
 use Rattle.jc_rules.specs.Rule.{on_stack, move_effect, effect}
 use Rattle.jc_rules.specs.Flow.{CellsBelow}
 use Rattle.jc_rules.proofs.CellLists.{cells-same}
@@ -22,7 +22,7 @@ use Rattle.vm_store.specs.State.{Frame, Object, rotated}
 use Rattle.vm_step.specs.Values.{moved, with_move}
 use Rattle.vm_step.specs.Settled.{goes_to}
 use Rattle.vm_sound.specs.Frames.{Typings, least_types, types_in, IsStacked}
-use Rattle.vm_sound.specs.Laws.{IsSafe}
+use Rattle.vm_sound.specs.Laws.{IsTypedOutcome}
 use Rattle.vm_sound.proofs.Handles.{kinds_of}
 use Rattle.vm_sound.proofs.Turning.{Here, on-safe}
 
@@ -79,7 +79,7 @@ module _ (w : Linked) (world : IsWorld w) (assigned : Typings) (f : Frame Cell) 
   where
     pub move-safe :
         (m : Move) → here.turn.operation ≡ ops.Move m
-        → IsSafe w assigned (goes_to tagged w (here.turn.stands.instruction.place + here.turn.stands.instruction.insn.len) (record { frames = f ∷ below; heap = heap; statics = statics })
+        → IsTypedOutcome w assigned (goes_to tagged w (here.turn.stands.instruction.place + here.turn.stands.instruction.insn.len) (record { frames = f ∷ below; heap = heap; statics = statics })
         (with_move m (record { frames = f ∷ below; heap = heap; statics = statics })))
     move-safe m is =
         let ks = kinds_of heap in
@@ -88,7 +88,7 @@ module _ (w : Linked) (world : IsWorld w) (assigned : Typings) (f : Frame Cell) 
         let after = here.turn.after in
         let e : effect w here.turn.operation exact ≡ on_stack (move_effect m).change = ap (λ o. effect w o exact) is ∙ on-stack-alone m in
         let stack_is : after.stack ≡ changed (move_effect m).change exact.stack = a.stack ∙ ap (λ (z : Effect). changed z.change exact.stack) e in
-        let regs_are : after.regs ≡ exact.regs = subst (λ (z : Effect). Stores w.classes Flow z.store exact.regs after.regs) e a.regs in
+        let regs_are : after.regs ≡ exact.regs = subst (λ (z : Effect). StoresInRegisters w.classes Flow z.store exact.regs after.regs) e a.regs in
         let stack_now : least_types w.classes (assigned.unset f.method) ks (moved m f.stack) ≡ after.stack = moved-types (least_type w.classes (assigned.unset f.method) ks) m f.stack ∙ sym stack_is in
         on-safe w world assigned f below heap statics here f.registers (moved m f.stack) heap statics (ap falls_from is)
         (record {

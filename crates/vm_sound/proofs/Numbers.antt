@@ -27,7 +27,7 @@ use Rattle.vm_step.specs.Numbers.{short_at, int_on, number_on, number_cells, rep
 use Rattle.vm_step.specs.Values.{with_constant, binary, negated, computed, arithmetic_act}
 use Rattle.vm_step.specs.Settled.{goes_to, settled}
 use Rattle.vm_sound.specs.Frames.{Typings, types_in, IsStacked}
-use Rattle.vm_sound.specs.Laws.{IsSafe}
+use Rattle.vm_sound.specs.Laws.{IsTypedOutcome}
 use Rattle.vm_sound.proofs.Handles.{kinds_of}
 use Rattle.vm_sound.proofs.Cells.{one-stacked, two-stacked}
 use Rattle.vm_sound.proofs.Turning.{Here, replace-safe, some-safe}
@@ -39,7 +39,7 @@ module _ (w : Linked) (world : IsWorld w) (assigned : Typings) (f : Frame Cell) 
     number-safe :
         (taken : ℕ) (width : Width) (n : ℤ) (op : Operation)
         → here.turn.operation ≡ op → effect w op (types_in w.classes (assigned.unset f.method) (kinds_of heap) f) ≡ replacing taken (number_given width) → falls_from op ≡ true
-        → IsSafe w assigned (goes_to tagged w (here.turn.stands.instruction.place + here.turn.stands.instruction.insn.len) (record { frames = f ∷ below; heap = heap; statics = statics })
+        → IsTypedOutcome w assigned (goes_to tagged w (here.turn.stands.instruction.place + here.turn.stands.instruction.insn.len) (record { frames = f ∷ below; heap = heap; statics = statics })
         (replaced (record { frames = f ∷ below; heap = heap; statics = statics }) taken (number_cells tagged width n)))
     number-safe taken widths.Short n op is does falls =
         replace-safe w world assigned f below heap statics here taken (given.One _) (cells.Short n ∷ []) heap statics
@@ -52,7 +52,7 @@ module _ (w : Linked) (world : IsWorld w) (assigned : Typings) (f : Frame Cell) 
 
     pub constant-safe :
         (c : Constant) → here.turn.operation ≡ ops.Constant c
-        → IsSafe w assigned (goes_to tagged w (here.turn.stands.instruction.place + here.turn.stands.instruction.insn.len) (record { frames = f ∷ below; heap = heap; statics = statics })
+        → IsTypedOutcome w assigned (goes_to tagged w (here.turn.stands.instruction.place + here.turn.stands.instruction.insn.len) (record { frames = f ∷ below; heap = heap; statics = statics })
         (with_constant tagged c (record { frames = f ∷ below; heap = heap; statics = statics })))
     constant-safe constants.Nothing is =
         replace-safe w world assigned f below heap statics here 0 given.Nothing [] heap statics
@@ -70,7 +70,7 @@ module _ (w : Linked) (world : IsWorld w) (assigned : Typings) (f : Frame Cell) 
     computed-safe :
         (taken : ℕ) (width : Width) (result : Option ℤ) (op : Operation)
         → here.turn.operation ≡ op → effect w op (types_in w.classes (assigned.unset f.method) (kinds_of heap) f) ≡ replacing taken (number_given width) → falls_from op ≡ true
-        → IsSafe w assigned (settled tagged w (here.turn.stands.instruction.place + here.turn.stands.instruction.insn.len)
+        → IsTypedOutcome w assigned (settled tagged w (here.turn.stands.instruction.place + here.turn.stands.instruction.insn.len)
         (record { frames = f ∷ below; heap = heap; statics = statics })
         (computed tagged width (record { frames = f ∷ below; heap = heap; statics = statics }) taken result))
     computed-safe taken width result op is does falls =
@@ -80,7 +80,7 @@ module _ (w : Linked) (world : IsWorld w) (assigned : Typings) (f : Frame Cell) 
 
     pub arithmetic-safe :
         (a : Arithmetic) → here.turn.operation ≡ ops.Arithmetic a
-        → IsSafe w assigned (settled tagged w (here.turn.stands.instruction.place + here.turn.stands.instruction.insn.len)
+        → IsTypedOutcome w assigned (settled tagged w (here.turn.stands.instruction.place + here.turn.stands.instruction.insn.len)
         (record { frames = f ∷ below; heap = heap; statics = statics })
         (arithmetic_act tagged a (record { frames = f ∷ below; heap = heap; statics = statics })))
     arithmetic-safe (arithmetic.Binary o widths.Short) is =

@@ -27,7 +27,7 @@ use Rattle.vm_store.specs.Kind.{kind_of_handle, type_of_kind, IsArrayKind}
 use Rattle.vm_store.specs.Typing.{least_type, type_of_handle, type_of_fresh, fresh_seen}
 use Rattle.vm_store.specs.Cells.{tagged, word_of}
 use Rattle.vm_store.specs.State.{Frame, Object, State}
-use Rattle.vm_store.specs.Objects.{instance_cells, array_cells}
+use Rattle.vm_store.specs.Objects.{new_instance_cells, array_cells}
 use Rattle.vm_store.proofs.SeenClasses.{fresh-at}
 use Rattle.vm_step.specs.declared.exception.Exception.TheVariants as exceptions
 use Rattle.vm_step.specs.Methods.{instruction_at}
@@ -36,8 +36,8 @@ use Rattle.vm_step.specs.Numbers.{handle_at, short_at, dropped}
 use Rattle.vm_step.specs.Objects.{kind_of_type, new_act, array_of_count, new_array_act, throw_act, kind_passes, passes, may_cast, truth, type_test_act}
 use Rattle.vm_step.specs.Settled.{goes_to, settled}
 use Rattle.vm_sound.specs.Frames.{Typings, types_in, class_made, class_of_new, class_made_by, IsStacked, IsTypedFrame, AreWaiting, result_of}
-use Rattle.vm_sound.specs.State.{IsMade}
-use Rattle.vm_sound.specs.Laws.{IsSafe}
+use Rattle.vm_sound.specs.State.{CanBeMade}
+use Rattle.vm_sound.specs.Laws.{IsTypedOutcome}
 use Rattle.vm_sound.proofs.CellTypes.{stacked-filled, stacked-falls, types-fall}
 use Rattle.vm_sound.proofs.Growing.{all-waiting-fall}
 use Rattle.vm_sound.proofs.Handles.{kinds_of, kind-type, new-kind, kinds-more}
@@ -69,7 +69,7 @@ module _ (w : Linked) (world : IsWorld w) (assigned : Typings) (f : Frame Cell) 
         → IsTypedStore w (heap ++ record { kind = kind; cells = cs } ∷ []) statics
         → Below w.classes (least_type w.classes (assigned.unset f.method) (kinds_of heap ++ kind ∷ []) (reference (length heap + 1))) made_type
         → IsStacked w here.turn.stands.rec (kinds_of heap ++ kind ∷ []) (reference (length heap + 1))
-        → IsSafe w assigned (settled tagged w (here.turn.stands.instruction.place + here.turn.stands.instruction.insn.len) (record { frames = f ∷ below; heap = heap; statics = statics })
+        → IsTypedOutcome w assigned (settled tagged w (here.turn.stands.instruction.place + here.turn.stands.instruction.insn.len) (record { frames = f ∷ below; heap = heap; statics = statics })
         (makes kind cs reference (dropped (record { frames = f ∷ below; heap = heap; statics = statics }) taken)))
     made-safe taken made_type kind cs reference op is does falls store lower stacked =
         let o : Object Cell = record { kind = kind; cells = cs } in
@@ -107,15 +107,15 @@ module _ (w : Linked) (world : IsWorld w) (assigned : Typings) (f : Frame Cell) 
 
     pub new-safe :
         (place class : ℕ) → here.turn.operation ≡ ops.New place class → here.turn.stands.instruction.place ≡ place → IsConcrete w.classes w.methods class
-        → IsSafe w assigned (settled tagged w (here.turn.stands.instruction.place + here.turn.stands.instruction.insn.len) (record { frames = f ∷ below; heap = heap; statics = statics })
+        → IsTypedOutcome w assigned (settled tagged w (here.turn.stands.instruction.place + here.turn.stands.instruction.insn.len) (record { frames = f ∷ below; heap = heap; statics = statics })
         (new_act tagged w.classes place class (record { frames = f ∷ below; heap = heap; statics = statics })))
     new-safe place class is at concrete =
-        let o : Object Cell = record { kind = Instance class; cells = instance_cells tagged w.classes class } in
+        let o : Object Cell = record { kind = Instance class; cells = new_instance_cells tagged w.classes class } in
         let more : List ObjectKind = kinds_of heap ++ Instance class ∷ [] in
         let handle : ℕ = length heap + 1 in
         let kind : kind_of_handle more handle ≡ Some (Instance class) = new-kind heap o in
         let ty : type_of_fresh more handle place ≡ Fresh place class = fresh-at more handle place ∙ ap (fresh_seen place) kind in
-        made-safe 0 (Fresh place class) (Instance class) (instance_cells tagged w.classes class) (λ h. cells.Fresh h place) (ops.New place class) is refl refl
+        made-safe 0 (Fresh place class) (Instance class) (new_instance_cells tagged w.classes class) (λ h. cells.Fresh h place) (ops.New place class) is refl refl
         (with-instance w heap statics here.store world class concrete)
         (subst (λ a. Below w.classes a (Fresh place class)) (sym ty) same)
         (IsSomeAnd-from (λ c. kind_of_handle more handle ≡ Some (Instance c)) (class_made w here.turn.stands.rec place) class (class-told place class is at) kind)
@@ -151,7 +151,7 @@ module _ (w : Linked) (world : IsWorld w) (assigned : Typings) (f : Frame Cell) 
     kind-array (Fresh p c) = tt {0}
     kind-array Top = tt {0}
 
-    kind-made : (ty : Ty) → IsNamedType w.classes ty → IsMade w (kind_of_type ty)
+    kind-made : (ty : Ty) → IsNamedType w.classes ty → CanBeMade w (kind_of_type ty)
     kind-made (ArrRef c) named = named
     kind-made ArrBool named = tt
     kind-made ArrByte named = tt
@@ -168,7 +168,7 @@ module _ (w : Linked) (world : IsWorld w) (assigned : Typings) (f : Frame Cell) 
 
     array-safe :
         (ty : Ty) (count : ℤ) → here.turn.operation ≡ ops.NewArray ty → IsArray ty → IsNamedType w.classes ty
-        → IsSafe w assigned (settled tagged w (here.turn.stands.instruction.place + here.turn.stands.instruction.insn.len) (record { frames = f ∷ below; heap = heap; statics = statics })
+        → IsTypedOutcome w assigned (settled tagged w (here.turn.stands.instruction.place + here.turn.stands.instruction.insn.len) (record { frames = f ∷ below; heap = heap; statics = statics })
         (array_of_count tagged (kind_of_type ty) count (dropped (record { frames = f ∷ below; heap = heap; statics = statics }) 1)))
     array-safe ty (negsuc n) is array named = raise-safe w world assigned f below heap statics here exceptions.NegativeSize
     array-safe ty (pos count) is array named =
@@ -184,7 +184,7 @@ module _ (w : Linked) (world : IsWorld w) (assigned : Typings) (f : Frame Cell) 
 
     pub new-array-safe :
         (ty : Ty) → here.turn.operation ≡ ops.NewArray ty → IsArray ty → IsNamedType w.classes ty
-        → IsSafe w assigned (settled tagged w (here.turn.stands.instruction.place + here.turn.stands.instruction.insn.len) (record { frames = f ∷ below; heap = heap; statics = statics })
+        → IsTypedOutcome w assigned (settled tagged w (here.turn.stands.instruction.place + here.turn.stands.instruction.insn.len) (record { frames = f ∷ below; heap = heap; statics = statics })
         (new_array_act tagged ty (record { frames = f ∷ below; heap = heap; statics = statics })))
     new-array-safe ty is array named = array-safe ty (short_at tagged f.stack 0) is array named
 
@@ -192,7 +192,7 @@ module _ (w : Linked) (world : IsWorld w) (assigned : Typings) (f : Frame Cell) 
 
     pub throw-act-safe :
         here.turn.operation ≡ ops.Throw
-        → IsSafe w assigned (settled tagged w (here.turn.stands.instruction.place + here.turn.stands.instruction.insn.len) (record { frames = f ∷ below; heap = heap; statics = statics })
+        → IsTypedOutcome w assigned (settled tagged w (here.turn.stands.instruction.place + here.turn.stands.instruction.insn.len) (record { frames = f ∷ below; heap = heap; statics = statics })
         (throw_act tagged (record { frames = f ∷ below; heap = heap; statics = statics })))
     throw-act-safe is =
         let c : Cell = slice_index_or f.stack 0 cells.Empty in
@@ -239,7 +239,7 @@ module _ (w : Linked) (world : IsWorld w) (assigned : Typings) (f : Frame Cell) 
 
     pub type-test-safe :
         (test : TypeTest) (ty : Ty) → here.turn.operation ≡ ops.TypeTest test ty → IsNamedType w.classes ty
-        → IsSafe w assigned (settled tagged w (here.turn.stands.instruction.place + here.turn.stands.instruction.insn.len) (record { frames = f ∷ below; heap = heap; statics = statics })
+        → IsTypedOutcome w assigned (settled tagged w (here.turn.stands.instruction.place + here.turn.stands.instruction.insn.len) (record { frames = f ∷ below; heap = heap; statics = statics })
         (type_test_act tagged w.classes test ty (record { frames = f ∷ below; heap = heap; statics = statics })))
     type-test-safe tests.InstanceOf ty is named =
         let now : State Cell = record { frames = f ∷ below; heap = heap; statics = statics } in
@@ -250,7 +250,7 @@ module _ (w : Linked) (world : IsWorld w) (assigned : Typings) (f : Frame Cell) 
     type-test-safe tests.Cast ty is named = go (may_cast w.classes (record { frames = f ∷ below; heap = heap; statics = statics }) ty (word_of (slice_index_or f.stack 0 cells.Empty))) refl
       where
         go : (b : Bool) → may_cast w.classes (record { frames = f ∷ below; heap = heap; statics = statics }) ty (word_of (slice_index_or f.stack 0 cells.Empty)) ≡ b
-            → IsSafe w assigned (settled tagged w (here.turn.stands.instruction.place + here.turn.stands.instruction.insn.len) (record { frames = f ∷ below; heap = heap; statics = statics })
+            → IsTypedOutcome w assigned (settled tagged w (here.turn.stands.instruction.place + here.turn.stands.instruction.insn.len) (record { frames = f ∷ below; heap = heap; statics = statics })
             (if b then goes (record { frames = f ∷ below; heap = heap; statics = statics }) else raises exceptions.ClassCast))
         go false e = raise-safe w world assigned f below heap statics here exceptions.ClassCast
         go true e =
@@ -262,7 +262,7 @@ module _ (w : Linked) (world : IsWorld w) (assigned : Typings) (f : Frame Cell) 
             let filled = stacked-filled w here.turn.stands.rec ks c (stacked-at w here.turn.stands.rec ks f.stack 0 at.inside here.turn.stacked) in
             let lower : Below t (least_type t (assigned.unset f.method) ks c) (seen t ty) =
             subst (λ a. Below t a (seen t ty)) (sym (reference-same t world.chains (assigned.unset f.method) ks c (Class (object t)) tt filled at.holds)) (may-cast-below ty (word_of c) named e) in
-            subst (λ xs. IsSafe w assigned (goes_to tagged w (here.turn.stands.instruction.place + here.turn.stands.instruction.insn.len) (record { frames = f ∷ below; heap = heap; statics = statics })
+            subst (λ xs. IsTypedOutcome w assigned (goes_to tagged w (here.turn.stands.instruction.place + here.turn.stands.instruction.insn.len) (record { frames = f ∷ below; heap = heap; statics = statics })
             (record { frames = record { method = f.method; place = f.place; registers = f.registers; stack = xs } ∷ below; heap = heap; statics = statics })))
             (top-and-rest f.stack at.inside)
             (replace-safe w world assigned f below heap statics here 1 (given.One (seen t ty)) (c ∷ []) heap statics

@@ -20,7 +20,7 @@ use Rattle.jc_ops.specs.Next.{falls_from}
 use Rattle.jc_rules.specs.declared.effect.Cells.TheVariants as given
 use Rattle.jc_rules.specs.declared.effect.Effect.{Effect}
 use Rattle.jc_rules.specs.declared.effect.Mode.TheVariants.{Flow}
-use Rattle.jc_rules.specs.Effect.{changed, Stores, Writes, WritesInt}
+use Rattle.jc_rules.specs.Effect.{changed, StoresInRegisters, WritesRegister, WritesInt}
 use Rattle.jc_rules.specs.Demand.{SatisfiesAll}
 use Rattle.jc_rules.specs.Rule.{or_null, cell, storing, effect, demands}
 use Rattle.jc_rules.specs.Flow.{CellsBelow, no_cells, more_cells}
@@ -36,7 +36,7 @@ use Rattle.vm_store.specs.State.{Frame, Object}
 use Rattle.vm_step.specs.Values.{with_load, with_store, incremented, with_increment}
 use Rattle.vm_step.specs.Settled.{goes_to}
 use Rattle.vm_sound.specs.Frames.{Typings, least_types, types_in, IsStacked}
-use Rattle.vm_sound.specs.Laws.{IsSafe}
+use Rattle.vm_sound.specs.Laws.{IsTypedOutcome}
 use Rattle.vm_sound.proofs.CellTypes.{IsReadyCell}
 use Rattle.vm_sound.proofs.Handles.{kinds_of}
 use Rattle.vm_sound.proofs.Ready.{value-ready}
@@ -123,7 +123,7 @@ module _ (w : Linked) (world : IsWorld w) (assigned : Typings) (f : Frame Cell) 
 
     pub load-safe :
         (sort : Sort) (x : ℕ) → here.turn.operation ≡ ops.Load sort x
-        → IsSafe w assigned (goes_to tagged w (here.turn.stands.instruction.place + here.turn.stands.instruction.insn.len) (record { frames = f ∷ below; heap = heap; statics = statics })
+        → IsTypedOutcome w assigned (goes_to tagged w (here.turn.stands.instruction.place + here.turn.stands.instruction.insn.len) (record { frames = f ∷ below; heap = heap; statics = statics })
         (with_load tagged sort x (record { frames = f ∷ below; heap = heap; statics = statics })))
     load-safe sorts.Reference x is =
         let ks = kinds_of heap in
@@ -166,7 +166,7 @@ module _ (w : Linked) (world : IsWorld w) (assigned : Typings) (f : Frame Cell) 
         → here.turn.operation ≡ op
         → effect w op (types_in w.classes (assigned.unset f.method) (kinds_of heap) f) ≡ storing taken x (given.One ty) → falls_from op ≡ true
         → Below w.classes (least_type w.classes (assigned.unset f.method) (kinds_of heap) c) ty
-        → IsSafe w assigned (goes_to tagged w (here.turn.stands.instruction.place + here.turn.stands.instruction.insn.len) (record { frames = f ∷ below; heap = heap; statics = statics })
+        → IsTypedOutcome w assigned (goes_to tagged w (here.turn.stands.instruction.place + here.turn.stands.instruction.insn.len) (record { frames = f ∷ below; heap = heap; statics = statics })
         (record {
           frames = record { method = f.method; place = f.place; registers = set f.registers x c; stack = drop taken f.stack } ∷ below;
           heap = heap;
@@ -179,7 +179,7 @@ module _ (w : Linked) (world : IsWorld w) (assigned : Typings) (f : Frame Cell) 
         let after = here.turn.after in
         let e : effect w here.turn.operation exact ≡ storing taken x (given.One ty) = ap (λ o. effect w o exact) is ∙ does in
         let stack_is : after.stack ≡ drop taken exact.stack = a.stack ∙ ap (λ (z : Effect). changed z.change exact.stack) e in
-        let wrote : Writes w.classes Flow x ty exact.regs after.regs = subst (λ (z : Effect). Stores w.classes Flow z.store exact.regs after.regs) e a.regs in
+        let wrote : WritesRegister w.classes Flow x ty exact.regs after.regs = subst (λ (z : Effect). StoresInRegisters w.classes Flow z.store exact.regs after.regs) e a.regs in
         let regs_are : after.regs ≡ set exact.regs x ty = wrote.after_is ∙ ap (set exact.regs x) wrote.stored in
         on-safe w world assigned f below heap statics here (set f.registers x c) (drop taken f.stack) heap statics (ap falls_from is ∙ falls)
         (record {
@@ -198,7 +198,7 @@ module _ (w : Linked) (world : IsWorld w) (assigned : Typings) (f : Frame Cell) 
         → here.turn.operation ≡ op
         → effect w op (types_in w.classes (assigned.unset f.method) (kinds_of heap) f) ≡ storing taken x given.Int → falls_from op ≡ true
         → Below w.classes (least_type w.classes (assigned.unset f.method) (kinds_of heap) c) IntHigh → Below w.classes (least_type w.classes (assigned.unset f.method) (kinds_of heap) d) IntLow
-        → IsSafe w assigned (goes_to tagged w (here.turn.stands.instruction.place + here.turn.stands.instruction.insn.len) (record { frames = f ∷ below; heap = heap; statics = statics })
+        → IsTypedOutcome w assigned (goes_to tagged w (here.turn.stands.instruction.place + here.turn.stands.instruction.insn.len) (record { frames = f ∷ below; heap = heap; statics = statics })
         (record {
           frames = record { method = f.method; place = f.place; registers = set (set f.registers x c) (x + 1) d; stack = drop taken f.stack } ∷ below;
           heap = heap;
@@ -212,7 +212,7 @@ module _ (w : Linked) (world : IsWorld w) (assigned : Typings) (f : Frame Cell) 
         let after = here.turn.after in
         let e : effect w here.turn.operation exact ≡ storing taken x given.Int = ap (λ o. effect w o exact) is ∙ does in
         let stack_is : after.stack ≡ drop taken exact.stack = a.stack ∙ ap (λ (z : Effect). changed z.change exact.stack) e in
-        let wrote : WritesInt w.classes Flow x exact.regs after.regs = subst (λ (z : Effect). Stores w.classes Flow z.store exact.regs after.regs) e a.regs in
+        let wrote : WritesInt w.classes Flow x exact.regs after.regs = subst (λ (z : Effect). StoresInRegisters w.classes Flow z.store exact.regs after.regs) e a.regs in
         let between : wrote.between ≡ set exact.regs x IntHigh = wrote.high.after_is ∙ ap (set exact.regs x) wrote.high.stored in
         let regs_are : after.regs ≡ set (set exact.regs x IntHigh) (x + 1) IntLow =
         wrote.low.after_is ∙ (ap (set wrote.between (x + 1)) wrote.low.stored ∙ ap (λ ts. set ts (x + 1) IntLow) between) in
@@ -230,7 +230,7 @@ module _ (w : Linked) (world : IsWorld w) (assigned : Typings) (f : Frame Cell) 
 
     pub store-safe :
         (sort : Sort) (x : ℕ) → here.turn.operation ≡ ops.Store sort x
-        → IsSafe w assigned (goes_to tagged w (here.turn.stands.instruction.place + here.turn.stands.instruction.insn.len) (record { frames = f ∷ below; heap = heap; statics = statics })
+        → IsTypedOutcome w assigned (goes_to tagged w (here.turn.stands.instruction.place + here.turn.stands.instruction.insn.len) (record { frames = f ∷ below; heap = heap; statics = statics })
         (with_store tagged sort x (record { frames = f ∷ below; heap = heap; statics = statics })))
     store-safe sorts.Reference x is =
         let ks = kinds_of heap in
@@ -250,7 +250,7 @@ module _ (w : Linked) (world : IsWorld w) (assigned : Typings) (f : Frame Cell) 
 
     pub increment-safe :
         (width : Width) (x : ℕ) (amount : ℤ) → here.turn.operation ≡ ops.Increment width x amount
-        → IsSafe w assigned (goes_to tagged w (here.turn.stands.instruction.place + here.turn.stands.instruction.insn.len) (record { frames = f ∷ below; heap = heap; statics = statics })
+        → IsTypedOutcome w assigned (goes_to tagged w (here.turn.stands.instruction.place + here.turn.stands.instruction.insn.len) (record { frames = f ∷ below; heap = heap; statics = statics })
         (with_increment tagged width x amount (record { frames = f ∷ below; heap = heap; statics = statics })))
     increment-safe widths.Short x amount is =
         stored-safe 0 x (cells.Short (incremented tagged widths.Short f.registers x amount)) Short (ops.Increment widths.Short x amount) is refl refl same

@@ -12,7 +12,7 @@ use Rattle.jc_ops.specs.declared.want.Want.TheVariants.{Value}
 use Rattle.jc_ops.specs.Sound.{IsResult}
 use Rattle.jc_rules.specs.declared.demand.Demand.TheVariants.{Cell as CellAsked}
 use Rattle.jc_rules.specs.Demand.{SatisfiesAll}
-use Rattle.jc_rules.specs.Effect.{listed}
+use Rattle.jc_rules.specs.Effect.{in_stack_order}
 use Rattle.jc_rules.specs.Rule.{result_at, result_given, value_wanted}
 use Rattle.jc_rules.specs.Flow.{CellsBelow, no_cells, more_cells}
 use Rattle.jc_rules.proofs.CellLists.{cells-trans}
@@ -27,7 +27,7 @@ use Rattle.vm_step.specs.Numbers.{handle_at, short_at, int_on}
 use Rattle.vm_step.specs.Calls.{return_act}
 use Rattle.vm_step.specs.Settled.{given_to, settled}
 use Rattle.vm_sound.specs.Frames.{Typings, least_types, types_in, IsStacked, AreWaiting}
-use Rattle.vm_sound.specs.Laws.{IsSafe}
+use Rattle.vm_sound.specs.Laws.{IsTypedOutcome}
 use Rattle.vm_sound.proofs.CellTypes.{stacked-filled, bottoms-below}
 use Rattle.vm_sound.proofs.Handles.{kinds_of}
 use Rattle.vm_sound.proofs.Ready.{value-ready}
@@ -38,7 +38,7 @@ use Rattle.vm_sound.proofs.Turning.{Here}
 
 -- a result is one cell, unless it is an int
 record IsOneResult (ty : Ty) : Type 0 where
-  given_is : listed (result_given (Some ty)) ≡ ty ∷ []
+  given_is : in_stack_order (result_given (Some ty)) ≡ ty ∷ []
   wanted : value_wanted ty ≡ CellAsked 0 (Value ty) ∷ []
 
 module _ (w : Linked) (world : IsWorld w) (assigned : Typings) (f : Frame Cell) (below : List (Frame Cell)) (heap : List (Object Cell)) (statics : List Cell)
@@ -51,7 +51,7 @@ module _ (w : Linked) (world : IsWorld w) (assigned : Typings) (f : Frame Cell) 
     -- a value of one cell
     one-given :
         (ty : Ty) (value : Given) → here.turn.operation ≡ ops.Return (Some ty) → Some ty ≡ here.turn.stands.rec.sig.result → IsDeclared w.classes ty → IsOneResult ty
-        → IsSafe w assigned (given_to tagged w value (slice_index_or f.stack 0 cells.Empty ∷ []) (record { frames = below; heap = heap; statics = statics }))
+        → IsTypedOutcome w assigned (given_to tagged w value (slice_index_or f.stack 0 cells.Empty ∷ []) (record { frames = below; heap = heap; statics = statics }))
     one-given ty value is result declared one =
         let t = w.classes in
         let ks = kinds_of heap in
@@ -67,7 +67,7 @@ module _ (w : Linked) (world : IsWorld w) (assigned : Typings) (f : Frame Cell) 
 
     int-given :
         (value : Given) → here.turn.operation ≡ ops.Return (Some IntHigh) → Some IntHigh ≡ here.turn.stands.rec.sig.result
-        → IsSafe w assigned (given_to tagged w value (slice_index_or f.stack 1 cells.Empty ∷ slice_index_or f.stack 0 cells.Empty ∷ []) (record { frames = below; heap = heap; statics = statics }))
+        → IsTypedOutcome w assigned (given_to tagged w value (slice_index_or f.stack 1 cells.Empty ∷ slice_index_or f.stack 0 cells.Empty ∷ []) (record { frames = below; heap = heap; statics = statics }))
     int-given value is result =
         let t = w.classes in
         let ks = kinds_of heap in
@@ -85,7 +85,7 @@ module _ (w : Linked) (world : IsWorld w) (assigned : Typings) (f : Frame Cell) 
 
     pub return-safe :
         (result : Option Ty) → here.turn.operation ≡ ops.Return result → result ≡ here.turn.stands.rec.sig.result → IfSome result (IsResult w.classes)
-        → IsSafe w assigned (settled tagged w (here.turn.stands.instruction.place + here.turn.stands.instruction.insn.len) (record { frames = f ∷ below; heap = heap; statics = statics })
+        → IsTypedOutcome w assigned (settled tagged w (here.turn.stands.instruction.place + here.turn.stands.instruction.insn.len) (record { frames = f ∷ below; heap = heap; statics = statics })
         (return_act tagged result (record { frames = f ∷ below; heap = heap; statics = statics })))
     return-safe None is result known =
         gives-safe w assigned below heap statics None values.Void [] here.store (waits-for None result) no_cells (λ m. All-nil (IsStacked w m (kinds_of heap)))

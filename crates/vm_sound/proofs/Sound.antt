@@ -29,14 +29,14 @@ use Rattle.vm_step.specs.Methods.{of_method, code_at, instruction_at}
 use Rattle.vm_step.specs.Performed.{act}
 use Rattle.vm_step.specs.Tests.{fault_before}
 use Rattle.vm_step.specs.Act.{calls, unless_null}
-use Rattle.vm_step.specs.Calls.{args_of, class_in, made_at, readied, interface_act, call_act}
+use Rattle.vm_step.specs.Calls.{args_of, class_with_methods, made_at, readied, interface_act, call_act}
 use Rattle.vm_step.specs.Raising.{Outcome, running, ended}
 use Rattle.vm_step.specs.Settled.{settled, unless_fault}
 use Rattle.vm_step.specs.Step.{Steps, misplaced, unresolved, performs, performed}
 use Rattle.vm_step.specs.Run.{Runs, stands, stops, steps}
 use Rattle.vm_sound.specs.Frames.{Typings}
 use Rattle.vm_sound.specs.State.{IsTypedState}
-use Rattle.vm_sound.specs.Laws.{AreTypings, HasTypings, IsSafe, StepsAreSafe, RunsAreSafe, TypedCodeIsFaultFree}
+use Rattle.vm_sound.specs.Laws.{AreTypings, HasTypings, IsTypedOutcome, StepsAreSafe, RunsAreSafe, TypedCodeIsFaultFree}
 use Rattle.vm_sound.proofs.Entering.{method-known}
 use Rattle.vm_sound.proofs.Numbered.{methods-have-typings}
 use Rattle.vm_sound.proofs.Finish.{there-at}
@@ -77,7 +77,7 @@ module _ (w : Linked) (world : IsWorld w) (assigned : Typings) (typings : AreTyp
         (n : ℕ) (receiver : Option Want) (choice : Choice) (m : MethodRec)
         → here.turn.operation ≡ ops.Call (record { method = n; receiver = receiver; choice = choice })
         → slice_get w.methods n ≡ Some m → IsChosen w n m receiver choice
-        → IsSafe w assigned (settled tagged w (here.turn.stands.instruction.place + here.turn.stands.instruction.insn.len) (record { frames = f ∷ below; heap = heap; statics = statics })
+        → IsTypedOutcome w assigned (settled tagged w (here.turn.stands.instruction.place + here.turn.stands.instruction.insn.len) (record { frames = f ∷ below; heap = heap; statics = statics })
         (call_act tagged w (record { method = n; receiver = receiver; choice = choice }) (record { frames = f ∷ below; heap = heap; statics = statics })))
     chosen-safe n receiver choices.Static m is method chosen =
         static-call w world assigned typings f below heap statics here n receiver choices.Static m is method chosen.receiver_is chosen.static chosen.body
@@ -85,7 +85,7 @@ module _ (w : Linked) (world : IsWorld w) (assigned : Typings) (typings : AreTyp
     chosen-safe n (Some want) choices.Special m is method chosen =
         let now : State Cell = record { frames = f ∷ below; heap = heap; statics = statics } in
         let next : ℕ = here.turn.stands.instruction.place + here.turn.stands.instruction.insn.len in
-        subst (λ k. IsSafe w assigned (settled tagged w next now
+        subst (λ k. IsTypedOutcome w assigned (settled tagged w next now
         (unless_null (word_of (slice_index_or f.stack k cells.Empty))
         (λ h. calls n (args_of w n + 1) (readied tagged now (made_at (Some want) (least_type w.classes Bottom (kinds_of heap) (slice_index_or f.stack k cells.Empty))))))))
         (sym (ap (of_method 0 (λ (x : MethodRec). length x.sig.args)) method))
@@ -96,15 +96,15 @@ module _ (w : Linked) (world : IsWorld w) (assigned : Typings) (typings : AreTyp
     chosen-safe n receiver (choices.Virtual c token) m is method chosen =
         let now : State Cell = record { frames = f ∷ below; heap = heap; statics = statics } in
         let next : ℕ = here.turn.stands.instruction.place + here.turn.stands.instruction.insn.len in
-        subst (λ k. IsSafe w assigned (settled tagged w next now
+        subst (λ k. IsTypedOutcome w assigned (settled tagged w next now
         (unless_null (word_of (slice_index_or f.stack k cells.Empty))
-        (λ h. calls (unwrap_or (dispatched w.classes c token (class_in w.classes (kind_of_handle (kinds_of heap) h))) n) (args_of w n + 1) now))))
+        (λ h. calls (unwrap_or (dispatched w.classes c token (class_with_methods w.classes (kind_of_handle (kinds_of heap) h))) n) (args_of w n + 1) now))))
         (sym (ap (of_method 0 (λ (x : MethodRec). length x.sig.args)) method))
         (virtual-safe w world assigned typings f below heap statics here n receiver (choices.Virtual c token) m is method c chosen.receiver_is token next chosen)
     chosen-safe n receiver (choices.Interface c token words) m is method chosen =
         let now : State Cell = record { frames = f ∷ below; heap = heap; statics = statics } in
         let next : ℕ = here.turn.stands.instruction.place + here.turn.stands.instruction.insn.len in
-        subst (λ k. IsSafe w assigned (settled tagged w next now
+        subst (λ k. IsTypedOutcome w assigned (settled tagged w next now
         (unless_null (word_of (slice_index_or f.stack k cells.Empty))
         (λ h. interface_act w.classes c token (args_of w n + 1) (kind_of_handle (kinds_of heap) h) now))))
         (sym (ap (of_method 0 (λ (x : MethodRec). length x.sig.args)) method))
@@ -114,7 +114,7 @@ module _ (w : Linked) (world : IsWorld w) (assigned : Typings) (typings : AreTyp
     call-safe :
         (n : ℕ) (receiver : Option Want) (choice : Choice)
         → here.turn.operation ≡ ops.Call (record { method = n; receiver = receiver; choice = choice })
-        → IsSafe w assigned (settled tagged w (here.turn.stands.instruction.place + here.turn.stands.instruction.insn.len) (record { frames = f ∷ below; heap = heap; statics = statics })
+        → IsTypedOutcome w assigned (settled tagged w (here.turn.stands.instruction.place + here.turn.stands.instruction.insn.len) (record { frames = f ∷ below; heap = heap; statics = statics })
         (call_act tagged w (record { method = n; receiver = receiver; choice = choice }) (record { frames = f ∷ below; heap = heap; statics = statics })))
     call-safe n receiver choice is =
         let callee : IsCalleeOf w (record { method = n; receiver = receiver; choice = choice }) = sound-of (ops.Call (record { method = n; receiver = receiver; choice = choice })) is in
@@ -124,7 +124,7 @@ module _ (w : Linked) (world : IsWorld w) (assigned : Typings) (typings : AreTyp
 
     pub act-safe :
         (op : Operation) → here.turn.operation ≡ op
-        → IsSafe w assigned (settled tagged w (here.turn.stands.instruction.place + here.turn.stands.instruction.insn.len) (record { frames = f ∷ below; heap = heap; statics = statics })
+        → IsTypedOutcome w assigned (settled tagged w (here.turn.stands.instruction.place + here.turn.stands.instruction.insn.len) (record { frames = f ∷ below; heap = heap; statics = statics })
         (act tagged w here.turn.stands.instruction.insn op (record { frames = f ∷ below; heap = heap; statics = statics })))
     act-safe (ops.Constant c) is = constant-safe w world assigned f below heap statics here c is
     act-safe (ops.Load sort x) is = load-safe w world assigned f below heap statics here sort x is
@@ -162,16 +162,16 @@ module _ (w : Linked) (world : IsWorld w) (assigned : Typings) (typings : AreTyp
       (f : Frame Cell) (below : List (Frame Cell)) (heap : List (Object Cell)) (statics : List Cell) (m : MethodRec) (i : Placed) (op : Operation)
       → (here : Here w assigned f below heap statics)
       → here.turn.stands.rec ≡ m → here.turn.stands.instruction ≡ i → here.turn.operation ≡ op
-      → IsSafe w assigned (performed tagged w i op (record { frames = f ∷ below; heap = heap; statics = statics }))
+      → IsTypedOutcome w assigned (performed tagged w i op (record { frames = f ∷ below; heap = heap; statics = statics }))
   performs-safe f below heap statics m i op here same_m same_i same_op =
       let now : State Cell = record { frames = f ∷ below; heap = heap; statics = statics } in
       let st = here.turn.stands in
       let passed : fault_before tagged w here.turn.operation now ≡ None = passes-before w world.chains f below heap statics here.turn.operation here.turn.asked in
       let safe = act-safe w world assigned typings f below heap statics here here.turn.operation refl in
-      let own : IsSafe w assigned (performed tagged w st.instruction here.turn.operation now) =
-      subst (λ o. IsSafe w assigned (unless_fault now o (settled tagged w (st.instruction.place + st.instruction.insn.len) now (act tagged w st.instruction.insn here.turn.operation now))))
+      let own : IsTypedOutcome w assigned (performed tagged w st.instruction here.turn.operation now) =
+      subst (λ o. IsTypedOutcome w assigned (unless_fault now o (settled tagged w (st.instruction.place + st.instruction.insn.len) now (act tagged w st.instruction.insn here.turn.operation now))))
       (sym passed) safe in
-      subst (λ x. IsSafe w assigned (performed tagged w i x now)) same_op (subst (λ j. IsSafe w assigned (performed tagged w j here.turn.operation now)) same_i own)
+      subst (λ x. IsTypedOutcome w assigned (performed tagged w i x now)) same_op (subst (λ j. IsTypedOutcome w assigned (performed tagged w j here.turn.operation now)) same_i own)
 
   module _ (f : Frame Cell) (below : List (Frame Cell)) (heap : List (Object Cell)) (statics : List Cell) (typed : IsTypedState w assigned (record { frames = f ∷ below; heap = heap; statics = statics })) where
     now : State Cell
@@ -203,7 +203,7 @@ module _ (w : Linked) (world : IsWorld w) (assigned : Typings) (typings : AreTyp
         subst (λ (x : Placed). Resolves w m x.place x.insn (Ok here-now.turn.operation)) same_i moved in
         here_too ∙ sym resolves
 
-    step-safe : {o : Outcome Cell} → Steps tagged w (record { frames = f ∷ below; heap = heap; statics = statics }) o → IsSafe w assigned o
+    step-safe : {o : Outcome Cell} → Steps tagged w (record { frames = f ∷ below; heap = heap; statics = statics }) o → IsTypedOutcome w assigned o
     step-safe (misplaced checks runs e) = absurd (none-some here-now.turn.stands.instruction (sym e ∙ there))
     step-safe (unresolved {m = m} {i = i} checks fetched fault resolves) =
         let same : Ok here-now.turn.operation ≡ Err fault = same-answer m i (Err fault) (same-method m fetched.method) (same-instruction i fetched.instruction) resolves in
@@ -211,7 +211,7 @@ module _ (w : Linked) (world : IsWorld w) (assigned : Typings) (typings : AreTyp
     step-safe (performs {m = m} {i = i} {o = o} fetched op resolves is) =
         let same : Ok here-now.turn.operation ≡ Ok op = same-answer m i (Ok op) (same-method m fetched.method) (same-instruction i fetched.instruction) resolves in
         let same_op : here-now.turn.operation ≡ op = cc in
-        subst (IsSafe w assigned) (sym is)
+        subst (IsTypedOutcome w assigned) (sym is)
         (performs-safe f below heap statics m i op here-now (same-method m fetched.method) (same-instruction i fetched.instruction) same_op)
 
   runs-some : (s : State Cell) {o : Outcome Cell} → Steps tagged w s o → IsRunning s
@@ -220,15 +220,15 @@ module _ (w : Linked) (world : IsWorld w) (assigned : Typings) (typings : AreTyp
   runs-some s (performs fetched op resolves is) = fetched.runs
 
   steps-by : (fs : List (Frame Cell)) (heap : List (Object Cell)) (statics : List Cell) (o : Outcome Cell)
-      → IsTypedState w assigned (record { frames = fs; heap = heap; statics = statics }) → Steps tagged w (record { frames = fs; heap = heap; statics = statics }) o → IsSafe w assigned o
+      → IsTypedState w assigned (record { frames = fs; heap = heap; statics = statics }) → Steps tagged w (record { frames = fs; heap = heap; statics = statics }) o → IsTypedOutcome w assigned o
   steps-by [] heap statics o typed step =
       let runs = runs-some (record { frames = []; heap = heap; statics = statics }) step in absurd (omega (arith, runs))
   steps-by (f ∷ below) heap statics o typed step = step-safe f below heap statics typed step
 
-  one-safe : (s : State Cell) (o : Outcome Cell) → IsTypedState w assigned s → Steps tagged w s o → IsSafe w assigned o
+  one-safe : (s : State Cell) (o : Outcome Cell) → IsTypedState w assigned s → Steps tagged w s o → IsTypedOutcome w assigned o
   one-safe s o typed step = steps-by s.frames s.heap s.statics o typed step
 
-  all-safe : {n : ℕ} {s : State Cell} {o : Outcome Cell} → IsTypedState w assigned s → Runs tagged w n s o → IsSafe w assigned o
+  all-safe : {n : ℕ} {s : State Cell} {o : Outcome Cell} → IsTypedState w assigned s → Runs tagged w n s o → IsTypedOutcome w assigned o
   all-safe typed stands = typed
   all-safe typed (stops {s = s} {z = z} {ending = e} step) = one-safe s (ended e z) typed step
   all-safe typed (steps {s = s} {z = z} step more) = all-safe (one-safe s (running z) typed step) more

@@ -36,9 +36,9 @@ use Rattle.vm_step.specs.declared.start_fault.StartFault.{StartFault}
 use Rattle.vm_step.specs.Arguments.{Argument, number, null as no_object, bytes}
 use Rattle.vm_step.specs.Objects.{kind_of_type}
 use Rattle.vm_step.specs.Methods.{of_method}
-use Rattle.vm_step.specs.Start.{field_cells, int_cells, element_cells, initial_object, with_arrays, argument_cells, cells_handed, can_begin, is_parameter, parameters, fits, first_misfit, or_room, entry_fault, entry_state}
+use Rattle.vm_step.specs.Start.{field_cells, int_cells, initial_element_cells, initial_object, with_arrays, argument_cells, cells_handed, can_begin, is_parameter, parameters, fits, first_misfit, or_room, entry_fault, entry_state}
 use Rattle.vm_sound.specs.Frames.{Typings, least_types}
-use Rattle.vm_sound.specs.State.{IsMade, field_types, static_types, IsTypedState}
+use Rattle.vm_sound.specs.State.{CanBeMade, field_types, static_types, IsTypedState}
 use Rattle.vm_sound.specs.Laws.{AreTypings, StartsAreTyped}
 use Rattle.vm_sound.specs.Handed.{nargs_of, StartsHandAll}
 use Rattle.vm_sound.proofs.Handles.{kinds_of, kind-type, new-kind, kinds-more}
@@ -83,7 +83,7 @@ module _ (t : ClassTable) (ks : List ObjectKind) where
 
   elements-have :
       (ty : Ty) (ws : List ℕ) → AreElementsOf ty ws
-      → CellsHave t ks (element_cells tagged (kind_of_type ty) ws) (cell_types t (kind_of_type ty) (length (element_cells tagged (kind_of_type ty) ws)))
+      → CellsHave t ks (initial_element_cells tagged (kind_of_type ty) ws) (cell_types t (kind_of_type ty) (length (initial_element_cells tagged (kind_of_type ty) ws)))
   elements-have ArrBool ws h = shorts-have short_of_word ws
   elements-have ArrByte ws h = shorts-have short_of_word ws
   elements-have ArrShort ws h = shorts-have short_of_word ws
@@ -92,7 +92,7 @@ module _ (t : ClassTable) (ks : List ObjectKind) where
 
 -- ---- initial arrays
 
-kind-made : (w : Linked) (ty : Ty) (ws : List ℕ) → AreElementsOf ty ws → IsMade w (kind_of_type ty)
+kind-made : (w : Linked) (ty : Ty) (ws : List ℕ) → AreElementsOf ty ws → CanBeMade w (kind_of_type ty)
 kind-made w ArrBool ws h = tt
 kind-made w ArrByte ws h = tt
 kind-made w ArrShort ws h = tt
@@ -111,10 +111,10 @@ initial-kind [] n a e = absurd (none-some a e)
 initial-kind (x ∷ xs) zero a e = ap (λ (o : Option ArrayRec). option_map (λ (y : ArrayRec). kind_of_type y.kind) o) e
 initial-kind (x ∷ xs) (suc n) a e = initial-kind xs n a e
 
-initial-made : (w : Linked) (arrays : List ArrayRec) → All (λ (a : ArrayRec). AreElementsOf a.kind a.initial) arrays → All (IsMade w) (kinds_of (map (initial_object tagged) arrays))
-initial-made w [] h = All-nil (IsMade w)
+initial-made : (w : Linked) (arrays : List ArrayRec) → All (λ (a : ArrayRec). AreElementsOf a.kind a.initial) arrays → All (CanBeMade w) (kinds_of (map (initial_object tagged) arrays))
+initial-made w [] h = All-nil (CanBeMade w)
 initial-made w (a ∷ arrays) h =
-    All-cons (IsMade w) (kind_of_type a.kind) (kinds_of (map (initial_object tagged) arrays))
+    All-cons (CanBeMade w) (kind_of_type a.kind) (kinds_of (map (initial_object tagged) arrays))
     (kind-made w a.kind a.initial (All-head (λ (a : ArrayRec). AreElementsOf a.kind a.initial) a arrays h))
     (initial-made w arrays (All-tail (λ (a : ArrayRec). AreElementsOf a.kind a.initial) a arrays h))
 
@@ -190,7 +190,7 @@ module _ (w : Linked) where
       let more : List ObjectKind = kinds_of heap ++ kinds.Bytes ∷ [] in
       let same = sym (kinds-more heap o) in
       record {
-        made = subst (All (IsMade w)) same (All-push (IsMade w) (kinds_of heap) kinds.Bytes store.made tt);
+        made = subst (All (CanBeMade w)) same (All-push (CanBeMade w) (kinds_of heap) kinds.Bytes store.made tt);
         objects = subst (λ ks. All (IsTypedObject w.classes ks) (heap ++ o ∷ [])) same
             (All-append (IsTypedObject w.classes more) heap (o ∷ []) (object-more (kinds_of heap) (kinds.Bytes ∷ []) heap store.objects)
             (All-cons (IsTypedObject w.classes more) o [] (shorts-have w.classes more byte_of_word bs) (All-nil (IsTypedObject w.classes more))));

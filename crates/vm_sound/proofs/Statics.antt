@@ -34,7 +34,7 @@ use Rattle.vm_step.specs.Fields.{with_static_read, with_static_write}
 use Rattle.vm_step.specs.Settled.{goes_to}
 use Rattle.vm_sound.specs.Frames.{Typings, types_in, IsStacked}
 use Rattle.vm_sound.specs.State.{field_types, static_types}
-use Rattle.vm_sound.specs.Laws.{IsSafe}
+use Rattle.vm_sound.specs.Laws.{IsTypedOutcome}
 use Rattle.vm_sound.proofs.CellTypes.{has-below, IsReadyCell}
 use Rattle.vm_sound.proofs.Handles.{kinds_of}
 use Rattle.vm_sound.proofs.Ready.{value-ready}
@@ -143,7 +143,7 @@ module _ (w : Linked) (world : IsWorld w) (assigned : Typings) (f : Frame Cell) 
         (slot : ℕ) (kind : Kind) (ty : Ty) → width kind ≡ 1
         → here.turn.operation ≡ ops.StaticRead (record { slot = slot; kind = kind; ty = ty })
         → IsStaticOf w (record { slot = slot; kind = kind; ty = ty })
-        → IsSafe w assigned (goes_to tagged w (here.turn.stands.instruction.place + here.turn.stands.instruction.insn.len) (record { frames = f ∷ below; heap = heap; statics = statics })
+        → IsTypedOutcome w assigned (goes_to tagged w (here.turn.stands.instruction.place + here.turn.stands.instruction.insn.len) (record { frames = f ∷ below; heap = heap; statics = statics })
         (record {
           frames = record { method = f.method; place = f.place; registers = f.registers; stack = slice_index_or statics slot cells.Empty ∷ f.stack } ∷ below;
           heap = heap;
@@ -161,7 +161,7 @@ module _ (w : Linked) (world : IsWorld w) (assigned : Typings) (f : Frame Cell) 
         (slot : ℕ) (kind : Kind) (ty : Ty)
         → here.turn.operation ≡ ops.StaticRead (record { slot = slot; kind = kind; ty = ty })
         → IsStaticOf w (record { slot = slot; kind = kind; ty = ty })
-        → IsSafe w assigned (goes_to tagged w (here.turn.stands.instruction.place + here.turn.stands.instruction.insn.len) (record { frames = f ∷ below; heap = heap; statics = statics })
+        → IsTypedOutcome w assigned (goes_to tagged w (here.turn.stands.instruction.place + here.turn.stands.instruction.insn.len) (record { frames = f ∷ below; heap = heap; statics = statics })
         (with_static_read tagged (record { slot = slot; kind = kind; ty = ty }) (record { frames = f ∷ below; heap = heap; statics = statics })))
     static-read-safe slot fields.Ref ty is field = static-one slot fields.Ref ty refl is field
     static-read-safe slot fields.Byte ty is field = static-one slot fields.Byte ty refl is field
@@ -186,7 +186,7 @@ module _ (w : Linked) (world : IsWorld w) (assigned : Typings) (f : Frame Cell) 
         → here.turn.operation ≡ ops.StaticWrite (record { slot = slot; kind = kind; ty = ty })
         → IsStaticOf w (record { slot = slot; kind = kind; ty = ty })
         → HasType w.classes (kinds_of heap) c ty → IsFilled c
-        → IsSafe w assigned (goes_to tagged w (here.turn.stands.instruction.place + here.turn.stands.instruction.insn.len) (record { frames = f ∷ below; heap = heap; statics = statics })
+        → IsTypedOutcome w assigned (goes_to tagged w (here.turn.stands.instruction.place + here.turn.stands.instruction.insn.len) (record { frames = f ∷ below; heap = heap; statics = statics })
         (record {
           frames = record { method = f.method; place = f.place; registers = f.registers; stack = drop 1 f.stack } ∷ below;
           heap = heap;
@@ -203,7 +203,7 @@ module _ (w : Linked) (world : IsWorld w) (assigned : Typings) (f : Frame Cell) 
         (slot : ℕ) (kind : Kind) (ty : Ty)
         → here.turn.operation ≡ ops.StaticWrite (record { slot = slot; kind = kind; ty = ty })
         → IsStaticOf w (record { slot = slot; kind = kind; ty = ty })
-        → IsSafe w assigned (goes_to tagged w (here.turn.stands.instruction.place + here.turn.stands.instruction.insn.len) (record { frames = f ∷ below; heap = heap; statics = statics })
+        → IsTypedOutcome w assigned (goes_to tagged w (here.turn.stands.instruction.place + here.turn.stands.instruction.insn.len) (record { frames = f ∷ below; heap = heap; statics = statics })
         (with_static_write tagged (record { slot = slot; kind = kind; ty = ty }) (record { frames = f ∷ below; heap = heap; statics = statics })))
     static-write-safe slot fields.Ref ty is field =
         let asked = asked-of w world assigned f below heap statics here (ops.StaticWrite (record { slot = slot; kind = fields.Ref; ty = ty })) is in

@@ -14,10 +14,10 @@ use Rattle.vm_store.specs.Kind.{IsArrayKind}
 use Rattle.vm_store.specs.Typing.{HasType, anything, empty, short, high, low, null, reference, fresh}
 use Rattle.vm_store.specs.Cells.{tagged}
 use Rattle.vm_store.specs.State.{Object}
-use Rattle.vm_store.specs.Objects.{instance_cells, array_cells, with_object}
+use Rattle.vm_store.specs.Objects.{new_instance_cells, array_cells, with_object}
 use Rattle.vm_store.specs.Laws.{CellsHave, IsTypedHeap}
 use Rattle.vm_store.proofs.NewObjects.{new-instances, new-arrays}
-use Rattle.vm_sound.specs.State.{IsMade, static_types}
+use Rattle.vm_sound.specs.State.{CanBeMade, static_types}
 use Rattle.vm_sound.proofs.Handles.{kinds_of, kinds-more}
 use Rattle.vm_sound.proofs.Finish.{IsTypedStore}
 
@@ -40,12 +40,12 @@ module _ (t : ClassTable) (ks more : List ObjectKind) where
 
 module _ (w : Linked) (heap : List (Object Cell)) (statics : List Cell) (store : IsTypedStore w heap statics) where
   with-more :
-      (o : Object Cell) → IsMade w o.kind → IsTypedHeap w.classes (with_object (record { frames = []; heap = heap; statics = statics }) o.kind o.cells)
+      (o : Object Cell) → CanBeMade w o.kind → IsTypedHeap w.classes (with_object (record { frames = []; heap = heap; statics = statics }) o.kind o.cells)
       → IsTypedStore w (heap ++ o ∷ []) statics
   with-more o made typed =
       let same = sym (kinds-more heap o) in
       record {
-        made = subst (All (IsMade w)) same (All-push (IsMade w) (kinds_of heap) o.kind store.made made);
+        made = subst (All (CanBeMade w)) same (All-push (CanBeMade w) (kinds_of heap) o.kind store.made made);
         objects = typed;
         fields = subst (λ ks. CellsHave w.classes ks statics (static_types w.statics)) same
             (have-more w.classes (kinds_of heap) (o.kind ∷ []) statics (static_types w.statics) store.fields);
@@ -53,13 +53,13 @@ module _ (w : Linked) (heap : List (Object Cell)) (statics : List Cell) (store :
 
   pub with-instance :
       IsWorld w → (c : ℕ) → IsConcrete w.classes w.methods c
-      → IsTypedStore w (heap ++ record { kind = Instance c; cells = instance_cells tagged w.classes c } ∷ []) statics
+      → IsTypedStore w (heap ++ record { kind = Instance c; cells = new_instance_cells tagged w.classes c } ∷ []) statics
   with-instance world c concrete =
-      with-more (record { kind = Instance c; cells = instance_cells tagged w.classes c }) concrete
+      with-more (record { kind = Instance c; cells = new_instance_cells tagged w.classes c }) concrete
       (new-instances w.classes _ w.methods world.classes (record { frames = []; heap = heap; statics = statics }) c store.objects concrete.class)
 
   pub with-array :
-      (kind : ObjectKind) (count : ℕ) → IsMade w kind → IsArrayKind kind
+      (kind : ObjectKind) (count : ℕ) → CanBeMade w kind → IsArrayKind kind
       → IsTypedStore w (heap ++ record { kind = kind; cells = array_cells tagged kind count } ∷ []) statics
   with-array kind count made array =
       with-more (record { kind = kind; cells = array_cells tagged kind count }) made

@@ -15,7 +15,7 @@ use Rattle.jc_rules.specs.declared.effect.Cells.{Cells}
 use Rattle.jc_rules.specs.declared.effect.Effect.{Effect}
 use Rattle.jc_rules.specs.declared.effect.Mode.TheVariants.{Flow}
 use Rattle.jc_rules.specs.Demand.{Frame as Types}
-use Rattle.jc_rules.specs.Effect.{listed, changed, Stores}
+use Rattle.jc_rules.specs.Effect.{in_stack_order, changed, StoresInRegisters}
 use Rattle.jc_rules.specs.Rule.{effect, replacing}
 use Rattle.jc_rules.specs.Flow.{CellsBelow, FrameBelow}
 use Rattle.jc_rules.proofs.CellLists.{cells-same, cells-trans, cells-append, cells-drop}
@@ -26,17 +26,17 @@ use Rattle.vm_store.specs.Kind.{kind_of_handle}
 use Rattle.vm_store.specs.Typing.{least_type}
 use Rattle.vm_store.specs.Cells.{tagged}
 use Rattle.vm_store.specs.State.{Frame, Object, State}
-use Rattle.vm_store.specs.Objects.{has_room, instance_cells, with_object}
+use Rattle.vm_store.specs.Objects.{has_room, new_instance_cells, with_object}
 use Rattle.vm_step.specs.declared.exception.Exception.{Exception}
 use Rattle.vm_step.specs.declared.exception.Exception.TheVariants as exceptions
 use Rattle.vm_step.specs.declared.ending.Plain.TheVariants.{HeapFull}
 use Rattle.vm_step.specs.declared.ending.Ending.TheVariants as endings
 use Rattle.vm_step.specs.Act.{Act, raises, role_of, unless_null, if_some}
-use Rattle.vm_step.specs.Calls.{class_in}
+use Rattle.vm_step.specs.Calls.{class_with_methods}
 use Rattle.vm_step.specs.Raising.{ends, thrown, raised}
 use Rattle.vm_step.specs.Settled.{goes_to, settled}
 use Rattle.vm_sound.specs.Frames.{Typings, least_types, types_in, IsStacked, IsTypedFrame, result_of, AreWaiting}
-use Rattle.vm_sound.specs.Laws.{IsSafe}
+use Rattle.vm_sound.specs.Laws.{IsTypedOutcome}
 use Rattle.vm_sound.proofs.CellTypes.{types-fall}
 use Rattle.vm_sound.proofs.Going.{goes-on}
 use Rattle.vm_sound.proofs.Growing.{all-waiting-fall}
@@ -73,7 +73,7 @@ module _ (w : Linked) (world : IsWorld w) (assigned : Typings) (f : Frame Cell) 
         → FrameBelow w.classes (record { regs = least_types w.classes (assigned.unset f.method) (kinds_of heap) registers; stack = least_types w.classes (assigned.unset f.method) (kinds_of heap) stack }) here.turn.after
         → All (IsStacked w here.turn.stands.rec (kinds_of heap)) stack
         → IsTypedStore w objects fields → kinds_of objects ≡ kinds_of heap
-        → IsSafe w assigned (goes_to tagged w (here.turn.stands.instruction.place + here.turn.stands.instruction.insn.len) (record { frames = f ∷ below; heap = heap; statics = statics })
+        → IsTypedOutcome w assigned (goes_to tagged w (here.turn.stands.instruction.place + here.turn.stands.instruction.insn.len) (record { frames = f ∷ below; heap = heap; statics = statics })
         (record { frames = record { method = f.method; place = f.place; registers = registers; stack = stack } ∷ below; heap = objects; statics = fields }))
     on-safe registers stack objects fields falls lower stacked store same =
         let st = here.turn.stands in
@@ -94,7 +94,7 @@ module _ (w : Linked) (world : IsWorld w) (assigned : Typings) (f : Frame Cell) 
     pub replaced-below :
         (taken : ℕ) (given : Cells) (value : List Cell) (ks : List ObjectKind)
         → effect w here.turn.operation (types_in w.classes (assigned.unset f.method) (kinds_of heap) f) ≡ replacing taken given
-        → CellsBelow w.classes (least_types w.classes (assigned.unset f.method) ks value) (listed given)
+        → CellsBelow w.classes (least_types w.classes (assigned.unset f.method) ks value) (in_stack_order given)
         → CellsBelow w.classes (least_types w.classes (assigned.unset f.method) ks f.registers) (least_types w.classes (assigned.unset f.method) (kinds_of heap) f.registers)
         → CellsBelow w.classes (least_types w.classes (assigned.unset f.method) ks f.stack) (least_types w.classes (assigned.unset f.method) (kinds_of heap) f.stack)
         → FrameBelow w.classes
@@ -103,15 +103,15 @@ module _ (w : Linked) (world : IsWorld w) (assigned : Typings) (f : Frame Cell) 
         let exact = types_in w.classes (assigned.unset f.method) (kinds_of heap) f in
         let a = here.turn.applies in
         let after = here.turn.after in
-        let stack_is : after.stack ≡ listed given ++ drop taken exact.stack = a.stack ∙ ap (λ (e : Effect). changed e.change exact.stack) is in
-        let regs_are : after.regs ≡ exact.regs = subst (λ (e : Effect). Stores w.classes Flow e.store exact.regs after.regs) is a.regs in
+        let stack_is : after.stack ≡ in_stack_order given ++ drop taken exact.stack = a.stack ∙ ap (λ (e : Effect). changed e.change exact.stack) is in
+        let regs_are : after.regs ≡ exact.regs = subst (λ (e : Effect). StoresInRegisters w.classes Flow e.store exact.regs after.regs) is a.regs in
         let split : least_types w.classes (assigned.unset f.method) ks (value ++ drop taken f.stack) ≡ least_types w.classes (assigned.unset f.method) ks value ++ drop taken (least_types w.classes (assigned.unset f.method) ks f.stack) =
         map-append (least_type w.classes (assigned.unset f.method) ks) value (drop taken f.stack)
         ∙ ap (λ ts. least_types w.classes (assigned.unset f.method) ks value ++ ts) (sym (drop-map (least_type w.classes (assigned.unset f.method) ks) taken f.stack)) in
         record {
           regs = subst (CellsBelow w.classes (least_types w.classes (assigned.unset f.method) ks f.registers)) (sym regs_are) regs;
           stack = subst (CellsBelow w.classes (least_types w.classes (assigned.unset f.method) ks (value ++ drop taken f.stack))) (sym stack_is)
-              (subst (λ ts. CellsBelow w.classes ts (listed given ++ drop taken exact.stack)) (sym split)
+              (subst (λ ts. CellsBelow w.classes ts (in_stack_order given ++ drop taken exact.stack)) (sym split)
               (cells-append w.classes lower (cells-drop w.classes taken stack)));
         }
 
@@ -120,10 +120,10 @@ module _ (w : Linked) (world : IsWorld w) (assigned : Typings) (f : Frame Cell) 
         (taken : ℕ) (given : Cells) (value : List Cell) (objects : List (Object Cell)) (fields : List Cell)
         → effect w here.turn.operation (types_in w.classes (assigned.unset f.method) (kinds_of heap) f) ≡ replacing taken given
         → falls_from here.turn.operation ≡ true
-        → CellsBelow w.classes (least_types w.classes (assigned.unset f.method) (kinds_of heap) value) (listed given)
+        → CellsBelow w.classes (least_types w.classes (assigned.unset f.method) (kinds_of heap) value) (in_stack_order given)
         → All (IsStacked w here.turn.stands.rec (kinds_of heap)) value
         → IsTypedStore w objects fields → kinds_of objects ≡ kinds_of heap
-        → IsSafe w assigned (goes_to tagged w (here.turn.stands.instruction.place + here.turn.stands.instruction.insn.len) (record { frames = f ∷ below; heap = heap; statics = statics })
+        → IsTypedOutcome w assigned (goes_to tagged w (here.turn.stands.instruction.place + here.turn.stands.instruction.insn.len) (record { frames = f ∷ below; heap = heap; statics = statics })
         (record {
           frames = record { method = f.method; place = f.place; registers = f.registers; stack = value ++ drop taken f.stack } ∷ below;
           heap = objects;
@@ -155,18 +155,18 @@ module _ (w : Linked) (world : IsWorld w) (assigned : Typings) (f : Frame Cell) 
     catching-now = subst (λ ks. AreCatching w assigned ks (f ∷ below)) (append-nil (kinds_of heap)) (catching [])
 
     throwable : (ks : List ObjectKind) (handle : ℕ) (k : ObjectKind) → kind_of_handle ks handle ≡ Some k
-        → IsThrowable w.classes ks (class_in w.classes (kind_of_handle ks handle)) handle
+        → IsThrowable w.classes ks (class_with_methods w.classes (kind_of_handle ks handle)) handle
     unfolding IsThrowable
     throwable ks handle k e = λ d on.
         subst (λ ty. Below w.classes ty (Class d)) (sym (kind-type w.classes ks handle k e))
-        (kind-throwable w.classes world.chains k d (subst (λ o. is_on_chain w.classes d (class_in w.classes o) ≡ true) e on))
+        (kind-throwable w.classes world.chains k d (subst (λ o. is_on_chain w.classes d (class_with_methods w.classes o) ≡ true) e on))
 
     -- an object
     pub throw-safe :
         (handle : ℕ) (k : ObjectKind) → kind_of_handle (kinds_of heap) handle ≡ Some k
-        → IsSafe w assigned (thrown tagged w handle (record { frames = f ∷ below; heap = heap; statics = statics }))
+        → IsTypedOutcome w assigned (thrown tagged w handle (record { frames = f ∷ below; heap = heap; statics = statics }))
     throw-safe handle k e =
-        unwound-safe w assigned heap statics here.store (class_in w.classes (kind_of_handle (kinds_of heap) handle)) handle (throwable (kinds_of heap) handle k e)
+        unwound-safe w assigned heap statics here.store (class_with_methods w.classes (kind_of_handle (kinds_of heap) handle)) handle (throwable (kinds_of heap) handle k e)
         (f ∷ below) (f ∷ below) catching-now
 
     role-range : (e : Exception) → (2 ≤ role_of e) × (role_of e < 8)
@@ -177,25 +177,25 @@ module _ (w : Linked) (world : IsWorld w) (assigned : Typings) (f : Frame Cell) 
     role-range exceptions.ClassCast = (lit≤ tt, lit< tt)
     role-range exceptions.ArrayStore = (lit≤ tt, lit< tt)
 
-    made-thrown : (c : ℕ) → IsConcrete w.classes w.methods c → IsSafe w assigned (thrown tagged w (length heap + 1)
-        (with_object (record { frames = f ∷ below; heap = heap; statics = statics }) (Instance c) (instance_cells tagged w.classes c)))
+    made-thrown : (c : ℕ) → IsConcrete w.classes w.methods c → IsTypedOutcome w assigned (thrown tagged w (length heap + 1)
+        (with_object (record { frames = f ∷ below; heap = heap; statics = statics }) (Instance c) (new_instance_cells tagged w.classes c)))
     made-thrown c concrete =
-        let o : Object Cell = record { kind = Instance c; cells = instance_cells tagged w.classes c } in
+        let o : Object Cell = record { kind = Instance c; cells = new_instance_cells tagged w.classes c } in
         let objects : List (Object Cell) = heap ++ o ∷ [] in
         let handle : ℕ = length heap + 1 in
         let kind : kind_of_handle (kinds_of objects) handle ≡ Some (Instance c) =
         subst (λ ks. kind_of_handle ks handle ≡ Some (Instance c)) (sym (kinds-more heap o)) (new-kind heap o) in
-        unwound-safe w assigned objects statics (with-instance w heap statics here.store world c concrete) (class_in w.classes (kind_of_handle (kinds_of objects) handle)) handle
+        unwound-safe w assigned objects statics (with-instance w heap statics here.store world c concrete) (class_with_methods w.classes (kind_of_handle (kinds_of objects) handle)) handle
         (throwable (kinds_of objects) handle (Instance c) kind) (f ∷ below) (f ∷ below)
         (subst (λ ks. AreCatching w assigned ks (f ∷ below)) (sym (kinds-more heap o)) (catching (Instance c ∷ [])))
 
     -- an exception, of which an object is made where it has room
-    pub raise-safe : (exception : Exception) → IsSafe w assigned (raised tagged w exception (record { frames = f ∷ below; heap = heap; statics = statics }))
+    pub raise-safe : (exception : Exception) → IsTypedOutcome w assigned (raised tagged w exception (record { frames = f ∷ below; heap = heap; statics = statics }))
     raise-safe exception =
         let now : State Cell = record { frames = f ∷ below; heap = heap; statics = statics } in
         let class : ℕ = slice_index w.classes.roles (role_of exception) in
         safe-if w assigned (has_room now (length (cells_of w.classes class)))
-        (thrown tagged w (length heap + 1) (with_object now (Instance class) (instance_cells tagged w.classes class)))
+        (thrown tagged w (length heap + 1) (with_object now (Instance class) (new_instance_cells tagged w.classes class)))
         (ends (endings.Plain HeapFull) now)
         (made-thrown class (world.roles.others (role_of exception) (role-range exception).0 (role-range exception).1).concrete)
         (plain-safe w assigned HeapFull (f ∷ below) heap statics here.store)
@@ -205,18 +205,18 @@ module _ (w : Linked) (world : IsWorld w) (assigned : Typings) (f : Frame Cell) 
     -- where an object is there
     pub null-safe :
         (next h : ℕ) (rest : ℕ → Act Cell)
-        → ((h ≡ 0 → ⊥) → IsSafe w assigned (settled tagged w next (record { frames = f ∷ below; heap = heap; statics = statics }) (rest h)))
-        → IsSafe w assigned (settled tagged w next (record { frames = f ∷ below; heap = heap; statics = statics }) (unless_null h rest))
+        → ((h ≡ 0 → ⊥) → IsTypedOutcome w assigned (settled tagged w next (record { frames = f ∷ below; heap = heap; statics = statics }) (rest h)))
+        → IsTypedOutcome w assigned (settled tagged w next (record { frames = f ∷ below; heap = heap; statics = statics }) (unless_null h rest))
     null-safe next h rest safe = go (h == 0) refl
       where
         go : (b : Bool) → (h == 0) ≡ b
-            → IsSafe w assigned (settled tagged w next (record { frames = f ∷ below; heap = heap; statics = statics }) (if b then raises exceptions.NullPointer else rest h))
+            → IsTypedOutcome w assigned (settled tagged w next (record { frames = f ∷ below; heap = heap; statics = statics }) (if b then raises exceptions.NullPointer else rest h))
         go true e = raise-safe exceptions.NullPointer
         go false e = safe (eqb-false h 0 e)
 
     pub some-safe :
         {X : Type 0} (next : ℕ) (exception : Exception) (o : Option X) (rest : X → Act Cell)
-        → ((x : X) → o ≡ Some x → IsSafe w assigned (settled tagged w next (record { frames = f ∷ below; heap = heap; statics = statics }) (rest x)))
-        → IsSafe w assigned (settled tagged w next (record { frames = f ∷ below; heap = heap; statics = statics }) (if_some exception o rest))
+        → ((x : X) → o ≡ Some x → IsTypedOutcome w assigned (settled tagged w next (record { frames = f ∷ below; heap = heap; statics = statics }) (rest x)))
+        → IsTypedOutcome w assigned (settled tagged w next (record { frames = f ∷ below; heap = heap; statics = statics }) (if_some exception o rest))
     some-safe next exception None rest safe = raise-safe exception
     some-safe next exception (Some x) rest safe = safe x refl

@@ -30,7 +30,7 @@ use Rattle.vm_store.specs.declared.cell.Cell.{Cell}
 use Rattle.vm_store.specs.declared.kind.ObjectKind.{ObjectKind}
 use Rattle.vm_store.specs.State.{Frame}
 use Rattle.vm_step.specs.Methods.{of_method, code_at, instruction_at}
-use Rattle.vm_step.specs.Settled.{place_after}
+use Rattle.vm_step.specs.Settled.{return_place}
 use Rattle.vm_sound.specs.Frames.{Typings, least_types, types_in, types_with, IsStacked, Standing, IsTypedFrame, at_next, IsWaiting}
 use Rattle.vm_sound.proofs.CellTypes.{some-both, some-weaker, not_bottoms, bottoms-below}
 use Rattle.vm_sound.proofs.Places.{IsThere, instruction-there, place-instruction}
@@ -164,7 +164,7 @@ module _ (w : Linked) (world : IsWorld w) (assigned : Typings) where
       let at = place-instruction (code_of w.infos st.rec) q (successor-place f st to) in
       let here : instruction_at (code_at w f.method) f.place ≡ Some st.instruction =
       ap (λ bytes. instruction_at bytes f.place) (ap (of_method [] (code_of w.infos)) st.is_method) ∙ st.there in
-      let next : q ≡ (at_next w caller).place = ap place_after (sym here) in
+      let next : q ≡ (at_next w caller).place = ap return_place (sym here) in
       let exact : Types = types_with w.classes (assigned.unset f.method) ks result caller in
       record {
         stands = record {

@@ -34,11 +34,11 @@ use Rattle.vm_step.specs.declared.ending.Plain.TheVariants.{Threw}
 use Rattle.vm_step.specs.declared.ending.Ending.TheVariants as endings
 use Rattle.vm_step.specs.declared.ending.Fault.TheVariants.{StackFault}
 use Rattle.vm_step.specs.Methods.{of_method, max_stack_of}
-use Rattle.vm_step.specs.Calls.{class_in}
+use Rattle.vm_step.specs.Calls.{class_with_methods}
 use Rattle.vm_step.specs.Raising.{running, ends, catches, handler_for, caught_by, caught_or, unwound}
 use Rattle.vm_step.specs.Raising.{caught as caught_in}
 use Rattle.vm_sound.specs.Frames.{Typings, least_types, IsStacked, Standing, IsTypedFrame, result_of, AreWaiting}
-use Rattle.vm_sound.specs.Laws.{IsSafe}
+use Rattle.vm_sound.specs.Laws.{IsTypedOutcome}
 use Rattle.vm_sound.proofs.CellTypes.{some-both, some-weaker}
 use Rattle.vm_sound.proofs.Places.{place-instruction}
 use Rattle.vm_sound.proofs.Turns.{frame-trans}
@@ -48,7 +48,7 @@ use Rattle.vm_sound.proofs.Finish.{IsTypedStore, plain-safe}
 unfoldable pub IsThrowable : ClassTable → List ObjectKind → ℕ → ℕ → Type 0
 IsThrowable t ks class handle = (d : ℕ) → is_on_chain t d class ≡ true → Below t (least_type t Bottom ks (cells.Ref handle)) (Class d)
 
-pub kind-throwable : (t : ClassTable) → AreClasses t → (k : ObjectKind) (d : ℕ) → is_on_chain t d (class_in t (Some k)) ≡ true → Below t (type_of_kind t k) (Class d)
+pub kind-throwable : (t : ClassTable) → AreClasses t → (k : ObjectKind) (d : ℕ) → is_on_chain t d (class_with_methods t (Some k)) ≡ true → Below t (type_of_kind t k) (Class d)
 unfolding is_below
 kind-throwable t are (Instance c) d h = Below-from_is_below t are (Class c) (Class d) h
 kind-throwable t are Booleans d h = array_object of_booleans (sym (on_object t are d h))
@@ -142,26 +142,26 @@ module _ (w : Linked) (assigned : Typings) (heap : List (Object Cell)) (statics 
         (frames : List (Frame Cell)) (f : Frame Cell) (below : List (Frame Cell)) (h : Handler)
         → IsCaught w assigned (map (λ (o : Object Cell). o.kind) heap) f h handle
         → AreWaiting w assigned (map (λ (o : Object Cell). o.kind) heap) (result_of w f.method) below
-        → IsSafe w assigned (caught_by tagged w h handle (record { frames = frames; heap = heap; statics = statics }) f below)
+        → IsTypedOutcome w assigned (caught_by tagged w h handle (record { frames = frames; heap = heap; statics = statics }) f below)
     caught-safe frames f below h is waits = go (nat_lt (max_stack_of w f.method) 1) (le-ltb (max_stack_of w f.method) 1 is.room)
       where
         go : (b : Bool) → b ≡ false
-            → IsSafe w assigned (if true && b then ends (endings.Faulted StackFault) (record { frames = frames; heap = heap; statics = statics })
+            → IsTypedOutcome w assigned (if true && b then ends (endings.Faulted StackFault) (record { frames = frames; heap = heap; statics = statics })
             else running (record { frames = caught_in tagged h handle f ∷ below; heap = heap; statics = statics }))
         go true e = absurd (false≢true (sym e))
         go false e = record { made = store.made; heap = store.objects; statics = store.fields; frames = (is.typed, waits) }
 
     pub unwound-safe :
         (frames fs : List (Frame Cell)) → AreCatching w assigned (map (λ (o : Object Cell). o.kind) heap) fs
-        → IsSafe w assigned (unwound tagged w class handle (record { frames = frames; heap = heap; statics = statics }) fs)
+        → IsTypedOutcome w assigned (unwound tagged w class handle (record { frames = frames; heap = heap; statics = statics }) fs)
     unfolding AreCatching
     unwound-safe frames [] h = plain-safe w assigned (Threw class handle) frames heap statics store
     unwound-safe frames (f ∷ fs) h =
         go (handler_for w class f) refl (unwound-safe frames fs (waiting-catching w assigned (map (λ (o : Object Cell). o.kind) heap) (result_of w f.method) fs h.1))
       where
         go : (o : Option Handler) → handler_for w class f ≡ o
-            → IsSafe w assigned (unwound tagged w class handle (record { frames = frames; heap = heap; statics = statics }) fs)
-            → IsSafe w assigned (caught_or tagged w handle (record { frames = frames; heap = heap; statics = statics }) f fs
+            → IsTypedOutcome w assigned (unwound tagged w class handle (record { frames = frames; heap = heap; statics = statics }) fs)
+            → IsTypedOutcome w assigned (caught_or tagged w handle (record { frames = frames; heap = heap; statics = statics }) f fs
             (unwound tagged w class handle (record { frames = frames; heap = heap; statics = statics }) fs) o)
         go None e rest = rest
         go (Some x) e rest = caught-safe frames f fs x (catch-typed w assigned (map (λ (o : Object Cell). o.kind) heap) f class handle x h.0 thrown e) h.1

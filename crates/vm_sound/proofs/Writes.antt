@@ -22,8 +22,8 @@ use Rattle.vm_store.proofs.TypedHeaps.{kinds-write, heap-read, heap-write}
 use Rattle.vm_step.specs.Numbers.{dropped}
 use Rattle.vm_step.specs.Settled.{goes_to}
 use Rattle.vm_sound.specs.Frames.{Typings, types_in, IsStacked}
-use Rattle.vm_sound.specs.State.{IsMade, static_types}
-use Rattle.vm_sound.specs.Laws.{IsSafe}
+use Rattle.vm_sound.specs.State.{CanBeMade, static_types}
+use Rattle.vm_sound.specs.Laws.{IsTypedOutcome}
 use Rattle.vm_sound.proofs.Finish.{IsTypedStore}
 use Rattle.vm_sound.proofs.Handles.{kinds_of}
 use Rattle.vm_sound.proofs.Turning.{Here, replace-safe}
@@ -61,7 +61,7 @@ module _ (w : Linked) (heap : List (Object Cell)) (statics : List Cell) where
   store-write h i ty c store e has filled =
       let same = sym (kinds-write heap h i c) in
       record {
-        made = subst (All (IsMade w)) same store.made;
+        made = subst (All (CanBeMade w)) same store.made;
         objects = heap-write w.classes (with_heap heap) (suc h) i ty c store.objects e has filled;
         fields = subst (λ ks. CellsHave w.classes ks statics (static_types w.statics)) same store.fields;
       }
@@ -74,7 +74,7 @@ module _ (w : Linked) (world : IsWorld w) (assigned : Typings) (f : Frame Cell) 
         → here.turn.operation ≡ op
         → effect w op (types_in w.classes (assigned.unset f.method) (kinds_of heap) f) ≡ replacing taken given.Nothing → falls_from op ≡ true
         → (h ≡ 0 → ⊥) → type_at w.classes (with_heap heap) h i ≡ Some ty → HasType w.classes (kinds_of heap) c ty → IsFilled c
-        → IsSafe w assigned (goes_to tagged w (here.turn.stands.instruction.place + here.turn.stands.instruction.insn.len) (record { frames = f ∷ below; heap = heap; statics = statics })
+        → IsTypedOutcome w assigned (goes_to tagged w (here.turn.stands.instruction.place + here.turn.stands.instruction.insn.len) (record { frames = f ∷ below; heap = heap; statics = statics })
         (with_object_value (dropped (record { frames = f ∷ below; heap = heap; statics = statics }) taken) h i (c ∷ [])))
     write-safe zero i ty c taken op is does falls some e has filled = absurd (some refl)
     write-safe (suc h) i ty c taken op is does falls some e has filled =
@@ -89,7 +89,7 @@ module _ (w : Linked) (world : IsWorld w) (assigned : Typings) (f : Frame Cell) 
         → effect w op (types_in w.classes (assigned.unset f.method) (kinds_of heap) f) ≡ replacing taken given.Nothing → falls_from op ≡ true
         → (h ≡ 0 → ⊥) → type_at w.classes (with_heap heap) h i ≡ Some ty → HasType w.classes (kinds_of heap) c ty → IsFilled c
         → type_at w.classes (with_heap heap) h (i + 1) ≡ Some low → HasType w.classes (kinds_of heap) d low → IsFilled d
-        → IsSafe w assigned (goes_to tagged w (here.turn.stands.instruction.place + here.turn.stands.instruction.insn.len) (record { frames = f ∷ below; heap = heap; statics = statics })
+        → IsTypedOutcome w assigned (goes_to tagged w (here.turn.stands.instruction.place + here.turn.stands.instruction.insn.len) (record { frames = f ∷ below; heap = heap; statics = statics })
         (with_object_value (dropped (record { frames = f ∷ below; heap = heap; statics = statics }) taken) h i (c ∷ d ∷ [])))
     write-int-safe zero i ty low c d taken op is does falls some e has filled e2 has2 filled2 = absurd (some refl)
     write-int-safe (suc h) i ty low c d taken op is does falls some e has filled e2 has2 filled2 =

@@ -14,7 +14,7 @@ use Rattle.jc_ops.specs.declared.operation.Operation.TheVariants as ops
 use Rattle.jc_ops.specs.Row.{row_at}
 use Rattle.jc_ops.specs.Resolve.{resolved}
 use Rattle.jc_rules.specs.Demand.{Frame as Types}
-use Rattle.jc_rules.specs.Effect.{listed}
+use Rattle.jc_rules.specs.Effect.{in_stack_order}
 use Rattle.jc_rules.specs.Rule.{result_given, result_at}
 use Rattle.jc_rules.specs.Flow.{CellsBelow, FrameBelow, At, FlowTyping}
 use Rattle.vm_store.specs.declared.cell.Cell.{Cell}
@@ -25,7 +25,7 @@ use Rattle.vm_store.specs.Kind.{kind_of_handle}
 use Rattle.vm_store.specs.Typing.{least_type}
 use Rattle.vm_store.specs.State.{Frame}
 use Rattle.vm_step.specs.Methods.{code_at, instruction_at}
-use Rattle.vm_step.specs.Settled.{place_after}
+use Rattle.vm_step.specs.Settled.{return_place}
 
 -- the least types of cells, where an empty register is read as of the type `unset`
 abbrev pub least_types : ClassTable → Ty → List ObjectKind → List Cell → List Ty
@@ -37,7 +37,7 @@ types_in t unset ks f = record { regs = least_types t unset ks f.registers; stac
 -- the types of the frame of a caller, once it has been given a result
 abbrev pub types_with : ClassTable → Ty → List ObjectKind → Option Ty → Frame Cell → Types
 types_with t unset ks result f =
-    record { regs = least_types t unset ks f.registers; stack = listed (result_given result) ++ least_types t unset ks f.stack }
+    record { regs = least_types t unset ks f.registers; stack = in_stack_order (result_given result) ++ least_types t unset ks f.stack }
 
 -- ---- objects on which no constructor was called
 
@@ -84,7 +84,7 @@ pub record IsTypedFrame (w : Linked) (typings : Typings) (ks : List ObjectKind) 
 
 -- the frame at the instruction after its own
 abbrev pub at_next : Linked → Frame Cell → Frame Cell
-at_next w f = record f { place = place_after (instruction_at (code_at w f.method) f.place) }
+at_next w f = record f { place = return_place (instruction_at (code_at w f.method) f.place) }
 
 -- a frame whose method waits for the result of a call: its registers are typed at the call, for what may be thrown, and all of it is
 -- after the call, once the result lies on the stack

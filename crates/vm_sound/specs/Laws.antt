@@ -35,22 +35,22 @@ abbrev pub TypedMethodsHaveTypings : Linked → Type 0
 TypedMethodsHaveTypings w = (unset : Ty) → AreTypedMethods w unset → HasTypings w unset
 
 -- no fault, and a typed state
-abbrev pub IsSafe : Linked → Typings → Outcome Cell → Type 0
-IsSafe w typings (running s) = IsTypedState w typings s
-IsSafe w typings (ended (Plain plain) s) = IsTypedState w typings s
-IsSafe w typings (ended (Faulted fault) s) = ⊥
+abbrev pub IsTypedOutcome : Linked → Typings → Outcome Cell → Type 0
+IsTypedOutcome w typings (running s) = IsTypedState w typings s
+IsTypedOutcome w typings (ended (Plain plain) s) = IsTypedState w typings s
+IsTypedOutcome w typings (ended (Faulted fault) s) = ⊥
 
 -- a step from a typed state leads to a typed state, or ends the run with no fault
 abbrev pub StepsAreSafe : Linked → Type 0
 StepsAreSafe w =
     (typings : Typings) (s : State Cell) (o : Outcome Cell)
-    → AreTypings w typings → IsTypedState w typings s → Steps tagged w s o → IsSafe w typings o
+    → AreTypings w typings → IsTypedState w typings s → Steps tagged w s o → IsTypedOutcome w typings o
 
 -- and so does a run of any number of steps
 abbrev pub RunsAreSafe : Linked → Type 0
 RunsAreSafe w =
     (typings : Typings) (n : ℕ) (s : State Cell) (o : Outcome Cell)
-    → AreTypings w typings → IsTypedState w typings s → Runs tagged w n s o → IsSafe w typings o
+    → AreTypings w typings → IsTypedState w typings s → Runs tagged w n s o → IsTypedOutcome w typings o
 
 -- a run begins in a typed state
 abbrev pub StartsAreTyped : Linked → Type 0

@@ -16,10 +16,10 @@ use Rattle.vm_store.specs.Laws.{CellsHave, IsTypedHeap}
 use Rattle.vm_sound.specs.Frames.{Typings, AreTypedFrames}
 
 -- what an object can be: an instance of a class of which objects can be made, or an array
-abbrev pub IsMade : Linked → ObjectKind → Type 0
-IsMade w (Instance c) = IsConcrete w.classes w.methods c
-IsMade w (References c) = c < length w.classes.records
-IsMade w _ = ⊤
+abbrev pub CanBeMade : Linked → ObjectKind → Type 0
+CanBeMade w (Instance c) = IsConcrete w.classes w.methods c
+CanBeMade w (References c) = c < length w.classes.records
+CanBeMade w _ = ⊤
 
 -- the types of the cells of a field
 abbrev pub field_types : Kind → Ty → List Ty
@@ -34,7 +34,7 @@ static_types (f ∷ fs) = field_types f.kind f.ty ++ static_types fs
 -- objects and static fields have cells of their types; the frame on top is typed before its instruction, and each under it waits for the
 -- result of the one above
 pub record IsTypedState (w : Linked) (typings : Typings) (s : State Cell) : Type 0 where
-  pub made : All (IsMade w) (kinds s)
+  pub made : All (CanBeMade w) (kinds s)
   pub heap : IsTypedHeap w.classes s
   pub statics : CellsHave w.classes (kinds s) s.statics (static_types w.statics)
   pub frames : AreTypedFrames w typings (kinds s) s.frames

@@ -12,7 +12,7 @@ use Rattle.jc_base.specs.World.{Linked}
 use Rattle.jc_decode.specs.Layout.{layout_of, opcode}
 use Rattle.jc_decode.specs.Decoding.{decoded}
 use Rattle.jc_decode.specs.Listing.{listing, listing_from, at_most}
-use Rattle.jc_ops.specs.Row.{table, row_at, unused, by_sort, by_width, by_kind, first_four, by_register, literals, binary, orders_all, branching}
+use Rattle.jc_ops.specs.Row.{table, row_at, unused, by_sort, by_width, by_kind, first_four, by_register, literals, binaries, orders_all, branching}
 use Rattle.vm_store.specs.declared.cell.Cell.TheVariants as cells
 use Rattle.vm_store.specs.declared.kind.ObjectKind.TheVariants.{Instance, Bytes}
 use Rattle.vm_step.specs.Methods.{instruction_at}
@@ -77,14 +77,14 @@ waiting_types = refl
 new_told : class_made world maker 0 ≡ Some 0
 unfolding
     instruction_at listing listing_from at_most decoded layout_of opcode row_at table by_sort by_width by_kind first_four by_register
-    literals binary orders_all branching unused is_concrete is_interface
+    literals binaries orders_all branching unused is_concrete is_interface
     chain chain_over parent_of package_of public_of visible_of visible_in nearest_of
 new_told = refl
 
 none_told : class_made world maker 3 ≡ None
 unfolding
     instruction_at listing listing_from at_most decoded layout_of opcode row_at table by_sort by_width by_kind first_four by_register
-    literals binary orders_all branching unused
+    literals binaries orders_all branching unused
 none_told = refl
 
 -- the halves of an int take two cells

@@ -17,7 +17,7 @@ use Rattle.vm_store.specs.Objects.{object_cells, with_object, with_object_cell, 
 use Rattle.vm_store.specs.Layout.{overwritten}
 use Rattle.vm_store.proofs.Fills.{length-array}
 use Rattle.vm_step.specs.Objects.{kind_of_type}
-use Rattle.vm_step.specs.Start.{int_cells, element_cells, initial_object}
+use Rattle.vm_step.specs.Start.{int_cells, initial_element_cells, initial_object}
 use Rattle.vm_start.proofs.Writing.{last-cells, last-cell-more, length-overwritten, overwritten-whole}
 
 -- an array of elements of one cell
@@ -163,9 +163,9 @@ ints-done {A} k s z words i even le e =
 
 -- ---- the cells of initial arrays
 
-pub initial-size : {A : Type 0} (k : Cells A) (a : ArrayRec) → AreElementsOf a.kind a.initial → length (element_cells k (kind_of_type a.kind) a.initial) ≡ length a.initial
+pub initial-size : {A : Type 0} (k : Cells A) (a : ArrayRec) → AreElementsOf a.kind a.initial → length (initial_element_cells k (kind_of_type a.kind) a.initial) ≡ length a.initial
 initial-size k a h = go a.kind h where
-  go : (ty : Ty) → AreElementsOf ty a.initial → length (element_cells k (kind_of_type ty) a.initial) ≡ length a.initial
+  go : (ty : Ty) → AreElementsOf ty a.initial → length (initial_element_cells k (kind_of_type ty) a.initial) ≡ length a.initial
   go types.ArrBool e = length-map a.initial _
   go types.ArrByte e = length-map a.initial _
   go types.ArrShort e = length-map a.initial _

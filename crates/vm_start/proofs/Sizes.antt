@@ -16,7 +16,7 @@ use Rattle.jc_base.specs.World.{Linked, IsWorld}
 use Rattle.jc_base.proofs.Lists.{All-slice_get}
 use Rattle.vm_store.specs.declared.kind.ObjectKind.{ObjectKind}
 use Rattle.vm_store.specs.Cells.{Cells}
-use Rattle.vm_store.specs.State.{State, Object, entered, register_count, registers_of}
+use Rattle.vm_store.specs.State.{State, Object, entered, register_count, register_count_of}
 use Rattle.vm_step.specs.Objects.{kind_of_type}
 use Rattle.vm_step.specs.Methods.{of_method}
 use Rattle.vm_step.specs.Arguments.{Argument, number, null, bytes}
@@ -74,7 +74,7 @@ module _ {A : Type 0} (k : Cells A) where
       let types : parameters m ≡ of_method [] parameters (slice_get w.methods entry) = sym (ap (of_method [] parameters) t.is) in
       let cells = cells_handed k (length w.arrays) args (of_method [] parameters (slice_get w.methods entry)) in
       let size : length cells ≡ length m.sig.args = ap (λ (ts : List Ty). length (cells_handed k (length w.arrays) args ts)) (sym types) ∙ handed in
-      let count : register_count w.methods entry ≡ m.nargs + m.max_locals = ap registers_of t.is in
+      let count : register_count w.methods entry ≡ m.nargs + m.max_locals = ap register_count_of t.is in
       record {
         known = there-inside w.methods entry m t.is;
         registers = filled (register_count w.methods entry) cells (omega (arith, size, count, method.words));

@@ -4,8 +4,8 @@ ghost use Rattle.jc_base.specs.Cell.{AreElementsOf};
 ghost use Rattle.vm_store.specs.Cells.{short_of_word};
 ghost use Rattle.vm_store.specs.Value.{byte_of_word};
 ghost use Rattle.vm_store.specs.Kind.{IsArrayKind, IsNumbered, element_width};
-ghost use Rattle.vm_store.specs.Objects.{has_room, with_object, cell_count};
-ghost use Rattle.vm_step.specs.Start.{int_cells, element_cells, initial_object, with_arrays, first_without_room};
+ghost use Rattle.vm_store.specs.Objects.{has_room, with_object, heap_cells};
+ghost use Rattle.vm_step.specs.Start.{int_cells, initial_element_cells, initial_object, with_arrays, first_without_room};
 
 use jc_base::{ArrayRec, Ty, World};
 use vm_step::{Arg, Args};
@@ -99,7 +99,7 @@ pub fn make_initial_arrays<S: Store>(store: &mut S, world: &World<'_>)
 /// An array for each argument of bytes.
 pub fn make_argument_arrays<S: Store>(store: &mut S, args: &Args<'_>)
     requires well { S.well store.old }
-    requires room { first_without_room 0 (length (S.state store.old).heap) (cell_count (S.state store.old)) args.now ≡ None }
+    requires room { first_without_room 0 (length (S.state store.old).heap) (heap_cells (S.state store.old)) args.now ≡ None }
     ensures state { S.state store.new ≡ with_arrays S.Cell.cells args.now (S.state store.old) }
     ensures well { S.well store.new }
     ensures fixed { S.fixed store.new ≡ S.fixed store.old }

@@ -20,7 +20,7 @@ use Rattle.vm_store.proofs.Erasing.{entered-erased}
 use Rattle.vm_step.specs.Objects.{kind_of_type}
 use Rattle.vm_step.specs.Methods.{of_method}
 use Rattle.vm_step.specs.Arguments.{Argument, number, null, bytes}
-use Rattle.vm_step.specs.Start.{field_cells, int_cells, element_cells, initial_object, initial, with_arrays, argument_cells, arrays_made, cells_handed, parameters, entry_state}
+use Rattle.vm_step.specs.Start.{field_cells, int_cells, initial_element_cells, initial_object, initial, with_arrays, argument_cells, arrays_made, cells_handed, parameters, entry_state}
 
 -- a cell for each word
 each-word : (f : ℕ → Cell) (ws : List ℕ) → map word_of (map f ws) ≡ map (λ w. word_of (f w)) ws
@@ -49,7 +49,7 @@ ints-erased [] = refl
 ints-erased (a ∷ []) = refl
 ints-erased (a ∷ b ∷ ws) = ap (λ (xs : List ℕ). a ∷ b ∷ xs) (ints-erased ws)
 
-elements-erased : (kind : ObjectKind) (ws : List ℕ) → map word_of (element_cells tagged kind ws) ≡ element_cells words kind ws
+elements-erased : (kind : ObjectKind) (ws : List ℕ) → map word_of (initial_element_cells tagged kind ws) ≡ initial_element_cells words kind ws
 elements-erased Ints ws = ints-erased ws
 elements-erased (Instance c) ws = each-word (λ w. tagged.short (short_of_word w)) ws
 elements-erased Booleans ws = each-word (λ w. tagged.short (short_of_word w)) ws

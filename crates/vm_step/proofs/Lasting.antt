@@ -8,7 +8,7 @@ use Rattle.vm_store.specs.declared.cell.Cell.{Cell}
 use Rattle.vm_store.specs.declared.kind.ObjectKind.TheVariants.{Instance}
 use Rattle.vm_store.specs.Cells.{Cells, tagged}
 use Rattle.vm_store.specs.State.{Frame, State, IsRunning, top, with_place, with_stack, with_call, without_top, frame_limit}
-use Rattle.vm_store.specs.Objects.{has_room, instance_cells, with_object}
+use Rattle.vm_store.specs.Objects.{has_room, new_instance_cells, with_object}
 use Rattle.vm_store.specs.Value.{with_value}
 use Rattle.vm_step.specs.declared.ending.Plain.TheVariants.{Returned, TooDeep, HeapFull, InterfaceMissing}
 use Rattle.vm_step.specs.declared.ending.Ending.{Ending}
@@ -21,7 +21,7 @@ use Rattle.vm_step.specs.Act.{Act, role_of, goes, jumps, makes, calls, gives, ra
 use Rattle.vm_step.specs.Raising.{Outcome, running, ended, ends, handler_for, has_no_room, caught, caught_or, unwound, thrown, raised}
 use Rattle.vm_step.specs.Tests.{fault_before}
 use Rattle.vm_step.specs.Performed.{act}
-use Rattle.vm_step.specs.Settled.{unless_fault, fault_next, fault_target, place_of, place_after, goes_to, with_new, settled}
+use Rattle.vm_step.specs.Settled.{unless_fault, fault_next, fault_target, place_number, return_place, goes_to, with_new, settled}
 use Rattle.vm_step.specs.Step.{Steps, misplaced, unresolved, performs}
 use Rattle.vm_step.specs.Run.{Runs, stands, stops, steps}
 use Rattle.vm_step.specs.Laws.{StepsExist, RunsExist}
@@ -57,7 +57,7 @@ module _ {A : Type 0} where
 
   lasts-settled : (k : Cells A) (w : Linked) (next : ℕ) (s : State A) (a : Act A) → Lasts (settled k w next s a)
   lasts-settled k w next s (goes z) = lasts-goes k w next s z
-  lasts-settled k w next s (jumps to z) = lasts-unless z (fault_target k w z to) (running (with_place z (place_of to))) (omega arith)
+  lasts-settled k w next s (jumps to z) = lasts-unless z (fault_target k w z to) (running (with_place z (place_number to))) (omega arith)
   lasts-settled k w next s (makes kind cells reference z) =
       let new : Outcome A = running (with_place (with_new z kind cells (reference (length z.heap + 1))) next) in
       lasts-unless z (fault_next k w z (length (top z).stack + 1) next) (if has_room z (length cells) then new else ends (Plain HeapFull) z)
@@ -67,11 +67,11 @@ module _ {A : Type 0} where
   lasts-settled k w next s (gives value cells) =
       let z : State A = without_top s in
       let back : State A = with_stack z (with_value cells (top z).stack) in
-      let after = place_after (instruction_at (code_at w (top z).method) (top z).place) in
+      let after = return_place (instruction_at (code_at w (top z).method) (top z).place) in
       lasts-if (nat_lt 0 (length z.frames)) (goes_to k w after z back) (ends (Plain (Returned value)) z) (lasts-goes k w after z back) (tt {0})
   lasts-settled k w next s (raises exception) =
       let class = slice_index w.classes.roles (role_of exception) in
-      let z : State A = with_object s (Instance class) (instance_cells k w.classes class) in
+      let z : State A = with_object s (Instance class) (new_instance_cells k w.classes class) in
       lasts-if (has_room s (length (cells_of w.classes class))) (thrown k w (length s.heap + 1) z) (ends (Plain HeapFull) s)
       (lasts-unwound k w (class_of w.classes z (length s.heap + 1)) (length s.heap + 1) z z.frames) (tt {0})
   lasts-settled k w next s (throws handle) = lasts-unwound k w (class_of w.classes s handle) handle s s.frames

@@ -27,13 +27,13 @@ use Rattle.vm_step.specs.Methods.{of_method}
 
 -- ---- the class of an object
 
-abbrev pub class_in : ClassTable → Option ObjectKind → ℕ
-class_in t (Some (Instance class)) = class
-class_in t array = object t
+abbrev pub class_with_methods : ClassTable → Option ObjectKind → ℕ
+class_with_methods t (Some (Instance class)) = class
+class_with_methods t array = object t
 
 -- the class whose methods the object of a handle has: an array has those of object
 abbrev pub class_of : {A : Type 0} → ClassTable → State A → ℕ → ℕ
-class_of t s h = class_in t (kind_of_handle (kinds s) h)
+class_of t s h = class_with_methods t (kind_of_handle (kinds s) h)
 
 -- ---- the method of an interface
 

@@ -57,22 +57,22 @@ field_write_act k f holder s = unless_null (held_handle k holder (width f.kind) 
 
 -- ---- arrays
 
-abbrev pub elements_in : {A : Type 0} → Option (Object A) → ℕ
-elements_in None = 0
-elements_in (Some o) = element_count o
+abbrev pub element_count_in : {A : Type 0} → Option (Object A) → ℕ
+element_count_in None = 0
+element_count_in (Some o) = element_count o
 
 -- how many elements the array of a handle has
 abbrev pub elements_of : {A : Type 0} → State A → ℕ → ℕ
-elements_of s h = elements_in (object_at s h)
+elements_of s h = element_count_in (object_at s h)
 
 -- the index of an element, which an array of so many elements has to have
-abbrev pub index_in : ℤ → ℕ → Option ℕ
-index_in (pos i) count = if nat_lt i count then Some i else None
-index_in (negsuc i) count = None
+abbrev pub element_index : ℤ → ℕ → Option ℕ
+element_index (pos i) count = if nat_lt i count then Some i else None
+element_index (negsuc i) count = None
 
 -- what is done with that element
 abbrev pub at_element : {A : Type 0} → ℤ → ℕ → (ℕ → Act A) → Act A
-at_element index count act = if_some exceptions.ArrayIndex (index_in index count) act
+at_element index count act = if_some exceptions.ArrayIndex (element_index index count) act
 
 -- the index is on the array
 abbrev pub array_read_act : {A : Type 0} → Cells A → Kind → State A → Act A

@@ -10,7 +10,7 @@ use Rattle.vm_store.specs.declared.kind.ObjectKind.TheVariants.{Instance, Boolea
 use Rattle.vm_store.specs.Kind.{kind_of_handle}
 use Rattle.vm_store.specs.Cells.{Cells}
 use Rattle.vm_store.specs.State.{State, top}
-use Rattle.vm_store.specs.Objects.{kinds, instance_cells, array_cells}
+use Rattle.vm_store.specs.Objects.{kinds, new_instance_cells, array_cells}
 use Rattle.vm_instance.specs.Instance.{is_instance}
 use Rattle.vm_step.specs.declared.exception.Exception.TheVariants as exceptions
 use Rattle.vm_step.specs.Act.{Act, goes, makes, raises, throws, unless_null}
@@ -18,7 +18,7 @@ use Rattle.vm_step.specs.Numbers.{handle_at, short_at, dropped, replaced}
 
 -- an object on which no constructor was called yet
 abbrev pub new_act : {A : Type 0} → Cells A → ClassTable → ℕ → ℕ → State A → Act A
-new_act k t place class s = makes (Instance class) (instance_cells k t class) (λ h. k.fresh h place) s
+new_act k t place class s = makes (Instance class) (new_instance_cells k t class) (λ h. k.fresh h place) s
 
 -- the kind of the arrays of a type; an interface stands in it as itself
 abbrev pub kind_of_type : Ty → ObjectKind

@@ -8,7 +8,7 @@ use Rattle.jc_base.specs.World.{Linked}
 use Rattle.vm_store.specs.declared.kind.ObjectKind.TheVariants.{Instance}
 use Rattle.vm_store.specs.Cells.{Cells}
 use Rattle.vm_store.specs.State.{Frame, State, without_frames}
-use Rattle.vm_store.specs.Objects.{has_room, instance_cells, with_object}
+use Rattle.vm_store.specs.Objects.{has_room, new_instance_cells, with_object}
 use Rattle.vm_step.specs.declared.ending.Plain.TheVariants.{Threw, HeapFull}
 use Rattle.vm_step.specs.declared.ending.Ending.{Ending}
 use Rattle.vm_step.specs.declared.ending.Fault.TheVariants.{StackFault}
@@ -68,5 +68,5 @@ abbrev pub raised : {A : Type 0} → Cells A → Linked → Exception → State 
 raised k w exception s =
     let class = slice_index w.classes.roles (role_of exception) in
     if has_room s (length (cells_of w.classes class))
-    then thrown k w (length s.heap + 1) (with_object s (Instance class) (instance_cells k w.classes class))
+    then thrown k w (length s.heap + 1) (with_object s (Instance class) (new_instance_cells k w.classes class))
     else ends (Plain HeapFull) s

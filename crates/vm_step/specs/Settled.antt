@@ -38,15 +38,15 @@ abbrev pub is_there : Option Placed → Bool
 is_there None = false
 is_there (Some i) = true
 
-abbrev pub is_target : List ℕ → ℤ → Bool
-is_target code (pos place) = is_there (instruction_at code place)
-is_target code (negsuc n) = false
+abbrev pub is_target_place : List ℕ → ℤ → Bool
+is_target_place code (pos place) = is_there (instruction_at code place)
+is_target_place code (negsuc n) = false
 
 abbrev pub fault_target : {A : Type 0} → Cells A → Linked → State A → ℤ → Option Fault
 fault_target k w s to =
     if not k.checks then None
     else if is_over w s (length (top s).stack) then Some StackFault
-    else if is_target (code_at w (top s).method) to then None
+    else if is_target_place (code_at w (top s).method) to then None
     else Some JumpFault
 
 -- ---- the step
@@ -56,16 +56,16 @@ unless_fault s None outcome = outcome
 unless_fault s (Some fault) outcome = ends (Faulted fault) s
 
 -- the place of a number
-abbrev pub place_of : ℤ → ℕ
-place_of (pos place) = place
-place_of (negsuc n) = 0
+abbrev pub place_number : ℤ → ℕ
+place_number (pos place) = place
+place_number (negsuc n) = 0
 
 -- on to the next place in the state z; a run that ends here ends with the heap and the static fields of the state s, before the step
 abbrev pub goes_to : {A : Type 0} → Cells A → Linked → ℕ → State A → State A → Outcome A
 goes_to k w next s z = unless_fault s (fault_next k w z (length (top z).stack) next) (running (with_place z next))
 
 abbrev pub jumps_to : {A : Type 0} → Cells A → Linked → ℤ → State A → Outcome A
-jumps_to k w to s = unless_fault s (fault_target k w s to) (running (with_place s (place_of to)))
+jumps_to k w to s = unless_fault s (fault_target k w s to) (running (with_place s (place_number to)))
 
 -- a new object, whose reference comes on the stack
 abbrev pub with_new : {A : Type 0} → State A → ObjectKind → List A → A → State A
@@ -85,16 +85,16 @@ entered_call k w method count s =
     else ends (Plain TooDeep) s
 
 -- the place after the instruction of a call, where the caller goes on
-abbrev pub place_after : Option Placed → ℕ
-place_after None = 0
-place_after (Some i) = i.place + i.insn.len
+abbrev pub return_place : Option Placed → ℕ
+return_place None = 0
+return_place (Some i) = i.place + i.insn.len
 
 -- the first method of a run gives to the outside, another to its caller
 abbrev pub given_to : {A : Type 0} → Cells A → Linked → Value → List A → State A → Outcome A
 given_to k w value cells s =
     if nat_lt 0 (length s.frames)
     then
-    goes_to k w (place_after (instruction_at (code_at w (top s).method) (top s).place)) s
+    goes_to k w (return_place (instruction_at (code_at w (top s).method) (top s).place)) s
     (with_stack s (with_value cells (top s).stack))
     else ends (Plain (Returned value)) s
 

@@ -40,12 +40,12 @@ int_cells k (high ∷ low ∷ words) = k.high high ∷ k.low low ∷ int_cells k
 int_cells k words = []
 
 -- the cells of the initial words of an array
-abbrev pub element_cells : {A : Type 0} → Cells A → ObjectKind → List ℕ → List A
-element_cells k Ints words = int_cells k words
-element_cells k kind words = map (λ w. k.short (short_of_word w)) words
+abbrev pub initial_element_cells : {A : Type 0} → Cells A → ObjectKind → List ℕ → List A
+initial_element_cells k Ints words = int_cells k words
+initial_element_cells k kind words = map (λ w. k.short (short_of_word w)) words
 
 abbrev pub initial_object : {A : Type 0} → Cells A → ArrayRec → Object A
-initial_object k a = record { kind = kind_of_type a.kind; cells = element_cells k (kind_of_type a.kind) a.initial }
+initial_object k a = record { kind = kind_of_type a.kind; cells = initial_element_cells k (kind_of_type a.kind) a.initial }
 
 -- no frame, the initial arrays by handle, and the static fields by slot
 abbrev pub initial : {A : Type 0} → Cells A → Linked → State A

@@ -18,7 +18,7 @@ use Rattle.vm_store.specs.declared.kind.ObjectKind.{ObjectKind}
 use Rattle.vm_store.specs.Kind.{cell_kind, element_cells}
 use Rattle.vm_store.specs.Cells.{tagged, words, word_of, zero_cell}
 use Rattle.vm_store.specs.State.{State, Frame, Object, map_frame, map_object, erased, first_frame, other_frames, top, nth, with_top, with_place, with_stack, with_register, with_call, with_entry, entered, arguments, register_count}
-use Rattle.vm_store.specs.Objects.{cells_in, object_cells, has_room, cell_count, instance_cells, array_cells, repeated, write_object, with_object, with_object_cell, with_static_cell}
+use Rattle.vm_store.specs.Objects.{cells_in, object_cells, has_room, heap_cells, new_instance_cells, array_cells, repeated, write_object, with_object, with_object_cell, with_static_cell}
 use Rattle.vm_store.specs.Value.{value_in, value_on, kept, byte_of_word, with_object_value, with_static_value}
 use Rattle.vm_store.specs.Erasing.{ReadsErased, FramesErase, ObjectsErase, CellsErase, StatesErase}
 
@@ -79,7 +79,7 @@ reads s = record {
   kinds_are = kinds-erased s.heap;
   cells = object-erased s;
   room = λ count.
-      ap (λ n. nat_lt n 4096 && nat_le (cell_count (erased s) + count) 32768) (length-map s.heap (map_object word_of))
+      ap (λ n. nat_lt n 4096 && nat_le (heap_cells (erased s) + count) 32768) (length-map s.heap (map_object word_of))
       ∙ ap (λ n. nat_lt (length s.heap) 4096 && nat_le (n + count) 32768) (count-erased s.heap);
 }
 

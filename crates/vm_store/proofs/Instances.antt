@@ -9,7 +9,7 @@ use Rattle.std.specs.Prelude.{slice_get, Some}
 use Rattle.jc_base.proofs.Dispatches.{cells-alone, cells-next}
 use Rattle.vm_store.specs.Kind.{cell_kind}
 use Rattle.vm_store.specs.Cells.{Cells, zero_cell}
-use Rattle.vm_store.specs.Objects.{instance_cells}
+use Rattle.vm_store.specs.Objects.{new_instance_cells}
 use Rattle.vm_store.specs.Layout.{overwritten}
 use Rattle.vm_store.proofs.Fills.{overwritten-before, overwritten-more, overwritten-nil}
 
@@ -37,7 +37,7 @@ zeros-more {A} k old cells types from n v d e lt room is =
 pub record IsFilledAbove {A : Type 0} (k : Cells A) (t : ClassTable) (old : List A) (from c at : ℕ) (cells : List A) : Type 0 where
   pub class : IsClass t at
   pub written : List A
-  pub split : instance_cells k t c ≡ instance_cells k t at ++ written
+  pub split : new_instance_cells k t c ≡ new_instance_cells k t at ++ written
   pub cells_are : cells ≡ overwritten old (from + length (cells_of t at)) written
 
 pub filled-nothing : {A : Type 0} (k : Cells A) (t : ClassTable) (old : List A) (from c : ℕ) → IsClass t c → IsFilledAbove k t old from c c old
@@ -45,7 +45,7 @@ filled-nothing k t old from c class =
     record {
       class = class;
       written = [];
-      split = sym (append-nil (instance_cells k t c));
+      split = sym (append-nil (new_instance_cells k t c));
       cells_are = overwritten-nil old (from + length (cells_of t c));
     }
 
@@ -58,7 +58,7 @@ fits-above {A} k t old cells from c at filled room =
     let all : length (cells_of t c) ≡ length (cells_of t at) + length filled.written =
     sym (length-map (cells_of t c) f)
     ∙ (ap length filled.split
-    ∙ (length-append (instance_cells k t at) filled.written ∙ ap (λ n. n + length filled.written) (length-map (cells_of t at) f))) in
+    ∙ (length-append (new_instance_cells k t at) filled.written ∙ ap (λ n. n + length filled.written) (length-map (cells_of t at) f))) in
     omega (arith, all, room)
 
 module _ {A : Type 0} (k : Cells A) (t : ClassTable) (old cells now : List A) (from c at place : ℕ) (filled : IsFilledAbove k t old from c at cells)
@@ -77,7 +77,7 @@ module _ {A : Type 0} (k : Cells A) (t : ClassTable) (old cells now : List A) (f
         ∙ (overwritten-before old (zeros k own) filled.written place (from + length (cells_of t at)) next room
         ∙ ap (λ n. overwritten old n (zeros k own ++ filled.written)) at_place))
 
-    parts : (above : List Ty) → cells_of t at ≡ above ++ own → instance_cells k t c ≡ zeros k above ++ (zeros k own ++ filled.written)
+    parts : (above : List Ty) → cells_of t at ≡ above ++ own → new_instance_cells k t c ≡ zeros k above ++ (zeros k own ++ filled.written)
     parts above e =
         filled.split
         ∙ (ap (λ types. zeros k types ++ filled.written) e
@@ -99,7 +99,7 @@ module _ {A : Type 0} (k : Cells A) (t : ClassTable) (old cells now : List A) (f
 
     pub filled-whole :
         IsEndOfChain t at → place ≡ from + (length (cells_of t at) - length own) → from + length (cells_of t at) ≤ length old
-        → now ≡ overwritten old from (instance_cells k t c)
+        → now ≡ overwritten old from (new_instance_cells k t c)
     filled-whole end at_place room =
         let e : cells_of t at ≡ [] ++ own = cells-alone t at end.chain_is ∙ own_is in
         let len : length (cells_of t at) ≡ length own = ap length e in

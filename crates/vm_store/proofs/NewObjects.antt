@@ -18,11 +18,11 @@ use Rattle.jc_base.proofs.Lists.{slice_get-front}
 use Rattle.vm_store.specs.declared.cell.Cell.{Cell}
 use Rattle.vm_store.specs.declared.kind.ObjectKind.{ObjectKind}
 use Rattle.vm_store.specs.declared.kind.ObjectKind.TheVariants.{Instance, Booleans, Bytes, Shorts, Ints, References}
-use Rattle.vm_store.specs.Kind.{IsArrayKind, cell_kind, element_cells, seen_class}
+use Rattle.vm_store.specs.Kind.{IsArrayKind, cell_kind, element_cells, class_in_types}
 use Rattle.vm_store.specs.Typing.{HasType, anything, empty, short, high, low, null, reference, fresh}
 use Rattle.vm_store.specs.Cells.{tagged, zero_cell}
 use Rattle.vm_store.specs.State.{State, Object}
-use Rattle.vm_store.specs.Objects.{kinds, repeated, instance_cells, array_cells, with_object}
+use Rattle.vm_store.specs.Objects.{kinds, repeated, new_instance_cells, array_cells, with_object}
 use Rattle.vm_store.specs.Laws.{IsFilled, CellsHave, IsTypedObject, IsTypedHeap, cell_types, element_types}
 use Rattle.vm_store.specs.NewObjects.{NewInstancesAreTyped, NewArraysAreTyped}
 use Rattle.vm_store.proofs.Fills.{length-array}
@@ -108,12 +108,12 @@ module _ (t : ClassTable) where
       subst (All (IsDeclared t)) (sym (flat_map-cons (own_cells t) c cs))
       (All-append (IsDeclared t) (own_cells t c) (flat_map (own_cells t) cs) (own-declared packages methods linked c) (all-declared packages methods linked cs))
 
-  instance-has : (packages : ℕ) (methods : List MethodRec) → AreLinkedClasses packages t methods → (ks : List ObjectKind) (c : ℕ) → CellsHave t ks (instance_cells tagged t c) (cells_of t c)
+  instance-has : (packages : ℕ) (methods : List MethodRec) → AreLinkedClasses packages t methods → (ks : List ObjectKind) (c : ℕ) → CellsHave t ks (new_instance_cells tagged t c) (cells_of t c)
   unfolding zeros cells_of
   instance-has packages methods linked ks c = zeros-have ks (cells_of t c) (all-declared packages methods linked (reverse (chain t c)))
 
   pub new-instances : (packages : ℕ) (methods : List MethodRec) → AreLinkedClasses packages t methods → NewInstancesAreTyped t
-  new-instances packages methods linked s c typed class = with-object s (Instance c) (instance_cells tagged t c) typed (λ ks. instance-has packages methods linked ks c)
+  new-instances packages methods linked s c typed class = with-object s (Instance c) (new_instance_cells tagged t c) typed (λ ks. instance-has packages methods linked ks c)
 
   -- ---- arrays
 

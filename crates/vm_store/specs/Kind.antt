@@ -9,8 +9,8 @@ use Rattle.vm_store.specs.declared.kind.ObjectKind.{ObjectKind}
 use Rattle.vm_store.specs.declared.kind.ObjectKind.TheVariants.{Instance, Booleans, Bytes, Shorts, Ints, References}
 
 -- the class that stands in types for a class or an interface: object for an interface
-abbrev pub seen_class : ClassTable → ℕ → ℕ
-seen_class t c = if is_interface t c then object t else c
+abbrev pub class_in_types : ClassTable → ℕ → ℕ
+class_in_types t c = if is_interface t c then object t else c
 
 -- the type of a reference to an object
 abbrev pub type_of_kind : ClassTable → ObjectKind → Ty
@@ -19,7 +19,7 @@ type_of_kind t Booleans = ArrBool
 type_of_kind t Bytes = ArrByte
 type_of_kind t Shorts = ArrShort
 type_of_kind t Ints = ArrInt
-type_of_kind t (References c) = ArrRef (seen_class t c)
+type_of_kind t (References c) = ArrRef (class_in_types t c)
 
 -- an array, and no instance of a class
 abbrev pub IsArrayKind : ObjectKind → Type 0

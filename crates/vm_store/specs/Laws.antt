@@ -8,7 +8,7 @@ use Rattle.vm_store.specs.declared.cell.Cell.{Cell}
 use Rattle.vm_store.specs.declared.cell.Cell.TheVariants as cells
 use Rattle.vm_store.specs.declared.kind.ObjectKind.{ObjectKind}
 use Rattle.vm_store.specs.declared.kind.ObjectKind.TheVariants.{Instance, Booleans, Bytes, Shorts, Ints, References}
-use Rattle.vm_store.specs.Kind.{seen_class}
+use Rattle.vm_store.specs.Kind.{class_in_types}
 use Rattle.vm_store.specs.Typing.{HasType, least_type, IsLeastType, FallsWithObjects}
 use Rattle.vm_store.specs.Cells.{tagged, words, word_of, IsErasure}
 use Rattle.vm_store.specs.State.{State, Object}
@@ -38,7 +38,7 @@ WritesKeepKinds = ((s : State Cell) (h i : ℕ) (c : Cell) → KeepsKinds s h i 
 -- the types of the cells of one element of an array
 abbrev pub element_types : ClassTable → ObjectKind → List Ty
 element_types t Ints = IntHigh ∷ IntLow ∷ []
-element_types t (References c) = Class (seen_class t c) ∷ []
+element_types t (References c) = Class (class_in_types t c) ∷ []
 element_types t _ = Short ∷ []
 
 -- the types of the cells of an object that has so many: of an instance those of its class, of an array those of its elements

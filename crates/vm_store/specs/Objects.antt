@@ -37,18 +37,18 @@ abbrev pub cell_limit : ℕ
 cell_limit = 32768
 
 -- how many cells all objects have
-abbrev pub cell_count : {A : Type 0} → State A → ℕ
-cell_count s = sum_by (λ o. length o.cells) s.heap
+abbrev pub heap_cells : {A : Type 0} → State A → ℕ
+heap_cells s = sum_by (λ o. length o.cells) s.heap
 
 -- there is room for one more object of so many cells
 abbrev pub has_room : {A : Type 0} → State A → ℕ → Bool
-has_room s cells = nat_lt (length s.heap) object_limit && nat_le (cell_count s + cells) cell_limit
+has_room s cells = nat_lt (length s.heap) object_limit && nat_le (heap_cells s + cells) cell_limit
 
 -- ---- new objects
 
 -- the cells of a new instance of a class: zero or null, by the types of its cells
-abbrev pub instance_cells : {A : Type 0} → Cells A → ClassTable → ℕ → List A
-instance_cells k t class = map (λ ty. zero_cell k (cell_kind ty)) (cells_of t class)
+abbrev pub new_instance_cells : {A : Type 0} → Cells A → ClassTable → ℕ → List A
+new_instance_cells k t class = map (λ ty. zero_cell k (cell_kind ty)) (cells_of t class)
 
 -- so many copies of a list, one after another
 abbrev pub repeated : {A : Type 0} → ℕ → List A → List A

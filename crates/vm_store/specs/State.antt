@@ -84,12 +84,12 @@ abbrev pub rotated : {A : Type 0} → ℕ → ℕ → List A → List A
 rotated count by cells = drop by (take count cells) ++ (take by cells ++ drop count cells)
 
 -- how many registers a method has: its arguments and its locals
-abbrev pub registers_of : Option MethodRec → ℕ
-registers_of None = 0
-registers_of (Some m) = m.nargs + m.max_locals
+abbrev pub register_count_of : Option MethodRec → ℕ
+register_count_of None = 0
+register_count_of (Some m) = m.nargs + m.max_locals
 
 abbrev pub register_count : List MethodRec → ℕ → ℕ
-register_count methods method = registers_of (slice_get methods method)
+register_count methods method = register_count_of (slice_get methods method)
 
 -- the frame of a method before its first instruction: its arguments in the first registers, and
 -- the others empty

@@ -4,7 +4,7 @@ ghost use Rattle.jc_base.specs.Class.{IsClass};
 ghost use Rattle.jc_base.specs.Dispatch.{cells_of};
 ghost use Rattle.vm_store.specs.Kind.{IsArrayKind, element_width, cell_kind};
 ghost use Rattle.vm_store.specs.Cells.{zero_cell};
-ghost use Rattle.vm_store.specs.Objects.{array_cells, instance_cells, repeated};
+ghost use Rattle.vm_store.specs.Objects.{array_cells, new_instance_cells, repeated};
 ghost use Rattle.vm_store.specs.Layout.{overwritten};
 
 use crate::cell::CellKind;
@@ -66,7 +66,7 @@ fn fill_own<C: CellForm>(cells: &mut [C], from: usize, types: &[Ty])
 pub fn fill_instance<C: CellForm>(cells: &mut [C], from: usize, world: &World<'_>, class: u16)
     requires class { IsClass world.now.classes class }
     requires room { from + length (cells_of world.now.classes class) ≤ length cells.old }
-    ensures { cells.new ≡ overwritten cells.old from (instance_cells C.cells world.now.classes class) }
+    ensures { cells.new ≡ overwritten cells.old from (new_instance_cells C.cells world.now.classes class) }
 {
     let mut at = class;
     'climb: loop {

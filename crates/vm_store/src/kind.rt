@@ -1,5 +1,5 @@
 ghost use Rattle.std.specs.Prelude.{◌≡◌, ◌<◌};
-ghost use Rattle.vm_store.specs.Kind.{cell_kind, element_width, seen_class, type_of_kind};
+ghost use Rattle.vm_store.specs.Kind.{cell_kind, element_width, class_in_types, type_of_kind};
 ghost use Rattle.vm_store.specs.Typing.{fresh_seen};
 
 use crate::cell::CellKind;
@@ -58,7 +58,7 @@ impl ObjectKind {
 
 /// The class that stands in types for a class or an interface.
 fn seen_class(classes: &Classes, class: u16) -> u16
-    ensures { result ≡ seen_class classes.now class }
+    ensures { result ≡ class_in_types classes.now class }
 {
     if (class as usize) < classes.len() && classes.is_interface(class) {
         classes.role(0)

@@ -11,7 +11,7 @@ use Rattle.flow_tests.proofs.OneMethod.{is_first}
 use Rattle.vm_store.specs.State.{Object, State}
 use Rattle.vm_store.specs.Kind.{element_width}
 use Rattle.vm_store.specs.Cells.{Cells}
-use Rattle.vm_store.specs.Objects.{array_cells, instance_cells, cells_in, object_at, object_cells, with_object, with_object_cell, write_object}
+use Rattle.vm_store.specs.Objects.{array_cells, new_instance_cells, cells_in, object_at, object_cells, with_object, with_object_cell, write_object}
 use Rattle.vm_store.proofs.Fills.{length-array}
 use Rattle.vm_store.proofs.TypedHeaps.{length-write}
 
@@ -34,11 +34,11 @@ made_cells k s t kind count h made at =
 
 -- and of a new instance of the class that has a field of each kind
 pub made_instance : {A : Type 0} (k : Cells A) (s t : State A) (classes : ClassTable) (h : ℕ)
-    → classes ≡ sample_classes → t ≡ with_object s (Instance 2) (instance_cells k classes 2) → h ≡ length s.heap + 1 → length (object_cells t h) ≡ 4
+    → classes ≡ sample_classes → t ≡ with_object s (Instance 2) (new_instance_cells k classes 2) → h ≡ length s.heap + 1 → length (object_cells t h) ≡ 4
 unfolding cells_of own_cells chain chain_over parent_of
 made_instance k s t classes h is made at =
-    ap (λ x. length (cells_in x)) (ap (λ x. object_at x h) made ∙ (ap (object_at (with_object s (Instance 2) (instance_cells k classes 2))) at ∙ made_object s (Instance 2) (instance_cells k classes 2)))
-    ∙ ap (λ t. length (instance_cells k t 2)) is
+    ap (λ x. length (cells_in x)) (ap (λ x. object_at x h) made ∙ (ap (object_at (with_object s (Instance 2) (new_instance_cells k classes 2))) at ∙ made_object s (Instance 2) (new_instance_cells k classes 2)))
+    ∙ ap (λ t. length (new_instance_cells k t 2)) is
 
 pub four_cells : (classes : ClassTable) → classes ≡ sample_classes → length (cells_of classes 2) ≡ 4
 unfolding cells_of own_cells chain chain_over parent_of

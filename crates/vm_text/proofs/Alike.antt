@@ -18,7 +18,7 @@ use Rattle.vm_store.specs.State.{State, Object, erased, map_object, nth}
 use Rattle.vm_store.specs.Objects.{object_at, element_count}
 use Rattle.vm_store.specs.Kind.{element_width}
 use Rattle.vm_defend.specs.Reading.{value_at, element_in, numbers_of_kind}
-use Rattle.vm_text.specs.Left.{numbers_in, numbers_of, left_by}
+use Rattle.vm_text.specs.Left.{numbers_in, number_array, left_by}
 use Rattle.vm_text.specs.Laws.{TextsAreAlike}
 use Rattle.vm_text.specs.Text.{left_text}
 
@@ -58,15 +58,15 @@ array_alike o None = refl
 array_alike o (Some ty) = ap Some (numbers_alike o ty)
 
 found_alike : (objects : List (Object Cell)) (n : ℕ)
-    → option_and_then (numbers_of words) (slice_get (map (map_object word_of) objects) n) ≡ option_and_then (numbers_of tagged) (slice_get objects n)
+    → option_and_then (number_array words) (slice_get (map (map_object word_of) objects) n) ≡ option_and_then (number_array tagged) (slice_get objects n)
 found_alike [] n = refl
 found_alike (o ∷ objects) zero = array_alike o (numbers_of_kind o.kind)
 found_alike (o ∷ objects) (suc n) = found_alike objects n
 
 named_alike : (x : State ℕ) (s : State Cell) (h : ℕ) → x.heap ≡ map (map_object word_of) s.heap
-    → option_and_then (numbers_of words) (object_at x h) ≡ option_and_then (numbers_of tagged) (object_at s h)
+    → option_and_then (number_array words) (object_at x h) ≡ option_and_then (number_array tagged) (object_at s h)
 named_alike x s zero objects = refl
-named_alike x s (suc n) objects = ap (λ all. option_and_then (numbers_of words) (slice_get all n)) objects ∙ found_alike s.heap n
+named_alike x s (suc n) objects = ap (λ all. option_and_then (number_array words) (slice_get all n)) objects ∙ found_alike s.heap n
 
 -- words of the objects and of the static fields of a state are read as the state is
 pub left_alike : (w : Linked) (x : State ℕ) (s : State Cell) → x.heap ≡ map (map_object word_of) s.heap → x.statics ≡ map word_of s.statics

@@ -10,7 +10,7 @@ use Rattle.vm_store.specs.Cells.{Cells}
 use Rattle.vm_store.specs.State.{State, Object}
 use Rattle.vm_store.specs.Objects.{object_at, element_count}
 use Rattle.vm_defend.specs.Reading.{numbers_of_kind, if_numbers, element_in, element_of, array_length, array_value}
-use Rattle.vm_text.specs.Left.{NumberArray, numbers_of}
+use Rattle.vm_text.specs.Left.{NumberArray, number_array}
 
 -- an element of the list of what a function gives
 given_at : {X : Type 0} (f : ℕ → X) (a n i : ℕ) → i < n → slice_get (map f (range_with_len a n)) i ≡ Some (f (a + i))
@@ -34,22 +34,22 @@ counted None f n = refl
 counted (Some ty) f n = ap Some (sym (length-map-range_with_len f 0 n))
 
 value_in : {A : Type 0} (k : Cells A) (o : Option (Object A)) (i : ℕ)
-    → option_and_then (element_of k i) o ≡ option_and_then (λ (a : NumberArray). slice_get a.elements i) (option_and_then (numbers_of k) o)
+    → option_and_then (element_of k i) o ≡ option_and_then (λ (a : NumberArray). slice_get a.elements i) (option_and_then (number_array k) o)
 value_in k None i = refl
 value_in k (Some o) i = told (numbers_of_kind o.kind) (nat_lt i (element_count o)) (element_in k o.kind o.cells) (element_count o) i refl
 
 -- the element of a number is the one in the list
 pub value_told : {A : Type 0} (k : Cells A) (s : State A) (h i : ℕ)
-    → array_value k s h i ≡ option_and_then (λ (a : NumberArray). slice_get a.elements i) (option_and_then (numbers_of k) (object_at s h))
+    → array_value k s h i ≡ option_and_then (λ (a : NumberArray). slice_get a.elements i) (option_and_then (number_array k) (object_at s h))
 value_told k s h i = value_in k (object_at s h) i
 
 count_in : {A : Type 0} (k : Cells A) (o : Option (Object A))
     → option_and_then (λ (x : Object A). if_numbers (numbers_of_kind x.kind) (element_count x)) o
-    ≡ option_map (λ (a : NumberArray). length a.elements) (option_and_then (numbers_of k) o)
+    ≡ option_map (λ (a : NumberArray). length a.elements) (option_and_then (number_array k) o)
 count_in k None = refl
 count_in k (Some o) = counted (numbers_of_kind o.kind) (element_in k o.kind o.cells) (element_count o)
 
 -- there are as many elements as the list has
 pub count_told : {A : Type 0} (k : Cells A) (s : State A) (h : ℕ)
-    → array_length s h ≡ option_map (λ (a : NumberArray). length a.elements) (option_and_then (numbers_of k) (object_at s h))
+    → array_length s h ≡ option_map (λ (a : NumberArray). length a.elements) (option_and_then (number_array k) (object_at s h))
 count_told k s h = count_in k (object_at s h)

@@ -13,7 +13,7 @@ use Rattle.vm_step.specs.declared.ending.Value.{Value}
 use Rattle.vm_words.specs.declared.words.Counts.{Counts}
 use Rattle.vm_offend.specs.Reads.{AreObjectsOf, AreStaticsOf}
 use Rattle.vm_defend.specs.Reading.{value_at, numbers_of_kind, static_value, array_kind, array_length, array_value}
-use Rattle.vm_text.specs.Left.{NumberArray, Readout, numbers_in, numbers_of, left_by}
+use Rattle.vm_text.specs.Left.{NumberArray, Readout, numbers_in, number_array, left_by}
 use Rattle.vm_text.specs.Lent.{lent_state, IsLentRun}
 use Rattle.vm_text.proofs.Alike.{left_alike}
 use Rattle.vm_text.proofs.Arrays.{value_told, count_told}
@@ -36,7 +36,7 @@ ty_in k o None = refl
 ty_in k o (Some ty) = refl
 
 ty_at : (o : Option (Object Cell))
-    → option_and_then (λ (x : Object Cell). numbers_of_kind x.kind) o ≡ option_map (λ (a : NumberArray). a.ty) (option_and_then (numbers_of tagged) o)
+    → option_and_then (λ (x : Object Cell). numbers_of_kind x.kind) o ≡ option_map (λ (a : NumberArray). a.ty) (option_and_then (number_array tagged) o)
 ty_at None = refl
 ty_at (Some o) = ty_in tagged o (numbers_of_kind o.kind)
 

@@ -25,15 +25,15 @@ abbrev pub numbers_in : {A : Type 0} → Cells A → Object A → Ty → NumberA
 numbers_in k o ty = record { ty = ty; elements = map (element_in k o.kind o.cells) (range_with_len 0 (element_count o)) }
 
 -- an object as an array of numbers, where it is one
-abbrev pub numbers_of : {A : Type 0} → Cells A → Object A → Option NumberArray
-numbers_of k o = option_map (numbers_in k o) (numbers_of_kind o.kind)
+abbrev pub number_array : {A : Type 0} → Cells A → Object A → Option NumberArray
+number_array k o = option_map (numbers_in k o) (numbers_of_kind o.kind)
 
 -- what is read of a state of a world
 abbrev pub left_by : {A : Type 0} → Cells A → Linked → State A → Readout
 left_by k w s =
     record {
       statics = map (λ (f : StaticRec). value_at k f.kind s.statics f.slot) w.statics;
-      array = λ h. option_and_then (numbers_of k) (object_at s h);
+      array = λ h. option_and_then (number_array k) (object_at s h);
     }
 
 abbrev pub elements_in : Option NumberArray → List ℤ

@@ -7,7 +7,7 @@ use Rattle.vm_store.specs.Cells.{words}
 use Rattle.vm_step.specs.declared.ending.Value.TheVariants.{Short, Ref}
 use Rattle.vm_step.specs.declared.ending.Plain.TheVariants.{Returned, Spent}
 use Rattle.vm_step.specs.declared.ending.Ending.TheVariants.{Plain}
-use Rattle.vm_text.specs.Left.{Readout, numbers_of}
+use Rattle.vm_text.specs.Left.{Readout, number_array}
 use Rattle.vm_text.specs.Text.{left_text}
 
 -- one static field, and an array of three bytes wherever one asks
@@ -25,6 +25,6 @@ spent = refl
 
 -- an int has its high word first
 ints :
-    numbers_of words (record { kind = Ints; cells = 0 ∷ 5 ∷ 65535 ∷ 65535 ∷ [] })
+    number_array words (record { kind = Ints; cells = 0 ∷ 5 ∷ 65535 ∷ 65535 ∷ [] })
     ≡ Some (record { ty = ArrInt; elements = pos 5 ∷ negsuc 0 ∷ [] })
 ints = refl

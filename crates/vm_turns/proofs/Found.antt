@@ -11,7 +11,7 @@ use Rattle.jc_decode.specs.Listing.{listing}
 use Rattle.jc_control.specs.WellFormed.{HasInstruction, IsPlace}
 use Rattle.jc_decode.specs.Laws.{AreListed}
 use Rattle.vm_step.specs.Methods.{instruction_at}
-use Rattle.vm_step.specs.Settled.{is_there, is_target}
+use Rattle.vm_step.specs.Settled.{is_there, is_target_place}
 
 -- ---- the first of a list that passes a test
 
@@ -105,7 +105,7 @@ flag-tells code place listed true to from = let h = to refl in sym (ap is_there 
 flag-tells code place listed false to from = sym (ap is_there (nothing-there code listed place (λ h. false≢true (from h))))
 
 -- an instruction that is found begins in the code
-pub target-range : (code : List ℕ) (listed : AreListed code) (t : ℤ) → is_target code t ≡ true → length code ≤ 32767 → (pos 0 ≤ℤ t) × (t <ℤ pos 65536)
+pub target-range : (code : List ℕ) (listed : AreListed code) (t : ℤ) → is_target_place code t ≡ true → length code ≤ 32767 → (pos 0 ≤ℤ t) × (t <ℤ pos 65536)
 target-range code listed (negsuc n) h short = absurd (false≢true h)
 target-range code listed (pos p) h short =
     let inside = in-code code listed p (instruction_at code p) refl h in (omega (arith, ints), omega (arith, ints)) where
@@ -114,9 +114,9 @@ target-range code listed (pos p) h short =
       in-code code listed p (Some x) e h = let f = found-there code p x e in omega (arith, listed.inside f.0 f.1, f.2)
 
 -- what lies before the code or far beyond it is no target
-pub no-target : (code : List ℕ) (listed : AreListed code) (t : ℤ) → length code ≤ 32767 → (t <ℤ pos 0) ⊎ (pos 65536 ≤ℤ t) → false ≡ is_target code t
-no-target code listed t short out = go (is_target code t) refl where
-  go : (b : Bool) → is_target code t ≡ b → false ≡ is_target code t
+pub no-target : (code : List ℕ) (listed : AreListed code) (t : ℤ) → length code ≤ 32767 → (t <ℤ pos 0) ⊎ (pos 65536 ≤ℤ t) → false ≡ is_target_place code t
+no-target code listed t short out = go (is_target_place code t) refl where
+  go : (b : Bool) → is_target_place code t ≡ b → false ≡ is_target_place code t
   go false e = sym e
   go true e = let r = target-range code listed t e short in absurd (⊎_elim (λ l. omega (arith, ints)) (λ l. omega (arith, ints)) out)
 

@@ -8,12 +8,12 @@ use Rattle.jc_base.specs.World.{Linked}
 use Rattle.vm_store.specs.declared.kind.ObjectKind.TheVariants.{Instance}
 use Rattle.vm_store.specs.Cells.{Cells}
 use Rattle.vm_store.specs.State.{Frame, State, Object, IsRunning, top, first_frame, other_frames, without_top}
-use Rattle.vm_store.specs.Objects.{has_room, instance_cells, with_object}
+use Rattle.vm_store.specs.Objects.{has_room, new_instance_cells, with_object}
 use Rattle.vm_step.specs.declared.exception.Exception.{Exception}
 use Rattle.vm_step.specs.declared.ending.Plain.TheVariants.{HeapFull}
 use Rattle.vm_step.specs.declared.ending.Ending.TheVariants.{Plain}
 use Rattle.vm_step.specs.Act.{role_of}
-use Rattle.vm_step.specs.Calls.{class_in, class_of}
+use Rattle.vm_step.specs.Calls.{class_with_methods, class_of}
 use Rattle.vm_step.specs.Raising.{Outcome, ends, handler_for, caught_by, caught_or, unwound, thrown, raised}
 
 module _ {A : Type 0} (k : Cells A) (w : Linked) (class n : ℕ) where
@@ -51,17 +51,17 @@ last-kind (x ∷ os) o = last-kind os o
 pub last-class : {A : Type 0} (t : ClassTable) (s : State A) (class : ℕ) (cells : List A) → class_of t (with_object s (Instance class) cells) (length s.heap + 1) ≡ class
 last-class {A} t s class cells =
     let z : State A = with_object s (Instance class) cells in
-    ap (class_of t z) (add-one (length s.heap)) ∙ ap (class_in t) (last-kind s.heap (record { kind = Instance class; cells = cells }))
+    ap (class_of t z) (add-one (length s.heap)) ∙ ap (class_with_methods t) (last-kind s.heap (record { kind = Instance class; cells = cells }))
 
 pub raised-is : {A : Type 0} (k : Cells A) (w : Linked) (exception : Exception) (s z : State A) (class h : ℕ)
     → class ≡ slice_index w.classes.roles (role_of exception) → has_room s (length (cells_of w.classes class)) ≡ true
-    → h ≡ length s.heap + 1 → z ≡ with_object s (Instance class) (instance_cells k w.classes class)
+    → h ≡ length s.heap + 1 → z ≡ with_object s (Instance class) (new_instance_cells k w.classes class)
     → unwound k w class h z z.frames ≡ raised k w exception s
 raised-is {A} k w exception s z class h is room at e =
-    let made : ℕ → State A = λ c. with_object s (Instance c) (instance_cells k w.classes c) in
+    let made : ℕ → State A = λ c. with_object s (Instance c) (new_instance_cells k w.classes c) in
     let Raised : ℕ → Outcome A = λ c. if has_room s (length (cells_of w.classes c)) then thrown k w (length s.heap + 1) (made c) else ends (Plain HeapFull) s in
     ap (λ (x : State A). unwound k w class h x x.frames) e
     ∙ (ap (λ (n : ℕ). unwound k w class n (made class) (made class).frames) at
-    ∙ (ap (λ (c : ℕ). unwound k w c (length s.heap + 1) (made class) (made class).frames) (sym (last-class w.classes s class (instance_cells k w.classes class)))
+    ∙ (ap (λ (c : ℕ). unwound k w c (length s.heap + 1) (made class) (made class).frames) (sym (last-class w.classes s class (new_instance_cells k w.classes class)))
     ∙ (ap (λ b. if b then thrown k w (length s.heap + 1) (made class) else ends (Plain HeapFull) s) (sym room)
     ∙ ap Raised is)))

@@ -2,7 +2,7 @@
 use Rattle.std.specs.Prelude.{◌≡◌, ◌+◌, ◌<◌, ◌≤◌, ℕ, ℤ, Bool, true, false, List, length, IsSome}
 use Rattle.jc_base.specs.World.{Linked}
 use Rattle.vm_store.specs.State.{Frame, State, top, without_top}
-use Rattle.vm_step.specs.Settled.{is_target}
+use Rattle.vm_step.specs.Settled.{is_target_place}
 use Rattle.vm_step.specs.Methods.{code_at, max_stack_of, instruction_at}
 use Rattle.vm_turns.specs.Marked.{AreMarked}
 use Rattle.vm_turns.specs.declared.known.Known.{Known}
@@ -21,7 +21,7 @@ KnowsAt w Verified method place = IsSome (instruction_at (code_at w method) plac
 -- in verified code a jump leads to an instruction
 abbrev pub LandsAt : Linked → Known → ℕ → ℤ → Type 0
 LandsAt w (Marked places) method to = Unit {0}
-LandsAt w Verified method to = is_target (code_at w method) to ≡ true
+LandsAt w Verified method to = is_target_place (code_at w method) to ≡ true
 
 -- a caller can take a result of so many cells, where its frame is on top: its call is found, and its operand stack has room, since
 -- a method declares at most 255 cells

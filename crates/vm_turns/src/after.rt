@@ -2,7 +2,7 @@
 ghost use Rattle.std.specs.Prelude.{◌≡◌, ◌+◌, ◌<◌, ◌≤ℤ◌, ◌<ℤ◌, pos, length, true, IfNone};
 ghost use Rattle.vm_store.specs.State.{IsRunning, top};
 ghost use Rattle.vm_step.specs.Methods.{code_at};
-ghost use Rattle.vm_step.specs.Settled.{is_over, is_past, is_target, fault_next, fault_target, place_of};
+ghost use Rattle.vm_step.specs.Settled.{is_over, is_past, is_target_place, fault_next, fault_target, place_number};
 ghost use Rattle.vm_turns.specs.Known.{KnowPlaces, LandsAt};
 
 use crate::code::code;
@@ -70,7 +70,7 @@ pub fn fault_target<S: Store>(
     requires places { KnowPlaces S.Cell.cells.checks world.now known }
     requires lands { LandsAt world.now known (top (S.state store.now)).method to }
     ensures value { result ≡ fault_target S.Cell.cells world.now (S.state store.now) to }
-    ensures target { IfNone result (is_target (code_at world.now (top (S.state store.now)).method) to ≡ true) }
+    ensures target { IfNone result (is_target_place (code_at world.now (top (S.state store.now)).method) to ≡ true) }
 {
     match known {
         Known::Verified => None,
@@ -83,8 +83,8 @@ pub fn fault_target<S: Store>(
 /// The place of a target.
 pub fn place_of(world: &World<'_>, method: u16, to: i64) -> u16
     requires method { method < length world.now.methods }
-    requires target { is_target (code_at world.now method) to ≡ true }
-    ensures { result ≡ place_of to }
+    requires target { is_target_place (code_at world.now method) to ≡ true }
+    ensures { result ≡ place_number to }
 {
     instructions_are_listed();
     let _short = code(world, method);
@@ -95,7 +95,7 @@ pub fn place_of(world: &World<'_>, method: u16, to: i64) -> u16
 fn as_place(to: i64) -> u16
     requires low { pos 0 ≤ℤ to }
     requires high { to <ℤ pos 65536 }
-    ensures { result ≡ place_of to }
+    ensures { result ≡ place_number to }
 {
     to as u16
 }

@@ -1,7 +1,7 @@
 ghost use Rattle.std.specs.Prelude.{◌≡◌, ◌↔◌, ◌<◌, length, IsTrue, IfOk};
 ghost use Rattle.jc_control.specs.WellFormed.{IsPlace};
 ghost use Rattle.vm_step.specs.Methods.{code_at, instruction_at};
-ghost use Rattle.vm_step.specs.Settled.{is_there, is_target};
+ghost use Rattle.vm_step.specs.Settled.{is_there, is_target_place};
 ghost use Rattle.vm_turns.specs.Marked.{AreMarked};
 
 use crate::code::code;
@@ -65,7 +65,7 @@ impl Places {
     pub fn has_target(&self, world: &World<'_>, method: u16, to: i64) -> bool
         requires marked { AreMarked world.now self.now }
         requires known { method < length world.now.methods }
-        ensures { result ≡ is_target (code_at world.now method) to }
+        ensures { result ≡ is_target_place (code_at world.now method) to }
     {
         instructions_are_listed();
         let _short = code(world, method);

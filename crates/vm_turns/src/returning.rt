@@ -2,7 +2,7 @@
 ghost use Rattle.std.specs.Prelude.{◌≡◌, ◌+◌, ◌<◌, ◌≤◌, [], ◌∷◌, length};
 ghost use Rattle.vm_store.specs.State.{IsRunning, nth, top, without_top};
 ghost use Rattle.vm_step.specs.Methods.{code_at, max_stack_of, instruction_at};
-ghost use Rattle.vm_step.specs.Settled.{given_to, place_after};
+ghost use Rattle.vm_step.specs.Settled.{given_to, return_place};
 ghost use Rattle.vm_turns.specs.Known.{KnowsAt, CanResume};
 ghost use Rattle.vm_turns.specs.Turn.{outcome};
 
@@ -20,7 +20,7 @@ fn place_after<S: Store>(store: &S, world: &World<'_>, known: Known<'_>) -> u32
     requires method { (top (S.state store.now)).method < length world.now.methods }
     requires call { KnowsAt world.now known (top (S.state store.now)).method (top (S.state store.now)).place }
     ensures value { result
-        ≡ place_after (instruction_at (code_at world.now (top (S.state store.now)).method) (top (S.state store.now)).place) }
+        ≡ return_place (instruction_at (code_at world.now (top (S.state store.now)).method) (top (S.state store.now)).place) }
     ensures short { result ≤ 32767 }
     ensures most { max_stack_of world.now (top (S.state store.now)).method ≤ 255 }
 {

@@ -2,7 +2,7 @@
 ghost use Rattle.std.specs.Prelude.{◌≡◌, ◌*◌, ◌<◌, ◌≤◌, length};
 ghost use Rattle.jc_base.specs.Class.{IsClass};
 ghost use Rattle.vm_store.specs.Kind.{IsArrayKind, IsNumbered, element_width};
-ghost use Rattle.vm_store.specs.Objects.{has_room, instance_cells, array_cells};
+ghost use Rattle.vm_store.specs.Objects.{has_room, new_instance_cells, array_cells};
 ghost use Rattle.vm_store.specs.State.{IsRunning, top, register_count};
 ghost use Rattle.vm_store.specs.Store.{IsOf};
 ghost use Rattle.vm_step.specs.Settled.{goes_to, jumps_to, made, entered_call};
@@ -81,7 +81,7 @@ pub fn make_instance<S: Store>(
         world.now
         next
         (ObjectKind.Instance class)
-        (instance_cells S.Cell.cells world.now.classes class)
+        (new_instance_cells S.Cell.cells world.now.classes class)
         (λ h. S.Cell.cells.fresh h place)
         (S.state store.old) }
     ensures well { S.well store.new }

@@ -5,7 +5,7 @@ ghost use Rattle.jc_base.specs.Order.{is_on_chain};
 ghost use Rattle.vm_store.specs.State.{IsRunning, top, other_frames};
 ghost use Rattle.vm_store.specs.Objects.{kinds, object_at};
 ghost use Rattle.vm_step.specs.Methods.{handlers_of};
-ghost use Rattle.vm_step.specs.Calls.{class_in};
+ghost use Rattle.vm_step.specs.Calls.{class_with_methods};
 ghost use Rattle.vm_step.specs.Raising.{catches, caught_by, unwound, thrown, raised};
 ghost use Rattle.vm_turns.specs.Turn.{outcome, AreMethods, IsOfClass};
 
@@ -117,7 +117,7 @@ pub fn throw_object<S: Store>(store: &mut S, world: &World<'_>, handle: u16) -> 
 /// The class that an object counts as of.
 fn class_of(world: &World<'_>, kind: ObjectKind) -> u16
     requires { IsOfClass world.now.classes kind }
-    ensures is { result ≡ class_in world.now.classes (Some kind) }
+    ensures is { result ≡ class_with_methods world.now.classes (Some kind) }
     ensures class { IsClass world.now.classes result }
 {
     match kind {

@@ -10,7 +10,7 @@ use Rattle.vm_store.specs.declared.kind.ObjectKind.TheVariants.{Instance}
 use Rattle.vm_store.specs.Kind.{IsArrayKind, IsNumbered}
 use Rattle.vm_store.specs.Cells.{Cells}
 use Rattle.vm_store.specs.State.{State, IsRunning, top, other_frames, nth, register_count}
-use Rattle.vm_store.specs.Objects.{object_at, object_cells, instance_cells, array_cells}
+use Rattle.vm_store.specs.Objects.{object_at, object_cells, new_instance_cells, array_cells}
 use Rattle.vm_instance.specs.Instance.{IsRecorded}
 use Rattle.vm_step.specs.declared.ending.Value.{Value}
 use Rattle.vm_step.specs.declared.ending.Value.TheVariants as values
@@ -69,7 +69,7 @@ abbrev pub told : {A : Type 0} → Cells A → Linked → State A → Lead → A
 told k w s leads.Goes = goes s
 told k w s (leads.Jumps to) = jumps to s
 told k w s (leads.Puts put) = goes (with_put k put s)
-told k w s (leads.MakesInstance class place) = makes (Instance class) (instance_cells k w.classes class) (λ h. k.fresh h place) s
+told k w s (leads.MakesInstance class place) = makes (Instance class) (new_instance_cells k w.classes class) (λ h. k.fresh h place) s
 told k w s (leads.MakesArray kind count) = makes kind (array_cells k kind count) k.reference s
 told k w s (leads.Calls method count) = calls method count s
 told k w s (leads.Gives value) = gives value (value_cells k value (top s).stack)

@@ -27,11 +27,11 @@ use Rattle.vm_store.specs.State.{Frame, State, Object, map_frame, map_object, er
 use Rattle.vm_store.specs.Objects.{object_at, object_cells}
 use Rattle.vm_store.specs.Erasing.{StatesErase}
 use Rattle.vm_instance.specs.Instance.{IsRecorded}
-use Rattle.vm_step.specs.Calls.{args_of, class_of, class_in}
+use Rattle.vm_step.specs.Calls.{args_of, class_of, class_with_methods}
 use Rattle.vm_step.specs.Fields.{held_handle}
 use Rattle.vm_step.specs.Numbers.{handle_at}
 use Rattle.vm_fields.specs.Found.{IsNullOr, IsObject, IsArrayFor, HasField, MayCompare}
-use Rattle.vm_acts.specs.Reaches.{Finds, HandleIs, HasReceiver}
+use Rattle.vm_acts.specs.Reaches.{FindsNamed, HandleIs, HasReceiver}
 use Rattle.vm_checks.specs.Shaped.{IsShaped, IsShapedFrame, IsShapedFor, IsShapedObject}
 
 -- ---- objects
@@ -114,7 +114,7 @@ module _ (w : Linked) (erase : StatesErase w.methods w.classes) (f : Frame Cell)
       subst (λ k. IsNullOr k (Q k)) (sym (word-at f.stack n)) (or-weaker h (P h) (Q h) (go h) held)
 
   class-is : (h : ℕ) → class_of w.classes now h ≡ class_of w.classes (erased now) h
-  class-is h = ap (λ ks. class_in w.classes (kind_of_handle ks h)) (sym (erase.0 now).0.kinds_are)
+  class-is h = ap (λ ks. class_with_methods w.classes (kind_of_handle ks h)) (sym (erase.0 now).0.kinds_are)
 
   cells-are : (h : ℕ) → length (object_cells now h) ≡ length (object_cells (erased now) h)
   cells-are h = sym (length-map (object_cells now h) word_of) ∙ ap (λ (cs : List ℕ). length cs) ((erase.0 now).0.cells h)
@@ -160,7 +160,7 @@ module _ (w : Linked) (erase : StatesErase w.methods w.classes) (f : Frame Cell)
   there-is : (n : ℕ) → HandleIs tagged now n (λ h. IsSome (object_at now h)) → HandleIs words (erased now) n (λ h. IsSome (object_at (erased now) h))
   there-is n held = handle-erased n (λ h. IsSome (object_at now h)) (λ h. IsSome (object_at (erased now) h)) (there-erased now) held
 
-  pub finds-erased : (i : Insn) (op : Operation) → Finds tagged w i op now → Finds words w i op (erased now)
+  pub finds-erased : (i : Insn) (op : Operation) → FindsNamed tagged w i op now → FindsNamed words w i op (erased now)
   finds-erased i (ops.ArrayRead kind) found = handle-erased 1 (IsArrayFor kind now) (IsArrayFor kind (erased now)) (array-erased kind now) found
   finds-erased i (ops.ArrayWrite kind) found = (
     handle-erased (width kind + 1) (IsArrayFor kind now) (IsArrayFor kind (erased now)) (array-erased kind now) found.0,

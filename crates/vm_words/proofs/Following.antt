@@ -22,7 +22,7 @@ use Rattle.jc_rules.specs.Footprint.{footprint, OperationLeaves}
 use Rattle.vm_store.specs.declared.cell.Cell.{Cell}
 use Rattle.vm_store.specs.Typing.{least_type}
 use Rattle.vm_store.specs.Cells.{tagged, words, word_of}
-use Rattle.vm_store.specs.State.{Frame, State, Object, IsRunning, map_frame, erased, top, without_top, with_place, with_stack, registers_of}
+use Rattle.vm_store.specs.State.{Frame, State, Object, IsRunning, map_frame, erased, top, without_top, with_place, with_stack, register_count_of}
 use Rattle.vm_store.specs.Objects.{kinds}
 use Rattle.vm_store.specs.Value.{with_value}
 use Rattle.vm_store.specs.Erasing.{StatesErase}
@@ -36,7 +36,7 @@ use Rattle.vm_step.specs.Act.{Act, goes, jumps, makes, calls, gives, raises, thr
 use Rattle.vm_step.specs.Methods.{of_method, code_at, instruction_at, max_stack_of}
 use Rattle.vm_step.specs.Performed.{act}
 use Rattle.vm_step.specs.Raising.{Outcome, running, ended, ends}
-use Rattle.vm_step.specs.Settled.{unless_fault, is_over, is_past, is_target, place_of, place_after, goes_to, given_to, settled}
+use Rattle.vm_step.specs.Settled.{unless_fault, is_over, is_past, is_target_place, place_number, return_place, goes_to, given_to, settled}
 use Rattle.vm_step.specs.Step.{Fetches, Steps, unresolved, performs, performed}
 use Rattle.vm_step.specs.Tests.{fault_before}
 use Rattle.vm_acts.specs.Reaches.{Reaches}
@@ -44,7 +44,7 @@ use Rattle.vm_checks.specs.Shaped.{IsShaped, IsShapedFrame}
 use Rattle.vm_checks.specs.Machine.{KnowsTypes, KeepsShape, TestsReach, StepsStay, StepsEnd}
 use Rattle.vm_sound.specs.Frames.{Typings, types_in, Standing, AreWaiting, result_of}
 use Rattle.vm_sound.specs.State.{IsTypedState}
-use Rattle.vm_sound.specs.Laws.{AreTypings, IsSafe, StepsAreSafe}
+use Rattle.vm_sound.specs.Laws.{AreTypings, IsTypedOutcome, StepsAreSafe}
 use Rattle.vm_erasure.specs.Erasure.{erased_act, erased_outcome, ActsErase, TypedStepsFollow, TypedStatesApply}
 use Rattle.vm_turns.specs.declared.known.Known.TheVariants.{Verified}
 use Rattle.vm_turns.specs.Known.{CanResume}
@@ -67,7 +67,7 @@ held (running s) = s
 held (ended e s) = s
 
 module _ (w : Linked) (follow : TypedStepsFollow w) (safe : StepsAreSafe w) where
-  stays-by : (z : State ℕ) (t : State Cell) (o : Outcome Cell) → running z ≡ erased_outcome o → (typings : Typings) → ((n : ℕ) → typings.unset n ≡ Bottom) → AreTypings w typings → IsSafe w typings o
+  stays-by : (z : State ℕ) (t : State Cell) (o : Outcome Cell) → running z ≡ erased_outcome o → (typings : Typings) → ((n : ℕ) → typings.unset n ≡ Bottom) → AreTypings w typings → IsTypedOutcome w typings o
       → IsShaped w t → Steps tagged w t o → StepsStay tagged (IsShaped w) w → AreTypedWords w z
   stays-by z t (running y) e typings unset are typed shaped step stay =
       let same : z ≡ erased y = ap held e in
@@ -96,7 +96,7 @@ all-of : {X : Type 0} (P : X → Type 0) → ((x : X) → P x) → (xs : List X)
 all-of P p [] = All-nil P
 all-of P p (x ∷ xs) = All-cons P x xs (p x) (all-of P p xs)
 
-passed : (w : Linked) (assigned : Typings) (s : State Cell) (o : Option Fault) (x : Outcome Cell) → IsSafe w assigned (unless_fault s o x) → (o ≡ None) × IsSafe w assigned x
+passed : (w : Linked) (assigned : Typings) (s : State Cell) (o : Option Fault) (x : Outcome Cell) → IsTypedOutcome w assigned (unless_fault s o x) → (o ≡ None) × IsTypedOutcome w assigned x
 passed w assigned s None x safe = (refl, safe)
 passed w assigned s (Some fault) x safe = absurd safe
 
@@ -114,7 +114,7 @@ module _ (w : Linked) (is : IsWorld w) (erase : StatesErase w.methods w.classes)
 
     -- the step of the cells is safe, so that the tests before it are passed
     step-safe : (m : MethodRec) (i : Placed) (op : Operation) → Fetches w now m i → Resolves w m i.place i.insn (Ok op)
-        → (fault_before tagged w op now ≡ None) × IsSafe w assigned (settled tagged w (i.place + i.insn.len) now (act tagged w i.insn op now))
+        → (fault_before tagged w op now ≡ None) × IsTypedOutcome w assigned (settled tagged w (i.place + i.insn.len) now (act tagged w i.insn op now))
     step-safe m i op fetched names =
         passed w assigned now (fault_before tagged w op now) (settled tagged w (i.place + i.insn.len) now (act tagged w i.insn op now))
         (safe assigned now (performed tagged w i op now) typings typed (performs fetched op names refl))
@@ -135,7 +135,7 @@ module _ (w : Linked) (is : IsWorld w) (erase : StatesErase w.methods w.classes)
 
     frame-known : (m : MethodRec) → slice_get w.methods f.method ≡ Some m → AreKnown w.classes (types_in w.classes Bottom (kinds now) f)
     frame-known m e =
-        let many : length f.registers ≡ m.nargs + m.max_locals = here-shaped.registers ∙ ap registers_of e in
+        let many : length f.registers ≡ m.nargs + m.max_locals = here-shaped.registers ∙ ap register_count_of e in
         let few : m.nargs + m.max_locals ≤ 255 = (method-is m e).registers in
         record {
           few = omega (arith, length-map f.registers (least_type w.classes Bottom (kinds now)), many, few);
@@ -179,17 +179,17 @@ module _ (w : Linked) (is : IsWorld w) (erase : StatesErase w.methods w.classes)
     words-name m i fault fetched names = safe assigned now _ typings typed (unresolved refl (fetched-cells m i fetched) fault names)
 
     target-passes : (z : State Cell) (x : Outcome Cell) (over there : Bool)
-        → IsSafe w assigned (unless_fault z (if over then Some StackFault else if there then None else Some JumpFault) x) → there ≡ true
+        → IsTypedOutcome w assigned (unless_fault z (if over then Some StackFault else if there then None else Some JumpFault) x) → there ≡ true
     target-passes z x true there h = absurd h
     target-passes z x false true h = refl
     target-passes z x false false h = absurd h
 
-    jump-lands : (next : ℕ) (a : Act Cell) (to : ℤ) (z : State ℕ) → IsSafe w assigned (settled tagged w next now a) → Stays tagged w now a → erased_act a ≡ jumps to z → is_target (code_at w f.method) to ≡ true
+    jump-lands : (next : ℕ) (a : Act Cell) (to : ℤ) (z : State ℕ) → IsTypedOutcome w assigned (settled tagged w next now a) → Stays tagged w now a → erased_act a ≡ jumps to z → is_target_place (code_at w f.method) to ≡ true
     jump-lands next (jumps from y) to z h stays e =
         let same : from ≡ to = cc in
-        let lands : is_target (code_at w (top y).method) from ≡ true =
-        target-passes y (running (with_place y (place_of from))) (is_over w y (length (top y).stack)) (is_target (code_at w (top y).method) from) h in
-        subst (λ n. is_target (code_at w f.method) n ≡ true) same (subst (λ n. is_target (code_at w n) from ≡ true) stays lands)
+        let lands : is_target_place (code_at w (top y).method) from ≡ true =
+        target-passes y (running (with_place y (place_number from))) (is_over w y (length (top y).stack)) (is_target_place (code_at w (top y).method) from) h in
+        subst (λ n. is_target_place (code_at w f.method) n ≡ true) same (subst (λ n. is_target_place (code_at w n) from ≡ true) stays lands)
     jump-lands next (goes y) to z h stays e = absurd (cc)
     jump-lands next (makes kind cs reference y) to z h stays e = absurd (cc)
     jump-lands next (calls method count y) to z h stays e = absurd (cc)
@@ -199,35 +199,35 @@ module _ (w : Linked) (is : IsWorld w) (erase : StatesErase w.methods w.classes)
     jump-lands next (lacks class) to z h stays e = absurd (cc)
 
     words-land : ActsErase w → (m : MethodRec) (i : Placed) (op : Operation) (to : ℤ) (z : State ℕ) → Fetches w (erased now) m i → Resolves w m i.place i.insn (Ok op)
-        → act words w i.insn op (erased now) ≡ jumps to z → is_target (code_at w f.method) to ≡ true
+        → act words w i.insn op (erased now) ≡ jumps to z → is_target_place (code_at w f.method) to ≡ true
     words-land acts m i op to z fetched names e =
         jump-lands (i.place + i.insn.len) (act tagged w i.insn op now) to z (step-safe m i op (fetched-cells m i fetched) names).1 (jumps-stay tagged w now i.insn op)
         (sym (acts i.insn op now (omega arith)) ∙ e)
 
     next-passes : (s : State Cell) (x : Outcome Cell) (over past : Bool)
-        → IsSafe w assigned (unless_fault s (if over then Some StackFault else if past then Some JumpFault else None) x) → over ≡ false
+        → IsTypedOutcome w assigned (unless_fault s (if over then Some StackFault else if past then Some JumpFault else None) x) → over ≡ false
     next-passes s x true past h = absurd h
     next-passes s x false past h = refl
 
-    taken-if : (b : Bool) (x y : Outcome Cell) → b ≡ true → IsSafe w assigned (if b then x else y) → IsSafe w assigned x
+    taken-if : (b : Bool) (x y : Outcome Cell) → b ≡ true → IsTypedOutcome w assigned (if b then x else y) → IsTypedOutcome w assigned x
     taken-if true x y e h = h
     taken-if false x y e h = absurd (cc)
 
-    given-fits : (g : Frame Cell) (gs : List (Frame Cell)) (value : Value) (cs : List Cell) → IsSafe w assigned (given_to tagged w value cs (record { frames = g ∷ gs; heap = heap; statics = statics }))
+    given-fits : (g : Frame Cell) (gs : List (Frame Cell)) (value : Value) (cs : List Cell) → IsTypedOutcome w assigned (given_to tagged w value cs (record { frames = g ∷ gs; heap = heap; statics = statics }))
         → length (with_value cs g.stack) ≤ max_stack_of w g.method
     given-fits g gs value cs h =
         let z : State Cell = record { frames = g ∷ gs; heap = heap; statics = statics } in
         let back : State Cell = with_stack z (with_value cs g.stack) in
-        let after : ℕ = place_after (instruction_at (code_at w g.method) g.place) in
+        let after : ℕ = return_place (instruction_at (code_at w g.method) g.place) in
         let some : nat_lt 0 (length (g ∷ gs)) ≡ true = grind (arith, nat_tests) in
-        let goes_on : IsSafe w assigned (goes_to tagged w after z back) = taken-if (nat_lt 0 (length (g ∷ gs))) (goes_to tagged w after z back) (ends (Plain (Returned value)) z) some h in
+        let goes_on : IsTypedOutcome w assigned (goes_to tagged w after z back) = taken-if (nat_lt 0 (length (g ∷ gs))) (goes_to tagged w after z back) (ends (Plain (Returned value)) z) some h in
         ltb-false (max_stack_of w g.method) (length (with_value cs g.stack))
         (next-passes z (running (with_place back after)) (is_over w back (length (with_value cs g.stack))) (is_past w back after) goes_on)
 
     waits-fit :
         (bs : List (Frame Cell)) (next : ℕ) (a : Act Cell) (value : Value) (cells : List ℕ) (result : Option Ty)
         → AreWaiting w assigned (kinds now) result bs → All (IsShapedFrame w) bs
-        → erased_act a ≡ gives value cells → IsSafe w assigned (settled tagged w next (record { frames = f ∷ bs; heap = heap; statics = statics }) a)
+        → erased_act a ≡ gives value cells → IsTypedOutcome w assigned (settled tagged w next (record { frames = f ∷ bs; heap = heap; statics = statics }) a)
         → 0 < length (map (map_frame word_of) bs)
         → CanResume 255 w Verified (length cells) (without_top (erased (record { frames = f ∷ bs; heap = heap; statics = statics })))
     waits-fit [] next a value cells result waits shapes e h lt = absurd (omega (arith, lt))

@@ -30,7 +30,7 @@ use Rattle.vm_step.specs.Branching.{leads_if, is_taken, branch_width}
 use Rattle.vm_step.specs.Calls.{class_of, with_ready, served, served_act, interface_act, chosen_act, args_of, return_act}
 use Rattle.vm_arithmetic.specs.Arithmetic.{short_of_word}
 use Rattle.vm_store.specs.Value.{value_in}
-use Rattle.vm_step.specs.Fields.{held_handle, with_field_read, with_field_write, elements_of, index_in, at_element, keeps_kind, with_element}
+use Rattle.vm_step.specs.Fields.{held_handle, with_field_read, with_field_write, elements_of, element_index, at_element, keeps_kind, with_element}
 use Rattle.vm_step.specs.Numbers.{handle_at, short_at, number_cells, dropped, replaced}
 use Rattle.vm_step.specs.Objects.{kind_of_type, array_of_count, may_cast, type_test_act}
 use Rattle.vm_step.specs.Performed.{act}
@@ -129,13 +129,13 @@ module _ {A : Type 0} (k : Cells A) (w : Linked) (s : State A) where
       let h : ℕ = handle_at k (top s).stack 1 in
       let x : ℤ = short_at k (top s).stack 0 in
       let a : ℕ → ℕ → Act A = λ n j. goes (replaced s 2 (value_in k kind (object_cells s n) (j * width kind))) in
-      null-stays h (λ n. at_element x (elements_of s n) (a n)) (some-stays exceptions.ArrayIndex (index_in x (elements_of s h)) (a h) (λ j. tt {0}))
+      null-stays h (λ n. at_element x (elements_of s n) (a n)) (some-stays exceptions.ArrayIndex (element_index x (elements_of s h)) (a h) (λ j. tt {0}))
   jumps-stay i (ops.ArrayWrite kind) =
       let h : ℕ = handle_at k (top s).stack (width kind + 1) in
       let x : ℤ = short_at k (top s).stack (width kind) in
       let a : ℕ → ℕ → Act A = λ n j. if keeps_kind k w.classes kind s n then goes (with_element k kind n j s) else raises exceptions.ArrayStore in
       null-stays h (λ n. at_element x (elements_of s n) (a n))
-      (some-stays exceptions.ArrayIndex (index_in x (elements_of s h)) (a h) (λ j. goes-or (keeps_kind k w.classes kind s h) (with_element k kind h j s) exceptions.ArrayStore))
+      (some-stays exceptions.ArrayIndex (element_index x (elements_of s h)) (a h) (λ j. goes-or (keeps_kind k w.classes kind s h) (with_element k kind h j s) exceptions.ArrayStore))
   jumps-stay i ops.ArrayLength =
       null-stays (handle_at k (top s).stack 0) (λ n. goes (replaced s 1 (k.short (short_of_word (elements_of s n)) ∷ []))) (tt {0})
   jumps-stay i (ops.Branch branch) = leads-stays (is_taken k branch (top s).stack) (target (top s).place i.x) (branch_width branch)

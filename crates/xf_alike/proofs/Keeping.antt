@@ -39,7 +39,7 @@ use Rattle.vm_step.specs.Step.{Fetches, Steps, misplaced, unresolved, performs, 
 use Rattle.vm_step.specs.Tests.{fault_before, types_of}
 use Rattle.vm_sound.specs.Frames.{Typings, Standing}
 use Rattle.vm_sound.specs.State.{IsTypedState}
-use Rattle.vm_sound.specs.Laws.{IsSafe}
+use Rattle.vm_sound.specs.Laws.{IsTypedOutcome}
 use Rattle.vm_sound.proofs.Going.{goes-on}
 use Rattle.vm_sound.proofs.Places.{IsThere, instruction-there}
 use Rattle.vm_erasure.specs.Erasure.{IsNoFault}
@@ -47,7 +47,7 @@ use Rattle.vm_erasure.proofs.Together.{safe-free}
 use Rattle.vm_alike.specs.Alike.{renamed_cell, renamed_new, StayAlike}
 use Rattle.vm_alike.specs.Running.{HaveKeys, keys_at, Executes, RunAlike, ComeAlike, next_alike, target_alike, call_alike, return_alike, exception_alike, throw_alike, end_alike}
 use Rattle.vm_alike.proofs.Settling.{unless-none}
-use Rattle.xf_alike.specs.Counterparts.{IsKept, AreCounterparts}
+use Rattle.xf_alike.specs.Counterparts.{IsSameMethod, AreCounterparts}
 use Rattle.xf_alike.specs.Beside.{AreTop, top_kept, WaitBeside, wait_kept, AreUnder, more_frames, both_run, both_end}
 use Rattle.xf_alike.proofs.Typed.{AreLaws, first-runs, frames-typed}
 use Rattle.xf_alike.proofs.Settling.{Settles, settled-now, settles-as, under-length, beside, enters, gives, kept-code, kept-room}
@@ -103,7 +103,7 @@ module _ (v w : Linked) (typings : Typings) (laws : AreLaws v) (pair : AreCounte
     (z t : State Cell) (first : z.frames ≡ top z ∷ other_frames z.frames) (second : t.frames ≡ top t ∷ other_frames t.frames)
     (under : AreUnder v w typings (other_frames z.frames) (other_frames t.frames))
     (heap : t.heap ≡ z.heap) (statics : t.statics ≡ z.statics) (typed : IsTypedState v typings z)
-    (k : IsKept v w (top z).method) (same : top t ≡ top z) where
+    (k : IsSameMethod v w (top z).method) (same : top t ≡ top z) where
   code-same : code_at w (top t).method ≡ code_at v (top z).method
   code-same = ap (λ (f : Frame Cell). code_at w f.method) same ∙ kept-code v w typings laws pair (top z).method k
 
@@ -134,8 +134,8 @@ module _ (v w : Linked) (typings : Typings) (laws : AreLaws v) (pair : AreCounte
           same-frames (top u) (top y) method place (same-lists (top u).registers (top y).registers count same-register)
           (stays.alike.stack ∙ own-cells (top y).stack)
 
-      still-kept : IsKept v w (top y).method
-      still-kept = subst (IsKept v w) (sym stays.first.method) k
+      still-kept : IsSameMethod v w (top y).method
+      still-kept = subst (IsSameMethod v w) (sym stays.first.method) k
 
       goes-settle : (top u).place ≡ (top y).place → IsTypedState v typings y → Settles v w typings (running y) (running u)
       goes-settle place now_typed =
@@ -174,7 +174,7 @@ module _ (v w : Linked) (typings : Typings) (laws : AreLaws v) (pair : AreCounte
 
     come-settles :
         (m : MethodRec) (o p : Outcome Cell) → Fetches v z m i → Resolves v m i.place i.insn (Ok op)
-        → ComeAlike tagged (renamed_cell own) v w z t i i op op o p → IsSafe v typings o → Settles v w typings o p
+        → ComeAlike tagged (renamed_cell own) v w z t i i op op o p → IsTypedOutcome v typings o → Settles v w typings o p
     come-settles m o p fetched resolved (next_alike {z = y} {y = u} stays falls here there) safe = goes-settle y u stays (there ∙ sym here) safe
     come-settles m o p fetched resolved (target_alike n {z = y} {y = u} stays here there) safe =
         let also : Some (pos (top u).place) ≡ Some (pos (top y).place) =
@@ -183,19 +183,19 @@ module _ (v w : Linked) (typings : Typings) (laws : AreLaws v) (pair : AreCounte
     come-settles m o p fetched resolved (call_alike method count {z = y} {y = u} stays here there handed acts enter too) safe =
         let place : (top u).place ≡ (top y).place = there ∙ (ap (λ (f : Frame Cell). f.place) same ∙ sym here) in
         settles-as v w typings o p (running (with_call tagged v.methods y method count)) (running (with_call tagged w.methods u method count)) enter too
-        (calls-settle y u stays m method count fetched resolved place handed acts (subst (IsSafe v typings) enter safe))
+        (calls-settle y u stays m method count fetched resolved place handed acts (subst (IsTypedOutcome v typings) enter safe))
     come-settles m o p fetched resolved (return_alike value cs plain acts is also) safe =
         settles-as v w typings o p (given_to tagged v value cs (without_top z)) (given_to tagged w value cs (without_top t)) is also
         (gives v w typings laws pair value cs (λ e. plain (renamed_cell e) (renamed-keeps e)) z.heap t.heap z.statics t.statics heap statics under
-        (subst (IsSafe v typings) is safe))
+        (subst (IsTypedOutcome v typings) is safe))
     come-settles m o p fetched resolved (exception_alike exception acts is also) safe =
         settles-as v w typings o p (raised tagged v exception z) (raised tagged w exception t) is also
         (raises-settle v w typings laws pair (top z) (top t) (other_frames z.frames) (other_frames t.frames) under catch-here exception z t first second heap statics
-        (subst (IsSafe v typings) is safe))
+        (subst (IsTypedOutcome v typings) is safe))
     come-settles m o p fetched resolved (throw_alike handle acts is also) safe =
         settles-as v w typings o p (thrown tagged v handle z) (thrown tagged w handle t) is also
         (throws-settle v w typings laws pair (top z) (top t) (other_frames z.frames) (other_frames t.frames) under catch-here handle z t first second heap statics
-        (subst (IsSafe v typings) is safe))
+        (subst (IsTypedOutcome v typings) is safe))
     come-settles m o p fetched resolved (end_alike ending y) safe =
         settled-now v w typings (ended (endings.Plain ending) y) (ended (endings.Plain ending) y) (both_end (endings.Plain ending) refl refl)
 
@@ -270,7 +270,7 @@ module _ (v w : Linked) (typings : Typings) (laws : AreLaws v) (pair : AreCounte
           }
 
       performs-alike :
-          (o : Outcome Cell) → Steps tagged v z o → o ≡ performed tagged v i op z → IsSafe v typings o
+          (o : Outcome Cell) → Steps tagged v z o → o ≡ performed tagged v i op z → IsTypedOutcome v typings o
           → (p : Outcome Cell) × Steps tagged w t p × Settles v w typings o p
       performs-alike o step is safe =
           let free = safe-free v typings o safe in
@@ -279,10 +279,10 @@ module _ (v w : Linked) (typings : Typings) (laws : AreLaws v) (pair : AreCounte
           (runs-alike passed.0) step free in
           (other.0, other.1, come-settles m o other.0 fetched resolved other.2 safe)
 
-  pub kept-steps : (o : Outcome Cell) → Steps tagged v z o → IsSafe v typings o → (p : Outcome Cell) × Steps tagged w t p × Settles v w typings o p
+  pub kept-steps : (o : Outcome Cell) → Steps tagged v z o → IsTypedOutcome v typings o → (p : Outcome Cell) × Steps tagged w t p × Settles v w typings o p
   kept-steps o step safe = go step safe
     where
-      go : {o : Outcome Cell} → Steps tagged v z o → IsSafe v typings o → (p : Outcome Cell) × Steps tagged w t p × Settles v w typings o p
+      go : {o : Outcome Cell} → Steps tagged v z o → IsTypedOutcome v typings o → (p : Outcome Cell) × Steps tagged w t p × Settles v w typings o p
       go (misplaced checks runs e) safe = absurd safe
       go (unresolved checks fetched fault resolves) safe = absurd safe
       go (performs {m = m} {i = i} {o = o} fetched op resolves is) safe = performs-alike i op m fetched resolves o (performs fetched op resolves is) is safe

@@ -36,7 +36,7 @@ use Rattle.xf_world.proofs.Catching.{element-at, element-there, pools-laid}
 use Rattle.xf_held.specs.Moves.{IsExecutable}
 use Rattle.xf_groups.specs.Laid.{IsLaidIn}
 use Rattle.xf_groups.specs.Steps.{GroupsStandAtSteps}
-use Rattle.xf_alike.specs.Counterparts.{IsKept, IsKeptOrRewritten, kept, rewritten, AreCounterparts}
+use Rattle.xf_alike.specs.Counterparts.{IsSameMethod, IsKeptOrRewritten, kept, rewritten, AreCounterparts}
 use Rattle.xf_alike.specs.Laws.{CounterpartsEndAlike, LaidEndAlike}
 use Rattle.xf_alike.proofs.Filling.{laid-filled}
 use Rattle.xf_groups.proofs.Sounding.{can-run}
@@ -51,7 +51,7 @@ method-there w n P h = by (slice_get w.methods n) refl h
 
 -- what is known of the method of a number: the type of its unset registers and its typing, and that it is kept or rewritten by that
 data Goes (v w : Linked) (n : ℕ) : Ty → (ℕ → Option Types) → Type 0 where
-  goes_kept : {unset : Ty} {frames : ℕ → Option Types} → IsKept v w n → Goes v w n unset frames
+  goes_kept : {unset : Ty} {frames : ℕ → Option Types} → IsSameMethod v w n → Goes v w n unset frames
   goes_rewritten : (s : Source) (place : ℕ → ℕ) → s.method.number ≡ n → IsLaidIn v w s place → Goes v w n Top s.frames
 
 record Assigned (v w : Linked) (n : ℕ) : Type 0 where
@@ -74,7 +74,7 @@ module _ (v : Linked) (laws : AreLaws v) (catches : CatchesByPool) (card : CardI
 
   -- ---- a method of a library
 
-  library-kept : (n : ℕ) (r : MethodRec) → slice_get v.methods n ≡ Some r → n < first → IsKept v w n
+  library-kept : (n : ℕ) (r : MethodRec) → slice_get v.methods n ≡ Some r → n < first → IsSameMethod v w n
   library-kept n r here lt =
       let e : method_in w n ≡ Some (method_with v n r) = stand.earlier n lt ∙ ap (option_map (method_with v n)) here in
       let found = method-there w n (λ m. m ≡ method_with v n r) (subst (λ o. IsSomeAnd o (λ m. m ≡ method_with v n r)) (sym e) refl) in

@@ -20,8 +20,8 @@ use Rattle.vm_store.specs.declared.kind.ObjectKind.{ObjectKind}
 use Rattle.vm_store.specs.declared.kind.ObjectKind.TheVariants.{Instance}
 use Rattle.vm_store.specs.Cells.{tagged}
 use Rattle.vm_store.specs.Kind.{kind_of_handle}
-use Rattle.vm_store.specs.Objects.{kinds, has_room, instance_cells, with_object}
-use Rattle.vm_store.specs.State.{Frame, Object, State, top, other_frames, entered, registers_of, register_count, with_stack, with_place}
+use Rattle.vm_store.specs.Objects.{kinds, has_room, new_instance_cells, with_object}
+use Rattle.vm_store.specs.State.{Frame, Object, State, top, other_frames, entered, register_count_of, register_count, with_stack, with_place}
 use Rattle.vm_store.specs.Value.{with_value}
 use Rattle.vm_store.proofs.Stacks.{reverse-map}
 use Rattle.vm_step.specs.declared.ending.Ending.TheVariants as endings
@@ -31,28 +31,28 @@ use Rattle.vm_step.specs.declared.ending.Plain.TheVariants.{Returned, Threw, Hea
 use Rattle.vm_step.specs.declared.ending.Value.{Value}
 use Rattle.vm_step.specs.declared.exception.Exception.{Exception}
 use Rattle.vm_step.specs.Act.{role_of}
-use Rattle.vm_step.specs.Calls.{class_in, class_of}
+use Rattle.vm_step.specs.Calls.{class_with_methods, class_of}
 use Rattle.vm_step.specs.Methods.{of_method, code_at, handlers_of, instruction_at, max_stack_of}
 use Rattle.vm_step.specs.Raising.{Outcome, running, ended, ends, catches, handler_for, caught, has_no_room, caught_by, caught_or, unwound, thrown, raised}
 use Rattle.vm_step.specs.Run.{Runs, Continues, stands}
-use Rattle.vm_step.specs.Settled.{fault_next, goes_to, given_to, place_after, unless_fault}
+use Rattle.vm_step.specs.Settled.{fault_next, goes_to, given_to, return_place, unless_fault}
 use Rattle.vm_sound.specs.Frames.{Typings}
 use Rattle.vm_sound.specs.State.{IsTypedState}
-use Rattle.vm_sound.specs.Laws.{IsSafe}
+use Rattle.vm_sound.specs.Laws.{IsTypedOutcome}
 use Rattle.vm_sound.specs.Handed.{nargs_of}
 use Rattle.vm_sound.proofs.Finish.{has-room}
 use Rattle.vm_alike.specs.Alike.{renamed_cell}
 use Rattle.vm_alike.proofs.Settling.{unless-none}
 use Rattle.xf_homes.specs.declared.home.Home.{Home}
-use Rattle.xf_held.specs.Held.{Holds, HoldsLocals}
+use Rattle.xf_held.specs.Held.{HoldsValue, HoldsLocals}
 use Rattle.xf_plan.specs.Source.{Source}
 use Rattle.xf_plan.specs.Plan.{needed}
 use Rattle.vm_erasure.proofs.Together.{safe-free}
 use Rattle.xf_groups.specs.Laid.{body_at, rename}
-use Rattle.xf_groups.specs.Beside.{AreEqualBut, AreOf, IsUnderCall, IsWithin}
+use Rattle.xf_groups.specs.Beside.{AreEqualBut, AreOf, IsUnderCall, StandsInGroup}
 use Rattle.xf_groups.specs.Comes.{ComesToGroup, ComesWithin}
 use Rattle.xf_groups.specs.Laws.{CatchAlike, none_catches, both_catch}
-use Rattle.xf_alike.specs.Counterparts.{IsKept, IsRewrittenIn, IsKeptOrRewritten, kept, rewritten, AreCounterparts}
+use Rattle.xf_alike.specs.Counterparts.{IsSameMethod, IsRewrittenIn, IsKeptOrRewritten, kept, rewritten, AreCounterparts}
 use Rattle.xf_alike.specs.Beside.{AreTop, top_kept, top_rewritten, WaitBeside, wait_kept, wait_rewritten, AreUnder, no_frames, more_frames, AreBeside, OutcomesBeside, both_run, both_end}
 use Rattle.xf_alike.proofs.Typed.{AreLaws, its-method, stands-at, reached-at, typed-at}
 
@@ -85,12 +85,12 @@ module _ (v w : Linked) (typings : Typings) where
   under-length (more_frames {f = f} {g = g} {fs = fs} {gs = gs} first rest) = ap suc (under-length rest)
 
 -- a home is held by a frame with the same registers
-pub holds-too : (s : Source) (values : List Cell) (g : Frame Cell) (place : ℕ) (stack : List Cell) (h : Home) → Holds s values g h
-    → Holds s values (record g { place = place; stack = stack }) h
+pub holds-too : (s : Source) (values : List Cell) (g : Frame Cell) (place : ℕ) (stack : List Cell) (h : Home) → HoldsValue s values g h
+    → HoldsValue s values (record g { place = place; stack = stack }) h
 holds-too s values g place stack h holds = record { known = holds.known; there = holds.there; equal = holds.equal }
 
-each-too : (s : Source) (values : List Cell) (g : Frame Cell) (place : ℕ) (stack : List Cell) (hs : List Home) → Each (Holds s values g) hs
-    → Each (Holds s values (record g { place = place; stack = stack })) hs
+each-too : (s : Source) (values : List Cell) (g : Frame Cell) (place : ℕ) (stack : List Cell) (hs : List Home) → Each (HoldsValue s values g) hs
+    → Each (HoldsValue s values (record g { place = place; stack = stack })) hs
 each-too s values g place stack [] all = all
 each-too s values g place stack (h ∷ hs) all = (holds-too s values g place stack h all.0, each-too s values g place stack hs all.1)
 
@@ -113,7 +113,7 @@ passed-both false false h k = refl
 
 -- what a caller is given, where nothing is at fault
 abbrev after_call : Linked → Frame Cell → ℕ
-after_call x f = place_after (instruction_at (code_at x f.method) f.place)
+after_call x f = return_place (instruction_at (code_at x f.method) f.place)
 
 abbrev given_frame : Linked → List Cell → Frame Cell → Frame Cell
 given_frame x cells f = record { method = f.method; place = after_call x f; registers = f.registers; stack = with_value cells f.stack }
@@ -188,7 +188,7 @@ module _ (v w : Linked) (typings : Typings) (laws : AreLaws v) (pair : AreCounte
 
     enters-by : IsKeptOrRewritten v w typings n → Settles v w typings (running begun) (running also_begun)
     enters-by (kept k) =
-        let count : register_count v.methods n ≡ register_count w.methods n = ap registers_of (k.first ∙ sym k.second) in
+        let count : register_count v.methods n ≡ register_count w.methods n = ap register_count_of (k.first ∙ sym k.second) in
         let tops : AreTop v w typings (entered tagged v.methods n args) (entered tagged w.methods n args) =
         subst (λ c. AreTop v w typings (entered tagged v.methods n args)
         (record { method = n; place = 0; registers = args ++ replicate (c - length args) tagged.empty; stack = [] })) count (top_kept k) in
@@ -213,14 +213,14 @@ module _ (v w : Linked) (typings : Typings) (laws : AreLaws v) (pair : AreCounte
 
   -- ---- a method that is kept
 
-  pub kept-code : (n : ℕ) → IsKept v w n → code_at w n ≡ code_at v n
+  pub kept-code : (n : ℕ) → IsSameMethod v w n → code_at w n ≡ code_at v n
   kept-code n k =
       ap (of_method [] (code_of w.infos)) k.second ∙ (k.code ∙ sym (ap (of_method [] (code_of v.infos)) k.first))
 
-  pub kept-room : (n : ℕ) → IsKept v w n → max_stack_of w n ≡ max_stack_of v n
+  pub kept-room : (n : ℕ) → IsSameMethod v w n → max_stack_of w n ≡ max_stack_of v n
   kept-room n k = ap (of_method 0 (λ (m : MethodRec). m.max_stack)) (k.second ∙ sym k.first)
 
-  pub kept-handlers : (n : ℕ) → IsKept v w n → handlers_of w n ≡ handlers_of v n
+  pub kept-handlers : (n : ℕ) → IsSameMethod v w n → handlers_of w n ≡ handlers_of v n
   kept-handlers n k = ap (of_method [] (λ (m : MethodRec). m.handlers)) (k.second ∙ sym k.first)
 
   pub more-room : (s : Source) (place : ℕ → ℕ) (n : ℕ) → IsRewrittenIn v w typings n s place → max_stack_of w n ≡ max_stack_of v n + 1
@@ -249,19 +249,19 @@ module _ (v w : Linked) (typings : Typings) (laws : AreLaws v) (pair : AreCounte
         inside : nat_le (length (code_at v f.method)) (after_call v f) ≡ false
         typed : IsTypedState v typings given
 
-      is-given : IsSafe v typings (given_to tagged v value cells waiting) → IsGiven
+      is-given : IsTypedOutcome v typings (given_to tagged v value cells waiting) → IsGiven
       is-given safe =
           let depth : ℕ = length (with_value cells f.stack) in
           let back : State Cell = record { frames = record f { stack = with_value cells f.stack } ∷ fs; heap = heap; statics = statics } in
           let goes = given-goes v value cells f fs heap statics in
-          let here : IsSafe v typings (goes_to tagged v (after_call v f) waiting back) = subst (IsSafe v typings) goes safe in
+          let here : IsTypedOutcome v typings (goes_to tagged v (after_call v f) waiting back) = subst (IsTypedOutcome v typings) goes safe in
           let passed = unless-none waiting (fault_next tagged v back depth (after_call v f)) (running given) (safe-free v typings (goes_to tagged v (after_call v f) waiting back) here) in
           let tests = both-passed (nat_lt (max_stack_of v f.method) depth) (nat_le (length (code_at v f.method)) (after_call v f)) passed.0 in
           record {
             goes = goes ∙ passed.1;
             fits = ltb-false (max_stack_of v f.method) depth tests.0;
             inside = tests.1;
-            typed = subst (IsSafe v typings) passed.1 here;
+            typed = subst (IsTypedOutcome v typings) passed.1 here;
           }
 
       also-goes :
@@ -297,7 +297,7 @@ module _ (v w : Linked) (typings : Typings) (laws : AreLaws v) (pair : AreCounte
         next-place =
             let code : code_at v f.method ≡ s.method.code =
             ap (code_at v) (sym r.number) ∙ (ap (of_method [] (code_of v.infos)) (its-method v w typings f.method s place r).rec ∙ sym (its-method v w typings f.method s place r).code) in
-            ap place_after (ap (λ c. instruction_at c f.place) code ∙ stands-at s.method.code f.place call.within.instruction call.within.stands call.within.there)
+            ap return_place (ap (λ c. instruction_at c f.place) code ∙ stands-at s.method.code f.place call.within.instruction call.within.stands call.within.there)
 
         rewritten-given : Settles v w typings (given_to tagged v value cells waiting) (given_to tagged w value cells also_waiting)
         rewritten-given =
@@ -332,14 +332,14 @@ module _ (v w : Linked) (typings : Typings) (laws : AreLaws v) (pair : AreCounte
 
     -- in one that is kept
     kept-given :
-        (f : Frame Cell) (fs gs : List (Frame Cell)) → AreUnder v w typings fs gs → IsKept v w f.method
-        → IsSafe v typings (given_to tagged v value cells (record { frames = f ∷ fs; heap = heap; statics = statics }))
+        (f : Frame Cell) (fs gs : List (Frame Cell)) → AreUnder v w typings fs gs → IsSameMethod v w f.method
+        → IsTypedOutcome v typings (given_to tagged v value cells (record { frames = f ∷ fs; heap = heap; statics = statics }))
         → Settles v w typings (given_to tagged v value cells (record { frames = f ∷ fs; heap = heap; statics = statics }))
         (given_to tagged w value cells (record { frames = f ∷ gs; heap = other; statics = others }))
     kept-given f fs gs under k safe =
         let is = is-given f f fs gs under safe in
         let code : code_at w f.method ≡ code_at v f.method = kept-code f.method k in
-        let next : after_call w f ≡ after_call v f = ap (λ c. place_after (instruction_at c f.place)) code in
+        let next : after_call w f ≡ after_call v f = ap (λ c. return_place (instruction_at c f.place)) code in
         let fits : length (with_value cells f.stack) ≤ max_stack_of w f.method = subst (λ n. length (with_value cells f.stack) ≤ n) (sym (kept-room f.method k)) is.fits in
         let inside : nat_le (length (code_at w f.method)) (after_call w f) ≡ false =
         ap (λ (c : List ℕ). nat_le (length c) (after_call w f)) code ∙ (ap (nat_le (length (code_at v f.method))) next ∙ is.inside) in
@@ -355,7 +355,7 @@ module _ (v w : Linked) (typings : Typings) (laws : AreLaws v) (pair : AreCounte
 
     pub gives :
         {fs gs : List (Frame Cell)} → AreUnder v w typings fs gs
-        → IsSafe v typings (given_to tagged v value cells (record { frames = fs; heap = heap; statics = statics }))
+        → IsTypedOutcome v typings (given_to tagged v value cells (record { frames = fs; heap = heap; statics = statics }))
         → Settles v w typings (given_to tagged v value cells (record { frames = fs; heap = heap; statics = statics }))
         (given_to tagged w value cells (record { frames = gs; heap = other; statics = others }))
     gives no_frames safe =

@@ -16,12 +16,12 @@ use Rattle.vm_step.specs.Step.{Steps}
 use Rattle.vm_step.proofs.Running.{continues-on}
 use Rattle.vm_sound.specs.Frames.{Typings}
 use Rattle.vm_sound.specs.State.{IsTypedState}
-use Rattle.vm_sound.specs.Laws.{IsSafe}
+use Rattle.vm_sound.specs.Laws.{IsTypedOutcome}
 use Rattle.xf_plan.specs.Source.{Source}
 use Rattle.xf_groups.specs.Beside.{IsAtGroup}
 use Rattle.xf_groups.specs.Comes.{ComesWithin, AreAtGroup, CallAlike, GroupComes, group_calls, group_gives, group_raises, group_throws, group_ends, GroupRuns, group_leaves, group_stays}
 use Rattle.xf_groups.proofs.Plain.{one-step}
-use Rattle.xf_alike.specs.Counterparts.{IsKept, IsRewrittenIn, AreCounterparts}
+use Rattle.xf_alike.specs.Counterparts.{IsSameMethod, IsRewrittenIn, AreCounterparts}
 use Rattle.xf_alike.specs.Beside.{AreTop, top_kept, top_rewritten, WaitBeside, wait_rewritten, AreUnder, more_frames, AreBeside, OutcomesBeside, both_run, both_end}
 use Rattle.xf_alike.proofs.Typed.{AreLaws, its-method, method-is, typed-at, stays-typed, reached-at}
 use Rattle.xf_alike.proofs.Settling.{extra, Settles, settled-now, settles-as, beside, equal-but, enters, gives}
@@ -63,7 +63,7 @@ module _ (v w : Linked) (typings : Typings) (laws : AreLaws v) (pair : AreCounte
     of-frame : (f : Frame Cell) → f.method ≡ s.method.number → IsRewrittenIn v w typings f.method s place
     of-frame f method = subst (λ n. IsRewrittenIn v w typings n s place) (sym r.number ∙ sym method) r
 
-    called : (o p : Outcome Cell) → CallAlike v w s place z t o p → IsSafe v typings o → Settles v w typings o p
+    called : (o p : Outcome Cell) → CallAlike v w s place z t o p → IsTypedOutcome v typings o → Settles v w typings o p
     called o p c safe =
         let y : State Cell = c.source in
         let u : State Cell = c.target in
@@ -72,7 +72,7 @@ module _ (v w : Linked) (typings : Typings) (laws : AreLaws v) (pair : AreCounte
         let rest : AreUnder v w typings (other_frames y.frames) (other_frames u.frames) =
         subst (λ xs. AreUnder v w typings xs (other_frames u.frames)) (sym fs)
         (subst (λ xs. AreUnder v w typings (other_frames z.frames) xs) (sym gs) under) in
-        let now_typed : IsTypedState v typings (with_call tagged v.methods y c.method c.count) = subst (IsSafe v typings) c.enters safe in
+        let now_typed : IsTypedState v typings (with_call tagged v.methods y c.method c.count) = subst (IsTypedOutcome v typings) c.enters safe in
         let here : Frame Cell = record (top y) { stack = drop c.count (top y).stack } in
         let there : Frame Cell = record (top u) { stack = drop c.count (top u).stack } in
         let its : IsRewrittenIn v w typings here.method s place = of-frame here c.waits.within.of.source in
@@ -88,21 +88,21 @@ module _ (v w : Linked) (typings : Typings) (laws : AreLaws v) (pair : AreCounte
         (enters v w typings laws pair c.method args (here ∷ other_frames y.frames) (there ∷ other_frames u.frames)
         y.heap u.heap y.statics u.statics c.equal.heap c.equal.statics (more_frames waits rest) now_typed many))
 
-    group-settles : (o p : Outcome Cell) → GroupComes v w s place z t o p → IsSafe v typings o → Settles v w typings o p
+    group-settles : (o p : Outcome Cell) → GroupComes v w s place z t o p → IsTypedOutcome v typings o → Settles v w typings o p
     group-settles o p (group_calls c) safe = called o p c safe
     group-settles o p (group_gives value cs plain is also) safe =
         settles-as v w typings o p (given_to tagged v value cs (without_top z)) (given_to tagged w value cs (without_top t)) is also
-        (gives v w typings laws pair value cs plain z.heap t.heap z.statics t.statics heap statics under (subst (IsSafe v typings) is safe))
+        (gives v w typings laws pair value cs plain z.heap t.heap z.statics t.statics heap statics under (subst (IsTypedOutcome v typings) is safe))
     group-settles o p (group_raises exception u at is also) safe =
         settles-as v w typings o p (raised tagged v exception z) (raised tagged w exception u) is also
         (raises-settle v w typings laws pair (top z) (top u) (other_frames z.frames) (other_frames t.frames) under
         (catch_rewritten s place r (reached-at v typings w s place z first typed r) at.within) exception z u first at.moves.frames (at.moves.heap ∙ heap) (at.moves.statics ∙ statics)
-        (subst (IsSafe v typings) is safe))
+        (subst (IsTypedOutcome v typings) is safe))
     group-settles o p (group_throws handle u at is also) safe =
         settles-as v w typings o p (thrown tagged v handle z) (thrown tagged w handle u) is also
         (throws-settle v w typings laws pair (top z) (top u) (other_frames z.frames) (other_frames t.frames) under
         (catch_rewritten s place r (reached-at v typings w s place z first typed r) at.within) handle z u first at.moves.frames (at.moves.heap ∙ heap) (at.moves.statics ∙ statics)
-        (subst (IsSafe v typings) is safe))
+        (subst (IsTypedOutcome v typings) is safe))
     group-settles o p (group_ends ending y) safe =
         settled-now v w typings (ended (endings.Plain ending) y) (ended (endings.Plain ending) y) (both_end (endings.Plain ending) refl refl)
 
@@ -122,12 +122,12 @@ module _ (v w : Linked) (typings : Typings) (laws : AreLaws v) (pair : AreCounte
               (both_run (beside v w typings laws pair z t y u at.first.frames at.second.frames under tops at.equal.heap at.equal.statics now_typed));
         }
 
-    group-comes : (o : Outcome Cell) → GroupRuns v w s place z t o → IsSafe v typings o → StepComes o t
+    group-comes : (o : Outcome Cell) → GroupRuns v w s place z t o → IsTypedOutcome v typings o → StepComes o t
     group-comes o (group_leaves c) safe = settles-then o t c.count c.outcome c.more c.fewer c.runs (group-settles o c.outcome c.comes safe)
     group-comes o (group_stays y is c) safe =
-        subst (λ x. StepComes x t) (sym is) (stays-beside y (subst (IsSafe v typings) is safe) c)
+        subst (λ x. StepComes x t) (sym is) (stays-beside y (subst (IsTypedOutcome v typings) is safe) c)
 
-    rewritten-steps : IsAtGroup s place (top z) (top t) → (o : Outcome Cell) → Steps tagged v z o → IsSafe v typings o → StepComes o t
+    rewritten-steps : IsAtGroup s place (top z) (top t) → (o : Outcome Cell) → Steps tagged v z o → IsTypedOutcome v typings o → StepComes o t
     rewritten-steps group o step safe =
         group-comes o
         (laws.groups w s place r.laid z t o (typed-at v typings w s place laws.stay z first typed r) group
@@ -137,10 +137,10 @@ module _ (v w : Linked) (typings : Typings) (laws : AreLaws v) (pair : AreCounte
 
   steps-by :
       (z t : State Cell) (f g : Frame Cell) → AreTop v w typings f g → top z ≡ f → top t ≡ g → AreBeside v w typings z t
-      → (o : Outcome Cell) → Steps tagged v z o → IsSafe v typings o → StepComes o t
+      → (o : Outcome Cell) → Steps tagged v z o → IsTypedOutcome v typings o → StepComes o t
   steps-by z t f g (top_kept k) here there b o step safe =
       let same : top t ≡ top z = there ∙ sym here in
-      let done = kept-steps v w typings laws pair z t b.first b.second b.under b.heap b.statics b.typed (subst (λ (x : Frame Cell). IsKept v w x.method) (sym here) k) same o step safe in
+      let done = kept-steps v w typings laws pair z t b.first b.second b.under b.heap b.statics b.typed (subst (λ (x : Frame Cell). IsSameMethod v w x.method) (sym here) k) same o step safe in
       settles-then o t 1 done.0 (omega arith) (omega arith) (one-step w t done.0 done.1) done.2
   steps-by z t f g (top_rewritten s place r group) here there b o step safe =
       let its : IsRewrittenIn v w typings (top z).method s place = subst (λ (x : Frame Cell). IsRewrittenIn v w typings x.method s place) (sym here) r in

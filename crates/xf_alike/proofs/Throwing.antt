@@ -11,32 +11,32 @@ use Rattle.vm_store.specs.declared.cell.Cell.{Cell}
 use Rattle.vm_store.specs.declared.kind.ObjectKind.TheVariants.{Instance}
 use Rattle.vm_store.specs.Cells.{tagged}
 use Rattle.vm_store.specs.Kind.{kind_of_handle}
-use Rattle.vm_store.specs.Objects.{kinds, has_room, instance_cells, with_object}
+use Rattle.vm_store.specs.Objects.{kinds, has_room, new_instance_cells, with_object}
 use Rattle.vm_store.specs.State.{Frame, Object, State, top, other_frames, without_frames}
 use Rattle.vm_step.specs.declared.ending.Ending.TheVariants as endings
 use Rattle.vm_step.specs.declared.ending.Fault.TheVariants.{StackFault}
 use Rattle.vm_step.specs.declared.ending.Plain.TheVariants.{Threw, HeapFull}
 use Rattle.vm_step.specs.declared.exception.Exception.{Exception}
 use Rattle.vm_step.specs.Act.{role_of}
-use Rattle.vm_step.specs.Calls.{class_in, class_of}
+use Rattle.vm_step.specs.Calls.{class_with_methods, class_of}
 use Rattle.vm_step.specs.Methods.{handlers_of, max_stack_of}
 use Rattle.vm_step.specs.Raising.{Outcome, running, ended, ends, catches, handler_for, caught, caught_by, caught_or, unwound, thrown, raised}
 use Rattle.vm_sound.specs.Frames.{Typings}
 use Rattle.vm_sound.specs.State.{IsTypedState}
-use Rattle.vm_sound.specs.Laws.{IsSafe}
+use Rattle.vm_sound.specs.Laws.{IsTypedOutcome}
 use Rattle.xf_plan.specs.Source.{Source}
-use Rattle.xf_groups.specs.Beside.{IsWithin}
+use Rattle.xf_groups.specs.Beside.{StandsInGroup}
 use Rattle.xf_groups.specs.Laws.{CatchAlike, none_catches, both_catch}
-use Rattle.xf_alike.specs.Counterparts.{IsKept, IsRewrittenIn, AreCounterparts}
+use Rattle.xf_alike.specs.Counterparts.{IsSameMethod, IsRewrittenIn, AreCounterparts}
 use Rattle.xf_alike.specs.Beside.{top_kept, WaitBeside, wait_kept, wait_rewritten, AreUnder, no_frames, more_frames, both_run, both_end}
 use Rattle.xf_alike.proofs.Typed.{AreLaws, typed-at}
 use Rattle.xf_alike.proofs.Settling.{Settles, settled-now, settles-as, locals-too, equal-but, to-group, kept-handlers, kept-room, more-room}
 
 -- frames from which an object is thrown
 pub data CatchBeside (v w : Linked) (typings : Typings) : Frame Cell → Frame Cell → Type 0 where
-  catch_kept : {f : Frame Cell} → IsKept v w f.method → CatchBeside v w typings f f
+  catch_kept : {f : Frame Cell} → IsSameMethod v w f.method → CatchBeside v w typings f f
   catch_rewritten :
-      {f g : Frame Cell} (s : Source) (place : ℕ → ℕ) → IsRewrittenIn v w typings f.method s place → IsReached s.method f.place → IsWithin s place f g
+      {f g : Frame Cell} (s : Source) (place : ℕ → ℕ) → IsRewrittenIn v w typings f.method s place → IsReached s.method f.place → StandsInGroup s place f g
       → CatchBeside v w typings f g
 
 wait-catch : (v w : Linked) (typings : Typings) {f g : Frame Cell} → WaitBeside v w typings f g → CatchBeside v w typings f g
@@ -56,11 +56,11 @@ module _ (v w : Linked) (typings : Typings) (laws : AreLaws v) (pair : AreCounte
       goes : caught_by tagged v h handle sv f fs ≡ running (here h f fs)
       typed : IsTypedState v typings (here h f fs)
 
-    caught-in : (h : Handler) (f : Frame Cell) (fs : List (Frame Cell)) → IsSafe v typings (caught_by tagged v h handle sv f fs) → IsCaughtIn h f fs
+    caught-in : (h : Handler) (f : Frame Cell) (fs : List (Frame Cell)) → IsTypedOutcome v typings (caught_by tagged v h handle sv f fs) → IsCaughtIn h f fs
     caught-in h f fs safe = go (nat_lt (max_stack_of v f.method) 1) refl safe
       where
         go : (b : Bool) → nat_lt (max_stack_of v f.method) 1 ≡ b
-            → IsSafe v typings (if true && b then ends (endings.Faulted StackFault) sv else running (here h f fs)) → IsCaughtIn h f fs
+            → IsTypedOutcome v typings (if true && b then ends (endings.Faulted StackFault) sv else running (here h f fs)) → IsCaughtIn h f fs
         go true e h = absurd h
         go false e typed =
             record {
@@ -75,12 +75,12 @@ module _ (v w : Linked) (typings : Typings) (laws : AreLaws v) (pair : AreCounte
 
     abbrev Unwinds : List (Frame Cell) → List (Frame Cell) → Type 0
     Unwinds fs gs =
-        IsSafe v typings (unwound tagged v class handle sv fs) → Settles v w typings (unwound tagged v class handle sv fs) (unwound tagged w class handle sw gs)
+        IsTypedOutcome v typings (unwound tagged v class handle sv fs) → Settles v w typings (unwound tagged v class handle sv fs) (unwound tagged w class handle sw gs)
 
     -- in a method that is kept
-    module _ (f : Frame Cell) (fs gs : List (Frame Cell)) (under : AreUnder v w typings fs gs) (k : IsKept v w f.method) (rest : Unwinds fs gs) where
+    module _ (f : Frame Cell) (fs gs : List (Frame Cell)) (under : AreUnder v w typings fs gs) (k : IsSameMethod v w f.method) (rest : Unwinds fs gs) where
       kept-by :
-          (o : Option Handler) → IsSafe v typings (caught_or tagged v handle sv f fs (unwound tagged v class handle sv fs) o)
+          (o : Option Handler) → IsTypedOutcome v typings (caught_or tagged v handle sv f fs (unwound tagged v class handle sv fs) o)
           → Settles v w typings (caught_or tagged v handle sv f fs (unwound tagged v class handle sv fs) o)
           (caught_or tagged w handle sw f gs (unwound tagged w class handle sw gs) o)
       kept-by None safe = rest safe
@@ -103,7 +103,7 @@ module _ (v w : Linked) (typings : Typings) (laws : AreLaws v) (pair : AreCounte
     -- in one that is rewritten
     module _
         (f g : Frame Cell) (fs gs : List (Frame Cell)) (under : AreUnder v w typings fs gs) (s : Source) (place : ℕ → ℕ)
-        (r : IsRewrittenIn v w typings f.method s place) (reached : IsReached s.method f.place) (within : IsWithin s place f g) (rest : Unwinds fs gs) where
+        (r : IsRewrittenIn v w typings f.method s place) (reached : IsReached s.method f.place) (within : StandsInGroup s place f g) (rest : Unwinds fs gs) where
       abbrev first_by : Option Handler → Outcome Cell
       first_by o = caught_or tagged v handle sv f fs (unwound tagged v class handle sv fs) o
 
@@ -114,10 +114,10 @@ module _ (v w : Linked) (typings : Typings) (laws : AreLaws v) (pair : AreCounte
       caught-by (none_catches here_none there_none) safe =
           let e : first_by (handler_for v class f) ≡ unwound tagged v class handle sv fs = ap first_by here_none in
           settles-as v w typings (first_by (handler_for v class f)) (second_by (handler_for w class g)) (unwound tagged v class handle sv fs)
-          (unwound tagged w class handle sw gs) e (ap second_by there_none) (rest (subst (IsSafe v typings) e safe))
+          (unwound tagged w class handle sw gs) e (ap second_by there_none) (rest (subst (IsTypedOutcome v typings) e safe))
       caught-by (both_catch n h k caught_here listed covers caught_there entry) safe =
           let e : first_by (handler_for v class f) ≡ caught_by tagged v h handle sv f fs = ap first_by caught_here in
-          let is = caught-in h f fs (subst (IsSafe v typings) e safe) in
+          let is = caught-in h f fs (subst (IsTypedOutcome v typings) e safe) in
           let more : max_stack_of w f.method ≡ max_stack_of v f.method + 1 = more-room v w typings laws pair s place f.method r in
           let method : g.method ≡ f.method = within.of.target ∙ sym within.of.source in
           let size : max_stack_of w g.method ≡ max_stack_of w f.method = ap (max_stack_of w) method in
@@ -160,23 +160,23 @@ module _ (v w : Linked) (typings : Typings) (laws : AreLaws v) (pair : AreCounte
       (f g : Frame Cell) (fs gs : List (Frame Cell)) (under : AreUnder v w typings fs gs) (catch : CatchBeside v w typings f g) where
     pub throws-settle :
         (handle : ℕ) (z u : State Cell) → z.frames ≡ f ∷ fs → u.frames ≡ g ∷ gs → u.heap ≡ z.heap → u.statics ≡ z.statics
-        → IsSafe v typings (thrown tagged v handle z) → Settles v w typings (thrown tagged v handle z) (thrown tagged w handle u)
+        → IsTypedOutcome v typings (thrown tagged v handle z) → Settles v w typings (thrown tagged v handle z) (thrown tagged w handle u)
     throws-settle handle z u first second heap statics safe =
         let class : ℕ = class_of v.classes z handle in
         let same : class_of w.classes u handle ≡ class =
-        ap (λ (os : List (Object Cell)). class_in w.classes (kind_of_handle (map (λ (o : Object Cell). o.kind) os) handle)) heap
-        ∙ ap (λ (t : ClassTable). class_in t (kind_of_handle (kinds z) handle)) (sym pair.same.classes) in
+        ap (λ (os : List (Object Cell)). class_with_methods w.classes (kind_of_handle (map (λ (o : Object Cell). o.kind) os) handle)) heap
+        ∙ ap (λ (t : ClassTable). class_with_methods t (kind_of_handle (kinds z) handle)) (sym pair.same.classes) in
         let here : thrown tagged v handle z ≡ unwound tagged v class handle z (f ∷ fs) = ap (unwound tagged v class handle z) first in
         let there : thrown tagged w handle u ≡ unwound tagged w class handle u (g ∷ gs) =
         ap (λ c. unwound tagged w c handle u u.frames) same ∙ ap (unwound tagged w class handle u) second in
         settles-as v w typings (thrown tagged v handle z) (thrown tagged w handle u) (unwound tagged v class handle z (f ∷ fs)) (unwound tagged w class handle u (g ∷ gs))
         here there
-        (unwinds-one class handle z u heap statics fs gs under catch (unwinds class handle z u heap statics under) (subst (IsSafe v typings) here safe))
+        (unwinds-one class handle z u heap statics fs gs under catch (unwinds class handle z u heap statics under) (subst (IsTypedOutcome v typings) here safe))
 
     abbrev raised_by : Linked → ClassTable → Exception → State Cell → Outcome Cell
     raised_by x t e s =
         if has_room s (length (cells_of t (slice_index t.roles (role_of e))))
-        then thrown tagged x (length s.heap + 1) (with_object s (Instance (slice_index t.roles (role_of e))) (instance_cells tagged t (slice_index t.roles (role_of e))))
+        then thrown tagged x (length s.heap + 1) (with_object s (Instance (slice_index t.roles (role_of e))) (new_instance_cells tagged t (slice_index t.roles (role_of e))))
         else ends (endings.Plain HeapFull) s
 
     module _ (exception : Exception) (z u : State Cell) (first : z.frames ≡ f ∷ fs) (second : u.frames ≡ g ∷ gs) (heap : u.heap ≡ z.heap) (statics : u.statics ≡ z.statics) where
@@ -184,25 +184,25 @@ module _ (v w : Linked) (typings : Typings) (laws : AreLaws v) (pair : AreCounte
       class_raised = slice_index v.classes.roles (role_of exception)
 
       abbrev made_here : State Cell
-      made_here = with_object z (Instance class_raised) (instance_cells tagged v.classes class_raised)
+      made_here = with_object z (Instance class_raised) (new_instance_cells tagged v.classes class_raised)
 
       abbrev made_there : State Cell
-      made_there = with_object u (Instance class_raised) (instance_cells tagged v.classes class_raised)
+      made_there = with_object u (Instance class_raised) (new_instance_cells tagged v.classes class_raised)
 
       raised-by :
-          (b : Bool) → IsSafe v typings (if b then thrown tagged v (length z.heap + 1) made_here else ends (endings.Plain HeapFull) z)
+          (b : Bool) → IsTypedOutcome v typings (if b then thrown tagged v (length z.heap + 1) made_here else ends (endings.Plain HeapFull) z)
           → Settles v w typings (if b then thrown tagged v (length z.heap + 1) made_here else ends (endings.Plain HeapFull) z)
           (if b then thrown tagged w (length u.heap + 1) made_there else ends (endings.Plain HeapFull) u)
       raised-by true safe =
           let count : length z.heap + 1 ≡ length u.heap + 1 = ap (λ (os : List (Object Cell)). length os + 1) (sym heap) in
           subst (λ n. Settles v w typings (thrown tagged v (length z.heap + 1) made_here) (thrown tagged w n made_there)) count
           (throws-settle (length z.heap + 1) made_here made_there first second
-          (ap (λ (os : List (Object Cell)). os ++ record { kind = Instance class_raised; cells = instance_cells tagged v.classes class_raised } ∷ []) heap) statics safe)
+          (ap (λ (os : List (Object Cell)). os ++ record { kind = Instance class_raised; cells = new_instance_cells tagged v.classes class_raised } ∷ []) heap) statics safe)
       raised-by false safe =
           settled-now v w typings (ends (endings.Plain HeapFull) z) (ends (endings.Plain HeapFull) u) (both_end (endings.Plain HeapFull) heap statics)
 
       pub raises-settle :
-          IsSafe v typings (raised tagged v exception z) → Settles v w typings (raised tagged v exception z) (raised tagged w exception u)
+          IsTypedOutcome v typings (raised tagged v exception z) → Settles v w typings (raised tagged v exception z) (raised tagged w exception u)
       raises-settle safe =
           let size : ℕ = length (cells_of v.classes class_raised) in
           let classes : raised_by w w.classes exception u ≡ raised_by w v.classes exception u =

@@ -22,7 +22,7 @@ use Rattle.vm_step.specs.Methods.{instruction_at}
 use Rattle.vm_step.specs.Raising.{Outcome, running, ended}
 use Rattle.vm_sound.specs.Frames.{Typings, types_in, IsTypedFrame, AreTypedFrames}
 use Rattle.vm_sound.specs.State.{IsTypedState}
-use Rattle.vm_sound.specs.Laws.{IsSafe, StepsAreSafe, StartsAreTyped}
+use Rattle.vm_sound.specs.Laws.{IsTypedOutcome, StepsAreSafe, StartsAreTyped}
 use Rattle.vm_sound.specs.Handed.{OnlyCallsCall, CallsHandAll, StartsHandAll}
 use Rattle.vm_sound.proofs.Places.{instruction-there, place-instruction}
 use Rattle.vm_alike.specs.Laws.{StepsAreAlike, TypedStatesStay}
@@ -116,7 +116,7 @@ module _ (v : Linked) (typings : Typings) where
 
     -- and so is what a step leads to
     pub stays-typed :
-        TypedStatesStay v → (n : ℕ) → IsRewrittenIn v w typings n s place → (o : Outcome Cell) → IsSafe v typings o → StaysTyped v s o
+        TypedStatesStay v → (n : ℕ) → IsRewrittenIn v w typings n s place → (o : Outcome Cell) → IsTypedOutcome v typings o → StaysTyped v s o
     stays-typed stay n r (running z) safe =
         λ runs method. typed-at stay z (frames-are z runs) safe (subst (λ k. IsRewrittenIn v w typings k s place) (sym r.number ∙ sym method) r)
     stays-typed stay n r (ended (Plain plain) z) safe = tt

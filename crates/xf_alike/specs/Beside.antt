@@ -11,11 +11,11 @@ use Rattle.vm_sound.specs.Frames.{Typings}
 use Rattle.vm_sound.specs.State.{IsTypedState}
 use Rattle.xf_plan.specs.Source.{Source}
 use Rattle.xf_groups.specs.Beside.{IsAtGroup, IsUnderCall}
-use Rattle.xf_alike.specs.Counterparts.{IsKept, IsRewrittenIn}
+use Rattle.xf_alike.specs.Counterparts.{IsSameMethod, IsRewrittenIn}
 
 -- the frames on top: that of a kept method is the same, that of a rewritten one is at the group of its place
 pub data AreTop (v w : Linked) (typings : Typings) : Frame Cell → Frame Cell → Type 0 where
-  top_kept : {f : Frame Cell} → IsKept v w f.method → AreTop v w typings f f
+  top_kept : {f : Frame Cell} → IsSameMethod v w f.method → AreTop v w typings f f
   top_rewritten :
       {f g : Frame Cell} (s : Source) (place : ℕ → ℕ)
       → IsRewrittenIn v w typings f.method s place
@@ -24,7 +24,7 @@ pub data AreTop (v w : Linked) (typings : Typings) : Frame Cell → Frame Cell �
 
 -- frames that wait at a call
 pub data WaitBeside (v w : Linked) (typings : Typings) : Frame Cell → Frame Cell → Type 0 where
-  wait_kept : {f : Frame Cell} → IsKept v w f.method → WaitBeside v w typings f f
+  wait_kept : {f : Frame Cell} → IsSameMethod v w f.method → WaitBeside v w typings f f
   wait_rewritten :
       {f g : Frame Cell} (s : Source) (place : ℕ → ℕ)
       → IsRewrittenIn v w typings f.method s place

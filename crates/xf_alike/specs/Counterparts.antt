@@ -11,7 +11,7 @@ use Rattle.xf_plan.specs.Source.{Source}
 use Rattle.xf_groups.specs.Laid.{IsLaidIn}
 
 -- the method of this number is the same in both, with the same code
-pub record IsKept (v w : Linked) (n : ℕ) : Type 0 where
+pub record IsSameMethod (v w : Linked) (n : ℕ) : Type 0 where
   pub rec : MethodRec
   pub first : slice_get v.methods n ≡ Some rec
   pub second : slice_get w.methods n ≡ Some rec
@@ -25,7 +25,7 @@ pub record IsRewrittenIn (v w : Linked) (typings : Typings) (n : ℕ) (s : Sourc
   pub frames : typings.frames n ≡ s.frames
 
 pub data IsKeptOrRewritten (v w : Linked) (typings : Typings) (n : ℕ) : Type 0 where
-  kept : IsKept v w n → IsKeptOrRewritten v w typings n
+  kept : IsSameMethod v w n → IsKeptOrRewritten v w typings n
   rewritten : (s : Source) (place : ℕ → ℕ) → IsRewrittenIn v w typings n s place → IsKeptOrRewritten v w typings n
 
 -- the worlds differ in code alone; each method with code has its typing in the first, and in the second it is kept or rewritten

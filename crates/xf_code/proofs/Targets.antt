@@ -11,7 +11,7 @@ use Rattle.jc_decode.specs.declared.layout.Layout.{Layout}
 use Rattle.jc_decode.specs.declared.insn.CodeEnd.{CodeEnd}
 use Rattle.jc_decode.specs.declared.insn.Insn.{Insn}
 use Rattle.jc_decode.specs.declared.insn.Placed.{Placed}
-use Rattle.jc_decode.specs.Layout.{width, total_width, layout_of}
+use Rattle.jc_decode.specs.Layout.{operand_width, total_width, layout_of}
 use Rattle.jc_decode.specs.Decoding.{range_count, decoded}
 use Rattle.jc_decode.specs.Cases.{cases, range_case, pair_case, with_default, HasTable}
 use Rattle.jc_decode.specs.Listing.{jumps, target, targets}
@@ -38,7 +38,7 @@ few-cases xs at i h = by_layout (layout_of i.op) refl
           inside,
           ap length (cases-by xs at i l (Pairs key) is_layout is),
           length-map-range_with_len (pair_case xs t key) 0 (unsigned_abs i.y),
-          add-mul (width key) 2 (unsigned_abs i.y),
+          add-mul (operand_width key) 2 (unsigned_abs i.y),
         )
 
     by_layout : (r : Result Layout CodeEnd) → layout_of i.op ≡ r → 2 * length (cases xs at i) ≤ length xs

@@ -1,7 +1,7 @@
 ghost use Rattle.std.specs.Prelude.{◌≡◌, ◌≤◌, ◌+◌, ◌/◌, ◌++◌, ◌∷◌, [], OnOk, IfOk};
 ghost use Rattle.jc_decode.specs.Listing.{targets};
 ghost use Rattle.xf_plan.specs.Subject.{source};
-ghost use Rattle.xf_emission.specs.Jump.{cut, under, operands, has_under, taken, place, lead, stub, stub_label, goto, leads, stubs_of, AreLed, IsNearBy};
+ghost use Rattle.xf_emission.specs.Jump.{operands_slot, under, operands, has_under, taken, place, lead, stub, stub_label, goto, leads, stubs_of, AreLed, IsNearBy};
 
 use crate::edge::{Scratch, cell_copies, copies};
 use crate::moves::put;
@@ -22,7 +22,7 @@ pub struct Fork {
 }
 
 fn cut(plan: &Plan<'_>, fork: Fork) -> u16
-    ensures { result ≡ cut (source plan.now) fork.place fork.operands }
+    ensures { result ≡ operands_slot (source plan.now) fork.place fork.operands }
 {
     plan.walk.registers()
         + plan

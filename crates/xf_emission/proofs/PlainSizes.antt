@@ -22,7 +22,7 @@ use Rattle.jc_decode.specs.declared.symbols.Item.TheVariants.{Plain, Label}
 use Rattle.jc_decode.specs.Cases.{is_switch}
 use Rattle.jc_decode.specs.Decoding.{decoded}
 use Rattle.jc_decode.specs.Forms.{is_register_move, length_of, bytes_by, plain_length}
-use Rattle.jc_decode.specs.Layout.{width, layout_of}
+use Rattle.jc_decode.specs.Layout.{operand_width, layout_of}
 use Rattle.jc_decode.specs.Listing.{is_branch, listing, targets, Lists}
 use Rattle.jc_decode.specs.Symbols.{plain_bytes, plain_size}
 use Rattle.jc_decode.proofs.Decoded.{IsWithin-decoded}
@@ -48,7 +48,7 @@ use Rattle.xf_emission.specs.declared.origin.Origin.{Origin}
 use Rattle.xf_emission.specs.declared.origin.Origin.TheVariants.{Start, After, Entry}
 use Rattle.xf_emission.specs.Move.{with_byte, load_op, store_op, load, store, copy, loads, spill}
 use Rattle.xf_emission.specs.Edge.{home_before, held, copy_new, copies_from, local_copies, locals_copies, copies, cell_copies}
-use Rattle.xf_emission.specs.Jump.{under, operands, has_under, spill_if, taken, place, leads, jump_to, branch, goto, stub, stub_of, stub_label, stubs_of, handler_label, cut}
+use Rattle.xf_emission.specs.Jump.{under, operands, has_under, spill_if, taken, place, leads, jump_to, branch, goto, stub, stub_of, stub_label, stubs_of, handler_label, operands_slot}
 use Rattle.xf_emission.specs.Group.{itself, loaded, increased, popped, stored, stays, field_read, field_written, swap_words, gone, first_place, branch_by, body, fall, fall_over, fall_by, fallen, entrance, done, group_by, group}
 use Rattle.xf_emission.specs.Emission.{stubs, stubs_at, stubs_by, stubs_done, is_live, caught, caught_from, items}
 use Rattle.xf_emission.specs.Laws.{IsCode, HasFrames, PlainSizeFits}
@@ -72,7 +72,7 @@ if-size false xs ys n h k = k
 
 -- ---- one item
 
-operand-width : (o : Operand) → width o ≤ 4
+operand-width : (o : Operand) → operand_width o ≤ 4
 operand-width S4 = omega arith
 operand-width U2 = omega arith
 operand-width S2 = omega arith
@@ -269,11 +269,11 @@ module _ (same : SameTypeDecides) (kept_are : NeededAreKept) (s : Source) (has_f
 
       under-few : (p n : ℕ) → length (under s p n) ≤ 255
       unfolding under
-      under-few p n = omega (arith, filter-few (λ h. nat_lt h.slot (cut s p n)) (stack_homes s p), stack-few p)
+      under-few p n = omega (arith, filter-few (λ h. nat_lt h.slot (operands_slot s p n)) (stack_homes s p), stack-few p)
 
       operands-few : (p n : ℕ) → length (operands s p n) ≤ 255
       unfolding operands
-      operands-few p n = omega (arith, filter-few (λ h. nat_le (cut s p n) h.slot) (stack_homes s p), stack-few p)
+      operands-few p n = omega (arith, filter-few (λ h. nat_le (operands_slot s p n) h.slot) (stack_homes s p), stack-few p)
 
       taken-size : (p : ℕ) (op : Operation) (n q : ℕ) → plain_size (taken s p op n q) ≤ 2040
       unfolding taken
@@ -324,7 +324,7 @@ module _ (same : SameTypeDecides) (kept_are : NeededAreKept) (s : Source) (has_f
         jump-size ls = by op
           where
             by : (o : Operation) → plain_bytes (jump_to i o ls) ≤ i.insn.len + 13
-            by (ops.Switch width) = own-length i.insn
+            by (ops.Switch operand_width) = own-length i.insn
             by o = omega arith
 
         branch-size : (n : ℕ) → plain_size (branch s i op n) ≤ i.insn.len + 1033
@@ -382,7 +382,7 @@ module _ (same : SameTypeDecides) (kept_are : NeededAreKept) (s : Source) (has_f
       body-size : (i : Placed) (op : Operation) → plain_size (body s i op) ≤ i.insn.len + 1533
       unfolding body
       body-size i (ops.Load letter x) = omega (arith, loaded-size i (ops.Load letter x) (local s i.place x))
-      body-size i (ops.Increment width x amount) = omega (arith, increased-size i (ops.Increment width x amount) (local s i.place x))
+      body-size i (ops.Increment operand_width x amount) = omega (arith, increased-size i (ops.Increment operand_width x amount) (local s i.place x))
       body-size i (ops.Store letter x) = omega (arith, stored-size i (ops.Store letter x) letter (needed s (i.place + i.insn.len) x) (one-few (i.place + i.insn.len) x))
       body-size i (ops.FieldRead f holders.This) = omega (arith, read-size i (ops.FieldRead f holders.This) (local s i.place 0))
       body-size i (ops.FieldWrite f holders.This) = omega (arith, written-size i (ops.FieldWrite f holders.This) f.kind (local s i.place 0))

@@ -13,7 +13,7 @@ use Rattle.jc_ops.specs.declared.operation.Holder.{Holder}
 use Rattle.jc_ops.specs.declared.operation.Holder.TheVariants as holders
 use Rattle.jc_ops.specs.declared.operation.Operation.{Operation}
 use Rattle.jc_ops.specs.declared.operation.Operation.TheVariants as ops
-use Rattle.jc_ops.specs.Row.{row_at, table, unused, by_sort, by_width, by_kind, first_four, by_register, literals, binary, orders_all, branching}
+use Rattle.jc_ops.specs.Row.{row_at, table, unused, by_sort, by_width, by_kind, first_four, by_register, literals, binaries, orders_all, branching}
 use Rattle.jc_ops.specs.Resolve.{resolved, on, new_object}
 use Rattle.jc_rules.proofs.Decides.{ok-same}
 
@@ -125,7 +125,7 @@ pair a b = (a, b)
 
 -- row by row
 all-give : AllGive (λ row w m place i. resolved w m place i row) table kinds
-unfolding table by_sort by_width by_kind first_four by_register literals binary orders_all branching unused kinds
+unfolding table by_sort by_width by_kind first_four by_register literals binaries orders_all branching unused kinds
 all-give =
     (pair (plain _ _ (λ i n. refl)) (pair (plain _ _ (λ i n. refl)) (pair (plain _ _ (λ i n. refl)) (pair (plain _ _ (λ i n. refl))
     (pair (plain _ _ (λ i n. refl)) (pair (plain _ _ (λ i n. refl)) (pair (plain _ _ (λ i n. refl)) (pair (plain _ _ (λ i n. refl))
@@ -193,7 +193,7 @@ all-give =
     (pair (plain _ _ (λ i n. refl)) (pair (plain _ _ (λ i n. refl)) (pair (plain _ _ (λ i n. refl)) (pair (plain _ _ (λ i n. refl)) tt))))))))))))))))))))))))))))))))))))))))))))))))))))))))))))))))))))))))))))))))))))))))))))))))))))))))))))))))))))))))))))))))))))))))))))))))))))))))))))))))))))))))))))))))))))))))))))))))))))))))))))))))))))))))))))))))))))))))))))))))))))))))))))))))
 
 in-table : (op : ℕ) → op < 256 → op < length table
-unfolding table by_sort by_width by_kind first_four by_register literals binary orders_all branching unused
+unfolding table by_sort by_width by_kind first_four by_register literals binaries orders_all branching unused
 in-table op lt = lt
 
 pub kind-of : (w : Linked) (m : MethodRec) (place : ℕ) (i : Insn) (op : Operation) → i.op < 256 → resolved w m place i (row_at i.op) ≡ Ok op → op_kind op ≡ kind_at i.op

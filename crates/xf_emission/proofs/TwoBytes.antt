@@ -13,7 +13,7 @@ use Rattle.jc_decode.specs.declared.layout.Layout.{Layout}
 use Rattle.jc_decode.specs.declared.insn.CodeEnd.{CodeEnd}
 use Rattle.jc_decode.specs.declared.insn.Insn.{Insn}
 use Rattle.jc_decode.specs.declared.insn.Placed.{Placed}
-use Rattle.jc_decode.specs.Layout.{width, total_width, layout_of, opcode}
+use Rattle.jc_decode.specs.Layout.{operand_width, total_width, layout_of, opcode}
 use Rattle.jc_decode.specs.Decoding.{range_count, decoded, end_of_cases, AreBytes}
 use Rattle.jc_decode.specs.Cases.{cases, cases_in, range_case, pair_case}
 use Rattle.jc_decode.specs.Listing.{jumps, target, targets}
@@ -48,7 +48,7 @@ cases-long (Pairs key) l xs table at i e h =
       end.0,
       e,
       length-map-range_with_len (pair_case xs table key) 0 (unsigned_abs i.y),
-      add-mul (width key) 2 (unsigned_abs i.y),
+      add-mul (operand_width key) 2 (unsigned_abs i.y),
     )
 
 module _ (xs : List ℕ) (p : Placed) (bytes : AreBytes xs) (h : decoded xs p.place ≡ Ok p.insn) (l : Layout) (is : layout_of p.insn.op ≡ Ok l)

@@ -30,15 +30,15 @@ handler_label n = 49152 + n
 -- ---- operands
 
 -- the slot at which the operands of a branch begin, of so many cells
-abbrev pub cut : Source → ℕ → ℕ → ℕ
-cut s p n = register_count s.method.rec + (depth s p - n)
+abbrev pub operands_slot : Source → ℕ → ℕ → ℕ
+operands_slot s p n = register_count s.method.rec + (depth s p - n)
 
 -- the homes of the cells under the operands, and of the operands
 unfoldable pub under : Source → ℕ → ℕ → List Home
-under s p n = filter (λ h. nat_lt h.slot (cut s p n)) (stack_homes s p)
+under s p n = filter (λ h. nat_lt h.slot (operands_slot s p n)) (stack_homes s p)
 
 unfoldable pub operands : Source → ℕ → ℕ → List Home
-operands s p n = filter (λ h. nat_le (cut s p n) h.slot) (stack_homes s p)
+operands s p n = filter (λ h. nat_le (operands_slot s p n) h.slot) (stack_homes s p)
 
 -- the stack is deeper than the operands, and so is kept in its own homes
 abbrev pub has_under : Source → ℕ → ℕ → Bool

@@ -42,10 +42,10 @@ use Rattle.xf_emission.specs.declared.origin.Origin.TheVariants.{After}
 use Rattle.xf_emission.specs.Edge.{copies, is_stored}
 use Rattle.xf_emission.specs.Move.{spill}
 use Rattle.xf_emission.specs.Group.{body, fall, fallen, group}
-use Rattle.xf_typing.specs.Planned.{Keeps}
+use Rattle.xf_typing.specs.Planned.{KeepsValues}
 use Rattle.xf_typing.specs.Edges.{CellsFillStack, LeadsTo, NeededHaveHomes, leads_after}
 use Rattle.xf_held.specs.Edges.{AreCarried, AreSpilled, CellsAreFew, CopiesAreFew, EdgesRun, HoldsAfter, IsBeside, KeptStacksStay, StacksSpill, insns, top_at}
-use Rattle.xf_held.specs.Held.{Held, Holds, HoldsLocals, Waits, slots}
+use Rattle.xf_held.specs.Held.{HoldsFrame, HoldsValue, HoldsLocals, Waits, slots}
 use Rattle.xf_held.specs.Moves.{IsAtStep}
 use Rattle.xf_held.proofs.Beside.{each-among, among-each, held-as}
 use Rattle.xf_groups.specs.Laid.{IsLaidIn, body_at, count_of, group_at, rename, steps_of}
@@ -140,7 +140,7 @@ module _ (v w : Linked) (s : Source) (place : ℕ → ℕ) (laid : IsLaidIn v w 
   pub other-holds :
       (f g : Frame Cell)
       → is_leader s f.place ≡ false
-      → Held (renamed_cell (rename s place)) s f.place f g
+      → HoldsFrame (renamed_cell (rename s place)) s f.place f g
       → HeldOrWaits (is_leader s f.place) s place f g
   other-holds f g e h = subst (λ b. HeldOrWaits b s place f g) (sym e) h
 
@@ -170,18 +170,18 @@ module _ (v w : Linked) (s : Source) (place : ℕ → ℕ) (laid : IsLaidIn v w 
         (p q : ℕ) (op : Operation) (f g k : Frame Cell)
         → IsReached s.method p
         → IsReached s.method q
-        → ((h : Home) → IsLocal h → Holds s f.registers g h → Holds s f.registers k h)
+        → ((h : Home) → IsLocal h → HoldsValue s f.registers g h → HoldsValue s f.registers k h)
         → HoldsAfter s p op q f g
         → HoldsAfter s p op q f k
     still-after p q op f g k from_p to_q more holds = record {
       stored = λ x e.
-          each-among (Holds s f.registers k) (needed s q x)
+          each-among (HoldsValue s f.registers k) (needed s q x)
           (λ h among. more h (needed-local q x h to_q among)
-          (among-each (Holds s f.registers g) (needed s q x) h (holds.stored x e) among));
+          (among-each (HoldsValue s f.registers g) (needed s q x) h (holds.stored x e) among));
       others = λ x.
-          each-among (λ h. ((j : ℕ) → j < width h.ty → is_stored op (h.slot + j) ≡ false) → Holds s f.registers k h) (needed s p x)
+          each-among (λ h. ((j : ℕ) → j < width h.ty → is_stored op (h.slot + j) ≡ false) → HoldsValue s f.registers k h) (needed s p x)
           (λ h among free. more h (needed-local p x h from_p among)
-          (among-each (λ h. ((j : ℕ) → j < width h.ty → is_stored op (h.slot + j) ≡ false) → Holds s f.registers g h)
+          (among-each (λ h. ((j : ℕ) → j < width h.ty → is_stored op (h.slot + j) ≡ false) → HoldsValue s f.registers g h)
           (needed s p x) h (holds.others x) among free));
     }
 
@@ -199,7 +199,7 @@ module _ (v w : Linked) (s : Source) (place : ℕ → ℕ) (laid : IsLaidIn v w 
       by None e some = absurd (cc)
       by (Some f) e some =
           let k = fill s laid.world laid.planned q f e keeps in
-          (among-each (Keeps s) (stack_homes s q) h k.keep among).has
+          (among-each (KeepsValues s) (stack_homes s q) h k.keep among).has
 
 -- ---- falling
 
@@ -327,10 +327,10 @@ module _
         (record {
           stack = after.stack;
           locals = λ x.
-              each-among (Holds s (top y).registers (top (arrived c.registers (top u).stack))) (needed s q x)
+              each-among (HoldsValue s (top y).registers (top (arrived c.registers (top u).stack))) (needed s q x)
               (λ h among. held-as s (top y).registers (record (top u) { registers = c.registers })
               (top (arrived c.registers (top u).stack)) h refl
-              (among-each (Holds s (top y).registers (record (top u) { registers = c.registers })) (needed s q x) h (c.locals x) among));
+              (among-each (HoldsValue s (top y).registers (record (top u) { registers = c.registers })) (needed s q x) h (c.locals x) among));
         }))
 
     -- into a leader the stack goes into homes first
@@ -384,15 +384,15 @@ module _
         (record {
           stack = refl;
           cells =
-              each-among (Holds s (slots (top y)) (top (arrived c.registers []))) (stack_homes s q)
+              each-among (HoldsValue s (slots (top y)) (top (arrived c.registers []))) (stack_homes s q)
               (λ h among. held-as s (slots (top y)) (record (top u1) { registers = c.registers }) (top (arrived c.registers [])) h refl
               (c.others h (kept-registers v w s place laid fill q h (leader-keeps v w s place laid q e) typed.reached among)
               (held-as s (slots (top y)) (record (top u) { registers = a.registers }) (top u1) h refl
-              (among-each (Holds s (slots (top y)) (record (top u) { registers = a.registers })) (stack_homes s q) h a.cells among))));
+              (among-each (HoldsValue s (slots (top y)) (record (top u) { registers = a.registers })) (stack_homes s q) h a.cells among))));
           locals = λ x.
-              each-among (Holds s (top y).registers (top (arrived c.registers []))) (needed s q x)
+              each-among (HoldsValue s (top y).registers (top (arrived c.registers []))) (needed s q x)
               (λ h among. held-as s (top y).registers (record (top u1) { registers = c.registers }) (top (arrived c.registers [])) h refl
-              (among-each (Holds s (top y).registers (record (top u1) { registers = c.registers })) (needed s q x) h (c.locals x) among));
+              (among-each (HoldsValue s (top y).registers (record (top u1) { registers = c.registers })) (needed s q x) h (c.locals x) among));
         }))
 
     pub falls-arrive : Arrives z t y u 765

@@ -48,7 +48,7 @@ use Rattle.xf_emission.specs.Emission.{items}
 use Rattle.xf_emission.specs.Jump.{lead}
 use Rattle.xf_typing.proofs.Rows.{wide-is}
 use Rattle.xf_typing.proofs.Turns.{none-asked}
-use Rattle.xf_held.specs.Held.{Holds, HoldsLocals}
+use Rattle.xf_held.specs.Held.{HoldsValue, HoldsLocals}
 use Rattle.xf_held.specs.Laws.{CodesAgree, ExecutesStep, KeptRunAlike, LocalsStay, NamesNoneWritesNone, StepsExecute}
 use Rattle.xf_held.proofs.Loading.{step-place}
 use Rattle.xf_groups.specs.Laid.{IsLaidIn, rename, steps_of}
@@ -116,7 +116,7 @@ pub record AfterFork (s : Source) (place : ℕ → ℕ) (p : ℕ) (z u y x : Sta
   pub of : AreOf s (top y) (top x)
   pub stack : (top x).stack ≡ map (renamed_cell (rename s place)) (top y).stack
   pub locals : HoldsLocals s p (top y) (top x)
-  pub kept : (values : List Cell) (h : Home) → Holds s values (top u) h → Holds s values (top x) h
+  pub kept : (values : List Cell) (h : Home) → HoldsValue s values (top u) h → HoldsValue s values (top x) h
 
 pub data ForkComes (s : Source) (place : ℕ → ℕ) (i : Placed) (op : Operation) (n m : ℕ) (z u y : State Cell) : Outcome Cell → Type 0 where
   fork_falls :

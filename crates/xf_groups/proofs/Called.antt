@@ -25,7 +25,7 @@ use Rattle.vm_step.specs.declared.exception.Exception.TheVariants as exceptions
 use Rattle.vm_step.specs.Act.{Act, calls, goes, jumps, raises, throws, if_some, unless_null}
 use Rattle.vm_step.specs.Branching.{branch_width, is_taken, leads_if}
 use Rattle.vm_step.specs.Calls.{return_act}
-use Rattle.vm_step.specs.Fields.{elements_of, held_handle, index_in, keeps_kind, with_element, with_field_read, with_field_write}
+use Rattle.vm_step.specs.Fields.{elements_of, held_handle, element_index, keeps_kind, with_element, with_field_read, with_field_write}
 use Rattle.vm_step.specs.Numbers.{dropped, handle_at, number_cells, replaced, short_at}
 use Rattle.vm_step.specs.Objects.{array_of_count, kind_of_type, may_cast}
 use Rattle.vm_step.specs.Performed.{act}
@@ -79,18 +79,18 @@ called w i (ops.Arithmetic a) z m n y e = absurd (never (arithmetic_act tagged a
 called w i (ops.ArrayRead kind) z m n y e =
     absurd (never (act tagged w i (ops.ArrayRead kind) z) m n y e
     (still-null (handle_at tagged (top z).stack 1)
-    (λ h. if_some exceptions.ArrayIndex (index_in (short_at tagged (top z).stack 0) (elements_of z h))
+    (λ h. if_some exceptions.ArrayIndex (element_index (short_at tagged (top z).stack 0) (elements_of z h))
     (λ j. goes (replaced z 2 (value_in tagged kind (object_cells z h) (j * width kind)))))
-    (still-some exceptions.ArrayIndex (index_in (short_at tagged (top z).stack 0) (elements_of z (handle_at tagged (top z).stack 1)))
+    (still-some exceptions.ArrayIndex (element_index (short_at tagged (top z).stack 0) (elements_of z (handle_at tagged (top z).stack 1)))
     (λ j. goes (replaced z 2 (value_in tagged kind (object_cells z (handle_at tagged (top z).stack 1)) (j * width kind))))
     (λ j. tt))))
 called w i (ops.ArrayWrite kind) z m n y e =
     absurd (never (act tagged w i (ops.ArrayWrite kind) z) m n y e
     (still-null (handle_at tagged (top z).stack (width kind + 1))
-    (λ h. if_some exceptions.ArrayIndex (index_in (short_at tagged (top z).stack (width kind)) (elements_of z h))
+    (λ h. if_some exceptions.ArrayIndex (element_index (short_at tagged (top z).stack (width kind)) (elements_of z h))
     (λ j. if keeps_kind tagged w.classes kind z h then goes (with_element tagged kind h j z) else raises exceptions.ArrayStore))
     (still-some exceptions.ArrayIndex
-    (index_in (short_at tagged (top z).stack (width kind)) (elements_of z (handle_at tagged (top z).stack (width kind + 1))))
+    (element_index (short_at tagged (top z).stack (width kind)) (elements_of z (handle_at tagged (top z).stack (width kind + 1))))
     (λ j. if keeps_kind tagged w.classes kind z (handle_at tagged (top z).stack (width kind + 1))
     then goes (with_element tagged kind (handle_at tagged (top z).stack (width kind + 1)) j z)
     else raises exceptions.ArrayStore)

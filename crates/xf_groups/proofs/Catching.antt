@@ -36,7 +36,7 @@ use Rattle.xf_emission.specs.Group.{group}
 use Rattle.xf_emission.specs.Jump.{handler_label}
 use Rattle.xf_emission.specs.Laws.{GroupStands, GroupsStand, LabelsStandOnce, IsCode, of_end, of_place}
 use Rattle.xf_groups.specs.Laid.{IsInGroup, IsLaidIn, count_of, group_at, steps_of}
-use Rattle.xf_groups.specs.Beside.{IsWithin}
+use Rattle.xf_groups.specs.Beside.{StandsInGroup}
 use Rattle.xf_groups.specs.Laws.{CatchAlike, GroupsCatch, both_catch, none_catches}
 use Rattle.xf_groups.specs.Steps.{GroupsFollow, GroupsStandAtSteps}
 use Rattle.xf_groups.proofs.Context.{Here, here-at, method-of, reached-some, target-at}
@@ -408,7 +408,7 @@ module _
   pub groups-catch-here :
       (class : ℕ) (f g : Frame Cell)
       → IsReached s.method f.place
-      → IsWithin s place f g
+      → StandsInGroup s place f g
       → CatchAlike v w s place class f g
   unfolding rewritten ranges
   groups-catch-here class f g reached within_group =

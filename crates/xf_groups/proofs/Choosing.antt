@@ -60,7 +60,7 @@ use Rattle.xf_emission.specs.Jump.{goto, has_under, jump_to, label_by, lead, pla
 use Rattle.xf_typing.specs.Edges.{AreMatched, CellsFillStack, ForksMatch, LeadsTo, NeededHaveHomes, leads_after, more_matched, none_matched}
 use Rattle.vm_sound.proofs.Branches.{targets-are}
 use Rattle.xf_held.specs.Edges.{CellsAreFew, CellsRun, CopiesAreFew, EdgesRun, HoldsAfter, KeptStacksStay, LeadersLoad, StacksSpill}
-use Rattle.xf_held.specs.Held.{Held, Holds, HoldsLocals, slots}
+use Rattle.xf_held.specs.Held.{HoldsFrame, HoldsValue, HoldsLocals, slots}
 use Rattle.xf_held.specs.Laws.{KeptRunAlike, LocalsStay, NamesNoneWritesNone, StepsExecute}
 use Rattle.xf_groups.specs.Laid.{IsLaidIn, body_at, count_of, group_at, rename, steps_of}
 use Rattle.xf_groups.specs.Beside.{AreEqualBut, AreOf, IsAtGroup, IsTypedAt, MovesTop, SameUnder, StaysTyped}
@@ -281,7 +281,7 @@ module _
         stack = a.stack;
         holds = record {
           stored = λ l e. absurd (false≢true (sym (unstored-fork s.world op n some l) ∙ e));
-          others = λ l. Each-weaker (Holds s (top y).registers (top x)) _ (λ h held free. held) (needed s i.place l) (a.locals l);
+          others = λ l. Each-weaker (HoldsValue s (top y).registers (top x)) _ (λ h held free. held) (needed s i.place l) (a.locals l);
         };
       } in
       let c = falls-arrive v w s place laid stand follow needs fill spills stay edges few_copies few_cells i op z u y x stands reached does
@@ -323,10 +323,10 @@ module _
       let before : HoldsAfter s i.place op q (top y) (top x) =
       record {
         stored = λ l e. absurd (false≢true (sym (unstored-fork s.world op n some l) ∙ e));
-        others = λ l. Each-weaker (Holds s (top y).registers (top x)) _ (λ h held free. held) (needed s i.place l) (a.locals l);
+        others = λ l. Each-weaker (HoldsValue s (top y).registers (top x)) _ (λ h held free. held) (needed s i.place l) (a.locals l);
       } in
       let c = led-arrives v w s place laid stand follow executed needs fill cells_run edges few_copies few_cells i.place n op y x typed
-      a.equal a.of leader leads from_p m bare (subst (Each (Holds s (slots (top y)) (top x))) (sym none) tt) before stubs i k refl stands does
+      a.equal a.of leader leads from_p m bare (subst (Each (HoldsValue s (slots (top y)) (top x))) (sym none) tt) before stubs i k refl stands does
       some own at in
       let fewer = c.fewer in
       group_stays y is (record {

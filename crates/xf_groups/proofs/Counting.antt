@@ -52,7 +52,7 @@ use Rattle.xf_typing.proofs.Carried.{is-high}
 use Rattle.xf_typing.proofs.Ready.{IsValueAt, value-is}
 use Rattle.xf_typing.proofs.Rows.{increased-at}
 use Rattle.xf_typing.proofs.Edging.{kept-not-top}
-use Rattle.xf_held.specs.Held.{Holds, HoldsLocals}
+use Rattle.xf_held.specs.Held.{HoldsValue, HoldsLocals}
 use Rattle.xf_held.specs.Laws.{AreApart, HomesStay, IncrementsRunAlike, StepsExecute, WrittenHold}
 use Rattle.xf_held.specs.Moves.{IsExecutable, letter_of, size}
 use Rattle.xf_held.proofs.Beside.{among-each, each-among}
@@ -205,10 +205,10 @@ pub still-held :
     → HasRegister s.homes k
     → (z t y u : State Cell)
     → StayAlike e (footprint v (ops.Increment counted x amount)) (footprint v (ops.Increment counted r amount)) z y t u
-    → Holds s (top z).registers (top t) h
+    → HoldsValue s (top z).registers (top t) h
     → (k ≡ h) ⊎ AreApart k.slot (width k.ty) x (width h.ty)
-    → Holds s (top z).registers (top t) k
-    → Holds s (top y).registers (top u) k
+    → HoldsValue s (top z).registers (top t) k
+    → HoldsValue s (top y).registers (top u) k
 still-held stay written v e s x r counted amount h slot_is register_is wide_is has serve k own z t y u stays held apart holds = by apart
   where
     sizes : width h.ty ≡ (footprint v (ops.Increment counted r amount)).written
@@ -217,20 +217,20 @@ still-held stay written v e s x r counted amount h slot_is register_is wide_is h
     own-register : (j : Home) (hj : HasRegister s.homes j) → register s j ≡ hj.0
     own-register j hj = ap or_first hj.1
 
-    rewritten-home : Holds s (top y).registers (top u) h
+    rewritten-home : HoldsValue s (top y).registers (top u) h
     rewritten-home =
         written e (footprint v (ops.Increment counted x amount)) (footprint v (ops.Increment counted r amount)) z y t u s h stays
         (written-first v counted x amount ∙ sym slot_is) (written-first v counted r amount ∙ sym register_is) (sym wide_is) held.known
         held.there
 
-    by : (k ≡ h) ⊎ AreApart k.slot (width k.ty) x (width h.ty) → Holds s (top y).registers (top u) k
-    by (inl same) = subst (Holds s (top y).registers (top u)) (sym same) rewritten-home
+    by : (k ≡ h) ⊎ AreApart k.slot (width k.ty) x (width h.ty) → HoldsValue s (top y).registers (top u) k
+    by (inl same) = subst (HoldsValue s (top y).registers (top u)) (sym same) rewritten-home
     by (inr slots_apart) = registers-apart (serve.apart k h own.0 has.0 own.1 has.1)
       where
         registers-apart :
             (k ≡ h) ⊎ (own.0 + width k.ty ≤ has.0) ⊎ (has.0 + width h.ty ≤ own.0)
-            → Holds s (top y).registers (top u) k
-        registers-apart (inl same) = subst (Holds s (top y).registers (top u)) (sym same) rewritten-home
+            → HoldsValue s (top y).registers (top u) k
+        registers-apart (inl same) = subst (HoldsValue s (top y).registers (top u)) (sym same) rewritten-home
         registers-apart (inr far) =
             let one = own-register k own in
             let two = own-register h has in
@@ -287,8 +287,8 @@ module _
       let agree = codes v w s place laid (executed w laid.new) i op z t b g insn other count found resolves refl refl
       (λ falls. subst (λ m. IsPlace (code_at w m) (place (own + 1))) (sym b.of.target)
       (next-place v w s place laid stand follow i op b.stands b.reached b.does count refl)) in
-      let held : Holds s (top z).registers (top t) h =
-      among-each (Holds s (top z).registers (top t)) (needed s i.place x) h (b.held.locals x) home.among in
+      let held : HoldsValue s (top z).registers (top t) h =
+      among-each (HoldsValue s (top z).registers (top t)) (needed s i.place x) h (b.held.locals x) home.among in
       let wide_enough : width h.ty ≡ (footprint v op).written =
       wide home.ty ∙ (ap size home.letter_is ∙ sym (written-width v counted x amount)) in
       let run = run_alike (renamed_cell (rename s place)) (rename s place) v w z t i there.instruction s h counted amount
@@ -306,10 +306,10 @@ module _
         comes =
             comes v w s place laid (executed w laid.new) i op z t b g insn other count found resolves refl
             (λ y u stays l.
-            each-among (Holds s (top y).registers (top u)) (needed s i.place l)
+            each-among (HoldsValue s (top y).registers (top u)) (needed s i.place l)
             (λ k among. still-held stay written v (renamed_cell (rename s place)) s x r counted amount h refl refl wide_enough local_home.has serve
             k (needed-local v w s place laid needs i.place l k reached_here among).has z t y u stays held
             (apart-or-same v w s place laid types needs i.place x counted home l k among)
-            (among-each (Holds s (top z).registers (top t)) (needed s i.place l) k (b.held.locals l) among)))
+            (among-each (HoldsValue s (top z).registers (top t)) (needed s i.place l) k (b.held.locals l) among)))
             (λ k. refl) (called v i.insn op z) o p.0 p.2;
       }

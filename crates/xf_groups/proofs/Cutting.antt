@@ -27,7 +27,7 @@ use Rattle.vm_step.specs.Methods.{code_at, max_stack_of}
 use Rattle.vm_step.specs.Numbers.{dropped}
 use Rattle.vm_step.specs.Performed.{act}
 use Rattle.vm_step.specs.Raising.{Outcome, running}
-use Rattle.vm_step.specs.Settled.{fault_next, fault_target, goes_to, is_over, is_past, is_target, jumps_to, place_of, settled, unless_fault}
+use Rattle.vm_step.specs.Settled.{fault_next, fault_target, goes_to, is_over, is_past, is_target_place, jumps_to, place_number, settled, unless_fault}
 use Rattle.vm_step.specs.Step.{Fetches, Steps, performed, performs}
 use Rattle.vm_step.specs.Tests.{fault_before}
 use Rattle.vm_step.proofs.Running.{steps-one}
@@ -202,18 +202,18 @@ module _
     forked (both_jump to one two asks) =
         let leads : o ≡ jumps_to tagged v to (dropped whole n) = is ∙ ap (settled tagged v next whole) one in
         let passed = unless-none (dropped whole n) (fault_target tagged v (dropped whole n) to)
-        (running (with_place (dropped whole n) (place_of to))) (subst IsNoFault leads fine) in
-        let there : is_target (code_at v f.method) to ≡ true =
-        some-target (is_over v (dropped whole n) (length (drop n f.stack))) (is_target (code_at v f.method) to) StackFault JumpFault passed.0 in
+        (running (with_place (dropped whole n) (place_number to))) (subst IsNoFault leads fine) in
+        let there : is_target_place (code_at v f.method) to ≡ true =
+        some-target (is_over v (dropped whole n) (length (drop n f.stack))) (is_target_place (code_at v f.method) to) StackFault JumpFault passed.0 in
         let after : fault_target tagged v (dropped cut n) to ≡ None =
-        target-none (is_over v (dropped cut n) (length (drop n (take n f.stack)))) (is_target (code_at v f.method) to) StackFault JumpFault
+        target-none (is_over v (dropped cut n) (length (drop n (take n f.stack)))) (is_target_place (code_at v f.method) to) StackFault JumpFault
         room-free there in
         record {
-          place = place_of to;
+          place = place_number to;
           is = leads ∙ passed.1;
           cut =
-              steps-cut (jumps to (dropped cut n)) (running (with_place (dropped cut n) (place_of to))) two asks
-              (ap (λ x. unless_fault (dropped cut n) x (running (with_place (dropped cut n) (place_of to)))) after);
+              steps-cut (jumps to (dropped cut n)) (running (with_place (dropped cut n) (place_number to))) two asks
+              (ap (λ x. unless_fault (dropped cut n) x (running (with_place (dropped cut n) (place_number to)))) after);
         }
 
 same-taken : (v : Linked) (op : Operation) (n : ℕ) → operands_of v (Ok op) ≡ Some n → (footprint v op).taken ≡ n

@@ -47,7 +47,7 @@ use Rattle.xf_typing.specs.Edges.{CellsFillStack, ForksAreCut, ForksMatch, IsFor
 use Rattle.xf_typing.proofs.Forking.{each-left}
 use Rattle.vm_sound.proofs.Branches.{targets-are}
 use Rattle.xf_held.specs.Edges.{CellsAreFew, CellsRun, CopiesAreFew, EdgesRun, HoldsAfter, IsBeside, KeptStacksStay, LeadersLoad, OperandsLoad, StacksSpill, UnderHold, UnderLoads, insns, top_at}
-use Rattle.xf_held.specs.Held.{Held, Holds, HoldsLocals, slots}
+use Rattle.xf_held.specs.Held.{HoldsFrame, HoldsValue, HoldsLocals, slots}
 use Rattle.xf_held.specs.Laws.{KeptRunAlike, LocalsStay, NamesNoneWritesNone, StepsExecute}
 use Rattle.xf_held.proofs.Beside.{among-each, each-among, held-as}
 use Rattle.xf_held.proofs.Loading.{step-place}
@@ -140,7 +140,7 @@ module _
       → AreOf s (top z) (top u)
       → y.registers ≡ (top z).registers
       → y.stack ≡ drop n (top z).stack
-      → Each (Holds s (slots (top z)) g) (under s i.place n) ↔ Each (Holds s (slots y) g) (under s i.place n)
+      → Each (HoldsValue s (slots (top z)) g) (under s i.place n) ↔ Each (HoldsValue s (slots y) g) (under s i.place n)
   under-held g u y heap of one two =
       under_hold u s i op n (top z) y g laid.world laid.planned (near u heap of) stands does own-some over one two
 
@@ -201,7 +201,7 @@ module _
     few : count ≤ 510
     runs : Runs tagged w count u (running (top_at u (place m) registers (take n (top z).stack)))
     same : length registers ≡ length (top u).registers
-    kept : Each (Holds s (slots (top z)) (record (top u) { registers = registers })) (stack_homes s i.place)
+    kept : Each (HoldsValue s (slots (top z)) (record (top u) { registers = registers })) (stack_homes s i.place)
     locals : HoldsLocals s i.place (top z) (record (top u) { registers = registers })
 
   readied :
@@ -210,7 +210,7 @@ module _
       → IsRunning u
       → AreOf s (top z) (top u)
       → (top u).place ≡ place (body_at s i.place)
-      → Held (renamed_cell (rename s place)) s i.place (top z) (top u)
+      → HoldsFrame (renamed_cell (rename s place)) s i.place (top z) (top u)
       → IsReady u
   readied u heap goes of at held =
       let sp = spill s (stack_homes s i.place) in
@@ -241,9 +241,9 @@ module _
       (at-step v w s place laid ua k (length (operands s i.place n)) (omega arith) of.target refl
       (omega (arith, all, one, two, three, a_size, b_size)))
       (moves-stand s k ls (loads-move s (operands s i.place n)) rest) refl
-      (each-among (Holds s (slots (top z)) (top ua)) (stack_homes s i.place)
+      (each-among (HoldsValue s (slots (top z)) (top ua)) (stack_homes s i.place)
       (λ h among. held-as s (slots (top z)) (record (top u) { registers = a.registers }) (top ua) h refl
-      (among-each (Holds s (slots (top z)) (record (top u) { registers = a.registers })) (stack_homes s i.place) h a.cells among))) in
+      (among-each (HoldsValue s (slots (top z)) (record (top u) { registers = a.registers })) (stack_homes s i.place) h a.cells among))) in
       let low = few_cells s i.place laid.world laid.planned keeps in
       let limit = laid.room in
       let few_too = few-operands in
@@ -257,11 +257,11 @@ module _
         same = a.count;
         kept = a.cells;
         locals = λ x.
-            each-among (Holds s (top z).registers (record (top u) { registers = a.registers })) (needed s i.place x)
+            each-among (HoldsValue s (top z).registers (record (top u) { registers = a.registers })) (needed s i.place x)
             (λ h among.
             let l = needed-local v w s place laid needs i.place x h from-p among in
             a.others (top z).registers h l.has l.slot
-            (among-each (Holds s (top z).registers (top u)) (needed s i.place x) h (held.locals x) among));
+            (among-each (HoldsValue s (top z).registers (top u)) (needed s i.place x) h (held.locals x) among));
       }
 
   -- ---- after the branch
@@ -273,7 +273,7 @@ module _
       (equal : AreEqualBut (with_place (dropped z n) q') x)
       (of : AreOf s (top (with_place (dropped z n) q')) (top x))
       (bare : (top x).stack ≡ [])
-      (kept : Each (Holds s (slots (top z)) (top x)) (stack_homes s i.place))
+      (kept : Each (HoldsValue s (slots (top z)) (top x)) (stack_homes s i.place))
       (locals : HoldsLocals s i.place (top z) (top x)) where
     abbrev y : State Cell
     y = with_place (dropped z n) q'
@@ -284,16 +284,16 @@ module _
     of-z : AreOf s (top z) (top x)
     of-z = record { source = typed.method; target = of.target; count = of.count }
 
-    held-y : Each (Holds s (slots (top y)) (top x)) (under s i.place n)
+    held-y : Each (HoldsValue s (slots (top y)) (top x)) (under s i.place n)
     held-y =
         (under-held (top x) x (top y) equal.heap of-z refl refl).0
-        (each-left (Holds s (slots (top z)) (top x)) (under s i.place n) (operands s i.place n)
-        (subst (Each (Holds s (slots (top z)) (top x))) cut-here.2.parts kept))
+        (each-left (HoldsValue s (slots (top z)) (top x)) (under s i.place n) (operands s i.place n)
+        (subst (Each (HoldsValue s (slots (top z)) (top x))) cut-here.2.parts kept))
 
     before : HoldsAfter s i.place op q' (top y) (top x)
     before = record {
       stored = λ l e. absurd (false≢true (sym (unstored-fork s.world op n own-some l) ∙ e));
-      others = λ l. Each-weaker (Holds s (top z).registers (top x)) _ (λ h held free. held) (needed s i.place l) (locals l);
+      others = λ l. Each-weaker (HoldsValue s (top z).registers (top x)) _ (λ h held free. held) (needed s i.place l) (locals l);
     }
 
     -- the source stays in y, and the target comes to its group
@@ -412,10 +412,10 @@ module _
           let run1 : Runs tagged w (length (insns cs)) x (running x1) =
           subst (λ stack. Runs tagged w (length (insns cs)) x (running (top_at x (place r) c.registers stack))) bare c.runs in
           let of1 : AreOf s (top z) (top x1) = record { source = typed.method; target = of.target; count = c.count ∙ of.count } in
-          let under_y : Each (Holds s (slots (top y)) (top x1)) (under s i.place n) =
-          each-among (Holds s (slots (top y)) (top x1)) (under s i.place n)
+          let under_y : Each (HoldsValue s (slots (top y)) (top x1)) (under s i.place n) =
+          each-among (HoldsValue s (slots (top y)) (top x1)) (under s i.place n)
           (λ h among. held-as s (slots (top y)) (record (top x) { registers = c.registers }) (top x1) h refl
-          (c.others h (under-registered h among) (among-each (Holds s (slots (top y)) (top x)) (under s i.place n) h held-y among))) in
+          (c.others h (under-registered h among) (among-each (HoldsValue s (slots (top y)) (top x)) (under s i.place n) h held-y among))) in
           let under_z = (under-held (top x1) x1 (top y) equal.heap of1 refl refl).1 under_y in
           let run2 = under_loads place (steps_of s) x1 r s i op n (top z) laid.world laid.planned (near x1 equal.heap of1) stands does own-some over
           (at-step v w s place laid x1 r (length (under s i.place n)) (omega arith) of.target refl
@@ -457,9 +457,9 @@ module _
                             ap (drop n) (sym (unmade x equal.heap of-z))
                             ∙ drop-map (renamed_cell (rename s place)) n (top z).stack;
                         locals = λ l.
-                            each-among (Holds s (top y).registers (top x2)) (needed s q' l)
+                            each-among (HoldsValue s (top y).registers (top x2)) (needed s q' l)
                             (λ h among. held-as s (top y).registers (record (top x) { registers = c.registers }) (top x2) h refl
-                            (among-each (Holds s (top y).registers (record (top x) { registers = c.registers })) (needed s q' l) h (c.locals l)
+                            (among-each (HoldsValue s (top y).registers (record (top x) { registers = c.registers })) (needed s q' l) h (c.locals l)
                             among));
                       });
                 };
@@ -526,7 +526,7 @@ module _
     ready : IsReady u
     ready =
         readied u e.equal.heap goes e.of (e.at ∙ ap (λ q. place (body_at s q)) here)
-        (subst (λ q. Held (renamed_cell (rename s place)) s q (top z) (top u)) here e.held)
+        (subst (λ q. HoldsFrame (renamed_cell (rename s place)) s q (top z) (top u)) here e.held)
 
     abbrev u1 : State Cell
     u1 = top_at u (place m) ready.registers (take n (top z).stack)
@@ -558,9 +558,9 @@ module _
         (record { source = typed.method; target = e.of.target; count = ready.same ∙ e.of.count }) here
         (typed.objects_stay (rename s place)) (typed.statics_stay (rename s place)) refl
         (ap (take n) (sym whole) ∙ take-map (renamed_cell (rename s place)) n (top z).stack)
-        (λ x. each-among (Holds s (top z).registers (top u1)) (needed s i.place x)
+        (λ x. each-among (HoldsValue s (top z).registers (top u1)) (needed s i.place x)
         (λ h among. held-as s (top z).registers (record (top u) { registers = ready.registers }) (top u1) h refl
-        (among-each (Holds s (top z).registers (record (top u) { registers = ready.registers })) (needed s i.place x) h (ready.locals x) among)))
+        (among-each (HoldsValue s (top z).registers (record (top u) { registers = ready.registers })) (needed s i.place x) h (ready.locals x) among)))
         method-same forked.cut
 
     -- what holds in the target after the branch
@@ -570,7 +570,7 @@ module _
       equal_y : AreEqualBut (with_place (dropped z n) forked.place) x
       of_y : AreOf s (top (with_place (dropped z n) forked.place)) (top x)
       bare : (top x).stack ≡ []
-      kept : Each (Holds s (slots (top z)) (top x)) (stack_homes s i.place)
+      kept : Each (HoldsValue s (slots (top z)) (top x)) (stack_homes s i.place)
       locals : HoldsLocals s i.place (top z) (top x)
 
     after : (x : State Cell) → Steps tagged w u1 (running x) → AfterFork s place i.place (cut_state z n) u1 y1 x → IsAfter x
@@ -592,10 +592,10 @@ module _
           of_y = record { source = a.of.source; target = a.of.target; count = a.of.count };
           bare = a.stack ∙ ap (map (renamed_cell (rename s place))) (none-left n (top z).stack);
           kept =
-              each-among (Holds s (slots (top z)) (top x)) (stack_homes s i.place)
+              each-among (HoldsValue s (slots (top z)) (top x)) (stack_homes s i.place)
               (λ h among. a.kept (slots (top z)) h
               (held-as s (slots (top z)) (record (top u) { registers = ready.registers }) (top u1) h refl
-              (among-each (Holds s (slots (top z)) (record (top u) { registers = ready.registers })) (stack_homes s i.place) h ready.kept among)));
+              (among-each (HoldsValue s (slots (top z)) (record (top u) { registers = ready.registers })) (stack_homes s i.place) h ready.kept among)));
           locals = a.locals;
         }
 

@@ -16,7 +16,7 @@ use Rattle.xf_plan.specs.Source.{Source}
 use Rattle.xf_plan.specs.Plan.{stack_homes, is_leader, needed, operation}
 use Rattle.xf_emission.specs.Move.{loads}
 use Rattle.xf_held.specs.Edges.{CellsAreFew, KeptStacksStay, LeadersLoad, insns, top_at}
-use Rattle.xf_held.specs.Held.{Held, Holds, Waits}
+use Rattle.xf_held.specs.Held.{HoldsFrame, HoldsValue, Waits}
 use Rattle.xf_held.proofs.Beside.{each-among, among-each, held-as}
 use Rattle.xf_groups.specs.Laid.{IsLaidIn, body_at, count_of, group_at, loaded_at, rename, steps_of}
 use Rattle.xf_groups.specs.Beside.{AreEqualBut, AreOf, HeldOrWaits, IsAtGroup, IsTypedAt, MovesTop}
@@ -41,7 +41,7 @@ module _
     pub equal : AreEqualBut z state
     pub of : AreOf s (top z) (top state)
     pub at : (top state).place ≡ place (body_at s (top z).place)
-    pub held : Held (renamed_cell (rename s place)) s (top z).place (top z) (top state)
+    pub held : HoldsFrame (renamed_cell (rename s place)) s (top z).place (top z) (top state)
 
   module _
       (z t : State Cell) (typed : IsTypedAt v s z) (equal : AreEqualBut z t) (group : IsAtGroup s place (top z) (top t)) where
@@ -98,9 +98,9 @@ module _
           held = record {
             stack = sym (stay s q (top z) t (rename s place) laid.world laid.planned near keeps);
             locals = λ x.
-                each-among (Holds s (top z).registers (top u)) (needed s q x)
+                each-among (HoldsValue s (top z).registers (top u)) (needed s q x)
                 (λ h among. held-as s (top z).registers (top t) (top u) h refl
-                (among-each (Holds s (top z).registers (top t)) (needed s q x) h (waits.locals x) among));
+                (among-each (HoldsValue s (top z).registers (top t)) (needed s q x) h (waits.locals x) among));
           };
         }
 

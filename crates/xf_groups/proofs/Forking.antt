@@ -29,7 +29,7 @@ use Rattle.xf_emission.specs.declared.origin.Origin.TheVariants.{After}
 use Rattle.xf_emission.specs.Edge.{cell_copies, copies}
 use Rattle.xf_emission.specs.Emission.{items}
 use Rattle.xf_emission.specs.Group.{body, branch_by, itself}
-use Rattle.xf_emission.specs.Jump.{branch, cut, first_label, goto, has_under, jump_to, label_by, lead, leads, place as place_named, spill_if, stub, stub_label, stub_of, taken, under}
+use Rattle.xf_emission.specs.Jump.{branch, operands_slot, first_label, goto, has_under, jump_to, label_by, lead, leads, place as place_named, spill_if, stub, stub_label, stub_of, taken, under}
 use Rattle.xf_groups.specs.Laid.{count_of, steps_of}
 use Rattle.xf_groups.specs.Steps.{ItemsStandFrom}
 use Rattle.xf_groups.proofs.Standing.{step-at}
@@ -83,7 +83,7 @@ pub under-none : (s : Source) (p n : ℕ) → has_under s p n ≡ false → unde
 unfolding under stack_homes
 under-none s p n e =
     let deep : depth s p ≤ n = grind (arith, nat_tests, e) in
-    let c : cut s p n ≡ register_count s.method.rec = omega (arith, deep) in
+    let c : operands_slot s p n ≡ register_count s.method.rec = omega (arith, deep) in
     ap (λ k. filter (λ (h : Home). nat_lt h.slot k) (cells_from (register_count s.method.rec) (stack_of (s.frames p)) 0 (depth s p))) c
     ∙ none-below (register_count s.method.rec) _ (cells-above (register_count s.method.rec) (stack_of (s.frames p)) 0 (depth s p))
 

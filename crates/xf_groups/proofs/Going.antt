@@ -26,7 +26,7 @@ use Rattle.xf_emission.specs.Jump.{goto}
 use Rattle.xf_emission.specs.Move.{spill}
 use Rattle.xf_typing.specs.Edges.{CellsFillStack, LeadsTo, NeededHaveHomes}
 use Rattle.xf_held.specs.Edges.{CellsAreFew, CopiesAreFew, EdgesRun, HoldsBefore, StacksSpill, insns, top_at}
-use Rattle.xf_held.specs.Held.{Holds, Waits, slots}
+use Rattle.xf_held.specs.Held.{HoldsValue, Waits, slots}
 use Rattle.xf_held.specs.Laws.{StepsExecute}
 use Rattle.xf_held.proofs.Beside.{each-among, among-each, held-as}
 use Rattle.xf_groups.specs.Laid.{IsLaidIn, body_at, count_of, group_at, steps_of}
@@ -111,7 +111,7 @@ module _
         → ItemsStandFrom s m (copies s o q ++ goto q ∷ [])
         → (top u).place ≡ place m
         → (top u).stack ≡ []
-        → Each (Holds s (slots (top y)) (top u)) (stack_homes s q)
+        → Each (HoldsValue s (slots (top y)) (top u)) (stack_homes s q)
         → HoldsBefore s o q (top y) (top u)
         → ComesWithin w 1 511 u (ComesToGroup s place y u)
     edge-goes m st at bare held before =
@@ -146,15 +146,15 @@ module _
         (record {
           stack = refl;
           cells =
-              each-among (Holds s (slots (top y)) (top (arrived c.registers))) (stack_homes s q)
+              each-among (HoldsValue s (slots (top y)) (top (arrived c.registers))) (stack_homes s q)
               (λ h among. held-as s (slots (top y)) (record (top u) { registers = c.registers }) (top (arrived c.registers)) h refl
               (c.others h
               (kept-registers v w s place laid fill q h (leader-keeps v w s place laid q leader) typed.reached among)
-              (among-each (Holds s (slots (top y)) (top u)) (stack_homes s q) h held among)));
+              (among-each (HoldsValue s (slots (top y)) (top u)) (stack_homes s q) h held among)));
           locals = λ x.
-              each-among (Holds s (top y).registers (top (arrived c.registers))) (needed s q x)
+              each-among (HoldsValue s (top y).registers (top (arrived c.registers))) (needed s q x)
               (λ h among. held-as s (top y).registers (record (top u) { registers = c.registers }) (top (arrived c.registers)) h refl
-              (among-each (Holds s (top y).registers (record (top u) { registers = c.registers })) (needed s q x) h (c.locals x) among));
+              (among-each (HoldsValue s (top y).registers (record (top u) { registers = c.registers })) (needed s q x) h (c.locals x) among));
         })
 
 -- after so many steps of the target alone
@@ -202,7 +202,7 @@ module _
       → (top u).place ≡ place m
       → (top u).stack ≡ (top y).stack
       → ((k : Frame Cell)
-      → ((h : Home) → IsLocal v w s place laid needs h → Holds s (top y).registers (top u) h → Holds s (top y).registers k h)
+      → ((h : Home) → IsLocal v w s place laid needs h → HoldsValue s (top y).registers (top u) h → HoldsValue s (top y).registers k h)
       → HoldsBefore s o (top y).place (top y) k)
       → ComesWithin w 1 766 u (ComesToGroup s place y u)
   spilled-goes m st at same before =
@@ -235,9 +235,9 @@ module _
       (omega (arith, low, limit))
       (edge-goes v w s place laid stand follow executed needs fill spills edges few_copies few_cells y u1 o typed equal1 of1 leader leads
       n (stand-at s (m + count_of sp) n more (ap (λ k. m + k) size) (stand-last s m sp more st)) refl refl
-      (each-among (Holds s (slots (top y)) (top u1)) (stack_homes s q)
+      (each-among (HoldsValue s (slots (top y)) (top u1)) (stack_homes s q)
       (λ h among. held-as s (slots (top y)) (record (top u) { registers = a.registers }) (top u1) h refl
-      (among-each (Holds s (slots (top y)) (record (top u) { registers = a.registers })) (stack_homes s q) h a.cells among)))
+      (among-each (HoldsValue s (slots (top y)) (record (top u) { registers = a.registers })) (stack_homes s q) h a.cells among)))
       (before (top u1)
       (λ h known held. held-as s (top y).registers (record (top u) { registers = a.registers }) (top u1) h refl
       (a.others (top y).registers h known.has known.slot held))))

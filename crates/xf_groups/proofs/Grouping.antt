@@ -26,7 +26,7 @@ use Rattle.xf_plan.specs.Source.{Source}
 use Rattle.xf_plan.specs.Plan.{operation}
 use Rattle.xf_emission.specs.Group.{fall, fall_by, fallen}
 use Rattle.xf_held.specs.Edges.{CellsAreFew, CopiesAreFew, EdgesRun, KeptStacksStay, LeadersLoad, StacksSpill}
-use Rattle.xf_held.specs.Held.{Held}
+use Rattle.xf_held.specs.Held.{HoldsFrame}
 use Rattle.xf_typing.specs.Edges.{CellsFillStack, NeededHaveHomes}
 use Rattle.xf_groups.specs.Laid.{IsLaidIn, body_at, rename}
 use Rattle.xf_groups.specs.Beside.{AreEqualBut, IsAtGroup, IsTypedAt, MovesTop, SameUnder, StaysTyped}
@@ -215,7 +215,7 @@ module _
         of = e.of;
         here = there;
         at = e.at ∙ ap (λ p. place (body_at s p)) there;
-        held = subst (λ p. Held (renamed_cell (rename s place)) s p (top z) (top e.state)) there e.held;
+        held = subst (λ p. HoldsFrame (renamed_cell (rename s place)) s p (top z) (top e.state)) there e.held;
       } in
       let b = body e.state before in
       finish turn.instruction turn.op z t e.state before none e.count e.few e.runs e.moves b.count b.more b.fewer o b.outcome stays

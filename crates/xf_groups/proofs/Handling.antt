@@ -29,7 +29,7 @@ use Rattle.xf_emission.specs.Move.{spill}
 use Rattle.xf_emission.proofs.Live.{IsFirst, is-first}
 use Rattle.xf_typing.specs.Edges.{CellsFillStack, NeededHaveHomes, leads_entry}
 use Rattle.xf_held.specs.Edges.{CellsAreFew, CopiesAreFew, EdgesRun, StacksSpill}
-use Rattle.xf_held.specs.Held.{Holds}
+use Rattle.xf_held.specs.Held.{HoldsValue}
 use Rattle.xf_held.specs.Laws.{StepsExecute}
 use Rattle.xf_held.proofs.Beside.{among-each}
 use Rattle.xf_groups.specs.Laid.{IsLaidIn}
@@ -122,13 +122,13 @@ module _
     where
       held-at :
           (x : ℕ) (k : Frame Cell)
-          → ((m : Home) → IsLocal v w s place laid needs m → Holds s (top z).registers (top t) m → Holds s (top z).registers k m)
+          → ((m : Home) → IsLocal v w s place laid needs m → HoldsValue s (top z).registers (top t) m → HoldsValue s (top z).registers k m)
           → (o : Option Ty)
           → local_of (s.frames (top z).place) x ≡ o
-          → IfSome (home_of x o) (Holds s (top z).registers k)
+          → IfSome (home_of x o) (HoldsValue s (top z).registers k)
       held-at x k keeps None e = tt
       held-at x k keeps (Some ty) e =
           let at : local_of (s.frames h.entry) x ≡ Some ty = ap (λ r. local_of (s.frames r) x) (sym c.entry) ∙ e in
           let among = entry-needed n p x h ty c.listed c.covers at in
           keeps (record { slot = x; ty = ty }) (needed-local v w s place laid needs p x (record { slot = x; ty = ty }) c.reached among)
-          (among-each (Holds s (top z).registers (top t)) (needed s p x) (record { slot = x; ty = ty }) (c.locals x) among)
+          (among-each (HoldsValue s (top z).registers (top t)) (needed s p x) (record { slot = x; ty = ty }) (c.locals x) among)

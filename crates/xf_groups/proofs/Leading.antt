@@ -15,7 +15,7 @@ use Rattle.jc_decode.specs.Standing.{AreSteps}
 use Rattle.jc_decode.specs.Symbols.{Step, jump}
 use Rattle.jc_ops.specs.declared.operation.Branch.TheVariants.{Always}
 use Rattle.jc_ops.specs.declared.operation.Operation.TheVariants as ops
-use Rattle.jc_ops.specs.Row.{table, row_at, unused, by_sort, by_width, by_kind, first_four, by_register, literals, binary, orders_all, branching}
+use Rattle.jc_ops.specs.Row.{table, row_at, unused, by_sort, by_width, by_kind, first_four, by_register, literals, binaries, orders_all, branching}
 use Rattle.jc_ops.specs.Resolve.{resolved, Resolves}
 use Rattle.vm_store.specs.declared.cell.Cell.{Cell}
 use Rattle.vm_store.specs.Cells.{tagged}
@@ -25,7 +25,7 @@ use Rattle.vm_step.specs.Act.{Act, jumps as jumping}
 use Rattle.vm_step.specs.Methods.{code_at, instruction_at, max_stack_of}
 use Rattle.vm_step.specs.Performed.{act}
 use Rattle.vm_step.specs.Raising.{running}
-use Rattle.vm_step.specs.Settled.{fault_target, is_target, is_there, settled, unless_fault}
+use Rattle.vm_step.specs.Settled.{fault_target, is_target_place, is_there, settled, unless_fault}
 use Rattle.vm_step.specs.Step.{Steps, performs}
 use Rattle.vm_step.specs.Tests.{fault_before}
 use Rattle.vm_sound.proofs.Going.{jumps-on}
@@ -48,7 +48,7 @@ module _ (code : List ℕ) (j : Placed) (to : ℤ) where
       is) ∙ e)
 
 goto-resolves : (w : Linked) (m : MethodRec) (q : ℕ) → Resolves w m q (jump 168) (Ok (ops.Branch Always))
-unfolding row_at table by_sort by_width by_kind first_four by_register literals binary orders_all branching unused
+unfolding row_at table by_sort by_width by_kind first_four by_register literals binaries orders_all branching unused
 goto-resolves w m q = refl
 
 pick : {X : Type 0} (x y : X) (a b : Bool) → a ≡ false → b ≡ true → (if a then Some x else if b then None else Some y) ≡ None
@@ -86,9 +86,9 @@ module _
       let s = slice_get-some all k inside in
       let stands = steps-stand-at-places code place all k s.0 are s.1 in
       let before : fault_before tagged w op t ≡ None = passes-before w world.chains f below heap statics op tt in
-      let there : is_target code (pos (place k)) ≡ true = ap is_there stands.found in
+      let there : is_target_place code (pos (place k)) ≡ true = ap is_there stands.found in
       let after : fault_target tagged w t (pos (place k)) ≡ None =
-      pick StackFault JumpFault (nat_lt (max_stack_of w f.method) (length f.stack)) (is_target code (pos (place k)))
+      pick StackFault JumpFault (nat_lt (max_stack_of w f.method) (length f.stack)) (is_target_place code (pos (place k)))
       (le-ltb (max_stack_of w f.method) (length f.stack) room) there in
       let does : act tagged w j.insn op t ≡ jumping (pos (place k)) t = ap (λ z. jumping z t) own in
       performs ex.executes.fetched op ex.executes.resolved

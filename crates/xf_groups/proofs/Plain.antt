@@ -37,11 +37,11 @@ use Rattle.xf_plan.specs.Source.{Source}
 use Rattle.xf_plan.specs.Plan.{needed, operation, register}
 use Rattle.xf_emission.specs.Edge.{is_stored}
 use Rattle.xf_emission.specs.Group.{body}
-use Rattle.xf_held.specs.Held.{Holds, HoldsLocals}
+use Rattle.xf_held.specs.Held.{HoldsValue, HoldsLocals}
 use Rattle.xf_held.specs.Laws.{CodesAgree, ExecutesStep, StepsExecute}
 use Rattle.xf_held.specs.Moves.{IsAtStep}
 use Rattle.xf_groups.specs.Laid.{IsInGroup, IsLaidIn, body_at, count_of, group_at, rename, steps_of}
-use Rattle.xf_groups.specs.Beside.{AreEqualBut, AreOf, IsTypedAt, IsUnderCall, IsWithin, MovesTop, SameUnder}
+use Rattle.xf_groups.specs.Beside.{AreEqualBut, AreOf, IsTypedAt, IsUnderCall, StandsInGroup, MovesTop, SameUnder}
 use Rattle.xf_groups.specs.Comes.{CallAlike, GroupComes, group_calls, group_ends, group_gives, group_raises, group_throws}
 use Rattle.xf_groups.specs.Body.{AreAfter, AreAtBody, BodyComes, body_done, body_falls}
 use Rattle.xf_groups.proofs.Context.{method-of, source-room, steps-are, target-at, target-room}
@@ -51,7 +51,7 @@ use Rattle.xf_groups.proofs.Standing.{GroupSteps}
 
 -- what a frame holds rests on its registers alone
 holds-over :
-    (s : Source) (values : List Cell) (g k : Frame Cell) → k.registers ≡ g.registers → (h : Home) → Holds s values g h → Holds s values k h
+    (s : Source) (values : List Cell) (g k : Frame Cell) → k.registers ≡ g.registers → (h : Home) → HoldsValue s values g h → HoldsValue s values k h
 holds-over s values g k e h held =
     let count = ap length e in
     let there = held.there in
@@ -63,8 +63,8 @@ holds-over s values g k e h held =
 
 each-over :
     (s : Source) (values : List Cell) (g k : Frame Cell) → k.registers ≡ g.registers → (hs : List Home)
-    → Each (Holds s values g) hs
-    → Each (Holds s values k) hs
+    → Each (HoldsValue s values g) hs
+    → Each (HoldsValue s values k) hs
 each-over s values g k e [] held = tt
 each-over s values g k e (h ∷ hs) held = (holds-over s values g k e h held.0, each-over s values g k e hs held.1)
 
@@ -129,7 +129,7 @@ module _
 
   -- before the first step of the body, the target is within the group
   pub within : (f k : Frame Cell) → f.method ≡ s.method.number → k.method ≡ s.method.number → length k.registers ≡ register_sum s.homes
-      → f.place ≡ i.place → k.place ≡ place n → 0 < count_of (body s i op) → HoldsLocals s i.place f k → IsWithin s place f k
+      → f.place ≡ i.place → k.place ≡ place n → 0 < count_of (body s i op) → HoldsLocals s i.place f k → StandsInGroup s place f k
   within f k source target count here at some locals =
       let size = g.size in
       record {
@@ -197,7 +197,7 @@ module _
           stack = stay.alike.stack;
           holds = record {
             stored = λ x h. absurd (false≢true (sym (unstored x) ∙ h));
-            others = λ x. Each-weaker (Holds s (top y).registers (top u)) _ (λ h held free. held) (needed s i.place x) (kept y u stay x);
+            others = λ x. Each-weaker (HoldsValue s (top y).registers (top u)) _ (λ h held free. held) (needed s i.place x) (kept y u stay x);
           };
         }
 
@@ -224,7 +224,7 @@ module _
           stack = ap (drop count) stay.alike.stack ∙ drop-map e count (top y).stack;
         }
 
-        thrown-from : MovesTop t t × IsWithin s place (top z) (top t)
+        thrown-from : MovesTop t t × StandsInGroup s place (top z) (top t)
         thrown-from = (
           record { frames = frames-are t runs-too; heap = refl; statics = refl },
           within (top z) (top t) b.of.source b.of.target b.of.count b.here b.at (omega (arith, one)) b.held.locals,

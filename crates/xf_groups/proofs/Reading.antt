@@ -46,7 +46,7 @@ use Rattle.xf_typing.specs.Whole.{DerivedAreWhole}
 use Rattle.xf_typing.proofs.Below.{loads-same}
 use Rattle.xf_typing.proofs.Carried.{is-high, is-low, is-short}
 use Rattle.xf_typing.proofs.Running.{found-below, is-reference, local-at, value-int, value-one}
-use Rattle.xf_held.specs.Held.{Holds}
+use Rattle.xf_held.specs.Held.{HoldsValue}
 use Rattle.xf_held.specs.Laws.{LoadsRunAlike, LoadsWriteNone, LocalsStay, StepsExecute}
 use Rattle.xf_held.specs.Moves.{IsExecutable, letter_of, size}
 use Rattle.xf_held.proofs.Beside.{among-each}
@@ -203,8 +203,8 @@ module _
       let agree = codes v w s place laid (executed w laid.new) i op z t b g insn other count found resolves refl refl
       (λ falls. subst (λ m. IsPlace (code_at w m) (place (own + 1))) (sym b.of.target)
       (next-place v w s place laid stand follow i op b.stands b.reached b.does count refl)) in
-      let held : Holds s (top z).registers (top t) h =
-      among-each (Holds s (top z).registers (top t)) (needed s i.place x) h (b.held.locals x) home.among in
+      let held : HoldsValue s (top z).registers (top t) h =
+      among-each (HoldsValue s (top z).registers (top t)) (needed s i.place x) h (b.held.locals x) home.among in
       let wide_enough : width h.ty ≡ (footprint v op).given =
       wide home.ty ∙ (ap size home.letter_is ∙ sym (given-width v letter x)) in
       let run = run_alike (renamed_cell (rename s place)) (rename s place) v w z t i there.instruction s h letter

@@ -16,7 +16,7 @@ use Rattle.jc_ops.specs.declared.operation.Operation.TheVariants.{Call}
 use Rattle.vm_store.specs.declared.cell.Cell.{Cell}
 use Rattle.vm_store.specs.State.{State, Frame, IsRunning, top}
 use Rattle.vm_step.specs.Methods.{code_at, instruction_at}
-use Rattle.vm_step.specs.Settled.{place_after}
+use Rattle.vm_step.specs.Settled.{return_place}
 use Rattle.vm_step.specs.Raising.{running}
 use Rattle.xf_plan.specs.Source.{Source}
 use Rattle.xf_plan.specs.Plan.{needed, operation}
@@ -24,7 +24,7 @@ use Rattle.xf_emission.specs.Edge.{is_stored}
 use Rattle.xf_emission.specs.Group.{body}
 use Rattle.xf_typing.specs.Edges.{CellsFillStack, NeededHaveHomes}
 use Rattle.xf_held.specs.Edges.{CellsAreFew, CopiesAreFew, EdgesRun, KeptStacksStay, StacksSpill}
-use Rattle.xf_held.specs.Held.{Holds}
+use Rattle.xf_held.specs.Held.{HoldsValue}
 use Rattle.xf_held.proofs.Standing.{steps-stand-at-places}
 use Rattle.xf_groups.specs.Laid.{IsLaidIn, body_at, count_of, steps_of}
 use Rattle.xf_groups.specs.Beside.{AreEqualBut, IsTypedAt, IsUnderCall}
@@ -60,15 +60,15 @@ calls-end stand follow v w s place laid f g reached under =
     let code : List ℕ = code_at w s.method.number in
     let here = steps-stand-at-places code place (steps_of s) n step (steps-are v w s place laid) found in
     let at : g.place ≡ place n = under.within.at ∙ ap place (under.first ∙ same) in
-    let next : place_after (instruction_at code g.place) ≡ place (n + 1) =
-    ap (λ p. place_after (instruction_at code p)) at ∙ (ap place_after here.found ∙ here.ends) in
+    let next : return_place (instruction_at code g.place) ≡ place (n + 1) =
+    ap (λ p. return_place (instruction_at code p)) at ∙ (ap return_place here.found ∙ here.ends) in
     let there : IsPlace code (place (n + 1)) =
     next-place v w s place laid stand follow i op under.within.stands some under.calls
     (ap count_of (call-kept s i under.callee)) refl in
     record {
       next =
-          subst (λ k. place_after (instruction_at (code_at w g.method) g.place) ≡ place (k + 1)) (sym same)
-          (subst (λ m. place_after (instruction_at (code_at w m) g.place) ≡ place (n + 1)) (sym method) next);
+          subst (λ k. return_place (instruction_at (code_at w g.method) g.place) ≡ place (k + 1)) (sym same)
+          (subst (λ m. return_place (instruction_at (code_at w m) g.place) ≡ place (n + 1)) (sym method) next);
       there =
           subst (λ k. IsPlace (code_at w g.method) (place (k + 1))) (sym same)
           (subst (λ m. IsPlace (code_at w m) (place (n + 1))) (sym method) there);
@@ -104,7 +104,7 @@ module _
         holds = record {
           stored = λ x e. absurd (false≢true e);
           others = λ x.
-              Each-weaker (Holds s (top z).registers (top t)) _ (λ h held free. held) (needed s i.place x) (after.locals x);
+              Each-weaker (HoldsValue s (top z).registers (top t)) _ (λ h held free. held) (needed s i.place x) (after.locals x);
         };
       }) typed after.next (after.at ∙ ap (λ k. place (body_at s i.place + k)) (sym kept))
       (fallen-plain s i op refl refl) in

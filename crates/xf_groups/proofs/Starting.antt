@@ -24,7 +24,7 @@ use Rattle.vm_store.specs.declared.cell.Cell.{Cell}
 use Rattle.vm_store.specs.declared.cell.Cell.TheVariants.{Empty}
 use Rattle.vm_store.specs.Cells.{tagged}
 use Rattle.vm_store.specs.Objects.{kinds}
-use Rattle.vm_store.specs.State.{State, Frame, IsRunning, entered, register_count, registers_of, top}
+use Rattle.vm_store.specs.State.{State, Frame, IsRunning, entered, register_count, register_count_of, top}
 use Rattle.vm_sound.specs.Frames.{least_types, types_in}
 use Rattle.vm_step.specs.Raising.{running}
 use Rattle.vm_alike.specs.Alike.{renamed_cell}
@@ -41,7 +41,7 @@ use Rattle.xf_emission.specs.Group.{group}
 use Rattle.xf_emission.specs.Laws.{LabelsStandOnce, IsCode, of_place}
 use Rattle.xf_typing.specs.Edges.{CellsFillStack, NeededHaveHomes, leads_start}
 use Rattle.xf_held.specs.Edges.{CellsAreFew, CopiesAreFew, EdgesRun, IsBeside, StacksSpill, StartsHold, insns, top_at}
-use Rattle.xf_held.specs.Held.{Holds, HoldsLocals, slots}
+use Rattle.xf_held.specs.Held.{HoldsValue, HoldsLocals, slots}
 use Rattle.xf_held.specs.Laws.{StepsExecute}
 use Rattle.xf_held.proofs.Beside.{among-each, each-among, held-as}
 use Rattle.xf_groups.specs.Laid.{IsLaidIn, count_of, group_at, rename, steps_of}
@@ -109,7 +109,7 @@ module _
   unfolding rewritten
   registers-are =
       let one : register_count w.methods s.method.number ≡ laid.code.target.rec.nargs + laid.code.target.rec.max_locals =
-      ap registers_of (target-at v w s place laid) in
+      ap register_count_of (target-at v w s place laid) in
       let two : laid.code.target.rec.nargs ≡ s.method.rec.nargs = laid.code.has.nargs ∙ laid.code.stands.nargs in
       let three : laid.code.target.rec.max_locals ≡ register_sum s.homes - s.method.rec.nargs = laid.code.has.max_locals ∙ laid.code.stands.max_locals in
       let least = homes-counted in
@@ -208,9 +208,9 @@ module _
         let small = few_copies s Start 0 laid.world laid.planned leads_start in
         let locals : HoldsLocals s (top z).place (top z) (top u) =
         subst (λ q. HoldsLocals s q (top z) (top u)) (sym at-zero)
-        (λ x. each-among (Holds s (top z).registers (top u)) (needed s 0 x)
+        (λ x. each-among (HoldsValue s (top z).registers (top u)) (needed s 0 x)
         (λ k among. held-as s (top z).registers (record (top t) { registers = c.registers }) (top u) k refl
-        (among-each (Holds s (top z).registers (record (top t) { registers = c.registers })) (needed s 0 x) k (c.locals x) among))) in
+        (among-each (HoldsValue s (top z).registers (record (top t) { registers = c.registers })) (needed s 0 x) k (c.locals x) among))) in
         record {
           count = length (insns cs);
           more = omega arith;
@@ -244,7 +244,7 @@ module _
             leader-holds v w s place laid (top z) (top u) e
             (record {
               stack = none;
-              cells = subst (λ hs. Each (Holds s (slots (top z)) (top u)) hs) (sym none-kept) tt;
+              cells = subst (λ hs. Each (HoldsValue s (slots (top z)) (top u)) hs) (sym none-kept) tt;
               locals = locals;
             })
         at-first u none locals false e =

@@ -54,9 +54,9 @@ use Rattle.xf_emission.specs.Edge.{is_stored}
 use Rattle.xf_emission.specs.Group.{body, stored}
 use Rattle.xf_emission.specs.Move.{copy}
 use Rattle.xf_held.specs.Edges.{insns, top_at, HoldsAfter, IsBeside}
-use Rattle.xf_held.specs.Held.{Holds}
+use Rattle.xf_held.specs.Held.{HoldsValue}
 use Rattle.xf_held.specs.Moves.{IsExecutable, letter_of, value_at}
-use Rattle.xf_held.specs.Stores.{AreStored, HasLocal}
+use Rattle.xf_held.specs.Stores.{IsInHomes, HasLocal}
 use Rattle.xf_held.proofs.Valued.{asked_types, IsCellOf, CellsAt, cell-of, load-asked, load-filled}
 use Rattle.xf_held.proofs.Few.{same-value, one-few}
 use Rattle.xf_held.proofs.Stores.{stores-run, none-low}
@@ -354,7 +354,7 @@ module _
           let size = g.size in
           omega (arith, later, inside, size, count)
 
-      stored_there : AreStored w s q x (top (y after rest)) t (map (renamed_cell (rename s place)) rest) (length (insns (stored s letter (needed s q x))))
+      stored_there : IsInHomes w s q x (top (y after rest)) t (map (renamed_cell (rename s place)) rest) (length (insns (stored s letter (needed s q x))))
           (place (body_at s i.place + length (insns (stored s letter (needed s q x)))))
       stored_there =
           stores-run v w l place (steps_of s) t (body_at s i.place) s letter q x (top (y after rest)) (map (renamed_cell (rename s place)) rest) laid.world laid.planned beside_y local_y
@@ -368,13 +368,13 @@ module _
       held_after = record {
         stored = λ k e. by k (stored-is letter x k e);
         others = λ k. each-among
-            (λ h. ((j : ℕ) → j < width h.ty → is_stored (ops.Store letter x) (h.slot + j) ≡ false) → Holds s after (record (top t) { registers = stored_there.registers }) h)
+            (λ h. ((j : ℕ) → j < width h.ty → is_stored (ops.Store letter x) (h.slot + j) ≡ false) → HoldsValue s after (record (top t) { registers = stored_there.registers }) h)
             (needed s i.place k) (λ h a free. other k h a free);
       }
         where
-          by : (k : ℕ) → (k ≡ x) ⊎ ((letter ≡ sorts.Int) × (k ≡ x + 1)) → Each (Holds s after (record (top t) { registers = stored_there.registers })) (needed s q k)
-          by k (inl e) = subst (λ (j : ℕ). Each (Holds s after (record (top t) { registers = stored_there.registers })) (needed s q j)) (sym e) stored_there.values
-          by k (inr (int, e)) = each-among (Holds s after (record (top t) { registers = stored_there.registers })) (needed s q k) (λ h a. absurd (never h a))
+          by : (k : ℕ) → (k ≡ x) ⊎ ((letter ≡ sorts.Int) × (k ≡ x + 1)) → Each (HoldsValue s after (record (top t) { registers = stored_there.registers })) (needed s q k)
+          by k (inl e) = subst (λ (j : ℕ). Each (HoldsValue s after (record (top t) { registers = stored_there.registers })) (needed s q j)) (sym e) stored_there.values
+          by k (inr (int, e)) = each-among (HoldsValue s after (record (top t) { registers = stored_there.registers })) (needed s q k) (λ h a. absurd (never h a))
             where
               low_w : IsSomeAnd (slice_get after (x + 1)) (IsCellOf w.classes (kinds t) IntLow)
               low_w =
@@ -388,9 +388,9 @@ module _
                   (subst (λ (j : ℕ). CellsAt w.classes (kinds t) after j (asked_types w.classes (letter_of h.ty))) (m.0 ∙ e) m.2)
 
           other : (k : ℕ) (h : Home) → IsAmong h (needed s i.place k) → ((j : ℕ) → j < width h.ty → is_stored (ops.Store letter x) (h.slot + j) ≡ false)
-              → Holds s after (record (top t) { registers = stored_there.registers }) h
+              → HoldsValue s after (record (top t) { registers = stored_there.registers }) h
           other k h a free =
-              let before : Holds s f.registers (top t) h = among-each (Holds s f.registers (top t)) (needed s i.place k) h (b.held.locals k) a in
+              let before : HoldsValue s f.registers (top t) h = among-each (HoldsValue s f.registers (top t)) (needed s i.place k) h (b.held.locals k) a in
               let has = (needed-valued v w l s laid.world laid.planned f.place f t beside_z k h (subst (λ (p : ℕ). IsAmong h (needed s p k)) (sym b.here) a)).1.has in
               stored_there.others h has
               (record {
@@ -446,8 +446,8 @@ module _
             others = λ k. each-among _ (needed s i.place k) (λ a among free. over registers a (among-each _ (needed s i.place k) a (h.others k) among free));
           }
             where
-              over : (rs : List Cell) (a : Home) → Holds s after (record (top t) { registers = rs }) a
-                  → Holds s after
+              over : (rs : List Cell) (a : Home) → HoldsValue s after (record (top t) { registers = rs }) a
+                  → HoldsValue s after
                   (record (top t) {
                     place = place (body_at s i.place + length (insns (stored s letter (needed s q x))));
                     registers = rs;

@@ -31,7 +31,7 @@ use Rattle.xf_emission.specs.Move.{copy}
 use Rattle.xf_emission.specs.Jump.{goto, label_by, lead, place as place_named, stub, stub_label, stub_of, taken, under}
 use Rattle.xf_typing.specs.Edges.{AreMatched, CellsFillStack, LeadsTo, NeededHaveHomes}
 use Rattle.xf_held.specs.Edges.{CellsAreFew, CellsRun, CopiesAreFew, EdgesRun, HoldsAfter, insns, top_at}
-use Rattle.xf_held.specs.Held.{Holds, HoldsLocals, Waits, slots}
+use Rattle.xf_held.specs.Held.{HoldsValue, HoldsLocals, Waits, slots}
 use Rattle.xf_held.specs.Laws.{StepsExecute}
 use Rattle.xf_held.proofs.Beside.{among-each, each-among, held-as, held-in-registers, held-in-slots}
 use Rattle.xf_groups.specs.Laid.{IsLaidIn, count_of, group_at, steps_of}
@@ -77,7 +77,7 @@ module _
     (p n : ℕ) (op : Operation) (y x : State Cell) (typed : IsTypedAt v s y) (equal : AreEqualBut y x) (of : AreOf s (top y) (top x))
     (leader : is_leader s (top y).place ≡ true) (leads : LeadsTo s (After p op) (top y).place) (from_p : IsReached s.method p)
     (match : AreMatched s (under s p n) (stack_homes s (top y).place))
-    (bare : (top x).stack ≡ []) (held : Each (Holds s (slots (top y)) (top x)) (under s p n))
+    (bare : (top x).stack ≡ []) (held : Each (HoldsValue s (slots (top y)) (top x)) (under s p n))
     (before : HoldsAfter s p op (top y).place (top y) (top x)) where
   abbrev q : ℕ
   q = (top y).place
@@ -90,7 +90,7 @@ module _
     pub registers : List Cell
     pub runs : Runs tagged w (count_of (taken s p op n q)) x (running (top_at x (place (m + count_of (taken s p op n q))) registers []))
     pub count : length registers ≡ length (top x).registers
-    pub cells : Each (Holds s (slots (top y)) (record (top x) { registers = registers })) (stack_homes s q)
+    pub cells : Each (HoldsValue s (slots (top y)) (record (top x) { registers = registers })) (stack_homes s q)
     pub locals : HoldsLocals s q (top y) (record (top x) { registers = registers })
 
   pub taken-runs :
@@ -142,17 +142,17 @@ module _
             (running (top_at x (place (m + count_of (cc_items ++ cs))) c.registers [])) run1 run2);
         count = c.count ∙ a.count;
         cells =
-            each-among (Holds s (slots (top y)) (record (top x) { registers = c.registers })) (stack_homes s q)
+            each-among (HoldsValue s (slots (top y)) (record (top x) { registers = c.registers })) (stack_homes s q)
             (λ h among. held-as s (slots (top y)) (record (top x1) { registers = c.registers }) (record (top x) { registers = c.registers }) h
             refl
             (c.others h (kept-registers v w s place laid fill q h keeps typed.reached among)
             (held-as s (slots (top y)) (record (top x) { registers = a.registers }) (top x1) h refl
-            (among-each (Holds s (slots (top y)) (record (top x) { registers = a.registers })) (stack_homes s q) h a.cells among))));
+            (among-each (HoldsValue s (slots (top y)) (record (top x) { registers = a.registers })) (stack_homes s q) h a.cells among))));
         locals = λ l.
-            each-among (Holds s (top y).registers (record (top x) { registers = c.registers })) (needed s q l)
+            each-among (HoldsValue s (top y).registers (record (top x) { registers = c.registers })) (needed s q l)
             (λ h among. held-as s (top y).registers (record (top x1) { registers = c.registers }) (record (top x) { registers = c.registers })
             h refl
-            (among-each (Holds s (top y).registers (record (top x1) { registers = c.registers })) (needed s q l) h (c.locals l) among));
+            (among-each (HoldsValue s (top y).registers (record (top x1) { registers = c.registers })) (needed s q l) h (c.locals l) among));
       }
 
   -- at the group, once they are done
@@ -162,7 +162,7 @@ module _
       → k ≤ most
       → Runs tagged w k x (running (top_at x (place (group_at s q)) registers []))
       → length registers ≡ length (top x).registers
-      → Each (Holds s (slots (top y)) (record (top x) { registers = registers })) (stack_homes s q)
+      → Each (HoldsValue s (slots (top y)) (record (top x) { registers = registers })) (stack_homes s q)
       → HoldsLocals s q (top y) (record (top x) { registers = registers })
       → ComesWithin w least most x (ComesToGroup s place y x)
   arrives least most k registers some small run count in_cells locals =
@@ -190,13 +190,13 @@ module _
                   (record {
                     stack = refl;
                     cells =
-                        each-among (Holds s (slots (top y)) (top u)) (stack_homes s q)
+                        each-among (HoldsValue s (slots (top y)) (top u)) (stack_homes s q)
                         (λ h among. held-as s (slots (top y)) (record (top x) { registers = registers }) (top u) h refl
-                        (among-each (Holds s (slots (top y)) (record (top x) { registers = registers })) (stack_homes s q) h in_cells among));
+                        (among-each (HoldsValue s (slots (top y)) (record (top x) { registers = registers })) (stack_homes s q) h in_cells among));
                     locals = λ l.
-                        each-among (Holds s (top y).registers (top u)) (needed s q l)
+                        each-among (HoldsValue s (top y).registers (top u)) (needed s q l)
                         (λ h among. held-as s (top y).registers (record (top x) { registers = registers }) (top u) h refl
-                        (among-each (Holds s (top y).registers (record (top x) { registers = registers })) (needed s q l) h (locals l)
+                        (among-each (HoldsValue s (top y).registers (record (top x) { registers = registers })) (needed s q l) h (locals l)
                         among));
                   });
             };

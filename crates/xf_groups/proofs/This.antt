@@ -45,7 +45,7 @@ use Rattle.xf_emission.specs.Group.{body}
 use Rattle.xf_typing.specs.Whole.{DerivedAreWhole}
 use Rattle.xf_typing.proofs.Below.{loads-same}
 use Rattle.xf_typing.proofs.Running.{found-below, is-reference, local-at, value-one}
-use Rattle.xf_held.specs.Held.{Holds}
+use Rattle.xf_held.specs.Held.{HoldsValue}
 use Rattle.xf_held.specs.Laws.{LocalsStay, StepsExecute}
 use Rattle.xf_held.specs.Moves.{IsExecutable}
 use Rattle.xf_held.proofs.Beside.{among-each}
@@ -151,8 +151,8 @@ module _
       (λ falls. subst (λ m. IsPlace (code_at w m) (place (own + 1))) (sym b.of.target)
       (next-place v w s place laid stand follow i op b.stands b.reached b.does count reads.falls)) in
       let again : demands w (renamed_new f op) ≡ demands v op = ap (demands w) (reads.same f) ∙ sym (demanded v w op laid.code.same) in
-      let held : Holds s (top z).registers (top t) h =
-      among-each (Holds s (top z).registers (top t)) (needed s i.place 0) h (b.held.locals 0) among in
+      let held : HoldsValue s (top z).registers (top t) h =
+      among-each (HoldsValue s (top z).registers (top t)) (needed s i.place 0) h (b.held.locals 0) among in
       let wide_enough = some-width ty in
       let inside = held.there in
       let first : slice_get (top t).registers 0 ≡ slice_get (top z).registers 0 =

@@ -66,7 +66,7 @@ use Rattle.xf_emission.specs.Move.{load}
 use Rattle.xf_typing.proofs.Rows.{read-on-stack}
 use Rattle.vm_sound.proofs.Passing.{passes-before}
 use Rattle.xf_held.specs.Edges.{insns, top_at, IsBeside}
-use Rattle.xf_held.specs.Held.{Holds, HoldsLocals}
+use Rattle.xf_held.specs.Held.{HoldsValue, HoldsLocals}
 use Rattle.xf_held.specs.Laws.{ExecutesStep, StepsExecute}
 use Rattle.xf_held.specs.Moves.{IsExecutable, letter_of, value_at, size, end_of, load_of, InstructionsStandFrom as StandAmong}
 use Rattle.xf_held.proofs.Copies.{wide}
@@ -75,7 +75,7 @@ use Rattle.xf_held.proofs.Loading.{loads-run, step-place}
 use Rattle.xf_held.proofs.Valued.{asked_types, CellsAt}
 use Rattle.xf_held.proofs.Beside.{AreLaws, among-each, held-can-load, needed-valued, register-small}
 use Rattle.xf_groups.specs.Laid.{IsLaidIn, body_at, count_of, group_at, rename, steps_of}
-use Rattle.xf_groups.specs.Beside.{AreEqualBut, AreOf, IsTypedAt, IsWithin, StaysTyped}
+use Rattle.xf_groups.specs.Beside.{AreEqualBut, AreOf, IsTypedAt, StandsInGroup, StaysTyped}
 use Rattle.xf_groups.specs.Body.{AreAfter, AreAtBody, BodyComes, BodyRuns, body_done, body_falls}
 use Rattle.xf_groups.specs.Comes.{group_raises}
 use Rattle.xf_groups.specs.Steps.{GroupsFollow, GroupsStandAtSteps, ItemsStandFrom}
@@ -123,7 +123,7 @@ cells-same z t (suc h) e = ap (λ (os : List (Object Cell)). cells_in (slice_get
 
 pub same-locals : (s : Source) (p : ℕ) (f g k : Frame Cell) → k.registers ≡ g.registers → HoldsLocals s p f g → HoldsLocals s p f k
 same-locals s p f g k e locals x =
-    Each-weaker (Holds s f.registers g) (Holds s f.registers k) (λ h held. record {
+    Each-weaker (HoldsValue s f.registers g) (HoldsValue s f.registers k) (λ h held. record {
       known = held.known;
       there = subst (λ (rs : List Cell). register s h + width h.ty ≤ length rs) (sym e) held.there;
       equal = λ n lt. ap (λ (rs : List Cell). slice_get rs (register s h + n)) e ∙ held.equal n lt;
@@ -200,8 +200,8 @@ module _
 
     -- ---- the load
 
-    held : Holds s f.registers (top t) (record { slot = 0; ty = home.ty })
-    held = among-each (Holds s f.registers (top t)) (needed s i.place 0) (record { slot = 0; ty = home.ty }) (b.held.locals 0) home.among
+    held : HoldsValue s f.registers (top t) (record { slot = 0; ty = home.ty })
+    held = among-each (HoldsValue s f.registers (top t)) (needed s i.place 0) (record { slot = 0; ty = home.ty }) (b.held.locals 0) home.among
 
     some : 0 < width home.ty
     some = let e = wide home.ty in let k = ap size home.letter_is in omega (arith, e, k)
@@ -263,7 +263,7 @@ module _
         (subst (λ (m : ℕ). IsPlace (code_at w m) (place (body_at s i.place + 1 + 1))) (sym b.of.target)
         (step-place (code_at w s.method.number) place (steps_of s) (body_at s i.place + 1 + 1) (steps-are v w s place laid) (omega (arith, further))))
 
-    within : IsWithin s place f (top t1)
+    within : StandsInGroup s place f (top t1)
     within =
         let size = g.size in
         record {
@@ -359,7 +359,7 @@ module _
                 stack = stack_is;
                 holds = record {
                   stored = λ x k. absurd (never k);
-                  others = λ x. Each-weaker (Holds s f.registers (top t)) _
+                  others = λ x. Each-weaker (HoldsValue s f.registers (top t)) _
                       (λ a own free. record { known = own.known; there = own.there; equal = own.equal }) (needed s i.place x) (b.held.locals x);
                 };
               }) refl refl (ex.ends ∙ ap place last);

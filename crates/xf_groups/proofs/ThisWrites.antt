@@ -69,7 +69,7 @@ use Rattle.xf_typing.proofs.Rows.{write-on-stack}
 use Rattle.vm_alike.proofs.Storing.{object-written}
 use Rattle.vm_sound.proofs.Passing.{passes-before}
 use Rattle.xf_held.specs.Edges.{insns, top_at, IsBeside}
-use Rattle.xf_held.specs.Held.{Holds, HoldsLocals}
+use Rattle.xf_held.specs.Held.{HoldsValue, HoldsLocals}
 use Rattle.xf_held.specs.Laws.{ExecutesStep, StepsExecute}
 use Rattle.xf_held.specs.Moves.{IsExecutable, letter_of, value_at, size, end_of, load_of, InstructionsStandFrom as StandAmong}
 use Rattle.xf_held.proofs.Copies.{wide}
@@ -78,7 +78,7 @@ use Rattle.xf_held.proofs.Loading.{loads-run, step-place}
 use Rattle.xf_held.proofs.Valued.{asked_types, CellsAt}
 use Rattle.xf_held.proofs.Beside.{AreLaws, among-each, held-can-load, needed-valued, register-small}
 use Rattle.xf_groups.specs.Laid.{IsLaidIn, body_at, count_of, group_at, rename, steps_of}
-use Rattle.xf_groups.specs.Beside.{AreEqualBut, AreOf, IsTypedAt, IsWithin, StaysTyped}
+use Rattle.xf_groups.specs.Beside.{AreEqualBut, AreOf, IsTypedAt, StandsInGroup, StaysTyped}
 use Rattle.xf_groups.specs.Body.{AreAfter, AreAtBody, BodyComes, BodyRuns, body_done, body_falls}
 use Rattle.xf_groups.specs.Comes.{group_raises}
 use Rattle.xf_groups.specs.Steps.{GroupsFollow, GroupsStandAtSteps, ItemsStandFrom}
@@ -145,8 +145,8 @@ module _
 
     -- ---- the load
 
-    held : Holds s f.registers (top t) (record { slot = 0; ty = home.ty })
-    held = among-each (Holds s f.registers (top t)) (needed s i.place 0) (record { slot = 0; ty = home.ty }) (b.held.locals 0) home.among
+    held : HoldsValue s f.registers (top t) (record { slot = 0; ty = home.ty })
+    held = among-each (HoldsValue s f.registers (top t)) (needed s i.place 0) (record { slot = 0; ty = home.ty }) (b.held.locals 0) home.among
 
     some : 0 < width home.ty
     some = let e = wide home.ty in let k = ap size home.letter_is in omega (arith, e, k)
@@ -254,7 +254,7 @@ module _
         (subst (λ m. AreSteps (code_at w m) place 0 (steps_of s) (listing (code_at w m))) (sym b.of.target) (steps-are v w s place laid))
         there.1.1.0 refl resolves
 
-    within : IsWithin s place f (top t2)
+    within : StandsInGroup s place f (top t2)
     within =
         let size = g.size in
         record {
@@ -377,7 +377,7 @@ module _
                 stack = stack_is;
                 holds = record {
                   stored = λ x k. absurd (never k);
-                  others = λ x. Each-weaker (Holds s f.registers (top t)) _
+                  others = λ x. Each-weaker (HoldsValue s f.registers (top t)) _
                       (λ a own free. record { known = own.known; there = own.there; equal = own.equal }) (needed s i.place x) (b.held.locals x);
                 };
               }) refl refl (ex.ends ∙ ap place last);

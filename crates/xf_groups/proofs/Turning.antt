@@ -23,7 +23,7 @@ use Rattle.vm_store.specs.State.{State, Frame, IsRunning, other_frames, top, wit
 use Rattle.vm_step.specs.Methods.{code_at}
 use Rattle.vm_step.specs.Numbers.{dropped}
 use Rattle.vm_step.specs.Raising.{Outcome, running}
-use Rattle.vm_step.specs.Settled.{fault_target, jumps_to, place_of as number_of}
+use Rattle.vm_step.specs.Settled.{fault_target, jumps_to, place_number as number_of}
 use Rattle.vm_step.specs.Step.{Steps, performed, performs}
 use Rattle.vm_step.specs.Tests.{fault_before}
 use Rattle.vm_step.proofs.Running.{steps-one}
@@ -42,7 +42,7 @@ use Rattle.xf_emission.specs.Move.{spill}
 use Rattle.xf_typing.specs.Edges.{CellsFillStack, NeededHaveHomes, leads_after}
 use Rattle.vm_sound.proofs.Branches.{targets-are}
 use Rattle.xf_held.specs.Edges.{CellsAreFew, CopiesAreFew, EdgesRun, HoldsAfter, KeptStacksStay, LeadersLoad, StacksSpill}
-use Rattle.xf_held.specs.Held.{Holds}
+use Rattle.xf_held.specs.Held.{HoldsValue}
 use Rattle.xf_held.specs.Laws.{StepsExecute}
 use Rattle.xf_groups.specs.Laid.{IsLaidIn, body_at, rename}
 use Rattle.xf_groups.specs.Beside.{AreEqualBut, AreOf, IsAtGroup, IsTypedAt, StaysTyped}
@@ -156,8 +156,8 @@ module _
       record {
         stored = λ x k. absurd (false≢true k);
         others = λ x.
-            Each-weaker (Holds s (top z).registers (top u)) _ (λ h held free. held) (needed s i.place x)
-            (subst (λ p. Each (Holds s (top z).registers (top u)) (needed s p x)) turn.here (e.held.locals x));
+            Each-weaker (HoldsValue s (top z).registers (top u)) _ (λ h held free. held) (needed s i.place x)
+            (subst (λ p. Each (HoldsValue s (top z).registers (top u)) (needed s p x)) turn.here (e.held.locals x));
       } in
       let c = spilled-goes v w s place laid stand follow executed needs fill spills edges few_copies few_cells y u (After i.place op) typed_y
       equal_y of_y leader leads (body_at s i.place) st (e.at ∙ ap (λ p. place (body_at s p)) turn.here) same

@@ -18,7 +18,7 @@ use Rattle.vm_alike.specs.Alike.{renamed_cell}
 use Rattle.xf_homes.specs.Order.{register_sum}
 use Rattle.xf_plan.specs.Source.{Source}
 use Rattle.xf_plan.specs.Plan.{is_leader, operation}
-use Rattle.xf_held.specs.Held.{HoldsLocals, Held, Waits}
+use Rattle.xf_held.specs.Held.{HoldsLocals, HoldsFrame, Waits}
 use Rattle.xf_groups.specs.Laid.{IsInGroup, body_at, group_at, rename}
 
 -- ---- frames
@@ -32,7 +32,7 @@ pub record AreOf (s : Source) (f g : Frame Cell) : Type 0 where
 -- at a leader the stack waits in homes, and elsewhere it is held
 abbrev pub HeldOrWaits : Bool → Source → (ℕ → ℕ) → Frame Cell → Frame Cell → Type 0
 HeldOrWaits true s place f g = Waits s f.place f g
-HeldOrWaits false s place f g = Held (renamed_cell (rename s place)) s f.place f g
+HeldOrWaits false s place f g = HoldsFrame (renamed_cell (rename s place)) s f.place f g
 
 -- g is at the first step of the group of the place of f, and holds f there
 pub record IsAtGroup (s : Source) (place : ℕ → ℕ) (f g : Frame Cell) : Type 0 where
@@ -41,7 +41,7 @@ pub record IsAtGroup (s : Source) (place : ℕ → ℕ) (f g : Frame Cell) : Typ
   pub holds : HeldOrWaits (is_leader s f.place) s place f g
 
 -- g is at one of the steps of the group of the place of f, and holds its locals
-pub record IsWithin (s : Source) (place : ℕ → ℕ) (f g : Frame Cell) : Type 0 where
+pub record StandsInGroup (s : Source) (place : ℕ → ℕ) (f g : Frame Cell) : Type 0 where
   pub of : AreOf s f g
   pub instruction : Placed
   pub stands : HasInstruction s.method.code instruction
@@ -53,7 +53,7 @@ pub record IsWithin (s : Source) (place : ℕ → ℕ) (f g : Frame Cell) : Type
 
 -- g is at the call for which that of f stands, once the arguments are popped, and holds f
 pub record IsUnderCall (s : Source) (place : ℕ → ℕ) (f g : Frame Cell) : Type 0 where
-  pub within : IsWithin s place f g
+  pub within : StandsInGroup s place f g
   pub callee : Callee
   pub calls : operation s within.instruction ≡ Ok (Call callee)
   pub first : within.step ≡ body_at s f.place

@@ -19,7 +19,7 @@ use Rattle.vm_alike.specs.Running.{Executes}
 use Rattle.xf_plan.specs.Source.{Source}
 use Rattle.xf_plan.specs.Plan.{operation}
 use Rattle.xf_emission.specs.Group.{body}
-use Rattle.xf_held.specs.Held.{Held}
+use Rattle.xf_held.specs.Held.{HoldsFrame}
 use Rattle.xf_held.specs.Edges.{HoldsAfter}
 use Rattle.xf_groups.specs.Laid.{IsLaidIn, body_at, count_of, rename}
 use Rattle.xf_groups.specs.Beside.{AreEqualBut, AreOf, IsTypedAt, SameUnder}
@@ -60,7 +60,7 @@ pub record AreAtBody (v w : Linked) (s : Source) (place : ℕ → ℕ) (i : Plac
   pub of : AreOf s (top z) (top t)
   pub here : (top z).place ≡ i.place
   pub at : (top t).place ≡ place (body_at s i.place)
-  pub held : Held (renamed_cell (rename s place)) s i.place (top z) (top t)
+  pub held : HoldsFrame (renamed_cell (rename s place)) s i.place (top z) (top t)
 
 -- the steps of the target for that instruction: one at least, and no more than a store with its copies takes
 abbrev pub BodyRuns :

@@ -18,7 +18,7 @@ use Rattle.vm_step.specs.Settled.{given_to}
 use Rattle.vm_alike.specs.Alike.{renamed_cell}
 use Rattle.vm_alike.specs.Running.{Executes}
 use Rattle.xf_plan.specs.Source.{Source}
-use Rattle.xf_groups.specs.Beside.{AreEqualBut, IsAtGroup, IsUnderCall, IsWithin, MovesTop, SameUnder}
+use Rattle.xf_groups.specs.Beside.{AreEqualBut, IsAtGroup, IsUnderCall, StandsInGroup, MovesTop, SameUnder}
 
 -- no fewer steps than the one number, and no more than the other, lead to an outcome such as this
 pub record ComesWithin (w : Linked) (least most : ℕ) (t : State Cell) (P : Outcome Cell → Type 0) : Type 0 where
@@ -68,7 +68,7 @@ pub record CallAlike (v w : Linked) (s : Source) (place : ℕ → ℕ) (z t : St
 -- before an exception or an object is thrown from the group of the place of z
 pub record IsWithinGroup (s : Source) (place : ℕ → ℕ) (z t u : State Cell) : Type 0 where
   pub moves : MovesTop t u
-  pub within : IsWithin s place (top z) (top u)
+  pub within : StandsInGroup s place (top z) (top u)
 
 -- what a step from z in the world v and steps from t in the world w come to, where another method runs next, or none
 pub data GroupComes (v w : Linked) (s : Source) (place : ℕ → ℕ) (z t : State Cell) : Outcome Cell → Outcome Cell → Type 0 where

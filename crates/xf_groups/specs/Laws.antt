@@ -19,7 +19,7 @@ use Rattle.vm_store.specs.Cells.{tagged}
 use Rattle.vm_store.specs.State.{State, Frame, entered, top}
 use Rattle.vm_step.specs.Methods.{code_at, instruction_at, max_stack_of}
 use Rattle.vm_step.specs.Raising.{Outcome, handler_for}
-use Rattle.vm_step.specs.Settled.{place_after}
+use Rattle.vm_step.specs.Settled.{return_place}
 use Rattle.vm_step.specs.Step.{Steps}
 use Rattle.vm_alike.specs.Alike.{IsOneToOne, renamed_cell}
 use Rattle.vm_alike.specs.Running.{Executes}
@@ -30,7 +30,7 @@ use Rattle.xf_emission.specs.Emission.{is_live, items}
 use Rattle.xf_emission.specs.Jump.{handler_label}
 use Rattle.xf_held.specs.Held.{HoldsLocals}
 use Rattle.xf_groups.specs.Laid.{IsLaidIn, body_at, rename}
-use Rattle.xf_groups.specs.Beside.{AreEqualBut, AreOf, IsAtGroup, IsTypedAt, IsUnderCall, IsWithin, StaysTyped}
+use Rattle.xf_groups.specs.Beside.{AreEqualBut, AreOf, IsAtGroup, IsTypedAt, IsUnderCall, StandsInGroup, StaysTyped}
 use Rattle.xf_groups.specs.Comes.{ComesToGroup, ComesWithin, GroupRuns}
 
 -- ---- places
@@ -114,7 +114,7 @@ ForkGroupsRun v =
 
 -- a frame under a call goes on at the step after it, where an instruction is
 pub record EndsAtNext (w : Linked) (s : Source) (place : ℕ → ℕ) (f g : Frame Cell) : Type 0 where
-  pub next : place_after (instruction_at (code_at w g.method) g.place) ≡ place (body_at s f.place + 1)
+  pub next : return_place (instruction_at (code_at w g.method) g.place) ≡ place (body_at s f.place + 1)
   pub there : IsPlace (code_at w g.method) (place (body_at s f.place + 1))
 
 abbrev pub EndCalls : Linked → Source → (ℕ → ℕ) → Type 0
@@ -197,7 +197,7 @@ abbrev pub CatchInGroups : Linked → Linked → Source → (ℕ → ℕ) → Ty
 CatchInGroups v w s place =
     (class : ℕ) (f g : Frame Cell)
     → IsReached s.method f.place
-    → IsWithin s place f g
+    → StandsInGroup s place f g
     → CatchAlike v w s place class f g
 
 abbrev pub GroupsCatch : Linked → Type 0

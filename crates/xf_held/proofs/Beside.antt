@@ -28,11 +28,11 @@ use Rattle.xf_homes.specs.Value.{value_at, width}
 use Rattle.xf_homes.specs.Walk.{register_from}
 use Rattle.xf_plan.specs.Source.{Source}
 use Rattle.xf_plan.specs.Plan.{stack_homes, needed, or_first, register}
-use Rattle.xf_typing.specs.Planned.{IsPlanned, Keeps}
+use Rattle.xf_typing.specs.Planned.{IsPlanned, KeepsValues}
 use Rattle.xf_typing.specs.Edges.{NeededHaveHomes, IsNeededFor, slot_types, FillStack, CellsFillStack, EdgesCarry}
 use Rattle.xf_typing.proofs.Registers.{both-below}
 use Rattle.xf_held.specs.Edges.{IsBeside}
-use Rattle.xf_held.specs.Held.{Holds, slots}
+use Rattle.xf_held.specs.Held.{HoldsValue, slots}
 use Rattle.xf_held.specs.Moves.{IsExecutable, size, letter_of, CanLoad, OwnRegisters}
 use Rattle.xf_held.proofs.Copies.{homes-own-registers, wide}
 use Rattle.xf_held.proofs.Valued.{asked_types, asked-size, CellsAt, cells-moved, cells-left, value-inside, load-asked, load-filled, value-cells}
@@ -63,7 +63,7 @@ among-each P (k ∷ ks) h all (inr a) = among-each P ks h all.1 a
 
 -- ---- held values, whatever else the frame has
 
-pub held-as : (s : Source) (values : List Cell) (g k : Frame Cell) (h : Home) → k.registers ≡ g.registers → Holds s values g h → Holds s values k h
+pub held-as : (s : Source) (values : List Cell) (g k : Frame Cell) (h : Home) → k.registers ≡ g.registers → HoldsValue s values g h → HoldsValue s values k h
 held-as s values g k h e held = record {
   known = held.known;
   there = subst (λ (rs : List Cell). register s h + width h.ty ≤ length rs) (sym e) held.there;
@@ -76,14 +76,14 @@ get-left (x ∷ xs) ys zero lt = refl
 get-left (x ∷ xs) ys (suc n) lt = get-left xs ys n (omega (arith, lt))
 
 -- a local among all slots
-pub held-in-slots : (s : Source) (f g : Frame Cell) (h : Home) → Holds s f.registers g h → Holds s (slots f) g h
+pub held-in-slots : (s : Source) (f g : Frame Cell) (h : Home) → HoldsValue s f.registers g h → HoldsValue s (slots f) g h
 held-in-slots s f g h held = record {
   known = let le = held.known in omega (arith, le, length-append f.registers (reverse f.stack));
   there = held.there;
   equal = λ n lt. held.equal n lt ∙ sym (get-left f.registers (reverse f.stack) (h.slot + n) (let le = held.known in omega (arith, le, lt)));
 }
 
-pub held-in-registers : (s : Source) (f g : Frame Cell) (h : Home) → h.slot + width h.ty ≤ length f.registers → Holds s (slots f) g h → Holds s f.registers g h
+pub held-in-registers : (s : Source) (f g : Frame Cell) (h : Home) → h.slot + width h.ty ≤ length f.registers → HoldsValue s (slots f) g h → HoldsValue s f.registers g h
 held-in-registers s f g h inside held = record {
   known = inside;
   there = held.there;
@@ -167,23 +167,23 @@ module _ (v w : Linked) (l : AreLaws v w) (s : Source) (is : s.world ≡ v) (pla
         subst (λ us. CellsBelow w.classes us (slot_types typed.frame)) (sym parts)
         (both-below w.classes (reverse (map ty f.stack)) (reverse typed.frame.stack) typed.below.regs (order.turned typed.below.stack))
 
-    known-there : (h : Home) → Keeps s h → IsKnown w.classes h.ty
+    known-there : (h : Home) → KeepsValues s h → IsKnown w.classes h.ty
     known-there h keeps = subst (λ (c : ClassTable). IsKnown c h.ty) (sym beside.classes) keeps.known
 
     -- the values of a stack that is kept are of the types of their homes
     pub cells-valued :
         KeepsStack s.world s.method s.frames q → (h : Home) → IsAmong h (stack_homes s q)
-        → Keeps s h × CellsAt w.classes (kinds t) (slots f) h.slot (asked_types w.classes (letter_of h.ty))
+        → KeepsValues s h × CellsAt w.classes (kinds t) (slots f) h.slot (asked_types w.classes (letter_of h.ty))
     cells-valued keeps h a =
         let filled = (subst CellsFillStack (sym is) l.fill) s refl plan q typed.frame typed.at keeps in
-        let k = among-each (Keeps s) (stack_homes s q) h filled.keep a in
+        let k = among-each (KeepsValues s) (stack_homes s q) h filled.keep a in
         let value = among-each (λ k. value_at (slot_types typed.frame) k.slot ≡ Some k.ty) (stack_homes s q) h filled.values a in
         (k, value-cells w.classes types objects (kinds t) (slots f) (slot_types typed.frame) slots-below h.slot h.ty value k.kept (known-there h k))
 
     -- and so are those of locals that are needed
     pub needed-valued :
         (x : ℕ) (h : Home) → IsAmong h (needed s q x)
-        → (h.slot ≡ x) × Keeps s h × CellsAt w.classes (kinds t) f.registers h.slot (asked_types w.classes (letter_of h.ty))
+        → (h.slot ≡ x) × KeepsValues s h × CellsAt w.classes (kinds t) f.registers h.slot (asked_types w.classes (letter_of h.ty))
     needed-valued x h a =
         let n = (subst NeededHaveHomes (sym is) l.needed) s refl plan q x typed.frame h typed.at a in
         let above : CellsBelow w.classes typed.frame.regs n.types = subst (λ (c : ClassTable). CellsBelow c typed.frame.regs n.types) (sym beside.classes) n.above in (
@@ -196,7 +196,7 @@ module _ (v w : Linked) (l : AreLaws v w) (s : Source) (is : s.world ≡ v) (pla
 -- a value that stands in a home can be loaded
 pub held-can-load :
     (w : Linked) (s : Source) (values : List Cell) (t : State Cell) (h : Home) → register s h < 256
-    → Holds s values (top t) h → CellsAt w.classes (kinds t) values h.slot (asked_types w.classes (letter_of h.ty)) → CanLoad w s t h
+    → HoldsValue s values (top t) h → CellsAt w.classes (kinds t) values h.slot (asked_types w.classes (letter_of h.ty)) → CanLoad w s t h
 held-can-load w s values t h small held value =
     let there : CellsAt w.classes (kinds t) (top t).registers (register s h) (asked_types w.classes (letter_of h.ty)) =
     cells-moved w.classes (kinds t) values (top t).registers h.slot (register s h) (asked_types w.classes (letter_of h.ty))

@@ -35,7 +35,7 @@ use Rattle.xf_emission.specs.declared.origin.Origin.{Origin}
 use Rattle.xf_emission.specs.Edge.{home_before, held, copy_new, copies_from, local_copies, locals_copies, cell_copies}
 use Rattle.xf_emission.specs.Move.{copy, load_op}
 use Rattle.xf_held.specs.Edges.{insns}
-use Rattle.xf_held.specs.Held.{Holds}
+use Rattle.xf_held.specs.Held.{HoldsValue}
 use Rattle.xf_held.specs.Moves.{IsExecutable, size, letter_of, InstructionsStandFrom, copy_of, CanLoad, OwnRegisters, IsCopy}
 use Rattle.xf_held.proofs.Copies.{homes-are-copied}
 use Rattle.xf_held.proofs.Valued.{asked_types, CellsAt}
@@ -164,7 +164,7 @@ module _
 
   -- the value stands in the home
   abbrev Has : List Cell → Home → Type 0
-  Has registers h = Holds s values (frame 0 registers) h
+  Has registers h = HoldsValue s values (frame 0 registers) h
 
   -- after some copies: each value stands where it stood
   pub record Went (n : ℕ) (registers : List Cell) (count : ℕ) (ks : List Home) : Type 0 where
@@ -221,7 +221,7 @@ module _
       → Went n registers (2 * length ks) ks
   copy-fits n registers from ks stand further stood fits copies =
       let t : State Cell = at (place n) registers in
-      let held : Holds s values (frame (place n) registers) from = held-as s values (frame 0 registers) (frame (place n) registers) from refl stood.holds in
+      let held : HoldsValue s values (frame (place n) registers) from = held-as s values (frame 0 registers) (frame (place n) registers) from refl stood.holds in
       let can : CanLoad w s t from = held-can-load w s values t from stood.small held stood.value in
       let ran = homes-are-copied w world place steps t n s values from ks owns
       (record { runs = omega arith; method = m; is_method = is_method; are = are; at = refl; further = further })
@@ -232,7 +232,7 @@ module _
         many = ran.count;
         keeps = λ a own value. held-as s values (frame (place n) ran.registers) (frame 0 ran.registers) a refl
             (ran.others a own (held-as s values (frame 0 registers) (frame (place n) registers) a refl value));
-        holds = each-map (Holds s values (frame (place n) ran.registers)) (Has ran.registers) ks
+        holds = each-map (HoldsValue s values (frame (place n) ran.registers)) (Has ran.registers) ks
             (λ k value. held-as s values (frame (place n) ran.registers) (frame 0 ran.registers) k refl value) ran.copies;
       }
 

@@ -24,12 +24,12 @@ use Rattle.xf_plan.specs.Source.{Source}
 use Rattle.xf_plan.specs.Plan.{stack_homes, home_of, or_first, register}
 use Rattle.xf_emission.specs.declared.origin.Origin.TheVariants.{Start}
 use Rattle.xf_emission.specs.Edge.{cell_copies}
-use Rattle.xf_typing.specs.Planned.{IsPlanned, Keeps}
+use Rattle.xf_typing.specs.Planned.{IsPlanned, KeepsValues}
 use Rattle.xf_typing.proofs.Ready.{IsValueAt, value-is}
 use Rattle.xf_typing.proofs.Moves.{get-inside}
 use Rattle.xf_typing.specs.Edges.{AreMatched, none_matched, more_matched}
 use Rattle.xf_held.specs.Edges.{insns, top_at, IsBeside, AreMoved, CellsRun, HoldsBefore, StartsHold}
-use Rattle.xf_held.specs.Held.{Holds, slots}
+use Rattle.xf_held.specs.Held.{HoldsValue, slots}
 use Rattle.xf_held.specs.Moves.{size, letter_of, InstructionsStandFrom, IsAtStep}
 use Rattle.xf_held.proofs.Valued.{asked_types, CellsAt}
 use Rattle.xf_held.proofs.Beside.{AreLaws, each-among, among-each, own, register-inside, register-small, cells-valued, held-as, get-left}
@@ -49,7 +49,7 @@ module _ (v w : Linked) (l : AreLaws v w) (place : ℕ → ℕ) (steps : List St
     room = omega (arith, low, beside.room)
 
     pairs-of :
-        {hs ks : List Home} → AreMatched s hs ks → Each (Holds s (slots f) g) hs → ((k : Home) → IsAmong k ks → IsAmong k (stack_homes s q))
+        {hs ks : List Home} → AreMatched s hs ks → Each (HoldsValue s (slots f) g) hs → ((k : Home) → IsAmong k ks → IsAmong k (stack_homes s q))
         → ArePairs w l.world place steps s (own v w l s is plan) (slots f) g.method g.stack below heap statics at.method at.is_method at.are room g.registers hs ks
     pairs-of none_matched held inside = no_pairs
     pairs-of (more_matched {h = h} {k = k} slot of_h of_k loads more) held inside =
@@ -80,7 +80,7 @@ module _ (v w : Linked) (l : AreLaws v w) (place : ℕ → ℕ) (steps : List St
         by slot (inr reference) = inr reference
 
     run-cells :
-        (hs ks : List Home) → AreMatched s hs ks → Each (Holds s (slots f) g) hs → ((k : Home) → IsAmong k ks → IsAmong k (stack_homes s q))
+        (hs ks : List Home) → AreMatched s hs ks → Each (HoldsValue s (slots f) g) hs → ((k : Home) → IsAmong k ks → IsAmong k (stack_homes s q))
         → count ≡ length (insns (cell_copies s hs ks)) → InstructionsStandFrom steps n (insns (cell_copies s hs ks))
         → AreMoved w s f t ks (length (insns (cell_copies s hs ks))) (place (n + length (insns (cell_copies s hs ks))))
     run-cells hs ks matched held inside is_count stand =
@@ -96,9 +96,9 @@ module _ (v w : Linked) (l : AreLaws v w) (place : ℕ → ℕ) (steps : List St
               Runs tagged w (length (insns (cell_copies s hs ks))) x (running (top_at t (place (n + length (insns (cell_copies s hs ks)))) ran.after g.stack)))
               begins ran.runs;
           count = ran.many;
-          cells = each-among (Holds s (slots f) (record g { registers = ran.after })) ks
+          cells = each-among (HoldsValue s (slots f) (record g { registers = ran.after })) ks
               (λ k a. held-as s (slots f) (record { method = g.method; place = 0; registers = ran.after; stack = g.stack }) (record g { registers = ran.after }) k refl
-              (among-each (Holds s (slots f) (record { method = g.method; place = 0; registers = ran.after; stack = g.stack })) ks k ran.holds a));
+              (among-each (HoldsValue s (slots f) (record { method = g.method; place = 0; registers = ran.after; stack = g.stack })) ks k ran.holds a));
           others = λ h has held.
               held-as s (slots f) (record { method = g.method; place = 0; registers = ran.after; stack = g.stack }) (record g { registers = ran.after }) h refl
               (ran.keeps h has (held-as s (slots f) g (record { method = g.method; place = 0; registers = g.registers; stack = g.stack }) h refl held));
@@ -112,7 +112,7 @@ module _ (v w : Linked) (l : AreLaws v w) (place : ℕ → ℕ) (steps : List St
       → InstructionsStandFrom steps n (insns (cell_copies s hs ks))
       → length (first_frame fs).stack ≤ s.method.rec.max_stack
       → ((k : Home) → IsAmong k ks → IsAmong k (stack_homes s q))
-      → Each (Holds s (slots f) (first_frame fs)) hs
+      → Each (HoldsValue s (slots f) (first_frame fs)) hs
       → AreMoved w s f (record { frames = fs; heap = heap; statics = statics }) ks (length (insns (cell_copies s hs ks)))
       (place (n + length (insns (cell_copies s hs ks))))
   cells-frames [] heap statics n hs ks beside matched at stand low inside held = absurd (let lt = at.runs in omega (arith, lt))
@@ -135,7 +135,7 @@ value-width types x ty is = one ty (get-inside types x ty is.first)
 pub starts-hold : (v : Linked) → HomesServe v → StartsHold v
 starts-hold v serves s f g args a b is plan left right count x = by (value_at (argument_types s.method.rec) x) refl
   where
-    by : (o : Option Ty) → value_at (argument_types s.method.rec) x ≡ o → IfSome (home_of x o) (Holds s f.registers g)
+    by : (o : Option Ty) → value_at (argument_types s.method.rec) x ≡ o → IfSome (home_of x o) (HoldsValue s f.registers g)
     by None e = tt
     by (Some ty) e =
         let h : Home = record { slot = x; ty = ty } in

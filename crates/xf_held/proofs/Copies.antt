@@ -39,7 +39,7 @@ use Rattle.xf_homes.specs.Walk.{register_from}
 use Rattle.xf_plan.specs.Source.{Source}
 use Rattle.xf_plan.specs.Plan.{or_first, register}
 use Rattle.xf_emission.specs.Move.{with_byte, store_op}
-use Rattle.xf_held.specs.Held.{Holds}
+use Rattle.xf_held.specs.Held.{HoldsValue}
 use Rattle.xf_held.specs.Laws.{AreApart}
 use Rattle.xf_held.specs.Moves.{IsExecutable, size, copied, AreFilled, end_of, letter_of, InstructionsStandFrom, load_of, copy_of, IsAtStep, CanLoad, OwnRegisters, HomesOwnRegisters, IsCopy, AreCopied, HomesAreCopied}
 use Rattle.xf_held.proofs.Copying.{copied-count, copies-keep-homes}
@@ -176,15 +176,15 @@ module _
       subst (λ p. Runs tagged w 2 t (running (at p (after k registers)))) last ran
 
   -- what a home holds has nothing to do with the place of the frame
-  moved : (p q : ℕ) (registers : List Cell) (a : Home) → Holds s values (frame p registers) a → Holds s values (frame q registers) a
+  moved : (p q : ℕ) (registers : List Cell) (a : Home) → HoldsValue s values (frame p registers) a → HoldsValue s values (frame q registers) a
   moved p q registers a held = record { known = held.known; there = held.there; equal = held.equal }
 
   -- the homes after a copy
   keeps :
       (p q : ℕ) (registers : List Cell) (k a : Home)
-      → Holds s values (frame p registers) h → IsCopy s (length registers) h k → HasRegister s.homes a
-      → (a ≡ k) ⊎ Holds s values (frame p registers) a
-      → Holds s values (frame q (after k registers)) a
+      → HoldsValue s values (frame p registers) h → IsCopy s (length registers) h k → HasRegister s.homes a
+      → (a ≡ k) ⊎ HoldsValue s values (frame p registers) a
+      → HoldsValue s values (frame q (after k registers)) a
   keeps p q registers k a held copy owns (inl same) =
       copies-keep-homes s values (frame q registers) h k a letter (moved p q registers h held) (sym copy.slot) (wide h.ty)
       (wide k.ty ∙ ap size copy.letter) copy.inside (inl same)
@@ -194,20 +194,20 @@ module _
       (go (own a k owns copy.own))
     where
       go : (a ≡ k) ⊎ AreApart (register s a) (width a.ty) (register s k) (width k.ty)
-          → (a ≡ k) ⊎ (Holds s values (frame q registers) a × AreApart (register s a) (width a.ty) (register s k) (width k.ty))
+          → (a ≡ k) ⊎ (HoldsValue s values (frame q registers) a × AreApart (register s a) (width a.ty) (register s k) (width k.ty))
       go (inl same) = inl same
       go (inr apart) = inr (moved p q registers a own_value, apart)
 
   moved-all :
-      (p q : ℕ) (registers : List Cell) (ks : List Home) → Each (Holds s values (frame p registers)) ks
-      → Each (Holds s values (frame q registers)) ks
+      (p q : ℕ) (registers : List Cell) (ks : List Home) → Each (HoldsValue s values (frame p registers)) ks
+      → Each (HoldsValue s values (frame q registers)) ks
   moved-all p q registers [] held = tt
   moved-all p q registers (k ∷ ks) held = (moved p q registers k held.0, moved-all p q registers ks held.1)
 
   -- the value can be loaded after a copy as before
   can-still :
       (p q : ℕ) (registers : List Cell) (k : Home)
-      → Holds s values (frame p registers) h → IsCopy s (length registers) h k → CanLoad w s (at p registers) h
+      → HoldsValue s values (frame p registers) h → IsCopy s (length registers) h k → CanLoad w s (at p registers) h
       → CanLoad w s (at q (after k registers)) h
   can-still p q registers k held copy can =
       let now = keeps p q registers k h held copy has (inr held) in
@@ -235,7 +235,7 @@ module _
       → InstructionsStandFrom steps n (flat_map (copy_of s h) ks)
       → n + 2 * length ks < length steps
       → CanLoad w s (at (place n) registers) h
-      → Holds s values (frame (place n) registers) h
+      → HoldsValue s values (frame (place n) registers) h
       → Each (IsCopy s (length registers) h) ks
       → AreCopied w s values (at (place n) registers) ks (place (n + 2 * length ks))
   copies-from n registers [] stand further can held copies =
@@ -292,7 +292,7 @@ copies-by :
     → InstructionsStandFrom steps n (flat_map (copy_of s h) ks)
     → HasRegister s.homes h
     → CanLoad w s (record { frames = fs; heap = heap; statics = statics }) h
-    → Holds s values (first_frame fs) h
+    → HoldsValue s values (first_frame fs) h
     → Each (IsCopy s (length (first_frame fs).registers) h) ks
     → size (letter_of h.ty) + length (first_frame fs).stack ≤ max_stack_of w (first_frame fs).method
     → AreCopied w s values (record { frames = fs; heap = heap; statics = statics }) ks (place (n + 2 * length ks))
@@ -307,7 +307,7 @@ copies-by w world place steps (f ∷ below) heap statics n s values h ks own is 
       heap = heap;
       statics = statics;
     }) h
-    → Holds s values (record { method = f.method; place = p; registers = f.registers; stack = f.stack }) h
+    → HoldsValue s values (record { method = f.method; place = p; registers = f.registers; stack = f.stack }) h
     → AreCopied w s values
     (record {
       frames = record { method = f.method; place = p; registers = f.registers; stack = f.stack } ∷ below;

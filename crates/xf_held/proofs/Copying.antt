@@ -12,7 +12,7 @@ use Rattle.xf_homes.specs.declared.home.Home.{Home}
 use Rattle.xf_homes.specs.Value.{width}
 use Rattle.xf_plan.specs.Source.{Source}
 use Rattle.xf_plan.specs.Plan.{register}
-use Rattle.xf_held.specs.Held.{Holds}
+use Rattle.xf_held.specs.Held.{HoldsValue}
 use Rattle.xf_held.specs.Laws.{AreApart}
 use Rattle.xf_held.specs.Moves.{size, copied, CopiesKeepHomes}
 use Rattle.jc_base.proofs.Lists.{slice_get-set_here, slice_get-set_other}
@@ -77,9 +77,9 @@ copied-here sorts.Int from to rs (suc (suc k)) lt there inside = absurd (omega (
 
 held-after :
     (s : Source) (values : List Cell) (g : Frame Cell) (h k : Home) (sort : Sort)
-    → Holds s values g h → h.slot ≡ k.slot → width h.ty ≡ size sort → width k.ty ≡ size sort
+    → HoldsValue s values g h → h.slot ≡ k.slot → width h.ty ≡ size sort → width k.ty ≡ size sort
     → register s k + width k.ty ≤ length g.registers
-    → Holds s values (record g { registers = copied tagged sort (register s h) (register s k) g.registers }) k
+    → HoldsValue s values (record g { registers = copied tagged sort (register s h) (register s k) g.registers }) k
 held-after s values g h k sort held slot wide also inside =
     let count = copied-count sort (register s h) (register s k) g.registers in
     let known = held.known in
@@ -95,8 +95,8 @@ held-after s values g h k sort held slot wide also inside =
 
 held-still :
     (s : Source) (values : List Cell) (g : Frame Cell) (h k m : Home) (sort : Sort)
-    → width k.ty ≡ size sort → Holds s values g m → AreApart (register s m) (width m.ty) (register s k) (width k.ty)
-    → Holds s values (record g { registers = copied tagged sort (register s h) (register s k) g.registers }) m
+    → width k.ty ≡ size sort → HoldsValue s values g m → AreApart (register s m) (width m.ty) (register s k) (width k.ty)
+    → HoldsValue s values (record g { registers = copied tagged sort (register s h) (register s k) g.registers }) m
 held-still s values g h k m sort also held apart =
     let count = copied-count sort (register s h) (register s k) g.registers in
     let there = held.there in
@@ -114,7 +114,7 @@ held-still s values g h k m sort also held apart =
 
 pub copies-keep-homes : CopiesKeepHomes
 copies-keep-homes s values g h k m sort held slot wide also inside (inl same) =
-    subst (λ (x : Home). Holds s values (record g { registers = copied tagged sort (register s h) (register s k) g.registers }) x)
+    subst (λ (x : Home). HoldsValue s values (record g { registers = copied tagged sort (register s h) (register s k) g.registers }) x)
     (sym same)
     (held-after s values g h k sort held slot wide also inside)
 copies-keep-homes s values g h k m sort held slot wide also inside (inr other) =

@@ -30,10 +30,10 @@ use Rattle.xf_plan.specs.Plan.{needed, local, register}
 use Rattle.xf_emission.specs.declared.origin.Origin.{Origin}
 use Rattle.xf_emission.specs.declared.origin.Origin.TheVariants.{Start, After, Entry}
 use Rattle.xf_emission.specs.Edge.{is_stored, home_before, held, copies, cell_copies}
-use Rattle.xf_typing.specs.Planned.{IsPlanned, Keeps}
+use Rattle.xf_typing.specs.Planned.{IsPlanned, KeepsValues}
 use Rattle.xf_typing.specs.Edges.{LeadsTo, stored_at, IsCarried, EdgesCarry}
 use Rattle.xf_held.specs.Edges.{insns, top_at, IsBeside, HoldsAfter, HoldsBefore, AreCarried, EdgesRun}
-use Rattle.xf_held.specs.Held.{Holds, HoldsLocals, slots}
+use Rattle.xf_held.specs.Held.{HoldsValue, HoldsLocals, slots}
 use Rattle.xf_held.specs.Moves.{size, letter_of, InstructionsStandFrom, IsAtStep, IsCopy}
 use Rattle.xf_held.proofs.Copies.{wide}
 use Rattle.xf_held.proofs.Valued.{asked_types, CellsAt, cells-left, value-inside}
@@ -51,7 +51,7 @@ home-same a b e f = ap (λ (n : ℕ). record { slot = n; ty = a.ty }) e ∙ ap (
 
 module _ (s : Source) (q : ℕ) (f g : Frame Cell) where
   -- what is stored on the edge stands in all homes that are needed
-  stored-stands : (o : Origin) (x : ℕ) → HoldsBefore s o q f g → stored_at o x ≡ true → Each (Holds s f.registers g) (needed s q x)
+  stored-stands : (o : Origin) (x : ℕ) → HoldsBefore s o q f g → stored_at o x ≡ true → Each (HoldsValue s f.registers g) (needed s q x)
   stored-stands (After p op) x holds e = holds.stored x e
   stored-stands Start x holds e = absurd (cc)
   stored-stands (Entry p) x holds e = absurd (cc)
@@ -62,16 +62,16 @@ module _ (s : Source) (q : ℕ) (f g : Frame Cell) where
   stored-none Start x from e h = absurd (cc)
   stored-none (Entry p) x from e h = absurd (cc)
 
-  if-some : (o : Option Home) (h : Home) → o ≡ Some h → IfSome o (Holds s f.registers g) → Holds s f.registers g h
+  if-some : (o : Option Home) (h : Home) → o ≡ Some h → IfSome o (HoldsValue s f.registers g) → HoldsValue s f.registers g h
   if-some None h e is = absurd (none-some h e)
-  if-some (Some k) h e is = subst (Holds s f.registers g) (some-same k h e) is
+  if-some (Some k) h e is = subst (HoldsValue s f.registers g) (some-same k h e) is
 
   -- a home in which a value is held where the edge begins, and of which nothing is stored
   held-stands :
       (same_is : SameTypeDecides) (o : Origin) (x : ℕ) (from k : Home) → HoldsBefore s o q f g → home_before s o x ≡ Some from → k.slot ≡ x
-      → ((n : ℕ) → n < width k.ty → stored_at o (k.slot + n) ≡ false) → has (held s o x from) k ≡ true → Holds s f.registers g k
+      → ((n : ℕ) → n < width k.ty → stored_at o (k.slot + n) ≡ false) → has (held s o x from) k ≡ true → HoldsValue s f.registers g k
   held-stands same_is (After p op) x from k holds before slot apart there =
-      among-each (λ h. ((n : ℕ) → n < width h.ty → is_stored op (h.slot + n) ≡ false) → Holds s f.registers g h) (needed s p x) k (holds.others x)
+      among-each (λ h. ((n : ℕ) → n < width h.ty → is_stored op (h.slot + n) ≡ false) → HoldsValue s f.registers g h) (needed s p x) k (holds.others x)
       (has-among same_is (needed s p x) k there) apart
   held-stands same_is Start x from k holds before slot apart there = if-some (home_before s Start x) k (before ∙ ap Some (only (has-among same_is (from ∷ []) k there))) (holds x)
     where
@@ -101,7 +101,7 @@ module _ (v w : Linked) (l : AreLaws v w) (place : ℕ → ℕ) (steps : List St
     FromHere there from k =
         IsFrom w l.world place steps s (own v w l s is plan) (slots f) g.method g.stack below heap statics at.method at.is_method at.are room g.registers there from k
 
-    here-as : (k : Home) → Holds s f.registers g k → Holds s (slots f) (record { method = g.method; place = 0; registers = g.registers; stack = g.stack }) k
+    here-as : (k : Home) → HoldsValue s f.registers g k → HoldsValue s (slots f) (record { method = g.method; place = 0; registers = g.registers; stack = g.stack }) k
     here-as k held = held-as s (slots f) g (record { method = g.method; place = 0; registers = g.registers; stack = g.stack }) k refl (held-in-slots s f g k held)
 
     needed-own : (x : ℕ) → Each (HasRegister s.homes) (needed s q x)
@@ -113,7 +113,7 @@ module _ (v w : Linked) (l : AreLaws v w) (place : ℕ → ℕ) (steps : List St
     from-here : (x : ℕ) (from k : Home) → home_before s o x ≡ Some from → IsAmong k (needed s q x) → FromHere (held s o x from) from k
     from-here x from k before a = by (carried x k a)
       where
-        valued : (k.slot ≡ x) × Keeps s k × CellsAt w.classes (kinds t) f.registers k.slot (asked_types w.classes (letter_of k.ty))
+        valued : (k.slot ≡ x) × KeepsValues s k × CellsAt w.classes (kinds t) f.registers k.slot (asked_types w.classes (letter_of k.ty))
         valued = needed-valued v w l s is plan q f t beside x k a
 
         go : IsCarried s o k from → FromHere (held s o x from) from k
@@ -154,14 +154,14 @@ module _ (v w : Linked) (l : AreLaws v w) (place : ℕ → ℕ) (steps : List St
             let same : other ≡ from = some-same other from (sym c.before ∙ ap (home_before s o) valued.0 ∙ before) in
             go (subst (IsCarried s o k) same c)
 
-    none-here : (x : ℕ) (k : Home) → home_before s o x ≡ None → IsAmong k (needed s q x) → Holds s f.registers g k
+    none-here : (x : ℕ) (k : Home) → home_before s o x ≡ None → IsAmong k (needed s q x) → HoldsValue s f.registers g k
     none-here x k before a = by (carried x k a)
       where
         slot : k.slot ≡ x
         slot = (needed-valued v w l s is plan q f t beside x k a).0
 
-        by : (stored_at o k.slot ≡ true) ⊎ ((other : Home) × IsCarried s o k other) → Holds s f.registers g k
-        by (inl stored) = among-each (Holds s f.registers g) (needed s q x) k (stored-stands s q f g o x holds (ap (stored_at o) (sym slot) ∙ stored)) a
+        by : (stored_at o k.slot ≡ true) ⊎ ((other : Home) × IsCarried s o k other) → HoldsValue s f.registers g k
+        by (inl stored) = among-each (HoldsValue s f.registers g) (needed s q x) k (stored-stands s q f g o x holds (ap (stored_at o) (sym slot) ∙ stored)) a
         by (inr (other, c)) = absurd (none-some other (sym before ∙ ap (home_before s o) (sym slot) ∙ c.before))
 
     local-here :
@@ -188,7 +188,7 @@ module _ (v w : Linked) (l : AreLaws v w) (place : ℕ → ℕ) (steps : List St
               subst (λ (x : State Cell). Runs tagged w (length (insns (copies s o q))) x (running (top_at t (place (n + length (insns (copies s o q)))) ran.after g.stack))) begins
               ran.runs;
           count = ran.many;
-          locals = λ x. each-among (Holds s f.registers (record g { registers = ran.after })) (needed s q x) (λ k a. local-after ran.after ran.locals x k a);
+          locals = λ x. each-among (HoldsValue s f.registers (record g { registers = ran.after })) (needed s q x) (λ k a. local-after ran.after ran.locals x k a);
           others = λ h has held.
               held-as s (slots f) (record { method = g.method; place = 0; registers = ran.after; stack = g.stack }) (record g { registers = ran.after }) h refl
               (ran.keeps h has (held-as s (slots f) g (record { method = g.method; place = 0; registers = g.registers; stack = g.stack }) h refl held));
@@ -196,15 +196,15 @@ module _ (v w : Linked) (l : AreLaws v w) (place : ℕ → ℕ) (steps : List St
       where
         local-after :
             (after : List Cell)
-            → ((y : ℕ) → 0 ≤ y → y < 0 + register_count s.method.rec → Each (Holds s (slots f) (record { method = g.method; place = 0; registers = after; stack = g.stack })) (needed s q y))
-            → (x : ℕ) (k : Home) → IsAmong k (needed s q x) → Holds s f.registers (record g { registers = after }) k
+            → ((y : ℕ) → 0 ≤ y → y < 0 + register_count s.method.rec → Each (HoldsValue s (slots f) (record { method = g.method; place = 0; registers = after; stack = g.stack })) (needed s q y))
+            → (x : ℕ) (k : Home) → IsAmong k (needed s q x) → HoldsValue s f.registers (record g { registers = after }) k
         local-after after all x k a =
             let valued = needed-valued v w l s is plan q f t beside x k a in
             let inside : k.slot + size (letter_of k.ty) ≤ length f.registers = value-inside w.classes (kinds t) (letter_of k.ty) f.registers k.slot valued.2 in
             let e = wide k.ty in
             let some : 0 < size (letter_of k.ty) = some-size (letter_of k.ty) in
             let count = count-registers v w l s is plan q f t beside in
-            let held = among-each (Holds s (slots f) (record { method = g.method; place = 0; registers = after; stack = g.stack })) (needed s q x) k
+            let held = among-each (HoldsValue s (slots f) (record { method = g.method; place = 0; registers = after; stack = g.stack })) (needed s q x) k
             (all x (omega arith) (omega (arith, inside, some, count, valued.0))) a in
             held-as s f.registers (record { method = g.method; place = 0; registers = after; stack = g.stack }) (record g { registers = after }) k refl
             (held-in-registers s f (record { method = g.method; place = 0; registers = after; stack = g.stack }) k (omega (arith, inside, e)) held)

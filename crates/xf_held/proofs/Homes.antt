@@ -5,12 +5,12 @@ use Rattle.std.proofs.lemmas.Bool.{cases_lt}
 use Rattle.jc_base.specs.Each.{Each}
 use Rattle.jc_rules.specs.Footprint.{Footprint}
 use Rattle.vm_store.specs.State.{State, top}
-use Rattle.vm_alike.specs.Alike.{Stays}
+use Rattle.vm_alike.specs.Alike.{StaysInFrame}
 use Rattle.xf_homes.specs.declared.home.Home.{Home}
 use Rattle.xf_homes.specs.Value.{width}
 use Rattle.xf_plan.specs.Source.{Source}
 use Rattle.xf_plan.specs.Plan.{register, needed}
-use Rattle.xf_held.specs.Held.{Holds}
+use Rattle.xf_held.specs.Held.{HoldsValue}
 use Rattle.xf_held.specs.Laws.{AreApart, HomesStay, LocalsStay, WrittenHold}
 
 -- a number of the one list is none of the other
@@ -29,11 +29,11 @@ module _ {A : Type 0} where
   -- a home of which nothing was written, cell by cell
   kept :
       (p q : Footprint) (s z t y : State A) (source : Source) (h : Home)
-      → Stays p s z → Stays q t y
+      → StaysInFrame p s z → StaysInFrame q t y
       → ((k : ℕ) → k < width h.ty → (h.slot + k < p.register) ⊎ (p.register + p.written ≤ h.slot + k))
       → ((k : ℕ) → k < width h.ty → (register source h + k < q.register) ⊎ (q.register + q.written ≤ register source h + k))
-      → Holds source (top s).registers (top t) h
-      → Holds source (top z).registers (top y) h
+      → HoldsValue source (top s).registers (top t) h
+      → HoldsValue source (top z).registers (top y) h
   kept p q s z t y source h first second here there held =
       let one = first.count in
       let two = second.count in
@@ -52,8 +52,8 @@ module _ {A : Type 0} where
       (λ k lt. outside (register source h) (width h.ty) q.register q.written k there lt) held
 
   each-stays :
-      (p q : Footprint) (s z t y : State A) (source : Source) → Stays p s z → Stays q t y → p.written ≡ 0 → q.written ≡ 0
-      → (hs : List Home) → Each (Holds source (top s).registers (top t)) hs → Each (Holds source (top z).registers (top y)) hs
+      (p q : Footprint) (s z t y : State A) (source : Source) → StaysInFrame p s z → StaysInFrame q t y → p.written ≡ 0 → q.written ≡ 0
+      → (hs : List Home) → Each (HoldsValue source (top s).registers (top t)) hs → Each (HoldsValue source (top z).registers (top y)) hs
   each-stays p q s z t y source first second none also [] held = tt
   each-stays p q s z t y source first second none also (h ∷ hs) held = (
     kept p q s z t y source h first second

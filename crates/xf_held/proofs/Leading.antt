@@ -23,7 +23,7 @@ use Rattle.xf_plan.specs.Plan.{stack_homes, register}
 use Rattle.xf_emission.specs.Move.{load, loads}
 use Rattle.xf_typing.specs.Edges.{CellsFillStack, FillStack}
 use Rattle.xf_held.specs.Edges.{insns, top_at, LeadersLoad}
-use Rattle.xf_held.specs.Held.{Holds, Waits, slots}
+use Rattle.xf_held.specs.Held.{HoldsValue, Waits, slots}
 use Rattle.xf_held.specs.Moves.{InstructionsStandFrom, load_of, loaded_stack, CanLoad}
 use Rattle.xf_held.proofs.Loading.{loads-run}
 use Rattle.xf_held.proofs.Stacked.{loaded-is-stack}
@@ -49,6 +49,6 @@ leaders-load v w l place steps t n s q f is plan beside keeps at stand waits =
     each-among (CanLoad w s t) hs
     (λ h a.
     let k = cells-valued v w l s is plan q f t beside keeps h a in
-    held-can-load w s (slots f) t h (register-small v w l s is plan h k.0.has) (among-each (Holds s (slots f) (top t)) hs h waits.cells a) k.1) in
+    held-can-load w s (slots f) t h (register-small v w l s is plan h k.0.has) (among-each (HoldsValue s (slots f) (top t)) hs h waits.cells a) k.1) in
     let ran = loads-run w l.world place steps t n s hs at (subst (InstructionsStandFrom steps n) (insns-loads s hs) stand) can fits in
     subst (λ (stack : List Cell). Runs tagged w (length hs) t (running (top_at t (place (n + length hs)) (top t).registers stack))) back ran

@@ -15,7 +15,7 @@ use Rattle.jc_control.specs.WellFormed.{IsPlace}
 use Rattle.jc_ops.specs.declared.operation.Operation.TheVariants as ops
 use Rattle.jc_ops.specs.declared.operation.Sort.{Sort}
 use Rattle.jc_ops.specs.declared.operation.Sort.TheVariants as sorts
-use Rattle.jc_ops.specs.Row.{table, row_at, unused, by_sort, by_width, by_kind, first_four, by_register, literals, binary, orders_all, branching}
+use Rattle.jc_ops.specs.Row.{table, row_at, unused, by_sort, by_width, by_kind, first_four, by_register, literals, binaries, orders_all, branching}
 use Rattle.jc_ops.specs.Resolve.{resolved, Resolves}
 use Rattle.jc_rules.specs.Demand.{SatisfiesAll}
 use Rattle.jc_rules.specs.Rule.{demands}
@@ -45,13 +45,13 @@ module _ (w : Linked) (m : MethodRec) where
   load-row : (q r : ℕ) → (resolved w m q (with_byte 21 r) (row_at 21) ≡ Ok (ops.Load sorts.Reference (r % 256)))
       × (resolved w m q (with_byte 22 r) (row_at 22) ≡ Ok (ops.Load sorts.Short (r % 256)))
       × (resolved w m q (with_byte 23 r) (row_at 23) ≡ Ok (ops.Load sorts.Int (r % 256)))
-  unfolding row_at table by_sort by_width by_kind first_four by_register literals binary orders_all branching unused
+  unfolding row_at table by_sort by_width by_kind first_four by_register literals binaries orders_all branching unused
   load-row q r = (refl, refl, refl)
 
   store-row : (q r : ℕ) → (resolved w m q (with_byte 40 r) (row_at 40) ≡ Ok (ops.Store sorts.Reference (r % 256)))
       × (resolved w m q (with_byte 41 r) (row_at 41) ≡ Ok (ops.Store sorts.Short (r % 256)))
       × (resolved w m q (with_byte 42 r) (row_at 42) ≡ Ok (ops.Store sorts.Int (r % 256)))
-  unfolding row_at table by_sort by_width by_kind first_four by_register literals binary orders_all branching unused
+  unfolding row_at table by_sort by_width by_kind first_four by_register literals binaries orders_all branching unused
   store-row q r = (refl, refl, refl)
 
   pub load-resolves : (q r : ℕ) (ty : Ty) → r < 256 → Resolves w m q (with_byte (load_op ty) r) (Ok (ops.Load (letter_of ty) r))

@@ -29,7 +29,7 @@ use Rattle.xf_typing.specs.Planned.{IsPlanned}
 use Rattle.xf_typing.specs.Edges.{CellsFillStack, FillStack, ForksAreCut, IsForkedAt}
 use Rattle.xf_typing.proofs.Stacks.{turned-cons}
 use Rattle.xf_held.specs.Edges.{insns, top_at, IsBeside, OperandsLoad, UnderHold, UnderLoads}
-use Rattle.xf_held.specs.Held.{Holds, slots}
+use Rattle.xf_held.specs.Held.{HoldsValue, slots}
 use Rattle.xf_held.specs.Moves.{size, letter_of, InstructionsStandFrom, IsAtStep, CanLoad, load_of, loaded_stack, value_at}
 use Rattle.xf_held.proofs.Copies.{wide}
 use Rattle.xf_held.proofs.Loading.{loads-run}
@@ -46,16 +46,16 @@ piled-base values (h ∷ hs) stack =
     ∙ sym (append_assoc (value_at (letter_of h.ty) h.slot values) (piled values hs []) stack)
 
 module _ (s : Source) (values : List Cell) (g : Frame Cell) where
-  same-at : (h : Home) (k : ℕ) → k < width h.ty → Holds s values g h → nth tagged g.registers (register s h + k) ≡ nth tagged values (h.slot + k)
+  same-at : (h : Home) (k : ℕ) → k < width h.ty → HoldsValue s values g h → nth tagged g.registers (register s h + k) ≡ nth tagged values (h.slot + k)
   same-at h k lt held = register-same values g.registers (h.slot + k) (register s h + k) (held.equal k lt)
 
-  same-first : (h : Home) → 0 < width h.ty → Holds s values g h → nth tagged g.registers (register s h) ≡ nth tagged values h.slot
+  same-first : (h : Home) → 0 < width h.ty → HoldsValue s values g h → nth tagged g.registers (register s h) ≡ nth tagged values h.slot
   same-first h some held =
       let here : register s h ≡ register s h + 0 = omega arith in
       let there : h.slot + 0 ≡ h.slot = omega arith in
       ap (nth tagged g.registers) here ∙ (same-at h 0 some held ∙ ap (nth tagged values) there)
 
-  same-value : (letter : Sort) (h : Home) → width h.ty ≡ size letter → Holds s values g h → value_at letter (register s h) g.registers ≡ value_at letter h.slot values
+  same-value : (letter : Sort) (h : Home) → width h.ty ≡ size letter → HoldsValue s values g h → value_at letter (register s h) g.registers ≡ value_at letter h.slot values
   same-value sorts.Reference h e held = ap (λ (c : Cell). c ∷ []) (same-first h (omega (arith, e)) held)
   same-value sorts.Short h e held = ap (λ (c : Cell). c ∷ []) (same-first h (omega (arith, e)) held)
   same-value sorts.Int h e held =
@@ -63,7 +63,7 @@ module _ (s : Source) (values : List Cell) (g : Frame Cell) where
       ∙ ap (λ (c : Cell). nth tagged values (h.slot + 1) ∷ c ∷ []) (same-first h (omega (arith, e)) held)
 
   -- what is loaded from homes that hold their values
-  loaded-piled : (hs : List Home) (stack : List Cell) → Each (Holds s values g) hs → loaded_stack s g.registers hs stack ≡ piled values (reverse hs) stack
+  loaded-piled : (hs : List Home) (stack : List Cell) → Each (HoldsValue s values g) hs → loaded_stack s g.registers hs stack ≡ piled values (reverse hs) stack
   loaded-piled [] stack held = refl
   loaded-piled (h ∷ hs) stack held =
       ap (λ (cs : List Cell). loaded_stack s g.registers hs (cs ++ stack)) (same-value (letter_of h.ty) h (wide h.ty) held.0)
@@ -110,14 +110,14 @@ slots-to n (k ∷ hs) follow h (inr a) =
     omega (arith, sum, slots-to (n + width k.ty) hs follow.1 h a)
 
 -- a value among cells, and among more of them
-grown : (s : Source) (xs ys : List Cell) (g : Frame Cell) (h : Home) → h.slot + width h.ty ≤ length xs → Holds s xs g h → Holds s (xs ++ ys) g h
+grown : (s : Source) (xs ys : List Cell) (g : Frame Cell) (h : Home) → h.slot + width h.ty ≤ length xs → HoldsValue s xs g h → HoldsValue s (xs ++ ys) g h
 grown s xs ys g h inside held = record {
   known = omega (arith, inside, length-append xs ys);
   there = held.there;
   equal = λ n lt. held.equal n lt ∙ sym (get-left xs ys (h.slot + n) (omega (arith, inside, lt)));
 }
 
-cut-back : (s : Source) (xs ys : List Cell) (g : Frame Cell) (h : Home) → h.slot + width h.ty ≤ length xs → Holds s (xs ++ ys) g h → Holds s xs g h
+cut-back : (s : Source) (xs ys : List Cell) (g : Frame Cell) (h : Home) → h.slot + width h.ty ≤ length xs → HoldsValue s (xs ++ ys) g h → HoldsValue s xs g h
 cut-back s xs ys g h inside held = record {
   known = inside;
   there = held.there;
@@ -183,7 +183,7 @@ module _ (v w : Linked) (l : AreLaws v w) (place : ℕ → ℕ) (steps : List St
   -- loads of some of the cells
   part-loads :
       (n : ℕ) (hs : List Home) (stack : List Cell)
-      → Each (Holds s (slots f) (top t)) hs
+      → Each (HoldsValue s (slots f) (top t)) hs
       → ((h : Home) → IsAmong h hs → IsAmong h (stack_homes s i.place))
       → IsAtStep w place steps t n (length hs)
       → InstructionsStandFrom steps n (insns (loads s hs))
@@ -199,22 +199,22 @@ module _ (v w : Linked) (l : AreLaws v w) (place : ℕ → ℕ) (steps : List St
       let can : Each (CanLoad w s t) hs = each-among (CanLoad w s t) hs
       (λ h a.
       let c = cells-valued v w l s is plan i.place f t beside (fork.keeps over) h (inside h a) in
-      held-can-load w s (slots f) t h (register-small v w l s is plan h c.0.has) (among-each (Holds s (slots f) (top t)) hs h held_part a) c.1) in
+      held-can-load w s (slots f) t h (register-small v w l s is plan h c.0.has) (among-each (HoldsValue s (slots f) (top t)) hs h held_part a) c.1) in
       let ran = loads-run w l.world place steps t n s hs at (subst (InstructionsStandFrom steps n) (insns-loads s hs) stand) can fits in
       subst (λ (cs : List Cell). Runs tagged w (length hs) t (running (top_at t (place (n + length hs)) (top t).registers cs))) back ran
 
   operands-load :
-      (n : ℕ) → Each (Holds s (slots f) (top t)) (stack_homes s i.place) → IsAtStep w place steps t n (length (operands s i.place k)) → InstructionsStandFrom steps n (insns (loads s (operands s i.place k))) → (top t).stack ≡ []
+      (n : ℕ) → Each (HoldsValue s (slots f) (top t)) (stack_homes s i.place) → IsAtStep w place steps t n (length (operands s i.place k)) → InstructionsStandFrom steps n (insns (loads s (operands s i.place k))) → (top t).stack ≡ []
       → Runs tagged w (length (operands s i.place k)) t (running (top_at t (place (n + length (operands s i.place k))) (top t).registers (take k f.stack)))
   operands-load n held at stand empty =
       part-loads n (operands s i.place k) (take k f.stack)
-      (each-among (Holds s (slots f) (top t)) (operands s i.place k)
-      (λ h a. among-each (Holds s (slots f) (top t)) (stack_homes s i.place) h held (subst (IsAmong h) (sym fork.parts) (among-right h (under s i.place k) (operands s i.place k) a))))
+      (each-among (HoldsValue s (slots f) (top t)) (operands s i.place k)
+      (λ h a. among-each (HoldsValue s (slots f) (top t)) (stack_homes s i.place) h held (subst (IsAmong h) (sym fork.parts) (among-right h (under s i.place k) (operands s i.place k) a))))
       (λ h a. subst (IsAmong h) (sym fork.parts) (among-right h (under s i.place k) (operands s i.place k) a)) at stand empty operands-piled
       (omega (arith, ap length (take-append-drop k f.stack), length-append (take k f.stack) (drop k f.stack)))
 
   under-load :
-      (n : ℕ) → Each (Holds s (slots f) (top t)) (under s i.place k) → IsAtStep w place steps t n (length (under s i.place k)) → InstructionsStandFrom steps n (insns (loads s (under s i.place k))) → (top t).stack ≡ []
+      (n : ℕ) → Each (HoldsValue s (slots f) (top t)) (under s i.place k) → IsAtStep w place steps t n (length (under s i.place k)) → InstructionsStandFrom steps n (insns (loads s (under s i.place k))) → (top t).stack ≡ []
       → Runs tagged w (length (under s i.place k)) t (running (top_at t (place (n + length (under s i.place k))) (top t).registers (drop k f.stack)))
   under-load n held at stand empty =
       part-loads n (under s i.place k) (drop k f.stack) held
@@ -224,14 +224,14 @@ module _ (v w : Linked) (l : AreLaws v w) (place : ℕ → ℕ) (steps : List St
   -- the cells under the operands, in a frame without these
   under-holds :
       (y g : Frame Cell) → y.registers ≡ f.registers → y.stack ≡ drop k f.stack
-      → Each (Holds s (slots f) g) (under s i.place k) ↔ Each (Holds s (slots y) g) (under s i.place k)
+      → Each (HoldsValue s (slots f) g) (under s i.place k) ↔ Each (HoldsValue s (slots y) g) (under s i.place k)
   under-holds y g same_registers same_stack = (
-    λ all. each-among (Holds s (slots y) g) (under s i.place k)
+    λ all. each-among (HoldsValue s (slots y) g) (under s i.place k)
         (λ h a. cut-back s (slots y) (reverse (take k f.stack)) g h (inside h a)
-        (subst (λ (cs : List Cell). Holds s cs g h) parts (among-each (Holds s (slots f) g) (under s i.place k) h all a))),
-    λ all. each-among (Holds s (slots f) g) (under s i.place k)
-        (λ h a. subst (λ (cs : List Cell). Holds s cs g h) (sym parts)
-        (grown s (slots y) (reverse (take k f.stack)) g h (inside h a) (among-each (Holds s (slots y) g) (under s i.place k) h all a))),
+        (subst (λ (cs : List Cell). HoldsValue s cs g h) parts (among-each (HoldsValue s (slots f) g) (under s i.place k) h all a))),
+    λ all. each-among (HoldsValue s (slots f) g) (under s i.place k)
+        (λ h a. subst (λ (cs : List Cell). HoldsValue s cs g h) (sym parts)
+        (grown s (slots y) (reverse (take k f.stack)) g h (inside h a) (among-each (HoldsValue s (slots y) g) (under s i.place k) h all a))),
   )
     where
       own : slots y ≡ f.registers ++ reverse (drop k f.stack)

@@ -34,7 +34,7 @@ use Rattle.xf_typing.specs.Planned.{IsPlanned}
 use Rattle.xf_typing.specs.Edges.{CellsFillStack, FillStack}
 use Rattle.xf_typing.proofs.Stacks.{turned-cons}
 use Rattle.xf_held.specs.Edges.{insns, top_at, IsBeside, AreSpilled, StacksSpill}
-use Rattle.xf_held.specs.Held.{Holds, slots}
+use Rattle.xf_held.specs.Held.{HoldsValue, slots}
 use Rattle.xf_held.specs.Laws.{AreApart}
 use Rattle.xf_held.specs.Moves.{IsExecutable, size, end_of, letter_of, InstructionsStandFrom, IsAtStep, OwnRegisters, value_at}
 use Rattle.xf_held.proofs.Copies.{wide}
@@ -133,11 +133,11 @@ module _
     pub runs : Runs tagged w (length ks) (at (place n) registers (piled values ks stack)) (running (at (place (n + length ks)) after stack))
     pub many : length after ≡ length registers
     pub keeps :
-        (a : Home) → HasRegister s.homes a → Holds s values (frame 0 registers []) a → Holds s values (frame 0 after []) a
-    pub holds : Each (Holds s values (frame 0 after [])) ks
+        (a : Home) → HasRegister s.homes a → HoldsValue s values (frame 0 registers []) a → HoldsValue s values (frame 0 after []) a
+    pub holds : Each (HoldsValue s values (frame 0 after [])) ks
     pub others :
         (cells : List Cell) (a : Home) → HasRegister s.homes a → ((k : Home) → IsAmong k ks → a ≡ k → ⊥)
-        → Holds s cells (frame 0 registers []) a → Holds s cells (frame 0 after []) a
+        → HoldsValue s cells (frame 0 registers []) a → HoldsValue s cells (frame 0 after []) a
 
   depth-piled : (ks : List Home) (stack : List Cell) → length stack ≤ length (piled values ks stack)
   depth-piled [] stack = omega arith
@@ -197,17 +197,17 @@ module _
       }
     where
       by :
-          (a : Home) → Holds s values (frame 0 registers []) a → (a ≡ k) ⊎ AreApart (register s a) (width a.ty) (register s k) (width k.ty)
-          → Holds s values (frame 0 (stored (letter_of k.ty) values k.slot (register s k) registers) []) k
-          → Holds s values (frame 0 (stored (letter_of k.ty) values k.slot (register s k) registers) []) a
+          (a : Home) → HoldsValue s values (frame 0 registers []) a → (a ≡ k) ⊎ AreApart (register s a) (width a.ty) (register s k) (width k.ty)
+          → HoldsValue s values (frame 0 (stored (letter_of k.ty) values k.slot (register s k) registers) []) k
+          → HoldsValue s values (frame 0 (stored (letter_of k.ty) values k.slot (register s k) registers) []) a
       by a held (inl same) written =
-          subst (λ (x : Home). Holds s values (frame 0 (stored (letter_of k.ty) values k.slot (register s k) registers) []) x) (sym same) written
+          subst (λ (x : Home). HoldsValue s values (frame 0 (stored (letter_of k.ty) values k.slot (register s k) registers) []) x) (sym same) written
       by a held (inr apart) written = stored-apart s (frame 0 registers []) k values are_stored.0.inside values a apart held
 
       other :
-          (cs : List Cell) (a : Home) → Holds s cs (frame 0 registers []) a → (a ≡ k → ⊥)
+          (cs : List Cell) (a : Home) → HoldsValue s cs (frame 0 registers []) a → (a ≡ k → ⊥)
           → (a ≡ k) ⊎ AreApart (register s a) (width a.ty) (register s k) (width k.ty)
-          → Holds s cs (frame 0 (stored (letter_of k.ty) values k.slot (register s k) registers) []) a
+          → HoldsValue s cs (frame 0 (stored (letter_of k.ty) values k.slot (register s k) registers) []) a
       other cs a held no_same (inl same) = absurd (no_same same)
       other cs a held no_same (inr apart) = stored-apart s (frame 0 registers []) k values are_stored.0.inside cs a apart held
 
@@ -290,7 +290,7 @@ module _ (v w : Linked) (l : AreLaws v w) (place : ℕ → ℕ) (steps : List St
             (subst (λ (k : ℕ). Runs tagged w (length (reverse hs)) t (running (top_at t (place (n + k)) ran.after []))) count
             (subst (λ (x : State Cell). Runs tagged w (length (reverse hs)) x (running (top_at t (place (n + length (reverse hs))) ran.after []))) begins ran.runs));
         count = ran.many;
-        cells = each-among (Holds s (slots f) (record g { registers = ran.after })) hs
+        cells = each-among (HoldsValue s (slots f) (record g { registers = ran.after })) hs
             (λ k a. held-as s (slots f) _ (record g { registers = ran.after }) k refl (among-each _ (reverse hs) k ran.holds (among-reverse k hs a)));
         others = λ cs h has low held.
             held-as s cs (record { method = g.method; place = 0; registers = ran.after; stack = [] }) (record g { registers = ran.after }) h refl

@@ -18,7 +18,7 @@ use Rattle.xf_homes.specs.Order.{SlotsFollow as Follow, register_sum}
 use Rattle.xf_homes.specs.Value.{width}
 use Rattle.xf_plan.specs.Source.{Source}
 use Rattle.xf_plan.specs.Plan.{register}
-use Rattle.xf_held.specs.Held.{Holds, slots}
+use Rattle.xf_held.specs.Held.{HoldsValue, slots}
 use Rattle.xf_held.specs.Moves.{size, letter_of, value_at, loaded_stack, LoadedIsStack}
 use Rattle.xf_held.proofs.Copies.{wide}
 
@@ -29,14 +29,14 @@ more-taken xs j lt = ap reverse (take-suc xs j Empty lt) ∙ reverse-append (tak
 module _ (s : Source) (g : Frame Cell) (regs xs : List Cell) where
   -- a register of a home has the cell of the stack at its slot
   cell-is :
-      (h : Home) (j k : ℕ) → h.slot ≡ length regs + j → k < width h.ty → Holds s (regs ++ xs) g h
+      (h : Home) (j k : ℕ) → h.slot ≡ length regs + j → k < width h.ty → HoldsValue s (regs ++ xs) g h
       → nth tagged g.registers (register s h + k) ≡ nth tagged xs (j + k)
   cell-is h j k slot lt held =
       register-same xs g.registers (j + k) (register s h + k)
       (held.equal k lt ∙ slice_get-farther regs xs (j + k) (h.slot + k) (omega (arith, slot)))
 
   at-zero :
-      (h : Home) (j : ℕ) → h.slot ≡ length regs + j → Holds s (regs ++ xs) g h → 0 < width h.ty
+      (h : Home) (j : ℕ) → h.slot ≡ length regs + j → HoldsValue s (regs ++ xs) g h → 0 < width h.ty
       → nth tagged g.registers (register s h) ≡ nth tagged xs j
   at-zero h j slot held some =
       let here : register s h ≡ register s h + 0 = omega arith in
@@ -45,7 +45,7 @@ module _ (s : Source) (g : Frame Cell) (regs xs : List Cell) where
 
   -- a value of one cell
   one :
-      (h : Home) (j : ℕ) → h.slot ≡ length regs + j → j + 1 ≤ length xs → width h.ty ≡ 1 → Holds s (regs ++ xs) g h
+      (h : Home) (j : ℕ) → h.slot ≡ length regs + j → j + 1 ≤ length xs → width h.ty ≡ 1 → HoldsValue s (regs ++ xs) g h
       → nth tagged g.registers (register s h) ∷ reverse (take j xs) ≡ reverse (take (j + 1) xs)
   one h j slot le single held =
       let next : suc j ≡ j + 1 = omega arith in
@@ -54,7 +54,7 @@ module _ (s : Source) (g : Frame Cell) (regs xs : List Cell) where
 
   one-value :
       (letter : Sort) (h : Home) (j : ℕ) → letter_of h.ty ≡ letter → h.slot ≡ length regs + j → j + size letter ≤ length xs
-      → width h.ty ≡ size letter → Holds s (regs ++ xs) g h
+      → width h.ty ≡ size letter → HoldsValue s (regs ++ xs) g h
       → value_at letter (register s h) g.registers ++ reverse (take j xs) ≡ reverse (take (j + size letter) xs)
   one-value sorts.Reference h j is slot le fits held = one h j slot le fits held
   one-value sorts.Short h j is slot le fits held = one h j slot le fits held
@@ -71,7 +71,7 @@ module _ (s : Source) (g : Frame Cell) (regs xs : List Cell) where
       ∙ (sym (more-taken xs (j + 1) (omega (arith, le))) ∙ ap (λ n. reverse (take n xs)) last)))
 
   loaded :
-      (hs : List Home) (j : ℕ) → Follow (length regs + j) hs → j + register_sum hs ≤ length xs → Each (Holds s (regs ++ xs) g) hs
+      (hs : List Home) (j : ℕ) → Follow (length regs + j) hs → j + register_sum hs ≤ length xs → Each (HoldsValue s (regs ++ xs) g) hs
       → loaded_stack s g.registers hs (reverse (take j xs)) ≡ reverse (take (j + register_sum hs) xs)
   unfolding register_sum
   loaded [] j follow le held = let e : j ≡ j + 0 = omega arith in ap (λ n. reverse (take n xs)) e

@@ -53,10 +53,10 @@ use Rattle.xf_typing.proofs.Carried.{is-short, is-high, is-low}
 use Rattle.xf_typing.proofs.Rows.{pop-is, pop-two-is}
 use Rattle.xf_typing.proofs.Running.{is-reference}
 use Rattle.xf_held.specs.Edges.{insns, top_at, IsBeside}
-use Rattle.xf_held.specs.Held.{Holds}
+use Rattle.xf_held.specs.Held.{HoldsValue}
 use Rattle.xf_held.specs.Laws.{AreApart}
 use Rattle.xf_held.specs.Moves.{IsExecutable, size, letter_of, AreFilled, InstructionsStandFrom, IsAtStep, copy_of, end_of, value_at, OwnRegisters, IsCopy}
-use Rattle.xf_held.specs.Stores.{HasLocal, AreStored, StoresRun}
+use Rattle.xf_held.specs.Stores.{HasLocal, IsInHomes, StoresRun}
 use Rattle.xf_held.proofs.Copies.{wide}
 use Rattle.xf_held.proofs.Going.{operations-go-on}
 use Rattle.xf_held.proofs.Loading.{step-place}
@@ -334,7 +334,7 @@ module _ (v w : Linked) (l : AreLaws v w) (place : ℕ → ℕ) (steps : List St
         (n.0, one-letter w.classes (kinds t) (types v w l s is plan q f t beside) f.registers x (letter_of h.ty) letter there value, n.1.has)
 
     abbrev Ended : List Home → Type 0
-    Ended hs = AreStored w s q x f t stack (length (insns (stored_items s letter hs))) (place (n + length (insns (stored_items s letter hs))))
+    Ended hs = IsInHomes w s q x f t stack (length (insns (stored_items s letter hs))) (place (n + length (insns (stored_items s letter hs))))
 
     none-needed : needed s q x ≡ [] → count ≡ length (insns (stored_items s letter [])) → InstructionsStandFrom steps n (insns (stored_items s letter [])) → Ended []
     none-needed none is_count stand =
@@ -348,7 +348,7 @@ module _ (v w : Linked) (l : AreLaws v w) (place : ℕ → ℕ) (steps : List St
           registers = g.registers;
           runs = subst (λ (k : ℕ). Runs tagged w k t (running (top_at t (place (n + k)) g.registers stack))) (sym one) ran;
           count = refl;
-          values = subst (Each (Holds s f.registers (record g { registers = g.registers }))) (sym none) tt;
+          values = subst (Each (HoldsValue s f.registers (record g { registers = g.registers }))) (sym none) tt;
           others = λ h has held. held-as s f.registers g (record g { registers = g.registers }) h refl held;
         }
 
@@ -396,11 +396,11 @@ module _ (v w : Linked) (l : AreLaws v w) (place : ℕ → ℕ) (steps : List St
           runs = subst (λ (k : ℕ). Runs tagged w k t (running (top_at t (place (n + suc (length (insns (flat_map (copy s h) hs))))) rest.after stack))) whole
               (subst (λ (k : ℕ). Runs tagged w (1 + 2 * length hs) t (running (top_at t (place k) rest.after stack))) last all);
           count = rest.many ∙ same;
-          values = subst (Each (Holds s f.registers (record g { registers = rest.after }))) (sym some) (
+          values = subst (Each (HoldsValue s f.registers (record g { registers = rest.after }))) (sym some) (
             held-as s f.registers (record { method = g.method; place = 0; registers = rest.after; stack = stack }) (record g { registers = rest.after }) h refl (rest.keeps h own_h.2 written),
-            each-among (Holds s f.registers (record g { registers = rest.after })) hs
+            each-among (HoldsValue s f.registers (record g { registers = rest.after })) hs
                 (λ k a. held-as s f.registers (record { method = g.method; place = 0; registers = rest.after; stack = stack }) (record g { registers = rest.after }) k refl
-                (among-each (Holds s f.registers (record { method = g.method; place = 0; registers = rest.after; stack = stack })) hs k rest.holds a)),
+                (among-each (HoldsValue s f.registers (record { method = g.method; place = 0; registers = rest.after; stack = stack })) hs k rest.holds a)),
           );
           others = λ a has held.
               held-as s f.registers (record { method = g.method; place = 0; registers = rest.after; stack = stack }) (record g { registers = rest.after }) a refl
@@ -421,12 +421,12 @@ module _ (v w : Linked) (l : AreLaws v w) (place : ℕ → ℕ) (steps : List St
 
         kept :
             (a h : Home) → register s h + width h.ty ≤ length g.registers
-            → Holds s f.registers (record { method = g.method; place = 0; registers = g.registers; stack = stack }) a
+            → HoldsValue s f.registers (record { method = g.method; place = 0; registers = g.registers; stack = stack }) a
             → (a ≡ h) ⊎ AreApart (register s a) (width a.ty) (register s h) (width h.ty)
-            → Holds s f.registers (record { method = g.method; place = 0; registers = stored (letter_of h.ty) f.registers h.slot (register s h) g.registers; stack = stack }) h
-            → Holds s f.registers (record { method = g.method; place = 0; registers = stored (letter_of h.ty) f.registers h.slot (register s h) g.registers; stack = stack }) a
+            → HoldsValue s f.registers (record { method = g.method; place = 0; registers = stored (letter_of h.ty) f.registers h.slot (register s h) g.registers; stack = stack }) h
+            → HoldsValue s f.registers (record { method = g.method; place = 0; registers = stored (letter_of h.ty) f.registers h.slot (register s h) g.registers; stack = stack }) a
         kept a h inside held (inl same) written =
-            subst (λ (y : Home). Holds s f.registers (record { method = g.method; place = 0; registers = stored (letter_of h.ty) f.registers h.slot (register s h) g.registers; stack = stack }) y) (sym same) written
+            subst (λ (y : Home). HoldsValue s f.registers (record { method = g.method; place = 0; registers = stored (letter_of h.ty) f.registers h.slot (register s h) g.registers; stack = stack }) y) (sym same) written
         kept a h inside held (inr apart) written =
             stored-apart s (record { method = g.method; place = 0; registers = g.registers; stack = stack }) h f.registers inside f.registers a apart held
 
@@ -446,7 +446,7 @@ module _ (v w : Linked) (l : AreLaws v w) (place : ℕ → ℕ) (steps : List St
       → InstructionsStandFrom steps n (insns (stored_items s letter (needed s q x)))
       → (first_frame fs).stack ≡ value_at letter x f.registers ++ stack
       → length (first_frame fs).stack ≤ s.method.rec.max_stack
-      → AreStored w s q x f (record { frames = fs; heap = heap; statics = statics }) stack (length (insns (stored_items s letter (needed s q x))))
+      → IsInHomes w s q x f (record { frames = fs; heap = heap; statics = statics }) stack (length (insns (stored_items s letter (needed s q x))))
       (place (n + length (insns (stored_items s letter (needed s q x)))))
   store-frames [] heap statics n beside local at stand stack_is low = absurd (let lt = at.runs in omega (arith, lt))
   store-frames (g ∷ below) heap statics n beside local at stand stack_is low =

@@ -26,7 +26,7 @@ use Rattle.xf_homes.specs.Value.{width}
 use Rattle.xf_plan.specs.Source.{Source}
 use Rattle.xf_plan.specs.Plan.{register}
 use Rattle.xf_typing.proofs.Stacks.{turned-cons}
-use Rattle.xf_held.specs.Held.{Holds, slots}
+use Rattle.xf_held.specs.Held.{HoldsValue, slots}
 use Rattle.xf_held.specs.Laws.{AreApart}
 use Rattle.xf_held.specs.Moves.{size, letter_of, value_at}
 use Rattle.xf_held.proofs.Copies.{wide}
@@ -152,7 +152,7 @@ module _ (s : Source) (g : Frame Cell) (k : Home) (values : List Cell) (inside :
   after = record g { registers = stored (letter_of k.ty) values k.slot (register s k) g.registers }
 
   -- the home that was written holds what was stored
-  pub stored-holds : k.slot + width k.ty ≤ length values → Holds s values (record g { registers = stored (letter_of k.ty) values k.slot (register s k) g.registers }) k
+  pub stored-holds : k.slot + width k.ty ≤ length values → HoldsValue s values (record g { registers = stored (letter_of k.ty) values k.slot (register s k) g.registers }) k
   stored-holds there =
       let count = stored-count (letter_of k.ty) values k.slot (register s k) g.registers in
       let w = wide k.ty in
@@ -164,8 +164,8 @@ module _ (s : Source) (g : Frame Cell) (k : Home) (values : List Cell) (inside :
 
   -- one apart from it holds what it held
   pub stored-apart :
-      (others : List Cell) (a : Home) → AreApart (register s a) (width a.ty) (register s k) (width k.ty) → Holds s others g a
-      → Holds s others (record g { registers = stored (letter_of k.ty) values k.slot (register s k) g.registers }) a
+      (others : List Cell) (a : Home) → AreApart (register s a) (width a.ty) (register s k) (width k.ty) → HoldsValue s others g a
+      → HoldsValue s others (record g { registers = stored (letter_of k.ty) values k.slot (register s k) g.registers }) a
   stored-apart others a apart held =
       let count = stored-count (letter_of k.ty) values k.slot (register s k) g.registers in
       let there = held.there in

@@ -37,7 +37,7 @@ use Rattle.xf_emission.specs.Jump.{has_under, operands, under}
 use Rattle.xf_emission.specs.Move.{loads, spill}
 use Rattle.xf_typing.specs.Planned.{IsPlanned}
 use Rattle.xf_typing.specs.Edges.{AreMatched, LeadsTo}
-use Rattle.xf_held.specs.Held.{Holds, HoldsLocals, Waits, slots}
+use Rattle.xf_held.specs.Held.{HoldsValue, HoldsLocals, Waits, slots}
 use Rattle.xf_held.specs.Moves.{InstructionsStandFrom, IsAtStep}
 
 -- the instructions among items that name no label: of moves all
@@ -97,13 +97,13 @@ pub record AreSpilled (w : Linked) (s : Source) (q : ℕ) (f : Frame Cell) (t : 
   pub registers : List Cell
   pub runs : Runs tagged w (length (stack_homes s q)) t (running (top_at t last registers []))
   pub count : length registers ≡ length (top t).registers
-  pub cells : Each (Holds s (slots f) (record (top t) { registers = registers })) (stack_homes s q)
+  pub cells : Each (HoldsValue s (slots f) (record (top t) { registers = registers })) (stack_homes s q)
   pub others :
       (values : List Cell) (h : Home)
       → HasRegister s.homes h
       → h.slot < register_count s.method.rec
-      → Holds s values (top t) h
-      → Holds s values (record (top t) { registers = registers }) h
+      → HoldsValue s values (top t) h
+      → HoldsValue s values (record (top t) { registers = registers }) h
 
 -- the stores of a stack run one after the other, that of the top first
 abbrev pub StacksSpill : Linked → Linked → Type 0
@@ -123,15 +123,15 @@ StacksSpill v w =
 -- once the operation of the place p has run, before control goes to q: what it stored stands in all homes that are needed there, and the
 -- other values in those in which they had to stand before
 pub record HoldsAfter (s : Source) (p : ℕ) (op : Operation) (q : ℕ) (f g : Frame Cell) : Type 0 where
-  pub stored : (x : ℕ) → is_stored op x ≡ true → Each (Holds s f.registers g) (needed s q x)
+  pub stored : (x : ℕ) → is_stored op x ≡ true → Each (HoldsValue s f.registers g) (needed s q x)
   pub others :
       (x : ℕ)
-      → Each (λ h. ((k : ℕ) → k < width h.ty → is_stored op (h.slot + k) ≡ false) → Holds s f.registers g h) (needed s p x)
+      → Each (λ h. ((k : ℕ) → k < width h.ty → is_stored op (h.slot + k) ≡ false) → HoldsValue s f.registers g h) (needed s p x)
 
 -- where an edge begins that leads to q
 abbrev pub HoldsBefore : Source → Origin → ℕ → Frame Cell → Frame Cell → Type 0
 HoldsBefore s (After p op) q f g = HoldsAfter s p op q f g
-HoldsBefore s o q f g = (x : ℕ) → IfSome (home_before s o x) (Holds s f.registers g)
+HoldsBefore s o q f g = (x : ℕ) → IfSome (home_before s o x) (HoldsValue s f.registers g)
 
 -- after the copies of an edge to q: each local stands in all homes that are needed there, and every cell of the stack in that in which it
 -- stood
@@ -143,8 +143,8 @@ pub record AreCarried (w : Linked) (s : Source) (q : ℕ) (f : Frame Cell) (t : 
   pub others :
       (h : Home)
       → HasRegister s.homes h
-      → Holds s (slots f) (top t) h
-      → Holds s (slots f) (record (top t) { registers = registers }) h
+      → HoldsValue s (slots f) (top t) h
+      → HoldsValue s (slots f) (record (top t) { registers = registers }) h
 
 -- the copies of an edge run one after the other
 abbrev pub EdgesRun : Linked → Linked → Type 0
@@ -176,12 +176,12 @@ pub record AreMoved (w : Linked) (s : Source) (f : Frame Cell) (t : State Cell) 
   pub registers : List Cell
   pub runs : Runs tagged w n t (running (top_at t last registers (top t).stack))
   pub count : length registers ≡ length (top t).registers
-  pub cells : Each (Holds s (slots f) (record (top t) { registers = registers })) ks
+  pub cells : Each (HoldsValue s (slots f) (record (top t) { registers = registers })) ks
   pub others :
       (h : Home)
       → HasRegister s.homes h
-      → Holds s (slots f) (top t) h
-      → Holds s (slots f) (record (top t) { registers = registers }) h
+      → HoldsValue s (slots f) (top t) h
+      → HoldsValue s (slots f) (record (top t) { registers = registers }) h
 
 -- the values of a frame's stack that stand in homes are copied to others, one after the other
 abbrev pub CellsRun : Linked → Linked → Type 0
@@ -196,7 +196,7 @@ CellsRun v w =
     → length (top t).stack ≤ s.method.rec.max_stack
     → ((k : Home) → IsAmong k ks → IsAmong k (stack_homes s q))
     → KeepsStack s.world s.method s.frames q
-    → Each (Holds s (slots f) (top t)) hs
+    → Each (HoldsValue s (slots f) (top t)) hs
     → AreMoved w s f t ks (length (insns (cell_copies s hs ks))) (place (n + length (insns (cell_copies s hs ks))))
 
 -- ---- conditional branches and switches over a deeper stack
@@ -215,7 +215,7 @@ OperandsLoad v w =
     → IsAtStep w place steps t n (length (operands s i.place k))
     → InstructionsStandFrom steps n (insns (loads s (operands s i.place k)))
     → (top t).stack ≡ []
-    → Each (Holds s (slots f) (top t)) (stack_homes s i.place)
+    → Each (HoldsValue s (slots f) (top t)) (stack_homes s i.place)
     → Runs tagged w (length (operands s i.place k)) t
     (running (top_at t (place (n + length (operands s i.place k))) (top t).registers (take k f.stack)))
 
@@ -233,7 +233,7 @@ UnderLoads v w =
     → IsAtStep w place steps t n (length (under s i.place k))
     → InstructionsStandFrom steps n (insns (loads s (under s i.place k)))
     → (top t).stack ≡ []
-    → Each (Holds s (slots f) (top t)) (under s i.place k)
+    → Each (HoldsValue s (slots f) (top t)) (under s i.place k)
     → Runs tagged w (length (under s i.place k)) t
     (running (top_at t (place (n + length (under s i.place k))) (top t).registers (drop k f.stack)))
 
@@ -250,7 +250,7 @@ UnderHold v w =
     → has_under s i.place k ≡ true
     → y.registers ≡ f.registers
     → y.stack ≡ drop k f.stack
-    → Each (Holds s (slots f) g) (under s i.place k) ↔ Each (Holds s (slots y) g) (under s i.place k)
+    → Each (HoldsValue s (slots f) g) (under s i.place k) ↔ Each (HoldsValue s (slots y) g) (under s i.place k)
 
 -- ---- the start
 

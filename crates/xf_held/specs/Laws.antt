@@ -19,13 +19,13 @@ use Rattle.jc_rules.specs.Rule.{demands}
 use Rattle.vm_store.specs.declared.cell.Cell.{Cell}
 use Rattle.vm_store.specs.State.{State, IsRunning, top}
 use Rattle.vm_step.specs.Methods.{max_stack_of, instruction_at}
-use Rattle.vm_alike.specs.Alike.{renamed_new, AreAlike, Stays, StayAlike}
+use Rattle.vm_alike.specs.Alike.{renamed_new, AreAlike, StaysInFrame, StayAlike}
 use Rattle.vm_alike.specs.Running.{HaveKeys, Executes, RunAlike, keys_at, top_code}
 use Rattle.xf_homes.specs.declared.home.Home.{Home}
 use Rattle.xf_homes.specs.Value.{width}
 use Rattle.xf_plan.specs.Source.{Source}
 use Rattle.xf_plan.specs.Plan.{register}
-use Rattle.xf_held.specs.Held.{Holds, HoldsLocals}
+use Rattle.xf_held.specs.Held.{HoldsValue, HoldsLocals}
 
 -- what is known of the code of two frames, whatever their registers hold: equal keys, targets and a next place that are
 -- instructions', and
@@ -55,7 +55,7 @@ LoadsRunAlike A =
     (e : A → A) (place : ℕ → ℕ) (v w : Linked) (s t : State A) (i j : Placed) (source : Source) (h : Home) (sort : Sort)
     → AreAlike e s t
     → CodesAgree v w s t i j (Load sort h.slot) (Load sort (register source h))
-    → Holds source (top s).registers (top t) h
+    → HoldsValue source (top s).registers (top t) h
     → width h.ty ≡ (footprint v (Load sort h.slot)).given
     → RunAlike e place v w s t i j (Load sort h.slot) (Load sort (register source h))
 
@@ -66,7 +66,7 @@ IncrementsRunAlike A =
     (counted : Width) (amount : ℤ)
     → AreAlike e s t
     → CodesAgree v w s t i j (Increment counted h.slot amount) (Increment counted (register source h) amount)
-    → Holds source (top s).registers (top t) h
+    → HoldsValue source (top s).registers (top t) h
     → width h.ty ≡ (footprint v (Increment counted h.slot amount)).written
     → RunAlike e place v w s t i j (Increment counted h.slot amount) (Increment counted (register source h) amount)
 
@@ -86,8 +86,8 @@ StoresRunAlike A =
 abbrev pub LocalsStay : Type 0 → Type 0
 LocalsStay A =
     (p q : Footprint) (s z t y : State A) (source : Source) (place : ℕ)
-    → Stays p s z
-    → Stays q t y
+    → StaysInFrame p s z
+    → StaysInFrame q t y
     → p.written ≡ 0
     → q.written ≡ 0
     → HoldsLocals source place (top s) (top t)
@@ -101,12 +101,12 @@ AreApart a n b m = (a + n ≤ b) ⊎ (b + m ≤ a)
 abbrev pub HomesStay : Type 0 → Type 0
 HomesStay A =
     (p q : Footprint) (s z t y : State A) (source : Source) (h : Home)
-    → Stays p s z
-    → Stays q t y
+    → StaysInFrame p s z
+    → StaysInFrame q t y
     → AreApart h.slot (width h.ty) p.register p.written
     → AreApart (register source h) (width h.ty) q.register q.written
-    → Holds source (top s).registers (top t) h
-    → Holds source (top z).registers (top y) h
+    → HoldsValue source (top s).registers (top t) h
+    → HoldsValue source (top z).registers (top y) h
 
 -- a home that was written holds what was stored
 abbrev pub WrittenHold : Type 0 → Type 0
@@ -118,7 +118,7 @@ WrittenHold A =
     → p.written ≡ width h.ty
     → h.slot + width h.ty ≤ length (top s).registers
     → register source h + width h.ty ≤ length (top t).registers
-    → Holds source (top z).registers (top y) h
+    → HoldsValue source (top z).registers (top y) h
 
 -- ---- where steps stand
 

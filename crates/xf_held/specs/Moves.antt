@@ -41,7 +41,7 @@ use Rattle.xf_homes.specs.Value.{width}
 use Rattle.xf_plan.specs.Source.{Source}
 use Rattle.xf_plan.specs.Plan.{register}
 use Rattle.xf_emission.specs.Move.{with_byte, load_op, store_op}
-use Rattle.xf_held.specs.Held.{Holds, slots}
+use Rattle.xf_held.specs.Held.{HoldsValue, slots}
 use Rattle.xf_held.specs.Laws.{AreApart}
 
 -- what running code rests on in a world: its classes, that its methods have declared results, and operations that speak of what is there
@@ -106,13 +106,13 @@ CopiesRun w =
 abbrev pub CopiesKeepHomes : Type 0
 CopiesKeepHomes =
     (s : Source) (values : List Cell) (g : Frame Cell) (h k m : Home) (sort : Sort)
-    → Holds s values g h
+    → HoldsValue s values g h
     → h.slot ≡ k.slot
     → width h.ty ≡ size sort
     → width k.ty ≡ size sort
     → register s k + width k.ty ≤ length g.registers
-    → (m ≡ k) ⊎ (Holds s values g m × AreApart (register s m) (width m.ty) (register s k) (width k.ty))
-    → Holds s values (record g { registers = copied tagged sort (register s h) (register s k) g.registers }) m
+    → (m ≡ k) ⊎ (HoldsValue s values g m × AreApart (register s m) (width m.ty) (register s k) (width k.ty))
+    → HoldsValue s values (record g { registers = copied tagged sort (register s h) (register s k) g.registers }) m
 
 -- ---- along a list of homes
 
@@ -204,12 +204,12 @@ pub record AreCopied (w : Linked) (s : Source) (values : List Cell) (t : State C
   pub registers : List Cell
   pub runs : Runs tagged w (2 * length ks) t (running (with_registers t last registers))
   pub count : length registers ≡ length (top t).registers
-  pub copies : Each (Holds s values (record (top t) { registers = registers })) ks
+  pub copies : Each (HoldsValue s values (record (top t) { registers = registers })) ks
   pub others :
       (h : Home)
       → HasRegister s.homes h
-      → Holds s values (top t) h
-      → Holds s values (record (top t) { registers = registers }) h
+      → HoldsValue s values (top t) h
+      → HoldsValue s values (record (top t) { registers = registers }) h
 
 -- the copies of a value from a home to others run one after the other, each in two steps
 abbrev pub HomesAreCopied : Linked → Type 0
@@ -220,7 +220,7 @@ HomesAreCopied w =
     → InstructionsStandFrom steps n (flat_map (copy_of s h) ks)
     → HasRegister s.homes h
     → CanLoad w s t h
-    → Holds s values (top t) h
+    → HoldsValue s values (top t) h
     → Each (IsCopy s (length (top t).registers) h) ks
     → size (letter_of h.ty) + length (top t).stack ≤ max_stack_of w (top t).method
     → AreCopied w s values t ks (place (n + 2 * length ks))
@@ -231,5 +231,5 @@ LoadedIsStack =
     (s : Source) (f g : Frame Cell) (hs : List Home)
     → Follow (length f.registers) hs
     → register_sum hs ≡ length f.stack
-    → Each (Holds s (slots f) g) hs
+    → Each (HoldsValue s (slots f) g) hs
     → loaded_stack s g.registers hs [] ≡ f.stack

@@ -23,7 +23,7 @@ use Rattle.xf_plan.specs.Plan.{needed}
 use Rattle.xf_emission.specs.Group.{stored}
 use Rattle.xf_typing.specs.Planned.{IsPlanned}
 use Rattle.xf_held.specs.Edges.{insns, top_at, IsBeside}
-use Rattle.xf_held.specs.Held.{Holds}
+use Rattle.xf_held.specs.Held.{HoldsValue}
 use Rattle.xf_held.specs.Moves.{AreFilled, IsAtStep, InstructionsStandFrom, value_at}
 
 -- the frame of the source has a value of the letter in local x
@@ -32,16 +32,16 @@ pub record HasLocal (w : Linked) (t : State Cell) (letter : Sort) (x : ℕ) (f :
   pub filled : AreFilled letter x f.registers
 
 -- after the moves: the local stands in all homes that are needed at q, and every value that is as before in that in which it stood
-pub record AreStored (w : Linked) (s : Source) (q x : ℕ) (f : Frame Cell) (t : State Cell) (stack : List Cell) (n last : ℕ) : Type 0 where
+pub record IsInHomes (w : Linked) (s : Source) (q x : ℕ) (f : Frame Cell) (t : State Cell) (stack : List Cell) (n last : ℕ) : Type 0 where
   pub registers : List Cell
   pub runs : Runs tagged w n t (running (top_at t last registers stack))
   pub count : length registers ≡ length (top t).registers
-  pub values : Each (Holds s f.registers (record (top t) { registers = registers })) (needed s q x)
+  pub values : Each (HoldsValue s f.registers (record (top t) { registers = registers })) (needed s q x)
   pub others :
       (h : Home)
       → HasRegister s.homes h
-      → Holds s f.registers (top t) h
-      → Holds s f.registers (record (top t) { registers = registers }) h
+      → HoldsValue s f.registers (top t) h
+      → HoldsValue s f.registers (record (top t) { registers = registers }) h
 
 -- the frame f is the source's after its store, at the place q; its value lies on the stack of t
 abbrev pub StoresRun : Linked → Linked → Type 0
@@ -55,5 +55,5 @@ StoresRun v w =
     → InstructionsStandFrom steps n (insns (stored s letter (needed s q x)))
     → (top t).stack ≡ value_at letter x f.registers ++ stack
     → length (top t).stack ≤ s.method.rec.max_stack
-    → AreStored w s q x f t stack (length (insns (stored s letter (needed s q x))))
+    → IsInHomes w s q x f t stack (length (insns (stored s letter (needed s q x))))
     (place (n + length (insns (stored s letter (needed s q x)))))

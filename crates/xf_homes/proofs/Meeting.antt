@@ -26,7 +26,7 @@ use Rattle.jc_rules.specs.Demand.{Frame}
 use Rattle.jc_rules.specs.Footprint.{footprint}
 use Rattle.xf_homes.specs.declared.home.Home.{Home}
 use Rattle.xf_homes.specs.Value.{value_of, value_at}
-use Rattle.xf_homes.specs.Home.{Spot, register_count, IsAsked, asked_here, asked_caught, IsConditional, KeepsStack, IsMet, met_local, met_cell}
+use Rattle.xf_homes.specs.Home.{Spot, register_count, IsAsked, asked_here, asked_caught, IsConditional, KeepsStack, IsMetAt, met_local, met_cell}
 use Rattle.xf_homes.specs.Walk.{Event, local_of, is_covered, caught_of, caught_events, local_events, locals_events, cells_events, operands_of, is_deeper, keeps_stack, stack_events, frame_events, place_events, code_events}
 use Rattle.xf_homes.proofs.Events.{Occurs}
 
@@ -125,16 +125,16 @@ module _ (m : Method) (frames : ℕ → Option Frame) (p x : ℕ) where
       let sum : suc n + k ≡ n + suc k = omega arith in
       inr (subst (λ i. Occurs (caught_events frames p x (suc n) js) (record { place = p; slot = x; time = suc i }) (record { slot = x; ty = ty })) sum (caught-occurs (suc n) js k h ty at e))
 
-  occurs-local : (s : Spot) (h : Home) → IsReached m p → (w : Linked) → Occurs (local_events frames m.rec.handlers p x) s h → IsMet w m frames s h
+  occurs-local : (s : Spot) (h : Home) → IsReached m p → (w : Linked) → Occurs (local_events frames m.rec.handlers p x) s h → IsMetAt w m frames s h
   unfolding local_events
   occurs-local s h reached w (inl at) =
-      subst (λ r. IsMet w m frames r h) at.spot
-      (subst (λ n. IsMet w m frames (record { place = p; slot = x; time = 0 }) (record { slot = n; ty = h.ty })) at.slot (met_local reached (asked_here (local-at frames p x h.ty (frames p) at.value))))
+      subst (λ r. IsMetAt w m frames r h) at.spot
+      (subst (λ n. IsMetAt w m frames (record { place = p; slot = x; time = 0 }) (record { slot = n; ty = h.ty })) at.slot (met_local reached (asked_here (local-at frames p x h.ty (frames p) at.value))))
   occurs-local s h reached w (inr o) =
       let c = occurs-caught 0 m.rec.handlers s h o in
       let sum : c.number ≡ 0 + c.number = omega arith in
-      subst (λ r. IsMet w m frames r h) (ap (λ (i : ℕ). record { place = p; slot = x; time = suc i }) sum ∙ c.spot)
-      (subst (λ n. IsMet w m frames (record { place = p; slot = x; time = suc c.number }) (record { slot = n; ty = h.ty })) c.slot
+      subst (λ r. IsMetAt w m frames r h) (ap (λ (i : ℕ). record { place = p; slot = x; time = suc i }) sum ∙ c.spot)
+      (subst (λ n. IsMetAt w m frames (record { place = p; slot = x; time = suc c.number }) (record { slot = n; ty = h.ty })) c.slot
       (met_local reached (caught-asked c.handler c.number h.ty c.at (is_covered c.handler p) refl c.value)))
 
   pub local-occurs : (n : ℕ) (ty : Ty) → IsAsked m frames p x n ty → Occurs (local_events frames m.rec.handlers p x) (record { place = p; slot = x; time = n }) (record { slot = x; ty = ty })
@@ -146,13 +146,13 @@ module _ (m : Method) (frames : ℕ → Option Frame) (p x : ℕ) where
       inr (subst (λ i. Occurs (caught_events frames p x 0 m.rec.handlers) (record { place = p; slot = x; time = suc i }) (record { slot = x; ty = ty })) sum (caught-occurs 0 m.rec.handlers n h ty at value))
 
 module _ (w : Linked) (m : Method) (frames : ℕ → Option Frame) (p : ℕ) (reached : IsReached m p) where
-  occurs-locals : (x n : ℕ) (s : Spot) (h : Home) → Occurs (locals_events frames m.rec.handlers p x n) s h → IsMet w m frames s h
+  occurs-locals : (x n : ℕ) (s : Spot) (h : Home) → Occurs (locals_events frames m.rec.handlers p x n) s h → IsMetAt w m frames s h
   occurs-locals x zero s h o = absurd o
   occurs-locals x (suc n) s h o = by (occurs-either (local_events frames m.rec.handlers p x) (locals_events frames m.rec.handlers p (suc x) n) s h o)
       (occurs-locals (suc x) n s h)
     where
       by : Occurs (local_events frames m.rec.handlers p x) s h ⊎ Occurs (locals_events frames m.rec.handlers p (suc x) n) s h
-          → (Occurs (locals_events frames m.rec.handlers p (suc x) n) s h → IsMet w m frames s h) → IsMet w m frames s h
+          → (Occurs (locals_events frames m.rec.handlers p (suc x) n) s h → IsMetAt w m frames s h) → IsMetAt w m frames s h
       by (inl here) rest = occurs-local m frames p x s h reached w here
       by (inr later) rest = rest later
 
@@ -264,18 +264,18 @@ module _ (w : Linked) (m : Method) (frames : ℕ → Option Frame) (leaders : Li
 
   -- ---- at an instruction
 
-  occurs-stack : IsReached m i.place → (b : Bool) → keeps_stack w m.rec leaders i (length f.stack) ≡ b → (s : Spot) (h : Home) → Occurs (stack_events b i.place (register_count m.rec) (reverse f.stack)) s h → IsMet w m frames s h
+  occurs-stack : IsReached m i.place → (b : Bool) → keeps_stack w m.rec leaders i (length f.stack) ≡ b → (s : Spot) (h : Home) → Occurs (stack_events b i.place (register_count m.rec) (reverse f.stack)) s h → IsMetAt w m frames s h
   occurs-stack reached true q s h o =
       let c = occurs-cells i.place (register_count m.rec) (reverse f.stack) 0 (length (reverse f.stack)) s h o in
-      subst (λ r. IsMet w m frames r h) c.spot
-      (subst (λ n. IsMet w m frames (record { place = i.place; slot = register_count m.rec + c.number; time = 0 }) (record { slot = n; ty = h.ty })) c.slot_is
+      subst (λ r. IsMetAt w m frames r h) c.spot
+      (subst (λ n. IsMetAt w m frames (record { place = i.place; slot = register_count m.rec + c.number; time = 0 }) (record { slot = n; ty = h.ty })) c.slot_is
       (met_cell c.number reached (keeps-sound q) (subst (λ o. IsSomeAnd o (λ g. value_at (reverse g.stack) c.number ≡ Some h.ty)) (sym there) c.value)))
   occurs-stack reached false q s h o = absurd o
 
-  occurs-frame : IsReached m i.place → (s : Spot) (h : Home) → Occurs (frame_events w m frames leaders i (Some f)) s h → IsMet w m frames s h
+  occurs-frame : IsReached m i.place → (s : Spot) (h : Home) → Occurs (frame_events w m frames leaders i (Some f)) s h → IsMetAt w m frames s h
   occurs-frame reached s h o = by (occurs-either (locals_events frames m.rec.handlers i.place 0 (register_count m.rec)) (stack_events (keeps_stack w m.rec leaders i (length f.stack)) i.place (register_count m.rec) (reverse f.stack)) s h o)
     where
-      by : Occurs (locals_events frames m.rec.handlers i.place 0 (register_count m.rec)) s h ⊎ Occurs (stack_events (keeps_stack w m.rec leaders i (length f.stack)) i.place (register_count m.rec) (reverse f.stack)) s h → IsMet w m frames s h
+      by : Occurs (locals_events frames m.rec.handlers i.place 0 (register_count m.rec)) s h ⊎ Occurs (stack_events (keeps_stack w m.rec leaders i (length f.stack)) i.place (register_count m.rec) (reverse f.stack)) s h → IsMetAt w m frames s h
       by (inl l) = occurs-locals w m frames i.place reached 0 (register_count m.rec) s h l
       by (inr r) = occurs-stack reached (keeps_stack w m.rec leaders i (length f.stack)) refl s h r
 
@@ -295,26 +295,26 @@ module _ (w : Linked) (m : Method) (frames : ℕ → Option Frame) (leaders : Li
   asked-inside p x _ ty (asked_caught {h = h} a cov at) = within x ty (frames h.entry) (sizes h.entry) at
 
   -- the pair is met at an instruction
-  occurs-place : (i : Placed) → HasInstruction m.code i → (s : Spot) (h : Home) → Occurs (place_events w m frames leaders i) s h → IsMet w m frames s h
+  occurs-place : (i : Placed) → HasInstruction m.code i → (s : Spot) (h : Home) → Occurs (place_events w m frames leaders i) s h → IsMetAt w m frames s h
   unfolding place_events
   occurs-place i stands s h o = by (frames i.place) refl o
     where
-      by : (r : Option Frame) → frames i.place ≡ r → Occurs (frame_events w m frames leaders i r) s h → IsMet w m frames s h
+      by : (r : Option Frame) → frames i.place ≡ r → Occurs (frame_events w m frames leaders i r) s h → IsMetAt w m frames s h
       by None e o = absurd o
       by (Some f) e o = occurs-frame w m frames leaders marks listed i stands f e (there i.place f e) s h o
 
-  occurs-flat : (is : List Placed) → ((i : Placed) → IsAmong i is → HasInstruction m.code i) → (s : Spot) (h : Home) → Occurs (flat_map (place_events w m frames leaders) is) s h → IsMet w m frames s h
+  occurs-flat : (is : List Placed) → ((i : Placed) → IsAmong i is → HasInstruction m.code i) → (s : Spot) (h : Home) → Occurs (flat_map (place_events w m frames leaders) is) s h → IsMetAt w m frames s h
   occurs-flat [] all s h o = absurd o
   occurs-flat (i ∷ is) all s h o =
       by (occurs-either (place_events w m frames leaders i) (flat_map (place_events w m frames leaders) is) s h (subst (λ es. Occurs es s h) (flat_map-cons (place_events w m frames leaders) i is) o))
       (occurs-flat is (λ j a. all j (inr a)) s h)
     where
       by : Occurs (place_events w m frames leaders i) s h ⊎ Occurs (flat_map (place_events w m frames leaders) is) s h
-          → (Occurs (flat_map (place_events w m frames leaders) is) s h → IsMet w m frames s h) → IsMet w m frames s h
+          → (Occurs (flat_map (place_events w m frames leaders) is) s h → IsMetAt w m frames s h) → IsMetAt w m frames s h
       by (inl here) rest = occurs-place i (all i (inl refl)) s h here
       by (inr later) rest = rest later
 
-  pub occurs-met : (s : Spot) (h : Home) → Occurs (code_events w m frames leaders) s h → IsMet w m frames s h
+  pub occurs-met : (s : Spot) (h : Home) → Occurs (code_events w m frames leaders) s h → IsMetAt w m frames s h
   unfolding code_events
   occurs-met s h o = occurs-flat (listing m.code) (λ i a. Contains-from_IsAmong i (listing m.code) a) s h o
 
@@ -337,7 +337,7 @@ module _ (w : Linked) (m : Method) (frames : ℕ → Option Frame) (leaders : Li
       flat-occurs (listing m.code) i (IsAmong-from_Contains i (listing m.code) place.1) s h
       (subst (λ o. Occurs (frame_events w m frames leaders i o) s h) (sym here) (at i place.1 place.2))
 
-  pub met-occurs : (s : Spot) (h : Home) → IsMet w m frames s h → Occurs (code_events w m frames leaders) s h
+  pub met-occurs : (s : Spot) (h : Home) → IsMetAt w m frames s h → Occurs (code_events w m frames leaders) s h
   met-occurs s h (met_local {p = p} {x = x} {n = n} {ty = ty} r a) =
       let f = framed p r in
       occurs-at p _ _ r f.0 f.1 (λ i stands e.

@@ -11,7 +11,7 @@ use Rattle.jc_control.specs.Method.{Method}
 use Rattle.jc_rules.specs.Demand.{Frame}
 use Rattle.xf_homes.specs.declared.home.Home.{Home}
 use Rattle.xf_homes.specs.Value.{width}
-use Rattle.xf_homes.specs.Home.{Spot, IsMet, met_local, met_cell, IsHome}
+use Rattle.xf_homes.specs.Home.{Spot, IsMetAt, met_local, met_cell, IsHome}
 use Rattle.xf_homes.specs.Order.{SlotsFollow, register_sum, AreHomes}
 use Rattle.xf_homes.specs.Walk.{same_home, has, register_from}
 use Rattle.xf_homes.specs.Laws.{HasRegister, Serve, HomesServe}
@@ -92,7 +92,7 @@ module _ (same : SameTypeDecides) where
   -- ---- the homes of a method
 
   module _ (w : Linked) (m : Method) (frames : ℕ → Option Frame) (homes : List Home) (are : AreHomes w m frames homes) where
-    met-among : (h : Home) → (s : Spot) × IsMet w m frames s h → (b : Bool) → has are.arguments h ≡ b → IsAmong h (are.arguments ++ are.others)
+    met-among : (h : Home) → (s : Spot) × IsMetAt w m frames s h → (b : Bool) → has are.arguments h ≡ b → IsAmong h (are.arguments ++ are.others)
     met-among h met true q = among-left h are.arguments are.others (has-among same are.arguments h q)
     met-among h met false q = among-right h are.arguments are.others
         ((are.met h).1 (met, λ argument. false≢true (sym q ∙ among-has same are.arguments h ((are.declared h).1 argument))))

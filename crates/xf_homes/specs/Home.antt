@@ -81,18 +81,18 @@ abbrev pub ComesBefore : Spot → Spot → Type 0
 ComesBefore a b = (a.place < b.place) ⊎ ((a.place ≡ b.place) × ((a.slot < b.slot) ⊎ ((a.slot ≡ b.slot) × (a.time < b.time))))
 
 -- what is met: at each reached place the types that are needed for each local, and the cells of a stack that is kept
-pub data IsMet (w : Linked) (m : Method) (frames : ℕ → Option Frame) : Spot → Home → Type 0 where
+pub data IsMetAt (w : Linked) (m : Method) (frames : ℕ → Option Frame) : Spot → Home → Type 0 where
   met_local :
       {p x n : ℕ} {ty : Ty}
       → IsReached m p
       → IsAsked m frames p x n ty
-      → IsMet w m frames (record { place = p; slot = x; time = n }) (record { slot = x; ty = ty })
+      → IsMetAt w m frames (record { place = p; slot = x; time = n }) (record { slot = x; ty = ty })
   met_cell :
       (i : ℕ) {p : ℕ} {ty : Ty}
       → IsReached m p
       → KeepsStack w m frames p
       → At frames p (λ f. value_at (reverse f.stack) i ≡ Some ty)
-      → IsMet w m frames
+      → IsMetAt w m frames
       (record { place = p; slot = register_count m.rec + i; time = 0 })
       (record { slot = register_count m.rec + i; ty = ty })
 
@@ -102,10 +102,10 @@ IsArgument r h = value_at (argument_types r) h.slot ≡ Some h.ty
 
 -- the homes are the arguments at their declared types and what is met
 abbrev pub IsHome : Linked → Method → (ℕ → Option Frame) → Home → Type 0
-IsHome w m frames h = IsArgument m.rec h ⊎ ((spot : Spot) × IsMet w m frames spot h)
+IsHome w m frames h = IsArgument m.rec h ⊎ ((spot : Spot) × IsMetAt w m frames spot h)
 
 -- a home is met before another: at a spot before each at which the other is met
 pub record IsMetBefore (w : Linked) (m : Method) (frames : ℕ → Option Frame) (h later : Home) : Type 0 where
   pub spot : Spot
-  pub met : IsMet w m frames spot h
-  pub first : (other : Spot) → IsMet w m frames other later → ComesBefore spot other
+  pub met : IsMetAt w m frames spot h
+  pub first : (other : Spot) → IsMetAt w m frames other later → ComesBefore spot other

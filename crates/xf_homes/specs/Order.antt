@@ -6,7 +6,7 @@ use Rattle.jc_control.specs.Method.{Method}
 use Rattle.jc_rules.specs.Demand.{Frame}
 use Rattle.xf_homes.specs.declared.home.Home.{Home}
 use Rattle.xf_homes.specs.Value.{width}
-use Rattle.xf_homes.specs.Home.{IsArgument, IsMet, IsMetBefore, Spot}
+use Rattle.xf_homes.specs.Home.{IsArgument, IsMetAt, IsMetBefore, Spot}
 
 -- each is met before those that follow
 abbrev pub AreInOrder : Linked → Method → (ℕ → Option Frame) → List Home → Type 0
@@ -36,5 +36,5 @@ pub record AreHomes (w : Linked) (m : Method) (frames : ℕ → Option Frame) (h
   pub declared : (h : Home) → IsAmong h arguments ↔ IsArgument m.rec h
   pub stand : SlotsFollow 0 arguments
   pub filled : register_sum arguments ≡ m.rec.nargs
-  pub met : (h : Home) → IsAmong h others ↔ (((spot : Spot) × IsMet w m frames spot h) × ¬ (IsArgument m.rec h))
+  pub met : (h : Home) → IsAmong h others ↔ (((spot : Spot) × IsMetAt w m frames spot h) × ¬ (IsArgument m.rec h))
   pub order : AreInOrder w m frames others

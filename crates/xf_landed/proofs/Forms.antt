@@ -16,36 +16,36 @@ use Rattle.jc_base.specs.World.{Linked, member_at}
 use Rattle.jc_decode.specs.declared.insn.Insn.{Insn}
 use Rattle.jc_decode.specs.Cases.{is_switch, has_cases}
 use Rattle.jc_decode.specs.Forms.{essence, with_operand, wide, is_load_n, is_store_n}
-use Rattle.jc_decode.specs.Layout.{Span, spans, holds, is_out_of_scope, instruction_of, layout_from, layout_of, opcode}
+use Rattle.jc_decode.specs.Layout.{Span, spans, is_in_span, is_out_of_scope, opcode_in_span, layout_from, layout_of, opcode}
 use Rattle.jc_decode.specs.declared.layout.Opcode.TheVariants.{Reserved, Unused}
 use Rattle.jc_decode.specs.Listing.{falls, jumps, is_branch}
 use Rattle.jc_ops.specs.declared.fault.RuleFault.{RuleFault}
 use Rattle.jc_ops.specs.declared.fault.RuleFault.TheVariants.{NotConcrete}
 use Rattle.jc_ops.specs.declared.operation.Operation.{Operation}
 use Rattle.jc_ops.specs.declared.operation.Operation.TheVariants as ops
-use Rattle.jc_ops.specs.Row.{table, row_at, unused, by_sort, by_width, by_kind, first_four, by_register, literals, binary, orders_all, branching}
+use Rattle.jc_ops.specs.Row.{table, row_at, unused, by_sort, by_width, by_kind, first_four, by_register, literals, binaries, orders_all, branching}
 use Rattle.jc_ops.specs.Resolve.{short_of, new_object, resolved, Resolves}
 use Rattle.jc_ops.specs.Sound.{IsSound, OperationsAreSound}
 use Rattle.xf_landed.proofs.Operations.{operation_renamed}
 
 -- ---- opcodes that are no byte
 
-past-span : (op : ℕ) → 255 < op → (s : Span) (rest : Option Span) (a b : Bool) → nat_le s.last 255 ≡ a → holds op s ≡ b → rest ≡ None → a ≡ true → cond b (Some s) rest ≡ None
+past-span : (op : ℕ) → 255 < op → (s : Span) (rest : Option Span) (a b : Bool) → nat_le s.last 255 ≡ a → is_in_span op s ≡ b → rest ≡ None → a ≡ true → cond b (Some s) rest ≡ None
 past-span op lt s rest true false x y r e = r
 past-span op lt s rest false b x y r e = absurd (cc)
 past-span op lt s rest true true x y r e = absurd (grind (arith, nat_tests, lt, x, y))
 
-past-spans : (op : ℕ) → 255 < op → (ss : List Span) → list_all (λ s. nat_le s.last 255) ss ≡ true → find (holds op) ss ≡ None
+past-spans : (op : ℕ) → 255 < op → (ss : List Span) → list_all (λ s. nat_le s.last 255) ss ≡ true → find (is_in_span op) ss ≡ None
 past-spans op lt [] e = refl
 past-spans op lt (s ∷ ss) e =
     let first = (and_parts (nat_le s.last 255) (list_all (λ s. nat_le s.last 255) ss) e).0 in
     let rest = past-spans op lt ss (and_parts (nat_le s.last 255) (list_all (λ s. nat_le s.last 255) ss) e).1 in
-    past-span op lt s (find (holds op) ss) (nat_le s.last 255) (holds op s) refl refl rest first
+    past-span op lt s (find (is_in_span op) ss) (nat_le s.last 255) (is_in_span op s) refl refl rest first
 
 no-layout : (op : ℕ) → 255 < op → is_switch op ≡ false
 unfolding layout_of opcode
 no-layout op lt =
-    ap (λ o. has_cases (layout_from op (if is_out_of_scope op then Reserved else instruction_of o))) (past-spans op lt spans refl) ∙ by (is_out_of_scope op)
+    ap (λ o. has_cases (layout_from op (if is_out_of_scope op then Reserved else opcode_in_span o))) (past-spans op lt spans refl) ∙ by (is_out_of_scope op)
   where
     by : (b : Bool) → has_cases (layout_from op (if b then Reserved else Unused)) ≡ false
     by true = refl
@@ -76,7 +76,7 @@ past-essence i lt = plain-essence i (with_operand i) (jumps i.op) (past-jumps i.
 
 -- opcodes that are no byte have the row of what is unused
 past-row : (op : ℕ) → 255 < op → row_at op ≡ unused
-unfolding row_at table by_sort by_width by_kind first_four by_register literals binary orders_all branching unused
+unfolding row_at table by_sort by_width by_kind first_four by_register literals binaries orders_all branching unused
 past-row op lt = get_or_past table op unused lt
 
 -- ---- opcode by opcode
@@ -96,7 +96,7 @@ module _ (x y z : ℤ) (len : ℕ) where
   table-forms : (w : Linked) (m : MethodRec) (place : ℕ)
       → map (λ op. resolved w m place (essence (insn op)) (row_at (essence (insn op)).op)) (range_with_len 0 256)
       ≡ map (λ op. resolved w m place (insn op) (row_at op)) (range_with_len 0 256)
-  unfolding layout_of opcode row_at table by_sort by_width by_kind first_four by_register literals binary orders_all branching unused
+  unfolding layout_of opcode row_at table by_sort by_width by_kind first_four by_register literals binaries orders_all branching unused
   table-forms w m place = refl
 
 at-op : {X : Type 0} (f g : ℕ → X) → map f (range_with_len 0 256) ≡ map g (range_with_len 0 256) → (op : ℕ) → op < 256 → X → f op ≡ g op
@@ -150,7 +150,7 @@ module _ (w : Linked) (m : MethodRec) where
     made p = new_object w p (short_of i.x) (member_at w m.package (short_of i.x))
 
     table-moved : map (λ row. resolved w m other i row) table ≡ set (map (λ row. resolved w m place i row) table) 143 (made other)
-    unfolding made table by_sort by_width by_kind first_four by_register literals binary orders_all branching unused
+    unfolding made table by_sort by_width by_kind first_four by_register literals binaries orders_all branching unused
     table-moved = refl
 
     unused-moved : resolved w m place i unused ≡ resolved w m other i unused
@@ -167,7 +167,7 @@ module _ (w : Linked) (m : MethodRec) where
         ∙ get_or-map (λ row. resolved w m other i row) table i.op unused
 
   new-row : (i : Insn) (place : ℕ) → resolved w m place i (row_at 143) ≡ new_object w place (short_of i.x) (member_at w m.package (short_of i.x))
-  unfolding row_at table by_sort by_width by_kind first_four by_register literals binary orders_all branching unused
+  unfolding row_at table by_sort by_width by_kind first_four by_register literals binaries orders_all branching unused
   new-row i place = refl
 
   at-new : (i : Insn) (place : ℕ) → i.op ≡ 143 → result place i ≡ new_object w place (short_of i.x) (member_at w m.package (short_of i.x))

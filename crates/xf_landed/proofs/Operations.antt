@@ -42,7 +42,7 @@ use Rattle.jc_rules.specs.declared.effect.Change.TheVariants.{Replace, MakeReady
 use Rattle.jc_rules.specs.declared.effect.Effect.{Effect}
 use Rattle.jc_rules.specs.declared.effect.Mode.TheVariants.{Flow}
 use Rattle.jc_rules.specs.declared.rule.Outcome.{Outcome}
-use Rattle.jc_rules.specs.Effect.{changed, reg, Writes, WritesCells, Stores}
+use Rattle.jc_rules.specs.Effect.{changed, reg, WritesRegister, WritesCells, StoresInRegisters}
 use Rattle.jc_rules.specs.Demand.{Frame, SatisfiesAll}
 use Rattle.jc_rules.specs.Rule.{cell, or_null, element, value_given, value_wanted, value_size, cells_wanted, receiver_wanted, call_demands, result_given, ready_with, call_effect, args_at, result_at, seen, demands, effect, wrote}
 use Rattle.jc_rules.specs.Apply.{OperationApplies}
@@ -292,7 +292,7 @@ module _ (f : ℕ → ℕ) where
 
     -- ---- stores
 
-    writes-renamed : (t : ClassTable) (x : ℕ) (ty : Ty) (before after : List Ty) → Writes t Flow x ty before after → Writes t Flow x (renamed f ty) (map (renamed f) before) (map (renamed f) after)
+    writes-renamed : (t : ClassTable) (x : ℕ) (ty : Ty) (before after : List Ty) → WritesRegister t Flow x ty before after → WritesRegister t Flow x (renamed f ty) (map (renamed f) before) (map (renamed f) after)
     writes-renamed t x ty before after h = record {
       value = renamed f h.value;
       stored = ap (renamed f) h.stored;
@@ -318,7 +318,7 @@ module _ (f : ℕ → ℕ) where
         record {
           asked = subst (SatisfiesAll w.classes (frame_renamed f before)) (sym (demands-alike op)) (all-renamed f w.classes before (demands w op) (demands-ready w is m place op sound) h.asked);
           regs =
-              subst (λ x. Stores w.classes Flow x.store (map (renamed f) before.regs) (map (renamed f) after.regs)) (sym e)
+              subst (λ x. StoresInRegisters w.classes Flow x.store (map (renamed f) before.regs) (map (renamed f) after.regs)) (sym e)
               (stores-renamed w.classes (effect w op before).store.register (effect w op before).store.cells before.regs after.regs h.regs);
           stack = ap (map (renamed f)) h.stack ∙ sym (changed-renamed f one (effect w op before).change before.stack) ∙ ap (λ x. changed x.change (map (renamed f) before.stack)) (sym e);
           room = omega (arith, h.room, length-map after.stack (renamed f));

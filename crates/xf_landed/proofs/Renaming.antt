@@ -18,7 +18,7 @@ use Rattle.jc_rules.specs.declared.effect.Cells.TheVariants as given
 use Rattle.jc_rules.specs.declared.effect.Change.{Change}
 use Rattle.jc_rules.specs.declared.effect.Change.TheVariants.{Replace, CopyUnder, Exchange, MakeReady}
 use Rattle.jc_rules.specs.declared.effect.Effect.{Effect}
-use Rattle.jc_rules.specs.Effect.{listed, ready, changed}
+use Rattle.jc_rules.specs.Effect.{in_stack_order, ready, changed}
 use Rattle.jc_rules.specs.Demand.{Frame, IsArrayOrNull, IsHalf, IsFreshOf, Meets, Splits, Satisfies, SatisfiesAll}
 use Rattle.jc_rules.specs.Flow.{CellsBelow, no_cells, more_cells, IsNotFresh}
 use Rattle.xf_landed.specs.Laid.{renamed}
@@ -161,7 +161,7 @@ module _ (f : ℕ → ℕ) where
   abbrev pub effect_renamed : Effect → Effect
   effect_renamed e = record { change = change_renamed e.change; store = record { register = e.store.register; cells = given_renamed e.store.cells } }
 
-  listed-renamed : (cells : Cells) → listed (given_renamed cells) ≡ map (renamed f) (listed cells)
+  listed-renamed : (cells : Cells) → in_stack_order (given_renamed cells) ≡ map (renamed f) (in_stack_order cells)
   listed-renamed given.Nothing = refl
   listed-renamed (given.One ty) = refl
   listed-renamed given.Int = refl
@@ -185,7 +185,7 @@ module _ (f : ℕ → ℕ) where
     changed-renamed (Replace taken cells) xs =
         let a = listed-renamed cells in
         let b = drop-map (renamed f) taken xs in
-        let c = map-append (renamed f) (listed cells) (drop taken xs) in
+        let c = map-append (renamed f) (in_stack_order cells) (drop taken xs) in
         cc
     changed-renamed (CopyUnder copied under) xs =
         let a = take-map (renamed f) under xs in
@@ -206,5 +206,5 @@ module _ (f : ℕ → ℕ) where
         let a = listed-renamed cells in
         let b = drop-map (renamed f) taken xs in
         let d = all-ready-alike place class (drop taken xs) in
-        let e = map-append (renamed f) (listed cells) (map (ready place class) (drop taken xs)) in
+        let e = map-append (renamed f) (in_stack_order cells) (map (ready place class) (drop taken xs)) in
         cc

@@ -24,13 +24,13 @@ use Rattle.jc_ops.specs.declared.operation.Choice.{Choice}
 use Rattle.jc_ops.specs.declared.operation.Choice.TheVariants as choices
 use Rattle.jc_ops.specs.declared.operation.Operation.{Operation}
 use Rattle.jc_ops.specs.declared.operation.Operation.TheVariants as ops
-use Rattle.jc_ops.specs.Row.{table, row_at, unused, by_sort, by_width, by_kind, first_four, by_register, literals, binary, orders_all, branching}
+use Rattle.jc_ops.specs.Row.{table, row_at, unused, by_sort, by_width, by_kind, first_four, by_register, literals, binaries, orders_all, branching}
 use Rattle.jc_ops.specs.Resolve.{byte_of, short_of, taken_if, on, callee_if, entry_callee, virtual_callee, own_receiver, special_callee, static_callee, is_described, passes, described, only, described_callee, interface_callee, new_object, resolved}
 use Rattle.jc_control.specs.Method.{Method}
 use Rattle.jc_rules.specs.declared.effect.Mode.{Mode}
 use Rattle.jc_rules.specs.declared.rule.Outcome.{Outcome}
 use Rattle.jc_rules.specs.Demand.{Frame, SatisfiesAll}
-use Rattle.jc_rules.specs.Effect.{Stores, rises, changed}
+use Rattle.jc_rules.specs.Effect.{StoresInRegisters, raises_register, changed}
 use Rattle.jc_rules.specs.Rule.{call_demands, call_effect, args_at, result_at, demands, effect, wrote}
 use Rattle.jc_rules.specs.Apply.{OperationApplies, RuleApplies}
 use Rattle.jc_rules.specs.Flow.{FlowTyping, IsFollowed}
@@ -163,11 +163,11 @@ module _ (v : Linked) (infos : List (List ℕ)) (methods : List MethodRec) (inde
         (new_object w place (short_of i.x) (member i.x))
 
     results-here : map (λ row. resolved v m place i row) table ≡ results_in v
-    unfolding table by_sort by_width by_kind first_four by_register literals binary orders_all branching unused
+    unfolding table by_sort by_width by_kind first_four by_register literals binaries orders_all branching unused
     results-here = refl
 
     results-there : map (λ row. resolved other m place i row) table ≡ results_in other
-    unfolding table by_sort by_width by_kind first_four by_register literals binary orders_all branching unused
+    unfolding table by_sort by_width by_kind first_four by_register literals binaries orders_all branching unused
     results-there = refl
 
     results-same : results_in v ≡ results_in other
@@ -214,14 +214,14 @@ module _ (v : Linked) (infos : List (List ℕ)) (methods : List MethodRec) (inde
       let e = effect-same op f in
       record {
         asked = subst (SatisfiesAll v.classes f) (demands-same op) a.asked;
-        regs = subst (λ x. Stores v.classes mode x.store f.regs g.regs) e a.regs;
+        regs = subst (λ x. StoresInRegisters v.classes mode x.store f.regs g.regs) e a.regs;
         stack = a.stack ∙ ap (λ x. changed x.change f.stack) e;
         room = a.room;
         falls = a.falls;
         ends = a.ends;
         depth = a.depth;
         wrote_is = a.wrote_is ∙ ap (λ x. wrote x.store.register x.store.cells) e;
-        rose_is = a.rose_is ∙ ap (λ x. rises v.classes mode x.store f.regs) e;
+        rose_is = a.rose_is ∙ ap (λ x. raises_register v.classes mode x.store f.regs) e;
       }
 
   rule-kept : (m : MethodRec) (place : ℕ) (i : Insn) (mode : Mode) (f g : Frame) (o : Outcome) → RuleApplies v m place i mode f g o → RuleApplies other m place i mode f g o
@@ -305,7 +305,7 @@ methods-are-kept v w n same = alike-at v w.infos w.methods w.indexes same.method
 
 module _ (w : Linked) (m : MethodRec) (place : ℕ) (i : Insn) where
   apart-table : map (λ row. resolved w m place i row) table ≡ map (λ row. resolved w (apart_from_code m) place i row) table
-  unfolding table by_sort by_width by_kind first_four by_register literals binary orders_all branching unused
+  unfolding table by_sort by_width by_kind first_four by_register literals binaries orders_all branching unused
   apart-table = refl
 
   apart-unused : resolved w m place i unused ≡ resolved w (apart_from_code m) place i unused

@@ -18,7 +18,7 @@ use Rattle.jc_decode.specs.Encoding.{ReadsBack, sized}
 use Rattle.jc_decode.specs.Listing.{is_branch, jumps, target, targets}
 use Rattle.jc_decode.specs.Forms.{essence, is_load_n, is_store_n}
 use Rattle.jc_decode.specs.Symbols.{jump}
-use Rattle.xf_layout.specs.Laid.{StandsHere, IsPiece, leads_to, led}
+use Rattle.xf_layout.specs.Laid.{StandsHere, IsPiece, label_targets, led}
 
 -- what is no switch has no cases
 pub no-cases : (xs : List ℕ) (at : ℕ) (i : Insn) → is_switch i.op ≡ false → cases xs at i ≡ []
@@ -103,7 +103,7 @@ jump-piece source place here op l j xs at bytes reads alike branch only x before
 
 -- cases that lead to labels
 leads-led : (place : ℕ → ℕ) (here : ℕ) (ls : List ℕ) (cs : List Case) → length ls ≡ length cs
-    → map (λ c. target here c.offset) (led place here ls cs) ≡ leads_to place ls
+    → map (λ c. target here c.offset) (led place here ls cs) ≡ label_targets place ls
 leads-led place here [] [] h = refl
 leads-led place here [] (c ∷ cs) h = absurd (omega (arith, h))
 leads-led place here (l ∷ ls) [] h = absurd (omega (arith, h))
@@ -124,7 +124,7 @@ pub switch-piece : (source : List ℕ) (place : ℕ → ℕ) (here : ℕ) (i : I
 switch-piece source place here i from l ls s bytes reads alike switch x led_so count before after start =
     let stands = read-back bytes 0 s bytes reads i alike here before after start in
     let jumps_so : jumps s.op ≡ true = or_right (is_branch s.op) (is_switch s.op) switch in
-    let leads : leads_from here s (cases bytes 0 s) ≡ leads_to place (l ∷ ls) =
+    let leads : leads_from here s (cases bytes 0 s) ≡ label_targets place (l ∷ ls) =
     rw (jumps_so, led_so)
     (ap (λ (d : ℤ). d ∷ map (λ c. target here c.offset) (led place here ls (cases source from i))) (ap (target here) x ∙ there-and-back here (place l))
     ∙ ap (λ (ds : List ℤ). pos (place l) ∷ ds) (leads-led place here ls (cases source from i) count)) in

@@ -13,8 +13,8 @@ use Rattle.xf_layout.specs.declared.form.Form.{Form}
 use Rattle.xf_layout.specs.declared.form.Form.TheVariants.{Fixed, Jump, Mark}
 use Rattle.xf_layout.specs.declared.plan.Plan.{Plan}
 use Rattle.xf_layout.specs.Form.{IsForm, AreForms, form_bytes, begins, end_of, label_place}
-use Rattle.xf_layout.specs.Plan.{IsPlan}
-use Rattle.xf_layout.specs.Laid.{AreReached, IsNearFrom, IsPlacedRange, ItemsStand, labels_of}
+use Rattle.xf_layout.specs.Plan.{IsLayoutPlan}
+use Rattle.xf_layout.specs.Laid.{AreInReach, IsNearFrom, IsPlacedRange, ItemsStand, labels_of}
 use Rattle.xf_layout.proofs.Notes.{jump-once}
 use Rattle.xf_layout.proofs.Stood.{label-instruction, instruction-rises}
 
@@ -60,11 +60,11 @@ form-few [] k f e = absurd (cc)
 form-few (x ∷ fs) zero f e = let a : x ≡ f = cc in omega (arith, ap form_bytes a)
 form-few (x ∷ fs) (suc k) f e = omega (arith, form-few fs k f e)
 
-once-reached : (items : List Item) (p : Plan) → IsPlan items p → p.end ≤ 32767 → (l : ℕ) → IsOnce items l → slice_index p.places l ≤ 32767
+once-reached : (items : List Item) (p : Plan) → IsLayoutPlan items p → p.end ≤ 32767 → (l : ℕ) → IsOnce items l → slice_index p.places l ≤ 32767
 once-reached items p plan few l once = omega (arith, plan.places l once, label-end p.forms.items l, plan.end, few)
 
-pub item-reached : (source : List ℕ) (items : List Item) (p : Plan) → IsPlan items p → p.end ≤ 32767 → (i : Item) → IsItem source items i
-    → AreReached p.places (labels_of i)
+pub item-reached : (source : List ℕ) (items : List Item) (p : Plan) → IsLayoutPlan items p → p.end ≤ 32767 → (i : Item) → IsItem source items i
+    → AreInReach p.places (labels_of i)
 item-reached source items p plan few (Plain i) item = All-nil (λ l. slice_index p.places l ≤ 32767)
 item-reached source items p plan few (Branch op l) item =
     All-cons (λ l. slice_index p.places l ≤ 32767) l [] (once-reached items p plan few l item.1) (All-nil (λ l. slice_index p.places l ≤ 32767))
@@ -72,7 +72,7 @@ item-reached source items p plan few (Switch i at labels) item =
     All-weaker (IsOnce items) (λ l. slice_index p.places l ≤ 32767) (once-reached items p plan few) labels item.3
 item-reached source items p plan few (Label l) item = All-nil (λ l. slice_index p.places l ≤ 32767)
 
-pub form-near : (source : List ℕ) (items : List Item) (p : Plan) → IsPlan items p → p.end ≤ 32767 → All (IsItem source items) items
+pub form-near : (source : List ℕ) (items : List Item) (p : Plan) → IsLayoutPlan items p → p.end ≤ 32767 → All (IsItem source items) items
     → (k : ℕ) (f : Form) → slice_get p.forms.items k ≡ Some f → IsNearFrom (slice_index p.places) (begins p.forms.items k) f
 form-near source items p plan few ok k (Fixed n) e = tt
 form-near source items p plan few ok k (Mark l) e = tt
@@ -81,7 +81,7 @@ form-near source items p plan few ok k (Jump l false) e =
     let once = jump-once source items items p.forms.items ok plan.forms k l false e in
     subst (λ (n : ℕ). IsTrue (is_near (pos n -ℤ pos (begins p.forms.items k)))) (sym (plan.places l once)) (plan.fit few k l e)
 
-pub range-placed : (items : List Item) (p : Plan) → IsPlan items p → p.end ≤ 32767 → (r : Range) → IsRange items r → IsPlacedRange p.places r
+pub range-placed : (items : List Item) (p : Plan) → IsLayoutPlan items p → p.end ≤ 32767 → (r : Range) → IsRange items r → IsPlacedRange p.places r
 range-placed items p plan few r range = record {
   to = once-reached items p plan few r.to range.to;
   entry = once-reached items p plan few r.entry range.entry;

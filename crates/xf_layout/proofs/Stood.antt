@@ -17,7 +17,7 @@ use Rattle.jc_decode.specs.Standing.{IsStep, AreSteps}
 use Rattle.xf_layout.specs.declared.form.Form.{Form}
 use Rattle.xf_layout.specs.declared.form.Form.TheVariants.{Fixed, Jump, Mark}
 use Rattle.xf_layout.specs.Form.{AreForms, form_bytes, label_place, instruction_place}
-use Rattle.xf_layout.specs.Laid.{StandsHere, ItemStands, ItemsStand, Adds, leads_to}
+use Rattle.xf_layout.specs.Laid.{StandsHere, ItemStands, ItemsStand, Adds, label_targets}
 
 -- ---- one more item at the end of a code
 
@@ -68,10 +68,10 @@ label-instruction (Label m ∷ is) (Fixed n ∷ fs) h l = absurd h.0
 label-instruction (Label m ∷ is) (Jump n w ∷ fs) h l = absurd h.0
 
 leads-agree : (place to : ℕ → ℕ) (all : List Item) → ((l : ℕ) → IsOnce all l → place l ≡ to (place_of l all)) → (labels : List ℕ) → All (IsOnce all) labels
-    → leads_to place labels ≡ map (λ t. pos (to t)) (map (λ l. place_of l all) labels)
+    → label_targets place labels ≡ map (λ t. pos (to t)) (map (λ l. place_of l all) labels)
 leads-agree place to all agree [] h = refl
 leads-agree place to all agree (l ∷ ls) h =
-    ap (λ (n : ℕ). pos n ∷ leads_to place ls) (agree l (All-head (IsOnce all) l ls h))
+    ap (λ (n : ℕ). pos n ∷ label_targets place ls) (agree l (All-head (IsOnce all) l ls h))
     ∙ ap (λ (ds : List ℤ). pos (to (place_of l all)) ∷ ds) (leads-agree place to all agree ls (All-tail (IsOnce all) l ls h))
 
 -- ---- the steps
@@ -122,14 +122,14 @@ steps-stand one past source place to all agree code (Plain i ∷ is) (Fixed b �
 steps-stand one past source place to all agree code (Branch op l ∷ is) (Jump m w ∷ fs) n here ok forms shift stands =
     let next = shifted-next to n here (form_bytes (Jump m w)) (Jump m w) fs shift (λ m. refl) in
     let item = All-head (IsItem source all) (Branch op l) is ok in
-    one-step one code to n here (jump op) (form_bytes (Jump m w)) (leads_to place (l ∷ [])) [] (place_of l all ∷ []) (steps_in source all is) stands.0
+    one-step one code to n here (jump op) (form_bytes (Jump m w)) (label_targets place (l ∷ [])) [] (place_of l all ∷ []) (steps_in source all is) stands.0
     (ap (λ (k : ℕ). pos k ∷ []) (agree l item.1))
     (shifted-start to n here (Jump m w ∷ fs) shift) (shifted-start to (suc n) (here + form_bytes (Jump m w)) fs next)
     (steps-stand one past source place to all agree code is fs (suc n) (here + form_bytes (Jump m w)) (All-tail (IsItem source all) (Branch op l) is ok) forms.1 next stands.1)
 steps-stand one past source place to all agree code (Switch i at labels ∷ is) (Fixed b ∷ fs) n here ok forms shift stands =
     let next = shifted-next to n here b (Fixed b) fs shift (λ m. refl) in
     let item = All-head (IsItem source all) (Switch i at labels) is ok in
-    one-step one code to n here i b (leads_to place labels) (map (λ c. c.key) (cases source at i)) (map (λ l. place_of l all) labels) (steps_in source all is) stands.0
+    one-step one code to n here i b (label_targets place labels) (map (λ c. c.key) (cases source at i)) (map (λ l. place_of l all) labels) (steps_in source all is) stands.0
     (leads-agree place to all agree labels item.3)
     (shifted-start to n here (Fixed b ∷ fs) shift) (shifted-start to (suc n) (here + b) fs next)
     (steps-stand one past source place to all agree code is fs (suc n) (here + b) (All-tail (IsItem source all) (Switch i at labels) is ok) forms.1 next stands.1)

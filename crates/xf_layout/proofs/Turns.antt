@@ -12,7 +12,7 @@ use Rattle.xf_layout.specs.declared.form.Form.{Form}
 use Rattle.xf_layout.specs.declared.form.Form.TheVariants.{Fixed, Jump, Mark}
 use Rattle.xf_layout.specs.Form.{IsForm, AreForms, form_bytes, begins, label_place}
 use Rattle.xf_layout.specs.Shortest.{Fit, NoWider, distance}
-use Rattle.xf_layout.specs.Widening.{is_short, widened_form, widened}
+use Rattle.xf_layout.specs.Widening.{is_short_jump, widened_form, widened}
 use Rattle.xf_layout.proofs.Below.{IsBelow, AreBelow, below-from, near-below}
 
 -- the k-th form after a turn
@@ -87,7 +87,7 @@ widened-least place items fs others placed p q fit wide k l e = by_form (slice_g
 -- ---- a turn that makes no jump wide
 
 abbrev pub short-of : Form → ℕ
-short-of f = cond (is_short f) 1 0
+short-of f = cond (is_short_jump f) 1 0
 
 pub short-falls : (place : ℕ → ℕ) (at : ℕ) (f : Form) → short-of (widened_form place at f) ≤ short-of f
 short-falls place at (Fixed n) = omega arith
@@ -109,7 +109,7 @@ short-same place at (Jump l false) e = by_test (is_near (pos (place l) -ℤ pos 
     by_test true e = refl
     by_test false e = absurd (omega (arith, e))
 
-pub shorts-fall : (place : ℕ → ℕ) (at : ℕ) (fs : List Form) → count_by is_short (widened place at fs) ≤ count_by is_short fs
+pub shorts-fall : (place : ℕ → ℕ) (at : ℕ) (fs : List Form) → count_by is_short_jump (widened place at fs) ≤ count_by is_short_jump fs
 shorts-fall place at [] = omega arith
 shorts-fall place at (f ∷ fs) =
     omega (
@@ -120,7 +120,7 @@ shorts-fall place at (f ∷ fs) =
       shorts-fall place (at + form_bytes f) fs,
     )
 
-pub same-widened : (place : ℕ → ℕ) (at : ℕ) (fs : List Form) → count_by is_short (widened place at fs) ≡ count_by is_short fs
+pub same-widened : (place : ℕ → ℕ) (at : ℕ) (fs : List Form) → count_by is_short_jump (widened place at fs) ≡ count_by is_short_jump fs
     → widened place at fs ≡ fs
 same-widened place at [] e = refl
 same-widened place at (f ∷ fs) e =

@@ -11,7 +11,7 @@ use Rattle.jc_decode.specs.Symbols.{place_of, steps, handler, IsOnce, IsItem, Is
 use Rattle.jc_decode.specs.Standing.{AreSteps, StandsAt}
 use Rattle.xf_layout.specs.declared.plan.Plan.{Plan}
 use Rattle.xf_layout.specs.Form.{instruction_place}
-use Rattle.xf_layout.specs.Plan.{IsPlan}
+use Rattle.xf_layout.specs.Plan.{IsLayoutPlan}
 use Rattle.xf_layout.specs.Laid.{ItemsStand}
 use Rattle.xf_layout.proofs.Stood.{IsShifted, instruction-start, label-instruction, steps-stand, end-stands, handlers-agree}
 
@@ -36,7 +36,7 @@ laid-items source p xs items bytes code same equal stands =
     subst (λ (ys : List ℕ). ItemsStand source (slice_index p.places) ys 0 items p.forms.items) (sym equal)
     (subst (λ (ys : List Item). ItemsStand source (slice_index p.places) bytes 0 ys p.forms.items) same stands)
 
-pub stands-at : (source : List ℕ) (symbols : Symbols) (p : Plan) (laid : Laid) → IsPlan symbols.items p → ListingIsOne → NothingPastTheEnd
+pub stands-at : (source : List ℕ) (symbols : Symbols) (p : Plan) (laid : Laid) → IsLayoutPlan symbols.items p → ListingIsOne → NothingPastTheEnd
     → All (IsItem source symbols.items) symbols.items → All (IsRange symbols.items) symbols.ranges
     → ItemsStand source (slice_index p.places) laid.code 0 symbols.items p.forms.items
     → laid.handlers ≡ map (handler (slice_index p.places)) symbols.ranges

@@ -25,15 +25,15 @@ pub record StandsHere (code : List ℕ) (at : ℕ) (same : Insn) (long : ℕ) (l
   pub keyed : map (λ c. c.key) (cases code at insn) ≡ keys
 
 -- the targets of an item, where labels stand at these places
-abbrev pub leads_to : (ℕ → ℕ) → List ℕ → List ℤ
-leads_to place labels = map (λ l. pos (place l)) labels
+abbrev pub label_targets : (ℕ → ℕ) → List ℕ → List ℤ
+label_targets place labels = map (λ l. pos (place l)) labels
 
 -- an item stands at a place of the code; a label takes no byte
 abbrev pub ItemStands : List ℕ → (ℕ → ℕ) → List ℕ → ℕ → Item → ℕ → Type 0
 ItemStands source place code here (Plain i) long = StandsHere code here i long [] []
-ItemStands source place code here (Branch op l) long = StandsHere code here (jump op) long (leads_to place (l ∷ [])) []
+ItemStands source place code here (Branch op l) long = StandsHere code here (jump op) long (label_targets place (l ∷ [])) []
 ItemStands source place code here (Switch i at labels) long =
-    StandsHere code here i long (leads_to place labels) (map (λ c. c.key) (cases source at i))
+    StandsHere code here i long (label_targets place labels) (map (λ c. c.key) (cases source at i))
 ItemStands source place code here (Label l) long = long ≡ 0
 
 -- these items stand in the code from a place on, one after the other, to its end
@@ -70,8 +70,8 @@ led place here (l ∷ ls) [] = []
 led place here (l ∷ ls) (c ∷ cs) = leading (pos (place l) -ℤ pos here) c ∷ led place here ls cs
 
 -- each label stands at a place that a method's code can have
-abbrev pub AreReached : List ℕ → List ℕ → Type 0
-AreReached places labels = All (λ l. slice_index places l ≤ 32767) labels
+abbrev pub AreInReach : List ℕ → List ℕ → Type 0
+AreInReach places labels = All (λ l. slice_index places l ≤ 32767) labels
 
 -- a short jump in code at a place fits
 abbrev pub IsNearFrom : (ℕ → ℕ) → ℕ → Form → Type 0

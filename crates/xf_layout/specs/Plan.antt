@@ -8,7 +8,7 @@ use Rattle.xf_layout.specs.declared.plan.Plan.{Plan}
 use Rattle.xf_layout.specs.Form.{AreForms, end_of, label_place}
 use Rattle.xf_layout.specs.Shortest.{Fit, NoWider}
 
-pub record IsPlan (items : List Item) (p : Plan) : Type 0 where
+pub record IsLayoutPlan (items : List Item) (p : Plan) : Type 0 where
   pub forms : AreForms items p.forms.items
   pub least : (others : List Form) → AreForms items others → Fit others → NoWider p.forms.items others
   pub end : p.end ≡ end_of p.forms.items

@@ -19,10 +19,10 @@ is_wide (Fixed n) = false
 is_wide (Jump l wide) = wide
 is_wide (Mark l) = false
 
-abbrev pub is_short : Form → Bool
-is_short (Fixed n) = false
-is_short (Jump l wide) = not wide
-is_short (Mark l) = false
+abbrev pub is_short_jump : Form → Bool
+is_short_jump (Fixed n) = false
+is_short_jump (Jump l wide) = not wide
+is_short_jump (Mark l) = false
 
 -- the form at a place, where labels stand at these places
 abbrev pub widened_form : (ℕ → ℕ) → ℕ → Form → Form

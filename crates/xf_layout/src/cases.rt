@@ -1,7 +1,7 @@
 ghost use Rattle.std.specs.Prelude.{◌≡◌, ◌≤◌, ◌+◌, Ok, OnOk, IsTrue, length, map, slice_index};
 ghost use Rattle.jc_decode.specs.Decoding.{decoded};
 ghost use Rattle.jc_decode.specs.Cases.{cases, is_switch, with_default};
-ghost use Rattle.xf_layout.specs.Laid.{AreReached, AddsSwitch, led};
+ghost use Rattle.xf_layout.specs.Laid.{AreInReach, AddsSwitch, led};
 
 use crate::distance::distance;
 use crate::places::Places;
@@ -25,7 +25,7 @@ pub fn lay_switch(
     requires switch { IsTrue (is_switch insn.op) }
     requires there { with_default insn.x (decoded source.bytes.now at) ≡ Ok insn }
     requires count { length labels.now ≡ length (cases source.bytes.now at insn) + 1 }
-    requires reached { AreReached places.now labels.now }
+    requires reached { AreInReach places.now labels.now }
     ensures { OnOk result (AddsSwitch source.entry.bytes.now (slice_index places.now) insn at labels.now
         code.old.items code.new.items) }
 {
@@ -52,7 +52,7 @@ fn lead_cases(bytes: &mut [u8], switch: Insn, labels: &[u16], places: &Places, h
     requires count { length labels.now ≡ length (cases bytes.old 0 switch) }
     requires few { length labels.now ≤ 65535 }
     requires here { here ≤ 32767 }
-    requires reached { AreReached places.now labels.now }
+    requires reached { AreInReach places.now labels.now }
     ensures decoded { decoded bytes.new 0 ≡ Ok switch }
     ensures cases { cases bytes.new 0 switch
         ≡ led (slice_index places.now) here labels.now (cases bytes.old 0 switch) }

@@ -2,7 +2,7 @@ ghost use Rattle.std.specs.Prelude.{◌≡◌, ◌≤◌, slice_index, if◌then
 ghost use Rattle.jc_decode.specs.Forms.{is_near};
 ghost use Rattle.xf_layout.specs.Form.{form_bytes};
 ghost use Rattle.xf_layout.specs.Places.{IsInRoom};
-ghost use Rattle.xf_layout.specs.Widening.{is_short, is_wide, shortest, widened_form};
+ghost use Rattle.xf_layout.specs.Widening.{is_short_jump, is_wide, shortest, widened_form};
 
 use crate::places::Places;
 use jc_decode::Item;
@@ -65,7 +65,7 @@ impl Form {
 
     /// 1 of a short jump, and else 0.
     pub(crate) fn short_jumps(self) -> usize
-        ensures { result ≡ (if is_short self then 1 else 0) }
+        ensures { result ≡ (if is_short_jump self then 1 else 0) }
     {
         match self {
             Form::Jump { is_wide, .. } => usize::from(!is_wide),

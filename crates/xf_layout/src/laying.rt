@@ -1,8 +1,8 @@
 ghost use Rattle.std.specs.Prelude.{◌≡◌, ◌≤◌, ℕ, List, All, length, OnOk, IfOk, slice_index};
 ghost use Rattle.jc_decode.specs.Symbols.{IsItem};
 ghost use Rattle.xf_layout.specs.Form.{IsForm, form_bytes};
-ghost use Rattle.xf_layout.specs.Plan.{IsPlan};
-ghost use Rattle.xf_layout.specs.Laid.{Adds, AreReached, IsNearFrom, ItemsStand, labels_of};
+ghost use Rattle.xf_layout.specs.Plan.{IsLayoutPlan};
+ghost use Rattle.xf_layout.specs.Laid.{Adds, AreInReach, IsNearFrom, ItemsStand, labels_of};
 
 use crate::cases::lay_switch;
 use crate::distance::distance;
@@ -22,7 +22,7 @@ pub fn lay_items(
 ) -> Result<Vec<u8>, AllocError>
     requires short { length source.bytes.now ≤ 32767 }
     requires items { All (IsItem source.bytes.now items.now) items.now }
-    requires plan { IsPlan items.now plan.now }
+    requires plan { IsLayoutPlan items.now plan.now }
     requires few { plan.now.end ≤ 32767 }
     ensures { IfOk result (λ code.
         ItemsStand source.entry.bytes.now (slice_index plan.now.places) code.items 0
@@ -51,7 +51,7 @@ fn lay_item(
     requires form { IsForm item.now form }
     requires few { form_bytes form ≤ 32767 }
     requires here { length code.old.items ≤ 32767 }
-    requires reached { AreReached places.now (labels_of item.now) }
+    requires reached { AreInReach places.now (labels_of item.now) }
     requires near { IsNearFrom (slice_index places.now) (length code.old.items) form }
     ensures { OnOk result (Adds source.entry.bytes.now (slice_index places.now) item.now form
         code.old.items code.new.items) }

@@ -1,6 +1,6 @@
 ghost use Rattle.std.specs.Prelude.{◌<◌, ◌^◌, ℕ, List, All, IfOk};
 ghost use Rattle.jc_decode.specs.Symbols.{IsItem, plain_size};
-ghost use Rattle.xf_layout.specs.Plan.{IsPlan};
+ghost use Rattle.xf_layout.specs.Plan.{IsLayoutPlan};
 
 use crate::form::Form;
 use crate::places::Places;
@@ -26,7 +26,7 @@ impl Plan {
     pub fn of(alloc: Global, items: &[Item]) -> Result<Plan, AllocError>
         requires items { (source : List ℕ) × All (IsItem source items.now) items.now }
         requires size { plain_size items.now < 2 ^ 32 }
-        ensures { IfOk result (λ p. IsPlan items.now p) }
+        ensures { IfOk result (λ p. IsLayoutPlan items.now p) }
     {
         short_is_no_longer();
         let mut forms = shortest_forms(alloc, items)?;

@@ -1,6 +1,6 @@
 ghost use Rattle.std.specs.Prelude.{◌≡◌, ◌<◌, ◌+◌, ◌^◌, IfOk, map, count_by, slice_index};
 ghost use Rattle.xf_layout.specs.Form.{end_of};
-ghost use Rattle.xf_layout.specs.Widening.{is_short, shortest, widened};
+ghost use Rattle.xf_layout.specs.Widening.{is_short_jump, shortest, widened};
 
 use crate::form::Form;
 use crate::places::Places;
@@ -22,7 +22,7 @@ pub fn shortest_forms(alloc: Global, items: &[Item]) -> Result<Vec<Form>, AllocE
 pub fn widen(forms: &mut Vec<Form>, places: &Places) -> usize
     requires { end_of forms.old.items < 2 ^ 32 }
     ensures forms { forms.new.items ≡ widened (slice_index places.now) 0 forms.old.items }
-    ensures risen { result + count_by is_short forms.new.items ≡ count_by is_short forms.old.items }
+    ensures risen { result + count_by is_short_jump forms.new.items ≡ count_by is_short_jump forms.old.items }
 {
     let mut at = 0;
     let mut risen = 0;

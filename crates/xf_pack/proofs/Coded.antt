@@ -30,7 +30,7 @@ use Rattle.xf_typing.specs.Typed.{HasTypingByHomes}
 use Rattle.xf_world.specs.Laid.{IsLaidFor}
 use Rattle.xf_pack.specs.declared.end.MethodLimit.TheVariants as limits
 use Rattle.xf_pack.specs.Limits.{HasHomes}
-use Rattle.xf_pack.specs.Passes.{IsRewrittenTo, IsSound, IsTypedBy}
+use Rattle.xf_pack.specs.Passes.{IsRewrittenTo, FitsMethod, IsTypedBy}
 use Rattle.xf_pack.specs.Unlaid.{IsUnlaid, TellsUnlaid, of_homes, of_layout, of_rewriting}
 use Rattle.xf_pack.proofs.Passing.{method-of}
 use Rattle.xf_pack.proofs.Sound.{is-sound}
@@ -145,7 +145,7 @@ module _ (w : Linked) (m : Method) (symbols : Symbols) (known : IsRewrittenTo w 
     short = short;
   }
 
-  pub laid-sound : InstructionsAreListed → LaidIsTyped w → IsMethod w.infos w.pools w.classes m.rec → (laid : Laid) → StandsShortest m.code symbols laid → length laid.code ≤ 32767 → IsSound m.rec laid
+  pub laid-sound : InstructionsAreListed → LaidIsTyped w → IsMethod w.infos w.pools w.classes m.rec → (laid : Laid) → StandsShortest m.code symbols laid → length laid.code ≤ 32767 → FitsMethod m.rec laid
   laid-sound listed landed is laid stands short =
       is-sound w m (state_at known.typing) known.homes symbols laid _ listed landed known.method is.result known.typed.typed.least.typing known.rewritten known.types known.live
       known.numbers known.few stands.2 short

@@ -2,7 +2,7 @@
 use Rattle.std.proofs.Common.{◌≡◌, ℕ, zero, suc, ◌+◌, ◌-◌, ◌<◌, ◌≤◌, Bool, true, false, ◌&&◌, ltb, leb, min, List, [], ◌∷◌, ◌++◌, length, filter, cond, refl, sym, ap, subst, ◌∙◌, arith}
 use Rattle.std.specs.List.{filter_map}
 use Rattle.std.proofs.lemmas.Bool.{ltb-true, ltb-false, leb-true, leb-false}
-use Rattle.cap_desc.specs.DescriptorFormat.{Method, Class}
+use Rattle.cap_desc.specs.DescriptorFormat.{MethodDescriptor, ClassDescriptor}
 use Rattle.cap_desc.specs.Members.{methods_but}
 use Rattle.cap_package.specs.HandlerChecks.{claims, is_within, claim_fault, numbered, numbered_fault}
 use Rattle.cap_package.specs.PackageRecord.{PackageRecord, described_methods}
@@ -14,10 +14,10 @@ use Rattle.cap_rewritten.proofs.Handlers.{one_owner}
 use Rattle.jc_base.proofs.Lists.{slice_get-some}
 
 -- how many entries of a table of so many a method has, and how many several methods have
-abbrev pub entry_count : ℕ → Method → ℕ
+abbrev pub entry_count : ℕ → MethodDescriptor → ℕ
 entry_count many m = min m.handler_count (many - m.handler_index)
 
-abbrev pub entry_sum : ℕ → List Method → ℕ
+abbrev pub entry_sum : ℕ → List MethodDescriptor → ℕ
 entry_sum many [] = 0
 entry_sum many (m ∷ ms) = entry_count many m + entry_sum many ms
 
@@ -26,7 +26,7 @@ one_if true = 1
 one_if false = 0
 
 -- one more entry belongs to a method if this claims it
-one-more : (many : ℕ) (m : Method) → entry_count (suc many) m ≡ one_if (claims many m) + entry_count many m
+one-more : (many : ℕ) (m : MethodDescriptor) → entry_count (suc many) m ≡ one_if (claims many m) + entry_count many m
 unfolding one_if
 one-more many m = by (leb m.handler_index many) (ltb many (m.handler_index + m.handler_count)) refl refl
   where
@@ -35,7 +35,7 @@ one-more many m = by (leb m.handler_index many) (ltb many (m.handler_index + m.h
     by true false e f = let le = leb-true m.handler_index many e in let ge = ltb-false many (m.handler_index + m.handler_count) f in omega (arith, le, ge)
     by false b e f = let gt = leb-false m.handler_index many e in omega (arith, gt)
 
-filter-count : (n : ℕ) (m : Method) (ms : List Method) → length (filter (claims n) (m ∷ ms)) ≡ one_if (claims n m) + length (filter (claims n) ms)
+filter-count : (n : ℕ) (m : MethodDescriptor) (ms : List MethodDescriptor) → length (filter (claims n) (m ∷ ms)) ≡ one_if (claims n m) + length (filter (claims n) ms)
 unfolding one_if
 filter-count n m ms = by (claims n m)
   where
@@ -43,7 +43,7 @@ filter-count n m ms = by (claims n m)
     by true = omega arith
     by false = omega arith
 
-sum-more : (many : ℕ) (ms : List Method) → entry_sum (suc many) ms ≡ length (filter (claims many) ms) + entry_sum many ms
+sum-more : (many : ℕ) (ms : List MethodDescriptor) → entry_sum (suc many) ms ≡ length (filter (claims many) ms) + entry_sum many ms
 sum-more many [] = refl
 sum-more many (m ∷ ms) =
     let here = one-more many m in
@@ -51,12 +51,12 @@ sum-more many (m ∷ ms) =
     let count = filter-count many m ms in
     omega (arith, here, others, count)
 
-sum-none : (ms : List Method) → entry_sum 0 ms ≡ 0
+sum-none : (ms : List MethodDescriptor) → entry_sum 0 ms ≡ 0
 sum-none [] = refl
 sum-none (m ∷ ms) = let others = sum-none ms in omega (arith, others)
 
 -- where each entry belongs to at most one method
-sum-within : (many : ℕ) (ms : List Method) → ((n : ℕ) → n < many → length (filter (claims n) ms) ≤ 1) → entry_sum many ms ≤ many
+sum-within : (many : ℕ) (ms : List MethodDescriptor) → ((n : ℕ) → n < many → length (filter (claims n) ms) ≤ 1) → entry_sum many ms ≤ many
 sum-within zero ms one = let none = sum-none ms in omega (arith, none)
 sum-within (suc many) ms one =
     let more = sum-more many ms in

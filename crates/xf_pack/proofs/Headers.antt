@@ -102,7 +102,7 @@ module _ (ps : List PackageRecord) (k : ℕ) (p : PackageRecord) (at : slice_get
       absurd cc
 
   -- a class of the package that is no interface has methods with headers
-  pub headers : (c : described.Class) → AllEmpty (conditions ps) → IsOneOf p.description.items.classes c → c.class_ref < 0x8000 → names_interface p.classes c.class_ref ≡ false → have_headers ps k p c ≡ true
+  pub headers : (c : described.ClassDescriptor) → AllEmpty (conditions ps) → IsOneOf p.description.items.classes c → c.class_ref < 0x8000 → names_interface p.classes c.class_ref ≡ false → have_headers ps k p c ≡ true
   unfolding have_headers
   headers c none one low proper =
       let x : NamesClass ps k c.class_ref = describes-class ps k p c none at one in
@@ -111,6 +111,6 @@ module _ (ps : List PackageRecord) (k : ℕ) (p : PackageRecord) (at : slice_get
       rw (proper, class) refl
 
   -- one that is an interface has none
-  pub no-headers : (c : described.Class) → names_interface p.classes c.class_ref ≡ true → have_headers ps k p c ≡ false
+  pub no-headers : (c : described.ClassDescriptor) → names_interface p.classes c.class_ref ≡ true → have_headers ps k p c ≡ false
   unfolding have_headers
   no-headers c interface = rw interface refl

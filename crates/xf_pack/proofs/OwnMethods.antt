@@ -6,13 +6,13 @@ use Rattle.std.proofs.lemmas.List.{length-map, map-append, append-nil, append_as
 use Rattle.std.proofs.lemmas.List.Elements.{All-nil, All-cons, All-head, All-tail, All-append, All-map, All-weaker}
 use Rattle.std.proofs.lemmas.Option.{slice_get_within}
 use Rattle.std.proofs.Math.Seq.{drop-append_seam}
-use Rattle.cap_desc.specs.DescriptorFormat.{Class, Method}
+use Rattle.cap_desc.specs.DescriptorFormat.{ClassDescriptor, MethodDescriptor}
 use Rattle.cap_package.specs.PackageRecord.{PackageRecord}
 use Rattle.jc_base.specs.declared.record.MethodRec.{MethodRec}
 use Rattle.jc_base.specs.World.{Linked}
 use Rattle.jc_base.proofs.Lists.{slice_get-some}
 use Rattle.jc_resolve.specs.NamedMethods.{named_method, named_methods}
-use Rattle.jc_resolve.specs.Numbering.{NumberedMethod, numbered, methods_of_class, methods_of_classes, methods_after, numbered_methods}
+use Rattle.jc_resolve.specs.Numbering.{NumberedMethod, numbered_method, methods_of_class, methods_of_classes, methods_after, numbered_methods}
 use Rattle.jc_resolve.proofs.NumberedLaws.{IsDescribed, all-described}
 use Rattle.jc_link.specs.World.{IsLinked}
 use Rattle.jc_rewritten.specs.Last.{and_last}
@@ -44,11 +44,11 @@ after-last k (q ∷ ps) p =
     ∙ sym (append_assoc (methods_of_classes k q 0 q.description.items.classes) (methods_after (k + 1) ps) (methods_of_classes ((k + 1) + length ps) p 0 p.description.items.classes))
     ∙ ap (λ n. (methods_of_classes k q 0 q.description.items.classes ++ methods_after (k + 1) ps) ++ methods_of_classes n p 0 p.description.items.classes) same
 
-class-home : (k : ℕ) (p : PackageRecord) (i : ℕ) (c : Class) (j : ℕ) (ms : List Method) → All (λ (m : NumberedMethod). m.home ≡ k) (methods_of_class k p i c j ms)
+class-home : (k : ℕ) (p : PackageRecord) (i : ℕ) (c : ClassDescriptor) (j : ℕ) (ms : List MethodDescriptor) → All (λ (m : NumberedMethod). m.home ≡ k) (methods_of_class k p i c j ms)
 class-home k p i c j [] = All-nil (λ (m : NumberedMethod). m.home ≡ k)
-class-home k p i c j (m ∷ ms) = All-cons (λ (m : NumberedMethod). m.home ≡ k) (numbered k p i c j m) (methods_of_class k p i c (j + 1) ms) refl (class-home k p i c (j + 1) ms)
+class-home k p i c j (m ∷ ms) = All-cons (λ (m : NumberedMethod). m.home ≡ k) (numbered_method k p i c j m) (methods_of_class k p i c (j + 1) ms) refl (class-home k p i c (j + 1) ms)
 
-home-is : (k : ℕ) (p : PackageRecord) (i : ℕ) (cs : List Class) → All (λ (m : NumberedMethod). m.home ≡ k) (methods_of_classes k p i cs)
+home-is : (k : ℕ) (p : PackageRecord) (i : ℕ) (cs : List ClassDescriptor) → All (λ (m : NumberedMethod). m.home ≡ k) (methods_of_classes k p i cs)
 home-is k p i [] = All-nil (λ (m : NumberedMethod). m.home ≡ k)
 home-is k p i (c ∷ cs) =
     All-append (λ (m : NumberedMethod). m.home ≡ k) (methods_of_class k p i c 0 c.methods) (methods_of_classes k p (i + 1) cs)

@@ -19,7 +19,7 @@ use Rattle.jc_control.specs.Method.{Method, IsMethodOf, method_in, method_with}
 use Rattle.jc_decode.specs.declared.symbols.Laid.{Laid}
 use Rattle.jc_flow.specs.declared.end.FlowEnd.{FlowEnd}
 use Rattle.jc_flow.specs.declared.end.FlowEnd.TheVariants as flow
-use Rattle.jc_flow.specs.Infer.{HasNone}
+use Rattle.jc_flow.specs.Infer.{LacksTyping}
 use Rattle.jc_rules.specs.Demand.{Frame}
 use Rattle.jc_rules.specs.Flow.{HasFlowTyping}
 use Rattle.jc_rules.specs.Typing.{state_at}
@@ -135,7 +135,7 @@ module _ (w : Linked) (first : ℕ) (is : BeginsLast w first) where
   pub typed-more : (n : ℕ) (kept : Option (List (Option Frame))) → AllHaveBelow (IsOfLast w) (λ m. HasFlowTyping w m Top) n → IsTypingAt w n kept → AllHaveBelow (IsOfLast w) (λ m. HasFlowTyping w m Top) (n + 1)
   typed-more n kept below h = below-more (IsOfLast w) (λ m. HasFlowTyping w m Top) n below (typed-at n kept h)
 
-  no-typing : (m : Method) (end : FlowEnd) → (end ≡ flow.Memory → ⊥) → HasNone w m end → HasFlowTyping w m Top → ⊥
+  no-typing : (m : Method) (end : FlowEnd) → (end ≡ flow.Memory → ⊥) → LacksTyping w m end → HasFlowTyping w m Top → ⊥
   no-typing m flow.Memory known none = absurd (known refl)
   no-typing m (flow.NoTyping p fault) known none = none
   no-typing m (flow.FallsOff p) known none = none

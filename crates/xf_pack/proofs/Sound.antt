@@ -28,7 +28,7 @@ use Rattle.xf_emission.specs.Numbers.{HasNumbers}
 use Rattle.xf_landed.specs.Laid.{HasLaid, catching}
 use Rattle.xf_landed.specs.Laws.{LaidIsTyped}
 use Rattle.xf_typing.specs.Typed.{HasTypingByHomes}
-use Rattle.xf_pack.specs.Passes.{IsSound}
+use Rattle.xf_pack.specs.Passes.{FitsMethod}
 use Rattle.xf_pack.proofs.Filled.{laid-filled}
 
 -- ---- handlers
@@ -74,7 +74,7 @@ has-laid m laid = record { same = refl; code = refl; nargs = refl; max_locals = 
 
 pub is-sound : (w : Linked) (m : Method) (frames : ℕ → Option Frame) (homes : List Home) (symbols : Symbols) (laid : Laid) (place : ℕ → ℕ)
     → InstructionsAreListed → LaidIsTyped w → IsMethodOf w m → IfSome m.rec.sig.result (IsDeclared w.classes) → FlowTyping w m Top frames → AreSymbolsOf w m frames homes symbols → HasTypingByHomes w m homes symbols
-    → KeepsLive m m.rec.handlers symbols.ranges → HasNumbers m.rec homes symbols → register_sum homes ≤ 255 → StandsAt place m.code symbols laid → length laid.code ≤ 32767 → IsSound m.rec laid
+    → KeepsLive m m.rec.handlers symbols.ranges → HasNumbers m.rec homes symbols → register_sum homes ≤ 255 → StandsAt place m.code symbols laid → length laid.code ≤ 32767 → FitsMethod m.rec laid
 is-sound w m frames homes symbols laid place listed landed mo result typing r types live numbers few stands short =
     let typed = landed m.rec m.code symbols laid place (with_laid m laid) _ types.stacks result stands (has-laid m laid) types.typing in
     let formed : IsWellFormed (with_laid m laid) = typed.typing.formed in

@@ -2,7 +2,7 @@
 use Rattle.std.proofs.Common.{◌≡◌, ℕ, zero, suc, ◌+◌, ◌-◌, ◌<◌, ◌≤◌, Bool, true, false, MatchBool, cond, min, List, [], ◌∷◌, ◌++◌, length, map, take, drop, Option, Some, None, refl, sym, ap, subst, ◌∙◌, inl, inr, arith, length-take}
 use Rattle.std.specs.Prelude.{slice_get, slice_index}
 use Rattle.std.proofs.lemmas.List.{length-map, length-drop}
-use Rattle.cap_desc.specs.DescriptorFormat.{Class, Method}
+use Rattle.cap_desc.specs.DescriptorFormat.{ClassDescriptor, MethodDescriptor}
 use Rattle.cap_desc.specs.Members.{methods_but}
 use Rattle.cap_method.specs.MethodFormat.{Header}
 use Rattle.cap_package.specs.HeaderChecks.{header_in, is_abstract}
@@ -20,13 +20,13 @@ use Rattle.jc_link.specs.World.{IsLinked}
 use Rattle.jc_resolve.specs.declared.method_records.Body.{Body}
 use Rattle.jc_resolve.specs.Conditions.{conditions}
 use Rattle.jc_resolve.specs.NamedMethods.{body_after, body_of, handler_named, have_headers, method_with, named_method, no_body, offset_in_info, class_described}
-use Rattle.jc_resolve.specs.Numbering.{NumberedMethod, numbered, methods_of_class, methods_of_classes}
+use Rattle.jc_resolve.specs.Numbering.{NumberedMethod, numbered_method, methods_of_class, methods_of_classes}
 use Rattle.jc_resolve.specs.WorldTypes.{signature_of}
 use Rattle.jc_resolve.proofs.Faultless.{IsOneOf}
 use Rattle.jc_resolve.proofs.MethodFacts.{IsPlaced, is-placed}
 use Rattle.jc_resolve.proofs.NumberedLaws.{from-any, from-class}
 use Rattle.jc_rewritten.specs.Last.{and_last}
-use Rattle.xf_pack.specs.Passes.{BeginsLast, EachFrom, IsLaidAt, IsLaidWell, IsSound}
+use Rattle.xf_pack.specs.Passes.{BeginsLast, EachFrom, IsLaidAt, IsLaidWell, FitsMethod}
 use Rattle.xf_pack.proofs.Elements.{AreWell, own-well}
 use Rattle.xf_pack.proofs.Handlers.{entry_count, entry_sum, entries-within}
 use Rattle.xf_pack.proofs.Headers.{headers, no-headers}
@@ -34,7 +34,7 @@ use Rattle.xf_pack.proofs.OwnMethods.{own_of}
 
 -- ---- an element and the handlers that it may have
 
-abbrev room_of : ℕ → Option Method → ℕ
+abbrev room_of : ℕ → Option MethodDescriptor → ℕ
 room_of many None = 0
 room_of many (Some m) = entry_count many m
 
@@ -42,50 +42,50 @@ abbrev handlers_in : Option Laid → ℕ
 handlers_in None = 0
 handlers_in (Some l) = length l.handlers
 
-record Suits (info : List ℕ) (many : ℕ) (m : Option Method) (l : Option Laid) : Type 0 where
+record Suits (info : List ℕ) (many : ℕ) (m : Option MethodDescriptor) (l : Option Laid) : Type 0 where
   pub element : IsElement info m l
   pub few : handlers_in l ≤ room_of many m
 
-abbrev AreSuited : List ℕ → ℕ → List (Option Method) → List (Option Laid) → Type 0
+abbrev AreSuited : List ℕ → ℕ → List (Option MethodDescriptor) → List (Option Laid) → Type 0
 AreSuited info many [] [] = Unit {0}
 AreSuited info many [] (l ∷ ls) = ⊥
 AreSuited info many (m ∷ ms) [] = ⊥
 AreSuited info many (m ∷ ms) (l ∷ ls) = Suits info many m l × AreSuited info many ms ls
 
-elements-of : (info : List ℕ) (many : ℕ) (ms : List (Option Method)) (ls : List (Option Laid)) → AreSuited info many ms ls → AreElements info ms ls
+elements-of : (info : List ℕ) (many : ℕ) (ms : List (Option MethodDescriptor)) (ls : List (Option Laid)) → AreSuited info many ms ls → AreElements info ms ls
 elements-of info many [] [] h = tt {0}
 elements-of info many [] (l ∷ ls) h = absurd h
 elements-of info many (m ∷ ms) [] h = absurd h
 elements-of info many (m ∷ ms) (l ∷ ls) h = (h.0.element, elements-of info many ms ls h.1)
 
-abbrev room_sum : ℕ → List (Option Method) → ℕ
+abbrev room_sum : ℕ → List (Option MethodDescriptor) → ℕ
 room_sum many [] = 0
 room_sum many (m ∷ ms) = room_of many m + room_sum many ms
 
-sum-of : (info : List ℕ) (many : ℕ) (ms : List (Option Method)) (ls : List (Option Laid)) → AreSuited info many ms ls → handler_sum ls ≤ room_sum many ms
+sum-of : (info : List ℕ) (many : ℕ) (ms : List (Option MethodDescriptor)) (ls : List (Option Laid)) → AreSuited info many ms ls → handler_sum ls ≤ room_sum many ms
 sum-of info many [] [] h = omega arith
 sum-of info many [] (l ∷ ls) h = absurd h
 sum-of info many (m ∷ ms) [] h = absurd h
 sum-of info many (m ∷ ms) (None ∷ ls) h = let others = sum-of info many ms ls h.1 in omega (arith, others)
 sum-of info many (m ∷ ms) (Some l ∷ ls) h = let others = sum-of info many ms ls h.1 in let here = h.0.few in omega (arith, others, here)
 
-room-append : (many : ℕ) (ms ns : List (Option Method)) → room_sum many (ms ++ ns) ≡ room_sum many ms + room_sum many ns
+room-append : (many : ℕ) (ms ns : List (Option MethodDescriptor)) → room_sum many (ms ++ ns) ≡ room_sum many ms + room_sum many ns
 room-append many [] ns = omega arith
 room-append many (m ∷ ms) ns = let others = room-append many ms ns in omega (arith, others)
 
-room-none : (many : ℕ) (ms : List Method) → room_sum many (map no_method ms) ≡ 0
+room-none : (many : ℕ) (ms : List MethodDescriptor) → room_sum many (map no_method ms) ≡ 0
 room-none many [] = refl
 room-none many (m ∷ ms) = let others = room-none many ms in omega (arith, others)
 
-entry-append : (many : ℕ) (ms ns : List Method) → entry_sum many (ms ++ ns) ≡ entry_sum many ms + entry_sum many ns
+entry-append : (many : ℕ) (ms ns : List MethodDescriptor) → entry_sum many (ms ++ ns) ≡ entry_sum many ms + entry_sum many ns
 entry-append many [] ns = omega arith
 entry-append many (m ∷ ms) ns = let others = entry-append many ms ns in omega (arith, others)
 
-room-some : (many : ℕ) (ms : List Method) → room_sum many (map (λ m. Some m) ms) ≡ entry_sum many ms
+room-some : (many : ℕ) (ms : List MethodDescriptor) → room_sum many (map (λ m. Some m) ms) ≡ entry_sum many ms
 room-some many [] = refl
 room-some many (m ∷ ms) = let others = room-some many ms in omega (arith, others)
 
-room-all : (many : ℕ) (set : ℕ → Bool) (cs : List Class) → room_sum many (methods_for set cs) ≡ entry_sum many (methods_but set cs)
+room-all : (many : ℕ) (set : ℕ → Bool) (cs : List ClassDescriptor) → room_sum many (methods_for set cs) ≡ entry_sum many (methods_but set cs)
 room-all many set [] = refl
 room-all many set (c ∷ cs) = by (set c.class_ref) (room-all many set cs)
   where
@@ -105,34 +105,34 @@ room-all many set (c ∷ cs) = by (set c.class_ref) (room-all many set cs)
 -- ---- a method of the world and its record in the Descriptor
 
 module _ (ps : List PackageRecord) (p : PackageRecord) (roles : List ℕ) (agreed : StandsFor p.parts p) (none : AllEmpty (conditions (and_last ps p)))
-    (at : slice_get (and_last ps p) (length ps) ≡ Some p) (internal : (c : Class) → IsOneOf p.description.items.classes c → c.class_ref < 0x8000) where
-  abbrev method_of : ℕ → Class → ℕ → Method → MethodRec
-  method_of i c j m = named_method (and_last ps p) roles (numbered (length ps) p i c j m)
+    (at : slice_get (and_last ps p) (length ps) ≡ Some p) (internal : (c : ClassDescriptor) → IsOneOf p.description.items.classes c → c.class_ref < 0x8000) where
+  abbrev method_of : ℕ → ClassDescriptor → ℕ → MethodDescriptor → MethodRec
+  method_of i c j m = named_method (and_last ps p) roles (numbered_method (length ps) p i c j m)
 
-  abbrev sig_of : Method → Sig
+  abbrev sig_of : MethodDescriptor → Sig
   sig_of m = signature_of (and_last ps p) (slice_index roles 0) (length ps) p.description m.type_offset
 
-  abbrev body : Class → Method → Body
+  abbrev body : ClassDescriptor → MethodDescriptor → Body
   body c m = body_of (and_last ps p) (slice_index roles 1) (length ps) p m (sig_of m) (have_headers (and_last ps p) (length ps) p c)
 
-  code-len : (i j : ℕ) (c : Class) (m : Method) → (method_of i c j m).code_len ≡ (body c m).code_len
+  code-len : (i j : ℕ) (c : ClassDescriptor) (m : MethodDescriptor) → (method_of i c j m).code_len ≡ (body c m).code_len
   unfolding named_method
   code-len i j c m = refl
 
-  nargs-of : (i j : ℕ) (c : Class) (m : Method) → (method_of i c j m).nargs ≡ (body c m).nargs
+  nargs-of : (i j : ℕ) (c : ClassDescriptor) (m : MethodDescriptor) → (method_of i c j m).nargs ≡ (body c m).nargs
   unfolding named_method
   nargs-of i j c m = refl
 
-  handlers-are : (i j : ℕ) (c : Class) (m : Method) → (method_of i c j m).handlers ≡ (body c m).handlers
+  handlers-are : (i j : ℕ) (c : ClassDescriptor) (m : MethodDescriptor) → (method_of i c j m).handlers ≡ (body c m).handlers
   unfolding named_method
   handlers-are i j c m = refl
 
   -- a method of an interface has no code
-  bodiless : (c : Class) (m : Method) → names_interface p.classes c.class_ref ≡ true → body c m ≡ no_body m.flags (sig_of m)
+  bodiless : (c : ClassDescriptor) (m : MethodDescriptor) → names_interface p.classes c.class_ref ≡ true → body c m ≡ no_body m.flags (sig_of m)
   unfolding body_of
   bodiless c m e = rw (no-headers (and_last ps p) (length ps) p at c e) refl
 
-  interface-suits : (many i j : ℕ) (c : Class) (m : Method) (w : Linked) (n : ℕ) (l : Option Laid) → names_interface p.classes c.class_ref ≡ true → IsLaidWell w n l (method_of i c j m) → Suits p.methods.info many None l
+  interface-suits : (many i j : ℕ) (c : ClassDescriptor) (m : MethodDescriptor) (w : Linked) (n : ℕ) (l : Option Laid) → names_interface p.classes c.class_ref ≡ true → IsLaidWell w n l (method_of i c j m) → Suits p.methods.info many None l
   interface-suits many i j c m w n None e h = record { element = tt {0}; few = omega arith }
   interface-suits many i j c m w n (Some l) e h =
       let empty : (method_of i c j m).code_len ≡ 0 = code-len i j c m ∙ ap (λ (b : Body). b.code_len) (bodiless c m e) in
@@ -140,7 +140,7 @@ module _ (ps : List PackageRecord) (p : PackageRecord) (roles : List ℕ) (agree
       absurd (omega (arith, empty, some))
 
   -- the body of a method of a class
-  with-body : (c : Class) (m : Method) (x : IsPlaced p m) → IsOneOf p.description.items.classes c → names_interface p.classes c.class_ref ≡ false
+  with-body : (c : ClassDescriptor) (m : MethodDescriptor) (x : IsPlaced p m) → IsOneOf p.description.items.classes c → names_interface p.classes c.class_ref ≡ false
       → body c m ≡ body_after (and_last ps p) (slice_index roles 1) (length ps) p m x.header (offset_in_info (m.method_offset + x.header.size))
   unfolding body_of
   with-body c m x one e = rw (headers (and_last ps p) (length ps) p at c none one (internal c one) e, x.there) refl
@@ -152,7 +152,7 @@ module _ (ps : List PackageRecord) (p : PackageRecord) (roles : List ℕ) (agree
   abstract-by true n h e = refl
   abstract-by false n h e = let some = h.least in absurd (omega (arith, some, e))
 
-  class-suits : (i j : ℕ) (c : Class) (m : Method) (w : Linked) (n : ℕ) (l : Option Laid) → IsOneOf p.description.items.classes c → IsOneOf c.methods m
+  class-suits : (i j : ℕ) (c : ClassDescriptor) (m : MethodDescriptor) (w : Linked) (n : ℕ) (l : Option Laid) → IsOneOf p.description.items.classes c → IsOneOf c.methods m
       → names_interface p.classes c.class_ref ≡ false → IsLaidWell w n l (method_of i c j m) → Suits p.methods.info (length p.methods.handlers) (Some m) l
   class-suits i j c m w n l one own e h =
       let x = is-placed p agreed m (from-class (names_interface p.classes) p.description.items.classes c m one e own) (from-any p.description.items.classes c m one own) in
@@ -167,7 +167,7 @@ module _ (ps : List PackageRecord) (p : PackageRecord) (roles : List ℕ) (agree
             few = omega arith;
           }
       by (Some laid) x h =
-          let s : IsSound (method_of i c j m) laid = h.sound in
+          let s : FitsMethod (method_of i c j m) laid = h.sound in
           let nargs : (method_of i c j m).nargs ≡ x.header.nargs = nargs-of i j c m ∙ ap (λ (b : Body). b.nargs) (with-body c m x one e) in
           let code_at = offset_in_info (m.method_offset + x.header.size) in
           let held : length (method_of i c j m).handlers ≡ min m.handler_count (length p.methods.handlers - m.handler_index) =
@@ -184,7 +184,7 @@ module _ (ps : List PackageRecord) (p : PackageRecord) (roles : List ℕ) (agree
 
   -- ---- all methods
 
-  in-interface : (w : Linked) (i : ℕ) (c : Class) → names_interface p.classes c.class_ref ≡ true → (j : ℕ) (ms : List Method) (others : List NumberedMethod) (tail : List (Option Method)) (n : ℕ) (ls : List (Option Laid))
+  in-interface : (w : Linked) (i : ℕ) (c : ClassDescriptor) → names_interface p.classes c.class_ref ≡ true → (j : ℕ) (ms : List MethodDescriptor) (others : List NumberedMethod) (tail : List (Option MethodDescriptor)) (n : ℕ) (ls : List (Option Laid))
       → ((k : ℕ) (ls' : List (Option Laid)) → AreWell w k (map (named_method (and_last ps p) roles) others) ls' → AreSuited p.methods.info (length p.methods.handlers) tail ls')
       → AreWell w n (map (named_method (and_last ps p) roles) (methods_of_class (length ps) p i c j ms ++ others)) ls
       → AreSuited p.methods.info (length p.methods.handlers) (map no_method ms ++ tail) ls
@@ -193,8 +193,8 @@ module _ (ps : List PackageRecord) (p : PackageRecord) (roles : List ℕ) (agree
   in-interface w i c e j (m ∷ ms) others tail n (l ∷ ls) go well =
       (interface-suits (length p.methods.handlers) i j c m w n l e well.0, in-interface w i c e (j + 1) ms others tail (suc n) ls go well.1)
 
-  in-class : (w : Linked) (i : ℕ) (c : Class) → IsOneOf p.description.items.classes c → names_interface p.classes c.class_ref ≡ false → (j : ℕ) (ms : List Method) → ((m : Method) → IsOneOf ms m → IsOneOf c.methods m)
-      → (others : List NumberedMethod) (tail : List (Option Method)) (n : ℕ) (ls : List (Option Laid))
+  in-class : (w : Linked) (i : ℕ) (c : ClassDescriptor) → IsOneOf p.description.items.classes c → names_interface p.classes c.class_ref ≡ false → (j : ℕ) (ms : List MethodDescriptor) → ((m : MethodDescriptor) → IsOneOf ms m → IsOneOf c.methods m)
+      → (others : List NumberedMethod) (tail : List (Option MethodDescriptor)) (n : ℕ) (ls : List (Option Laid))
       → ((k : ℕ) (ls' : List (Option Laid)) → AreWell w k (map (named_method (and_last ps p) roles) others) ls' → AreSuited p.methods.info (length p.methods.handlers) tail ls')
       → AreWell w n (map (named_method (and_last ps p) roles) (methods_of_class (length ps) p i c j ms ++ others)) ls
       → AreSuited p.methods.info (length p.methods.handlers) (map (λ m. Some m) ms ++ tail) ls
@@ -203,7 +203,7 @@ module _ (ps : List PackageRecord) (p : PackageRecord) (roles : List ℕ) (agree
   in-class w i c one e j (m ∷ ms) among others tail n (l ∷ ls) go well =
       (class-suits i j c m w n l one (among m (inl refl)) e well.0, in-class w i c one e (j + 1) ms (λ k h. among k (inr h)) others tail (suc n) ls go well.1)
 
-  in-classes : (w : Linked) (i : ℕ) (cs : List Class) → ((c : Class) → IsOneOf cs c → IsOneOf p.description.items.classes c) → (n : ℕ) (ls : List (Option Laid))
+  in-classes : (w : Linked) (i : ℕ) (cs : List ClassDescriptor) → ((c : ClassDescriptor) → IsOneOf cs c → IsOneOf p.description.items.classes c) → (n : ℕ) (ls : List (Option Laid))
       → AreWell w n (map (named_method (and_last ps p) roles) (methods_of_classes (length ps) p i cs)) ls
       → AreSuited p.methods.info (length p.methods.handlers) (methods_for (names_interface p.classes) cs) ls
   in-classes w i [] among n [] well = tt {0}
@@ -239,6 +239,6 @@ names-faultless qs roles w linked =
 
 pub may-be-laid : (ps : List PackageRecord) (p : PackageRecord) (roles : List ℕ) (w : Linked) (linked : IsLinked (and_last ps p) roles w) (first : ℕ) (is : BeginsLast w first)
     (laid : List (Option Laid)) (each : EachFrom (IsLaidAt w) first laid) (all : first + length laid ≡ length w.methods)
-    → StandsFor p.parts p → ((c : Class) → IsOneOf p.description.items.classes c → c.class_ref < 0x8000) → length p.methods.handlers ≤ 255 → MayBeLaid p laid
+    → StandsFor p.parts p → ((c : ClassDescriptor) → IsOneOf p.description.items.classes c → c.class_ref < 0x8000) → length p.methods.handlers ≤ 255 → MayBeLaid p laid
 may-be-laid ps p roles w linked first is laid each all agreed internal few =
     may-be ps p roles agreed (names-faultless (and_last ps p) roles w linked) (at-last ps p) internal w first laid (own-well ps p roles w linked first is laid each all) few

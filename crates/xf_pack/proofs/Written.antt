@@ -4,7 +4,7 @@ use Rattle.std.specs.Prelude.{All, slice_get, nat_lt, ◌==◌, ◌||◌, min, i
 use Rattle.std.specs.Option.{option_to_list}
 use Rattle.std.proofs.lemmas.Bool.{eqb-false}
 use Rattle.std.proofs.lemmas.List.Elements.{All-head, All-tail}
-use Rattle.cap_desc.specs.DescriptorFormat.{Class}
+use Rattle.cap_desc.specs.DescriptorFormat.{ClassDescriptor}
 use Rattle.cap_package.specs.PackageRecord.{PackageRecord}
 use Rattle.cap_package.specs.Parts.{Lent}
 use Rattle.cap_package.specs.StandsFor.{StandsFor}

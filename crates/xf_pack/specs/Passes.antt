@@ -69,7 +69,7 @@ pub record IsRewrittenTo (w : Linked) (symbols : Symbols) (m : Method) : Type 0 
 
 -- code that may stand in place of a method's: of 1 to 32,767 bytes, with its arguments, at most 255 registers, no more handlers than the
 -- method has, and all of them inside
-pub record IsSound (r : MethodRec) (laid : Laid) : Type 0 where
+pub record FitsMethod (r : MethodRec) (laid : Laid) : Type 0 where
   pub some : 1 ≤ length laid.code
   pub short : length laid.code ≤ 32767
   pub arguments : laid.nargs ≡ r.nargs
@@ -77,14 +77,14 @@ pub record IsSound (r : MethodRec) (laid : Laid) : Type 0 where
   pub inside : AreInside (length laid.code) laid.handlers
   pub few : length laid.handlers ≤ length r.handlers
 
-abbrev pub IsSoundIf : MethodRec → Option Laid → Type 0
-IsSoundIf r None = Unit {0}
-IsSoundIf r (Some laid) = IsSound r laid
+abbrev pub FitsMethodIf : MethodRec → Option Laid → Type 0
+FitsMethodIf r None = Unit {0}
+FitsMethodIf r (Some laid) = FitsMethod r laid
 
 -- the element of a method
 pub record IsLaidWell (w : Linked) (n : ℕ) (laid : Option Laid) (r : MethodRec) : Type 0 where
   pub is : IsLaidElement w n r laid
-  pub sound : IsSoundIf r laid
+  pub sound : FitsMethodIf r laid
 
 abbrev pub IsLaidAt : Linked → ℕ → Option Laid → Type 0
 IsLaidAt w n laid = IsSomeAnd (slice_get w.methods n) (IsLaidWell w n laid)

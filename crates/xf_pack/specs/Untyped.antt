@@ -4,14 +4,14 @@ use Rattle.jc_base.specs.World.{Linked}
 use Rattle.jc_control.specs.Method.{Method, IsMethodOf, method_in}
 use Rattle.jc_flow.specs.declared.end.FlowEnd.{FlowEnd}
 use Rattle.jc_flow.specs.declared.end.FlowEnd.TheVariants as flow
-use Rattle.jc_flow.specs.Infer.{HasNone, TellsEnd}
+use Rattle.jc_flow.specs.Infer.{LacksTyping, TellsEnd}
 use Rattle.xf_pack.specs.declared.end.TransformEnd.{TransformEnd}
 use Rattle.xf_pack.specs.declared.end.TransformEnd.TheVariants.{Typing, Memory}
 
 -- the method has code, and the end says why it has no typing
 pub record IsUntyped (w : Linked) (end : FlowEnd) (m : Method) : Type 0 where
   pub method : IsMethodOf w m
-  pub none : HasNone w m end
+  pub none : LacksTyping w m end
   pub tells : TellsEnd w m end
 
 abbrev pub HasNoTyping : Linked → ℕ → FlowEnd → Type 0

@@ -6,7 +6,7 @@ ghost use Rattle.jc_rules.specs.Typing.{state_at};
 ghost use Rattle.xf_homes.specs.Order.{AreHomes, register_sum};
 ghost use Rattle.xf_world.specs.Laid.{IsLaidFor};
 ghost use Rattle.xf_pack.specs.Ends.{AreAcceptedLibraries, IsTypedLast, TellsOf};
-ghost use Rattle.xf_pack.specs.Passes.{BeginsLast, EachFrom, IsLaidAt, IsRewrittenTo, IsSound, IsTypedBy, IsTypingAt};
+ghost use Rattle.xf_pack.specs.Passes.{BeginsLast, EachFrom, IsLaidAt, IsRewrittenTo, FitsMethod, IsTypedBy, IsTypingAt};
 ghost use Rattle.xf_pack.specs.Unlaid.{TellsUnlaid};
 
 use crate::end::TransformEnd;
@@ -84,7 +84,7 @@ fn lay_code(
     requires code { IsSomeAnd (slice_get world.now.methods number) (λ r. 0 < r.code_len) }
     requires typing { IsSomeAnd (method_in world.now number) (λ m. IsTypedBy world.now m typing.now) }
     ensures laid { IsSomeAnd (method_in world.now number) (λ m. IfOk result (IsLaidFor world.now m)) }
-    ensures sound { IsSomeAnd (method_in world.now number) (λ m. IfOk result (IsSound m.rec)) }
+    ensures sound { IsSomeAnd (method_in world.now number) (λ m. IfOk result (FitsMethod m.rec)) }
     ensures end { IfErr result (TellsUnlaid world.now number) }
 {
     // Its record links to others of the world.
@@ -107,7 +107,7 @@ fn lay_homes(
     requires typing { IsSomeAnd (method_in world.now number) (λ m. IsTypedBy world.now m typing.now) }
     requires homes { IsSomeAnd (method_in world.now number) (λ m. AreHomes world.now m (state_at typing.now) homes.now) }
     ensures laid { IsSomeAnd (method_in world.now number) (λ m. IfOk result (IsLaidFor world.now m)) }
-    ensures sound { IsSomeAnd (method_in world.now number) (λ m. IfOk result (IsSound m.rec)) }
+    ensures sound { IsSomeAnd (method_in world.now number) (λ m. IfOk result (FitsMethod m.rec)) }
     ensures end { IfErr result (TellsUnlaid world.now number) }
 {
     are_few(homes);
@@ -130,7 +130,7 @@ fn lay_symbols(
     requires ranges { All (IsRange symbols.now.items) symbols.now.ranges }
     requires size { plain_size symbols.now.items < 2 ^ 32 }
     ensures laid { IsSomeAnd (method_in world.now number) (λ m. IfOk result (IsLaidFor world.now m)) }
-    ensures sound { IsSomeAnd (method_in world.now number) (λ m. IfOk result (IsSound m.rec)) }
+    ensures sound { IsSomeAnd (method_in world.now number) (λ m. IfOk result (FitsMethod m.rec)) }
     ensures end { IfErr result (TellsUnlaid world.now number) }
 {
     instructions_are_listed();

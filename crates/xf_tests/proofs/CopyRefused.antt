@@ -20,7 +20,7 @@ use Rattle.jc_ops.specs.declared.operation.Constant.TheVariants as constants
 use Rattle.jc_ops.specs.declared.operation.Operation.TheVariants as ops
 use Rattle.jc_ops.specs.declared.operation.Sameness.TheVariants as sameness
 use Rattle.jc_ops.specs.declared.operation.Sort.TheVariants as sorts
-use Rattle.jc_ops.specs.Row.{table, row_at, unused, by_sort, by_width, by_kind, first_four, by_register, literals, binary, orders_all, branching}
+use Rattle.jc_ops.specs.Row.{table, row_at, unused, by_sort, by_width, by_kind, first_four, by_register, literals, binaries, orders_all, branching}
 use Rattle.jc_ops.specs.Resolve.{Resolves}
 use Rattle.jc_rules.specs.Flow.{more_cells, no_cells}
 use Rattle.vm_store.specs.declared.cell.Cell.{Cell}
@@ -292,7 +292,7 @@ unfolding instruction_at listing listing_from at_most decoded layout_of opcode
 copy-there-0 = refl
 
 copy-names-0 : Resolves copy-world copy-method 0 (with_opcode 25) (Ok (ops.Load sorts.Reference 1))
-unfolding row_at table by_sort by_width by_kind first_four by_register literals binary orders_all branching unused
+unfolding row_at table by_sort by_width by_kind first_four by_register literals binaries orders_all branching unused
 copy-names-0 = refl
 
 copy-step-0 :
@@ -308,7 +308,7 @@ unfolding instruction_at listing listing_from at_most decoded layout_of opcode
 copy-there-1 = refl
 
 copy-names-1 : Resolves copy-world copy-method 1 (copy-branch) (Ok (ops.Branch (branches.Null sameness.Different)))
-unfolding row_at table by_sort by_width by_kind first_four by_register literals binary orders_all branching unused
+unfolding row_at table by_sort by_width by_kind first_four by_register literals binaries orders_all branching unused
 copy-names-1 = refl
 
 copy-step-1 :
@@ -324,7 +324,7 @@ unfolding instruction_at listing listing_from at_most decoded layout_of opcode
 copy-there-3 = refl
 
 copy-names-3 : Resolves copy-world copy-method 3 (with_opcode 0) (Ok (ops.Constant constants.Nothing))
-unfolding row_at table by_sort by_width by_kind first_four by_register literals binary orders_all branching unused
+unfolding row_at table by_sort by_width by_kind first_four by_register literals binaries orders_all branching unused
 copy-names-3 = refl
 
 copy-step-3 :
@@ -340,7 +340,7 @@ unfolding instruction_at listing listing_from at_most decoded layout_of opcode
 copy-there-4 = refl
 
 copy-names-4 : Resolves copy-world copy-method 4 (with_opcode 24) (Ok (ops.Load sorts.Reference 0))
-unfolding row_at table by_sort by_width by_kind first_four by_register literals binary orders_all branching unused
+unfolding row_at table by_sort by_width by_kind first_four by_register literals binaries orders_all branching unused
 copy-names-4 = refl
 
 copy-step-4 :
@@ -356,7 +356,7 @@ unfolding instruction_at listing listing_from at_most decoded layout_of opcode
 copy-there-5 = refl
 
 copy-names-5 : Resolves copy-world copy-method 5 (with_opcode 119) (Ok (ops.Return (Some (Class 0))))
-unfolding row_at table by_sort by_width by_kind first_four by_register literals binary orders_all branching unused
+unfolding row_at table by_sort by_width by_kind first_four by_register literals binaries orders_all branching unused
 copy-names-5 = refl
 
 copy-step-5 :
@@ -374,7 +374,7 @@ unfolding instruction_at listing listing_from at_most decoded layout_of opcode
 copy-laid-there-0 = refl
 
 copy-laid-names-0 : Resolves copy-laid-world copy-laid-method 0 (with_byte 21 1) (Ok (ops.Load sorts.Reference 1))
-unfolding row_at table by_sort by_width by_kind first_four by_register literals binary orders_all branching unused
+unfolding row_at table by_sort by_width by_kind first_four by_register literals binaries orders_all branching unused
 copy-laid-names-0 = refl
 
 copy-laid-step-0 :
@@ -392,7 +392,7 @@ copy-laid-there-2 = refl
 copy-laid-names-2 :
     Resolves copy-laid-world copy-laid-method 2 (copy-laid-branch)
     (Ok (ops.Branch (branches.Null sameness.Different)))
-unfolding row_at table by_sort by_width by_kind first_four by_register literals binary orders_all branching unused
+unfolding row_at table by_sort by_width by_kind first_four by_register literals binaries orders_all branching unused
 copy-laid-names-2 = refl
 
 copy-laid-step-2 :
@@ -408,7 +408,7 @@ unfolding instruction_at listing listing_from at_most decoded layout_of opcode
 copy-laid-there-5 = refl
 
 copy-laid-names-5 : Resolves copy-laid-world copy-laid-method 5 (with_opcode 0) (Ok (ops.Constant constants.Nothing))
-unfolding row_at table by_sort by_width by_kind first_four by_register literals binary orders_all branching unused
+unfolding row_at table by_sort by_width by_kind first_four by_register literals binaries orders_all branching unused
 copy-laid-names-5 = refl
 
 copy-laid-step-5 :
@@ -424,7 +424,7 @@ unfolding instruction_at listing listing_from at_most decoded layout_of opcode
 copy-laid-there-6 = refl
 
 copy-laid-names-6 : Resolves copy-laid-world copy-laid-method 6 (with_byte 21 2) (Ok (ops.Load sorts.Reference 2))
-unfolding row_at table by_sort by_width by_kind first_four by_register literals binary orders_all branching unused
+unfolding row_at table by_sort by_width by_kind first_four by_register literals binaries orders_all branching unused
 copy-laid-names-6 = refl
 
 copy-laid-step-6 :
@@ -440,7 +440,7 @@ unfolding instruction_at listing listing_from at_most decoded layout_of opcode
 copy-laid-there-8 = refl
 
 copy-laid-names-8 : Resolves copy-laid-world copy-laid-method 8 (with_opcode 119) (Ok (ops.Return (Some (Class 0))))
-unfolding row_at table by_sort by_width by_kind first_four by_register literals binary orders_all branching unused
+unfolding row_at table by_sort by_width by_kind first_four by_register literals binaries orders_all branching unused
 copy-laid-names-8 = refl
 
 copy-laid-step-8 :

@@ -20,7 +20,7 @@ use Rattle.jc_ops.specs.declared.operation.Constant.TheVariants as constants
 use Rattle.jc_ops.specs.declared.operation.Operation.TheVariants as ops
 use Rattle.jc_ops.specs.declared.operation.Order.TheVariants as orders
 use Rattle.jc_ops.specs.declared.operation.Sort.TheVariants as sorts
-use Rattle.jc_ops.specs.Row.{table, row_at, unused, by_sort, by_width, by_kind, first_four, by_register, literals, binary, orders_all, branching}
+use Rattle.jc_ops.specs.Row.{table, row_at, unused, by_sort, by_width, by_kind, first_four, by_register, literals, binaries, orders_all, branching}
 use Rattle.jc_ops.specs.Resolve.{Resolves}
 use Rattle.jc_rules.specs.Flow.{more_cells, no_cells}
 use Rattle.vm_store.specs.declared.cell.Cell.{Cell}
@@ -273,7 +273,7 @@ unfolding instruction_at listing listing_from at_most decoded layout_of opcode
 reload-there-0 = refl
 
 reload-names-0 : Resolves reload-world reload-method 0 (with_opcode 4) (Ok (ops.Constant (constants.Short (pos 1))))
-unfolding row_at table by_sort by_width by_kind first_four by_register literals binary orders_all branching unused
+unfolding row_at table by_sort by_width by_kind first_four by_register literals binaries orders_all branching unused
 reload-names-0 = refl
 
 reload-step-0 :
@@ -289,7 +289,7 @@ unfolding instruction_at listing listing_from at_most decoded layout_of opcode
 reload-there-1 = refl
 
 reload-names-1 : Resolves reload-world reload-method 1 (with_opcode 3) (Ok (ops.Constant (constants.Short (pos 0))))
-unfolding row_at table by_sort by_width by_kind first_four by_register literals binary orders_all branching unused
+unfolding row_at table by_sort by_width by_kind first_four by_register literals binaries orders_all branching unused
 reload-names-1 = refl
 
 reload-step-1 :
@@ -305,7 +305,7 @@ unfolding instruction_at listing listing_from at_most decoded layout_of opcode
 reload-there-2 = refl
 
 reload-names-2 : Resolves reload-world reload-method 2 (reload-branch) (Ok (ops.Branch (branches.Zero orders.NotEqual)))
-unfolding row_at table by_sort by_width by_kind first_four by_register literals binary orders_all branching unused
+unfolding row_at table by_sort by_width by_kind first_four by_register literals binaries orders_all branching unused
 reload-names-2 = refl
 
 reload-step-2 :
@@ -321,7 +321,7 @@ unfolding instruction_at listing listing_from at_most decoded layout_of opcode
 reload-there-4 = refl
 
 reload-names-4 : Resolves reload-world reload-method 4 (with_opcode 120) (Ok (ops.Return (Some Short)))
-unfolding row_at table by_sort by_width by_kind first_four by_register literals binary orders_all branching unused
+unfolding row_at table by_sort by_width by_kind first_four by_register literals binaries orders_all branching unused
 reload-names-4 = refl
 
 reload-step-4 :
@@ -341,7 +341,7 @@ reload-laid-there-0 = refl
 reload-laid-names-0 :
     Resolves reload-laid-world reload-laid-method 0 (with_opcode 4)
     (Ok (ops.Constant (constants.Short (pos 1))))
-unfolding row_at table by_sort by_width by_kind first_four by_register literals binary orders_all branching unused
+unfolding row_at table by_sort by_width by_kind first_four by_register literals binaries orders_all branching unused
 reload-laid-names-0 = refl
 
 reload-laid-step-0 :
@@ -359,7 +359,7 @@ reload-laid-there-1 = refl
 reload-laid-names-1 :
     Resolves reload-laid-world reload-laid-method 1 (with_opcode 3)
     (Ok (ops.Constant (constants.Short (pos 0))))
-unfolding row_at table by_sort by_width by_kind first_four by_register literals binary orders_all branching unused
+unfolding row_at table by_sort by_width by_kind first_four by_register literals binaries orders_all branching unused
 reload-laid-names-1 = refl
 
 reload-laid-step-1 :
@@ -375,7 +375,7 @@ unfolding instruction_at listing listing_from at_most decoded layout_of opcode
 reload-laid-there-2 = refl
 
 reload-laid-names-2 : Resolves reload-laid-world reload-laid-method 2 (with_byte 41 1) (Ok (ops.Store sorts.Short 1))
-unfolding row_at table by_sort by_width by_kind first_four by_register literals binary orders_all branching unused
+unfolding row_at table by_sort by_width by_kind first_four by_register literals binaries orders_all branching unused
 reload-laid-names-2 = refl
 
 reload-laid-step-2 :
@@ -391,7 +391,7 @@ unfolding instruction_at listing listing_from at_most decoded layout_of opcode
 reload-laid-there-4 = refl
 
 reload-laid-names-4 : Resolves reload-laid-world reload-laid-method 4 (with_byte 41 0) (Ok (ops.Store sorts.Short 0))
-unfolding row_at table by_sort by_width by_kind first_four by_register literals binary orders_all branching unused
+unfolding row_at table by_sort by_width by_kind first_four by_register literals binaries orders_all branching unused
 reload-laid-names-4 = refl
 
 reload-laid-step-4 :
@@ -407,7 +407,7 @@ unfolding instruction_at listing listing_from at_most decoded layout_of opcode
 reload-laid-there-6 = refl
 
 reload-laid-names-6 : Resolves reload-laid-world reload-laid-method 6 (with_byte 22 1) (Ok (ops.Load sorts.Short 1))
-unfolding row_at table by_sort by_width by_kind first_four by_register literals binary orders_all branching unused
+unfolding row_at table by_sort by_width by_kind first_four by_register literals binaries orders_all branching unused
 reload-laid-names-6 = refl
 
 reload-laid-step-6 :
@@ -425,7 +425,7 @@ reload-laid-there-8 = refl
 reload-laid-names-8 :
     Resolves reload-laid-world reload-laid-method 8 (reload-laid-branch)
     (Ok (ops.Branch (branches.Zero orders.NotEqual)))
-unfolding row_at table by_sort by_width by_kind first_four by_register literals binary orders_all branching unused
+unfolding row_at table by_sort by_width by_kind first_four by_register literals binaries orders_all branching unused
 reload-laid-names-8 = refl
 
 reload-laid-step-8 :
@@ -441,7 +441,7 @@ unfolding instruction_at listing listing_from at_most decoded layout_of opcode
 reload-laid-there-11 = refl
 
 reload-laid-names-11 : Resolves reload-laid-world reload-laid-method 11 (with_opcode 120) (Ok (ops.Return (Some Short)))
-unfolding row_at table by_sort by_width by_kind first_four by_register literals binary orders_all branching unused
+unfolding row_at table by_sort by_width by_kind first_four by_register literals binaries orders_all branching unused
 reload-laid-names-11 = refl
 
 reload-laid-step-11 :

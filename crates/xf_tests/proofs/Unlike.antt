@@ -7,7 +7,7 @@ use Rattle.jc_base.specs.World.{Linked}
 use Rattle.vm_store.specs.declared.cell.Cell.{Cell}
 use Rattle.vm_store.specs.declared.kind.ObjectKind.TheVariants.{Instance}
 use Rattle.vm_store.specs.Cells.{tagged}
-use Rattle.vm_store.specs.Objects.{has_room, instance_cells, with_object}
+use Rattle.vm_store.specs.Objects.{has_room, new_instance_cells, with_object}
 use Rattle.vm_store.specs.State.{Frame, Object, State, entered, other_frames, top, with_call, without_frames, without_top}
 use Rattle.vm_step.specs.declared.ending.Ending.{Ending}
 use Rattle.vm_step.specs.declared.ending.Ending.TheVariants as endings
@@ -81,7 +81,7 @@ module _ (v : Linked) (f : Frame Cell) (heap : List (Object Cell)) (statics : Li
   raised-ends : (exception : Exception) → IsThrown (raised tagged v exception (alone f heap statics))
   raised-ends exception =
       let class : ℕ = slice_index v.classes.roles (role_of exception) in
-      let z : State Cell = with_object (alone f heap statics) (Instance class) (instance_cells tagged v.classes class) in
+      let z : State Cell = with_object (alone f heap statics) (Instance class) (new_instance_cells tagged v.classes class) in
       either (has_room (alone f heap statics) (length (cells_of v.classes class)))
       (thrown tagged v (length heap + 1) z) (ends (endings.Plain HeapFull) (alone f heap statics))
       (unwound-ends (class_of v.classes z (length heap + 1)) (length heap + 1) z) tt

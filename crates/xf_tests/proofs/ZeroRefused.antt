@@ -16,7 +16,7 @@ use Rattle.jc_control.specs.Control.{IsReached, begins, falls_through, follows}
 use Rattle.jc_control.specs.WellFormed.{HasInstruction}
 use Rattle.jc_ops.specs.declared.operation.Constant.TheVariants as constants
 use Rattle.jc_ops.specs.declared.operation.Operation.TheVariants as ops
-use Rattle.jc_ops.specs.Row.{table, row_at, unused, by_sort, by_width, by_kind, first_four, by_register, literals, binary, orders_all, branching}
+use Rattle.jc_ops.specs.Row.{table, row_at, unused, by_sort, by_width, by_kind, first_four, by_register, literals, binaries, orders_all, branching}
 use Rattle.jc_ops.specs.Resolve.{Resolves}
 use Rattle.jc_rules.specs.Flow.{more_cells, no_cells}
 use Rattle.vm_store.specs.declared.cell.Cell.{Cell}
@@ -168,7 +168,7 @@ unfolding instruction_at listing listing_from at_most decoded layout_of opcode
 zero-there-0 = refl
 
 zero-names-0 : Resolves zero-world zero-method 0 (with_opcode 8) (Ok (ops.Constant (constants.Short (pos 5))))
-unfolding row_at table by_sort by_width by_kind first_four by_register literals binary orders_all branching unused
+unfolding row_at table by_sort by_width by_kind first_four by_register literals binaries orders_all branching unused
 zero-names-0 = refl
 
 zero-step-0 :
@@ -184,7 +184,7 @@ unfolding instruction_at listing listing_from at_most decoded layout_of opcode
 zero-there-1 = refl
 
 zero-names-1 : Resolves zero-world zero-method 1 (with_opcode 120) (Ok (ops.Return (Some Short)))
-unfolding row_at table by_sort by_width by_kind first_four by_register literals binary orders_all branching unused
+unfolding row_at table by_sort by_width by_kind first_four by_register literals binaries orders_all branching unused
 zero-names-1 = refl
 
 zero-step-1 :
@@ -204,7 +204,7 @@ zero-laid-there-0 = refl
 zero-laid-names-0 :
     Resolves zero-laid-world zero-laid-method 0 (with_opcode 3)
     (Ok (ops.Constant (constants.Short (pos 0))))
-unfolding row_at table by_sort by_width by_kind first_four by_register literals binary orders_all branching unused
+unfolding row_at table by_sort by_width by_kind first_four by_register literals binaries orders_all branching unused
 zero-laid-names-0 = refl
 
 zero-laid-step-0 :
@@ -220,7 +220,7 @@ unfolding instruction_at listing listing_from at_most decoded layout_of opcode
 zero-laid-there-1 = refl
 
 zero-laid-names-1 : Resolves zero-laid-world zero-laid-method 1 (with_opcode 120) (Ok (ops.Return (Some Short)))
-unfolding row_at table by_sort by_width by_kind first_four by_register literals binary orders_all branching unused
+unfolding row_at table by_sort by_width by_kind first_four by_register literals binaries orders_all branching unused
 zero-laid-names-1 = refl
 
 zero-laid-step-1 :

@@ -27,7 +27,7 @@ use Rattle.xf_homes.specs.Value.{value_at}
 use Rattle.xf_homes.specs.Walk.{operands_of}
 use Rattle.xf_plan.specs.Source.{Source}
 use Rattle.xf_plan.specs.Plan.{stack_homes, cells_from, with_home_of, home_of, stack_of}
-use Rattle.xf_emission.specs.Jump.{cut, under, operands}
+use Rattle.xf_emission.specs.Jump.{operands_slot, under, operands}
 use Rattle.xf_typing.proofs.Moves.{applies-by}
 use Rattle.xf_typing.proofs.Stacks.{pushed, cells-pushed, turned-reverse}
 use Rattle.xf_typing.proofs.Carried.{is-short, is-high, is-low}
@@ -208,36 +208,36 @@ cut-is s p n f above below at is size whole nt all = record {
         ap (λ (ts : List Ty). cells_from base ts 0 (length ts)) stack_is ∙ ap (cells_from base types 0) long ∙ cells-split base types 0 (length (reverse below)) (length (reverse above))
         ∙ ap (λ (k : ℕ). first ++ cells_from base types k (length (reverse above))) here
 
-    bound : cut s p n ≡ base + length (reverse below)
+    bound : operands_slot s p n ≡ base + length (reverse below)
     bound = let deep : length (stack_of (s.frames p)) ≡ length (reverse below) + length (reverse above) = ap length stack_is ∙ length-append (reverse below) (reverse above) in
         let tops_are : length (reverse above) ≡ n = length-reverse above ∙ size in
         let less : length (stack_of (s.frames p)) - n ≡ length (reverse below) = omega (arith, deep, tops_are) in
         ap (λ (k : ℕ). base + k) less
 
-    lower : (k : ℕ) → k < length (reverse below) → nat_lt (base + k) (cut s p n) ≡ true
+    lower : (k : ℕ) → k < length (reverse below) → nat_lt (base + k) (operands_slot s p n) ≡ true
     lower k lt = let b = bound in grind (arith, nat_tests, b, lt)
 
-    upper : (k : ℕ) → length (reverse below) ≤ k → nat_lt (base + k) (cut s p n) ≡ false
+    upper : (k : ℕ) → length (reverse below) ≤ k → nat_lt (base + k) (operands_slot s p n) ≡ false
     upper k le = let b = bound in grind (arith, nat_tests, b, le)
 
-    lower-not : (k : ℕ) → k < length (reverse below) → nat_le (cut s p n) (base + k) ≡ false
+    lower-not : (k : ℕ) → k < length (reverse below) → nat_le (operands_slot s p n) (base + k) ≡ false
     lower-not k lt = let b = bound in grind (arith, nat_tests, b, lt)
 
-    upper-is : (k : ℕ) → length (reverse below) ≤ k → nat_le (cut s p n) (base + k) ≡ true
+    upper-is : (k : ℕ) → length (reverse below) ≤ k → nat_le (operands_slot s p n) (base + k) ≡ true
     upper-is k le = let b = bound in grind (arith, nat_tests, b, le)
 
     under_first : under s p n ≡ first
     under_first =
-        ap (filter (λ h. nat_lt h.slot (cut s p n))) (parts ∙ ap (λ (hs : List Home). first ++ hs) (sym (append-nil second)))
-        ∙ filter-all (λ h. nat_lt h.slot (cut s p n)) base types 0 (length (reverse below)) (second ++ []) [] (λ k ty lo hi. lower k (omega (arith, hi)))
-        (filter-no (λ h. nat_lt h.slot (cut s p n)) base types (length (reverse below)) (length (reverse above)) [] [] (λ k ty lo hi. upper k lo) refl)
+        ap (filter (λ h. nat_lt h.slot (operands_slot s p n))) (parts ∙ ap (λ (hs : List Home). first ++ hs) (sym (append-nil second)))
+        ∙ filter-all (λ h. nat_lt h.slot (operands_slot s p n)) base types 0 (length (reverse below)) (second ++ []) [] (λ k ty lo hi. lower k (omega (arith, hi)))
+        (filter-no (λ h. nat_lt h.slot (operands_slot s p n)) base types (length (reverse below)) (length (reverse above)) [] [] (λ k ty lo hi. upper k lo) refl)
         ∙ append-nil first
 
     operands_second : operands s p n ≡ second
     operands_second =
-        ap (filter (λ h. nat_le (cut s p n) h.slot)) (parts ∙ ap (λ (hs : List Home). first ++ hs) (sym (append-nil second)))
-        ∙ filter-no (λ h. nat_le (cut s p n) h.slot) base types 0 (length (reverse below)) (second ++ []) (second ++ []) (λ k ty lo hi. lower-not k (omega (arith, hi)))
-        (filter-all (λ h. nat_le (cut s p n) h.slot) base types (length (reverse below)) (length (reverse above)) [] [] (λ k ty lo hi. upper-is k lo) refl)
+        ap (filter (λ h. nat_le (operands_slot s p n) h.slot)) (parts ∙ ap (λ (hs : List Home). first ++ hs) (sym (append-nil second)))
+        ∙ filter-no (λ h. nat_le (operands_slot s p n) h.slot) base types 0 (length (reverse below)) (second ++ []) (second ++ []) (λ k ty lo hi. lower-not k (omega (arith, hi)))
+        (filter-all (λ h. nat_le (operands_slot s p n) h.slot) base types (length (reverse below)) (length (reverse above)) [] [] (λ k ty lo hi. upper-is k lo) refl)
         ∙ append-nil second
 
     second_on : (stack : List Ty) → pushed second stack ≡ above ++ stack

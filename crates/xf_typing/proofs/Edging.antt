@@ -32,7 +32,7 @@ use Rattle.xf_plan.specs.Plan.{stack_homes, cells_from, needed, operation, stack
 use Rattle.xf_emission.specs.declared.origin.Origin.{Origin}
 use Rattle.xf_emission.specs.declared.origin.Origin.TheVariants.{Start, After, Entry}
 use Rattle.xf_emission.specs.Edge.{home_before, is_stored}
-use Rattle.xf_typing.specs.Planned.{IsPlanned, IsKept, Keeps}
+use Rattle.xf_typing.specs.Planned.{IsPlanned, IsKept, KeepsValues}
 use Rattle.xf_typing.specs.Edges.{IsNeededFor, NeededHaveHomes, slot_types, FillStack, CellsFillStack, LeadsTo, leads_start, leads_after, leads_entry, stored_at, IsCarried, EdgesCarry}
 use Rattle.xf_typing.specs.Whole.{IsWholeFrame, DerivedAreWhole}
 use Rattle.xf_typing.proofs.Walks.{Asked, nothing_asked}
@@ -145,7 +145,7 @@ module _ (s : Source) (l : AreLaws s.world) (dw : DerivedAreWhole s.world) (sv :
   home-is h x e = ap (λ (n : ℕ). record { slot = n; ty = h.ty }) e
 
   -- the value of a local in a frame has a home
-  local-keeps : (p : ℕ) (f : Frame) (h : Home) → s.frames p ≡ Some f → value_at f.regs h.slot ≡ Some h.ty → Keeps s h
+  local-keeps : (p : ℕ) (f : Frame) (h : Home) → s.frames p ≡ Some f → value_at f.regs h.slot ≡ Some h.ty → KeepsValues s h
   local-keeps p f h e v =
       let w = ready.whole p f e in
       let asked : IsAsked s.method s.frames p h.slot 0 h.ty =
@@ -186,7 +186,7 @@ module _ (s : Source) (l : AreLaws s.world) (dw : DerivedAreWhole s.world) (sv :
       record {
         follow = subst (SlotsFollow base) (sym is) (subst (λ (n : ℕ). SlotsFollow n (cells_from base types 0 (length types))) here all.follow);
         fill = ap register_sum is ∙ all.fill ∙ length-reverse f.stack;
-        keep = subst (Each (Keeps s)) (sym is) (each-cell (Keeps s) base types (λ i ty v.
+        keep = subst (Each (KeepsValues s)) (sym is) (each-cell (KeepsValues s) base types (λ i ty v.
             let plain = value-plain s.world.classes types i ty v (All-reverse (IsKnown s.world.classes) f.stack whole.known.stack)
             (All-reverse IsNotBottom f.stack whole.stack) (All-reverse IsNotFresh f.stack fresh) in
             record {

@@ -35,7 +35,7 @@ use Rattle.xf_emission.specs.Emission.{rewritten}
 use Rattle.xf_emission.specs.Jump.{has_under, operands, under}
 use Rattle.xf_emission.specs.Move.{load_op}
 use Rattle.xf_landed.specs.Laid.{record_with}
-use Rattle.xf_typing.specs.Planned.{IsPlanned, Keeps}
+use Rattle.xf_typing.specs.Planned.{IsPlanned, KeepsValues}
 use Rattle.xf_typing.specs.Edges.{AreMatched, none_matched, more_matched, IsForkedAt, ForksAreCut, ForksMatch}
 use Rattle.xf_typing.specs.Typed.{registers_of}
 use Rattle.xf_typing.specs.Whole.{DerivedAreWhole}
@@ -61,8 +61,8 @@ module _ (s : Source) (l : AreLaws s.world) where
   matched-homes :
       (slot : ℕ) (pre before : List Ty) {xs ys : List Ty} (over : List Ty) → length pre ≡ length before → AreWhole xs → CellsBelow s.world.classes xs ys
       → All IsNotBottom xs → All IsNotTop xs → All IsNotTop ys
-      → Each (Keeps s) (cells_from slot (pre ++ (xs ++ over)) (length pre) (length xs))
-      → Each (Keeps s) (cells_from slot (before ++ ys) (length before) (length ys))
+      → Each (KeepsValues s) (cells_from slot (pre ++ (xs ++ over)) (length pre) (length xs))
+      → Each (KeepsValues s) (cells_from slot (before ++ ys) (length before) (length ys))
       → AreMatched s (cells_from slot (pre ++ (xs ++ over)) (length pre) (length xs)) (cells_from slot (before ++ ys) (length before) (length ys))
   matched-homes slot pre before over e no_whole no_cells full top top2 a b = none_matched
   matched-homes slot pre before over e (whole_int {types = us} is) (more_cells {a = h} {b = p} {xs = xs} {ys = ys} le (more_cells {a = c} {b = d} {xs = zs} {ys = vs} ge more)) full top top2 a b =
@@ -73,8 +73,8 @@ module _ (s : Source) (l : AreLaws s.world) where
       ap (λ (y : Ty). cells_from slot (before ++ y ∷ d ∷ vs) (length before) (suc (suc (length vs)))) high
       ∙ ap (λ (y : Ty). cells_from slot (before ++ IntHigh ∷ y ∷ vs) (length before) (suc (suc (length vs)))) low
       ∙ home-int slot before vs (length vs) in
-      let a2 = subst (Each (Keeps s)) left_is a in
-      let b2 = subst (Each (Keeps s)) right_is b in
+      let a2 = subst (Each (KeepsValues s)) left_is a in
+      let b2 = subst (Each (KeepsValues s)) right_is b in
       let lengths : length (pre ++ IntHigh ∷ IntLow ∷ []) ≡ length (before ++ IntHigh ∷ IntLow ∷ []) = omega (arith, length-append pre (IntHigh ∷ IntLow ∷ []), length-append before (IntHigh ∷ IntLow ∷ []), e) in
       let rest = matched-homes slot (pre ++ IntHigh ∷ IntLow ∷ []) (before ++ IntHigh ∷ IntLow ∷ []) over lengths is more
       (All-tail IsNotBottom IntLow us (All-tail IsNotBottom IntHigh (IntLow ∷ us) full)) (All-tail IsNotTop IntLow us (All-tail IsNotTop IntHigh (IntLow ∷ us) top)) (All-tail IsNotTop d vs (All-tail IsNotTop p (d ∷ vs) top2)) a2.1 b2.1 in
@@ -86,8 +86,8 @@ module _ (s : Source) (l : AreLaws s.world) where
       let whole : IsNoHalf p = no-half-above s.world.classes l.rules.types u p le (All-head IsNotBottom u us full) h in
       let left_is = home-one slot pre u (us ++ over) (length us) h (All-head IsNotTop u us top) in
       let right_is = home-one slot before p vs (length vs) whole (All-head IsNotTop p vs top2) in
-      let a2 = subst (Each (Keeps s)) left_is a in
-      let b2 = subst (Each (Keeps s)) right_is b in
+      let a2 = subst (Each (KeepsValues s)) left_is a in
+      let b2 = subst (Each (KeepsValues s)) right_is b in
       let lengths : length (pre ++ u ∷ []) ≡ length (before ++ p ∷ []) = omega (arith, length-append pre (u ∷ []), length-append before (p ∷ []), e) in
       let rest = matched-homes slot (pre ++ u ∷ []) (before ++ p ∷ []) over lengths is more
       (All-tail IsNotBottom u us full) (All-tail IsNotTop u us top) (All-tail IsNotTop p vs top2) a2.1 b2.1 in
@@ -168,19 +168,19 @@ module _ (s : Source) (l : AreLaws s.world) (dw : DerivedAreWhole s.world) (sv :
       keeps = λ over. keeps-over new apart s l (ready s l dw sv plan) r (record-for s) asks res plan.code i k.op f k.after n k.run is takes over;
     }
 
-    under-keeps : Each (Keeps s) (under s i.place n)
+    under-keeps : Each (KeepsValues s) (under s i.place n)
     under-keeps = by (has_under s i.place n) refl
       where
-        by : (b : Bool) → has_under s i.place n ≡ b → Each (Keeps s) (under s i.place n)
+        by : (b : Bool) → has_under s i.place n ≡ b → Each (KeepsValues s) (under s i.place n)
         by true over =
             let kept = (fill-stack s l dw sv plan i.place f at (forked-at.keeps over)).keep in
-            each-left (Keeps s) (under s i.place n) (operands s i.place n) (subst (Each (Keeps s)) cut.parts kept)
+            each-left (KeepsValues s) (under s i.place n) (operands s i.place n) (subst (Each (KeepsValues s)) cut.parts kept)
         by false over =
             let deep = depth-is new apart s l (ready s l dw sv plan) r (record-for s) asks res plan.code i k.op f k.after k.run in
             let le : length f.stack ≤ n = grind (arith, nat_tests, over, deep) in
             let none : length (reverse k.after.stack) ≡ 0 = omega (arith, count, le, length-reverse k.after.stack) in
             let empty : under s i.place n ≡ [] = under_is ∙ ap (λ (m : ℕ). cells_from (register_count s.method.rec) (reverse k.after.stack ++ reverse forked.operands) 0 m) none in
-            subst (Each (Keeps s)) (sym empty) tt
+            subst (Each (KeepsValues s)) (sym empty) tt
 
     pub matched-at : (q : ℕ) → IsSuccessor s.method.code i q → is_leader s q ≡ true → AreMatched s (under s i.place n) (stack_homes s q)
     matched-at q succ lead =
@@ -190,7 +190,7 @@ module _ (s : Source) (l : AreLaws s.world) (dw : DerivedAreWhole s.world) (sv :
         let full = all-right IsNotBottom forked.operands k.after.stack (subst (All IsNotBottom) forked.parts ((ready s l dw sv plan).whole i.place f at).stack) in
         let m = matched-homes s l (register_count s.method.rec) [] [] (reverse forked.operands) refl whole_after (l.rules.order.turned g.below.stack)
         (All-reverse IsNotBottom k.after.stack full) (All-reverse IsNotTop k.after.stack no_top_after) (All-reverse IsNotTop g.frame.stack (fit-at s l dw sv plan q g.frame g.at).no_top)
-        (subst (Each (Keeps s)) under_is under-keeps) (subst (Each (Keeps s)) second keeps.keep) in
+        (subst (Each (KeepsValues s)) under_is under-keeps) (subst (Each (KeepsValues s)) second keeps.keep) in
         subst (λ (hs : List Home). AreMatched s hs (stack_homes s q)) (sym under_is)
         (subst (λ (ks : List Home). AreMatched s (cells_from (register_count s.method.rec) (reverse k.after.stack ++ reverse forked.operands) 0 (length (reverse k.after.stack))) ks) (sym second) m)
 

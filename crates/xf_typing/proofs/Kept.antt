@@ -34,7 +34,7 @@ use Rattle.jc_rules.specs.declared.effect.Mode.TheVariants.{Flow}
 use Rattle.jc_rules.specs.declared.effect.Store.{Store}
 use Rattle.jc_rules.specs.declared.rule.Outcome.{Outcome}
 use Rattle.jc_rules.specs.Demand.{SatisfiesAll}
-use Rattle.jc_rules.specs.Effect.{changed, listed, Stores}
+use Rattle.jc_rules.specs.Effect.{changed, in_stack_order, StoresInRegisters}
 use Rattle.jc_rules.specs.Flow.{IsNotFresh}
 use Rattle.jc_rules.specs.FlowLaws.{AreRules}
 use Rattle.jc_rules.specs.Apply.{OperationApplies}
@@ -98,7 +98,7 @@ module _ (new : ℕ → ℕ) (apart : (a b : ℕ) → new a ≡ new b → a ≡ 
   named-type-ready (Fresh p c) h = absurd h
   named-type-ready Top h = absurd h
 
-  one-same : (ty : Ty) → IsNotFresh ty → listed (given.One ty) ≡ map (named new apart) (listed (given.One ty))
+  one-same : (ty : Ty) → IsNotFresh ty → in_stack_order (given.One ty) ≡ map (named new apart) (in_stack_order (given.One ty))
   one-same ty h = ap (λ (u : Ty). u ∷ []) (sym (same-named new apart ty h))
 
   method-at : (n : ℕ) (m : MethodRec) → slice_get w.methods n ≡ Some m → IsMethod w.infos w.pools w.classes m
@@ -128,7 +128,7 @@ module _ (new : ℕ → ℕ) (apart : (a b : ℕ) → new a ≡ new b → a ≡ 
   by-replacing : (op : Operation) (regs st : List Ty) (n : ℕ) (cells : Cells)
       → demands w (named_op new apart op) ≡ demands w op
       → Each (IsSteady new apart) (demands w op)
-      → listed cells ≡ map (named new apart) (listed cells)
+      → in_stack_order cells ≡ map (named new apart) (in_stack_order cells)
       → (effect w (named_op new apart op) (record { regs = regs; stack = map (named new apart) st })) ≡ replacing n cells
       → (effect w op (record { regs = regs; stack = st })) ≡ replacing n cells
       → Renames op regs st
@@ -208,7 +208,7 @@ module _ (new : ℕ → ℕ) (apart : (a b : ℕ) → new a ≡ new b → a ≡ 
         store = refl;
         change =
             call-named new apart args (result_given (result_at (slice_get w.methods c.method))) c.receiver regs st
-            (subst (λ (o : Option Ty). listed (result_given o) ≡ map (named new apart) (listed (result_given o))) (sym result) (result-same new apart sound.rec.sig.result (declared-some sound.rec.sig.result is.result)));
+            (subst (λ (o : Option Ty). in_stack_order (result_given o) ≡ map (named new apart) (in_stack_order (result_given o))) (sym result) (result-same new apart sound.rec.sig.result (declared-some sound.rec.sig.result is.result)));
       }
   renames m place (ops.New p c) sound res kept regs st = record { asks = refl; steady = tt; store = refl; change = replaced new apart 0 (given.One (Fresh p c)) (given.One (Fresh (new p) c)) st refl }
   renames m place (ops.NewArray ty) sound res kept regs st =
@@ -237,6 +237,6 @@ module _ (new : ℕ → ℕ) (apart : (a b : ℕ) → new a ≡ new b → a ≡ 
       let n = renames m place op sound res kept regs st in
       applies-by w limit (named_op new apart op) (record { regs = regs; stack = map (named new apart) st }) (record { regs = stored; stack = map (named new apart) after })
       (subst (SatisfiesAll w.classes (record { regs = regs; stack = map (named new apart) st })) (sym n.asks) (all-named new apart w.classes rules.types regs st (demands w op) n.steady a.asked))
-      (subst (λ (e : Store). Stores w.classes Flow e regs stored) (sym n.store) a.regs)
+      (subst (λ (e : Store). StoresInRegisters w.classes Flow e regs stored) (sym n.store) a.regs)
       (ap (map (named new apart)) a.stack ∙ sym n.change)
       (omega (arith, length-map after (named new apart), a.room))

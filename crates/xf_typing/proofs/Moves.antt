@@ -17,11 +17,11 @@ use Rattle.jc_ops.specs.declared.operation.Operation.TheVariants as ops
 use Rattle.jc_ops.specs.declared.operation.Sort.TheVariants as sorts
 use Rattle.jc_ops.specs.Next.{falls_from, ends_at}
 use Rattle.jc_ops.specs.Resolve.{resolved}
-use Rattle.jc_ops.specs.Row.{row_at, table, unused, by_sort, by_width, by_kind, first_four, by_register, literals, binary, orders_all, branching}
+use Rattle.jc_ops.specs.Row.{row_at, table, unused, by_sort, by_width, by_kind, first_four, by_register, literals, binaries, orders_all, branching}
 use Rattle.jc_rules.specs.declared.effect.Mode.TheVariants.{Flow}
 use Rattle.jc_rules.specs.declared.rule.Outcome.{Outcome}
 use Rattle.jc_rules.specs.Demand.{Frame, SatisfiesAll}
-use Rattle.jc_rules.specs.Effect.{Stores, changed, reg, rises}
+use Rattle.jc_rules.specs.Effect.{StoresInRegisters, changed, reg, raises_register}
 use Rattle.jc_rules.specs.Rule.{demands, effect, wrote, or_null}
 use Rattle.jc_rules.specs.Apply.{OperationApplies}
 use Rattle.jc_rules.specs.Flow.{CellsBelow, no_cells, more_cells}
@@ -60,7 +60,7 @@ get-reg (y ∷ ys) (suc x) a e = get-reg ys x a e
 pub applies-by :
     (w : Linked) (limit : ℕ) (op : Operation) (before after : Frame)
     → SatisfiesAll w.classes before (demands w op)
-    → Stores w.classes Flow (effect w op before).store before.regs after.regs
+    → StoresInRegisters w.classes Flow (effect w op before).store before.regs after.regs
     → after.stack ≡ changed (effect w op before).change before.stack
     → length after.stack ≤ limit
     → (o : Outcome) × OperationApplies w limit op Flow before after o
@@ -70,7 +70,7 @@ applies-by w limit op before after asked stores stack room = (
     ends = ends_at op;
     depth = length after.stack;
     wrote = wrote (effect w op before).store.register (effect w op before).store.cells;
-    rose = rises w.classes Flow (effect w op before).store before.regs;
+    rose = raises_register w.classes Flow (effect w op before).store before.regs;
   },
   record { asked = asked; regs = stores; stack = stack; room = room; falls = refl; ends = refl; depth = refl; wrote_is = refl; rose_is = refl },
 )
@@ -157,15 +157,15 @@ module _ (w : Linked) (objects : ClassesAreObjects w.classes) (r : MethodRec) (r
   -- ---- loads
 
   loads-reference : (n x : ℕ) → x < 256 → resolved w r n (with_byte 21 x) (row_at 21) ≡ Ok (ops.Load sorts.Reference x)
-  unfolding row_at table by_sort by_width by_kind first_four by_register literals binary orders_all branching unused
+  unfolding row_at table by_sort by_width by_kind first_four by_register literals binaries orders_all branching unused
   loads-reference n x lt = ap (λ k. Ok (ops.Load sorts.Reference k)) (byte-small x lt)
 
   loads-short : (n x : ℕ) → x < 256 → resolved w r n (with_byte 22 x) (row_at 22) ≡ Ok (ops.Load sorts.Short x)
-  unfolding row_at table by_sort by_width by_kind first_four by_register literals binary orders_all branching unused
+  unfolding row_at table by_sort by_width by_kind first_four by_register literals binaries orders_all branching unused
   loads-short n x lt = ap (λ k. Ok (ops.Load sorts.Short k)) (byte-small x lt)
 
   loads-int : (n x : ℕ) → x < 256 → resolved w r n (with_byte 23 x) (row_at 23) ≡ Ok (ops.Load sorts.Int x)
-  unfolding row_at table by_sort by_width by_kind first_four by_register literals binary orders_all branching unused
+  unfolding row_at table by_sort by_width by_kind first_four by_register literals binaries orders_all branching unused
   loads-int n x lt = ap (λ k. Ok (ops.Load sorts.Int k)) (byte-small x lt)
 
   pub held : (x : ℕ) (a b : Ty) → slice_get regs x ≡ Some a → Below w.classes a b → IsSomeAnd (slice_get regs x) (λ found. Below w.classes found b)
@@ -219,15 +219,15 @@ module _ (w : Linked) (objects : ClassesAreObjects w.classes) (r : MethodRec) (r
   -- ---- stores
 
   stores-reference : (n x : ℕ) → x < 256 → resolved w r n (with_byte 40 x) (row_at 40) ≡ Ok (ops.Store sorts.Reference x)
-  unfolding row_at table by_sort by_width by_kind first_four by_register literals binary orders_all branching unused
+  unfolding row_at table by_sort by_width by_kind first_four by_register literals binaries orders_all branching unused
   stores-reference n x lt = ap (λ k. Ok (ops.Store sorts.Reference k)) (byte-small x lt)
 
   stores-short : (n x : ℕ) → x < 256 → resolved w r n (with_byte 41 x) (row_at 41) ≡ Ok (ops.Store sorts.Short x)
-  unfolding row_at table by_sort by_width by_kind first_four by_register literals binary orders_all branching unused
+  unfolding row_at table by_sort by_width by_kind first_four by_register literals binaries orders_all branching unused
   stores-short n x lt = ap (λ k. Ok (ops.Store sorts.Short k)) (byte-small x lt)
 
   stores-int : (n x : ℕ) → x < 256 → resolved w r n (with_byte 42 x) (row_at 42) ≡ Ok (ops.Store sorts.Int x)
-  unfolding row_at table by_sort by_width by_kind first_four by_register literals binary orders_all branching unused
+  unfolding row_at table by_sort by_width by_kind first_four by_register literals binaries orders_all branching unused
   stores-int n x lt = ap (λ k. Ok (ops.Store sorts.Int k)) (byte-small x lt)
 
   pub store-turn : (n : ℕ) (ty : Ty) (x : ℕ) (vs stack : List Ty) → Holds ty x → CellsBelow w.classes vs (cells_on ty) → length (vs ++ stack) ≤ r.max_stack → length stack ≤ r.max_stack

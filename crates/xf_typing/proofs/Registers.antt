@@ -32,7 +32,7 @@ use Rattle.jc_rules.specs.FlowLaws.{AreRules}
 use Rattle.jc_rules.specs.Laws.{IsNotBottom}
 use Rattle.jc_flow.proofs.Derived.{of_world}
 use Rattle.xf_homes.specs.declared.home.Home.{Home}
-use Rattle.xf_homes.specs.Home.{argument_types, IsConditional, KeepsStack, Spot, IsMet, met_local, met_cell}
+use Rattle.xf_homes.specs.Home.{argument_types, IsConditional, KeepsStack, Spot, IsMetAt, met_local, met_cell}
 use Rattle.xf_homes.specs.Laws.{NeededAreKept}
 use Rattle.xf_homes.specs.Order.{AreHomes, SlotsFollow, register_sum}
 use Rattle.xf_homes.specs.Value.{value_at, width}
@@ -193,7 +193,7 @@ module _ (same_is : SameTypeDecides) (kept : NeededAreKept) (s : Source) (object
         ok-same a b e = cc
 
     -- what is met is a value that is no uninitialised object
-    met-plain : (spot : Spot) (h : Home) → IsMet s.world s.method s.frames spot h → IsPlainValue h.ty × IsKnown s.world.classes h.ty
+    met-plain : (spot : Spot) (h : Home) → IsMetAt s.world s.method s.frames spot h → IsPlainValue h.ty × IsKnown s.world.classes h.ty
     met-plain _ _ (met_local {p = p} {x = x} {n = n} {ty = ty} there asked) =
         let f = found same_is kept s objects rules ready r asks p x n ty asked in
         let w = ready.whole f.place f.frame f.at in

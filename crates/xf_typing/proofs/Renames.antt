@@ -23,7 +23,7 @@ use Rattle.jc_rules.specs.declared.effect.Cells.{Cells}
 use Rattle.jc_rules.specs.declared.effect.Cells.TheVariants as given
 use Rattle.jc_rules.specs.declared.effect.Change.TheVariants.{Replace, CopyUnder, Exchange}
 use Rattle.jc_rules.specs.Demand.{Satisfies, SatisfiesAll, Meets, IsHalf}
-use Rattle.jc_rules.specs.Effect.{changed, listed, ready}
+use Rattle.jc_rules.specs.Effect.{changed, in_stack_order, ready}
 use Rattle.jc_rules.specs.Flow.{IsNotFresh}
 use Rattle.jc_rules.specs.Rule.{cell, value_given, number_given, result_given, ready_with, call_change, element}
 
@@ -127,20 +127,20 @@ module _ (new : ℕ → ℕ) (apart : (a b : ℕ) → new a ≡ new b → a ≡ 
   cell-named (ty ∷ st) zero = refl
   cell-named (ty ∷ st) (suc n) = cell-named st n
 
-  pub replaced : (n : ℕ) (cells others : Cells) (st : List Ty) → listed others ≡ map named (listed cells) → changed (Replace n others) (map named st) ≡ map named (changed (Replace n cells) st)
+  pub replaced : (n : ℕ) (cells others : Cells) (st : List Ty) → in_stack_order others ≡ map named (in_stack_order cells) → changed (Replace n others) (map named st) ≡ map named (changed (Replace n cells) st)
   replaced n cells others st e =
-      ap (λ (us : List Ty). us ++ drop n (map named st)) e ∙ ap (λ (us : List Ty). map named (listed cells) ++ us) (drop-map named n st) ∙ sym (map-append named (listed cells) (drop n st))
+      ap (λ (us : List Ty). us ++ drop n (map named st)) e ∙ ap (λ (us : List Ty). map named (in_stack_order cells) ++ us) (drop-map named n st) ∙ sym (map-append named (in_stack_order cells) (drop n st))
 
-  pub value-same : (ty : Ty) → IsNotFresh ty → listed (value_given ty) ≡ map named (listed (value_given ty))
+  pub value-same : (ty : Ty) → IsNotFresh ty → in_stack_order (value_given ty) ≡ map named (in_stack_order (value_given ty))
   value-same IntHigh h = refl
   value-same (Fresh p c) h = absurd h
   value-same ty h = refl
 
-  pub result-same : (result : Option Ty) → IfSome result IsNotFresh → listed (result_given result) ≡ map named (listed (result_given result))
+  pub result-same : (result : Option Ty) → IfSome result IsNotFresh → in_stack_order (result_given result) ≡ map named (in_stack_order (result_given result))
   result-same None h = refl
   result-same (Some ty) h = value-same ty h
 
-  pub number-same : (width : Width) → listed (number_given width) ≡ map named (listed (number_given width))
+  pub number-same : (width : Width) → in_stack_order (number_given width) ≡ map named (in_stack_order (number_given width))
   number-same widths.Short = refl
   number-same widths.Int = refl
 
@@ -169,17 +169,17 @@ module _ (new : ℕ → ℕ) (apart : (a b : ℕ) → new a ≡ new b → a ≡ 
   element-ready (ArrRef c) = tt
   element-ready ty = tt
 
-  ready-with-named : (n : ℕ) (cells : Cells) (ty : Ty) (want : Want) (st : List Ty) → listed cells ≡ map named (listed cells)
+  ready-with-named : (n : ℕ) (cells : Cells) (ty : Ty) (want : Want) (st : List Ty) → in_stack_order cells ≡ map named (in_stack_order cells)
       → changed (ready_with n cells (named ty) want) (map named st) ≡ map named (changed (ready_with n cells ty want) st)
   ready-with-named n cells (Fresh p c) (Receiver d) st e =
       ap (λ (us : List Ty). us ++ map (ready (new p) d) (drop n (map named st))) e
-      ∙ ap (λ (us : List Ty). map named (listed cells) ++ map (ready (new p) d) us) (drop-map named n st)
-      ∙ ap (λ (us : List Ty). map named (listed cells) ++ us) (map-ready p d (drop n st))
-      ∙ sym (map-append named (listed cells) (map (ready p d) (drop n st)))
+      ∙ ap (λ (us : List Ty). map named (in_stack_order cells) ++ map (ready (new p) d) us) (drop-map named n st)
+      ∙ ap (λ (us : List Ty). map named (in_stack_order cells) ++ us) (map-ready p d (drop n st))
+      ∙ sym (map-append named (in_stack_order cells) (map (ready p d) (drop n st)))
   ready-with-named n cells (Fresh p c) want st e = replaced n cells cells st e
   ready-with-named n cells ty want st e = replaced n cells cells st e
 
-  pub call-named : (args : List Ty) (cells : Cells) (receiver : Option Want) (regs st : List Ty) → listed cells ≡ map named (listed cells)
+  pub call-named : (args : List Ty) (cells : Cells) (receiver : Option Want) (regs st : List Ty) → in_stack_order cells ≡ map named (in_stack_order cells)
       → changed (call_change args cells receiver (record { regs = regs; stack = map named st })) (map named st) ≡ map named (changed (call_change args cells receiver (record { regs = regs; stack = st })) st)
   call-named args cells None regs st e = replaced (length args) cells cells st e
   call-named args cells (Some want) regs st e =

@@ -22,7 +22,7 @@ use Rattle.jc_ops.specs.declared.operation.Operation.{Operation}
 use Rattle.jc_ops.specs.declared.operation.Operation.TheVariants as ops
 use Rattle.jc_ops.specs.declared.operation.Width.{Width}
 use Rattle.jc_ops.specs.Resolve.{resolved, on, instance_field, short_of}
-use Rattle.jc_ops.specs.Row.{row_at, table, unused, by_sort, by_width, by_kind, first_four, by_register, literals, binary, orders_all, branching}
+use Rattle.jc_ops.specs.Row.{row_at, table, unused, by_sort, by_width, by_kind, first_four, by_register, literals, binaries, orders_all, branching}
 use Rattle.xf_emission.specs.Move.{with_byte}
 use Rattle.xf_emission.proofs.RowByRow as kind
 use Rattle.xf_emission.proofs.RowByRow.{kind_at, kinds, op_kind, kind-of}
@@ -96,7 +96,7 @@ at-register k op = op
 -- an increment of another register
 pub increased-at : (w : Linked) (m r : MethodRec) (place n : ℕ) (i : Insn) (width : Width) (x k : ℕ) (amount : ℤ) → i.op < 256 → k < 256
     → resolved w m place i (row_at i.op) ≡ Ok (ops.Increment width x amount) → resolved w r n (record i { x = pos k }) (row_at i.op) ≡ Ok (ops.Increment width k amount)
-unfolding row_at table by_sort by_width by_kind first_four by_register literals binary orders_all branching unused at-register
+unfolding row_at table by_sort by_width by_kind first_four by_register literals binaries orders_all branching unused at-register
 increased-at w m r place n i width x k amount lt small e = by (one-of i.op 89 90 150 151 (when (is_increase (kind_at i.op)) _ (ap is_increase (sym is)) (passed-at increases increases-all i.op lt)))
   where
     is : kind.increasing ≡ kind_at i.op
@@ -140,7 +140,7 @@ write-again (Err fault) f e = absurd (cc)
 -- a read of a field of `this`, as that of an object on the stack
 pub read-on-stack : (w : Linked) (m r : MethodRec) (place n : ℕ) (i : Insn) (f : InstanceField) → i.op < 256 → m.package ≡ r.package
     → resolved w m place i (row_at i.op) ≡ Ok (ops.FieldRead f holders.This) → resolved w r n (record i { op = i.op - 42 }) (row_at (i.op - 42)) ≡ Ok (ops.FieldRead f holders.Stack)
-unfolding row_at table by_sort by_width by_kind first_four by_register literals binary orders_all branching unused
+unfolding row_at table by_sort by_width by_kind first_four by_register literals binaries orders_all branching unused
 read-on-stack w m r place n i f lt home e = by (one-of i.op 173 174 175 176 (when (is_reading (kind_at i.op)) _ (ap is_reading (sym is)) (passed-at reads reads-all i.op lt)))
   where
     is : kind.reading ≡ kind_at i.op
@@ -168,7 +168,7 @@ read-on-stack w m r place n i f lt home e = by (one-of i.op 173 174 175 176 (whe
 -- a write of a field of `this`, as that of an object on the stack
 pub write-on-stack : (w : Linked) (m r : MethodRec) (place n : ℕ) (i : Insn) (f : InstanceField) → i.op < 256 → m.package ≡ r.package
     → resolved w m place i (row_at i.op) ≡ Ok (ops.FieldWrite f holders.This) → resolved w r n (record i { op = i.op - 46 }) (row_at (i.op - 46)) ≡ Ok (ops.FieldWrite f holders.Stack)
-unfolding row_at table by_sort by_width by_kind first_four by_register literals binary orders_all branching unused
+unfolding row_at table by_sort by_width by_kind first_four by_register literals binaries orders_all branching unused
 write-on-stack w m r place n i f lt home e = by (one-of i.op 181 182 183 184 (when (is_writing (kind_at i.op)) _ (ap is_writing (sym is)) (passed-at writes writes-all i.op lt)))
   where
     is : kind.writing ≡ kind_at i.op
@@ -196,23 +196,23 @@ write-on-stack w m r place n i f lt home e = by (one-of i.op 181 182 183 184 (wh
 -- ---- goto, pop and swaps
 
 pub goto-is : (w : Linked) (r : MethodRec) (n : ℕ) → resolved w r n (jump 168) (row_at 168) ≡ Ok (ops.Branch branches.Always)
-unfolding row_at table by_sort by_width by_kind first_four by_register literals binary orders_all branching unused
+unfolding row_at table by_sort by_width by_kind first_four by_register literals binaries orders_all branching unused
 goto-is w r n = refl
 
 pub pop-is : (w : Linked) (r : MethodRec) (n : ℕ) (i : Insn) → resolved w r n i (row_at 59) ≡ Ok (ops.Move moves.Pop)
-unfolding row_at table by_sort by_width by_kind first_four by_register literals binary orders_all branching unused
+unfolding row_at table by_sort by_width by_kind first_four by_register literals binaries orders_all branching unused
 pop-is w r n i = refl
 
 pub pop-two-is : (w : Linked) (r : MethodRec) (n : ℕ) (i : Insn) → resolved w r n i (row_at 60) ≡ Ok (ops.Move moves.PopTwo)
-unfolding row_at table by_sort by_width by_kind first_four by_register literals binary orders_all branching unused
+unfolding row_at table by_sort by_width by_kind first_four by_register literals binaries orders_all branching unused
 pop-two-is w r n i = refl
 
 pub swap-one-is : (w : Linked) (r : MethodRec) (n : ℕ) → resolved w r n (with_byte 64 17) (row_at 64) ≡ Ok (ops.Move (moves.Exchange 1 1))
-unfolding row_at table by_sort by_width by_kind first_four by_register literals binary orders_all branching unused
+unfolding row_at table by_sort by_width by_kind first_four by_register literals binaries orders_all branching unused
 swap-one-is w r n = refl
 
 pub swap-two-is : (w : Linked) (r : MethodRec) (n : ℕ) → resolved w r n (with_byte 64 18) (row_at 64) ≡ Ok (ops.Move (moves.Exchange 1 2))
-unfolding row_at table by_sort by_width by_kind first_four by_register literals binary orders_all branching unused
+unfolding row_at table by_sort by_width by_kind first_four by_register literals binaries orders_all branching unused
 swap-two-is w r n = refl
 
 -- ---- branches
@@ -242,7 +242,7 @@ each-is P op (k ∷ ks) all e = by (op == k) refl e (λ f. each-is P op ks all.1
     by false q f rest = rest f
 
 wide-alike : (w : Linked) (m r : MethodRec) (place n : ℕ) (i : Insn) → Each (λ op. resolved w r n (jump (wide op)) (row_at (wide op)) ≡ resolved w m place i (row_at op)) branches_all
-unfolding row_at table by_sort by_width by_kind first_four by_register literals binary orders_all branching unused
+unfolding row_at table by_sort by_width by_kind first_four by_register literals binaries orders_all branching unused
 wide-alike w m r place n i = (
   refl,
   (

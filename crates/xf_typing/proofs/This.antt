@@ -29,7 +29,7 @@ use Rattle.jc_rules.specs.declared.effect.Mode.TheVariants.{Flow}
 use Rattle.jc_rules.specs.declared.rule.Outcome.{Outcome}
 use Rattle.jc_rules.specs.Apply.{OperationApplies}
 use Rattle.jc_rules.specs.Demand.{Frame, SatisfiesAll}
-use Rattle.jc_rules.specs.Effect.{listed}
+use Rattle.jc_rules.specs.Effect.{in_stack_order}
 use Rattle.jc_rules.specs.Flow.{IsNotFresh, IsNotTop}
 use Rattle.jc_rules.specs.Laws.{IsNotBottom}
 use Rattle.jc_rules.specs.Rule.{demands, value_given, value_wanted, value_size}
@@ -57,7 +57,7 @@ use Rattle.xf_typing.proofs.Running.{AreLaws, IsRecordFor, IsRun, IsPassed, has-
 
 -- ---- the value of a field
 
-given-full : (t : ClassTable) (ty : Ty) → IsDeclared t ty → All IsNotBottom (listed (value_given ty))
+given-full : (t : ClassTable) (ty : Ty) → IsDeclared t ty → All IsNotBottom (in_stack_order (value_given ty))
 given-full t Bottom h = absurd h
 given-full t IntHigh h = All-cons IsNotBottom IntLow (IntHigh ∷ []) tt (All-cons IsNotBottom IntHigh [] tt (All-nil IsNotBottom))
 given-full t Short h = All-cons IsNotBottom Short [] tt (All-nil IsNotBottom)
@@ -72,7 +72,7 @@ given-full t (ArrRef c) h = All-cons IsNotBottom (ArrRef c) [] tt (All-nil IsNot
 given-full t (Fresh p c) h = absurd h
 given-full t Top h = absurd h
 
-given-known : (t : ClassTable) (ty : Ty) → IsDeclared t ty → All (IsKnown t) (listed (value_given ty))
+given-known : (t : ClassTable) (ty : Ty) → IsDeclared t ty → All (IsKnown t) (in_stack_order (value_given ty))
 given-known t Bottom h = absurd h
 given-known t IntHigh h = All-cons (IsKnown t) IntLow (IntHigh ∷ []) tt (All-cons (IsKnown t) IntHigh [] tt (All-nil (IsKnown t)))
 given-known t Short h = All-cons (IsKnown t) Short [] tt (All-nil (IsKnown t))
@@ -177,7 +177,7 @@ module _ (new : ℕ → ℕ) (apart : (a b : ℕ) → new a ≡ new b → a ≡ 
       h = record { slot = 0; ty = k.ty }
 
       cells : List Ty
-      cells = listed (value_given fld.ty)
+      cells = in_stack_order (value_given fld.ty)
 
       regs : List Ty
       regs = registers_of s.homes

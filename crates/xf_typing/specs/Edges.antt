@@ -21,14 +21,14 @@ use Rattle.xf_emission.specs.declared.origin.Origin.TheVariants.{Start, After, E
 use Rattle.xf_emission.specs.Edge.{home_before, held, is_stored}
 use Rattle.xf_emission.specs.Jump.{has_under, operands, under}
 use Rattle.xf_emission.specs.Move.{load_op}
-use Rattle.xf_typing.specs.Planned.{IsPlanned, Keeps}
+use Rattle.xf_typing.specs.Planned.{IsPlanned, KeepsValues}
 
 -- ---- what stands at a place
 
 -- a home that is needed at a place with these registers keeps the value at its slot, by types above theirs
 pub record IsNeededFor (s : Source) (f : Frame) (x : ℕ) (h : Home) : Type 0 where
   pub slot : h.slot ≡ x
-  pub keeps : Keeps s h
+  pub keeps : KeepsValues s h
   pub types : List Ty
   pub above : CellsBelow s.world.classes f.regs types
   pub value : value_at types h.slot ≡ Some h.ty
@@ -51,7 +51,7 @@ slot_types f = f.regs ++ reverse f.stack
 pub record FillStack (s : Source) (q : ℕ) (f : Frame) : Type 0 where
   pub follow : SlotsFollow (register_count s.method.rec) (stack_homes s q)
   pub fill : register_sum (stack_homes s q) ≡ length f.stack
-  pub keep : Each (Keeps s) (stack_homes s q)
+  pub keep : Each (KeepsValues s) (stack_homes s q)
   pub values : Each (λ h. value_at (slot_types f) h.slot ≡ Some h.ty) (stack_homes s q)
 
 abbrev pub CellsFillStack : Linked → Type 0
@@ -90,7 +90,7 @@ pub record IsCarried (s : Source) (o : Origin) (h from : Home) : Type 0 where
   pub before : home_before s o h.slot ≡ Some from
   pub slot : from.slot ≡ h.slot
   pub there : has (held s o h.slot from) from ≡ true
-  pub keeps : Keeps s from
+  pub keeps : KeepsValues s from
   pub loads : load_op from.ty ≡ load_op h.ty
   pub apart : (k : ℕ) → k < width h.ty → stored_at o (h.slot + k) ≡ false
 
@@ -113,8 +113,8 @@ pub data AreMatched (s : Source) : List Home → List Home → Type 0 where
   more_matched :
       {h k : Home} {hs ks : List Home}
       → h.slot ≡ k.slot
-      → Keeps s h
-      → Keeps s k
+      → KeepsValues s h
+      → KeepsValues s k
       → load_op h.ty ≡ load_op k.ty
       → AreMatched s hs ks
       → AreMatched s (h ∷ hs) (k ∷ ks)

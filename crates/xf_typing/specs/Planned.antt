@@ -36,7 +36,7 @@ IsKept Top = ⊥
 IsKept ty = ⊤
 
 -- a home of the method, which keeps values of a type of the world
-pub record Keeps (s : Source) (h : Home) : Type 0 where
+pub record KeepsValues (s : Source) (h : Home) : Type 0 where
   pub kept : IsKept h.ty
   pub known : IsKnown s.world.classes h.ty
   pub has : HasRegister s.homes h

@@ -1,5 +1,5 @@
 use Rattle.std.proofs.Common.{◌≡◌, ◌≤◌, ◌+◌, ◌*◌, ◌++◌, length, sym, ap, subst, ◌∙◌}
-use Rattle.cap_laying.specs.Blocks.{blocks, entries_of, indexes_of, total_handlers}
+use Rattle.cap_laying.specs.Blocks.{blocks, entries_of, handler_indexes, total_handlers}
 use Rattle.cap_laying.specs.HandlerTable.{table_bytes}
 use Rattle.cap_laying.specs.Member.{bodies, by_offset, end_from}
 use Rattle.cap_laying.specs.NewPlaces.{news_from}
@@ -35,18 +35,18 @@ returns c =
     let two : c.deref-2.result.now ≡ by_offset size ms = c.deref-2.ensures.value ∙ c.in_ok-table.ensures in
     let three : c.deref-3.result.now ≡ blocks room ms = c.deref-3.ensures.value ∙ c.in_ok-blocks.ensures in
     let four : c.deref-4.result.now ≡ by_offset size ms = c.deref-4.ensures.value ∙ c.in_ok-table.ensures in
-    let indexes : c.deref-5.result.now ≡ indexes_of size (blocks room ms) = c.deref-5.ensures.value ∙ c.in_ok-indexes.ensures ∙ ap (indexes_of size) three in
+    let indexes : c.deref-5.result.now ≡ handler_indexes size (blocks room ms) = c.deref-5.ensures.value ∙ c.in_ok-indexes.ensures ∙ ap (handler_indexes size) three in
     let six : c.deref-6.result.now ≡ blocks room ms = c.deref-6.ensures.value ∙ c.in_ok-blocks.ensures in
     let seven : c.deref-7.result.now ≡ by_offset size ms = c.deref-7.ensures.value ∙ c.in_ok-table.ensures in
     let eight : c.deref-8.result.now ≡ by_offset size ms = c.deref-8.ensures.value ∙ c.in_ok-table.ensures in
     let nine : c.deref-9.result.now ≡ blocks room ms = c.deref-9.ensures.value ∙ c.in_ok-blocks.ensures in
-    let news : c.in_ok-news.news ≡ news_from (indexes_of size (blocks room ms)) (1 + 8 * total_handlers (blocks room ms)) (by_offset size ms) =
-    c.in_ok-news.ensures ∙ ap (λ t. news_from c.deref-5.result.now start t) four ∙ ap (λ i. news_from i start (by_offset size ms)) indexes ∙ ap (λ k. news_from (indexes_of size (blocks room ms)) k (by_offset size ms)) begins in
-    let entries = entries_of (news_from (indexes_of size (blocks room ms)) (1 + 8 * total_handlers (blocks room ms)) (by_offset size ms)) (blocks room ms) in
+    let news : c.in_ok-news.news ≡ news_from (handler_indexes size (blocks room ms)) (1 + 8 * total_handlers (blocks room ms)) (by_offset size ms) =
+    c.in_ok-news.ensures ∙ ap (λ t. news_from c.deref-5.result.now start t) four ∙ ap (λ i. news_from i start (by_offset size ms)) indexes ∙ ap (λ k. news_from (handler_indexes size (blocks room ms)) k (by_offset size ms)) begins in
+    let entries = entries_of (news_from (handler_indexes size (blocks room ms)) (1 + 8 * total_handlers (blocks room ms)) (by_offset size ms)) (blocks room ms) in
     let third : c.put_table.new.out.items ≡ c.push.new.self.items ++ table_bytes entries =
-    c.in_ok-put_table.ensures ∙ ap (λ n. c.push.new.self.items ++ table_bytes (entries_of n c.deref-6.result.now)) news ∙ ap (λ b. c.push.new.self.items ++ table_bytes (entries_of (news_from (indexes_of size (blocks room ms)) (1 + 8 * total_handlers (blocks room ms)) (by_offset size ms)) b)) six in
+    c.in_ok-put_table.ensures ∙ ap (λ n. c.push.new.self.items ++ table_bytes (entries_of n c.deref-6.result.now)) news ∙ ap (λ b. c.push.new.self.items ++ table_bytes (entries_of (news_from (handler_indexes size (blocks room ms)) (1 + 8 * total_handlers (blocks room ms)) (by_offset size ms)) b)) six in
     let fourth : c.put_bodies.new.out.items ≡ c.put_table.new.out.items ++ bodies (by_offset size ms) = c.in_ok-put_bodies.ensures ∙ ap (λ t. c.put_table.new.out.items ++ bodies t) seven in
-    let count : c.handler_total-total.result ≡ length entries = total ∙ sym (length_table (news_from (indexes_of size (blocks room ms)) (1 + 8 * total_handlers (blocks room ms)) (by_offset size ms)) (blocks room ms)) in
+    let count : c.handler_total-total.result ≡ length entries = total ∙ sym (length_table (news_from (handler_indexes size (blocks room ms)) (1 + 8 * total_handlers (blocks room ms)) (by_offset size ms)) (blocks room ms)) in
     record {
       info = info_steps c.handler_total-total.result c.in_ok-info.info.items c.push.new.self.items c.put_table.new.out.items c.put_bodies.new.out.items entries (by_offset size ms) c.in_ok-info.ensures.items c.in_ok-push.ensures.items third fourth count;
       references = c.in_ok-references.ensures ∙ ap (λ t. references_info start t c.deref-9.result.now) eight ∙ ap (λ b. references_info start (by_offset size ms) b) nine ∙ ap (λ k. references_info k (by_offset size ms) (blocks room ms)) begins;

@@ -1,7 +1,7 @@
 use Rattle.std.proofs.Common.{◌≡◌, ◌≤◌, ◌<◌, ◌+◌, ◌++◌, ◌∷◌, drop, length, arith, ap, sym, subst, ◌∙◌, rules}
 use Rattle.std.specs.Prelude.{slice_index_or}
 use Rattle.std.proofs.lemmas.List.{drop_more}
-use Rattle.jc_decode.specs.PoolIndex.{bytes_of}
+use Rattle.jc_decode.specs.PoolIndex.{bytes_of_index}
 use Rattle.cap_locations.specs.Distances.{distances, last_of}
 use Rattle.cap_locations.proofs.Tellings.{told_more, last_more}
 use Rattle.cap_laying.specs.Member.{end_from, size_if}
@@ -29,7 +29,7 @@ methods-preserved c =
     let rest = drop (n + 1) table in
     let at = c.methods.at in
     let next = c.in_ok-at.at in
-    let w = bytes_of c.args.width in
+    let w = bytes_of_index c.args.width in
     let lt : n < length table = first_of (omega arith, search rules) in
     let is : slice_index_or table n slot ≡ slot = first_of (cc, search rules) in
     let steps : drop n table ≡ slot ∷ rest = drop_more table n slot lt ∙ ap (λ s. s ∷ rest) is in

@@ -1,5 +1,5 @@
 use Rattle.std.proofs.Common.{◌≡◌, ◌≤◌, ◌++◌, drop}
-use Rattle.jc_decode.specs.PoolIndex.{bytes_of}
+use Rattle.jc_decode.specs.PoolIndex.{bytes_of_index}
 use Rattle.cap_locations.specs.Distances.{distances, last_of}
 use Rattle.cap_locations.specs.Telling.{IsFew}
 use Rattle.cap_laying.specs.Member.{end_from}
@@ -13,6 +13,6 @@ invariant-methods l = record {
   end : end_from l.at (drop l.slot-index l.table) ≤ 65535;
   order : l.told.last ≤ l.at;
   few : IsFew l.told;
-  bytes : l.told.bytes.items ++ distances l.told.last (method_indices (bytes_of l.width) l.at (drop l.slot-index l.table)) ≡ l.initial.told.bytes.items ++ distances l.initial.told.last (method_indices (bytes_of l.width) l.start l.table);
-  last : last_of l.told.last (method_indices (bytes_of l.width) l.at (drop l.slot-index l.table)) ≡ last_of l.initial.told.last (method_indices (bytes_of l.width) l.start l.table);
+  bytes : l.told.bytes.items ++ distances l.told.last (method_indices (bytes_of_index l.width) l.at (drop l.slot-index l.table)) ≡ l.initial.told.bytes.items ++ distances l.initial.told.last (method_indices (bytes_of_index l.width) l.start l.table);
+  last : last_of l.told.last (method_indices (bytes_of_index l.width) l.at (drop l.slot-index l.table)) ≡ last_of l.initial.told.last (method_indices (bytes_of_index l.width) l.start l.table);
 }

@@ -1,7 +1,7 @@
 use Rattle.std.proofs.Common.{◌≡◌, ◌+◌, ◌++◌, [], sym, ap, arith, rules}
 use Rattle.std.proofs.Math.Seq.{take-length}
 use Rattle.jc_decode.specs.Listing.{listing, listing_from}
-use Rattle.jc_decode.specs.PoolIndex.{bytes_of, pool_index}
+use Rattle.jc_decode.specs.PoolIndex.{bytes_of_index, pool_index}
 use Rattle.jc_decode.proofs.Listing.{listing_from-more, listing_from-end}
 use Rattle.cap_locations.specs.Distances.{distances, last_of}
 use Rattle.cap_locations.specs.Indices.{index_by, indices}
@@ -26,7 +26,7 @@ walk-init c = record {
 pub walk-preserved : goal.walk-preserved
 walk-preserved c =
     let code = c.args.code.bytes.now in
-    let w = bytes_of c.args.width in
+    let w = bytes_of_index c.args.width in
     let xs = index_by w (c.args.start + c.walk.at) (pool_index c.in-Ok.insn) in
     let ys = indices w c.args.start (listing_from code (c.walk.at + c.in-Ok.insn.len)) in
     let e : indices w c.args.start (listing_from code c.walk.at) ≡ xs ++ ys = ap (indices w c.args.start) (listing_from-more code c.walk.at c.in-Ok.insn (sym c.in-Ok.ensures.value)) in
@@ -42,7 +42,7 @@ walk-preserved c =
 pub returns-clause-told : goal.returns-clause-told
 returns-clause-told c =
     let code = c.args.code.bytes.now in
-    let w = bytes_of c.args.width in
+    let w = bytes_of_index c.args.width in
     let zs = indices w c.args.start (listing_from code c.walk.at) in
     let e : zs ≡ [] = ap (indices w c.args.start) (listing_from-end code c.walk.at c.in_default.field-0 (sym c.in_default.ensures.value)) in
     told_all c.walk.told c.args.told.now zs (indices w c.args.start (listing code)) e c.walk.invariant.bytes c.walk.invariant.last

@@ -10,7 +10,7 @@ use Rattle.cap_components.specs.declared.fault.PackFault.{PackFault}
 use Rattle.cap_components.specs.ComponentsSeen.{components_seen}
 use Rattle.cap_components.specs.Order.{least_of, least_from, refused}
 use Rattle.cap_package.specs.Agreement.{or_none}
-use Rattle.cap_package.specs.NameChecks.{undescribed_fault, no_class_fault, not_own_fault}
+use Rattle.cap_package.specs.NameChecks.{undescribed_fault, undescribed_class_fault, not_own_fault}
 use Rattle.cap_package.proofs.ClassLaws.{refs, described_once, own_there}
 use Rattle.cap_package.proofs.agreement.classes_agree.Goals as goal
 
@@ -22,13 +22,13 @@ returns c =
     let once = described_once (tallied c.descriptions.result) named c.descriptions.ensures in
     c.refuse.ensures
     ∙ ap refused (c.export_classes.ensures
-    ∙ ap (λ (least : Option PackFault). least_from least (no_class_fault p.classes)
+    ∙ ap (λ (least : Option PackFault). least_from least (undescribed_class_fault p.classes)
     (map (λ (x : Exported). x.class_offset) (or_none p.export)))
     (c.descriptors_named-unnamed.ensures
     ∙ ap (λ (f : ℕ → Option PackFault). least_from c.classes_described-undescribed.result f (refs named)) there
-    ∙ ap (λ (ds : List desc.Class). least_from c.classes_described-undescribed.result (not_own_fault p.classes) (refs ds))
+    ∙ ap (λ (ds : List desc.ClassDescriptor). least_from c.classes_described-undescribed.result (not_own_fault p.classes) (refs ds))
     c.classes-descriptors.ensures
     ∙ ap (λ (least : Option PackFault). least_from least (not_own_fault p.classes) (refs p.description.items.classes))
     (c.classes_described-undescribed.ensures
     ∙ ap (λ (f : Class → Option PackFault). least_of f p.classes) once
-    ∙ ap (λ (ds : List desc.Class). least_of (undescribed_fault ds) p.classes) c.classes-descriptors.ensures)))
+    ∙ ap (λ (ds : List desc.ClassDescriptor). least_of (undescribed_fault ds) p.classes) c.classes-descriptors.ensures)))

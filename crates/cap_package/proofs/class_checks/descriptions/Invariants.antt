@@ -1,10 +1,10 @@
 use Rattle.std.proofs.Common.{◌≡◌, map}
-use Rattle.offset_set.specs.Tallies.{tallied, counted, with_all}
+use Rattle.offset_set.specs.Tallies.{tallied, tally_of, with_all}
 use Rattle.cap_desc.specs.DescriptorFormat as desc
 use Rattle.cap_desc.specs.ClassRecords.{described_left}
 use Rattle.cap_package.proofs.class_checks.descriptions.Given as goal
 
 abbrev pub invariant-classes : goal.invariant-classes
 invariant-classes l =
-    with_all (tallied l.described) (map (λ (d : desc.Class). d.class_ref) (described_left l.class-iterator))
-    ≡ counted (map (λ (d : desc.Class). d.class_ref) (described_left l.fn.descriptors))
+    with_all (tallied l.described) (map (λ (d : desc.ClassDescriptor). d.class_ref) (described_left l.class-iterator))
+    ≡ tally_of (map (λ (d : desc.ClassDescriptor). d.class_ref) (described_left l.fn.descriptors))

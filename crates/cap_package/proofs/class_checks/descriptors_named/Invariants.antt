@@ -8,6 +8,6 @@ use Rattle.cap_package.proofs.class_checks.descriptors_named.Given as goal
 
 abbrev pub invariant-classes : goal.invariant-classes
 invariant-classes l =
-    least_from l.least (class_unless (own (holds l.starts))) (map (λ (d : desc.Class). d.class_ref) (described_left l.class-iterator))
+    least_from l.least (class_unless (own (holds l.starts))) (map (λ (d : desc.ClassDescriptor). d.class_ref) (described_left l.class-iterator))
     ≡ least_from l.initial.least (class_unless (own (holds l.starts)))
-    (map (λ (d : desc.Class). d.class_ref) (described_left l.fn.descriptors))
+    (map (λ (d : desc.ClassDescriptor). d.class_ref) (described_left l.fn.descriptors))

@@ -1,7 +1,7 @@
 -- Each method is asked with the nearest of the starts that were counted.
 use Rattle.std.proofs.Common.{List, ap, sym, map, ◌∙◌}
 use Rattle.offset_set.specs.Tallies.{tallied}
-use Rattle.cap_desc.specs.DescriptorFormat.{Method}
+use Rattle.cap_desc.specs.DescriptorFormat.{MethodDescriptor}
 use Rattle.cap_desc.specs.MemberRecords.{method_seen}
 use Rattle.cap_desc.specs.MembersLeft.{methods_but_left}
 use Rattle.cap_components.specs.Order.{lesser, least_from}
@@ -17,5 +17,5 @@ methods-preserved c =
     (c.keep_lesser.ensures ∙ ap (lesser c.methods.least) (c.reaches.ensures
     ∙ method_reaches (tallied c.args.starts.now) starts c.args.info.bytes.now (method_seen c.in-Some.method)
     c.nearest-next.result c.requires.starts c.nearest-next.ensures))
-    ∙ ap (λ (ms : List Method). least_from c.methods.least asked ms) (sym c.in-Some.ensures.steps)
+    ∙ ap (λ (ms : List MethodDescriptor). least_from c.methods.least asked ms) (sym c.in-Some.ensures.steps)
     ∙ c.methods.invariant

@@ -2,7 +2,7 @@
 use Rattle.std.proofs.Common.{ℕ, Bool, List, ap, sym, ◌∙◌, rules}
 use Rattle.offset_set.specs.Bits.{holds}
 use Rattle.cap_desc.specs.declared.members.FieldsOf.{FieldsOf}
-use Rattle.cap_desc.specs.DescriptorFormat.{Field}
+use Rattle.cap_desc.specs.DescriptorFormat.{FieldDescriptor}
 use Rattle.cap_desc.specs.MemberRecords.{field_seen}
 use Rattle.cap_desc.specs.MembersLeft.{fields_of_left}
 use Rattle.cap_package.specs.StaticChecks.{is_static_at}
@@ -19,11 +19,11 @@ pub fields-preserved-then-is_static : goal.fields-preserved-then-is_static
 fields-preserved-then-is_static c =
     ap (λ (these : ℕ → Bool). either these (is_static_at (fields_of_left c.next.new.self))) (c.insert.ensures ∙ ap (λ (n : ℕ). also n (holds c.fields.offsets)) c.image_offset.ensures)
     ∙ more_statics (holds c.fields.offsets) (field_seen c.in-Some.field) (fields_of_left c.next.new.self) (search rules)
-    ∙ ap (λ (fs : List Field). either (holds c.fields.offsets) (is_static_at fs)) (sym c.in-Some.ensures.steps)
+    ∙ ap (λ (fs : List FieldDescriptor). either (holds c.fields.offsets) (is_static_at fs)) (sym c.in-Some.ensures.steps)
     ∙ c.fields.invariant
 
 pub returns : goal.returns
 returns c =
     sym (all_statics (holds c.fields.offsets))
-    ∙ ap (λ (fs : List Field). either (holds c.fields.offsets) (is_static_at fs)) (sym c.in-None.ensures.steps.0)
+    ∙ ap (λ (fs : List FieldDescriptor). either (holds c.fields.offsets) (is_static_at fs)) (sym c.in-None.ensures.steps.0)
     ∙ c.fields.invariant

@@ -1,5 +1,5 @@
 use Rattle.std.proofs.Common.{◌≡◌, map}
-use Rattle.offset_set.specs.Tallies.{tallied, counted, with_all}
+use Rattle.offset_set.specs.Tallies.{tallied, tally_of, with_all}
 use Rattle.cap_package.specs.StaticPlaces.{places_left}
 use Rattle.cap_package.specs.Reaches.{static_start}
 use Rattle.cap_package.proofs.static_checks.static_starts.Given as goal
@@ -7,4 +7,4 @@ use Rattle.cap_package.proofs.static_checks.static_starts.Given as goal
 abbrev pub invariant-places : goal.invariant-places
 invariant-places l =
     with_all (tallied l.starts) (map static_start (places_left l.place-iterator))
-    ≡ counted (map static_start (places_left l.fn.places))
+    ≡ tally_of (map static_start (places_left l.fn.places))

@@ -1,7 +1,7 @@
 use Rattle.std.proofs.Common.{◌≡◌, ℕ, Bool, List, map, ap, ◌∙◌}
 use Rattle.offset_set.specs.Bits.{holds}
 use Rattle.cap_bytes.specs.declared.view.View.{View}
-use Rattle.cap_desc.specs.DescriptorFormat.{Class}
+use Rattle.cap_desc.specs.DescriptorFormat.{ClassDescriptor}
 use Rattle.cap_desc.specs.Descriptors.{descriptor_seen}
 use Rattle.cap_components.specs.Components.{Methods}
 use Rattle.cap_components.specs.Descriptions.{Description}
@@ -23,7 +23,7 @@ returns c =
     let are : map member_seen ms ≡ seen_package p ls =
     c.in_ok-members.ensures ∙ ap (λ (s : ℕ → Bool). seen_classes s c.info.result.bytes.now (descriptor_seen c.descriptor.result).classes ls) set
     ∙ ap (λ (b : List ℕ). seen_classes (names_interface p.classes) b (descriptor_seen c.descriptor.result).classes ls) bytes
-    ∙ ap (λ (cs : List Class). seen_classes (names_interface p.classes) p.methods.info cs ls) items in
+    ∙ ap (λ (cs : List ClassDescriptor). seen_classes (names_interface p.classes) p.methods.info cs ls) items in
     record {
       are = members_are p ls ms c.requires are;
       may = may_be_written p.parts p ls ms c.parts-parts.ensures.agree c.requires are;

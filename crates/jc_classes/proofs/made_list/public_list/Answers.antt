@@ -2,7 +2,7 @@ use Rattle.std.proofs.Common.{length, sym, ap, ◌∙◌, arith}
 use Rattle.std.specs.Option.{option_map}
 use Rattle.jc_classes.specs.Conditions.{layout_above}
 use Rattle.jc_classes.specs.Entries.{overlaid}
-use Rattle.jc_classes.specs.Layout.{above_or_nothing, layout_of}
+use Rattle.jc_classes.specs.Layout.{above_or_nothing, class_layout}
 use Rattle.jc_classes.proofs.Folds.{layout_short, public_is}
 use Rattle.jc_classes.proofs.Growths.{class_sized, public_made}
 use Rattle.jc_classes.proofs.made_list.public_list.Goals as goal
@@ -26,7 +26,7 @@ unfolding layout_above
 returns-clause-inherited c =
     c.public_above.ensures
     ∙ ap (λ o. (above_or_nothing o).public) c.layout_above-up.ensures
-    ∙ ap (λ o. (above_or_nothing (option_map (layout_of c.args.lineage.now c.args.classes.now) o)).public) c.parent-above.ensures.is
+    ∙ ap (λ o. (above_or_nothing (option_map (class_layout c.args.lineage.now c.args.classes.now) o)).public) c.parent-above.ensures.is
 
 pub returns-clause-list : goal.returns-clause-list
 returns-clause-list c =

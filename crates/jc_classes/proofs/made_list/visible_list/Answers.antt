@@ -4,7 +4,7 @@ use Rattle.std.specs.Option.{option_map}
 use Rattle.jc_hierarchy.specs.Outline.{parent_of}
 use Rattle.jc_classes.specs.Conditions.{layout_above}
 use Rattle.jc_classes.specs.Entries.{overlaid}
-use Rattle.jc_classes.specs.Layout.{above_or_nothing, at_home, layout_of}
+use Rattle.jc_classes.specs.Layout.{above_or_nothing, at_home, class_layout}
 use Rattle.jc_classes.proofs.Folds.{layout_short, visible_is}
 use Rattle.jc_classes.proofs.Growths.{class_sized, visible_made}
 use Rattle.jc_classes.proofs.made_list.visible_list.Goals as goal
@@ -30,7 +30,7 @@ returns-clause-inherited c =
     c.visible_above.ensures
     ∙ ap (λ b. if b then (above_or_nothing (option_map (λ l. l.now) c.layout_above-up.result)).visible else []) (c.at_home-home.ensures ∙ ap (λ o. at_home c.args.lineage.now o c.args.c) c.parent-above.ensures.is)
     ∙ ap (λ o. if at_home c.args.lineage.now (parent_of c.args.lineage.now c.args.c) c.args.c then (above_or_nothing o).visible else [])
-    (c.layout_above-up.ensures ∙ ap (option_map (layout_of c.args.lineage.now c.args.classes.now)) c.parent-above.ensures.is)
+    (c.layout_above-up.ensures ∙ ap (option_map (class_layout c.args.lineage.now c.args.classes.now)) c.parent-above.ensures.is)
 
 pub returns-clause-list : goal.returns-clause-list
 returns-clause-list c =

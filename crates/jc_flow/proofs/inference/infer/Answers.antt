@@ -5,7 +5,7 @@ use Rattle.jc_rules.specs.Flow.{HasFlowTyping}
 use Rattle.jc_rules.specs.Typing.{state_at}
 use Rattle.jc_control.specs.Method.{Method, IsMethodOf, method_in}
 use Rattle.jc_control.specs.ControlFlow.{IsControlFlow}
-use Rattle.jc_flow.specs.Infer.{HasNone}
+use Rattle.jc_flow.specs.Infer.{LacksTyping}
 use Rattle.jc_flow.proofs.Answered.{number-below, of-method, to-method, code-short, none-unformed, none-failed, unset-of}
 use Rattle.jc_flow.proofs.inference.infer.Goals as goal
 
@@ -33,7 +33,7 @@ pub returns-clause-none : goal.returns-clause-none
 returns-clause-none c =
     let bytes : option_map (code_of c.args.world.now.infos) (slice_get c.args.world.now.methods c.args.method) ≡ Some c.of.result.bytes.now = cc in
     let mo : IsMethodOf c.args.world.now (record { number = c.args.method; rec = c.method.result.now; code = c.of.result.bytes.now }) = of-method c.args.world.now c.args.method c.method.result.now c.of.result.bytes.now c.method.ensures.is bytes (IsMethodOf c.args.world.now) c.control_flow.ensures.known in
-    to-method c.args.world.now c.args.method c.method.result.now c.of.result.bytes.now c.method.ensures.is bytes (λ m. HasNone c.args.world.now m c.in-Err-settled.end) (none-failed c.args.world.now c.rule_laws.ensures (record { number = c.args.method; rec = c.method.result.now; code = c.of.result.bytes.now }) mo c.in-Err-settled.end c.in-Err-settled.ensures.failed)
+    to-method c.args.world.now c.args.method c.method.result.now c.of.result.bytes.now c.method.ensures.is bytes (λ m. LacksTyping c.args.world.now m c.in-Err-settled.end) (none-failed c.args.world.now c.rule_laws.ensures (record { number = c.args.method; rec = c.method.result.now; code = c.of.result.bytes.now }) mo c.in-Err-settled.end c.in-Err-settled.ensures.failed)
 
 pub returns-in-Ok-settled-clause-unset : goal.returns-in-Ok-settled-clause-unset
 returns-in-Ok-settled-clause-unset c =

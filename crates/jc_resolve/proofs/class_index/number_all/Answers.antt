@@ -5,7 +5,7 @@ use Rattle.cap_package.specs.PackageRecord.{PackageRecord}
 use Rattle.cap_package.specs.PackagesLeft.{packages_left}
 use Rattle.jc_resolve.specs.declared.place.RecordPlace.{RecordPlace}
 use Rattle.jc_resolve.specs.Counts.{class_total}
-use Rattle.jc_resolve.specs.Numbers.{Numbered, with_all, with_next, class_flags, class_spots, spot_of_class}
+use Rattle.jc_resolve.specs.Numbers.{Numbered, with_all, with_next, interface_flags, class_spots, spot_of_class}
 use Rattle.jc_resolve.proofs.class_index.number_all.Goals as goal
 
 -- what is numbered one list after the other
@@ -29,9 +29,9 @@ packages-preserved c =
           ∙ sym (with_both c.packages.numbers (map (spot_of_class k) p.classes) (class_spots (k + 1) others))
           ∙ ap (λ ps. with_all c.packages.numbers (class_spots k ps)) (sym is)
           ∙ c.packages.invariant.0,
-      ap (λ xs. xs ++ class_flags others) flags
-          ∙ append_assoc items own (class_flags others)
-          ∙ ap (λ ps. items ++ class_flags ps) (sym is)
+      ap (λ xs. xs ++ interface_flags others) flags
+          ∙ append_assoc items own (interface_flags others)
+          ∙ ap (λ ps. items ++ interface_flags ps) (sym is)
           ∙ c.packages.invariant.1,
       omega (arith, next, total, c.packages.invariant.2),
       omega (arith, ap length is, c.packages.invariant.3),

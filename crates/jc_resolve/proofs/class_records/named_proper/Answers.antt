@@ -14,7 +14,7 @@ returns-clause-sized c = record {
   own =
       own_sized c.args.home.index.now (slice_index c.args.home.roles 0) c.args.home.number c.descriptor-descriptor.result c.offset.result c.as_slice.result.now c.of-2.result
       (ap (map field_seen) c.as_slice.ensures.value ∙ c.in_ok-fields.ensures
-      ∙ ap (λ (cs : List described.Class). instance_fields cs c.offset.result)
+      ∙ ap (λ (cs : List described.ClassDescriptor). instance_fields cs c.offset.result)
       (c.requires.described ∙ ap (λ (d : Description). d.items.classes) (sym c.descriptor-descriptor.ensures)))
       (c.of-2.ensures ∙ c.in_ok-own.ensures);
 }

@@ -1,7 +1,7 @@
 use Rattle.std.proofs.Common.{◌≡◌, ◌++◌, map}
 use Rattle.cap_bytes.specs.Table.{numbers}
-use Rattle.jc_resolve.specs.NamedClasses.{entry_of}
+use Rattle.jc_resolve.specs.NamedClasses.{dispatch_entry}
 use Rattle.jc_resolve.proofs.class_records.table_of.Given as goal
 
 abbrev pub invariant-entries : goal.invariant-entries
-invariant-entries l = l.entries.items ++ map (entry_of l.index l.«package») (numbers l.offset-iterator) ≡ map (entry_of l.index l.«package») (numbers l.fn.offsets)
+invariant-entries l = l.entries.items ++ map (dispatch_entry l.index l.«package») (numbers l.offset-iterator) ≡ map (dispatch_entry l.index l.«package») (numbers l.fn.offsets)

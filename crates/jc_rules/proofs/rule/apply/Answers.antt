@@ -10,7 +10,7 @@ use Rattle.jc_ops.specs.declared.site.Site.{Site}
 use Rattle.jc_ops.specs.Resolve.{Resolves}
 use Rattle.jc_rules.specs.declared.effect.Mode.TheVariants.{Card}
 use Rattle.jc_rules.specs.Stack.{cells}
-use Rattle.jc_rules.specs.Effect.{needed, listed, depth_after, Stores, rises}
+use Rattle.jc_rules.specs.Effect.{cells_needed, in_stack_order, depth_after, StoresInRegisters, raises_register}
 use Rattle.jc_rules.specs.Demand.{Frame}
 use Rattle.jc_rules.specs.Apply.{frame_of, HasDeclaredLengths, Refuses, unresolved, refused_by}
 use Rattle.jc_rules.proofs.Stacks.{length-cells}
@@ -57,7 +57,7 @@ change_stack-depth-requires-clause-there c =
     let declared : HasDeclaredLengths c.method.result.now c.args.regs.now c.args.stack.now c.args.depth =
     method-room c.args.world.now c.args.site.method c.method.result.now (λ m. HasDeclaredLengths m c.args.regs.now c.args.stack.now c.args.depth) c.method.ensures.is c.requires.room in
     let inside : c.args.depth ≤ length c.args.stack.now = omega (arith, declared.within, declared.cells) in
-    subst (λ n. needed c.in_ok-effect.effect.change ≤ n) (length-cells c.args.stack.now c.args.depth inside)
+    subst (λ n. cells_needed c.in_ok-effect.effect.change ≤ n) (length-cells c.args.stack.now c.args.depth inside)
     (planned-suits c.args.world.now c.classes-classes.ensures.links c.args.site c.in_ok-operation.operation c.args.regs.now c.args.stack.now c.args.depth c.method.result.now.max_stack c.in_ok-effect.effect c.requires.room c.requires.regs_known c.requires.stack_known c.in_ok-operation.ensures.sound c.in_ok-effect.ensures).there
 
 pub change_regs-rose-requires-clause-inside : goal.change_regs-rose-requires-clause-inside
@@ -68,7 +68,7 @@ change_regs-rose-requires-clause-inside c =
 pub change_regs-rose-requires-clause-stored_known : goal.change_regs-rose-requires-clause-stored_known
 unfolding cells
 change_regs-rose-requires-clause-stored_known c =
-    subst (λ t. All (IsKnown t) (listed c.in_ok-effect.effect.store.cells)) (sym c.classes-classes.ensures.is)
+    subst (λ t. All (IsKnown t) (in_stack_order c.in_ok-effect.effect.store.cells)) (sym c.classes-classes.ensures.is)
     (cells-kept c.args.world.now.classes c.in_ok-effect.effect.store.cells
     (planned-suits c.args.world.now c.classes-classes.ensures.links c.args.site c.in_ok-operation.operation c.args.regs.now c.args.stack.now c.args.depth c.method.result.now.max_stack c.in_ok-effect.effect c.requires.room c.requires.regs_known c.requires.stack_known c.in_ok-operation.ensures.sound c.in_ok-effect.ensures).stored)
 
@@ -84,13 +84,13 @@ pub returns-clause-rises : goal.returns-clause-rises
 returns-clause-rises c = λ card.
     let t = c.args.world.now.classes in
     let e = c.in_ok-effect.effect in
-    let stored : Stores t c.args.mode e.store c.args.regs.now c.change_regs-rose.new.regs =
-    subst (λ x. Stores x c.args.mode e.store c.args.regs.now c.change_regs-rose.new.regs) c.classes-classes.ensures.is c.change_regs-rose.ensures.value in
-    let rose : c.change_regs-rose.result ≡ rises t Card e.store c.args.regs.now =
-    c.change_regs-rose.ensures.rose ∙ ap (λ x. rises x c.args.mode e.store c.args.regs.now) c.classes-classes.ensures.is ∙ ap (λ mode. rises t mode e.store c.args.regs.now) card in
+    let stored : StoresInRegisters t c.args.mode e.store c.args.regs.now c.change_regs-rose.new.regs =
+    subst (λ x. StoresInRegisters x c.args.mode e.store c.args.regs.now c.change_regs-rose.new.regs) c.classes-classes.ensures.is c.change_regs-rose.ensures.value in
+    let rose : c.change_regs-rose.result ≡ raises_register t Card e.store c.args.regs.now =
+    c.change_regs-rose.ensures.rose ∙ ap (λ x. raises_register x c.args.mode e.store c.args.regs.now) c.classes-classes.ensures.is ∙ ap (λ mode. raises_register t mode e.store c.args.regs.now) card in
     subst (RoseTo t c.args.regs.now c.change_regs-rose.new.regs) (sym rose)
     (store-rises t (subst IsOrderOfTypes c.classes-classes.ensures.is c.types_are_ordered.ensures.order) e.store.register e.store.cells c.args.regs.now c.change_regs-rose.new.regs
-    (subst (λ mode. Stores t mode e.store c.args.regs.now c.change_regs-rose.new.regs) card stored))
+    (subst (λ mode. StoresInRegisters t mode e.store c.args.regs.now c.change_regs-rose.new.regs) card stored))
 
 pub returns-clause-applies : goal.returns-clause-applies
 unfolding cells
@@ -103,7 +103,7 @@ returns-clause-applies c =
     let inside : c.args.depth ≤ length c.args.stack.now = omega (arith, declared.within, declared.cells) in
     let before : Frame = frame_of c.args.regs.now c.args.stack.now c.args.depth in
     let e = c.in_ok-effect.effect in
-    let there : needed e.change ≤ length before.stack = (planned-suits c.args.world.now c.classes-classes.ensures.links c.args.site c.in_ok-operation.operation c.args.regs.now c.args.stack.now c.args.depth c.method.result.now.max_stack c.in_ok-effect.effect c.requires.room c.requires.regs_known c.requires.stack_known c.in_ok-operation.ensures.sound c.in_ok-effect.ensures).there in
+    let there : cells_needed e.change ≤ length before.stack = (planned-suits c.args.world.now c.classes-classes.ensures.links c.args.site c.in_ok-operation.operation c.args.regs.now c.args.stack.now c.args.depth c.method.result.now.max_stack c.in_ok-effect.effect c.requires.room c.requires.regs_known c.requires.stack_known c.in_ok-operation.ensures.sound c.in_ok-effect.ensures).there in
     let count : length (cells c.change_stack-depth.new.stack c.change_stack-depth.result) ≡ c.change_stack-depth.result =
     ap length c.change_stack-depth.ensures.stack
     ∙ length-changed e.change before.stack there
@@ -120,12 +120,12 @@ returns-clause-applies c =
         does = plan-applies w c.classes-classes.ensures.links c.method.result.now.max_stack op c.args.mode before
             (frame_of c.change_regs-rose.new.regs c.change_stack-depth.new.stack c.change_stack-depth.result) e _ k
             (site-known w c.args.site.place c.args.site.method op c.in_ok-operation.ensures.sound) c.in_ok-effect.ensures
-            (subst (λ t. Stores t c.args.mode e.store c.args.regs.now c.change_regs-rose.new.regs) c.classes-classes.ensures.is c.change_regs-rose.ensures.value)
+            (subst (λ t. StoresInRegisters t c.args.mode e.store c.args.regs.now c.change_regs-rose.new.regs) c.classes-classes.ensures.is c.change_regs-rose.ensures.value)
             c.change_stack-depth.ensures.stack
             c.falls.ensures
             c.ends.ensures
             (sym count)
             c.wrote.ensures
-            (c.change_regs-rose.ensures.rose ∙ ap (λ t. rises t c.args.mode e.store c.args.regs.now) c.classes-classes.ensures.is);
+            (c.change_regs-rose.ensures.rose ∙ ap (λ t. raises_register t c.args.mode e.store c.args.regs.now) c.classes-classes.ensures.is);
       };
     }

@@ -5,7 +5,7 @@ use Rattle.std.proofs.lemmas.List.Elements.{All-take}
 use Rattle.jc_base.specs.declared.record.ArrayRec.{ArrayRec}
 use Rattle.jc_base.specs.Cell.{AreElementsOf}
 use Rattle.vm_store.specs.State.{State, Object}
-use Rattle.vm_store.specs.Objects.{cell_count, has_room}
+use Rattle.vm_store.specs.Objects.{heap_cells, has_room}
 use Rattle.vm_step.specs.Start.{initial_object}
 use Rattle.vm_start.proofs.Sums.{sum-most, there-inside, map-next, room-is}
 use Rattle.vm_start.proofs.Elements.{initial-count}
@@ -23,11 +23,11 @@ make_initial-requires-clause-room g c =
     let limits = c.classes-facts.ensures.links.limits in
     let inside : n < length w.arrays = there-inside w.arrays n a c.array.ensures.is in
     let kept : All (λ r. AreElementsOf r.kind r.initial) (take n w.arrays) = All-take (λ r. AreElementsOf r.kind r.initial) n w.arrays c.classes-facts.ensures.links.arrays in
-    let cells : cell_count z ≡ sum_by words (take n w.arrays) = ap (λ (x : Z). cell_count x) c.arrays.invariant.state ∙ initial-count k (take n w.arrays) kept in
+    let cells : heap_cells z ≡ sum_by words (take n w.arrays) = ap (λ (x : Z). heap_cells x) c.arrays.invariant.state ∙ initial-count k (take n w.arrays) kept in
     let made : length z.heap ≡ n =
     ap (λ (x : Z). length x.heap) c.arrays.invariant.state ∙ (length-map (take n w.arrays) (initial_object k) ∙ omega (arith, length-take n w.arrays)) in
     let most = sum-most words w.arrays n a c.array.ensures.is in
-    room-is (length z.heap) (cell_count z + length a.initial) (omega (arith, made, limits.arrays)) (omega (arith, cells, most, limits.array_cells))
+    room-is (length z.heap) (heap_cells z + length a.initial) (omega (arith, made, limits.arrays)) (omega (arith, cells, most, limits.array_cells))
 
 pub arrays-preserved : goal.arrays-preserved
 arrays-preserved g c =

@@ -5,7 +5,7 @@ use Rattle.jc_base.specs.declared.record.ArrayRec.{ArrayRec}
 use Rattle.jc_base.specs.declared.ty.Ty.{Ty}
 use Rattle.vm_store.specs.State.{State, Object, top, with_top, with_entry}
 use Rattle.vm_store.specs.Layout.{overwritten}
-use Rattle.vm_store.specs.Objects.{cell_count}
+use Rattle.vm_store.specs.Objects.{heap_cells}
 use Rattle.vm_step.specs.Start.{initial, initial_object, is_parameter, first_without_room, with_arrays, cells_handed}
 use Rattle.vm_start.proofs.Sums.{there-inside}
 use Rattle.vm_start.proofs.Elements.{initial-count}
@@ -21,9 +21,9 @@ make_argument_arrays-requires-clause-room g c =
     let z : Z = g.S.Store.state c.make_initial_arrays.new.store in
     let t = takes w c.args.entry args c.requires.begins in
     let count : length z.heap ≡ length w.arrays = ap (λ (x : Z). length x.heap) c.make_initial_arrays.ensures.state ∙ length-map w.arrays (initial_object k) in
-    let cells : cell_count z ≡ sum_by (λ (a : ArrayRec). length a.initial) w.arrays =
-    ap (λ (x : Z). cell_count x) c.make_initial_arrays.ensures.state ∙ initial-count k w.arrays c.classes-facts.ensures.links.arrays in
-    ap (λ (n : ℕ). first_without_room 0 n (cell_count z) args) count ∙ (ap (λ (n : ℕ). first_without_room 0 (length w.arrays) n args) cells ∙ t.1.room)
+    let cells : heap_cells z ≡ sum_by (λ (a : ArrayRec). length a.initial) w.arrays =
+    ap (λ (x : Z). heap_cells x) c.make_initial_arrays.ensures.state ∙ initial-count k w.arrays c.classes-facts.ensures.links.arrays in
+    ap (λ (n : ℕ). first_without_room 0 n (heap_cells z) args) count ∙ (ap (λ (n : ℕ). first_without_room 0 (length w.arrays) n args) cells ∙ t.1.room)
 
 pub begin-requires-clause-known : goal.begin-requires-clause-known
 begin-requires-clause-known g c = let t = takes c.args.world.now c.args.entry c.args.args.now c.requires.begins in there-inside c.args.world.now.methods c.args.entry t.0 t.1.is

@@ -6,7 +6,7 @@ use Rattle.jc_decode.specs.declared.symbols.Range.{Range}
 use Rattle.jc_decode.specs.declared.symbols.Laid.{Laid}
 use Rattle.jc_decode.specs.Symbols.{IsItem, IsRange, handler, plain_size}
 use Rattle.xf_layout.specs.Form.{instruction_place}
-use Rattle.xf_layout.specs.Plan.{IsPlan}
+use Rattle.xf_layout.specs.Plan.{IsLayoutPlan}
 use Rattle.xf_layout.specs.Laid.{IsPlacedRange}
 use Rattle.xf_layout.proofs.Least.{long-always}
 use Rattle.xf_layout.proofs.Reached.{range-placed, items-end}
@@ -22,7 +22,7 @@ pub returns-then-plan-gt-LONGEST_CODE-clause-long : goal.returns-then-plan-gt-LO
 returns-then-plan-gt-LONGEST_CODE-clause-long c n e =
     let items = c.args.symbols.now.items in
     let p = c.in_ok-plan.plan in
-    let plan = subst (λ (xs : List Item). IsPlan xs p) c.as_slice-items.ensures c.in_ok-plan.ensures in
+    let plan = subst (λ (xs : List Item). IsLayoutPlan xs p) c.as_slice-items.ensures c.in_ok-plan.ensures in
     let size : c.plain_size.result ≡ n = cc in (
       long-always items p.forms.items plan.forms plan.least (omega (arith, plan.end, c.if-plan-gt-LONGEST_CODE.true)),
       sym size ∙ c.plain_size.ensures ∙ ap plain_size c.as_slice-items.ensures,
@@ -32,7 +32,7 @@ pub handlers-requires : goal.handlers-requires
 handlers-requires c =
     let items = c.args.symbols.now.items in
     let p = c.in_ok-plan.plan in
-    let plan = subst (λ (xs : List Item). IsPlan xs p) c.as_slice-items.ensures c.in_ok-plan.ensures in
+    let plan = subst (λ (xs : List Item). IsLayoutPlan xs p) c.as_slice-items.ensures c.in_ok-plan.ensures in
     let few : p.end ≤ 32767 = omega (arith, c.if-plan-gt-LONGEST_CODE.false) in
     let placed = range-placed items p plan few in
     let all = All-weaker (IsRange items) (IsPlacedRange p.places) placed c.args.symbols.now.ranges c.requires.ranges in
@@ -43,7 +43,7 @@ returns-clause-stands c =
     let source = c.args.source.bytes.now in
     let symbols = c.args.symbols.now in
     let p = c.in_ok-plan.plan in
-    let plan = subst (λ (xs : List Item). IsPlan xs p) c.as_slice-items.ensures c.in_ok-plan.ensures in
+    let plan = subst (λ (xs : List Item). IsLayoutPlan xs p) c.as_slice-items.ensures c.in_ok-plan.ensures in
     let stand = laid-items source p _ symbols.items _ c.of-2.result c.as_slice-items.ensures c.of-2.ensures c.in_ok-code.ensures in
     let handled = c.of-3.ensures ∙ c.in_ok-handlers.ensures ∙ ap (map (handler (slice_index p.places))) c.as_slice.ensures in
     let laid : Laid = record {
@@ -63,7 +63,7 @@ returns-clause-shortest c =
     let source = c.args.source.bytes.now in
     let symbols = c.args.symbols.now in
     let p = c.in_ok-plan.plan in
-    let plan = subst (λ (xs : List Item). IsPlan xs p) c.as_slice-items.ensures c.in_ok-plan.ensures in
+    let plan = subst (λ (xs : List Item). IsLayoutPlan xs p) c.as_slice-items.ensures c.in_ok-plan.ensures in
     let few : p.end ≤ 32767 = omega (arith, c.if-plan-gt-LONGEST_CODE.false) in
     let stand = laid-items source p _ symbols.items _ c.of-2.result c.as_slice-items.ensures c.of-2.ensures c.in_ok-code.ensures in
     let handled = c.of-3.ensures ∙ c.in_ok-handlers.ensures ∙ ap (map (handler (slice_index p.places))) c.as_slice.ensures in
@@ -85,7 +85,7 @@ returns-clause-few c =
     let source = c.args.source.bytes.now in
     let items = c.args.symbols.now.items in
     let p = c.in_ok-plan.plan in
-    let plan = subst (λ (xs : List Item). IsPlan xs p) c.as_slice-items.ensures c.in_ok-plan.ensures in
+    let plan = subst (λ (xs : List Item). IsLayoutPlan xs p) c.as_slice-items.ensures c.in_ok-plan.ensures in
     let stand = laid-items source p _ items _ c.of-2.result c.as_slice-items.ensures c.of-2.ensures c.in_ok-code.ensures in
     let e = items-end source (slice_index p.places) c.of-2.result 0 items p.forms.items stand in
     omega (arith, e, plan.end, c.if-plan-gt-LONGEST_CODE.false)

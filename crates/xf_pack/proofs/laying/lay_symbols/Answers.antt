@@ -4,7 +4,7 @@ use Rattle.jc_base.specs.World.{code_of}
 use Rattle.jc_control.specs.Method.{Method}
 use Rattle.xf_homes.proofs.Answered.{of-method, to-method}
 use Rattle.xf_world.specs.Laid.{IsLaidFor}
-use Rattle.xf_pack.specs.Passes.{IsRewrittenTo, IsSound}
+use Rattle.xf_pack.specs.Passes.{IsRewrittenTo, FitsMethod}
 use Rattle.xf_pack.specs.Unlaid.{TellsUnlaid}
 use Rattle.xf_pack.proofs.Coded.{bytes-told, laid-for, laid-sound}
 use Rattle.xf_pack.proofs.laying.lay_symbols.Goals as goal
@@ -30,7 +30,7 @@ returns-in-Ok-clause-sound c =
     let m : Method = record { number = n; rec = rec; code = code } in
     let bytes : option_map (code_of w.infos) (slice_get w.methods n) ≡ Some code = cc in
     let known : IsRewrittenTo w c.args.symbols.now m = of-method w n rec code c.method-rec.ensures.is bytes (IsRewrittenTo w c.args.symbols.now) c.requires.symbols in
-    to-method w n rec code c.method-rec.ensures.is bytes (λ m. IsSound m.rec c.in-Ok.laid)
+    to-method w n rec code c.method-rec.ensures.is bytes (λ m. FitsMethod m.rec c.in-Ok.laid)
     (laid-sound w m c.args.symbols.now known c.instructions_are_listed.ensures c.laid_is_typed.ensures c.method-rec.ensures.links c.in-Ok.laid c.in-Ok.ensures.shortest c.in-Ok.ensures.few)
 
 pub returns-in-Err-clause-end : goal.returns-in-Err-clause-end

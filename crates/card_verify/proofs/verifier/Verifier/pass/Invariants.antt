@@ -2,7 +2,7 @@ use Rattle.std.proofs.Common.{◌≡◌, ◌≤◌, ◌++◌}
 use Rattle.jc_decode.specs.Instructions.{rest_of}
 use Rattle.jc_decode.specs.Listing.{listing, end_from}
 use Rattle.jc_rules.specs.Stack.{cells}
-use Rattle.card_verify.specs.Ahead.{IsAhead}
+use Rattle.card_verify.specs.Ahead.{IsKnownAhead}
 use Rattle.card_verify.specs.Verifier.{method}
 use Rattle.card_verify.specs.Walk.{IsComing, IsProgress}
 use Rattle.card_verify.proofs.verifier.Verifier.pass.Given as goal
@@ -11,7 +11,7 @@ abbrev pub invariant-walk : goal.invariant-walk
 invariant-walk l = record {
   whole : l.yielded ++ rest_of l.placed-iterator ≡ listing l.self.code.bytes.now;
   coming : IsComing l.self (end_from 0 l.yielded) l.arrival l.regs l.stack;
-  ahead : IsAhead (method l.self) l.ahead;
+  ahead : IsKnownAhead (method l.self) l.ahead;
   low : l.ahead.from ≤ end_from 0 l.yielded;
   progress : IsProgress l.self l.initial.regs l.rose l.regs l.arrival.may_fall (cells l.stack l.arrival.depth) l.yielded;
 }

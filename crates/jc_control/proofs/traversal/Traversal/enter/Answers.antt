@@ -1,7 +1,7 @@
 use Rattle.std.proofs.Common.{arith}
 use Rattle.jc_control.specs.Control.{Covers, caught, entered}
 use Rattle.jc_control.specs.Subject.{method}
-use Rattle.jc_control.specs.Traversal.{Reaches, Grows, IsSound, IsCaught}
+use Rattle.jc_control.specs.Traversal.{ReachesPlace, Grows, IsSoundTraversal, IsCaught}
 use Rattle.jc_control.proofs.Growing.{on-ok, led-sound, led-grows, led-here}
 use Rattle.jc_control.proofs.Listed.{place-inside}
 use Rattle.jc_control.proofs.traversal.Traversal.enter.Goals as goal
@@ -21,7 +21,7 @@ returns-clause-sound c =
     let m = method c.args.subject in
     let inside = place-inside m.code c.args.subject.listed c.args.handler.entry c.requires.formed.entry in
     let covers : Covers c.args.handler c.args.place = c.if-not-covers.ensures in
-    on-ok (Reaches c.args.handler.entry c.args.self.now c.lead.new.self) (IsSound m c.lead.new.self) c.lead.result
+    on-ok (ReachesPlace c.args.handler.entry c.args.self.now c.lead.new.self) (IsSoundTraversal m c.lead.new.self) c.lead.result
     (λ r. led-sound m c.args.handler.entry c.args.self.now c.lead.new.self c.requires.sound (omega arith) c.lead.ensures.leaders r
     (caught c.requires.reached c.requires.stands covers) (entered c.requires.reached c.requires.stands covers)) c.lead.ensures.reached
 
@@ -29,12 +29,12 @@ pub returns-clause-grows : goal.returns-clause-grows
 returns-clause-grows c =
     let m = method c.args.subject in
     let inside = place-inside m.code c.args.subject.listed c.args.handler.entry c.requires.formed.entry in
-    on-ok (Reaches c.args.handler.entry c.args.self.now c.lead.new.self) (Grows c.args.self.now c.lead.new.self) c.lead.result
+    on-ok (ReachesPlace c.args.handler.entry c.args.self.now c.lead.new.self) (Grows c.args.self.now c.lead.new.self) c.lead.result
     (λ r. led-grows m c.args.handler.entry c.args.self.now c.lead.new.self c.requires.sound (omega arith) c.lead.ensures.leaders r) c.lead.ensures.reached
 
 pub returns-clause-caught : goal.returns-clause-caught
 returns-clause-caught c =
     let m = method c.args.subject in
     let inside = place-inside m.code c.args.subject.listed c.args.handler.entry c.requires.formed.entry in
-    on-ok (Reaches c.args.handler.entry c.args.self.now c.lead.new.self) (IsCaught c.lead.new.self c.args.place c.args.handler) c.lead.result
+    on-ok (ReachesPlace c.args.handler.entry c.args.self.now c.lead.new.self) (IsCaught c.lead.new.self c.args.place c.args.handler) c.lead.result
     (λ r covers. led-here m c.args.handler.entry c.args.self.now c.lead.new.self c.requires.sound (omega arith) c.lead.ensures.leaders r) c.lead.ensures.reached

@@ -5,7 +5,7 @@ use Rattle.std.proofs.lemmas.Int.{to_z-of_z}
 use Rattle.jc_decode.specs.Listing.{targets}
 use Rattle.jc_control.specs.Control.{led_to, follows, jumped}
 use Rattle.jc_control.specs.Subject.{method}
-use Rattle.jc_control.specs.Traversal.{Reaches, Grows, IsSound, IsLedTo}
+use Rattle.jc_control.specs.Traversal.{ReachesPlace, Grows, IsSoundTraversal, IsLedTo}
 use Rattle.jc_control.proofs.Growing.{on-ok, led-sound, led-grows, led-here}
 use Rattle.jc_control.proofs.Listed.{target-range, target-place}
 use Rattle.jc_control.proofs.traversal.Traversal.follow.Goals as goal
@@ -40,7 +40,7 @@ returns-clause-sound c =
     let same : pos q ≡ c.args.target = c.place_of.ensures ∙ to_z-of_z w32 c.args.target fits in
     let inside = target-place m.code c.args.subject.listed q c.args.target c.requires.formed same in
     let leads : Contains (targets m.code c.args.placed) (pos q) = subst (Contains (targets m.code c.args.placed)) (sym same) c.requires.leads in
-    on-ok (Reaches q c.args.self.now c.lead.new.self) (IsSound m c.lead.new.self) c.lead.result
+    on-ok (ReachesPlace q c.args.self.now c.lead.new.self) (IsSoundTraversal m c.lead.new.self) c.lead.result
     (λ r. led-sound m q c.args.self.now c.lead.new.self c.requires.sound (omega arith) c.lead.ensures.leaders r
     (follows c.requires.stands c.requires.reached (jumped leads)) (led_to c.requires.stands c.requires.reached leads)) c.lead.ensures.reached
 
@@ -51,7 +51,7 @@ returns-clause-grows c =
     let fits : FitsSigned w32 c.args.target = search rules in
     let same : pos q ≡ c.args.target = c.place_of.ensures ∙ to_z-of_z w32 c.args.target fits in
     let inside = target-place m.code c.args.subject.listed q c.args.target c.requires.formed same in
-    on-ok (Reaches q c.args.self.now c.lead.new.self) (Grows c.args.self.now c.lead.new.self) c.lead.result
+    on-ok (ReachesPlace q c.args.self.now c.lead.new.self) (Grows c.args.self.now c.lead.new.self) c.lead.result
     (λ r. led-grows m q c.args.self.now c.lead.new.self c.requires.sound (omega arith) c.lead.ensures.leaders r) c.lead.ensures.reached
 
 pub returns-clause-led : goal.returns-clause-led
@@ -61,5 +61,5 @@ returns-clause-led c =
     let fits : FitsSigned w32 c.args.target = search rules in
     let same : pos q ≡ c.args.target = c.place_of.ensures ∙ to_z-of_z w32 c.args.target fits in
     let inside = target-place m.code c.args.subject.listed q c.args.target c.requires.formed same in
-    on-ok (Reaches q c.args.self.now c.lead.new.self) (IsLedTo c.lead.new.self c.args.target) c.lead.result
+    on-ok (ReachesPlace q c.args.self.now c.lead.new.self) (IsLedTo c.lead.new.self c.args.target) c.lead.result
     (λ r. subst (IsLedTo c.lead.new.self) same (led-here m q c.args.self.now c.lead.new.self c.requires.sound (omega arith) c.lead.ensures.leaders r)) c.lead.ensures.reached

@@ -1,5 +1,5 @@
 use Rattle.std.proofs.Common.{subst, sym}
-use Rattle.jc_flow.specs.Found.{Found, taken}
+use Rattle.jc_flow.specs.Found.{Found, taken_up}
 use Rattle.jc_flow.specs.Progress.{AreHeld}
 use Rattle.jc_flow.proofs.Growth.{taken-held}
 use Rattle.jc_flow.specs.Visit.{analysed, IsVisited}
@@ -11,7 +11,7 @@ visit-requires-clause-held c = subst (AreHeld c.args.self.now.world.now (analyse
 
 pub places-preserved : goal.places-preserved
 places-preserved c =
-    let v : IsVisited c.args.self.now.world.now (analysed c.args.self.now) c.in-Some.place (taken c.places.table c.in-Some.place) c.visit.new.table = subst (λ (x : Found). IsVisited c.args.self.now.world.now (analysed c.args.self.now) c.in-Some.place x c.visit.new.table) c.in-Some.ensures.1 c.in_default-visit.ensures.visited in
+    let v : IsVisited c.args.self.now.world.now (analysed c.args.self.now) c.in-Some.place (taken_up c.places.table c.in-Some.place) c.visit.new.table = subst (λ (x : Found). IsVisited c.args.self.now.world.now (analysed c.args.self.now) c.in-Some.place x c.visit.new.table) c.in-Some.ensures.1 c.in_default-visit.ensures.visited in
     record {
       held = v.goes.held;
       closed = still-closed c.args.self.now.world.now c.requires.analysis.rules (analysed c.args.self.now) c.in-Some.place c.places.table c.visit.new.table v c.places.invariant.closed;

@@ -3,7 +3,7 @@ use Rattle.std.proofs.lemmas.List.{with_items_is, length-map}
 use Rattle.std.specs.Vec.{with_items}
 use Rattle.jc_base.specs.Dispatch.{cells_of}
 use Rattle.vm_store.specs.Cells.{tagged}
-use Rattle.vm_store.specs.Objects.{instance_cells}
+use Rattle.vm_store.specs.Objects.{new_instance_cells}
 use Rattle.vm_store.specs.Layout.{objects_in, overwritten}
 use Rattle.vm_store.proofs.Rooms.{HasRoom, room_for}
 use Rattle.vm_store.proofs.TaggedHeaps.{in_order-more, state-more}
@@ -38,7 +38,7 @@ returns-clause-state c =
     let heap : s.heap ≡ objects_in i.cells.items i.headers.items = ap (λ z. z.heap) (sym c.self.view_is) in
     let enough : i.used ≤ length i.cells.items = omega (arith, c.self.invariant.all_cells, c.self.invariant.some_used) in
     let t = c.args.world.now.classes in
-    let news = instance_cells tagged t c.args.class in
+    let news = new_instance_cells tagged t c.args.class in
     let wrote : (with_items i.cells c.fill_instance.new.cells).items ≡ overwritten i.cells.items i.used news =
     with_items_is i.cells c.fill_instance.new.cells (c.fill_instance.auto.cells ∙ c.as_mut_slice.ensures.len) ∙ (c.fill_instance.ensures ∙ ap (λ xs. overwritten xs i.used news) c.as_mut_slice.ensures.value) in
     let len : length news ≡ c.class.result.now.cells = length-map (cells_of t c.args.class) _ ∙ c.class.ensures.cells in

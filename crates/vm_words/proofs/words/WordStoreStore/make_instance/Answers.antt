@@ -6,7 +6,7 @@ use Rattle.vm_store.specs.declared.kind.ObjectKind.TheVariants.{Instance}
 use Rattle.vm_store.specs.Kind.{cell_kind}
 use Rattle.vm_store.specs.Cells.{words, zero_cell}
 use Rattle.vm_store.specs.State.{Object, State}
-use Rattle.vm_store.specs.Objects.{instance_cells}
+use Rattle.vm_store.specs.Objects.{new_instance_cells}
 use Rattle.vm_store.specs.Layout.{size, objects_in, overwritten, Follow}
 use Rattle.vm_store.proofs.Heaps.{added, follow-more}
 use Rattle.vm_store.proofs.Rooms.{HasRoom, room_for}
@@ -55,7 +55,7 @@ returns-clause-state c =
     let few : n < 4096 = omega (arith, room.one, length-headers_in s.heap.now n) in
     let ws = c.fill_instance.new.cells in
     let h : Header = record { kind = Instance c.args.class; start = s.counts.cells; elements = c.class.result.now.cells } in
-    let news = instance_cells words c.args.world.now.classes c.args.class in
+    let news = new_instance_cells words c.args.world.now.classes c.args.class in
     let width : size h ≡ length news = omega (arith, c.class.ensures.cells, length-map (cells_of c.args.world.now.classes c.args.class) (λ ty. zero_cell words (cell_kind ty))) in
     let part : take (length s.heap.now - 12288) xs ≡ xs = take_all (length s.heap.now - 12288) xs (omega (arith, length-drop 12288 s.heap.now)) in
     let same : length ws ≡ length s.heap.now - 12288 = c.fill_instance.auto.cells ∙ (ap length part ∙ length-drop 12288 s.heap.now) in
@@ -79,7 +79,7 @@ returns-clause-well c =
     let few : n < 4096 = omega (arith, room.one, length-headers_in s.heap.now n) in
     let ws = c.fill_instance.new.cells in
     let h : Header = record { kind = Instance c.args.class; start = s.counts.cells; elements = c.class.result.now.cells } in
-    let news = instance_cells words c.args.world.now.classes c.args.class in
+    let news = new_instance_cells words c.args.world.now.classes c.args.class in
     let width : size h ≡ length news = omega (arith, c.class.ensures.cells, length-map (cells_of c.args.world.now.classes c.args.class) (λ ty. zero_cell words (cell_kind ty))) in
     let part : take (length s.heap.now - 12288) xs ≡ xs = take_all (length s.heap.now - 12288) xs (omega (arith, length-drop 12288 s.heap.now)) in
     let same : length ws ≡ length s.heap.now - 12288 = c.fill_instance.auto.cells ∙ (ap length part ∙ length-drop 12288 s.heap.now) in

@@ -4,7 +4,7 @@ use Rattle.xf_layout.specs.declared.form.Form.{Form}
 use Rattle.xf_layout.specs.Form.{AreForms, end_of, label_place}
 use Rattle.xf_layout.specs.Shortest.{Fit, NoWider}
 use Rattle.xf_layout.specs.Places.{FormsFit}
-use Rattle.xf_layout.specs.Widening.{is_short, shortest, widened}
+use Rattle.xf_layout.specs.Widening.{is_short_jump, shortest, widened}
 use Rattle.xf_layout.proofs.Sizes.{forms-no-longer}
 use Rattle.xf_layout.proofs.Notes.{rooms-widened}
 use Rattle.xf_layout.proofs.Turns.{forms-widened, widened-least, same-widened, fit-same}
@@ -48,8 +48,8 @@ returns-then-widen-eq0 c =
     let place = slice_index c.note-end.new.self in
     let noted_so = c.note-end.ensures.places in
     let new : c.widen.new.forms.items ≡ widened place 0 fs = c.widen.ensures.forms in
-    let count : count_by is_short (widened place 0 fs) ≡ count_by is_short fs =
-    ap (count_by is_short) (sym new) ∙ omega (arith, c.widen.ensures.risen, c.if-widen-eq0.true) in
+    let count : count_by is_short_jump (widened place 0 fs) ≡ count_by is_short_jump fs =
+    ap (count_by is_short_jump) (sym new) ∙ omega (arith, c.widen.ensures.risen, c.if-widen-eq0.true) in
     let still : widened place 0 fs ≡ fs = same-widened place 0 fs count in
     let same : c.widen.new.forms.items ≡ fs = new ∙ still in
     let jumps = jumps-after c.requires.items.0 items fs _ c.turns.places c.note-end.new.self noted_so value c.requires.items.1 old.forms old.room in

@@ -4,7 +4,7 @@ use Rattle.xf_layout.specs.declared.form.Form.{Form}
 use Rattle.xf_layout.specs.Form.{AreForms}
 use Rattle.xf_layout.specs.Shortest.{Fit, NoWider}
 use Rattle.xf_layout.specs.Places.{FormsFit}
-use Rattle.xf_layout.specs.Widening.{is_short}
+use Rattle.xf_layout.specs.Widening.{is_short_jump}
 use Rattle.xf_layout.proofs.plan.Plan.of.Given as goal
 
 abbrev pub invariant-turns : goal.invariant-turns
@@ -15,4 +15,4 @@ invariant-turns l = record {
 }
 
 abbrev pub decreases-turns : goal.decreases-turns
-decreases-turns l = count_by is_short l.forms.items
+decreases-turns l = count_by is_short_jump l.forms.items
