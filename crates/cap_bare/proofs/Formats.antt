@@ -6,11 +6,11 @@ use Rattle.std.specs.List.{list_all, range_with_len}
 use Rattle.std.proofs.lemmas.Bool.{eqb-true, and_parts}
 use Rattle.std.proofs.lemmas.List.FromFn.{get_or-map-range_with_len}
 use Rattle.cap_bare.specs.declared.format.TheConstants.{FORMATS}
-use Rattle.cap_bare.specs.declared.format.Format.{Format}
+use Rattle.cap_bare.specs.declared.format.BareFormat.{BareFormat}
 use Rattle.cap_bare.specs.Format.{formats, instruction_format}
 
 -- what stands at a place of the table, or nothing after its end
-abbrev pub entry_at : ℕ → Option Format
+abbrev pub entry_at : ℕ → Option BareFormat
 entry_at opcode = get_or FORMATS opcode None
 
 pub entries-are : map entry_at (range_with_len 0 256) ≡ map instruction_format (range_with_len 0 256)
@@ -20,14 +20,14 @@ entries-are = refl
 pub entry-is : (opcode : ℕ) → opcode < 256 → entry_at opcode ≡ instruction_format opcode
 entry-is opcode h =
     sym (get_or-map-range_with_len entry_at 0 256 opcode opcode None h (omega arith))
-    ∙ ap (λ (t : List (Option Format)). get_or t opcode None) entries-are
+    ∙ ap (λ (t : List (Option BareFormat)). get_or t opcode None) entries-are
     ∙ get_or-map-range_with_len instruction_format 0 256 opcode opcode None h (omega arith)
 
-module _ (test : ℕ → Format → Bool) (op : ℕ) (f : Format) where
-  abbrev row_of : Option (ℕ × Format) → Option Format
+module _ (test : ℕ → BareFormat → Bool) (op : ℕ) (f : BareFormat) where
+  abbrev row_of : Option (ℕ × BareFormat) → Option BareFormat
   row_of o = option_map (λ row. row.1) o
 
-  passes-in : (rows : List (ℕ × Format)) → list_all (λ row. test row.0 row.1) rows ≡ true
+  passes-in : (rows : List (ℕ × BareFormat)) → list_all (λ row. test row.0 row.1) rows ≡ true
       → row_of (find (λ row. row.0 == op) rows) ≡ Some f → test op f ≡ true
   passes-in [] all h = absurd (cc)
   passes-in (row ∷ rows) all h =
@@ -39,7 +39,7 @@ module _ (test : ℕ → Format → Bool) (op : ℕ) (f : Format) where
           → row_of (if b then Some row else find (λ row. row.0 == op) rows) ≡ Some f → test op f ≡ true
       by_test true e here more h =
           let same : row.1 ≡ f = cc in
-          subst (λ (n : ℕ). test n f ≡ true) (eqb-true row.0 op e) (subst (λ (g : Format). test row.0 g ≡ true) same here)
+          subst (λ (n : ℕ). test n f ≡ true) (eqb-true row.0 op e) (subst (λ (g : BareFormat). test row.0 g ≡ true) same here)
       by_test false e here more h = more h
 
   pub row-passes : list_all (λ row. test row.0 row.1) formats ≡ true → instruction_format op ≡ Some f → test op f ≡ true

@@ -17,8 +17,8 @@ use Rattle.jc_decode.specs.Decoding.{FitsOperand, FitsLayout}
 use Rattle.jc_decode.proofs.Passed.{or-rest}
 use Rattle.cap_bare.specs.declared.instruction.Instruction.{Instruction}
 use Rattle.cap_bare.specs.declared.instruction.Instruction.TheVariants.{Nop, Test, Compare, Goto, Return}
-use Rattle.cap_bare.specs.declared.format.Format.{Format}
-use Rattle.cap_bare.specs.declared.format.Format.TheVariants.{Implied, Constant, Loads, Stores, Increments}
+use Rattle.cap_bare.specs.declared.format.BareFormat.{BareFormat}
+use Rattle.cap_bare.specs.declared.format.BareFormat.TheVariants.{Implied, Constant, Loads, Stores, Increments}
 use Rattle.cap_bare.specs.Format.{instruction_format, is_bare, resolved, instruction_of, FitsFormat}
 use Rattle.cap_bare.proofs.Formats.{row-passes}
 
@@ -48,7 +48,7 @@ u1-fits : (o : Operand) (v : ℤ) → is_u1 o ≡ true → FitsOperand o v → F
 u1-fits U1 v e h = h
 u1-fits _ v e h = absurd (cc)
 
-abbrev reads : Format → Layout → Bool
+abbrev reads : BareFormat → Layout → Bool
 reads (Implied i) l = true
 reads Constant l = is_short l.x
 reads Loads l = is_u1 l.x
@@ -72,27 +72,27 @@ goes_on Return = false
 goes_on _ = true
 
 -- the instruction of a format but for its operands
-abbrev shape : Format → Instruction
+abbrev shape : BareFormat → Instruction
 shape (Implied i) = i
 shape _ = Nop
 
-abbrev agrees : ℕ → Format → Bool
+abbrev agrees : ℕ → BareFormat → Bool
 agrees op f =
     has (reads f) (layout_of op) && (not (is_switch op) && ((not (is_branch op) || has (λ l. is_s1 l.x) (layout_of op))
     && ((not (branches (shape f)) || jumps op) && (not (goes_on (shape f)) || falls op))))
 
-record Agrees (op : ℕ) (f : Format) : Type 0 where
+record Agrees (op : ℕ) (f : BareFormat) : Type 0 where
   pub reads : has (reads f) (layout_of op) ≡ true
   pub single : not (is_switch op) ≡ true
   pub near : (not (is_branch op) || has (λ l. is_s1 l.x) (layout_of op)) ≡ true
   pub branches : (not (branches (shape f)) || jumps op) ≡ true
   pub goes_on : (not (goes_on (shape f)) || falls op) ≡ true
 
-all-agree : (op : ℕ) (f : Format) → instruction_format op ≡ Some f → agrees op f ≡ true
+all-agree : (op : ℕ) (f : BareFormat) → instruction_format op ≡ Some f → agrees op f ≡ true
 unfolding layout_of opcode
 all-agree op f h = row-passes agrees op f refl h
 
-agree-at : (op : ℕ) (f : Format) → instruction_format op ≡ Some f → Agrees op f
+agree-at : (op : ℕ) (f : BareFormat) → instruction_format op ≡ Some f → Agrees op f
 agree-at op f h =
     let a = and_parts _ _ (all-agree op f h) in
     let b = and_parts _ _ a.1 in
@@ -100,28 +100,28 @@ agree-at op f h =
     let d = and_parts _ _ c.1 in
     record { reads = a.0; single = b.0; near = c.0; branches = d.0; goes_on = d.1 }
 
-reads-fits : (f : Format) (l : Layout) (insn : Insn) → reads f l ≡ true → FitsLayout insn (Ok l) → FitsFormat f insn
+reads-fits : (f : BareFormat) (l : Layout) (insn : Insn) → reads f l ≡ true → FitsLayout insn (Ok l) → FitsFormat f insn
 reads-fits (Implied i) l insn e h = tt
 reads-fits Constant l insn e h = short-fits l.x insn.x e h.0
 reads-fits Loads l insn e h = u1-fits l.x insn.x e h.0
 reads-fits Stores l insn e h = u1-fits l.x insn.x e h.0
 reads-fits Increments l insn e h = let two = and_parts (is_u1 l.x) (is_short l.y) e in (u1-fits l.x insn.x two.0 h.0, short-fits l.y insn.y two.1 h.1)
 
-has-fits : (f : Format) (l : Result Layout CodeEnd) (insn : Insn) → has (reads f) l ≡ true → FitsLayout insn l → FitsFormat f insn
+has-fits : (f : BareFormat) (l : Result Layout CodeEnd) (insn : Insn) → has (reads f) l ≡ true → FitsLayout insn l → FitsFormat f insn
 has-fits f (Ok l) insn e h = reads-fits f l insn e h
 has-fits f (Err end) insn e h = absurd h
 
 -- what a layout's operands fit, the format of the same opcode reads
-pub format-fits : (op : ℕ) (f : Format) (insn : Insn) → instruction_format op ≡ Some f → FitsLayout insn (layout_of op) → FitsFormat f insn
+pub format-fits : (op : ℕ) (f : BareFormat) (insn : Insn) → instruction_format op ≡ Some f → FitsLayout insn (layout_of op) → FitsFormat f insn
 format-fits op f insn e h = has-fits f (layout_of op) insn (agree-at op f e).reads h
 
 -- an opcode of bare methods has a row
-bare-row : (o : Option Format) → is_some o ≡ true → (f : Format) × (o ≡ Some f)
+bare-row : (o : Option BareFormat) → is_some o ≡ true → (f : BareFormat) × (o ≡ Some f)
 bare-row None h = absurd (cc)
 bare-row (Some f) h = (f, refl)
 
 module _ (i : Insn) (bare : is_bare i.op ≡ true) where
-  abbrev row : (f : Format) × (instruction_format i.op ≡ Some f)
+  abbrev row : (f : BareFormat) × (instruction_format i.op ≡ Some f)
   row = bare-row (instruction_format i.op) bare
 
   pub no-switch : is_switch i.op ≡ false
@@ -140,7 +140,7 @@ module _ (i : Insn) (bare : is_bare i.op ≡ true) where
   distance-fits j fits =
       x-near (layout_of i.op) (or-rest (is_branch i.op) _ (agree-at i.op row.0 row.1).near (either (is_branch i.op) (is_switch i.op) j no-switch)) fits
 
-  shaped : (f : Format) → (branches (resolved f i) ≡ branches (shape f)) × (goes_on (resolved f i) ≡ goes_on (shape f))
+  shaped : (f : BareFormat) → (branches (resolved f i) ≡ branches (shape f)) × (goes_on (resolved f i) ≡ goes_on (shape f))
   shaped (Implied k) = (refl, refl)
   shaped Constant = (refl, refl)
   shaped Loads = (refl, refl)
@@ -148,7 +148,7 @@ module _ (i : Insn) (bare : is_bare i.op ≡ true) where
   shaped Increments = (refl, refl)
 
   is-resolved : instruction_of i ≡ resolved row.0 i
-  is-resolved = ap (λ (o : Option Format). unwrap_or (option_map (λ f. resolved f i) o) Nop) row.1
+  is-resolved = ap (λ (o : Option BareFormat). unwrap_or (option_map (λ f. resolved f i) o) Nop) row.1
 
   -- where an instruction leads, its opcode says
   pub branches-jumps : branches (instruction_of i) ≡ true → jumps i.op ≡ true

@@ -12,7 +12,7 @@ use Rattle.cap_bare.specs.declared.fault.BareKind.TheVariants.{NoLocal, Underflo
 use Rattle.cap_bare.specs.Effects.{register_of, register_read, register_written, cells_taken, cells_given}
 use Rattle.cap_bare.specs.Typing.{Kind, bottom, short, IsBelow, below_itself, below_short, shorts, register_count, Applies}
 use Rattle.cap_bare.specs.Met.{RuleFails, fails_local, fails_cells, fails_room}
-use Rattle.cap_bare.specs.Walk.{within, applied}
+use Rattle.cap_bare.specs.Walk.{if_local, applied}
 
 -- lists of shorts
 pub shorts-split : (d n : ℕ) → n ≤ d → shorts d ≡ shorts n ++ shorts (d - n)
@@ -71,7 +71,7 @@ pub record Applied (bare : Bare) (i : Instruction) (depth after : ℕ) : Type 0 
   pub value : after ≡ depth - cells_taken i + cells_given i
   pub room : after ≤ bare.max_stack
 
-within-ok : (bare : Bare) (o : Option ℕ) (depth after : ℕ) (rest : Result ℕ BareKind) → within bare o depth rest ≡ Ok after
+within-ok : (bare : Bare) (o : Option ℕ) (depth after : ℕ) (rest : Result ℕ BareKind) → if_local bare o depth rest ≡ Ok after
     → IfSome o (λ x. x < register_count bare) × (rest ≡ Ok after)
 within-ok bare None depth after rest h = (tt, h)
 within-ok bare (Some x) depth after rest h = by_test (nat_lt x (register_count bare)) refl h
@@ -108,7 +108,7 @@ applied-is bare i depth after a = by_local (register_of i) a.local
     rest = grind (arith, nat_tests, a.enough, a.value, a.room)
 
     by_local : (o : Option ℕ) → IfSome o (λ x. x < register_count bare)
-        → within bare o depth (cells (cells_taken i) bare.max_stack depth (depth - cells_taken i + cells_given i)) ≡ Ok after
+        → if_local bare o depth (cells (cells_taken i) bare.max_stack depth (depth - cells_taken i + cells_given i)) ≡ Ok after
     by_local None h = rest
     by_local (Some x) h = rw (lt-ltb _ _ h) rest
 
@@ -139,7 +139,7 @@ applied-from bare i registers depth after a =
 -- the first failure of the rule
 within-err : (bare : Bare) (i : Instruction) (o : Option ℕ) (stack : List Kind) (depth : ℕ) (kind : BareKind) (rest : Result ℕ BareKind) → register_of i ≡ o
     → (IfSome o (λ x. x < register_count bare) → rest ≡ Err kind → RuleFails bare i stack kind)
-    → within bare o depth rest ≡ Err kind → RuleFails bare i stack kind
+    → if_local bare o depth rest ≡ Err kind → RuleFails bare i stack kind
 within-err bare i None stack depth kind rest e more h = more tt h
 within-err bare i (Some x) stack depth kind rest e more h = by_test (nat_lt x (register_count bare)) refl h
   where

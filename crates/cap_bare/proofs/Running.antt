@@ -19,7 +19,7 @@ use Rattle.cap_bare.specs.Effects.{register_of, cells_taken, cells_given}
 use Rattle.cap_bare.specs.Code.{fetched, HasInstruction, IsPlace, IsTargetPlace}
 use Rattle.cap_bare.specs.Typing.{Kind, shorts, register_count, IsTyped, CardTyping}
 use Rattle.cap_bare.specs.Walk.{is_place}
-use Rattle.cap_bare.specs.Machine.{Frame, State, Outcome, running, returned, faulted, jump_fault, local_fault, stack_fault, Lead, leads, gives, frame, top, second, acted, acts, branch_target, has_register, place_number, settled, performed, step, go_on, after, entered, IsFault, IsSafe, IsFaultFree}
+use Rattle.cap_bare.specs.Machine.{Frame, State, Outcome, running, returned, faulted, jump_fault, local_fault, stack_fault, Lead, leads, gives, frame, top_of_stack, second, acted, acts, branch_target, has_register, place_number, settled, performed, step, go_on, after, entered, IsFault, IsSafe, IsFaultFree}
 use Rattle.cap_bare.proofs.Operands.{branches, goes_on as falls_on, branches-jumps, goes_on-falls}
 use Rattle.cap_bare.proofs.Instructions.{here, is-here, fetched-bare, reached-first, stands-at, stands-here, stands-next, ends-at}
 use Rattle.cap_bare.proofs.Places.{place-true, leads-there, branch-leads}
@@ -43,7 +43,7 @@ acted-is : (i : Instruction) (t : ℤ) (next : ℕ) (r s : List ℤ) → cells_t
 acted-is Nop t next r s h = acts_on _ _ (inl (refl, refl)) refl (omega arith)
 acted-is (Push n) t next r s h = acts_on _ _ (inl (refl, refl)) refl (omega arith)
 acted-is (Load x) t next r s h = acts_on _ _ (inl (refl, refl)) refl (omega arith)
-acted-is (Store x) t next r s h = acts_on _ _ (inl (refl, refl)) (length-set r x (top s)) (omega (arith, length-drop 1 s))
+acted-is (Store x) t next r s h = acts_on _ _ (inl (refl, refl)) (length-set r x (top_of_stack s)) (omega (arith, length-drop 1 s))
 acted-is (Increment x n) t next r s h = acts_on _ _ (inl (refl, refl)) (length-set r x _) (omega arith)
 acted-is Pop t next r s h = acts_on _ _ (inl (refl, refl)) refl (omega (arith, length-drop 1 s))
 acted-is Duplicate t next r s h = acts_on _ _ (inl (refl, refl)) refl (omega arith)
@@ -51,11 +51,11 @@ acted-is Negate t next r s h = acts_on _ _ (inl (refl, refl)) refl (omega (arith
 acted-is ToByte t next r s h = acts_on _ _ (inl (refl, refl)) refl (omega (arith, length-drop 1 s))
 acted-is (Binary o) t next r s h = acts_on _ _ (inl (refl, refl)) refl (omega (arith, length-drop 2 s))
 acted-is (Test c) t next r s h =
-    acted-either (Test c) t next r s (succeeds c (top s) (pos 0)) (frame r (drop 1 s)) refl refl refl (omega (arith, length-drop 1 s))
+    acted-either (Test c) t next r s (succeeds c (top_of_stack s) (pos 0)) (frame r (drop 1 s)) refl refl refl (omega (arith, length-drop 1 s))
 acted-is (Compare c) t next r s h =
-    acted-either (Compare c) t next r s (succeeds c (second s) (top s)) (frame r (drop 2 s)) refl refl refl (omega (arith, length-drop 2 s))
+    acted-either (Compare c) t next r s (succeeds c (second s) (top_of_stack s)) (frame r (drop 2 s)) refl refl refl (omega (arith, length-drop 2 s))
 acted-is Goto t next r s h = acts_on t (frame r s) (inr (refl, refl)) refl (omega arith)
-acted-is Return t next r s h = acts_out (top s) refl
+acted-is Return t next r s h = acts_out (top_of_stack s) refl
 
 -- where an instruction of the code may lead
 abbrev pub IsActing : List ℕ → Placed → Frame → Lead → Type 0

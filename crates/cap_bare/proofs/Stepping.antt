@@ -15,7 +15,7 @@ use Rattle.cap_bare.specs.Format.{instruction_of}
 use Rattle.cap_bare.specs.Code.{fetched, IsTargetPlace}
 use Rattle.cap_bare.specs.Typing.{register_count}
 use Rattle.cap_bare.specs.Machine.{Frame, State, running, returned, Lead, leads, gives, frame, acted, acts, branch_target, place_number, settled, step, IsFault, IsSafe}
-use Rattle.cap_bare.specs.Leading.{CanAct, state_at}
+use Rattle.cap_bare.specs.Leading.{CanAct, state_in_frame}
 use Rattle.cap_bare.proofs.Instructions.{here, here-inside, stands-here}
 use Rattle.cap_bare.proofs.Places.{place-from}
 use Rattle.cap_bare.proofs.Running.{IsActing, acts_on, acts_out, acting, Sound, sound, settled-from, safe-step}
@@ -54,9 +54,9 @@ module _ (code : List ℕ) (bare : Bare) (s : State) (safe : IsSafe code bare s)
       pub place : ℕ
       pub is : to ≡ pos place
       pub small : place < length code
-      pub stepped : step code bare s ≡ running (state_at place f)
+      pub stepped : step code bare s ≡ running (state_in_frame place f)
 
-    going-at : (to : ℤ) (f : Frame) → IsTargetPlace code to → step code bare s ≡ running (state_at (place_number to) f) → Going to f
+    going-at : (to : ℤ) (f : Frame) → IsTargetPlace code to → step code bare s ≡ running (state_in_frame (place_number to) f) → Going to f
     going-at (pos p) f h e =
         let inside = here-inside code h.0.place h.0 (stands-here code h.0 h.1) in
         let small : p < length code = omega (arith, h.2, inside.farther, inside.inside) in
@@ -90,7 +90,7 @@ module _ (code : List ℕ) (bare : Bare) (s : State) (safe : IsSafe code bare s)
           → length t.frame.registers ≡ length s.frame.registers
       by_lead i _ (acts_on to f w r c) h =
           let k = settled-from code bare to f (λ fault. subst IsFault h fault) in
-          let same : state_at (place_number to) f ≡ t = cc (k.is, h) in
+          let same : state_in_frame (place_number to) f ≡ t = cc (k.is, h) in
           ap (λ (u : State). length u.frame.registers) (sym same) ∙ r
       by_lead i _ (acts_out n z) h = absurd (cc)
 

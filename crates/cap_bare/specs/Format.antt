@@ -9,11 +9,11 @@ use Rattle.jc_ops.specs.declared.operation.Order.TheVariants.{Equal, NotEqual, L
 use Rattle.jc_ops.specs.declared.operation.Operator.TheVariants.{Add, Subtract, Multiply, ShiftLeft, ShiftRight, ShiftRightUnsigned, And, Or, ExclusiveOr}
 use Rattle.cap_bare.specs.declared.instruction.Instruction.{Instruction}
 use Rattle.cap_bare.specs.declared.instruction.Instruction.TheVariants.{Nop, Push, Load, Store, Increment, Pop, Duplicate, Negate, ToByte, Binary, Test, Compare, Goto, Return}
-use Rattle.cap_bare.specs.declared.format.Format.{Format}
-use Rattle.cap_bare.specs.declared.format.Format.TheVariants.{Implied, Constant, Loads, Stores, Increments}
+use Rattle.cap_bare.specs.declared.format.BareFormat.{BareFormat}
+use Rattle.cap_bare.specs.declared.format.BareFormat.TheVariants.{Implied, Constant, Loads, Stores, Increments}
 
 -- each opcode that a bare method may have
-abbrev pub formats : List (ℕ × Format)
+abbrev pub formats : List (ℕ × BareFormat)
 formats =
     (0, Implied Nop)  -- nop
     ∷ (2, Implied (Push (negsuc 0)))  -- sconst_m1
@@ -66,7 +66,7 @@ formats =
     ∷ []
 
 -- how an opcode makes an instruction, where bare methods have it
-unfoldable pub instruction_format : ℕ → Option Format
+unfoldable pub instruction_format : ℕ → Option BareFormat
 instruction_format opcode = option_map (λ row. row.1) (find (λ row. row.0 == opcode) formats)
 
 -- whether bare methods have an opcode
@@ -74,7 +74,7 @@ abbrev pub is_bare : ℕ → Bool
 is_bare opcode = is_some (instruction_format opcode)
 
 -- the instruction with these operands
-abbrev pub resolved : Format → Insn → Instruction
+abbrev pub resolved : BareFormat → Insn → Instruction
 resolved (Implied instruction) insn = instruction
 resolved Constant insn = Push insn.x
 resolved Loads insn = Load (unsigned_abs insn.x)
@@ -86,7 +86,7 @@ abbrev pub instruction_of : Insn → Instruction
 instruction_of insn = unwrap_or (option_map (λ format. resolved format insn) (instruction_format insn.op)) Nop
 
 -- the operands that a format reads lie in their ranges: a byte for a register, a short for the others
-abbrev pub FitsFormat : Format → Insn → Type 0
+abbrev pub FitsFormat : BareFormat → Insn → Type 0
 FitsFormat (Implied instruction) insn = Unit {0}
 FitsFormat Constant insn = FitsOperand S2 insn.x
 FitsFormat Loads insn = FitsOperand U1 insn.x

@@ -12,11 +12,11 @@ abbrev pub leading : RunLead → Frame → Lead
 leading (To place) f = leads place f
 leading (Gives n) f = gives n
 
-abbrev pub state_at : ℕ → Frame → State
-state_at place f = record { place = place; frame = f }
+abbrev pub state_in_frame : ℕ → Frame → State
+state_in_frame place f = record { place = place; frame = f }
 
 abbrev pub stepped : Progress → Frame → Outcome
-stepped (At place) f = running (state_at place f)
+stepped (At place) f = running (state_in_frame place f)
 stepped (Ended n) f = returned n
 
 -- a frame has the register that an instruction names, the cells that it takes, and room for those that it gives

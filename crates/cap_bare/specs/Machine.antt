@@ -48,8 +48,8 @@ pub data Lead : Type 0 where
   leads : ℤ → Frame → Lead
   gives : ℤ → Lead
 
-abbrev pub top : List ℤ → ℤ
-top stack = slice_index_or stack 0 (pos 0)
+abbrev pub top_of_stack : List ℤ → ℤ
+top_of_stack stack = slice_index_or stack 0 (pos 0)
 
 abbrev pub second : List ℤ → ℤ
 second stack = slice_index_or stack 1 (pos 0)
@@ -67,17 +67,17 @@ abbrev pub acted : Instruction → ℤ → ℕ → List ℤ → List ℤ → Lea
 acted Nop t next r s = leads (pos next) (frame r s)
 acted (Push n) t next r s = leads (pos next) (frame r (n ∷ s))
 acted (Load x) t next r s = leads (pos next) (frame r (slice_index_or r x (pos 0) ∷ s))
-acted (Store x) t next r s = leads (pos next) (frame (slice_set r x (top s)) (drop 1 s))
+acted (Store x) t next r s = leads (pos next) (frame (slice_set r x (top_of_stack s)) (drop 1 s))
 acted (Increment x n) t next r s = leads (pos next) (frame (slice_set r x (int_wrapping_add w16 (slice_index_or r x (pos 0)) n)) s)
 acted Pop t next r s = leads (pos next) (frame r (drop 1 s))
-acted Duplicate t next r s = leads (pos next) (frame r (top s ∷ s))
-acted Negate t next r s = leads (pos next) (frame r (int_wrapping_neg w16 (top s) ∷ drop 1 s))
-acted ToByte t next r s = leads (pos next) (frame r (short_to_byte (top s) ∷ drop 1 s))
-acted (Binary operator) t next r s = leads (pos next) (frame r (binary operator (second s) (top s) ∷ drop 2 s))
-acted (Test order) t next r s = leads (if succeeds order (top s) (pos 0) then t else pos next) (frame r (drop 1 s))
-acted (Compare order) t next r s = leads (if succeeds order (second s) (top s) then t else pos next) (frame r (drop 2 s))
+acted Duplicate t next r s = leads (pos next) (frame r (top_of_stack s ∷ s))
+acted Negate t next r s = leads (pos next) (frame r (int_wrapping_neg w16 (top_of_stack s) ∷ drop 1 s))
+acted ToByte t next r s = leads (pos next) (frame r (short_to_byte (top_of_stack s) ∷ drop 1 s))
+acted (Binary operator) t next r s = leads (pos next) (frame r (binary operator (second s) (top_of_stack s) ∷ drop 2 s))
+acted (Test order) t next r s = leads (if succeeds order (top_of_stack s) (pos 0) then t else pos next) (frame r (drop 1 s))
+acted (Compare order) t next r s = leads (if succeeds order (second s) (top_of_stack s) then t else pos next) (frame r (drop 2 s))
 acted Goto t next r s = leads t (frame r s)
-acted Return t next r s = gives (top s)
+acted Return t next r s = gives (top_of_stack s)
 
 -- the place that an instruction names, if it names one
 abbrev pub branch_target : List ℕ → Placed → ℤ

@@ -32,14 +32,14 @@ leads_to code place i = list_any (is_at place) (targets code i)
 abbrev pub is_target : List ℕ → ℕ → Bool
 is_target code place = list_any (leads_to code place) (instructions code)
 
-abbrev pub within : Bare → Option ℕ → ℕ → Result ℕ BareKind → Result ℕ BareKind
-within bare None depth rest = rest
-within bare (Some x) depth rest = if nat_lt x (register_count bare) then rest else Err (NoLocal x)
+abbrev pub if_local : Bare → Option ℕ → ℕ → Result ℕ BareKind → Result ℕ BareKind
+if_local bare None depth rest = rest
+if_local bare (Some x) depth rest = if nat_lt x (register_count bare) then rest else Err (NoLocal x)
 
 -- the number of cells after an instruction, over a stack of so many shorts
 abbrev pub applied : Bare → Instruction → ℕ → Result ℕ BareKind
 applied bare i depth =
-    within bare (register_of i) depth
+    if_local bare (register_of i) depth
     (if nat_lt depth (cells_taken i) then Err Underflow
     else if nat_lt bare.max_stack (depth - cells_taken i + cells_given i) then Err Overflow
     else Ok (depth - cells_taken i + cells_given i))

@@ -3,7 +3,7 @@ ghost use Rattle.jc_decode.specs.Decoding.{decoded, FitsLayout, IsWithin};
 ghost use Rattle.jc_decode.specs.Layout.{layout_of};
 ghost use Rattle.cap_bare.specs.Code.{fetched};
 
-use crate::format::Format;
+use crate::format::BareFormat;
 use cap_bytes::View;
 use jc_decode::{CodeEnd, Insn, decode};
 
@@ -17,7 +17,7 @@ pub fn fetch(code: View<'_>, place: u16) -> Result<Insn, CodeEnd>
     ensures operands { IfOk result (λ i. FitsLayout i (layout_of i.op)) }
 {
     if let Some(opcode) = code.u1(u32::from(place)) {
-        if Format::of(opcode).is_none() {
+        if BareFormat::of(opcode).is_none() {
             return Err(CodeEnd::OutOfScope(opcode));
         }
     }

@@ -3,7 +3,7 @@ ghost use Rattle.jc_decode.specs.Layout.{layout_of};
 ghost use Rattle.jc_decode.specs.Decoding.{FitsLayout};
 ghost use Rattle.cap_bare.specs.Format.{instruction_format, resolved, instruction_of, FitsFormat};
 
-use self::Format::{Constant, Implied, Increments, Loads, Stores};
+use self::BareFormat::{Constant, Implied, Increments, Loads, Stores};
 use crate::instruction::Instruction;
 use crate::instruction::Instruction::{
     Binary, Compare, Duplicate, Goto, Load, Negate, Nop, Pop, Push, Return, Store, Test, ToByte,
@@ -13,7 +13,7 @@ use jc_ops::{Operator, Order};
 
 /// How an opcode and its operands make an instruction of a bare method.
 #[derive(Clone, Copy)]
-pub enum Format {
+pub enum BareFormat {
     /// The opcode alone says it.
     Implied(Instruction),
     /// The operand is the short to push.
@@ -26,9 +26,9 @@ pub enum Format {
     Increments,
 }
 
-impl Format {
+impl BareFormat {
     /// How this opcode makes an instruction, where bare methods have it.
-    pub fn of(opcode: u8) -> Option<Format>
+    pub fn of(opcode: u8) -> Option<BareFormat>
         ensures { result ≡ instruction_format opcode }
     {
         if (opcode as usize) < FORMATS.len() {
@@ -44,11 +44,11 @@ impl Format {
         ensures { result ≡ resolved self insn }
     {
         match self {
-            Format::Implied(instruction) => instruction,
-            Format::Constant => Instruction::Push(insn.x as i16),
-            Format::Loads => Instruction::Load(insn.x as u8),
-            Format::Stores => Instruction::Store(insn.x as u8),
-            Format::Increments => Instruction::Increment(insn.x as u8, insn.y as i16),
+            BareFormat::Implied(instruction) => instruction,
+            BareFormat::Constant => Instruction::Push(insn.x as i16),
+            BareFormat::Loads => Instruction::Load(insn.x as u8),
+            BareFormat::Stores => Instruction::Store(insn.x as u8),
+            BareFormat::Increments => Instruction::Increment(insn.x as u8, insn.y as i16),
         }
     }
 }
@@ -58,14 +58,14 @@ pub fn instruction_of(insn: Insn) -> Instruction
     requires { FitsLayout insn (layout_of insn.op) }
     ensures { result ≡ instruction_of insn }
 {
-    match Format::of(insn.op) {
+    match BareFormat::of(insn.op) {
         Some(format) => format.resolved(insn),
         None => Instruction::Nop,
     }
 }
 
 /// The instructions of bare methods, by opcode.
-static FORMATS: [Option<Format>; 121] = [
+static FORMATS: [Option<BareFormat>; 121] = [
     // 0: nop
     Some(Implied(Nop)),
     None,

@@ -1,6 +1,6 @@
 ghost use Rattle.std.specs.Prelude.{◌≡◌, ◌<◌, ◌≤◌, ◌+◌, ℤ, pos, [], ◌∷◌, ◌++◌, length, drop, replicate, slice_index_or, slice_set, if◌then◌else◌};
 ghost use Rattle.vm_arithmetic.specs.Arithmetic.{succeeds};
-ghost use Rattle.cap_bare.specs.Machine.{acted, frame, leads, top, second};
+ghost use Rattle.cap_bare.specs.Machine.{acted, frame, leads, top_of_stack, second};
 
 use crate::bare::Bare;
 use crate::instruction::{Instruction, binary};
@@ -107,7 +107,7 @@ impl Frame {
     fn duplicate(&mut self, next: i32) -> Lead
         requires cells { 0 < length self.old.stack }
         requires room { length self.old.stack < 15 }
-        ensures { leading result self.new ≡ leads next (frame self.old.registers (top self.old.stack ∷ self.old.stack)) }
+        ensures { leading result self.new ≡ leads next (frame self.old.registers (top_of_stack self.old.stack ∷ self.old.stack)) }
     {
         let value = self.pop();
         self.push(value);
@@ -118,7 +118,7 @@ impl Frame {
         requires { 0 < length self.old.stack }
         ensures { leading result self.new
             ≡ leads
-            (if succeeds order (top self.old.stack) (pos 0) then target else next)
+            (if succeeds order (top_of_stack self.old.stack) (pos 0) then target else next)
             (frame self.old.registers (drop 1 self.old.stack)) }
     {
         let value = self.pop();
@@ -133,7 +133,7 @@ impl Frame {
         requires { 1 < length self.old.stack }
         ensures { leading result self.new
             ≡ leads
-            (if succeeds order (second self.old.stack) (top self.old.stack) then target else next)
+            (if succeeds order (second self.old.stack) (top_of_stack self.old.stack) then target else next)
             (frame self.old.registers (drop 2 self.old.stack)) }
     {
         let second = self.pop();

@@ -2,7 +2,7 @@ ghost use Rattle.std.specs.Prelude.{◌≡◌, ◌≤◌, length, Ok};
 ghost use Rattle.jc_decode.specs.Decoding.{decoded};
 ghost use Rattle.cap_bare.specs.Typing.{CardTyping, IsCompact, register_count};
 ghost use Rattle.cap_bare.specs.Machine.{RunAnswers, after, branch_target, entered, step, IsSafe};
-ghost use Rattle.cap_bare.specs.Leading.{state_at, stepped};
+ghost use Rattle.cap_bare.specs.Leading.{state_in_frame, stepped};
 
 use crate::bare::Bare;
 use crate::code::fetch;
@@ -53,9 +53,9 @@ pub fn bare_run(code: View<'_>, bare: Bare, args: &[i16], budget: u64) -> BareEn
 fn step(code: View<'_>, bare: Bare, frame: &mut Frame, place: u16) -> Progress
     requires short { length code.bytes.now ≤ 32767 }
     requires compact { IsCompact bare }
-    requires safe { IsSafe code.bytes.now bare (state_at place frame.old) }
+    requires safe { IsSafe code.bytes.now bare (state_in_frame place frame.old) }
     requires registers { length frame.old.registers ≡ register_count bare }
-    ensures { stepped result frame.new ≡ step code.entry.bytes.now bare (state_at place frame.old) }
+    ensures { stepped result frame.new ≡ step code.entry.bytes.now bare (state_in_frame place frame.old) }
 {
     let insn = match fetch(code, place) {
         Ok(insn) => insn,

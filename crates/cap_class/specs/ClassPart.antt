@@ -8,7 +8,7 @@ use Rattle.cap_bytes.specs.Taking.{Taken, TakingFails, given}
 use Rattle.cap_class.specs.declared.class_info.Instance.{Instance}
 use Rattle.cap_class.specs.declared.class_info.DispatchTables.{DispatchTables}
 use Rattle.cap_class.specs.declared.class_info.ClassInfo.{ClassInfo}
-use Rattle.cap_class.specs.declared.class_list.Classes.{Classes}
+use Rattle.cap_class.specs.declared.class_list.ClassInfos.{ClassInfos}
 use Rattle.cap_class.specs.declared.class_part.ClassPart.{ClassPart}
 use Rattle.cap_class.specs.ClassFormat as format
 use Rattle.cap_class.specs.ClassFormat.{any_record, record_info, is_after}
@@ -46,7 +46,7 @@ class_seen c = record {
 }
 
 -- the records that an iterator has left
-abbrev pub classes_left : Classes → List format.Class
+abbrev pub classes_left : ClassInfos → List format.Class
 classes_left x = given [] (repeat x.left any_record) x.items
 
 -- the records of the component

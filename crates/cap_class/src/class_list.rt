@@ -6,7 +6,7 @@ use cap_bytes::Cursor;
 
 /// The records that are left, from the first on.
 #[derive(Clone, Copy, Drop)]
-pub struct Classes<'a> {
+pub struct ClassInfos<'a> {
     pub(crate) items: Cursor<'a>,
     pub(crate) left: u16,
     ghost known: { Gives (repeat left any_record) items },

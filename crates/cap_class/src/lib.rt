@@ -14,7 +14,7 @@ mod read_record;
 
 pub use class_flags::ClassFlags;
 pub use class_info::ClassInfo;
-pub use class_list::Classes;
+pub use class_list::ClassInfos;
 pub use class_part::ClassPart;
 pub use implemented::Implemented;
 pub use interfaces::Interfaces;

@@ -11,7 +11,7 @@ ghost use Rattle.cap_class.specs.ClassPart.{class_seen, classes_left, records, P
 
 use crate::class_flags::ClassFlags;
 use crate::class_info::ClassInfo;
-use crate::class_list::Classes;
+use crate::class_list::ClassInfos;
 use crate::class_part::ClassPart;
 use crate::implemented::Implemented;
 use crate::interfaces::Interfaces;
@@ -45,15 +45,15 @@ fn pass_records(items: &mut Cursor<'_>) -> Result<u16, FormFault>
 
 /// The records up to the end.
 #[tactic(auto, using(cap_bytes::proofs::Loops::yielding))]
-fn records<'a>(items: &mut Cursor<'a>) -> Result<Classes<'a>, FormFault>
+fn records<'a>(items: &mut Cursor<'a>) -> Result<ClassInfos<'a>, FormFault>
     ensures { Takes classes_left (until_end record_info is_after false) items.old result items.new }
 {
     let first = *items;
     let left = pass_records(items)?;
-    Ok(Classes { items: first, left })
+    Ok(ClassInfos { items: first, left })
 }
 
-impl<'a> Iterator for Classes<'a> {
+impl<'a> Iterator for ClassInfos<'a> {
     type Item = ClassInfo<'a>;
 
     ghost next_gives = { YieldsFirstBy class_seen classes_left };
@@ -69,7 +69,7 @@ impl<'a> Iterator for Classes<'a> {
         let mut items = self.items;
         match record(&mut items, false) {
             Ok(class) => {
-                *self = Classes {
+                *self = ClassInfos {
                     items,
                     left: self.left - 1,
                 };
@@ -136,7 +136,7 @@ impl<'a> ClassPart<'a> {
     }
 
     /// The records, in order.
-    pub fn iter(&self) -> Classes<'a>
+    pub fn iter(&self) -> ClassInfos<'a>
         ensures records { classes_left result ≡ records self.now }
         ensures few { length (records self.now) ≤ 65535 }
     {

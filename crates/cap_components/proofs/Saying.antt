@@ -24,15 +24,15 @@ use Rattle.cap_components.specs.Components.{◌>>=◌, formed, framed, there, in
 use Rattle.cap_components.specs.Descriptions.{Description}
 use Rattle.cap_components.specs.PackageRecord.{PackageRecord}
 use Rattle.cap_components.specs.ReadPackage.{read_after, read_package}
-use Rattle.cap_components.specs.Saying.{Holds, Says, SaysIf, AreSaid, IsBroken, in_file, in_info, PartFails, absent, broken, FailsOr, BreaksOr, IsFirstAfter, IsFirstFailingPart}
+use Rattle.cap_components.specs.Saying.{HoldsComponent, Says, SaysIf, AreSaid, IsBroken, in_file, in_info, PartFails, absent, broken, FailsOr, BreaksOr, IsFirstAfter, IsFirstFailingPart}
 
 -- ---- what is said is read
 
-pub info-read : {X : Type 0} (parts : List Lent) (tag : ℕ) (g : Grammar X) (info : List ℕ) (items : X) → Holds parts tag g info items → info_in parts tag ≡ Ok info
+pub info-read : {X : Type 0} (parts : List Lent) (tag : ℕ) (g : Grammar X) (info : List ℕ) (items : X) → HoldsComponent parts tag g info items → info_in parts tag ≡ Ok info
 unfolding info_in
 info-read parts tag g info items h = rw (h.there, reading_where (file_of tag) (component tag) h.file info h.framed) refl
 
-items_read : {X : Type 0} (parts : List Lent) (tag : ℕ) (g : Grammar X) (info : List ℕ) (items : X) → Holds parts tag g info items → formed (reading (info_of tag) g info) ≡ Ok items
+items_read : {X : Type 0} (parts : List Lent) (tag : ℕ) (g : Grammar X) (info : List ℕ) (items : X) → HoldsComponent parts tag g info items → formed (reading (info_of tag) g info) ≡ Ok items
 items_read parts tag g info items h = ap formed (reading_where (info_of tag) g info items h.said)
 
 pub part_read : {X : Type 0} (parts : List Lent) (tag : ℕ) (g : Grammar X) (items : X) → Says parts tag g items → read_part g tag parts ≡ Ok items
@@ -44,11 +44,11 @@ unfolding read_if_held
 held_read parts tag g None h = rw h refl
 held_read parts tag g (Some items) h = rw (h.1.there, part_read parts tag g items h) refl
 
-methods_read : (parts : List Lent) (m : Methods) → Holds parts 7 methods_info m.info m.handlers → read_methods parts ≡ Ok m
+methods_read : (parts : List Lent) (m : Methods) → HoldsComponent parts 7 methods_info m.info m.handlers → read_methods parts ≡ Ok m
 unfolding read_methods
 methods_read parts m h = rw (info-read parts 7 methods_info m.info m.handlers h) (ap (λ (r : Result (List _) PackFault). r >>= λ handlers. Ok (record { info = m.info; handlers = handlers })) (items_read parts 7 methods_info m.info m.handlers h))
 
-description_read : (parts : List Lent) (d : Description) → Holds parts 11 descriptor_info d.info d.items → read_description parts ≡ Ok d
+description_read : (parts : List Lent) (d : Description) → HoldsComponent parts 11 descriptor_info d.info d.items → read_description parts ≡ Ok d
 unfolding read_description
 description_read parts d h = rw (info-read parts 11 descriptor_info d.info d.items h) (ap (λ (r : Result _ PackFault). r >>= λ items. Ok (record { info = d.info; items = items })) (items_read parts 11 descriptor_info d.info d.items h))
 
@@ -96,7 +96,7 @@ has_info : (parts : List Lent) (tag : ℕ) (info : List ℕ) → info_in parts t
 unfolding info_in
 has_info parts tag info h = framed_info parts tag (held parts tag) info refl h
 
-holds : {X : Type 0} (parts : List Lent) (tag : ℕ) (g : Grammar X) (info : List ℕ) (items : X) → info_in parts tag ≡ Ok info → formed (reading (info_of tag) g info) ≡ Ok items → Holds parts tag g info items
+holds : {X : Type 0} (parts : List Lent) (tag : ℕ) (g : Grammar X) (info : List ℕ) (items : X) → info_in parts tag ≡ Ok info → formed (reading (info_of tag) g info) ≡ Ok items → HoldsComponent parts tag g info items
 holds parts tag g info items e h =
     let i = has_info parts tag info e in
     record { file = i.file; there = i.there; framed = i.framed; said = stands (info_of tag) g info items (formed_ok (reading (info_of tag) g info) items h) }
@@ -127,21 +127,21 @@ said_if parts tag g items None e h =
     subst (λ x. IsThere parts tag g x) n (record { said = e })
 said_if parts tag g items (Some file) e h = said_some parts tag g items (rw e at h)
 
-methods_say : (parts : List Lent) (m : Methods) → read_methods parts ≡ Ok m → Holds parts 7 methods_info m.info m.handlers
+methods_say : (parts : List Lent) (m : Methods) → read_methods parts ≡ Ok m → HoldsComponent parts 7 methods_info m.info m.handlers
 unfolding read_methods
 methods_say parts m h =
     let t = then_ok (info_in parts 7) (λ info. formed (reading (info_of 7) methods_info info) >>= λ handlers. Ok (record { info = info; handlers = handlers })) m h in
     let u = then_ok (formed (reading (info_of 7) methods_info t.0)) (λ handlers. Ok (record { info = t.0; handlers = handlers })) m t.2 in
     let e : record { info = t.0; handlers = u.0 } ≡ m = cc in
-    subst (λ (x : Methods). Holds parts 7 methods_info x.info x.handlers) e (holds parts 7 methods_info t.0 u.0 t.1 u.1)
+    subst (λ (x : Methods). HoldsComponent parts 7 methods_info x.info x.handlers) e (holds parts 7 methods_info t.0 u.0 t.1 u.1)
 
-description_says : (parts : List Lent) (d : Description) → read_description parts ≡ Ok d → Holds parts 11 descriptor_info d.info d.items
+description_says : (parts : List Lent) (d : Description) → read_description parts ≡ Ok d → HoldsComponent parts 11 descriptor_info d.info d.items
 unfolding read_description
 description_says parts d h =
     let t = then_ok (info_in parts 11) (λ info. formed (reading (info_of 11) descriptor_info info) >>= λ items. Ok (record { info = info; items = items })) d h in
     let u = then_ok (formed (reading (info_of 11) descriptor_info t.0)) (λ items. Ok (record { info = t.0; items = items })) d t.2 in
     let e : record { info = t.0; items = u.0 } ≡ d = cc in
-    subst (λ (x : Description). Holds parts 11 descriptor_info x.info x.items) e (holds parts 11 descriptor_info t.0 u.0 t.1 u.1)
+    subst (λ (x : Description). HoldsComponent parts 11 descriptor_info x.info x.items) e (holds parts 11 descriptor_info t.0 u.0 t.1 u.1)
 
 abbrev answer : {A : Type 0} → A → Result A PackFault
 answer x = Ok x

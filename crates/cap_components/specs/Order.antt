@@ -7,7 +7,7 @@ use Rattle.first_fault.specs.Least as first_fault
 pub use Rattle.first_fault.specs.Least.{refused}
 use Rattle.cap_components.specs.declared.fault.PackFault.{PackFault}
 use Rattle.cap_components.specs.declared.fault.PackFault.TheVariants.{Form, MissingPart, SizeDisagrees, MethodOverlaps, MethodOutside, CountDisagrees, HandlerOutside, StaticOverlaps, NoMethodAt, ClassUndescribed, TooManyRegisters, BadType, StaticOutside, MethodLength, NoStaticAt, PartTooLong}
-use Rattle.cap_components.specs.CountKind.{number_of}
+use Rattle.cap_components.specs.CountKind.{number_of_kind}
 
 unfoldable pub pack_place : PackFault → Place
 pack_place (Form fault) = one fault.part
@@ -15,7 +15,7 @@ pack_place (MissingPart part) = one part
 pack_place (SizeDisagrees part said found) = one part
 pack_place (MethodOverlaps first second) = two first second
 pack_place (MethodOutside offset) = one offset
-pack_place (CountDisagrees what said found) = one (number_of what)
+pack_place (CountDisagrees what said found) = one (number_of_kind what)
 pack_place (HandlerOutside number) = one number
 pack_place (StaticOverlaps first second) = two first second
 pack_place (NoMethodAt offset) = one offset

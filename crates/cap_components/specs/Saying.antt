@@ -24,7 +24,7 @@ use Rattle.cap_components.specs.PackageRecord.{PackageRecord}
 -- ---- what is said
 
 -- the part with this tag holds a component with this info, which stands for these items
-pub record Holds {X : Type 0} (parts : List Lent) (tag : ℕ) (g : Grammar X) (info : List ℕ) (items : X) : Type 0 where
+pub record HoldsComponent {X : Type 0} (parts : List Lent) (tag : ℕ) (g : Grammar X) (info : List ℕ) (items : X) : Type 0 where
   pub file : List ℕ
   pub there : held parts tag ≡ Some file
   pub framed : Stands (component tag) file info
@@ -32,7 +32,7 @@ pub record Holds {X : Type 0} (parts : List Lent) (tag : ℕ) (g : Grammar X) (i
 
 -- the same of some info
 abbrev pub Says : {X : Type 0} → List Lent → ℕ → Grammar X → X → Type 0
-Says parts tag g items = (info : List ℕ) × Holds parts tag g info items
+Says parts tag g items = (info : List ℕ) × HoldsComponent parts tag g info items
 
 -- the same of a part that may be absent
 abbrev pub SaysIf : {X : Type 0} → List Lent → ℕ → Grammar X → Option X → Type 0
@@ -48,11 +48,11 @@ pub record AreSaid (parts : List Lent) (p : PackageRecord) : Type 0 where
   pub imports : Says parts 4 imports_info p.imports
   pub pool : Says parts 5 pool_info p.pool
   pub classes : Says parts 6 (classes_info p.header.format) p.classes
-  pub methods : Holds parts 7 methods_info p.methods.info p.methods.handlers
+  pub methods : HoldsComponent parts 7 methods_info p.methods.info p.methods.handlers
   pub statics : Says parts 8 statics_info p.statics
   pub locations : Says parts 9 locations_info p.locations
   pub export : SaysIf parts 10 export_info p.export
-  pub description : Holds parts 11 descriptor_info p.description.info p.description.items
+  pub description : HoldsComponent parts 11 descriptor_info p.description.info p.description.items
 
 -- ---- what breaks its format
 

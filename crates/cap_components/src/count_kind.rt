@@ -1,5 +1,5 @@
 ghost use Rattle.std.specs.Prelude.{◌≡◌};
-ghost use Rattle.cap_components.specs.CountKind.{number_of};
+ghost use Rattle.cap_components.specs.CountKind.{number_of_kind};
 
 /// What two components count (sections 6.4 to 6.13 of the specification), in the order in which the numbers are compared.
 #[derive(Clone, Copy)]
@@ -29,7 +29,7 @@ pub enum CountKind {
 impl CountKind {
     /// Its number from 1, by which the kinds are in order and are told.
     pub fn number(self) -> u8
-        ensures { result ≡ number_of self }
+        ensures { result ≡ number_of_kind self }
     {
         match self {
             CountKind::Imports => 1,

@@ -9,29 +9,29 @@ use Rattle.std.proofs.lemmas.List.{drop_more}
 use Rattle.byteorder.specs.Endian.{big_bytes}
 use Rattle.cap_frame.specs.DirectoryFormat.{Custom, DirectoryItems}
 use Rattle.cap_directory.specs.declared.sizes.IndexChange.{IndexChange}
-use Rattle.cap_directory.specs.declared.sizes.Sizes.{Sizes}
+use Rattle.cap_directory.specs.declared.sizes.ComponentSizes.{ComponentSizes}
 use Rattle.cap_directory.specs.DirectoryBytes.{AreShort, custom_bytes, customs_size, directory_bytes}
-use Rattle.cap_directory.specs.NewDirectory.{head_of, index_entry, kept_bytes, kept_count, kept_size, new_directory, new_size, sizes_from, stays}
+use Rattle.cap_directory.specs.NewDirectory.{head_of, index_entry, kept_bytes, kept_count, kept_size, new_directory, new_size, sizes_from, stays_in_index}
 
 abbrev pub kept : IndexChange → List Custom → List Custom
-kept change cs = filter (stays change) cs
+kept change cs = filter (stays_in_index change) cs
 
 count_more : (change : IndexChange) (c : Custom) (cs : List Custom) → length (kept change (c ∷ cs)) ≡ kept_count change c + length (kept change cs)
-count_more change c cs = by (stays change c)
+count_more change c cs = by (stays_in_index change c)
   where
     by : (b : Bool) → length (cond b (c ∷ kept change cs) (kept change cs)) ≡ cond b 1 0 + length (kept change cs)
     by true = omega arith
     by false = omega arith
 
 size_kept : (change : IndexChange) (c : Custom) (cs : List Custom) → customs_size (kept change (c ∷ cs)) ≡ kept_size change c + customs_size (kept change cs)
-size_kept change c cs = by (stays change c)
+size_kept change c cs = by (stays_in_index change c)
   where
     by : (b : Bool) → customs_size (cond b (c ∷ kept change cs) (kept change cs)) ≡ cond b (4 + length c.aid) 0 + customs_size (kept change cs)
     by true = refl
     by false = omega arith
 
 bytes_more : (change : IndexChange) (c : Custom) (cs : List Custom) → flat_map custom_bytes (kept change (c ∷ cs)) ≡ kept_bytes change c ++ flat_map custom_bytes (kept change cs)
-bytes_more change c cs = by (stays change c)
+bytes_more change c cs = by (stays_in_index change c)
   where
     by : (b : Bool) → flat_map custom_bytes (cond b (c ∷ kept change cs) (kept change cs)) ≡ cond b (custom_bytes c) [] ++ flat_map custom_bytes (kept change cs)
     by true = refl
@@ -46,7 +46,7 @@ few_kept change (c ∷ cs) =
     omega arith
   where
     one : (change : IndexChange) (c : Custom) → kept_count change c ≤ 1
-    one change c = by (stays change c)
+    one change c = by (stays_in_index change c)
       where
         by : (b : Bool) → cond b 1 0 ≤ 1
         by true = omega arith
@@ -61,7 +61,7 @@ small_kept change (c ∷ cs) short =
     omega arith
   where
     one : (change : IndexChange) (c : Custom) → length c.aid ≤ 16 → kept_size change c ≤ 20
-    one change c short = by (stays change c)
+    one change c short = by (stays_in_index change c)
       where
         by : (b : Bool) → cond b (4 + length c.aid) 0 ≤ 20
         by true = omega arith
@@ -106,7 +106,7 @@ put_more change c cs all now new whole e n h =
     ∙ ap (λ xs. now ++ xs) (sym (bytes_more change c cs) ∙ ap (λ xs. flat_map custom_bytes (kept change xs)) (sym e)) ∙ h
 
 -- one more size was put
-pub size_more : (own : ℕ) (new : Sizes) (tag : ℕ) (sizes : List ℕ) (k : ℕ) (now next whole : List ℕ) → k < length sizes → next ≡ now ++ big_bytes 2 (new_size own new tag (slice_index sizes k))
+pub size_more : (own : ℕ) (new : ComponentSizes) (tag : ℕ) (sizes : List ℕ) (k : ℕ) (now next whole : List ℕ) → k < length sizes → next ≡ now ++ big_bytes 2 (new_size own new tag (slice_index sizes k))
     → now ++ flat_map (big_bytes 2) (sizes_from own new tag (drop k sizes)) ≡ whole → next ++ flat_map (big_bytes 2) (sizes_from own new (tag + 1) (drop (k + 1) sizes)) ≡ whole
 size_more own new tag sizes k now next whole lt n h =
     let rest = flat_map (big_bytes 2) (sizes_from own new (tag + 1) (drop (k + 1) sizes)) in
@@ -126,7 +126,7 @@ count_both [] ys = omega arith
 count_both (x ∷ xs) ys = let r = count_both xs ys in omega arith
 
 -- the steps of writing the info
-pub directory_steps : (new : Sizes) (d : DirectoryItems) (own count : ℕ) (first second third fourth fifth : List ℕ)
+pub directory_steps : (new : ComponentSizes) (d : DirectoryItems) (own count : ℕ) (first second third fourth fifth : List ℕ)
     → own ≡ 2 * length d.sizes + 9 + (customs_size (kept new.index d.customs) + customs_size (index_entry new.index))
     → count ≡ length (kept new.index d.customs) + length (index_entry new.index)
     → second ≡ first ++ head_of own new d → third ≡ second ++ count ∷ [] → fourth ≡ third ++ flat_map custom_bytes (kept new.index d.customs) → fifth ≡ fourth ++ flat_map custom_bytes (index_entry new.index)

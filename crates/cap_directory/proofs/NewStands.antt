@@ -11,10 +11,10 @@ use Rattle.cap_bytes.specs.Grammar.{is_aid_length}
 use Rattle.cap_frame.specs.DirectoryFormat.{Custom, DirectoryItems, is_new_tag, and_that_of, none, size_count}
 use Rattle.cap_directory.specs.declared.sizes.IndexChange.{IndexChange}
 use Rattle.cap_directory.specs.declared.sizes.IndexChange.TheVariants.{Kept, Dropped, Written}
-use Rattle.cap_directory.specs.declared.sizes.Sizes.{Sizes}
+use Rattle.cap_directory.specs.declared.sizes.ComponentSizes.{ComponentSizes}
 use Rattle.cap_directory.specs.DirectoryBytes.{AreShort, custom_bytes, customs_size, directory_bytes}
 use Rattle.cap_directory.specs.Laws.{AreSmall, AreCustoms, MayStand}
-use Rattle.cap_directory.specs.NewDirectory.{index_entry, new_directory, new_size, own_size, sizes_from, stays}
+use Rattle.cap_directory.specs.NewDirectory.{index_entry, new_directory, new_size, own_size, sizes_from, stays_in_index}
 use Rattle.cap_directory.proofs.Kept.{few_kept, kept, size_both, small_kept}
 
 -- ---- how many custom components there may be
@@ -138,7 +138,7 @@ within_later named others c within tag h = by (tag == c.tag) (within tag h)
     by true h = refl
     by false h = h
 
-free_more : (change : IndexChange) (named : ℕ → Bool) (c : Custom) → IsFree change named → stays change c ≡ true → IsFree change (and_that_of named c)
+free_more : (change : IndexChange) (named : ℕ → Bool) (c : Custom) → IsFree change named → stays_in_index change c ≡ true → IsFree change (and_that_of named c)
 free_more Kept named c free h = tt
 free_more Dropped named c free h = tt
 free_more (Written size) named c free h = by (c.tag == 128) refl h
@@ -157,11 +157,11 @@ entry_fits (Written size) named fit free = (tag_new named 128 (omega arith) free
 kept_fit : (change : IndexChange) (named others : ℕ → Bool) (cs : List Custom) → IsFit change → IsFree change named → IsWithin named others → AreCustoms others cs → AreCustoms named (kept change cs ++ index_entry change)
 kept_fit change named others [] fit free within are = entry_fits change named fit free
 kept_fit change named others (c ∷ cs) fit free within are =
-    by (stays change c) refl
+    by (stays_in_index change c) refl
     (λ e. kept_fit change (and_that_of named c) (and_that_of others c) cs fit (free_more change named c free e) (within_more named others c within) are.4)
     (kept_fit change named (and_that_of others c) cs fit free (within_later named others c within) are.4)
   where
-    by : (b : Bool) → stays change c ≡ b → (stays change c ≡ true → AreCustoms (and_that_of named c) (kept change cs ++ index_entry change))
+    by : (b : Bool) → stays_in_index change c ≡ b → (stays_in_index change c ≡ true → AreCustoms (and_that_of named c) (kept change cs ++ index_entry change))
         → AreCustoms named (kept change cs ++ index_entry change) → AreCustoms named (cond b (c ∷ kept change cs) (kept change cs) ++ index_entry change)
     by true e more rest =
         let n = new_tag others c.tag are.0 in
@@ -186,11 +186,11 @@ entry_small (Written size) = omega arith
 
 -- ---- the sizes
 
-pub sizes_counted : (own : ℕ) (new : Sizes) (tag : ℕ) (ss : List ℕ) → length (sizes_from own new tag ss) ≡ length ss
+pub sizes_counted : (own : ℕ) (new : ComponentSizes) (tag : ℕ) (ss : List ℕ) → length (sizes_from own new tag ss) ≡ length ss
 sizes_counted own new tag [] = refl
 sizes_counted own new tag (s ∷ ss) = ap suc (sizes_counted own new (tag + 1) ss)
 
-size_small : (own : ℕ) (new : Sizes) (tag s : ℕ) → own < 65536 → new.methods < 65536 → new.references < 65536 → s < 65536 → new_size own new tag s < 65536
+size_small : (own : ℕ) (new : ComponentSizes) (tag s : ℕ) → own < 65536 → new.methods < 65536 → new.references < 65536 → s < 65536 → new_size own new tag s < 65536
 size_small own new tag s o m r h = by (tag == 2) (tag == 7) (tag == 9) (tag == 12)
   where
     by : (a b c d : Bool) → cond a own (cond b new.methods (cond c new.references (cond d 0 s))) < 65536
@@ -200,7 +200,7 @@ size_small own new tag s o m r h = by (tag == 2) (tag == 7) (tag == 9) (tag == 1
     by false false false true = omega arith
     by false false false false = h
 
-sizes_small : (own : ℕ) (new : Sizes) (tag : ℕ) (ss : List ℕ) → own < 65536 → new.methods < 65536 → new.references < 65536 → AreSmall ss → AreSmall (sizes_from own new tag ss)
+sizes_small : (own : ℕ) (new : ComponentSizes) (tag : ℕ) (ss : List ℕ) → own < 65536 → new.methods < 65536 → new.references < 65536 → AreSmall ss → AreSmall (sizes_from own new tag ss)
 sizes_small own new tag [] o m r h = tt
 sizes_small own new tag (s ∷ ss) o m r h = (size_small own new tag s o m r h.0, sizes_small own new (tag + 1) ss o m r h.1)
 
@@ -208,7 +208,7 @@ sizes_few : (format : Format) → size_count format ≤ 12
 sizes_few V21 = omega arith
 sizes_few V22 = omega arith
 
-pub own_small : (format : Format) (new : Sizes) (d : DirectoryItems) → MayStand format d → own_size new d ≤ 5000
+pub own_small : (format : Format) (new : ComponentSizes) (d : DirectoryItems) → MayStand format d → own_size new d ≤ 5000
 own_small format new d m =
     let n = few_customs d.customs m.customs in
     let s = small_kept new.index d.customs (customs_short none d.customs m.customs) in
@@ -217,7 +217,7 @@ own_small format new d m =
     let f = sizes_few format in
     omega (arith, m.counted)
 
-pub new_may_stand : (format : Format) (new : Sizes) (d : DirectoryItems) → MayStand format d → new.methods < 65536 → new.references < 65536 → IsFit new.index → MayStand format (new_directory new d)
+pub new_may_stand : (format : Format) (new : ComponentSizes) (d : DirectoryItems) → MayStand format d → new.methods < 65536 → new.references < 65536 → IsFit new.index → MayStand format (new_directory new d)
 new_may_stand format new d m a b fit =
     let own = own_small format new d m in
     let few = few_customs d.customs m.customs in
@@ -256,5 +256,5 @@ directory_long d =
     let f = flat_map custom_bytes d.customs in
     omega (arith, bytes_long d.sizes, customs_long d.customs, length-append (s ++ (a ++ (b ++ (c ++ t)))) (length d.customs ∷ f), length-append s (a ++ (b ++ (c ++ t))))
 
-pub new_long : (new : Sizes) (d : DirectoryItems) → length (directory_bytes (new_directory new d)) ≡ own_size new d
+pub new_long : (new : ComponentSizes) (d : DirectoryItems) → length (directory_bytes (new_directory new d)) ≡ own_size new d
 new_long new d = omega (arith, directory_long (new_directory new d), sizes_counted (own_size new d) new 1 d.sizes)

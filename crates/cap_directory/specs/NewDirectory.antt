@@ -8,11 +8,11 @@ use Rattle.cap_frame.specs.Tags.{index_aid}
 use Rattle.cap_frame.specs.DirectoryFormat.{Custom, DirectoryItems}
 use Rattle.cap_directory.specs.declared.sizes.IndexChange.{IndexChange}
 use Rattle.cap_directory.specs.declared.sizes.IndexChange.TheVariants.{Kept, Dropped, Written}
-use Rattle.cap_directory.specs.declared.sizes.Sizes.{Sizes}
+use Rattle.cap_directory.specs.declared.sizes.ComponentSizes.{ComponentSizes}
 use Rattle.cap_directory.specs.DirectoryBytes.{custom_bytes, customs_size}
 
 -- the size of the component with a tag, which was another
-abbrev pub new_size : ℕ → Sizes → ℕ → ℕ → ℕ
+abbrev pub new_size : ℕ → ComponentSizes → ℕ → ℕ → ℕ
 new_size own new tag old =
     if tag == 2 then own
     else if tag == 7 then new.methods
@@ -21,7 +21,7 @@ new_size own new tag old =
     else old
 
 -- the sizes from that with a tag on
-abbrev pub sizes_from : ℕ → Sizes → ℕ → List ℕ → List ℕ
+abbrev pub sizes_from : ℕ → ComponentSizes → ℕ → List ℕ → List ℕ
 sizes_from own new tag [] = []
 sizes_from own new tag (s ∷ ss) = new_size own new tag s ∷ sizes_from own new (tag + 1) ss
 
@@ -32,8 +32,8 @@ drops Dropped = true
 drops (Written size) = true
 
 -- a custom component that stays
-abbrev pub stays : IndexChange → Custom → Bool
-stays change c = not (drops change && c.tag == 128)
+abbrev pub stays_in_index : IndexChange → Custom → Bool
+stays_in_index change c = not (drops change && c.tag == 128)
 
 -- the entry of a target index that is written
 abbrev pub index_entry : IndexChange → List Custom
@@ -43,23 +43,23 @@ index_entry (Written size) = record { tag = 128; size = size; aid = index_aid } 
 
 -- what one that stays adds to their number, to their bytes' number and to their bytes
 abbrev pub kept_count : IndexChange → Custom → ℕ
-kept_count change c = if stays change c then 1 else 0
+kept_count change c = if stays_in_index change c then 1 else 0
 
 abbrev pub kept_size : IndexChange → Custom → ℕ
-kept_size change c = if stays change c then 4 + length c.aid else 0
+kept_size change c = if stays_in_index change c then 4 + length c.aid else 0
 
 abbrev pub kept_bytes : IndexChange → Custom → List ℕ
-kept_bytes change c = if stays change c then custom_bytes c else []
+kept_bytes change c = if stays_in_index change c then custom_bytes c else []
 
 -- the custom components: those that stay, and then that of the target index, if one is written
 abbrev pub new_customs : IndexChange → List Custom → List Custom
-new_customs change customs = filter (stays change) customs ++ index_entry change
+new_customs change customs = filter (stays_in_index change) customs ++ index_entry change
 
 -- how many bytes it has
-abbrev pub own_size : Sizes → DirectoryItems → ℕ
+abbrev pub own_size : ComponentSizes → DirectoryItems → ℕ
 own_size new d = 2 * length d.sizes + 9 + customs_size (new_customs new.index d.customs)
 
-abbrev pub new_directory : Sizes → DirectoryItems → DirectoryItems
+abbrev pub new_directory : ComponentSizes → DirectoryItems → DirectoryItems
 new_directory new d = record {
   sizes = sizes_from (own_size new d) new 1 d.sizes;
   image_size = d.image_size;
@@ -71,7 +71,7 @@ new_directory new d = record {
 }
 
 -- what stands before the custom components
-abbrev pub head_of : ℕ → Sizes → DirectoryItems → List ℕ
+abbrev pub head_of : ℕ → ComponentSizes → DirectoryItems → List ℕ
 head_of own new d =
     flat_map (big_bytes 2) (sizes_from own new 1 d.sizes)
     ++ (big_bytes 2 d.image_size

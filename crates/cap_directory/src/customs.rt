@@ -1,7 +1,7 @@
 ghost use Rattle.std.specs.Prelude.{◌≡◌, ◌≤◌, ◌+◌, ◌++◌, filter, length, OnOk};
 ghost use Rattle.std.specs.List.{flat_map};
 ghost use Rattle.cap_directory.specs.DirectoryBytes.{AreShort, custom_bytes, customs_size};
-ghost use Rattle.cap_directory.specs.NewDirectory.{index_entry, kept_bytes, kept_count, kept_size, stays};
+ghost use Rattle.cap_directory.specs.NewDirectory.{index_entry, kept_bytes, kept_count, kept_size, stays_in_index};
 ghost use Rattle.cap_frame.specs.Directory.{custom_seen, directory_items};
 
 use crate::sizes::IndexChange;
@@ -15,7 +15,7 @@ static INDEX_AID: [u8; 6] = [0xF0, 0x6C, 0x65, 0x72, 0x6F, 0x79];
 
 /// Whether a custom component stays.
 fn stays(change: IndexChange, custom: &CustomEntry<'_>) -> bool
-    ensures { result ≡ stays change (custom_seen custom.now) }
+    ensures { result ≡ stays_in_index change (custom_seen custom.now) }
 {
     !(change.drops() && custom.tag == INDEX)
 }
@@ -31,8 +31,8 @@ pub(crate) struct Extent {
 #[tactic(auto, using(crate::proofs::Kept::few_kept, crate::proofs::Kept::small_kept, crate::proofs::Kept::measured_more))]
 pub(crate) fn measure(directory: &Directory<'_>, change: IndexChange) -> Extent
     requires { AreShort (directory_items directory.now).customs }
-    ensures count { result.count ≡ length (filter (stays change) (directory_items directory.now).customs) }
-    ensures size { result.size ≡ customs_size (filter (stays change) (directory_items directory.now).customs) }
+    ensures count { result.count ≡ length (filter (stays_in_index change) (directory_items directory.now).customs) }
+    ensures size { result.size ≡ customs_size (filter (stays_in_index change) (directory_items directory.now).customs) }
     ensures few { result.count ≤ length (directory_items directory.now).customs }
     ensures small { result.size ≤ 5100 }
 {
@@ -84,7 +84,7 @@ pub(crate) fn put_customs(
 ) -> Result<(), AllocError>
     requires { AreShort (directory_items directory.now).customs }
     ensures { OnOk result (out.new.items
-        ≡ out.old.items ++ flat_map custom_bytes (filter (stays change) (directory_items directory.now).customs)) }
+        ≡ out.old.items ++ flat_map custom_bytes (filter (stays_in_index change) (directory_items directory.now).customs)) }
 {
     'customs: for custom in directory.customs() {
         put_kept(change, &custom, out)?;

@@ -5,7 +5,7 @@ ghost use Rattle.cap_frame.specs.Directory.{directory_items};
 ghost use Rattle.cap_frame.specs.DirectoryFormat.{directory_info, size_count};
 ghost use Rattle.cap_renewal.specs.NewMethods.{AreBytes};
 
-use crate::sizes::Sizes;
+use crate::sizes::ComponentSizes;
 use crate::writing::put_directory;
 use cap_bytes::Format;
 use cap_frame::Directory;
@@ -17,7 +17,7 @@ pub fn directory_info(
     alloc: Global,
     directory: &Directory<'_>,
     format: Format,
-    new: Sizes,
+    new: ComponentSizes,
 ) -> Result<Vec<u8>, AllocError>
     requires { Stands (directory_info format) directory.now.info.bytes.now (directory_items directory.now) }
     ensures stands { IfOk result (λ info. Stands (directory_info format) info.items (new_directory new (directory_items directory.now))) }

@@ -10,4 +10,4 @@ mod writing;
 
 pub use info::directory_info;
 pub use laws::directories_stand;
-pub use sizes::{IndexChange, Sizes};
+pub use sizes::{ComponentSizes, IndexChange};

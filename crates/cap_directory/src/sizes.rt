@@ -26,7 +26,7 @@ impl IndexChange {
 
 /// What the Directory of a package says of the components that are written anew.
 #[derive(Clone, Copy)]
-pub struct Sizes {
+pub struct ComponentSizes {
     /// The bytes of the info of the Method component.
     pub methods: u16,
     /// Those of the ReferenceLocation component.

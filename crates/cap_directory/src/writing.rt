@@ -6,7 +6,7 @@ ghost use Rattle.cap_directory.specs.NewDirectory.{head_of, new_directory, new_s
 ghost use Rattle.cap_frame.specs.Directory.{directory_items};
 
 use crate::customs::{index_extent, measure, put_customs, put_index};
-use crate::sizes::Sizes;
+use crate::sizes::ComponentSizes;
 use cap_frame::Directory;
 use std::alloc::AllocError;
 
@@ -15,7 +15,7 @@ use std::alloc::AllocError;
 pub(crate) fn put_directory(
     directory: &Directory<'_>,
     count: u8,
-    new: Sizes,
+    new: ComponentSizes,
     out: &mut Vec<u8>,
 ) -> Result<(), AllocError>
     requires counted { length (directory_items directory.now).sizes ≡ count }
@@ -40,7 +40,7 @@ fn put_head(
     directory: &Directory<'_>,
     count: u8,
     own: u16,
-    new: Sizes,
+    new: ComponentSizes,
     out: &mut Vec<u8>,
 ) -> Result<(), AllocError>
     requires counted { length (directory_items directory.now).sizes ≡ count }
@@ -60,7 +60,7 @@ fn put_sizes(
     directory: &Directory<'_>,
     count: u8,
     own: u16,
-    new: Sizes,
+    new: ComponentSizes,
     out: &mut Vec<u8>,
 ) -> Result<(), AllocError>
     requires counted { length (directory_items directory.now).sizes ≡ count }
@@ -90,7 +90,7 @@ fn old_size(directory: &Directory<'_>, tag: u8) -> u16
 }
 
 /// The size of the component with a tag, which was another.
-fn new_size(own: u16, new: Sizes, tag: u8, old: u16) -> u16
+fn new_size(own: u16, new: ComponentSizes, tag: u8, old: u16) -> u16
     ensures { result ≡ new_size own new tag old }
 {
     if tag == 2 {

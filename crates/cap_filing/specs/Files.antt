@@ -5,7 +5,7 @@ use Rattle.cap_bytes.specs.Grammar.{Grammar}
 use Rattle.cap_bytes.specs.Spelling.{Stands}
 use Rattle.cap_frame.specs.Frame.{component}
 use Rattle.cap_components.specs.Parts.{Lent, held}
-use Rattle.cap_components.specs.Saying.{Holds}
+use Rattle.cap_components.specs.Saying.{HoldsComponent}
 use Rattle.cap_writing.specs.Edit.{Edit}
 use Rattle.cap_writing.specs.Renewal.{Renews}
 
@@ -19,7 +19,7 @@ pub record IsRenewed
     {X : Type 0} (old : List Lent) (tag : ℕ) (g : Grammar X) (renew : X → X) (edits : X → List Edit) (items : X) (file : List ℕ)
     : Type 0 where
   pub before : List ℕ
-  pub was : Holds old tag g before items
+  pub was : HoldsComponent old tag g before items
   pub info : List ℕ
   pub framed : Stands (component tag) file info
   pub said : Stands g info (renew items)

@@ -5,7 +5,7 @@ ghost use Rattle.cap_frame.specs.Applets.{applets_of};
 ghost use Rattle.cap_pool.specs.Export.{export_seen as exported};
 ghost use Rattle.cap_pool.specs.ExportFormat.{export_info};
 ghost use Rattle.cap_pool.specs.PoolFormat.{pool_info};
-ghost use Rattle.cap_components.specs.Saying.{Holds};
+ghost use Rattle.cap_components.specs.Saying.{HoldsComponent};
 ghost use Rattle.cap_components.specs.Parts.{Lent};
 ghost use Rattle.cap_renewal.specs.AppletEdits.{applets_edits, renewed_applet};
 ghost use Rattle.cap_renewal.specs.ExportEdits.{export_edits, renewed_exported};
@@ -40,8 +40,8 @@ fn held_applets(
     applets: &Applets<'_>,
     news: &NewMethods,
 ) -> Result<Vec<u8>, AllocError>
-    requires { (old : List Lent) × Holds old 3 applets_info applets.now.info.bytes.now (applets_of applets.now) }
-    ensures { (old : List Lent) → Holds old 3 applets_info applets.now.info.bytes.now (applets_of applets.now)
+    requires { (old : List Lent) × HoldsComponent old 3 applets_info applets.now.info.bytes.now (applets_of applets.now) }
+    ensures { (old : List Lent) → HoldsComponent old 3 applets_info applets.now.info.bytes.now (applets_of applets.now)
         → IfOk result (λ file. IsRenewed old 3 applets_info (map (renewed_applet (to news.now)))
         (applets_edits (to news.now)) (applets_of applets.now) file.items) }
 {
@@ -82,8 +82,8 @@ pub fn export_file(
 }
 
 fn held_export(alloc: Global, export: &Export<'_>, news: &NewMethods) -> Result<Vec<u8>, AllocError>
-    requires { (old : List Lent) × Holds old 10 export_info export.now.info.bytes.now (exported export.now) }
-    ensures { (old : List Lent) → Holds old 10 export_info export.now.info.bytes.now (exported export.now)
+    requires { (old : List Lent) × HoldsComponent old 10 export_info export.now.info.bytes.now (exported export.now) }
+    ensures { (old : List Lent) → HoldsComponent old 10 export_info export.now.info.bytes.now (exported export.now)
         → IfOk result (λ file. IsRenewed old 10 export_info (map (renewed_exported (to news.now)))
         (export_edits (to news.now)) (exported export.now) file.items) }
 {

@@ -12,7 +12,8 @@ use Rattle.cap_components.specs.Components.{info_in}
 use Rattle.cap_components.specs.PartChecks.{size_fault, components, custom_tags}
 use Rattle.cap_package.specs.MethodChecks.{overlap_pair, outside_fault}
 use Rattle.cap_package.specs.HeaderChecks.{header_in, registers_fault, length_fault, arguments_fault, abstract_fault}
-use Rattle.cap_package.specs.HandlerChecks.{numbered, numbered_fault, claim_fault, owners, handler_fault}
+use Rattle.cap_package.specs.HandlerChecks.{numbered_fault, claim_fault, owners, handler_fault}
+use Rattle.std.specs.List.{enumerate_from}
 use Rattle.cap_gen.proofs.Apart.{follow, none_overlap}
 use Rattle.cap_package.specs.Pairs.{pairs}
 use Rattle.cap_gen.specs.Methods.{each_from, method_bytes, entry_table, entries, method_info}
@@ -45,7 +46,7 @@ pub none_abstract : (seed : ℕ) → at_fault (abstract_fault (method_info seed)
 unfolding entry_bytes each_from method_bytes entry_table entries method_info methods names_interface abstract_fault header_in
 none_abstract seed = refl
 
-pub handlers_home : (seed : ℕ) → at_fault (numbered_fault (method_info seed) (described_methods (package_record seed))) (numbered 0 entries)
+pub handlers_home : (seed : ℕ) → at_fault (numbered_fault (method_info seed) (described_methods (package_record seed))) (enumerate_from 0 entries)
     ++ at_fault (claim_fault (length entries)) (described_methods (package_record seed)) ≡ []
 unfolding entry_bytes each_from method_bytes entry_table entries method_info methods names_interface owners handler_fault claim_fault code_start code_end
 handlers_home seed = refl

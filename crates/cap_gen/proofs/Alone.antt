@@ -10,14 +10,14 @@ use Rattle.jc_control.specs.Method.{Method, IsMethodOf}
 use Rattle.jc_rules.specs.Flow.{HasFlowTyping}
 use Rattle.jc_link.specs.World.{IsLinked}
 use Rattle.cap_laying.specs.HandlerTable.{entry_bytes}
-use Rattle.cap_gen.specs.Methods.{each_from, method_bytes, entry_table, entries, method_info, shape, code_offset, code_size, first_constant, second_constant}
+use Rattle.cap_gen.specs.Methods.{each_from, method_bytes, entry_table, entries, method_info, shape, code_offset, code_size_of_kind, first_constant, second_constant}
 use Rattle.cap_gen.specs.Linked.{roles, method_record}
 use Rattle.cap_gen.proofs.Linking.{alone, methods_are}
 use Rattle.cap_gen.proofs.Typed.{method_of, kind_typed}
 
 -- where each method's code stands in the info
 abbrev code_there : ℕ → ℕ → List ℕ
-code_there seed k = take (code_size k) (drop (code_offset k) (method_info seed))
+code_there seed k = take (code_size_of_kind k) (drop (code_offset k) (method_info seed))
 
 abbrev code_is : ℕ → ℕ → List ℕ
 code_is seed k = (shape seed k).code

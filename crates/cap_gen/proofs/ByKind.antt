@@ -3,7 +3,7 @@ use Rattle.std.proofs.Common.{◌≡◌, ◌+◌, ◌%◌, ℕ, zero, suc, List,
 use Rattle.byteorder.specs.Endian.{big_bytes}
 use Rattle.cap_laying.specs.HandlerTable.{entry_bytes, entries_at, table_bytes}
 use Rattle.cap_gen.specs.Shape.{of_kind, handlers_of_kind, shape_bytes}
-use Rattle.cap_gen.specs.Methods.{first_constant, second_constant, method_bytes, code_offset, code_size, method_offset, handlers, handler_index, entry_table}
+use Rattle.cap_gen.specs.Methods.{first_constant, second_constant, method_bytes, code_offset, code_size_of_kind, method_offset, handlers, handler_index, entry_table}
 use Rattle.cap_gen.specs.Described.{described_bytes}
 
 bytes_of : (seed k c d n : ℕ) → k % 4 ≡ n → c ≡ first_constant seed k → d ≡ second_constant seed k → method_bytes seed k ≡ shape_bytes (of_kind n c d)
@@ -67,7 +67,7 @@ entries_steps k at out one e is h =
 
 -- ---- records of the Descriptor
 
-pub record_steps : (k offset size count index : ℕ) (out one two : List ℕ) → offset ≡ method_offset k → size ≡ code_size k → count ≡ length (handlers k)
+pub record_steps : (k offset size count index : ℕ) (out one two : List ℕ) → offset ≡ method_offset k → size ≡ code_size_of_kind k → count ≡ length (handlers k)
     → index ≡ handler_index k → one ≡ out ++ k ∷ 9 ∷ [] → two ≡ one ++ big_bytes 2 offset → two ++ numbers_bytes 6 size count index ≡ out ++ described_bytes k
 unfolding described_bytes
 record_steps k offset size count index out one two eo es ec ei e1 e2 =
@@ -75,8 +75,8 @@ record_steps k offset size count index out one two eo es ec ei e1 e2 =
     let same : k ∷ 9 ∷ (big_bytes 2 offset ++ rest) ≡ described_bytes k =
     ap (λ (n : ℕ). k ∷ 9 ∷ (big_bytes 2 n ++ rest)) eo
     ∙ (ap (λ (n : ℕ). k ∷ 9 ∷ (big_bytes 2 (method_offset k) ++ numbers_bytes 6 n count index)) es
-    ∙ (ap (λ (n : ℕ). k ∷ 9 ∷ (big_bytes 2 (method_offset k) ++ numbers_bytes 6 (code_size k) n index)) ec
-    ∙ ap (λ (n : ℕ). k ∷ 9 ∷ (big_bytes 2 (method_offset k) ++ numbers_bytes 6 (code_size k) (length (handlers k)) n)) ei)) in
+    ∙ (ap (λ (n : ℕ). k ∷ 9 ∷ (big_bytes 2 (method_offset k) ++ numbers_bytes 6 (code_size_of_kind k) n index)) ec
+    ∙ ap (λ (n : ℕ). k ∷ 9 ∷ (big_bytes 2 (method_offset k) ++ numbers_bytes 6 (code_size_of_kind k) (length (handlers k)) n)) ei)) in
     ap (λ (xs : List ℕ). xs ++ rest) (e2 ∙ ap (λ (xs : List ℕ). xs ++ big_bytes 2 offset) e1)
     ∙ (append_assoc (out ++ k ∷ 9 ∷ []) (big_bytes 2 offset) rest
     ∙ (append_assoc out (k ∷ 9 ∷ []) (big_bytes 2 offset ++ rest)

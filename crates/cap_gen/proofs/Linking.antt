@@ -21,12 +21,12 @@ use Rattle.jc_resolve.specs.NamedClasses.{fields_described, instance_fields, wit
 use Rattle.jc_resolve.specs.NamedMethods.{handler_named, body_of, class_described, have_headers, named_method, named_methods}
 use Rattle.jc_resolve.specs.Numbering.{class_at, is_interface_number, method_at}
 use Rattle.jc_resolve.specs.References.{met_by, class_referred, class_named}
-use Rattle.jc_resolve.specs.WorldTypes.{type_of, kind_of, signature_of}
+use Rattle.jc_resolve.specs.WorldTypes.{type_of, kind_of, declared_signature}
 use Rattle.jc_hierarchy.specs.Ancestor.{superclass, extended, is_above}
 use Rattle.jc_resolve.specs.declared.named.NamedClass.{NamedClass}
-use Rattle.jc_hierarchy.specs.Conditions.{numbered, is_class_number, super_fault, cycle_fault, role_fault, root_fault, interface_fault}
+use Rattle.jc_hierarchy.specs.Conditions.{numbered, is_class_number, super_fault, cycle_fault, role_fault, root_fault, not_interface_fault}
 use Rattle.jc_hierarchy.specs.Outline.{chain as line_chain, chain_over as line_chain_over, is_on_chain as on_line_chain, parent_of as line_parent, package_of as line_package}
-use Rattle.jc_classes.specs.Conditions.{hole_fault, layout_above, override_fault, long_fault, interface_fault as unserved_fault}
+use Rattle.jc_classes.specs.Conditions.{hole_fault, layout_above, override_fault, long_fault, interface_type_fault as unserved_fault}
 use Rattle.jc_classes.specs.Entries.{reach, named_by, dispatch_list, overlaid_at}
 use Rattle.jc_classes.specs.Layout.{public_table, visible_table, own_of, home_run, public_entries, visible_entries, instance_cells, class_layout, class_layout_from, at_home}
 use Rattle.jc_classes.specs.Tables.{record_from}
@@ -82,7 +82,7 @@ unfolding place_in field_type kind_of
 few_statics seed = refl
 
 faultless : (seed : ℕ) → AllEmpty (conditions (alone seed) roles)
-unfolding entry_bytes each_from method_bytes entry_table entries method_info methods described_bytes descriptor_bytes location_bytes types_in field_type names_interface header_in is_interface parent_of line_parent chain line_chain chain_over line_chain_over height package_of line_package public_of visible_of cell_count own_cells cells_of entry_at nearest_of visible_in dispatched is_concrete is_on_chain on_line_chain is_below no_package_fault class_references no_class_fault named_interface named_package fields_described instance_fields with_token cells_of_field cells_of_fields dispatch_entry interface_named named_class named_classes handler_named body_of class_described have_headers named_method named_methods class_at is_interface_number method_at met_by class_referred class_named type_of kind_of signature_of superclass extended is_above is_class_number super_fault cycle_fault role_fault root_fault interface_fault hole_fault layout_above override_fault long_fault unserved_fault reach named_by dispatch_list overlaid_at public_table visible_table own_of home_run public_entries visible_entries instance_cells class_layout class_layout_from at_home record_from catches_throwable catch_fault referred field_place method_place class_member member_of member_fault abstract_fault
+unfolding entry_bytes each_from method_bytes entry_table entries method_info methods described_bytes descriptor_bytes location_bytes types_in field_type names_interface header_in is_interface parent_of line_parent chain line_chain chain_over line_chain_over height package_of line_package public_of visible_of cell_count own_cells cells_of entry_at nearest_of visible_in dispatched is_concrete is_on_chain on_line_chain is_below no_package_fault class_references no_class_fault named_interface named_package fields_described instance_fields with_token cells_of_field cells_of_fields dispatch_entry interface_named named_class named_classes handler_named body_of class_described have_headers named_method named_methods class_at is_interface_number method_at met_by class_referred class_named type_of kind_of declared_signature superclass extended is_above is_class_number super_fault cycle_fault role_fault root_fault not_interface_fault hole_fault layout_above override_fault long_fault unserved_fault reach named_by dispatch_list overlaid_at public_table visible_table own_of home_run public_entries visible_entries instance_cells class_layout class_layout_from at_home record_from catches_throwable catch_fault referred field_place method_place class_member member_of member_fault abstract_fault
 faultless seed = (
   refl,
   (
@@ -132,5 +132,5 @@ packages_link seed = (
 
 -- its methods
 pub methods_are : (seed : ℕ) → named_methods (alone seed) roles ≡ map method_record (range_with_len 0 200)
-unfolding entry_bytes each_from method_bytes entry_table entries method_info methods described_bytes descriptor_bytes types_in names_interface header_in handler_named body_of class_described have_headers named_method named_methods class_at is_interface_number referred class_referred class_named type_of signature_of
+unfolding entry_bytes each_from method_bytes entry_table entries method_info methods described_bytes descriptor_bytes types_in names_interface header_in handler_named body_of class_described have_headers named_method named_methods class_at is_interface_number referred class_referred class_named type_of declared_signature
 methods_are seed = refl

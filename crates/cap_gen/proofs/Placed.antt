@@ -4,7 +4,7 @@ use Rattle.std.specs.List.{range_with_len}
 use Rattle.std.proofs.lemmas.List.FromFn.{get_or-map-range_with_len}
 use Rattle.cap_method.specs.declared.handler.HandlerInfo.{HandlerInfo}
 use Rattle.cap_laying.specs.HandlerTable.{entry_bytes}
-use Rattle.cap_gen.specs.Methods.{each_from, method_bytes, entry_table, entries, entries_of, method_info, method_offset, code_size, handlers, handler_index}
+use Rattle.cap_gen.specs.Methods.{each_from, method_bytes, entry_table, entries, entries_of_kind, method_info, method_offset, code_size_of_kind, handlers, handler_index}
 use Rattle.cap_gen.specs.Laws.{StandsThere}
 
 -- two lists by number are equal at each number
@@ -14,7 +14,7 @@ at_each f g d k e h =
     ∙ (ap (λ (xs : List _). get_or xs k d) e ∙ get_or-map-range_with_len g 0 200 k k d h (omega arith))
 
 abbrev bytes_there : ℕ → ℕ → List ℕ
-bytes_there seed k = take (code_size k + 2) (drop (method_offset k) (method_info seed))
+bytes_there seed k = take (code_size_of_kind k + 2) (drop (method_offset k) (method_info seed))
 
 all_bytes : (seed : ℕ) → map (bytes_there seed) (range_with_len 0 200) ≡ map (method_bytes seed) (range_with_len 0 200)
 unfolding entry_bytes each_from method_bytes entry_table entries method_info
@@ -23,12 +23,12 @@ all_bytes seed = refl
 abbrev entries_there : ℕ → List HandlerInfo
 entries_there k = take (length (handlers k)) (drop (handler_index k) entries)
 
-all_entries : map entries_there (range_with_len 0 200) ≡ map entries_of (range_with_len 0 200)
+all_entries : map entries_there (range_with_len 0 200) ≡ map entries_of_kind (range_with_len 0 200)
 unfolding each_from entries
 all_entries = refl
 
 pub methods_stand : (seed k : ℕ) → k < 200 → StandsThere seed k
 methods_stand seed k h = record {
   bytes = at_each (bytes_there seed) (method_bytes seed) [] k (all_bytes seed) h;
-  entries = at_each entries_there entries_of [] k all_entries h;
+  entries = at_each entries_there entries_of_kind [] k all_entries h;
 }

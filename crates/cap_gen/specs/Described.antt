@@ -7,7 +7,7 @@ use Rattle.cap_desc.specs.DescriptorFormat.{MethodDescriptor, FieldDescriptor, C
 use Rattle.cap_locations.specs.Catches.{catch_places}
 use Rattle.cap_locations.specs.Distances.{distances}
 use Rattle.cap_locations.specs.Component.{component_bytes}
-use Rattle.cap_gen.specs.Methods.{each_method, method_offset, code_size, handlers, handler_index}
+use Rattle.cap_gen.specs.Methods.{each_method, method_offset, code_size_of_kind, handlers, handler_index}
 
 -- a method: public and static, of the type whose descriptor stands after the types of two pool entries
 abbrev pub method : ℕ → MethodDescriptor
@@ -16,7 +16,7 @@ method k = record {
   flags = 9;
   method_offset = method_offset k;
   type_offset = 6;
-  bytecode_count = code_size k;
+  bytecode_count = code_size_of_kind k;
   handler_count = length (handlers k);
   handler_index = handler_index k;
 }
@@ -26,7 +26,7 @@ methods = map method (range_with_len 0 200)
 
 -- its record
 unfoldable pub described_bytes : ℕ → List ℕ
-described_bytes k = k ∷ 9 ∷ (big_bytes 2 (method_offset k) ++ (big_bytes 2 6 ++ (big_bytes 2 (code_size k)
+described_bytes k = k ∷ 9 ∷ (big_bytes 2 (method_offset k) ++ (big_bytes 2 6 ++ (big_bytes 2 (code_size_of_kind k)
     ++ (big_bytes 2 (length (handlers k)) ++ big_bytes 2 (handler_index k)))))
 
 -- a static field of a short, at the first offset of the image
@@ -42,15 +42,16 @@ abbrev pub first_bytes : List ℕ
 first_bytes = 0 ∷ 1 ∷ 0 ∷ 2 ∷ 0 ∷ 0 ∷ 1 ∷ 0 ∷ 200 ∷ 0 ∷ 9 ∷ 0 ∷ 0 ∷ 0 ∷ 0x80 ∷ 4 ∷ []
 
 -- the other classes have no members
-abbrev pub bare_class : ℕ → ℕ → ClassDescriptor
-bare_class token reference = record { token = token; class_ref = reference; interfaces = []; fields = []; methods = [] }
+abbrev pub memberless_class : ℕ → ℕ → ClassDescriptor
+memberless_class token reference = record { token = token; class_ref = reference; interfaces = []; fields = []; methods = [] }
 
-abbrev pub bare_bytes : ClassDescriptor → List ℕ
-bare_bytes c = c.token ∷ 1 ∷ (big_bytes 2 c.class_ref ++ 0 ∷ 0 ∷ 0 ∷ 0 ∷ 0 ∷ [])
+abbrev pub memberless_bytes : ClassDescriptor → List ℕ
+memberless_bytes c = c.token ∷ 1 ∷ (big_bytes 2 c.class_ref ++ 0 ∷ 0 ∷ 0 ∷ 0 ∷ 0 ∷ [])
 
-abbrev pub bare_classes : List ClassDescriptor
-bare_classes = bare_class 1 12 ∷ bare_class 2 22 ∷ bare_class 3 32 ∷ bare_class 4 42 ∷ bare_class 5 52 ∷ bare_class 6 62
-    ∷ bare_class 7 72 ∷ []
+abbrev pub memberless_classes : List ClassDescriptor
+memberless_classes =
+    memberless_class 1 12 ∷ memberless_class 2 22 ∷ memberless_class 3 32 ∷ memberless_class 4 42
+    ∷ memberless_class 5 52 ∷ memberless_class 6 62 ∷ memberless_class 7 72 ∷ []
 
 -- two pool entries without a type, and the type descriptor of two shorts and a result of a short
 abbrev pub type_bytes : List ℕ
@@ -58,11 +59,11 @@ type_bytes = 0 ∷ 2 ∷ 0xFF ∷ 0xFF ∷ 0xFF ∷ 0xFF ∷ 3 ∷ 0x44 ∷ 0x40
 
 -- the info of the Descriptor: the classes after their number, and the types
 unfoldable pub descriptor_bytes : List ℕ
-descriptor_bytes = 8 ∷ (first_bytes ++ (each_method described_bytes ++ (flat_map bare_bytes bare_classes ++ type_bytes)))
+descriptor_bytes = 8 ∷ (first_bytes ++ (each_method described_bytes ++ (flat_map memberless_bytes memberless_classes ++ type_bytes)))
 
 -- what it says: the types of the pool stand after 2480 bytes
 abbrev pub descriptor : Descriptor
-descriptor = record { classes = first_class ∷ bare_classes; types_start = 2480; pool_types = 0xFFFF ∷ 0xFFFF ∷ [] }
+descriptor = record { classes = first_class ∷ memberless_classes; types_start = 2480; pool_types = 0xFFFF ∷ 0xFFFF ∷ [] }
 
 -- the places in the Method component that name a pool entry: no instruction does, and of the handlers those that catch a class
 abbrev pub pool_places : List ℕ

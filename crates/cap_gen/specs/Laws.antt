@@ -9,7 +9,7 @@ use Rattle.jc_link.specs.World.{IsLinked}
 use Rattle.jc_rules.specs.Flow.{HasFlowTyping}
 use Rattle.cap_gen.specs.Shape.{of_kind}
 use Rattle.cap_gen.specs.Linked.{record_of, roles}
-use Rattle.cap_gen.specs.Methods.{method_bytes, method_offset, code_size, method_info, handlers, handler_index, entries, entries_of}
+use Rattle.cap_gen.specs.Methods.{method_bytes, method_offset, code_size_of_kind, method_info, handlers, handler_index, entries, entries_of_kind}
 use Rattle.cap_gen.specs.Generated.{generated}
 use Rattle.cap_gen.specs.Record.{package_record}
 
@@ -19,11 +19,11 @@ PartsStand = (seed : ℕ) → StandsFor (generated seed) (package_record seed)
 
 -- the header and the code of a method stand where the Descriptor tells, and its entries at their number of the handler table
 pub record StandsThere (seed k : ℕ) : Type 0 where
-  pub bytes : take (code_size k + 2) (drop (method_offset k) (method_info seed)) ≡ method_bytes seed k
-  pub entries : take (length (handlers k)) (drop (handler_index k) entries) ≡ entries_of k
+  pub bytes : take (code_size_of_kind k + 2) (drop (method_offset k) (method_info seed)) ≡ method_bytes seed k
+  pub entries : take (length (handlers k)) (drop (handler_index k) entries) ≡ entries_of_kind k
 
-abbrev pub MethodsStand : Type 0
-MethodsStand = (seed k : ℕ) → k < 200 → StandsThere seed k
+abbrev pub GeneratedMethodsStand : Type 0
+GeneratedMethodsStand = (seed k : ℕ) → k < 200 → StandsThere seed k
 
 -- a method of each kind has a dataflow typing in every world, whatever its constants are
 abbrev pub MethodsAreTyped : Type 0

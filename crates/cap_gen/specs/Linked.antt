@@ -4,7 +4,7 @@ use Rattle.jc_base.specs.declared.ty.Ty.TheVariants.{Short}
 use Rattle.jc_base.specs.declared.record.Handler.{Handler}
 use Rattle.jc_base.specs.declared.record.MethodRec.{MethodRec}
 use Rattle.cap_gen.specs.Shape.{of_kind}
-use Rattle.cap_gen.specs.Methods.{code_offset, code_size}
+use Rattle.cap_gen.specs.Methods.{code_offset, code_size_of_kind}
 
 -- the handlers of a kind: entry 1 of the pool names the fourth class, and anything is what is below throwable, the second
 abbrev pub world_handlers : ℕ → List Handler
@@ -31,7 +31,7 @@ record_of kind k = record {
   max_locals = (of_kind kind 0 0).max_locals;
   max_stack = 2;
   code_at = code_offset k;
-  code_len = code_size k;
+  code_len = code_size_of_kind k;
   handlers = world_handlers kind;
 }
 

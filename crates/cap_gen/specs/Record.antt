@@ -9,8 +9,8 @@ use Rattle.cap_gen.specs.Described.{descriptor_bytes, descriptor, pool_distances
 use Rattle.cap_gen.specs.Generated.{generated, sizes}
 
 -- a class at an offset, below the one with a reference
-abbrev pub class_at : ℕ → ℕ → Class
-class_at offset parent = record {
+abbrev pub class_record : ℕ → ℕ → Class
+class_record offset parent = record {
   offset = offset;
   flags = 0;
   super_ref = parent;
@@ -26,8 +26,9 @@ class_at offset parent = record {
 
 -- object, throwable, and six classes below throwable
 abbrev pub classes : List Class
-classes = class_at 2 0xFFFF ∷ class_at 12 2 ∷ class_at 22 12 ∷ class_at 32 12 ∷ class_at 42 12 ∷ class_at 52 12 ∷ class_at 62 12
-    ∷ class_at 72 12 ∷ []
+classes =
+    class_record 2 0xFFFF ∷ class_record 12 2 ∷ class_record 22 12 ∷ class_record 32 12 ∷ class_record 42 12
+    ∷ class_record 52 12 ∷ class_record 62 12 ∷ class_record 72 12 ∷ []
 
 -- the items of its Header
 abbrev pub header : HeaderItems

@@ -1,7 +1,7 @@
 -- The four kinds of method of a generated package (JCVM 2.2, sections 6.9 and 7.5). Each is static and has two short
 -- arguments, a in local 0 and b in local 1, a short result, and a stack of two cells; c and d are constants in it.
 use Rattle.std.specs.Prelude.{ℕ, zero, suc, List, [], ◌∷◌, ◌++◌}
-use Rattle.jc_decode.specs.declared.symbols.Handler.{Handler}
+use Rattle.jc_decode.specs.declared.symbols.LaidHandler.{LaidHandler}
 use Rattle.cap_laying.specs.HeaderBytes.{HeaderNumbers, compact_bytes}
 
 -- the locals beside the arguments, and the code
@@ -51,7 +51,7 @@ of_kind (suc (suc (suc n))) c d = looping c
 
 -- the handlers of each kind, by places of the code: only a division has some, for the class that entry 1 of the constant pool
 -- names, and for anything
-abbrev pub handlers_of_kind : ℕ → List Handler
+abbrev pub handlers_of_kind : ℕ → List LaidHandler
 handlers_of_kind zero = []
 handlers_of_kind (suc zero) = []
 handlers_of_kind (suc (suc zero)) =

@@ -1,7 +1,7 @@
 ghost use Rattle.std.specs.Prelude.{◌≡◌, ◌<◌, ◌++◌, length, IfOk, OnOk};
 ghost use Rattle.cap_gen.specs.Described.{described_bytes, descriptor_bytes};
 ghost use Rattle.cap_gen.specs.Generated.{file};
-ghost use Rattle.cap_gen.specs.Methods.{code_size, each_method, handler_index, handlers};
+ghost use Rattle.cap_gen.specs.Methods.{code_size_of_kind, each_method, handler_index, handlers};
 
 use crate::methods::{COUNT, method_offset, put_numbers};
 use crate::plain::{DESCRIPTOR_HEAD, DESCRIPTOR_TAIL};
@@ -9,7 +9,7 @@ use std::alloc::{AllocError, Global};
 
 /// How many bytes the code of a method has.
 fn code_size(number: u8) -> u16
-    ensures { result ≡ code_size number }
+    ensures { result ≡ code_size_of_kind number }
 {
     if number % 2 == 0 { 12 } else { 16 }
 }

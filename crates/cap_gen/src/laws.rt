@@ -1,4 +1,4 @@
-ghost use Rattle.cap_gen.specs.Laws.{MethodsAreTyped, MethodsStand, PackagesLink, PartsStand, WorldsAreTyped};
+ghost use Rattle.cap_gen.specs.Laws.{MethodsAreTyped, GeneratedMethodsStand, PackagesLink, PartsStand, WorldsAreTyped};
 
 /// The parts that are generated stand for a package.
 pub fn parts_stand()
@@ -7,7 +7,7 @@ pub fn parts_stand()
 
 /// Its methods and their handlers stand where the Descriptor tells.
 pub fn methods_stand()
-    ensures { MethodsStand }
+    ensures { GeneratedMethodsStand }
 {}
 
 /// A method of each kind has a dataflow typing in every world, whatever its constants are.

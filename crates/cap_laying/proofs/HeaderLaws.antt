@@ -14,7 +14,7 @@ use Rattle.cap_laying.specs.declared.member.Body.{Body}
 use Rattle.cap_laying.specs.declared.member.Body.TheVariants.{Code}
 use Rattle.cap_laying.specs.declared.member.Body.TheVariants.{Header as Lead}
 use Rattle.cap_laying.specs.Member.{numbers_of, body_bytes, body_size}
-use Rattle.cap_laying.specs.Laws.{AreBytes}
+use Rattle.cap_laying.specs.Laws.{FitInBytes}
 
 pub writes_u1 : (total n at : ℕ) → n < 256 → SpellsInPlace total u1 at (n ∷ []) n
 writes_u1 total n at h =
@@ -47,7 +47,7 @@ compact_written total at n a b c =
     let same : read ≡ record { flags = 0; size = 2; max_stack = n.max_stack; nargs = n.nargs; max_locals = n.max_locals } = rw (flags, r, d, m) refl in
     subst (λ h. SpellsInPlace total method_header at (n.max_stack ∷ second ∷ []) h) same two
 
-extended_written : (total at : ℕ) (n : HeaderNumbers) → AreBytes n → SpellsInPlace total method_header at (extended_bytes n) (record { flags = 8; size = 4; max_stack = n.max_stack; nargs = n.nargs; max_locals = n.max_locals })
+extended_written : (total at : ℕ) (n : HeaderNumbers) → FitInBytes n → SpellsInPlace total method_header at (extended_bytes n) (record { flags = 8; size = 4; max_stack = n.max_stack; nargs = n.nargs; max_locals = n.max_locals })
 extended_written total at n are =
     let read : Header = record { flags = 8; size = 4; max_stack = n.max_stack; nargs = n.nargs; max_locals = n.max_locals } in
     let three : SpellsInPlace total (u1 >>= λ k. give (record { flags = 8; size = 4; max_stack = n.max_stack; nargs = n.nargs; max_locals = k })) (at + 1 + 1 + 1) (n.max_locals ∷ []) read =
@@ -58,7 +58,7 @@ extended_written total at n are =
     writes_then total (at + 1) u1 (λ i. u1 >>= λ j. u1 >>= λ k. give (record { flags = 8; size = 4; max_stack = i; nargs = j; max_locals = k })) (n.max_stack ∷ []) (n.nargs ∷ n.max_locals ∷ []) n.max_stack read (writes_u1 total n.max_stack (at + 1) are.max_stack) two in
     writes_then total at u1 (λ first. header_after (nat_le 128 first) first) (128 ∷ []) (n.max_stack ∷ n.nargs ∷ n.max_locals ∷ []) 128 read (writes_u1 total 128 at (omega arith)) one
 
-header_written : (total at : ℕ) (n : HeaderNumbers) → AreBytes n → SpellsInPlace total method_header at (header_bytes n) (header_of n)
+header_written : (total at : ℕ) (n : HeaderNumbers) → FitInBytes n → SpellsInPlace total method_header at (header_bytes n) (header_of n)
 unfolding header_bytes
 header_written total at n are = by (is_compact n) refl
   where
@@ -76,7 +76,7 @@ length_header n = by (is_compact n)
     by true = refl
     by false = refl
 
-pub header_back : (n : HeaderNumbers) (info : List ℕ) (at : ℕ) → AreBytes n → take (header_size n) (drop at info) ≡ header_bytes n → HeaderAt info at (header_of n)
+pub header_back : (n : HeaderNumbers) (info : List ℕ) (at : ℕ) → FitInBytes n → take (header_size n) (drop at info) ≡ header_bytes n → HeaderAt info at (header_of n)
 header_back n info at are e =
     let size = header_size n in
     let long : length (take size (drop at info)) ≡ size = ap length e ∙ length_header n in

@@ -10,10 +10,10 @@ use Rattle.cap_method.specs.declared.handler.HandlerInfo.{HandlerInfo}
 use Rattle.cap_method.specs.MethodFormat.{handler_info, methods_info}
 use Rattle.cap_writing.specs.Writing.{SpellsInPlace}
 use Rattle.cap_writing.proofs.Written.{writes_give, writes_number, writes_piece, writes_then, writes_stands}
-use Rattle.cap_laying.specs.declared.member.Member.{Member}
+use Rattle.cap_laying.specs.declared.member.WrittenMember.{WrittenMember}
 use Rattle.cap_laying.specs.HandlerTable.{active, entry_bytes, table_bytes}
 use Rattle.cap_laying.specs.Member.{body_bytes, body_size, bodies, bytes_if, size_if}
-use Rattle.cap_laying.specs.MethodInfo.{method_info, methods_start, place_in_table, IsSmallEntry, AreSmallEntries, IsWritten}
+use Rattle.cap_laying.specs.MethodInfo.{method_info, methods_start, place_in_table, IsSmallEntry, AreSmallEntries, IsInfoWritten}
 use Rattle.cap_laying.proofs.HeaderLaws.{writes_u1, length_body}
 
 writes_u2 : (total n at : ℕ) → n < 65536 → SpellsInPlace total u2 at (big_bytes 2 n) n
@@ -106,7 +106,7 @@ info_stands es tail few small =
 
 -- ---- each method at its place
 
-pub bodies_there : (table : List (Option Member)) (lead : List ℕ) (at n : ℕ) (m : Member) → length lead ≡ at → slice_index_or table n None ≡ Some m → take (body_size m.body) (drop (place_in_table at table n) (lead ++ bodies table)) ≡ body_bytes m.body
+pub bodies_there : (table : List (Option WrittenMember)) (lead : List ℕ) (at n : ℕ) (m : WrittenMember) → length lead ≡ at → slice_index_or table n None ≡ Some m → take (body_size m.body) (drop (place_in_table at table n) (lead ++ bodies table)) ≡ body_bytes m.body
 bodies_there [] lead at n m l e = absurd (cc)
 bodies_there (None ∷ ms) lead at zero m l e = absurd (cc)
 bodies_there (Some k ∷ ms) lead at zero m l e =
@@ -121,11 +121,11 @@ bodies_there (s ∷ ms) lead at (suc n) m l e =
     let r = bodies_there ms (lead ++ bytes_if s) (at + size_if s) n m (omega arith) e in
     subst (λ xs. take (body_size m.body) (drop (place_in_table (at + size_if s) ms n) xs) ≡ body_bytes m.body) (append_assoc lead (bytes_if s) (bodies ms)) r
   where
-    length_slot : (s : Option Member) → length (bytes_if s) ≡ size_if s
+    length_slot : (s : Option WrittenMember) → length (bytes_if s) ≡ size_if s
     length_slot None = refl
     length_slot (Some m) = length_body m.body
 
-pub info_written : (entries : List HandlerInfo) (table : List (Option Member)) → length entries ≤ 255 → AreSmallEntries entries → IsWritten entries table (method_info entries table)
+pub info_written : (entries : List HandlerInfo) (table : List (Option WrittenMember)) → length entries ≤ 255 → AreSmallEntries entries → IsInfoWritten entries table (method_info entries table)
 info_written entries table few small = record {
   stands = info_stands entries (bodies table) few small;
   bodies = λ n m e. bodies_there table (length entries ∷ table_bytes entries) (methods_start entries) n m (omega (arith, length_table entries)) e;

@@ -4,11 +4,11 @@ use Rattle.std.specs.Prelude.{◌≡◌, ◌<◌, ◌+◌, ◌*◌, ℕ, zero, s
 use Rattle.cap_bytes.specs.Spelling.{Stands}
 use Rattle.cap_method.specs.declared.handler.HandlerInfo.{HandlerInfo}
 use Rattle.cap_method.specs.MethodFormat.{methods_info}
-use Rattle.cap_laying.specs.declared.member.Member.{Member}
+use Rattle.cap_laying.specs.declared.member.WrittenMember.{WrittenMember}
 use Rattle.cap_laying.specs.HandlerTable.{table_bytes}
 use Rattle.cap_laying.specs.Member.{body_bytes, body_size, bodies, size_if}
 
-abbrev pub method_info : List HandlerInfo → List (Option Member) → List ℕ
+abbrev pub method_info : List HandlerInfo → List (Option WrittenMember) → List ℕ
 method_info entries table = length entries ∷ (table_bytes entries ++ bodies table)
 
 -- where the methods begin
@@ -16,7 +16,7 @@ abbrev pub methods_start : List HandlerInfo → ℕ
 methods_start entries = 1 + 8 * length entries
 
 -- the offset at which the n-th method of a table stands, where the first stands at a place
-abbrev pub place_in_table : ℕ → List (Option Member) → ℕ → ℕ
+abbrev pub place_in_table : ℕ → List (Option WrittenMember) → ℕ → ℕ
 place_in_table at [] n = at
 place_in_table at (m ∷ ms) zero = at
 place_in_table at (m ∷ ms) (suc n) = place_in_table (at + size_if m) ms n
@@ -33,7 +33,7 @@ AreSmallEntries [] = Unit {0}
 AreSmallEntries (e ∷ es) = IsSmallEntry e × AreSmallEntries es
 
 -- the info stands for the entries, and each method stands at its place
-pub record IsWritten (entries : List HandlerInfo) (table : List (Option Member)) (info : List ℕ) : Type 0 where
+pub record IsInfoWritten (entries : List HandlerInfo) (table : List (Option WrittenMember)) (info : List ℕ) : Type 0 where
   pub stands : Stands methods_info info entries
-  pub bodies : (n : ℕ) (m : Member) → slice_index_or table n None ≡ Some m
+  pub bodies : (n : ℕ) (m : WrittenMember) → slice_index_or table n None ≡ Some m
       → take (body_size m.body) (drop (place_in_table (methods_start entries) table n) info) ≡ body_bytes m.body

@@ -1,13 +1,13 @@
 ghost use Rattle.std.specs.Prelude.{◌≡◌, ◌≤◌, ◌+◌, ◌++◌, IfOk, OnOk, filter, length};
 ghost use Rattle.std.specs.List.{flat_map};
 ghost use Rattle.std.specs.Option.{option_to_list};
-ghost use Rattle.cap_laying.specs.Blocks.{ArePlacedBodies, IsPlacedBody, blocks, entries_of, firsts, had_none, handler_indexes, total_handlers};
+ghost use Rattle.cap_laying.specs.Blocks.{ArePlacedBodies, IsPlacedBody, blocks, entries_of_blocks, firsts, had_none, handler_indexes, total_handlers};
 ghost use Rattle.cap_laying.specs.HandlerTable.{entries_at, table_bytes};
 ghost use Rattle.cap_laying.specs.Member.{AreWithin, handlers_of, lead_size};
 
 use crate::entries::put_entries;
 use crate::headers::header_size;
-use crate::member::{Body, Member};
+use crate::member::{Body, WrittenMember};
 use cap_renewal::NewMethods;
 use std::alloc::{AllocError, Global};
 
@@ -16,8 +16,8 @@ use std::alloc::{AllocError, Global};
 pub(crate) fn block_order<'a>(
     alloc: Global,
     room: usize,
-    members: &[Member<'a>],
-) -> Result<Vec<Member<'a>>, AllocError>
+    members: &[WrittenMember<'a>],
+) -> Result<Vec<WrittenMember<'a>>, AllocError>
     ensures { IfOk result (λ b. b.items ≡ blocks room members.now) }
 {
     let firsts = firsts(alloc, room, members)?;
@@ -31,8 +31,8 @@ pub(crate) fn block_order<'a>(
 fn firsts<'a>(
     alloc: Global,
     room: usize,
-    members: &[Member<'a>],
-) -> Result<Vec<Option<Member<'a>>>, AllocError>
+    members: &[WrittenMember<'a>],
+) -> Result<Vec<Option<WrittenMember<'a>>>, AllocError>
     ensures { IfOk result (λ f. f.items ≡ firsts room members.now) }
 {
     let mut table = vec![in alloc; None; room]?;
@@ -47,8 +47,8 @@ fn firsts<'a>(
 }
 
 fn put_present<'a>(
-    table: &[Option<Member<'a>>],
-    out: &mut Vec<Member<'a>>,
+    table: &[Option<WrittenMember<'a>>],
+    out: &mut Vec<WrittenMember<'a>>,
 ) -> Result<(), AllocError>
     ensures { OnOk result (out.new.items ≡ out.old.items ++ flat_map option_to_list table.now) }
 {
@@ -60,7 +60,10 @@ fn put_present<'a>(
     Ok(())
 }
 
-fn put_late<'a>(members: &[Member<'a>], out: &mut Vec<Member<'a>>) -> Result<(), AllocError>
+fn put_late<'a>(
+    members: &[WrittenMember<'a>],
+    out: &mut Vec<WrittenMember<'a>>,
+) -> Result<(), AllocError>
     ensures { OnOk result (out.new.items ≡ out.old.items ++ filter had_none members.now) }
 {
     'members: for member in members {
@@ -87,7 +90,7 @@ pub(crate) fn handler_count(body: Body<'_>) -> usize
 pub(crate) fn indexes(
     alloc: Global,
     size: usize,
-    blocks: &[Member<'_>],
+    blocks: &[WrittenMember<'_>],
 ) -> Result<Vec<u16>, AllocError>
     requires within { AreWithin size blocks.now }
     requires few { total_handlers blocks.now ≤ 255 }
@@ -106,12 +109,12 @@ pub(crate) fn indexes(
 /// Appends the handler table of the methods in the order of their blocks. Where there is no memory some
 /// entries may be appended.
 pub(crate) fn put_table(
-    blocks: &[Member<'_>],
+    blocks: &[WrittenMember<'_>],
     news: &NewMethods,
     out: &mut Vec<u8>,
 ) -> Result<(), AllocError>
     requires { ArePlacedBodies news.now blocks.now }
-    ensures { OnOk result (out.new.items ≡ out.old.items ++ table_bytes (entries_of news.now blocks.now)) }
+    ensures { OnOk result (out.new.items ≡ out.old.items ++ table_bytes (entries_of_blocks news.now blocks.now)) }
 {
     'members: for block in blocks {
         put_block(news.offset(block.offset), block.body, out)?;

@@ -2,7 +2,7 @@ ghost use Rattle.std.specs.Prelude.{◌≡◌, ◌<◌, ◌++◌, length, OnOk, 
 ghost use Rattle.cap_laying.specs.Member.{AreWithin, bodies, body_bytes, by_offset};
 
 use crate::headers::put_header;
-use crate::member::{Body, Member};
+use crate::member::{Body, WrittenMember};
 use std::alloc::{AllocError, Global};
 
 /// The methods by the offsets at which they stood, in an info of so many bytes.
@@ -10,8 +10,8 @@ use std::alloc::{AllocError, Global};
 pub(crate) fn by_offset<'a>(
     alloc: Global,
     size: usize,
-    members: &[Member<'a>],
-) -> Result<Vec<Option<Member<'a>>>, AllocError>
+    members: &[WrittenMember<'a>],
+) -> Result<Vec<Option<WrittenMember<'a>>>, AllocError>
     requires { AreWithin size members.now }
     ensures { IfOk result (λ table. table.items ≡ by_offset size members.now) }
 {
@@ -23,7 +23,10 @@ pub(crate) fn by_offset<'a>(
 }
 
 /// Appends the methods, one after the other. Where there is no memory some of them may be appended.
-pub(crate) fn put_bodies(table: &[Option<Member<'_>>], out: &mut Vec<u8>) -> Result<(), AllocError>
+pub(crate) fn put_bodies(
+    table: &[Option<WrittenMember<'_>>],
+    out: &mut Vec<u8>,
+) -> Result<(), AllocError>
     ensures { OnOk result (out.new.items ≡ out.old.items ++ bodies table.now) }
 {
     'methods: for slot in table {

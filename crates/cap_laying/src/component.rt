@@ -5,7 +5,7 @@ ghost use Rattle.cap_laying.specs.WrittenSeen.{WritesMethods};
 
 use crate::blocks::{block_order, handler_count, indexes, put_table};
 use crate::bodies::{by_offset, put_bodies};
-use crate::member::Member;
+use crate::member::WrittenMember;
 use crate::places::{end_of, news};
 use crate::references::references;
 use cap_renewal::NewMethods;
@@ -30,7 +30,7 @@ pub fn write_methods(
     alloc: Global,
     size: usize,
     room: usize,
-    members: &[Member<'_>],
+    members: &[WrittenMember<'_>],
 ) -> Result<Option<Written>, AllocError>
     requires { MayBeWritten size members.now }
     ensures { IfOk result (WritesMethods size room members.now) }
@@ -58,7 +58,7 @@ pub fn write_methods(
 }
 
 /// How many handlers the methods have.
-fn handler_total(blocks: &[Member<'_>]) -> usize
+fn handler_total(blocks: &[WrittenMember<'_>]) -> usize
     requires { total_handlers blocks.now ≤ 255 }
     ensures { result ≡ total_handlers blocks.now }
 {

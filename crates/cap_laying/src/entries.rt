@@ -1,11 +1,11 @@
 ghost use Rattle.std.specs.Prelude.{◌≡◌, ◌≤◌, ◌<◌, ◌+◌, ◌++◌, List, length, OnOk};
 ghost use Rattle.cap_laying.specs.HandlerTable.{AreInside, IsInside, entries_at, handler_entry, entry_bytes, is_in, stops, table_bytes};
 
-use jc_decode::Handler;
+use jc_decode::LaidHandler;
 use std::alloc::AllocError;
 
 /// Whether the range of a handler lies in that of another.
-fn is_in(handler: Handler, outer: Handler) -> bool
+fn is_in(handler: LaidHandler, outer: LaidHandler) -> bool
     ensures { result ≡ is_in handler outer }
 {
     let end = u32::from(handler.start) + u32::from(handler.length);
@@ -13,7 +13,7 @@ fn is_in(handler: Handler, outer: Handler) -> bool
 }
 
 /// The stop bit of a handler, by the later ones of its method.
-fn stops(handler: Handler, later: &[Handler]) -> bool
+fn stops(handler: LaidHandler, later: &[LaidHandler]) -> bool
     ensures { result ≡ stops handler later.now }
 {
     'others: for outer in later {
@@ -30,7 +30,7 @@ fn stops(handler: Handler, later: &[Handler]) -> bool
 pub(crate) fn put_entries(
     start: u16,
     size: usize,
-    handlers: &[Handler],
+    handlers: &[LaidHandler],
     out: &mut Vec<u8>,
 ) -> Result<(), AllocError>
     requires inside { AreInside size handlers.now }
@@ -50,7 +50,7 @@ pub(crate) fn put_entries(
 fn put_entry(
     start: u16,
     size: usize,
-    handler: Handler,
+    handler: LaidHandler,
     stop: bool,
     out: &mut Vec<u8>,
 ) -> Result<(), AllocError>

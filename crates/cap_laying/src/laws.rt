@@ -1,5 +1,5 @@
 ghost use Rattle.cap_laying.specs.Laws.{HeadersReadBack, InfosAreWritten};
-ghost use Rattle.cap_laying.specs.Standing.{MethodsStand};
+ghost use Rattle.cap_laying.specs.Standing.{WrittenMethodsStand};
 
 /// Where the bytes of a header stand, its numbers are read.
 pub fn headers_read_back()
@@ -13,5 +13,5 @@ pub fn infos_are_written()
 
 /// Each of the methods that are written stands at its new offset.
 pub fn methods_stand()
-    ensures { MethodsStand }
+    ensures { WrittenMethodsStand }
 {}

@@ -16,4 +16,4 @@ mod references;
 
 pub use component::{Written, write_methods};
 pub use laws::{headers_read_back, infos_are_written, methods_stand};
-pub use member::{Body, Member};
+pub use member::{Body, WrittenMember};

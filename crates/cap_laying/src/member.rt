@@ -11,7 +11,7 @@ pub enum Body<'a> {
 
 /// A described method of a class.
 #[derive(Clone, Copy)]
-pub struct Member<'a> {
+pub struct WrittenMember<'a> {
     /// Where it stood in the info of the Method component.
     pub offset: u16,
     /// Its first entry of the former handler table, where it had one.

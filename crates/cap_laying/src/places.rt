@@ -1,9 +1,9 @@
 ghost use Rattle.std.specs.Prelude.{◌≡◌, ◌≤◌, ◌<◌, ◌+◌, IfOk, Some, None, MatchOption, length, slice_index};
-ghost use Rattle.cap_laying.specs.Member.{body_size, code_size, end_from, handlers_of};
+ghost use Rattle.cap_laying.specs.Member.{body_size, code_size, methods_end_from, handlers_of};
 ghost use Rattle.cap_laying.specs.NewPlaces.{AreSmallBodies, IsSmallBody, new_method, news_from};
 
 use crate::headers::header_size;
-use crate::member::{Body, Member};
+use crate::member::{Body, WrittenMember};
 use cap_renewal::{NewMethod, NewMethods};
 use std::alloc::{AllocError, Global};
 
@@ -23,10 +23,12 @@ pub(crate) fn body_size(body: Body<'_>) -> usize
 }
 
 /// The offset after the methods, the first of which begins at a place, where it is at most 65,535.
-pub(crate) fn end_of(start: usize, table: &[Option<Member<'_>>]) -> Option<usize>
+pub(crate) fn end_of(start: usize, table: &[Option<WrittenMember<'_>>]) -> Option<usize>
     requires start { start ≤ 65535 }
     requires small { AreSmallBodies table.now }
-    ensures { MatchOption result (65535 < end_from start table.now) (λ end. (end ≡ end_from start table.now) × (end ≤ 65535)) }
+    ensures { MatchOption result
+        (65535 < methods_end_from start table.now)
+        (λ end. (end ≡ methods_end_from start table.now) × (end ≤ 65535)) }
 {
     let mut at = start;
     'methods: for slot in table {
@@ -46,11 +48,11 @@ pub(crate) fn end_of(start: usize, table: &[Option<Member<'_>>]) -> Option<usize
 pub(crate) fn news(
     alloc: Global,
     start: usize,
-    table: &[Option<Member<'_>>],
+    table: &[Option<WrittenMember<'_>>],
     indexes: &[u16],
 ) -> Result<NewMethods, AllocError>
     requires small { AreSmallBodies table.now }
-    requires end { end_from start table.now ≤ 65535 }
+    requires end { methods_end_from start table.now ≤ 65535 }
     ensures { IfOk result (λ news. news ≡ news_from indexes.now start table.now) }
 {
     let mut news = NewMethods::new(alloc);
@@ -68,7 +70,7 @@ pub(crate) fn news(
 }
 
 /// The numbers of a method that stands at a place now.
-fn new_method(indexes: &[u16], at: usize, member: &Member<'_>) -> NewMethod
+fn new_method(indexes: &[u16], at: usize, member: &WrittenMember<'_>) -> NewMethod
     requires at { at ≤ 65535 }
     requires small { IsSmallBody member.now.body }
     ensures { result ≡ new_method indexes.now at member.now }

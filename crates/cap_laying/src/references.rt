@@ -1,6 +1,6 @@
 ghost use Rattle.std.specs.Prelude.{◌≡◌, ◌≤◌, ◌+◌, ◌*◌, length, IfOk, OnOk};
 ghost use Rattle.cap_laying.specs.Blocks.{total_handlers};
-ghost use Rattle.cap_laying.specs.Member.{body_size, end_from, handlers_of, size_if};
+ghost use Rattle.cap_laying.specs.Member.{body_size, methods_end_from, handlers_of, size_if};
 ghost use Rattle.cap_laying.specs.NewPlaces.{AreSmallBodies, IsSmallIf};
 ghost use Rattle.cap_laying.specs.References.{block_catches, body_indices, indices_if, method_indices, references_info};
 ghost use Rattle.cap_locations.specs.Catches.{catch_places};
@@ -8,10 +8,10 @@ ghost use Rattle.cap_locations.specs.Telling.{IsFew, AppendsDistances};
 ghost use Rattle.jc_decode.specs.PoolIndex.{bytes_of_index};
 
 use crate::headers::header_size;
-use crate::member::{Body, Member};
+use crate::member::{Body, WrittenMember};
 use crate::places::body_size;
 use cap_bytes::View;
-use cap_locations::{Told, component_info, tell_catches, tell_indices};
+use cap_locations::{ToldPlaces, component_info, tell_catches, tell_indices};
 use jc_decode::IndexWidth;
 use std::alloc::{AllocError, Global};
 
@@ -20,18 +20,18 @@ use std::alloc::{AllocError, Global};
 pub(crate) fn references(
     alloc: Global,
     start: u16,
-    table: &[Option<Member<'_>>],
-    blocks: &[Member<'_>],
+    table: &[Option<WrittenMember<'_>>],
+    blocks: &[WrittenMember<'_>],
 ) -> Result<Vec<u8>, AllocError>
     requires small { AreSmallBodies table.now }
-    requires end { end_from start table.now ≤ 65535 }
+    requires end { methods_end_from start table.now ≤ 65535 }
     requires few { total_handlers blocks.now ≤ 255 }
     requires order { 1 + 8 * total_handlers blocks.now ≤ start }
     ensures { IfOk result (λ r. r.items ≡ references_info start table.now blocks.now) }
 {
-    let mut byte = Told::new(alloc);
+    let mut byte = ToldPlaces::new(alloc);
     tell_methods(IndexWidth::One, start, table, &mut byte)?;
-    let mut byte2 = Told::new(alloc);
+    let mut byte2 = ToldPlaces::new(alloc);
     tell_blocks(blocks, &mut byte2)?;
     tell_methods(IndexWidth::Two, start, table, &mut byte2)?;
     let info = component_info(alloc, &byte, &byte2)?;
@@ -42,11 +42,11 @@ pub(crate) fn references(
 fn tell_methods(
     width: IndexWidth,
     start: u16,
-    table: &[Option<Member<'_>>],
-    told: &mut Told,
+    table: &[Option<WrittenMember<'_>>],
+    told: &mut ToldPlaces,
 ) -> Result<(), AllocError>
     requires small { AreSmallBodies table.now }
-    requires end { end_from start table.now ≤ 65535 }
+    requires end { methods_end_from start table.now ≤ 65535 }
     requires order { told.old.last ≤ start }
     requires few { IsFew told.old }
     ensures told { OnOk result (AppendsDistances told.old (method_indices (bytes_of_index width) start table.now) told.new) }
@@ -64,8 +64,8 @@ fn tell_methods(
 fn tell_slot(
     width: IndexWidth,
     at: u16,
-    slot: &Option<Member<'_>>,
-    told: &mut Told,
+    slot: &Option<WrittenMember<'_>>,
+    told: &mut ToldPlaces,
 ) -> Result<u16, AllocError>
     requires small { IsSmallIf slot.now }
     requires end { at + size_if slot.now ≤ 65535 }
@@ -87,7 +87,12 @@ fn tell_slot(
 
 /// Tells those in a method that stands at a place.
 #[tactic(auto, using(cap_locations::proofs::Tellings::tells_none))]
-fn tell_body(width: IndexWidth, at: u16, body: Body<'_>, told: &mut Told) -> Result<(), AllocError>
+fn tell_body(
+    width: IndexWidth,
+    at: u16,
+    body: Body<'_>,
+    told: &mut ToldPlaces,
+) -> Result<(), AllocError>
     requires end { at + body_size body ≤ 65535 }
     requires order { told.old.last ≤ at }
     requires few { IsFew told.old }
@@ -105,7 +110,7 @@ fn tell_body(width: IndexWidth, at: u16, body: Body<'_>, told: &mut Told) -> Res
 }
 
 /// Tells the places of the pool numbers of caught classes in the handler table of these blocks.
-fn tell_blocks(blocks: &[Member<'_>], told: &mut Told) -> Result<(), AllocError>
+fn tell_blocks(blocks: &[WrittenMember<'_>], told: &mut ToldPlaces) -> Result<(), AllocError>
     requires few { total_handlers blocks.now ≤ 255 }
     requires order { told.old.last ≤ 1 }
     requires told { IsFew told.old }
@@ -122,7 +127,7 @@ fn tell_blocks(blocks: &[Member<'_>], told: &mut Told) -> Result<(), AllocError>
 
 /// Tells those of a method whose entries begin at a place. The answer is the place after them.
 #[tactic(auto, using(cap_locations::proofs::Tellings::tells_none))]
-fn tell_block(at: u16, body: Body<'_>, told: &mut Told) -> Result<u16, AllocError>
+fn tell_block(at: u16, body: Body<'_>, told: &mut ToldPlaces) -> Result<u16, AllocError>
     requires end { at + 8 * length (handlers_of body) ≤ 65535 }
     requires order { told.old.last ≤ at }
     requires few { IsFew told.old }

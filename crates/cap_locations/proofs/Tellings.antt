@@ -3,11 +3,11 @@ use Rattle.std.proofs.Common.{◌≡◌, ◌≤◌, ◌+◌, ◌-◌, ◌/◌, �
 use Rattle.std.specs.Prelude.{nat_eq}
 use Rattle.std.proofs.lemmas.List.{append-nil, length-replicate}
 use Rattle.std.proofs.Math.Seq.{take-append_seam}
-use Rattle.cap_locations.specs.declared.told.Told.{Told}
+use Rattle.cap_locations.specs.declared.told.ToldPlaces.{ToldPlaces}
 use Rattle.cap_locations.specs.Distances.{distance_bytes, distances, last_of, Rise, places_in}
 use Rattle.cap_locations.specs.Telling.{AppendsDistances, IsFew}
 
-pub tells_none : (told : Told) → AppendsDistances told [] told
+pub tells_none : (told : ToldPlaces) → AppendsDistances told [] told
 tells_none told = record { bytes = sym (append-nil told.bytes.items); last = refl }
 
 pub distances_both : (last : ℕ) (ps qs : List ℕ) → distances last (ps ++ qs) ≡ distances last ps ++ distances (last_of last ps) qs
@@ -19,16 +19,16 @@ last_both last [] qs = refl
 last_both last (p ∷ ps) qs = last_both p ps qs
 
 -- the first of some places are told, and the rest is still to be
-pub told_more : (told new : Told) (xs ys zs whole : List ℕ) → zs ≡ xs ++ ys → AppendsDistances told xs new → told.bytes.items ++ distances told.last zs ≡ whole → new.bytes.items ++ distances new.last ys ≡ whole
+pub told_more : (told new : ToldPlaces) (xs ys zs whole : List ℕ) → zs ≡ xs ++ ys → AppendsDistances told xs new → told.bytes.items ++ distances told.last zs ≡ whole → new.bytes.items ++ distances new.last ys ≡ whole
 told_more told new xs ys zs whole e t h =
     ap (λ bs. bs ++ distances new.last ys) t.bytes ∙ append_assoc told.bytes.items (distances told.last xs) (distances new.last ys)
     ∙ ap (λ l. told.bytes.items ++ (distances told.last xs ++ distances l ys)) t.last ∙ ap (λ bs. told.bytes.items ++ bs) (sym (distances_both told.last xs ys) ∙ ap (distances told.last) (sym e)) ∙ h
 
-pub last_more : (told new : Told) (xs ys zs : List ℕ) (last : ℕ) → zs ≡ xs ++ ys → AppendsDistances told xs new → last_of told.last zs ≡ last → last_of new.last ys ≡ last
+pub last_more : (told new : ToldPlaces) (xs ys zs : List ℕ) (last : ℕ) → zs ≡ xs ++ ys → AppendsDistances told xs new → last_of told.last zs ≡ last → last_of new.last ys ≡ last
 last_more told new xs ys zs last e t h = ap (λ l. last_of l ys) t.last ∙ sym (last_both told.last xs ys) ∙ ap (last_of told.last) (sym e) ∙ h
 
 -- all are told
-pub told_all : (told initial : Told) (zs all : List ℕ) → zs ≡ [] → told.bytes.items ++ distances told.last zs ≡ initial.bytes.items ++ distances initial.last all → last_of told.last zs ≡ last_of initial.last all → AppendsDistances initial all told
+pub told_all : (told initial : ToldPlaces) (zs all : List ℕ) → zs ≡ [] → told.bytes.items ++ distances told.last zs ≡ initial.bytes.items ++ distances initial.last all → last_of told.last zs ≡ last_of initial.last all → AppendsDistances initial all told
 told_all told initial zs all e b l = record {
   bytes = sym (append-nil told.bytes.items) ∙ ap (λ qs. told.bytes.items ++ distances told.last qs) (sym e) ∙ b;
   last = ap (last_of told.last) (sym e) ∙ l;
@@ -94,7 +94,7 @@ read_back last (p ∷ ps) h =
 length_distance : (d : ℕ) → length (distance_bytes d) ≡ d / 255 + 1
 length_distance d = length-append (replicate (d / 255) 255) ((d % 255) ∷ []) ∙ ap (λ n. n + 1) (length-replicate (d / 255) 255)
 
-pub few_more : (old new : Told) (place : ℕ) → IsFew old → old.last < place → AppendsDistances old (place ∷ []) new → IsFew new
+pub few_more : (old new : ToldPlaces) (place : ℕ) → IsFew old → old.last < place → AppendsDistances old (place ∷ []) new → IsFew new
 few_more old new place few lt t =
     let a : length new.bytes.items ≡ length old.bytes.items + length (distance_bytes (place - old.last) ++ []) = ap length t.bytes ∙ length-append old.bytes.items (distance_bytes (place - old.last) ++ []) in
     let b : distance_bytes (place - old.last) ++ [] ≡ distance_bytes (place - old.last) = append-nil (distance_bytes (place - old.last)) in

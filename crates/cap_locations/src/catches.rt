@@ -2,14 +2,18 @@ ghost use Rattle.std.specs.Prelude.{◌≡◌, ◌≤◌, ◌<◌, ◌+◌, ◌*
 ghost use Rattle.cap_locations.specs.Catches.{catch_place, catch_places};
 ghost use Rattle.cap_locations.specs.Telling.{IsFew, AppendsDistances};
 
-use crate::told::Told;
-use jc_decode::Handler;
+use crate::told::ToldPlaces;
+use jc_decode::LaidHandler;
 use std::alloc::AllocError;
 
 /// Tells the places of the pool numbers of caught classes in the entries of handlers, the first of which stands
 /// at an offset of the info of the Method component. Where there is no memory some of them may be told.
 #[tactic(auto, using(crate::proofs::Tellings::tells_none, crate::proofs::Tellings::begun_more, crate::proofs::Tellings::begun_then))]
-pub fn tell_catches(start: u16, handlers: &[Handler], told: &mut Told) -> Result<(), AllocError>
+pub fn tell_catches(
+    start: u16,
+    handlers: &[LaidHandler],
+    told: &mut ToldPlaces,
+) -> Result<(), AllocError>
     requires end { start + 8 * length handlers.now ≤ 65535 }
     requires order { told.old.last ≤ start }
     requires few { IsFew told.old }
@@ -28,7 +32,7 @@ pub fn tell_catches(start: u16, handlers: &[Handler], told: &mut Told) -> Result
 
 /// Tells the place of the pool number in an entry, unless it is 0.
 #[tactic(auto, using(crate::proofs::Tellings::tells_none))]
-fn tell_catch(at: u16, pool: u16, told: &mut Told) -> Result<(), AllocError>
+fn tell_catch(at: u16, pool: u16, told: &mut ToldPlaces) -> Result<(), AllocError>
     requires end { at + 8 ≤ 65535 }
     requires order { told.old.last ≤ at }
     requires few { IsFew told.old }

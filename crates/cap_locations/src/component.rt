@@ -3,12 +3,16 @@ ghost use Rattle.byteorder.specs.Endian.{big_bytes};
 ghost use Rattle.cap_locations.specs.Component.{component_bytes};
 ghost use Rattle.cap_locations.specs.Telling.{IsFew};
 
-use crate::told::Told;
+use crate::told::ToldPlaces;
 use std::alloc::{AllocError, Global};
 
 /// The info of the component: the distances to the indices of one byte, and those to the indices of two.
 #[tactic(auto, using(crate::proofs::Components::steps), unfolding(crate::specs::Component::component_bytes))]
-pub fn component_info(alloc: Global, byte: &Told, byte2: &Told) -> Result<Vec<u8>, AllocError>
+pub fn component_info(
+    alloc: Global,
+    byte: &ToldPlaces,
+    byte2: &ToldPlaces,
+) -> Result<Vec<u8>, AllocError>
     requires byte { IsFew byte.now }
     requires byte2 { IsFew byte2.now }
     ensures { IfOk result (λ info. info.items ≡ component_bytes byte.now.bytes.items byte2.now.bytes.items) }
@@ -21,7 +25,7 @@ pub fn component_info(alloc: Global, byte: &Told, byte2: &Told) -> Result<Vec<u8
 
 /// Appends a list after the number of its bytes.
 #[tactic(auto, using(crate::proofs::Components::steps))]
-fn put_list(told: &Told, out: &mut Vec<u8>) -> Result<(), AllocError>
+fn put_list(told: &ToldPlaces, out: &mut Vec<u8>) -> Result<(), AllocError>
     requires { IsFew told.now }
     ensures { OnOk result (out.new.items ≡ out.old.items ++ (big_bytes 2 (length told.now.bytes.items) ++ told.now.bytes.items)) }
 {

@@ -5,7 +5,7 @@ ghost use Rattle.jc_decode.specs.Encoding.{IsAllowed};
 ghost use Rattle.jc_decode.specs.Listing.{listing};
 ghost use Rattle.jc_decode.specs.PoolIndex.{bytes_of_index, pool_index};
 
-use crate::told::Told;
+use crate::told::ToldPlaces;
 use cap_bytes::View;
 use jc_decode::{IndexWidth, Insn, PoolIndex, decode};
 use std::alloc::AllocError;
@@ -18,7 +18,7 @@ pub fn tell_indices(
     width: IndexWidth,
     start: u16,
     code: View<'_>,
-    told: &mut Told,
+    told: &mut ToldPlaces,
 ) -> Result<(), AllocError>
     requires end { start + length code.bytes.now ≤ 65535 }
     requires order { told.old.last ≤ start }
@@ -38,7 +38,12 @@ pub fn tell_indices(
 
 /// Tells the place of the index of an instruction that stands at a place, where it has one of this width.
 #[tactic(auto, using(crate::proofs::Tellings::tells_none))]
-fn tell_insn(width: IndexWidth, place: u16, insn: Insn, told: &mut Told) -> Result<(), AllocError>
+fn tell_insn(
+    width: IndexWidth,
+    place: u16,
+    insn: Insn,
+    told: &mut ToldPlaces,
+) -> Result<(), AllocError>
     requires allowed { IsAllowed insn }
     requires room { HasIndexInside insn }
     requires end { place + insn.len ≤ 65535 }
@@ -61,7 +66,7 @@ fn tell_index(
     width: IndexWidth,
     place: u16,
     index: PoolIndex,
-    told: &mut Told,
+    told: &mut ToldPlaces,
 ) -> Result<(), AllocError>
     requires end { place + index.at ≤ 65535 }
     requires order { told.old.last < place + index.at }

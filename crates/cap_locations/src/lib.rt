@@ -13,4 +13,4 @@ pub use catches::tell_catches;
 pub use component::component_info;
 pub use indices::tell_indices;
 pub use laws::{components_stand, places_read_back};
-pub use told::Told;
+pub use told::ToldPlaces;

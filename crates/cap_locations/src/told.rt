@@ -6,21 +6,21 @@ use std::alloc::{AllocError, Global};
 
 /// Places that are told by their distances.
 #[derive(Drop)]
-pub struct Told {
+pub struct ToldPlaces {
     /// The last of them, and 0 before the first.
     pub last: u16,
     /// The distances so far.
     pub bytes: Vec<u8>,
 }
 
-impl Told {
+impl ToldPlaces {
     /// No place.
-    pub fn new(alloc: Global) -> Told
+    pub fn new(alloc: Global) -> ToldPlaces
         ensures last { result.last ≡ 0 }
         ensures bytes { result.bytes.items ≡ [] }
         ensures few { IsFew result }
     {
-        Told {
+        ToldPlaces {
             last: 0,
             bytes: Vec::new(alloc),
         }

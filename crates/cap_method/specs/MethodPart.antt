@@ -4,13 +4,13 @@ use Rattle.cap_bytes.specs.Grammar.{repeat}
 use Rattle.cap_bytes.specs.Taking.{given}
 use Rattle.cap_bytes.specs.Spelling.{Spells}
 use Rattle.cap_method.specs.declared.handler.HandlerInfo.{HandlerInfo}
-use Rattle.cap_method.specs.declared.handlers.Handlers.{Handlers}
+use Rattle.cap_method.specs.declared.handlers.HandlerEntries.{HandlerEntries}
 use Rattle.cap_method.specs.declared.header.MethodHeader.{MethodHeader}
 use Rattle.cap_method.specs.declared.method_part.MethodPart.{MethodPart}
 use Rattle.cap_method.specs.MethodFormat.{Header, handler_info, method_header}
 
 -- the entries of the handler table that an iterator has left
-abbrev pub handlers_left : Handlers → List HandlerInfo
+abbrev pub handlers_left : HandlerEntries → List HandlerInfo
 handlers_left x = given [] (repeat x.left handler_info) x.items
 
 -- the handler table

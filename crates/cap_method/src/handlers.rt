@@ -6,7 +6,7 @@ use cap_bytes::Cursor;
 
 /// The entries of the handler table that are left, from the first on.
 #[derive(Clone, Copy, Drop)]
-pub struct Handlers<'a> {
+pub struct HandlerEntries<'a> {
     pub(crate) items: Cursor<'a>,
     pub(crate) left: u8,
     ghost known: { Gives (repeat left handler_info) items },

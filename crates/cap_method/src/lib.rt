@@ -17,7 +17,7 @@ mod static_part;
 pub use array_init::ArrayInit;
 pub use arrays::ArrayInits;
 pub use handler::HandlerInfo;
-pub use handlers::Handlers;
+pub use handlers::HandlerEntries;
 pub use header::MethodHeader;
 pub use method_flags::MethodFlags;
 pub use method_part::MethodPart;

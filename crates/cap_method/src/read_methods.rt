@@ -8,7 +8,7 @@ ghost use Rattle.cap_method.specs.MethodFormat.{Header, handler_info, methods_in
 ghost use Rattle.cap_method.specs.MethodPart.{handlers, handlers_left, header_seen, HeaderAt};
 
 use crate::handler::HandlerInfo;
-use crate::handlers::Handlers;
+use crate::handlers::HandlerEntries;
 use crate::header::MethodHeader;
 use crate::method_flags::MethodFlags;
 use crate::method_part::MethodPart;
@@ -54,7 +54,7 @@ fn read(info: View<'_>) -> Result<MethodPart<'_>, FormFault>
 {
     let mut items = Cursor::of(info, METHOD);
     let left = items.u1()?;
-    let handlers = Handlers { items, left };
+    let handlers = HandlerEntries { items, left };
     pass_handlers(&mut items, left)?;
     let _methods = items.rest();
     Ok(MethodPart { info, handlers })
@@ -72,7 +72,7 @@ pub fn methods(info: View<'_>) -> Result<MethodPart<'_>, FormFault>
     read(info)
 }
 
-impl<'a> Iterator for Handlers<'a> {
+impl<'a> Iterator for HandlerEntries<'a> {
     type Item = HandlerInfo;
 
     ghost next_gives = { YieldsFirst handlers_left };
@@ -87,7 +87,7 @@ impl<'a> Iterator for Handlers<'a> {
         let mut items = self.items;
         match handler(&mut items) {
             Ok(handler) => {
-                *self = Handlers {
+                *self = HandlerEntries {
                     items,
                     left: self.left - 1,
                 };
@@ -144,7 +144,7 @@ impl<'a> MethodPart<'a> {
     }
 
     /// The handler table, in order.
-    pub fn handlers(&self) -> Handlers<'a>
+    pub fn handlers(&self) -> HandlerEntries<'a>
         ensures table { handlers_left result ≡ handlers self.now }
         ensures few { length (handlers self.now) ≤ 255 }
     {

@@ -18,7 +18,8 @@ use Rattle.cap_components.specs.PackageRecord.{described_methods, interface_meth
 use Rattle.cap_components.specs.PartChecks.{missing, form_fault, custom_tags, size_fault, components, absent_fault, sized_fault, required, optional}
 use Rattle.cap_package.specs.MethodChecks.{overlap_pair, outside_fault}
 use Rattle.cap_package.specs.HeaderChecks.{registers_fault, length_fault, arguments_fault, abstract_fault}
-use Rattle.cap_package.specs.HandlerChecks.{numbered, numbered_fault, claim_fault}
+use Rattle.cap_package.specs.HandlerChecks.{numbered_fault, claim_fault}
+use Rattle.std.specs.List.{enumerate_from}
 use Rattle.cap_package.specs.StaticChecks.{share_pair, image_fault, array_kinds, filled_fault, is_static_at, no_static_fault}
 use Rattle.cap_package.specs.NameChecks.{is_method_at, no_method_fault, no_entry_fault, table_entries, exported_methods, exported_fields, undescribed_fault, undescribed_class_fault, not_own_fault}
 use Rattle.cap_package.specs.TypeChecks.{field_type_fault, method_type_fault}
@@ -55,7 +56,7 @@ counts-told p =
 members-told : (p : PackageRecord) → IsTold pack_place (members_agree p) (member_lists p)
 unfolding members_agree
 members-told p =
-    step pack_place (both-told pack_place (numbered_fault p.methods.info (described_methods p)) (numbered 0 p.methods.handlers) (claim_fault (length p.methods.handlers)) (described_methods p))
+    step pack_place (both-told pack_place (numbered_fault p.methods.info (described_methods p)) (enumerate_from 0 p.methods.handlers) (claim_fault (length p.methods.handlers)) (described_methods p))
     (step pack_place (things-told pack_place (share_pair p.description) (pairs (fields p)))
     (step pack_place (three-told pack_place (no_entry_fault (is_method_at (described_methods p))) (table_entries p.classes) (no_method_fault (is_method_at (described_methods p))) (exported_methods (or_none p.export)) (no_method_fault (is_method_at (described_methods p))) (map (λ (a : Applet). a.install) (or_none p.applets)))
     (step pack_place (three-told pack_place (undescribed_fault p.description.items.classes) p.classes (not_own_fault p.classes) (map (λ (d : described.ClassDescriptor). d.class_ref) p.description.items.classes) (undescribed_class_fault p.classes) (map (λ (c : Exported). c.class_offset) (or_none p.export)))

@@ -7,7 +7,8 @@ use Rattle.cap_desc.specs.DescriptorFormat.{MethodDescriptor}
 use Rattle.cap_components.specs.declared.fault.PackFault.{PackFault}
 use Rattle.cap_components.specs.declared.fault.PackFault.TheVariants.{HandlerOutside}
 use Rattle.cap_components.specs.Order.{lesser, least_from, least_of}
-use Rattle.cap_package.specs.HandlerChecks.{claims, owners, is_within, has_home, handler_fault, numbered, numbered_fault}
+use Rattle.cap_package.specs.HandlerChecks.{claims, owners, is_within, has_home, handler_fault, numbered_fault}
+use Rattle.std.specs.List.{enumerate_from}
 use Rattle.cap_package.specs.HandlerClaims.{Claimed, none_claimed, claim_one, claim_table, home_fault}
 use Rattle.cap_package.proofs.Neighbours.{Has}
 
@@ -63,12 +64,12 @@ there info m c k n h apart = there_by c k n (claims k m) (is_within info h m) (n
 
 -- entries from a number on leave those before it
 before : (info : List ℕ) (m : MethodDescriptor) (c : Claimed) (k n : ℕ) (hs : List HandlerInfo) → n < k →
-    entry (claim_table info (numbered k hs) c m) n ≡ entry c n
+    entry (claim_table info (enumerate_from k hs) c m) n ≡ entry c n
 before info m c k n [] lt = refl
 before info m c k n (h ∷ hs) lt =
     before info m (claim_one info m c (k, h)) (k + 1) n hs (omega arith) ∙ there info m c k n h (λ same. omega (arith, same, lt))
 
-from_on : (n k : ℕ) (h : HandlerInfo) (hs : List HandlerInfo) → Has {X = ℕ × HandlerInfo} (n, h) (numbered k hs) → k ≤ n
+from_on : (n k : ℕ) (h : HandlerInfo) (hs : List HandlerInfo) → Has {X = ℕ × HandlerInfo} (n, h) (enumerate_from k hs) → k ≤ n
 from_on n k h [] has = absurd has
 from_on n k h (g ∷ hs) (inl same) =
     let e : n ≡ k = ap (λ (p : ℕ × HandlerInfo). p.0) same in
@@ -78,8 +79,8 @@ from_on n k h (g ∷ hs) (inr has) =
     omega (arith, le)
 
 claimed_table : (info : List ℕ) (m : MethodDescriptor) (c : Claimed) (n k : ℕ) (h : HandlerInfo) (hs : List HandlerInfo) →
-    Has {X = ℕ × HandlerInfo} (n, h) (numbered k hs) →
-    entry (claim_table info (numbered k hs) c m) n ≡ after (claims n m) (is_within info h m) (entry c n)
+    Has {X = ℕ × HandlerInfo} (n, h) (enumerate_from k hs) →
+    entry (claim_table info (enumerate_from k hs) c m) n ≡ after (claims n m) (is_within info h m) (entry c n)
 claimed_table info m c n k h [] has = absurd has
 claimed_table info m c n k h (g ∷ hs) (inl same) =
     let e : n ≡ k = ap (λ (p : ℕ × HandlerInfo). p.0) same in
@@ -98,11 +99,11 @@ abbrev afters : List ℕ → ℕ → HandlerInfo → Entry → List MethodDescri
 afters info n h = fold (λ e m. after (claims n m) (is_within info h m) e)
 
 claimed_all : (info : List ℕ) (ms : List MethodDescriptor) (c : Claimed) (n : ℕ) (h : HandlerInfo) (hs : List HandlerInfo) →
-    Has {X = ℕ × HandlerInfo} (n, h) (numbered 0 hs) →
-    entry (fold (claim_table info (numbered 0 hs)) c ms) n ≡ afters info n h (entry c n) ms
+    Has {X = ℕ × HandlerInfo} (n, h) (enumerate_from 0 hs) →
+    entry (fold (claim_table info (enumerate_from 0 hs)) c ms) n ≡ afters info n h (entry c n) ms
 claimed_all info [] c n h hs has = refl
 claimed_all info (m ∷ ms) c n h hs has =
-    claimed_all info ms (claim_table info (numbered 0 hs) c m) n h hs has
+    claimed_all info ms (claim_table info (enumerate_from 0 hs) c m) n h hs has
     ∙ ap (λ e. afters info n h e ms) (claimed_table info m c n 0 h hs has)
 
 abbrev is_none : {X : Type 0} → List X → Bool
@@ -157,8 +158,8 @@ module _ (info : List ℕ) (n : ℕ) (h : HandlerInfo) where
 
 -- ---- the table's faults
 
-home_told : (info : List ℕ) (ms : List MethodDescriptor) (hs : List HandlerInfo) (p : ℕ × HandlerInfo) → Has p (numbered 0 hs) →
-    home_fault (fold (claim_table info (numbered 0 hs)) none_claimed ms) p ≡ numbered_fault info ms p
+home_told : (info : List ℕ) (ms : List MethodDescriptor) (hs : List HandlerInfo) (p : ℕ × HandlerInfo) → Has p (enumerate_from 0 hs) →
+    home_fault (fold (claim_table info (enumerate_from 0 hs)) none_claimed ms) p ≡ numbered_fault info ms p
 unfolding handler_fault owners
 home_told info ms hs p has =
     ap (λ b. cond b None (Some (HandlerOutside p.0)))
@@ -173,14 +174,14 @@ same_faults f g (x ∷ xs) least same =
     ∙ same_faults f g xs (lesser least (g x)) (λ y has. same y (inr has))
 
 pub homes_told : (info : List ℕ) (ms : List MethodDescriptor) (hs : List HandlerInfo) (c : Claimed) →
-    c ≡ fold (claim_table info (numbered 0 hs)) none_claimed ms →
-    least_of (home_fault c) (numbered 0 hs) ≡ least_of (numbered_fault info ms) (numbered 0 hs)
+    c ≡ fold (claim_table info (enumerate_from 0 hs)) none_claimed ms →
+    least_of (home_fault c) (enumerate_from 0 hs) ≡ least_of (numbered_fault info ms) (enumerate_from 0 hs)
 homes_told info ms hs c e =
-    ap (λ (d : Claimed). least_of (home_fault d) (numbered 0 hs)) e
-    ∙ same_faults (home_fault (fold (claim_table info (numbered 0 hs)) none_claimed ms)) (numbered_fault info ms) (numbered 0 hs)
+    ap (λ (d : Claimed). least_of (home_fault d) (enumerate_from 0 hs)) e
+    ∙ same_faults (home_fault (fold (claim_table info (enumerate_from 0 hs)) none_claimed ms)) (numbered_fault info ms) (enumerate_from 0 hs)
     None (home_told info ms hs)
 
-pub no_entries : (hs : List HandlerInfo) (f : ℕ × HandlerInfo → Option PackFault) → length hs ≡ 0 → None ≡ least_of f (numbered 0 hs)
+pub no_entries : (hs : List HandlerInfo) (f : ℕ × HandlerInfo → Option PackFault) → length hs ≡ 0 → None ≡ least_of f (enumerate_from 0 hs)
 no_entries [] f e = refl
 no_entries (h ∷ hs) f e = absurd cc
 

@@ -7,7 +7,7 @@ use Rattle.cap_components.specs.Parts.{Lent}
 use Rattle.cap_components.specs.PackageRecord.{PackageRecord}
 use Rattle.cap_components.specs.ReadPackage.{read_package}
 use Rattle.cap_components.specs.Components.{info_in}
-use Rattle.cap_components.specs.Saying.{Holds, Says, SaysIf}
+use Rattle.cap_components.specs.Saying.{HoldsComponent, Says, SaysIf}
 use Rattle.cap_components.proofs.Saying.{info-read, said-read, fails-read}
 use Rattle.cap_package.specs.Agreement.{package_from}
 use Rattle.first_fault.specs.First.{IsFirst, IsLeast}
@@ -53,10 +53,10 @@ same_info : (i j : List ℕ) (r : Result (List ℕ) PackFault) → r ≡ Ok i �
 same_info i j r e h = cc
 
 -- the info among the parts is the one that stands for the items
-pub holds-info : {X : Type 0} (parts : List Lent) (tag : ℕ) (g : Grammar X) (info : List ℕ) (items : X) → Says parts tag g items → info_in parts tag ≡ Ok info → Holds parts tag g info items
-holds-info parts tag g info items s e = subst (λ i. Holds parts tag g i items) (same_info s.0 info (info_in parts tag) (info-read parts tag g s.0 items s.1) e) s.1
+pub holds-info : {X : Type 0} (parts : List Lent) (tag : ℕ) (g : Grammar X) (info : List ℕ) (items : X) → Says parts tag g items → info_in parts tag ≡ Ok info → HoldsComponent parts tag g info items
+holds-info parts tag g info items s e = subst (λ i. HoldsComponent parts tag g i items) (same_info s.0 info (info_in parts tag) (info-read parts tag g s.0 items s.1) e) s.1
 
-pub holds-if : {R X : Type 0} (view : R → X) (bytes : R → List ℕ) (parts : List Lent) (tag : ℕ) (g : Grammar X) (o : Option R) → SaysIf parts tag g (option_map view o) → IfSome o (λ x. info_in parts tag ≡ Ok (bytes x)) → IfSome o (λ x. Holds parts tag g (bytes x) (view x))
+pub holds-if : {R X : Type 0} (view : R → X) (bytes : R → List ℕ) (parts : List Lent) (tag : ℕ) (g : Grammar X) (o : Option R) → SaysIf parts tag g (option_map view o) → IfSome o (λ x. info_in parts tag ≡ Ok (bytes x)) → IfSome o (λ x. HoldsComponent parts tag g (bytes x) (view x))
 holds-if view bytes parts tag g None s e = tt
 holds-if view bytes parts tag g (Some x) s e = holds-info parts tag g (bytes x) (view x) s e
 

@@ -16,7 +16,8 @@ use Rattle.cap_components.specs.ReadPackage.{read_whole}
 use Rattle.cap_components.specs.PartChecks.{form_fault, size_fault, components, custom_tags}
 use Rattle.cap_package.specs.MethodChecks.{overlap_pair, outside_fault}
 use Rattle.cap_package.specs.HeaderChecks.{registers_fault, length_fault, arguments_fault, abstract_fault}
-use Rattle.cap_package.specs.HandlerChecks.{numbered, numbered_fault, claim_fault}
+use Rattle.cap_package.specs.HandlerChecks.{numbered_fault, claim_fault}
+use Rattle.std.specs.List.{enumerate_from}
 use Rattle.cap_package.specs.StaticChecks.{share_pair, image_fault, array_kinds, filled_fault, is_static_at, no_static_fault}
 use Rattle.cap_package.specs.NameChecks.{is_method_at, no_method_fault, no_entry_fault, table_entries, exported_methods, exported_fields, undescribed_fault, undescribed_class_fault, not_own_fault}
 use Rattle.cap_package.specs.TypeChecks.{field_type_fault, method_type_fault}
@@ -53,7 +54,7 @@ abstract_condition p = least_of (abstract_fault p.methods.info) (described_metho
 
 abbrev pub handler_condition : PackageRecord → Option PackFault
 handler_condition p =
-    least_from (least_of (numbered_fault p.methods.info (described_methods p)) (numbered 0 p.methods.handlers))
+    least_from (least_of (numbered_fault p.methods.info (described_methods p)) (enumerate_from 0 p.methods.handlers))
     (claim_fault (length p.methods.handlers)) (described_methods p)
 
 abbrev pub static_condition : PackageRecord → Option PackFault

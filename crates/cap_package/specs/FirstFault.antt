@@ -20,7 +20,8 @@ use Rattle.cap_components.specs.Saying.{AreSaid, IsFirstFailingPart}
 use Rattle.cap_components.specs.PartChecks.{required, optional, absent_fault, sized_fault, form_fault, size_fault, components, custom_tags}
 use Rattle.cap_package.specs.MethodChecks.{overlap_pair, outside_fault}
 use Rattle.cap_package.specs.HeaderChecks.{registers_fault, length_fault, arguments_fault, abstract_fault}
-use Rattle.cap_package.specs.HandlerChecks.{numbered, numbered_fault, claim_fault}
+use Rattle.cap_package.specs.HandlerChecks.{numbered_fault, claim_fault}
+use Rattle.std.specs.List.{enumerate_from}
 use Rattle.cap_package.specs.StaticChecks.{share_pair, image_fault, array_kinds, filled_fault, is_static_at, no_static_fault}
 use Rattle.cap_package.specs.NameChecks.{is_method_at, no_method_fault, no_entry_fault, table_entries, exported_methods, exported_fields, undescribed_fault, undescribed_class_fault, not_own_fault}
 use Rattle.cap_package.specs.TypeChecks.{field_type_fault, method_type_fault}
@@ -65,7 +66,7 @@ count_lists p =
 abbrev pub member_lists : PackageRecord → List (List PackFault)
 member_lists p =
     -- handlers
-    (at_fault (numbered_fault p.methods.info (described_methods p)) (numbered 0 p.methods.handlers)
+    (at_fault (numbered_fault p.methods.info (described_methods p)) (enumerate_from 0 p.methods.handlers)
     ++ at_fault (claim_fault (length p.methods.handlers)) (described_methods p))
     -- static fields that share a byte
     ∷ at_fault (share_pair p.description) (pairs (fields p))

@@ -34,10 +34,5 @@ unfoldable pub claim_fault : ℕ → MethodDescriptor → Option PackFault
 claim_fault count m = if not (m.handler_count == 0) && nat_lt count (m.handler_index + m.handler_count)
     then Some (HandlerOutside (max m.handler_index count)) else None
 
--- things with their numbers, from a number on
-abbrev pub numbered : {X : Type 0} → ℕ → List X → List (ℕ × X)
-numbered n [] = []
-numbered n (x ∷ xs) = (n, x) ∷ numbered (n + 1) xs
-
 abbrev pub numbered_fault : List ℕ → List MethodDescriptor → ℕ × HandlerInfo → Option PackFault
 numbered_fault info methods p = handler_fault info methods p.0 p.1

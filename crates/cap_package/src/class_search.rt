@@ -3,7 +3,7 @@ ghost use Rattle.offset_set.specs.Bits.{holds};
 ghost use Rattle.cap_class.specs.ClassPart.{class_seen, records};
 ghost use Rattle.cap_package.specs.ClassSearch.{record_at, Serves};
 
-use cap_class::{ClassInfo, ClassPart, Classes};
+use cap_class::{ClassInfo, ClassInfos, ClassPart};
 use offset_set::Offsets;
 
 /// The class records by their offsets. Those that are asked for in the order of the component are read once.
@@ -11,7 +11,7 @@ use offset_set::Offsets;
 pub(crate) struct ClassSearch<'a> {
     classes: ClassPart<'a>,
     /// The records from which the next is looked for, and the offsets of those before them.
-    rest: Classes<'a>,
+    rest: ClassInfos<'a>,
     passed: Offsets,
 }
 

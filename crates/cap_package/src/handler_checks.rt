@@ -4,7 +4,8 @@ ghost use Rattle.cap_desc.specs.MemberRecords.{method_seen};
 ghost use Rattle.cap_desc.specs.MembersLeft.{methods_but_left};
 ghost use Rattle.cap_components.specs.declared.fault.PackFault.TheVariants.{HandlerOutside};
 ghost use Rattle.cap_components.specs.Order.{least_of, least_from, refused};
-ghost use Rattle.cap_package.specs.HandlerChecks.{claim_fault, numbered, numbered_fault};
+ghost use Rattle.cap_package.specs.HandlerChecks.{claim_fault, numbered_fault};
+ghost use Rattle.std.specs.List.{enumerate_from};
 ghost use Rattle.cap_package.specs.HandlerClaims.{claims_seen, claim_table, none_claimed, home_fault};
 
 use crate::handler_claims::HandlerClaims;
@@ -30,7 +31,7 @@ fn claim_fault(count: u8, method: &MethodInfo) -> Option<PackFault>
 fn claimed(methods: &MethodPart<'_>, described: MethodsBut<'_, '_>) -> HandlerClaims
     ensures { claims_seen result
         ≡ fold
-        (claim_table methods.now.info.bytes.now (numbered 0 (handlers methods.now)))
+        (claim_table methods.now.info.bytes.now (enumerate_from 0 (handlers methods.now)))
         none_claimed
         (methods_but_left described.entry) }
 {
@@ -61,7 +62,7 @@ fn entry_faults(methods: &MethodPart<'_>, described: MethodsBut<'_, '_>) -> Opti
     ensures { result
         ≡ least_of
         (numbered_fault methods.now.info.bytes.now (methods_but_left described.entry))
-        (numbered 0 (handlers methods.now)) }
+        (enumerate_from 0 (handlers methods.now)) }
 {
     let count = methods.handler_count();
     // Where the table is empty, no entry is at fault, whatever the methods claim.
@@ -86,7 +87,7 @@ pub(crate) fn handlers_at_home(
     described: MethodsBut<'_, '_>,
 ) -> Result<(), PackFault>
     ensures { result ≡ refused (least_from
-        (least_of (numbered_fault methods.now.info.bytes.now (methods_but_left described.entry)) (numbered 0 (handlers methods.now)))
+        (least_of (numbered_fault methods.now.info.bytes.now (methods_but_left described.entry)) (enumerate_from 0 (handlers methods.now)))
         (claim_fault (length (handlers methods.now))) (methods_but_left described.entry)) }
 {
     let count = methods.handler_count();

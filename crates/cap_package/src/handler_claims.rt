@@ -1,13 +1,14 @@
 ghost use Rattle.std.specs.Prelude.{◌≡◌, ◌≤◌, length};
 ghost use Rattle.cap_method.specs.MethodPart.{handlers_left};
 ghost use Rattle.cap_desc.specs.MemberRecords.{method_seen};
-ghost use Rattle.cap_package.specs.HandlerChecks.{claims, is_within, numbered};
+ghost use Rattle.cap_package.specs.HandlerChecks.{claims, is_within};
+ghost use Rattle.std.specs.List.{enumerate_from};
 ghost use Rattle.cap_package.specs.HandlerClaims.{claims_seen, none_claimed, claim_one, claim_table, is_home};
 
 use cap_bytes::View;
 use cap_components::{code_end, code_start};
 use cap_desc::MethodInfo;
-use cap_method::{HandlerInfo, Handlers};
+use cap_method::{HandlerEntries, HandlerInfo};
 use offset_set::{Offsets, Tally};
 
 /// The entries of the handler table as methods claim them.
@@ -68,13 +69,13 @@ impl HandlerClaims {
     pub(crate) fn claim_table(
         &mut self,
         info: View<'_>,
-        handlers: Handlers<'_>,
+        handlers: HandlerEntries<'_>,
         method: &MethodInfo,
     )
         requires { length (handlers_left handlers) ≤ 255 }
         ensures { claims_seen self.new
             ≡ claim_table info.entry.bytes.now
-            (numbered 0 (handlers_left handlers.entry))
+            (enumerate_from 0 (handlers_left handlers.entry))
             (claims_seen self.old)
             (method_seen method.now) }
     {

@@ -19,7 +19,7 @@ ghost use Rattle.cap_class.specs.ClassPart.{records};
 ghost use Rattle.cap_method.specs.StaticPart.{statics_seen};
 ghost use Rattle.cap_components.specs.Components.{info_in};
 ghost use Rattle.cap_components.specs.ComponentsSeen.{components_seen};
-ghost use Rattle.cap_components.specs.Saying.{Holds};
+ghost use Rattle.cap_components.specs.Saying.{HoldsComponent};
 ghost use Rattle.cap_package.specs.Customs.{custom_in, info_or_none};
 ghost use Rattle.cap_package.specs.CustomSeen.{custom_items};
 ghost use Rattle.cap_components.specs.Descriptions.{description};
@@ -52,7 +52,7 @@ impl<'p, 'a> Package<'p, 'a> {
     /// The Header component.
     pub fn header(&self) -> Header<'a>
         ensures items { header_items result ≡ self.now.header }
-        ensures info { Holds self.now.parts 1 header_info result.info.bytes.now self.now.header }
+        ensures info { HoldsComponent self.now.parts 1 header_info result.info.bytes.now self.now.header }
     {
         self.all.header
     }
@@ -60,7 +60,7 @@ impl<'p, 'a> Package<'p, 'a> {
     /// The Directory component.
     pub fn directory(&self) -> Directory<'a>
         ensures items { directory_items result ≡ self.now.directory }
-        ensures info { Holds self.now.parts 2 (directory_info self.now.header.format) result.info.bytes.now self.now.directory }
+        ensures info { HoldsComponent self.now.parts 2 (directory_info self.now.header.format) result.info.bytes.now self.now.directory }
     {
         self.all.directory
     }
@@ -68,7 +68,7 @@ impl<'p, 'a> Package<'p, 'a> {
     /// The Import component.
     pub fn imports(&self) -> Imports<'a>
         ensures items { packages result ≡ self.now.imports }
-        ensures info { Holds self.now.parts 4 imports_info result.info.bytes.now self.now.imports }
+        ensures info { HoldsComponent self.now.parts 4 imports_info result.info.bytes.now self.now.imports }
     {
         self.all.imports
     }
@@ -76,7 +76,7 @@ impl<'p, 'a> Package<'p, 'a> {
     /// The ConstantPool component.
     pub fn pool(&self) -> Pool<'a>
         ensures items { entries result ≡ self.now.pool }
-        ensures info { Holds self.now.parts 5 pool_info result.info.bytes.now self.now.pool }
+        ensures info { HoldsComponent self.now.parts 5 pool_info result.info.bytes.now self.now.pool }
     {
         self.all.pool
     }
@@ -84,7 +84,7 @@ impl<'p, 'a> Package<'p, 'a> {
     /// The Class component.
     pub fn classes(&self) -> ClassPart<'a>
         ensures items { records result ≡ self.now.classes }
-        ensures info { Holds self.now.parts 6 (classes_info self.now.header.format) result.info.bytes.now self.now.classes }
+        ensures info { HoldsComponent self.now.parts 6 (classes_info self.now.header.format) result.info.bytes.now self.now.classes }
     {
         self.all.classes
     }
@@ -99,7 +99,7 @@ impl<'p, 'a> Package<'p, 'a> {
     /// The StaticField component.
     pub fn statics(&self) -> StaticPart<'a>
         ensures items { statics_seen result ≡ self.now.statics }
-        ensures info { Holds self.now.parts 8 statics_info result.info.bytes.now self.now.statics }
+        ensures info { HoldsComponent self.now.parts 8 statics_info result.info.bytes.now self.now.statics }
     {
         self.all.statics
     }
@@ -119,7 +119,7 @@ impl<'p, 'a> Package<'p, 'a> {
     /// The ReferenceLocation component.
     pub fn locations(&self) -> Locations<'a>
         ensures items { location_items result ≡ self.now.locations }
-        ensures info { Holds self.now.parts 9 locations_info result.info.bytes.now self.now.locations }
+        ensures info { HoldsComponent self.now.parts 9 locations_info result.info.bytes.now self.now.locations }
     {
         self.all.locations
     }
@@ -134,7 +134,7 @@ impl<'p, 'a> Package<'p, 'a> {
     /// The Applet component, where it is there.
     pub fn applets(&self) -> Option<Applets<'a>>
         ensures items { option_map applets_of result ≡ self.now.applets }
-        ensures info { IfSome result (λ x. Holds self.now.parts 3 applets_info x.info.bytes.now (applets_of x)) }
+        ensures info { IfSome result (λ x. HoldsComponent self.now.parts 3 applets_info x.info.bytes.now (applets_of x)) }
     {
         self.all.applets
     }
@@ -142,7 +142,7 @@ impl<'p, 'a> Package<'p, 'a> {
     /// The Export component, where it is there.
     pub fn export(&self) -> Option<Export<'a>>
         ensures items { option_map exported result ≡ self.now.export }
-        ensures info { IfSome result (λ x. Holds self.now.parts 10 export_info x.info.bytes.now (exported x)) }
+        ensures info { IfSome result (λ x. HoldsComponent self.now.parts 10 export_info x.info.bytes.now (exported x)) }
     {
         self.all.export
     }

@@ -12,7 +12,7 @@ use Rattle.cap_writing.specs.Renewal.{Renews, IsEdited, AreSame}
 use Rattle.cap_writing.proofs.Same.{spelled_same, same_part}
 use Rattle.cap_writing.proofs.Patches.{edited_split, edited_last, inside_to, inside_from}
 use Rattle.cap_renewal.specs.declared.new_methods.NewMethod.{NewMethod}
-use Rattle.cap_renewal.specs.NewMethods.{AreBytes, AreSmall, IsSmall, numbers_of}
+use Rattle.cap_renewal.specs.NewMethods.{AreBytes, AreSmall, IsSmall, new_numbers}
 use Rattle.cap_renewal.specs.DescriptorEdits.{method_by, renewed_method, edits_to, method_edits, method_width, methods_edits, before_methods, renewed_class, class_edits, class_width, descriptor_edits, renewed_descriptor}
 use Rattle.cap_renewal.proofs.Items.{IsItem, IsFit, all_inside, all_fit, all_renewed, all_wide, IsRenewing, has_more}
 use Rattle.cap_renewal.proofs.Numbers.{number_small, wide_u2}
@@ -94,7 +94,7 @@ pub method_item : (news : List (Option NewMethod)) (bytes : List ℕ) → IsItem
 method_item news bytes = record {
   wide = λ at m after h. (has_method bytes at m after h).end;
   inside = λ at m after h. let e = (has_method bytes at m after h).end in (omega arith, (omega arith, (omega arith, (omega arith, omega arith))));
-  renewed = λ out at m after len h ed. method_made out at (renewed_method news m) after (edited_method bytes out at m (numbers_of news m) after len (has_method bytes at m after h) ed);
+  renewed = λ out at m after len h ed. method_made out at (renewed_method news m) after (edited_method bytes out at m (new_numbers news m) after len (has_method bytes at m after h) ed);
 }
 
 method_fit : (news : List (Option NewMethod)) (bytes : List ℕ) → AreBytes bytes → AreSmall news → IsFit method_descriptor_info (method_edits news) bytes
@@ -102,7 +102,7 @@ unfolding Spells
 method_fit news bytes are small = record {
   fit = λ at m after h.
       let p = has_method bytes at m after h in
-      let s : IsSmall (numbers_of news m) = small_numbers news m small (number_small (at + 2) bytes m.method_offset are p.offset.0) (number_small (at + 6) bytes m.bytecode_count are p.bytecodes.0)
+      let s : IsSmall (new_numbers news m) = small_numbers news m small (number_small (at + 2) bytes m.method_offset are p.offset.0) (number_small (at + 6) bytes m.bytecode_count are p.bytecodes.0)
       (number_small (at + 8) bytes m.handler_count are p.handlers.0) (number_small (at + 10) bytes m.handler_index are p.index.0) in
       (s.offset, (s.bytecode_count, (s.handler_count, (s.handler_index, tt))));
 }

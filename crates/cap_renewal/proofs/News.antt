@@ -2,7 +2,7 @@
 use Rattle.std.proofs.Common.{◌<◌, ℕ, zero, suc, List, [], ◌∷◌, ◌++◌, Option, Some, None}
 use Rattle.cap_renewal.specs.declared.new_methods.NewMethod.{NewMethod}
 use Rattle.cap_desc.specs.DescriptorFormat.{MethodDescriptor}
-use Rattle.cap_renewal.specs.NewMethods.{at_offset, offset_or, to, numbers_or, numbers_of, IsSmall, IsSmallIf, AreSmall, KeepsSmall}
+use Rattle.cap_renewal.specs.NewMethods.{at_offset, offset_or, to, numbers_or, new_numbers, IsSmall, IsSmallIf, AreSmall, KeepsSmall}
 
 small_or : (n : Option NewMethod) (o : ℕ) → IsSmallIf n → o < 65536 → offset_or o n < 65536
 small_or None o s h = h
@@ -34,6 +34,6 @@ small_by : (m : MethodDescriptor) (n : Option NewMethod) → IsSmallIf n → m.m
 small_by m None s a b c d = record { offset = a; bytecode_count = b; handler_count = c; handler_index = d }
 small_by m (Some n) s a b c d = s
 
-pub small_numbers : (news : List (Option NewMethod)) (m : MethodDescriptor) → AreSmall news → m.method_offset < 65536 → m.bytecode_count < 65536 → m.handler_count < 65536 → m.handler_index < 65536 → IsSmall (numbers_of news m)
-unfolding numbers_of
+pub small_numbers : (news : List (Option NewMethod)) (m : MethodDescriptor) → AreSmall news → m.method_offset < 65536 → m.bytecode_count < 65536 → m.handler_count < 65536 → m.handler_index < 65536 → IsSmall (new_numbers news m)
+unfolding new_numbers
 small_numbers news m s a b c d = small_by m (at_offset news m.method_offset) (s.each m.method_offset) a b c d

@@ -5,7 +5,7 @@ use Rattle.cap_desc.specs.DescriptorFormat.{MethodDescriptor}
 use Rattle.cap_writing.specs.Edit.{patched, patched_all}
 use Rattle.cap_writing.proofs.Patches.{patched_append}
 use Rattle.cap_renewal.specs.declared.new_methods.NewMethod.{NewMethod}
-use Rattle.cap_renewal.specs.NewMethods.{numbers_of}
+use Rattle.cap_renewal.specs.NewMethods.{new_numbers}
 use Rattle.cap_renewal.specs.Along.{table_edits}
 use Rattle.cap_renewal.specs.ClassEdits.{class_edits, classes_edits}
 use Rattle.cap_renewal.specs.DescriptorEdits.{edits_to, method_edits, methods_edits}
@@ -14,7 +14,7 @@ pub one_edit : (to : ℕ → ℕ) (at o : ℕ) (os all now new whole : List ℕ)
     → patched_all (table_edits to at all) now ≡ whole → patched_all (table_edits to (at + 2) os) new ≡ whole
 one_edit to at o os all now new whole e p h = rw p (rw e at h)
 
-pub one_method : (news : List (Option NewMethod)) (at : ℕ) (m : MethodDescriptor) (ms all : List MethodDescriptor) (now new whole : List ℕ) → all ≡ m ∷ ms → new ≡ patched_all (edits_to at (numbers_of news m)) now
+pub one_method : (news : List (Option NewMethod)) (at : ℕ) (m : MethodDescriptor) (ms all : List MethodDescriptor) (now new whole : List ℕ) → all ≡ m ∷ ms → new ≡ patched_all (edits_to at (new_numbers news m)) now
     → patched_all (methods_edits news at all) now ≡ whole → patched_all (methods_edits news (at + 12) ms) new ≡ whole
 one_method news at m ms all now new whole e p h =
     let whole_is : patched_all (method_edits news at m ++ methods_edits news (at + 12) ms) now ≡ whole = rw e at h in

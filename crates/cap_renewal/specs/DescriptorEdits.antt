@@ -4,7 +4,7 @@ use Rattle.std.specs.Prelude.{◌+◌, ◌*◌, ℕ, Bool, List, [], ◌∷◌, 
 use Rattle.cap_desc.specs.DescriptorFormat.{MethodDescriptor, ClassDescriptor, Descriptor}
 use Rattle.cap_writing.specs.Edit.{Edit}
 use Rattle.cap_renewal.specs.declared.new_methods.NewMethod.{NewMethod}
-use Rattle.cap_renewal.specs.NewMethods.{numbers_of}
+use Rattle.cap_renewal.specs.NewMethods.{new_numbers}
 use Rattle.cap_renewal.specs.Along.{along}
 
 abbrev pub method_by : MethodDescriptor → NewMethod → MethodDescriptor
@@ -19,7 +19,7 @@ method_by m n = record {
 }
 
 abbrev pub renewed_method : List (Option NewMethod) → MethodDescriptor → MethodDescriptor
-renewed_method news m = method_by m (numbers_of news m)
+renewed_method news m = method_by m (new_numbers news m)
 
 -- the offset stands after the token and the flags, the other numbers after the offset of the type
 abbrev pub edits_to : ℕ → NewMethod → List Edit
@@ -31,7 +31,7 @@ edits_to at n =
     ∷ []
 
 abbrev pub method_edits : List (Option NewMethod) → ℕ → MethodDescriptor → List Edit
-method_edits news at m = edits_to at (numbers_of news m)
+method_edits news at m = edits_to at (new_numbers news m)
 
 abbrev pub method_width : MethodDescriptor → ℕ
 method_width m = 12

@@ -26,8 +26,8 @@ numbers_or m None = record {
 numbers_or m (Some n) = n
 
 -- the same after it was written: of one that did not stand at its offset they stay
-unfoldable pub numbers_of : List (Option NewMethod) → MethodDescriptor → NewMethod
-numbers_of news m = numbers_or m (at_offset news m.method_offset)
+unfoldable pub new_numbers : List (Option NewMethod) → MethodDescriptor → NewMethod
+new_numbers news m = numbers_or m (at_offset news m.method_offset)
 
 -- the numbers have two bytes
 pub record IsSmall (n : NewMethod) : Type 0 where

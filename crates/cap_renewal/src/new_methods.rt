@@ -1,6 +1,6 @@
 ghost use Rattle.std.specs.Prelude.{◌≡◌, [], ◌∷◌, ◌++◌, Some, None, OnOk, OnErr};
 ghost use Rattle.cap_desc.specs.MemberRecords.{method_seen};
-ghost use Rattle.cap_renewal.specs.NewMethods.{AreSmall, at_offset, numbers_of, to};
+ghost use Rattle.cap_renewal.specs.NewMethods.{AreSmall, at_offset, new_numbers, to};
 
 use cap_desc::MethodInfo;
 use std::alloc::{AllocError, Global};
@@ -91,9 +91,9 @@ impl NewMethods {
     }
 
     /// The new numbers of a method; those that it has where none stood at its offset.
-    #[tactic(auto, unfolding(crate::specs::NewMethods::numbers_of))]
+    #[tactic(auto, unfolding(crate::specs::NewMethods::new_numbers))]
     pub fn numbers(&self, method: &MethodInfo) -> NewMethod
-        ensures { result ≡ numbers_of self.now (method_seen method.now) }
+        ensures { result ≡ new_numbers self.now (method_seen method.now) }
     {
         match self.at(method.method_offset) {
             Some(numbers) => numbers,

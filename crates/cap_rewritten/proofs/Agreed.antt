@@ -11,7 +11,8 @@ use Rattle.first_fault.specs.First.{at_fault, AllEmpty}
 use Rattle.cap_package.specs.Pairs.{pairs}
 use Rattle.cap_package.specs.MethodChecks.{overlap_pair, outside_fault}
 use Rattle.cap_package.specs.HeaderChecks.{registers_fault, length_fault, arguments_fault, abstract_fault}
-use Rattle.cap_package.specs.HandlerChecks.{numbered, numbered_fault, claim_fault}
+use Rattle.cap_package.specs.HandlerChecks.{numbered_fault, claim_fault}
+use Rattle.std.specs.List.{enumerate_from}
 use Rattle.cap_package.specs.StaticChecks.{share_pair, image_fault, array_kinds, filled_fault, is_static_at, no_static_fault}
 use Rattle.cap_package.specs.NameChecks.{is_method_at, no_method_fault, no_entry_fault, table_entries, exported_methods, exported_fields, undescribed_fault, undescribed_class_fault, not_own_fault}
 use Rattle.cap_package.specs.TypeChecks.{field_type_fault, method_type_fault}
@@ -35,7 +36,7 @@ pub record Agrees (parts : List Lent) (p : PackageRecord) : Type 0 where
   pub instances : at_fault (instance_fault p.classes p.description) p.description.items.classes ≡ []
   pub image_sum : disagreements ImageSegments p.statics.image_size (image_bytes p.statics) ≡ []
   pub bare : at_fault (abstract_fault p.methods.info) (described_methods p) ≡ []
-  pub handlers : at_fault (numbered_fault p.methods.info (described_methods p)) (numbered 0 p.methods.handlers)
+  pub handlers : at_fault (numbered_fault p.methods.info (described_methods p)) (enumerate_from 0 p.methods.handlers)
       ++ at_fault (claim_fault (length p.methods.handlers)) (described_methods p) ≡ []
   pub statics : at_fault (share_pair p.description) (pairs (fields p)) ≡ []
   pub names : (at_fault (no_entry_fault (is_method_at (described_methods p))) (table_entries p.classes)

@@ -8,9 +8,9 @@ use Rattle.cap_desc.specs.DescriptorFormat.{MethodDescriptor, ClassDescriptor}
 use Rattle.cap_desc.specs.Members.{methods_but}
 use Rattle.cap_components.specs.PackageRecord.{PackageRecord, described_methods, names_interface}
 use Rattle.cap_renewal.specs.declared.new_methods.NewMethod.{NewMethod}
-use Rattle.cap_renewal.specs.NewMethods.{at_offset, offset_or, to, numbers_or, numbers_of}
+use Rattle.cap_renewal.specs.NewMethods.{at_offset, offset_or, to, numbers_or, new_numbers}
 use Rattle.cap_renewal.specs.DescriptorEdits.{renewed_method, renewed_class, method_by}
-use Rattle.cap_laying.specs.declared.member.Member.{Member}
+use Rattle.cap_laying.specs.declared.member.WrittenMember.{WrittenMember}
 use Rattle.cap_laying.specs.Member.{code_size, handlers_of}
 use Rattle.cap_laying.specs.NewPlaces.{new_method, new_if, news_from}
 use Rattle.cap_laying.specs.Member.{by_offset, size_if}
@@ -30,9 +30,9 @@ use Rattle.cap_rewritten.proofs.Slots.{slot, kept, slot_none, at_offset_of, by_o
 
 pub record Pair : Type 0 where
   pub source : FormerMethod
-  pub member : Member
+  pub member : WrittenMember
 
-pub pairs_of : List FormerMethod → List Member → List Pair
+pub pairs_of : List FormerMethod → List WrittenMember → List Pair
 pairs_of [] ms = []
 pairs_of (s ∷ ss) [] = []
 pairs_of (s ∷ ss) (m ∷ ms) = record { source = s; member = m } ∷ pairs_of ss ms
@@ -40,24 +40,24 @@ pairs_of (s ∷ ss) (m ∷ ms) = record { source = s; member = m } ∷ pairs_of 
 abbrev pub source_in : Pair → FormerMethod
 source_in z = z.source
 
-abbrev pub member_in : Pair → Member
+abbrev pub member_in : Pair → WrittenMember
 member_in z = z.member
 
-pub pair_sources : (info : List ℕ) (ss : List FormerMethod) (ms : List Member) → AreMembersOf info ss ms → map source_in (pairs_of ss ms) ≡ ss
+pub pair_sources : (info : List ℕ) (ss : List FormerMethod) (ms : List WrittenMember) → AreMembersOf info ss ms → map source_in (pairs_of ss ms) ≡ ss
 unfolding pairs_of
 pair_sources info [] [] a = refl
 pair_sources info [] (m ∷ ms) a = absurd a
 pair_sources info (s ∷ ss) [] a = absurd a
 pair_sources info (s ∷ ss) (m ∷ ms) a = ap (λ xs. s ∷ xs) (pair_sources info ss ms a.1)
 
-pub pair_members : (info : List ℕ) (ss : List FormerMethod) (ms : List Member) → AreMembersOf info ss ms → map member_in (pairs_of ss ms) ≡ ms
+pub pair_members : (info : List ℕ) (ss : List FormerMethod) (ms : List WrittenMember) → AreMembersOf info ss ms → map member_in (pairs_of ss ms) ≡ ms
 unfolding pairs_of
 pair_members info [] [] a = refl
 pair_members info [] (m ∷ ms) a = absurd a
 pair_members info (s ∷ ss) [] a = absurd a
 pair_members info (s ∷ ss) (m ∷ ms) a = ap (λ xs. m ∷ xs) (pair_members info ss ms a.1)
 
-pub pair_each : (info : List ℕ) (ss : List FormerMethod) (ms : List Member) → AreMembersOf info ss ms → Each (λ (z : Pair). IsMemberOf info z.source z.member) (pairs_of ss ms)
+pub pair_each : (info : List ℕ) (ss : List FormerMethod) (ms : List WrittenMember) → AreMembersOf info ss ms → Each (λ (z : Pair). IsMemberOf info z.source z.member) (pairs_of ss ms)
 unfolding pairs_of
 pair_each info [] [] a = tt
 pair_each info [] (m ∷ ms) a = absurd a
@@ -68,7 +68,7 @@ pair_each info (s ∷ ss) (m ∷ ms) a = (a.0, pair_each info ss ms a.1)
 abbrev pub change_in : List (Option NewMethod) → Pair → Change
 change_in news z = record { source = z.source; now = renewed_method news z.source.method }
 
-changes_are : (info : List ℕ) (news : List (Option NewMethod)) (ss : List FormerMethod) (ms : List Member) → AreMembersOf info ss ms → changes_of ss (map (renewed_method news) (map method_of ss)) ≡ map (change_in news) (pairs_of ss ms)
+changes_are : (info : List ℕ) (news : List (Option NewMethod)) (ss : List FormerMethod) (ms : List WrittenMember) → AreMembersOf info ss ms → changes_of ss (map (renewed_method news) (map method_of ss)) ≡ map (change_in news) (pairs_of ss ms)
 unfolding pairs_of
 changes_are info news [] [] a = refl
 changes_are info news [] (m ∷ ms) a = absurd a
@@ -101,15 +101,15 @@ bare_by set news c false e =
     with_methods : List MethodDescriptor → ClassDescriptor
     with_methods ms = record c { methods = ms }
 
-pub bare_classes : (set : ℕ → Bool) (news : List (Option NewMethod)) (cs : List ClassDescriptor) → map (bare_class set) (map (renewed_class set news) cs) ≡ map (bare_class set) cs
-bare_classes set news [] = refl
-bare_classes set news (c ∷ cs) =
-    ap (λ d. d ∷ map (bare_class set) (map (renewed_class set news) cs)) (bare_by set news c (set c.class_ref) refl) ∙ ap (λ ds. bare_class set c ∷ ds) (bare_classes set news cs)
+pub memberless_classes : (set : ℕ → Bool) (news : List (Option NewMethod)) (cs : List ClassDescriptor) → map (bare_class set) (map (renewed_class set news) cs) ≡ map (bare_class set) cs
+memberless_classes set news [] = refl
+memberless_classes set news (c ∷ cs) =
+    ap (λ d. d ∷ map (bare_class set) (map (renewed_class set news) cs)) (bare_by set news c (set c.class_ref) refl) ∙ ap (λ ds. bare_class set c ∷ ds) (memberless_classes set news cs)
 
-abbrev pub pairs_in : PackageRecord → List (Option Laid) → List Member → List Pair
+abbrev pub pairs_in : PackageRecord → List (Option Laid) → List WrittenMember → List Pair
 pairs_in p laid ms = pairs_of (sources p laid) ms
 
-pub all_changes : (p q : PackageRecord) (laid : List (Option Laid)) (ms : List Member) → IsWrittenAnew p laid ms q → changes p laid q ≡ map (change_in (places p ms)) (pairs_in p laid ms)
+pub all_changes : (p q : PackageRecord) (laid : List (Option Laid)) (ms : List WrittenMember) → IsWrittenAnew p laid ms q → changes p laid q ≡ map (change_in (places p ms)) (pairs_in p laid ms)
 all_changes p q laid ms w =
     let set = names_interface p.classes in
     let news = places p ms in
@@ -121,7 +121,7 @@ all_changes p q laid ms w =
 
 -- ---- where a member stands
 
-pub standing : (size room : ℕ) (all ms : List Member) → AllStand size room all ms → Each (StandsAnew size room all) ms
+pub standing : (size room : ℕ) (all ms : List WrittenMember) → AllStand size room all ms → Each (StandsAnew size room all) ms
 standing size room all [] a = tt
 standing size room all (m ∷ ms) a = (a.0, standing size room all ms a.1)
 
@@ -132,8 +132,8 @@ pub record IsToldOf (news : List (Option NewMethod)) (indexes : List ℕ) (z : P
   pub many : (renewed_method news z.source.method).handler_count ≡ length (handlers_of z.member.body)
   pub index : (renewed_method news z.source.method).handler_index ≡ slice_index indexes z.member.offset
 
-pub is_told_of : (info : List ℕ) (size room : ℕ) (all : List Member) (z : Pair) → IsMemberOf info z.source z.member → StandsAnew size room all z.member → IsToldOf (new_places size room all) (handler_indexes size (blocks room all)) z
-unfolding numbers_of
+pub is_told_of : (info : List ℕ) (size room : ℕ) (all : List WrittenMember) (z : Pair) → IsMemberOf info z.source z.member → StandsAnew size room all z.member → IsToldOf (new_places size room all) (handler_indexes size (blocks room all)) z
+unfolding new_numbers
 is_told_of info size room all z is st =
     let news = new_places size room all in
     let n : at_offset news z.source.method.method_offset ≡ Some (new_method (handler_indexes size (blocks room all)) (to news z.member.offset) z.member) = ap (at_offset news) (sym is.offset) ∙ st.numbers in
@@ -147,13 +147,13 @@ is_told_of info size room all z is st =
 
 -- ---- offsets
 
-none_new : (indexes : List ℕ) (at : ℕ) (table : List (Option Member)) (o : ℕ) → slot table o ≡ None → at_offset (news_from indexes at table) o ≡ None
+none_new : (indexes : List ℕ) (at : ℕ) (table : List (Option WrittenMember)) (o : ℕ) → slot table o ≡ None → at_offset (news_from indexes at table) o ≡ None
 none_new indexes at [] o e = refl
 none_new indexes at (s ∷ table) zero e = ap (new_if indexes at) e
 none_new indexes at (s ∷ table) (suc o) e = none_new indexes (at + size_if s) table o e
 
 -- where no method stood an offset stays
-stays : (size room : ℕ) (ms : List Member) (o : ℕ) → Each (λ (m : Member). at_offset_of m ≡ Some o → ⊥) ms → to (new_places size room ms) o ≡ o
+stays : (size room : ℕ) (ms : List WrittenMember) (o : ℕ) → Each (λ (m : WrittenMember). at_offset_of m ≡ Some o → ⊥) ms → to (new_places size room ms) o ≡ o
 unfolding to new_places
 stays size room ms o h =
     let empty : slot (by_offset size ms) o ≡ None = ap (λ t. slot t o) (by_offset_is size ms) ∙ kept at_offset_of (replicate size None) ms o h ∙ slot_none size o in
@@ -178,7 +178,7 @@ has_source g (x ∷ xs) y (inl s) = (x, inl refl, s)
 has_source g (x ∷ xs) y (inr h) = let r = has_source g xs y h in (r.0, inr r.1, r.2)
 
 -- names of methods are renewed as the offsets of described methods change
-pub renamed : (p q : PackageRecord) (laid : List (Option Laid)) (ms : List Member) → IsWrittenAnew p laid ms q
+pub renamed : (p q : PackageRecord) (laid : List (Option Laid)) (ms : List WrittenMember) → IsWrittenAnew p laid ms q
     → Each (λ (z : Pair). IsToldOf (places p ms) (handler_indexes (length p.methods.info) (blocks (length p.methods.handlers) ms)) z) (pairs_in p laid ms)
     → (o : ℕ) → now_at (changes p laid q) o ≡ to (places p ms) o
 unfolding now_at
@@ -194,9 +194,9 @@ renamed p q laid ms w told o =
         let zs = pairs_in p laid ms in
         let is = pair_each p.methods.info (sources p laid) ms w.members in
         let none : Each (λ (z : Pair). stood_at o (change_in (places p ms) z) ≡ false) zs = map_each (λ c. stood_at o c ≡ false) (change_in (places p ms)) zs h in
-        let others : Each (λ (m : Member). at_offset_of m ≡ Some o → ⊥) ms =
-        subst (Each (λ (m : Member). at_offset_of m ≡ Some o → ⊥)) (pair_members p.methods.info (sources p laid) ms w.members)
-        (each_map (λ (m : Member). at_offset_of m ≡ Some o → ⊥) member_in zs (each_of (λ (z : Pair). at_offset_of z.member ≡ Some o → ⊥) zs
+        let others : Each (λ (m : WrittenMember). at_offset_of m ≡ Some o → ⊥) ms =
+        subst (Each (λ (m : WrittenMember). at_offset_of m ≡ Some o → ⊥)) (pair_members p.methods.info (sources p laid) ms w.members)
+        (each_map (λ (m : WrittenMember). at_offset_of m ≡ Some o → ⊥) member_in zs (each_of (λ (z : Pair). at_offset_of z.member ≡ Some o → ⊥) zs
         (λ z g. λ e. eqb-false z.source.method.method_offset o (each_at (λ (x : Pair). stood_at o (change_in (places p ms) x) ≡ false) zs z none g)
         (sym (each_at (λ (x : Pair). IsMemberOf p.methods.info x.source x.member) zs z is g).offset ∙ same_Some z.member.offset o e)))) in
         ap (offset_by o) f ∙ sym (stays (length p.methods.info) (length p.methods.handlers) ms o others)

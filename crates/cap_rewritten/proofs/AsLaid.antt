@@ -10,7 +10,7 @@ use Rattle.cap_components.specs.MethodPlaces.{size_by}
 use Rattle.cap_package.specs.HeaderChecks.{header_in}
 use Rattle.cap_laying.specs.HeaderBytes.{header_bytes, header_size, header_of}
 use Rattle.cap_laying.specs.Member.{numbers_of}
-use Rattle.cap_laying.specs.Laws.{AreBytes, HeadersReadBack}
+use Rattle.cap_laying.specs.Laws.{FitInBytes, HeadersReadBack}
 use Rattle.jc_decode.specs.declared.symbols.Laid.{Laid}
 use Rattle.cap_laying.proofs.HeaderLaws.{length_header}
 use Rattle.cap_rewritten.specs.Written.{lead_bytes}
@@ -40,7 +40,7 @@ pub record IsCodeAt (info : List ℕ) (at : ℕ) (laid : Laid) : Type 0 where
   pub size : size_by (number_at 1 at info) ≡ header_size (numbers_of laid)
   pub code : take (length laid.code) (drop (at + size_by (number_at 1 at info)) info) ≡ laid.code
 
-pub code_at : (info : List ℕ) (at : ℕ) (laid : Laid) → HeadersReadBack → AreBytes (numbers_of laid)
+pub code_at : (info : List ℕ) (at : ℕ) (laid : Laid) → HeadersReadBack → FitInBytes (numbers_of laid)
     → take (header_size (numbers_of laid) + length laid.code) (drop at info) ≡ header_bytes (numbers_of laid) ++ laid.code → IsCodeAt info at laid
 code_at info at laid back small e =
     let n = numbers_of laid in

@@ -18,7 +18,7 @@ use Rattle.cap_laying.specs.HeaderBytes.{header_of, is_compact}
 use Rattle.cap_laying.specs.Member.{numbers_of}
 use Rattle.jc_decode.specs.declared.symbols.Laid.{Laid}
 use Rattle.cap_rewritten.specs.Changes.{FormerMethod, Change, sources, changes, now_at, laid_but}
-use Rattle.cap_rewritten.specs.Written.{IsAs, IsWritten}
+use Rattle.cap_rewritten.specs.Written.{IsAs, IsMethodWritten}
 use Rattle.cap_rewritten.specs.Rewritten.{bare_method, IsRewritten}
 use Rattle.cap_rewritten.specs.Laying.{IsFor, FitsHeader, AreLaidFor}
 use Rattle.cap_rewritten.proofs.Lists.{Each, Has, each_at, each_of, map_each, none_each, each_none, faults_map}
@@ -161,12 +161,12 @@ pub record Fact (p q : PackageRecord) (c : Change) : Type 0 where
   pub fits : IsFor was.header c.source.laid
   pub written : IsAs p q c.source.method c.source.laid c.now
 
-fact : (p q : PackageRecord) (all : List Change) (c : Change) → WasWell p c.source.method → FitsHeader p c.source → IsWritten p q all c → bare_method c.now ≡ bare_method c.source.method → Fact p q c
+fact : (p q : PackageRecord) (all : List Change) (c : Change) → WasWell p c.source.method → FitsHeader p c.source → IsMethodWritten p q all c → bare_method c.now ≡ bare_method c.source.method → Fact p q c
 fact p q all c w f is same =
     let fits = f w.header w.there in
     record { was = w; well = is_well p q c.source.method c.now c.source.laid w fits is.is; same = same; fits = fits; written = is.is }
 
-all_facts : (p q : PackageRecord) (all cs : List Change) → Each (λ (c : Change). WasWell p c.source.method) cs → Each (λ (c : Change). FitsHeader p c.source) cs → Each (IsWritten p q all) cs
+all_facts : (p q : PackageRecord) (all cs : List Change) → Each (λ (c : Change). WasWell p c.source.method) cs → Each (λ (c : Change). FitsHeader p c.source) cs → Each (IsMethodWritten p q all) cs
     → Each (λ (c : Change). bare_method c.now ≡ bare_method c.source.method) cs → Each (Fact p q) cs
 all_facts p q all [] w f is same = tt
 all_facts p q all (c ∷ cs) w f is same = (fact p q all c w.0 f.0 is.0 same.0, all_facts p q all cs w.1 f.1 is.1 same.1)
@@ -175,10 +175,10 @@ pub facts : (parts : List Lent) (p q : PackageRecord) (laid : List (Option Laid)
 facts parts p q laid a f r =
     let cs = changes p laid q in
     all_facts p q cs cs (old_each p q laid (WasWell p) r (wells parts p a)) (source_each p q laid (FitsHeader p) r (Each-from_All (FitsHeader p) (sources p laid) f))
-    (Each-from_All (IsWritten p q cs) cs r.written) (bares p q laid r)
+    (Each-from_All (IsMethodWritten p q cs) cs r.written) (bares p q laid r)
 
-pub all_written : (p q : PackageRecord) (laid : List (Option Laid)) → IsRewritten p laid q → Each (IsWritten p q (changes p laid q)) (changes p laid q)
-all_written p q laid r = Each-from_All (IsWritten p q (changes p laid q)) (changes p laid q) r.written
+pub all_written : (p q : PackageRecord) (laid : List (Option Laid)) → IsRewritten p laid q → Each (IsMethodWritten p q (changes p laid q)) (changes p laid q)
+all_written p q laid r = Each-from_All (IsMethodWritten p q (changes p laid q)) (changes p laid q) r.written
 
 -- ---- conditions on headers
 

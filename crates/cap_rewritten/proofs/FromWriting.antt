@@ -16,20 +16,20 @@ use Rattle.cap_renewal.specs.ClassEdits.{renewed_class}
 use Rattle.cap_renewal.specs.ExportEdits.{renewed_exported}
 use Rattle.cap_renewal.specs.DescriptorEdits.{renewed_method}
 use Rattle.cap_desc.specs.DescriptorFormat.{Descriptor}
-use Rattle.cap_laying.specs.declared.member.Member.{Member}
+use Rattle.cap_laying.specs.declared.member.WrittenMember.{WrittenMember}
 use Rattle.cap_laying.specs.Blocks.{blocks, first_entry, block_entries}
 use Rattle.cap_laying.specs.Laws.{HeadersReadBack}
-use Rattle.cap_laying.specs.Standing.{MethodsStand}
+use Rattle.cap_laying.specs.Standing.{WrittenMethodsStand}
 use Rattle.jc_decode.specs.declared.symbols.Laid.{Laid}
 use Rattle.cap_rewritten.specs.Changes.{changes, now_at}
-use Rattle.cap_rewritten.specs.Written.{IsWritten, size_written, handlers_in, caught_before, methods_begin}
+use Rattle.cap_rewritten.specs.Written.{IsMethodWritten, size_written, handlers_in, caught_before, methods_begin}
 use Rattle.cap_rewritten.specs.Laying.{AreLaidFor}
 use Rattle.cap_rewritten.specs.Rewritten.{HasSameDescription, bare_class, IsRewritten}
 use Rattle.cap_rewritten.specs.Writing.{IsWrittenAnew, places}
 use Rattle.cap_rewritten.proofs.Lists.{Each, Has, each_at, each_of, each_map}
 use Rattle.cap_rewritten.proofs.Ranks.{sums_agree, sum_through}
 use Rattle.cap_rewritten.proofs.Order.{many_of, index_among, entries_among}
-use Rattle.cap_rewritten.proofs.Anew.{Pair, pairs_in, change_in, all_changes, renamed, bare_classes}
+use Rattle.cap_rewritten.proofs.Anew.{Pair, pairs_in, change_in, all_changes, renamed, memberless_classes}
 use Rattle.cap_rewritten.proofs.Known.{Known, known, told_all, as_laid}
 use Rattle.cap_rewritten.proofs.Indexed.{HasRank, rank, placed_known, all_handlers, whole_info}
 
@@ -77,11 +77,11 @@ ends_alike (suc from) n [] (y ∷ ys) h a b = absurd (omega arith)
 ends_alike (suc from) n (x ∷ xs) [] h a b = absurd (omega arith)
 ends_alike (suc from) n (x ∷ xs) (y ∷ ys) h a b = ends_alike from (length xs) xs ys (λ k l g. h (suc k) (omega arith) (omega arith)) refl (omega arith)
 
-same_description : (p q : PackageRecord) (laid : List (Option Laid)) (ms : List Member) → IsWrittenAnew p laid ms q → HasSameDescription (names_interface p.classes) p.description q.description
+same_description : (p q : PackageRecord) (laid : List (Option Laid)) (ms : List WrittenMember) → IsWrittenAnew p laid ms q → HasSameDescription (names_interface p.classes) p.description q.description
 same_description p q laid ms w =
     let set = names_interface p.classes in
     record {
-      classes = ap (λ (d : Descriptor). map (bare_class set) d.classes) w.description ∙ bare_classes set (places p ms) p.description.items.classes;
+      classes = ap (λ (d : Descriptor). map (bare_class set) d.classes) w.description ∙ memberless_classes set (places p ms) p.description.items.classes;
       start = ap (λ (d : Descriptor). d.types_start) w.description;
       pool_types = ap (λ (d : Descriptor). d.pool_types) w.description;
       types = ends_alike p.description.items.types_start (length p.description.info) p.description.info q.description.info w.types.each refl w.long;
@@ -90,11 +90,11 @@ same_description p q laid ms w =
 
 -- ---- methods
 
-index_if : (p q : PackageRecord) (laid : List (Option Laid)) (ms : List Member) (z : Pair) → IsWrittenAnew p laid ms q → Known p q ms z → (r : HasRank p laid ms z)
+index_if : (p q : PackageRecord) (laid : List (Option Laid)) (ms : List WrittenMember) (z : Pair) → IsWrittenAnew p laid ms q → Known p q ms z → (r : HasRank p laid ms z)
     → (renewed_method (places p ms) z.source.method).handler_index ≡ first_entry r.before (many_of z.member)
 index_if p q laid ms z w k r = k.told.index ∙ index_among (length p.methods.info) (blocks (length p.methods.handlers) ms) z.member r.before r.among k.within
 
-handlers_if : (p q : PackageRecord) (laid : List (Option Laid)) (ms : List Member) (z : Pair) → IsWrittenAnew p laid ms q → Known p q ms z → HasRank p laid ms z
+handlers_if : (p q : PackageRecord) (laid : List (Option Laid)) (ms : List WrittenMember) (z : Pair) → IsWrittenAnew p laid ms q → Known p q ms z → HasRank p laid ms z
     → handlers_of q (renewed_method (places p ms) z.source.method) ≡ block_entries (places p ms) z.member
 handlers_if p q laid ms z w k r =
     let m = renewed_method (places p ms) z.source.method in
@@ -103,8 +103,8 @@ handlers_if p q laid ms z w k r =
     ∙ ap (λ hs. take (many_of z.member) (drop (first_entry r.before (many_of z.member)) hs)) w.handlers
     ∙ entries_among (places p ms) (blocks (length p.methods.handlers) ms) z.member r.before r.among
 
-written_one : (parts : List Lent) (p q : PackageRecord) (laid : List (Option Laid)) (ms : List Member) (z : Pair) → StandsFor parts p → IsWrittenAnew p laid ms q → Each (Known p q ms) (pairs_in p laid ms) → Has (pairs_in p laid ms) z
-    → IsWritten p q (map (change_in (places p ms)) (pairs_in p laid ms)) (change_in (places p ms) z)
+written_one : (parts : List Lent) (p q : PackageRecord) (laid : List (Option Laid)) (ms : List WrittenMember) (z : Pair) → StandsFor parts p → IsWrittenAnew p laid ms q → Each (Known p q ms) (pairs_in p laid ms) → Has (pairs_in p laid ms) z
+    → IsMethodWritten p q (map (change_in (places p ms)) (pairs_in p laid ms)) (change_in (places p ms) z)
 written_one parts p q laid ms z s w ks h =
     let zs = pairs_in p laid ms in
     let news = places p ms in
@@ -124,7 +124,7 @@ written_one parts p q laid ms z s w ks h =
           ∙ ap (λ n. if n == 0 then 0 else sum_by handlers_in (filter (caught_before p (change_in news z)) (map (change_in news) zs))) (sym k.told.many);
     }
 
-pub rewrites : HeadersReadBack → MethodsStand → (parts : List Lent) (p q : PackageRecord) (laid : List (Option Laid)) (ms : List Member) → StandsFor parts p → AreLaidFor p laid → IsWrittenAnew p laid ms q → IsRewritten p laid q
+pub rewrites : HeadersReadBack → WrittenMethodsStand → (parts : List Lent) (p q : PackageRecord) (laid : List (Option Laid)) (ms : List WrittenMember) → StandsFor parts p → AreLaidFor p laid → IsWrittenAnew p laid ms q → IsRewritten p laid q
 rewrites back stand parts p q laid ms s l w =
     let zs = pairs_in p laid ms in
     let news = places p ms in
@@ -132,8 +132,8 @@ rewrites back stand parts p q laid ms s l w =
     let ks = known parts p q laid ms s l w stand back in
     let are : changes p laid q ≡ cs = all_changes p q laid ms w in
     let name : (o : ℕ) → to news o ≡ now_at (changes p laid q) o = λ o. sym (renamed p q laid ms w (told_all p q laid ms w stand) o) in
-    let each : All (IsWritten p q cs) cs = All-from_Each (IsWritten p q cs) cs (each_map (IsWritten p q cs) (change_in news) zs
-    (each_of (λ (z : Pair). IsWritten p q cs (change_in news z)) zs (λ z h. written_one parts p q laid ms z s w ks h))) in
+    let each : All (IsMethodWritten p q cs) cs = All-from_Each (IsMethodWritten p q cs) cs (each_map (IsMethodWritten p q cs) (change_in news) zs
+    (each_of (λ (z : Pair). IsMethodWritten p q cs (change_in news z)) zs (λ z h. written_one parts p q laid ms z s w ks h))) in
     record {
       header = w.header;
       imports = w.imports;
@@ -147,7 +147,7 @@ rewrites back stand parts p q laid ms s l w =
       export = w.export ∙ option_same (renewed_exported (to news)) (renewed_exported (now_at (changes p laid q))) p.export (λ c. exported_same (to news) (now_at (changes p laid q)) c name);
       description = same_description p q laid ms w;
       each = w.each;
-      written = subst (λ xs. All (IsWritten p q xs) xs) (sym are) each;
+      written = subst (λ xs. All (IsMethodWritten p q xs) xs) (sym are) each;
       long = whole_info p q laid ms w ks ∙ ap (λ xs. methods_begin q + sum_by (size_written q) xs) (sym are);
       handlers = all_handlers parts p q laid ms s w ks ∙ ap (sum_by handlers_in) (sym are);
     }

@@ -9,13 +9,14 @@ use Rattle.cap_components.specs.declared.fault.PackFault.TheVariants.{HandlerOut
 use Rattle.cap_components.specs.Parts.{Lent}
 use Rattle.cap_components.specs.PackageRecord.{PackageRecord, described_methods, handlers_of}
 use Rattle.cap_package.specs.MethodChecks.{code_start, code_end}
-use Rattle.cap_package.specs.HandlerChecks.{claims, owners, is_within, has_home, handler_fault, claim_fault, numbered, numbered_fault}
+use Rattle.cap_package.specs.HandlerChecks.{claims, owners, is_within, has_home, handler_fault, claim_fault, numbered_fault}
+use Rattle.std.specs.List.{enumerate_from}
 use Rattle.cap_package.proofs.StaticsKnown.{both_empty}
 use Rattle.cap_laying.specs.HandlerTable.{AreInside, entries_at}
 use Rattle.jc_decode.specs.declared.symbols.Laid.{Laid}
-use Rattle.jc_decode.specs.declared.symbols.Handler.{Handler}
+use Rattle.jc_decode.specs.declared.symbols.LaidHandler.{LaidHandler}
 use Rattle.cap_rewritten.specs.Changes.{FormerMethod, Change, changes, sources_from}
-use Rattle.cap_rewritten.specs.Written.{IsAs, IsWritten, handlers_in, block_of}
+use Rattle.cap_rewritten.specs.Written.{IsAs, IsMethodWritten, handlers_in, block_of}
 use Rattle.cap_rewritten.specs.Rewritten.{IsRewritten}
 use Rattle.cap_rewritten.specs.Laying.{IsFor, AreLaidFor}
 use Rattle.cap_rewritten.proofs.Lists.{Each, Has, each_at, each_of, none_each, each_none, append_none, filter_map_in, filter_alike, has_filter}
@@ -29,7 +30,7 @@ use Rattle.cap_rewritten.proofs.Names.{is_told}
 
 -- ---- the former table: no two methods had one first entry
 
-numbered_at : {X : Type 0} (P : ℕ × X → Type 0) (n : ℕ) (xs : List X) → Each P (numbered n xs) → (i : ℕ) → i < length xs → (x : X) × P (n + i, x)
+numbered_at : {X : Type 0} (P : ℕ × X → Type 0) (n : ℕ) (xs : List X) → Each P (enumerate_from n xs) → (i : ℕ) → i < length xs → (x : X) × P (n + i, x)
 numbered_at P n [] h i lt = absurd (omega arith)
 numbered_at P n (x ∷ xs) h zero lt = let e : n ≡ n + 0 = omega arith in (x, subst (λ k. P (k, x)) e h.0)
 numbered_at P n (x ∷ xs) h (suc i) lt =
@@ -53,8 +54,8 @@ pub owned_once : (parts : List Lent) (p : PackageRecord) → Agrees parts p → 
 owned_once parts p a i lt =
     let info = p.methods.info in
     let ms = described_methods p in
-    let both = both_empty (filter_map (numbered_fault info ms) (numbered 0 p.methods.handlers)) (filter_map (claim_fault (length p.methods.handlers)) ms) a.handlers in
-    let at = numbered_at (λ x. numbered_fault info ms x ≡ None) 0 p.methods.handlers (none_each (numbered_fault info ms) (numbered 0 p.methods.handlers) both.0) i lt in
+    let both = both_empty (filter_map (numbered_fault info ms) (enumerate_from 0 p.methods.handlers)) (filter_map (claim_fault (length p.methods.handlers)) ms) a.handlers in
+    let at = numbered_at (λ x. numbered_fault info ms x ≡ None) 0 p.methods.handlers (none_each (numbered_fault info ms) (enumerate_from 0 p.methods.handlers) both.0) i lt in
     let e : 0 + i ≡ i = omega arith in
     subst (λ k. length (filter (claims k) ms) ≤ 1) e (one_owner info ms (0 + i) at.0 at.1)
 
@@ -76,7 +77,7 @@ all_claims parts p a =
     let info = p.methods.info in
     let ms = described_methods p in
     let n = length p.methods.handlers in
-    let both = both_empty (filter_map (numbered_fault info ms) (numbered 0 p.methods.handlers)) (filter_map (claim_fault n) ms) a.handlers in
+    let both = both_empty (filter_map (numbered_fault info ms) (enumerate_from 0 p.methods.handlers)) (filter_map (claim_fault n) ms) a.handlers in
     let each = none_each (claim_fault n) ms both.1 in
     each_of (ClaimsInside n) ms (λ m h. claims_inside n m (each_at (λ x. claim_fault n x ≡ None) ms m each h))
 
@@ -184,10 +185,10 @@ nothing_in n k z e = by (nat_le n k) refl
 is_none : (n : ℕ) → (n == 0) ≡ true → n ≡ 0
 is_none n e = grind arith
 
-index_is : (p q : PackageRecord) (all : List Change) (c : Change) → IsWritten p q all c → c.now.handler_index ≡ (if c.now.handler_count == 0 then 0 else below handlers_in (block p) all (block p c))
+index_is : (p q : PackageRecord) (all : List Change) (c : Change) → IsMethodWritten p q all c → c.now.handler_index ≡ (if c.now.handler_count == 0 then 0 else below handlers_in (block p) all (block p c))
 index_is p q all c w = w.index
 
-lies_or_claims : (p q : PackageRecord) (all : List Change) (k : ℕ) (c : Change) → IsWritten p q all c → claims k c.now ≡ lies_in handlers_in (block p) all k c
+lies_or_claims : (p q : PackageRecord) (all : List Change) (k : ℕ) (c : Change) → IsMethodWritten p q all c → claims k c.now ≡ lies_in handlers_in (block p) all k c
 lies_or_claims p q all k c w = by (c.now.handler_count == 0) refl
   where
     by : (b : Bool) → (c.now.handler_count == 0) ≡ b → claims k c.now ≡ lies_in handlers_in (block p) all k c
@@ -206,7 +207,7 @@ owners_are p q laid k c r alone =
     ap (filter (claims k)) (sym (news p q laid r))
     ∙ filter_map_in (claims k) now_of cs
     ∙ ap (map now_of) (filter_alike (λ (x : Change). claims k x.now) (lies_in handlers_in (block p) cs k) cs
-    (each_of (λ (x : Change). claims k x.now ≡ lies_in handlers_in (block p) cs k x) cs (λ x h. lies_or_claims p q cs k x (each_at (IsWritten p q cs) cs x ws h))) ∙ alone)
+    (each_of (λ (x : Change). claims k x.now ≡ lies_in handlers_in (block p) cs k x) cs (λ x h. lies_or_claims p q cs k x (each_at (IsMethodWritten p q cs) cs x ws h))) ∙ alone)
 
 -- ---- where an entry lies
 
@@ -227,7 +228,7 @@ pub record IsEntryOf (start size : ℕ) (e : HandlerInfo) : Type 0 where
   pub after : start ≤ e.entry
   pub before : e.entry < start + size
 
-entry_within : (start size : ℕ) (hs : List Handler) (j : ℕ) (e : HandlerInfo) → AreInside size hs → slice_get (entries_at start hs) j ≡ Some e → IsEntryOf start size e
+entry_within : (start size : ℕ) (hs : List LaidHandler) (j : ℕ) (e : HandlerInfo) → AreInside size hs → slice_get (entries_at start hs) j ≡ Some e → IsEntryOf start size e
 entry_within start size [] j e a g = absurd cc
 entry_within start size (h ∷ hs) zero e a g =
     let s : start + h.start ≡ e.start = ap (λ o. start_or start o) g in
@@ -264,7 +265,7 @@ within_code info m size h e i =
     four_tests (nat_le (code_start info m) h.start) (nat_le (h.start + h.length) (code_end info m)) (nat_le (code_start info m) h.entry) (nat_lt h.entry (code_end info m))
     (grind arith) (le-leb (h.start + h.length) (code_end info m) (omega arith)) (grind arith) (lt-ltb h.entry (code_end info m) (omega arith))
 
-owner_within : (p q : PackageRecord) (all : List Change) (c : Change) (k : ℕ) (h : HandlerInfo) (l : Option Laid) (x : _) → IsFor x l → IsAs p q c.source.method l c.now → IsWritten p q all c
+owner_within : (p q : PackageRecord) (all : List Change) (c : Change) (k : ℕ) (h : HandlerInfo) (l : Option Laid) (x : _) → IsFor x l → IsAs p q c.source.method l c.now → IsMethodWritten p q all c
     → slice_get q.methods.handlers k ≡ Some h → below handlers_in (block p) all (block p c) ≤ k → k < below handlers_in (block p) all (block p c) + c.now.handler_count → is_within q.methods.info h c.now ≡ true
 owner_within p q all c k h None x f is w g low high = let z = is.no_handlers in absurd (omega arith)
 owner_within p q all c k h (Some laid) x f is w g low high =
@@ -283,7 +284,7 @@ owner_within p q all c k h (Some laid) x f is w g low high =
 
 -- ---- all entries, and all that methods claim
 
-numbered_all : {X : Type 0} (P : ℕ × X → Type 0) (n : ℕ) (xs : List X) → ((i : ℕ) (x : X) → slice_get xs i ≡ Some x → P (n + i, x)) → Each P (numbered n xs)
+numbered_all : {X : Type 0} (P : ℕ × X → Type 0) (n : ℕ) (xs : List X) → ((i : ℕ) (x : X) → slice_get xs i ≡ Some x → P (n + i, x)) → Each P (enumerate_from n xs)
 numbered_all P n [] f = tt
 numbered_all P n (x ∷ xs) f =
     let e : n + 0 ≡ n = omega arith in
@@ -299,7 +300,7 @@ one_entry parts p q laid a l r k h g =
     let less = slice_get_within q.methods.handlers k h g in
     let o = owned handlers_in (block p) cs k (all_blocks parts p q laid a r) (omega (arith, r.handlers)) in
     let f = each_at (Fact p q) cs o.owner (facts parts p q laid a l r) o.has in
-    let w = each_at (IsWritten p q cs) cs o.owner (all_written p q laid r) o.has in
+    let w = each_at (IsMethodWritten p q cs) cs o.owner (all_written p q laid r) o.has in
     entry_home q.methods.info (described_methods q) k h o.owner.now (owners_are p q laid k o.owner r o.alone)
     (owner_within p q cs o.owner k h o.owner.source.laid f.was.header f.fits f.written w g o.low o.high)
 
@@ -314,20 +315,20 @@ claim_none n m h = by (m.handler_count == 0) refl
 not_itself : (a : ℕ) → nat_lt a a ≡ false
 not_itself a = grind arith
 
-claims_now : (p q : PackageRecord) (all : List Change) (c : Change) → IsWritten p q all c → Has all c → length q.methods.handlers ≡ sum_by handlers_in all → claim_fault (length q.methods.handlers) c.now ≡ None
+claims_now : (p q : PackageRecord) (all : List Change) (c : Change) → IsMethodWritten p q all c → Has all c → length q.methods.handlers ≡ sum_by handlers_in all → claim_fault (length q.methods.handlers) c.now ≡ None
 claims_now p q all c w h many = claim_none (length q.methods.handlers) c.now (λ e.
     let i : c.now.handler_index ≡ below handlers_in (block p) all (block p c) = index_is p q all c w ∙ ap (λ b. if b then 0 else below handlers_in (block p) all (block p c)) e in
     let s = sum_beside handlers_in (is_below (block p) (block p c)) all c (not_itself (block p c)) h in
     omega arith)
 
 pub all_home : (parts : List Lent) (p q : PackageRecord) (laid : List (Option Laid)) → Agrees parts p → AreLaidFor p laid → IsRewritten p laid q
-    → filter_map (numbered_fault q.methods.info (described_methods q)) (numbered 0 q.methods.handlers) ++ filter_map (claim_fault (length q.methods.handlers)) (described_methods q) ≡ []
+    → filter_map (numbered_fault q.methods.info (described_methods q)) (enumerate_from 0 q.methods.handlers) ++ filter_map (claim_fault (length q.methods.handlers)) (described_methods q) ≡ []
 all_home parts p q laid a l r =
     let cs = changes p laid q in
     let ms = described_methods q in
     let info = q.methods.info in
-    append_none (filter_map (numbered_fault info ms) (numbered 0 q.methods.handlers)) (filter_map (claim_fault (length q.methods.handlers)) ms)
-    (each_none (numbered_fault info ms) (numbered 0 q.methods.handlers) (numbered_all (λ x. numbered_fault info ms x ≡ None) 0 q.methods.handlers
+    append_none (filter_map (numbered_fault info ms) (enumerate_from 0 q.methods.handlers)) (filter_map (claim_fault (length q.methods.handlers)) ms)
+    (each_none (numbered_fault info ms) (enumerate_from 0 q.methods.handlers) (numbered_all (λ x. numbered_fault info ms x ≡ None) 0 q.methods.handlers
     (λ i h g. let e : i ≡ 0 + i = omega arith in subst (λ k. handler_fault info ms k h ≡ None) e (one_entry parts p q laid a l r i h g))))
     (no_faults p q laid (claim_fault (length q.methods.handlers)) r (each_of (λ (c : Change). claim_fault (length q.methods.handlers) c.now ≡ None) cs
-    (λ c h. claims_now p q cs c (each_at (IsWritten p q cs) cs c (all_written p q laid r) h) h r.handlers)))
+    (λ c h. claims_now p q cs c (each_at (IsMethodWritten p q cs) cs c (all_written p q laid r) h) h r.handlers)))

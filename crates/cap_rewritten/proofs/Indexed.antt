@@ -10,10 +10,10 @@ use Rattle.cap_components.specs.PackageRecord.{PackageRecord, described_methods}
 use Rattle.cap_package.specs.StandsFor.{StandsFor}
 use Rattle.cap_renewal.specs.NewMethods.{to}
 use Rattle.cap_renewal.specs.DescriptorEdits.{renewed_method}
-use Rattle.cap_laying.specs.declared.member.Member.{Member}
+use Rattle.cap_laying.specs.declared.member.WrittenMember.{WrittenMember}
 use Rattle.cap_laying.specs.HandlerTable.{table_bytes}
 use Rattle.cap_laying.specs.Member.{body_bytes, bodies, by_offset}
-use Rattle.cap_laying.specs.Blocks.{blocks, firsts, had_none, entries_of, handler_indexes, total_handlers}
+use Rattle.cap_laying.specs.Blocks.{blocks, firsts, had_none, entries_of_blocks, handler_indexes, total_handlers}
 use Rattle.cap_laying.specs.MethodInfo.{method_info}
 use Rattle.cap_laying.specs.Members.{AreMembers, AreApart, IsAlone, new_places, start_of, written_info}
 use Rattle.cap_laying.proofs.HeaderLaws.{length_body}
@@ -39,28 +39,28 @@ use Rattle.cap_rewritten.proofs.Known.{Known, was_described, of_methods, size_kn
 
 -- ---- they stood apart
 
-alone_each : (o : ℕ) (ms : List Member) → IsAlone o ms → Each (λ (m : Member). m.offset ≡ o → ⊥) ms
+alone_each : (o : ℕ) (ms : List WrittenMember) → IsAlone o ms → Each (λ (m : WrittenMember). m.offset ≡ o → ⊥) ms
 alone_each o [] a = tt
 alone_each o (m ∷ ms) a = (a.0, alone_each o ms a.1)
 
-pub apart_by : (size : ℕ) (ms : List Member) → AreMembers size ms → AreApart ms → AreApartBy at_offset_of size ms
+pub apart_by : (size : ℕ) (ms : List WrittenMember) → AreMembers size ms → AreApart ms → AreApartBy at_offset_of size ms
 apart_by size [] a d = tt
 apart_by size (m ∷ ms) a d =
     let in_size = a.0.within in
     let others = alone_each m.offset ms d.0 in (
       (λ i e. let s = same_Some m.offset i e in omega arith),
-      each_of (Differ at_offset_of m) ms (λ y h. λ i e f. each_at (λ (x : Member). x.offset ≡ m.offset → ⊥) ms y others h (same_Some y.offset i f ∙ sym (same_Some m.offset i e))),
+      each_of (Differ at_offset_of m) ms (λ y h. λ i e f. each_at (λ (x : WrittenMember). x.offset ≡ m.offset → ⊥) ms y others h (same_Some y.offset i f ∙ sym (same_Some m.offset i e))),
       apart_by size ms a.1 d.1,
     )
 
-apart_after : (lead rest : List Member) (m : Member) → AreApart (lead ++ m ∷ rest) → Each (λ (b : Member). b.offset ≡ m.offset → ⊥) rest
+apart_after : (lead rest : List WrittenMember) (m : WrittenMember) → AreApart (lead ++ m ∷ rest) → Each (λ (b : WrittenMember). b.offset ≡ m.offset → ⊥) rest
 apart_after [] rest m a = alone_each m.offset rest a.0
 apart_after (x ∷ lead) rest m a = apart_after lead rest m a.1
 
-pub own_slot : (size : ℕ) (ms : List Member) (m : Member) → AreMembers size ms → AreApart ms → Has ms m → slot (by_offset size ms) m.offset ≡ Some m
+pub own_slot : (size : ℕ) (ms : List WrittenMember) (m : WrittenMember) → AreMembers size ms → AreApart ms → Has ms m → slot (by_offset size ms) m.offset ≡ Some m
 own_slot size ms m a d h = ap (λ t. slot t m.offset) (by_offset_is size ms) ∙ own at_offset_of (replicate size None) ms m m.offset (all_free at_offset_of size ms (apart_by size ms a d)) h refl
 
-only_one : (size : ℕ) (ms : List Member) (m b : Member) → AreMembers size ms → AreApart ms → Has ms m → Has ms b → b.offset ≡ m.offset → b ≡ m
+only_one : (size : ℕ) (ms : List WrittenMember) (m b : WrittenMember) → AreMembers size ms → AreApart ms → Has ms m → Has ms b → b.offset ≡ m.offset → b ≡ m
 only_one size ms m b a d h g s =
     let x = own_slot size ms m a d h in
     let y = own_slot size ms b a d g in
@@ -71,8 +71,8 @@ only_one size ms m b a d h g s =
 
 -- ---- places
 
-pub place_among : (size room : ℕ) (ms : List Member) (m : Member) → AreMembers size ms → AreApart ms → Has ms m
-    → to (new_places size room ms) m.offset ≡ start_of room ms + sum_by size_of (filter (λ (y : Member). nat_lt y.offset m.offset) ms)
+pub place_among : (size room : ℕ) (ms : List WrittenMember) (m : WrittenMember) → AreMembers size ms → AreApart ms → Has ms m
+    → to (new_places size room ms) m.offset ≡ start_of room ms + sum_by size_of (filter (λ (y : WrittenMember). nat_lt y.offset m.offset) ms)
 unfolding new_places
 place_among size room ms m a d h =
     let table = by_offset size ms in
@@ -82,21 +82,21 @@ place_among size room ms m a d h =
     ∙ ap (λ t. at + sum_slots size_of m.offset t) (by_offset_is size ms)
     ∙ ap (λ n. at + n) (sum_put size_of at_offset_of size m.offset ms (apart_by size ms a d))
 
-has_member : (p q : PackageRecord) (laid : List (Option Laid)) (ms : List Member) (z : Pair) → IsWrittenAnew p laid ms q → Has (pairs_in p laid ms) z → Has ms z.member
+has_member : (p q : PackageRecord) (laid : List (Option Laid)) (ms : List WrittenMember) (z : Pair) → IsWrittenAnew p laid ms q → Has (pairs_in p laid ms) z → Has ms z.member
 has_member p q laid ms z w h = subst (λ xs. Has xs z.member) (pair_members p.methods.info (sources p laid) ms w.members) (has_map member_in (pairs_in p laid ms) z h)
 
-over_pairs : (p q : PackageRecord) (laid : List (Option Laid)) (ms : List Member) (f : Member → ℕ) (t : Member → Bool) → IsWrittenAnew p laid ms q
+over_pairs : (p q : PackageRecord) (laid : List (Option Laid)) (ms : List WrittenMember) (f : WrittenMember → ℕ) (t : WrittenMember → Bool) → IsWrittenAnew p laid ms q
     → sum_by f (filter t ms) ≡ sum_by (λ (z : Pair). f z.member) (filter (λ (z : Pair). t z.member) (pairs_in p laid ms))
 over_pairs p q laid ms f t w =
     ap (λ xs. sum_by f (filter t xs)) (sym (pair_members p.methods.info (sources p laid) ms w.members)) ∙ sum_through f t member_in (pairs_in p laid ms)
 
-pub starts : (p q : PackageRecord) (laid : List (Option Laid)) (ms : List Member) → IsWrittenAnew p laid ms q → start_of (length p.methods.handlers) ms ≡ methods_begin q
+pub starts : (p q : PackageRecord) (laid : List (Option Laid)) (ms : List WrittenMember) → IsWrittenAnew p laid ms q → start_of (length p.methods.handlers) ms ≡ methods_begin q
 starts p q laid ms w =
     let a = ap length w.handlers in
     let b = length_entries (places p ms) (blocks (length p.methods.handlers) ms) in
     omega arith
 
-pub placed_known : (p q : PackageRecord) (laid : List (Option Laid)) (ms : List Member) (z : Pair) → IsWrittenAnew p laid ms q → Each (Known p q ms) (pairs_in p laid ms) → Has (pairs_in p laid ms) z
+pub placed_known : (p q : PackageRecord) (laid : List (Option Laid)) (ms : List WrittenMember) (z : Pair) → IsWrittenAnew p laid ms q → Each (Known p q ms) (pairs_in p laid ms) → Has (pairs_in p laid ms) z
     → (renewed_method (places p ms) z.source.method).method_offset ≡ methods_begin q + sum_by (size_written q) (filter (stood_before (change_in (places p ms) z)) (map (change_in (places p ms)) (pairs_in p laid ms)))
 placed_known p q laid ms z w ks h =
     let zs = pairs_in p laid ms in
@@ -110,8 +110,8 @@ placed_known p q laid ms z w ks h =
     (λ y g. ap (λ n. nat_lt n z.member.offset) (each_at (Known p q ms) zs y ks g).is.offset ∙ ap (nat_lt y.source.method.method_offset) k.is.offset) in
     k.told.offset
     ∙ place_among size room ms z.member w.may.each w.may.apart (has_member p q laid ms z w h)
-    ∙ ap (λ n. n + sum_by size_of (filter (λ (y : Member). nat_lt y.offset z.member.offset) ms)) (starts p q laid ms w)
-    ∙ ap (λ n. methods_begin q + n) (over_pairs p q laid ms size_of (λ (y : Member). nat_lt y.offset z.member.offset) w
+    ∙ ap (λ n. n + sum_by size_of (filter (λ (y : WrittenMember). nat_lt y.offset z.member.offset) ms)) (starts p q laid ms w)
+    ∙ ap (λ n. methods_begin q + n) (over_pairs p q laid ms size_of (λ (y : WrittenMember). nat_lt y.offset z.member.offset) w
     ∙ sums_agree (λ (y : Pair). size_of y.member) (λ (y : Pair). size_written q (change_in news y)) (λ (y : Pair). nat_lt y.member.offset z.member.offset) (λ (y : Pair). nat_lt y.source.method.method_offset z.source.method.method_offset) zs sizes tests
     ∙ sym (sum_through (size_written q) (stood_before (change_in news z)) (change_in news) zs))
 
@@ -163,12 +163,12 @@ distinct_up : {X Y : Type 0} (key : Y → ℕ) (g : X → Y) (xs : List X) → D
 distinct_up key g [] d = tt
 distinct_up key g (x ∷ xs) d = (each_map (λ y. key y ≡ key (g x) → ⊥) g xs d.0, distinct_up key g xs d.1)
 
-was_old : (p q : PackageRecord) (laid : List (Option Laid)) (ms : List Member) → IsWrittenAnew p laid ms q → map old_of (map (change_in (places p ms)) (pairs_in p laid ms)) ≡ described_methods p
+was_old : (p q : PackageRecord) (laid : List (Option Laid)) (ms : List WrittenMember) → IsWrittenAnew p laid ms q → map old_of (map (change_in (places p ms)) (pairs_in p laid ms)) ≡ described_methods p
 was_old p q laid ms w =
     let zs = pairs_in p laid ms in
     map_twice old_of (change_in (places p ms)) zs ∙ sym (map_twice method_of source_in zs) ∙ ap (map method_of) (pair_sources p.methods.info (sources p laid) ms w.members) ∙ was_described p q laid ms w
 
-blocks_differ : (parts : List Lent) (p q : PackageRecord) (laid : List (Option Laid)) (ms : List Member) → StandsFor parts p → IsWrittenAnew p laid ms q → Distinct (block_in p) (pairs_in p laid ms)
+blocks_differ : (parts : List Lent) (p q : PackageRecord) (laid : List (Option Laid)) (ms : List WrittenMember) → StandsFor parts p → IsWrittenAnew p laid ms q → Distinct (block_in p) (pairs_in p laid ms)
 blocks_differ parts p q laid ms s w =
     let zs = pairs_in p laid ms in
     let a = agrees parts p s.agree in
@@ -181,7 +181,7 @@ blocks_differ parts p q laid ms s w =
     (distinct_up (λ (c : Change). c.source.number) (change_in (places p ms)) zs numbers)
     (subst (OwnedOnce (length p.methods.handlers)) (sym (was_old p q laid ms w)) (owned_once parts p a)))
 
-firsts_apart : (p q : PackageRecord) (ms : List Member) (zs : List Pair) → Each (Known p q ms) zs → Distinct (block_in p) zs → AreApartBy first_of (length p.methods.handlers) (map member_in zs)
+firsts_apart : (p q : PackageRecord) (ms : List WrittenMember) (zs : List Pair) → Each (Known p q ms) zs → Distinct (block_in p) zs → AreApartBy first_of (length p.methods.handlers) (map member_in zs)
 firsts_apart p q ms [] k d = tt
 firsts_apart p q ms (z ∷ zs) k d = (
   (λ i e. first_low p z.source i k.0.inside (had_first p z.source i (sym k.0.is.handlers ∙ e))),
@@ -192,13 +192,13 @@ firsts_apart p q ms (z ∷ zs) k d = (
   firsts_apart p q ms zs k.1 d.1,
 )
 
-pub all_firsts : (parts : List Lent) (p q : PackageRecord) (laid : List (Option Laid)) (ms : List Member) → StandsFor parts p → IsWrittenAnew p laid ms q → Each (Known p q ms) (pairs_in p laid ms) → AreApartBy first_of (length p.methods.handlers) ms
+pub all_firsts : (parts : List Lent) (p q : PackageRecord) (laid : List (Option Laid)) (ms : List WrittenMember) → StandsFor parts p → IsWrittenAnew p laid ms q → Each (Known p q ms) (pairs_in p laid ms) → AreApartBy first_of (length p.methods.handlers) ms
 all_firsts parts p q laid ms s w ks = subst (AreApartBy first_of (length p.methods.handlers)) (pair_members p.methods.info (sources p laid) ms w.members) (firsts_apart p q ms (pairs_in p laid ms) ks (blocks_differ parts p q laid ms s w))
 
 -- ---- handlers before
 
 -- the block of a method stands after those of methods whose blocks came before
-pub record HasRank (p : PackageRecord) (laid : List (Option Laid)) (ms : List Member) (z : Pair) : Type 0 where
+pub record HasRank (p : PackageRecord) (laid : List (Option Laid)) (ms : List WrittenMember) (z : Pair) : Type 0 where
   pub before : ℕ
   pub among : IsAmong (blocks (length p.methods.handlers) ms) z.member before
   pub sum : before ≡ sum_by (λ (y : Pair). many_of y.member) (filter (λ (y : Pair). nat_lt (block_in p y) (block_in p z)) (pairs_in p laid ms))
@@ -210,7 +210,7 @@ below_early p s o i n e lt (had_not k h) =
     let f : nat_lt (block_of p s) n ≡ false = le-ltb (block_of p s) n (omega arith) in
     ap (key_below i) k ∙ sym f
 
-early_rank : (p q : PackageRecord) (laid : List (Option Laid)) (ms : List Member) (z : Pair) (i : ℕ) → IsWrittenAnew p laid ms q → Each (Known p q ms) (pairs_in p laid ms) → Has (pairs_in p laid ms) z
+early_rank : (p q : PackageRecord) (laid : List (Option Laid)) (ms : List WrittenMember) (z : Pair) (i : ℕ) → IsWrittenAnew p laid ms q → Each (Known p q ms) (pairs_in p laid ms) → Has (pairs_in p laid ms) z
     → AreApartBy first_of (length p.methods.handlers) ms → first_handler z.source.method ≡ Some i → HadFirst p z.source i → HasRank p laid ms z
 early_rank p q laid ms z i w ks h apart e hf =
     let room = length p.methods.handlers in
@@ -233,10 +233,10 @@ early_rank p q laid ms z i w ks h apart e hf =
           (each_of (λ (y : Pair). many_of y.member ≡ many_of y.member) zs (λ y g. refl)) tests;
     }
   where
-    no_slot : (b : Member) → None ≡ Some b → ⊥
+    no_slot : (b : WrittenMember) → None ≡ Some b → ⊥
     no_slot b k = cc
 
-    held : (j : ℕ) (b : Member) → (slot (replicate (length p.methods.handlers) None) j ≡ Some b) ⊎ (Has ms b × (first_of b ≡ Some j)) → Has ms b × (first_of b ≡ Some j)
+    held : (j : ℕ) (b : WrittenMember) → (slot (replicate (length p.methods.handlers) None) j ≡ Some b) ⊎ (Has ms b × (first_of b ≡ Some j)) → Has ms b × (first_of b ≡ Some j)
     held j b (inl e) = absurd (no_slot b (sym (slot_none (length p.methods.handlers) j) ∙ e))
     held j b (inr g) = g
 
@@ -274,12 +274,12 @@ late_after p s o k n e le c (had_not f h) =
     let b = h.block in
     le-ltb (block_of p s) k (omega arith) ∙ ap (λ x. not (had_none_of x)) (sym f)
 
-rising_pairs : (p q : PackageRecord) (laid : List (Option Laid)) (ms : List Member) → IsWrittenAnew p laid ms q → Rising (λ (z : Pair). z.source.number) (pairs_in p laid ms)
+rising_pairs : (p q : PackageRecord) (laid : List (Option Laid)) (ms : List WrittenMember) → IsWrittenAnew p laid ms q → Rising (λ (z : Pair). z.source.number) (pairs_in p laid ms)
 rising_pairs p q laid ms w = rising_map (λ (s : FormerMethod). s.number) source_in (pairs_in p laid ms)
     (subst (Rising (λ (s : FormerMethod). s.number)) (sym (pair_sources p.methods.info (sources p laid) ms w.members)) (rising_sources 0 (described_methods p) _))
 
 -- how many handlers those methods have that had some
-early_total : (p q : PackageRecord) (laid : List (Option Laid)) (ms : List Member) → IsWrittenAnew p laid ms q → Each (Known p q ms) (pairs_in p laid ms) → AreApartBy first_of (length p.methods.handlers) ms
+early_total : (p q : PackageRecord) (laid : List (Option Laid)) (ms : List WrittenMember) → IsWrittenAnew p laid ms q → Each (Known p q ms) (pairs_in p laid ms) → AreApartBy first_of (length p.methods.handlers) ms
     → total_handlers (present (firsts (length p.methods.handlers) ms)) ≡ sum_by (λ (y : Pair). many_of y.member) (filter (λ (y : Pair). not (had_none y.member)) (pairs_in p laid ms))
 early_total p q laid ms w ks apart =
     let room = length p.methods.handlers in
@@ -298,7 +298,7 @@ early_total p q laid ms w ks apart =
 map_parts : {X Y : Type 0} (g : X → Y) (xs ys : List X) (x : X) → map g (xs ++ x ∷ ys) ≡ map g xs ++ g x ∷ map g ys
 map_parts g xs ys x = map-append g xs (x ∷ ys)
 
-late_rank : (p q : PackageRecord) (laid : List (Option Laid)) (ms : List Member) (z : Pair) → IsWrittenAnew p laid ms q → Each (Known p q ms) (pairs_in p laid ms) → Has (pairs_in p laid ms) z
+late_rank : (p q : PackageRecord) (laid : List (Option Laid)) (ms : List WrittenMember) (z : Pair) → IsWrittenAnew p laid ms q → Each (Known p q ms) (pairs_in p laid ms) → Has (pairs_in p laid ms) z
     → AreApartBy first_of (length p.methods.handlers) ms → first_handler z.source.method ≡ None → HadNone p z.source → HasRank p laid ms z
 late_rank p q laid ms z w ks h apart e hn =
     let room = length p.methods.handlers in
@@ -349,7 +349,7 @@ late_rank p q laid ms z w ks h apart e hn =
     not_less rest y (inl s) a = let n = ap (λ (x : Pair). x.source.number) s in omega arith
     not_less rest y (inr h) a = let n = each_at (λ (x : Pair). z.source.number < x.source.number) rest y a h in omega arith
 
-pub rank : (parts : List Lent) (p q : PackageRecord) (laid : List (Option Laid)) (ms : List Member) (z : Pair) → StandsFor parts p → IsWrittenAnew p laid ms q → Each (Known p q ms) (pairs_in p laid ms) → Has (pairs_in p laid ms) z → HasRank p laid ms z
+pub rank : (parts : List Lent) (p q : PackageRecord) (laid : List (Option Laid)) (ms : List WrittenMember) (z : Pair) → StandsFor parts p → IsWrittenAnew p laid ms q → Each (Known p q ms) (pairs_in p laid ms) → Has (pairs_in p laid ms) z → HasRank p laid ms z
 rank parts p q laid ms z s w ks h = by (was_first p z.source)
   where
     by : WasFirst p z.source (first_handler z.source.method) → HasRank p laid ms z
@@ -359,7 +359,7 @@ rank parts p q laid ms z s w ks h = by (was_first p z.source)
 -- ---- whole sizes
 
 -- all methods together have the handlers of the blocks
-pub all_handlers : (parts : List Lent) (p q : PackageRecord) (laid : List (Option Laid)) (ms : List Member) → StandsFor parts p → IsWrittenAnew p laid ms q → Each (Known p q ms) (pairs_in p laid ms)
+pub all_handlers : (parts : List Lent) (p q : PackageRecord) (laid : List (Option Laid)) (ms : List WrittenMember) → StandsFor parts p → IsWrittenAnew p laid ms q → Each (Known p q ms) (pairs_in p laid ms)
     → length q.methods.handlers ≡ sum_by handlers_in (map (change_in (places p ms)) (pairs_in p laid ms))
 all_handlers parts p q laid ms s w ks =
     let room = length p.methods.handlers in
@@ -379,7 +379,7 @@ all_handlers parts p q laid ms s w ks =
     let c : total_handlers (blocks room ms) ≡ total_handlers (present (firsts room ms) ++ filter had_none ms) = refl in
     omega (arith, had, none, both, blocks_total, same, a, b, c)
 
-length_bodies : (table : List (Option Member)) → length (bodies table) ≡ sum_slots size_of (length table) table
+length_bodies : (table : List (Option WrittenMember)) → length (bodies table) ≡ sum_slots size_of (length table) table
 length_bodies [] = refl
 length_bodies (None ∷ table) = let r = length_bodies table in omega arith
 length_bodies (Some m ∷ table) =
@@ -388,11 +388,11 @@ length_bodies (Some m ∷ table) =
     let b = length_body m.body in
     omega arith
 
-below_size : (size : ℕ) (ms : List Member) → AreMembers size ms → Each (λ (m : Member). key_below size (at_offset_of m) ≡ true) ms
+below_size : (size : ℕ) (ms : List WrittenMember) → AreMembers size ms → Each (λ (m : WrittenMember). key_below size (at_offset_of m) ≡ true) ms
 below_size size [] a = tt
 below_size size (m ∷ ms) a = (lt-ltb m.offset size a.0.within, below_size size ms a.1)
 
-pub whole_info : (p q : PackageRecord) (laid : List (Option Laid)) (ms : List Member) → IsWrittenAnew p laid ms q → Each (Known p q ms) (pairs_in p laid ms)
+pub whole_info : (p q : PackageRecord) (laid : List (Option Laid)) (ms : List WrittenMember) → IsWrittenAnew p laid ms q → Each (Known p q ms) (pairs_in p laid ms)
     → length q.methods.info ≡ methods_begin q + sum_by (size_written q) (map (change_in (places p ms)) (pairs_in p laid ms))
 unfolding written_info
 whole_info p q laid ms w ks =
@@ -400,7 +400,7 @@ whole_info p q laid ms w ks =
     let room = length p.methods.handlers in
     let zs = pairs_in p laid ms in
     let news = places p ms in
-    let entries = entries_of news (blocks room ms) in
+    let entries = entries_of_blocks news (blocks room ms) in
     let table = by_offset size ms in
     let a = ap length w.info in
     let b = length-append (table_bytes entries) (bodies table) in

@@ -13,14 +13,14 @@ use Rattle.cap_renewal.specs.NewMethods.{to}
 use Rattle.cap_renewal.specs.DescriptorEdits.{renewed_method}
 use Rattle.cap_laying.specs.declared.member.Body.{Body}
 use Rattle.cap_laying.specs.declared.member.Body.TheVariants.{Code, Header as Lead}
-use Rattle.cap_laying.specs.declared.member.Member.{Member}
+use Rattle.cap_laying.specs.declared.member.WrittenMember.{WrittenMember}
 use Rattle.cap_laying.specs.HandlerTable.{entries_at}
 use Rattle.cap_laying.specs.Member.{body_bytes, body_size, code_size, lead_size}
 use Rattle.cap_laying.specs.Member.{handlers_of as laid_handlers}
 use Rattle.cap_laying.specs.Blocks.{blocks, handler_indexes, block_entries}
 use Rattle.cap_laying.specs.Members.{AreMembers}
 use Rattle.cap_laying.specs.Laws.{HeadersReadBack}
-use Rattle.cap_laying.specs.Standing.{StandsAnew, MethodsStand}
+use Rattle.cap_laying.specs.Standing.{StandsAnew, WrittenMethodsStand}
 use Rattle.jc_decode.specs.declared.symbols.Laid.{Laid}
 use Rattle.cap_rewritten.specs.Changes.{FormerMethod, sources, laid_but}
 use Rattle.cap_rewritten.specs.Written.{IsAs, size_written, lead_bytes}
@@ -35,21 +35,21 @@ use Rattle.cap_rewritten.proofs.Handlers.{ClaimsInside, all_claims}
 use Rattle.cap_rewritten.proofs.Anew.{Pair, pairs_in, source_in, member_in, pair_sources, pair_members, pair_each, change_in, standing, IsToldOf, is_told_of}
 use Rattle.cap_rewritten.proofs.AsLaid.{IsCodeAt, code_at, IsLeadAt, lead_at}
 
-pub was_described : (p q : PackageRecord) (laid : List (Option Laid)) (ms : List Member) → IsWrittenAnew p laid ms q → map method_of (sources p laid) ≡ described_methods p
+pub was_described : (p q : PackageRecord) (laid : List (Option Laid)) (ms : List WrittenMember) → IsWrittenAnew p laid ms q → map method_of (sources p laid) ≡ described_methods p
 was_described p q laid ms w = sources_method 0 (described_methods p) (laid_but (names_interface p.classes) p.description.items.classes laid) (length_but (names_interface p.classes) p.description.items.classes laid w.each)
 
 -- ---- from methods, sources and members to pairs
 
-of_sources : (p q : PackageRecord) (laid : List (Option Laid)) (ms : List Member) (P : FormerMethod → Type 0) → IsWrittenAnew p laid ms q → Each P (sources p laid) → Each (λ (z : Pair). P z.source) (pairs_in p laid ms)
+of_sources : (p q : PackageRecord) (laid : List (Option Laid)) (ms : List WrittenMember) (P : FormerMethod → Type 0) → IsWrittenAnew p laid ms q → Each P (sources p laid) → Each (λ (z : Pair). P z.source) (pairs_in p laid ms)
 of_sources p q laid ms P w h = map_each P source_in (pairs_in p laid ms) (subst (Each P) (sym (pair_sources p.methods.info (sources p laid) ms w.members)) h)
 
-pub of_members : (p q : PackageRecord) (laid : List (Option Laid)) (ms : List Member) (P : Member → Type 0) → IsWrittenAnew p laid ms q → Each P ms → Each (λ (z : Pair). P z.member) (pairs_in p laid ms)
+pub of_members : (p q : PackageRecord) (laid : List (Option Laid)) (ms : List WrittenMember) (P : WrittenMember → Type 0) → IsWrittenAnew p laid ms q → Each P ms → Each (λ (z : Pair). P z.member) (pairs_in p laid ms)
 of_members p q laid ms P w h = map_each P member_in (pairs_in p laid ms) (subst (Each P) (sym (pair_members p.methods.info (sources p laid) ms w.members)) h)
 
-pub of_methods : (p q : PackageRecord) (laid : List (Option Laid)) (ms : List Member) (P : MethodDescriptor → Type 0) → IsWrittenAnew p laid ms q → Each P (described_methods p) → Each (λ (z : Pair). P z.source.method) (pairs_in p laid ms)
+pub of_methods : (p q : PackageRecord) (laid : List (Option Laid)) (ms : List WrittenMember) (P : MethodDescriptor → Type 0) → IsWrittenAnew p laid ms q → Each P (described_methods p) → Each (λ (z : Pair). P z.source.method) (pairs_in p laid ms)
 of_methods p q laid ms P w h = of_sources p q laid ms (λ (s : FormerMethod). P s.method) w (map_each P method_of (sources p laid) (subst (Each P) (sym (was_described p q laid ms w)) h))
 
-each_within : (size : ℕ) (ms : List Member) → AreMembers size ms → Each (λ (m : Member). m.offset < size) ms
+each_within : (size : ℕ) (ms : List WrittenMember) → AreMembers size ms → Each (λ (m : WrittenMember). m.offset < size) ms
 each_within size [] a = tt
 each_within size (m ∷ ms) a = (a.0.within, each_within size ms a.1)
 
@@ -83,7 +83,7 @@ body_lead xs ys s (Lead header) at i = i.1.size ∙ sym i.1.long
 
 -- ---- all
 
-pub record Known (p q : PackageRecord) (ms : List Member) (z : Pair) : Type 0 where
+pub record Known (p q : PackageRecord) (ms : List WrittenMember) (z : Pair) : Type 0 where
   pub is : IsMemberOf p.methods.info z.source z.member
   pub told : IsToldOf (places p ms) (handler_indexes (length p.methods.info) (blocks (length p.methods.handlers) ms)) z
   pub was : WasWell p z.source.method
@@ -91,7 +91,7 @@ pub record Known (p q : PackageRecord) (ms : List Member) (z : Pair) : Type 0 wh
   pub within : z.member.offset < length p.methods.info
   pub body : IsBodyAt p.methods.info q.methods.info z.source z.member.body (to (places p ms) z.member.offset)
 
-pub told_all : (p q : PackageRecord) (laid : List (Option Laid)) (ms : List Member) → IsWrittenAnew p laid ms q → MethodsStand
+pub told_all : (p q : PackageRecord) (laid : List (Option Laid)) (ms : List WrittenMember) → IsWrittenAnew p laid ms q → WrittenMethodsStand
     → Each (λ (z : Pair). IsToldOf (places p ms) (handler_indexes (length p.methods.info) (blocks (length p.methods.handlers) ms)) z) (pairs_in p laid ms)
 told_all p q laid ms w stand =
     let zs = pairs_in p laid ms in
@@ -102,7 +102,7 @@ told_all p q laid ms w stand =
     each_of (λ (z : Pair). IsToldOf (places p ms) (handler_indexes size (blocks room ms)) z) zs
     (λ z h. is_told_of p.methods.info size room ms z (each_at (λ (x : Pair). IsMemberOf p.methods.info x.source x.member) zs z is h) (each_at (λ (x : Pair). StandsAnew size room ms x.member) zs z st h))
 
-pub known : (parts : List Lent) (p q : PackageRecord) (laid : List (Option Laid)) (ms : List Member) → StandsFor parts p → AreLaidFor p laid → IsWrittenAnew p laid ms q → MethodsStand → HeadersReadBack → Each (Known p q ms) (pairs_in p laid ms)
+pub known : (parts : List Lent) (p q : PackageRecord) (laid : List (Option Laid)) (ms : List WrittenMember) → StandsFor parts p → AreLaidFor p laid → IsWrittenAnew p laid ms q → WrittenMethodsStand → HeadersReadBack → Each (Known p q ms) (pairs_in p laid ms)
 known parts p q laid ms s l w stand back =
     let zs = pairs_in p laid ms in
     let size = length p.methods.info in
@@ -113,7 +113,7 @@ known parts p q laid ms s l w stand back =
     let told = told_all p q laid ms w stand in
     let was = of_methods p q laid ms (WasWell p) w (wells parts p a) in
     let inside = of_methods p q laid ms (ClaimsInside room) w (all_claims parts p a) in
-    let within = of_members p q laid ms (λ (m : Member). m.offset < size) w (each_within size ms w.may.each) in
+    let within = of_members p q laid ms (λ (m : WrittenMember). m.offset < size) w (each_within size ms w.may.each) in
     let fits = of_sources p q laid ms (FitsHeader p) w (Each-from_All (FitsHeader p) (sources p laid) l) in
     let small = of_sources p q laid ms HasSmallStack w (Each-from_All HasSmallStack (sources p laid) w.stacks) in
     each_of (Known p q ms) zs (λ z h.
@@ -135,14 +135,14 @@ known parts p q laid ms s l w stand back =
     })
 
 -- its size is that of its body
-pub size_known : (p q : PackageRecord) (ms : List Member) (z : Pair) → Known p q ms z → size_written q (change_in (places p ms) z) ≡ body_size z.member.body
+pub size_known : (p q : PackageRecord) (ms : List WrittenMember) (z : Pair) → Known p q ms z → size_written q (change_in (places p ms) z) ≡ body_size z.member.body
 size_known p q ms z k =
     let at = to (places p ms) z.member.offset in
     let a : size_written q (change_in (places p ms) z) ≡ size_by (number_at 1 at q.methods.info) + (renewed_method (places p ms) z.source.method).bytecode_count =
     ap (λ n. size_by (number_at 1 n q.methods.info) + (renewed_method (places p ms) z.source.method).bytecode_count) k.told.offset in
     a ∙ ap (λ n. size_by (number_at 1 at q.methods.info) + n) k.told.count ∙ body_long p.methods.info q.methods.info z.source z.member.body at k.body
 
-start_known : (p q : PackageRecord) (ms : List Member) (z : Pair) → Known p q ms z → code_start q.methods.info (renewed_method (places p ms) z.source.method) ≡ to (places p ms) z.member.offset + lead_size z.member.body
+start_known : (p q : PackageRecord) (ms : List WrittenMember) (z : Pair) → Known p q ms z → code_start q.methods.info (renewed_method (places p ms) z.source.method) ≡ to (places p ms) z.member.offset + lead_size z.member.body
 unfolding code_start
 start_known p q ms z k =
     let at = to (places p ms) z.member.offset in
@@ -171,7 +171,7 @@ as_laid_by p q s m (Lead header) at i offset count many start handlers =
     })
 
 -- it is as it is to be, where its entries are those of its block
-pub as_laid : (p q : PackageRecord) (ms : List Member) (z : Pair) → Known p q ms z → handlers_of q (renewed_method (places p ms) z.source.method) ≡ block_entries (places p ms) z.member
+pub as_laid : (p q : PackageRecord) (ms : List WrittenMember) (z : Pair) → Known p q ms z → handlers_of q (renewed_method (places p ms) z.source.method) ≡ block_entries (places p ms) z.member
     → IsAs p q z.source.method z.source.laid (renewed_method (places p ms) z.source.method)
 as_laid p q ms z k handlers =
     as_laid_by p q z.source (renewed_method (places p ms) z.source.method) z.member.body (to (places p ms) z.member.offset) k.body k.told.offset k.told.count k.told.many (start_known p q ms z k) handlers

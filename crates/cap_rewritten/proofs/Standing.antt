@@ -11,7 +11,7 @@ use Rattle.cap_package.specs.MethodChecks.{code_start, code_end, share_byte, ove
 use Rattle.cap_package.proofs.StaticsKnown.{both_empty}
 use Rattle.jc_decode.specs.declared.symbols.Laid.{Laid}
 use Rattle.cap_rewritten.specs.Changes.{Change, changes}
-use Rattle.cap_rewritten.specs.Written.{IsWritten, size_written, methods_begin}
+use Rattle.cap_rewritten.specs.Written.{IsMethodWritten, size_written, methods_begin}
 use Rattle.cap_rewritten.specs.Rewritten.{IsRewritten}
 use Rattle.cap_rewritten.proofs.Lists.{Each, Has, each_at, each_of, map_each, none_each, each_none, append_none, faults_map, faults_append}
 use Rattle.cap_rewritten.proofs.Sums.{sum_beside}
@@ -68,10 +68,10 @@ apart parts p q laid a r =
 
 -- ---- they stand apart
 
-place_of : (p q : PackageRecord) (all : List Change) (c : Change) → IsWritten p q all c → c.now.method_offset ≡ methods_begin q + below (size_written q) offset_of all (offset_of c)
+place_of : (p q : PackageRecord) (all : List Change) (c : Change) → IsMethodWritten p q all c → c.now.method_offset ≡ methods_begin q + below (size_written q) offset_of all (offset_of c)
 place_of p q all c w = w.place
 
-pub one_ends : (p q : PackageRecord) (all : List Change) (c d : Change) → IsWritten p q all c → IsWritten p q all d → Has all c → offset_of c < offset_of d → code_end q.methods.info c.now ≤ d.now.method_offset
+pub one_ends : (p q : PackageRecord) (all : List Change) (c d : Change) → IsMethodWritten p q all c → IsMethodWritten p q all d → Has all c → offset_of c < offset_of d → code_end q.methods.info c.now ≤ d.now.method_offset
 one_ends p q all c d w v h lt =
     let a = place_of p q all c w in
     let b = place_of p q all d v in
@@ -96,14 +96,14 @@ shares_none info a b (inr h) =
     let e : nat_lt (max a.method_offset b.method_offset) (min (min (code_end info a) (code_end info b)) (length info)) ≡ false = grind arith in
     rw e refl
 
-pair_none : (p q : PackageRecord) (all : List Change) (c d : Change) → Each (IsWritten p q all) all → Has all c → Has all d → (offset_of d ≡ offset_of c → ⊥) → overlap_fault q.methods.info c.now d.now ≡ None
+pair_none : (p q : PackageRecord) (all : List Change) (c d : Change) → Each (IsMethodWritten p q all) all → Has all c → Has all d → (offset_of d ≡ offset_of c → ⊥) → overlap_fault q.methods.info c.now d.now ≡ None
 pair_none p q all c d ws hc hd ne = by (compare (offset_of d) (offset_of c) ne)
   where
     by : (offset_of d < offset_of c) ⊎ (offset_of c < offset_of d) → overlap_fault q.methods.info c.now d.now ≡ None
-    by (inl lt) = shares_none q.methods.info c.now d.now (inr (one_ends p q all d c (each_at (IsWritten p q all) all d ws hd) (each_at (IsWritten p q all) all c ws hc) hd lt))
-    by (inr lt) = shares_none q.methods.info c.now d.now (inl (one_ends p q all c d (each_at (IsWritten p q all) all c ws hc) (each_at (IsWritten p q all) all d ws hd) hc lt))
+    by (inl lt) = shares_none q.methods.info c.now d.now (inr (one_ends p q all d c (each_at (IsMethodWritten p q all) all d ws hd) (each_at (IsMethodWritten p q all) all c ws hc) hd lt))
+    by (inr lt) = shares_none q.methods.info c.now d.now (inl (one_ends p q all c d (each_at (IsMethodWritten p q all) all c ws hc) (each_at (IsMethodWritten p q all) all d ws hd) hc lt))
 
-no_pairs : (p q : PackageRecord) (all cs : List Change) → Each (IsWritten p q all) all → ((c : Change) → Has cs c → Has all c) → Distinct offset_of cs → filter_map (overlap_pair q.methods.info) (pairs (map now_of cs)) ≡ []
+no_pairs : (p q : PackageRecord) (all cs : List Change) → Each (IsMethodWritten p q all) all → ((c : Change) → Has cs c → Has all c) → Distinct offset_of cs → filter_map (overlap_pair q.methods.info) (pairs (map now_of cs)) ≡ []
 no_pairs p q all [] ws i d = refl
 no_pairs p q all (c ∷ cs) ws i d =
     let info = q.methods.info in
@@ -131,7 +131,7 @@ lies_inside info n m low high =
 itself : (a : ℕ) → nat_lt a a ≡ false
 itself a = grind arith
 
-pub ends_inside : (p q : PackageRecord) (all : List Change) (c : Change) → IsWritten p q all c → Has all c → length q.methods.info ≡ methods_begin q + sum_by (size_written q) all → code_end q.methods.info c.now ≤ length q.methods.info
+pub ends_inside : (p q : PackageRecord) (all : List Change) (c : Change) → IsMethodWritten p q all c → Has all c → length q.methods.info ≡ methods_begin q + sum_by (size_written q) all → code_end q.methods.info c.now ≤ length q.methods.info
 ends_inside p q all c w h long =
     let a = place_of p q all c w in
     let e = sizes_end q.methods.info c.now in
@@ -144,6 +144,6 @@ lie_inside p q laid r =
     let ws = all_written p q laid r in
     no_faults p q laid (outside_fault q.methods.info (length q.methods.handlers)) r
     (each_of (λ (c : Change). outside_fault q.methods.info (length q.methods.handlers) c.now ≡ None) cs
-    (λ c h. let w = each_at (IsWritten p q cs) cs c ws h in
+    (λ c h. let w = each_at (IsMethodWritten p q cs) cs c ws h in
     let a = place_of p q cs c w in
     lies_inside q.methods.info (length q.methods.handlers) c.now (omega arith) (ends_inside p q cs c w h r.long)))

@@ -8,7 +8,7 @@ use Rattle.cap_components.specs.Parts.{Lent, held}
 use Rattle.cap_components.specs.PackageRecord.{PackageRecord}
 use Rattle.cap_components.specs.Saying.{AreSaid}
 use Rattle.cap_package.specs.StandsFor.{StandsFor}
-use Rattle.cap_laying.specs.declared.member.Member.{Member}
+use Rattle.cap_laying.specs.declared.member.WrittenMember.{WrittenMember}
 use Rattle.jc_decode.specs.declared.symbols.Laid.{Laid}
 use Rattle.cap_rewritten.specs.Laying.{AreLaidFor}
 use Rattle.cap_rewritten.specs.Rewritten.{IsRewritten}
@@ -31,5 +31,5 @@ RewrittenStands = (parts new_parts : List Lent) (p q : PackageRecord) (laid : Li
 
 -- what is written, component by component, is the package with the code that is laid
 abbrev pub WritingRewrites : Type 0
-WritingRewrites = (parts : List Lent) (p q : PackageRecord) (laid : List (Option Laid)) (ms : List Member)
+WritingRewrites = (parts : List Lent) (p q : PackageRecord) (laid : List (Option Laid)) (ms : List WrittenMember)
     → StandsFor parts p → AreLaidFor p laid → IsWrittenAnew p laid ms q → IsRewritten p laid q

@@ -15,7 +15,7 @@ use Rattle.cap_renewal.specs.ClassEdits.{renewed_class}
 use Rattle.cap_renewal.specs.ExportEdits.{renewed_exported}
 use Rattle.jc_decode.specs.declared.symbols.Laid.{Laid}
 use Rattle.cap_rewritten.specs.Changes.{changes, now_at}
-use Rattle.cap_rewritten.specs.Written.{IsWritten, size_written, handlers_in, methods_begin}
+use Rattle.cap_rewritten.specs.Written.{IsMethodWritten, size_written, handlers_in, methods_begin}
 
 -- ---- the Descriptor
 
@@ -64,6 +64,6 @@ pub record IsRewritten (p : PackageRecord) (laid : List (Option Laid)) (q : Pack
   pub description : HasSameDescription (names_interface p.classes) p.description q.description
   -- the methods, with nothing between or after them
   pub each : length laid ≡ length (methods_of p.description.items.classes)
-  pub written : All (IsWritten p q (changes p laid q)) (changes p laid q)
+  pub written : All (IsMethodWritten p q (changes p laid q)) (changes p laid q)
   pub long : length q.methods.info ≡ methods_begin q + sum_by (size_written q) (changes p laid q)
   pub handlers : length q.methods.handlers ≡ sum_by handlers_in (changes p laid q)

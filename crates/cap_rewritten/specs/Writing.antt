@@ -15,8 +15,8 @@ use Rattle.cap_renewal.specs.ExportEdits.{renewed_exported}
 use Rattle.cap_renewal.specs.DescriptorEdits.{renewed_descriptor}
 use Rattle.cap_laying.specs.declared.member.Body.{Body}
 use Rattle.cap_laying.specs.declared.member.Body.TheVariants.{Code, Header}
-use Rattle.cap_laying.specs.declared.member.Member.{Member}
-use Rattle.cap_laying.specs.Blocks.{blocks, entries_of}
+use Rattle.cap_laying.specs.declared.member.WrittenMember.{WrittenMember}
+use Rattle.cap_laying.specs.Blocks.{blocks, entries_of_blocks}
 use Rattle.cap_laying.specs.Members.{MayBeWritten, new_places, written_info}
 use Rattle.jc_decode.specs.declared.symbols.Laid.{Laid}
 use Rattle.cap_rewritten.specs.Changes.{FormerMethod, sources}
@@ -35,12 +35,12 @@ IsBodyOf info s (Code laid) = s.laid ≡ Some laid.now
 IsBodyOf info s (Header header) = (s.laid ≡ None) × (header.now ≡ lead_bytes info s.method.method_offset)
 
 -- a method as it is written
-pub record IsMemberOf (info : List ℕ) (s : FormerMethod) (m : Member) : Type 0 where
+pub record IsMemberOf (info : List ℕ) (s : FormerMethod) (m : WrittenMember) : Type 0 where
   pub offset : m.offset ≡ s.method.method_offset
   pub handlers : m.handlers_from ≡ first_handler s.method
   pub body : IsBodyOf info s m.body
 
-abbrev pub AreMembersOf : List ℕ → List FormerMethod → List Member → Type 0
+abbrev pub AreMembersOf : List ℕ → List FormerMethod → List WrittenMember → Type 0
 AreMembersOf info [] [] = Unit {0}
 AreMembersOf info [] (m ∷ ms) = ⊥
 AreMembersOf info (s ∷ ss) [] = ⊥
@@ -51,19 +51,19 @@ abbrev pub HasSmallStack : FormerMethod → Type 0
 HasSmallStack s = IfSome s.laid (λ laid. laid.max_stack < 256)
 
 -- where each method is written, by its former offset
-abbrev pub places : PackageRecord → List Member → List (Option NewMethod)
+abbrev pub places : PackageRecord → List WrittenMember → List (Option NewMethod)
 places p ms = new_places (length p.methods.info) (length p.methods.handlers) ms
 
 -- ---- the components
 
 -- q is what is written: the Method component anew, offsets of methods renewed in the others, and all else as it was
-pub record IsWrittenAnew (p : PackageRecord) (laid : List (Option Laid)) (ms : List Member) (q : PackageRecord) : Type 0 where
+pub record IsWrittenAnew (p : PackageRecord) (laid : List (Option Laid)) (ms : List WrittenMember) (q : PackageRecord) : Type 0 where
   pub each : length laid ≡ length (methods_of p.description.items.classes)
   pub stacks : All HasSmallStack (sources p laid)
   pub members : AreMembersOf p.methods.info (sources p laid) ms
   pub may : MayBeWritten (length p.methods.info) ms
   pub info : q.methods.info ≡ written_info (length p.methods.info) (length p.methods.handlers) ms
-  pub handlers : q.methods.handlers ≡ entries_of (places p ms) (blocks (length p.methods.handlers) ms)
+  pub handlers : q.methods.handlers ≡ entries_of_blocks (places p ms) (blocks (length p.methods.handlers) ms)
   pub applets : q.applets ≡ option_map (map (renewed_applet (to (places p ms)))) p.applets
   pub pool : q.pool ≡ map (renewed_entry (to (places p ms))) p.pool
   pub classes : q.classes ≡ map (renewed_class (to (places p ms))) p.classes

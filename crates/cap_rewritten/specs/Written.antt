@@ -62,7 +62,7 @@ methods_begin q = 1 + 8 * length q.methods.handlers
 
 -- among these methods it is as it is to be; it stands after the handler table and the methods that stood before it, and its
 -- handlers stand after theirs
-pub record IsWritten (p q : PackageRecord) (all : List Change) (c : Change) : Type 0 where
+pub record IsMethodWritten (p q : PackageRecord) (all : List Change) (c : Change) : Type 0 where
   pub is : IsAs p q c.source.method c.source.laid c.now
   pub place : c.now.method_offset ≡ methods_begin q + sum_by (size_written q) (filter (stood_before c) all)
   pub index : c.now.handler_index ≡ (if c.now.handler_count == 0 then 0 else sum_by handlers_in (filter (caught_before p c) all))

@@ -5,7 +5,7 @@ use Rattle.std.specs.List.{concat}
 use Rattle.cap_bytes.specs.declared.fault.FormKind.{FormKind}
 use Rattle.cap_bytes.specs.declared.fault.FormKind.TheVariants.{Cut, WrongTag, BadMagic, BadVersion, Trailing, BadValue, Remote}
 use Rattle.cap_bytes.specs.declared.fault.FormFault.{FormFault}
-use Rattle.cap_components.specs.CountKind.{number_of}
+use Rattle.cap_components.specs.CountKind.{number_of_kind}
 use Rattle.cap_components.specs.declared.fault.PackFault.{PackFault}
 use Rattle.cap_components.specs.declared.fault.PackFault.TheVariants.{Form, MissingPart, SizeDisagrees, MethodOverlaps, MethodOutside, CountDisagrees, HandlerOutside, StaticOverlaps, NoMethodAt, ClassUndescribed, TooManyRegisters, BadType, StaticOutside, MethodLength, NoStaticAt, PartTooLong}
 
@@ -37,7 +37,7 @@ pack_fault_text (MissingPart part) = name_1 (codes "MissingPart") part
 pack_fault_text (SizeDisagrees part said found) = name_3 (codes "SizeDisagrees") part said found
 pack_fault_text (MethodOverlaps first second) = name_2 (codes "MethodOverlaps") first second
 pack_fault_text (MethodOutside at) = name_1 (codes "MethodOutside") at
-pack_fault_text (CountDisagrees what said found) = name_3 (codes "CountDisagrees") (number_of what) said found
+pack_fault_text (CountDisagrees what said found) = name_3 (codes "CountDisagrees") (number_of_kind what) said found
 pack_fault_text (HandlerOutside number) = name_1 (codes "HandlerOutside") number
 pack_fault_text (StaticOverlaps first second) = name_2 (codes "StaticOverlaps") first second
 pack_fault_text (NoMethodAt at) = name_1 (codes "NoMethodAt") at

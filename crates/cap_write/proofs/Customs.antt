@@ -6,7 +6,7 @@ use Rattle.std.proofs.lemmas.Bool.{eqb-true, ne_eqb}
 use Rattle.cap_frame.specs.Tags.{index_aid}
 use Rattle.cap_frame.specs.DirectoryFormat.{Custom, is_new_tag, and_that_of}
 use Rattle.cap_directory.specs.Laws.{AreCustoms}
-use Rattle.cap_directory.specs.NewDirectory.{drops, stays, index_entry, new_customs}
+use Rattle.cap_directory.specs.NewDirectory.{drops, stays_in_index, index_entry, new_customs}
 use Rattle.cap_directory.specs.declared.sizes.IndexChange.{IndexChange}
 use Rattle.cap_directory.specs.declared.sizes.IndexChange.TheVariants.{Kept, Dropped, Written}
 
@@ -26,14 +26,14 @@ find_back tag (x ∷ xs) ys e = by (x.tag == tag) e (λ k. find_back tag xs ys k
     by false e rest = rest e
 
 -- a component with another tag stays
-find_other : (change : IndexChange) (tag : ℕ) (cs : List Custom) → (tag ≡ 128 → ⊥) → find (has_tag tag) (filter (stays change) cs) ≡ find (has_tag tag) cs
+find_other : (change : IndexChange) (tag : ℕ) (cs : List Custom) → (tag ≡ 128 → ⊥) → find (has_tag tag) (filter (stays_in_index change) cs) ≡ find (has_tag tag) cs
 find_other change tag [] h = refl
 find_other change tag (c ∷ cs) h = by (drops change) (c.tag == 128) (c.tag == tag) refl refl (find_other change tag cs h)
   where
-    by : (d x y : Bool) → (c.tag == 128) ≡ x → (c.tag == tag) ≡ y → find (has_tag tag) (filter (stays change) cs) ≡ find (has_tag tag) cs
-        → find (has_tag tag) (cond (not (d && x)) (c ∷ filter (stays change) cs) (filter (stays change) cs)) ≡ cond y (Some c) (find (has_tag tag) cs)
-    by false x y e f r = ap (λ b. cond b (Some c) (find (has_tag tag) (filter (stays change) cs))) f ∙ ap (λ o. cond y (Some c) o) r
-    by true false y e f r = ap (λ b. cond b (Some c) (find (has_tag tag) (filter (stays change) cs))) f ∙ ap (λ o. cond y (Some c) o) r
+    by : (d x y : Bool) → (c.tag == 128) ≡ x → (c.tag == tag) ≡ y → find (has_tag tag) (filter (stays_in_index change) cs) ≡ find (has_tag tag) cs
+        → find (has_tag tag) (cond (not (d && x)) (c ∷ filter (stays_in_index change) cs) (filter (stays_in_index change) cs)) ≡ cond y (Some c) (find (has_tag tag) cs)
+    by false x y e f r = ap (λ b. cond b (Some c) (find (has_tag tag) (filter (stays_in_index change) cs))) f ∙ ap (λ o. cond y (Some c) o) r
+    by true false y e f r = ap (λ b. cond b (Some c) (find (has_tag tag) (filter (stays_in_index change) cs))) f ∙ ap (λ o. cond y (Some c) o) r
     by true true false e f r = r
     by true true true e f r = absurd (h (sym (eqb-true c.tag tag f) ∙ eqb-true c.tag 128 e))
 
@@ -43,30 +43,30 @@ entry_other Dropped tag h = refl
 entry_other (Written size) tag h = ap (λ b. cond b (Some (record { tag = 128; size = size; aid = index_aid })) None) (ne_eqb 128 tag (λ e. h (sym e)))
 
 pub found_other : (change : IndexChange) (tag : ℕ) (cs : List Custom) → (tag ≡ 128 → ⊥) → find (has_tag tag) (new_customs change cs) ≡ find (has_tag tag) cs
-found_other change tag cs h = find_front tag (filter (stays change) cs) (index_entry change) (entry_other change tag h) ∙ find_other change tag cs h
+found_other change tag cs h = find_front tag (filter (stays_in_index change) cs) (index_entry change) (entry_other change tag h) ∙ find_other change tag cs h
 
 -- the one with the tag of a target index stays, or goes
-filter_kept : (cs : List Custom) → filter (stays Kept) cs ≡ cs
+filter_kept : (cs : List Custom) → filter (stays_in_index Kept) cs ≡ cs
 filter_kept [] = refl
 filter_kept (c ∷ cs) = ap (λ xs. c ∷ xs) (filter_kept cs)
 
 pub found_kept : (tag : ℕ) (cs : List Custom) → find (has_tag tag) (new_customs Kept cs) ≡ find (has_tag tag) cs
-found_kept tag cs = find_front tag (filter (stays Kept) cs) [] refl ∙ ap (find (has_tag tag)) (filter_kept cs)
+found_kept tag cs = find_front tag (filter (stays_in_index Kept) cs) [] refl ∙ ap (find (has_tag tag)) (filter_kept cs)
 
-find_gone : (change : IndexChange) (cs : List Custom) → drops change ≡ true → find (has_tag 128) (filter (stays change) cs) ≡ None
+find_gone : (change : IndexChange) (cs : List Custom) → drops change ≡ true → find (has_tag 128) (filter (stays_in_index change) cs) ≡ None
 find_gone change [] d = refl
 find_gone change (c ∷ cs) d = by (drops change) (c.tag == 128) d refl (find_gone change cs d)
   where
-    by : (d x : Bool) → d ≡ true → (c.tag == 128) ≡ x → find (has_tag 128) (filter (stays change) cs) ≡ None → find (has_tag 128) (cond (not (d && x)) (c ∷ filter (stays change) cs) (filter (stays change) cs)) ≡ None
+    by : (d x : Bool) → d ≡ true → (c.tag == 128) ≡ x → find (has_tag 128) (filter (stays_in_index change) cs) ≡ None → find (has_tag 128) (cond (not (d && x)) (c ∷ filter (stays_in_index change) cs) (filter (stays_in_index change) cs)) ≡ None
     by false x d e r = absurd (cc)
     by true true d e r = r
-    by true false d e r = ap (λ b. cond b (Some c) (find (has_tag 128) (filter (stays change) cs))) e ∙ r
+    by true false d e r = ap (λ b. cond b (Some c) (find (has_tag 128) (filter (stays_in_index change) cs))) e ∙ r
 
 pub found_dropped : (cs : List Custom) → find (has_tag 128) (new_customs Dropped cs) ≡ None
-found_dropped cs = find_front 128 (filter (stays Dropped) cs) [] refl ∙ find_gone Dropped cs refl
+found_dropped cs = find_front 128 (filter (stays_in_index Dropped) cs) [] refl ∙ find_gone Dropped cs refl
 
 pub found_written : (size : ℕ) (cs : List Custom) → find (has_tag 128) (new_customs (Written size) cs) ≡ Some (record { tag = 128; size = size; aid = index_aid })
-found_written size cs = find_back 128 (filter (stays (Written size)) cs) (index_entry (Written size)) (find_gone (Written size) cs refl)
+found_written size cs = find_back 128 (filter (stays_in_index (Written size)) cs) (index_entry (Written size)) (find_gone (Written size) cs refl)
 
 -- ---- tags
 

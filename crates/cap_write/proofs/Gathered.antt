@@ -7,7 +7,7 @@ use Rattle.cap_components.specs.PackageRecord.{PackageRecord}
 use Rattle.jc_decode.specs.declared.symbols.Laid.{Laid}
 use Rattle.cap_renewal.specs.declared.new_methods.NewMethod.{NewMethod}
 use Rattle.cap_laying.specs.declared.component.Written.{Written}
-use Rattle.cap_laying.specs.declared.member.Member.{Member}
+use Rattle.cap_laying.specs.declared.member.WrittenMember.{WrittenMember}
 use Rattle.cap_laying.specs.Members.{new_places, written_info}
 use Rattle.cap_laying.specs.References.{written_references}
 use Rattle.cap_laying.specs.WrittenSeen.{IsWrittenAs}
@@ -59,7 +59,7 @@ module _ (p : PackageRecord) (news : List (Option NewMethod)) (methods reference
     rising = f.rising;
   }
 
-pub are_written : (p : PackageRecord) (laid : List (Option Laid)) (ms : List Member) (w : Written) (index : Index) (parts : List Lent) → AreMembersFor p laid ms → MembersFit ms → IsWrittenAs (length p.methods.info) (length p.methods.handlers) ms w
+pub are_written : (p : PackageRecord) (laid : List (Option Laid)) (ms : List WrittenMember) (w : Written) (index : Index) (parts : List Lent) → AreMembersFor p laid ms → MembersFit ms → IsWrittenAs (length p.methods.info) (length p.methods.handlers) ms w
     → AreFiled (IsFile p w.news w.info.items w.references.items index) 256 parts → AreWritten p (length p.methods.info) (length p.methods.handlers) ms index parts
 are_written p laid ms w index parts are fit seen f =
     let size = length p.methods.info in
@@ -75,7 +75,7 @@ are_written p laid ms w index parts are fit seen f =
       files = parts_of p (new_places size room ms) (written_info size room ms) (written_references size room ms) index parts k;
     }
 
-pub written_of : (p : PackageRecord) (laid : List (Option Laid)) (ms : List Member) (w : Written) (index : Index) (parts : List Lent) → AreMembersFor p laid ms → MembersFit ms → IsWrittenAs (length p.methods.info) (length p.methods.handlers) ms w
+pub written_of : (p : PackageRecord) (laid : List (Option Laid)) (ms : List WrittenMember) (w : Written) (index : Index) (parts : List Lent) → AreMembersFor p laid ms → MembersFit ms → IsWrittenAs (length p.methods.info) (length p.methods.handlers) ms w
     → IsNewIndex p laid index → AreFiled (IsFile p w.news w.info.items w.references.items index) 256 parts → IsWritten p laid parts
 written_of p laid ms w index parts are fit seen i f = record {
   members = ms;

@@ -6,11 +6,11 @@ use Rattle.cap_code.specs.PlainSize.{plain_size, plain_sum}
 use Rattle.cap_code.proofs.Lengths.{plain_is, plain_known}
 use Rattle.cap_laying.specs.declared.member.Body.{Body}
 use Rattle.cap_laying.specs.declared.member.Body.TheVariants.{Code, Header}
-use Rattle.cap_laying.specs.declared.member.Member.{Member}
+use Rattle.cap_laying.specs.declared.member.WrittenMember.{WrittenMember}
 use Rattle.cap_laying.specs.HandlerTable.{table_bytes}
 use Rattle.cap_laying.specs.HeaderBytes.{HeaderNumbers, header_size, is_compact}
-use Rattle.cap_laying.specs.Member.{bodies, body_bytes, body_size, by_offset, end_from, handlers_of, numbers_of, placed, put, size_if}
-use Rattle.cap_laying.specs.Blocks.{blocks, entries_of, total_handlers}
+use Rattle.cap_laying.specs.Member.{bodies, body_bytes, body_size, by_offset, methods_end_from, handlers_of, numbers_of, placed, put_member, size_if}
+use Rattle.cap_laying.specs.Blocks.{blocks, entries_of_blocks, total_handlers}
 use Rattle.cap_laying.specs.Members.{new_places, start_of, written_info, written_size}
 use Rattle.cap_laying.proofs.InfoLaws.{length_table as bytes_table}
 use Rattle.cap_laying.proofs.Owned.{length_table, total_blocks}
@@ -20,9 +20,9 @@ use Rattle.cap_write.specs.PlainComponent.{plain_component, plain_member, plain_
 
 -- ---- its length
 
-bodies_long : (at : ℕ) (table : List (Option Member)) → at + length (bodies table) ≡ end_from at table
+bodies_long : (at : ℕ) (table : List (Option WrittenMember)) → at + length (bodies table) ≡ methods_end_from at table
 bodies_long at [] = omega arith
-bodies_long at (None ∷ ms) = let r = bodies_long at ms in omega (arith, ap (λ n. end_from n ms) (plus at))
+bodies_long at (None ∷ ms) = let r = bodies_long at ms in omega (arith, ap (λ n. methods_end_from n ms) (plus at))
   where
     plus : (n : ℕ) → n + 0 ≡ n
     plus n = omega arith
@@ -31,10 +31,10 @@ bodies_long at (Some m ∷ ms) =
     let b = length_body m.body in
     omega (arith, length-append (body_bytes m.body) (bodies ms))
 
-pub info_long : (size room : ℕ) (ms : List Member) → length (written_info size room ms) ≡ written_size size room ms
+pub info_long : (size room : ℕ) (ms : List WrittenMember) → length (written_info size room ms) ≡ written_size size room ms
 unfolding written_info written_size
 info_long size room ms =
-    let es = entries_of (new_places size room ms) (blocks room ms) in
+    let es = entries_of_blocks (new_places size room ms) (blocks room ms) in
     let t = by_offset size ms in
     let a = length-append (table_bytes es) (bodies t) in
     let b = bytes_table es in
@@ -44,11 +44,11 @@ info_long size room ms =
 
 -- ---- its plain size is no less
 
-table_size : List (Option Member) → ℕ
+table_size : List (Option WrittenMember) → ℕ
 table_size [] = 0
 table_size (m ∷ ms) = size_if m + table_size ms
 
-sum_end : (at : ℕ) (table : List (Option Member)) → end_from at table ≡ at + table_size table
+sum_end : (at : ℕ) (table : List (Option WrittenMember)) → methods_end_from at table ≡ at + table_size table
 unfolding table_size
 sum_end at [] = omega arith
 sum_end at (m ∷ ms) = let r = sum_end (at + size_if m) ms in omega arith
@@ -58,21 +58,21 @@ unfolding table_size
 none_size zero = refl
 none_size (suc n) = omega (arith, none_size n)
 
-set_size : (table : List (Option Member)) (i : ℕ) (m : Member) → table_size (slice_set table i (Some m)) ≤ table_size table + body_size m.body
+set_size : (table : List (Option WrittenMember)) (i : ℕ) (m : WrittenMember) → table_size (slice_set table i (Some m)) ≤ table_size table + body_size m.body
 unfolding table_size
 set_size [] i m = omega arith
 set_size (s ∷ ms) zero m = omega arith
 set_size (s ∷ ms) (suc i) m = let r = set_size ms i m in omega arith
 
-members_size : List Member → ℕ
+members_size : List WrittenMember → ℕ
 members_size [] = 0
 members_size (m ∷ ms) = body_size m.body + members_size ms
 
-placed_size : (table : List (Option Member)) (ms : List Member) → table_size (placed table ms) ≤ table_size table + members_size ms
+placed_size : (table : List (Option WrittenMember)) (ms : List WrittenMember) → table_size (placed table ms) ≤ table_size table + members_size ms
 unfolding members_size
 placed_size table [] = omega arith
 placed_size table (m ∷ ms) =
-    let r = placed_size (put table m) ms in
+    let r = placed_size (put_member table m) ms in
     let s = set_size table m.offset m in
     omega arith
 
@@ -92,7 +92,7 @@ body_plain : (b : Body) → 8 * length (handlers_of b) + body_size b ≤ plain_m
 body_plain (Code laid) = omega (arith, code_plain laid.now.code, header_small (numbers_of laid.now))
 body_plain (Header header) = omega arith
 
-members_plain : (ms : List Member) → 8 * total_handlers ms + members_size ms ≤ plain_members (map member_seen ms)
+members_plain : (ms : List WrittenMember) → 8 * total_handlers ms + members_size ms ≤ plain_members (map member_seen ms)
 unfolding members_size
 members_plain [] = omega arith
 members_plain (m ∷ ms) =
@@ -100,7 +100,7 @@ members_plain (m ∷ ms) =
     let r = members_plain ms in
     omega arith
 
-pub plain_least : (size room : ℕ) (ms : List Member) → written_size size room ms ≤ plain_component (map member_seen ms)
+pub plain_least : (size room : ℕ) (ms : List WrittenMember) → written_size size room ms ≤ plain_component (map member_seen ms)
 unfolding written_size by_offset
 plain_least size room ms =
     let a = sum_end (start_of room ms) (placed (replicate size None) ms) in

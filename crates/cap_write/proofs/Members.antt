@@ -11,7 +11,7 @@ use Rattle.cap_package.specs.StandsFor.{StandsFor}
 use Rattle.jc_decode.specs.declared.symbols.Laid.{Laid}
 use Rattle.cap_laying.specs.declared.member.Body.{Body}
 use Rattle.cap_laying.specs.declared.member.Body.TheVariants.{Code, Header}
-use Rattle.cap_laying.specs.declared.member.Member.{Member}
+use Rattle.cap_laying.specs.declared.member.WrittenMember.{WrittenMember}
 use Rattle.cap_laying.specs.Blocks.{total_handlers}
 use Rattle.cap_laying.specs.Member.{handlers_of}
 use Rattle.cap_laying.specs.Members.{IsAlone, AreApart, HasHandlersInside, AreMembers, MayBeWritten}
@@ -186,17 +186,17 @@ small_good : (b : Body) → IsGood (body_seen b) → IsSmallBody b × HasHandler
 small_good (Code laid) h = ((h.short, h.few), h.inside)
 small_good (Header header) h = (h, tt)
 
-members_of : (size : ℕ) (ms : List Member) → AreGood size (map member_seen ms) → AreMembers size ms
+members_of : (size : ℕ) (ms : List WrittenMember) → AreGood size (map member_seen ms) → AreMembers size ms
 members_of size [] h = tt
 members_of size (m ∷ ms) h =
     let g = small_good m.body h.0.good in
     (record { within = h.0.within; small = g.0; whole = g.1 }, members_of size ms h.1)
 
-alone_of : (o : ℕ) (ms : List Member) → IsNone o (map seen_offset (map member_seen ms)) → IsAlone o ms
+alone_of : (o : ℕ) (ms : List WrittenMember) → IsNone o (map seen_offset (map member_seen ms)) → IsAlone o ms
 alone_of o [] h = tt
 alone_of o (m ∷ ms) h = (h.0, alone_of o ms h.1)
 
-apart_of : (ms : List Member) → AreDistinct (map seen_offset (map member_seen ms)) → AreApart ms
+apart_of : (ms : List WrittenMember) → AreDistinct (map seen_offset (map member_seen ms)) → AreApart ms
 apart_of [] h = tt
 apart_of (m ∷ ms) h = (alone_of m.offset ms h.0, apart_of ms h.1)
 
@@ -204,11 +204,11 @@ count_of : (b : Body) → length (handlers_of b) ≡ seen_count (body_seen b)
 count_of (Code laid) = refl
 count_of (Header header) = refl
 
-total_of : (ms : List Member) → total_handlers ms ≡ seen_total (map member_seen ms)
+total_of : (ms : List WrittenMember) → total_handlers ms ≡ seen_total (map member_seen ms)
 total_of [] = refl
 total_of (m ∷ ms) = let c = count_of m.body in let r = total_of ms in omega arith
 
-pub may_be_written : (parts : List Lent) (p : PackageRecord) (ls : List (Option Laid)) (ms : List Member) → StandsFor parts p → MayBeLaid p ls → map member_seen ms ≡ seen_package p ls → MayBeWritten (length p.methods.info) ms
+pub may_be_written : (parts : List Lent) (p : PackageRecord) (ls : List (Option Laid)) (ms : List WrittenMember) → StandsFor parts p → MayBeLaid p ls → map member_seen ms ≡ seen_package p ls → MayBeWritten (length p.methods.info) ms
 may_be_written parts p ls ms stands may e =
     let set = names_interface p.classes in
     let info = p.methods.info in

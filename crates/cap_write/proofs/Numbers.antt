@@ -12,7 +12,7 @@ use Rattle.cap_renewal.proofs.DescriptorItems.{class_room, has_classes}
 use Rattle.jc_decode.specs.declared.symbols.Laid.{Laid}
 use Rattle.cap_package.proofs.InfoLaws.{info-short}
 use Rattle.cap_code.specs.TargetIndex.{AreShortCodes}
-use Rattle.cap_laying.specs.declared.member.Member.{Member}
+use Rattle.cap_laying.specs.declared.member.WrittenMember.{WrittenMember}
 use Rattle.cap_laying.specs.Members.{AreMembers}
 use Rattle.cap_write.proofs.LaidWell.{AreLaidWell}
 use Rattle.cap_write.specs.Described.{member_seen, seen_package}
@@ -43,14 +43,14 @@ few_described parts p s =
     let start = c.start in
     omega arith
 
-pub few_members : (parts : List Lent) (p : PackageRecord) (ls : List (Option Laid)) (ms : List Member) → StandsFor parts p → map member_seen ms ≡ seen_package p ls → length ms ≤ 5461
+pub few_members : (parts : List Lent) (p : PackageRecord) (ls : List (Option Laid)) (ms : List WrittenMember) → StandsFor parts p → map member_seen ms ≡ seen_package p ls → length ms ≤ 5461
 few_members parts p ls ms s e =
     let set = names_interface p.classes in
     let a : length ms ≡ length (seen_package p ls) = sym (length-map ms member_seen) ∙ ap length e in
     let b : length (seen_package p ls) ≡ length (described_methods p) = sym (length-map (seen_package p ls) seen_offset) ∙ ap length (offsets_classes set p.methods.info p.description.items.classes ls) ∙ length-map (described_methods p) offset_of in
     omega (arith, few_described parts p s)
 
-pub small_members : (size : ℕ) (ms : List Member) → AreMembers size ms → AreSmallMembers ms
+pub small_members : (size : ℕ) (ms : List WrittenMember) → AreMembers size ms → AreSmallMembers ms
 small_members size [] h = tt
 small_members size (m ∷ ms) h = (h.0.small, small_members size ms h.1)
 

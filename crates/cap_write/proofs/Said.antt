@@ -9,7 +9,7 @@ use Rattle.cap_desc.specs.DescriptorFormat.{Descriptor, class_descriptor_info, d
 use Rattle.cap_components.specs.Parts.{Lent, held}
 use Rattle.cap_components.specs.Components.{info_in}
 use Rattle.cap_components.specs.PackageRecord.{PackageRecord, names_interface}
-use Rattle.cap_components.specs.Saying.{Holds, Says, SaysIf}
+use Rattle.cap_components.specs.Saying.{HoldsComponent, Says, SaysIf}
 use Rattle.cap_components.proofs.Saying.{info-read}
 use Rattle.cap_writing.specs.Edit.{Edit, AreInside}
 use Rattle.cap_writing.specs.Renewal.{AreSame}
@@ -21,7 +21,7 @@ use Rattle.cap_renewal.proofs.DescriptorItems.{class_item, has_classes}
 use Rattle.cap_renewal.proofs.Items.{all_inside}
 use Rattle.cap_filing.specs.Files.{IsRenewed, IsRenewedIf}
 use Rattle.cap_rewritten.specs.Laws.{IsSizeOf}
-use Rattle.cap_write.specs.Files.{IsPresent, method_edits}
+use Rattle.cap_write.specs.Files.{IsPresent, edits_of_methods}
 
 -- a file that is present
 pub record IsThere (Is : List ℕ → Type 0) (o : Option (List ℕ)) : Type 0 where
@@ -86,7 +86,7 @@ pub record HasSameTypes (p : PackageRecord) (info : List ℕ) : Type 0 where
   pub types : AreSame p.description.items.types_start (length p.description.info) p.description.info info
   pub long : length info ≡ length p.description.info
 
-same_before : (parts : List Lent) (a b : List ℕ) (d : Descriptor) → Holds parts 11 descriptor_info a d → Holds parts 11 descriptor_info b d → a ≡ b
+same_before : (parts : List Lent) (a b : List ℕ) (d : Descriptor) → HoldsComponent parts 11 descriptor_info a d → HoldsComponent parts 11 descriptor_info b d → a ≡ b
 same_before parts a b d h k =
     let e : info_in parts 11 ≡ Ok a = info-read parts 11 descriptor_info a d h in
     let f : info_in parts 11 ≡ Ok b = info-read parts 11 descriptor_info b d k in
@@ -98,13 +98,13 @@ edits_inside set news bytes d s =
     inside_from (along (class_edits set news) class_width 1 d.classes) 0 1 d.types_start (omega arith)
     (all_inside class_descriptor_info (class_edits set news) class_width (renewed_class set news) bytes (class_item set news bytes) h.count 1 d.classes d.types_start h.items)
 
-pub same_types : (p : PackageRecord) (news : List (Option NewMethod)) (file : List ℕ) → Holds p.parts 11 descriptor_info p.description.info p.description.items
-    → (r : IsRenewed p.parts 11 descriptor_info (renewed_descriptor (names_interface p.classes) news) (method_edits p news) p.description.items file) → HasSameTypes p r.info
+pub same_types : (p : PackageRecord) (news : List (Option NewMethod)) (file : List ℕ) → HoldsComponent p.parts 11 descriptor_info p.description.info p.description.items
+    → (r : IsRenewed p.parts 11 descriptor_info (renewed_descriptor (names_interface p.classes) news) (edits_of_methods p news) p.description.items file) → HasSameTypes p r.info
 same_types p news file h r =
     let d = p.description.items in
     let same : r.before ≡ p.description.info = same_before p.parts r.before p.description.info d r.was h in
     let start = (has_classes r.before d r.was.said).start in
-    let last = edited_last (method_edits p news d) 0 d.types_start (length r.before) r.before r.info (edits_inside (names_interface p.classes) news r.before d r.was.said) start r.renews.inside in
+    let last = edited_last (edits_of_methods p news d) 0 d.types_start (length r.before) r.before r.info (edits_inside (names_interface p.classes) news r.before d r.was.said) start r.renews.inside in
     record {
       types = subst (λ bytes. AreSame d.types_start (length bytes) bytes r.info) same last.1;
       long = r.renews.long ∙ ap length same;

@@ -8,7 +8,7 @@ use Rattle.cap_desc.specs.Members.{methods_of, methods_but}
 use Rattle.cap_components.specs.PackageRecord.{PackageRecord, described_methods, names_interface}
 use Rattle.cap_laying.specs.declared.member.Body.{Body}
 use Rattle.cap_laying.specs.declared.member.Body.TheVariants as body
-use Rattle.cap_laying.specs.declared.member.Member.{Member}
+use Rattle.cap_laying.specs.declared.member.WrittenMember.{WrittenMember}
 use Rattle.jc_decode.specs.declared.symbols.Laid.{Laid}
 use Rattle.cap_rewritten.specs.Changes.{FormerMethod, laid_but, sources_from, sources}
 use Rattle.cap_rewritten.specs.Written.{lead_bytes}
@@ -121,14 +121,14 @@ body_of info s None (body.Header header) e h = (e, cc)
 body_of info s (Some l) (body.Code laid) e h = let same : l ≡ laid.now = cc in e ∙ ap Some same
 body_of info s (Some l) (body.Header header) e h = absurd (cc)
 
-member_of : (info : List ℕ) (s : FormerMethod) (m : Member) → member_seen m ≡ seen_method info s.method s.laid → writing.IsMemberOf info s m
+member_of : (info : List ℕ) (s : FormerMethod) (m : WrittenMember) → member_seen m ≡ seen_method info s.method s.laid → writing.IsMemberOf info s m
 member_of info s m h = record {
   offset = ap (λ (x : SeenMember). x.offset) h;
   handlers = ap (λ (x : SeenMember). x.handlers_from) h;
   body = body_of info s s.laid m.body refl (ap (λ (x : SeenMember). x.body) h);
 }
 
-members_from : (info : List ℕ) (n : ℕ) (ms : List MethodDescriptor) (ls : List (Option Laid)) (xs : List Member) → length ls ≡ length ms → map member_seen xs ≡ zipped info ms ls → writing.AreMembersOf info (sources_from n ms ls) xs
+members_from : (info : List ℕ) (n : ℕ) (ms : List MethodDescriptor) (ls : List (Option Laid)) (xs : List WrittenMember) → length ls ≡ length ms → map member_seen xs ≡ zipped info ms ls → writing.AreMembersOf info (sources_from n ms ls) xs
 unfolding zipped
 members_from info n [] ls [] e h = tt
 members_from info n [] ls (x ∷ xs) e h = absurd (cc)
@@ -139,7 +139,7 @@ members_from info n (m ∷ ms) (l ∷ ls) (x ∷ xs) e h =
     let rest : map member_seen xs ≡ zipped info ms ls = cc in
     (member_of info (record { number = n; method = m; laid = l }) x first, members_from info (n + 1) ms ls xs (omega arith) rest)
 
-pub members_are : (p : PackageRecord) (laid : List (Option Laid)) (xs : List Member) → MayBeLaid p laid → map member_seen xs ≡ seen_package p laid → writing.AreMembersOf p.methods.info (sources p laid) xs
+pub members_are : (p : PackageRecord) (laid : List (Option Laid)) (xs : List WrittenMember) → MayBeLaid p laid → map member_seen xs ≡ seen_package p laid → writing.AreMembersOf p.methods.info (sources p laid) xs
 members_are p laid xs l e =
     let set = names_interface p.classes in
     let cs = p.description.items.classes in
@@ -154,12 +154,12 @@ stack_of : (info : List ℕ) (s : FormerMethod) (b : Body) → writing.IsBodyOf 
 stack_of info s (body.Code laid) h f = subst (λ o. IfSome o (λ l. l.max_stack < 256)) (sym h) f
 stack_of info s (body.Header header) h f = subst (λ o. IfSome o (λ l. l.max_stack < 256)) (sym h.0) tt
 
-small_stacks : (info : List ℕ) (ss : List FormerMethod) (ms : List Member) → writing.AreMembersOf info ss ms → StacksFit ms → Each writing.HasSmallStack ss
+small_stacks : (info : List ℕ) (ss : List FormerMethod) (ms : List WrittenMember) → writing.AreMembersOf info ss ms → StacksFit ms → Each writing.HasSmallStack ss
 small_stacks info [] ms a f = tt
 small_stacks info (s ∷ ss) [] a f = absurd a
 small_stacks info (s ∷ ss) (m ∷ ms) a f = (stack_of info s m.body a.0.body f.0, small_stacks info ss ms a.1 f.1)
 
-pub all_stacks : (info : List ℕ) (ss : List FormerMethod) (ms : List Member) → writing.AreMembersOf info ss ms → StacksFit ms → All writing.HasSmallStack ss
+pub all_stacks : (info : List ℕ) (ss : List FormerMethod) (ms : List WrittenMember) → writing.AreMembersOf info ss ms → StacksFit ms → All writing.HasSmallStack ss
 all_stacks info ss ms a f = All-from_Each writing.HasSmallStack ss (small_stacks info ss ms a f)
 
 -- ---- each has code that may be laid for it

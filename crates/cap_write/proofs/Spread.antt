@@ -8,7 +8,7 @@ use Rattle.jc_decode.specs.declared.insn.Placed.{Placed}
 use Rattle.jc_decode.specs.declared.pool_index.PoolIndex.{PoolIndex}
 use Rattle.jc_decode.specs.declared.pool_index.IndexWidth.{IndexWidth}
 use Rattle.jc_decode.specs.declared.pool_index.IndexWidth.TheVariants.{One, Two}
-use Rattle.jc_decode.specs.declared.symbols.Handler.{Handler}
+use Rattle.jc_decode.specs.declared.symbols.LaidHandler.{LaidHandler}
 use Rattle.jc_decode.specs.PoolIndex.{bytes_of_index, pool_index}
 use Rattle.jc_decode.specs.Listing.{listing, listing_end, end_from as insns_end, Lists}
 use Rattle.jc_decode.proofs.Decoded.{IsWithin-decoded}
@@ -25,9 +25,9 @@ use Rattle.cap_locations.proofs.Rooms.{has_room}
 use Rattle.cap_write.specs.WrittenPackage.{locations_of}
 use Rattle.cap_laying.specs.declared.member.Body.{Body}
 use Rattle.cap_laying.specs.declared.member.Body.TheVariants.{Code, Header}
-use Rattle.cap_laying.specs.declared.member.Member.{Member}
+use Rattle.cap_laying.specs.declared.member.WrittenMember.{WrittenMember}
 use Rattle.cap_laying.specs.Blocks.{blocks, total_handlers}
-use Rattle.cap_laying.specs.Member.{body_size, by_offset, end_from, handlers_of, lead_size, size_if}
+use Rattle.cap_laying.specs.Member.{body_size, by_offset, methods_end_from, handlers_of, lead_size, size_if}
 use Rattle.cap_laying.specs.Members.{start_of, written_size}
 use Rattle.cap_laying.specs.References.{block_catches, body_indices, indices_if, method_indices, references_info, written_references}
 use Rattle.cap_laying.proofs.PlaceLaws.{end_grows}
@@ -143,11 +143,11 @@ body_few at (Code laid) =
     let f = insns_few code start 0 (listing code) listed.lists (listing_end code) (omega arith) in
     few_wider (start + 0) (listing_end code) at (body_size (Code laid)) (indices 1 start (listing code)) (indices 2 start (listing code)) (omega arith) (omega arith) f
 
-slot_few : (at : ℕ) (m : Option Member) → AreFew at (size_if m) (indices_if 1 at m) (indices_if 2 at m)
+slot_few : (at : ℕ) (m : Option WrittenMember) → AreFew at (size_if m) (indices_if 1 at m) (indices_if 2 at m)
 slot_few at None = few_none at 0
 slot_few at (Some m) = body_few at m.body
 
-table_few : (at : ℕ) (table : List (Option Member)) (long : ℕ) → at + long ≡ end_from at table → AreFew at long (method_indices 1 at table) (method_indices 2 at table)
+table_few : (at : ℕ) (table : List (Option WrittenMember)) (long : ℕ) → at + long ≡ methods_end_from at table → AreFew at long (method_indices 1 at table) (method_indices 2 at table)
 table_few at [] long e = few_none at long
 table_few at (m ∷ ms) long e =
     let grows = end_grows (at + size_if m) ms in
@@ -179,13 +179,13 @@ caught_one at pool = by (pool == 0)
     by true = record { between = between_none at (at + 8) (omega arith); few = omega arith }
     by false = record { between = between_one at (at + 8) (at + 6) (omega arith) (omega arith); few = omega arith }
 
-caught_all : (at : ℕ) (hs : List Handler) → AreCaught at (8 * length hs) (catch_places at hs)
+caught_all : (at : ℕ) (hs : List LaidHandler) → AreCaught at (8 * length hs) (catch_places at hs)
 caught_all at [] = record { between = between_none at (at + 0) (omega arith); few = omega arith }
 caught_all at (h ∷ hs) =
     let same : 8 + 8 * length hs ≡ 8 * length (h ∷ hs) = omega arith in
     subst (λ n. AreCaught at n (catch_places at (h ∷ hs))) same (caught_both at 8 (8 * length hs) (catch_place at h.pool) (catch_places (at + 8) hs) (caught_one at h.pool) (caught_all (at + 8) hs))
 
-caught_blocks : (at : ℕ) (bs : List Member) → AreCaught at (8 * total_handlers bs) (block_catches at bs)
+caught_blocks : (at : ℕ) (bs : List WrittenMember) → AreCaught at (8 * total_handlers bs) (block_catches at bs)
 caught_blocks at [] = record { between = between_none at (at + 0) (omega arith); few = omega arith }
 caught_blocks at (b ∷ bs) =
     let n = length (handlers_of b.body) in
@@ -195,17 +195,17 @@ caught_blocks at (b ∷ bs) =
 -- ---- all
 
 -- the two lists together
-abbrev pub located : ℕ → ℕ → List Member → ℕ
+abbrev pub located : ℕ → ℕ → List WrittenMember → ℕ
 located size room ms = length (locations_of size room ms).byte + length (locations_of size room ms).byte2
 
-few_located : (size room : ℕ) (ms : List Member) → written_size size room ms ≤ 65535 → located size room ms ≤ 33300
+few_located : (size room : ℕ) (ms : List WrittenMember) → written_size size room ms ≤ 65535 → located size room ms ≤ 33300
 unfolding written_size
 few_located size room ms short =
     let start = start_of room ms in
     let table = by_offset size ms in
     let bs = blocks room ms in
     let grows = end_grows start table in
-    let long = end_from start table - start in
+    let long = methods_end_from start table - start in
     let t = table_few start table long (omega arith) in
     let c = caught_blocks 1 bs in
     let a = method_indices 1 start table in
@@ -222,7 +222,7 @@ few_located size room ms short =
     let w = length-append k b in
     omega arith
 
-pub references_short : (size room : ℕ) (ms : List Member) → written_size size room ms ≤ 65535 → length (written_references size room ms) ≤ 65535
+pub references_short : (size room : ℕ) (ms : List WrittenMember) → written_size size room ms ≤ 65535 → length (written_references size room ms) ≤ 65535
 unfolding written_references references_info component_bytes
 references_short size room ms short =
     let few = few_located size room ms short in
@@ -233,7 +233,7 @@ references_short size room ms short =
     let last = length-append (big_bytes 2 (length d2)) d2 in
     omega arith
 
-pub references_stand : (size room : ℕ) (ms : List Member) → written_size size room ms ≤ 65535 → Stands locations_info (written_references size room ms) (locations_of size room ms)
+pub references_stand : (size room : ℕ) (ms : List WrittenMember) → written_size size room ms ≤ 65535 → Stands locations_info (written_references size room ms) (locations_of size room ms)
 unfolding written_references references_info
 references_stand size room ms short =
     let few = few_located size room ms short in

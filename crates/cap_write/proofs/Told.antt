@@ -20,7 +20,7 @@ use Rattle.cap_components.specs.Parts.{Lent, held}
 use Rattle.cap_components.specs.Components.{framed, info_in}
 use Rattle.cap_components.specs.PackageRecord.{PackageRecord}
 use Rattle.cap_components.specs.PartChecks.{required, optional, components, custom_tags, absent_fault, absent_by, sized_fault, form_fault, form_by, size_fault, size_by}
-use Rattle.cap_components.specs.Saying.{Holds, SaysIf}
+use Rattle.cap_components.specs.Saying.{HoldsComponent, SaysIf}
 use Rattle.cap_components.proofs.Saying.{info-read, formed_ok}
 use Rattle.cap_package.specs.FirstFault.{missing_parts}
 use Rattle.cap_package.specs.StandsFor.{StandsFor}
@@ -30,7 +30,7 @@ use Rattle.cap_rewritten.proofs.Lists.{Each, Has, each_at, none_each}
 use Rattle.cap_rewritten.proofs.Agreed.{agrees}
 use Rattle.cap_rewritten.proofs.Sized.{directory_read}
 use Rattle.cap_directory.specs.NewDirectory.{new_size, sizes_from}
-use Rattle.cap_directory.specs.declared.sizes.Sizes.{Sizes}
+use Rattle.cap_directory.specs.declared.sizes.ComponentSizes.{ComponentSizes}
 use Rattle.cap_directory.proofs.Kept.{size_known}
 use Rattle.cap_directory.proofs.NewStands.{sizes_counted}
 use Rattle.cap_write.proofs.Customs.{has_tag}
@@ -75,7 +75,7 @@ told : (parts : List Lent) (d : DirectoryItems) (tag size : ℕ) (o : Option (Li
 told parts d tag size None e s a f h = told_absent parts d tag size e s a
 told parts d tag size (Some file) e s a f h = told_there parts d tag size file e s f h
 
-told_said : {X : Type 0} (parts : List Lent) (d : DirectoryItems) (tag size : ℕ) (g : Grammar X) (info : List ℕ) (items : X) → Holds parts tag g info items → size_in d tag ≡ Some size → size_fault parts d tag ≡ None → IsSizeOf tag size (held parts tag)
+told_said : {X : Type 0} (parts : List Lent) (d : DirectoryItems) (tag size : ℕ) (g : Grammar X) (info : List ℕ) (items : X) → HoldsComponent parts tag g info items → size_in d tag ≡ Some size → size_fault parts d tag ≡ None → IsSizeOf tag size (held parts tag)
 told_said parts d tag size g info items h s f =
     subst (IsSizeOf tag size) (sym h.there) (info, h.framed, told_size parts d tag size info (info-read parts tag g info items h) s f)
 
@@ -163,7 +163,7 @@ custom_told p tag c s e size k =
 
 -- ---- the sizes of a Directory that is written anew
 
-sizes_at : (own : ℕ) (new : Sizes) (tag : ℕ) (ss : List ℕ) (k : ℕ) → k < length ss → slice_index (sizes_from own new tag ss) k ≡ new_size own new (tag + k) (slice_index ss k)
+sizes_at : (own : ℕ) (new : ComponentSizes) (tag : ℕ) (ss : List ℕ) (k : ℕ) → k < length ss → slice_index (sizes_from own new tag ss) k ≡ new_size own new (tag + k) (slice_index ss k)
 sizes_at own new tag [] k lt = absurd (omega arith)
 sizes_at own new tag (s ∷ ss) zero lt = let e : tag ≡ tag + 0 = omega arith in ap (λ n. new_size own new n s) e
 sizes_at own new tag (s ∷ ss) (suc k) lt =
@@ -175,7 +175,7 @@ count_least V21 = omega arith
 count_least V22 = omega arith
 
 -- the size of a component
-pub size_now : (own : ℕ) (new : Sizes) (d e : DirectoryItems) (format : Format) (tag size : ℕ) → e.sizes ≡ sizes_from own new 1 d.sizes → length d.sizes ≡ size_count format → 1 ≤ tag → tag ≤ 11 → size_in e tag ≡ Some size
+pub size_now : (own : ℕ) (new : ComponentSizes) (d e : DirectoryItems) (format : Format) (tag size : ℕ) → e.sizes ≡ sizes_from own new 1 d.sizes → length d.sizes ≡ size_count format → 1 ≤ tag → tag ≤ 11 → size_in e tag ≡ Some size
     → size ≡ new_size own new tag (slice_index d.sizes (tag - 1))
 size_now own new d e format tag size are counted low high s =
     let least = count_least format in
@@ -183,7 +183,7 @@ size_now own new d e format tag size are counted low high s =
     size_known e tag size low (omega arith) s ∙ ap (λ ss. slice_index ss (tag - 1)) are ∙ sizes_at own new 1 d.sizes (tag - 1) (omega arith) ∙ ap (λ n. new_size own new n (slice_index d.sizes (tag - 1))) same
 
 -- and that of Debug
-pub debug_now : (own : ℕ) (new : Sizes) (d e : DirectoryItems) (format : Format) (size : ℕ) → e.sizes ≡ sizes_from own new 1 d.sizes → length d.sizes ≡ size_count format → size_in e 12 ≡ Some size → size ≡ 0
+pub debug_now : (own : ℕ) (new : ComponentSizes) (d e : DirectoryItems) (format : Format) (size : ℕ) → e.sizes ≡ sizes_from own new 1 d.sizes → length d.sizes ≡ size_count format → size_in e 12 ≡ Some size → size ≡ 0
 debug_now own new d e V21 size are counted s =
     size_known e 12 size (omega arith) (omega arith) s ∙ ap (λ ss. slice_index ss 11) are ∙ get_or_past (sizes_from own new 1 d.sizes) 11 0 (omega (arith, sizes_counted own new 1 d.sizes))
 debug_now own new d e V22 size are counted s =

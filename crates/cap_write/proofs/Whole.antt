@@ -32,8 +32,8 @@ use Rattle.cap_filing.specs.Files.{IsRenewed}
 use Rattle.cap_filing.proofs.Frames.{file_stands}
 use Rattle.cap_directory.specs.Laws.{MayStand}
 use Rattle.cap_directory.specs.NewDirectory.{new_directory, new_size, own_size}
-use Rattle.cap_laying.specs.declared.member.Member.{Member}
-use Rattle.cap_laying.specs.Blocks.{blocks, entries_of}
+use Rattle.cap_laying.specs.declared.member.WrittenMember.{WrittenMember}
+use Rattle.cap_laying.specs.Blocks.{blocks, entries_of_blocks}
 use Rattle.cap_laying.specs.Members.{written_info}
 use Rattle.cap_laying.specs.References.{written_references}
 use Rattle.jc_decode.specs.declared.symbols.Laid.{Laid}
@@ -44,7 +44,7 @@ use Rattle.cap_rewritten.specs.Writing.{IsWrittenAnew, places}
 use Rattle.cap_rewritten.proofs.Lists.{Each, each_at}
 use Rattle.cap_write.specs.Condition.{MayBeLaid}
 use Rattle.cap_write.specs.NewIndex.{Index, IsNewIndex, dropped, has_other_aid, keeps_index, stays, written}
-use Rattle.cap_write.specs.Files.{IsDirectoryFile, IsFramed, index_file, method_edits, sizes_of}
+use Rattle.cap_write.specs.Files.{IsDirectoryFile, IsFramed, index_file, edits_of_methods, sizes_of}
 use Rattle.cap_write.specs.Pools.{StacksFit}
 use Rattle.cap_write.specs.WrittenMethods.{AreMembersFor}
 use Rattle.cap_write.specs.WrittenPackage.{ArePartsOf, AreWritten, HaveRewritten, locations_of}
@@ -55,16 +55,16 @@ use Rattle.cap_write.proofs.Told.{custom_told, debug_now, has_tag_from, size_now
 
 -- ---- the package that the parts stand for
 
-abbrev pub infos : PackageRecord → List Member → List ℕ
+abbrev pub infos : PackageRecord → List WrittenMember → List ℕ
 infos p ms = written_info (length p.methods.info) (length p.methods.handlers) ms
 
-abbrev pub references : PackageRecord → List Member → List ℕ
+abbrev pub references : PackageRecord → List WrittenMember → List ℕ
 references p ms = written_references (length p.methods.info) (length p.methods.handlers) ms
 
-abbrev pub directory_of : PackageRecord → List Member → Index → DirectoryItems
+abbrev pub directory_of : PackageRecord → List WrittenMember → Index → DirectoryItems
 directory_of p ms index = new_directory (sizes_of (infos p ms) (references p ms) index) p.directory
 
-abbrev pub made : PackageRecord → List Member → Index → List Lent → List ℕ → PackageRecord
+abbrev pub made : PackageRecord → List WrittenMember → Index → List Lent → List ℕ → PackageRecord
 made p ms index parts info = record {
   parts = parts;
   header = p.header;
@@ -73,7 +73,7 @@ made p ms index parts info = record {
   imports = p.imports;
   pool = map (renewed_entry (to (places p ms))) p.pool;
   classes = map (renewed_class (to (places p ms))) p.classes;
-  methods = record { info = infos p ms; handlers = entries_of (places p ms) (blocks (length p.methods.handlers) ms) };
+  methods = record { info = infos p ms; handlers = entries_of_blocks (places p ms) (blocks (length p.methods.handlers) ms) };
   statics = p.statics;
   locations = locations_of (length p.methods.info) (length p.methods.handlers) ms;
   export = option_map (map (renewed_exported (to (places p ms)))) p.export;
@@ -108,7 +108,7 @@ same_customs : (p q : PackageRecord) (tag : ℕ) (c : CustomItems) → custom_in
 same_customs p q tag c e = (λ h. record { there = e ∙ h.there; other = h.other }, λ h. record { there = sym e ∙ h.there; other = h.other })
 
 -- the component with the tag of a target index
-customs_index : (p : PackageRecord) (laid : List (Option Laid)) (ms : List Member) (index : Index) (parts : List Lent) (info : List ℕ) (c : CustomItems) → IsNewIndex p laid index → held parts 128 ≡ index_file p.parts index
+customs_index : (p : PackageRecord) (laid : List (Option Laid)) (ms : List WrittenMember) (index : Index) (parts : List Lent) (info : List ℕ) (c : CustomItems) → IsNewIndex p laid index → held parts 128 ≡ index_file p.parts index
     → IsCustom p 128 c ↔ IsCustom (made p ms index parts info) 128 c
 customs_index p laid ms stays parts info c i h =
     same_customs p (made p ms stays parts info) 128 c
@@ -128,7 +128,7 @@ was_custom : (p : PackageRecord) (parts : List Lent) (tag size : ℕ) (o : Optio
 was_custom p parts tag size None s k f e h = absurd (cc)
 was_custom p parts tag size (Some c) s k f e h = subst (IsSizeOf tag size) (sym (h c f)) (custom_told p tag c s f size k)
 
-size_index : (p : PackageRecord) (laid : List (Option Laid)) (ms : List Member) (index : Index) (parts : List Lent) (size : ℕ) → StandsFor p.parts p → IsNewIndex p laid index → held parts 128 ≡ index_file p.parts index
+size_index : (p : PackageRecord) (laid : List (Option Laid)) (ms : List WrittenMember) (index : Index) (parts : List Lent) (size : ℕ) → StandsFor p.parts p → IsNewIndex p laid index → held parts 128 ≡ index_file p.parts index
     → custom_size_in (directory_of p ms index).customs 128 ≡ Some size → IsSizeOf 128 size (held parts 128)
 size_index p laid ms stays parts size s i h e =
     let k : custom_size_in p.directory.customs 128 ≡ Some size = sym (ap (option_map (λ (c : Custom). c.size)) (found_kept 128 p.directory.customs)) ∙ e in
@@ -141,7 +141,7 @@ size_index p laid ms (written index) parts size s i h e =
     let same : length index ≡ size = cc in
     subst (IsSizeOf 128 size) (sym h) (index, file_stands 128 index (omega arith) i.1.bytes.1, same)
 
-module _ (p : PackageRecord) (laid : List (Option Laid)) (ms : List Member) (index : Index) (parts : List Lent) (stands : StandsFor p.parts p) (may : MayStand p.header.format p.directory) (indexed : IsNewIndex p laid index) (files : ArePartsOf p (places p ms) (infos p ms) (references p ms) index parts) where
+module _ (p : PackageRecord) (laid : List (Option Laid)) (ms : List WrittenMember) (index : Index) (parts : List Lent) (stands : StandsFor p.parts p) (may : MayStand p.header.format p.directory) (indexed : IsNewIndex p laid index) (files : ArePartsOf p (places p ms) (infos p ms) (references p ms) index parts) where
   abbrev d : DirectoryItems
   d = directory_of p ms index
 
@@ -206,7 +206,7 @@ module _ (p : PackageRecord) (laid : List (Option Laid)) (ms : List Member) (ind
                         (
                           λ size e. renewed_if_size p.parts parts 10 size export_info (map (renewed_exported (to news))) (export_edits (to news)) p.export files.export (t.export size (as_before 10 size refl (omega arith) (omega arith) refl e)),
                           (
-                            λ size e. renewed_size p.parts parts 11 size descriptor_info (renewed_descriptor (names_interface p.classes) news) (method_edits p news) p.description.items files.description
+                            λ size e. renewed_size p.parts parts 11 size descriptor_info (renewed_descriptor (names_interface p.classes) news) (edits_of_methods p news) p.description.items files.description
                                 (t.description size (as_before 11 size refl (omega arith) (omega arith) refl e)),
                             (
                               λ size e. subst (IsSizeOf 12 size) (sym files.debug)
@@ -249,14 +249,14 @@ module _ (p : PackageRecord) (laid : List (Option Laid)) (ms : List Member) (ind
 
 -- ---- the whole
 
-pub again : RewrittenStands → WritingRewrites → (p : PackageRecord) (laid : List (Option Laid)) (ms : List Member) (index : Index) (parts : List Lent) → StandsFor p.parts p → MayStand p.header.format p.directory → MayBeLaid p laid → StacksFit ms
+pub again : RewrittenStands → WritingRewrites → (p : PackageRecord) (laid : List (Option Laid)) (ms : List WrittenMember) (index : Index) (parts : List Lent) → StandsFor p.parts p → MayStand p.header.format p.directory → MayBeLaid p laid → StacksFit ms
     → AreMembersFor p laid ms → IsNewIndex p laid index → AreWritten p (length p.methods.info) (length p.methods.handlers) ms index parts → HaveRewritten p laid parts
 again stand rewrite p laid ms index parts s may l fit are i w =
     let news = places p ms in
     let set = names_interface p.classes in
     let files = w.files in
     let said = s.said in
-    let eleven = present (IsRenewed p.parts 11 descriptor_info (renewed_descriptor set news) (method_edits p news) p.description.items) (held parts 11) files.description in
+    let eleven = present (IsRenewed p.parts 11 descriptor_info (renewed_descriptor set news) (edits_of_methods p news) p.description.items) (held parts 11) files.description in
     let types = same_types p news eleven.file said.description eleven.is in
     let two = present (IsDirectoryFile p (infos p ms) (references p ms) index) (held parts 2) files.directory in
     let seven = present (IsFramed 7 (infos p ms)) (held parts 7) files.methods_file in

@@ -5,7 +5,7 @@ use Rattle.cap_components.specs.PackageRecord.{PackageRecord, names_interface}
 use Rattle.jc_decode.specs.declared.symbols.Laid.{Laid}
 use Rattle.cap_laying.specs.declared.member.Body.{Body}
 use Rattle.cap_laying.specs.declared.member.Body.TheVariants.{Code, Header}
-use Rattle.cap_laying.specs.declared.member.Member.{Member}
+use Rattle.cap_laying.specs.declared.member.WrittenMember.{WrittenMember}
 use Rattle.cap_rewritten.specs.Written.{lead_bytes}
 use Rattle.cap_rewritten.specs.Writing.{first_handler}
 
@@ -24,7 +24,7 @@ abbrev pub body_seen : Body → SeenBody
 body_seen (Code laid) = code laid.now
 body_seen (Header header) = lead header.now
 
-abbrev pub member_seen : Member → SeenMember
+abbrev pub member_seen : WrittenMember → SeenMember
 member_seen m = record { offset = m.offset; handlers_from = m.handlers_from; body = body_seen m.body }
 
 abbrev pub seen_body : List ℕ → ℕ → Option Laid → SeenBody

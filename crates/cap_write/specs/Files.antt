@@ -19,14 +19,14 @@ use Rattle.cap_renewal.specs.DescriptorEdits.{descriptor_edits, renewed_descript
 use Rattle.cap_renewal.specs.ExportEdits.{export_edits, renewed_exported}
 use Rattle.cap_renewal.specs.PoolEdits.{pool_edits, renewed_entry}
 use Rattle.cap_filing.specs.Files.{IsRenewed, IsRenewedIf, file_bytes}
-use Rattle.cap_directory.specs.declared.sizes.Sizes.{Sizes}
+use Rattle.cap_directory.specs.declared.sizes.ComponentSizes.{ComponentSizes}
 use Rattle.cap_directory.specs.NewDirectory.{new_directory, own_size}
 use Rattle.cap_laying.specs.declared.component.Written.{Written}
 use Rattle.cap_write.specs.declared.index.NewIndex.{NewIndex}
 use Rattle.cap_write.specs.NewIndex.{Index, IsShortIndex, change_of, dropped, index_seen, stays, written}
 
 -- what the Directory tells of components with these infos
-abbrev pub sizes_of : List ℕ → List ℕ → Index → Sizes
+abbrev pub sizes_of : List ℕ → List ℕ → Index → ComponentSizes
 sizes_of methods references index = record { methods = length methods; references = length references; index = change_of index }
 
 -- the file of the Directory: it tells of these components, and the rest as before
@@ -74,13 +74,15 @@ abbrev pub IsExportFile : PackageRecord → List (Option NewMethod) → Option (
 IsExportFile p news file = IsRenewedIf p.parts 10 export_info (map (renewed_exported (to news))) (export_edits (to news)) p.export file
 
 -- the edits of the methods of classes
-abbrev pub method_edits : PackageRecord → List (Option NewMethod) → Descriptor → List Edit
-method_edits p news d = descriptor_edits (names_interface p.classes) news d.classes
+abbrev pub edits_of_methods : PackageRecord → List (Option NewMethod) → Descriptor → List Edit
+edits_of_methods p news d = descriptor_edits (names_interface p.classes) news d.classes
 
 abbrev pub IsDescriptorFile : PackageRecord → List (Option NewMethod) → Option (List ℕ) → Type 0
 IsDescriptorFile p news file =
     IsPresent
-    (IsRenewed p.parts 11 descriptor_info (renewed_descriptor (names_interface p.classes) news) (method_edits p news) p.description.items)
+    (IsRenewed p.parts 11 descriptor_info
+    (renewed_descriptor (names_interface p.classes) news)
+    (edits_of_methods p news) p.description.items)
     file
 
 -- the file with a tag, or none, where methods stand at new places and these are the infos of the Method and the

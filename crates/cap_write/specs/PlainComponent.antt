@@ -1,7 +1,7 @@
 -- The plain size of the info of a Method component.
 use Rattle.std.specs.Prelude.{◌+◌, ◌*◌, ℕ, List, [], ◌∷◌, length}
 use Rattle.cap_code.specs.PlainSize.{plain_size}
-use Rattle.cap_laying.specs.declared.member.Member.{Member}
+use Rattle.cap_laying.specs.declared.member.WrittenMember.{WrittenMember}
 use Rattle.cap_laying.specs.NewPlaces.{IsSmallBody}
 use Rattle.cap_write.specs.Described.{SeenBody, SeenMember, code, lead}
 
@@ -18,6 +18,6 @@ plain_members (m ∷ ms) = plain_member m.body + plain_members ms
 abbrev pub plain_component : List SeenMember → ℕ
 plain_component ms = 1 + plain_members ms
 
-abbrev pub AreSmallMembers : List Member → Type 0
+abbrev pub AreSmallMembers : List WrittenMember → Type 0
 AreSmallMembers [] = Unit {0}
 AreSmallMembers (m ∷ ms) = IsSmallBody m.body × AreSmallMembers ms

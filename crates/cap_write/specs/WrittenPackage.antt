@@ -9,9 +9,9 @@ use Rattle.jc_decode.specs.declared.symbols.Laid.{Laid}
 use Rattle.cap_rewritten.specs.Rewritten.{IsRewritten}
 use Rattle.cap_renewal.specs.declared.new_methods.NewMethod.{NewMethod}
 use Rattle.cap_locations.specs.Distances.{distances}
-use Rattle.cap_laying.specs.declared.member.Member.{Member}
+use Rattle.cap_laying.specs.declared.member.WrittenMember.{WrittenMember}
 use Rattle.cap_method.specs.MethodFormat.{methods_info}
-use Rattle.cap_laying.specs.Blocks.{blocks, entries_of}
+use Rattle.cap_laying.specs.Blocks.{blocks, entries_of_blocks}
 use Rattle.cap_laying.specs.Member.{by_offset}
 use Rattle.cap_laying.specs.Members.{new_places, start_of, written_info, written_size}
 use Rattle.cap_laying.specs.References.{block_catches, method_indices, written_references}
@@ -47,24 +47,24 @@ pub record ArePartsOf
 
 -- the places of pool indices in methods that are written: those of one byte, and those of two, of which those in the handler
 -- table come first
-abbrev pub locations_of : ℕ → ℕ → List Member → LocationItems
+abbrev pub locations_of : ℕ → ℕ → List WrittenMember → LocationItems
 locations_of size room ms = record {
   byte = distances 0 (method_indices 1 (start_of room ms) (by_offset size ms));
   byte2 = distances 0 (block_catches 1 (blocks room ms) ++ method_indices 2 (start_of room ms) (by_offset size ms));
 }
 
 -- the methods of an info of so many bytes, with a handler table of so many entries, are written anew in these parts
-pub record AreWritten (p : PackageRecord) (size room : ℕ) (ms : List Member) (index : Index) (parts : List Lent) : Type 0 where
+pub record AreWritten (p : PackageRecord) (size room : ℕ) (ms : List WrittenMember) (index : Index) (parts : List Lent) : Type 0 where
   pub short : written_size size room ms ≤ 65535
   -- each method stands at its new offset, with its code and the numbers that the Descriptor tells of it
   pub stand : AllStand size room ms ms
-  pub handlers : Stands methods_info (written_info size room ms) (entries_of (new_places size room ms) (blocks room ms))
+  pub handlers : Stands methods_info (written_info size room ms) (entries_of_blocks (new_places size room ms) (blocks room ms))
   pub locations : Stands locations_info (written_references size room ms) (locations_of size room ms)
   pub files : ArePartsOf p (new_places size room ms) (written_info size room ms) (written_references size room ms) index parts
 
 -- the parts are those of the package with its methods written anew, each with its element of the list
 pub record IsWritten (p : PackageRecord) (laid : List (Option Laid)) (parts : List Lent) : Type 0 where
-  pub members : List Member
+  pub members : List WrittenMember
   pub are : AreMembersFor p laid members
   pub index : Index
   pub indexed : IsNewIndex p laid index
@@ -77,11 +77,11 @@ pub record HaveRewritten (p : PackageRecord) (laid : List (Option Laid)) (parts 
   pub stands : StandsFor parts made
 
 -- the info of the Method component would be too long
-pub record IsTooLong (p : PackageRecord) (laid : List (Option Laid)) (n : ℕ) : Type 0 where
-  pub members : List Member
+pub record IsPartTooLong (p : PackageRecord) (laid : List (Option Laid)) (n : ℕ) : Type 0 where
+  pub members : List WrittenMember
   pub are : AreMembersFor p laid members
   pub long : IsLong (length p.methods.info) (length p.methods.handlers) members n
 
-abbrev pub TellsEnd : PackageRecord → List (Option Laid) → WriteEnd → Type 0
-TellsEnd p laid (PartLong n) = IsTooLong p laid n
-TellsEnd p laid Memory = Unit {0}
+abbrev pub TellsWriteEnd : PackageRecord → List (Option Laid) → WriteEnd → Type 0
+TellsWriteEnd p laid (PartLong n) = IsPartTooLong p laid n
+TellsWriteEnd p laid Memory = Unit {0}

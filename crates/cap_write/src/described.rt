@@ -9,7 +9,7 @@ ghost use Rattle.cap_write.specs.Described.{seen_body, body_seen, first_of_them,
 
 use cap_bytes::View;
 use cap_desc::{DescClass, DescMethods, DescPart, MethodInfo};
-use cap_laying::{Body, Member};
+use cap_laying::{Body, WrittenMember};
 use jc_decode::Laid;
 use offset_set::Offsets;
 use std::alloc::{AllocError, Global};
@@ -23,7 +23,7 @@ pub(crate) fn members<'a>(
     interfaces: &Offsets,
     info: View<'a>,
     laid: &'a [Option<Laid>],
-) -> Result<Vec<Member<'a>>, AllocError>
+) -> Result<Vec<WrittenMember<'a>>, AllocError>
     ensures { IfOk result (λ ms. map member_seen ms.items
         ≡ seen_classes (holds interfaces.now) info.entry.bytes.now (descriptor_seen descriptor.now).classes laid.now) }
 {
@@ -43,7 +43,7 @@ fn put_class<'a>(
     interfaces: &Offsets,
     info: View<'a>,
     laid: &'a [Option<Laid>],
-    out: &mut Vec<Member<'a>>,
+    out: &mut Vec<WrittenMember<'a>>,
 ) -> Result<(), AllocError>
     ensures { OnOk result (map member_seen out.new.items
         ≡ map member_seen out.old.items
@@ -72,7 +72,7 @@ fn put_methods<'a>(
     methods: DescMethods<'_>,
     info: View<'a>,
     laid: &'a [Option<Laid>],
-    out: &mut Vec<Member<'a>>,
+    out: &mut Vec<WrittenMember<'a>>,
 ) -> Result<(), AllocError>
     ensures { OnOk result (map member_seen out.new.items
         ≡ map member_seen out.old.items ++ seen_methods info.entry.bytes.now (methods_left methods.entry) laid.now) }
@@ -86,10 +86,10 @@ fn put_methods<'a>(
 }
 
 /// A method with the first element of the list.
-fn member<'a>(method: &MethodInfo, info: View<'a>, laid: &'a [Option<Laid>]) -> Member<'a>
+fn member<'a>(method: &MethodInfo, info: View<'a>, laid: &'a [Option<Laid>]) -> WrittenMember<'a>
     ensures { member_seen result ≡ seen_method info.entry.bytes.now (method_seen method.now) (first_of_them laid.now) }
 {
-    Member {
+    WrittenMember {
         offset: method.method_offset,
         handlers_from: if method.handler_count == 0 {
             None

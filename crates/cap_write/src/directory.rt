@@ -3,7 +3,7 @@ ghost use Rattle.cap_write.specs.Files.{AreShortInfos, IsDirectoryFile};
 ghost use Rattle.cap_write.specs.NewIndex.{IsShortIndex, change_of, index_seen};
 
 use crate::index::NewIndex;
-use cap_directory::{IndexChange, Sizes, directory_info};
+use cap_directory::{ComponentSizes, IndexChange, directory_info};
 use cap_filing::file_of;
 use cap_laying::Written;
 use cap_package::Package;
@@ -22,7 +22,7 @@ pub(crate) fn directory_file(
 {
     let directory = package.directory();
     let header = package.header();
-    let sizes = Sizes {
+    let sizes = ComponentSizes {
         methods: written.info.len() as u16,
         references: written.references.len() as u16,
         index: change_of(index),

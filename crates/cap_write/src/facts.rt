@@ -4,9 +4,9 @@ ghost use Rattle.cap_laying.specs.Member.{handlers_of};
 ghost use Rattle.cap_renewal.specs.NewMethods.{AreBytes};
 ghost use Rattle.cap_write.specs.Pools.{HandlersFit, MembersFit, StackFits, StacksFit};
 
-use cap_laying::{Body, Member};
+use cap_laying::{Body, WrittenMember};
 use cap_package::Package;
-use jc_decode::Handler;
+use jc_decode::LaidHandler;
 
 /// A number of two bytes: a fact for proofs, and no work.
 fn fits(number: u16)
@@ -16,7 +16,7 @@ fn fits(number: u16)
 }
 
 /// The pool numbers of handlers have two bytes: a fact for proofs, which each of the few handlers is read for.
-fn handlers_fit(handlers: &[Handler])
+fn handlers_fit(handlers: &[LaidHandler])
     ensures { HandlersFit handlers.now }
 {
     if let Some((first, rest)) = handlers.split_first() {
@@ -50,7 +50,7 @@ fn stack_fits(body: Body<'_>)
 }
 
 /// Both of all methods: facts for proofs.
-pub(crate) fn members_fit(members: &[Member<'_>])
+pub(crate) fn members_fit(members: &[WrittenMember<'_>])
     ensures pools { MembersFit members.now }
     ensures stacks { StacksFit members.now }
 {

@@ -7,7 +7,7 @@ ghost use Rattle.cap_write.specs.WrittenMethods.{AreMembersFor, TellsLong};
 use crate::described::members;
 use crate::end::WriteEnd;
 use crate::plain::plain_component;
-use cap_laying::{Member, Written};
+use cap_laying::{Written, WrittenMember};
 use cap_package::{Package, interface_offsets};
 use jc_decode::Laid;
 use std::alloc::{AllocError, Global};
@@ -18,7 +18,7 @@ pub(crate) fn members_of<'a>(
     alloc: Global,
     package: &Package<'_, 'a>,
     laid: &'a [Option<Laid>],
-) -> Result<Vec<Member<'a>>, AllocError>
+) -> Result<Vec<WrittenMember<'a>>, AllocError>
     requires { MayBeLaid «package».now laid.now }
     ensures { IfOk result (λ ms. AreMembersFor «package».now laid.now ms.items) }
 {
@@ -39,7 +39,7 @@ pub(crate) fn members_of<'a>(
 pub(crate) fn write_methods(
     alloc: Global,
     package: &Package<'_, '_>,
-    members: &[Member<'_>],
+    members: &[WrittenMember<'_>],
 ) -> Result<Written, WriteEnd>
     requires may { MayBeWritten (length «package».now.methods.info) members.now }
     requires few { length members.now ≤ 5461 }

@@ -5,11 +5,11 @@ ghost use Rattle.cap_write.specs.PlainComponent.{AreSmallMembers, plain_componen
 
 use cap_bytes::View;
 use cap_code::plain_size;
-use cap_laying::{Body, Member};
+use cap_laying::{Body, WrittenMember};
 
 /// The plain size of the info of a Method component: a byte, 8 bytes for each handler, a header of 4 bytes and the plain
 /// size of its code for each method with code, and its header for each other.
-pub(crate) fn plain_component(members: &[Member<'_>]) -> u32
+pub(crate) fn plain_component(members: &[WrittenMember<'_>]) -> u32
     requires small { AreSmallMembers members.now }
     requires few { length members.now ≤ 5461 }
     ensures { result ≡ plain_component (map member_seen members.now) }

@@ -1,6 +1,6 @@
 ghost use Rattle.std.specs.Prelude.{IfOk, IfErr};
 ghost use Rattle.cap_write.specs.Condition.{MayBeLaid};
-ghost use Rattle.cap_write.specs.WrittenPackage.{HaveRewritten, IsWritten, TellsEnd};
+ghost use Rattle.cap_write.specs.WrittenPackage.{HaveRewritten, IsWritten, TellsWriteEnd};
 
 use crate::end::WriteEnd;
 use crate::facts::{directory_fits, members_fit};
@@ -30,7 +30,7 @@ pub fn write_package(
     requires { MayBeLaid «package».now laid.now }
     ensures written { IfOk result (IsWritten «package».now laid.now) }
     ensures again { IfOk result (HaveRewritten «package».now laid.now) }
-    ensures long { IfErr result (TellsEnd «package».now laid.now) }
+    ensures long { IfErr result (TellsWriteEnd «package».now laid.now) }
 {
     let _parts = package.parts();
     directory_fits(package);

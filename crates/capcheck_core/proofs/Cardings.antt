@@ -20,7 +20,7 @@ use Rattle.capcheck_core.specs.declared.verdict.Verdict.TheVariants.{Refused, Me
 use Rattle.jc_control.specs.Asked.{AllHaveBelow}
 use Rattle.vm_offend.proofs.Accepting.{accepted-typed}
 use Rattle.xf_pack.proofs.Passing.{method-is}
-use Rattle.capcheck_core.specs.Typed.{number_of}
+use Rattle.capcheck_core.specs.Typed.{numbers_of_method}
 use Rattle.capcheck_core.specs.Verify.{count_of_world, HaveCardTypings, TellsAccepted, TellsRefused, StopsAtRefused, AcceptsWorld}
 use Rattle.capcheck_core.proofs.Typings as typings
 use Rattle.capcheck_core.proofs.Typings.{counted}
@@ -63,10 +63,10 @@ filled w (Some r) rec code at is long some =
 
 pub first_uncarded : (w : Linked) (n : ℕ) (fault : CardFault) (code : List ℕ) (number : MethodNumber) (text : List ℕ) → IsFirstRefused w n fault
     → option_map (code_of w.infos) (slice_get w.methods n) ≡ Some code → IfSome (slice_get w.methods n) (λ m. length code ≡ m.code_len)
-    → option_map number_of (slice_get w.methods n) ≡ Some number → text ≡ refused_card_line number fault → TellsRefused w text
+    → option_map numbers_of_method (slice_get w.methods n) ≡ Some number → text ≡ refused_card_line number fault → TellsRefused w text
 first_uncarded w n fault code number text f is long named prints =
-    let same : Some (number_of f.here.rec) ≡ Some number = sym (ap (option_map number_of) f.here.is) ∙ named in
-    let numbers : number ≡ number_of f.here.rec = cc in
+    let same : Some (numbers_of_method f.here.rec) ≡ Some number = sym (ap (option_map numbers_of_method) f.here.is) ∙ named in
+    let numbers : number ≡ numbers_of_method f.here.rec = cc in
     record {
       method = method_with w n f.here.rec;
       first = record {

@@ -19,7 +19,7 @@ use Rattle.cap_components.specs.Components.{framed, formed, info_in, read_part, 
 use Rattle.cap_package.specs.Parts.{Lent, held, HasEachOnce}
 use Rattle.cap_components.proofs.PartsLemmas.{held-other, held-same}
 use Rattle.cap_package.proofs.Given.{drop_here}
-use Rattle.capcheck_core.specs.Loads.{is_required, is_optional, is_some_size, is_sized, is_asked, Has, with_file, Rise, AreLoaded, AreParts, IsAdded, IsFirstLong}
+use Rattle.capcheck_core.specs.Loads.{is_required, is_optional, is_some_size, is_sized, is_asked, Has, with_file, Rise, AreLoaded, AreParts, IsPartAdded, IsFirstLong}
 use Rattle.capcheck_core.specs.declared.load.LoadStop.{LoadStop}
 use Rattle.capcheck_core.specs.declared.load.LoadStop.TheVariants.{TooLong, Failed, Memory}
 use Rattle.capcheck_core.specs.LoadEnds.{LoadsParts, LoadsFile, EndsSized, EndsAsked}
@@ -193,9 +193,9 @@ begun before dir parts none = subst (λ ps. AreLoaded before dir 1 ps) (sym none
 
 -- the parts with one more that is asked for
 pub one_more : (before now : Folders) (dir : List ℕ) (tag : ℕ) (parts more : List Lent) → AreLoaded before dir tag parts → now ≡ before
-    → is_asked parts tag ≡ true → IsAdded now dir tag parts more → AreLoaded before dir (tag + 1) more
+    → is_asked parts tag ≡ true → IsPartAdded now dir tag parts more → AreLoaded before dir (tag + 1) more
 one_more before now dir tag parts more loaded same asked added =
-    let here : IsAdded before dir tag parts more = subst (λ f. IsAdded f dir tag parts more) same added in
+    let here : IsPartAdded before dir tag parts more = subst (λ f. IsPartAdded f dir tag parts more) same added in
     let step : suc tag ≡ tag + 1 = omega arith in
     subst (λ n. AreLoaded before dir n more) step
     (subst (λ ps. AreLoaded before dir (suc tag) ps) (sym here.adds) (loaded_asked before dir tag parts loaded here.file asked here.has))
@@ -236,7 +236,7 @@ file_after first rest tag None = refl
 file_after first rest tag (Some bytes) = sym (append_assoc first rest (lent_of tag bytes ∷ []))
 
 -- what is added to the rest is added to all
-pub added_after : (before : Folders) (dir : List ℕ) (tag : ℕ) (first rest more : List Lent) → IsAdded before dir tag rest more → IsAdded before dir tag (first ++ rest) (first ++ more)
+pub added_after : (before : Folders) (dir : List ℕ) (tag : ℕ) (first rest more : List Lent) → IsPartAdded before dir tag rest more → IsPartAdded before dir tag (first ++ rest) (first ++ more)
 added_after before dir tag first rest more added =
     record { file = added.file; has = added.has; adds = ap (λ ps. first ++ ps) added.adds ∙ file_after first rest tag added.file }
 
@@ -247,7 +247,7 @@ Kept first all = (held all 1 ≡ held first 1) × (held all 2 ≡ held first 2)
 pub kept_none : (first : List Lent) → Kept first (first ++ [])
 kept_none first = (ap (λ ps. held ps 1) (append-nil first), ap (λ ps. held ps 2) (append-nil first))
 
-pub kept_more : (before : Folders) (dir : List ℕ) (tag : ℕ) (first parts more : List Lent) → 3 ≤ tag → Kept first parts → IsAdded before dir tag parts more → Kept first more
+pub kept_more : (before : Folders) (dir : List ℕ) (tag : ℕ) (first parts more : List Lent) → 3 ≤ tag → Kept first parts → IsPartAdded before dir tag parts more → Kept first more
 kept_more before dir tag first parts more from kept added = (
   ap (λ ps. held ps 1) added.adds ∙ file_other 1 tag parts added.file (ne_eqb tag 1 (λ s. absurd (omega (arith, from, s)))) ∙ kept.0,
   ap (λ ps. held ps 2) added.adds ∙ file_other 2 tag parts added.file (ne_eqb tag 2 (λ s. absurd (omega (arith, from, s)))) ∙ kept.1,

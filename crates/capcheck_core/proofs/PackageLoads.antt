@@ -15,7 +15,7 @@ use Rattle.capcheck_core.specs.Outside.{Outside, Card, outside}
 use Rattle.capcheck_core.specs.Packages.{HasPackage, LacksPackage, IsFirstWhere}
 use Rattle.capcheck_core.specs.Roles.{AreRolesIn}
 use Rattle.capcheck_core.specs.PackageEnds.{RolesBeside, LoadsOpening, ReadsPackage, StopsPackage, PackagesStopLeaves, IsStop}
-use Rattle.capcheck_core.specs.OverLoads.{GivenAfterFirst, RolesAre, StopsOver, GoesOn, GoesOver, StopsLoads, GoesOverAll}
+use Rattle.capcheck_core.specs.OverLoads.{GivenAfterFirst, RolesAre, StopsOver, AnswersOverRest, GoesOver, StopsLoads, GoesOverAll}
 use Rattle.capcheck_core.specs.World.{Own, OverPackages}
 
 module _ (before after : Folders) (dir : List ℕ) where
@@ -131,7 +131,7 @@ module _ (own : Own) (before : Folders) (card : Card) (dir : List ℕ) (others :
 
 -- no folder is left
 pub goes_end : (own : Own) (made : List PackageRecord) (roles : List ℕ) (before after : Outside) (verdict : Verdict)
-    → OverPackages own made roles before after verdict → GoesOn own [] made (Some roles) before after verdict
+    → OverPackages own made roles before after verdict → AnswersOverRest own [] made (Some roles) before after verdict
 goes_end own made roles before after verdict holds = record {
   parts = [];
   loaded = tt {0};

@@ -14,7 +14,7 @@ use Rattle.vm_step.specs.declared.ending.Plain.{Plain}
 use Rattle.vm_step.specs.Raising.{Outcome, running, ended}
 use Rattle.vm_step.specs.Run.{stands}
 use Rattle.vm_step.specs.Start.{entry_state}
-use Rattle.vm_turns.specs.Turn.{outcome}
+use Rattle.vm_turns.specs.Turn.{with_ending}
 use Rattle.vm_erasure.specs.Erasure.{erased_outcome}
 use Rattle.vm_defend.specs.Held.{answer}
 use Rattle.vm_defend.specs.Reading.{value_at}
@@ -39,7 +39,7 @@ use Rattle.capcheck_core.specs.Run.{HoldsWords, IsCardKept, IsLeft, IsRun, Stops
 
 -- ---- the words of an outcome
 
-state_kept : (ending : Option Ending) (x : State ℕ) → state_of (outcome ending x) ≡ x
+state_kept : (ending : Option Ending) (x : State ℕ) → state_of (with_ending ending x) ≡ x
 state_kept None x = refl
 state_kept (Some ending) x = refl
 

@@ -14,20 +14,20 @@ use Rattle.cap_package.specs.Parts.{Lent, held, HasEachOnce}
 use Rattle.cap_components.proofs.PartsLemmas.{held-other, held-same, HasEachOnce-push}
 use Rattle.capcheck_core.specs.Loads.{Rise, with_file}
 use Rattle.capcheck_core.specs.Roles.{roles_tag}
-use Rattle.capcheck_core.specs.Stores.{stored, AreStored, IsPartlyStored, IsBrokenOff, AreInStoreOrder, StandWhole, HasAllButHeader, HasHeaderLast, header_tag}
+use Rattle.capcheck_core.specs.Stores.{with_parts_stored, AreStored, IsPartlyStored, IsBrokenOff, AreInStoreOrder, StandWhole, HasAllButHeader, HasHeaderLast, header_tag}
 use Rattle.capcheck_core.proofs.Loads.{none_some, lent_of, above_none, below_none, rise_wider, rise_push, file_other, file_same}
 
 -- ---- one store more
 
 stored_push : (dir : List ℕ) (old : Parts) (done : List Lent) (lent : Lent)
-    → stored dir old (done ++ lent ∷ []) ≡ map.insert (stored dir old done) (lent.part ∷ dir) lent.bytes
+    → with_parts_stored dir old (done ++ lent ∷ []) ≡ map.insert (with_parts_stored dir old done) (lent.part ∷ dir) lent.bytes
 stored_push dir old [] lent = refl
 stored_push dir old (l ∷ ls) lent = stored_push dir (map.insert old (l.part ∷ dir) l.bytes) ls lent
 
 whole_held : (dir : List ℕ) (done : List Lent) (lent : Lent) (now mid old : Option Parts)
     → IfSome now (λ n. IsSomeAnd mid (λ m. n ≡ map.insert m (lent.part ∷ dir) lent.bytes))
-    → IfSome mid (λ m. IsSomeAnd old (λ o. m ≡ stored dir o done))
-    → IfSome now (λ n. IsSomeAnd old (λ o. n ≡ stored dir o (done ++ lent ∷ [])))
+    → IfSome mid (λ m. IsSomeAnd old (λ o. m ≡ with_parts_stored dir o done))
+    → IfSome now (λ n. IsSomeAnd old (λ o. n ≡ with_parts_stored dir o (done ++ lent ∷ [])))
 whole_held dir done lent None mid old one before = tt {0}
 whole_held dir done lent (Some n) None old one before = absurd one
 whole_held dir done lent (Some n) (Some m) None one before = absurd before
@@ -36,8 +36,8 @@ whole_held dir done lent (Some n) (Some m) (Some o) one before =
 
 begun_held : (dir : List ℕ) (done : List Lent) (lent : Lent) (now mid old : Option Parts)
     → IfSome now (λ n. IsSomeAnd mid (λ m. IsPartlyStored dir lent m n))
-    → IfSome mid (λ m. IsSomeAnd old (λ o. m ≡ stored dir o done))
-    → IfSome now (λ n. IsSomeAnd old (λ o. IsPartlyStored dir lent (stored dir o done) n))
+    → IfSome mid (λ m. IsSomeAnd old (λ o. m ≡ with_parts_stored dir o done))
+    → IfSome now (λ n. IsSomeAnd old (λ o. IsPartlyStored dir lent (with_parts_stored dir o done) n))
 begun_held dir done lent None mid old one before = tt {0}
 begun_held dir done lent (Some n) None old one before = absurd one
 begun_held dir done lent (Some n) (Some m) None one before = absurd before
@@ -174,13 +174,13 @@ insert_other dir old t tag bytes differ =
 
 -- a part that is not among those that are stored is as before
 get_kept : (dir : List ℕ) (old : Parts) (parts : List Lent) (tag : ℕ) → held parts tag ≡ None
-    → map.get (stored dir old parts) (tag ∷ dir) ≡ map.get old (tag ∷ dir)
+    → map.get (with_parts_stored dir old parts) (tag ∷ dir) ≡ map.get old (tag ∷ dir)
 get_kept dir old [] tag absent = refl
 get_kept dir old (l ∷ ls) tag absent = by (eqb l.part tag) refl (get_kept dir (map.insert old (l.part ∷ dir) l.bytes) ls tag)
   where
     by : (b : Bool) → eqb l.part tag ≡ b
-        → (held ls tag ≡ None → map.get (stored dir old (l ∷ ls)) (tag ∷ dir) ≡ map.get (map.insert old (l.part ∷ dir) l.bytes) (tag ∷ dir))
-        → map.get (stored dir old (l ∷ ls)) (tag ∷ dir) ≡ map.get old (tag ∷ dir)
+        → (held ls tag ≡ None → map.get (with_parts_stored dir old (l ∷ ls)) (tag ∷ dir) ≡ map.get (map.insert old (l.part ∷ dir) l.bytes) (tag ∷ dir))
+        → map.get (with_parts_stored dir old (l ∷ ls)) (tag ∷ dir) ≡ map.get old (tag ∷ dir)
     by true e rest = absurd (none_some l.bytes (sym absent ∙ held-same tag l ls e))
     by false e rest = rest (sym (held-other tag l ls e) ∙ absent) ∙ insert_other dir old l.part tag l.bytes (λ is. eqb-false l.part tag e is)
 
@@ -189,12 +189,12 @@ nothing None none = refl
 nothing (Some bytes) none = absurd cc
 
 -- a part that is stored once is there
-get_stored : (dir : List ℕ) (old : Parts) (parts : List Lent) → HasEachOnce parts → StandWhole dir parts (stored dir old parts)
+get_stored : (dir : List ℕ) (old : Parts) (parts : List Lent) → HasEachOnce parts → StandWhole dir parts (with_parts_stored dir old parts)
 get_stored dir old [] each tag bytes is = absurd (none_some bytes is)
 get_stored dir old (l ∷ ls) each tag bytes is = by (eqb l.part tag) refl (get_stored dir (map.insert old (l.part ∷ dir) l.bytes) ls each.1 tag bytes)
   where
-    by : (b : Bool) → eqb l.part tag ≡ b → (held ls tag ≡ Some bytes → map.get (stored dir old (l ∷ ls)) (tag ∷ dir) ≡ Some bytes)
-        → map.get (stored dir old (l ∷ ls)) (tag ∷ dir) ≡ Some bytes
+    by : (b : Bool) → eqb l.part tag ≡ b → (held ls tag ≡ Some bytes → map.get (with_parts_stored dir old (l ∷ ls)) (tag ∷ dir) ≡ Some bytes)
+        → map.get (with_parts_stored dir old (l ∷ ls)) (tag ∷ dir) ≡ Some bytes
     by true e rest =
         let same : l.part ≡ tag = eqb-true l.part tag e in
         let absent : held ls tag ≡ None = subst (λ t. held ls t ≡ None) same (nothing (held ls l.part) each.0) in
@@ -241,39 +241,39 @@ broken_at (x ∷ xs) h (d ∷ ds) b left e =
 
 module _ (dir header : List ℕ) (others : List Lent) (each : HasEachOnce others) (no_header : held others header_tag ≡ None) (old now : Parts)
     (none : map.get old (header_tag ∷ dir) ≡ None) where
-  kept : (done : List Lent) → held done header_tag ≡ None → map.get (stored dir old done) (header_tag ∷ dir) ≡ None
+  kept : (done : List Lent) → held done header_tag ≡ None → map.get (with_parts_stored dir old done) (header_tag ∷ dir) ≡ None
   kept done absent = get_kept dir old done header_tag absent ∙ none
 
   -- all others are stored whole
-  at_header : IsPartlyStored dir (lent_of header_tag header) (stored dir old others) now
+  at_header : IsPartlyStored dir (lent_of header_tag header) (with_parts_stored dir old others) now
       → (map.get now (header_tag ∷ dir) ≡ None) ⊎ HasAllButHeader dir header others now
   at_header (inl same) = inl (ap (λ m. map.get m (header_tag ∷ dir)) same ∙ kept others no_header)
   at_header (inr begun) = inr (record {
-    begun = (begun.0, ap (λ m. map.get m (header_tag ∷ dir)) begun.1 ∙ insert_same dir (stored dir old others) header_tag (take begun.0 header));
+    begun = (begun.0, ap (λ m. map.get m (header_tag ∷ dir)) begun.1 ∙ insert_same dir (with_parts_stored dir old others) header_tag (take begun.0 header));
     whole = λ tag bytes is.
         ap (λ m. map.get m (tag ∷ dir)) begun.1
-        ∙ insert_other dir (stored dir old others) header_tag tag (take begun.0 header)
+        ∙ insert_other dir (with_parts_stored dir old others) header_tag tag (take begun.0 header)
         (λ e. none_some bytes (sym no_header ∙ subst (λ t. held others t ≡ Some bytes) (sym e) is))
         ∙ get_stored dir old others each tag bytes is;
   })
 
   -- the Header is not begun
-  before_header : (done : List Lent) (b : Lent) (more : List Lent) → others ≡ done ++ b ∷ more → IsPartlyStored dir b (stored dir old done) now
+  before_header : (done : List Lent) (b : Lent) (more : List Lent) → others ≡ done ++ b ∷ more → IsPartlyStored dir b (with_parts_stored dir old done) now
       → map.get now (header_tag ∷ dir) ≡ None
   before_header done b more are begun =
       let absent = absent_parts header_tag done b more (subst (λ xs. held xs header_tag ≡ None) are no_header) in
       elim begun [
         | inl same ↦ ap (λ m. map.get m (header_tag ∷ dir)) same ∙ kept done absent.0
         | inr some ↦ ap (λ m. map.get m (header_tag ∷ dir)) some.1
-            ∙ insert_other dir (stored dir old done) b.part header_tag (take some.0 b.bytes) (λ e. eqb-false b.part header_tag absent.1 e)
+            ∙ insert_other dir (with_parts_stored dir old done) b.part header_tag (take some.0 b.bytes) (λ e. eqb-false b.part header_tag absent.1 e)
             ∙ kept done absent.0
       ]
 
   header_last_in : (done : List Lent) (b : Lent) (left : List Lent) → others ++ lent_of header_tag header ∷ [] ≡ done ++ b ∷ left
-      → IsPartlyStored dir b (stored dir old done) now → (map.get now (header_tag ∷ dir) ≡ None) ⊎ HasAllButHeader dir header others now
+      → IsPartlyStored dir b (with_parts_stored dir old done) now → (map.get now (header_tag ∷ dir) ≡ None) ⊎ HasAllButHeader dir header others now
   header_last_in done b left are begun = elim (broken_at others (lent_of header_tag header) done b left are) [
-    | inl last ↦ at_header (subst (λ l. IsPartlyStored dir l (stored dir old others) now) last.1
-        (subst (λ ds. IsPartlyStored dir b (stored dir old ds) now) last.0 begun))
+    | inl last ↦ at_header (subst (λ l. IsPartlyStored dir l (with_parts_stored dir old others) now) last.1
+        (subst (λ ds. IsPartlyStored dir b (with_parts_stored dir old ds) now) last.0 begun))
     | inr before ↦ inl (before_header done b before.0 before.1 begun)
   ]
 
@@ -294,7 +294,7 @@ pub header_last : (dir : List ℕ) (parts : List Lent) (roles : Option (List ℕ
     → HasHeaderLast dir order.header (with_file order.others roles_tag roles) before after
 header_last dir parts roles stores before after order off = over after.held before.held off.held
   where
-    over : (now old : Option Parts) → IfSome now (λ n. IsSomeAnd old (λ o. IsPartlyStored dir off.broken (stored dir o off.done) n))
+    over : (now old : Option Parts) → IfSome now (λ n. IsSomeAnd old (λ o. IsPartlyStored dir off.broken (with_parts_stored dir o off.done) n))
         → IfSome now (λ n. IsSomeAnd old (λ o. map.get o (header_tag ∷ dir) ≡ None
         → (map.get n (header_tag ∷ dir) ≡ None) ⊎ HasAllButHeader dir order.header (with_file order.others roles_tag roles) n))
     over None old begun = tt {0}

@@ -10,7 +10,7 @@ use Rattle.cap_text.specs.declared.line.MethodNumber.{MethodNumber}
 use Rattle.xf_pack.specs.Transformed.{IsTransformed}
 use Rattle.capcheck_core.specs.Stores.{AreInStoreOrder, IsBrokenOff, header_tag}
 use Rattle.capcheck_core.specs.Transform.{roles_beside, IsBroughtInPart}
-use Rattle.capcheck_core.specs.Typed.{number_of}
+use Rattle.capcheck_core.specs.Typed.{numbers_of_method}
 use Rattle.capcheck_core.proofs.Stores.{header_last}
 
 -- parts that stand for a package have its Header
@@ -33,8 +33,8 @@ brought_in_part packages roles w out parts stores given before after made order 
 -- ---- the method that is named
 
 pub named : (w : Linked) (m : Method) (n : ℕ) (number : MethodNumber) → IsMethodOf w m → m.number ≡ n
-    → option_map number_of (slice_get w.methods n) ≡ Some number → number ≡ number_of m.rec
+    → option_map numbers_of_method (slice_get w.methods n) ≡ Some number → number ≡ numbers_of_method m.rec
 named w m n number is e told =
     let at : slice_get w.methods n ≡ Some m.rec = subst (λ k. slice_get w.methods k ≡ Some m.rec) e is.rec in
-    let same : Some (number_of m.rec) ≡ Some number = sym (ap (option_map number_of) at) ∙ told in
+    let same : Some (numbers_of_method m.rec) ≡ Some number = sym (ap (option_map numbers_of_method) at) ∙ told in
     cc

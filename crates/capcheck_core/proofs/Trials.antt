@@ -23,7 +23,7 @@ use Rattle.capcheck_core.specs.declared.verdict.Verdict.{Verdict}
 use Rattle.capcheck_core.specs.declared.verdict.Verdict.TheVariants.{Done, Refused, Limit, Malformed, Usage, ReadFault, StoreFault, Memory}
 use Rattle.capcheck_core.specs.Defend.{method_entered, fault_of, run_fault, IsDefended}
 use Rattle.capcheck_core.specs.Outside.{Card}
-use Rattle.capcheck_core.specs.Run.{within, IsRun, RunsWorldIn}
+use Rattle.capcheck_core.specs.Run.{with_budget, IsRun, RunsWorldIn}
 use Rattle.capcheck_core.specs.Transform.{StopsBefore}
 use Rattle.capcheck_core.specs.Trial.{steps_each, HasNew, IsDoneOrMemory, IsTried, IsUntriedKept, TriesIn}
 use Rattle.capcheck_core.proofs.WorldComplete.{one_package}
@@ -90,7 +90,7 @@ module _ (packages : List PackageRecord) (roles : List ℕ) (w : Linked) (linked
         ap (fault_of new r.args) entered ∙ sym (alike new d.comes.number r.args same) ∙ d.comes.begins
 
     pub new_runs : (r : RunRequest) (steps : ℕ) (c : Card) (text : List ℕ) (verdict : Verdict) → IsDefended w r text
-        → RunsWorldIn new (within steps r) c verdict → IsDoneOrMemory verdict
+        → RunsWorldIn new (with_budget steps r) c verdict → IsDoneOrMemory verdict
     new_runs r steps c text (Done said) d runs = tt {0}
     new_runs r steps c text Memory d runs = tt {0}
     new_runs r steps c text (Refused said) d runs =
@@ -104,14 +104,14 @@ module _ (packages : List PackageRecord) (roles : List ℕ) (w : Linked) (linked
 -- what is told of both
 pub tried : (packages : List PackageRecord) (roles : List ℕ) (w : Linked) (parts : List Lent) (new : Linked) (r : RunRequest) (steps : ℕ) (c : Card)
     (source target text : List ℕ) → HasNew packages roles w parts new → steps ≡ steps_each * r.budget → IsDefended w r source
-    → IsRun new (within steps r) c target → text ≡ trial_text source target → IsTried packages roles w r c text
+    → IsRun new (with_budget steps r) c target → text ≡ trial_text source target → IsTried packages roles w r c text
 tried packages roles w parts new r steps c source target text has count d run prints = record {
   parts = parts;
   made = has.0;
   source = source;
   defended = d;
   target = target;
-  run = subst (λ v. IsRun v (within (steps_each * r.budget) r) c target) (sym has.1) (subst (λ n. IsRun new (within n r) c target) count run);
+  run = subst (λ v. IsRun v (with_budget (steps_each * r.budget) r) c target) (sym has.1) (subst (λ n. IsRun new (with_budget n r) c target) count run);
   prints = prints;
 }
 

@@ -22,7 +22,7 @@ use Rattle.jc_flow.specs.Infer.{TellsEnd, LacksTyping}
 use Rattle.cap_text.specs.declared.line.MethodNumber.{MethodNumber}
 use Rattle.cap_text.specs.Line.{typed_line, refused_flow_line}
 use Rattle.jc_control.specs.Asked.{IsOfLast}
-use Rattle.capcheck_core.specs.Typed.{is_of_last, AreTypedBelow, count_of_last, number_of, TellsTyped, TellsUntyped}
+use Rattle.capcheck_core.specs.Typed.{is_of_last, AreTypedBelow, count_of_last, numbers_of_method, TellsTyped, TellsUntyped}
 use Rattle.capcheck_core.specs.CheckEnds.{IsTypedMethod, FailsMethod}
 
 -- ---- a method by its number
@@ -128,11 +128,11 @@ no_typing w m (BadHandler entry number) known none = none
 
 -- the method that was not typed is the first
 pub first_untyped : (w : Linked) (n : ℕ) (end : FlowEnd) (number : MethodNumber) (text : List ℕ) → AreTypedBelow w n → FailsMethod w n end → (end ≡ Memory → ⊥)
-    → option_map number_of (slice_get w.methods n) ≡ Some number → text ≡ refused_flow_line number end → TellsUntyped w text
+    → option_map numbers_of_method (slice_get w.methods n) ≡ Some number → text ≡ refused_flow_line number end → TellsUntyped w text
 first_untyped w n end number text earlier f known named prints =
     let at : slice_get w.methods n ≡ Some f.method.rec = subst (λ k. slice_get w.methods k ≡ Some f.method.rec) f.number f.of_last.method.rec in
-    let same : Some (number_of f.method.rec) ≡ Some number = sym (ap (option_map number_of) at) ∙ named in
-    let numbers : number ≡ number_of f.method.rec = cc in
+    let same : Some (numbers_of_method f.method.rec) ≡ Some number = sym (ap (option_map numbers_of_method) at) ∙ named in
+    let numbers : number ≡ numbers_of_method f.method.rec = cc in
     record {
       method = f.method;
       first = record {

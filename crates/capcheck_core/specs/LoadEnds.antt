@@ -6,7 +6,7 @@ use Rattle.cap_files.specs.Folder.{Folders, IsTooLong, LoadFails}
 use Rattle.cap_package.specs.Parts.{Lent, held}
 use Rattle.capcheck_core.specs.declared.load.LoadStop.{LoadStop}
 use Rattle.capcheck_core.specs.declared.load.LoadStop.TheVariants.{TooLong, Failed, Memory}
-use Rattle.capcheck_core.specs.Loads.{is_some_size, is_asked, AreLoaded, AreParts, IsAdded, IsFirstLong, FailsParts}
+use Rattle.capcheck_core.specs.Loads.{is_some_size, is_asked, AreLoaded, AreParts, IsPartAdded, IsFirstLong, FailsParts}
 
 -- the loads of a folder's parts by their answer: all of them, or the first that stopped
 abbrev pub LoadsParts : Folders → Folders → List ℕ → Result (List Lent) LoadStop → Type 0
@@ -43,7 +43,7 @@ LoadsLeave before after (Err stop) = StopLeaves before after stop
 
 -- the load of one more part, by its answer
 abbrev pub LoadsFile : Folders → Folders → List ℕ → ℕ → List Lent → List Lent → Result (Unit {0}) LoadStop → Type 0
-LoadsFile before after dir tag parts more (Ok done) = IsAdded before dir tag parts more
+LoadsFile before after dir tag parts more (Ok done) = IsPartAdded before dir tag parts more
 LoadsFile before after dir tag parts more (Err (TooLong part)) = (part.0 ≡ tag) × IsTooLong before (tag ∷ dir)
 LoadsFile before after dir tag parts more (Err Failed) = LoadFails before (tag ∷ dir) after
 LoadsFile before after dir tag parts more (Err Memory) = Unit {0}

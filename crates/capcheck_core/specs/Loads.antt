@@ -59,7 +59,7 @@ pub record AreLoaded (before : Folders) (dir : List ℕ) (top : ℕ) (parts : Li
   pub unasked : (tag : ℕ) → tag < top → is_asked parts tag ≡ false → IsNone (held parts tag)
 
 -- what was loaded for a tag, with the parts before and after it
-pub record IsAdded (before : Folders) (dir : List ℕ) (tag : ℕ) (parts more : List Lent) : Type 0 where
+pub record IsPartAdded (before : Folders) (dir : List ℕ) (tag : ℕ) (parts more : List Lent) : Type 0 where
   pub file : Option (List ℕ)
   pub has : Has before dir tag file
   pub adds : more ≡ with_file parts tag file

@@ -50,7 +50,7 @@ pub record Stops (before after : Outside) (given : Option (List ℕ)) (number : 
   pub card : after.card ≡ before.card
 
 -- the packages in these folders, after those that were made before, and the roles are such that the command answers so
-pub record GoesOn (own : Own) (dirs : List (List ℕ)) (made : List PackageRecord) (given : Option (List ℕ))
+pub record AnswersOverRest (own : Own) (dirs : List (List ℕ)) (made : List PackageRecord) (given : Option (List ℕ))
     (before after : Outside) (verdict : Verdict) : Type 0 where
   pub parts : List (List Lent)
   pub loaded : AllZip (AreParts before.folders) dirs parts
@@ -62,7 +62,7 @@ pub record GoesOn (own : Own) (dirs : List (List ℕ)) (made : List PackageRecor
 
 -- what a command answers over the packages that were made and those in these folders, and makes of the outside
 abbrev pub GoesOver : Own → List (List ℕ) → List PackageRecord → Option (List ℕ) → Outside → Outside → Result Verdict PackagesStop → Type 0
-GoesOver own dirs made given before after (Ok verdict) = GoesOn own dirs made given before after verdict
+GoesOver own dirs made given before after (Ok verdict) = AnswersOverRest own dirs made given before after verdict
 GoesOver own dirs made given before after (Err stop) = Stops before after given (length made) dirs stop
 
 -- ---- all folders

@@ -26,12 +26,12 @@ use Rattle.capcheck_core.specs.Verify.{HaveCardTypings, TellsRefused}
 use Rattle.capcheck_core.specs.Defend.{ComesTo, IsUnbegun, run_fault}
 
 -- the same entry and arguments, within so many steps
-abbrev pub within : ℕ → RunRequest → RunRequest
-within steps r = record r { budget = steps }
+abbrev pub with_budget : ℕ → RunRequest → RunRequest
+with_budget steps r = record r { budget = steps }
 
 -- what is run
 abbrev pub bounded_request : Bounded → RunRequest
-bounded_request b = within b.steps (run_request b.run.now)
+bounded_request b = with_budget b.steps (run_request b.run.now)
 
 -- the card's memory has the lengths that a run of any world needs
 pub record HasLengths (c : Card) : Type 0 where

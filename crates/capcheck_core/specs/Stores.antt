@@ -12,13 +12,13 @@ use Rattle.capcheck_core.specs.Roles.{roles_tag}
 -- ---- parts, one after the other
 
 -- what is held after these parts are stored in a folder
-abbrev pub stored : List ℕ → Parts → List Lent → Parts
-stored dir old [] = old
-stored dir old (lent ∷ parts) = stored dir (map.insert old (lent.part ∷ dir) lent.bytes) parts
+abbrev pub with_parts_stored : List ℕ → Parts → List Lent → Parts
+with_parts_stored dir old [] = old
+with_parts_stored dir old (lent ∷ parts) = with_parts_stored dir (map.insert old (lent.part ∷ dir) lent.bytes) parts
 
 -- all of them are stored, and all else is as before
 pub record AreStored (dir : List ℕ) (parts : List Lent) (before after : Folders) : Type 0 where
-  pub held : IfSome after.held (λ now. IsSomeAnd before.held (λ old. now ≡ stored dir old parts))
+  pub held : IfSome after.held (λ now. IsSomeAnd before.held (λ old. now ≡ with_parts_stored dir old parts))
   pub load_faults : after.load_faults ≡ before.load_faults
   pub failed : after.failed ≡ before.failed
   pub store_faults : after.store_faults ≡ before.store_faults
@@ -33,7 +33,7 @@ pub record IsBrokenOff (dir : List ℕ) (parts : List Lent) (before after : Fold
   pub broken : Lent
   pub left : List Lent
   pub are : parts ≡ done ++ broken ∷ left
-  pub held : IfSome after.held (λ now. IsSomeAnd before.held (λ old. IsPartlyStored dir broken (stored dir old done) now))
+  pub held : IfSome after.held (λ now. IsSomeAnd before.held (λ old. IsPartlyStored dir broken (with_parts_stored dir old done) now))
   pub load_faults : after.load_faults ≡ before.load_faults
   pub failed : after.failed ≡ before.failed
   pub rose : Rose before.store_faults after.store_faults

@@ -21,7 +21,7 @@ use Rattle.capcheck_core.specs.Outside.{Outside}
 use Rattle.capcheck_core.specs.OverFolders.{OverFolders}
 use Rattle.capcheck_core.specs.Roles.{roles_tag}
 use Rattle.capcheck_core.specs.Stores.{AreInStoreOrder, AreStored, IsBrokenOff, HasHeaderLast}
-use Rattle.capcheck_core.specs.Typed.{count_of_last, number_of}
+use Rattle.capcheck_core.specs.Typed.{count_of_last, numbers_of_method}
 use Rattle.capcheck_core.specs.World.{Own, OverWorld}
 
 -- ---- what is stored
@@ -62,14 +62,14 @@ pub record SaysRefused (w : Linked) (text : List ℕ) : Type 0 where
   pub number : ℕ
   pub fault : CardFault
   pub is : IsRefusedLibrary w number fault
-  pub prints : text ≡ refused_card_line (number_of is.method.rec) fault
+  pub prints : text ≡ refused_card_line (numbers_of_method is.method.rec) fault
 
 -- the text names the first method of the last package that has no dataflow typing
 pub record SaysUntyped (w : Linked) (text : List ℕ) : Type 0 where
   pub number : ℕ
   pub end : FlowEnd
   pub is : IsUntypedLast w number end
-  pub prints : text ≡ refused_flow_line (number_of is.method.rec) end
+  pub prints : text ≡ refused_flow_line (numbers_of_method is.method.rec) end
 
 -- the line for a limit of a method
 abbrev pub limit_line : MethodNumber → MethodLimit → List ℕ
@@ -82,7 +82,7 @@ pub record SaysLimited (w : Linked) (text : List ℕ) : Type 0 where
   pub number : ℕ
   pub limit : MethodLimit
   pub is : IsLimited w number limit
-  pub prints : text ≡ limit_line (number_of is.method.rec) limit
+  pub prints : text ≡ limit_line (numbers_of_method is.method.rec) limit
 
 -- the Method component would be too long, and the text says its size
 pub record SaysLong (packages : List PackageRecord) (w : Linked) (text : List ℕ) : Type 0 where

@@ -13,7 +13,7 @@ use Rattle.capcheck_core.specs.Outside.{Card, Outside}
 use Rattle.capcheck_core.specs.OverFolders.{OverFolders}
 use Rattle.capcheck_core.specs.World.{Own, OverWorld}
 use Rattle.capcheck_core.specs.Defend.{IsDefended, IsUnbegun}
-use Rattle.capcheck_core.specs.Run.{within, IsRun}
+use Rattle.capcheck_core.specs.Run.{with_budget, IsRun}
 use Rattle.capcheck_core.specs.Transform.{StopsBefore}
 
 -- the steps of the new package that one of its source may take
@@ -28,7 +28,7 @@ pub record IsTried (packages : List PackageRecord) (roles : List ℕ) (w : Linke
   pub source : List ℕ
   pub defended : IsDefended w r source
   pub target : List ℕ
-  pub run : IsRun made.world (within (steps_each * r.budget) r) c target
+  pub run : IsRun made.world (with_budget (steps_each * r.budget) r) c target
   pub prints : text ≡ trial_text source target
 
 -- the parts are those of the last package in such a form, and this is the world that they make with the libraries

@@ -34,8 +34,8 @@ pub record TellsTyped (w : Linked) (text : List ℕ) : Type 0 where
   pub prints : text ≡ typed_line (count_of_last w)
 
 -- a method by the numbers of its Descriptor
-abbrev pub number_of : MethodRec → MethodNumber
-number_of rec = record { «package» = rec.package; class_no = rec.class_no; method_no = rec.method_no }
+abbrev pub numbers_of_method : MethodRec → MethodNumber
+numbers_of_method rec = record { «package» = rec.package; class_no = rec.class_no; method_no = rec.method_no }
 
 -- one of them is the first without a typing, and the text names it, with a place and a reason that hold
 pub record TellsUntyped (w : Linked) (text : List ℕ) : Type 0 where
@@ -44,4 +44,4 @@ pub record TellsUntyped (w : Linked) (text : List ℕ) : Type 0 where
   pub end : FlowEnd
   pub known : end ≢ Memory
   pub tells : TellsEnd w method end
-  pub prints : text ≡ refused_flow_line (number_of method.rec) end
+  pub prints : text ≡ refused_flow_line (numbers_of_method method.rec) end

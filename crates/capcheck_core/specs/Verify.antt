@@ -15,7 +15,7 @@ use Rattle.capcheck_core.specs.declared.verdict.Verdict.TheVariants.{Done, Refus
 use Rattle.jc_control.specs.Asked.{AllHave, IsFirstWithout}
 use Rattle.capcheck_core.specs.Outside.{Outside, Untouched}
 use Rattle.capcheck_core.specs.OverFolders.{OverFolders}
-use Rattle.capcheck_core.specs.Typed.{number_of}
+use Rattle.capcheck_core.specs.Typed.{numbers_of_method}
 use Rattle.capcheck_core.specs.World.{of_world, OverWorld}
 
 -- how many methods with code all packages have
@@ -39,7 +39,7 @@ pub record TellsRefused (w : Linked) (text : List ℕ) : Type 0 where
   pub fault : CardFault
   pub kept : Frame
   pub tells : IsRefused w method fault kept
-  pub prints : text ≡ refused_card_line (number_of method.rec) fault
+  pub prints : text ≡ refused_card_line (numbers_of_method method.rec) fault
 
 -- the answers where a method is refused
 abbrev pub StopsAtRefused : Linked → Verdict → Type 0

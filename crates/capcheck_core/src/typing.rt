@@ -1,5 +1,5 @@
 ghost use Rattle.std.specs.Prelude.{◌≡◌, ◌<◌, length, Some, option_map, slice_get};
-ghost use Rattle.capcheck_core.specs.Typed.{is_of_last, number_of, AreTypedBelow};
+ghost use Rattle.capcheck_core.specs.Typed.{is_of_last, numbers_of_method, AreTypedBelow};
 ghost use Rattle.capcheck_core.specs.CheckEnds.{TypesMethod, FailsMethod};
 ghost use Rattle.capcheck_core.specs.Check.{TypesWorld};
 
@@ -63,7 +63,7 @@ fn untyped(alloc: Global, world: &World<'_>, number: u16, end: FlowEnd) -> Verdi
 /// A method by the numbers of its Descriptor.
 pub(crate) fn number_of(world: &World<'_>, number: u16) -> MethodNumber
     requires { number < length world.now.methods }
-    ensures { option_map number_of (slice_get world.now.methods number) ≡ Some result }
+    ensures { option_map numbers_of_method (slice_get world.now.methods number) ≡ Some result }
 {
     let rec = world.method(number);
     MethodNumber {

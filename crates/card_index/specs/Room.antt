@@ -3,7 +3,7 @@ use Rattle.std.specs.Prelude.{◌≡◌, ℕ, List, length}
 use Rattle.jc_base.specs.declared.ty.Ty.{Ty}
 
 -- for how many registers and for how many cells of a stack there is room
-pub record Room : Type 0 where
+pub record CellRoom : Type 0 where
   pub registers : ℕ
   pub cells : ℕ
 

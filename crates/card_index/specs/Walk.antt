@@ -15,7 +15,7 @@ use Rattle.card_verify.specs.declared.pass.Arrival.{Arrival}
 use Rattle.card_verify.specs.Ahead.{IsLeastFrom}
 use Rattle.card_verify.specs.Walk.{IsVerifier, IsLanded, IsVisited, CanBeginPass, IsComing, left}
 use Rattle.card_index.specs.declared.indexed.Indexed.{Indexed}
-use Rattle.card_index.specs.declared.entries.Entries.{Entries}
+use Rattle.card_index.specs.declared.entries.NextEntry.{NextEntry}
 use Rattle.card_index.specs.declared.scan.Lacking.{Lacking}
 use Rattle.card_index.specs.Indexed.{subject, world_in, listed}
 use Rattle.card_index.specs.IndexTyping.{IsIndex}
@@ -29,7 +29,7 @@ pub record IsIndexed (x : Indexed) : Type 0 where
   pub index : IsIndex (subject x) (listed x)
 
 -- the least entry of a handler from a place on
-abbrev pub HasEntry : Indexed → Entries → Type 0
+abbrev pub HasEntry : Indexed → NextEntry → Type 0
 HasEntry x e = IsLeastFrom (IsEntry (subject x)) e.from e.entry
 
 -- a place of the index is fallen into with cells on the stack

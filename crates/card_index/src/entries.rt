@@ -8,31 +8,31 @@ use crate::indexed::Indexed;
 
 /// The least entry of a handler from a place on. It is kept while a walk goes up to it, and sought anew once it is beyond.
 #[derive(Clone, Copy)]
-pub struct Entries {
+pub struct NextEntry {
     pub from: u16,
     pub entry: Option<u32>,
 }
 
-impl Entries {
+impl NextEntry {
     /// What is ahead of the method's first place.
-    pub fn of(indexed: Indexed<'_, '_>) -> Entries
+    pub fn of(indexed: Indexed<'_, '_>) -> NextEntry
         ensures is { HasEntry indexed.entry result }
         ensures from { result.from ≡ 0 }
     {
-        Entries {
+        NextEntry {
             from: 0,
             entry: indexed.verifier.entry_from(0),
         }
     }
 
     /// What is ahead of a place further on.
-    pub fn moved(self, indexed: Indexed<'_, '_>, place: u16) -> Entries
+    pub fn moved(self, indexed: Indexed<'_, '_>, place: u16) -> NextEntry
         requires ahead { HasEntry indexed self }
         requires up { self.from ≤ place }
         ensures is { HasEntry indexed.entry result }
         ensures from { result.from ≡ place }
     {
-        Entries {
+        NextEntry {
             from: place,
             entry: self.entry_at(indexed, place),
         }

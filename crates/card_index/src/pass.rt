@@ -13,7 +13,7 @@ ghost use Rattle.card_index.specs.Refusal.{IsRefusedOver};
 ghost use Rattle.card_index.specs.Walk.{IsIndexed, IsBegunOver, HasEntry, TellsListed, IsBlockedOver, IsSharedOver, IsLandedOver, IsMislandedOver, IsVisitedOver, IsStoppedOver, IsRaisedOver, IsSettledOver};
 
 use crate::counted::apply_counted;
-use crate::entries::Entries;
+use crate::entries::NextEntry;
 use crate::indexed::Indexed;
 use crate::search::is_listed;
 use card_typing::{CardFault, CardKind};
@@ -49,7 +49,7 @@ impl Indexed<'_, '_> {
             → length (listed self.now) < 2 ^ b
             → steps.new ≤ steps.old + length (listing (subject self.now).code) * (b + 1) }
     {
-        let mut entries = Entries::of(*self);
+        let mut entries = NextEntry::of(*self);
         let mut arrival = Arrival {
             may_fall: true,
             depth: 0,
@@ -74,7 +74,7 @@ impl Indexed<'_, '_> {
     fn visit<L: Ledger>(
         &self,
         placed: Placed,
-        entries: Entries,
+        entries: NextEntry,
         arrival: Arrival,
         regs: &mut [Ty],
         stack: &mut [Ty],
@@ -101,7 +101,7 @@ impl Indexed<'_, '_> {
     /// The depth of the stack with which the walk comes to a place, if that may be.
     fn land<L: Ledger>(
         &self,
-        entries: Entries,
+        entries: NextEntry,
         arrival: Arrival,
         stack: &mut [Ty],
         steps: &mut Steps<L>,
@@ -137,7 +137,7 @@ impl Indexed<'_, '_> {
     /// Where a handler begins, the object that is caught stands alone on the stack.
     fn enter(
         &self,
-        entries: Entries,
+        entries: NextEntry,
         here: bool,
         arrival: Arrival,
         stack: &mut [Ty],

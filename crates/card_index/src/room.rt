@@ -25,9 +25,9 @@ pub struct CardRoom {
 }
 
 impl Model for CardRoom {
-    ghost use Rattle.card_index.specs.Room.{Room};
+    ghost use Rattle.card_index.specs.Room.{CellRoom};
 
-    ghost Value = { Room };
+    ghost Value = { CellRoom };
 
     ghost use Rattle.std.specs.Prelude.{length};
     ghost use Rattle.card_index.specs.Room.{AreFull};

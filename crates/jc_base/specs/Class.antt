@@ -24,6 +24,10 @@ is_interface_record (Some r) = r.interface
 unfoldable pub is_interface : ClassTable → ℕ → Bool
 is_interface t c = is_interface_record (slice_get t.records c)
 
+-- the class that stands in types for a class or an interface: object for an interface
+abbrev pub class_in_types : ClassTable → ℕ → ℕ
+class_in_types t c = if is_interface t c then object t else c
+
 -- a number that names a class, and no interface
 pub record IsClass (t : ClassTable) (c : ℕ) : Type 0 where
   pub number : c < length t.records

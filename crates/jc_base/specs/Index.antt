@@ -1,7 +1,7 @@
 -- Numbers of two bytes, one after another, the high byte first: the entries of a target index.
 use Rattle.std.specs.Prelude.{ℕ, ◌+◌, ◌*◌, List, [], ◌∷◌, ◌≡◌, ◌<◌, Some, slice_get}
 
--- an odd last byte is left out
+-- the words that bytes spell, two bytes each, the high one first; an odd last byte is left out
 abbrev pub words_of_bytes : List ℕ → List ℕ
 words_of_bytes [] = []
 words_of_bytes (high ∷ []) = []

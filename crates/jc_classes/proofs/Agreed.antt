@@ -21,8 +21,8 @@ use Rattle.first_fault.proofs.FirstTold.{IsTold, things-told, step, last, refuse
 use Rattle.jc_classes.specs.declared.layout.ClassLayout.{ClassLayout}
 use Rattle.jc_hierarchy.specs.Outline.{LineTable, AreLines, outline}
 use Rattle.jc_classes.specs.Layout.{instance_cells, layouts}
-use Rattle.jc_classes.specs.Conditions.{hole_fault, entries_in, override_fault, replacements_in, interface_fault, implementations_in, long_fault, class_numbers, long_instances, conditions}
-use Rattle.jc_classes.specs.Tables.{records_from, class_tables, classes_agree, tables_of, TellsEnd}
+use Rattle.jc_classes.specs.Conditions.{hole_fault, entries_in, override_fault, replacements_in, interface_type_fault, implementations_in, long_fault, class_numbers, long_instances, conditions}
+use Rattle.jc_classes.specs.Tables.{records_from, class_tables, classes_agree, tables_of, TellsTableEnd}
 use Rattle.jc_classes.proofs.Folds.{cells_are, layout_at, layouts_count}
 use Rattle.jc_classes.proofs.Lines.{IsOutline, tables-classes, records-length}
 
@@ -68,7 +68,7 @@ unfolding classes_agree
 agree-told t classes methods =
     step link_place (things-told link_place (hole_fault t methods) (flat_map (entries_in t classes) (class_numbers classes)))
     (step link_place (things-told link_place (override_fault methods) (flat_map (replacements_in t classes) (class_numbers classes)))
-    (step link_place (things-told link_place (interface_fault methods) (flat_map (implementations_in t classes) (class_numbers classes)))
+    (step link_place (things-told link_place (interface_type_fault methods) (flat_map (implementations_in t classes) (class_numbers classes)))
     (last link_place (things-told link_place (long_fault t classes) (class_numbers classes)))))
 
 pub told_first : (t : LineTable) (classes : List NamedClass) (methods : List MethodRec) (f : LinkFault) → Err f ≡ classes_agree t classes methods → IsFirst link_place (conditions t classes methods) f
@@ -77,7 +77,7 @@ told_first t classes methods f e = refused-first link_place (conditions t classe
 pub told_empty : (t : LineTable) (classes : List NamedClass) (methods : List MethodRec) → Ok (tt {0}) ≡ classes_agree t classes methods → AllEmpty (conditions t classes methods)
 told_empty t classes methods e = accepted-empty link_place (conditions t classes methods) (sym (agree-told t classes methods).same ∙ sym e)
 
-told-by : (t : LineTable) (classes : List NamedClass) (methods : List MethodRec) (s : Result (Unit {0}) LinkFault) (r : Result ClassTable LinkEnd) → classes_agree t classes methods ≡ s → IsDue (s >>= λ _. Ok (class_tables t classes)) r → TellsEnd t classes methods r
+told-by : (t : LineTable) (classes : List NamedClass) (methods : List MethodRec) (s : Result (Unit {0}) LinkFault) (r : Result ClassTable LinkEnd) → classes_agree t classes methods ≡ s → IsDue (s >>= λ _. Ok (class_tables t classes)) r → TellsTableEnd t classes methods r
 told-by t classes methods (Ok x) (Ok table) e due =
     let same : class_tables t classes ≡ table = cc in
     (sym same, told_empty t classes methods (sym e))
@@ -90,7 +90,7 @@ told-by t classes methods (Err g) (Err (Fault f)) e due =
 told-by t classes methods (Err g) (Err Memory) e due = tt {0}
 
 -- the answer that is due tells the table, or the first condition that is broken
-pub due-tells : (t : LineTable) (classes : List NamedClass) (methods : List MethodRec) (r : Result ClassTable LinkEnd) → IsDue (tables_of t classes methods) r → TellsEnd t classes methods r
+pub due-tells : (t : LineTable) (classes : List NamedClass) (methods : List MethodRec) (r : Result ClassTable LinkEnd) → IsDue (tables_of t classes methods) r → TellsTableEnd t classes methods r
 unfolding tables_of
 due-tells t classes methods r due = told-by t classes methods (classes_agree t classes methods) r refl due
 

@@ -15,7 +15,7 @@ use Rattle.jc_resolve.specs.declared.named.NamedClass.{NamedClass}
 use Rattle.jc_resolve.proofs.Faultless.{both_faultless, flat_faultless}
 use Rattle.jc_classes.specs.Layout.{public_entries, visible_entries}
 use Rattle.jc_classes.specs.Signatures.{entry_method, entry_signature, same_signature}
-use Rattle.jc_classes.specs.Conditions.{DispatchEntry, entries_from, entries_in, may_stand, hole_fault, holes, Replacement, replacements_from, replacements_in, override_fault, overrides, layout_above, visible_above, Implementation, implemented_by, implementations_in, interface_fault, serves_all, unserved}
+use Rattle.jc_classes.specs.Conditions.{DispatchEntry, entries_from, entries_in, may_stand, hole_fault, holes, Replacement, replacements_from, replacements_in, override_fault, overrides, layout_above, visible_above, Implementation, implemented_by, implementations_in, interface_type_fault, serves_all, unserved}
 use Rattle.jc_classes.specs.Tables.{methods_listed}
 use Rattle.jc_classes.proofs.SameTypes.{same_signature-equal}
 use Rattle.jc_classes.proofs.Agreed.{slice_get-numbers}
@@ -127,23 +127,23 @@ visible_agrees t classes methods c none h =
 
 -- ---- interfaces that are served
 
-served_by : (methods : List MethodRec) (x : Implementation) (b : Bool) → serves_all methods x.public x.iface ≡ b → interface_fault methods x ≡ None → b ≡ true
-unfolding interface_fault
+served_by : (methods : List MethodRec) (x : Implementation) (b : Bool) → serves_all methods x.public x.iface ≡ b → interface_type_fault methods x ≡ None → b ≡ true
+unfolding interface_type_fault
 served_by methods x true at none = refl
 served_by methods x false at none =
-    let some : interface_fault methods x ≡ Some (InterfaceType x.class x.iface.class) = rw at refl in
+    let some : interface_type_fault methods x ≡ Some (InterfaceType x.class x.iface.class) = rw at refl in
     let no : Some (InterfaceType x.class x.iface.class) ≡ None = sym some ∙ none in
     absurd cc
 
 abbrev pub AllServed : List MethodRec → List (Option ℕ) → List Iface → Type 0
 AllServed methods public is = All (λ (i : Iface). serves_all methods public i ≡ true) is
 
-all_served : (methods : List MethodRec) (c : ℕ) (public : List (Option ℕ)) (is : List Iface) → filter_map (interface_fault methods) (map (λ (i : Iface). record { class = c; public = public; iface = i }) is) ≡ [] → AllServed methods public is
+all_served : (methods : List MethodRec) (c : ℕ) (public : List (Option ℕ)) (is : List Iface) → filter_map (interface_type_fault methods) (map (λ (i : Iface). record { class = c; public = public; iface = i }) is) ≡ [] → AllServed methods public is
 all_served methods c public [] e = All-nil (λ (i : Iface). serves_all methods public i ≡ true)
 all_served methods c public (i ∷ is) e =
     let x : Implementation = record { class = c; public = public; iface = i } in
-    let both = faultless_first (interface_fault methods x) (filter_map (interface_fault methods) (map (λ (i : Iface). record { class = c; public = public; iface = i }) is)) e in
+    let both = faultless_first (interface_type_fault methods x) (filter_map (interface_type_fault methods) (map (λ (i : Iface). record { class = c; public = public; iface = i }) is)) e in
     All-cons (λ (i : Iface). serves_all methods public i ≡ true) i is (served_by methods x (serves_all methods public i) refl both.0) (all_served methods c public is both.1)
 
 pub interfaces_met : (t : LineTable) (classes : List NamedClass) (methods : List MethodRec) (c : ℕ) → unserved t classes methods ≡ [] → c < length classes → AllServed methods (public_entries t classes c) (implemented_by (slice_get classes c))
-interfaces_met t classes methods c none h = all_served methods c (public_entries t classes c) (implemented_by (slice_get classes c)) (class_faultless (interface_fault methods) (implementations_in t classes) (length classes) c none h)
+interfaces_met t classes methods c none h = all_served methods c (public_entries t classes c) (implemented_by (slice_get classes c)) (class_faultless (interface_type_fault methods) (implementations_in t classes) (length classes) c none h)

@@ -7,9 +7,9 @@ use Rattle.std.proofs.lemmas.List.{length-set, length-replicate, take_more}
 use Rattle.std.proofs.lemmas.Option.{slice_get_within}
 use Rattle.jc_base.specs.declared.record.MethodRec.{MethodRec}
 use Rattle.jc_base.proofs.Lists.{IfSome-is, slice_get-set_here, slice_get-set_other}
-use Rattle.jc_classes.specs.Groups.{AreGroups, IsAdded, methods_of}
+use Rattle.jc_classes.specs.Groups.{AreGroups, IsMethodAdded, methods_of}
 
-pub added : (m : MethodRec) (old new : List (List MethodRec)) (before after : List MethodRec) → slice_get old m.class ≡ Some before → after ≡ before ++ (m ∷ []) → new ≡ set old m.class after → IsAdded m old new
+pub added : (m : MethodRec) (old new : List (List MethodRec)) (before after : List MethodRec) → slice_get old m.class ≡ Some before → after ≡ before ++ (m ∷ []) → new ≡ set old m.class after → IsMethodAdded m old new
 added m old new before after found e is = record { before = before; found = found; set_is = is ∙ ap (set old m.class) e }
 
 pub ruleset adding = (added)
@@ -34,7 +34,7 @@ methods_by [] m d true e = rw e refl
 methods_by [] m d false e = rw e refl
 methods_by (x ∷ xs) m d b e = keep_or_skip x b (x.class == d) m (methods_of xs d) (methods_of (xs ++ (m ∷ [])) d) (methods_by xs m d b e)
 
-pub groups_more : (n : ℕ) (methods : List MethodRec) (m : MethodRec) (old new : List (List MethodRec)) → AreGroups n methods old → IsAdded m old new → AreGroups n (methods ++ (m ∷ [])) new
+pub groups_more : (n : ℕ) (methods : List MethodRec) (m : MethodRec) (old new : List (List MethodRec)) → AreGroups n methods old → IsMethodAdded m old new → AreGroups n (methods ++ (m ∷ [])) new
 groups_more n methods m old new are is = record {
   count = ap length is.set_is ∙ length-set old m.class (is.before ++ (m ∷ [])) ∙ are.count;
   each = λ d. elim (cases_eq m.class d) [
@@ -51,7 +51,7 @@ groups_more n methods m old new are is = record {
   ];
 }
 
-pub groups_next : (n : ℕ) (methods : List MethodRec) (i : ℕ) (m : MethodRec) (old new : List (List MethodRec)) → m ≡ get_or methods i m → i < length methods → AreGroups n (take i methods) old → IsAdded m old new → AreGroups n (take (i + 1) methods) new
+pub groups_next : (n : ℕ) (methods : List MethodRec) (i : ℕ) (m : MethodRec) (old new : List (List MethodRec)) → m ≡ get_or methods i m → i < length methods → AreGroups n (take i methods) old → IsMethodAdded m old new → AreGroups n (take (i + 1) methods) new
 groups_next n methods i m old new at h are is =
     subst (λ (ms : List MethodRec). AreGroups n ms new) (ap (λ (x : MethodRec). take i methods ++ (x ∷ [])) at ∙ sym (take_more methods i m h)) (groups_more n (take i methods) m old new are is)
 

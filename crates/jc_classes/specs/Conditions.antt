@@ -105,11 +105,11 @@ serves methods public i m = same_signature
 abbrev pub serves_all : List MethodRec → List (Option ℕ) → Iface → Bool
 serves_all methods public i = list_all (λ m. not (m.class == i.class) || serves methods public i m) methods
 
-unfoldable pub interface_fault : List MethodRec → Implementation → Option LinkFault
-interface_fault methods x = if serves_all methods x.public x.iface then None else Some (InterfaceType x.class x.iface.class)
+unfoldable pub interface_type_fault : List MethodRec → Implementation → Option LinkFault
+interface_type_fault methods x = if serves_all methods x.public x.iface then None else Some (InterfaceType x.class x.iface.class)
 
 abbrev pub unserved : LineTable → List NamedClass → List MethodRec → List LinkFault
-unserved t classes methods = at_fault (interface_fault methods) (flat_map (implementations_in t classes) (class_numbers classes))
+unserved t classes methods = at_fault (interface_type_fault methods) (flat_map (implementations_in t classes) (class_numbers classes))
 
 -- ---- instances that are too long
 

@@ -12,7 +12,7 @@ pub record AreGroups (n : ℕ) (methods : List MethodRec) (groups : List (List M
   pub each : (d : ℕ) → IfSome (slice_get groups d) (λ g. g ≡ methods_of methods d)
 
 -- one more method, after the others of its class
-pub record IsAdded (m : MethodRec) (old new : List (List MethodRec)) : Type 0 where
+pub record IsMethodAdded (m : MethodRec) (old new : List (List MethodRec)) : Type 0 where
   pub before : List MethodRec
   pub found : slice_get old m.class ≡ Some before
   pub set_is : new ≡ slice_set old m.class (before ++ (m ∷ []))

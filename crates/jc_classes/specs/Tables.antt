@@ -16,7 +16,7 @@ use Rattle.first_fault.specs.Least.{◌>>=◌, least_of, refused}
 use Rattle.first_fault.specs.First.{IsFirst, AllEmpty}
 use Rattle.jc_classes.specs.declared.layout.ClassLayout.{ClassLayout}
 use Rattle.jc_classes.specs.Layout.{class_layout}
-use Rattle.jc_classes.specs.Conditions.{hole_fault, entries_in, override_fault, replacements_in, interface_fault, implementations_in, long_fault, class_numbers, conditions}
+use Rattle.jc_classes.specs.Conditions.{hole_fault, entries_in, override_fault, replacements_in, interface_type_fault, implementations_in, long_fault, class_numbers, conditions}
 
 -- the methods of a dispatch list
 abbrev pub methods_listed : List (Option ℕ) → List ℕ
@@ -49,7 +49,7 @@ unfoldable pub classes_agree : LineTable → List NamedClass → List MethodRec 
 classes_agree t classes methods =
     refused (least_of link_place (hole_fault t methods) (flat_map (entries_in t classes) (class_numbers classes))) >>= λ _.
     (refused (least_of link_place (override_fault methods) (flat_map (replacements_in t classes) (class_numbers classes))) >>= λ _.
-    (refused (least_of link_place (interface_fault methods) (flat_map (implementations_in t classes) (class_numbers classes))) >>= λ _.
+    (refused (least_of link_place (interface_type_fault methods) (flat_map (implementations_in t classes) (class_numbers classes))) >>= λ _.
     refused (least_of link_place (long_fault t classes) (class_numbers classes))))
 
 -- the table, where they hold
@@ -57,15 +57,15 @@ unfoldable pub tables_of : LineTable → List NamedClass → List MethodRec → 
 tables_of t classes methods = classes_agree t classes methods >>= λ _. Ok (class_tables t classes)
 
 -- the table exactly where nothing is at fault; else the first condition by number that is broken, at its least thing
-abbrev pub Tells : LineTable → List NamedClass → List MethodRec → Result ClassTable LinkFault → Type 0
-Tells t classes methods (Ok table) = (table ≡ class_tables t classes) × AllEmpty (conditions t classes methods)
-Tells t classes methods (Err fault) = IsFirst link_place (conditions t classes methods) fault
+abbrev pub TellsTable : LineTable → List NamedClass → List MethodRec → Result ClassTable LinkFault → Type 0
+TellsTable t classes methods (Ok table) = (table ≡ class_tables t classes) × AllEmpty (conditions t classes methods)
+TellsTable t classes methods (Err fault) = IsFirst link_place (conditions t classes methods) fault
 
 -- the same of what linking ends with; out of memory tells nothing
-abbrev pub TellsEnd : LineTable → List NamedClass → List MethodRec → Result ClassTable LinkEnd → Type 0
-TellsEnd t classes methods (Ok table) = Tells t classes methods (Ok table)
-TellsEnd t classes methods (Err (Fault fault)) = Tells t classes methods (Err fault)
-TellsEnd t classes methods (Err Memory) = Unit {0}
+abbrev pub TellsTableEnd : LineTable → List NamedClass → List MethodRec → Result ClassTable LinkEnd → Type 0
+TellsTableEnd t classes methods (Ok table) = TellsTable t classes methods (Ok table)
+TellsTableEnd t classes methods (Err (Fault fault)) = TellsTable t classes methods (Err fault)
+TellsTableEnd t classes methods (Err Memory) = Unit {0}
 
 -- in a world of so many packages, in which everything is a number, the table is what a world needs of its classes
 abbrev pub Links : LineTable → List NamedClass → List MethodRec → ClassTable → Type 0

@@ -1,14 +1,14 @@
 ghost use Rattle.std.specs.Prelude.{◌≡◌, ◌≤◌, IfOk, Some, length};
 ghost use Rattle.jc_classes.specs.Tables.{methods_listed, record_from};
 
-use crate::layout::{ClassLayout, Entries};
+use crate::layout::{ClassLayout, DispatchEntries};
 use jc_base::{ClassRec, Dispatch, Iface, Ifaces, Items};
 use jc_resolve::NamedClass;
 use std::alloc::{AllocError, Global};
 
 /// The methods of a dispatch list without open entries.
 #[tactic(auto, using(crate::proofs::Built::listing))]
-fn methods_listed(alloc: Global, entries: &Entries) -> Result<Dispatch, AllocError>
+fn methods_listed(alloc: Global, entries: &DispatchEntries) -> Result<Dispatch, AllocError>
     ensures { IfOk result (λ list. list ≡ methods_listed entries.now) }
 {
     let mut list = Vec::with_capacity(alloc, entries.len())?;

@@ -1,5 +1,5 @@
 ghost use Rattle.std.specs.Prelude.{◌≡◌, ◌<◌, ◌++◌, ◌∷◌, [], All, IfOk, OnOk, OnErr, length, replicate, slice_get, Some};
-ghost use Rattle.jc_classes.specs.Groups.{AreGroups, IsAdded};
+ghost use Rattle.jc_classes.specs.Groups.{AreGroups, IsMethodAdded};
 
 use jc_base::{MethodRec, Methods};
 use std::alloc::{AllocError, Global};
@@ -63,7 +63,7 @@ fn empty_groups<'a>(alloc: Global, count: usize) -> Result<Vec<Group<'a>>, Alloc
 #[tactic(auto, using(crate::proofs::Grouping::adding))]
 fn add<'a>(groups: &mut Vec<Group<'a>>, method: &'a MethodRec) -> Result<(), AllocError>
     requires known { method.now.class < length groups.now.items }
-    ensures { IfOk result (λ _. IsAdded method.now groups.old.items groups.new.items) }
+    ensures { IfOk result (λ _. IsMethodAdded method.now groups.old.items groups.new.items) }
 {
     groups[method.class as usize].push(method)
 }

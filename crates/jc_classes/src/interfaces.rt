@@ -5,7 +5,7 @@ ghost use Rattle.jc_resolve.specs.Fault.{link_place};
 ghost use Rattle.first_fault.specs.Least.{least_of, least_from, refused};
 ghost use Rattle.jc_classes.specs.Known.{AreInRange, HaveSuperclasses};
 ghost use Rattle.jc_classes.specs.Layout.{layouts};
-ghost use Rattle.jc_classes.specs.Conditions.{Implementation, serves, interface_fault, implemented_by, implementations_in, class_numbers};
+ghost use Rattle.jc_classes.specs.Conditions.{Implementation, serves, interface_type_fault, implemented_by, implementations_in, class_numbers};
 ghost use Rattle.jc_classes.specs.Groups.{AreGroups};
 
 use crate::groups::Group;
@@ -56,7 +56,7 @@ fn interface_fault(
 ) -> Option<LinkFault>
     requires grouped { AreGroups (length groups.now) methods.now groups.now }
     requires known { iface.now.class < length groups.now }
-    ensures { result ≡ interface_fault methods.now (record { class = c; public = public.now; iface = iface.now }) }
+    ensures { result ≡ interface_type_fault methods.now (record { class = c; public = public.now; iface = iface.now }) }
 {
     if serves_all(methods, &groups[iface.class as usize], public, iface) {
         None
@@ -78,7 +78,7 @@ fn unserved_in(
     requires grouped { AreGroups (length groups.now) methods.now groups.now }
     requires known { All (λ (i : Iface). i.class < length groups.now) interfaces.now }
     ensures { result
-        ≡ least_from link_place least (interface_fault methods.now)
+        ≡ least_from link_place least (interface_type_fault methods.now)
         (map
         (λ (i : Iface). record { class = c; public = public.now; iface = i })
         interfaces.now) }
@@ -102,7 +102,7 @@ fn unserved_by(
     requires grouped { AreGroups (length groups.now) methods.now groups.now }
     requires known { All (λ (i : Iface). i.class < length groups.now) class.now.interfaces }
     ensures { result
-        ≡ least_from link_place least (interface_fault methods.now)
+        ≡ least_from link_place least (interface_type_fault methods.now)
         (map
         (λ (i : Iface). record { class = c; public = public.now; iface = i })
         (implemented_by (Some class.now))) }
@@ -136,7 +136,7 @@ pub(crate) fn interfaces_served(
     requires interfaces { AreInRange classes.now }
     ensures { result
         ≡ refused
-        (least_of link_place (interface_fault methods.now)
+        (least_of link_place (interface_type_fault methods.now)
         (flat_map (implementations_in lineage.now classes.now) (class_numbers classes.now))) }
 {
     let mut least = None;

@@ -4,7 +4,7 @@ ghost use Rattle.std.specs.List.{range_with_len};
 ghost use Rattle.jc_resolve.specs.Named.{IsByteTable};
 ghost use Rattle.jc_classes.specs.Entries.{reach, named_by, overlaid_at, overlaid};
 
-use crate::layout::Entries;
+use crate::layout::DispatchEntries;
 use jc_base::Items;
 use jc_resolve::DispatchTable;
 use std::alloc::{AllocError, Global};
@@ -65,7 +65,7 @@ pub(crate) fn overlay(
     alloc: Global,
     table: &DispatchTable,
     inherited: &[Option<u16>],
-) -> Result<Entries, AllocError>
+) -> Result<DispatchEntries, AllocError>
     requires few { IsByteTable table.now }
     ensures { IfOk result (λ entries. entries ≡ overlaid table.now inherited.now) }
 {

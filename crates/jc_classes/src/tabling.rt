@@ -7,7 +7,7 @@ ghost use Rattle.jc_classes.specs.Layout.{layouts};
 ghost use Rattle.jc_classes.specs.Signatures.{TellsSame};
 ghost use Rattle.jc_classes.specs.Groups.{AreGroups};
 ghost use Rattle.jc_classes.specs.Conditions.{long_instances};
-ghost use Rattle.jc_classes.specs.Tables.{class_tables, classes_agree, tables_of, Links, TellsEnd};
+ghost use Rattle.jc_classes.specs.Tables.{class_tables, classes_agree, tables_of, Links, TellsTableEnd};
 
 use crate::building::record_from;
 use crate::groups::{Group, groups};
@@ -119,7 +119,7 @@ pub fn tables(
     ensures value { IsDue (tables_of lineage.now classes.now methods.now) result }
     // The table exactly where nothing is at fault; else the first condition by number that is broken, at
     // its least thing.
-    ensures tells { TellsEnd lineage.now classes.now methods.now result }
+    ensures tells { TellsTableEnd lineage.now classes.now methods.now result }
     // What a world needs of its classes, where all that they name are numbers.
     ensures linked { IfOk result (λ table. Links lineage.now classes.now methods.now table) }
     // Signatures are compared exactly.

@@ -10,7 +10,7 @@ use Rattle.jc_decode.specs.declared.layout.Layout.{Layout}
 use Rattle.jc_decode.specs.declared.insn.CodeEnd.{CodeEnd}
 use Rattle.jc_decode.specs.declared.insn.Insn.{Insn}
 use Rattle.jc_decode.specs.Layout.{operand_width, total_width, layout_of}
-use Rattle.jc_decode.specs.Decoding.{◌>>=◌, or_cut, reached, keys_rise, pairs_end, pair_width, range_end, range_count, bad_operand, operand_at, table_end, end_of_cases, decoded, Begins, IsWithin}
+use Rattle.jc_decode.specs.Decoding.{◌>>=◌, or_cut, within_bytes, keys_rise, pairs_end, pair_width, range_end, range_count, bad_operand, operand_at, table_end, end_of_cases, decoded, Begins, IsWithin}
 
 -- a step that succeeds, and what comes of it
 pub bind-ok : {A B : Type 0} (r : Result A CodeEnd) (f : A → Result B CodeEnd) (y : B)
@@ -23,10 +23,10 @@ or_cut-ok None x h = absurd (cc)
 or_cut-ok (Some y) x h = cc
 
 -- what is reached is the place, and lies within the bytes
-pub reached-ok : (xs : List ℕ) (end e : ℕ) → reached xs end ≡ Ok e → (e ≡ end) × (e ≤ length xs)
+pub reached-ok : (xs : List ℕ) (end e : ℕ) → within_bytes xs end ≡ Ok e → (e ≡ end) × (e ≤ length xs)
 reached-ok xs end e h = grind arith
 
-pub reached-within : (xs : List ℕ) (end : ℕ) → end ≤ length xs → reached xs end ≡ Ok end
+pub reached-within : (xs : List ℕ) (end : ℕ) → end ≤ length xs → within_bytes xs end ≡ Ok end
 reached-within xs end h = grind arith
 
 -- a table ends after its beginning, and within the bytes
@@ -37,7 +37,7 @@ keys_rise-ok key xs table end (Some n) e h = absurd (cc)
 pub pairs_end-ok : (key : Operand) (xs : List ℕ) (table count e : ℕ) → pairs_end key xs table count ≡ Ok e
     → (e ≡ table + pair_width key * count) × (e ≤ length xs)
 pairs_end-ok key xs table count e h =
-    let parts = bind-ok (reached xs (table + pair_width key * count)) _ e h in
+    let parts = bind-ok (within_bytes xs (table + pair_width key * count)) _ e h in
     let same = keys_rise-ok key xs table parts.0 _ e parts.2 in
     let place = reached-ok xs (table + pair_width key * count) parts.0 parts.1 in
     (same ∙ place.0, omega (arith, same, place.1))
@@ -46,7 +46,7 @@ pub range_end-ok : (bound : Operand) (xs : List ℕ) (table : ℕ) (low high : �
     → (e ≡ table + 2 * range_count low high) × (e ≤ length xs)
 range_end-ok bound xs table low high e h = by_test (int_lt high low) h
   where
-    by_test : (b : Bool) → cond b (Err (bad_operand xs (table - operand_width bound))) (reached xs (table + 2 * range_count low high)) ≡ Ok e
+    by_test : (b : Bool) → cond b (Err (bad_operand xs (table - operand_width bound))) (within_bytes xs (table + 2 * range_count low high)) ≡ Ok e
         → (e ≡ table + 2 * range_count low high) × (e ≤ length xs)
     by_test true h = absurd (cc)
     by_test false h = reached-ok xs _ e h
@@ -72,7 +72,7 @@ unfolding decoded
 Begins-decoded xs at i h =
     from_bind (or_cut (number_at 1 at xs)) _ i h (λ op op_is h1.
     from_bind (layout_of op) _ i h1 (λ l l_is h2.
-    from_bind (reached xs (at + 1 + total_width l)) _ i h2 (λ table table_is h3.
+    from_bind (within_bytes xs (at + 1 + total_width l)) _ i h2 (λ table table_is h3.
     from_bind (operand_at l.x xs (at + 1)) _ i h3 (λ x x_is h4.
     from_bind (operand_at l.y xs (at + 1 + operand_width l.x)) _ i h4 (λ y y_is h5.
     from_bind (operand_at l.z xs (at + 1 + operand_width l.x + operand_width l.y)) _ i h5 (λ z z_is h6.
@@ -96,7 +96,7 @@ Begins-decoded xs at i h =
 pub decoded-Begins : (xs : List ℕ) (at : ℕ) (i : Insn) → Begins xs at i → decoded xs at ≡ Ok i
 unfolding decoded
 decoded-Begins xs at i b =
-    let reach : reached xs (at + 1 + total_width b.layout) ≡ Ok (at + 1 + total_width b.layout) = reached-within xs _ b.reaches in
+    let reach : within_bytes xs (at + 1 + total_width b.layout) ≡ Ok (at + 1 + total_width b.layout) = reached-within xs _ b.reaches in
     let len : at + i.len - at ≡ i.len = omega arith in
     rw (b.opcode, b.is_layout, reach, b.x, b.y, b.z, b.ends, len) refl
 

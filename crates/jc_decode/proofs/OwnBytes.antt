@@ -19,7 +19,7 @@ use Rattle.jc_decode.specs.declared.layout.Layout.{Layout}
 use Rattle.jc_decode.specs.declared.insn.CodeEnd.{CodeEnd}
 use Rattle.jc_decode.specs.declared.insn.Insn.{Insn}
 use Rattle.jc_decode.specs.Layout.{operand_width, total_width}
-use Rattle.jc_decode.specs.Decoding.{allows, value, or_cut, number_of, operand_at, end_of_cases, decoded, AreBytes, Begins}
+use Rattle.jc_decode.specs.Decoding.{allows, value, or_cut, operand_number, operand_at, end_of_cases, decoded, AreBytes, Begins}
 use Rattle.jc_decode.specs.Encoding.{bits, operand_bytes, table_bytes, encoding, encoding_by}
 use Rattle.jc_decode.proofs.Decoded.{Begins-decoded, from_bind, or_cut-ok, ok-same, table_end-ok}
 use Rattle.jc_decode.proofs.Ranges.{number_of-fits, allowed-value}
@@ -77,7 +77,7 @@ number_at-bytes w at n xs bytes h = by_reach (nat_le (at + w) (length xs)) refl 
         ap (big_bytes w) (sym e) ∙ bytes-number w 0 (drop at xs) (AreBytes-drop at xs bytes) room
     by_reach false reach h = absurd (cc)
 
-number_of-bytes : (o : Operand) (at n : ℕ) (xs : List ℕ) → AreBytes xs → number_of o xs at ≡ Some n → big_bytes (operand_width o) n ≡ take (operand_width o) (drop at xs)
+number_of-bytes : (o : Operand) (at n : ℕ) (xs : List ℕ) → AreBytes xs → operand_number o xs at ≡ Some n → big_bytes (operand_width o) n ≡ take (operand_width o) (drop at xs)
 number_of-bytes Absent at n xs bytes h = refl
 number_of-bytes U1 at n xs bytes h = number_at-bytes 1 at n xs bytes h
 number_of-bytes U2 at n xs bytes h = number_at-bytes 2 at n xs bytes h
@@ -104,7 +104,7 @@ bits-same TestedType n h = refl
 -- an operand that is read is written as its bytes
 operand-bytes : (o : Operand) (xs : List ℕ) (at : ℕ) (v : ℤ) → AreBytes xs → operand_at o xs at ≡ Ok v → operand_bytes o v ≡ take (operand_width o) (drop at xs)
 operand-bytes o xs at v bytes h =
-    from_bind (or_cut (number_of o xs at)) _ v h (λ n n_is h1.
+    from_bind (or_cut (operand_number o xs at)) _ v h (λ n n_is h1.
     let some = or_cut-ok _ n n_is in
     let same = bits-same o n (number_of-fits o xs at n bytes some) in
     ap (λ (x : ℤ). big_bytes (operand_width o) (bits o x)) (sym (allowed-value o (allows o n) n v h1)) ∙ ap (big_bytes (operand_width o)) same ∙ number_of-bytes o at n xs bytes some)

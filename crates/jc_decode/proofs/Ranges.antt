@@ -16,7 +16,7 @@ use Rattle.jc_decode.specs.declared.insn.CodeEnd.{CodeEnd}
 use Rattle.jc_decode.specs.declared.insn.CodeEnd.TheVariants.{BadOperand}
 use Rattle.jc_decode.specs.declared.insn.Insn.{Insn}
 use Rattle.jc_decode.specs.Layout.{operand_width, layout_of, opcode}
-use Rattle.jc_decode.specs.Decoding.{Begins, IsWithin, allows, decoded, operand_at, or_cut, number_of, value, AreBytes, FitsOperand, FitsLayout}
+use Rattle.jc_decode.specs.Decoding.{Begins, IsWithin, allows, decoded, operand_at, or_cut, operand_number, value, AreBytes, FitsOperand, FitsLayout}
 use Rattle.jc_decode.specs.Encoding.{bits, Allows, AllowsBy, IsAllowed}
 use Rattle.jc_decode.specs.Listing.{jumps}
 use Rattle.jc_decode.proofs.Decoded.{Begins-decoded, IsWithin-decoded, from_bind, or_cut-ok}
@@ -32,7 +32,7 @@ number_at-fits w at n xs bytes h = by_reach (nat_le (at + w) (length xs)) h
     by_reach true h = let e : big_number w (drop at xs) ≡ n = cc in omega (arith, below, e)
     by_reach false h = absurd (cc)
 
-pub number_of-fits : (o : Operand) (xs : List ℕ) (at n : ℕ) → AreBytes xs → number_of o xs at ≡ Some n → n < 256 ^ operand_width o
+pub number_of-fits : (o : Operand) (xs : List ℕ) (at n : ℕ) → AreBytes xs → operand_number o xs at ≡ Some n → n < 256 ^ operand_width o
 number_of-fits Absent xs at n bytes h = let e : 0 ≡ n = cc in omega (arith, e)
 number_of-fits U1 xs at n bytes h = number_at-fits 1 at n xs bytes h
 number_of-fits U2 xs at n bytes h = number_at-fits 2 at n xs bytes h
@@ -63,7 +63,7 @@ allowed-value o false n v h = absurd (cc)
 -- an operand that is read lies in the range of its form
 pub FitsOperand-read : (o : Operand) (xs : List ℕ) (at : ℕ) (v : ℤ) → AreBytes xs → operand_at o xs at ≡ Ok v → FitsOperand o v
 FitsOperand-read o xs at v bytes h =
-    from_bind (or_cut (number_of o xs at)) _ v h (λ n n_is h1.
+    from_bind (or_cut (operand_number o xs at)) _ v h (λ n n_is h1.
     subst (FitsOperand o) (allowed-value o (allows o n) n v h1) (value-fits o n (number_of-fits o xs at n bytes (or_cut-ok _ n n_is))))
 
 -- the operands of an instruction that is decoded lie in the ranges of its layout
@@ -148,7 +148,7 @@ Allows-read : (o : Operand) (xs : List ℕ) (at : ℕ) (v : ℤ) → AreBytes xs
 Allows-read o xs at v bytes h =
     let fits = FitsOperand-read o xs at v bytes h in
     let test : allows o (bits o v) ≡ true =
-    from_bind (or_cut (number_of o xs at)) _ v h (λ n n_is h1.
+    from_bind (or_cut (operand_number o xs at)) _ v h (λ n n_is h1.
     ap (λ (x : ℤ). allows o (bits o x)) (sym (allowed-value o (allows o n) n v h1)) ∙ bits-value o n (allowed-test o (allows o n) n v h1)) in
     (fits, rw test (search rules))
 

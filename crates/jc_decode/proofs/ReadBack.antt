@@ -19,7 +19,7 @@ use Rattle.jc_decode.specs.declared.layout.Layout.{Layout}
 use Rattle.jc_decode.specs.declared.insn.CodeEnd.{CodeEnd}
 use Rattle.jc_decode.specs.declared.insn.Insn.{Insn}
 use Rattle.jc_decode.specs.Layout.{operand_width, total_width, layout_of}
-use Rattle.jc_decode.specs.Decoding.{allows, value, number_of, operand_at, reached, bad_operand, key_at, rises, pair_width, range_count, range_end, pairs_end, end_of_cases, table_end, FitsOperand, Begins}
+use Rattle.jc_decode.specs.Decoding.{allows, value, operand_number, operand_at, within_bytes, bad_operand, key_at, rises, pair_width, range_count, range_end, pairs_end, end_of_cases, table_end, FitsOperand, Begins}
 use Rattle.jc_decode.specs.Cases.{cases_in, range_case, pair_case, offset_at, is_table, HasTable}
 use Rattle.jc_decode.specs.Encoding.{bits, operand_bytes, Allows, AllowsBy, IsAllowed, head_bytes, table_bytes, encoding, encoding_by, sized, ReadsBack}
 use Rattle.jc_decode.proofs.Decoded.{decoded-Begins, reached-within, reached-ok, pairs_end-ok, range_end-ok, from_bind}
@@ -72,7 +72,7 @@ value-bits ArrayType (negsuc n) h = absurd h
 value-bits TestedType (pos n) h = refl
 value-bits TestedType (negsuc n) h = absurd h
 
-number_of-back : (o : Operand) (n : ℕ) (ys : List ℕ) (at : ℕ) → number_at (operand_width o) at ys ≡ Some n → (o ≡ Absent → n ≡ 0) → number_of o ys at ≡ Some n
+number_of-back : (o : Operand) (n : ℕ) (ys : List ℕ) (at : ℕ) → number_at (operand_width o) at ys ≡ Some n → (o ≡ Absent → n ≡ 0) → operand_number o ys at ≡ Some n
 number_of-back Absent n ys at h none = ap Some (sym (none refl))
 number_of-back U1 n ys at h none = h
 number_of-back U2 n ys at h none = h
@@ -128,8 +128,8 @@ range_end-alike : (bound : Operand) (xs ys : List ℕ) (t u m : ℕ) (y z : ℤ)
     → range_end bound ys u y z ≡ Ok (u + m)
 range_end-alike bound xs ys t u m y z a h = by_test (int_lt z y) h
   where
-    by_test : (b : Bool) → cond b (Err (bad_operand xs (t - operand_width bound))) (reached xs (t + 2 * range_count y z)) ≡ Ok (t + m)
-        → cond b (Err (bad_operand ys (u - operand_width bound))) (reached ys (u + 2 * range_count y z)) ≡ Ok (u + m)
+    by_test : (b : Bool) → cond b (Err (bad_operand xs (t - operand_width bound))) (within_bytes xs (t + 2 * range_count y z)) ≡ Ok (t + m)
+        → cond b (Err (bad_operand ys (u - operand_width bound))) (within_bytes ys (u + 2 * range_count y z)) ≡ Ok (u + m)
     by_test true h = absurd (cc)
     by_test false h =
         let place = reached-ok xs (t + 2 * range_count y z) (t + m) h in
@@ -139,7 +139,7 @@ range_end-alike bound xs ys t u m y z a h = by_test (int_lt z y) h
 pairs_end-alike : (key : Operand) (xs ys : List ℕ) (t u m count : ℕ) → Alike xs t ys u m → m ≡ pair_width key * count
     → pairs_end key xs t count ≡ Ok (t + m) → pairs_end key ys u count ≡ Ok (u + m)
 pairs_end-alike key xs ys t u m count a size h =
-    from_bind (reached xs (t + pair_width key * count)) _ (t + m) h (λ end end_is h1.
+    from_bind (within_bytes xs (t + pair_width key * count)) _ (t + m) h (λ end end_is h1.
     let none = keys_rise-none key xs t end _ (t + m) h1 in
     let same : u + pair_width key * count ≡ u + m = omega (arith, size) in
     let search_same = find-alike (λ n. not (rises key xs t n)) (λ n. not (rises key ys u n)) 1 (count - 1)

@@ -21,7 +21,7 @@ use Rattle.jc_decode.specs.declared.insn.CodeEnd.{CodeEnd}
 use Rattle.jc_decode.specs.declared.insn.CodeEnd.TheVariants.{Cut, BadOperand, NoOpcode, OutOfScope}
 use Rattle.jc_decode.specs.declared.insn.Insn.{Insn}
 use Rattle.jc_decode.specs.Layout.{Span, operand_width, total_width, layout_of, layout_from, opcode, is_in_span, spans, is_out_of_scope, opcode_in_span}
-use Rattle.jc_decode.specs.Decoding.{◌>>=◌, or_cut, reached, bad_byte, bad_operand, number_of, value, allows, operand_at, key_at, rises, keys_rise, pair_width, pairs_end, range_end, range_count, end_of_cases, table_end, decoded, AreBytes}
+use Rattle.jc_decode.specs.Decoding.{◌>>=◌, or_cut, within_bytes, bad_byte, bad_operand, operand_number, value, allows, operand_at, key_at, rises, keys_rise, pair_width, pairs_end, range_end, range_count, end_of_cases, table_end, decoded, AreBytes}
 use Rattle.jc_decode.specs.Refusal.{HasOpcode, HasOperands, IsFirstFall, RefusesBytes, nothing_there, left_out, unused, operands_cut, forbidden, bounds_turned, range_cut, pairs_cut, key_falls}
 use Rattle.jc_decode.proofs.Decoded.{reached-ok, reached-within, or_cut-ok}
 use Rattle.jc_decode.proofs.Ranges.{number_of-fits}
@@ -42,14 +42,14 @@ or_cut-failed : {A : Type 0} (o : Option A) (e : CodeEnd) → or_cut o ≡ Err e
 or_cut-failed None e h = (refl, cc)
 or_cut-failed (Some x) e h = absurd (cc)
 
-reached-failed : (xs : List ℕ) (end : ℕ) (e : CodeEnd) → reached xs end ≡ Err e → (length xs < end) × (Cut ≡ e)
+reached-failed : (xs : List ℕ) (end : ℕ) (e : CodeEnd) → within_bytes xs end ≡ Err e → (length xs < end) × (Cut ≡ e)
 reached-failed xs end e h = by_test (nat_le end (length xs)) refl h
   where
     by_test : (b : Bool) → nat_le end (length xs) ≡ b → cond b (Ok end) (Err Cut) ≡ Err e → (length xs < end) × (Cut ≡ e)
     by_test true is h = absurd (cc)
     by_test false is h = (leb-false end (length xs) is, cc)
 
-reached-past : (xs : List ℕ) (end : ℕ) → length xs < end → reached xs end ≡ Err Cut
+reached-past : (xs : List ℕ) (end : ℕ) → length xs < end → within_bytes xs end ≡ Err Cut
 reached-past xs end h = rw (lt-leb end (length xs) h) refl
 
 -- ---- bytes that are there
@@ -155,7 +155,7 @@ no-layout xs at op e bytes there h = by_opcode (opcode op) refl h
 
 -- ---- operands
 
-number_of-none : (o : Operand) (xs : List ℕ) (at : ℕ) → at + operand_width o ≤ length xs → number_of o xs at ≡ None → ⊥
+number_of-none : (o : Operand) (xs : List ℕ) (at : ℕ) → at + operand_width o ≤ length xs → operand_number o xs at ≡ None → ⊥
 number_of-none Absent xs at h none = absurd (cc)
 number_of-none U1 xs at h none = absurd (omega (arith, number_at-none 1 at xs none))
 number_of-none U2 xs at h none = absurd (omega (arith, number_at-none 2 at xs none))
@@ -168,7 +168,7 @@ number_of-none ArrayType xs at h none = absurd (omega (arith, number_at-none 1 a
 number_of-none TestedType xs at h none = absurd (omega (arith, number_at-none 1 at xs none))
 
 -- what may be forbidden is one byte
-forbidden-byte : (o : Operand) (xs : List ℕ) (at n : ℕ) → number_of o xs at ≡ Some n → allows o n ≡ false → number_at 1 at xs ≡ Some n
+forbidden-byte : (o : Operand) (xs : List ℕ) (at n : ℕ) → operand_number o xs at ≡ Some n → allows o n ≡ false → number_at 1 at xs ≡ Some n
 forbidden-byte Absent xs at n h refused = absurd (cc)
 forbidden-byte U1 xs at n h refused = absurd (cc)
 forbidden-byte U2 xs at n h refused = absurd (cc)
@@ -180,7 +180,7 @@ forbidden-byte SwapWords xs at n h refused = h
 forbidden-byte ArrayType xs at n h refused = h
 forbidden-byte TestedType xs at n h refused = h
 
-byte-forbidden : (o : Operand) (xs : List ℕ) (at n : ℕ) → number_at 1 at xs ≡ Some n → allows o n ≡ false → number_of o xs at ≡ Some n
+byte-forbidden : (o : Operand) (xs : List ℕ) (at n : ℕ) → number_at 1 at xs ≡ Some n → allows o n ≡ false → operand_number o xs at ≡ Some n
 byte-forbidden Absent xs at n h refused = absurd (cc)
 byte-forbidden U1 xs at n h refused = absurd (cc)
 byte-forbidden U2 xs at n h refused = absurd (cc)
@@ -195,18 +195,18 @@ byte-forbidden TestedType xs at n h refused = h
 -- an operand whose bytes are there fails where it is forbidden
 record Forbidden (o : Operand) (xs : List ℕ) (at : ℕ) (e : CodeEnd) : Type 0 where
   byte : ℕ
-  there : number_of o xs at ≡ Some byte
+  there : operand_number o xs at ≡ Some byte
   not_allowed : allows o byte ≡ false
   is : BadOperand byte ≡ e
 
 operand_at-failed : (o : Operand) (xs : List ℕ) (at : ℕ) (e : CodeEnd) → at + operand_width o ≤ length xs → operand_at o xs at ≡ Err e → Forbidden o xs at e
-operand_at-failed o xs at e inside h = by_number (number_of o xs at) refl h
+operand_at-failed o xs at e inside h = by_number (operand_number o xs at) refl h
   where
-    by_test : (n : ℕ) (b : Bool) → number_of o xs at ≡ Some n → allows o n ≡ b → cond b (Ok (value o n)) (Err (BadOperand n)) ≡ Err e → Forbidden o xs at e
+    by_test : (n : ℕ) (b : Bool) → operand_number o xs at ≡ Some n → allows o n ≡ b → cond b (Ok (value o n)) (Err (BadOperand n)) ≡ Err e → Forbidden o xs at e
     by_test n true there is h = absurd (cc)
     by_test n false there is h = record { byte = n; there = there; not_allowed = is; is = cc }
 
-    by_number : (m : Option ℕ) → number_of o xs at ≡ m → (or_cut m >>= (λ n. cond (allows o n) (Ok (value o n)) (Err (BadOperand n)))) ≡ Err e → Forbidden o xs at e
+    by_number : (m : Option ℕ) → operand_number o xs at ≡ m → (or_cut m >>= (λ n. cond (allows o n) (Ok (value o n)) (Err (BadOperand n)))) ≡ Err e → Forbidden o xs at e
     by_number None none h = absurd (number_of-none o xs at inside none)
     by_number (Some n) there h = by_test n (allows o n) there refl h
 
@@ -310,7 +310,7 @@ range-failed : (xs : List ℕ) (at t : ℕ) (l : Layout) (y z : ℤ) (e : CodeEn
     → t ≡ at + 1 + total_width l → range_end l.z xs t y z ≡ Err e → RefusesBytes xs at e
 range-failed xs at t l y z e has is high t_is h = by_order (int_lt z y) refl h
   where
-    by_order : (b : Bool) → int_lt z y ≡ b → cond b (Err (bad_operand xs (t - operand_width l.z))) (reached xs (t + 2 * range_count y z)) ≡ Err e → RefusesBytes xs at e
+    by_order : (b : Bool) → int_lt z y ≡ b → cond b (Err (bad_operand xs (t - operand_width l.z))) (within_bytes xs (t + 2 * range_count y z)) ≡ Err e → RefusesBytes xs at e
     by_order true turned h =
         let place : t - operand_width l.z ≡ at + 1 + operand_width l.x + operand_width l.y = omega (arith, t_is) in
         let there = byte-there xs (at + 1 + operand_width l.x + operand_width l.y) (omega (arith, has.reaches, leb-true 1 (operand_width l.z) high)) in
@@ -323,7 +323,7 @@ range-failed xs at t l y z e has is high t_is h = by_order (int_lt z y) refl h
 pairs-failed : (xs : List ℕ) (at : ℕ) (l : Layout) (key : Operand) (y z : ℤ) (e : CodeEnd) → HasOperands xs at l y z → l.cases ≡ Pairs key
     → pairs_end key xs (at + 1 + total_width l) (unsigned_abs y) ≡ Err e → RefusesBytes xs at e
 pairs-failed xs at l key y z e has is h =
-    from_failed (reached xs (at + 1 + total_width l + pair_width key * unsigned_abs y)) _ e h
+    from_failed (within_bytes xs (at + 1 + total_width l + pair_width key * unsigned_abs y)) _ e h
     (λ far. let cut = reached-failed xs _ e far in subst (RefusesBytes xs at) cut.1 (pairs_cut l key y z has is cut.0))
     (λ end end_is h1.
     let far = reached-ok xs _ end end_is in
@@ -364,7 +364,7 @@ decoded-RefusesBytes xs at e bytes h =
     (λ none. no-layout xs at op e bytes there none)
     (λ l l_is h2.
     let begun : HasOpcode xs at l = record { op = op; opcode = there; layout = l_is } in
-    from_failed (reached xs (at + 1 + total_width l)) _ e h2
+    from_failed (within_bytes xs (at + 1 + total_width l)) _ e h2
     (λ far. let cut = reached-failed xs _ e far in subst (RefusesBytes xs at) cut.1 (operands_cut l begun cut.0))
     (λ table table_is h3.
     let place = reached-ok xs _ table table_is in

@@ -15,7 +15,7 @@ use Rattle.jc_decode.specs.declared.insn.CodeEnd.{CodeEnd}
 use Rattle.jc_decode.specs.declared.insn.Insn.{Insn}
 use Rattle.jc_decode.specs.declared.insn.Case.{Case}
 use Rattle.jc_decode.specs.Layout.{total_width}
-use Rattle.jc_decode.specs.Decoding.{reached, key_at, rises, pair_width, pairs_end, keys_rise, range_end, range_count, decoded, Begins}
+use Rattle.jc_decode.specs.Decoding.{within_bytes, key_at, rises, pair_width, pairs_end, keys_rise, range_end, range_count, decoded, Begins}
 use Rattle.jc_decode.specs.Cases.{cases, range_case, pair_case, is_range, has_range, is_table_switch, KeysRise}
 use Rattle.jc_decode.proofs.Decoded.{Begins-decoded, from_bind}
 use Rattle.jc_decode.proofs.Tables.{cases-by, slice_get-map-range, range_order}
@@ -51,7 +51,7 @@ keys_rise-none key xs t end (Some n) e h = absurd (cc)
 -- the keys of a table of pairs rise
 pair-rises : (key : Operand) (xs : List ℕ) (t count e n : ℕ) → pairs_end key xs t count ≡ Ok e → n + 1 < count → key_at key xs t n <ℤ key_at key xs t (n + 1)
 pair-rises key xs t count e n h below =
-    from_bind (reached xs (t + pair_width key * count)) _ e h (λ end end_is h1.
+    from_bind (within_bytes xs (t + pair_width key * count)) _ e h (λ end end_is h1.
     let none = keys_rise-none key xs t end _ e h1 in
     let risen = not-false (rises key xs t (n + 1)) (find-none (λ k. not (rises key xs t k)) 1 (count - 1) (n + 1) none (omega arith) (omega arith)) in
     let before : n + 1 - 1 ≡ n = omega arith in

@@ -14,7 +14,7 @@ use Rattle.jc_decode.specs.declared.layout.Cases.TheVariants.{Range, Pairs}
 use Rattle.jc_decode.specs.declared.insn.CodeEnd.{CodeEnd}
 use Rattle.jc_decode.specs.declared.insn.Insn.{Insn}
 use Rattle.jc_decode.specs.Layout.{operand_width, total_width, layout_of}
-use Rattle.jc_decode.specs.Decoding.{decoded, table_end, range_end, range_count, pairs_end, pair_width, bad_operand, reached}
+use Rattle.jc_decode.specs.Decoding.{decoded, table_end, range_end, range_count, pairs_end, pair_width, bad_operand, within_bytes}
 use Rattle.jc_decode.specs.Cases.{cases, cases_in, range_case, pair_case, is_switch, is_table, has_cases, with_default, HasTable}
 use Rattle.jc_decode.proofs.Decoded.{Begins-decoded, ok-same, range_end-ok, pairs_end-ok, table_end-ok}
 
@@ -85,7 +85,7 @@ pub range_order : (bound : Operand) (xs : List ℕ) (table : ℕ) (low high : �
 range_order bound xs table low high e h = by_test (int_lt high low) refl h
   where
     by_test : (b : Bool) → int_lt high low ≡ b
-        → cond b (Err (bad_operand xs (table - operand_width bound))) (reached xs (table + 2 * range_count low high)) ≡ Ok e → low ≤ℤ high
+        → cond b (Err (bad_operand xs (table - operand_width bound))) (within_bytes xs (table + 2 * range_count low high)) ≡ Ok e → low ≤ℤ high
     by_test true order h = absurd (cc)
     by_test false order h = grind (arith, ints)
 

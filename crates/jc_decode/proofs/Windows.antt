@@ -8,7 +8,7 @@ use Rattle.cap_bytes.specs.Number.{number_at}
 use Rattle.jc_decode.specs.declared.layout.Operand.{Operand}
 use Rattle.jc_decode.specs.declared.layout.Operand.TheVariants.{Absent, U1, U2, S1, S2, S4, DupWords, SwapWords, ArrayType, TestedType}
 use Rattle.jc_decode.specs.Layout.{operand_width}
-use Rattle.jc_decode.specs.Decoding.{number_of, operand_at}
+use Rattle.jc_decode.specs.Decoding.{operand_number, operand_at}
 
 -- so many bytes from a place of one list are those from a place of another, and both lists reach so far
 pub record Alike (xs : List ℕ) (t : ℕ) (ys : List ℕ) (u m : ℕ) : Type 0 where
@@ -43,7 +43,7 @@ number_at-alike w t u xs ys a =
     rw z (get_or-drop t xs k 0 ∙ a.bytes k h ∙ sym (get_or-drop u ys k 0))) in
     number_at-reached w t xs a.left ∙ ap Some same ∙ sym (number_at-reached w u ys a.right)
 
-number_of-alike : (o : Operand) (t u : ℕ) (xs ys : List ℕ) → Alike xs t ys u (operand_width o) → number_of o xs t ≡ number_of o ys u
+number_of-alike : (o : Operand) (t u : ℕ) (xs ys : List ℕ) → Alike xs t ys u (operand_width o) → operand_number o xs t ≡ operand_number o ys u
 number_of-alike Absent t u xs ys a = refl
 number_of-alike U1 t u xs ys a = number_at-alike 1 t u xs ys a
 number_of-alike U2 t u xs ys a = number_at-alike 2 t u xs ys a

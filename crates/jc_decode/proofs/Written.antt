@@ -21,7 +21,7 @@ use Rattle.jc_decode.specs.declared.insn.CodeEnd.{CodeEnd}
 use Rattle.jc_decode.specs.declared.insn.Insn.{Insn}
 use Rattle.jc_decode.specs.declared.insn.Case.{Case}
 use Rattle.jc_decode.specs.Layout.{operand_width, total_width, layout_of}
-use Rattle.jc_decode.specs.Decoding.{reached, bad_operand, key_at, rises, pair_width, range_count, range_end, pairs_end, table_end, decoded, Begins}
+use Rattle.jc_decode.specs.Decoding.{within_bytes, bad_operand, key_at, rises, pair_width, range_count, range_end, pairs_end, table_end, decoded, Begins}
 use Rattle.jc_decode.specs.Cases.{cases, range_case, pair_case, offset_at, offset_place, offset_place_in, with_offset, leading}
 use Rattle.jc_decode.proofs.Decoded.{decoded-Begins, Begins-decoded, reached-within, reached-ok, pairs_end-ok, range_end-ok, from_bind}
 use Rattle.jc_decode.proofs.Tables.{cases-by, slice_get-map-range, slice_get-past-range}
@@ -137,8 +137,8 @@ range_end-written : (bound : Operand) (xs : List ℕ) (t p e : ℕ) (y z offset 
     → range_end bound (with_offset xs p offset) t y z ≡ Ok e
 range_end-written bound xs t p e y z offset w h = by_test (int_lt z y) h
   where
-    by_test : (b : Bool) → cond b (Err (bad_operand xs (t - operand_width bound))) (reached xs (t + 2 * range_count y z)) ≡ Ok e
-        → cond b (Err (bad_operand (with_offset xs p offset) (t - operand_width bound))) (reached (with_offset xs p offset) (t + 2 * range_count y z)) ≡ Ok e
+    by_test : (b : Bool) → cond b (Err (bad_operand xs (t - operand_width bound))) (within_bytes xs (t + 2 * range_count y z)) ≡ Ok e
+        → cond b (Err (bad_operand (with_offset xs p offset) (t - operand_width bound))) (within_bytes (with_offset xs p offset) (t + 2 * range_count y z)) ≡ Ok e
     by_test true h = absurd (cc)
     by_test false h =
         let place = reached-ok xs (t + 2 * range_count y z) e h in
@@ -149,7 +149,7 @@ pairs_end-written : (key : Operand) (xs : List ℕ) (t count n p e : ℕ) (offse
 pairs_end-written key xs t count n p e offset w place h =
     let whole = pairs_end-ok key xs t count e h in
     let inside : t + pair_width key * count ≤ length xs = omega (arith, whole.0, whole.1) in
-    from_bind (reached xs (t + pair_width key * count)) _ e h (λ end end_is h1.
+    from_bind (within_bytes xs (t + pair_width key * count)) _ e h (λ end end_is h1.
     let none = keys_rise-none key xs t end _ e h1 in
     let search_same = find-alike (λ k. not (rises key (with_offset xs p offset) t k)) (λ k. not (rises key xs t k)) 1 (count - 1)
     (λ k low high. ap not (rises-written k inside low (omega arith))) in

@@ -28,8 +28,8 @@ or_cut None = Err Cut
 or_cut (Some x) = Ok x
 
 -- the bytes reach to this place
-abbrev pub reached : List ℕ → ℕ → Result ℕ CodeEnd
-reached xs end = if nat_le end (length xs) then Ok end else Err Cut
+abbrev pub within_bytes : List ℕ → ℕ → Result ℕ CodeEnd
+within_bytes xs end = if nat_le end (length xs) then Ok end else Err Cut
 
 -- the operand that begins at this place is forbidden
 abbrev pub bad_byte : Option ℕ → CodeEnd
@@ -64,9 +64,9 @@ allows TestedType b = is_tested_type b
 allows _ b = true
 
 -- the number that an operand's bytes are, read as unsigned
-abbrev pub number_of : Operand → List ℕ → ℕ → Option ℕ
-number_of Absent xs at = Some 0
-number_of o xs at = number_at (operand_width o) at xs
+abbrev pub operand_number : Operand → List ℕ → ℕ → Option ℕ
+operand_number Absent xs at = Some 0
+operand_number o xs at = number_at (operand_width o) at xs
 
 -- what that number means: two's complement for a signed operand, and 0 for an absent one
 abbrev pub value : Operand → ℕ → ℤ
@@ -79,7 +79,7 @@ value _ n = pos n
 -- the operand at a place, if the bytes reach and the instruction allows it
 abbrev pub operand_at : Operand → List ℕ → ℕ → Result ℤ CodeEnd
 operand_at o xs at = do
-  n ← or_cut (number_of o xs at)
+  n ← or_cut (operand_number o xs at)
   if allows o n then Ok (value o n) else Err (BadOperand n)
 
 -- the bytes of one pair of a lookup switch, whose key is of this form
@@ -106,13 +106,13 @@ keys_rise key xs table end (Some n) = Err (bad_operand xs (table + pair_width ke
 -- the place after a table of so many pairs, if the bytes reach and each key is above the one before it
 abbrev pub pairs_end : Operand → List ℕ → ℕ → ℕ → Result ℕ CodeEnd
 pairs_end key xs table count = do
-  end ← reached xs (table + pair_width key * count)
+  end ← within_bytes xs (table + pair_width key * count)
   keys_rise key xs table end (find (λ n. not (rises key xs table n)) (range_with_len 1 (count - 1)))
 
 -- the place after an offset for each number from low to high, whose bytes end where the table begins
 abbrev pub range_end : Operand → List ℕ → ℕ → ℤ → ℤ → Result ℕ CodeEnd
 range_end bound xs table low high =
-    if int_lt high low then Err (bad_operand xs (table - operand_width bound)) else reached xs (table + 2 * range_count low high)
+    if int_lt high low then Err (bad_operand xs (table - operand_width bound)) else within_bytes xs (table + 2 * range_count low high)
 
 abbrev pub end_of_cases : Cases → Operand → List ℕ → ℕ → ℤ → ℤ → Result ℕ CodeEnd
 end_of_cases NoCases bound xs table y z = Ok table
@@ -126,7 +126,7 @@ table_end l xs table y z = end_of_cases l.cases l.z xs table y z
 -- the instruction of this opcode at a place, with these operands, or why there is none
 abbrev pub decoded_as : ℕ → Layout → List ℕ → ℕ → Result Insn CodeEnd
 decoded_as op l xs at = do
-  table ← reached xs (at + 1 + total_width l)
+  table ← within_bytes xs (at + 1 + total_width l)
   x ← operand_at l.x xs (at + 1)
   y ← operand_at l.y xs (at + 1 + operand_width l.x)
   z ← operand_at l.z xs (at + 1 + operand_width l.x + operand_width l.y)

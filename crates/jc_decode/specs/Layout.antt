@@ -29,8 +29,8 @@ operand_width TestedType = 1
 abbrev pub total_width : Layout → ℕ
 total_width l = operand_width l.x + operand_width l.y + operand_width l.z
 
-abbrev pub none : Layout
-none = record { x = Absent; y = Absent; z = Absent; cases = NoCases }
+abbrev pub no_operands : Layout
+no_operands = record { x = Absent; y = Absent; z = Absent; cases = NoCases }
 
 abbrev pub one : Operand → Layout
 one x = record { x = x; y = Absent; z = Absent; cases = NoCases }
@@ -61,27 +61,27 @@ span first last layout = record { first = first; last = last; layout = layout }
 -- the instructions, by rising opcodes
 abbrev pub spans : List Span
 spans =
-    span 0 15 none  -- nop, aconst_null, sconst_<s>, iconst_<i>
+    span 0 15 no_operands  -- nop, aconst_null, sconst_<s>, iconst_<i>
     ∷ span 16 16 (one S1)  -- bspush
     ∷ span 17 17 (one S2)  -- sspush
     ∷ span 18 18 (one S1)  -- bipush
     ∷ span 19 19 (one S2)  -- sipush
     ∷ span 20 20 (one S4)  -- iipush
     ∷ span 21 23 (one U1)  -- aload, sload, iload
-    ∷ span 24 39 none  -- aload_<n>, sload_<n>, iload_<n>, aaload, baload, saload, iaload
+    ∷ span 24 39 no_operands  -- aload_<n>, sload_<n>, iload_<n>, aaload, baload, saload, iaload
     ∷ span 40 42 (one U1)  -- astore, sstore, istore
-    ∷ span 43 62 none  -- astore_<n>, sstore_<n>, istore_<n>, the array stores, pop, pop2, dup, dup2
+    ∷ span 43 62 no_operands  -- astore_<n>, sstore_<n>, istore_<n>, the array stores, pop, pop2, dup, dup2
     ∷ span 63 63 (one DupWords)  -- dup_x
     ∷ span 64 64 (one SwapWords)  -- swap_x
-    ∷ span 65 88 none  -- sadd to ixor
+    ∷ span 65 88 no_operands  -- sadd to ixor
     ∷ span 89 90 (two U1 S1)  -- sinc, iinc
-    ∷ span 91 95 none  -- s2b, s2i, i2b, i2s, icmp
+    ∷ span 91 95 no_operands  -- s2b, s2i, i2b, i2s, icmp
     ∷ span 96 112 (one S1)  -- if<cond>, ifnull, ifnonnull, if_acmp<cond>, if_scmp<cond>, goto
     ∷ span 115 115 (table_switch S2)  -- stableswitch
     ∷ span 116 116 (table_switch S4)  -- itableswitch
     ∷ span 117 117 (lookup_switch S2)  -- slookupswitch
     ∷ span 118 118 (lookup_switch S4)  -- ilookupswitch
-    ∷ span 119 122 none  -- areturn, sreturn, ireturn, return
+    ∷ span 119 122 no_operands  -- areturn, sreturn, ireturn, return
     ∷ span 123 130 (one U2)  -- getstatic_<t>, putstatic_<t>
     ∷ span 131 138 (one U1)  -- getfield_<t>, putfield_<t>
     ∷ span 139 141 (one U2)  -- invokevirtual, invokespecial, invokestatic
@@ -89,7 +89,7 @@ spans =
     ∷ span 143 143 (one U2)  -- new
     ∷ span 144 144 (one ArrayType)  -- newarray
     ∷ span 145 145 (one U2)  -- anewarray
-    ∷ span 146 147 none  -- arraylength, athrow
+    ∷ span 146 147 no_operands  -- arraylength, athrow
     ∷ span 148 149 (two TestedType U2)  -- checkcast, instanceof
     ∷ span 150 151 (two U1 S2)  -- sinc_w, iinc_w
     ∷ span 152 168 (one S2)  -- the wide conditionals, goto_w

@@ -11,7 +11,7 @@ use Rattle.jc_decode.specs.Symbols.{Step, steps, handler, place_of}
 
 -- the instruction p of the code is the instruction s of symbols whose place n is `place n` in the code: the same in
 -- one of its forms, with its targets, and of a switch with its keys
-pub record IsStep (code : List ℕ) (place : ℕ → ℕ) (s : Step) (p : Placed) : Type 0 where
+pub record StandsForStep (code : List ℕ) (place : ℕ → ℕ) (s : Step) (p : Placed) : Type 0 where
   pub same : essence p.insn ≡ essence s.insn
   pub leads : targets code p ≡ map (λ t. pos (place t)) s.targets
   pub keyed : map (λ c. c.key) (cases code p.place p.insn) ≡ s.keys
@@ -23,7 +23,7 @@ AreSteps code place n [] [] = Unit {0}
 AreSteps code place n [] (p ∷ ps) = ⊥
 AreSteps code place n (s ∷ ss) [] = ⊥
 AreSteps code place n (s ∷ ss) (p ∷ ps) =
-    (p.place ≡ place n) × (p.place + p.insn.len ≡ place (suc n)) × IsStep code place s p
+    (p.place ≡ place n) × (p.place + p.insn.len ≡ place (suc n)) × StandsForStep code place s p
     × AreSteps code place (suc n) ss ps
 
 -- the laid code stands for the symbols, whose place n is `place n` in the code, the end too
@@ -36,5 +36,5 @@ pub record StandsAt (place : ℕ → ℕ) (source : List ℕ) (symbols : Symbols
   pub nargs : laid.nargs ≡ symbols.nargs
   pub max_locals : laid.max_locals ≡ symbols.max_locals
 
-abbrev pub StandsFor : List ℕ → Symbols → Laid → Type 0
-StandsFor source symbols laid = (place : ℕ → ℕ) × StandsAt place source symbols laid
+abbrev pub CodeStandsFor : List ℕ → Symbols → Laid → Type 0
+CodeStandsFor source symbols laid = (place : ℕ → ℕ) × StandsAt place source symbols laid

@@ -7,7 +7,7 @@ use Rattle.jc_decode.specs.declared.insn.Insn.{Insn}
 use Rattle.jc_decode.specs.declared.symbols.Item.{Item}
 use Rattle.jc_decode.specs.declared.symbols.Item.TheVariants.{Plain, Branch, Switch, Label}
 use Rattle.jc_decode.specs.declared.symbols.Range.{Range}
-use Rattle.jc_decode.specs.declared.symbols.Handler.{Handler}
+use Rattle.jc_decode.specs.declared.symbols.LaidHandler.{LaidHandler}
 use Rattle.jc_decode.specs.Layout.{layout_of, opcode}
 use Rattle.jc_decode.specs.Cases.{cases, is_switch, with_default}
 use Rattle.jc_decode.specs.Decoding.{decoded}
@@ -52,12 +52,12 @@ abbrev pub steps : List ℕ → List Item → List Step
 steps source items = steps_in source items items
 
 -- what a handler covers and where it enters, where each label stands for a place
-abbrev pub handler : (ℕ → ℕ) → Range → Handler
+abbrev pub handler : (ℕ → ℕ) → Range → LaidHandler
 handler place r =
     record { start = place r.from; length = place r.to - place r.from; entry = place r.entry; pool = r.pool }
 
 -- the handlers of the code, in table order
-abbrev pub handlers : List Item → List Range → List Handler
+abbrev pub handlers : List Item → List Range → List LaidHandler
 handlers items ranges = map (handler (λ l. place_of l items)) ranges
 
 -- whether an item is this label

@@ -1,7 +1,7 @@
 ghost use Rattle.std.specs.Prelude.{◌≤ℤ◌, IsTrue, ◌≡◌, ◌+◌, ◌*◌, ◌^◌, ◌<◌, ◌≤◌, ◌-◌, length, IfOk, IfErr, Ok, Err, pos, if◌then◌else◌};
 ghost use Rattle.cap_bytes.specs.Number.{number_at};
 ghost use Rattle.jc_decode.specs.Layout.{layout_of, one, operand_width};
-ghost use Rattle.jc_decode.specs.Decoding.{is_dup_words, is_swap_words, is_array_type, is_tested_type, or_cut, reached, bad_operand, operand_at, pair_width, key_at, rises, pairs_end, table_end, decoded, decoded_as, Begins, FitsLayout, FitsOperand, IsWithin, AreBytes};
+ghost use Rattle.jc_decode.specs.Decoding.{is_dup_words, is_swap_words, is_array_type, is_tested_type, or_cut, within_bytes, bad_operand, operand_at, pair_width, key_at, rises, pairs_end, table_end, decoded, decoded_as, Begins, FitsLayout, FitsOperand, IsWithin, AreBytes};
 ghost use Rattle.jc_decode.specs.Cases.{cases, is_table_switch, KeysRise};
 ghost use Rattle.jc_decode.specs.Refusal.{RefusesBytes};
 ghost use Rattle.jc_decode.specs.Encoding.{IsAllowed};
@@ -118,7 +118,7 @@ fn u4(code: View, at: u32) -> Result<u32, CodeEnd>
 /// The place, if the code reaches to it.
 fn reach(code: View, end: u64) -> Result<u32, CodeEnd>
     requires { length code.bytes.now ≤ 65535 }
-    ensures value { result ≡ reached code.entry.bytes.now end }
+    ensures value { result ≡ within_bytes code.entry.bytes.now end }
     ensures within { IfOk result (λ e. (e ≡ end) × (e ≤ length code.entry.bytes.now)) }
 {
     if end <= code.bytes.len() as u64 {

@@ -31,4 +31,4 @@ pub use layout::{Cases, Layout, Operand};
 pub use pool_index::{IndexWidth, PoolIndex};
 pub use setting::set_case;
 pub use sizes::plain_size;
-pub use symbols::{Handler, Item, Labels, Laid, Range, Sequence, Symbols};
+pub use symbols::{Item, Labels, Laid, LaidHandler, Range, Sequence, Symbols};

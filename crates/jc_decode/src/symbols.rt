@@ -87,7 +87,7 @@ pub struct Symbols {
 /// that it covers, the place of its entry, and the number in the constant pool of the class that it
 /// catches, or 0 for any (section 6.9.2 of the specification).
 #[derive(Clone, Copy)]
-pub struct Handler {
+pub struct LaidHandler {
     pub start: u16,
     pub length: u16,
     pub entry: u16,
@@ -98,7 +98,7 @@ pub struct Handler {
 #[derive(Drop)]
 pub struct Laid {
     pub code: Sequence<u8>,
-    pub handlers: Sequence<Handler>,
+    pub handlers: Sequence<LaidHandler>,
     pub max_stack: u8,
     pub nargs: u8,
     pub max_locals: u8,

@@ -19,9 +19,9 @@ use Rattle.jc_flow.specs.Found.{Found}
 use Rattle.jc_flow.specs.Progress.{IsHeld, IsClosed, most_rises}
 use Rattle.jc_flow.proofs.Derived.{derived-fine}
 use Rattle.jc_flow.proofs.Growth.{grown-trans, at-grown}
-use Rattle.jc_flow.specs.declared.edges.Step.{Step}
+use Rattle.jc_flow.specs.declared.edges.FlowStep.{FlowStep}
 use Rattle.jc_flow.specs.Scratch.{Scratched, SuitsMethod}
-use Rattle.jc_flow.specs.Visit.{HasStepped, IsStep, Goes, IsCaught, IsAtTarget, IsVisited}
+use Rattle.jc_flow.specs.Visit.{HasStepped, IsStep, Goes, CaughtIsBelow, IsAtTarget, IsVisited}
 use Rattle.jc_flow.proofs.Steps.{stands-here}
 
 module _ (w : Linked) (order : IsOrderOfCells w.classes) (m : Method) where
@@ -34,14 +34,14 @@ module _ (w : Linked) (order : IsOrderOfCells w.classes) (m : Method) where
   -- ---- handlers
 
   module _ (p : ℕ) (f : Frame) (old new : Found) (goes : Goes w m old new) where
-    pub caught-on : (hs : List Handler) → All (IsCaught w p f old) hs → All (IsCaught w p f new) hs
+    pub caught-on : (hs : List Handler) → All (CaughtIsBelow w p f old) hs → All (CaughtIsBelow w p f new) hs
     caught-on hs all k d lt cov = goes-above old new (caught_frame (get_or hs k d) f) goes (get_or hs k d).entry (all k d lt cov)
 
-    pub caught-more : (hs : List Handler) (k : ℕ) (d : Handler) → k < length hs → All (IsCaught w p f old) (take k hs) → IsCaught w p f new (get_or hs k d) → All (IsCaught w p f new) (take (k + 1) hs)
-    caught-more hs k d lt all one = All-more (IsCaught w p f new) hs k d lt (caught-on (take k hs) all) one
+    pub caught-more : (hs : List Handler) (k : ℕ) (d : Handler) → k < length hs → All (CaughtIsBelow w p f old) (take k hs) → CaughtIsBelow w p f new (get_or hs k d) → All (CaughtIsBelow w p f new) (take (k + 1) hs)
+    caught-more hs k d lt all one = All-more (CaughtIsBelow w p f new) hs k d lt (caught-on (take k hs) all) one
 
-  pub caught-all : (p : ℕ) (f : Frame) (found : Found) (hs items : List Handler) (k : ℕ) → items ≡ hs → length items ≤ k → All (IsCaught w p f found) (take k items) → All (IsCaught w p f found) hs
-  caught-all p f found hs items k e le all = subst (All (IsCaught w p f found)) (take_all k items le ∙ e) all
+  pub caught-all : (p : ℕ) (f : Frame) (found : Found) (hs items : List Handler) (k : ℕ) → items ≡ hs → length items ≤ k → All (CaughtIsBelow w p f found) (take k items) → All (CaughtIsBelow w p f found) hs
+  caught-all p f found hs items k e le all = subst (All (CaughtIsBelow w p f found)) (take_all k items le ∙ e) all
 
   -- ---- targets
 
@@ -73,7 +73,7 @@ module _ (w : Linked) (is : AreRules w) (m : Method) (mo : IsMethodOf w m) (p : 
   pub step-loaded : (a old_a : Scratched) (g : Frame) (insn : Insn) → a ≡ record { frame = f; room = old_a.room } → HasStepped w m p a.frame g insn → HasStepped w m p f g insn
   step-loaded a old_a g insn ea st = subst (λ x. HasStepped w m p x g insn) (ap (λ (x : Scratched). x.frame) ea) st
 
-  pub is-step : (s : Step) (b a old_a : Scratched) → s.place ≡ p → s.before.now ≡ b → (0 < length m.rec.handlers → b.frame ≡ f) → a ≡ record { frame = f; room = old_a.room } → HasStepped w m p a.frame s.after.now.frame s.insn → IsStep w m s
+  pub is-step : (s : FlowStep) (b a old_a : Scratched) → s.place ≡ p → s.before.now ≡ b → (0 < length m.rec.handlers → b.frame ≡ f) → a ≡ record { frame = f; room = old_a.room } → HasStepped w m p a.frame s.after.now.frame s.insn → IsStep w m s
   is-step s b a old_a place now kept ea st = record {
     from = f;
     here = subst (λ q. IsHeld w m q f) (sym place) here;
@@ -82,11 +82,11 @@ module _ (w : Linked) (is : AreRules w) (m : Method) (mo : IsMethodOf w m) (p : 
   }
 
 -- what the handlers catch of the frame that is kept is what they catch of the state's
-pub caught-kept : (w : Linked) (m : Method) (p : ℕ) (f b : Frame) (found : Found) → (0 < length m.rec.handlers → b ≡ f) → All (IsCaught w p b found) m.rec.handlers → All (IsCaught w p f found) m.rec.handlers
-caught-kept w m p f b found kept all k d lt = subst (λ x. IsCaught w p x found (get_or m.rec.handlers k d)) (kept (omega (arith, lt))) (all k d lt)
+pub caught-kept : (w : Linked) (m : Method) (p : ℕ) (f b : Frame) (found : Found) → (0 < length m.rec.handlers → b ≡ f) → All (CaughtIsBelow w p b found) m.rec.handlers → All (CaughtIsBelow w p f found) m.rec.handlers
+caught-kept w m p f b found kept all k d lt = subst (λ x. CaughtIsBelow w p x found (get_or m.rec.handlers k d)) (kept (omega (arith, lt))) (all k d lt)
 
 -- where there is a handler, the frame that is kept is the one of the step
-module _ (w : Linked) (m : Method) (s : Step) (is : IsStep w m s) (h : Handler) (listed : Contains m.rec.handlers h) where
+module _ (w : Linked) (m : Method) (s : FlowStep) (is : IsStep w m s) (h : Handler) (listed : Contains m.rec.handlers h) where
   is-kept : s.before.now.frame ≡ is.from
   is-kept = is.kept (omega (arith, listed.1))
 
@@ -98,7 +98,7 @@ module _ (w : Linked) (m : Method) (s : Step) (is : IsStep w m s) (h : Handler) 
 
 -- ---- a visit
 
-module _ (w : Linked) (is : AreRules w) (m : Method) (t0 t1 t2 t3 : Found) (p : ℕ) (f g : Frame) (insn : Insn) (here : IsHeld w m p f) (stepped : HasStepped w m p f g insn) (g1 : Goes w m t0 t1) (g2 : Goes w m t1 t2) (g3 : Goes w m t2 t3) (caught : All (IsCaught w p f t1) m.rec.handlers) (on : IsTrue (falls insn.op) → At (state_at t2.states) (p + insn.len) (FrameBelow w.classes g)) (reached : All (IsAtTarget w g t3) (targets m.code (record { place = p; insn = insn }))) where
+module _ (w : Linked) (is : AreRules w) (m : Method) (t0 t1 t2 t3 : Found) (p : ℕ) (f g : Frame) (insn : Insn) (here : IsHeld w m p f) (stepped : HasStepped w m p f g insn) (g1 : Goes w m t0 t1) (g2 : Goes w m t1 t2) (g3 : Goes w m t2 t3) (caught : All (CaughtIsBelow w p f t1) m.rec.handlers) (on : IsTrue (falls insn.op) → At (state_at t2.states) (p + insn.len) (FrameBelow w.classes g)) (reached : All (IsAtTarget w g t3) (targets m.code (record { place = p; insn = insn }))) where
   to-successor : (q : ℕ) → IsSuccessor m.code (record { place = p; insn = insn }) q → At (state_at t3.states) q (FrameBelow w.classes g)
   to-successor q (falls_through falls_on) = goes-above w is.order m t2 t3 g g3 q (on falls_on)
   to-successor q (jumped c) = All-contains (IsAtTarget w g t3) (targets m.code (record { place = p; insn = insn })) (pos q) reached c
@@ -108,7 +108,7 @@ module _ (w : Linked) (is : AreRules w) (m : Method) (t0 t1 t2 t3 : Found) (p : 
 
   visit-closed : IsClosed w m t3 p f
   visit-closed = record {
-    handlers = λ h c cov. goes-above w is.order m t1 t3 (caught_frame h f) (goes-on w is.order m t1 t2 t3 g2 g3) h.entry (All-contains (IsCaught w p f t1) m.rec.handlers h caught c cov);
+    handlers = λ h c cov. goes-above w is.order m t1 t3 (caught_frame h f) (goes-on w is.order m t1 t2 t3 g2 g3) h.entry (All-contains (CaughtIsBelow w p f t1) m.rec.handlers h caught c cov);
     rule = λ i st e. subst (λ j. IsFollowed w m (state_at t3.states) j f) (same-instruction i st e)
         (record { after = g; steps = stepped.steps; below = to-successor; ready = stepped.ready });
     stays = λ i st e. subst (λ j. IsTrue (falls j.insn.op) → j.place + j.insn.len < length m.code) (same-instruction i st e) stepped.stays;

@@ -15,7 +15,7 @@ use Rattle.jc_flow.specs.Found.{Found}
 use Rattle.jc_flow.specs.Progress.{IsHeld, AreHeld, IsClosed, Grown, most_rises}
 use Rattle.jc_control.specs.ControlFlow.{IsControlFlow}
 use Rattle.jc_flow.specs.declared.analysis.Analysis.{Analysis}
-use Rattle.jc_flow.specs.declared.edges.Step.{Step}
+use Rattle.jc_flow.specs.declared.edges.FlowStep.{FlowStep}
 use Rattle.jc_ops.specs.declared.fault.RuleFault.TheVariants.{StackMerge}
 use Rattle.jc_flow.specs.declared.table.PutEnd.{PutEnd}
 use Rattle.jc_flow.specs.declared.table.PutEnd.TheVariants.{Clash, Memory}
@@ -47,13 +47,13 @@ pub record Raised (w : Linked) (m : Method) (old new : Found) (to : ℕ) (f : Fr
   pub above : At (state_at new.states) to (FrameBelow w.classes f)
 
 -- what the handler catches is found at its entry
-abbrev pub IsCaught : Linked → ℕ → Frame → Found → Handler → Type 0
-IsCaught w p f found h = Covers h p → At (state_at found.states) h.entry (FrameBelow w.classes (caught_frame h f))
+abbrev pub CaughtIsBelow : Linked → ℕ → Frame → Found → Handler → Type 0
+CaughtIsBelow w p f found h = Covers h p → At (state_at found.states) h.entry (FrameBelow w.classes (caught_frame h f))
 
 -- what the handlers of the method catch at the place
 pub record HandlersRaised (w : Linked) (m : Method) (p : ℕ) (f : Frame) (old new : Found) : Type 0 where
   pub goes : Goes w m old new
-  pub caught : All (IsCaught w p f new) m.rec.handlers
+  pub caught : All (CaughtIsBelow w p f new) m.rec.handlers
 
 -- the instruction at a place has taken f to g
 pub record HasStepped (w : Linked) (m : Method) (p : ℕ) (f g : Frame) (insn : Insn) : Type 0 where
@@ -63,14 +63,14 @@ pub record HasStepped (w : Linked) (m : Method) (p : ℕ) (f g : Frame) (insn : 
   pub stays : IsTrue (falls insn.op) → p + insn.len < length m.code
 
 -- the step at the place of a frame, which is kept where the method has handlers
-pub record IsStep (w : Linked) (m : Method) (s : Step) : Type 0 where
+pub record IsStep (w : Linked) (m : Method) (s : FlowStep) : Type 0 where
   pub from : Frame
   pub here : IsHeld w m s.place from
   pub stepped : HasStepped w m s.place from s.after.now.frame s.insn
   pub kept : 0 < length m.rec.handlers → s.before.now.frame ≡ from
 
 -- what the step leads to after the instruction
-abbrev pub IsAtNext : Linked → Step → Found → Type 0
+abbrev pub IsAtNext : Linked → FlowStep → Found → Type 0
 IsAtNext w s found = IsTrue (falls s.insn.op) → At (state_at found.states) (s.place + s.insn.len) (FrameBelow w.classes s.after.now.frame)
 
 -- and at a target

@@ -4,7 +4,7 @@ ghost use Rattle.jc_rules.specs.Flow.{At, FrameBelow};
 ghost use Rattle.jc_rules.specs.Typing.{state_at};
 ghost use Rattle.jc_flow.specs.Progress.{AreHeld};
 ghost use Rattle.jc_flow.specs.Fails.{IsFailure};
-ghost use Rattle.jc_flow.specs.Visit.{analysed, world_of, IsAnalysis, IsStep, Goes, IsCaught, HandlersRaised, IsAtNext, IsAtTarget, broken_at};
+ghost use Rattle.jc_flow.specs.Visit.{analysed, world_of, IsAnalysis, IsStep, Goes, CaughtIsBelow, HandlersRaised, IsAtNext, IsAtTarget, broken_at};
 
 use crate::analysis::Analysis;
 use crate::end::FlowEnd;
@@ -18,7 +18,7 @@ use jc_ops::RuleFault;
 /// The instruction at a place, with the frames before and after its rule. The frame before is there where the
 /// method has handlers.
 #[derive(Clone, Copy)]
-pub struct Step<'a> {
+pub struct FlowStep<'a> {
     pub place: u16,
     pub insn: Insn,
     pub before: &'a Scratch,
@@ -40,7 +40,7 @@ impl Analysis<'_> {
     fn raise_handler(
         &self,
         table: &mut StateTable,
-        step: Step<'_>,
+        step: FlowStep<'_>,
         handler: Handler,
     ) -> Result<(), FlowEnd>
         requires analysis { IsAnalysis self.now }
@@ -48,7 +48,7 @@ impl Analysis<'_> {
         requires step { IsStep (world_of self.now) (analysed self.now) step }
         requires listed { Contains self.now.rec.now.handlers handler }
         ensures goes { OnOk result (Goes (world_of self.now) (analysed self.now) table.old table.new) }
-        ensures caught { OnOk result (IsCaught (world_of self.now) step.entry.place step.entry.before.now.frame table.new handler) }
+        ensures caught { OnOk result (CaughtIsBelow (world_of self.now) step.entry.place step.entry.before.now.frame table.new handler) }
         ensures failed { IfErr result (IsFailure (world_of self.now) (analysed self.now)) }
     {
         if !covers(handler, step.place) {
@@ -65,7 +65,7 @@ impl Analysis<'_> {
     }
 
     /// Leads to the instruction after, if the one at the place falls through.
-    pub fn raise_next(&self, table: &mut StateTable, step: Step<'_>) -> Result<(), FlowEnd>
+    pub fn raise_next(&self, table: &mut StateTable, step: FlowStep<'_>) -> Result<(), FlowEnd>
         requires analysis { IsAnalysis self.now }
         requires held { AreHeld (world_of self.now) (analysed self.now) table.old }
         requires step { IsStep (world_of self.now) (analysed self.now) step }
@@ -90,7 +90,7 @@ impl Analysis<'_> {
     fn raise_target(
         &self,
         table: &mut StateTable,
-        step: Step<'_>,
+        step: FlowStep<'_>,
         target: i32,
     ) -> Result<(), FlowEnd>
         requires analysis { IsAnalysis self.now }
@@ -109,14 +109,14 @@ impl Analysis<'_> {
     }
 
     /// Leads to the entries of the handlers that cover the place.
-    pub fn raise_handlers(&self, table: &mut StateTable, step: Step<'_>) -> Result<(), FlowEnd>
+    pub fn raise_handlers(&self, table: &mut StateTable, step: FlowStep<'_>) -> Result<(), FlowEnd>
         requires analysis { IsAnalysis self.now }
         requires held { AreHeld (world_of self.now) (analysed self.now) table.old }
         requires step { IsStep (world_of self.now) (analysed self.now) step }
         ensures goes { OnOk result (Goes (world_of self.now) (analysed self.now) table.old table.new) }
         ensures caught { OnOk result
             (All
-            (IsCaught (world_of self.now) step.entry.place step.entry.before.now.frame
+            (CaughtIsBelow (world_of self.now) step.entry.place step.entry.before.now.frame
             table.new) self.now.rec.now.handlers) }
         ensures failed { IfErr result (IsFailure (world_of self.now) (analysed self.now)) }
     {
@@ -129,7 +129,7 @@ impl Analysis<'_> {
     }
 
     /// Leads to the targets of a branch or switch.
-    pub fn raise_targets(&self, table: &mut StateTable, step: Step<'_>) -> Result<(), FlowEnd>
+    pub fn raise_targets(&self, table: &mut StateTable, step: FlowStep<'_>) -> Result<(), FlowEnd>
         requires analysis { IsAnalysis self.now }
         requires held { AreHeld (world_of self.now) (analysed self.now) table.old }
         requires step { IsStep (world_of self.now) (analysed self.now) step }

@@ -6,7 +6,7 @@ ghost use Rattle.jc_flow.specs.Scratch.{Scratched, SuitsMethod, IsStepped};
 use jc_base::{Ty, World};
 use jc_decode::Insn;
 use jc_ops::RuleFault;
-use jc_rules::{Mode, Site, State, apply};
+use jc_rules::{HeldFrame, Mode, Site, apply};
 use std::alloc::{AllocError, Global};
 use std::marker::Model;
 
@@ -67,7 +67,7 @@ impl Scratch {
     }
 
     /// Takes the frame of a state.
-    pub fn load(&mut self, state: State<'_>)
+    pub fn load(&mut self, state: HeldFrame<'_>)
         requires registers { length (lent state).regs ≡ length self.old.frame.regs }
         requires room { length (lent state).stack ≤ self.old.room }
         ensures { self.new ≡ record { frame = lent state.entry; room = self.old.room } }

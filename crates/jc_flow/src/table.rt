@@ -7,7 +7,7 @@ ghost use Rattle.jc_rules.specs.Typing.{state_at, Clashes};
 ghost use Rattle.jc_flow.specs.Found.{Found, IsPending, IsLeastPending, NonePending, taken_up, with_state, HasKnown, Lands, Prevents};
 
 use jc_base::{Classes, Ty};
-use jc_rules::{Merged, State, Typing};
+use jc_rules::{HeldFrame, Merged, Typing};
 use std::alloc::{AllocError, Global};
 use std::marker::Model;
 
@@ -65,7 +65,7 @@ impl StateTable {
     }
 
     /// The state at a place.
-    pub fn state(&self, place: u16) -> Option<State<'_>>
+    pub fn state(&self, place: u16) -> Option<HeldFrame<'_>>
         ensures { option_map lent result ≡ state_at self.now.states place }
     {
         self.typing.state(place)

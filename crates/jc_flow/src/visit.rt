@@ -11,15 +11,15 @@ ghost use Rattle.jc_flow.specs.Infer.{AreReached, HaveRegisters, AreDerived, Hav
 ghost use Rattle.jc_flow.specs.Visit.{analysed, world_of, IsAnalysis, Goes, IsVisited};
 
 use crate::analysis::Analysis;
-use crate::edges::Step;
+use crate::edges::FlowStep;
 use crate::end::FlowEnd;
 use crate::scratch::Scratch;
 use crate::table::StateTable;
-use jc_rules::State;
+use jc_rules::HeldFrame;
 
 impl Analysis<'_> {
     /// Keeps the frame of a state for the method's handlers, if it has any.
-    fn keep(&self, state: State<'_>, before: &mut Scratch)
+    fn keep(&self, state: HeldFrame<'_>, before: &mut Scratch)
         requires registers { length (lent state).regs ≡ length before.old.frame.regs }
         requires room { length (lent state).stack ≤ before.old.room }
         ensures kept { 0 < length self.now.rec.now.handlers → before.new.frame ≡ lent state.entry }
@@ -56,7 +56,7 @@ impl Analysis<'_> {
             None => return Ok(()),
         }
         let insn = self.step(place, after)?;
-        let step = Step {
+        let step = FlowStep {
             place,
             insn,
             before,

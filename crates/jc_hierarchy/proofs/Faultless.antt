@@ -13,7 +13,7 @@ use Rattle.first_fault.specs.First.{AllEmpty}
 use Rattle.first_fault.proofs.LeastFaults.{faultless_first}
 use Rattle.jc_resolve.proofs.Faultless.{faultless_at, flat_faultless}
 use Rattle.jc_hierarchy.specs.Ancestor.{is_above}
-use Rattle.jc_hierarchy.specs.Conditions.{numbered, is_class_number, super_fault, cycle_fault, fits_role, role_fault, root_fault, named_interfaces, interface_fault, conditions}
+use Rattle.jc_hierarchy.specs.Conditions.{numbered, is_class_number, super_fault, cycle_fault, fits_role, role_fault, root_fault, named_interfaces, not_interface_fault, conditions}
 
 -- ---- lists in which nothing is at fault
 
@@ -86,16 +86,16 @@ rooted-is object c false r same e plain none =
     let whole = root-none object c r e plain in
     absurd (false≢true (sym (rw (same, none) at whole)))
 
-interface-none : (cs : List NamedClass) (c : ℕ) (i : Iface) → interface_fault cs (c, i) ≡ None → is_class_number cs i.class ≡ false
-unfolding interface_fault
+interface-none : (cs : List NamedClass) (c : ℕ) (i : Iface) → not_interface_fault cs (c, i) ≡ None → is_class_number cs i.class ≡ false
+unfolding not_interface_fault
 interface-none cs c i e = refused-not (is_class_number cs i.class) (NotInterface c i.class) e
 
-interfaces-none : (cs : List NamedClass) (c : ℕ) (r : NamedClass) → filter_map (interface_fault cs) (named_interfaces cs) ≡ [] → slice_get cs c ≡ Some r
+interfaces-none : (cs : List NamedClass) (c : ℕ) (r : NamedClass) → filter_map (not_interface_fault cs) (named_interfaces cs) ≡ [] → slice_get cs c ≡ Some r
     → All (λ (i : Iface). is_class_number cs i.class ≡ false) r.interfaces
 interfaces-none cs c r e at =
-    let own = flat_faultless (interface_fault cs) (λ (p : ℕ × NamedClass). map (λ (i : Iface). (p.0, i)) p.1.interfaces) (numbered cs) c (c, r) e (numbered-at 0 cs c c r (omega arith) at) in
-    All-weaker (λ (i : Iface). interface_fault cs (c, i) ≡ None) (λ (i : Iface). is_class_number cs i.class ≡ false) (λ i h. interface-none cs c i h) r.interfaces
-    (none-all (interface_fault cs) (λ (i : Iface). (c, i)) r.interfaces own)
+    let own = flat_faultless (not_interface_fault cs) (λ (p : ℕ × NamedClass). map (λ (i : Iface). (p.0, i)) p.1.interfaces) (numbered cs) c (c, r) e (numbered-at 0 cs c c r (omega arith) at) in
+    All-weaker (λ (i : Iface). not_interface_fault cs (c, i) ≡ None) (λ (i : Iface). is_class_number cs i.class ≡ false) (λ i h. interface-none cs c i h) r.interfaces
+    (none-all (not_interface_fault cs) (λ (i : Iface). (c, i)) r.interfaces own)
 
 pub no_fault : (cs : List NamedClass) (first : ℕ) (roles : List ℕ) → AllEmpty (conditions cs first roles) → NoFault cs first roles
 no_fault cs first roles e = record {

@@ -18,10 +18,10 @@ use Rattle.jc_resolve.specs.Named.{package_of, package_by}
 use Rattle.first_fault.proofs.FirstTold.{IsTold, things-told, step, last, refused-first, accepted-empty}
 use Rattle.jc_resolve.specs.Due.{IsDue}
 use Rattle.jc_hierarchy.specs.Known.{HasKnownLine}
-use Rattle.jc_hierarchy.specs.Conditions.{numbered, is_class_number, is_class_record, super_fault, cycle_fault, role_fault, root_fault, named_interfaces, interface_fault, conditions}
+use Rattle.jc_hierarchy.specs.Conditions.{numbered, is_class_number, is_class_record, super_fault, cycle_fault, role_fault, root_fault, named_interfaces, not_interface_fault, conditions}
 use Rattle.jc_hierarchy.specs.declared.lineage_type.Line.{Line}
 use Rattle.jc_hierarchy.specs.Outline.{LineTable, AreLines, is_interface_line, is_interface as interface_in_table, package_in_line, package_of as package_in_table, parent_of, line_of, outline}
-use Rattle.jc_hierarchy.specs.Lines.{lines_agree, lineage_of, Tells, HaveLines}
+use Rattle.jc_hierarchy.specs.Lines.{lines_agree, lineage_of, TellsLines, HaveLines}
 use Rattle.jc_hierarchy.proofs.Kinship.{chain-ancestors, acyclic}
 use Rattle.jc_hierarchy.proofs.Faultless.{NoFault, no_fault}
 use Rattle.jc_hierarchy.proofs.Descent.{class-made, parent-class, parent-made, parent-plain, role-plain, role-thrown, are-classes}
@@ -33,12 +33,12 @@ lines-told cs first roles =
     (step link_place (things-told link_place (cycle_fault cs) (numbered cs))
     (step link_place (things-told link_place (role_fault cs first (slice_index roles 1)) (numbered roles))
     (step link_place (things-told link_place (root_fault (slice_index roles 0)) (numbered cs))
-    (last link_place (things-told link_place (interface_fault cs) (named_interfaces cs))))))
+    (last link_place (things-told link_place (not_interface_fault cs) (named_interfaces cs))))))
 
 pub agreed-empty : (cs : List NamedClass) (first : ℕ) (roles : List ℕ) → lines_agree cs first roles ≡ Ok (tt {0}) → AllEmpty (conditions cs first roles)
 agreed-empty cs first roles e = accepted-empty link_place (conditions cs first roles) (sym (lines-told cs first roles).same ∙ e)
 
-told-by : (cs : List NamedClass) (first : ℕ) (roles : List ℕ) (s : Result (Unit {0}) LinkFault) (r : Result LineTable LinkEnd) → lines_agree cs first roles ≡ s → IsDue (s >>= λ _. Ok (outline cs roles)) r → Tells cs first roles r
+told-by : (cs : List NamedClass) (first : ℕ) (roles : List ℕ) (s : Result (Unit {0}) LinkFault) (r : Result LineTable LinkEnd) → lines_agree cs first roles ≡ s → IsDue (s >>= λ _. Ok (outline cs roles)) r → TellsLines cs first roles r
 told-by cs first roles (Ok x) (Ok t) e due =
     let same : outline cs roles ≡ t = cc in
     (sym same, agreed-empty cs first roles e)
@@ -50,7 +50,7 @@ told-by cs first roles (Err g) (Err (Fault f)) e due =
     refused-first link_place (conditions cs first roles) f (sym (lines-told cs first roles).same ∙ e ∙ ap Err same)
 told-by cs first roles (Err g) (Err Memory) e due = tt {0}
 
-pub due-tells : (cs : List NamedClass) (first : ℕ) (roles : List ℕ) (r : Result LineTable LinkEnd) → IsDue (lineage_of cs first roles) r → Tells cs first roles r
+pub due-tells : (cs : List NamedClass) (first : ℕ) (roles : List ℕ) (r : Result LineTable LinkEnd) → IsDue (lineage_of cs first roles) r → TellsLines cs first roles r
 unfolding lineage_of
 due-tells cs first roles r due = told-by cs first roles (lines_agree cs first roles) r refl due
 

@@ -59,8 +59,8 @@ interfaces_of = flat_map (λ p. map (λ i. (p.0, i)) p.1.interfaces)
 abbrev pub named_interfaces : List NamedClass → List (ℕ × Iface)
 named_interfaces cs = interfaces_of (numbered cs)
 
-unfoldable pub interface_fault : List NamedClass → ℕ × Iface → Option LinkFault
-interface_fault cs (c, i) = if is_class_number cs i.class then Some (NotInterface c i.class) else None
+unfoldable pub not_interface_fault : List NamedClass → ℕ × Iface → Option LinkFault
+not_interface_fault cs (c, i) = if is_class_number cs i.class then Some (NotInterface c i.class) else None
 
 -- ---- all conditions, in the order of their numbers
 
@@ -70,5 +70,5 @@ conditions cs first roles =
     ∷ at_fault (cycle_fault cs) (numbered cs)
     ∷ at_fault (role_fault cs first (slice_index roles 1)) (numbered roles)
     ∷ at_fault (root_fault (slice_index roles 0)) (numbered cs)
-    ∷ at_fault (interface_fault cs) (named_interfaces cs)
+    ∷ at_fault (not_interface_fault cs) (named_interfaces cs)
     ∷ []

@@ -9,7 +9,7 @@ use Rattle.jc_resolve.specs.Fault.{link_place}
 use Rattle.first_fault.specs.Least.{◌>>=◌, least_of, refused}
 use Rattle.first_fault.specs.First.{IsFirst, AllEmpty}
 use Rattle.jc_hierarchy.specs.Ancestor.{IsAncestor, IsSuperinterface}
-use Rattle.jc_hierarchy.specs.Conditions.{numbered, super_fault, cycle_fault, role_fault, root_fault, named_interfaces, interface_fault, conditions}
+use Rattle.jc_hierarchy.specs.Conditions.{numbered, super_fault, cycle_fault, role_fault, root_fault, named_interfaces, not_interface_fault, conditions}
 use Rattle.jc_hierarchy.specs.Outline.{LineTable, IsClass, is_interface, is_on_chain, package_of, parent_of, outline, throwable}
 
 -- the conditions, one after the other
@@ -19,7 +19,7 @@ lines_agree cs first roles = do
   cycles ← refused (least_of link_place (cycle_fault cs) (numbered cs))
   fitting ← refused (least_of link_place (role_fault cs first (slice_index roles 1)) (numbered roles))
   rooted ← refused (least_of link_place (root_fault (slice_index roles 0)) (numbered cs))
-  refused (least_of link_place (interface_fault cs) (named_interfaces cs))
+  refused (least_of link_place (not_interface_fault cs) (named_interfaces cs))
 
 -- the lines, where they hold
 unfoldable pub lineage_of : List NamedClass → ℕ → List ℕ → Result LineTable LinkFault
@@ -28,10 +28,10 @@ lineage_of cs first roles = do
   Ok (outline cs roles)
 
 -- the lines exactly where nothing is at fault; else the first condition that is broken, at its least thing
-abbrev pub Tells : List NamedClass → ℕ → List ℕ → Result LineTable LinkEnd → Type 0
-Tells cs first roles (Ok t) = (t ≡ outline cs roles) × AllEmpty (conditions cs first roles)
-Tells cs first roles (Err (Fault fault)) = IsFirst link_place (conditions cs first roles) fault
-Tells cs first roles (Err Memory) = Unit {0}
+abbrev pub TellsLines : List NamedClass → ℕ → List ℕ → Result LineTable LinkEnd → Type 0
+TellsLines cs first roles (Ok t) = (t ≡ outline cs roles) × AllEmpty (conditions cs first roles)
+TellsLines cs first roles (Err (Fault fault)) = IsFirst link_place (conditions cs first roles) fault
+TellsLines cs first roles (Err Memory) = Unit {0}
 
 -- what is known of the classes where nothing is at fault
 pub record HaveLines (cs : List NamedClass) (t : LineTable) : Type 0 where

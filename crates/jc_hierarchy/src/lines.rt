@@ -3,7 +3,7 @@ ghost use Rattle.jc_resolve.specs.Due.{IsDue};
 ghost use Rattle.jc_hierarchy.specs.Known.{HasKnownLine};
 ghost use Rattle.jc_hierarchy.specs.Ancestor.{TellsAbove};
 ghost use Rattle.jc_hierarchy.specs.Outline.{AreLines};
-ghost use Rattle.jc_hierarchy.specs.Lines.{lines_agree, lineage_of, Tells, HaveLines};
+ghost use Rattle.jc_hierarchy.specs.Lines.{lines_agree, lineage_of, TellsLines, HaveLines};
 
 use crate::cycle_checks::least_cycle;
 use crate::lineage_type::Lineage;
@@ -73,7 +73,7 @@ pub fn lineage(
     ensures value { IsDue (lineage_of classes.now first roles) result }
     // The lines exactly where nothing is at fault; else the first condition by number that is broken, at
     // its least thing.
-    ensures tells { Tells classes.now first roles result }
+    ensures tells { TellsLines classes.now first roles result }
     ensures lines { IfOk result (HaveLines classes.now) }
     ensures eight { IfOk result (λ t. length t.roles ≡ 8) }
     // Ancestors and superinterfaces are what superclasses and extended interfaces lead to.

@@ -2,7 +2,7 @@ ghost use Rattle.std.specs.Prelude.{◌≡◌, ◌≤◌, length, map, slice_get
 ghost use Rattle.jc_resolve.specs.Fault.{link_place};
 ghost use Rattle.jc_resolve.specs.Named.{is_interface};
 ghost use Rattle.first_fault.specs.Least.{least_of, least_from, refused};
-ghost use Rattle.jc_hierarchy.specs.Conditions.{numbered, is_class_number, super_fault, root_fault, named_interfaces, interface_fault};
+ghost use Rattle.jc_hierarchy.specs.Conditions.{numbered, is_class_number, super_fault, root_fault, named_interfaces, not_interface_fault};
 
 use jc_base::{Iface, Ifaces};
 use jc_resolve::{LinkFault, NamedClass, NamedClasses, lesser, refuse};
@@ -74,9 +74,9 @@ pub(crate) fn classes_have_supers(classes: &NamedClasses, object: u16) -> Result
     refuse(least)
 }
 
-#[tactic(auto, unfolding(crate::specs::Conditions::interface_fault))]
+#[tactic(auto, unfolding(crate::specs::Conditions::not_interface_fault))]
 fn interface_fault(classes: &NamedClasses, c: u16, interface: &Iface) -> Option<LinkFault>
-    ensures { result ≡ interface_fault classes.now (c, interface.now) }
+    ensures { result ≡ not_interface_fault classes.now (c, interface.now) }
 {
     if names_class(classes, interface.class) {
         Some(LinkFault::NotInterface(c, interface.class))
@@ -92,7 +92,7 @@ fn interface_faults(
     interfaces: &Ifaces,
     least: Option<LinkFault>,
 ) -> Option<LinkFault>
-    ensures { result ≡ least_from link_place least (interface_fault classes.now) (map (λ i. (c, i)) interfaces.now) }
+    ensures { result ≡ least_from link_place least (not_interface_fault classes.now) (map (λ i. (c, i)) interfaces.now) }
 {
     let mut least = least;
     'interfaces: for interface in interfaces.as_slice() {
@@ -104,7 +104,7 @@ fn interface_faults(
 /// What classes implement and interfaces extend are interfaces.
 pub(crate) fn named_are_interfaces(classes: &NamedClasses) -> Result<(), LinkFault>
     requires { length classes.now ≤ 4096 }
-    ensures { result ≡ refused (least_of link_place (interface_fault classes.now) (named_interfaces classes.now)) }
+    ensures { result ≡ refused (least_of link_place (not_interface_fault classes.now) (named_interfaces classes.now)) }
 {
     let mut least = None;
     'classes: for (c, class) in classes.as_slice().iter().enumerate() {

@@ -7,7 +7,7 @@ use Rattle.std.proofs.lemmas.Option.{slice_get_within, get_or_from_slice_get}
 use Rattle.jc_base.specs.declared.record.MethodRec.{MethodRec}
 use Rattle.jc_base.specs.Linked.{list_at}
 use Rattle.jc_indexes.specs.Indexes.{has_code, is_coded, index_after}
-use Rattle.jc_indexes.specs.Taking.{taken, IsTakenFrom}
+use Rattle.jc_indexes.specs.Taking.{list_taken, IsTakenFrom}
 
 first-after : {A : Type 0} (xs : List A) (n : ℕ) → slice_get (drop n xs) 0 ≡ slice_get xs n
 first-after [] zero = refl
@@ -33,7 +33,7 @@ pub record AreLeft (lists : List (List (List ℕ))) (ms : List MethodRec) (n : �
 pub all-left : (lists : List (List (List ℕ))) (ms : List MethodRec) → AreLeft lists ms 0 lists
 all-left lists ms = record { size = refl; each = λ k. refl }
 
-pub taken-index : (lists left : List (List (List ℕ))) (ms : List MethodRec) (n : ℕ) (m : MethodRec) (index : Option (List ℕ)) → AreLeft lists ms n left → index ≡ taken left m → index ≡ index_after lists (take n ms) m
+pub taken-index : (lists left : List (List (List ℕ))) (ms : List MethodRec) (n : ℕ) (m : MethodRec) (index : Option (List ℕ)) → AreLeft lists ms n left → index ≡ list_taken left m → index ≡ index_after lists (take n ms) m
 unfolding index_after
 taken-index lists left ms n m index are is =
     is ∙ ap (λ o. cond (has_code m) o None) (ap (λ l. slice_get l 0) (are.each m.package) ∙ first-after (list_at lists m.package) (count_by (is_coded m.package) (take n ms)))

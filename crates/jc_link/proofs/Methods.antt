@@ -15,7 +15,7 @@ use Rattle.jc_resolve.specs.Named.{AreNamed, IsNamedMethod, HandlerLiesIn, infos
 use Rattle.jc_resolve.specs.NamedClasses.{named_classes}
 use Rattle.jc_resolve.specs.NamedMethods.{named_method, named_methods, have_headers}
 use Rattle.jc_resolve.specs.Numbering.{NumberedMethod, numbered_classes, numbered_methods}
-use Rattle.jc_resolve.specs.WorldTypes.{signature_of}
+use Rattle.jc_resolve.specs.WorldTypes.{declared_signature}
 use Rattle.jc_resolve.proofs.NumberedLaws.{IsDescribed, all-described}
 use Rattle.jc_members.specs.Members.{member_of}
 use Rattle.jc_members.specs.Pools.{pools, missing_members}
@@ -49,7 +49,7 @@ module _ (ps : List PackageRecord) (roles : List ℕ) where
           throwables = role-class ps roles t is 1 (omega arith);
           at = λ i. pools-at ps (table_of ps roles) (statics_of ps roles) 0 ps m.home m.of_package members home i ∙ ap (λ (k : ℕ). option_and_then (member_of ps (table_of ps roles) (statics_of ps roles) k) (slice_get m.of_package.pool i)) zero_is;
         })
-        caught_by m.record_of (signature_of ps (slice_index roles 0) m.home m.of_package.description m.record_of.type_offset) (have_headers ps m.home m.of_package m.class)
+        caught_by m.record_of (declared_signature ps (slice_index roles 0) m.home m.of_package.description m.record_of.type_offset) (have_headers ps m.home m.of_package m.class)
 
     pub methods-throw : All HandlersThrow (methods_of ps roles)
     unfolding named_methods

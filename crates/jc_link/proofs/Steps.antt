@@ -18,7 +18,7 @@ use Rattle.jc_base.proofs.Bodies.{linked_more}
 use Rattle.jc_resolve.specs.Named.{AreNamed, IsNamedMethod, IsSized, infos_of}
 use Rattle.jc_resolve.specs.Conditions as names
 use Rattle.jc_resolve.specs.Due.{IsDue}
-use Rattle.jc_resolve.specs.Names.{NamesRecord, named, checked, names_of, Tells}
+use Rattle.jc_resolve.specs.Names.{NamesRecord, named, checked, names_of, TellsNames}
 use Rattle.jc_resolve.proofs.ConditionLists.{AllEmpty-append, IsFirst-append_left, IsFirst-append_right}
 use Rattle.jc_hierarchy.specs.Conditions as lineage
 use Rattle.jc_hierarchy.specs.Known.{HasKnownLine}
@@ -28,7 +28,7 @@ use Rattle.jc_hierarchy.specs.Outline.{LineTable, AreLines, outline}
 use Rattle.jc_hierarchy.proofs.Naming.{named-known}
 use Rattle.jc_classes.specs.Conditions as classes
 use Rattle.jc_classes.specs.Known.{HaveSuperclasses, AreInRange}
-use Rattle.jc_classes.specs.Tables.{class_tables, Links, TellsEnd}
+use Rattle.jc_classes.specs.Tables.{class_tables, Links, TellsTableEnd}
 use Rattle.jc_members.specs.Fields.{HasCellsOf}
 use Rattle.jc_link.specs.World.{classes_of, lineage_of, table_of, methods_of, first_classes, class_conditions, table_conditions, member_conditions, conditions, TellsFirst, TableTells, LinkTells}
 use Rattle.jc_link.specs.declared.linking.Resolved.{Resolved}
@@ -48,7 +48,7 @@ names_known ps roles n e known =
     let are : n ≡ named ps roles = named-by ps roles n (checked ps) e in
     record { are = are; known = subst (λ (m : NamesRecord). AreNamed (infos_of ps) (slice_index roles 0) m.classes m.methods) are known }
 
-pub names_first : (ps : List PackageRecord) (r : Result NamesRecord LinkEnd) → Tells ps r → TellsFirst (names.conditions ps) r
+pub names_first : (ps : List PackageRecord) (r : Result NamesRecord LinkEnd) → TellsNames ps r → TellsFirst (names.conditions ps) r
 names_first ps (Ok n) h = h
 names_first ps (Err (Fault f)) h = h
 names_first ps (Err Memory) h = tt {0}
@@ -133,12 +133,12 @@ module _ (ps : List PackageRecord) (roles : List ℕ) (n : NamesRecord) (of : Ar
       (subst (λ (lists : List (List LinkFault)). IsFirst link_place lists f) (conditions_same cs ms t e m o) h)
 
   -- the same of what linking ends with
-  pub line_told : (cs : List NamedClass) (first : ℕ) (end : LinkEnd) → cs ≡ n.classes → first ≡ first_classes ps → lines.Tells cs first roles (Err end) → TellsFirst {A = ClassTable} (class_conditions ps roles) (Err end)
+  pub line_told : (cs : List NamedClass) (first : ℕ) (end : LinkEnd) → cs ≡ n.classes → first ≡ first_classes ps → lines.TellsLines cs first roles (Err end) → TellsFirst {A = ClassTable} (class_conditions ps roles) (Err end)
   line_told cs first (Fault f) e g h = line_first cs first f e g h
   line_told cs first Memory e g h = tt {0}
 
   pub class_told : (cs : List NamedClass) (ms : List MethodRec) (first : ℕ) (t : LineTable) (end : LinkEnd) → cs ≡ n.classes → ms ≡ n.methods → first ≡ first_classes ps → t ≡ outline cs roles
-      → AllEmpty (lineage.conditions cs first roles) → TellsEnd t cs ms (Err end) → TellsFirst {A = ClassTable} (class_conditions ps roles) (Err end)
+      → AllEmpty (lineage.conditions cs first roles) → TellsTableEnd t cs ms (Err end) → TellsFirst {A = ClassTable} (class_conditions ps roles) (Err end)
   class_told cs ms first t (Fault f) e m g o none h = class_first cs ms first t f e m g o none h
   class_told cs ms first t Memory e m g o none h = tt {0}
 

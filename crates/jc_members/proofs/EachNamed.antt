@@ -18,7 +18,7 @@ use Rattle.jc_resolve.specs.Fault.{link_place}
 use Rattle.first_fault.specs.Order.{comes_before}
 use Rattle.first_fault.specs.Least.{◌>>=◌, lesser, least_from, least_of, refused}
 use Rattle.jc_members.specs.Members.{member_of}
-use Rattle.jc_members.specs.Naming.{NamesMember, NamesOnly, IsPoolEntry, AreNamed, NamesNone, LacksMember, NamesEach}
+use Rattle.jc_members.specs.Naming.{NamesMember, NamesOnly, IsPoolEntry, HaveNamedMembers, NamesNone, LacksMember, NamesEach}
 use Rattle.jc_members.specs.Pools.{PoolPlace, places_from, places_after, pool_places, member_fault, missing_members, pools, pools_of}
 use Rattle.jc_members.proofs.Faultless.{pools-some}
 use Rattle.jc_members.proofs.NamingLaws.{member-names, names-member, names-only}
@@ -91,7 +91,7 @@ module _ (ps : List PackageRecord) (t : ClassTable) (statics : List StaticRec) w
       let names = member-names ps t statics k e m is in
       record { names = names; only = λ other h. names-only ps t statics k e m other names h }
 
-  all_named : missing_members ps t statics ≡ [] → AreNamed ps t statics (pools ps t statics)
+  all_named : missing_members ps t statics ≡ [] → HaveNamedMembers ps t statics (pools ps t statics)
   all_named none = λ k n e at.
       let x = pools-some ps t statics 0 ps k at.home none at.there n e at.entry in
       let same : 0 + k ≡ k = omega arith in
@@ -129,6 +129,6 @@ module _ (ps : List PackageRecord) (t : ClassTable) (statics : List StaticRec) w
   unfolding pools_of
   due-names (Ok found) due =
       let told = due-tells ps t statics (Ok found) due in
-      subst (AreNamed ps t statics) (sym told.0) (all_named told.1)
+      subst (HaveNamedMembers ps t statics) (sym told.0) (all_named told.1)
   due-names (Err (Fault f)) due = fault_missing f (fault_of (least_of link_place (member_fault ps t statics) (pool_places ps)) (pools ps t statics) f due)
   due-names (Err Memory) due = tt {0}

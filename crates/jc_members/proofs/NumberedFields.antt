@@ -8,7 +8,7 @@ use Rattle.jc_base.specs.declared.record.Member.{Member}
 use Rattle.jc_base.specs.declared.record.Member.TheVariants.{Field}
 use Rattle.jc_base.specs.Class.{ClassTable, parent_of, object}
 use Rattle.jc_base.specs.Linked.{cells_above}
-use Rattle.jc_resolve.specs.Numbering.{NumberedClass, numbered_class, classes_of, classes_after, numbered_classes}
+use Rattle.jc_resolve.specs.Numbering.{NumberedClass, numbered_class, numbered_classes_of, classes_after, numbered_classes}
 use Rattle.jc_members.specs.declared.own_field.OwnField.{OwnField}
 use Rattle.jc_members.specs.declared.sites.Spot.{Spot}
 use Rattle.jc_members.specs.Sites.{MemberSite, only, members_standing, same_spot}
@@ -38,9 +38,9 @@ module _ (ps : List PackageRecord) (t : ClassTable) where
   of_packages : (c k : ℕ) (qs : List PackageRecord) → sites_after ps t c k qs ≡ numbered_sites c (classes_after k qs)
   of_packages c k [] = refl
   of_packages c k (q ∷ qs) =
-      let e : c + length q.classes ≡ c + length (classes_of k q) = ap (λ (n : ℕ). c + n) (sym (length-map q.classes (numbered_class k q))) in
+      let e : c + length q.classes ≡ c + length (numbered_classes_of k q) = ap (λ (n : ℕ). c + n) (sym (length-map q.classes (numbered_class k q))) in
       ap₂ ◌++◌ (of_package k q c q.classes) (of_packages (c + length q.classes) (k + 1) qs ∙ ap (λ (i : ℕ). numbered_sites i (classes_after (k + 1) qs)) e)
-      ∙ sym (sites_append c (classes_of k q) (classes_after (k + 1) qs))
+      ∙ sym (sites_append c (numbered_classes_of k q) (classes_after (k + 1) qs))
 
   -- ---- the fields with a token of a class
 

@@ -12,7 +12,7 @@ use Rattle.jc_base.specs.Class.{ClassTable, parent_of, object}
 use Rattle.jc_base.specs.Linked.{AreLinkedClasses, IsLinkedClass, cells_above}
 use Rattle.jc_base.proofs.Lists.{IfSome-is, slice_get-front, slice_get-farther}
 use Rattle.jc_resolve.specs.declared.named.NamedClass.{NamedClass}
-use Rattle.jc_resolve.specs.Numbering.{NumberedClass, numbered_class, classes_of, classes_after, numbered_classes}
+use Rattle.jc_resolve.specs.Numbering.{NumberedClass, numbered_class, numbered_classes_of, classes_after, numbered_classes}
 use Rattle.jc_resolve.specs.Names.{NamesRecord}
 use Rattle.jc_resolve.specs.NamedClasses.{named_class, named_classes}
 use Rattle.jc_members.specs.Fields.{cells_before, FieldsFit, FieldsFitIn, AllFieldsFitAfter, AllFieldsFit, HasCellsOf}
@@ -74,13 +74,13 @@ module _ (ps : List PackageRecord) (object_is : ℕ) (t : ClassTable) (cells : H
     rooms_after : (c k : ℕ) (qs : List PackageRecord) → ((i : ℕ) (n : NumberedClass) → slice_get (classes_after k qs) i ≡ Some n → FieldsFit t (c + i) (own_of ps (object t) n)) → AllFieldsFitAfter ps t c k qs
     rooms_after c k [] each = tt
     rooms_after c k (q ∷ qs) each = (
-      rooms_in k q c q.classes (λ i n e. each i n (slice_get-front (classes_of k q) (classes_after (k + 1) qs) i n e)),
+      rooms_in k q c q.classes (λ i n e. each i n (slice_get-front (numbered_classes_of k q) (classes_after (k + 1) qs) i n e)),
       rooms_after (c + length q.classes) (k + 1) qs (λ i n e.
-          let many : length (classes_of k q) ≡ length q.classes = length-map q.classes (numbered_class k q) in
-          let place : length q.classes + i ≡ length (classes_of k q) + i = ap (λ (m : ℕ). m + i) (sym many) in
+          let many : length (numbered_classes_of k q) ≡ length q.classes = length-map q.classes (numbered_class k q) in
+          let place : length q.classes + i ≡ length (numbered_classes_of k q) + i = ap (λ (m : ℕ). m + i) (sym many) in
           let next : c + (length q.classes + i) ≡ (c + length q.classes) + i = omega arith in
           subst (λ (j : ℕ). FieldsFit t j (own_of ps (object t) n)) next
-          (each (length q.classes + i) n (slice_get-farther (classes_of k q) (classes_after (k + 1) qs) i (length q.classes + i) place ∙ e))),
+          (each (length q.classes + i) n (slice_get-farther (numbered_classes_of k q) (classes_after (k + 1) qs) i (length q.classes + i) place ∙ e))),
     )
 
     -- an instance of each class has room for its fields

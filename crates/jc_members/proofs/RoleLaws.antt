@@ -10,7 +10,7 @@ use Rattle.jc_resolve.specs.declared.fault.LinkFault.{LinkFault}
 use Rattle.jc_resolve.specs.declared.fault.LinkFault.TheVariants.{RoleAbstract}
 use Rattle.jc_resolve.specs.Fault.{link_place}
 use Rattle.first_fault.specs.Least.{lesser, least_from, least_of, refused}
-use Rattle.jc_members.specs.Roles.{role_fault, thrown_roles, IsRoleFault, Tells}
+use Rattle.jc_members.specs.Roles.{role_fault, thrown_roles, IsRoleFault, TellsRoles}
 
 -- what holds of a number and of all above it
 from_on : (P : ℕ → Type 0) (a : ℕ) → P a → ((j : ℕ) → a + 1 ≤ j → P j) → (j : ℕ) → a ≤ j → P j
@@ -78,7 +78,7 @@ module _ (t : ClassTable) (methods : List MethodRec) where
           sym (ap (λ o. least_from link_place o (role_fault t methods) (range_with_len (a + 1) n)) (some_at a e) ∙ kept n (a + 1) a (omega arith)) in
           subst (Found a (suc n)) step (a, omega arith, omega arith, e, λ j low high. absurd (omega arith), refl)
 
-  told_by : ConcreteDecides t methods → (o : Option LinkFault) → Found 2 6 o → Tells t methods (refused o)
+  told_by : ConcreteDecides t methods → (o : Option LinkFault) → Found 2 6 o → TellsRoles t methods (refused o)
   told_by decides None f = λ k low high. (decides (slice_index t.roles k)).0 (f k low high)
   told_by decides (Some fault) f =
       subst (IsRoleFault t methods) (sym f.5) (record {
@@ -88,5 +88,5 @@ module _ (t : ClassTable) (methods : List MethodRec) where
         first = λ j low high. (decides (slice_index t.roles j)).0 (f.4 j low high);
       })
 
-  pub roles_told : (r : Result (Unit {0}) LinkFault) → ConcreteDecides t methods → r ≡ refused (least_of link_place (role_fault t methods) thrown_roles) → Tells t methods r
-  roles_told r decides e = subst (Tells t methods) (sym e) (told_by decides (least_of link_place (role_fault t methods) thrown_roles) (found 6 2))
+  pub roles_told : (r : Result (Unit {0}) LinkFault) → ConcreteDecides t methods → r ≡ refused (least_of link_place (role_fault t methods) thrown_roles) → TellsRoles t methods r
+  roles_told r decides e = subst (TellsRoles t methods) (sym e) (told_by decides (least_of link_place (role_fault t methods) thrown_roles) (found 6 2))

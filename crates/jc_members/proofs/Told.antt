@@ -14,7 +14,7 @@ use Rattle.jc_resolve.specs.Due.{IsDue}
 use Rattle.first_fault.specs.Least.{◌>>=◌, least_of, refused}
 use Rattle.first_fault.proofs.LeastFaults.{least-at_fault, least-found, least-none}
 use Rattle.jc_members.specs.Members.{member_of}
-use Rattle.jc_members.specs.Pools.{pool_places, member_fault, missing_members, pools_after, pools, pools_of, Tells}
+use Rattle.jc_members.specs.Pools.{pool_places, member_fault, missing_members, pools_after, pools, pools_of, TellsPools}
 
 -- there are as many pools as packages
 pools-each : (named : ℕ → Entry → Option Member) (k : ℕ) (ps : List PackageRecord) → length (pools_after named k ps) ≡ length ps
@@ -22,7 +22,7 @@ pools-each named k [] = refl
 pools-each named k (p ∷ ps) = ap suc (pools-each named (k + 1) ps)
 
 module _ (ps : List PackageRecord) (t : ClassTable) (statics : List StaticRec) where
-  told-by : (o : Option LinkFault) (r : Result (List (List Member)) LinkEnd) → least_of link_place (member_fault ps t statics) (pool_places ps) ≡ o → IsDue (refused o >>= λ _. Ok (pools ps t statics)) r → Tells ps t statics r
+  told-by : (o : Option LinkFault) (r : Result (List (List Member)) LinkEnd) → least_of link_place (member_fault ps t statics) (pool_places ps) ≡ o → IsDue (refused o >>= λ _. Ok (pools ps t statics)) r → TellsPools ps t statics r
   told-by None (Ok found) e due =
       let same : pools ps t statics ≡ found = cc in
       (sym same, least-none link_place (missing_members ps t statics) (sym (least-at_fault link_place (member_fault ps t statics) (pool_places ps) None) ∙ e))
@@ -34,7 +34,7 @@ module _ (ps : List PackageRecord) (t : ClassTable) (statics : List StaticRec) w
       least-found link_place (missing_members ps t statics) f (sym (least-at_fault link_place (member_fault ps t statics) (pool_places ps) None) ∙ e ∙ ap Some same)
   told-by (Some g) (Err Memory) e due = tt {0}
 
-  pub due-tells : (r : Result (List (List Member)) LinkEnd) → IsDue (pools_of ps t statics) r → Tells ps t statics r
+  pub due-tells : (r : Result (List (List Member)) LinkEnd) → IsDue (pools_of ps t statics) r → TellsPools ps t statics r
   unfolding pools_of
   due-tells r due = told-by (least_of link_place (member_fault ps t statics) (pool_places ps)) r refl due
 

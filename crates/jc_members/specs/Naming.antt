@@ -107,8 +107,8 @@ pub record IsPoolEntry (ps : List PackageRecord) (k n : ℕ) (e : Entry) : Type 
   pub entry : slice_get home.pool n ≡ Some e
 
 -- at the number of each entry the pools have the one member that it names
-abbrev pub AreNamed : List PackageRecord → ClassTable → List StaticRec → List (List Member) → Type 0
-AreNamed ps t statics pools =
+abbrev pub HaveNamedMembers : List PackageRecord → ClassTable → List StaticRec → List (List Member) → Type 0
+HaveNamedMembers ps t statics pools =
     (k n : ℕ) (e : Entry)
     → IsPoolEntry ps k n e
     → (m : Member) × (slice_get (list_at pools k) n ≡ Some m) × NamesOnly ps t statics k e m
@@ -125,6 +125,6 @@ LacksMember ps t statics other = ⊥
 
 -- each entry names one member, which the pools have; or the entry that is told names none
 abbrev pub NamesEach : List PackageRecord → ClassTable → List StaticRec → Result (List (List Member)) LinkEnd → Type 0
-NamesEach ps t statics (Ok pools) = AreNamed ps t statics pools
+NamesEach ps t statics (Ok pools) = HaveNamedMembers ps t statics pools
 NamesEach ps t statics (Err (Fault fault)) = LacksMember ps t statics fault
 NamesEach ps t statics (Err Memory) = Unit {0}

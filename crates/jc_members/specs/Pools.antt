@@ -54,7 +54,7 @@ pools_of ps t statics = do
   Ok (pools ps t statics)
 
 -- the members exactly where no entry lacks its one member; else the least entry that lacks it
-abbrev pub Tells : List PackageRecord → ClassTable → List StaticRec → Result (List (List Member)) LinkEnd → Type 0
-Tells ps t statics (Ok found) = (found ≡ pools ps t statics) × (missing_members ps t statics ≡ [])
-Tells ps t statics (Err (Fault fault)) = IsLeast link_place (missing_members ps t statics) fault
-Tells ps t statics (Err Memory) = Unit {0}
+abbrev pub TellsPools : List PackageRecord → ClassTable → List StaticRec → Result (List (List Member)) LinkEnd → Type 0
+TellsPools ps t statics (Ok found) = (found ≡ pools ps t statics) × (missing_members ps t statics ≡ [])
+TellsPools ps t statics (Err (Fault fault)) = IsLeast link_place (missing_members ps t statics) fault
+TellsPools ps t statics (Err Memory) = Unit {0}

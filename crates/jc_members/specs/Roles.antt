@@ -31,6 +31,6 @@ IsRoleFault t methods (RoleAbstract k) = IsFirstAbstract t methods k
 IsRoleFault t methods other = ⊥
 
 -- each class that the machine throws is concrete; or the first role is named whose class is not
-abbrev pub Tells : ClassTable → List MethodRec → Result (Unit {0}) LinkFault → Type 0
-Tells t methods (Ok done) = (k : ℕ) → 2 ≤ k → k < 8 → IsConcrete t methods (slice_index t.roles k)
-Tells t methods (Err fault) = IsRoleFault t methods fault
+abbrev pub TellsRoles : ClassTable → List MethodRec → Result (Unit {0}) LinkFault → Type 0
+TellsRoles t methods (Ok done) = (k : ℕ) → 2 ≤ k → k < 8 → IsConcrete t methods (slice_index t.roles k)
+TellsRoles t methods (Err fault) = IsRoleFault t methods fault

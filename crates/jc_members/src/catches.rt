@@ -7,7 +7,7 @@ ghost use Rattle.jc_resolve.specs.Fault.{link_place};
 ghost use Rattle.first_fault.specs.Least.{least_from, least_of, refused};
 ghost use Rattle.jc_members.specs.Catches.{class_caught, class_caught_by, thrown_by, catches_throwable, handlers_from, handler_places, catch_fault};
 
-use cap_method::{HandlerInfo, Handlers};
+use cap_method::{HandlerEntries, HandlerInfo};
 use cap_pool::{Pool, PoolReference};
 use jc_base::{Classes, Ty, below};
 use jc_resolve::{LinkFault, Names, lesser, refuse};
@@ -96,7 +96,7 @@ fn handlers_catch(
     classes: &Classes,
     package: u16,
     pool: &Pool<'_>,
-    handlers: Handlers<'_>,
+    handlers: HandlerEntries<'_>,
     least: Option<LinkFault>,
 ) -> Option<LinkFault>
     requires count { length classes.now.records ≡ length (numbered_classes names.now.packages) }

@@ -11,7 +11,7 @@ ghost use Rattle.jc_members.specs.Fields.{HasCellsOf, field_sites};
 ghost use Rattle.jc_members.specs.Sites.{all_entered};
 ghost use Rattle.jc_members.specs.Members.{static_sites, member_referred, member_of};
 ghost use Rattle.jc_members.specs.Naming.{NamesEach};
-ghost use Rattle.jc_members.specs.Pools.{places_from, pool_places, member_fault, pools, pools_of, Tells};
+ghost use Rattle.jc_members.specs.Pools.{places_from, pool_places, member_fault, pools, pools_of, TellsPools};
 
 use crate::entries::{call_member, class_member, static_member, super_member, virtual_member};
 use crate::fields::{field_member, field_sites};
@@ -235,7 +235,7 @@ pub fn members(
     requires linked { AreLinkedClasses (length names.now.packages) classes.now names.now.methods }
     ensures value { IsDue (pools_of names.now.packages classes.now statics.now) result }
     // The pools exactly where each entry has one member; else the least entry that does not.
-    ensures tells { Tells names.now.packages classes.now statics.now result }
+    ensures tells { TellsPools names.now.packages classes.now statics.now result }
     // Each entry names one member, which the pools have; the entry that is told names none.
     ensures names { NamesEach names.now.packages classes.now statics.now result }
     // What is named is there.

@@ -2,7 +2,7 @@ ghost use Rattle.std.specs.Prelude.{◌≡◌, ◌<◌, ℕ, length, slice_index
 ghost use Rattle.jc_base.specs.Linked.{AreLinkedClasses};
 ghost use Rattle.jc_resolve.specs.Fault.{link_place};
 ghost use Rattle.first_fault.specs.Least.{least_of, refused};
-ghost use Rattle.jc_members.specs.Roles.{Tells, role_fault, thrown_roles};
+ghost use Rattle.jc_members.specs.Roles.{TellsRoles, role_fault, thrown_roles};
 
 use jc_base::{Classes, Methods, concrete_decides, is_concrete};
 use jc_resolve::{LinkFault, lesser, refuse};
@@ -52,7 +52,7 @@ pub fn roles_fit(classes: &Classes, methods: &Methods) -> Result<(), LinkFault>
     requires links { AreLinkedClasses 16 classes.now methods.now }
     ensures is { result ≡ refused (least_of link_place (role_fault classes.now methods.now) thrown_roles) }
     // Each of them is concrete; or the first role is named whose class is not.
-    ensures tells { Tells classes.now methods.now result }
+    ensures tells { TellsRoles classes.now methods.now result }
 {
     concrete_decides();
     refuse(least_abstract(classes, methods))

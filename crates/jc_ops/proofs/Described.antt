@@ -3,7 +3,7 @@ use Rattle.std.proofs.Common.{◌≡◌, ℕ, suc, ◌+◌, ◌-◌, ◌<◌, �
 use Rattle.std.specs.Option.{option_to_list}
 use Rattle.std.specs.List.{range_with_len}
 use Rattle.jc_base.specs.declared.record.MethodRec.{MethodRec}
-use Rattle.jc_ops.specs.Resolve.{only, is_described, passes}
+use Rattle.jc_ops.specs.Resolve.{only, is_described, passes_test}
 
 -- what is found up to n, with what is found from n on, is what is found in all
 abbrev pub Finds : (ℕ → Bool) → ℕ → Option ℕ → ℕ → Type 0
@@ -35,5 +35,5 @@ pub Finds-start : (p : ℕ → Bool) (len : ℕ) → Finds p len None 0
 Finds-start p len = let e : len - 0 ≡ len = omega arith in ap (λ k. only (filter p (range_with_len 0 k))) e
 
 -- the test of a method that was read
-pub passes-read : (methods : List MethodRec) (c token n : ℕ) (m : MethodRec) (b : Bool) → slice_get methods n ≡ Some m → b ≡ is_described c token m → passes (is_described c token) (slice_get methods n) ≡ b
-passes-read methods c token n m b e r = ap (passes (is_described c token)) e ∙ sym r
+pub passes-read : (methods : List MethodRec) (c token n : ℕ) (m : MethodRec) (b : Bool) → slice_get methods n ≡ Some m → b ≡ is_described c token m → passes_test (is_described c token) (slice_get methods n) ≡ b
+passes-read methods c token n m b e r = ap (passes_test (is_described c token)) e ∙ sym r

@@ -34,7 +34,7 @@ use Rattle.jc_ops.specs.declared.row.Invocation.TheVariants as invocations
 use Rattle.jc_ops.specs.declared.row.Row.{Row}
 use Rattle.jc_ops.specs.declared.row.Row.TheVariants as rows
 use Rattle.jc_ops.specs.Row.{table, row_at, unused, by_sort, by_width, by_kind, first_four, by_register, literals, binaries, orders_all, branching}
-use Rattle.jc_ops.specs.Resolve.{byte_of, short_of, taken_if, on, same_kind, static_field, instance_field, callee_if, entry_callee, virtual_callee, own_receiver, special_callee, static_callee, is_described, passes, described, only, described_callee, interface_callee, callee, class_type, array_of, tested_type, returns, returned, result_type, result_returned, new_object, resolved, Resolves}
+use Rattle.jc_ops.specs.Resolve.{byte_of, short_of, taken_if, on, same_kind, static_field, instance_field, callee_if, entry_callee, virtual_callee, own_receiver, special_callee, static_callee, is_described, passes_test, described, only, described_callee, interface_callee, callee, class_type, array_of, tested_type, returns, returned, result_type, result_returned, new_object, resolved, Resolves}
 use Rattle.jc_ops.specs.Sound.{IsKnownWant, IsStaticOf, IsFieldOf, IsReceiverOf, IsCalleeOf, IsNamedType, IsResult, IsSound, OperationsAreSound}
 use Rattle.jc_ops.proofs.Members.{argument_room, entry-inherits, super-inherits, static-known, cells-declared}
 
@@ -115,8 +115,8 @@ only-passes p xs n h = at (filter p xs) refl h
 described-is : (methods : List MethodRec) (c token n : ℕ) (m : MethodRec) → only (described methods c token) ≡ Some n → slice_get methods n ≡ Some m → (m.class ≡ c) × (m.token ≡ token)
 unfolding described
 described-is methods c token n m h e =
-    let p : passes (is_described c token) (slice_get methods n) ≡ true = only-passes (λ n. passes (is_described c token) (slice_get methods n)) (range_with_len 0 (length methods)) n h in
-    let q : is_described c token m ≡ true = subst (λ o. passes (is_described c token) o ≡ true) e p in
+    let p : passes_test (is_described c token) (slice_get methods n) ≡ true = only-passes (λ n. passes_test (is_described c token) (slice_get methods n)) (range_with_len 0 (length methods)) n h in
+    let q : is_described c token m ≡ true = subst (λ o. passes_test (is_described c token) o ≡ true) e p in
     let r = and_parts (m.class == c) (m.token == token) q in
     (eqb-true m.class c r.0, eqb-true m.token token r.1)
 

@@ -119,13 +119,13 @@ static_callee w pool _ = Err (BadMember pool)
 abbrev pub is_described : ℕ → ℕ → MethodRec → Bool
 is_described c token m = m.class == c && m.token == token
 
-abbrev pub passes : {X : Type 0} → (X → Bool) → Option X → Bool
-passes test (Some x) = test x
-passes test None = false
+abbrev pub passes_test : {X : Type 0} → (X → Bool) → Option X → Bool
+passes_test test (Some x) = test x
+passes_test test None = false
 
 -- the numbers of the methods that the interface describes under the token
 unfoldable pub described : List MethodRec → ℕ → ℕ → List ℕ
-described methods c token = filter (λ n. passes (is_described c token) (slice_get methods n)) (range_with_len 0 (length methods))
+described methods c token = filter (λ n. passes_test (is_described c token) (slice_get methods n)) (range_with_len 0 (length methods))
 
 -- the only one of a list
 abbrev pub only : List ℕ → Option ℕ

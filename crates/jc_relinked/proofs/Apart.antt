@@ -13,7 +13,7 @@ use Rattle.jc_base.specs.declared.record.Sig.{Sig}
 use Rattle.jc_decode.specs.declared.symbols.Laid.{Laid}
 use Rattle.jc_resolve.specs.Numbering.{NumberedMethod, methods_of_classes, methods_after, numbered_methods}
 use Rattle.jc_resolve.specs.References.{class_named}
-use Rattle.jc_resolve.specs.WorldTypes.{signature_in, signature_of}
+use Rattle.jc_resolve.specs.WorldTypes.{signature_in, declared_signature}
 use Rattle.jc_resolve.specs.NamedMethods.{is_init, no_body, body_by, body_of, class_described, have_headers, named_method, named_methods}
 use Rattle.cap_rewritten.specs.Rewritten.{IsRewritten}
 use Rattle.cap_rewritten.proofs.Lists.{Each}
@@ -92,14 +92,14 @@ module _ (parts new_parts : List Lent) (ps : List PackageRecord) (p q : PackageR
       by true e = abstract_bodies was was (slice_index roles 1) k p q t.old t.new sig sig'
           (abstract_stays was roles k p q laid t (i.told (of_class was k p t.old_class e)) i may)
 
-  signature_stays : (object k : ℕ) (t : Twin) → IsKnownTwin p q laid t → signature_of was object k q.description t.new.type_offset
-      ≡ signature_of was object k p.description t.old.type_offset
-  unfolding signature_of
+  signature_stays : (object k : ℕ) (t : Twin) → IsKnownTwin p q laid t → declared_signature was object k q.description t.new.type_offset
+      ≡ declared_signature was object k p.description t.old.type_offset
+  unfolding declared_signature
   signature_stays object k t i =
       let offset : t.new.type_offset ≡ t.old.type_offset = ap (λ (m : MethodDescriptor). m.type_offset) i.bare in
       ap (λ o. signature_in was object k (or_none o)) (same_types_named (names_interface p.classes) p.description q.description
       t.new.type_offset r.description)
-      ∙ ap (signature_of was object k p.description) offset
+      ∙ ap (declared_signature was object k p.description) offset
 
   class_stays : (k : ℕ) (t : Twin) → IsKnownTwin p q laid t → class_described was k t.new_class ≡ class_described was k t.old_class
   unfolding class_described
@@ -110,8 +110,8 @@ module _ (parts new_parts : List Lent) (ps : List PackageRecord) (p q : PackageR
   unfolding named_method
   old_apart k t i may =
       let throwable = slice_index roles 1 in
-      let new_sig = signature_of was (slice_index roles 0) k q.description t.new.type_offset in
-      let sig = signature_of was (slice_index roles 0) k p.description t.old.type_offset in
+      let new_sig = declared_signature was (slice_index roles 0) k q.description t.new.type_offset in
+      let sig = declared_signature was (slice_index roles 0) k p.description t.old.type_offset in
       let class = class_described was k t.old_class in
       ap (λ b. told k t.class_no t.method_no t.new (class_described was k t.new_class) new_sig
       (body_of was throwable k q t.new new_sig b).is_abstract) (twin_headers was k p q laid t r i)

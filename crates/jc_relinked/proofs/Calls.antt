@@ -27,7 +27,7 @@ use Rattle.jc_members.specs.Members.{call_member, member_of}
 use Rattle.jc_resolve.specs.declared.place.RecordPlace.{RecordPlace}
 use Rattle.jc_resolve.specs.Numbering.{NumberedMethod, methods_of_class, methods_of_classes, methods_after, numbered_methods, place_of_method, method_places, is_at, is_placed, method_at}
 use Rattle.cap_rewritten.specs.Changes.{Change, changes, now_at}
-use Rattle.cap_rewritten.specs.Written.{IsWritten}
+use Rattle.cap_rewritten.specs.Written.{IsMethodWritten}
 use Rattle.cap_rewritten.specs.Rewritten.{IsRewritten}
 use Rattle.cap_rewritten.proofs.Lists.{Each, Has, each_at}
 use Rattle.cap_rewritten.proofs.Agreed.{agrees}
@@ -179,7 +179,7 @@ module _ (parts : List Lent) (ps : List PackageRecord) (p q : PackageRecord) (la
   low_offset : (c : Change) → Has (changes p laid q) c → c.now.method_offset < 65536
   low_offset c h =
       let cs = changes p laid q in
-      let ends = ends_inside p q cs c (each_at (IsWritten p q cs) cs c (all_written p q laid r) h) h r.long in
+      let ends = ends_inside p q cs c (each_at (IsMethodWritten p q cs) cs c (all_written p q laid r) h) h r.long in
       let size = sizes_end q.methods.info c.now in
       omega (arith, ends, size, short)
 

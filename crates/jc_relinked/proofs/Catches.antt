@@ -18,13 +18,13 @@ use Rattle.cap_renewal.proofs.RenewedEntries.{asked-same}
 use Rattle.jc_base.specs.declared.record.Handler.{Handler}
 use Rattle.jc_base.specs.Class.{ClassTable}
 use Rattle.jc_base.proofs.Eaching.{Each-from_All}
-use Rattle.jc_decode.specs.declared.symbols.Handler.{Handler as Laying}
+use Rattle.jc_decode.specs.declared.symbols.LaidHandler.{LaidHandler as Laying}
 use Rattle.jc_decode.specs.declared.symbols.Laid.{Laid}
 use Rattle.jc_members.specs.Catches.{class_caught, class_caught_by, thrown_by, catches_throwable, HandlerPlace, handlers_from, handlers_after, catch_fault, bad_catches}
 use Rattle.jc_resolve.specs.declared.fault.LinkFault.TheVariants.{BadCatch}
 use Rattle.jc_resolve.specs.NamedMethods.{handler_named}
 use Rattle.cap_rewritten.specs.Changes.{Change, changes, now_at}
-use Rattle.cap_rewritten.specs.Written.{IsAs, IsWritten, handlers_in, block_of}
+use Rattle.cap_rewritten.specs.Written.{IsAs, IsMethodWritten, handlers_in, block_of}
 use Rattle.cap_rewritten.specs.Rewritten.{IsRewritten}
 use Rattle.cap_rewritten.proofs.Lists.{Each, each_at, none_each, each_none, append_none, faults_append}
 use Rattle.cap_rewritten.proofs.Owners.{below, owned}
@@ -160,7 +160,7 @@ module _ (ps : List PackageRecord) (p q : PackageRecord) (laid : List (Option La
         let less = slice_get_within q.methods.handlers n h g in
         let o = owned handlers_in block cs n (all_blocks parts p q laid (agrees parts p s.agree) r)
         (omega (arith, less, r.handlers)) in
-        let w = each_at (IsWritten p q cs) cs o.owner (all_written p q laid r) o.has in
+        let w = each_at (IsMethodWritten p q cs) cs o.owner (all_written p q laid r) o.has in
         catches_renewed (length ps) h.index ∙ owner_catches o.owner n h o.owner.source.laid w.is w.index
         (each_at LaidCatch cs o.owner all o.has) g o.low o.high)
 

@@ -15,10 +15,10 @@ use Rattle.jc_base.specs.declared.record.MethodRec.{MethodRec}
 use Rattle.jc_base.specs.declared.record.Sig.{Sig}
 use Rattle.jc_decode.specs.declared.symbols.Laid.{Laid}
 use Rattle.jc_resolve.specs.References.{class_named}
-use Rattle.jc_resolve.specs.WorldTypes.{signature_of}
+use Rattle.jc_resolve.specs.WorldTypes.{declared_signature}
 use Rattle.jc_resolve.specs.NamedMethods.{offset_in_info, body_after, body_by, class_described, is_class, have_headers, method_with, named_method}
 use Rattle.cap_rewritten.specs.Changes.{Change, sources, changes, changes_of}
-use Rattle.cap_rewritten.specs.Written.{IsAs, IsWritten}
+use Rattle.cap_rewritten.specs.Written.{IsAs, IsMethodWritten}
 use Rattle.cap_rewritten.specs.Rewritten.{IsRewritten}
 use Rattle.cap_rewritten.proofs.Lists.{Each, Has, each_at, each_of, map_each, none_each}
 use Rattle.cap_rewritten.proofs.Agreed.{agrees}
@@ -35,7 +35,7 @@ use Rattle.jc_relinked.proofs.Twins.{Twin, before_in, change_of, Told, IsTwin, O
 
 pub record IsKnown (p q : PackageRecord) (all : List Change) (c : Change) : Type 0 where
   pub has : Has all c
-  pub written : IsWritten p q all c
+  pub written : IsMethodWritten p q all c
   pub was : WasWell p c.source.method
   pub well : WasWell q c.now
   pub abstract : abstract_fault p.methods.info c.source.method ≡ None
@@ -53,7 +53,7 @@ all_known parts new_parts p q laid s t r =
     (none_each (abstract_fault p.methods.info) (described_methods p) a.bare) in
     each_of (IsKnown p q cs) cs (λ c h. record {
       has = h;
-      written = each_at (IsWritten p q cs) cs c written h;
+      written = each_at (IsMethodWritten p q cs) cs c written h;
       was = each_at (λ (x : Change). WasWell p x.source.method) cs c was h;
       well = each_at (λ (x : Change). WasWell q x.now) cs c well h;
       abstract = each_at (λ (x : Change). abstract_fault p.methods.info x.source.method ≡ None) cs c bare h;
@@ -128,7 +128,7 @@ pub record HadCode
     pub concrete : is_abstract known.was.header ≡ false
     pub is : named_method ps roles (before_in k p t)
         ≡ method_with (before_in k p t) (class_described ps k t.old_class)
-        (signature_of ps (slice_index roles 0) k p.description t.old.type_offset)
+        (declared_signature ps (slice_index roles 0) k p.description t.old.type_offset)
         (body_after ps (slice_index roles 1) k p t.old known.was.header
         (offset_in_info (t.old.method_offset + known.was.header.size)))
 

@@ -27,7 +27,7 @@ use Rattle.jc_members.specs.Members.{class_member, proper_by, proper_referred, v
 use Rattle.jc_resolve.specs.declared.place.RecordPlace.{RecordPlace}
 use Rattle.jc_resolve.specs.NamedClasses.{describes, token_of}
 use Rattle.jc_resolve.specs.Numbering.{method_at}
-use Rattle.jc_resolve.specs.References.{meets, import_of, met_by, class_referred}
+use Rattle.jc_resolve.specs.References.{meets_import, import_of, met_by, class_referred}
 use Rattle.jc_resolve.specs.WorldTypes.{kind_of}
 use Rattle.jc_resolve.proofs.NumberLaws.{position_below}
 use Rattle.cap_rewritten.specs.Changes.{changes, now_at}
@@ -148,10 +148,10 @@ module _ (ps : List PackageRecord) (p q : PackageRecord) (laid : List (Option La
   unfolding met_by
   met_earlier k token j le e = by (import_of old k token) e
     where
-      by : (o : Option _) → option_and_then (λ asked. position (meets asked) (take k old)) o ≡ Some j → j < length ps
+      by : (o : Option _) → option_and_then (λ asked. position (meets_import asked) (take k old)) o ≡ Some j → j < length ps
       by None f = absurd cc
       by (Some asked) f =
-          let below = position_below (meets asked) (take k old) j f in
+          let below = position_below (meets_import asked) (take k old) j f in
           let long = length-take k old in
           omega (arith, below, long, le)
 

@@ -11,7 +11,7 @@ use Rattle.jc_base.specs.Dispatch.{has_body, has_body_in, all_have_bodies, is_co
 use Rattle.jc_resolve.specs.declared.fault.LinkFault.TheVariants.{Hole, OverrideType, InterfaceType, RoleAbstract}
 use Rattle.jc_resolve.specs.declared.named.NamedClass.{NamedClass}
 use Rattle.jc_hierarchy.specs.Outline.{LineTable}
-use Rattle.jc_classes.specs.Conditions.{class_numbers, DispatchEntry, entries_in, may_stand, hole_fault, Replacement, replacements_in, override_fault, Implementation, implementations_in, serves, serves_all, interface_fault, conditions}
+use Rattle.jc_classes.specs.Conditions.{class_numbers, DispatchEntry, entries_in, may_stand, hole_fault, Replacement, replacements_in, override_fault, Implementation, implementations_in, serves, serves_all, interface_type_fault, conditions}
 use Rattle.jc_classes.specs.Signatures.{entry_method, entry_signature, same_signature}
 use Rattle.jc_members.specs.Roles.{role_fault, thrown_roles, abstract_roles}
 use Rattle.cap_rewritten.proofs.Lists.{faults_same}
@@ -77,8 +77,8 @@ all_bare ms public i =
     (λ (m : MethodRec). not (m.class == i.class) || serves ms public i m) ms
     (λ m. ap (λ b. not (m.class == i.class) || b) (serves_bare ms public i m))
 
-interface_bare : (ms : List MethodRec) (x : Implementation) → interface_fault (bare ms) x ≡ interface_fault ms x
-unfolding interface_fault
+interface_bare : (ms : List MethodRec) (x : Implementation) → interface_type_fault (bare ms) x ≡ interface_type_fault ms x
+unfolding interface_type_fault
 interface_bare ms x = ap (λ b. if b then None else Some (InterfaceType x.class x.iface.class)) (all_bare ms x.public x.iface)
 
 classes_bare : (t : LineTable) (cs : List NamedClass) (ms : List MethodRec) → conditions t cs (bare ms) ≡ conditions t cs ms
@@ -87,7 +87,7 @@ classes_bare t cs ms =
     (hole_bare t ms) in
     let b = faults_same (override_fault (bare ms)) (override_fault ms) (flat_map (replacements_in t cs) (class_numbers cs))
     (override_bare ms) in
-    let c = faults_same (interface_fault (bare ms)) (interface_fault ms) (flat_map (implementations_in t cs) (class_numbers cs))
+    let c = faults_same (interface_type_fault (bare ms)) (interface_type_fault ms) (flat_map (implementations_in t cs) (class_numbers cs))
     (interface_bare ms) in
     rw (a, b, c) refl
 

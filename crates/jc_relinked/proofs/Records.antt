@@ -17,7 +17,7 @@ use Rattle.jc_base.specs.declared.ty.Ty.TheVariants.{IntHigh, IntLow}
 use Rattle.jc_decode.specs.declared.symbols.Laid.{Laid}
 use Rattle.jc_resolve.specs.Numbering.{NumberedMethod, numbered_method, is_placed}
 use Rattle.jc_resolve.specs.References.{class_named}
-use Rattle.jc_resolve.specs.WorldTypes.{cells_of_type, arguments_before, result_after, signature_in, types_named, signature_of}
+use Rattle.jc_resolve.specs.WorldTypes.{cells_of_type, arguments_before, result_after, signature_in, types_named, declared_signature}
 use Rattle.jc_resolve.specs.NamedMethods.{class_or_none, class_in_entry, caught_class, offset_in_info, handler_named, no_body, body_after, body_by, body_of, class_described, is_class, have_headers, method_with, method_as, named_method}
 use Rattle.cap_rewritten.specs.Changes.{changes, now_at}
 use Rattle.cap_rewritten.specs.Rewritten.{IsRewritten}
@@ -55,9 +55,9 @@ module _ (ps : List PackageRecord) (p q : PackageRecord) (laid : List (Option La
       ap (λ as_. record { args = as_; result = result_after now object k t ts }) (arguments_same object k t ts)
       ∙ ap (λ o. record { args = arguments_before was object k t ts; result = o }) (result_same object k t ts)
 
-  signature_same : (object k : ℕ) (d : Description) (offset : ℕ) → signature_of now object k d offset
-      ≡ signature_of was object k d offset
-  unfolding signature_of
+  signature_same : (object k : ℕ) (d : Description) (offset : ℕ) → declared_signature now object k d offset
+      ≡ declared_signature was object k d offset
+  unfolding declared_signature
   signature_same object k d offset = signatures_same object k (types_named d offset)
 
   -- ---- handlers, headers and code
@@ -124,7 +124,7 @@ module _ (ps : List PackageRecord) (p q : PackageRecord) (laid : List (Option La
   unfolding named_method
   named_method_same roles m =
       let throwable = slice_index roles 1 in
-      let sig = signature_of was (slice_index roles 0) m.home m.of_package.description m.record_of.type_offset in
+      let sig = declared_signature was (slice_index roles 0) m.home m.of_package.description m.record_of.type_offset in
       let class = class_described was m.home m.class in
       ap (method_as now throwable m) (signature_same (slice_index roles 0) m.home m.of_package.description m.record_of.type_offset)
       ∙ ap (λ c. method_with m c sig (body_of now throwable m.home m.of_package m.record_of sig
@@ -142,12 +142,12 @@ pub with_header : (ps : List PackageRecord) (roles : List ℕ) (k : ℕ) (x : Pa
     → header_in x.methods.info m.method_offset ≡ Some h
     → named_method ps roles (numbered_method k x i c j m)
     ≡ method_with (numbered_method k x i c j m) (class_described ps k c)
-    (signature_of ps (slice_index roles 0) k x.description m.type_offset)
+    (declared_signature ps (slice_index roles 0) k x.description m.type_offset)
     (body_after ps (slice_index roles 1) k x m h (offset_in_info (m.method_offset + h.size)))
 unfolding named_method body_of
 with_header ps roles k x i c j m h headers there =
     let throwable = slice_index roles 1 in
-    let sig = signature_of ps (slice_index roles 0) k x.description m.type_offset in
+    let sig = declared_signature ps (slice_index roles 0) k x.description m.type_offset in
     let class = class_described ps k c in
     ap (λ b. method_with (numbered_method k x i c j m) class sig (if b then body_by ps throwable k x m sig
     (header_in x.methods.info m.method_offset) else no_body m.flags sig)) headers
@@ -157,12 +157,12 @@ pub without_header : (ps : List PackageRecord) (roles : List ℕ) (k : ℕ) (x :
     → have_headers ps k x c ≡ false
     → named_method ps roles (numbered_method k x i c j m)
     ≡ method_with (numbered_method k x i c j m) (class_described ps k c)
-    (signature_of ps (slice_index roles 0) k x.description m.type_offset)
-    (no_body m.flags (signature_of ps (slice_index roles 0) k x.description m.type_offset))
+    (declared_signature ps (slice_index roles 0) k x.description m.type_offset)
+    (no_body m.flags (declared_signature ps (slice_index roles 0) k x.description m.type_offset))
 unfolding named_method body_of
 without_header ps roles k x i c j m headers =
     let throwable = slice_index roles 1 in
-    let sig = signature_of ps (slice_index roles 0) k x.description m.type_offset in
+    let sig = declared_signature ps (slice_index roles 0) k x.description m.type_offset in
     let class = class_described ps k c in
     ap (λ b. method_with (numbered_method k x i c j m) class sig (if b then body_by ps throwable k x m sig
     (header_in x.methods.info m.method_offset) else no_body m.flags sig)) headers

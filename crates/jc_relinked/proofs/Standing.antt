@@ -10,7 +10,8 @@ use Rattle.cap_method.specs.declared.handler.HandlerInfo.{HandlerInfo}
 use Rattle.cap_method.specs.MethodFormat.{Header}
 use Rattle.cap_pool.specs.PoolFormat.{Entry}
 use Rattle.cap_renewal.proofs.RenewedEntries.{asked-same}
-use Rattle.cap_package.specs.HandlerChecks.{claims, owners, is_within, has_home, handler_fault, numbered, numbered_fault}
+use Rattle.cap_package.specs.HandlerChecks.{claims, owners, is_within, has_home, handler_fault, numbered_fault}
+use Rattle.std.specs.List.{enumerate_from}
 use Rattle.cap_package.specs.PackageRecord.{PackageRecord, names_interface, described_methods, handlers_of}
 use Rattle.cap_package.specs.Parts.{Lent}
 use Rattle.cap_package.specs.StandsFor.{StandsFor}
@@ -28,7 +29,7 @@ use Rattle.jc_base.specs.World as world
 use Rattle.jc_base.proofs.Lists.{slice_get-farther}
 use Rattle.jc_base.proofs.Eaching.{Each-from_All}
 use Rattle.jc_control.specs.Method.{method_with}
-use Rattle.jc_decode.specs.declared.symbols.Handler.{Handler as Laying}
+use Rattle.jc_decode.specs.declared.symbols.LaidHandler.{LaidHandler as Laying}
 use Rattle.jc_decode.specs.declared.symbols.Laid.{Laid}
 use Rattle.jc_resolve.specs.Named.{infos_of}
 use Rattle.jc_resolve.specs.Numbering.{numbered_methods}
@@ -50,7 +51,7 @@ use Rattle.jc_resolve.proofs.Pairwise.{each-at}
 use Rattle.cap_rewritten.proofs.Kept.{map_twice}
 use Rattle.cap_rewritten.proofs.FromWriting.{map_same}
 use Rattle.jc_rewritten.specs.Last.{and_last}
-use Rattle.jc_relinked.specs.Replaced.{HasPoolOf, EachMayReplace, AreMethodsOf, MethodsStand}
+use Rattle.jc_relinked.specs.Replaced.{HasPoolOf, EachMayReplace, AreMethodsOf, MethodsAreReplaced}
 use Rattle.jc_relinked.proofs.Elements.{get_front, taken_below}
 use Rattle.jc_rewritten.proofs.Lists.{get_each}
 use Rattle.jc_relinked.proofs.Records.{caught_same, headers_same, named_method_same, with_header, without_header}
@@ -87,7 +88,7 @@ twin_at f (t ∷ ts) (suc n) r l e g = let a = twin_at f ts n r l e g in
 
 -- ---- handlers lie in the code of their method
 
-numbered_get : {X : Type 0} (P : ℕ × X → Type 0) (n : ℕ) (xs : List X) (i : ℕ) (x : X) → Each P (numbered n xs)
+numbered_get : {X : Type 0} (P : ℕ × X → Type 0) (n : ℕ) (xs : List X) (i : ℕ) (x : X) → Each P (enumerate_from n xs)
     → slice_get xs i ≡ Some x → P (n + i, x)
 numbered_get P n [] i x h e = absurd cc
 numbered_get P n (y ∷ xs) zero x h e =
@@ -129,7 +130,7 @@ pub handlers_end : (parts : List Lent) (q : PackageRecord) (m : MethodDescriptor
 handlers_end parts q m a has =
     let info = q.methods.info in
     let both = both_empty _ _ a.handlers in
-    let each = none_each (numbered_fault info (described_methods q)) (numbered 0 q.methods.handlers) both.0 in
+    let each = none_each (numbered_fault info (described_methods q)) (enumerate_from 0 q.methods.handlers) both.0 in
     get_each (λ (h : HandlerInfo). h.start + h.length ≤ code_end info m) (handlers_of q m) (λ j h e.
     let less = taken_below m.handler_count j (drop m.handler_index q.methods.handlers) h e in
     let there : slice_get q.methods.handlers (m.handler_index + j) ≡ Some h =
@@ -311,7 +312,7 @@ module _ (parts new_parts : List Lent) (ps : List PackageRecord) (p q : PackageR
   -- ---- all methods
 
   pub stands : (w new : Linked) (before own : List MethodRec) → IsLinked old roles w → IsLinked now roles new
-      → AreMethodsOf w before own → EachMayReplace own laid → MethodsStand before own laid w new
+      → AreMethodsOf w before own → EachMayReplace own laid → MethodsAreReplaced before own laid w new
   stands w new before own l n parted may =
       let named_old = named_method old roles in
       let named_now = named_method now roles in

@@ -10,7 +10,7 @@ use Rattle.jc_link.specs.World.{IsLinked}
 use Rattle.cap_rewritten.specs.Rewritten.{IsRewritten}
 use Rattle.jc_rewritten.specs.Last.{and_last}
 use Rattle.xf_landed.specs.Apart.{IsSameBut}
-use Rattle.jc_relinked.specs.Replaced.{AreMethodsOf, EachMayReplace, MethodsStand}
+use Rattle.jc_relinked.specs.Replaced.{AreMethodsOf, EachMayReplace, MethodsAreReplaced}
 
 -- the packages with a last one that is written anew make a world too, which is the former one but for code
 pub record LinksAgain (ps : List PackageRecord) (q : PackageRecord) (roles : List ℕ) (w : Linked) : Type 0 where
@@ -42,4 +42,4 @@ LaidMethodsStand =
     → IsLinked (and_last ps q) roles new
     → AreMethodsOf w before own
     → EachMayReplace own laid
-    → MethodsStand before own laid w new
+    → MethodsAreReplaced before own laid w new

@@ -5,7 +5,7 @@ use Rattle.jc_base.specs.declared.record.Handler.{Handler}
 use Rattle.jc_base.specs.declared.record.MethodRec.{MethodRec}
 use Rattle.jc_base.specs.World.{Linked}
 use Rattle.jc_control.specs.Method.{method_in}
-use Rattle.jc_decode.specs.declared.symbols.Handler.{Handler as Laying}
+use Rattle.jc_decode.specs.declared.symbols.LaidHandler.{LaidHandler as Laying}
 use Rattle.jc_decode.specs.declared.symbols.Laid.{Laid}
 use Rattle.xf_landed.specs.Laid.{HasLaid}
 
@@ -46,7 +46,7 @@ third_is_known = (1, record { start = 0; end = 9; entry = 5; index = 3; class = 
 -- ---- after
 
 -- the methods of the new world by number, where `before` and `own` are those of the former one
-pub record MethodsStand (before own : List MethodRec) (laid : List (Option Laid)) (w new : Linked) : Type 0 where
+pub record MethodsAreReplaced (before own : List MethodRec) (laid : List (Option Laid)) (w new : Linked) : Type 0 where
   -- those of the packages before the last have their records and their code
   pub earlier : (n : ℕ) → n < length before → method_in new n ≡ method_in w n
   -- those of the last one have the code that is laid, where its handlers have pool numbers of the method's handlers

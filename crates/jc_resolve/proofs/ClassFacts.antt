@@ -19,8 +19,8 @@ use Rattle.cap_package.specs.PackageRecord.{PackageRecord}
 use Rattle.cap_desc.specs.declared.type_item.TypeItem.{TypeItem}
 use Rattle.jc_resolve.specs.declared.named.NamedClass.{NamedClass}
 use Rattle.jc_resolve.specs.declared.place.RecordPlace.{RecordPlace}
-use Rattle.jc_resolve.specs.Numbering.{NumberedClass, numbered_class, classes_of, classes_after, numbered_classes, numbered_methods, same_place, place_of_class, class_places, class_at, method_at}
-use Rattle.jc_resolve.specs.References.{meets, met_by, import_of, class_named, Refers, internal, imported}
+use Rattle.jc_resolve.specs.Numbering.{NumberedClass, numbered_class, numbered_classes_of, classes_after, numbered_classes, numbered_methods, same_place, place_of_class, class_places, class_at, method_at}
+use Rattle.jc_resolve.specs.References.{meets_import, met_by, import_of, class_named, Refers, internal, imported}
 use Rattle.jc_resolve.specs.NamedClasses.{by_token, cells_by, cells_of_field, cells_of_fields, instance_fields, dispatch_entry, dispatch_table, interface_named, implemented_interfaces, parent_named, named_interface, named_proper, named_class, named_classes}
 use Rattle.jc_resolve.specs.Named.{package_by, package_of, IsDeclared, AreEntries, IsSized, IsNamedClass}
 use Rattle.jc_resolve.proofs.NumberLaws.{same-equal, position_below, method_below}
@@ -32,7 +32,7 @@ use Rattle.jc_resolve.proofs.DeclaredTypes.{either, named-length, named_below, c
 homes_after : (n k : ℕ) (ps : List PackageRecord) → k + length ps ≤ n → All (λ (c : NumberedClass). c.home < n) (classes_after k ps)
 homes_after n k [] le = All-nil (λ (c : NumberedClass). c.home < n)
 homes_after n k (p ∷ ps) le =
-    All-append (λ (c : NumberedClass). c.home < n) (classes_of k p) (classes_after (k + 1) ps)
+    All-append (λ (c : NumberedClass). c.home < n) (numbered_classes_of k p) (classes_after (k + 1) ps)
     (All-map (λ (c : NumberedClass). c.home < n) (numbered_class k p) p.classes (λ i d lt. omega arith))
     (homes_after n (k + 1) ps (omega arith))
 
@@ -65,9 +65,9 @@ package_at ps object place c h =
     ∙ home_by ps object (slice_get (numbered_classes ps) c) f.0 (sym (slice_get-map place_of_class (numbered_classes ps) c) ∙ f.1)
     ∙ ap (λ (q : RecordPlace). q.package) same
 
-met_by_earlier : (ps : List PackageRecord) (k j : ℕ) (o : Option Package) → option_and_then (λ asked. position (meets asked) (take k ps)) o ≡ Some j → j < k
+met_by_earlier : (ps : List PackageRecord) (k j : ℕ) (o : Option Package) → option_and_then (λ asked. position (meets_import asked) (take k ps)) o ≡ Some j → j < k
 met_by_earlier ps k j None h = absurd cc
-met_by_earlier ps k j (Some asked) h = omega (arith, position_below (meets asked) (take k ps) j h, length-take k ps)
+met_by_earlier ps k j (Some asked) h = omega (arith, position_below (meets_import asked) (take k ps) j h, length-take k ps)
 
 met_earlier : (ps : List PackageRecord) (k token j : ℕ) → met_by ps k token ≡ Some j → j < k
 unfolding met_by

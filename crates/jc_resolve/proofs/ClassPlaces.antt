@@ -13,7 +13,7 @@ use Rattle.cap_class.specs.ClassFormat.{Class, record_info, is_after, beyond_fir
 use Rattle.cap_package.specs.PackageRecord.{PackageRecord}
 use Rattle.jc_resolve.specs.declared.place.RecordPlace.{RecordPlace}
 use Rattle.jc_resolve.specs.Named.{IsAgreed}
-use Rattle.jc_resolve.specs.Numbering.{NumberedClass, numbered_class, classes_of, classes_after, numbered_classes, place_of_class, class_places}
+use Rattle.jc_resolve.specs.Numbering.{NumberedClass, numbered_class, numbered_classes_of, classes_after, numbered_classes, place_of_class, class_places}
 use Rattle.jc_resolve.proofs.Pairwise.{each-map, Pairwise, pairwise-append, one-place}
 use Rattle.jc_resolve.proofs.Repeats.{goes_on}
 
@@ -104,7 +104,7 @@ homes_from : (k : ℕ) (ps : List PackageRecord) → Each (λ (c : NumberedClass
 homes_from k [] = tt {0}
 homes_from k (p ∷ ps) =
     let P = λ (c : NumberedClass). k ≤ c.home in
-    Each-append P (classes_of k p) (classes_after (k + 1) ps) (of_one p.classes)
+    Each-append P (numbered_classes_of k p) (classes_after (k + 1) ps) (of_one p.classes)
     (Each-weaker (λ (c : NumberedClass). k + 1 ≤ c.home) P (λ c le. omega arith) (classes_after (k + 1) ps) (homes_from (k + 1) ps))
   where
     of_one : (cs : List Class) → Each (λ (c : NumberedClass). k ≤ c.home) (map (numbered_class k p) cs)
@@ -119,7 +119,7 @@ in_package k p (c ∷ cs) h =
 classes_before : (k : ℕ) (ps : List PackageRecord) → All IsAgreed ps → Pairwise IsBefore (classes_after k ps)
 classes_before k [] agreed = tt {0}
 classes_before k (p ∷ ps) agreed =
-    pairwise-append IsBefore (classes_of k p) (classes_after (k + 1) ps)
+    pairwise-append IsBefore (numbered_classes_of k p) (classes_after (k + 1) ps)
     (in_package k p p.classes (classes_rise p (All-head IsAgreed p ps agreed)))
     (classes_before (k + 1) ps (All-tail IsAgreed p ps agreed))
     (across p.classes)

@@ -16,7 +16,7 @@ use Rattle.jc_resolve.specs.declared.named.NamedClass.{NamedClass}
 use Rattle.jc_resolve.specs.declared.place.RecordPlace.{RecordPlace}
 use Rattle.jc_resolve.specs.Numbering.{NumberedClass, numbered_classes, class_at, flagged_interface, is_interface_number}
 use Rattle.jc_resolve.specs.References.{place_referred, class_referred, class_named}
-use Rattle.jc_resolve.specs.WorldTypes.{class_or_object, type_class, type_of, cells_of_type, arguments_before, result_after, signature_in, types_named, signature_of}
+use Rattle.jc_resolve.specs.WorldTypes.{class_or_object, type_class, type_of, cells_of_type, arguments_before, result_after, signature_in, types_named, declared_signature}
 use Rattle.jc_resolve.specs.NamedClasses.{named_class, named_classes, named_interface, named_proper}
 use Rattle.jc_resolve.specs.Named.{interface_by, is_interface, IsTypeClass, IsDeclared}
 use Rattle.jc_resolve.proofs.NumberLaws.{class_below}
@@ -128,12 +128,12 @@ module _ (ps : List PackageRecord) (object : ℕ) where
   result_in k [] = tt
   result_in k (t ∷ ts) = after_declared k t ts
 
-  pub arguments_declared : (k : ℕ) (d : Description) (offset : ℕ) → All (IsDeclared (named_classes ps object) object) (signature_of ps object k d offset).args
-  unfolding signature_of
+  pub arguments_declared : (k : ℕ) (d : Description) (offset : ℕ) → All (IsDeclared (named_classes ps object) object) (declared_signature ps object k d offset).args
+  unfolding declared_signature
   arguments_declared k d offset = arguments_in k (types_named d offset)
 
-  pub result_declared : (k : ℕ) (d : Description) (offset : ℕ) → IfSome (signature_of ps object k d offset).result (IsDeclared (named_classes ps object) object)
-  unfolding signature_of
+  pub result_declared : (k : ℕ) (d : Description) (offset : ℕ) → IfSome (declared_signature ps object k d offset).result (IsDeclared (named_classes ps object) object)
+  unfolding declared_signature
   result_declared k d offset = result_in k (types_named d offset)
 
   -- ---- whole values
@@ -183,10 +183,10 @@ module _ (ps : List PackageRecord) (object : ℕ) where
   first_in k [] = tt
   first_in k (t ∷ ts) = after_first k t ts
 
-  pub arguments_whole : (k : ℕ) (d : Description) (offset : ℕ) → AreWhole (signature_of ps object k d offset).args
-  unfolding signature_of
+  pub arguments_whole : (k : ℕ) (d : Description) (offset : ℕ) → AreWhole (declared_signature ps object k d offset).args
+  unfolding declared_signature
   arguments_whole k d offset = whole_in k (types_named d offset)
 
-  pub result_first : (k : ℕ) (d : Description) (offset : ℕ) → IfSome (signature_of ps object k d offset).result IsFirstCell
-  unfolding signature_of
+  pub result_first : (k : ℕ) (d : Description) (offset : ℕ) → IfSome (declared_signature ps object k d offset).result IsFirstCell
+  unfolding declared_signature
   result_first k d offset = first_in k (types_named d offset)

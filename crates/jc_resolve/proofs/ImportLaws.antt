@@ -4,7 +4,7 @@ use Rattle.std.proofs.lemmas.Option.{slice_get-map}
 use Rattle.std.proofs.lemmas.List.{length-take}
 use Rattle.cap_frame.specs.PackageFormat.{Package}
 use Rattle.cap_package.specs.PackageRecord.{PackageRecord}
-use Rattle.jc_resolve.specs.References.{meets, import_of, met_by}
+use Rattle.jc_resolve.specs.References.{meets_import, import_of, met_by}
 use Rattle.jc_resolve.proofs.NumberLaws.{position_below}
 use Rattle.jc_resolve.specs.Imports.{first_meeting, imports_after, imports_met, met_among}
 
@@ -44,7 +44,7 @@ met_there ps met k token h =
 earlier_by : (ps : List PackageRecord) (k : ℕ) (asked : Option Package) (o : Option ℕ) → o ≡ option_and_then (first_meeting (take k ps)) asked → IfSome o (λ n. n < k)
 earlier_by ps k asked None h = tt
 earlier_by ps k None (Some n) h = absurd cc
-earlier_by ps k (Some asked) (Some n) h = omega (arith, position_below (meets asked) (take k ps) n (sym h), length-take k ps)
+earlier_by ps k (Some asked) (Some n) h = omega (arith, position_below (meets_import asked) (take k ps) n (sym h), length-take k ps)
 
 -- what meets an import comes before
 pub met_before : (ps : List PackageRecord) (k token : ℕ) (o : Option ℕ) → o ≡ met_by ps k token → IfSome o (λ n. n < k)

@@ -18,7 +18,7 @@ use Rattle.jc_resolve.proofs.Faultless.{IsOneOf}
 use Rattle.jc_resolve.specs.Named.{HandlerLiesIn}
 use Rattle.jc_resolve.specs.NamedMethods.{handler_named, offset_in_info, no_body, body_after, body_by, body_of, is_class, have_headers}
 use Rattle.jc_resolve.specs.References.{class_named}
-use Rattle.jc_resolve.specs.WorldTypes.{signature_of}
+use Rattle.jc_resolve.specs.WorldTypes.{declared_signature}
 use Rattle.jc_resolve.proofs.MethodFacts.{HasWords, IsPlaced, interface-words, is-placed}
 use Rattle.jc_resolve.proofs.NumberedLaws.{from-any, from-class, from-interface}
 use Rattle.jc_resolve.proofs.OwnedHandlers.{LiesIn}
@@ -122,7 +122,7 @@ module _ (ps : List PackageRecord) (throwable k : ℕ) (p : PackageRecord) (m : 
 -- the body of a method of a class that its package describes
 module _ (ps : List PackageRecord) (object throwable k : ℕ) (p : PackageRecord) (c : described.ClassDescriptor) (m : MethodDescriptor) where
   abbrev sig_of : Sig
-  sig_of = signature_of ps object k p.description m.type_offset
+  sig_of = declared_signature ps object k p.description m.type_offset
 
   body_by_place : (interface class : Bool) → names_interface p.classes c.class_ref ≡ interface → StandsFor p.parts p → length p.methods.handlers ≤ 255 → IsOneOf p.description.items.classes c → IsOneOf c.methods m
       → IsBody p.methods.info (length (sig_of).args + receiver_words (is_static m.flags)) class (body_of ps throwable k p m sig_of (not interface && class))
@@ -134,6 +134,6 @@ module _ (ps : List PackageRecord) (object throwable k : ℕ) (p : PackageRecord
       body_else ps throwable k p m sig_of class x (words-counted ps object k p.description m.type_offset x.words x.told)
 
   pub body-known : StandsFor p.parts p → length p.methods.handlers ≤ 255 → IsOneOf p.description.items.classes c → IsOneOf c.methods m
-      → IsBody p.methods.info (length (signature_of ps object k p.description m.type_offset).args + receiver_words (is_static m.flags)) (is_class ps (class_named ps k c.class_ref)) (body_of ps throwable k p m (signature_of ps object k p.description m.type_offset) (have_headers ps k p c))
+      → IsBody p.methods.info (length (declared_signature ps object k p.description m.type_offset).args + receiver_words (is_static m.flags)) (is_class ps (class_named ps k c.class_ref)) (body_of ps throwable k p m (declared_signature ps object k p.description m.type_offset) (have_headers ps k p c))
   unfolding have_headers
   body-known agreed few one of_class = body_by_place (names_interface p.classes c.class_ref) (is_class ps (class_named ps k c.class_ref)) refl agreed few one of_class

@@ -1,7 +1,7 @@
 -- What holds of the methods that the Descriptor of a package describes, since its parts agree.
 use Rattle.std.proofs.Common.{◌≡◌, ℕ, ◌+◌, ◌≤◌, Bool, true, false, not, ◌&&◌, ◌||◌, ltb, eqb, cond, List, [], ◌++◌, length, Option, Some, None, refl, sym, ap, arith}
 use Rattle.std.specs.Prelude.{All, MatchBool}
-use Rattle.std.specs.List.{filter_map}
+use Rattle.std.specs.List.{filter_map, enumerate_from}
 use Rattle.std.proofs.lemmas.Bool.{ltb-false, eqb-true, eqb-false}
 use Rattle.cap_method.specs.MethodFormat.{Header}
 use Rattle.cap_desc.specs.DescriptorFormat.{MethodDescriptor}
@@ -10,7 +10,7 @@ use Rattle.cap_components.specs.declared.count_kind.CountKind.TheVariants.{Argum
 use Rattle.cap_components.specs.declared.fault.PackFault.{PackFault}
 use Rattle.cap_components.specs.declared.fault.PackFault.TheVariants.{MethodLength, CountDisagrees, BadType}
 use Rattle.cap_package.specs.Descriptions.{Description, argument_words}
-use Rattle.cap_package.specs.HandlerChecks.{claim_fault, numbered, numbered_fault}
+use Rattle.cap_package.specs.HandlerChecks.{claim_fault, numbered_fault}
 use Rattle.cap_package.specs.HeaderChecks.{header_in, is_abstract, registers_fault, length_fault, this_words, arguments_fault, abstract_fault}
 use Rattle.cap_package.specs.MethodChecks.{code_start, code_end, outside_fault}
 use Rattle.cap_package.specs.TypeChecks.{method_type_by, method_type_fault, field_type_fault}
@@ -107,10 +107,10 @@ module _ (p : PackageRecord) (agreed : StandsFor p.parts p) where
       let all = agreed.agree.1.1.1.1.1.1.1.1.1.1.1.1.1.1.1.1.1.1.1.0 in
       (both_empty (filter_map (field_type_fault p.description) (fields p) ++ filter_map (method_type_fault p.description 510) (methods_of p.description.items.classes)) (filter_map (method_type_fault p.description 254) (interface_methods p)) all).1
 
-  entries_owned : filter_map (numbered_fault p.methods.info (described_methods p)) (numbered 0 p.methods.handlers) ≡ []
+  entries_owned : filter_map (numbered_fault p.methods.info (described_methods p)) (enumerate_from 0 p.methods.handlers) ≡ []
   entries_owned =
       let all = agreed.agree.1.1.1.1.1.1.1.1.1.1.1.1.1.1.0 in
-      (both_empty (filter_map (numbered_fault p.methods.info (described_methods p)) (numbered 0 p.methods.handlers)) (filter_map (claim_fault (length p.methods.handlers)) (described_methods p)) all).0
+      (both_empty (filter_map (numbered_fault p.methods.info (described_methods p)) (enumerate_from 0 p.methods.handlers)) (filter_map (claim_fault (length p.methods.handlers)) (described_methods p)) all).0
 
   pub interface-words : (m : MethodDescriptor) → IsOneOf (interface_methods p) m → HasWords p.description m 254
   interface-words m one = words_told p.description m 254 (faultless (method_type_fault p.description 254) _ m interface_types one)

@@ -17,7 +17,7 @@ use Rattle.jc_resolve.specs.NamedClasses.{named_classes}
 use Rattle.jc_resolve.specs.NamedMethods.{HasFewHandlers, body_of, class_described, is_class, have_headers, named_method, named_methods}
 use Rattle.jc_resolve.specs.Numbering.{NumberedMethod, numbered_methods, is_interface_number}
 use Rattle.jc_resolve.specs.References.{class_named}
-use Rattle.jc_resolve.specs.WorldTypes.{signature_of}
+use Rattle.jc_resolve.specs.WorldTypes.{declared_signature}
 use Rattle.jc_resolve.proofs.DeclaredTypes.{named-length, interface_numbered, arguments_declared, result_declared, arguments_whole, result_first}
 use Rattle.jc_resolve.proofs.MethodBodies.{IsBody, body-known}
 use Rattle.jc_resolve.proofs.NamedClassLaws.{NamesClass, describes-class, class-described}
@@ -33,7 +33,7 @@ module _ (ps : List PackageRecord) (roles : List ℕ) (m : NumberedMethod) where
   object = slice_index roles 0
 
   abbrev body : Body
-  body = body_of ps (slice_index roles 1) m.home m.of_package m.record_of (signature_of ps object m.home m.of_package.description m.record_of.type_offset) (have_headers ps m.home m.of_package m.class)
+  body = body_of ps (slice_index roles 1) m.home m.of_package m.record_of (declared_signature ps object m.home m.of_package.description m.record_of.type_offset) (have_headers ps m.home m.of_package m.class)
 
   -- a body with code is one of a class
   proper_by : (x : NamesClass ps m.home m.class.class_ref) → is_class ps (class_named ps m.home m.class.class_ref) ≡ true → is_interface (named_classes ps object) (class_described ps m.home m.class) ≡ false
@@ -45,7 +45,7 @@ module _ (ps : List PackageRecord) (roles : List ℕ) (m : NumberedMethod) where
   info_there d = list_at-slice_get (infos_of ps) m.home m.of_package.methods.info (slice_get-map (λ (p : PackageRecord). p.methods.info) ps m.home ∙ ap (option_map (λ (p : PackageRecord). p.methods.info)) d.package)
 
   named_as : IsDescribed ps m → NamesClass ps m.home m.class.class_ref
-      → IsBody m.of_package.methods.info (length (signature_of ps object m.home m.of_package.description m.record_of.type_offset).args + receiver_words (is_static m.record_of.flags)) (is_class ps (class_named ps m.home m.class.class_ref)) (body)
+      → IsBody m.of_package.methods.info (length (declared_signature ps object m.home m.of_package.description m.record_of.type_offset).args + receiver_words (is_static m.record_of.flags)) (is_class ps (class_named ps m.home m.class.class_ref)) (body)
       → IsNamedMethod (infos_of ps) (named_classes ps object) object (named_method ps roles m)
   unfolding named_method
   named_as d x b = record {

@@ -13,7 +13,7 @@ use Rattle.cap_desc.specs.DescriptorFormat as described
 use Rattle.cap_pool.specs.ExportFormat.{Exported}
 use Rattle.cap_package.specs.PackageRecord.{PackageRecord, names_interface}
 use Rattle.jc_resolve.specs.declared.place.RecordPlace.{RecordPlace}
-use Rattle.jc_resolve.specs.Numbering.{NumberedClass, same_place, is_at, classes_of, classes_after, numbered_classes, place_of_class, class_places, class_at, flagged_interface, is_interface_number, is_placed, methods_of_class, methods_of_classes, methods_after, numbered_methods, place_of_method, method_places, method_at}
+use Rattle.jc_resolve.specs.Numbering.{NumberedClass, same_place, is_at, numbered_classes_of, classes_after, numbered_classes, place_of_class, class_places, class_at, flagged_interface, is_interface_number, is_placed, methods_of_class, methods_of_classes, methods_after, numbered_methods, place_of_method, method_places, method_at}
 use Rattle.jc_resolve.specs.Numbers.{Numbered, none_numbered, number_by_place, added_entry, with_next, with_all, spot_of_class, class_spots, interface_flags, spot_of_method, spots_of_classes, method_spots, AreIndexed}
 
 -- ---- places
@@ -85,7 +85,7 @@ spots-are : (k : ℕ) (ps : List PackageRecord) → class_spots k ps ≡ map (λ
 spots-are k [] = refl
 spots-are k (p ∷ ps) =
     ap₂ ◌++◌ (spots_of p.classes) (spots-are (k + 1) ps)
-    ∙ sym (map-append (λ c. Some (place_of_class c)) (classes_of k p) (classes_after (k + 1) ps))
+    ∙ sym (map-append (λ c. Some (place_of_class c)) (numbered_classes_of k p) (classes_after (k + 1) ps))
   where
     spots_of : (cs : List Class) → map (spot_of_class k) cs ≡ map (λ c. Some (place_of_class c)) (map (λ c. record { home = k; of_package = p; record_of = c }) cs)
     spots_of [] = refl
@@ -129,7 +129,7 @@ flags-are : (k : ℕ) (ps : List PackageRecord) → interface_flags ps ≡ map (
 flags-are k [] = refl
 flags-are k (p ∷ ps) =
     ap₂ ◌++◌ (flags_of p.classes) (flags-are (k + 1) ps)
-    ∙ sym (map-append (λ (c : NumberedClass). is_interface c.record_of.flags) (classes_of k p) (classes_after (k + 1) ps))
+    ∙ sym (map-append (λ (c : NumberedClass). is_interface c.record_of.flags) (numbered_classes_of k p) (classes_after (k + 1) ps))
   where
     flags_of : (cs : List Class) → map (λ (c : Class). is_interface c.flags) cs ≡ map (λ (c : NumberedClass). is_interface c.record_of.flags) (map (λ c. record { home = k; of_package = p; record_of = c }) cs)
     flags_of [] = refl

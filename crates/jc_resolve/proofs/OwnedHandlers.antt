@@ -1,7 +1,7 @@
 -- The handlers that a described method names lie in its code, since each entry of the table has one owner.
 use Rattle.std.proofs.Common.{◌≡◌, ℕ, zero, suc, ◌+◌, ◌<◌, ◌≤◌, Bool, true, false, ◌&&◌, ltb, leb, cond, List, [], ◌∷◌, filter, take, drop, Some, None, refl, sym, ap, subst, ◌∙◌, inl, inr, arith}
 use Rattle.std.specs.Prelude.{All, slice_get}
-use Rattle.std.specs.List.{filter_map}
+use Rattle.std.specs.List.{filter_map, enumerate_from}
 use Rattle.std.proofs.lemmas.Bool.{false≢true, ltb-true, leb-true, lt-ltb, le-leb, and_parts, and_from}
 use Rattle.std.proofs.lemmas.List.Elements.{All-nil, All-cons}
 use Rattle.cap_method.specs.declared.handler.HandlerInfo.{HandlerInfo}
@@ -9,7 +9,7 @@ use Rattle.cap_desc.specs.DescriptorFormat.{MethodDescriptor}
 use Rattle.cap_components.specs.declared.fault.PackFault.{PackFault}
 use Rattle.cap_components.specs.declared.fault.PackFault.TheVariants.{HandlerOutside}
 use Rattle.cap_package.specs.MethodChecks.{code_start, code_end}
-use Rattle.cap_package.specs.HandlerChecks.{claims, owners, is_within, has_home, handler_fault, numbered, numbered_fault}
+use Rattle.cap_package.specs.HandlerChecks.{claims, owners, is_within, has_home, handler_fault, numbered_fault}
 use Rattle.jc_resolve.proofs.Faultless.{IsOneOf, faultless}
 
 -- a handler in the code of a method
@@ -65,7 +65,7 @@ claimed_lies info ms m number h e one claim =
 
 -- ---- the entries that a method names
 
-pub entry_numbered : (hs : List HandlerInfo) (n i : ℕ) (h : HandlerInfo) → slice_get hs i ≡ Some h → IsOneOf {F = ℕ × HandlerInfo} (numbered n hs) (n + i, h)
+pub entry_numbered : (hs : List HandlerInfo) (n i : ℕ) (h : HandlerInfo) → slice_get hs i ≡ Some h → IsOneOf {F = ℕ × HandlerInfo} (enumerate_from n hs) (n + i, h)
 entry_numbered [] n i h e = absurd cc
 entry_numbered (g ∷ gs) n zero h e =
     let same : g ≡ h = cc in
@@ -88,10 +88,10 @@ all_taken P (x ∷ xs) zero (suc n) h =
 all_taken P (x ∷ xs) (suc i) n h =
     all_taken P xs i n (λ j y lt e. h j y lt (let same : suc i + j ≡ suc (i + j) = omega arith in rw same e))
 
-pub handlers-lie : (info : List ℕ) (ms : List MethodDescriptor) (hs : List HandlerInfo) (m : MethodDescriptor) → filter_map (numbered_fault info ms) (numbered 0 hs) ≡ [] → IsOneOf ms m → All (LiesIn info m) (take m.handler_count (drop m.handler_index hs))
+pub handlers-lie : (info : List ℕ) (ms : List MethodDescriptor) (hs : List HandlerInfo) (m : MethodDescriptor) → filter_map (numbered_fault info ms) (enumerate_from 0 hs) ≡ [] → IsOneOf ms m → All (LiesIn info m) (take m.handler_count (drop m.handler_index hs))
 handlers-lie info ms hs m none one =
     all_taken (LiesIn info m) hs m.handler_index m.handler_count (λ j h lt e.
     let number = m.handler_index + j in
     let place : 0 + number ≡ number = omega arith in
-    let entry = faultless (numbered_fault info ms) (numbered 0 hs) (0 + number, h) none (entry_numbered hs 0 number h e) in
+    let entry = faultless (numbered_fault info ms) (enumerate_from 0 hs) (0 + number, h) none (entry_numbered hs 0 number h e) in
     claimed_lies info ms m number h (rw place at entry) one (claimed number m (omega arith) (omega arith)))

@@ -4,14 +4,14 @@ use Rattle.std.proofs.lemmas.List.{length-map}
 use Rattle.std.proofs.lemmas.List.Sums.{sum_by-cons}
 use Rattle.cap_desc.specs.DescriptorFormat as described
 use Rattle.cap_package.specs.PackageRecord.{PackageRecord}
-use Rattle.jc_resolve.specs.Numbering.{classes_of, classes_after, numbered_classes, methods_of_class, methods_of_classes, methods_after, numbered_methods}
+use Rattle.jc_resolve.specs.Numbering.{numbered_classes_of, classes_after, numbered_classes, methods_of_class, methods_of_classes, methods_after, numbered_methods}
 use Rattle.jc_resolve.specs.NamedMethods.{named_method, named_methods}
 use Rattle.jc_resolve.specs.Counts.{class_total, method_count, method_total}
 
 pub length_classes : (k : ℕ) (ps : List PackageRecord) → length (classes_after k ps) ≡ class_total ps
 length_classes k [] = refl
 length_classes k (p ∷ ps) =
-    length-append (classes_of k p) (classes_after (k + 1) ps)
+    length-append (numbered_classes_of k p) (classes_after (k + 1) ps)
     ∙ ap₂ ◌+◌ (length-map p.classes _) (length_classes (k + 1) ps)
     ∙ sym (sum_by-cons (λ (q : PackageRecord). length q.classes) p ps)
 

@@ -7,7 +7,7 @@ use Rattle.cap_package.specs.Agreement.{or_none}
 use Rattle.cap_package.specs.Descriptions.{Description, words_of, words_before, words_in, argument_words}
 use Rattle.cap_package.specs.PackageRecord.{PackageRecord}
 use Rattle.jc_base.specs.declared.ty.Ty.TheVariants.{IntHigh, IntLow}
-use Rattle.jc_resolve.specs.WorldTypes.{type_of, cells_of_type, arguments_before, signature_in, signature_of}
+use Rattle.jc_resolve.specs.WorldTypes.{type_of, cells_of_type, arguments_before, signature_in, declared_signature}
 
 module _ (ps : List PackageRecord) (object k : ℕ) where
   cells_by : (t : TypeItem) (b : Bool) → length (cond b (IntHigh ∷ IntLow ∷ []) (type_of ps object k t ∷ [])) ≡ cond b 2 1
@@ -41,6 +41,6 @@ module _ (ps : List PackageRecord) (object k : ℕ) where
   found_counted None n e = absurd cc
   found_counted (Some ts) n e = types_counted ts n e
 
-  pub words-counted : (d : Description) (offset n : ℕ) → argument_words d offset ≡ Some n → length (signature_of ps object k d offset).args ≡ n
-  unfolding argument_words signature_of
+  pub words-counted : (d : Description) (offset n : ℕ) → argument_words d offset ≡ Some n → length (declared_signature ps object k d offset).args ≡ n
+  unfolding argument_words declared_signature
   words-counted d offset n e = found_counted (types_at d.info (d.items.types_start + offset)) n e

@@ -2,11 +2,11 @@
 use Rattle.std.specs.Prelude.{ℕ, ◌+◌, List, [], ◌∷◌, map, take, Option, position, slice_get, option_and_then}
 use Rattle.cap_frame.specs.PackageFormat.{Package}
 use Rattle.cap_package.specs.PackageRecord.{PackageRecord}
-use Rattle.jc_resolve.specs.References.{meets}
+use Rattle.jc_resolve.specs.References.{meets_import}
 
 -- the first of some packages that meets an import
 abbrev pub first_meeting : List PackageRecord → Package → Option ℕ
-first_meeting earlier asked = position (meets asked) earlier
+first_meeting earlier asked = position (meets_import asked) earlier
 
 -- what meets the imports of packages, from a package's number on: the first of the packages before
 abbrev pub imports_after : List PackageRecord → ℕ → List PackageRecord → List (List (Option ℕ))

@@ -17,7 +17,7 @@ use Rattle.jc_base.specs.Linked.{receiver_words}
 use Rattle.jc_resolve.specs.declared.method_records.Body.{Body}
 use Rattle.jc_resolve.specs.Numbering.{NumberedMethod, numbered_methods, is_interface_number, is_placed}
 use Rattle.jc_resolve.specs.References.{class_referred, class_named}
-use Rattle.jc_resolve.specs.WorldTypes.{signature_of}
+use Rattle.jc_resolve.specs.WorldTypes.{declared_signature}
 
 -- ---- handlers
 
@@ -135,7 +135,7 @@ method_as ps throwable m sig = method_with m (class_described ps m.home m.class)
 -- role 0 is the number of class object, role 1 that of class throwable
 unfoldable pub named_method : List PackageRecord → List ℕ → NumberedMethod → MethodRec
 named_method ps roles m = method_as ps (slice_index roles 1) m
-    (signature_of ps (slice_index roles 0) m.home m.of_package.description m.record_of.type_offset)
+    (declared_signature ps (slice_index roles 0) m.home m.of_package.description m.record_of.type_offset)
 
 -- the methods of all packages by number
 unfoldable pub named_methods : List PackageRecord → List ℕ → List MethodRec

@@ -56,7 +56,7 @@ IsIndexed ps (Err (Fault fault)) = indexable ps ≡ Err fault
 IsIndexed ps (Err Memory) = ⊤
 
 -- names exactly where nothing is at fault; else the first condition by number that is broken, at its least thing
-abbrev pub Tells : List PackageRecord → Result NamesRecord LinkEnd → Type 0
-Tells ps (Ok names) = AllEmpty (conditions ps)
-Tells ps (Err (Fault fault)) = IsFirst link_place (conditions ps) fault
-Tells ps (Err Memory) = ⊤
+abbrev pub TellsNames : List PackageRecord → Result NamesRecord LinkEnd → Type 0
+TellsNames ps (Ok names) = AllEmpty (conditions ps)
+TellsNames ps (Err (Fault fault)) = IsFirst link_place (conditions ps) fault
+TellsNames ps (Err Memory) = ⊤

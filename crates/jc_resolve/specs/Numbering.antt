@@ -18,12 +18,12 @@ pub record NumberedClass : Type 0 where
 abbrev pub numbered_class : ℕ → PackageRecord → Class → NumberedClass
 numbered_class k p c = record { home = k; of_package = p; record_of = c }
 
-abbrev pub classes_of : ℕ → PackageRecord → List NumberedClass
-classes_of k p = map (numbered_class k p) p.classes
+abbrev pub numbered_classes_of : ℕ → PackageRecord → List NumberedClass
+numbered_classes_of k p = map (numbered_class k p) p.classes
 
 abbrev pub classes_after : ℕ → List PackageRecord → List NumberedClass
 classes_after k [] = []
-classes_after k (p ∷ ps) = classes_of k p ++ classes_after (k + 1) ps
+classes_after k (p ∷ ps) = numbered_classes_of k p ++ classes_after (k + 1) ps
 
 -- the classes of all packages, in the order of their numbers
 abbrev pub numbered_classes : List PackageRecord → List NumberedClass

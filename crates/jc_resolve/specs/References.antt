@@ -14,8 +14,8 @@ use Rattle.jc_resolve.specs.Numbering.{class_at}
 -- ---- imports
 
 -- a package meets an import: an equal identifier, an equal major version, and a minor one at least as great
-abbrev pub meets : Package → PackageRecord → Bool
-meets asked p = bytes_eq (aid p) asked.aid && (major p == asked.major && nat_le asked.minor (minor p))
+abbrev pub meets_import : Package → PackageRecord → Bool
+meets_import asked p = bytes_eq (aid p) asked.aid && (major p == asked.major && nat_le asked.minor (minor p))
 
 -- the import of a package with a token
 abbrev pub import_of : List PackageRecord → ℕ → ℕ → Option Package
@@ -23,7 +23,7 @@ import_of ps k token = option_and_then (λ (p : PackageRecord). slice_get p.impo
 
 -- the package that meets an import: the first of the earlier ones that does
 unfoldable pub met_by : List PackageRecord → ℕ → ℕ → Option ℕ
-met_by ps k token = option_and_then (λ asked. position (meets asked) (take k ps)) (import_of ps k token)
+met_by ps k token = option_and_then (λ asked. position (meets_import asked) (take k ps)) (import_of ps k token)
 
 -- ---- class references
 

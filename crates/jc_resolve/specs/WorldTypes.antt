@@ -70,5 +70,5 @@ abbrev pub types_named : Description → ℕ → List TypeItem
 types_named d offset = or_none (types_at d.info (d.items.types_start + offset))
 
 -- the signature of the method whose type descriptor stands at an offset
-unfoldable pub signature_of : List PackageRecord → ℕ → ℕ → Description → ℕ → Sig
-signature_of ps object k d offset = signature_in ps object k (types_named d offset)
+unfoldable pub declared_signature : List PackageRecord → ℕ → ℕ → Description → ℕ → Sig
+declared_signature ps object k d offset = signature_in ps object k (types_named d offset)

@@ -14,7 +14,7 @@ use crate::method_index::number_methods;
 use crate::numbers::Numbers;
 use crate::place::RecordPlace;
 use cap_bytes::ClassReference;
-use cap_class::Classes;
+use cap_class::ClassInfos;
 use cap_package::Packages;
 use cap_pool::ExportedClass;
 use jc_base::Items;
@@ -56,7 +56,7 @@ fn number_package(
     numbers: &mut Numbers,
     interfaces: &mut Vec<bool>,
     package: u16,
-    classes: Classes<'_>,
+    classes: ClassInfos<'_>,
 ) -> Result<(), AllocError>
     requires { numbers.old.next + length (classes_left classes) < 65535 }
     ensures numbers { OnOk result (numbers.new ≡ with_all numbers.old (map (spot_of_class «package») (classes_left classes.entry))) }

@@ -12,7 +12,7 @@ ghost use Rattle.jc_resolve.specs.Described.{describes_at, IsDescribedOnce};
 ghost use Rattle.jc_resolve.specs.Fault.{link_place};
 ghost use Rattle.jc_resolve.specs.Named.{IsByteTable, IsSized};
 ghost use Rattle.jc_resolve.specs.NamedClasses.{is_instance_field, instance_fields, with_token, cells_of_field, cells_of_fields, tokens_end, dispatch_entry, dispatch_table, no_table, parent_named, implemented_interfaces, interface_with, named_proper, named_class};
-ghost use Rattle.jc_resolve.specs.Numbering.{numbered_class, numbered_classes, classes_of};
+ghost use Rattle.jc_resolve.specs.Numbering.{numbered_class, numbered_classes, numbered_classes_of};
 
 use crate::class_index::Index;
 use crate::described_classes::DescribedClasses;
@@ -346,7 +346,7 @@ fn push_classes(
     ensures is { OnOk result
         (named.new.items
         ≡ named.old.items ++ map (named_class home.entry.index.now (slice_index home.entry.roles 0))
-        (classes_of home.entry.number home.entry.of_package.now)) }
+        (numbered_classes_of home.entry.number home.entry.of_package.now)) }
     ensures sized { OnOk result (All IsSized named.new.items) }
     ensures least { OnOk result
         (least.new

@@ -2,7 +2,7 @@ ghost use Rattle.std.specs.Prelude.{◌≡◌, ◌<◌, ◌≤◌, IfOk, IfSome,
 ghost use Rattle.cap_frame.specs.Packages.{package_seen, packages_left as imports_left};
 ghost use Rattle.cap_package.specs.PackagesLeft.{packages_left};
 ghost use Rattle.jc_resolve.specs.Imports.{first_meeting, imports_met, met_among};
-ghost use Rattle.jc_resolve.specs.References.{meets, met_by};
+ghost use Rattle.jc_resolve.specs.References.{meets_import, met_by};
 
 use cap_frame::{PackageInfo, PackageInfos};
 use cap_package::{Package, Packages, PackagesIter};
@@ -11,7 +11,7 @@ use std::alloc::{AllocError, Global};
 
 /// Whether a package meets an import.
 fn meets(asked: &PackageInfo<'_>, package: &Package<'_, '_>) -> bool
-    ensures { result ≡ meets (package_seen asked.now) «package».now }
+    ensures { result ≡ meets_import (package_seen asked.now) «package».now }
 {
     let this = package.header().package();
     this.aid == asked.aid && this.major == asked.major && this.minor >= asked.minor
@@ -19,7 +19,7 @@ fn meets(asked: &PackageInfo<'_>, package: &Package<'_, '_>) -> bool
 
 /// Where the first package stands that meets an import.
 fn place_meeting(packages: PackagesIter<'_, '_, '_>, asked: PackageInfo<'_>) -> Option<usize>
-    ensures is { result ≡ position (meets (package_seen asked.entry)) (packages_left packages.entry) }
+    ensures is { result ≡ position (meets_import (package_seen asked.entry)) (packages_left packages.entry) }
     ensures below { IfSome result (λ n. n < length (packages_left packages.entry)) }
 {
     let mut packages = packages;

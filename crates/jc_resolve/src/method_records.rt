@@ -21,7 +21,7 @@ use crate::home::Home;
 use crate::reference_checks::class_named;
 use crate::world_types::signature_of;
 use cap_desc::{AccessFlags, DescClass, MethodInfo};
-use cap_method::{HandlerInfo, Handlers, MethodHeader};
+use cap_method::{HandlerEntries, HandlerInfo, MethodHeader};
 use cap_package::{Packages, header, interface_offsets};
 use cap_pool::{Pool, PoolReference};
 use jc_base::{Handler, Items, MethodRec, Sig};
@@ -82,7 +82,7 @@ fn handler_named(
 
 /// The handlers after so many.
 #[tactic(auto, using(crate::proofs::Parts::drop_step))]
-fn handlers_after<'a>(handlers: Handlers<'a>, count: u16) -> Handlers<'a>
+fn handlers_after<'a>(handlers: HandlerEntries<'a>, count: u16) -> HandlerEntries<'a>
     ensures { handlers_left result ≡ drop count (handlers_left handlers.entry) }
 {
     let mut rest = handlers;
@@ -102,7 +102,7 @@ fn handlers_named(
     home: Home<'_, '_, '_, '_>,
     pool: &Pool<'_>,
     code_at: u16,
-    handlers: Handlers<'_>,
+    handlers: HandlerEntries<'_>,
     count: u16,
 ) -> Result<Vec<Handler>, AllocError>
     ensures { IfOk result

@@ -3,7 +3,7 @@ ghost use Rattle.jc_resolve.specs.Named.{AreNamed, IsAgreed, IsSized, infos_of};
 ghost use Rattle.jc_resolve.specs.NamedMethods.{HasFewHandlers};
 ghost use Rattle.jc_resolve.specs.OwnPlaces.{HaveOwnPlaces};
 ghost use Rattle.jc_resolve.specs.Due.{IsDue};
-ghost use Rattle.jc_resolve.specs.Names.{IsIndexed, Tells, names_of};
+ghost use Rattle.jc_resolve.specs.Names.{IsIndexed, TellsNames, names_of};
 
 use crate::class_index::{Index, index_packages};
 use crate::class_records::class_records;
@@ -70,7 +70,7 @@ pub fn names<'n, 'p, 'a>(
     ensures value { IsDue (names_of packages.now roles) result }
     // Names exactly where nothing is at fault; else the first condition by number that is broken, at its
     // least thing.
-    ensures tells { Tells packages.now result }
+    ensures tells { TellsNames packages.now result }
     // Everything that they name is a class or a method of theirs, and is as large as its component can tell.
     ensures named { IfOk result (λ n. AreNamed (infos_of packages.now) (slice_index roles 0) n.classes n.methods) }
     // No two classes, and no two methods of a package, have one place or the same numbers.

@@ -6,7 +6,7 @@ ghost use Rattle.jc_base.specs.Cell.{width};
 ghost use Rattle.jc_resolve.specs.Conditions.{reference_fault, reference_of_type, references_of_types_at};
 ghost use Rattle.jc_resolve.specs.Fault.{link_place};
 ghost use Rattle.jc_resolve.specs.Numbering.{numbered_classes};
-ghost use Rattle.jc_resolve.specs.WorldTypes.{class_or_object, type_class, type_of, cells_with, kind_of, signature_in, signature_of};
+ghost use Rattle.jc_resolve.specs.WorldTypes.{class_or_object, type_class, type_of, cells_with, kind_of, signature_in, declared_signature};
 
 use crate::class_index::Index;
 use crate::fault::LinkFault;
@@ -181,7 +181,7 @@ fn signature_in(
 }
 
 /// The signature of the method whose type descriptor stands at an offset.
-#[tactic(auto, unfolding(crate::specs::WorldTypes::signature_of))]
+#[tactic(auto, unfolding(crate::specs::WorldTypes::declared_signature))]
 pub(crate) fn signature_of(
     alloc: Global,
     index: &Index<'_, '_, '_>,
@@ -191,7 +191,7 @@ pub(crate) fn signature_of(
     offset: u16,
     least: &mut Option<LinkFault>,
 ) -> Result<Sig, AllocError>
-    ensures is { IfOk result (λ s. s ≡ signature_of index.now object «package» (description descriptor.now) offset) }
+    ensures is { IfOk result (λ s. s ≡ declared_signature index.now object «package» (description descriptor.now) offset) }
     ensures least { OnOk result
         (least.new
         ≡ least_from link_place least.old

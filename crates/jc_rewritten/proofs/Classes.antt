@@ -25,7 +25,7 @@ use Rattle.jc_resolve.specs.WorldTypes.{class_or_object, type_class, type_of}
 use Rattle.jc_resolve.specs.NamedClasses.{fields_described, instance_fields, by_token, cells_by, cells_of_field, cells_of_fields, dispatch_entry, interface_named, implemented_interfaces, parent_named, named_class, named_classes}
 use Rattle.jc_resolve.proofs.Pairwise.{each-split}
 use Rattle.cap_rewritten.specs.Changes.{Change, changes, now_at}
-use Rattle.cap_rewritten.specs.Written.{IsWritten}
+use Rattle.cap_rewritten.specs.Written.{IsMethodWritten}
 use Rattle.cap_rewritten.specs.Rewritten.{bare_class, IsRewritten}
 use Rattle.cap_rewritten.proofs.Lists.{Each, Has, each_at, each_of, none_each}
 use Rattle.cap_rewritten.proofs.Agreed.{agrees}
@@ -160,7 +160,7 @@ last_entry parts ps p q laid o s r short e = by (o == 0xFFFF) refl
         (sym (any_map (λ (m : MethodDescriptor). m.method_offset == o) old_of cs) ∙ there) in
         let at : offset_of d.0 ≡ o = eqb-true (offset_of d.0) o d.2 in
         let is = now_has cs d.0 d.1 (apart parts p q laid (agrees parts p s.agree) r) in
-        let ends = ends_inside p q cs d.0 (each_at (IsWritten p q cs) cs d.0 (all_written p q laid r) d.1) d.1 r.long in
+        let ends = ends_inside p q cs d.0 (each_at (IsMethodWritten p q cs) cs d.0 (all_written p q laid r) d.1) d.1 r.long in
         let size = sizes_end q.methods.info d.0.now in
         let some = sizes_some q.methods.info d.0.now in
         let to : now_at cs o ≡ d.0.now.method_offset = ap (now_at cs) (sym at) ∙ is in

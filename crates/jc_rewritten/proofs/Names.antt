@@ -14,8 +14,8 @@ use Rattle.cap_renewal.specs.ClassEdits.{renewed_class}
 use Rattle.cap_renewal.specs.ExportEdits.{renewed_exported}
 use Rattle.jc_decode.specs.declared.symbols.Laid.{Laid}
 use Rattle.jc_resolve.specs.declared.place.RecordPlace.{RecordPlace}
-use Rattle.jc_resolve.specs.Numbering.{NumberedClass, numbered_class, classes_of, classes_after, numbered_classes, place_of_class, class_places, class_at, same_place, flagged_interface, is_interface_number}
-use Rattle.jc_resolve.specs.References.{meets, import_of, met_by, exported_offset, exported_place, place_referred, class_referred, class_named}
+use Rattle.jc_resolve.specs.Numbering.{NumberedClass, numbered_class, numbered_classes_of, classes_after, numbered_classes, place_of_class, class_places, class_at, same_place, flagged_interface, is_interface_number}
+use Rattle.jc_resolve.specs.References.{meets_import, import_of, met_by, exported_offset, exported_place, place_referred, class_referred, class_named}
 use Rattle.cap_rewritten.specs.Changes.{changes, now_at}
 use Rattle.cap_rewritten.specs.Rewritten.{IsRewritten}
 use Rattle.cap_rewritten.proofs.Lists.{Each, each_of}
@@ -25,7 +25,7 @@ use Rattle.jc_rewritten.proofs.Lists.{map_last, get_view, take_view, position_al
 
 -- ---- imports
 
-meets_same : (asked : Package) (p q : PackageRecord) → q.header ≡ p.header → meets asked q ≡ meets asked p
+meets_same : (asked : Package) (p q : PackageRecord) → q.header ≡ p.header → meets_import asked q ≡ meets_import asked p
 meets_same asked p q e = rw e refl
 
 import_same : (ps : List PackageRecord) (p q : PackageRecord) (k token : ℕ) → q.imports ≡ p.imports
@@ -39,15 +39,15 @@ pub met_same : (ps : List PackageRecord) (p q : PackageRecord) (k token : ℕ) �
     → met_by (and_last ps q) k token ≡ met_by (and_last ps p) k token
 unfolding met_by
 met_same ps p q k token h e =
-    ap (option_and_then (λ asked. position (meets asked) (take k (and_last ps q)))) (import_same ps p q k token e)
+    ap (option_and_then (λ asked. position (meets_import asked) (take k (and_last ps q)))) (import_same ps p q k token e)
     ∙ by (import_of (and_last ps p) k token)
   where
-    by : (o : Option Package) → option_and_then (λ asked. position (meets asked) (take k (and_last ps q))) o
-        ≡ option_and_then (λ asked. position (meets asked) (take k (and_last ps p))) o
+    by : (o : Option Package) → option_and_then (λ asked. position (meets_import asked) (take k (and_last ps q))) o
+        ≡ option_and_then (λ asked. position (meets_import asked) (take k (and_last ps p))) o
     by None = refl
-    by (Some asked) = position_alike (meets asked) (meets asked) (take k (and_last ps q)) (take k (and_last ps p))
-        (take_view (meets asked) k (and_last ps q) ∙ ap (take k) (map_last (meets asked) ps p q (meets_same asked p q h))
-        ∙ sym (take_view (meets asked) k (and_last ps p)))
+    by (Some asked) = position_alike (meets_import asked) (meets_import asked) (take k (and_last ps q)) (take k (and_last ps p))
+        (take_view (meets_import asked) k (and_last ps q) ∙ ap (take k) (map_last (meets_import asked) ps p q (meets_same asked p q h))
+        ∙ sym (take_view (meets_import asked) k (and_last ps p)))
 
 -- ---- classes by number
 
@@ -74,19 +74,19 @@ pub classes_alike : {Y : Type 0} (now was : NumberedClass → Y) (f : ℕ → �
     → map now (classes_after k (and_last ps q)) ≡ map was (classes_after k (and_last ps p))
 classes_alike now was f k [] p q e others last =
     let z : k + 0 ≡ k = omega arith in
-    map-append now (classes_of k q) []
+    map-append now (numbered_classes_of k q) []
     ∙ ap (λ ys. ys ++ []) (ap (λ cs. map now (map (numbered_class k q) cs)) e
     ∙ of_last now was f k p q p.classes (subst (λ n. Each (λ (c : Class). now (numbered_class n q (renewed_class f c))
     ≡ was (numbered_class n p c)) p.classes) z last))
-    ∙ sym (map-append was (classes_of k p) [])
+    ∙ sym (map-append was (numbered_classes_of k p) [])
 classes_alike now was f k (r ∷ ps) p q e others last =
     let z : k + suc (length ps) ≡ k + 1 + length ps = omega arith in
-    map-append now (classes_of k r) (classes_after (k + 1) (and_last ps q))
+    map-append now (numbered_classes_of k r) (classes_after (k + 1) (and_last ps q))
     ∙ ap (λ ys. ys ++ map now (classes_after (k + 1) (and_last ps q)))
     (of_others now was k r r.classes (λ c. others k r c (omega arith)))
-    ∙ ap (λ ys. map was (classes_of k r) ++ ys) (classes_alike now was f (k + 1) ps p q e (λ j x c lt. others j x c (omega arith))
+    ∙ ap (λ ys. map was (numbered_classes_of k r) ++ ys) (classes_alike now was f (k + 1) ps p q e (λ j x c lt. others j x c (omega arith))
     (subst (λ n. Each (λ (c : Class). now (numbered_class n q (renewed_class f c)) ≡ was (numbered_class n p c)) p.classes) z last))
-    ∙ sym (map-append was (classes_of k r) (classes_after (k + 1) (and_last ps p)))
+    ∙ sym (map-append was (numbered_classes_of k r) (classes_after (k + 1) (and_last ps p)))
 
 pub places_same : (f : ℕ → ℕ) (ps : List PackageRecord) (p q : PackageRecord) → q.classes ≡ map (renewed_class f) p.classes
     → class_places (and_last ps q) ≡ class_places (and_last ps p)

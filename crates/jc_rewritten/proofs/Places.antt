@@ -12,7 +12,7 @@ use Rattle.jc_decode.specs.declared.symbols.Laid.{Laid}
 use Rattle.jc_resolve.specs.declared.place.RecordPlace.{RecordPlace}
 use Rattle.jc_resolve.specs.Numbering.{NumberedMethod, methods_of_class, methods_of_classes, methods_after, place_of_method, method_places, is_at, method_at}
 use Rattle.cap_rewritten.specs.Changes.{Change, changes, stood_at, offset_by, now_at}
-use Rattle.cap_rewritten.specs.Written.{IsWritten}
+use Rattle.cap_rewritten.specs.Written.{IsMethodWritten}
 use Rattle.cap_rewritten.specs.Rewritten.{bare_method, bare_class, IsRewritten}
 use Rattle.cap_rewritten.proofs.Lists.{Each, Has, each_at, each_of}
 use Rattle.cap_rewritten.proofs.Owners.{Distinct}
@@ -125,18 +125,18 @@ flags_alike now was set (c ∷ cs) (d ∷ ds) e h =
 
 -- ---- the offset of a described method
 
-differ_now : (p q : PackageRecord) (all : List Change) (c d : Change) → Each (IsWritten p q all) all → Has all c → Has all d
+differ_now : (p q : PackageRecord) (all : List Change) (c d : Change) → Each (IsMethodWritten p q all) all → Has all c → Has all d
     → (offset_of c ≡ offset_of d → ⊥) → c.now.method_offset ≡ d.now.method_offset → ⊥
 differ_now p q all c d ws hc hd ne same = by (compare (offset_of c) (offset_of d) ne)
   where
     by : (offset_of c < offset_of d) ⊎ (offset_of d < offset_of c) → ⊥
     by (inl lt) =
-        let e = one_ends p q all c d (each_at (IsWritten p q all) all c ws hc) (each_at (IsWritten p q all) all d ws hd) hc lt in
+        let e = one_ends p q all c d (each_at (IsMethodWritten p q all) all c ws hc) (each_at (IsMethodWritten p q all) all d ws hd) hc lt in
         let f = sizes_end q.methods.info c.now in
         let g = sizes_some q.methods.info c.now in
         absurd (omega arith)
     by (inr lt) =
-        let e = one_ends p q all d c (each_at (IsWritten p q all) all d ws hd) (each_at (IsWritten p q all) all c ws hc) hd lt in
+        let e = one_ends p q all d c (each_at (IsMethodWritten p q all) all d ws hd) (each_at (IsMethodWritten p q all) all c ws hc) hd lt in
         let f = sizes_end q.methods.info d.now in
         let g = sizes_some q.methods.info d.now in
         absurd (omega arith)
@@ -165,7 +165,7 @@ unfolding now_at
 now_has cs c h d = ap (offset_by (offset_of c)) (find_has cs c h d)
 
 -- an offset is that of a described method exactly where the renewed one is
-asked_alike : (p q : PackageRecord) (cs : List Change) (d c : Change) → Each (IsWritten p q cs) cs → Distinct offset_of cs
+asked_alike : (p q : PackageRecord) (cs : List Change) (d c : Change) → Each (IsMethodWritten p q cs) cs → Distinct offset_of cs
     → Has cs d → Has cs c → (now_at cs (offset_of d) == c.now.method_offset) ≡ (offset_of d == c.source.method.method_offset)
 asked_alike p q cs d c ws apart_cs hd hc =
     let is = now_has cs d hd apart_cs in

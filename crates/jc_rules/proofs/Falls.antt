@@ -23,7 +23,7 @@ use Rattle.jc_rules.specs.declared.effect.Cells.TheVariants as given
 use Rattle.jc_rules.specs.declared.effect.Change.{Change}
 use Rattle.jc_rules.specs.declared.effect.Change.TheVariants.{Replace, CopyUnder, Exchange, MakeReady}
 use Rattle.jc_rules.specs.declared.effect.Effect.{Effect}
-use Rattle.jc_rules.specs.declared.effect.Store.{Store}
+use Rattle.jc_rules.specs.declared.effect.RegisterStore.{RegisterStore}
 use Rattle.jc_rules.specs.declared.effect.Mode.{Mode}
 use Rattle.jc_rules.specs.declared.effect.Mode.TheVariants.{Card, Flow}
 use Rattle.jc_rules.specs.declared.rule.Outcome.{Outcome}
@@ -405,7 +405,7 @@ pub record EffectBelow (t : ClassTable) (d e : Effect) : Type 0 where
   pub cells : GivenBelow t d.store.cells e.store.cells
 
 -- a store into lesser registers, whose result is lesser
-pub record StoresBelow (t : ClassTable) (mode : Mode) (s : Store) (before after : List Ty) : Type 0 where
+pub record StoresBelow (t : ClassTable) (mode : Mode) (s : RegisterStore) (before after : List Ty) : Type 0 where
   pub below : List Ty
   pub stores : StoresInRegisters t mode s before below
   pub lower : CellsBelow t below after

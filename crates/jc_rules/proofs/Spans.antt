@@ -6,7 +6,7 @@ use Rattle.std.proofs.lemmas.List.{append_assoc, append-nil, length-take, length
 use Rattle.jc_base.specs.declared.ty.Ty.{Ty}
 use Rattle.jc_rules.specs.Demand.{Frame}
 use Rattle.jc_rules.specs.declared.typing.Span.{Span}
-use Rattle.jc_rules.specs.Held.{parted, end_of, frame_of_span, span_at, frames_at, AreApart, AreSpans}
+use Rattle.jc_rules.specs.Held.{parted, span_end, frame_of_span, span_at, frames_at, AreApart, AreSpans}
 use Rattle.jc_rules.specs.Typing.{state_at}
 
 -- ---- windows of a list
@@ -56,15 +56,15 @@ module _ (cells front rest own tail : List Ty) (s : Span) (parts : cells ≡ fro
   pub own-part_new : (new : List Ty) → length new ≡ length own → take (s.registers + s.depth) (drop s.at (front ++ (new ++ tail))) ≡ new
   own-part_new new e = window-there front new tail s.at (s.registers + s.depth) before (e ∙ size)
 
-  pub other-parts : (new : List Ty) → length new ≡ length own → (b n : ℕ) → (b + n ≤ s.at) ⊎ (end_of s ≤ b) → take n (drop b (front ++ (new ++ tail))) ≡ take n (drop b cells)
+  pub other-parts : (new : List Ty) → length new ≡ length own → (b n : ℕ) → (b + n ≤ s.at) ⊎ (span_end s ≤ b) → take n (drop b (front ++ (new ++ tail))) ≡ take n (drop b cells)
   other-parts new e b n h = window-elsewhere front own new tail e b n (moved h) ∙ ap (λ (xs : List Ty). take n (drop b xs)) (sym private_parts)
     where
-      moved : (b + n ≤ s.at) ⊎ (end_of s ≤ b) → (b + n ≤ length front) ⊎ (length front + length own ≤ b)
+      moved : (b + n ≤ s.at) ⊎ (span_end s ≤ b) → (b + n ≤ length front) ⊎ (length front + length own ≤ b)
       moved (inl x) = inl (omega (arith, x, before))
       moved (inr x) = inr (omega (arith, x, before, size))
 
 -- a frame stays where more cells come
-frame-more : (cells more : List Ty) (s : Span) → end_of s ≤ length cells → frame_of_span (cells ++ more) s ≡ frame_of_span cells s
+frame-more : (cells more : List Ty) (s : Span) → span_end s ≤ length cells → frame_of_span (cells ++ more) s ≡ frame_of_span cells s
 frame-more cells more s h = ap (parted s.registers) (window-more cells more s.at (s.registers + s.depth) h)
 
 -- ---- spans by place
@@ -84,7 +84,7 @@ pub none-there : (cells : List Ty) (spans : List (Option Span)) (now : List (Opt
 none-there cells spans now p v e = subst (λ xs. state_at xs p ≡ None) v (state-span cells spans p ∙ ap (option_map (frame_of_span cells)) e)
 
 -- a frame of a span has its registers
-pub frame-registers : (cells : List Ty) (s : Span) → end_of s ≤ length cells → length (frame_of_span cells s).regs ≡ s.registers
+pub frame-registers : (cells : List Ty) (s : Span) → span_end s ≤ length cells → length (frame_of_span cells s).regs ≡ s.registers
 frame-registers cells s h =
     let own = take (s.registers + s.depth) (drop s.at cells) in
     length-take s.registers own ∙ omega (arith, length-take (s.registers + s.depth) (drop s.at cells), length-drop s.at cells, h)
@@ -166,10 +166,10 @@ spans-kept cells new spans e is = record {
 }
 
 module _ (cells more : List Ty) (spans : List (Option Span)) (is : AreSpans cells spans) (p : ℕ) (lt : p < length spans) (new : Span) (at : new.at ≡ length cells) (size : length more ≡ new.registers + new.depth) (few : new.depth ≤ 255) where
-  private_within : (q : ℕ) (s : Span) → (q ≡ p) ⊎ (¬ (q ≡ p)) → span_at (set spans p (Some new)) q ≡ Some s → (end_of s ≤ length (cells ++ more)) × (s.depth ≤ 255)
+  private_within : (q : ℕ) (s : Span) → (q ≡ p) ⊎ (¬ (q ≡ p)) → span_at (set spans p (Some new)) q ≡ Some s → (span_end s ≤ length (cells ++ more)) × (s.depth ≤ 255)
   private_within q s (inl here) e =
       let is_new : new ≡ s = some-same (sym (span-set spans p (Some new) lt) ∙ subst (λ k. span_at (set spans p (Some new)) k ≡ Some s) here e) in
-      subst (λ (u : Span). (end_of u ≤ length (cells ++ more)) × (u.depth ≤ 255)) is_new (omega (arith, length-append cells more, at, size), few)
+      subst (λ (u : Span). (span_end u ≤ length (cells ++ more)) × (u.depth ≤ 255)) is_new (omega (arith, length-append cells more, at, size), few)
     where
       some-same : Some new ≡ Some s → new ≡ s
       some-same h = cc
@@ -225,7 +225,7 @@ frame-put cells regs stack s at registers depth =
 
 -- the cells of one span change: the frames of the other places stay
 pub frames-changed : (cells new : List Ty) (spans : List (Option Span)) (p : ℕ) (s : Span) → AreSpans cells spans → span_at spans p ≡ Some s
-    → ((b n : ℕ) → (b + n ≤ s.at) ⊎ (end_of s ≤ b) → take n (drop b new) ≡ take n (drop b cells))
+    → ((b n : ℕ) → (b + n ≤ s.at) ⊎ (span_end s ≤ b) → take n (drop b new) ≡ take n (drop b cells))
     → frames_at new spans ≡ set (frames_at cells spans) p (Some (frame_of_span new s))
 frames-changed cells new spans p s is e stays =
     let there = set-there spans p s e in

@@ -8,7 +8,7 @@ use Rattle.jc_base.specs.Class.{ClassTable}
 use Rattle.jc_base.specs.Order.{IsJoin, is_below}
 use Rattle.jc_rules.specs.declared.effect.Mode.{Mode}
 use Rattle.jc_rules.specs.declared.effect.Mode.TheVariants.{Card, Flow}
-use Rattle.jc_rules.specs.declared.effect.Store.{Store}
+use Rattle.jc_rules.specs.declared.effect.RegisterStore.{RegisterStore}
 use Rattle.jc_rules.specs.declared.effect.Change.{Change}
 use Rattle.jc_rules.specs.declared.effect.Change.TheVariants.{Replace, CopyUnder, Exchange, MakeReady}
 
@@ -71,7 +71,7 @@ WritesCells t mode x (One ty) before after = WritesRegister t mode x ty before a
 WritesCells t mode x Int before after = WritesInt t mode x before after
 
 -- the registers before and after a store
-abbrev pub StoresInRegisters : ClassTable → Mode → Store → List Ty → List Ty → Type 0
+abbrev pub StoresInRegisters : ClassTable → Mode → RegisterStore → List Ty → List Ty → Type 0
 StoresInRegisters t mode s before after = WritesCells t mode s.register s.cells before after
 
 -- a register rises where what is stored over it is not below what it holds
@@ -84,6 +84,6 @@ cells_rise t regs x (One ty) = rises_at t regs x ty
 cells_rise t regs x Int = rises_at t regs x IntHigh || rises_at t regs (x + 1) IntLow
 
 -- whether a store raises a register: on the card it may; in the dataflow it replaces what is held, and raises none
-abbrev pub raises_register : ClassTable → Mode → Store → List Ty → Bool
+abbrev pub raises_register : ClassTable → Mode → RegisterStore → List Ty → Bool
 raises_register t Flow s regs = false
 raises_register t Card s regs = cells_rise t regs s.register s.cells

@@ -3,7 +3,7 @@ use Rattle.std.specs.Prelude.{◌≡◌, ℕ, ◌+◌, ◌≤◌, ◌⊎◌, Lis
 use Rattle.jc_base.specs.declared.ty.Ty.{Ty}
 use Rattle.jc_rules.specs.Demand.{Frame}
 use Rattle.jc_rules.specs.Typing.{flat}
-use Rattle.jc_rules.specs.declared.held.State.{State}
+use Rattle.jc_rules.specs.declared.held.HeldFrame.{HeldFrame}
 use Rattle.jc_rules.specs.declared.typing.Span.{Span}
 
 -- the frame of so many registers
@@ -16,12 +16,12 @@ pub record IsParted (registers : ℕ) (cells : List Ty) : Type 0 where
   pub depth : length cells ≤ registers + 255
 
 -- the frame that is lent
-abbrev pub lent : State → Frame
+abbrev pub lent : HeldFrame → Frame
 lent s = record { regs = s.regs.now; stack = reverse s.stack.now }
 
 -- where the cells of a span end
-abbrev pub end_of : Span → ℕ
-end_of s = s.at + (s.registers + s.depth)
+abbrev pub span_end : Span → ℕ
+span_end s = s.at + (s.registers + s.depth)
 
 -- the frame of a span
 abbrev pub frame_of_span : List Ty → Span → Frame
@@ -37,10 +37,10 @@ frames_at cells spans = map (option_map (frame_of_span cells)) spans
 
 -- two spans have no cell in common
 abbrev pub AreApart : Span → Span → Type 0
-AreApart s u = (end_of s ≤ u.at) ⊎ (end_of u ≤ s.at)
+AreApart s u = (span_end s ≤ u.at) ⊎ (span_end u ≤ s.at)
 
 -- the spans lie within the cells, and those of two places are apart
 pub record AreSpans (cells : List Ty) (spans : List (Option Span)) : Type 0 where
-  pub within : (p : ℕ) (s : Span) → span_at spans p ≡ Some s → end_of s ≤ length cells
+  pub within : (p : ℕ) (s : Span) → span_at spans p ≡ Some s → span_end s ≤ length cells
   pub few : (p : ℕ) (s : Span) → span_at spans p ≡ Some s → s.depth ≤ 255
   pub apart : (p q : ℕ) (s u : Span) → ¬ (p ≡ q) → span_at spans p ≡ Some s → span_at spans q ≡ Some u → AreApart s u

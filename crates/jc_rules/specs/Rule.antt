@@ -6,7 +6,7 @@ use Rattle.jc_base.specs.declared.ty.Ty.TheVariants.{Bottom, Short, IntHigh, Int
 use Rattle.jc_base.specs.declared.ty.Kind.{Kind}
 use Rattle.jc_base.specs.declared.ty.Kind.TheVariants as kinds
 use Rattle.jc_base.specs.declared.record.MethodRec.{MethodRec}
-use Rattle.jc_base.specs.Class.{ClassTable, is_interface, object, throwable}
+use Rattle.jc_base.specs.Class.{ClassTable, object, throwable, class_in_types}
 use Rattle.jc_base.specs.World.{Linked}
 use Rattle.jc_ops.specs.declared.want.Want.{Want}
 use Rattle.jc_ops.specs.declared.want.Want.TheVariants.{Value, Storable, ByteArray, AnyArray, Whole, Receiver}
@@ -286,10 +286,6 @@ result_at None = None
 result_at (Some m) = m.sig.result
 
 -- ---- objects and types
-
--- an interface stands for class object
-abbrev pub class_in_types : ClassTable → ℕ → ℕ
-class_in_types t c = if is_interface t c then object t else c
 
 -- the type of an object or an array, as frames have it
 abbrev pub seen : ClassTable → Ty → Ty

@@ -43,7 +43,7 @@ pub enum Change {
 
 /// What goes into registers, from one on.
 #[derive(Clone, Copy)]
-pub struct Store {
+pub struct RegisterStore {
     pub register: u8,
     pub cells: Cells,
 }
@@ -52,7 +52,7 @@ pub struct Store {
 #[derive(Clone, Copy)]
 pub struct Effect {
     pub change: Change,
-    pub store: Store,
+    pub store: RegisterStore,
 }
 
 /// How a store writes: on the card it raises one list of registers, in the dataflow it replaces.
@@ -196,7 +196,7 @@ fn ready(ty: Ty, place: u16, class: u16) -> Ty
 }
 
 /// Writes what is stored into the registers, and tells whether one rose.
-pub fn change_regs(classes: &Classes, regs: &mut [Ty], store: Store, mode: Mode) -> bool
+pub fn change_regs(classes: &Classes, regs: &mut [Ty], store: RegisterStore, mode: Mode) -> bool
     requires inside { store.register + length (in_stack_order store.cells) ≤ length regs.old }
     requires small { length regs.old ≤ 255 }
     requires regs_known { All (IsKnown classes.now) regs.old }

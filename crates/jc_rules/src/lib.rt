@@ -20,8 +20,8 @@ mod typing;
 mod values;
 
 pub use demand::{Before, Demand, meets};
-pub use effect::{Cells, Change, Effect, Mode, Store};
-pub use held::State;
+pub use effect::{Cells, Change, Effect, Mode, RegisterStore};
+pub use held::HeldFrame;
 pub use jc_ops::{RuleFault, Site};
 pub use laws::{
     demands_are_decided, footprint_laws, operation_laws, rule_decides, rule_falls, rule_keeps,

@@ -6,14 +6,15 @@ ghost use Rattle.jc_rules.specs.declared.effect.Mode.TheVariants.{Card};
 ghost use Rattle.jc_rules.specs.Stack.{cells};
 ghost use Rattle.jc_rules.specs.Effect.{depth_after};
 ghost use Rattle.jc_rules.specs.Demand.{Frame, AreKnown, frame, IsJudged};
-ghost use Rattle.jc_rules.specs.Rule.{demands, effect, return_demands, return_effect, seen, class_in_types, wrote};
+ghost use Rattle.jc_rules.specs.Rule.{demands, effect, return_demands, return_effect, seen, wrote};
+ghost use Rattle.jc_base.specs.Class.{class_in_types};
 ghost use Rattle.jc_rules.specs.Known.{IsKnownCallee, IsKnownOperation, IsValue};
 ghost use Rattle.jc_rules.specs.Apply.{frame_of, HasDeclaredLengths, Applies, Refuses, PlansEffect};
 ghost use Rattle.jc_ops.specs.declared.operation.Operation.TheVariants.{Call};
 ghost use Rattle.jc_ops.specs.Sound.{IsNamedType};
 
 use crate::demand::Before;
-use crate::effect::{Cells, Effect, Mode, Store, change_regs, change_stack};
+use crate::effect::{Cells, Effect, Mode, RegisterStore, change_regs, change_stack};
 use crate::objects::value_given;
 use crate::values::constant;
 use jc_base::{Ty, World, types_are_ordered};
@@ -145,7 +146,7 @@ fn plan(
     Ok(effect)
 }
 
-impl Store {
+impl RegisterStore {
     /// The first register that is written, and how many are.
     fn wrote(self) -> Option<(u8, u8)>
         ensures { result ≡ wrote self.register self.cells }

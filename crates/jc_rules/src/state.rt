@@ -5,7 +5,7 @@ ghost use Rattle.jc_rules.specs.Flow.{CellsJoin, IsNotTop};
 ghost use Rattle.jc_rules.specs.Held.{IsParted, parted, lent};
 ghost use Rattle.jc_rules.specs.Typing.{IsMerged, RaisesOrStays};
 
-use crate::held::State;
+use crate::held::HeldFrame;
 use jc_base::{Classes, Ty, below, join, same_type, types_are_ordered};
 
 /// What became of a state that another was merged into.
@@ -19,7 +19,7 @@ pub enum Merged {
     Clashing,
 }
 
-impl State<'_> {
+impl HeldFrame<'_> {
     /// The types of the registers.
     pub fn regs(&self) -> &[Ty]
         ensures { result.now ≡ (lent self.now).regs }

@@ -1,10 +1,10 @@
 ghost use Rattle.std.specs.Prelude.{◌≡◌, ◌+◌, ◌<◌, ◌≤◌, ◌⊎◌, ◌++◌, ℕ, ⊤, List, Some, None, length, take, drop, reverse, replicate, All, IfOk, OnOk, OnErr, IsSomeAnd, is_some, option_map, slice_get, slice_set};
 ghost use Rattle.jc_base.specs.Order.{IsKnown};
 ghost use Rattle.jc_rules.specs.Flow.{At};
-ghost use Rattle.jc_rules.specs.Held.{lent, end_of, frame_of_span, span_at};
+ghost use Rattle.jc_rules.specs.Held.{lent, span_end, frame_of_span, span_at};
 ghost use Rattle.jc_rules.specs.Typing.{state_at, IsMerged, IsMergedAt};
 
-use crate::held::State;
+use crate::held::HeldFrame;
 use crate::state::{Merged, merge_cells};
 use jc_base::{Classes, Ty};
 use std::alloc::{AllocError, Global};
@@ -53,7 +53,7 @@ impl Typing {
     }
 
     /// The state before the instruction at a place, where control reaches it.
-    pub fn state(&self, place: u16) -> Option<State<'_>>
+    pub fn state(&self, place: u16) -> Option<HeldFrame<'_>>
         ensures { option_map lent result ≡ state_at self.now place }
     {
         match span_of(&self.spans, place) {
@@ -147,13 +147,13 @@ fn span_of(spans: &[Option<Span>], place: u16) -> Option<Span>
 }
 
 /// The state of a span.
-fn lend<'a>(cells: &'a [Ty], span: Span) -> State<'a>
-    requires within { end_of span ≤ length cells.now }
+fn lend<'a>(cells: &'a [Ty], span: Span) -> HeldFrame<'a>
+    requires within { span_end span ≤ length cells.now }
     requires few { span.depth ≤ 255 }
     ensures { lent result ≡ frame_of_span cells.now span }
 {
     let own = &cells[span.at..span.at + (span.registers + span.depth)];
-    State {
+    HeldFrame {
         regs: &own[..span.registers],
         stack: &own[span.registers..],
     }
@@ -171,7 +171,7 @@ fn append(cells: &mut Vec<Ty>, regs: &[Ty], stack: &[Ty]) -> Result<(), AllocErr
 
 /// Raises the frame of a span to the join with another, where their stacks merge.
 fn merge_span(classes: &Classes, cells: &mut [Ty], span: Span, regs: &[Ty], stack: &[Ty]) -> Merged
-    requires within { end_of span ≤ length cells.old }
+    requires within { span_end span ≤ length cells.old }
     requires few { span.depth ≤ 255 }
     requires count { length regs.now ≡ span.registers }
     requires regs_known { All (IsKnown classes.now) regs.now }
@@ -183,7 +183,7 @@ fn merge_span(classes: &Classes, cells: &mut [Ty], span: Span, regs: &[Ty], stac
         (frame_of_span cells.new span) result }
     ensures len { length cells.new ≡ length cells.old }
     // The cells before and after the span stay.
-    ensures elsewhere { (b n : ℕ) → (b + n ≤ span.at) ⊎ (end_of span ≤ b) → take n (drop b cells.new) ≡ take n (drop b cells.old) }
+    ensures elsewhere { (b n : ℕ) → (b + n ≤ span.at) ⊎ (span_end span ≤ b) → take n (drop b cells.new) ≡ take n (drop b cells.old) }
 {
     let (_, from) = cells.split_at_mut(span.at);
     let (own, _) = from.split_at_mut(span.registers + span.depth);

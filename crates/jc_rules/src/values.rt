@@ -6,7 +6,7 @@ ghost use Rattle.jc_rules.specs.Effect.{reg};
 ghost use Rattle.jc_rules.specs.Rule.{cell, or_null, number, number_given, size, value_given, value_wanted, value_size, replacing, constant_effect, load_demands, load_effect, store_demands, store_effect, increment_demands, increment_effect, move_demands, move_effect, arithmetic_demands, arithmetic_effect, on_stack, storing, a_reference, two_numbers};
 
 use crate::demand::{Before, Demand};
-use crate::effect::{Cells, Change, Effect, Store};
+use crate::effect::{Cells, Change, Effect, RegisterStore};
 use jc_base::Ty;
 use jc_ops::{Arithmetic, Constant, Move, RuleFault, Sort, Want, Width};
 
@@ -29,7 +29,7 @@ impl Effect {
     {
         Effect {
             change,
-            store: Store {
+            store: RegisterStore {
                 register: 0,
                 cells: Cells::Nothing,
             },
@@ -44,7 +44,7 @@ impl Effect {
                 taken,
                 given: Cells::Nothing,
             },
-            store: Store { register, cells },
+            store: RegisterStore { register, cells },
         }
     }
 }

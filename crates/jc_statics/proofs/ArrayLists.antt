@@ -13,7 +13,8 @@ use Rattle.cap_method.specs.StaticFormat.{Array, Statics, array_init_info, is_pr
 use Rattle.cap_method.specs.declared.static_part.StaticPart.{StaticPart}
 use Rattle.cap_method.specs.StaticPart.{arrays_left, statics_seen}
 use Rattle.cap_package.specs.PackageRecord.{PackageRecord, initial_arrays}
-use Rattle.jc_statics.specs.Words.{signed, words_of_bytes, element_words}
+use Rattle.jc_statics.specs.Words.{signed, element_words}
+use Rattle.jc_base.specs.Index.{words_of_bytes}
 use Rattle.jc_statics.specs.Arrays.{array_type, array_record, array_records}
 use Rattle.jc_statics.specs.Known.{IsPrimitive}
 use Rattle.cap_package.proofs.Given.{drop_here}

@@ -24,7 +24,8 @@ use Rattle.cap_package.specs.StaticPlaces.{static_places, places_left}
 use Rattle.cap_package.proofs.ArrayBytes.{arrays_short}
 use Rattle.jc_resolve.specs.WorldTypes.{kind_of}
 use Rattle.jc_resolve.proofs.DescribedFields.{fields_of-few, fields_left-few}
-use Rattle.jc_statics.specs.Words.{signed, words_of_bytes}
+use Rattle.jc_statics.specs.Words.{signed}
+use Rattle.jc_base.specs.Index.{words_of_bytes}
 use Rattle.jc_statics.specs.Arrays.{array_record, array_records, initial_cells}
 use Rattle.jc_statics.specs.Statics.{cells_at, static_cells}
 use Rattle.cap_package.proofs.Given.{drop_here}

@@ -24,7 +24,7 @@ use Rattle.cap_package.specs.StaticPlaces.{static_places, IsStaticPlace}
 use Rattle.jc_resolve.specs.WorldTypes.{kind_of}
 use Rattle.jc_statics.specs.Arrays.{array_type, array_record, array_records}
 use Rattle.jc_statics.specs.Image.{image, references, words_at}
-use Rattle.jc_statics.specs.Statics.{StaticSite, site, sites, sites_after, cells_at, static_record, type_at, records_from, static_records}
+use Rattle.jc_statics.specs.Statics.{StaticSite, site, sites, sites_after, cells_at, static_record, type_of_site, records_from, static_records}
 use Rattle.jc_statics.specs.Known.{IsPrimitive, AreTold, AreStaticsKnown}
 use Rattle.jc_statics.proofs.ArrayLists.{one_package, signed_is}
 use Rattle.jc_statics.proofs.ImageBytes.{handle_in, handle_past}
@@ -85,33 +85,33 @@ at_reference : (n : ℕ) → n % 2 ≡ 0 → n ≡ 2 * (n / 2)
 at_reference n h = omega arith
 
 filled_reference : (told : ℕ → TypeItem → Ty) → AreTold told → (n : ℕ) (arrays : List ArrayRec) (t : ClassTable) (s : StaticSite) → length arrays ≤ 4096 → IsSite n arrays s → (a : Array) → slice_get s.statics.arrays (s.place.offset / 2) ≡ Some a → s.place.offset % 2 ≡ 0
-    → IsInitialHandle t arrays (type_at told s) (get_or (references s.first s.statics) (s.place.offset / 2) 0)
+    → IsInitialHandle t arrays (type_of_site told s) (get_or (references s.first s.statics) (s.place.offset / 2) 0)
 filled_reference told are n arrays t s few known a there even =
     let k = s.place.offset / 2 in
     let within = slice_get_within s.statics.arrays k a there in
     let below = slice_get_within arrays (known.before + k) (array_record a) (known.handles k a there) in
     let h : get_or (references s.first s.statics) k 0 ≡ suc (known.before + k) = omega (arith, handle_in s.first s.statics k within, known.first) in
     let primitive : IsPrimitive a.kind = All-slice_get (λ (b : Array). IsPrimitive b.kind) s.statics.arrays k a known.kinds there in
-    let ty : type_at told s ≡ array_type a.kind =
+    let ty : type_of_site told s ≡ array_type a.kind =
     (are s.home s.place.ty known.place.typed known.place.no_void).array a.kind primitive (known.place.filled k a there (at_reference s.place.offset even)) in
-    subst (IsInitialHandle t arrays (type_at told s)) (sym h)
+    subst (IsInitialHandle t arrays (type_of_site told s)) (sym h)
     (rw (known.handles k a there) (subst (λ u. Below t (array_type a.kind) u) (sym ty) same))
 
 null_reference : (arrays : List ArrayRec) (t : ClassTable) (s : StaticSite) (ty : Ty) → length s.statics.arrays ≤ s.place.offset / 2 → IsInitialHandle t arrays ty (get_or (references s.first s.statics) (s.place.offset / 2) 0)
 null_reference arrays t s ty past = rw (handle_past s.first s.statics (s.place.offset / 2) past) tt
 
 reference_words : (told : ℕ → TypeItem → Ty) → AreTold told → (n : ℕ) (arrays : List ArrayRec) (t : ClassTable) (s : StaticSite) → length arrays ≤ 4096 → IsSite n arrays s → kind_of s.place.ty ≡ kinds.Ref
-    → IsInitialHandle t arrays (type_at told s) (get_or (references s.first s.statics) (s.place.offset / 2) 0)
+    → IsInitialHandle t arrays (type_of_site told s) (get_or (references s.first s.statics) (s.place.offset / 2) 0)
 reference_words told are n arrays t s few known kind =
     let le = reference_type s.place.ty.nibble s.place.ty.class_ref kind known.place.typed known.place.no_void in
     let even = even_place s.statics s.place le known.place.inside in
     elim (slice_get_cases s.statics.arrays (s.place.offset / 2)).1 [
       | inl there ↦ filled_reference told are n arrays t s few known there.0 there.2 even
-      | inr past ↦ null_reference arrays t s (type_at told s) past.0
+      | inr past ↦ null_reference arrays t s (type_of_site told s) past.0
     ]
 
 words_by : (told : ℕ → TypeItem → Ty) → AreTold told → (n : ℕ) (arrays : List ArrayRec) (t : ClassTable) (s : StaticSite) → length arrays ≤ 4096 → IsSite n arrays s → (k : Kind) → kind_of s.place.ty ≡ k
-    → AreInitialWords t arrays k (type_at told s) (words_at s.first s.statics k s.place.offset)
+    → AreInitialWords t arrays k (type_of_site told s) (words_at s.first s.statics k s.place.offset)
 words_by told are n arrays t s few known kinds.Ref e = reference_words told are n arrays t s few known e
 words_by told are n arrays t s few known kinds.Byte e = signed_is (get_or (image s.statics) s.place.offset 0)
 words_by told are n arrays t s few known kinds.Short e = tt
@@ -125,7 +125,7 @@ AreDeclared t = All (λ (f : StaticRec). IsDeclared t f.ty)
 fields_known : (told : ℕ → TypeItem → Ty) → AreTold told → (n : ℕ) (arrays : List ArrayRec) (t : ClassTable) → length arrays ≤ 4096 → (slot : ℕ) (ss : List StaticSite) → All (IsSite n arrays) ss → AreDeclared t (records_from told slot ss) → All (IsStatic n t arrays) (records_from told slot ss)
 fields_known told are n arrays t few slot [] known declared = All-nil (IsStatic n t arrays)
 fields_known told are n arrays t few slot (s ∷ ss) known declared =
-    let f = static_record slot s (type_at told s) in
+    let f = static_record slot s (type_of_site told s) in
     let others = records_from told (slot + cells_at s.place) ss in
     let site = All-head (IsSite n arrays) s ss known in
     All-cons (IsStatic n t arrays) f others

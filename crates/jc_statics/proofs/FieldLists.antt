@@ -11,7 +11,7 @@ use Rattle.cap_method.specs.StaticFormat.{Statics}
 use Rattle.cap_package.specs.StaticChecks.{ImagePlace}
 use Rattle.cap_package.specs.PackageRecord.{PackageRecord}
 use Rattle.cap_package.specs.StaticPlaces.{static_places}
-use Rattle.jc_statics.specs.Statics.{StaticSite, site, sites, sites_after, cells_at, static_cells, static_record, type_at, records_from, static_records}
+use Rattle.jc_statics.specs.Statics.{StaticSite, site, sites, sites_after, cells_at, static_cells, static_record, type_of_site, records_from, static_records}
 use Rattle.cap_package.proofs.Given.{drop_here}
 
 -- the cells of fields
@@ -27,7 +27,7 @@ records_both : (told : ℕ → TypeItem → Ty) (slot : ℕ) (xs ys : List Stati
 records_both told slot [] ys = let e : slot + 0 ≡ slot = omega arith in rw e refl
 records_both told slot (x ∷ xs) ys =
     let e : slot + cells_in (x ∷ xs) ≡ (slot + cells_at x.place) + cells_in xs = omega (arith, sum_by-cons (λ (s : StaticSite). cells_at s.place) x xs) in
-    rw e (ap (λ rest. static_record slot x (type_at told x) ∷ rest) (records_both told (slot + cells_at x.place) xs ys))
+    rw e (ap (λ rest. static_record slot x (type_of_site told x) ∷ rest) (records_both told (slot + cells_at x.place) xs ys))
 
 -- a step of going over the packages
 pub statics_more : (told : ℕ → TypeItem → Ty) (before after all : List StaticRec) (ps : List PackageRecord) (n first slot next last : ℕ) (p : PackageRecord) → slice_get ps n ≡ Some p
@@ -53,7 +53,7 @@ records_slots told slot (x ∷ xs) = (refl, records_slots told (slot + cells_at 
 records_cells : (told : ℕ → TypeItem → Ty) (slot : ℕ) (xs : List StaticSite) → sum_by (λ (f : StaticRec). width f.kind) (records_from told slot xs) ≡ cells_in xs
 records_cells told slot [] = refl
 records_cells told slot (x ∷ xs) =
-    omega (arith, sum_by-cons (λ (f : StaticRec). width f.kind) (static_record slot x (type_at told x)) (records_from told (slot + cells_at x.place) xs), sum_by-cons (λ (s : StaticSite). cells_at s.place) x xs, records_cells told (slot + cells_at x.place) xs)
+    omega (arith, sum_by-cons (λ (f : StaticRec). width f.kind) (static_record slot x (type_of_site told x)) (records_from told (slot + cells_at x.place) xs), sum_by-cons (λ (s : StaticSite). cells_at s.place) x xs, records_cells told (slot + cells_at x.place) xs)
 
 sites_cells : (home first : ℕ) (ps : List PackageRecord) → cells_in (sites_after home first ps) ≡ static_cells ps
 sites_cells home first [] = refl

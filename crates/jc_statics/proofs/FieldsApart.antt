@@ -9,7 +9,7 @@ use Rattle.cap_method.specs.StaticFormat.{Statics}
 use Rattle.cap_package.specs.StaticChecks.{ImagePlace}
 use Rattle.cap_package.specs.PackageRecord.{PackageRecord}
 use Rattle.cap_package.specs.StaticPlaces.{static_places, AreApart}
-use Rattle.jc_statics.specs.Statics.{StaticSite, site, sites, sites_after, cells_at, static_record, type_at, records_from, static_records}
+use Rattle.jc_statics.specs.Statics.{StaticSite, site, sites, sites_after, cells_at, static_record, type_of_site, records_from, static_records}
 use Rattle.jc_statics.specs.Known.{AreStaticsKnown, StandApart}
 
 abbrev IsApart : StaticSite → StaticSite → Type 0
@@ -50,14 +50,14 @@ sites_apart home first (p ∷ ps) known =
 one_apart : (told : ℕ → TypeItem → Ty) (f : StaticRec) (s : StaticSite) → f.package ≡ s.home → f.offset ≡ s.place.offset → (slot : ℕ) (others : List StaticSite) → All (IsApart s) others → All (λ (g : StaticRec). f.package ≡ g.package → f.offset ≡ g.offset → ⊥) (records_from told slot others)
 one_apart told f s home offset slot [] all = All-nil (λ (g : StaticRec). f.package ≡ g.package → f.offset ≡ g.offset → ⊥)
 one_apart told f s home offset slot (r ∷ others) all =
-    All-cons (λ (g : StaticRec). f.package ≡ g.package → f.offset ≡ g.offset → ⊥) (static_record slot r (type_at told r)) (records_from told (slot + cells_at r.place) others)
+    All-cons (λ (g : StaticRec). f.package ≡ g.package → f.offset ≡ g.offset → ⊥) (static_record slot r (type_of_site told r)) (records_from told (slot + cells_at r.place) others)
     (λ e h. All-head (IsApart s) r others all (sym home ∙ e) (sym offset ∙ h))
     (one_apart told f s home offset (slot + cells_at r.place) others (All-tail (IsApart s) r others all))
 
 records_apart : (told : ℕ → TypeItem → Ty) (slot : ℕ) (ss : List StaticSite) → AreSitesApart ss → StandApart (records_from told slot ss)
 records_apart told slot [] apart = tt {0}
 records_apart told slot (s ∷ ss) apart =
-    (one_apart told (static_record slot s (type_at told s)) s refl refl (slot + cells_at s.place) ss apart.0, records_apart told (slot + cells_at s.place) ss apart.1)
+    (one_apart told (static_record slot s (type_of_site told s)) s refl refl (slot + cells_at s.place) ss apart.0, records_apart told (slot + cells_at s.place) ss apart.1)
 
 pub statics_stand_apart : (told : ℕ → TypeItem → Ty) (ps : List PackageRecord) → All AreStaticsKnown ps → (fields : List StaticRec) → fields ≡ static_records told ps → StandApart fields
 statics_stand_apart told ps known fields e = subst StandApart (sym e) (records_apart told 0 (sites ps) (sites_apart 0 1 ps known))

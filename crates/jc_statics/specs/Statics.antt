@@ -55,13 +55,13 @@ static_record slot s ty = record {
 }
 
 -- the type of a field, where the types that the type descriptors of packages stand for are told
-abbrev pub type_at : (ℕ → TypeItem → Ty) → StaticSite → Ty
-type_at told s = told s.home s.place.ty
+abbrev pub type_of_site : (ℕ → TypeItem → Ty) → StaticSite → Ty
+type_of_site told s = told s.home s.place.ty
 
 -- fields whose cells follow one another from a slot on
 abbrev pub records_from : (ℕ → TypeItem → Ty) → ℕ → List StaticSite → List StaticRec
 records_from told slot [] = []
-records_from told slot (s ∷ others) = static_record slot s (type_at told s) ∷ records_from told (slot + cells_at s.place) others
+records_from told slot (s ∷ others) = static_record slot s (type_of_site told s) ∷ records_from told (slot + cells_at s.place) others
 
 -- the static fields of all packages
 abbrev pub static_records : (ℕ → TypeItem → Ty) → List PackageRecord → List StaticRec

@@ -1,15 +1,10 @@
 -- The values of static fields and initial arrays as words of 16 bits (JCVM 2.2, sections 2.2 and 6.10).
-use Rattle.std.specs.Prelude.{ℕ, ◌+◌, ◌*◌, List, [], ◌∷◌, map, nat_lt, nat_le, if◌then◌else◌}
+use Rattle.std.specs.Prelude.{ℕ, ◌+◌, List, map, nat_lt, nat_le, if◌then◌else◌}
+use Rattle.jc_base.specs.Index.{words_of_bytes}
 
 -- a byte as a word, its sign in the upper half
 abbrev pub signed : ℕ → ℕ
 signed byte = if nat_lt byte 128 then byte else 0xFF00 + byte
-
--- the words that bytes spell, two bytes each, the high one first
-abbrev pub words_of_bytes : List ℕ → List ℕ
-words_of_bytes [] = []
-words_of_bytes (high ∷ []) = []
-words_of_bytes (high ∷ low ∷ bytes) = (high * 256 + low) ∷ words_of_bytes bytes
 
 -- the words of the elements of an array, by the number of their type: a boolean (2) or a byte (3)
 -- is one word, a short (4) one of two bytes, an int (5) two words, the high one first

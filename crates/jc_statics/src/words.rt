@@ -1,5 +1,6 @@
 ghost use Rattle.std.specs.Prelude.{◌≡◌, IfOk, map};
-ghost use Rattle.jc_statics.specs.Words.{signed, words_of_bytes, element_words};
+ghost use Rattle.jc_statics.specs.Words.{signed, element_words};
+ghost use Rattle.jc_base.specs.Index.{words_of_bytes};
 
 use std::alloc::{AllocError, Global};
 

@@ -2,7 +2,7 @@ ghost use Rattle.std.specs.Prelude.{◌≡◌, ◌≤◌, length};
 
 use crate::fitting::{are_items, are_ranges, size};
 use cap_bytes::View;
-use jc_decode::{Handler, Insn, Item, Laid, Range, Sequence, Symbols, decode};
+use jc_decode::{Insn, Item, Laid, LaidHandler, Range, Sequence, Symbols, decode};
 use std::alloc::{AllocError, Global};
 use std::test::*;
 use xf_layout::{LayEnd, lay};
@@ -269,7 +269,7 @@ static RANGES: [Range; 3] = [
 /// The start, the length, the entry and the caught class of each handler.
 static HANDLERS: [(u16, u16, u16, u16); 3] = [(0, 3, 3, 7), (2, 1, 0, 0), (2, 0, 3, 1)];
 
-fn is_handler(handler: &Handler, expected: &(u16, u16, u16, u16)) -> bool {
+fn is_handler(handler: &LaidHandler, expected: &(u16, u16, u16, u16)) -> bool {
     handler.start == expected.0
         && handler.length == expected.1
         && handler.entry == expected.2

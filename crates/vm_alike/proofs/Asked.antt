@@ -33,7 +33,7 @@ use Rattle.vm_store.specs.Cells.{tagged}
 use Rattle.vm_store.specs.State.{Frame, Object, nth}
 use Rattle.vm_step.specs.declared.ending.Fault.TheVariants.{TypeFault, StackFault, LocalFault}
 use Rattle.vm_step.specs.Tests.{fault_before}
-use Rattle.vm_sound.specs.Frames.{least_types, types_in}
+use Rattle.vm_sound.specs.Frames.{least_types, types_of_frame}
 use Rattle.vm_sound.proofs.Cells.{cell-at}
 use Rattle.xf_landed.specs.Laid.{renamed}
 use Rattle.xf_landed.proofs.Renaming.{ready_demand, are_ready, all-renamed}
@@ -71,9 +71,9 @@ module _ (w : Linked) (world : IsWorld w) where
   pub passed-asks :
       (f : Frame Cell) (below : List (Frame Cell)) (heap : List (Object Cell)) (statics : List Cell) (op : Operation)
       → fault_before tagged w op (record { frames = f ∷ below; heap = heap; statics = statics }) ≡ None
-      → SatisfiesAll w.classes (types_in w.classes Bottom (map (λ (o : Object Cell). o.kind) heap) f) (demands w op)
+      → SatisfiesAll w.classes (types_of_frame w.classes Bottom (map (λ (o : Object Cell). o.kind) heap) f) (demands w op)
   passed-asks f below heap statics op h =
-      let types = types_in w.classes Bottom (map (λ (o : Object Cell). o.kind) heap) f in
+      let types = types_of_frame w.classes Bottom (map (λ (o : Object Cell). o.kind) heap) f in
       tests-hold types (demands w op)
       (picked LocalFault StackFault TypeFault (nat_lt (length f.registers) (registers_asked (demands w op)))
       (nat_lt (length f.stack) (cells_asked (demands w op)))

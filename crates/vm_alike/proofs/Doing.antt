@@ -51,7 +51,7 @@ use Rattle.vm_step.specs.Calls.{args_of, chosen_act}
 use Rattle.vm_step.specs.Branching.{is_taken}
 use Rattle.vm_step.specs.Methods.{of_method, code_at}
 use Rattle.vm_step.specs.Performed.{act}
-use Rattle.vm_sound.specs.Frames.{types_in}
+use Rattle.vm_sound.specs.Frames.{types_of_frame}
 use Rattle.vm_sound.proofs.Cells.{cell-at}
 use Rattle.vm_sound.proofs.Fields.{one-cell}
 use Rattle.xf_landed.specs.Apart.{apart_from_code}
@@ -196,7 +196,7 @@ module _
     objects = map (λ (o : Object Cell). o.kind) heap
 
     abbrev pub types : Types
-    types = types_in v.classes Bottom objects frame
+    types = types_of_frame v.classes Bottom objects frame
 
     -- what is known of the two instructions
     pub record Known (i j : Placed) (a b : Operation) : Type 0 where

@@ -16,7 +16,7 @@ use Rattle.vm_store.specs.Kind.{kind_of_handle}
 use Rattle.vm_store.specs.Cells.{tagged}
 use Rattle.vm_store.specs.State.{State, Frame, Object, map_object, nth}
 use Rattle.vm_store.specs.Objects.{kinds, write_object}
-use Rattle.vm_store.specs.Value.{value_on, kept, byte_of_word, with_object_value, with_static_value}
+use Rattle.vm_store.specs.Value.{value_on, kept_value, byte_of_word, with_object_value, with_static_value}
 use Rattle.vm_step.specs.declared.exception.Exception.TheVariants as exceptions
 use Rattle.vm_step.specs.Act.{Act, goes, raises}
 use Rattle.vm_step.specs.Fields.{with_static_write, held_handle, holder_width, with_field_read, field_read_act, with_field_write, field_write_act, elements_of, element_index, at_element, takes_element, keeps_kind, with_element, array_write_act}
@@ -93,7 +93,7 @@ module _ (x : Pair) where
   nth-same n h = nth-renamed x.rename x.frame.stack n ∙ h
 
   abbrev value : Kind → List Cell → List Cell
-  value kind stack = kept tagged kind (value_on tagged kind stack)
+  value kind stack = kept_value tagged kind (value_on tagged kind stack)
 
   value-same : (kind : Kind) → ValueStays kind → value kind (other_stack x) ≡ value kind x.frame.stack
   value-same fields.Int h = cc (nth-same 1 h.0, nth-same 0 h.1)

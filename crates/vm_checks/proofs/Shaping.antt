@@ -38,7 +38,7 @@ use Rattle.vm_store.specs.Kind.{kind_of_handle, cell_kind}
 use Rattle.vm_store.specs.Cells.{Cells, zero_cell}
 use Rattle.vm_store.specs.State.{State, IsRunning, top, nth, with_stack}
 use Rattle.vm_store.specs.Objects.{kinds, object_at, object_cells, new_instance_cells, array_cells}
-use Rattle.vm_store.specs.Value.{value_in, value_on, kept}
+use Rattle.vm_store.specs.Value.{value_in, value_on, kept_value}
 use Rattle.jc_base.specs.Dispatch.{cells_of, dispatched}
 use Rattle.vm_step.specs.declared.exception.Exception.{Exception}
 use Rattle.vm_step.specs.declared.exception.Exception.TheVariants as exceptions
@@ -244,7 +244,7 @@ module _ {A : Type 0} (k : Cells A) (w : Linked) (is : IsWorld w) (runs : AreDis
       (fine-some w s {X = ℕ} exceptions.ArrayIndex (element_index index (elements_of s h))
       (λ n. if keeps_kind k w.classes kind s h then goes (with_element k kind h n s) else raises exceptions.ArrayStore)
       (λ n. fine-if w s (keeps_kind k w.classes kind s h) (goes (with_element k kind h n s)) (raises exceptions.ArrayStore)
-      (value-written w s (dropped s (width kind + 2)) (next-stack w s running shaped _) h (n * width kind) (kept k kind (value_on k kind (top s).stack)))
+      (value-written w s (dropped s (width kind + 2)) (next-stack w s running shaped _) h (n * width kind) (kept_value k kind (value_on k kind (top s).stack)))
       (tt {0})))
   act-fine ops.ArrayLength cells found =
       fine-null w s (handle_at k (top s).stack 0) (λ h. goes (replaced s 1 (k.short (short_of_word (elements_of s h)) ∷ []))) (next-stack w s running shaped _)
@@ -252,12 +252,12 @@ module _ {A : Type 0} (k : Cells A) (w : Linked) (is : IsWorld w) (runs : AreDis
       fine-leads w s (is_taken k branch (top s).stack) (target (top s).place i.x) (dropped s (branch_width branch)) (next-stack w s running shaped _)
   act-fine (ops.Switch width) cells found = next-stack w s running shaped _
   act-fine (ops.StaticRead f) cells found = next-stack w s running shaped _
-  act-fine (ops.StaticWrite f) cells found = static-written w s (dropped s (width f.kind)) (next-stack w s running shaped _) f.slot (kept k f.kind (value_on k f.kind (top s).stack))
+  act-fine (ops.StaticWrite f) cells found = static-written w s (dropped s (width f.kind)) (next-stack w s running shaped _) f.slot (kept_value k f.kind (value_on k f.kind (top s).stack))
   act-fine (ops.FieldRead f holder) cells found = fine-field f holder
   act-fine (ops.FieldWrite f holder) cells found =
       fine-null w s (held_handle k holder (width f.kind) s) (λ h. goes (with_field_write k f holder h s))
       (value-written w s (dropped s (width f.kind + holder_width holder)) (next-stack w s running shaped _) (held_handle k holder (width f.kind) s) f.cell
-      (kept k f.kind (value_on k f.kind (top s).stack)))
+      (kept_value k f.kind (value_on k f.kind (top s).stack)))
   act-fine (ops.Call c) cells found = fine-chosen c found.0 c.choice refl (call-cells w c (length (top s).stack) cells) found.1
   act-fine (ops.New place class) cells found = (next-same w s running shaped, (found, instance-cells class))
   act-fine (ops.NewArray ty) cells found = fine-count (kind_of_type ty) (short_at k (top s).stack 0) (dropped s 1) (next-stack w s running shaped _) (λ m. array-named w ty m found.1)

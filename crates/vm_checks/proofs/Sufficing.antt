@@ -6,7 +6,7 @@ use Rattle.std.proofs.lemmas.List.Elements.{All-head, All-tail}
 use Rattle.std.proofs.lemmas.Option.{slice_get_within}
 use Rattle.jc_base.specs.declared.ty.Ty.TheVariants.{Bottom}
 use Rattle.jc_base.specs.declared.record.MethodRec.{MethodRec}
-use Rattle.jc_base.specs.Class.{ClassTable, AreClasses, IsClass, is_interface, object}
+use Rattle.jc_base.specs.Class.{ClassTable, AreClasses, IsClass, is_interface, object, class_in_types}
 use Rattle.jc_base.specs.Cell.{IsDeclared}
 use Rattle.jc_base.specs.Order.{IsKnown}
 use Rattle.jc_base.specs.Linked.{IsMethod}
@@ -27,7 +27,7 @@ use Rattle.vm_store.specs.declared.cell.Cell.{Cell}
 use Rattle.vm_store.specs.declared.cell.Cell.TheVariants as cells
 use Rattle.vm_store.specs.declared.kind.ObjectKind.{ObjectKind}
 use Rattle.vm_store.specs.declared.kind.ObjectKind.TheVariants.{Instance, Booleans, Bytes, Shorts, Ints, References}
-use Rattle.vm_store.specs.Kind.{class_in_types, type_of_kind}
+use Rattle.vm_store.specs.Kind.{type_of_kind}
 use Rattle.vm_store.specs.Typing.{least_type, type_seen, fresh_seen}
 use Rattle.vm_store.specs.Cells.{tagged}
 use Rattle.vm_store.specs.State.{Frame, State, Object, first_frame, top}

@@ -8,7 +8,7 @@ use Rattle.vm_step.specs.declared.ending.Ending.{Ending}
 use Rattle.vm_step.specs.declared.ending.Ending.TheVariants.{Plain, Faulted}
 use Rattle.vm_step.specs.Arguments.{Argument}
 use Rattle.vm_step.specs.Run.{Continues}
-use Rattle.vm_turns.specs.Turn.{outcome}
+use Rattle.vm_turns.specs.Turn.{with_ending}
 use Rattle.vm_sound.specs.Frames.{Typings}
 use Rattle.vm_sound.specs.Laws.{AreTypings, IsTypedOutcome, RunsAreSafe, StartsAreTyped}
 use Rattle.vm_defend.specs.Held.{Held, reached, answer}
@@ -17,11 +17,11 @@ use Rattle.vm_defend.specs.Safe.{IsPlainEnding, BeginsSafely, GoesSafely}
 
 module _ (w : Linked) where
   on : RunsAreSafe w → (typings : Typings) → AreTypings w typings → (n : ℕ) (e f : Option Ending) (s z : State Cell)
-      → Continues tagged w n (outcome e s) (outcome f z) → IsTypedOutcome w typings (outcome e s) → IsTypedOutcome w typings (outcome f z)
-  on law typings typed n None f s z runs safe = law typings n s (outcome f z) typed safe runs
+      → Continues tagged w n (with_ending e s) (with_ending f z) → IsTypedOutcome w typings (with_ending e s) → IsTypedOutcome w typings (with_ending f z)
+  on law typings typed n None f s z runs safe = law typings n s (with_ending f z) typed safe runs
   on law typings typed n (Some e) f s z same safe = subst (IsTypedOutcome w typings) (sym same) safe
 
-  answered : (typings : Typings) (e : Option Ending) (s : State Cell) → IsTypedOutcome w typings (outcome e s) → IsPlainEnding (answer e)
+  answered : (typings : Typings) (e : Option Ending) (s : State Cell) → IsTypedOutcome w typings (with_ending e s) → IsPlainEnding (answer e)
   answered typings None s safe = tt {0}
   answered typings (Some (Plain plain)) s safe = tt {0}
   answered typings (Some (Faulted fault)) s safe = safe
@@ -34,5 +34,5 @@ module _ (w : Linked) where
 
   pub begins-safely : StartsAreTyped w → (entry : ℕ) (args : List Argument) (run : Held) → IsBegun w entry args run → BeginsSafely w run
   begins-safely law entry args run begun typings typed =
-      subst (λ (e : Option Ending). IsTypedOutcome w typings (outcome e run.state)) (sym begun.goes_on)
+      subst (λ (e : Option Ending). IsTypedOutcome w typings (with_ending e run.state)) (sym begun.goes_on)
       (law typings entry args run.state typed (record { begins = begun.begins; state = begun.state }))

@@ -10,7 +10,7 @@ use Rattle.vm_store.specs.Cells.{tagged}
 use Rattle.vm_store.specs.State.{State, Object, top}
 use Rattle.vm_step.specs.Arguments.{Argument}
 use Rattle.vm_step.specs.Start.{entry_state}
-use Rattle.vm_start.specs.Sized.{IsOfNumbers, IsSized}
+use Rattle.vm_start.specs.Sized.{IsOfNumbers, HasEntrySizes}
 use Rattle.vm_checks.specs.Shaped.{IsShapedFrame, IsShapedFor, IsShapedObject, IsShaped}
 
 numbers-shaped : (t : ClassTable) (kind : ObjectKind) (count : ℕ) → IsOfNumbers kind → IsShapedFor t kind count
@@ -21,7 +21,7 @@ numbers-shaped t Bytes count h = tt {0}
 numbers-shaped t Shorts count h = tt {0}
 numbers-shaped t Ints count h = tt {0}
 
-pub begun-shaped : (w : Linked) (entry : ℕ) (args : List Argument) → IsSized w entry (entry_state tagged w entry args) → IsShaped w (entry_state tagged w entry args)
+pub begun-shaped : (w : Linked) (entry : ℕ) (args : List Argument) → HasEntrySizes w entry (entry_state tagged w entry args) → IsShaped w (entry_state tagged w entry args)
 begun-shaped w entry args size =
     let s : State Cell = entry_state tagged w entry args in
     record {

@@ -9,7 +9,7 @@ use Rattle.vm_step.specs.declared.ending.Plain.TheVariants.{Spent}
 use Rattle.vm_step.specs.Raising.{Outcome}
 use Rattle.vm_checks.specs.Shaped.{IsShaped}
 use Rattle.vm_turns.specs.Marked.{AreMarked}
-use Rattle.vm_turns.specs.Turn.{outcome}
+use Rattle.vm_turns.specs.Turn.{with_ending}
 
 -- the state that the run has reached, how it ended, once it has, and for each method of the world the places at which instructions
 -- begin
@@ -20,7 +20,7 @@ pub record Held : Type 0 where
 
 -- what came of the steps so far
 abbrev pub reached : Held → Outcome Cell
-reached run = outcome run.ending run.state
+reached run = with_ending run.ending run.state
 
 -- a run that was begun in a world
 pub record IsRunOf (w : Linked) (run : Held) : Type 0 where

@@ -12,7 +12,7 @@ use vm_sound::typed_code_never_fails;
 use vm_start::{begin, start_fault, starts_are_sized};
 use vm_step::{Args, StartFault};
 use vm_store::TaggedStore;
-use vm_turns::Places;
+use vm_turns::MarkedPlaces;
 
 /// Why a run was not begun.
 #[derive(Clone, Copy)]
@@ -50,7 +50,7 @@ fn state(alloc: Global, world: &World<'_>, entry: u16, args: &Args<'_>) -> Resul
     ensures run { IfOk result (λ s. IsRunOf world.now s) }
 {
     starts_are_sized(world);
-    let places = Places::of(alloc, world)?;
+    let places = MarkedPlaces::of(alloc, world)?;
     let mut store = TaggedStore::new(alloc, static_cells(world))?;
     begin(&mut store, world, entry, args);
     Ok(State::of(store, places))

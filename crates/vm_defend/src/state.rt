@@ -8,14 +8,14 @@ use jc_base::{Ty, World};
 use std::marker::Model;
 use vm_step::{Ending, Plain, Value};
 use vm_store::TaggedStore;
-use vm_turns::{Known, Places};
+use vm_turns::{Known, MarkedPlaces};
 
 /// A run: the state that it has reached, in memory that was taken once for 64 frames, 4,096 objects, 32,768 cells of
 /// objects and the static fields; how it ended, once it has; and where in the code of each method instructions begin.
 #[derive(Drop)]
 pub struct State {
     store: TaggedStore,
-    places: Places,
+    places: MarkedPlaces,
     ending: Option<Ending>,
 }
 
@@ -32,7 +32,7 @@ impl State {
     ghost use Rattle.vm_defend.specs.Reading.{static_value, object_class, array_kind, array_length, array_value};
 
     /// A run before its first step.
-    pub(crate) fn of(store: TaggedStore, places: Places) -> State
+    pub(crate) fn of(store: TaggedStore, places: MarkedPlaces) -> State
         ensures { result ≡ record { state = store; ending = None; places = places } }
     {
         State {

@@ -51,7 +51,7 @@ use Rattle.vm_store.specs.Kind.{kind_of_handle, element_width}
 use Rattle.vm_store.specs.Cells.{tagged, words, word_of, made_ready}
 use Rattle.vm_store.specs.State.{State, Frame, Object, map_frame, map_object, erased, top, nth, rotated}
 use Rattle.vm_store.specs.Objects.{kinds, object_cells, array_cells}
-use Rattle.vm_store.specs.Value.{value_in, value_on, kept, with_object_value, with_static_value}
+use Rattle.vm_store.specs.Value.{value_in, value_on, kept_value, with_object_value, with_static_value}
 use Rattle.vm_store.specs.Erasing.{ReadsErased, ObjectsErase, CellsErase}
 use Rattle.vm_store.proofs.CellTypes.{words-erase}
 use Rattle.vm_store.proofs.Erasing.{states-erase, reverse-erased}
@@ -291,8 +291,8 @@ module _ (w : Linked) (f : Frame Cell) (below : List (Frame Cell)) (heap : List 
       → with_static_read words fd (erased (record { frames = f ∷ below; heap = heap; statics = statics })) ≡ erased (with_static_read tagged fd (record { frames = f ∷ below; heap = heap; statics = statics }))
   static-read-is fd = replaced-is 0 (value_in tagged fd.kind statics fd.slot) (value_in words fd.kind (map word_of statics) fd.slot) (of-cells.read fd.kind statics fd.slot)
 
-  kept-is : (kind : Kind) → map word_of (kept tagged kind (value_on tagged kind f.stack)) ≡ kept words kind (value_on words kind (map word_of f.stack))
-  kept-is kind = of-cells.stored kind (value_on tagged kind f.stack) ∙ ap (kept words kind) (of-cells.popped kind f.stack)
+  kept-is : (kind : Kind) → map word_of (kept_value tagged kind (value_on tagged kind f.stack)) ≡ kept_value words kind (value_on words kind (map word_of f.stack))
+  kept-is kind = of-cells.stored kind (value_on tagged kind f.stack) ∙ ap (kept_value words kind) (of-cells.popped kind f.stack)
 
   objects-of : (z : State Cell) → ObjectsErase z
   objects-of z = ((states-erase w.methods w.classes).0 z).2
@@ -301,8 +301,8 @@ module _ (w : Linked) (f : Frame Cell) (below : List (Frame Cell)) (heap : List 
       → with_static_write words fd (erased (record { frames = f ∷ below; heap = heap; statics = statics })) ≡ erased (with_static_write tagged fd (record { frames = f ∷ below; heap = heap; statics = statics }))
   static-write-is fd =
       let z : State Cell = dropped (record { frames = f ∷ below; heap = heap; statics = statics }) (width fd.kind) in
-      ap (λ x. with_static_value x fd.slot (kept words fd.kind (value_on words fd.kind (map word_of f.stack)))) (dropped-is (width fd.kind))
-      ∙ (ap (with_static_value (erased z) fd.slot) (sym (kept-is fd.kind)) ∙ sym ((objects-of z).static_value fd.slot (kept tagged fd.kind (value_on tagged fd.kind f.stack))))
+      ap (λ x. with_static_value x fd.slot (kept_value words fd.kind (value_on words fd.kind (map word_of f.stack)))) (dropped-is (width fd.kind))
+      ∙ (ap (with_static_value (erased z) fd.slot) (sym (kept-is fd.kind)) ∙ sym ((objects-of z).static_value fd.slot (kept_value tagged fd.kind (value_on tagged fd.kind f.stack))))
 
   held-is : (holder : Holder) (under : ℕ)
       → held_handle words holder under (erased (record { frames = f ∷ below; heap = heap; statics = statics })) ≡ held_handle tagged holder under (record { frames = f ∷ below; heap = heap; statics = statics })
@@ -332,12 +332,12 @@ module _ (w : Linked) (f : Frame Cell) (below : List (Frame Cell)) (heap : List 
 
   -- a value on top of the stack goes into an object
   written-is : (taken h i : ℕ) (kind : Kind)
-      → with_object_value (dropped (erased (record { frames = f ∷ below; heap = heap; statics = statics })) taken) h i (kept words kind (value_on words kind (map word_of f.stack)))
-      ≡ erased (with_object_value (dropped (record { frames = f ∷ below; heap = heap; statics = statics }) taken) h i (kept tagged kind (value_on tagged kind f.stack)))
+      → with_object_value (dropped (erased (record { frames = f ∷ below; heap = heap; statics = statics })) taken) h i (kept_value words kind (value_on words kind (map word_of f.stack)))
+      ≡ erased (with_object_value (dropped (record { frames = f ∷ below; heap = heap; statics = statics }) taken) h i (kept_value tagged kind (value_on tagged kind f.stack)))
   written-is taken h i kind =
       let z : State Cell = dropped (record { frames = f ∷ below; heap = heap; statics = statics }) taken in
-      ap (λ x. with_object_value x h i (kept words kind (value_on words kind (map word_of f.stack)))) (dropped-is taken)
-      ∙ (ap (with_object_value (erased z) h i) (sym (kept-is kind)) ∙ sym ((objects-of z).value h i (kept tagged kind (value_on tagged kind f.stack))))
+      ap (λ x. with_object_value x h i (kept_value words kind (value_on words kind (map word_of f.stack)))) (dropped-is taken)
+      ∙ (ap (with_object_value (erased z) h i) (sym (kept-is kind)) ∙ sym ((objects-of z).value h i (kept_value tagged kind (value_on tagged kind f.stack))))
 
   field-write-act-is : (fd : InstanceField) (holder : Holder)
       → field_write_act words fd holder (erased (record { frames = f ∷ below; heap = heap; statics = statics }))

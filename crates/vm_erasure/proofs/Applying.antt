@@ -15,7 +15,7 @@ use Rattle.vm_store.specs.declared.cell.Cell.{Cell}
 use Rattle.vm_store.specs.State.{Frame, Object, first_frame}
 use Rattle.vm_step.specs.Methods.{of_method, code_at, instruction_at}
 use Rattle.vm_step.specs.Step.{Fetches}
-use Rattle.vm_sound.specs.Frames.{Typings, types_in}
+use Rattle.vm_sound.specs.Frames.{Typings, types_of_frame}
 use Rattle.vm_sound.specs.State.{IsTypedState}
 use Rattle.vm_sound.proofs.Handles.{kinds_of}
 use Rattle.vm_sound.proofs.Turns.{Turn, turn}
@@ -28,7 +28,7 @@ module _ (w : Linked) (world : IsWorld w) (typings : Typings) where
       → Turn w typings (kinds_of heap) f
       → Fetches w (record { frames = f ∷ below; heap = heap; statics = statics }) m i
       → Resolves w m i.place i.insn (Ok op)
-      → (after : Types) × (o : Rule) × OperationApplies w m.max_stack op Flow (types_in w.classes (typings.unset f.method) (kinds_of heap) f) after o
+      → (after : Types) × (o : Rule) × OperationApplies w m.max_stack op Flow (types_of_frame w.classes (typings.unset f.method) (kinds_of heap) f) after o
   of-turn f below heap statics m i op t fetched resolves =
       let st = t.stands in
       let there : instruction_at (code_at w f.method) f.place ≡ Some st.instruction =
@@ -40,7 +40,7 @@ module _ (w : Linked) (world : IsWorld w) (typings : Typings) where
       let here : Resolves w m i.place i.insn (Ok t.operation) = subst (λ (x : Placed). Resolves w m x.place x.insn (Ok t.operation)) same_i moved in
       let answers : Ok t.operation ≡ Ok op = here ∙ sym resolves in
       let same_op : t.operation ≡ op = cc in
-      let exact = types_in w.classes (typings.unset f.method) (kinds_of heap) f in (
+      let exact = types_of_frame w.classes (typings.unset f.method) (kinds_of heap) f in (
         t.after,
         t.outcome,
         subst (λ (x : Operation). OperationApplies w m.max_stack x Flow exact t.after t.outcome) same_op
@@ -52,7 +52,7 @@ module _ (w : Linked) (world : IsWorld w) (typings : Typings) where
       → IsTypedState w typings (record { frames = fs; heap = heap; statics = statics })
       → Fetches w (record { frames = fs; heap = heap; statics = statics }) m i
       → Resolves w m i.place i.insn (Ok op)
-      → (after : Types) × (o : Rule) × OperationApplies w m.max_stack op Flow (types_in w.classes (typings.unset (first_frame fs).method) (kinds_of heap) (first_frame fs)) after o
+      → (after : Types) × (o : Rule) × OperationApplies w m.max_stack op Flow (types_of_frame w.classes (typings.unset (first_frame fs).method) (kinds_of heap) (first_frame fs)) after o
   applies-by [] heap statics m i op typed fetched resolves = let runs = fetched.runs in absurd (omega (arith, runs))
   applies-by (f ∷ below) heap statics m i op typed fetched resolves =
       of-turn f below heap statics m i op (turn w world typings (kinds_of heap) f typed.frames.0) fetched resolves

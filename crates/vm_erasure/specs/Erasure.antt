@@ -23,7 +23,7 @@ use Rattle.vm_step.specs.Step.{Fetches, Steps}
 use Rattle.vm_step.specs.Run.{Runs}
 use Rattle.vm_step.specs.Arguments.{Argument}
 use Rattle.vm_step.specs.Start.{Starts}
-use Rattle.vm_sound.specs.Frames.{Typings, types_in}
+use Rattle.vm_sound.specs.Frames.{Typings, types_of_frame}
 use Rattle.vm_sound.specs.State.{IsTypedState}
 use Rattle.vm_sound.specs.Laws.{AreTypedMethods, AreTypings}
 
@@ -101,4 +101,4 @@ TypedStatesApply w =
     → Fetches w s m i
     → Resolves w m i.place i.insn (Ok op)
     → (after : Types) × (o : Rule)
-    × OperationApplies w m.max_stack op Flow (types_in w.classes (typings.unset (top s).method) (kinds s) (top s)) after o
+    × OperationApplies w m.max_stack op Flow (types_of_frame w.classes (typings.unset (top s).method) (kinds s) (top s)) after o

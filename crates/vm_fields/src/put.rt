@@ -3,7 +3,7 @@ ghost use Rattle.jc_base.specs.Cell.{width};
 ghost use Rattle.jc_ops.specs.declared.operation.Holder.TheVariants as holders;
 ghost use Rattle.vm_store.specs.State.{IsRunning, top};
 ghost use Rattle.vm_store.specs.Objects.{object_cells};
-ghost use Rattle.vm_store.specs.Value.{value_on, kept, with_object_value};
+ghost use Rattle.vm_store.specs.Value.{value_on, kept_value, with_object_value};
 ghost use Rattle.vm_step.specs.Numbers.{dropped};
 ghost use Rattle.vm_step.specs.Fields.{holder_width};
 ghost use Rattle.vm_values.specs.Lead.{with_put, PutStands};
@@ -48,7 +48,7 @@ fn pop_value<S: Store>(store: &mut S, handle: u16, at: u16, kind: Kind, under: u
         (dropped (S.state store.old) (width kind + under))
         handle
         at
-        (kept S.Cell.cells kind (value_on S.Cell.cells kind (top (S.state store.old)).stack)) }
+        (kept_value S.Cell.cells kind (value_on S.Cell.cells kind (top (S.state store.old)).stack)) }
     ensures well { S.well store.new }
     ensures fixed { S.fixed store.new ≡ S.fixed store.old }
 {

@@ -13,7 +13,7 @@ use Rattle.vm_step.specs.Raising.{running}
 use Rattle.vm_step.specs.Run.{stands}
 use Rattle.vm_step.specs.Start.{start_fault, entry_state}
 use Rattle.vm_start.specs.Laws.{StartStatesErase, StartsAreSized}
-use Rattle.vm_turns.specs.Turn.{outcome}
+use Rattle.vm_turns.specs.Turn.{with_ending}
 use Rattle.vm_words.specs.declared.words.Counts.{Counts}
 use Rattle.vm_words.specs.Words.{AreLaid, words_state}
 use Rattle.vm_offend.specs.declared.machine.Machine.{Machine}
@@ -41,8 +41,8 @@ module _ (w : Linked) (entry : ℕ) (args : List Argument) (begins : start_fault
             statics_length = ap (λ (s : State ℕ). length s.statics) is ∙ (length-map t.statics word_of ∙ (sizes entry args begins).statics);
           };
           laid = subst (λ (n : Counts). AreLaid w ram heap n) (sym counted) here;
-          words = ap (λ (n : Counts). outcome (option_map endings.Plain m.ending) (words_state w.methods ram heap statics n)) counted
-              ∙ (ap (λ (e : Option Plain). outcome (option_map endings.Plain e) (words_state w.methods ram heap statics counts)) none ∙ ap running is);
+          words = ap (λ (n : Counts). with_ending (option_map endings.Plain m.ending) (words_state w.methods ram heap statics n)) counted
+              ∙ (ap (λ (e : Option Plain). with_ending (option_map endings.Plain e) (words_state w.methods ram heap statics counts)) none ∙ ap running is);
         };
       }
 

@@ -9,7 +9,7 @@ use Rattle.vm_step.specs.declared.ending.Ending.TheVariants as endings
 use Rattle.vm_step.specs.declared.ending.Plain.{Plain}
 use Rattle.vm_step.specs.declared.ending.Plain.TheVariants.{Spent}
 use Rattle.vm_step.specs.Raising.{Outcome, running, ended}
-use Rattle.vm_turns.specs.Turn.{outcome}
+use Rattle.vm_turns.specs.Turn.{with_ending}
 use Rattle.vm_sound.specs.Frames.{Typings}
 use Rattle.vm_sound.specs.Laws.{IsTypedOutcome}
 use Rattle.vm_erasure.specs.Erasure.{erased_outcome}
@@ -24,19 +24,19 @@ held (running s) = s
 held (ended e s) = s
 
 -- a run that has not ended
-pub going-on : (e : Option Ending) (s : State ℕ) (o : Outcome Cell) → e ≡ None → outcome e s ≡ erased_outcome o → (t : State Cell) × (o ≡ running t) × (s ≡ erased t)
-going-on e s (running t) none is = (t, refl, let now : running s ≡ running (erased t) = sym (ap (λ (x : Option Ending). outcome x s) none) ∙ is in ap held now)
-going-on e s (ended f t) none is = let now : running s ≡ ended f (erased t) = sym (ap (λ (x : Option Ending). outcome x s) none) ∙ is in absurd (cc)
+pub going-on : (e : Option Ending) (s : State ℕ) (o : Outcome Cell) → e ≡ None → with_ending e s ≡ erased_outcome o → (t : State Cell) × (o ≡ running t) × (s ≡ erased t)
+going-on e s (running t) none is = (t, refl, let now : running s ≡ running (erased t) = sym (ap (λ (x : Option Ending). with_ending x s) none) ∙ is in ap held now)
+going-on e s (ended f t) none is = let now : running s ≡ ended f (erased t) = sym (ap (λ (x : Option Ending). with_ending x s) none) ∙ is in absurd (cc)
 
 -- its ending is no fault
-pub plain-ending : (w : Linked) (typings : Typings) (e : Option Ending) (s : State ℕ) (o : Outcome Cell) → outcome e s ≡ erased_outcome o → IsTypedOutcome w typings o → IfSome e IsPlainEnding
+pub plain-ending : (w : Linked) (typings : Typings) (e : Option Ending) (s : State ℕ) (o : Outcome Cell) → with_ending e s ≡ erased_outcome o → IsTypedOutcome w typings o → IfSome e IsPlainEnding
 plain-ending w typings None s o is safe = tt {0}
 plain-ending w typings (Some (endings.Plain plain)) s o is safe = tt {0}
 plain-ending w typings (Some (endings.Faulted fault)) s (running t) is safe = absurd (cc)
 plain-ending w typings (Some (endings.Faulted fault)) s (ended (endings.Plain plain) t) is safe = absurd (cc)
 plain-ending w typings (Some (endings.Faulted fault)) s (ended (endings.Faulted other) t) is safe = absurd safe
 
-pub ending-is : (e : Option Ending) (s : State ℕ) (o : Outcome Cell) → outcome e s ≡ erased_outcome o → ending_of o ≡ e
+pub ending-is : (e : Option Ending) (s : State ℕ) (o : Outcome Cell) → with_ending e s ≡ erased_outcome o → ending_of o ≡ e
 ending-is None s (running t) is = refl
 ending-is None s (ended f t) is = absurd (cc)
 ending-is (Some e) s (running t) is = absurd (cc)
@@ -51,10 +51,10 @@ pub ended-follows : (w : Linked) (m : Machine) (ram heap statics : List ℕ) (bu
     → Follows w budget o m ram heap statics plain
 ended-follows w m ram heap statics budget plain is (running t) held =
     let now : ended (endings.Plain plain) (words_state w.methods ram heap statics m.counts) ≡ running (erased t) =
-    sym (ap (λ (e : Option Plain). outcome (option_map endings.Plain e) (words_state w.methods ram heap statics m.counts)) is) ∙ held.words in
+    sym (ap (λ (e : Option Plain). with_ending (option_map endings.Plain e) (words_state w.methods ram heap statics m.counts)) is) ∙ held.words in
     absurd (cc)
 ended-follows w m ram heap statics budget plain is (ended e t) held =
     let now : ended (endings.Plain plain) (words_state w.methods ram heap statics m.counts) ≡ ended e (erased t) =
-    sym (ap (λ (p : Option Plain). outcome (option_map endings.Plain p) (words_state w.methods ram heap statics m.counts)) is) ∙ held.words in
+    sym (ap (λ (p : Option Plain). with_ending (option_map endings.Plain p) (words_state w.methods ram heap statics m.counts)) is) ∙ held.words in
     let same : e ≡ endings.Plain plain = cc in
     record { after = ended e t; runs = refl; words = held; answers = same }

@@ -15,7 +15,7 @@ use Rattle.vm_step.specs.declared.ending.Plain.TheVariants.{Spent}
 use Rattle.vm_step.specs.Laws.{StepsAreOne, RunsExist, RunsGoOn}
 use Rattle.vm_step.specs.Raising.{Outcome, running}
 use Rattle.vm_step.specs.Run.{Runs}
-use Rattle.vm_turns.specs.Turn.{outcome}
+use Rattle.vm_turns.specs.Turn.{with_ending}
 use Rattle.vm_sound.specs.Laws.{HasTypings, IsTypedOutcome, RunsAreSafe, StartsAreTyped}
 use Rattle.vm_checks.specs.Shaped.{IsShaped}
 use Rattle.vm_checks.specs.Machine.{StepsStay}
@@ -34,7 +34,7 @@ use Rattle.vm_offend.proofs.Following.{going-on, plain-ending, ending-is, answer
 pub record Ran (w : Linked) (m : Machine) (ram heap statics : List ℕ) (budget : ℕ) (n : Machine) (frames objects fields : List ℕ) (plain : Plain) : Type 0 where
   pub going : m.ending ≡ None
   pub ending : Option Ending
-  pub runs : Runs words w budget (words_state w.methods ram heap statics m.counts) (outcome ending (words_state w.methods frames objects fields n.counts))
+  pub runs : Runs words w budget (words_state w.methods ram heap statics m.counts) (with_ending ending (words_state w.methods frames objects fields n.counts))
   pub shaped : IsShaped w (words_state w.methods frames objects fields n.counts)
   pub laid : AreLaid w frames objects n.counts
   pub kept : option_map endings.Plain n.ending ≡ ending
@@ -64,15 +64,15 @@ module _ (w : Linked) (has : HasTypings w Bottom) (starts : StartsAreTyped w) (s
 
   -- ---- after them
 
-  gone : TypedRunsFollow w → (budget : ℕ) (s z : State ℕ) (e : Option Ending) (t : State Cell) → s ≡ erased t → IsOutcomeOfRun w (running t) → Runs words w budget s (outcome e z)
-      → (o : Outcome Cell) × Runs tagged w budget t o × (outcome e z ≡ erased_outcome o) × IsTypedOutcome w has.typings o
+  gone : TypedRunsFollow w → (budget : ℕ) (s z : State ℕ) (e : Option Ending) (t : State Cell) → s ≡ erased t → IsOutcomeOfRun w (running t) → Runs words w budget s (with_ending e z)
+      → (o : Outcome Cell) × Runs tagged w budget t o × (with_ending e z ≡ erased_outcome o) × IsTypedOutcome w has.typings o
   gone follow budget s z e t is r runs =
       let typed = reached-safe w has starts safe (running t) r in
-      let there = follow has.typings budget t (outcome e z) has.are typed (subst (λ (x : State ℕ). Runs words w budget x (outcome e z)) is runs) in
+      let there = follow has.typings budget t (with_ending e z) has.are typed (subst (λ (x : State ℕ). Runs words w budget x (with_ending e z)) is runs) in
       (there.0, there.1, there.2, safe has.typings budget t there.0 has.are typed there.1)
 
   pub run-plain : TypedRunsFollow w → (m : Machine) (ram heap statics : List ℕ) → m.ending ≡ None → (r : IsRunOf w m ram heap statics)
-      → (budget : ℕ) (s z : State ℕ) (e : Option Ending) → s ≡ words_state w.methods ram heap statics m.counts → Runs words w budget s (outcome e z) → IfSome e IsPlainEnding
+      → (budget : ℕ) (s z : State ℕ) (e : Option Ending) → s ≡ words_state w.methods ram heap statics m.counts → Runs words w budget s (with_ending e z) → IfSome e IsPlainEnding
   run-plain follow m ram heap statics going r budget s z e is runs =
       let t = held-state m ram heap statics going r.outcome r.words in
       let g = gone follow budget s z e t.0 (is ∙ t.2) (subst (IsOutcomeOfRun w) t.1 r.reached) runs in
@@ -94,7 +94,7 @@ module _ (w : Linked) (has : HasTypings w Bottom) (starts : StartsAreTyped w) (s
             words = record {
               sized = record { ram_length = ran.laid.ram_length; heap_length = ran.laid.heap_length; statics_length = ran.shaped.statics };
               laid = ran.laid;
-              words = ap (λ (e : Option Ending). outcome e z) ran.kept ∙ g.2;
+              words = ap (λ (e : Option Ending). with_ending e z) ran.kept ∙ g.2;
             };
             answers = ap answer (ending-is ran.ending z g.0 g.2 ∙ sym ran.kept) ∙ (answers n.ending ∙ ap endings.Plain (sym ran.answer_is));
           })

@@ -11,7 +11,7 @@ use Rattle.vm_step.specs.Arguments.{Argument}
 use Rattle.vm_step.specs.Raising.{Outcome, running, ended}
 use Rattle.vm_step.specs.Run.{Runs, Continues}
 use Rattle.vm_step.specs.Start.{Starts}
-use Rattle.vm_turns.specs.Turn.{outcome}
+use Rattle.vm_turns.specs.Turn.{with_ending}
 use Rattle.vm_words.specs.Words.{AreLaid, words_state}
 use Rattle.vm_erasure.specs.Erasure.{erased_outcome}
 use Rattle.vm_defend.specs.Held.{answer}
@@ -20,7 +20,7 @@ use Rattle.vm_offend.specs.Sized.{AreSized}
 
 -- what came of the steps so far: the state that the memory holds, with the ending, once there is one
 abbrev pub reached : Linked → Machine → List ℕ → List ℕ → List ℕ → Outcome ℕ
-reached w m ram heap statics = outcome (option_map endings.Plain m.ending) (words_state w.methods ram heap statics m.counts)
+reached w m ram heap statics = with_ending (option_map endings.Plain m.ending) (words_state w.methods ram heap statics m.counts)
 
 -- the memory holds the words of what a run of tagged cells came to: of its frames, of the objects that exist and of all static fields
 pub record AreWordsOf (w : Linked) (m : Machine) (ram heap statics : List ℕ) (o : Outcome Cell) : Type 0 where

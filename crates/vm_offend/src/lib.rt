@@ -11,6 +11,6 @@ mod starting;
 mod storing;
 
 pub use machine::Machine;
-pub use memory::Sizes;
+pub use memory::MemorySizes;
 pub use sizing::sizes;
 pub use starting::start;

@@ -5,9 +5,9 @@ ghost use Rattle.vm_store.specs.Cells.{words};
 ghost use Rattle.vm_store.specs.State.{IsRunning};
 ghost use Rattle.vm_step.specs.Start.{start_fault, entry_state};
 ghost use Rattle.vm_step.specs.Run.{Runs};
-ghost use Rattle.vm_turns.specs.Turn.{outcome};
+ghost use Rattle.vm_turns.specs.Turn.{with_ending};
 ghost use Rattle.vm_checks.specs.Shaped.{IsShaped};
-ghost use Rattle.vm_words.specs.WordStore.{state_of, IsLaid};
+ghost use Rattle.vm_words.specs.WordStore.{state_in_words, IsLaidOut};
 ghost use Rattle.vm_words.specs.Typed.{AreTypedWords};
 ghost use Rattle.vm_offend.specs.Sized.{static_cells};
 
@@ -23,14 +23,14 @@ pub(crate) fn begin(
     entry: u16,
     args: &Args<'_>,
 )
-    requires well { IsLaid store.old }
+    requires well { IsLaidOut store.old }
     requires world { store.old.world.now ≡ world.now }
-    requires no_frame { (state_of store.old).frames ≡ [] }
-    requires no_object { (state_of store.old).heap ≡ [] }
-    requires statics { length (state_of store.old).statics ≡ static_cells world.now }
+    requires no_frame { (state_in_words store.old).frames ≡ [] }
+    requires no_object { (state_in_words store.old).heap ≡ [] }
+    requires statics { length (state_in_words store.old).statics ≡ static_cells world.now }
     requires begins { start_fault world.now entry args.now ≡ None }
-    ensures state { state_of store.new ≡ entry_state words world.now entry args.now }
-    ensures well { IsLaid store.new }
+    ensures state { state_in_words store.new ≡ entry_state words world.now entry args.now }
+    ensures well { IsLaidOut store.new }
     ensures world { store.new.world.now ≡ world.now }
     ensures ram { store.new.ram.ghost_name ≡ store.old.ram.ghost_name }
     ensures heap { store.new.heap.ghost_name ≡ store.old.heap.ghost_name }
@@ -45,13 +45,13 @@ pub(crate) fn run(
     world: &World<'_>,
     budget: u64,
 ) -> Option<Ending>
-    requires well { IsLaid store.old }
+    requires well { IsLaidOut store.old }
     requires world { store.old.world.now ≡ world.now }
-    requires running { IsRunning (state_of store.old) }
-    requires keeps { AreTypedWords world.now (state_of store.old) }
-    ensures runs { Runs words world.now budget (state_of store.old) (outcome result (state_of store.new)) }
-    ensures shaped { IsShaped world.now (state_of store.new) }
-    ensures well { IsLaid store.new }
+    requires running { IsRunning (state_in_words store.old) }
+    requires keeps { AreTypedWords world.now (state_in_words store.old) }
+    ensures runs { Runs words world.now budget (state_in_words store.old) (with_ending result (state_in_words store.new)) }
+    ensures shaped { IsShaped world.now (state_in_words store.new) }
+    ensures well { IsLaidOut store.new }
     ensures world { store.new.world.now ≡ world.now }
     ensures ram { store.new.ram.ghost_name ≡ store.old.ram.ghost_name }
     ensures heap { store.new.heap.ghost_name ≡ store.old.heap.ghost_name }

@@ -3,7 +3,7 @@ ghost use Rattle.vm_store.specs.State.{IsRunning};
 ghost use Rattle.vm_store.specs.Store.{IsOf};
 ghost use Rattle.vm_step.specs.Run.{Runs};
 ghost use Rattle.vm_turns.specs.Known.{KnowPlaces};
-ghost use Rattle.vm_turns.specs.Turn.{outcome};
+ghost use Rattle.vm_turns.specs.Turn.{with_ending};
 ghost use Rattle.vm_checks.specs.Shaped.{IsShaped};
 
 use crate::stepping::step;
@@ -25,7 +25,7 @@ pub fn run<M: Turning>(
     requires world { IsOf (M.fixed store.old) world.now }
     requires keeps { M.keeps world.now (M.state store.old) }
     requires places { KnowPlaces M.Cell.cells.checks world.now known }
-    ensures runs { Runs M.Cell.cells world.now budget (M.state store.old) (outcome result (M.state store.new)) }
+    ensures runs { Runs M.Cell.cells world.now budget (M.state store.old) (with_ending result (M.state store.new)) }
     ensures shaped { IsShaped world.now (M.state store.new) }
     ensures running { IfNone result (IsRunning (M.state store.new)) }
     ensures keeps { IfNone result (M.keeps world.now (M.state store.new)) }

@@ -5,7 +5,7 @@ ghost use Rattle.vm_store.specs.Store.{IsOf};
 ghost use Rattle.vm_step.specs.Settled.{goes_to, given_to, settled};
 ghost use Rattle.vm_values.specs.Lead.{LeadStands, PutStands, told, with_put, value_cells, value_width};
 ghost use Rattle.vm_turns.specs.Known.{KnowPlaces, CanResume};
-ghost use Rattle.vm_turns.specs.Turn.{outcome, AreMethods};
+ghost use Rattle.vm_turns.specs.Turn.{with_ending, AreMethods};
 ghost use Rattle.vm_runs.specs.Leading.{LeadsOn, put_width};
 
 use jc_base::{Kind, World};
@@ -54,7 +54,7 @@ fn put_and_go<S: Store>(store: &mut S, world: &World<'_>, next: u32, put: Put) -
     requires method { (top (S.state store.old)).method < length world.now.methods }
     requires short { next ≤ 32767 }
     requires stands { PutStands (S.state store.old) put }
-    ensures outcome { outcome result (S.state store.new)
+    ensures outcome { with_ending result (S.state store.new)
         ≡ goes_to
         S.Cell.cells
         world.now
@@ -86,7 +86,7 @@ fn give<S: Store>(
     requires cells { value_width value ≤ length (top (S.state store.old)).stack }
     requires caller { IsRunning (without_top (S.state store.old))
         → CanResume S.stack_room world.now known (value_width value) (without_top (S.state store.old)) }
-    ensures outcome { outcome result (S.state store.new)
+    ensures outcome { with_ending result (S.state store.new)
         ≡ given_to
         S.Cell.cells
         world.now
@@ -120,7 +120,7 @@ pub fn settle<S: Store>(
     requires room { 0 < S.stack_room }
     requires stands { LeadStands S.stack_room world.now (S.state store.old) lead }
     requires leads { LeadsOn S.stack_room world.now known (S.state store.old) lead }
-    ensures outcome { outcome result (S.state store.new)
+    ensures outcome { with_ending result (S.state store.new)
         ≡ settled
         S.Cell.cells
         world.now

@@ -6,7 +6,7 @@ ghost use Rattle.vm_store.specs.Store.{IsOf};
 ghost use Rattle.vm_step.specs.Methods.{code_at, max_stack_of, instruction_at};
 ghost use Rattle.vm_step.specs.Step.{Steps, performed};
 ghost use Rattle.vm_turns.specs.Known.{KnowPlaces};
-ghost use Rattle.vm_turns.specs.Turn.{outcome};
+ghost use Rattle.vm_turns.specs.Turn.{with_ending};
 
 use crate::settling::settle;
 use crate::turning::Turning;
@@ -26,7 +26,7 @@ pub fn step<M: Turning>(store: &mut M, world: &World<'_>, known: Known<'_>) -> O
     requires world { IsOf (M.fixed store.old) world.now }
     requires keeps { M.keeps world.now (M.state store.old) }
     requires places { KnowPlaces M.Cell.cells.checks world.now known }
-    ensures steps { Steps M.Cell.cells world.now (M.state store.old) (outcome result (M.state store.new)) }
+    ensures steps { Steps M.Cell.cells world.now (M.state store.old) (with_ending result (M.state store.new)) }
     ensures well { M.well store.new }
     ensures fixed { M.fixed store.new ≡ M.fixed store.old }
 {
@@ -68,7 +68,7 @@ fn perform<M: Turning>(
         (λ m. Resolves world.now m placed.place placed.insn (Ok operation)) }
     requires sound { IsSomeAnd (slice_get world.now.methods (top (M.state store.old)).method)
         (λ m. IsSound world.now m placed.place operation) }
-    ensures outcome { outcome result (M.state store.new)
+    ensures outcome { with_ending result (M.state store.new)
         ≡ performed M.Cell.cells world.now placed operation (M.state store.old) }
     ensures well { M.well store.new }
     ensures fixed { M.fixed store.new ≡ M.fixed store.old }

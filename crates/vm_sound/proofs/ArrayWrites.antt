@@ -24,13 +24,13 @@ use Rattle.vm_store.specs.Typing.{HasType, IsReady, short, least_type, type_of_h
 use Rattle.vm_store.specs.Cells.{tagged, word_of, short_of_word}
 use Rattle.vm_store.specs.State.{Frame, Object, State}
 use Rattle.vm_store.specs.Value.{byte_of_word}
-use Rattle.vm_store.specs.Laws.{IsFilled}
+use Rattle.vm_store.specs.Laws.{HasContent}
 use Rattle.vm_step.specs.declared.exception.Exception.TheVariants as exceptions
 use Rattle.vm_step.specs.Act.{Act, goes, raises}
 use Rattle.vm_step.specs.Numbers.{short_at, replaced}
 use Rattle.vm_step.specs.Fields.{elements_of, element_index, at_element, takes_element, keeps_kind, with_element, array_write_act, array_length_act}
 use Rattle.vm_step.specs.Settled.{settled}
-use Rattle.vm_sound.specs.Frames.{Typings, least_types, types_in}
+use Rattle.vm_sound.specs.Frames.{Typings, least_types, types_of_frame}
 use Rattle.vm_sound.specs.State.{CanBeMade}
 use Rattle.vm_sound.specs.Laws.{IsTypedOutcome}
 use Rattle.vm_sound.proofs.CellTypes.{below-has, stacked-filled}
@@ -50,9 +50,9 @@ module _ (w : Linked) (world : IsWorld w) (assigned : Typings) (f : Frame Cell) 
     -- a cell of the stack that is below a ready type has it, and is filled
     pub record IsHeld (n : ℕ) (ty : Ty) : Type 0 where
       pub has : HasType w.classes (kinds_of heap) (slice_index_or f.stack n cells.Empty) ty
-      pub filled : IsFilled (slice_index_or f.stack n cells.Empty)
+      pub filled : HasContent (slice_index_or f.stack n cells.Empty)
 
-    pub held-filled : (n : ℕ) → n < length f.stack → IsFilled (slice_index_or f.stack n cells.Empty)
+    pub held-filled : (n : ℕ) → n < length f.stack → HasContent (slice_index_or f.stack n cells.Empty)
     held-filled n lt =
         stacked-filled w here.turn.stands.rec (kinds_of heap) (slice_index_or f.stack n cells.Empty) (stacked-at w here.turn.stands.rec (kinds_of heap) f.stack n lt here.turn.stacked)
 
@@ -160,5 +160,5 @@ module _ (w : Linked) (world : IsWorld w) (assigned : Typings) (f : Frame Cell) 
         null-safe w world assigned f below heap statics here (here.turn.stands.instruction.place + here.turn.stands.instruction.insn.len) h
         (λ n. goes (replaced now 1 (c n ∷ [])))
         (λ some. replace-safe w world assigned f below heap statics here 1 (given.One Short) (c h ∷ []) heap statics
-        (ap (λ o. effect w o (types_in w.classes (assigned.unset f.method) (kinds_of heap) f)) is) (ap falls_from is)
+        (ap (λ o. effect w o (types_of_frame w.classes (assigned.unset f.method) (kinds_of heap) f)) is) (ap falls_from is)
         (more_cells same no_cells) (one-stacked w here.turn.stands.rec (kinds_of heap) (c h) tt) here.store refl)

@@ -8,7 +8,7 @@ use Rattle.jc_base.specs.declared.ty.Ty.{Ty}
 use Rattle.jc_base.specs.declared.ty.Ty.TheVariants.{Short, IntHigh, IntLow, Class, ArrBool, ArrByte, ArrShort, ArrInt, ArrRef, Top}
 use Rattle.jc_base.specs.declared.ty.Kind.{Kind}
 use Rattle.jc_base.specs.declared.ty.Kind.TheVariants as fields
-use Rattle.jc_base.specs.Class.{ClassTable, AreClasses, object}
+use Rattle.jc_base.specs.Class.{ClassTable, AreClasses, object, class_in_types}
 use Rattle.jc_base.specs.Order.{Below, is_below}
 use Rattle.jc_base.specs.Cell.{width}
 use Rattle.jc_base.specs.World.{Linked, IsWorld}
@@ -24,19 +24,19 @@ use Rattle.vm_store.specs.declared.cell.Cell.{Cell}
 use Rattle.vm_store.specs.declared.cell.Cell.TheVariants as cells
 use Rattle.vm_store.specs.declared.kind.ObjectKind.{ObjectKind}
 use Rattle.vm_store.specs.declared.kind.ObjectKind.TheVariants.{Instance, Booleans, Bytes, Shorts, Ints, References}
-use Rattle.vm_store.specs.Kind.{kind_of_handle, type_of_kind, class_in_types, element_width}
+use Rattle.vm_store.specs.Kind.{kind_of_handle, type_of_kind, element_width}
 use Rattle.vm_store.specs.Typing.{IsReady, least_type, type_of_handle}
 use Rattle.vm_store.specs.Cells.{tagged, word_of}
 use Rattle.vm_store.specs.State.{Frame, Object, State}
 use Rattle.vm_store.specs.Objects.{object_at, object_cells, element_count, repeated}
 use Rattle.vm_store.specs.Value.{value_in}
-use Rattle.vm_store.specs.Laws.{cell_types, type_at}
+use Rattle.vm_store.specs.Laws.{cell_types, cell_type_at}
 use Rattle.vm_step.specs.declared.exception.Exception.TheVariants as exceptions
 use Rattle.vm_step.specs.Act.{goes}
 use Rattle.vm_step.specs.Numbers.{short_at, replaced}
 use Rattle.vm_step.specs.Fields.{element_count_in, elements_of, element_index, at_element, array_read_act}
 use Rattle.vm_step.specs.Settled.{goes_to, settled}
-use Rattle.vm_sound.specs.Frames.{Typings, least_types, types_in}
+use Rattle.vm_sound.specs.Frames.{Typings, least_types, types_of_frame}
 use Rattle.vm_sound.specs.Laws.{IsTypedOutcome}
 use Rattle.vm_sound.proofs.CellTypes.{has-below, IsReadyCell, stacked-filled}
 use Rattle.vm_sound.proofs.Handles.{kinds_of, kind-type}
@@ -189,15 +189,15 @@ module _ (t : ClassTable) (heap : List (Object Cell)) (h : ℕ) (fk : Kind) (a :
   counted : i < element_count a.object
   counted = subst (λ n. i < n) (ap element_count_in a.found) within
 
-  types-at : (j : ℕ) → type_at t (with_heap heap) h j ≡ slice_get (cell_types t a.object.kind (length a.object.cells)) j
+  types-at : (j : ℕ) → cell_type_at t (with_heap heap) h j ≡ slice_get (cell_types t a.object.kind (length a.object.cells)) j
   types-at j = ap (option_and_then (λ (o : Object Cell). slice_get (cell_types t o.kind (length o.cells)) j)) a.found
 
-  pub first-at : type_at t (with_heap heap) h (i * width fk) ≡ Some (element_type t a.object.kind)
+  pub first-at : cell_type_at t (with_heap heap) h (i * width fk) ≡ Some (element_type t a.object.kind)
   first-at = types-at (i * width fk) ∙ element-first t fk a.object.kind (length a.object.cells) i a.fits counted
 
 pub second-at :
     (t : ClassTable) (heap : List (Object Cell)) (h : ℕ) (a : IsArrayAt t heap h fields.Int) (i : ℕ) → i < elements_of (with_heap heap) h
-    → type_at t (with_heap heap) h (i * 2 + 1) ≡ Some IntLow
+    → cell_type_at t (with_heap heap) h (i * 2 + 1) ≡ Some IntLow
 second-at t heap h a i within =
     types-at t heap h fields.Int a i within (i * 2 + 1)
     ∙ element-second t a.object.kind (length a.object.cells) i a.fits (counted t heap h fields.Int a i within)
@@ -245,7 +245,7 @@ module _ (w : Linked) (world : IsWorld w) (assigned : Typings) (f : Frame Cell) 
       pub lower : Below w.classes (least_type w.classes (assigned.unset f.method) (kinds_of heap) (slice_index_or (object_cells (with_heap heap) h) i cells.Empty)) ty
       pub ready : IsReadyCell (slice_index_or (object_cells (with_heap heap) h) i cells.Empty)
 
-    pub cell-read : (h i : ℕ) (ty : Ty) → IsNotTop ty → IsNotFresh ty → type_at w.classes (with_heap heap) h i ≡ Some ty → IsRead h i ty
+    pub cell-read : (h i : ℕ) (ty : Ty) → IsNotTop ty → IsNotFresh ty → cell_type_at w.classes (with_heap heap) h i ≡ Some ty → IsRead h i ty
     cell-read h i ty top fresh e =
         let c : Cell = slice_index_or (object_cells (with_heap heap) h) i cells.Empty in
         let read = read-cell w.classes heap h i ty here.store.objects e in
@@ -256,21 +256,21 @@ module _ (w : Linked) (world : IsWorld w) (assigned : Typings) (f : Frame Cell) 
     pub read-one-safe :
         (h i taken : ℕ) (ty seen : Ty) (op : Operation)
         → here.turn.operation ≡ op
-        → effect w op (types_in w.classes (assigned.unset f.method) (kinds_of heap) f) ≡ replacing taken (given.One seen) → falls_from op ≡ true
+        → effect w op (types_of_frame w.classes (assigned.unset f.method) (kinds_of heap) f) ≡ replacing taken (given.One seen) → falls_from op ≡ true
         → ty ≡ seen → IsRead h i ty
         → IsTypedOutcome w assigned (goes_to tagged w (here.turn.stands.instruction.place + here.turn.stands.instruction.insn.len) (record { frames = f ∷ below; heap = heap; statics = statics })
         (replaced (record { frames = f ∷ below; heap = heap; statics = statics }) taken (slice_index_or (object_cells (with_heap heap) h) i cells.Empty ∷ [])))
     read-one-safe h i taken ty seen op is does falls e read =
         let c : Cell = slice_index_or (object_cells (with_heap heap) h) i cells.Empty in
         replace-safe w world assigned f below heap statics here taken (given.One seen) (c ∷ []) heap statics
-        (ap (λ o. effect w o (types_in w.classes (assigned.unset f.method) (kinds_of heap) f)) is ∙ does) (ap falls_from is ∙ falls)
+        (ap (λ o. effect w o (types_of_frame w.classes (assigned.unset f.method) (kinds_of heap) f)) is ∙ does) (ap falls_from is ∙ falls)
         (more_cells (subst (Below w.classes (least_type w.classes (assigned.unset f.method) (kinds_of heap) c)) e read.lower) no_cells)
         (one-stacked w here.turn.stands.rec (kinds_of heap) c read.ready) here.store refl
 
     pub read-int-safe :
         (h i taken : ℕ) (op : Operation)
         → here.turn.operation ≡ op
-        → effect w op (types_in w.classes (assigned.unset f.method) (kinds_of heap) f) ≡ replacing taken given.Int → falls_from op ≡ true
+        → effect w op (types_of_frame w.classes (assigned.unset f.method) (kinds_of heap) f) ≡ replacing taken given.Int → falls_from op ≡ true
         → IsRead h i IntHigh → IsRead h (i + 1) IntLow
         → IsTypedOutcome w assigned (goes_to tagged w (here.turn.stands.instruction.place + here.turn.stands.instruction.insn.len) (record { frames = f ∷ below; heap = heap; statics = statics })
         (replaced (record { frames = f ∷ below; heap = heap; statics = statics }) taken
@@ -279,7 +279,7 @@ module _ (w : Linked) (world : IsWorld w) (assigned : Typings) (f : Frame Cell) 
         let c : Cell = slice_index_or (object_cells (with_heap heap) h) i cells.Empty in
         let d : Cell = slice_index_or (object_cells (with_heap heap) h) (i + 1) cells.Empty in
         replace-safe w world assigned f below heap statics here taken given.Int (d ∷ c ∷ []) heap statics
-        (ap (λ o. effect w o (types_in w.classes (assigned.unset f.method) (kinds_of heap) f)) is ∙ does) (ap falls_from is ∙ falls)
+        (ap (λ o. effect w o (types_of_frame w.classes (assigned.unset f.method) (kinds_of heap) f)) is ∙ does) (ap falls_from is ∙ falls)
         (more_cells low.lower (more_cells high.lower no_cells))
         (two-stacked w here.turn.stands.rec (kinds_of heap) d c low.ready high.ready) here.store refl
 

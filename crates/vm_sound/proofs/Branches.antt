@@ -31,7 +31,7 @@ use Rattle.vm_step.specs.Act.{jumps as jumping}
 use Rattle.vm_step.specs.Branching.{is_taken, leads_if, branch_act, has_key, case_offset, switch_act}
 use Rattle.vm_step.specs.Numbers.{number_on, dropped}
 use Rattle.vm_step.specs.Settled.{settled}
-use Rattle.vm_sound.specs.Frames.{Typings, types_in, IsStacked}
+use Rattle.vm_sound.specs.Frames.{Typings, types_of_frame, IsStacked}
 use Rattle.vm_sound.specs.Laws.{IsTypedOutcome}
 use Rattle.vm_sound.proofs.Finish.{jumps-safe, code-is}
 use Rattle.vm_sound.proofs.Going.{jumps-on}
@@ -72,14 +72,14 @@ module _ (w : Linked) (world : IsWorld w) (assigned : Typings) (f : Frame Cell) 
     leads-safe :
         (next : ℕ) (to : ℤ) (taken : ℕ) (op : Operation)
         → here.turn.operation ≡ op
-        → effect w op (types_in w.classes (assigned.unset f.method) (kinds_of heap) f) ≡ replacing taken given.Nothing
+        → effect w op (types_of_frame w.classes (assigned.unset f.method) (kinds_of heap) f) ≡ replacing taken given.Nothing
         → Contains (targets (code_of w.infos here.turn.stands.rec) here.turn.stands.instruction) to
         → IsTypedOutcome w assigned (settled tagged w next (record { frames = f ∷ below; heap = heap; statics = statics })
         (jumping to (dropped (record { frames = f ∷ below; heap = heap; statics = statics }) taken)))
     leads-safe next (pos q) taken op is does leads =
         let ks = kinds_of heap in
         let st = here.turn.stands in
-        let exact = types_in w.classes (assigned.unset f.method) ks f in
+        let exact = types_of_frame w.classes (assigned.unset f.method) ks f in
         jumps-safe w assigned (record f { stack = drop taken f.stack }) q below heap statics (record {
           made = here.store.made;
           heap = here.store.objects;
@@ -110,7 +110,7 @@ module _ (w : Linked) (world : IsWorld w) (assigned : Typings) (f : Frame Cell) 
     -- a branch that may be taken or not
     branch-by :
         (b : Branch) (taken : Bool) (width : ℕ) → here.turn.operation ≡ ops.Branch b
-        → effect w (ops.Branch b) (types_in w.classes (assigned.unset f.method) (kinds_of heap) f) ≡ replacing width given.Nothing
+        → effect w (ops.Branch b) (types_of_frame w.classes (assigned.unset f.method) (kinds_of heap) f) ≡ replacing width given.Nothing
         → falls_from (ops.Branch b) ≡ true
         → IsTypedOutcome w assigned (settled tagged w (here.turn.stands.instruction.place + here.turn.stands.instruction.insn.len)
         (record { frames = f ∷ below; heap = heap; statics = statics })
@@ -120,7 +120,7 @@ module _ (w : Linked) (world : IsWorld w) (assigned : Typings) (f : Frame Cell) 
         (led-to (ops.Branch b) is refl)
     branch-by b false width is does falls =
         replace-safe w world assigned f below heap statics here width given.Nothing [] heap statics
-        (ap (λ o. effect w o (types_in w.classes (assigned.unset f.method) (kinds_of heap) f)) is ∙ does) (ap falls_from is ∙ falls)
+        (ap (λ o. effect w o (types_of_frame w.classes (assigned.unset f.method) (kinds_of heap) f)) is ∙ does) (ap falls_from is ∙ falls)
         no_cells (All-nil (IsStacked w here.turn.stands.rec (kinds_of heap))) here.store refl
 
     pub branch-safe :
@@ -138,7 +138,7 @@ module _ (w : Linked) (world : IsWorld w) (assigned : Typings) (f : Frame Cell) 
 
     switch-by :
         (width : Width) (size : ℕ) → here.turn.operation ≡ ops.Switch width
-        → effect w (ops.Switch width) (types_in w.classes (assigned.unset f.method) (kinds_of heap) f) ≡ replacing size given.Nothing
+        → effect w (ops.Switch width) (types_of_frame w.classes (assigned.unset f.method) (kinds_of heap) f) ≡ replacing size given.Nothing
         → IsTypedOutcome w assigned (settled tagged w (here.turn.stands.instruction.place + here.turn.stands.instruction.insn.len)
         (record { frames = f ∷ below; heap = heap; statics = statics })
         (jumping

@@ -40,11 +40,11 @@ use Rattle.vm_store.specs.Kind.{kind_of_handle}
 use Rattle.vm_store.specs.Typing.{least_type, type_of_handle}
 use Rattle.vm_store.specs.Cells.{tagged, made_ready}
 use Rattle.vm_store.specs.State.{Frame, Object}
-use Rattle.vm_store.specs.Laws.{IsFilled}
+use Rattle.vm_store.specs.Laws.{HasContent}
 use Rattle.vm_step.specs.Calls.{args_of}
 use Rattle.vm_step.specs.Methods.{of_method}
 use Rattle.vm_step.specs.Settled.{entered_call}
-use Rattle.vm_sound.specs.Frames.{Typings, least_types, types_in, types_with, class_made, IsStacked, result_of, IsWaiting}
+use Rattle.vm_sound.specs.Frames.{Typings, least_types, types_of_frame, types_with, class_made, IsStacked, result_of, IsWaiting}
 use Rattle.vm_sound.specs.Laws.{IsTypedOutcome, AreTypings}
 use Rattle.vm_sound.proofs.CellTypes.{stacked-filled, stacked-alike}
 use Rattle.vm_sound.proofs.Cells.{IsCellAt, cell-at, stacked-at}
@@ -102,33 +102,33 @@ module _ (w : Linked) (world : IsWorld w) (assigned : Typings) (typings : AreTyp
         (is : here.turn.operation ≡ ops.Call (record { method = n; receiver = receiver; choice = choice }))
         (method : slice_get w.methods n ≡ Some m)
       where
-        demanded : SatisfiesAll w.classes (types_in w.classes (assigned.unset f.method) (kinds_of heap) f) (call_demands m.sig.args receiver)
+        demanded : SatisfiesAll w.classes (types_of_frame w.classes (assigned.unset f.method) (kinds_of heap) f) (call_demands m.sig.args receiver)
         demanded =
-            subst (λ args. SatisfiesAll w.classes (types_in w.classes (assigned.unset f.method) (kinds_of heap) f) (call_demands args receiver)) (ap args_at method)
+            subst (λ args. SatisfiesAll w.classes (types_of_frame w.classes (assigned.unset f.method) (kinds_of heap) f) (call_demands args receiver)) (ap args_at method)
             (asked-of w world assigned f below heap statics here (ops.Call (record { method = n; receiver = receiver; choice = choice })) is)
 
         -- the arguments are below their types, the last on top
         pub args-below : CellsBelow w.classes (take (length m.sig.args) (least_types w.classes (assigned.unset f.method) (kinds_of heap) f.stack)) (reverse m.sig.args)
         args-below =
-            let exact = types_in w.classes (assigned.unset f.method) (kinds_of heap) f in
+            let exact = types_of_frame w.classes (assigned.unset f.method) (kinds_of heap) f in
             subst (λ k. CellsBelow w.classes (take k exact.stack) (reverse m.sig.args)) (length-reverse m.sig.args)
             (wanted-below w.classes exact 0 (reverse m.sig.args) (SatisfiesAll-front w.classes exact (cells_wanted 0 (reverse m.sig.args)) _ demanded))
 
         -- what the rule gives, by the change that the call makes
-        does : effect w here.turn.operation (types_in w.classes (assigned.unset f.method) (kinds_of heap) f) ≡ on_stack (call_change m.sig.args (result_given m.sig.result) receiver (types_in w.classes (assigned.unset f.method) (kinds_of heap) f))
+        does : effect w here.turn.operation (types_of_frame w.classes (assigned.unset f.method) (kinds_of heap) f) ≡ on_stack (call_change m.sig.args (result_given m.sig.result) receiver (types_of_frame w.classes (assigned.unset f.method) (kinds_of heap) f))
         does =
-            let exact = types_in w.classes (assigned.unset f.method) (kinds_of heap) f in
+            let exact = types_of_frame w.classes (assigned.unset f.method) (kinds_of heap) f in
             ap (λ o. effect w o exact) is ∙ (ap (λ args. call_effect args (result_at (slice_get w.methods n)) receiver exact) (ap args_at method)
             ∙ ap (λ result. call_effect m.sig.args result receiver exact) (ap result_at method))
 
         -- a frame whose stack is what the rule gives but for the result is below it
         given-below :
-            (change : Change) (stack : List Cell) → on_stack (call_change m.sig.args (result_given m.sig.result) receiver (types_in w.classes (assigned.unset f.method) (kinds_of heap) f)) ≡ on_stack change
+            (change : Change) (stack : List Cell) → on_stack (call_change m.sig.args (result_given m.sig.result) receiver (types_of_frame w.classes (assigned.unset f.method) (kinds_of heap) f)) ≡ on_stack change
             → in_stack_order (result_given m.sig.result) ++ least_types w.classes (assigned.unset f.method) (kinds_of heap) stack ≡ changed change (least_types w.classes (assigned.unset f.method) (kinds_of heap) f.stack)
             → FrameBelow w.classes (types_with w.classes (assigned.unset f.method) (kinds_of heap) m.sig.result (record { method = f.method; place = f.place; registers = f.registers; stack = stack })) here.turn.after
         given-below change stack e stack_is =
             let ks = kinds_of heap in
-            let exact = types_in w.classes (assigned.unset f.method) ks f in
+            let exact = types_of_frame w.classes (assigned.unset f.method) ks f in
             let a = here.turn.applies in
             let after = here.turn.after in
             let whole : effect w here.turn.operation exact ≡ on_stack change = does ∙ e in
@@ -173,7 +173,7 @@ module _ (w : Linked) (world : IsWorld w) (assigned : Typings) (typings : AreTyp
             (call-safe n l m m.sig.result f.stack method lacks refl (ap falls_from is)
             (subst (CellsBelow w.classes (least_types w.classes (assigned.unset f.method) ks (reverse (take l f.stack)))) parameters args)
             (given-below (Replace l (result_given m.sig.result)) (drop l f.stack)
-            (ap (λ r. on_stack (call_change m.sig.args (result_given m.sig.result) r (types_in w.classes (assigned.unset f.method) ks f))) none)
+            (ap (λ r. on_stack (call_change m.sig.args (result_given m.sig.result) r (types_of_frame w.classes (assigned.unset f.method) ks f))) none)
             (ap (λ ts. in_stack_order (result_given m.sig.result) ++ ts) (sym (drop-map (least_type w.classes (assigned.unset f.method) ks) l f.stack))))
             here.turn.stacked)
 
@@ -182,14 +182,14 @@ module _ (w : Linked) (world : IsWorld w) (assigned : Typings) (typings : AreTyp
         module _ (want : Want) (wants : receiver ≡ Some want) where
           receiver-asked : IsSomeAnd (slice_get (least_types w.classes (assigned.unset f.method) (kinds_of heap) f.stack) (length m.sig.args)) (Meets w.classes want)
           receiver-asked =
-              let exact = types_in w.classes (assigned.unset f.method) (kinds_of heap) f in
+              let exact = types_of_frame w.classes (assigned.unset f.method) (kinds_of heap) f in
               let all = subst (λ r. SatisfiesAll w.classes exact (call_demands m.sig.args r)) wants demanded in
               (SatisfiesAll-rest w.classes exact (cells_wanted 0 (reverse m.sig.args)) (CellAsked (length m.sig.args) want ∷ []) all).0
 
           pub receiver-at : IsCellAt w.classes (assigned.unset f.method) (kinds_of heap) f.stack (length m.sig.args) (Meets w.classes want)
           receiver-at = cell-at w.classes (assigned.unset f.method) (kinds_of heap) f.stack (length m.sig.args) (Meets w.classes want) receiver-asked
 
-          pub receiver-filled : IsFilled (slice_index_or f.stack (length m.sig.args) cells.Empty)
+          pub receiver-filled : HasContent (slice_index_or f.stack (length m.sig.args) cells.Empty)
           receiver-filled =
               stacked-filled w here.turn.stands.rec (kinds_of heap) (slice_index_or f.stack (length m.sig.args) cells.Empty)
               (stacked-at w here.turn.stands.rec (kinds_of heap) f.stack (length m.sig.args) receiver-at.inside here.turn.stacked)
@@ -211,7 +211,7 @@ module _ (w : Linked) (world : IsWorld w) (assigned : Typings) (typings : AreTyp
               → IsTypedOutcome w assigned (entered_call tagged w k (args_of w n + 1) (record { frames = f ∷ below; heap = heap; statics = statics }))
           run-safe k o there lacks sig dynamic plain receives =
               let ks = kinds_of heap in
-              let exact = types_in w.classes (assigned.unset f.method) ks f in
+              let exact = types_of_frame w.classes (assigned.unset f.method) ks f in
               let l : ℕ = length m.sig.args in
               let inside : l < length exact.stack = omega (arith, receiver-at.inside, length-map f.stack (least_type w.classes (assigned.unset f.method) ks)) in
               let split : take (l + 1) exact.stack ≡ take l exact.stack ++ slice_index_or exact.stack l Top ∷ [] = take_more exact.stack l Top inside in
@@ -243,7 +243,7 @@ module _ (w : Linked) (world : IsWorld w) (assigned : Typings) (typings : AreTyp
             let ks = kinds_of heap in
             let ty : Cell → Ty = least_type t (assigned.unset f.method) ks in
             let st = here.turn.stands in
-            let exact = types_in t (assigned.unset f.method) ks f in
+            let exact = types_of_frame t (assigned.unset f.method) ks f in
             let l : ℕ = length m.sig.args in
             let r : Cell = slice_index_or f.stack l cells.Empty in
             let p : ℕ = new.place in

@@ -18,7 +18,7 @@ use Rattle.vm_store.specs.declared.kind.ObjectKind.{ObjectKind}
 use Rattle.vm_store.specs.declared.kind.ObjectKind.TheVariants.{Instance, Booleans, Bytes, Shorts, Ints, References}
 use Rattle.vm_store.specs.Kind.{kind_of_handle, type_of_kind}
 use Rattle.vm_store.specs.Typing.{HasType, IsReady, least_type, type_seen, fresh_seen}
-use Rattle.vm_store.specs.Laws.{IsFilled}
+use Rattle.vm_store.specs.Laws.{HasContent}
 use Rattle.vm_store.proofs.CellTypes.{least-is, least-falls}
 use Rattle.vm_sound.specs.Frames.{least_types, class_made, IsStacked}
 
@@ -53,7 +53,7 @@ module _ (t : ClassTable) (unset : Ty) (ks : List ObjectKind) where
   -- ---- cells in which something was stored
 
   -- their least types are the same, however an empty one is read
-  pub filled-same : (c : Cell) → IsFilled c → least_type t Bottom ks c ≡ least_type t unset ks c
+  pub filled-same : (c : Cell) → HasContent c → least_type t Bottom ks c ≡ least_type t unset ks c
   filled-same cells.Empty h = absurd h
   filled-same (cells.Short n) h = refl
   filled-same (cells.High n) h = refl
@@ -61,10 +61,10 @@ module _ (t : ClassTable) (unset : Ty) (ks : List ObjectKind) where
   filled-same (cells.Ref n) h = refl
   filled-same (cells.Fresh n p) h = refl
 
-  pub has-below : AreClasses t → (c : Cell) (ty : Ty) → HasType t ks c ty → IsFilled c → Below t (least_type t unset ks c) ty
+  pub has-below : AreClasses t → (c : Cell) (ty : Ty) → HasType t ks c ty → HasContent c → Below t (least_type t unset ks c) ty
   has-below are c ty has filled = subst (λ a. Below t a ty) (filled-same c filled) ((least-is t ks are c).least ty has)
 
-  pub below-has : AreClasses t → (c : Cell) (ty : Ty) → Below t (least_type t unset ks c) ty → IsFilled c → IsReady ty → HasType t ks c ty
+  pub below-has : AreClasses t → (c : Cell) (ty : Ty) → Below t (least_type t unset ks c) ty → HasContent c → IsReady ty → HasType t ks c ty
   below-has are c ty below filled ready = (least-is t ks are c).above ty ready (subst (λ a. Below t a ty) (sym (filled-same c filled)) below)
 
   kind-not_bottom : (k : ObjectKind) → IsNotBottom (type_of_kind t k)
@@ -88,7 +88,7 @@ module _ (t : ClassTable) (unset : Ty) (ks : List ObjectKind) where
   fresh-not_bottom p (Some Ints) = tt
   fresh-not_bottom p (Some (References c)) = tt
 
-  pub filled-not_bottom : (c : Cell) → IsFilled c → IsNotBottom (least_type t unset ks c)
+  pub filled-not_bottom : (c : Cell) → HasContent c → IsNotBottom (least_type t unset ks c)
   filled-not_bottom cells.Empty h = absurd h
   filled-not_bottom (cells.Short n) h = tt
   filled-not_bottom (cells.High n) h = tt
@@ -121,7 +121,7 @@ module _ (t : ClassTable) (unset : Ty) (ks : List ObjectKind) where
 -- ---- cells of an operand stack
 
 module _ (w : Linked) (m : MethodRec) where
-  pub stacked-filled : (ks : List ObjectKind) (c : Cell) → IsStacked w m ks c → IsFilled c
+  pub stacked-filled : (ks : List ObjectKind) (c : Cell) → IsStacked w m ks c → HasContent c
   stacked-filled ks cells.Empty h = h
   stacked-filled ks (cells.Short n) h = tt
   stacked-filled ks (cells.High n) h = tt

@@ -27,7 +27,7 @@ use Rattle.vm_store.specs.declared.kind.ObjectKind.{ObjectKind}
 use Rattle.vm_store.specs.Typing.{least_type}
 use Rattle.vm_store.specs.Cells.{tagged}
 use Rattle.vm_store.specs.State.{Frame, register_count_of, register_count, entered}
-use Rattle.vm_sound.specs.Frames.{Typings, least_types, types_in, IsStacked, IsTypedFrame}
+use Rattle.vm_sound.specs.Frames.{Typings, least_types, types_of_frame, IsStacked, IsTypedFrame}
 use Rattle.vm_sound.specs.Laws.{AreTypings}
 use Rattle.vm_sound.proofs.CellTypes.{some-weaker}
 use Rattle.vm_sound.proofs.Places.{place-instruction}
@@ -104,7 +104,7 @@ module _ (w : Linked) (world : IsWorld w) where
         let placed = (instructions-are-placed all-are-listed method typing.formed).first code.filled in
         let at = place-instruction (code_of w.infos m) 0 placed in
         let f : Frame Cell = entered tagged w.methods n args in
-        let exact : Types = types_in w.classes (assigned.unset n) ks f in
+        let exact : Types = types_of_frame w.classes (assigned.unset n) ks f in
         let regs : CellsBelow w.classes exact.regs (start_frame m (assigned.unset n)).regs =
         subst (λ ts. CellsBelow w.classes ts (start_frame m (assigned.unset n)).regs) (sym (registers-are args below))
         (cells-append w.classes below (cells-same w.classes (replicate m.max_locals (assigned.unset n)))) in

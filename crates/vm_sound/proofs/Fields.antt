@@ -38,13 +38,13 @@ use Rattle.vm_store.specs.Typing.{short, type_of_handle}
 use Rattle.vm_store.specs.Cells.{tagged, word_of}
 use Rattle.vm_store.specs.State.{Frame, Object, State}
 use Rattle.vm_store.specs.Objects.{object_cells}
-use Rattle.vm_store.specs.Value.{byte_of_word, value_in, value_on, kept, with_object_value}
-use Rattle.vm_store.specs.Laws.{cell_types, type_at}
+use Rattle.vm_store.specs.Value.{byte_of_word, value_in, value_on, kept_value, with_object_value}
+use Rattle.vm_store.specs.Laws.{cell_types, cell_type_at}
 use Rattle.vm_step.specs.Act.{goes}
 use Rattle.vm_step.specs.Numbers.{dropped, replaced}
 use Rattle.vm_step.specs.Fields.{held_handle, with_field_read, field_read_act, with_field_write, field_write_act}
 use Rattle.vm_step.specs.Settled.{goes_to, settled}
-use Rattle.vm_sound.specs.Frames.{Typings, least_types, types_in}
+use Rattle.vm_sound.specs.Frames.{Typings, least_types, types_of_frame}
 use Rattle.vm_sound.specs.Laws.{IsTypedOutcome}
 use Rattle.vm_sound.proofs.CellTypes.{declared-ready}
 use Rattle.vm_sound.proofs.Handles.{kinds_of}
@@ -95,7 +95,7 @@ instance-of t are (References e) c no_object b = absurd (no_object (eqb-true c (
 
 field-at :
     (t : ClassTable) → AreClasses t → (heap : List (Object StoreCell)) (h c i : ℕ) (ty : Ty) (o : IsObject t heap h (Class c)) → (c ≡ object t → ⊥) → slice_get (cells_of t c) i ≡ Some ty
-    → type_at t (with_heap heap) h i ≡ Some ty
+    → cell_type_at t (with_heap heap) h i ≡ Some ty
 field-at t are heap h c i ty o no_object e =
     let n : ℕ = length o.object.cells in
     let found = instance-of t are o.object.kind c no_object o.below in
@@ -111,10 +111,10 @@ module _ (w : Linked) (world : IsWorld w) (assigned : Typings) (f : Frame StoreC
     pub read-value-safe :
         (h i taken : ℕ) (kind : Kind) (ty : Ty) (op : Operation)
         → here.turn.operation ≡ op
-        → effect w op (types_in w.classes (assigned.unset f.method) (kinds_of heap) f) ≡ replacing taken (value_given ty) → falls_from op ≡ true
+        → effect w op (types_of_frame w.classes (assigned.unset f.method) (kinds_of heap) f) ≡ replacing taken (value_given ty) → falls_from op ≡ true
         → IsOfKind kind ty → IsDeclared w.classes ty
-        → type_at w.classes (with_heap heap) h i ≡ Some ty
-        → (kind ≡ fields.Int → type_at w.classes (with_heap heap) h (i + 1) ≡ Some IntLow)
+        → cell_type_at w.classes (with_heap heap) h i ≡ Some ty
+        → (kind ≡ fields.Int → cell_type_at w.classes (with_heap heap) h (i + 1) ≡ Some IntLow)
         → IsTypedOutcome w assigned (goes_to tagged w (here.turn.stands.instruction.place + here.turn.stands.instruction.insn.len) (record { frames = f ∷ below; heap = heap; statics = statics })
         (replaced (record { frames = f ∷ below; heap = heap; statics = statics }) taken (value_in tagged kind (object_cells (with_heap heap) h) i)))
     read-value-safe h i taken fields.Ref ty op is does falls of_kind declared first second =
@@ -156,7 +156,7 @@ module _ (w : Linked) (world : IsWorld w) (assigned : Typings) (f : Frame StoreC
         (asked-of w world assigned f below heap statics here (ops.FieldRead (record { class = class; cell = cell; kind = kind; ty = ty }) holders.This) is).1.0
 
     low-half : (kind : Kind) (h i c : ℕ) (o : IsObject w.classes heap h (Class c)) → (c ≡ object w.classes → ⊥) → HasLowHalf kind (cells_of w.classes c) i → kind ≡ fields.Int
-        → type_at w.classes (with_heap heap) h (i + 1) ≡ Some IntLow
+        → cell_type_at w.classes (with_heap heap) h (i + 1) ≡ Some IntLow
     low-half fields.Int h i c o no_object half e = field-at w.classes world.chains heap h c (i + 1) IntLow o no_object half
     low-half fields.Ref h i c o no_object half e = absurd (cc)
     low-half fields.Byte h i c o no_object half e = absurd (cc)
@@ -193,22 +193,22 @@ module _ (w : Linked) (world : IsWorld w) (assigned : Typings) (f : Frame StoreC
     -- ---- writes
 
     -- the cells of the value on top of the stack have their types
-    pub value-held : (ty : Ty) → IsOneCell ty → IsDeclared w.classes ty → SatisfiesAll w.classes (types_in w.classes (assigned.unset f.method) (kinds_of heap) f) (value_wanted ty) → IsHeld w world assigned f below heap statics here 0 ty
+    pub value-held : (ty : Ty) → IsOneCell ty → IsDeclared w.classes ty → SatisfiesAll w.classes (types_of_frame w.classes (assigned.unset f.method) (kinds_of heap) f) (value_wanted ty) → IsHeld w world assigned f below heap statics here 0 ty
     value-held ty one declared asked =
         held-at w world assigned f below heap statics here 0 ty (declared-ready w.classes ty declared)
-        (subst (SatisfiesAll w.classes (types_in w.classes (assigned.unset f.method) (kinds_of heap) f)) one.wanted asked).0
+        (subst (SatisfiesAll w.classes (types_of_frame w.classes (assigned.unset f.method) (kinds_of heap) f)) one.wanted asked).0
 
     -- a value on top of the stack goes into an object
     pub write-value-safe :
         (h i taken : ℕ) (kind : Kind) (ty : Ty) (op : Operation)
         → here.turn.operation ≡ op
-        → effect w op (types_in w.classes (assigned.unset f.method) (kinds_of heap) f) ≡ replacing taken given.Nothing → falls_from op ≡ true
-        → IsOfKind kind ty → IsDeclared w.classes ty → SatisfiesAll w.classes (types_in w.classes (assigned.unset f.method) (kinds_of heap) f) (value_wanted ty)
+        → effect w op (types_of_frame w.classes (assigned.unset f.method) (kinds_of heap) f) ≡ replacing taken given.Nothing → falls_from op ≡ true
+        → IsOfKind kind ty → IsDeclared w.classes ty → SatisfiesAll w.classes (types_of_frame w.classes (assigned.unset f.method) (kinds_of heap) f) (value_wanted ty)
         → (h ≡ 0 → ⊥)
-        → type_at w.classes (with_heap heap) h i ≡ Some ty
-        → (kind ≡ fields.Int → type_at w.classes (with_heap heap) h (i + 1) ≡ Some IntLow)
+        → cell_type_at w.classes (with_heap heap) h i ≡ Some ty
+        → (kind ≡ fields.Int → cell_type_at w.classes (with_heap heap) h (i + 1) ≡ Some IntLow)
         → IsTypedOutcome w assigned (goes_to tagged w (here.turn.stands.instruction.place + here.turn.stands.instruction.insn.len) (record { frames = f ∷ below; heap = heap; statics = statics })
-        (with_object_value (dropped (record { frames = f ∷ below; heap = heap; statics = statics }) taken) h i (kept tagged kind (value_on tagged kind f.stack))))
+        (with_object_value (dropped (record { frames = f ∷ below; heap = heap; statics = statics }) taken) h i (kept_value tagged kind (value_on tagged kind f.stack))))
     write-value-safe h i taken fields.Ref ty op is does falls of_kind declared asked some first second =
         let value = value-held ty (one-cell fields.Ref ty of_kind refl) declared asked in
         write-safe w world assigned f below heap statics here h i ty (slice_index_or f.stack 0 cells.Empty) taken op is does falls some first value.has value.filled
@@ -219,7 +219,7 @@ module _ (w : Linked) (world : IsWorld w) (assigned : Typings) (f : Frame StoreC
         let value = value-held ty (one-cell fields.Short ty of_kind refl) declared asked in
         write-safe w world assigned f below heap statics here h i ty (slice_index_or f.stack 0 cells.Empty) taken op is does falls some first value.has value.filled
     write-value-safe h i taken fields.Int ty op is does falls of_kind declared asked some first second =
-        let halves = subst (λ a. SatisfiesAll w.classes (types_in w.classes (assigned.unset f.method) (kinds_of heap) f) (value_wanted a)) of_kind asked in
+        let halves = subst (λ a. SatisfiesAll w.classes (types_of_frame w.classes (assigned.unset f.method) (kinds_of heap) f) (value_wanted a)) of_kind asked in
         let lower = held-at w world assigned f below heap statics here 0 IntLow tt halves.0 in
         let upper = held-at w world assigned f below heap statics here 1 IntHigh tt halves.1.0 in
         write-int-safe w world assigned f below heap statics here h i IntHigh IntLow (slice_index_or f.stack 1 cells.Empty) (slice_index_or f.stack 0 cells.Empty) taken op is does falls some
@@ -247,7 +247,7 @@ module _ (w : Linked) (world : IsWorld w) (assigned : Typings) (f : Frame StoreC
     field-write-safe class cell kind ty holders.Stack is field =
         let now : State StoreCell = record { frames = f ∷ below; heap = heap; statics = statics } in
         let fd : InstanceField = record { class = class; cell = cell; kind = kind; ty = ty } in
-        let exact = types_in w.classes (assigned.unset f.method) (kinds_of heap) f in
+        let exact = types_of_frame w.classes (assigned.unset f.method) (kinds_of heap) f in
         let asked = asked-of w world assigned f below heap statics here (ops.FieldWrite fd holders.Stack) is in
         let object_asked = (SatisfiesAll-rest w.classes exact (value_wanted ty) (Cell (value_size ty) (Value (Class class)) ∷ []) asked).0 in
         let size = size-is kind ty field.cells.kind in
@@ -264,7 +264,7 @@ module _ (w : Linked) (world : IsWorld w) (assigned : Typings) (f : Frame StoreC
     field-write-safe class cell kind ty holders.This is field =
         let now : State StoreCell = record { frames = f ∷ below; heap = heap; statics = statics } in
         let fd : InstanceField = record { class = class; cell = cell; kind = kind; ty = ty } in
-        let exact = types_in w.classes (assigned.unset f.method) (kinds_of heap) f in
+        let exact = types_of_frame w.classes (assigned.unset f.method) (kinds_of heap) f in
         let asked = (asked-of w world assigned f below heap statics here (ops.FieldWrite fd holders.This) is).1 in
         let object_asked = (SatisfiesAll-rest w.classes exact (value_wanted ty) (Held 0 (Class class) ∷ []) asked).0 in
         let size = size-is kind ty field.cells.kind in

@@ -35,7 +35,7 @@ use Rattle.vm_step.specs.declared.ending.Fault.TheVariants.{StackFault, JumpFaul
 use Rattle.vm_step.specs.Methods.{of_method, code_at, max_stack_of, instruction_at}
 use Rattle.vm_step.specs.Raising.{Outcome, running, ends}
 use Rattle.vm_step.specs.Settled.{fault_next, is_there, fault_target, unless_fault, goes_to, jumps_to, with_new, made, entered_call, given_to}
-use Rattle.vm_sound.specs.Frames.{Typings, least_types, types_in, types_with, IsStacked, Standing, IsTypedFrame, at_next, IsWaiting, AreWaiting}
+use Rattle.vm_sound.specs.Frames.{Typings, least_types, types_of_frame, types_with, IsStacked, Standing, IsTypedFrame, at_next, IsWaiting, AreWaiting}
 use Rattle.vm_sound.specs.State.{CanBeMade, static_types, IsTypedState}
 use Rattle.vm_sound.specs.Laws.{IsTypedOutcome}
 use Rattle.vm_sound.proofs.CellTypes.{some-both, some-weaker, stacked-alike}
@@ -88,7 +88,7 @@ module _ (w : Linked) (assigned : Typings) where
       let st = typed.stands in
       let m = method_with w f.method st.rec in
       let there = instruction-there (code_of w.infos st.rec) f.place st.instruction st.there in
-      let exact = types_in w.classes (assigned.unset f.method) ks f in
+      let exact = types_of_frame w.classes (assigned.unset f.method) ks f in
       let both = IsSomeAnd-some (λ (g : Types). FrameBelow w.classes exact g × IsFit m g) ((assigned.frames f.method) f.place)
       (some-both (FrameBelow w.classes exact) (IsFit m) ((assigned.frames f.method) f.place) typed.below (st.typing.fit f.place st.reached)) in
       let same : length f.stack ≡ length both.0.stack =

@@ -5,7 +5,7 @@ use Rattle.std.proofs.lemmas.Bool.{false≢true, eqb-true}
 use Rattle.std.proofs.lemmas.Option.{none-some}
 use Rattle.jc_base.specs.declared.ty.Ty.{Ty}
 use Rattle.jc_base.specs.declared.ty.Ty.TheVariants.{Class, ArrBool, ArrByte, ArrShort, ArrInt, ArrRef}
-use Rattle.jc_base.specs.Class.{ClassTable, AreClasses, IsClass, is_interface, object}
+use Rattle.jc_base.specs.Class.{ClassTable, AreClasses, IsClass, is_interface, object, class_in_types}
 use Rattle.jc_base.specs.Order.{Below, same, array_object, array_array, of_booleans, of_bytes, of_shorts, of_ints, of_references, is_on_chain, is_below}
 use Rattle.jc_base.specs.Interface.{is_or_extends, implements}
 use Rattle.jc_base.specs.World.{Linked}
@@ -15,7 +15,7 @@ use Rattle.jc_base.proofs.Subtypes.{Below-from_is_below}
 use Rattle.jc_rules.specs.Rule.{seen}
 use Rattle.vm_store.specs.declared.kind.ObjectKind.{ObjectKind}
 use Rattle.vm_store.specs.declared.kind.ObjectKind.TheVariants.{Instance, Booleans, Bytes, Shorts, Ints, References}
-use Rattle.vm_store.specs.Kind.{kind_of_handle, type_of_kind, class_in_types}
+use Rattle.vm_store.specs.Kind.{kind_of_handle, type_of_kind}
 use Rattle.vm_instance.specs.Instance.{is_subtype, is_instance}
 use Rattle.vm_sound.specs.State.{CanBeMade}
 

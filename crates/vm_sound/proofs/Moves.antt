@@ -21,7 +21,7 @@ use Rattle.vm_store.specs.Cells.{tagged}
 use Rattle.vm_store.specs.State.{Frame, Object, rotated}
 use Rattle.vm_step.specs.Values.{moved, with_move}
 use Rattle.vm_step.specs.Settled.{goes_to}
-use Rattle.vm_sound.specs.Frames.{Typings, least_types, types_in, IsStacked}
+use Rattle.vm_sound.specs.Frames.{Typings, least_types, types_of_frame, IsStacked}
 use Rattle.vm_sound.specs.Laws.{IsTypedOutcome}
 use Rattle.vm_sound.proofs.Handles.{kinds_of}
 use Rattle.vm_sound.proofs.Turning.{Here, on-safe}
@@ -83,7 +83,7 @@ module _ (w : Linked) (world : IsWorld w) (assigned : Typings) (f : Frame Cell) 
         (with_move m (record { frames = f ∷ below; heap = heap; statics = statics })))
     move-safe m is =
         let ks = kinds_of heap in
-        let exact = types_in w.classes (assigned.unset f.method) ks f in
+        let exact = types_of_frame w.classes (assigned.unset f.method) ks f in
         let a = here.turn.applies in
         let after = here.turn.after in
         let e : effect w here.turn.operation exact ≡ on_stack (move_effect m).change = ap (λ o. effect w o exact) is ∙ on-stack-alone m in

@@ -26,7 +26,7 @@ use Rattle.vm_step.specs.Act.{goes}
 use Rattle.vm_step.specs.Numbers.{short_at, int_on, number_on, number_cells, replaced}
 use Rattle.vm_step.specs.Values.{with_constant, binary, negated, computed, arithmetic_act}
 use Rattle.vm_step.specs.Settled.{goes_to, settled}
-use Rattle.vm_sound.specs.Frames.{Typings, types_in, IsStacked}
+use Rattle.vm_sound.specs.Frames.{Typings, types_of_frame, IsStacked}
 use Rattle.vm_sound.specs.Laws.{IsTypedOutcome}
 use Rattle.vm_sound.proofs.Handles.{kinds_of}
 use Rattle.vm_sound.proofs.Cells.{one-stacked, two-stacked}
@@ -38,16 +38,16 @@ module _ (w : Linked) (world : IsWorld w) (assigned : Typings) (f : Frame Cell) 
     -- a number in place of cells of the stack
     number-safe :
         (taken : ℕ) (width : Width) (n : ℤ) (op : Operation)
-        → here.turn.operation ≡ op → effect w op (types_in w.classes (assigned.unset f.method) (kinds_of heap) f) ≡ replacing taken (number_given width) → falls_from op ≡ true
+        → here.turn.operation ≡ op → effect w op (types_of_frame w.classes (assigned.unset f.method) (kinds_of heap) f) ≡ replacing taken (number_given width) → falls_from op ≡ true
         → IsTypedOutcome w assigned (goes_to tagged w (here.turn.stands.instruction.place + here.turn.stands.instruction.insn.len) (record { frames = f ∷ below; heap = heap; statics = statics })
         (replaced (record { frames = f ∷ below; heap = heap; statics = statics }) taken (number_cells tagged width n)))
     number-safe taken widths.Short n op is does falls =
         replace-safe w world assigned f below heap statics here taken (given.One _) (cells.Short n ∷ []) heap statics
-        (ap (λ o. effect w o (types_in w.classes (assigned.unset f.method) (kinds_of heap) f)) is ∙ does) (ap falls_from is ∙ falls)
+        (ap (λ o. effect w o (types_of_frame w.classes (assigned.unset f.method) (kinds_of heap) f)) is ∙ does) (ap falls_from is ∙ falls)
         (more_cells same no_cells) (one-stacked w here.turn.stands.rec (kinds_of heap) (cells.Short n) tt) here.store refl
     number-safe taken widths.Int n op is does falls =
         replace-safe w world assigned f below heap statics here taken given.Int (cells.Low (low_word n) ∷ cells.High (high_word n) ∷ []) heap statics
-        (ap (λ o. effect w o (types_in w.classes (assigned.unset f.method) (kinds_of heap) f)) is ∙ does) (ap falls_from is ∙ falls)
+        (ap (λ o. effect w o (types_of_frame w.classes (assigned.unset f.method) (kinds_of heap) f)) is ∙ does) (ap falls_from is ∙ falls)
         (more_cells same (more_cells same no_cells)) (two-stacked w here.turn.stands.rec (kinds_of heap) (cells.Low (low_word n)) (cells.High (high_word n)) tt tt) here.store refl
 
     pub constant-safe :
@@ -56,11 +56,11 @@ module _ (w : Linked) (world : IsWorld w) (assigned : Typings) (f : Frame Cell) 
         (with_constant tagged c (record { frames = f ∷ below; heap = heap; statics = statics })))
     constant-safe constants.Nothing is =
         replace-safe w world assigned f below heap statics here 0 given.Nothing [] heap statics
-        (ap (λ o. effect w o (types_in w.classes (assigned.unset f.method) (kinds_of heap) f)) is) (ap falls_from is)
+        (ap (λ o. effect w o (types_of_frame w.classes (assigned.unset f.method) (kinds_of heap) f)) is) (ap falls_from is)
         no_cells (All-nil (IsStacked w here.turn.stands.rec (kinds_of heap))) here.store refl
     constant-safe constants.Null is =
         replace-safe w world assigned f below heap statics here 0 (given.One _) (cells.Ref 0 ∷ []) heap statics
-        (ap (λ o. effect w o (types_in w.classes (assigned.unset f.method) (kinds_of heap) f)) is) (ap falls_from is)
+        (ap (λ o. effect w o (types_of_frame w.classes (assigned.unset f.method) (kinds_of heap) f)) is) (ap falls_from is)
         (more_cells same no_cells) (one-stacked w here.turn.stands.rec (kinds_of heap) (cells.Ref 0) tt) here.store refl
     constant-safe (constants.Short n) is = number-safe 0 widths.Short (int_to_short n) (ops.Constant (constants.Short n)) is refl refl
     constant-safe (constants.Int n) is = number-safe 0 widths.Int n (ops.Constant (constants.Int n)) is refl refl
@@ -69,7 +69,7 @@ module _ (w : Linked) (world : IsWorld w) (assigned : Typings) (f : Frame Cell) 
 
     computed-safe :
         (taken : ℕ) (width : Width) (result : Option ℤ) (op : Operation)
-        → here.turn.operation ≡ op → effect w op (types_in w.classes (assigned.unset f.method) (kinds_of heap) f) ≡ replacing taken (number_given width) → falls_from op ≡ true
+        → here.turn.operation ≡ op → effect w op (types_of_frame w.classes (assigned.unset f.method) (kinds_of heap) f) ≡ replacing taken (number_given width) → falls_from op ≡ true
         → IsTypedOutcome w assigned (settled tagged w (here.turn.stands.instruction.place + here.turn.stands.instruction.insn.len)
         (record { frames = f ∷ below; heap = heap; statics = statics })
         (computed tagged width (record { frames = f ∷ below; heap = heap; statics = statics }) taken result))

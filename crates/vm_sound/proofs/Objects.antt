@@ -35,7 +35,7 @@ use Rattle.vm_step.specs.Act.{goes, makes, raises, throws}
 use Rattle.vm_step.specs.Numbers.{handle_at, short_at, dropped}
 use Rattle.vm_step.specs.Objects.{kind_of_type, new_act, array_of_count, new_array_act, throw_act, kind_passes, passes, may_cast, truth, type_test_act}
 use Rattle.vm_step.specs.Settled.{goes_to, settled}
-use Rattle.vm_sound.specs.Frames.{Typings, types_in, class_made, class_of_new, class_made_by, IsStacked, IsTypedFrame, AreWaiting, result_of}
+use Rattle.vm_sound.specs.Frames.{Typings, types_of_frame, class_made, class_of_new, class_made_by, IsStacked, IsTypedFrame, AreWaiting, result_of}
 use Rattle.vm_sound.specs.State.{CanBeMade}
 use Rattle.vm_sound.specs.Laws.{IsTypedOutcome}
 use Rattle.vm_sound.proofs.CellTypes.{stacked-filled, stacked-falls, types-fall}
@@ -65,7 +65,7 @@ module _ (w : Linked) (world : IsWorld w) (assigned : Typings) (f : Frame Cell) 
     made-safe :
         (taken : ℕ) (made_type : Ty) (kind : ObjectKind) (cs : List Cell) (reference : ℕ → Cell) (op : Operation)
         → here.turn.operation ≡ op
-        → effect w op (types_in w.classes (assigned.unset f.method) (kinds_of heap) f) ≡ replacing taken (given.One made_type) → falls_from op ≡ true
+        → effect w op (types_of_frame w.classes (assigned.unset f.method) (kinds_of heap) f) ≡ replacing taken (given.One made_type) → falls_from op ≡ true
         → IsTypedStore w (heap ++ record { kind = kind; cells = cs } ∷ []) statics
         → Below w.classes (least_type w.classes (assigned.unset f.method) (kinds_of heap ++ kind ∷ []) (reference (length heap + 1))) made_type
         → IsStacked w here.turn.stands.rec (kinds_of heap ++ kind ∷ []) (reference (length heap + 1))
@@ -80,7 +80,7 @@ module _ (w : Linked) (world : IsWorld w) (assigned : Typings) (f : Frame Cell) 
         let new : List Cell = c ∷ drop taken f.stack in
         let next : ℕ = st.instruction.place + st.instruction.insn.len in
         let top : Frame Cell = record { method = f.method; place = next; registers = f.registers; stack = new } in
-        let under = replaced-below w world assigned f below heap statics here taken (given.One made_type) (c ∷ []) more (ap (λ o. effect w o (types_in w.classes (assigned.unset f.method) ks f)) is ∙ does)
+        let under = replaced-below w world assigned f below heap statics here taken (given.One made_type) (c ∷ []) more (ap (λ o. effect w o (types_of_frame w.classes (assigned.unset f.method) ks f)) is ∙ does)
         (more_cells lower no_cells) (types-fall w.classes (assigned.unset f.method) ks (kind ∷ []) f.registers) (types-fall w.classes (assigned.unset f.method) ks (kind ∷ []) f.stack) in
         let all : All (IsStacked w st.rec more) new =
         All-cons (IsStacked w st.rec more) c (drop taken f.stack) stacked
@@ -245,7 +245,7 @@ module _ (w : Linked) (world : IsWorld w) (assigned : Typings) (f : Frame Cell) 
         let now : State Cell = record { frames = f ∷ below; heap = heap; statics = statics } in
         let c : Cell = cells.Short (truth (passes w.classes now ty (handle_at tagged f.stack 0))) in
         replace-safe w world assigned f below heap statics here 1 (given.One Short) (c ∷ []) heap statics
-        (ap (λ o. effect w o (types_in w.classes (assigned.unset f.method) (kinds_of heap) f)) is) (ap falls_from is)
+        (ap (λ o. effect w o (types_of_frame w.classes (assigned.unset f.method) (kinds_of heap) f)) is) (ap falls_from is)
         (more_cells same no_cells) (one-stacked w here.turn.stands.rec (kinds_of heap) c tt) here.store refl
     type-test-safe tests.Cast ty is named = go (may_cast w.classes (record { frames = f ∷ below; heap = heap; statics = statics }) ty (word_of (slice_index_or f.stack 0 cells.Empty))) refl
       where
@@ -266,6 +266,6 @@ module _ (w : Linked) (world : IsWorld w) (assigned : Typings) (f : Frame Cell) 
             (record { frames = record { method = f.method; place = f.place; registers = f.registers; stack = xs } ∷ below; heap = heap; statics = statics })))
             (top-and-rest f.stack at.inside)
             (replace-safe w world assigned f below heap statics here 1 (given.One (seen t ty)) (c ∷ []) heap statics
-            (ap (λ o. effect w o (types_in t (assigned.unset f.method) ks f)) is) (ap falls_from is)
+            (ap (λ o. effect w o (types_of_frame t (assigned.unset f.method) ks f)) is) (ap falls_from is)
             (more_cells lower no_cells)
             (one-stacked w here.turn.stands.rec ks c (value-ready t world.chains (assigned.unset f.method) ks c (Class (object t)) filled tt tt at.holds)) here.store refl)

@@ -21,7 +21,7 @@ use Rattle.vm_store.specs.Cells.{tagged}
 use Rattle.vm_store.specs.State.{Frame, Object}
 use Rattle.vm_step.specs.declared.ending.Fault.TheVariants.{TypeFault, StackFault, LocalFault}
 use Rattle.vm_step.specs.Tests.{fault_before}
-use Rattle.vm_sound.specs.Frames.{types_in}
+use Rattle.vm_sound.specs.Frames.{types_of_frame}
 
 module _ (w : Linked) (chains : AreClasses w.classes) where
   pick : {X : Type 0} (x y z : Option X) (a b c : Bool) → a ≡ false → b ≡ false → c ≡ true → (if a then x else if b then y else if c then None else z) ≡ None
@@ -43,11 +43,11 @@ module _ (w : Linked) (chains : AreClasses w.classes) where
 
   pub passes-before :
       (f : Frame Cell) (below : List (Frame Cell)) (heap : List (Object Cell)) (statics : List Cell) (op : Operation)
-      → SatisfiesAll w.classes (types_in w.classes Bottom (map (λ (o : Object Cell). o.kind) heap) f) (demands w op)
+      → SatisfiesAll w.classes (types_of_frame w.classes Bottom (map (λ (o : Object Cell). o.kind) heap) f) (demands w op)
       → fault_before tagged w op (record { frames = f ∷ below; heap = heap; statics = statics }) ≡ None
   passes-before f below heap statics op asked =
       let ks = map (λ (o : Object Cell). o.kind) heap in
-      let types = types_in w.classes Bottom ks f in
+      let types = types_of_frame w.classes Bottom ks f in
       let ds = demands w op in
       let there = met-is-there w types ds asked in
       let are = asked-is-there (length types.regs) (length types.stack) ds in

@@ -13,7 +13,7 @@ use Rattle.vm_store.specs.declared.cell.Cell.TheVariants as cells
 use Rattle.vm_store.specs.declared.kind.ObjectKind.{ObjectKind}
 use Rattle.vm_store.specs.declared.kind.ObjectKind.TheVariants.{Instance}
 use Rattle.vm_store.specs.Typing.{least_type, fresh_seen}
-use Rattle.vm_store.specs.Laws.{IsFilled}
+use Rattle.vm_store.specs.Laws.{HasContent}
 use Rattle.vm_sound.proofs.CellTypes.{IsReadyCell}
 
 module _ (t : ClassTable) (are : AreClasses t) where
@@ -41,7 +41,7 @@ module _ (t : ClassTable) (are : AreClasses t) where
   -- such a cell is ready
   pub value-ready :
       (unset : Ty) (ks : List ObjectKind) (c : Cell) (ty : Ty)
-      → IsFilled c → IsNotFresh ty → IsNotTop ty → Below t (least_type t unset ks c) ty → IsReadyCell c
+      → HasContent c → IsNotFresh ty → IsNotTop ty → Below t (least_type t unset ks c) ty → IsReadyCell c
   value-ready unset ks cells.Empty ty h f n b = h
   value-ready unset ks (cells.Short k) ty h f n b = tt
   value-ready unset ks (cells.High k) ty h f n b = tt

@@ -28,7 +28,7 @@ use Rattle.vm_store.specs.Kind.{kind_of_handle, type_of_kind}
 use Rattle.vm_store.specs.Typing.{least_type, type_of_handle, type_seen, fresh_seen}
 use Rattle.vm_store.specs.Cells.{made_ready}
 use Rattle.vm_store.proofs.SeenClasses.{fresh-at}
-use Rattle.vm_store.specs.Laws.{IsFilled}
+use Rattle.vm_store.specs.Laws.{HasContent}
 use Rattle.vm_step.specs.Calls.{made_at}
 use Rattle.vm_sound.specs.Frames.{least_types, class_made, IsStacked}
 use Rattle.vm_sound.proofs.CellTypes.{IsReadyCell, stacked-filled}
@@ -140,7 +140,7 @@ module _ (t : ClassTable) (unset : Ty) (ks : List ObjectKind) where
   empty-no_fresh class (cells.Ref (suc n)) r h = seen-no_fresh class (slice_get ks n) h
   empty-no_fresh class (cells.Fresh n p) r h = r
 
-  pub new-of : (class : ℕ) (c : Cell) → IsFilled c → IsFreshOf class (least_type t unset ks c) → IsNewOf class c
+  pub new-of : (class : ℕ) (c : Cell) → HasContent c → IsFreshOf class (least_type t unset ks c) → IsNewOf class c
   new-of class cells.Empty f h = absurd f
   new-of class (cells.Short n) f h = absurd h
   new-of class (cells.High n) f h = absurd h

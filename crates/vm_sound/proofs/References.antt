@@ -18,7 +18,7 @@ use Rattle.vm_store.specs.Typing.{least_type, type_of_handle}
 use Rattle.vm_store.specs.Cells.{word_of}
 use Rattle.vm_store.specs.State.{Object}
 use Rattle.vm_store.specs.Objects.{object_at}
-use Rattle.vm_store.specs.Laws.{IsFilled}
+use Rattle.vm_store.specs.Laws.{HasContent}
 use Rattle.vm_sound.proofs.Handles.{kinds_of, kind-type, value-handle}
 use Rattle.vm_sound.proofs.Ready.{not-over-top, not-over-seen}
 
@@ -93,7 +93,7 @@ module _ (t : ClassTable) (are : AreClasses t) where
 
   -- and its least type is that of the handle, where something was stored
   pub reference-same :
-      (unset : Ty) (ks : List ObjectKind) (c : Cell) (ty : Ty) → IsReference ty → IsFilled c → Below t (least_type t unset ks c) ty
+      (unset : Ty) (ks : List ObjectKind) (c : Cell) (ty : Ty) → IsReference ty → HasContent c → Below t (least_type t unset ks c) ty
       → least_type t unset ks c ≡ type_of_handle t ks (word_of c)
   reference-same unset ks cells.Empty ty r h b = absurd h
   reference-same unset ks (cells.Short n) ty r h b = absurd (over-short ty r (is_below-from_Below t are b))

@@ -35,7 +35,7 @@ use Rattle.vm_store.specs.Cells.{tagged, loaded_as}
 use Rattle.vm_store.specs.State.{Frame, Object}
 use Rattle.vm_step.specs.Values.{with_load, with_store, incremented, with_increment}
 use Rattle.vm_step.specs.Settled.{goes_to}
-use Rattle.vm_sound.specs.Frames.{Typings, least_types, types_in, IsStacked}
+use Rattle.vm_sound.specs.Frames.{Typings, least_types, types_of_frame, IsStacked}
 use Rattle.vm_sound.specs.Laws.{IsTypedOutcome}
 use Rattle.vm_sound.proofs.CellTypes.{IsReadyCell}
 use Rattle.vm_sound.proofs.Handles.{kinds_of}
@@ -118,8 +118,8 @@ module _ (w : Linked) (world : IsWorld w) (assigned : Typings) (f : Frame Cell) 
     (here : Here w assigned f below heap statics)
   where
     -- what the operation asks of the least types of cells
-    pub asked-of : (op : Operation) → here.turn.operation ≡ op → SatisfiesAll w.classes (types_in w.classes (assigned.unset f.method) (kinds_of heap) f) (demands w op)
-    asked-of op is = subst (λ o. SatisfiesAll w.classes (types_in w.classes (assigned.unset f.method) (kinds_of heap) f) (demands w o)) is here.turn.applies.asked
+    pub asked-of : (op : Operation) → here.turn.operation ≡ op → SatisfiesAll w.classes (types_of_frame w.classes (assigned.unset f.method) (kinds_of heap) f) (demands w op)
+    asked-of op is = subst (λ o. SatisfiesAll w.classes (types_of_frame w.classes (assigned.unset f.method) (kinds_of heap) f) (demands w o)) is here.turn.applies.asked
 
     pub load-safe :
         (sort : Sort) (x : ℕ) → here.turn.operation ≡ ops.Load sort x
@@ -133,7 +133,7 @@ module _ (w : Linked) (world : IsWorld w) (assigned : Typings) (f : Frame Cell) 
         let loaded = reference-loaded w.classes world.chains (assigned.unset f.method) ks c (object w.classes) at.holds in
         replace-safe w world assigned f below heap statics here 0 (given.One (or_null (slice_index_or (least_types w.classes (assigned.unset f.method) ks f.registers) x Top)))
         (loaded_as made.Reference c ∷ []) heap statics
-        (ap (λ o. effect w o (types_in w.classes (assigned.unset f.method) ks f)) is) (ap falls_from is)
+        (ap (λ o. effect w o (types_of_frame w.classes (assigned.unset f.method) ks f)) is) (ap falls_from is)
         (more_cells (subst (Below w.classes (least_type w.classes (assigned.unset f.method) ks (loaded_as made.Reference c))) (sym (ap or_null at.seen)) loaded.below) no_cells)
         (one-stacked w here.turn.stands.rec ks (loaded_as made.Reference c) loaded.ready) here.store refl
     load-safe sorts.Short x is =
@@ -143,7 +143,7 @@ module _ (w : Linked) (world : IsWorld w) (assigned : Typings) (f : Frame Cell) 
         let at = cell-at w.classes (assigned.unset f.method) ks f.registers x (λ ty. Below w.classes ty Short) asked.1.0 in
         let loaded = short-loaded w.classes world.chains (assigned.unset f.method) ks c at.holds in
         replace-safe w world assigned f below heap statics here 0 (given.One Short) (loaded_as made.Short c ∷ []) heap statics
-        (ap (λ o. effect w o (types_in w.classes (assigned.unset f.method) ks f)) is) (ap falls_from is)
+        (ap (λ o. effect w o (types_of_frame w.classes (assigned.unset f.method) ks f)) is) (ap falls_from is)
         (more_cells loaded.below no_cells)
         (one-stacked w here.turn.stands.rec ks (loaded_as made.Short c) loaded.ready) here.store refl
     load-safe sorts.Int x is =
@@ -154,7 +154,7 @@ module _ (w : Linked) (world : IsWorld w) (assigned : Typings) (f : Frame Cell) 
         let high = high-loaded w.classes world.chains (assigned.unset f.method) ks c (cell-at w.classes (assigned.unset f.method) ks f.registers x (λ ty. Below w.classes ty IntHigh) asked.1.0).holds in
         let low = low-loaded w.classes world.chains (assigned.unset f.method) ks d (cell-at w.classes (assigned.unset f.method) ks f.registers (x + 1) (λ ty. Below w.classes ty IntLow) asked.1.1.0).holds in
         replace-safe w world assigned f below heap statics here 0 given.Int (loaded_as made.Low d ∷ loaded_as made.High c ∷ []) heap statics
-        (ap (λ o. effect w o (types_in w.classes (assigned.unset f.method) ks f)) is) (ap falls_from is)
+        (ap (λ o. effect w o (types_of_frame w.classes (assigned.unset f.method) ks f)) is) (ap falls_from is)
         (more_cells low.below (more_cells high.below no_cells))
         (two-stacked w here.turn.stands.rec ks (loaded_as made.Low d) (loaded_as made.High c) low.ready high.ready) here.store refl
 
@@ -164,7 +164,7 @@ module _ (w : Linked) (world : IsWorld w) (assigned : Typings) (f : Frame Cell) 
     stored-safe :
         (taken x : ℕ) (c : Cell) (ty : Ty) (op : Operation)
         → here.turn.operation ≡ op
-        → effect w op (types_in w.classes (assigned.unset f.method) (kinds_of heap) f) ≡ storing taken x (given.One ty) → falls_from op ≡ true
+        → effect w op (types_of_frame w.classes (assigned.unset f.method) (kinds_of heap) f) ≡ storing taken x (given.One ty) → falls_from op ≡ true
         → Below w.classes (least_type w.classes (assigned.unset f.method) (kinds_of heap) c) ty
         → IsTypedOutcome w assigned (goes_to tagged w (here.turn.stands.instruction.place + here.turn.stands.instruction.insn.len) (record { frames = f ∷ below; heap = heap; statics = statics })
         (record {
@@ -174,7 +174,7 @@ module _ (w : Linked) (world : IsWorld w) (assigned : Typings) (f : Frame Cell) 
         }))
     stored-safe taken x c ty op is does falls lower =
         let ks = kinds_of heap in
-        let exact = types_in w.classes (assigned.unset f.method) ks f in
+        let exact = types_of_frame w.classes (assigned.unset f.method) ks f in
         let a = here.turn.applies in
         let after = here.turn.after in
         let e : effect w here.turn.operation exact ≡ storing taken x (given.One ty) = ap (λ o. effect w o exact) is ∙ does in
@@ -196,7 +196,7 @@ module _ (w : Linked) (world : IsWorld w) (assigned : Typings) (f : Frame Cell) 
     stored-int-safe :
         (taken x : ℕ) (c d : Cell) (op : Operation)
         → here.turn.operation ≡ op
-        → effect w op (types_in w.classes (assigned.unset f.method) (kinds_of heap) f) ≡ storing taken x given.Int → falls_from op ≡ true
+        → effect w op (types_of_frame w.classes (assigned.unset f.method) (kinds_of heap) f) ≡ storing taken x given.Int → falls_from op ≡ true
         → Below w.classes (least_type w.classes (assigned.unset f.method) (kinds_of heap) c) IntHigh → Below w.classes (least_type w.classes (assigned.unset f.method) (kinds_of heap) d) IntLow
         → IsTypedOutcome w assigned (goes_to tagged w (here.turn.stands.instruction.place + here.turn.stands.instruction.insn.len) (record { frames = f ∷ below; heap = heap; statics = statics })
         (record {
@@ -207,7 +207,7 @@ module _ (w : Linked) (world : IsWorld w) (assigned : Typings) (f : Frame Cell) 
     stored-int-safe taken x c d op is does falls high low =
         let ks = kinds_of heap in
         let ty : Cell → Ty = least_type w.classes (assigned.unset f.method) ks in
-        let exact = types_in w.classes (assigned.unset f.method) ks f in
+        let exact = types_of_frame w.classes (assigned.unset f.method) ks f in
         let a = here.turn.applies in
         let after = here.turn.after in
         let e : effect w here.turn.operation exact ≡ storing taken x given.Int = ap (λ o. effect w o exact) is ∙ does in

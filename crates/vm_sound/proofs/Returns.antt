@@ -26,7 +26,7 @@ use Rattle.vm_step.specs.declared.ending.Value.TheVariants as values
 use Rattle.vm_step.specs.Numbers.{handle_at, short_at, int_on}
 use Rattle.vm_step.specs.Calls.{return_act}
 use Rattle.vm_step.specs.Settled.{given_to, settled}
-use Rattle.vm_sound.specs.Frames.{Typings, least_types, types_in, IsStacked, AreWaiting}
+use Rattle.vm_sound.specs.Frames.{Typings, least_types, types_of_frame, IsStacked, AreWaiting}
 use Rattle.vm_sound.specs.Laws.{IsTypedOutcome}
 use Rattle.vm_sound.proofs.CellTypes.{stacked-filled, bottoms-below}
 use Rattle.vm_sound.proofs.Handles.{kinds_of}
@@ -56,7 +56,7 @@ module _ (w : Linked) (world : IsWorld w) (assigned : Typings) (f : Frame Cell) 
         let t = w.classes in
         let ks = kinds_of heap in
         let c : Cell = slice_index_or f.stack 0 cells.Empty in
-        let asked = subst (SatisfiesAll t (types_in t (assigned.unset f.method) ks f)) one.wanted (asked-of w world assigned f below heap statics here (ops.Return (Some ty)) is) in
+        let asked = subst (SatisfiesAll t (types_of_frame t (assigned.unset f.method) ks f)) one.wanted (asked-of w world assigned f below heap statics here (ops.Return (Some ty)) is) in
         let at = cell-at t (assigned.unset f.method) ks f.stack 0 (λ a. Below t a ty) asked.0 in
         let filled = stacked-filled w here.turn.stands.rec ks c (stacked-at w here.turn.stands.rec ks f.stack 0 at.inside here.turn.stacked) in
         let ready = value-ready t world.chains (assigned.unset f.method) ks c ty filled (declared-not_fresh t ty declared) (declared-not_top t ty declared) at.holds in

@@ -29,10 +29,10 @@ use Rattle.vm_store.specs.Typing.{HasType, least_type, short}
 use Rattle.vm_store.specs.Cells.{tagged, word_of}
 use Rattle.vm_store.specs.State.{Frame, Object}
 use Rattle.vm_store.specs.Value.{byte_of_word}
-use Rattle.vm_store.specs.Laws.{IsFilled, CellsHave}
+use Rattle.vm_store.specs.Laws.{HasContent, CellsHave}
 use Rattle.vm_step.specs.Fields.{with_static_read, with_static_write}
 use Rattle.vm_step.specs.Settled.{goes_to}
-use Rattle.vm_sound.specs.Frames.{Typings, types_in, IsStacked}
+use Rattle.vm_sound.specs.Frames.{Typings, types_of_frame, IsStacked}
 use Rattle.vm_sound.specs.State.{field_types, static_types}
 use Rattle.vm_sound.specs.Laws.{IsTypedOutcome}
 use Rattle.vm_sound.proofs.CellTypes.{has-below, IsReadyCell}
@@ -51,16 +51,16 @@ use Rattle.vm_sound.proofs.Turning.{Here, replace-safe}
 module _ (t : ClassTable) (ks : List ObjectKind) where
   have-read :
       (cs : List Cell) (types : List Ty) (i : ℕ) (ty : Ty)
-      → CellsHave t ks cs types → slice_get types i ≡ Some ty → IsSomeAnd (slice_get cs i) (λ c. HasType t ks c ty × IsFilled c)
+      → CellsHave t ks cs types → slice_get types i ≡ Some ty → IsSomeAnd (slice_get cs i) (λ c. HasType t ks c ty × HasContent c)
   have-read [] [] i ty h e = absurd (none-some ty e)
   have-read [] (u ∷ types) i ty h e = absurd h
   have-read (c ∷ cs) [] i ty h e = absurd h
-  have-read (c ∷ cs) (u ∷ types) zero ty h e = subst (λ v. HasType t ks c v × IsFilled c) (same_Some u ty e) (h.0, h.1)
+  have-read (c ∷ cs) (u ∷ types) zero ty h e = subst (λ v. HasType t ks c v × HasContent c) (same_Some u ty e) (h.0, h.1)
   have-read (c ∷ cs) (u ∷ types) (suc i) ty h e = have-read cs types i ty h.2 e
 
   have-write :
       (cs : List Cell) (types : List Ty) (i : ℕ) (ty : Ty) (c : Cell)
-      → CellsHave t ks cs types → slice_get types i ≡ Some ty → HasType t ks c ty → IsFilled c → CellsHave t ks (set cs i c) types
+      → CellsHave t ks cs types → slice_get types i ≡ Some ty → HasType t ks c ty → HasContent c → CellsHave t ks (set cs i c) types
   have-write [] [] i ty c h e has filled = absurd (none-some ty e)
   have-write [] (u ∷ types) i ty c h e has filled = absurd h
   have-write (d ∷ cs) [] i ty c h e has filled = absurd h
@@ -134,7 +134,7 @@ module _ (w : Linked) (world : IsWorld w) (assigned : Typings) (f : Frame Cell) 
     static-cell : (i : ℕ) (ty : Ty) → IsNotTop ty → IsNotFresh ty → slice_get (static_types w.statics) i ≡ Some ty → IsReadStatic i ty
     static-cell i ty top fresh e =
         let c : Cell = slice_index_or statics i cells.Empty in
-        let read = some-nth (λ c. HasType w.classes (kinds_of heap) c ty × IsFilled c) statics i cells.Empty
+        let read = some-nth (λ c. HasType w.classes (kinds_of heap) c ty × HasContent c) statics i cells.Empty
         (have-read w.classes (kinds_of heap) statics (static_types w.statics) i ty here.store.fields e) in
         let lower = has-below w.classes (assigned.unset f.method) (kinds_of heap) world.chains c ty read.0 read.1 in
         record { lower = lower; ready = value-ready w.classes world.chains (assigned.unset f.method) (kinds_of heap) c ty read.1 fresh top lower }
@@ -154,7 +154,7 @@ module _ (w : Linked) (world : IsWorld w) (assigned : Typings) (f : Frame Cell) 
         let at = slot-at w world slot kind ty field.there in
         let read = static-cell slot ty (declared-not_top w.classes ty field.ty) (declared-not_fresh w.classes ty field.ty) at.first in
         replace-safe w world assigned f below heap statics here 0 (given.One ty) (c ∷ []) heap statics
-        (ap (λ o. effect w o (types_in w.classes (assigned.unset f.method) (kinds_of heap) f)) is ∙ ap (replacing 0) (one-cell kind ty field.kind one).given_is) (ap falls_from is)
+        (ap (λ o. effect w o (types_of_frame w.classes (assigned.unset f.method) (kinds_of heap) f)) is ∙ ap (replacing 0) (one-cell kind ty field.kind one).given_is) (ap falls_from is)
         (more_cells read.lower no_cells) (one-stacked w here.turn.stands.rec (kinds_of heap) c read.ready) here.store refl
 
     pub static-read-safe :
@@ -173,7 +173,7 @@ module _ (w : Linked) (world : IsWorld w) (assigned : Typings) (f : Frame Cell) 
         let high = static-cell slot IntHigh tt tt (at.first ∙ ap Some field.kind) in
         let low = static-cell (slot + 1) IntLow tt tt (at.second refl) in
         replace-safe w world assigned f below heap statics here 0 given.Int (d ∷ c ∷ []) heap statics
-        (ap (λ o. effect w o (types_in w.classes (assigned.unset f.method) (kinds_of heap) f)) is ∙ ap (λ a. replacing 0 (value_given a)) field.kind) (ap falls_from is)
+        (ap (λ o. effect w o (types_of_frame w.classes (assigned.unset f.method) (kinds_of heap) f)) is ∙ ap (λ a. replacing 0 (value_given a)) field.kind) (ap falls_from is)
         (more_cells low.lower (more_cells high.lower no_cells)) (two-stacked w here.turn.stands.rec (kinds_of heap) d c low.ready high.ready) here.store refl
 
     -- ---- writes
@@ -185,7 +185,7 @@ module _ (w : Linked) (world : IsWorld w) (assigned : Typings) (f : Frame Cell) 
         (slot : ℕ) (kind : Kind) (ty : Ty) (c : Cell) → width kind ≡ 1
         → here.turn.operation ≡ ops.StaticWrite (record { slot = slot; kind = kind; ty = ty })
         → IsStaticOf w (record { slot = slot; kind = kind; ty = ty })
-        → HasType w.classes (kinds_of heap) c ty → IsFilled c
+        → HasType w.classes (kinds_of heap) c ty → HasContent c
         → IsTypedOutcome w assigned (goes_to tagged w (here.turn.stands.instruction.place + here.turn.stands.instruction.insn.len) (record { frames = f ∷ below; heap = heap; statics = statics })
         (record {
           frames = record { method = f.method; place = f.place; registers = f.registers; stack = drop 1 f.stack } ∷ below;
@@ -195,7 +195,7 @@ module _ (w : Linked) (world : IsWorld w) (assigned : Typings) (f : Frame Cell) 
     write-static slot kind ty c one is field has filled =
         let at = slot-at w world slot kind ty field.there in
         replace-safe w world assigned f below heap statics here 1 given.Nothing [] heap (set statics slot c)
-        (ap (λ o. effect w o (types_in w.classes (assigned.unset f.method) (kinds_of heap) f)) is ∙ ap (λ n. replacing n given.Nothing) (one-cell kind ty field.kind one).size) (ap falls_from is)
+        (ap (λ o. effect w o (types_of_frame w.classes (assigned.unset f.method) (kinds_of heap) f)) is ∙ ap (λ n. replacing n given.Nothing) (one-cell kind ty field.kind one).size) (ap falls_from is)
         no_cells (All-nil (IsStacked w here.turn.stands.rec (kinds_of heap)))
         (store-with (set statics slot c) (have-write w.classes (kinds_of heap) statics (static_types w.statics) slot ty c here.store.fields at.first has filled)) refl
 
@@ -223,12 +223,12 @@ module _ (w : Linked) (world : IsWorld w) (assigned : Typings) (f : Frame Cell) 
         let c : Cell = slice_index_or f.stack 1 cells.Empty in
         let d : Cell = slice_index_or f.stack 0 cells.Empty in
         let asked = asked-of w world assigned f below heap statics here (ops.StaticWrite (record { slot = slot; kind = fields.Int; ty = ty })) is in
-        let halves = subst (λ a. SatisfiesAll t (types_in t (assigned.unset f.method) ks f) (value_wanted a)) field.kind asked in
+        let halves = subst (λ a. SatisfiesAll t (types_of_frame t (assigned.unset f.method) ks f) (value_wanted a)) field.kind asked in
         let lower = held-at w world assigned f below heap statics here 0 IntLow tt halves.0 in
         let upper = held-at w world assigned f below heap statics here 1 IntHigh tt halves.1.0 in
         let at = slot-at w world slot fields.Int ty field.there in
         let once = have-write t ks statics types slot IntHigh c here.store.fields (at.first ∙ ap Some field.kind) upper.has upper.filled in
         let twice = have-write t ks (set statics slot c) types (slot + 1) IntLow d once (at.second refl) lower.has lower.filled in
         replace-safe w world assigned f below heap statics here 2 given.Nothing [] heap (set (set statics slot c) (slot + 1) d)
-        (ap (λ o. effect w o (types_in t (assigned.unset f.method) ks f)) is ∙ ap (λ a. replacing (value_size a) given.Nothing) field.kind) (ap falls_from is)
+        (ap (λ o. effect w o (types_of_frame t (assigned.unset f.method) ks f)) is ∙ ap (λ a. replacing (value_size a) given.Nothing) field.kind) (ap falls_from is)
         no_cells (All-nil (IsStacked w here.turn.stands.rec ks)) (store-with (set (set statics slot c) (slot + 1) d) twice) refl

@@ -35,7 +35,7 @@ use Rattle.vm_step.specs.Act.{Act, raises, role_of, unless_null, if_some}
 use Rattle.vm_step.specs.Calls.{class_with_methods}
 use Rattle.vm_step.specs.Raising.{ends, thrown, raised}
 use Rattle.vm_step.specs.Settled.{goes_to, settled}
-use Rattle.vm_sound.specs.Frames.{Typings, least_types, types_in, IsStacked, IsTypedFrame, result_of, AreWaiting}
+use Rattle.vm_sound.specs.Frames.{Typings, least_types, types_of_frame, IsStacked, IsTypedFrame, result_of, AreWaiting}
 use Rattle.vm_sound.specs.Laws.{IsTypedOutcome}
 use Rattle.vm_sound.proofs.CellTypes.{types-fall}
 use Rattle.vm_sound.proofs.Going.{goes-on}
@@ -93,14 +93,14 @@ module _ (w : Linked) (world : IsWorld w) (assigned : Typings) (f : Frame Cell) 
     -- what an operation that replaces cells of the stack gives, be the objects as they were or more
     pub replaced-below :
         (taken : ℕ) (given : Cells) (value : List Cell) (ks : List ObjectKind)
-        → effect w here.turn.operation (types_in w.classes (assigned.unset f.method) (kinds_of heap) f) ≡ replacing taken given
+        → effect w here.turn.operation (types_of_frame w.classes (assigned.unset f.method) (kinds_of heap) f) ≡ replacing taken given
         → CellsBelow w.classes (least_types w.classes (assigned.unset f.method) ks value) (in_stack_order given)
         → CellsBelow w.classes (least_types w.classes (assigned.unset f.method) ks f.registers) (least_types w.classes (assigned.unset f.method) (kinds_of heap) f.registers)
         → CellsBelow w.classes (least_types w.classes (assigned.unset f.method) ks f.stack) (least_types w.classes (assigned.unset f.method) (kinds_of heap) f.stack)
         → FrameBelow w.classes
         (record { regs = least_types w.classes (assigned.unset f.method) ks f.registers; stack = least_types w.classes (assigned.unset f.method) ks (value ++ drop taken f.stack) }) here.turn.after
     replaced-below taken given value ks is lower regs stack =
-        let exact = types_in w.classes (assigned.unset f.method) (kinds_of heap) f in
+        let exact = types_of_frame w.classes (assigned.unset f.method) (kinds_of heap) f in
         let a = here.turn.applies in
         let after = here.turn.after in
         let stack_is : after.stack ≡ in_stack_order given ++ drop taken exact.stack = a.stack ∙ ap (λ (e : Effect). changed e.change exact.stack) is in
@@ -118,7 +118,7 @@ module _ (w : Linked) (world : IsWorld w) (assigned : Typings) (f : Frame Cell) 
     -- on, with a value in place of cells of the stack
     pub replace-safe :
         (taken : ℕ) (given : Cells) (value : List Cell) (objects : List (Object Cell)) (fields : List Cell)
-        → effect w here.turn.operation (types_in w.classes (assigned.unset f.method) (kinds_of heap) f) ≡ replacing taken given
+        → effect w here.turn.operation (types_of_frame w.classes (assigned.unset f.method) (kinds_of heap) f) ≡ replacing taken given
         → falls_from here.turn.operation ≡ true
         → CellsBelow w.classes (least_types w.classes (assigned.unset f.method) (kinds_of heap) value) (in_stack_order given)
         → All (IsStacked w here.turn.stands.rec (kinds_of heap)) value

@@ -31,7 +31,7 @@ use Rattle.vm_store.specs.declared.kind.ObjectKind.{ObjectKind}
 use Rattle.vm_store.specs.State.{Frame}
 use Rattle.vm_step.specs.Methods.{of_method, code_at, instruction_at}
 use Rattle.vm_step.specs.Settled.{return_place}
-use Rattle.vm_sound.specs.Frames.{Typings, least_types, types_in, types_with, IsStacked, Standing, IsTypedFrame, at_next, IsWaiting}
+use Rattle.vm_sound.specs.Frames.{Typings, least_types, types_of_frame, types_with, IsStacked, Standing, IsTypedFrame, at_next, IsWaiting}
 use Rattle.vm_sound.proofs.CellTypes.{some-both, some-weaker, not_bottoms, bottoms-below}
 use Rattle.vm_sound.proofs.Places.{IsThere, instruction-there, place-instruction}
 
@@ -44,16 +44,16 @@ pub record Turn (w : Linked) (assigned : Typings) (ks : List ObjectKind) (f : Fr
   pub stacked : All (IsStacked w stands.rec ks) f.stack
   pub above : Types
   pub held : (assigned.frames f.method) f.place ≡ Some above
-  pub under : FrameBelow w.classes (types_in w.classes (assigned.unset f.method) ks f) above
+  pub under : FrameBelow w.classes (types_of_frame w.classes (assigned.unset f.method) ks f) above
   pub fit : IsFit (method_with w f.method stands.rec) above
   pub followed : IsFollowed w (method_with w f.method stands.rec) (assigned.frames f.method) stands.instruction above
   pub operation : Operation
   pub resolves : Resolves w stands.rec stands.instruction.place stands.instruction.insn (Ok operation)
   pub after : Types
   pub outcome : Outcome
-  pub applies : OperationApplies w stands.rec.max_stack operation Flow (types_in w.classes (assigned.unset f.method) ks f) after outcome
+  pub applies : OperationApplies w stands.rec.max_stack operation Flow (types_of_frame w.classes (assigned.unset f.method) ks f) after outcome
   pub lower : FrameBelow w.classes after followed.after
-  pub asked : SatisfiesAll w.classes (types_in w.classes Bottom ks f) (demands w operation)
+  pub asked : SatisfiesAll w.classes (types_of_frame w.classes Bottom ks f) (demands w operation)
 
 module _ (w : Linked) (world : IsWorld w) (assigned : Typings) where
   order : IsOrderOfTypes w.classes
@@ -68,7 +68,7 @@ module _ (w : Linked) (world : IsWorld w) (assigned : Typings) where
       subst (λ p. At (assigned.frames f.method) p (IsFollowed w m (assigned.frames f.method) st.instruction)) there.at
       (st.typing.rules st.instruction there.stands (subst (IsReached m) (sym there.at) st.reached)) in
       let fit : At (assigned.frames f.method) f.place (IsFit m) = st.typing.fit f.place st.reached in
-      let exact = types_in w.classes (assigned.unset f.method) ks f in
+      let exact = types_of_frame w.classes (assigned.unset f.method) ks f in
       let all = IsSomeAnd-some (λ (g : Types). FrameBelow w.classes exact g × (IsFollowed w m (assigned.frames f.method) st.instruction g × IsFit m g)) ((assigned.frames f.method) f.place)
       (some-both (FrameBelow w.classes exact) (λ g. IsFollowed w m (assigned.frames f.method) st.instruction g × IsFit m g) ((assigned.frames f.method) f.place) typed.below
       (some-both (IsFollowed w m (assigned.frames f.method) st.instruction) (IsFit m) ((assigned.frames f.method) f.place) rules fit)) in
@@ -80,7 +80,7 @@ module _ (w : Linked) (world : IsWorld w) (assigned : Typings) where
       let given : OperationFallsTo w st.rec.max_stack r.operation Flow exact followed.after =
       operation-falls w order st.rec.max_stack r.operation Flow above exact followed.after followed.steps.0 below fits.no_top
       (not_bottoms w st.rec (assigned.unset f.method) ks f.stack typed.stacked) r.does in
-      let least = types_in w.classes Bottom ks f in
+      let least = types_of_frame w.classes Bottom ks f in
       let least_below : FrameBelow w.classes least above =
       frame-trans w.classes
       (record { regs = bottoms-below w.classes (assigned.unset f.method) ks f.registers; stack = bottoms-below w.classes (assigned.unset f.method) ks f.stack }) below in

@@ -17,11 +17,11 @@ use Rattle.vm_store.specs.Cells.{tagged}
 use Rattle.vm_store.specs.State.{Frame, Object, State}
 use Rattle.vm_store.specs.Objects.{object_cells, write_object}
 use Rattle.vm_store.specs.Value.{with_object_value}
-use Rattle.vm_store.specs.Laws.{IsFilled, CellsHave, IsTypedHeap, cell_types, type_at}
+use Rattle.vm_store.specs.Laws.{HasContent, CellsHave, IsTypedHeap, cell_types, cell_type_at}
 use Rattle.vm_store.proofs.TypedHeaps.{kinds-write, heap-read, heap-write}
 use Rattle.vm_step.specs.Numbers.{dropped}
 use Rattle.vm_step.specs.Settled.{goes_to}
-use Rattle.vm_sound.specs.Frames.{Typings, types_in, IsStacked}
+use Rattle.vm_sound.specs.Frames.{Typings, types_of_frame, IsStacked}
 use Rattle.vm_sound.specs.State.{CanBeMade, static_types}
 use Rattle.vm_sound.specs.Laws.{IsTypedOutcome}
 use Rattle.vm_sound.proofs.Finish.{IsTypedStore}
@@ -39,10 +39,10 @@ some-nth P (x ∷ xs) zero d h = h
 some-nth P (x ∷ xs) (suc n) d h = some-nth P xs n d h
 
 pub read-cell :
-    (t : ClassTable) (heap : List (Object Cell)) (h i : ℕ) (ty : Ty) → IsTypedHeap t (with_heap heap) → type_at t (with_heap heap) h i ≡ Some ty
-    → HasType t (kinds_of heap) (slice_index_or (object_cells (with_heap heap) h) i cells.Empty) ty × IsFilled (slice_index_or (object_cells (with_heap heap) h) i cells.Empty)
+    (t : ClassTable) (heap : List (Object Cell)) (h i : ℕ) (ty : Ty) → IsTypedHeap t (with_heap heap) → cell_type_at t (with_heap heap) h i ≡ Some ty
+    → HasType t (kinds_of heap) (slice_index_or (object_cells (with_heap heap) h) i cells.Empty) ty × HasContent (slice_index_or (object_cells (with_heap heap) h) i cells.Empty)
 read-cell t heap h i ty typed e =
-    some-nth (λ c. HasType t (kinds_of heap) c ty × IsFilled c) (object_cells (with_heap heap) h) i cells.Empty (heap-read t (with_heap heap) h i ty typed e)
+    some-nth (λ c. HasType t (kinds_of heap) c ty × HasContent c) (object_cells (with_heap heap) h) i cells.Empty (heap-read t (with_heap heap) h i ty typed e)
 
 -- a write keeps the types of the cells of the object
 type-kept :
@@ -56,8 +56,8 @@ type-kept t (o ∷ os) (suc h) i j c = type-kept t os h i j c
 module _ (w : Linked) (heap : List (Object Cell)) (statics : List Cell) where
   -- a typed store in which a cell of an object is another of its type
   pub store-write :
-      (h i : ℕ) (ty : Ty) (c : Cell) → IsTypedStore w heap statics → type_at w.classes (with_heap heap) (suc h) i ≡ Some ty
-      → HasType w.classes (kinds_of heap) c ty → IsFilled c → IsTypedStore w (write_object heap h i c) statics
+      (h i : ℕ) (ty : Ty) (c : Cell) → IsTypedStore w heap statics → cell_type_at w.classes (with_heap heap) (suc h) i ≡ Some ty
+      → HasType w.classes (kinds_of heap) c ty → HasContent c → IsTypedStore w (write_object heap h i c) statics
   store-write h i ty c store e has filled =
       let same = sym (kinds-write heap h i c) in
       record {
@@ -72,23 +72,23 @@ module _ (w : Linked) (world : IsWorld w) (assigned : Typings) (f : Frame Cell) 
     pub write-safe :
         (h i : ℕ) (ty : Ty) (c : Cell) (taken : ℕ) (op : Operation)
         → here.turn.operation ≡ op
-        → effect w op (types_in w.classes (assigned.unset f.method) (kinds_of heap) f) ≡ replacing taken given.Nothing → falls_from op ≡ true
-        → (h ≡ 0 → ⊥) → type_at w.classes (with_heap heap) h i ≡ Some ty → HasType w.classes (kinds_of heap) c ty → IsFilled c
+        → effect w op (types_of_frame w.classes (assigned.unset f.method) (kinds_of heap) f) ≡ replacing taken given.Nothing → falls_from op ≡ true
+        → (h ≡ 0 → ⊥) → cell_type_at w.classes (with_heap heap) h i ≡ Some ty → HasType w.classes (kinds_of heap) c ty → HasContent c
         → IsTypedOutcome w assigned (goes_to tagged w (here.turn.stands.instruction.place + here.turn.stands.instruction.insn.len) (record { frames = f ∷ below; heap = heap; statics = statics })
         (with_object_value (dropped (record { frames = f ∷ below; heap = heap; statics = statics }) taken) h i (c ∷ [])))
     write-safe zero i ty c taken op is does falls some e has filled = absurd (some refl)
     write-safe (suc h) i ty c taken op is does falls some e has filled =
         replace-safe w world assigned f below heap statics here taken given.Nothing [] (write_object heap h i c) statics
-        (ap (λ o. effect w o (types_in w.classes (assigned.unset f.method) (kinds_of heap) f)) is ∙ does) (ap falls_from is ∙ falls)
+        (ap (λ o. effect w o (types_of_frame w.classes (assigned.unset f.method) (kinds_of heap) f)) is ∙ does) (ap falls_from is ∙ falls)
         no_cells (All-nil (IsStacked w here.turn.stands.rec (kinds_of heap)))
         (store-write w heap statics h i ty c here.store e has filled) (kinds-write heap h i c)
 
     pub write-int-safe :
         (h i : ℕ) (ty low : Ty) (c d : Cell) (taken : ℕ) (op : Operation)
         → here.turn.operation ≡ op
-        → effect w op (types_in w.classes (assigned.unset f.method) (kinds_of heap) f) ≡ replacing taken given.Nothing → falls_from op ≡ true
-        → (h ≡ 0 → ⊥) → type_at w.classes (with_heap heap) h i ≡ Some ty → HasType w.classes (kinds_of heap) c ty → IsFilled c
-        → type_at w.classes (with_heap heap) h (i + 1) ≡ Some low → HasType w.classes (kinds_of heap) d low → IsFilled d
+        → effect w op (types_of_frame w.classes (assigned.unset f.method) (kinds_of heap) f) ≡ replacing taken given.Nothing → falls_from op ≡ true
+        → (h ≡ 0 → ⊥) → cell_type_at w.classes (with_heap heap) h i ≡ Some ty → HasType w.classes (kinds_of heap) c ty → HasContent c
+        → cell_type_at w.classes (with_heap heap) h (i + 1) ≡ Some low → HasType w.classes (kinds_of heap) d low → HasContent d
         → IsTypedOutcome w assigned (goes_to tagged w (here.turn.stands.instruction.place + here.turn.stands.instruction.insn.len) (record { frames = f ∷ below; heap = heap; statics = statics })
         (with_object_value (dropped (record { frames = f ∷ below; heap = heap; statics = statics }) taken) h i (c ∷ d ∷ [])))
     write-int-safe zero i ty low c d taken op is does falls some e has filled e2 has2 filled2 = absurd (some refl)
@@ -96,7 +96,7 @@ module _ (w : Linked) (world : IsWorld w) (assigned : Typings) (f : Frame Cell) 
         let first : List (Object Cell) = write_object heap h i c in
         let same : kinds_of first ≡ kinds_of heap = kinds-write heap h i c in
         replace-safe w world assigned f below heap statics here taken given.Nothing [] (write_object first h (i + 1) d) statics
-        (ap (λ o. effect w o (types_in w.classes (assigned.unset f.method) (kinds_of heap) f)) is ∙ does) (ap falls_from is ∙ falls)
+        (ap (λ o. effect w o (types_of_frame w.classes (assigned.unset f.method) (kinds_of heap) f)) is ∙ does) (ap falls_from is ∙ falls)
         no_cells (All-nil (IsStacked w here.turn.stands.rec (kinds_of heap)))
         (store-write w first statics h (i + 1) low d (store-write w heap statics h i ty c here.store e has filled)
         (type-kept w.classes heap h i (i + 1) c ∙ e2) (subst (λ ks. HasType w.classes ks d low) (sym same) has2) filled2)

@@ -31,8 +31,8 @@ use Rattle.vm_step.specs.Settled.{return_place}
 abbrev pub least_types : ClassTable → Ty → List ObjectKind → List Cell → List Ty
 least_types t unset ks cs = map (least_type t unset ks) cs
 
-abbrev pub types_in : ClassTable → Ty → List ObjectKind → Frame Cell → Types
-types_in t unset ks f = record { regs = least_types t unset ks f.registers; stack = least_types t unset ks f.stack }
+abbrev pub types_of_frame : ClassTable → Ty → List ObjectKind → Frame Cell → Types
+types_of_frame t unset ks f = record { regs = least_types t unset ks f.registers; stack = least_types t unset ks f.stack }
 
 -- the types of the frame of a caller, once it has been given a result
 abbrev pub types_with : ClassTable → Ty → List ObjectKind → Option Ty → Frame Cell → Types
@@ -79,7 +79,7 @@ pub record Standing (w : Linked) (typings : Typings) (f : Frame Cell) : Type 0 w
 -- the frame on top: the least types of its cells are below those of the typing before its instruction
 pub record IsTypedFrame (w : Linked) (typings : Typings) (ks : List ObjectKind) (f : Frame Cell) : Type 0 where
   pub stands : Standing w typings f
-  pub below : At (typings.frames f.method) f.place (FrameBelow w.classes (types_in w.classes (typings.unset f.method) ks f))
+  pub below : At (typings.frames f.method) f.place (FrameBelow w.classes (types_of_frame w.classes (typings.unset f.method) ks f))
   pub stacked : All (IsStacked w stands.rec ks) f.stack
 
 -- the frame at the instruction after its own

@@ -21,7 +21,7 @@ use Rattle.vm_step.specs.Objects.{kind_of_type}
 use Rattle.vm_step.specs.Methods.{of_method}
 use Rattle.vm_step.specs.Arguments.{Argument, number, null, bytes}
 use Rattle.vm_step.specs.Start.{field_cells, initial, initial_object, with_arrays, cells_handed, parameters, start_fault, entry_state}
-use Rattle.vm_start.specs.Sized.{IsOfNumbers, IsSized}
+use Rattle.vm_start.specs.Sized.{IsOfNumbers, HasEntrySizes}
 use Rattle.vm_start.proofs.Sums.{there-inside}
 use Rattle.vm_start.proofs.Fields.{field-size, words-size}
 use Rattle.vm_start.proofs.Handing.{handed-size}
@@ -67,7 +67,7 @@ module _ {A : Type 0} (k : Cells A) where
   filled : (n : ℕ) (cells : List A) → length cells ≤ n → length (cells ++ replicate (n - length cells) k.empty) ≡ n
   filled n cells le = length-append cells (replicate (n - length cells) k.empty) ∙ omega (arith, length-replicate (n - length cells) k.empty)
 
-  sized-by : (w : Linked) → IsWorld w → (entry : ℕ) (args : List Argument) (m : MethodRec) → Takes w entry args m → IsSized w entry (entry_state k w entry args)
+  sized-by : (w : Linked) → IsWorld w → (entry : ℕ) (args : List Argument) (m : MethodRec) → Takes w entry args m → HasEntrySizes w entry (entry_state k w entry args)
   sized-by w is entry args m t =
       let method : IsMethod w.infos w.pools w.classes m = All-slice_get (IsMethod w.infos w.pools w.classes) w.methods entry m is.methods t.is in
       let handed = handed-size k 0 (length w.arrays) args method.whole t.count t.fit in
@@ -82,5 +82,5 @@ module _ {A : Type 0} (k : Cells A) where
         statics = ap length (arrays-statics args (initial k w)) ∙ statics-size k (length w.infos) w.classes w.arrays w.statics is.statics;
       }
 
-  pub sized : (w : Linked) → IsWorld w → (entry : ℕ) (args : List Argument) → start_fault w entry args ≡ None → IsSized w entry (entry_state k w entry args)
+  pub sized : (w : Linked) → IsWorld w → (entry : ℕ) (args : List Argument) → start_fault w entry args ≡ None → HasEntrySizes w entry (entry_state k w entry args)
   sized w is entry args none = let t = takes w entry args none in sized-by w is entry args t.0 t.1

@@ -13,7 +13,7 @@ IsOfNumbers (References class) = ⊥
 IsOfNumbers kind = ⊤
 
 -- the frame of the entry has its method's registers, all objects are arrays of numbers, and each static field has its cells
-pub record IsSized {A : Type 0} (w : Linked) (entry : ℕ) (s : State A) : Type 0 where
+pub record HasEntrySizes {A : Type 0} (w : Linked) (entry : ℕ) (s : State A) : Type 0 where
   pub known : entry < length w.methods
   pub registers : length (top s).registers ≡ register_count w.methods entry
   pub objects : All (λ o. IsOfNumbers o.kind) s.heap

@@ -16,7 +16,7 @@ use Rattle.vm_store.specs.Kind.{kind_of_handle}
 use Rattle.vm_store.specs.Cells.{Cells}
 use Rattle.vm_store.specs.State.{State, Object, top}
 use Rattle.vm_store.specs.Objects.{kinds, object_at, object_cells, element_count}
-use Rattle.vm_store.specs.Value.{value_in, value_on, kept, with_object_value, with_static_value}
+use Rattle.vm_store.specs.Value.{value_in, value_on, kept_value, with_object_value, with_static_value}
 use Rattle.vm_step.specs.Objects.{kind_passes}
 use Rattle.vm_step.specs.declared.exception.Exception.TheVariants as exceptions
 use Rattle.vm_step.specs.Act.{Act, goes, raises, unless_null, if_some}
@@ -28,7 +28,7 @@ abbrev pub with_static_read : {A : Type 0} → Cells A → StaticField → State
 with_static_read k f s = pushed s (value_in k f.kind s.statics f.slot)
 
 abbrev pub with_static_write : {A : Type 0} → Cells A → StaticField → State A → State A
-with_static_write k f s = with_static_value (dropped s (width f.kind)) f.slot (kept k f.kind (value_on k f.kind (top s).stack))
+with_static_write k f s = with_static_value (dropped s (width f.kind)) f.slot (kept_value k f.kind (value_on k f.kind (top s).stack))
 
 -- ---- instance fields
 
@@ -50,7 +50,7 @@ field_read_act k f holder s = unless_null (held_handle k holder 0 s) (λ h. goes
 
 abbrev pub with_field_write : {A : Type 0} → Cells A → InstanceField → Holder → ℕ → State A → State A
 with_field_write k f holder h s =
-    with_object_value (dropped s (width f.kind + holder_width holder)) h f.cell (kept k f.kind (value_on k f.kind (top s).stack))
+    with_object_value (dropped s (width f.kind + holder_width holder)) h f.cell (kept_value k f.kind (value_on k f.kind (top s).stack))
 
 abbrev pub field_write_act : {A : Type 0} → Cells A → InstanceField → Holder → State A → Act A
 field_write_act k f holder s = unless_null (held_handle k holder (width f.kind) s) (λ h. goes (with_field_write k f holder h s))
@@ -95,7 +95,7 @@ keeps_kind k t kind s h = true
 
 abbrev pub with_element : {A : Type 0} → Cells A → Kind → ℕ → ℕ → State A → State A
 with_element k kind h i s =
-    with_object_value (dropped s (width kind + 2)) h (i * width kind) (kept k kind (value_on k kind (top s).stack))
+    with_object_value (dropped s (width kind + 2)) h (i * width kind) (kept_value k kind (value_on k kind (top s).stack))
 
 -- the value is on the index, and that on the array
 abbrev pub array_write_act : {A : Type 0} → Cells A → ClassTable → Kind → State A → Act A

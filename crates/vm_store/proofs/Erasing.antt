@@ -19,7 +19,7 @@ use Rattle.vm_store.specs.Kind.{cell_kind, element_cells}
 use Rattle.vm_store.specs.Cells.{tagged, words, word_of, zero_cell}
 use Rattle.vm_store.specs.State.{State, Frame, Object, map_frame, map_object, erased, first_frame, other_frames, top, nth, with_top, with_place, with_stack, with_register, with_call, with_entry, entered, arguments, register_count}
 use Rattle.vm_store.specs.Objects.{cells_in, object_cells, has_room, heap_cells, new_instance_cells, array_cells, repeated, write_object, with_object, with_object_cell, with_static_cell}
-use Rattle.vm_store.specs.Value.{value_in, value_on, kept, byte_of_word, with_object_value, with_static_value}
+use Rattle.vm_store.specs.Value.{value_in, value_on, kept_value, byte_of_word, with_object_value, with_static_value}
 use Rattle.vm_store.specs.Erasing.{ReadsErased, FramesErase, ObjectsErase, CellsErase, StatesErase}
 
 -- ---- lists of cells
@@ -173,11 +173,11 @@ on-erased fields.Ref xs = cc (nth-erased xs 0)
 on-erased fields.Byte xs = cc (nth-erased xs 0)
 on-erased fields.Short xs = cc (nth-erased xs 0)
 
-bytes-erased : (value : List Cell) → map word_of (kept tagged fields.Byte value) ≡ kept words fields.Byte (map word_of value)
+bytes-erased : (value : List Cell) → map word_of (kept_value tagged fields.Byte value) ≡ kept_value words fields.Byte (map word_of value)
 bytes-erased [] = refl
 bytes-erased (c ∷ cs) = ap (λ ws. words.short (byte_of_word (word_of c)) ∷ ws) (bytes-erased cs)
 
-kept-erased : (kind : Kind) (value : List Cell) → map word_of (kept tagged kind value) ≡ kept words kind (map word_of value)
+kept-erased : (kind : Kind) (value : List Cell) → map word_of (kept_value tagged kind value) ≡ kept_value words kind (map word_of value)
 kept-erased fields.Byte value = bytes-erased value
 kept-erased fields.Int value = refl
 kept-erased fields.Ref value = refl

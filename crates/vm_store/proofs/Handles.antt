@@ -6,7 +6,7 @@ use Rattle.std.proofs.lemmas.List.{get_or-take, get_or-drop, length-map}
 use Rattle.std.proofs.lemmas.Bool.{false≢true}
 use Rattle.vm_store.specs.declared.kind.ObjectKind.{ObjectKind}
 use Rattle.vm_store.specs.declared.kind.ObjectKind.TheVariants.{Instance, Booleans, Bytes, Shorts, Ints, References}
-use Rattle.vm_store.specs.declared.header.Header.{Header}
+use Rattle.vm_store.specs.declared.header.ObjectHeader.{ObjectHeader}
 use Rattle.vm_store.specs.Kind.{element_width, kind_of_handle}
 use Rattle.vm_store.specs.State.{Object, State}
 use Rattle.vm_store.specs.Objects.{write_object, cells_in, object_at, object_cells, kinds, element_count, with_object_cell}
@@ -28,11 +28,11 @@ some-past (x ∷ xs) zero h = omega arith
 some-past (x ∷ xs) (suc i) h = let r = some-past xs i h in omega (arith, r)
 
 -- the number of a handle's header
-pub record IsHandle (hs : List Header) (handle : ℕ) : Type 0 where
+pub record IsHandle (hs : List ObjectHeader) (handle : ℕ) : Type 0 where
   pub counted : 0 < handle
   pub within : handle - 1 < length hs
 
-module _ {A : Type 0} (s : State A) (xs : List A) (hs : List Header) (end : ℕ) (heap : s.heap ≡ objects_in xs hs) (follow : Follow 0 hs end) (enough : end ≤ length xs) (d : Header) where
+module _ {A : Type 0} (s : State A) (xs : List A) (hs : List ObjectHeader) (end : ℕ) (heap : s.heap ≡ objects_in xs hs) (follow : Follow 0 hs end) (enough : end ≤ length xs) (d : ObjectHeader) where
   found : (k : ℕ) → k < length hs → slice_get s.heap k ≡ Some (object_in xs (get_or hs k d))
   found k lt = ap (λ os. slice_get os k) heap ∙ (slice_get-map (object_in xs) hs k ∙ ap (option_map (object_in xs)) (slice_get-get_or hs k d lt))
 

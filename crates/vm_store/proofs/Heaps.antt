@@ -3,7 +3,7 @@ use Rattle.std.proofs.Common.{◌≡◌, ℕ, zero, suc, ◌+◌, ◌-◌, ◌<�
 use Rattle.std.specs.Prelude.{sum_by}
 use Rattle.std.proofs.lemmas.List.{take-set-le, drop-set-lt, drop-set-add, drop-drop, take-take, drop-take, take_at, drop_at, map-append}
 use Rattle.std.proofs.lemmas.List.Sums.{sum_by-cons}
-use Rattle.vm_store.specs.declared.header.Header.{Header}
+use Rattle.vm_store.specs.declared.header.ObjectHeader.{ObjectHeader}
 use Rattle.vm_store.specs.State.{Object}
 use Rattle.vm_store.specs.Objects.{write_object}
 use Rattle.vm_store.specs.Layout.{size, object_in, objects_in, Follow, overwritten}
@@ -15,12 +15,12 @@ set-take (suc n) (x ∷ xs) zero a = refl
 set-take (suc n) (x ∷ xs) (suc i) a = ap (λ ys. x ∷ ys) (set-take n xs i a)
 
 -- the end of objects that follow one another is not before their begin
-pub begin-le-end : (from : ℕ) (hs : List Header) (end : ℕ) → Follow from hs end → from ≤ end
+pub begin-le-end : (from : ℕ) (hs : List ObjectHeader) (end : ℕ) → Follow from hs end → from ≤ end
 begin-le-end from [] end f = omega (arith, f)
 begin-le-end from (h ∷ hs) end (here, rest) = let r = begin-le-end (from + size h) hs end rest in omega (arith, r)
 
 same_object :
-    {A : Type 0} (xs ys : List A) (h : Header) (from : ℕ)
+    {A : Type 0} (xs ys : List A) (h : ObjectHeader) (from : ℕ)
     → h.start ≡ from → take (size h) (drop from xs) ≡ take (size h) (drop from ys) → object_in xs h ≡ object_in ys h
 same_object {A} xs ys h from here e =
     let build : List A → Object A = λ cells. record { kind = h.kind; cells = cells } in
@@ -41,7 +41,7 @@ part_of {A} xs ys from n m same e =
 
 -- memories that agree from the begin to the end hold the same objects
 pub same_objects :
-    {A : Type 0} (xs ys : List A) (from : ℕ) (hs : List Header) (end : ℕ)
+    {A : Type 0} (xs ys : List A) (from : ℕ) (hs : List ObjectHeader) (end : ℕ)
     → Follow from hs end → take (end - from) (drop from xs) ≡ take (end - from) (drop from ys) → objects_in xs hs ≡ objects_in ys hs
 same_objects xs ys from [] end f e = refl
 same_objects {A} xs ys from (h ∷ hs) end (here, rest) e =
@@ -55,12 +55,12 @@ same_objects {A} xs ys from (h ∷ hs) end (here, rest) e =
 
 -- a write before them, or after them, changes none of them
 pub write_before :
-    {A : Type 0} (xs : List A) (from : ℕ) (hs : List Header) (end p : ℕ) (v : A)
+    {A : Type 0} (xs : List A) (from : ℕ) (hs : List ObjectHeader) (end p : ℕ) (v : A)
     → Follow from hs end → p < from → objects_in (set xs p v) hs ≡ objects_in xs hs
 write_before xs from hs end p v f lt = same_objects (set xs p v) xs from hs end f (ap (take (end - from)) (drop-set-lt from xs p v lt))
 
 pub write_after :
-    {A : Type 0} (xs : List A) (from : ℕ) (hs : List Header) (end p : ℕ) (v : A)
+    {A : Type 0} (xs : List A) (from : ℕ) (hs : List ObjectHeader) (end p : ℕ) (v : A)
     → Follow from hs end → end ≤ p → objects_in (set xs p v) hs ≡ objects_in xs hs
 write_after xs from hs end p v f le =
     let begin = begin-le-end from hs end f in
@@ -71,21 +71,21 @@ write_after xs from hs end p v f le =
     ∙ (ap (take (end - from)) (drop-set-add from xs (p - from) v) ∙ take-set-le (end - from) (drop from xs) (p - from) v far))
 
 -- each object begins at the begin of all or after it
-pub start-ge : (from : ℕ) (hs : List Header) (end k : ℕ) (d : Header) → Follow from hs end → k < length hs → from ≤ (get_or hs k d).start
+pub start-ge : (from : ℕ) (hs : List ObjectHeader) (end k : ℕ) (d : ObjectHeader) → Follow from hs end → k < length hs → from ≤ (get_or hs k d).start
 start-ge from [] end k d f lt = absurd (omega (arith, lt))
 start-ge from (h ∷ hs) end zero d (here, rest) lt = omega (arith, here)
 start-ge from (h ∷ hs) end (suc k) d (here, rest) lt =
     let r = start-ge (from + size h) hs end k d rest (omega (arith, lt)) in omega (arith, r)
 
 -- each object ends at the end of all or before it
-pub end-le : (from : ℕ) (hs : List Header) (end k : ℕ) (d : Header) → Follow from hs end → k < length hs → (get_or hs k d).start + size (get_or hs k d) ≤ end
+pub end-le : (from : ℕ) (hs : List ObjectHeader) (end k : ℕ) (d : ObjectHeader) → Follow from hs end → k < length hs → (get_or hs k d).start + size (get_or hs k d) ≤ end
 end-le from [] end k d f lt = absurd (omega (arith, lt))
 end-le from (h ∷ hs) end zero d (here, rest) lt = let r = begin-le-end (from + size h) hs end rest in omega (arith, r, here)
 end-le from (h ∷ hs) end (suc k) d (here, rest) lt = end-le (from + size h) hs end k d rest (omega (arith, lt))
 
 -- a write to a cell of one object
 pub write_inside :
-    {A : Type 0} (xs : List A) (from : ℕ) (hs : List Header) (end k i : ℕ) (v : A) (d : Header)
+    {A : Type 0} (xs : List A) (from : ℕ) (hs : List ObjectHeader) (end k i : ℕ) (v : A) (d : ObjectHeader)
     → Follow from hs end → k < length hs → i < size (get_or hs k d)
     → write_object (objects_in xs hs) k i v ≡ objects_in (set xs ((get_or hs k d).start + i) v) hs
 write_inside xs from [] end k i v d f lt within = absurd (omega (arith, lt))
@@ -109,7 +109,7 @@ write_inside {A} xs from (h ∷ hs) end (suc k) i v d (here, rest) lt within =
 
 -- how many cells all objects have
 pub sum-objects :
-    {A : Type 0} (xs : List A) (from : ℕ) (hs : List Header) (end : ℕ)
+    {A : Type 0} (xs : List A) (from : ℕ) (hs : List ObjectHeader) (end : ℕ)
     → Follow from hs end → end ≤ length xs → from + sum_by (λ o. length o.cells) (objects_in xs hs) ≡ end
 sum-objects xs from [] end f le = omega (arith, f)
 sum-objects {A} xs from (h ∷ hs) end (here, rest) le =
@@ -120,14 +120,14 @@ sum-objects {A} xs from (h ∷ hs) end (here, rest) le =
     omega (arith, whole, others, sum)
 
 -- one object more, after those that are there
-pub follow-more : (from : ℕ) (hs : List Header) (end : ℕ) (h : Header) → Follow from hs end → h.start ≡ end → Follow from (hs ++ h ∷ []) (end + size h)
+pub follow-more : (from : ℕ) (hs : List ObjectHeader) (end : ℕ) (h : ObjectHeader) → Follow from hs end → h.start ≡ end → Follow from (hs ++ h ∷ []) (end + size h)
 follow-more from [] end h f here = (here ∙ sym f, ap (λ k. k + size h) f)
 follow-more from (g ∷ gs) end h (first, rest) here = (first, follow-more (from + size g) gs end h rest here)
 
 -- ---- a new object
 
 pub added :
-    {A : Type 0} (xs ys news : List A) (hs : List Header) (end : ℕ) (h : Header)
+    {A : Type 0} (xs ys news : List A) (hs : List ObjectHeader) (end : ℕ) (h : ObjectHeader)
     → Follow 0 hs end → end ≤ length xs → ys ≡ overwritten xs end news → h.start ≡ end → size h ≡ length news
     → objects_in ys (hs ++ h ∷ []) ≡ objects_in xs hs ++ record { kind = h.kind; cells = news } ∷ []
 added {A} xs ys news hs end h follow enough is here width =

@@ -9,7 +9,7 @@ use Rattle.jc_base.specs.declared.ty.Ty.{Ty}
 use Rattle.jc_base.specs.declared.ty.Ty.TheVariants.{Bottom, Short, IntHigh, IntLow, Null, Class, ArrBool, ArrByte, ArrShort, ArrInt, ArrRef, Fresh, Top}
 use Rattle.jc_base.specs.declared.record.ClassRec.{ClassRec}
 use Rattle.jc_base.specs.declared.record.MethodRec.{MethodRec}
-use Rattle.jc_base.specs.Class.{ClassTable, IsClass, chain}
+use Rattle.jc_base.specs.Class.{ClassTable, IsClass, chain, class_in_types}
 use Rattle.jc_base.specs.Order.{null_object, null_array, of_booleans, of_bytes, of_shorts, of_ints, of_references}
 use Rattle.jc_base.specs.Cell.{IsDeclared}
 use Rattle.jc_base.specs.Dispatch.{of_record, own_cells, cells_of}
@@ -18,12 +18,12 @@ use Rattle.jc_base.proofs.Lists.{slice_get-front}
 use Rattle.vm_store.specs.declared.cell.Cell.{Cell}
 use Rattle.vm_store.specs.declared.kind.ObjectKind.{ObjectKind}
 use Rattle.vm_store.specs.declared.kind.ObjectKind.TheVariants.{Instance, Booleans, Bytes, Shorts, Ints, References}
-use Rattle.vm_store.specs.Kind.{IsArrayKind, cell_kind, element_cells, class_in_types}
+use Rattle.vm_store.specs.Kind.{IsArrayKind, cell_kind, element_cells}
 use Rattle.vm_store.specs.Typing.{HasType, anything, empty, short, high, low, null, reference, fresh}
 use Rattle.vm_store.specs.Cells.{tagged, zero_cell}
 use Rattle.vm_store.specs.State.{State, Object}
 use Rattle.vm_store.specs.Objects.{kinds, repeated, new_instance_cells, array_cells, with_object}
-use Rattle.vm_store.specs.Laws.{IsFilled, CellsHave, IsTypedObject, IsTypedHeap, cell_types, element_types}
+use Rattle.vm_store.specs.Laws.{HasContent, CellsHave, IsTypedObject, IsTypedHeap, cell_types, element_types}
 use Rattle.vm_store.specs.NewObjects.{NewInstancesAreTyped, NewArraysAreTyped}
 use Rattle.vm_store.proofs.Fills.{length-array}
 
@@ -67,7 +67,7 @@ module _ (t : ClassTable) where
   have-both ks (c ∷ cs) ds [] others h g = absurd h
   have-both ks (c ∷ cs) ds (ty ∷ types) others h g = (h.0, h.1, have-both ks cs ds types others h.2 g)
 
-  zero-has : (ks : List ObjectKind) (ty : Ty) → IsDeclared t ty → HasType t ks (zero_cell tagged (cell_kind ty)) ty × IsFilled (zero_cell tagged (cell_kind ty))
+  zero-has : (ks : List ObjectKind) (ty : Ty) → IsDeclared t ty → HasType t ks (zero_cell tagged (cell_kind ty)) ty × HasContent (zero_cell tagged (cell_kind ty))
   zero-has ks Bottom h = absurd h
   zero-has ks Short h = (short, tt {0})
   zero-has ks IntHigh h = (high, tt {0})

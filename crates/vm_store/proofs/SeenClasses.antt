@@ -2,7 +2,7 @@
 use Rattle.std.proofs.Common.{◌≡◌, ℕ, zero, suc, ◌-◌, ◌<◌, ◌≤◌, false, List, [], ◌∷◌, length, map, get_or, refl, ap, sym, ◌∙◌, arith}
 use Rattle.std.specs.Prelude.{slice_get, option_map, Some}
 use Rattle.vm_store.specs.declared.kind.ObjectKind.{ObjectKind}
-use Rattle.vm_store.specs.declared.header.Header.{Header}
+use Rattle.vm_store.specs.declared.header.ObjectHeader.{ObjectHeader}
 use Rattle.vm_store.specs.Kind.{kind_of_handle}
 use Rattle.vm_store.specs.State.{Object}
 use Rattle.vm_store.specs.Layout.{objects_in}
@@ -28,16 +28,16 @@ fresh-at kinds zero p = refl
 fresh-at kinds (suc h) p = refl
 
 pub kind-read :
-    (hs : List Header) (h : ℕ) (x : Header) → 0 < h → h - 1 < length hs → x ≡ get_or hs (h - 1) x
-    → Some x.kind ≡ kind_of_handle (map (λ (g : Header). g.kind) hs) h
+    (hs : List ObjectHeader) (h : ℕ) (x : ObjectHeader) → 0 < h → h - 1 < length hs → x ≡ get_or hs (h - 1) x
+    → Some x.kind ≡ kind_of_handle (map (λ (g : ObjectHeader). g.kind) hs) h
 kind-read hs h x counted within read =
-    let kinds = map (λ (g : Header). g.kind) hs in
+    let kinds = map (λ (g : ObjectHeader). g.kind) hs in
     sym
     (kind-at kinds h counted
-    ∙ (slice_get-map (λ (g : Header). g.kind) hs (h - 1)
-    ∙ (ap (option_map (λ (g : Header). g.kind)) (slice_get-get_or hs (h - 1) x within) ∙ ap (λ (g : Header). Some g.kind) (sym read))))
+    ∙ (slice_get-map (λ (g : ObjectHeader). g.kind) hs (h - 1)
+    ∙ (ap (option_map (λ (g : ObjectHeader). g.kind)) (slice_get-get_or hs (h - 1) x within) ∙ ap (λ (g : ObjectHeader). Some g.kind) (sym read))))
 
 -- the kinds of the objects are those of their headers
-pub kinds-objects : {A : Type 0} (xs : List A) (hs : List Header) → map (λ (o : Object A). o.kind) (objects_in xs hs) ≡ map (λ (h : Header). h.kind) hs
+pub kinds-objects : {A : Type 0} (xs : List A) (hs : List ObjectHeader) → map (λ (o : Object A). o.kind) (objects_in xs hs) ≡ map (λ (h : ObjectHeader). h.kind) hs
 kinds-objects xs [] = refl
 kinds-objects xs (h ∷ hs) = ap (λ ks. h.kind ∷ ks) (kinds-objects xs hs)

@@ -1,7 +1,7 @@
 -- One object more in the memory of tagged cells.
 use Rattle.std.proofs.Common.{◌≡◌, ℕ, ◌+◌, ◌<◌, ◌≤◌, List, [], ◌∷◌, ◌++◌, length, sym, ◌∙◌, ap, subst, arith}
 use Rattle.std.proofs.lemmas.List.{length_push}
-use Rattle.vm_store.specs.declared.header.Header.{Header}
+use Rattle.vm_store.specs.declared.header.ObjectHeader.{ObjectHeader}
 use Rattle.vm_store.specs.State.{Frame, Object, State}
 use Rattle.vm_store.specs.Objects.{with_object}
 use Rattle.vm_store.specs.Layout.{size, objects_in, Follow, overwritten}
@@ -9,7 +9,7 @@ use Rattle.vm_store.specs.Tagged.{IsInOrder}
 use Rattle.vm_store.proofs.Heaps.{added, follow-more}
 
 pub in_order-more :
-    (frames live capacity cells used n capacity' cells' : ℕ) (hs now : List Header) (h : Header)
+    (frames live capacity cells used n capacity' cells' : ℕ) (hs now : List ObjectHeader) (h : ObjectHeader)
     → IsInOrder frames live hs capacity cells used → length hs < 4096 → h.start ≡ used → size h ≡ n → used + n ≤ 32768
     → now ≡ hs ++ h ∷ [] → capacity' ≡ capacity → cells' ≡ cells → IsInOrder frames live now capacity' cells' (used + n)
 in_order-more frames live capacity cells used n capacity' cells' hs now h order few here width room is same_capacity same_cells =
@@ -26,7 +26,7 @@ in_order-more frames live capacity cells used n capacity' cells' hs now h order 
     }
 
 pub state-more :
-    {A : Type 0} (frames : List (Frame A)) (statics xs ys news : List A) (hs now : List Header) (used : ℕ) (h : Header) (s : State A)
+    {A : Type 0} (frames : List (Frame A)) (statics xs ys news : List A) (hs now : List ObjectHeader) (used : ℕ) (h : ObjectHeader) (s : State A)
     → record { frames = frames; heap = objects_in xs hs; statics = statics } ≡ s
     → Follow 0 hs used → used ≤ length xs → ys ≡ overwritten xs used news → h.start ≡ used → size h ≡ length news → now ≡ hs ++ h ∷ []
     → record { frames = frames; heap = objects_in ys now; statics = statics } ≡ with_object s h.kind news

@@ -10,7 +10,7 @@ use Rattle.vm_store.specs.declared.kind.ObjectKind.{ObjectKind}
 use Rattle.vm_store.specs.Typing.{HasType}
 use Rattle.vm_store.specs.State.{State, Object}
 use Rattle.vm_store.specs.Objects.{kinds, object_cells, cells_in, write_object, with_object_cell}
-use Rattle.vm_store.specs.Laws.{KeepsKinds, cell_types, IsFilled, CellsHave, IsTypedObject, IsTypedHeap, type_at}
+use Rattle.vm_store.specs.Laws.{KeepsKinds, cell_types, HasContent, CellsHave, IsTypedObject, IsTypedHeap, cell_type_at}
 
 -- a write keeps what every object is
 pub kinds-write : {A : Type 0} (os : List (Object A)) (h i : ℕ) (c : A) → map (λ (o : Object A). o.kind) (write_object os h i c) ≡ map (λ (o : Object A). o.kind) os
@@ -36,16 +36,16 @@ module _ (t : ClassTable) (ks : List ObjectKind) where
   -- a cell of typed cells
   have-read :
       (cs : List Cell) (types : List Ty) (i : ℕ) (ty : Ty)
-      → CellsHave t ks cs types → slice_get types i ≡ Some ty → IsSomeAnd (slice_get cs i) (λ c. HasType t ks c ty × IsFilled c)
+      → CellsHave t ks cs types → slice_get types i ≡ Some ty → IsSomeAnd (slice_get cs i) (λ c. HasType t ks c ty × HasContent c)
   have-read [] [] i ty h e = absurd (none-some ty e)
   have-read [] (u ∷ types) i ty h e = absurd h
   have-read (c ∷ cs) [] i ty h e = absurd h
-  have-read (c ∷ cs) (u ∷ types) zero ty h e = subst (λ v. HasType t ks c v × IsFilled c) (same_Some u ty e) (h.0, h.1)
+  have-read (c ∷ cs) (u ∷ types) zero ty h e = subst (λ v. HasType t ks c v × HasContent c) (same_Some u ty e) (h.0, h.1)
   have-read (c ∷ cs) (u ∷ types) (suc i) ty h e = have-read cs types i ty h.2 e
 
   have-write :
       (cs : List Cell) (types : List Ty) (i : ℕ) (ty : Ty) (c : Cell)
-      → CellsHave t ks cs types → slice_get types i ≡ Some ty → HasType t ks c ty → IsFilled c → CellsHave t ks (set cs i c) types
+      → CellsHave t ks cs types → slice_get types i ≡ Some ty → HasType t ks c ty → HasContent c → CellsHave t ks (set cs i c) types
   have-write [] [] i ty c h e has filled = absurd (none-some ty e)
   have-write [] (u ∷ types) i ty c h e has filled = absurd h
   have-write (d ∷ cs) [] i ty c h e has filled = absurd h
@@ -56,7 +56,7 @@ module _ (t : ClassTable) (ks : List ObjectKind) where
   object-read :
       (os : List (Object Cell)) (h i : ℕ) (ty : Ty)
       → All (IsTypedObject t ks) os → option_and_then (λ (o : Object Cell). slice_get (cell_types t o.kind (length o.cells)) i) (slice_get os h) ≡ Some ty
-      → IsSomeAnd (slice_get (cells_in (slice_get os h)) i) (λ c. HasType t ks c ty × IsFilled c)
+      → IsSomeAnd (slice_get (cells_in (slice_get os h)) i) (λ c. HasType t ks c ty × HasContent c)
   object-read [] h i ty typed e = absurd (none-some ty e)
   object-read (o ∷ os) zero i ty typed e =
       have-read o.cells (cell_types t o.kind (length o.cells)) i ty (All-head (IsTypedObject t ks) o os typed) e
@@ -65,7 +65,7 @@ module _ (t : ClassTable) (ks : List ObjectKind) where
   object-write :
       (os : List (Object Cell)) (h i : ℕ) (ty : Ty) (c : Cell)
       → All (IsTypedObject t ks) os → option_and_then (λ (o : Object Cell). slice_get (cell_types t o.kind (length o.cells)) i) (slice_get os h) ≡ Some ty
-      → HasType t ks c ty → IsFilled c → All (IsTypedObject t ks) (write_object os h i c)
+      → HasType t ks c ty → HasContent c → All (IsTypedObject t ks) (write_object os h i c)
   object-write [] h i ty c typed e has filled = absurd (none-some ty e)
   object-write (o ∷ os) zero i ty c typed e has filled =
       let now : CellsHave t ks (set o.cells i c) (cell_types t o.kind (length o.cells)) =
@@ -79,13 +79,13 @@ module _ (t : ClassTable) (ks : List ObjectKind) where
 
 pub heap-read :
     (t : ClassTable) (s : State Cell) (h i : ℕ) (ty : Ty)
-    → IsTypedHeap t s → type_at t s h i ≡ Some ty → IsSomeAnd (slice_get (object_cells s h) i) (λ c. HasType t (kinds s) c ty × IsFilled c)
+    → IsTypedHeap t s → cell_type_at t s h i ≡ Some ty → IsSomeAnd (slice_get (object_cells s h) i) (λ c. HasType t (kinds s) c ty × HasContent c)
 heap-read t s zero i ty typed e = absurd (none-some ty e)
 heap-read t s (suc h) i ty typed e = object-read t (kinds s) s.heap h i ty typed e
 
 pub heap-write :
     (t : ClassTable) (s : State Cell) (h i : ℕ) (ty : Ty) (c : Cell)
-    → IsTypedHeap t s → type_at t s h i ≡ Some ty → HasType t (kinds s) c ty → IsFilled c → IsTypedHeap t (with_object_cell s h i c)
+    → IsTypedHeap t s → cell_type_at t s h i ≡ Some ty → HasType t (kinds s) c ty → HasContent c → IsTypedHeap t (with_object_cell s h i c)
 heap-write t s zero i ty c typed e has filled = absurd (none-some ty e)
 heap-write t s (suc h) i ty c typed e has filled =
     let written = write_object s.heap h i c in

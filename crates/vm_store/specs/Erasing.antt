@@ -8,7 +8,7 @@ use Rattle.vm_store.specs.declared.kind.ObjectKind.{ObjectKind}
 use Rattle.vm_store.specs.Cells.{tagged, words, word_of}
 use Rattle.vm_store.specs.State.{State, Frame, map_frame, erased, top, nth, with_top, with_place, with_stack, with_register, with_call, with_entry, without_top, without_frames}
 use Rattle.vm_store.specs.Objects.{kinds, object_cells, has_room, new_instance_cells, array_cells, with_object, with_object_cell, with_static_cell}
-use Rattle.vm_store.specs.Value.{value_in, value_on, kept, with_object_value, with_static_value}
+use Rattle.vm_store.specs.Value.{value_in, value_on, kept_value, with_object_value, with_static_value}
 
 -- what a state says but for the kinds of its cells
 pub record ReadsErased (s : State Cell) : Type 0 where
@@ -43,7 +43,7 @@ pub record CellsErase (t : ClassTable) : Type 0 where
       (kind : Kind) (cells : List Cell) (at : ℕ)
       → map word_of (value_in tagged kind cells at) ≡ value_in words kind (map word_of cells) at
   pub popped : (kind : Kind) (stack : List Cell) → map word_of (value_on tagged kind stack) ≡ value_on words kind (map word_of stack)
-  pub stored : (kind : Kind) (value : List Cell) → map word_of (kept tagged kind value) ≡ kept words kind (map word_of value)
+  pub stored : (kind : Kind) (value : List Cell) → map word_of (kept_value tagged kind value) ≡ kept_value words kind (map word_of value)
   pub instance : (c : ℕ) → map word_of (new_instance_cells tagged t c) ≡ new_instance_cells words t c
   pub array : (kind : ObjectKind) (count : ℕ) → map word_of (array_cells tagged kind count) ≡ array_cells words kind count
 

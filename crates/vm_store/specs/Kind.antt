@@ -1,16 +1,12 @@
 -- What an object is, and which cells it has (JCVM 2.2, sections 2.2, 3.1 and 3.6).
-use Rattle.std.specs.Prelude.{ℕ, zero, suc, ◌<◌, if◌then◌else◌, List, [], ◌∷◌, Option, None, slice_get}
+use Rattle.std.specs.Prelude.{ℕ, zero, suc, ◌<◌, List, [], ◌∷◌, Option, None, slice_get}
 use Rattle.jc_base.specs.declared.ty.Ty.{Ty}
 use Rattle.jc_base.specs.declared.ty.Ty.TheVariants.{Short, IntHigh, IntLow, Class, ArrBool, ArrByte, ArrShort, ArrInt, ArrRef}
-use Rattle.jc_base.specs.Class.{ClassTable, is_interface, object}
+use Rattle.jc_base.specs.Class.{ClassTable, object, class_in_types}
 use Rattle.vm_store.specs.declared.cell.CellKind.{CellKind}
 use Rattle.vm_store.specs.declared.cell.CellKind.TheVariants as made
 use Rattle.vm_store.specs.declared.kind.ObjectKind.{ObjectKind}
 use Rattle.vm_store.specs.declared.kind.ObjectKind.TheVariants.{Instance, Booleans, Bytes, Shorts, Ints, References}
-
--- the class that stands in types for a class or an interface: object for an interface
-abbrev pub class_in_types : ClassTable → ℕ → ℕ
-class_in_types t c = if is_interface t c then object t else c
 
 -- the type of a reference to an object
 abbrev pub type_of_kind : ClassTable → ObjectKind → Ty

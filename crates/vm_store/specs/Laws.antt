@@ -2,13 +2,12 @@
 use Rattle.std.specs.Prelude.{◌≡◌, ℕ, ◌/◌, List, [], ◌∷◌, length, All, IsSomeAnd, slice_get, Option, Some, option_and_then, ⊤}
 use Rattle.jc_base.specs.declared.ty.Ty.{Ty}
 use Rattle.jc_base.specs.declared.ty.Ty.TheVariants.{Bottom, Short, IntHigh, IntLow, Class}
-use Rattle.jc_base.specs.Class.{ClassTable}
+use Rattle.jc_base.specs.Class.{ClassTable, class_in_types}
 use Rattle.jc_base.specs.Dispatch.{cells_of}
 use Rattle.vm_store.specs.declared.cell.Cell.{Cell}
 use Rattle.vm_store.specs.declared.cell.Cell.TheVariants as cells
 use Rattle.vm_store.specs.declared.kind.ObjectKind.{ObjectKind}
 use Rattle.vm_store.specs.declared.kind.ObjectKind.TheVariants.{Instance, Booleans, Bytes, Shorts, Ints, References}
-use Rattle.vm_store.specs.Kind.{class_in_types}
 use Rattle.vm_store.specs.Typing.{HasType, least_type, IsLeastType, FallsWithObjects}
 use Rattle.vm_store.specs.Cells.{tagged, words, word_of, IsErasure}
 use Rattle.vm_store.specs.State.{State, Object}
@@ -51,14 +50,14 @@ cell_types t Ints n = repeated (n / 2) (element_types t Ints)
 cell_types t (References c) n = repeated n (element_types t (References c))
 
 -- something was stored in the cell
-abbrev pub IsFilled : Cell → Type 0
-IsFilled cells.Empty = ⊥
-IsFilled _ = ⊤
+abbrev pub HasContent : Cell → Type 0
+HasContent cells.Empty = ⊥
+HasContent _ = ⊤
 
 -- the cells have these types, one each, and all of them are filled
 abbrev pub CellsHave : ClassTable → List ObjectKind → List Cell → List Ty → Type 0
 CellsHave t ks [] [] = Unit {0}
-CellsHave t ks (c ∷ cs) (ty ∷ types) = HasType t ks c ty × IsFilled c × CellsHave t ks cs types
+CellsHave t ks (c ∷ cs) (ty ∷ types) = HasType t ks c ty × HasContent c × CellsHave t ks cs types
 CellsHave t ks _ _ = ⊥
 
 abbrev pub IsTypedObject : ClassTable → List ObjectKind → Object Cell → Type 0
@@ -69,19 +68,19 @@ abbrev pub IsTypedHeap : ClassTable → State Cell → Type 0
 IsTypedHeap t s = All (IsTypedObject t (kinds s)) s.heap
 
 -- the type that a cell of the object of a handle has in a typed heap
-abbrev pub type_at : ClassTable → State Cell → ℕ → ℕ → Option Ty
-type_at t s h i = option_and_then (λ o. slice_get (cell_types t o.kind (length o.cells)) i) (object_at s h)
+abbrev pub cell_type_at : ClassTable → State Cell → ℕ → ℕ → Option Ty
+cell_type_at t s h i = option_and_then (λ o. slice_get (cell_types t o.kind (length o.cells)) i) (object_at s h)
 
 -- a cell that is read from a typed heap is there, is filled, and has the type of its place
 abbrev pub TypedReads : ClassTable → Type 0
 TypedReads t =
     (s : State Cell) (h i : ℕ) (ty : Ty)
-    → IsTypedHeap t s → type_at t s h i ≡ Some ty
-    → IsSomeAnd (slice_get (object_cells s h) i) (λ c. HasType t (kinds s) c ty × IsFilled c)
+    → IsTypedHeap t s → cell_type_at t s h i ≡ Some ty
+    → IsSomeAnd (slice_get (object_cells s h) i) (λ c. HasType t (kinds s) c ty × HasContent c)
 
 -- a typed heap stays typed where a filled cell of the type of its place is written
 abbrev pub TypedWrites : ClassTable → Type 0
 TypedWrites t =
     (s : State Cell) (h i : ℕ) (ty : Ty) (c : Cell)
-    → IsTypedHeap t s → type_at t s h i ≡ Some ty → HasType t (kinds s) c ty → IsFilled c
+    → IsTypedHeap t s → cell_type_at t s h i ≡ Some ty → HasType t (kinds s) c ty → HasContent c
     → IsTypedHeap t (with_object_cell s h i c)

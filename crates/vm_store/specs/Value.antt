@@ -28,9 +28,9 @@ byte_of_word w = cast_signed w8 (w % 256)
 
 -- a value as a field or an element of a kind keeps it: of a boolean and of a byte the low eight
 -- bits, with their sign
-abbrev pub kept : {A : Type 0} → Cells A → Kind → List A → List A
-kept k fields.Byte value = map (λ c. k.short (byte_of_word (k.word c))) value
-kept k _ value = value
+abbrev pub kept_value : {A : Type 0} → Cells A → Kind → List A → List A
+kept_value k fields.Byte value = map (λ c. k.short (byte_of_word (k.word c))) value
+kept_value k _ value = value
 
 -- the state in which the cells of an object from a place on hold a value
 abbrev pub with_object_value : {A : Type 0} → State A → ℕ → ℕ → List A → State A

@@ -4,7 +4,7 @@ use crate::kind::ObjectKind;
 
 /// Where the cells of an object lie: as many as its elements ask, from a number on.
 #[derive(Clone, Copy)]
-pub struct Header {
+pub struct ObjectHeader {
     pub kind: ObjectKind,
     /// The number of its first cell.
     pub start: u16,
@@ -12,7 +12,7 @@ pub struct Header {
     pub elements: u16,
 }
 
-impl Header {
+impl ObjectHeader {
     ghost use Rattle.vm_store.specs.Layout.{size};
 
     /// The number of its cells.

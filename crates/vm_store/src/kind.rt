@@ -1,5 +1,6 @@
 ghost use Rattle.std.specs.Prelude.{◌≡◌, ◌<◌};
-ghost use Rattle.vm_store.specs.Kind.{cell_kind, element_width, class_in_types, type_of_kind};
+ghost use Rattle.vm_store.specs.Kind.{cell_kind, element_width, type_of_kind};
+ghost use Rattle.jc_base.specs.Class.{class_in_types};
 ghost use Rattle.vm_store.specs.Typing.{fresh_seen};
 
 use crate::cell::CellKind;

@@ -20,7 +20,7 @@ mod value;
 pub use cell::{Cell, CellKind};
 pub use fill::{fill_array, fill_instance};
 pub use form::CellForm;
-pub use header::Header;
+pub use header::ObjectHeader;
 pub use kind::ObjectKind;
 pub use laws::{
     least_types_are_least, new_objects_are_typed, states_erase, typed_heaps_stay_typed,

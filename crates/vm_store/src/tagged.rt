@@ -7,7 +7,7 @@ ghost use Rattle.vm_store.specs.State.{IsRunning, top};
 use crate::cell::Cell;
 use crate::fill::{fill_array, fill_instance};
 use crate::frame::{self, TaggedFrame};
-use crate::header::Header;
+use crate::header::ObjectHeader;
 use crate::kind::ObjectKind;
 use crate::registers::register_count;
 use crate::store::Store;
@@ -31,7 +31,7 @@ pub struct TaggedStore {
     /// All frames, of which the first `live` are those of methods that run; the top one is the last of them.
     frames: Vec<TaggedFrame>,
     live: usize,
-    headers: Vec<Header>,
+    headers: Vec<ObjectHeader>,
     /// All cells of objects, of which the first `used` are taken.
     cells: Vec<Cell>,
     used: usize,
@@ -206,7 +206,7 @@ impl Store for TaggedStore {
         let start = self.used;
         fill_instance(self.cells.as_mut_slice(), start, world, class);
         self.used += elements as usize;
-        self.headers.push_reserved(Header {
+        self.headers.push_reserved(ObjectHeader {
             kind: ObjectKind::Instance(class),
             start: start as u16,
             elements,
@@ -218,7 +218,7 @@ impl Store for TaggedStore {
         let start = self.used;
         fill_array(self.cells.as_mut_slice(), start, kind, count);
         self.used += kind.width() * count as usize;
-        self.headers.push_reserved(Header {
+        self.headers.push_reserved(ObjectHeader {
             kind,
             start: start as u16,
             elements: count,
@@ -268,7 +268,7 @@ fn new_frames(alloc: Global) -> Result<Vec<TaggedFrame>, AllocError>
 }
 
 /// What the object of a handle is.
-fn kind_of(headers: &Vec<Header>, handle: u16) -> Option<ObjectKind>
+fn kind_of(headers: &Vec<ObjectHeader>, handle: u16) -> Option<ObjectKind>
     ensures { result ≡ kind_of_handle (map (λ h. h.kind) headers.now.items) handle }
 {
     if handle == 0 || headers.len() < handle as usize {
@@ -278,7 +278,7 @@ fn kind_of(headers: &Vec<Header>, handle: u16) -> Option<ObjectKind>
 }
 
 /// The least type of a reference.
-fn type_of_handle(headers: &Vec<Header>, classes: &Classes, handle: u16) -> Ty
+fn type_of_handle(headers: &Vec<ObjectHeader>, classes: &Classes, handle: u16) -> Ty
     ensures { result ≡ type_of_handle classes.now (map (λ h. h.kind) headers.now.items) handle }
 {
     if handle == 0 {
@@ -291,7 +291,7 @@ fn type_of_handle(headers: &Vec<Header>, classes: &Classes, handle: u16) -> Ty
 }
 
 /// The least type of a reference to an object on which no constructor was called yet.
-fn type_of_fresh(headers: &Vec<Header>, handle: u16, place: u16) -> Ty
+fn type_of_fresh(headers: &Vec<ObjectHeader>, handle: u16, place: u16) -> Ty
     ensures { result ≡ type_of_fresh (map (λ h. h.kind) headers.now.items) handle place }
 {
     match kind_of(headers, handle) {

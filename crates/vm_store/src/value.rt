@@ -3,7 +3,7 @@ ghost use Rattle.std.specs.Prelude.{◌≡◌, ◌+◌, ◌<◌, ◌≤◌, leng
 ghost use Rattle.jc_base.specs.Cell.{width};
 ghost use Rattle.vm_store.specs.State.{IsRunning, top, with_stack};
 ghost use Rattle.vm_store.specs.Objects.{object_cells};
-ghost use Rattle.vm_store.specs.Value.{value_in, value_on, with_value, kept, byte_of_word, with_object_value, with_static_value};
+ghost use Rattle.vm_store.specs.Value.{value_in, value_on, with_value, kept_value, byte_of_word, with_object_value, with_static_value};
 
 use crate::form::CellForm;
 use crate::store::Store;
@@ -56,7 +56,7 @@ pub fn pop_object_value<S: Store>(store: &mut S, handle: u16, at: u16, kind: Kin
         (with_stack (S.state store.old) (drop (width kind) (top (S.state store.old)).stack))
         handle
         at
-        (kept S.Cell.cells kind (value_on S.Cell.cells kind (top (S.state store.old)).stack)) }
+        (kept_value S.Cell.cells kind (value_on S.Cell.cells kind (top (S.state store.old)).stack)) }
     ensures well { S.well store.new }
     ensures fixed { S.fixed store.new ≡ S.fixed store.old }
 {
@@ -121,7 +121,7 @@ pub fn pop_static_value<S: Store>(store: &mut S, slot: u16, kind: Kind)
         ≡ with_static_value
         (with_stack (S.state store.old) (drop (width kind) (top (S.state store.old)).stack))
         slot
-        (kept S.Cell.cells kind (value_on S.Cell.cells kind (top (S.state store.old)).stack)) }
+        (kept_value S.Cell.cells kind (value_on S.Cell.cells kind (top (S.state store.old)).stack)) }
     ensures well { S.well store.new }
     ensures fixed { S.fixed store.new ≡ S.fixed store.old }
 {

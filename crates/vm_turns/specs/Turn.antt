@@ -8,9 +8,9 @@ use Rattle.vm_store.specs.State.{State}
 use Rattle.vm_step.specs.declared.ending.Ending.{Ending}
 use Rattle.vm_step.specs.Raising.{Outcome, running, ended}
 
-abbrev pub outcome : {A : Type 0} → Option Ending → State A → Outcome A
-outcome None s = running s
-outcome (Some ending) s = ended ending s
+abbrev pub with_ending : {A : Type 0} → Option Ending → State A → Outcome A
+with_ending None s = running s
+with_ending (Some ending) s = ended ending s
 
 -- the methods of the frames are methods of the world
 pub record AreMethods {A : Type 0} (w : Linked) (s : State A) : Type 0 where

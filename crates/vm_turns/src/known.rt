@@ -4,7 +4,7 @@ ghost use Rattle.vm_step.specs.Methods.{code_at, instruction_at};
 ghost use Rattle.vm_turns.specs.Known.{KnowsAt};
 
 use crate::code::code;
-use crate::places::Places;
+use crate::places::MarkedPlaces;
 use jc_base::World;
 use jc_decode::{Placed, decode, instructions_are_listed};
 
@@ -12,7 +12,7 @@ use jc_decode::{Placed, decode, instructions_are_listed};
 /// code was verified, and each place to which it leads is one.
 #[derive(Clone, Copy)]
 pub enum Known<'a> {
-    Marked(&'a Places),
+    Marked(&'a MarkedPlaces),
     Verified,
 }
 

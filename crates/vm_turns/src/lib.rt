@@ -15,7 +15,7 @@ mod unwinding;
 pub use after::fault_next;
 pub use ending::finish;
 pub use known::{Known, fetch};
-pub use places::Places;
+pub use places::MarkedPlaces;
 pub use returning::{give_cell, give_int, give_nothing};
 pub use turning::{enter_call, go_to, jump_to, make_array, make_instance};
 pub use unwinding::{raise, throw_object, unwind};

@@ -14,11 +14,11 @@ use std::marker::Model;
 /// For each method of a world, the places of its code at which an instruction begins: found once, so that a step
 /// walks along no code.
 #[derive(Drop)]
-pub struct Places {
+pub struct MarkedPlaces {
     methods: Vec<Flags>,
 }
 
-impl Model for Places {
+impl Model for MarkedPlaces {
     ghost use Rattle.std.specs.Prelude.{List, Bool};
 
     ghost Value = { List (List Bool) };
@@ -26,9 +26,9 @@ impl Model for Places {
     ghost view = { λ a. a.methods.items };
 }
 
-impl Places {
+impl MarkedPlaces {
     /// The places of all methods of a world.
-    pub fn of(alloc: Global, world: &World<'_>) -> Result<Places, AllocError>
+    pub fn of(alloc: Global, world: &World<'_>) -> Result<MarkedPlaces, AllocError>
         ensures { IfOk result (λ p. AreMarked world.now p) }
     {
         let mut methods = Vec::with_capacity(alloc, world.method_count() as usize)?;
@@ -38,7 +38,7 @@ impl Places {
                 Err(error) => return Err(error),
             }
         }
-        Ok(Places { methods })
+        Ok(MarkedPlaces { methods })
     }
 
     /// Whether the flag of a place of a method's code is set.

@@ -4,7 +4,7 @@ ghost use Rattle.vm_store.specs.State.{IsRunning, nth, top, without_top};
 ghost use Rattle.vm_step.specs.Methods.{code_at, max_stack_of, instruction_at};
 ghost use Rattle.vm_step.specs.Settled.{given_to, return_place};
 ghost use Rattle.vm_turns.specs.Known.{KnowsAt, CanResume};
-ghost use Rattle.vm_turns.specs.Turn.{outcome};
+ghost use Rattle.vm_turns.specs.Turn.{with_ending};
 
 use crate::ending::finish;
 use crate::known::{Known, fetch};
@@ -37,7 +37,7 @@ pub fn give_nothing<S: Store>(store: &mut S, world: &World<'_>, known: Known<'_>
     requires running { IsRunning (S.state store.old) }
     requires caller { IsRunning (without_top (S.state store.old))
         → CanResume S.stack_room world.now known 0 (without_top (S.state store.old)) }
-    ensures outcome { outcome result (S.state store.new)
+    ensures outcome { with_ending result (S.state store.new)
         ≡ given_to S.Cell.cells world.now Value.Void [] (without_top (S.state store.old)) }
     ensures well { S.well store.new }
     ensures fixed { S.fixed store.new ≡ S.fixed store.old }
@@ -62,7 +62,7 @@ pub fn give_cell<S: Store>(
     requires cells { 1 ≤ length (top (S.state store.old)).stack }
     requires caller { IsRunning (without_top (S.state store.old))
         → CanResume S.stack_room world.now known 1 (without_top (S.state store.old)) }
-    ensures outcome { outcome result (S.state store.new)
+    ensures outcome { with_ending result (S.state store.new)
         ≡ given_to
         S.Cell.cells
         world.now
@@ -94,7 +94,7 @@ pub fn give_int<S: Store>(
     requires cells { 2 ≤ length (top (S.state store.old)).stack }
     requires caller { IsRunning (without_top (S.state store.old))
         → CanResume S.stack_room world.now known 2 (without_top (S.state store.old)) }
-    ensures outcome { outcome result (S.state store.new)
+    ensures outcome { with_ending result (S.state store.new)
         ≡ given_to
         S.Cell.cells
         world.now

@@ -7,7 +7,7 @@ ghost use Rattle.vm_store.specs.State.{IsRunning, top, register_count};
 ghost use Rattle.vm_store.specs.Store.{IsOf};
 ghost use Rattle.vm_step.specs.Settled.{goes_to, jumps_to, made, entered_call};
 ghost use Rattle.vm_turns.specs.Known.{KnowPlaces, LandsAt};
-ghost use Rattle.vm_turns.specs.Turn.{outcome};
+ghost use Rattle.vm_turns.specs.Turn.{with_ending};
 
 use crate::after::{fault_next, fault_target, place_of};
 use crate::ending::finish;
@@ -22,7 +22,8 @@ pub fn go_to<S: Store>(store: &mut S, world: &World<'_>, next: u32) -> Option<En
     requires running { IsRunning (S.state store.old) }
     requires method { (top (S.state store.old)).method < length world.now.methods }
     requires short { next ≤ 32767 }
-    ensures outcome { outcome result (S.state store.new) ≡ goes_to S.Cell.cells world.now next (S.state store.old) (S.state store.old) }
+    ensures outcome { with_ending result (S.state store.new)
+        ≡ goes_to S.Cell.cells world.now next (S.state store.old) (S.state store.old) }
     ensures well { S.well store.new }
     ensures fixed { S.fixed store.new ≡ S.fixed store.old }
 {
@@ -47,7 +48,7 @@ pub fn jump_to<S: Store>(
     requires method { (top (S.state store.old)).method < length world.now.methods }
     requires places { KnowPlaces S.Cell.cells.checks world.now known }
     requires lands { LandsAt world.now known (top (S.state store.old)).method to }
-    ensures outcome { outcome result (S.state store.new) ≡ jumps_to S.Cell.cells world.now to (S.state store.old) }
+    ensures outcome { with_ending result (S.state store.new) ≡ jumps_to S.Cell.cells world.now to (S.state store.old) }
     ensures well { S.well store.new }
     ensures fixed { S.fixed store.new ≡ S.fixed store.old }
 {
@@ -75,7 +76,7 @@ pub fn make_instance<S: Store>(
     requires short { next ≤ 32767 }
     requires class { IsClass world.now.classes class }
     requires room { length (top (S.state store.old)).stack < S.stack_room }
-    ensures outcome { outcome result (S.state store.new)
+    ensures outcome { with_ending result (S.state store.new)
         ≡ made
         S.Cell.cells
         world.now
@@ -123,7 +124,7 @@ pub fn make_array<S: Store>(
     requires array { IsArrayKind kind }
     requires class { IsNumbered kind }
     requires room { length (top (S.state store.old)).stack < S.stack_room }
-    ensures outcome { outcome result (S.state store.new)
+    ensures outcome { with_ending result (S.state store.new)
         ≡ made
         S.Cell.cells
         world.now
@@ -160,7 +161,7 @@ pub fn enter_call<S: Store>(
     requires known { method < length world.now.methods }
     requires there { count ≤ length (top (S.state store.old)).stack }
     requires registers { count ≤ register_count world.now.methods method }
-    ensures outcome { outcome result (S.state store.new)
+    ensures outcome { with_ending result (S.state store.new)
         ≡ entered_call S.Cell.cells world.now method count (S.state store.old) }
     ensures well { S.well store.new }
     ensures fixed { S.fixed store.new ≡ S.fixed store.old }

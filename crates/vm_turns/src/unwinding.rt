@@ -7,7 +7,7 @@ ghost use Rattle.vm_store.specs.Objects.{kinds, object_at};
 ghost use Rattle.vm_step.specs.Methods.{handlers_of};
 ghost use Rattle.vm_step.specs.Calls.{class_with_methods};
 ghost use Rattle.vm_step.specs.Raising.{catches, caught_by, unwound, thrown, raised};
-ghost use Rattle.vm_turns.specs.Turn.{outcome, AreMethods, IsOfClass};
+ghost use Rattle.vm_turns.specs.Turn.{with_ending, AreMethods, IsOfClass};
 
 use crate::ending::finish;
 use jc_base::{Handler, Ty, World, below};
@@ -58,7 +58,7 @@ fn catch_object<S: Store>(
     requires running { IsRunning (S.state store.old) }
     requires method { (top (S.state store.old)).method < length world.now.methods }
     requires room { 0 < S.stack_room }
-    ensures outcome { outcome result (S.state store.new)
+    ensures outcome { with_ending result (S.state store.new)
         ≡ caught_by
         S.Cell.cells
         world.now
@@ -85,7 +85,7 @@ pub fn unwind<S: Store>(store: &mut S, world: &World<'_>, class: u16, handle: u1
     requires methods { AreMethods world.now (S.state store.old) }
     requires class { IsClass world.now.classes class }
     requires room { 0 < S.stack_room }
-    ensures outcome { outcome result (S.state store.new)
+    ensures outcome { with_ending result (S.state store.new)
         ≡ unwound S.Cell.cells world.now class handle (S.state store.old) (S.state store.old).frames }
     ensures well { S.well store.new }
     ensures fixed { S.fixed store.new ≡ S.fixed store.old }
@@ -106,7 +106,7 @@ pub fn throw_object<S: Store>(store: &mut S, world: &World<'_>, handle: u16) -> 
     requires there { IsSome (object_at (S.state store.old) handle) }
     requires classes { All (IsOfClass world.now.classes) (kinds (S.state store.old)) }
     requires room { 0 < S.stack_room }
-    ensures outcome { outcome result (S.state store.new) ≡ thrown S.Cell.cells world.now handle (S.state store.old) }
+    ensures outcome { with_ending result (S.state store.new) ≡ thrown S.Cell.cells world.now handle (S.state store.old) }
     ensures well { S.well store.new }
     ensures fixed { S.fixed store.new ≡ S.fixed store.old }
 {
@@ -131,7 +131,7 @@ pub fn raise<S: Store>(store: &mut S, world: &World<'_>, exception: Exception) -
     requires well { S.well store.old }
     requires methods { AreMethods world.now (S.state store.old) }
     requires room { 0 < S.stack_room }
-    ensures outcome { outcome result (S.state store.new) ≡ raised S.Cell.cells world.now exception (S.state store.old) }
+    ensures outcome { with_ending result (S.state store.new) ≡ raised S.Cell.cells world.now exception (S.state store.old) }
     ensures well { S.well store.new }
     ensures fixed { S.fixed store.new ≡ S.fixed store.old }
 {

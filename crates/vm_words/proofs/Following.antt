@@ -42,7 +42,7 @@ use Rattle.vm_step.specs.Tests.{fault_before}
 use Rattle.vm_acts.specs.Reaches.{Reaches}
 use Rattle.vm_checks.specs.Shaped.{IsShaped, IsShapedFrame}
 use Rattle.vm_checks.specs.Machine.{KnowsTypes, KeepsShape, TestsReach, StepsStay, StepsEnd}
-use Rattle.vm_sound.specs.Frames.{Typings, types_in, Standing, AreWaiting, result_of}
+use Rattle.vm_sound.specs.Frames.{Typings, types_of_frame, Standing, AreWaiting, result_of}
 use Rattle.vm_sound.specs.State.{IsTypedState}
 use Rattle.vm_sound.specs.Laws.{AreTypings, IsTypedOutcome, StepsAreSafe}
 use Rattle.vm_erasure.specs.Erasure.{erased_act, erased_outcome, ActsErase, TypedStepsFollow, TypedStatesApply}
@@ -133,7 +133,7 @@ module _ (w : Linked) (is : IsWorld w) (erase : StatesErase w.methods w.classes)
     all-known : (cs : List Cell) → All (IsKnown w.classes) (map (least_type w.classes Bottom (kinds now)) cs)
     all-known cs = All-map (IsKnown w.classes) (least_type w.classes Bottom (kinds now)) cs (all-of (λ (c : Cell). IsKnown w.classes (least_type w.classes Bottom (kinds now) c)) (known now shaped).each cs)
 
-    frame-known : (m : MethodRec) → slice_get w.methods f.method ≡ Some m → AreKnown w.classes (types_in w.classes Bottom (kinds now) f)
+    frame-known : (m : MethodRec) → slice_get w.methods f.method ≡ Some m → AreKnown w.classes (types_of_frame w.classes Bottom (kinds now) f)
     frame-known m e =
         let many : length f.registers ≡ m.nargs + m.max_locals = here-shaped.registers ∙ ap register_count_of e in
         let few : m.nargs + m.max_locals ≤ 255 = (method-is m e).registers in
@@ -148,8 +148,8 @@ module _ (w : Linked) (is : IsWorld w) (erase : StatesErase w.methods w.classes)
         → Resolves w m i.place i.insn (Ok op) → length f.stack + (footprint w op).given ≤ 255 + (footprint w op).taken
     room-left sound leaves applies m i op fetched few names =
         let a = applies assigned now m i op typed fetched names in
-        let before = types_in w.classes (assigned.unset f.method) (kinds now) f in
-        let known_frame = subst (λ u. AreKnown w.classes (types_in w.classes u (kinds now) f)) (sym (bottom f.method)) (frame-known m fetched.method) in
+        let before = types_of_frame w.classes (assigned.unset f.method) (kinds now) f in
+        let known_frame = subst (λ u. AreKnown w.classes (types_of_frame w.classes u (kinds now) f)) (sym (bottom f.method)) (frame-known m fetched.method) in
         let done = leaves m.max_stack m i.place op _ before a.0 a.1 (sound m i.place i.insn op (method-is m fetched.method).result names) known_frame a.2 in
         let limit : max_stack_of w f.method ≡ m.max_stack = ap (of_method 0 (λ (x : MethodRec). x.max_stack)) fetched.method in
         omega (arith, done.taken, done.depth, a.2.room, few, limit, length-map f.stack (least_type w.classes (assigned.unset f.method) (kinds now)))

@@ -7,7 +7,7 @@ use Rattle.std.proofs.lemmas.Bool.Decides.{nat_tests}
 use borrow.Rule.Slice.PartMut.{put_mid}
 use Rattle.vm_store.specs.declared.kind.ObjectKind.{ObjectKind}
 use Rattle.vm_store.specs.declared.kind.ObjectKind.TheVariants.{Instance, Booleans, Bytes, Shorts, Ints, References}
-use Rattle.vm_store.specs.declared.header.Header.{Header}
+use Rattle.vm_store.specs.declared.header.ObjectHeader.{ObjectHeader}
 use Rattle.vm_store.specs.Kind.{IsNumbered}
 use Rattle.vm_words.specs.Words.{kind_of_word, word_of_kind, header_at, headers_in}
 
@@ -43,7 +43,7 @@ pub length-headers_in : (ws : List ℕ) (n : ℕ) → length (headers_in ws n) �
 length-headers_in ws zero = refl
 length-headers_in ws (suc n) = length_push (headers_in ws n) (header_at ws n) ∙ (omega (arith, length-headers_in ws n))
 
-pub header-read : (ws : List ℕ) (n k : ℕ) (d : Header) → k < n → get_or (headers_in ws n) k d ≡ header_at ws k
+pub header-read : (ws : List ℕ) (n k : ℕ) (d : ObjectHeader) → k < n → get_or (headers_in ws n) k d ≡ header_at ws k
 header-read ws zero k d lt = absurd (omega (arith, lt))
 header-read ws (suc n) k d lt =
     elim (cases_lt k n) [
@@ -62,7 +62,7 @@ same_header xs ys n m same lt =
     let a : get_or xs (3 * n) 0 ≡ get_or ys (3 * n) 0 = same (3 * n) (omega arith) in
     let b : get_or xs (3 * n + 1) 0 ≡ get_or ys (3 * n + 1) 0 = same (3 * n + 1) (omega arith) in
     let c : get_or xs (3 * n + 2) 0 ≡ get_or ys (3 * n + 2) 0 = same (3 * n + 2) (omega arith) in
-    let make : ℕ → ℕ → ℕ → Header = λ k s e. record { kind = kind_of_word k; start = s; elements = e } in
+    let make : ℕ → ℕ → ℕ → ObjectHeader = λ k s e. record { kind = kind_of_word k; start = s; elements = e } in
     ap (λ k. make k (get_or xs (3 * n + 1) 0) (get_or xs (3 * n + 2) 0)) a
     ∙ (ap (λ s. make (get_or ys (3 * n) 0) s (get_or xs (3 * n + 2) 0)) b ∙ ap (make (get_or ys (3 * n) 0) (get_or ys (3 * n + 1) 0)) c)
 
@@ -83,7 +83,7 @@ module _ (heap : List ℕ) (n p v : ℕ) (few : n ≤ 4096) where
 
 -- ---- a new object: its cells, and then its header
 
-module _ (heap ws : List ℕ) (n size : ℕ) (h : Header) (few : n < 4096) (len : length heap ≡ 45056) (whole : size ≡ length heap - 12288) (same : length ws ≡ size) (numbered : IsNumbered h.kind) where
+module _ (heap ws : List ℕ) (n size : ℕ) (h : ObjectHeader) (few : n < 4096) (len : length heap ≡ 45056) (whole : size ≡ length heap - 12288) (same : length ws ≡ size) (numbered : IsNumbered h.kind) where
   front : length (take 12288 heap) ≡ 12288
   front = omega (arith, length-take 12288 heap, len)
 
@@ -149,7 +149,7 @@ module _ (heap ws : List ℕ) (n size : ℕ) (h : Header) (few : n < 4096) (len 
       let b : get_or ws₃ (3 * n + 1) 0 ≡ h.start =
       get_or-set_other ws₂ (3 * n + 2) (3 * n + 1) h.elements 0 (omega arith) ∙ get_or-set_same ws₁ (3 * n + 1) h.start 0 (omega (arith, l₁)) in
       let c : get_or ws₃ (3 * n + 2) 0 ≡ h.elements = get_or-set_same ws₂ (3 * n + 2) h.elements 0 (omega (arith, l₂)) in
-      let make : ObjectKind → ℕ → ℕ → Header = λ k s e. record { kind = k; start = s; elements = e } in
+      let make : ObjectKind → ℕ → ℕ → ObjectHeader = λ k s e. record { kind = k; start = s; elements = e } in
       ap (λ w. make (kind_of_word w) (get_or ws₃ (3 * n + 1) 0) (get_or ws₃ (3 * n + 2) 0)) a
       ∙ (ap (λ k. make k (get_or ws₃ (3 * n + 1) 0) (get_or ws₃ (3 * n + 2) 0)) (kind-word h.kind numbered)
       ∙ (ap (λ s. make h.kind s (get_or ws₃ (3 * n + 2) 0)) b ∙ ap (make h.kind h.start) c))

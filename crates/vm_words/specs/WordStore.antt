@@ -5,11 +5,11 @@ use Rattle.vm_store.specs.State.{State}
 use Rattle.vm_store.specs.Store.{Fixed}
 use Rattle.vm_words.specs.Words.{AreLaid, words_state}
 
-abbrev pub state_of : WordStore → State ℕ
-state_of s = words_state s.world.now.methods s.ram.now s.heap.now s.statics.now s.counts
+abbrev pub state_in_words : WordStore → State ℕ
+state_in_words s = words_state s.world.now.methods s.ram.now s.heap.now s.statics.now s.counts
 
-abbrev pub IsLaid : WordStore → Type 0
-IsLaid s = AreLaid s.world.now s.ram.now s.heap.now s.counts
+abbrev pub IsLaidOut : WordStore → Type 0
+IsLaidOut s = AreLaid s.world.now s.ram.now s.heap.now s.counts
 
 -- its world, and the three slices by the names of their loans
 abbrev pub fixed_of : WordStore → Fixed

@@ -8,7 +8,7 @@ use Rattle.jc_base.specs.declared.record.MethodRec.{MethodRec}
 use Rattle.jc_base.specs.World.{Linked}
 use Rattle.vm_store.specs.declared.kind.ObjectKind.{ObjectKind}
 use Rattle.vm_store.specs.declared.kind.ObjectKind.TheVariants.{Instance, Booleans, Bytes, Shorts, Ints, References}
-use Rattle.vm_store.specs.declared.header.Header.{Header}
+use Rattle.vm_store.specs.declared.header.ObjectHeader.{ObjectHeader}
 use Rattle.vm_words.specs.declared.words.Counts.{Counts}
 use Rattle.vm_store.specs.State.{Frame, State, first_frame, other_frames, arguments, entered, register_count}
 use Rattle.vm_store.specs.Cells.{words}
@@ -66,13 +66,13 @@ word_of_kind Shorts = 0xF002
 word_of_kind Ints = 0xF003
 
 -- the header of object n, counted from 0
-abbrev pub header_at : List ℕ → ℕ → Header
+abbrev pub header_at : List ℕ → ℕ → ObjectHeader
 header_at ws n =
     record
     { kind = kind_of_word (slice_index ws (3 * n)); start = slice_index ws (3 * n + 1); elements = slice_index ws (3 * n + 2) }
 
 -- the headers of the first n objects
-abbrev pub headers_in : List ℕ → ℕ → List Header
+abbrev pub headers_in : List ℕ → ℕ → List ObjectHeader
 headers_in ws zero = []
 headers_in ws (suc n) = headers_in ws n ++ header_at ws n ∷ []
 

@@ -4,7 +4,7 @@ ghost use Rattle.std.specs.Prelude.{◌≡◌, ◌+◌, ◌*◌, ◌<◌, length
 ghost use Rattle.vm_store.specs.Kind.{IsNumbered};
 ghost use Rattle.vm_words.specs.Words.{kind_of_word, word_of_kind, header_at};
 
-use vm_store::{Header, ObjectKind};
+use vm_store::{ObjectHeader, ObjectKind};
 
 /// Where the cells of objects begin.
 pub const FIRST_CELL: usize = 12288;
@@ -44,11 +44,11 @@ fn word_of_kind(kind: ObjectKind) -> u16
 }
 
 /// The header of object n, counted from 0.
-pub fn header(heap: &[u16], n: usize) -> Header
+pub fn header(heap: &[u16], n: usize) -> ObjectHeader
     requires { 3 * n + 2 < length heap.now }
     ensures { result ≡ header_at heap.now n }
 {
-    Header {
+    ObjectHeader {
         kind: kind_of_word(heap[3 * n]),
         start: heap[3 * n + 1],
         elements: heap[3 * n + 2],
@@ -56,7 +56,7 @@ pub fn header(heap: &[u16], n: usize) -> Header
 }
 
 /// Writes the header of object n.
-pub fn set_header(heap: &mut [u16], n: usize, header: Header)
+pub fn set_header(heap: &mut [u16], n: usize, header: ObjectHeader)
     requires there { 3 * n + 2 < length heap.old }
     requires class { IsNumbered header.kind }
     ensures { heap.new

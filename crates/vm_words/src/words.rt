@@ -6,7 +6,7 @@ ghost use Rattle.vm_words.specs.Words.{AreLaid, FitsWindow, FitWindows, frame_in
 use crate::object::{FIRST_CELL, cell, header, set_cell, set_header};
 use crate::window;
 use jc_base::{Classes, Ty, World};
-use vm_store::{Header, ObjectKind, Store, fill_array, fill_instance};
+use vm_store::{ObjectHeader, ObjectKind, Store, fill_array, fill_instance};
 
 /// The most objects of a run.
 const OBJECTS: u16 = 4096;
@@ -34,7 +34,7 @@ pub struct WordStore<'w, 'r, 'h, 's> {
 }
 
 impl<'w, 'r, 'h, 's> WordStore<'w, 'r, 'h, 's> {
-    ghost use Rattle.vm_words.specs.WordStore.{state_of, IsLaid, fixed_of};
+    ghost use Rattle.vm_words.specs.WordStore.{state_in_words, IsLaidOut, fixed_of};
 
     /// The store of what the slices hold.
     pub fn over(
@@ -45,8 +45,8 @@ impl<'w, 'r, 'h, 's> WordStore<'w, 'r, 'h, 's> {
         counts: Counts,
     ) -> WordStore<'w, 'r, 'h, 's>
         requires { AreLaid world.now ram.old heap.old counts }
-        ensures state { state_of result ≡ words_state world.entry.now.methods ram.old heap.old statics.old counts }
-        ensures well { IsLaid result }
+        ensures state { state_in_words result ≡ words_state world.entry.now.methods ram.old heap.old statics.old counts }
+        ensures well { IsLaidOut result }
         ensures ram { result.ram.ghost_name ≡ ram.entry.ghost_name }
         ensures heap { result.heap.ghost_name ≡ heap.entry.ghost_name }
         ensures statics { result.statics.ghost_name ≡ statics.entry.ghost_name }
@@ -70,11 +70,11 @@ impl<'w, 'r, 'h, 's> WordStore<'w, 'r, 'h, 's> {
 
     /// The words of the frame on top.
     fn top(&self) -> &[u16]
-        requires well { IsLaid self.now }
-        requires running { IsRunning (state_of self.now) }
+        requires well { IsLaidOut self.now }
+        requires running { IsRunning (state_in_words self.now) }
         ensures len { length result.now ≡ 513 }
         ensures fits { FitsWindow self.now.world.now.methods result.now }
-        ensures frame { frame_in self.now.world.now.methods result.now ≡ top (state_of self.now) }
+        ensures frame { frame_in self.now.world.now.methods result.now ≡ top (state_in_words self.now) }
     {
         let from = window::WORDS * (self.counts.frames as usize - 1);
         &self.ram[from..from + window::WORDS]
@@ -82,13 +82,13 @@ impl<'w, 'r, 'h, 's> WordStore<'w, 'r, 'h, 's> {
 }
 
 impl<'w, 'r, 'h, 's> Store for WordStore<'w, 'r, 'h, 's> {
-    ghost use Rattle.vm_words.specs.WordStore.{state_of, IsLaid, fixed_of};
+    ghost use Rattle.vm_words.specs.WordStore.{state_in_words, IsLaidOut, fixed_of};
 
     type Cell = u16;
 
-    ghost state = { state_of };
+    ghost state = { state_in_words };
 
-    ghost well = { IsLaid };
+    ghost well = { IsLaidOut };
 
     ghost fixed = { fixed_of };
 
@@ -216,7 +216,7 @@ impl<'w, 'r, 'h, 's> Store for WordStore<'w, 'r, 'h, 's> {
         let elements = world.class(class).cells;
         let start = self.counts.cells;
         fill_instance(&mut self.heap[FIRST_CELL..], start as usize, world, class);
-        let header = Header {
+        let header = ObjectHeader {
             kind: ObjectKind::Instance(class),
             start,
             elements,
@@ -230,7 +230,7 @@ impl<'w, 'r, 'h, 's> Store for WordStore<'w, 'r, 'h, 's> {
     fn make_array(&mut self, kind: ObjectKind, count: u16) -> u16 {
         let start = self.counts.cells;
         fill_array(&mut self.heap[FIRST_CELL..], start as usize, kind, count);
-        let header = Header {
+        let header = ObjectHeader {
             kind,
             start,
             elements: count,

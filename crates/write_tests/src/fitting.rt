@@ -15,7 +15,7 @@ ghost use Rattle.write_tests.specs.Elements.{Continues, listed, one_listed};
 use cap_desc::{DescMethods, DescPart, MethodInfo};
 use cap_method::{MethodHeader, MethodPart};
 use cap_package::{Package, header, interface_offsets};
-use jc_decode::{Handler, Laid};
+use jc_decode::{Laid, LaidHandler};
 use offset_set::Offsets;
 
 /// Whether the package may be written with this code.
@@ -28,7 +28,7 @@ pub(crate) fn may_be_written(package: &Package<'_, '_>, laid: &[Option<Laid>]) -
 }
 
 /// Whether the handlers lie in code of so many bytes.
-fn are_inside(size: usize, handlers: &[Handler]) -> bool
+fn are_inside(size: usize, handlers: &[LaidHandler]) -> bool
     ensures { IsTrue result → AreInside size handlers.now }
 {
     let Some((first, rest)) = handlers.split_first() else {

@@ -3,7 +3,7 @@ use crate::fitting::may_be_written;
 use cap_package::{OwnedParts, package};
 use cap_tests::{Change, File, changed};
 use cap_write::{WriteEnd, write_package};
-use jc_decode::{Handler, Laid, Sequence};
+use jc_decode::{Laid, LaidHandler, Sequence};
 use std::alloc::{AllocError, Global};
 
 /// The new code of a method: its bytes, how many handlers it has, and max_stack, nargs and max_locals of its header. Each
@@ -26,7 +26,7 @@ pub(crate) enum Outcome {
 }
 
 fn laid(alloc: Global, code: &Code<'_>) -> Result<Laid, AllocError> {
-    let handler = Handler {
+    let handler = LaidHandler {
         start: 0,
         length: 1,
         entry: 0,

@@ -20,7 +20,7 @@ use Rattle.jc_rules.specs.Typing.{state_at}
 use Rattle.card_typing.specs.Typing.{HasCardTyping}
 use Rattle.card_typing.specs.Laws.{CardIsFlow}
 use Rattle.jc_relinked.specs.Laws.{LaidMethodsStand}
-use Rattle.jc_relinked.specs.Replaced.{AreMethodsOf, HasPoolOf, EachMayReplace, MethodsStand}
+use Rattle.jc_relinked.specs.Replaced.{AreMethodsOf, HasPoolOf, EachMayReplace, MethodsAreReplaced}
 use Rattle.vm_sound.specs.Frames.{Typings}
 use Rattle.xf_landed.specs.Apart.{IsSameBut}
 use Rattle.xf_landed.specs.Laid.{HasLaid}
@@ -68,7 +68,7 @@ of-goes v w typings n (goes_rewritten s place number laid) unset frames =
 
 module _ (v : Linked) (laws : AreLaws v) (catches : CatchesByPool) (card : CardIsFlow v) (laid : List (Option Laid)) (are : AreLaidOf v laid)
     (accepted : AllHave (IsOfLibrary v) (HasCardTyping v)) (steps : GroupsStandAtSteps) (w : Linked) (runs : IsExecutable w) (same : IsSameBut v w)
-    (stand : MethodsStand are.libraries are.own laid v w) where
+    (stand : MethodsAreReplaced are.libraries are.own laid v w) where
   abbrev first : ℕ
   first = length are.libraries
 

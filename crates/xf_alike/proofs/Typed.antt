@@ -20,7 +20,7 @@ use Rattle.vm_store.specs.Objects.{kinds}
 use Rattle.vm_step.specs.declared.ending.Ending.TheVariants.{Plain, Faulted}
 use Rattle.vm_step.specs.Methods.{instruction_at}
 use Rattle.vm_step.specs.Raising.{Outcome, running, ended}
-use Rattle.vm_sound.specs.Frames.{Typings, types_in, IsTypedFrame, AreTypedFrames}
+use Rattle.vm_sound.specs.Frames.{Typings, types_of_frame, IsTypedFrame, AreTypedFrames}
 use Rattle.vm_sound.specs.State.{IsTypedState}
 use Rattle.vm_sound.specs.Laws.{IsTypedOutcome, StepsAreSafe, StartsAreTyped}
 use Rattle.vm_sound.specs.Handed.{OnlyCallsCall, CallsHandAll, StartsHandAll}
@@ -108,8 +108,8 @@ module _ (v : Linked) (typings : Typings) where
           runs = first-runs z first;
           method = sym r.number;
           reached = reached-at z first typed r;
-          below = subst (λ (fs : ℕ → Option Types). At fs (top z).place (FrameBelow v.classes (types_in v.classes Top (kinds z) (top z)))) r.frames
-              (subst (λ (ty : Ty). At (typings.frames (top z).method) (top z).place (FrameBelow v.classes (types_in v.classes ty (kinds z) (top z)))) r.unset frame.below);
+          below = subst (λ (fs : ℕ → Option Types). At fs (top z).place (FrameBelow v.classes (types_of_frame v.classes Top (kinds z) (top z)))) r.frames
+              (subst (λ (ty : Ty). At (typings.frames (top z).method) (top z).place (FrameBelow v.classes (types_of_frame v.classes ty (kinds z) (top z)))) r.unset frame.below);
           objects_stay = λ e. (stay typings e z typed).0;
           statics_stay = λ e. (stay typings e z typed).1;
         }

@@ -7,7 +7,7 @@ use Rattle.jc_base.specs.declared.record.Handler.{Handler}
 use Rattle.jc_ops.specs.declared.operation.Operation.{Operation}
 use Rattle.xf_plan.specs.Source.{Source}
 use Rattle.xf_emission.specs.Jump.{IsNearBy, lead, leads, stub, stubs_of}
-use Rattle.xf_emission.specs.Emission.{caught, caught_from, is_live, range, ranges_from}
+use Rattle.xf_emission.specs.Emission.{catching_stub, catching_stubs, is_live, range, ranges_from}
 
 pub near-low : (t : ℤ) → IsNearBy t → pos 0 ≤ℤ t
 near-low (pos q) h = omega (arith, ints)
@@ -32,14 +32,14 @@ module _ (s : Source) (p : ℕ) (op : Operation) (n : ℕ) where
 
 module _ (s : Source) (hs : List Handler) (n : ℕ) where
   pub caught-next : (d : Handler) → n < length hs
-      → caught_from s n (drop n hs) ≡ (if is_live s (get_or hs n d) then caught s n (get_or hs n d) else []) ++ caught_from s (n + 1) (drop (n + 1) hs)
+      → catching_stubs s n (drop n hs) ≡ (if is_live s (get_or hs n d) then catching_stub s n (get_or hs n d) else []) ++ catching_stubs s (n + 1) (drop (n + 1) hs)
   caught-next d lt =
       let next : suc n ≡ n + 1 = omega arith in
       let h = get_or hs n d in
-      ap (caught_from s n) (drop_more hs n d lt) ∙ ap (λ k. (if is_live s h then caught s n h else []) ++ caught_from s k (drop (n + 1) hs)) next
+      ap (catching_stubs s n) (drop_more hs n d lt) ∙ ap (λ k. (if is_live s h then catching_stub s n h else []) ++ catching_stubs s k (drop (n + 1) hs)) next
 
-  pub caught-none : length hs ≤ n → caught_from s n (drop n hs) ≡ []
-  caught-none le = ap (caught_from s n) (drop_all n hs le)
+  pub caught-none : length hs ≤ n → catching_stubs s n (drop n hs) ≡ []
+  caught-none le = ap (catching_stubs s n) (drop_all n hs le)
 
   pub ranges-next : (d : Handler) → n < length hs
       → ranges_from s n (drop n hs) ≡ (if is_live s (get_or hs n d) then range s n (get_or hs n d) ∷ [] else []) ++ ranges_from s (n + 1) (drop (n + 1) hs)

@@ -7,7 +7,7 @@ use Rattle.jc_decode.specs.Symbols.{plain_size}
 use Rattle.jc_control.specs.Method.{Method}
 use Rattle.jc_rules.specs.Demand.{Frame}
 use Rattle.xf_homes.specs.declared.home.Home.{Home}
-use Rattle.xf_homes.specs.Value.{width}
+use Rattle.xf_homes.specs.Value.{type_width}
 use Rattle.xf_homes.specs.Order.{AreHomes, register_sum}
 use Rattle.xf_emission.specs.Emission.{AreSymbolsOf, IsPlainSize, rewritten}
 use Rattle.xf_emission.specs.Numbers.{HasNumbers}
@@ -16,7 +16,7 @@ module _ (w : Linked) (m : Method) (frames : ℕ → Option Frame) (homes : List
   -- the arguments are among the homes
   arguments-fit : AreHomes w m frames homes → m.rec.nargs ≤ register_sum homes
   unfolding register_sum
-  arguments-fit are = omega (arith, ap register_sum are.parts, sum_by-append (λ h. width h.ty) are.arguments are.others, are.filled)
+  arguments-fit are = omega (arith, ap register_sum are.parts, sum_by-append (λ h. type_width h.ty) are.arguments are.others, are.filled)
 
   pub has-numbers : AreHomes w m frames homes → (symbols : Symbols) → AreSymbolsOf w m frames homes symbols → HasNumbers m.rec homes symbols
   unfolding rewritten

@@ -3,10 +3,10 @@ ghost use Rattle.jc_decode.specs.Listing.{targets};
 ghost use Rattle.xf_plan.specs.Subject.{source};
 ghost use Rattle.xf_emission.specs.Jump.{AreLed};
 ghost use Rattle.xf_emission.specs.Move.{copy};
-ghost use Rattle.xf_emission.specs.Group.{body, branch_by, first_place, gone, increased, loaded, popped, stored};
+ghost use Rattle.xf_emission.specs.Group.{body, branch_by, first_place, gone, increased, loaded, pop_item, store_to_homes};
 
 use crate::branch::branch;
-use crate::edge::{Scratch, copies};
+use crate::edge::{EdgeScratch, copies};
 use crate::field::{field_read, field_written, keep};
 use crate::jump::goto;
 use crate::moves::{copy, load, put, spill, store};
@@ -52,7 +52,7 @@ fn increased(
 
 /// `pop`, or `pop2` for an int.
 fn popped(sort: Sort) -> Item
-    ensures { result ≡ popped sort }
+    ensures { result ≡ pop_item sort }
 {
     let op = match sort {
         Sort::Int => 60,
@@ -93,7 +93,7 @@ fn stored(
     items: &mut Vec<Item>,
 ) -> Result<(), AllocError>
     ensures { OnOk result
-        (items.new.items ≡ items.old.items ++ stored (source plan.now) sort homes.now) }
+        (items.new.items ≡ items.old.items ++ store_to_homes (source plan.now) sort homes.now) }
 {
     match homes.split_first() {
         Some((first, others)) => {
@@ -122,7 +122,7 @@ fn gone(
     place: u16,
     operation: Operation,
     to: u16,
-    scratch: &mut Scratch,
+    scratch: &mut EdgeScratch,
     items: &mut Vec<Item>,
 ) -> Result<(), AllocError>
     ensures { OnOk result
@@ -141,7 +141,7 @@ fn branch_by(
     placed: Placed,
     operation: Operation,
     operands: Option<u8>,
-    scratch: &mut Scratch,
+    scratch: &mut EdgeScratch,
     items: &mut Vec<Item>,
 ) -> Result<(), AllocError>
     requires { AreLed plan.now.walk.code.bytes.now placed }
@@ -168,7 +168,7 @@ fn store_local(
     placed: Placed,
     sort: Sort,
     x: u8,
-    scratch: &mut Scratch,
+    scratch: &mut EdgeScratch,
     items: &mut Vec<Item>,
 ) -> Result<(), AllocError>
     requires { placed.place + placed.insn.len ≤ 65535 }
@@ -186,7 +186,7 @@ pub fn body(
     plan: &Plan<'_>,
     placed: Placed,
     operation: Operation,
-    scratch: &mut Scratch,
+    scratch: &mut EdgeScratch,
     items: &mut Vec<Item>,
 ) -> Result<(), AllocError>
     requires led { AreLed plan.now.walk.code.bytes.now placed }

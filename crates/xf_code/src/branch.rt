@@ -3,7 +3,7 @@ ghost use Rattle.jc_decode.specs.Forms.{wide};
 ghost use Rattle.xf_plan.specs.Subject.{source};
 ghost use Rattle.xf_emission.specs.Jump.{AreLed, branch, first_label, jump_to, has_under, spill_if};
 
-use crate::edge::Scratch;
+use crate::edge::EdgeScratch;
 use crate::jump::{Fork, has_under, leads, operands};
 use crate::moves::{loads, put, spill};
 use jc_decode::{Item, Labels, Placed};
@@ -73,7 +73,7 @@ pub fn branch(
     placed: Placed,
     operation: Operation,
     operands: u8,
-    scratch: &mut Scratch,
+    scratch: &mut EdgeScratch,
     items: &mut Vec<Item>,
 ) -> Result<(), AllocError>
     requires { AreLed plan.now.walk.code.bytes.now placed }

@@ -1,8 +1,8 @@
 ghost use Rattle.std.specs.Prelude.{◌≡◌, ◌++◌, ◌∷◌, [], OnOk, flat_map, slice_get, option_copied};
 ghost use Rattle.xf_homes.specs.Home.{argument_types};
-ghost use Rattle.xf_homes.specs.Value.{value_at};
+ghost use Rattle.xf_homes.specs.Value.{value_in_cells};
 ghost use Rattle.xf_plan.specs.Subject.{source};
-ghost use Rattle.xf_emission.specs.Edge.{is_stored, home_before, held, copy_new, copies_from, local_copies, copies, cell_copies};
+ghost use Rattle.xf_emission.specs.Edge.{is_stored, home_before, homes_held, copy_new, copies_from, local_copies, copies, cell_copies};
 
 use crate::moves::copy;
 use jc_base::{MethodRec, Ty};
@@ -15,7 +15,7 @@ use xf_plan::{Plan, home_of};
 
 /// Lists of homes that are made anew for each local.
 #[derive(Drop)]
-pub struct Scratch {
+pub struct EdgeScratch {
     pub held: Vec<Home>,
     pub needed: Vec<Home>,
 }
@@ -45,9 +45,9 @@ fn argument_cell(rec: &MethodRec, n: usize) -> Option<Ty>
 }
 
 /// The value of an argument that begins with a cell, if one does.
-#[tactic(auto, unfolding(xf_homes::specs::Value::value_at))]
+#[tactic(auto, unfolding(xf_homes::specs::Value::value_in_cells))]
 fn argument(rec: &MethodRec, n: u16) -> Option<Ty>
-    ensures { result ≡ value_at (argument_types rec.now) n }
+    ensures { result ≡ value_in_cells (argument_types rec.now) n }
 {
     let n = n as usize;
     value_of(argument_cell(rec, n), argument_cell(rec, n + 1))
@@ -78,7 +78,7 @@ fn hold(
     home: Home,
     to: &mut Vec<Home>,
 ) -> Result<(), AllocError>
-    ensures { OnOk result (to.new.items ≡ held (source plan.now) from x home) }
+    ensures { OnOk result (to.new.items ≡ homes_held (source plan.now) from x home) }
 {
     if let Origin::After(place, _) = from {
         return plan.needed(place, x, to);
@@ -129,7 +129,7 @@ fn local_copies(
     from: Origin,
     to: u16,
     x: u16,
-    scratch: &mut Scratch,
+    scratch: &mut EdgeScratch,
     items: &mut Vec<Item>,
 ) -> Result<(), AllocError>
     ensures { OnOk result (items.new.items ≡ items.old.items ++ local_copies (source plan.now) from to x) }
@@ -154,7 +154,7 @@ pub fn copies(
     plan: &Plan<'_>,
     from: Origin,
     to: u16,
-    scratch: &mut Scratch,
+    scratch: &mut EdgeScratch,
     items: &mut Vec<Item>,
 ) -> Result<(), AllocError>
     ensures { OnOk result (items.new.items ≡ items.old.items ++ copies (source plan.now) from to) }

@@ -3,7 +3,7 @@ ghost use Rattle.xf_plan.specs.Subject.{source};
 ghost use Rattle.xf_emission.specs.Group.{fall, fall_by, fall_over, fallen};
 
 use crate::body::next_place;
-use crate::edge::{Scratch, copies};
+use crate::edge::{EdgeScratch, copies};
 use crate::jump::{Fork, has_under, taken, under};
 use crate::moves::{loads, spill};
 use jc_decode::{Item, Placed};
@@ -21,7 +21,7 @@ fn fall(
     place: u16,
     operation: Operation,
     to: u16,
-    scratch: &mut Scratch,
+    scratch: &mut EdgeScratch,
     items: &mut Vec<Item>,
 ) -> Result<(), AllocError>
     ensures { OnOk result (items.new.items ≡ items.old.items ++ fall (source plan.now) place operation to) }
@@ -39,7 +39,7 @@ fn fall_over(
     plan: &Plan<'_>,
     fork: Fork,
     to: u16,
-    scratch: &mut Scratch,
+    scratch: &mut EdgeScratch,
     items: &mut Vec<Item>,
 ) -> Result<(), AllocError>
     ensures { OnOk result
@@ -67,7 +67,7 @@ fn fall_by(
     operation: Operation,
     operands: Option<u8>,
     to: u16,
-    scratch: &mut Scratch,
+    scratch: &mut EdgeScratch,
     items: &mut Vec<Item>,
 ) -> Result<(), AllocError>
     ensures { OnOk result
@@ -94,7 +94,7 @@ pub fn fallen(
     plan: &Plan<'_>,
     placed: Placed,
     operation: Operation,
-    scratch: &mut Scratch,
+    scratch: &mut EdgeScratch,
     items: &mut Vec<Item>,
 ) -> Result<(), AllocError>
     requires { placed.place + placed.insn.len ≤ 65535 }

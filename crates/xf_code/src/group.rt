@@ -6,7 +6,7 @@ ghost use Rattle.xf_emission.specs.Group.{done, entrance, group};
 ghost use Rattle.xf_code.specs.Known.{IsInstruction, IsSubject};
 
 use crate::body::body;
-use crate::edge::Scratch;
+use crate::edge::EdgeScratch;
 use crate::fall::fallen;
 use crate::moves::{loads, put};
 use jc_decode::{Instructions, Item, Placed};
@@ -35,7 +35,7 @@ fn done(
     alloc: Global,
     plan: &Plan<'_>,
     placed: Placed,
-    scratch: &mut Scratch,
+    scratch: &mut EdgeScratch,
     items: &mut Vec<Item>,
 ) -> Result<(), AllocError>
     requires { IsInstruction plan.now placed }
@@ -58,7 +58,7 @@ fn group(
     alloc: Global,
     plan: &Plan<'_>,
     placed: Placed,
-    scratch: &mut Scratch,
+    scratch: &mut EdgeScratch,
     items: &mut Vec<Item>,
 ) -> Result<(), AllocError>
     requires { IsInstruction plan.now placed }
@@ -75,7 +75,7 @@ fn group(
 pub fn groups(
     alloc: Global,
     plan: &Plan<'_>,
-    scratch: &mut Scratch,
+    scratch: &mut EdgeScratch,
     items: &mut Vec<Item>,
 ) -> Result<(), AllocError>
     requires { IsSubject plan.now }

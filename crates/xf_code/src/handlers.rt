@@ -1,9 +1,9 @@
 ghost use Rattle.std.specs.Prelude.{◌≡◌, ◌++◌, ◌∷◌, [], ◌≤◌, if◌then◌else◌, OnOk, IfOk, length};
 ghost use Rattle.xf_plan.specs.Subject.{source};
-ghost use Rattle.xf_emission.specs.Emission.{caught, caught_from, is_live, range, ranges_from};
+ghost use Rattle.xf_emission.specs.Emission.{catching_stub, catching_stubs, is_live, range, ranges_from};
 ghost use Rattle.xf_emission.specs.Jump.{handler_label};
 
-use crate::edge::{Scratch, copies};
+use crate::edge::{EdgeScratch, copies};
 use crate::jump::goto;
 use crate::moves::{put, spill};
 use jc_base::Handler;
@@ -33,11 +33,11 @@ fn caught(
     plan: &Plan<'_>,
     n: u16,
     handler: Handler,
-    scratch: &mut Scratch,
+    scratch: &mut EdgeScratch,
     items: &mut Vec<Item>,
 ) -> Result<(), AllocError>
     requires { n ≤ 255 }
-    ensures { OnOk result (items.new.items ≡ items.old.items ++ caught (source plan.now) n handler) }
+    ensures { OnOk result (items.new.items ≡ items.old.items ++ catching_stub (source plan.now) n handler) }
 {
     let entry = handler.entry;
     put(items, Item::Label(handler_label(n)))?;
@@ -52,7 +52,7 @@ fn caught_if(
     plan: &Plan<'_>,
     n: u16,
     handler: Handler,
-    scratch: &mut Scratch,
+    scratch: &mut EdgeScratch,
     items: &mut Vec<Item>,
 ) -> Result<(), AllocError>
     requires few { n ≤ 255 }
@@ -60,7 +60,7 @@ fn caught_if(
     ensures { OnOk result
         (items.new.items
         ≡ items.old.items
-        ++ (if is_live (source plan.now) handler then caught (source plan.now) n handler else [])) }
+        ++ (if is_live (source plan.now) handler then catching_stub (source plan.now) n handler else [])) }
 {
     if is_live(plan, handler) {
         return caught(alloc, plan, n, handler, scratch, items);
@@ -72,14 +72,14 @@ fn caught_if(
 pub fn handler_stubs(
     alloc: Global,
     plan: &Plan<'_>,
-    scratch: &mut Scratch,
+    scratch: &mut EdgeScratch,
     items: &mut Vec<Item>,
 ) -> Result<(), AllocError>
     requires few { length plan.now.walk.rec.now.handlers ≤ 255 }
     requires short { length plan.now.walk.code.bytes.now ≤ 65535 }
     ensures { OnOk result
         (items.new.items
-        ≡ items.old.items ++ caught_from (source plan.now) 0 plan.now.walk.rec.now.handlers) }
+        ≡ items.old.items ++ catching_stubs (source plan.now) 0 plan.now.walk.rec.now.handlers) }
 {
     'handlers: for (n, handler) in plan.walk.rec.handlers.as_slice().iter().enumerate() {
         if let Err(error) = caught_if(alloc, plan, n as u16, *handler, scratch, items) {

@@ -1,9 +1,9 @@
 ghost use Rattle.std.specs.Prelude.{◌≡◌, ◌≤◌, ◌+◌, ◌/◌, ◌++◌, ◌∷◌, [], OnOk, IfOk};
 ghost use Rattle.jc_decode.specs.Listing.{targets};
 ghost use Rattle.xf_plan.specs.Subject.{source};
-ghost use Rattle.xf_emission.specs.Jump.{operands_slot, under, operands, has_under, taken, place, lead, stub, stub_label, goto, leads, stubs_of, AreLed, IsNearBy};
+ghost use Rattle.xf_emission.specs.Jump.{operands_slot, under, operands, has_under, branch_copies, place, lead, stub, stub_label, goto, leads, stubs_of, AreLed, IsNearBy};
 
-use crate::edge::{Scratch, cell_copies, copies};
+use crate::edge::{EdgeScratch, cell_copies, copies};
 use crate::moves::put;
 use jc_control::{Targets, place_of};
 use jc_decode::{Insn, Item, Placed};
@@ -74,18 +74,18 @@ pub fn operands(alloc: Global, plan: &Plan<'_>, fork: Fork) -> Result<Vec<Home>,
 }
 
 /// Appends what has to be copied where the branch is taken to a place.
-#[tactic(auto, unfolding(xf_emission::specs::Jump::taken))]
+#[tactic(auto, unfolding(xf_emission::specs::Jump::branch_copies))]
 pub fn taken(
     alloc: Global,
     plan: &Plan<'_>,
     fork: Fork,
     to: u16,
-    scratch: &mut Scratch,
+    scratch: &mut EdgeScratch,
     items: &mut Vec<Item>,
 ) -> Result<(), AllocError>
     ensures { OnOk result
         (items.new.items
-        ≡ items.old.items ++ taken (source plan.now) fork.place fork.operation fork.operands to) }
+        ≡ items.old.items ++ branch_copies (source plan.now) fork.place fork.operation fork.operands to) }
 {
     let from = under(alloc, plan, fork)?;
     let cells = plan.stack_homes(alloc, to)?;
@@ -113,9 +113,9 @@ fn copied(
     plan: &Plan<'_>,
     fork: Fork,
     to: u16,
-    scratch: &mut Scratch,
+    scratch: &mut EdgeScratch,
 ) -> Result<Vec<Item>, AllocError>
-    ensures { IfOk result (λ is. is.items ≡ taken (source plan.now) fork.place fork.operation fork.operands to) }
+    ensures { IfOk result (λ is. is.items ≡ branch_copies (source plan.now) fork.place fork.operation fork.operands to) }
 {
     let mut items = Vec::new(alloc);
     taken(alloc, plan, fork, to, scratch, &mut items)?;
@@ -138,7 +138,7 @@ fn lead(
     fork: Fork,
     n: u16,
     target: i32,
-    scratch: &mut Scratch,
+    scratch: &mut EdgeScratch,
 ) -> Result<u16, AllocError>
     requires few { fork.place / 2 + n ≤ 32767 }
     requires near { IsNearBy target }
@@ -168,7 +168,7 @@ fn put_stub(
     fork: Fork,
     n: u16,
     target: i32,
-    scratch: &mut Scratch,
+    scratch: &mut EdgeScratch,
     items: &mut Vec<Item>,
 ) -> Result<(), AllocError>
     requires few { fork.place / 2 + n ≤ 32767 }
@@ -194,7 +194,7 @@ fn add_lead(
     fork: Fork,
     n: u16,
     target: i32,
-    scratch: &mut Scratch,
+    scratch: &mut EdgeScratch,
     labels: &mut Vec<u16>,
 ) -> Result<(), AllocError>
     requires few { fork.place / 2 + n ≤ 32767 }
@@ -214,7 +214,7 @@ pub fn leads(
     plan: &Plan<'_>,
     fork: Fork,
     insn: Insn,
-    scratch: &mut Scratch,
+    scratch: &mut EdgeScratch,
 ) -> Result<Vec<u16>, AllocError>
     requires { AreLed plan.now.walk.code.bytes.now (record { place = fork.place; insn = insn }) }
     ensures { IfOk result (λ ls. ls.items
@@ -242,7 +242,7 @@ pub fn put_stubs(
     plan: &Plan<'_>,
     fork: Fork,
     insn: Insn,
-    scratch: &mut Scratch,
+    scratch: &mut EdgeScratch,
     items: &mut Vec<Item>,
 ) -> Result<(), AllocError>
     requires { AreLed plan.now.walk.code.bytes.now (record { place = fork.place; insn = insn }) }

@@ -14,7 +14,7 @@ ghost use Rattle.xf_emission.specs.Numbers.{HasNumbers};
 ghost use Rattle.xf_typing.specs.Typed.{HasTypingByHomes};
 ghost use Rattle.xf_groups.specs.Matching.{MatchesMethod};
 
-use crate::edge::{Scratch, copies};
+use crate::edge::{EdgeScratch, copies};
 use crate::group::groups;
 use crate::handlers::{handler_stubs, ranges};
 use crate::moves::put;
@@ -27,7 +27,7 @@ use jc_rules::Typing;
 use std::alloc::{AllocError, Global};
 use xf_emission::{Origin, items_suit, live_are_kept, plain_size_fits, ranges_stand};
 use xf_groups::rewritten_matches;
-use xf_homes::{Homes, Walk};
+use xf_homes::{HomeWalk, Homes};
 use xf_plan::Plan;
 use xf_typing::rewritten_is_typed;
 
@@ -56,7 +56,7 @@ fn items(alloc: Global, plan: &Plan<'_>) -> Result<Vec<Item>, AllocError>
     requires few { length plan.now.walk.rec.now.handlers ≤ 255 }
     ensures { IfOk result (λ is. is.items ≡ items (source plan.now)) }
 {
-    let mut scratch = Scratch {
+    let mut scratch = EdgeScratch {
         held: Vec::new(alloc),
         needed: Vec::new(alloc),
     };
@@ -171,7 +171,7 @@ pub fn rewrite<'a>(
     let code = View::of(world.code(method));
     are_bytes(code.bytes);
     let plan = Plan {
-        walk: Walk {
+        walk: HomeWalk {
             world,
             number: method,
             rec,

@@ -6,7 +6,7 @@ ghost use Rattle.xf_emission.specs.Emission.{stubs, stubs_by, stubs_done};
 ghost use Rattle.xf_emission.specs.Jump.{AreLed};
 ghost use Rattle.xf_code.specs.Known.{IsInstruction, IsSubject};
 
-use crate::edge::Scratch;
+use crate::edge::EdgeScratch;
 use crate::jump::{Fork, put_stubs};
 use jc_decode::{Instructions, Item, Placed};
 use jc_ops::Operation;
@@ -20,7 +20,7 @@ fn stubs_by(
     placed: Placed,
     operation: Operation,
     operands: Option<u8>,
-    scratch: &mut Scratch,
+    scratch: &mut EdgeScratch,
     items: &mut Vec<Item>,
 ) -> Result<(), AllocError>
     requires { AreLed plan.now.walk.code.bytes.now placed }
@@ -42,7 +42,7 @@ fn stubs_done(
     alloc: Global,
     plan: &Plan<'_>,
     placed: Placed,
-    scratch: &mut Scratch,
+    scratch: &mut EdgeScratch,
     items: &mut Vec<Item>,
 ) -> Result<(), AllocError>
     requires { IsInstruction plan.now placed }
@@ -65,7 +65,7 @@ fn stubs_at(
     alloc: Global,
     plan: &Plan<'_>,
     placed: Placed,
-    scratch: &mut Scratch,
+    scratch: &mut EdgeScratch,
     items: &mut Vec<Item>,
 ) -> Result<(), AllocError>
     requires { IsInstruction plan.now placed }
@@ -81,7 +81,7 @@ fn stubs_at(
 pub fn stubs(
     alloc: Global,
     plan: &Plan<'_>,
-    scratch: &mut Scratch,
+    scratch: &mut EdgeScratch,
     items: &mut Vec<Item>,
 ) -> Result<(), AllocError>
     requires { IsSubject plan.now }

@@ -21,9 +21,9 @@ use Rattle.jc_ops.specs.declared.operation.Operation.{Operation}
 use Rattle.xf_emission.specs.declared.origin.Origin.{Origin}
 use Rattle.xf_emission.specs.declared.origin.Origin.TheVariants.{After}
 use Rattle.xf_emission.specs.Move.{with_byte, load_op, store_op, load, store, copy, loads, spill}
-use Rattle.xf_emission.specs.Edge.{home_before, held, copy_new, copies_from, local_copies, locals_copies, copies, cell_copies}
-use Rattle.xf_emission.specs.Jump.{under, taken}
-use Rattle.xf_emission.specs.Group.{popped, swap_words}
+use Rattle.xf_emission.specs.Edge.{home_before, homes_held, copy_new, copies_from, local_copies, locals_copies, copies, cell_copies}
+use Rattle.xf_emission.specs.Jump.{under, branch_copies}
+use Rattle.xf_emission.specs.Group.{pop_item, swap_words}
 
 -- ---- lists
 
@@ -77,8 +77,8 @@ module _ (code : List ℕ) (all : List Item) (s : Source) (small : (h : Home) �
       where
         by : (h : Option Home) → Each (IsItem code all) (copies_from s o q x h)
         by None = tt
-        by (Some from) = each-flat (IsItem code all) (copy_new s from (held s o x from)) (needed s q x)
-            (λ to. each-if (IsItem code all) (has (held s o x from) to) [] (copy s from to) tt (copy-suits from to))
+        by (Some from) = each-flat (IsItem code all) (copy_new s from (homes_held s o x from)) (needed s q x)
+            (λ to. each-if (IsItem code all) (has (homes_held s o x from) to) [] (copy s from to) tt (copy-suits from to))
 
     locals-suit : (x n : ℕ) → Each (IsItem code all) (locals_copies s o q x n)
     locals-suit x zero = tt
@@ -95,14 +95,14 @@ module _ (code : List ℕ) (all : List Item) (s : Source) (small : (h : Home) �
       Each-append (IsItem code all) (if same_home h k then [] else copy s h k) (cell_copies s hs ks)
       (each-if (IsItem code all) (same_home h k) [] (copy s h k) tt (copy-suits h k)) (cells-suit hs ks)
 
-  pub taken-suits : (p : ℕ) (op : Operation) (n q : ℕ) → Each (IsItem code all) (taken s p op n q)
-  unfolding taken
+  pub taken-suits : (p : ℕ) (op : Operation) (n q : ℕ) → Each (IsItem code all) (branch_copies s p op n q)
+  unfolding branch_copies
   taken-suits p op n q =
       Each-append (IsItem code all) (cell_copies s (under s p n) (stack_homes s q)) (copies s (After p op) q) (cells-suit (under s p n) (stack_homes s q)) (copies-suit (After p op) q)
 
   -- ---- what is emitted beside
 
-  pub popped-suits : (letter : Sort) → IsItem code all (popped letter)
+  pub popped-suits : (letter : Sort) → IsItem code all (pop_item letter)
   unfolding layout_of opcode
   popped-suits sorts.Int = (((refl, refl), (refl, refl), (refl, refl)), refl)
   popped-suits letter = (((refl, refl), (refl, refl), (refl, refl)), refl)

@@ -25,10 +25,10 @@ use Rattle.xf_plan.specs.Plan.{stack_homes, needed, local, is_leader, operation}
 use Rattle.xf_emission.specs.declared.origin.Origin.{Origin}
 use Rattle.xf_emission.specs.declared.origin.Origin.TheVariants.{After, Entry}
 use Rattle.xf_emission.specs.Move.{store, copy, loads, spill}
-use Rattle.xf_emission.specs.Edge.{home_before, held, copy_new, copies_from, local_copies, locals_copies, copies, cell_copies}
-use Rattle.xf_emission.specs.Jump.{under, operands, has_under, spill_if, taken, jump_to, branch, goto, place, stub_label, stub_of, stub, handler_label}
-use Rattle.xf_emission.specs.Group.{itself, loaded, increased, popped, stored, stays, field_read, field_written, gone, branch_by, body, fall, fall_over, fall_by, fallen, done, group_by, group}
-use Rattle.xf_emission.specs.Emission.{caught}
+use Rattle.xf_emission.specs.Edge.{home_before, homes_held, copy_new, copies_from, local_copies, locals_copies, copies, cell_copies}
+use Rattle.xf_emission.specs.Jump.{under, operands, has_under, spill_if, branch_copies, jump_to, branch, goto, place, stub_label, stub_of, stub, handler_label}
+use Rattle.xf_emission.specs.Group.{itself, loaded, increased, pop_item, store_to_homes, stays, field_read, field_written, gone, branch_by, body, fall, fall_over, fall_by, fallen, done, group_by, group}
+use Rattle.xf_emission.specs.Emission.{catching_stub}
 
 -- the numbers of the labels
 abbrev pub labels : List Item → List ℕ
@@ -81,7 +81,7 @@ module _ (s : Source) (o : Origin) (q : ℕ) where
 
       by : (h : Option Home) → labels (copies_from s o q x h) ≡ []
       by None = refl
-      by (Some from) = none-flat (copy_new s from (held s o x from)) (needed s q x) (new from (held s o x from))
+      by (Some from) = none-flat (copy_new s from (homes_held s o x from)) (needed s q x) (new from (homes_held s o x from))
 
   locals-none : (x n : ℕ) → labels (locals_copies s o q x n) ≡ []
   locals-none x zero = refl
@@ -96,8 +96,8 @@ cells-none s [] ks = refl
 cells-none s (h ∷ hs) [] = refl
 cells-none s (h ∷ hs) (k ∷ ks) = none-both (if same_home h k then [] else copy s h k) (cell_copies s hs ks) (none-if (same_home h k) [] (copy s h k) refl refl) (cells-none s hs ks)
 
-pub taken-none : (s : Source) (p : ℕ) (op : Operation) (n q : ℕ) → labels (taken s p op n q) ≡ []
-unfolding taken
+pub taken-none : (s : Source) (p : ℕ) (op : Operation) (n q : ℕ) → labels (branch_copies s p op n q) ≡ []
+unfolding branch_copies
 taken-none s p op n q = none-both (cell_copies s (under s p n) (stack_homes s q)) (copies s (After p op) q) (cells-none s (under s p n) (stack_homes s q)) (copies-none s (After p op) q)
 
 -- ---- instructions
@@ -122,11 +122,11 @@ module _ (s : Source) (i : Placed) where
   increased-none None = refl
   increased-none (Some h) = refl
 
-  popped-none : (letter : Sort) → labels (popped letter ∷ []) ≡ []
+  popped-none : (letter : Sort) → labels (pop_item letter ∷ []) ≡ []
   popped-none sorts.Int = refl
   popped-none letter = refl
 
-  stored-none : (letter : Sort) (hs : List Home) → labels (stored s letter hs) ≡ []
+  stored-none : (letter : Sort) (hs : List Home) → labels (store_to_homes s letter hs) ≡ []
   stored-none letter [] = popped-none letter
   stored-none letter (h ∷ hs) = none-flat (copy s h) hs (λ k. refl)
 
@@ -165,7 +165,7 @@ module _ (s : Source) (i : Placed) where
 
   over-none : (op : Operation) (n q : ℕ) → labels (fall_over s i.place op n q) ≡ []
   over-none op n q =
-      none-if (is_leader s q) (taken s i.place op n q) (copies s (After i.place op) q ++ loads s (under s i.place n)) (taken-none s i.place op n q)
+      none-if (is_leader s q) (branch_copies s i.place op n q) (copies s (After i.place op) q ++ loads s (under s i.place n)) (taken-none s i.place op n q)
       (none-both (copies s (After i.place op) q) (loads s (under s i.place n)) (copies-none s (After i.place op) q) (loads-none s (under s i.place n)))
 
   fall-by-none : (op : Operation) (n : Option ℕ) (q : ℕ) → labels (fall_by s i.place op n q) ≡ []
@@ -200,15 +200,15 @@ abbrev pub label_if : List Item → ℕ → List ℕ
 label_if [] l = []
 label_if (i ∷ is) l = l ∷ []
 
-pub stub-label : (s : Source) (p : ℕ) (op : Operation) (n k : ℕ) (t : ℤ) → labels (stub s p op n k t) ≡ label_if (taken s p op n (place t)) (stub_label p k)
+pub stub-label : (s : Source) (p : ℕ) (op : Operation) (n k : ℕ) (t : ℤ) → labels (stub s p op n k t) ≡ label_if (branch_copies s p op n (place t)) (stub_label p k)
 unfolding stub
-stub-label s p op n k t = by (taken s p op n (place t)) (taken-none s p op n (place t))
+stub-label s p op n k t = by (branch_copies s p op n (place t)) (taken-none s p op n (place t))
   where
     by : (copied : List Item) → labels copied ≡ [] → labels (stub_of (stub_label p k) (place t) copied) ≡ label_if copied (stub_label p k)
     by [] e = refl
     by (i ∷ is) e = ap (λ ls. stub_label p k ∷ ls) (none-both (i ∷ is) (goto (place t) ∷ []) e refl)
 
-pub caught-label : (s : Source) (n : ℕ) (h : Handler) → labels (caught s n h) ≡ handler_label n ∷ []
+pub caught-label : (s : Source) (n : ℕ) (h : Handler) → labels (catching_stub s n h) ≡ handler_label n ∷ []
 caught-label s n h =
     ap (λ ls. handler_label n ∷ ls)
     (none-both (spill s (stack_homes s h.entry)) (copies s (Entry h.entry) h.entry ++ goto h.entry ∷ []) (spill-none s (stack_homes s h.entry))

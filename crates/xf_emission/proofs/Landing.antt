@@ -20,9 +20,9 @@ use Rattle.xf_plan.specs.Plan.{stack_homes, operation}
 use Rattle.xf_emission.specs.declared.origin.Origin.TheVariants.{Start, Entry}
 use Rattle.xf_emission.specs.Move.{spill}
 use Rattle.xf_emission.specs.Edge.{copies}
-use Rattle.xf_emission.specs.Jump.{place, stub_label, handler_label, stub, stub_of, stubs_of, taken, goto}
+use Rattle.xf_emission.specs.Jump.{place, stub_label, handler_label, stub, stub_of, stubs_of, branch_copies, goto}
 use Rattle.xf_emission.specs.Group.{group}
-use Rattle.xf_emission.specs.Emission.{stubs, stubs_by, stubs_done, stubs_at, is_live, caught, caught_from, items}
+use Rattle.xf_emission.specs.Emission.{stubs, stubs_by, stubs_done, stubs_at, is_live, catching_stub, catching_stubs, items}
 use Rattle.xf_emission.specs.Laws.{IsCode, StubStands, StubsStand, HandlersStand}
 use Rattle.xf_emission.proofs.Labels.{labels, labels-append}
 use Rattle.xf_emission.proofs.Rises.{Rises}
@@ -85,7 +85,7 @@ module _ (s : Source) (i : Placed) (op : Operation) (n : ℕ) (is : operation s 
       by (Some f) e = ap (stubs_done s i) is ∙ ap (stubs_by s i op) asks
 
   stub-stands : IsCode s → HasInstruction s.method.code i → is_some (s.frames i.place) ≡ true → (k : ℕ) (t : ℤ) → slice_get (targets s.method.code i) k ≡ Some t
-      → taken s i.place op n (place t) ≢ [] → StubStands s i op n k t
+      → branch_copies s i.place op n (place t) ≢ [] → StubStands s i op n k t
   unfolding items stub
   stub-stands code st reached k t at copied =
       let p = split (listing s.method.code) i st in
@@ -93,7 +93,7 @@ module _ (s : Source) (i : Placed) (op : Operation) (n : ℕ) (is : operation s 
       let first : 0 + k ≡ k = omega arith in
       let own : stubs s i ≡ q.before ++ (stub s i.place op n k t ++ q.after) = stubs-are reached ∙ q.parts ∙ ap (λ (j : ℕ). q.before ++ (stub s i.place op n j t ++ q.after)) first in
       let groups = flat_map (group s) (listing s.method.code) in
-      let caughts = caught_from s 0 s.method.rec.handlers in
+      let caughts = catching_stubs s 0 s.method.rec.handlers in
       let all : flat_map (stubs s) (listing s.method.code) ≡ flat_map (stubs s) p.before ++ ((q.before ++ (stub s i.place op n k t ++ q.after)) ++ flat_map (stubs s) p.after) =
       ap (flat_map (stubs s)) p.parts ∙ flat_map-append (stubs s) p.before (i ∷ p.after) ∙ ap (λ xs. flat_map (stubs s) p.before ++ xs) (flat_map-cons (stubs s) i p.after ∙ ap (λ xs. xs ++ flat_map (stubs s) p.after) own) in
       let before = copies s Start 0 ++ (groups ++ (Label (length s.method.code) ∷ (flat_map (stubs s) p.before ++ q.before))) in
@@ -104,10 +104,10 @@ module _ (s : Source) (i : Placed) (op : Operation) (n : ℕ) (is : operation s 
         before = before;
         after = after;
         parts = whole;
-        at = by (taken s i.place op n (place t)) refl before after whole code;
+        at = by (branch_copies s i.place op n (place t)) refl before after whole code;
       }
     where
-      by : (copied_items : List Item) → taken s i.place op n (place t) ≡ copied_items → (before after : List Item) → items s ≡ before ++ (stub s i.place op n k t ++ after) → IsCode s
+      by : (copied_items : List Item) → branch_copies s i.place op n (place t) ≡ copied_items → (before after : List Item) → items s ≡ before ++ (stub s i.place op n k t ++ after) → IsCode s
           → place_of (stub_label i.place k) (items s) ≡ length (filter is_instruction before)
       by [] e before after whole code = absurd (copied e)
       by (x ∷ xs) e before after whole code =
@@ -122,9 +122,9 @@ stubs-stand s code i op n k t st reached is asks at copied = stub-stands s i op 
 record CaughtParts (s : Source) (at : ℕ) (h : Handler) (whole : List Item) : Type 0 where
   before : List Item
   after : List Item
-  parts : whole ≡ before ++ (caught s at h ++ after)
+  parts : whole ≡ before ++ (catching_stub s at h ++ after)
 
-caught-parts : (s : Source) (from n : ℕ) (hs : List Handler) (h : Handler) → slice_get hs n ≡ Some h → is_live s h ≡ true → CaughtParts s (from + n) h (caught_from s from hs)
+caught-parts : (s : Source) (from n : ℕ) (hs : List Handler) (h : Handler) → slice_get hs n ≡ Some h → is_live s h ≡ true → CaughtParts s (from + n) h (catching_stubs s from hs)
 caught-parts s from n [] h at live = absurd (cc)
 caught-parts s from zero (g ∷ gs) h at live =
     let same : g ≡ h = cc in
@@ -132,18 +132,18 @@ caught-parts s from zero (g ∷ gs) h at live =
     let alive : is_live s g ≡ true = ap (is_live s) same ∙ live in
     record {
       before = [];
-      after = caught_from s (suc from) gs;
-      parts = ap (λ b. (if b then caught s from g else []) ++ caught_from s (suc from) gs) alive ∙ ap (λ (k : Handler). caught s from k ++ caught_from s (suc from) gs) same ∙ ap (λ (j : ℕ). caught s j h ++ caught_from s (suc from) gs) here;
+      after = catching_stubs s (suc from) gs;
+      parts = ap (λ b. (if b then catching_stub s from g else []) ++ catching_stubs s (suc from) gs) alive ∙ ap (λ (k : Handler). catching_stub s from k ++ catching_stubs s (suc from) gs) same ∙ ap (λ (j : ℕ). catching_stub s j h ++ catching_stubs s (suc from) gs) here;
     }
 caught-parts s from (suc n) (g ∷ gs) h at live =
     let rest = caught-parts s (suc from) n gs h at live in
     let next : suc from + n ≡ from + suc n = omega arith in
-    let whole : caught_from s (suc from) gs ≡ rest.before ++ (caught s (from + suc n) h ++ rest.after) = rest.parts ∙ ap (λ (j : ℕ). rest.before ++ (caught s j h ++ rest.after)) next in
-    let first = if is_live s g then caught s from g else [] in
+    let whole : catching_stubs s (suc from) gs ≡ rest.before ++ (catching_stub s (from + suc n) h ++ rest.after) = rest.parts ∙ ap (λ (j : ℕ). rest.before ++ (catching_stub s j h ++ rest.after)) next in
+    let first = if is_live s g then catching_stub s from g else [] in
     record {
       before = first ++ rest.before;
       after = rest.after;
-      parts = ap (λ xs. first ++ xs) whole ∙ sym (append_assoc first rest.before (caught s (from + suc n) h ++ rest.after));
+      parts = ap (λ xs. first ++ xs) whole ∙ sym (append_assoc first rest.before (catching_stub s (from + suc n) h ++ rest.after));
     }
 
 pub handlers-stand : HandlersStand
@@ -151,10 +151,10 @@ unfolding items
 handlers-stand s code n h at live =
     let q = caught-parts s 0 n s.method.rec.handlers h at live in
     let first : 0 + n ≡ n = omega arith in
-    let own : caught_from s 0 s.method.rec.handlers ≡ q.before ++ (caught s n h ++ q.after) = q.parts ∙ ap (λ (j : ℕ). q.before ++ (caught s j h ++ q.after)) first in
+    let own : catching_stubs s 0 s.method.rec.handlers ≡ q.before ++ (catching_stub s n h ++ q.after) = q.parts ∙ ap (λ (j : ℕ). q.before ++ (catching_stub s j h ++ q.after)) first in
     let groups = flat_map (group s) (listing s.method.code) in
     let branches = flat_map (stubs s) (listing s.method.code) in
     let before = copies s Start 0 ++ (groups ++ (Label (length s.method.code) ∷ (branches ++ q.before))) in
     let rest = spill s (stack_homes s h.entry) ++ (copies s (Entry h.entry) h.entry ++ goto h.entry ∷ []) in
-    let whole : items s ≡ before ++ (caught s n h ++ q.after) = ap (λ xs. copies s Start 0 ++ (groups ++ (Label (length s.method.code) ∷ branches ++ xs))) own ∙ simp append_assoc in
+    let whole : items s ≡ before ++ (catching_stub s n h ++ q.after) = ap (λ xs. copies s Start 0 ++ (groups ++ (Label (length s.method.code) ∷ branches ++ xs))) own ∙ simp append_assoc in
     record { before = before; after = q.after; parts = whole; at = at-label s code before (rest ++ q.after) (handler_label n) whole }

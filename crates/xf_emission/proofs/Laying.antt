@@ -20,12 +20,12 @@ use Rattle.jc_control.specs.Control.{IsReached, follows, jumped, caught, IsLive}
 use Rattle.jc_control.specs.WellFormed.{HasInstruction, IsPlace, IsTargetPlace, IsHandlerOf}
 use Rattle.xf_homes.specs.declared.home.Home.{Home}
 use Rattle.xf_homes.specs.Order.{register_sum}
-use Rattle.xf_homes.specs.Value.{width}
+use Rattle.xf_homes.specs.Value.{type_width}
 use Rattle.xf_homes.specs.Walk.{operands_of, register_from, same_home}
 use Rattle.xf_plan.specs.Source.{Source}
 use Rattle.xf_plan.specs.Plan.{operation, or_first}
 use Rattle.xf_emission.specs.Emission.{is_live, items}
-use Rattle.xf_emission.specs.Jump.{label_by, lead, place, stub_label, taken}
+use Rattle.xf_emission.specs.Jump.{label_by, lead, place, stub_label, branch_copies}
 use Rattle.xf_emission.specs.Laws.{IsCode, HasFrames, IsLabelOf, of_place, of_stub, ItemsSuit}
 use Rattle.xf_emission.proofs.Forms.{suits-op}
 use Rattle.xf_emission.proofs.Live.{live-is}
@@ -34,14 +34,14 @@ use Rattle.xf_emission.proofs.Suited.{IsEmitted, items-suit}
 
 -- ---- registers
 
-register-below : (n : ℕ) (hs : List Home) (h : Home) (r : ℕ) → register_from n hs h ≡ Some r → r ≤ n + sum_by (λ (k : Home). width k.ty) hs
+register-below : (n : ℕ) (hs : List Home) (h : Home) (r : ℕ) → register_from n hs h ≡ Some r → r ≤ n + sum_by (λ (k : Home). type_width k.ty) hs
 register-below n [] h r e = absurd (cc)
-register-below n (k ∷ ks) h r e = by (same_home k h) e (λ later. register-below (n + width k.ty) ks h r later)
+register-below n (k ∷ ks) h r e = by (same_home k h) e (λ later. register-below (n + type_width k.ty) ks h r later)
   where
-    by : (b : Bool) → (if b then Some n else register_from (n + width k.ty) ks h) ≡ Some r → (register_from (n + width k.ty) ks h ≡ Some r → r ≤ n + width k.ty + sum_by (λ (j : Home). width j.ty) ks)
-        → r ≤ n + sum_by (λ (j : Home). width j.ty) (k ∷ ks)
+    by : (b : Bool) → (if b then Some n else register_from (n + type_width k.ty) ks h) ≡ Some r → (register_from (n + type_width k.ty) ks h ≡ Some r → r ≤ n + type_width k.ty + sum_by (λ (j : Home). type_width j.ty) ks)
+        → r ≤ n + sum_by (λ (j : Home). type_width j.ty) (k ∷ ks)
     by true e rest = let same : n ≡ r = cc in omega (arith, same)
-    by false e rest = omega (arith, rest e, sum_by-cons (λ (j : Home). width j.ty) k ks)
+    by false e rest = omega (arith, rest e, sum_by-cons (λ (j : Home). type_width j.ty) k ks)
 
 small-register : (homes : List Home) (h : Home) → register_sum homes ≤ 255 → or_first (register_from 0 homes h) < 256
 unfolding register_sum
@@ -87,11 +87,11 @@ module _ (w : Linked) (alike : OperationsGoAlike w) (listing_is : InstructionsAr
         decodes = d;
         alike = go.jumps_alike;
         suits = suits-op s.world s.method.rec i.place i.insn op small is;
-        ways = λ n k t asks e. by n k t asks e (at k t e) (taken s i.place op n (place t)) refl;
+        ways = λ n k t asks e. by n k t asks e (at k t e) (branch_copies s i.place op n (place t)) refl;
         places = at;
       }
     where
-      by : (n k : ℕ) (t : ℤ) → operands_of s.world (Ok op) ≡ Some n → slice_get (targets s.method.code i) k ≡ Some t → IsOnce (items s) (place t) → (copied : List Item) → taken s i.place op n (place t) ≡ copied
+      by : (n k : ℕ) (t : ℤ) → operands_of s.world (Ok op) ≡ Some n → slice_get (targets s.method.code i) k ≡ Some t → IsOnce (items s) (place t) → (copied : List Item) → branch_copies s i.place op n (place t) ≡ copied
           → IsOnce (items s) (label_by (place t) (stub_label i.place k) copied)
       by n k t asks e here [] none = here
       by n k t asks e here (x ∷ xs) more = once (stub_label i.place k) (of_stub {i = i} {op = op} {n = n} {t = t} k st some is asks e (λ none. absurd (filled (sym more ∙ none))))

@@ -14,9 +14,9 @@ use Rattle.xf_homes.specs.Walk.{operands_of}
 use Rattle.xf_homes.proofs.Events.{among-left, among-right}
 use Rattle.xf_plan.specs.Source.{Source}
 use Rattle.xf_plan.specs.Plan.{operation}
-use Rattle.xf_emission.specs.Jump.{place, stub_label, stub, stubs_of, taken, handler_label}
+use Rattle.xf_emission.specs.Jump.{place, stub_label, stub, stubs_of, branch_copies, handler_label}
 use Rattle.xf_emission.specs.Group.{group}
-use Rattle.xf_emission.specs.Emission.{stubs, stubs_by, stubs_done, stubs_at, is_live, caught, caught_from, items}
+use Rattle.xf_emission.specs.Emission.{stubs, stubs_by, stubs_done, stubs_at, is_live, catching_stub, catching_stubs, items}
 use Rattle.xf_emission.specs.Laws.{IsLabelOf, of_place, of_end, of_stub, of_handler, LabelsStandOnce}
 use Rattle.xf_emission.proofs.Labels.{labels, labels-append, label_if, stub-label, caught-label, group-label, count-labels}
 use Rattle.xf_emission.proofs.Rises.{count-among}
@@ -46,7 +46,7 @@ filled : (copied : List Item) (l : ℕ) → copied ≢ [] → IsAmong l (label_i
 filled [] l some = absurd (some refl)
 filled (i ∷ is) l some = inl refl
 
-in-stubs : (s : Source) (p : ℕ) (op : Operation) (n from k : ℕ) (ts : List ℤ) (t : ℤ) → slice_get ts k ≡ Some t → taken s p op n (place t) ≢ [] → IsAmong (stub_label p (from + k)) (labels (stubs_of s p op n from ts))
+in-stubs : (s : Source) (p : ℕ) (op : Operation) (n from k : ℕ) (ts : List ℤ) (t : ℤ) → slice_get ts k ≡ Some t → branch_copies s p op n (place t) ≢ [] → IsAmong (stub_label p (from + k)) (labels (stubs_of s p op n from ts))
 in-stubs s p op n from k [] t at some = absurd (cc)
 in-stubs s p op n from zero (u ∷ us) t at some =
     let same : u ≡ t = cc in
@@ -54,26 +54,26 @@ in-stubs s p op n from zero (u ∷ us) t at some =
     subst (λ (j : ℕ). IsAmong (stub_label p j) (labels (stubs_of s p op n from (u ∷ us)))) (sym here)
     (in-left (stub_label p from) (stub s p op n from u) (stubs_of s p op n (suc from) us)
     (subst (IsAmong (stub_label p from)) (sym (stub-label s p op n from u))
-    (filled (taken s p op n (place u)) (stub_label p from) (subst (λ (v : ℤ). taken s p op n (place v) ≢ []) (sym same) some))))
+    (filled (branch_copies s p op n (place u)) (stub_label p from) (subst (λ (v : ℤ). branch_copies s p op n (place v) ≢ []) (sym same) some))))
 in-stubs s p op n from (suc k) (u ∷ us) t at some =
     let next : suc from + k ≡ from + suc k = omega arith in
     in-right (stub_label p (from + suc k)) (stub s p op n from u) (stubs_of s p op n (suc from) us)
     (subst (λ (j : ℕ). IsAmong (stub_label p j) (labels (stubs_of s p op n (suc from) us))) next (in-stubs s p op n (suc from) k us t at some))
 
-in-caught : (s : Source) (from n : ℕ) (hs : List Handler) (h : Handler) → slice_get hs n ≡ Some h → is_live s h ≡ true → IsAmong (handler_label (from + n)) (labels (caught_from s from hs))
+in-caught : (s : Source) (from n : ℕ) (hs : List Handler) (h : Handler) → slice_get hs n ≡ Some h → is_live s h ≡ true → IsAmong (handler_label (from + n)) (labels (catching_stubs s from hs))
 in-caught s from n [] h at live = absurd (cc)
 in-caught s from zero (g ∷ gs) h at live =
     let same : g ≡ h = cc in
     let here : from + 0 ≡ from = omega arith in
     let alive : is_live s g ≡ true = ap (is_live s) same ∙ live in
-    subst (λ (j : ℕ). IsAmong (handler_label j) (labels (caught_from s from (g ∷ gs)))) (sym here)
-    (in-left (handler_label from) (if is_live s g then caught s from g else []) (caught_from s (suc from) gs)
-    (subst (λ b. IsAmong (handler_label from) (labels (if b then caught s from g else []))) (sym alive)
+    subst (λ (j : ℕ). IsAmong (handler_label j) (labels (catching_stubs s from (g ∷ gs)))) (sym here)
+    (in-left (handler_label from) (if is_live s g then catching_stub s from g else []) (catching_stubs s (suc from) gs)
+    (subst (λ b. IsAmong (handler_label from) (labels (if b then catching_stub s from g else []))) (sym alive)
     (subst (IsAmong (handler_label from)) (sym (caught-label s from g)) (inl refl))))
 in-caught s from (suc n) (g ∷ gs) h at live =
     let next : suc from + n ≡ from + suc n = omega arith in
-    in-right (handler_label (from + suc n)) (if is_live s g then caught s from g else []) (caught_from s (suc from) gs)
-    (subst (λ (j : ℕ). IsAmong (handler_label j) (labels (caught_from s (suc from) gs))) next (in-caught s (suc from) n gs h at live))
+    in-right (handler_label (from + suc n)) (if is_live s g then catching_stub s from g else []) (catching_stubs s (suc from) gs)
+    (subst (λ (j : ℕ). IsAmong (handler_label j) (labels (catching_stubs s (suc from) gs))) next (in-caught s (suc from) n gs h at live))
 
 -- ---- the whole
 
@@ -81,11 +81,11 @@ module _ (s : Source) where
   among-groups : (l : ℕ) → IsAmong l (labels (flat_map (group s) (listing s.method.code))) → IsAmong l (labels (items s))
   among-groups l a = subst (IsAmong l) (sym (all-labels s)) (among-left l (labels (flat_map (group s) (listing s.method.code))) _ a)
 
-  among-rest : (l : ℕ) → IsAmong l (length s.method.code ∷ labels (flat_map (stubs s) (listing s.method.code) ++ caught_from s 0 s.method.rec.handlers)) → IsAmong l (labels (items s))
+  among-rest : (l : ℕ) → IsAmong l (length s.method.code ∷ labels (flat_map (stubs s) (listing s.method.code) ++ catching_stubs s 0 s.method.rec.handlers)) → IsAmong l (labels (items s))
   among-rest l a = subst (IsAmong l) (sym (all-labels s)) (among-right l (labels (flat_map (group s) (listing s.method.code))) _ a)
 
   stub-there : (i : Placed) (op : Operation) (n k : ℕ) (t : ℤ) → is_some (s.frames i.place) ≡ true → operation s i ≡ Ok op → operands_of s.world (Ok op) ≡ Some n
-      → slice_get (targets s.method.code i) k ≡ Some t → taken s i.place op n (place t) ≢ [] → IsAmong (stub_label i.place k) (labels (stubs s i))
+      → slice_get (targets s.method.code i) k ≡ Some t → branch_copies s i.place op n (place t) ≢ [] → IsAmong (stub_label i.place k) (labels (stubs s i))
   unfolding stubs
   stub-there i op n k t reached is asks at some = by-frame (s.frames i.place) reached
     where
@@ -114,13 +114,13 @@ module _ (s : Source) where
   named-among _ of_end = among-rest (length s.method.code) (inl refl)
   named-among _ (of_stub {i = i} {op = op} {n = n} {t = t} k st reached is asks at some) =
       among-rest (stub_label i.place k)
-      (inr (in-left (stub_label i.place k) (flat_map (stubs s) (listing s.method.code)) (caught_from s 0 s.method.rec.handlers)
+      (inr (in-left (stub_label i.place k) (flat_map (stubs s) (listing s.method.code)) (catching_stubs s 0 s.method.rec.handlers)
       (in-flat (stubs s) (listing s.method.code) i (stub_label i.place k) st (stub-there i op n k t reached is asks at some))))
   named-among _ (of_handler {h = h} n at live) =
       let first : 0 + n ≡ n = omega arith in
       among-rest (handler_label n)
-      (inr (in-right (handler_label n) (flat_map (stubs s) (listing s.method.code)) (caught_from s 0 s.method.rec.handlers)
-      (subst (λ (j : ℕ). IsAmong (handler_label j) (labels (caught_from s 0 s.method.rec.handlers))) first (in-caught s 0 n s.method.rec.handlers h at live))))
+      (inr (in-right (handler_label n) (flat_map (stubs s) (listing s.method.code)) (catching_stubs s 0 s.method.rec.handlers)
+      (subst (λ (j : ℕ). IsAmong (handler_label j) (labels (catching_stubs s 0 s.method.rec.handlers))) first (in-caught s 0 n s.method.rec.handlers h at live))))
 
 pub labels-stand-once : LabelsStandOnce
 labels-stand-once s code l named =

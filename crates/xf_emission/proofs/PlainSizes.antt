@@ -39,7 +39,7 @@ use Rattle.xf_homes.specs.declared.home.Home.{Home}
 use Rattle.xf_homes.specs.Home.{register_count, IsAsked, asked_here, asked_caught}
 use Rattle.xf_homes.specs.Laws.{AreNeeded, IsAskedBefore, AreAskedInOrder, NeededAreKept, HasRegister, Serve, HomesServe}
 use Rattle.xf_homes.specs.Order.{register_sum}
-use Rattle.xf_homes.specs.Value.{width as home_width, value_at}
+use Rattle.xf_homes.specs.Value.{type_width as home_width, value_in_cells}
 use Rattle.xf_homes.specs.Walk.{operands_of, register_from, same_home, has}
 use Rattle.xf_homes.proofs.Events.{homes-equal}
 use Rattle.xf_plan.specs.Source.{Source}
@@ -47,10 +47,10 @@ use Rattle.xf_plan.specs.Plan.{register, local, needed, stack_homes, cells_from,
 use Rattle.xf_emission.specs.declared.origin.Origin.{Origin}
 use Rattle.xf_emission.specs.declared.origin.Origin.TheVariants.{Start, After, Entry}
 use Rattle.xf_emission.specs.Move.{with_byte, load_op, store_op, load, store, copy, loads, spill}
-use Rattle.xf_emission.specs.Edge.{home_before, held, copy_new, copies_from, local_copies, locals_copies, copies, cell_copies}
-use Rattle.xf_emission.specs.Jump.{under, operands, has_under, spill_if, taken, place, leads, jump_to, branch, goto, stub, stub_of, stub_label, stubs_of, handler_label, operands_slot}
-use Rattle.xf_emission.specs.Group.{itself, loaded, increased, popped, stored, stays, field_read, field_written, swap_words, gone, first_place, branch_by, body, fall, fall_over, fall_by, fallen, entrance, done, group_by, group}
-use Rattle.xf_emission.specs.Emission.{stubs, stubs_at, stubs_by, stubs_done, is_live, caught, caught_from, items}
+use Rattle.xf_emission.specs.Edge.{home_before, homes_held, copy_new, copies_from, local_copies, locals_copies, copies, cell_copies}
+use Rattle.xf_emission.specs.Jump.{under, operands, has_under, spill_if, branch_copies, place, leads, jump_to, branch, goto, stub, stub_of, stub_label, stubs_of, handler_label, operands_slot}
+use Rattle.xf_emission.specs.Group.{itself, loaded, increased, pop_item, store_to_homes, stays, field_read, field_written, swap_words, gone, first_place, branch_by, body, fall, fall_over, fall_by, fallen, entrance, done, group_by, group}
+use Rattle.xf_emission.specs.Emission.{stubs, stubs_at, stubs_by, stubs_done, is_live, catching_stub, catching_stubs, items}
 use Rattle.xf_emission.specs.Laws.{IsCode, HasFrames, PlainSizeFits}
 use Rattle.xf_emission.proofs.Fewer.{Distinct, no-longer, either-among, distinct-append}
 use Rattle.xf_emission.proofs.TwoBytes.{two-bytes}
@@ -138,7 +138,7 @@ module _ (s : Source) where
     where
       by : (h : Option Home) → plain_size (copies_from s o q x h) ≤ 4 * length (needed s q x)
       by None = omega (arith, none-size)
-      by (Some from) = each-copied (copy_new s from (held s o x from)) (needed s q x) (λ to. if-size (has (held s o x from) to) [] (copy s from to) 4 (omega (arith, none-size)) (copy-size from to))
+      by (Some from) = each-copied (copy_new s from (homes_held s o x from)) (needed s q x) (λ to. if-size (has (homes_held s o x from) to) [] (copy s from to) 4 (omega (arith, none-size)) (copy-size from to))
 
   -- what is needed of so many locals from x on
   abbrev needed_from : ℕ → ℕ → ℕ → List Home
@@ -158,7 +158,7 @@ module _ (s : Source) where
 
   cells-few : (slot : ℕ) (ts : List Ty) (i n : ℕ) → length (cells_from slot ts i n) ≤ n
   cells-few slot ts i zero = omega arith
-  cells-few slot ts i (suc n) = by (home_of (slot + i) (value_at ts i)) (cells-few slot ts (suc i) n)
+  cells-few slot ts i (suc n) = by (home_of (slot + i) (value_in_cells ts i)) (cells-few slot ts (suc i) n)
     where
       by : (h : Option Home) → length (cells_from slot ts (suc i) n) ≤ n → length (with_home_of h (cells_from slot ts (suc i) n)) ≤ suc n
       by None le = omega (arith, le)
@@ -275,8 +275,8 @@ module _ (same : SameTypeDecides) (kept_are : NeededAreKept) (s : Source) (has_f
       unfolding operands
       operands-few p n = omega (arith, filter-few (λ h. nat_le (operands_slot s p n) h.slot) (stack_homes s p), stack-few p)
 
-      taken-size : (p : ℕ) (op : Operation) (n q : ℕ) → plain_size (taken s p op n q) ≤ 2040
-      unfolding taken
+      taken-size : (p : ℕ) (op : Operation) (n q : ℕ) → plain_size (branch_copies s p op n q) ≤ 2040
+      unfolding branch_copies
       taken-size p op n q =
           omega (arith, append-size (cell_copies s (under s p n) (stack_homes s q)) (copies s (After p op) q), cells-size s (under s p n) (stack_homes s q), under-few p n, copies-size (After p op) q)
 
@@ -298,12 +298,12 @@ module _ (same : SameTypeDecides) (kept_are : NeededAreKept) (s : Source) (has_f
         increased-size None = kept-size
         increased-size (Some h) = omega (arith, cons-size (Plain (record i.insn { x = pos (register s h) })) [], none-size, plain-length (record i.insn { x = pos (register s h) }))
 
-        popped-size : (letter : Sort) → plain_bytes (popped letter) ≤ 14
+        popped-size : (letter : Sort) → plain_bytes (pop_item letter) ≤ 14
         popped-size sorts.Int = plain-length (record { op = 60; x = pos 0; y = pos 0; z = pos 0; len = 1 })
         popped-size letter = plain-length (record { op = 59; x = pos 0; y = pos 0; z = pos 0; len = 1 })
 
-        stored-size : (letter : Sort) (hs : List Home) → length hs ≤ 255 → plain_size (stored s letter hs) ≤ 1036
-        stored-size letter [] le = omega (arith, cons-size (popped letter) [], none-size, popped-size letter)
+        stored-size : (letter : Sort) (hs : List Home) → length hs ≤ 255 → plain_size (store_to_homes s letter hs) ≤ 1036
+        stored-size letter [] le = omega (arith, cons-size (pop_item letter) [], none-size, popped-size letter)
         stored-size letter (h ∷ hs) le = omega (arith, cons-size (store s h) (flat_map (copy s h) hs), store-size s h, each-copied s (copy s h) hs (copy-size s h), le)
 
         read-size : (h : Option Home) → plain_size (field_read s i h) ≤ i.insn.len + 15
@@ -372,7 +372,7 @@ module _ (same : SameTypeDecides) (kept_are : NeededAreKept) (s : Source) (has_f
             let back : plain_size (copies s (After i.place op) q ++ loads s (under s i.place n)) ≤ 2040 =
             omega (arith, append-size (copies s (After i.place op) q) (loads s (under s i.place n)), copies-size (After i.place op) q, loads-size s (under s i.place n), under-few i.place n) in
             if-size (has_under s i.place n) (fall_over s i.place op n q) (fall s i.place op q) 2040
-            (if-size (is_leader s q) (taken s i.place op n q) (copies s (After i.place op) q ++ loads s (under s i.place n)) 2040 (taken-size i.place op n q) back) (omega (arith, fall-size q))
+            (if-size (is_leader s q) (branch_copies s i.place op n q) (copies s (After i.place op) q ++ loads s (under s i.place n)) 2040 (taken-size i.place op n q) back) (omega (arith, fall-size q))
 
         fallen-size : plain_size (fallen s i op) ≤ 2040
         unfolding fallen
@@ -422,7 +422,7 @@ module _ (same : SameTypeDecides) (kept_are : NeededAreKept) (s : Source) (has_f
           omega (
             arith,
             append-size (stub s p op n k t) (stubs_of s p op n (suc k) ts),
-            stub-of-size (stub_label p k) (place t) (taken s p op n (place t)),
+            stub-of-size (stub_label p k) (place t) (branch_copies s p op n (place t)),
             taken-size p op n (place t),
             stubs-of-size p op n (suc k) ts,
           )
@@ -443,7 +443,7 @@ module _ (same : SameTypeDecides) (kept_are : NeededAreKept) (s : Source) (has_f
           by None = omega (arith, none-size)
           by (Some f) = by-operation (operation s i)
 
-      caught-size : (n : ℕ) (h : Handler) → plain_size (caught s n h) ≤ 1533
+      caught-size : (n : ℕ) (h : Handler) → plain_size (catching_stub s n h) ≤ 1533
       caught-size n h =
           omega (
             arith,
@@ -455,13 +455,13 @@ module _ (same : SameTypeDecides) (kept_are : NeededAreKept) (s : Source) (has_f
             goto-size h.entry,
           )
 
-      all-caught-size : (n : ℕ) (hs : List Handler) → plain_size (caught_from s n hs) ≤ 1533 * length hs
+      all-caught-size : (n : ℕ) (hs : List Handler) → plain_size (catching_stubs s n hs) ≤ 1533 * length hs
       all-caught-size n [] = omega (arith, none-size)
       all-caught-size n (h ∷ hs) =
           omega (
             arith,
-            append-size (if is_live s h then caught s n h else []) (caught_from s (suc n) hs),
-            if-size (is_live s h) (caught s n h) [] 1533 (caught-size n h) (omega (arith, none-size)),
+            append-size (if is_live s h then catching_stub s n h else []) (catching_stubs s (suc n) hs),
+            if-size (is_live s h) (catching_stub s n h) [] 1533 (caught-size n h) (omega (arith, none-size)),
             all-caught-size (suc n) hs,
           )
 
@@ -495,7 +495,7 @@ module _ (same : SameTypeDecides) (kept_are : NeededAreKept) (s : Source) (has_f
         all-size =
             let groups = flat_map (group s) (listing s.method.code) in
             let branches = flat_map (stubs s) (listing s.method.code) in
-            let caughts = caught_from s 0 s.method.rec.handlers in
+            let caughts = catching_stubs s 0 s.method.rec.handlers in
             omega (
               arith,
               append-size (copies s Start 0) (groups ++ (Label (length s.method.code) ∷ branches ++ caughts)),

@@ -22,7 +22,7 @@ use Rattle.xf_emission.specs.declared.origin.Origin.TheVariants.{Start}
 use Rattle.xf_emission.specs.Move.{loads}
 use Rattle.xf_emission.specs.Edge.{copies}
 use Rattle.xf_emission.specs.Group.{done, group_by, group}
-use Rattle.xf_emission.specs.Emission.{stubs, caught_from, items}
+use Rattle.xf_emission.specs.Emission.{stubs, catching_stubs, items}
 use Rattle.xf_emission.specs.Laws.{IsCode, GroupStands, GroupsStand}
 use Rattle.xf_emission.proofs.Labels.{labels, labels-append, copies-none, group-label}
 use Rattle.xf_emission.proofs.Rises.{Rises, rises-append}
@@ -79,7 +79,7 @@ module _ (s : Source) where
 
   -- all items after the groups
   abbrev ending : List Item
-  ending = Label (length s.method.code) ∷ flat_map (stubs s) (listing s.method.code) ++ caught_from s 0 s.method.rec.handlers
+  ending = Label (length s.method.code) ∷ flat_map (stubs s) (listing s.method.code) ++ catching_stubs s 0 s.method.rec.handlers
 
   items-are : (earlier : List Placed) (i : Placed) (later : List Placed) → listing s.method.code ≡ earlier ++ i ∷ later
       → items s ≡ (copies s Start 0 ++ flat_map (group s) earlier) ++ (group s i ++ (flat_map (group s) later ++ ending))

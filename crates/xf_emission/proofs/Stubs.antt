@@ -14,11 +14,11 @@ use Rattle.jc_rules.specs.Demand.{Frame}
 use Rattle.xf_homes.specs.Walk.{operands_of}
 use Rattle.xf_plan.specs.Source.{Source}
 use Rattle.xf_plan.specs.Plan.{operation}
-use Rattle.xf_emission.specs.Jump.{place, stub_label, stub, stubs_of, taken, handler_label}
+use Rattle.xf_emission.specs.Jump.{place, stub_label, stub, stubs_of, branch_copies, handler_label}
 use Rattle.xf_emission.specs.declared.origin.Origin.TheVariants.{Start}
 use Rattle.xf_emission.specs.Edge.{copies}
 use Rattle.xf_emission.specs.Group.{group}
-use Rattle.xf_emission.specs.Emission.{stubs, stubs_by, stubs_done, stubs_at, is_live, caught, caught_from, items}
+use Rattle.xf_emission.specs.Emission.{stubs, stubs_by, stubs_done, stubs_at, is_live, catching_stub, catching_stubs, items}
 use Rattle.xf_emission.proofs.Labels.{labels, labels-append, label_if, copies-none, stub-label, caught-label, group-label}
 use Rattle.xf_emission.proofs.Rises.{Rises, rises-append, rises-wider, rises-below}
 use Rattle.xf_emission.proofs.TwoBytes.{two-bytes}
@@ -34,7 +34,7 @@ module _ (s : Source) (p : ℕ) (op : Operation) (n : ℕ) where
   stubs-of-rise k (t ∷ ts) =
       let here : Rises (stub_label p k) (stub_label p (suc k)) (labels (stub s p op n k t)) =
       subst (Rises (stub_label p k) (stub_label p (suc k))) (sym (stub-label s p op n k t))
-      (let e : suc (stub_label p k) ≡ stub_label p (suc k) = omega arith in subst (λ (h : ℕ). Rises (stub_label p k) h (label_if (taken s p op n (place t)) (stub_label p k))) e (one-rises (taken s p op n (place t)) (stub_label p k))) in
+      (let e : suc (stub_label p k) ≡ stub_label p (suc k) = omega arith in subst (λ (h : ℕ). Rises (stub_label p k) h (label_if (branch_copies s p op n (place t)) (stub_label p k))) e (one-rises (branch_copies s p op n (place t)) (stub_label p k))) in
       let rest : Rises (stub_label p (suc k)) (stub_label p (k + length (t ∷ ts))) (labels (stubs_of s p op n (suc k) ts)) =
       (let e : stub_label p (suc k + length ts) ≡ stub_label p (k + length (t ∷ ts)) = omega arith in subst (λ (h : ℕ). Rises (stub_label p (suc k)) h (labels (stubs_of s p op n (suc k) ts))) e (stubs-of-rise (suc k) ts)) in
       subst (Rises (stub_label p k) (stub_label p (k + length (t ∷ ts)))) (sym (labels-append (stub s p op n k t) (stubs_of s p op n (suc k) ts)))
@@ -42,15 +42,15 @@ module _ (s : Source) (p : ℕ) (op : Operation) (n : ℕ) where
 
 -- ---- the stubs of handlers
 
-handlers-rise : (s : Source) (n : ℕ) (hs : List Handler) → Rises (handler_label n) (handler_label (n + length hs)) (labels (caught_from s n hs))
+handlers-rise : (s : Source) (n : ℕ) (hs : List Handler) → Rises (handler_label n) (handler_label (n + length hs)) (labels (catching_stubs s n hs))
 handlers-rise s n [] = omega arith
 handlers-rise s n (h ∷ hs) =
     let e : handler_label (suc n + length hs) ≡ handler_label (n + length (h ∷ hs)) = omega arith in
-    let rest = subst (λ (k : ℕ). Rises (handler_label (suc n)) k (labels (caught_from s (suc n) hs))) e (handlers-rise s (suc n) hs) in
-    subst (Rises (handler_label n) (handler_label (n + length (h ∷ hs)))) (sym (labels-append (if is_live s h then caught s n h else []) (caught_from s (suc n) hs)))
+    let rest = subst (λ (k : ℕ). Rises (handler_label (suc n)) k (labels (catching_stubs s (suc n) hs))) e (handlers-rise s (suc n) hs) in
+    subst (Rises (handler_label n) (handler_label (n + length (h ∷ hs)))) (sym (labels-append (if is_live s h then catching_stub s n h else []) (catching_stubs s (suc n) hs)))
     (rises-append (handler_label n) (handler_label (suc n)) (handler_label (n + length (h ∷ hs))) _ _ (by (is_live s h)) rest)
   where
-    by : (b : Bool) → Rises (handler_label n) (handler_label (suc n)) (labels (if b then caught s n h else []))
+    by : (b : Bool) → Rises (handler_label n) (handler_label (suc n)) (labels (if b then catching_stub s n h else []))
     by true = subst (Rises (handler_label n) (handler_label (suc n))) (sym (caught-label s n h)) (omega arith, omega arith, omega arith)
     by false = omega arith
 
@@ -107,11 +107,11 @@ module _ (s : Source) (bytes : AreBytes s.method.code) where
 -- the labels of all groups, the end's, and those of all stubs
 pub all-labels : (s : Source) → labels (items s)
     ≡ labels (flat_map (group s) (listing s.method.code))
-    ++ length s.method.code ∷ labels (flat_map (stubs s) (listing s.method.code) ++ caught_from s 0 s.method.rec.handlers)
+    ++ length s.method.code ∷ labels (flat_map (stubs s) (listing s.method.code) ++ catching_stubs s 0 s.method.rec.handlers)
 unfolding items
 all-labels s =
     let groups = flat_map (group s) (listing s.method.code) in
-    let rest = Label (length s.method.code) ∷ flat_map (stubs s) (listing s.method.code) ++ caught_from s 0 s.method.rec.handlers in
+    let rest = Label (length s.method.code) ∷ flat_map (stubs s) (listing s.method.code) ++ catching_stubs s 0 s.method.rec.handlers in
     labels-append (copies s Start 0) (groups ++ rest)
     ∙ ap (λ ls. ls ++ labels (groups ++ rest)) (copies-none s Start 0)
     ∙ labels-append groups rest
@@ -121,7 +121,7 @@ module _ (s : Source) (bytes : AreBytes s.method.code) where
   all-rise l short few =
       let n = length s.method.code in
       let branches = flat_map (stubs s) (listing s.method.code) in
-      let caughts = caught_from s 0 s.method.rec.handlers in
+      let caughts = catching_stubs s 0 s.method.rec.handlers in
       let last : Rises (handler_label 0) (handler_label 256) (labels caughts) = rises-below (handler_label 0) (handler_label (0 + length s.method.rec.handlers)) (handler_label 256) _ (omega (arith, few)) (handlers-rise s 0 s.method.rec.handlers) in
       let middle : Rises (stub_label 0 0) (handler_label 0) (labels branches) = rises-below (stub_label 0 0) (stub_label n 0) (handler_label 0) _ (omega (arith, short)) (all-stubs s bytes 0 (listing s.method.code) l (omega arith)) in
       let after : Rises (suc n) (handler_label 256) (labels (branches ++ caughts)) =

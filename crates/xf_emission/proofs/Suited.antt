@@ -32,9 +32,9 @@ use Rattle.xf_plan.specs.Plan.{register, local, needed, stack_homes, is_leader, 
 use Rattle.xf_emission.specs.declared.origin.Origin.TheVariants.{Start, After, Entry}
 use Rattle.xf_emission.specs.Move.{copy, loads, spill}
 use Rattle.xf_emission.specs.Edge.{copies}
-use Rattle.xf_emission.specs.Jump.{under, operands, has_under, spill_if, taken, place, lead, leads, first_label, jump_to, branch, goto, stub, stub_of, stub_label, stubs_of}
-use Rattle.xf_emission.specs.Group.{itself, loaded, increased, stored, stays, field_read, field_written, gone, first_place, body, fall, fall_over, fall_by, fallen, entrance, done, group_by, group}
-use Rattle.xf_emission.specs.Emission.{stubs, stubs_at, stubs_by, stubs_done, is_live, caught, caught_from, items}
+use Rattle.xf_emission.specs.Jump.{under, operands, has_under, spill_if, branch_copies, place, lead, leads, first_label, jump_to, branch, goto, stub, stub_of, stub_label, stubs_of}
+use Rattle.xf_emission.specs.Group.{itself, loaded, increased, store_to_homes, stays, field_read, field_written, gone, first_place, body, fall, fall_over, fall_by, fallen, entrance, done, group_by, group}
+use Rattle.xf_emission.specs.Emission.{stubs, stubs_at, stubs_by, stubs_done, is_live, catching_stub, catching_stubs, items}
 use Rattle.xf_emission.proofs.RowByRow.{op_kind, branching_kind, switching}
 use Rattle.xf_emission.proofs.Forms.{suits_kind, first_u1, only_u1, other-register, other-opcode}
 use Rattle.xf_emission.proofs.Items.{each-if, each-flat, load-suits, store-suits, copy-suits, loads-suit, spill-suits, copies-suit, taken-suits, popped-suits, swap-suits}
@@ -62,7 +62,7 @@ module _ (all : List Item) (s : Source) (small : (h : Home) → register s h < 2
     increased-suits j u None = kept-suits j
     increased-suits j u (Some h) = ((other-register i.insn (register s h) u (small h) e.allowed, ap not (sym e.alike ∙ j)), tt)
 
-    stored-suits : (letter : Sort) (hs : List Home) → Each (IsItem s.method.code all) (stored s letter hs)
+    stored-suits : (letter : Sort) (hs : List Home) → Each (IsItem s.method.code all) (store_to_homes s letter hs)
     stored-suits letter [] = (popped-suits s.method.code all s small letter, tt)
     stored-suits letter (h ∷ hs) = (store-suits s.method.code all s small h, each-flat (IsItem s.method.code all) (copy s h) hs (λ k. copy-suits s.method.code all s small h k))
 
@@ -169,7 +169,7 @@ module _ (all : List Item) (s : Source) (small : (h : Home) → register s h < 2
     fall-by-suits None q = fall-suits q
     fall-by-suits (Some n) q =
         each-if (IsItem s.method.code all) (has_under s i.place n) (fall_over s i.place op n q) (fall s i.place op q)
-        (each-if (IsItem s.method.code all) (is_leader s q) (taken s i.place op n q) (copies s (After i.place op) q ++ loads s (under s i.place n)) (taken-suits s.method.code all s small i.place op n q)
+        (each-if (IsItem s.method.code all) (is_leader s q) (branch_copies s i.place op n q) (copies s (After i.place op) q ++ loads s (under s i.place n)) (taken-suits s.method.code all s small i.place op n q)
         (Each-append (IsItem s.method.code all) (copies s (After i.place op) q) (loads s (under s i.place n)) (copies-suit s.method.code all s small (After i.place op) q) (loads-suit s.method.code all s small (under s i.place n))))
         (fall-suits q)
 
@@ -190,7 +190,7 @@ module _ (all : List Item) (s : Source) (small : (h : Home) → register s h < 2
     stubs-suit-from n k [] h = tt
     stubs-suit-from n k (t ∷ ts) h =
         Each-append (IsItem s.method.code all) (stub s i.place op n k t) (stubs_of s i.place op n (suc k) ts)
-        (stub-suits (place t) (stub_label i.place k) (taken s i.place op n (place t)) (taken-suits s.method.code all s small i.place op n (place t)) (h 0 t refl))
+        (stub-suits (place t) (stub_label i.place k) (branch_copies s i.place op n (place t)) (taken-suits s.method.code all s small i.place op n (place t)) (h 0 t refl))
         (stubs-suit-from n (suc k) ts (λ j u at. h (suc j) u at))
 
     pub stubs-by-suit : (n : Option ℕ) → Each (IsItem s.method.code all) (stubs_by s i op n)
@@ -249,19 +249,19 @@ module _ (all : List Item) (s : Source) (small : (h : Home) → register s h < 2
         by None at = tt
         by (Some f) at = by-operation (operation s i) refl (ap is_some at)
 
-    caught-suits : (n : ℕ) (h : Handler) → IsOnce all h.entry → Each (IsItem s.method.code all) (caught s n h)
+    caught-suits : (n : ℕ) (h : Handler) → IsOnce all h.entry → Each (IsItem s.method.code all) (catching_stub s n h)
     caught-suits n h once = (
       tt {0},
       Each-append (IsItem s.method.code all) (spill s (stack_homes s h.entry)) (copies s (Entry h.entry) h.entry ++ goto h.entry ∷ []) (spill-suits s.method.code all s small (stack_homes s h.entry))
           (Each-append (IsItem s.method.code all) (copies s (Entry h.entry) h.entry) (goto h.entry ∷ []) (copies-suit s.method.code all s small (Entry h.entry) h.entry) ((refl, once), tt)),
     )
 
-    caught-suit-from : (n : ℕ) (hs : List Handler) → Each (λ h. is_live s h ≡ true → IsOnce all h.entry) hs → Each (IsItem s.method.code all) (caught_from s n hs)
+    caught-suit-from : (n : ℕ) (hs : List Handler) → Each (λ h. is_live s h ≡ true → IsOnce all h.entry) hs → Each (IsItem s.method.code all) (catching_stubs s n hs)
     caught-suit-from n [] o = tt
     caught-suit-from n (h ∷ hs) o =
-        Each-append (IsItem s.method.code all) (if is_live s h then caught s n h else []) (caught_from s (suc n) hs) (by (is_live s h) refl) (caught-suit-from (suc n) hs o.1)
+        Each-append (IsItem s.method.code all) (if is_live s h then catching_stub s n h else []) (catching_stubs s (suc n) hs) (by (is_live s h) refl) (caught-suit-from (suc n) hs o.1)
       where
-        by : (b : Bool) → is_live s h ≡ b → Each (IsItem s.method.code all) (if b then caught s n h else [])
+        by : (b : Bool) → is_live s h ≡ b → Each (IsItem s.method.code all) (if b then catching_stub s n h else [])
         by true live = caught-suits n h (o.0 live)
         by false dead = tt
 
@@ -277,6 +277,6 @@ module _ (all : List Item) (s : Source) (small : (h : Home) → register s h < 2
         Each-append (IsItem s.method.code all) (copies s Start 0) _ (copies-suit s.method.code all s small Start 0)
         (Each-append (IsItem s.method.code all) (flat_map (group s) (listing s.method.code)) _ (each-of (group s) (listing s.method.code) (listing s.method.code) (λ x c. c) group-suits) (
           tt {0},
-          Each-append (IsItem s.method.code all) (flat_map (stubs s) (listing s.method.code)) (caught_from s 0 s.method.rec.handlers) (each-of (stubs s) (listing s.method.code) (listing s.method.code) (λ x c. c) stubs-suit)
+          Each-append (IsItem s.method.code all) (flat_map (stubs s) (listing s.method.code)) (catching_stubs s 0 s.method.rec.handlers) (each-of (stubs s) (listing s.method.code) (listing s.method.code) (λ x c. c) stubs-suit)
               (caught-suit-from 0 s.method.rec.handlers entries),
         ))

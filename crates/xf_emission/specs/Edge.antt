@@ -5,7 +5,7 @@ use Rattle.jc_ops.specs.declared.operation.Operation.TheVariants.{Store}
 use Rattle.jc_ops.specs.declared.operation.Sort.TheVariants.{Int}
 use Rattle.jc_decode.specs.declared.symbols.Item.{Item}
 use Rattle.xf_homes.specs.declared.home.Home.{Home}
-use Rattle.xf_homes.specs.Value.{value_at}
+use Rattle.xf_homes.specs.Value.{value_in_cells}
 use Rattle.xf_homes.specs.Home.{register_count, argument_types}
 use Rattle.xf_homes.specs.Walk.{has, same_home}
 use Rattle.xf_plan.specs.Source.{Source}
@@ -23,14 +23,14 @@ is_stored op x = false
 -- the home from which a local is copied: of its declared type at the method's start, and else of its type where the edge begins; a local
 -- that the instruction there stores is in its homes already
 abbrev pub home_before : Source → Origin → ℕ → Option Home
-home_before s Start x = home_of x (value_at (argument_types s.method.rec) x)
+home_before s Start x = home_of x (value_in_cells (argument_types s.method.rec) x)
 home_before s (After p op) x = if is_stored op x then None else local s p x
 home_before s (Entry p) x = local s p x
 
 -- the homes in which the local stands already: those that are needed where the edge begins, or the one from which it is copied
-abbrev pub held : Source → Origin → ℕ → Home → List Home
-held s (After p op) x from = needed s p x
-held s o x from = from ∷ []
+abbrev pub homes_held : Source → Origin → ℕ → Home → List Home
+homes_held s (After p op) x from = needed s p x
+homes_held s o x from = from ∷ []
 
 -- a copy to a home in which the value does not stand yet
 abbrev pub copy_new : Source → Home → List Home → Home → List Item
@@ -38,7 +38,7 @@ copy_new s from there to = if has there to then [] else copy s from to
 
 abbrev pub copies_from : Source → Origin → ℕ → ℕ → Option Home → List Item
 copies_from s o q x None = []
-copies_from s o q x (Some from) = flat_map (copy_new s from (held s o x from)) (needed s q x)
+copies_from s o q x (Some from) = flat_map (copy_new s from (homes_held s o x from)) (needed s q x)
 
 -- the copies of local x, on an edge that leads to the place q
 unfoldable pub local_copies : Source → Origin → ℕ → ℕ → List Item

@@ -51,14 +51,14 @@ abbrev pub is_live : Source → Handler → Bool
 is_live s h = nat_lt (first_reached s h.start) h.end
 
 -- where it takes over: the caught object goes into the home of the entry's only cell
-abbrev pub caught : Source → ℕ → Handler → List Item
-caught s n h =
+abbrev pub catching_stub : Source → ℕ → Handler → List Item
+catching_stub s n h =
     Label (handler_label n) ∷ spill s (stack_homes s h.entry) ++ (copies s (Entry h.entry) h.entry ++ goto h.entry ∷ [])
 
 -- the stubs of live handlers, from the n-th on
-abbrev pub caught_from : Source → ℕ → List Handler → List Item
-caught_from s n [] = []
-caught_from s n (h ∷ hs) = (if is_live s h then caught s n h else []) ++ caught_from s (suc n) hs
+abbrev pub catching_stubs : Source → ℕ → List Handler → List Item
+catching_stubs s n [] = []
+catching_stubs s n (h ∷ hs) = (if is_live s h then catching_stub s n h else []) ++ catching_stubs s (suc n) hs
 
 -- what a live handler covers: from the group of the first reached place in its range to that of the first reached place after it, or to the
 -- end of all groups
@@ -83,7 +83,7 @@ items s =
     ++ (flat_map (group s) (listing s.method.code)
     ++ (Label (length s.method.code)
     ∷ flat_map (stubs s) (listing s.method.code)
-    ++ caught_from s 0 s.method.rec.handlers))
+    ++ catching_stubs s 0 s.method.rec.handlers))
 
 unfoldable pub ranges : Source → List Range
 ranges s = ranges_from s 0 s.method.rec.handlers

@@ -22,7 +22,7 @@ use Rattle.xf_plan.specs.Plan.{register, local, needed, stack_homes, is_leader, 
 use Rattle.xf_emission.specs.declared.origin.Origin.TheVariants.{After}
 use Rattle.xf_emission.specs.Move.{with_byte, load, store, copy, loads, spill}
 use Rattle.xf_emission.specs.Edge.{copies}
-use Rattle.xf_emission.specs.Jump.{branch, goto, has_under, place, taken, under}
+use Rattle.xf_emission.specs.Jump.{branch, goto, has_under, place, branch_copies, under}
 
 abbrev pub itself : Placed → List Item
 itself i = Plain i.insn ∷ []
@@ -40,14 +40,14 @@ increased s i None = itself i
 increased s i (Some h) = Plain (record i.insn { x = pos (register s h) }) ∷ []
 
 -- pop, or pop2 for an int
-abbrev pub popped : Sort → Item
-popped sorts.Int = Plain (record { op = 60; x = pos 0; y = pos 0; z = pos 0; len = 1 })
-popped _ = Plain (record { op = 59; x = pos 0; y = pos 0; z = pos 0; len = 1 })
+abbrev pub pop_item : Sort → Item
+pop_item sorts.Int = Plain (record { op = 60; x = pos 0; y = pos 0; z = pos 0; len = 1 })
+pop_item _ = Plain (record { op = 59; x = pos 0; y = pos 0; z = pos 0; len = 1 })
 
 -- a store into a local, into the first of the homes that are needed afterwards, and from there to the others
-abbrev pub stored : Source → Sort → List Home → List Item
-stored s letter [] = popped letter ∷ []
-stored s letter (h ∷ hs) = store s h ∷ flat_map (copy s h) hs
+abbrev pub store_to_homes : Source → Sort → List Home → List Item
+store_to_homes s letter [] = pop_item letter ∷ []
+store_to_homes s letter (h ∷ hs) = store s h ∷ flat_map (copy s h) hs
 
 -- a field of `this` is read or written as it stands where register 0 is the home of local 0 at the place
 abbrev pub stays : Source → Home → Bool
@@ -87,7 +87,7 @@ branch_by s i op (Some n) = branch s i op n
 unfoldable pub body : Source → Placed → Operation → List Item
 body s i (ops.Load _ x) = loaded s i (local s i.place x)
 body s i (ops.Increment width x amount) = increased s i (local s i.place x)
-body s i (ops.Store letter x) = stored s letter (needed s (i.place + i.insn.len) x)
+body s i (ops.Store letter x) = store_to_homes s letter (needed s (i.place + i.insn.len) x)
 body s i (ops.FieldRead f holders.This) = field_read s i (local s i.place 0)
 body s i (ops.FieldWrite f holders.This) = field_written s i f.kind (local s i.place 0)
 body s i (ops.Branch branches.Always) = gone s i.place (ops.Branch branches.Always) (first_place (targets s.method.code i))
@@ -103,7 +103,7 @@ fall s p op q = (if is_leader s q then spill s (stack_homes s q) else []) ++ cop
 -- stack again
 abbrev pub fall_over : Source → ℕ → Operation → ℕ → ℕ → List Item
 fall_over s p op n q =
-    if is_leader s q then taken s p op n q
+    if is_leader s q then branch_copies s p op n q
     else copies s (After p op) q ++ loads s (under s p n)
 
 abbrev pub fall_by : Source → ℕ → Operation → Option ℕ → ℕ → List Item

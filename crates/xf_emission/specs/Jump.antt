@@ -50,8 +50,8 @@ spill_if over s p n = if over then spill s (stack_homes s p) ++ loads s (operand
 -- ---- edges
 
 -- what has to be copied where the branch at p, with operands of n cells, is taken to q: cells, then locals
-unfoldable pub taken : Source → ℕ → Operation → ℕ → ℕ → List Item
-taken s p op n q = cell_copies s (under s p n) (stack_homes s q) ++ copies s (After p op) q
+unfoldable pub branch_copies : Source → ℕ → Operation → ℕ → ℕ → List Item
+branch_copies s p op n q = cell_copies s (under s p n) (stack_homes s q) ++ copies s (After p op) q
 
 -- the place of a target, which in a well-formed method is one
 abbrev pub place : ℤ → ℕ
@@ -63,7 +63,7 @@ label_by q stub (i ∷ is) = stub
 
 -- the k-th target: its own label where nothing has to be copied, and else that of a stub
 unfoldable pub lead : Source → ℕ → Operation → ℕ → ℕ → ℤ → ℕ
-lead s p op n k t = label_by (place t) (stub_label p k) (taken s p op n (place t))
+lead s p op n k t = label_by (place t) (stub_label p k) (branch_copies s p op n (place t))
 
 -- of targets from the k-th on
 abbrev pub leads : Source → ℕ → Operation → ℕ → ℕ → List ℤ → List ℕ
@@ -96,7 +96,7 @@ stub_of stub q (i ∷ is) = Label stub ∷ (i ∷ is) ++ goto q ∷ []
 
 -- the stub on the edge to the k-th target, where something has to be copied
 unfoldable pub stub : Source → ℕ → Operation → ℕ → ℕ → ℤ → List Item
-stub s p op n k t = stub_of (stub_label p k) (place t) (taken s p op n (place t))
+stub s p op n k t = stub_of (stub_label p k) (place t) (branch_copies s p op n (place t))
 
 -- of targets from the k-th on
 abbrev pub stubs_of : Source → ℕ → Operation → ℕ → ℕ → List ℤ → List Item

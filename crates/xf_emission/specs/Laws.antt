@@ -15,9 +15,9 @@ use Rattle.xf_homes.specs.Order.{AreHomes, register_sum}
 use Rattle.xf_homes.specs.Walk.{operands_of}
 use Rattle.xf_plan.specs.Source.{Source}
 use Rattle.xf_plan.specs.Plan.{depth, operation}
-use Rattle.xf_emission.specs.Jump.{handler_label, place, stub, stub_label, taken}
+use Rattle.xf_emission.specs.Jump.{handler_label, place, stub, stub_label, branch_copies}
 use Rattle.xf_emission.specs.Group.{group}
-use Rattle.xf_emission.specs.Emission.{caught, is_live, items, ranges}
+use Rattle.xf_emission.specs.Emission.{catching_stub, is_live, items, ranges}
 use Rattle.xf_emission.specs.Live.{KeepsLive}
 
 -- the labels of a rewritten method: those of the groups of reached instructions, that of the end, those of the stubs on edges where
@@ -32,7 +32,7 @@ pub data IsLabelOf (s : Source) : ℕ → Type 0 where
       → operation s i ≡ Ok op
       → operands_of s.world (Ok op) ≡ Some n
       → slice_get (targets s.method.code i) k ≡ Some t
-      → taken s i.place op n (place t) ≢ []
+      → branch_copies s i.place op n (place t) ≢ []
       → IsLabelOf s (stub_label i.place k)
   of_handler :
       {h : Handler} (n : ℕ) → slice_get s.method.rec.handlers n ≡ Some h → is_live s h ≡ true → IsLabelOf s (handler_label n)
@@ -89,14 +89,14 @@ StubsStand =
     → operation s i ≡ Ok op
     → operands_of s.world (Ok op) ≡ Some n
     → slice_get (targets s.method.code i) k ≡ Some t
-    → taken s i.place op n (place t) ≢ []
+    → branch_copies s i.place op n (place t) ≢ []
     → StubStands s i op n k t
 
 -- and so does that of a live handler
 pub record HandlerStands (s : Source) (n : ℕ) (h : Handler) : Type 0 where
   pub before : List Item
   pub after : List Item
-  pub parts : items s ≡ before ++ (caught s n h ++ after)
+  pub parts : items s ≡ before ++ (catching_stub s n h ++ after)
   pub at : place_of (handler_label n) (items s) ≡ length (filter is_instruction before)
 
 abbrev pub HandlersStand : Type 0

@@ -28,13 +28,13 @@ use Rattle.vm_step.specs.Methods.{code_at, max_stack_of}
 use Rattle.vm_step.specs.Raising.{Outcome, running}
 use Rattle.vm_step.specs.Run.{Runs}
 use Rattle.vm_step.proofs.Running.{continues-on}
-use Rattle.vm_sound.specs.Frames.{least_types, types_in}
+use Rattle.vm_sound.specs.Frames.{least_types, types_of_frame}
 use Rattle.vm_alike.specs.Alike.{renamed_cell}
 use Rattle.xf_homes.specs.declared.home.Home.{Home}
 use Rattle.xf_homes.specs.Home.{KeepsStack, register_count}
 use Rattle.xf_homes.specs.Laws.{HasRegister}
 use Rattle.xf_homes.specs.Order.{register_sum}
-use Rattle.xf_homes.specs.Value.{width}
+use Rattle.xf_homes.specs.Value.{type_width}
 use Rattle.xf_homes.proofs.Meeting.{value-inside}
 use Rattle.xf_plan.specs.Source.{Source}
 use Rattle.xf_plan.specs.Plan.{stack_homes, is_leader, needed, operation}
@@ -107,8 +107,8 @@ module _ (v w : Linked) (s : Source) (place : ℕ → ℕ) (laid : IsLaidIn v w 
         classes = sym classes ∙ ap (λ (u : Linked). u.classes) (sym laid.world);
         typed =
             subst (λ (os : List (Object Cell)). At s.frames (top z).place
-            (FrameBelow w.classes (types_in w.classes Top (map (λ (o : Object Cell). o.kind) os) (top z)))) (sym heap)
-            (subst (λ c. At s.frames (top z).place (FrameBelow c (types_in c Top (kinds z) (top z)))) classes typed.below);
+            (FrameBelow w.classes (types_of_frame w.classes Top (map (λ (o : Object Cell). o.kind) os) (top z)))) (sym heap)
+            (subst (λ c. At s.frames (top z).place (FrameBelow c (types_of_frame c Top (kinds z) (top z)))) classes typed.below);
         count = of.count;
         room = omega (arith, own, method);
       }
@@ -120,7 +120,7 @@ module _ (v w : Linked) (s : Source) (place : ℕ → ℕ) (laid : IsLaidIn v w 
       by :
           (o : Option Types)
           → IsSomeAnd o (IsFit s.method)
-          → IsSomeAnd o (FrameBelow v.classes (types_in v.classes Top (kinds z) (top z)))
+          → IsSomeAnd o (FrameBelow v.classes (types_of_frame v.classes Top (kinds z) (top z)))
           → length (top z).stack ≤ s.method.rec.max_stack
       by None fit below = absurd fit
       by (Some f) fit below =
@@ -179,9 +179,9 @@ module _ (v w : Linked) (s : Source) (place : ℕ → ℕ) (laid : IsLaidIn v w 
           (λ h among. more h (needed-local q x h to_q among)
           (among-each (HoldsValue s f.registers g) (needed s q x) h (holds.stored x e) among));
       others = λ x.
-          each-among (λ h. ((j : ℕ) → j < width h.ty → is_stored op (h.slot + j) ≡ false) → HoldsValue s f.registers k h) (needed s p x)
+          each-among (λ h. ((j : ℕ) → j < type_width h.ty → is_stored op (h.slot + j) ≡ false) → HoldsValue s f.registers k h) (needed s p x)
           (λ h among free. more h (needed-local p x h from_p among)
-          (among-each (λ h. ((j : ℕ) → j < width h.ty → is_stored op (h.slot + j) ≡ false) → HoldsValue s f.registers g h)
+          (among-each (λ h. ((j : ℕ) → j < type_width h.ty → is_stored op (h.slot + j) ≡ false) → HoldsValue s f.registers g h)
           (needed s p x) h (holds.others x) among free));
     }
 

@@ -24,7 +24,7 @@ use Rattle.jc_base.specs.declared.ty.Ty.TheVariants.{Top}
 use Rattle.jc_base.proofs.Eaching.{Each-weaker}
 use Rattle.jc_decode.proofs.Elements.{Contains-slice_get}
 use Rattle.vm_sound.proofs.Going.{jumps-on}
-use Rattle.vm_sound.specs.Frames.{least_types, types_in}
+use Rattle.vm_sound.specs.Frames.{least_types, types_of_frame}
 use Rattle.vm_store.specs.declared.cell.Cell.{Cell}
 use Rattle.vm_store.specs.Cells.{tagged}
 use Rattle.vm_store.specs.Objects.{kinds}
@@ -56,7 +56,7 @@ use Rattle.xf_emission.specs.declared.origin.Origin.TheVariants.{After}
 use Rattle.xf_emission.specs.Edge.{is_stored}
 use Rattle.xf_emission.specs.Emission.{items}
 use Rattle.xf_emission.specs.Group.{body, fall, fall_by, fall_over, fallen}
-use Rattle.xf_emission.specs.Jump.{goto, has_under, jump_to, label_by, lead, place as place_named, stub, stub_label, stub_of, taken, under}
+use Rattle.xf_emission.specs.Jump.{goto, has_under, jump_to, label_by, lead, place as place_named, stub, stub_label, stub_of, branch_copies, under}
 use Rattle.xf_typing.specs.Edges.{AreMatched, CellsFillStack, ForksMatch, LeadsTo, NeededHaveHomes, leads_after, more_matched, none_matched}
 use Rattle.vm_sound.proofs.Branches.{targets-are}
 use Rattle.xf_held.specs.Edges.{CellsAreFew, CellsRun, CopiesAreFew, EdgesRun, HoldsAfter, KeptStacksStay, LeadersLoad, StacksSpill}
@@ -205,18 +205,18 @@ module _
           → Contains (targets s.method.code i) t
           → slice_get (targets s.method.code i) k ≡ Some t
           → IsTargetPlace s.method.code t
-          → place_of (label_by (place_named t) (stub_label i.place k) (taken s i.place op n (place_named t))) (items s) < length (steps_of s)
+          → place_of (label_by (place_named t) (stub_label i.place k) (branch_copies s i.place op n (place_named t))) (items s) < length (steps_of s)
       by (negsuc r) c found is = absurd is
       by (pos q) c found is =
           let there : IsReached s.method q = follows stands (some-reached v w s place laid i.place reached) (jumped c) in
-          named (taken s i.place op n q) refl there found
+          named (branch_copies s i.place op n q) refl there found
         where
           named :
               (ts : List Item)
-              → taken s i.place op n q ≡ ts
+              → branch_copies s i.place op n q ≡ ts
               → IsReached s.method q
               → slice_get (targets s.method.code i) k ≡ Some (pos q)
-              → place_of (label_by q (stub_label i.place k) (taken s i.place op n q)) (items s) < length (steps_of s)
+              → place_of (label_by q (stub_label i.place k) (branch_copies s i.place op n q)) (items s) < length (steps_of s)
           named [] e there found =
               let lt = group-inside v w s place laid stand follow q there in
               subst (λ us. place_of (label_by q (stub_label i.place k) us) (items s) < length (steps_of s)) (sym e) lt
@@ -243,8 +243,8 @@ module _
       let k = fill s laid.world laid.planned q g.0 g.1 (leader-keeps v w s place laid q leader) in
       let zero_cells : register_sum (stack_homes s q) ≡ 0 = ap register_sum none in
       let filled = k.fill in
-      let below : FrameBelow v.classes (types_in v.classes Top (kinds y) (top y)) g.0 =
-      subst (λ o. IsSomeAnd o (FrameBelow v.classes (types_in v.classes Top (kinds y) (top y)))) g.1 typed.below in
+      let below : FrameBelow v.classes (types_of_frame v.classes Top (kinds y) (top y)) g.0 =
+      subst (λ o. IsSomeAnd o (FrameBelow v.classes (types_of_frame v.classes Top (kinds y) (top y)))) g.1 typed.below in
       let one = same-count v.classes below.stack in
       let two : length (least_types v.classes Top (kinds y) (top y).stack) ≡ length (top y).stack = length-map (top y).stack _ in
       nil_from_length (top y).stack (omega (arith, zero_cells, filled, one, two))

@@ -37,7 +37,7 @@ use Rattle.vm_alike.specs.Alike.{StayAlike, renamed_cell}
 use Rattle.vm_alike.specs.Laws.{StepsAreAlike}
 use Rattle.xf_homes.specs.declared.home.Home.{Home}
 use Rattle.xf_homes.specs.Laws.{HasRegister, HomesServe, NeededAreKept, Serve}
-use Rattle.xf_homes.specs.Value.{value_at, width}
+use Rattle.xf_homes.specs.Value.{value_in_cells, type_width}
 use Rattle.xf_landed.specs.Apart.{apart_from_code}
 use Rattle.xf_landed.specs.Laws.{OperationsAreKept}
 use Rattle.xf_plan.specs.Source.{Source}
@@ -104,7 +104,7 @@ number-type widths.Int _ b e f = absurd (cc)
 some-of : (a b : Ty) → Some a ≡ Some b → a ≡ b
 some-of a b e = cc
 
-wide-or : (ty : Ty) → (width ty ≡ 1) ⊎ (ty ≡ IntHigh)
+wide-or : (ty : Ty) → (type_width ty ≡ 1) ⊎ (ty ≡ IntHigh)
 wide-or IntHigh = inr refl
 wide-or _ = inl refl
 
@@ -115,10 +115,10 @@ module _
   pub apart-or-same :
       (y : ℕ) (k : Home)
       → IsAmong k (needed s p y)
-      → (k ≡ record { slot = x; ty = home.ty }) ⊎ AreApart k.slot (width k.ty) x (width home.ty)
+      → (k ≡ record { slot = x; ty = home.ty }) ⊎ AreApart k.slot (type_width k.ty) x (type_width home.ty)
   apart-or-same y k among = by (nat_lt k.slot x) (nat_lt x k.slot) refl refl
     where
-      below : (u : Ty) × (value_at home.frame.regs k.slot ≡ Some u) × Below v.classes u k.ty
+      below : (u : Ty) × (value_in_cells home.frame.regs k.slot ≡ Some u) × Below v.classes u k.ty
       below =
           let m = needs s laid.world laid.planned p y home.frame k home.frame_is among in
           value-below v.classes types home.frame.regs m.types (subst (λ (r : Linked). CellsBelow r.classes home.frame.regs m.types) laid.world m.above)
@@ -134,20 +134,20 @@ module _
           (a b : Bool)
           → nat_lt k.slot x ≡ a
           → nat_lt x k.slot ≡ b
-          → (k ≡ record { slot = x; ty = home.ty }) ⊎ AreApart k.slot (width k.ty) x (width home.ty)
+          → (k ≡ record { slot = x; ty = home.ty }) ⊎ AreApart k.slot (type_width k.ty) x (type_width home.ty)
       by true b e f = inr (before (wide-or k.ty))
         where
           lt : k.slot < x
           lt = grind (arith, nat_tests, e)
 
-          before : (width k.ty ≡ 1) ⊎ (k.ty ≡ IntHigh) → AreApart k.slot (width k.ty) x (width home.ty)
+          before : (type_width k.ty ≡ 1) ⊎ (k.ty ≡ IntHigh) → AreApart k.slot (type_width k.ty) x (type_width home.ty)
           before (inl one) = inl (omega (arith, one, lt))
           before (inr high) = next (nat_lt (k.slot + 1) x) refl
             where
-              next : (c : Bool) → nat_lt (k.slot + 1) x ≡ c → AreApart k.slot (width k.ty) x (width home.ty)
+              next : (c : Bool) → nat_lt (k.slot + 1) x ≡ c → AreApart k.slot (type_width k.ty) x (type_width home.ty)
               next true g =
                   let far : k.slot + 1 < x = grind (arith, nat_tests, g) in
-                  let two : width k.ty ≡ 2 = ap width high in
+                  let two : type_width k.ty ≡ 2 = ap type_width high in
                   inl (omega (arith, far, two))
               next false g =
                   let near : x ≤ k.slot + 1 = grind (arith, nat_tests, g) in
@@ -165,14 +165,14 @@ module _
           lt : x < k.slot
           lt = grind (arith, nat_tests, f)
 
-          after : (width home.ty ≡ 1) ⊎ (home.ty ≡ IntHigh) → AreApart k.slot (width k.ty) x (width home.ty)
+          after : (type_width home.ty ≡ 1) ⊎ (home.ty ≡ IntHigh) → AreApart k.slot (type_width k.ty) x (type_width home.ty)
           after (inl one) = inr (omega (arith, one, lt))
           after (inr high) = next (nat_lt (x + 1) k.slot) refl
             where
-              next : (c : Bool) → nat_lt (x + 1) k.slot ≡ c → AreApart k.slot (width k.ty) x (width home.ty)
+              next : (c : Bool) → nat_lt (x + 1) k.slot ≡ c → AreApart k.slot (type_width k.ty) x (type_width home.ty)
               next true g =
                   let far : x + 1 < k.slot = grind (arith, nat_tests, g) in
-                  let two : width home.ty ≡ 2 = ap width high in
+                  let two : type_width home.ty ≡ 2 = ap type_width high in
                   inr (omega (arith, far, two))
               next false g =
                   let near : k.slot ≤ x + 1 = grind (arith, nat_tests, g) in
@@ -185,7 +185,7 @@ module _
       by false false e f =
           let same : k.slot ≡ x = grind (arith, nat_tests, e, f) in
           let u : below.0 ≡ home.ty =
-          some-of below.0 home.ty (sym below.1 ∙ (ap (value_at home.frame.regs) same ∙ home.value)) in
+          some-of below.0 home.ty (sym below.1 ∙ (ap (value_in_cells home.frame.regs) same ∙ home.value)) in
           let le : Below v.classes home.ty k.ty = subst (λ a. Below v.classes a k.ty) u below.2 in
           let loads = loads-same v.classes types home.ty k.ty le
           (All-slice_get IsNotBottom home.frame.regs x home.ty home.full own.first) (kept-not-top k.ty kept) in
@@ -198,7 +198,7 @@ pub still-held :
     (amount : ℤ) (h : Home)
     → h.slot ≡ x
     → register s h ≡ r
-    → width h.ty ≡ (footprint v (ops.Increment counted x amount)).written
+    → type_width h.ty ≡ (footprint v (ops.Increment counted x amount)).written
     → HasRegister s.homes h
     → Serve s.world s.method s.frames s.homes
     → (k : Home)
@@ -206,12 +206,12 @@ pub still-held :
     → (z t y u : State Cell)
     → StayAlike e (footprint v (ops.Increment counted x amount)) (footprint v (ops.Increment counted r amount)) z y t u
     → HoldsValue s (top z).registers (top t) h
-    → (k ≡ h) ⊎ AreApart k.slot (width k.ty) x (width h.ty)
+    → (k ≡ h) ⊎ AreApart k.slot (type_width k.ty) x (type_width h.ty)
     → HoldsValue s (top z).registers (top t) k
     → HoldsValue s (top y).registers (top u) k
 still-held stay written v e s x r counted amount h slot_is register_is wide_is has serve k own z t y u stays held apart holds = by apart
   where
-    sizes : width h.ty ≡ (footprint v (ops.Increment counted r amount)).written
+    sizes : type_width h.ty ≡ (footprint v (ops.Increment counted r amount)).written
     sizes = wide_is ∙ (written-width v counted x amount ∙ sym (written-width v counted r amount))
 
     own-register : (j : Home) (hj : HasRegister s.homes j) → register s j ≡ hj.0
@@ -223,12 +223,12 @@ still-held stay written v e s x r counted amount h slot_is register_is wide_is h
         (written-first v counted x amount ∙ sym slot_is) (written-first v counted r amount ∙ sym register_is) (sym wide_is) held.known
         held.there
 
-    by : (k ≡ h) ⊎ AreApart k.slot (width k.ty) x (width h.ty) → HoldsValue s (top y).registers (top u) k
+    by : (k ≡ h) ⊎ AreApart k.slot (type_width k.ty) x (type_width h.ty) → HoldsValue s (top y).registers (top u) k
     by (inl same) = subst (HoldsValue s (top y).registers (top u)) (sym same) rewritten-home
     by (inr slots_apart) = registers-apart (serve.apart k h own.0 has.0 own.1 has.1)
       where
         registers-apart :
-            (k ≡ h) ⊎ (own.0 + width k.ty ≤ has.0) ⊎ (has.0 + width h.ty ≤ own.0)
+            (k ≡ h) ⊎ (own.0 + type_width k.ty ≤ has.0) ⊎ (has.0 + type_width h.ty ≤ own.0)
             → HoldsValue s (top y).registers (top u) k
         registers-apart (inl same) = subst (HoldsValue s (top y).registers (top u)) (sym same) rewritten-home
         registers-apart (inr far) =
@@ -238,13 +238,13 @@ still-held stay written v e s x r counted amount h slot_is register_is wide_is h
             let second = written-first v counted r amount in
             stay (footprint v (ops.Increment counted x amount)) (footprint v (ops.Increment counted r amount)) z y t u s k stays.first
             stays.second
-            (subst (λ b. AreApart k.slot (width k.ty) b (footprint v (ops.Increment counted x amount)).written) (sym first)
-            (subst (AreApart k.slot (width k.ty) x) wide_is slots_apart))
-            (subst (λ b. AreApart (register s k) (width k.ty) b (footprint v (ops.Increment counted r amount)).written)
+            (subst (λ b. AreApart k.slot (type_width k.ty) b (footprint v (ops.Increment counted x amount)).written) (sym first)
+            (subst (AreApart k.slot (type_width k.ty) x) wide_is slots_apart))
+            (subst (λ b. AreApart (register s k) (type_width k.ty) b (footprint v (ops.Increment counted r amount)).written)
             (sym (second ∙ sym register_is))
-            (subst (AreApart (register s k) (width k.ty) (register s h)) sizes
-            (subst (λ b. AreApart b (width k.ty) (register s h) (width h.ty)) (sym one)
-            (subst (λ b. AreApart own.0 (width k.ty) b (width h.ty)) (sym two) far)))) holds
+            (subst (AreApart (register s k) (type_width k.ty) (register s h)) sizes
+            (subst (λ b. AreApart b (type_width k.ty) (register s h) (type_width h.ty)) (sym one)
+            (subst (λ b. AreApart own.0 (type_width k.ty) b (type_width h.ty)) (sym two) far)))) holds
 
 module _
     (v : Linked) (alike_steps : StepsAreAlike v) (operations : OperationsAreKept) (stand : GroupsStandAtSteps) (follow : GroupsFollow)
@@ -289,7 +289,7 @@ module _
       (next-place v w s place laid stand follow i op b.stands b.reached b.does count refl)) in
       let held : HoldsValue s (top z).registers (top t) h =
       among-each (HoldsValue s (top z).registers (top t)) (needed s i.place x) h (b.held.locals x) home.among in
-      let wide_enough : width h.ty ≡ (footprint v op).written =
+      let wide_enough : type_width h.ty ≡ (footprint v op).written =
       wide home.ty ∙ (ap size home.letter_is ∙ sym (written-width v counted x amount)) in
       let run = run_alike (renamed_cell (rename s place)) (rename s place) v w z t i there.instruction s h counted amount
       (alike v w s place laid (executed w laid.new) i op z t b g) agree held wide_enough in

@@ -14,7 +14,7 @@ use Rattle.jc_ops.specs.Sound.{OperationsAreDecided}
 use Rattle.jc_rules.specs.Demand.{SatisfiesAll}
 use Rattle.jc_rules.specs.Footprint.{footprint}
 use Rattle.jc_rules.specs.Rule.{demands}
-use Rattle.vm_sound.specs.Frames.{types_in}
+use Rattle.vm_sound.specs.Frames.{types_of_frame}
 use Rattle.vm_sound.proofs.Passing.{passes-before}
 use Rattle.vm_store.specs.declared.cell.Cell.{Cell}
 use Rattle.vm_store.specs.Cells.{tagged}
@@ -91,7 +91,7 @@ module _
 
   abbrev Asks : Operation → List Cell → Type 0
   Asks op stack =
-      SatisfiesAll v.classes (types_in v.classes Bottom (map (λ (o : Object Cell). o.kind) heap) (top (at stack))) (demands v op)
+      SatisfiesAll v.classes (types_of_frame v.classes Bottom (map (λ (o : Object Cell). o.kind) heap) (top (at stack))) (demands v op)
 
   -- what is done with the whole stack, and with the operands alone
   data Both (op : Operation) (n : ℕ) (stack : List Cell) : Type 0 where

@@ -41,7 +41,7 @@ use Rattle.xf_emission.specs.declared.origin.Origin.TheVariants.{After}
 use Rattle.xf_emission.specs.Edge.{copies, is_stored}
 use Rattle.xf_emission.specs.Emission.{items}
 use Rattle.xf_emission.specs.Group.{body, fall, fall_by, fall_over, fallen}
-use Rattle.xf_emission.specs.Jump.{branch, has_under, jump_to, lead, leads, operands, spill_if, taken, under}
+use Rattle.xf_emission.specs.Jump.{branch, has_under, jump_to, lead, leads, operands, spill_if, branch_copies, under}
 use Rattle.xf_emission.specs.Move.{loads, spill}
 use Rattle.xf_typing.specs.Edges.{CellsFillStack, ForksAreCut, ForksMatch, IsForkedAt, LeadsTo, NeededHaveHomes, leads_after}
 use Rattle.xf_typing.proofs.Forking.{each-left}
@@ -380,20 +380,20 @@ module _
 
       into-leader : is_leader s q' ≡ true → ComesWithin w 0 1018 x (ComesToGroup s place y x)
       into-leader leader =
-          let are : fall_over s i.place op n q' ≡ taken s i.place op n q' =
-          ap (λ b. if b then taken s i.place op n q' else copies s (After i.place op) q' ++ loads s (under s i.place n)) leader in
+          let are : fall_over s i.place op n q' ≡ branch_copies s i.place op n q' =
+          ap (λ b. if b then branch_copies s i.place op n q' else copies s (After i.place op) q' ++ loads s (under s i.place n)) leader in
           let pairs = match s laid.world laid.planned i op n q' cut-here.0 stands cut-here.1 does own-some successor leader in
           let g = group-is in
           let size = ap count_of are in
           taken-falls v w s place laid stand follow executed needs fill cells_run edges few_copies few_cells i.place n op y x y-typed equal of
           leader to-next from-p pairs bare held-y before (m + 1)
-          (stand-as s (m + 1) (fall_over s i.place op n q') (taken s i.place op n q') are fallen-here) at (omega (arith, g, size))
+          (stand-as s (m + 1) (fall_over s i.place op n q') (branch_copies s i.place op n q') are fallen-here) at (omega (arith, g, size))
 
       into-other : is_leader s q' ≡ false → ComesWithin w 0 1018 x (ComesToGroup s place y x)
       into-other other =
           let cs = copies s (After i.place op) q' in
           let ls = loads s (under s i.place n) in
-          let are : fall_over s i.place op n q' ≡ cs ++ ls = ap (λ b. if b then taken s i.place op n q' else cs ++ ls) other in
+          let are : fall_over s i.place op n q' ≡ cs ++ ls = ap (λ b. if b then branch_copies s i.place op n q' else cs ++ ls) other in
           let st = stand-as s (m + 1) (fall_over s i.place op n q') (cs ++ ls) are fallen-here in
           let moves_too = copies-move s (After i.place op) q' in
           let size : count_of cs ≡ length (insns cs) = count-moves cs moves_too in

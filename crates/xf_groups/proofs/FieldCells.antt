@@ -25,10 +25,10 @@ use Rattle.vm_store.specs.declared.cell.Cell.{Cell}
 use Rattle.vm_store.specs.declared.kind.ObjectKind.{ObjectKind}
 use Rattle.vm_store.specs.Typing.{least_type}
 use Rattle.vm_store.specs.Cells.{tagged, word_of}
-use Rattle.vm_store.specs.Laws.{IsFilled}
+use Rattle.vm_store.specs.Laws.{HasContent}
 use Rattle.vm_store.specs.Objects.{write_object}
 use Rattle.vm_store.specs.State.{State, Object}
-use Rattle.vm_store.specs.Value.{kept, value_on}
+use Rattle.vm_store.specs.Value.{kept_value, value_on}
 use Rattle.vm_step.specs.Numbers.{handle_at}
 use Rattle.vm_step.specs.Values.{moved}
 use Rattle.vm_sound.specs.Frames.{least_types}

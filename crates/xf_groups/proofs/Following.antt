@@ -28,7 +28,7 @@ use Rattle.xf_emission.specs.declared.origin.Origin.TheVariants.{After}
 use Rattle.xf_emission.specs.Edge.{copies}
 use Rattle.xf_emission.specs.Move.{load, spill, with_byte}
 use Rattle.xf_emission.specs.Jump.{branch, goto, has_under, jump_to, leads, spill_if}
-use Rattle.xf_emission.specs.Group.{body, branch_by, fallen, field_read, field_written, first_place, gone, group, increased, itself, loaded, stays, stored, swap_words}
+use Rattle.xf_emission.specs.Group.{body, branch_by, fallen, field_read, field_written, first_place, gone, group, increased, itself, loaded, stays, store_to_homes, swap_words}
 use Rattle.xf_held.proofs.Loading.{step-place}
 use Rattle.xf_groups.specs.Laid.{IsLaidIn, body_at, count_of, group_at, steps_of}
 use Rattle.xf_groups.specs.Steps.{GroupsFollow, GroupsStandAtSteps}
@@ -50,7 +50,7 @@ module _ (s : Source) (i : Placed) where
   some-increased None = omega arith
   some-increased (Some h) = omega arith
 
-  some-stored : (letter : Sort) (hs : List Home) → 1 ≤ count_of (stored s letter hs)
+  some-stored : (letter : Sort) (hs : List Home) → 1 ≤ count_of (store_to_homes s letter hs)
   some-stored sorts.Int [] = omega arith
   some-stored sorts.Short [] = omega arith
   some-stored sorts.Reference [] = omega arith

@@ -20,7 +20,7 @@ use Rattle.jc_ops.specs.declared.operation.Operation.{Operation}
 use Rattle.jc_ops.specs.declared.operation.Operation.TheVariants as ops
 use Rattle.xf_homes.specs.declared.home.Home.{Home}
 use Rattle.xf_homes.specs.Home.{register_count}
-use Rattle.xf_homes.specs.Value.{value_at}
+use Rattle.xf_homes.specs.Value.{value_in_cells}
 use Rattle.xf_homes.specs.Walk.{operands_of}
 use Rattle.jc_base.specs.World.{Linked}
 use Rattle.xf_plan.specs.Source.{Source}
@@ -29,7 +29,7 @@ use Rattle.xf_emission.specs.declared.origin.Origin.TheVariants.{After}
 use Rattle.xf_emission.specs.Edge.{cell_copies, copies}
 use Rattle.xf_emission.specs.Emission.{items}
 use Rattle.xf_emission.specs.Group.{body, branch_by, itself}
-use Rattle.xf_emission.specs.Jump.{branch, operands_slot, first_label, goto, has_under, jump_to, label_by, lead, leads, place as place_named, spill_if, stub, stub_label, stub_of, taken, under}
+use Rattle.xf_emission.specs.Jump.{branch, operands_slot, first_label, goto, has_under, jump_to, label_by, lead, leads, place as place_named, spill_if, stub, stub_label, stub_of, branch_copies, under}
 use Rattle.xf_groups.specs.Laid.{count_of, steps_of}
 use Rattle.xf_groups.specs.Steps.{ItemsStandFrom}
 use Rattle.xf_groups.proofs.Standing.{step-at}
@@ -62,7 +62,7 @@ branch-alone s i op n e =
 
 cells-above : (slot : ℕ) (ts : List Ty) (i n : ℕ) → Each (λ (h : Home). slot ≤ h.slot) (cells_from slot ts i n)
 cells-above slot ts i zero = tt
-cells-above slot ts i (suc n) = by (value_at ts i) (cells-above slot ts (suc i) n)
+cells-above slot ts i (suc n) = by (value_in_cells ts i) (cells-above slot ts (suc i) n)
   where
     by :
         (o : Option Ty)
@@ -88,8 +88,8 @@ under-none s p n e =
     ∙ none-below (register_count s.method.rec) _ (cells-above (register_count s.method.rec) (stack_of (s.frames p)) 0 (depth s p))
 
 pub taken-is :
-    (s : Source) (p : ℕ) (op : Operation) (n q : ℕ) → has_under s p n ≡ false → taken s p op n q ≡ copies s (After p op) q
-unfolding taken
+    (s : Source) (p : ℕ) (op : Operation) (n q : ℕ) → has_under s p n ≡ false → branch_copies s p op n q ≡ copies s (After p op) q
+unfolding branch_copies
 taken-is s p op n q e = ap (λ hs. cell_copies s hs (stack_homes s q) ++ copies s (After p op) q) (under-none s p n e)
 
 -- ---- the step

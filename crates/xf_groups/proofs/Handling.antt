@@ -17,13 +17,13 @@ use Rattle.vm_store.specs.State.{State, Frame, top}
 use Rattle.xf_homes.specs.declared.home.Home.{Home}
 use Rattle.xf_homes.specs.Home.{asked_caught}
 use Rattle.xf_homes.specs.Laws.{NeededAreKept}
-use Rattle.xf_homes.specs.Value.{value_at}
+use Rattle.xf_homes.specs.Value.{value_in_cells}
 use Rattle.xf_homes.specs.Walk.{local_of}
 use Rattle.xf_plan.specs.Source.{Source}
 use Rattle.xf_plan.specs.Plan.{stack_homes, first_of, first_reached, home_of, is_leader, local, needed}
 use Rattle.xf_emission.specs.declared.origin.Origin.TheVariants.{Entry}
 use Rattle.xf_emission.specs.Edge.{copies}
-use Rattle.xf_emission.specs.Emission.{caught, is_live, items}
+use Rattle.xf_emission.specs.Emission.{catching_stub, is_live, items}
 use Rattle.xf_emission.specs.Jump.{goto, handler_label}
 use Rattle.xf_emission.specs.Move.{spill}
 use Rattle.xf_emission.proofs.Live.{IsFirst, is-first}
@@ -35,7 +35,7 @@ use Rattle.xf_held.proofs.Beside.{among-each}
 use Rattle.xf_groups.specs.Laid.{IsLaidIn}
 use Rattle.xf_groups.specs.Beside.{AreEqualBut, IsTypedAt}
 use Rattle.xf_groups.specs.Comes.{ComesToGroup, ComesWithin}
-use Rattle.xf_groups.specs.Laws.{IsCaught}
+use Rattle.xf_groups.specs.Laws.{IsCaughtInGroup}
 use Rattle.xf_groups.specs.Steps.{GroupsFollow, GroupsStandAtSteps, HandlersStandAtSteps, ItemsStandFrom}
 use Rattle.xf_groups.proofs.Arriving.{IsLocal, needed-local}
 use Rattle.xf_groups.proofs.Context.{reached-some}
@@ -92,7 +92,7 @@ module _
       ((kept s.method s.frames p x).all (record { slot = x; ty = ty })).1
       (refl, (suc n, asked_caught listed covers (by (s.frames h.entry) e)))
     where
-      by : (o : Option Types) → local_of o x ≡ Some ty → IsSomeAnd o (λ f. value_at f.regs x ≡ Some ty)
+      by : (o : Option Types) → local_of o x ≡ Some ty → IsSomeAnd o (λ f. value_in_cells f.regs x ≡ Some ty)
       by None e = absurd (cc)
       by (Some f) e = e
 
@@ -100,7 +100,7 @@ module _
       (z t : State Cell) (n p : ℕ) (h : Handler)
       → IsTypedAt v s z
       → AreEqualBut z t
-      → IsCaught s place n h p (top z) (top t)
+      → IsCaughtInGroup s place n h p (top z) (top t)
       → ComesWithin w 1 1000 t (ComesToGroup s place z t)
   handler-enters z t n p h typed equal c =
       let q : ℕ = (top z).place in

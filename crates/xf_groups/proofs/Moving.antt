@@ -13,7 +13,7 @@ use Rattle.xf_plan.specs.Source.{Source}
 use Rattle.xf_plan.specs.Plan.{needed}
 use Rattle.xf_emission.specs.declared.origin.Origin.{Origin}
 use Rattle.xf_emission.specs.Move.{copy, loads, spill, store}
-use Rattle.xf_emission.specs.Edge.{copies, copies_from, copy_new, held, home_before, local_copies, locals_copies}
+use Rattle.xf_emission.specs.Edge.{copies, copies_from, copy_new, homes_held, home_before, local_copies, locals_copies}
 use Rattle.xf_emission.specs.Emission.{items}
 use Rattle.xf_held.specs.Edges.{insns}
 use Rattle.xf_held.specs.Moves.{InstructionsStandFrom as StandAmong}
@@ -65,8 +65,8 @@ local-moves s o q x = by (home_before s o x)
     by : (from : Option Home) → AreMoves (copies_from s o q x from)
     by None = tt
     by (Some from) =
-        moves-flat (copy_new s from (held s o x from)) (needed s q x)
-        (λ to. moves-if (has (held s o x from) to) [] (copy s from to) tt tt)
+        moves-flat (copy_new s from (homes_held s o x from)) (needed s q x)
+        (λ to. moves-if (has (homes_held s o x from) to) [] (copy s from to) tt tt)
 
 locals-move : (s : Source) (o : Origin) (q x n : ℕ) → AreMoves (locals_copies s o q x n)
 locals-move s o q x zero = tt

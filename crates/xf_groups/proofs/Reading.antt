@@ -33,7 +33,7 @@ use Rattle.vm_alike.specs.Alike.{renamed_cell}
 use Rattle.vm_alike.specs.Laws.{StepsAreAlike}
 use Rattle.xf_homes.specs.declared.home.Home.{Home}
 use Rattle.xf_homes.specs.Home.{asked_here}
-use Rattle.xf_homes.specs.Value.{value_at, width}
+use Rattle.xf_homes.specs.Value.{value_in_cells, type_width}
 use Rattle.xf_homes.specs.Walk.{local_of}
 use Rattle.xf_plan.specs.Source.{Source}
 use Rattle.xf_plan.specs.Plan.{home_of, local, needed, operation, or_first, register}
@@ -71,7 +71,7 @@ pub record IsHomeOf (s : Source) (p x : ℕ) (letter : Sort) : Type 0 where
   pub among : IsAmong (record { slot = x; ty = ty }) (needed s p x)
   pub frame : Types
   pub frame_is : s.frames p ≡ Some frame
-  pub value : value_at frame.regs x ≡ Some ty
+  pub value : value_in_cells frame.regs x ≡ Some ty
   pub full : All IsNotBottom frame.regs
 
 -- what is loaded as a reference
@@ -91,7 +91,7 @@ module _
   -- the value in registers that are asked for
   record IsValue (f : Types) (x : ℕ) (letter : Sort) : Type 0 where
     ty : Ty
-    value : value_at f.regs x ≡ Some ty
+    value : value_in_cells f.regs x ≡ Some ty
     letter_is : letter_of ty ≡ letter
 
   value-is :
@@ -158,7 +158,7 @@ module _
             full = full;
             among =
                 ((kept s.method s.frames i.place x).all (record { slot = x; ty = k.ty })).1
-                (refl, (0, asked_here (subst (λ o. IsSomeAnd o (λ (g : Types). value_at g.regs x ≡ Some k.ty)) (sym e) k.value)));
+                (refl, (0, asked_here (subst (λ o. IsSomeAnd o (λ (g : Types). value_in_cells g.regs x ≡ Some k.ty)) (sym e) k.value)));
           }
         where
           ok-is : (a b : Operation) → ◌≡◌ {A = Result Operation RuleFault} (Ok a) (Ok b) → a ≡ b
@@ -205,7 +205,7 @@ module _
       (next-place v w s place laid stand follow i op b.stands b.reached b.does count refl)) in
       let held : HoldsValue s (top z).registers (top t) h =
       among-each (HoldsValue s (top z).registers (top t)) (needed s i.place x) h (b.held.locals x) home.among in
-      let wide_enough : width h.ty ≡ (footprint v op).given =
+      let wide_enough : type_width h.ty ≡ (footprint v op).given =
       wide home.ty ∙ (ap size home.letter_is ∙ sym (given-width v letter x)) in
       let run = run_alike (renamed_cell (rename s place)) (rename s place) v w z t i there.instruction s h letter
       (alike v w s place laid (executed w laid.new) i op z t b g) agree held wide_enough in
@@ -224,7 +224,7 @@ module _
             (λ k. refl) (called v i.insn op z) o p.0 p.2;
       }
 
-some-width : (ty : Ty) → 0 < width ty
+some-width : (ty : Ty) → 0 < type_width ty
 some-width IntHigh = omega arith
 some-width ty = omega arith
 

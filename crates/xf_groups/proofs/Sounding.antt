@@ -20,7 +20,7 @@ use Rattle.jc_ops.specs.declared.operation.Choice.{Choice}
 use Rattle.jc_ops.specs.declared.operation.Choice.TheVariants as choices
 use Rattle.jc_ops.specs.declared.operation.Operation.{Operation}
 use Rattle.jc_ops.specs.declared.operation.Operation.TheVariants as ops
-use Rattle.jc_ops.specs.Resolve.{Resolves, described, is_described, only, passes}
+use Rattle.jc_ops.specs.Resolve.{Resolves, described, is_described, only, passes_test}
 use Rattle.jc_ops.specs.Sound.{IsSound, IsChosen, IsCalleeOf, OperationsAreSound, receiver_count}
 use Rattle.xf_landed.specs.Apart.{apart_from_code, IsSameBut}
 use Rattle.xf_landed.specs.Laws.{MethodsAreKept, OperationsAreKept}
@@ -80,7 +80,7 @@ module _ (v w : Linked) (same : IsSameBut v w) (methods_kept : MethodsAreKept) (
   filter-same p q same (n ∷ ns) =
       ap (λ b. if b then n ∷ filter p ns else filter p ns) (same n) ∙ ap (λ rest. if q n then n ∷ rest else rest) (filter-same p q same ns)
 
-  passes-same : (c token : ℕ) (o p : Option MethodRec) → Alike o p → passes (is_described c token) o ≡ passes (is_described c token) p
+  passes-same : (c token : ℕ) (o p : Option MethodRec) → Alike o p → passes_test (is_described c token) o ≡ passes_test (is_described c token) p
   passes-same c token None None e = refl
   passes-same c token None (Some b) e = absurd (cc)
   passes-same c token (Some a) None e = absurd (cc)
@@ -92,9 +92,9 @@ module _ (v w : Linked) (same : IsSameBut v w) (methods_kept : MethodsAreKept) (
   described-same : (c token : ℕ) → described v.methods c token ≡ described w.methods c token
   unfolding described
   described-same c token =
-      filter-same (λ n. passes (is_described c token) (slice_get v.methods n)) (λ n. passes (is_described c token) (slice_get w.methods n))
+      filter-same (λ n. passes_test (is_described c token) (slice_get v.methods n)) (λ n. passes_test (is_described c token) (slice_get w.methods n))
       (λ n. passes-same c token (slice_get v.methods n) (slice_get w.methods n) (methods_kept v w n same)) (range_with_len 0 (length v.methods))
-      ∙ ap (λ k. filter (λ n. passes (is_described c token) (slice_get w.methods n)) (range_with_len 0 k)) count-same
+      ∙ ap (λ k. filter (λ n. passes_test (is_described c token) (slice_get w.methods n)) (range_with_len 0 k)) count-same
 
   -- ---- calls
 

@@ -25,18 +25,18 @@ use Rattle.vm_store.specs.declared.cell.Cell.TheVariants.{Empty}
 use Rattle.vm_store.specs.Cells.{tagged}
 use Rattle.vm_store.specs.Objects.{kinds}
 use Rattle.vm_store.specs.State.{State, Frame, IsRunning, entered, register_count, register_count_of, top}
-use Rattle.vm_sound.specs.Frames.{least_types, types_in}
+use Rattle.vm_sound.specs.Frames.{least_types, types_of_frame}
 use Rattle.vm_step.specs.Raising.{running}
 use Rattle.vm_alike.specs.Alike.{renamed_cell}
 use Rattle.xf_homes.specs.declared.home.Home.{Home}
 use Rattle.xf_homes.specs.Home.{argument_types, register_count as count_registers}
 use Rattle.xf_homes.specs.Order.{register_sum}
-use Rattle.xf_homes.specs.Value.{width}
+use Rattle.xf_homes.specs.Value.{type_width}
 use Rattle.xf_plan.specs.Source.{Source}
 use Rattle.xf_plan.specs.Plan.{stack_homes, cells_from, is_leader, needed, stack_of}
 use Rattle.xf_emission.specs.declared.origin.Origin.TheVariants.{Start}
 use Rattle.xf_emission.specs.Edge.{copies}
-use Rattle.xf_emission.specs.Emission.{caught_from, items, rewritten, stubs}
+use Rattle.xf_emission.specs.Emission.{catching_stubs, items, rewritten, stubs}
 use Rattle.xf_emission.specs.Group.{group}
 use Rattle.xf_emission.specs.Laws.{LabelsStandOnce, IsCode, of_place}
 use Rattle.xf_typing.specs.Edges.{CellsFillStack, NeededHaveHomes, leads_start}
@@ -58,7 +58,7 @@ use Rattle.xf_groups.proofs.Plain.{frames-are}
 module _ (s : Source) where
   -- what comes after the groups
   abbrev pub ending : List Item
-  ending = Label (length s.method.code) ∷ flat_map (stubs s) (listing s.method.code) ++ caught_from s 0 s.method.rec.handlers
+  ending = Label (length s.method.code) ∷ flat_map (stubs s) (listing s.method.code) ++ catching_stubs s 0 s.method.rec.handlers
 
   pub items-begin : items s ≡ copies s Start 0 ++ (flat_map (group s) (listing s.method.code) ++ ending)
   unfolding items
@@ -100,8 +100,8 @@ module _
   unfolding register_sum
   homes-counted =
       let are = laid.planned.homes in
-      let whole : register_sum s.homes ≡ sum_by (λ (h : Home). width h.ty) (are.arguments ++ are.others) = ap register_sum are.parts in
-      let both = sum_by-append (λ (h : Home). width h.ty) are.arguments are.others in
+      let whole : register_sum s.homes ≡ sum_by (λ (h : Home). type_width h.ty) (are.arguments ++ are.others) = ap register_sum are.parts in
+      let both = sum_by-append (λ (h : Home). type_width h.ty) are.arguments are.others in
       let own = are.filled in
       omega (arith, whole, both, own)
 
@@ -164,7 +164,7 @@ module _
       where
         by :
             (o : Option Types)
-            → IsSomeAnd o (FrameBelow v.classes (types_in v.classes Top (kinds z) (top z)))
+            → IsSomeAnd o (FrameBelow v.classes (types_of_frame v.classes Top (kinds z) (top z)))
             → stack_of o ≡ []
         by None below = absurd below
         by (Some f) below =

@@ -29,7 +29,7 @@ use Rattle.vm_store.specs.declared.cell.Cell.TheVariants.{Empty}
 use Rattle.vm_store.specs.declared.kind.ObjectKind.{ObjectKind}
 use Rattle.vm_store.specs.Typing.{least_type}
 use Rattle.vm_store.specs.Cells.{tagged}
-use Rattle.vm_store.specs.Laws.{IsFilled}
+use Rattle.vm_store.specs.Laws.{HasContent}
 use Rattle.vm_store.specs.Objects.{kinds}
 use Rattle.vm_store.specs.State.{State, Frame, Object, IsRunning, first_frame, nth, other_frames, top, with_place}
 use Rattle.vm_step.specs.Performed.{act}
@@ -39,7 +39,7 @@ use Rattle.vm_step.specs.Step.{Steps, performed, performs}
 use Rattle.vm_step.specs.Tests.{fault_before}
 use Rattle.vm_step.specs.Values.{with_store}
 use Rattle.vm_step.proofs.Running.{steps-one}
-use Rattle.vm_sound.specs.Frames.{least_types, types_in}
+use Rattle.vm_sound.specs.Frames.{least_types, types_of_frame}
 use Rattle.vm_erasure.specs.Erasure.{IsNoFault}
 use Rattle.vm_alike.specs.Alike.{renamed_cell}
 use Rattle.vm_alike.specs.Running.{Executes}
@@ -47,15 +47,15 @@ use Rattle.vm_alike.proofs.Asked.{passed-asks}
 use Rattle.vm_alike.proofs.Settling.{unless-none}
 use Rattle.xf_homes.specs.declared.home.Home.{Home}
 use Rattle.xf_homes.specs.Laws.{NeededAreKept}
-use Rattle.xf_homes.specs.Value.{width}
+use Rattle.xf_homes.specs.Value.{type_width}
 use Rattle.xf_plan.specs.Source.{Source}
 use Rattle.xf_plan.specs.Plan.{needed}
 use Rattle.xf_emission.specs.Edge.{is_stored}
-use Rattle.xf_emission.specs.Group.{body, stored}
+use Rattle.xf_emission.specs.Group.{body, store_to_homes}
 use Rattle.xf_emission.specs.Move.{copy}
 use Rattle.xf_held.specs.Edges.{insns, top_at, HoldsAfter, IsBeside}
 use Rattle.xf_held.specs.Held.{HoldsValue}
-use Rattle.xf_held.specs.Moves.{IsExecutable, letter_of, value_at}
+use Rattle.xf_held.specs.Moves.{IsExecutable, letter_of, value_in_register}
 use Rattle.xf_held.specs.Stores.{IsInHomes, HasLocal}
 use Rattle.xf_held.proofs.Valued.{asked_types, IsCellOf, CellsAt, cell-of, load-asked, load-filled}
 use Rattle.xf_held.proofs.Few.{same-value, one-few}
@@ -91,7 +91,7 @@ nth-is (d ∷ ds) (suc n) c e = nth-is ds n c e
 module _ (v : Linked) (world : IsWorld v) (decided : OperationsAreDecided v) (i : Placed) (letter : Sort) (x : ℕ) where
   -- what a store that meets no fault comes to
   record HasStored (f : Frame Cell) (below : List (Frame Cell)) (heap : List (Object Cell)) (statics : List Cell) (o : Outcome Cell) : Type 0 where
-    asked : SatisfiesAll v.classes (types_in v.classes Bottom (map (λ (q : Object Cell). q.kind) heap) f) (demands v (ops.Store letter x))
+    asked : SatisfiesAll v.classes (types_of_frame v.classes Bottom (map (λ (q : Object Cell). q.kind) heap) f) (demands v (ops.Store letter x))
     comes :
         o
         ≡ running (with_place (with_store tagged letter x (record { frames = f ∷ below; heap = heap; statics = statics })) (i.place + i.insn.len))
@@ -121,7 +121,7 @@ module _ (v : Linked) (world : IsWorld v) (decided : OperationsAreDecided v) (i 
 module _ (t : ClassTable) (ks : List ObjectKind) (x : ℕ) where
   -- the value goes from the stack into the registers
   pub record Put (letter : Sort) (registers stack after rest : List Cell) : Type 0 where
-    pub split : stack ≡ value_at letter x after ++ rest
+    pub split : stack ≡ value_in_register letter x after ++ rest
     pub value : CellsAt t ks after x (asked_types t letter)
     pub others : (n : ℕ) → is_stored (ops.Store letter x) n ≡ false → slice_get after n ≡ slice_get registers n
     pub count : length after ≡ length registers
@@ -204,7 +204,7 @@ module _ (t : ClassTable) (ks : List ObjectKind) (x : ℕ) where
   -- a cell that is asked for, in which something was stored
   cell-on :
       (stack : List Cell) (n : ℕ) (ty : Ty) → IsSomeAnd (slice_get (least_types t Bottom ks stack) n) (λ u. Below t u ty)
-      → ((c : Cell) → slice_get stack n ≡ Some c → IsFilled c) → IsSomeAnd (slice_get stack n) (IsCellOf t ks ty)
+      → ((c : Cell) → slice_get stack n ≡ Some c → HasContent c) → IsSomeAnd (slice_get stack n) (IsCellOf t ks ty)
   cell-on stack n ty h filled =
       by (slice_get stack n) refl (subst (λ o. IsSomeAnd o (λ u. Below t u ty)) (slice_get-map (least_type t Bottom ks) stack n) h)
     where
@@ -228,7 +228,7 @@ copies-are-moves : (s : Source) (h : Home) (ks : List Home) → AreMoves (flat_m
 copies-are-moves s h [] = tt
 copies-are-moves s h (k ∷ ks) = moves-both (copy s h k) (flat_map (copy s h) ks) tt (copies-are-moves s h ks)
 
-stored-moves : (s : Source) (letter : Sort) (hs : List Home) → AreMoves (stored s letter hs)
+stored-moves : (s : Source) (letter : Sort) (hs : List Home) → AreMoves (store_to_homes s letter hs)
 stored-moves s sorts.Reference [] = tt
 stored-moves s sorts.Short [] = tt
 stored-moves s sorts.Int [] = tt
@@ -238,7 +238,7 @@ copies-few : (s : Source) (h : Home) (ks : List Home) → length (insns (flat_ma
 copies-few s h [] = omega arith
 copies-few s h (k ∷ ks) = omega (arith, copies-few s h ks)
 
-stored-few : (s : Source) (letter : Sort) (hs : List Home) → length hs ≤ 255 → (1 ≤ length (insns (stored s letter hs))) × (length (insns (stored s letter hs)) ≤ 600)
+stored-few : (s : Source) (letter : Sort) (hs : List Home) → length hs ≤ 255 → (1 ≤ length (insns (store_to_homes s letter hs))) × (length (insns (store_to_homes s letter hs)) ≤ 600)
 stored-few s sorts.Reference [] le = (omega arith, omega arith)
 stored-few s sorts.Short [] le = (omega arith, omega arith)
 stored-few s sorts.Int [] le = (omega arith, omega arith)
@@ -274,7 +274,7 @@ module _
     ty_z = typed v w l s laid.world laid.planned f.place f t beside_z
 
     -- something was stored in each cell of the stack
-    filled : (n : ℕ) (c : Cell) → slice_get f.stack n ≡ Some c → IsFilled c
+    filled : (n : ℕ) (c : Cell) → slice_get f.stack n ≡ Some c → HasContent c
     filled n c e =
         let here : slice_get (least_types w.classes Top (kinds t) f.stack) n ≡ Some (least_type w.classes Top (kinds t) c) =
         slice_get-map (least_type w.classes Top (kinds t)) f.stack n ∙ ap (option_map (least_type w.classes Top (kinds t))) e in
@@ -321,16 +321,16 @@ module _
       order_w : IsOrderOfTypes w.classes
       order_w = types v w l s laid.world laid.planned f.place f t beside_z
 
-      stack_t : (top t).stack ≡ value_at letter x after ++ map (renamed_cell (rename s place)) rest
+      stack_t : (top t).stack ≡ value_in_register letter x after ++ map (renamed_cell (rename s place)) rest
       stack_t =
           b.held.stack ∙ (ap (map (renamed_cell (rename s place))) put.split
-          ∙ (map-append (renamed_cell (rename s place)) (value_at letter x after) rest
+          ∙ (map-append (renamed_cell (rename s place)) (value_in_register letter x after) rest
           ∙ ap (λ (cs : List Cell). cs ++ map (renamed_cell (rename s place)) rest) (same-value w.classes order_w (kinds t) (rename s place) letter after x value_w)))
 
       items : List Item
-      items = stored s letter (needed s q x)
+      items = store_to_homes s letter (needed s q x)
 
-      body_is : body s i (ops.Store letter x) ≡ stored s letter (needed s q x)
+      body_is : body s i (ops.Store letter x) ≡ store_to_homes s letter (needed s q x)
       unfolding body
       body_is = refl
 
@@ -340,13 +340,13 @@ module _
       n : ℕ
       n = body_at s i.place
 
-      moves : AreMoves (stored s letter (needed s q x))
+      moves : AreMoves (store_to_homes s letter (needed s q x))
       moves = stored-moves s letter (needed s q x)
 
-      count : count_of (body s i (ops.Store letter x)) ≡ length (insns (stored s letter (needed s q x)))
-      count = ap count_of body_is ∙ count-moves (stored s letter (needed s q x)) moves
+      count : count_of (body s i (ops.Store letter x)) ≡ length (insns (store_to_homes s letter (needed s q x)))
+      count = ap count_of body_is ∙ count-moves (store_to_homes s letter (needed s q x)) moves
 
-      further : body_at s i.place + length (insns (stored s letter (needed s q x))) < length (steps_of s)
+      further : body_at s i.place + length (insns (store_to_homes s letter (needed s q x))) < length (steps_of s)
       further =
           let next = next-of v w s place laid stand follow i (ops.Store letter x) b.stands b.reached b.does refl in
           let later = next.follows_it in
@@ -354,12 +354,12 @@ module _
           let size = g.size in
           omega (arith, later, inside, size, count)
 
-      stored_there : IsInHomes w s q x (top (y after rest)) t (map (renamed_cell (rename s place)) rest) (length (insns (stored s letter (needed s q x))))
-          (place (body_at s i.place + length (insns (stored s letter (needed s q x)))))
+      stored_there : IsInHomes w s q x (top (y after rest)) t (map (renamed_cell (rename s place)) rest) (length (insns (store_to_homes s letter (needed s q x))))
+          (place (body_at s i.place + length (insns (store_to_homes s letter (needed s q x)))))
       stored_there =
           stores-run v w l place (steps_of s) t (body_at s i.place) s letter q x (top (y after rest)) (map (renamed_cell (rename s place)) rest) laid.world laid.planned beside_y local_y
-          (at-step v w s place laid t (body_at s i.place) (length (insns (stored s letter (needed s q x)))) (omega (arith, b.equal.frames)) b.of.target b.at further)
-          (moves-stand s (body_at s i.place) (stored s letter (needed s q x)) moves (subst (ItemsStandFrom s (body_at s i.place)) body_is g.body_steps))
+          (at-step v w s place laid t (body_at s i.place) (length (insns (store_to_homes s letter (needed s q x)))) (omega (arith, b.equal.frames)) b.of.target b.at further)
+          (moves-stand s (body_at s i.place) (store_to_homes s letter (needed s q x)) moves (subst (ItemsStandFrom s (body_at s i.place)) body_is g.body_steps))
           stack_t
           (let deep = depth-fits v w s place laid z b.typed in let e = ap length b.held.stack in let m = length-map f.stack (renamed_cell (rename s place)) in omega (arith, deep, e, m))
 
@@ -368,7 +368,7 @@ module _
       held_after = record {
         stored = λ k e. by k (stored-is letter x k e);
         others = λ k. each-among
-            (λ h. ((j : ℕ) → j < width h.ty → is_stored (ops.Store letter x) (h.slot + j) ≡ false) → HoldsValue s after (record (top t) { registers = stored_there.registers }) h)
+            (λ h. ((j : ℕ) → j < type_width h.ty → is_stored (ops.Store letter x) (h.slot + j) ≡ false) → HoldsValue s after (record (top t) { registers = stored_there.registers }) h)
             (needed s i.place k) (λ h a free. other k h a free);
       }
         where
@@ -387,7 +387,7 @@ module _
                   none-low w.classes (kinds t) order_w after (x + 1) (letter_of h.ty) low_w
                   (subst (λ (j : ℕ). CellsAt w.classes (kinds t) after j (asked_types w.classes (letter_of h.ty))) (m.0 ∙ e) m.2)
 
-          other : (k : ℕ) (h : Home) → IsAmong h (needed s i.place k) → ((j : ℕ) → j < width h.ty → is_stored (ops.Store letter x) (h.slot + j) ≡ false)
+          other : (k : ℕ) (h : Home) → IsAmong h (needed s i.place k) → ((j : ℕ) → j < type_width h.ty → is_stored (ops.Store letter x) (h.slot + j) ≡ false)
               → HoldsValue s after (record (top t) { registers = stored_there.registers }) h
           other k h a free =
               let before : HoldsValue s f.registers (top t) h = among-each (HoldsValue s f.registers (top t)) (needed s i.place k) h (b.held.locals k) a in
@@ -400,7 +400,7 @@ module _
               })
 
       u : State Cell
-      u = top_at t (place (body_at s i.place + length (insns (stored s letter (needed s q x))))) stored_there.registers (map (renamed_cell (rename s place)) rest)
+      u = top_at t (place (body_at s i.place + length (insns (store_to_homes s letter (needed s q x))))) stored_there.registers (map (renamed_cell (rename s place)) rest)
 
       pub finished : (o : Outcome Cell) → o ≡ running (y after rest) → BodyRuns v w s place i (ops.Store letter x) z t o
       unfolding u
@@ -408,10 +408,10 @@ module _
           let few = stored-few s letter (needed s q x) (one-few v same_is kept l.needed s laid.world laid.planned q typed_q.0 typed_q.1 x) in
           subst (λ (p : Outcome Cell). BodyRuns v w s place i (ops.Store letter x) z t p) (sym e)
           (record {
-            count = length (insns (stored s letter (needed s q x)));
+            count = length (insns (store_to_homes s letter (needed s q x)));
             more = few.0;
             fewer = few.1;
-            outcome = running (top_at t (place (body_at s i.place + length (insns (stored s letter (needed s q x))))) stored_there.registers (map (renamed_cell (rename s place)) rest));
+            outcome = running (top_at t (place (body_at s i.place + length (insns (store_to_homes s letter (needed s q x))))) stored_there.registers (map (renamed_cell (rename s place)) rest));
             runs = stored_there.runs;
             comes =
                 body_falls
@@ -437,7 +437,7 @@ module _
               → HoldsAfter s i.place (ops.Store letter x) q (top (y after rest)) (record (top t) { registers = registers })
               → HoldsAfter s i.place (ops.Store letter x) q (top (y after rest))
               (record (top t) {
-                place = place (body_at s i.place + length (insns (stored s letter (needed s q x))));
+                place = place (body_at s i.place + length (insns (store_to_homes s letter (needed s q x))));
                 registers = registers;
                 stack = map (renamed_cell (rename s place)) rest;
               })
@@ -449,7 +449,7 @@ module _
               over : (rs : List Cell) (a : Home) → HoldsValue s after (record (top t) { registers = rs }) a
                   → HoldsValue s after
                   (record (top t) {
-                    place = place (body_at s i.place + length (insns (stored s letter (needed s q x))));
+                    place = place (body_at s i.place + length (insns (store_to_homes s letter (needed s q x))));
                     registers = rs;
                     stack = map (renamed_cell (rename s place)) rest;
                   }) a

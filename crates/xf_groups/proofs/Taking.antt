@@ -19,7 +19,7 @@ use Rattle.vm_step.specs.Methods.{code_at}
 use Rattle.vm_step.specs.Raising.{running}
 use Rattle.vm_step.specs.Run.{Runs, stands as none_taken, steps as after_step}
 use Rattle.xf_homes.specs.declared.home.Home.{Home}
-use Rattle.xf_homes.specs.Value.{width}
+use Rattle.xf_homes.specs.Value.{type_width}
 use Rattle.xf_homes.specs.Walk.{operands_of, same_home}
 use Rattle.xf_plan.specs.Source.{Source}
 use Rattle.xf_plan.specs.Plan.{stack_homes, is_leader, needed, operation}
@@ -28,7 +28,7 @@ use Rattle.xf_emission.specs.Edge.{cell_copies, copies}
 use Rattle.xf_emission.specs.Emission.{items}
 use Rattle.xf_emission.specs.Group.{group}
 use Rattle.xf_emission.specs.Move.{copy}
-use Rattle.xf_emission.specs.Jump.{goto, label_by, lead, place as place_named, stub, stub_label, stub_of, taken, under}
+use Rattle.xf_emission.specs.Jump.{goto, label_by, lead, place as place_named, stub, stub_label, stub_of, branch_copies, under}
 use Rattle.xf_typing.specs.Edges.{AreMatched, CellsFillStack, LeadsTo, NeededHaveHomes}
 use Rattle.xf_held.specs.Edges.{CellsAreFew, CellsRun, CopiesAreFew, EdgesRun, HoldsAfter, insns, top_at}
 use Rattle.xf_held.specs.Held.{HoldsValue, HoldsLocals, Waits, slots}
@@ -88,18 +88,18 @@ module _
   -- after the copies
   pub record Taken (m : ℕ) : Type 0 where
     pub registers : List Cell
-    pub runs : Runs tagged w (count_of (taken s p op n q)) x (running (top_at x (place (m + count_of (taken s p op n q))) registers []))
+    pub runs : Runs tagged w (count_of (branch_copies s p op n q)) x (running (top_at x (place (m + count_of (branch_copies s p op n q))) registers []))
     pub count : length registers ≡ length (top x).registers
     pub cells : Each (HoldsValue s (slots (top y)) (record (top x) { registers = registers })) (stack_homes s q)
     pub locals : HoldsLocals s q (top y) (record (top x) { registers = registers })
 
   pub taken-runs :
       (m : ℕ)
-      → ItemsStandFrom s m (taken s p op n q)
+      → ItemsStandFrom s m (branch_copies s p op n q)
       → (top x).place ≡ place m
-      → m + count_of (taken s p op n q) < length (steps_of s)
+      → m + count_of (branch_copies s p op n q) < length (steps_of s)
       → Taken m
-  unfolding taken
+  unfolding branch_copies
   taken-runs m st at inside =
       let cc_items = cell_copies s (under s p n) (stack_homes s q) in
       let cs = copies s (After p op) q in
@@ -204,8 +204,8 @@ module _
         };
       }
 
-  few-taken : count_of (taken s p op n q) ≤ 1018
-  unfolding taken
+  few-taken : count_of (branch_copies s p op n q) ≤ 1018
+  unfolding branch_copies
   few-taken =
       let both = count-append (cell_copies s (under s p n) (stack_homes s q)) (copies s (After p op) q) in
       let one = cell-few s (under s p n) (stack_homes s q) in
@@ -218,26 +218,26 @@ module _
   -- where these items are followed by the group
   pub taken-falls :
       (m : ℕ)
-      → ItemsStandFrom s m (taken s p op n q)
+      → ItemsStandFrom s m (branch_copies s p op n q)
       → (top x).place ≡ place m
-      → m + count_of (taken s p op n q) ≡ group_at s q
+      → m + count_of (branch_copies s p op n q) ≡ group_at s q
       → ComesWithin w 0 1018 x (ComesToGroup s place y x)
   taken-falls m st at last =
       let inside = group-inside v w s place laid stand follow q typed.reached in
       let a = taken-runs m st at (omega (arith, last, inside)) in
       let small = few-taken in
-      arrives 0 1018 (count_of (taken s p op n q)) a.registers (omega arith) small
-      (subst (λ k. Runs tagged w (count_of (taken s p op n q)) x (running (top_at x (place k) a.registers []))) last a.runs) a.count a.cells
+      arrives 0 1018 (count_of (branch_copies s p op n q)) a.registers (omega arith) small
+      (subst (λ k. Runs tagged w (count_of (branch_copies s p op n q)) x (running (top_at x (place k) a.registers []))) last a.runs) a.count a.cells
       a.locals
 
   -- where a goto follows
   pub taken-goes :
       (m : ℕ)
-      → ItemsStandFrom s m (taken s p op n q ++ goto q ∷ [])
+      → ItemsStandFrom s m (branch_copies s p op n q ++ goto q ∷ [])
       → (top x).place ≡ place m
       → ComesWithin w 0 1019 x (ComesToGroup s place y x)
   taken-goes m st at =
-      let ts = taken s p op n q in
+      let ts = branch_copies s p op n q in
       let all = stand-inside s m (ts ++ goto q ∷ []) st in
       let both = count-append ts (goto q ∷ []) in
       let one : count_of (goto q ∷ []) ≡ 1 = refl in
@@ -269,9 +269,9 @@ module _
       → (top x).place ≡ place (place_of (lead s p op n k (pos q)) (items s))
       → ComesWithin w 0 1019 x (ComesToGroup s place y x)
   unfolding lead stub
-  led-arrives stubs i k here stands does some target at = by (taken s p op n q) refl at
+  led-arrives stubs i k here stands does some target at = by (branch_copies s p op n q) refl at
     where
-      direct : taken s p op n q ≡ [] → (top x).place ≡ place (group_at s q) → ComesWithin w 0 1018 x (ComesToGroup s place y x)
+      direct : branch_copies s p op n q ≡ [] → (top x).place ≡ place (group_at s q) → ComesWithin w 0 1018 x (ComesToGroup s place y x)
       direct e there =
           let h = here-at v w s place laid q (reached-some v w s place laid q typed.reached) in
           let also : is_some (s.frames h.instruction.place) ≡ true =
@@ -279,7 +279,7 @@ module _
           let whole = stand s h.instruction laid.planned.code h.stands also in
           let none : ItemsStandFrom s (group_at s q) [] =
           subst (λ r. ItemsStandFrom s (group_at s r) []) h.at (stand-first s (group_at s h.instruction.place) [] (group s h.instruction) whole) in
-          let zero_count : count_of (taken s p op n q) ≡ 0 = ap count_of e in
+          let zero_count : count_of (branch_copies s p op n q) ≡ 0 = ap count_of e in
           taken-falls (group_at s q) (subst (ItemsStandFrom s (group_at s q)) (sym e) none) there (omega (arith, zero_count))
 
       wider : ComesWithin w 0 1018 x (ComesToGroup s place y x) → ComesWithin w 0 1019 x (ComesToGroup s place y x)
@@ -289,18 +289,18 @@ module _
 
       by :
           (ts : List Item)
-          → taken s p op n q ≡ ts
-          → (top x).place ≡ place (place_of (label_by q (stub_label p k) (taken s p op n q)) (items s))
+          → branch_copies s p op n q ≡ ts
+          → (top x).place ≡ place (place_of (label_by q (stub_label p k) (branch_copies s p op n q)) (items s))
           → ComesWithin w 0 1019 x (ComesToGroup s place y x)
       by [] e there = wider (direct e (there ∙ ap (λ us. place (place_of (label_by q (stub_label p k) us) (items s))) e))
       by (t ∷ ts) e there =
-          let some_taken : taken s i.place op n q ≢ [] = λ none. absurd (let bad = sym none ∙ (ap (λ r. taken s r op n q) here ∙ e) in not-none t ts bad) in
+          let some_taken : branch_copies s i.place op n q ≢ [] = λ none. absurd (let bad = sym none ∙ (ap (λ r. branch_copies s r op n q) here ∙ e) in not-none t ts bad) in
           let reached : is_some (s.frames i.place) ≡ true = reached-some v w s place laid i.place (subst (IsReached s.method) (sym here) from_p) in
           let st = stubs s i op n k (pos q) laid.planned.code stands reached does some target some_taken in
-          let own : ItemsStandFrom s (place_of (stub_label p k) (items s)) (stub_of (stub_label p k) q (taken s p op n q)) =
-          subst (λ r. ItemsStandFrom s (place_of (stub_label r k) (items s)) (stub_of (stub_label r k) q (taken s r op n q))) here st in
+          let own : ItemsStandFrom s (place_of (stub_label p k) (items s)) (stub_of (stub_label p k) q (branch_copies s p op n q)) =
+          subst (λ r. ItemsStandFrom s (place_of (stub_label r k) (items s)) (stub_of (stub_label r k) q (branch_copies s r op n q))) here st in
           let shown : ItemsStandFrom s (place_of (stub_label p k) (items s)) (Label (stub_label p k) ∷ ((t ∷ ts) ++ goto q ∷ [])) =
-          stand-as s (place_of (stub_label p k) (items s)) (stub_of (stub_label p k) q (taken s p op n q)) _
+          stand-as s (place_of (stub_label p k) (items s)) (stub_of (stub_label p k) q (branch_copies s p op n q)) _
           (ap (stub_of (stub_label p k) q) e) own in
           taken-goes (place_of (stub_label p k) (items s))
           (subst (λ us. ItemsStandFrom s (place_of (stub_label p k) (items s)) (us ++ goto q ∷ [])) (sym e)

@@ -35,7 +35,7 @@ use Rattle.vm_alike.specs.Running.{RunAlike}
 use Rattle.xf_homes.specs.declared.home.Home.{Home}
 use Rattle.xf_homes.specs.Home.{asked_here}
 use Rattle.xf_homes.specs.Laws.{NeededAreKept}
-use Rattle.xf_homes.specs.Value.{value_at, width}
+use Rattle.xf_homes.specs.Value.{value_in_cells, type_width}
 use Rattle.xf_landed.specs.Apart.{apart_from_code}
 use Rattle.xf_landed.specs.Laws.{DemandsAreKept, OperationsAreKept}
 use Rattle.xf_plan.specs.Source.{Source}
@@ -90,7 +90,7 @@ this-home v w s place laid types whole kept i op c held stands reached does =
         let k = found-below v.classes f.regs 0 (Class c) (held f asked) in
         let bottom = All-slice_get IsNotBottom f.regs 0 k.ty full k.at in
         let r = is-reference v.classes types k.ty c k.below bottom in
-        let value : value_at f.regs 0 ≡ Some k.ty = value-one f.regs 0 k.ty k.at r.no_half r.no_top in
+        let value : value_in_cells f.regs 0 ≡ Some k.ty = value-one f.regs 0 k.ty k.at r.no_half r.no_top in
         record {
           ty = k.ty;
           at = local-at s i.place 0 f k.ty e value;
@@ -101,10 +101,10 @@ this-home v w s place laid types whole kept i op c held stands reached does =
           full = full;
           among =
               ((kept s.method s.frames i.place 0).all (record { slot = 0; ty = k.ty })).1
-              (refl, (0, asked_here (subst (λ o. IsSomeAnd o (λ (g : Types). value_at g.regs 0 ≡ Some k.ty)) (sym e) value)));
+              (refl, (0, asked_here (subst (λ o. IsSomeAnd o (λ (g : Types). value_in_cells g.regs 0 ≡ Some k.ty)) (sym e) value)));
         }
 
-some-width : (ty : Ty) → 0 < width ty
+some-width : (ty : Ty) → 0 < type_width ty
 some-width IntHigh = omega arith
 some-width ty = omega arith
 

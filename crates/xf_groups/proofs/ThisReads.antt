@@ -47,7 +47,7 @@ use Rattle.vm_step.specs.Settled.{fault_next, settled, unless_fault}
 use Rattle.vm_step.specs.Step.{Steps, performed, performs}
 use Rattle.vm_step.specs.Tests.{fault_before}
 use Rattle.vm_step.proofs.Running.{steps-one}
-use Rattle.vm_sound.specs.Frames.{least_types, types_in}
+use Rattle.vm_sound.specs.Frames.{least_types, types_of_frame}
 use Rattle.vm_sound.proofs.Cells.{cell-at}
 use Rattle.vm_erasure.specs.Erasure.{IsNoFault}
 use Rattle.vm_alike.specs.Alike.{renamed_cell}
@@ -56,7 +56,7 @@ use Rattle.vm_alike.proofs.Asked.{passed-asks, register-same}
 use Rattle.vm_alike.proofs.Cells.{in-stays, object-stays, replaced-renamed}
 use Rattle.vm_alike.proofs.Settling.{unless-none}
 use Rattle.xf_homes.specs.declared.home.Home.{Home}
-use Rattle.xf_homes.specs.Value.{width}
+use Rattle.xf_homes.specs.Value.{type_width}
 use Rattle.xf_landed.specs.Apart.{apart_from_code}
 use Rattle.xf_landed.specs.Laws.{OperationsAreKept}
 use Rattle.xf_plan.specs.Source.{Source}
@@ -68,7 +68,8 @@ use Rattle.vm_sound.proofs.Passing.{passes-before}
 use Rattle.xf_held.specs.Edges.{insns, top_at, IsBeside}
 use Rattle.xf_held.specs.Held.{HoldsValue, HoldsLocals}
 use Rattle.xf_held.specs.Laws.{ExecutesStep, StepsExecute}
-use Rattle.xf_held.specs.Moves.{IsExecutable, letter_of, value_at, size, end_of, load_of, InstructionsStandFrom as StandAmong}
+use Rattle.xf_held.specs.Moves.{IsExecutable, letter_of, value_in_register, size, load_of, InstructionsStandFrom as StandAmong}
+use Rattle.jc_decode.specs.Places.{place_after}
 use Rattle.xf_held.proofs.Copies.{wide}
 use Rattle.xf_held.proofs.Going.{operations-go-on}
 use Rattle.xf_held.proofs.Loading.{loads-run, step-place}
@@ -91,7 +92,7 @@ use Rattle.xf_groups.proofs.Standing.{GroupSteps, stand-as}
 
 -- it asked what is there, and came to what its operation settles
 pub record HasSettled (v : Linked) (i : Placed) (op : Operation) (f : Frame Cell) (below : List (Frame Cell)) (heap : List (Object Cell)) (statics : List Cell) (o : Outcome Cell) : Type 0 where
-  pub asked : SatisfiesAll v.classes (types_in v.classes Bottom (map (λ (q : Object Cell). q.kind) heap) f) (demands v op)
+  pub asked : SatisfiesAll v.classes (types_of_frame v.classes Bottom (map (λ (q : Object Cell). q.kind) heap) f) (demands v op)
   pub comes :
       o
       ≡ settled tagged v (i.place + i.insn.len) (record { frames = f ∷ below; heap = heap; statics = statics })
@@ -125,7 +126,7 @@ pub same-locals : (s : Source) (p : ℕ) (f g k : Frame Cell) → k.registers �
 same-locals s p f g k e locals x =
     Each-weaker (HoldsValue s f.registers g) (HoldsValue s f.registers k) (λ h held. record {
       known = held.known;
-      there = subst (λ (rs : List Cell). register s h + width h.ty ≤ length rs) (sym e) held.there;
+      there = subst (λ (rs : List Cell). register s h + type_width h.ty ≤ length rs) (sym e) held.there;
       equal = λ n lt. ap (λ (rs : List Cell). slice_get rs (register s h + n)) e ∙ held.equal n lt;
     }) (needed s p x) (locals x)
 
@@ -203,7 +204,7 @@ module _
     held : HoldsValue s f.registers (top t) (record { slot = 0; ty = home.ty })
     held = among-each (HoldsValue s f.registers (top t)) (needed s i.place 0) (record { slot = 0; ty = home.ty }) (b.held.locals 0) home.among
 
-    some : 0 < width home.ty
+    some : 0 < type_width home.ty
     some = let e = wide home.ty in let k = ap size home.letter_is in omega (arith, e, k)
 
     cell_is : nth tagged (top t).registers (register s (record { slot = 0; ty = home.ty })) ≡ nth tagged f.registers 0
@@ -215,14 +216,14 @@ module _
     loaded =
         let valued = needed-valued v w l s laid.world laid.planned f.place f t beside_z 0 (record { slot = 0; ty = home.ty })
         (subst (λ (p : ℕ). IsAmong (record { slot = 0; ty = home.ty }) (needed s p 0)) (sym b.here) home.among) in
-        let stack_is : value_at (letter_of home.ty) (register s (record { slot = 0; ty = home.ty })) (top t).registers ++ (top t).stack ≡ nth tagged f.registers 0 ∷ (top t).stack =
-        ap (λ (a : Sort). value_at a (register s (record { slot = 0; ty = home.ty })) (top t).registers ++ (top t).stack) home.letter_is ∙ ap (λ (d : Cell). d ∷ (top t).stack) cell_is in
+        let stack_is : value_in_register (letter_of home.ty) (register s (record { slot = 0; ty = home.ty })) (top t).registers ++ (top t).stack ≡ nth tagged f.registers 0 ∷ (top t).stack =
+        ap (λ (a : Sort). value_in_register a (register s (record { slot = 0; ty = home.ty })) (top t).registers ++ (top t).stack) home.letter_is ∙ ap (λ (d : Cell). d ∷ (top t).stack) cell_is in
         let deep = depth-fits v w s place laid z b.typed in
         let e = ap length b.held.stack in
         let m = length-map f.stack (renamed_cell (rename s place)) in
         let own = target-room v w s place laid in
         let method = ap (max_stack_of w) b.of.target in
-        let fits : length (value_at (letter_of home.ty) (register s (record { slot = 0; ty = home.ty })) (top t).registers ++ (top t).stack) ≤ max_stack_of w (top t).method =
+        let fits : length (value_in_register (letter_of home.ty) (register s (record { slot = 0; ty = home.ty })) (top t).registers ++ (top t).stack) ≤ max_stack_of w (top t).method =
         omega (arith, ap length stack_is, deep, e, m, own, method) in
         let ran = loads-run w l.world place (steps_of s) t (body_at s i.place) s (record { slot = 0; ty = home.ty } ∷ [])
         (at-step v w s place laid t (body_at s i.place) 1 runs_t b.of.target b.at (omega (arith, further))) (there.0, tt)
@@ -248,7 +249,7 @@ module _
         (subst (λ m. AreSteps (code_at w m) place 0 (steps_of s) (listing (code_at w m))) (sym b.of.target) (steps-are v w s place laid))
         there.1.0 refl resolves
 
-    asked : SatisfiesAll w.classes (types_in w.classes Bottom (kinds t) (top t1)) (demands w (ops.FieldRead fd holders.Stack))
+    asked : SatisfiesAll w.classes (types_of_frame w.classes Bottom (kinds t) (top t1)) (demands w (ops.FieldRead fd holders.Stack))
     asked =
         let at_source = (cell-at v.classes Bottom (map (λ (q : Object Cell). q.kind) heap) f.registers 0 (λ u. Below v.classes u (Class fd.class)) has.asked.1.0).holds in
         let kinds_are : map (λ (q : Object Cell). q.kind) heap ≡ kinds t = ap (λ (os : List (Object Cell)). map (λ (q : Object Cell). q.kind) os) (sym b.equal.heap) in (
@@ -257,7 +258,7 @@ module _
           tt,
         )
 
-    next_place : IsPlace (code_at w (top t).method) (end_of ex.instruction)
+    next_place : IsPlace (code_at w (top t).method) (place_after ex.instruction)
     next_place =
         subst (λ (p : ℕ). IsPlace (code_at w (top t).method) p) (sym ex.ends)
         (subst (λ (m : ℕ). IsPlace (code_at w m) (place (body_at s i.place + 1 + 1))) (sym b.of.target)
@@ -293,9 +294,9 @@ module _
         has.comes ∙ ap (λ (d : Bool). settled tagged v next z (if d then raises NullPointer else goes (with_field_read tagged fd holders.This (word_of (nth tagged f.registers 0)) z))) e in
         let before : fault_before tagged w (ops.FieldRead fd holders.Stack) t1 ≡ None =
         passes-before w laid.new.chains (top t1) (other_frames t.frames) t.heap t.statics (ops.FieldRead fd holders.Stack) asked in
-        let leads : Outcome Cell = settled tagged w (end_of ex.instruction) t1 (act tagged w ex.instruction.insn (ops.FieldRead fd holders.Stack) t1) in
+        let leads : Outcome Cell = settled tagged w (place_after ex.instruction) t1 (act tagged w ex.instruction.insn (ops.FieldRead fd holders.Stack) t1) in
         let raises_it : raised tagged w NullPointer t1 ≡ performed tagged w ex.instruction (ops.FieldRead fd holders.Stack) t1 =
-        sym (ap (λ (d : Bool). settled tagged w (end_of ex.instruction) t1 (if d then raises NullPointer else goes (with_field_read tagged fd holders.Stack (word_of (nth tagged f.registers 0)) t1))) e)
+        sym (ap (λ (d : Bool). settled tagged w (place_after ex.instruction) t1 (if d then raises NullPointer else goes (with_field_read tagged fd holders.Stack (word_of (nth tagged f.registers 0)) t1))) e)
         ∙ ap (λ p. unless_fault t1 p leads) (sym before) in
         let second : Steps tagged w t1 (raised tagged w NullPointer t1) = performs ex.executes.fetched (ops.FieldRead fd holders.Stack) ex.executes.resolved raises_it in
         record {
@@ -337,9 +338,9 @@ module _
         omega (arith, k, m, deep, own, method) in
         let does : act tagged w ex.instruction.insn (ops.FieldRead fd holders.Stack) t1 ≡ goes u1 =
         ap (λ (d : Bool). if d then raises NullPointer else goes (with_field_read tagged fd holders.Stack (word_of (nth tagged f.registers 0)) t1)) e in
-        let second : Steps tagged w t1 (running (with_place u1 (end_of ex.instruction))) =
+        let second : Steps tagged w t1 (running (with_place u1 (place_after ex.instruction))) =
         operations-go-on w laid.new.chains t1 u1 ex.instruction (ops.FieldRead fd holders.Stack) ex.executes asked does room next_place in
-        let u : State Cell = with_place u1 (end_of ex.instruction) in
+        let u : State Cell = with_place u1 (place_after ex.instruction) in
         let frames_t = ap length (frames-are t runs_t) in
         let last : body_at s i.place + 1 + 1 ≡ body_at s i.place + count_of (body s i (ops.FieldRead fd holders.This)) = omega (arith, count) in
         subst Run (sym o_is)

@@ -39,7 +39,7 @@ use Rattle.vm_store.specs.Typing.{least_type}
 use Rattle.vm_store.specs.Cells.{tagged, word_of}
 use Rattle.vm_store.specs.Objects.{kinds}
 use Rattle.vm_store.specs.State.{State, Frame, Object, nth, other_frames, top, with_place, map_object}
-use Rattle.vm_store.specs.Value.{value_on, kept as value_kept}
+use Rattle.vm_store.specs.Value.{value_on, kept_value as value_kept}
 use Rattle.vm_step.specs.declared.exception.Exception.TheVariants.{NullPointer}
 use Rattle.vm_step.specs.Act.{Act, goes, raises}
 use Rattle.vm_step.specs.Fields.{with_field_write}
@@ -51,14 +51,14 @@ use Rattle.vm_step.specs.Run.{Runs}
 use Rattle.vm_step.specs.Settled.{fault_next, settled, unless_fault}
 use Rattle.vm_step.specs.Step.{Steps, performed, performs}
 use Rattle.vm_step.specs.Tests.{fault_before}
-use Rattle.vm_sound.specs.Frames.{least_types, types_in}
+use Rattle.vm_sound.specs.Frames.{least_types, types_of_frame}
 use Rattle.vm_sound.proofs.Cells.{cell-at}
 use Rattle.vm_erasure.specs.Erasure.{IsNoFault}
 use Rattle.vm_alike.specs.Alike.{renamed_cell}
 use Rattle.vm_alike.proofs.Asked.{register-same}
 use Rattle.vm_alike.proofs.Settling.{unless-none}
 use Rattle.xf_homes.specs.declared.home.Home.{Home}
-use Rattle.xf_homes.specs.Value.{width}
+use Rattle.xf_homes.specs.Value.{type_width}
 use Rattle.xf_landed.specs.Apart.{apart_from_code}
 use Rattle.xf_landed.specs.Laws.{OperationsAreKept}
 use Rattle.xf_plan.specs.Source.{Source}
@@ -71,7 +71,8 @@ use Rattle.vm_sound.proofs.Passing.{passes-before}
 use Rattle.xf_held.specs.Edges.{insns, top_at, IsBeside}
 use Rattle.xf_held.specs.Held.{HoldsValue, HoldsLocals}
 use Rattle.xf_held.specs.Laws.{ExecutesStep, StepsExecute}
-use Rattle.xf_held.specs.Moves.{IsExecutable, letter_of, value_at, size, end_of, load_of, InstructionsStandFrom as StandAmong}
+use Rattle.xf_held.specs.Moves.{IsExecutable, letter_of, value_in_register, size, load_of, InstructionsStandFrom as StandAmong}
+use Rattle.jc_decode.specs.Places.{place_after}
 use Rattle.xf_held.proofs.Copies.{wide}
 use Rattle.xf_held.proofs.Going.{operations-go-on}
 use Rattle.xf_held.proofs.Loading.{loads-run, step-place}
@@ -148,7 +149,7 @@ module _
     held : HoldsValue s f.registers (top t) (record { slot = 0; ty = home.ty })
     held = among-each (HoldsValue s f.registers (top t)) (needed s i.place 0) (record { slot = 0; ty = home.ty }) (b.held.locals 0) home.among
 
-    some : 0 < width home.ty
+    some : 0 < type_width home.ty
     some = let e = wide home.ty in let k = ap size home.letter_is in omega (arith, e, k)
 
     cell_is : nth tagged (top t).registers (register s (record { slot = 0; ty = home.ty })) ≡ nth tagged f.registers 0
@@ -160,14 +161,14 @@ module _
     loaded =
         let valued = needed-valued v w l s laid.world laid.planned f.place f t beside_z 0 (record { slot = 0; ty = home.ty })
         (subst (λ (p : ℕ). IsAmong (record { slot = 0; ty = home.ty }) (needed s p 0)) (sym b.here) home.among) in
-        let stack_is : value_at (letter_of home.ty) (register s (record { slot = 0; ty = home.ty })) (top t).registers ++ (top t).stack ≡ nth tagged f.registers 0 ∷ (top t).stack =
-        ap (λ (a : Sort). value_at a (register s (record { slot = 0; ty = home.ty })) (top t).registers ++ (top t).stack) home.letter_is ∙ ap (λ (d : Cell). d ∷ (top t).stack) cell_is in
+        let stack_is : value_in_register (letter_of home.ty) (register s (record { slot = 0; ty = home.ty })) (top t).registers ++ (top t).stack ≡ nth tagged f.registers 0 ∷ (top t).stack =
+        ap (λ (a : Sort). value_in_register a (register s (record { slot = 0; ty = home.ty })) (top t).registers ++ (top t).stack) home.letter_is ∙ ap (λ (d : Cell). d ∷ (top t).stack) cell_is in
         let deep = depth-fits v w s place laid z b.typed in
         let e = ap length b.held.stack in
         let m = length-map f.stack (renamed_cell (rename s place)) in
         let own = target-room v w s place laid in
         let method = ap (max_stack_of w) b.of.target in
-        let fits : length (value_at (letter_of home.ty) (register s (record { slot = 0; ty = home.ty })) (top t).registers ++ (top t).stack) ≤ max_stack_of w (top t).method =
+        let fits : length (value_in_register (letter_of home.ty) (register s (record { slot = 0; ty = home.ty })) (top t).registers ++ (top t).stack) ≤ max_stack_of w (top t).method =
         omega (arith, ap length stack_is, deep, e, m, own, method) in
         let ran = loads-run w l.world place (steps_of s) t (body_at s i.place) s (record { slot = 0; ty = home.ty } ∷ [])
         (at-step v w s place laid t (body_at s i.place) 1 runs_t b.of.target b.at (omega (arith, further))) (there.0, tt)
@@ -196,7 +197,7 @@ module _
         (least_types w.classes Bottom (kinds t) (top t).registers) (nth tagged f.registers 0) f.stack (top t).stack
     swapped =
         let regs : List Ty = least_types w.classes Bottom (kinds t) (top t).registers in
-        let held_there = last-held v.classes (types_in v.classes Bottom (map (λ (q : Object Cell). q.kind) heap) f) fd.ty fd.class has.asked.1 in
+        let held_there = last-held v.classes (types_of_frame v.classes Bottom (map (λ (q : Object Cell). q.kind) heap) f) fd.ty fd.class has.asked.1 in
         let at_source = (cell-at v.classes Bottom (map (λ (q : Object Cell). q.kind) heap) f.registers 0 (λ u. Below v.classes u (Class fd.class)) held_there).holds in
         let there_is = swaps v.classes world.chains types (map (λ (q : Object Cell). q.kind) heap) fd.class (rename s place) regs (nth tagged f.registers 0) at_source
         fd.kind fd.ty f.stack (least_types v.classes Bottom (map (λ (q : Object Cell). q.kind) heap) f.registers) kind_is has.asked.1 in
@@ -234,7 +235,7 @@ module _
         let z2 : State Cell = with_move (shifts.Exchange 1 (cells_of_kind fd.kind)) t1 in
         let size = swapped.size in
         let fits = deep_t in
-        let steps_to : Steps tagged w t1 (running (with_place z2 (end_of ex2.instruction))) =
+        let steps_to : Steps tagged w t1 (running (with_place z2 (place_after ex2.instruction))) =
         operations-go-on w laid.new.chains t1 z2 ex2.instruction (ops.Move (shifts.Exchange 1 (cells_of_kind fd.kind))) ex2.executes swapped.cut refl (omega (arith, size, fits))
         (subst (λ (p : ℕ). IsPlace (code_at w (top t).method) p) (sym ex2.ends) (next_at (body_at s i.place + 1 + 1) (omega (arith, further)))) in
         one-step w t1 (running t2) (subst (λ (p : ℕ). Steps tagged w t1 (running (with_place z2 p))) ex2.ends steps_to)
@@ -283,11 +284,11 @@ module _
         has.comes ∙ ap (λ (d : Bool). settled tagged v next z (if d then raises NullPointer else goes (with_field_write tagged fd holders.This (word_of (nth tagged f.registers 0)) z))) e in
         let before : fault_before tagged w (ops.FieldWrite fd holders.Stack) t2 ≡ None =
         passes-before w laid.new.chains (top t2) (other_frames t.frames) t.heap t.statics (ops.FieldWrite fd holders.Stack) swapped.write in
-        let leads : Outcome Cell = settled tagged w (end_of ex.instruction) t2 (act tagged w ex.instruction.insn (ops.FieldWrite fd holders.Stack) t2) in
+        let leads : Outcome Cell = settled tagged w (place_after ex.instruction) t2 (act tagged w ex.instruction.insn (ops.FieldWrite fd holders.Stack) t2) in
         let acts : act tagged w ex.instruction.insn (ops.FieldWrite fd holders.Stack) t2 ≡ raises NullPointer =
         does ∙ ap (λ (d : Bool). if d then raises NullPointer else goes (with_field_write tagged fd holders.Stack (word_of (nth tagged f.registers 0)) t2)) e in
         let raises_it : raised tagged w NullPointer t2 ≡ performed tagged w ex.instruction (ops.FieldWrite fd holders.Stack) t2 =
-        sym (ap (λ (a : Act Cell). settled tagged w (end_of ex.instruction) t2 a) acts)
+        sym (ap (λ (a : Act Cell). settled tagged w (place_after ex.instruction) t2 a) acts)
         ∙ ap (λ p. unless_fault t2 p leads) (sym before) in
         let third : Steps tagged w t2 (raised tagged w NullPointer t2) = performs ex.executes.fetched (ops.FieldWrite fd holders.Stack) ex.executes.resolved raises_it in
         record {
@@ -354,10 +355,10 @@ module _
         let m1 = length-map f.stack (renamed_cell (rename s place)) in
         let fits = deep_t in
         omega (arith, k, m, d, e1, m1, fits) in
-        let third : Steps tagged w t2 (running (with_place u1 (end_of ex.instruction))) =
+        let third : Steps tagged w t2 (running (with_place u1 (place_after ex.instruction))) =
         operations-go-on w laid.new.chains t2 u1 ex.instruction (ops.FieldWrite fd holders.Stack) ex.executes swapped.write acts room
         (subst (λ (p : ℕ). IsPlace (code_at w (top t).method) p) (sym ex.ends) (next_at (body_at s i.place + 1 + 1 + 1) (omega (arith, further)))) in
-        let u : State Cell = with_place u1 (end_of ex.instruction) in
+        let u : State Cell = with_place u1 (place_after ex.instruction) in
         let frames_t = ap length (frames-are t runs_t) in
         let last : body_at s i.place + 1 + 1 + 1 ≡ body_at s i.place + count_of (body s i (ops.FieldWrite fd holders.This)) = omega (arith, count) in
         subst Run (sym o_is)

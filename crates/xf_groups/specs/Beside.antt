@@ -13,7 +13,7 @@ use Rattle.vm_store.specs.State.{State, Frame, IsRunning, top, other_frames, map
 use Rattle.vm_store.specs.Objects.{kinds}
 use Rattle.vm_step.specs.declared.ending.Ending.TheVariants.{Plain, Faulted}
 use Rattle.vm_step.specs.Raising.{Outcome, running, ended}
-use Rattle.vm_sound.specs.Frames.{types_in}
+use Rattle.vm_sound.specs.Frames.{types_of_frame}
 use Rattle.vm_alike.specs.Alike.{renamed_cell}
 use Rattle.xf_homes.specs.Order.{register_sum}
 use Rattle.xf_plan.specs.Source.{Source}
@@ -73,7 +73,7 @@ pub record IsTypedAt (v : Linked) (s : Source) (z : State Cell) : Type 0 where
   pub runs : IsRunning z
   pub method : (top z).method ≡ s.method.number
   pub reached : IsReached s.method (top z).place
-  pub below : At s.frames (top z).place (FrameBelow v.classes (types_in v.classes Top (kinds z) (top z)))
+  pub below : At s.frames (top z).place (FrameBelow v.classes (types_of_frame v.classes Top (kinds z) (top z)))
   pub objects_stay : (e : ℕ → ℕ) → map (map_object (renamed_cell e)) z.heap ≡ z.heap
   pub statics_stay : (e : ℕ → ℕ) → map (renamed_cell e) z.statics ≡ z.statics
 

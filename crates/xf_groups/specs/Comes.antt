@@ -43,8 +43,8 @@ pub record ComesToGroup (s : Source) (place : ℕ → ℕ) (y t : State Cell) (p
   pub are : AreAtGroup s place y t y state
 
 -- the arguments of a call on the stack on top are popped
-abbrev pub popped : ℕ → State Cell → State Cell
-popped count z =
+abbrev pub without_arguments : ℕ → State Cell → State Cell
+without_arguments count z =
     record z { frames = record (top z) { stack = drop count (top z).stack } ∷ other_frames z.frames }
 
 -- both call the same method with equal arguments, and wait at the call
@@ -60,7 +60,7 @@ pub record CallAlike (v w : Linked) (s : Source) (place : ℕ → ℕ) (z t : St
   pub second : SameUnder t target
   pub equal : AreEqualBut source target
   pub handed : arguments count (top target).stack ≡ arguments count (top source).stack
-  pub waits : IsUnderCall s place (top (popped count source)) (top (popped count target))
+  pub waits : IsUnderCall s place (top (without_arguments count source)) (top (without_arguments count target))
   pub acts : act tagged v instruction.insn op z ≡ calls method count source
   pub enters : o ≡ running (with_call tagged v.methods source method count)
   pub too : p ≡ running (with_call tagged w.methods target method count)

@@ -157,7 +157,7 @@ CallsReturn v = (w : Linked) (s : Source) (place : ℕ → ℕ) → IsLaidIn v w
 -- ---- at a handler
 
 -- the frames where the n-th handler caught an object at the place p
-pub record IsCaught (s : Source) (place : ℕ → ℕ) (n : ℕ) (h : Handler) (p : ℕ) (f g : Frame Cell) : Type 0 where
+pub record IsCaughtInGroup (s : Source) (place : ℕ → ℕ) (n : ℕ) (h : Handler) (p : ℕ) (f g : Frame Cell) : Type 0 where
   pub listed : slice_get s.method.rec.handlers n ≡ Some h
   pub reached : IsReached s.method p
   pub covers : Covers h p
@@ -175,7 +175,7 @@ EnterFromStubs v w s place =
     (z t : State Cell) (n p : ℕ) (h : Handler)
     → IsTypedAt v s z
     → AreEqualBut z t
-    → IsCaught s place n h p (top z) (top t)
+    → IsCaughtInGroup s place n h p (top z) (top t)
     → ComesWithin w 1 1000 t (ComesToGroup s place z t)
 
 abbrev pub HandlersEnter : Linked → Type 0

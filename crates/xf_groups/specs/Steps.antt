@@ -12,9 +12,9 @@ use Rattle.xf_plan.specs.Source.{Source}
 use Rattle.xf_plan.specs.Plan.{operation}
 use Rattle.xf_emission.specs.declared.origin.Origin.TheVariants.{Start}
 use Rattle.xf_emission.specs.Edge.{copies}
-use Rattle.xf_emission.specs.Emission.{caught, is_live, items}
+use Rattle.xf_emission.specs.Emission.{catching_stub, is_live, items}
 use Rattle.xf_emission.specs.Group.{group}
-use Rattle.xf_emission.specs.Jump.{handler_label, place, stub, stub_label, taken}
+use Rattle.xf_emission.specs.Jump.{handler_label, place, stub, stub_label, branch_copies}
 use Rattle.xf_emission.specs.Laws.{IsCode}
 use Rattle.xf_groups.specs.Laid.{count_of, group_at, steps_of}
 
@@ -44,7 +44,7 @@ StubsStandAtSteps =
     → operation s i ≡ Ok op
     → operands_of s.world (Ok op) ≡ Some n
     → slice_get (targets s.method.code i) k ≡ Some t
-    → taken s i.place op n (place t) ≢ []
+    → branch_copies s i.place op n (place t) ≢ []
     → ItemsStandFrom s (place_of (stub_label i.place k) (items s)) (stub s i.place op n k t)
 
 -- of the stub of a live handler
@@ -54,7 +54,7 @@ HandlersStandAtSteps =
     → IsCode s
     → slice_get s.method.rec.handlers n ≡ Some h
     → is_live s h ≡ true
-    → ItemsStandFrom s (place_of (handler_label n) (items s)) (caught s n h)
+    → ItemsStandFrom s (place_of (handler_label n) (items s)) (catching_stub s n h)
 
 -- the copies of arguments come first, and then the group of place 0
 abbrev pub StartsStandAtSteps : Type 0

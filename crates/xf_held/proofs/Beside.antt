@@ -18,13 +18,13 @@ use Rattle.vm_store.specs.Typing.{least_type}
 use Rattle.vm_store.specs.Objects.{kinds}
 use Rattle.vm_store.specs.State.{State, Frame, top}
 use Rattle.vm_store.proofs.Stacks.{reverse-map}
-use Rattle.vm_sound.specs.Frames.{least_types, types_in}
+use Rattle.vm_sound.specs.Frames.{least_types, types_of_frame}
 use Rattle.vm_step.specs.Methods.{max_stack_of}
 use Rattle.xf_homes.specs.declared.home.Home.{Home}
 use Rattle.xf_homes.specs.Home.{register_count, KeepsStack}
 use Rattle.xf_homes.specs.Laws.{HasRegister, Serve, HomesServe}
 use Rattle.xf_homes.specs.Order.{register_sum}
-use Rattle.xf_homes.specs.Value.{value_at, width}
+use Rattle.xf_homes.specs.Value.{value_in_cells, type_width}
 use Rattle.xf_homes.specs.Walk.{register_from}
 use Rattle.xf_plan.specs.Source.{Source}
 use Rattle.xf_plan.specs.Plan.{stack_homes, needed, or_first, register}
@@ -48,7 +48,7 @@ pub record AreLaws (v w : Linked) : Type 0 where
   pub same_is : SameTypeDecides
   pub world : IsExecutable w
 
-some-width : (ty : Ty) → 0 < width ty
+some-width : (ty : Ty) → 0 < type_width ty
 some-width IntHigh = omega arith
 some-width ty = omega arith
 
@@ -66,7 +66,7 @@ among-each P (k ∷ ks) h all (inr a) = among-each P ks h all.1 a
 pub held-as : (s : Source) (values : List Cell) (g k : Frame Cell) (h : Home) → k.registers ≡ g.registers → HoldsValue s values g h → HoldsValue s values k h
 held-as s values g k h e held = record {
   known = held.known;
-  there = subst (λ (rs : List Cell). register s h + width h.ty ≤ length rs) (sym e) held.there;
+  there = subst (λ (rs : List Cell). register s h + type_width h.ty ≤ length rs) (sym e) held.there;
   equal = λ n lt. ap (λ (rs : List Cell). slice_get rs (register s h + n)) e ∙ held.equal n lt;
 }
 
@@ -83,7 +83,7 @@ held-in-slots s f g h held = record {
   equal = λ n lt. held.equal n lt ∙ sym (get-left f.registers (reverse f.stack) (h.slot + n) (let le = held.known in omega (arith, le, lt)));
 }
 
-pub held-in-registers : (s : Source) (f g : Frame Cell) (h : Home) → h.slot + width h.ty ≤ length f.registers → HoldsValue s (slots f) g h → HoldsValue s f.registers g h
+pub held-in-registers : (s : Source) (f g : Frame Cell) (h : Home) → h.slot + type_width h.ty ≤ length f.registers → HoldsValue s (slots f) g h → HoldsValue s f.registers g h
 held-in-registers s f g h inside held = record {
   known = inside;
   there = held.there;
@@ -98,7 +98,7 @@ module _ (v w : Linked) (l : AreLaws v w) (s : Source) (is : s.world ≡ v) (pla
   own = homes-own-registers s serve
 
   -- the registers of a home are there, and their numbers are of one byte
-  pub register-inside : (h : Home) → HasRegister s.homes h → register s h + width h.ty ≤ register_sum s.homes
+  pub register-inside : (h : Home) → HasRegister s.homes h → register s h + type_width h.ty ≤ register_sum s.homes
   register-inside h has =
       let e : register s h ≡ has.0 = ap or_first has.1 in
       omega (arith, e, serve.within h has.0 has.1)
@@ -127,12 +127,12 @@ module _ (v w : Linked) (l : AreLaws v w) (s : Source) (is : s.world ≡ v) (pla
     pub record Typed : Type 0 where
       pub frame : Types
       pub at : s.frames q ≡ Some frame
-      pub below : FrameBelow w.classes (types_in w.classes Top (kinds t) f) frame
+      pub below : FrameBelow w.classes (types_of_frame w.classes Top (kinds t) f) frame
 
     pub typed : Typed
     typed = by (s.frames q) refl beside.typed
       where
-        by : (o : Option Types) → s.frames q ≡ o → IsSomeAnd o (FrameBelow w.classes (types_in w.classes Top (kinds t) f)) → Typed
+        by : (o : Option Types) → s.frames q ≡ o → IsSomeAnd o (FrameBelow w.classes (types_of_frame w.classes Top (kinds t) f)) → Typed
         by None e h = absurd h
         by (Some g) e h = record { frame = g; at = e; below = h }
 
@@ -177,7 +177,7 @@ module _ (v w : Linked) (l : AreLaws v w) (s : Source) (is : s.world ≡ v) (pla
     cells-valued keeps h a =
         let filled = (subst CellsFillStack (sym is) l.fill) s refl plan q typed.frame typed.at keeps in
         let k = among-each (KeepsValues s) (stack_homes s q) h filled.keep a in
-        let value = among-each (λ k. value_at (slot_types typed.frame) k.slot ≡ Some k.ty) (stack_homes s q) h filled.values a in
+        let value = among-each (λ k. value_in_cells (slot_types typed.frame) k.slot ≡ Some k.ty) (stack_homes s q) h filled.values a in
         (k, value-cells w.classes types objects (kinds t) (slots f) (slot_types typed.frame) slots-below h.slot h.ty value k.kept (known-there h k))
 
     -- and so are those of locals that are needed

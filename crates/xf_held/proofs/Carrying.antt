@@ -26,13 +26,13 @@ use Rattle.vm_step.specs.Run.{Runs, stands}
 use Rattle.vm_step.proofs.Running.{continues-on}
 use Rattle.xf_homes.specs.declared.home.Home.{Home}
 use Rattle.xf_homes.specs.Laws.{HasRegister}
-use Rattle.xf_homes.specs.Value.{width}
+use Rattle.xf_homes.specs.Value.{type_width}
 use Rattle.xf_homes.specs.Walk.{has, same_home}
 use Rattle.xf_homes.proofs.Events.{home-itself, homes-equal}
 use Rattle.xf_plan.specs.Source.{Source}
 use Rattle.xf_plan.specs.Plan.{needed, register}
 use Rattle.xf_emission.specs.declared.origin.Origin.{Origin}
-use Rattle.xf_emission.specs.Edge.{home_before, held, copy_new, copies_from, local_copies, locals_copies, cell_copies}
+use Rattle.xf_emission.specs.Edge.{home_before, homes_held, copy_new, copies_from, local_copies, locals_copies, cell_copies}
 use Rattle.xf_emission.specs.Move.{copy, load_op}
 use Rattle.xf_held.specs.Edges.{insns}
 use Rattle.xf_held.specs.Held.{HoldsValue}
@@ -259,7 +259,7 @@ module _
   -- what is known of a local where the edge begins
   abbrev pub LocalIs : List Cell → Origin → ℕ → ℕ → Option Home → Type 0
   LocalIs registers o q x None = Each (Has registers) (needed s q x)
-  LocalIs registers o q x (Some from) = Each (IsFrom registers (held s o x from) from) (needed s q x)
+  LocalIs registers o q x (Some from) = Each (IsFrom registers (homes_held s o x from) from) (needed s q x)
 
   -- in registers where each value stands where it stood
   pub record Keep (registers others : List Cell) : Type 0 where
@@ -287,7 +287,7 @@ module _
       (registers others : List Cell) (o : Origin) (q x : ℕ) (h : Option Home) → Keep registers others → Each (HasRegister s.homes) (needed s q x)
       → LocalIs registers o q x h → LocalIs others o q x h
   local-later registers others o q x None keep own is = holds-later registers others (needed s q x) keep own is
-  local-later registers others o q x (Some from) keep own is = later-each registers others (held s o x from) from (needed s q x) keep own is
+  local-later registers others o q x (Some from) keep own is = later-each registers others (homes_held s o x from) from (needed s q x) keep own is
 
   from-runs :
       (n : ℕ) (registers : List Cell) (there ks : List Home) (from : Home)
@@ -339,7 +339,7 @@ module _
           (h : Option Home) → InstructionsStandFrom steps n (insns (copies_from s o q x h)) → n + length (insns (copies_from s o q x h)) < length steps
           → LocalIs registers o q x h → Went n registers (length (insns (copies_from s o q x h))) (needed s q x)
       by None stand further is = went-nowhere n registers (needed s q x) is
-      by (Some from) stand further is = from-runs n registers (held s o x from) (needed s q x) from stand further own is
+      by (Some from) stand further is = from-runs n registers (homes_held s o x from) (needed s q x) from stand further own is
 
   -- ---- all locals
 

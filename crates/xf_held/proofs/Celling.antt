@@ -19,7 +19,7 @@ use Rattle.vm_step.specs.Run.{Runs}
 use Rattle.xf_homes.specs.declared.home.Home.{Home}
 use Rattle.xf_homes.specs.Home.{argument_types, KeepsStack}
 use Rattle.xf_homes.specs.Laws.{HomesServe}
-use Rattle.xf_homes.specs.Value.{value_at, width}
+use Rattle.xf_homes.specs.Value.{value_in_cells, type_width}
 use Rattle.xf_plan.specs.Source.{Source}
 use Rattle.xf_plan.specs.Plan.{stack_homes, home_of, or_first, register}
 use Rattle.xf_emission.specs.declared.origin.Origin.TheVariants.{Start}
@@ -125,7 +125,7 @@ cells-all-run v w l place steps t n s q f hs ks is plan beside matched at stand 
 
 -- ---- the start
 
-value-width : (types : List Ty) (x : ℕ) (ty : Ty) → IsValueAt types x ty → x + width ty ≤ length types
+value-width : (types : List Ty) (x : ℕ) (ty : Ty) → IsValueAt types x ty → x + type_width ty ≤ length types
 value-width types x IntHigh is = let b = get-inside types (x + 1) _ (is.second refl) in omega (arith, b)
 value-width types x ty is = one ty (get-inside types x ty is.first)
   where
@@ -133,17 +133,17 @@ value-width types x ty is = one ty (get-inside types x ty is.first)
     one u lt = omega (arith, lt)
 
 pub starts-hold : (v : Linked) → HomesServe v → StartsHold v
-starts-hold v serves s f g args a b is plan left right count x = by (value_at (argument_types s.method.rec) x) refl
+starts-hold v serves s f g args a b is plan left right count x = by (value_in_cells (argument_types s.method.rec) x) refl
   where
-    by : (o : Option Ty) → value_at (argument_types s.method.rec) x ≡ o → IfSome (home_of x o) (HoldsValue s f.registers g)
+    by : (o : Option Ty) → value_in_cells (argument_types s.method.rec) x ≡ o → IfSome (home_of x o) (HoldsValue s f.registers g)
     by None e = tt
     by (Some ty) e =
         let h : Home = record { slot = x; ty = ty } in
         let inside = value-width (argument_types s.method.rec) x ty (value-is (argument_types s.method.rec) x ty e) in
         let own : register s h ≡ x = ap or_first ((subst HomesServe (sym is) serves s.method s.frames s.homes plan.homes).arguments h e) in
-        let first : (n : ℕ) → n < width ty → slice_get f.registers (x + n) ≡ slice_get args (x + n) =
+        let first : (n : ℕ) → n < type_width ty → slice_get f.registers (x + n) ≡ slice_get args (x + n) =
         λ n lt. ap (λ (rs : List Cell). slice_get rs (x + n)) left ∙ get-left args (replicate a Empty) (x + n) (omega (arith, lt, inside, count)) in
-        let second : (n : ℕ) → n < width ty → slice_get g.registers (x + n) ≡ slice_get args (x + n) =
+        let second : (n : ℕ) → n < type_width ty → slice_get g.registers (x + n) ≡ slice_get args (x + n) =
         λ n lt. ap (λ (rs : List Cell). slice_get rs (x + n)) right ∙ get-left args (replicate b Empty) (x + n) (omega (arith, lt, inside, count)) in
         record {
           known = omega (arith, inside, count, ap length left, length-append args (replicate a Empty));

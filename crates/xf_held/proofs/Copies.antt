@@ -23,7 +23,7 @@ use Rattle.vm_store.specs.declared.kind.ObjectKind.{ObjectKind}
 use Rattle.vm_store.specs.Typing.{least_type}
 use Rattle.vm_store.specs.Cells.{tagged}
 use Rattle.vm_store.specs.State.{State, Frame, Object, first_frame, nth, with_place}
-use Rattle.vm_store.specs.Laws.{IsFilled}
+use Rattle.vm_store.specs.Laws.{HasContent}
 use Rattle.vm_step.specs.Methods.{code_at, max_stack_of}
 use Rattle.vm_step.specs.Raising.{running}
 use Rattle.vm_step.specs.Run.{Runs, stands}
@@ -34,14 +34,15 @@ use Rattle.vm_alike.specs.Running.{Executes}
 use Rattle.vm_alike.proofs.Asked.{register-same}
 use Rattle.xf_homes.specs.declared.home.Home.{Home}
 use Rattle.xf_homes.specs.Laws.{HasRegister}
-use Rattle.xf_homes.specs.Value.{width}
+use Rattle.xf_homes.specs.Value.{type_width}
 use Rattle.xf_homes.specs.Walk.{register_from}
 use Rattle.xf_plan.specs.Source.{Source}
 use Rattle.xf_plan.specs.Plan.{or_first, register}
 use Rattle.xf_emission.specs.Move.{with_byte, store_op}
 use Rattle.xf_held.specs.Held.{HoldsValue}
 use Rattle.xf_held.specs.Laws.{AreApart}
-use Rattle.xf_held.specs.Moves.{IsExecutable, size, copied, AreFilled, end_of, letter_of, InstructionsStandFrom, load_of, copy_of, IsAtStep, CanLoad, OwnRegisters, HomesOwnRegisters, IsCopy, AreCopied, HomesAreCopied}
+use Rattle.xf_held.specs.Moves.{IsExecutable, size, copied, AreFilled, letter_of, InstructionsStandFrom, load_of, copy_of, IsAtStep, CanLoad, OwnRegisters, HomesOwnRegisters, IsCopy, AreCopied, HomesAreCopied}
+use Rattle.jc_decode.specs.Places.{place_after}
 use Rattle.xf_held.proofs.Copying.{copied-count, copies-keep-homes}
 use Rattle.xf_held.proofs.Going.{copies-run}
 use Rattle.xf_held.proofs.Loading.{load-resolves, store-resolves, step-place}
@@ -58,13 +59,13 @@ homes-own-registers s serve a b x y =
     let right : register s b ≡ y.0 = first-of (register_from 0 s.homes b) y.0 y.1 in
     go left right (serve.apart a b x.0 y.0 x.1 y.1)
   where
-    go : register s a ≡ x.0 → register s b ≡ y.0 → (a ≡ b) ⊎ (x.0 + width a.ty ≤ y.0) ⊎ (y.0 + width b.ty ≤ x.0)
-        → (a ≡ b) ⊎ AreApart (register s a) (width a.ty) (register s b) (width b.ty)
+    go : register s a ≡ x.0 → register s b ≡ y.0 → (a ≡ b) ⊎ (x.0 + type_width a.ty ≤ y.0) ⊎ (y.0 + type_width b.ty ≤ x.0)
+        → (a ≡ b) ⊎ AreApart (register s a) (type_width a.ty) (register s b) (type_width b.ty)
     go l r (inl same) = inl same
     go l r (inr (inl before)) = inr (inl (omega (arith, l, r, before)))
     go l r (inr (inr after)) = inr (inr (omega (arith, l, r, after)))
 
-pub wide : (ty : Ty) → width ty ≡ size (letter_of ty)
+pub wide : (ty : Ty) → type_width ty ≡ size (letter_of ty)
 wide Short = refl
 wide IntHigh = refl
 wide _ = refl
@@ -91,8 +92,8 @@ module _ (w : Linked) (ks : List ObjectKind) (registers others : List Cell) (r :
       let b = length-map others (least_type w.classes Bottom ks) in
       omega (arith, le, a, b, count)
 
-  one-filled : (n : ℕ) → Same n → IsFilled (nth tagged registers n) → IsFilled (nth tagged others n)
-  one-filled n e h = subst IsFilled (sym (register-same registers others n n e)) h
+  one-filled : (n : ℕ) → Same n → HasContent (nth tagged registers n) → HasContent (nth tagged others n)
+  one-filled n e h = subst HasContent (sym (register-same registers others n n e)) h
 
   at-first : (n : ℕ) → ((k : ℕ) → k < n → Same (r + k)) → 0 < n → Same r
   at-first n same some = let e : r + 0 ≡ r = omega arith in subst Same e (same 0 some)
@@ -158,14 +159,14 @@ module _
       let ex = steps-execute w world t m place steps n 0 (record { insn = load_of s h; targets = []; keys = [] })
       (ops.Load letter r)
       (omega arith) is_method are stand refl (load-resolves w m 0 r h.ty can.0) in
-      let t1 : State Cell = with_place (with_load tagged letter r t) (end_of ex.instruction) in
+      let t1 : State Cell = with_place (with_load tagged letter r t) (place_after ex.instruction) in
       let ey = steps-execute w world t1 m place steps (n + 1) 0
       (record { insn = with_byte (store_op k.ty) (register s k); targets = []; keys = [] })
       (ops.Store (letter_of k.ty) (register s k))
       (omega arith) is_method are store ex.ends (store-resolves w m 0 (register s k) k.ty copy.small) in
       let two : n + 1 + 1 ≡ n + 2 = omega arith in
-      let last : end_of ey.instruction ≡ place (n + 2) = ey.ends ∙ ap place two in
-      let width_is : width k.ty ≡ size letter = wide k.ty ∙ ap size copy.letter in
+      let last : place_after ey.instruction ≡ place (n + 2) = ey.ends ∙ ap place two in
+      let width_is : type_width k.ty ≡ size letter = wide k.ty ∙ ap size copy.letter in
       let fits = copy.inside in
       let ran = copies-run w world.chains t ex.instruction ey.instruction letter r (register s k) ex.executes
       (subst (λ l. Executes w t1 ey.instruction (ops.Store l (register s k))) copy.letter ey.executes)
@@ -193,8 +194,8 @@ module _
       (wide k.ty ∙ ap size copy.letter) copy.inside
       (go (own a k owns copy.own))
     where
-      go : (a ≡ k) ⊎ AreApart (register s a) (width a.ty) (register s k) (width k.ty)
-          → (a ≡ k) ⊎ (HoldsValue s values (frame q registers) a × AreApart (register s a) (width a.ty) (register s k) (width k.ty))
+      go : (a ≡ k) ⊎ AreApart (register s a) (type_width a.ty) (register s k) (type_width k.ty)
+          → (a ≡ k) ⊎ (HoldsValue s values (frame q registers) a × AreApart (register s a) (type_width a.ty) (register s k) (type_width k.ty))
       go (inl same) = inl same
       go (inr apart) = inr (moved p q registers a own_value, apart)
 

@@ -9,7 +9,7 @@ use Rattle.vm_store.specs.declared.cell.Cell.TheVariants.{Empty}
 use Rattle.vm_store.specs.Cells.{tagged}
 use Rattle.vm_store.specs.State.{Frame, nth}
 use Rattle.xf_homes.specs.declared.home.Home.{Home}
-use Rattle.xf_homes.specs.Value.{width}
+use Rattle.xf_homes.specs.Value.{type_width}
 use Rattle.xf_plan.specs.Source.{Source}
 use Rattle.xf_plan.specs.Plan.{register}
 use Rattle.xf_held.specs.Held.{HoldsValue}
@@ -77,8 +77,8 @@ copied-here sorts.Int from to rs (suc (suc k)) lt there inside = absurd (omega (
 
 held-after :
     (s : Source) (values : List Cell) (g : Frame Cell) (h k : Home) (sort : Sort)
-    → HoldsValue s values g h → h.slot ≡ k.slot → width h.ty ≡ size sort → width k.ty ≡ size sort
-    → register s k + width k.ty ≤ length g.registers
+    → HoldsValue s values g h → h.slot ≡ k.slot → type_width h.ty ≡ size sort → type_width k.ty ≡ size sort
+    → register s k + type_width k.ty ≤ length g.registers
     → HoldsValue s values (record g { registers = copied tagged sort (register s h) (register s k) g.registers }) k
 held-after s values g h k sort held slot wide also inside =
     let count = copied-count sort (register s h) (register s k) g.registers in
@@ -95,7 +95,7 @@ held-after s values g h k sort held slot wide also inside =
 
 held-still :
     (s : Source) (values : List Cell) (g : Frame Cell) (h k m : Home) (sort : Sort)
-    → width k.ty ≡ size sort → HoldsValue s values g m → AreApart (register s m) (width m.ty) (register s k) (width k.ty)
+    → type_width k.ty ≡ size sort → HoldsValue s values g m → AreApart (register s m) (type_width m.ty) (register s k) (type_width k.ty)
     → HoldsValue s values (record g { registers = copied tagged sort (register s h) (register s k) g.registers }) m
 held-still s values g h k m sort also held apart =
     let count = copied-count sort (register s h) (register s k) g.registers in
@@ -107,7 +107,7 @@ held-still s values g h k m sort also held apart =
           copied-other sort (register s h) (register s k) g.registers (register s m + n) (out n lt apart) ∙ held.equal n lt;
     }
   where
-    out : (n : ℕ) → n < width m.ty → AreApart (register s m) (width m.ty) (register s k) (width k.ty)
+    out : (n : ℕ) → n < type_width m.ty → AreApart (register s m) (type_width m.ty) (register s k) (type_width k.ty)
         → (register s m + n < register s k) ⊎ (register s k + size sort ≤ register s m + n)
     out n lt (inl before) = inl (omega (arith, before, lt))
     out n lt (inr after) = inr (omega (arith, after, also))

@@ -22,14 +22,14 @@ use Rattle.vm_step.specs.Run.{Runs}
 use Rattle.xf_homes.specs.declared.home.Home.{Home}
 use Rattle.xf_homes.specs.Home.{register_count, argument_types}
 use Rattle.xf_homes.specs.Laws.{HasRegister}
-use Rattle.xf_homes.specs.Value.{width}
+use Rattle.xf_homes.specs.Value.{type_width}
 use Rattle.xf_homes.specs.Walk.{has}
 use Rattle.xf_homes.proofs.Events.{has-among}
 use Rattle.xf_plan.specs.Source.{Source}
 use Rattle.xf_plan.specs.Plan.{needed, local, register}
 use Rattle.xf_emission.specs.declared.origin.Origin.{Origin}
 use Rattle.xf_emission.specs.declared.origin.Origin.TheVariants.{Start, After, Entry}
-use Rattle.xf_emission.specs.Edge.{is_stored, home_before, held, copies, cell_copies}
+use Rattle.xf_emission.specs.Edge.{is_stored, home_before, homes_held, copies, cell_copies}
 use Rattle.xf_typing.specs.Planned.{IsPlanned, KeepsValues}
 use Rattle.xf_typing.specs.Edges.{LeadsTo, stored_at, IsCarried, EdgesCarry}
 use Rattle.xf_held.specs.Edges.{insns, top_at, IsBeside, HoldsAfter, HoldsBefore, AreCarried, EdgesRun}
@@ -69,9 +69,9 @@ module _ (s : Source) (q : ℕ) (f g : Frame Cell) where
   -- a home in which a value is held where the edge begins, and of which nothing is stored
   held-stands :
       (same_is : SameTypeDecides) (o : Origin) (x : ℕ) (from k : Home) → HoldsBefore s o q f g → home_before s o x ≡ Some from → k.slot ≡ x
-      → ((n : ℕ) → n < width k.ty → stored_at o (k.slot + n) ≡ false) → has (held s o x from) k ≡ true → HoldsValue s f.registers g k
+      → ((n : ℕ) → n < type_width k.ty → stored_at o (k.slot + n) ≡ false) → has (homes_held s o x from) k ≡ true → HoldsValue s f.registers g k
   held-stands same_is (After p op) x from k holds before slot apart there =
-      among-each (λ h. ((n : ℕ) → n < width h.ty → is_stored op (h.slot + n) ≡ false) → HoldsValue s f.registers g h) (needed s p x) k (holds.others x)
+      among-each (λ h. ((n : ℕ) → n < type_width h.ty → is_stored op (h.slot + n) ≡ false) → HoldsValue s f.registers g h) (needed s p x) k (holds.others x)
       (has-among same_is (needed s p x) k there) apart
   held-stands same_is Start x from k holds before slot apart there = if-some (home_before s Start x) k (before ∙ ap Some (only (has-among same_is (from ∷ []) k there))) (holds x)
     where
@@ -110,17 +110,17 @@ module _ (v w : Linked) (l : AreLaws v w) (place : ℕ → ℕ) (steps : List St
     carried : (x : ℕ) (k : Home) → IsAmong k (needed s q x) → (stored_at o k.slot ≡ true) ⊎ ((from : Home) × IsCarried s o k from)
     carried x k a = (subst EdgesCarry (sym is) l.carry) s refl plan o q x k leads a
 
-    from-here : (x : ℕ) (from k : Home) → home_before s o x ≡ Some from → IsAmong k (needed s q x) → FromHere (held s o x from) from k
+    from-here : (x : ℕ) (from k : Home) → home_before s o x ≡ Some from → IsAmong k (needed s q x) → FromHere (homes_held s o x from) from k
     from-here x from k before a = by (carried x k a)
       where
         valued : (k.slot ≡ x) × KeepsValues s k × CellsAt w.classes (kinds t) f.registers k.slot (asked_types w.classes (letter_of k.ty))
         valued = needed-valued v w l s is plan q f t beside x k a
 
-        go : IsCarried s o k from → FromHere (held s o x from) from k
+        go : IsCarried s o k from → FromHere (homes_held s o x from) from k
         go c =
             let letter : letter_of from.ty ≡ letter_of k.ty = same-letter from.ty k.ty c.loads in
-            let wide_is : width from.ty ≡ width k.ty = wide from.ty ∙ (ap size letter ∙ sym (wide k.ty)) in
-            let there : has (held s o x from) from ≡ true = ap (λ (y : ℕ). has (held s o y from) from) (sym valued.0) ∙ c.there in
+            let wide_is : type_width from.ty ≡ type_width k.ty = wide from.ty ∙ (ap size letter ∙ sym (wide k.ty)) in
+            let there : has (homes_held s o x from) from ≡ true = ap (λ (y : ℕ). has (homes_held s o y from) from) (sym valued.0) ∙ c.there in
             let stands = held-stands s q f g l.same_is o x from from holds before (c.slot ∙ valued.0)
             (λ n lt. ap (λ (y : ℕ). stored_at o (y + n)) c.slot ∙ c.apart n (omega (arith, lt, wide_is))) there in
             record {
@@ -144,11 +144,11 @@ module _ (v w : Linked) (l : AreLaws v w) (place : ℕ → ℕ) (steps : List St
               single = λ e. single (same-or-reference from.ty k.ty c.loads) there e;
             }
           where
-            single : (k.ty ≡ from.ty) ⊎ (letter_of from.ty ≡ sorts.Reference) → has (held s o x from) from ≡ true → has (held s o x from) k ≡ false → letter_of from.ty ≡ sorts.Reference
-            single (inl same) there e = absurd (both_ways (has (held s o x from) from) (ap (has (held s o x from)) (home-same from k c.slot (sym same)) ∙ e) there)
+            single : (k.ty ≡ from.ty) ⊎ (letter_of from.ty ≡ sorts.Reference) → has (homes_held s o x from) from ≡ true → has (homes_held s o x from) k ≡ false → letter_of from.ty ≡ sorts.Reference
+            single (inl same) there e = absurd (both_ways (has (homes_held s o x from) from) (ap (has (homes_held s o x from)) (home-same from k c.slot (sym same)) ∙ e) there)
             single (inr reference) there e = reference
 
-        by : (stored_at o k.slot ≡ true) ⊎ ((other : Home) × IsCarried s o k other) → FromHere (held s o x from) from k
+        by : (stored_at o k.slot ≡ true) ⊎ ((other : Home) × IsCarried s o k other) → FromHere (homes_held s o x from) from k
         by (inl stored) = absurd (stored-none s q f g o x from (ap (stored_at o) (sym valued.0) ∙ stored) before)
         by (inr (other, c)) =
             let same : other ≡ from = some-same other from (sym c.before ∙ ap (home_before s o) valued.0 ∙ before) in

@@ -31,13 +31,13 @@ use Rattle.xf_homes.specs.declared.home.Home.{Home}
 use Rattle.xf_homes.specs.Home.{register_count, KeepsStack, IsAsked}
 use Rattle.xf_homes.specs.Laws.{HasRegister, AreNeeded, AreAskedInOrder, IsAskedBefore, NeededAreKept}
 use Rattle.xf_homes.specs.Order.{SlotsFollow as Follow, register_sum}
-use Rattle.xf_homes.specs.Value.{width}
+use Rattle.xf_homes.specs.Value.{type_width}
 use Rattle.xf_homes.specs.Walk.{has, register_from, same_home}
 use Rattle.xf_homes.proofs.Events.{homes-equal}
 use Rattle.xf_plan.specs.Source.{Source}
 use Rattle.xf_plan.specs.Plan.{stack_homes, needed, stack_of, cells_from}
 use Rattle.xf_emission.specs.declared.origin.Origin.{Origin}
-use Rattle.xf_emission.specs.Edge.{home_before, held, copy_new, copies_from, local_copies, locals_copies, copies}
+use Rattle.xf_emission.specs.Edge.{home_before, homes_held, copy_new, copies_from, local_copies, locals_copies, copies}
 use Rattle.xf_emission.specs.Move.{copy}
 use Rattle.xf_emission.proofs.Fewer.{Distinct, no-longer, distinct-append, either-among}
 use Rattle.xf_typing.specs.Planned.{IsPlanned}
@@ -46,7 +46,7 @@ use Rattle.xf_typing.proofs.Below.{top-only}
 use Rattle.xf_typing.proofs.Registers.{not-fresh}
 use Rattle.xf_held.specs.Edges.{insns, IsBeside, KeptStacksStay, CellsAreFew, CopiesAreFew}
 use Rattle.xf_held.specs.Held.{slots}
-use Rattle.xf_held.specs.Moves.{letter_of, value_at}
+use Rattle.xf_held.specs.Moves.{letter_of, value_in_register}
 use Rattle.xf_held.proofs.Valued.{asked_types, IsCellOf, CellsAt, at-nth}
 use Rattle.xf_held.proofs.Storing.{piled, piled-stack}
 use Rattle.xf_held.proofs.Spilling.{reverse-among}
@@ -81,7 +81,7 @@ module _ (t : ClassTable) (order : IsOrderOfTypes t) (ks : List ObjectKind) wher
 
   pub same-value :
       (e : ℕ → ℕ) (letter : Sort) (values : List Cell) (n : ℕ) → CellsAt t ks values n (asked_types t letter)
-      → map (renamed_cell e) (value_at letter n values) ≡ value_at letter n values
+      → map (renamed_cell e) (value_in_register letter n values) ≡ value_in_register letter n values
   same-value e sorts.Reference values n is = ap (λ (c : Cell). c ∷ []) (same-nth e values n (Class (object t)) is tt tt)
   same-value e sorts.Short values n is = ap (λ (c : Cell). c ∷ []) (same-nth e values n Short is tt tt)
   same-value e sorts.Int values n is =
@@ -93,9 +93,9 @@ module _ (t : ClassTable) (order : IsOrderOfTypes t) (ks : List ObjectKind) wher
       → map (renamed_cell e) (piled values hs []) ≡ piled values hs []
   same-pile e values [] all = refl
   same-pile e values (h ∷ hs) all =
-      map-append (renamed_cell e) (value_at (letter_of h.ty) h.slot values) (piled values hs [])
+      map-append (renamed_cell e) (value_in_register (letter_of h.ty) h.slot values) (piled values hs [])
       ∙ (ap (λ (cs : List Cell). cs ++ map (renamed_cell e) (piled values hs [])) (same-value e (letter_of h.ty) values h.slot all.0)
-      ∙ ap (λ (cs : List Cell). value_at (letter_of h.ty) h.slot values ++ cs) (same-pile e values hs all.1))
+      ∙ ap (λ (cs : List Cell). value_in_register (letter_of h.ty) h.slot values ++ cs) (same-pile e values hs all.1))
 
 pub kept-stacks-stay : (v w : Linked) → AreLaws v w → KeptStacksStay v w
 kept-stacks-stay v w l s q f t e is plan beside keeps =
@@ -114,9 +114,9 @@ kept-stacks-stay v w l s q f t e is plan beside keeps =
 homes-few : (hs : List Home) → length hs ≤ register_sum hs
 unfolding register_sum
 homes-few [] = omega arith
-homes-few (h ∷ hs) = omega (arith, wide h.ty, homes-few hs, sum_by-cons (λ (k : Home). width k.ty) h hs)
+homes-few (h ∷ hs) = omega (arith, wide h.ty, homes-few hs, sum_by-cons (λ (k : Home). type_width k.ty) h hs)
   where
-    wide : (t : Ty) → 1 ≤ width t
+    wide : (t : Ty) → 1 ≤ type_width t
     wide IntHigh = omega arith
     wide t = omega arith
 
@@ -161,7 +161,7 @@ local-few s o q x = by (home_before s o x)
   where
     by : (h : Option Home) → length (insns (copies_from s o q x h)) ≤ 2 * length (needed s q x)
     by None = omega arith
-    by (Some from) = new-few s from (held s o x from) (needed s q x)
+    by (Some from) = new-few s from (homes_held s o x from) (needed s q x)
 
 -- what is needed of so many locals from x on
 abbrev all_needed : Source → ℕ → ℕ → ℕ → List Home
@@ -176,11 +176,11 @@ locals-few s o q x (suc n) =
 
 in-homes : (same_is : SameTypeDecides) (n : ℕ) (hs : List Home) (h : Home) (r : ℕ) → register_from n hs h ≡ Some r → IsAmong h hs
 in-homes same_is n [] h r e = absurd (cc)
-in-homes same_is n (k ∷ ks) h r e = by (same_home k h) refl e (λ f. in-homes same_is (n + width k.ty) ks h r f)
+in-homes same_is n (k ∷ ks) h r e = by (same_home k h) refl e (λ f. in-homes same_is (n + type_width k.ty) ks h r f)
   where
     by :
-        (b : Bool) → same_home k h ≡ b → (if b then Some n else register_from (n + width k.ty) ks h) ≡ Some r
-        → (register_from (n + width k.ty) ks h ≡ Some r → IsAmong h ks) → IsAmong h (k ∷ ks)
+        (b : Bool) → same_home k h ≡ b → (if b then Some n else register_from (n + type_width k.ty) ks h) ≡ Some r
+        → (register_from (n + type_width k.ty) ks h ≡ Some r → IsAmong h ks) → IsAmong h (k ∷ ks)
     by true q e rest = inl (homes-equal same_is k h q)
     by false q e rest = inr (rest e)
 

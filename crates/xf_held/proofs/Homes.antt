@@ -7,7 +7,7 @@ use Rattle.jc_rules.specs.Footprint.{Footprint}
 use Rattle.vm_store.specs.State.{State, top}
 use Rattle.vm_alike.specs.Alike.{StaysInFrame}
 use Rattle.xf_homes.specs.declared.home.Home.{Home}
-use Rattle.xf_homes.specs.Value.{width}
+use Rattle.xf_homes.specs.Value.{type_width}
 use Rattle.xf_plan.specs.Source.{Source}
 use Rattle.xf_plan.specs.Plan.{register, needed}
 use Rattle.xf_held.specs.Held.{HoldsValue}
@@ -30,8 +30,8 @@ module _ {A : Type 0} where
   kept :
       (p q : Footprint) (s z t y : State A) (source : Source) (h : Home)
       → StaysInFrame p s z → StaysInFrame q t y
-      → ((k : ℕ) → k < width h.ty → (h.slot + k < p.register) ⊎ (p.register + p.written ≤ h.slot + k))
-      → ((k : ℕ) → k < width h.ty → (register source h + k < q.register) ⊎ (q.register + q.written ≤ register source h + k))
+      → ((k : ℕ) → k < type_width h.ty → (h.slot + k < p.register) ⊎ (p.register + p.written ≤ h.slot + k))
+      → ((k : ℕ) → k < type_width h.ty → (register source h + k < q.register) ⊎ (q.register + q.written ≤ register source h + k))
       → HoldsValue source (top s).registers (top t) h
       → HoldsValue source (top z).registers (top y) h
   kept p q s z t y source h first second here there held =
@@ -48,8 +48,8 @@ module _ {A : Type 0} where
   pub homes-stay : HomesStay A
   homes-stay p q s z t y source h first second here there held =
       kept p q s z t y source h first second
-      (λ k lt. outside h.slot (width h.ty) p.register p.written k here lt)
-      (λ k lt. outside (register source h) (width h.ty) q.register q.written k there lt) held
+      (λ k lt. outside h.slot (type_width h.ty) p.register p.written k here lt)
+      (λ k lt. outside (register source h) (type_width h.ty) q.register q.written k there lt) held
 
   each-stays :
       (p q : Footprint) (s z t y : State A) (source : Source) → StaysInFrame p s z → StaysInFrame q t y → p.written ≡ 0 → q.written ≡ 0
@@ -57,8 +57,8 @@ module _ {A : Type 0} where
   each-stays p q s z t y source first second none also [] held = tt
   each-stays p q s z t y source first second none also (h ∷ hs) held = (
     kept p q s z t y source h first second
-        (λ k lt. none-written h.slot (width h.ty) p.register p.written none (h.slot + k))
-        (λ k lt. none-written (register source h) (width h.ty) q.register q.written also (register source h + k)) held.0,
+        (λ k lt. none-written h.slot (type_width h.ty) p.register p.written none (h.slot + k))
+        (λ k lt. none-written (register source h) (type_width h.ty) q.register q.written also (register source h + k)) held.0,
     each-stays p q s z t y source first second none also hs held.1,
   )
 

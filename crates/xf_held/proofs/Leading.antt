@@ -17,7 +17,7 @@ use Rattle.vm_step.specs.Run.{Runs}
 use Rattle.xf_homes.specs.declared.home.Home.{Home}
 use Rattle.xf_homes.specs.Home.{register_count}
 use Rattle.xf_homes.specs.Order.{SlotsFollow as Follow, register_sum}
-use Rattle.xf_homes.specs.Value.{width}
+use Rattle.xf_homes.specs.Value.{type_width}
 use Rattle.xf_plan.specs.Source.{Source}
 use Rattle.xf_plan.specs.Plan.{stack_homes, register}
 use Rattle.xf_emission.specs.Move.{load, loads}

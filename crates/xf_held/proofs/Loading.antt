@@ -35,7 +35,8 @@ use Rattle.xf_emission.specs.Move.{with_byte, load_op, store_op}
 use Rattle.xf_homes.specs.declared.home.Home.{Home}
 use Rattle.xf_plan.specs.Source.{Source}
 use Rattle.xf_plan.specs.Plan.{register}
-use Rattle.xf_held.specs.Moves.{IsExecutable, AreFilled, end_of, letter_of, InstructionsStandFrom, load_of, IsAtStep, CanLoad, value_at, loaded_stack, LoadsRun}
+use Rattle.xf_held.specs.Moves.{IsExecutable, AreFilled, letter_of, InstructionsStandFrom, load_of, IsAtStep, CanLoad, value_in_register, loaded_stack, LoadsRun}
+use Rattle.jc_decode.specs.Places.{place_after}
 use Rattle.xf_held.proofs.Going.{loaded-filled, operations-go-on}
 use Rattle.xf_held.proofs.Standing.{steps-stand-at-places, steps-execute}
 
@@ -107,7 +108,7 @@ module _
 
   load-is :
       (letter : Sort) (r p q : ℕ) (stack : List Cell) → AreFilled letter r registers
-      → with_place (with_load tagged letter r (at p stack)) q ≡ at q (value_at letter r registers ++ stack)
+      → with_place (with_load tagged letter r (at p stack)) q ≡ at q (value_in_register letter r registers ++ stack)
   load-is sorts.Reference r p q stack filled =
       ap (λ c. at q (c ∷ stack)) (loaded-filled made.Reference (nth tagged registers r) filled)
   load-is sorts.Short r p q stack filled = ap (λ c. at q (c ∷ stack)) (loaded-filled made.Short (nth tagged registers r) filled)
@@ -118,7 +119,7 @@ module _
 
   load-depth :
       (letter : Sort) (r p : ℕ) (stack : List Cell) → length (top (with_load tagged letter r (at p stack))).stack
-      ≡ length (value_at letter r registers ++ stack)
+      ≡ length (value_in_register letter r registers ++ stack)
   load-depth sorts.Reference r p stack = refl
   load-depth sorts.Short r p stack = refl
   load-depth sorts.Int r p stack = refl
@@ -134,9 +135,9 @@ module _
       → slice_get steps n ≡ Some (record { insn = load_of s h; targets = []; keys = [] })
       → suc n < length steps
       → CanLoad w s (at p first) h
-      → length (value_at (letter_of h.ty) (register s h) registers ++ stack) ≤ max_stack_of w method
+      → length (value_in_register (letter_of h.ty) (register s h) registers ++ stack) ≤ max_stack_of w method
       → Steps tagged w (at (place n) stack)
-      (running (at (place (n + 1)) (value_at (letter_of h.ty) (register s h) registers ++ stack)))
+      (running (at (place (n + 1)) (value_in_register (letter_of h.ty) (register s h) registers ++ stack)))
   one-load n p h stack first stand further can room =
       let letter : Sort = letter_of h.ty in
       let r : ℕ = register s h in
@@ -146,17 +147,17 @@ module _
       let z : State Cell = with_load tagged letter r (at (place n) stack) in
       let next : IsPlace (code_at w method) (place (n + 1)) = step-place (code_at w method) place steps (n + 1) are
       (omega (arith, further)) in
-      let went : Steps tagged w (at (place n) stack) (running (with_place z (end_of ex.instruction))) =
+      let went : Steps tagged w (at (place n) stack) (running (with_place z (place_after ex.instruction))) =
       operations-go-on w world.chains (at (place n) stack) z ex.instruction (ops.Load letter r) ex.executes
       (asked-over letter r first stack can.1.asked) refl
       (let d = load-depth letter r (place n) stack in let k = ap (max_stack_of w) (load-method letter r (place n) stack) in omega
       (arith, room, d, k))
-      (subst (λ k. IsPlace (code_at w k) (end_of ex.instruction)) (sym (load-method letter r (place n) stack))
+      (subst (λ k. IsPlace (code_at w k) (place_after ex.instruction)) (sym (load-method letter r (place n) stack))
       (subst (IsPlace (code_at w method)) (sym ex.ends) next)) in
       subst (λ (y : State Cell). Steps tagged w (at (place n) stack) (running y))
       (ap (λ q. with_place z q) ex.ends ∙ load-is letter r (place n) (place (n + 1)) stack can.1.filled) went
 
-  above : (letter : Sort) (r : ℕ) (stack : List Cell) → length stack ≤ length (value_at letter r registers ++ stack)
+  above : (letter : Sort) (r : ℕ) (stack : List Cell) → length stack ≤ length (value_in_register letter r registers ++ stack)
   above sorts.Reference r stack = omega arith
   above sorts.Short r stack = omega arith
   above sorts.Int r stack = omega arith
@@ -164,7 +165,7 @@ module _
   deeper : (hs : List Home) (stack : List Cell) → length stack ≤ length (loaded_stack s registers hs stack)
   deeper [] stack = omega arith
   deeper (h ∷ hs) stack =
-      let rest = deeper hs (value_at (letter_of h.ty) (register s h) registers ++ stack) in
+      let rest = deeper hs (value_in_register (letter_of h.ty) (register s h) registers ++ stack) in
       let own = above (letter_of h.ty) (register s h) stack in
       omega (arith, rest, own)
 
@@ -179,7 +180,7 @@ module _
       let e : n ≡ n + 0 = omega arith in
       subst (λ k. Runs tagged w 0 (at (place n) stack) (running (at (place k) stack))) e stands
   loads-from n (h ∷ hs) stack first p stand further can room =
-      let more : List Cell = value_at (letter_of h.ty) (register s h) registers ++ stack in
+      let more : List Cell = value_in_register (letter_of h.ty) (register s h) registers ++ stack in
       let e : n + 1 + length hs ≡ n + suc (length hs) = omega arith in
       let deep = deeper hs more in
       then

@@ -20,7 +20,7 @@ use Rattle.vm_alike.proofs.Asked.{register-same}
 use Rattle.xf_homes.specs.declared.home.Home.{Home}
 use Rattle.xf_homes.specs.Home.{register_count}
 use Rattle.xf_homes.specs.Order.{SlotsFollow as Follow, register_sum}
-use Rattle.xf_homes.specs.Value.{width}
+use Rattle.xf_homes.specs.Value.{type_width}
 use Rattle.xf_plan.specs.Source.{Source}
 use Rattle.xf_plan.specs.Plan.{stack_homes, register}
 use Rattle.xf_emission.specs.Jump.{has_under, operands, under}
@@ -30,7 +30,7 @@ use Rattle.xf_typing.specs.Edges.{CellsFillStack, FillStack, ForksAreCut, IsFork
 use Rattle.xf_typing.proofs.Stacks.{turned-cons}
 use Rattle.xf_held.specs.Edges.{insns, top_at, IsBeside, OperandsLoad, UnderHold, UnderLoads}
 use Rattle.xf_held.specs.Held.{HoldsValue, slots}
-use Rattle.xf_held.specs.Moves.{size, letter_of, InstructionsStandFrom, IsAtStep, CanLoad, load_of, loaded_stack, value_at}
+use Rattle.xf_held.specs.Moves.{size, letter_of, InstructionsStandFrom, IsAtStep, CanLoad, load_of, loaded_stack, value_in_register}
 use Rattle.xf_held.proofs.Copies.{wide}
 use Rattle.xf_held.proofs.Loading.{loads-run}
 use Rattle.xf_held.proofs.Storing.{piled, piled-append, piled-from}
@@ -42,20 +42,20 @@ use Rattle.xf_held.proofs.Beside.{AreLaws, each-among, among-each, typed, count-
 piled-base : (values : List Cell) (hs : List Home) (stack : List Cell) → piled values hs stack ≡ piled values hs [] ++ stack
 piled-base values [] stack = refl
 piled-base values (h ∷ hs) stack =
-    ap (λ (cs : List Cell). value_at (letter_of h.ty) h.slot values ++ cs) (piled-base values hs stack)
-    ∙ sym (append_assoc (value_at (letter_of h.ty) h.slot values) (piled values hs []) stack)
+    ap (λ (cs : List Cell). value_in_register (letter_of h.ty) h.slot values ++ cs) (piled-base values hs stack)
+    ∙ sym (append_assoc (value_in_register (letter_of h.ty) h.slot values) (piled values hs []) stack)
 
 module _ (s : Source) (values : List Cell) (g : Frame Cell) where
-  same-at : (h : Home) (k : ℕ) → k < width h.ty → HoldsValue s values g h → nth tagged g.registers (register s h + k) ≡ nth tagged values (h.slot + k)
+  same-at : (h : Home) (k : ℕ) → k < type_width h.ty → HoldsValue s values g h → nth tagged g.registers (register s h + k) ≡ nth tagged values (h.slot + k)
   same-at h k lt held = register-same values g.registers (h.slot + k) (register s h + k) (held.equal k lt)
 
-  same-first : (h : Home) → 0 < width h.ty → HoldsValue s values g h → nth tagged g.registers (register s h) ≡ nth tagged values h.slot
+  same-first : (h : Home) → 0 < type_width h.ty → HoldsValue s values g h → nth tagged g.registers (register s h) ≡ nth tagged values h.slot
   same-first h some held =
       let here : register s h ≡ register s h + 0 = omega arith in
       let there : h.slot + 0 ≡ h.slot = omega arith in
       ap (nth tagged g.registers) here ∙ (same-at h 0 some held ∙ ap (nth tagged values) there)
 
-  same-value : (letter : Sort) (h : Home) → width h.ty ≡ size letter → HoldsValue s values g h → value_at letter (register s h) g.registers ≡ value_at letter h.slot values
+  same-value : (letter : Sort) (h : Home) → type_width h.ty ≡ size letter → HoldsValue s values g h → value_in_register letter (register s h) g.registers ≡ value_in_register letter h.slot values
   same-value sorts.Reference h e held = ap (λ (c : Cell). c ∷ []) (same-first h (omega (arith, e)) held)
   same-value sorts.Short h e held = ap (λ (c : Cell). c ∷ []) (same-first h (omega (arith, e)) held)
   same-value sorts.Int h e held =
@@ -67,7 +67,7 @@ module _ (s : Source) (values : List Cell) (g : Frame Cell) where
   loaded-piled [] stack held = refl
   loaded-piled (h ∷ hs) stack held =
       ap (λ (cs : List Cell). loaded_stack s g.registers hs (cs ++ stack)) (same-value (letter_of h.ty) h (wide h.ty) held.0)
-      ∙ (loaded-piled hs (value_at (letter_of h.ty) h.slot values ++ stack) held.1
+      ∙ (loaded-piled hs (value_in_register (letter_of h.ty) h.slot values ++ stack) held.1
       ∙ (sym (piled-append values (reverse hs) (h ∷ []) stack) ∙ ap (λ (ks : List Home). piled values ks stack) (sym (turned-cons h hs))))
 
 -- ---- lists
@@ -88,36 +88,36 @@ turned-drop xs k le =
 
 follow-left : (n : ℕ) (hs ks : List Home) → Follow n (hs ++ ks) → Follow n hs
 follow-left n [] ks follow = tt
-follow-left n (h ∷ hs) ks follow = (follow.0, follow-left (n + width h.ty) hs ks follow.1)
+follow-left n (h ∷ hs) ks follow = (follow.0, follow-left (n + type_width h.ty) hs ks follow.1)
 
 follow-right : (n : ℕ) (hs ks : List Home) → Follow n (hs ++ ks) → Follow (n + register_sum hs) ks
 unfolding register_sum
 follow-right n [] ks follow = let e : n ≡ n + 0 = omega arith in subst (λ (m : ℕ). Follow m ks) e follow
 follow-right n (h ∷ hs) ks follow =
-    let sum = sum_by-cons (λ (x : Home). width x.ty) h hs in
-    let e : n + width h.ty + sum_by (λ (x : Home). width x.ty) hs ≡ n + sum_by (λ (x : Home). width x.ty) (h ∷ hs) = omega (arith, sum) in
-    subst (λ (m : ℕ). Follow m ks) e (follow-right (n + width h.ty) hs ks follow.1)
+    let sum = sum_by-cons (λ (x : Home). type_width x.ty) h hs in
+    let e : n + type_width h.ty + sum_by (λ (x : Home). type_width x.ty) hs ≡ n + sum_by (λ (x : Home). type_width x.ty) (h ∷ hs) = omega (arith, sum) in
+    subst (λ (m : ℕ). Follow m ks) e (follow-right (n + type_width h.ty) hs ks follow.1)
 
 -- homes that follow one another end where their registers do
-slots-to : (n : ℕ) (hs : List Home) → Follow n hs → (h : Home) → IsAmong h hs → h.slot + width h.ty ≤ n + register_sum hs
+slots-to : (n : ℕ) (hs : List Home) → Follow n hs → (h : Home) → IsAmong h hs → h.slot + type_width h.ty ≤ n + register_sum hs
 unfolding register_sum
 slots-to n [] follow h a = absurd a
 slots-to n (k ∷ hs) follow h (inl e) =
-    let sum = sum_by-cons (λ (x : Home). width x.ty) k hs in
-    omega (arith, sum, follow.0, ap (λ (x : Home). x.slot) e, ap (λ (x : Home). width x.ty) e)
+    let sum = sum_by-cons (λ (x : Home). type_width x.ty) k hs in
+    omega (arith, sum, follow.0, ap (λ (x : Home). x.slot) e, ap (λ (x : Home). type_width x.ty) e)
 slots-to n (k ∷ hs) follow h (inr a) =
-    let sum = sum_by-cons (λ (x : Home). width x.ty) k hs in
-    omega (arith, sum, slots-to (n + width k.ty) hs follow.1 h a)
+    let sum = sum_by-cons (λ (x : Home). type_width x.ty) k hs in
+    omega (arith, sum, slots-to (n + type_width k.ty) hs follow.1 h a)
 
 -- a value among cells, and among more of them
-grown : (s : Source) (xs ys : List Cell) (g : Frame Cell) (h : Home) → h.slot + width h.ty ≤ length xs → HoldsValue s xs g h → HoldsValue s (xs ++ ys) g h
+grown : (s : Source) (xs ys : List Cell) (g : Frame Cell) (h : Home) → h.slot + type_width h.ty ≤ length xs → HoldsValue s xs g h → HoldsValue s (xs ++ ys) g h
 grown s xs ys g h inside held = record {
   known = omega (arith, inside, length-append xs ys);
   there = held.there;
   equal = λ n lt. held.equal n lt ∙ sym (get-left xs ys (h.slot + n) (omega (arith, inside, lt)));
 }
 
-cut-back : (s : Source) (xs ys : List Cell) (g : Frame Cell) (h : Home) → h.slot + width h.ty ≤ length xs → HoldsValue s (xs ++ ys) g h → HoldsValue s xs g h
+cut-back : (s : Source) (xs ys : List Cell) (g : Frame Cell) (h : Home) → h.slot + type_width h.ty ≤ length xs → HoldsValue s (xs ++ ys) g h → HoldsValue s xs g h
 cut-back s xs ys g h inside held = record {
   known = inside;
   there = held.there;
@@ -147,7 +147,7 @@ module _ (v w : Linked) (l : AreLaws v w) (place : ℕ → ℕ) (steps : List St
   total : register_sum (under s i.place k) + register_sum (operands s i.place k) ≡ length f.stack
   unfolding register_sum
   total =
-      sym (sum_by-append (λ (h : Home). width h.ty) (under s i.place k) (operands s i.place k)) ∙ (ap register_sum (sym fork.parts)
+      sym (sum_by-append (λ (h : Home). type_width h.ty) (under s i.place k) (operands s i.place k)) ∙ (ap register_sum (sym fork.parts)
       ∙ (filled.fill ∙ sym (count-stack v w l s is plan i.place f t beside)))
 
   deep : k ≤ length f.stack
@@ -242,7 +242,7 @@ module _ (v w : Linked) (l : AreLaws v w) (place : ℕ → ℕ) (steps : List St
           ap (λ (cs : List Cell). f.registers ++ cs) (ap reverse (sym (take-append-drop k f.stack)) ∙ reverse-append (take k f.stack) (drop k f.stack))
           ∙ (sym (append_assoc f.registers (reverse (drop k f.stack)) (reverse (take k f.stack))) ∙ ap (λ (cs : List Cell). cs ++ reverse (take k f.stack)) (sym own))
 
-      inside : (h : Home) → IsAmong h (under s i.place k) → h.slot + width h.ty ≤ length (slots y)
+      inside : (h : Home) → IsAmong h (under s i.place k) → h.slot + type_width h.ty ≤ length (slots y)
       inside h a =
           let to = slots-to (length f.registers) (under s i.place k) (follow-left (length f.registers) (under s i.place k) (operands s i.place k) follow) h a in
           omega (arith, to, under_sum, ap length own, length-append f.registers (reverse (drop k f.stack)), length-reverse (drop k f.stack), length-drop k f.stack)

@@ -10,7 +10,7 @@ use Rattle.jc_rules.specs.Footprint.{registers_asked, registers_read}
 use Rattle.jc_rules.specs.Rule.{demands}
 use Rattle.vm_store.specs.State.{State, top}
 use Rattle.xf_homes.specs.declared.home.Home.{Home}
-use Rattle.xf_homes.specs.Value.{width}
+use Rattle.xf_homes.specs.Value.{type_width}
 use Rattle.xf_plan.specs.Source.{Source}
 use Rattle.xf_plan.specs.Plan.{register}
 use Rattle.xf_held.specs.Held.{HoldsValue}
@@ -32,7 +32,7 @@ none-read (Cut n ∷ ds) e = none-read ds e
 module _ {A : Type 0} where
   -- the first cell of a home, and the second of an int
   first-cell :
-      (s t : State A) (source : Source) (h : Home) (n : ℕ) → HoldsValue source (top s).registers (top t) h → width h.ty ≡ n → 0 < n
+      (s t : State A) (source : Source) (h : Home) (n : ℕ) → HoldsValue source (top s).registers (top t) h → type_width h.ty ≡ n → 0 < n
       → slice_get (top t).registers (register source h) ≡ slice_get (top s).registers h.slot
   first-cell s t source h n held wide some =
       let here : register source h ≡ register source h + 0 = omega arith in
@@ -41,7 +41,7 @@ module _ {A : Type 0} where
       ∙ (held.equal 0 (omega (arith, wide, some)) ∙ ap (slice_get (top s).registers) there)
 
   second-cell :
-      (s t : State A) (source : Source) (h : Home) → HoldsValue source (top s).registers (top t) h → width h.ty ≡ 2
+      (s t : State A) (source : Source) (h : Home) → HoldsValue source (top s).registers (top t) h → type_width h.ty ≡ 2
       → slice_get (top t).registers (register source h + 1) ≡ slice_get (top s).registers (h.slot + 1)
   second-cell s t source h held wide = held.equal 1 (omega (arith, wide))
 

@@ -26,7 +26,7 @@ use Rattle.xf_homes.specs.declared.home.Home.{Home}
 use Rattle.xf_homes.specs.Home.{register_count, KeepsStack}
 use Rattle.xf_homes.specs.Laws.{HasRegister}
 use Rattle.xf_homes.specs.Order.{SlotsFollow as Follow, register_sum}
-use Rattle.xf_homes.specs.Value.{width}
+use Rattle.xf_homes.specs.Value.{type_width}
 use Rattle.xf_plan.specs.Source.{Source}
 use Rattle.xf_plan.specs.Plan.{stack_homes, register}
 use Rattle.xf_emission.specs.Move.{with_byte, store_op, store, spill}
@@ -36,7 +36,8 @@ use Rattle.xf_typing.proofs.Stacks.{turned-cons}
 use Rattle.xf_held.specs.Edges.{insns, top_at, IsBeside, AreSpilled, StacksSpill}
 use Rattle.xf_held.specs.Held.{HoldsValue, slots}
 use Rattle.xf_held.specs.Laws.{AreApart}
-use Rattle.xf_held.specs.Moves.{IsExecutable, size, end_of, letter_of, InstructionsStandFrom, IsAtStep, OwnRegisters, value_at}
+use Rattle.xf_held.specs.Moves.{IsExecutable, size, letter_of, InstructionsStandFrom, IsAtStep, OwnRegisters, value_in_register}
+use Rattle.jc_decode.specs.Places.{place_after}
 use Rattle.xf_held.proofs.Copies.{wide}
 use Rattle.xf_held.proofs.Going.{operations-go-on}
 use Rattle.xf_held.proofs.Loading.{store-resolves, step-place}
@@ -74,21 +75,21 @@ module _
 
   store-is :
       (letter : Sort) (slot r p q : ℕ) (registers stack : List Cell)
-      → with_place (with_store tagged letter r (at p registers (value_at letter slot values ++ stack))) q ≡ at q (stored letter values slot r registers) stack
+      → with_place (with_store tagged letter r (at p registers (value_in_register letter slot values ++ stack))) q ≡ at q (stored letter values slot r registers) stack
   store-is sorts.Reference slot r p q registers stack = refl
   store-is sorts.Short slot r p q registers stack = refl
   store-is sorts.Int slot r p q registers stack = refl
 
   store-depth :
       (letter : Sort) (slot r p : ℕ) (registers stack : List Cell)
-      → length (top (with_store tagged letter r (at p registers (value_at letter slot values ++ stack)))).stack ≡ length stack
+      → length (top (with_store tagged letter r (at p registers (value_in_register letter slot values ++ stack)))).stack ≡ length stack
   store-depth sorts.Reference slot r p registers stack = refl
   store-depth sorts.Short slot r p registers stack = refl
   store-depth sorts.Int slot r p registers stack = refl
 
   store-method :
       (letter : Sort) (slot r p : ℕ) (registers stack : List Cell)
-      → (top (with_store tagged letter r (at p registers (value_at letter slot values ++ stack)))).method ≡ method
+      → (top (with_store tagged letter r (at p registers (value_in_register letter slot values ++ stack)))).method ≡ method
   store-method sorts.Reference slot r p registers stack = refl
   store-method sorts.Short slot r p registers stack = refl
   store-method sorts.Int slot r p registers stack = refl
@@ -97,7 +98,7 @@ module _
   pub record IsStored (count : ℕ) (k : Home) : Type 0 where
     pub has : HasRegister s.homes k
     pub small : register s k < 256
-    pub inside : register s k + width k.ty ≤ count
+    pub inside : register s k + type_width k.ty ≤ count
     pub value : CellsAt w.classes (map (λ (o : Object Cell). o.kind) heap) values k.slot (asked_types w.classes (letter_of k.ty))
 
   pub one-store :
@@ -106,23 +107,23 @@ module _
       → suc n < length steps
       → IsStored (length registers) k
       → length stack ≤ max_stack_of w method
-      → Steps tagged w (at (place n) registers (value_at (letter_of k.ty) k.slot values ++ stack))
+      → Steps tagged w (at (place n) registers (value_in_register (letter_of k.ty) k.slot values ++ stack))
       (running (at (place (n + 1)) (stored (letter_of k.ty) values k.slot (register s k) registers) stack))
   one-store n registers stack k stand further is room =
       let letter : Sort = letter_of k.ty in
       let r : ℕ = register s k in
-      let t : State Cell = at (place n) registers (value_at letter k.slot values ++ stack) in
+      let t : State Cell = at (place n) registers (value_in_register letter k.slot values ++ stack) in
       let ex = steps-execute w world t m place steps n 0 (record { insn = store_of s k; targets = []; keys = [] }) (ops.Store letter r)
       (omega arith) is_method are stand refl (store-resolves w m 0 r k.ty is.small) in
       let z : State Cell = with_store tagged letter r t in
       let next : IsPlace (code_at w method) (place (n + 1)) = step-place (code_at w method) place steps (n + 1) are (omega (arith, further)) in
       let same_method = store-method letter k.slot r (place n) registers stack in
       let fits : r + size letter ≤ length registers = let i = is.inside in let e = wide k.ty in omega (arith, i, e) in
-      let went : Steps tagged w t (running (with_place z (end_of ex.instruction))) =
+      let went : Steps tagged w t (running (with_place z (place_after ex.instruction))) =
       operations-go-on w world.chains t z ex.instruction (ops.Store letter r) ex.executes
       (store-asked w (map (λ (o : Object Cell). o.kind) heap) letter values k.slot r registers stack is.value fits) refl
       (let d = store-depth letter k.slot r (place n) registers stack in let e = ap (max_stack_of w) same_method in omega (arith, room, d, e))
-      (subst (λ (x : ℕ). IsPlace (code_at w x) (end_of ex.instruction)) (sym same_method)
+      (subst (λ (x : ℕ). IsPlace (code_at w x) (place_after ex.instruction)) (sym same_method)
       (subst (IsPlace (code_at w method)) (sym ex.ends) next)) in
       subst (λ (y : State Cell). Steps tagged w t (running y))
       (ap (λ (q : ℕ). with_place z q) ex.ends ∙ store-is letter k.slot r (place n) (place (n + 1)) registers stack) went
@@ -143,7 +144,7 @@ module _
   depth-piled [] stack = omega arith
   depth-piled (k ∷ ks) stack = by (letter_of k.ty) (depth-piled ks stack)
     where
-      by : (letter : Sort) → length stack ≤ length (piled values ks stack) → length stack ≤ length (value_at letter k.slot values ++ piled values ks stack)
+      by : (letter : Sort) → length stack ≤ length (piled values ks stack) → length stack ≤ length (value_in_register letter k.slot values ++ piled values ks stack)
       by sorts.Reference le = omega (arith, le)
       by sorts.Short le = omega (arith, le)
       by sorts.Int le = omega (arith, le)
@@ -151,7 +152,7 @@ module _
   more-piled : (k : Home) (ks : List Home) (stack : List Cell) → length (piled values ks stack) ≤ length (piled values (k ∷ ks) stack)
   more-piled k ks stack = by (letter_of k.ty)
     where
-      by : (letter : Sort) → length (piled values ks stack) ≤ length (value_at letter k.slot values ++ piled values ks stack)
+      by : (letter : Sort) → length (piled values ks stack) ≤ length (value_in_register letter k.slot values ++ piled values ks stack)
       by sorts.Reference = omega arith
       by sorts.Short = omega arith
       by sorts.Int = omega arith
@@ -182,7 +183,7 @@ module _
       let rest = spill-from (n + 1) next stack ks stand.1 (omega (arith, further))
       (subst (λ (c : ℕ). Each (IsStored c) ks) (sym count) are_stored.1) (omega (arith, room, less)) in
       let last : n + 1 + length ks ≡ n + suc (length ks) = omega arith in
-      let there : k.slot + width k.ty ≤ length values =
+      let there : k.slot + type_width k.ty ≤ length values =
       let i = value-inside w.classes (map (λ (o : Object Cell). o.kind) heap) (letter_of k.ty) values k.slot is.value in
       let e = wide k.ty in omega (arith, i, e) in
       let written = stored-holds s (frame 0 registers []) k values is.inside there in
@@ -197,7 +198,7 @@ module _
       }
     where
       by :
-          (a : Home) → HoldsValue s values (frame 0 registers []) a → (a ≡ k) ⊎ AreApart (register s a) (width a.ty) (register s k) (width k.ty)
+          (a : Home) → HoldsValue s values (frame 0 registers []) a → (a ≡ k) ⊎ AreApart (register s a) (type_width a.ty) (register s k) (type_width k.ty)
           → HoldsValue s values (frame 0 (stored (letter_of k.ty) values k.slot (register s k) registers) []) k
           → HoldsValue s values (frame 0 (stored (letter_of k.ty) values k.slot (register s k) registers) []) a
       by a held (inl same) written =
@@ -206,7 +207,7 @@ module _
 
       other :
           (cs : List Cell) (a : Home) → HoldsValue s cs (frame 0 registers []) a → (a ≡ k → ⊥)
-          → (a ≡ k) ⊎ AreApart (register s a) (width a.ty) (register s k) (width k.ty)
+          → (a ≡ k) ⊎ AreApart (register s a) (type_width a.ty) (register s k) (type_width k.ty)
           → HoldsValue s cs (frame 0 (stored (letter_of k.ty) values k.slot (register s k) registers) []) a
       other cs a held no_same (inl same) = absurd (no_same same)
       other cs a held no_same (inr apart) = stored-apart s (frame 0 registers []) k values are_stored.0.inside cs a apart held
@@ -247,7 +248,7 @@ reverse-among h (k ∷ hs) a = by (among-first h (reverse hs) (k ∷ []) (subst 
 pub slots-from : (n : ℕ) (hs : List Home) → Follow n hs → (h : Home) → IsAmong h hs → n ≤ h.slot
 slots-from n [] follow h a = absurd a
 slots-from n (k ∷ hs) follow h (inl e) = omega (arith, follow.0, ap (λ (x : Home). x.slot) e)
-slots-from n (k ∷ hs) follow h (inr a) = omega (arith, slots-from (n + width k.ty) hs follow.1 h a)
+slots-from n (k ∷ hs) follow h (inr a) = omega (arith, slots-from (n + type_width k.ty) hs follow.1 h a)
 
 module _ (v w : Linked) (l : AreLaws v w) (place : ℕ → ℕ) (steps : List Step) (s : Source) (is : s.world ≡ v) (plan : IsPlanned s) (q : ℕ) (f : Frame Cell) (keeps : KeepsStack s.world s.method s.frames q) where
   spill-by :

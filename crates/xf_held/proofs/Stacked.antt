@@ -15,11 +15,11 @@ use Rattle.vm_store.specs.State.{Frame, nth}
 use Rattle.vm_alike.proofs.Asked.{register-same}
 use Rattle.xf_homes.specs.declared.home.Home.{Home}
 use Rattle.xf_homes.specs.Order.{SlotsFollow as Follow, register_sum}
-use Rattle.xf_homes.specs.Value.{width}
+use Rattle.xf_homes.specs.Value.{type_width}
 use Rattle.xf_plan.specs.Source.{Source}
 use Rattle.xf_plan.specs.Plan.{register}
 use Rattle.xf_held.specs.Held.{HoldsValue, slots}
-use Rattle.xf_held.specs.Moves.{size, letter_of, value_at, loaded_stack, LoadedIsStack}
+use Rattle.xf_held.specs.Moves.{size, letter_of, value_in_register, loaded_stack, LoadedIsStack}
 use Rattle.xf_held.proofs.Copies.{wide}
 
 -- the cells up to one more, from the top
@@ -29,14 +29,14 @@ more-taken xs j lt = ap reverse (take-suc xs j Empty lt) ∙ reverse-append (tak
 module _ (s : Source) (g : Frame Cell) (regs xs : List Cell) where
   -- a register of a home has the cell of the stack at its slot
   cell-is :
-      (h : Home) (j k : ℕ) → h.slot ≡ length regs + j → k < width h.ty → HoldsValue s (regs ++ xs) g h
+      (h : Home) (j k : ℕ) → h.slot ≡ length regs + j → k < type_width h.ty → HoldsValue s (regs ++ xs) g h
       → nth tagged g.registers (register s h + k) ≡ nth tagged xs (j + k)
   cell-is h j k slot lt held =
       register-same xs g.registers (j + k) (register s h + k)
       (held.equal k lt ∙ slice_get-farther regs xs (j + k) (h.slot + k) (omega (arith, slot)))
 
   at-zero :
-      (h : Home) (j : ℕ) → h.slot ≡ length regs + j → HoldsValue s (regs ++ xs) g h → 0 < width h.ty
+      (h : Home) (j : ℕ) → h.slot ≡ length regs + j → HoldsValue s (regs ++ xs) g h → 0 < type_width h.ty
       → nth tagged g.registers (register s h) ≡ nth tagged xs j
   at-zero h j slot held some =
       let here : register s h ≡ register s h + 0 = omega arith in
@@ -45,7 +45,7 @@ module _ (s : Source) (g : Frame Cell) (regs xs : List Cell) where
 
   -- a value of one cell
   one :
-      (h : Home) (j : ℕ) → h.slot ≡ length regs + j → j + 1 ≤ length xs → width h.ty ≡ 1 → HoldsValue s (regs ++ xs) g h
+      (h : Home) (j : ℕ) → h.slot ≡ length regs + j → j + 1 ≤ length xs → type_width h.ty ≡ 1 → HoldsValue s (regs ++ xs) g h
       → nth tagged g.registers (register s h) ∷ reverse (take j xs) ≡ reverse (take (j + 1) xs)
   one h j slot le single held =
       let next : suc j ≡ j + 1 = omega arith in
@@ -54,8 +54,8 @@ module _ (s : Source) (g : Frame Cell) (regs xs : List Cell) where
 
   one-value :
       (letter : Sort) (h : Home) (j : ℕ) → letter_of h.ty ≡ letter → h.slot ≡ length regs + j → j + size letter ≤ length xs
-      → width h.ty ≡ size letter → HoldsValue s (regs ++ xs) g h
-      → value_at letter (register s h) g.registers ++ reverse (take j xs) ≡ reverse (take (j + size letter) xs)
+      → type_width h.ty ≡ size letter → HoldsValue s (regs ++ xs) g h
+      → value_in_register letter (register s h) g.registers ++ reverse (take j xs) ≡ reverse (take (j + size letter) xs)
   one-value sorts.Reference h j is slot le fits held = one h j slot le fits held
   one-value sorts.Short h j is slot le fits held = one h j slot le fits held
   one-value sorts.Int h j is slot le fits held =
@@ -76,15 +76,15 @@ module _ (s : Source) (g : Frame Cell) (regs xs : List Cell) where
   unfolding register_sum
   loaded [] j follow le held = let e : j ≡ j + 0 = omega arith in ap (λ n. reverse (take n xs)) e
   loaded (h ∷ hs) j follow le held =
-      let w : width h.ty ≡ size (letter_of h.ty) = wide h.ty in
-      let sum : sum_by (λ (x : Home). width x.ty) (h ∷ hs) ≡ width h.ty + sum_by (λ (x : Home). width x.ty) hs =
-      sum_by-cons (λ (x : Home). width x.ty) h hs in
+      let w : type_width h.ty ≡ size (letter_of h.ty) = wide h.ty in
+      let sum : sum_by (λ (x : Home). type_width x.ty) (h ∷ hs) ≡ type_width h.ty + sum_by (λ (x : Home). type_width x.ty) hs =
+      sum_by-cons (λ (x : Home). type_width x.ty) h hs in
       let first = one-value (letter_of h.ty) h j refl follow.0 (omega (arith, le, sum, w)) w held.0 in
-      let next : length regs + j + width h.ty ≡ length regs + (j + size (letter_of h.ty)) = omega (arith, w) in
+      let next : length regs + j + type_width h.ty ≡ length regs + (j + size (letter_of h.ty)) = omega (arith, w) in
       let rest = loaded hs (j + size (letter_of h.ty)) (subst (λ n. Follow n hs) next follow.1) (omega (arith, le, sum, w))
       held.1 in
-      let whole : j + size (letter_of h.ty) + sum_by (λ (x : Home). width x.ty) hs
-      ≡ j + sum_by (λ (x : Home). width x.ty) (h ∷ hs) = omega (arith, sum, w) in
+      let whole : j + size (letter_of h.ty) + sum_by (λ (x : Home). type_width x.ty) hs
+      ≡ j + sum_by (λ (x : Home). type_width x.ty) (h ∷ hs) = omega (arith, sum, w) in
       ap (loaded_stack s g.registers hs) first ∙ (rest ∙ ap (λ n. reverse (take n xs)) whole)
 
 pub loaded-is-stack : LoadedIsStack

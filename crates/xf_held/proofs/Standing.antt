@@ -21,7 +21,7 @@ use Rattle.xf_landed.proofs.Operations.{operation_renamed}
 use Rattle.xf_landed.proofs.Steps.{step-at}
 use Rattle.vm_alike.specs.Alike.{renamed_new}
 use Rattle.jc_decode.specs.Listing.{listing}
-use Rattle.jc_decode.specs.Standing.{IsStep, AreSteps}
+use Rattle.jc_decode.specs.Standing.{StandsForStep, AreSteps}
 use Rattle.jc_decode.specs.Symbols.{Step}
 use Rattle.jc_decode.proofs.Elements.{Contains-slice_get}
 use Rattle.vm_step.specs.Methods.{code_at, instruction_at}
@@ -35,7 +35,7 @@ module _ (code : List ℕ) (place : ℕ → ℕ) where
     found : find (λ (i : Placed). i.place == place n) ps ≡ Some instruction
     begins : instruction.place ≡ place n
     ends : instruction.place + instruction.insn.len ≡ place (n + 1)
-    is : IsStep code place step instruction
+    is : StandsForStep code place step instruction
 
   found-from :
       (m : ℕ) (steps : List Step) (ps : List Placed) → AreSteps code place m steps ps
@@ -53,7 +53,7 @@ module _ (code : List ℕ) (place : ℕ → ℕ) where
         found = ap (λ b. cond b (Some p) (find (λ (i : Placed). i.place == place (m + 0)) ps)) (eq-eqb p.place (place (m + 0)) at);
         begins = at;
         ends = h.1 ∙ ap place after;
-        is = subst (λ x. IsStep code place x p) same h.2;
+        is = subst (λ x. StandsForStep code place x p) same h.2;
       }
   found-from m (s ∷ steps) (p ∷ ps) h rise (suc k) step e =
       let inside : k < length steps = slice_get_within steps k step e in

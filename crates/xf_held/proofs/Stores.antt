@@ -34,7 +34,7 @@ use Rattle.vm_store.specs.Typing.{least_type, type_seen, type_of_handle, type_of
 use Rattle.vm_store.specs.Cells.{tagged}
 use Rattle.vm_store.specs.Objects.{kinds}
 use Rattle.vm_store.specs.State.{State, Frame, Object, first_frame, nth, top, with_place}
-use Rattle.vm_store.specs.Laws.{IsFilled}
+use Rattle.vm_store.specs.Laws.{HasContent}
 use Rattle.vm_step.specs.Methods.{code_at, max_stack_of}
 use Rattle.vm_step.specs.Raising.{running}
 use Rattle.vm_step.specs.Run.{Runs, stands, steps as then}
@@ -43,10 +43,10 @@ use Rattle.vm_step.specs.Values.{with_move}
 use Rattle.vm_sound.specs.Frames.{least_types}
 use Rattle.xf_homes.specs.declared.home.Home.{Home}
 use Rattle.xf_homes.specs.Laws.{HasRegister}
-use Rattle.xf_homes.specs.Value.{width}
+use Rattle.xf_homes.specs.Value.{type_width}
 use Rattle.xf_plan.specs.Source.{Source}
 use Rattle.xf_plan.specs.Plan.{needed, register}
-use Rattle.xf_emission.specs.Group.{popped, stored as stored_items}
+use Rattle.xf_emission.specs.Group.{pop_item, store_to_homes as stored_items}
 use Rattle.xf_emission.specs.Move.{copy}
 use Rattle.xf_typing.specs.Planned.{IsPlanned}
 use Rattle.xf_typing.proofs.Carried.{is-short, is-high, is-low}
@@ -55,7 +55,8 @@ use Rattle.xf_typing.proofs.Running.{is-reference}
 use Rattle.xf_held.specs.Edges.{insns, top_at, IsBeside}
 use Rattle.xf_held.specs.Held.{HoldsValue}
 use Rattle.xf_held.specs.Laws.{AreApart}
-use Rattle.xf_held.specs.Moves.{IsExecutable, size, letter_of, AreFilled, InstructionsStandFrom, IsAtStep, copy_of, end_of, value_at, OwnRegisters, IsCopy}
+use Rattle.xf_held.specs.Moves.{IsExecutable, size, letter_of, AreFilled, InstructionsStandFrom, IsAtStep, copy_of, value_in_register, OwnRegisters, IsCopy}
+use Rattle.jc_decode.specs.Places.{place_after}
 use Rattle.xf_held.specs.Stores.{HasLocal, IsInHomes, StoresRun}
 use Rattle.xf_held.proofs.Copies.{wide}
 use Rattle.xf_held.proofs.Going.{operations-go-on}
@@ -71,7 +72,7 @@ use Rattle.xf_held.proofs.Beside.{AreLaws, each-among, among-each, own, register
 
 module _ (t : ClassTable) (ks : List ObjectKind) where
   -- a cell in which something was stored has a type
-  filled-full : (c : Cell) → IsFilled c → IsNotBottom (least_type t Bottom ks c)
+  filled-full : (c : Cell) → HasContent c → IsNotBottom (least_type t Bottom ks c)
   filled-full cells.Empty h = absurd h
   filled-full (cells.Short n) h = tt
   filled-full (cells.High n) h = tt
@@ -99,7 +100,7 @@ module _ (t : ClassTable) (ks : List ObjectKind) where
       by (Some kinds_of.Ints) = tt
       by (Some (kinds_of.References c)) = tt
 
-  back-at : (cs : List Cell) (n : ℕ) (ty : Ty) → IsSomeAnd (slice_get (least_types t Bottom ks cs) n) (λ u. Below t u ty) → IsFilled (nth tagged cs n) → IsSomeAnd (slice_get cs n) (IsCellOf t ks ty)
+  back-at : (cs : List Cell) (n : ℕ) (ty : Ty) → IsSomeAnd (slice_get (least_types t Bottom ks cs) n) (λ u. Below t u ty) → HasContent (nth tagged cs n) → IsSomeAnd (slice_get cs n) (IsCellOf t ks ty)
   back-at [] n ty h filled = absurd h
   back-at (c ∷ cs) zero ty h filled = (filled, h)
   back-at (c ∷ cs) (suc n) ty h filled = back-at cs n ty h filled
@@ -236,7 +237,7 @@ pop_insn : Sort → Insn
 pop_insn sorts.Int = record { op = 60; x = pos 0; y = pos 0; z = pos 0; len = 1 }
 pop_insn _ = record { op = 59; x = pos 0; y = pos 0; z = pos 0; len = 1 }
 
-popped-insns : (letter : Sort) → insns (popped letter ∷ []) ≡ pop_insn letter ∷ []
+popped-insns : (letter : Sort) → insns (pop_item letter ∷ []) ≡ pop_insn letter ∷ []
 unfolding pop_insn
 popped-insns sorts.Int = refl
 popped-insns sorts.Reference = refl
@@ -261,7 +262,7 @@ module _
       → suc n < length steps
       → CellsAt w.classes (map (λ (o : Object Cell). o.kind) heap) values x (asked_types w.classes letter)
       → length stack ≤ max_stack_of w method
-      → Steps tagged w (at (place n) registers (value_at letter x values ++ stack)) (running (at (place (n + 1)) registers stack))
+      → Steps tagged w (at (place n) registers (value_in_register letter x values ++ stack)) (running (at (place (n + 1)) registers stack))
   unfolding pop_insn
   pop-step n x registers stack sorts.Reference stand further is room =
       let t : State Cell = at (place n) registers (nth tagged values x ∷ stack) in
@@ -300,7 +301,7 @@ module _ (v w : Linked) (l : AreLaws v w) (place : ℕ → ℕ) (steps : List St
       (beside : IsBeside w s q f (record { frames = g ∷ below; heap = heap; statics = statics }))
       (local : HasLocal w (record { frames = g ∷ below; heap = heap; statics = statics }) letter x f)
       (at : IsAtStep w place steps (record { frames = g ∷ below; heap = heap; statics = statics }) n count)
-      (stack_is : g.stack ≡ value_at letter x f.registers ++ stack)
+      (stack_is : g.stack ≡ value_in_register letter x f.registers ++ stack)
       (low : length g.stack ≤ s.method.rec.max_stack) where
     abbrev t : State Cell
     t = record { frames = g ∷ below; heap = heap; statics = statics }
@@ -311,7 +312,7 @@ module _ (v w : Linked) (l : AreLaws v w) (place : ℕ → ℕ) (steps : List St
     fits : size letter + length stack ≤ max_stack_of w g.method
     fits = by letter (ap length stack_is)
       where
-        by : (a : Sort) → length g.stack ≡ length (value_at a x f.registers ++ stack) → size a + length stack ≤ max_stack_of w g.method
+        by : (a : Sort) → length g.stack ≡ length (value_in_register a x f.registers ++ stack) → size a + length stack ≤ max_stack_of w g.method
         by sorts.Reference e = omega (arith, e, low, beside.room)
         by sorts.Short e = omega (arith, e, low, beside.room)
         by sorts.Int e = omega (arith, e, low, beside.room)
@@ -338,12 +339,12 @@ module _ (v w : Linked) (l : AreLaws v w) (place : ℕ → ℕ) (steps : List St
 
     none-needed : needed s q x ≡ [] → count ≡ length (insns (stored_items s letter [])) → InstructionsStandFrom steps n (insns (stored_items s letter [])) → Ended []
     none-needed none is_count stand =
-        let one : length (insns (popped letter ∷ [])) ≡ 1 = ap length (popped-insns letter) in
+        let one : length (insns (pop_item letter ∷ [])) ≡ 1 = ap length (popped-insns letter) in
         let lone = subst (InstructionsStandFrom steps n) (popped-insns letter) stand in
         let step = pop-step w l.world (types v w l s is plan q f t beside) place steps f.registers g.method below heap statics at.method at.is_method at.are n x g.registers stack letter lone.0
         (omega (arith, at.further, is_count, one)) value (omega (arith, fits)) in
         let ran : Runs tagged w 1 t (running (top_at t (place (n + 1)) g.registers stack)) =
-        subst (λ (y : State Cell). Runs tagged w 1 y (running (top_at t (place (n + 1)) g.registers stack))) (begins (value_at letter x f.registers ++ stack) (sym stack_is)) (then step stands) in
+        subst (λ (y : State Cell). Runs tagged w 1 y (running (top_at t (place (n + 1)) g.registers stack))) (begins (value_in_register letter x f.registers ++ stack) (sym stack_is)) (then step stands) in
         record {
           registers = g.registers;
           runs = subst (λ (k : ℕ). Runs tagged w k t (running (top_at t (place (n + k)) g.registers stack))) (sym one) ran;
@@ -357,7 +358,7 @@ module _ (v w : Linked) (l : AreLaws v w) (place : ℕ → ℕ) (steps : List St
         → Ended (h ∷ hs)
     some-needed h hs some is_count stand =
         let own_h = of-letter h (subst (IsAmong h) (sym some) (inl refl)) in
-        let inside_h : register s h + width h.ty ≤ length g.registers = omega (arith, register-inside v w l s is plan h own_h.2, beside.count) in
+        let inside_h : register s h + type_width h.ty ≤ length g.registers = omega (arith, register-inside v w l s is plan h own_h.2, beside.count) in
         let value_h : CellsAt w.classes (kinds t) f.registers h.slot (asked_types w.classes (letter_of h.ty)) =
         subst (λ (y : ℕ). CellsAt w.classes (kinds t) f.registers y (asked_types w.classes (letter_of h.ty))) (sym own_h.0)
         (subst (λ (a : Sort). CellsAt w.classes (kinds t) f.registers x (asked_types w.classes a)) (sym own_h.1) value) in
@@ -366,7 +367,7 @@ module _ (v w : Linked) (l : AreLaws v w) (place : ℕ → ℕ) (steps : List St
         let first = one-store w l.world place steps s (own v w l s is plan) f.registers g.method below heap statics at.method at.is_method at.are n g.registers stack h stand.0
         (omega (arith, at.further, is_count))
         (record { has = own_h.2; small = register-small v w l s is plan h own_h.2; inside = inside_h; value = value_h }) (omega (arith, fits)) in
-        let there : h.slot + width h.ty ≤ length f.registers = let i = value-inside w.classes (kinds t) (letter_of h.ty) f.registers h.slot value_h in let e = wide h.ty in omega (arith, i, e) in
+        let there : h.slot + type_width h.ty ≤ length f.registers = let i = value-inside w.classes (kinds t) (letter_of h.ty) f.registers h.slot value_h in let e = wide h.ty in omega (arith, i, e) in
         let next : List Cell = stored (letter_of h.ty) f.registers h.slot (register s h) g.registers in
         let same : length next ≡ length g.registers = stored-count (letter_of h.ty) f.registers h.slot (register s h) g.registers in
         let written = stored-holds s (record { method = g.method; place = 0; registers = g.registers; stack = stack }) h f.registers inside_h there in
@@ -386,11 +387,11 @@ module _ (v w : Linked) (l : AreLaws v w) (place : ℕ → ℕ) (steps : List St
         })) in
         let whole : 1 + 2 * length hs ≡ suc (length (insns (flat_map (copy s h) hs))) = omega (arith, tail_count) in
         let last : n + 1 + 2 * length hs ≡ n + suc (length (insns (flat_map (copy s h) hs))) = omega (arith, tail_count) in
-        let stack_h : value_at (letter_of h.ty) h.slot f.registers ++ stack ≡ g.stack =
-        ap (λ (y : ℕ). value_at (letter_of h.ty) y f.registers ++ stack) own_h.0 ∙ ap (λ (a : Sort). value_at a x f.registers ++ stack) own_h.1 ∙ sym stack_is in
+        let stack_h : value_in_register (letter_of h.ty) h.slot f.registers ++ stack ≡ g.stack =
+        ap (λ (y : ℕ). value_in_register (letter_of h.ty) y f.registers ++ stack) own_h.0 ∙ ap (λ (a : Sort). value_in_register a x f.registers ++ stack) own_h.1 ∙ sym stack_is in
         let all : Runs tagged w (1 + 2 * length hs) t (running (top_at t (place (n + 1 + 2 * length hs)) rest.after stack)) =
-        subst (λ (y : State Cell). Runs tagged w (1 + 2 * length hs) y (running (top_at t (place (n + 1 + 2 * length hs)) rest.after stack))) (begins (value_at (letter_of h.ty) h.slot f.registers ++ stack) stack_h)
-        (subst (λ (k : ℕ). Runs tagged w k (at_now (value_at (letter_of h.ty) h.slot f.registers ++ stack)) (running (top_at t (place (n + 1 + 2 * length hs)) rest.after stack))) next_count (then first rest.runs)) in
+        subst (λ (y : State Cell). Runs tagged w (1 + 2 * length hs) y (running (top_at t (place (n + 1 + 2 * length hs)) rest.after stack))) (begins (value_in_register (letter_of h.ty) h.slot f.registers ++ stack) stack_h)
+        (subst (λ (k : ℕ). Runs tagged w k (at_now (value_in_register (letter_of h.ty) h.slot f.registers ++ stack)) (running (top_at t (place (n + 1 + 2 * length hs)) rest.after stack))) next_count (then first rest.runs)) in
         record {
           registers = rest.after;
           runs = subst (λ (k : ℕ). Runs tagged w k t (running (top_at t (place (n + suc (length (insns (flat_map (copy s h) hs))))) rest.after stack))) whole
@@ -420,9 +421,9 @@ module _ (v w : Linked) (l : AreLaws v w) (place : ℕ → ℕ) (steps : List St
         next_count = omega arith
 
         kept :
-            (a h : Home) → register s h + width h.ty ≤ length g.registers
+            (a h : Home) → register s h + type_width h.ty ≤ length g.registers
             → HoldsValue s f.registers (record { method = g.method; place = 0; registers = g.registers; stack = stack }) a
-            → (a ≡ h) ⊎ AreApart (register s a) (width a.ty) (register s h) (width h.ty)
+            → (a ≡ h) ⊎ AreApart (register s a) (type_width a.ty) (register s h) (type_width h.ty)
             → HoldsValue s f.registers (record { method = g.method; place = 0; registers = stored (letter_of h.ty) f.registers h.slot (register s h) g.registers; stack = stack }) h
             → HoldsValue s f.registers (record { method = g.method; place = 0; registers = stored (letter_of h.ty) f.registers h.slot (register s h) g.registers; stack = stack }) a
         kept a h inside held (inl same) written =
@@ -444,7 +445,7 @@ module _ (v w : Linked) (l : AreLaws v w) (place : ℕ → ℕ) (steps : List St
       → HasLocal w (record { frames = fs; heap = heap; statics = statics }) letter x f
       → IsAtStep w place steps (record { frames = fs; heap = heap; statics = statics }) n (length (insns (stored_items s letter (needed s q x))))
       → InstructionsStandFrom steps n (insns (stored_items s letter (needed s q x)))
-      → (first_frame fs).stack ≡ value_at letter x f.registers ++ stack
+      → (first_frame fs).stack ≡ value_in_register letter x f.registers ++ stack
       → length (first_frame fs).stack ≤ s.method.rec.max_stack
       → IsInHomes w s q x f (record { frames = fs; heap = heap; statics = statics }) stack (length (insns (stored_items s letter (needed s q x))))
       (place (n + length (insns (stored_items s letter (needed s q x)))))

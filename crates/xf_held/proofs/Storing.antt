@@ -22,13 +22,13 @@ use Rattle.vm_sound.specs.Frames.{least_types}
 use Rattle.vm_alike.proofs.Asked.{register-same}
 use Rattle.xf_homes.specs.declared.home.Home.{Home}
 use Rattle.xf_homes.specs.Order.{SlotsFollow as Follow, register_sum}
-use Rattle.xf_homes.specs.Value.{width}
+use Rattle.xf_homes.specs.Value.{type_width}
 use Rattle.xf_plan.specs.Source.{Source}
 use Rattle.xf_plan.specs.Plan.{register}
 use Rattle.xf_typing.proofs.Stacks.{turned-cons}
 use Rattle.xf_held.specs.Held.{HoldsValue, slots}
 use Rattle.xf_held.specs.Laws.{AreApart}
-use Rattle.xf_held.specs.Moves.{size, letter_of, value_at}
+use Rattle.xf_held.specs.Moves.{size, letter_of, value_in_register}
 use Rattle.xf_held.proofs.Copies.{wide}
 use Rattle.xf_held.proofs.Stacked.{more-taken}
 use Rattle.xf_held.proofs.Valued.{asked_types, IsCellOf, CellsAt, at-nth, least-count}
@@ -39,11 +39,11 @@ use Rattle.xf_held.proofs.Copying.{beside}
 -- the values of homes on a stack, that of the first on top
 abbrev pub piled : List Cell → List Home → List Cell → List Cell
 piled values [] stack = stack
-piled values (k ∷ ks) stack = value_at (letter_of k.ty) k.slot values ++ piled values ks stack
+piled values (k ∷ ks) stack = value_in_register (letter_of k.ty) k.slot values ++ piled values ks stack
 
 pub piled-append : (values : List Cell) (hs ks : List Home) (stack : List Cell) → piled values (hs ++ ks) stack ≡ piled values hs (piled values ks stack)
 piled-append values [] ks stack = refl
-piled-append values (h ∷ hs) ks stack = ap (λ (cs : List Cell). value_at (letter_of h.ty) h.slot values ++ cs) (piled-append values hs ks stack)
+piled-append values (h ∷ hs) ks stack = ap (λ (cs : List Cell). value_in_register (letter_of h.ty) h.slot values ++ cs) (piled-append values hs ks stack)
 
 module _ (regs xs : List Cell) where
   slot-is : (j : ℕ) → nth tagged (regs ++ xs) (length regs + j) ≡ nth tagged xs j
@@ -56,7 +56,7 @@ module _ (regs xs : List Cell) where
 
   value-on :
       (letter : Sort) (j : ℕ) → j + size letter ≤ length xs
-      → value_at letter (length regs + j) (regs ++ xs) ++ reverse (take j xs) ≡ reverse (take (j + size letter) xs)
+      → value_in_register letter (length regs + j) (regs ++ xs) ++ reverse (take j xs) ≡ reverse (take (j + size letter) xs)
   value-on sorts.Reference j le = one-on j le
   value-on sorts.Short j le = one-on j le
   value-on sorts.Int j le =
@@ -73,15 +73,15 @@ module _ (regs xs : List Cell) where
   unfolding register_sum
   piled-from [] j follow le = let e : j ≡ j + 0 = omega arith in ap (λ (n : ℕ). reverse (take n xs)) e
   piled-from (h ∷ hs) j follow le =
-      let w : width h.ty ≡ size (letter_of h.ty) = wide h.ty in
-      let sum : sum_by (λ (x : Home). width x.ty) (h ∷ hs) ≡ width h.ty + sum_by (λ (x : Home). width x.ty) hs =
-      sum_by-cons (λ (x : Home). width x.ty) h hs in
-      let next : length regs + j + width h.ty ≡ length regs + (j + size (letter_of h.ty)) = omega (arith, w) in
+      let w : type_width h.ty ≡ size (letter_of h.ty) = wide h.ty in
+      let sum : sum_by (λ (x : Home). type_width x.ty) (h ∷ hs) ≡ type_width h.ty + sum_by (λ (x : Home). type_width x.ty) hs =
+      sum_by-cons (λ (x : Home). type_width x.ty) h hs in
+      let next : length regs + j + type_width h.ty ≡ length regs + (j + size (letter_of h.ty)) = omega (arith, w) in
       let rest = piled-from hs (j + size (letter_of h.ty)) (subst (λ (n : ℕ). Follow n hs) next follow.1) (omega (arith, le, sum, w)) in
-      let whole : j + size (letter_of h.ty) + sum_by (λ (x : Home). width x.ty) hs ≡ j + sum_by (λ (x : Home). width x.ty) (h ∷ hs) =
+      let whole : j + size (letter_of h.ty) + sum_by (λ (x : Home). type_width x.ty) hs ≡ j + sum_by (λ (x : Home). type_width x.ty) (h ∷ hs) =
       omega (arith, sum, w) in
-      let own : value_at (letter_of h.ty) h.slot (regs ++ xs) ++ reverse (take j xs) ≡ reverse (take (j + size (letter_of h.ty)) xs) =
-      ap (λ (n : ℕ). value_at (letter_of h.ty) n (regs ++ xs) ++ reverse (take j xs)) follow.0
+      let own : value_in_register (letter_of h.ty) h.slot (regs ++ xs) ++ reverse (take j xs) ≡ reverse (take (j + size (letter_of h.ty)) xs) =
+      ap (λ (n : ℕ). value_in_register (letter_of h.ty) n (regs ++ xs) ++ reverse (take j xs)) follow.0
       ∙ value-on (letter_of h.ty) j (omega (arith, le, sum, w)) in
       ap (λ (ks : List Home). piled (regs ++ xs) ks (reverse (take j xs))) (turned-cons h hs)
       ∙ (piled-append (regs ++ xs) (reverse hs) (h ∷ []) (reverse (take j xs))
@@ -147,12 +147,12 @@ stored-here sorts.Int values slot r registers (suc zero) lt there inside =
     ∙ sym (slice_get-get_or values (slot + 1) Empty (omega (arith, there)))
 stored-here sorts.Int values slot r registers (suc (suc k)) lt there inside = absurd (omega (arith, lt))
 
-module _ (s : Source) (g : Frame Cell) (k : Home) (values : List Cell) (inside : register s k + width k.ty ≤ length g.registers) where
+module _ (s : Source) (g : Frame Cell) (k : Home) (values : List Cell) (inside : register s k + type_width k.ty ≤ length g.registers) where
   abbrev after : Frame Cell
   after = record g { registers = stored (letter_of k.ty) values k.slot (register s k) g.registers }
 
   -- the home that was written holds what was stored
-  pub stored-holds : k.slot + width k.ty ≤ length values → HoldsValue s values (record g { registers = stored (letter_of k.ty) values k.slot (register s k) g.registers }) k
+  pub stored-holds : k.slot + type_width k.ty ≤ length values → HoldsValue s values (record g { registers = stored (letter_of k.ty) values k.slot (register s k) g.registers }) k
   stored-holds there =
       let count = stored-count (letter_of k.ty) values k.slot (register s k) g.registers in
       let w = wide k.ty in
@@ -164,7 +164,7 @@ module _ (s : Source) (g : Frame Cell) (k : Home) (values : List Cell) (inside :
 
   -- one apart from it holds what it held
   pub stored-apart :
-      (others : List Cell) (a : Home) → AreApart (register s a) (width a.ty) (register s k) (width k.ty) → HoldsValue s others g a
+      (others : List Cell) (a : Home) → AreApart (register s a) (type_width a.ty) (register s k) (type_width k.ty) → HoldsValue s others g a
       → HoldsValue s others (record g { registers = stored (letter_of k.ty) values k.slot (register s k) g.registers }) a
   stored-apart others a apart held =
       let count = stored-count (letter_of k.ty) values k.slot (register s k) g.registers in
@@ -175,7 +175,7 @@ module _ (s : Source) (g : Frame Cell) (k : Home) (values : List Cell) (inside :
         equal = λ n lt. stored-other (letter_of k.ty) values k.slot (register s k) g.registers (register s a + n) (out n lt apart) ∙ held.equal n lt;
       }
     where
-      out : (n : ℕ) → n < width a.ty → AreApart (register s a) (width a.ty) (register s k) (width k.ty)
+      out : (n : ℕ) → n < type_width a.ty → AreApart (register s a) (type_width a.ty) (register s k) (type_width k.ty)
           → (register s a + n < register s k) ⊎ (register s k + size (letter_of k.ty) ≤ register s a + n)
       out n lt (inl before) = inl (omega (arith, before, lt))
       out n lt (inr behind) = let w = wide k.ty in inr (omega (arith, behind, w))
@@ -188,7 +188,7 @@ pub store-asked :
     → SatisfiesAll w.classes
     (record {
       regs = least_types w.classes Bottom ks registers;
-      stack = least_types w.classes Bottom ks (value_at letter slot values ++ stack);
+      stack = least_types w.classes Bottom ks (value_in_register letter slot values ++ stack);
     }) (demands w (Store letter r))
 store-asked w ks sorts.Reference values slot r registers stack h inside = (
   least-count w.classes ks registers (r + 1) inside,

@@ -21,9 +21,9 @@ use Rattle.vm_store.specs.declared.kind.ObjectKind.{ObjectKind}
 use Rattle.vm_store.specs.Typing.{least_type}
 use Rattle.vm_store.specs.Cells.{tagged}
 use Rattle.vm_store.specs.State.{nth}
-use Rattle.vm_store.specs.Laws.{IsFilled}
+use Rattle.vm_store.specs.Laws.{HasContent}
 use Rattle.vm_sound.specs.Frames.{least_types}
-use Rattle.xf_homes.specs.Value.{value_at}
+use Rattle.xf_homes.specs.Value.{value_in_cells}
 use Rattle.xf_typing.specs.Planned.{IsKept}
 use Rattle.xf_typing.proofs.Below.{under-at, top-only}
 use Rattle.xf_typing.proofs.Ready.{IsValueAt, value-is}
@@ -44,7 +44,7 @@ asked-size t sorts.Int = refl
 
 -- something was stored in the cell, and its least type is below this one
 abbrev pub IsCellOf : ClassTable → List ObjectKind → Ty → Cell → Type 0
-IsCellOf t ks ty c = IsFilled c × Below t (least_type t Bottom ks c) ty
+IsCellOf t ks ty c = HasContent c × Below t (least_type t Bottom ks c) ty
 
 -- the cells from a number on are such
 abbrev pub CellsAt : ClassTable → List ObjectKind → List Cell → ℕ → List Ty → Type 0
@@ -162,7 +162,7 @@ module _ (t : ClassTable) (types : IsOrderOfTypes t) (objects : ClassesAreObject
   -- the cells of a value are of the types that a load of its letter asks
   pub value-cells :
       (cells : List Cell) (regs : List Ty) → CellsBelow t (least_types t Top ks cells) regs → (x : ℕ) (ty : Ty)
-      → value_at regs x ≡ Some ty → IsKept ty → IsKnown t ty → CellsAt t ks cells x (asked_types t (letter_of ty))
+      → value_in_cells regs x ≡ Some ty → IsKept ty → IsKnown t ty → CellsAt t ks cells x (asked_types t (letter_of ty))
   value-cells cells regs le x ty v kept known = by ty kept known (value-is regs x ty v)
     where
       object-at : (a : Ty) → slice_get regs x ≡ Some a → IsNotTop a → Below t a (Class (object t)) → CellsAt t ks cells x (Class (object t) ∷ [])

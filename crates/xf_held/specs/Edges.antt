@@ -20,13 +20,13 @@ use Rattle.vm_store.specs.State.{State, Frame, top, with_top}
 use Rattle.vm_step.specs.Methods.{max_stack_of}
 use Rattle.vm_step.specs.Raising.{running}
 use Rattle.vm_step.specs.Run.{Runs}
-use Rattle.vm_sound.specs.Frames.{types_in}
+use Rattle.vm_sound.specs.Frames.{types_of_frame}
 use Rattle.vm_alike.specs.Alike.{renamed_cell}
 use Rattle.xf_homes.specs.declared.home.Home.{Home}
 use Rattle.xf_homes.specs.Home.{register_count, argument_types, KeepsStack}
 use Rattle.xf_homes.specs.Laws.{HasRegister}
 use Rattle.xf_homes.specs.Order.{register_sum}
-use Rattle.xf_homes.specs.Value.{width}
+use Rattle.xf_homes.specs.Value.{type_width}
 use Rattle.xf_homes.specs.Walk.{operands_of}
 use Rattle.xf_plan.specs.Source.{Source}
 use Rattle.xf_plan.specs.Plan.{stack_homes, needed, operation}
@@ -54,7 +54,7 @@ top_at t place registers stack = with_top t (record (top t) { place = place; reg
 -- register for each of the homes', and room for one cell more on its stack
 pub record IsBeside (w : Linked) (s : Source) (q : ℕ) (f : Frame Cell) (t : State Cell) : Type 0 where
   pub classes : w.classes ≡ s.world.classes
-  pub typed : At s.frames q (FrameBelow w.classes (types_in w.classes Top (kinds t) f))
+  pub typed : At s.frames q (FrameBelow w.classes (types_of_frame w.classes Top (kinds t) f))
   pub count : length (top t).registers ≡ register_sum s.homes
   pub room : s.method.rec.max_stack < max_stack_of w (top t).method
 
@@ -126,7 +126,7 @@ pub record HoldsAfter (s : Source) (p : ℕ) (op : Operation) (q : ℕ) (f g : F
   pub stored : (x : ℕ) → is_stored op x ≡ true → Each (HoldsValue s f.registers g) (needed s q x)
   pub others :
       (x : ℕ)
-      → Each (λ h. ((k : ℕ) → k < width h.ty → is_stored op (h.slot + k) ≡ false) → HoldsValue s f.registers g h) (needed s p x)
+      → Each (λ h. ((k : ℕ) → k < type_width h.ty → is_stored op (h.slot + k) ≡ false) → HoldsValue s f.registers g h) (needed s p x)
 
 -- where an edge begins that leads to q
 abbrev pub HoldsBefore : Source → Origin → ℕ → Frame Cell → Frame Cell → Type 0

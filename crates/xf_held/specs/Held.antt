@@ -4,7 +4,7 @@ use Rattle.std.specs.Prelude.{◌≡◌, ℕ, ◌+◌, ◌<◌, ◌≤◌, List,
 use Rattle.jc_base.specs.Each.{Each}
 use Rattle.vm_store.specs.State.{Frame}
 use Rattle.xf_homes.specs.declared.home.Home.{Home}
-use Rattle.xf_homes.specs.Value.{width}
+use Rattle.xf_homes.specs.Value.{type_width}
 use Rattle.xf_plan.specs.Source.{Source}
 use Rattle.xf_plan.specs.Plan.{register, needed, stack_homes}
 
@@ -14,11 +14,11 @@ slots f = f.registers ++ reverse f.stack
 
 -- the frame g holds in the registers of a home the value at its slot, cell by cell
 pub record HoldsValue {A : Type 0} (s : Source) (values : List A) (g : Frame A) (h : Home) : Type 0 where
-  pub known : h.slot + width h.ty ≤ length values
-  pub there : register s h + width h.ty ≤ length g.registers
+  pub known : h.slot + type_width h.ty ≤ length values
+  pub there : register s h + type_width h.ty ≤ length g.registers
   pub equal :
       (k : ℕ)
-      → k < width h.ty
+      → k < type_width h.ty
       → slice_get g.registers (register s h + k) ≡ slice_get values (h.slot + k)
 
 -- each local stands in all homes in which it has to stand at a place

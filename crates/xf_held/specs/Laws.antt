@@ -4,7 +4,7 @@ use Rattle.jc_base.specs.declared.record.MethodRec.{MethodRec}
 use Rattle.jc_base.specs.World.{Linked}
 use Rattle.jc_decode.specs.declared.insn.Placed.{Placed}
 use Rattle.jc_decode.specs.Listing.{listing, targets}
-use Rattle.jc_decode.specs.Standing.{IsStep, AreSteps}
+use Rattle.jc_decode.specs.Standing.{StandsForStep, AreSteps}
 use Rattle.jc_decode.specs.Symbols.{Step}
 use Rattle.jc_control.specs.WellFormed.{IsPlace, IsTargetPlace}
 use Rattle.jc_ops.specs.declared.operation.Operation.{Operation}
@@ -22,7 +22,7 @@ use Rattle.vm_step.specs.Methods.{max_stack_of, instruction_at}
 use Rattle.vm_alike.specs.Alike.{renamed_new, AreAlike, StaysInFrame, StayAlike}
 use Rattle.vm_alike.specs.Running.{HaveKeys, Executes, RunAlike, keys_at, top_code}
 use Rattle.xf_homes.specs.declared.home.Home.{Home}
-use Rattle.xf_homes.specs.Value.{width}
+use Rattle.xf_homes.specs.Value.{type_width}
 use Rattle.xf_plan.specs.Source.{Source}
 use Rattle.xf_plan.specs.Plan.{register}
 use Rattle.xf_held.specs.Held.{HoldsValue, HoldsLocals}
@@ -56,7 +56,7 @@ LoadsRunAlike A =
     → AreAlike e s t
     → CodesAgree v w s t i j (Load sort h.slot) (Load sort (register source h))
     → HoldsValue source (top s).registers (top t) h
-    → width h.ty ≡ (footprint v (Load sort h.slot)).given
+    → type_width h.ty ≡ (footprint v (Load sort h.slot)).given
     → RunAlike e place v w s t i j (Load sort h.slot) (Load sort (register source h))
 
 -- an increment of a local in a home that holds it
@@ -67,7 +67,7 @@ IncrementsRunAlike A =
     → AreAlike e s t
     → CodesAgree v w s t i j (Increment counted h.slot amount) (Increment counted (register source h) amount)
     → HoldsValue source (top s).registers (top t) h
-    → width h.ty ≡ (footprint v (Increment counted h.slot amount)).written
+    → type_width h.ty ≡ (footprint v (Increment counted h.slot amount)).written
     → RunAlike e place v w s t i j (Increment counted h.slot amount) (Increment counted (register source h) amount)
 
 -- a store of a local into a home that has its registers
@@ -76,8 +76,8 @@ StoresRunAlike A =
     (e : A → A) (place : ℕ → ℕ) (v w : Linked) (s t : State A) (i j : Placed) (source : Source) (h : Home) (sort : Sort)
     → AreAlike e s t
     → CodesAgree v w s t i j (Store sort h.slot) (Store sort (register source h))
-    → register source h + width h.ty ≤ length (top t).registers
-    → width h.ty ≡ (footprint v (Store sort h.slot)).written
+    → register source h + type_width h.ty ≤ length (top t).registers
+    → type_width h.ty ≡ (footprint v (Store sort h.slot)).written
     → RunAlike e place v w s t i j (Store sort h.slot) (Store sort (register source h))
 
 -- ---- which homes hold afterwards
@@ -103,8 +103,8 @@ HomesStay A =
     (p q : Footprint) (s z t y : State A) (source : Source) (h : Home)
     → StaysInFrame p s z
     → StaysInFrame q t y
-    → AreApart h.slot (width h.ty) p.register p.written
-    → AreApart (register source h) (width h.ty) q.register q.written
+    → AreApart h.slot (type_width h.ty) p.register p.written
+    → AreApart (register source h) (type_width h.ty) q.register q.written
     → HoldsValue source (top s).registers (top t) h
     → HoldsValue source (top z).registers (top y) h
 
@@ -115,9 +115,9 @@ WrittenHold A =
     → StayAlike e p q s z t y
     → p.register ≡ h.slot
     → q.register ≡ register source h
-    → p.written ≡ width h.ty
-    → h.slot + width h.ty ≤ length (top s).registers
-    → register source h + width h.ty ≤ length (top t).registers
+    → p.written ≡ type_width h.ty
+    → h.slot + type_width h.ty ≤ length (top s).registers
+    → register source h + type_width h.ty ≤ length (top t).registers
     → HoldsValue source (top z).registers (top y) h
 
 -- ---- where steps stand
@@ -128,7 +128,7 @@ pub record StandsAtPlace (code : List ℕ) (place : ℕ → ℕ) (n : ℕ) (step
   pub found : instruction_at code (place n) ≡ Some instruction
   pub begins : instruction.place ≡ place n
   pub ends : instruction.place + instruction.insn.len ≡ place (n + 1)
-  pub is : IsStep code place step instruction
+  pub is : StandsForStep code place step instruction
 
 abbrev pub StepsStandAtPlaces : Type 0
 StepsStandAtPlaces =
@@ -142,7 +142,7 @@ pub record ExecutesStep (w : Linked) (t : State Cell) (place : ℕ → ℕ) (n :
   pub instruction : Placed
   pub executes : Executes w t instruction (renamed_new (λ q. place n) op)
   pub ends : instruction.place + instruction.insn.len ≡ place (n + 1)
-  pub is : IsStep (top_code w t) place step instruction
+  pub is : StandsForStep (top_code w t) place step instruction
 
 abbrev pub StepsExecute : Linked → Type 0
 StepsExecute w =

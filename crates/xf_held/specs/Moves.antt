@@ -10,6 +10,7 @@ use Rattle.jc_base.specs.World.{Linked}
 use Rattle.jc_decode.specs.declared.insn.Insn.{Insn}
 use Rattle.jc_decode.specs.declared.insn.Placed.{Placed}
 use Rattle.jc_decode.specs.Listing.{listing}
+use Rattle.jc_decode.specs.Places.{place_after}
 use Rattle.jc_decode.specs.Standing.{AreSteps}
 use Rattle.jc_decode.specs.Symbols.{Step}
 use Rattle.jc_control.specs.WellFormed.{IsPlace}
@@ -24,7 +25,7 @@ use Rattle.vm_store.specs.declared.cell.Cell.{Cell}
 use Rattle.vm_store.specs.Cells.{Cells, tagged}
 use Rattle.vm_store.specs.State.{State, Frame, IsRunning, top, nth, with_top, with_place, with_stack}
 use Rattle.vm_store.specs.Objects.{kinds}
-use Rattle.vm_store.specs.Laws.{IsFilled}
+use Rattle.vm_store.specs.Laws.{HasContent}
 use Rattle.vm_step.specs.Act.{goes}
 use Rattle.vm_step.specs.Methods.{max_stack_of}
 use Rattle.vm_step.specs.Performed.{act}
@@ -32,12 +33,12 @@ use Rattle.vm_step.specs.Raising.{running}
 use Rattle.vm_step.specs.Run.{Runs}
 use Rattle.vm_step.specs.Step.{Steps}
 use Rattle.vm_step.specs.Values.{with_load}
-use Rattle.vm_sound.specs.Frames.{types_in}
+use Rattle.vm_sound.specs.Frames.{types_of_frame}
 use Rattle.vm_alike.specs.Running.{Executes, top_code}
 use Rattle.xf_homes.specs.declared.home.Home.{Home}
 use Rattle.xf_homes.specs.Laws.{HasRegister, Serve}
 use Rattle.xf_homes.specs.Order.{SlotsFollow as Follow, register_sum}
-use Rattle.xf_homes.specs.Value.{width}
+use Rattle.xf_homes.specs.Value.{type_width}
 use Rattle.xf_plan.specs.Source.{Source}
 use Rattle.xf_plan.specs.Plan.{register}
 use Rattle.xf_emission.specs.Move.{with_byte, load_op, store_op}
@@ -67,12 +68,8 @@ with_registers s place registers = with_top s (record (top s) { place = place; r
 
 -- something was stored in the cells of the value
 abbrev pub AreFilled : Sort → ℕ → List Cell → Type 0
-AreFilled sorts.Int from registers = IsFilled (nth tagged registers from) × IsFilled (nth tagged registers (from + 1))
-AreFilled _ from registers = IsFilled (nth tagged registers from)
-
--- where an instruction ends
-abbrev pub end_of : Placed → ℕ
-end_of i = i.place + i.insn.len
+AreFilled sorts.Int from registers = HasContent (nth tagged registers from) × HasContent (nth tagged registers (from + 1))
+AreFilled _ from registers = HasContent (nth tagged registers from)
 
 -- an operation whose demands are met, and which goes on in the state z, leads there, where the stack has room and an instruction
 -- follows
@@ -80,25 +77,25 @@ abbrev pub OperationsGoOn : Linked → Type 0
 OperationsGoOn w =
     (t z : State Cell) (j : Placed) (op : Operation)
     → Executes w t j op
-    → SatisfiesAll w.classes (types_in w.classes Bottom (kinds t) (top t)) (demands w op)
+    → SatisfiesAll w.classes (types_of_frame w.classes Bottom (kinds t) (top t)) (demands w op)
     → act tagged w j.insn op t ≡ goes z
     → length (top z).stack ≤ max_stack_of w (top z).method
-    → IsPlace (top_code w z) (end_of j)
-    → Steps tagged w t (running (with_place z (end_of j)))
+    → IsPlace (top_code w z) (place_after j)
+    → Steps tagged w t (running (with_place z (place_after j)))
 
 -- a load and then a store copy a value from one register to another, in two steps
 abbrev pub CopiesRun : Linked → Type 0
 CopiesRun w =
     (t : State Cell) (i j : Placed) (sort : Sort) (from to : ℕ)
     → Executes w t i (Load sort from)
-    → Executes w (with_place (with_load tagged sort from t) (end_of i)) j (Store sort to)
-    → SatisfiesAll w.classes (types_in w.classes Bottom (kinds t) (top t)) (demands w (Load sort from))
+    → Executes w (with_place (with_load tagged sort from t) (place_after i)) j (Store sort to)
+    → SatisfiesAll w.classes (types_of_frame w.classes Bottom (kinds t) (top t)) (demands w (Load sort from))
     → AreFilled sort from (top t).registers
     → to + size sort ≤ length (top t).registers
     → size sort + length (top t).stack ≤ max_stack_of w (top t).method
-    → IsPlace (top_code w t) (end_of i)
-    → IsPlace (top_code w t) (end_of j)
-    → Runs tagged w 2 t (running (with_registers t (end_of j) (copied tagged sort from to (top t).registers)))
+    → IsPlace (top_code w t) (place_after i)
+    → IsPlace (top_code w t) (place_after j)
+    → Runs tagged w 2 t (running (with_registers t (place_after j) (copied tagged sort from to (top t).registers)))
 
 -- a copy from a home that holds its value to another of the same slot: this holds it too, and every home that did holds it still,
 -- where it
@@ -108,10 +105,10 @@ CopiesKeepHomes =
     (s : Source) (values : List Cell) (g : Frame Cell) (h k m : Home) (sort : Sort)
     → HoldsValue s values g h
     → h.slot ≡ k.slot
-    → width h.ty ≡ size sort
-    → width k.ty ≡ size sort
-    → register s k + width k.ty ≤ length g.registers
-    → (m ≡ k) ⊎ (HoldsValue s values g m × AreApart (register s m) (width m.ty) (register s k) (width k.ty))
+    → type_width h.ty ≡ size sort
+    → type_width k.ty ≡ size sort
+    → register s k + type_width k.ty ≤ length g.registers
+    → (m ≡ k) ⊎ (HoldsValue s values g m × AreApart (register s m) (type_width m.ty) (register s k) (type_width k.ty))
     → HoldsValue s values (record g { registers = copied tagged sort (register s h) (register s k) g.registers }) m
 
 -- ---- along a list of homes
@@ -146,7 +143,7 @@ pub record IsAtStep (w : Linked) (place : ℕ → ℕ) (steps : List Step) (t : 
 
 -- registers hold a value that a load of the letter takes, and leaves as it is
 pub record IsLoadable (w : Linked) (t : State Cell) (letter : Sort) (r : ℕ) : Type 0 where
-  pub asked : SatisfiesAll w.classes (types_in w.classes Bottom (kinds t) (top t)) (demands w (Load letter r))
+  pub asked : SatisfiesAll w.classes (types_of_frame w.classes Bottom (kinds t) (top t)) (demands w (Load letter r))
   pub filled : AreFilled letter r (top t).registers
 
 -- the home has a number of one byte, and its value can be loaded
@@ -154,14 +151,14 @@ abbrev pub CanLoad : Linked → Source → State Cell → Home → Type 0
 CanLoad w s t h = (register s h < 256) × IsLoadable w t (letter_of h.ty) (register s h)
 
 -- the cells of the value in a register, the top one first
-abbrev pub value_at : Sort → ℕ → List Cell → List Cell
-value_at sorts.Int r registers = nth tagged registers (r + 1) ∷ nth tagged registers r ∷ []
-value_at _ r registers = nth tagged registers r ∷ []
+abbrev pub value_in_register : Sort → ℕ → List Cell → List Cell
+value_in_register sorts.Int r registers = nth tagged registers (r + 1) ∷ nth tagged registers r ∷ []
+value_in_register _ r registers = nth tagged registers r ∷ []
 
 -- a stack on which the values of homes were loaded, one after the other
 abbrev pub loaded_stack : Source → List Cell → List Home → List Cell → List Cell
 loaded_stack s registers [] stack = stack
-loaded_stack s registers (h ∷ hs) stack = loaded_stack s registers hs (value_at (letter_of h.ty) (register s h) registers ++ stack)
+loaded_stack s registers (h ∷ hs) stack = loaded_stack s registers hs (value_in_register (letter_of h.ty) (register s h) registers ++ stack)
 
 -- loads of homes run one after the other, each in a step
 abbrev pub LoadsRun : Linked → Type 0
@@ -182,7 +179,7 @@ OwnRegisters s =
     (a b : Home)
     → HasRegister s.homes a
     → HasRegister s.homes b
-    → (a ≡ b) ⊎ AreApart (register s a) (width a.ty) (register s b) (width b.ty)
+    → (a ≡ b) ⊎ AreApart (register s a) (type_width a.ty) (register s b) (type_width b.ty)
 
 -- so it is with the homes of a method
 abbrev pub HomesOwnRegisters : Type 0
@@ -197,7 +194,7 @@ pub record IsCopy (s : Source) (count : ℕ) (h k : Home) : Type 0 where
   pub letter : letter_of k.ty ≡ letter_of h.ty
   pub own : HasRegister s.homes k
   pub small : register s k < 256
-  pub inside : register s k + width k.ty ≤ count
+  pub inside : register s k + type_width k.ty ≤ count
 
 -- after copies to homes: these hold the value, and every home that held its own holds it still
 pub record AreCopied (w : Linked) (s : Source) (values : List Cell) (t : State Cell) (ks : List Home) (last : ℕ) : Type 0 where

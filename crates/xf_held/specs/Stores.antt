@@ -15,20 +15,20 @@ use Rattle.vm_store.specs.Objects.{kinds}
 use Rattle.vm_store.specs.State.{State, Frame, top}
 use Rattle.vm_step.specs.Raising.{running}
 use Rattle.vm_step.specs.Run.{Runs}
-use Rattle.vm_sound.specs.Frames.{types_in}
+use Rattle.vm_sound.specs.Frames.{types_of_frame}
 use Rattle.xf_homes.specs.declared.home.Home.{Home}
 use Rattle.xf_homes.specs.Laws.{HasRegister}
 use Rattle.xf_plan.specs.Source.{Source}
 use Rattle.xf_plan.specs.Plan.{needed}
-use Rattle.xf_emission.specs.Group.{stored}
+use Rattle.xf_emission.specs.Group.{store_to_homes}
 use Rattle.xf_typing.specs.Planned.{IsPlanned}
 use Rattle.xf_held.specs.Edges.{insns, top_at, IsBeside}
 use Rattle.xf_held.specs.Held.{HoldsValue}
-use Rattle.xf_held.specs.Moves.{AreFilled, IsAtStep, InstructionsStandFrom, value_at}
+use Rattle.xf_held.specs.Moves.{AreFilled, IsAtStep, InstructionsStandFrom, value_in_register}
 
 -- the frame of the source has a value of the letter in local x
 pub record HasLocal (w : Linked) (t : State Cell) (letter : Sort) (x : ℕ) (f : Frame Cell) : Type 0 where
-  pub asked : SatisfiesAll w.classes (types_in w.classes Bottom (kinds t) f) (demands w (Load letter x))
+  pub asked : SatisfiesAll w.classes (types_of_frame w.classes Bottom (kinds t) f) (demands w (Load letter x))
   pub filled : AreFilled letter x f.registers
 
 -- after the moves: the local stands in all homes that are needed at q, and every value that is as before in that in which it stood
@@ -51,9 +51,9 @@ StoresRun v w =
     → IsPlanned s
     → IsBeside w s q f t
     → HasLocal w t letter x f
-    → IsAtStep w place steps t n (length (insns (stored s letter (needed s q x))))
-    → InstructionsStandFrom steps n (insns (stored s letter (needed s q x)))
-    → (top t).stack ≡ value_at letter x f.registers ++ stack
+    → IsAtStep w place steps t n (length (insns (store_to_homes s letter (needed s q x))))
+    → InstructionsStandFrom steps n (insns (store_to_homes s letter (needed s q x)))
+    → (top t).stack ≡ value_in_register letter x f.registers ++ stack
     → length (top t).stack ≤ s.method.rec.max_stack
-    → IsInHomes w s q x f t stack (length (insns (stored s letter (needed s q x))))
-    (place (n + length (insns (stored s letter (needed s q x)))))
+    → IsInHomes w s q x f t stack (length (insns (store_to_homes s letter (needed s q x))))
+    (place (n + length (insns (store_to_homes s letter (needed s q x)))))

@@ -8,7 +8,7 @@ use Rattle.vm_store.specs.declared.cell.Cell.TheVariants as cells
 use Rattle.vm_store.specs.Cells.{tagged}
 use Rattle.vm_store.specs.State.{Frame}
 use Rattle.xf_held.specs.Held.{slots}
-use Rattle.xf_held.specs.Moves.{copied, letter_of, value_at}
+use Rattle.xf_held.specs.Moves.{copied, letter_of, value_in_register}
 
 -- two registers, and an int on the stack: its low half lies on top, and so has the last slot
 abbrev frame : Frame Cell
@@ -38,5 +38,5 @@ int_copied :
 int_copied = refl
 
 -- and is loaded with its low half on top
-int_loaded : value_at sorts.Int 0 (cells.High 2 ∷ cells.Low 9 ∷ []) ≡ cells.Low 9 ∷ cells.High 2 ∷ []
+int_loaded : value_in_register sorts.Int 0 (cells.High 2 ∷ cells.Low 9 ∷ []) ≡ cells.Low 9 ∷ cells.High 2 ∷ []
 int_loaded = refl

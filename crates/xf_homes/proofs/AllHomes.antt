@@ -13,7 +13,7 @@ use Rattle.jc_decode.specs.Laws.{AreListed}
 use Rattle.jc_rules.specs.Demand.{Frame}
 use Rattle.jc_rules.specs.Flow.{IsNotTop}
 use Rattle.xf_homes.specs.declared.home.Home.{Home}
-use Rattle.xf_homes.specs.Home.{Spot, register_count, IsMetAt, IsMetBefore}
+use Rattle.xf_homes.specs.Home.{PairSpot, register_count, IsMetAt, IsMetBefore}
 use Rattle.xf_homes.specs.Order.{AreInOrder, AreHomes}
 use Rattle.xf_homes.specs.Walk.{Event, argument_homes, code_events, homes_found}
 use Rattle.xf_homes.proofs.Events.{Occurs, OccursBefore, Ordered, Kept, kept}
@@ -37,10 +37,10 @@ module _ (same : SameTypeDecides) (w : Linked) (m : Method) (frames : ℕ → Op
   abbrev events : List Event
   events = code_events w m frames leaders
 
-  to-met : (s : Spot) (h : Home) → Occurs events s h → IsMetAt w m frames s h
+  to-met : (s : PairSpot) (h : Home) → Occurs events s h → IsMetAt w m frames s h
   to-met = occurs-met w m frames leaders t.marks t.listed t.sizes t.there t.placed t.framed
 
-  of-met : (s : Spot) (h : Home) → IsMetAt w m frames s h → Occurs events s h
+  of-met : (s : PairSpot) (h : Home) → IsMetAt w m frames s h → Occurs events s h
   of-met = met-occurs w m frames leaders t.marks t.listed t.sizes t.there t.placed t.framed
 
   met-before : (h k : Home) → OccursBefore events h k → IsMetBefore w m frames h k

@@ -29,7 +29,7 @@ use Rattle.xf_homes.specs.declared.finding.HomeEnd.{HomeEnd}
 use Rattle.xf_homes.specs.declared.finding.HomeEnd.TheVariants.{Registers, Memory}
 use Rattle.xf_homes.specs.Order.{AreHomes}
 use Rattle.xf_homes.specs.Walk.{argument_homes, code_events, with_events, homes_found}
-use Rattle.xf_homes.specs.Answer.{IsTypingOf, IsCounted, TellsEnd}
+use Rattle.xf_homes.specs.Answer.{IsTypingOf, IsCounted, TellsHomes}
 use Rattle.xf_homes.proofs.AllHomes.{IsTyped, are-homes}
 
 -- ---- options
@@ -103,7 +103,7 @@ module _ (w : Linked) (m : Method) (typing : List (Option Frame)) (typed : IsTyp
     answered-homes (Ok homes) e = subst (AreHomes w m (state_at typing)) (sym e) found-homes
     answered-homes (Err end) e = tt
 
-    pub answered-end : {X : Type 0} (r : Result X HomeEnd) → IfErr r (IsCounted found) → IfErr r (TellsEnd w m (state_at typing))
+    pub answered-end : {X : Type 0} (r : Result X HomeEnd) → IfErr r (IsCounted found) → IfErr r (TellsHomes w m (state_at typing))
     answered-end (Ok homes) h = tt
     answered-end (Err (Registers n)) h = record { homes = found; are = found-homes; more = h.more; count = h.count }
     answered-end (Err Memory) h = tt

@@ -15,8 +15,8 @@ use Rattle.jc_decode.specs.declared.insn.Placed.{Placed}
 use Rattle.xf_homes.specs.Home.{register_count}
 use Rattle.jc_rules.specs.Demand.{Frame}
 use Rattle.xf_homes.specs.declared.home.Home.{Home}
-use Rattle.xf_homes.specs.Walk.{Event, same_home, has, with_home, with_value, with_event, with_events, is_covered, local_of, caught_of, caught_events, local_events, locals_events, frame_events, place_events}
-use Rattle.xf_homes.specs.Asked.{knows, AreKnownAt, AreKnownFrom, AreKnown, covers_last, is_new, last_local, AreLastKnown, NoneIsNew, AreAsked, last_after}
+use Rattle.xf_homes.specs.Walk.{Event, same_home, has, with_home, with_home_of_value, with_event, with_events, is_covered, local_of, caught_of, caught_events, local_events, locals_events, frame_events, place_events}
+use Rattle.xf_homes.specs.Asked.{knows, AreKnownAt, AreKnownFrom, LocalsAreKnown, covers_last, is_new, last_local, AreLastKnown, NoneIsNew, HandlersAreAsked, last_after}
 use Rattle.xf_homes.proofs.Events.{home-itself}
 
 no-events : (homes : List Home) → with_events homes [] ≡ homes
@@ -24,8 +24,8 @@ unfolding with_events
 no-events homes = refl
 
 -- before the walk no place was reached
-pub none-known : (frames : ℕ → Option Frame) (count : ℕ) (homes : List Home) (hs : List Handler) → AreKnown frames count homes hs None
-unfolding AreKnown
+pub none-known : (frames : ℕ → Option Frame) (count : ℕ) (homes : List Home) (hs : List Handler) → LocalsAreKnown frames count homes hs None
+unfolding LocalsAreKnown
 none-known frames count homes hs = tt
 
 -- ---- what is kept stays kept
@@ -41,11 +41,11 @@ has-with homes k h e = by (has homes k)
     by true = e
     by false = has-either homes k h e
 
-has-value : (homes : List Home) (slot : ℕ) (v : Option Ty) (h : Home) → has homes h ≡ true → has (with_value homes slot v) h ≡ true
+has-value : (homes : List Home) (slot : ℕ) (v : Option Ty) (h : Home) → has homes h ≡ true → has (with_home_of_value homes slot v) h ≡ true
 has-value homes slot None h e = e
 has-value homes slot (Some ty) h e = has-with homes (record { slot = slot; ty = ty }) h e
 
-knows-value : (homes : List Home) (slot : ℕ) (v : Option Ty) (x : ℕ) (u : Option Ty) → knows homes x u ≡ true → knows (with_value homes slot v) x u ≡ true
+knows-value : (homes : List Home) (slot : ℕ) (v : Option Ty) (x : ℕ) (u : Option Ty) → knows homes x u ≡ true → knows (with_home_of_value homes slot v) x u ≡ true
 knows-value homes slot v x None e = refl
 knows-value homes slot v x (Some ty) e = has-value homes slot v (record { slot = x; ty = ty }) e
 
@@ -61,7 +61,7 @@ known-fold frames count es homes p (h ∷ hs) known =
 
 -- ---- a value that is kept changes nothing
 
-value-kept : (homes : List Home) (x : ℕ) (v : Option Ty) → knows homes x v ≡ true → with_value homes x v ≡ homes
+value-kept : (homes : List Home) (x : ℕ) (v : Option Ty) → knows homes x v ≡ true → with_home_of_value homes x v ≡ homes
 value-kept homes x None e = refl
 value-kept homes x (Some ty) e = ap (λ b. if b then homes else homes ++ record { slot = x; ty = ty } ∷ []) e
 
@@ -81,7 +81,7 @@ caught-value frames homes p x h known = by (is_covered h p) known
     by true f = f refl
     by false f = refl
 
-caught-more : (frames : ℕ → Option Frame) (homes : List Home) (slot : ℕ) (v : Option Ty) (p x : ℕ) (hs : List Handler) → CaughtKnown frames homes p x hs → CaughtKnown frames (with_value homes slot v) p x hs
+caught-more : (frames : ℕ → Option Frame) (homes : List Home) (slot : ℕ) (v : Option Ty) (p x : ℕ) (hs : List Handler) → CaughtKnown frames homes p x hs → CaughtKnown frames (with_home_of_value homes slot v) p x hs
 caught-more frames homes slot v p x [] known = tt
 caught-more frames homes slot v p x (h ∷ hs) known =
     (λ covers. knows-value homes slot v x (local_of (frames h.entry) x) (known.0 covers), caught-more frames homes slot v p x hs known.1)
@@ -96,7 +96,7 @@ skip-local : (frames : ℕ → Option Frame) (homes : List Home) (p x : ℕ) (hs
     → fold with_event homes (local_events frames [] p x) ≡ fold with_event homes (local_events frames hs p x)
 unfolding local_events
 skip-local frames homes p x hs known =
-    sym (skip-caught frames (with_value homes x (local_of (frames p) x)) p x 0 hs (caught-more frames homes x (local_of (frames p) x) p x hs known))
+    sym (skip-caught frames (with_home_of_value homes x (local_of (frames p) x)) p x 0 hs (caught-more frames homes x (local_of (frames p) x) p x hs known))
 
 skip-locals : (frames : ℕ → Option Frame) (count n x : ℕ) (homes : List Home) (p : ℕ) (hs : List Handler) → x + n ≤ count → AreKnownAt frames count homes p hs
     → fold with_event homes (locals_events frames [] p x n) ≡ fold with_event homes (locals_events frames hs p x n)
@@ -124,11 +124,11 @@ nat-cases (suc x) (suc y) le = next (nat-cases x y (omega arith))
 -- of the locals themselves
 
 -- the value of a local that is that at the last place
-pub same-kept : (frames : ℕ → Option Frame) (homes : List Home) (last : Option ℕ) (x : ℕ) (v : Option Ty) → v ≡ last_local frames last x → knows homes x (last_local frames last x) ≡ true → homes ≡ with_value homes x v
+pub same-kept : (frames : ℕ → Option Frame) (homes : List Home) (last : Option ℕ) (x : ℕ) (v : Option Ty) → v ≡ last_local frames last x → knows homes x (last_local frames last x) ≡ true → homes ≡ with_home_of_value homes x v
 same-kept frames homes last x v is known = sym (value-kept homes x v (subst (λ u. knows homes x u ≡ true) (sym is) known))
 
-pub last-known : (frames : ℕ → Option Frame) (count : ℕ) (homes : List Home) (hs : List Handler) (last : Option ℕ) → AreKnown frames count homes hs last → AreLastKnown frames count homes last
-unfolding AreKnown
+pub last-known : (frames : ℕ → Option Frame) (count : ℕ) (homes : List Home) (hs : List Handler) (last : Option ℕ) → LocalsAreKnown frames count homes hs last → AreLastKnown frames count homes last
+unfolding LocalsAreKnown
 last-known frames count homes hs None known = λ x inside. refl
 last-known frames count homes hs (Some q) known = known.0
 
@@ -145,7 +145,7 @@ module _ (same : SameTypeDecides) where
       by true b e = refl
       by false b e = rw e refl
 
-  value-known : (homes : List Home) (x : ℕ) (v : Option Ty) → knows (with_value homes x v) x v ≡ true
+  value-known : (homes : List Home) (x : ℕ) (v : Option Ty) → knows (with_home_of_value homes x v) x v ≡ true
   value-known homes x None = refl
   value-known homes x (Some ty) = by (has homes (record { slot = x; ty = ty })) refl
     where
@@ -156,7 +156,7 @@ module _ (same : SameTypeDecides) where
   asked-caught : (frames : ℕ → Option Frame) (homes : List Home) (p x n : ℕ) (hs : List Handler) → CaughtKnown frames (fold with_event homes (caught_events frames p x n hs)) p x hs
   asked-caught frames homes p x n [] = tt
   asked-caught frames homes p x n (h ∷ hs) =
-      let acc = with_value homes x (caught_of frames p x h) in
+      let acc = with_home_of_value homes x (caught_of frames p x h) in
       let rest = caught_events frames p x (suc n) hs in (
         λ covers.
             let is : caught_of frames p x h ≡ local_of (frames h.entry) x = ap (λ b. if b then local_of (frames h.entry) x else None) covers in
@@ -186,7 +186,7 @@ module _ (same : SameTypeDecides) where
 
   asked-local : (frames : ℕ → Option Frame) (homes : List Home) (p x : ℕ) (hs : List Handler) → CaughtKnown frames (fold with_event homes (local_events frames hs p x)) p x hs
   unfolding local_events
-  asked-local frames homes p x hs = asked-caught frames (with_value homes x (local_of (frames p) x)) p x 0 hs
+  asked-local frames homes p x hs = asked-caught frames (with_home_of_value homes x (local_of (frames p) x)) p x 0 hs
 
   asked-locals : (frames : ℕ → Option Frame) (n x : ℕ) (homes : List Home) (p : ℕ) (hs : List Handler) → AreKnownUpTo frames (fold with_event homes (locals_events frames hs p x n)) p x (x + n) hs
   asked-locals frames zero x homes p hs = no-locals frames homes p x hs
@@ -214,13 +214,13 @@ module _ (same : SameTypeDecides) where
       by (inl e) later =
           subst (λ z. knows (fold with_event (fold with_event homes (local_events frames hs p x)) (locals_events frames hs p (suc x) n)) z (local_of (frames p) z) ≡ true) e
           (knows-fold (locals_events frames hs p (suc x) n) (fold with_event homes (local_events frames hs p x)) x (local_of (frames p) x)
-          (knows-fold (caught_events frames p x 0 hs) (with_value homes x (local_of (frames p) x)) x (local_of (frames p) x) (value-known homes x (local_of (frames p) x))))
+          (knows-fold (caught_events frames p x 0 hs) (with_home_of_value homes x (local_of (frames p) x)) x (local_of (frames p) x) (value-known homes x (local_of (frames p) x))))
       by (inr l) later = later l
 
   -- after a reached place
   pub asked-at : (frames : ℕ → Option Frame) (count : ℕ) (homes : List Home) (p : ℕ) (hs : List Handler) (more : List Event)
-      → AreKnown frames count (with_events homes (locals_events frames hs p 0 count ++ more)) hs (Some p)
-  unfolding with_events AreKnown
+      → LocalsAreKnown frames count (with_events homes (locals_events frames hs p 0 count ++ more)) hs (Some p)
+  unfolding with_events LocalsAreKnown
   asked-at frames count homes p hs more =
       let acc = fold with_event homes (locals_events frames hs p 0 count) in
       subst (λ a. AreKnownFrom frames count a hs (Some p)) (sym (fold-append with_event homes (locals_events frames hs p 0 count) more)) (
@@ -254,13 +254,13 @@ module _ (frames : ℕ → Option Frame) (count : ℕ) (homes : List Home) (p : 
     none-covers hs (All-tail (λ h. is_new h p None ≡ false) h hs none),
   )
 
-  known-here : (last : Option ℕ) (hs : List Handler) → NoneIsNew hs p last → AreKnown frames count homes hs last → AreKnownAt frames count homes p hs
-  unfolding NoneIsNew AreKnown
+  known-here : (last : Option ℕ) (hs : List Handler) → NoneIsNew hs p last → LocalsAreKnown frames count homes hs last → AreKnownAt frames count homes p hs
+  unfolding NoneIsNew LocalsAreKnown
   known-here None hs none known = none-covers hs none
   known-here (Some q) hs none known = none-asked q hs none known.1
 
   -- the handlers that are asked give what all give
-  pub asked-alike : (last : Option ℕ) (hs asked : List Handler) → AreAsked hs p last asked → AreKnown frames count homes hs last
+  pub asked-alike : (last : Option ℕ) (hs asked : List Handler) → HandlersAreAsked hs p last asked → LocalsAreKnown frames count homes hs last
       → with_events homes (locals_events frames asked p 0 count) ≡ with_events homes (locals_events frames hs p 0 count)
   unfolding with_events
   asked-alike last hs asked (inl e) known = ap (λ r. fold with_event homes (locals_events frames r p 0 count)) e
@@ -271,11 +271,11 @@ module _ (frames : ℕ → Option Frame) (count : ℕ) (homes : List Home) (p : 
 
 module _ (same : SameTypeDecides) (w : Linked) (m : Method) (frames : ℕ → Option Frame) (leaders : List Bool) where
   -- after an instruction the handlers are known from the last reached place on, the instruction's if control reaches it
-  pub known-after : (homes after : List Home) (i : Placed) (last : Option ℕ) → AreKnown frames (register_count m.rec) homes m.rec.handlers last
-      → after ≡ with_events homes (place_events w m frames leaders i) → AreKnown frames (register_count m.rec) after m.rec.handlers (last_after (frames i.place) i.place last)
+  pub known-after : (homes after : List Home) (i : Placed) (last : Option ℕ) → LocalsAreKnown frames (register_count m.rec) homes m.rec.handlers last
+      → after ≡ with_events homes (place_events w m frames leaders i) → LocalsAreKnown frames (register_count m.rec) after m.rec.handlers (last_after (frames i.place) i.place last)
   unfolding place_events
   known-after homes after i last known is = by (frames i.place) is
     where
-      by : (f : Option Frame) → after ≡ with_events homes (frame_events w m frames leaders i f) → AreKnown frames (register_count m.rec) after m.rec.handlers (last_after f i.place last)
-      by None e = subst (λ hs. AreKnown frames (register_count m.rec) hs m.rec.handlers last) (sym (e ∙ no-events homes)) known
-      by (Some f) e = subst (λ hs. AreKnown frames (register_count m.rec) hs m.rec.handlers (Some i.place)) (sym e) (asked-at same frames (register_count m.rec) homes i.place m.rec.handlers _)
+      by : (f : Option Frame) → after ≡ with_events homes (frame_events w m frames leaders i f) → LocalsAreKnown frames (register_count m.rec) after m.rec.handlers (last_after f i.place last)
+      by None e = subst (λ hs. LocalsAreKnown frames (register_count m.rec) hs m.rec.handlers last) (sym (e ∙ no-events homes)) known
+      by (Some f) e = subst (λ hs. LocalsAreKnown frames (register_count m.rec) hs m.rec.handlers (Some i.place)) (sym e) (asked-at same frames (register_count m.rec) homes i.place m.rec.handlers _)

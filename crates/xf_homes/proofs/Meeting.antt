@@ -25,23 +25,23 @@ use Rattle.jc_decode.specs.Laws.{AreListed}
 use Rattle.jc_rules.specs.Demand.{Frame}
 use Rattle.jc_rules.specs.Footprint.{footprint}
 use Rattle.xf_homes.specs.declared.home.Home.{Home}
-use Rattle.xf_homes.specs.Value.{value_of, value_at}
-use Rattle.xf_homes.specs.Home.{Spot, register_count, IsAsked, asked_here, asked_caught, IsConditional, KeepsStack, IsMetAt, met_local, met_cell}
+use Rattle.xf_homes.specs.Value.{value_of, value_in_cells}
+use Rattle.xf_homes.specs.Home.{PairSpot, register_count, IsAsked, asked_here, asked_caught, IsConditional, KeepsStack, IsMetAt, met_local, met_cell}
 use Rattle.xf_homes.specs.Walk.{Event, local_of, is_covered, caught_of, caught_events, local_events, locals_events, cells_events, operands_of, is_deeper, keeps_stack, stack_events, frame_events, place_events, code_events}
 use Rattle.xf_homes.proofs.Events.{Occurs}
 
 -- ---- occurrences in parts
 
-occurs-left : (xs ys : List Event) (s : Spot) (h : Home) → Occurs xs s h → Occurs (xs ++ ys) s h
+occurs-left : (xs ys : List Event) (s : PairSpot) (h : Home) → Occurs xs s h → Occurs (xs ++ ys) s h
 occurs-left [] ys s h o = absurd o
 occurs-left (x ∷ xs) ys s h (inl at) = inl at
 occurs-left (x ∷ xs) ys s h (inr o) = inr (occurs-left xs ys s h o)
 
-occurs-right : (xs ys : List Event) (s : Spot) (h : Home) → Occurs ys s h → Occurs (xs ++ ys) s h
+occurs-right : (xs ys : List Event) (s : PairSpot) (h : Home) → Occurs ys s h → Occurs (xs ++ ys) s h
 occurs-right [] ys s h o = o
 occurs-right (x ∷ xs) ys s h o = inr (occurs-right xs ys s h o)
 
-occurs-either : (xs ys : List Event) (s : Spot) (h : Home) → Occurs (xs ++ ys) s h → Occurs xs s h ⊎ Occurs ys s h
+occurs-either : (xs ys : List Event) (s : PairSpot) (h : Home) → Occurs (xs ++ ys) s h → Occurs xs s h ⊎ Occurs ys s h
 occurs-either [] ys s h o = inr o
 occurs-either (x ∷ xs) ys s h (inl at) = inl (inl at)
 occurs-either (x ∷ xs) ys s h (inr o) = by (occurs-either xs ys s h o)
@@ -52,19 +52,19 @@ occurs-either (x ∷ xs) ys s h (inr o) = by (occurs-either xs ys s h o)
 
 -- ---- values
 
-pub value-inside : (cells : List Ty) (n : ℕ) (ty : Ty) → value_at cells n ≡ Some ty → n < length cells
-unfolding value_at
+pub value-inside : (cells : List Ty) (n : ℕ) (ty : Ty) → value_in_cells cells n ≡ Some ty → n < length cells
+unfolding value_in_cells
 value-inside cells n ty e = by (slice_get cells n) refl e
   where
     by : (o : Option Ty) → slice_get cells n ≡ o → value_of o (slice_get cells (n + 1)) ≡ Some ty → n < length cells
     by None q e = absurd (cc)
     by (Some a) q e = slice_get_within cells n a q
 
-pub local-at : (frames : ℕ → Option Frame) (p x : ℕ) (ty : Ty) (o : Option Frame) → local_of o x ≡ Some ty → IsSomeAnd o (λ f. value_at f.regs x ≡ Some ty)
+pub local-at : (frames : ℕ → Option Frame) (p x : ℕ) (ty : Ty) (o : Option Frame) → local_of o x ≡ Some ty → IsSomeAnd o (λ f. value_in_cells f.regs x ≡ Some ty)
 local-at frames p x ty None e = absurd (cc)
 local-at frames p x ty (Some f) e = e
 
-pub at-local : (x : ℕ) (ty : Ty) (o : Option Frame) → IsSomeAnd o (λ f. value_at f.regs x ≡ Some ty) → local_of o x ≡ Some ty
+pub at-local : (x : ℕ) (ty : Ty) (o : Option Frame) → IsSomeAnd o (λ f. value_in_cells f.regs x ≡ Some ty) → local_of o x ≡ Some ty
 at-local x ty None h = absurd h
 at-local x ty (Some f) h = h
 
@@ -87,7 +87,7 @@ module _ (m : Method) (frames : ℕ → Option Frame) (p x : ℕ) where
   caught-asked h n ty at false q e = absurd (cc)
 
   -- one of the handlers from number n on
-  pub record IsCaughtAt (n : ℕ) (hs : List Handler) (s : Spot) (h : Home) : Type 0 where
+  pub record IsCaughtAt (n : ℕ) (hs : List Handler) (s : PairSpot) (h : Home) : Type 0 where
     pub number : ℕ
     pub handler : Handler
     pub at : slice_get hs number ≡ Some handler
@@ -95,7 +95,7 @@ module _ (m : Method) (frames : ℕ → Option Frame) (p x : ℕ) where
     pub slot : x ≡ h.slot
     pub value : caught_of frames p x handler ≡ Some h.ty
 
-  pub occurs-caught : (n : ℕ) (hs : List Handler) (s : Spot) (h : Home) → Occurs (caught_events frames p x n hs) s h → IsCaughtAt n hs s h
+  pub occurs-caught : (n : ℕ) (hs : List Handler) (s : PairSpot) (h : Home) → Occurs (caught_events frames p x n hs) s h → IsCaughtAt n hs s h
   occurs-caught n [] s h o = absurd o
   occurs-caught n (k ∷ ks) s h (inl at) = record {
     number = 0;
@@ -125,7 +125,7 @@ module _ (m : Method) (frames : ℕ → Option Frame) (p x : ℕ) where
       let sum : suc n + k ≡ n + suc k = omega arith in
       inr (subst (λ i. Occurs (caught_events frames p x (suc n) js) (record { place = p; slot = x; time = suc i }) (record { slot = x; ty = ty })) sum (caught-occurs (suc n) js k h ty at e))
 
-  occurs-local : (s : Spot) (h : Home) → IsReached m p → (w : Linked) → Occurs (local_events frames m.rec.handlers p x) s h → IsMetAt w m frames s h
+  occurs-local : (s : PairSpot) (h : Home) → IsReached m p → (w : Linked) → Occurs (local_events frames m.rec.handlers p x) s h → IsMetAt w m frames s h
   unfolding local_events
   occurs-local s h reached w (inl at) =
       subst (λ r. IsMetAt w m frames r h) at.spot
@@ -146,7 +146,7 @@ module _ (m : Method) (frames : ℕ → Option Frame) (p x : ℕ) where
       inr (subst (λ i. Occurs (caught_events frames p x 0 m.rec.handlers) (record { place = p; slot = x; time = suc i }) (record { slot = x; ty = ty })) sum (caught-occurs 0 m.rec.handlers n h ty at value))
 
 module _ (w : Linked) (m : Method) (frames : ℕ → Option Frame) (p : ℕ) (reached : IsReached m p) where
-  occurs-locals : (x n : ℕ) (s : Spot) (h : Home) → Occurs (locals_events frames m.rec.handlers p x n) s h → IsMetAt w m frames s h
+  occurs-locals : (x n : ℕ) (s : PairSpot) (h : Home) → Occurs (locals_events frames m.rec.handlers p x n) s h → IsMetAt w m frames s h
   occurs-locals x zero s h o = absurd o
   occurs-locals x (suc n) s h o = by (occurs-either (local_events frames m.rec.handlers p x) (locals_events frames m.rec.handlers p (suc x) n) s h o)
       (occurs-locals (suc x) n s h)
@@ -168,7 +168,7 @@ from-or (suc x) (suc k) le = step (from-or x k (omega arith))
     step (inr l) = inr (omega arith)
 
 module _ (frames : ℕ → Option Frame) (handlers : List Handler) (p : ℕ) where
-  locals-occurs : (from n x : ℕ) (s : Spot) (h : Home) → from ≤ x → x < from + n → Occurs (local_events frames handlers p x) s h → Occurs (locals_events frames handlers p from n) s h
+  locals-occurs : (from n x : ℕ) (s : PairSpot) (h : Home) → from ≤ x → x < from + n → Occurs (local_events frames handlers p x) s h → Occurs (locals_events frames handlers p from n) s h
   locals-occurs from zero x s h le lt o = absurd (omega arith)
   locals-occurs from (suc n) x s h le lt o = by (from-or x from le) (λ later. locals-occurs (suc from) n x s h later (omega arith) o)
     where
@@ -179,18 +179,18 @@ module _ (frames : ℕ → Option Frame) (handlers : List Handler) (p : ℕ) whe
 
 -- ---- cells
 
-record IsCellAt (p slot : ℕ) (cells : List Ty) (s : Spot) (h : Home) : Type 0 where
+record IsCellAt (p slot : ℕ) (cells : List Ty) (s : PairSpot) (h : Home) : Type 0 where
   number : ℕ
   spot : record { place = p; slot = slot + number; time = 0 } ≡ s
   slot_is : slot + number ≡ h.slot
-  value : value_at cells number ≡ Some h.ty
+  value : value_in_cells cells number ≡ Some h.ty
 
-occurs-cells : (p slot : ℕ) (cells : List Ty) (i n : ℕ) (s : Spot) (h : Home) → Occurs (cells_events p slot cells i n) s h → IsCellAt p slot cells s h
+occurs-cells : (p slot : ℕ) (cells : List Ty) (i n : ℕ) (s : PairSpot) (h : Home) → Occurs (cells_events p slot cells i n) s h → IsCellAt p slot cells s h
 occurs-cells p slot cells i zero s h o = absurd o
 occurs-cells p slot cells i (suc n) s h (inl at) = record { number = i; spot = at.spot; slot_is = at.slot; value = at.value }
 occurs-cells p slot cells i (suc n) s h (inr o) = occurs-cells p slot cells (suc i) n s h o
 
-cells-occurs : (p slot : ℕ) (cells : List Ty) (from n i : ℕ) (ty : Ty) → from ≤ i → i < from + n → value_at cells i ≡ Some ty
+cells-occurs : (p slot : ℕ) (cells : List Ty) (from n i : ℕ) (ty : Ty) → from ≤ i → i < from + n → value_in_cells cells i ≡ Some ty
     → Occurs (cells_events p slot cells from n) (record { place = p; slot = slot + i; time = 0 }) (record { slot = slot + i; ty = ty })
 cells-occurs p slot cells from zero i ty le lt e = absurd (omega arith)
 cells-occurs p slot cells from (suc n) i ty le lt e = by (nat_le i from) refl (λ later. cells-occurs p slot cells (suc from) n i ty later (omega arith) e)
@@ -200,7 +200,7 @@ cells-occurs p slot cells from (suc n) i ty le lt e = by (nat_le i from) refl (�
     by true q rest =
         let below : i ≤ from = grind (arith, nat_tests, q) in
         let same : from ≡ i = omega arith in
-        inl (record { spot = ap (λ (k : ℕ). record { place = p; slot = slot + k; time = 0 }) same; slot = ap (λ k. slot + k) same; value = ap (value_at cells) same ∙ e })
+        inl (record { spot = ap (λ (k : ℕ). record { place = p; slot = slot + k; time = 0 }) same; slot = ap (λ k. slot + k) same; value = ap (value_in_cells cells) same ∙ e })
     by false q rest = let above : suc from ≤ i = grind (arith, nat_tests, q) in inr (rest above)
 
 -- ---- a stack that is kept
@@ -264,15 +264,15 @@ module _ (w : Linked) (m : Method) (frames : ℕ → Option Frame) (leaders : Li
 
   -- ---- at an instruction
 
-  occurs-stack : IsReached m i.place → (b : Bool) → keeps_stack w m.rec leaders i (length f.stack) ≡ b → (s : Spot) (h : Home) → Occurs (stack_events b i.place (register_count m.rec) (reverse f.stack)) s h → IsMetAt w m frames s h
+  occurs-stack : IsReached m i.place → (b : Bool) → keeps_stack w m.rec leaders i (length f.stack) ≡ b → (s : PairSpot) (h : Home) → Occurs (stack_events b i.place (register_count m.rec) (reverse f.stack)) s h → IsMetAt w m frames s h
   occurs-stack reached true q s h o =
       let c = occurs-cells i.place (register_count m.rec) (reverse f.stack) 0 (length (reverse f.stack)) s h o in
       subst (λ r. IsMetAt w m frames r h) c.spot
       (subst (λ n. IsMetAt w m frames (record { place = i.place; slot = register_count m.rec + c.number; time = 0 }) (record { slot = n; ty = h.ty })) c.slot_is
-      (met_cell c.number reached (keeps-sound q) (subst (λ o. IsSomeAnd o (λ g. value_at (reverse g.stack) c.number ≡ Some h.ty)) (sym there) c.value)))
+      (met_cell c.number reached (keeps-sound q) (subst (λ o. IsSomeAnd o (λ g. value_in_cells (reverse g.stack) c.number ≡ Some h.ty)) (sym there) c.value)))
   occurs-stack reached false q s h o = absurd o
 
-  occurs-frame : IsReached m i.place → (s : Spot) (h : Home) → Occurs (frame_events w m frames leaders i (Some f)) s h → IsMetAt w m frames s h
+  occurs-frame : IsReached m i.place → (s : PairSpot) (h : Home) → Occurs (frame_events w m frames leaders i (Some f)) s h → IsMetAt w m frames s h
   occurs-frame reached s h o = by (occurs-either (locals_events frames m.rec.handlers i.place 0 (register_count m.rec)) (stack_events (keeps_stack w m.rec leaders i (length f.stack)) i.place (register_count m.rec) (reverse f.stack)) s h o)
     where
       by : Occurs (locals_events frames m.rec.handlers i.place 0 (register_count m.rec)) s h ⊎ Occurs (stack_events (keeps_stack w m.rec leaders i (length f.stack)) i.place (register_count m.rec) (reverse f.stack)) s h → IsMetAt w m frames s h
@@ -286,7 +286,7 @@ module _ (w : Linked) (m : Method) (frames : ℕ → Option Frame) (leaders : Li
     (there : (p : ℕ) (f : Frame) → frames p ≡ Some f → IsReached m p)
     (placed : (p : ℕ) → IsReached m p → IsPlace m.code p)
     (framed : (p : ℕ) → IsReached m p → (f : Frame) × (frames p ≡ Some f)) where
-  within : (x : ℕ) (ty : Ty) (o : Option Frame) → ((g : Frame) → o ≡ Some g → length g.regs ≡ register_count m.rec) → IsSomeAnd o (λ g. value_at g.regs x ≡ Some ty) → x < register_count m.rec
+  within : (x : ℕ) (ty : Ty) (o : Option Frame) → ((g : Frame) → o ≡ Some g → length g.regs ≡ register_count m.rec) → IsSomeAnd o (λ g. value_in_cells g.regs x ≡ Some ty) → x < register_count m.rec
   within x ty None size at = absurd at
   within x ty (Some g) size at = let less = value-inside g.regs x ty at in let same = size g refl in omega arith
 
@@ -295,7 +295,7 @@ module _ (w : Linked) (m : Method) (frames : ℕ → Option Frame) (leaders : Li
   asked-inside p x _ ty (asked_caught {h = h} a cov at) = within x ty (frames h.entry) (sizes h.entry) at
 
   -- the pair is met at an instruction
-  occurs-place : (i : Placed) → HasInstruction m.code i → (s : Spot) (h : Home) → Occurs (place_events w m frames leaders i) s h → IsMetAt w m frames s h
+  occurs-place : (i : Placed) → HasInstruction m.code i → (s : PairSpot) (h : Home) → Occurs (place_events w m frames leaders i) s h → IsMetAt w m frames s h
   unfolding place_events
   occurs-place i stands s h o = by (frames i.place) refl o
     where
@@ -303,7 +303,7 @@ module _ (w : Linked) (m : Method) (frames : ℕ → Option Frame) (leaders : Li
       by None e o = absurd o
       by (Some f) e o = occurs-frame w m frames leaders marks listed i stands f e (there i.place f e) s h o
 
-  occurs-flat : (is : List Placed) → ((i : Placed) → IsAmong i is → HasInstruction m.code i) → (s : Spot) (h : Home) → Occurs (flat_map (place_events w m frames leaders) is) s h → IsMetAt w m frames s h
+  occurs-flat : (is : List Placed) → ((i : Placed) → IsAmong i is → HasInstruction m.code i) → (s : PairSpot) (h : Home) → Occurs (flat_map (place_events w m frames leaders) is) s h → IsMetAt w m frames s h
   occurs-flat [] all s h o = absurd o
   occurs-flat (i ∷ is) all s h o =
       by (occurs-either (place_events w m frames leaders i) (flat_map (place_events w m frames leaders) is) s h (subst (λ es. Occurs es s h) (flat_map-cons (place_events w m frames leaders) i is) o))
@@ -314,11 +314,11 @@ module _ (w : Linked) (m : Method) (frames : ℕ → Option Frame) (leaders : Li
       by (inl here) rest = occurs-place i (all i (inl refl)) s h here
       by (inr later) rest = rest later
 
-  pub occurs-met : (s : Spot) (h : Home) → Occurs (code_events w m frames leaders) s h → IsMetAt w m frames s h
+  pub occurs-met : (s : PairSpot) (h : Home) → Occurs (code_events w m frames leaders) s h → IsMetAt w m frames s h
   unfolding code_events
   occurs-met s h o = occurs-flat (listing m.code) (λ i a. Contains-from_IsAmong i (listing m.code) a) s h o
 
-  flat-occurs : (is : List Placed) (i : Placed) → IsAmong i is → (s : Spot) (h : Home) → Occurs (place_events w m frames leaders i) s h → Occurs (flat_map (place_events w m frames leaders) is) s h
+  flat-occurs : (is : List Placed) (i : Placed) → IsAmong i is → (s : PairSpot) (h : Home) → Occurs (place_events w m frames leaders i) s h → Occurs (flat_map (place_events w m frames leaders) is) s h
   flat-occurs [] i a s h o = absurd a
   flat-occurs (j ∷ js) i (inl e) s h o =
       rw flat_map-cons (occurs-left (place_events w m frames leaders j) (flat_map (place_events w m frames leaders) js) s h (subst (λ k. Occurs (place_events w m frames leaders k) s h) (sym e) o))
@@ -326,7 +326,7 @@ module _ (w : Linked) (m : Method) (frames : ℕ → Option Frame) (leaders : Li
       rw flat_map-cons (occurs-right (place_events w m frames leaders j) (flat_map (place_events w m frames leaders) js) s h (flat-occurs js i a s h o))
 
   -- at the instruction of a reached place
-  occurs-at : (p : ℕ) (s : Spot) (h : Home) → (r : IsReached m p) → (f : Frame) → frames p ≡ Some f
+  occurs-at : (p : ℕ) (s : PairSpot) (h : Home) → (r : IsReached m p) → (f : Frame) → frames p ≡ Some f
       → ((i : Placed) → HasInstruction m.code i → i.place ≡ p → Occurs (frame_events w m frames leaders i (Some f)) s h)
       → Occurs (code_events w m frames leaders) s h
   unfolding code_events place_events
@@ -337,7 +337,7 @@ module _ (w : Linked) (m : Method) (frames : ℕ → Option Frame) (leaders : Li
       flat-occurs (listing m.code) i (IsAmong-from_Contains i (listing m.code) place.1) s h
       (subst (λ o. Occurs (frame_events w m frames leaders i o) s h) (sym here) (at i place.1 place.2))
 
-  pub met-occurs : (s : Spot) (h : Home) → IsMetAt w m frames s h → Occurs (code_events w m frames leaders) s h
+  pub met-occurs : (s : PairSpot) (h : Home) → IsMetAt w m frames s h → Occurs (code_events w m frames leaders) s h
   met-occurs s h (met_local {p = p} {x = x} {n = n} {ty = ty} r a) =
       let f = framed p r in
       occurs-at p _ _ r f.0 f.1 (λ i stands e.
@@ -346,7 +346,7 @@ module _ (w : Linked) (m : Method) (frames : ℕ → Option Frame) (leaders : Li
       (subst (λ q. Occurs (local_events frames m.rec.handlers q x) (record { place = p; slot = x; time = n }) (record { slot = x; ty = ty })) (sym e) (local-occurs m frames p x n ty a))))
   met-occurs s h (met_cell k {p = p} {ty = ty} r keeps at) =
       let f = framed p r in
-      let value : value_at (reverse f.0.stack) k ≡ Some ty = subst (λ o. IsSomeAnd o (λ g. value_at (reverse g.stack) k ≡ Some ty)) f.1 at in
+      let value : value_in_cells (reverse f.0.stack) k ≡ Some ty = subst (λ o. IsSomeAnd o (λ g. value_in_cells (reverse g.stack) k ≡ Some ty)) f.1 at in
       occurs-at p _ _ r f.0 f.1 (λ i stands e.
       let kept : keeps_stack w m.rec leaders i (length f.0.stack) ≡ true = keeps-complete w m frames leaders marks listed i stands f.0 (ap frames e ∙ f.1) (subst (KeepsStack w m frames) (sym e) keeps) in
       occurs-right (locals_events frames m.rec.handlers i.place 0 (register_count m.rec)) (stack_events (keeps_stack w m.rec leaders i (length f.0.stack)) i.place (register_count m.rec) (reverse f.0.stack)) _ _

@@ -5,7 +5,7 @@ use Rattle.jc_base.specs.Laws.{SameTypeDecides}
 use Rattle.jc_control.specs.Method.{Method}
 use Rattle.jc_rules.specs.Demand.{Frame}
 use Rattle.xf_homes.specs.declared.home.Home.{Home}
-use Rattle.xf_homes.specs.Home.{IsAsked, IsNeeded, asked_here, Spot, ComesBefore}
+use Rattle.xf_homes.specs.Home.{IsAsked, IsNeeded, asked_here, PairSpot, ComesBefore}
 use Rattle.xf_homes.specs.Walk.{is_covered, local_events, with_events}
 use Rattle.xf_homes.specs.Laws.{IsAskedBefore, AreAskedInOrder, AreNeeded, NeededAreKept}
 use Rattle.xf_homes.proofs.Events.{Occurs, OccursBefore, Ordered, kept}
@@ -20,13 +20,13 @@ before-time p x n k (inr (e, inr (f, lt))) = lt
 
 module _ (m : Method) (frames : ℕ → Option Frame) (p x : ℕ) where
   -- where a pair is met, it is asked for
-  record IsAskedAt (s : Spot) (h : Home) : Type 0 where
+  record IsAskedAt (s : PairSpot) (h : Home) : Type 0 where
     time : ℕ
     spot : s ≡ record { place = p; slot = x; time = time }
     slot : h.slot ≡ x
     asked : IsAsked m frames p x time h.ty
 
-  occurs-asked : (s : Spot) (h : Home) → Occurs (local_events frames m.rec.handlers p x) s h → IsAskedAt s h
+  occurs-asked : (s : PairSpot) (h : Home) → Occurs (local_events frames m.rec.handlers p x) s h → IsAskedAt s h
   unfolding local_events
   occurs-asked s h (inl at) = record { time = 0; spot = sym at.spot; slot = sym at.slot; asked = asked_here (local-at frames p x h.ty (frames p) at.value) }
   occurs-asked s h (inr o) =

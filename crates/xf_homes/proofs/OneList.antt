@@ -8,8 +8,8 @@ use Rattle.jc_base.proofs.Eaching.{Each-at}
 use Rattle.jc_control.specs.Method.{Method}
 use Rattle.jc_rules.specs.Demand.{Frame}
 use Rattle.xf_homes.specs.declared.home.Home.{Home}
-use Rattle.xf_homes.specs.Value.{width}
-use Rattle.xf_homes.specs.Home.{Spot, ComesBefore, IsMetBefore}
+use Rattle.xf_homes.specs.Value.{type_width}
+use Rattle.xf_homes.specs.Home.{PairSpot, ComesBefore, IsMetBefore}
 use Rattle.xf_homes.specs.Order.{SlotsFollow, AreInOrder}
 use Rattle.xf_homes.specs.Laws.{HomesAreOne}
 
@@ -21,7 +21,7 @@ record AreSame (xs ys : List Home) : Type 0 where
 -- ---- in order
 
 -- of two different spots one comes before the other
-never-both : (a b : Spot) → ComesBefore a b → ComesBefore b a → ⊥
+never-both : (a b : PairSpot) → ComesBefore a b → ComesBefore b a → ⊥
 never-both a b (inl p) (inl q) = absurd (omega arith)
 never-both a b (inl p) (inr q) = absurd (omega (arith, q.0))
 never-both a b (inr p) (inl q) = absurd (omega (arith, p.0))
@@ -65,7 +65,7 @@ module _ (w : Linked) (m : Method) (frames : ℕ → Option Frame) where
 
 -- ---- where their registers are
 
-wide : (ty : Ty) → 1 ≤ width ty
+wide : (ty : Ty) → 1 ≤ type_width ty
 wide IntHigh = omega arith
 wide Bottom = omega arith
 wide Short = omega arith
@@ -83,11 +83,11 @@ wide Top = omega arith
 stands-later : (hs : List Home) (n : ℕ) → SlotsFollow n hs → (x : Home) → IsAmong x hs → n ≤ x.slot
 stands-later [] n st x a = absurd a
 stands-later (h ∷ hs) n st x (inl e) = let at : h.slot ≡ x.slot = ap (λ (k : Home). k.slot) e in omega (arith, st.0, at)
-stands-later (h ∷ hs) n st x (inr a) = let later = stands-later hs (n + width h.ty) st.1 x a in omega (arith, later)
+stands-later (h ∷ hs) n st x (inr a) = let later = stands-later hs (n + type_width h.ty) st.1 x a in omega (arith, later)
 
 stands-first : (h k : Home) (hs ks : List Home) (n : ℕ) → SlotsFollow n (h ∷ hs) → SlotsFollow n (k ∷ ks) → IsAmong h (k ∷ ks) → h ≡ k
 stands-first h k hs ks n p q (inl e) = sym e
-stands-first h k hs ks n p q (inr a) = let later = stands-later ks (n + width k.ty) q.1 h a in absurd (omega (arith, later, p.0, wide k.ty))
+stands-first h k hs ks n p q (inr a) = let later = stands-later ks (n + type_width k.ty) q.1 h a in absurd (omega (arith, later, p.0, wide k.ty))
 
 stands-rest : (h k : Home) (hs ks : List Home) (n : ℕ) → SlotsFollow n (h ∷ hs) → SlotsFollow n (k ∷ ks) → ((x : Home) → IsAmong x (h ∷ hs) → IsAmong x (k ∷ ks)) → (x : Home) → IsAmong x hs → IsAmong x ks
 stands-rest h k hs ks n p q to x a = by (to x (inr a))
@@ -96,7 +96,7 @@ stands-rest h k hs ks n p q to x a = by (to x (inr a))
     by (inr b) = b
     by (inl e) =
         let at : k.slot ≡ x.slot = ap (λ (j : Home). j.slot) e in
-        let later = stands-later hs (n + width h.ty) p.1 x a in
+        let later = stands-later hs (n + type_width h.ty) p.1 x a in
         absurd (omega (arith, later, q.0, at, wide h.ty))
 
 stands-one : (hs ks : List Home) (n : ℕ) → SlotsFollow n hs → SlotsFollow n ks → AreSame hs ks → hs ≡ ks
@@ -105,8 +105,8 @@ stands-one [] (k ∷ ks) n p q s = absurd (s.from k (inl refl))
 stands-one (h ∷ hs) [] n p q s = absurd (s.to h (inl refl))
 stands-one (h ∷ hs) (k ∷ ks) n p q s =
     let e = stands-first h k hs ks n p q (s.to h (inl refl)) in
-    let same : SlotsFollow (n + width h.ty) ks = subst (λ (j : Home). SlotsFollow (n + width j.ty) ks) (sym e) q.1 in
-    ap (λ x. x ∷ hs) e ∙ ap (λ xs. k ∷ xs) (stands-one hs ks (n + width h.ty) p.1 same (record {
+    let same : SlotsFollow (n + type_width h.ty) ks = subst (λ (j : Home). SlotsFollow (n + type_width j.ty) ks) (sym e) q.1 in
+    ap (λ x. x ∷ hs) e ∙ ap (λ xs. k ∷ xs) (stands-one hs ks (n + type_width h.ty) p.1 same (record {
       to = stands-rest h k hs ks n p q s.to;
       from = stands-rest k h ks hs n q p s.from;
     }))

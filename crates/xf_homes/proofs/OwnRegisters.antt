@@ -10,7 +10,7 @@ use Rattle.jc_base.specs.Each.{IsAmong}
 use Rattle.jc_base.specs.Linked.{receiver_words}
 use Rattle.jc_rules.specs.Flow.{IsNotTop}
 use Rattle.xf_homes.specs.declared.home.Home.{Home}
-use Rattle.xf_homes.specs.Value.{value_of, value_at, width}
+use Rattle.xf_homes.specs.Value.{value_of, value_in_cells, type_width}
 use Rattle.xf_homes.specs.Home.{IsArgument, argument_types}
 use Rattle.xf_homes.specs.Order.{SlotsFollow, register_sum}
 use Rattle.xf_homes.specs.Walk.{values_from, argument_homes}
@@ -20,7 +20,7 @@ use Rattle.xf_homes.specs.Walk.{values_from, argument_homes}
 -- a cell that is a value by itself
 record IsOwnValue (a : Ty) : Type 0 where
   value : (next : Option Ty) → value_of (Some a) next ≡ Some a
-  one : width a ≡ 1
+  one : type_width a ≡ 1
   first : (slot : ℕ) (ts : List Ty) → values_from slot (a ∷ ts) ≡ record { slot = slot; ty = a } ∷ values_from (suc slot) ts
 
 own-value : (a : Ty) → IsNoHalf a → IsNotTop a → IsOwnValue a
@@ -40,23 +40,23 @@ own-value (Fresh p c) n top = record { value = λ next. refl; one = refl; first 
 
 -- ---- values of lists
 
-value-later : (x : Ty) (xs : List Ty) (n : ℕ) → value_at (x ∷ xs) (suc n) ≡ value_at xs n
-unfolding value_at
+value-later : (x : Ty) (xs : List Ty) (n : ℕ) → value_in_cells (x ∷ xs) (suc n) ≡ value_in_cells xs n
+unfolding value_in_cells
 value-later x xs n = let e : suc n + 1 ≡ suc (n + 1) = omega arith in ap (λ k. value_of (slice_get xs n) (slice_get (x ∷ xs) k)) e
 
-value-first : (x : Ty) (xs : List Ty) → value_at (x ∷ xs) 0 ≡ value_of (Some x) (slice_get xs 0)
-unfolding value_at
+value-first : (x : Ty) (xs : List Ty) → value_in_cells (x ∷ xs) 0 ≡ value_of (Some x) (slice_get xs 0)
+unfolding value_in_cells
 value-first x xs = refl
 
-none-there : (n : ℕ) (ty : Ty) → value_at [] n ≡ Some ty → ⊥
-unfolding value_at
+none-there : (n : ℕ) (ty : Ty) → value_in_cells [] n ≡ Some ty → ⊥
+unfolding value_in_cells
 none-there n ty e = absurd (cc)
 
 -- a value of the list, at its slot
 record IsIn (slot : ℕ) (types : List Ty) (h : Home) : Type 0 where
   number : ℕ
   at : slot + number ≡ h.slot
-  value : value_at types number ≡ Some h.ty
+  value : value_in_cells types number ≡ Some h.ty
 
 later-in : (slot : ℕ) (x : Ty) (xs : List Ty) (h : Home) → IsIn (suc slot) xs h → IsIn slot (x ∷ xs) h
 later-in slot x xs h i = record {
@@ -91,7 +91,7 @@ values-in (one_cell {a = x} {types = ts} n whole) top slot h a =
     }
     by (inr a) rest = later-in slot x ts h (rest a)
 
-in-values : {types : List Ty} → AreWhole types → All IsNotTop types → (slot n : ℕ) (ty : Ty) → value_at types n ≡ Some ty → IsAmong (record { slot = slot + n; ty = ty }) (values_from slot types)
+in-values : {types : List Ty} → AreWhole types → All IsNotTop types → (slot n : ℕ) (ty : Ty) → value_in_cells types n ≡ Some ty → IsAmong (record { slot = slot + n; ty = ty }) (values_from slot types)
 in-values no_cells top slot n ty v = absurd (none-there n ty v)
 in-values (whole_int {types = ts} whole) top slot zero ty v =
     let s : slot ≡ slot + 0 = omega arith in
@@ -120,7 +120,7 @@ stand-from (whole_int {types = ts} whole) top slot =
     (refl, subst (λ k. SlotsFollow k (values_from (suc (suc slot)) ts)) s (stand-from whole (All-tail IsNotTop IntLow ts (All-tail IsNotTop IntHigh (IntLow ∷ ts) top)) (suc (suc slot))))
 stand-from (one_cell {a = x} {types = ts} p whole) top slot =
     let own = own-value x p (All-head IsNotTop x ts top) in
-    let s : suc slot ≡ slot + width x = omega (arith, own.one) in
+    let s : suc slot ≡ slot + type_width x = omega (arith, own.one) in
     subst (SlotsFollow slot) (sym (own.first slot ts)) (refl, subst (λ k. SlotsFollow k (values_from (suc slot) ts)) s (stand-from whole (All-tail IsNotTop x ts top) (suc slot)))
 
 sum-values : {types : List Ty} → AreWhole types → All IsNotTop types → (slot : ℕ) → register_sum (values_from slot types) ≡ length types
@@ -128,11 +128,11 @@ unfolding register_sum
 sum-values no_cells top slot = refl
 sum-values (whole_int {types = ts} whole) top slot =
     let rest = sum-values whole (All-tail IsNotTop IntLow ts (All-tail IsNotTop IntHigh (IntLow ∷ ts) top)) (suc (suc slot)) in
-    sum_by-cons (λ h. width h.ty) (record { slot = slot; ty = IntHigh }) (values_from (suc (suc slot)) ts) ∙ omega (arith, rest)
+    sum_by-cons (λ h. type_width h.ty) (record { slot = slot; ty = IntHigh }) (values_from (suc (suc slot)) ts) ∙ omega (arith, rest)
 sum-values (one_cell {a = x} {types = ts} p whole) top slot =
     let own = own-value x p (All-head IsNotTop x ts top) in
     let rest = sum-values whole (All-tail IsNotTop x ts top) (suc slot) in
-    ap (sum_by (λ h. width h.ty)) (own.first slot ts) ∙ sum_by-cons (λ h. width h.ty) (record { slot = slot; ty = x }) (values_from (suc slot) ts) ∙ omega (arith, rest, own.one)
+    ap (sum_by (λ h. type_width h.ty)) (own.first slot ts) ∙ sum_by-cons (λ h. type_width h.ty) (record { slot = slot; ty = x }) (values_from (suc slot) ts) ∙ omega (arith, rest, own.one)
 
 -- ---- the arguments of a method
 
@@ -148,7 +148,7 @@ module _ (r : MethodRec) (whole : AreWhole r.sig.args) (top : All IsNotTop r.sig
   with-receiver all topless same size = record {
     sound = λ h a. let i = values-in all topless 0 h (subst (IsAmong h) same a) in
         let s : i.number ≡ h.slot = omega (arith, i.at) in
-        subst (λ n. value_at (argument_types r) n ≡ Some h.ty) s i.value;
+        subst (λ n. value_in_cells (argument_types r) n ≡ Some h.ty) s i.value;
     complete = λ h v. let s : 0 + h.slot ≡ h.slot = omega arith in
         subst (IsAmong h) (sym same) (subst (λ n. IsAmong (record { slot = n; ty = h.ty }) (values_from 0 (argument_types r))) s (in-values all topless 0 h.slot h.ty v));
     stand = subst (SlotsFollow 0) (sym same) (stand-from all topless 0);

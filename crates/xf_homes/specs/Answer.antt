@@ -19,15 +19,15 @@ pub record IsTypingOf (w : Linked) (m : Method) (typing : List (Option Frame)) :
   pub registers : HaveRegisters m typing
 
 -- the homes take this many registers, more than there are; a number stands at its type's end
-pub record AreTooMany (w : Linked) (m : Method) (frames : ℕ → Option Frame) (n : ℕ) : Type 0 where
+pub record TakeTooManyRegisters (w : Linked) (m : Method) (frames : ℕ → Option Frame) (n : ℕ) : Type 0 where
   pub homes : List Home
   pub are : AreHomes w m frames homes
   pub more : 255 < register_sum homes
   pub count : n ≡ min (register_sum homes) 4294967295
 
-abbrev pub TellsEnd : Linked → Method → (ℕ → Option Frame) → HomeEnd → Type 0
-TellsEnd w m frames (Registers n) = AreTooMany w m frames n
-TellsEnd w m frames Memory = ⊤
+abbrev pub TellsHomes : Linked → Method → (ℕ → Option Frame) → HomeEnd → Type 0
+TellsHomes w m frames (Registers n) = TakeTooManyRegisters w m frames n
+TellsHomes w m frames Memory = ⊤
 
 -- the number of registers is told where it is too great
 pub record IsGreat (homes : List Home) (n : ℕ) : Type 0 where

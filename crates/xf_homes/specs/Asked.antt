@@ -13,13 +13,14 @@ knows homes slot None = true
 knows homes slot (Some ty) = has homes (record { slot = slot; ty = ty })
 
 -- those of so many locals at the entry of a handler are
-abbrev pub IsKnown : (ℕ → Option Frame) → ℕ → List Home → Handler → Type 0
-IsKnown frames count homes h = (x : ℕ) → x < count → knows homes x (local_of (frames h.entry) x) ≡ true
+abbrev pub KnowsHandlerLocals : (ℕ → Option Frame) → ℕ → List Home → Handler → Type 0
+KnowsHandlerLocals frames count homes h = (x : ℕ) → x < count → knows homes x (local_of (frames h.entry) x) ≡ true
 
 -- of each handler that covers a place
 abbrev pub AreKnownAt : (ℕ → Option Frame) → ℕ → List Home → ℕ → List Handler → Type 0
 AreKnownAt frames count homes p [] = Unit {0}
-AreKnownAt frames count homes p (h ∷ hs) = (is_covered h p ≡ true → IsKnown frames count homes h) × AreKnownAt frames count homes p hs
+AreKnownAt frames count homes p (h ∷ hs) =
+    (is_covered h p ≡ true → KnowsHandlerLocals frames count homes h) × AreKnownAt frames count homes p hs
 
 -- those of so many locals at a place are
 abbrev pub AreOwnKnown : (ℕ → Option Frame) → ℕ → List Home → ℕ → Type 0
@@ -30,8 +31,8 @@ AreKnownFrom frames count homes hs None = Unit {0}
 AreKnownFrom frames count homes hs (Some p) = AreOwnKnown frames count homes p × AreKnownAt frames count homes p hs
 
 -- where the last reached place is this one
-unfoldable pub AreKnown : (ℕ → Option Frame) → ℕ → List Home → List Handler → Option ℕ → Type 0
-AreKnown frames count homes hs last = AreKnownFrom frames count homes hs last
+unfoldable pub LocalsAreKnown : (ℕ → Option Frame) → ℕ → List Home → List Handler → Option ℕ → Type 0
+LocalsAreKnown frames count homes hs last = AreKnownFrom frames count homes hs last
 
 -- the value of a local at the last place
 abbrev pub last_local : (ℕ → Option Frame) → Option ℕ → ℕ → Option Ty
@@ -53,8 +54,8 @@ unfoldable pub NoneIsNew : List Handler → ℕ → Option ℕ → Type 0
 NoneIsNew hs p last = All (λ h. is_new h p last ≡ false) hs
 
 -- the handlers that are asked
-abbrev pub AreAsked : List Handler → ℕ → Option ℕ → List Handler → Type 0
-AreAsked hs p last asked = (asked ≡ hs) ⊎ ((asked ≡ []) × NoneIsNew hs p last)
+abbrev pub HandlersAreAsked : List Handler → ℕ → Option ℕ → List Handler → Type 0
+HandlersAreAsked hs p last asked = (asked ≡ hs) ⊎ ((asked ≡ []) × NoneIsNew hs p last)
 
 -- the last reached place after this one
 abbrev pub last_after : Option Frame → ℕ → Option ℕ → Option ℕ

@@ -18,7 +18,7 @@ use Rattle.jc_rules.specs.Demand.{Frame}
 use Rattle.jc_rules.specs.Flow.{At, receiver_of}
 use Rattle.jc_rules.specs.Footprint.{footprint}
 use Rattle.xf_homes.specs.declared.home.Home.{Home}
-use Rattle.xf_homes.specs.Value.{value_at}
+use Rattle.xf_homes.specs.Value.{value_in_cells}
 
 -- ---- the values of locals
 
@@ -33,12 +33,12 @@ register_count r = r.nargs + r.max_locals
 -- a local x that is asked for at a reached place p with this type, the n-th time: first where control is, then at each handler that covers
 -- the place, in the order of the table
 pub data IsAsked (m : Method) (frames : ℕ → Option Frame) (p x : ℕ) : ℕ → Ty → Type 0 where
-  asked_here : {ty : Ty} → At frames p (λ f. value_at f.regs x ≡ Some ty) → IsAsked m frames p x 0 ty
+  asked_here : {ty : Ty} → At frames p (λ f. value_in_cells f.regs x ≡ Some ty) → IsAsked m frames p x 0 ty
   asked_caught :
       {n : ℕ} {h : Handler} {ty : Ty}
       → slice_get m.rec.handlers n ≡ Some h
       → Covers h p
-      → At frames h.entry (λ f. value_at f.regs x ≡ Some ty)
+      → At frames h.entry (λ f. value_in_cells f.regs x ≡ Some ty)
       → IsAsked m frames p x (suc n) ty
 
 -- the type is needed for local x at the place
@@ -71,17 +71,17 @@ KeepsStack w m frames p = IsLeader m p ⊎ BranchesOver w m frames p
 -- ---- homes
 
 -- where in a walk over the code a pair is met: at a place, and there at a slot, the n-th time
-pub record Spot : Type 0 where
+pub record PairSpot : Type 0 where
   pub place : ℕ
   pub slot : ℕ
   pub time : ℕ
 
 -- the lesser place comes first, at one place the lesser slot, and of several types of a local the one that is asked for first
-abbrev pub ComesBefore : Spot → Spot → Type 0
+abbrev pub ComesBefore : PairSpot → PairSpot → Type 0
 ComesBefore a b = (a.place < b.place) ⊎ ((a.place ≡ b.place) × ((a.slot < b.slot) ⊎ ((a.slot ≡ b.slot) × (a.time < b.time))))
 
 -- what is met: at each reached place the types that are needed for each local, and the cells of a stack that is kept
-pub data IsMetAt (w : Linked) (m : Method) (frames : ℕ → Option Frame) : Spot → Home → Type 0 where
+pub data IsMetAt (w : Linked) (m : Method) (frames : ℕ → Option Frame) : PairSpot → Home → Type 0 where
   met_local :
       {p x n : ℕ} {ty : Ty}
       → IsReached m p
@@ -91,21 +91,21 @@ pub data IsMetAt (w : Linked) (m : Method) (frames : ℕ → Option Frame) : Spo
       (i : ℕ) {p : ℕ} {ty : Ty}
       → IsReached m p
       → KeepsStack w m frames p
-      → At frames p (λ f. value_at (reverse f.stack) i ≡ Some ty)
+      → At frames p (λ f. value_in_cells (reverse f.stack) i ≡ Some ty)
       → IsMetAt w m frames
       (record { place = p; slot = register_count m.rec + i; time = 0 })
       (record { slot = register_count m.rec + i; ty = ty })
 
 -- an argument at its declared type
 abbrev pub IsArgument : MethodRec → Home → Type 0
-IsArgument r h = value_at (argument_types r) h.slot ≡ Some h.ty
+IsArgument r h = value_in_cells (argument_types r) h.slot ≡ Some h.ty
 
 -- the homes are the arguments at their declared types and what is met
 abbrev pub IsHome : Linked → Method → (ℕ → Option Frame) → Home → Type 0
-IsHome w m frames h = IsArgument m.rec h ⊎ ((spot : Spot) × IsMetAt w m frames spot h)
+IsHome w m frames h = IsArgument m.rec h ⊎ ((spot : PairSpot) × IsMetAt w m frames spot h)
 
 -- a home is met before another: at a spot before each at which the other is met
 pub record IsMetBefore (w : Linked) (m : Method) (frames : ℕ → Option Frame) (h later : Home) : Type 0 where
-  pub spot : Spot
+  pub spot : PairSpot
   pub met : IsMetAt w m frames spot h
-  pub first : (other : Spot) → IsMetAt w m frames other later → ComesBefore spot other
+  pub first : (other : PairSpot) → IsMetAt w m frames other later → ComesBefore spot other

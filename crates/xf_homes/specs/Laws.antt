@@ -8,7 +8,7 @@ use Rattle.jc_control.specs.Control.{IsReached}
 use Rattle.jc_rules.specs.Demand.{Frame}
 use Rattle.jc_rules.specs.Flow.{At}
 use Rattle.xf_homes.specs.declared.home.Home.{Home}
-use Rattle.xf_homes.specs.Value.{value_at, width}
+use Rattle.xf_homes.specs.Value.{value_in_cells, type_width}
 use Rattle.xf_homes.specs.Home.{register_count, IsAsked, IsNeeded, KeepsStack, IsArgument, IsHome}
 use Rattle.xf_homes.specs.Order.{AreHomes, register_sum}
 use Rattle.xf_homes.specs.Walk.{register_from, local_events, with_events}
@@ -26,14 +26,14 @@ pub record Serve (w : Linked) (m : Method) (frames : ℕ → Option Frame) (home
       (p i : ℕ) (ty : Ty)
       → IsReached m p
       → KeepsStack w m frames p
-      → At frames p (λ f. value_at (reverse f.stack) i ≡ Some ty)
+      → At frames p (λ f. value_in_cells (reverse f.stack) i ≡ Some ty)
       → HasRegister homes (record { slot = register_count m.rec + i; ty = ty })
   pub apart :
       (h k : Home) (r s : ℕ)
       → register_from 0 homes h ≡ Some r
       → register_from 0 homes k ≡ Some s
-      → (h ≡ k) ⊎ (r + width h.ty ≤ s) ⊎ (s + width k.ty ≤ r)
-  pub within : (h : Home) (r : ℕ) → register_from 0 homes h ≡ Some r → r + width h.ty ≤ register_sum homes
+      → (h ≡ k) ⊎ (r + type_width h.ty ≤ s) ⊎ (s + type_width k.ty ≤ r)
+  pub within : (h : Home) (r : ℕ) → register_from 0 homes h ≡ Some r → r + type_width h.ty ≤ register_sum homes
 
 abbrev pub HomesServe : Linked → Type 0
 HomesServe w = (m : Method) (frames : ℕ → Option Frame) (homes : List Home) → AreHomes w m frames homes → Serve w m frames homes

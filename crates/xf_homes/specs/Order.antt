@@ -5,8 +5,8 @@ use Rattle.jc_base.specs.World.{Linked}
 use Rattle.jc_control.specs.Method.{Method}
 use Rattle.jc_rules.specs.Demand.{Frame}
 use Rattle.xf_homes.specs.declared.home.Home.{Home}
-use Rattle.xf_homes.specs.Value.{width}
-use Rattle.xf_homes.specs.Home.{IsArgument, IsMetAt, IsMetBefore, Spot}
+use Rattle.xf_homes.specs.Value.{type_width}
+use Rattle.xf_homes.specs.Home.{IsArgument, IsMetAt, IsMetBefore, PairSpot}
 
 -- each is met before those that follow
 abbrev pub AreInOrder : Linked → Method → (ℕ → Option Frame) → List Home → Type 0
@@ -16,11 +16,11 @@ AreInOrder w m frames (h ∷ hs) = Each (IsMetBefore w m frames h) hs × AreInOr
 -- each argument stands where its register is
 abbrev pub SlotsFollow : ℕ → List Home → Type 0
 SlotsFollow n [] = ⊤
-SlotsFollow n (h ∷ hs) = (h.slot ≡ n) × SlotsFollow (n + width h.ty) hs
+SlotsFollow n (h ∷ hs) = (h.slot ≡ n) × SlotsFollow (n + type_width h.ty) hs
 
 -- how many registers homes take
 unfoldable pub register_sum : List Home → ℕ
-register_sum hs = sum_by (λ h. width h.ty) hs
+register_sum hs = sum_by (λ h. type_width h.ty) hs
 
 -- this many, which are numbers of one byte
 pub record IsCount (homes : List Home) (n : ℕ) : Type 0 where
@@ -36,5 +36,5 @@ pub record AreHomes (w : Linked) (m : Method) (frames : ℕ → Option Frame) (h
   pub declared : (h : Home) → IsAmong h arguments ↔ IsArgument m.rec h
   pub stand : SlotsFollow 0 arguments
   pub filled : register_sum arguments ≡ m.rec.nargs
-  pub met : (h : Home) → IsAmong h others ↔ (((spot : Spot) × IsMetAt w m frames spot h) × ¬ (IsArgument m.rec h))
+  pub met : (h : Home) → IsAmong h others ↔ (((spot : PairSpot) × IsMetAt w m frames spot h) × ¬ (IsArgument m.rec h))
   pub order : AreInOrder w m frames others

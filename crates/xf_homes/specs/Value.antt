@@ -13,10 +13,10 @@ value_of (Some Top) next = None
 value_of first next = first
 
 -- the value that begins with the cell of this number
-unfoldable pub value_at : List Ty → ℕ → Option Ty
-value_at cells n = value_of (slice_get cells n) (slice_get cells (n + 1))
+unfoldable pub value_in_cells : List Ty → ℕ → Option Ty
+value_in_cells cells n = value_of (slice_get cells n) (slice_get cells (n + 1))
 
 -- how many cells a value of this type takes
-abbrev pub width : Ty → ℕ
-width IntHigh = 2
-width ty = 1
+abbrev pub type_width : Ty → ℕ
+type_width IntHigh = 2
+type_width ty = 1

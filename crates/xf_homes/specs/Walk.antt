@@ -21,14 +21,14 @@ use Rattle.jc_control.specs.Method.{Method}
 use Rattle.jc_rules.specs.Demand.{Frame}
 use Rattle.jc_rules.specs.Footprint.{footprint}
 use Rattle.xf_homes.specs.declared.home.Home.{Home}
-use Rattle.xf_homes.specs.Value.{value_at, width}
-use Rattle.xf_homes.specs.Home.{Spot, register_count}
+use Rattle.xf_homes.specs.Value.{value_in_cells, type_width}
+use Rattle.xf_homes.specs.Home.{PairSpot, register_count}
 
 -- ---- what may be met, spot by spot
 
 -- at a spot, the value that is met there, if one is
 pub record Event : Type 0 where
-  pub spot : Spot
+  pub spot : PairSpot
   pub value : Option Ty
 
 abbrev pub event : ℕ → ℕ → ℕ → Option Ty → Event
@@ -37,7 +37,7 @@ event p slot time value = record { spot = record { place = p; slot = slot; time 
 -- the value of a local in a frame
 abbrev pub local_of : Option Frame → ℕ → Option Ty
 local_of None x = None
-local_of (Some f) x = value_at f.regs x
+local_of (Some f) x = value_in_cells f.regs x
 
 abbrev pub is_covered : Handler → ℕ → Bool
 is_covered h p = nat_le h.start p && nat_lt p h.end
@@ -62,13 +62,13 @@ locals_events frames handlers p x (suc n) = local_events frames handlers p x ++ 
 -- of so many cells from cell i on, at slots from a slot on
 abbrev pub cells_events : ℕ → ℕ → List Ty → ℕ → ℕ → List Event
 cells_events p slot cells i zero = []
-cells_events p slot cells i (suc n) = event p (slot + i) 0 (value_at cells i) ∷ cells_events p slot cells (suc i) n
+cells_events p slot cells i (suc n) = event p (slot + i) 0 (value_in_cells cells i) ∷ cells_events p slot cells (suc i) n
 
 -- the operands of a conditional branch or a switch
 abbrev pub operands_of : Linked → Result Operation RuleFault → Option ℕ
 operands_of w (Ok (Branch Always)) = None
 operands_of w (Ok (Branch b)) = Some (footprint w (Branch b)).taken
-operands_of w (Ok (Switch width)) = Some (footprint w (Switch width)).taken
+operands_of w (Ok (Switch type_width)) = Some (footprint w (Switch type_width)).taken
 operands_of w _ = None
 
 abbrev pub is_deeper : Option ℕ → ℕ → Bool
@@ -110,12 +110,12 @@ has homes h = list_any (λ k. same_home k h) homes
 abbrev pub with_home : List Home → Home → List Home
 with_home homes h = if has homes h then homes else homes ++ h ∷ []
 
-abbrev pub with_value : List Home → ℕ → Option Ty → List Home
-with_value homes slot None = homes
-with_value homes slot (Some ty) = with_home homes (record { slot = slot; ty = ty })
+abbrev pub with_home_of_value : List Home → ℕ → Option Ty → List Home
+with_home_of_value homes slot None = homes
+with_home_of_value homes slot (Some ty) = with_home homes (record { slot = slot; ty = ty })
 
 abbrev pub with_event : List Home → Event → List Home
-with_event homes e = with_value homes e.spot.slot e.value
+with_event homes e = with_home_of_value homes e.spot.slot e.value
 
 unfoldable pub with_events : List Home → List Event → List Home
 with_events homes events = fold with_event homes events
@@ -141,4 +141,4 @@ homes_found w m frames leaders = with_events (argument_homes m.rec) (code_events
 -- where a home begins, of those whose registers follow one another from a number on
 abbrev pub register_from : ℕ → List Home → Home → Option ℕ
 register_from n [] h = None
-register_from n (k ∷ ks) h = if same_home k h then Some n else register_from (n + width k.ty) ks h
+register_from n (k ∷ ks) h = if same_home k h then Some n else register_from (n + type_width k.ty) ks h

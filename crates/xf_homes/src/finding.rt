@@ -2,12 +2,12 @@ ghost use Rattle.std.specs.Prelude.{◌≡◌, ◌<◌, min, IfOk, IfErr, IsSome
 ghost use Rattle.jc_control.specs.Method.{IsMethodOf, method_in};
 ghost use Rattle.jc_rules.specs.Typing.{state_at};
 ghost use Rattle.xf_homes.specs.Order.{AreHomes, register_sum};
-ghost use Rattle.xf_homes.specs.Answer.{IsTypingOf, IsCounted, TellsEnd};
+ghost use Rattle.xf_homes.specs.Answer.{IsTypingOf, IsCounted, TellsHomes};
 
 use crate::arguments::argument_homes;
 use crate::found::Homes;
 use crate::home::Home;
-use crate::walk::Walk;
+use crate::walk::HomeWalk;
 use cap_bytes::View;
 use jc_base::{World, types_are_ordered};
 use jc_control::{ControlEnd, control_flow, flaws_decide, instructions_are_placed};
@@ -46,7 +46,7 @@ pub fn homes(
     ensures homes { IsSomeAnd (method_in world.now method)
         (λ m. IfOk result (AreHomes world.now m (state_at typing.now))) }
     ensures end { IsSomeAnd (method_in world.now method)
-        (λ m. IfErr result (TellsEnd world.now m (state_at typing.now))) }
+        (λ m. IfErr result (TellsHomes world.now m (state_at typing.now))) }
 {
     types_are_ordered(world.classes());
     instructions_are_listed();
@@ -58,7 +58,7 @@ pub fn homes(
         Err(ControlEnd::Flawed(_)) => unreachable!(),
     };
     let rec = world.method(method);
-    let walk = Walk {
+    let walk = HomeWalk {
         world,
         number: method,
         rec,

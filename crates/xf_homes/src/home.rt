@@ -1,5 +1,5 @@
 ghost use Rattle.std.specs.Prelude.{◌≡◌};
-ghost use Rattle.xf_homes.specs.Value.{width};
+ghost use Rattle.xf_homes.specs.Value.{type_width};
 ghost use Rattle.xf_homes.specs.Walk.{same_home};
 
 use jc_base::{Ty, same_type};
@@ -15,7 +15,7 @@ pub struct Home {
 impl Home {
     /// The number of registers that it takes.
     pub fn width(self) -> u8
-        ensures { result ≡ width self.ty }
+        ensures { result ≡ type_width self.ty }
     {
         match self.ty {
             Ty::IntHigh => 2,

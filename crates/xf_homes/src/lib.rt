@@ -19,4 +19,4 @@ pub use found::Homes;
 pub use home::Home;
 pub use laws::{homes_are_one, homes_serve, needed_are_kept};
 pub use value::{value_at, value_of};
-pub use walk::{Walk, has, operands};
+pub use walk::{HomeWalk, has, operands};

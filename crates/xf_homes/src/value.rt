@@ -1,5 +1,5 @@
 ghost use Rattle.std.specs.Prelude.{◌≡◌, option_copied, slice_get};
-ghost use Rattle.xf_homes.specs.Value.{value_of, value_at};
+ghost use Rattle.xf_homes.specs.Value.{value_of, value_in_cells};
 
 use jc_base::Ty;
 
@@ -24,9 +24,9 @@ fn cell_at(cells: &[Ty], n: usize) -> Option<Ty>
 }
 
 /// The value that begins with the cell of this number, if one does.
-#[tactic(auto, unfolding(crate::specs::Value::value_at))]
+#[tactic(auto, unfolding(crate::specs::Value::value_in_cells))]
 pub fn value_at(cells: &[Ty], n: u16) -> Option<Ty>
-    ensures { result ≡ value_at cells.now n }
+    ensures { result ≡ value_in_cells cells.now n }
 {
     let n = n as usize;
     value_of(cell_at(cells, n), cell_at(cells, n + 1))

@@ -3,8 +3,8 @@ ghost use Rattle.jc_base.specs.World.{Linked};
 ghost use Rattle.jc_control.specs.Method.{IsMethodOf};
 ghost use Rattle.jc_rules.specs.Footprint.{footprint};
 ghost use Rattle.xf_homes.specs.Home.{register_count};
-ghost use Rattle.xf_homes.specs.Walk.{local_of, is_covered, caught_events, caught_of, local_events, locals_events, cells_events, operands_of, operands_at, keeps_stack, stack_events, place_events, code_events, has, with_home, with_value, with_events};
-ghost use Rattle.xf_homes.specs.Asked.{AreAsked, AreKnown, AreLastKnown, NoneIsNew, is_new, knows, last_after, last_local};
+ghost use Rattle.xf_homes.specs.Walk.{local_of, is_covered, caught_events, caught_of, local_events, locals_events, cells_events, operands_of, operands_at, keeps_stack, stack_events, place_events, code_events, has, with_home, with_home_of_value, with_events};
+ghost use Rattle.xf_homes.specs.Asked.{HandlersAreAsked, LocalsAreKnown, AreLastKnown, NoneIsNew, is_new, knows, last_after, last_local};
 ghost use Rattle.xf_homes.specs.Subject.{walked, frames_of};
 
 use crate::home::Home;
@@ -14,12 +14,12 @@ use jc_base::{Handler, MethodRec, Ty, World, same_type, types_are_ordered};
 use jc_control::{ControlFlow, covers};
 use jc_decode::{Instructions, Placed};
 use jc_ops::{Branch, Operation, Site, Width, resolve};
-use jc_rules::{State, Typing};
+use jc_rules::{HeldFrame, Typing};
 use std::alloc::AllocError;
 
 /// A walk over the code of a method, at whose reached places its types are asked for.
 #[derive(Clone, Copy)]
-pub struct Walk<'a> {
+pub struct HomeWalk<'a> {
     pub world: &'a World<'a>,
     pub number: u16,
     pub rec: &'a MethodRec,
@@ -53,7 +53,7 @@ fn keep(homes: &mut Vec<Home>, home: Home) -> Result<(), AllocError>
 
 /// Keeps the value of a slot, if it has one.
 fn keep_value(homes: &mut Vec<Home>, slot: u16, value: Option<Ty>) -> Result<(), AllocError>
-    ensures { OnOk result (homes.new.items ≡ with_value homes.old.items slot value) }
+    ensures { OnOk result (homes.new.items ≡ with_home_of_value homes.old.items slot value) }
 {
     match value {
         Some(ty) => keep(homes, Home { slot, ty }),
@@ -107,7 +107,7 @@ fn is_any_new(handlers: &[Handler], place: u16, last: Option<u16>) -> bool
 
 /// The handlers that are asked at a place: all, where one is new there, and else none.
 fn asked(handlers: &[Handler], place: u16, last: Option<u16>) -> &[Handler]
-    ensures { AreAsked handlers.entry.now place last result.now }
+    ensures { HandlersAreAsked handlers.entry.now place last result.now }
 {
     if is_any_new(handlers, place, last) {
         handlers
@@ -145,7 +145,7 @@ fn keep_cells(homes: &mut Vec<Home>, slot: u16, place: u16, cells: &[Ty]) -> Res
     Ok(())
 }
 
-impl Walk<'_> {
+impl HomeWalk<'_> {
     /// The value of a local at a place that control reaches.
     pub fn local(&self, place: u16, x: u16) -> Option<Ty>
         ensures { result ≡ local_of (frames_of self.now place) x }
@@ -175,7 +175,7 @@ impl Walk<'_> {
         last: Option<u16>,
     ) -> Result<(), AllocError>
         requires { knows homes.old.items x (last_local (frames_of self.now) last x) ≡ true }
-        ensures { OnOk result (homes.new.items ≡ with_value homes.old.items x (local_of (frames_of self.now place) x)) }
+        ensures { OnOk result (homes.new.items ≡ with_home_of_value homes.old.items x (local_of (frames_of self.now place) x)) }
     {
         let value = self.local(place, x);
         if same_value(value, self.last_local(last, x)) {
@@ -326,7 +326,7 @@ impl Walk<'_> {
         place: u16,
         last: Option<u16>,
     ) -> Result<(), AllocError>
-        requires { AreKnown (frames_of self.now) (register_count self.now.rec.now) homes.old.items self.now.rec.now.handlers last }
+        requires { LocalsAreKnown (frames_of self.now) (register_count self.now.rec.now) homes.old.items self.now.rec.now.handlers last }
         ensures { OnOk result
             (homes.new.items
             ≡ with_events homes.old.items
@@ -345,7 +345,8 @@ impl Walk<'_> {
         last: Option<u16>,
     ) -> Result<(), AllocError>
         requires method { IsMethodOf self.now.world.now (walked self.now) }
-        requires known { AreKnown (frames_of self.now) (register_count self.now.rec.now) homes.old.items self.now.rec.now.handlers last }
+        requires known { LocalsAreKnown (frames_of self.now)
+            (register_count self.now.rec.now) homes.old.items self.now.rec.now.handlers last }
         ensures { OnOk result
             (homes.new.items
             ≡ with_events homes.old.items

@@ -21,7 +21,7 @@ use Rattle.jc_decode.specs.declared.symbols.Symbols.{Symbols}
 use Rattle.jc_decode.specs.Laws.{InstructionsAreListed}
 use Rattle.jc_decode.specs.Listing.{listing, listing_end, end_from, falls, jumps, targets}
 use Rattle.jc_decode.specs.Places.{IsTargetAmong}
-use Rattle.jc_decode.specs.Standing.{IsStep, AreSteps, StandsAt}
+use Rattle.jc_decode.specs.Standing.{StandsForStep, AreSteps, StandsAt}
 use Rattle.jc_decode.specs.Symbols.{Step, steps, handler, place_of}
 use Rattle.jc_decode.proofs.Elements.{Contains-slice_get}
 use Rattle.jc_ops.specs.Entry.{entry_named, RestsOnEntry}
@@ -153,7 +153,7 @@ module _
       inside : number < count
       begins : i.place ≡ f number
       ends : i.place + i.insn.len ≡ f (suc number)
-      laid_as : IsStep m.code place step i
+      laid_as : StandsForStep m.code place step i
 
     as-step : (k : ℕ) (s : Step) → k < count → slice_get all k ≡ Some s → (x : IsLaidAt m.code place 0 (listing m.code) k s) → IsStepOf x.placed
     as-step k s lt e x = record {

@@ -25,7 +25,7 @@ use Rattle.jc_ops.specs.declared.operation.Choice.TheVariants as choices
 use Rattle.jc_ops.specs.declared.operation.Operation.{Operation}
 use Rattle.jc_ops.specs.declared.operation.Operation.TheVariants as ops
 use Rattle.jc_ops.specs.Row.{table, row_at, unused, by_sort, by_width, by_kind, first_four, by_register, literals, binaries, orders_all, branching}
-use Rattle.jc_ops.specs.Resolve.{byte_of, short_of, taken_if, on, callee_if, entry_callee, virtual_callee, own_receiver, special_callee, static_callee, is_described, passes, described, only, described_callee, interface_callee, new_object, resolved}
+use Rattle.jc_ops.specs.Resolve.{byte_of, short_of, taken_if, on, callee_if, entry_callee, virtual_callee, own_receiver, special_callee, static_callee, is_described, passes_test, described, only, described_callee, interface_callee, new_object, resolved}
 use Rattle.jc_control.specs.Method.{Method}
 use Rattle.jc_rules.specs.declared.effect.Mode.{Mode}
 use Rattle.jc_rules.specs.declared.rule.Outcome.{Outcome}
@@ -112,9 +112,9 @@ module _ (v : Linked) (infos : List (List ℕ)) (methods : List MethodRec) (inde
   described-same : (c token : ℕ) → described v.methods c token ≡ described methods c token
   unfolding described
   described-same c token =
-      filter-alike (λ n. passes (is_described c token) (slice_get v.methods n)) (λ n. passes (is_described c token) (slice_get methods n))
-      (λ n. asked-alike (passes (is_described c token)) refl (λ a. refl) (slice_get v.methods n) (slice_get methods n) (alike-at n)) (range_with_len 0 (length v.methods))
-      ∙ ap (λ k. filter (λ n. passes (is_described c token) (slice_get methods n)) (range_with_len 0 k)) same-count
+      filter-alike (λ n. passes_test (is_described c token) (slice_get v.methods n)) (λ n. passes_test (is_described c token) (slice_get methods n))
+      (λ n. asked-alike (passes_test (is_described c token)) refl (λ a. refl) (slice_get v.methods n) (slice_get methods n) (alike-at n)) (range_with_len 0 (length v.methods))
+      ∙ ap (λ k. filter (λ n. passes_test (is_described c token) (slice_get methods n)) (range_with_len 0 k)) same-count
 
   found-same : (pool nargs c token : ℕ) (o : Option ℕ) → described_callee v pool nargs c token o ≡ described_callee other pool nargs c token o
   found-same pool nargs c token None = refl

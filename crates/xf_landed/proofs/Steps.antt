@@ -7,7 +7,7 @@ use Rattle.std.proofs.lemmas.List.Elements.{Contains-get_or}
 use Rattle.std.proofs.lemmas.Option.{slice_get-get_or, slice_get-map, slice_get_within}
 use Rattle.jc_decode.specs.declared.insn.Placed.{Placed}
 use Rattle.jc_decode.specs.Listing.{end_from}
-use Rattle.jc_decode.specs.Standing.{IsStep, AreSteps}
+use Rattle.jc_decode.specs.Standing.{StandsForStep, AreSteps}
 use Rattle.jc_decode.specs.Symbols.{Step}
 use Rattle.jc_decode.proofs.Elements.{Contains-slice_get}
 
@@ -84,7 +84,7 @@ pub record IsLaidAt (code : List ℕ) (place : ℕ → ℕ) (n : ℕ) (ps : List
   pub listed : slice_get ps k ≡ Some placed
   pub begins : placed.place ≡ place (n + k)
   pub ends : placed.place + placed.insn.len ≡ place (n + suc k)
-  pub is : IsStep code place s placed
+  pub is : StandsForStep code place s placed
 
 module _ (code : List ℕ) (place : ℕ → ℕ) where
   pub step-at : (n : ℕ) (ss : List Step) (ps : List Placed) → AreSteps code place n ss ps → (k : ℕ) (s : Step) → slice_get ss k ≡ Some s → IsLaidAt code place n ps k s
@@ -95,7 +95,7 @@ module _ (code : List ℕ) (place : ℕ → ℕ) where
       let same : t ≡ s = cc in
       let here : n ≡ n + 0 = omega arith in
       let next : suc n ≡ n + 1 = omega arith in
-      record { placed = p; listed = refl; begins = h.0 ∙ ap place here; ends = h.1 ∙ ap place next; is = subst (λ x. IsStep code place x p) same h.2 }
+      record { placed = p; listed = refl; begins = h.0 ∙ ap place here; ends = h.1 ∙ ap place next; is = subst (λ x. StandsForStep code place x p) same h.2 }
   step-at n (t ∷ ss) (p ∷ ps) h (suc k) s e =
       let x = step-at (suc n) ss ps h.3 k s e in
       let here : suc n + k ≡ n + suc k = omega arith in

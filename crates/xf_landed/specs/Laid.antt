@@ -7,7 +7,7 @@ use Rattle.jc_base.specs.declared.record.Handler.{Handler}
 use Rattle.jc_base.specs.declared.record.MethodRec.{MethodRec}
 use Rattle.jc_base.specs.World.{Linked}
 use Rattle.std.proofs.Common.{refl}
-use Rattle.jc_decode.specs.declared.symbols.Handler.{Handler as Laying}
+use Rattle.jc_decode.specs.declared.symbols.LaidHandler.{LaidHandler as Laying}
 use Rattle.jc_decode.specs.declared.symbols.Item.TheVariants.{Branch, Label}
 use Rattle.jc_decode.specs.declared.symbols.Laid.{Laid}
 use Rattle.jc_decode.specs.declared.symbols.Symbols.{Symbols}
@@ -105,15 +105,15 @@ loop = record {
   max_locals = 0;
 }
 
-abbrev caught : List Handler
-caught =
+abbrev two_handlers : List Handler
+two_handlers =
     record { start = 0; end = 9; entry = 5; index = 2; class = 7 }
     ∷ record { start = 0; end = 9; entry = 5; index = 3; class = 8 } ∷ []
 
 loop_leads : map leads_of (map (λ s. Some s) (steps [] loop.items)) ≡ (pos 2 ∷ []) ∷ (pos 1 ∷ []) ∷ []
 loop_leads = refl
 
-loop_handlers : map (catching caught) (handlers loop.items loop.ranges)
+loop_handlers : map (catching two_handlers) (handlers loop.items loop.ranges)
     ≡ record { start = 1; end = 2; entry = 1; index = 3; class = 8 } ∷ []
 loop_handlers = refl
 

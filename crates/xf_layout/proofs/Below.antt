@@ -9,7 +9,7 @@ use Rattle.jc_decode.specs.declared.symbols.Item.TheVariants.{Plain, Branch, Swi
 use Rattle.jc_decode.specs.Forms.{is_near}
 use Rattle.xf_layout.specs.declared.form.Form.{Form}
 use Rattle.xf_layout.specs.declared.form.Form.TheVariants.{Fixed, Jump, Mark}
-use Rattle.xf_layout.specs.Form.{IsForm, AreForms, form_bytes, begins, end_of, label_place}
+use Rattle.xf_layout.specs.Form.{IsForm, AreForms, form_bytes, begins, length_of_forms, label_place}
 use Rattle.xf_layout.specs.Shortest.{NoWider, distance}
 
 -- the same form, or a jump that is short where the other is wide
@@ -81,7 +81,7 @@ begins-below (f ∷ fs) [] h k = absurd h
 begins-below (f ∷ fs) (g ∷ gs) h zero = omega arith
 begins-below (f ∷ fs) (g ∷ gs) h (suc k) = omega (arith, bytes-below f g h.0, begins-below fs gs h.1 k)
 
-pub end-below : (a b : List Form) → AreBelow a b → end_of a ≤ end_of b
+pub end-below : (a b : List Form) → AreBelow a b → length_of_forms a ≤ length_of_forms b
 end-below [] b h = omega arith
 end-below (f ∷ fs) [] h = absurd h
 end-below (f ∷ fs) (g ∷ gs) h = omega (arith, bytes-below f g h.0, end-below fs gs h.1)

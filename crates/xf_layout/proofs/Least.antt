@@ -8,8 +8,8 @@ use Rattle.jc_decode.specs.declared.symbols.Item.TheVariants.{Plain, Branch, Swi
 use Rattle.jc_decode.specs.Symbols.{IsItem, IsOnce}
 use Rattle.xf_layout.specs.declared.form.Form.{Form}
 use Rattle.xf_layout.specs.declared.form.Form.TheVariants.{Jump}
-use Rattle.xf_layout.specs.Form.{IsForm, AreForms, end_of, label_place}
-use Rattle.xf_layout.specs.Shortest.{Fit, NoWider, IsTooLong}
+use Rattle.xf_layout.specs.Form.{IsForm, AreForms, length_of_forms, label_place}
+use Rattle.xf_layout.specs.Shortest.{Fit, NoWider, ReachesTooFar}
 use Rattle.xf_layout.specs.Widening.{shortest}
 use Rattle.xf_layout.specs.Places.{noted, FormsFit}
 use Rattle.xf_layout.proofs.Below.{below-from, end-below}
@@ -56,6 +56,6 @@ jumps-after source items fs gs ps new is same ok forms room =
 
 -- where the code is too long with as few wide jumps as there can be, it always is
 pub long-always : (items : List Item) (fs : List Form) → AreForms items fs
-    → ((others : List Form) → AreForms items others → Fit others → NoWider fs others) → 32767 < end_of fs → IsTooLong items
+    → ((others : List Form) → AreForms items others → Fit others → NoWider fs others) → 32767 < length_of_forms fs → ReachesTooFar items
 long-always items fs forms least long others p fit =
     omega (arith, long, end-below fs others (below-from items fs others forms p (least others p fit)))

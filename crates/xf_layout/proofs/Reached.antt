@@ -11,24 +11,24 @@ use Rattle.jc_decode.specs.Forms.{is_near}
 use Rattle.jc_decode.specs.Symbols.{IsItem, IsOnce, IsRange, place_of}
 use Rattle.xf_layout.specs.declared.form.Form.{Form}
 use Rattle.xf_layout.specs.declared.form.Form.TheVariants.{Fixed, Jump, Mark}
-use Rattle.xf_layout.specs.declared.plan.Plan.{Plan}
-use Rattle.xf_layout.specs.Form.{IsForm, AreForms, form_bytes, begins, end_of, label_place}
+use Rattle.xf_layout.specs.declared.plan.LayoutPlan.{LayoutPlan}
+use Rattle.xf_layout.specs.Form.{IsForm, AreForms, form_bytes, begins, length_of_forms, label_place}
 use Rattle.xf_layout.specs.Plan.{IsLayoutPlan}
 use Rattle.xf_layout.specs.Laid.{AreInReach, IsNearFrom, IsPlacedRange, ItemsStand, labels_of}
 use Rattle.xf_layout.proofs.Notes.{jump-once}
 use Rattle.xf_layout.proofs.Stood.{label-instruction, instruction-rises}
 
-label-end : (fs : List Form) (l : ℕ) → label_place fs l ≤ end_of fs
+label-end : (fs : List Form) (l : ℕ) → label_place fs l ≤ length_of_forms fs
 label-end [] l = omega arith
 label-end (Fixed n ∷ fs) l = omega (arith, label-end fs l)
 label-end (Jump m w ∷ fs) l = omega (arith, label-end fs l)
 label-end (Mark m ∷ fs) l = by_test (m == l) (label-end fs l)
   where
-    by_test : (b : Bool) → label_place fs l ≤ end_of fs → cond b 0 (label_place fs l) ≤ form_bytes (Mark m) + end_of fs
+    by_test : (b : Bool) → label_place fs l ≤ length_of_forms fs → cond b 0 (label_place fs l) ≤ form_bytes (Mark m) + length_of_forms fs
     by_test true h = omega arith
     by_test false h = omega (arith, h)
 
-pub begins-end : (fs : List Form) (k : ℕ) → begins fs k ≤ end_of fs
+pub begins-end : (fs : List Form) (k : ℕ) → begins fs k ≤ length_of_forms fs
 begins-end [] k = omega arith
 begins-end (f ∷ fs) zero = omega arith
 begins-end (f ∷ fs) (suc k) = omega (arith, begins-end fs k)
@@ -55,15 +55,15 @@ form-of (x ∷ is) (y ∷ fs) h zero i f e g =
     subst (λ (z : Form). IsForm i z) b (subst (λ (z : Item). IsForm z y) a h.0)
 form-of (x ∷ is) (y ∷ fs) h (suc k) i f e g = form-of is fs h.1 k i f e g
 
-pub form-few : (fs : List Form) (k : ℕ) (f : Form) → slice_get fs k ≡ Some f → form_bytes f ≤ end_of fs
+pub form-few : (fs : List Form) (k : ℕ) (f : Form) → slice_get fs k ≡ Some f → form_bytes f ≤ length_of_forms fs
 form-few [] k f e = absurd (cc)
 form-few (x ∷ fs) zero f e = let a : x ≡ f = cc in omega (arith, ap form_bytes a)
 form-few (x ∷ fs) (suc k) f e = omega (arith, form-few fs k f e)
 
-once-reached : (items : List Item) (p : Plan) → IsLayoutPlan items p → p.end ≤ 32767 → (l : ℕ) → IsOnce items l → slice_index p.places l ≤ 32767
+once-reached : (items : List Item) (p : LayoutPlan) → IsLayoutPlan items p → p.end ≤ 32767 → (l : ℕ) → IsOnce items l → slice_index p.places l ≤ 32767
 once-reached items p plan few l once = omega (arith, plan.places l once, label-end p.forms.items l, plan.end, few)
 
-pub item-reached : (source : List ℕ) (items : List Item) (p : Plan) → IsLayoutPlan items p → p.end ≤ 32767 → (i : Item) → IsItem source items i
+pub item-reached : (source : List ℕ) (items : List Item) (p : LayoutPlan) → IsLayoutPlan items p → p.end ≤ 32767 → (i : Item) → IsItem source items i
     → AreInReach p.places (labels_of i)
 item-reached source items p plan few (Plain i) item = All-nil (λ l. slice_index p.places l ≤ 32767)
 item-reached source items p plan few (Branch op l) item =
@@ -72,7 +72,7 @@ item-reached source items p plan few (Switch i at labels) item =
     All-weaker (IsOnce items) (λ l. slice_index p.places l ≤ 32767) (once-reached items p plan few) labels item.3
 item-reached source items p plan few (Label l) item = All-nil (λ l. slice_index p.places l ≤ 32767)
 
-pub form-near : (source : List ℕ) (items : List Item) (p : Plan) → IsLayoutPlan items p → p.end ≤ 32767 → All (IsItem source items) items
+pub form-near : (source : List ℕ) (items : List Item) (p : LayoutPlan) → IsLayoutPlan items p → p.end ≤ 32767 → All (IsItem source items) items
     → (k : ℕ) (f : Form) → slice_get p.forms.items k ≡ Some f → IsNearFrom (slice_index p.places) (begins p.forms.items k) f
 form-near source items p plan few ok k (Fixed n) e = tt
 form-near source items p plan few ok k (Mark l) e = tt
@@ -81,7 +81,7 @@ form-near source items p plan few ok k (Jump l false) e =
     let once = jump-once source items items p.forms.items ok plan.forms k l false e in
     subst (λ (n : ℕ). IsTrue (is_near (pos n -ℤ pos (begins p.forms.items k)))) (sym (plan.places l once)) (plan.fit few k l e)
 
-pub range-placed : (items : List Item) (p : Plan) → IsLayoutPlan items p → p.end ≤ 32767 → (r : Range) → IsRange items r → IsPlacedRange p.places r
+pub range-placed : (items : List Item) (p : LayoutPlan) → IsLayoutPlan items p → p.end ≤ 32767 → (r : Range) → IsRange items r → IsPlacedRange p.places r
 range-placed items p plan few r range = record {
   to = once-reached items p plan few r.to range.to;
   entry = once-reached items p plan few r.entry range.entry;
@@ -97,7 +97,7 @@ range-placed items p plan few r range = record {
 
 -- the items reach to the end of the code
 pub items-end : (source : List ℕ) (place : ℕ → ℕ) (code : List ℕ) (here : ℕ) (items : List Item) (fs : List Form) → ItemsStand source place code here items fs
-    → here + end_of fs ≡ length code
+    → here + length_of_forms fs ≡ length code
 items-end source place code here [] [] h = omega (arith, h)
 items-end source place code here (i ∷ is) (f ∷ fs) h = let e = items-end source place code (here + form_bytes f) is fs h.1 in omega (arith, e)
 items-end source place code here [] (f ∷ fs) h = absurd h

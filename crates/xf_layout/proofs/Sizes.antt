@@ -7,7 +7,7 @@ use Rattle.jc_decode.specs.Laws.{ShortIsNoLonger}
 use Rattle.jc_decode.specs.Symbols.{plain_bytes, plain_size}
 use Rattle.xf_layout.specs.declared.form.Form.{Form}
 use Rattle.xf_layout.specs.declared.form.Form.TheVariants.{Fixed, Jump, Mark}
-use Rattle.xf_layout.specs.Form.{IsForm, AreForms, form_bytes, end_of}
+use Rattle.xf_layout.specs.Form.{IsForm, AreForms, form_bytes, length_of_forms}
 use Rattle.xf_layout.specs.Shortest.{IsShortest}
 use Rattle.xf_layout.proofs.Below.{IsBelow, AreBelow, below-from}
 
@@ -22,7 +22,7 @@ form-no-longer shorter (Switch i at labels) (Fixed n) h = omega (arith, h)
 form-no-longer shorter (Label l) (Mark m) h = omega arith
 form-no-longer shorter _ _ h = absurd h
 
-pub forms-no-longer : ShortIsNoLonger → (items : List Item) (fs : List Form) → AreForms items fs → end_of fs ≤ plain_size items
+pub forms-no-longer : ShortIsNoLonger → (items : List Item) (fs : List Form) → AreForms items fs → length_of_forms fs ≤ plain_size items
 forms-no-longer shorter [] [] h = omega arith
 forms-no-longer shorter (i ∷ is) (f ∷ fs) h =
     omega (arith, form-no-longer shorter i f h.0, forms-no-longer shorter is fs h.1, sum_by-cons plain_bytes i is)

@@ -8,12 +8,12 @@ use Rattle.jc_decode.specs.declared.insn.CodeEnd.TheVariants.{Cut}
 use Rattle.jc_decode.specs.declared.symbols.Item.{Item}
 use Rattle.jc_decode.specs.declared.symbols.Item.TheVariants.{Plain, Branch, Switch, Label}
 use Rattle.jc_decode.specs.declared.symbols.Range.{Range}
-use Rattle.jc_decode.specs.declared.symbols.Handler.{Handler}
+use Rattle.jc_decode.specs.declared.symbols.LaidHandler.{LaidHandler}
 use Rattle.jc_decode.specs.Cases.{cases}
 use Rattle.jc_decode.specs.Listing.{listing_from}
 use Rattle.jc_decode.specs.Laws.{ListingIsOne, NothingPastTheEnd}
 use Rattle.jc_decode.specs.Symbols.{Step, jump, place_of, steps_in, handler, IsOnce, IsItem, IsRange}
-use Rattle.jc_decode.specs.Standing.{IsStep, AreSteps}
+use Rattle.jc_decode.specs.Standing.{StandsForStep, AreSteps}
 use Rattle.xf_layout.specs.declared.form.Form.{Form}
 use Rattle.xf_layout.specs.declared.form.Form.TheVariants.{Fixed, Jump, Mark}
 use Rattle.xf_layout.specs.Form.{AreForms, form_bytes, label_place, instruction_place}
@@ -85,7 +85,7 @@ one-step one code to n here same long leads keys targets rest stands led begins 
     let end : here + stands.insn.len ≡ to (suc n) = ap (λ (k : ℕ). here + k) stands.sized ∙ ends in
     let after : AreSteps code to (suc n) rest (listing_from code (here + stands.insn.len)) =
     subst (λ (k : ℕ). AreSteps code to (suc n) rest (listing_from code (here + k))) (sym stands.sized) later in
-    let is : IsStep code to step (record { place = here; insn = stands.insn }) =
+    let is : StandsForStep code to step (record { place = here; insn = stands.insn }) =
     record { same = stands.alike; leads = stands.led_to ∙ led; keyed = stands.keyed } in
     subst (λ (ps : List Placed). AreSteps code to n (step ∷ rest) ps) (sym (one.more code here stands.insn stands.there)) (begins, end, is, after)
 
@@ -176,8 +176,8 @@ handlers-agree place to all agree [] h = refl
 handlers-agree place to all agree (r ∷ rs) h =
     let ok = All-head (IsRange all) r rs h in
     let one : handler place r ≡ handler (λ l. to (place_of l all)) r = rw (agree r.from ok.from, agree r.to ok.to, agree r.entry ok.entry) refl in
-    ap (λ (x : Handler). x ∷ map (handler place) rs) one
-    ∙ ap (λ (xs : List Handler). handler (λ l. to (place_of l all)) r ∷ xs) (handlers-agree place to all agree rs (All-tail (IsRange all) r rs h))
+    ap (λ (x : LaidHandler). x ∷ map (handler place) rs) one
+    ∙ ap (λ (xs : List LaidHandler). handler (λ l. to (place_of l all)) r ∷ xs) (handlers-agree place to all agree rs (All-tail (IsRange all) r rs h))
 
 -- places do not fall
 pub instruction-rises : (fs : List Form) (n m : ℕ) → n ≤ m → instruction_place fs n ≤ instruction_place fs m

@@ -9,7 +9,7 @@ use Rattle.jc_decode.specs.declared.symbols.Laid.{Laid}
 use Rattle.jc_decode.specs.Laws.{ListingIsOne, NothingPastTheEnd}
 use Rattle.jc_decode.specs.Symbols.{place_of, steps, handler, IsOnce, IsItem, IsRange}
 use Rattle.jc_decode.specs.Standing.{AreSteps, StandsAt}
-use Rattle.xf_layout.specs.declared.plan.Plan.{Plan}
+use Rattle.xf_layout.specs.declared.plan.LayoutPlan.{LayoutPlan}
 use Rattle.xf_layout.specs.Form.{instruction_place}
 use Rattle.xf_layout.specs.Plan.{IsLayoutPlan}
 use Rattle.xf_layout.specs.Laid.{ItemsStand}
@@ -30,13 +30,13 @@ pub rest-is : {A : Type 0} (xs : List A) → take (length xs - 1) (drop 1 xs) �
 rest-is xs = take_all (length xs - 1) (drop 1 xs) (omega (arith, length-drop 1 xs))
 
 -- items of equal lists in an equal code
-pub laid-items : (source : List ℕ) (p : Plan) (xs items : List Item) (bytes code : List ℕ) → xs ≡ items → code ≡ bytes
+pub laid-items : (source : List ℕ) (p : LayoutPlan) (xs items : List Item) (bytes code : List ℕ) → xs ≡ items → code ≡ bytes
     → ItemsStand source (slice_index p.places) bytes 0 xs p.forms.items → ItemsStand source (slice_index p.places) code 0 items p.forms.items
 laid-items source p xs items bytes code same equal stands =
     subst (λ (ys : List ℕ). ItemsStand source (slice_index p.places) ys 0 items p.forms.items) (sym equal)
     (subst (λ (ys : List Item). ItemsStand source (slice_index p.places) bytes 0 ys p.forms.items) same stands)
 
-pub stands-at : (source : List ℕ) (symbols : Symbols) (p : Plan) (laid : Laid) → IsLayoutPlan symbols.items p → ListingIsOne → NothingPastTheEnd
+pub stands-at : (source : List ℕ) (symbols : Symbols) (p : LayoutPlan) (laid : Laid) → IsLayoutPlan symbols.items p → ListingIsOne → NothingPastTheEnd
     → All (IsItem source symbols.items) symbols.items → All (IsRange symbols.items) symbols.ranges
     → ItemsStand source (slice_index p.places) laid.code 0 symbols.items p.forms.items
     → laid.handlers ≡ map (handler (slice_index p.places)) symbols.ranges

@@ -35,9 +35,9 @@ begins (f ∷ fs) zero = 0
 begins (f ∷ fs) (suc k) = form_bytes f + begins fs k
 
 -- the place where the code ends
-abbrev pub end_of : List Form → ℕ
-end_of [] = 0
-end_of (f ∷ fs) = form_bytes f + end_of fs
+abbrev pub length_of_forms : List Form → ℕ
+length_of_forms [] = 0
+length_of_forms (f ∷ fs) = form_bytes f + length_of_forms fs
 
 -- the place where a label stands
 abbrev pub label_place : List Form → ℕ → ℕ
@@ -65,5 +65,5 @@ over_label = refl
 over_second : begins over_nop 1 ≡ 2
 over_second = refl
 
-over_end : instruction_place over_nop 2 ≡ end_of over_nop
+over_end : instruction_place over_nop 2 ≡ length_of_forms over_nop
 over_end = refl

@@ -8,7 +8,7 @@ use Rattle.jc_decode.specs.Forms.{is_near}
 use Rattle.jc_decode.specs.Standing.{StandsAt}
 use Rattle.xf_layout.specs.declared.form.Form.{Form}
 use Rattle.xf_layout.specs.declared.form.Form.TheVariants.{Fixed, Jump, Mark}
-use Rattle.xf_layout.specs.Form.{AreForms, begins, end_of, label_place, instruction_place}
+use Rattle.xf_layout.specs.Form.{AreForms, begins, length_of_forms, label_place, instruction_place}
 
 -- how far the k-th item is from a label
 abbrev pub distance : List Form → ℕ → ℕ → ℤ
@@ -34,8 +34,8 @@ StandsShortest source symbols laid =
     (forms : List Form) × IsShortest symbols.items forms × StandsAt (instruction_place forms) source symbols laid
 
 -- in every choice of forms with which the short jumps fit, the code is above the 32,767 bytes that a method may have
-abbrev pub IsTooLong : List Item → Type 0
-IsTooLong items = (forms : List Form) → AreForms items forms → Fit forms → 32767 < end_of forms
+abbrev pub ReachesTooFar : List Item → Type 0
+ReachesTooFar items = (forms : List Form) → AreForms items forms → Fit forms → 32767 < length_of_forms forms
 
 -- a jump over 125 bytes fits, one over 126 does not; back over 128 bytes one fits, over 129 it does not
 abbrev ahead : ℕ → List Form

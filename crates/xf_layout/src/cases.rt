@@ -4,7 +4,7 @@ ghost use Rattle.jc_decode.specs.Cases.{cases, is_switch, with_default};
 ghost use Rattle.xf_layout.specs.Laid.{AreInReach, AddsSwitch, led};
 
 use crate::distance::distance;
-use crate::places::Places;
+use crate::places::LabelPlaces;
 use cap_bytes::View;
 use jc_decode::{Insn, Labels, bytes_read_back, encode, set_case};
 use std::alloc::{AllocError, Global};
@@ -16,7 +16,7 @@ pub fn lay_switch(
     insn: Insn,
     at: u16,
     labels: &Labels,
-    places: &Places,
+    places: &LabelPlaces,
     code: &mut Vec<u8>,
 ) -> Result<(), AllocError>
     requires short { length source.bytes.now ≤ 32767 }
@@ -46,7 +46,7 @@ pub fn lay_switch(
 }
 
 /// Leads the cases of a switch to labels, seen from the place where its bytes are laid.
-fn lead_cases(bytes: &mut [u8], switch: Insn, labels: &[u16], places: &Places, here: u32)
+fn lead_cases(bytes: &mut [u8], switch: Insn, labels: &[u16], places: &LabelPlaces, here: u32)
     requires short { length bytes.old ≤ 32767 }
     requires decoded { decoded bytes.old 0 ≡ Ok switch }
     requires count { length labels.now ≡ length (cases bytes.old 0 switch) }

@@ -4,7 +4,7 @@ ghost use Rattle.xf_layout.specs.Form.{form_bytes};
 ghost use Rattle.xf_layout.specs.Places.{IsInRoom};
 ghost use Rattle.xf_layout.specs.Widening.{is_short_jump, is_wide, shortest, widened_form};
 
-use crate::places::Places;
+use crate::places::LabelPlaces;
 use jc_decode::Item;
 
 /// The form of an item in code that is laid.
@@ -74,7 +74,7 @@ impl Form {
     }
 
     /// The form at a place: a jump is wide where it was, or where its label stands too far away.
-    pub(crate) fn widened(self, places: &Places, at: u32) -> Form
+    pub(crate) fn widened(self, places: &LabelPlaces, at: u32) -> Form
         ensures { result ≡ widened_form (slice_index places.now) at self }
     {
         match self {

@@ -2,16 +2,16 @@ ghost use Rattle.std.specs.Prelude.{◌≡◌, ◌≤◌, All, IfOk, map, slice_
 ghost use Rattle.jc_decode.specs.Symbols.{handler};
 ghost use Rattle.xf_layout.specs.Laid.{IsPlacedRange};
 
-use crate::places::Places;
-use jc_decode::{Handler, Range};
+use crate::places::LabelPlaces;
+use jc_decode::{LaidHandler, Range};
 use std::alloc::{AllocError, Global};
 
 /// The handlers of the ranges, in their order.
 pub fn handlers(
     alloc: Global,
     ranges: &[Range],
-    places: &Places,
-) -> Result<Vec<Handler>, AllocError>
+    places: &LabelPlaces,
+) -> Result<Vec<LaidHandler>, AllocError>
     requires { All (IsPlacedRange places.now) ranges.now }
     ensures { IfOk result (λ hs. hs.items ≡ map (handler (slice_index places.now)) ranges.now) }
 {
@@ -22,12 +22,12 @@ pub fn handlers(
     Ok(handlers)
 }
 
-fn handler(range: Range, places: &Places) -> Handler
+fn handler(range: Range, places: &LabelPlaces) -> LaidHandler
     requires { IsPlacedRange places.now range }
     ensures { result ≡ handler (slice_index places.now) range }
 {
     let start = places.at(range.from);
-    Handler {
+    LaidHandler {
         start: start as u16,
         length: (places.at(range.to) - start) as u16,
         entry: places.at(range.entry) as u16,

@@ -7,8 +7,8 @@ ghost use Rattle.xf_layout.specs.Laid.{Adds, AreInReach, IsNearFrom, ItemsStand,
 use crate::cases::lay_switch;
 use crate::distance::distance;
 use crate::form::Form;
-use crate::places::Places;
-use crate::plan::Plan;
+use crate::places::LabelPlaces;
+use crate::plan::LayoutPlan;
 use cap_bytes::View;
 use jc_decode::{Insn, Item, encode};
 use std::alloc::{AllocError, Global};
@@ -18,7 +18,7 @@ pub fn lay_items(
     alloc: Global,
     source: View,
     items: &[Item],
-    plan: &Plan,
+    plan: &LayoutPlan,
 ) -> Result<Vec<u8>, AllocError>
     requires short { length source.bytes.now ≤ 32767 }
     requires items { All (IsItem source.bytes.now items.now) items.now }
@@ -43,7 +43,7 @@ fn lay_item(
     source: View,
     item: &Item,
     form: Form,
-    places: &Places,
+    places: &LabelPlaces,
     code: &mut Vec<u8>,
 ) -> Result<(), AllocError>
     requires short { length source.bytes.now ≤ 32767 }

@@ -1,5 +1,5 @@
 ghost use Rattle.std.specs.Prelude.{◌≡◌, ◌<◌, ◌^◌, IfOk, length, slice_index};
-ghost use Rattle.xf_layout.specs.Form.{end_of};
+ghost use Rattle.xf_layout.specs.Form.{length_of_forms};
 ghost use Rattle.xf_layout.specs.Places.{FormsFit, IsInRoom, noted, noted_one};
 
 use crate::form::Form;
@@ -8,11 +8,11 @@ use std::marker::Model;
 
 /// The place in the code where each label stands, by the label's number.
 #[derive(Drop)]
-pub struct Places {
+pub struct LabelPlaces {
     items: Vec<u32>,
 }
 
-impl Model for Places {
+impl Model for LabelPlaces {
     ghost use Rattle.std.specs.Prelude.{List, ℕ};
 
     ghost Value = { List ℕ };
@@ -20,12 +20,12 @@ impl Model for Places {
     ghost view = { λ p. p.items.items };
 }
 
-impl Places {
+impl LabelPlaces {
     /// With room for the labels among some forms.
-    pub fn new(alloc: Global, forms: &[Form]) -> Result<Places, AllocError>
+    pub fn new(alloc: Global, forms: &[Form]) -> Result<LabelPlaces, AllocError>
         ensures { IfOk result (λ p. FormsFit (length p) forms.now) }
     {
-        Ok(Places {
+        Ok(LabelPlaces {
             items: vec![in alloc; 0; room(forms)]?,
         })
     }
@@ -43,10 +43,10 @@ impl Places {
     /// Notes where the labels among some forms stand, and tells where their code ends.
     pub fn note(&mut self, forms: &[Form]) -> u32
         requires room { FormsFit (length self.old) forms.now }
-        requires end { end_of forms.now < 2 ^ 32 }
+        requires end { length_of_forms forms.now < 2 ^ 32 }
         ensures places { self.new ≡ noted forms.now 0 self.old }
         ensures room { length self.new ≡ length self.old }
-        ensures end { result ≡ end_of forms.now }
+        ensures end { result ≡ length_of_forms forms.now }
     {
         let mut at = 0;
         'forms: for form in forms {

@@ -3,7 +3,7 @@ ghost use Rattle.jc_decode.specs.Symbols.{IsItem, plain_size};
 ghost use Rattle.xf_layout.specs.Plan.{IsLayoutPlan};
 
 use crate::form::Form;
-use crate::places::Places;
+use crate::places::LabelPlaces;
 use crate::widening::{shortest_forms, widen};
 use jc_decode::{Item, short_is_no_longer};
 use std::alloc::{AllocError, Global};
@@ -13,31 +13,31 @@ pub const LONGEST_CODE: u32 = 32_767;
 
 /// The form of each item, and where labels then stand.
 #[derive(Drop)]
-pub struct Plan {
+pub struct LayoutPlan {
     pub forms: Vec<Form>,
-    pub places: Places,
+    pub places: LabelPlaces,
     /// Where the code ends.
     pub end: u32,
 }
 
-impl Plan {
+impl LayoutPlan {
     /// Makes jumps wide until every other one fits, or until the code is too long. It goes over the
     /// items twice a turn, and each turn but the last makes a jump wide.
-    pub fn of(alloc: Global, items: &[Item]) -> Result<Plan, AllocError>
+    pub fn of(alloc: Global, items: &[Item]) -> Result<LayoutPlan, AllocError>
         requires items { (source : List ℕ) × All (IsItem source items.now) items.now }
         requires size { plain_size items.now < 2 ^ 32 }
         ensures { IfOk result (λ p. IsLayoutPlan items.now p) }
     {
         short_is_no_longer();
         let mut forms = shortest_forms(alloc, items)?;
-        let mut places = Places::new(alloc, &forms)?;
+        let mut places = LabelPlaces::new(alloc, &forms)?;
         'turns: loop {
             let end = places.note(&forms);
             if end > LONGEST_CODE {
-                return Ok(Plan { forms, places, end });
+                return Ok(LayoutPlan { forms, places, end });
             }
             if widen(&mut forms, &places) == 0 {
-                return Ok(Plan { forms, places, end });
+                return Ok(LayoutPlan { forms, places, end });
             }
         }
     }

@@ -1,11 +1,11 @@
 ghost use Rattle.std.specs.Prelude.{◌≡◌, ◌≤◌, ◌<◌, ◌^◌, ℕ, All, Err, IfOk, length};
 ghost use Rattle.jc_decode.specs.Symbols.{IsItem, IsRange, plain_size};
-ghost use Rattle.jc_decode.specs.Standing.{StandsFor};
-ghost use Rattle.xf_layout.specs.Shortest.{IsTooLong, StandsShortest};
+ghost use Rattle.jc_decode.specs.Standing.{CodeStandsFor};
+ghost use Rattle.xf_layout.specs.Shortest.{ReachesTooFar, StandsShortest};
 
 use crate::handlers::handlers;
 use crate::laying::lay_items;
-use crate::plan::{LONGEST_CODE, Plan};
+use crate::plan::{LONGEST_CODE, LayoutPlan};
 use cap_bytes::View;
 use jc_decode::{Laid, Sequence, Symbols, listing_is_one, nothing_past_the_end, plain_size};
 use std::alloc::{AllocError, Global};
@@ -40,16 +40,16 @@ pub fn lay(alloc: Global, source: View, symbols: &Symbols) -> Result<Laid, LayEn
     requires items { All (IsItem source.bytes.now symbols.now.items) symbols.now.items }
     requires ranges { All (IsRange symbols.now.items) symbols.now.ranges }
     requires size { plain_size symbols.now.items < 2 ^ 32 }
-    ensures stands { IfOk result (λ laid. StandsFor source.entry.bytes.now symbols.now laid) }
+    ensures stands { IfOk result (λ laid. CodeStandsFor source.entry.bytes.now symbols.now laid) }
     ensures shortest { IfOk result (λ laid. StandsShortest source.entry.bytes.now symbols.now laid) }
     ensures few { IfOk result (λ laid. length laid.code ≤ 32767) }
     ensures long { (n : ℕ) → result ≡ Err (LayEnd.MethodLong n)
-        → IsTooLong symbols.now.items × (n ≡ plain_size symbols.now.items) }
+        → ReachesTooFar symbols.now.items × (n ≡ plain_size symbols.now.items) }
 {
     listing_is_one();
     nothing_past_the_end();
     let items = symbols.items.as_slice();
-    let plan = Plan::of(alloc, items)?;
+    let plan = LayoutPlan::of(alloc, items)?;
     if plan.end > LONGEST_CODE {
         return Err(LayEnd::MethodLong(plain_size(items)));
     }

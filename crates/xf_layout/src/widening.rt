@@ -1,9 +1,9 @@
 ghost use Rattle.std.specs.Prelude.{◌≡◌, ◌<◌, ◌+◌, ◌^◌, IfOk, map, count_by, slice_index};
-ghost use Rattle.xf_layout.specs.Form.{end_of};
+ghost use Rattle.xf_layout.specs.Form.{length_of_forms};
 ghost use Rattle.xf_layout.specs.Widening.{is_short_jump, shortest, widened};
 
 use crate::form::Form;
-use crate::places::Places;
+use crate::places::LabelPlaces;
 use jc_decode::Item;
 use std::alloc::{AllocError, Global};
 
@@ -19,8 +19,8 @@ pub fn shortest_forms(alloc: Global, items: &[Item]) -> Result<Vec<Form>, AllocE
 }
 
 /// Makes each short jump wide whose label stands too far away, and tells how many these are.
-pub fn widen(forms: &mut Vec<Form>, places: &Places) -> usize
-    requires { end_of forms.old.items < 2 ^ 32 }
+pub fn widen(forms: &mut Vec<Form>, places: &LabelPlaces) -> usize
+    requires { length_of_forms forms.old.items < 2 ^ 32 }
     ensures forms { forms.new.items ≡ widened (slice_index places.now) 0 forms.old.items }
     ensures risen { result + count_by is_short_jump forms.new.items ≡ count_by is_short_jump forms.old.items }
 {

@@ -15,7 +15,7 @@ use Rattle.jc_rules.specs.Typing.{state_at}
 use Rattle.xf_homes.specs.declared.finding.HomeEnd.{HomeEnd}
 use Rattle.xf_homes.specs.declared.finding.HomeEnd.TheVariants.{Registers, Memory as NoHomes}
 use Rattle.xf_homes.specs.declared.home.Home.{Home}
-use Rattle.xf_homes.specs.Answer.{AreTooMany, TellsEnd}
+use Rattle.xf_homes.specs.Answer.{TakeTooManyRegisters, TellsHomes}
 use Rattle.xf_homes.specs.Order.{AreHomes, register_sum}
 use Rattle.xf_code.specs.declared.rewriting.RewriteEnd.{RewriteEnd}
 use Rattle.xf_code.specs.declared.rewriting.RewriteEnd.TheVariants.{StackLimit, Memory as NoSymbols}
@@ -25,7 +25,7 @@ use Rattle.xf_emission.specs.Numbers.{HasNumbers}
 use Rattle.xf_landed.specs.Laws.{LaidIsTyped}
 use Rattle.xf_layout.specs.declared.symbols.LayEnd.{LayEnd}
 use Rattle.xf_layout.specs.declared.symbols.LayEnd.TheVariants.{MethodLong, Memory as NoBytes}
-use Rattle.xf_layout.specs.Shortest.{IsTooLong, StandsShortest}
+use Rattle.xf_layout.specs.Shortest.{ReachesTooFar, StandsShortest}
 use Rattle.xf_typing.specs.Typed.{HasTypingByHomes}
 use Rattle.xf_world.specs.Laid.{IsLaidFor}
 use Rattle.xf_pack.specs.declared.end.MethodLimit.TheVariants as limits
@@ -57,11 +57,11 @@ module _ (w : Linked) (n : ℕ) (rec : MethodRec) (here : slice_get w.methods n 
     its-typing : IsTypedBy w (method_with w n rec) typing
     its-typing = its (λ m. IsTypedBy w m typing) typed
 
-    pub homes-told : (end : HomeEnd) → IsSomeAnd (method_in w n) (λ m. TellsEnd w m (state_at typing) end) → TellsUnlaid w n (of_homes end)
+    pub homes-told : (end : HomeEnd) → IsSomeAnd (method_in w n) (λ m. TellsHomes w m (state_at typing) end) → TellsUnlaid w n (of_homes end)
     homes-told (Registers k) tells =
         of-it (IsUnlaid w (limits.Registers k)) (record {
           method = its-code;
-          passes = record { typing = typing; typed = its-typing.typed; many = its (λ m. AreTooMany w m (state_at typing) k) tells };
+          passes = record { typing = typing; typed = its-typing.typed; many = its (λ m. TakeTooManyRegisters w m (state_at typing) k) tells };
         })
     homes-told NoHomes tells = tt {0}
 
@@ -117,7 +117,7 @@ module _ (w : Linked) (n : ℕ) (rec : MethodRec) (here : slice_get w.methods n 
 -- ---- the bytes of the symbols
 
 module _ (w : Linked) (m : Method) (symbols : Symbols) (known : IsRewrittenTo w symbols m) where
-  too-long : (k : ℕ) → IsTooLong symbols.items → k ≡ plain_size symbols.items → IsUnlaid w (limits.MethodLong k) m
+  too-long : (k : ℕ) → ReachesTooFar symbols.items → k ≡ plain_size symbols.items → IsUnlaid w (limits.MethodLong k) m
   too-long k long size = record {
     method = known.method;
     passes = record {
@@ -151,7 +151,7 @@ module _ (w : Linked) (m : Method) (symbols : Symbols) (known : IsRewrittenTo w 
       known.numbers known.few stands.2 short
 
 pub bytes-told : (w : Linked) (n : ℕ) (symbols : Symbols) → IsSomeAnd (method_in w n) (IsRewrittenTo w symbols) → (end : LayEnd)
-    → ((k : ℕ) → ◌≡◌ {A = Result Laid LayEnd} (Err end) (Err (MethodLong k)) → IsTooLong symbols.items × (k ≡ plain_size symbols.items))
+    → ((k : ℕ) → ◌≡◌ {A = Result Laid LayEnd} (Err end) (Err (MethodLong k)) → ReachesTooFar symbols.items × (k ≡ plain_size symbols.items))
     → TellsUnlaid w n (of_layout end)
 bytes-told w n symbols known (MethodLong k) long = by (method_in w n) known
   where

@@ -31,8 +31,8 @@ use Rattle.xf_plan.specs.Plan.{is_leader, operation}
 use Rattle.xf_emission.specs.declared.origin.Origin.TheVariants.{Start}
 use Rattle.xf_emission.specs.Move.{copy, loads}
 use Rattle.xf_emission.specs.Edge.{copies}
-use Rattle.xf_emission.specs.Group.{body, done, entrance, fallen, group, group_by, popped}
-use Rattle.xf_emission.specs.Emission.{AreSymbolsOf, caught_from, items, rewritten, stubs}
+use Rattle.xf_emission.specs.Group.{body, done, entrance, fallen, group, group_by, pop_item}
+use Rattle.xf_emission.specs.Emission.{AreSymbolsOf, catching_stubs, items, rewritten, stubs}
 use Rattle.xf_typing.proofs.Typings.{count-steps}
 use Rattle.xf_typing.proofs.Walks.{count, count-append}
 use Rattle.xf_typing.proofs.Numbers.{right-some, body-some}

@@ -1,10 +1,10 @@
 -- Each entry of the handler table of a package belongs to one method, so that the handlers of all methods are no more than the table has.
 use Rattle.std.proofs.Common.{◌≡◌, ℕ, zero, suc, ◌+◌, ◌-◌, ◌<◌, ◌≤◌, Bool, true, false, ◌&&◌, ltb, leb, min, List, [], ◌∷◌, ◌++◌, length, filter, cond, refl, sym, ap, subst, ◌∙◌, arith}
-use Rattle.std.specs.List.{filter_map}
+use Rattle.std.specs.List.{filter_map, enumerate_from}
 use Rattle.std.proofs.lemmas.Bool.{ltb-true, ltb-false, leb-true, leb-false}
 use Rattle.cap_desc.specs.DescriptorFormat.{MethodDescriptor, ClassDescriptor}
 use Rattle.cap_desc.specs.Members.{methods_but}
-use Rattle.cap_package.specs.HandlerChecks.{claims, is_within, claim_fault, numbered, numbered_fault}
+use Rattle.cap_package.specs.HandlerChecks.{claims, is_within, claim_fault, numbered_fault}
 use Rattle.cap_package.specs.PackageRecord.{PackageRecord, described_methods}
 use Rattle.cap_package.specs.StandsFor.{StandsFor}
 use Rattle.cap_package.proofs.StaticsKnown.{both_empty}
@@ -67,16 +67,16 @@ sum-within (suc many) ms one =
 -- ---- a package
 
 module _ (p : PackageRecord) (agreed : StandsFor p.parts p) where
-  entries-owned : filter_map (numbered_fault p.methods.info (described_methods p)) (numbered 0 p.methods.handlers) ≡ []
+  entries-owned : filter_map (numbered_fault p.methods.info (described_methods p)) (enumerate_from 0 p.methods.handlers) ≡ []
   entries-owned =
       let all = agreed.agree.1.1.1.1.1.1.1.1.1.1.1.1.1.1.0 in
-      (both_empty (filter_map (numbered_fault p.methods.info (described_methods p)) (numbered 0 p.methods.handlers)) (filter_map (claim_fault (length p.methods.handlers)) (described_methods p)) all).0
+      (both_empty (filter_map (numbered_fault p.methods.info (described_methods p)) (enumerate_from 0 p.methods.handlers)) (filter_map (claim_fault (length p.methods.handlers)) (described_methods p)) all).0
 
   once : (n : ℕ) → n < length p.methods.handlers → length (filter (claims n) (described_methods p)) ≤ 1
   once n lt =
       let h = slice_get-some p.methods.handlers n lt in
       let place : 0 + n ≡ n = omega arith in
-      let fault = faultless (numbered_fault p.methods.info (described_methods p)) (numbered 0 p.methods.handlers) (0 + n, h.0) entries-owned (entry_numbered p.methods.handlers 0 n h.0 h.1) in
+      let fault = faultless (numbered_fault p.methods.info (described_methods p)) (enumerate_from 0 p.methods.handlers) (0 + n, h.0) entries-owned (entry_numbered p.methods.handlers 0 n h.0 h.1) in
       one_owner p.methods.info (described_methods p) n h.0 (rw place at fault)
 
   pub entries-within : entry_sum (length p.methods.handlers) (described_methods p) ≤ length p.methods.handlers

@@ -17,7 +17,7 @@ use Rattle.jc_base.proofs.Lists.{All-slice_get, slice_get-some}
 use Rattle.jc_resolve.specs.declared.place.RecordPlace.{RecordPlace}
 use Rattle.jc_resolve.specs.Conditions.{conditions}
 use Rattle.jc_resolve.specs.NamedMethods.{have_headers, is_class}
-use Rattle.jc_resolve.specs.Numbering.{NumberedClass, numbered_class, classes_of, classes_after, numbered_classes, class_at, class_places, place_of_class, same_place, flagged_interface, is_interface_number, is_placed}
+use Rattle.jc_resolve.specs.Numbering.{NumberedClass, numbered_class, numbered_classes_of, classes_after, numbered_classes, class_at, class_places, place_of_class, same_place, flagged_interface, is_interface_number, is_placed}
 use Rattle.jc_resolve.specs.References.{class_named, Refers, internal, imported}
 use Rattle.jc_resolve.proofs.Faultless.{IsOneOf}
 use Rattle.jc_resolve.proofs.NamedClassLaws.{NamesClass, describes-class}
@@ -41,7 +41,7 @@ in-packages : (ps : List PackageRecord) (k : ℕ) (qs : List PackageRecord) → 
 in-packages ps k [] all = All-nil (IsRecorded ps)
 in-packages ps k (q ∷ qs) all =
     let here : k + 0 ≡ k = omega arith in
-    All-append (IsRecorded ps) (classes_of k q) (classes_after (k + 1) qs)
+    All-append (IsRecorded ps) (numbered_classes_of k q) (classes_after (k + 1) qs)
     (in-package ps k q (rw here at (all 0 q refl)) q.classes (λ c h. h))
     (in-packages ps (k + 1) qs (λ j r e. let next : (k + 1) + j ≡ k + suc j = omega arith in rw next (all (suc j) r e)))
 

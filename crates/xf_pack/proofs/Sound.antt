@@ -9,7 +9,7 @@ use Rattle.jc_base.specs.declared.record.MethodRec.{MethodRec}
 use Rattle.jc_base.specs.declared.ty.Ty.TheVariants.{Top}
 use Rattle.jc_base.specs.Cell.{IsDeclared}
 use Rattle.jc_base.specs.World.{Linked}
-use Rattle.jc_decode.specs.declared.symbols.Handler.{Handler as Laying}
+use Rattle.jc_decode.specs.declared.symbols.LaidHandler.{LaidHandler as Laying}
 use Rattle.jc_decode.specs.declared.symbols.Laid.{Laid}
 use Rattle.jc_decode.specs.declared.symbols.Range.{Range}
 use Rattle.jc_decode.specs.declared.symbols.Symbols.{Symbols}

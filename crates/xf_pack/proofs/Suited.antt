@@ -21,7 +21,7 @@ use Rattle.jc_resolve.specs.declared.method_records.Body.{Body}
 use Rattle.jc_resolve.specs.Conditions.{conditions}
 use Rattle.jc_resolve.specs.NamedMethods.{body_after, body_of, handler_named, have_headers, method_with, named_method, no_body, offset_in_info, class_described}
 use Rattle.jc_resolve.specs.Numbering.{NumberedMethod, numbered_method, methods_of_class, methods_of_classes}
-use Rattle.jc_resolve.specs.WorldTypes.{signature_of}
+use Rattle.jc_resolve.specs.WorldTypes.{declared_signature}
 use Rattle.jc_resolve.proofs.Faultless.{IsOneOf}
 use Rattle.jc_resolve.proofs.MethodFacts.{IsPlaced, is-placed}
 use Rattle.jc_resolve.proofs.NumberedLaws.{from-any, from-class}
@@ -110,7 +110,7 @@ module _ (ps : List PackageRecord) (p : PackageRecord) (roles : List ℕ) (agree
   method_of i c j m = named_method (and_last ps p) roles (numbered_method (length ps) p i c j m)
 
   abbrev sig_of : MethodDescriptor → Sig
-  sig_of m = signature_of (and_last ps p) (slice_index roles 0) (length ps) p.description m.type_offset
+  sig_of m = declared_signature (and_last ps p) (slice_index roles 0) (length ps) p.description m.type_offset
 
   abbrev body : ClassDescriptor → MethodDescriptor → Body
   body c m = body_of (and_last ps p) (slice_index roles 1) (length ps) p m (sig_of m) (have_headers (and_last ps p) (length ps) p c)

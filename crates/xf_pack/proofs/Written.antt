@@ -9,7 +9,7 @@ use Rattle.cap_package.specs.PackageRecord.{PackageRecord}
 use Rattle.cap_package.specs.Parts.{Lent}
 use Rattle.cap_package.specs.StandsFor.{StandsFor}
 use Rattle.cap_write.specs.Condition.{MayBeLaid}
-use Rattle.cap_write.specs.WrittenPackage.{HaveRewritten, IsTooLong, IsWritten}
+use Rattle.cap_write.specs.WrittenPackage.{HaveRewritten, IsPartTooLong, IsWritten}
 use Rattle.jc_base.specs.World.{Linked}
 use Rattle.jc_base.proofs.Lists.{slice_get-some}
 use Rattle.jc_decode.specs.declared.symbols.Laid.{Laid}
@@ -79,7 +79,7 @@ module _ (ps : List PackageRecord) (roles : List ℕ) (w : Linked) (linked : IsL
             alike = alike parted.0 p again.made p.parts parts roles laid new.0 agreed again.stands again.rewritten last-linked accepted code new.1;
           }
 
-      pub part-long : (size : ℕ) → IsTooLong p laid size → IsPartLong ps w size
+      pub part-long : (size : ℕ) → IsPartTooLong p laid size → IsPartLong ps w size
       part-long size long = record {
         libraries = accepted;
         typed = typed;

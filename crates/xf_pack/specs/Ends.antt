@@ -1,7 +1,7 @@
 -- Why a package is not transformed.
 use Rattle.std.specs.Prelude.{◌≡◌, ◌≢◌, ℕ, List, Option}
 use Rattle.cap_package.specs.PackageRecord.{PackageRecord}
-use Rattle.cap_write.specs.WrittenPackage.{IsTooLong}
+use Rattle.cap_write.specs.WrittenPackage.{IsPartTooLong}
 use Rattle.card_typing.specs.declared.fault.CardFault.{CardFault}
 use Rattle.card_typing.specs.Refusal.{IsRefused}
 use Rattle.card_typing.specs.Typing.{HasCardTyping}
@@ -69,7 +69,7 @@ pub record IsPartLong (packages : List PackageRecord) (w : Linked) (n : ℕ) : T
   pub are : packages ≡ and_last earlier source
   pub laid : List (Option Laid)
   pub code : AreLaidOf w laid
-  pub long : IsTooLong source laid n
+  pub long : IsPartTooLong source laid n
 
 -- the ends where the packages make a world
 abbrev pub TellsOf : List PackageRecord → Linked → TransformEnd → Type 0

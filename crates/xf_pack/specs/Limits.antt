@@ -8,10 +8,10 @@ use Rattle.jc_control.specs.Method.{Method}
 use Rattle.jc_rules.specs.Demand.{Frame}
 use Rattle.jc_rules.specs.Typing.{state_at}
 use Rattle.xf_homes.specs.declared.home.Home.{Home}
-use Rattle.xf_homes.specs.Answer.{AreTooMany, IsTypingOf}
+use Rattle.xf_homes.specs.Answer.{TakeTooManyRegisters, IsTypingOf}
 use Rattle.xf_homes.specs.Order.{AreHomes, register_sum}
 use Rattle.xf_emission.specs.Emission.{AreSymbolsOf}
-use Rattle.xf_layout.specs.Shortest.{IsTooLong}
+use Rattle.xf_layout.specs.Shortest.{ReachesTooFar}
 use Rattle.xf_pack.specs.declared.end.MethodLimit.{MethodLimit}
 use Rattle.xf_pack.specs.declared.end.MethodLimit.TheVariants.{Registers, StackLimit, MethodLong}
 
@@ -19,7 +19,7 @@ use Rattle.xf_pack.specs.declared.end.MethodLimit.TheVariants.{Registers, StackL
 pub record HasTooManyHomes (w : Linked) (m : Method) (n : ℕ) : Type 0 where
   pub typing : List (Option Frame)
   pub typed : IsTypingOf w m typing
-  pub many : AreTooMany w m (state_at typing) n
+  pub many : TakeTooManyRegisters w m (state_at typing) n
 
 -- the homes by the method's least typing, which are no more than a method may have
 pub record HasHomes (w : Linked) (m : Method) : Type 0 where
@@ -40,7 +40,7 @@ pub record HasLongCode (w : Linked) (m : Method) (n : ℕ) : Type 0 where
   pub room : m.rec.max_stack < 255
   pub symbols : Symbols
   pub rewritten : AreSymbolsOf w m (state_at homes.typing) homes.homes symbols
-  pub long : IsTooLong symbols.items
+  pub long : ReachesTooFar symbols.items
   pub size : n ≡ plain_size symbols.items
 
 -- the method passes the limit

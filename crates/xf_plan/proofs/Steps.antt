@@ -5,22 +5,22 @@ use Rattle.std.proofs.lemmas.List.{append-nil}
 use Rattle.jc_base.specs.declared.ty.Ty.{Ty}
 use Rattle.jc_rules.specs.Demand.{Frame}
 use Rattle.xf_homes.specs.declared.home.Home.{Home}
-use Rattle.xf_homes.specs.Value.{value_at}
+use Rattle.xf_homes.specs.Value.{value_in_cells}
 use Rattle.xf_plan.specs.Plan.{cells_from, home_of, with_home_of, first_of}
 
 cells-first : (slot : ℕ) (cells : List Ty) (n len : ℕ) → n < len
-    → cells_from slot cells n (len - n) ≡ with_home_of (home_of (slot + n) (value_at cells n)) (cells_from slot cells (n + 1) (len - (n + 1)))
+    → cells_from slot cells n (len - n) ≡ with_home_of (home_of (slot + n) (value_in_cells cells n)) (cells_from slot cells (n + 1) (len - (n + 1)))
 cells-first slot cells n len lt =
     let e : len - n ≡ suc (len - (n + 1)) = omega arith in
     let next : suc n ≡ n + 1 = omega arith in
-    ap (cells_from slot cells n) e ∙ ap (λ k. with_home_of (home_of (slot + n) (value_at cells n)) (cells_from slot cells k (len - (n + 1)))) next
+    ap (cells_from slot cells n) e ∙ ap (λ k. with_home_of (home_of (slot + n) (value_in_cells cells n)) (cells_from slot cells k (len - (n + 1)))) next
 
 split-first : (o : Option Home) (rest : List Home) → with_home_of o rest ≡ with_home_of o [] ++ rest
 split-first None rest = refl
 split-first (Some h) rest = refl
 
 -- the next cell
-pub cells-next : (homes now whole : List Home) (slot : ℕ) (cells : List Ty) (n len : ℕ) (o : Option Home) → n < len → o ≡ home_of (slot + n) (value_at cells n)
+pub cells-next : (homes now whole : List Home) (slot : ℕ) (cells : List Ty) (n len : ℕ) (o : Option Home) → n < len → o ≡ home_of (slot + n) (value_in_cells cells n)
     → now ≡ homes ++ with_home_of o [] → homes ++ cells_from slot cells n (len - n) ≡ whole → now ++ cells_from slot cells (n + 1) (len - (n + 1)) ≡ whole
 cells-next homes now whole slot cells n len o lt is pushed inv =
     let rest = cells_from slot cells (n + 1) (len - (n + 1)) in

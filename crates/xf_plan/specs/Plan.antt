@@ -10,7 +10,7 @@ use Rattle.jc_ops.specs.Resolve.{resolved}
 use Rattle.jc_control.specs.Flags.{flag}
 use Rattle.jc_rules.specs.Demand.{Frame}
 use Rattle.xf_homes.specs.declared.home.Home.{Home}
-use Rattle.xf_homes.specs.Value.{value_at}
+use Rattle.xf_homes.specs.Value.{value_in_cells}
 use Rattle.xf_homes.specs.Home.{register_count}
 use Rattle.xf_homes.specs.Walk.{local_of, local_events, with_events, register_from}
 use Rattle.xf_plan.specs.Source.{Source}
@@ -50,7 +50,7 @@ with_home_of (Some h) hs = h ∷ hs
 -- the homes of the values that begin with cells, at slots from a slot on: of so many cells from cell i on
 abbrev pub cells_from : ℕ → List Ty → ℕ → ℕ → List Home
 cells_from slot cells i zero = []
-cells_from slot cells i (suc n) = with_home_of (home_of (slot + i) (value_at cells i)) (cells_from slot cells (suc i) n)
+cells_from slot cells i (suc n) = with_home_of (home_of (slot + i) (value_in_cells cells i)) (cells_from slot cells (suc i) n)
 
 -- the cells of a frame's stack from the bottom
 abbrev pub stack_of : Option Frame → List Ty

@@ -8,12 +8,12 @@ use jc_base::Ty;
 use jc_decode::Placed;
 use jc_ops::{Operation, RuleFault, Site, resolve};
 use std::alloc::{AllocError, Global};
-use xf_homes::{Home, Homes, Walk, value_at};
+use xf_homes::{Home, HomeWalk, Homes, value_at};
 
 /// The homes of a method by place, as its least typing tells them.
 #[derive(Clone, Copy)]
 pub struct Plan<'a> {
-    pub walk: Walk<'a>,
+    pub walk: HomeWalk<'a>,
     pub homes: &'a Homes,
 }
 

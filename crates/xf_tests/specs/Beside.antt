@@ -16,7 +16,7 @@ use Rattle.xf_plan.specs.Source.{Source}
 use Rattle.xf_emission.specs.Move.{with_byte}
 use Rattle.xf_groups.specs.Laid.{body_at, count_of, rename, steps_of}
 use Rattle.xf_groups.specs.Beside.{AreEqualBut, MovesTop, SameUnder, StaysTyped}
-use Rattle.xf_groups.specs.Comes.{GroupComes, group_ends, popped}
+use Rattle.xf_groups.specs.Comes.{GroupComes, group_ends, without_arguments}
 
 -- ---- items
 
@@ -79,7 +79,7 @@ under = record { frames = refl }
 handed : arguments 2 (top source).stack ≡ cells.Short (pos 7) ∷ cells.Ref 1 ∷ []
 handed = refl
 
-left : (top (popped 2 source)).stack ≡ cells.Short (pos 9) ∷ []
+left : (top (without_arguments 2 source)).stack ≡ cells.Short (pos 9) ∷ []
 left = refl
 
 -- ---- outcomes

@@ -20,7 +20,7 @@ use Rattle.jc_rules.specs.Demand.{Frame}
 use Rattle.jc_rules.specs.Rule.{cell}
 use Rattle.jc_rules.specs.Flow.{CellsBelow, no_cells, more_cells, IsNotTop}
 use Rattle.jc_rules.specs.Laws.{IsNotBottom}
-use Rattle.xf_homes.specs.Value.{value_at, value_of, width}
+use Rattle.xf_homes.specs.Value.{value_in_cells, value_of, type_width}
 use Rattle.xf_emission.specs.Edge.{is_stored}
 use Rattle.xf_emission.specs.Move.{load_op}
 use Rattle.xf_typing.proofs.Moves.{set-same}
@@ -59,14 +59,14 @@ is-high-or a = inr (λ e. absurd (cc))
 
 -- a value stays where its cells do
 pub value-moved :
-    (xs ys : List Ty) (y : ℕ) (u : Ty) → value_at xs y ≡ Some u → slice_get ys y ≡ slice_get xs y
-    → (u ≡ IntHigh → slice_get ys (y + 1) ≡ slice_get xs (y + 1)) → value_at ys y ≡ Some u
+    (xs ys : List Ty) (y : ℕ) (u : Ty) → value_in_cells xs y ≡ Some u → slice_get ys y ≡ slice_get xs y
+    → (u ≡ IntHigh → slice_get ys (y + 1) ≡ slice_get xs (y + 1)) → value_in_cells ys y ≡ Some u
 value-moved xs ys y u v first second = by (is-high-or u)
   where
     is : IsValueAt xs y u
     is = value-is xs y u v
 
-    by : (u ≡ IntHigh) ⊎ (u ≢ IntHigh) → value_at ys y ≡ Some u
+    by : (u ≡ IntHigh) ⊎ (u ≢ IntHigh) → value_in_cells ys y ≡ Some u
     by (inl e) = value-int ys y (first ∙ is.first ∙ ap Some e) (second e ∙ is.second e) ∙ ap Some (sym e)
     by (inr n) = value-one ys y u (first ∙ is.first) (no-half u n is.no_low) (not-top u is.no_top)
 
@@ -93,7 +93,7 @@ inside-by (x ∷ xs) n zero a e apart = omega arith
 inside-by (x ∷ xs) n (suc y) a e apart = omega (arith, inside-by xs n y a e apart)
 
 -- a value among cells, and then such as hold anything, is one among the first
-pub value-before : (xs : List Ty) (n y : ℕ) (u : Ty) → value_at (xs ++ replicate n Top) y ≡ Some u → value_at xs y ≡ Some u
+pub value-before : (xs : List Ty) (n y : ℕ) (u : Ty) → value_in_cells (xs ++ replicate n Top) y ≡ Some u → value_in_cells xs y ≡ Some u
 value-before xs n y u v =
     value-moved (xs ++ replicate n Top) xs y u v (sym (get-left xs (replicate n Top) y (inside-by xs n y u is.first is.no_top)))
     (λ high. sym (get-left xs (replicate n Top) (y + 1) (inside-by xs n (y + 1) IntLow (is.second high) (λ e. absurd (cc)))))
@@ -115,8 +115,8 @@ module _ (t : ClassTable) (types : IsOrderOfTypes t) where
 
   -- a value that is not lone halves, under one of other registers
   pub value-below :
-      (regs others : List Ty) → CellsBelow t regs others → All IsNotBottom regs → (x : ℕ) (ty : Ty) → value_at others x ≡ Some ty
-      → (u : Ty) × (value_at regs x ≡ Some u) × Below t u ty
+      (regs others : List Ty) → CellsBelow t regs others → All IsNotBottom regs → (x : ℕ) (ty : Ty) → value_in_cells others x ≡ Some ty
+      → (u : Ty) × (value_in_cells regs x ≡ Some u) × Below t u ty
   value-below regs others le full x ty v =
       let a = under-at t regs others x ty le is.first in
       (a.0, by a.0 a.1 a.2, a.2)
@@ -124,7 +124,7 @@ module _ (t : ClassTable) (types : IsOrderOfTypes t) where
       is : IsValueAt others x ty
       is = value-is others x ty v
 
-      by : (u : Ty) → slice_get regs x ≡ Some u → Below t u ty → value_at regs x ≡ Some u
+      by : (u : Ty) → slice_get regs x ≡ Some u → Below t u ty → value_in_cells regs x ≡ Some u
       by IntHigh e b =
           let high : ty ≡ IntHigh = high-only t types ty ((types.decided IntHigh ty).1 b) (not-top ty is.no_top) in
           let low = under-at t regs others (x + 1) IntLow le (is.second high) in

@@ -36,7 +36,7 @@ use Rattle.jc_rules.specs.Rule.{effect}
 use Rattle.xf_homes.specs.declared.home.Home.{Home}
 use Rattle.xf_homes.specs.Home.{argument_types, asked_here}
 use Rattle.xf_homes.specs.Laws.{NeededAreKept}
-use Rattle.xf_homes.specs.Value.{value_at}
+use Rattle.xf_homes.specs.Value.{value_in_cells}
 use Rattle.xf_homes.specs.Walk.{local_of}
 use Rattle.xf_homes.proofs.Events.{among-has}
 use Rattle.xf_plan.specs.Source.{Source}
@@ -166,7 +166,7 @@ held-at t xs x a b e h = subst (λ (o : Option Ty). IsSomeAnd o (λ found. Below
 
 -- a local that an operation does not store has its value afterwards
 pub unstored : (w : Linked) (types : IsOrderOfTypes w.classes) (limit : ℕ) (op : Operation) (before after : Frame) (o : Outcome) → OperationApplies w limit op Flow before after o → All IsNotBottom before.regs
-    → (y : ℕ) (ty : Ty) → is_stored op y ≡ false → value_at before.regs y ≡ Some ty → slice_get after.regs y ≡ Some ty
+    → (y : ℕ) (ty : Ty) → is_stored op y ≡ false → value_in_cells before.regs y ≡ Some ty → slice_get after.regs y ≡ Some ty
 unstored w types limit (ops.Store sorts.Reference x) before after o a full y ty none v =
     ap (λ (rs : List Ty). slice_get rs y) a.regs.after_is ∙ set-other before.regs x y a.regs.value none ∙ (value-is before.regs y ty v).first
 unstored w types limit (ops.Store sorts.Short x) before after o a full y ty none v =
@@ -220,12 +220,12 @@ unstored w types limit op before after o a full y ty none v =
 
 pub record IsHomeAt (cells : List Ty) (x : ℕ) (from : Home) : Type 0 where
   pub slot : from.slot ≡ x
-  pub value : value_at cells x ≡ Some from.ty
+  pub value : value_in_cells cells x ≡ Some from.ty
 
-pub home-at : (cells : List Ty) (x : ℕ) (from : Home) → home_of x (value_at cells x) ≡ Some from → IsHomeAt cells x from
-home-at cells x from e = by (value_at cells x) refl e
+pub home-at : (cells : List Ty) (x : ℕ) (from : Home) → home_of x (value_in_cells cells x) ≡ Some from → IsHomeAt cells x from
+home-at cells x from e = by (value_in_cells cells x) refl e
   where
-    by : (v : Option Ty) → value_at cells x ≡ v → home_of x v ≡ Some from → IsHomeAt cells x from
+    by : (v : Option Ty) → value_in_cells cells x ≡ v → home_of x v ≡ Some from → IsHomeAt cells x from
     by None h e = absurd (cc)
     by (Some ty) h e = let own : record { slot = x; ty = ty } ≡ from = cc in record { slot = ap (λ (k : Home). k.slot) (sym own); value = h ∙ ap (λ (k : Home). Some k.ty) own }
 
@@ -243,7 +243,7 @@ module _ (same_is : SameTypeDecides) (kept : NeededAreKept) (s : Source) (object
   is-needed : (p x : ℕ) (f : Frame) (from : Home) → s.frames p ≡ Some f → IsHomeAt f.regs x from → IsAmong from (needed s p x)
   is-needed p x f from e is =
       ((needed-are same_is kept s objects rules ready r asks p x).all from).1
-      (is.slot, (0, asked_here (subst (λ (o : Option Frame). IsSomeAnd o (λ (g : Frame). value_at g.regs x ≡ Some from.ty)) (sym e) is.value)))
+      (is.slot, (0, asked_here (subst (λ (o : Option Frame). IsSomeAnd o (λ (g : Frame). value_in_cells g.regs x ≡ Some from.ty)) (sym e) is.value)))
 
   -- after an instruction, into a place whose frame is above what it leaves
   pub carries-after :
@@ -289,7 +289,7 @@ module _ (same_is : SameTypeDecides) (kept : NeededAreKept) (s : Source) (object
       → (y : ℕ) (from : Home) → home_before s Start y ≡ Some from → Carries same_is kept s objects rules ready r asks Start 0 y from
   carries-start g to below known full fresh y from h =
       let is = home-at (argument_types s.method.rec) y from h in
-      let argument : value_at (argument_types s.method.rec) from.slot ≡ Some from.ty = ap (value_at (argument_types s.method.rec)) is.slot ∙ is.value in
+      let argument : value_in_cells (argument_types s.method.rec) from.slot ≡ Some from.ty = ap (value_in_cells (argument_types s.method.rec)) is.slot ∙ is.value in
       record {
         slot = is.slot;
         stands = home-stands same_is kept s objects rules ready r asks from (from.slot, ready.serve.arguments from argument) (value-plain s.world.classes (argument_types s.method.rec) y from.ty is.value known full fresh);

@@ -19,7 +19,7 @@ use Rattle.xf_plan.specs.Source.{Source}
 use Rattle.xf_plan.specs.Plan.{needed, register}
 use Rattle.xf_emission.specs.declared.origin.Origin.{Origin}
 use Rattle.xf_emission.specs.Move.{copy}
-use Rattle.xf_emission.specs.Edge.{home_before, held, copy_new, copies_from, local_copies, locals_copies, copies, cell_copies}
+use Rattle.xf_emission.specs.Edge.{home_before, homes_held, copy_new, copies_from, local_copies, locals_copies, copies, cell_copies}
 use Rattle.xf_typing.specs.Typed.{registers_of}
 use Rattle.xf_typing.proofs.Walks.{holding, Asked, flow_plain, flow_end, Goes, goes-append, goes-nowhere, goes-if}
 use Rattle.xf_typing.proofs.Moves.{IsPlainValue, cells_on, load-turn, store-turn}
@@ -102,7 +102,7 @@ module _ (same_is : SameTypeDecides) (kept : NeededAreKept) (s : Source) (object
   pub record Carries (o : Origin) (q x : ℕ) (from : Home) : Type 0 where
     pub slot : from.slot ≡ x
     pub stands : Stands s objects r (registers_of s.homes) asks from
-    pub there : has (held s o x from) from ≡ true
+    pub there : has (homes_held s o x from) from ≡ true
     pub below : (h : Home) → IsAmong h (needed s q x) → Below s.world.classes from.ty h.ty
 
   flat-goes : (f : Home → List Item) (hs whole : List Home) (stack : List Ty) → ((h : Home) → IsAmong h hs → IsAmong h whole) → ((h : Home) → IsAmong h whole → Goes s.world r (registers_of s.homes) asks (holding stack) (f h) (holding stack))
@@ -119,8 +119,8 @@ module _ (same_is : SameTypeDecides) (kept : NeededAreKept) (s : Source) (object
       by None c = goes-nowhere s.world r (registers_of s.homes) asks
       by (Some from) c =
           let k = c from refl in
-          flat-goes (copy_new s from (held s o x from)) (needed s q x) (needed s q x) stack (λ h a. a)
-          (λ h a. let n = needed-served same_is kept s objects rules ready r asks q x h a in new-goes from h (held s o x from) stack k.stands n.stands (k.below h a) (k.slot ∙ sym n.slot) k.there room)
+          flat-goes (copy_new s from (homes_held s o x from)) (needed s q x) (needed s q x) stack (λ h a. a)
+          (λ h a. let n = needed-served same_is kept s objects rules ready r asks q x h a in new-goes from h (homes_held s o x from) stack k.stands n.stands (k.below h a) (k.slot ∙ sym n.slot) k.there room)
 
   locals-go : (o : Origin) (q x n : ℕ) (stack : List Ty) → ((y : ℕ) (from : Home) → home_before s o y ≡ Some from → Carries o q y from) → length stack + 1 ≤ r.max_stack
       → Goes s.world r (registers_of s.homes) asks (holding stack) (locals_copies s o q x n) (holding stack)

@@ -23,7 +23,7 @@ use Rattle.jc_rules.specs.Flow.{IsNotTop}
 use Rattle.jc_rules.specs.Laws.{IsNotBottom}
 use Rattle.xf_homes.specs.declared.home.Home.{Home}
 use Rattle.xf_homes.specs.Home.{IsConditional, register_count}
-use Rattle.xf_homes.specs.Value.{value_at}
+use Rattle.xf_homes.specs.Value.{value_in_cells}
 use Rattle.xf_homes.specs.Walk.{operands_of}
 use Rattle.xf_plan.specs.Source.{Source}
 use Rattle.xf_plan.specs.Plan.{stack_homes, cells_from, with_home_of, home_of, stack_of}
@@ -124,7 +124,7 @@ cells-split slot all i zero b = let e : i ≡ i + 0 = omega arith in let f : 0 +
 cells-split slot all i (suc a) b =
     let e : suc i + a ≡ i + suc a = omega arith in
     let f : suc a + b ≡ suc (a + b) = omega arith in
-    ap (cells_from slot all i) f ∙ by (home_of (slot + i) (value_at all i)) (cells-split slot all (suc i) a b ∙ ap (λ (k : ℕ). cells_from slot all (suc i) a ++ cells_from slot all k b) e)
+    ap (cells_from slot all i) f ∙ by (home_of (slot + i) (value_in_cells all i)) (cells-split slot all (suc i) a b ∙ ap (λ (k : ℕ). cells_from slot all (suc i) a ++ cells_from slot all k b) e)
   where
     by : (h : Option Home) → cells_from slot all (suc i) (a + b) ≡ cells_from slot all (suc i) a ++ cells_from slot all (i + suc a) b
         → with_home_of h (cells_from slot all (suc i) (a + b)) ≡ with_home_of h (cells_from slot all (suc i) a) ++ cells_from slot all (i + suc a) b
@@ -140,7 +140,7 @@ filter-none p h hs e = rw e refl
 -- all of them pass a test of the slot, or none
 filter-all : (p : Home → Bool) (slot : ℕ) (all : List Ty) (i n : ℕ) (rest kept : List Home) → ((k : ℕ) (ty : Ty) → i ≤ k → k < i + n → p (record { slot = slot + k; ty = ty }) ≡ true) → filter p rest ≡ kept → filter p (cells_from slot all i n ++ rest) ≡ cells_from slot all i n ++ kept
 filter-all p slot all i zero rest kept is e = e
-filter-all p slot all i (suc n) rest kept is e = by (value_at all i) (filter-all p slot all (suc i) n rest kept (λ k ty lo hi. is k ty (omega (arith, lo)) (omega (arith, hi))) e)
+filter-all p slot all i (suc n) rest kept is e = by (value_in_cells all i) (filter-all p slot all (suc i) n rest kept (λ k ty lo hi. is k ty (omega (arith, lo)) (omega (arith, hi))) e)
   where
     by : (v : Option Ty) → filter p (cells_from slot all (suc i) n ++ rest) ≡ cells_from slot all (suc i) n ++ kept
         → filter p (with_home_of (home_of (slot + i) v) (cells_from slot all (suc i) n) ++ rest) ≡ with_home_of (home_of (slot + i) v) (cells_from slot all (suc i) n) ++ kept
@@ -149,7 +149,7 @@ filter-all p slot all i (suc n) rest kept is e = by (value_at all i) (filter-all
 
 filter-no : (p : Home → Bool) (slot : ℕ) (all : List Ty) (i n : ℕ) (rest kept : List Home) → ((k : ℕ) (ty : Ty) → i ≤ k → k < i + n → p (record { slot = slot + k; ty = ty }) ≡ false) → filter p rest ≡ kept → filter p (cells_from slot all i n ++ rest) ≡ kept
 filter-no p slot all i zero rest kept is e = e
-filter-no p slot all i (suc n) rest kept is e = by (value_at all i) (filter-no p slot all (suc i) n rest kept (λ k ty lo hi. is k ty (omega (arith, lo)) (omega (arith, hi))) e)
+filter-no p slot all i (suc n) rest kept is e = by (value_in_cells all i) (filter-no p slot all (suc i) n rest kept (λ k ty lo hi. is k ty (omega (arith, lo)) (omega (arith, hi))) e)
   where
     by : (v : Option Ty) → filter p (cells_from slot all (suc i) n ++ rest) ≡ kept → filter p (with_home_of (home_of (slot + i) v) (cells_from slot all (suc i) n) ++ rest) ≡ kept
     by None f = f

@@ -28,9 +28,9 @@ use Rattle.xf_emission.specs.declared.origin.Origin.TheVariants.{After, Entry}
 use Rattle.xf_emission.specs.Laws.{IsCode}
 use Rattle.xf_emission.specs.Move.{loads, spill}
 use Rattle.xf_emission.specs.Edge.{copies, cell_copies, home_before}
-use Rattle.xf_emission.specs.Jump.{under, operands, has_under, taken, place, stub_label, stub_of, stub, handler_label}
+use Rattle.xf_emission.specs.Jump.{under, operands, has_under, branch_copies, place, stub_label, stub_of, stub, handler_label}
 use Rattle.xf_emission.specs.Group.{gone, fall, fall_over, fall_by}
-use Rattle.xf_emission.specs.Emission.{caught}
+use Rattle.xf_emission.specs.Emission.{catching_stub}
 use Rattle.xf_typing.specs.Typed.{registers_of}
 use Rattle.xf_typing.proofs.Walks.{holding, left, Asked, emptied, catching, Passes, Flows, flow_label, flow_end, flows-append, Goes, goes-append, goes-nowhere, count}
 use Rattle.xf_typing.proofs.Stacks.{Stands, pushed, loads-go}
@@ -99,8 +99,8 @@ module _ (new : ℕ → ℕ) (apart : (a b : ℕ) → new a ≡ new b → a ≡ 
           (omega (arith, own_rec.room))
 
   pub taken-goes : (i : Placed) (op : Operation) (f after g : Frame) (n q : ℕ) → IsRun s i op f after → IsConditional op → operands_of s.world (Ok op) ≡ Some n → s.frames q ≡ Some g → FrameBelow s.world.classes after g → is_leader s q ≡ true
-      → Going [] (taken s i.place op n q) []
-  unfolding taken
+      → Going [] (branch_copies s i.place op n q) []
+  unfolding branch_copies
   taken-goes i op f after g n q run is e to below lead = goes-append s.world r (registers_of s.homes) asks (cells-taken i op f after g n q run is e to below lead) (copies-after i op f after g q run to below)
 
   -- ---- where it falls through
@@ -112,7 +112,7 @@ module _ (new : ℕ → ℕ) (apart : (a b : ℕ) → new a ≡ new b → a ≡ 
       k : IsForked s.world op n f.stack after.stack (registers_of s.homes)
       k = fork new apart s l ready r own_rec asks res code i op f after n run is e
 
-      over-falls : has_under s i.place n ≡ true → (c : Bool) → is_leader s q ≡ c → FallsInto new apart s l ready r own_rec asks res code q (holding []) (if c then taken s i.place op n q else copies s (After i.place op) q ++ loads s (under s i.place n))
+      over-falls : has_under s i.place n ≡ true → (c : Bool) → is_leader s q ≡ c → FallsInto new apart s l ready r own_rec asks res code q (holding []) (if c then branch_copies s i.place op n q else copies s (After i.place op) q ++ loads s (under s i.place n))
       over-falls over true lead = record { state = holding []; goes = taken-goes i op f after g n q run is e to below lead; arrives = emptied_there lead }
       over-falls over false lead =
           let keeps = keeps-over new apart s l ready r own_rec asks res code i op f after n run is e over in
@@ -158,7 +158,7 @@ module _ (new : ℕ → ℕ) (apart : (a b : ℕ) → new a ≡ new b → a ≡ 
   pub stub-flows : (i : Placed) (op : Operation) (f after g : Frame) (n k at : ℕ) (t : ℤ) → IsRun s i op f after → IsConditional op → operands_of s.world (Ok op) ≡ Some n → s.frames (place t) ≡ Some g → FrameBelow s.world.classes after g → is_leader s (place t) ≡ true → asks (stub_label i.place k) ≡ emptied
       → Flows s.world r (registers_of s.homes) asks at left (stub s i.place op n k t) left
   unfolding stub
-  stub-flows i op f after g n k at t run is e to below lead wants = by (taken s i.place op n (place t)) (taken-goes i op f after g n (place t) run is e to below lead)
+  stub-flows i op f after g n k at t run is e to below lead wants = by (branch_copies s i.place op n (place t)) (taken-goes i op f after g n (place t) run is e to below lead)
     where
       by : (xs : List Item) → Going [] xs [] → Flows s.world r (registers_of s.homes) asks at left (stub_of (stub_label i.place k) (place t) xs) left
       by [] go = flow_end
@@ -167,7 +167,7 @@ module _ (new : ℕ → ℕ) (apart : (a b : ℕ) → new a ≡ new b → a ≡ 
           (flows-append s.world r (registers_of s.homes) asks (go at) (goto-flows new apart s l ready r own_rec asks res code (at + count (x ∷ xs)) (place t)))
 
   pub caught-flows : (n at : ℕ) (h : Handler) (g : Frame) → s.frames h.entry ≡ Some g → CellsBelow s.world.classes (Class h.class ∷ []) g.stack → is_leader s h.entry ≡ true → asks (handler_label n) ≡ catching h.class
-      → Flows s.world r (registers_of s.homes) asks at left (caught s n h) left
+      → Flows s.world r (registers_of s.homes) asks at left (catching_stub s n h) left
   caught-flows n at h g to le lead wants =
       flow_label {b = holding (Class h.class ∷ [])} (subst (λ (q : Asked). Passes q left (holding (Class h.class ∷ []))) (sym wants) (refl, refl))
       (flows-append s.world r (registers_of s.homes) asks (spill-at new apart s l ready r own_rec asks res code h.entry g (Class h.class ∷ []) to (is-kept new apart s l ready r own_rec asks res code h.entry lead) le at)

@@ -24,7 +24,7 @@ use Rattle.xf_homes.specs.declared.home.Home.{Home}
 use Rattle.xf_homes.specs.Home.{register_count, argument_types, IsAsked, asked_here, KeepsStack}
 use Rattle.xf_homes.specs.Laws.{HasRegister, HomesServe}
 use Rattle.xf_homes.specs.Order.{SlotsFollow, register_sum}
-use Rattle.xf_homes.specs.Value.{value_at, value_of, width}
+use Rattle.xf_homes.specs.Value.{value_in_cells, value_of, type_width}
 use Rattle.xf_homes.specs.Walk.{local_of}
 use Rattle.xf_homes.proofs.Events.{among-has}
 use Rattle.xf_plan.specs.Source.{Source}
@@ -59,18 +59,18 @@ kept-not-top ty h = tt
 
 each-cell :
     (P : Home → Type 0) (slot : ℕ) (types : List Ty)
-    → ((i : ℕ) (ty : Ty) → value_at types i ≡ Some ty → P (record { slot = slot + i; ty = ty }))
+    → ((i : ℕ) (ty : Ty) → value_in_cells types i ≡ Some ty → P (record { slot = slot + i; ty = ty }))
     → (i n : ℕ) → Each P (cells_from slot types i n)
 each-cell P slot types h i zero = tt
-each-cell P slot types h i (suc n) = by (value_at types i) refl (each-cell P slot types h (suc i) n)
+each-cell P slot types h i (suc n) = by (value_in_cells types i) refl (each-cell P slot types h (suc i) n)
   where
-    by : (v : Option Ty) → value_at types i ≡ v → Each P (cells_from slot types (suc i) n)
+    by : (v : Option Ty) → value_in_cells types i ≡ v → Each P (cells_from slot types (suc i) n)
         → Each P (with_home_of (home_of (slot + i) v) (cells_from slot types (suc i) n))
     by None e more = more
     by (Some ty) e more = (h i ty e, more)
 
-value-farther : (xs ys : List Ty) (n m : ℕ) → m ≡ length xs + n → value_at (xs ++ ys) m ≡ value_at ys n
-unfolding value_at
+value-farther : (xs ys : List Ty) (n m : ℕ) → m ≡ length xs + n → value_in_cells (xs ++ ys) m ≡ value_in_cells ys n
+unfolding value_in_cells
 value-farther xs ys n m e =
     ap (λ (o : Option Ty). value_of o (slice_get (xs ++ ys) (m + 1))) (slice_get-farther xs ys n m e)
     ∙ ap (value_of (slice_get ys n)) (slice_get-farther xs ys (n + 1) (m + 1) (omega (arith, e)))
@@ -93,21 +93,21 @@ fills slot pre _ over (whole_int {types = us} is) top =
     subst (λ (ks : List Home). Fills (slot + length pre) (suc (suc (length us))) ks) (sym (home-int slot pre (us ++ over) (length us)))
     (record {
       follow = (refl, subst (λ (n : ℕ). SlotsFollow n hs) next more.follow);
-      fill = sum_by-cons (λ (h : Home). width h.ty) first hs ∙ omega (arith, more.fill);
+      fill = sum_by-cons (λ (h : Home). type_width h.ty) first hs ∙ omega (arith, more.fill);
     })
 fills slot pre _ over (one_cell {a = a} {types = us} h is) top =
     let more = fills slot (pre ++ a ∷ []) us over is (λ k d lt. top (suc k) d (omega (arith, lt))) in
     let hs = cells_from slot ((pre ++ a ∷ []) ++ (us ++ over)) (length (pre ++ a ∷ [])) (length us) in
-    let one : width a ≡ 1 = single a h in
-    let next : slot + length (pre ++ a ∷ []) ≡ slot + length pre + width a = omega (arith, length-append pre (a ∷ []), one) in
+    let one : type_width a ≡ 1 = single a h in
+    let next : slot + length (pre ++ a ∷ []) ≡ slot + length pre + type_width a = omega (arith, length-append pre (a ∷ []), one) in
     let first : Home = record { slot = slot + length pre; ty = a } in
     subst (λ (ks : List Home). Fills (slot + length pre) (suc (length us)) ks) (sym (home-one slot pre a (us ++ over) (length us) h (top 0 a (omega arith))))
     (record {
       follow = (refl, subst (λ (n : ℕ). SlotsFollow n hs) next more.follow);
-      fill = sum_by-cons (λ (h : Home). width h.ty) first hs ∙ omega (arith, more.fill, one);
+      fill = sum_by-cons (λ (h : Home). type_width h.ty) first hs ∙ omega (arith, more.fill, one);
     })
   where
-    single : (u : Ty) → IsNoHalf u → width u ≡ 1
+    single : (u : Ty) → IsNoHalf u → type_width u ≡ 1
     single IntHigh h = absurd h
     single u h = refl
 
@@ -145,11 +145,11 @@ module _ (s : Source) (l : AreLaws s.world) (dw : DerivedAreWhole s.world) (sv :
   home-is h x e = ap (λ (n : ℕ). record { slot = n; ty = h.ty }) e
 
   -- the value of a local in a frame has a home
-  local-keeps : (p : ℕ) (f : Frame) (h : Home) → s.frames p ≡ Some f → value_at f.regs h.slot ≡ Some h.ty → KeepsValues s h
+  local-keeps : (p : ℕ) (f : Frame) (h : Home) → s.frames p ≡ Some f → value_in_cells f.regs h.slot ≡ Some h.ty → KeepsValues s h
   local-keeps p f h e v =
       let w = ready.whole p f e in
       let asked : IsAsked s.method s.frames p h.slot 0 h.ty =
-      asked_here (subst (λ (o : Option Frame). IsSomeAnd o (λ (g : Frame). value_at g.regs h.slot ≡ Some h.ty)) (sym e) v) in
+      asked_here (subst (λ (o : Option Frame). IsSomeAnd o (λ (g : Frame). value_in_cells g.regs h.slot ≡ Some h.ty)) (sym e) v) in
       let plain = value-plain s.world.classes f.regs h.slot h.ty v w.known.regs w.regs w.ready in
       record { kept = kept-is h.ty plain.0; known = plain.1; has = ready.serve.needed p h.slot h.ty (reached-at p f e) (0, asked) }
 
@@ -157,7 +157,7 @@ module _ (s : Source) (l : AreLaws s.world) (dw : DerivedAreWhole s.world) (sv :
   needed-for q x f h e a =
       let n = ((needed-are l.same_is l.needed s l.objects l.rules ready r asks q x).all h).0 a in
       let k = found l.same_is l.needed s l.objects l.rules ready r asks q x n.1.0 h.ty n.1.1 in
-      let value : value_at k.frame.regs h.slot ≡ Some h.ty = ap (value_at k.frame.regs) n.0 ∙ k.value in
+      let value : value_in_cells k.frame.regs h.slot ≡ Some h.ty = ap (value_in_cells k.frame.regs) n.0 ∙ k.value in
       record {
         slot = n.0;
         keeps = local-keeps k.place k.frame h k.at value;
@@ -193,20 +193,20 @@ module _ (s : Source) (l : AreLaws s.world) (dw : DerivedAreWhole s.world) (sv :
               kept = kept-is ty plain.0;
               known = plain.1;
               has = ready.serve.cells q i ty (reached-at q f e) keeps
-                  (subst (λ (o : Option Frame). IsSomeAnd o (λ (g : Frame). value_at (reverse g.stack) i ≡ Some ty)) (sym e) v);
+                  (subst (λ (o : Option Frame). IsSomeAnd o (λ (g : Frame). value_in_cells (reverse g.stack) i ≡ Some ty)) (sym e) v);
             }) 0 (length types));
-        values = subst (Each (λ h. value_at (slot_types f) h.slot ≡ Some h.ty)) (sym is)
-            (each-cell (λ h. value_at (slot_types f) h.slot ≡ Some h.ty) base types
+        values = subst (Each (λ h. value_in_cells (slot_types f) h.slot ≡ Some h.ty)) (sym is)
+            (each-cell (λ h. value_in_cells (slot_types f) h.slot ≡ Some h.ty) base types
             (λ i ty v. value-farther f.regs types i (base + i) (omega (arith, count)) ∙ v) 0 (length types));
       }
 
   -- ---- an edge
 
-  wide-only : (ty : Ty) (k : ℕ) → suc k < width ty → (ty ≡ IntHigh) × (k ≡ 0)
+  wide-only : (ty : Ty) (k : ℕ) → suc k < type_width ty → (ty ≡ IntHigh) × (k ≡ 0)
   wide-only IntHigh k lt = (refl, omega (arith, lt))
   wide-only ty k lt = absurd (omega (arith, lt))
 
-  home-of : (cells : List Ty) (h : Home) (u : Ty) → value_at cells h.slot ≡ Some u → home_of h.slot (value_at cells h.slot) ≡ Some (record { slot = h.slot; ty = u })
+  home-of : (cells : List Ty) (h : Home) (u : Ty) → value_in_cells cells h.slot ≡ Some u → home_of h.slot (value_in_cells cells h.slot) ≡ Some (record { slot = h.slot; ty = u })
   home-of cells h u v = ap (home_of h.slot) v
 
   pub frame-at : (q : ℕ) → IsReached s.method q → (g : Frame) × (s.frames q ≡ Some g)
@@ -222,8 +222,8 @@ module _ (s : Source) (l : AreLaws s.world) (dw : DerivedAreWhole s.world) (sv :
       let k = needed-for 0 x begun.0 h begun.1 a in
       let whole : IsWholeFrame s.world (start_frame s.method.rec Top) = dw s.method 0 (start_frame s.method.rec Top) plan.method derived_start in
       let v = value-below s.world.classes l.rules.types (start_frame s.method.rec Top).regs k.types (l.rules.order.through begun.2.regs k.above) whole.regs h.slot h.ty k.value in
-      let own : value_at (argument_types s.method.rec) h.slot ≡ Some v.0 = value-before (argument_types s.method.rec) s.method.rec.max_locals h.slot v.0
-      (ap (λ (ts : List Ty). value_at ts h.slot) (start-is) ∙ v.1) in
+      let own : value_in_cells (argument_types s.method.rec) h.slot ≡ Some v.0 = value-before (argument_types s.method.rec) s.method.rec.max_locals h.slot v.0
+      (ap (λ (ts : List Ty). value_in_cells ts h.slot) (start-is) ∙ v.1) in
       let from : Home = record { slot = h.slot; ty = v.0 } in
       let known = arguments-known l.same_is l.needed s l.objects l.rules ready r asks l.alike plan.code plan.method dw plan.homes in
       let full = arguments-full l.same_is l.needed s l.objects l.rules ready r asks l.alike plan.code plan.method dw plan.homes in
@@ -293,7 +293,7 @@ module _ (s : Source) (l : AreLaws s.world) (dw : DerivedAreWhole s.world) (sv :
     where
       by :
           (f after : Frame) (u : Ty) {step : Operation} → step ≡ op → s.frames i.place ≡ Some f → (b : Bool) → is_stored op h.slot ≡ b
-          → value_at after.regs h.slot ≡ Some u → Below s.world.classes u h.ty
+          → value_in_cells after.regs h.slot ≡ Some u → Below s.world.classes u h.ty
           → ((y : ℕ) → is_stored op y ≡ false → slice_get after.regs y ≡ slice_get f.regs y)
           → (is_stored op h.slot ≡ false → slice_get after.regs (h.slot + 1) ≡ Some IntLow → is_stored op (h.slot + 1) ≡ false)
           → IsNotBottom u → IsKept h.ty
@@ -302,7 +302,7 @@ module _ (s : Source) (l : AreLaws s.world) (dw : DerivedAreWhole s.world) (sv :
       by f after u e at false stored v le same low full kept =
           let value = value-is after.regs h.slot u v in
           let second : u ≡ IntHigh → is_stored op (h.slot + 1) ≡ false = λ high. low stored (value.second high) in
-          let own : value_at f.regs h.slot ≡ Some u =
+          let own : value_in_cells f.regs h.slot ≡ Some u =
           value-moved after.regs f.regs h.slot u v (sym (same h.slot stored)) (λ high. sym (same (h.slot + 1) (second high))) in
           let from : Home = record { slot = h.slot; ty = u } in
           inr (
@@ -312,7 +312,7 @@ module _ (s : Source) (l : AreLaws s.world) (dw : DerivedAreWhole s.world) (sv :
                   ∙ ap (λ (o : Option Frame). home_of h.slot (local_of o h.slot)) at ∙ home-of f.regs h u own;
               slot = refl;
               there = among-has l.same_is (needed s i.place h.slot) from (((needed-are l.same_is l.needed s l.objects l.rules ready r asks i.place h.slot).all from).1
-                  (refl, (0, asked_here (subst (λ (o : Option Frame). IsSomeAnd o (λ (g : Frame). value_at g.regs h.slot ≡ Some u)) (sym at) own))));
+                  (refl, (0, asked_here (subst (λ (o : Option Frame). IsSomeAnd o (λ (g : Frame). value_in_cells g.regs h.slot ≡ Some u)) (sym at) own))));
               keeps = local-keeps i.place f from at own;
               loads = loads-same s.world.classes l.rules.types u h.ty le full (kept-not-top h.ty kept);
               apart = apart u le full second;
@@ -320,7 +320,7 @@ module _ (s : Source) (l : AreLaws s.world) (dw : DerivedAreWhole s.world) (sv :
           )
         where
           apart : (u : Ty) → Below s.world.classes u h.ty → IsNotBottom u → (u ≡ IntHigh → is_stored op (h.slot + 1) ≡ false)
-              → (k : ℕ) → k < width h.ty → is_stored op (h.slot + k) ≡ false
+              → (k : ℕ) → k < type_width h.ty → is_stored op (h.slot + k) ≡ false
           apart u le full second zero lt = let here : h.slot ≡ h.slot + 0 = omega arith in subst (λ (y : ℕ). is_stored op y ≡ false) here stored
           apart u le full second (suc k) lt =
               let wide = wide-only h.ty k lt in

@@ -27,7 +27,7 @@ use Rattle.xf_homes.specs.declared.home.Home.{Home}
 use Rattle.xf_homes.specs.Home.{IsConditional, register_count}
 use Rattle.xf_homes.specs.Laws.{HomesServe}
 use Rattle.xf_homes.specs.Order.{register_sum}
-use Rattle.xf_homes.specs.Value.{width}
+use Rattle.xf_homes.specs.Value.{type_width}
 use Rattle.xf_homes.specs.Walk.{operands_of}
 use Rattle.xf_plan.specs.Source.{Source}
 use Rattle.xf_plan.specs.Plan.{stack_homes, cells_from, is_leader, operation}
@@ -53,7 +53,7 @@ use Rattle.xf_typing.proofs.Typed.{record-for}
 conditional-of : (s : Source) (op : Operation) (n : ℕ) → operands_of s.world (Ok op) ≡ Some n → IsConditional op
 conditional-of s (ops.Branch branches.Always) n e = absurd (cc)
 conditional-of s (ops.Branch b) n e = tt
-conditional-of s (ops.Switch width) n e = tt
+conditional-of s (ops.Switch type_width) n e = tt
 conditional-of s op n e = absurd (cc)
 
 module _ (s : Source) (l : AreLaws s.world) where
@@ -158,7 +158,7 @@ module _ (s : Source) (l : AreLaws s.world) (dw : DerivedAreWhole s.world) (sv :
 
     both : register_sum (stack_homes s i.place) ≡ register_sum (under s i.place n) + register_sum (operands s i.place n)
     unfolding register_sum
-    both = ap register_sum cut.parts ∙ sum_by-append (λ (h : Home). width h.ty) (under s i.place n) (operands s i.place n)
+    both = ap register_sum cut.parts ∙ sum_by-append (λ (h : Home). type_width h.ty) (under s i.place n) (operands s i.place n)
 
     pub forked-at : IsForkedAt s i.place n f
     forked-at = record {

@@ -31,7 +31,7 @@ use Rattle.jc_rules.specs.declared.demand.Demand.{Demand}
 use Rattle.jc_rules.specs.declared.effect.Cells.{Cells}
 use Rattle.jc_rules.specs.declared.effect.Cells.TheVariants as given
 use Rattle.jc_rules.specs.declared.effect.Mode.TheVariants.{Flow}
-use Rattle.jc_rules.specs.declared.effect.Store.{Store}
+use Rattle.jc_rules.specs.declared.effect.RegisterStore.{RegisterStore}
 use Rattle.jc_rules.specs.declared.rule.Outcome.{Outcome}
 use Rattle.jc_rules.specs.Demand.{SatisfiesAll}
 use Rattle.jc_rules.specs.Effect.{changed, in_stack_order, StoresInRegisters}
@@ -237,6 +237,6 @@ module _ (new : ℕ → ℕ) (apart : (a b : ℕ) → new a ≡ new b → a ≡ 
       let n = renames m place op sound res kept regs st in
       applies-by w limit (named_op new apart op) (record { regs = regs; stack = map (named new apart) st }) (record { regs = stored; stack = map (named new apart) after })
       (subst (SatisfiesAll w.classes (record { regs = regs; stack = map (named new apart) st })) (sym n.asks) (all-named new apart w.classes rules.types regs st (demands w op) n.steady a.asked))
-      (subst (λ (e : Store). StoresInRegisters w.classes Flow e regs stored) (sym n.store) a.regs)
+      (subst (λ (e : RegisterStore). StoresInRegisters w.classes Flow e regs stored) (sym n.store) a.regs)
       (ap (map (named new apart)) a.stack ∙ sym n.change)
       (omega (arith, length-map after (named new apart), a.room))

@@ -22,7 +22,7 @@ use Rattle.jc_rules.specs.Flow.{CellsBelow, no_cells, more_cells, FrameBelow, At
 use Rattle.jc_rules.specs.Laws.{IsNotBottom}
 use Rattle.xf_homes.specs.declared.home.Home.{Home}
 use Rattle.xf_homes.specs.Home.{register_count, KeepsStack}
-use Rattle.xf_homes.specs.Value.{value_at}
+use Rattle.xf_homes.specs.Value.{value_in_cells}
 use Rattle.xf_plan.specs.Source.{Source}
 use Rattle.xf_plan.specs.Plan.{stack_homes, cells_from, with_home_of, home_of, stack_of, is_leader}
 use Rattle.xf_emission.specs.declared.origin.Origin.TheVariants.{After}
@@ -68,18 +68,18 @@ module _ (new : ℕ → ℕ) (apart : (a b : ℕ) → new a ≡ new b → a ≡ 
 
   cells-stand-from : (q : ℕ) (g : Frame) → s.frames q ≡ Some g → KeepsStack s.world s.method s.frames q → (i n : ℕ) → Each (Stands s l.objects r (registers_of s.homes) asks) (cells_from (register_count s.method.rec) (reverse g.stack) i n)
   cells-stand-from q g e keeps i zero = tt
-  cells-stand-from q g e keeps i (suc n) = by (value_at (reverse g.stack) i) refl (cells-stand-from q g e keeps (suc i) n)
+  cells-stand-from q g e keeps i (suc n) = by (value_in_cells (reverse g.stack) i) refl (cells-stand-from q g e keeps (suc i) n)
     where
       rest : List Home
       rest = cells_from (register_count s.method.rec) (reverse g.stack) (suc i) n
 
-      by : (v : Option Ty) → value_at (reverse g.stack) i ≡ v → Each (Stands s l.objects r (registers_of s.homes) asks) rest → Each (Stands s l.objects r (registers_of s.homes) asks) (with_home_of (home_of (register_count s.method.rec + i) v) rest)
+      by : (v : Option Ty) → value_in_cells (reverse g.stack) i ≡ v → Each (Stands s l.objects r (registers_of s.homes) asks) rest → Each (Stands s l.objects r (registers_of s.homes) asks) (with_home_of (home_of (register_count s.method.rec + i) v) rest)
       by None h more = more
       by (Some ty) h more =
           let whole = ready.whole q g e in
           let fresh = kept-ready l.same_is l.needed s l.objects l.rules ready r asks l.alike code q g e keeps in
           let plain = value-plain s.world.classes (reverse g.stack) i ty h (All-reverse (IsKnown s.world.classes) g.stack whole.known.stack) (All-reverse IsNotBottom g.stack whole.stack) (All-reverse IsNotFresh g.stack fresh) in
-          let at : At s.frames q (λ (f : Frame). value_at (reverse f.stack) i ≡ Some ty) = subst (λ (o : Option Frame). IsSomeAnd o (λ (f : Frame). value_at (reverse f.stack) i ≡ Some ty)) (sym e) h in
+          let at : At s.frames q (λ (f : Frame). value_in_cells (reverse f.stack) i ≡ Some ty) = subst (λ (o : Option Frame). IsSomeAnd o (λ (f : Frame). value_in_cells (reverse f.stack) i ≡ Some ty)) (sym e) h in
           let has = ready.serve.cells q i ty (reached l.same_is l.needed s l.objects l.rules ready r asks q g e) keeps at in
           (home-stands l.same_is l.needed s l.objects l.rules ready r asks (record { slot = register_count s.method.rec + i; ty = ty }) has plain, more)
 

@@ -10,7 +10,7 @@ use Rattle.jc_base.specs.declared.ty.Ty.TheVariants.{IntHigh, IntLow}
 use Rattle.jc_rules.specs.Flow.{CellsBelow, no_cells, more_cells, IsNotTop}
 use Rattle.jc_rules.specs.Laws.{IsNotBottom}
 use Rattle.xf_homes.specs.declared.home.Home.{Home}
-use Rattle.xf_homes.specs.Value.{value_at}
+use Rattle.xf_homes.specs.Value.{value_in_cells}
 use Rattle.xf_plan.specs.Source.{Source}
 use Rattle.xf_plan.specs.Plan.{cells_from, with_home_of, home_of}
 use Rattle.xf_typing.specs.Typed.{registers_of}
@@ -38,8 +38,8 @@ home-int slot pre us k =
     let f : suc (suc (length pre)) ≡ length (pre ++ IntHigh ∷ IntLow ∷ []) = omega (arith, length-append pre (IntHigh ∷ IntLow ∷ [])) in
     let shape : (pre ++ IntHigh ∷ []) ++ IntLow ∷ us ≡ all = append_assoc pre (IntHigh ∷ []) (IntLow ∷ us) in
     let shape2 : (pre ++ IntHigh ∷ IntLow ∷ []) ++ us ≡ all = append_assoc pre (IntHigh ∷ IntLow ∷ []) us in
-    let second : value_at all (suc (length pre)) ≡ None =
-    subst (λ (n : ℕ). value_at all n ≡ None) (sym e) (subst (λ (ts : List Ty). value_at ts (length (pre ++ IntHigh ∷ [])) ≡ None) shape (low-none (pre ++ IntHigh ∷ []) us)) in
+    let second : value_in_cells all (suc (length pre)) ≡ None =
+    subst (λ (n : ℕ). value_in_cells all n ≡ None) (sym e) (subst (λ (ts : List Ty). value_in_cells ts (length (pre ++ IntHigh ∷ [])) ≡ None) shape (low-none (pre ++ IntHigh ∷ []) us)) in
     ap (λ (o : Option Ty). with_home_of (home_of (slot + length pre) o) (cells_from slot all (suc (length pre)) (suc k))) (int-value pre us)
     ∙ ap (λ (o : Option Ty). record { slot = slot + length pre; ty = IntHigh } ∷ with_home_of (home_of (slot + suc (length pre)) o) (cells_from slot all (suc (suc (length pre))) k)) second
     ∙ ap (λ (j : ℕ). record { slot = slot + length pre; ty = IntHigh } ∷ cells_from slot all j k) f

@@ -25,10 +25,10 @@ use Rattle.xf_plan.specs.Plan.{local, needed, stack_homes, is_leader, operation}
 use Rattle.xf_emission.specs.declared.origin.Origin.{Origin}
 use Rattle.xf_emission.specs.declared.origin.Origin.TheVariants.{Start, After, Entry}
 use Rattle.xf_emission.specs.Move.{store, copy, loads, spill}
-use Rattle.xf_emission.specs.Edge.{home_before, held, copy_new, copies_from, local_copies, locals_copies, copies, cell_copies}
-use Rattle.xf_emission.specs.Jump.{under, operands, has_under, spill_if, taken, place, lead, leads, first_label, jump_to, branch, goto, stub, stub_of, stub_label, stubs_of}
-use Rattle.xf_emission.specs.Group.{itself, loaded, increased, stored, stays, field_read, field_written, gone, first_place, body, fall, fall_over, fall_by, fallen, entrance, done, group_by, group}
-use Rattle.xf_emission.specs.Emission.{stubs, stubs_at, stubs_by, stubs_done, is_live, caught, caught_from, items}
+use Rattle.xf_emission.specs.Edge.{home_before, homes_held, copy_new, copies_from, local_copies, locals_copies, copies, cell_copies}
+use Rattle.xf_emission.specs.Jump.{under, operands, has_under, spill_if, branch_copies, place, lead, leads, first_label, jump_to, branch, goto, stub, stub_of, stub_label, stubs_of}
+use Rattle.xf_emission.specs.Group.{itself, loaded, increased, store_to_homes, stays, field_read, field_written, gone, first_place, body, fall, fall_over, fall_by, fallen, entrance, done, group_by, group}
+use Rattle.xf_emission.specs.Emission.{stubs, stubs_at, stubs_by, stubs_done, is_live, catching_stub, catching_stubs, items}
 use Rattle.xf_emission.proofs.Items.{each-if, each-flat}
 use Rattle.xf_typing.proofs.Typings.{names}
 
@@ -66,8 +66,8 @@ module _ (P : ℕ → Type 0) (s : Source) where
       where
         by : (h : Option Home) → Each IsNamed (copies_from s o q x h)
         by None = tt
-        by (Some from) = each-flat IsNamed (copy_new s from (held s o x from)) (needed s q x)
-            (λ to. each-if IsNamed (has (held s o x from) to) [] (copy s from to) tt (copy-names from to))
+        by (Some from) = each-flat IsNamed (copy_new s from (homes_held s o x from)) (needed s q x)
+            (λ to. each-if IsNamed (has (homes_held s o x from) to) [] (copy s from to) tt (copy-names from to))
 
     locals-name : (x n : ℕ) → Each IsNamed (locals_copies s o q x n)
     locals-name x zero = tt
@@ -84,8 +84,8 @@ module _ (P : ℕ → Type 0) (s : Source) where
       Each-append IsNamed (if same_home h k then [] else copy s h k) (cell_copies s hs ks)
       (each-if IsNamed (same_home h k) [] (copy s h k) tt (copy-names h k)) (cells-name hs ks)
 
-  taken-names : (p : ℕ) (op : Operation) (n q : ℕ) → Each IsNamed (taken s p op n q)
-  unfolding taken
+  taken-names : (p : ℕ) (op : Operation) (n q : ℕ) → Each IsNamed (branch_copies s p op n q)
+  unfolding branch_copies
   taken-names p op n q =
       Each-append IsNamed (cell_copies s (under s p n) (stack_homes s q)) (copies s (After p op) q) (cells-name (under s p n) (stack_homes s q)) (copies-name (After p op) q)
 
@@ -103,7 +103,7 @@ module _ (P : ℕ → Type 0) (s : Source) where
     increased-names None = kept-names
     increased-names (Some h) = (tt {0}, tt {0})
 
-    stored-names : (letter : Sort) (hs : List Home) → Each IsNamed (stored s letter hs)
+    stored-names : (letter : Sort) (hs : List Home) → Each IsNamed (store_to_homes s letter hs)
     stored-names sorts.Int [] = (tt {0}, tt {0})
     stored-names letter [] = (tt {0}, tt {0})
     stored-names letter (h ∷ hs) = (tt {0}, each-flat IsNamed (copy s h) hs (λ k. copy-names h k))
@@ -181,7 +181,7 @@ module _ (P : ℕ → Type 0) (s : Source) where
     fall-by-names None q = fall-names q
     fall-by-names (Some n) q =
         each-if IsNamed (has_under s i.place n) (fall_over s i.place op n q) (fall s i.place op q)
-        (each-if IsNamed (is_leader s q) (taken s i.place op n q) (copies s (After i.place op) q ++ loads s (under s i.place n)) (taken-names i.place op n q)
+        (each-if IsNamed (is_leader s q) (branch_copies s i.place op n q) (copies s (After i.place op) q ++ loads s (under s i.place n)) (taken-names i.place op n q)
         (Each-append IsNamed (copies s (After i.place op) q) (loads s (under s i.place n)) (copies-name (After i.place op) q) (loads-name (under s i.place n))))
         (fall-names q)
 
@@ -202,7 +202,7 @@ module _ (P : ℕ → Type 0) (s : Source) where
     stubs-name-from n k [] h = tt
     stubs-name-from n k (t ∷ ts) h =
         Each-append IsNamed (stub s i.place op n k t) (stubs_of s i.place op n (suc k) ts)
-        (stub-names (place t) (stub_label i.place k) (taken s i.place op n (place t)) (taken-names i.place op n (place t)) (h 0 t refl))
+        (stub-names (place t) (stub_label i.place k) (branch_copies s i.place op n (place t)) (taken-names i.place op n (place t)) (h 0 t refl))
         (stubs-name-from n (suc k) ts (λ j u at. h (suc j) u at))
 
     stubs-by-name : (n : Option ℕ) → Each IsNamed (stubs_by s i op n)
@@ -256,19 +256,19 @@ module _ (P : ℕ → Type 0) (s : Source) where
         by None at = tt
         by (Some f) at = by-operation (operation s i) refl (ap is_some at)
 
-    caught-names : (n : ℕ) (h : Handler) → P h.entry → Each IsNamed (caught s n h)
+    caught-names : (n : ℕ) (h : Handler) → P h.entry → Each IsNamed (catching_stub s n h)
     caught-names n h own = (
       tt {0},
       Each-append IsNamed (spill s (stack_homes s h.entry)) (copies s (Entry h.entry) h.entry ++ goto h.entry ∷ []) (spill-names (stack_homes s h.entry))
           (Each-append IsNamed (copies s (Entry h.entry) h.entry) (goto h.entry ∷ []) (copies-name (Entry h.entry) h.entry) ((own, tt {0}), tt {0})),
     )
 
-    caught-name-from : (n : ℕ) (hs : List Handler) → Each (λ h. is_live s h ≡ true → P h.entry) hs → Each IsNamed (caught_from s n hs)
+    caught-name-from : (n : ℕ) (hs : List Handler) → Each (λ h. is_live s h ≡ true → P h.entry) hs → Each IsNamed (catching_stubs s n hs)
     caught-name-from n [] o = tt
     caught-name-from n (h ∷ hs) o =
-        Each-append IsNamed (if is_live s h then caught s n h else []) (caught_from s (suc n) hs) (by (is_live s h) refl) (caught-name-from (suc n) hs o.1)
+        Each-append IsNamed (if is_live s h then catching_stub s n h else []) (catching_stubs s (suc n) hs) (by (is_live s h) refl) (caught-name-from (suc n) hs o.1)
       where
-        by : (b : Bool) → is_live s h ≡ b → Each IsNamed (if b then caught s n h else [])
+        by : (b : Bool) → is_live s h ≡ b → Each IsNamed (if b then catching_stub s n h else [])
         by true live = caught-names n h (o.0 live)
         by false dead = tt
 
@@ -284,6 +284,6 @@ module _ (P : ℕ → Type 0) (s : Source) where
         Each-append IsNamed (copies s Start 0) _ (copies-name Start 0)
         (Each-append IsNamed (flat_map (group s) (listing s.method.code)) _ (each-of (group s) (listing s.method.code) (listing s.method.code) (λ x c. c) group-names) (
           tt {0},
-          Each-append IsNamed (flat_map (stubs s) (listing s.method.code)) (caught_from s 0 s.method.rec.handlers) (each-of (stubs s) (listing s.method.code) (listing s.method.code) (λ x c. c) stubs-name)
+          Each-append IsNamed (flat_map (stubs s) (listing s.method.code)) (catching_stubs s 0 s.method.rec.handlers) (each-of (stubs s) (listing s.method.code) (listing s.method.code) (λ x c. c) stubs-name)
               (caught-name-from 0 s.method.rec.handlers entries),
         ))

@@ -22,7 +22,7 @@ use Rattle.xf_emission.specs.declared.origin.Origin.TheVariants.{After}
 use Rattle.xf_emission.specs.Move.{spill}
 use Rattle.xf_emission.specs.Edge.{copies}
 use Rattle.xf_emission.specs.Jump.{branch, jump_to, spill_if, has_under, leads, goto}
-use Rattle.xf_emission.specs.Group.{body, itself, loaded, increased, stored, stays, field_read, field_written, gone, branch_by, first_place, entrance, group}
+use Rattle.xf_emission.specs.Group.{body, itself, loaded, increased, store_to_homes, stays, field_read, field_written, gone, branch_by, first_place, entrance, group}
 use Rattle.xf_typing.proofs.Walks.{count, count-append}
 
 -- ---- each body has an instruction
@@ -39,7 +39,7 @@ module _ (s : Source) (i : Placed) where
   increased-some None = omega arith
   increased-some (Some h) = omega arith
 
-  stored-some : (letter : Sort) (hs : List Home) → 0 < count (stored s letter hs)
+  stored-some : (letter : Sort) (hs : List Home) → 0 < count (store_to_homes s letter hs)
   stored-some sorts.Int [] = omega arith
   stored-some letter [] = omega arith
   stored-some letter (h ∷ hs) = omega arith

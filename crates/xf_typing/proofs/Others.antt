@@ -17,9 +17,9 @@ use Rattle.jc_rules.specs.Demand.{Frame}
 use Rattle.xf_homes.specs.Walk.{operands_of}
 use Rattle.xf_plan.specs.Source.{Source}
 use Rattle.xf_plan.specs.Plan.{is_leader, operation}
-use Rattle.xf_emission.specs.Jump.{place, taken, stub, stubs_of, stub_label, handler_label}
+use Rattle.xf_emission.specs.Jump.{place, branch_copies, stub, stubs_of, stub_label, handler_label}
 use Rattle.xf_emission.specs.Group.{group}
-use Rattle.xf_emission.specs.Emission.{stubs, stubs_by, stubs_done, stubs_at, is_live, caught, caught_from, range, ranges_from, items}
+use Rattle.xf_emission.specs.Emission.{stubs, stubs_by, stubs_done, stubs_at, is_live, catching_stub, catching_stubs, range, ranges_from, items}
 use Rattle.xf_emission.specs.Laws.{IsCode}
 use Rattle.xf_emission.proofs.Labels.{labels, labels-append, label_if, stub-label, caught-label}
 use Rattle.xf_emission.proofs.Rises.{Rises}
@@ -71,7 +71,7 @@ stubs-below s p op n k [] l a = absurd a
 stubs-below s p op n k (t ∷ ts) l a = by (pieces l (stub s p op n k t) (stubs_of s p op n (suc k) ts) a) (λ b. stubs-below s p op n (suc k) ts l b)
   where
     by : IsAmong l (labels (stub s p op n k t)) ⊎ IsAmong l (labels (stubs_of s p op n (suc k) ts)) → (IsAmong l (labels (stubs_of s p op n (suc k) ts)) → l < stub_label p (suc k + length ts)) → l < stub_label p (k + length (t ∷ ts))
-    by (inl b) rest = let own : stub_label p k ≡ l = one-label (taken s p op n (place t)) l (stub_label p k) (subst (IsAmong l) (stub-label s p op n k t) b) in omega (arith, own)
+    by (inl b) rest = let own : stub_label p k ≡ l = one-label (branch_copies s p op n (place t)) l (stub_label p k) (subst (IsAmong l) (stub-label s p op n k t) b) in omega (arith, own)
     by (inr b) rest = let less = rest b in omega (arith, less)
 
 module _ (s : Source) (listed : AreListed s.method.code) (code : IsCode s) where
@@ -100,11 +100,11 @@ module _ (s : Source) (listed : AreListed s.method.code) (code : IsCode s) where
   abbrev HasRange : List Range → ℕ → Type 0
   HasRange rs l = (q : Range) × Contains rs q × (q.entry ≡ l)
 
-  caught-range : (n : ℕ) (hs : List Handler) (l : ℕ) → IsAmong l (labels (caught_from s n hs)) → HasRange (ranges_from s n hs) l
+  caught-range : (n : ℕ) (hs : List Handler) (l : ℕ) → IsAmong l (labels (catching_stubs s n hs)) → HasRange (ranges_from s n hs) l
   caught-range n [] l a = absurd a
-  caught-range n (h ∷ hs) l a = by (is_live s h) (pieces l (if is_live s h then caught s n h else []) (caught_from s (suc n) hs) a) (λ c. caught-range (suc n) hs l c)
+  caught-range n (h ∷ hs) l a = by (is_live s h) (pieces l (if is_live s h then catching_stub s n h else []) (catching_stubs s (suc n) hs) a) (λ c. caught-range (suc n) hs l c)
     where
-      by : (b : Bool) → IsAmong l (labels (if b then caught s n h else [])) ⊎ IsAmong l (labels (caught_from s (suc n) hs)) → (IsAmong l (labels (caught_from s (suc n) hs)) → HasRange (ranges_from s (suc n) hs) l) → HasRange ((if b then range s n h ∷ [] else []) ++ ranges_from s (suc n) hs) l
+      by : (b : Bool) → IsAmong l (labels (if b then catching_stub s n h else [])) ⊎ IsAmong l (labels (catching_stubs s (suc n) hs)) → (IsAmong l (labels (catching_stubs s (suc n) hs)) → HasRange (ranges_from s (suc n) hs) l) → HasRange ((if b then range s n h ∷ [] else []) ++ ranges_from s (suc n) hs) l
       by b (inr c) rest = let r = rest c in (r.0, Contains-append_right (if b then range s n h ∷ [] else []) (ranges_from s (suc n) hs) r.0 r.1, r.2)
       by false (inl c) rest = absurd c
       by true (inl c) rest = own (subst (IsAmong l) (caught-label s n h) c)
@@ -126,7 +126,7 @@ module _ (s : Source) (listed : AreListed s.method.code) (code : IsCode s) where
       branches = flat_map (stubs s) (listing s.method.code)
 
       caughts : List Item
-      caughts = caught_from s 0 s.method.rec.handlers
+      caughts = catching_stubs s 0 s.method.rec.handlers
 
       rise : Rises 0 (handler_label 256) (groups ++ end ∷ labels (branches ++ caughts))
       rise = subst (Rises 0 (handler_label 256)) (all-labels s) (all-rise s code.bytes code.lists code.short code.few)

@@ -21,7 +21,7 @@ use Rattle.xf_homes.specs.declared.home.Home.{Home}
 use Rattle.xf_homes.specs.Home.{IsAsked, asked_here, asked_caught}
 use Rattle.xf_homes.specs.Laws.{AreNeeded, NeededAreKept, HasRegister, Serve}
 use Rattle.xf_homes.specs.Order.{register_sum}
-use Rattle.xf_homes.specs.Value.{value_at, value_of, width}
+use Rattle.xf_homes.specs.Value.{value_in_cells, value_of, type_width}
 use Rattle.xf_homes.specs.Walk.{register_from, same_home}
 use Rattle.xf_homes.proofs.Events.{homes-equal}
 use Rattle.xf_plan.specs.Source.{Source}
@@ -50,7 +50,7 @@ first-cell t rest = refl
 second-cell : (t : Ty) (rest : List Ty) → t ≡ IntHigh → slice_get (cells_of_value t ++ rest) 1 ≡ Some IntLow
 second-cell t rest e = ap (λ (u : Ty). slice_get (cells_of_value u ++ rest) 1) e
 
-past-cells : (t : Ty) (rest : List Ty) (k : ℕ) → slice_get (cells_of_value t ++ rest) (width t + k) ≡ slice_get rest k
+past-cells : (t : Ty) (rest : List Ty) (k : ℕ) → slice_get (cells_of_value t ++ rest) (type_width t + k) ≡ slice_get rest k
 past-cells IntHigh rest k = let e : 2 + k ≡ suc (suc k) = omega arith in ap (slice_get (IntHigh ∷ IntLow ∷ rest)) e
 past-cells t rest k = other t rest k
   where
@@ -67,20 +67,20 @@ module _ (same_is : SameTypeDecides) where
   pub placed-at : (n : ℕ) (homes : List Home) (h : Home) (x : ℕ) → register_from n homes h ≡ Some x → (k : ℕ) × (x ≡ n + k) × IsPlacedAt homes h k
   unfolding register_sum
   placed-at n [] h x e = absurd (cc)
-  placed-at n (j ∷ js) h x e = by (same_home j h) refl e (λ f. placed-at (n + width j.ty) js h x f)
+  placed-at n (j ∷ js) h x e = by (same_home j h) refl e (λ f. placed-at (n + type_width j.ty) js h x f)
     where
       all : List Ty
       all = cells_of_value j.ty ++ registers_of js
 
-      total : register_sum (j ∷ js) ≡ width j.ty + register_sum js
-      total = sum_by-cons (λ (i : Home). width i.ty) j js
+      total : register_sum (j ∷ js) ≡ type_width j.ty + register_sum js
+      total = sum_by-cons (λ (i : Home). type_width i.ty) j js
 
-      wide : (t : Ty) → 0 < width t
+      wide : (t : Ty) → 0 < type_width t
       wide IntHigh = omega arith
       wide t = omega arith
 
-      by : (b : Bool) → same_home j h ≡ b → (if b then Some n else register_from (n + width j.ty) js h) ≡ Some x
-          → (register_from (n + width j.ty) js h ≡ Some x → (k : ℕ) × (x ≡ n + width j.ty + k) × IsPlacedAt js h k)
+      by : (b : Bool) → same_home j h ≡ b → (if b then Some n else register_from (n + type_width j.ty) js h) ≡ Some x
+          → (register_from (n + type_width j.ty) js h ≡ Some x → (k : ℕ) × (x ≡ n + type_width j.ty + k) × IsPlacedAt js h k)
           → (k : ℕ) × (x ≡ n + k) × IsPlacedAt (j ∷ js) h k
       by true q e rest =
           let own : j ≡ h = homes-equal same_is j h q in
@@ -95,11 +95,11 @@ module _ (same_is : SameTypeDecides) where
           )
       by false q e rest =
           let r = rest e in (
-            width j.ty + r.0,
+            type_width j.ty + r.0,
             omega (arith, r.1),
             record {
               first = past-cells j.ty (registers_of js) r.0 ∙ r.2.first;
-              second = λ high. let next : width j.ty + r.0 + 1 ≡ width j.ty + (r.0 + 1) = omega arith in ap (slice_get all) next ∙ past-cells j.ty (registers_of js) (r.0 + 1) ∙ r.2.second high;
+              second = λ high. let next : type_width j.ty + r.0 + 1 ≡ type_width j.ty + (r.0 + 1) = omega arith in ap (slice_get all) next ∙ past-cells j.ty (registers_of js) (r.0 + 1) ∙ r.2.second high;
               below = omega (arith, total, r.2.below);
             },
           )
@@ -113,8 +113,8 @@ pub record IsValueAt (cells : List Ty) (x : ℕ) (ty : Ty) : Type 0 where
   pub no_top : ty ≢ Top
   pub second : ty ≡ IntHigh → slice_get cells (x + 1) ≡ Some IntLow
 
-pub value-is : (cells : List Ty) (x : ℕ) (ty : Ty) → value_at cells x ≡ Some ty → IsValueAt cells x ty
-unfolding value_at
+pub value-is : (cells : List Ty) (x : ℕ) (ty : Ty) → value_in_cells cells x ≡ Some ty → IsValueAt cells x ty
+unfolding value_in_cells
 value-is cells x ty e = by (slice_get cells x) (slice_get cells (x + 1)) refl refl e
   where
     is : (u : Ty) (next : Option Ty) → slice_get cells x ≡ Some u → slice_get cells (x + 1) ≡ next → u ≡ ty → u ≢ IntLow → u ≢ Top → (u ≡ IntHigh → next ≡ Some IntLow) → IsValueAt cells x ty
@@ -141,7 +141,7 @@ plain-value Top b f l t = absurd (t refl)
 plain-value ty b f l t = tt
 
 -- a value of such cells
-pub value-plain : (t : ClassTable) (cells : List Ty) (x : ℕ) (ty : Ty) → value_at cells x ≡ Some ty → All (IsKnown t) cells → All IsNotBottom cells → All IsNotFresh cells → IsPlainValue ty × IsKnown t ty
+pub value-plain : (t : ClassTable) (cells : List Ty) (x : ℕ) (ty : Ty) → value_in_cells cells x ≡ Some ty → All (IsKnown t) cells → All IsNotBottom cells → All IsNotFresh cells → IsPlainValue ty × IsKnown t ty
 value-plain t cells x ty e known full ready =
     let v = value-is cells x ty e in
     (plain-value ty (All-slice_get IsNotBottom cells x ty full v.first) (All-slice_get IsNotFresh cells x ty ready v.first) v.no_low v.no_top, All-slice_get (IsKnown t) cells x ty known v.first)
@@ -185,7 +185,7 @@ module _ (same_is : SameTypeDecides) (kept : NeededAreKept) (s : Source) (object
     pub place : ℕ
     pub frame : Frame
     pub at : s.frames place ≡ Some frame
-    pub value : value_at frame.regs x ≡ Some ty
+    pub value : value_in_cells frame.regs x ≡ Some ty
     pub above : (f : Frame) → s.frames q ≡ Some f → CellsBelow s.world.classes f.regs frame.regs
 
   some-same : (f g : Frame) → ◌≡◌ {A = Option Frame} (Some f) (Some g) → f ≡ g
@@ -193,7 +193,7 @@ module _ (same_is : SameTypeDecides) (kept : NeededAreKept) (s : Source) (object
 
   pub found : (q x n : ℕ) (ty : Ty) → IsAsked s.method s.frames q x n ty → IsFound q x ty
   found q x _ ty (asked_here at) =
-      let f = framed (s.frames q) (λ (g : Frame). value_at g.regs x ≡ Some ty) at in
+      let f = framed (s.frames q) (λ (g : Frame). value_in_cells g.regs x ≡ Some ty) at in
       record {
         place = q;
         frame = f.0;
@@ -202,7 +202,7 @@ module _ (same_is : SameTypeDecides) (kept : NeededAreKept) (s : Source) (object
         above = λ g e. subst (λ (k : Frame). CellsBelow s.world.classes g.regs k.regs) (some-same g f.0 (sym e ∙ f.1)) (rules.order.self g.regs);
       }
   found q x _ ty (asked_caught {n = n} {h = h} there covers at) =
-      let f = framed (s.frames h.entry) (λ (g : Frame). value_at g.regs x ≡ Some ty) at in
+      let f = framed (s.frames h.entry) (λ (g : Frame). value_in_cells g.regs x ≡ Some ty) at in
       record {
         place = h.entry;
         frame = f.0;
@@ -225,10 +225,10 @@ module _ (same_is : SameTypeDecides) (kept : NeededAreKept) (s : Source) (object
   needed-are q x = kept s.method s.frames q x
 
   -- the value of a local in a frame has a home, which stands
-  pub local-stands : (p : ℕ) (f : Frame) (x : ℕ) (ty : Ty) → s.frames p ≡ Some f → value_at f.regs x ≡ Some ty → Stands s objects r (registers_of s.homes) asks (record { slot = x; ty = ty })
+  pub local-stands : (p : ℕ) (f : Frame) (x : ℕ) (ty : Ty) → s.frames p ≡ Some f → value_in_cells f.regs x ≡ Some ty → Stands s objects r (registers_of s.homes) asks (record { slot = x; ty = ty })
   local-stands p f x ty e v =
       let w = ready.whole p f e in
-      let asked : IsAsked s.method s.frames p x 0 ty = asked_here (subst (λ (o : Option Frame). IsSomeAnd o (λ (g : Frame). value_at g.regs x ≡ Some ty)) (sym e) v) in
+      let asked : IsAsked s.method s.frames p x 0 ty = asked_here (subst (λ (o : Option Frame). IsSomeAnd o (λ (g : Frame). value_in_cells g.regs x ≡ Some ty)) (sym e) v) in
       home-stands (record { slot = x; ty = ty }) (ready.serve.needed p x ty (reached p f e) (0, asked)) (value-plain s.world.classes f.regs x ty v w.known.regs w.regs w.ready)
 
   pub record IsServed (q x : ℕ) (h : Home) : Type 0 where

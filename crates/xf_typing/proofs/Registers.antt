@@ -32,10 +32,10 @@ use Rattle.jc_rules.specs.FlowLaws.{AreRules}
 use Rattle.jc_rules.specs.Laws.{IsNotBottom}
 use Rattle.jc_flow.proofs.Derived.{of_world}
 use Rattle.xf_homes.specs.declared.home.Home.{Home}
-use Rattle.xf_homes.specs.Home.{argument_types, IsConditional, KeepsStack, Spot, IsMetAt, met_local, met_cell}
+use Rattle.xf_homes.specs.Home.{argument_types, IsConditional, KeepsStack, PairSpot, IsMetAt, met_local, met_cell}
 use Rattle.xf_homes.specs.Laws.{NeededAreKept}
 use Rattle.xf_homes.specs.Order.{AreHomes, SlotsFollow, register_sum}
-use Rattle.xf_homes.specs.Value.{value_at, width}
+use Rattle.xf_homes.specs.Value.{value_in_cells, type_width}
 use Rattle.xf_plan.specs.Source.{Source}
 use Rattle.xf_emission.specs.Laws.{IsCode}
 use Rattle.xf_typing.specs.Typed.{cells_of_value, registers_of}
@@ -83,7 +83,7 @@ conditional-ready w types limit op f after o is a all = absurd is
 conditional-jumps : (op : Operation) → IsConditional op → jumps_from op ≡ true
 conditional-jumps (ops.Branch branches.Always) is = refl
 conditional-jumps (ops.Branch b) is = refl
-conditional-jumps (ops.Switch width) is = refl
+conditional-jumps (ops.Switch type_width) is = refl
 conditional-jumps op is = absurd is
 
 -- ---- the registers of arguments
@@ -97,7 +97,7 @@ drop-at [] n a e = absurd (cc)
 drop-at (x ∷ xs) zero a e = let own : x ≡ a = cc in ap (λ (y : Ty). y ∷ xs) own
 drop-at (x ∷ xs) (suc n) a e = drop-at xs n a e
 
-value-cells : (types : List Ty) (n : ℕ) (ty : Ty) → IsValueAt types n ty → drop n types ≡ cells_of_value ty ++ drop (n + width ty) types
+value-cells : (types : List Ty) (n : ℕ) (ty : Ty) → IsValueAt types n ty → drop n types ≡ cells_of_value ty ++ drop (n + type_width ty) types
 value-cells types n IntHigh is =
     let first = drop-at types n IntHigh is.first in
     let next : suc n ≡ n + 1 = omega arith in
@@ -109,20 +109,20 @@ value-cells types n ty is = other ty is.first
     other : (u : Ty) → slice_get types n ≡ Some u → drop n types ≡ u ∷ drop (n + 1) types
     other u e = let next : suc n ≡ n + 1 = omega arith in drop-at types n u e ∙ ap (λ (k : ℕ). u ∷ drop k types) next
 
-registers-are : (types : List Ty) (n : ℕ) (hs : List Home) → SlotsFollow n hs → ((h : Home) → IsAmong h hs → value_at types h.slot ≡ Some h.ty) → n + register_sum hs ≡ length types → registers_of hs ≡ drop n types
+registers-are : (types : List Ty) (n : ℕ) (hs : List Home) → SlotsFollow n hs → ((h : Home) → IsAmong h hs → value_in_cells types h.slot ≡ Some h.ty) → n + register_sum hs ≡ length types → registers_of hs ≡ drop n types
 unfolding register_sum
 registers-are types n [] st is e = let here : n ≡ length types = omega (arith, e) in sym (ap (λ (k : ℕ). drop k types) here ∙ drop-all types)
 registers-are types n (h ∷ hs) st is e =
-    let v : value_at types n ≡ Some h.ty = ap (value_at types) (sym st.0) ∙ is h (inl refl) in
-    let total : register_sum (h ∷ hs) ≡ width h.ty + register_sum hs = sum_by-cons (λ (i : Home). width i.ty) h hs in
-    let rest = registers-are types (n + width h.ty) hs st.1 (λ k a. is k (inr a)) (omega (arith, e, total)) in
+    let v : value_in_cells types n ≡ Some h.ty = ap (value_in_cells types) (sym st.0) ∙ is h (inl refl) in
+    let total : register_sum (h ∷ hs) ≡ type_width h.ty + register_sum hs = sum_by-cons (λ (i : Home). type_width i.ty) h hs in
+    let rest = registers-are types (n + type_width h.ty) hs st.1 (λ k a. is k (inr a)) (omega (arith, e, total)) in
     ap (λ (ts : List Ty). cells_of_value h.ty ++ ts) rest ∙ sym (value-cells types n h.ty (value-is types n h.ty v))
 
 registers-append : (hs ks : List Home) → registers_of (hs ++ ks) ≡ registers_of hs ++ registers_of ks
 registers-append [] ks = refl
 registers-append (h ∷ hs) ks = ap (λ (ts : List Ty). cells_of_value h.ty ++ ts) (registers-append hs ks) ∙ sym (append_assoc (cells_of_value h.ty) (registers_of hs) (registers_of ks))
 
-cells-width : (ty : Ty) → length (cells_of_value ty) ≡ width ty
+cells-width : (ty : Ty) → length (cells_of_value ty) ≡ type_width ty
 cells-width IntHigh = refl
 cells-width ty = refl
 
@@ -130,12 +130,12 @@ pub registers-length : (hs : List Home) → length (registers_of hs) ≡ registe
 unfolding register_sum
 registers-length [] = refl
 registers-length (h ∷ hs) =
-    length-append (cells_of_value h.ty) (registers_of hs) ∙ omega (arith, cells-width h.ty, registers-length hs, sum_by-cons (λ (i : Home). width i.ty) h hs)
+    length-append (cells_of_value h.ty) (registers_of hs) ∙ omega (arith, cells-width h.ty, registers-length hs, sum_by-cons (λ (i : Home). type_width i.ty) h hs)
 
 sum-append : (hs ks : List Home) → register_sum (hs ++ ks) ≡ register_sum hs + register_sum ks
 unfolding register_sum
 sum-append [] ks = omega arith
-sum-append (h ∷ hs) ks = omega (arith, sum_by-cons (λ (i : Home). width i.ty) h (hs ++ ks), sum_by-cons (λ (i : Home). width i.ty) h hs, sum-append hs ks)
+sum-append (h ∷ hs) ks = omega (arith, sum_by-cons (λ (i : Home). type_width i.ty) h (hs ++ ks), sum_by-cons (λ (i : Home). type_width i.ty) h hs, sum-append hs ks)
 
 bottom-below : (t : ClassTable) (ts : List Ty) (n : ℕ) → length ts ≡ n → CellsBelow t (replicate n Bottom) ts
 bottom-below t [] zero e = no_cells
@@ -193,13 +193,13 @@ module _ (same_is : SameTypeDecides) (kept : NeededAreKept) (s : Source) (object
         ok-same a b e = cc
 
     -- what is met is a value that is no uninitialised object
-    met-plain : (spot : Spot) (h : Home) → IsMetAt s.world s.method s.frames spot h → IsPlainValue h.ty × IsKnown s.world.classes h.ty
+    met-plain : (spot : PairSpot) (h : Home) → IsMetAt s.world s.method s.frames spot h → IsPlainValue h.ty × IsKnown s.world.classes h.ty
     met-plain _ _ (met_local {p = p} {x = x} {n = n} {ty = ty} there asked) =
         let f = found same_is kept s objects rules ready r asks p x n ty asked in
         let w = ready.whole f.place f.frame f.at in
         value-plain s.world.classes f.frame.regs x ty f.value w.known.regs w.regs w.ready
     met-plain _ _ (met_cell i {p = p} {ty = ty} there keeps at) =
-        let f = framed same_is kept s objects rules ready r asks (s.frames p) (λ (g : Frame). value_at (reverse g.stack) i ≡ Some ty) at in
+        let f = framed same_is kept s objects rules ready r asks (s.frames p) (λ (g : Frame). value_in_cells (reverse g.stack) i ≡ Some ty) at in
         let w = ready.whole p f.0 f.1 in
         value-plain s.world.classes (reverse f.0.stack) i ty f.2
         (All-reverse (IsKnown s.world.classes) f.0.stack w.known.stack) (All-reverse IsNotBottom f.0.stack w.stack) (All-reverse IsNotFresh f.0.stack (kept-ready p f.0 f.1 keeps))

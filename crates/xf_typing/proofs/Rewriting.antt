@@ -27,7 +27,7 @@ use Rattle.xf_emission.specs.declared.origin.Origin.TheVariants.{Start}
 use Rattle.xf_emission.specs.Edge.{copies}
 use Rattle.xf_emission.specs.Jump.{place, stub, stub_label, stubs_of, handler_label}
 use Rattle.xf_emission.specs.Group.{group}
-use Rattle.xf_emission.specs.Emission.{stubs, stubs_by, stubs_done, stubs_at, is_live, caught, caught_from, items}
+use Rattle.xf_emission.specs.Emission.{stubs, stubs_by, stubs_done, stubs_at, is_live, catching_stub, catching_stubs, items}
 use Rattle.xf_emission.specs.Laws.{IsCode}
 use Rattle.xf_emission.proofs.Live.{live-is}
 use Rattle.xf_typing.specs.Typed.{registers_of}
@@ -126,7 +126,7 @@ module _ (new : ℕ → ℕ) (apart : (a b : ℕ) → new a ≡ new b → a ≡ 
 
     -- ---- the stubs of handlers
 
-    caught-at : (n at : ℕ) (h : Handler) → slice_get s.method.rec.handlers n ≡ Some h → is_live s h ≡ true → Flows s.world r (registers_of s.homes) asks at left (caught s n h) left
+    caught-at : (n at : ℕ) (h : Handler) → slice_get s.method.rec.handlers n ≡ Some h → is_live s h ≡ true → Flows s.world r (registers_of s.homes) asks at left (catching_stub s n h) left
     caught-at n at h e live =
         let c = Contains-slice_get s.method.rec.handlers n h e in
         let is = live-is s (l.rules.listed s.method.code) ready.has h (All-contains (IsHandlerOf s.method.code) s.method.rec.handlers h ready.has.formed.handlers c) c live in
@@ -134,16 +134,16 @@ module _ (new : ℕ → ℕ) (apart : (a b : ℕ) → new a ≡ new b → a ≡ 
         let g = framed l.same_is l.needed s l.objects l.rules ready r asks (s.frames h.entry) (FrameBelow s.world.classes (caught_frame h f.0)) f.2 in
         caught-flows new apart s l ready r own_rec asks res code n at h g.0 g.1 g.2.stack ((ready.marks h.entry).1 (entered is.reached is.listed is.covers)) (wanted.handlers n h e)
 
-    caught-flow : (n at : ℕ) (hs : List Handler) → ((j : ℕ) (h : Handler) → slice_get hs j ≡ Some h → slice_get s.method.rec.handlers (n + j) ≡ Some h) → Flows s.world r (registers_of s.homes) asks at left (caught_from s n hs) left
+    caught-flow : (n at : ℕ) (hs : List Handler) → ((j : ℕ) (h : Handler) → slice_get hs j ≡ Some h → slice_get s.method.rec.handlers (n + j) ≡ Some h) → Flows s.world r (registers_of s.homes) asks at left (catching_stubs s n hs) left
     caught-flow n at [] inside = flow_end
     caught-flow n at (h ∷ hs) inside =
         flows-append s.world r (registers_of s.homes) asks (by (is_live s h) refl)
-        (caught-flow (suc n) (at + count (if is_live s h then caught s n h else [])) hs (λ j k e. let next : n + suc j ≡ suc n + j = omega arith in ap (slice_get s.method.rec.handlers) (sym next) ∙ inside (suc j) k e))
+        (caught-flow (suc n) (at + count (if is_live s h then catching_stub s n h else [])) hs (λ j k e. let next : n + suc j ≡ suc n + j = omega arith in ap (slice_get s.method.rec.handlers) (sym next) ∙ inside (suc j) k e))
       where
         here : slice_get s.method.rec.handlers n ≡ Some h
         here = let same_n : n + 0 ≡ n = omega arith in ap (slice_get s.method.rec.handlers) (sym same_n) ∙ inside 0 h refl
 
-        by : (b : Bool) → is_live s h ≡ b → Flows s.world r (registers_of s.homes) asks at left (if b then caught s n h else []) left
+        by : (b : Bool) → is_live s h ≡ b → Flows s.world r (registers_of s.homes) asks at left (if b then catching_stub s n h else []) left
         by true e = caught-at n at h here e
         by false e = flow_end
 

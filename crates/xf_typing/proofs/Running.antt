@@ -37,7 +37,7 @@ use Rattle.jc_rules.specs.Rule.{or_null}
 use Rattle.jc_rules.specs.Whole.{OperationKeepsWhole}
 use Rattle.xf_homes.specs.declared.home.Home.{Home}
 use Rattle.xf_homes.specs.Laws.{NeededAreKept}
-use Rattle.xf_homes.specs.Value.{value_at, value_of}
+use Rattle.xf_homes.specs.Value.{value_in_cells, value_of}
 use Rattle.xf_homes.specs.Walk.{local_of}
 use Rattle.xf_plan.specs.Source.{Source}
 use Rattle.xf_plan.specs.Plan.{home_of, register}
@@ -87,12 +87,12 @@ pub record IsRun (s : Source) (i : Placed) (op : Operation) (f after : Frame) : 
 
 -- ---- values of one cell
 
-pub value-one : (cells : List Ty) (x : ℕ) (a : Ty) → slice_get cells x ≡ Some a → IsNoHalf a → IsNotTop a → value_at cells x ≡ Some a
-unfolding value_at
+pub value-one : (cells : List Ty) (x : ℕ) (a : Ty) → slice_get cells x ≡ Some a → IsNoHalf a → IsNotTop a → value_in_cells cells x ≡ Some a
+unfolding value_in_cells
 value-one cells x a e h n = ap (λ (o : Option Ty). value_of o (slice_get cells (x + 1))) e ∙ one-value a (slice_get cells (x + 1)) h n
 
-pub value-int : (cells : List Ty) (x : ℕ) → slice_get cells x ≡ Some IntHigh → slice_get cells (x + 1) ≡ Some IntLow → value_at cells x ≡ Some IntHigh
-unfolding value_at
+pub value-int : (cells : List Ty) (x : ℕ) → slice_get cells x ≡ Some IntHigh → slice_get cells (x + 1) ≡ Some IntLow → value_in_cells cells x ≡ Some IntHigh
+unfolding value_in_cells
 value-int cells x e f = ap (λ (o : Option Ty). value_of o (slice_get cells (x + 1))) e ∙ ap (value_of (Some IntHigh)) f
 
 -- a cell that is a reference
@@ -141,7 +141,7 @@ found-below t cells x b h = by (slice_get cells x) refl h
 -- the value that a load reads, and what it leaves
 pub record IsLoaded (f after : Frame) (x : ℕ) : Type 0 where
   pub ty : Ty
-  pub value : value_at f.regs x ≡ Some ty
+  pub value : value_in_cells f.regs x ≡ Some ty
   pub stack : after.stack ≡ cells_on ty ++ f.stack
 
 load-is : (w : Linked) (types : IsOrderOfTypes w.classes) (limit : ℕ) (letter : Sort) (x : ℕ) (f after : Frame) (o : Outcome) → All IsNotBottom f.regs → OperationApplies w limit (ops.Load letter x) Flow f after o → IsLoaded f after x
@@ -164,7 +164,7 @@ load-is w types limit sorts.Int x f after o full a =
     let low = is-low w.classes types j.ty j.below (All-slice_get IsNotBottom f.regs (x + 1) j.ty full j.at) in
     record { ty = IntHigh; value = value-int f.regs x (k.at ∙ ap Some own) (j.at ∙ ap Some low); stack = a.stack }
 
-pub local-at : (s : Source) (p x : ℕ) (f : Frame) (ty : Ty) → s.frames p ≡ Some f → value_at f.regs x ≡ Some ty → home_of x (local_of (s.frames p) x) ≡ Some (record { slot = x; ty = ty })
+pub local-at : (s : Source) (p x : ℕ) (f : Frame) (ty : Ty) → s.frames p ≡ Some f → value_in_cells f.regs x ≡ Some ty → home_of x (local_of (s.frames p) x) ≡ Some (record { slot = x; ty = ty })
 local-at s p x f ty e v = ap (λ (o : Option Frame). home_of x (local_of o x)) e ∙ ap (home_of x) v
 
 pub cells-plain : (P : Ty → Type 0) (ty : Ty) → P ty → P IntLow → All P (cells_on ty)

@@ -10,7 +10,7 @@ use Rattle.jc_base.specs.declared.ty.Ty.TheVariants.{IntHigh, IntLow, Top}
 use Rattle.jc_base.specs.declared.record.MethodRec.{MethodRec}
 use Rattle.jc_rules.specs.Flow.{CellsBelow, no_cells, more_cells, IsNotTop}
 use Rattle.xf_homes.specs.declared.home.Home.{Home}
-use Rattle.xf_homes.specs.Value.{value_at, value_of}
+use Rattle.xf_homes.specs.Value.{value_in_cells, value_of}
 use Rattle.xf_plan.specs.Source.{Source}
 use Rattle.xf_plan.specs.Plan.{register, cells_from, home_of, with_home_of}
 use Rattle.xf_emission.specs.Move.{store, loads, spill}
@@ -128,18 +128,18 @@ pub longer-by : (pre : List Ty) (a : Ty) → suc (length pre) ≡ length (pre ++
 longer-by pre a = omega (arith, length-append pre (a ∷ []))
 
 -- no value begins with a low half
-pub low-none : (pre rest : List Ty) → value_at (pre ++ IntLow ∷ rest) (length pre) ≡ None
-unfolding value_at
+pub low-none : (pre rest : List Ty) → value_in_cells (pre ++ IntLow ∷ rest) (length pre) ≡ None
+unfolding value_in_cells
 low-none pre rest = ap (λ (o : Option Ty). value_of o (slice_get (pre ++ IntLow ∷ rest) (length pre + 1))) (get-at pre IntLow rest)
 
-pub int-value : (pre rest : List Ty) → value_at (pre ++ IntHigh ∷ IntLow ∷ rest) (length pre) ≡ Some IntHigh
-unfolding value_at
+pub int-value : (pre rest : List Ty) → value_in_cells (pre ++ IntHigh ∷ IntLow ∷ rest) (length pre) ≡ Some IntHigh
+unfolding value_in_cells
 int-value pre rest =
     ap (λ (o : Option Ty). value_of o (slice_get (pre ++ IntHigh ∷ IntLow ∷ rest) (length pre + 1))) (get-at pre IntHigh (IntLow ∷ rest))
     ∙ ap (λ (o : Option Ty). value_of (Some IntHigh) o) (get-next pre IntHigh IntLow rest)
 
-pub one-at : (pre : List Ty) (a : Ty) (rest : List Ty) → IsNoHalf a → IsNotTop a → value_at (pre ++ a ∷ rest) (length pre) ≡ Some a
-unfolding value_at
+pub one-at : (pre : List Ty) (a : Ty) (rest : List Ty) → IsNoHalf a → IsNotTop a → value_in_cells (pre ++ a ∷ rest) (length pre) ≡ Some a
+unfolding value_in_cells
 one-at pre a rest h n =
     ap (λ (o : Option Ty). value_of o (slice_get (pre ++ a ∷ rest) (length pre + 1))) (get-at pre a rest)
     ∙ one-value a (slice_get (pre ++ a ∷ rest) (length pre + 1)) h n
@@ -154,8 +154,8 @@ cells-pushed slot pre _ stack (whole_int {types = us} is) nt =
     let all = pre ++ IntHigh ∷ IntLow ∷ us in
     let shape : (pre ++ IntHigh ∷ []) ++ IntLow ∷ us ≡ all = append_assoc pre (IntHigh ∷ []) (IntLow ∷ us) in
     let shape2 : (pre ++ IntHigh ∷ IntLow ∷ []) ++ us ≡ all = append_assoc pre (IntHigh ∷ IntLow ∷ []) us in
-    let second : value_at all (suc (length pre)) ≡ None =
-    subst (λ (n : ℕ). value_at all n ≡ None) (sym e) (subst (λ (ts : List Ty). value_at ts (length (pre ++ IntHigh ∷ [])) ≡ None) shape (low-none (pre ++ IntHigh ∷ []) us)) in
+    let second : value_in_cells all (suc (length pre)) ≡ None =
+    subst (λ (n : ℕ). value_in_cells all n ≡ None) (sym e) (subst (λ (ts : List Ty). value_in_cells ts (length (pre ++ IntHigh ∷ [])) ≡ None) shape (low-none (pre ++ IntHigh ∷ []) us)) in
     let rest = cells-pushed slot (pre ++ IntHigh ∷ IntLow ∷ []) us (IntLow ∷ IntHigh ∷ stack) is (λ k d lt. nt (suc (suc k)) d (omega (arith, lt))) in
     let later : pushed (cells_from slot all (suc (suc (length pre))) (length us)) (IntLow ∷ IntHigh ∷ stack) ≡ turned us (IntLow ∷ IntHigh ∷ stack) =
     subst (λ (n : ℕ). pushed (cells_from slot all n (length us)) (IntLow ∷ IntHigh ∷ stack) ≡ turned us (IntLow ∷ IntHigh ∷ stack)) (sym f)

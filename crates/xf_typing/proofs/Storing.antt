@@ -34,12 +34,12 @@ use Rattle.jc_rules.proofs.Types.{no-half}
 use Rattle.xf_homes.specs.declared.home.Home.{Home}
 use Rattle.xf_homes.specs.Home.{asked_here, IsAsked}
 use Rattle.xf_homes.specs.Laws.{IsAskedBefore, AreAskedInOrder}
-use Rattle.xf_homes.specs.Value.{value_at}
+use Rattle.xf_homes.specs.Value.{value_in_cells}
 use Rattle.xf_homes.specs.Walk.{local_of}
 use Rattle.xf_plan.specs.Source.{Source}
 use Rattle.xf_plan.specs.Plan.{home_of, needed, register}
 use Rattle.xf_emission.specs.Move.{copy}
-use Rattle.xf_emission.specs.Group.{body, increased, popped, stored}
+use Rattle.xf_emission.specs.Group.{body, increased, pop_item, store_to_homes}
 use Rattle.xf_typing.specs.Typed.{registers_of}
 use Rattle.xf_typing.proofs.Walks.{holding, Asked, Turn, Flows, flow_plain, flow_end, Goes, goes-append, goes-nowhere}
 use Rattle.xf_typing.proofs.Moves.{Holds, IsPlainValue, cells_on, applies-by, turn-by, store-turn, same-cells, set-below, set-same, held, there, two-there}
@@ -119,7 +119,7 @@ module _ (t : ClassTable) (types : IsOrderOfTypes t) where
   over-top b e = absurd (cc)
 
   -- under a value a value stands, where each cell holds something
-  pub value-under : (xs ys : List Ty) (x : ℕ) (b : Ty) → CellsBelow t xs ys → All IsNotBottom xs → value_at ys x ≡ Some b → (a : Ty) × (value_at xs x ≡ Some a)
+  pub value-under : (xs ys : List Ty) (x : ℕ) (b : Ty) → CellsBelow t xs ys → All IsNotBottom xs → value_in_cells ys x ≡ Some b → (a : Ty) × (value_in_cells xs x ≡ Some a)
   value-under xs ys x b le full v = by under.a under.at under.below
     where
       is : IsValueAt ys x b
@@ -128,7 +128,7 @@ module _ (t : ClassTable) (types : IsOrderOfTypes t) where
       under : IsUnder t xs x b
       under = get-under t x b le is.first
 
-      by : (a : Ty) → slice_get xs x ≡ Some a → Below t a b → (a : Ty) × (value_at xs x ≡ Some a)
+      by : (a : Ty) → slice_get xs x ≡ Some a → Below t a b → (a : Ty) × (value_in_cells xs x ≡ Some a)
       by IntHigh at p =
           let high : b ≡ IntHigh = over-high b ((types.decided IntHigh b).1 p) is.no_top in
           let next = get-under t (x + 1) IntLow le (is.second high) in
@@ -144,7 +144,7 @@ module _ (new : ℕ → ℕ) (apart : (a b : ℕ) → new a ≡ new b → a ≡ 
 
   -- ---- increments
 
-  increment-by : (i : Placed) (width : Width) (x : ℕ) (amount : ℤ) (f after : Frame) (st : List Ty) (n : ℕ) (ty : Ty) → IsRun s i (ops.Increment width x amount) f after → IsLesser s.world f st → value_at f.regs x ≡ Some ty → after.stack ≡ f.stack
+  increment-by : (i : Placed) (width : Width) (x : ℕ) (amount : ℤ) (f after : Frame) (st : List Ty) (n : ℕ) (ty : Ty) → IsRun s i (ops.Increment width x amount) f after → IsLesser s.world f st → value_in_cells f.regs x ≡ Some ty → after.stack ≡ f.stack
       → ((k : ℕ) → Holds s.world l.objects r (registers_of s.homes) asks ty k → (regs : List Ty)
       × CellsBelow s.world.classes regs (registers_of s.homes)
       × (o : Outcome) × OperationApplies s.world r.max_stack (ops.Increment width k amount) Flow (record { regs = registers_of s.homes; stack = map (named new apart) st }) (record { regs = regs; stack = map (named new apart) st }) o)
@@ -210,7 +210,7 @@ module _ (new : ℕ → ℕ) (apart : (a b : ℕ) → new a ≡ new b → a ≡ 
     fresh : map (named new apart) st ≡ vs ++ map (named new apart) rest
     lesser : IsLesser s.world after rest
     shorter : length rest + 1 ≤ length st
-    pops : (n : ℕ) → length (vs ++ map (named new apart) rest) ≤ r.max_stack → Flowing n (vs ++ map (named new apart) rest) (popped letter ∷ []) (map (named new apart) rest)
+    pops : (n : ℕ) → length (vs ++ map (named new apart) rest) ≤ r.max_stack → Flowing n (vs ++ map (named new apart) rest) (pop_item letter ∷ []) (map (named new apart) rest)
 
   named-ready : (a : Ty) → IsNotFresh a → named new apart a ≡ a
   named-ready (Fresh p c) h = absurd h
@@ -243,7 +243,7 @@ module _ (new : ℕ → ℕ) (apart : (a b : ℕ) → new a ≡ new b → a ≡ 
       → IsNotFresh k.v
       → ((u : Ty) → IsPlainValue u → Below s.world.classes ty u → CellsBelow s.world.classes (k.v ∷ []) (cells_on u))
       → IsLesser s.world f st
-      → ((n : ℕ) (us : List Ty) → length (k.v ∷ us) ≤ r.max_stack → Flowing n (k.v ∷ us) (popped letter ∷ []) us)
+      → ((n : ℕ) (us : List Ty) → length (k.v ∷ us) ≤ r.max_stack → Flowing n (k.v ∷ us) (pop_item letter ∷ []) us)
       → IsStacked letter x after st
   one-stacked letter x f after st P k ty stored_is under whole fresh fits lesser pops = record {
     vs = k.v ∷ [];
@@ -331,17 +331,17 @@ module _ (new : ℕ → ℕ) (apart : (a b : ℕ) → new a ≡ new b → a ≡ 
       each-among (IsAskedBefore s.method s.frames q x h) hs k order.0 a
 
   -- the first home that is needed is that of the type at the place
-  first-needed : (q x : ℕ) (g : Frame) (h : Home) (hs : List Home) → s.frames q ≡ Some g → needed s q x ≡ h ∷ hs → value_at g.regs x ≡ Some h.ty
+  first-needed : (q x : ℕ) (g : Frame) (h : Home) (hs : List Home) → s.frames q ≡ Some g → needed s q x ≡ h ∷ hs → value_in_cells g.regs x ≡ Some h.ty
   first-needed q x g h hs to e =
       let is = needed-are l.same_is l.needed s l.objects l.rules ready r asks q x in
       let n = (is.all h).0 (subst (IsAmong h) (sym e) (inl refl)) in
       let k = found l.same_is l.needed s l.objects l.rules ready r asks q x n.1.0 h.ty n.1.1 in
       let v = value-under s.world.classes l.rules.types g.regs k.frame.regs x h.ty (k.above g to) (ready.whole q g to).regs k.value in
-      let here : IsAsked s.method s.frames q x 0 v.0 = asked_here (subst (λ (o : Option Frame). IsSomeAnd o (λ (f : Frame). value_at f.regs x ≡ Some v.0)) (sym to) v.1) in
+      let here : IsAsked s.method s.frames q x 0 v.0 = asked_here (subst (λ (o : Option Frame). IsSomeAnd o (λ (f : Frame). value_in_cells f.regs x ≡ Some v.0)) (sym to) v.1) in
       let among : IsAmong (record { slot = x; ty = v.0 }) (h ∷ hs) = subst (IsAmong (record { slot = x; ty = v.0 })) e ((is.all (record { slot = x; ty = v.0 })).1 (refl, (0, here))) in
       by v.0 v.1 here among
     where
-      by : (u : Ty) → value_at g.regs x ≡ Some u → IsAsked s.method s.frames q x 0 u → IsAmong (record { slot = x; ty = u }) (h ∷ hs) → value_at g.regs x ≡ Some h.ty
+      by : (u : Ty) → value_in_cells g.regs x ≡ Some u → IsAsked s.method s.frames q x 0 u → IsAmong (record { slot = x; ty = u }) (h ∷ hs) → value_in_cells g.regs x ≡ Some h.ty
       by u v here (inl own) = v ∙ ap (λ (j : Home). Some j.ty) (sym own)
       by u v here (inr a) = let b = in-order q x h hs e (record { slot = x; ty = u }) a in absurd (omega (arith, b.2 0 here))
 
@@ -371,7 +371,7 @@ module _ (new : ℕ → ℕ) (apart : (a b : ℕ) → new a ≡ new b → a ≡ 
   store-passed i letter x f after g st n run to below lesser = record {
     stack = k.rest;
     lesser = k.lesser;
-    flow = subst (λ (us : List Ty). Flowing n us (stored s letter (needed s q x)) (map (named new apart) k.rest)) (sym k.fresh) (by (needed s q x) refl);
+    flow = subst (λ (us : List Ty). Flowing n us (store_to_homes s letter (needed s q x)) (map (named new apart) k.rest)) (sym k.fresh) (by (needed s q x) refl);
   }
     where
       q : ℕ
@@ -386,7 +386,7 @@ module _ (new : ℕ → ℕ) (apart : (a b : ℕ) → new a ≡ new b → a ≡ 
       less : length (map (named new apart) k.rest) + 1 ≤ r.max_stack
       less = omega (arith, length-map k.rest (named new apart), k.shorter, length-map st (named new apart), has-room new apart s l ready r own_rec asks res i (ops.Store letter x) f after st run lesser, own_rec.room)
 
-      by : (hs : List Home) → needed s q x ≡ hs → Flowing n (k.vs ++ map (named new apart) k.rest) (stored s letter hs) (map (named new apart) k.rest)
+      by : (hs : List Home) → needed s q x ≡ hs → Flowing n (k.vs ++ map (named new apart) k.rest) (store_to_homes s letter hs) (map (named new apart) k.rest)
       by [] e = k.pops n (omega (arith, room, own_rec.room))
       by (h ∷ hs) e =
           let own = needed-served l.same_is l.needed s l.objects l.rules ready r asks q x h (subst (IsAmong h) (sym e) (inl refl)) in

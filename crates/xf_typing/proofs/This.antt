@@ -35,7 +35,7 @@ use Rattle.jc_rules.specs.Laws.{IsNotBottom}
 use Rattle.jc_rules.specs.Rule.{demands, value_given, value_wanted, value_size}
 use Rattle.jc_rules.proofs.Types.{declared-not_fresh}
 use Rattle.xf_homes.specs.declared.home.Home.{Home}
-use Rattle.xf_homes.specs.Value.{value_at}
+use Rattle.xf_homes.specs.Value.{value_in_cells}
 use Rattle.xf_homes.specs.Walk.{local_of}
 use Rattle.xf_plan.specs.Source.{Source}
 use Rattle.xf_plan.specs.Plan.{home_of, register}
@@ -110,7 +110,7 @@ module _ (new : ℕ → ℕ) (apart : (a b : ℕ) → new a ≡ new b → a ≡ 
   this-is i f c at h =
       let k = found-below s.world.classes f.regs 0 (Class c) h in
       let is = is-reference s.world.classes l.rules.types k.ty c k.below (All-slice_get IsNotBottom f.regs 0 k.ty (ready.whole i.place f at).regs k.at) in
-      let value : value_at f.regs 0 ≡ Some k.ty = value-one f.regs 0 k.ty k.at is.no_half is.no_top in
+      let value : value_in_cells f.regs 0 ≡ Some k.ty = value-one f.regs 0 k.ty k.at is.no_half is.no_top in
       record {
         ty = k.ty;
         own = local-at s i.place 0 f k.ty at value;

@@ -12,13 +12,13 @@ use Rattle.jc_rules.specs.Flow.{CellsBelow}
 use Rattle.xf_homes.specs.declared.home.Home.{Home}
 use Rattle.xf_homes.specs.Home.{register_count, KeepsStack}
 use Rattle.xf_homes.specs.Order.{SlotsFollow, register_sum}
-use Rattle.xf_homes.specs.Value.{value_at, width}
+use Rattle.xf_homes.specs.Value.{value_in_cells, type_width}
 use Rattle.xf_homes.specs.Walk.{has, operands_of}
 use Rattle.xf_plan.specs.Source.{Source}
 use Rattle.xf_plan.specs.Plan.{stack_homes, is_leader, needed, operation}
 use Rattle.xf_emission.specs.declared.origin.Origin.{Origin}
 use Rattle.xf_emission.specs.declared.origin.Origin.TheVariants.{Start, After, Entry}
-use Rattle.xf_emission.specs.Edge.{home_before, held, is_stored}
+use Rattle.xf_emission.specs.Edge.{home_before, homes_held, is_stored}
 use Rattle.xf_emission.specs.Jump.{has_under, operands, under}
 use Rattle.xf_emission.specs.Move.{load_op}
 use Rattle.xf_typing.specs.Planned.{IsPlanned, KeepsValues}
@@ -31,7 +31,7 @@ pub record IsNeededFor (s : Source) (f : Frame) (x : ℕ) (h : Home) : Type 0 wh
   pub keeps : KeepsValues s h
   pub types : List Ty
   pub above : CellsBelow s.world.classes f.regs types
-  pub value : value_at types h.slot ≡ Some h.ty
+  pub value : value_in_cells types h.slot ≡ Some h.ty
 
 abbrev pub NeededHaveHomes : Linked → Type 0
 NeededHaveHomes w =
@@ -52,7 +52,7 @@ pub record FillStack (s : Source) (q : ℕ) (f : Frame) : Type 0 where
   pub follow : SlotsFollow (register_count s.method.rec) (stack_homes s q)
   pub fill : register_sum (stack_homes s q) ≡ length f.stack
   pub keep : Each (KeepsValues s) (stack_homes s q)
-  pub values : Each (λ h. value_at (slot_types f) h.slot ≡ Some h.ty) (stack_homes s q)
+  pub values : Each (λ h. value_in_cells (slot_types f) h.slot ≡ Some h.ty) (stack_homes s q)
 
 abbrev pub CellsFillStack : Linked → Type 0
 CellsFillStack w =
@@ -89,10 +89,10 @@ stored_at o x = false
 pub record IsCarried (s : Source) (o : Origin) (h from : Home) : Type 0 where
   pub before : home_before s o h.slot ≡ Some from
   pub slot : from.slot ≡ h.slot
-  pub there : has (held s o h.slot from) from ≡ true
+  pub there : has (homes_held s o h.slot from) from ≡ true
   pub keeps : KeepsValues s from
   pub loads : load_op from.ty ≡ load_op h.ty
-  pub apart : (k : ℕ) → k < width h.ty → stored_at o (h.slot + k) ≡ false
+  pub apart : (k : ℕ) → k < type_width h.ty → stored_at o (h.slot + k) ≡ false
 
 -- each local that is needed where an edge leads was stored there, or is carried
 abbrev pub EdgesCarry : Linked → Type 0

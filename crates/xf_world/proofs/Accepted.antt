@@ -13,7 +13,7 @@ use Rattle.jc_control.specs.Asked.{AllHave, IsOfLibrary}
 use Rattle.jc_control.specs.Method.{Method, IsMethodOf, method_in, method_with}
 use Rattle.card_typing.specs.Typing.{HasCardTyping}
 use Rattle.jc_relinked.specs.Laws.{LinkAgain, LaidMethodsStand}
-use Rattle.jc_relinked.specs.Replaced.{AreMethodsOf, HasPoolOf, EachMayReplace, MethodsStand}
+use Rattle.jc_relinked.specs.Replaced.{AreMethodsOf, HasPoolOf, EachMayReplace, MethodsAreReplaced}
 use Rattle.xf_landed.specs.Apart.{apart_from_code, IsSameBut}
 use Rattle.xf_landed.specs.Laid.{HasLaid}
 use Rattle.xf_world.specs.Laid.{IsLaidFor, AreLaidOf}
@@ -85,7 +85,7 @@ module _ (w : Linked) (laws : AreLaws w) (laid : List (Option Laid)) (are : AreL
   -- ---- the methods of the new world
 
   module _ (accepted : AllHave (IsOfLibrary w) (HasCardTyping w)) (new : Linked) (same : IsSameBut w new)
-      (stand : MethodsStand are.libraries are.own laid w new) (m : Method) (mo : IsMethodOf new m) where
+      (stand : MethodsAreReplaced are.libraries are.own laid w new) (m : Method) (mo : IsMethodOf new m) where
     of-library : m.number < first → HasCardTyping w m
     of-library lt =
         let was : IsMethodOf w m = of-world w m (sym (stand.earlier m.number lt) ∙ in-world new m mo) mo.filled in

@@ -4,15 +4,15 @@ use Rattle.std.proofs.lemmas.Int.{to_z-of_z}
 use Rattle.std.specs.Int.{w16}
 use mir.Val.{SFits}
 use Rattle.cap_bare.specs.Machine.{State, after, entered, returned, IsSafe}
-use Rattle.cap_bare.specs.Leading.{state_at}
+use Rattle.cap_bare.specs.Leading.{state_in_frame}
 use Rattle.cap_bare.proofs.Running.{fault-free, safe-next, after-next, after-end, after-none}
 use Rattle.cap_bare.proofs.Stepping.{frame-is, registers-kept}
 use Rattle.cap_bare.proofs.run.bare_run.Goals as goal
 
 pub steps-init : goal.steps-init
 steps-init c =
-    let e : state_at 0 c.entered-frame.result ≡ entered c.args.bare c.args.args.now =
-    ap (state_at 0) (frame-is c.entered-frame.result (c.args.args.now ++ replicate c.args.bare.max_locals (pos 0)) []
+    let e : state_in_frame 0 c.entered-frame.result ≡ entered c.args.bare c.args.args.now =
+    ap (state_in_frame 0) (frame-is c.entered-frame.result (c.args.args.now ++ replicate c.args.bare.max_locals (pos 0)) []
     c.entered-frame.ensures.registers c.entered-frame.ensures.stack) in
     record {
       same = let n : c.args.budget - 0 ≡ c.args.budget = omega arith in rw (e, n) refl;
@@ -29,14 +29,14 @@ returns-in-Ended c =
     let fits : SFits w16 c.in-Ended.value = search rules in
     let n : c.args.budget - c.steps._taken ≡ suc (c.args.budget - (c.steps._taken + 1)) = omega arith in
     sym c.steps.invariant.same
-    ∙ ap (λ (n : ℕ). after n c.args.code.bytes.now c.args.bare (state_at c.steps.place c.steps.frame)) n
-    ∙ after-end c.args.code.bytes.now c.args.bare _ (state_at c.steps.place c.steps.frame) c.in-Ended.value (sym c.in-Ended.ensures)
+    ∙ ap (λ (n : ℕ). after n c.args.code.bytes.now c.args.bare (state_in_frame c.steps.place c.steps.frame)) n
+    ∙ after-end c.args.code.bytes.now c.args.bare _ (state_in_frame c.steps.place c.steps.frame) c.in-Ended.value (sym c.in-Ended.ensures)
     ∙ ap returned (sym (to_z-of_z w16 c.in-Ended.value fits))
 
 pub steps-preserved : goal.steps-preserved
 steps-preserved c =
-    let s : State = state_at c.steps.place c.steps.frame in
-    let t : State = state_at c.in-At.next c.step.new.frame in
+    let s : State = state_in_frame c.steps.place c.steps.frame in
+    let t : State = state_in_frame c.in-At.next c.step.new.frame in
     let n : c.args.budget - c.steps._taken ≡ suc (c.args.budget - (c.steps._taken + 1)) = omega arith in
     record {
       same =
@@ -50,8 +50,8 @@ steps-preserved c =
 pub returns : goal.returns
 returns c =
     let n : c.args.budget - c.steps._taken ≡ 0 = omega arith in (
-      state_at c.steps.place c.steps.frame,
+      state_in_frame c.steps.place c.steps.frame,
       sym c.steps.invariant.same
-          ∙ ap (λ (n : ℕ). after n c.args.code.bytes.now c.args.bare (state_at c.steps.place c.steps.frame)) n
-          ∙ after-none c.args.code.bytes.now c.args.bare (state_at c.steps.place c.steps.frame),
+          ∙ ap (λ (n : ℕ). after n c.args.code.bytes.now c.args.bare (state_in_frame c.steps.place c.steps.frame)) n
+          ∙ after-none c.args.code.bytes.now c.args.bare (state_in_frame c.steps.place c.steps.frame),
     )

@@ -1,5 +1,5 @@
 use Rattle.std.proofs.Common.{◌≡◌, ◌≤◌, drop}
-use Rattle.cap_laying.specs.Member.{end_from}
+use Rattle.cap_laying.specs.Member.{methods_end_from}
 use Rattle.cap_laying.specs.NewPlaces.{AreSmallBodies}
 use Rattle.cap_laying.proofs.places.end_of.Given as goal
 
@@ -7,5 +7,5 @@ abbrev pub invariant-methods : goal.invariant-methods
 invariant-methods l = record {
   low : l.at ≤ 65535;
   small : AreSmallBodies (drop l.slot-index l.table);
-  so_far : end_from l.at (drop l.slot-index l.table) ≡ end_from l.start l.table;
+  so_far : methods_end_from l.at (drop l.slot-index l.table) ≡ methods_end_from l.start l.table;
 }

@@ -2,12 +2,12 @@ use Rattle.std.proofs.Common.{◌≡◌}
 use Rattle.std.specs.Prelude.{fold}
 use Rattle.cap_method.specs.MethodPart.{handlers}
 use Rattle.cap_desc.specs.MembersLeft.{methods_but_left}
-use Rattle.cap_package.specs.HandlerChecks.{numbered}
+use Rattle.std.specs.List.{enumerate_from}
 use Rattle.cap_package.specs.HandlerClaims.{claims_seen, claim_table, none_claimed}
 use Rattle.cap_package.proofs.handler_checks.claimed.Given as goal
 
 abbrev pub invariant-methods : goal.invariant-methods
 invariant-methods l =
-    fold (claim_table l.methods.info.bytes.now (numbered 0 (handlers l.methods))) (claims_seen l.entries)
+    fold (claim_table l.methods.info.bytes.now (enumerate_from 0 (handlers l.methods))) (claims_seen l.entries)
     (methods_but_left l.method-iterator)
-    ≡ fold (claim_table l.methods.info.bytes.now (numbered 0 (handlers l.methods))) none_claimed (methods_but_left l.fn.described)
+    ≡ fold (claim_table l.methods.info.bytes.now (enumerate_from 0 (handlers l.methods))) none_claimed (methods_but_left l.fn.described)

@@ -5,7 +5,7 @@ use Rattle.cap_text.specs.Run.{run_request}
 use Rattle.cap_text.specs.Trial.{trial_text}
 use Rattle.capcheck_core.specs.declared.verdict.Verdict.TheVariants.{Done}
 use Rattle.capcheck_core.specs.Outside.{card}
-use Rattle.capcheck_core.specs.Run.{within, IsCardKept, RunsWorldIn}
+use Rattle.capcheck_core.specs.Run.{with_budget, IsCardKept, RunsWorldIn}
 use Rattle.capcheck_core.specs.Trial.{steps_each, IsUntriedKept, TriesIn}
 use Rattle.capcheck_core.proofs.Trials.{new_runs, tried}
 use Rattle.capcheck_core.proofs.Verdicts.{said}
@@ -22,7 +22,7 @@ pub returns-in-Ok-clause-tries : goal.returns-in-Ok-clause-tries
 returns-in-Ok-clause-tries c =
     let r = run_request c.args.run.now in
     let left = card c.run_in_card-verdict.new.ram c.run_in_card-verdict.new.heap c.run_in_card-verdict.new.statics in
-    let runs = subst (RunsWorldIn c.args.new.now (within (steps_each * c.from-steps.result) r) left) c.in-Ok.ensures c.run_in_card-verdict.ensures.runs in
+    let runs = subst (RunsWorldIn c.args.new.now (with_budget (steps_each * c.from-steps.result) r) left) c.in-Ok.ensures c.run_in_card-verdict.ensures.runs in
     said string_bytes Done (TriesIn c.args._packages.now c.args._roles c.args.world.now r left) c.tried.result
     (trial_text c.args.source.now c.as_str.result.now) c.done.result (tt {0})
     (λ t prints.
@@ -37,7 +37,7 @@ returns-in-Ok-clause-kept c =
     let before = card c.args.ram.now c.args.heap.now c.args.statics.now in
     let left = card c.run_in_card-verdict.new.ram c.run_in_card-verdict.new.heap c.run_in_card-verdict.new.statics in
     let target = string_bytes c.in-Ok.target in
-    let runs = subst (RunsWorldIn c.args.new.now (within (steps_each * c.from-steps.result) r) left) c.in-Ok.ensures c.run_in_card-verdict.ensures.runs in
+    let runs = subst (RunsWorldIn c.args.new.now (with_budget (steps_each * c.from-steps.result) r) left) c.in-Ok.ensures c.run_in_card-verdict.ensures.runs in
     let both = tried c.args._packages.now c.args._roles c.args.world.now c.args._parts.now c.args.new.now r (steps_each * c.from-steps.result) left
     c.args.source.now target (trial_text c.args.source.now target) c.requires.made (ap (λ n. steps_each * n) c.from-steps.ensures) c.requires.defended runs refl in
     said string_bytes Done (IsUntriedKept c.args._packages.now c.args._roles c.args.world.now r before left) c.tried.result

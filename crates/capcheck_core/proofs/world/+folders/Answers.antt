@@ -3,7 +3,7 @@ use Rattle.std.proofs.Common.{length, Some, refl, sym, subst, rules}
 use Rattle.std.proofs.lemmas.Result.{err_from_is_err_and}
 use Rattle.cap_files.specs.WordsLeft.{words_left}
 use Rattle.capcheck_core.specs.Outside.{outside, card}
-use Rattle.capcheck_core.specs.OverLoads.{GoesOn}
+use Rattle.capcheck_core.specs.OverLoads.{AnswersOverRest}
 use Rattle.capcheck_core.specs.Step.{OwnAnswers}
 use Rattle.capcheck_core.proofs.PackageLoads.{has_package, stops_roles, goes_on, goes_end}
 use Rattle.capcheck_core.proofs.Shown.{lent_once}
@@ -18,7 +18,7 @@ over_others-returns-in-None g t c =
     let own = OwnAnswers c.args.step in
     let before = outside (g.F.Folder.folders c.args.folder.now) (card c.args.ram.now c.args.heap.now c.args.statics.now) in
     let after = outside (g.F.Folder.folders c.over_packages.new.folder) (card c.over_packages.new.ram c.over_packages.new.heap c.over_packages.new.statics) in
-    subst (λ ds. GoesOn own ds c.args.packages (Some c.args.roles) before after c.over_packages.result) (sym c.in-None.ensures.steps.0)
+    subst (λ ds. AnswersOverRest own ds c.args.packages (Some c.args.roles) before after c.over_packages.result) (sym c.in-None.ensures.steps.0)
     (goes_end own c.args.packages c.args.roles before after c.over_packages.result c.over_packages.ensures)
 
 pub over_parts-returns-in_err-roles : goal.over_parts-returns-in_err-roles

@@ -1,5 +1,5 @@
 use Rattle.std.proofs.Common.{◌≡◌, ◌<◌, ◌+◌, ℕ, Bool, true, length, IfSome, slice_get, ◌∙◌, sym, subst, arith}
-use Rattle.jc_ops.specs.Resolve.{passes, is_described, described}
+use Rattle.jc_ops.specs.Resolve.{passes_test, is_described, described}
 use Rattle.jc_ops.proofs.Described.{Finds, Finds-skip, Finds-take, Finds-two, Finds-end, passes-read}
 use Rattle.jc_ops.proofs.calls.only_described.Goals as goal
 use Rattle.jc_ops.proofs.calls.only_described.Goals.{then-is_described+in-None, else-is_described}
@@ -7,7 +7,7 @@ use Rattle.jc_ops.proofs.calls.only_described.Goals.{then-is_described+in-None, 
 pub returns-in-Some-clause-is : goal.returns-in-Some-clause-is
 unfolding described
 returns-in-Some-clause-is c =
-    let p : ℕ → Bool = λ n. passes (is_described c.args.interface c.args.token) (slice_get c.args.world.now.methods n) in
+    let p : ℕ → Bool = λ n. passes_test (is_described c.args.interface c.args.token) (slice_get c.args.world.now.methods n) in
     let here : p c.methods.n ≡ true =
     passes-read c.args.world.now.methods c.args.interface c.args.token c.methods.n c.method.result.now c.is_described.result c.method.ensures.is c.is_described.ensures ∙ c.if-is_described.true in
     Finds-two p (length c.args.world.now.methods) c.methods.n c.in-Some.field-0 (omega arith) here
@@ -15,7 +15,7 @@ returns-in-Some-clause-is c =
 
 pub methods-preserved : goal.methods-preserved
 methods-preserved c =
-    let p : ℕ → Bool = λ n. passes (is_described c.args.interface c.args.token) (slice_get c.args.world.now.methods n) in
+    let p : ℕ → Bool = λ n. passes_test (is_described c.args.interface c.args.token) (slice_get c.args.world.now.methods n) in
     let inside : c.methods.n < length c.args.world.now.methods = omega arith in
     let here : p c.methods.n ≡ c.is_described.result =
     passes-read c.args.world.now.methods c.args.interface c.args.token c.methods.n c.method.result.now c.is_described.result c.method.ensures.is c.is_described.ensures in
@@ -36,4 +36,4 @@ methods-preserved c =
 pub returns-clause-is : goal.returns-clause-is
 unfolding described
 returns-clause-is c =
-    Finds-end (λ n. passes (is_described c.args.interface c.args.token) (slice_get c.args.world.now.methods n)) (length c.args.world.now.methods) c.methods.n c.methods.found (omega arith) c.methods.invariant.finds
+    Finds-end (λ n. passes_test (is_described c.args.interface c.args.token) (slice_get c.args.world.now.methods n)) (length c.args.world.now.methods) c.methods.n c.methods.found (omega arith) c.methods.invariant.finds

@@ -1,5 +1,5 @@
 use Rattle.std.specs.Prelude.{◌≡◌, ◌++◌, length}
-use Rattle.jc_statics.specs.Words.{words_of_bytes}
+use Rattle.jc_base.specs.Index.{words_of_bytes}
 use Rattle.jc_statics.proofs.words.wide_words.Given as goal
 
 abbrev pub invariant-pairs : goal.invariant-pairs

@@ -3,7 +3,7 @@ use Rattle.vm_store.specs.State.{State}
 use Rattle.vm_words.specs.Words.{objects_state, headers_in, header_at}
 use Rattle.vm_words.proofs.WordHeaps.{length-headers_in, header-read}
 use Rattle.std.specs.Prelude.{Some}
-use Rattle.vm_store.specs.declared.header.Header.{Header}
+use Rattle.vm_store.specs.declared.header.ObjectHeader.{ObjectHeader}
 use Rattle.vm_store.proofs.Handles.{is_handle, kind_is}
 use Rattle.vm_words.proofs.reading.kind_there.Goals as goal
 
@@ -13,7 +13,7 @@ header-requires c =
     let z : State ℕ = objects_state heap counts in
     let xs = drop 12288 heap in let hs = headers_in heap n in
     let enough : counts.cells ≤ length xs = omega (arith, laid.heap_length, laid.some_cells, length-drop 12288 heap) in
-    let d : Header = header_at heap (c.args.handle - 1) in
+    let d : ObjectHeader = header_at heap (c.args.handle - 1) in
     let h = is_handle z xs hs counts.cells refl laid.laid enough d c.args.handle c.requires.there in
     omega (arith, h.within, length-headers_in heap n, laid.some_objects, laid.heap_length)
 
@@ -23,8 +23,8 @@ returns c =
     let z : State ℕ = objects_state heap counts in
     let xs = drop 12288 heap in let hs = headers_in heap n in
     let enough : counts.cells ≤ length xs = omega (arith, laid.heap_length, laid.some_cells, length-drop 12288 heap) in
-    let d : Header = header_at heap (c.args.handle - 1) in
+    let d : ObjectHeader = header_at heap (c.args.handle - 1) in
     let h = is_handle z xs hs counts.cells refl laid.laid enough d c.args.handle c.requires.there in
     let lt : c.args.handle - 1 < n = omega (arith, h.within, length-headers_in heap n) in
     kind_is z xs hs counts.cells refl laid.laid enough d c.args.handle h
-    ∙ ap (λ (x : Header). Some x.kind) (header-read heap n (c.args.handle - 1) d lt ∙ sym c.header.ensures)
+    ∙ ap (λ (x : ObjectHeader). Some x.kind) (header-read heap n (c.args.handle - 1) d lt ∙ sym c.header.ensures)

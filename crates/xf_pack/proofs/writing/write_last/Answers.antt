@@ -1,7 +1,7 @@
 -- what the writer asks, and what came of it
 use Rattle.std.proofs.Common.{◌-◌, ◌≤◌, length, subst, arith}
 use Rattle.cap_components.specs.Components.{Methods}
-use Rattle.cap_write.specs.WrittenPackage.{TellsEnd}
+use Rattle.cap_write.specs.WrittenPackage.{TellsWriteEnd}
 use Rattle.xf_pack.proofs.Written.{last-may-be-laid, linked-some, part-long, transformed}
 use Rattle.xf_pack.proofs.writing.write_last.Goals as goal
 
@@ -24,4 +24,4 @@ returns-in-Err-PartLong-clause-end c =
     let some = linked-some c.args.packages.now c.args.roles c.args.world.now c.requires.linked in
     part-long c.args.packages.now c.args.roles c.args.world.now c.requires.linked c.at-package.result.now (c.len.result - 1) c.at-package.ensures
     (omega (arith, some, c.len.ensures)) c.args.first c.requires.first c.args.laid.now c.requires.laid c.requires.all c.requires.accepted c.requires.typed
-    c.in-Err-PartLong.size (subst (TellsEnd c.at-package.result.now c.args.laid.now) c.in-Err-PartLong.field-0-is c.in-Err-PartLong.ensures.long)
+    c.in-Err-PartLong.size (subst (TellsWriteEnd c.at-package.result.now c.args.laid.now) c.in-Err-PartLong.field-0-is c.in-Err-PartLong.ensures.long)

@@ -6,10 +6,10 @@ use Rattle.vm_store.specs.Cells.{words}
 use Rattle.vm_store.specs.State.{State}
 use Rattle.vm_step.specs.Raising.{Outcome}
 use Rattle.vm_step.specs.Run.{Runs}
-use Rattle.vm_turns.specs.Turn.{outcome}
+use Rattle.vm_turns.specs.Turn.{with_ending}
 use Rattle.vm_checks.specs.Shaped.{IsShaped}
 use Rattle.vm_words.specs.declared.words.Counts.{Counts}
-use Rattle.vm_words.specs.WordStore.{state_of}
+use Rattle.vm_words.specs.WordStore.{state_in_words}
 use Rattle.vm_words.specs.Words.{AreLaid, words_state}
 use Rattle.vm_offend.specs.declared.machine.Machine.{Machine}
 use Rattle.vm_offend.proofs.Accepting.{accepted-has}
@@ -49,8 +49,8 @@ returns-clause-follows c =
     let ran : Ran w c.args.self.now c.args.ram.now c.args.heap.now c.args.statics.now c.args.budget m z.ram.now z.heap.now z.statics.now c.spent_or.result = record {
       going = c.requires.going;
       ending = c.run-ending.result;
-      runs = subst (λ (x : State ℕ). Runs words w c.args.budget x (outcome c.run-ending.result after)) c.over-store.ensures.state
-          (subst (λ (x : State ℕ). Runs words w c.args.budget (state_of c.over-store.result) (outcome c.run-ending.result x)) same c.run-ending.ensures.runs);
+      runs = subst (λ (x : State ℕ). Runs words w c.args.budget x (with_ending c.run-ending.result after)) c.over-store.ensures.state
+          (subst (λ (x : State ℕ). Runs words w c.args.budget (state_in_words c.over-store.result) (with_ending c.run-ending.result x)) same c.run-ending.ensures.runs);
       shaped = subst (IsShaped w) same c.run-ending.ensures.shaped;
       laid = subst (λ (n : Counts). AreLaid w z.ram.now z.heap.now n) (sym c.counts-self.ensures)
           (subst (λ (v : Linked). AreLaid v z.ram.now z.heap.now z.counts) c.run-ending.ensures.world c.run-ending.ensures.well);
@@ -75,8 +75,8 @@ returns-clause-run c =
     let ran : Ran w c.args.self.now c.args.ram.now c.args.heap.now c.args.statics.now c.args.budget m z.ram.now z.heap.now z.statics.now c.spent_or.result = record {
       going = c.requires.going;
       ending = c.run-ending.result;
-      runs = subst (λ (x : State ℕ). Runs words w c.args.budget x (outcome c.run-ending.result after)) c.over-store.ensures.state
-          (subst (λ (x : State ℕ). Runs words w c.args.budget (state_of c.over-store.result) (outcome c.run-ending.result x)) same c.run-ending.ensures.runs);
+      runs = subst (λ (x : State ℕ). Runs words w c.args.budget x (with_ending c.run-ending.result after)) c.over-store.ensures.state
+          (subst (λ (x : State ℕ). Runs words w c.args.budget (state_in_words c.over-store.result) (with_ending c.run-ending.result x)) same c.run-ending.ensures.runs);
       shaped = subst (IsShaped w) same c.run-ending.ensures.shaped;
       laid = subst (λ (n : Counts). AreLaid w z.ram.now z.heap.now n) (sym c.counts-self.ensures)
           (subst (λ (v : Linked). AreLaid v z.ram.now z.heap.now z.counts) c.run-ending.ensures.world c.run-ending.ensures.well);

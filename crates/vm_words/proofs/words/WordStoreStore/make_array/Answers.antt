@@ -1,6 +1,6 @@
 use Rattle.std.proofs.Common.{◌≡◌, ℕ, ◌+◌, ◌-◌, ◌*◌, ◌<◌, ◌≤◌, ◌∷◌, ◌++◌, [], List, length, drop, take, refl, sym, ap, ◌∙◌, subst, arith, length-drop, length-take}
 use Rattle.std.proofs.lemmas.List.{take_all, length-map}
-use Rattle.vm_store.specs.declared.header.Header.{Header}
+use Rattle.vm_store.specs.declared.header.ObjectHeader.{ObjectHeader}
 use Rattle.vm_store.specs.Kind.{element_width}
 use Rattle.vm_store.specs.Cells.{words}
 use Rattle.vm_store.specs.State.{Object, State}
@@ -52,7 +52,7 @@ returns-clause-state c =
     let room : HasRoom (length hs) s.counts.cells more = room_for z xs hs s.counts.cells refl laid.laid enough more c.requires.room in
     let few : n < 4096 = omega (arith, room.one, length-headers_in s.heap.now n) in
     let ws = c.fill_array.new.cells in
-    let h : Header = record { kind = c.args.kind; start = s.counts.cells; elements = c.args.count } in
+    let h : ObjectHeader = record { kind = c.args.kind; start = s.counts.cells; elements = c.args.count } in
     let news = array_cells words c.args.kind c.args.count in
     let width : size h ≡ length news = sym (length-array words c.args.kind c.args.count) in
     let part : take (length s.heap.now - 12288) xs ≡ xs = take_all (length s.heap.now - 12288) xs (omega (arith, length-drop 12288 s.heap.now)) in
@@ -75,7 +75,7 @@ returns-clause-well c =
     let room : HasRoom (length hs) s.counts.cells more = room_for z xs hs s.counts.cells refl laid.laid enough more c.requires.room in
     let few : n < 4096 = omega (arith, room.one, length-headers_in s.heap.now n) in
     let ws = c.fill_array.new.cells in
-    let h : Header = record { kind = c.args.kind; start = s.counts.cells; elements = c.args.count } in
+    let h : ObjectHeader = record { kind = c.args.kind; start = s.counts.cells; elements = c.args.count } in
     let news = array_cells words c.args.kind c.args.count in
     let width : size h ≡ length news = sym (length-array words c.args.kind c.args.count) in
     let part : take (length s.heap.now - 12288) xs ≡ xs = take_all (length s.heap.now - 12288) xs (omega (arith, length-drop 12288 s.heap.now)) in

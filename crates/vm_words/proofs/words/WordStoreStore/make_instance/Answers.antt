@@ -1,7 +1,7 @@
 use Rattle.std.proofs.Common.{◌≡◌, ℕ, ◌+◌, ◌-◌, ◌<◌, ◌≤◌, ◌∷◌, ◌++◌, [], List, length, drop, take, refl, sym, ap, ◌∙◌, subst, arith, length-drop, length-take}
 use Rattle.std.proofs.lemmas.List.{take_all, length-map}
 use Rattle.jc_base.specs.Dispatch.{cells_of}
-use Rattle.vm_store.specs.declared.header.Header.{Header}
+use Rattle.vm_store.specs.declared.header.ObjectHeader.{ObjectHeader}
 use Rattle.vm_store.specs.declared.kind.ObjectKind.TheVariants.{Instance}
 use Rattle.vm_store.specs.Kind.{cell_kind}
 use Rattle.vm_store.specs.Cells.{words, zero_cell}
@@ -54,7 +54,7 @@ returns-clause-state c =
     let numbered : c.args.class < 4096 = omega (arith, c.requires.class.number, c.class_count-limit.ensures.is, c.class_count-limit.ensures.most) in
     let few : n < 4096 = omega (arith, room.one, length-headers_in s.heap.now n) in
     let ws = c.fill_instance.new.cells in
-    let h : Header = record { kind = Instance c.args.class; start = s.counts.cells; elements = c.class.result.now.cells } in
+    let h : ObjectHeader = record { kind = Instance c.args.class; start = s.counts.cells; elements = c.class.result.now.cells } in
     let news = new_instance_cells words c.args.world.now.classes c.args.class in
     let width : size h ≡ length news = omega (arith, c.class.ensures.cells, length-map (cells_of c.args.world.now.classes c.args.class) (λ ty. zero_cell words (cell_kind ty))) in
     let part : take (length s.heap.now - 12288) xs ≡ xs = take_all (length s.heap.now - 12288) xs (omega (arith, length-drop 12288 s.heap.now)) in
@@ -78,7 +78,7 @@ returns-clause-well c =
     let numbered : c.args.class < 4096 = omega (arith, c.requires.class.number, c.class_count-limit.ensures.is, c.class_count-limit.ensures.most) in
     let few : n < 4096 = omega (arith, room.one, length-headers_in s.heap.now n) in
     let ws = c.fill_instance.new.cells in
-    let h : Header = record { kind = Instance c.args.class; start = s.counts.cells; elements = c.class.result.now.cells } in
+    let h : ObjectHeader = record { kind = Instance c.args.class; start = s.counts.cells; elements = c.class.result.now.cells } in
     let news = new_instance_cells words c.args.world.now.classes c.args.class in
     let width : size h ≡ length news = omega (arith, c.class.ensures.cells, length-map (cells_of c.args.world.now.classes c.args.class) (λ ty. zero_cell words (cell_kind ty))) in
     let part : take (length s.heap.now - 12288) xs ≡ xs = take_all (length s.heap.now - 12288) xs (omega (arith, length-drop 12288 s.heap.now)) in

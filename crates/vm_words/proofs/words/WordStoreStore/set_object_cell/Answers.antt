@@ -1,7 +1,7 @@
 use Rattle.std.proofs.Common.{◌≡◌, ℕ, ◌+◌, ◌-◌, ◌<◌, ◌≤◌, List, length, drop, set, get_or, refl, sym, ap, ◌∙◌, subst, arith, length-drop, length-set}
 use Rattle.vm_store.specs.State.{State}
 use Rattle.vm_store.specs.Layout.{objects_in, Follow}
-use Rattle.vm_store.specs.declared.header.Header.{Header}
+use Rattle.vm_store.specs.declared.header.ObjectHeader.{ObjectHeader}
 use Rattle.vm_words.specs.Words.{words_state, headers_in, header_at}
 use Rattle.vm_words.proofs.WordHeaps.{length-headers_in, header-read, cell-headers, cell-cells}
 use Rattle.vm_store.proofs.Handles.{cell_handle, cell_place, cell_written}
@@ -13,13 +13,13 @@ set_cell-requires-clause-there c =
     let z : State ℕ = words_state s.world.now.methods s.ram.now s.heap.now s.statics.now s.counts in
     let xs = drop 12288 s.heap.now in let hs = headers_in s.heap.now n in
     let enough : s.counts.cells ≤ length xs = omega (arith, laid.heap_length, laid.some_cells, length-drop 12288 s.heap.now) in
-    let d : Header = header_at s.heap.now (c.args.handle - 1) in
+    let d : ObjectHeader = header_at s.heap.now (c.args.handle - 1) in
     let h = cell_handle z xs hs s.counts.cells refl laid.laid enough d c.args.handle c.args.i c.requires.there in
     let lt : c.args.handle - 1 < n = omega (arith, h.within, length-headers_in s.heap.now n) in
     let read : get_or hs (c.args.handle - 1) d ≡ d = header-read s.heap.now n (c.args.handle - 1) d lt in
     let place : (get_or hs (c.args.handle - 1) d).start + c.args.i < s.counts.cells =
     cell_place z xs hs s.counts.cells refl laid.laid enough d c.args.handle c.args.i c.requires.there in
-    let here : d.start + c.args.i < s.counts.cells = subst (λ (x : Header). x.start + c.args.i < s.counts.cells) read place in
+    let here : d.start + c.args.i < s.counts.cells = subst (λ (x : ObjectHeader). x.start + c.args.i < s.counts.cells) read place in
     omega (arith, lt, laid.some_objects, laid.heap_length)
 
 pub set_cell-requires-clause-inside : goal.set_cell-requires-clause-inside
@@ -28,13 +28,13 @@ set_cell-requires-clause-inside c =
     let z : State ℕ = words_state s.world.now.methods s.ram.now s.heap.now s.statics.now s.counts in
     let xs = drop 12288 s.heap.now in let hs = headers_in s.heap.now n in
     let enough : s.counts.cells ≤ length xs = omega (arith, laid.heap_length, laid.some_cells, length-drop 12288 s.heap.now) in
-    let d : Header = header_at s.heap.now (c.args.handle - 1) in
+    let d : ObjectHeader = header_at s.heap.now (c.args.handle - 1) in
     let h = cell_handle z xs hs s.counts.cells refl laid.laid enough d c.args.handle c.args.i c.requires.there in
     let lt : c.args.handle - 1 < n = omega (arith, h.within, length-headers_in s.heap.now n) in
     let read : get_or hs (c.args.handle - 1) d ≡ d = header-read s.heap.now n (c.args.handle - 1) d lt in
     let place : (get_or hs (c.args.handle - 1) d).start + c.args.i < s.counts.cells =
     cell_place z xs hs s.counts.cells refl laid.laid enough d c.args.handle c.args.i c.requires.there in
-    let here : d.start + c.args.i < s.counts.cells = subst (λ (x : Header). x.start + c.args.i < s.counts.cells) read place in
+    let here : d.start + c.args.i < s.counts.cells = subst (λ (x : ObjectHeader). x.start + c.args.i < s.counts.cells) read place in
     omega (arith, here, laid.some_cells, laid.heap_length)
 
 pub returns-clause-state : goal.returns-clause-state
@@ -43,19 +43,19 @@ returns-clause-state c =
     let z : State ℕ = words_state s.world.now.methods s.ram.now s.heap.now s.statics.now s.counts in
     let xs = drop 12288 s.heap.now in let hs = headers_in s.heap.now n in
     let enough : s.counts.cells ≤ length xs = omega (arith, laid.heap_length, laid.some_cells, length-drop 12288 s.heap.now) in
-    let d : Header = header_at s.heap.now (c.args.handle - 1) in
+    let d : ObjectHeader = header_at s.heap.now (c.args.handle - 1) in
     let h = cell_handle z xs hs s.counts.cells refl laid.laid enough d c.args.handle c.args.i c.requires.there in
     let lt : c.args.handle - 1 < n = omega (arith, h.within, length-headers_in s.heap.now n) in
     let read : get_or hs (c.args.handle - 1) d ≡ d = header-read s.heap.now n (c.args.handle - 1) d lt in
     let place : (get_or hs (c.args.handle - 1) d).start + c.args.i < s.counts.cells =
     cell_place z xs hs s.counts.cells refl laid.laid enough d c.args.handle c.args.i c.requires.there in
-    let here : d.start + c.args.i < s.counts.cells = subst (λ (x : Header). x.start + c.args.i < s.counts.cells) read place in
+    let here : d.start + c.args.i < s.counts.cells = subst (λ (x : ObjectHeader). x.start + c.args.i < s.counts.cells) read place in
     let v = c.args.cell in let p = d.start + c.args.i in
-    let put : List ℕ → List Header → State ℕ = λ cs gs. record z { heap = objects_in cs gs } in
+    let put : List ℕ → List ObjectHeader → State ℕ = λ cs gs. record z { heap = objects_in cs gs } in
     ap (λ heap. put (drop 12288 heap) (headers_in heap n)) c.set_cell.ensures
     ∙ (ap (put (drop 12288 (set s.heap.now (12288 + p) v))) (cell-headers s.heap.now n p v laid.some_objects)
     ∙ (ap (λ cs. put cs hs) (cell-cells s.heap.now n p v laid.some_objects)
-    ∙ (ap (λ (x : Header). put (set xs (x.start + c.args.i) v) hs) (sym read)
+    ∙ (ap (λ (x : ObjectHeader). put (set xs (x.start + c.args.i) v) hs) (sym read)
     ∙ sym (cell_written z xs hs s.counts.cells refl laid.laid enough d c.args.handle c.args.i v c.requires.there))))
 
 pub returns-clause-well : goal.returns-clause-well
@@ -64,13 +64,13 @@ returns-clause-well c =
     let z : State ℕ = words_state s.world.now.methods s.ram.now s.heap.now s.statics.now s.counts in
     let xs = drop 12288 s.heap.now in let hs = headers_in s.heap.now n in
     let enough : s.counts.cells ≤ length xs = omega (arith, laid.heap_length, laid.some_cells, length-drop 12288 s.heap.now) in
-    let d : Header = header_at s.heap.now (c.args.handle - 1) in
+    let d : ObjectHeader = header_at s.heap.now (c.args.handle - 1) in
     let h = cell_handle z xs hs s.counts.cells refl laid.laid enough d c.args.handle c.args.i c.requires.there in
     let lt : c.args.handle - 1 < n = omega (arith, h.within, length-headers_in s.heap.now n) in
     let read : get_or hs (c.args.handle - 1) d ≡ d = header-read s.heap.now n (c.args.handle - 1) d lt in
     let place : (get_or hs (c.args.handle - 1) d).start + c.args.i < s.counts.cells =
     cell_place z xs hs s.counts.cells refl laid.laid enough d c.args.handle c.args.i c.requires.there in
-    let here : d.start + c.args.i < s.counts.cells = subst (λ (x : Header). x.start + c.args.i < s.counts.cells) read place in
+    let here : d.start + c.args.i < s.counts.cells = subst (λ (x : ObjectHeader). x.start + c.args.i < s.counts.cells) read place in
     let v = c.args.cell in let p = d.start + c.args.i in
     let same : headers_in c.set_cell.new.heap n ≡ hs = ap (λ heap. headers_in heap n) c.set_cell.ensures ∙ cell-headers s.heap.now n p v laid.some_objects in
     record {
