@@ -80,7 +80,7 @@ pub fn short_number(word: &str) -> Option<u16>
     }
 }
 
-/// The argument that a word writes, where it writes one. Only bytes take memory.
+/// The argument that a word writes, where it writes one. Bytes take memory.
 pub fn argument(alloc: Global, word: &str) -> Result<Option<OwnedArg>, AllocError>
     ensures found { IfOk result (λ o. IfSome o (λ a. IsArgWord word.now (argument_read a))) }
     ensures none { IfOk result (λ o. IfNone o ((a : Argument) → IsArgWord word.now a → ⊥)) }

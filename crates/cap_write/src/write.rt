@@ -20,8 +20,8 @@ use std::alloc::Global;
 /// have more than 65,535 bytes. The parts are a package again: the former one with this code, in which each method is named
 /// by its position in the Descriptor.
 ///
-/// It ends with `PartLong` exactly where the info of the Method component would be above 65,535 bytes. It takes time in
-/// proportion to the parts.
+/// Where there is memory, it ends with `PartLong` exactly where the info of the Method component would be above
+/// 65,535 bytes. It takes time in proportion to the parts.
 pub fn write_package(
     alloc: Global,
     package: &Package<'_, '_>,

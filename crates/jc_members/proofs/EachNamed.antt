@@ -1,5 +1,5 @@
 -- Each entry of the pools names one member, which the pools have; or an entry that names none is told.
-use Rattle.std.proofs.Common.{◌≡◌, ℕ, zero, suc, ◌+◌, ◌⊎◌, Bool, true, false, cond, List, [], ◌∷◌, ◌++◌, Option, Some, None, Result, Ok, Err, refl, sym, ap, subst, ◌∙◌, arith, inl, inr}
+use Rattle.std.proofs.Common.{◌≡◌, ℕ, suc, ◌+◌, ◌⊎◌, Bool, true, false, cond, List, [], ◌∷◌, Option, Some, None, Result, Ok, Err, refl, sym, ap, subst, ◌∙◌, arith, inl, inr}
 use Rattle.std.specs.Prelude.{All, slice_get, is_none}
 use Rattle.std.proofs.lemmas.List.Elements.{All-nil, All-cons, All-append}
 use Rattle.cap_pool.specs.PoolFormat.{Entry}
@@ -7,7 +7,6 @@ use Rattle.cap_package.specs.PackageRecord.{PackageRecord}
 use Rattle.jc_base.specs.declared.record.Member.{Member}
 use Rattle.jc_base.specs.declared.record.StaticRec.{StaticRec}
 use Rattle.jc_base.specs.Class.{ClassTable}
-use Rattle.jc_base.specs.Linked.{list_at}
 use Rattle.jc_base.proofs.Lists.{All-slice_get}
 use Rattle.jc_resolve.specs.declared.fault.LinkFault.{LinkFault}
 use Rattle.jc_resolve.specs.declared.fault.LinkFault.TheVariants.{NoMember}
@@ -18,7 +17,7 @@ use Rattle.jc_resolve.specs.Fault.{link_place}
 use Rattle.first_fault.specs.Order.{comes_before}
 use Rattle.first_fault.specs.Least.{◌>>=◌, lesser, least_from, least_of, refused}
 use Rattle.jc_members.specs.Members.{member_of}
-use Rattle.jc_members.specs.Naming.{NamesMember, NamesOnly, IsPoolEntry, HaveNamedMembers, NamesNone, LacksMember, NamesEach}
+use Rattle.jc_members.specs.Naming.{NamesMember, NamesOnly, IsPoolEntry, HaveNamedMembers, LacksMember, NamesEach}
 use Rattle.jc_members.specs.Pools.{PoolPlace, places_from, places_after, pool_places, member_fault, missing_members, pools, pools_of}
 use Rattle.jc_members.proofs.Faultless.{pools-some}
 use Rattle.jc_members.proofs.NamingLaws.{member-names, names-member, names-only}

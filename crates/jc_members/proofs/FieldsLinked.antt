@@ -28,13 +28,14 @@ use Rattle.jc_base.proofs.Lists.{slice_get-farther}
 use Rattle.jc_base.proofs.Instances.{cells-own, cells-on_chain}
 use Rattle.jc_resolve.specs.Numbering.{NumberedClass, numbered_classes}
 use Rattle.jc_resolve.specs.NamedClasses.{fields_described, named_classes}
+use Rattle.jc_resolve.specs.OwnFields.{fields_in, own_fields, cells_by_kind, cells_of_own, bears_token, own_with_token, cells_over}
 use Rattle.jc_resolve.proofs.ItemKinds.{kind_right}
-use Rattle.jc_members.specs.declared.own_field.OwnField.{OwnField}
+use Rattle.jc_resolve.specs.declared.own_field.OwnField.{OwnField}
 use Rattle.jc_members.specs.Sites.{is_there, only, members_standing}
-use Rattle.jc_members.specs.Fields.{cells_before, fields_in, own_fields, field_sites, HasCellsOf}
+use Rattle.jc_members.specs.Fields.{cells_before, field_sites, HasCellsOf}
 use Rattle.jc_members.specs.Members.{token_of_class, holder_of, field_of, as_of}
-use Rattle.jc_members.proofs.TokenCells.{cells_by, cells_of_own, has, with, cells_over, Stands, only_stands}
-use Rattle.jc_members.proofs.OwnCells.{own_of, typed, of_records}
+use Rattle.jc_members.proofs.TokenCells.{Stands, only_stands}
+use Rattle.jc_resolve.proofs.OwnCells.{own_of, typed, of_records}
 use Rattle.jc_members.proofs.OwnRecords.{has_own}
 use Rattle.jc_members.proofs.NumberedFields.{StandsIn, stands_in}
 
@@ -76,7 +77,7 @@ at_first xs front cells n many whole =
     let same : n ≡ n + 0 = omega arith in
     ap (slice_get cells) same ∙ first_there xs front cells n 0 many whole
 
-cells_there : (k : Kind) (ty : Ty) (front farther cells : List Ty) (n : ℕ) → length front ≡ n → cells ≡ front ++ (cells_by k ty ++ farther) → (slice_get cells n ≡ Some ty) × HasLowHalf k cells n
+cells_there : (k : Kind) (ty : Ty) (front farther cells : List Ty) (n : ℕ) → length front ≡ n → cells ≡ front ++ (cells_by_kind k ty ++ farther) → (slice_get cells n ≡ Some ty) × HasLowHalf k cells n
 cells_there Ref ty front farther cells n many whole = (at_first (ty ∷ farther) front cells n many whole, tt)
 cells_there Byte ty front farther cells n many whole = (at_first (ty ∷ farther) front cells n many whole, tt)
 cells_there Short ty front farther cells n many whole = (at_first (ty ∷ farther) front cells n many whole, tt)
@@ -107,7 +108,7 @@ module _ (ps : List PackageRecord) (object_is packages : ℕ) (t : ClassTable) (
   unfolding own_cells
   own_is h n e = let has = has_own ps object_is t cells h n e in rw has.there has.own
 
-  stands_among : (c h token : ℕ) (n : NumberedClass) (f : OwnField) → slice_get (numbered_classes ps) h ≡ Some n → is_on_chain t h c ≡ true → token < 256 → with (own_of ps (object t) n) token ≡ f ∷ []
+  stands_among : (c h token : ℕ) (n : NumberedClass) (f : OwnField) → slice_get (numbered_classes ps) h ≡ Some n → is_on_chain t h c ≡ true → token < 256 → own_with_token (own_of ps (object t) n) token ≡ f ∷ []
       → Stands (cells_of t c) (cells_above t (parent_of t h) + cells_before (own_of ps (object t) n) token) f
   stands_among c h token n f there on lt one =
       let own = only_stands (own_of ps (object t) n) 256 token f lt one in
@@ -123,17 +124,17 @@ module _ (ps : List PackageRecord) (object_is packages : ℕ) (t : ClassTable) (
             ∙ regrouped up.above own.front (cells_of_own f) own.farther down.0;
       }
 
-  has_token : (token : ℕ) (own : List OwnField) (f : OwnField) → with own token ≡ f ∷ [] → f.token ≡ token
+  has_token : (token : ℕ) (own : List OwnField) (f : OwnField) → own_with_token own token ≡ f ∷ [] → f.token ≡ token
   has_token token own f one =
-      let passes : All (λ (g : OwnField). has token g ≡ true) (f ∷ []) = subst (λ (fs : List OwnField). All (λ (g : OwnField). has token g ≡ true) fs) one (filter_passes (has token) own) in
-      eqb-true f.token token (All-head (λ (g : OwnField). has token g ≡ true) f [] passes)
+      let passes : All (λ (g : OwnField). bears_token token g ≡ true) (f ∷ []) = subst (λ (fs : List OwnField). All (λ (g : OwnField). bears_token token g ≡ true) fs) one (filter_passes (bears_token token) own) in
+      eqb-true f.token token (All-head (λ (g : OwnField). bears_token token g ≡ true) f [] passes)
 
-  kindly : (token : ℕ) (n : NumberedClass) (f : OwnField) → with (own_of ps (object t) n) token ≡ f ∷ [] → IsOfKind f.kind f.ty
+  kindly : (token : ℕ) (n : NumberedClass) (f : OwnField) → own_with_token (own_of ps (object t) n) token ≡ f ∷ [] → IsOfKind f.kind f.ty
   kindly token n f one =
-      let all : All IsKindly (f ∷ []) = subst (λ (fs : List OwnField). All IsKindly fs) one (All-filter (has token) IsKindly (own_of ps (object t) n) (own_kindly ps (object t) n)) in
+      let all : All IsKindly (f ∷ []) = subst (λ (fs : List OwnField). All IsKindly fs) one (All-filter (bears_token token) IsKindly (own_of ps (object t) n) (own_kindly ps (object t) n)) in
       All-head IsKindly f [] all
 
-  field_of_class : (c h token : ℕ) (n : NumberedClass) (f : OwnField) → IsClass t c → slice_get (numbered_classes ps) h ≡ Some n → is_on_chain t h c ≡ true → token < 256 → with (own_of ps (object t) n) token ≡ f ∷ []
+  field_of_class : (c h token : ℕ) (n : NumberedClass) (f : OwnField) → IsClass t c → slice_get (numbered_classes ps) h ≡ Some n → is_on_chain t h c ≡ true → token < 256 → own_with_token (own_of ps (object t) n) token ≡ f ∷ []
       → IsField t c (cells_above t (parent_of t h) + cells_before (own_of ps (object t) n) token) f.kind f.ty
   field_of_class c h token n f is there on lt one =
       let stands = stands_among c h token n f there on lt one in

@@ -7,7 +7,6 @@ pub mod Told
 pub mod Leasts
 pub mod RoleLaws
 pub mod TokenCells
-pub mod OwnCells
 pub mod NumberedFields
 pub mod OwnRecords
 pub mod FieldsLinked
@@ -15,4 +14,3 @@ pub mod MembersLinked
 pub mod Faultless
 pub mod NamingLaws
 pub mod EachNamed
-pub mod OneRecord

@@ -8,14 +8,14 @@ use Rattle.jc_base.specs.declared.record.Member.{Member}
 use Rattle.jc_base.specs.declared.record.Member.TheVariants.{Field}
 use Rattle.jc_base.specs.Class.{ClassTable, parent_of, object}
 use Rattle.jc_base.specs.Linked.{cells_above}
+use Rattle.jc_resolve.specs.OwnFields.{own_with_token}
 use Rattle.jc_resolve.specs.Numbering.{NumberedClass, numbered_class, numbered_classes_of, classes_after, numbered_classes}
-use Rattle.jc_members.specs.declared.own_field.OwnField.{OwnField}
+use Rattle.jc_resolve.specs.declared.own_field.OwnField.{OwnField}
 use Rattle.jc_members.specs.declared.sites.Spot.{Spot}
 use Rattle.jc_members.specs.Sites.{MemberSite, only, members_standing, same_spot}
 use Rattle.jc_members.specs.Members.{token_of_class}
 use Rattle.jc_members.specs.Fields.{cells_before, field_site, class_sites, sites_of_classes, sites_after, field_sites}
-use Rattle.jc_members.proofs.TokenCells.{with}
-use Rattle.jc_members.proofs.OwnCells.{own_of}
+use Rattle.jc_resolve.proofs.OwnCells.{own_of}
 
 module _ (ps : List PackageRecord) (t : ClassTable) where
   abbrev numbered_sites : ℕ → List NumberedClass → List MemberSite
@@ -61,21 +61,21 @@ module _ (ps : List PackageRecord) (t : ClassTable) where
   turned a b = grind (arith, nat_tests)
 
   in_class : (c h token : ℕ) (own fs : List OwnField) (b : Bool) → eqb h c ≡ b
-      → members_standing (map (field_site (cells_above t (parent_of t c)) c own) fs) (token_of_class h token) ≡ cond b (map (field_at c own) (with fs token)) []
+      → members_standing (map (field_site (cells_above t (parent_of t c)) c own) fs) (token_of_class h token) ≡ cond b (map (field_at c own) (own_with_token fs token)) []
   in_class c h token own [] true e = refl
   in_class c h token own [] false e = refl
   in_class c h token own (f ∷ fs) true e = rw (e, turned token f.token) (by (eqb f.token token) (in_class c h token own fs true e))
     where
-      by : (b : Bool) → members_standing (map (field_site (cells_above t (parent_of t c)) c own) fs) (token_of_class h token) ≡ map (field_at c own) (with fs token)
+      by : (b : Bool) → members_standing (map (field_site (cells_above t (parent_of t c)) c own) fs) (token_of_class h token) ≡ map (field_at c own) (own_with_token fs token)
           → cond b (field_at c own f ∷ members_standing (map (field_site (cells_above t (parent_of t c)) c own) fs) (token_of_class h token)) (members_standing (map (field_site (cells_above t (parent_of t c)) c own) fs) (token_of_class h token))
-          ≡ map (field_at c own) (cond b (f ∷ with fs token) (with fs token))
+          ≡ map (field_at c own) (cond b (f ∷ own_with_token fs token) (own_with_token fs token))
       by true others = ap (λ (ms : List Member). field_at c own f ∷ ms) others
       by false others = others
   in_class c h token own (f ∷ fs) false e = rw e (in_class c h token own fs false e)
 
   abbrev members_at : ℕ → ℕ → Option NumberedClass → List Member
   members_at h token None = []
-  members_at h token (Some n) = map (field_at h (own_of ps (object t) n)) (with (own_of ps (object t) n) token)
+  members_at h token (Some n) = map (field_at h (own_of ps (object t) n)) (own_with_token (own_of ps (object t) n) token)
 
   other : (a b : ℕ) → a < b → eqb a b ≡ false
   other a b lt = grind (arith, nat_tests)
@@ -100,8 +100,8 @@ module _ (ps : List PackageRecord) (t : ClassTable) where
       let further : h < c + 1 = omega arith in
       standing_append (token_of_class h token) (class_sites t c (own_of ps (object t) n)) (numbered_sites (c + 1) ns)
       ∙ ap₂ ◌++◌ (in_class c h token (own_of ps (object t) n) (own_of ps (object t) n) true (ap (λ (x : ℕ). eqb h x) (sym here) ∙ same h)) (none_before ns (c + 1) h token further)
-      ∙ append-nil (map (field_at c (own_of ps (object t) n)) (with (own_of ps (object t) n) token))
-      ∙ ap (λ (x : ℕ). map (field_at x (own_of ps (object t) n)) (with (own_of ps (object t) n) token)) (sym here)
+      ∙ append-nil (map (field_at c (own_of ps (object t) n)) (own_with_token (own_of ps (object t) n) token))
+      ∙ ap (λ (x : ℕ). map (field_at x (own_of ps (object t) n)) (own_with_token (own_of ps (object t) n) token)) (sym here)
   located (n ∷ ns) c (suc i) h token e =
       let below : c < h = omega arith in
       let further : h ≡ (c + 1) + i = omega arith in
@@ -113,10 +113,10 @@ module _ (ps : List PackageRecord) (t : ClassTable) where
     pub class : NumberedClass
     pub there : slice_get (numbered_classes ps) h ≡ Some class
     pub field : OwnField
-    pub one : with (own_of ps (object t) class) token ≡ field ∷ []
+    pub one : own_with_token (own_of ps (object t) class) token ≡ field ∷ []
     pub is : field_at h (own_of ps (object t) class) field ≡ m
 
-  one_of : (h token : ℕ) (m : Member) (n : NumberedClass) (fs : List OwnField) → slice_get (numbered_classes ps) h ≡ Some n → with (own_of ps (object t) n) token ≡ fs
+  one_of : (h token : ℕ) (m : Member) (n : NumberedClass) (fs : List OwnField) → slice_get (numbered_classes ps) h ≡ Some n → own_with_token (own_of ps (object t) n) token ≡ fs
       → only (map (field_at h (own_of ps (object t) n)) fs) ≡ Some m → StandsIn h token m
   one_of h token m n [] there e found = absurd cc
   one_of h token m n (f ∷ []) there e found =
@@ -126,7 +126,7 @@ module _ (ps : List PackageRecord) (t : ClassTable) where
 
   found_in : (h token : ℕ) (m : Member) (o : Option NumberedClass) → slice_get (numbered_classes ps) h ≡ o → only (members_at h token o) ≡ Some m → StandsIn h token m
   found_in h token m None there found = absurd cc
-  found_in h token m (Some n) there found = one_of h token m n (with (own_of ps (object t) n) token) there refl found
+  found_in h token m (Some n) there found = one_of h token m n (own_with_token (own_of ps (object t) n) token) there refl found
 
   pub stands_in : (h token : ℕ) (m : Member) → only (members_standing (field_sites ps t) (token_of_class h token)) ≡ Some m → StandsIn h token m
   stands_in h token m found =

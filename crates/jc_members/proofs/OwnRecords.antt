@@ -14,11 +14,12 @@ use Rattle.jc_base.proofs.Lists.{IfSome-is, slice_get-front, slice_get-farther}
 use Rattle.jc_resolve.specs.declared.named.NamedClass.{NamedClass}
 use Rattle.jc_resolve.specs.Numbering.{NumberedClass, numbered_class, numbered_classes_of, classes_after, numbered_classes}
 use Rattle.jc_resolve.specs.Names.{NamesRecord}
+use Rattle.jc_resolve.specs.OwnFields.{cells_over}
 use Rattle.jc_resolve.specs.NamedClasses.{named_class, named_classes}
 use Rattle.jc_members.specs.Fields.{cells_before, FieldsFit, FieldsFitIn, AllFieldsFitAfter, AllFieldsFit, HasCellsOf}
 use Rattle.jc_members.proofs.Counted.{records_counted}
-use Rattle.jc_members.proofs.TokenCells.{cells_over, cells_first}
-use Rattle.jc_members.proofs.OwnCells.{own_of, own_named}
+use Rattle.jc_members.proofs.TokenCells.{cells_first}
+use Rattle.jc_resolve.proofs.OwnCells.{own_of, own_named}
 
 -- the record of a class, and its own cells
 pub record HasOwn (ps : List PackageRecord) (t : ClassTable) (c : ℕ) (n : NumberedClass) : Type 0 where

@@ -1,5 +1,5 @@
 -- The cells of the fields of a class in the order of the fields' tokens.
-use Rattle.std.proofs.Common.{◌≡◌, ℕ, zero, suc, ◌+◌, ◌-◌, ◌<◌, Bool, cond, List, [], ◌∷◌, ◌++◌, length, append_assoc, refl, sym, ap, ap₂, ◌∙◌, arith, nat_lt, filter, flat_map}
+use Rattle.std.proofs.Common.{◌≡◌, ℕ, zero, suc, ◌+◌, ◌-◌, ◌<◌, cond, List, [], ◌∷◌, ◌++◌, length, append_assoc, refl, sym, ap, ap₂, ◌∙◌, arith, nat_lt, flat_map}
 use Rattle.std.specs.Prelude.{◌==◌}
 use Rattle.std.specs.List.{range_with_len}
 use Rattle.std.proofs.lemmas.Bool.Decides.{nat_tests}
@@ -7,35 +7,17 @@ use Rattle.std.proofs.lemmas.List.{append-nil, length-append}
 use Rattle.std.proofs.lemmas.List.Sums.{sum_by-cons}
 use Rattle.std.proofs.lemmas.List.Concat.{flat_map-append}
 use Rattle.jc_base.specs.declared.ty.Ty.{Ty}
-use Rattle.jc_base.specs.declared.ty.Ty.TheVariants.{IntLow}
 use Rattle.jc_base.specs.declared.ty.Kind.{Kind}
 use Rattle.jc_base.specs.declared.ty.Kind.TheVariants.{Ref, Byte, Short, Int}
 use Rattle.jc_base.specs.Cell.{width}
-use Rattle.jc_members.specs.declared.own_field.OwnField.{OwnField}
+use Rattle.jc_resolve.specs.declared.own_field.OwnField.{OwnField}
+use Rattle.jc_resolve.specs.OwnFields.{cells_by_kind, cells_of_own, own_with_token, cells_over}
 use Rattle.jc_members.specs.Fields.{cells_in_all, cells_before}
 use Rattle.jc_members.proofs.Rooms.{taken_before, counted}
 
--- the types of the cells of a field of a kind, by the type of the first
-abbrev pub cells_by : Kind → Ty → List Ty
-cells_by Int ty = ty ∷ IntLow ∷ []
-cells_by _ ty = ty ∷ []
-
-abbrev pub cells_of_own : OwnField → List Ty
-cells_of_own f = cells_by f.kind f.ty
-
-abbrev pub has : ℕ → OwnField → Bool
-has token f = f.token == token
-
-abbrev pub with : List OwnField → ℕ → List OwnField
-with own token = filter (has token) own
-
--- the cells of the fields with n tokens from a on, token by token
-abbrev pub cells_over : List OwnField → ℕ → ℕ → List Ty
-cells_over own a n = flat_map cells_of_own (flat_map (with own) (range_with_len a n))
-
 -- ---- how many cells there are
 
-kind_cells : (k : Kind) (ty : Ty) → length (cells_by k ty) ≡ width k
+kind_cells : (k : Kind) (ty : Ty) → length (cells_by_kind k ty) ≡ width k
 kind_cells Ref ty = refl
 kind_cells Byte ty = refl
 kind_cells Short ty = refl
@@ -52,12 +34,12 @@ one_more : (w n a : ℕ) → cond (nat_lt n (a + 1)) w 0 ≡ cond (nat_lt n a) w
 one_more w n a = grind (arith, nat_tests)
 
 -- before the next token stand the cells of the fields with this one too
-before_next : (own : List OwnField) (a : ℕ) → cells_before own (a + 1) ≡ cells_before own a + cells_in_all (with own a)
+before_next : (own : List OwnField) (a : ℕ) → cells_before own (a + 1) ≡ cells_before own a + cells_in_all (own_with_token own a)
 before_next [] a = refl
 before_next (f ∷ own) a =
     let next = taken_before f own (a + 1) in
     let now = taken_before f own a in
-    let here = counted (f.token == a) f (with own a) in
+    let here = counted (f.token == a) f (own_with_token own a) in
     let more = one_more (width f.kind) f.token a in
     let others = before_next own a in
     omega (arith, next, now, here, more, others)
@@ -76,10 +58,10 @@ none_before (f ∷ own) =
 pub cells_many : (own : List OwnField) (n a : ℕ) → cells_before own a + length (cells_over own a n) ≡ cells_before own (a + n)
 cells_many own zero a = let e : a ≡ a + 0 = omega arith in rw (← e) (omega arith)
 cells_many own (suc n) a =
-    let split : length (cells_over own a (suc n)) ≡ cells_in_all (with own a) + length (cells_over own (a + 1) n) =
-    ap length (flat_map-append cells_of_own (with own a) (flat_map (with own) (range_with_len (a + 1) n)))
-    ∙ length-append (flat_map cells_of_own (with own a)) (cells_over own (a + 1) n)
-    ∙ ap (λ k. k + length (cells_over own (a + 1) n)) (taken (with own a)) in
+    let split : length (cells_over own a (suc n)) ≡ cells_in_all (own_with_token own a) + length (cells_over own (a + 1) n) =
+    ap length (flat_map-append cells_of_own (own_with_token own a) (flat_map (own_with_token own) (range_with_len (a + 1) n)))
+    ∙ length-append (flat_map cells_of_own (own_with_token own a)) (cells_over own (a + 1) n)
+    ∙ ap (λ k. k + length (cells_over own (a + 1) n)) (taken (own_with_token own a)) in
     let same : a + suc n ≡ (a + 1) + n = omega arith in
     let others = cells_many own n (a + 1) in
     rw same (omega (arith, split, others, before_next own a))
@@ -93,12 +75,8 @@ cells_first own n =
 
 -- ---- where they stand
 
-pub none_over : (n a : ℕ) → cells_over [] a n ≡ []
-none_over zero a = refl
-none_over (suc n) a = none_over n (a + 1)
-
-cells_step : (own : List OwnField) (a n : ℕ) → cells_over own a (suc n) ≡ flat_map cells_of_own (with own a) ++ cells_over own (a + 1) n
-cells_step own a n = flat_map-append cells_of_own (with own a) (flat_map (with own) (range_with_len (a + 1) n))
+cells_step : (own : List OwnField) (a n : ℕ) → cells_over own a (suc n) ≡ flat_map cells_of_own (own_with_token own a) ++ cells_over own (a + 1) n
+cells_step own a n = flat_map-append cells_of_own (own_with_token own a) (flat_map (own_with_token own) (range_with_len (a + 1) n))
 
 cells_split : (own : List OwnField) (m a n k : ℕ) → k ≡ m + n → cells_over own a k ≡ cells_over own a m ++ cells_over own (a + m) n
 cells_split own zero a n k e =
@@ -110,8 +88,8 @@ cells_split own (suc m) a n (suc k) e =
     let less : k ≡ m + n = omega arith in
     let from : (a + 1) + m ≡ a + suc m = omega arith in
     cells_step own a k
-    ∙ ap (λ (xs : List Ty). flat_map cells_of_own (with own a) ++ xs) (cells_split own m (a + 1) n k less)
-    ∙ sym (append_assoc (flat_map cells_of_own (with own a)) (cells_over own (a + 1) m) (cells_over own ((a + 1) + m) n))
+    ∙ ap (λ (xs : List Ty). flat_map cells_of_own (own_with_token own a) ++ xs) (cells_split own m (a + 1) n k less)
+    ∙ sym (append_assoc (flat_map cells_of_own (own_with_token own a)) (cells_over own (a + 1) m) (cells_over own ((a + 1) + m) n))
     ∙ ap₂ (λ (xs : List Ty) (i : ℕ). xs ++ cells_over own i n) (sym (cells_step own a m)) from
 
 -- the cells of a field stand in a list from a place on
@@ -121,11 +99,11 @@ pub record Stands (cells : List Ty) (at : ℕ) (f : OwnField) : Type 0 where
   pub many : length front ≡ at
   pub whole : cells ≡ front ++ (cells_of_own f ++ farther)
 
-alone : (own : List OwnField) (token : ℕ) (f : OwnField) → with own token ≡ f ∷ [] → flat_map cells_of_own (with own token) ≡ cells_of_own f
+alone : (own : List OwnField) (token : ℕ) (f : OwnField) → own_with_token own token ≡ f ∷ [] → flat_map cells_of_own (own_with_token own token) ≡ cells_of_own f
 alone own token f one = ap (λ (fs : List OwnField). flat_map cells_of_own fs) one ∙ append-nil (cells_of_own f)
 
 -- the cells of the only field with a token stand after those of the fields of lesser tokens
-pub only_stands : (own : List OwnField) (n token : ℕ) (f : OwnField) → token < n → with own token ≡ f ∷ [] → Stands (cells_over own 0 n) (cells_before own token) f
+pub only_stands : (own : List OwnField) (n token : ℕ) (f : OwnField) → token < n → own_with_token own token ≡ f ∷ [] → Stands (cells_over own 0 n) (cells_before own token) f
 only_stands own n token f lt one =
     let rest : n ≡ token + suc (n - (token + 1)) = omega arith in
     let from : 0 + token ≡ token = omega arith in

@@ -1,10 +1,6 @@
--- The instance fields of classes as packages describe them (JCVM 2.2, sections 6.8 and 6.13.2).
-use Rattle.std.specs.Prelude.{◌≡◌, ℕ, ◌+◌, ◌≤◌, List, [], ◌∷◌, ◌++◌, length, map, Option, None, option_map, filter, filter_map, flat_map, sum_by, nat_lt, if◌then◌else◌}
-use Rattle.cap_class.specs.ClassFormat.{Class, is_interface}
-use Rattle.cap_desc.specs.declared.type_item.TypeItem.{TypeItem}
-use Rattle.cap_desc.specs.DescriptorFormat as described
-use Rattle.cap_package.specs.Descriptions.{Description, field_type}
-use Rattle.cap_package.specs.HeaderChecks.{is_static}
+-- Where the instance fields of classes stand (JCVM 2.2, sections 6.8 and 6.13.2).
+use Rattle.std.specs.Prelude.{◌≡◌, ℕ, ◌+◌, ◌≤◌, List, [], ◌∷◌, ◌++◌, length, map, filter, sum_by, nat_lt}
+use Rattle.cap_class.specs.ClassFormat.{Class}
 use Rattle.cap_package.specs.PackageRecord.{PackageRecord}
 use Rattle.jc_base.specs.declared.record.Member.TheVariants.{Field}
 use Rattle.jc_base.specs.declared.record.ClassRec.{ClassRec}
@@ -12,28 +8,11 @@ use Rattle.jc_base.specs.Cell.{width}
 use Rattle.jc_base.specs.Class.{ClassTable, parent_of, object}
 use Rattle.jc_base.specs.Linked.{cells_above}
 use Rattle.jc_resolve.specs.declared.named.NamedClass.{NamedClass}
-use Rattle.jc_resolve.specs.NamedClasses.{describes, token_of}
-use Rattle.jc_resolve.specs.WorldTypes.{type_of, kind_of}
-use Rattle.jc_members.specs.declared.own_field.OwnField.{OwnField}
+use Rattle.jc_resolve.specs.declared.own_field.OwnField.{OwnField}
+use Rattle.jc_resolve.specs.OwnFields.{own_fields}
 use Rattle.jc_members.specs.Sites.{MemberSite}
 
--- ---- the fields of a class
-
--- an instance field, by its description in the package k; `object` is the number of class object
-abbrev pub field_with : List PackageRecord → ℕ → ℕ → described.FieldDescriptor → TypeItem → OwnField
-field_with ps object k f ty = record { token = token_of f; kind = kind_of ty; ty = type_of ps object k ty }
-
-unfoldable pub own_field : List PackageRecord → ℕ → ℕ → Description → described.FieldDescriptor → Option OwnField
-own_field ps object k d f = if is_static f.flags then None else option_map (field_with ps object k f) (field_type d f.ty)
-
--- those that a record of the Descriptor has of the class at an offset
-abbrev pub fields_in : List PackageRecord → ℕ → ℕ → Description → ℕ → described.ClassDescriptor → List OwnField
-fields_in ps object k d offset c = if describes offset c then filter_map (own_field ps object k d) c.fields else []
-
--- the fields of a class of its own; an interface has none
-unfoldable pub own_fields : List PackageRecord → ℕ → ℕ → PackageRecord → Class → List OwnField
-own_fields ps object k p c = if is_interface c.flags then []
-    else flat_map (fields_in ps object k p.description c.offset) p.description.items.classes
+-- ---- the cells of the fields of a class
 
 abbrev pub cells_in_all : List OwnField → ℕ
 cells_in_all = sum_by (λ (f : OwnField). width f.kind)

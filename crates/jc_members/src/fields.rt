@@ -1,20 +1,19 @@
-ghost use Rattle.std.specs.Prelude.{◌≡◌, ◌+◌, ◌≤◌, ◌<◌, [], IfOk, IfSome, OnOk, length, slice_index};
+ghost use Rattle.std.specs.Prelude.{◌≡◌, ◌+◌, ◌≤◌, ◌<◌, [], IfOk, IfSome, OnOk, length, slice_get, slice_index, Some};
 ghost use Rattle.cap_class.specs.ClassPart.{classes_left};
 ghost use Rattle.jc_base.specs.Class.{IsClass, object, parent_of};
 ghost use Rattle.jc_base.specs.Linked.{cells_above};
 ghost use Rattle.jc_resolve.specs.Counts.{class_total};
 ghost use Rattle.jc_resolve.specs.Numbering.{numbered_classes};
-ghost use Rattle.jc_members.specs.Fields.{FieldsFit, FieldsFitIn, AllFieldsFit, class_sites, sites_of_classes, field_sites};
+ghost use Rattle.jc_members.specs.Fields.{FieldsFit, FieldsFitIn, AllFieldsFit, cells_before, class_sites, sites_of_classes, field_sites};
 ghost use Rattle.jc_members.specs.Sites.{all_entered};
 ghost use Rattle.jc_members.specs.Members.{as_of, kept_holder, kept_field, field_member};
 
 use crate::entries::proper_referred;
-use crate::own_field::{OwnField, cells_before, own_fields};
 use crate::sites::{Sites, Spot};
 use cap_bytes::ClassReference;
 use cap_package::Package;
 use jc_base::{Classes, Member};
-use jc_resolve::{DescribedClasses, Names};
+use jc_resolve::{Names, OwnField, width};
 use std::alloc::{AllocError, Global};
 
 /// How many cells the superclass of a class has.
@@ -31,19 +30,35 @@ fn cells_above(classes: &Classes, class: u16) -> u32
     }
 }
 
+/// The cells of the fields of lesser tokens.
+#[tactic(auto, using(crate::proofs::Rooms::taken_before, crate::proofs::Rooms::before_most))]
+fn cells_before(fields: &[OwnField], token: u8) -> u32
+    requires { cells_before fields.now 256 ≤ 32767 }
+    ensures is { result ≡ cells_before fields.now token }
+    ensures most { result ≤ cells_before fields.now 256 }
+{
+    let mut cells: u32 = 0;
+    'fields: for field in fields {
+        if field.token < token {
+            cells += width(field.kind);
+        }
+    }
+    cells
+}
+
 /// Keeps the fields that a class has of its own.
 fn enter_class(
     sites: &mut Sites,
     classes: &Classes,
     class: u16,
-    own: &Vec<OwnField>,
+    own: &[OwnField],
 ) -> Result<(), AllocError>
     requires known { class < length classes.now.records }
-    requires room { FieldsFit classes.now class own.now.items }
-    ensures { OnOk result (sites.new ≡ all_entered sites.old (class_sites classes.now class own.now.items)) }
+    requires room { FieldsFit classes.now class own.now }
+    ensures { OnOk result (sites.new ≡ all_entered sites.old (class_sites classes.now class own.now)) }
 {
     let above = cells_above(classes, class);
-    'fields: for field in own.as_slice() {
+    'fields: for field in own {
         let spot = Spot {
             owner: class,
             number: field.token as u16,
@@ -60,9 +75,8 @@ fn enter_class(
 }
 
 /// Keeps the fields of the classes of a package, the first of which has a number.
-#[tactic(auto, using(crate::proofs::Rooms::entered_both))]
+#[tactic(auto, using(crate::proofs::Rooms::entered_both, jc_resolve::proofs::TypedFields::own_fields_known))]
 fn enter_package(
-    alloc: Global,
     sites: &mut Sites,
     names: &Names<'_, '_, '_>,
     classes: &Classes,
@@ -72,6 +86,7 @@ fn enter_package(
 ) -> Result<(), AllocError>
     requires object { object classes.now ≡ slice_index names.now.roles 0 }
     requires few { length classes.now.records ≤ 4096 }
+    requires at { slice_get names.now.packages number ≡ Some «package».now }
     requires known { first + length «package».now.classes ≤ length classes.now.records }
     requires room { FieldsFitIn names.now.packages classes.now number «package».now first «package».now.classes }
     ensures { OnOk result
@@ -80,11 +95,11 @@ fn enter_package(
         (sites_of_classes names.now.packages classes.now number «package».now first
         «package».now.classes)) }
 {
-    let described = DescribedClasses::of(alloc, package)?;
+    // Its parts stand for it, so each class is described once.
+    let _parts = package.parts();
     let mut c = first;
     'classes: for class in package.classes().iter() {
-        let own = own_fields(alloc, names, number, package, &described, class)?;
-        enter_class(sites, classes, c, &own)?;
+        enter_class(sites, classes, c, names.own_fields(number, class))?;
         c += 1;
     }
     Ok(())
@@ -107,7 +122,7 @@ pub(crate) fn field_sites(
     let mut sites = Sites::new(alloc);
     let mut first: u16 = 0;
     'packages: for (k, package) in names.packages().iter().enumerate() {
-        enter_package(alloc, &mut sites, names, classes, k as u16, package, first)?;
+        enter_package(&mut sites, names, classes, k as u16, package, first)?;
         first += package.classes().count();
     }
     Ok(sites)

@@ -7,7 +7,6 @@
 mod catches;
 mod entries;
 mod fields;
-mod own_field;
 mod pools;
 mod roles;
 mod sites;

@@ -22,7 +22,8 @@ use Rattle.jc_base.specs.declared.record.StaticRec.{StaticRec}
 use Rattle.jc_base.specs.Class.{ClassTable, object}
 use Rattle.jc_decode.specs.declared.symbols.Laid.{Laid}
 use Rattle.jc_members.specs.Entries.{place_in, exported_field, exported_method, exported_place, field_place, method_place}
-use Rattle.jc_members.specs.Fields.{field_with, own_field, fields_in, own_fields, class_sites, sites_of_classes, sites_after, field_sites}
+use Rattle.jc_resolve.specs.OwnFields.{field_with, own_field, fields_in, own_fields}
+use Rattle.jc_members.specs.Fields.{class_sites, sites_of_classes, sites_after, field_sites}
 use Rattle.jc_members.specs.Members.{class_member, proper_by, proper_referred, virtual_by, virtual_member, super_of, super_member, static_at, static_member, call_member, field_of, field_member, member_referred, member_of}
 use Rattle.jc_resolve.specs.declared.place.RecordPlace.{RecordPlace}
 use Rattle.jc_resolve.specs.NamedClasses.{describes, token_of}

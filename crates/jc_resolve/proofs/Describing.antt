@@ -1,5 +1,5 @@
 -- Each class of a package is described by one record of its Descriptor, which is found by the offset of the class.
-use Rattle.std.proofs.Common.{◌≡◌, ℕ, ◌+◌, ◌<◌, ◌≤◌, Bool, true, false, cond, eqb, List, [], ◌∷◌, ◌++◌, append_assoc, append-nil, length, length-append, map, filter, flat_map, Some, None, find, option_and_then, refl, sym, ap, subst, ◌∙◌, arith}
+use Rattle.std.proofs.Common.{◌≡◌, ℕ, ◌+◌, ◌<◌, ◌≤◌, Bool, true, false, cond, eqb, List, [], ◌∷◌, ◌++◌, append_assoc, append-nil, length, length-append, map, flat_map, Some, None, find, option_and_then, refl, sym, ap, ◌∙◌, arith}
 use Rattle.std.specs.Prelude.{slice_get, count_by, ◌&&◌}
 use Rattle.std.specs.List.{position_from, filter_map}
 use Rattle.std.proofs.lemmas.Bool.{eqb-true, eqb-false, eq-eqb, ne_eqb, lt-ltb, le-ltb}
@@ -8,18 +8,17 @@ use Rattle.std.proofs.lemmas.List.Sums.{sum_by-cons}
 use Rattle.first_fault.proofs.LeastFaults.{faultless_first}
 use Rattle.cap_class.specs.ClassFormat.{Class}
 use Rattle.cap_desc.specs.DescriptorFormat as described
-use Rattle.cap_desc.specs.DescriptorFormat.{FieldDescriptor}
 use Rattle.cap_pool.specs.ExportFormat.{Exported}
 use Rattle.cap_package.specs.Agreement.{or_none}
 use Rattle.cap_package.specs.NameChecks.{undescribed_fault, undescribed_class_fault, not_own_fault}
 use Rattle.cap_components.specs.declared.fault.PackFault.{PackFault}
 use Rattle.cap_package.specs.PackageRecord.{PackageRecord}
 use Rattle.cap_package.proofs.StaticsKnown.{both_empty}
-use Rattle.jc_resolve.specs.Described.{describes_at, IsDescribedOnce, AreDescribedOnce, place_at, spot_of_record, AreFound}
+use Rattle.jc_resolve.specs.Described.{describes_at, IsDescribedOnce, AreDescribedOnce, place_at, spot_of_record}
 use Rattle.jc_resolve.specs.Named.{IsAgreed}
-use Rattle.jc_resolve.specs.NamedClasses.{describes, is_instance_field, fields_described, instance_fields}
+use Rattle.jc_resolve.specs.NamedClasses.{describes}
 use Rattle.jc_resolve.specs.Numbering.{is_at}
-use Rattle.jc_resolve.specs.Numbers.{Numbered, number_by_place}
+use Rattle.jc_resolve.specs.Numbers.{none_numbered, number_by_place, with_all}
 use Rattle.jc_resolve.proofs.NumberLaws.{numbered-first}
 
 -- ---- the one thing of a list that passes a test
@@ -79,24 +78,6 @@ module _ {Y : Type 0} (f : described.ClassDescriptor → List Y) (ds : List desc
   pub given-outside : 0x8000 ≤ offset → given ≡ []
   given-outside le = ap (λ b. flat_map (λ (d : described.ClassDescriptor). cond (b && eqb d.class_ref offset) (f d) []) ds) (le-ltb offset 0x8000 le) ∙ all-none ds
 
--- its instance fields
-abbrev fields_given : described.ClassDescriptor → List FieldDescriptor
-fields_given d = filter is_instance_field d.fields
-
-pub fields-there : (ds : List described.ClassDescriptor) (offset : ℕ) (d : described.ClassDescriptor) → offset < 0x8000 → count_by (describes_at offset) ds ≡ 1 → find (describes_at offset) ds ≡ Some d → instance_fields ds offset ≡ filter is_instance_field d.fields
-unfolding instance_fields fields_described
-fields-there ds offset = given-there fields_given ds offset
-
-pub fields-none : (ds : List described.ClassDescriptor) (offset : ℕ) → offset < 0x8000 → find (describes_at offset) ds ≡ None → instance_fields ds offset ≡ []
-unfolding instance_fields fields_described
-fields-none ds offset = given-none fields_given ds offset
-
-pub fields-outside : (ds : List described.ClassDescriptor) (offset : ℕ) → 0x8000 ≤ offset → instance_fields ds offset ≡ []
-unfolding instance_fields fields_described
-fields-outside ds offset = given-outside fields_given ds offset
-
-pub ruleset describing = (fields-there, fields-none, fields-outside)
-
 -- ---- the record that is found
 
 turned : (a b : ℕ) (c : Bool) → eqb a b ≡ c → eqb b a ≡ c
@@ -125,10 +106,9 @@ module _ (offset : ℕ) where
           ∙ ap (λ n. option_and_then (slice_get ((before ++ d ∷ []) ++ ds)) (position_from (is_at (place_at offset)) n (map spot_of_record ds))) next
           ∙ later)
 
-pub record-found : (ds : List described.ClassDescriptor) (t : Numbered) (offset : ℕ) → AreFound ds t → option_and_then (slice_get ds) (number_by_place t.entries (place_at offset)) ≡ find (describes_at offset) ds
-record-found ds t offset h =
-    ap (λ (x : Numbered). option_and_then (slice_get ds) (number_by_place x.entries (place_at offset))) h.numbers
-    ∙ ap (option_and_then (slice_get ds)) (numbered-first (map spot_of_record ds) (place_at offset) ∙ position_from-zero (is_at (place_at offset)) (map spot_of_record ds))
+pub record-found : (ds : List described.ClassDescriptor) (offset : ℕ) → option_and_then (slice_get ds) (number_by_place (with_all none_numbered (map spot_of_record ds)).entries (place_at offset)) ≡ find (describes_at offset) ds
+record-found ds offset =
+    ap (option_and_then (slice_get ds)) (numbered-first (map spot_of_record ds) (place_at offset) ∙ position_from-zero (is_at (place_at offset)) (map spot_of_record ds))
     ∙ search_on offset [] ds
 
 -- ---- each class is described once
@@ -148,15 +128,11 @@ module _ (ds : List described.ClassDescriptor) where
       let both = faultless_first (undescribed_fault ds c) (filter_map (undescribed_fault ds) cs) e in
       (once c both.0, each_once cs both.1)
 
-pub described-once : (p : PackageRecord) → IsAgreed p → AreDescribedOnce p.description.items.classes p.classes
-described-once p agreed =
+pub described_once : (p : PackageRecord) → IsAgreed p → AreDescribedOnce p.description.items.classes p.classes
+described_once p agreed =
     let ds = p.description.items.classes in
     let undescribed = filter_map (undescribed_fault ds) p.classes in
     let unnamed = filter_map (not_own_fault p.classes) (map (λ (d : described.ClassDescriptor). d.class_ref) ds) in
     let unknown = filter_map (undescribed_class_fault p.classes) (map (λ (c : Exported). c.class_offset) (or_none p.export)) in
     let all = both_empty (undescribed ++ unnamed) unknown agreed.agree.1.1.1.1.1.1.1.1.1.1.1.1.1.1.1.1.1.0 in
     each_once ds p.classes (both_empty undescribed unnamed all.0).0
-
--- and so by a list of its records
-pub once_among : (p : PackageRecord) (ds : List described.ClassDescriptor) → IsAgreed p → ds ≡ p.description.items.classes → AreDescribedOnce ds p.classes
-once_among p ds agreed e = subst (λ (xs : List described.ClassDescriptor). AreDescribedOnce xs p.classes) (sym e) (described-once p agreed)

@@ -1,12 +1,10 @@
 -- How many cells the instance fields of a class have.
-use Rattle.std.proofs.Common.{◌≡◌, ℕ, zero, suc, ◌+◌, ◌*◌, ◌≤◌, ◌<◌, Bool, true, false, cond, eqb, List, [], ◌∷◌, length, length-append, map, Option, Some, None, refl, ap, arith, inl, inr}
+use Rattle.std.proofs.Common.{◌≡◌, ℕ, zero, suc, ◌+◌, ◌*◌, ◌≤◌, ◌<◌, Bool, true, false, cond, eqb, List, [], ◌∷◌, length, length-append, Option, Some, None, refl, ap, arith, inl, inr}
 use Rattle.std.specs.Prelude.{filter, flat_map}
 use Rattle.std.specs.List.{range_with_len}
 use Rattle.std.proofs.lemmas.Bool.{cases_eq, ne_eqb}
 use Rattle.jc_base.specs.declared.ty.Ty.{Ty}
 use Rattle.cap_desc.specs.declared.desc_part.DescPart.{DescPart}
-use Rattle.cap_desc.specs.declared.records.FieldInfo.{FieldInfo}
-use Rattle.cap_desc.specs.MemberRecords.{field_seen}
 use Rattle.cap_desc.specs.declared.type_item.TypeItem.{TypeItem}
 use Rattle.cap_desc.specs.ClassRecords.{described_left}
 use Rattle.cap_desc.specs.DescriptorFormat.{ClassDescriptor, FieldDescriptor}
@@ -101,7 +99,9 @@ instance_few (c ∷ classes) offset =
     omega (arith, length-append (fields_described offset c) (instance_fields classes offset), length-append c.fields (fields_of classes), described_few offset c, instance_few classes offset)
 
 -- the cells of a class's fields are no more than a Descriptor can tell
-pub own_sized : (ps : List PackageRecord) (object k : ℕ) (x : DescPart) (offset : ℕ) (fields : List FieldInfo) (cells : List Ty) → map field_seen fields ≡ instance_fields (description x).items.classes offset
-    → cells ≡ cells_of_fields ps object k (description x) (map field_seen fields) → length cells ≤ 131070
-own_sized ps object k x offset fields cells e f =
-    omega (arith, ap length f, own_few ps object k (description x) (map field_seen fields), ap length e, instance_few (described_left x.classes) offset, fields_of-few x.classes)
+pub own_sized : (ps : List PackageRecord) (object k : ℕ) (d : Description) (x : DescPart) (offset : ℕ) (cells : List Ty) → description x ≡ d
+    → cells ≡ cells_of_fields ps object k d (instance_fields d.items.classes offset) → length cells ≤ 131070
+own_sized ps object k d x offset cells e f =
+    let fields = instance_fields d.items.classes offset in
+    let few : length fields ≤ length (fields_of (described_left x.classes)) = omega (arith, instance_few d.items.classes offset, ap (λ (y : Description). length (fields_of y.items.classes)) e) in
+    omega (arith, ap length f, own_few ps object k d fields, few, fields_of-few x.classes)

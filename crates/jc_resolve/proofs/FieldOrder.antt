@@ -5,16 +5,16 @@ use Rattle.std.specs.List.{range_with_len}
 use Rattle.std.proofs.lemmas.Bool.{eqb-true}
 use Rattle.std.proofs.lemmas.List.{append-nil}
 use Rattle.std.proofs.Math.Nat.{le-max_left, le-max_right}
-use Rattle.cap_desc.specs.DescriptorFormat.{FieldDescriptor}
+use Rattle.jc_resolve.specs.declared.own_field.OwnField.{OwnField}
 use Rattle.jc_resolve.proofs.FieldSteps.{token_step}
-use Rattle.jc_resolve.specs.NamedClasses.{token_of, has_token, with_token, tokens_end}
+use Rattle.jc_resolve.specs.OwnFields.{bears_token, own_with_token, tokens_end}
 
-abbrev end_after : ℕ → List FieldDescriptor → ℕ
-end_after end fields = fold (λ end f. max end (token_of f + 1)) end fields
+abbrev end_after : ℕ → List OwnField → ℕ
+end_after end fields = fold (λ end (f : OwnField). max end (f.token + 1)) end fields
 
-end_grows : (end : ℕ) (fs : List FieldDescriptor) → end ≤ end_after end fs
+end_grows : (end : ℕ) (fs : List OwnField) → end ≤ end_after end fs
 end_grows end [] = omega arith
-end_grows end (f ∷ fs) = omega (arith, end_grows (max end (token_of f + 1)) fs, le-max_left end (token_of f + 1))
+end_grows end (f ∷ fs) = omega (arith, end_grows (max end (f.token + 1)) fs, le-max_left end (f.token + 1))
 
 apart : (a b : ℕ) (same : Bool) → eqb a b ≡ same → a + 1 ≤ b → eqb a b ≡ false
 apart a b false e h = e
@@ -22,20 +22,20 @@ apart a b true e h =
     let same = eqb-true a b e in
     absurd (omega (arith, same, h))
 
-none_left : (end token : ℕ) (fs : List FieldDescriptor) → end_after end fs ≤ token → filter (has_token token) fs ≡ []
+none_left : (end token : ℕ) (fs : List OwnField) → end_after end fs ≤ token → filter (bears_token token) fs ≡ []
 none_left end token [] h = refl
 none_left end token (f ∷ fs) h =
-    let rest : end_after (max end (token_of f + 1)) fs ≤ token = h in
-    let below : token_of f + 1 ≤ token = omega (arith, rest, end_grows (max end (token_of f + 1)) fs, le-max_right end (token_of f + 1)) in
-    rw (apart (token_of f) token (eqb (token_of f) token) refl below) (none_left (max end (token_of f + 1)) token fs h)
+    let rest : end_after (max end (f.token + 1)) fs ≤ token = h in
+    let below : f.token + 1 ≤ token = omega (arith, rest, end_grows (max end (f.token + 1)) fs, le-max_right end (f.token + 1)) in
+    rw (apart (f.token) token (eqb (f.token) token) refl below) (none_left (max end (f.token + 1)) token fs h)
 
-none_after : (fs : List FieldDescriptor) (a n : ℕ) → tokens_end fs ≤ a → flat_map (with_token fs) (range_with_len a n) ≡ []
-unfolding with_token tokens_end
+none_after : (fs : List OwnField) (a n : ℕ) → tokens_end fs ≤ a → flat_map (own_with_token fs) (range_with_len a n) ≡ []
+unfolding tokens_end
 none_after fs a zero h = refl
 none_after fs a (suc n) h = rw (none_left 0 a fs h) (none_after fs (a + 1) n (omega (arith, h)))
 
 -- fields up to their end are all
-pub all_placed : {Y : Type 0} (f : FieldDescriptor → List Y) (fs : List FieldDescriptor) (ys : List Y) (a n : ℕ) → tokens_end fs ≤ a → ys ++ flat_map f (flat_map (with_token fs) (range_with_len a n)) ≡ ys
+pub all_placed : {Y : Type 0} (f : OwnField → List Y) (fs : List OwnField) (ys : List Y) (a n : ℕ) → tokens_end fs ≤ a → ys ++ flat_map f (flat_map (own_with_token fs) (range_with_len a n)) ≡ ys
 all_placed f fs ys a n h = rw (none_after fs a n h) (append-nil ys)
 
 -- what the loop over tokens needs

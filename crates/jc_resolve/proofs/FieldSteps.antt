@@ -1,13 +1,7 @@
--- Instance fields and their cells, field by field.
-use Rattle.std.proofs.Common.{◌≡◌, ℕ, suc, ◌+◌, ◌-◌, ◌<◌, Bool, true, false, List, [], ◌∷◌, ◌++◌, filter, flat_map, ap, sym, refl, ◌∙◌, append_assoc, arith}
+-- The cells of fields, field by field.
+use Rattle.std.proofs.Common.{◌≡◌, ℕ, suc, ◌+◌, ◌-◌, ◌<◌, Bool, true, false, List, ◌∷◌, ◌++◌, filter, flat_map, ap, sym, refl, ◌∙◌, append_assoc, arith}
 use Rattle.std.specs.List.{range_with_len}
 use Rattle.std.proofs.lemmas.Grind.{flat_map-append}
-
-pub field_kept : {X : Type 0} (t : X → Bool) (ys : List X) (x : X) (xs : List X) → t x ≡ true → ys ++ filter t (x ∷ xs) ≡ (ys ++ x ∷ []) ++ filter t xs
-field_kept t ys x xs e = rw e (sym (append_assoc ys (x ∷ []) (filter t xs)))
-
-pub field_passed : {X : Type 0} (t : X → Bool) (ys : List X) (x : X) (xs : List X) → t x ≡ false → ys ++ filter t (x ∷ xs) ≡ ys ++ filter t xs
-field_passed t ys x xs e = rw e refl
 
 pub cells_kept : {X Y : Type 0} (f : X → List Y) (t : X → Bool) (ys : List Y) (x : X) (xs : List X) → t x ≡ true → ys ++ flat_map f (filter t (x ∷ xs)) ≡ (ys ++ f x) ++ flat_map f (filter t xs)
 cells_kept f t ys x xs e = rw e (sym (append_assoc ys (f x) (flat_map f (filter t xs))))

@@ -30,4 +30,6 @@ pub mod ExportLaws
 pub mod ImportLaws
 pub mod FieldOrder
 pub mod Describing
+pub mod TypedFields
+pub mod OwnCells
 pub mod Restored

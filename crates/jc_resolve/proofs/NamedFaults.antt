@@ -1,6 +1,7 @@
 -- The least fault of what packages name, piece by piece.
 use Rattle.std.proofs.Common.{◌≡◌, ℕ, suc, ◌+◌, ◌-◌, ◌<◌, List, [], ◌∷◌, map, flat_map, Option, refl, ap, ◌∙◌, arith}
 use Rattle.std.specs.List.{range_with_len}
+use Rattle.std.proofs.lemmas.Grind.{flat_map-append}
 use Rattle.std.proofs.lemmas.List.Sums.{fold-append}
 use Rattle.cap_class.specs.ClassFormat.{Class, Interface}
 use Rattle.cap_desc.specs.declared.type_item.TypeItem.{TypeItem}
@@ -12,8 +13,8 @@ use Rattle.cap_package.specs.PackageRecord.{PackageRecord}
 use Rattle.jc_resolve.specs.declared.fault.LinkFault.{LinkFault}
 use Rattle.jc_resolve.specs.Fault.{link_place}
 use Rattle.first_fault.specs.Least.{lesser, least_from}
-use Rattle.jc_resolve.specs.Conditions.{named_after, import_tokens, no_package_fault, import_fault, reference_fault, super_references, references_of_class, reference_of_field, references_of_record, reference_of_type, references_of_field_type, references_of_method, references_of_types, references_described}
-use Rattle.jc_resolve.specs.LookedUp.{references_with_methods, references_without_methods, references_besides}
+use Rattle.jc_resolve.specs.Conditions.{named_after, import_tokens, no_package_fault, import_fault, reference_fault, super_references, references_of_class, references_of_classes, reference_of_field, references_of_record, reference_of_type, references_of_field_type, references_of_method, references_of_types, references_described}
+use Rattle.jc_resolve.specs.LookedUp.{references_with_methods, references_of_field_types, references_for_classes, references_without_methods}
 
 pub range_step : (a n : ℕ) → a < n → range_with_len a (n - a) ≡ a ∷ range_with_len (a + 1) (n - (a + 1))
 range_step a n lt = let e : n - a ≡ suc (n - (a + 1)) = omega arith in ap (range_with_len a) e
@@ -60,6 +61,11 @@ module _ (all : List PackageRecord) (k : ℕ) where
   pub least_field_types : (d : Description) (f : FieldDescriptor) (fs : List FieldDescriptor) (before : Option LinkFault) → in_order before (flat_map (references_of_field_type d) (f ∷ fs)) ≡ in_order (in_order before (references_of_field_type d f)) (flat_map (references_of_field_type d) fs)
   least_field_types d f fs before = fold-append _ before (references_of_field_type d f) (flat_map (references_of_field_type d) fs)
 
+  pub least_record_types : (d : Description) (c : described.ClassDescriptor) (cs : List described.ClassDescriptor) (before : Option LinkFault) → in_order before (flat_map (references_of_field_type d) (fields_of (c ∷ cs))) ≡ in_order (in_order before (flat_map (references_of_field_type d) c.fields)) (flat_map (references_of_field_type d) (fields_of cs))
+  least_record_types d c cs before =
+      ap (in_order before) (flat_map-append (references_of_field_type d) c.fields (fields_of cs))
+      ∙ fold-append _ before (flat_map (references_of_field_type d) c.fields) (flat_map (references_of_field_type d) (fields_of cs))
+
   pub least_methods : (d : Description) (m : MethodDescriptor) (ms : List MethodDescriptor) (before : Option LinkFault) → in_order before (flat_map (references_of_method d) (m ∷ ms)) ≡ in_order (in_order before (references_of_method d m)) (flat_map (references_of_method d) ms)
   least_methods d m ms before = fold-append _ before (references_of_method d m) (flat_map (references_of_method d) ms)
 
@@ -70,6 +76,5 @@ module _ (all : List PackageRecord) (k : ℕ) where
       fold-append _ before (flat_map references_of_record p.description.items.classes) (references_of_types p.description)
       ∙ fold-append _ (in_order before (flat_map references_of_record p.description.items.classes)) (flat_map (references_of_field_type p.description) (fields_of p.description.items.classes)) (flat_map (references_of_method p.description) (methods_of p.description.items.classes))
 
-  pub least_besides : (p : PackageRecord) (before : Option LinkFault) → in_order before (references_besides p) ≡
-      in_order (in_order before (flat_map references_without_methods p.description.items.classes)) (flat_map (references_of_field_type p.description) (fields_of p.description.items.classes))
-  least_besides p before = fold-append _ before (flat_map references_without_methods p.description.items.classes) (flat_map (references_of_field_type p.description) (fields_of p.description.items.classes))
+  pub least_for_classes : (p : PackageRecord) (before : Option LinkFault) → in_order before (references_for_classes p) ≡ in_order (in_order before (references_of_field_types p)) (references_of_classes p)
+  least_for_classes p before = fold-append _ before (references_of_field_types p) (references_of_classes p)

@@ -13,7 +13,7 @@ use Rattle.jc_resolve.specs.declared.fault.LinkFault.{LinkFault}
 use Rattle.jc_resolve.specs.declared.fault.LinkFault.TheVariants.{NoClass}
 use Rattle.jc_resolve.specs.Conditions.{named_after, named_in, references_of_record, references_of_field_type, references_of_method, references_of_classes, references_described, class_references, reference_fault, no_class_fault}
 use Rattle.jc_resolve.specs.Fault.{link_place}
-use Rattle.jc_resolve.specs.LookedUp.{references_with_methods, references_for_methods, references_without_methods, references_besides}
+use Rattle.jc_resolve.specs.LookedUp.{references_with_methods, references_for_methods, references_of_field_types, references_for_classes, references_without_methods, references_besides}
 use Rattle.jc_resolve.specs.References.{class_named}
 use Rattle.jc_resolve.proofs.NamedFaults.{least_pairs, least_described}
 
@@ -72,6 +72,10 @@ module _ (fault : ℕ × ℕ → Option LinkFault) (exact : AreExact link_place 
 
 -- ---- the references of a Descriptor, in two passes over its records
 
+-- those that methods do not need
+abbrev references_alone : PackageRecord → List ℕ
+references_alone p = references_besides p ++ references_of_field_types p
+
 -- the methods of several records, record by record
 methods_flat : {Y : Type 0} (f : MethodDescriptor → List Y) (ds : List ClassDescriptor) → flat_map f (methods_of ds) ≡ flat_map (λ (d : ClassDescriptor). flat_map f d.methods) ds
 methods_flat f [] = refl
@@ -106,7 +110,7 @@ module _ (all : List PackageRecord) (k : ℕ) where
   abbrev class_of : ClassDescriptor → List ℕ
   class_of d = d.class_ref ∷ []
 
-  descriptor_in_two : (p : PackageRecord) (before : Option LinkFault) → on before (references_described p) ≡ on (on before (references_for_methods p)) (references_besides p)
+  descriptor_in_two : (p : PackageRecord) (before : Option LinkFault) → on before (references_described p) ≡ on (on before (references_for_methods p)) (references_alone p)
   descriptor_in_two p before =
       let ds = p.description.items.classes in
       let types_of : ClassDescriptor → List ℕ = λ (d : ClassDescriptor). flat_map (references_of_method p.description) d.methods in
@@ -123,18 +127,18 @@ module _ (all : List PackageRecord) (k : ℕ) where
       ∙ ap (λ o. on (on o others) fields) (sym (records_in_two (references_with_methods p.description) class_of types_of (λ d b. refl) ds before))
       ∙ sym (fold-append _ (on before (references_for_methods p)) others fields)
 
-described_in_parts : (all : List PackageRecord) → InParts (no_class_fault all) (no-class-exact all) references_described references_for_methods references_besides
+described_in_parts : (all : List PackageRecord) → InParts (no_class_fault all) (no-class-exact all) references_described references_for_methods references_alone
 described_in_parts all k p before =
     let fault = no_class_fault all in
     least_pairs fault k (references_described p) before
     ∙ descriptor_in_two all k p before
-    ∙ ap (λ o. least_from link_place o (reference_fault all k) (references_besides p)) (sym (least_pairs fault k (references_for_methods p) before))
-    ∙ sym (least_pairs fault k (references_besides p) (least_from link_place before fault (map (λ n. (k, n)) (references_for_methods p))))
+    ∙ ap (λ o. least_from link_place o (reference_fault all k) (references_alone p)) (sym (least_pairs fault k (references_for_methods p) before))
+    ∙ sym (least_pairs fault k (references_alone p) (least_from link_place before fault (map (λ n. (k, n)) (references_for_methods p))))
 
--- the references that methods need, those of the Class components, and the others
+-- the references that methods need, those that the records of fields and classes need, and the others
 pub all_looked : (ps : List PackageRecord) →
     least_from link_place
-    (least_from link_place (least_of link_place (no_class_fault ps) (named_in references_for_methods ps)) (no_class_fault ps) (named_in references_of_classes ps))
+    (least_from link_place (least_of link_place (no_class_fault ps) (named_in references_for_methods ps)) (no_class_fault ps) (named_in references_for_classes ps))
     (no_class_fault ps) (named_in references_besides ps)
     ≡ least_of link_place (no_class_fault ps) (named_in class_references ps)
 unfolding class_references
@@ -142,9 +146,20 @@ all_looked ps =
     let fault = no_class_fault ps in
     let exact = no-class-exact ps in
     let methods = named_in references_for_methods ps in
+    let fields = named_in references_of_field_types ps in
     let classes = named_in references_of_classes ps in
     let besides = named_in references_besides ps in
-    ap (λ o. least_from link_place o fault besides) (least-turned link_place fault exact methods classes None)
-    ∙ sym (in_two_passes fault exact references_described references_for_methods references_besides (described_in_parts ps) 0 ps (least_of link_place fault classes))
+    let turned = least-turned link_place fault exact in
+    let with_methods = least_of link_place fault methods in
+    let with_classes = least_of link_place fault classes in
+    ap (λ o. least_from link_place o fault besides)
+    (in_two_passes fault exact references_for_classes references_of_field_types references_of_classes
+    (appended-in_parts fault exact references_of_field_types references_of_classes) 0 ps with_methods)
+    ∙ ap (λ o. least_from link_place o fault besides) (turned fields classes with_methods)
+    ∙ turned fields besides (least_from link_place with_methods fault classes)
+    ∙ ap (λ o. least_from link_place (least_from link_place o fault besides) fault fields) (turned methods classes None)
+    ∙ sym (in_two_passes fault exact references_alone references_besides references_of_field_types
+    (appended-in_parts fault exact references_besides references_of_field_types) 0 ps (least_from link_place with_classes fault methods))
+    ∙ sym (in_two_passes fault exact references_described references_for_methods references_alone (described_in_parts ps) 0 ps with_classes)
     ∙ sym (in_two_passes fault exact class_references references_of_classes references_described
     (appended-in_parts fault exact references_of_classes references_described) 0 ps None)

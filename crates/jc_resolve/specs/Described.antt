@@ -1,9 +1,8 @@
 -- The records of a Descriptor by the offsets of their classes (JCVM 2.2, sections 6.8 and 6.13).
-use Rattle.std.specs.Prelude.{◌≡◌, ℕ, Bool, List, [], ◌∷◌, Option, Some, map, count_by, ◌==◌}
+use Rattle.std.specs.Prelude.{◌≡◌, ℕ, Bool, List, [], ◌∷◌, Option, Some, count_by, ◌==◌}
 use Rattle.cap_class.specs.ClassFormat.{Class}
 use Rattle.cap_desc.specs.DescriptorFormat as described
 use Rattle.jc_resolve.specs.declared.place.RecordPlace.{RecordPlace}
-use Rattle.jc_resolve.specs.Numbers.{Numbered, none_numbered, with_all}
 
 -- a record describes the class at an offset
 abbrev pub describes_at : ℕ → described.ClassDescriptor → Bool
@@ -25,6 +24,3 @@ place_at offset = record { «package» = 0; offset = offset }
 
 abbrev pub spot_of_record : described.ClassDescriptor → Option RecordPlace
 spot_of_record d = Some (place_at d.class_ref)
-
-pub record AreFound (ds : List described.ClassDescriptor) (t : Numbered) : Type 0 where
-  pub numbers : t ≡ with_all none_numbered (map spot_of_record ds)

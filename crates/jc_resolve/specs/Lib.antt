@@ -5,11 +5,13 @@ pub mod References
 pub mod Imports
 pub mod WorldTypes
 pub mod NamedClasses
+pub mod OwnFields
 pub mod NamedMethods
 pub mod Named
 pub mod Counts
 pub mod Numbers
 pub mod Described
+pub mod TypedFields
 pub mod Conditions
 pub mod LookedUp
 pub mod Names

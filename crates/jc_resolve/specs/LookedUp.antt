@@ -1,10 +1,10 @@
--- Where the class references of a Descriptor are looked up: some where the records of methods are made, the others alone.
+-- Where class references are looked up: where the records of methods, fields and classes are made, and the others alone.
 use Rattle.std.specs.Prelude.{ℕ, List, ◌∷◌, ◌++◌, flat_map}
 use Rattle.cap_desc.specs.DescriptorFormat.{ClassDescriptor}
 use Rattle.cap_desc.specs.Members.{fields_of}
 use Rattle.cap_package.specs.Descriptions.{Description}
 use Rattle.cap_package.specs.PackageRecord.{PackageRecord}
-use Rattle.jc_resolve.specs.Conditions.{reference_of_field, references_of_field_type, references_of_method}
+use Rattle.jc_resolve.specs.Conditions.{reference_of_field, references_of_classes, references_of_field_type, references_of_method}
 
 -- methods need the class of each record, and the types of its methods
 abbrev pub references_with_methods : Description → ClassDescriptor → List ℕ
@@ -13,10 +13,17 @@ references_with_methods d c = c.class_ref ∷ flat_map (references_of_method d) 
 abbrev pub references_for_methods : PackageRecord → List ℕ
 references_for_methods p = flat_map (references_with_methods p.description) p.description.items.classes
 
--- the others are interfaces, and the classes and the types of fields
+-- fields need their types
+abbrev pub references_of_field_types : PackageRecord → List ℕ
+references_of_field_types p = flat_map (references_of_field_type p.description) (fields_of p.description.items.classes)
+
+-- the records of fields and classes are made package by package
+abbrev pub references_for_classes : PackageRecord → List ℕ
+references_for_classes p = references_of_field_types p ++ references_of_classes p
+
+-- the others are interfaces and the classes of fields
 abbrev pub references_without_methods : ClassDescriptor → List ℕ
 references_without_methods c = c.interfaces ++ flat_map reference_of_field c.fields
 
 abbrev pub references_besides : PackageRecord → List ℕ
 references_besides p = flat_map references_without_methods p.description.items.classes
-    ++ flat_map (references_of_field_type p.description) (fields_of p.description.items.classes)

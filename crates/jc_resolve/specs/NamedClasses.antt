@@ -1,5 +1,5 @@
 -- Classes and interfaces with each class and method that their records name by number (JCVM 2.2, section 6.8).
-use Rattle.std.specs.Prelude.{ℕ, ◌+◌, Bool, true, false, not, List, [], map, filter, filter_map, flat_map, fold, max, Option, Some, None, option_map, slice_index, ◌==◌, ◌&&◌, if◌then◌else◌}
+use Rattle.std.specs.Prelude.{ℕ, Bool, true, false, not, List, [], map, filter, filter_map, flat_map, Option, Some, None, option_map, slice_index, ◌==◌, ◌&&◌, if◌then◌else◌}
 use Rattle.std.specs.List.{range_with_len}
 use Rattle.cap_class.specs.ClassFormat.{Class, Interface, is_interface}
 use Rattle.cap_desc.specs.declared.type_item.TypeItem.{TypeItem}
@@ -45,10 +45,6 @@ with_token fields token = filter (has_token token) fields
 -- fields in the order of their tokens; those with one token as they come
 abbrev pub by_token : List FieldDescriptor → List FieldDescriptor
 by_token fields = flat_map (with_token fields) (range_with_len 0 256)
-
--- the token after the greatest of fields
-unfoldable pub tokens_end : List FieldDescriptor → ℕ
-tokens_end fields = fold (λ end f. max end (token_of f + 1)) 0 fields
 
 abbrev pub cells_by : List PackageRecord → ℕ → ℕ → Option TypeItem → List Ty
 cells_by ps object k None = []

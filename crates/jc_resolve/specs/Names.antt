@@ -6,12 +6,14 @@ use Rattle.jc_resolve.specs.declared.fault.LinkFault.{LinkFault}
 use Rattle.jc_resolve.specs.declared.fault.LinkEnd.{LinkEnd}
 use Rattle.jc_resolve.specs.declared.fault.LinkEnd.TheVariants.{Fault, Memory}
 use Rattle.jc_resolve.specs.declared.named.NamedClass.{NamedClass}
+use Rattle.jc_resolve.specs.declared.package_fields.PackageFields.{PackageFields}
 use Rattle.jc_resolve.specs.Fault.{link_place}
 use Rattle.jc_resolve.specs.Named.{IsAgreed}
 use Rattle.first_fault.specs.Least.{◌>>=◌, refused, least_of}
 use Rattle.first_fault.specs.First.{IsFirst, AllEmpty}
 use Rattle.jc_resolve.specs.NamedClasses.{named_classes}
 use Rattle.jc_resolve.specs.NamedMethods.{named_methods}
+use Rattle.jc_resolve.specs.TypedFields.{fields_after}
 use Rattle.jc_resolve.specs.Conditions.{packages_fault, classes_fault, methods_fault, no_package_fault, no_class_fault, named_in, import_tokens, class_references, conditions}
 
 -- packages and the roles of classes, with the classes and methods of all packages by number
@@ -31,6 +33,11 @@ pub record AreNames (n : NamesRecord) : Type 0 where
   pub methods_are : n.methods ≡ named_methods n.packages n.roles
   -- the parts of each package stand for it
   pub agreed : All IsAgreed n.packages
+
+-- names with the fields of their packages
+pub record HaveFields (n : NamesRecord) (fields : List PackageFields) : Type 0 where
+  pub names : AreNames n
+  pub fields_are : fields ≡ fields_after n.packages (slice_index n.roles 0) 0 n.packages
 
 -- the conditions one after the other: those under which classes and methods can be numbered, and then class references
 unfoldable pub indexable : List PackageRecord → Result (Unit {0}) LinkFault

@@ -1,31 +1,31 @@
-ghost use Rattle.std.specs.Prelude.{◌≡◌, ◌≤◌, ◌++◌, length, map, filter, flat_map, count_by, slice_index, All, IfOk, OnOk};
+ghost use Rattle.std.specs.Prelude.{◌≡◌, ◌≤◌, ◌++◌, length, map, flat_map, slice_index, All, IfOk, OnOk};
 ghost use Rattle.cap_bytes.specs.Table.{numbers};
 ghost use Rattle.cap_class.specs.ClassFormat.{Interface};
 ghost use Rattle.cap_class.specs.ClassPart.{class_seen, classes_left};
 ghost use Rattle.cap_class.specs.Lists.{interfaces_left};
-ghost use Rattle.cap_desc.specs.MemberLists.{fields_left};
-ghost use Rattle.cap_desc.specs.MemberRecords.{field_seen};
-ghost use Rattle.cap_package.specs.Descriptions.{description};
 ghost use Rattle.first_fault.specs.Least.{least_from};
 ghost use Rattle.jc_resolve.specs.Conditions.{super_references, references_of_class, references_of_classes, reference_fault, no_class_fault, named_in};
-ghost use Rattle.jc_resolve.specs.Described.{describes_at, IsDescribedOnce};
+ghost use Rattle.jc_resolve.specs.Described.{IsDescribedOnce};
 ghost use Rattle.jc_resolve.specs.Fault.{link_place};
+ghost use Rattle.jc_resolve.specs.LookedUp.{references_for_classes};
 ghost use Rattle.jc_resolve.specs.Named.{IsByteTable, IsSized};
-ghost use Rattle.jc_resolve.specs.NamedClasses.{is_instance_field, instance_fields, with_token, cells_of_field, cells_of_fields, tokens_end, dispatch_entry, dispatch_table, no_table, parent_named, implemented_interfaces, interface_with, named_proper, named_class};
+ghost use Rattle.jc_resolve.specs.NamedClasses.{instance_fields, cells_of_fields, dispatch_entry, dispatch_table, no_table, parent_named, implemented_interfaces, interface_with, named_proper, named_class};
 ghost use Rattle.jc_resolve.specs.Numbering.{numbered_class, numbered_classes, numbered_classes_of};
+ghost use Rattle.jc_resolve.specs.OwnFields.{cells_of_own, own_with_token, cells_over, tokens_end};
+ghost use Rattle.jc_resolve.specs.TypedFields.{fields_resolved, fields_after};
 
 use crate::class_index::Index;
-use crate::described_classes::DescribedClasses;
 use crate::fault::LinkFault;
+use crate::field_records::fields_of_package;
 use crate::home::Home;
 use crate::named::{DispatchTable, NamedClass};
+use crate::own_field::OwnField;
+use crate::package_fields::PackageFields;
 use crate::place::RecordPlace;
 use crate::reference_checks::class_named;
-use crate::world_types::{push_cells, type_of};
 use cap_class::{ClassInfo, Interfaces};
-use cap_desc::{DescFields, DescPart, FieldInfo};
-use cap_package::{Packages, field_type};
-use jc_base::{Iface, Items, Ty};
+use cap_package::Packages;
+use jc_base::{Iface, Items, Kind, Ty};
 use std::alloc::{AllocError, Global};
 
 /// An entry of a dispatch table.
@@ -103,126 +103,77 @@ fn implemented_interfaces(
     Ok(named)
 }
 
-/// The instance fields of a record of the Descriptor, which has so many fields.
-#[tactic(auto, using(crate::proofs::FieldSteps::field_kept, crate::proofs::FieldSteps::field_passed))]
-fn instance_among(
-    alloc: Global,
-    count: u16,
-    described: DescFields<'_>,
-) -> Result<Vec<FieldInfo>, AllocError>
-    ensures { IfOk result (λ v. map field_seen v.items ≡ filter is_instance_field (fields_left described.entry)) }
-{
-    let mut fields = Vec::with_capacity(alloc, count as usize)?;
-    'fields: for field in described {
-        if !field.flags.is_static() {
-            fields.push(field)?;
-        }
-    }
-    Ok(fields)
-}
-
-/// The instance fields that the Descriptor describes of the class at an offset, by the one record that it has of it.
-#[tactic(auto, using(crate::proofs::Describing::describing))]
-fn instance_fields(
-    alloc: Global,
-    described: &DescribedClasses<'_>,
-    offset: u16,
-) -> Result<Vec<FieldInfo>, AllocError>
-    requires { count_by (describes_at offset) described.now ≡ 1 }
-    ensures { IfOk result (λ v. map field_seen v.items ≡ instance_fields described.now offset) }
-{
-    if offset >= 0x8000 {
-        return Ok(Vec::new(alloc));
-    }
-    match described.at(offset) {
-        Some(class) => {
-            let fields = instance_among(alloc, class.field_count(), class.fields())?;
-            Ok(fields)
-        }
-        None => Ok(Vec::new(alloc)),
-    }
-}
-
 /// Appends the types of a field's cells.
-#[tactic(auto, unfolding(crate::specs::NamedClasses::cells_of_field))]
-fn push_field(
-    cells: &mut Vec<Ty>,
-    index: &Index<'_, '_, '_>,
-    object: u16,
-    package: u16,
-    descriptor: &DescPart<'_>,
-    field: &FieldInfo,
-) -> Result<(), AllocError>
-    ensures { OnOk result
-        (cells.new.items
-        ≡ cells.old.items ++ cells_of_field index.now object «package» (description descriptor.now) (field_seen field.now)) }
+fn push_field(cells: &mut Vec<Ty>, field: OwnField) -> Result<(), AllocError>
+    ensures { OnOk result (cells.new.items ≡ cells.old.items ++ cells_of_own field) }
 {
-    match field_type(descriptor, field.ty) {
-        Some(item) => push_cells(cells, item, type_of(index, object, package, item)),
-        None => Ok(()),
+    cells.push(field.ty)?;
+    match field.kind {
+        Kind::Int => cells.push(Ty::IntLow)?,
+        _ => {}
     }
+    Ok(())
 }
 
 /// Appends the types of the cells of the fields with a token.
-#[tactic(auto, unfolding(crate::specs::NamedClasses::with_token), using(crate::proofs::FieldSteps::token_steps))]
-fn push_token(
-    cells: &mut Vec<Ty>,
-    index: &Index<'_, '_, '_>,
-    object: u16,
-    package: u16,
-    descriptor: &DescPart<'_>,
-    fields: &[FieldInfo],
-    token: u16,
-) -> Result<(), AllocError>
+#[tactic(auto, using(crate::proofs::FieldSteps::token_steps))]
+fn push_token(cells: &mut Vec<Ty>, fields: &[OwnField], token: u16) -> Result<(), AllocError>
     ensures { OnOk result
         (cells.new.items
-        ≡ cells.old.items ++ flat_map
-        (cells_of_field index.now object «package» (description descriptor.now))
-        (with_token (map field_seen fields.now) token)) }
+        ≡ cells.old.items ++ flat_map cells_of_own (own_with_token fields.now token)) }
 {
     'fields: for field in fields {
-        if field.bytes[2] as u16 == token {
-            push_field(cells, index, object, package, descriptor, field)?;
+        if field.token as u16 == token {
+            push_field(cells, *field)?;
         }
     }
     Ok(())
 }
 
 /// The token after the greatest of the fields', which are bytes.
-#[tactic(auto, unfolding(crate::specs::NamedClasses::tokens_end))]
-fn tokens_end(fields: &[FieldInfo]) -> u16
-    ensures is { result ≡ tokens_end (map field_seen fields.now) }
+#[tactic(auto, unfolding(crate::specs::OwnFields::tokens_end))]
+fn tokens_end(fields: &[OwnField]) -> u16
+    ensures is { result ≡ tokens_end fields.now }
     ensures few { result ≤ 256 }
 {
     let mut end: u16 = 0;
     'fields: for field in fields {
-        end = end.max(field.bytes[2] as u16 + 1);
+        end = end.max(field.token as u16 + 1);
     }
     end
 }
 
 /// The types of the cells of instance fields, in the order of the fields' tokens.
-#[tactic(auto, unfolding(crate::specs::NamedClasses::cells_of_fields), using(crate::proofs::FieldOrder::placing))]
-fn cells_of_fields(
-    alloc: Global,
-    index: &Index<'_, '_, '_>,
-    object: u16,
-    package: u16,
-    descriptor: &DescPart<'_>,
-    fields: &[FieldInfo],
-) -> Result<Vec<Ty>, AllocError>
-    ensures { IfOk result
-        (λ v.
-        v.items
-        ≡ cells_of_fields index.now object «package» (description descriptor.now)
-        (map field_seen fields.now)) }
+#[tactic(auto, using(crate::proofs::FieldOrder::placing))]
+fn cells_of_fields(alloc: Global, fields: &[OwnField]) -> Result<Vec<Ty>, AllocError>
+    ensures { IfOk result (λ v. v.items ≡ cells_over fields.now 0 256) }
 {
     let mut cells = Vec::with_capacity(alloc, fields.len())?;
     'tokens: for token in 0..tokens_end(fields) {
-        push_token(
-            &mut cells, index, object, package, descriptor, fields, token,
-        )?;
+        push_token(&mut cells, fields, token)?;
     }
+    Ok(cells)
+}
+
+/// The types of the cells of the fields that a class has of its own.
+fn own_cells(
+    alloc: Global,
+    home: Home<'_, '_, '_, '_>,
+    fields: &PackageFields,
+    class: ClassInfo<'_>,
+) -> Result<Vec<Ty>, AllocError>
+    requires fields { fields.now ≡ fields_resolved home.index.now (slice_index home.roles 0) home.number home.of_package.now }
+    requires once { IsDescribedOnce home.of_package.now.description.items.classes (class_seen class) }
+    ensures { IfOk result
+        (λ v.
+        v.items
+        ≡ cells_of_fields home.entry.index.now
+        (slice_index home.entry.roles 0) home.entry.number home.entry.of_package.now.description
+        (instance_fields
+        home.entry.of_package.now.description.items.classes
+        (class_seen class.entry).offset)) }
+{
+    let cells = cells_of_fields(alloc, fields.own_at(class.offset()))?;
     Ok(cells)
 }
 
@@ -251,16 +202,17 @@ fn interface_with(alloc: Global, package: u16, interfaces: Vec<Iface>) -> NamedC
     }
 }
 
-/// A class with each class and method that its record names; its superclass and its interfaces were looked up.
+/// A class with each class and method that its record names; its superclass, its interfaces and the types of its fields were
+/// looked up.
 fn named_proper(
     alloc: Global,
     home: Home<'_, '_, '_, '_>,
-    described: &DescribedClasses<'_>,
+    fields: &PackageFields,
     class: ClassInfo<'_>,
     parent: Option<u16>,
     interfaces: Vec<Iface>,
 ) -> Result<NamedClass, AllocError>
-    requires described { described.now ≡ home.of_package.now.description.items.classes }
+    requires fields { fields.now ≡ fields_resolved home.index.now (slice_index home.roles 0) home.number home.of_package.now }
     requires once { IsDescribedOnce home.of_package.now.description.items.classes (class_seen class) }
     requires parent { parent ≡ parent_named home.index.now home.number (class_seen class).super_ref }
     requires interfaces { interfaces.items ≡ implemented_interfaces home.index.now home.number (class_seen class).interfaces }
@@ -275,8 +227,8 @@ fn named_proper(
 {
     let index = home.index;
     let number = home.number;
-    let object = home.roles[0] as u16;
-    let descriptor = home.of_package.descriptor();
+    // It has no more fields than a component can tell.
+    let _descriptor = home.of_package.descriptor();
     let public = table_of(alloc, index, number, class.public_base(), class.publics())?;
     let visible = table_of(
         alloc,
@@ -285,8 +237,7 @@ fn named_proper(
         class.package_base(),
         class.package_table(),
     )?;
-    let fields = instance_fields(alloc, described, class.offset())?;
-    let own = cells_of_fields(alloc, index, object, number, &descriptor, fields.as_slice())?;
+    let own = own_cells(alloc, home, fields, class)?;
     Ok(NamedClass {
         package: number,
         interface: false,
@@ -303,11 +254,11 @@ fn named_proper(
 fn named_class(
     alloc: Global,
     home: Home<'_, '_, '_, '_>,
-    described: &DescribedClasses<'_>,
+    fields: &PackageFields,
     class: ClassInfo<'_>,
     least: &mut Option<LinkFault>,
 ) -> Result<NamedClass, AllocError>
-    requires described { described.now ≡ home.of_package.now.description.items.classes }
+    requires fields { fields.now ≡ fields_resolved home.index.now (slice_index home.roles 0) home.number home.of_package.now }
     requires once { IsDescribedOnce home.of_package.now.description.items.classes (class_seen class) }
     ensures is { IfOk result
         (λ c.
@@ -330,7 +281,7 @@ fn named_class(
     if class.flags().is_interface() {
         Ok(interface_with(alloc, number, interfaces))
     } else {
-        named_proper(alloc, home, described, class, parent, interfaces)
+        named_proper(alloc, home, fields, class, parent, interfaces)
     }
 }
 
@@ -340,9 +291,11 @@ fn push_classes(
     named: &mut Vec<NamedClass>,
     alloc: Global,
     home: Home<'_, '_, '_, '_>,
+    fields: &PackageFields,
     least: &mut Option<LinkFault>,
 ) -> Result<(), AllocError>
-    requires { All IsSized named.old.items }
+    requires sized { All IsSized named.old.items }
+    requires fields { fields.now ≡ fields_resolved home.index.now (slice_index home.roles 0) home.number home.of_package.now }
     ensures is { OnOk result
         (named.new.items
         ≡ named.old.items ++ map (named_class home.entry.index.now (slice_index home.entry.roles 0))
@@ -354,31 +307,35 @@ fn push_classes(
         (reference_fault home.entry.index.now home.entry.number)
         (references_of_classes home.entry.of_package.now)) }
 {
-    let described = DescribedClasses::of(alloc, home.of_package)?;
+    // Its parts stand for it, so each class is described once.
+    let _parts = home.of_package.parts();
     'classes: for class in home.of_package.classes().iter() {
-        named.push(named_class(alloc, home, &described, class, least)?)?;
+        named.push(named_class(alloc, home, fields, class, least)?)?;
     }
     Ok(())
 }
 
-/// The classes of packages.
-#[tactic(auto, using(crate::proofs::Steps::packages_step, crate::proofs::NamedFaults::least_after))]
+/// The classes of packages, and the fields of each package.
 pub(crate) fn class_records<'x, 'n, 'p, 'a>(
     alloc: Global,
     index: &'x Index<'n, 'p, 'a>,
     packages: &'x Packages<'p, 'a>,
     roles: [u8; 8],
+    fields: &mut Vec<PackageFields>,
     least: &mut Option<LinkFault>,
 ) -> Result<Vec<NamedClass>, AllocError>
     requires { length packages.now ≤ 16 }
     ensures is { IfOk result (λ v. v.items ≡ map (named_class index.now (slice_index roles 0)) (numbered_classes packages.now)) }
     ensures sized { IfOk result (λ v. All IsSized v.items) }
-    // Each reference of the Class component is looked up once.
+    ensures fields { OnOk result
+        (fields.new.items
+        ≡ fields.old.items ++ fields_after index.now (slice_index roles 0) 0 packages.now) }
+    // Each reference of the Class component and each type of a field is looked up once.
     ensures least { OnOk result
         (least.new
         ≡ least_from link_place least.old
         (no_class_fault index.now)
-        (named_in references_of_classes packages.now)) }
+        (named_in references_for_classes packages.now)) }
 {
     let mut named = Vec::new(alloc);
     'packages: for (k, package) in packages.iter().enumerate() {
@@ -388,7 +345,9 @@ pub(crate) fn class_records<'x, 'n, 'p, 'a>(
             number: k as u16,
             of_package: package,
         };
-        push_classes(&mut named, alloc, home, least)?;
+        let of_package = fields_of_package(alloc, home, least)?;
+        push_classes(&mut named, alloc, home, &of_package, least)?;
+        fields.push(of_package)?;
     }
     Ok(named)
 }

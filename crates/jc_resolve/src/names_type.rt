@@ -1,19 +1,22 @@
-ghost use Rattle.std.specs.Prelude.{◌≡◌, ℕ, ◌<◌, ◌≤◌, ◌↔◌, length, slice_index, Some, IfSome, All};
+ghost use Rattle.std.specs.Prelude.{◌≡◌, ℕ, ◌<◌, ◌≤◌, ◌↔◌, length, slice_index, slice_get, Some, IfSome, All};
+ghost use Rattle.cap_class.specs.ClassPart.{class_seen};
+ghost use Rattle.jc_resolve.specs.Described.{IsDescribedOnce};
 ghost use Rattle.jc_resolve.specs.Named.{IsAgreed};
 ghost use Rattle.jc_resolve.specs.NamedClasses.{named_classes};
 ghost use Rattle.jc_resolve.specs.NamedMethods.{named_methods};
 ghost use Rattle.jc_resolve.specs.Numbering.{numbered_classes, numbered_methods, method_at};
 ghost use Rattle.jc_resolve.specs.References.{met_by, class_referred, exported_field, exported_method, Refers};
-ghost use Rattle.jc_resolve.specs.WorldTypes.{type_of};
+ghost use Rattle.jc_resolve.specs.TypedFields.{static_field_types, own_fields_in};
 
 use crate::class_index::Index;
 use crate::named::NamedClasses;
+use crate::own_field::OwnField;
+use crate::package_fields::{PackageFields, own_kept, types_kept};
 use crate::place::RecordPlace;
-use crate::world_types::type_of;
 use cap_bytes::ClassReference;
-use cap_desc::TypeItem;
+use cap_class::ClassInfo;
 use cap_package::Packages;
-use jc_base::{Methods, Ty};
+use jc_base::{Items, Methods, Ty};
 use std::marker::Model;
 
 /// Every class and method of packages by number, with all that their records name resolved.
@@ -21,6 +24,8 @@ use std::marker::Model;
 pub struct Names<'n, 'p, 'a> {
     pub(crate) index: Index<'n, 'p, 'a>,
     pub(crate) roles: [u8; 8],
+    /// By package the fields, each with its type.
+    pub(crate) fields: Items<PackageFields>,
     pub(crate) classes: NamedClasses,
     pub(crate) methods: Methods,
 }
@@ -30,11 +35,12 @@ impl<'n, 'p, 'a> Model for Names<'n, 'p, 'a> {
 
     ghost Value = { NamesRecord };
 
-    ghost use Rattle.jc_resolve.specs.Names.{AreNames};
+    ghost use Rattle.jc_resolve.specs.Names.{HaveFields};
 
     ghost view = { λ x. record { packages = x.index; roles = x.roles; classes = x.classes; methods = x.methods } };
 
-    ghost invariant = { λ x. AreNames (record { packages = x.index; roles = x.roles; classes = x.classes; methods = x.methods }) };
+    ghost invariant = { λ x.
+        HaveFields (record { packages = x.index; roles = x.roles; classes = x.classes; methods = x.methods }) x.fields };
 }
 
 impl<'n, 'p, 'a> Names<'n, 'p, 'a> {
@@ -99,11 +105,19 @@ impl<'n, 'p, 'a> Names<'n, 'p, 'a> {
         self.index.method_at(RecordPlace { package, offset })
     }
 
-    /// The type of the world that an item of a type descriptor in a package stands for; void has none.
-    pub fn type_of(&self, package: u16, item: TypeItem) -> Ty
-        ensures { result ≡ type_of self.now.packages (slice_index self.now.roles 0) «package» item }
+    /// The types of the static fields of a package, in the order of their places; a package that is not there has none.
+    pub fn static_types(&self, package: u16) -> &[Ty]
+        ensures { result.now ≡ static_field_types self.now.packages (slice_index self.now.roles 0) «package» }
     {
-        type_of(&self.index, self.roles[0] as u16, package, item)
+        types_kept(&self.fields, package)
+    }
+
+    /// The instance fields that a class of a package has of its own.
+    pub fn own_fields(&self, package: u16, class: ClassInfo<'_>) -> &[OwnField]
+        requires { IfSome (slice_get self.now.packages «package») (λ p. IsDescribedOnce p.description.items.classes (class_seen class)) }
+        ensures { result.now ≡ own_fields_in self.now.packages (slice_index self.now.roles 0) «package» (class_seen class.entry) }
+    {
+        own_kept(&self.fields, package, class)
     }
 
     /// The package that meets the import of a package with a token.

@@ -34,8 +34,8 @@ fn indexed<'n, 'p, 'a>(
     Ok(index)
 }
 
-/// The names of packages, or the fault that is named. A class reference is looked up where the record of a class or a
-/// method is made from it, and else alone; the least fault of all answers.
+/// The names of packages, or the fault that is named. A class reference is looked up where the record of a method, a field
+/// or a class is made from it, and else alone; the least fault of all answers.
 #[tactic(auto, unfolding(crate::specs::Names::names_of, crate::specs::Names::checked), using(crate::proofs::ReferenceOrder::all_looked))]
 fn names_or_fault<'n, 'p, 'a>(
     alloc: Global,
@@ -50,11 +50,13 @@ fn names_or_fault<'n, 'p, 'a>(
     let index = indexed(alloc, packages)?;
     let mut least = None;
     let methods = methods_after(alloc, &index, &*packages, roles, &mut least)?;
-    let classes = class_records(alloc, &index, &*packages, roles, &mut least)?;
+    let mut fields = Vec::new(alloc);
+    let classes = class_records(alloc, &index, &*packages, roles, &mut fields, &mut least)?;
     refuse(besides_named(&index, &*packages, least))?;
     Ok(Names {
         index,
         roles,
+        fields: Items::of(fields),
         classes: Items::of(classes),
         methods: Items::of(methods),
     })

@@ -1,10 +1,8 @@
 ghost use Rattle.std.specs.Prelude.{◌≡◌, ◌≤◌, ◌<◌, IfSome, length, flat_map};
 ghost use Rattle.cap_bytes.specs.Table.{numbers};
 ghost use Rattle.cap_desc.specs.ClassRecords.{described_class_seen as record_seen, described_left as records_left};
-ghost use Rattle.cap_desc.specs.Members.{fields_of};
 ghost use Rattle.cap_desc.specs.MemberLists.{fields_left};
-ghost use Rattle.cap_package.specs.Descriptions.{description};
-ghost use Rattle.jc_resolve.specs.Conditions.{reference_fault, reference_of_field, reference_of_type, references_of_field_type, no_class_fault, named_in};
+ghost use Rattle.jc_resolve.specs.Conditions.{reference_fault, reference_of_field, no_class_fault, named_in};
 ghost use Rattle.jc_resolve.specs.LookedUp.{references_without_methods, references_besides};
 ghost use Rattle.jc_resolve.specs.Fault.{link_place};
 ghost use Rattle.first_fault.specs.Least.{lesser, least_from};
@@ -15,10 +13,9 @@ ghost use Rattle.jc_resolve.specs.References.{class_named};
 use crate::class_index::Index;
 use crate::fault::LinkFault;
 use crate::least::lesser;
-use crate::world_types::{ARRAY, REFERENCE};
 use cap_bytes::Table;
-use cap_desc::{DescClass, DescClasses, DescFields, DescPart, TypeItem};
-use cap_package::{Package, Packages, field_type};
+use cap_desc::{DescClass, DescClasses, DescFields};
+use cap_package::Packages;
 
 #[tactic(auto, unfolding(crate::specs::Conditions::no_class_fault))]
 fn reference_fault(index: &Index<'_, '_, '_>, package: u16, reference: u16) -> Option<LinkFault>
@@ -136,63 +133,8 @@ fn least_of_records(
     least
 }
 
-/// The least fault so far, when a type was looked at.
-#[inline(always)]
-fn type_named(
-    index: &Index<'_, '_, '_>,
-    package: u16,
-    item: TypeItem,
-    least: Option<LinkFault>,
-) -> Option<LinkFault>
-    ensures { result ≡ least_from link_place least (reference_fault index.now «package») (reference_of_type item) }
-{
-    if item.nibble == REFERENCE || item.nibble == ARRAY {
-        return lesser(least, reference_fault(index, package, item.class_ref));
-    }
-    least
-}
-
-/// The least fault so far, when the types of fields were looked at.
-#[tactic(auto, using(crate::proofs::NamedFaults::least_field_types))]
-fn field_types_named(
-    index: &Index<'_, '_, '_>,
-    package: u16,
-    descriptor: &DescPart<'_>,
-    least: Option<LinkFault>,
-) -> Option<LinkFault>
-    ensures { result
-        ≡ least_from link_place least
-        (reference_fault index.now «package»)
-        (flat_map
-        (references_of_field_type (description descriptor.now))
-        (fields_of (description descriptor.now).items.classes)) }
-{
-    let mut least = least;
-    'fields: for field in descriptor.fields() {
-        if let Some(item) = field_type(descriptor, field.ty) {
-            least = type_named(index, package, item, least);
-        }
-    }
-    least
-}
-
-/// The least fault so far, when those references of a package's Descriptor were looked at that the records of classes
-/// and methods do not need: the interfaces that it lists, and the classes and the types of fields.
-#[tactic(auto, using(crate::proofs::NamedFaults::least_besides))]
-fn package_besides(
-    index: &Index<'_, '_, '_>,
-    number: u16,
-    package: &Package<'_, '_>,
-    least: Option<LinkFault>,
-) -> Option<LinkFault>
-    ensures { result ≡ least_from link_place least (reference_fault index.now number) (references_besides «package».now) }
-{
-    let descriptor = package.descriptor();
-    let records = least_of_records(index, number, descriptor.classes(), least);
-    field_types_named(index, number, &descriptor, records)
-}
-
-/// The least fault so far, when those references of all packages were looked at.
+/// The least fault so far, when those references of the Descriptors of packages were looked at that no record needs: the
+/// interfaces that they list, and the classes of fields.
 #[tactic(auto, using(crate::proofs::NamedFaults::least_after))]
 pub(crate) fn besides_named(
     index: &Index<'_, '_, '_>,
@@ -204,7 +146,7 @@ pub(crate) fn besides_named(
 {
     let mut least = least;
     'packages: for (k, package) in packages.iter().enumerate() {
-        least = package_besides(index, k as u16, package, least);
+        least = least_of_records(index, k as u16, package.descriptor().classes(), least);
     }
     least
 }

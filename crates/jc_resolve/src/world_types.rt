@@ -20,9 +20,9 @@ const VOID: u8 = 1;
 
 const INT: u8 = 5;
 
-pub(crate) const REFERENCE: u8 = 6;
+const REFERENCE: u8 = 6;
 
-pub(crate) const ARRAY: u8 = 14;
+const ARRAY: u8 = 14;
 
 /// The class as which a type knows what was named: object where that is an interface, or no class.
 fn class_or_object(index: &Index<'_, '_, '_>, object: u16, named: Option<u16>) -> u16
@@ -65,7 +65,7 @@ fn type_class_checked(
 
 /// The type of a value; void has none.
 #[tactic(auto, unfolding(crate::specs::WorldTypes::type_of))]
-pub(crate) fn type_of(index: &Index<'_, '_, '_>, object: u16, package: u16, item: TypeItem) -> Ty
+fn type_of(index: &Index<'_, '_, '_>, object: u16, package: u16, item: TypeItem) -> Ty
     ensures { result ≡ type_of index.now object «package» item }
 {
     match item.nibble {
@@ -82,7 +82,7 @@ pub(crate) fn type_of(index: &Index<'_, '_, '_>, object: u16, package: u16, item
 
 /// The type of a value; a reference in it that names no class is counted in the least fault so far.
 #[tactic(auto, unfolding(crate::specs::WorldTypes::type_of))]
-fn type_checked(
+pub(crate) fn type_checked(
     index: &Index<'_, '_, '_>,
     object: u16,
     package: u16,
@@ -127,7 +127,7 @@ pub fn width(kind: Kind) -> u32
 
 /// Appends the types of the cells that a value of a type takes.
 #[inline(always)]
-pub(crate) fn push_cells(cells: &mut Vec<Ty>, item: TypeItem, ty: Ty) -> Result<(), AllocError>
+fn push_cells(cells: &mut Vec<Ty>, item: TypeItem, ty: Ty) -> Result<(), AllocError>
     ensures { OnOk result (cells.new.items ≡ cells.old.items ++ cells_with item ty) }
 {
     if item.nibble == INT {

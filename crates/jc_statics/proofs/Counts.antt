@@ -1,5 +1,5 @@
 -- How many static fields and initial arrays a package can have, and sums over packages.
-use Rattle.std.proofs.Common.{◌≡◌, ℕ, ◌+◌, ◌*◌, ◌≤◌, Bool, true, false, cond, leb, List, [], ◌∷◌, length, length-append, map, drop, Option, Some, None, refl, ap, ◌∙◌, arith}
+use Rattle.std.proofs.Common.{◌≡◌, ℕ, ◌+◌, ◌*◌, ◌≤◌, Bool, true, false, cond, leb, List, [], ◌∷◌, length, length-append, map, drop, Option, Some, None, ap, ◌∙◌, arith}
 use Rattle.std.specs.Prelude.{slice_get, flat_map, sum_by}
 use Rattle.std.specs.List.{filter_map, cons_option}
 use Rattle.std.proofs.lemmas.List.{length-map}

@@ -1,4 +1,4 @@
-ghost use Rattle.std.specs.Prelude.{◌≡◌, ◌+◌, ◌≤◌, ◌∷◌, ◌++◌, [], length, map, slice_index, sum_by, All, IfOk, OnOk};
+ghost use Rattle.std.specs.Prelude.{◌≡◌, ◌+◌, ◌≤◌, ◌∷◌, ◌++◌, [], length, map, slice_get, slice_index, sum_by, All, IfOk, OnOk, Some};
 ghost use Rattle.jc_base.specs.Class.{ClassTable};
 ghost use Rattle.jc_base.specs.Cell.{IsDeclared, width};
 ghost use Rattle.jc_base.specs.Linked.{AreSlots, IsStatic};
@@ -74,7 +74,8 @@ fn push_statics(
     slot: u32,
     names: &Names<'_, '_, '_>,
 ) -> Result<u32, AllocError>
-    requires { slot + sum_by cells_at (static_places «package».now) ≤ 32768 }
+    requires at { slice_get names.now.packages home.«package» ≡ Some «package».now }
+    requires cells { slot + sum_by cells_at (static_places «package».now) ≤ 32768 }
     ensures is { IfOk result
         (λ _.
         records.new.items
@@ -84,11 +85,15 @@ fn push_statics(
     ensures known { IfOk result (λ _. AreStaticsKnown «package».now) }
 {
     let statics = package.statics();
+    let mut types = names.static_types(home.package);
     let mut slot = slot;
     'places: for place in package.static_places() {
-        let ty = names.type_of(home.package, place.ty);
-        push_static(alloc, records, home, slot as u16, &statics, place, ty)?;
-        slot += width(kind_of(place.ty));
+        // There are as many types as places.
+        if let Some((ty, others)) = types.split_first() {
+            push_static(alloc, records, home, slot as u16, &statics, place, *ty)?;
+            slot += width(kind_of(place.ty));
+            types = others;
+        }
     }
     Ok(slot)
 }
@@ -99,6 +104,7 @@ fn all_statics(
     packages: &Packages<'_, '_>,
     names: &Names<'_, '_, '_>,
 ) -> Result<Statics, AllocError>
+    requires named { packages.now ≡ names.now.packages }
     requires count { length packages.now ≤ 16 }
     requires cells { static_cells packages.now ≤ 32768 }
     ensures is { IfOk result (λ fields. fields ≡ static_records (type_of names.now.packages (slice_index names.now.roles 0)) packages.now) }

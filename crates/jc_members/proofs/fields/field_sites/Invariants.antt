@@ -1,4 +1,4 @@
-use Rattle.std.proofs.Common.{◌≡◌, ◌+◌, [], length}
+use Rattle.std.proofs.Common.{◌≡◌, ◌+◌, [], drop, length}
 use Rattle.cap_package.specs.PackagesLeft.{packages_left}
 use Rattle.jc_resolve.specs.Counts.{class_total}
 use Rattle.jc_members.specs.Sites.{all_entered}
@@ -10,5 +10,6 @@ invariant-packages l = record {
   entered : all_entered l.sites (sites_after l.names.packages l.classes l.first l.k (packages_left l.package-iterator)) ≡ all_entered [] (field_sites l.names.packages l.classes);
   known : l.first + class_total (packages_left l.package-iterator) ≡ class_total l.names.packages;
   room : AllFieldsFitAfter l.names.packages l.classes l.first l.k (packages_left l.package-iterator);
+  left : packages_left l.package-iterator ≡ drop l.k l.names.packages;
   count : l.k + length (packages_left l.package-iterator) ≡ length l.names.packages;
 }

@@ -1,4 +1,4 @@
-use Rattle.std.proofs.Common.{arith, [], ◌∷◌, ◌++◌, All, map, ap, sym, subst, append_assoc, ◌∙◌}
+use Rattle.std.proofs.Common.{rules, ◌≡◌, arith, [], ◌∷◌, ◌++◌, All, map, ap, sym, subst, append_assoc, ◌∙◌}
 use Rattle.std.specs.Prelude.{slice_index}
 use Rattle.std.proofs.lemmas.Grind.{common_steps}
 use Rattle.std.proofs.lemmas.List.Elements.{All-push}
@@ -7,8 +7,18 @@ use Rattle.jc_resolve.specs.Described.{AreDescribedOnce}
 use Rattle.jc_resolve.specs.Named.{IsSized}
 use Rattle.jc_resolve.specs.NamedClasses.{named_class}
 use Rattle.jc_resolve.specs.Numbering.{numbered_class}
+use Rattle.jc_resolve.proofs.Describing.{described_once}
 use Rattle.jc_resolve.proofs.NamedFaults.{least_classes}
 use Rattle.jc_resolve.proofs.class_records.push_classes.Goals as goal
+
+pub classes-init : goal.classes-init
+classes-init c =
+    let all : classes_left c.into_iter-class-iterator.result ≡ c.args.home.of_package.now.classes = search rules in (
+      grind (arith, common_steps),
+      c.requires.sized,
+      subst (AreDescribedOnce c.args.home.of_package.now.description.items.classes) (sym all) (described_once c.args.home.of_package.now c.parts-parts.ensures.agree),
+      grind (arith, common_steps),
+    )
 
 pub classes-preserved : goal.classes-preserved
 classes-preserved c =

@@ -12,9 +12,12 @@ use Rattle.jc_resolve.proofs.naming.names_or_fault.Goals as goal
 pub invariant_of-result : goal.invariant_of-result
 unfolding named_classes named_methods
 invariant_of-result c = record {
-  classes_are = grind (arith, common_steps);
-  methods_are = grind (arith, common_steps);
-  agreed = subst (λ (ps : List PackageRecord). All IsAgreed ps) (sym c.in_ok-index.ensures.1) c.in_ok-methods.ensures.agreed;
+  names = record {
+    classes_are = grind (arith, common_steps);
+    methods_are = grind (arith, common_steps);
+    agreed = subst (λ (ps : List PackageRecord). All IsAgreed ps) (sym c.in_ok-index.ensures.1) c.in_ok-methods.ensures.agreed;
+  };
+  fields_are = grind (arith, common_steps);
 }
 
 pub returns-clause-value : goal.returns-clause-value

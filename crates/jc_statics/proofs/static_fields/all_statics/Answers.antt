@@ -1,5 +1,6 @@
-use Rattle.std.proofs.Common.{◌≡◌, ◌+◌, length, take_all, subst, ap, ◌∙◌, arith}
-use Rattle.std.specs.Prelude.{All, slice_index}
+use Rattle.std.proofs.Common.{◌≡◌, ◌+◌, List, length, take_all, subst, ap, sym, ◌∙◌, arith}
+use Rattle.std.specs.Prelude.{All, slice_get, slice_index}
+use Rattle.cap_package.specs.PackageRecord.{PackageRecord}
 use Rattle.cap_method.specs.StaticFormat.{Statics}
 use Rattle.jc_resolve.specs.WorldTypes.{type_of}
 use Rattle.jc_statics.specs.Known.{AreStaticsKnown}
@@ -10,7 +11,10 @@ use Rattle.jc_statics.proofs.FieldLists.{statics_more}
 use Rattle.jc_statics.proofs.static_fields.all_statics.Goals as goal
 
 pub push_statics-requires : goal.push_statics-requires
-push_statics-requires c = omega (arith, static_cells_more c.args.packages.now c.packages.n c.at-package.result.now c.at-package.ensures)
+push_statics-requires c = record {
+  at = ap (λ (ps : List PackageRecord). slice_get ps c.packages.n) (sym c.requires.named) ∙ c.at-package.ensures;
+  cells = omega (arith, static_cells_more c.args.packages.now c.packages.n c.at-package.result.now c.at-package.ensures);
+}
 
 pub packages-preserved : goal.packages-preserved
 packages-preserved c =

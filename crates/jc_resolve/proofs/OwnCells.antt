@@ -1,10 +1,10 @@
 -- The own cells of a named class are those of its fields in the order of their tokens.
-use Rattle.std.proofs.Common.{◌≡◌, ℕ, Bool, true, false, cond, eqb, not, List, [], ◌∷◌, ◌++◌, Option, Some, None, refl, sym, ap, ap₂, ◌∙◌, filter, filter_map, flat_map, option_map}
+use Rattle.std.proofs.Common.{◌≡◌, ℕ, zero, suc, ◌+◌, Bool, true, false, cond, eqb, not, List, [], ◌∷◌, ◌++◌, Option, Some, None, refl, sym, ap, ap₂, ◌∙◌, filter, filter_map, flat_map, option_map}
 use Rattle.std.specs.Prelude.{◌==◌, ◌||◌}
 use Rattle.std.specs.List.{range_with_len, cons_option}
 use Rattle.std.proofs.lemmas.Bool.{eqb-true}
 use Rattle.std.proofs.lemmas.List.Elements.{filter_map-append}
-use Rattle.cap_class.specs.ClassFormat.{is_interface}
+use Rattle.cap_class.specs.ClassFormat.{Class, is_interface}
 use Rattle.cap_desc.specs.declared.type_item.TypeItem.{TypeItem}
 use Rattle.cap_desc.specs.DescriptorFormat as described
 use Rattle.cap_desc.specs.DescriptorFormat.{FieldDescriptor}
@@ -16,9 +16,17 @@ use Rattle.jc_base.specs.declared.ty.Kind.TheVariants.{Ref, Byte, Short, Int}
 use Rattle.jc_resolve.specs.Numbering.{NumberedClass}
 use Rattle.jc_resolve.specs.NamedClasses.{describes, is_instance_field, fields_described, instance_fields, token_of, has_token, with_token, by_token, cells_of_field, cells_of_fields, named_interface, named_proper, named_class}
 use Rattle.jc_resolve.specs.WorldTypes.{type_of, kind_of, cells_of_type}
-use Rattle.jc_members.specs.declared.own_field.OwnField.{OwnField}
-use Rattle.jc_members.specs.Fields.{field_with, own_field, fields_in, own_fields}
-use Rattle.jc_members.proofs.TokenCells.{cells_by as cells_by_kind, cells_of_own, with, cells_over, none_over}
+use Rattle.jc_resolve.specs.declared.own_field.OwnField.{OwnField}
+use Rattle.jc_resolve.specs.declared.package_fields.PackageFields.{PackageFields}
+use Rattle.jc_resolve.specs.Described.{IsDescribedOnce}
+use Rattle.jc_resolve.specs.OwnFields.{field_with, own_field, fields_in, own_fields, cells_by_kind, cells_of_own, own_with_token, cells_over}
+use Rattle.jc_resolve.specs.TypedFields.{fields_resolved, own_found}
+use Rattle.jc_resolve.proofs.TypedFields.{own-is}
+
+-- without fields there are no cells
+pub none_over : (n a : ℕ) → cells_over [] a n ≡ []
+none_over zero a = refl
+none_over (suc n) a = none_over n (a + 1)
 
 -- what is no int has one cell
 one_cell : (a b : Bool) (ty : Ty) → cells_by_kind (cond a Byte (cond b Short (cond false Int Ref))) ty ≡ ty ∷ []
@@ -60,15 +68,15 @@ module _ (ps : List PackageRecord) (object k : ℕ) (d : Description) where
   -- ---- and their cells
 
   token_by : (f : FieldDescriptor) (token : ℕ) (fs : List FieldDescriptor) (b : Bool) (o : Option TypeItem) → eqb (token_of f) token ≡ b → field_type d f.ty ≡ o
-      → filter_map typed (filter (has_token token) fs) ≡ with (filter_map typed fs) token
-      → filter_map typed (cond b (f ∷ filter (has_token token) fs) (filter (has_token token) fs)) ≡ with (filter_map typed (f ∷ fs)) token
+      → filter_map typed (filter (has_token token) fs) ≡ own_with_token (filter_map typed fs) token
+      → filter_map typed (cond b (f ∷ filter (has_token token) fs) (filter (has_token token) fs)) ≡ own_with_token (filter_map typed (f ∷ fs)) token
   unfolding typed
   token_by f token fs true None e h others = rw h others
   token_by f token fs false None e h others = rw h others
   token_by f token fs true (Some t) e h others = rw (h, e) (ap (λ (own : List OwnField). field_with ps object k f t ∷ own) others)
   token_by f token fs false (Some t) e h others = rw (h, e) others
 
-  tokens : (token : ℕ) (fs : List FieldDescriptor) → filter_map typed (filter (has_token token) fs) ≡ with (filter_map typed fs) token
+  tokens : (token : ℕ) (fs : List FieldDescriptor) → filter_map typed (filter (has_token token) fs) ≡ own_with_token (filter_map typed fs) token
   tokens token [] = refl
   tokens token (f ∷ fs) = token_by f token fs (eqb (token_of f) token) (field_type d f.ty) refl refl (tokens token fs)
 
@@ -95,7 +103,7 @@ module _ (ps : List PackageRecord) (object k : ℕ) (d : Description) where
   all_cells [] = refl
   all_cells (f ∷ fs) = field_cells f fs (field_type d f.ty) refl (all_cells fs)
 
-  by_tokens : (fs : List FieldDescriptor) (ts : List ℕ) → filter_map typed (flat_map (with_token fs) ts) ≡ flat_map (with (filter_map typed fs)) ts
+  by_tokens : (fs : List FieldDescriptor) (ts : List ℕ) → filter_map typed (flat_map (with_token fs) ts) ≡ flat_map (own_with_token (filter_map typed fs)) ts
   unfolding with_token
   by_tokens fs [] = refl
   by_tokens fs (token ∷ ts) =
@@ -107,6 +115,25 @@ module _ (ps : List PackageRecord) (object k : ℕ) (d : Description) where
   cells_are fs =
       all_cells (by_token fs)
       ∙ ap (λ (own : List OwnField). flat_map cells_of_own own) (by_tokens fs (range_with_len 0 256))
+
+-- the cells by the fields are those by the descriptions
+described_cells : (ps : List PackageRecord) (object k : ℕ) (d : Description) (offset : ℕ) (ds : List described.ClassDescriptor) → cells_over (flat_map (fields_in ps object k d offset) ds) 0 256 ≡ cells_of_fields ps object k d (instance_fields ds offset)
+unfolding instance_fields
+described_cells ps object k d offset ds =
+    ap (λ (own : List OwnField). cells_over own 0 256) (of_records ps object k d offset ds)
+    ∙ sym (cells_are ps object k d (flat_map (fields_described offset) ds))
+
+-- and so where the fields of the class are found
+pub class_cells : (ps : List PackageRecord) (object k : ℕ) (p : PackageRecord) (x : PackageFields) (c : Class) (own : List OwnField) (cells : List Ty)
+    → x ≡ fields_resolved ps object k p
+    → IsDescribedOnce p.description.items.classes c
+    → own ≡ own_found x c.offset
+    → cells ≡ cells_over own 0 256
+    → cells ≡ cells_of_fields ps object k p.description (instance_fields p.description.items.classes c.offset)
+class_cells ps object k p x c own cells known once found are =
+    are
+    ∙ ap (λ (fs : List OwnField). cells_over fs 0 256) (found ∙ ap (λ (y : PackageFields). own_found y c.offset) known ∙ own-is ps object k p c once)
+    ∙ described_cells ps object k p.description c.offset p.description.items.classes
 
 -- ---- named classes
 
