@@ -11,18 +11,21 @@ use Rattle.cap_bytes.specs.Spelling.{info_of}
 use Rattle.cap_bytes.specs.Reading.{reading}
 use Rattle.cap_frame.specs.HeaderFormat.{HeaderItems, header_info}
 use Rattle.cap_frame.specs.DirectoryFormat.{Custom, DirectoryItems, directory_info}
-use Rattle.cap_frame.specs.Directory.{size_in, custom_size_in}
+use Rattle.cap_frame.specs.Directory.{directory_items, size_in, custom_size_in}
+use Rattle.cap_frame.specs.Header.{header_items}
 use Rattle.cap_files.specs.Folder.{Parts, Folders, Holds, IsTooLong, Loads}
 use Rattle.cap_files.specs.declared.folder.LoadEnd.{LoadEnd}
 use Rattle.cap_components.specs.declared.fault.PackFault.{PackFault}
+use Rattle.cap_components.specs.declared.opening.Opening.{Opening}
 use Rattle.cap_components.specs.Components.{framed, formed, info_in, read_part, read_directory, ◌>>=◌}
+use Rattle.cap_components.specs.Openings.{IsOpening, GivesOpening}
 use Rattle.cap_package.specs.Parts.{Lent, held, HasEachOnce}
 use Rattle.cap_components.proofs.PartsLemmas.{held-other, held-same}
 use Rattle.cap_package.proofs.Given.{drop_here}
 use Rattle.capcheck_core.specs.Loads.{is_required, is_optional, is_some_size, is_sized, is_asked, Has, with_file, Rise, AreLoaded, AreParts, IsPartAdded, IsFirstLong}
 use Rattle.capcheck_core.specs.declared.load.LoadStop.{LoadStop}
 use Rattle.capcheck_core.specs.declared.load.LoadStop.TheVariants.{TooLong, Failed, Memory}
-use Rattle.capcheck_core.specs.LoadEnds.{LoadsParts, LoadsFile, EndsSized, EndsAsked}
+use Rattle.capcheck_core.specs.LoadEnds.{StopsParts, AreRest, LoadsFile, EndsSized, EndsAsked}
 
 pub none_some : (bytes : List ℕ) → ◌≡◌ {A = Option (List ℕ)} None (Some bytes) → ⊥
 none_some bytes e = cc
@@ -108,6 +111,23 @@ directory_same xs ys header directory =
     by : (h : Result HeaderItems PackFault) → (h >>= λ items. read_part (directory_info items.format) 2 xs) ≡ (h >>= λ items. read_part (directory_info items.format) 2 ys)
     by (Ok items) = part_same (directory_info items.format) 2 xs ys directory
     by (Err fault) = refl
+
+-- what was read of the Header and the Directory is what was read of the same two in another list
+opening_same : (xs ys : List Lent) (opening : Result Opening PackFault) → held xs 1 ≡ held ys 1 → held xs 2 ≡ held ys 2
+    → GivesOpening ys opening → GivesOpening xs opening
+unfolding info_in
+opening_same xs ys (Ok o) header directory is = record {
+  header = part_same header_info 1 xs ys header ∙ is.header;
+  directory = part_same (directory_info (header_items o.header).format) 2 xs ys directory ∙ is.directory;
+  header_bytes = ap (framed 1) header ∙ is.header_bytes;
+  directory_bytes = ap (framed 2) directory ∙ is.directory_bytes;
+}
+opening_same xs ys (Err fault) header directory is = directory_same xs ys header directory ∙ is
+
+-- the Directory that was read is the one of the parts
+opening_directory : (parts : List Lent) (o : Opening) → IsOpening parts o → read_directory parts ≡ Ok (directory_items o.directory)
+unfolding read_directory
+opening_directory parts o is = ap (λ h. h >>= λ items. read_part (directory_info items.format) 2 parts) is.header ∙ is.directory
 
 asked_by : (tag : ℕ) (xs ys : List Lent) → held xs 1 ≡ held ys 1 → held xs 2 ≡ held ys 2 → is_asked xs tag ≡ is_asked ys tag
 asked_by tag xs ys header directory = ap (λ d. is_required tag || (is_optional tag && is_sized d tag)) (directory_same xs ys header directory)
@@ -208,7 +228,7 @@ none_more before dir tag parts loaded unasked =
 
 -- the loads stop at one that is asked for
 stopped : (before after : Folders) (dir : List ℕ) (tag : ℕ) (parts old more : List Lent) (stop : LoadStop) → tag < 256 → AreLoaded before dir tag parts
-    → is_asked parts tag ≡ true → LoadsFile before after dir tag old more (Err stop) → LoadsParts before after dir (Err stop)
+    → is_asked parts tag ≡ true → LoadsFile before after dir tag old more (Err stop) → StopsParts before after dir stop
 stopped before after dir tag parts old more (TooLong part) byte loaded asked (is, long) =
     subst (λ t. IsFirstLong before dir t) (sym is) (record { byte = byte; parts = parts; loaded = loaded; asked = asked; holds = long })
 stopped before after dir tag parts old more Failed byte loaded asked fails =
@@ -216,7 +236,7 @@ stopped before after dir tag parts old more Failed byte loaded asked fails =
 stopped before after dir tag parts old more Memory byte loaded asked loads = tt {0}
 
 pub stopped_there : (before now after : Folders) (dir : List ℕ) (tag : ℕ) (parts old more : List Lent) (stop : LoadStop) → tag < 256 → AreLoaded before dir tag parts → now ≡ before
-    → is_asked parts tag ≡ true → LoadsFile now after dir tag old more (Err stop) → LoadsParts before after dir (Err stop)
+    → is_asked parts tag ≡ true → LoadsFile now after dir tag old more (Err stop) → StopsParts before after dir stop
 stopped_there before now after dir tag parts old more stop byte loaded same asked loads =
     stopped before after dir tag parts old more stop byte loaded asked (subst (λ f. LoadsFile f after dir tag old more (Err stop)) same loads)
 
@@ -255,6 +275,12 @@ kept_more before dir tag first parts more from kept added = (
 
 pub kept_asked : (tag : ℕ) (first parts : List Lent) → Kept first parts → is_asked parts tag ≡ is_asked first tag
 kept_asked tag first parts kept = asked_by tag parts first kept.0 kept.1
+
+-- what was read of the first parts is what is read of all
+pub lent_opening : (before : Folders) (dir : List ℕ) (first rest parts : List Lent) (opening : Result Opening PackFault) → AreRest before dir first rest
+    → parts ≡ first ++ rest → GivesOpening first opening → GivesOpening parts opening
+lent_opening before dir first rest parts opening loaded all gives =
+    subst (λ ps. GivesOpening ps opening) (sym all) (opening_same (first ++ rest) first opening loaded.header loaded.directory gives)
 
 -- tags that rise are each once
 pub rise_once : (low top : ℕ) (parts : List Lent) → Rise low top parts → HasEachOnce parts
@@ -346,7 +372,7 @@ unrequired tag from =
 unasked : (parts : List Lent) (tag : ℕ) → 13 ≤ tag → is_sized (read_directory parts) tag ≡ false → is_asked parts tag ≡ false
 unasked parts tag from none = rw (unrequired tag from, none, and-false (is_optional tag)) refl
 
-pub ends_asked : (parts : List Lent) (directory : DirectoryItems) (top : ℕ) → read_directory parts ≡ Ok directory → EndsSized directory top → EndsAsked parts top
+ends_asked : (parts : List Lent) (directory : DirectoryItems) (top : ℕ) → read_directory parts ≡ Ok directory → EndsSized directory top → EndsAsked parts top
 ends_asked parts directory top read ends = record {
   low = ends.low;
   high = ends.high;
@@ -354,6 +380,13 @@ ends_asked parts directory top read ends = record {
       let low = ends.low in
       unasked parts tag (omega (arith, from, low)) (ap (λ d. is_sized d tag) read ∙ ends.none tag from below);
 }
+
+pub ends_read : (parts : List Lent) (o : Opening) (top : ℕ) → IsOpening parts o → EndsSized (directory_items o.directory) top → EndsAsked parts top
+ends_read parts o top is = ends_asked parts (directory_items o.directory) top (opening_directory parts o is)
+
+pub sized_read : (parts : List Lent) (o : Opening) (tag : ℕ) → IsOpening parts o
+    → is_sized (read_directory parts) tag ≡ is_some_size (size_in (directory_items o.directory) tag)
+sized_read parts o tag is = ap (λ d. is_sized d tag) (opening_directory parts o is)
 
 -- where no sizes are told
 pub ends_untold : (parts : List Lent) (fault : PackFault) → read_directory parts ≡ Err fault → EndsAsked parts 13

@@ -20,15 +20,14 @@ use Rattle.capcheck_core.specs.Show.{IsTable, Shows, ShowsFolder, ShowsOrStops}
 use Rattle.capcheck_core.proofs.Loads.{rise_once}
 
 -- the parts that are lent one list after the other are each once
-pub lent_once : (before : Folders) (dir : List ℕ) (first opened rest : List Lent) → opened ≡ first → AreRest before dir first rest → HasEachOnce (opened ++ rest)
-lent_once before dir first opened rest is loaded = subst (λ ps. HasEachOnce (ps ++ rest)) (sym is) (rise_once 0 256 (first ++ rest) loaded.loaded.rising)
+pub lent_once : (before : Folders) (dir : List ℕ) (first rest : List Lent) → AreRest before dir first rest → HasEachOnce (first ++ rest)
+lent_once before dir first rest loaded = rise_once 0 256 (first ++ rest) loaded.loaded.rising
 
 -- and they are those of the folder
-pub lent_parts : (before now : Folders) (dir : List ℕ) (first opened rest parts : List Lent) → now ≡ before → opened ≡ first → parts ≡ opened ++ rest
+pub lent_parts : (before now : Folders) (dir : List ℕ) (first rest parts : List Lent) → now ≡ before → parts ≡ first ++ rest
     → AreRest now dir first rest → AreParts before dir parts
-lent_parts before now dir first opened rest parts same is all loaded =
-    subst (λ f. AreParts f dir parts) same
-    (subst (λ ps. AreParts now dir ps) (sym all) (subst (λ ps. AreParts now dir (ps ++ rest)) (sym is) loaded.loaded))
+lent_parts before now dir first rest parts same all loaded =
+    subst (λ f. AreParts f dir parts) same (subst (λ ps. AreParts now dir ps) (sym all) loaded.loaded)
 
 pub table_shown : (s : ShowRequest) (before : Folders) (parts : List Lent) (p : PackageRecord) (verdict : Verdict) → AreParts before s.dir parts → StandsFor parts p
     → IsTable p verdict → ShowsFolder s before verdict

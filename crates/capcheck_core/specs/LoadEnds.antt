@@ -8,17 +8,16 @@ use Rattle.capcheck_core.specs.declared.load.LoadStop.{LoadStop}
 use Rattle.capcheck_core.specs.declared.load.LoadStop.TheVariants.{TooLong, Failed, Memory}
 use Rattle.capcheck_core.specs.Loads.{is_some_size, is_asked, AreLoaded, AreParts, IsPartAdded, IsFirstLong, FailsParts}
 
--- the loads of a folder's parts by their answer: all of them, or the first that stopped
-abbrev pub LoadsParts : Folders → Folders → List ℕ → Result (List Lent) LoadStop → Type 0
-LoadsParts before after dir (Ok parts) = AreParts before dir parts
-LoadsParts before after dir (Err (TooLong part)) = IsFirstLong before dir part.0
-LoadsParts before after dir (Err Failed) = FailsParts before dir after
-LoadsParts before after dir (Err Memory) = Unit {0}
+-- why the loads of a folder's parts stopped: at the first that did
+abbrev pub StopsParts : Folders → Folders → List ℕ → LoadStop → Type 0
+StopsParts before after dir (TooLong part) = IsFirstLong before dir part.0
+StopsParts before after dir Failed = FailsParts before dir after
+StopsParts before after dir Memory = Unit {0}
 
 -- the loads of the Header and the Directory, by their answer
 abbrev pub LoadsFirst : Folders → Folders → List ℕ → Result (List Lent) LoadStop → Type 0
 LoadsFirst before after dir (Ok first) = AreLoaded before dir 3 first
-LoadsFirst before after dir (Err stop) = LoadsParts before after dir (Err stop)
+LoadsFirst before after dir (Err stop) = StopsParts before after dir stop
 
 -- with the Header and the Directory these are all parts that are asked for, and none of the two
 pub record AreRest (before : Folders) (dir : List ℕ) (first rest : List Lent) : Type 0 where
@@ -29,7 +28,7 @@ pub record AreRest (before : Folders) (dir : List ℕ) (first rest : List Lent) 
 -- the loads of the parts after them, by their answer
 abbrev pub LoadsRest : Folders → Folders → List ℕ → List Lent → Result (List Lent) LoadStop → Type 0
 LoadsRest before after dir first (Ok rest) = AreRest before dir first rest
-LoadsRest before after dir first (Err stop) = LoadsParts before after dir (Err stop)
+LoadsRest before after dir first (Err stop) = StopsParts before after dir stop
 
 -- the folders after loads: as before, unless one failed
 abbrev pub StopLeaves : Folders → Folders → LoadStop → Type 0

@@ -1,18 +1,15 @@
-ghost use Rattle.std.specs.Prelude.{◌≡◌, ◌≤◌, ◌++◌, length, IsNone, IfOk};
-ghost use Rattle.cap_components.specs.Components.{AnswersAs, info_in, read_part, read_directory};
+ghost use Rattle.std.specs.Prelude.{◌≡◌, ◌++◌, IsNone, IfOk};
+ghost use Rattle.cap_components.specs.Components.{read_directory};
+ghost use Rattle.cap_components.specs.Openings.{GivesOpening};
 ghost use Rattle.cap_frame.specs.Directory.{directory_items, size_in};
-ghost use Rattle.cap_frame.specs.DirectoryFormat.{directory_info};
-ghost use Rattle.cap_frame.specs.Framed.{info_bytes};
-ghost use Rattle.cap_frame.specs.Header.{header_items};
-ghost use Rattle.cap_frame.specs.HeaderFormat.{header_info};
 ghost use Rattle.cap_package.specs.Parts.{held, HasEachOnce};
 ghost use Rattle.capcheck_core.specs.Loads.{is_required, is_optional, is_some_size, is_sized, is_asked, AreLoaded};
 ghost use Rattle.capcheck_core.specs.LoadEnds.{LoadsFile, LoadsFirst, LoadsRest, EndsAsked, EndsSized, LoadsLeave};
 
-use cap_bytes::{Format, Part, View};
-use cap_components::PackFault;
+use cap_bytes::Part;
+use cap_components::{Opening, PackFault};
 use cap_files::{Folder, LoadEnd};
-use cap_frame::{Directory, Header, directory, frame, header};
+use cap_frame::Directory;
 use cap_package::{OwnedParts, Parts};
 use std::alloc::{AllocError, Global};
 
@@ -67,40 +64,25 @@ pub fn load_first<F: Folder>(
     }
 }
 
-/// The other parts of a package's folder, by rising tag: those that every package has, and those that the
-/// Directory gives a size that is not 0, where they are there (sections 6.1 and 6.4 of the
-/// specification).
+/// The other parts of a package's folder, by rising tag: those that every package has, and those to which the
+/// Directory, as it was read from the first ones, gives a size that is not 0, where they are there (sections 6.1 and
+/// 6.4 of the specification).
 pub fn load_rest<F: Folder>(
     alloc: Global,
     folder: &mut F,
     dir: &str,
-    first: &OwnedParts,
-) -> Result<OwnedParts, LoadStop>
-    requires { AreLoaded (F.folders folder.old) dir.now 3 first.now }
-    ensures loads { LoadsRest (F.folders folder.old) (F.folders folder.new) dir.now first.now result }
-    ensures folders { LoadsLeave (F.folders folder.old) (F.folders folder.new) result }
-{
-    let sizes = directory_of(first);
-    load_asked(alloc, folder, dir, first, &sizes)
-}
-
-// Loads the parts after the Directory that are asked for.
-fn load_asked<F: Folder>(
-    alloc: Global,
-    folder: &mut F,
-    dir: &str,
-    first: &OwnedParts,
-    sizes: &Result<Directory<'_>, PackFault>,
+    first: &Parts<'_>,
+    opening: &Result<Opening<'_>, PackFault>,
 ) -> Result<OwnedParts, LoadStop>
     requires first { AreLoaded (F.folders folder.old) dir.now 3 first.now }
-    requires sizes { AnswersAs directory_items sizes.now (read_directory first.now) }
+    requires opening { GivesOpening first.now opening.now }
     ensures loads { LoadsRest (F.folders folder.old) (F.folders folder.new) dir.now first.now result }
     ensures folders { LoadsLeave (F.folders folder.old) (F.folders folder.new) result }
 {
     let mut rest = OwnedParts::new(alloc);
-    let end = end_of(first, sizes);
+    let end = end_of(first, opening);
     'tags: for tag in AFTER_DIRECTORY..end {
-        if asks(first, sizes, tag as u8) {
+        if asks(first, opening, tag as u8) {
             match load_file(alloc, folder, dir, Part(tag as u8), &mut rest) {
                 Ok(()) => {}
                 Err(stop) => return Err(stop),
@@ -150,12 +132,12 @@ pub fn lend_after<'a>(more: &'a OwnedParts, parts: Parts<'a>) -> Result<Parts<'a
 }
 
 // The tag after the last one that may be asked for: where the Directory names no custom component, that after Debug's.
-fn end_of(first: &OwnedParts, sizes: &Result<Directory<'_>, PackFault>) -> u16
-    requires { AnswersAs directory_items sizes.now (read_directory first.now) }
+fn end_of(first: &Parts<'_>, opening: &Result<Opening<'_>, PackFault>) -> u16
+    requires { GivesOpening first.now opening.now }
     ensures { EndsAsked first.now result }
 {
-    match sizes {
-        Ok(directory) => end_after(directory),
+    match opening {
+        Ok(opening) => end_after(&opening.directory),
         Err(_) => AFTER_DEBUG,
     }
 }
@@ -171,12 +153,12 @@ fn end_after(directory: &Directory<'_>) -> u16
     }
 }
 
-// Whether a part is asked for, by the sizes that the loaded ones tell.
-fn asks(parts: &OwnedParts, sizes: &Result<Directory<'_>, PackFault>, tag: u8) -> bool
-    requires { AnswersAs directory_items sizes.now (read_directory parts.now) }
-    ensures { result ≡ is_asked parts.now tag }
+// Whether a part is asked for, by what was read of the first ones.
+fn asks(first: &Parts<'_>, opening: &Result<Opening<'_>, PackFault>, tag: u8) -> bool
+    requires { GivesOpening first.now opening.now }
+    ensures { result ≡ is_asked first.now tag }
 {
-    is_required(tag) || is_optional(tag) && gives_size(parts, sizes, tag)
+    is_required(tag) || is_optional(tag) && gives_size(first, opening, tag)
 }
 
 // Whether every package has the component.
@@ -194,52 +176,13 @@ fn is_optional(tag: u8) -> bool
 }
 
 // Whether the Directory, in the format that the Header names, gives the component a size that is not 0.
-fn gives_size(parts: &OwnedParts, sizes: &Result<Directory<'_>, PackFault>, tag: u8) -> bool
-    requires { AnswersAs directory_items sizes.now (read_directory parts.now) }
-    ensures { result ≡ is_sized (read_directory parts.now) tag }
+fn gives_size(first: &Parts<'_>, opening: &Result<Opening<'_>, PackFault>, tag: u8) -> bool
+    requires { GivesOpening first.now opening.now }
+    ensures { result ≡ is_sized (read_directory first.now) tag }
 {
-    match sizes {
-        Ok(directory) => has_size(directory, tag),
+    match opening {
+        Ok(opening) => has_size(&opening.directory, tag),
         Err(_) => false,
-    }
-}
-
-// The Directory component, in the format that the Header names.
-#[tactic(auto, unfolding(cap_components::specs::Components::read_directory))]
-fn directory_of(parts: &OwnedParts) -> Result<Directory<'_>, PackFault>
-    ensures { AnswersAs directory_items result (read_directory parts.now) }
-{
-    let header = header_in(parts)?;
-    directory_in(parts, header.format())
-}
-
-// The Directory component in a format.
-#[tactic(auto, using(cap_components::proofs::Infos::read_or_refused), unfolding(cap_components::specs::Components::read_part))]
-fn directory_in(parts: &OwnedParts, format: Format) -> Result<Directory<'_>, PackFault>
-    ensures { AnswersAs directory_items result (read_part (directory_info format) 2 parts.now) }
-{
-    let info = info_in(parts, 2)?;
-    Ok(directory(info, format)?)
-}
-
-// The Header component.
-#[tactic(auto, using(cap_components::proofs::Infos::read_or_refused), unfolding(cap_components::specs::Components::read_part))]
-fn header_in(parts: &OwnedParts) -> Result<Header<'_>, PackFault>
-    ensures { AnswersAs header_items result (read_part header_info 1 parts.now) }
-{
-    let info = info_in(parts, 1)?;
-    Ok(header(info)?)
-}
-
-// The info of the component with a tag.
-#[tactic(auto, using(cap_components::proofs::Infos::read_or_refused), unfolding(cap_components::specs::Components::info_in))]
-fn info_in(parts: &OwnedParts, tag: u8) -> Result<View<'_>, PackFault>
-    ensures value { AnswersAs info_bytes result (info_in parts.now tag) }
-    ensures few { IfOk result (λ info. length info.bytes.now ≤ 65535) }
-{
-    match parts.get(Part(tag)) {
-        None => Err(PackFault::MissingPart(tag)),
-        Some(file) => Ok(frame(file, Part(tag))?),
     }
 }
 

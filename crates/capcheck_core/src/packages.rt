@@ -1,6 +1,7 @@
 ghost use Rattle.std.specs.Prelude.{◌≡◌, ◌≢◌, ◌≤◌, length, min};
 ghost use Rattle.cap_files.specs.WordsLeft.{words_left};
 ghost use Rattle.cap_components.specs.declared.fault.PackFault.TheVariants.{PartTooLong};
+ghost use Rattle.cap_components.specs.Openings.{GivesOpening};
 ghost use Rattle.capcheck_core.specs.declared.packages.PackagesStop.TheVariants.{Malformed};
 ghost use Rattle.capcheck_core.specs.Loads.{AreLoaded};
 ghost use Rattle.capcheck_core.specs.Roles.{IsNoRoles};
@@ -9,8 +10,9 @@ ghost use Rattle.capcheck_core.specs.PackageEnds.{ReadsRoles, RolesBeside, Loads
 use crate::load::{LoadStop, load_first, load_rest};
 use crate::verdict::Verdict;
 use cap_bytes::{FormFault, FormKind, Part};
+use cap_components::Opening;
 use cap_files::{Folder, LoadEnd, WordsIter};
-use cap_package::{OwnedParts, PackFault, Package, Parts, package};
+use cap_package::{OwnedParts, PackFault, Package, Parts, package_opened};
 use cap_text::{malformed, not_linked};
 use jc_link::LinkFault;
 use std::alloc::{AllocError, Global};
@@ -93,19 +95,21 @@ pub(crate) fn load_opening<F: Folder>(
     }
 }
 
-/// The other parts of the package of a number.
+/// The other parts of the package of a number, by what was read of its Header and Directory.
 pub(crate) fn load_others<F: Folder>(
     alloc: Global,
     folder: &mut F,
     dir: &str,
     number: u16,
-    first: &OwnedParts,
+    first: &Parts<'_>,
+    opening: &Result<Opening<'_>, PackFault>,
 ) -> Result<OwnedParts, PackagesStop>
-    requires { AreLoaded (F.folders folder.old) dir.now 3 first.now }
+    requires first { AreLoaded (F.folders folder.old) dir.now 3 first.now }
+    requires opening { GivesOpening first.now opening.now }
     ensures loads { LoadsOthers (F.folders folder.old) (F.folders folder.new) dir.now number first.now result }
     ensures folders { PackagesLeave (F.folders folder.old) (F.folders folder.new) result }
 {
-    match load_rest(alloc, folder, dir, first) {
+    match load_rest(alloc, folder, dir, first, opening) {
         Ok(rest) => Ok(rest),
         Err(LoadStop::TooLong(part)) => Err(too_long(number, part)),
         Err(LoadStop::Failed) => Err(PackagesStop::Failed),
@@ -120,14 +124,16 @@ fn too_long(number: u16, part: Part) -> PackagesStop
     PackagesStop::Malformed(number, PackFault::PartTooLong(part.0))
 }
 
-/// The package of a number that the parts stand for.
+/// The package of a number that the parts stand for, of which the Header and the Directory were read.
 pub(crate) fn read_parts<'p, 'a>(
     parts: &'p Parts<'a>,
+    opening: Result<Opening<'a>, PackFault>,
     number: u16,
 ) -> Result<Package<'p, 'a>, PackagesStop>
+    requires { GivesOpening parts.now opening }
     ensures { ReadsPackage parts.now number result }
 {
-    match package(parts) {
+    match package_opened(parts, opening) {
         Ok(package) => Ok(package),
         Err(fault) => Err(PackagesStop::Malformed(number, fault)),
     }

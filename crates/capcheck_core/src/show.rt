@@ -4,6 +4,7 @@ ghost use Rattle.capcheck_core.specs.Show.{Shows, ShowsOrStops, IsTable};
 use crate::load::lend_after;
 use crate::packages::{PackagesStop, load_opening, load_others, read_parts};
 use crate::verdict::Verdict;
+use cap_components::opening_in;
 use cap_files::Folder;
 use cap_package::Package;
 use cap_text::{Show, component_table};
@@ -29,9 +30,10 @@ fn show_package<F: Folder>(
 {
     let first = load_opening(alloc, folder, show.dir, 0)?;
     let opened = first.lend(alloc)?;
-    let rest = load_others(alloc, folder, show.dir, 0, &first)?;
+    let opening = opening_in(&opened);
+    let rest = load_others(alloc, folder, show.dir, 0, &opened, &opening)?;
     let parts = lend_after(&rest, opened)?;
-    let package = read_parts(&parts, 0)?;
+    let package = read_parts(&parts, opening, 0)?;
     Ok(table_of(alloc, &package))
 }
 

@@ -1,4 +1,5 @@
 ghost use Rattle.std.specs.Prelude.{◌≡◌, ◌≤◌, ◌+◌, ◌∷◌, length, Some};
+ghost use Rattle.cap_components.specs.Openings.{GivesOpening};
 ghost use Rattle.cap_files.specs.WordsLeft.{words_left};
 ghost use Rattle.capcheck_core.specs.Loads.{AreLoaded, AreParts};
 ghost use Rattle.capcheck_core.specs.Outside.{outside, card};
@@ -14,8 +15,9 @@ use crate::packages::{
 };
 use crate::step::{Step, take_step};
 use crate::verdict::Verdict;
+use cap_components::{Opening, opening_in};
 use cap_files::{Folder, WordsIter};
-use cap_package::{OwnedParts, Packages, Parts};
+use cap_package::{OwnedParts, PackFault, Packages, Parts};
 use cap_text::not_linked;
 use jc_link::{LinkEnd, link};
 use std::alloc::Global;
@@ -127,14 +129,15 @@ fn over_opened<F: Folder>(
         (outside (F.folders folder.new) (card ram.new heap.new statics.new)) result }
 {
     let opened = first.lend(alloc)?;
-    let rest = load_others(alloc, folder, dir, packages.len() as u16, first)?;
+    let opening = opening_in(&opened);
+    let rest = load_others(alloc, folder, dir, packages.len() as u16, &opened, &opening)?;
     let parts = lend_after(&rest, opened)?;
     over_parts(
-        alloc, step, dir, others, packages, roles, &parts, folder, ram, heap, statics,
+        alloc, step, dir, others, packages, roles, &parts, opening, folder, ram, heap, statics,
     )
 }
 
-// The same where all parts in the folder are loaded.
+// The same where all parts in the folder are loaded, and what the Header and the Directory say was read.
 #[cycle(folders)]
 fn over_parts<'p, 'a, F: Folder>(
     alloc: Global,
@@ -144,6 +147,7 @@ fn over_parts<'p, 'a, F: Folder>(
     packages: Packages<'p, 'a>,
     roles: Option<[u8; 8]>,
     parts: &'p Parts<'a>,
+    opening: Result<Opening<'a>, PackFault>,
     folder: &mut F,
     ram: &mut [u16],
     heap: &mut [u16],
@@ -152,12 +156,13 @@ fn over_parts<'p, 'a, F: Folder>(
     requires few { length packages + length (words_left others) ≤ 15 }
     requires begun { GivenAfterFirst roles (length packages) }
     requires parts { AreParts (F.folders folder.old) dir.now parts.now }
+    requires opening { GivesOpening parts.now opening }
     requires card { HasLengths (card ram.old heap.old statics.old) }
     ensures { GoesOver (OwnAnswers step.entry) (dir.now ∷ words_left others.entry) packages.entry roles
         (outside (F.folders folder.old) (card ram.old heap.old statics.old))
         (outside (F.folders folder.new) (card ram.new heap.new statics.new)) result }
 {
-    let package = read_parts(parts, packages.len() as u16)?;
+    let package = read_parts(parts, opening, packages.len() as u16)?;
     let roles = roles_beside(alloc, folder, dir, roles)?;
     let mut packages = packages;
     packages.push(package)?;

@@ -2,16 +2,34 @@
 use Rattle.std.proofs.Common.{length, Some, refl, sym, subst, rules}
 use Rattle.std.proofs.lemmas.Result.{err_from_is_err_and}
 use Rattle.cap_files.specs.WordsLeft.{words_left}
+use Rattle.capcheck_core.specs.Loads.{AreLoaded, AreParts}
 use Rattle.capcheck_core.specs.Outside.{outside, card}
 use Rattle.capcheck_core.specs.OverLoads.{AnswersOverRest}
 use Rattle.capcheck_core.specs.Step.{OwnAnswers}
 use Rattle.capcheck_core.proofs.PackageLoads.{has_package, stops_roles, goes_on, goes_end}
-use Rattle.capcheck_core.proofs.Shown.{lent_once}
+use Rattle.capcheck_core.proofs.Loads.{lent_opening}
+use Rattle.capcheck_core.proofs.Shown.{lent_once, lent_parts}
 use Rattle.capcheck_core.proofs.world.+folders.Goals as goal
+
+pub over_opened-load_others-requires : goal.over_opened-load_others-requires
+over_opened-load_others-requires g t c = record {
+  first = subst (λ ps. AreLoaded (g.F.Folder.folders c.args.folder.now) c.args.dir.now 3 ps) (sym c.in_ok-opened.ensures) (search rules);
+  opening = c.opening_in-opening.ensures;
+}
 
 pub over_opened-lend_after-requires : goal.over_opened-lend_after-requires
 over_opened-lend_after-requires g t c =
-    lent_once (g.F.Folder.folders c.args.folder.now) c.args.dir.now c.args.first.now c.in_ok-opened.opened c.in_ok-rest.rest c.in_ok-opened.ensures c.in_ok-rest.ensures.loads
+    lent_once (g.F.Folder.folders c.args.folder.now) c.args.dir.now c.in_ok-opened.opened c.in_ok-rest.rest c.in_ok-rest.ensures.loads
+
+pub over_opened-over_parts-requires : goal.over_opened-over_parts-requires
+over_opened-over_parts-requires g t c =
+    let before = g.F.Folder.folders c.args.folder.now in
+    let dir = c.args.dir.now in
+    let loaded = subst (λ f. AreParts f dir c.in_ok-parts.parts) (sym c.in_ok-rest.ensures.folders)
+    (lent_parts before before dir c.in_ok-opened.opened c.in_ok-rest.rest c.in_ok-parts.parts refl c.in_ok-parts.ensures c.in_ok-rest.ensures.loads) in
+    let opening = lent_opening before dir c.in_ok-opened.opened c.in_ok-rest.rest c.in_ok-parts.parts c.opening_in-opening.result c.in_ok-rest.ensures.loads
+    c.in_ok-parts.ensures c.opening_in-opening.ensures in
+    search (rules, loaded, opening)
 
 pub over_others-returns-in-None : goal.over_others-returns-in-None
 over_others-returns-in-None g t c =

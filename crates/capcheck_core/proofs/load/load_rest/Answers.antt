@@ -2,8 +2,8 @@
 use Rattle.std.proofs.Common.{◌≡◌, ◌+◌, ◌++◌, true, sym, ap, subst, ◌∙◌, arith}
 use Rattle.capcheck_core.specs.Loads.{is_asked, AreLoaded}
 use Rattle.capcheck_core.proofs.Loads.{Kept, above_none, absent_after, added_after, one_more, none_more, kept_more, kept_asked, stopped_there, loaded_all}
-use Rattle.capcheck_core.proofs.load.load_asked.Goals as goal
-use Rattle.capcheck_core.proofs.load.load_asked.Goals.{then-asks+in-Ok, else-asks}
+use Rattle.capcheck_core.proofs.load.load_rest.Goals as goal
+use Rattle.capcheck_core.proofs.load.load_rest.Goals.{then-asks+in-Ok, else-asks}
 
 pub load_file-requires : goal.load_file-requires
 load_file-requires g c =

@@ -1,7 +1,7 @@
 use Rattle.std.proofs.Common.{◌≡◌, ◌++◌}
 use Rattle.capcheck_core.specs.Loads.{AreLoaded}
 use Rattle.capcheck_core.proofs.Loads.{Kept}
-use Rattle.capcheck_core.proofs.load.load_asked.Given as goal
+use Rattle.capcheck_core.proofs.load.load_rest.Given as goal
 
 abbrev pub invariant-tags : goal.invariant-tags
 invariant-tags g l = record {
