@@ -1,4 +1,4 @@
-ghost use Rattle.std.specs.Prelude.{◌≡◌, ◌≢◌, ℕ, ◌<◌, ◌≤◌, ◌^◌, ◌↔◌, List, ◌∷◌, map, length, decimal, Ok, IsTrue, IfOk, IfSome, IfNone};
+ghost use Rattle.std.specs.Prelude.{◌≡◌, ◌≢◌, ℕ, ◌<◌, ◌≤◌, ◌^◌, ◌↔◌, List, ◌∷◌, map, length, decimal, Ok, IsTrue, IfOk, IfErr, IfSome, IfNone};
 ghost use Rattle.hex.specs.Hex.{decode_of};
 ghost use Rattle.cap_files.specs.WordsLeft.{words_left};
 ghost use Rattle.cap_text.specs.Word.{IsFolderWord, AreFolderWords, IsNumberWord, IsBytesWord, IsArgWord, AreArgWords, argument_read};
@@ -80,10 +80,11 @@ pub fn short_number(word: &str) -> Option<u16>
     }
 }
 
-/// The argument that a word writes, where it writes one. Bytes take memory.
+/// The argument that a word writes, where it writes one. Words that begin with a number sign take memory, and no others.
 pub fn argument(alloc: Global, word: &str) -> Result<Option<OwnedArg>, AllocError>
     ensures found { IfOk result (λ o. IfSome o (λ a. IsArgWord word.now (argument_read a))) }
     ensures none { IfOk result (λ o. IfNone o ((a : Argument) → IsArgWord word.now a → ⊥)) }
+    ensures memory { IfErr result (λ _. (digits : List ℕ) × (word.now ≡ 35 ∷ digits)) }
 {
     let Some(digits) = after_sign(word) else {
         return Ok(number_or_null(word));

@@ -35,7 +35,7 @@ use Rattle.capcheck_core.specs.declared.verdict.Verdict.{Verdict}
 use Rattle.capcheck_core.specs.declared.verdict.Verdict.TheVariants.{Done, Refused, Limit, Malformed, Usage, ReadFault, StoreFault, Memory}
 use Rattle.capcheck_core.specs.Outside.{Card, card}
 use Rattle.capcheck_core.specs.Defend.{method_entered}
-use Rattle.capcheck_core.specs.Run.{HoldsWords, IsCardKept, IsLeft, IsRun, StopsRun}
+use Rattle.capcheck_core.specs.Run.{HoldsWords, IsCardKept, IsLeft, IsRun, StopsRun, RunsWithMemory, RunsWorldIn}
 
 -- ---- the words of an outcome
 
@@ -195,6 +195,17 @@ pub kept_end : {U : Type 0} (ram heap fields ram_after heap_after fields_after o
 kept_end ram heap fields ram_after heap_after fields_after others whole (Ok u) is same = same
 kept_end ram heap fields ram_after heap_after fields_after others whole (Err stop) is same =
     ap (λ (c : Card). card c.ram c.heap (c.statics ++ others)) same ∙ ap (card ram heap) is
+
+-- what may be answered where there is memory may be answered
+pub with_memory : (w : Linked) (r : RunRequest) (c : Card) (verdict : Verdict) → RunsWithMemory w r c verdict → RunsWorldIn w r c verdict
+with_memory w r c (Done text) runs = runs
+with_memory w r c (Refused text) runs = runs
+with_memory w r c (Limit text) runs = runs
+with_memory w r c (Malformed text) runs = runs
+with_memory w r c Usage runs = runs
+with_memory w r c ReadFault runs = runs
+with_memory w r c StoreFault runs = runs
+with_memory w r c Memory runs = absurd runs
 
 pub kept_there : (before after : Card) (verdict : Verdict) → after ≡ before → IsCardKept before after verdict
 kept_there before after (Done text) same = tt {0}

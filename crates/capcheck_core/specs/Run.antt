@@ -64,13 +64,17 @@ pub record IsNotRun (w : Linked) (r : RunRequest) (text : List ℕ) : Type 0 whe
   pub carded : HaveCardTypings w
   pub unbegun : IsUnbegun w r text
 
+-- the answers of a world once there is memory for the arguments and the text
+abbrev pub RunsWithMemory : Linked → RunRequest → Card → Verdict → Type 0
+RunsWithMemory w r c (Done text) = IsRun w r c (string_bytes text)
+RunsWithMemory w r c (Refused text) = TellsRefused w (string_bytes text)
+RunsWithMemory w r c (Malformed text) = IsNotRun w r (string_bytes text)
+RunsWithMemory w r c _ = ⊥
+
 -- the answers of a world
 abbrev pub RunsWorldIn : Linked → RunRequest → Card → Verdict → Type 0
-RunsWorldIn w r c (Done text) = IsRun w r c (string_bytes text)
-RunsWorldIn w r c (Refused text) = TellsRefused w (string_bytes text)
-RunsWorldIn w r c (Malformed text) = IsNotRun w r (string_bytes text)
 RunsWorldIn w r c Memory = Unit {0}
-RunsWorldIn w r c _ = ⊥
+RunsWorldIn w r c verdict = RunsWithMemory w r c verdict
 
 -- where nothing ran, the card's memory is as it was
 abbrev pub IsCardKept : Card → Card → Verdict → Type 0

@@ -14,7 +14,7 @@ ghost use Rattle.vm_text.specs.Lent.{lent_state, IsLentRun};
 ghost use Rattle.vm_text.specs.Text.{left_text, most_text};
 ghost use Rattle.capcheck_core.specs.Defend.{method_entered};
 ghost use Rattle.capcheck_core.specs.Outside.{Card, card};
-ghost use Rattle.capcheck_core.specs.Run.{bounded_request, IsCardKept, HasLengths, IsLeft, IsRun, StopsRun, RunsWorldIn};
+ghost use Rattle.capcheck_core.specs.Run.{bounded_request, IsCardKept, HasLengths, IsLeft, IsRun, StopsRun, RunsWithMemory, RunsWorldIn};
 
 use crate::defending::{lent, method_entered};
 use crate::typing::number_of;
@@ -91,9 +91,30 @@ fn with_arguments(
     ensures runs { RunsWorldIn world.now (bounded_request run.now) (card ram.new heap.new statics.new) result }
     ensures kept { IsCardKept (card ram.old heap.old statics.old) (card ram.new heap.new statics.new) result }
 {
-    let Ok(mut text) = room(alloc, world) else {
-        return Verdict::Memory;
-    };
+    match room(alloc, world) {
+        Ok(text) => with_room(world, run, args, text, ram, heap, statics),
+        Err(_) => Verdict::Memory,
+    }
+}
+
+// The same with the room of the text. From here on nothing can run out of memory.
+fn with_room(
+    world: &World<'_>,
+    run: &Bounded<'_>,
+    args: &Args<'_>,
+    text: Room,
+    ram: &mut [u16],
+    heap: &mut [u16],
+    statics: &mut [u16],
+) -> Verdict
+    requires card { HasLengths (card ram.old heap.old statics.old) }
+    requires handed { args.now ≡ map argument_read run.now.run.now.args.items }
+    requires empty { IsEmpty text }
+    requires room { HasRoom text (most_text world.now) }
+    ensures runs { RunsWithMemory world.now (bounded_request run.now) (card ram.new heap.new statics.new) result }
+    ensures kept { IsCardKept (card ram.old heap.old statics.old) (card ram.new heap.new statics.new) result }
+{
+    let mut text = text;
     match run_verified(world, run, args, &mut text, ram, heap, statics) {
         Ok(()) => Verdict::Done(text.into_text()),
         Err(stop) => not_run(world, run, stop, text),
@@ -106,7 +127,7 @@ fn not_run(world: &World<'_>, run: &Bounded<'_>, stop: RunStop, text: Room) -> V
     requires stops { StopsRun world.now (bounded_request run.now) stop }
     requires empty { IsEmpty text }
     requires room { HasRoom text (most_text world.now) }
-    ensures { (c : Card) → RunsWorldIn world.now (bounded_request run.now) c result }
+    ensures { (c : Card) → RunsWithMemory world.now (bounded_request run.now) c result }
 {
     match stop {
         RunStop::Refused(method, fault) => {
@@ -139,7 +160,7 @@ fn unstarted_line(text: Room, fault: StartFault) -> String
     text.into_text()
 }
 
-// The same with the room of the text. From here on nothing can run out of memory.
+// Verifies all packages, and runs the entry.
 fn run_verified(
     world: &World<'_>,
     run: &Bounded<'_>,

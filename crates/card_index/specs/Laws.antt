@@ -35,8 +35,8 @@ RefusalDeniesOver w =
 
 -- a method is refused over an index in one way: no two refusals tell different faults, and where a state is at fault one
 -- frame is kept
-abbrev pub RefusalIsOne : Linked → Type 0
-RefusalIsOne w =
+abbrev pub RefusalIsOneOver : Linked → Type 0
+RefusalIsOneOver w =
     (m : Method) (index : List ℕ) (fault other : CardFault) (kept held : Frame)
     → IsMethodOf w m
     → IsRefusedOver w m index fault kept

@@ -1,4 +1,4 @@
-ghost use Rattle.card_index.specs.Laws.{IndexedIsTyped, ExactServes, ExactRefuses, RefusalDeniesOver, RefusalIsOne};
+ghost use Rattle.card_index.specs.Laws.{IndexedIsTyped, ExactServes, ExactRefuses, RefusalDeniesOver, RefusalIsOneOver};
 
 use card_typing::card_laws;
 use jc_base::World;
@@ -12,7 +12,7 @@ pub fn index_laws(world: &World<'_>)
     ensures exact { ExactServes world.now }
     ensures exact_refuses { ExactRefuses world.now }
     ensures denies { RefusalDeniesOver world.now }
-    ensures one { RefusalIsOne world.now }
+    ensures one { RefusalIsOneOver world.now }
 {
     card_laws(world);
     rule_laws(world);

@@ -4,3 +4,4 @@ pub mod Flowing
 pub mod Sound
 pub mod Below
 pub mod Quiet
+pub mod OneRefusal

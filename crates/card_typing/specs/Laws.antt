@@ -1,5 +1,5 @@
 -- Laws of card typings.
-use Rattle.std.specs.Prelude.{ℕ, ◌↔◌, List, [], All, true}
+use Rattle.std.specs.Prelude.{◌≡◌, ℕ, ◌↔◌, List, [], All, true}
 use Rattle.jc_base.specs.declared.ty.Ty.{Ty}
 use Rattle.jc_base.specs.declared.ty.Ty.TheVariants.{Bottom}
 use Rattle.jc_base.specs.World.{Linked}
@@ -58,6 +58,15 @@ MetIsSound w = (m : Method) (place : ℕ) (met : Frame) → IsMethodOf w m → I
 -- what a refusal tells denies every card typing
 abbrev pub RefusalDenies : Linked → Type 0
 RefusalDenies w = (m : Method) (fault : CardFault) (kept : Frame) → IsMethodOf w m → IsRefused w m fault kept → ¬ (HasCardTyping w m)
+
+-- a method is refused in one way: no two refusals tell different faults, and where a state is at fault one frame is kept
+abbrev pub RefusalIsOne : Linked → Type 0
+RefusalIsOne w =
+    (m : Method) (fault other : CardFault) (kept held : Frame)
+    → IsMethodOf w m
+    → IsRefused w m fault kept
+    → IsRefused w m other held
+    → (fault ≡ other) × (¬ (IsFlawKind fault.kind) → kept ≡ held)
 
 -- a refusal tells a flaw exactly where the method is not well formed
 abbrev pub FlawsAreTold : Linked → Type 0

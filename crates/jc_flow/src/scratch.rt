@@ -1,4 +1,4 @@
-ghost use Rattle.std.specs.Prelude.{◌≡◌, ◌≤◌, [], ◌++◌, drop, length, reverse, replicate, All, IfOk, IsSomeAnd, slice_get};
+ghost use Rattle.std.specs.Prelude.{◌≡◌, ◌≤◌, [], ◌++◌, drop, length, reverse, replicate, All, IfOk, OnErr, IsSomeAnd, slice_get};
 ghost use Rattle.jc_base.specs.Order.{IsKnown};
 ghost use Rattle.jc_rules.specs.Held.{lent};
 ghost use Rattle.jc_flow.specs.Scratch.{Scratched, SuitsMethod, IsStepped};
@@ -84,6 +84,7 @@ impl Scratch {
         requires regs_known { All (IsKnown world.now.classes) self.old.frame.regs }
         requires stack_known { All (IsKnown world.now.classes) self.old.frame.stack }
         ensures stepped { IsStepped world.now site insn self.old.frame self.new.frame result }
+        ensures as_before { OnErr result (self.new.frame ≡ self.old.frame) }
         ensures room { self.new.room ≡ self.old.room }
     {
         match apply(

@@ -1,5 +1,5 @@
 -- What it means that a run was begun, or was not.
-use Rattle.std.specs.Prelude.{◌≡◌, ℕ, List, Some, None, ⊤}
+use Rattle.std.specs.Prelude.{◌≡◌, ℕ, List, Some, None}
 use Rattle.jc_base.specs.World.{Linked}
 use Rattle.vm_store.specs.Cells.{tagged}
 use Rattle.vm_step.specs.Arguments.{Argument}
@@ -15,10 +15,10 @@ pub record IsBegun (w : Linked) (entry : ℕ) (args : List Argument) (run : Held
   pub state : run.state ≡ entry_state tagged w entry args
   pub goes_on : run.ending ≡ None
 
--- the first fault, or no memory
+-- the first fault, or no memory for an entry and arguments that have none
 abbrev pub RefusesRun : Linked → ℕ → List Argument → StartEnd → Type 0
 RefusesRun w entry args (Fault fault) = start_fault w entry args ≡ Some fault
-RefusesRun w entry args Memory = ⊤
+RefusesRun w entry args Memory = start_fault w entry args ≡ None
 
 -- the state in which a run begins has the shape of its world
 abbrev pub StartsAreShaped : Linked → Type 0

@@ -162,7 +162,7 @@ module _ (w : Linked) (first : ℕ) (is : BeginsLast w first) where
       }
 
   pub untyped-tells : (n : ℕ) (end : FlowEnd) → first ≤ n → AreAcceptedLibraries w → AllHaveBelow (IsOfLast w) (λ m. HasFlowTyping w m Top) n → HasNoTyping w n end → (ps : List PackageRecord) → TellsOf ps w (untyped n end)
-  untyped-tells n flow.Memory le accepted below h ps = tt {0}
+  untyped-tells n flow.Memory le accepted below h ps = accepted
   untyped-tells n (flow.NoTyping p fault) le accepted below h ps = untyped-last n (flow.NoTyping p fault) le accepted below h (λ e. absurd (cc))
   untyped-tells n (flow.FallsOff p) le accepted below h ps = untyped-last n (flow.FallsOff p) le accepted below h (λ e. absurd (cc))
   untyped-tells n (flow.Code p end) le accepted below h ps = untyped-last n (flow.Code p end) le accepted below h (λ e. absurd (cc))
@@ -197,5 +197,5 @@ module _ (w : Linked) (first : ℕ) (is : BeginsLast w first) where
       }
 
   pub unlaid-tells : (n : ℕ) (end : LayingEnd) → first ≤ n → AreAcceptedLibraries w → IsTypedLast w → AllHaveBelow (IsOfLast w) (HasLaidCode w) n → TellsUnlaid w n end → (ps : List PackageRecord) → TellsOf ps w (unlaid n end)
-  unlaid-tells n laying.Memory le accepted typed below h ps = tt {0}
+  unlaid-tells n laying.Memory le accepted typed below h ps = accepted
   unlaid-tells n (laying.Passed limit) le accepted typed below h ps = limited n limit le accepted typed below h

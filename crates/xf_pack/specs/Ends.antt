@@ -71,14 +71,14 @@ pub record IsPartLong (packages : List PackageRecord) (w : Linked) (n : ℕ) : T
   pub code : AreLaidOf w laid
   pub long : IsPartTooLong source laid n
 
--- the ends where the packages make a world
+-- the ends where the packages make a world; where the libraries are not accepted, that is told, and memory plays no part
 abbrev pub TellsOf : List PackageRecord → Linked → TransformEnd → Type 0
 TellsOf packages w (Link fault) = ⊥
 TellsOf packages w (Library method fault) = IsRefusedLibrary w method fault
 TellsOf packages w (Typing method end) = IsUntypedLast w method end
 TellsOf packages w (Limit method limit) = IsLimited w method limit
 TellsOf packages w (PartLong n) = IsPartLong packages w n
-TellsOf packages w Memory = Unit {0}
+TellsOf packages w Memory = AreAcceptedLibraries w
 
 -- they make one, of which the end tells
 pub record TellsLinked (packages : List PackageRecord) (roles : List ℕ) (end : TransformEnd) : Type 0 where

@@ -1,9 +1,8 @@
 use Rattle.capcheck_core.specs.Outside.{card}
-use Rattle.capcheck_core.proofs.Ran.{kept_there}
+use Rattle.capcheck_core.specs.Run.{bounded_request}
+use Rattle.capcheck_core.proofs.Ran.{with_memory}
 use Rattle.capcheck_core.proofs.running.with_arguments.Goals as goal
 
-pub returns-in-Err-clause-runs : goal.returns-in-Err-clause-runs
-returns-in-Err-clause-runs c = c.not_run.ensures (card c.run_verified.new.ram c.run_verified.new.heap c.run_verified.new.statics)
-
-pub returns-in-Err-clause-kept : goal.returns-in-Err-clause-kept
-returns-in-Err-clause-kept c = kept_there _ _ c.not_run.result c.in-Err.ensures.kept
+pub returns-in-Ok-clause-runs : goal.returns-in-Ok-clause-runs
+returns-in-Ok-clause-runs c =
+    with_memory c.args.world.now (bounded_request c.args.run.now) (card c.with_room.new.ram c.with_room.new.heap c.with_room.new.statics) c.with_room.result c.with_room.ensures.runs

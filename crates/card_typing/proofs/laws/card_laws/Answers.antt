@@ -1,6 +1,7 @@
 use Rattle.card_typing.proofs.Flowing.{card-is-flow}
 use Rattle.card_typing.proofs.Sound.{met-is-sound}
 use Rattle.card_typing.proofs.Below.{met-is-below, refusal-denies, flaws-are-told}
+use Rattle.card_typing.proofs.OneRefusal.{refusal-one}
 use Rattle.card_typing.proofs.Quiet.{quiet-is-least}
 use Rattle.card_typing.proofs.Sites.{rule-is-of-record}
 use Rattle.card_typing.proofs.laws.card_laws.Goals as goal
@@ -14,6 +15,9 @@ returns-clause-met c = met-is-below c.args.world.now (record { rules = c.rule_la
 pub returns-clause-refused : goal.returns-clause-refused
 returns-clause-refused c =
     refusal-denies c.args.world.now (record { rules = c.rule_laws.ensures; falls = c.rule_falls.ensures.card; stays = c.rule_raises.ensures.stays }) c.flaws_decide.ensures
+
+pub returns-clause-one : goal.returns-clause-one
+returns-clause-one c = refusal-one c.args.world.now c.rule_laws.ensures c.flaws_decide.ensures c.first_flaw_is_one.ensures
 
 pub returns-clause-told : goal.returns-clause-told
 returns-clause-told c = flaws-are-told c.args.world.now c.flaws_decide.ensures
