@@ -1,15 +1,17 @@
 //! Worked components and packages. Package T, a small package of eight classes and two methods, stands
-//! here once, in format 2.2 and in format 2.1, with changes of a package by name. The tests read worked components with each reader
-//! (`cap_frame`, `cap_pool`, `cap_class`, `cap_method`, `cap_desc`), and changed packages with
-//! `cap_package`.
+//! here once, in format 2.2 and in format 2.1, with what differs in its form for the card and with changes of a
+//! package by name. The tests read worked components with each reader (`cap_frame`, `cap_pool`, `cap_class`,
+//! `cap_method`, `cap_desc`), and changed packages with `cap_package`.
 #![tactic(auto)]
 
+mod card_package;
 mod changes;
 mod components;
 mod older_package;
 mod plain_package;
 mod whole_package;
 
+pub use card_package::{CARD_DIRECTORY, CARD_INDEX, CARD_METHOD, OLDER_CARD_DIRECTORY};
 pub use changes::{Change, File, changed};
 pub use components::{
     APPLET, CLASS, CONSTANT_POOL, DEBUG, DESCRIPTOR, DIRECTORY, EXPORT, HEADER, IMPORT, METHOD,

@@ -80,7 +80,7 @@ pub fn short_number(word: &str) -> Option<u16>
     }
 }
 
-/// The argument that a word writes, where it writes one. Words that begin with a number sign take memory, and no others.
+/// The argument that a word writes, where it writes one. Only words that begin with a number sign take memory.
 pub fn argument(alloc: Global, word: &str) -> Result<Option<OwnedArg>, AllocError>
     ensures found { IfOk result (λ o. IfSome o (λ a. IsArgWord word.now (argument_read a))) }
     ensures none { IfOk result (λ o. IfNone o ((a : Argument) → IsArgWord word.now a → ⊥)) }

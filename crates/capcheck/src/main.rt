@@ -128,6 +128,3 @@ fn longest(words: &Words) -> u32
     }
     longest
 }
-
-#[cfg(test)]
-mod tests;

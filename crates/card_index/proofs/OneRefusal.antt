@@ -7,13 +7,13 @@ use Rattle.jc_base.specs.World.{Linked}
 use Rattle.jc_decode.specs.declared.insn.Placed.{Placed}
 use Rattle.jc_decode.specs.Listing.{listing, targets}
 use Rattle.jc_control.specs.Method.{Method, IsMethodOf}
-use Rattle.jc_control.specs.WellFormed.{HasInstruction, IsWellFormed}
+use Rattle.jc_control.specs.WellFormed.{HasInstruction}
 use Rattle.jc_control.specs.FirstFailing.{IsFirstFailing}
-use Rattle.jc_control.specs.Flaw.{IsFirstFlaw}
 use Rattle.jc_control.specs.declared.flaw.Flaw.{Flaw}
 use Rattle.jc_control.specs.declared.flaw.Flaw.TheVariants as flaws
-use Rattle.jc_control.specs.Laws.{FlawsDecide, FirstFlawIsOne}
+use Rattle.jc_control.specs.Laws.{FirstFlawIsOne}
 use Rattle.jc_control.proofs.Elements.{taken-in}
+use Rattle.jc_control.proofs.FlawLaws.{first-flaw-refuses}
 use Rattle.jc_rules.specs.Demand.{Frame}
 use Rattle.jc_rules.specs.FlowLaws.{AreRules}
 use Rattle.card_typing.specs.declared.fault.CardFault.{CardFault}
@@ -134,31 +134,28 @@ module _ (w : Linked) (rules : AreRules w) (m : Method) (mo : IsMethodOf w m) (i
         λ of_state. agree.1,
       )
 
-  module _ (flaws_decide : FlawsDecide) (one_flaw : FirstFlawIsOne) where
-    flawless : (f : Flaw) → IsFirstFlaw m f → IsWellFormed m → ⊥
-    flawless f first formed = (flaws_decide m).0 formed first.spot f first.flaw
-
+  module _ (one_flaw : FirstFlawIsOne) where
     refusal-one-of : (fault other : CardFault) (kept held : Frame) → IsRefusedOver w m index fault kept → IsRefusedOver w m index other held → Agrees fault kept other held
     refusal-one-of _ _ _ _ (over_flaw f kept first) (over_flaw g held also) = (ap fault_of (one_flaw m f g first also), λ of_state. absurd (of_state (flaw-told f)))
-    refusal-one-of _ _ _ _ (over_flaw f kept first) (over_entry k held formed bad) = absurd (flawless f first formed)
-    refusal-one-of _ _ _ _ (over_flaw f kept first) (over_target p q held formed up places lacks) = absurd (flawless f first formed)
-    refusal-one-of _ _ _ _ (over_flaw f kept first) (over_state i b held kind formed whole there met wrong) = absurd (flawless f first formed)
-    refusal-one-of _ _ _ _ (over_entry k kept formed bad) (over_flaw f held first) = absurd (flawless f first formed)
+    refusal-one-of _ _ _ _ (over_flaw f kept first) (over_entry k held formed bad) = absurd (first-flaw-refuses m f first formed)
+    refusal-one-of _ _ _ _ (over_flaw f kept first) (over_target p q held formed up places lacks) = absurd (first-flaw-refuses m f first formed)
+    refusal-one-of _ _ _ _ (over_flaw f kept first) (over_state i b held kind formed whole there met wrong) = absurd (first-flaw-refuses m f first formed)
+    refusal-one-of _ _ _ _ (over_entry k kept formed bad) (over_flaw f held first) = absurd (first-flaw-refuses m f first formed)
     refusal-one-of _ _ _ _ (over_entry k kept formed bad) (over_entry j held also worse) =
         let same : k ≡ j = same-number (λ n. IsBadEntry m.code index n) k j bad.bad worse.bad bad.least worse.least in
         (ap (λ n. record { place = 0; depth = 0; kind = BadIndex n }) same, λ of_state. absurd (of_state tt))
     refusal-one-of _ _ _ _ (over_entry k kept formed bad) (over_target p q held also up places lacks) = absurd (no-bad m index up places k bad.bad)
     refusal-one-of _ _ _ _ (over_entry k kept formed bad) (over_state i b held kind also whole there met wrong) = absurd (no-bad m index whole.ascending whole.places k bad.bad)
-    refusal-one-of _ _ _ _ (over_target p q kept formed up places lacks) (over_flaw f held first) = absurd (flawless f first formed)
+    refusal-one-of _ _ _ _ (over_target p q kept formed up places lacks) (over_flaw f held first) = absurd (first-flaw-refuses m f first formed)
     refusal-one-of _ _ _ _ (over_target p q kept formed up places lacks) (over_entry k held also bad) = absurd (no-bad m index up places k bad.bad)
     refusal-one-of _ _ _ _ (over_target p q kept formed up places lacks) (over_target r s held also high all other) =
         let same = lacking-one m.code index p r q s lacks other in
         (ap (λ n. record { place = n; depth = 0; kind = NotIndexed q }) same.0 ∙ ap (λ n. record { place = r; depth = 0; kind = NotIndexed n }) same.1, λ of_state. absurd (of_state tt))
     refusal-one-of _ _ _ _ (over_target p q kept formed up places lacks) (over_state i b held kind also whole there met wrong) = absurd (lacks.lacks.fails (whole.complete q (lacking-target m index p q lacks)))
-    refusal-one-of _ _ _ _ (over_state i b kept kind formed whole there met wrong) (over_flaw f held first) = absurd (flawless f first formed)
+    refusal-one-of _ _ _ _ (over_state i b kept kind formed whole there met wrong) (over_flaw f held first) = absurd (first-flaw-refuses m f first formed)
     refusal-one-of _ _ _ _ (over_state i b kept kind formed whole there met wrong) (over_entry k held also bad) = absurd (no-bad m index whole.ascending whole.places k bad.bad)
     refusal-one-of _ _ _ _ (over_state i b kept kind formed whole there met wrong) (over_target p q held also up places lacks) = absurd (lacks.lacks.fails (whole.complete q (lacking-target m index p q lacks)))
     refusal-one-of _ _ _ _ (over_state i b kept kind formed whole there met wrong) (over_state j c held other also again here met_too worse) = state-one i j b c kept held kind other whole there here met met_too wrong worse
 
-pub refusal-one-over : (w : Linked) → AreRules w → FlawsDecide → FirstFlawIsOne → RefusalIsOneOver w
-refusal-one-over w rules flaws_decide one_flaw m index fault other kept held mo r s = refusal-one-of w rules m mo index flaws_decide one_flaw fault other kept held r s
+pub refusal-one-over : (w : Linked) → AreRules w → FirstFlawIsOne → RefusalIsOneOver w
+refusal-one-over w rules one_flaw m index fault other kept held mo r s = refusal-one-of w rules m mo index one_flaw fault other kept held r s

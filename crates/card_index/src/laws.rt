@@ -2,7 +2,7 @@ ghost use Rattle.card_index.specs.Laws.{IndexedIsTyped, ExactServes, ExactRefuse
 
 use card_typing::card_laws;
 use jc_base::World;
-use jc_control::{first_flaw_is_one, flaws_decide};
+use jc_control::first_flaw_is_one;
 use jc_rules::rule_laws;
 
 /// What card typings over a target index have to do with card typings, and with refusals over it, of which a method has
@@ -16,6 +16,5 @@ pub fn index_laws(world: &World<'_>)
 {
     card_laws(world);
     rule_laws(world);
-    flaws_decide();
     first_flaw_is_one();
 }

@@ -1,6 +1,6 @@
 -- The states that are met come one after another, so that a method is refused in one way. What the walk may ask of a stack
 -- besides (`Suits`) is left open, for a walk over an index.
-use Rattle.std.proofs.Common.{◌≡◌, ℕ, ◌+◌, ◌<◌, ⊎_elim, Bool, true, List, [], ◌∷◌, refl, sym, ◌∙◌, ap, subst, arith}
+use Rattle.std.proofs.Common.{◌≡◌, ℕ, ◌+◌, ⊎_elim, Bool, true, List, [], ◌∷◌, refl, sym, ◌∙◌, ap, subst, arith}
 use Rattle.std.specs.Prelude.{⊤}
 use Rattle.std.proofs.lemmas.Bool.{false≢true}
 use Rattle.jc_base.specs.declared.ty.Ty.{Ty}
@@ -9,10 +9,9 @@ use Rattle.jc_base.specs.World.{Linked}
 use Rattle.jc_decode.specs.declared.insn.Placed.{Placed}
 use Rattle.jc_decode.specs.Listing.{falls}
 use Rattle.jc_control.specs.Method.{Method, IsMethodOf}
-use Rattle.jc_control.specs.WellFormed.{HasInstruction, IsWellFormed}
-use Rattle.jc_control.specs.Flaw.{IsFirstFlaw}
-use Rattle.jc_control.specs.declared.flaw.Flaw.{Flaw}
-use Rattle.jc_control.specs.Laws.{FlawsDecide, FirstFlawIsOne}
+use Rattle.jc_control.specs.WellFormed.{HasInstruction}
+use Rattle.jc_control.specs.Laws.{FirstFlawIsOne}
+use Rattle.jc_control.proofs.FlawLaws.{first-flaw-refuses}
 use Rattle.jc_rules.specs.declared.effect.Mode.TheVariants.{Card}
 use Rattle.jc_rules.specs.declared.rule.Outcome.{Outcome}
 use Rattle.jc_rules.specs.Demand.{Frame}
@@ -252,15 +251,12 @@ module _ (w : Linked) (rules : AreRules w) (m : Method) (mo : IsMethodOf w m) wh
         λ of_state. agree.1,
       )
 
-  module _ (flaws_decide : FlawsDecide) (one_flaw : FirstFlawIsOne) where
-    flawless : (f : Flaw) → IsFirstFlaw m f → IsWellFormed m → ⊥
-    flawless f first formed = (flaws_decide m).0 formed first.spot f first.flaw
-
+  module _ (one_flaw : FirstFlawIsOne) where
     refusal-one-of : (fault other : CardFault) (kept held : Frame) → IsRefused w m fault kept → IsRefused w m other held → Agrees fault kept other held
     refusal-one-of _ _ _ _ (refused_flaw f kept first) (refused_flaw g held also) = (ap fault_of (one_flaw m f g first also), λ of_state. absurd (of_state (fault-kind f)))
-    refusal-one-of _ _ _ _ (refused_flaw f kept first) (refused_state i b held kind formed there met wrong) = absurd (flawless f first formed)
-    refusal-one-of _ _ _ _ (refused_state i b kept kind formed there met wrong) (refused_flaw f held first) = absurd (flawless f first formed)
+    refusal-one-of _ _ _ _ (refused_flaw f kept first) (refused_state i b held kind formed there met wrong) = absurd (first-flaw-refuses m f first formed)
+    refusal-one-of _ _ _ _ (refused_state i b kept kind formed there met wrong) (refused_flaw f held first) = absurd (first-flaw-refuses m f first formed)
     refusal-one-of _ _ _ _ (refused_state i b kept kind formed there met wrong) (refused_state j c held other also here met_too worse) = state-one i j b c kept held kind other there here met met_too wrong worse
 
-pub refusal-one : (w : Linked) → AreRules w → FlawsDecide → FirstFlawIsOne → RefusalIsOne w
-refusal-one w rules flaws_decide one_flaw m fault other kept held mo r s = refusal-one-of w rules m mo flaws_decide one_flaw fault other kept held r s
+pub refusal-one : (w : Linked) → AreRules w → FirstFlawIsOne → RefusalIsOne w
+refusal-one w rules one_flaw m fault other kept held mo r s = refusal-one-of w rules m mo one_flaw fault other kept held r s

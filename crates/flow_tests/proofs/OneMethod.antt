@@ -2,9 +2,9 @@
 use Rattle.std.proofs.Common.{◌≡◌, ℕ, zero, suc, ◌+◌, ◌<◌, ◌≤◌, Bool, true, false, List, [], ◌∷◌, length, refl, sym, subst, arith, lit<, lit≤, All}
 use Rattle.std.specs.Prelude.{IfSome, slice_get, slice_index, ◌==◌}
 use Rattle.std.proofs.lemmas.List.Elements.{All-from_recursion, All-nil}
-use Rattle.jc_base.specs.declared.ty.Ty.TheVariants.{Class, Short}
+use Rattle.jc_base.specs.declared.ty.Ty.TheVariants.{Class, IntHigh, IntLow, Short}
 use Rattle.jc_base.specs.declared.record.Member.TheVariants.{ClassOf}
-use Rattle.jc_base.specs.Cell.{IsDeclared, IsFirstCell, AreWhole, no_cells, one_cell}
+use Rattle.jc_base.specs.Cell.{IsDeclared, IsFirstCell, AreWhole, no_cells, one_cell, whole_int}
 use Rattle.jc_base.specs.declared.record.Handler.{Handler}
 use Rattle.jc_base.specs.declared.record.MethodRec.{MethodRec}
 use Rattle.jc_base.specs.Class.{IsClass, AreClasses, EndsWithObject, is_interface, parent_of, chain, chain_over}
@@ -115,36 +115,42 @@ declared shapes.Thrown = All-from_recursion (IsDeclared classes) (Class 2 ∷ Cl
 declared shapes.Shorts = All-from_recursion (IsDeclared classes) (Short ∷ Short ∷ []) (tt, (tt, tt))
 declared shapes.Object = All-from_recursion (IsDeclared classes) (Class 0 ∷ []) (is_object, tt)
 declared shapes.Wide = All-from_recursion (IsDeclared classes) (Short ∷ []) (tt, tt)
+declared shapes.Ints = All-from_recursion (IsDeclared classes) (IntHigh ∷ IntLow ∷ []) (tt, (tt, tt))
 
 given : (shape : Shape) → IfSome (result_of shape) (IsDeclared classes)
 given shapes.Thrown = is_throwable
 given shapes.Shorts = tt
 given shapes.Object = tt
 given shapes.Wide = tt
+given shapes.Ints = tt
 
 first_cell : (shape : Shape) → IfSome (result_of shape) IsFirstCell
 first_cell shapes.Thrown = tt
 first_cell shapes.Shorts = tt
 first_cell shapes.Object = tt
 first_cell shapes.Wide = tt
+first_cell shapes.Ints = tt
 
 whole_arguments : (shape : Shape) → AreWhole (arguments_of shape)
 whole_arguments shapes.Thrown = one_cell tt (one_cell tt no_cells)
 whole_arguments shapes.Shorts = one_cell tt (one_cell tt no_cells)
 whole_arguments shapes.Object = one_cell tt no_cells
 whole_arguments shapes.Wide = one_cell tt no_cells
+whole_arguments shapes.Ints = whole_int no_cells
 
 words_are : (shape : Shape) → words_of shape ≡ length (arguments_of shape) + 0
 words_are shapes.Thrown = refl
 words_are shapes.Shorts = refl
 words_are shapes.Object = refl
 words_are shapes.Wide = refl
+words_are shapes.Ints = refl
 
 few_registers : (shape : Shape) → words_of shape + locals_of shape ≤ 255
 few_registers shapes.Thrown = lit≤ tt
 few_registers shapes.Shorts = lit≤ tt
 few_registers shapes.Object = lit≤ tt
 few_registers shapes.Wide = lit≤ tt
+few_registers shapes.Ints = lit≤ tt
 
 module _ (shape : Shape) (code : List ℕ) (handlers : List Handler) (filled : 0 < length code) (short : length code ≤ 32767) (few : length handlers ≤ 255) (fit : All (IsHandler classes (ClassOf 1 ∷ []) (length code)) handlers) where
   the_method : IsMethod (code ∷ []) ((ClassOf 1 ∷ []) ∷ []) classes (only_method shape (length code) handlers)

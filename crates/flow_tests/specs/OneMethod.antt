@@ -19,24 +19,28 @@ arguments_of shapes.Thrown = Class 2 ∷ Class 3 ∷ []
 arguments_of shapes.Shorts = Short ∷ Short ∷ []
 arguments_of shapes.Object = Class 0 ∷ []
 arguments_of shapes.Wide = Short ∷ []
+arguments_of shapes.Ints = IntHigh ∷ IntLow ∷ []
 
 abbrev pub result_of : Shape → Option Ty
 result_of shapes.Thrown = Some (Class 1)
 result_of shapes.Shorts = Some Short
 result_of shapes.Object = Some Short
 result_of shapes.Wide = Some Short
+result_of shapes.Ints = Some IntHigh
 
 abbrev pub words_of : Shape → ℕ
 words_of shapes.Thrown = 2
 words_of shapes.Shorts = 2
 words_of shapes.Object = 1
 words_of shapes.Wide = 1
+words_of shapes.Ints = 2
 
 abbrev pub locals_of : Shape → ℕ
 locals_of shapes.Thrown = 1
 locals_of shapes.Shorts = 0
 locals_of shapes.Object = 1
 locals_of shapes.Wide = 254
+locals_of shapes.Ints = 2
 
 -- ---- the method and the classes
 

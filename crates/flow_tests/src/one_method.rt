@@ -87,6 +87,7 @@ fn arguments(alloc: Global, shape: Shape) -> Result<Tys, AllocError>
         Shape::Shorts => list(alloc, &[Ty::Short, Ty::Short]),
         Shape::Object => list(alloc, &[Ty::Class(0)]),
         Shape::Wide => list(alloc, &[Ty::Short]),
+        Shape::Ints => list(alloc, &[Ty::IntHigh, Ty::IntLow]),
     }
 }
 

@@ -14,6 +14,8 @@ pub enum Shape {
     Object,
     /// A short; gives a short; 254 locals.
     Wide,
+    /// An int; gives an int; two locals.
+    Ints,
 }
 
 impl Shape {
@@ -23,6 +25,7 @@ impl Shape {
         match self {
             Shape::Thrown => Some(Ty::Class(1)),
             Shape::Shorts | Shape::Object | Shape::Wide => Some(Ty::Short),
+            Shape::Ints => Some(Ty::IntHigh),
         }
     }
 
@@ -31,7 +34,7 @@ impl Shape {
         ensures { result ≡ words_of self }
     {
         match self {
-            Shape::Thrown | Shape::Shorts => 2,
+            Shape::Thrown | Shape::Shorts | Shape::Ints => 2,
             Shape::Object | Shape::Wide => 1,
         }
     }
@@ -43,6 +46,7 @@ impl Shape {
             Shape::Thrown | Shape::Object => 1,
             Shape::Shorts => 0,
             Shape::Wide => 254,
+            Shape::Ints => 2,
         }
     }
 }

@@ -2,7 +2,6 @@
 use Rattle.std.proofs.Common.{◌≡◌, ℕ, zero, suc, ◌+◌, List, [], ◌∷◌, refl, subst}
 use Rattle.std.specs.Prelude.{Contains, Some, slice_get}
 use Rattle.cap_package.specs.PackageRecord.{PackageRecord}
-use Rattle.jc_base.specs.Leads.{Leads}
 use Rattle.jc_base.specs.Class.{ClassTable}
 use Rattle.jc_hierarchy.specs.Outline.{LineTable}
 use Rattle.jc_base.specs.Interface.{extended, extended_in, NoneExtendsItself}

@@ -2,7 +2,7 @@
 use Rattle.std.specs.Prelude.{◌≡◌, ℕ, ◌≤◌, List, length, slice_index, sum_by, All}
 use Rattle.cap_package.specs.PackageRecord.{PackageRecord}
 use Rattle.jc_base.specs.Class.{ClassTable}
-use Rattle.jc_base.specs.Cell.{IsDeclared, width}
+use Rattle.jc_base.specs.Cell.{IsDeclared, width, AreElementsOf}
 use Rattle.jc_base.specs.Linked.{AreLinkedClasses, AreSlots, IsMember, IsStatic}
 use Rattle.jc_resolve.specs.Named.{AreNamed, infos_of}
 use Rattle.jc_resolve.specs.Names.{NamesRecord, named}
@@ -10,7 +10,9 @@ use Rattle.jc_hierarchy.specs.Lines.{HaveLines}
 use Rattle.jc_hierarchy.specs.Outline.{AreLines}
 use Rattle.jc_statics.specs.Arrays.{array_records, initial_cells}
 use Rattle.jc_members.specs.Pools.{pools}
+use Rattle.jc_indexes.specs.Indexes.{indexes_of}
 use Rattle.jc_link.specs.declared.linking.Resolved.{Resolved}
+use Rattle.jc_link.specs.declared.linking.Taken.{Taken}
 use Rattle.jc_link.specs.World.{classes_of, lineage_of, table_of, methods_of, statics_of}
 
 -- the names of packages, in which everything is a number
@@ -45,3 +47,11 @@ pub record AreResolved (ps : List PackageRecord) (roles : List ℕ) (x : Resolve
   pub members : All (All (IsMember (table_of ps roles) (methods_of ps roles) x.statics)) x.pools
   pub arrays : length (array_records ps) ≤ 4096
   pub array_cells : initial_cells (array_records ps) ≤ 32768
+
+-- what a world takes of named packages besides
+pub record AreTaken (n : NamesRecord) (x : Taken) : Type 0 where
+  pub infos : x.infos ≡ infos_of n.packages
+  pub bytes : All (λ info. length info ≤ 65535) x.infos
+  pub arrays : x.arrays ≡ array_records n.packages
+  pub elements : All (λ a. AreElementsOf a.kind a.initial) x.arrays
+  pub indexes : x.indexes ≡ indexes_of n.packages n.methods

@@ -1,18 +1,18 @@
 ghost use Rattle.std.specs.Prelude.{◌≤◌, length, IfOk, OnOk};
 ghost use Rattle.first_fault.specs.First.{AllEmpty};
 ghost use Rattle.jc_statics.specs.Arrays.{array_records, initial_cells};
-ghost use Rattle.jc_link.specs.World.{TellsFirst, LinkTells, table_conditions, member_conditions, rest_conditions};
-ghost use Rattle.jc_link.specs.Known.{AreNamesOf, IsTableOf, AreResolved};
+ghost use Rattle.jc_link.specs.World.{TellsFirst, LinkTells, IsLinked, table_conditions, member_conditions, rest_conditions};
+ghost use Rattle.jc_link.specs.Known.{AreNamesOf, IsTableOf, AreResolved, AreTaken};
 
 use crate::method_infos::infos;
 use crate::tabling::{Tabled, with_table};
 use cap_package::Packages;
-use jc_base::{Classes, Pools, Statics, World, concrete_decides};
+use jc_base::{Arrays, Classes, Indexes, Infos, Pools, Statics, World, concrete_decides};
 use jc_indexes::indexes;
 use jc_members::{handlers_fit, members, roles_fit};
 use jc_resolve::{LinkEnd, Names};
 use jc_statics::{arrays, arrays_fit, statics, statics_fit};
-use std::alloc::Global;
+use std::alloc::{AllocError, Global};
 
 /// What stands on the classes of a world.
 #[derive(Drop)]
@@ -53,6 +53,28 @@ fn resolve(alloc: Global, names: &Names<'_, '_, '_>, classes: &Classes) -> Resul
     Ok(Resolved { statics, pools })
 }
 
+/// What a world takes of packages besides.
+#[derive(Drop)]
+struct Taken<'a> {
+    infos: Infos<'a>,
+    arrays: Arrays,
+    indexes: Indexes<'a>,
+}
+
+/// The Method infos, the initial arrays and the target indexes of packages.
+fn take_lists<'a>(alloc: Global, names: &Names<'_, '_, 'a>) -> Result<Taken<'a>, AllocError>
+    requires { AreNamesOf names.now.packages names.now.roles names.now }
+    ensures { IfOk result (AreTaken names.now) }
+{
+    names.facts();
+    let packages = names.packages();
+    Ok(Taken {
+        infos: infos(alloc, packages)?,
+        arrays: arrays(alloc, packages)?,
+        indexes: indexes(alloc, packages, names.methods())?,
+    })
+}
+
 /// The world of packages by number, of which nothing is at fault.
 fn made<'a>(
     alloc: Global,
@@ -66,22 +88,30 @@ fn made<'a>(
     requires members { AllEmpty (member_conditions tabled.names.packages tabled.names.roles) }
     ensures { LinkTells tabled.entry.names.packages tabled.entry.names.roles result }
 {
+    let taken = take_lists(alloc, &tabled.names)?;
+    Ok(world_of(tabled, resolved, taken))
+}
+
+fn world_of<'a>(tabled: Tabled<'_, '_, 'a>, resolved: Resolved, taken: Taken<'a>) -> World<'a>
+    requires names { AreNamesOf tabled.names.packages tabled.names.roles tabled.names }
+    requires table { IsTableOf tabled.names.packages tabled.names.roles tabled.classes }
+    requires resolved { AreResolved tabled.names.packages tabled.names.roles resolved }
+    requires classes { AllEmpty (table_conditions tabled.names.packages tabled.names.roles) }
+    requires members { AllEmpty (member_conditions tabled.names.packages tabled.names.roles) }
+    requires taken { AreTaken tabled.names taken }
+    ensures { IsLinked tabled.entry.names.packages tabled.entry.names.roles result }
+{
     concrete_decides();
-    tabled.names.facts();
-    let packages = tabled.names.packages();
-    let arrays = arrays(alloc, packages)?;
-    let infos = infos(alloc, packages)?;
-    let indexes = indexes(alloc, packages, tabled.names.methods())?;
     let methods = tabled.names.into_methods();
-    Ok(World::of(
-        infos,
+    World::of(
+        taken.infos,
         resolved.pools,
         tabled.classes,
         methods,
         resolved.statics,
-        arrays,
-        indexes,
-    ))
+        taken.arrays,
+        taken.indexes,
+    )
 }
 
 /// The world of packages and the roles of classes, or the first condition that is broken.

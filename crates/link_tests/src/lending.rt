@@ -4,7 +4,7 @@ use cap_package::{OwnedParts, Parts};
 use std::alloc::{AllocError, Global};
 
 /// The parts of packages, borrowed.
-pub fn lent(alloc: Global, packages: &[OwnedParts]) -> Result<Vec<Parts<'_>>, AllocError>
+pub(crate) fn lent(alloc: Global, packages: &[OwnedParts]) -> Result<Vec<Parts<'_>>, AllocError>
     ensures { IfOk result (λ parts. parts.items ≡ packages.now) }
 {
     let mut parts = Vec::new(alloc);

@@ -49,7 +49,7 @@ const LIBRARY_DESCRIPTOR: [u8; 90] = [
 
 /// A package with an interface of one method, class object, which serves it and has a package-visible
 /// method, a static method and a static field, and throwable; it exports all three.
-pub const LIBRARY: [File<'static>; 10] = [
+pub(crate) const LIBRARY: [File<'static>; 10] = [
     (HEADER, &LIBRARY_HEADER),
     (DIRECTORY, &LIBRARY_DIRECTORY),
     (IMPORT, &LIBRARY_IMPORT),
@@ -111,7 +111,7 @@ const USER_DESCRIPTOR: [u8; 84] = [
 /// A package that imports the library: its class extends object, implements the interface, overrides the
 /// method that serves it, and adds a method with a handler and a package-visible one; its pool names one
 /// of each kind.
-pub const USER: [File<'static>; 9] = [
+pub(crate) const USER: [File<'static>; 9] = [
     (HEADER, &USER_HEADER),
     (DIRECTORY, &USER_DIRECTORY),
     (IMPORT, &USER_IMPORT),
@@ -124,4 +124,4 @@ pub const USER: [File<'static>; 9] = [
 ];
 
 /// Object and throwable of the library, whose interface has number 0; throwable has the roles after it.
-pub const LIBRARY_ROLES: [u8; 8] = [1, 2, 2, 2, 2, 2, 2, 2];
+pub(crate) const LIBRARY_ROLES: [u8; 8] = [1, 2, 2, 2, 2, 2, 2, 2];

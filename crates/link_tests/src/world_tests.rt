@@ -1,6 +1,6 @@
 use crate::lending::lent;
+use crate::library_and_user::{LIBRARY, LIBRARY_ROLES, USER};
 use crate::reading::{owned, read};
-use crate::{LIBRARY, LIBRARY_ROLES, USER};
 use cap_package::{OwnedParts, Packages};
 use cap_tests::{PLAIN, PLAIN_ROLES};
 use jc_base::{Handler, Kind, Member, StaticRec, World};

@@ -1,12 +1,22 @@
-//! Worked packages in the form that a verifier on the card accepts: package T of `cap_tests` in both formats, the same with another second
-//! method, and methods at the limits.
+//! Worked packages that are written, transformed and generated: package T of `cap_tests` in both formats and one with every
+//! component, with other code of their methods, custom components and handlers, and methods at the limits.
+//!
+//! It stands on `cap_write`, `xf_pack` and `cap_gen`, whose tests these are.
 #![tactic(auto)]
 
 #[cfg(test)]
-mod limits;
+mod fitting;
 #[cfg(test)]
-mod makers;
+mod generated;
+#[cfg(test)]
+mod limits;
 #[cfg(test)]
 mod methods;
 #[cfg(test)]
 mod package_t;
+#[cfg(test)]
+mod transforming;
+#[cfg(test)]
+mod writing;
+#[cfg(test)]
+mod written;

@@ -1,4 +1,4 @@
-use crate::makers::{Outcome, with_second};
+use crate::transforming::{Outcome, with_second};
 use std::alloc::{AllocError, Global};
 use xf_pack::MethodLimit;
 

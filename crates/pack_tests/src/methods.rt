@@ -1,4 +1,4 @@
-use crate::makers::{Outcome, Second, ends_with, transformed, with_second};
+use crate::transforming::{Outcome, Second, ends_with, transformed, with_second};
 use cap_tests::{Change, DESCRIPTOR, METHOD, PLAIN};
 use std::alloc::{AllocError, Global};
 

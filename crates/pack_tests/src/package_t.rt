@@ -1,37 +1,12 @@
-use crate::makers::{Outcome, ends_with, transformed};
+use crate::transforming::{Outcome, ends_with, transformed};
 use cap_bytes::Part;
 use cap_tests::{
-    CLASS, CONSTANT_POOL, DESCRIPTOR, DIRECTORY, HEADER, IMPORT, METHOD, OLDER, OLDER_CLASS,
-    OLDER_HEADER, PLAIN, PLAIN_CLASS, PLAIN_CONSTANT_POOL, PLAIN_HEADER, PLAIN_IMPORT,
-    PLAIN_REF_LOCATION, PLAIN_STATIC_FIELD, REF_LOCATION, STATIC_FIELD,
+    CARD_DIRECTORY, CARD_INDEX, CARD_METHOD, CLASS, CONSTANT_POOL, DESCRIPTOR, DIRECTORY, HEADER,
+    IMPORT, METHOD, OLDER, OLDER_CARD_DIRECTORY, OLDER_CLASS, OLDER_HEADER, PLAIN, PLAIN_CLASS,
+    PLAIN_CONSTANT_POOL, PLAIN_HEADER, PLAIN_IMPORT, PLAIN_REF_LOCATION, PLAIN_STATIC_FIELD,
+    REF_LOCATION, STATIC_FIELD,
 };
 use std::alloc::{AllocError, Global};
-
-/// The methods: `succ` as it was, with room for a cell more, and `pick` with its stack in locals at each branch.
-const METHODS: [u8; 33] = [
-    0x07, 0x00, 0x1E, 0x00, 0x03, 0x10, 0x1C, 0x04, 0x41, 0x78, 0x03, 0x22, 0x1C, 0x1D, 0x32, 0x31,
-    0x1F, 0x60, 0x08, 0x1E, 0x04, 0x32, 0x31, 0x70, 0x06, 0x1E, 0x05, 0x32, 0x31, 0x1E, 0x1F, 0x41,
-    0x78,
-];
-
-/// Their target index: the places 13 and 17 of `pick`.
-const INDEX: [u8; 13] = [
-    0x80, 0x00, 0x0A, 0x00, 0x02, 0x00, 0x00, 0x00, 0x02, 0x00, 0x0D, 0x00, 0x11,
-];
-
-/// A Directory with the new size of the Method component, and with an entry for the index.
-const NEW_DIRECTORY: [u8; 46] = [
-    0x02, 0x00, 0x2B, 0x00, 0x10, 0x00, 0x2B, 0x00, 0x00, 0x00, 0x01, 0x00, 0x02, 0x00, 0x52, 0x00,
-    0x1E, 0x00, 0x0C, 0x00, 0x04, 0x00, 0x00, 0x00, 0x6F, 0x00, 0x00, 0x00, 0x02, 0x00, 0x00, 0x00,
-    0x00, 0x00, 0x00, 0x01, 0x80, 0x00, 0x0A, 0x06, 0xF0, 0x6C, 0x65, 0x72, 0x6F, 0x79,
-];
-
-/// The same in format 2.1.
-const OLDER_NEW_DIRECTORY: [u8; 44] = [
-    0x02, 0x00, 0x29, 0x00, 0x0F, 0x00, 0x29, 0x00, 0x00, 0x00, 0x01, 0x00, 0x02, 0x00, 0x50, 0x00,
-    0x1E, 0x00, 0x0C, 0x00, 0x04, 0x00, 0x00, 0x00, 0x6F, 0x00, 0x02, 0x00, 0x00, 0x00, 0x00, 0x00,
-    0x00, 0x01, 0x80, 0x00, 0x0A, 0x06, 0xF0, 0x6C, 0x65, 0x72, 0x6F, 0x79,
-];
 
 /// The Descriptor from the second method's offset on: the offset stays, and the code has 21 bytes.
 const NEW_SECOND: [u8; 80] = [
@@ -47,23 +22,23 @@ type Expected = (Part, usize, &'static [u8]);
 
 static NEWER: [Expected; 10] = [
     (HEADER, 0, &PLAIN_HEADER),
-    (DIRECTORY, 0, &NEW_DIRECTORY),
+    (DIRECTORY, 0, &CARD_DIRECTORY),
     (IMPORT, 0, &PLAIN_IMPORT),
     (CONSTANT_POOL, 0, &PLAIN_CONSTANT_POOL),
     (CLASS, 0, &PLAIN_CLASS),
-    (METHOD, 0, &METHODS),
+    (METHOD, 0, &CARD_METHOD),
     (STATIC_FIELD, 0, &PLAIN_STATIC_FIELD),
     (REF_LOCATION, 0, &PLAIN_REF_LOCATION),
     (DESCRIPTOR, 34, &NEW_SECOND),
-    (Part(128), 0, &INDEX),
+    (Part(128), 0, &CARD_INDEX),
 ];
 
 static OLDER_ONES: [Expected; 5] = [
     (HEADER, 0, &OLDER_HEADER),
-    (DIRECTORY, 0, &OLDER_NEW_DIRECTORY),
+    (DIRECTORY, 0, &OLDER_CARD_DIRECTORY),
     (CLASS, 0, &OLDER_CLASS),
-    (METHOD, 0, &METHODS),
-    (Part(128), 0, &INDEX),
+    (METHOD, 0, &CARD_METHOD),
+    (Part(128), 0, &CARD_INDEX),
 ];
 
 /// The first part that is another than expected.

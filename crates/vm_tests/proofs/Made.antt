@@ -1,7 +1,7 @@
 -- A new object, by its handle, and one of which a cell is written.
 use Rattle.std.proofs.Common.{◌≡◌, ℕ, zero, suc, ◌+◌, ◌*◌, List, [], ◌∷◌, ◌++◌, length, refl, sym, ◌∙◌, ap, subst, arith}
 use Rattle.std.proofs.lemmas.Bool.{false≢true}
-use Rattle.std.specs.Prelude.{Some, IsSome, slice_get, slice_set}
+use Rattle.std.specs.Prelude.{Some, IsSome, slice_get}
 use Rattle.vm_store.specs.declared.kind.ObjectKind.{ObjectKind}
 use Rattle.vm_store.specs.declared.kind.ObjectKind.TheVariants.{Instance}
 use Rattle.jc_base.specs.Class.{ClassTable, IsClass, chain, chain_over, parent_of}

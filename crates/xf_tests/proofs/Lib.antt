@@ -1,4 +1,3 @@
-pub mod OneMethod
 pub mod Typed
 mod Unlike
 mod Refusing

@@ -1,3 +1,3 @@
-pub mod OneMethod
 pub mod Beside
 pub mod Refused
+pub mod Fitting

@@ -1,16 +1,17 @@
-//! Worked examples of rewritten methods (Leroy 2002, section 4), all of them tests: over a world of one method whose
-//! shape and code are given.
+//! Worked examples of rewritten methods (Leroy 2002, section 4), over a world of one method whose shape and code are given,
+//! and of laid code: symbols that become bytes, at the limits of short jumps, with switches and with handlers.
 //!
-//! It stands on `xf_homes`, `xf_groups` and `xf_code`, whose tests these are. Wrong rewritings are shown to be refused.
+//! It stands on `xf_homes`, `xf_groups`, `xf_code` and `xf_layout`, whose tests these are. Wrong rewritings are shown to be
+//! refused.
 #![tactic(auto)]
 
-mod caught;
-mod one_method;
 mod refused;
 
-pub use caught::{Range, handler};
-pub use one_method::{Shape, world};
 pub use refused::wrong_rewritings_are_refused;
 
+#[cfg(test)]
+mod fitting;
+#[cfg(test)]
+mod layouts;
 #[cfg(test)]
 mod rewritten;

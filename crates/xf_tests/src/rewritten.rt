@@ -1,8 +1,7 @@
 ghost use Rattle.std.specs.Prelude.{◌<◌, IsSomeAnd, slice_get};
 
-use crate::caught::Range;
-use crate::one_method::{Shape, world};
-use jc_base::{Ty, World};
+use flow_tests::{Range, Shape, world};
+use jc_base::World;
 use jc_decode::{Item, Symbols};
 use jc_flow::infer;
 use std::alloc::{AllocError, Global};
@@ -16,22 +15,16 @@ type Row = (u8, i32);
 
 const LABEL: u8 = 255;
 
+/// The room on the stack of each rewritten method: one cell more than the methods have.
+const ROOM: u8 = 3;
+
 /// The items of a rewritten method, the labels of its ranges, and its registers after the arguments.
 #[derive(Clone, Copy)]
 struct Expected {
     items: &'static [Row],
     ranges: &'static [(u16, u16, u16)],
-    max_stack: u8,
     max_locals: u8,
 }
-
-static SHORTS: [Ty; 2] = [Ty::Short, Ty::Short];
-
-static OBJECT: [Ty; 1] = [Ty::Class(0)];
-
-static INT: [Ty; 2] = [Ty::IntHigh, Ty::IntLow];
-
-static THROWN: [Ty; 2] = [Ty::Class(2), Ty::Class(3)];
 
 fn is_row(item: &Item, row: Row) -> bool {
     match item {
@@ -64,7 +57,7 @@ fn are_ranges(symbols: &Symbols, expected: &[(u16, u16, u16)]) -> bool {
 fn is_expected(symbols: &Symbols, expected: Expected) -> bool {
     are_rows(symbols.items.as_slice(), expected.items)
         && are_ranges(symbols, expected.ranges)
-        && symbols.max_stack == expected.max_stack
+        && symbols.max_stack == ROOM
         && symbols.max_locals == expected.max_locals
 }
 
@@ -119,17 +112,10 @@ static PICKED: [Row; 28] = [
 ];
 
 fn pick(alloc: Global) -> Result<bool, AllocError> {
-    let shape = Shape {
-        args: &SHORTS,
-        result: Some(Ty::Short),
-        max_locals: 0,
-        max_stack: 2,
-    };
-    let world = world(alloc, shape, &PICK, &[])?;
+    let world = world(alloc, Shape::Shorts, &PICK, &[])?;
     let expected = Expected {
         items: &PICKED,
         ranges: &[],
-        max_stack: 3,
         max_locals: 2,
     };
     Ok(rewrites(alloc, &world, expected))
@@ -170,17 +156,10 @@ static PARTED: [Row; 21] = [
 ];
 
 fn two_types(alloc: Global) -> Result<bool, AllocError> {
-    let shape = Shape {
-        args: &OBJECT,
-        result: Some(Ty::Short),
-        max_locals: 1,
-        max_stack: 1,
-    };
-    let world = world(alloc, shape, &TWO_TYPES, &[])?;
+    let world = world(alloc, Shape::Object, &TWO_TYPES, &[])?;
     let expected = Expected {
         items: &PARTED,
         ranges: &[],
-        max_stack: 2,
         max_locals: 2,
     };
     Ok(rewrites(alloc, &world, expected))
@@ -219,7 +198,6 @@ static CAUGHT: [Caught; 5] = [
                 (LABEL, 7),
             ],
             ranges: &[],
-            max_stack: 2,
             max_locals: 0,
         },
     ),
@@ -257,7 +235,6 @@ static CAUGHT: [Caught; 5] = [
                 (168, 8),
             ],
             ranges: &[],
-            max_stack: 2,
             max_locals: 3,
         },
     ),
@@ -297,7 +274,6 @@ static CAUGHT: [Caught; 5] = [
                 (168, 6),
             ],
             ranges: &[(2, 6, 49152)],
-            max_stack: 2,
             max_locals: 4,
         },
     ),
@@ -308,7 +284,6 @@ static CAUGHT: [Caught; 5] = [
         Expected {
             items: &[(LABEL, 0), (21, 0), (LABEL, 1), (119, 0), (LABEL, 5)],
             ranges: &[],
-            max_stack: 2,
             max_locals: 0,
         },
     ),
@@ -334,23 +309,16 @@ static CAUGHT: [Caught; 5] = [
                 (168, 2),
             ],
             ranges: &[(1, 2, 49152), (0, 2, 49153)],
-            max_stack: 2,
             max_locals: 1,
         },
     ),
 ];
 
 fn catches(alloc: Global, row: Caught) -> Result<bool, AllocError> {
-    let shape = Shape {
-        args: &THROWN,
-        result: Some(Ty::Class(1)),
-        max_locals: 1,
-        max_stack: 1,
-    };
     if row.0.is_empty() || row.0.len() > 32767 || row.1.len() > 255 {
         return Ok(false);
     }
-    let world = world(alloc, shape, row.0, row.1)?;
+    let world = world(alloc, Shape::Thrown, row.0, row.1)?;
     Ok(rewrites(alloc, &world, row.2))
 }
 
@@ -398,17 +366,10 @@ static CHOSEN: [Row; 16] = [
 ];
 
 fn choice(alloc: Global) -> Result<bool, AllocError> {
-    let shape = Shape {
-        args: &SHORTS,
-        result: Some(Ty::Short),
-        max_locals: 0,
-        max_stack: 2,
-    };
-    let world = world(alloc, shape, &CHOICE, &[])?;
+    let world = world(alloc, Shape::Shorts, &CHOICE, &[])?;
     let expected = Expected {
         items: &CHOSEN,
         ranges: &[],
-        max_stack: 3,
         max_locals: 2,
     };
     Ok(rewrites(alloc, &world, expected))
@@ -443,17 +404,10 @@ static RENAMED: [Row; 15] = [
 ];
 
 fn increased(alloc: Global) -> Result<bool, AllocError> {
-    let shape = Shape {
-        args: &OBJECT,
-        result: Some(Ty::Short),
-        max_locals: 1,
-        max_stack: 1,
-    };
-    let world = world(alloc, shape, &INCREASED, &[])?;
+    let world = world(alloc, Shape::Object, &INCREASED, &[])?;
     let expected = Expected {
         items: &RENAMED,
         ranges: &[],
-        max_stack: 2,
         max_locals: 2,
     };
     Ok(rewrites(alloc, &world, expected))
@@ -481,17 +435,10 @@ static TWO_REGISTERS: [Row; 9] = [
 ];
 
 fn ints(alloc: Global) -> Result<bool, AllocError> {
-    let shape = Shape {
-        args: &INT,
-        result: Some(Ty::IntHigh),
-        max_locals: 2,
-        max_stack: 2,
-    };
-    let world = world(alloc, shape, &INTS, &[])?;
+    let world = world(alloc, Shape::Ints, &INTS, &[])?;
     let expected = Expected {
         items: &TWO_REGISTERS,
         ranges: &[],
-        max_stack: 3,
         max_locals: 2,
     };
     Ok(rewrites(alloc, &world, expected))

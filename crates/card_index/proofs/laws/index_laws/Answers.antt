@@ -15,4 +15,4 @@ pub returns-clause-denies : goal.returns-clause-denies
 returns-clause-denies c = refusal-denies-over c.args.world.now c.card_laws.ensures.met c.card_laws.ensures.refused
 
 pub returns-clause-one : goal.returns-clause-one
-returns-clause-one c = refusal-one-over c.args.world.now c.rule_laws.ensures c.flaws_decide.ensures c.first_flaw_is_one.ensures
+returns-clause-one c = refusal-one-over c.args.world.now c.rule_laws.ensures c.first_flaw_is_one.ensures

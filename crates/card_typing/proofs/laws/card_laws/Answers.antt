@@ -17,7 +17,7 @@ returns-clause-refused c =
     refusal-denies c.args.world.now (record { rules = c.rule_laws.ensures; falls = c.rule_falls.ensures.card; stays = c.rule_raises.ensures.stays }) c.flaws_decide.ensures
 
 pub returns-clause-one : goal.returns-clause-one
-returns-clause-one c = refusal-one c.args.world.now c.rule_laws.ensures c.flaws_decide.ensures c.first_flaw_is_one.ensures
+returns-clause-one c = refusal-one c.args.world.now c.rule_laws.ensures c.first_flaw_is_one.ensures
 
 pub returns-clause-told : goal.returns-clause-told
 returns-clause-told c = flaws-are-told c.args.world.now c.flaws_decide.ensures

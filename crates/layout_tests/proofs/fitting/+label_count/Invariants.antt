@@ -1,5 +1,0 @@
-use Rattle.std.proofs.Common.{length}
-use Rattle.layout_tests.proofs.fitting.+label_count.Given as goal
-
-abbrev pub decreases-label_count : goal.decreases-label_count
-decreases-label_count l = length l.items.now

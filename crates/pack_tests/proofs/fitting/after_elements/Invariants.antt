@@ -1,0 +1,7 @@
+use Rattle.cap_desc.specs.MemberLists.{methods_left}
+use Rattle.pack_tests.specs.Elements.{listed}
+use Rattle.pack_tests.proofs.SoFar.{IsSoFar}
+use Rattle.pack_tests.proofs.fitting.after_elements.Given as goal
+
+abbrev pub invariant-methods : goal.invariant-methods
+invariant-methods l = IsSoFar l.methods.info.bytes.now (listed l.interface (methods_left l.fn.records)) (listed l.interface (methods_left l.method-iterator)) l.laid l.rest

@@ -1,7 +1,0 @@
-use Rattle.cap_desc.specs.MemberLists.{methods_left}
-use Rattle.write_tests.specs.Elements.{listed}
-use Rattle.write_tests.proofs.SoFar.{IsSoFar}
-use Rattle.write_tests.proofs.fitting.after_elements.Given as goal
-
-abbrev pub invariant-methods : goal.invariant-methods
-invariant-methods l = IsSoFar l.methods.info.bytes.now (listed l.interface (methods_left l.fn.records)) (listed l.interface (methods_left l.method-iterator)) l.laid l.rest
