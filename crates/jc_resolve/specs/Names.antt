@@ -7,6 +7,7 @@ use Rattle.jc_resolve.specs.declared.fault.LinkEnd.{LinkEnd}
 use Rattle.jc_resolve.specs.declared.fault.LinkEnd.TheVariants.{Fault, Memory}
 use Rattle.jc_resolve.specs.declared.named.NamedClass.{NamedClass}
 use Rattle.jc_resolve.specs.declared.package_fields.PackageFields.{PackageFields}
+use Rattle.jc_resolve.specs.declared.naming.Records.{Records}
 use Rattle.jc_resolve.specs.Fault.{link_place}
 use Rattle.jc_resolve.specs.Named.{IsAgreed}
 use Rattle.first_fault.specs.Least.{◌>>=◌, refused, least_of}
@@ -61,6 +62,19 @@ abbrev pub IsIndexed : List PackageRecord → Result (List PackageRecord) LinkEn
 IsIndexed ps (Ok qs) = (indexable ps ≡ Ok (tt {0})) × (qs ≡ ps)
 IsIndexed ps (Err (Fault fault)) = indexable ps ≡ Err fault
 IsIndexed ps (Err Memory) = ⊤
+
+-- each class reference leads to a class, or the least fault is named, or there is no memory
+abbrev pub TellsReferences : {A : Type 0} → List PackageRecord → Result A LinkEnd → Type 0
+TellsReferences ps (Ok x) = refused (least_of link_place (no_class_fault ps) (named_in class_references ps)) ≡ Ok (tt {0})
+TellsReferences ps (Err (Fault fault)) = refused (least_of link_place (no_class_fault ps) (named_in class_references ps)) ≡ Err fault
+TellsReferences ps (Err Memory) = ⊤
+
+-- the records of packages, with their fields
+abbrev pub HaveRecords : List PackageRecord → List ℕ → Records → Type 0
+HaveRecords ps roles x =
+    HaveFields
+    (record { packages = ps; roles = roles; classes = x.classes.items; methods = x.methods.items })
+    x.fields.items
 
 -- names exactly where nothing is at fault; else the first condition by number that is broken, at its least thing
 abbrev pub TellsNames : List PackageRecord → Result NamesRecord LinkEnd → Type 0

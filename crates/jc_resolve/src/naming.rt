@@ -4,7 +4,7 @@ ghost use Rattle.jc_resolve.specs.NamedMethods.{HasFewHandlers};
 ghost use Rattle.jc_resolve.specs.OwnPlaces.{HaveOwnPlaces};
 ghost use Rattle.jc_resolve.specs.Counts.{class_total, method_total};
 ghost use Rattle.jc_resolve.specs.Due.{IsDue};
-ghost use Rattle.jc_resolve.specs.Names.{IsIndexed, TellsNames, indexable, names_of};
+ghost use Rattle.jc_resolve.specs.Names.{HaveRecords, IsIndexed, TellsNames, TellsReferences, indexable, names_of};
 
 use crate::class_index::{Index, index_packages};
 use crate::class_records::class_records;
@@ -13,10 +13,12 @@ use crate::fault::{LinkEnd, LinkFault};
 use crate::import_checks::imports_met;
 use crate::least::refuse;
 use crate::method_records::methods_after;
+use crate::named::NamedClass;
 use crate::names_type::Names;
+use crate::package_fields::PackageFields;
 use crate::reference_checks::besides_named;
 use cap_package::Packages;
-use jc_base::Items;
+use jc_base::{Items, MethodRec};
 use std::alloc::Global;
 
 /// Packages can be numbered: there are not too many, nor too many classes or methods, and each import is met.
@@ -44,9 +46,44 @@ fn indexed<'n, 'p, 'a>(
     Ok(index_packages(alloc, packages)?)
 }
 
-/// The names of packages, or the fault that is named. A class reference is looked up where the record of a method, a field
-/// or a class is made from it, and else alone; the least fault of all answers.
-#[tactic(auto, unfolding(crate::specs::Names::names_of, crate::specs::Names::checked), using(crate::proofs::ReferenceOrder::all_looked))]
+/// The records of the methods, the classes and the fields of packages.
+#[derive(Drop)]
+struct Records {
+    methods: Vec<MethodRec>,
+    classes: Vec<NamedClass>,
+    fields: Vec<PackageFields>,
+}
+
+/// The records of packages, where each class reference leads to a class. A reference is looked up where the record of a
+/// method, a field or a class is made from it, and else alone; the least fault of all answers.
+#[tactic(auto, using(crate::proofs::ReferenceOrder::all_looked))]
+fn make_records<'x, 'n, 'p, 'a>(
+    alloc: Global,
+    index: &'x Index<'n, 'p, 'a>,
+    packages: &'x Packages<'p, 'a>,
+    roles: [u8; 8],
+) -> Result<Records, LinkEnd>
+    requires few { length packages.now ≤ 16 }
+    requires index { index.now ≡ packages.now }
+    ensures value { TellsReferences packages.now result }
+    ensures have { IfOk result (HaveRecords packages.now roles) }
+    ensures sized { IfOk result (λ x. All IsSized x.classes.items) }
+    ensures few { IfOk result (λ _. All HasFewHandlers packages.now) }
+{
+    let mut least = None;
+    let methods = methods_after(alloc, index, packages, roles, &mut least)?;
+    let mut fields = Vec::new(alloc);
+    let classes = class_records(alloc, index, packages, roles, &mut fields, &mut least)?;
+    refuse(besides_named(index, packages, least))?;
+    Ok(Records {
+        methods,
+        classes,
+        fields,
+    })
+}
+
+/// The names of packages, or the fault that is named.
+#[tactic(auto, unfolding(crate::specs::Names::names_of, crate::specs::Names::checked))]
 fn names_or_fault<'n, 'p, 'a>(
     alloc: Global,
     packages: &'n Packages<'p, 'a>,
@@ -58,17 +95,13 @@ fn names_or_fault<'n, 'p, 'a>(
     ensures few { IfOk result (λ _. All HasFewHandlers packages.now) }
 {
     let index = indexed(alloc, packages)?;
-    let mut least = None;
-    let methods = methods_after(alloc, &index, &*packages, roles, &mut least)?;
-    let mut fields = Vec::new(alloc);
-    let classes = class_records(alloc, &index, &*packages, roles, &mut fields, &mut least)?;
-    refuse(besides_named(&index, &*packages, least))?;
+    let made = make_records(alloc, &index, &*packages, roles)?;
     Ok(Names {
         index,
         roles,
-        fields: Items::of(fields),
-        classes: Items::of(classes),
-        methods: Items::of(methods),
+        fields: Items::of(made.fields),
+        classes: Items::of(made.classes),
+        methods: Items::of(made.methods),
     })
 }
 
