@@ -7,6 +7,7 @@
 mod card_package;
 mod changes;
 mod components;
+mod handled_package;
 mod older_package;
 mod plain_package;
 mod whole_package;
@@ -17,6 +18,7 @@ pub use components::{
     APPLET, CLASS, CONSTANT_POOL, DEBUG, DESCRIPTOR, DIRECTORY, EXPORT, HEADER, IMPORT, METHOD,
     REF_LOCATION, STATIC_FIELD,
 };
+pub use handled_package::HANDLED;
 pub use older_package::{OLDER, OLDER_CLASS, OLDER_DIRECTORY, OLDER_HEADER};
 pub use plain_package::{
     PLAIN, PLAIN_CLASS, PLAIN_CONSTANT_POOL, PLAIN_DESCRIPTOR, PLAIN_DIRECTORY, PLAIN_HEADER,

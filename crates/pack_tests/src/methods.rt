@@ -1,5 +1,5 @@
 use crate::transforming::{Outcome, Second, ends_with, transformed, with_second};
-use cap_tests::{Change, DESCRIPTOR, METHOD, PLAIN};
+use cap_tests::{Change, DESCRIPTOR, HANDLED, METHOD, PLAIN};
 use std::alloc::{AllocError, Global};
 
 /// One argument of the first class, and a result of a short: its local holds a short and then a reference.
@@ -8,24 +8,6 @@ const TWO_TYPES: Second<'static> = (
     b"\x01\x11",
     b"\x04\x30\x1D\x3B\x18\x2C\x19\x3B\x03\x78",
 );
-
-/// What makes the second method one with a handler: it has two arguments of classes, a local of the first and then of the
-/// second, and what is caught is in it too.
-const CAUGHT: [Change<'static>; 8] = [
-    Change::Splice(METHOD, 12, 22, b"\x18\x2D\x19\x2D\x1A\x93\x3B\x1A\x77"),
-    Change::Splice(METHOD, 10, 12, b"\x01\x21"),
-    Change::Splice(METHOD, 3, 4, b"\x01\x00\x13\x80\x04\x00\x17\x00\x00"),
-    Change::Splice(
-        DESCRIPTOR,
-        111,
-        114,
-        b"\x0F\x60\x01\x66\x00\x20\x60\x00\xC0",
-    ),
-    Change::Byte(DESCRIPTOR, 41, 1),
-    Change::Byte(DESCRIPTOR, 39, 9),
-    Change::Byte(DESCRIPTOR, 35, 15),
-    Change::Byte(DESCRIPTOR, 23, 9),
-];
 
 /// What makes the second method one whose handler covers code alone that nothing comes to.
 const DEAD: [Change<'static>; 7] = [
@@ -67,7 +49,7 @@ fn has_two_types(alloc: Global) -> Result<bool, AllocError> {
 
 /// That with the handler: it begins at place 4, has 9 bytes and is entered at place 18, where the caught object is stored.
 fn has_handler(alloc: Global) -> Result<bool, AllocError> {
-    let outcome = transformed(alloc, &PLAIN, &CAUGHT)?;
+    let outcome = transformed(alloc, &PLAIN, &HANDLED)?;
     Ok(ends_with(
         &outcome,
         METHOD,
