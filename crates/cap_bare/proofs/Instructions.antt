@@ -16,7 +16,7 @@ use Rattle.jc_decode.specs.Places.{place_after}
 use Rattle.jc_decode.proofs.Decoded.{Begins-decoded, IsWithin-decoded}
 use Rattle.jc_decode.proofs.Listing.{listing_from-more, listing_from-end}
 use Rattle.jc_decode.proofs.Elements.{Contains-first}
-use Rattle.jc_decode.proofs.Listed.{end-after, found-in, one-in, after-in, next-in, before-in}
+use Rattle.jc_decode.proofs.InstructionLists.{end-after, found-in, one-in, after-in, next-in, before-in}
 use Rattle.cap_bare.specs.Format.{is_bare}
 use Rattle.cap_bare.specs.Code.{in_scope, fetched, instructions, instructions_from, instructions_end, HasInstruction, IsPlace}
 use Rattle.cap_bare.specs.Window.{IsSuffixAt}

@@ -4,7 +4,7 @@ use Rattle.std.proofs.lemmas.Bool.{eqb-true, both_ways}
 use Rattle.std.proofs.lemmas.List.{length-replicate, length-append}
 use Rattle.std.proofs.lemmas.List.Elements.{All-contains}
 use Rattle.jc_decode.proofs.Elements.{Contains-either, nothing-in}
-use Rattle.jc_decode.proofs.Listed.{IsFound, found-in, err-of}
+use Rattle.jc_decode.proofs.InstructionLists.{IsFound, found-in, err-of}
 use Rattle.std.proofs.Math.ListN.{length-set}
 use Rattle.std.specs.Prelude.{if◌then◌else◌, pos, IfSome, IsSomeAnd, MatchBool, slice_get}
 use Rattle.cap_bare.specs.declared.bare.Bare.{Bare}

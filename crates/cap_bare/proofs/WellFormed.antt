@@ -6,7 +6,7 @@ use Rattle.jc_decode.specs.declared.insn.Insn.{Insn}
 use Rattle.jc_decode.specs.declared.insn.Placed.{Placed}
 use Rattle.jc_decode.specs.declared.insn.CodeEnd.{CodeEnd}
 use Rattle.jc_decode.specs.Listing.{targets}
-use Rattle.jc_decode.proofs.Listed.{found-in}
+use Rattle.jc_decode.proofs.InstructionLists.{found-in}
 use Rattle.cap_bare.specs.declared.fault.BareFault.{BareFault}
 use Rattle.cap_bare.specs.declared.fault.BareKind.TheVariants.{Code, BadTarget}
 use Rattle.cap_bare.specs.Code.{fetched, instructions_from, instructions_end, HasInstruction, IsTargetPlace, IsWellFormed, IsFlaw, flaw_end, flaw_target, IsFirstFlaw, IsFlawKind, fault}

@@ -4,3 +4,6 @@ pub mod EachLoops
 pub mod UntilLoops
 pub mod Wide
 pub mod Triple
+pub mod Same
+pub mod Patches
+pub mod Written

@@ -7,3 +7,7 @@ pub mod Exact
 pub mod Taking
 pub mod Table
 pub mod Samples
+pub mod Edit
+pub mod Renewal
+pub mod Writing
+pub mod EditedBytes

@@ -1,7 +1,7 @@
 -- The components of the generated package agree: what each condition asks is computed, for every seed at once.
 use Rattle.std.specs.Prelude.{◌≡◌, refl, ℕ, true, length, [], ◌++◌}
 use Rattle.cap_laying.specs.HandlerTable.{entry_bytes}
-use Rattle.cap_locations.specs.Component.{component_bytes}
+use Rattle.cap_laying.specs.Component.{component_bytes}
 use Rattle.cap_bytes.specs.Reading.{reading}
 use Rattle.first_fault.specs.First.{at_fault}
 use Rattle.cap_desc.specs.TypeFormat.{types_in}

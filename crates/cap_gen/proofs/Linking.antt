@@ -22,23 +22,23 @@ use Rattle.jc_resolve.specs.NamedMethods.{handler_named, body_of, class_describe
 use Rattle.jc_resolve.specs.Numbering.{class_at, is_interface_number, method_at}
 use Rattle.jc_resolve.specs.References.{met_by, class_referred, class_named}
 use Rattle.jc_resolve.specs.WorldTypes.{type_of, kind_of, declared_signature}
-use Rattle.jc_hierarchy.specs.Ancestor.{superclass, extended, is_above}
+use Rattle.jc_classes.specs.Ancestor.{superclass, extended, is_above}
 use Rattle.jc_resolve.specs.declared.named.NamedClass.{NamedClass}
-use Rattle.jc_hierarchy.specs.Conditions.{numbered, is_class_number, super_fault, cycle_fault, role_fault, root_fault, not_interface_fault}
-use Rattle.jc_hierarchy.specs.Outline.{chain as line_chain, chain_over as line_chain_over, is_on_chain as on_line_chain, parent_of as line_parent, package_of as line_package}
-use Rattle.jc_classes.specs.Conditions.{hole_fault, layout_above, override_fault, long_fault, interface_type_fault as unserved_fault}
+use Rattle.jc_classes.specs.LineConditions.{numbered, is_class_number, super_fault, cycle_fault, role_fault, root_fault, not_interface_fault}
+use Rattle.jc_classes.specs.Outline.{chain as line_chain, chain_over as line_chain_over, is_on_chain as on_line_chain, parent_of as line_parent, package_of as line_package}
+use Rattle.jc_classes.specs.TableConditions.{hole_fault, layout_above, override_fault, long_fault, interface_type_fault as unserved_fault}
 use Rattle.jc_classes.specs.Entries.{reach, named_by, dispatch_list, overlaid_at}
 use Rattle.jc_classes.specs.Layout.{public_table, visible_table, own_of, home_run, public_entries, visible_entries, instance_cells, class_layout, class_layout_from, at_home}
 use Rattle.jc_classes.specs.Tables.{record_from}
-use Rattle.jc_members.specs.Catches.{catches_throwable, catch_fault}
-use Rattle.jc_members.specs.Entries.{field_place, method_place}
-use Rattle.jc_members.specs.Members.{class_member, member_of}
-use Rattle.jc_members.specs.Pools.{pools, member_fault}
-use Rattle.jc_members.specs.Roles.{role_fault as abstract_fault}
-use Rattle.jc_statics.specs.Arrays.{array_records}
-use Rattle.jc_statics.specs.Room.{statics_fault}
+use Rattle.jc_link.specs.Catches.{catches_throwable, catch_fault}
+use Rattle.jc_link.specs.Entries.{field_place, method_place}
+use Rattle.jc_link.specs.Members.{class_member, member_of}
+use Rattle.jc_link.specs.Pools.{pools, member_fault}
+use Rattle.jc_link.specs.Roles.{role_fault as abstract_fault}
+use Rattle.jc_link.specs.Arrays.{array_records}
+use Rattle.jc_link.specs.Room.{statics_fault}
 use Rattle.cap_package.specs.StaticChecks.{place_in}
-use Rattle.jc_indexes.specs.Indexes.{indexes_of}
+use Rattle.cap_index.specs.Indexes.{indexes_of}
 use Rattle.jc_link.specs.World.{classes_of, conditions, table_of, methods_of, statics_of, IsLinked}
 use Rattle.cap_gen.specs.Methods.{each_from, method_bytes, entry_table, entries, method_info}
 use Rattle.cap_gen.specs.Described.{methods, described_bytes, descriptor_bytes, location_bytes}

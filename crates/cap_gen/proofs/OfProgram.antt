@@ -1,7 +1,7 @@
 -- The files as the program has them are those of the definition.
 use Rattle.std.proofs.Common.{◌≡◌, ℕ, List, [], ◌∷◌, ◌++◌, refl, ap, ◌∙◌, append_assoc}
 use Rattle.cap_laying.specs.HandlerTable.{entry_bytes}
-use Rattle.cap_locations.specs.Component.{component_bytes}
+use Rattle.cap_laying.specs.Component.{component_bytes}
 use Rattle.cap_components.specs.Parts.{Lent}
 use Rattle.cap_gen.specs.declared.plain.TheConstants.{DESCRIPTOR_HEAD, DESCRIPTOR_TAIL, STATIC_FIELD, REF_LOCATION}
 use Rattle.cap_gen.specs.Methods.{each_from, each_method, method_bytes, entry_table, entries, method_info}

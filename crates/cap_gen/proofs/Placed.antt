@@ -5,7 +5,7 @@ use Rattle.std.proofs.lemmas.List.FromFn.{get_or-map-range_with_len}
 use Rattle.cap_method.specs.declared.handler.HandlerInfo.{HandlerInfo}
 use Rattle.cap_laying.specs.HandlerTable.{entry_bytes}
 use Rattle.cap_gen.specs.Methods.{each_from, method_bytes, entry_table, entries, entries_of_kind, method_info, method_offset, code_size_of_kind, handlers, handler_index}
-use Rattle.cap_gen.specs.Laws.{StandsThere}
+use Rattle.cap_gen.specs.GeneratedPackage.{StandsThere}
 
 -- two lists by number are equal at each number
 pub at_each : {X : Type 0} (f g : ℕ → X) (d : X) (k : ℕ) → map f (range_with_len 0 200) ≡ map g (range_with_len 0 200) → k < 200 → f k ≡ g k

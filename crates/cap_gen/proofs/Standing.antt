@@ -1,7 +1,7 @@
 -- The parts that are generated stand for a package.
 use Rattle.std.specs.Prelude.{◌≡◌, refl, ℕ, Ok, []}
 use Rattle.cap_laying.specs.HandlerTable.{entry_bytes}
-use Rattle.cap_locations.specs.Component.{component_bytes}
+use Rattle.cap_laying.specs.Component.{component_bytes}
 use Rattle.cap_bytes.specs.Grammar.{table}
 use Rattle.cap_bytes.specs.Reading.{reading}
 use Rattle.cap_frame.specs.HeaderFormat.{version, magic, name_info}

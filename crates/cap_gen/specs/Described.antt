@@ -4,9 +4,9 @@ use Rattle.std.specs.Prelude.{◌≡◌, refl, ℕ, List, [], ◌∷◌, ◌++�
 use Rattle.std.specs.List.{flat_map, range_with_len}
 use Rattle.byteorder.specs.Endian.{big_bytes}
 use Rattle.cap_desc.specs.DescriptorFormat.{MethodDescriptor, FieldDescriptor, ClassDescriptor, Descriptor}
-use Rattle.cap_locations.specs.Catches.{catch_places}
-use Rattle.cap_locations.specs.Distances.{distances}
-use Rattle.cap_locations.specs.Component.{component_bytes}
+use Rattle.cap_laying.specs.Catches.{catch_places}
+use Rattle.cap_laying.specs.Distances.{distances}
+use Rattle.cap_laying.specs.Component.{component_bytes}
 use Rattle.cap_gen.specs.Methods.{each_method, method_offset, code_size_of_kind, handlers, handler_index}
 
 -- a method: public and static, of the type whose descriptor stands after the types of two pool entries

@@ -4,5 +4,5 @@ pub mod Described
 pub mod Generated
 pub mod Record
 pub mod Linked
-pub mod Laws
+pub mod GeneratedPackage
 pub mod Plain

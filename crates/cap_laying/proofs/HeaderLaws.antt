@@ -7,14 +7,14 @@ use Rattle.cap_bytes.specs.Grammar.{u1, give, any, ◌>>=◌}
 use Rattle.cap_bytes.specs.Spelling.{Spells}
 use Rattle.cap_method.specs.MethodFormat.{Header, method_header, header_after, compact_header, extended_header, method_flags}
 use Rattle.cap_method.specs.MethodPart.{HeaderAt}
-use Rattle.cap_writing.specs.Writing.{SpellsInPlace}
-use Rattle.cap_writing.proofs.Written.{writes_give, writes_number, writes_then}
+use Rattle.cap_bytes.specs.Writing.{SpellsInPlace}
+use Rattle.cap_bytes.proofs.Written.{writes_give, writes_number, writes_then}
 use Rattle.cap_laying.specs.HeaderBytes.{HeaderNumbers, is_compact, compact_bytes, extended_bytes, header_bytes, header_size, header_of}
 use Rattle.cap_laying.specs.declared.member.Body.{Body}
 use Rattle.cap_laying.specs.declared.member.Body.TheVariants.{Code}
 use Rattle.cap_laying.specs.declared.member.Body.TheVariants.{Header as Lead}
 use Rattle.cap_laying.specs.Member.{numbers_of, body_bytes, body_size}
-use Rattle.cap_laying.specs.Laws.{FitInBytes}
+use Rattle.cap_laying.specs.WrittenMethods.{FitInBytes}
 
 pub writes_u1 : (total n at : ℕ) → n < 256 → SpellsInPlace total u1 at (n ∷ []) n
 writes_u1 total n at h =

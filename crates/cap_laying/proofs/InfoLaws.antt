@@ -8,8 +8,8 @@ use Rattle.cap_bytes.specs.Grammar.{u1, u2, any, give, repeat, rest, counted, â—
 use Rattle.cap_bytes.specs.Spelling.{Spells, Stands}
 use Rattle.cap_method.specs.declared.handler.HandlerInfo.{HandlerInfo}
 use Rattle.cap_method.specs.MethodFormat.{handler_info, methods_info}
-use Rattle.cap_writing.specs.Writing.{SpellsInPlace}
-use Rattle.cap_writing.proofs.Written.{writes_give, writes_number, writes_piece, writes_then, writes_stands}
+use Rattle.cap_bytes.specs.Writing.{SpellsInPlace}
+use Rattle.cap_bytes.proofs.Written.{writes_give, writes_number, writes_piece, writes_then, writes_stands}
 use Rattle.cap_laying.specs.declared.member.WrittenMember.{WrittenMember}
 use Rattle.cap_laying.specs.HandlerTable.{active, entry_bytes, table_bytes}
 use Rattle.cap_laying.specs.Member.{body_bytes, body_size, bodies, bytes_if, size_if}

@@ -5,3 +5,10 @@ pub mod InfoLaws
 pub mod Owned
 pub mod Standing
 pub mod ReferenceLaws
+pub mod Tellings
+pub mod Rooms
+pub mod Components
+pub mod Kept
+pub mod DirectoryLaws
+pub mod ReadDirectory
+pub mod NewStands

@@ -1,9 +1,9 @@
 -- Places that are told from the first on.
 use Rattle.std.proofs.Common.{◌≡◌, ℕ, List, [], ◌++◌, refl, ap, ◌∙◌}
-use Rattle.cap_locations.specs.declared.told.ToldPlaces.{ToldPlaces}
-use Rattle.cap_locations.specs.Distances.{distances}
-use Rattle.cap_locations.specs.Telling.{AppendsDistances}
-use Rattle.cap_locations.proofs.Tellings.{told_more}
+use Rattle.cap_laying.specs.declared.told.ToldPlaces.{ToldPlaces}
+use Rattle.cap_laying.specs.Distances.{distances}
+use Rattle.cap_laying.specs.Telling.{AppendsDistances}
+use Rattle.cap_laying.proofs.Tellings.{told_more}
 
 pub told_first : (old new : ToldPlaces) (ps : List ℕ) → old.last ≡ 0 → old.bytes.items ≡ [] → AppendsDistances old ps new → new.bytes.items ≡ distances 0 ps
 told_first old new ps l b t = t.bytes ∙ ap (λ bs. bs ++ distances old.last ps) b ∙ ap (λ k. distances k ps) l

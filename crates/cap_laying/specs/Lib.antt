@@ -8,4 +8,13 @@ pub mod Members
 pub mod References
 pub mod WrittenSeen
 pub mod Standing
-pub mod Laws
+pub mod WrittenMethods
+pub mod Distances
+pub mod Indices
+pub mod Telling
+pub mod Catches
+pub mod Component
+pub mod ReferenceLocations
+pub mod DirectoryBytes
+pub mod NewDirectory
+pub mod WrittenDirectory

@@ -2,10 +2,10 @@
 -- the entries of the handler table, have indices into the constant pool.
 use Rattle.std.specs.Prelude.{◌+◌, ◌*◌, ℕ, List, [], ◌∷◌, ◌++◌, length, Option, Some, None}
 use Rattle.jc_decode.specs.Listing.{listing}
-use Rattle.cap_locations.specs.Catches.{catch_places}
-use Rattle.cap_locations.specs.Component.{component_bytes}
-use Rattle.cap_locations.specs.Distances.{distances}
-use Rattle.cap_locations.specs.Indices.{indices}
+use Rattle.cap_laying.specs.Catches.{catch_places}
+use Rattle.cap_laying.specs.Component.{component_bytes}
+use Rattle.cap_laying.specs.Distances.{distances}
+use Rattle.cap_laying.specs.Indices.{indices}
 use Rattle.cap_laying.specs.declared.member.Body.{Body}
 use Rattle.cap_laying.specs.declared.member.Body.TheVariants.{Code, Header}
 use Rattle.cap_laying.specs.declared.member.WrittenMember.{WrittenMember}

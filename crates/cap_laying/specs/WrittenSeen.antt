@@ -1,7 +1,7 @@
 -- A Method component that is written anew, as a value of the program.
 use Rattle.std.specs.Prelude.{◌≡◌, ◌≤◌, ◌<◌, ℕ, List, Option, Some, None}
 use Rattle.cap_laying.specs.declared.member.WrittenMember.{WrittenMember}
-use Rattle.cap_laying.specs.declared.component.Written.{Written}
+use Rattle.cap_laying.specs.declared.method_component.Written.{Written}
 use Rattle.cap_laying.specs.Members.{new_places, written_info, written_size}
 use Rattle.cap_laying.specs.References.{written_references}
 

@@ -1,19 +1,38 @@
-//! The methods of a package that are written anew, one after the other in the order of their former offsets
-//! (Java Card 2.2 VM Specification, section 6.9): their headers, their code and their entries of the handler
-//! table, and where each stands then. It stands on `jc_decode`, whose `Laid` is a method's new code, and on
-//! `cap_renewal`, whose `NewMethods` tells the other components of the new places.
+//! The components of a package that change their length when its methods are written anew (Java Card 2.2 VM
+//! Specification, sections 6.4, 6.9 and 6.11): the Method component with the headers, the code and the handlers of
+//! the methods in the order of their former offsets, the ReferenceLocation component, and the Directory in both
+//! formats. It stands on `jc_decode`, whose `Laid` is a method's new code, on `cap_renewal`, whose `NewMethods` tells
+//! the other components of the new places, and on `cap_frame`, whose record the Directory is written from.
 #![tactic(auto)]
 
 mod blocks;
 mod bodies;
-mod component;
+mod catches;
+mod customs;
 mod entries;
 mod headers;
-mod laws;
+mod indices;
+mod info;
+mod location_component;
 mod member;
+mod method_component;
 mod places;
+mod reference_locations;
 mod references;
+mod sizes;
+mod told;
+mod writing;
+mod written_directory;
+mod written_methods;
 
-pub use component::{Written, write_methods};
-pub use laws::{headers_read_back, infos_are_written, methods_stand};
+pub use catches::tell_catches;
+pub use indices::tell_indices;
+pub use info::directory_info;
+pub use location_component::component_info;
 pub use member::{Body, WrittenMember};
+pub use method_component::{Written, write_methods};
+pub use reference_locations::{components_stand, places_read_back};
+pub use sizes::{ComponentSizes, IndexChange};
+pub use told::ToldPlaces;
+pub use written_directory::directories_stand;
+pub use written_methods::{headers_read_back, infos_are_written, methods_stand};

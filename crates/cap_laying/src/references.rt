@@ -3,15 +3,15 @@ ghost use Rattle.cap_laying.specs.Blocks.{total_handlers};
 ghost use Rattle.cap_laying.specs.Member.{body_size, methods_end_from, handlers_of, size_if};
 ghost use Rattle.cap_laying.specs.NewPlaces.{AreSmallBodies, IsSmallIf};
 ghost use Rattle.cap_laying.specs.References.{block_catches, body_indices, indices_if, method_indices, references_info};
-ghost use Rattle.cap_locations.specs.Catches.{catch_places};
-ghost use Rattle.cap_locations.specs.Telling.{IsFew, AppendsDistances};
+ghost use Rattle.cap_laying.specs.Catches.{catch_places};
+ghost use Rattle.cap_laying.specs.Telling.{IsFew, AppendsDistances};
 ghost use Rattle.jc_decode.specs.PoolIndex.{bytes_of_index};
 
 use crate::headers::header_size;
 use crate::member::{Body, WrittenMember};
 use crate::places::body_size;
+use crate::{ToldPlaces, component_info, tell_catches, tell_indices};
 use cap_bytes::View;
-use cap_locations::{ToldPlaces, component_info, tell_catches, tell_indices};
 use jc_decode::IndexWidth;
 use std::alloc::{AllocError, Global};
 
@@ -60,7 +60,7 @@ fn tell_methods(
 }
 
 /// Tells those in a method that stands at a place, where there is one. The answer is the place after it.
-#[tactic(auto, using(cap_locations::proofs::Tellings::tells_none))]
+#[tactic(auto, using(crate::proofs::Tellings::tells_none))]
 fn tell_slot(
     width: IndexWidth,
     at: u16,
@@ -86,7 +86,7 @@ fn tell_slot(
 }
 
 /// Tells those in a method that stands at a place.
-#[tactic(auto, using(cap_locations::proofs::Tellings::tells_none))]
+#[tactic(auto, using(crate::proofs::Tellings::tells_none))]
 fn tell_body(
     width: IndexWidth,
     at: u16,
@@ -126,7 +126,7 @@ fn tell_blocks(blocks: &[WrittenMember<'_>], told: &mut ToldPlaces) -> Result<()
 }
 
 /// Tells those of a method whose entries begin at a place. The answer is the place after them.
-#[tactic(auto, using(cap_locations::proofs::Tellings::tells_none))]
+#[tactic(auto, using(crate::proofs::Tellings::tells_none))]
 fn tell_block(at: u16, body: Body<'_>, told: &mut ToldPlaces) -> Result<u16, AllocError>
     requires end { at + 8 * length (handlers_of body) ≤ 65535 }
     requires order { told.old.last ≤ at }

@@ -6,10 +6,10 @@ use Rattle.cap_bytes.specs.Grammar.{aid, u1, repeat}
 use Rattle.cap_bytes.specs.Spelling.{Spells, Stands, info_of}
 use Rattle.cap_bytes.proofs.Wide.{read_within}
 use Rattle.cap_frame.specs.AppletFormat.{Applet, applet_info, applets_info}
-use Rattle.cap_writing.specs.Edit.{patched_all, AreInside, FitBytes}
-use Rattle.cap_writing.specs.Renewal.{Renews}
-use Rattle.cap_writing.proofs.Same.{spelled_same}
-use Rattle.cap_writing.proofs.Patches.{edited_split, inside_from}
+use Rattle.cap_bytes.specs.Edit.{patched_all, AreInside, FitBytes}
+use Rattle.cap_bytes.specs.Renewal.{Renews}
+use Rattle.cap_bytes.proofs.Same.{spelled_same}
+use Rattle.cap_bytes.proofs.Patches.{edited_split, inside_from}
 use Rattle.cap_renewal.specs.NewMethods.{AreBytes, KeepsSmall}
 use Rattle.cap_renewal.specs.AppletEdits.{renewed_applet, applet_edits, applet_width, applets_edits}
 use Rattle.cap_renewal.proofs.Items.{IsItem, IsFit, all_inside, all_fit, all_renewed, IsRenewing, has_more}

@@ -8,10 +8,10 @@ use Rattle.cap_bytes.specs.Spelling.{Spells, Stands, info_of}
 use Rattle.cap_bytes.proofs.Wide.{read_within}
 use Rattle.cap_bytes.proofs.UntilLoops.{moves_on}
 use Rattle.cap_class.specs.ClassFormat.{Class, Instance, DispatchTables, Interface, is_interface, class_flags, wrong_record, interface_info, instance_info, tables_info, of_class, beyond_first, record_info, is_after, signature_pool, classes_info}
-use Rattle.cap_writing.specs.Edit.{Edit, AreInside, FitBytes}
-use Rattle.cap_writing.specs.Renewal.{Renews, IsEdited, AreSame}
-use Rattle.cap_writing.proofs.Same.{spelled_same, same_part}
-use Rattle.cap_writing.proofs.Patches.{edited_split, edited_last, inside_to, inside_from, inside_append, fit_append}
+use Rattle.cap_bytes.specs.Edit.{Edit, AreInside, FitBytes}
+use Rattle.cap_bytes.specs.Renewal.{Renews, IsEdited, AreSame}
+use Rattle.cap_bytes.proofs.Same.{spelled_same, same_part}
+use Rattle.cap_bytes.proofs.Patches.{edited_split, edited_last, inside_to, inside_from, inside_append, fit_append}
 use Rattle.cap_renewal.specs.NewMethods.{AreBytes, KeepsSmall}
 use Rattle.cap_renewal.specs.ClassEdits.{renewed_class, class_edits, classes_edits}
 use Rattle.cap_renewal.specs.Rooms.{TablesFit, AllRooms}

@@ -7,10 +7,10 @@ use Rattle.cap_bytes.specs.Spelling.{Spells, Stands, info_of}
 use Rattle.cap_bytes.proofs.Wide.{read_within}
 use Rattle.cap_bytes.proofs.UntilLoops.{moves_on}
 use Rattle.cap_desc.specs.DescriptorFormat.{FieldDescriptor, MethodDescriptor, ClassDescriptor, Descriptor, method_flags, field_descriptor_info, method_descriptor_info, class_descriptor_info, descriptor_info}
-use Rattle.cap_writing.specs.Edit.{Edit, patched_all, AreInside, FitBytes}
-use Rattle.cap_writing.specs.Renewal.{Renews, IsEdited, AreSame}
-use Rattle.cap_writing.proofs.Same.{spelled_same, same_part}
-use Rattle.cap_writing.proofs.Patches.{edited_split, edited_last, inside_to, inside_from}
+use Rattle.cap_bytes.specs.Edit.{Edit, patched_all, AreInside, FitBytes}
+use Rattle.cap_bytes.specs.Renewal.{Renews, IsEdited, AreSame}
+use Rattle.cap_bytes.proofs.Same.{spelled_same, same_part}
+use Rattle.cap_bytes.proofs.Patches.{edited_split, edited_last, inside_to, inside_from}
 use Rattle.cap_renewal.specs.declared.new_methods.NewMethod.{NewMethod}
 use Rattle.cap_renewal.specs.NewMethods.{AreBytes, AreSmall, IsSmall, new_numbers}
 use Rattle.cap_renewal.specs.DescriptorEdits.{method_by, renewed_method, edits_to, method_edits, method_width, methods_edits, before_methods, renewed_class, class_edits, class_width, descriptor_edits, renewed_descriptor}

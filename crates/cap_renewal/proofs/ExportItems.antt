@@ -5,10 +5,10 @@ use Rattle.cap_bytes.specs.Grammar.{u1, u2, repeat, table}
 use Rattle.cap_bytes.specs.Spelling.{Spells, Stands, info_of}
 use Rattle.cap_bytes.proofs.Wide.{read_within}
 use Rattle.cap_pool.specs.ExportFormat.{Exported, class_export_info, export_info}
-use Rattle.cap_writing.specs.Edit.{patched_all, AreInside, FitBytes}
-use Rattle.cap_writing.specs.Renewal.{Renews}
-use Rattle.cap_writing.proofs.Same.{spelled_same, same_part}
-use Rattle.cap_writing.proofs.Patches.{edited_split, inside_from}
+use Rattle.cap_bytes.specs.Edit.{patched_all, AreInside, FitBytes}
+use Rattle.cap_bytes.specs.Renewal.{Renews}
+use Rattle.cap_bytes.proofs.Same.{spelled_same, same_part}
+use Rattle.cap_bytes.proofs.Patches.{edited_split, inside_from}
 use Rattle.cap_renewal.specs.NewMethods.{AreBytes, KeepsSmall}
 use Rattle.cap_renewal.specs.ExportEdits.{renewed_exported, exported_edits, exported_width, export_edits}
 use Rattle.cap_renewal.specs.Along.{number_edits, two_bytes}

@@ -4,9 +4,9 @@ use Rattle.cap_bytes.specs.Grammar.{Grammar, repeat}
 use Rattle.cap_bytes.specs.Spelling.{Spells, info_of}
 use Rattle.cap_bytes.proofs.Wide.{read_within}
 use Rattle.cap_bytes.proofs.UntilLoops.{moves_on}
-use Rattle.cap_writing.specs.Edit.{Edit, patched_all, AreInside, FitBytes}
-use Rattle.cap_writing.specs.Renewal.{IsEdited}
-use Rattle.cap_writing.proofs.Patches.{inside_append, fit_append, edited_split, patched_append}
+use Rattle.cap_bytes.specs.Edit.{Edit, patched_all, AreInside, FitBytes}
+use Rattle.cap_bytes.specs.Renewal.{IsEdited}
+use Rattle.cap_bytes.proofs.Patches.{inside_append, fit_append, edited_split, patched_append}
 use Rattle.cap_renewal.specs.Along.{along}
 
 -- an item of the bytes has this width, its edits lie inside it, and after them it is another

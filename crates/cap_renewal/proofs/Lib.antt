@@ -8,3 +8,4 @@ pub mod ExportItems
 pub mod ClassItems
 pub mod DescriptorItems
 pub mod Steps
+pub mod Frames

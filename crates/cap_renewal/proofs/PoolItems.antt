@@ -11,10 +11,10 @@ use Rattle.cap_pool.specs.declared.pool_reference.PoolReference.TheVariants.{Sta
 use Rattle.cap_pool.specs.declared.pool_reference.StaticReference.TheVariants.{Internal}
 use Rattle.cap_pool.specs.PoolReference.{referred}
 use Rattle.cap_pool.proofs.OwnMethods.{own-told}
-use Rattle.cap_writing.specs.Edit.{patched_all, AreInside, FitBytes}
-use Rattle.cap_writing.specs.Renewal.{Renews, IsEdited, AreSame}
-use Rattle.cap_writing.proofs.Same.{spelled_same, same_part}
-use Rattle.cap_writing.proofs.Patches.{edited_split, inside_from}
+use Rattle.cap_bytes.specs.Edit.{patched_all, AreInside, FitBytes}
+use Rattle.cap_bytes.specs.Renewal.{Renews, IsEdited, AreSame}
+use Rattle.cap_bytes.proofs.Same.{spelled_same, same_part}
+use Rattle.cap_bytes.proofs.Patches.{edited_split, inside_from}
 use Rattle.cap_renewal.specs.NewMethods.{AreBytes, KeepsSmall}
 use Rattle.cap_renewal.specs.PoolEdits.{own_offset, own_method, entry_by, renewed_entry, edits_by, entry_edits, entry_width, pool_edits}
 use Rattle.cap_renewal.proofs.Items.{IsItem, IsFit, all_inside, all_fit, all_renewed, IsRenewing, has_more}

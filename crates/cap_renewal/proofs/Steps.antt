@@ -2,8 +2,8 @@
 use Rattle.std.proofs.Common.{◌≡◌, ℕ, ◌+◌, ◌*◌, List, ◌∷◌, ◌++◌, length, Option, true, false, refl, sym, ◌∙◌}
 use Rattle.cap_class.specs.ClassFormat.{Class, is_interface}
 use Rattle.cap_desc.specs.DescriptorFormat.{MethodDescriptor}
-use Rattle.cap_writing.specs.Edit.{patched, patched_all}
-use Rattle.cap_writing.proofs.Patches.{patched_append}
+use Rattle.cap_bytes.specs.Edit.{patched, patched_all}
+use Rattle.cap_bytes.proofs.Patches.{patched_append}
 use Rattle.cap_renewal.specs.declared.new_methods.NewMethod.{NewMethod}
 use Rattle.cap_renewal.specs.NewMethods.{new_numbers}
 use Rattle.cap_renewal.specs.Along.{table_edits}

@@ -1,6 +1,6 @@
 -- The edits of items that stand one after the other.
 use Rattle.std.specs.Prelude.{◌+◌, ℕ, List, [], ◌∷◌, ◌++◌}
-use Rattle.cap_writing.specs.Edit.{Edit}
+use Rattle.cap_bytes.specs.Edit.{Edit}
 
 -- the edits of each item, which begins where the one before it ends
 abbrev pub along : {X : Type 0} → (ℕ → X → List Edit) → (X → ℕ) → ℕ → List X → List Edit

@@ -1,7 +1,7 @@
 -- The Applet component (JCVM 2.2, section 6.5) with the offsets of the install methods renewed.
 use Rattle.std.specs.Prelude.{◌+◌, ℕ, List, [], ◌∷◌, length}
 use Rattle.cap_frame.specs.AppletFormat.{Applet}
-use Rattle.cap_writing.specs.Edit.{Edit}
+use Rattle.cap_bytes.specs.Edit.{Edit}
 use Rattle.cap_renewal.specs.Along.{along}
 
 abbrev pub renewed_applet : (ℕ → ℕ) → Applet → Applet

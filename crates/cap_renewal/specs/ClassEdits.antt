@@ -1,7 +1,7 @@
 -- The Class component (JCVM 2.2, section 6.8) with the offsets in the dispatch tables renewed.
 use Rattle.std.specs.Prelude.{◌+◌, ◌*◌, ℕ, List, [], ◌∷◌, ◌++◌, length, map, if◌then◌else◌}
 use Rattle.cap_class.specs.ClassFormat.{Class, is_interface}
-use Rattle.cap_writing.specs.Edit.{Edit}
+use Rattle.cap_bytes.specs.Edit.{Edit}
 use Rattle.cap_renewal.specs.Along.{table_edits}
 
 abbrev pub renewed_class : (ℕ → ℕ) → Class → Class

@@ -2,7 +2,7 @@
 -- the methods of interfaces stays.
 use Rattle.std.specs.Prelude.{◌+◌, ◌*◌, ℕ, Bool, List, [], ◌∷◌, Option, length, map, if◌then◌else◌}
 use Rattle.cap_desc.specs.DescriptorFormat.{MethodDescriptor, ClassDescriptor, Descriptor}
-use Rattle.cap_writing.specs.Edit.{Edit}
+use Rattle.cap_bytes.specs.Edit.{Edit}
 use Rattle.cap_renewal.specs.declared.new_methods.NewMethod.{NewMethod}
 use Rattle.cap_renewal.specs.NewMethods.{new_numbers}
 use Rattle.cap_renewal.specs.Along.{along}

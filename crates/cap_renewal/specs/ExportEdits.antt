@@ -1,7 +1,7 @@
 -- The Export component (JCVM 2.2, section 6.12) with the offsets of the static methods renewed.
 use Rattle.std.specs.Prelude.{◌+◌, ◌*◌, ℕ, List, length, map}
 use Rattle.cap_pool.specs.ExportFormat.{Exported}
-use Rattle.cap_writing.specs.Edit.{Edit}
+use Rattle.cap_bytes.specs.Edit.{Edit}
 use Rattle.cap_renewal.specs.Along.{along, table_edits}
 
 abbrev pub renewed_exported : (ℕ → ℕ) → Exported → Exported

@@ -6,3 +6,4 @@ pub mod ClassEdits
 pub mod Rooms
 pub mod ExportEdits
 pub mod DescriptorEdits
+pub mod Files

@@ -6,7 +6,7 @@ use Rattle.cap_pool.specs.declared.pool_reference.PoolReference.{PoolReference}
 use Rattle.cap_pool.specs.declared.pool_reference.PoolReference.TheVariants.{StaticMethod}
 use Rattle.cap_pool.specs.declared.pool_reference.StaticReference.TheVariants.{Internal}
 use Rattle.cap_pool.specs.PoolReference.{referred}
-use Rattle.cap_writing.specs.Edit.{Edit}
+use Rattle.cap_bytes.specs.Edit.{Edit}
 use Rattle.cap_renewal.specs.Along.{along}
 
 -- the offset of the package's own static method that an entry names: the last two of its three bytes

@@ -2,15 +2,15 @@ ghost use Rattle.std.specs.Prelude.{◌≡◌, length, map};
 ghost use Rattle.cap_bytes.specs.Spelling.{Stands};
 ghost use Rattle.cap_frame.specs.AppletFormat.{applets_info};
 ghost use Rattle.cap_frame.specs.Applets.{applets_of};
-ghost use Rattle.cap_writing.specs.Edit.{patched_all};
-ghost use Rattle.cap_writing.specs.Renewal.{Renews};
+ghost use Rattle.cap_bytes.specs.Edit.{patched_all};
+ghost use Rattle.cap_bytes.specs.Renewal.{Renews};
 ghost use Rattle.cap_renewal.specs.AppletEdits.{applets_edits, renewed_applet};
 ghost use Rattle.cap_renewal.specs.NewMethods.{to};
 
 use crate::bytes::are_bytes;
 use crate::new_methods::{NewMethods, are_small};
+use cap_bytes::{patch, patches_renew};
 use cap_frame::Applets;
-use cap_writing::{patch, patches_renew};
 
 /// Renews the offsets of the install methods in the info of the Applet component.
 fn write_installs(applets: &Applets<'_>, news: &NewMethods, info: &mut [u8])

@@ -3,8 +3,8 @@ ghost use Rattle.cap_bytes.specs.declared.format.Format.{Format};
 ghost use Rattle.cap_bytes.specs.Spelling.{Stands};
 ghost use Rattle.cap_class.specs.ClassFormat.{classes_info};
 ghost use Rattle.cap_class.specs.ClassPart.{class_seen, records};
-ghost use Rattle.cap_writing.specs.Edit.{patched_all};
-ghost use Rattle.cap_writing.specs.Renewal.{Renews};
+ghost use Rattle.cap_bytes.specs.Edit.{patched_all};
+ghost use Rattle.cap_bytes.specs.Renewal.{Renews};
 ghost use Rattle.cap_renewal.specs.ClassEdits.{class_edits, classes_edits, renewed_class};
 ghost use Rattle.cap_renewal.specs.NewMethods.{to};
 ghost use Rattle.cap_renewal.specs.Rooms.{AllRooms, TablesFit};
@@ -12,8 +12,8 @@ ghost use Rattle.cap_renewal.specs.Rooms.{AllRooms, TablesFit};
 use crate::bytes::are_bytes;
 use crate::new_methods::{NewMethods, are_small};
 use crate::tables::renew_table;
+use cap_bytes::patches_renew;
 use cap_class::{ClassInfo, ClassPart};
-use cap_writing::patches_renew;
 
 /// Renews the offsets in the dispatch tables in the info of the Class component, in either format. The info
 /// is then that of the same records with the new offsets. No other byte changes.

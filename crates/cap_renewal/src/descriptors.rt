@@ -5,14 +5,14 @@ ghost use Rattle.cap_desc.specs.ClassRecords.{described_class_seen};
 ghost use Rattle.cap_desc.specs.DescriptorFormat.{descriptor_info};
 ghost use Rattle.cap_desc.specs.Descriptors.{descriptor_seen};
 ghost use Rattle.cap_desc.specs.MemberLists.{methods_left};
-ghost use Rattle.cap_writing.specs.Edit.{patched_all};
-ghost use Rattle.cap_writing.specs.Renewal.{Renews};
+ghost use Rattle.cap_bytes.specs.Edit.{patched_all};
+ghost use Rattle.cap_bytes.specs.Renewal.{Renews};
 ghost use Rattle.cap_renewal.specs.DescriptorEdits.{class_edits, class_width, descriptor_edits, edits_to, methods_edits, renewed_descriptor};
 
 use crate::bytes::are_bytes;
 use crate::new_methods::{NewMethod, NewMethods, are_small};
+use cap_bytes::{patch, patches_renew};
 use cap_desc::{DescClass, DescMethods, DescPart};
-use cap_writing::{patch, patches_renew};
 use offset_set::Offsets;
 
 /// Renews what the info of the Descriptor component tells of the methods of classes; `interfaces` are the

@@ -2,16 +2,16 @@ ghost use Rattle.std.specs.Prelude.{◌≡◌, length, map};
 ghost use Rattle.cap_bytes.specs.Spelling.{Stands};
 ghost use Rattle.cap_pool.specs.Export.{export_seen as exported};
 ghost use Rattle.cap_pool.specs.ExportFormat.{export_info};
-ghost use Rattle.cap_writing.specs.Edit.{patched_all};
-ghost use Rattle.cap_writing.specs.Renewal.{Renews};
+ghost use Rattle.cap_bytes.specs.Edit.{patched_all};
+ghost use Rattle.cap_bytes.specs.Renewal.{Renews};
 ghost use Rattle.cap_renewal.specs.ExportEdits.{export_edits, renewed_exported};
 ghost use Rattle.cap_renewal.specs.NewMethods.{to};
 
 use crate::bytes::are_bytes;
 use crate::new_methods::{NewMethods, are_small};
 use crate::tables::renew_table;
+use cap_bytes::patches_renew;
 use cap_pool::Export;
-use cap_writing::patches_renew;
 
 /// Renews the offsets of the static methods in the info of the Export component, which is then that of
 /// the same classes with the new offsets. No other byte changes.

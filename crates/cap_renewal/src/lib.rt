@@ -1,8 +1,8 @@
-//! Components whose length stays when the methods of a package are written anew: Applet, ConstantPool,
-//! Class, Export and Descriptor (Java Card 2.2 VM Specification, sections 6.5, 6.7, 6.8, 6.12 and 6.13). The
-//! offsets of methods, and what else the Descriptor tells of them, are written over where they stand; every
-//! other byte stays, those that are never read too. It stands on the readers of these components and on
-//! `cap_writing`.
+//! Components whose length stays when the methods of a package are written anew: Applet, ConstantPool, Class, Export
+//! and Descriptor (Java Card 2.2 VM Specification, sections 6.5, 6.7, 6.8, 6.12 and 6.13), and their files. The
+//! offsets of methods, and what else the Descriptor tells of them, are written over where they stand; every other
+//! byte stays, those that are never read too. It stands on the readers of these components and on `cap_package`,
+//! whose components it copies.
 #![tactic(auto)]
 
 mod applets;
@@ -10,6 +10,9 @@ mod bytes;
 mod classes;
 mod descriptors;
 mod exports;
+mod framed;
+mod members;
+mod names;
 mod new_methods;
 mod pool;
 mod tables;
@@ -18,5 +21,8 @@ pub use applets::renew_applets;
 pub use classes::renew_classes;
 pub use descriptors::renew_descriptor;
 pub use exports::renew_export;
+pub use framed::file_of;
+pub use members::{class_file, descriptor_file};
+pub use names::{applet_file, export_file, pool_file};
 pub use new_methods::{NewMethod, NewMethods};
 pub use pool::renew_pool;

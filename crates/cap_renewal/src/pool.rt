@@ -2,15 +2,15 @@ ghost use Rattle.std.specs.Prelude.{◌≡◌, ◌≤◌, ◌+◌, length, map};
 ghost use Rattle.cap_bytes.specs.Spelling.{Stands};
 ghost use Rattle.cap_pool.specs.Pool.{entries, entry_seen};
 ghost use Rattle.cap_pool.specs.PoolFormat.{pool_info};
-ghost use Rattle.cap_writing.specs.Edit.{patched_all};
-ghost use Rattle.cap_writing.specs.Renewal.{Renews};
+ghost use Rattle.cap_bytes.specs.Edit.{patched_all};
+ghost use Rattle.cap_bytes.specs.Renewal.{Renews};
 ghost use Rattle.cap_renewal.specs.NewMethods.{to};
 ghost use Rattle.cap_renewal.specs.PoolEdits.{entry_edits, own_method, pool_edits, renewed_entry};
 
 use crate::bytes::are_bytes;
 use crate::new_methods::{NewMethods, are_small};
+use cap_bytes::{patch, patches_renew};
 use cap_pool::{Pool, PoolEntry, PoolReference, StaticReference};
-use cap_writing::{patch, patches_renew};
 
 /// Renews the offsets of the package's own static methods in the info of the ConstantPool component,
 /// which is then that of the same entries with the new offsets. No other byte changes.

@@ -1,12 +1,11 @@
 ghost use Rattle.std.specs.Prelude.{◌≡◌, ◌≤◌, ◌+◌, ◌*◌, ℕ, List, length};
 ghost use Rattle.cap_bytes.specs.Table.{numbers};
-ghost use Rattle.cap_writing.specs.Edit.{patched_all};
+ghost use Rattle.cap_bytes.specs.Edit.{patched_all};
 ghost use Rattle.cap_renewal.specs.Along.{table_edits};
 ghost use Rattle.cap_renewal.specs.NewMethods.{to};
 
 use crate::new_methods::NewMethods;
-use cap_bytes::Table;
-use cap_writing::patch;
+use cap_bytes::{Table, patch};
 
 /// Renews the offsets of methods in a table that stands at a place of a component's info.
 #[tactic(auto, using(crate::proofs::Steps::one_edit))]

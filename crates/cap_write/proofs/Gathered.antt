@@ -6,7 +6,7 @@ use Rattle.cap_components.specs.Parts.{Lent, held}
 use Rattle.cap_components.specs.PackageRecord.{PackageRecord}
 use Rattle.jc_decode.specs.declared.symbols.Laid.{Laid}
 use Rattle.cap_renewal.specs.declared.new_methods.NewMethod.{NewMethod}
-use Rattle.cap_laying.specs.declared.component.Written.{Written}
+use Rattle.cap_laying.specs.declared.method_component.Written.{Written}
 use Rattle.cap_laying.specs.declared.member.WrittenMember.{WrittenMember}
 use Rattle.cap_laying.specs.Members.{new_places, written_info}
 use Rattle.cap_laying.specs.References.{written_references}

@@ -8,9 +8,9 @@ use Rattle.cap_components.specs.PackageRecord.{PackageRecord, names_interface}
 use Rattle.cap_package.specs.StandsFor.{StandsFor}
 use Rattle.cap_laying.specs.HandlerTable.{AreInside}
 use Rattle.jc_decode.specs.declared.symbols.Laid.{Laid}
-use Rattle.cap_rewritten.proofs.Lists.{Each}
-use Rattle.cap_rewritten.proofs.Agreed.{agrees}
-use Rattle.cap_rewritten.proofs.Facts.{WasWell, wells}
+use Rattle.law_package.proofs.Lists.{Each}
+use Rattle.law_package.proofs.Agreed.{agrees}
+use Rattle.law_package.proofs.Facts.{WasWell, wells}
 use Rattle.cap_write.specs.Condition.{handler_sum, no_method, methods_for, IsElement, AreElements, MayBeLaid}
 
 -- at most 32,767 bytes of code, in which the handlers lie

@@ -1,9 +1,9 @@
 -- How long the Method component is that is written, and its plain size.
 use Rattle.std.proofs.Common.{◌≡◌, ◌≤◌, ◌+◌, ◌*◌, ℕ, zero, suc, Bool, true, false, cond, List, [], ◌∷◌, length, map, replicate, Option, Some, None, refl, ap, arith, length-append}
 use Rattle.std.specs.Prelude.{slice_set}
-use Rattle.jc_decode.proofs.Listed.{all-are-listed}
-use Rattle.cap_code.specs.PlainSize.{plain_size, plain_sum}
-use Rattle.cap_code.proofs.Lengths.{plain_is, plain_known}
+use Rattle.jc_decode.proofs.InstructionLists.{all-are-listed}
+use Rattle.jc_decode.specs.CodeSize.{plain_code_size, plain_sum}
+use Rattle.jc_decode.proofs.PlainLengths.{plain_is, plain_known}
 use Rattle.cap_laying.specs.declared.member.Body.{Body}
 use Rattle.cap_laying.specs.declared.member.Body.TheVariants.{Code, Header}
 use Rattle.cap_laying.specs.declared.member.WrittenMember.{WrittenMember}
@@ -83,7 +83,7 @@ header_small n = by (is_compact n)
     by true = omega arith
     by false = omega arith
 
-code_plain : (code : List ℕ) → length code ≤ plain_size code
+code_plain : (code : List ℕ) → length code ≤ plain_code_size code
 code_plain code =
     let k = plain_known code (all-are-listed code) in
     omega (arith, k.least, plain_is code (plain_sum _) _ refl refl)

@@ -16,7 +16,7 @@ use Rattle.cap_laying.specs.Blocks.{total_handlers}
 use Rattle.cap_laying.specs.Member.{handlers_of}
 use Rattle.cap_laying.specs.Members.{IsAlone, AreApart, HasHandlersInside, AreMembers, MayBeWritten}
 use Rattle.cap_laying.specs.NewPlaces.{IsSmallBody}
-use Rattle.cap_rewritten.specs.Written.{lead_bytes}
+use Rattle.law_package.specs.Written.{lead_bytes}
 use Rattle.cap_write.specs.Described.{SeenBody, code, lead, SeenMember, body_seen, member_seen, seen_body, first_of_them, others_of_them, seen_methods, seen_classes, seen_package}
 use Rattle.cap_write.specs.Condition.{handler_sum, MayBeLaid}
 use Rattle.cap_write.proofs.LaidWell.{IsLaidWell, AreLaidWell, laid_well}

@@ -11,7 +11,7 @@ use Rattle.cap_package.specs.StandsFor.{StandsFor}
 use Rattle.cap_renewal.proofs.DescriptorItems.{class_room, has_classes}
 use Rattle.jc_decode.specs.declared.symbols.Laid.{Laid}
 use Rattle.cap_package.proofs.InfoLaws.{info-short}
-use Rattle.cap_code.specs.TargetIndex.{AreShortCodes}
+use Rattle.cap_index.specs.TargetIndex.{AreShortCodes}
 use Rattle.cap_laying.specs.declared.member.WrittenMember.{WrittenMember}
 use Rattle.cap_laying.specs.Members.{AreMembers}
 use Rattle.cap_write.proofs.LaidWell.{AreLaidWell}

@@ -11,16 +11,16 @@ use Rattle.cap_components.specs.Components.{info_in}
 use Rattle.cap_components.specs.PackageRecord.{PackageRecord, names_interface}
 use Rattle.cap_components.specs.Saying.{HoldsComponent, Says, SaysIf}
 use Rattle.cap_components.proofs.Saying.{info-read}
-use Rattle.cap_writing.specs.Edit.{Edit, AreInside}
-use Rattle.cap_writing.specs.Renewal.{AreSame}
-use Rattle.cap_writing.proofs.Patches.{edited_last, inside_from}
+use Rattle.cap_bytes.specs.Edit.{Edit, AreInside}
+use Rattle.cap_bytes.specs.Renewal.{AreSame}
+use Rattle.cap_bytes.proofs.Patches.{edited_last, inside_from}
 use Rattle.cap_renewal.specs.declared.new_methods.NewMethod.{NewMethod}
 use Rattle.cap_renewal.specs.Along.{along}
 use Rattle.cap_renewal.specs.DescriptorEdits.{class_edits, class_width, renewed_class, renewed_descriptor}
 use Rattle.cap_renewal.proofs.DescriptorItems.{class_item, has_classes}
 use Rattle.cap_renewal.proofs.Items.{all_inside}
-use Rattle.cap_filing.specs.Files.{IsRenewed, IsRenewedIf}
-use Rattle.cap_rewritten.specs.Laws.{IsSizeOf}
+use Rattle.cap_renewal.specs.Files.{IsRenewed, IsRenewedIf}
+use Rattle.law_package.specs.RewrittenPackage.{IsSizeOf}
 use Rattle.cap_write.specs.Files.{IsPresent, edits_of_methods}
 
 -- a file that is present

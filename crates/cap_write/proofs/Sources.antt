@@ -10,11 +10,11 @@ use Rattle.cap_laying.specs.declared.member.Body.{Body}
 use Rattle.cap_laying.specs.declared.member.Body.TheVariants as body
 use Rattle.cap_laying.specs.declared.member.WrittenMember.{WrittenMember}
 use Rattle.jc_decode.specs.declared.symbols.Laid.{Laid}
-use Rattle.cap_rewritten.specs.Changes.{FormerMethod, laid_but, sources_from, sources}
-use Rattle.cap_rewritten.specs.Written.{lead_bytes}
-use Rattle.cap_rewritten.specs.Laying as laying
-use Rattle.cap_rewritten.specs.Writing as writing
-use Rattle.cap_rewritten.proofs.Lists.{Each}
+use Rattle.law_package.specs.Changes.{FormerMethod, laid_but, sources_from, sources}
+use Rattle.law_package.specs.Written.{lead_bytes}
+use Rattle.law_package.specs.Laying as laying
+use Rattle.law_package.specs.Writing as writing
+use Rattle.law_package.proofs.Lists.{Each}
 use Rattle.cap_write.specs.Described.{SeenMember, body_seen, member_seen, seen_body, seen_method, seen_methods, seen_classes, seen_package}
 use Rattle.cap_write.specs.Condition.{no_method, methods_for, AreElements, MayBeLaid}
 use Rattle.cap_write.specs.Pools.{StackFits, StacksFit}

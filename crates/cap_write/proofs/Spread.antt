@@ -12,16 +12,16 @@ use Rattle.jc_decode.specs.declared.symbols.LaidHandler.{LaidHandler}
 use Rattle.jc_decode.specs.PoolIndex.{bytes_of_index, pool_index}
 use Rattle.jc_decode.specs.Listing.{listing, listing_end, end_from as insns_end, Lists}
 use Rattle.jc_decode.proofs.Decoded.{IsWithin-decoded}
-use Rattle.jc_decode.proofs.Listed.{all-are-listed}
-use Rattle.cap_code.proofs.Lengths.{plain_known}
-use Rattle.cap_locations.specs.Catches.{catch_place, catch_places}
-use Rattle.cap_locations.specs.Component.{component_bytes}
-use Rattle.cap_locations.specs.Distances.{distance_bytes, distances, last_of}
-use Rattle.cap_locations.specs.Indices.{HasIndexInside, index_by, index_places, indices}
+use Rattle.jc_decode.proofs.InstructionLists.{all-are-listed}
+use Rattle.jc_decode.proofs.PlainLengths.{plain_known}
+use Rattle.cap_laying.specs.Catches.{catch_place, catch_places}
+use Rattle.cap_laying.specs.Component.{component_bytes}
+use Rattle.cap_laying.specs.Distances.{distance_bytes, distances, last_of}
+use Rattle.cap_laying.specs.Indices.{HasIndexInside, index_by, index_places, indices}
 use Rattle.cap_bytes.specs.Spelling.{Stands}
 use Rattle.cap_pool.specs.LocationFormat.{locations_info}
-use Rattle.cap_locations.proofs.Components.{components_stand}
-use Rattle.cap_locations.proofs.Rooms.{has_room}
+use Rattle.cap_laying.proofs.Components.{components_stand}
+use Rattle.cap_laying.proofs.Rooms.{has_room}
 use Rattle.cap_write.specs.WrittenPackage.{locations_of}
 use Rattle.cap_laying.specs.declared.member.Body.{Body}
 use Rattle.cap_laying.specs.declared.member.Body.TheVariants.{Code, Header}
@@ -31,7 +31,7 @@ use Rattle.cap_laying.specs.Member.{body_size, by_offset, methods_end_from, hand
 use Rattle.cap_laying.specs.Members.{start_of, written_size}
 use Rattle.cap_laying.specs.References.{block_catches, body_indices, indices_if, method_indices, references_info, written_references}
 use Rattle.cap_laying.proofs.PlaceLaws.{end_grows}
-use Rattle.cap_locations.proofs.Tellings.{distances_both, last_both}
+use Rattle.cap_laying.proofs.Tellings.{distances_both, last_both}
 
 -- places between two others: they take a byte each, and one for each 255 on the way
 record IsSpread (last high : ℕ) (ps : List ℕ) : Type 0 where

@@ -25,14 +25,14 @@ use Rattle.cap_components.proofs.Saying.{info-read, formed_ok}
 use Rattle.cap_package.specs.FirstFault.{missing_parts}
 use Rattle.cap_package.specs.StandsFor.{StandsFor}
 use Rattle.cap_package.proofs.StaticsKnown.{both_empty}
-use Rattle.cap_rewritten.specs.Laws.{IsSizeOf}
-use Rattle.cap_rewritten.proofs.Lists.{Each, Has, each_at, none_each}
-use Rattle.cap_rewritten.proofs.Agreed.{agrees}
-use Rattle.cap_rewritten.proofs.Sized.{directory_read}
-use Rattle.cap_directory.specs.NewDirectory.{new_size, sizes_from}
-use Rattle.cap_directory.specs.declared.sizes.ComponentSizes.{ComponentSizes}
-use Rattle.cap_directory.proofs.Kept.{size_known}
-use Rattle.cap_directory.proofs.NewStands.{sizes_counted}
+use Rattle.law_package.specs.RewrittenPackage.{IsSizeOf}
+use Rattle.law_package.proofs.Lists.{Each, Has, each_at, none_each}
+use Rattle.law_package.proofs.Agreed.{agrees}
+use Rattle.law_package.proofs.Sized.{directory_read}
+use Rattle.cap_laying.specs.NewDirectory.{new_size, sizes_from}
+use Rattle.cap_laying.specs.declared.sizes.ComponentSizes.{ComponentSizes}
+use Rattle.cap_laying.proofs.Kept.{size_known}
+use Rattle.cap_laying.proofs.NewStands.{sizes_counted}
 use Rattle.cap_write.proofs.Customs.{has_tag}
 
 -- ---- a part and its size

@@ -28,20 +28,20 @@ use Rattle.cap_renewal.specs.ClassEdits.{classes_edits, renewed_class}
 use Rattle.cap_renewal.specs.DescriptorEdits.{renewed_descriptor}
 use Rattle.cap_renewal.specs.ExportEdits.{export_edits, renewed_exported}
 use Rattle.cap_renewal.specs.PoolEdits.{pool_edits, renewed_entry}
-use Rattle.cap_filing.specs.Files.{IsRenewed}
-use Rattle.cap_filing.proofs.Frames.{file_stands}
-use Rattle.cap_directory.specs.Laws.{MayStand}
-use Rattle.cap_directory.specs.NewDirectory.{new_directory, new_size, own_size}
+use Rattle.cap_renewal.specs.Files.{IsRenewed}
+use Rattle.cap_renewal.proofs.Frames.{file_stands}
+use Rattle.cap_laying.specs.WrittenDirectory.{MayStand}
+use Rattle.cap_laying.specs.NewDirectory.{new_directory, new_size, own_size}
 use Rattle.cap_laying.specs.declared.member.WrittenMember.{WrittenMember}
 use Rattle.cap_laying.specs.Blocks.{blocks, entries_of_blocks}
 use Rattle.cap_laying.specs.Members.{written_info}
 use Rattle.cap_laying.specs.References.{written_references}
 use Rattle.jc_decode.specs.declared.symbols.Laid.{Laid}
-use Rattle.cap_rewritten.specs.Changes.{sources}
-use Rattle.cap_rewritten.specs.Laws.{IsSizeOf, HasSizes, RewrittenStands, WritingRewrites}
-use Rattle.cap_rewritten.specs.Rewritten.{IsCustom}
-use Rattle.cap_rewritten.specs.Writing.{IsWrittenAnew, places}
-use Rattle.cap_rewritten.proofs.Lists.{Each, each_at}
+use Rattle.law_package.specs.Changes.{sources}
+use Rattle.law_package.specs.RewrittenPackage.{IsSizeOf, HasSizes, RewrittenStands, WritingRewrites}
+use Rattle.law_package.specs.Rewritten.{IsCustom}
+use Rattle.law_package.specs.Writing.{IsWrittenAnew, places}
+use Rattle.law_package.proofs.Lists.{Each, each_at}
 use Rattle.cap_write.specs.Condition.{MayBeLaid}
 use Rattle.cap_write.specs.NewIndex.{Index, IsNewIndex, dropped, has_other_aid, keeps_index, stays, written}
 use Rattle.cap_write.specs.Files.{IsDirectoryFile, IsFramed, index_file, edits_of_methods, sizes_of}

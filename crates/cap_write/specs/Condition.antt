@@ -5,7 +5,7 @@ use Rattle.cap_desc.specs.DescriptorFormat.{MethodDescriptor, ClassDescriptor}
 use Rattle.cap_components.specs.PackageRecord.{PackageRecord, names_interface}
 use Rattle.cap_package.specs.HeaderChecks.{header_in}
 use Rattle.jc_decode.specs.declared.symbols.Laid.{Laid}
-use Rattle.cap_rewritten.specs.Laying.{IsFor}
+use Rattle.law_package.specs.Laying.{IsFor}
 
 abbrev pub handler_sum : List (Option Laid) → ℕ
 handler_sum [] = 0

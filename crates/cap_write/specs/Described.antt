@@ -6,8 +6,8 @@ use Rattle.jc_decode.specs.declared.symbols.Laid.{Laid}
 use Rattle.cap_laying.specs.declared.member.Body.{Body}
 use Rattle.cap_laying.specs.declared.member.Body.TheVariants.{Code, Header}
 use Rattle.cap_laying.specs.declared.member.WrittenMember.{WrittenMember}
-use Rattle.cap_rewritten.specs.Written.{lead_bytes}
-use Rattle.cap_rewritten.specs.Writing.{first_handler}
+use Rattle.law_package.specs.Written.{lead_bytes}
+use Rattle.law_package.specs.Writing.{first_handler}
 
 -- code, or the header of a method without code as it stood
 pub data SeenBody : Type 0 where

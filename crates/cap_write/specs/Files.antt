@@ -10,7 +10,7 @@ use Rattle.cap_class.specs.ClassFormat.{classes_info}
 use Rattle.cap_desc.specs.DescriptorFormat.{Descriptor, descriptor_info}
 use Rattle.cap_components.specs.Parts.{Lent, held}
 use Rattle.cap_components.specs.PackageRecord.{PackageRecord, names_interface}
-use Rattle.cap_writing.specs.Edit.{Edit}
+use Rattle.cap_bytes.specs.Edit.{Edit}
 use Rattle.cap_renewal.specs.declared.new_methods.NewMethod.{NewMethod}
 use Rattle.cap_renewal.specs.NewMethods.{to}
 use Rattle.cap_renewal.specs.AppletEdits.{applets_edits, renewed_applet}
@@ -18,10 +18,10 @@ use Rattle.cap_renewal.specs.ClassEdits.{classes_edits, renewed_class}
 use Rattle.cap_renewal.specs.DescriptorEdits.{descriptor_edits, renewed_descriptor}
 use Rattle.cap_renewal.specs.ExportEdits.{export_edits, renewed_exported}
 use Rattle.cap_renewal.specs.PoolEdits.{pool_edits, renewed_entry}
-use Rattle.cap_filing.specs.Files.{IsRenewed, IsRenewedIf, file_bytes}
-use Rattle.cap_directory.specs.declared.sizes.ComponentSizes.{ComponentSizes}
-use Rattle.cap_directory.specs.NewDirectory.{new_directory, own_size}
-use Rattle.cap_laying.specs.declared.component.Written.{Written}
+use Rattle.cap_renewal.specs.Files.{IsRenewed, IsRenewedIf, file_bytes}
+use Rattle.cap_laying.specs.declared.sizes.ComponentSizes.{ComponentSizes}
+use Rattle.cap_laying.specs.NewDirectory.{new_directory, own_size}
+use Rattle.cap_laying.specs.declared.method_component.Written.{Written}
 use Rattle.cap_write.specs.declared.index.NewIndex.{NewIndex}
 use Rattle.cap_write.specs.NewIndex.{Index, IsShortIndex, change_of, dropped, index_seen, stays, written}
 

@@ -1,13 +1,13 @@
 -- The plain size of the info of a Method component.
 use Rattle.std.specs.Prelude.{◌+◌, ◌*◌, ℕ, List, [], ◌∷◌, length}
-use Rattle.cap_code.specs.PlainSize.{plain_size}
+use Rattle.jc_decode.specs.CodeSize.{plain_code_size}
 use Rattle.cap_laying.specs.declared.member.WrittenMember.{WrittenMember}
 use Rattle.cap_laying.specs.NewPlaces.{IsSmallBody}
 use Rattle.cap_write.specs.Described.{SeenBody, SeenMember, code, lead}
 
 -- a method's handlers, its header in four bytes and the plain size of its code; or the header of a method without code
 abbrev pub plain_member : SeenBody → ℕ
-plain_member (code laid) = 8 * length laid.handlers + (4 + plain_size laid.code)
+plain_member (code laid) = 8 * length laid.handlers + (4 + plain_code_size laid.code)
 plain_member (lead header) = length header
 
 abbrev pub plain_members : List SeenMember → ℕ

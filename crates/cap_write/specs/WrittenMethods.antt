@@ -4,8 +4,8 @@ use Rattle.cap_components.specs.PackageRecord.{PackageRecord}
 use Rattle.jc_decode.specs.declared.symbols.Laid.{Laid}
 use Rattle.cap_laying.specs.declared.member.WrittenMember.{WrittenMember}
 use Rattle.cap_laying.specs.Members.{MayBeWritten, written_size}
-use Rattle.cap_rewritten.specs.Changes.{sources}
-use Rattle.cap_rewritten.specs.Writing.{AreMembersOf}
+use Rattle.law_package.specs.Changes.{sources}
+use Rattle.law_package.specs.Writing.{AreMembersOf}
 use Rattle.cap_write.specs.declared.end.WriteEnd.{WriteEnd}
 use Rattle.cap_write.specs.declared.end.WriteEnd.TheVariants.{PartLong, Memory}
 use Rattle.cap_write.specs.Described.{member_seen}

@@ -6,9 +6,9 @@ use Rattle.cap_components.specs.Parts.{Lent, held}
 use Rattle.cap_components.specs.PackageRecord.{PackageRecord}
 use Rattle.cap_package.specs.StandsFor.{StandsFor}
 use Rattle.jc_decode.specs.declared.symbols.Laid.{Laid}
-use Rattle.cap_rewritten.specs.Rewritten.{IsRewritten}
+use Rattle.law_package.specs.Rewritten.{IsRewritten}
 use Rattle.cap_renewal.specs.declared.new_methods.NewMethod.{NewMethod}
-use Rattle.cap_locations.specs.Distances.{distances}
+use Rattle.cap_laying.specs.Distances.{distances}
 use Rattle.cap_laying.specs.declared.member.WrittenMember.{WrittenMember}
 use Rattle.cap_method.specs.MethodFormat.{methods_info}
 use Rattle.cap_laying.specs.Blocks.{blocks, entries_of_blocks}

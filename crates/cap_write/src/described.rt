@@ -4,7 +4,7 @@ ghost use Rattle.cap_desc.specs.ClassRecords.{described_class_seen};
 ghost use Rattle.cap_desc.specs.Descriptors.{descriptor_seen};
 ghost use Rattle.cap_desc.specs.MemberLists.{methods_left};
 ghost use Rattle.cap_desc.specs.MemberRecords.{method_seen};
-ghost use Rattle.cap_rewritten.specs.Written.{lead_bytes};
+ghost use Rattle.law_package.specs.Written.{lead_bytes};
 ghost use Rattle.cap_write.specs.Described.{seen_body, body_seen, first_of_them, member_seen, seen_class, seen_classes, seen_method, seen_methods};
 
 use cap_bytes::View;
@@ -111,7 +111,7 @@ fn body<'a>(info: View<'a>, offset: u16, laid: &'a [Option<Laid>]) -> Body<'a>
 }
 
 /// The bytes of the header that stands at an offset.
-#[tactic(auto, unfolding(cap_rewritten::specs::Written::lead_bytes))]
+#[tactic(auto, unfolding(law_package::specs::Written::lead_bytes))]
 fn lead<'a>(info: View<'a>, offset: u16) -> &'a [u8]
     ensures { result.now ≡ lead_bytes info.entry.bytes.now offset }
 {

@@ -3,10 +3,9 @@ ghost use Rattle.cap_write.specs.Files.{AreShortInfos, IsDirectoryFile};
 ghost use Rattle.cap_write.specs.NewIndex.{IsShortIndex, change_of, index_seen};
 
 use crate::index::NewIndex;
-use cap_directory::{ComponentSizes, IndexChange, directory_info};
-use cap_filing::file_of;
-use cap_laying::Written;
+use cap_laying::{ComponentSizes, IndexChange, Written, directory_info};
 use cap_package::Package;
+use cap_renewal::file_of;
 use std::alloc::{AllocError, Global};
 
 /// The file of the Directory of a package with these methods and this target index.

@@ -1,5 +1,5 @@
 ghost use Rattle.std.specs.Prelude.{◌<◌};
-ghost use Rattle.cap_directory.specs.Laws.{MayStand};
+ghost use Rattle.cap_laying.specs.WrittenDirectory.{MayStand};
 ghost use Rattle.cap_laying.specs.Member.{handlers_of};
 ghost use Rattle.cap_renewal.specs.NewMethods.{AreBytes};
 ghost use Rattle.cap_write.specs.Pools.{HandlersFit, MembersFit, StackFits, StacksFit};

@@ -1,15 +1,15 @@
 ghost use Rattle.std.specs.Prelude.{◌≡◌, IfOk};
 ghost use Rattle.cap_components.specs.Parts.{held};
-ghost use Rattle.cap_filing.specs.Files.{file_seen};
+ghost use Rattle.cap_renewal.specs.Files.{file_seen};
 ghost use Rattle.cap_write.specs.Files.{AreShortInfos, IsFileOf, index_file};
 ghost use Rattle.cap_write.specs.NewIndex.{IsShortIndex, index_seen};
 
 use crate::directory::directory_file;
 use crate::index::NewIndex;
 use cap_bytes::Part;
-use cap_filing::{applet_file, class_file, descriptor_file, export_file, file_of, pool_file};
 use cap_laying::Written;
 use cap_package::{Package, Parts};
+use cap_renewal::{applet_file, class_file, descriptor_file, export_file, file_of, pool_file};
 use std::alloc::{AllocError, Global};
 
 /// The file with a tag of a package with these methods and this target index, if there is one.

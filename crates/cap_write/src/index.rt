@@ -1,8 +1,8 @@
 ghost use Rattle.std.specs.Prelude.{◌≡◌, IfOk};
-ghost use Rattle.cap_code.specs.TargetIndex.{AreShortCodes};
+ghost use Rattle.cap_index.specs.TargetIndex.{AreShortCodes};
 ghost use Rattle.cap_write.specs.NewIndex.{IsNewIndex, index_seen, keeps_index};
 
-use cap_code::index_info;
+use cap_index::index_info;
 use cap_package::Package;
 use jc_decode::Laid;
 use std::alloc::{AllocError, Global};

@@ -4,8 +4,8 @@ ghost use Rattle.cap_write.specs.Described.{body_seen, member_seen};
 ghost use Rattle.cap_write.specs.PlainComponent.{AreSmallMembers, plain_component, plain_member};
 
 use cap_bytes::View;
-use cap_code::plain_size;
 use cap_laying::{Body, WrittenMember};
+use jc_decode::plain_code_size;
 
 /// The plain size of the info of a Method component: a byte, 8 bytes for each handler, a header of 4 bytes and the plain
 /// size of its code for each method with code, and its header for each other.
@@ -29,7 +29,7 @@ fn plain_member(body: Body<'_>) -> u32
 {
     match body {
         Body::Code(laid) => {
-            let code = plain_size(View::of(laid.code.as_slice()));
+            let code = plain_code_size(View::of(laid.code.as_slice()));
             8 * laid.handlers.len() as u32 + (4 + code)
         }
         Body::Header(header) => header.len() as u32,

@@ -8,8 +8,8 @@ use crate::index::new_index;
 use crate::methods::{members_of, write_methods};
 use crate::parts::all_parts;
 use cap_package::{OwnedParts, Package};
-use cap_rewritten::{rewritten_is_a_package, writing_rewrites};
 use jc_decode::Laid;
+use law_package::{rewritten_is_a_package, writing_rewrites};
 use std::alloc::Global;
 
 /// Writes a package with other code of its methods, in its own format. The list has an element for each method record of

@@ -10,9 +10,9 @@ use Rattle.capcheck.specs.declared.NoStart.{NoStart}
 use Rattle.capcheck.specs.declared.NoStart.TheVariants.{Memory, Words}
 
 -- the exit status where no command begins
-abbrev pub status_of : NoStart → ℕ
-status_of Memory = 6
-status_of Words = 9
+abbrev pub status_of_no_start : NoStart → ℕ
+status_of_no_start Memory = 6
+status_of_no_start Words = 9
 
 -- why none begins where the words cannot be taken
 abbrev pub start_by : ErrorKind → NoStart

@@ -7,7 +7,7 @@ ghost use Rattle.std.specs.Prelude.{◌≡◌, ◌≤◌, map, drop, length, str
 ghost use Rattle.std.specs.Vec.Iter.{into_iter_items};
 ghost use Rattle.std.specs.IoError.{error_kind};
 ghost use Rattle.capcheck.specs.declared.NoStart.TheVariants.{Memory};
-ghost use Rattle.capcheck.specs.Start.{EndsWith, in_32_bits, longest_from, start_by, status_of};
+ghost use Rattle.capcheck.specs.Start.{EndsWith, in_32_bits, longest_from, start_by, status_of_no_start};
 
 use cap_files::{DirFolder, OutSink, Words};
 use capcheck_core::capcheck;
@@ -34,7 +34,7 @@ enum NoStart {
 
 impl NoStart {
     fn status(self) -> u8
-        ensures { result ≡ status_of self }
+        ensures { result ≡ status_of_no_start self }
     {
         match self {
             NoStart::Memory => 6,
@@ -57,7 +57,7 @@ fn main(rt: HostRuntime) -> ExitCode {
 
 /// The status that the program ends with: the command's, or that of what kept it from beginning.
 fn exit_status(ended: Result<u8, NoStart>) -> u8
-    ensures { MatchResult ended (λ status. result ≡ status) (λ end. result ≡ status_of end) }
+    ensures { MatchResult ended (λ status. result ≡ status) (λ end. result ≡ status_of_no_start end) }
 {
     match ended {
         Ok(status) => status,

@@ -4,14 +4,14 @@ use Rattle.std.specs.Prelude.{IfSome}
 use Rattle.std.specs.Int.{from_bool}
 use Rattle.std.proofs.lemmas.List.{take_all}
 use Rattle.std.proofs.lemmas.Option.{slice_get_within}
-use Rattle.jc_indexes.specs.Indexes.{has_code}
+use Rattle.cap_index.specs.Indexes.{has_code}
 use Rattle.jc_base.specs.declared.record.MethodRec.{MethodRec}
 use Rattle.jc_base.specs.World.{Linked, code_of}
 use Rattle.jc_control.specs.Method.{IsMethodOf, method_with}
 use Rattle.card_typing.specs.declared.fault.CardFault.{CardFault}
 use Rattle.card_typing.specs.Typing.{HasCardTyping}
 use Rattle.jc_base.specs.declared.ty.Ty.TheVariants.{Bottom}
-use Rattle.vm_sound.specs.Laws.{TypedCodeIsFaultFree}
+use Rattle.law_sound.specs.Soundness.{TypedCodeIsFaultFree}
 use Rattle.card_verify.specs.Answers.{AreAccepted, AreAcceptedBefore, IsFirstRefused}
 use Rattle.cap_text.specs.declared.line.MethodNumber.{MethodNumber}
 use Rattle.cap_text.specs.Line.{accepted_line, refused_card_line}

@@ -15,7 +15,7 @@ use Rattle.vm_offend.specs.Begun.{IsBegun}
 use Rattle.vm_offend.specs.Sized.{static_cells}
 use Rattle.vm_store.specs.Cells.{tagged}
 use Rattle.cap_gen.proofs.Linking.{methods_are}
-use Rattle.cap_gen.specs.Laws.{PackagesLink, PartsStand, WorldsAreTyped}
+use Rattle.cap_gen.specs.GeneratedPackage.{PackagesLink, PartsStand, WorldsAreTyped}
 use Rattle.cap_gen.specs.Methods.{method_info}
 use Rattle.cap_gen.specs.Generated as parts
 use Rattle.jc_base.specs.Class.{is_interface}
@@ -28,10 +28,10 @@ use Rattle.jc_link.specs.World.{IsLinked, LinkTells}
 use Rattle.jc_link.specs.LinkEnd.TheVariants as ends
 use Rattle.jc_link.specs.LinkFault.{LinkFault}
 use Rattle.jc_link.proofs.OneWorld.{linked_faultless}
-use Rattle.jc_rewritten.specs.Last.{and_last}
+use Rattle.law_relink.specs.Last.{and_last}
 use Rattle.card_verify.specs.Answers.{AreAccepted}
-use Rattle.vm_sound.specs.Laws.{TypedCodeIsFaultFree}
-use Rattle.vm_alike.specs.Starting.{StartsRefuseAlike, MethodsAreNumberedAlike}
+use Rattle.law_sound.specs.Soundness.{TypedCodeIsFaultFree}
+use Rattle.law_alike.specs.Starting.{StartsRefuseAlike, MethodsAreNumberedAlike}
 use Rattle.vm_step.specs.Raising.{Outcome, running, ended}
 use Rattle.vm_step.specs.Start.{entry_fault, entry_state, method_fault, or_room}
 use Rattle.vm_defend.specs.Held.{answer}
@@ -43,7 +43,7 @@ use Rattle.vm_step.specs.declared.ending.Plain.{Plain as PlainEnding}
 use Rattle.vm_step.specs.declared.ending.Ending.TheVariants as endings
 use Rattle.vm_store.specs.declared.cell.Cell.{Cell}
 use Rattle.vm_offend.specs.Held.{ending_of, Follows}
-use Rattle.xf_landed.specs.Apart.{IsSameBut}
+use Rattle.law_laid.specs.Apart.{IsSameBut}
 use Rattle.cap_text.specs.Generate.{GenerateRequest, generate_text}
 use Rattle.vm_offend.proofs.Accepting.{accepted-typed}
 use Rattle.cap_gen.proofs.Placed.{at_each}

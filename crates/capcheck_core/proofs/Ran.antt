@@ -14,19 +14,19 @@ use Rattle.vm_step.specs.declared.ending.Plain.{Plain}
 use Rattle.vm_step.specs.Raising.{Outcome, running, ended}
 use Rattle.vm_step.specs.Run.{stands}
 use Rattle.vm_step.specs.Start.{entry_state}
-use Rattle.vm_turns.specs.Turn.{with_ending}
-use Rattle.vm_erasure.specs.Erasure.{erased_outcome}
+use Rattle.vm_run.specs.Turn.{with_ending}
+use Rattle.law_erasure.specs.Erasure.{erased_outcome}
 use Rattle.vm_defend.specs.Held.{answer}
 use Rattle.vm_defend.specs.Reading.{value_at}
-use Rattle.vm_words.specs.declared.words.Counts.{Counts}
-use Rattle.vm_words.specs.Words.{words_state}
+use Rattle.vm_offend.specs.declared.words.Counts.{Counts}
+use Rattle.vm_offend.specs.Words.{words_state}
 use Rattle.vm_offend.specs.declared.machine.Machine.{Machine}
 use Rattle.vm_offend.specs.Sized.{static_cells}
 use Rattle.vm_offend.specs.Held.{AreWordsOf, IsOutcomeOfRun, Follows, state_of, ending_of}
 use Rattle.vm_offend.specs.Begun.{IsBegun}
 use Rattle.vm_text.specs.Left.{Readout, number_array, left_by}
 use Rattle.vm_text.specs.Lent.{lent_state, IsLentRun}
-use Rattle.vm_text.specs.Laws.{TextsAreAlike}
+use Rattle.vm_text.specs.LikeTexts.{TextsAreAlike}
 use Rattle.vm_text.specs.Text.{left_text, run_text, outcome_text}
 use Rattle.cap_text.specs.Room.{Roomed, IsEmpty, Writes}
 use Rattle.cap_text.specs.Run.{RunRequest}

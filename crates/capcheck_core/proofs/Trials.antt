@@ -9,14 +9,14 @@ use Rattle.jc_base.specs.World.{Linked, method_numbered}
 use Rattle.jc_control.specs.Asked.{AllHave}
 use Rattle.jc_control.specs.Method.{IsMethodOf}
 use Rattle.card_typing.specs.Typing.{HasCardTyping}
-use Rattle.xf_landed.specs.Apart.{IsSameBut}
+use Rattle.law_laid.specs.Apart.{IsSameBut}
 use Rattle.jc_link.specs.World.{IsLinked, LinkTells}
 use Rattle.jc_link.specs.LinkEnd.TheVariants as ends
 use Rattle.jc_link.specs.LinkFault.{LinkFault}
 use Rattle.jc_link.proofs.OneWorld.{one_world, linked_faultless}
-use Rattle.jc_rewritten.specs.Last.{and_last}
+use Rattle.law_relink.specs.Last.{and_last}
 use Rattle.xf_pack.specs.Transformed.{IsTransformed}
-use Rattle.vm_alike.specs.Starting.{StartsRefuseAlike, MethodsAreNumberedAlike}
+use Rattle.law_alike.specs.Starting.{StartsRefuseAlike, MethodsAreNumberedAlike}
 use Rattle.cap_text.specs.Run.{RunRequest}
 use Rattle.cap_text.specs.Trial.{trial_text}
 use Rattle.capcheck_core.specs.declared.verdict.Verdict.{Verdict}

@@ -9,7 +9,7 @@ use Rattle.cap_package.specs.Parts.{Lent}
 use Rattle.cap_text.specs.Generate.{GenerateRequest, generate_text}
 use Rattle.cap_text.specs.Run.{RunRequest}
 use Rattle.jc_base.specs.World.{Linked}
-use Rattle.vm_sound.specs.Laws.{IsFaultFree}
+use Rattle.law_sound.specs.Soundness.{IsFaultFree}
 use Rattle.vm_step.specs.Arguments.{number}
 use Rattle.vm_step.specs.Raising.{Outcome, ended}
 use Rattle.vm_step.specs.Start.{start_fault}

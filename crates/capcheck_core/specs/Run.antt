@@ -5,10 +5,10 @@ use Rattle.jc_base.specs.World.{Linked}
 use Rattle.vm_store.specs.declared.cell.Cell.{Cell}
 use Rattle.vm_store.specs.Cells.{tagged}
 use Rattle.vm_store.specs.State.{erased}
-use Rattle.vm_sound.specs.Laws.{IsFaultFree}
+use Rattle.law_sound.specs.Soundness.{IsFaultFree}
 use Rattle.vm_step.specs.Raising.{Outcome}
-use Rattle.vm_words.specs.declared.words.Counts.{Counts}
-use Rattle.vm_words.specs.Words.{AreLaid, words_state}
+use Rattle.vm_offend.specs.declared.words.Counts.{Counts}
+use Rattle.vm_offend.specs.Words.{AreLaid, words_state}
 use Rattle.vm_offend.specs.Held.{state_of}
 use Rattle.vm_offend.specs.Sized.{static_cells}
 use Rattle.vm_text.specs.Text.{outcome_text}

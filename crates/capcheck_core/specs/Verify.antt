@@ -1,13 +1,13 @@
 -- What `verify` may answer, by the packages and the roles in its folders (Leroy 2002, section 3).
 use Rattle.std.specs.Prelude.{◌≡◌, ℕ, List, count_by, string_bytes}
-use Rattle.jc_indexes.specs.Indexes.{has_code}
+use Rattle.cap_index.specs.Indexes.{has_code}
 use Rattle.jc_base.specs.World.{Linked}
 use Rattle.jc_control.specs.Method.{Method, IsMethodOf}
 use Rattle.jc_rules.specs.Demand.{Frame}
 use Rattle.card_typing.specs.declared.fault.CardFault.{CardFault}
 use Rattle.card_typing.specs.Typing.{HasCardTyping}
 use Rattle.card_typing.specs.Refusal.{IsRefused}
-use Rattle.vm_sound.specs.Laws.{IsFaultFree}
+use Rattle.law_sound.specs.Soundness.{IsFaultFree}
 use Rattle.cap_text.specs.Line.{accepted_line, refused_card_line}
 use Rattle.cap_text.specs.Verify.{VerifyRequest}
 use Rattle.capcheck_core.specs.declared.verdict.Verdict.{Verdict}

@@ -1,16 +1,16 @@
 ghost use Rattle.std.specs.Prelude.{◌≡◌, ◌<◌, length, Some, option_map, slice_get};
-ghost use Rattle.jc_indexes.specs.Indexes.{has_code};
+ghost use Rattle.cap_index.specs.Indexes.{has_code};
 ghost use Rattle.card_verify.specs.Answers.{AreAccepted, IsFirstRefused};
 ghost use Rattle.capcheck_core.specs.Verify.{count_of_world, StopsAtRefused, AcceptsWorld};
 
 use crate::typing::number_of;
 use crate::verdict::Verdict;
 use cap_text::{accepted, refused_card};
-use card_index::{CardRoom, accept};
 use card_typing::CardFault;
+use card_verify::{CardRoom, accept};
 use jc_base::World;
+use law_sound::typed_code_never_fails;
 use std::alloc::Global;
-use vm_sound::typed_code_never_fails;
 
 /// Verifies each method with code of all packages of a world, in the room of a card.
 #[tactic(auto, using(crate::proofs::Cardings::refused_world))]

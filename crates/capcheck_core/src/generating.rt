@@ -20,13 +20,13 @@ use cap_files::Folder;
 use cap_gen::{ROLES, generate, packages_link, parts_stand};
 use cap_package::{OwnedParts, Package, Packages, agreed_package};
 use cap_text::{Entry, Generate, generated};
-use card_index::{Accepted, CardRoom, accept};
+use card_verify::{Accepted, CardRoom, accept};
 use jc_base::World;
 use jc_link::{LinkEnd, link};
+use law_alike::starts_refuse_alike;
+use law_sound::typed_code_never_fails;
 use std::alloc::{AllocError, Global};
-use vm_alike::starts_refuse_alike;
 use vm_offend::start;
-use vm_sound::typed_code_never_fails;
 use vm_step::{Arg, Args, Plain, Value};
 use xf_pack::transform_linked;
 

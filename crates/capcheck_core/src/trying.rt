@@ -1,6 +1,6 @@
 ghost use Rattle.std.specs.Prelude.{◌≡◌, IfOk, List, MatchResult};
 ghost use Rattle.cap_package.specs.PackageRecord.{PackageRecord};
-ghost use Rattle.jc_rewritten.specs.Last.{and_last};
+ghost use Rattle.law_relink.specs.Last.{and_last};
 ghost use Rattle.cap_text.specs.Run.{run_request};
 ghost use Rattle.jc_link.specs.World.{IsLinked};
 ghost use Rattle.xf_pack.specs.Transformed.{IsTransformed};
@@ -17,8 +17,8 @@ use cap_package::{OwnedParts, Package, Packages, agreed_package};
 use cap_text::{Run, tried};
 use jc_base::World;
 use jc_link::{LinkEnd, link};
+use law_alike::starts_refuse_alike;
 use std::alloc::{AllocError, Global};
-use vm_alike::starts_refuse_alike;
 use xf_pack::transform_linked;
 
 // The steps of the new package that one of its source may take.

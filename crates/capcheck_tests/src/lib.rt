@@ -1,8 +1,13 @@
 //! Worked commands: what `capcheck_core` prints for `probe`, `show`, `check`, `verify`, `defend`, `run`, `transform`, `trial`
 //! and `gen` over folders in memory, with package T of `cap_tests`, two more small packages and the counter of the examples,
-//! what `run` and `trial` leave in the memory of the card, and where a device fails.
+//! what `run` and `trial` leave in the memory of the card, and where a device fails. With them stand worked cases of
+//! folders, sinks and words (`cap_files`) and of bare methods (`cap_bare`).
 #![tactic(auto)]
 
+#[cfg(test)]
+mod arithmetic_tests;
+#[cfg(test)]
+mod bare_run_tests;
 #[cfg(test)]
 mod check_tests;
 #[cfg(test)]
@@ -12,19 +17,27 @@ mod counter_tests;
 #[cfg(test)]
 mod defend_tests;
 #[cfg(test)]
+mod disk_tests;
+#[cfg(test)]
 mod filling;
 #[cfg(test)]
 mod gen_tests;
 #[cfg(test)]
 mod length_tests;
 #[cfg(test)]
+mod memory_tests;
+#[cfg(test)]
 mod probe_tests;
+#[cfg(test)]
+mod refusal_tests;
 #[cfg(test)]
 mod rows;
 #[cfg(test)]
 mod run;
 #[cfg(test)]
 mod run_tests;
+#[cfg(test)]
+mod runs;
 #[cfg(test)]
 mod show_tests;
 #[cfg(test)]
@@ -37,3 +50,5 @@ mod trial_tests;
 mod typing_tests;
 #[cfg(test)]
 mod verify_tests;
+#[cfg(test)]
+mod word_tests;

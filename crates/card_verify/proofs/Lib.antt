@@ -5,3 +5,13 @@ pub mod Catching
 pub mod Starting
 pub mod Stepping
 pub mod Answering
+pub mod Costs
+pub mod Halving
+pub mod Clear
+pub mod Denying
+pub mod Landed
+pub mod Walked
+pub mod Ordered
+pub mod Verified
+pub mod OneRefusal
+pub mod Tallies

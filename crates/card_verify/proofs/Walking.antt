@@ -10,7 +10,7 @@ use Rattle.jc_decode.specs.declared.insn.Placed.{Placed}
 use Rattle.jc_decode.specs.Listing.{falls, listing, Lists, end_from}
 use Rattle.jc_control.specs.Method.{Method}
 use Rattle.jc_control.specs.WellFormed.{HasInstruction}
-use Rattle.jc_control.proofs.Listed.{at-end}
+use Rattle.jc_control.proofs.PlacesWithin.{at-end}
 use Rattle.jc_decode.specs.Laws.{AreListed}
 use Rattle.jc_rules.specs.declared.rule.Outcome.{Outcome}
 use Rattle.jc_rules.specs.Demand.{AreKnown}

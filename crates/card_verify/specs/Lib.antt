@@ -2,3 +2,14 @@ pub mod Verifier
 pub mod Ahead
 pub mod Walk
 pub mod Answers
+pub mod IndexTyping
+pub mod Met
+pub mod Refusal
+pub mod Pass
+pub mod Indexed
+pub mod IndexWalk
+pub mod Seeking
+pub mod Room
+pub mod Counting
+pub mod Bound
+pub mod OverIndex

@@ -3,18 +3,37 @@
 //!
 //! It walks the instructions of a method in the order of the code and raises one list of registers in place, pass
 //! after pass, until a pass raises none. Targets are not remembered: where cells are left on the stack the least one
-//! ahead is found by a walk, and kept until the pass is beyond it. It stands on the definitions of `card_typing` and on
-//! the rules of `jc_rules`.
+//! ahead is found by a walk, and kept until the pass is beyond it. Over a target index the places that the index lists
+//! stand for the targets, so that none is looked for, and each application of a rule and each entry that is read is a
+//! step that is counted. `accept` stands on both. It stands on the definitions of `card_typing` and on the rules of
+//! `jc_rules`.
 #![tactic(auto)]
 
+mod acceptance;
 mod ahead;
 mod caught;
+mod counted;
+mod entries;
+mod form;
+mod index_pass;
+mod index_verify;
+mod indexed;
+mod order;
+mod over_index;
 mod pass;
+mod room;
+mod scan;
+mod search;
 mod start;
 mod verifier;
 mod verify;
 
+pub use acceptance::{Accepted, accept};
 pub use card_typing::{CardFault, CardKind};
+pub use counted::apply_counted;
+pub use index_verify::verify_indexed;
+pub use over_index::index_laws;
 pub use pass::{Arrival, either, put_alone};
+pub use room::CardRoom;
 pub use verifier::Verifier;
 pub use verify::verify_method;

@@ -19,12 +19,12 @@ use Rattle.first_fault.specs.First.{IsFirst, AllEmpty}
 use Rattle.jc_resolve.proofs.Faultless.{faultless_at}
 use Rattle.first_fault.proofs.FirstTold.{IsTold, things-told, step, last, refused-first, accepted-empty}
 use Rattle.jc_classes.specs.declared.layout.ClassLayout.{ClassLayout}
-use Rattle.jc_hierarchy.specs.Outline.{LineTable, AreLines, outline}
+use Rattle.jc_classes.specs.Outline.{LineTable, AreLines, outline}
 use Rattle.jc_classes.specs.Layout.{instance_cells, layouts}
-use Rattle.jc_classes.specs.Conditions.{hole_fault, entries_in, override_fault, replacements_in, interface_type_fault, implementations_in, long_fault, class_numbers, long_instances, conditions}
+use Rattle.jc_classes.specs.TableConditions.{hole_fault, entries_in, override_fault, replacements_in, interface_type_fault, implementations_in, long_fault, class_numbers, long_instances, conditions}
 use Rattle.jc_classes.specs.Tables.{records_from, class_tables, classes_agree, tables_of, TellsTableEnd}
 use Rattle.jc_classes.proofs.Folds.{cells_are, layout_at, layouts_count}
-use Rattle.jc_classes.proofs.Lines.{IsOutline, tables-classes, records-length}
+use Rattle.jc_classes.proofs.ClassLines.{IsOutline, tables-classes, records-length}
 
 -- ---- no instance is too long
 

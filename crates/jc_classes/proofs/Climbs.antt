@@ -2,9 +2,9 @@
 use Rattle.std.proofs.Common.{◌≡◌, ℕ, true, append_assoc, List, [], ◌∷◌, ◌++◌, Option, Some, None, refl, sym, ap, ◌∙◌}
 use Rattle.std.specs.Prelude.{slice_get}
 use Rattle.jc_base.specs.Class.{list_of}
-use Rattle.jc_hierarchy.specs.declared.lineage_type.Line.{Line}
-use Rattle.jc_hierarchy.specs.Outline.{LineTable, AreLines, chain, parent_of, parent_in_line, is_interface, is_interface_line}
-use Rattle.jc_hierarchy.proofs.Bare.{next_on_chain, parent_of-class, chain-alone, chain-front}
+use Rattle.jc_classes.specs.declared.lineage_type.Line.{Line}
+use Rattle.jc_classes.specs.Outline.{LineTable, AreLines, chain, parent_of, parent_in_line, is_interface, is_interface_line}
+use Rattle.jc_classes.proofs.Bare.{next_on_chain, parent_of-class, chain-alone, chain-front}
 
 chain_by : (t : LineTable) (c : ℕ) (above : Option ℕ) → AreLines t → parent_of t c ≡ above → chain t c ≡ c ∷ list_of (chain t) above
 chain_by t c None are e = chain-alone t c e

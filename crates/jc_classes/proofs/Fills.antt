@@ -8,9 +8,9 @@ use Rattle.std.proofs.lemmas.Bool.{cases_lt, false≢true, cases_eq}
 use Rattle.std.proofs.lemmas.List.Sums.{sum_by-le}
 use Rattle.jc_base.proofs.Lists.{All-slice_get, slice_get-set_here, slice_get-set_other}
 use Rattle.jc_base.specs.Class.{list_of}
-use Rattle.jc_hierarchy.specs.Outline.{LineTable, AreLines, chain, parent_of}
-use Rattle.jc_hierarchy.proofs.Bare.{next_on_chain, chain-length, chain-front, parent_of-class}
-use Rattle.jc_classes.specs.Known.{HaveSuperclasses}
+use Rattle.jc_classes.specs.Outline.{LineTable, AreLines, chain, parent_of}
+use Rattle.jc_classes.proofs.Bare.{next_on_chain, chain-length, chain-front, parent_of-class}
+use Rattle.jc_classes.specs.KnownLines.{HaveSuperclasses}
 use Rattle.jc_classes.proofs.Climbs.{chain_from, chain_step, climbed_whole, head_same, tail_same, no_end}
 use Rattle.jc_resolve.specs.declared.named.NamedClass.{NamedClass}
 use Rattle.jc_resolve.specs.Named.{IsSized}

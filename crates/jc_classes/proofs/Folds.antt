@@ -9,7 +9,7 @@ use Rattle.std.proofs.lemmas.List.FromFn.{map-range_with_len_more, get_or-map-ra
 use Rattle.jc_resolve.specs.NamedClasses.{no_table}
 use Rattle.jc_base.proofs.Lists.{All-slice_get}
 use Rattle.jc_base.specs.declared.record.MethodRec.{MethodRec}
-use Rattle.jc_hierarchy.specs.Outline.{LineTable, chain}
+use Rattle.jc_classes.specs.Outline.{LineTable, chain}
 use Rattle.jc_resolve.specs.declared.fault.LinkFault.{LinkFault}
 use Rattle.jc_resolve.specs.declared.fault.LinkFault.TheVariants.{InstanceLong}
 use Rattle.jc_resolve.specs.declared.named.DispatchTable.{DispatchTable}
@@ -17,13 +17,13 @@ use Rattle.jc_resolve.specs.declared.named.NamedClass.{NamedClass}
 use Rattle.jc_resolve.specs.Named.{IsByteTable, IsSized}
 use Rattle.jc_resolve.specs.Fault.{link_place}
 use Rattle.first_fault.specs.Least.{least_from, least_of, lesser}
-use Rattle.jc_classes.specs.Known.{HaveSuperclasses}
+use Rattle.jc_classes.specs.KnownLines.{HaveSuperclasses}
 use Rattle.jc_classes.specs.declared.layout.ClassLayout.{ClassLayout}
 use Rattle.jc_classes.specs.Entries.{reach, reach_from, reach_of}
 use Rattle.jc_classes.specs.Layout.{of_class, public_table, visible_table, home_run, public_entries, visible_entries, instance_cells, class_layout, layouts}
 use Rattle.jc_classes.specs.Slots.{HasShortLists}
 use Rattle.jc_classes.specs.Signatures.{entry_method}
-use Rattle.jc_classes.specs.Conditions.{DispatchEntry, entries_from, Replacement, replacements_from, long_fault}
+use Rattle.jc_classes.specs.TableConditions.{DispatchEntry, entries_from, Replacement, replacements_from, long_fault}
 use Rattle.jc_classes.proofs.Overlays.{length-entries}
 use Rattle.jc_classes.proofs.Fills.{sized_at}
 

@@ -6,8 +6,8 @@ use Rattle.std.proofs.lemmas.Bool.{cases_lt, false≢true, and_parts}
 use Rattle.jc_base.proofs.Lists.{All-slice_get}
 use Rattle.jc_base.specs.declared.record.MethodRec.{MethodRec}
 use Rattle.jc_base.specs.Class.{list_of}
-use Rattle.jc_hierarchy.specs.Outline.{LineTable, chain, is_on_chain, parent_of}
-use Rattle.jc_hierarchy.proofs.Bare.{on_chain-here}
+use Rattle.jc_classes.specs.Outline.{LineTable, chain, is_on_chain, parent_of}
+use Rattle.jc_classes.proofs.Bare.{on_chain-here}
 use Rattle.first_fault.specs.Least.{lesser, least_from, least_of}
 use Rattle.first_fault.proofs.LeastFaults.{least-at_fault, least-none}
 use Rattle.jc_resolve.specs.declared.fault.LinkFault.{LinkFault}
@@ -21,8 +21,8 @@ use Rattle.jc_classes.specs.Entries.{reach, overlaid}
 use Rattle.jc_classes.specs.Growth.{own_by, is_own, AddsOwn, GrowsLists}
 use Rattle.jc_classes.specs.Layout.{above_or_nothing, at_home, class_layout, public_entries, visible_entries}
 use Rattle.jc_classes.specs.Signatures.{entry_method}
-use Rattle.jc_classes.specs.Conditions.{entries_from, entries_in, hole_fault, may_stand, layout_above, visible_above}
-use Rattle.jc_classes.proofs.Faultless.{AllStand, all_stand, class_faultless}
+use Rattle.jc_classes.specs.TableConditions.{entries_from, entries_in, hole_fault, may_stand, layout_above, visible_above}
+use Rattle.jc_classes.proofs.FaultlessTables.{AllStand, all_stand, class_faultless}
 use Rattle.jc_classes.proofs.Folds.{least_both}
 use Rattle.jc_classes.proofs.Inherited.{IsOutside, kept, length-overlaid}
 use Rattle.jc_classes.proofs.Steps.{public_step, visible_step}

@@ -7,14 +7,14 @@ use Rattle.std.proofs.lemmas.Option.{slice_get-get_or}
 use Rattle.jc_base.proofs.Lists.{IfSome-is}
 use Rattle.jc_base.specs.declared.record.Iface.{Iface}
 use Rattle.jc_base.specs.declared.record.MethodRec.{MethodRec}
-use Rattle.jc_hierarchy.specs.Outline.{LineTable}
+use Rattle.jc_classes.specs.Outline.{LineTable}
 use Rattle.jc_resolve.specs.declared.fault.LinkFault.{LinkFault}
 use Rattle.jc_resolve.specs.declared.fault.LinkFault.TheVariants.{InterfaceType}
 use Rattle.jc_resolve.specs.declared.named.NamedClass.{NamedClass}
 use Rattle.jc_resolve.specs.Fault.{link_place}
 use Rattle.first_fault.specs.Least.{least_from, lesser}
 use Rattle.jc_classes.specs.Layout.{public_entries}
-use Rattle.jc_classes.specs.Conditions.{Implementation, serves, serves_all, interface_type_fault, implemented_by, implementations_in}
+use Rattle.jc_classes.specs.TableConditions.{Implementation, serves, serves_all, interface_type_fault, implemented_by, implementations_in}
 use Rattle.jc_classes.specs.Groups.{AreGroups, methods_of}
 use Rattle.jc_classes.proofs.Grouping.{all_of_class}
 

@@ -10,7 +10,7 @@ use Rattle.first_fault.specs.Least.{lesser, least_from}
 use Rattle.jc_resolve.specs.declared.fault.LinkFault.{LinkFault}
 use Rattle.jc_resolve.specs.declared.named.DispatchTable.{DispatchTable}
 use Rattle.jc_resolve.specs.Fault.{link_place}
-use Rattle.jc_classes.specs.Conditions.{Replacement, replacements_from, override_fault}
+use Rattle.jc_classes.specs.TableConditions.{Replacement, replacements_from, override_fault}
 use Rattle.jc_classes.specs.Entries.{reach, named_by, overlaid, overlaid_at}
 use Rattle.jc_classes.proofs.Overlays.{named_past}
 use Rattle.jc_classes.proofs.SameTypes.{same_entry}

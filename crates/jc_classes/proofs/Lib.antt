@@ -1,3 +1,15 @@
+pub mod Numbered
+pub mod Marking
+pub mod Above
+pub mod FaultlessLines
+pub mod Ranks
+pub mod Bare
+pub mod Descent
+pub mod Told
+pub mod Settled
+pub mod Kinship
+pub mod Naming
+pub mod Outlines
 pub mod Ranges
 pub mod Overlays
 pub mod Climbs
@@ -11,8 +23,8 @@ pub mod Grouping
 pub mod Passing
 pub mod Implementing
 pub mod Built
-pub mod Lines
+pub mod ClassLines
 pub mod Agreed
-pub mod Faultless
+pub mod FaultlessTables
 pub mod Growths
 pub mod Linking

@@ -6,7 +6,7 @@ use Rattle.std.proofs.lemmas.List.{get_or-set_same, get_or-set_other, length-set
 use Rattle.std.proofs.lemmas.List.FromFn.{fill_by_all, get_or-map-range_with_len, length-map-range_with_len}
 use Rattle.std.specs.List.{range_with_len, list_any}
 use Rattle.jc_base.specs.Class.{list_of}
-use Rattle.jc_hierarchy.specs.Outline.{LineTable, chain, is_on_chain}
+use Rattle.jc_classes.specs.Outline.{LineTable, chain, is_on_chain}
 
 -- marks of the classes of a chain below one that is still to be climbed
 pub record AreMarked (t : LineTable) (c : ℕ) (marks : List Bool) (above : Option ℕ) : Type 0 where

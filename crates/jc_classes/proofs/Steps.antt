@@ -6,8 +6,8 @@ use Rattle.std.specs.List.{take_while}
 use Rattle.std.proofs.lemmas.List.Sums.{take_while-cons, sum_by-cons}
 use Rattle.std.proofs.lemmas.Bool.{eq-eqb}
 use Rattle.jc_base.specs.Class.{list_of}
-use Rattle.jc_hierarchy.specs.Outline.{LineTable, chain, package_of}
-use Rattle.jc_hierarchy.proofs.Bare.{chain-front}
+use Rattle.jc_classes.specs.Outline.{LineTable, chain, package_of}
+use Rattle.jc_classes.proofs.Bare.{chain-front}
 use Rattle.jc_resolve.specs.declared.named.NamedClass.{NamedClass}
 use Rattle.jc_resolve.specs.declared.named.DispatchTable.{DispatchTable}
 use Rattle.jc_classes.specs.declared.layout.ClassLayout.{ClassLayout}

@@ -1,11 +1,11 @@
 -- What a class adds to the dispatch list of its superclass (JCVM 2.2, section 4.3.7.6).
 use Rattle.std.specs.Prelude.{◌≡◌, ℕ, ◌<◌, ◌==◌, ◌&&◌, ◌⊎◌, not, Bool, true, false, List, length, Option, Some, None, slice_index_or}
 use Rattle.jc_base.specs.declared.record.MethodRec.{MethodRec}
-use Rattle.jc_hierarchy.specs.Outline.{LineTable}
+use Rattle.jc_classes.specs.Outline.{LineTable}
 use Rattle.jc_resolve.specs.declared.named.NamedClass.{NamedClass}
 use Rattle.jc_classes.specs.Layout.{public_entries, visible_entries}
 use Rattle.jc_classes.specs.Signatures.{entry_method}
-use Rattle.jc_classes.specs.Conditions.{layout_above, visible_above}
+use Rattle.jc_classes.specs.TableConditions.{layout_above, visible_above}
 
 -- whether a method is of the class itself, not static, and no constructor
 abbrev pub own_by : ℕ → Option MethodRec → Bool

@@ -1,8 +1,14 @@
+pub mod KnownClasses
+pub mod Ancestor
+pub mod LineConditions
+pub mod Outline
+pub mod Lines
+pub mod Marks
 pub mod Entries
 pub mod Layout
 pub mod Signatures
-pub mod Conditions
-pub mod Known
+pub mod TableConditions
+pub mod KnownLines
 pub mod Tables
 pub mod Slots
 pub mod Groups

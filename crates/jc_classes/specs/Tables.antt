@@ -4,7 +4,7 @@ use Rattle.std.specs.Prelude.{◌≡◌, ℕ, ◌+◌, List, [], ◌∷◌, All,
 use Rattle.jc_base.specs.declared.record.ClassRec.{ClassRec}
 use Rattle.jc_base.specs.declared.record.MethodRec.{MethodRec}
 use Rattle.jc_base.specs.Class.{ClassTable}
-use Rattle.jc_hierarchy.specs.Outline.{LineTable, object}
+use Rattle.jc_classes.specs.Outline.{LineTable, object}
 use Rattle.jc_base.specs.Linked.{AreLinkedClasses}
 use Rattle.jc_resolve.specs.Named.{IsNamedClass}
 use Rattle.jc_resolve.specs.declared.fault.LinkFault.{LinkFault}
@@ -16,7 +16,7 @@ use Rattle.first_fault.specs.Least.{◌>>=◌, least_of, refused}
 use Rattle.first_fault.specs.First.{IsFirst, AllEmpty}
 use Rattle.jc_classes.specs.declared.layout.ClassLayout.{ClassLayout}
 use Rattle.jc_classes.specs.Layout.{class_layout}
-use Rattle.jc_classes.specs.Conditions.{hole_fault, entries_in, override_fault, replacements_in, interface_type_fault, implementations_in, long_fault, class_numbers, conditions}
+use Rattle.jc_classes.specs.TableConditions.{hole_fault, entries_in, override_fault, replacements_in, interface_type_fault, implementations_in, long_fault, class_numbers, conditions}
 
 -- the methods of a dispatch list
 abbrev pub methods_listed : List (Option ℕ) → List ℕ

@@ -1,22 +1,22 @@
 ghost use Rattle.std.specs.Prelude.{ℕ, false, slice_index_or, ◌≡◌, ◌≤◌, ◌<◌, ◌+◌, ◌++◌, All, length, map, flat_map, option_map, IfSome, IsTrue, Some, None};
 ghost use Rattle.std.specs.List.{range_with_len};
 ghost use Rattle.jc_base.specs.Class.{list_of};
-ghost use Rattle.jc_hierarchy.specs.Outline.{chain, is_on_chain};
+ghost use Rattle.jc_classes.specs.Outline.{chain, is_on_chain};
 ghost use Rattle.jc_resolve.specs.Fault.{link_place};
 ghost use Rattle.first_fault.specs.Least.{least_of, least_from, refused};
-ghost use Rattle.jc_classes.specs.Known.{HaveSuperclasses};
+ghost use Rattle.jc_classes.specs.KnownLines.{HaveSuperclasses};
 ghost use Rattle.jc_classes.specs.Layout.{class_layout, layouts};
 ghost use Rattle.jc_classes.specs.Signatures.{entry_method};
 ghost use Rattle.jc_classes.specs.Slots.{HasShortLists};
 ghost use Rattle.jc_classes.specs.Growth.{is_own, AddsOwn, GrowsLists};
-ghost use Rattle.jc_classes.specs.Conditions.{may_stand, entries_from, entries_in, hole_fault, class_numbers};
+ghost use Rattle.jc_classes.specs.TableConditions.{may_stand, entries_from, entries_in, hole_fault, class_numbers};
 
+use crate::Lineage;
 use crate::layout::ClassLayout;
 use crate::made_list::{MadeList, public_list, visible_list};
 use crate::overlay::reach;
 use crate::signatures::{is_same_entry, method_in};
 use jc_base::{MethodRec, Methods};
-use jc_hierarchy::Lineage;
 use jc_resolve::{LinkFault, NamedClasses, lesser, refuse};
 
 /// A class with a mark for each class that is one of its superclasses or the class itself.
@@ -93,7 +93,7 @@ impl<'a> Line<'a> {
     }
 
     /// What is wrong with an entry of a dispatch list of the class.
-    #[tactic(auto, using(crate::proofs::Folds::class_known), unfolding(crate::specs::Conditions::hole_fault))]
+    #[tactic(auto, using(crate::proofs::Folds::class_known), unfolding(crate::specs::TableConditions::hole_fault))]
     #[inline(always)]
     fn hole_fault(self, methods: &Methods, token: u16, entry: Option<u16>) -> Option<LinkFault>
         requires known { All (λ m. m.class < length self.lineage.now.lines) methods.now }

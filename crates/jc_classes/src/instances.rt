@@ -2,12 +2,12 @@ ghost use Rattle.std.specs.Prelude.{◌≡◌, nat_lt, if◌then◌else◌, Some
 ghost use Rattle.jc_resolve.specs.declared.fault.LinkFault.TheVariants.{InstanceLong};
 ghost use Rattle.jc_resolve.specs.Fault.{link_place};
 ghost use Rattle.first_fault.specs.Least.{least_of, refused};
-ghost use Rattle.jc_classes.specs.Known.{HaveSuperclasses};
+ghost use Rattle.jc_classes.specs.KnownLines.{HaveSuperclasses};
 ghost use Rattle.jc_classes.specs.Layout.{layouts};
-ghost use Rattle.jc_classes.specs.Conditions.{long_fault, class_numbers};
+ghost use Rattle.jc_classes.specs.TableConditions.{long_fault, class_numbers};
 
+use crate::Lineage;
 use crate::layout::ClassLayout;
-use jc_hierarchy::Lineage;
 use jc_resolve::{LinkFault, NamedClasses, lesser, refuse};
 
 /// What is wrong with an instance of so many cells.

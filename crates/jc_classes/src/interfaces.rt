@@ -3,17 +3,17 @@ ghost use Rattle.std.specs.List.{list_all};
 ghost use Rattle.jc_base.specs.declared.record.Iface.{Iface};
 ghost use Rattle.jc_resolve.specs.Fault.{link_place};
 ghost use Rattle.first_fault.specs.Least.{least_of, least_from, refused};
-ghost use Rattle.jc_classes.specs.Known.{AreInRange, HaveSuperclasses};
+ghost use Rattle.jc_classes.specs.KnownLines.{AreInRange, HaveSuperclasses};
 ghost use Rattle.jc_classes.specs.Layout.{layouts};
-ghost use Rattle.jc_classes.specs.Conditions.{Implementation, serves, interface_type_fault, implemented_by, implementations_in, class_numbers};
+ghost use Rattle.jc_classes.specs.TableConditions.{Implementation, serves, interface_type_fault, implemented_by, implementations_in, class_numbers};
 ghost use Rattle.jc_classes.specs.Groups.{AreGroups};
 
+use crate::Lineage;
 use crate::groups::Group;
 use crate::layout::ClassLayout;
 use crate::overlay::entry_at;
 use crate::signatures::{method_in, same_sig};
 use jc_base::{Iface, MethodRec, Methods};
-use jc_hierarchy::Lineage;
 use jc_resolve::{LinkFault, NamedClass, NamedClasses, lesser, refuse};
 
 /// Whether a class has a public method of its signature at the token that serves a method of an interface.

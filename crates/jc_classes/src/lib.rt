@@ -1,19 +1,28 @@
-//! Dispatch lists and instance cells of the classes of all packages (JCVM 2.2, sections 4.3.7.6 and 6.8.2).
-//! It stands on `jc_resolve` for the classes and methods by number and on `jc_base` for the records of a world.
-
+//! The class table of linked packages (JCVM 2.2, sections 2.2.1, 4.3.7.6, 6.8 and 6.8.2): the lines in which every chain
+//! of superclasses ends with object, dispatch lists, interfaces, roles and instance cells, or the first fault of these.
+//! It stands on the classes and methods by number of `jc_resolve` and on the records of `jc_base`.
 #![tactic(auto)]
 
 mod building;
+mod climb;
+mod cycle_checks;
 mod groups;
 mod holes;
 mod instances;
 mod interfaces;
 mod layout;
+mod lineage_type;
+mod lines;
 mod made_list;
+mod named_checks;
+mod outlining;
 mod overlay;
 mod overrides;
+mod role_checks;
 mod signatures;
 mod slots;
 mod tabling;
 
+pub use lineage_type::Lineage;
+pub use lines::lineage;
 pub use tabling::tables;

@@ -1,13 +1,13 @@
 ghost use Rattle.std.specs.Prelude.{◌≡◌, ◌≤◌, ◌<◌, length, option_map, IfSome};
 ghost use Rattle.jc_resolve.specs.Named.{IsByteTable};
-ghost use Rattle.jc_classes.specs.Known.{HaveSuperclasses};
+ghost use Rattle.jc_classes.specs.KnownLines.{HaveSuperclasses};
 ghost use Rattle.jc_classes.specs.Entries.{overlaid};
 ghost use Rattle.jc_classes.specs.Layout.{class_layout, layouts, public_entries, visible_entries};
-ghost use Rattle.jc_classes.specs.Conditions.{layout_above as lists_above, visible_above as visible_from};
+ghost use Rattle.jc_classes.specs.TableConditions.{layout_above as lists_above, visible_above as visible_from};
 
+use crate::Lineage;
 use crate::layout::ClassLayout;
 use crate::slots::{at_home, public_above, visible_above};
-use jc_hierarchy::Lineage;
 use jc_resolve::{DispatchTable, NamedClasses};
 
 /// A dispatch list of a class, with the inherited list and the class's own table, of which it is made.

@@ -1,20 +1,20 @@
 ghost use Rattle.std.specs.Prelude.{◌≡◌, ◌≤◌, ◌<◌, length, flat_map};
 ghost use Rattle.jc_resolve.specs.Fault.{link_place};
 ghost use Rattle.first_fault.specs.Least.{least_of, least_from, refused};
-ghost use Rattle.jc_classes.specs.Known.{HaveSuperclasses};
+ghost use Rattle.jc_classes.specs.KnownLines.{HaveSuperclasses};
 ghost use Rattle.jc_classes.specs.Layout.{layouts};
-ghost use Rattle.jc_classes.specs.Conditions.{Replacement, override_fault, replacements_from, replacements_in, class_numbers};
+ghost use Rattle.jc_classes.specs.TableConditions.{Replacement, override_fault, replacements_from, replacements_in, class_numbers};
 
+use crate::Lineage;
 use crate::layout::ClassLayout;
 use crate::made_list::{MadeList, public_list, visible_list};
 use crate::overlay::reach;
 use crate::signatures::same_signature;
 use jc_base::Methods;
-use jc_hierarchy::Lineage;
 use jc_resolve::{LinkFault, NamedClasses, lesser, refuse};
 
 /// What is wrong with an entry that replaces an inherited one.
-#[tactic(auto, unfolding(crate::specs::Conditions::override_fault))]
+#[tactic(auto, unfolding(crate::specs::TableConditions::override_fault))]
 #[inline(always)]
 fn override_fault(
     methods: &Methods,

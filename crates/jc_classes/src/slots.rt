@@ -1,15 +1,15 @@
 ghost use Rattle.std.specs.Prelude.{◌≡◌, ◌≤◌, ◌<◌, ◌∷◌, ◌++◌, length, map, Some, None, [], if◌then◌else◌, All, replicate, filter_map, IfOk, IfSome, slice_get};
 ghost use Rattle.std.specs.Option.{option_map, option_and_then};
 ghost use Rattle.jc_base.specs.Class.{list_of};
-ghost use Rattle.jc_hierarchy.specs.Outline.{chain, package_of, parent_of};
+ghost use Rattle.jc_classes.specs.Outline.{chain, package_of, parent_of};
 ghost use Rattle.jc_resolve.specs.Named.{IsSized};
-ghost use Rattle.jc_classes.specs.Known.{HaveSuperclasses};
+ghost use Rattle.jc_classes.specs.KnownLines.{HaveSuperclasses};
 ghost use Rattle.jc_classes.specs.Layout.{class_layout, layouts, class_layout_from, above_or_nothing, at_home};
 ghost use Rattle.jc_classes.specs.Slots.{IsFilled, AreLayouts, IsMade, IsClimb, slot_at};
 
+use crate::Lineage;
 use crate::layout::ClassLayout;
 use crate::overlay::overlay;
-use jc_hierarchy::Lineage;
 use jc_resolve::{NamedClass, NamedClasses};
 use std::alloc::{AllocError, Global};
 

@@ -1,14 +1,15 @@
 ghost use Rattle.std.specs.Prelude.{◌≡◌, ◌<◌, All, IfOk, [], length, false};
 ghost use Rattle.jc_resolve.specs.Due.{IsDue};
-ghost use Rattle.jc_hierarchy.specs.Outline.{outline};
-ghost use Rattle.jc_hierarchy.specs.Lines.{HaveLines};
-ghost use Rattle.jc_classes.specs.Known.{AreInRange, HaveSuperclasses};
+ghost use Rattle.jc_classes.specs.Outline.{outline};
+ghost use Rattle.jc_classes.specs.Lines.{HaveLines};
+ghost use Rattle.jc_classes.specs.KnownLines.{AreInRange, HaveSuperclasses};
 ghost use Rattle.jc_classes.specs.Layout.{layouts};
 ghost use Rattle.jc_classes.specs.Signatures.{TellsSame};
 ghost use Rattle.jc_classes.specs.Groups.{AreGroups};
-ghost use Rattle.jc_classes.specs.Conditions.{long_instances};
+ghost use Rattle.jc_classes.specs.TableConditions.{long_instances};
 ghost use Rattle.jc_classes.specs.Tables.{class_tables, classes_agree, tables_of, Links, TellsTableEnd};
 
+use crate::Lineage;
 use crate::building::record_from;
 use crate::groups::{Group, groups};
 use crate::holes::no_holes;
@@ -18,7 +19,6 @@ use crate::layout::ClassLayout;
 use crate::overrides::overrides_agree;
 use crate::slots::layouts;
 use jc_base::{Classes, Items, Methods};
-use jc_hierarchy::Lineage;
 use jc_resolve::{LinkEnd, LinkFault, NamedClasses};
 use std::alloc::{AllocError, Global};
 

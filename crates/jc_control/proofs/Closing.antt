@@ -13,7 +13,7 @@ use Rattle.jc_decode.specs.Listing.{listing, listing_end, falls, targets}
 use Rattle.jc_decode.specs.Laws.{AreListed, InstructionsAreListed}
 use Rattle.jc_decode.proofs.Decoded.{ok-same}
 use Rattle.jc_decode.proofs.Elements.{nothing-in}
-use Rattle.jc_decode.proofs.Listed.{next-in, first-in}
+use Rattle.jc_decode.proofs.InstructionLists.{next-in, first-in}
 use Rattle.jc_control.specs.Method.{Method}
 use Rattle.jc_control.specs.WellFormed.{HasInstruction, IsPlace, IsTargetPlace, IsBoundary, IsHandlerOf, IsWellFormed}
 use Rattle.jc_control.specs.Control.{IsSuccessor, falls_through, jumped, Covers, IsReached, begins, follows, caught, IsLeader, led_to, entered}

@@ -18,7 +18,7 @@ use Rattle.jc_decode.specs.Places.{BeginsIn}
 use Rattle.jc_control.specs.Laws.{FlawsDecide, FirstFlawIsOne}
 use Rattle.jc_decode.specs.Laws.{AreListed, InstructionsAreListed}
 use Rattle.jc_decode.proofs.Elements.{Contains-either, Contains-first, Contains-later, nothing-in}
-use Rattle.jc_decode.proofs.Listed.{err-of}
+use Rattle.jc_decode.proofs.InstructionLists.{err-of}
 
 -- ---- each condition holds or does not
 

@@ -1,7 +1,7 @@
 pub mod Elements
 pub mod TargetLists
 pub mod Marked
-pub mod Listed
+pub mod PlacesWithin
 pub mod Listings
 pub mod FirstFound
 pub mod FlawLaws

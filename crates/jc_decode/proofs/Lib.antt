@@ -24,5 +24,6 @@ pub mod Defaults
 pub mod Shorter
 pub mod PastTheEnd
 pub mod Elements
-pub mod Listed
+pub mod InstructionLists
 pub mod FewTargets
+pub mod PlainLengths

@@ -12,3 +12,4 @@ pub mod Symbols
 pub mod Standing
 pub mod Laws
 pub mod ListedOnce
+pub mod CodeSize

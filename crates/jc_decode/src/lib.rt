@@ -5,6 +5,7 @@
 #![tactic(auto)]
 
 mod cases;
+mod code_size;
 mod decoding;
 mod encoding;
 mod forms;
@@ -19,6 +20,7 @@ mod sizes;
 mod symbols;
 
 pub use cases::{case, target};
+pub use code_size::plain_code_size;
 pub use decoding::decode;
 pub use encoding::encode;
 pub use insn::{Case, CodeEnd, Insn, Placed};

@@ -9,7 +9,7 @@ pub mod Raise
 pub mod Steps
 pub mod Leading
 pub mod Visits
-pub mod Settling
+pub mod AnalysisSteps
 pub mod Never
 pub mod Beginning
 pub mod Answered

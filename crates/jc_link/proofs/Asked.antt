@@ -16,10 +16,10 @@ use Rattle.jc_resolve.specs.Names.{NamesRecord}
 use Rattle.first_fault.specs.Least.{least_of, refused}
 use Rattle.first_fault.specs.First.{IsLeast, IsFirst, AllEmpty}
 use Rattle.jc_resolve.proofs.ConditionLists.{things-refused, things-none, one-refused, one-none}
-use Rattle.jc_statics.specs.Room.{statics_fault, arrays_fault}
-use Rattle.jc_members.specs.Pools.{pools, missing_members}
-use Rattle.jc_members.specs.Catches.{catch_fault, handler_places, bad_catches}
-use Rattle.jc_members.specs.Roles.{role_fault, thrown_roles, abstract_roles}
+use Rattle.jc_link.specs.Room.{statics_fault, arrays_fault}
+use Rattle.jc_link.specs.Pools.{pools, missing_members}
+use Rattle.jc_link.specs.Catches.{catch_fault, handler_places, bad_catches}
+use Rattle.jc_link.specs.Roles.{role_fault, thrown_roles, abstract_roles}
 use Rattle.jc_link.specs.declared.linking.Resolved.{Resolved}
 use Rattle.jc_link.specs.World.{table_of, methods_of, statics_of, member_conditions, rest_conditions, TellsFirst}
 use Rattle.jc_link.specs.Known.{AreNamesOf, IsTableOf}

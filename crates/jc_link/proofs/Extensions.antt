@@ -3,11 +3,11 @@ use Rattle.std.proofs.Common.{◌≡◌, ℕ, zero, suc, ◌+◌, List, [], ◌�
 use Rattle.std.specs.Prelude.{Contains, Some, slice_get}
 use Rattle.cap_package.specs.PackageRecord.{PackageRecord}
 use Rattle.jc_base.specs.Class.{ClassTable}
-use Rattle.jc_hierarchy.specs.Outline.{LineTable}
+use Rattle.jc_classes.specs.Outline.{LineTable}
 use Rattle.jc_base.specs.Interface.{extended, extended_in, NoneExtendsItself}
 use Rattle.jc_base.proofs.Leading.{Leads-along}
 use Rattle.jc_resolve.specs.declared.named.NamedClass.{NamedClass}
-use Rattle.jc_hierarchy.specs.Ancestor as named
+use Rattle.jc_classes.specs.Ancestor as named
 use Rattle.jc_classes.specs.declared.layout.ClassLayout.{ClassLayout}
 use Rattle.jc_classes.specs.Layout.{class_layout}
 use Rattle.jc_classes.specs.Tables.{record_from, records_from, class_tables}

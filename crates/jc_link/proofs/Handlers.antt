@@ -27,9 +27,9 @@ use Rattle.jc_base.proofs.Subtypes.{Below-from_is_below}
 use Rattle.jc_resolve.specs.Numbering.{numbered_classes}
 use Rattle.jc_resolve.specs.References.{class_referred}
 use Rattle.jc_resolve.specs.NamedMethods.{class_or_none, class_in_entry, caught_class, handler_named, body_by, body_of, offset_in_info}
-use Rattle.jc_members.specs.Members.{class_member, member_referred, member_of}
-use Rattle.jc_members.specs.Catches.{class_caught, class_caught_by, thrown_by, catches_throwable}
-use Rattle.jc_members.proofs.Known.{class-below}
+use Rattle.jc_link.specs.Members.{class_member, member_referred, member_of}
+use Rattle.jc_link.specs.Catches.{class_caught, class_caught_by, thrown_by, catches_throwable}
+use Rattle.jc_link.proofs.KnownMembers.{class-below}
 
 -- what a handler catches is there, and is thrown
 pub record CatchesThrown (t : ClassTable) (pool : List Member) (index c : ℕ) : Type 0 where

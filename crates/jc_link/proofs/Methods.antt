@@ -17,12 +17,12 @@ use Rattle.jc_resolve.specs.NamedMethods.{named_method, named_methods, have_head
 use Rattle.jc_resolve.specs.Numbering.{NumberedMethod, numbered_classes, numbered_methods}
 use Rattle.jc_resolve.specs.WorldTypes.{declared_signature}
 use Rattle.jc_resolve.proofs.NumberedLaws.{IsDescribed, all-described}
-use Rattle.jc_members.specs.Members.{member_of}
-use Rattle.jc_members.specs.Pools.{pools, missing_members}
-use Rattle.jc_members.specs.Catches.{bad_catches}
+use Rattle.jc_link.specs.Members.{member_of}
+use Rattle.jc_link.specs.Pools.{pools, missing_members}
+use Rattle.jc_link.specs.Catches.{bad_catches}
 use Rattle.jc_link.specs.World.{classes_of, table_of, methods_of, statics_of}
 use Rattle.jc_link.specs.Known.{IsTableOf}
-use Rattle.jc_members.proofs.Faultless.{pools-at, IsCatching, handlers-at}
+use Rattle.jc_link.proofs.Faultless.{pools-at, IsCatching, handlers-at}
 use Rattle.jc_link.proofs.Handlers.{CatchesThrown, body-throws}
 use Rattle.jc_link.proofs.Tables.{counted, interface_same, table-chains, role-class, declared}
 

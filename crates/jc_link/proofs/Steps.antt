@@ -20,16 +20,16 @@ use Rattle.jc_resolve.specs.Conditions as names
 use Rattle.jc_resolve.specs.Due.{IsDue}
 use Rattle.jc_resolve.specs.Names.{NamesRecord, named, checked, names_of, TellsNames}
 use Rattle.jc_resolve.proofs.ConditionLists.{AllEmpty-append, IsFirst-append_left, IsFirst-append_right}
-use Rattle.jc_hierarchy.specs.Conditions as lineage
-use Rattle.jc_hierarchy.specs.Known.{HasKnownLine}
-use Rattle.jc_hierarchy.specs.Lines as lines
-use Rattle.jc_hierarchy.specs.Lines.{HaveLines}
-use Rattle.jc_hierarchy.specs.Outline.{LineTable, AreLines, outline}
-use Rattle.jc_hierarchy.proofs.Naming.{named-known}
-use Rattle.jc_classes.specs.Conditions as classes
-use Rattle.jc_classes.specs.Known.{HaveSuperclasses, AreInRange}
+use Rattle.jc_classes.specs.LineConditions as lineage
+use Rattle.jc_classes.specs.KnownClasses.{HasKnownLine}
+use Rattle.jc_classes.specs.Lines as lines
+use Rattle.jc_classes.specs.Lines.{HaveLines}
+use Rattle.jc_classes.specs.Outline.{LineTable, AreLines, outline}
+use Rattle.jc_classes.proofs.Naming.{named-known}
+use Rattle.jc_classes.specs.TableConditions as classes
+use Rattle.jc_classes.specs.KnownLines.{HaveSuperclasses, AreInRange}
 use Rattle.jc_classes.specs.Tables.{class_tables, Links, TellsTableEnd}
-use Rattle.jc_members.specs.Fields.{HasCellsOf}
+use Rattle.jc_link.specs.Fields.{HasCellsOf}
 use Rattle.jc_link.specs.World.{classes_of, lineage_of, table_of, methods_of, first_classes, class_conditions, table_conditions, member_conditions, conditions, TellsFirst, TableTells, LinkTells}
 use Rattle.jc_link.specs.declared.linking.Resolved.{Resolved}
 use Rattle.jc_link.specs.declared.tabling.Tabled.{Tabled}

@@ -15,12 +15,12 @@ use Rattle.jc_base.proofs.Subtypes.{Below-from_is_below}
 use Rattle.jc_resolve.specs.declared.named.NamedClass.{NamedClass}
 use Rattle.jc_resolve.specs.Named as named
 use Rattle.jc_resolve.specs.Named.{AreNamed, IsNamedClass, IsNamedMethod, IsSized, infos_of}
-use Rattle.jc_hierarchy.specs.Outline.{LineTable, is_on_chain}
-use Rattle.jc_classes.specs.Known.{AreInRange}
+use Rattle.jc_classes.specs.Outline.{LineTable, is_on_chain}
+use Rattle.jc_classes.specs.KnownLines.{AreInRange}
 use Rattle.jc_classes.specs.Tables.{record_from, records_from}
-use Rattle.jc_classes.proofs.Lines.{AreAlike, IsOutline, tables-alike, tables-classes, class-alike, on_chain-alike}
+use Rattle.jc_classes.proofs.ClassLines.{AreAlike, IsOutline, tables-alike, tables-classes, class-alike, on_chain-alike}
 use Rattle.jc_classes.proofs.Linking.{interface_is, declared_by}
-use Rattle.jc_members.specs.Fields.{HasCellsOf}
+use Rattle.jc_link.specs.Fields.{HasCellsOf}
 use Rattle.jc_link.specs.World.{classes_of, lineage_of, table_of, methods_of}
 use Rattle.jc_link.specs.Known.{IsTableOf}
 

@@ -15,10 +15,10 @@ use Rattle.jc_base.specs.World.{Linked, IsWorld}
 use Rattle.jc_resolve.specs.Named.{AreNamed, infos_of}
 use Rattle.first_fault.specs.First.{AllEmpty}
 use Rattle.jc_resolve.specs.Names.{NamesRecord}
-use Rattle.jc_indexes.specs.Indexes.{indexes_of}
-use Rattle.jc_indexes.proofs.Listing.{indexes-each}
-use Rattle.jc_statics.specs.Arrays.{array_records, initial_cells}
-use Rattle.jc_members.specs.Pools.{pools}
+use Rattle.cap_index.specs.Indexes.{indexes_of}
+use Rattle.cap_index.proofs.Listing.{indexes-each}
+use Rattle.jc_link.specs.Arrays.{array_records, initial_cells}
+use Rattle.jc_link.specs.Pools.{pools}
 use Rattle.jc_link.specs.declared.linking.Resolved.{Resolved}
 use Rattle.jc_link.specs.World.{classes_of, table_of, methods_of, statics_of, AreListsOf, table_conditions, member_conditions, IsLinked}
 use Rattle.jc_link.specs.Known.{AreNamesOf, IsTableOf, AreResolved}
@@ -26,8 +26,8 @@ use Rattle.jc_link.proofs.Tables.{counted, table-chains}
 use Rattle.jc_link.proofs.Extensions.{none-extends-itself}
 use Rattle.jc_link.proofs.Steps.{methods-are, packages-are, along, all_empty}
 use Rattle.jc_link.proofs.Methods.{methods-linked}
-use Rattle.jc_link.proofs.Fields.{statics-declared}
-use Rattle.jc_link.proofs.Roles.{are-roles}
+use Rattle.jc_link.proofs.LinkedFields.{statics-declared}
+use Rattle.jc_link.proofs.LinkedRoles.{are-roles}
 
 -- what is known of the lists beside what they are
 pub record AreKnownLists (ps : List PackageRecord) (w : Linked) : Type 0 where

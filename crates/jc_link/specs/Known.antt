@@ -6,11 +6,11 @@ use Rattle.jc_base.specs.Cell.{IsDeclared, width, AreElementsOf}
 use Rattle.jc_base.specs.Linked.{AreLinkedClasses, AreSlots, IsMember, IsStatic}
 use Rattle.jc_resolve.specs.Named.{AreNamed, infos_of}
 use Rattle.jc_resolve.specs.Names.{NamesRecord, named}
-use Rattle.jc_hierarchy.specs.Lines.{HaveLines}
-use Rattle.jc_hierarchy.specs.Outline.{AreLines}
-use Rattle.jc_statics.specs.Arrays.{array_records, initial_cells}
-use Rattle.jc_members.specs.Pools.{pools}
-use Rattle.jc_indexes.specs.Indexes.{indexes_of}
+use Rattle.jc_classes.specs.Lines.{HaveLines}
+use Rattle.jc_classes.specs.Outline.{AreLines}
+use Rattle.jc_link.specs.Arrays.{array_records, initial_cells}
+use Rattle.jc_link.specs.Pools.{pools}
+use Rattle.cap_index.specs.Indexes.{indexes_of}
 use Rattle.jc_link.specs.declared.linking.Resolved.{Resolved}
 use Rattle.jc_link.specs.declared.linking.Taken.{Taken}
 use Rattle.jc_link.specs.World.{classes_of, lineage_of, table_of, methods_of, statics_of}

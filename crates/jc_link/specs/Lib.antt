@@ -1,3 +1,17 @@
+pub mod Words
+pub mod Arrays
+pub mod Image
+pub mod Statics
+pub mod Room
+pub mod KnownFields
+pub mod Sites
+pub mod Entries
+pub mod Fields
+pub mod Members
+pub mod Naming
+pub mod Pools
+pub mod Catches
+pub mod Roles
 pub use Rattle.jc_resolve.specs.declared.fault.LinkFault
 pub use Rattle.jc_resolve.specs.declared.fault.LinkEnd
 pub use Rattle.jc_resolve.specs.Fault

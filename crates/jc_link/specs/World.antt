@@ -19,17 +19,17 @@ use Rattle.jc_resolve.specs.NamedMethods.{named_methods}
 use Rattle.jc_resolve.specs.WorldTypes.{type_of}
 use Rattle.jc_resolve.specs.Named.{infos_of}
 use Rattle.jc_resolve.specs.Conditions as names
-use Rattle.jc_hierarchy.specs.Conditions as lineage
-use Rattle.jc_hierarchy.specs.Outline.{LineTable, outline}
-use Rattle.jc_classes.specs.Conditions as classes
+use Rattle.jc_classes.specs.LineConditions as lineage
+use Rattle.jc_classes.specs.Outline.{LineTable, outline}
+use Rattle.jc_classes.specs.TableConditions as classes
 use Rattle.jc_classes.specs.Tables.{class_tables}
-use Rattle.jc_statics.specs.Arrays.{array_records}
-use Rattle.jc_statics.specs.Statics.{static_records}
-use Rattle.jc_indexes.specs.Indexes.{indexes_of}
-use Rattle.jc_statics.specs.Room.{statics_fault, arrays_fault}
-use Rattle.jc_members.specs.Pools.{pools, missing_members}
-use Rattle.jc_members.specs.Catches.{bad_catches}
-use Rattle.jc_members.specs.Roles.{abstract_roles}
+use Rattle.jc_link.specs.Arrays.{array_records}
+use Rattle.jc_link.specs.Statics.{static_records}
+use Rattle.cap_index.specs.Indexes.{indexes_of}
+use Rattle.jc_link.specs.Room.{statics_fault, arrays_fault}
+use Rattle.jc_link.specs.Pools.{pools, missing_members}
+use Rattle.jc_link.specs.Catches.{bad_catches}
+use Rattle.jc_link.specs.Roles.{abstract_roles}
 
 -- ---- the lists of the world; a role is the number of a class, role 0 that of class object
 

@@ -1,17 +1,16 @@
 ghost use Rattle.std.specs.Prelude.{◌≤◌, length, IfOk, OnOk};
 ghost use Rattle.first_fault.specs.First.{AllEmpty};
-ghost use Rattle.jc_statics.specs.Arrays.{array_records, initial_cells};
+ghost use Rattle.jc_link.specs.Arrays.{array_records, initial_cells};
 ghost use Rattle.jc_link.specs.World.{TellsFirst, LinkTells, IsLinked, table_conditions, member_conditions, rest_conditions};
 ghost use Rattle.jc_link.specs.Known.{AreNamesOf, IsTableOf, AreResolved, AreTaken};
 
 use crate::method_infos::infos;
 use crate::tabling::{Tabled, with_table};
+use crate::{arrays, arrays_fit, handlers_fit, members, roles_fit, statics, statics_fit};
+use cap_index::indexes;
 use cap_package::Packages;
 use jc_base::{Arrays, Classes, Indexes, Infos, Pools, Statics, World, concrete_decides};
-use jc_indexes::indexes;
-use jc_members::{handlers_fit, members, roles_fit};
 use jc_resolve::{LinkEnd, Names};
-use jc_statics::{arrays, arrays_fit, statics, statics_fit};
 use std::alloc::{AllocError, Global};
 
 /// What stands on the classes of a world.

@@ -5,8 +5,7 @@ ghost use Rattle.jc_link.specs.Known.{AreNamesOf, IsTableOf};
 use crate::naming::{first_classes, named};
 use cap_package::Packages;
 use jc_base::Classes;
-use jc_classes::tables;
-use jc_hierarchy::lineage;
+use jc_classes::{lineage, tables};
 use jc_resolve::{LinkEnd, Names};
 use std::alloc::Global;
 

@@ -22,7 +22,7 @@ pub mod ClassFacts
 pub mod Repeats
 pub mod DescribedFields
 pub mod FieldCounts
-pub mod NamedTold
+pub mod NamesInPackages
 pub mod Pairwise
 pub mod ClassPlaces
 pub mod MethodPlaces

@@ -22,7 +22,7 @@ use crate::named::{DispatchTable, NamedClass};
 use crate::own_field::OwnField;
 use crate::package_fields::PackageFields;
 use crate::place::RecordPlace;
-use crate::reference_checks::class_named;
+use crate::reference_checks::class_or_fault;
 use cap_class::{ClassInfo, Interfaces};
 use cap_package::Packages;
 use jc_base::{Iface, Items, Kind, Ty};
@@ -74,7 +74,7 @@ fn parent_named(
     if super_ref == 0xFFFF {
         return None;
     }
-    class_named(index, package, super_ref, least)
+    class_or_fault(index, package, super_ref, least)
 }
 
 /// The interfaces of a record.
@@ -95,7 +95,7 @@ fn implemented_interfaces(
 {
     let mut named = Vec::new(alloc);
     'interfaces: for interface in interfaces {
-        if let Some(class) = class_named(index, package, interface.class_ref, least) {
+        if let Some(class) = class_or_fault(index, package, interface.class_ref, least) {
             let tokens = Items::of(Vec::from_slice(alloc, interface.tokens)?);
             named.push(Iface { class, tokens })?;
         }
@@ -104,7 +104,7 @@ fn implemented_interfaces(
 }
 
 /// Appends the types of a field's cells.
-fn push_field(cells: &mut Vec<Ty>, field: OwnField) -> Result<(), AllocError>
+fn push_cells(cells: &mut Vec<Ty>, field: OwnField) -> Result<(), AllocError>
     ensures { OnOk result (cells.new.items ≡ cells.old.items ++ cells_of_own field) }
 {
     cells.push(field.ty)?;
@@ -124,7 +124,7 @@ fn push_token(cells: &mut Vec<Ty>, fields: &[OwnField], token: u16) -> Result<()
 {
     'fields: for field in fields {
         if field.token as u16 == token {
-            push_field(cells, *field)?;
+            push_cells(cells, *field)?;
         }
     }
     Ok(())

@@ -34,7 +34,7 @@ fn place_of(described: DescClass<'_>) -> RecordPlace
 
 /// Keeps a field with its type: a static field among those of its package, and an instance field among those of its record.
 #[tactic(auto, unfolding(crate::specs::OwnFields::own_field, crate::specs::TypedFields::static_type))]
-fn push_field(
+fn keep_field(
     statics: &mut Vec<Ty>,
     own: &mut Vec<OwnField>,
     home: Home<'_, '_, '_, '_>,
@@ -107,7 +107,7 @@ fn fields_of_record(
 {
     let mut own = Vec::with_capacity(alloc, described.field_count() as usize)?;
     'fields: for field in described.fields() {
-        push_field(statics, &mut own, home, field, least)?;
+        keep_field(statics, &mut own, home, field, least)?;
     }
     Ok(Items::of(own))
 }

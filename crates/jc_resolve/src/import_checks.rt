@@ -38,7 +38,7 @@ fn imports_of(
 
 /// An earlier package meets each import.
 #[tactic(auto, using(crate::proofs::NamedFaults::least_imports))]
-pub(crate) fn imports_met(packages: &Packages<'_, '_>) -> Result<(), LinkFault>
+pub(crate) fn check_imports(packages: &Packages<'_, '_>) -> Result<(), LinkFault>
     requires { length packages.now ≤ 16 }
     ensures { result ≡ refused (least_of link_place (no_package_fault packages.now) (named_in import_tokens packages.now)) }
 {

@@ -18,7 +18,7 @@ ghost use Rattle.jc_resolve.specs.References.{class_named};
 use crate::class_index::Index;
 use crate::fault::LinkFault;
 use crate::home::Home;
-use crate::reference_checks::class_named;
+use crate::reference_checks::class_or_fault;
 use crate::world_types::signature_of;
 use cap_desc::{AccessFlags, DescClass, MethodInfo};
 use cap_method::{HandlerEntries, HandlerInfo, MethodHeader};
@@ -266,7 +266,7 @@ fn of_class<'a>(
         (reference_fault home.entry.index.now home.entry.number
         (described_class_seen record.entry).class_ref) }
 {
-    let named = class_named(home.index, home.number, record.class_ref(), least);
+    let named = class_or_fault(home.index, home.number, record.class_ref(), least);
     OfClass {
         class_no,
         record,

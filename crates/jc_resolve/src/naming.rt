@@ -10,7 +10,7 @@ use crate::class_index::{Index, index_packages};
 use crate::class_records::class_records;
 use crate::counts::{classes_few, methods_few, packages_few};
 use crate::fault::{LinkEnd, LinkFault};
-use crate::import_checks::imports_met;
+use crate::import_checks::check_imports;
 use crate::least::refuse;
 use crate::method_records::methods_after;
 use crate::named::NamedClass;
@@ -32,7 +32,7 @@ fn check_indexable(packages: &Packages<'_, '_>) -> Result<(), LinkFault>
     packages_few(packages)?;
     classes_few(packages)?;
     methods_few(packages)?;
-    imports_met(packages)
+    check_imports(packages)
 }
 
 /// The packages with their classes and methods numbered, where they can be.

@@ -29,7 +29,7 @@ fn reference_fault(index: &Index<'_, '_, '_>, package: u16, reference: u16) -> O
 
 /// The class that a reference of a package names; one that names none is counted in the least fault so far.
 #[tactic(auto, unfolding(crate::specs::Conditions::no_class_fault, first_fault::specs::Least::lesser))]
-pub(crate) fn class_named(
+pub(crate) fn class_or_fault(
     index: &Index<'_, '_, '_>,
     package: u16,
     reference: u16,

@@ -10,7 +10,7 @@ ghost use Rattle.jc_resolve.specs.WorldTypes.{class_or_object, type_class, type_
 
 use crate::class_index::Index;
 use crate::fault::LinkFault;
-use crate::reference_checks::class_named;
+use crate::reference_checks::class_or_fault;
 use cap_desc::{DescPart, TypeItem, Types};
 use jc_base::{Items, Kind, Sig, Ty};
 use std::alloc::{AllocError, Global};
@@ -59,7 +59,7 @@ fn type_class_checked(
     ensures is { result ≡ type_class index.now object «package» reference }
     ensures least { least.new ≡ lesser link_place least.old (reference_fault index.now «package» reference) }
 {
-    let named = class_named(index, package, reference, least);
+    let named = class_or_fault(index, package, reference, least);
     class_or_object(index, object, named)
 }
 

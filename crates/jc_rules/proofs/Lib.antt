@@ -1,6 +1,6 @@
 pub mod Demands
 pub mod Types
-pub mod Decided
+pub mod DecidedDemands
 pub mod Stacks
 pub mod CellLists
 pub mod Falls

@@ -5,7 +5,7 @@ use crate::lending::lent;
 use crate::reading::read;
 use cap_package::Packages;
 use cap_tests::{CARD_INDEX, Change, PLAIN, PLAIN_ROLES, changed};
-use card_index::{CardFault, CardKind, CardRoom, accept, verify_indexed};
+use card_verify::{CardFault, CardKind, CardRoom, accept, verify_indexed};
 use jc_base::{Steps, TargetIndex, Ty, World, same_type};
 use jc_link::link;
 use std::alloc::{AllocError, Global};

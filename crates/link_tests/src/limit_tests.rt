@@ -1,8 +1,8 @@
+use crate::Told;
 use crate::interface_package::{Sizes, interface_package};
 use crate::link_tests::told;
 use cap_package::OwnedParts;
 use cap_tests::{PLAIN, PLAIN_ROLES, changed};
-use class_tests::Told;
 use std::alloc::{AllocError, Global};
 
 /// Package T, and so many packages of one interface.

@@ -1,9 +1,9 @@
 use crate::lending::lent;
 use crate::library_and_user::{LIBRARY, LIBRARY_ROLES, USER};
 use crate::reading::{Source, owned, read};
+use crate::{Told, named};
 use cap_package::{OwnedParts, Packages};
 use cap_tests::{CLASS, CONSTANT_POOL, Change, DESCRIPTOR, IMPORT, METHOD, PLAIN, PLAIN_ROLES};
-use class_tests::{Told, named};
 use jc_link::link;
 use std::alloc::{AllocError, Global};
 

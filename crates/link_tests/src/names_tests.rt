@@ -1,9 +1,9 @@
 use crate::lending::lent;
 use crate::reading::{Source, owned, read};
+use crate::{Told, named};
 use cap_bytes::ClassReference;
 use cap_package::{OwnedParts, Packages};
 use cap_tests::{Change, DIRECTORY, HEADER, IMPORT, PLAIN, PLAIN_ROLES};
-use class_tests::{Told, named};
 use jc_resolve::{Names, names};
 use std::alloc::{AllocError, Global};
 

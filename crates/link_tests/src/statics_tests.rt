@@ -1,13 +1,13 @@
 ghost use Rattle.std.specs.Prelude.{◌≤◌};
-ghost use Rattle.jc_statics.specs.Statics.{static_cells};
+ghost use Rattle.jc_link.specs.Statics.{static_cells};
 
 use crate::lending::lent;
 use crate::reading::{owned, read};
 use cap_package::{OwnedParts, Packages};
 use cap_tests::{Change, DESCRIPTOR, DIRECTORY, PLAIN, PLAIN_ROLES, STATIC_FIELD};
 use jc_base::{ArrayRec, Kind, StaticRec, Ty};
+use jc_link::{arrays, arrays_fit, statics, statics_fit};
 use jc_resolve::{Names, names};
-use jc_statics::{arrays, arrays_fit, statics, statics_fit};
 use std::alloc::{AllocError, Global};
 
 /// Two initial arrays, three references, two zero bytes and seven values.

@@ -8,7 +8,7 @@ ghost use Rattle.cap_method.specs.MethodFormat.{Header};
 ghost use Rattle.cap_method.specs.MethodPart.{header_seen};
 ghost use Rattle.cap_package.specs.HeaderChecks.{header_in, is_abstract};
 ghost use Rattle.cap_laying.specs.HandlerTable.{AreInside};
-ghost use Rattle.cap_rewritten.specs.Laying.{IsCodeFor};
+ghost use Rattle.law_package.specs.Laying.{IsCodeFor};
 ghost use Rattle.cap_write.specs.Condition.{AreElements, IsElement, MayBeLaid, handler_sum, methods_for};
 ghost use Rattle.pack_tests.specs.Elements.{Continues, listed, one_listed};
 

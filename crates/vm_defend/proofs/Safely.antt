@@ -8,9 +8,9 @@ use Rattle.vm_step.specs.declared.ending.Ending.{Ending}
 use Rattle.vm_step.specs.declared.ending.Ending.TheVariants.{Plain, Faulted}
 use Rattle.vm_step.specs.Arguments.{Argument}
 use Rattle.vm_step.specs.Run.{Continues}
-use Rattle.vm_turns.specs.Turn.{with_ending}
-use Rattle.vm_sound.specs.Frames.{Typings}
-use Rattle.vm_sound.specs.Laws.{AreTypings, IsTypedOutcome, RunsAreSafe, StartsAreTyped}
+use Rattle.vm_run.specs.Turn.{with_ending}
+use Rattle.law_sound.specs.Frames.{Typings}
+use Rattle.law_sound.specs.Soundness.{AreTypings, IsTypedOutcome, RunsAreSafe, StartsAreTyped}
 use Rattle.vm_defend.specs.Held.{Held, reached, answer}
 use Rattle.vm_defend.specs.Begun.{IsBegun}
 use Rattle.vm_defend.specs.Safe.{IsPlainEnding, BeginsSafely, GoesSafely}

@@ -10,8 +10,8 @@ use Rattle.vm_store.specs.Cells.{tagged}
 use Rattle.vm_store.specs.State.{State, Object, top}
 use Rattle.vm_step.specs.Arguments.{Argument}
 use Rattle.vm_step.specs.Start.{entry_state}
-use Rattle.vm_start.specs.Sized.{IsOfNumbers, HasEntrySizes}
-use Rattle.vm_checks.specs.Shaped.{IsShapedFrame, IsShapedFor, IsShapedObject, IsShaped}
+use Rattle.vm_run.specs.Sized.{IsOfNumbers, HasEntrySizes}
+use Rattle.vm_check.specs.Shaped.{IsShapedFrame, IsShapedFor, IsShapedObject, IsShaped}
 
 numbers-shaped : (t : ClassTable) (kind : ObjectKind) (count : ℕ) → IsOfNumbers kind → IsShapedFor t kind count
 numbers-shaped t (Instance c) count h = absurd h

@@ -4,7 +4,7 @@ use Rattle.jc_base.specs.World.{Linked}
 use Rattle.vm_store.specs.Cells.{tagged}
 use Rattle.vm_step.specs.Arguments.{Argument}
 use Rattle.vm_step.specs.Start.{start_fault, entry_state}
-use Rattle.vm_checks.specs.Shaped.{IsShaped}
+use Rattle.vm_check.specs.Shaped.{IsShaped}
 use Rattle.vm_defend.specs.declared.starting.StartEnd.{StartEnd}
 use Rattle.vm_defend.specs.declared.starting.StartEnd.TheVariants.{Fault, Memory}
 use Rattle.vm_defend.specs.Held.{Held}

@@ -7,9 +7,9 @@ use Rattle.vm_step.specs.declared.ending.Ending.{Ending}
 use Rattle.vm_step.specs.declared.ending.Ending.TheVariants.{Plain}
 use Rattle.vm_step.specs.declared.ending.Plain.TheVariants.{Spent}
 use Rattle.vm_step.specs.Raising.{Outcome}
-use Rattle.vm_checks.specs.Shaped.{IsShaped}
-use Rattle.vm_turns.specs.Marked.{AreMarked}
-use Rattle.vm_turns.specs.Turn.{with_ending}
+use Rattle.vm_check.specs.Shaped.{IsShaped}
+use Rattle.vm_run.specs.Marked.{AreMarked}
+use Rattle.vm_run.specs.Turn.{with_ending}
 
 -- the state that the run has reached, how it ended, once it has, and for each method of the world the places at which instructions
 -- begin

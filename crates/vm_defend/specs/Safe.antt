@@ -3,8 +3,8 @@ use Rattle.std.specs.Prelude.{⊤}
 use Rattle.jc_base.specs.World.{Linked}
 use Rattle.vm_step.specs.declared.ending.Ending.{Ending}
 use Rattle.vm_step.specs.declared.ending.Ending.TheVariants.{Plain, Faulted}
-use Rattle.vm_sound.specs.Frames.{Typings}
-use Rattle.vm_sound.specs.Laws.{AreTypings, IsTypedOutcome}
+use Rattle.law_sound.specs.Frames.{Typings}
+use Rattle.law_sound.specs.Soundness.{AreTypings, IsTypedOutcome}
 use Rattle.vm_defend.specs.Held.{Held, reached}
 
 abbrev pub IsPlainEnding : Ending → Type 0

@@ -2,7 +2,7 @@ ghost use Rattle.vm_defend.specs.Begun.{StartsAreShaped};
 ghost use Rattle.vm_defend.specs.Reading.{SlotsAreInside};
 
 use jc_base::World;
-use vm_start::starts_are_sized;
+use vm_run::starts_are_sized;
 
 /// The state in which a run begins has the shape of its world.
 pub fn starts_are_shaped(world: &World<'_>)

@@ -6,7 +6,7 @@ ghost use Rattle.vm_defend.specs.Safe.{GoesSafely};
 
 use crate::state::State;
 use jc_base::World;
-use vm_sound::typed_code_never_fails;
+use law_sound::typed_code_never_fails;
 use vm_step::Ending;
 
 /// Takes at most so many steps of a run that was begun in this world. After `Spent` it may go on; after another ending it

@@ -7,12 +7,11 @@ ghost use Rattle.vm_defend.specs.Safe.{BeginsSafely};
 
 use crate::state::State;
 use jc_base::{Kind, World};
+use law_sound::typed_code_never_fails;
 use std::alloc::{AllocError, Global};
-use vm_sound::typed_code_never_fails;
-use vm_start::{begin, start_fault, starts_are_sized};
+use vm_run::{MarkedPlaces, begin, start_fault, starts_are_sized};
 use vm_step::{Args, StartFault};
 use vm_store::TaggedStore;
-use vm_turns::MarkedPlaces;
 
 /// Why a run was not begun.
 #[derive(Clone, Copy)]

@@ -6,9 +6,9 @@ ghost use Rattle.vm_defend.specs.Held.{answer};
 use crate::reading::{class_of, length_of, number_at, numbers_of, value_at};
 use jc_base::{Ty, World};
 use std::marker::Model;
+use vm_run::{Known, MarkedPlaces};
 use vm_step::{Ending, Plain, Value};
 use vm_store::TaggedStore;
-use vm_turns::{Known, MarkedPlaces};
 
 /// A run: the state that it has reached, in memory that was taken once for 64 frames, 4,096 objects, 32,768 cells of
 /// objects and the static fields; how it ended, once it has; and where in the code of each method instructions begin.
@@ -53,7 +53,7 @@ impl State {
             Some(ending) => ending,
             None => {
                 let known = Known::Marked(&self.places);
-                self.ending = vm_runs::run(&mut self.store, world, known, budget);
+                self.ending = vm_run::run(&mut self.store, world, known, budget);
                 ending_or_spent(self.ending)
             }
         }

@@ -6,7 +6,7 @@ use Rattle.jc_base.specs.World.{Linked}
 use Rattle.jc_control.specs.Method.{Method, method_with}
 use Rattle.jc_rules.specs.Flow.{HasFlowTyping}
 use Rattle.card_verify.specs.Answers.{AreAccepted}
-use Rattle.vm_sound.specs.Laws.{AreTypedMethods, HasTypings, TypedMethodsHaveTypings}
+use Rattle.law_sound.specs.Soundness.{AreTypedMethods, HasTypings, TypedMethodsHaveTypings}
 
 some-taken : (n : ℕ) (xs : List ℕ) → 0 < length (take n xs) → 0 < n
 some-taken zero xs h = absurd (omega (arith, h))

@@ -12,10 +12,10 @@ use Rattle.vm_step.specs.Arguments.{Argument}
 use Rattle.vm_step.specs.Raising.{running}
 use Rattle.vm_step.specs.Run.{stands}
 use Rattle.vm_step.specs.Start.{start_fault, entry_state}
-use Rattle.vm_start.specs.Laws.{StartStatesErase, StartsAreSized}
-use Rattle.vm_turns.specs.Turn.{with_ending}
-use Rattle.vm_words.specs.declared.words.Counts.{Counts}
-use Rattle.vm_words.specs.Words.{AreLaid, words_state}
+use Rattle.vm_run.specs.Starts.{StartStatesErase, StartsAreSized}
+use Rattle.vm_run.specs.Turn.{with_ending}
+use Rattle.vm_offend.specs.declared.words.Counts.{Counts}
+use Rattle.vm_offend.specs.Words.{AreLaid, words_state}
 use Rattle.vm_offend.specs.declared.machine.Machine.{Machine}
 use Rattle.vm_offend.specs.Begun.{IsBegun}
 use Rattle.vm_offend.specs.Held.{IsRunOf}

@@ -9,13 +9,13 @@ use Rattle.vm_step.specs.declared.ending.Ending.TheVariants as endings
 use Rattle.vm_step.specs.declared.ending.Plain.{Plain}
 use Rattle.vm_step.specs.declared.ending.Plain.TheVariants.{Spent}
 use Rattle.vm_step.specs.Raising.{Outcome, running, ended}
-use Rattle.vm_turns.specs.Turn.{with_ending}
-use Rattle.vm_sound.specs.Frames.{Typings}
-use Rattle.vm_sound.specs.Laws.{IsTypedOutcome}
-use Rattle.vm_erasure.specs.Erasure.{erased_outcome}
+use Rattle.vm_run.specs.Turn.{with_ending}
+use Rattle.law_sound.specs.Frames.{Typings}
+use Rattle.law_sound.specs.Soundness.{IsTypedOutcome}
+use Rattle.law_erasure.specs.Erasure.{erased_outcome}
 use Rattle.vm_defend.specs.Held.{answer}
 use Rattle.vm_defend.specs.Safe.{IsPlainEnding}
-use Rattle.vm_words.specs.Words.{words_state}
+use Rattle.vm_offend.specs.Words.{words_state}
 use Rattle.vm_offend.specs.declared.machine.Machine.{Machine}
 use Rattle.vm_offend.specs.Held.{ending_of, AreWordsOf, Follows}
 

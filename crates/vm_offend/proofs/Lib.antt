@@ -1,3 +1,9 @@
+mod Windows
+mod Rams
+mod WordHeaps
+mod Erased
+mod Jumping
+mod WordsFollow
 pub mod Accepting
 mod Beginning
 mod Reached

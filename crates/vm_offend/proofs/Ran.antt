@@ -15,16 +15,16 @@ use Rattle.vm_step.specs.declared.ending.Plain.TheVariants.{Spent}
 use Rattle.vm_step.specs.Laws.{StepsAreOne, RunsExist, RunsGoOn}
 use Rattle.vm_step.specs.Raising.{Outcome, running}
 use Rattle.vm_step.specs.Run.{Runs}
-use Rattle.vm_turns.specs.Turn.{with_ending}
-use Rattle.vm_sound.specs.Laws.{HasTypings, IsTypedOutcome, RunsAreSafe, StartsAreTyped}
-use Rattle.vm_checks.specs.Shaped.{IsShaped}
-use Rattle.vm_checks.specs.Machine.{StepsStay}
-use Rattle.vm_erasure.specs.Erasure.{erased_outcome, TypedRunsFollow}
+use Rattle.vm_run.specs.Turn.{with_ending}
+use Rattle.law_sound.specs.Soundness.{HasTypings, IsTypedOutcome, RunsAreSafe, StartsAreTyped}
+use Rattle.vm_check.specs.Shaped.{IsShaped}
+use Rattle.vm_check.specs.Machine.{StepsStay}
+use Rattle.law_erasure.specs.Erasure.{erased_outcome, TypedRunsFollow}
 use Rattle.vm_defend.specs.Begun.{StartsAreShaped}
 use Rattle.vm_defend.specs.Held.{answer}
 use Rattle.vm_defend.specs.Safe.{IsPlainEnding}
-use Rattle.vm_words.specs.Words.{AreLaid, words_state}
-use Rattle.vm_words.specs.Typed.{AreTypedWords}
+use Rattle.vm_offend.specs.Words.{AreLaid, words_state}
+use Rattle.vm_offend.specs.Typed.{AreTypedWords}
 use Rattle.vm_offend.specs.declared.machine.Machine.{Machine}
 use Rattle.vm_offend.specs.Held.{IsOutcomeOfRun, AreWordsOf, IsRunOf, Follows}
 use Rattle.vm_offend.proofs.Reached.{reached-on, reached-safe, reached-runs, reached-keeps}

@@ -9,11 +9,11 @@ use Rattle.vm_step.specs.Raising.{Outcome, running, ended}
 use Rattle.vm_step.specs.Step.{Steps, misplaced, unresolved, performs}
 use Rattle.vm_step.specs.Run.{Runs, stands, stops, steps, Continues}
 use Rattle.vm_step.specs.Laws.{StepsAreOne, RunsExist, RunsGoOn}
-use Rattle.vm_sound.specs.Laws.{HasTypings, IsTypedOutcome, RunsAreSafe, StartsAreTyped}
-use Rattle.vm_checks.specs.Shaped.{IsShaped}
-use Rattle.vm_checks.specs.Machine.{StepsStay}
+use Rattle.law_sound.specs.Soundness.{HasTypings, IsTypedOutcome, RunsAreSafe, StartsAreTyped}
+use Rattle.vm_check.specs.Shaped.{IsShaped}
+use Rattle.vm_check.specs.Machine.{StepsStay}
 use Rattle.vm_defend.specs.Begun.{StartsAreShaped}
-use Rattle.vm_words.specs.Typed.{AreTypedWords}
+use Rattle.vm_offend.specs.Typed.{AreTypedWords}
 use Rattle.vm_offend.specs.Held.{IsOutcomeOfRun}
 
 module _ (w : Linked) where

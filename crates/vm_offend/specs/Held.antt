@@ -11,9 +11,9 @@ use Rattle.vm_step.specs.Arguments.{Argument}
 use Rattle.vm_step.specs.Raising.{Outcome, running, ended}
 use Rattle.vm_step.specs.Run.{Runs, Continues}
 use Rattle.vm_step.specs.Start.{Starts}
-use Rattle.vm_turns.specs.Turn.{with_ending}
-use Rattle.vm_words.specs.Words.{AreLaid, words_state}
-use Rattle.vm_erasure.specs.Erasure.{erased_outcome}
+use Rattle.vm_run.specs.Turn.{with_ending}
+use Rattle.vm_offend.specs.Words.{AreLaid, words_state}
+use Rattle.law_erasure.specs.Erasure.{erased_outcome}
 use Rattle.vm_defend.specs.Held.{answer}
 use Rattle.vm_offend.specs.declared.machine.Machine.{Machine}
 use Rattle.vm_offend.specs.Sized.{AreSized}

@@ -3,8 +3,8 @@ use Rattle.std.specs.Prelude.{◌≡◌, ℕ, List, map}
 use Rattle.vm_store.specs.declared.cell.Cell.{Cell}
 use Rattle.vm_store.specs.Cells.{word_of}
 use Rattle.vm_store.specs.State.{State, map_object}
-use Rattle.vm_words.specs.declared.words.Counts.{Counts}
-use Rattle.vm_words.specs.Words.{objects_state}
+use Rattle.vm_offend.specs.declared.words.Counts.{Counts}
+use Rattle.vm_offend.specs.Words.{objects_state}
 
 -- the words of the objects are those of a state
 abbrev pub AreObjectsOf : List ℕ → Counts → State Cell → Type 0

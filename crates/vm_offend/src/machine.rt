@@ -8,21 +8,20 @@ ghost use Rattle.vm_defend.specs.Safe.{IsPlainEnding};
 ghost use Rattle.vm_step.specs.declared.ending.Ending.TheVariants as endings;
 ghost use Rattle.vm_step.specs.declared.ending.Plain.TheVariants.{Spent};
 ghost use Rattle.vm_step.specs.Raising.{Outcome};
-ghost use Rattle.vm_words.specs.Words.{AreObjectsLaid};
+ghost use Rattle.vm_offend.specs.Words.{AreObjectsLaid};
 ghost use Rattle.vm_offend.specs.Sized.{static_cells};
 ghost use Rattle.vm_offend.specs.Reads.{AreObjectsOf, AreStaticsOf};
 
 use crate::reading::{length_of, number_at, numbers_of, value_at};
-use crate::storing;
-use card_index::Accepted;
+use crate::{Counts, WordStore, storing};
+use card_verify::Accepted;
 use jc_base::{Ty, World};
-use vm_checks::Machine as Tested;
+use law_erasure::words_run_alike;
+use law_sound::typed_code_never_fails;
+use vm_check::Machine as Tested;
 use vm_defend::{slots_are_inside, starts_are_shaped};
-use vm_erasure::words_run_alike;
-use vm_sound::typed_code_never_fails;
 use vm_step::{Ending, Plain, Value, runs_are_runs_of_steps, runs_exist};
 use vm_store::{TaggedStore, states_erase};
-use vm_words::{Counts, WordStore};
 
 /// A run of verified code in memory that a caller lends: how many frames, objects and cells of objects there are, and how
 /// it ended, once it has. The memory is handed to each call beside it: the frames in `ram`, the objects in `heap`, and the

@@ -2,14 +2,14 @@ ghost use Rattle.std.specs.Prelude.{◌≡◌, ◌+◌, ◌≤◌, length, Some,
 ghost use Rattle.jc_base.specs.Cell.{width};
 ghost use Rattle.vm_store.specs.Cells.{words};
 ghost use Rattle.vm_store.specs.Objects.{object_at};
-ghost use Rattle.vm_words.specs.Words.{AreObjectsLaid, objects_state};
+ghost use Rattle.vm_offend.specs.Words.{AreObjectsLaid, objects_state};
 ghost use Rattle.vm_defend.specs.Reading.{value_at, array_kind, array_length, array_value, element_in, HasElement};
 
+use crate::{Counts, object_cell, object_elements, object_kind};
 use jc_base::{Kind, Ty};
 use vm_arithmetic::{int_of_words, short_of_word};
 use vm_step::Value;
 use vm_store::ObjectKind;
-use vm_words::{Counts, object_cell, object_elements, object_kind};
 
 /// The value of a kind in the static cells from a slot on.
 pub(crate) fn value_at(statics: &[u16], slot: u16, kind: Kind) -> Value

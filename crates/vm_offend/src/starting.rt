@@ -1,18 +1,18 @@
 ghost use Rattle.std.specs.Prelude.{◌≡◌, None, Some, IfOk, IfErr, OnErr};
 ghost use Rattle.vm_step.specs.Start.{start_fault};
-ghost use Rattle.vm_sound.specs.Laws.{IsFaultFree};
+ghost use Rattle.law_sound.specs.Soundness.{IsFaultFree};
 ghost use Rattle.vm_offend.specs.Sized.{AreSized};
 ghost use Rattle.vm_offend.specs.Held.{IsRunOf};
 ghost use Rattle.vm_offend.specs.Begun.{IsBegun};
 
 use crate::machine::Machine;
 use crate::storing::begin;
-use card_index::Accepted;
+use crate::{Counts, WordStore};
+use card_verify::Accepted;
 use jc_base::World;
-use vm_sound::typed_code_never_fails;
-use vm_start::{start_fault, starts_are_sized, starts_erase};
+use law_sound::typed_code_never_fails;
+use vm_run::{start_fault, starts_are_sized, starts_erase};
 use vm_step::{Args, StartFault};
-use vm_words::{Counts, WordStore};
 
 /// Begins a run of a method with these arguments, in memory of the lengths that `sizes` tells, whatever it holds. No run of
 /// an accepted world meets a fault, whether this one begins or not.

@@ -5,16 +5,16 @@ ghost use Rattle.vm_store.specs.Cells.{words};
 ghost use Rattle.vm_store.specs.State.{IsRunning};
 ghost use Rattle.vm_step.specs.Start.{start_fault, entry_state};
 ghost use Rattle.vm_step.specs.Run.{Runs};
-ghost use Rattle.vm_turns.specs.Turn.{with_ending};
-ghost use Rattle.vm_checks.specs.Shaped.{IsShaped};
-ghost use Rattle.vm_words.specs.WordStore.{state_in_words, IsLaidOut};
-ghost use Rattle.vm_words.specs.Typed.{AreTypedWords};
+ghost use Rattle.vm_run.specs.Turn.{with_ending};
+ghost use Rattle.vm_check.specs.Shaped.{IsShaped};
+ghost use Rattle.vm_offend.specs.WordStore.{state_in_words, IsLaidOut};
+ghost use Rattle.vm_offend.specs.Typed.{AreTypedWords};
 ghost use Rattle.vm_offend.specs.Sized.{static_cells};
 
+use crate::WordStore;
 use jc_base::World;
+use vm_run::Known;
 use vm_step::{Args, Ending};
-use vm_turns::Known;
-use vm_words::WordStore;
 
 /// Begins a run of an entry in a store that has neither frames nor objects yet.
 pub(crate) fn begin(
@@ -36,7 +36,7 @@ pub(crate) fn begin(
     ensures heap { store.new.heap.ghost_name ≡ store.old.heap.ghost_name }
     ensures statics { store.new.statics.ghost_name ≡ store.old.statics.ghost_name }
 {
-    vm_start::begin(store, world, entry, args);
+    vm_run::begin(store, world, entry, args);
 }
 
 /// Takes at most so many steps of verified code.
@@ -57,5 +57,5 @@ pub(crate) fn run(
     ensures heap { store.new.heap.ghost_name ≡ store.old.heap.ghost_name }
     ensures statics { store.new.statics.ghost_name ≡ store.old.statics.ghost_name }
 {
-    vm_runs::run(store, world, Known::Verified, budget)
+    vm_run::run(store, world, Known::Verified, budget)
 }

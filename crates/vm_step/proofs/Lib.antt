@@ -1,3 +1,4 @@
+pub mod Search
 pub mod Running
 pub mod Erased
 pub mod Lasting

@@ -1,3 +1,6 @@
+pub mod Instance
+pub mod Searched
+pub mod WorkedInstances
 pub mod Numbers
 pub mod Act
 pub mod Values

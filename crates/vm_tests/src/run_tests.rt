@@ -1,7 +1,7 @@
 ghost use Rattle.std.specs.Prelude.{◌≡◌, IfOk, length};
 ghost use Rattle.vm_offend.specs.Sized.{AreSized};
 
-use card_index::{Accepted, CardRoom, accept};
+use card_verify::{Accepted, CardRoom, accept};
 use flow_tests::{Shape, world};
 use jc_base::World;
 use std::alloc::{AllocError, Global};

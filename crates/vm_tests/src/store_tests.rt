@@ -8,8 +8,8 @@ use crate::stores::{
 use flow_tests::{Shape, world};
 use jc_base::World;
 use std::alloc::{AllocError, Global};
+use vm_offend::{Counts, WordStore};
 use vm_store::{Cell, CellForm, TaggedStore};
-use vm_words::{Counts, WordStore};
 
 /// No frame, no object.
 const NOTHING: Counts = Counts {

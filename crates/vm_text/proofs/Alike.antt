@@ -19,7 +19,7 @@ use Rattle.vm_store.specs.Objects.{object_at, element_count}
 use Rattle.vm_store.specs.Kind.{element_width}
 use Rattle.vm_defend.specs.Reading.{value_at, element_in, numbers_of_kind}
 use Rattle.vm_text.specs.Left.{numbers_in, number_array, left_by}
-use Rattle.vm_text.specs.Laws.{TextsAreAlike}
+use Rattle.vm_text.specs.LikeTexts.{TextsAreAlike}
 use Rattle.vm_text.specs.Text.{left_text}
 
 word_at : (cells : List Cell) (n : ℕ) → nth words (map word_of cells) n ≡ word_of (nth tagged cells n)

@@ -10,7 +10,7 @@ use Rattle.vm_store.specs.Cells.{Cells, tagged, words}
 use Rattle.vm_store.specs.State.{State, Object}
 use Rattle.vm_store.specs.Objects.{object_at}
 use Rattle.vm_step.specs.declared.ending.Value.{Value}
-use Rattle.vm_words.specs.declared.words.Counts.{Counts}
+use Rattle.vm_offend.specs.declared.words.Counts.{Counts}
 use Rattle.vm_offend.specs.Reads.{AreObjectsOf, AreStaticsOf}
 use Rattle.vm_defend.specs.Reading.{value_at, numbers_of_kind, static_value, array_kind, array_length, array_value}
 use Rattle.vm_text.specs.Left.{NumberArray, Readout, numbers_in, number_array, left_by}

@@ -3,8 +3,8 @@ use Rattle.std.specs.Prelude.{◌≡◌, ℕ, List, [], length}
 use Rattle.jc_base.specs.World.{Linked}
 use Rattle.vm_store.specs.declared.cell.Cell.{Cell}
 use Rattle.vm_store.specs.State.{State}
-use Rattle.vm_words.specs.declared.words.Counts.{Counts}
-use Rattle.vm_words.specs.Words.{AreObjectsLaid, objects_state}
+use Rattle.vm_offend.specs.declared.words.Counts.{Counts}
+use Rattle.vm_offend.specs.Words.{AreObjectsLaid, objects_state}
 use Rattle.vm_offend.specs.Sized.{static_cells}
 use Rattle.vm_offend.specs.Reads.{AreObjectsOf, AreStaticsOf}
 

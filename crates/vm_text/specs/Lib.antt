@@ -1,5 +1,5 @@
 pub mod Left
 pub mod Lent
 pub mod Text
-pub mod Laws
+pub mod LikeTexts
 pub mod Worked

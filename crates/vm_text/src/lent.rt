@@ -1,5 +1,5 @@
 use crate::leaves::Leaves;
-use card_index::Accepted;
+use card_verify::Accepted;
 use jc_base::{Ty, World};
 use vm_offend::Machine;
 use vm_step::Value;

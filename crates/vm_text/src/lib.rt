@@ -3,12 +3,12 @@
 //! whatever tells what is left. It stands on the lines of `cap_text` and on what is read of a state in `vm_defend`.
 #![tactic(auto)]
 
-mod laws;
 mod leaves;
 mod lent;
+mod like_texts;
 mod writing;
 
-pub use laws::texts_are_alike;
 pub use leaves::Leaves;
 pub use lent::LentRun;
+pub use like_texts::texts_are_alike;
 pub use writing::{room, write_run};

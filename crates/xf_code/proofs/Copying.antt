@@ -1,7 +1,7 @@
 -- Steps of loops that copy locals and cells.
 use Rattle.std.proofs.Common.{◌≡◌, ℕ, zero, suc, ◌+◌, ◌-◌, ◌<◌, ◌≤◌, min, List, [], ◌∷◌, ◌++◌, length, drop, refl, ◌∙◌, ap, arith}
 use Rattle.xf_homes.specs.declared.home.Home.{Home}
-use Rattle.xf_plan.specs.Source.{Source}
+use Rattle.xf_homes.specs.Source.{Source}
 use Rattle.xf_emission.specs.declared.origin.Origin.{Origin}
 use Rattle.xf_emission.specs.Edge.{cell_copies, local_copies, locals_copies}
 

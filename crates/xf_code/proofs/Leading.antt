@@ -5,7 +5,7 @@ use Rattle.std.proofs.lemmas.Int.{ints}
 use Rattle.std.proofs.lemmas.List.{drop_more, drop_all}
 use Rattle.jc_base.specs.declared.record.Handler.{Handler}
 use Rattle.jc_ops.specs.declared.operation.Operation.{Operation}
-use Rattle.xf_plan.specs.Source.{Source}
+use Rattle.xf_homes.specs.Source.{Source}
 use Rattle.xf_emission.specs.Jump.{IsNearBy, lead, leads, stub, stubs_of}
 use Rattle.xf_emission.specs.Emission.{catching_stub, catching_stubs, is_live, range, ranges_from}
 

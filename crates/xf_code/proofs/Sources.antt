@@ -20,14 +20,14 @@ use Rattle.xf_homes.specs.Answer.{IsTypingOf}
 use Rattle.xf_homes.specs.Order.{AreHomes, register_sum}
 use Rattle.xf_homes.proofs.AllHomes.{IsTyped}
 use Rattle.xf_homes.proofs.Answered.{is-typed}
-use Rattle.xf_plan.specs.Plan.{stack_of}
+use Rattle.xf_homes.specs.Plan.{stack_of}
 use Rattle.xf_emission.specs.Emission.{rewritten}
 use Rattle.xf_emission.specs.Laws.{IsCode, HasFrames, ItemsSuit, LiveAreKept, PlainSizeFits, RangesStand}
 use Rattle.xf_emission.specs.Live.{KeepsLive}
-use Rattle.xf_groups.specs.Matching.{MatchesFrames, MatchesMethod, RewrittenMatches}
-use Rattle.xf_typing.specs.Laws.{RewrittenIsTyped}
-use Rattle.xf_typing.specs.Planned.{IsPlanned}
-use Rattle.xf_typing.specs.Typed.{HasTypingByHomes}
+use Rattle.law_groups.specs.Matching.{MatchesFrames, MatchesMethod, RewrittenMatches}
+use Rattle.law_rewritten_typing.specs.Laws.{RewrittenIsTyped}
+use Rattle.law_rewritten_typing.specs.Planned.{IsPlanned}
+use Rattle.law_rewritten_typing.specs.Typed.{HasTypingByHomes}
 use Rattle.xf_code.proofs.Subjects.{code-short}
 
 module _ (w : Linked) (m : Method) (typing : List (Option Frame)) (control : Marked) (homes : List Home) (typed : IsTypingOf w m typing) (flow : IsControlFlow m control) (placed : ArePlaced m) (listed : AreListed m.code) (mo : IsMethodOf w m)

@@ -8,7 +8,7 @@ use Rattle.jc_control.specs.Method.{Method, IsMethodOf}
 use Rattle.jc_control.specs.WellFormed.{IsWellFormed, IsTargetPlace}
 use Rattle.jc_decode.specs.Laws.{AreListed}
 use Rattle.xf_homes.specs.Subject.{walked}
-use Rattle.xf_plan.specs.declared.plan.Plan.{Plan}
+use Rattle.xf_homes.specs.declared.plan.Plan.{Plan}
 use Rattle.xf_emission.specs.Jump.{IsNearBy}
 use Rattle.xf_code.specs.Known.{IsSubject}
 use Rattle.xf_code.proofs.Targets.{few-targets}

@@ -4,7 +4,7 @@ use Rattle.jc_decode.specs.declared.insn.Placed.{Placed}
 use Rattle.jc_control.specs.Method.{IsMethodOf}
 use Rattle.jc_control.specs.WellFormed.{HasInstruction}
 use Rattle.xf_homes.specs.Subject.{walked}
-use Rattle.xf_plan.specs.declared.plan.Plan.{Plan}
+use Rattle.xf_homes.specs.declared.plan.Plan.{Plan}
 use Rattle.xf_emission.specs.Jump.{AreLed}
 
 -- an instruction of the code, with targets in it

@@ -1,6 +1,6 @@
 ghost use Rattle.std.specs.Prelude.{◌≡◌, ◌++◌, ◌∷◌, [], ◌≤◌, ◌<◌, ◌+◌, OnOk, flat_map};
 ghost use Rattle.jc_decode.specs.Listing.{targets};
-ghost use Rattle.xf_plan.specs.Subject.{source};
+ghost use Rattle.xf_homes.specs.PlannedMethod.{source};
 ghost use Rattle.xf_emission.specs.Jump.{AreLed};
 ghost use Rattle.xf_emission.specs.Move.{copy};
 ghost use Rattle.xf_emission.specs.Group.{body, branch_by, first_place, gone, increased, loaded, pop_item, store_to_homes};
@@ -15,8 +15,7 @@ use jc_decode::{Insn, Item, Placed};
 use jc_ops::{Branch, Holder, Operation, Sort};
 use std::alloc::{AllocError, Global};
 use xf_emission::Origin;
-use xf_homes::{Home, operands};
-use xf_plan::Plan;
+use xf_homes::{Home, Plan, operands};
 
 fn loaded(
     plan: &Plan<'_>,

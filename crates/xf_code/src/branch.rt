@@ -1,6 +1,6 @@
 ghost use Rattle.std.specs.Prelude.{◌≡◌, ◌++◌, OnOk};
 ghost use Rattle.jc_decode.specs.Forms.{wide};
-ghost use Rattle.xf_plan.specs.Subject.{source};
+ghost use Rattle.xf_homes.specs.PlannedMethod.{source};
 ghost use Rattle.xf_emission.specs.Jump.{AreLed, branch, first_label, jump_to, has_under, spill_if};
 
 use crate::edge::EdgeScratch;
@@ -9,7 +9,7 @@ use crate::moves::{loads, put, spill};
 use jc_decode::{Item, Labels, Placed};
 use jc_ops::Operation;
 use std::alloc::{AllocError, Global};
-use xf_plan::Plan;
+use xf_homes::Plan;
 
 /// The opcode of the wide form of a jump.
 fn wide(op: u8) -> u8

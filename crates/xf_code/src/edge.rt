@@ -1,7 +1,7 @@
 ghost use Rattle.std.specs.Prelude.{◌≡◌, ◌++◌, ◌∷◌, [], OnOk, flat_map, slice_get, option_copied};
 ghost use Rattle.xf_homes.specs.Home.{argument_types};
 ghost use Rattle.xf_homes.specs.Value.{value_in_cells};
-ghost use Rattle.xf_plan.specs.Subject.{source};
+ghost use Rattle.xf_homes.specs.PlannedMethod.{source};
 ghost use Rattle.xf_emission.specs.Edge.{is_stored, home_before, homes_held, copy_new, copies_from, local_copies, copies, cell_copies};
 
 use crate::moves::copy;
@@ -10,8 +10,7 @@ use jc_decode::Item;
 use jc_ops::{Operation, Sort};
 use std::alloc::AllocError;
 use xf_emission::Origin;
-use xf_homes::{Home, has, value_of};
-use xf_plan::{Plan, home_of};
+use xf_homes::{Home, Plan, has, home_of, value_of};
 
 /// Lists of homes that are made anew for each local.
 #[derive(Drop)]

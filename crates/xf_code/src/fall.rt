@@ -1,5 +1,5 @@
 ghost use Rattle.std.specs.Prelude.{◌≡◌, ◌++◌, ◌≤◌, ◌+◌, OnOk};
-ghost use Rattle.xf_plan.specs.Subject.{source};
+ghost use Rattle.xf_homes.specs.PlannedMethod.{source};
 ghost use Rattle.xf_emission.specs.Group.{fall, fall_by, fall_over, fallen};
 
 use crate::body::next_place;
@@ -10,8 +10,7 @@ use jc_decode::{Item, Placed};
 use jc_ops::Operation;
 use std::alloc::{AllocError, Global};
 use xf_emission::Origin;
-use xf_homes::operands;
-use xf_plan::Plan;
+use xf_homes::{Plan, operands};
 
 /// Appends the way into a place: the stack goes into the homes of its cells where it is a leader, and then come the copies of
 /// locals.

@@ -1,13 +1,12 @@
 ghost use Rattle.std.specs.Prelude.{◌≡◌, ◌++◌, OnOk};
-ghost use Rattle.xf_plan.specs.Subject.{source};
+ghost use Rattle.xf_homes.specs.PlannedMethod.{source};
 ghost use Rattle.xf_emission.specs.Group.{field_read, field_written, itself, stays, swap_words};
 
 use crate::moves::{load, put, with_byte};
 use jc_base::Kind;
 use jc_decode::{Insn, Item, Placed};
 use std::alloc::AllocError;
-use xf_homes::Home;
-use xf_plan::Plan;
+use xf_homes::{Home, Plan};
 
 /// Appends an instruction as it is.
 pub fn keep(placed: Placed, items: &mut Vec<Item>) -> Result<(), AllocError>

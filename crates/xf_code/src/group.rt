@@ -1,7 +1,7 @@
 ghost use Rattle.std.specs.Prelude.{◌≡◌, ◌++◌, ◌∷◌, [], ◌≤◌, ◌+◌, OnOk, flat_map, length};
 ghost use Rattle.jc_decode.specs.Listing.{listing};
-ghost use Rattle.xf_plan.specs.Plan.{operation};
-ghost use Rattle.xf_plan.specs.Subject.{source};
+ghost use Rattle.xf_homes.specs.Plan.{operation};
+ghost use Rattle.xf_homes.specs.PlannedMethod.{source};
 ghost use Rattle.xf_emission.specs.Group.{done, entrance, group};
 ghost use Rattle.xf_code.specs.Known.{IsInstruction, IsSubject};
 
@@ -11,7 +11,7 @@ use crate::fall::fallen;
 use crate::moves::{loads, put};
 use jc_decode::{Instructions, Item, Placed};
 use std::alloc::{AllocError, Global};
-use xf_plan::Plan;
+use xf_homes::Plan;
 
 /// Appends the label of a place, and the loads of its stack where it is a leader.
 fn entrance(

@@ -1,5 +1,5 @@
 ghost use Rattle.std.specs.Prelude.{◌≡◌, ◌++◌, ◌∷◌, [], ◌≤◌, if◌then◌else◌, OnOk, IfOk, length};
-ghost use Rattle.xf_plan.specs.Subject.{source};
+ghost use Rattle.xf_homes.specs.PlannedMethod.{source};
 ghost use Rattle.xf_emission.specs.Emission.{catching_stub, catching_stubs, is_live, range, ranges_from};
 ghost use Rattle.xf_emission.specs.Jump.{handler_label};
 
@@ -10,7 +10,7 @@ use jc_base::Handler;
 use jc_decode::{Item, Range};
 use std::alloc::{AllocError, Global};
 use xf_emission::Origin;
-use xf_plan::Plan;
+use xf_homes::Plan;
 
 fn is_live(plan: &Plan<'_>, handler: Handler) -> bool
     requires { length plan.now.walk.code.bytes.now ≤ 65535 }

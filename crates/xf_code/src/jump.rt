@@ -1,6 +1,6 @@
 ghost use Rattle.std.specs.Prelude.{◌≡◌, ◌≤◌, ◌+◌, ◌/◌, ◌++◌, ◌∷◌, [], OnOk, IfOk};
 ghost use Rattle.jc_decode.specs.Listing.{targets};
-ghost use Rattle.xf_plan.specs.Subject.{source};
+ghost use Rattle.xf_homes.specs.PlannedMethod.{source};
 ghost use Rattle.xf_emission.specs.Jump.{operands_slot, under, operands, has_under, branch_copies, place, lead, stub, stub_label, goto, leads, stubs_of, AreLed, IsNearBy};
 
 use crate::edge::{EdgeScratch, cell_copies, copies};
@@ -10,8 +10,7 @@ use jc_decode::{Insn, Item, Placed};
 use jc_ops::Operation;
 use std::alloc::{AllocError, Global};
 use xf_emission::Origin;
-use xf_homes::Home;
-use xf_plan::Plan;
+use xf_homes::{Home, Plan};
 
 /// A conditional branch or switch at a place, with the number of cells that are its operands.
 #[derive(Clone, Copy)]

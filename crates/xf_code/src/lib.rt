@@ -1,7 +1,7 @@
 //! The code of a method with homes in place of its locals, as symbols (Leroy 2002, section 4): what a verifier on the card
 //! accepts, and what does as the method did.
 //!
-//! The code appends exactly the items that `xf_emission` says, by the plan of `xf_plan`.
+//! The code appends exactly the items that `xf_emission` says, by the plan of `xf_homes`.
 #![tactic(auto)]
 
 mod body;

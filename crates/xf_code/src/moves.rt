@@ -1,12 +1,11 @@
 ghost use Rattle.std.specs.Prelude.{◌≡◌, ◌<◌, ◌^◌, pos, ◌++◌, ◌∷◌, [], OnOk, map, reverse};
-ghost use Rattle.xf_plan.specs.Subject.{source};
+ghost use Rattle.xf_homes.specs.PlannedMethod.{source};
 ghost use Rattle.xf_emission.specs.Move.{with_byte, load_op, store_op, load, store, copy, loads, spill};
 
 use jc_base::Ty;
 use jc_decode::{Insn, Item};
 use std::alloc::AllocError;
-use xf_homes::Home;
-use xf_plan::Plan;
+use xf_homes::{Home, Plan};
 
 /// An instruction of two bytes, with an operand.
 pub fn with_byte(op: u8, x: u8) -> Insn

@@ -4,15 +4,15 @@ ghost use Rattle.jc_flow.specs.Infer.{AreDerived};
 ghost use Rattle.jc_rules.specs.Typing.{state_at};
 ghost use Rattle.xf_homes.specs.Answer.{IsTypingOf};
 ghost use Rattle.xf_homes.specs.Order.{AreHomes, register_sum};
-ghost use Rattle.xf_plan.specs.Subject.{source};
+ghost use Rattle.xf_homes.specs.PlannedMethod.{source};
 ghost use Rattle.jc_decode.specs.Decoding.{AreBytes};
 ghost use Rattle.jc_decode.specs.Symbols.{IsItem, IsRange, plain_size};
 ghost use Rattle.xf_emission.specs.Emission.{IsPlainSize, AreSymbolsOf, items, ranges, rewritten};
 ghost use Rattle.xf_code.specs.Known.{IsSubject};
 ghost use Rattle.xf_emission.specs.Live.{KeepsLive};
 ghost use Rattle.xf_emission.specs.Numbers.{HasNumbers};
-ghost use Rattle.xf_typing.specs.Typed.{HasTypingByHomes};
-ghost use Rattle.xf_groups.specs.Matching.{MatchesMethod};
+ghost use Rattle.law_rewritten_typing.specs.Typed.{HasTypingByHomes};
+ghost use Rattle.law_groups.specs.Matching.{MatchesMethod};
 
 use crate::edge::{EdgeScratch, copies};
 use crate::group::groups;
@@ -24,12 +24,11 @@ use jc_base::World;
 use jc_control::{ControlEnd, control_flow, flaws_decide, instructions_are_placed};
 use jc_decode::{Item, Sequence, Symbols, instructions_are_listed};
 use jc_rules::Typing;
+use law_groups::rewritten_matches;
+use law_rewritten_typing::rewritten_is_typed;
 use std::alloc::{AllocError, Global};
 use xf_emission::{Origin, items_suit, live_are_kept, plain_size_fits, ranges_stand};
-use xf_groups::rewritten_matches;
-use xf_homes::{HomeWalk, Homes};
-use xf_plan::Plan;
-use xf_typing::rewritten_is_typed;
+use xf_homes::{HomeWalk, Homes, Plan};
 
 /// Why a method is not rewritten.
 #[derive(Clone, Copy)]

@@ -1,7 +1,7 @@
 ghost use Rattle.std.specs.Prelude.{◌≡◌, ◌++◌, OnOk, flat_map};
 ghost use Rattle.jc_decode.specs.Listing.{listing};
-ghost use Rattle.xf_plan.specs.Plan.{operation};
-ghost use Rattle.xf_plan.specs.Subject.{source};
+ghost use Rattle.xf_homes.specs.Plan.{operation};
+ghost use Rattle.xf_homes.specs.PlannedMethod.{source};
 ghost use Rattle.xf_emission.specs.Emission.{stubs, stubs_by, stubs_done};
 ghost use Rattle.xf_emission.specs.Jump.{AreLed};
 ghost use Rattle.xf_code.specs.Known.{IsInstruction, IsSubject};
@@ -11,8 +11,7 @@ use crate::jump::{Fork, put_stubs};
 use jc_decode::{Instructions, Item, Placed};
 use jc_ops::Operation;
 use std::alloc::{AllocError, Global};
-use xf_homes::operands;
-use xf_plan::Plan;
+use xf_homes::{Plan, operands};
 
 fn stubs_by(
     alloc: Global,

@@ -20,8 +20,8 @@ use Rattle.jc_rules.specs.Demand.{Frame}
 use Rattle.xf_homes.specs.declared.home.Home.{Home}
 use Rattle.xf_homes.specs.Home.{register_count}
 use Rattle.xf_homes.specs.Walk.{has, same_home, operands_of}
-use Rattle.xf_plan.specs.Source.{Source}
-use Rattle.xf_plan.specs.Plan.{stack_homes, needed, local, is_leader, operation}
+use Rattle.xf_homes.specs.Source.{Source}
+use Rattle.xf_homes.specs.Plan.{stack_homes, needed, local, is_leader, operation}
 use Rattle.xf_emission.specs.declared.origin.Origin.{Origin}
 use Rattle.xf_emission.specs.declared.origin.Origin.TheVariants.{After, Entry}
 use Rattle.xf_emission.specs.Move.{store, copy, loads, spill}

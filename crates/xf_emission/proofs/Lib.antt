@@ -4,13 +4,13 @@ pub mod Rises
 pub mod TwoBytes
 pub mod Stubs
 pub mod Once
-pub mod Standing
-pub mod Landing
+pub mod GroupPlaces
+pub mod StubPlaces
 pub mod Ranged
 pub mod Items
 pub mod RowByRow
 pub mod Forms
 pub mod Suited
-pub mod Laying
+pub mod LaidItems
 pub mod Fewer
 pub mod PlainSizes

@@ -9,8 +9,8 @@ use Rattle.jc_control.specs.WellFormed.{IsBoundary, IsHandlerOf}
 use Rattle.jc_control.specs.Control.{IsReached, IsLive}
 use Rattle.jc_decode.specs.Laws.{AreListed, InstructionsAreListed}
 use Rattle.jc_rules.specs.Demand.{Frame}
-use Rattle.xf_plan.specs.Source.{Source}
-use Rattle.xf_plan.specs.Plan.{first_of, first_reached}
+use Rattle.xf_homes.specs.Source.{Source}
+use Rattle.xf_homes.specs.Plan.{first_of, first_reached}
 use Rattle.xf_emission.specs.Emission.{is_live, range, ranges_from, ranges}
 use Rattle.xf_emission.specs.Laws.{HasFrames, LiveAreKept}
 use Rattle.xf_emission.specs.Live.{KeepsLive, none_left, live_kept, dead_left}

@@ -42,8 +42,8 @@ use Rattle.xf_homes.specs.Order.{register_sum}
 use Rattle.xf_homes.specs.Value.{type_width as home_width, value_in_cells}
 use Rattle.xf_homes.specs.Walk.{operands_of, register_from, same_home, has}
 use Rattle.xf_homes.proofs.Events.{homes-equal}
-use Rattle.xf_plan.specs.Source.{Source}
-use Rattle.xf_plan.specs.Plan.{register, local, needed, stack_homes, cells_from, depth, home_of, with_home_of, stack_of, is_leader, operation}
+use Rattle.xf_homes.specs.Source.{Source}
+use Rattle.xf_homes.specs.Plan.{register, local, needed, stack_homes, cells_from, depth, home_of, with_home_of, stack_of, is_leader, operation}
 use Rattle.xf_emission.specs.declared.origin.Origin.{Origin}
 use Rattle.xf_emission.specs.declared.origin.Origin.TheVariants.{Start, After, Entry}
 use Rattle.xf_emission.specs.Move.{with_byte, load_op, store_op, load, store, copy, loads, spill}

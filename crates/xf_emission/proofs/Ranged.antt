@@ -14,8 +14,8 @@ use Rattle.jc_decode.specs.Symbols.{place_of, IsOnce, IsRange}
 use Rattle.jc_control.specs.WellFormed.{IsPlace, IsBoundary, IsHandlerOf, HasInstruction}
 use Rattle.jc_decode.specs.Laws.{InstructionsAreListed}
 use Rattle.jc_control.proofs.Elements.{here-in, contained-in, go-on}
-use Rattle.xf_plan.specs.Source.{Source}
-use Rattle.xf_plan.specs.Plan.{first_reached}
+use Rattle.xf_homes.specs.Source.{Source}
+use Rattle.xf_homes.specs.Plan.{first_reached}
 use Rattle.xf_emission.specs.Jump.{handler_label}
 use Rattle.xf_emission.specs.Emission.{is_live, range, ranges_from, ranges, items}
 use Rattle.xf_emission.specs.Laws.{IsCode, IsLabelOf, of_place, of_end, of_handler, RangesStand}

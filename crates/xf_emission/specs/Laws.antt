@@ -13,8 +13,8 @@ use Rattle.jc_control.specs.Control.{IsReached}
 use Rattle.jc_control.specs.WellFormed.{IsPlace, IsWellFormed, HasInstruction}
 use Rattle.xf_homes.specs.Order.{AreHomes, register_sum}
 use Rattle.xf_homes.specs.Walk.{operands_of}
-use Rattle.xf_plan.specs.Source.{Source}
-use Rattle.xf_plan.specs.Plan.{depth, operation}
+use Rattle.xf_homes.specs.Source.{Source}
+use Rattle.xf_homes.specs.Plan.{depth, operation}
 use Rattle.xf_emission.specs.Jump.{handler_label, place, stub, stub_label, branch_copies}
 use Rattle.xf_emission.specs.Group.{group}
 use Rattle.xf_emission.specs.Emission.{catching_stub, is_live, items, ranges}

@@ -1,7 +1,7 @@
 //! What stands for a method in rewritten code (Leroy 2002, section 4): its items, said instruction by instruction and edge by
 //! edge, in nine forms, and what they come to as a whole. What makes them is `xf_code`.
 //!
-//! It stands on the plan of `xf_plan`.
+//! It stands on the plan of `xf_homes`.
 #![tactic(auto)]
 
 mod laws;

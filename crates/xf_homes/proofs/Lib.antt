@@ -10,3 +10,4 @@ pub mod Answered
 pub mod Serving
 pub mod OneList
 pub mod Needed
+pub mod PlanSteps

@@ -6,3 +6,6 @@ pub mod Walk
 pub mod Asked
 pub mod Subject
 pub mod Laws
+pub mod Source
+pub mod Plan
+pub mod PlannedMethod

@@ -1,8 +1,9 @@
 //! The homes of a method: registers of their own for each value of one type that a local or a cell of the stack has to
-//! keep (Leroy 2002, section 4.1), by the method's least dataflow typing.
+//! keep (Leroy 2002, section 4.1), by the method's least dataflow typing; and the plan that its rewritten code goes by.
 //!
 //! Which pairs of a slot and a type are homes, and in which order they get their registers, is said by place, slot and
-//! type; the walk over the code finds them.
+//! type; the walk over the code finds them. The plan looks up, at each place, the homes of the locals and of the cells
+//! of the stack, and the homes in which each local has to stand there.
 //! It stands on the places of `jc_control`, the rules of `jc_rules` and the typings of `jc_flow`.
 #![tactic(auto)]
 
@@ -11,6 +12,7 @@ mod finding;
 mod found;
 mod home;
 mod laws;
+mod plan;
 mod value;
 mod walk;
 
@@ -18,5 +20,6 @@ pub use finding::{HomeEnd, homes};
 pub use found::Homes;
 pub use home::Home;
 pub use laws::{homes_are_one, homes_serve, needed_are_kept};
+pub use plan::{Plan, home_of};
 pub use value::{value_at, value_of};
 pub use walk::{HomeWalk, has, operands};

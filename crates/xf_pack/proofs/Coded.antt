@@ -22,12 +22,12 @@ use Rattle.xf_code.specs.declared.rewriting.RewriteEnd.TheVariants.{StackLimit, 
 use Rattle.xf_emission.specs.Emission.{AreSymbolsOf}
 use Rattle.xf_emission.specs.Live.{KeepsLive}
 use Rattle.xf_emission.specs.Numbers.{HasNumbers}
-use Rattle.xf_landed.specs.Laws.{LaidIsTyped}
+use Rattle.law_laid.specs.Laws.{LaidIsTyped}
 use Rattle.xf_layout.specs.declared.symbols.LayEnd.{LayEnd}
 use Rattle.xf_layout.specs.declared.symbols.LayEnd.TheVariants.{MethodLong, Memory as NoBytes}
 use Rattle.xf_layout.specs.Shortest.{ReachesTooFar, StandsShortest}
-use Rattle.xf_typing.specs.Typed.{HasTypingByHomes}
-use Rattle.xf_world.specs.Laid.{IsLaidFor}
+use Rattle.law_rewritten_typing.specs.Typed.{HasTypingByHomes}
+use Rattle.law_transform.specs.Laid.{IsLaidFor}
 use Rattle.xf_pack.specs.declared.end.MethodLimit.TheVariants as limits
 use Rattle.xf_pack.specs.Limits.{HasHomes}
 use Rattle.xf_pack.specs.Passes.{IsRewrittenTo, FitsMethod, IsTypedBy}

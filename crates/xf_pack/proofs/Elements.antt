@@ -9,8 +9,8 @@ use Rattle.jc_base.proofs.Lists.{IsSomeAnd-some}
 use Rattle.jc_decode.specs.declared.symbols.Laid.{Laid}
 use Rattle.jc_decode.proofs.Elements.{drop-here}
 use Rattle.jc_link.specs.World.{IsLinked}
-use Rattle.jc_rewritten.specs.Last.{and_last}
-use Rattle.xf_world.specs.Laid.{AreLaidElements, AreLaidOf}
+use Rattle.law_relink.specs.Last.{and_last}
+use Rattle.law_transform.specs.Laid.{AreLaidElements, AreLaidOf}
 use Rattle.xf_pack.specs.Passes.{BeginsLast, EachFrom, IsLaidAt, IsLaidWell}
 use Rattle.xf_pack.proofs.OwnMethods.{own_of, earlier_of, parts, before, last, first-is, own-is}
 

@@ -26,16 +26,16 @@ use Rattle.jc_ops.specs.declared.operation.Operation.TheVariants as ops
 use Rattle.jc_rules.specs.Demand.{Frame}
 use Rattle.jc_rules.specs.Flow.{At, FlowTyping, IsFollowed}
 use Rattle.xf_homes.specs.declared.home.Home.{Home}
-use Rattle.xf_plan.specs.Source.{Source}
-use Rattle.xf_plan.specs.Plan.{is_leader, operation}
+use Rattle.xf_homes.specs.Source.{Source}
+use Rattle.xf_homes.specs.Plan.{is_leader, operation}
 use Rattle.xf_emission.specs.declared.origin.Origin.TheVariants.{Start}
 use Rattle.xf_emission.specs.Move.{copy, loads}
 use Rattle.xf_emission.specs.Edge.{copies}
 use Rattle.xf_emission.specs.Group.{body, done, entrance, fallen, group, group_by, pop_item}
 use Rattle.xf_emission.specs.Emission.{AreSymbolsOf, catching_stubs, items, rewritten, stubs}
-use Rattle.xf_typing.proofs.Typings.{count-steps}
-use Rattle.xf_typing.proofs.Walks.{count, count-append}
-use Rattle.xf_typing.proofs.Numbers.{right-some, body-some}
+use Rattle.law_rewritten_typing.proofs.Typings.{count-steps}
+use Rattle.law_rewritten_typing.proofs.Walks.{count, count-append}
+use Rattle.law_rewritten_typing.proofs.Numbers.{right-some, body-some}
 
 -- of two lists one after the other
 first-counts : (xs ys : List Item) → 0 < count xs → 0 < count (xs ++ ys)

@@ -10,7 +10,7 @@ use Rattle.cap_package.specs.StandsFor.{StandsFor}
 use Rattle.cap_package.proofs.StaticsKnown.{both_empty}
 use Rattle.jc_resolve.proofs.Faultless.{faultless}
 use Rattle.jc_resolve.proofs.OwnedHandlers.{entry_numbered}
-use Rattle.cap_rewritten.proofs.Handlers.{one_owner}
+use Rattle.law_package.proofs.Handlers.{one_owner}
 use Rattle.jc_base.proofs.Lists.{slice_get-some}
 
 -- how many entries of a table of so many a method has, and how many several methods have

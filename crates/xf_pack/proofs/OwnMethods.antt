@@ -15,7 +15,7 @@ use Rattle.jc_resolve.specs.NamedMethods.{named_method, named_methods}
 use Rattle.jc_resolve.specs.Numbering.{NumberedMethod, numbered_method, methods_of_class, methods_of_classes, methods_after, numbered_methods}
 use Rattle.jc_resolve.proofs.NumberedLaws.{IsDescribed, all-described}
 use Rattle.jc_link.specs.World.{IsLinked}
-use Rattle.jc_rewritten.specs.Last.{and_last}
+use Rattle.law_relink.specs.Last.{and_last}
 use Rattle.xf_pack.specs.Passes.{BeginsLast, HasLast}
 
 -- ---- lists

@@ -23,7 +23,7 @@ use Rattle.jc_flow.specs.Infer.{LacksTyping}
 use Rattle.jc_rules.specs.Demand.{Frame}
 use Rattle.jc_rules.specs.Flow.{HasFlowTyping}
 use Rattle.jc_rules.specs.Typing.{state_at}
-use Rattle.xf_world.specs.Laid.{HasLaidCode}
+use Rattle.law_transform.specs.Laid.{HasLaidCode}
 use Rattle.xf_pack.specs.declared.end.MethodLimit.{MethodLimit}
 use Rattle.xf_pack.specs.declared.unlaid.LayingEnd.{LayingEnd}
 use Rattle.xf_pack.specs.declared.unlaid.LayingEnd.TheVariants as laying

@@ -25,9 +25,9 @@ use Rattle.xf_homes.specs.Order.{register_sum}
 use Rattle.xf_emission.specs.Emission.{AreSymbolsOf}
 use Rattle.xf_emission.specs.Live.{KeepsLive, none_left, live_kept, dead_left}
 use Rattle.xf_emission.specs.Numbers.{HasNumbers}
-use Rattle.xf_landed.specs.Laid.{HasLaid, catching}
-use Rattle.xf_landed.specs.Laws.{LaidIsTyped}
-use Rattle.xf_typing.specs.Typed.{HasTypingByHomes}
+use Rattle.law_laid.specs.Laid.{HasLaid, catching}
+use Rattle.law_laid.specs.Laws.{LaidIsTyped}
+use Rattle.law_rewritten_typing.specs.Typed.{HasTypingByHomes}
 use Rattle.xf_pack.specs.Passes.{FitsMethod}
 use Rattle.xf_pack.proofs.Filled.{laid-filled}
 

@@ -8,7 +8,7 @@ use Rattle.cap_method.specs.MethodFormat.{Header}
 use Rattle.cap_package.specs.HeaderChecks.{header_in, is_abstract}
 use Rattle.cap_package.specs.PackageRecord.{PackageRecord, names_interface, handlers_of}
 use Rattle.cap_package.specs.StandsFor.{StandsFor}
-use Rattle.cap_rewritten.specs.Laying.{IsFor, IsCodeFor}
+use Rattle.law_package.specs.Laying.{IsFor, IsCodeFor}
 use Rattle.cap_write.specs.Condition.{AreElements, IsElement, MayBeLaid, handler_sum, methods_for, no_method}
 use Rattle.first_fault.specs.First.{AllEmpty}
 use Rattle.jc_base.specs.declared.record.MethodRec.{MethodRec}
@@ -25,7 +25,7 @@ use Rattle.jc_resolve.specs.WorldTypes.{declared_signature}
 use Rattle.jc_resolve.proofs.Faultless.{IsOneOf}
 use Rattle.jc_resolve.proofs.MethodFacts.{IsPlaced, is-placed}
 use Rattle.jc_resolve.proofs.NumberedLaws.{from-any, from-class}
-use Rattle.jc_rewritten.specs.Last.{and_last}
+use Rattle.law_relink.specs.Last.{and_last}
 use Rattle.xf_pack.specs.Passes.{BeginsLast, EachFrom, IsLaidAt, IsLaidWell, FitsMethod}
 use Rattle.xf_pack.proofs.Elements.{AreWell, own-well}
 use Rattle.xf_pack.proofs.Handlers.{entry_count, entry_sum, entries-within}

@@ -17,9 +17,9 @@ use Rattle.jc_link.specs.World.{IsLinked}
 use Rattle.jc_resolve.specs.declared.fault.LinkFault.{LinkFault}
 use Rattle.jc_resolve.specs.declared.fault.LinkFault.TheVariants.{TooManyPackages}
 use Rattle.jc_resolve.proofs.Faultless.{IsOneOf}
-use Rattle.jc_rewritten.specs.Last.{and_last}
-use Rattle.xf_alike.specs.Laws.{LaidEndAlike}
-use Rattle.xf_world.specs.Laws.{LaidIsAccepted}
+use Rattle.law_relink.specs.Last.{and_last}
+use Rattle.law_transform.specs.LikeEndings.{LaidEndAlike}
+use Rattle.law_transform.specs.AcceptedWorld.{LaidIsAccepted}
 use Rattle.xf_pack.specs.declared.end.TransformEnd.{TransformEnd}
 use Rattle.xf_pack.specs.declared.end.TransformEnd.TheVariants.{Link, Library, Typing, Limit, PartLong, Memory}
 use Rattle.xf_pack.specs.Ends.{AreAcceptedLibraries, IsPartLong, IsTypedLast, TellsLinked, TellsOf, TellsTransform}

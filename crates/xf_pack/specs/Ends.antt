@@ -16,10 +16,10 @@ use Rattle.jc_flow.specs.declared.end.FlowEnd.TheVariants as flow
 use Rattle.jc_flow.specs.Infer.{TellsEnd}
 use Rattle.jc_link.specs.Fault.{link_place}
 use Rattle.jc_link.specs.World.{IsLinked, conditions}
-use Rattle.jc_rewritten.specs.Last.{and_last}
+use Rattle.law_relink.specs.Last.{and_last}
 use Rattle.jc_rules.specs.Demand.{Frame}
 use Rattle.jc_rules.specs.Flow.{HasFlowTyping}
-use Rattle.xf_world.specs.Laid.{AreLaidOf, HasLaidCode}
+use Rattle.law_transform.specs.Laid.{AreLaidOf, HasLaidCode}
 use Rattle.xf_pack.specs.declared.end.MethodLimit.{MethodLimit}
 use Rattle.xf_pack.specs.declared.end.TransformEnd.{TransformEnd}
 use Rattle.xf_pack.specs.declared.end.TransformEnd.TheVariants.{Link, Library, Typing, Limit, PartLong, Memory}

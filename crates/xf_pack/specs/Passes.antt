@@ -16,8 +16,8 @@ use Rattle.xf_emission.specs.Numbers.{HasNumbers}
 use Rattle.xf_homes.specs.declared.home.Home.{Home}
 use Rattle.xf_homes.specs.Answer.{IsTypingOf}
 use Rattle.xf_homes.specs.Order.{AreHomes, register_sum}
-use Rattle.xf_typing.specs.Typed.{HasTypingByHomes}
-use Rattle.xf_world.specs.Laid.{IsLaidElement}
+use Rattle.law_rewritten_typing.specs.Typed.{HasTypingByHomes}
+use Rattle.law_transform.specs.Laid.{IsLaidElement}
 
 -- ---- the methods of the last package
 

@@ -3,15 +3,15 @@ use Rattle.std.specs.Prelude.{◌≡◌, ℕ, List, Option}
 use Rattle.cap_package.specs.PackageRecord.{PackageRecord}
 use Rattle.cap_package.specs.Parts.{Lent}
 use Rattle.cap_package.specs.StandsFor.{StandsFor}
-use Rattle.cap_rewritten.specs.Rewritten.{IsRewritten}
+use Rattle.law_package.specs.Rewritten.{IsRewritten}
 use Rattle.cap_write.specs.WrittenPackage.{IsWritten}
 use Rattle.jc_base.specs.World.{Linked}
 use Rattle.jc_decode.specs.declared.symbols.Laid.{Laid}
 use Rattle.jc_link.specs.World.{IsLinked}
-use Rattle.jc_rewritten.specs.Last.{and_last}
-use Rattle.vm_alike.specs.Ends.{EndsAlike}
-use Rattle.xf_world.specs.Laid.{AreLaidOf}
-use Rattle.xf_world.specs.Laws.{IsWorldAnew}
+use Rattle.law_relink.specs.Last.{and_last}
+use Rattle.law_alike.specs.Ends.{EndsAlike}
+use Rattle.law_transform.specs.Laid.{AreLaidOf}
+use Rattle.law_transform.specs.AcceptedWorld.{IsWorldAnew}
 use Rattle.xf_pack.specs.Ends.{AreAcceptedLibraries, IsTypedLast}
 
 -- the libraries are accepted, and the last package has its typings. Its methods are written anew with what is laid

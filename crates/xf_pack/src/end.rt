@@ -1,4 +1,4 @@
-use card_index::CardFault;
+use card_verify::CardFault;
 use jc_flow::FlowEnd;
 use jc_link::LinkFault;
 

@@ -4,7 +4,7 @@ ghost use Rattle.jc_control.specs.Method.{IsMethodOf, method_in};
 ghost use Rattle.jc_decode.specs.Symbols.{IsRange, plain_size};
 ghost use Rattle.jc_rules.specs.Typing.{state_at};
 ghost use Rattle.xf_homes.specs.Order.{AreHomes, register_sum};
-ghost use Rattle.xf_world.specs.Laid.{IsLaidFor};
+ghost use Rattle.law_transform.specs.Laid.{IsLaidFor};
 ghost use Rattle.xf_pack.specs.Ends.{AreAcceptedLibraries, IsTypedLast, TellsOf};
 ghost use Rattle.xf_pack.specs.Passes.{BeginsLast, EachFrom, IsLaidAt, IsRewrittenTo, FitsMethod, IsTypedBy, IsTypingAt};
 ghost use Rattle.xf_pack.specs.Unlaid.{TellsUnlaid};
@@ -15,10 +15,10 @@ use cap_bytes::View;
 use jc_base::World;
 use jc_decode::{Laid, Symbols, instructions_are_listed};
 use jc_rules::Typing;
+use law_laid::laid_is_typed;
 use std::alloc::Global;
 use xf_code::rewrite;
 use xf_homes::{Homes, homes};
-use xf_landed::laid_is_typed;
 use xf_layout::lay;
 
 /// What is laid for each method of the last package, by these typings, in the order of their numbers, and None for one without code.

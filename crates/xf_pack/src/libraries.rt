@@ -4,7 +4,7 @@ ghost use Rattle.xf_pack.specs.Ends.{AreAcceptedLibraries, TellsOf};
 ghost use Rattle.xf_pack.specs.Passes.{BeginsLast};
 
 use crate::end::TransformEnd;
-use card_index::CardRoom;
+use card_verify::CardRoom;
 use jc_base::World;
 
 /// Verifies each method with code of the libraries as a card does, in the order of their numbers.

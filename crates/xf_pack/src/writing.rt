@@ -9,9 +9,8 @@ use cap_package::{OwnedParts, Packages};
 use cap_write::{WriteEnd, write_package};
 use jc_base::World;
 use jc_decode::Laid;
+use law_transform::{laid_end_alike, laid_is_accepted};
 use std::alloc::Global;
-use xf_alike::laid_end_alike;
-use xf_world::laid_is_accepted;
 
 /// The parts of the last package with what is laid for its methods.
 pub(crate) fn write_last(

@@ -38,8 +38,8 @@ use Rattle.vm_step.specs.Numbers.{handle_at}
 use Rattle.vm_step.specs.Raising.{ended, running}
 use Rattle.vm_step.specs.Step.{Steps}
 use Rattle.xf_emission.specs.Move.{with_byte}
-use Rattle.xf_groups.specs.Laid.{AreLaidIn}
-use Rattle.xf_groups.specs.Beside.{IsTypedAt}
+use Rattle.law_groups.specs.Laid.{AreLaidIn}
+use Rattle.law_groups.specs.Beside.{IsTypedAt}
 use Rattle.xf_tests.specs.Refused.{MissingCopyIsRefused, coded, method_of, uncopied_body, widening, widening_code, with_opcode, world_of}
 use Rattle.xf_tests.proofs.Unlike.{Ends, Returns, alone, ends_after, ends_now, returns_after, returns_now, unlike}
 use Rattle.xf_tests.proofs.Refusing.{does, frame, returned-number}

@@ -23,11 +23,11 @@ use Rattle.vm_step.specs.Settled.{given_to}
 use Rattle.vm_step.specs.Step.{Steps}
 use Rattle.vm_step.specs.Laws.{StepsAreOne}
 use Rattle.vm_step.proofs.Running.{steps-one}
-use Rattle.xf_plan.specs.Source.{Source}
-use Rattle.xf_groups.specs.Beside.{AreEqualBut, IsAtGroup, IsTypedAt}
-use Rattle.xf_groups.specs.Comes.{AreAtGroup, ComesToGroup, ComesWithin, GroupComes, GroupRuns, group_calls, group_ends, group_gives, group_leaves, group_raises, group_stays, group_throws}
-use Rattle.xf_groups.specs.Matching.{RunsBeside}
-use Rattle.xf_groups.proofs.Branching.{same-state}
+use Rattle.xf_homes.specs.Source.{Source}
+use Rattle.law_groups.specs.Beside.{AreEqualBut, IsAtGroup, IsTypedAt}
+use Rattle.law_groups.specs.Comes.{AreAtGroup, ComesToGroup, ComesWithin, GroupComes, GroupRuns, group_calls, group_ends, group_gives, group_leaves, group_raises, group_stays, group_throws}
+use Rattle.law_groups.specs.Matching.{RunsBeside}
+use Rattle.law_groups.proofs.Branching.{same-state}
 
 -- one method runs
 abbrev pub alone : Frame Cell → List (Object Cell) → List Cell → State Cell

@@ -31,8 +31,8 @@ use Rattle.vm_step.specs.Methods.{instruction_at}
 use Rattle.vm_step.specs.Numbers.{short_at}
 use Rattle.vm_step.specs.Raising.{ended, running}
 use Rattle.vm_step.specs.Step.{Steps}
-use Rattle.xf_groups.specs.Laid.{AreLaidIn}
-use Rattle.xf_groups.specs.Beside.{IsTypedAt}
+use Rattle.law_groups.specs.Laid.{AreLaidIn}
+use Rattle.law_groups.specs.Beside.{IsTypedAt}
 use Rattle.xf_tests.specs.Refused.{ZeroIsRefused, coded, five, method_of, with_opcode, world_of, zero_body}
 use Rattle.xf_tests.proofs.Unlike.{Ends, Returns, alone, ends_after, ends_now, returns_after, returns_now, unlike}
 use Rattle.xf_tests.proofs.Refusing.{does, frame, number, returned-number}

@@ -12,11 +12,11 @@ use Rattle.vm_step.specs.declared.ending.Ending.TheVariants.{Faulted, Plain as E
 use Rattle.vm_step.specs.declared.ending.Fault.TheVariants.{StackFault}
 use Rattle.vm_step.specs.declared.ending.Plain.TheVariants.{HeapFull}
 use Rattle.vm_step.specs.Raising.{ended}
-use Rattle.xf_plan.specs.Source.{Source}
+use Rattle.xf_homes.specs.Source.{Source}
 use Rattle.xf_emission.specs.Move.{with_byte}
-use Rattle.xf_groups.specs.Laid.{body_at, count_of, rename, steps_of}
-use Rattle.xf_groups.specs.Beside.{AreEqualBut, MovesTop, SameUnder, StaysTyped}
-use Rattle.xf_groups.specs.Comes.{GroupComes, group_ends, without_arguments}
+use Rattle.law_groups.specs.Laid.{body_at, count_of, rename, steps_of}
+use Rattle.law_groups.specs.Beside.{AreEqualBut, MovesTop, SameUnder, StaysTyped}
+use Rattle.law_groups.specs.Comes.{GroupComes, group_ends, without_arguments}
 
 -- ---- items
 

@@ -8,9 +8,9 @@ use Rattle.jc_decode.specs.declared.insn.Insn.{Insn}
 use Rattle.jc_decode.specs.declared.symbols.Item.TheVariants.{Branch, Label, Plain}
 use Rattle.jc_decode.specs.declared.symbols.Symbols.{Symbols}
 use Rattle.jc_rules.specs.Demand.{Frame}
-use Rattle.xf_plan.specs.Source.{Source}
+use Rattle.xf_homes.specs.Source.{Source}
 use Rattle.xf_emission.specs.Move.{with_byte}
-use Rattle.xf_groups.specs.Matching.{MatchesFrames}
+use Rattle.law_groups.specs.Matching.{MatchesFrames}
 use Rattle.flow_tests.specs.OneMethod.{classes}
 
 -- ---- a world of one method

@@ -1,6 +1,6 @@
 use Rattle.std.proofs.Common.{◌≡◌, ◌++◌, ap, ◌∙◌}
-use Rattle.cap_locations.specs.Component.{component_bytes}
-use Rattle.cap_locations.specs.Distances.{distances}
+use Rattle.cap_laying.specs.Component.{component_bytes}
+use Rattle.cap_laying.specs.Distances.{distances}
 use Rattle.cap_laying.specs.References.{block_catches, method_indices, references_info}
 use Rattle.cap_laying.proofs.ReferenceLaws.{told_first, told_both}
 use Rattle.cap_laying.proofs.references.references.Goals as goal

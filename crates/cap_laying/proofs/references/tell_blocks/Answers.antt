@@ -1,9 +1,9 @@
 use Rattle.std.proofs.Common.{◌≡◌, ◌≤◌, ◌<◌, ◌+◌, ◌*◌, ◌++◌, ◌∷◌, drop, length, arith, ap, sym, subst, ◌∙◌, rules}
 use Rattle.std.specs.Prelude.{slice_index_or}
 use Rattle.std.proofs.lemmas.List.{drop_more}
-use Rattle.cap_locations.specs.Catches.{catch_places}
-use Rattle.cap_locations.specs.Distances.{distances, last_of}
-use Rattle.cap_locations.proofs.Tellings.{told_more, last_more}
+use Rattle.cap_laying.specs.Catches.{catch_places}
+use Rattle.cap_laying.specs.Distances.{distances, last_of}
+use Rattle.cap_laying.proofs.Tellings.{told_more, last_more}
 use Rattle.cap_laying.specs.Blocks.{total_handlers}
 use Rattle.cap_laying.specs.Member.{handlers_of}
 use Rattle.cap_laying.specs.References.{block_catches}

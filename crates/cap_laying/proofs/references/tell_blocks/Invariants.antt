@@ -1,6 +1,6 @@
 use Rattle.std.proofs.Common.{◌≡◌, ◌≤◌, ◌+◌, ◌*◌, ◌++◌, drop}
-use Rattle.cap_locations.specs.Distances.{distances, last_of}
-use Rattle.cap_locations.specs.Telling.{IsFew}
+use Rattle.cap_laying.specs.Distances.{distances, last_of}
+use Rattle.cap_laying.specs.Telling.{IsFew}
 use Rattle.cap_laying.specs.Blocks.{total_handlers}
 use Rattle.cap_laying.specs.References.{block_catches}
 use Rattle.cap_laying.proofs.references.tell_blocks.Given as goal

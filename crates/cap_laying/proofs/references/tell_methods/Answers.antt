@@ -2,8 +2,8 @@ use Rattle.std.proofs.Common.{◌≡◌, ◌≤◌, ◌<◌, ◌+◌, ◌++◌, 
 use Rattle.std.specs.Prelude.{slice_index_or}
 use Rattle.std.proofs.lemmas.List.{drop_more}
 use Rattle.jc_decode.specs.PoolIndex.{bytes_of_index}
-use Rattle.cap_locations.specs.Distances.{distances, last_of}
-use Rattle.cap_locations.proofs.Tellings.{told_more, last_more}
+use Rattle.cap_laying.specs.Distances.{distances, last_of}
+use Rattle.cap_laying.proofs.Tellings.{told_more, last_more}
 use Rattle.cap_laying.specs.Member.{methods_end_from, size_if}
 use Rattle.cap_laying.specs.NewPlaces.{AreSmallBodies}
 use Rattle.cap_laying.specs.References.{indices_if, method_indices}

@@ -1,7 +1,7 @@
 use Rattle.std.proofs.Common.{◌≡◌, ◌≤◌, ◌++◌, drop}
 use Rattle.jc_decode.specs.PoolIndex.{bytes_of_index}
-use Rattle.cap_locations.specs.Distances.{distances, last_of}
-use Rattle.cap_locations.specs.Telling.{IsFew}
+use Rattle.cap_laying.specs.Distances.{distances, last_of}
+use Rattle.cap_laying.specs.Telling.{IsFew}
 use Rattle.cap_laying.specs.Member.{methods_end_from}
 use Rattle.cap_laying.specs.NewPlaces.{AreSmallBodies}
 use Rattle.cap_laying.specs.References.{method_indices}

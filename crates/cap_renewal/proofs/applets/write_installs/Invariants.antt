@@ -1,6 +1,6 @@
 use Rattle.cap_frame.specs.AppletFormat.{applet_info}
 use Rattle.cap_frame.specs.Applets.{applets_of, applets_left}
-use Rattle.cap_writing.specs.Edit.{patched_all}
+use Rattle.cap_bytes.specs.Edit.{patched_all}
 use Rattle.cap_renewal.specs.AppletEdits.{applet_edits, applet_width, applets_edits}
 use Rattle.cap_renewal.specs.NewMethods.{to}
 use Rattle.cap_renewal.proofs.Items.{IsRenewing}

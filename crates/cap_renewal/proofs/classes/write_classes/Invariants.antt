@@ -1,6 +1,6 @@
 use Rattle.std.proofs.Common.{◌≡◌, length}
 use Rattle.cap_class.specs.ClassPart.{records, classes_left}
-use Rattle.cap_writing.specs.Edit.{patched_all}
+use Rattle.cap_bytes.specs.Edit.{patched_all}
 use Rattle.cap_renewal.specs.ClassEdits.{classes_edits}
 use Rattle.cap_renewal.specs.NewMethods.{to}
 use Rattle.cap_renewal.specs.Rooms.{AllRooms}

@@ -1,6 +1,6 @@
 use Rattle.offset_set.specs.Bits.{holds}
 use Rattle.cap_desc.specs.Descriptors.{descriptor_seen}
-use Rattle.cap_writing.specs.Renewal.{Renews}
+use Rattle.cap_bytes.specs.Renewal.{Renews}
 use Rattle.cap_renewal.specs.DescriptorEdits.{descriptor_edits}
 use Rattle.cap_renewal.proofs.DescriptorItems.{descriptor_inside, descriptor_fit, descriptor_renewed}
 use Rattle.cap_renewal.proofs.descriptors.renew_descriptor.Goals as goal

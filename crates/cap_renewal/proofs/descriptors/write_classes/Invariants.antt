@@ -2,7 +2,7 @@ use Rattle.offset_set.specs.Bits.{holds}
 use Rattle.cap_desc.specs.DescriptorFormat.{class_descriptor_info}
 use Rattle.cap_desc.specs.Descriptors.{descriptor_seen}
 use Rattle.cap_desc.specs.ClassRecords.{described_left}
-use Rattle.cap_writing.specs.Edit.{patched_all}
+use Rattle.cap_bytes.specs.Edit.{patched_all}
 use Rattle.cap_renewal.specs.DescriptorEdits.{class_edits, class_width, descriptor_edits}
 use Rattle.cap_renewal.proofs.Items.{IsRenewing}
 use Rattle.cap_renewal.proofs.descriptors.write_classes.Given as goal

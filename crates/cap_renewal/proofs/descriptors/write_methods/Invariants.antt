@@ -1,6 +1,6 @@
 use Rattle.std.proofs.Common.{◌≡◌, ◌≤◌, ◌+◌, ◌*◌, length}
 use Rattle.cap_desc.specs.MemberLists.{methods_left}
-use Rattle.cap_writing.specs.Edit.{patched_all}
+use Rattle.cap_bytes.specs.Edit.{patched_all}
 use Rattle.cap_renewal.specs.DescriptorEdits.{methods_edits}
 use Rattle.cap_renewal.proofs.descriptors.write_methods.Given as goal
 

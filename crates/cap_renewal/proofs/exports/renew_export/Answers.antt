@@ -1,5 +1,5 @@
 use Rattle.cap_pool.specs.Export.{export_seen}
-use Rattle.cap_writing.specs.Renewal.{Renews}
+use Rattle.cap_bytes.specs.Renewal.{Renews}
 use Rattle.cap_renewal.specs.ExportEdits.{export_edits}
 use Rattle.cap_renewal.specs.NewMethods.{to}
 use Rattle.cap_renewal.proofs.News.{keeps_small}

@@ -2,7 +2,7 @@ use Rattle.std.proofs.Common.{◌≡◌, ◌+◌, ◌*◌, length, sym, ap, subs
 use Rattle.cap_bytes.specs.Table.{numbers}
 use Rattle.cap_pool.specs.ExportFormat.{class_export_info}
 use Rattle.cap_pool.specs.Export.{exported_class_seen, export_seen, exported_left}
-use Rattle.cap_writing.specs.Edit.{patched_all}
+use Rattle.cap_bytes.specs.Edit.{patched_all}
 use Rattle.cap_renewal.specs.Along.{table_edits}
 use Rattle.cap_renewal.specs.ExportEdits.{exported_edits, renewed_exported, exported_width, export_edits}
 use Rattle.cap_renewal.specs.NewMethods.{to}

@@ -1,6 +1,6 @@
 use Rattle.cap_pool.specs.ExportFormat.{class_export_info}
 use Rattle.cap_pool.specs.Export.{export_seen, exported_left}
-use Rattle.cap_writing.specs.Edit.{patched_all}
+use Rattle.cap_bytes.specs.Edit.{patched_all}
 use Rattle.cap_renewal.specs.ExportEdits.{exported_edits, exported_width, export_edits}
 use Rattle.cap_renewal.specs.NewMethods.{to}
 use Rattle.cap_renewal.proofs.Items.{IsRenewing}

@@ -1,5 +1,5 @@
 use Rattle.cap_pool.specs.Pool.{entries}
-use Rattle.cap_writing.specs.Renewal.{Renews}
+use Rattle.cap_bytes.specs.Renewal.{Renews}
 use Rattle.cap_renewal.specs.PoolEdits.{pool_edits}
 use Rattle.cap_renewal.specs.NewMethods.{to}
 use Rattle.cap_renewal.proofs.News.{keeps_small}

@@ -1,7 +1,7 @@
 use Rattle.std.proofs.Common.{◌≡◌, ◌+◌, refl, subst}
 use Rattle.cap_pool.specs.PoolFormat.{entry_info}
 use Rattle.cap_pool.specs.Pool.{entry_seen, entries, entries_left}
-use Rattle.cap_writing.specs.Edit.{patched_all}
+use Rattle.cap_bytes.specs.Edit.{patched_all}
 use Rattle.cap_renewal.specs.PoolEdits.{entry_edits, renewed_entry, entry_width, pool_edits}
 use Rattle.cap_renewal.specs.NewMethods.{to}
 use Rattle.cap_renewal.proofs.Items.{IsRenewing, IsNext, renewing_next, renewing_more}

@@ -1,6 +1,6 @@
 use Rattle.cap_pool.specs.PoolFormat.{entry_info}
 use Rattle.cap_pool.specs.Pool.{entries, entries_left}
-use Rattle.cap_writing.specs.Edit.{patched_all}
+use Rattle.cap_bytes.specs.Edit.{patched_all}
 use Rattle.cap_renewal.specs.PoolEdits.{entry_edits, entry_width, pool_edits}
 use Rattle.cap_renewal.specs.NewMethods.{to}
 use Rattle.cap_renewal.proofs.Items.{IsRenewing}

@@ -1,6 +1,6 @@
 use Rattle.std.proofs.Common.{◌≡◌, ◌≤◌, ◌+◌, ◌*◌, length}
 use Rattle.cap_bytes.specs.Table.{numbers}
-use Rattle.cap_writing.specs.Edit.{patched_all}
+use Rattle.cap_bytes.specs.Edit.{patched_all}
 use Rattle.cap_renewal.specs.Along.{table_edits}
 use Rattle.cap_renewal.specs.NewMethods.{to}
 use Rattle.cap_renewal.proofs.tables.renew_table.Given as goal

@@ -1,5 +1,5 @@
 use Rattle.std.proofs.Common.{◌≡◌, ◌≤◌, take, count_by}
-use Rattle.jc_indexes.specs.Indexes.{has_code}
+use Rattle.cap_index.specs.Indexes.{has_code}
 use Rattle.capcheck_core.proofs.carding.count_of_world.Given as goal
 
 abbrev pub invariant-methods : goal.invariant-methods

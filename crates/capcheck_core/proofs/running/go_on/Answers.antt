@@ -3,7 +3,7 @@ use Rattle.std.proofs.Common.{sym, subst}
 use Rattle.vm_store.specs.Cells.{tagged}
 use Rattle.vm_step.specs.Raising.{running}
 use Rattle.vm_step.specs.Start.{entry_state}
-use Rattle.vm_text.specs.Laws.{TextsAreAlike}
+use Rattle.vm_text.specs.LikeTexts.{TextsAreAlike}
 use Rattle.capcheck_core.specs.Run.{bounded_request}
 use Rattle.capcheck_core.proofs.Ran.{reached, lent_run, left, lent_in, written_in}
 use Rattle.capcheck_core.proofs.running.go_on.Goals as goal

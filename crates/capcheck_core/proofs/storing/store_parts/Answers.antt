@@ -1,7 +1,7 @@
 -- one store more, or the first that fails
 use Rattle.std.proofs.Common.{◌+◌, sym, subst, ◌∙◌, ap, ◌++◌, take, drop}
 use Rattle.std.proofs.lemmas.List.{take-append-drop}
-use Rattle.jc_indexes.proofs.Listing.{next-take}
+use Rattle.cap_index.proofs.Listing.{next-take}
 use Rattle.cap_package.specs.Parts.{Lent}
 use Rattle.cap_package.proofs.Given.{drop_here}
 use Rattle.capcheck_core.specs.Stores.{AreStored}

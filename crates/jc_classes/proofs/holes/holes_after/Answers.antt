@@ -1,13 +1,13 @@
 use Rattle.std.proofs.Common.{◌≡◌, ◌<◌, ◌∷◌, ◌++◌, refl, sym, ap, subst, ◌∙◌}
 use Rattle.std.specs.Prelude.{IfSome}
 use Rattle.jc_base.specs.Class.{list_of}
-use Rattle.jc_hierarchy.specs.Outline.{chain}
+use Rattle.jc_classes.specs.Outline.{chain}
 use Rattle.jc_resolve.specs.Fault.{link_place}
 use Rattle.first_fault.specs.Least.{least_from}
 use Rattle.jc_classes.specs.declared.layout.ClassLayout.{ClassLayout}
 use Rattle.jc_classes.specs.Layout.{class_layout}
 use Rattle.jc_classes.specs.Slots.{HasShortLists}
-use Rattle.jc_classes.specs.Conditions.{hole_fault, entries_from}
+use Rattle.jc_classes.specs.TableConditions.{hole_fault, entries_from}
 use Rattle.jc_classes.proofs.Folds.{layout_at, lists_short}
 use Rattle.jc_classes.proofs.Growths.{none_open}
 use Rattle.jc_classes.proofs.holes.holes_after.Goals as goal

@@ -1,5 +1,5 @@
 use Rattle.std.proofs.Common.{◌∙◌}
-use Rattle.jc_classes.specs.Conditions.{hole_fault, entries_in}
+use Rattle.jc_classes.specs.TableConditions.{hole_fault, entries_in}
 use Rattle.jc_classes.proofs.Folds.{least_next}
 use Rattle.jc_classes.proofs.holes.no_holes.Goals as goal
 

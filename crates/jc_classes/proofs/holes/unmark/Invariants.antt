@@ -1,6 +1,6 @@
 use Rattle.std.proofs.Common.{length}
 use Rattle.jc_base.specs.Class.{list_of}
-use Rattle.jc_hierarchy.specs.Outline.{chain}
+use Rattle.jc_classes.specs.Outline.{chain}
 use Rattle.jc_classes.proofs.Marks.{AreLeft}
 use Rattle.jc_classes.proofs.holes.unmark.Given as goal
 

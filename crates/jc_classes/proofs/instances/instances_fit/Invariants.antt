@@ -2,7 +2,7 @@ use Rattle.std.proofs.Common.{◌≡◌}
 use Rattle.std.specs.List.{range_with_len}
 use Rattle.jc_resolve.specs.Fault.{link_place}
 use Rattle.first_fault.specs.Least.{least_of}
-use Rattle.jc_classes.specs.Conditions.{long_fault}
+use Rattle.jc_classes.specs.TableConditions.{long_fault}
 use Rattle.jc_classes.proofs.instances.instances_fit.Given as goal
 
 abbrev pub invariant-classes : goal.invariant-classes

@@ -1,5 +1,5 @@
 use Rattle.std.proofs.Common.{length, sym, ◌∙◌}
-use Rattle.jc_classes.specs.Conditions.{Implementation}
+use Rattle.jc_classes.specs.TableConditions.{Implementation}
 use Rattle.jc_classes.proofs.Implementing.{fault_none, fault_some}
 use Rattle.jc_classes.proofs.interfaces.interface_fault.Goals as goal
 

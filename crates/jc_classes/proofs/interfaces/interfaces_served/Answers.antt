@@ -2,7 +2,7 @@ use Rattle.std.proofs.Common.{◌≡◌, ◌<◌, length, sym, ap, ◌∙◌, ar
 use Rattle.jc_resolve.specs.Fault.{link_place}
 use Rattle.first_fault.specs.Least.{least_from}
 use Rattle.jc_classes.specs.Layout.{public_entries}
-use Rattle.jc_classes.specs.Conditions.{interface_type_fault, implementations_in}
+use Rattle.jc_classes.specs.TableConditions.{interface_type_fault, implementations_in}
 use Rattle.jc_classes.proofs.Folds.{public_at, least_next}
 use Rattle.jc_classes.proofs.Implementing.{implementations_are}
 use Rattle.jc_classes.proofs.interfaces.interfaces_served.Goals as goal

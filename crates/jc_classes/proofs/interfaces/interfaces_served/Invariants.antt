@@ -3,7 +3,7 @@ use Rattle.std.specs.Prelude.{flat_map}
 use Rattle.std.specs.List.{range_with_len}
 use Rattle.jc_resolve.specs.Fault.{link_place}
 use Rattle.first_fault.specs.Least.{least_of}
-use Rattle.jc_classes.specs.Conditions.{interface_type_fault, implementations_in}
+use Rattle.jc_classes.specs.TableConditions.{interface_type_fault, implementations_in}
 use Rattle.jc_classes.proofs.interfaces.interfaces_served.Given as goal
 
 abbrev pub invariant-classes : goal.invariant-classes

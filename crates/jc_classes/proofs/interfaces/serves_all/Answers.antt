@@ -1,5 +1,5 @@
 use Rattle.std.proofs.Common.{sym, ◌∙◌}
-use Rattle.jc_classes.specs.Conditions.{serves}
+use Rattle.jc_classes.specs.TableConditions.{serves}
 use Rattle.jc_classes.proofs.Passing.{all_next}
 use Rattle.jc_classes.proofs.interfaces.serves_all.Goals as goal
 

@@ -1,6 +1,6 @@
 use Rattle.std.proofs.Common.{◌≡◌, ◌-◌, drop, length}
 use Rattle.std.specs.List.{list_all}
-use Rattle.jc_classes.specs.Conditions.{serves}
+use Rattle.jc_classes.specs.TableConditions.{serves}
 use Rattle.jc_classes.proofs.interfaces.serves_all.Given as goal
 
 abbrev pub invariant-methods : goal.invariant-methods

@@ -2,7 +2,7 @@ use Rattle.std.proofs.Common.{◌≡◌, drop, map}
 use Rattle.jc_base.specs.declared.record.Iface.{Iface}
 use Rattle.jc_resolve.specs.Fault.{link_place}
 use Rattle.first_fault.specs.Least.{least_from}
-use Rattle.jc_classes.specs.Conditions.{interface_type_fault}
+use Rattle.jc_classes.specs.TableConditions.{interface_type_fault}
 use Rattle.jc_classes.proofs.interfaces.unserved_in.Given as goal
 
 abbrev pub invariant-interfaces : goal.invariant-interfaces

@@ -1,6 +1,6 @@
 use Rattle.std.proofs.Common.{length, sym, ap, ◌∙◌, arith}
 use Rattle.std.specs.Option.{option_map}
-use Rattle.jc_classes.specs.Conditions.{layout_above}
+use Rattle.jc_classes.specs.TableConditions.{layout_above}
 use Rattle.jc_classes.specs.Entries.{overlaid}
 use Rattle.jc_classes.specs.Layout.{above_or_nothing, class_layout}
 use Rattle.jc_classes.proofs.Folds.{layout_short, public_is}

@@ -1,8 +1,8 @@
 use Rattle.std.proofs.Common.{length, sym, ap, ◌∙◌, arith, []}
 use Rattle.std.specs.Prelude.{if◌then◌else◌}
 use Rattle.std.specs.Option.{option_map}
-use Rattle.jc_hierarchy.specs.Outline.{parent_of}
-use Rattle.jc_classes.specs.Conditions.{layout_above}
+use Rattle.jc_classes.specs.Outline.{parent_of}
+use Rattle.jc_classes.specs.TableConditions.{layout_above}
 use Rattle.jc_classes.specs.Entries.{overlaid}
 use Rattle.jc_classes.specs.Layout.{above_or_nothing, at_home, class_layout}
 use Rattle.jc_classes.proofs.Folds.{layout_short, visible_is}

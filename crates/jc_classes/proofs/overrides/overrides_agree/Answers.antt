@@ -1,5 +1,5 @@
 use Rattle.std.proofs.Common.{◌∙◌}
-use Rattle.jc_classes.specs.Conditions.{override_fault, replacements_in}
+use Rattle.jc_classes.specs.TableConditions.{override_fault, replacements_in}
 use Rattle.jc_classes.proofs.Folds.{least_next}
 use Rattle.jc_classes.proofs.overrides.overrides_agree.Goals as goal
 

@@ -1,7 +1,7 @@
 use Rattle.std.proofs.Common.{◌≡◌, ◌+◌, drop}
 use Rattle.jc_resolve.specs.Fault.{link_place}
 use Rattle.first_fault.specs.Least.{least_from}
-use Rattle.jc_classes.specs.Conditions.{override_fault, replacements_from}
+use Rattle.jc_classes.specs.TableConditions.{override_fault, replacements_from}
 use Rattle.jc_classes.proofs.overrides.overrides_in.Given as goal
 
 abbrev pub invariant-tokens : goal.invariant-tokens

@@ -1,7 +1,7 @@
 use Rattle.std.proofs.Common.{◌≡◌, ◌<◌, ◌++◌, length}
 use Rattle.std.specs.Prelude.{IfSome}
 use Rattle.jc_base.specs.Class.{list_of}
-use Rattle.jc_hierarchy.specs.Outline.{chain}
+use Rattle.jc_classes.specs.Outline.{chain}
 use Rattle.jc_classes.proofs.slots.climb_from.Given as goal
 
 abbrev pub invariant-climb : goal.invariant-climb

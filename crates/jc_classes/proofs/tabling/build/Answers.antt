@@ -1,7 +1,7 @@
 use Rattle.std.proofs.Common.{◌≡◌, ◌<◌, ◌≤◌, length, refl, ◌∙◌, arith}
 use Rattle.jc_classes.specs.Tables.{records_from}
 use Rattle.jc_classes.proofs.Folds.{layout_at}
-use Rattle.jc_classes.proofs.Lines.{records_next}
+use Rattle.jc_classes.proofs.ClassLines.{records_next}
 use Rattle.jc_classes.proofs.Agreed.{layout_cells_short, least_of_records, table_classes}
 use Rattle.jc_classes.proofs.tabling.build.Goals as goal
 

@@ -9,7 +9,7 @@ use Rattle.jc_control.specs.WellFormed.{IsTargetPlace}
 use Rattle.jc_control.specs.declared.flaw.Flaw.TheVariants.{BadTarget}
 use Rattle.jc_control.specs.Scan.{LeadsToPlaces}
 use Rattle.jc_control.proofs.Elements.{at-next, go-on, contained-in, first-failing}
-use Rattle.jc_control.proofs.Listed.{next-within, next-end}
+use Rattle.jc_control.proofs.PlacesWithin.{next-within, next-end}
 use Rattle.jc_control.proofs.scan.check_targets.Goals as goal
 use Rattle.jc_base.proofs.Lists.{All-slice_get}
 

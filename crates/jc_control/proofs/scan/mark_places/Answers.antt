@@ -3,7 +3,7 @@ use Rattle.std.proofs.lemmas.List.{length-set}
 use Rattle.jc_decode.specs.Instructions.{rest_of}
 use Rattle.jc_decode.specs.Listing.{listing}
 use Rattle.jc_control.proofs.Elements.{at-next, go-on}
-use Rattle.jc_control.proofs.Listed.{next-inside}
+use Rattle.jc_control.proofs.PlacesWithin.{next-inside}
 use Rattle.jc_control.proofs.Marked.{marks-more}
 use Rattle.jc_control.proofs.scan.mark_places.Goals as goal
 

@@ -1,4 +1,4 @@
-use Rattle.jc_decode.proofs.Listed.{all-are-listed}
+use Rattle.jc_decode.proofs.InstructionLists.{all-are-listed}
 use Rattle.jc_decode.proofs.laws.instructions_are_listed.Goals as goal
 
 pub returns : goal.returns

@@ -1,7 +1,7 @@
 use Rattle.std.proofs.Common.{◌∙◌, ap}
 use Rattle.jc_resolve.specs.Named.{infos_of}
-use Rattle.jc_indexes.specs.Indexes.{indexes_of}
-use Rattle.jc_statics.specs.Arrays.{array_records}
+use Rattle.cap_index.specs.Indexes.{indexes_of}
+use Rattle.jc_link.specs.Arrays.{array_records}
 use Rattle.jc_link.proofs.Steps.{homes-known}
 use Rattle.jc_link.proofs.linking.take_lists.Goals as goal
 

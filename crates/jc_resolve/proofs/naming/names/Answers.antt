@@ -1,4 +1,4 @@
-use Rattle.jc_resolve.proofs.NamedTold.{answer_right, answer_apart}
+use Rattle.jc_resolve.proofs.NamesInPackages.{answer_right, answer_apart}
 use Rattle.jc_resolve.proofs.NamesTold.{names_told}
 use Rattle.jc_resolve.proofs.naming.names.Goals as goal
 

@@ -1,6 +1,6 @@
 use Rattle.std.proofs.Common.{subst}
 use Rattle.jc_base.specs.Laws.{IsOrderOfTypes}
-use Rattle.jc_rules.proofs.Decided.{are-decided}
+use Rattle.jc_rules.proofs.DecidedDemands.{are-decided}
 use Rattle.jc_rules.proofs.laws.demands_are_decided.Goals as goal
 
 pub returns : goal.returns

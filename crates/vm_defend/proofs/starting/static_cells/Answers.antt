@@ -2,7 +2,7 @@ use Rattle.std.proofs.Common.{◌≡◌, ◌+◌, take, arith}
 use Rattle.std.specs.Prelude.{sum_by}
 use Rattle.jc_base.specs.declared.record.StaticRec.{StaticRec}
 use Rattle.jc_base.specs.Cell.{width}
-use Rattle.vm_start.proofs.Sums.{sum-most, sum-next}
+use Rattle.vm_run.proofs.Sums.{sum-most, sum-next}
 use Rattle.vm_defend.proofs.starting.static_cells.Goals as goal
 
 pub overflow_add-cells : goal.overflow_add-cells

@@ -1,7 +1,7 @@
 use Rattle.std.proofs.Common.{subst}
 use Rattle.jc_base.specs.declared.ty.Ty.TheVariants.{Bottom}
 use Rattle.jc_base.specs.World.{Linked}
-use Rattle.vm_sound.specs.Laws.{IsFaultFree}
+use Rattle.law_sound.specs.Soundness.{IsFaultFree}
 use Rattle.vm_offend.specs.Held.{IsRunOf}
 use Rattle.vm_offend.proofs.Accepting.{accepted-typed}
 use Rattle.vm_offend.proofs.Beginning.{begun-run}

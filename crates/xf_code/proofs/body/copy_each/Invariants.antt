@@ -1,5 +1,5 @@
 use Rattle.std.proofs.Common.{◌≡◌, ◌++◌, take, flat_map}
-use Rattle.xf_plan.specs.Subject.{source}
+use Rattle.xf_homes.specs.PlannedMethod.{source}
 use Rattle.xf_emission.specs.Move.{copy}
 use Rattle.xf_code.proofs.body.copy_each.Given as goal
 

@@ -1,5 +1,5 @@
 use Rattle.std.proofs.Common.{arith}
-use Rattle.xf_plan.specs.Subject.{source}
+use Rattle.xf_homes.specs.PlannedMethod.{source}
 use Rattle.xf_code.proofs.Copying.{cells-past}
 use Rattle.xf_code.proofs.Steps.{ended}
 use Rattle.xf_code.proofs.edge.cell_copies.Goals as goal

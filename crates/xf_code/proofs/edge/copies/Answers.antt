@@ -1,6 +1,6 @@
 use Rattle.std.proofs.Common.{◌<◌, arith}
 use Rattle.xf_homes.specs.Home.{register_count}
-use Rattle.xf_plan.specs.Subject.{source}
+use Rattle.xf_homes.specs.PlannedMethod.{source}
 use Rattle.xf_emission.specs.Edge.{local_copies}
 use Rattle.xf_code.proofs.Copying.{locals-first}
 use Rattle.xf_code.proofs.Steps.{goes-on}

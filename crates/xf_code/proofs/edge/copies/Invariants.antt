@@ -1,6 +1,6 @@
 use Rattle.std.proofs.Common.{◌≡◌, ◌-◌, ◌++◌}
 use Rattle.xf_homes.specs.Home.{register_count}
-use Rattle.xf_plan.specs.Subject.{source}
+use Rattle.xf_homes.specs.PlannedMethod.{source}
 use Rattle.xf_emission.specs.Edge.{copies, locals_copies}
 use Rattle.xf_code.proofs.edge.copies.Given as goal
 

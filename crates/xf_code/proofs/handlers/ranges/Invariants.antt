@@ -1,5 +1,5 @@
 use Rattle.std.proofs.Common.{◌≡◌, ◌++◌, drop}
-use Rattle.xf_plan.specs.Subject.{source}
+use Rattle.xf_homes.specs.PlannedMethod.{source}
 use Rattle.xf_emission.specs.Emission.{ranges_from}
 use Rattle.xf_code.proofs.handlers.ranges.Given as goal
 

@@ -4,7 +4,7 @@ use Rattle.std.specs.Int.{w32}
 use Rattle.std.proofs.lemmas.Int.{to_z-of_z}
 use Rattle.jc_decode.specs.Listing.{targets}
 use Rattle.jc_control.specs.Targets.{rest_of}
-use Rattle.xf_plan.specs.Subject.{source}
+use Rattle.xf_homes.specs.PlannedMethod.{source}
 use Rattle.xf_emission.specs.Jump.{IsNearBy, stub, stubs_of}
 use Rattle.xf_code.proofs.Leading.{stubs-next, stubs-none}
 use Rattle.xf_code.proofs.Steps.{goes-on, ended, all-first, all-rest}

@@ -1,7 +1,7 @@
 use Rattle.std.proofs.Common.{◌≡◌, ◌+◌, ◌++◌, length, All}
 use Rattle.jc_decode.specs.Listing.{targets}
 use Rattle.jc_control.specs.Targets.{rest_of}
-use Rattle.xf_plan.specs.Subject.{source}
+use Rattle.xf_homes.specs.PlannedMethod.{source}
 use Rattle.xf_emission.specs.Jump.{IsNearBy, stubs_of}
 use Rattle.xf_code.proofs.jump.put_stubs.Given as goal
 

@@ -12,8 +12,8 @@ use Rattle.xf_homes.proofs.Answered.{of-method, to-method, flaw-never}
 use Rattle.xf_emission.specs.Emission.{IsPlainSize}
 use Rattle.xf_emission.specs.Live.{KeepsLive}
 use Rattle.xf_emission.specs.Numbers.{HasNumbers}
-use Rattle.xf_groups.specs.Matching.{MatchesMethod}
-use Rattle.xf_typing.specs.Typed.{HasTypingByHomes}
+use Rattle.law_groups.specs.Matching.{MatchesMethod}
+use Rattle.law_rewritten_typing.specs.Typed.{HasTypingByHomes}
 use Rattle.xf_code.proofs.Numbers.{has-numbers, has-size}
 use Rattle.xf_code.proofs.Sources.{live-by, ranged-by, items-by, small-by, matches-by, typed-by}
 use Rattle.xf_code.proofs.Subjects.{is-subject}

@@ -1,4 +1,4 @@
-use Rattle.xf_emission.proofs.Standing.{groups-stand}
+use Rattle.xf_emission.proofs.GroupPlaces.{groups-stand}
 use Rattle.xf_emission.proofs.laws.groups_stand.Goals as goal
 
 pub returns : goal.returns

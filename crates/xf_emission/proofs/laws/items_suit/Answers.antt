@@ -1,4 +1,4 @@
-use Rattle.xf_emission.proofs.Laying.{items-are-laid}
+use Rattle.xf_emission.proofs.LaidItems.{items-are-laid}
 use Rattle.xf_emission.proofs.laws.items_suit.Goals as goal
 
 pub returns : goal.returns

@@ -1,4 +1,4 @@
-use Rattle.xf_emission.proofs.Landing.{stubs-stand, handlers-stand}
+use Rattle.xf_emission.proofs.StubPlaces.{stubs-stand, handlers-stand}
 use Rattle.xf_emission.proofs.laws.stubs_stand.Goals as goal
 
 pub returns-clause-branches : goal.returns-clause-branches

@@ -2,7 +2,7 @@
 use Rattle.std.proofs.Common.{◌≡◌, ◌+◌, ◌∷◌, ◌++◌, [], length, refl, sym, subst, arith, rules}
 use Rattle.std.proofs.lemmas.Option.{slice_get_read}
 use Rattle.jc_control.specs.Asked.{AllHaveBelow, IsOfLast}
-use Rattle.xf_world.specs.Laid.{HasLaidCode}
+use Rattle.law_transform.specs.Laid.{HasLaidCode}
 use Rattle.xf_pack.specs.Ends.{TellsOf}
 use Rattle.xf_pack.specs.Passes.{EachFrom, IsLaidAt, IsTypingAt}
 use Rattle.xf_pack.proofs.Elements.{each-at, each-push}

@@ -1,6 +1,6 @@
 use Rattle.std.proofs.Common.{◌≡◌, ◌+◌, vec_len}
 use Rattle.jc_control.specs.Asked.{AllHaveBelow, IsOfLast}
-use Rattle.xf_world.specs.Laid.{HasLaidCode}
+use Rattle.law_transform.specs.Laid.{HasLaidCode}
 use Rattle.xf_pack.specs.Passes.{EachFrom, IsLaidAt}
 use Rattle.xf_pack.proofs.laying.lay_last.Given as goal
 

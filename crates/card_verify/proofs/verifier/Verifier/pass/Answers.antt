@@ -1,7 +1,7 @@
 use Rattle.std.proofs.Common.{rules, ◌≡◌, ◌≤◌, ◌+◌, ◌++◌, ◌||◌, ◌∷◌, [], Bool, refl, sym, ◌∙◌, ap, subst, arith}
 use Rattle.jc_decode.specs.Instructions.{rest_of}
 use Rattle.jc_decode.specs.Listing.{listing, end_from}
-use Rattle.jc_decode.proofs.Listed.{end-after}
+use Rattle.jc_decode.proofs.InstructionLists.{end-after}
 use Rattle.jc_control.proofs.Elements.{at-last}
 use Rattle.jc_rules.specs.Stack.{cells}
 use Rattle.card_verify.specs.declared.pass.Arrival.{Arrival}

@@ -1,7 +1,7 @@
 use Rattle.std.proofs.Common.{◌≡◌, ◌+◌, drop}
 use Rattle.jc_resolve.specs.Fault.{link_place}
 use Rattle.first_fault.specs.Least.{least_from}
-use Rattle.jc_classes.specs.Conditions.{hole_fault, entries_from}
+use Rattle.jc_classes.specs.TableConditions.{hole_fault, entries_from}
 use Rattle.jc_classes.proofs.holes.Line.holes_in.Given as goal
 
 abbrev pub invariant-entries : goal.invariant-entries

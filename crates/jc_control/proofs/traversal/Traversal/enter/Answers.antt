@@ -3,7 +3,7 @@ use Rattle.jc_control.specs.Control.{Covers, caught, entered}
 use Rattle.jc_control.specs.Subject.{method}
 use Rattle.jc_control.specs.Traversal.{ReachesPlace, Grows, IsSoundTraversal, IsCaught}
 use Rattle.jc_control.proofs.Growing.{on-ok, led-sound, led-grows, led-here}
-use Rattle.jc_control.proofs.Listed.{place-inside}
+use Rattle.jc_control.proofs.PlacesWithin.{place-inside}
 use Rattle.jc_control.proofs.traversal.Traversal.enter.Goals as goal
 
 pub lead-requires-clause-reached : goal.lead-requires-clause-reached

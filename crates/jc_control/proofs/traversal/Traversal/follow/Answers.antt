@@ -7,7 +7,7 @@ use Rattle.jc_control.specs.Control.{led_to, follows, jumped}
 use Rattle.jc_control.specs.Subject.{method}
 use Rattle.jc_control.specs.Traversal.{ReachesPlace, Grows, IsSoundTraversal, IsLedTo}
 use Rattle.jc_control.proofs.Growing.{on-ok, led-sound, led-grows, led-here}
-use Rattle.jc_control.proofs.Listed.{target-range, target-place}
+use Rattle.jc_control.proofs.PlacesWithin.{target-range, target-place}
 use Rattle.jc_control.proofs.traversal.Traversal.follow.Goals as goal
 
 pub place_of-requires-clause-low : goal.place_of-requires-clause-low

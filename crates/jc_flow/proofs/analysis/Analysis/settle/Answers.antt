@@ -3,7 +3,7 @@ use Rattle.jc_flow.specs.Found.{Found, taken_up}
 use Rattle.jc_flow.specs.Progress.{AreHeld}
 use Rattle.jc_flow.proofs.Growth.{taken-held}
 use Rattle.jc_flow.specs.Visit.{analysed, IsVisited}
-use Rattle.jc_flow.proofs.Settling.{still-closed, still-started, least-found, reached-are, registers-are, derived-are, known-are}
+use Rattle.jc_flow.proofs.AnalysisSteps.{still-closed, still-started, least-found, reached-are, registers-are, derived-are, known-are}
 use Rattle.jc_flow.proofs.analysis.Analysis.settle.Goals as goal
 
 pub visit-requires-clause-held : goal.visit-requires-clause-held

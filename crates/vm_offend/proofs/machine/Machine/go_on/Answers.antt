@@ -6,11 +6,11 @@ use Rattle.vm_store.specs.Cells.{words}
 use Rattle.vm_store.specs.State.{State}
 use Rattle.vm_step.specs.Raising.{Outcome}
 use Rattle.vm_step.specs.Run.{Runs}
-use Rattle.vm_turns.specs.Turn.{with_ending}
-use Rattle.vm_checks.specs.Shaped.{IsShaped}
-use Rattle.vm_words.specs.declared.words.Counts.{Counts}
-use Rattle.vm_words.specs.WordStore.{state_in_words}
-use Rattle.vm_words.specs.Words.{AreLaid, words_state}
+use Rattle.vm_run.specs.Turn.{with_ending}
+use Rattle.vm_check.specs.Shaped.{IsShaped}
+use Rattle.vm_offend.specs.declared.words.Counts.{Counts}
+use Rattle.vm_offend.specs.WordStore.{state_in_words}
+use Rattle.vm_offend.specs.Words.{AreLaid, words_state}
 use Rattle.vm_offend.specs.declared.machine.Machine.{Machine}
 use Rattle.vm_offend.proofs.Accepting.{accepted-has}
 use Rattle.vm_offend.specs.Held.{IsOutcomeOfRun, AreWordsOf, IsRunOf, Follows}

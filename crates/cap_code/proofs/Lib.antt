@@ -1,3 +1,0 @@
-pub mod Flagging
-pub mod Entries
-pub mod Lengths

@@ -1,4 +1,0 @@
-pub mod ExactIndex
-pub mod TargetIndex
-pub mod PlainSize
-pub mod Marking

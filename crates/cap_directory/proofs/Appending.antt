@@ -1,4 +1,0 @@
--- What appending in steps leaves.
-use Rattle.std.proofs.Common.{append_assoc}
-
-pub ruleset steps = (append_assoc)

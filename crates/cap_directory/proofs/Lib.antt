@@ -1,5 +1,0 @@
-pub mod Appending
-pub mod Kept
-pub mod DirectoryLaws
-pub mod ReadDirectory
-pub mod NewStands

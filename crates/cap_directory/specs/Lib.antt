@@ -1,3 +1,0 @@
-pub mod DirectoryBytes
-pub mod NewDirectory
-pub mod Laws

@@ -1,5 +1,0 @@
-use Rattle.cap_gen.proofs.Placed.{methods_stand}
-use Rattle.cap_gen.proofs.laws.methods_stand.Goals as goal
-
-pub returns : goal.returns
-returns c = methods_stand

@@ -1,0 +1,6 @@
+pub mod Listing
+pub mod Taken
+pub mod Custom
+pub mod Listed
+pub mod Flagging
+pub mod Entries

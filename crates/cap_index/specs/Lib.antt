@@ -1,0 +1,8 @@
+pub mod IndexFormat
+pub mod Component
+pub mod Indexes
+pub mod Taking
+pub mod WorldIndexes
+pub mod ExactIndex
+pub mod TargetIndex
+pub mod Marking

@@ -1,0 +1,13 @@
+use Rattle.std.proofs.Common.{◌≡◌, ◌≤◌, length, ap, arith, rules}
+use Rattle.cap_bytes.specs.declared.view.View.{View}
+use Rattle.cap_package.proofs.InfoLaws.{info-short}
+use Rattle.cap_renewal.proofs.names.pool_file.Goals as goal
+
+pub file_of-requires : goal.file_of-requires
+file_of-requires c =
+    let h = c.pool-pool.ensures.info in
+    let short : length c.pool-pool.result.info.bytes.now ≤ 65535 = info-short 5 h.file c.pool-pool.result.info.bytes.now h.framed in
+    let same : length c.info.result.bytes.now ≡ length c.pool-pool.result.info.bytes.now = ap (λ (v : View). length v.bytes.now) c.info.ensures in
+    let copied : length c.in_ok-info.info.items ≡ length c.info.result.bytes.now = search rules in
+    let long = c.renew_pool.ensures.renewed.long in
+    omega arith

@@ -1,9 +1,0 @@
--- Laws of bytes that are written over.
-use Rattle.std.specs.Prelude.{ℕ, List, length}
-use Rattle.cap_writing.specs.Edit.{Edit, patched_all, AreInside, FitBytes}
-use Rattle.cap_writing.specs.Renewal.{Renews}
-
--- numbers that are written over at rising places stand there, and change nothing else
-abbrev pub PatchesRenew : Type 0
-PatchesRenew = (edits : List Edit) (bytes : List ℕ) → AreInside edits 0 (length bytes) → FitBytes edits
-    → Renews edits bytes (patched_all edits bytes)

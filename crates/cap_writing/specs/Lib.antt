@@ -1,4 +1,0 @@
-pub mod Edit
-pub mod Renewal
-pub mod Writing
-pub mod Laws

@@ -1,9 +1,0 @@
-use Rattle.card_verify.proofs.Answering.{accepted-bare}
-use Rattle.card_index.proofs.Tallies.{bare-not}
-use Rattle.card_index.proofs.room.verify_within.Goals as goal
-
-pub returns-then-rec-eq0-clause-accepted : goal.returns-then-rec-eq0-clause-accepted
-returns-then-rec-eq0-clause-accepted c = accepted-bare c.args.world.now c.args.method c.method-rec.result.now c.method-rec.ensures.is c.if-rec-eq0.true
-
-pub returns-then-rec-eq0-clause-by_index : goal.returns-then-rec-eq0-clause-by_index
-returns-then-rec-eq0-clause-by_index c = bare-not c.args.world.now c.args.method c.method-rec.result.now c.method-rec.ensures.is c.if-rec-eq0.true

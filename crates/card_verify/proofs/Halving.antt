@@ -1,0 +1,114 @@
+-- A search by halving in an ascending list.
+use Rattle.std.proofs.Common.{◌≡◌, ℕ, zero, suc, ◌+◌, ◌-◌, ◌*◌, ◌/◌, ◌^◌, ◌<◌, ◌≤◌, ⊎_elim, Bool, true, false, List, [], ◌∷◌, length, get_or, Option, Some, None, MatchBool, Contains, slice_get, refl, sym, ap, subst, ◌∙◌, arith}
+use Rattle.std.proofs.Math.Nat.{mul_assoc, suc-mul, pow-succ'}
+use Rattle.std.proofs.Math.Pow.{pow_mono}
+use Rattle.std.proofs.lemmas.Bool.{cases_lt}
+use Rattle.std.proofs.lemmas.Option.{slice_get_within, slice_get-get_or, get_or_from_slice_get, same_Some}
+use Rattle.jc_base.specs.Index.{IsAscending}
+use Rattle.card_verify.proofs.Costs.{grow}
+
+-- ---- ascending lists
+
+pub ascending-far : (index : List ℕ) → IsAscending index → (k j p q : ℕ) → k < j → slice_get index k ≡ Some p → slice_get index j ≡ Some q → p < q
+ascending-far index up k zero p q lt at there = absurd (omega (arith, lt))
+ascending-far index up k (suc j) p q lt at there =
+    let step : j + 1 ≡ suc j = omega arith in
+    let inside : j < length index = omega (arith, slice_get_within index (suc j) q there) in
+    let before : slice_get index j ≡ Some (get_or index j 0) = slice_get-get_or index j 0 inside in
+    let next : get_or index j 0 < q = up j (get_or index j 0) q before (ap (slice_get index) step ∙ there) in
+    ⊎_elim (λ less. let far = ascending-far index up k j p (get_or index j 0) less at before in omega (arith, far, next))
+    (λ le.
+    let same : k ≡ j = omega (arith, le, lt) in
+    let own : p ≡ get_or index j 0 = same_Some p (get_or index j 0) (sym at ∙ ap (slice_get index) same ∙ before) in
+    omega (arith, own, next)) (cases_lt k j)
+
+-- ---- what is known between the halves
+
+-- after some steps: where the place is not, if it is anywhere, and how many entries are left to look at
+pub record IsNarrowed (index : List ℕ) (place low high taken : ℕ) : Type 0 where
+  pub order : low ≤ high
+  pub inside : high ≤ length index
+  pub below : (k q : ℕ) → k < low → slice_get index k ≡ Some q → q < place
+  pub above : (k q : ℕ) → high ≤ k → slice_get index k ≡ Some q → place < q
+  pub fewer : (high - low) * 2 ^ taken ≤ length index
+  pub seldom : (b : ℕ) → length index < 2 ^ b → taken ≤ b
+
+one-power : (n : ℕ) → n * 2 ^ 0 ≡ n
+one-power n = omega arith
+
+pub narrowed-first : (index : List ℕ) (place : ℕ) → IsNarrowed index place 0 (length index) 0
+narrowed-first index place = record {
+  order = omega arith;
+  inside = omega arith;
+  below = λ k q lt at. absurd (omega (arith, lt));
+  above = λ k q le at. absurd (omega (arith, le, slice_get_within index k q at));
+  fewer = omega arith;
+  seldom = λ b lt. omega arith;
+}
+
+-- with n entries left and t steps taken, one more step keeps to the number of digits
+digit : (n t len b : ℕ) → 0 < n → n * 2 ^ t ≤ len → len < 2 ^ b → t + 1 ≤ b
+digit n t len b some le lt = ⊎_elim (λ less. omega (arith, less)) (λ ge. absurd (too-many ge)) (cases_lt t b)
+  where
+    one : (k p : ℕ) → 0 < k → p ≤ k * p
+    one zero p pos = absurd (omega (arith, pos))
+    one (suc k) p pos = omega (arith, suc-mul k p)
+
+    too-many : b ≤ t → ⊥
+    too-many ge =
+        let grown : 2 ^ b ≤ 2 ^ t = pow_mono ge in
+        let whole = one n (2 ^ t) some in
+        omega (arith, grown, whole, le, lt)
+
+-- a half of what is left
+halves : (n h t len : ℕ) → h * 2 ≤ n → n * 2 ^ t ≤ len → h * 2 ^ (t + 1) ≤ len
+halves n h t len half le = rw (double t) (rw (← mul_assoc h 2 (2 ^ t)) (omega (arith, grow (h * 2) n (2 ^ t) half, le)))
+  where
+    double : (k : ℕ) → 2 ^ (k + 1) ≡ 2 * 2 ^ k
+    double k = let next : k + 1 ≡ suc k = omega arith in ap (λ n. 2 ^ n) next ∙ pow-succ' 2 k
+
+module _ (index : List ℕ) (up : IsAscending index) (place low high taken middle found : ℕ) (so_far : IsNarrowed index place low high taken) (some : low < high)
+    (half : middle ≡ low + (high - low) / 2) (at : slice_get index middle ≡ Some found) where
+  seldom-next : (b : ℕ) → length index < 2 ^ b → taken + 1 ≤ b
+  seldom-next b lt = digit (high - low) taken (length index) b (omega (arith, some)) so_far.fewer lt
+
+  pub found-cost : (b : ℕ) → length index < 2 ^ b → taken + 1 ≤ b
+  found-cost = seldom-next
+
+  pub narrowed-up : found < place → IsNarrowed index place (middle + 1) high (taken + 1)
+  narrowed-up less = record {
+    order = omega (arith, some, half);
+    inside = so_far.inside;
+    below = λ k q lt here. ⊎_elim (λ earlier. let far = ascending-far index up k middle q found earlier here at in omega (arith, far, less)) (λ ge.
+        let same : k ≡ middle = omega (arith, lt, ge) in
+        let own : q ≡ found = same_Some q found (sym here ∙ ap (slice_get index) same ∙ at) in
+        omega (arith, own, less)) (cases_lt k middle);
+    above = so_far.above;
+    fewer = halves (high - low) (high - (middle + 1)) taken (length index) (omega (arith, some, half)) so_far.fewer;
+    seldom = seldom-next;
+  }
+
+  pub narrowed-down : place < found → IsNarrowed index place low middle (taken + 1)
+  narrowed-down more = record {
+    order = omega (arith, some, half);
+    inside = omega (arith, slice_get_within index middle found at);
+    below = so_far.below;
+    above = λ k q le here. ⊎_elim (λ earlier. absurd (omega (arith, earlier, le))) (λ ge. ⊎_elim (λ later. let far = ascending-far index up middle k found q later at here in omega (arith, far, more)) (λ no.
+        let same : k ≡ middle = omega (arith, le, no) in
+        let own : q ≡ found = same_Some q found (sym here ∙ ap (slice_get index) same ∙ at) in
+        omega (arith, own, more)) (cases_lt middle k)) (cases_lt k middle);
+    fewer = halves (high - low) (middle - low) taken (length index) (omega (arith, some, half)) so_far.fewer;
+    seldom = seldom-next;
+  }
+
+pub contains-found : (index : List ℕ) (middle found place : ℕ) → slice_get index middle ≡ Some found → found ≡ place → Contains index place
+contains-found index middle found place at same = (middle, slice_get_within index middle found at, get_or_from_slice_get index middle found place at ∙ same)
+
+pub contains-none : (index : List ℕ) (place low high taken : ℕ) → IsNarrowed index place low high taken → high ≤ low → ¬ (Contains index place)
+contains-none index place low high taken so_far over c =
+    let there : slice_get index c.0 ≡ Some place = slice_get-get_or index c.0 place c.1 ∙ ap Some c.2 in
+    ⊎_elim (λ lt. let less = so_far.below c.0 place lt there in omega (arith, less)) (λ ge. let more = so_far.above c.0 place (omega (arith, ge, over)) there in omega (arith, more)) (cases_lt c.0 low)
+
+-- what is not below and not equal is above
+pub above-from : (a b c : ℕ) → a ≡ c → ¬ (a ≡ b) → b ≤ a → b < c
+above-from a b c same other le = ⊎_elim (λ lt. omega (arith, lt, same)) (λ ge. absurd (other (omega (arith, ge, le)))) (cases_lt b a)

@@ -1,0 +1,308 @@
+ghost use Rattle.std.specs.Prelude.{◌≡◌, ◌≢◌, ℕ, ◌+◌, ◌*◌, ◌<◌, ◌≤◌, ◌^◌, length, slice_get, sum_by, All, IsErr, IsSomeAnd, IfErr, OnOk, OnErr};
+ghost use Rattle.jc_base.specs.Index.{IsAscending};
+ghost use Rattle.jc_base.specs.Order.{rises_left};
+ghost use Rattle.jc_control.specs.Method.{IsMethodOf, method_in};
+ghost use Rattle.jc_control.specs.WellFormed.{IsPlace, IsWellFormed};
+ghost use Rattle.jc_decode.specs.Listing.{listing};
+ghost use Rattle.jc_rules.specs.Demand.{Frame};
+ghost use Rattle.jc_rules.specs.Apply.{frame_of};
+ghost use Rattle.card_typing.specs.Typing.{IsLeastCardTyping};
+ghost use Rattle.card_verify.specs.Walk.{HasSlices};
+ghost use Rattle.card_verify.specs.Bound.{AreCounted, AreCountedTo, AreCountedBy, entries_read, instruction_count, target_count, most_passes, step_bound};
+ghost use Rattle.card_verify.specs.Indexed.{subject, world_in, listed};
+ghost use Rattle.card_verify.specs.IndexTyping.{IsIndex, HasIndexTyping};
+ghost use Rattle.card_verify.specs.Refusal.{IsFirstBadEntry, IsFirstLacking, LeadsToListed, IsFormKind, IsRefusedOver};
+ghost use Rattle.card_verify.specs.IndexWalk.{IsIndexed, IsBegunOver, IsFinishedOver, IsPlaceNumber, IsNotIndexed};
+
+use crate::Verifier;
+use crate::form::is_rest_formed;
+use crate::indexed::Indexed;
+use crate::order::bad_entry;
+use crate::over_index::index_laws;
+use crate::scan::{Lacking, first_lacking};
+use cap_bytes::View;
+use card_typing::{CardFault, CardKind, card_laws};
+use jc_base::{Steps, TargetIndex, Ty, World};
+use jc_control::instructions_are_placed;
+use jc_decode::instructions_are_listed;
+use jc_rules::{rule_laws, rule_raises};
+use std::sync::ledger::Ledger;
+
+/// Verifies a method with code as a verifier on the card does, over a target index whose places stand for the targets, in
+/// the registers and the stack that are lent: a cell for each argument word and local, and one for each cell of
+/// `max_stack`. Each application of a rule and each entry that is read is a step.
+///
+/// Where the method has a card typing over the index the registers hold the least card typing afterwards. Else the
+/// refusal tells what is wrong first: with the form of the method, with the index, or with a state that the verifier
+/// meets, which the slices then hold.
+pub fn verify_indexed<L: Ledger>(
+    world: &World<'_>,
+    method: u16,
+    index: &TargetIndex<'_>,
+    regs: &mut [Ty],
+    stack: &mut [Ty],
+    steps: &mut Steps<L>,
+) -> Result<(), CardFault>
+    requires code { IsSomeAnd (slice_get world.now.methods method) (λ m. 0 < m.code_len) }
+    requires registers { IsSomeAnd (slice_get world.now.methods method) (λ m. length regs.old ≡ m.nargs + m.max_locals) }
+    requires cells { IsSomeAnd (slice_get world.now.methods method) (λ m. length stack.old ≡ m.max_stack) }
+    ensures known { IsSomeAnd (method_in world.now method) (λ m. IsMethodOf world.now m) }
+    ensures typing { IsSomeAnd (method_in world.now method) (λ m. OnOk result (HasIndexTyping world.now m index.now)) }
+    ensures least { IsSomeAnd (method_in world.now method) (λ m. OnOk result (IsLeastCardTyping world.now m regs.new)) }
+    ensures none { IsSomeAnd (method_in world.now method) (λ m. OnErr result (¬ (HasIndexTyping world.now m index.now))) }
+    ensures refused { IsSomeAnd (method_in world.now method)
+        (λ m.
+        IfErr result
+        (λ fault. IsRefusedOver world.now m index.now fault (frame_of regs.new stack.new fault.depth))) }
+    // Where no state is at fault, nothing has changed.
+    ensures as_before { IfErr result (λ fault. IsFormKind fault.kind → (regs.new ≡ regs.old) × (stack.new ≡ stack.old)) }
+    // What is read and applied is counted.
+    ensures counted { IsSomeAnd (method_in world.now method)
+        (λ m. OnOk result (AreCounted m (length index.now) regs.new steps.old steps.new)) }
+    ensures counted_to { IsSomeAnd (method_in world.now method)
+        (λ m. IfErr result (AreCountedBy m (length index.now) steps.old steps.new)) }
+    // Whatever the index lists, there are no more steps than this.
+    ensures cost { IsSomeAnd (method_in world.now method)
+        (λ m.
+        (digits : ℕ)
+        → length index.now < 2 ^ digits
+        → steps.new ≤ steps.old + step_bound world.now m (length index.now) digits) }
+{
+    let rec = world.method(method);
+    let code = View::of(world.code(method));
+    let verifier = Verifier {
+        world,
+        number: method,
+        rec,
+        code,
+    };
+    let indexed = Indexed { verifier, index };
+    indexed.verify(regs, stack, steps)
+}
+
+impl Indexed<'_, '_> {
+    /// Verifies the method: first its form and the index, then pass after pass its types.
+    fn verify<L: Ledger>(
+        &self,
+        regs: &mut [Ty],
+        stack: &mut [Ty],
+        steps: &mut Steps<L>,
+    ) -> Result<(), CardFault>
+        requires method { IsMethodOf (world_in self.now) (subject self.now) }
+        requires slices { HasSlices self.now.verifier regs.old stack.old }
+        ensures typing { OnOk result (HasIndexTyping (world_in self.now) (subject self.now) (listed self.now)) }
+        ensures least { OnOk result (IsLeastCardTyping (world_in self.now) (subject self.now) regs.new) }
+        ensures none { OnErr result (¬ (HasIndexTyping (world_in self.now) (subject self.now) (listed self.now))) }
+        ensures refused { IfErr result
+            (λ fault.
+            IsRefusedOver (world_in self.now) (subject self.now) (listed self.now) fault
+            (frame_of regs.new stack.new fault.depth)) }
+        ensures as_before { IfErr result (λ fault. IsFormKind fault.kind → (regs.new ≡ regs.old) × (stack.new ≡ stack.old)) }
+        ensures counted { OnOk result
+            (AreCounted (subject self.now) (length (listed self.now)) regs.new steps.old steps.new) }
+        ensures counted_to { IfErr result (AreCountedBy (subject self.now) (length (listed self.now)) steps.old steps.new) }
+        ensures cost { (b : ℕ)
+            → length (listed self.now) < 2 ^ b
+            → steps.new ≤ steps.old + step_bound (world_in self.now) (subject self.now) (length (listed self.now)) b }
+    {
+        card_laws(self.verifier.world);
+        index_laws(self.verifier.world);
+        match self.check(steps) {
+            Ok(()) => self.verify_types(regs, stack, steps),
+            Err(fault) => Err(fault),
+        }
+    }
+
+    /// Whether the method is well formed and the index is one of it, or else what is wrong first.
+    fn check<L: Ledger>(&self, steps: &mut Steps<L>) -> Result<(), CardFault>
+        requires { IsMethodOf (world_in self.now) (subject self.now) }
+        ensures formed { OnOk result (IsWellFormed (subject self.now)) }
+        ensures index { OnOk result (IsIndex (subject self.now) (listed self.now)) }
+        ensures refused { IfErr result
+            (λ fault.
+            (kept : Frame) → IsRefusedOver (world_in self.now) (subject self.now) (listed self.now) fault kept) }
+        ensures form { IfErr result (λ fault. IsFormKind fault.kind) }
+        ensures forward { steps.old ≤ steps.new }
+        ensures read { OnOk result (steps.old + length (listed self.now) ≤ steps.new) }
+        ensures read_to { IfErr result
+            (λ fault. steps.old + entries_read (length (listed self.now)) fault.kind ≤ steps.new) }
+        ensures cost { (b : ℕ)
+            → length (listed self.now) < 2 ^ b
+            → steps.new ≤ steps.old + (length (listed self.now) + target_count (subject self.now) * b) }
+    {
+        match bad_entry(self.verifier.code, self.index, steps) {
+            Some(entry) => self.refuse_entry(entry),
+            None => self.check_targets(steps),
+        }
+    }
+
+    /// The same, where the entries of the index are places in ascending order.
+    fn check_targets<L: Ledger>(&self, steps: &mut Steps<L>) -> Result<(), CardFault>
+        requires method { IsMethodOf (world_in self.now) (subject self.now) }
+        requires ascending { IsAscending (listed self.now) }
+        requires places { All (IsPlace (subject self.now).code) (listed self.now) }
+        ensures formed { OnOk result (IsWellFormed (subject self.now)) }
+        ensures index { OnOk result (IsIndex (subject self.now) (listed self.now)) }
+        ensures refused { IfErr result
+            (λ fault.
+            (kept : Frame) → IsRefusedOver (world_in self.now) (subject self.now) (listed self.now) fault kept) }
+        ensures form { IfErr result (λ fault. IsFormKind fault.kind) }
+        ensures all_read { IfErr result
+            (λ fault. entries_read (length (listed self.now)) fault.kind ≤ length (listed self.now)) }
+        ensures forward { steps.old ≤ steps.new }
+        ensures cost { (b : ℕ)
+            → length (listed self.now) < 2 ^ b
+            → steps.new ≤ steps.old + target_count (subject self.now) * b }
+    {
+        match first_lacking(self.verifier.code, self.index, steps) {
+            Some(lacks) => self.refuse_target(lacks),
+            None => self.check_rest(),
+        }
+    }
+
+    /// The refusal of an index with a bad entry; but a flaw of the method comes first.
+    fn refuse_entry(&self, entry: u32) -> Result<(), CardFault>
+        requires method { IsMethodOf (world_in self.now) (subject self.now) }
+        requires bad { IsFirstBadEntry (subject self.now).code (listed self.now) entry }
+        ensures err { IsErr result }
+        ensures refused { IfErr result
+            (λ fault.
+            (kept : Frame) → IsRefusedOver (world_in self.now) (subject self.now) (listed self.now) fault kept) }
+        ensures form { IfErr result (λ fault. IsFormKind fault.kind) }
+        ensures read_to { IfErr result (λ fault. entries_read (length (listed self.now)) fault.kind ≤ entry + 1) }
+    {
+        match self.verifier.check_form() {
+            Ok(()) => Err(CardFault {
+                place: 0,
+                depth: 0,
+                kind: CardKind::BadIndex(entry),
+            }),
+            Err(fault) => Err(fault),
+        }
+    }
+
+    /// The refusal of an index of places that lacks a target; but a flaw of the method comes first.
+    fn refuse_target(&self, lacks: Lacking) -> Result<(), CardFault>
+        requires method { IsMethodOf (world_in self.now) (subject self.now) }
+        requires ascending { IsAscending (listed self.now) }
+        requires places { All (IsPlace (subject self.now).code) (listed self.now) }
+        requires lacks { IsFirstLacking (subject self.now).code (listed self.now) lacks.place lacks.target }
+        ensures err { IsErr result }
+        ensures refused { IfErr result
+            (λ fault.
+            (kept : Frame) → IsRefusedOver (world_in self.now) (subject self.now) (listed self.now) fault kept) }
+        ensures form { IfErr result (λ fault. IsFormKind fault.kind) }
+        ensures all_read { IfErr result
+            (λ fault. entries_read (length (listed self.now)) fault.kind ≤ length (listed self.now)) }
+    {
+        instructions_are_listed();
+        match self.verifier.check_form() {
+            Ok(()) => Err(not_indexed(lacks)),
+            Err(fault) => Err(fault),
+        }
+    }
+
+    /// Whether the method is well formed, where the index lists places alone and every target.
+    fn check_rest(&self) -> Result<(), CardFault>
+        requires method { IsMethodOf (world_in self.now) (subject self.now) }
+        requires places { All (IsPlace (subject self.now).code) (listed self.now) }
+        requires leads { All (LeadsToListed (subject self.now).code (listed self.now)) (listing (subject self.now).code) }
+        ensures formed { OnOk result (IsWellFormed (subject self.now)) }
+        ensures refused { IfErr result
+            (λ fault.
+            (kept : Frame) → IsRefusedOver (world_in self.now) (subject self.now) (listed self.now) fault kept) }
+        ensures form { IfErr result (λ fault. IsFormKind fault.kind) }
+        ensures all_read { IfErr result
+            (λ fault. entries_read (length (listed self.now)) fault.kind ≤ length (listed self.now)) }
+    {
+        if is_rest_formed(self.verifier) {
+            return Ok(());
+        }
+        self.verifier.check_form()
+    }
+
+    /// Verifies the types of a well-formed method over an index of it.
+    fn verify_types<L: Ledger>(
+        &self,
+        regs: &mut [Ty],
+        stack: &mut [Ty],
+        steps: &mut Steps<L>,
+    ) -> Result<(), CardFault>
+        requires method { IsMethodOf (world_in self.now) (subject self.now) }
+        requires formed { IsWellFormed (subject self.now) }
+        requires index { IsIndex (subject self.now) (listed self.now) }
+        requires slices { HasSlices self.now.verifier regs.old stack.old }
+        ensures typing { OnOk result (HasIndexTyping (world_in self.now) (subject self.now) (listed self.now)) }
+        ensures least { OnOk result (IsLeastCardTyping (world_in self.now) (subject self.now) regs.new) }
+        ensures refused { IfErr result
+            (λ fault.
+            IsRefusedOver (world_in self.now) (subject self.now) (listed self.now) fault
+            (frame_of regs.new stack.new fault.depth)) }
+        ensures counted { OnOk result (AreCounted (subject self.now) 0 regs.new steps.old steps.new) }
+        ensures counted_to { IfErr result (λ fault. AreCountedTo (subject self.now) 0 fault.place steps.old steps.new) }
+        ensures cost { (b : ℕ)
+            → length (listed self.now) < 2 ^ b
+            → steps.new
+            ≤ steps.old
+            + most_passes (world_in self.now) (subject self.now)
+            * (instruction_count (subject self.now) * (b + 1)) }
+    {
+        card_laws(self.verifier.world);
+        rule_laws(self.verifier.world);
+        rule_raises(self.verifier.world);
+        instructions_are_placed();
+        instructions_are_listed();
+        self.verifier.begin(regs);
+        self.settle(regs, stack, steps)
+    }
+
+    /// Passes over the code until no register rises.
+    fn settle<L: Ledger>(
+        &self,
+        regs: &mut [Ty],
+        stack: &mut [Ty],
+        steps: &mut Steps<L>,
+    ) -> Result<(), CardFault>
+        requires indexed { IsIndexed self.now }
+        requires begun { IsBegunOver self.now regs.old stack.old }
+        ensures finished { OnOk result (IsFinishedOver self.now regs.new) }
+        ensures refused { IfErr result
+            (λ fault.
+            IsRefusedOver (world_in self.now) (subject self.now) (listed self.now) fault
+            (frame_of regs.new stack.new fault.depth)) }
+        ensures counted { OnOk result (steps.old + instruction_count (subject self.now) ≤ steps.new) }
+        ensures twice { OnOk result
+            (regs.new ≢ regs.old
+            → steps.old + 2 * instruction_count (subject self.now) ≤ steps.new) }
+        ensures counted_to { IfErr result (λ fault. AreCountedTo (subject self.now) 0 fault.place steps.old steps.new) }
+        // A pass but the last raises a register.
+        ensures cost { (b : ℕ)
+            → length (listed self.now) < 2 ^ b
+            → steps.new
+            ≤ steps.old
+            + (1 + sum_by (rises_left (world_in self.now).classes) regs.old)
+            * (instruction_count (subject self.now) * (b + 1)) }
+    {
+        'passes: loop {
+            let rose = match self.pass(regs, stack, steps) {
+                Ok(rose) => rose,
+                Err(fault) => return Err(fault),
+            };
+            if !rose {
+                return Ok(());
+            }
+        }
+    }
+}
+
+/// The refusal of an index that lacks a target.
+fn not_indexed(lacks: Lacking) -> CardFault
+    requires { IsPlaceNumber lacks.target }
+    ensures { IsNotIndexed lacks result }
+{
+    CardFault {
+        place: lacks.place,
+        depth: 0,
+        kind: CardKind::NotIndexed(lacks.target as u16),
+    }
+}

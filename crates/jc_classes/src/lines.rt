@@ -1,0 +1,83 @@
+ghost use Rattle.std.specs.Prelude.{◌≡◌, ◌≤◌, length, IfOk, All};
+ghost use Rattle.jc_resolve.specs.Due.{IsDue};
+ghost use Rattle.jc_classes.specs.KnownClasses.{HasKnownLine};
+ghost use Rattle.jc_classes.specs.Ancestor.{TellsAbove};
+ghost use Rattle.jc_classes.specs.Outline.{AreLines};
+ghost use Rattle.jc_classes.specs.Lines.{lines_agree, lineage_of, TellsLines, HaveLines};
+
+use crate::cycle_checks::least_cycle;
+use crate::lineage_type::Lineage;
+use crate::named_checks::{classes_have_supers, named_are_interfaces, supers_are_classes};
+use crate::outlining::outline;
+use crate::role_checks::least_role;
+use jc_resolve::{LinkEnd, NamedClasses, refuse};
+use std::alloc::Global;
+
+/// No class and no role is at fault.
+#[tactic(auto, unfolding(crate::specs::Lines::lines_agree))]
+fn lines_agree(
+    alloc: Global,
+    classes: &NamedClasses,
+    first: u16,
+    roles: &[u8; 8],
+) -> Result<(), LinkEnd>
+    requires few { length classes.now ≤ 4096 }
+    requires known { All (HasKnownLine classes.now) classes.now }
+    ensures { IsDue (lines_agree classes.now first roles.now) result }
+{
+    supers_are_classes(classes)?;
+    refuse(least_cycle(alloc, classes)?)?;
+    refuse(least_role(alloc, classes, first, roles[1] as u16, roles.as_slice())?)?;
+    classes_have_supers(classes, roles[0] as u16)?;
+    named_are_interfaces(classes)?;
+    Ok(())
+}
+
+/// The role bytes as numbers of classes.
+fn numbers(roles: [u8; 8]) -> [u16; 8]
+    ensures same { result ≡ roles }
+    ensures eight { length roles ≡ 8 }
+{
+    roles.map(|role| role as u16)
+}
+
+/// The lines of the classes, where nothing is at fault.
+#[tactic(auto, unfolding(crate::specs::Lines::lineage_of))]
+fn outlined(
+    alloc: Global,
+    classes: &NamedClasses,
+    first: u16,
+    roles: [u8; 8],
+) -> Result<Lineage, LinkEnd>
+    requires few { length classes.now ≤ 4096 }
+    requires known { All (HasKnownLine classes.now) classes.now }
+    ensures value { IsDue (lineage_of classes.now first roles) result }
+    ensures chains { IfOk result AreLines }
+    ensures eight { IfOk result (λ t. length t.roles ≡ 8) }
+{
+    lines_agree(alloc, classes, first, &roles)?;
+    let lines = outline(alloc, classes)?;
+    Ok(Lineage::of(lines, numbers(roles)))
+}
+
+/// The classes with their superclasses alone, in which every chain of superclasses ends with object. The
+/// first package has the first so many classes.
+pub fn lineage(
+    alloc: Global,
+    classes: &NamedClasses,
+    first: u16,
+    roles: [u8; 8],
+) -> Result<Lineage, LinkEnd>
+    requires few { length classes.now ≤ 4096 }
+    requires known { All (HasKnownLine classes.now) classes.now }
+    ensures value { IsDue (lineage_of classes.now first roles) result }
+    // The lines exactly where nothing is at fault; else the first condition by number that is broken, at
+    // its least thing.
+    ensures tells { TellsLines classes.now first roles result }
+    ensures lines { IfOk result (HaveLines classes.now) }
+    ensures eight { IfOk result (λ t. length t.roles ≡ 8) }
+    // Ancestors and superinterfaces are what superclasses and extended interfaces lead to.
+    ensures above { TellsAbove classes.now }
+{
+    outlined(alloc, classes, first, roles)
+}

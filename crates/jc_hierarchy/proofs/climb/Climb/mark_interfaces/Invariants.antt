@@ -1,6 +1,0 @@
-use Rattle.std.proofs.Common.{◌≡◌, map, drop}
-use Rattle.jc_hierarchy.specs.Marks.{mark_all}
-use Rattle.jc_hierarchy.proofs.climb.Climb.mark_interfaces.Given as goal
-
-abbrev pub invariant-interfaces : goal.invariant-interfaces
-invariant-interfaces l = mark_all l.self (map (λ i. i.class) (drop l.interface-index l.interfaces)) ≡ mark_all l.fn.self (map (λ i. i.class) l.interfaces)

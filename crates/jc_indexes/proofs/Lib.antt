@@ -1,4 +1,0 @@
-pub mod Listing
-pub mod Taken
-pub mod Custom
-pub mod Listed

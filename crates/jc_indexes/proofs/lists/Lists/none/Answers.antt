@@ -1,8 +1,0 @@
-use Rattle.jc_indexes.proofs.Listing.{gives_no_list, no_list}
-use Rattle.jc_indexes.proofs.lists.Lists.none.Goals as goal
-
-pub invariant_of-result : goal.invariant_of-result
-invariant_of-result c = gives_no_list c.of-2.result
-
-pub returns : goal.returns
-returns c = no_list c.of-2.result

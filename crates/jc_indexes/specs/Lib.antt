@@ -1,5 +1,0 @@
-pub mod IndexFormat
-pub mod Component
-pub mod Indexes
-pub mod Taking
-pub mod Laws

@@ -1,0 +1,95 @@
+-- Initial arrays: package after package, and what holds of their words.
+use Rattle.std.proofs.Common.{◌≡◌, ℕ, zero, suc, ◌+◌, ◌/◌, ◌%◌, ◌≤◌, Bool, true, false, ◌&&◌, cond, eqb, leb, ltb, List, [], ◌∷◌, ◌++◌, length, get_or, map, drop, Some, None, refl, sym, ap, ◌∙◌, inl, inr, subst, append_assoc, arith, length-take-le, length-drop}
+use Rattle.std.proofs.lemmas.Bool.{ltb-true, ltb-false, leb-true, eqb-true}
+use Rattle.std.proofs.lemmas.List.Elements.{All-map}
+use Rattle.std.proofs.lemmas.List.{map-append}
+use Rattle.std.specs.Prelude.{All, slice_get, flat_map}
+use Rattle.jc_base.specs.declared.record.ArrayRec.{ArrayRec}
+use Rattle.jc_base.specs.Cell.{IsByteWord, AreElementsOf}
+use Rattle.cap_bytes.specs.Grammar.{that}
+use Rattle.cap_bytes.specs.Spelling.{Spells}
+use Rattle.cap_method.specs.declared.arrays.ArrayInits.{ArrayInits}
+use Rattle.cap_method.specs.StaticFormat.{Array, Statics, array_init_info, is_primitive, is_whole}
+use Rattle.cap_method.specs.declared.static_part.StaticPart.{StaticPart}
+use Rattle.cap_method.specs.StaticPart.{arrays_left, statics_seen}
+use Rattle.cap_package.specs.PackageRecord.{PackageRecord, initial_arrays}
+use Rattle.jc_link.specs.Words.{signed, element_words}
+use Rattle.jc_base.specs.Index.{words_of_bytes}
+use Rattle.jc_link.specs.Arrays.{array_type, array_record, array_records}
+use Rattle.jc_link.specs.KnownFields.{IsPrimitive}
+use Rattle.cap_package.proofs.Given.{drop_here}
+use Rattle.jc_resolve.proofs.Repeats.{given_all}
+
+-- ---- package after package
+
+pub one_package : (p : PackageRecord) (ps : List PackageRecord) → array_records (p ∷ ps) ≡ map array_record p.statics.arrays ++ array_records ps
+one_package p ps = map-append array_record p.statics.arrays (flat_map initial_arrays ps)
+
+pub arrays_more : (xs ys all : List ArrayRec) (ps : List PackageRecord) (n : ℕ) (p : PackageRecord) → slice_get ps n ≡ Some p → xs ++ array_records (drop n ps) ≡ all → ys ≡ xs ++ map array_record p.statics.arrays → ys ++ array_records (drop (n + 1) ps) ≡ all
+arrays_more xs ys all ps n p e h k =
+    let d : array_records (drop n ps) ≡ map array_record p.statics.arrays ++ array_records (drop (n + 1) ps) = ap array_records (drop_here ps n p e) ∙ one_package p (drop (n + 1) ps) in
+    ap (λ zs. zs ++ array_records (drop (n + 1) ps)) k ∙ append_assoc xs (map array_record p.statics.arrays) (array_records (drop (n + 1) ps)) ∙ ap (λ zs. xs ++ zs) (sym d) ∙ h
+
+-- ---- the words of an array have the type of its elements
+
+signed_by : (b : ℕ) (t : Bool) → ltb b 128 ≡ t → IsByteWord (cond t b (0xFF00 + b))
+signed_by b true e = inl (ltb-true b 128 e)
+signed_by b false e = let le = ltb-false b 128 e in inr (omega arith)
+
+pub signed_is : (b : ℕ) → IsByteWord (signed b)
+signed_is b = signed_by b (ltb b 128) refl
+
+pub words_length : (bytes : List ℕ) → length (words_of_bytes bytes) ≡ length bytes / 2
+words_length [] = refl
+words_length (high ∷ []) = refl
+words_length (high ∷ low ∷ bytes) = omega (arith, words_length bytes)
+
+primitive_by : (kind : ℕ) (a b : Bool) → leb 2 kind ≡ a → leb kind 5 ≡ b → that (λ n. a && b) kind ≡ None → IsPrimitive kind
+primitive_by kind true true e f h = record { low = leb-true _ _ e; high = leb-true _ _ f }
+primitive_by kind true false e f h = absurd cc
+primitive_by kind false b e f h = absurd cc
+
+primitive : (kind : ℕ) → that is_primitive kind ≡ None → IsPrimitive kind
+primitive kind h = primitive_by kind (leb 2 kind) (leb kind 5) refl refl h
+
+whole_by : (n : ℕ) (t : Bool) → eqb (n % 4) 0 ≡ t → that (λ m. t) n ≡ None → n % 4 ≡ 0
+whole_by n true e h = eqb-true _ _ e
+whole_by n false e h = absurd cc
+
+even : (n m : ℕ) → m ≡ n / 2 → n % 4 ≡ 0 → m % 2 ≡ 0
+even n m e h = omega arith
+
+elements_of : (kind : ℕ) (values : List ℕ) → IsPrimitive kind → that (is_whole kind) (length values) ≡ None → AreElementsOf (array_type kind) (element_words kind values)
+elements_of zero values one whole = absurd (omega (arith, one.low))
+elements_of (suc zero) values one whole = absurd (omega (arith, one.low))
+elements_of (suc (suc zero)) values one whole = All-map IsByteWord signed values (λ k d lt. signed_is (get_or values k d))
+elements_of (suc (suc (suc zero))) values one whole = All-map IsByteWord signed values (λ k d lt. signed_is (get_or values k d))
+elements_of (suc (suc (suc (suc zero)))) values one whole = tt
+elements_of (suc (suc (suc (suc (suc zero))))) values one whole =
+    even (length values) (length (words_of_bytes values)) (words_length values) (whole_by (length values) (eqb (length values % 4) 0) refl whole)
+elements_of (suc (suc (suc (suc (suc (suc kind)))))) values one whole = absurd (omega (arith, one.high))
+
+kind_spelled : (bytes : List ℕ) (at : ℕ) (a : Array) (after : ℕ) → Spells array_init_info bytes at a after → IsPrimitive a.kind
+unfolding Spells
+kind_spelled bytes at a after h = subst (λ (b : Array). IsPrimitive b.kind) (sym h.3.3.3.0) (primitive h.0 h.2.1)
+
+pub kinds_known : (x : StaticPart) (s : Statics) → statics_seen x ≡ s → All (λ (a : Array). IsPrimitive a.kind) s.arrays
+kinds_known x s e =
+    subst (λ (seen : Statics). All (λ (a : Array). IsPrimitive a.kind) seen.arrays) e (given_all (λ (a : Array). IsPrimitive a.kind) array_init_info kind_spelled x.arrays.left x.arrays.items x.arrays.known)
+
+abbrev AreOfType : Array → Type 0
+AreOfType a = AreElementsOf (array_type a.kind) (element_words a.kind a.values)
+
+elements_spelled : (bytes : List ℕ) (at : ℕ) (a : Array) (after : ℕ) → Spells array_init_info bytes at a after → AreOfType a
+unfolding Spells
+elements_spelled bytes at a after h =
+    let values = h.3.3.2 in
+    let left : h.3.0 ≤ length (drop h.3.1 bytes) = omega (arith, values.0, length-drop h.3.1 bytes) in
+    let size : length h.3.3.0 ≡ h.3.0 = ap length values.1 ∙ length-take-le h.3.0 (drop h.3.1 bytes) left in
+    subst AreOfType (sym h.3.3.3.0) (elements_of h.0 h.3.3.0 (primitive h.0 h.2.1) (subst (λ n. that (is_whole h.0) n ≡ None) (sym size) h.3.2.1))
+
+pub arrays_are_elements : (x : ArrayInits) → All (λ (a : ArrayRec). AreElementsOf a.kind a.initial) (map array_record (arrays_left x))
+arrays_are_elements x = All-map (λ (a : ArrayRec). AreElementsOf a.kind a.initial) array_record (arrays_left x) (given_all AreOfType array_init_info elements_spelled x.left x.items x.known)
+
+pub same_elements : (x : ArrayInits) (arrays : List Array) → arrays_left x ≡ arrays → All (λ (a : ArrayRec). AreElementsOf a.kind a.initial) (map array_record arrays)
+same_elements x arrays e = subst (λ given. All (λ (a : ArrayRec). AreElementsOf a.kind a.initial) (map array_record given)) e (arrays_are_elements x)

@@ -1,6 +1,0 @@
-use Rattle.std.proofs.Common.{◌≡◌, ◌+◌, drop}
-use Rattle.jc_members.specs.Fields.{cells_before}
-use Rattle.jc_members.proofs.fields.cells_before.Given as goal
-
-abbrev pub invariant-fields : goal.invariant-fields
-invariant-fields l = l.cells + cells_before (drop l.field-index l.fields) l.token ≡ cells_before l.fields l.token

@@ -1,7 +1,0 @@
-use Rattle.std.proofs.Common.{◌≡◌, [], take}
-use Rattle.jc_members.specs.Sites.{all_entered}
-use Rattle.jc_members.specs.Members.{static_sites}
-use Rattle.jc_members.proofs.sites.static_sites.Given as goal
-
-abbrev pub invariant-fields : goal.invariant-fields
-invariant-fields l = l.sites ≡ all_entered [] (static_sites (take l.field-index l.statics))

@@ -1,7 +1,0 @@
-use Rattle.cap_package.proofs.InfoLaws.{info-short}
-use Rattle.jc_rewritten.proofs.Classes.{classes_link}
-use Rattle.jc_rewritten.proofs.laws.classes_link.Goals as goal
-
-pub returns : goal.returns
-returns c = λ parts new_parts ps p q laid s t r object. classes_link parts ps p q laid object s r
-    (info-short 7 t.said.methods.file q.methods.info t.said.methods.framed)

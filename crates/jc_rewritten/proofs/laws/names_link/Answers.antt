@@ -1,8 +1,0 @@
-use Rattle.jc_rewritten.proofs.Names.{met_same, named_same}
-use Rattle.jc_rewritten.proofs.laws.names_link.Goals as goal
-
-pub returns : goal.returns
-returns c = λ ps p q laid r. record {
-  imports = λ k token. met_same ps p q k token r.header r.imports;
-  classes = λ k reference. named_same ps p q laid k reference r;
-}

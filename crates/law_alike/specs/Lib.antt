@@ -1,0 +1,6 @@
+pub mod Alike
+pub mod Running
+pub mod Likeness
+pub mod Starting
+pub mod Ends
+pub mod Worked

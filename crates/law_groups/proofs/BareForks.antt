@@ -1,0 +1,117 @@
+-- A conditional branch or a switch with no cells under its operands: its step in laid code, and where that leads.
+use Rattle.std.proofs.Common.{◌≡◌, ◌≢◌, ℕ, zero, suc, ◌+◌, ◌-◌, ◌*◌, ◌<◌, ◌≤◌, Bool, true, false, if◌then◌else◌, List, [], ◌∷◌, ◌++◌, length, map, refl, sym, ap, ◌∙◌, subst, arith}
+use Rattle.std.specs.Prelude.{ℤ, pos, negsuc, All, Contains, Option, Some, None, Ok, is_some, nat_le, nat_lt, slice_get}
+use Rattle.std.specs.List.{filter}
+use Rattle.std.proofs.lemmas.Bool.Decides.{nat_tests}
+use Rattle.jc_base.specs.declared.ty.Ty.{Ty}
+use Rattle.jc_base.specs.Each.{Each}
+use Rattle.jc_decode.specs.declared.insn.Case.{Case}
+use Rattle.jc_decode.specs.declared.insn.Insn.{Insn}
+use Rattle.jc_decode.specs.declared.insn.Placed.{Placed}
+use Rattle.jc_decode.specs.declared.symbols.Item.{Item}
+use Rattle.jc_decode.specs.declared.symbols.Item.TheVariants.{Branch, Label, Plain, Switch}
+use Rattle.jc_decode.specs.Cases.{cases}
+use Rattle.jc_decode.specs.Forms.{wide}
+use Rattle.jc_decode.specs.Listing.{target, targets}
+use Rattle.jc_decode.specs.Symbols.{Step, jump, place_of, steps_in}
+use Rattle.jc_ops.specs.declared.operation.Branch.{Branch as Test}
+use Rattle.jc_ops.specs.declared.operation.Branch.TheVariants as branches
+use Rattle.jc_ops.specs.declared.operation.Operation.{Operation}
+use Rattle.jc_ops.specs.declared.operation.Operation.TheVariants as ops
+use Rattle.xf_homes.specs.declared.home.Home.{Home}
+use Rattle.xf_homes.specs.Home.{register_count}
+use Rattle.xf_homes.specs.Value.{value_in_cells}
+use Rattle.xf_homes.specs.Walk.{operands_of}
+use Rattle.jc_base.specs.World.{Linked}
+use Rattle.xf_homes.specs.Source.{Source}
+use Rattle.xf_homes.specs.Plan.{stack_homes, cells_from, depth, home_of, stack_of, with_home_of}
+use Rattle.xf_emission.specs.declared.origin.Origin.TheVariants.{After}
+use Rattle.xf_emission.specs.Edge.{cell_copies, copies}
+use Rattle.xf_emission.specs.Emission.{items}
+use Rattle.xf_emission.specs.Group.{body, branch_by, itself}
+use Rattle.xf_emission.specs.Jump.{branch, operands_slot, first_label, goto, has_under, jump_to, label_by, lead, leads, place as place_named, spill_if, stub, stub_label, stub_of, branch_copies, under}
+use Rattle.law_groups.specs.Laid.{count_of, steps_of}
+use Rattle.law_groups.specs.Steps.{ItemsStandFrom}
+use Rattle.law_groups.proofs.Standing.{step-at}
+
+-- ---- the body
+
+-- which have operands
+pub body-branch :
+    (s : Source) (i : Placed) (op : Operation) (n : ℕ)
+    → operands_of s.world (Ok op) ≡ Some n
+    → body s i op ≡ branch s i op n
+unfolding body
+body-branch s i (ops.Branch branches.Always) n e = absurd (cc)
+body-branch s i (ops.Branch (branches.Zero o)) n e = ap (branch_by s i (ops.Branch (branches.Zero o))) e
+body-branch s i (ops.Branch (branches.Null o)) n e = ap (branch_by s i (ops.Branch (branches.Null o))) e
+body-branch s i (ops.Branch (branches.References o)) n e = ap (branch_by s i (ops.Branch (branches.References o))) e
+body-branch s i (ops.Branch (branches.Shorts o)) n e = ap (branch_by s i (ops.Branch (branches.Shorts o))) e
+body-branch s i (ops.Switch width) n e = ap (branch_by s i (ops.Switch width)) e
+body-branch s i _ n e = absurd (cc)
+
+pub branch-alone :
+    (s : Source) (i : Placed) (op : Operation) (n : ℕ)
+    → has_under s i.place n ≡ false
+    → branch s i op n ≡ jump_to i op (leads s i.place op n 0 (targets s.method.code i)) ∷ []
+unfolding branch
+branch-alone s i op n e =
+    ap (λ b. spill_if b s i.place n ++ jump_to i op (leads s i.place op n 0 (targets s.method.code i)) ∷ []) e
+
+-- ---- no cells under the operands
+
+cells-above : (slot : ℕ) (ts : List Ty) (i n : ℕ) → Each (λ (h : Home). slot ≤ h.slot) (cells_from slot ts i n)
+cells-above slot ts i zero = tt
+cells-above slot ts i (suc n) = by (value_in_cells ts i) (cells-above slot ts (suc i) n)
+  where
+    by :
+        (o : Option Ty)
+        → Each (λ (h : Home). slot ≤ h.slot) (cells_from slot ts (suc i) n)
+        → Each (λ (h : Home). slot ≤ h.slot) (with_home_of (home_of (slot + i) o) (cells_from slot ts (suc i) n))
+    by None rest = rest
+    by (Some ty) rest = (omega arith, rest)
+
+none-below : (c : ℕ) (hs : List Home) → Each (λ (h : Home). c ≤ h.slot) hs → filter (λ (h : Home). nat_lt h.slot c) hs ≡ []
+none-below c [] all = refl
+none-below c (h ∷ hs) all =
+    let le = all.0 in
+    let e : nat_lt h.slot c ≡ false = grind (arith, nat_tests, le) in
+    ap (λ b. if b then h ∷ filter (λ (k : Home). nat_lt k.slot c) hs else filter (λ (k : Home). nat_lt k.slot c) hs) e
+    ∙ none-below c hs all.1
+
+pub under-none : (s : Source) (p n : ℕ) → has_under s p n ≡ false → under s p n ≡ []
+unfolding under stack_homes
+under-none s p n e =
+    let deep : depth s p ≤ n = grind (arith, nat_tests, e) in
+    let c : operands_slot s p n ≡ register_count s.method.rec = omega (arith, deep) in
+    ap (λ k. filter (λ (h : Home). nat_lt h.slot k) (cells_from (register_count s.method.rec) (stack_of (s.frames p)) 0 (depth s p))) c
+    ∙ none-below (register_count s.method.rec) _ (cells-above (register_count s.method.rec) (stack_of (s.frames p)) 0 (depth s p))
+
+pub taken-is :
+    (s : Source) (p : ℕ) (op : Operation) (n q : ℕ) → has_under s p n ≡ false → branch_copies s p op n q ≡ copies s (After p op) q
+unfolding branch_copies
+taken-is s p op n q e = ap (λ hs. cell_copies s hs (stack_homes s q) ++ copies s (After p op) q) (under-none s p n e)
+
+-- ---- the step
+
+abbrev pub labels_of : Source → Placed → Operation → ℕ → List ℕ
+labels_of s i op n = leads s i.place op n 0 (targets s.method.code i)
+
+-- of the k-th target
+pub lead-at :
+    (s : Source) (p : ℕ) (op : Operation) (n from k : ℕ) (ts : List ℤ) (t : ℤ)
+    → slice_get ts k ≡ Some t
+    → slice_get (leads s p op n from ts) k ≡ Some (lead s p op n (from + k) t)
+lead-at s p op n from k [] t e = absurd (cc)
+lead-at s p op n from zero (u ∷ ts) t e =
+    let same : u ≡ t = cc in
+    let here : from ≡ from + 0 = omega arith in
+    ap (λ j. Some (lead s p op n j u)) here ∙ ap (λ x. Some (lead s p op n (from + 0) x)) same
+lead-at s p op n from (suc k) (u ∷ ts) t e =
+    let next : suc from + k ≡ from + suc k = omega arith in
+    lead-at s p op n (suc from) k ts t e ∙ ap (λ j. Some (lead s p op n j t)) next
+
+-- the instruction of the step of a branch or a switch
+abbrev pub jump_insn : Placed → Operation → Insn
+jump_insn i (ops.Switch width) = i.insn
+jump_insn i op = jump (wide i.insn.op)

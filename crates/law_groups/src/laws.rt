@@ -1,0 +1,106 @@
+ghost use Rattle.law_groups.specs.Body.{KeptRuns};
+ghost use Rattle.law_groups.specs.Laws.{CallsEnd, CallsReturn, GroupsCatch, HandlersEnter, HasRoomForMore, KeptGroupsRun, LoadGroupsRun, RenamesOneToOne, StartsEnter};
+ghost use Rattle.law_groups.specs.Steps.{GroupsFollow, GroupsStandAtSteps, HandlersStandAtSteps, StartsStandAtSteps, StubsStandAtSteps};
+
+use jc_base::{World, types_are_ordered};
+use jc_decode::instructions_are_listed;
+use jc_ops::operations_are_sound;
+use law_alike::steps_are_alike;
+use law_homes::{
+    edges_run, homes_hold, homes_run_alike, moves_are_few, none_are_written, stacks_move,
+};
+use law_laid::operations_are_kept;
+use law_rewritten_typing::{derived_are_whole, edges_carry};
+use xf_emission::{groups_stand, labels_stand_once, stubs_stand};
+use xf_homes::{homes_serve, needed_are_kept};
+
+/// The steps of groups and of stubs follow one another from the places of their labels, and a group follows that of the
+/// instruction before it.
+pub fn groups_stand_at_steps()
+    ensures groups { GroupsStandAtSteps }
+    ensures stubs { StubsStandAtSteps }
+    ensures handlers { HandlersStandAtSteps }
+    ensures follow { GroupsFollow }
+    ensures starts { StartsStandAtSteps }
+{
+    groups_stand();
+    stubs_stand();
+    labels_stand_once();
+    instructions_are_listed();
+}
+
+/// No two places of uninitialised objects become one where code is laid, and its stack has room for one cell more.
+pub fn places_are_renamed(world: &World<'_>)
+    ensures renames { RenamesOneToOne world.now }
+    ensures room { HasRoomForMore world.now }
+{
+    groups_stand();
+    labels_stand_once();
+    instructions_are_listed();
+    groups_stand_at_steps();
+}
+
+/// A frame under a call goes on at the step after it, and from the steps of a group the same handlers catch as from its
+/// place, in the same order.
+pub fn groups_catch(world: &World<'_>)
+    ensures ends { CallsEnd world.now }
+    ensures catches { GroupsCatch world.now }
+{
+    groups_stand();
+    labels_stand_once();
+    instructions_are_listed();
+    groups_stand_at_steps();
+}
+
+/// An instruction that is kept takes one step in laid code, to what it comes to in the source.
+pub fn kept_run(world: &World<'_>)
+    ensures { KeptRuns world.now }
+{
+    operations_are_sound(world);
+    operations_are_kept();
+    steps_are_alike(world);
+    homes_run_alike();
+    homes_hold();
+    none_are_written(world);
+    groups_stand_at_steps();
+    places_are_renamed(world);
+    let _ = world.classes().records();
+}
+
+/// After a call, at a handler and at a method's start laid code comes to the group of the source's place.
+pub fn groups_are_entered(world: &World<'_>)
+    ensures returns { CallsReturn world.now }
+    ensures handlers { HandlersEnter world.now }
+    ensures starts { StartsEnter world.now }
+{
+    needed_are_kept(world);
+    edges_carry(world);
+    stacks_move(world);
+    edges_run(world);
+    moves_are_few(world);
+    groups_stand_at_steps();
+    let _ = world.classes().records();
+}
+
+/// A group whose operation names no register and leads to no target, or loads a local, comes to what the source comes to.
+pub fn plain_groups_run(world: &World<'_>)
+    ensures kept { KeptGroupsRun world.now }
+    ensures loads { LoadGroupsRun world.now }
+{
+    types_are_ordered(world.classes());
+    homes_serve(world);
+    needed_are_kept(world);
+    derived_are_whole(world);
+    edges_carry(world);
+    stacks_move(world);
+    edges_run(world);
+    moves_are_few(world);
+    steps_are_alike(world);
+    homes_run_alike();
+    homes_hold();
+    none_are_written(world);
+    groups_stand_at_steps();
+    places_are_renamed(world);
+    kept_run(world);
+    let _ = world.classes().records();
+}

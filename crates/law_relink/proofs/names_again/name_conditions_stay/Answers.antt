@@ -1,0 +1,5 @@
+use Rattle.law_relink.proofs.Conditions.{conditions_same}
+use Rattle.law_relink.proofs.names_again.name_conditions_stay.Goals as goal
+
+pub returns : goal.returns
+returns c = conditions_same

@@ -1,0 +1,4 @@
+pub mod Last
+pub mod NamesAgain
+pub mod Replaced
+pub mod WorldAgain

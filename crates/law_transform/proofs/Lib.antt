@@ -1,0 +1,13 @@
+pub mod Bytes
+pub mod Flagged
+pub mod Own
+pub mod Catching
+pub mod Accepted
+pub mod Typed
+pub mod Settling
+pub mod Throwing
+pub mod Keeping
+pub mod Simulating
+pub mod Beginning
+pub mod Filling
+pub mod Laid

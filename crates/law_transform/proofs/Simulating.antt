@@ -1,0 +1,208 @@
+-- A step of the first world, and steps of the second that come to the same; and so runs.
+use Rattle.std.proofs.Common.{◌≡◌, ℕ, zero, suc, ◌+◌, ◌*◌, ◌≤◌, List, [], ◌∷◌, drop, refl, sym, ap, ◌∙◌, subst, arith}
+use Rattle.std.specs.Prelude.{Some, Ok, slice_get}
+use Rattle.jc_base.specs.World.{Linked}
+use Rattle.jc_control.specs.Control.{IsReached}
+use Rattle.jc_control.specs.Method.{Method}
+use Rattle.vm_store.specs.declared.cell.Cell.{Cell}
+use Rattle.vm_store.specs.Cells.{tagged}
+use Rattle.vm_store.specs.State.{Frame, State, arguments, entered, top, other_frames, with_call, without_top}
+use Rattle.vm_step.specs.declared.ending.Ending.{Ending}
+use Rattle.vm_step.specs.declared.ending.Ending.TheVariants as endings
+use Rattle.vm_step.specs.Raising.{Outcome, running, ended, raised, thrown}
+use Rattle.vm_step.specs.Run.{Runs, Continues, stands, stops, steps}
+use Rattle.vm_step.specs.Settled.{given_to}
+use Rattle.vm_step.specs.Step.{Steps}
+use Rattle.vm_step.proofs.Running.{continues-on}
+use Rattle.law_sound.specs.Frames.{Typings}
+use Rattle.law_sound.specs.State.{IsTypedState}
+use Rattle.law_sound.specs.Soundness.{IsTypedOutcome}
+use Rattle.xf_homes.specs.Source.{Source}
+use Rattle.law_groups.specs.Beside.{IsAtGroup}
+use Rattle.law_groups.specs.Comes.{ComesWithin, AreAtGroup, CallAlike, GroupComes, group_calls, group_gives, group_raises, group_throws, group_ends, GroupRuns, group_leaves, group_stays}
+use Rattle.law_groups.proofs.Plain.{one-step}
+use Rattle.law_transform.specs.Counterparts.{IsSameMethod, IsRewrittenIn, AreCounterparts}
+use Rattle.law_transform.specs.Beside.{AreTop, top_kept, top_rewritten, WaitBeside, wait_rewritten, AreUnder, more_frames, AreBeside, OutcomesBeside, both_run, both_end}
+use Rattle.law_transform.proofs.Typed.{AreLaws, its-method, method-is, typed-at, stays-typed, reached-at}
+use Rattle.law_transform.proofs.Settling.{extra, Settles, settled-now, settles-as, beside, equal-but, enters, gives}
+use Rattle.law_transform.proofs.Throwing.{catch_rewritten, throws-settle, raises-settle}
+use Rattle.law_transform.proofs.Keeping.{kept-steps}
+
+-- at most so many steps for one step; the last before an ending is short
+abbrev pub most : Outcome Cell → ℕ
+most (running s) = 2000
+most (ended ending s) = 1000
+
+most-is : (o : Outcome Cell) → 1000 + extra o ≡ most o
+most-is (running s) = refl
+most-is (ended ending s) = refl
+
+module _ (v w : Linked) (typings : Typings) (laws : AreLaws v) (pair : AreCounterparts v w typings) where
+  abbrev StepComes : Outcome Cell → State Cell → Type 0
+  StepComes o t = ComesWithin w 1 (most o) t (OutcomesBeside v w typings o)
+
+  settles-then : (o : Outcome Cell) (t : State Cell) (count : ℕ) (p : Outcome Cell) → 1 ≤ count → count ≤ 1000 → Runs tagged w count t p → Settles v w typings o p → StepComes o t
+  settles-then o t count p more fewer runs s =
+      let total : 1000 + extra o ≡ most o = most-is o in
+      let few : s.count ≤ extra o = s.fewer in
+      record {
+        count = count + s.count;
+        more = omega (arith, more);
+        fewer = omega (arith, fewer, few, total);
+        outcome = s.outcome;
+        runs = continues-on tagged w count s.count (running t) p s.outcome runs s.continues;
+        comes = s.comes;
+      }
+
+  -- ---- a method that is rewritten
+
+  module _ (z t : State Cell) (first : z.frames ≡ top z ∷ other_frames z.frames) (second : t.frames ≡ top t ∷ other_frames t.frames)
+      (under : AreUnder v w typings (other_frames z.frames) (other_frames t.frames))
+      (heap : t.heap ≡ z.heap) (statics : t.statics ≡ z.statics) (typed : IsTypedState v typings z)
+      (s : Source) (place : ℕ → ℕ) (r : IsRewrittenIn v w typings (top z).method s place) where
+    of-frame : (f : Frame Cell) → f.method ≡ s.method.number → IsRewrittenIn v w typings f.method s place
+    of-frame f method = subst (λ n. IsRewrittenIn v w typings n s place) (sym r.number ∙ sym method) r
+
+    called : (o p : Outcome Cell) → CallAlike v w s place z t o p → IsTypedOutcome v typings o → Settles v w typings o p
+    called o p c safe =
+        let y : State Cell = c.source in
+        let u : State Cell = c.target in
+        let fs : other_frames y.frames ≡ other_frames z.frames = ap other_frames c.first.frames in
+        let gs : other_frames u.frames ≡ other_frames t.frames = ap other_frames c.second.frames in
+        let rest : AreUnder v w typings (other_frames y.frames) (other_frames u.frames) =
+        subst (λ xs. AreUnder v w typings xs (other_frames u.frames)) (sym fs)
+        (subst (λ xs. AreUnder v w typings (other_frames z.frames) xs) (sym gs) under) in
+        let now_typed : IsTypedState v typings (with_call tagged v.methods y c.method c.count) = subst (IsTypedOutcome v typings) c.enters safe in
+        let here : Frame Cell = record (top y) { stack = drop c.count (top y).stack } in
+        let there : Frame Cell = record (top u) { stack = drop c.count (top u).stack } in
+        let its : IsRewrittenIn v w typings here.method s place = of-frame here c.waits.within.of.source in
+        let stand = now_typed.frames.1.0.stands in
+        let reached : IsReached s.method here.place =
+        subst (λ (m : Method). IsReached m here.place) (method-is v s.method here.method stand.rec (its-method v w typings here.method s place its) (sym its.number) stand.is_method) stand.reached in
+        let waits : WaitBeside v w typings here there = wait_rewritten s place its reached c.waits in
+        let args : List Cell = arguments c.count (top y).stack in
+        let many = laws.handed typings z y c.executes.method c.instruction c.op c.method c.count pair.typed typed c.executes.fetched c.executes.resolved c.acts in
+        settles-as v w typings o p (running (with_call tagged v.methods y c.method c.count)) (running (with_call tagged w.methods u c.method c.count)) c.enters c.too
+        (subst (λ cs. Settles v w typings (running (with_call tagged v.methods y c.method c.count))
+        (running (record u { frames = entered tagged w.methods c.method cs ∷ (there ∷ other_frames u.frames) }))) (sym c.handed)
+        (enters v w typings laws pair c.method args (here ∷ other_frames y.frames) (there ∷ other_frames u.frames)
+        y.heap u.heap y.statics u.statics c.equal.heap c.equal.statics (more_frames waits rest) now_typed many))
+
+    group-settles : (o p : Outcome Cell) → GroupComes v w s place z t o p → IsTypedOutcome v typings o → Settles v w typings o p
+    group-settles o p (group_calls c) safe = called o p c safe
+    group-settles o p (group_gives value cs plain is also) safe =
+        settles-as v w typings o p (given_to tagged v value cs (without_top z)) (given_to tagged w value cs (without_top t)) is also
+        (gives v w typings laws pair value cs plain z.heap t.heap z.statics t.statics heap statics under (subst (IsTypedOutcome v typings) is safe))
+    group-settles o p (group_raises exception u at is also) safe =
+        settles-as v w typings o p (raised tagged v exception z) (raised tagged w exception u) is also
+        (raises-settle v w typings laws pair (top z) (top u) (other_frames z.frames) (other_frames t.frames) under
+        (catch_rewritten s place r (reached-at v typings w s place z first typed r) at.within) exception z u first at.moves.frames (at.moves.heap ∙ heap) (at.moves.statics ∙ statics)
+        (subst (IsTypedOutcome v typings) is safe))
+    group-settles o p (group_throws handle u at is also) safe =
+        settles-as v w typings o p (thrown tagged v handle z) (thrown tagged w handle u) is also
+        (throws-settle v w typings laws pair (top z) (top u) (other_frames z.frames) (other_frames t.frames) under
+        (catch_rewritten s place r (reached-at v typings w s place z first typed r) at.within) handle z u first at.moves.frames (at.moves.heap ∙ heap) (at.moves.statics ∙ statics)
+        (subst (IsTypedOutcome v typings) is safe))
+    group-settles o p (group_ends ending y) safe =
+        settled-now v w typings (ended (endings.Plain ending) y) (ended (endings.Plain ending) y) (both_end (endings.Plain ending) refl refl)
+
+    stays-beside :
+        (y : State Cell) → IsTypedState v typings y → ComesWithin w 1 2000 t (λ p. (u : State Cell) × (p ≡ running u) × AreAtGroup s place z t y u) → StepComes (running y) t
+    stays-beside y now_typed c =
+        let u : State Cell = c.comes.0 in
+        let at : AreAtGroup s place z t y u = c.comes.2 in
+        let tops : AreTop v w typings (top y) (top u) = top_rewritten s place (of-frame (top y) at.group.of.source) at.group in
+        record {
+          count = c.count;
+          more = c.more;
+          fewer = c.fewer;
+          outcome = c.outcome;
+          runs = c.runs;
+          comes = subst (OutcomesBeside v w typings (running y)) (sym c.comes.1)
+              (both_run (beside v w typings laws pair z t y u at.first.frames at.second.frames under tops at.equal.heap at.equal.statics now_typed));
+        }
+
+    group-comes : (o : Outcome Cell) → GroupRuns v w s place z t o → IsTypedOutcome v typings o → StepComes o t
+    group-comes o (group_leaves c) safe = settles-then o t c.count c.outcome c.more c.fewer c.runs (group-settles o c.outcome c.comes safe)
+    group-comes o (group_stays y is c) safe =
+        subst (λ x. StepComes x t) (sym is) (stays-beside y (subst (IsTypedOutcome v typings) is safe) c)
+
+    rewritten-steps : IsAtGroup s place (top z) (top t) → (o : Outcome Cell) → Steps tagged v z o → IsTypedOutcome v typings o → StepComes o t
+    rewritten-steps group o step safe =
+        group-comes o
+        (laws.groups w s place r.laid z t o (typed-at v typings w s place laws.stay z first typed r) group
+        (equal-but v w typings laws pair z t first second under heap statics) step (stays-typed v typings w s place laws.stay (top z).method r o safe)) safe
+
+  -- ---- a step
+
+  steps-by :
+      (z t : State Cell) (f g : Frame Cell) → AreTop v w typings f g → top z ≡ f → top t ≡ g → AreBeside v w typings z t
+      → (o : Outcome Cell) → Steps tagged v z o → IsTypedOutcome v typings o → StepComes o t
+  steps-by z t f g (top_kept k) here there b o step safe =
+      let same : top t ≡ top z = there ∙ sym here in
+      let done = kept-steps v w typings laws pair z t b.first b.second b.under b.heap b.statics b.typed (subst (λ (x : Frame Cell). IsSameMethod v w x.method) (sym here) k) same o step safe in
+      settles-then o t 1 done.0 (omega arith) (omega arith) (one-step w t done.0 done.1) done.2
+  steps-by z t f g (top_rewritten s place r group) here there b o step safe =
+      let its : IsRewrittenIn v w typings (top z).method s place = subst (λ (x : Frame Cell). IsRewrittenIn v w typings x.method s place) (sym here) r in
+      let at : IsAtGroup s place (top z) (top t) = subst (λ x. IsAtGroup s place x (top t)) (sym here) (subst (λ x. IsAtGroup s place f x) (sym there) group) in
+      rewritten-steps z t b.first b.second b.under b.heap b.statics b.typed s place its at o step safe
+
+  pub step-comes : (z t : State Cell) → AreBeside v w typings z t → (o : Outcome Cell) → Steps tagged v z o → StepComes o t
+  step-comes z t b o step = steps-by z t (top z) (top t) b.tops refl refl b o step (laws.safe typings z o pair.typed b.typed step)
+
+  -- ---- runs
+
+  abbrev least : ℕ → Outcome Cell → ℕ
+  least n (running s) = n
+  least n (ended ending s) = 0
+
+  abbrev last : Outcome Cell → ℕ
+  last (running s) = 0
+  last (ended ending s) = 1000
+
+  least-more : (o : Outcome Cell) (n a b : ℕ) → 1 ≤ a → least n o ≤ b → least (suc n) o ≤ a + b
+  least-more (running s) n a b h g = omega (arith, h, g)
+  least-more (ended ending s) n a b h g = omega arith
+
+  pub record RunComes (n : ℕ) (o : Outcome Cell) (t : State Cell) : Type 0 where
+    pub count : ℕ
+    pub more : least n o ≤ count
+    pub fewer : count + last o ≤ 2000 * n
+    pub outcome : Outcome Cell
+    pub runs : Runs tagged w count t outcome
+    pub comes : OutcomesBeside v w typings o outcome
+
+  pub both-running : {y : State Cell} {p : Outcome Cell} → OutcomesBeside v w typings (running y) p → (u : State Cell) × (p ≡ running u) × AreBeside v w typings y u
+  both-running (both_run {t = u} b) = (u, refl, b)
+
+  pub record IsEndedToo (ending : Ending) (z : State Cell) (p : Outcome Cell) : Type 0 where
+    pub state : State Cell
+    pub is : p ≡ ended ending state
+    pub heap : state.heap ≡ z.heap
+    pub statics : state.statics ≡ z.statics
+
+  pub both-ended : {ending : Ending} {z : State Cell} {p : Outcome Cell} → OutcomesBeside v w typings (ended ending z) p → IsEndedToo ending z p
+  both-ended (both_end ending {t = u} heap statics) = record { state = u; is = refl; heap = heap; statics = statics }
+
+  pub runs-come : {n : ℕ} {z : State Cell} {o : Outcome Cell} → Runs tagged v n z o → (t : State Cell) → AreBeside v w typings z t → RunComes n o t
+  runs-come stands t b =
+      record { count = 0; more = omega arith; fewer = omega arith; outcome = running t; runs = stands; comes = both_run b }
+  runs-come (stops {n = n} {s = s} {z = z} {ending = ending} step) t b =
+      let c = step-comes s t b (ended ending z) step in
+      let few = c.fewer in
+      record { count = c.count; more = omega arith; fewer = omega (arith, few); outcome = c.outcome; runs = c.runs; comes = c.comes }
+  runs-come (steps {n = n} {s = s} {z = y} {o = o} step more) t b =
+      let c = step-comes s t b (running y) step in
+      let u = both-running c.comes in
+      let rest = runs-come more u.0 u.2 in
+      let few = c.fewer in
+      let rest_few = rest.fewer in
+      record {
+        count = c.count + rest.count;
+        more = least-more o n c.count rest.count c.more rest.more;
+        fewer = omega (arith, few, rest_few);
+        outcome = rest.outcome;
+        runs = continues-on tagged w c.count rest.count (running t) c.outcome rest.outcome c.runs
+            (subst (λ x. Continues tagged w rest.count x rest.outcome) (sym u.1) rest.runs);
+        comes = rest.comes;
+      }

@@ -1,0 +1,18 @@
+use Rattle.law_transform.proofs.Laid.{laid-end-alike}
+use Rattle.law_transform.proofs.like_endings.laid_end_alike.Goals as goal
+
+pub returns : goal.returns
+returns c =
+    laid-end-alike c.args.world.now
+    (record {
+      links = c.classes-classes.ensures.links;
+      bytes = c.codes_are_bytes.ensures;
+      listed = c.instructions_are_listed.ensures;
+      placed = c.instructions_are_placed.ensures;
+      live = c.live_are_kept.ensures;
+      rewritten = c.rewritten_is_typed.ensures;
+      landed = c.laid_is_typed.ensures;
+      kept = c.typings_are_kept.ensures.card;
+    })
+    c.catches_by_pool.ensures c.card_laws.ensures.flow c.laid_methods_stand.ensures c.groups_stand_at_steps.ensures.groups c.methods_are_kept.ensures
+    c.operations_are_kept.ensures.operations c.operations_are_sound.ensures.sound c.worlds_end_alike.ensures

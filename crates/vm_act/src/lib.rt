@@ -1,0 +1,38 @@
+//! What each operation does (JCVM 2.2, chapter 7), once for every machine: the store of a machine's state does what
+//! the operation says to the frame on top, to objects and to static fields, and a `Lead` tells what is left to do.
+//! Here are values and the operand stack, fields and elements of arrays, and which method an object runs (sections
+//! 2.2.1 and 6.8.2). It stands on the stores of `vm_store`, the arithmetic of `vm_arithmetic` and the definitions of
+//! `vm_step`.
+#![tactic(auto)]
+
+mod acting;
+mod arithmetic;
+mod array;
+mod branch;
+mod calling;
+mod constant;
+mod dispatching;
+mod field;
+mod lead;
+mod moving;
+mod number;
+mod object;
+mod put;
+mod register;
+mod serving;
+mod switch;
+
+pub use acting::act;
+pub use arithmetic::compute;
+pub use array::{array_length, is_instance_of, read_array, write_array};
+pub use branch::pop_branch;
+pub use constant::push_constant;
+pub use dispatching::dispatched;
+pub use field::{read_field, write_field};
+pub use lead::{Lead, Put};
+pub use moving::move_cells;
+pub use number::{handle_on, int_on, push_int, push_short, short_on};
+pub use put::perform_put;
+pub use register::{increment, load, store_top};
+pub use serving::served;
+pub use switch::{pop_key, switch_offset};

@@ -1,6 +1,0 @@
-use Rattle.vm_alike.proofs.Together.{steps-are-alike}
-use Rattle.vm_alike.proofs.laws.steps_are_alike.Goals as goal
-
-pub returns : goal.returns
-returns c =
-    steps-are-alike c.args.world.now c.classes.ensures.links c.operations_are_sound.ensures.sound c.operations_are_sound.ensures.decided

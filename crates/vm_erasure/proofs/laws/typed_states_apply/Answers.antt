@@ -1,5 +1,0 @@
-use Rattle.vm_erasure.proofs.Applying.{typed-states-apply}
-use Rattle.vm_erasure.proofs.laws.typed_states_apply.Goals as goal
-
-pub returns : goal.returns
-returns c = typed-states-apply c.args.world.now c.classes.ensures.links

@@ -1,7 +1,0 @@
-use Rattle.std.proofs.Common.{take}
-use Rattle.vm_instance.specs.Searched.{AreLeft}
-use Rattle.vm_instance.proofs.Search.{NoneExtends}
-use Rattle.vm_instance.proofs.searching.names.Given as goal
-
-abbrev pub invariant-named : goal.invariant-named
-invariant-named l = record { none : NoneExtends l.world.classes l.sought (take l.named-index l.named-items); left : AreLeft l.world.classes l.sought l.searched }

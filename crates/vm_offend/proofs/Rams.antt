@@ -1,0 +1,273 @@
+-- The words of all frames, and what a write to those of the frame on top does.
+use Rattle.std.proofs.Common.{◌≡◌, ℕ, zero, suc, ◌+◌, ◌-◌, ◌*◌, ◌<◌, ◌≤◌, List, [], ◌∷◌, ◌++◌, length, take, drop, refl, sym, ◌∙◌, ap, subst, arith, length-drop, length-take}
+use Rattle.std.proofs.lemmas.List.{take-take, take_at, drop_at, append_assoc, length-append, drop-take}
+use borrow.Rule.Slice.PartMut.{put_mid}
+use Rattle.jc_base.specs.declared.record.MethodRec.{MethodRec}
+use Rattle.jc_base.specs.World.{Linked}
+use Rattle.vm_offend.specs.declared.words.Counts.{Counts}
+use Rattle.vm_store.specs.State.{Frame, State, first_frame, other_frames, with_top, without_top}
+use Rattle.vm_offend.specs.Words.{window, frame_in, frames_in, FitsWindow, FitWindows, words_state, AreLaid}
+
+pub length-frames_in : (methods : List MethodRec) (ram : List ℕ) (n : ℕ) → length (frames_in methods ram n) ≡ n
+length-frames_in methods ram zero = refl
+length-frames_in methods ram (suc n) = ap suc (length-frames_in methods ram n)
+
+-- two memories with the same first words have the same windows there
+window_below : (xs ys : List ℕ) (n k : ℕ) → n < k → take (513 * k) xs ≡ take (513 * k) ys → window xs n ≡ window ys n
+window_below xs ys n k lt e =
+    let fits : 513 * n + 513 ≤ 513 * k = omega arith in
+    let cut : (zs : List ℕ) → window zs n ≡ drop (513 * n) (take (513 * n + 513) (take (513 * k) zs)) =
+    λ zs. sym (drop-take (513 * n) 513 zs) ∙ ap (drop (513 * n)) (sym (take-take (513 * n + 513) (513 * k) zs fits)) in
+    cut xs ∙ (ap (λ zs. drop (513 * n) (take (513 * n + 513) zs)) e ∙ sym (cut ys))
+
+pub frames_below : (methods : List MethodRec) (xs ys : List ℕ) (n k : ℕ) → n ≤ k → take (513 * k) xs ≡ take (513 * k) ys → frames_in methods xs n ≡ frames_in methods ys n
+frames_below methods xs ys zero k le e = refl
+frames_below methods xs ys (suc n) k le e =
+    let w = window_below xs ys n k le e in
+    let rest = frames_below methods xs ys n k (omega arith) e in
+    ap (λ v. frame_in methods v ∷ frames_in methods xs n) w ∙ ap (λ fs. frame_in methods (window ys n) ∷ fs) rest
+
+pub fits_below : (methods : List MethodRec) (xs ys : List ℕ) (n k : ℕ) → n ≤ k → take (513 * k) xs ≡ take (513 * k) ys → FitWindows methods xs n → FitWindows methods ys n
+fits_below methods xs ys zero k le e fits = tt
+fits_below methods xs ys (suc n) k le e (here, rest) =
+    (subst (FitsWindow methods) (window_below xs ys n k le e) here, fits_below methods xs ys n k (omega arith) e rest)
+
+-- the memory in which the words of frame n are others
+module _ (methods : List MethodRec) (ram ws : List ℕ) (n : ℕ) (reach : 513 * n + 513 ≤ length ram) (len : length ws ≡ 513) where
+  put : List ℕ
+  put = put_mid (513 * n) 513 ram ws
+
+  front : length (take (513 * n) ram) ≡ 513 * n
+  front = omega (arith, length-take (513 * n) ram)
+
+  pub put_window : window (put_mid (513 * n) 513 ram ws) n ≡ ws
+  put_window =
+      ap (take 513) (drop_at (take (513 * n) ram) (ws ++ drop 513 (drop (513 * n) ram)) (513 * n) front)
+      ∙ take_at ws (drop 513 (drop (513 * n) ram)) 513 len
+
+  pub put_below : take (513 * n) (put_mid (513 * n) 513 ram ws) ≡ take (513 * n) ram
+  put_below = take_at (take (513 * n) ram) (ws ++ drop 513 (drop (513 * n) ram)) (513 * n) front
+
+  pub put_length : length (put_mid (513 * n) 513 ram ws) ≡ length ram
+  put_length =
+      length-append (take (513 * n) ram) (ws ++ drop 513 (drop (513 * n) ram))
+      ∙ omega (arith, front, len, length-append ws (drop 513 (drop (513 * n) ram)), length-drop 513 (drop (513 * n) ram), length-drop (513 * n) ram)
+
+  pub put_frames : frames_in methods (put_mid (513 * n) 513 ram ws) (suc n) ≡ frame_in methods ws ∷ frames_in methods ram n
+  put_frames =
+      ap (λ v. frame_in methods v ∷ frames_in methods (put_mid (513 * n) 513 ram ws) n) put_window
+      ∙ ap (λ fs. frame_in methods ws ∷ fs) (frames_below methods (put_mid (513 * n) 513 ram ws) ram n n (omega arith) put_below)
+
+  pub put_fits : FitsWindow methods ws → FitWindows methods ram n → FitWindows methods (put_mid (513 * n) 513 ram ws) (suc n)
+  put_fits here rest =
+      (subst (FitsWindow methods) (sym put_window) here, fits_below methods ram (put_mid (513 * n) 513 ram ws) n n (omega arith) (sym put_below) rest)
+
+pub frames_whole : (fs : List (Frame ℕ)) → 0 < length fs → first_frame fs ∷ other_frames fs ≡ fs
+frames_whole [] h = absurd (omega (arith, h))
+frames_whole (f ∷ fs) h = refl
+
+-- ---- the frame on top, in the words that the code takes for it
+
+module _ (w : Linked) (ram heap : List ℕ) (counts : Counts) (laid : AreLaid w ram heap counts) (running : 0 < length (frames_in w.methods ram counts.frames)) where
+  pub some : 0 < counts.frames
+  some = omega (arith, length-frames_in w.methods ram counts.frames)
+
+  below : counts.frames ≤ 64
+  below = laid.some_frames
+
+  last : suc (counts.frames - 1) ≡ counts.frames
+  last = omega (arith, some)
+
+  pub within : 513 * (counts.frames - 1) + 513 ≤ length ram
+  within = omega (arith, laid.ram_length, some, below)
+
+  width : 513 * (counts.frames - 1) + 513 - 513 * (counts.frames - 1) ≡ 513
+  width = omega arith
+
+  -- the words that the code takes
+  taken : take (513 * (counts.frames - 1) + 513 - 513 * (counts.frames - 1)) (drop (513 * (counts.frames - 1)) ram) ≡ window ram (counts.frames - 1)
+  taken = ap (λ k. take k (drop (513 * (counts.frames - 1)) ram)) width
+
+  pub taken_length : length (take (513 * (counts.frames - 1) + 513 - 513 * (counts.frames - 1)) (drop (513 * (counts.frames - 1)) ram)) ≡ 513
+  taken_length = ap length taken ∙ omega (arith, within, length-take 513 (drop (513 * (counts.frames - 1)) ram), length-drop (513 * (counts.frames - 1)) ram)
+
+  frames_are : frames_in w.methods ram counts.frames ≡ frame_in w.methods (window ram (counts.frames - 1)) ∷ frames_in w.methods ram (counts.frames - 1)
+  frames_are = ap (frames_in w.methods ram) (sym last)
+
+  -- they hold the frame on top
+  pub taken_is :
+      frame_in w.methods (take (513 * (counts.frames - 1) + 513 - 513 * (counts.frames - 1)) (drop (513 * (counts.frames - 1)) ram))
+      ≡ first_frame (frames_in w.methods ram counts.frames)
+  taken_is = ap (frame_in w.methods) taken ∙ ap first_frame (sym frames_are)
+
+  fits_all : FitWindows w.methods ram (suc (counts.frames - 1))
+  fits_all = subst (FitWindows w.methods ram) (sym last) laid.windows
+
+  pub taken_fits : FitsWindow w.methods (take (513 * (counts.frames - 1) + 513 - 513 * (counts.frames - 1)) (drop (513 * (counts.frames - 1)) ram))
+  taken_fits = subst (FitsWindow w.methods) (sym taken) fits_all.0
+
+  whole : (ws : List ℕ) → length ws ≡ length (take (513 * (counts.frames - 1) + 513 - 513 * (counts.frames - 1)) (drop (513 * (counts.frames - 1)) ram)) → length ws ≡ 513
+  whole ws same = same ∙ taken_length
+
+  -- the state once those words hold another frame
+  pub put_top :
+      (statics ws : List ℕ) (change : Frame ℕ → Frame ℕ)
+      → length ws ≡ length (take (513 * (counts.frames - 1) + 513 - 513 * (counts.frames - 1)) (drop (513 * (counts.frames - 1)) ram))
+      → frame_in w.methods ws ≡ change (frame_in w.methods (take (513 * (counts.frames - 1) + 513 - 513 * (counts.frames - 1)) (drop (513 * (counts.frames - 1)) ram)))
+      → words_state w.methods (put_mid (513 * (counts.frames - 1)) (513 * (counts.frames - 1) + 513 - 513 * (counts.frames - 1)) ram ws) heap statics counts
+      ≡ with_top (words_state w.methods ram heap statics counts) (change (first_frame (frames_in w.methods ram counts.frames)))
+  put_top statics ws change same e =
+      let n = counts.frames - 1 in
+      let f : Frame ℕ = change (first_frame (frames_in w.methods ram counts.frames)) in
+      let held : frame_in w.methods ws ≡ f = e ∙ ap change taken_is in
+      let framed : List (Frame ℕ) → State ℕ = λ fs. record (words_state w.methods ram heap statics counts) { frames = fs } in
+      let narrow : frames_in w.methods (put_mid (513 * n) (513 * n + 513 - 513 * n) ram ws) counts.frames ≡ frames_in w.methods (put_mid (513 * n) 513 ram ws) counts.frames =
+      ap (λ k. frames_in w.methods (put_mid (513 * n) k ram ws) counts.frames) width in
+      let counted : frames_in w.methods (put_mid (513 * n) 513 ram ws) counts.frames ≡ frames_in w.methods (put_mid (513 * n) 513 ram ws) (suc n) =
+      ap (frames_in w.methods (put_mid (513 * n) 513 ram ws)) (sym last) in
+      let others : frames_in w.methods ram n ≡ other_frames (frames_in w.methods ram counts.frames) = ap other_frames (sym frames_are) in
+      ap framed
+      (narrow
+      ∙ (counted
+      ∙ (put_frames w.methods ram ws n within (whole ws same)
+      ∙ (ap (λ g. g ∷ frames_in w.methods ram n) held ∙ ap (λ fs. f ∷ fs) others))))
+
+  pub put_laid :
+      (ws : List ℕ) → length ws ≡ length (take (513 * (counts.frames - 1) + 513 - 513 * (counts.frames - 1)) (drop (513 * (counts.frames - 1)) ram))
+      → FitsWindow w.methods ws
+      → AreLaid w (put_mid (513 * (counts.frames - 1)) (513 * (counts.frames - 1) + 513 - 513 * (counts.frames - 1)) ram ws) heap counts
+  put_laid ws same fits =
+      let n = counts.frames - 1 in
+      let len = whole ws same in
+      let P : ℕ → Type 0 = λ k. AreLaid w (put_mid (513 * n) k ram ws) heap counts in
+      subst P (sym width)
+      (record {
+        ram_length = put_length w.methods ram ws n within len ∙ laid.ram_length;
+        heap_length = laid.heap_length;
+        some_frames = laid.some_frames;
+        some_objects = laid.some_objects;
+        some_cells = laid.some_cells;
+        windows = subst (FitWindows w.methods (put_mid (513 * n) 513 ram ws)) last (put_fits w.methods ram ws n within len fits fits_all.1);
+        laid = laid.laid;
+      })
+
+  -- the state without the frame on top
+  pub left_state : (statics : List ℕ) → words_state w.methods ram heap statics (record counts { frames = counts.frames - 1 }) ≡ without_top (words_state w.methods ram heap statics counts)
+  left_state statics =
+      let framed : List (Frame ℕ) → State ℕ = λ fs. record (words_state w.methods ram heap statics counts) { frames = fs } in
+      ap framed (ap other_frames (sym frames_are))
+
+  pub left_laid : AreLaid w ram heap (record counts { frames = counts.frames - 1 })
+  left_laid =
+      record {
+        ram_length = laid.ram_length;
+        heap_length = laid.heap_length;
+        some_frames = omega (arith, below);
+        some_objects = laid.some_objects;
+        some_cells = laid.some_cells;
+        windows = fits_all.1;
+        laid = laid.laid;
+      }
+
+  -- nothing is done to the frame on top
+  pub same_state : (statics : List ℕ) → words_state w.methods ram heap statics counts ≡ with_top (words_state w.methods ram heap statics counts) (first_frame (frames_in w.methods ram counts.frames))
+  same_state statics =
+      let framed : List (Frame ℕ) → State ℕ = λ fs. record (words_state w.methods ram heap statics counts) { frames = fs } in
+      ap framed (sym (frames_whole (frames_in w.methods ram counts.frames) running))
+
+-- ---- one frame more, in the words after those of the frames that are there
+
+module _ (w : Linked) (ram heap : List ℕ) (counts : Counts) (laid : AreLaid w ram heap counts) (room : length (frames_in w.methods ram counts.frames) < 64) where
+  next_within : 513 * counts.frames + 513 ≤ length ram
+  next_within = omega (arith, laid.ram_length, room, length-frames_in w.methods ram counts.frames)
+
+  pub next_reach : 513 * counts.frames + 513 ≤ length ram
+  next_reach = next_within
+
+  next_width : 513 * counts.frames + 513 - 513 * counts.frames ≡ 513
+  next_width = omega arith
+
+  pub next_length : length (take (513 * counts.frames + 513 - 513 * counts.frames) (drop (513 * counts.frames) ram)) ≡ 513
+  next_length =
+      ap (λ k. length (take k (drop (513 * counts.frames) ram))) next_width
+      ∙ omega (arith, next_within, length-take 513 (drop (513 * counts.frames) ram), length-drop (513 * counts.frames) ram)
+
+  pub next_state :
+      (statics ws : List ℕ) (f : Frame ℕ)
+      → length ws ≡ length (take (513 * counts.frames + 513 - 513 * counts.frames) (drop (513 * counts.frames) ram)) → frame_in w.methods ws ≡ f
+      → words_state w.methods (put_mid (513 * counts.frames) (513 * counts.frames + 513 - 513 * counts.frames) ram ws) heap statics (record counts { frames = counts.frames + 1 })
+      ≡ record (words_state w.methods ram heap statics counts) { frames = f ∷ frames_in w.methods ram counts.frames }
+  next_state statics ws f same e =
+      let n = counts.frames in
+      let framed : List (Frame ℕ) → State ℕ = λ fs. record (words_state w.methods ram heap statics counts) { frames = fs } in
+      let one : n + 1 ≡ suc n = omega arith in
+      ap framed
+      (ap (λ k. frames_in w.methods (put_mid (513 * n) k ram ws) (n + 1)) next_width
+      ∙ (ap (frames_in w.methods (put_mid (513 * n) 513 ram ws)) one
+      ∙ (put_frames w.methods ram ws n next_within (same ∙ next_length) ∙ ap (λ g. g ∷ frames_in w.methods ram n) e)))
+
+  pub next_laid :
+      (ws : List ℕ) → length ws ≡ length (take (513 * counts.frames + 513 - 513 * counts.frames) (drop (513 * counts.frames) ram)) → FitsWindow w.methods ws
+      → AreLaid w (put_mid (513 * counts.frames) (513 * counts.frames + 513 - 513 * counts.frames) ram ws) heap (record counts { frames = counts.frames + 1 })
+  next_laid ws same fits =
+      let n = counts.frames in
+      let len = same ∙ next_length in
+      let one : suc n ≡ n + 1 = omega arith in
+      let P : ℕ → Type 0 = λ k. AreLaid w (put_mid (513 * n) k ram ws) heap (record counts { frames = n + 1 }) in
+      subst P (sym next_width)
+      (record {
+        ram_length = put_length w.methods ram ws n next_within len ∙ laid.ram_length;
+        heap_length = laid.heap_length;
+        some_frames = omega (arith, room, length-frames_in w.methods ram n);
+        some_objects = laid.some_objects;
+        some_cells = laid.some_cells;
+        windows = subst (FitWindows w.methods (put_mid (513 * n) 513 ram ws)) one (put_fits w.methods ram ws n next_within len fits laid.windows);
+        laid = laid.laid;
+      })
+
+-- ---- a call: the words of the frame on top and those after them
+
+window_at : (lower ws more : List ℕ) (n : ℕ) → length lower ≡ 513 * n → length ws ≡ 513 → window ((lower ++ ws) ++ more) n ≡ ws
+window_at lower ws more n l s =
+    ap (λ zs. take 513 (drop (513 * n) zs)) (append_assoc lower ws more)
+    ∙ (ap (take 513) (drop_at lower (ws ++ more) (513 * n) l) ∙ take_at ws more 513 s)
+
+below_at : (lower ws more : List ℕ) (n : ℕ) → length lower ≡ 513 * n → take (513 * n) ((lower ++ ws) ++ more) ≡ lower
+below_at lower ws more n l = ap (take (513 * n)) (append_assoc lower ws more) ∙ take_at lower (ws ++ more) (513 * n) l
+
+module _ (methods : List MethodRec) (ram lower was caller callee above rest : List ℕ) (n : ℕ)
+    (whole : ram ≡ (lower ++ was) ++ above) (l : length lower ≡ 513 * n) (s : length was ≡ 513) (s₁ : length caller ≡ 513) (s₂ : length callee ≡ 513)
+  where
+    -- the words of the caller as they were
+    pub called_top : frame_in methods was ≡ first_frame (frames_in methods ram (suc n))
+    called_top = ap (frame_in methods) (sym (ap (λ zs. window zs n) whole ∙ window_at lower was above n l s))
+
+    pub called_fits_top : FitWindows methods ram (suc n) → FitsWindow methods was
+    called_fits_top fits = subst (FitsWindow methods) (ap (λ zs. window zs n) whole ∙ window_at lower was above n l s) fits.0
+
+    second : window ((lower ++ caller) ++ (callee ++ rest)) (suc n) ≡ callee
+    second =
+        let len : length (lower ++ caller) ≡ 513 * suc n = length-append lower caller ∙ (omega (arith, l, s₁)) in
+        ap (take 513) (drop_at (lower ++ caller) (callee ++ rest) (513 * suc n) len) ∙ take_at callee rest 513 s₂
+
+    first : window ((lower ++ caller) ++ (callee ++ rest)) n ≡ caller
+    first = window_at lower caller (callee ++ rest) n l s₁
+
+    same_below : take (513 * n) ((lower ++ caller) ++ (callee ++ rest)) ≡ take (513 * n) ram
+    same_below = below_at lower caller (callee ++ rest) n l ∙ sym (ap (take (513 * n)) whole ∙ below_at lower was above n l)
+
+    pub called_frames :
+        frames_in methods ((lower ++ caller) ++ (callee ++ rest)) (suc (suc n))
+        ≡ frame_in methods callee ∷ (frame_in methods caller ∷ frames_in methods ram n)
+    called_frames =
+        let now = (lower ++ caller) ++ (callee ++ rest) in
+        ap (λ v. frame_in methods v ∷ (frame_in methods (window now n) ∷ frames_in methods now n)) second
+        ∙ (ap (λ v. frame_in methods callee ∷ (frame_in methods v ∷ frames_in methods now n)) first
+        ∙ ap (λ fs. frame_in methods callee ∷ (frame_in methods caller ∷ fs)) (frames_below methods now ram n n (omega arith) same_below))
+
+    pub called_fits : FitsWindow methods callee → FitsWindow methods caller → FitWindows methods ram n → FitWindows methods ((lower ++ caller) ++ (callee ++ rest)) (suc (suc n))
+    called_fits two one others =
+        let now = (lower ++ caller) ++ (callee ++ rest) in (
+          subst (FitsWindow methods) (sym second) two,
+          (subst (FitsWindow methods) (sym first) one, fits_below methods ram now n n (omega arith) (sym same_below) others),
+        )

@@ -1,0 +1,14 @@
+pub mod Found
+pub mod Frames
+pub mod Unwound
+pub mod Taken
+pub mod Performing
+pub mod Drops
+pub mod Sums
+pub mod WritesInOrder
+pub mod NamedWrites
+pub mod Elements
+pub mod Fields
+pub mod Handing
+pub mod Beginning
+pub mod Sizes

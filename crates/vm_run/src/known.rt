@@ -1,0 +1,50 @@
+ghost use Rattle.std.specs.Prelude.{◌≡◌, ◌<◌, ◌≤◌, ◌+◌, length, IfSome};
+ghost use Rattle.jc_control.specs.WellFormed.{IsPlace};
+ghost use Rattle.vm_step.specs.Methods.{code_at, instruction_at};
+ghost use Rattle.vm_run.specs.Known.{KnowsAt};
+
+use crate::code::code;
+use crate::places::MarkedPlaces;
+use jc_base::World;
+use jc_decode::{Placed, decode, instructions_are_listed};
+
+/// How a machine knows at which places instructions begin: by flags that were made when the run began, or because the
+/// code was verified, and each place to which it leads is one.
+#[derive(Clone, Copy)]
+pub enum Known<'a> {
+    Marked(&'a MarkedPlaces),
+    Verified,
+}
+
+/// The instruction that begins at a place of a method's code, where one does.
+pub fn fetch(world: &World<'_>, known: Known<'_>, method: u16, place: u16) -> Option<Placed>
+    requires method { method < length world.now.methods }
+    requires places { KnowsAt world.now known method place }
+    ensures is { result ≡ instruction_at (code_at world.now method) place }
+    ensures within { IfSome result (λ i. i.place + i.insn.len ≤ 32767) }
+{
+    match known {
+        Known::Marked(places) => {
+            if places.has(world, method, u32::from(place)) {
+                placed(world, method, place)
+            } else {
+                None
+            }
+        }
+        Known::Verified => placed(world, method, place),
+    }
+}
+
+/// The instruction at a place at which one begins.
+fn placed(world: &World<'_>, method: u16, place: u16) -> Option<Placed>
+    requires method { method < length world.now.methods }
+    requires there { IsPlace (code_at world.now method) place }
+    ensures is { result ≡ instruction_at (code_at world.now method) place }
+    ensures within { IfSome result (λ i. i.place + i.insn.len ≤ 32767) }
+{
+    instructions_are_listed();
+    match decode(code(world, method), place) {
+        Ok(insn) => Some(Placed { place, insn }),
+        Err(_) => None,
+    }
+}

@@ -1,5 +1,0 @@
-pub mod Frames
-pub mod State
-pub mod Laws
-pub mod Handed
-pub mod Worked

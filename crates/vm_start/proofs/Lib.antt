@@ -1,9 +1,0 @@
-pub mod Drops
-pub mod Sums
-pub mod Writing
-pub mod Writes
-pub mod Elements
-pub mod Fields
-pub mod Handing
-pub mod Beginning
-pub mod Sizes

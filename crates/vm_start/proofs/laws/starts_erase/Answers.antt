@@ -1,5 +1,0 @@
-use Rattle.vm_start.proofs.laws.starts_erase.Goals as goal
-use Rattle.vm_step.proofs.Erased.{entry-erased}
-
-pub returns : goal.returns
-returns c = entry-erased

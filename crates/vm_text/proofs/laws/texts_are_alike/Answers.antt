@@ -1,5 +1,0 @@
-use Rattle.vm_text.proofs.Alike.{texts_alike}
-use Rattle.vm_text.proofs.laws.texts_are_alike.Goals as goal
-
-pub returns : goal.returns
-returns c = texts_alike c.args.world.now

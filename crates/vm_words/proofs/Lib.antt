@@ -1,6 +1,0 @@
-mod Windows
-mod Rams
-mod WordHeaps
-mod Erased
-mod Jumping
-mod Following

@@ -1,5 +1,0 @@
-use Rattle.vm_words.proofs.Windows.{depth_is}
-use Rattle.vm_words.proofs.window.depth.Goals as goal
-
-pub returns : goal.returns
-returns c = depth_is c.args.world.now.methods c.args.window.now c.requires.len c.requires.fits

@@ -1,5 +1,0 @@
-use Rattle.vm_words.proofs.Windows.{last_is}
-use Rattle.vm_words.proofs.window.last.Goals as goal
-
-pub returns : goal.returns
-returns c = last_is c.args.world.now.methods c.args.window.now c.requires.len c.requires.fits c.args.count c.requires.there

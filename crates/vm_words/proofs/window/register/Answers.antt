@@ -1,5 +1,0 @@
-use Rattle.vm_words.proofs.Windows.{register_is}
-use Rattle.vm_words.proofs.window.register.Goals as goal
-
-pub returns : goal.returns
-returns c = register_is c.args.world.now.methods c.args.window.now c.requires.len c.requires.fits c.args.x c.requires.there

@@ -1,3 +1,0 @@
-pub mod Counterparts
-pub mod Beside
-pub mod Laws

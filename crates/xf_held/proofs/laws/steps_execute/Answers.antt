@@ -1,5 +1,0 @@
-use Rattle.xf_held.proofs.Standing.{can-run, steps-execute}
-use Rattle.xf_held.proofs.laws.steps_execute.Goals as goal
-
-pub returns : goal.returns
-returns c = steps-execute c.args.world.now (can-run c.args.world.now c.classes.ensures.links c.operations_are_sound.ensures.sound)

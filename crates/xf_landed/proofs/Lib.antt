@@ -1,7 +1,0 @@
-pub mod SameBut
-pub mod Renaming
-pub mod Operations
-pub mod Forms
-pub mod Steps
-pub mod Landing
-pub mod Catching

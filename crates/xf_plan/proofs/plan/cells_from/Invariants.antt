@@ -1,7 +1,0 @@
-use Rattle.std.proofs.Common.{◌≡◌, ◌-◌, ◌++◌, length}
-use Rattle.xf_plan.specs.Plan.{cells_from}
-use Rattle.xf_plan.proofs.plan.cells_from.Given as goal
-
-abbrev pub invariant-cells : goal.invariant-cells
-invariant-cells l =
-    l.homes.items ++ cells_from l.slot l.cells l.n (length l.cells - l.n) ≡ cells_from l.slot l.cells 0 (length l.cells)
