@@ -1,5 +1,6 @@
 -- The code's table of formats is the definition's, opcode by opcode; and what a test of all rows says of one opcode.
-use Rattle.std.proofs.Common.{◌≡◌, ◌∙◌, sym, ℕ, ◌<◌, Bool, true, false, Option, Some, None, List, [], ◌∷◌, ◌==◌, refl, ap, subst, arith, get_or}
+use Rattle.std.proofs.Common.{◌≡◌, ◌∙◌, sym, ℕ, ◌<◌, Bool, true, false, Option, Some, None, List, [], ◌∷◌, ◌==◌, refl, ap, subst}
+use Rattle.std.proofs.Common.{arith, get_or}
 use Rattle.std.specs.Prelude.{map, find, if◌then◌else◌}
 use Rattle.std.specs.Option.{option_map}
 use Rattle.std.specs.List.{list_all, range_with_len}

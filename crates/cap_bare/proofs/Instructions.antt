@@ -1,5 +1,6 @@
 -- The instructions of the code, one after another: those of its listing, up to the first that bare methods do not have.
-use Rattle.std.proofs.Common.{◌≡◌, ◌∙◌, sym, ap, subst, cond, Bool, true, false, ℕ, zero, suc, ◌+◌, ◌<◌, ◌≤◌, ◌⊎◌, Option, Some, None, Result, Ok, Err, List, [], ◌∷◌, ◌++◌, length, refl, arith, Contains}
+use Rattle.std.proofs.Common.{◌≡◌, ◌∙◌, sym, ap, subst, cond, Bool, true, false, ℕ, zero, suc, ◌+◌, ◌<◌, ◌≤◌, ◌⊎◌, Option}
+use Rattle.std.proofs.Common.{Some, None, Result, Ok, Err, List, [], ◌∷◌, ◌++◌, length, refl, arith, Contains}
 use Rattle.std.proofs.lemmas.List.{append-nil}
 use Rattle.std.proofs.Common.{append_assoc}
 use Rattle.std.proofs.lemmas.List.Elements.{Contains-append_right}

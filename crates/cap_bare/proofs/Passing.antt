@@ -1,5 +1,6 @@
 -- What it means that nothing is wrong, or something is, at an instruction over a stack of shorts.
-use Rattle.std.proofs.Common.{◌≡◌, ◌≢◌, ◌∙◌, sym, ap, subst, ℕ, Bool, true, false, Result, Ok, Err, List, [], length, refl, arith, ◌==◌, eq-eqb}
+use Rattle.std.proofs.Common.{◌≡◌, ◌≢◌, ◌∙◌, sym, ap, subst, ℕ, Bool, true, false, Result, Ok, Err, List, [], length, refl, arith, ◌==◌}
+use Rattle.std.proofs.Common.{eq-eqb}
 use Rattle.std.proofs.lemmas.Bool.{eqb-true, ltb-true, and_parts, both_ways}
 use Rattle.std.proofs.lemmas.Bool.Decides.{nat_tests}
 use Rattle.std.specs.Prelude.{if◌then◌else◌, ◌&&◌, nat_lt}
@@ -121,7 +122,8 @@ module _ (code : List ℕ) (bare : Bare) (i : Placed) where
       leaving-err after empty a false b true fe true le h =
           let same : FallsOff ≡ kind = cc in
           subst (IsWrong code bare i registers (shorts depth)) same
-          (wrong_end (shorts after) empty (applies bare (instruction_of i.insn) registers depth after e a) (λ branching. ap shorts (at-branch after (jumps i.insn.op) b branching)) fe
+          (wrong_end (shorts after) empty (applies bare (instruction_of i.insn) registers depth after e a)
+          (λ branching. ap shorts (at-branch after (jumps i.insn.op) b branching)) fe
           (eqb-true (place_after i) (length code) le))
       leaving-err after empty a false b true fe false le h = absurd (cc)
       leaving-err after empty a false b false fe l le h = absurd (cc)

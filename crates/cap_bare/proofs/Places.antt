@@ -1,5 +1,6 @@
 -- The tests of places and of targets, and what a search along the code finds.
-use Rattle.std.proofs.Common.{◌≡◌, ◌∙◌, sym, ap, subst, ℕ, zero, suc, ◌+◌, ◌<◌, ◌≤◌, ◌⊎◌, inl, inr, ⊎_elim, Bool, true, false, Some, None, Result, Ok, Err, List, [], refl, arith, ◌==◌, eq-eqb, Contains, All}
+use Rattle.std.proofs.Common.{◌≡◌, ◌∙◌, sym, ap, subst, ℕ, zero, suc, ◌+◌, ◌<◌, ◌≤◌, ◌⊎◌, inl, inr, ⊎_elim, Bool, true}
+use Rattle.std.proofs.Common.{false, Some, None, Result, Ok, Err, List, [], refl, arith, ◌==◌, eq-eqb, Contains, All}
 use Rattle.std.specs.Prelude.{ℤ, pos, negsuc, is_ok, IsTrue, ◌↔◌, slice_get}
 use Rattle.std.specs.List.{list_any}
 use Rattle.std.proofs.lemmas.Bool.{eqb-true}
@@ -66,7 +67,9 @@ module _ (code : List ℕ) where
 
   pub target-is : (place : ℕ) (r : Bool) → (r ≡ true → IsTarget code place) → (IsTarget code place → r ≡ true)
       → r ≡ is_target code place
-  target-is place r f g = same_from_decides {P = is_target code place ≡ true} r (is_target code place) ((λ e. target-true place (f e)), (λ e. g (target-from place e))) ((λ e. e), (λ e. e))
+  target-is place r f g =
+      same_from_decides {P = is_target code place ≡ true} r (is_target code place) ((λ e. target-true place (f e)), (λ e. g (target-from place e)))
+      ((λ e. e), (λ e. e))
 
   -- ---- an instruction leads to one place at most
 

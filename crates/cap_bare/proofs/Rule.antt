@@ -1,5 +1,6 @@
 -- An instruction's rule over a stack of shorts, told by the number of its cells.
-use Rattle.std.proofs.Common.{◌≡◌, ◌∙◌, sym, ap, subst, ℕ, zero, suc, ◌+◌, ◌-◌, ◌<◌, ◌≤◌, Bool, true, false, Option, Some, None, Result, Ok, Err, List, [], ◌∷◌, ◌++◌, length, refl, arith}
+use Rattle.std.proofs.Common.{◌≡◌, ◌∙◌, sym, ap, subst, ℕ, zero, suc, ◌+◌, ◌-◌, ◌<◌, ◌≤◌, Bool, true, false, Option, Some, None}
+use Rattle.std.proofs.Common.{Result, Ok, Err, List, [], ◌∷◌, ◌++◌, length, refl, arith}
 use Rattle.std.proofs.lemmas.Bool.{ltb-true, lt-ltb}
 use Rattle.std.proofs.lemmas.Bool.Decides.{nat_tests}
 use Rattle.std.proofs.lemmas.List.{replicate-append-replicate, length-replicate, append_cancel_left, length-append}
@@ -137,7 +138,8 @@ applied-from bare i registers depth after a =
     (record { local = a.local; enough = r.0; value = refl; room = room }, e)
 
 -- the first failure of the rule
-within-err : (bare : Bare) (i : Instruction) (o : Option ℕ) (stack : List Kind) (depth : ℕ) (kind : BareKind) (rest : Result ℕ BareKind) → register_of i ≡ o
+within-err : (bare : Bare) (i : Instruction) (o : Option ℕ) (stack : List Kind) (depth : ℕ) (kind : BareKind) (rest : Result ℕ BareKind)
+    → register_of i ≡ o
     → (IfSome o (λ x. x < register_count bare) → rest ≡ Err kind → RuleFails bare i stack kind)
     → if_local bare o depth rest ≡ Err kind → RuleFails bare i stack kind
 within-err bare i None stack depth kind rest e more h = more tt h

@@ -1,5 +1,6 @@
 -- Code with a card typing never meets a fault.
-use Rattle.std.proofs.Common.{◌≡◌, ◌∙◌, sym, ap, subst, ℕ, zero, suc, ◌+◌, ◌-◌, ◌<◌, ◌≤◌, Bool, true, false, Option, Some, None, Result, Ok, Err, List, [], length, drop, replicate, refl, arith, inl, inr, ◌⊎◌, ⊎_elim, Contains}
+use Rattle.std.proofs.Common.{◌≡◌, ◌∙◌, sym, ap, subst, ℕ, zero, suc, ◌+◌, ◌-◌, ◌<◌, ◌≤◌, Bool, true, false, Option, Some, None}
+use Rattle.std.proofs.Common.{Result, Ok, Err, List, [], length, drop, replicate, refl, arith, inl, inr, ◌⊎◌, ⊎_elim, Contains}
 use Rattle.std.proofs.lemmas.Bool.{ltb-true, lt-ltb, le-ltb, ltb-false}
 use Rattle.std.proofs.lemmas.List.{length-replicate, length-append, length-drop}
 use Rattle.std.proofs.lemmas.List.Elements.{All-contains}
@@ -12,14 +13,17 @@ use Rattle.jc_decode.specs.declared.insn.Placed.{Placed}
 use Rattle.jc_decode.specs.Listing.{falls, jumps, targets}
 use Rattle.jc_decode.specs.Places.{place_after}
 use Rattle.cap_bare.specs.declared.instruction.Instruction.{Instruction}
-use Rattle.cap_bare.specs.declared.instruction.Instruction.TheVariants.{Nop, Push, Load, Store, Increment, Pop, Duplicate, Negate, ToByte, Binary, Test, Compare, Goto, Return}
+use Rattle.cap_bare.specs.declared.instruction.Instruction.TheVariants.{Nop, Push, Load, Store, Increment, Pop, Duplicate, Negate, ToByte, Binary, Test}
+use Rattle.cap_bare.specs.declared.instruction.Instruction.TheVariants.{Compare, Goto, Return}
 use Rattle.vm_arithmetic.specs.Arithmetic.{succeeds}
 use Rattle.cap_bare.specs.Format.{is_bare, instruction_of}
 use Rattle.cap_bare.specs.Effects.{register_of, cells_taken, cells_given}
 use Rattle.cap_bare.specs.Code.{fetched, HasInstruction, IsPlace, IsTargetPlace}
 use Rattle.cap_bare.specs.Typing.{Kind, shorts, register_count, IsTyped, CardTyping}
 use Rattle.cap_bare.specs.Walk.{is_place}
-use Rattle.cap_bare.specs.Machine.{Frame, State, Outcome, running, returned, faulted, jump_fault, local_fault, stack_fault, Lead, leads, gives, frame, top_of_stack, second, acted, acts, branch_target, has_register, place_number, settled, performed, step, go_on, after, entered, IsFault, IsSafe, IsFaultFree}
+use Rattle.cap_bare.specs.Machine.{Frame, State, Outcome, running, returned, faulted, jump_fault, local_fault, stack_fault, Lead, leads, gives, frame}
+use Rattle.cap_bare.specs.Machine.{top_of_stack, second, acted, acts, branch_target, has_register, place_number, settled, performed, step, go_on, after}
+use Rattle.cap_bare.specs.Machine.{entered, IsFault, IsSafe, IsFaultFree}
 use Rattle.cap_bare.proofs.Operands.{branches, goes_on as falls_on, branches-jumps, goes_on-falls}
 use Rattle.cap_bare.proofs.Instructions.{here, is-here, fetched-bare, reached-first, stands-at, stands-here, stands-next, ends-at}
 use Rattle.cap_bare.proofs.Places.{place-true, leads-there, branch-leads}
@@ -95,7 +99,8 @@ module _ (code : List ℕ) (bare : Bare) where
     where
       by_tests : (b : Bool) → has_register bare (register_of (instruction_of i)) ≡ b → (c : Bool)
           → nat_lt (length s.frame.stack) (cells_taken (instruction_of i)) ≡ c
-          → step code bare s ≡ (if b then (if c then faulted stack_fault else settled code bare (acts code (here s.place i) s.frame)) else faulted local_fault)
+          → step code bare s
+          ≡ (if b then (if c then faulted stack_fault else settled code bare (acts code (here s.place i) s.frame)) else faulted local_fault)
           → NoFault (if b then (if c then faulted stack_fault else settled code bare (acts code (here s.place i) s.frame)) else faulted local_fault)
           → (i : Insn) × Sound s i
       by_tests false l c k e h = absurd (h tt)
@@ -124,7 +129,8 @@ module _ (code : List ℕ) (bare : Bare) where
   settled-from to f h = by_tests (nat_lt bare.max_stack (length f.stack)) refl (is_place code to) refl refl h
     where
       by_tests : (b : Bool) → nat_lt bare.max_stack (length f.stack) ≡ b → (c : Bool) → is_place code to ≡ c
-          → settled code bare (leads to f) ≡ (if b then faulted stack_fault else if c then running (record { place = place_number to; frame = f }) else faulted jump_fault)
+          → settled code bare (leads to f)
+          ≡ (if b then faulted stack_fault else if c then running (record { place = place_number to; frame = f }) else faulted jump_fault)
           → (IsFault (if b then faulted stack_fault else if c then running (record { place = place_number to; frame = f }) else faulted jump_fault) → ⊥)
           → Settled to f
       by_tests true k c t e h = absurd (h tt)

@@ -9,7 +9,8 @@ use Rattle.jc_decode.specs.declared.insn.Placed.{Placed}
 use Rattle.cap_bare.specs.Format.{instruction_of}
 use Rattle.cap_bare.specs.Code.{IsFirstFlaw, IsFlawKind, IsWellFormed}
 use Rattle.cap_bare.specs.Typing.{CardTyping, Kind}
-use Rattle.cap_bare.specs.Met.{IsRefused, IsWrong, RuleFails, fails_local, fails_cells, fails_room, wrong_target, wrong_rule, wrong_branch, wrong_end, refused_flaw, refused_state}
+use Rattle.cap_bare.specs.Met.{IsRefused, IsWrong, RuleFails, fails_local, fails_cells, fails_room, wrong_target, wrong_rule, wrong_branch, wrong_end}
+use Rattle.cap_bare.specs.Met.{refused_flaw, refused_state}
 use Rattle.cap_bare.specs.Walk.{WalksFind}
 use Rattle.cap_bare.specs.Machine.{IsFaultFree}
 use Rattle.cap_bare.proofs.WellFormed.{flaw-not, flaw-kind, first-one}

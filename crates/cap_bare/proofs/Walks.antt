@@ -1,5 +1,6 @@
 -- The second walk accepts exactly what has a card typing, and refuses at a met state.
-use Rattle.std.proofs.Common.{◌≡◌, ◌≢◌, ◌∙◌, sym, ap, subst, ℕ, zero, suc, ◌+◌, ◌-◌, ◌<◌, ◌≤◌, Bool, true, false, Option, Some, None, Result, Ok, Err, List, [], ◌∷◌, ⊎_elim, Contains, length, replicate, refl, arith, ◌==◌, eq-eqb}
+use Rattle.std.proofs.Common.{◌≡◌, ◌≢◌, ◌∙◌, sym, ap, subst, ℕ, zero, suc, ◌+◌, ◌-◌, ◌<◌, ◌≤◌, Bool, true, false, Option}
+use Rattle.std.proofs.Common.{Some, None, Result, Ok, Err, List, [], ◌∷◌, ⊎_elim, Contains, length, replicate, refl, arith, ◌==◌, eq-eqb}
 use Rattle.std.proofs.lemmas.Bool.{eqb-true, both_ways}
 use Rattle.std.proofs.lemmas.List.{length-replicate, length-append}
 use Rattle.std.proofs.lemmas.List.Elements.{All-contains}
@@ -20,7 +21,8 @@ use Rattle.cap_bare.specs.Window.{IsSuffixAt}
 use Rattle.cap_bare.specs.Typing.{Kind, bottom, short, IsBelow, below_itself, shorts, register_count, Applies, IsTyped, CardTyping}
 use Rattle.cap_bare.specs.Met.{declared, with_raised, raised_at, Passes, IsMet, met_entry, met_next, IsRefused, refused_state}
 use Rattle.cap_bare.specs.Walk.{passed, then_on, first_wrong}
-use Rattle.cap_bare.proofs.Instructions.{IsInside, here-inside, IsHere, Lists, head-here, tail-lists, lists-instructions, stands-here, reached-first, reached-after, stands-at, ends-at}
+use Rattle.cap_bare.proofs.Instructions.{IsInside, here-inside, IsHere, Lists, head-here, tail-lists, lists-instructions, stands-here, reached-first}
+use Rattle.cap_bare.proofs.Instructions.{reached-after, stands-at, ends-at}
 use Rattle.cap_bare.proofs.Places.{target-true, target-from}
 use Rattle.cap_bare.proofs.Rule.{applied-from, applies, shorts-none, shorts-length, written-named}
 use Rattle.cap_bare.proofs.Passing.{Passing, Leaves, passed-ok, passed-is, passed-err}
@@ -164,7 +166,9 @@ module _ (code : List ℕ) (bare : Bare) where
     typed-from i s f = record {
       after = shorts f.after;
       applies = applies bare (instruction_of i.insn) (shorts (register_count bare)) (depths i.place) f.after (shorts-length (register_count bare)) f.rule;
-      stored = written-short (register_written (instruction_of i.insn)) (register_count bare) (written-named (instruction_of i.insn) (register_count bare) f.rule.local);
+      stored =
+          written-short (register_written (instruction_of i.insn)) (register_count bare)
+          (written-named (instruction_of i.insn) (register_count bare) f.rule.local);
       branch = λ t. ap shorts (f.branch t);
       next = typed-next i f.after (falls i.insn.op)
           (fits-leaves i f.after (depths (place_after i)) (falls i.insn.op) (here-inside code i.place i (stands-here code i s)).inside f.leaves);
@@ -228,7 +232,8 @@ module _ (code : List ℕ) (bare : Bare) where
         stack-next after next false k = ap shorts (sym k)
 
         by_end : (next : ℕ) → Passing code bare i depth next → (b : Bool) → ((place_after i) == length code) ≡ b
-            → (IsMet code bare (place_after i) (with_raised (instruction_of i.insn) registers) (shorts next) → first_wrong code bare next is ≡ Err f → IsRefused code bare f)
+            → (IsMet code bare (place_after i) (with_raised (instruction_of i.insn) registers) (shorts next) → first_wrong code bare next is ≡ Err f
+            → IsRefused code bare f)
             → first_wrong code bare next is ≡ Err f → IsRefused code bare f
         by_end next p true t more h =
             let last = eqb-true (place_after i) (length code) t in
@@ -249,7 +254,8 @@ module _ (code : List ℕ) (bare : Bare) where
             (met_next i registers (shorts depth) (shorts p.after) met passes (omega arith))) h
 
         by_answer : (q : Result ℕ BareKind) → passed code bare i depth ≡ q
-            → ((next : ℕ) → IsMet code bare (place_after i) (with_raised (instruction_of i.insn) registers) (shorts next) → first_wrong code bare next is ≡ Err f → IsRefused code bare f)
+            → ((next : ℕ) → IsMet code bare (place_after i) (with_raised (instruction_of i.insn) registers) (shorts next)
+            → first_wrong code bare next is ≡ Err f → IsRefused code bare f)
             → then_on i.place q (λ next. first_wrong code bare next is) ≡ Err f → IsRefused code bare f
         by_answer (Err kind) k more h =
             let same : fault i.place kind ≡ f = cc in
@@ -272,8 +278,10 @@ module _ (code : List ℕ) (bare : Bare) where
         → (next : ℕ) × Passing code bare i depth next × (t.stacks (place_after i) ≡ shorts next)
     passing-typed i depth s e =
         let k = t.typed i s in
-        let a = applied-from bare (instruction_of i.insn) t.registers depth k.after (subst (λ ks. Applies bare (instruction_of i.insn) t.registers ks k.after) e k.applies) in
-        let leaves = typed-leaves i (depth - cells_taken (instruction_of i.insn) + cells_given (instruction_of i.insn)) k.after (falls i.insn.op) a.1 k.next in (
+        let a = applied-from bare (instruction_of i.insn) t.registers depth k.after
+        (subst (λ ks. Applies bare (instruction_of i.insn) t.registers ks k.after) e k.applies) in
+        let leaves = typed-leaves i (depth - cells_taken (instruction_of i.insn) + cells_given (instruction_of i.insn)) k.after (falls i.insn.op) a.1
+        k.next in (
           leaves.0,
           (record {
             target = λ h. shorts-none depth (sym e ∙ t.targets i.place (target-from code i.place h));

@@ -1,5 +1,6 @@
 -- The first flaw, found as the code is walked; and flaws decide whether code is well formed.
-use Rattle.std.proofs.Common.{◌≡◌, sym, subst, ℕ, ◌+◌, ◌<◌, ◌≤◌, ◌⊎◌, inl, inr, ⊎_elim, Ok, Err, List, length, refl, arith, Contains, All}
+use Rattle.std.proofs.Common.{◌≡◌, sym, subst, ℕ, ◌+◌, ◌<◌, ◌≤◌, ◌⊎◌, inl, inr, ⊎_elim, Ok, Err, List, length, refl, arith}
+use Rattle.std.proofs.Common.{Contains, All}
 use Rattle.std.specs.Prelude.{ℤ}
 use Rattle.std.proofs.lemmas.List.Elements.{All-contains, All-push, All-nil, Contains-append_cases}
 use Rattle.jc_decode.specs.declared.insn.Insn.{Insn}
@@ -9,7 +10,8 @@ use Rattle.jc_decode.specs.Listing.{targets}
 use Rattle.jc_decode.proofs.InstructionLists.{found-in}
 use Rattle.cap_bare.specs.declared.fault.BareFault.{BareFault}
 use Rattle.cap_bare.specs.declared.fault.BareKind.TheVariants.{Code, BadTarget}
-use Rattle.cap_bare.specs.Code.{fetched, instructions_from, instructions_end, HasInstruction, IsTargetPlace, IsWellFormed, IsFlaw, flaw_end, flaw_target, IsFirstFlaw, IsFlawKind, fault}
+use Rattle.cap_bare.specs.Code.{fetched, instructions_from, instructions_end, HasInstruction, IsTargetPlace, IsWellFormed, IsFlaw, flaw_end, flaw_target}
+use Rattle.cap_bare.specs.Code.{IsFirstFlaw, IsFlawKind, fault}
 use Rattle.cap_bare.specs.Window.{IsSuffixAt}
 use Rattle.cap_bare.proofs.Instructions.{here, is-here, lists-instructions, one-at, reached-first, reached-after, stands-at, ends-at, before-end, none-past}
 use Rattle.cap_bare.proofs.Places.{leads-one}

@@ -1,5 +1,6 @@
 -- The instructions of a bare method's code, and when the code is well formed (JCVM 2.2, section 7.5).
-use Rattle.std.specs.Prelude.{ℕ, ℤ, pos, ◌≡◌, ◌≢◌, ◌≤◌, List, [], ◌∷◌, length, Contains, Option, Some, None, Result, Err, if◌then◌else◌}
+use Rattle.std.specs.Prelude.{ℕ, ℤ, pos, ◌≡◌, ◌≢◌, ◌≤◌, List, [], ◌∷◌, length, Contains, Option, Some, None}
+use Rattle.std.specs.Prelude.{Result, Err, if◌then◌else◌}
 use Rattle.std.proofs.Common.{refl}
 use Rattle.std.specs.List.{take_while}
 use Rattle.cap_bytes.specs.Number.{number_at}
@@ -64,7 +65,8 @@ fault place kind = record { place = place; kind = kind }
 pub data IsFlaw (code : List ℕ) : BareFault → Type 0 where
   flaw_end : (end : CodeEnd) → instructions_end code ≢ length code → fetched code (instructions_end code) ≡ Err end
       → IsFlaw code (fault (instructions_end code) (Code end))
-  flaw_target : (i : Placed) (target : ℤ) → HasInstruction code i → Contains (targets code i) target → ¬ (IsTargetPlace code target)
+  flaw_target : (i : Placed) (target : ℤ) → HasInstruction code i → Contains (targets code i) target
+      → ¬ (IsTargetPlace code target)
       → IsFlaw code (fault i.place (BadTarget target))
 
 -- the flaw at the least place

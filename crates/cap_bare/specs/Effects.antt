@@ -1,7 +1,8 @@
 -- What each instruction names, takes and gives (JCVM 2.2, chapter 7).
 use Rattle.std.specs.Prelude.{ℕ, Option, Some, None}
 use Rattle.cap_bare.specs.declared.instruction.Instruction.{Instruction}
-use Rattle.cap_bare.specs.declared.instruction.Instruction.TheVariants.{Push, Load, Store, Increment, Pop, Duplicate, Negate, ToByte, Binary, Test, Compare, Return}
+use Rattle.cap_bare.specs.declared.instruction.Instruction.TheVariants.{Push, Load, Store, Increment, Pop, Duplicate, Negate, ToByte}
+use Rattle.cap_bare.specs.declared.instruction.Instruction.TheVariants.{Binary, Test, Compare, Return}
 
 -- the register that it names
 abbrev pub register_of : Instruction → Option ℕ

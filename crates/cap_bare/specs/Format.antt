@@ -6,9 +6,11 @@ use Rattle.jc_decode.specs.declared.layout.Operand.TheVariants.{U1, S2}
 use Rattle.jc_decode.specs.declared.insn.Insn.{Insn}
 use Rattle.jc_decode.specs.Decoding.{FitsOperand}
 use Rattle.jc_ops.specs.declared.operation.Order.TheVariants.{Equal, NotEqual, Less, GreaterOrEqual, Greater, LessOrEqual}
-use Rattle.jc_ops.specs.declared.operation.Operator.TheVariants.{Add, Subtract, Multiply, ShiftLeft, ShiftRight, ShiftRightUnsigned, And, Or, ExclusiveOr}
+use Rattle.jc_ops.specs.declared.operation.Operator.TheVariants.{Add, Subtract, Multiply, ShiftLeft, ShiftRight, ShiftRightUnsigned, And}
+use Rattle.jc_ops.specs.declared.operation.Operator.TheVariants.{Or, ExclusiveOr}
 use Rattle.cap_bare.specs.declared.instruction.Instruction.{Instruction}
-use Rattle.cap_bare.specs.declared.instruction.Instruction.TheVariants.{Nop, Push, Load, Store, Increment, Pop, Duplicate, Negate, ToByte, Binary, Test, Compare, Goto, Return}
+use Rattle.cap_bare.specs.declared.instruction.Instruction.TheVariants.{Nop, Push, Load, Store, Increment, Pop, Duplicate, Negate, ToByte}
+use Rattle.cap_bare.specs.declared.instruction.Instruction.TheVariants.{Binary, Test, Compare, Goto, Return}
 use Rattle.cap_bare.specs.declared.format.BareFormat.{BareFormat}
 use Rattle.cap_bare.specs.declared.format.BareFormat.TheVariants.{Implied, Constant, Loads, Stores, Increments}
 

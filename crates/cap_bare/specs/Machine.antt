@@ -1,7 +1,8 @@
 -- The machine of a bare method: its state, its step and its runs (JCVM 2.2, sections 3.5 and 3.7). An operand
 -- that is missing, a register or a place that is not there ends the run with a fault: a machine that checks each
 -- of them, and the measure of code that never makes it do so.
-use Rattle.std.specs.Prelude.{ℕ, zero, suc, ◌≡◌, ℤ, pos, Bool, true, List, [], ◌∷◌, ◌++◌, length, drop, replicate, slice_index_or, slice_set, Option, Some, None, Result, Ok, Err, nat_lt, if◌then◌else◌}
+use Rattle.std.specs.Prelude.{ℕ, zero, suc, ◌≡◌, ℤ, pos, Bool, true, List, [], ◌∷◌, ◌++◌, length, drop, replicate}
+use Rattle.std.specs.Prelude.{slice_index_or, slice_set, Option, Some, None, Result, Ok, Err, nat_lt, if◌then◌else◌}
 use Rattle.std.specs.Int.{w16, int_wrapping_add, int_wrapping_neg}
 use Rattle.std.specs.Option.{unwrap_or}
 use Rattle.jc_decode.specs.declared.insn.CodeEnd.{CodeEnd}
@@ -15,7 +16,8 @@ use Rattle.cap_bare.specs.declared.bare.Bare.{Bare}
 use Rattle.cap_bare.specs.declared.run.BareEnd.{BareEnd}
 use Rattle.cap_bare.specs.declared.run.BareEnd.TheVariants.{Returned, Spent}
 use Rattle.cap_bare.specs.declared.instruction.Instruction.{Instruction}
-use Rattle.cap_bare.specs.declared.instruction.Instruction.TheVariants.{Nop, Push, Load, Store, Increment, Pop, Duplicate, Negate, ToByte, Binary, Test, Compare, Goto, Return}
+use Rattle.cap_bare.specs.declared.instruction.Instruction.TheVariants.{Nop, Push, Load, Store, Increment, Pop, Duplicate, Negate, ToByte}
+use Rattle.cap_bare.specs.declared.instruction.Instruction.TheVariants.{Binary, Test, Compare, Goto, Return}
 use Rattle.cap_bare.specs.Effects.{register_of, cells_taken}
 use Rattle.cap_bare.specs.Format.{instruction_of}
 use Rattle.cap_bare.specs.Code.{fetched}

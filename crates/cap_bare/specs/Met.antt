@@ -1,6 +1,7 @@
 -- The states that the verifier on the card meets as it walks the instructions in the order of the code, and why it
 -- refuses one (Leroy 2002, section 3).
-use Rattle.std.specs.Prelude.{ℕ, ◌<◌, ◌≤◌, ◌≡◌, ◌≢◌, List, [], ◌++◌, length, replicate, slice_set, Option, Some, None, IfSome, IsTrue, if◌then◌else◌}
+use Rattle.std.specs.Prelude.{ℕ, ◌<◌, ◌≤◌, ◌≡◌, ◌≢◌, List, [], ◌++◌, length, replicate, slice_set, Option, Some}
+use Rattle.std.specs.Prelude.{None, IfSome, IsTrue, if◌then◌else◌}
 use Rattle.cap_bare.specs.declared.bare.Bare.{Bare}
 use Rattle.cap_bare.specs.declared.instruction.Instruction.{Instruction}
 use Rattle.jc_decode.specs.declared.insn.Placed.{Placed}

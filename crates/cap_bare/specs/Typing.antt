@@ -1,7 +1,8 @@
 -- Card typings of a bare method: what a verifier on the card accepts (Leroy, "Bytecode verification on Java smart
 -- cards", 2002). Its requirement R1: the stack is empty at every branch, once its operands are popped, and at
 -- every branch target. Its requirement R2: each register has one type throughout the method.
-use Rattle.std.specs.Prelude.{ℕ, ◌+◌, ◌<◌, ◌≤◌, ◌≡◌, List, [], ◌++◌, length, replicate, slice_get, IfSome, IsSomeAnd, IsTrue, MatchBool}
+use Rattle.std.specs.Prelude.{ℕ, ◌+◌, ◌<◌, ◌≤◌, ◌≡◌, List, [], ◌++◌, length, replicate, slice_get, IfSome}
+use Rattle.std.specs.Prelude.{IsSomeAnd, IsTrue, MatchBool}
 use Rattle.cap_bare.specs.declared.bare.Bare.{Bare}
 use Rattle.cap_bare.specs.declared.instruction.Instruction.{Instruction}
 use Rattle.jc_decode.specs.declared.insn.Placed.{Placed}
@@ -53,7 +54,8 @@ pub record IsTyped (code : List ℕ) (bare : Bare) (registers : List Kind) (stac
   pub applies : Applies bare (instruction_of i.insn) registers (stacks i.place) after
   pub stored : IfSome (register_written (instruction_of i.insn)) (λ x. IsSomeAnd (slice_get registers x) (λ k. IsBelow short k))
   pub branch : IsTrue (jumps i.insn.op) → after ≡ []
-  pub next : MatchBool (falls i.insn.op) ((place_after i < length code) × (stacks (place_after i) ≡ after)) (stacks (place_after i) ≡ [])
+  pub next : MatchBool (falls i.insn.op) ((place_after i < length code) × (stacks (place_after i) ≡ after))
+      (stacks (place_after i) ≡ [])
 
 -- a card typing of a well-formed method: one register list, and a stack before each place
 pub record CardTyping (code : List ℕ) (bare : Bare) : Type 0 where

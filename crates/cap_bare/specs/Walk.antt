@@ -1,6 +1,7 @@
 -- The walk along the instructions of the code for their types, by the number of cells before each. These words are
 -- computed; what they say of a method is proved of them on `bare_verify`.
-use Rattle.std.specs.Prelude.{ℕ, ◌+◌, ◌-◌, ◌≡◌, ◌⊎◌, ℤ, pos, negsuc, Bool, false, ◌&&◌, ◌==◌, nat_lt, List, [], ◌∷◌, length, Option, Some, None, Result, Ok, Err, if◌then◌else◌}
+use Rattle.std.specs.Prelude.{ℕ, ◌+◌, ◌-◌, ◌≡◌, ◌⊎◌, ℤ, pos, negsuc, Bool, false, ◌&&◌, ◌==◌, nat_lt, List}
+use Rattle.std.specs.Prelude.{[], ◌∷◌, length, Option, Some, None, Result, Ok, Err, if◌then◌else◌}
 use Rattle.std.specs.List.{list_any}
 use Rattle.jc_decode.specs.declared.insn.Placed.{Placed}
 use Rattle.jc_decode.specs.Listing.{falls, jumps, targets}

@@ -1,5 +1,6 @@
 -- Loops that pass over so many items of one kind.
-use Rattle.std.proofs.Common.{◌≡◌, ℕ, zero, suc, ◌+◌, ◌-◌, ◌≤◌, ◌<◌, List, [], ◌∷◌, length, Result, Ok, Err, refl, sym, ap, subst, ◌∙◌, false, arith}
+use Rattle.std.proofs.Common.{◌≡◌, ℕ, zero, suc, ◌+◌, ◌-◌, ◌≤◌, ◌<◌, List, [], ◌∷◌, length, Result, Ok, Err, refl, sym, ap}
+use Rattle.std.proofs.Common.{subst, ◌∙◌, false, arith}
 use Rattle.std.specs.Prelude.{IsTrue}
 use Rattle.cap_bytes.specs.declared.fault.FormFault.{FormFault}
 use Rattle.cap_bytes.specs.declared.cursor.Cursor.{Cursor}
@@ -35,10 +36,12 @@ pub forget : {X : Type 0} (x : X) (r : Reading (List X)) → end_of (and_then r 
 forget x (Ok y) = refl
 forget x (Err e) = refl
 
-end_one : {X : Type 0} (g : Grammar X) (n : ℕ) (now : Cursor) (x : X) (after : Cursor) → Taken g now x after → end_of (next (repeat (suc n) g) now) ≡ end_of (next (repeat n g) after)
+end_one : {X : Type 0} (g : Grammar X) (n : ℕ) (now : Cursor) (x : X) (after : Cursor) → Taken g now x after → end_of (next (repeat (suc n) g) now)
+    ≡ end_of (next (repeat n g) after)
 end_one g n now x after h = rw (h.value, h.info, h.part) (forget x (read (info_of now.part) (repeat n g) now.info.bytes.now after.at))
 
-pub passed_more : {X : Type 0} (g : Grammar X) (count : ℕ) (start : Cursor) (i : ℕ) (now : Cursor) (x : X) (after : Cursor) → HasPassed g count start i now → i < count → Taken g now x after → HasPassed g count start (i + 1) after
+pub passed_more : {X : Type 0} (g : Grammar X) (count : ℕ) (start : Cursor) (i : ℕ) (now : Cursor) (x : X) (after : Cursor)
+    → HasPassed g count start i now → i < count → Taken g now x after → HasPassed g count start (i + 1) after
 passed_more g count start i now x after so_far lt h =
     let k : count - i ≡ suc (count - (i + 1)) = omega arith in
     record {
@@ -47,16 +50,19 @@ passed_more g count start i now x after so_far lt h =
       part = h.part ∙ so_far.part;
     }
 
-end_fault : {X : Type 0} (g : Grammar X) (n : ℕ) (now : Cursor) (fault : FormFault) → TakingFails g now fault → end_of (next (repeat (suc n) g) now) ≡ Err fault
+end_fault : {X : Type 0} (g : Grammar X) (n : ℕ) (now : Cursor) (fault : FormFault) → TakingFails g now fault → end_of (next (repeat (suc n) g) now)
+    ≡ Err fault
 end_fault g n now fault h = rw h.answer refl
 
-pub passed_fault : {X : Type 0} (g : Grammar X) (count : ℕ) (start : Cursor) (i : ℕ) (now : Cursor) (fault : FormFault) → HasPassed g count start i now → i < count → TakingFails g now fault → TakingFails (repeat count g) start fault
+pub passed_fault : {X : Type 0} (g : Grammar X) (count : ℕ) (start : Cursor) (i : ℕ) (now : Cursor) (fault : FormFault)
+    → HasPassed g count start i now → i < count → TakingFails g now fault → TakingFails (repeat count g) start fault
 passed_fault g count start i now fault so_far lt h =
     let k : count - i ≡ suc (count - (i + 1)) = omega arith in
     let e : end_of (next (repeat (suc (count - (i + 1))) g) now) ≡ Err fault = end_fault g (count - (i + 1)) now fault h in
     record { answer = err_of (next (repeat count g) start) fault (sym so_far.goes_on ∙ ap (λ n. end_of (next (repeat n g) now)) k ∙ e) }
 
-pub passed_all : {X : Type 0} (g : Grammar X) (count : ℕ) (start : Cursor) (i : ℕ) (now : Cursor) → HasPassed g count start i now → count ≤ i → (xs : List X) × Taken (repeat count g) start xs now
+pub passed_all : {X : Type 0} (g : Grammar X) (count : ℕ) (start : Cursor) (i : ℕ) (now : Cursor) → HasPassed g count start i now → count ≤ i
+    → (xs : List X) × Taken (repeat count g) start xs now
 passed_all g count start i now so_far le =
     let k : count - i ≡ 0 = omega arith in
     let t = ok_of (next (repeat count g) start) now.at (sym so_far.goes_on ∙ ap (λ n. end_of (next (repeat n g) now)) k) in
@@ -71,39 +77,46 @@ read_first : {X : Type 0} (x : X) (r : Reading (List X)) → is_read (and_then r
 read_first x (Ok y) = refl
 read_first x (Err e) = refl
 
-value_first : {X : Type 0} (x : X) (r : Reading (List X)) → IsTrue (is_read r) → value_or [] (and_then r (λ xs p. Ok (x ∷ xs, p))) ≡ x ∷ value_or [] r
+value_first : {X : Type 0} (x : X) (r : Reading (List X)) → IsTrue (is_read r) → value_or [] (and_then r (λ xs p. Ok (x ∷ xs, p)))
+    ≡ x ∷ value_or [] r
 value_first x (Ok y) h = refl
 value_first x (Err e) h = absurd cc
 
 one_less : (left : ℕ) → 0 < left → left ≡ suc (left - 1)
 one_less left h = omega arith
 
-first_read : {X : Type 0} (g : Grammar X) (n : ℕ) (now : Cursor) (x : X) (after : Cursor) → Taken g now x after → is_read (next (repeat (suc n) g) now) ≡ is_read (next (repeat n g) after)
+first_read : {X : Type 0} (g : Grammar X) (n : ℕ) (now : Cursor) (x : X) (after : Cursor) → Taken g now x after
+    → is_read (next (repeat (suc n) g) now) ≡ is_read (next (repeat n g) after)
 first_read g n now x after h = rw (h.value, h.info, h.part) (read_first x (read (info_of now.part) (repeat n g) now.info.bytes.now after.at))
 
-pub gives_rest : {X : Type 0} (g : Grammar X) (left : ℕ) (now : Cursor) (x : X) (after : Cursor) → Gives (repeat left g) now → 0 < left → Taken g now x after → Gives (repeat (left - 1) g) after
+pub gives_rest : {X : Type 0} (g : Grammar X) (left : ℕ) (now : Cursor) (x : X) (after : Cursor) → Gives (repeat left g) now → 0 < left
+    → Taken g now x after → Gives (repeat (left - 1) g) after
 unfolding gives given
 gives_rest g left now x after h lt t =
     let e : IsTrue (is_read (next (repeat (suc (left - 1)) g) now)) = subst (λ n. IsTrue (is_read (next (repeat n g) now))) (one_less left lt) h in
     subst IsTrue (first_read g (left - 1) now x after t) e
 
-pub gives_first : {X : Type 0} (g : Grammar X) (left : ℕ) (now : Cursor) (x : X) (after : Cursor) → Gives (repeat left g) now → 0 < left → Taken g now x after → given [] (repeat left g) now ≡ x ∷ given [] (repeat (left - 1) g) after
+pub gives_first : {X : Type 0} (g : Grammar X) (left : ℕ) (now : Cursor) (x : X) (after : Cursor) → Gives (repeat left g) now → 0 < left
+    → Taken g now x after → given [] (repeat left g) now ≡ x ∷ given [] (repeat (left - 1) g) after
 unfolding gives given
 gives_first g left now x after h lt t =
     let k = one_less left lt in
     let rest : IsTrue (is_read (next (repeat (left - 1) g) after)) = gives_rest g left now x after h lt t in
     let one : given [] (repeat (suc (left - 1)) g) now ≡ x ∷ given [] (repeat (left - 1) g) after =
-    rw (t.value, t.info, t.part) (value_first x (read (info_of now.part) (repeat (left - 1) g) now.info.bytes.now after.at) (rw (← t.info, ← t.part) rest)) in
+    rw (t.value, t.info, t.part)
+    (value_first x (read (info_of now.part) (repeat (left - 1) g) now.info.bytes.now after.at) (rw (← t.info, ← t.part) rest)) in
     ap (λ n. given [] (repeat n g) now) k ∙ one
 
-pub length-repeat : {X : Type 0} (from : Origin) (g : Grammar X) (n : ℕ) (bytes : List ℕ) (at : ℕ) (xs : List X) (after : ℕ) → read from (repeat n g) bytes at ≡ Ok (xs, after) → length xs ≡ n
+pub length-repeat : {X : Type 0} (from : Origin) (g : Grammar X) (n : ℕ) (bytes : List ℕ) (at : ℕ) (xs : List X) (after : ℕ)
+    → read from (repeat n g) bytes at ≡ Ok (xs, after) → length xs ≡ n
 length-repeat from g zero bytes at xs after h = rw ((pair_ok [] xs at after h).0) refl
 length-repeat from g (suc n) bytes at xs after h =
     let t = then_ok (read from g bytes at) (λ x middle. read from (repeat n g >>= λ ys. give (x ∷ ys)) bytes middle) xs after h in
     let u = then_ok (read from (repeat n g) bytes t.1) (λ ys p. read_ok (t.0 ∷ ys) p) xs after t.3 in
     rw ((pair_ok (t.0 ∷ u.0) xs u.1 after u.3).0) (ap suc (length-repeat from g n bytes t.1 u.0 u.1 u.2))
 
-length-value : {X : Type 0} (n : ℕ) (r : Reading (List X)) → ((xs : List X) (after : ℕ) → r ≡ Ok (xs, after) → length xs ≡ n) → IsTrue (is_read r) → length (value_or [] r) ≡ n
+length-value : {X : Type 0} (n : ℕ) (r : Reading (List X)) → ((xs : List X) (after : ℕ) → r ≡ Ok (xs, after) → length xs ≡ n)
+    → IsTrue (is_read r) → length (value_or [] r) ≡ n
 length-value n (Ok x) h k = h x.0 x.1 refl
 length-value n (Err e) h k = absurd cc
 
@@ -127,7 +140,8 @@ pub gives_none : {X : Type 0} (g : Grammar X) (left : ℕ) (now : Cursor) → le
 unfolding gives given
 gives_none g left now h = rw h refl
 
-pub gives_not : {X : Type 0} (g : Grammar X) (left : ℕ) (now : Cursor) (fault : FormFault) → Gives (repeat left g) now → 0 < left → TakingFails g now fault → ⊥
+pub gives_not : {X : Type 0} (g : Grammar X) (left : ℕ) (now : Cursor) (fault : FormFault) → Gives (repeat left g) now → 0 < left
+    → TakingFails g now fault → ⊥
 unfolding gives given
 gives_not g left now fault h lt f =
     let e : IsTrue (is_read (next (repeat (suc (left - 1)) g) now)) = subst (λ n. IsTrue (is_read (next (repeat n g) now))) (one_less left lt) h in

@@ -1,5 +1,6 @@
 -- Numbers that are written over at rising places.
-use Rattle.std.proofs.Common.{◌≡◌, ℕ, ◌+◌, ◌-◌, ◌^◌, ◌≤◌, ◌<◌, List, [], ◌∷◌, ◌++◌, length, take, drop, Some, slice_index, refl, ap, ◌∙◌, arith, length-append}
+use Rattle.std.proofs.Common.{◌≡◌, ℕ, ◌+◌, ◌-◌, ◌^◌, ◌≤◌, ◌<◌, List, [], ◌∷◌, ◌++◌, length, take, drop, Some}
+use Rattle.std.proofs.Common.{slice_index, refl, ap, ◌∙◌, arith, length-append}
 use Rattle.std.proofs.lemmas.List.{get_or_append_left, get_or-append_right, get_or-take, get_or-drop, length-take, length-drop, drop_at, take_at}
 use Rattle.std.proofs.Math.Nat.{mod-eq_of_lt}
 use Rattle.byteorder.specs.Endian.{big_bytes, big_from, big_number}
@@ -25,7 +26,8 @@ before_patched e bytes k w h =
     get_or_append_left (take e.at bytes) (big_bytes 2 e.number ++ drop (e.at + 2) bytes) 0 k (omega (arith, length-take e.at bytes))
     ∙ get_or-take e.at bytes k 0 h
 
-after_patched : (e : Edit) (bytes : List ℕ) (k : ℕ) → e.at + 2 ≤ length bytes → e.at + 2 ≤ k → slice_index (patched e bytes) k ≡ slice_index bytes k
+after_patched : (e : Edit) (bytes : List ℕ) (k : ℕ) → e.at + 2 ≤ length bytes → e.at + 2 ≤ k
+    → slice_index (patched e bytes) k ≡ slice_index bytes k
 unfolding patched
 after_patched e bytes k w h =
     let len : length (take e.at bytes) ≡ e.at = omega (arith, length-take e.at bytes) in
@@ -35,7 +37,8 @@ after_patched e bytes k w h =
     ∙ get_or-drop (e.at + 2) bytes (k - e.at - 2) 0 ∙ ap (slice_index bytes) place
 
 -- a number stands where its bytes do
-pub number_there : (w n at : ℕ) (before after : List ℕ) → n < 256 ^ w → length before ≡ at → number_at w at (before ++ (big_bytes w n ++ after)) ≡ Some n
+pub number_there : (w n at : ℕ) (before after : List ℕ) → n < 256 ^ w → length before ≡ at → number_at w at (before ++ (big_bytes w n ++ after))
+    ≡ Some n
 number_there w n at before after fits len =
     let dropped : drop at (before ++ (big_bytes w n ++ after)) ≡ big_bytes w n ++ after = drop_at before (big_bytes w n ++ after) at len in
     let read : big_from 0 w (big_bytes w n ++ after) ≡ n = big_from-bytes w n after ∙ mod-eq_of_lt fits in
@@ -71,7 +74,8 @@ length_patched_all (e ∷ es) low bytes h =
     length_patched_all es (e.at + 2) (patched e bytes) (rw one h.1) ∙ one
 
 -- what stands before the first of them is as it was
-before_all : (es : List Edit) (low : ℕ) (bytes : List ℕ) (k : ℕ) → AreInside es low (length bytes) → k < low → slice_index (patched_all es bytes) k ≡ slice_index bytes k
+before_all : (es : List Edit) (low : ℕ) (bytes : List ℕ) (k : ℕ) → AreInside es low (length bytes) → k < low
+    → slice_index (patched_all es bytes) k ≡ slice_index bytes k
 before_all [] low bytes k h lt = refl
 before_all (e ∷ es) low bytes k h lt =
     let w = inside_order es (e.at + 2) (length bytes) h.1 in
@@ -80,13 +84,15 @@ before_all (e ∷ es) low bytes k h lt =
     before_all es (e.at + 2) (patched e bytes) k (rw one h.1) (omega arith) ∙ before_patched e bytes k w (omega arith)
 
 -- the same edits of bytes that are the same from there on
-edited_base : (es : List Edit) (low high : ℕ) (bytes other out : List ℕ) → ((k : ℕ) → low ≤ k → slice_index other k ≡ slice_index bytes k) → AreInside es low high → IsEdited es low high other out → IsEdited es low high bytes out
+edited_base : (es : List Edit) (low high : ℕ) (bytes other out : List ℕ) → ((k : ℕ) → low ≤ k → slice_index other k ≡ slice_index bytes k)
+    → AreInside es low high → IsEdited es low high other out → IsEdited es low high bytes out
 edited_base [] low high bytes other out same i h = record { each = λ k m n. h.each k m n ∙ same k m }
 edited_base (e ∷ es) low high bytes other out same i h =
     let l = i.0 in
     (record { each = λ k m n. h.0.each k m n ∙ same k m }, h.1, edited_base es (e.at + 2) high bytes other out (λ k m. same k (omega arith)) i.1 h.2)
 
-edited : (es : List Edit) (low : ℕ) (bytes : List ℕ) → AreInside es low (length bytes) → FitBytes es → IsEdited es low (length bytes) bytes (patched_all es bytes)
+edited : (es : List Edit) (low : ℕ) (bytes : List ℕ) → AreInside es low (length bytes) → FitBytes es
+    → IsEdited es low (length bytes) bytes (patched_all es bytes)
 edited [] low bytes i f = record { each = λ k m n. refl }
 edited (e ∷ es) low bytes i f =
     let w : e.at + 2 ≤ length bytes = inside_order es (e.at + 2) (length bytes) i.1 in
@@ -95,13 +101,15 @@ edited (e ∷ es) low bytes i f =
     let all : length (patched_all es (patched e bytes)) ≡ length (patched e bytes) = length_patched_all es (e.at + 2) (patched e bytes) there in
     let same : AreSame e.at (e.at + 2) (patched e bytes) (patched_all es (patched e bytes)) =
     record { each = λ k m n. before_all es (e.at + 2) (patched e bytes) k there n } in
-    let rest : IsEdited es (e.at + 2) (length (patched e bytes)) (patched e bytes) (patched_all es (patched e bytes)) = edited es (e.at + 2) (patched e bytes) there f.1 in (
+    let rest : IsEdited es (e.at + 2) (length (patched e bytes)) (patched e bytes) (patched_all es (patched e bytes)) = edited es (e.at + 2)
+    (patched e bytes) there f.1 in (
       record { each = λ k m n. before_all es (e.at + 2) (patched e bytes) k there (omega arith) ∙ before_patched e bytes k w n },
       record {
         number = number_same 2 e.at (patched e bytes) (patched_all es (patched e bytes)) all same ∙ number_patched e bytes w f.0;
         bytes = piece_same 2 e.at (patched e bytes) (patched_all es (patched e bytes)) all same ∙ bytes_patched e bytes w;
       },
-      edited_base es (e.at + 2) (length bytes) bytes (patched e bytes) (patched_all es (patched e bytes)) (λ k m. after_patched e bytes k w m) i.1 (rw (← one) rest),
+      edited_base es (e.at + 2) (length bytes) bytes (patched e bytes) (patched_all es (patched e bytes)) (λ k m. after_patched e bytes k w m) i.1
+          (rw (← one) rest),
     )
 
 pub patches_renew : (es : List Edit) (bytes : List ℕ) → AreInside es 0 (length bytes) → FitBytes es → Renews es bytes (patched_all es bytes)
@@ -109,13 +117,15 @@ patches_renew es bytes i f = record { long = length_patched_all es 0 bytes i; in
 
 -- ---- pieces of edited bytes
 
-edited_from : (es : List Edit) (low mid high : ℕ) (bytes out : List ℕ) → IsEdited es low high bytes out → low ≤ mid → AreInside es mid high → AreSame low mid bytes out × IsEdited es mid high bytes out
+edited_from : (es : List Edit) (low mid high : ℕ) (bytes out : List ℕ) → IsEdited es low high bytes out → low ≤ mid → AreInside es mid high
+    → AreSame low mid bytes out × IsEdited es mid high bytes out
 edited_from [] low mid high bytes out h l i = (same_part low high low mid bytes out h (omega arith) i, same_part low high mid high bytes out h l (omega arith))
 edited_from (e ∷ es) low mid high bytes out h l i =
     (same_part low e.at low mid bytes out h.0 (omega arith) i.0, (same_part low e.at mid e.at bytes out h.0 l (omega arith), h.1, h.2))
 
 -- the edits up to a place, and those from there on
-pub edited_split : (es fs : List Edit) (low mid high : ℕ) (bytes out : List ℕ) → AreInside es low mid → AreInside fs mid high → IsEdited (es ++ fs) low high bytes out → IsEdited es low mid bytes out × IsEdited fs mid high bytes out
+pub edited_split : (es fs : List Edit) (low mid high : ℕ) (bytes out : List ℕ) → AreInside es low mid → AreInside fs mid high
+    → IsEdited (es ++ fs) low high bytes out → IsEdited es low mid bytes out × IsEdited fs mid high bytes out
 edited_split [] fs low mid high bytes out i j h = edited_from fs low mid high bytes out h i j
 edited_split (e ∷ es) fs low mid high bytes out i j h =
     let r = edited_split es fs (e.at + 2) mid high bytes out i.1 j h.2 in
@@ -144,7 +154,8 @@ pub inside_to : (es : List Edit) (low mid high : ℕ) → AreInside es low mid �
 inside_to [] low mid high h l = omega arith
 inside_to (e ∷ es) low mid high h l = (h.0, inside_to es (e.at + 2) mid high h.1 l)
 
-pub edited_last : (es : List Edit) (low mid high : ℕ) (bytes out : List ℕ) → AreInside es low mid → mid ≤ high → IsEdited es low high bytes out → IsEdited es low mid bytes out × AreSame mid high bytes out
+pub edited_last : (es : List Edit) (low mid high : ℕ) (bytes out : List ℕ) → AreInside es low mid → mid ≤ high → IsEdited es low high bytes out
+    → IsEdited es low mid bytes out × AreSame mid high bytes out
 edited_last [] low mid high bytes out i l h = (same_part low high low mid bytes out h (omega arith) l, same_part low high mid high bytes out h i (omega arith))
 edited_last (e ∷ es) low mid high bytes out i l h =
     let r = edited_last es (e.at + 2) mid high bytes out i.1 l h.2 in

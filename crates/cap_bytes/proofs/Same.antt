@@ -1,5 +1,6 @@
 -- Bytes that are the same spell the same.
-use Rattle.std.proofs.Common.{◌≡◌, ℕ, zero, suc, ◌+◌, ◌-◌, ◌≤◌, ◌<◌, List, length, take, drop, slice_index, refl, sym, ap, ◌∙◌, arith}
+use Rattle.std.proofs.Common.{◌≡◌, ℕ, zero, suc, ◌+◌, ◌-◌, ◌≤◌, ◌<◌, List, length, take, drop, slice_index, refl, sym, ap, ◌∙◌}
+use Rattle.std.proofs.Common.{arith}
 use Rattle.std.proofs.lemmas.List.{get_or-drop, get_or-take, length-take, length-drop, ext_get_or}
 use Rattle.byteorder.specs.Endian.{big_from}
 use Rattle.cap_bytes.specs.Number.{number_at}
@@ -15,7 +16,8 @@ pub same_nothing : (low high : ℕ) (bytes out : List ℕ) → high ≤ low → 
 same_nothing low high bytes out h = record { each = λ k m n. absurd (omega arith) }
 
 -- a number is read from its bytes alone
-big_same : (n i : ℕ) (xs ys : List ℕ) → ((k : ℕ) → k < n → slice_index xs (i + k) ≡ slice_index ys (i + k)) → big_from i n xs ≡ big_from i n ys
+big_same : (n i : ℕ) (xs ys : List ℕ) → ((k : ℕ) → k < n → slice_index xs (i + k) ≡ slice_index ys (i + k))
+    → big_from i n xs ≡ big_from i n ys
 big_same zero i xs ys same = refl
 big_same (suc n) i xs ys same =
     let z : i + 0 ≡ i = omega arith in
@@ -23,14 +25,16 @@ big_same (suc n) i xs ys same =
     let rest = big_same n (suc i) xs ys (λ k h. let e : suc i + k ≡ i + suc k = omega arith in rw e (same (suc k) (omega arith))) in
     rw (first, rest) refl
 
-pub number_same : (w at : ℕ) (bytes out : List ℕ) → length out ≡ length bytes → AreSame at (at + w) bytes out → number_at w at out ≡ number_at w at bytes
+pub number_same : (w at : ℕ) (bytes out : List ℕ) → length out ≡ length bytes → AreSame at (at + w) bytes out
+    → number_at w at out ≡ number_at w at bytes
 number_same w at bytes out len s =
     let e : big_from 0 w (drop at out) ≡ big_from 0 w (drop at bytes) = big_same w 0 (drop at out) (drop at bytes) (λ k h.
     let z : 0 + k ≡ k = omega arith in
     rw z (get_or-drop at out k 0 ∙ s.each (at + k) (omega arith) (omega arith) ∙ sym (get_or-drop at bytes k 0))) in
     rw (len, e) refl
 
-pub piece_same : (n at : ℕ) (bytes out : List ℕ) → length out ≡ length bytes → AreSame at (at + n) bytes out → take n (drop at out) ≡ take n (drop at bytes)
+pub piece_same : (n at : ℕ) (bytes out : List ℕ) → length out ≡ length bytes → AreSame at (at + n) bytes out
+    → take n (drop at out) ≡ take n (drop at bytes)
 piece_same n at bytes out len s =
     let l : length (take n (drop at out)) ≡ length (take n (drop at bytes)) = simp (length-take, length-drop, len) in
     ext_get_or 0 (take n (drop at out)) (take n (drop at bytes)) l (λ i h.
@@ -38,7 +42,8 @@ piece_same n at bytes out len s =
     get_or-take n (drop at out) i 0 few ∙ get_or-drop at out i 0 ∙ s.each (at + i) (omega arith) (omega arith)
     ∙ sym (get_or-take n (drop at bytes) i 0 few ∙ get_or-drop at bytes i 0))
 
-pub spelled_same : {X : Type 0} (g : Grammar X) (bytes out : List ℕ) (at : ℕ) (x : X) (after : ℕ) → length out ≡ length bytes → AreSame at after bytes out → Spells g bytes at x after → Spells g out at x after
+pub spelled_same : {X : Type 0} (g : Grammar X) (bytes out : List ℕ) (at : ℕ) (x : X) (after : ℕ) → length out ≡ length bytes
+    → AreSame at after bytes out → Spells g bytes at x after → Spells g out at x after
 unfolding Spells
 spelled_same (give y) bytes out at x after len s h = h
 spelled_same (number w wrong) bytes out at n after len s h =

@@ -1,5 +1,6 @@
 -- Loops that pass over items up to the end of the bytes.
-use Rattle.std.proofs.Common.{◌≡◌, ℕ, zero, suc, ◌+◌, ◌-◌, ◌≤◌, ◌<◌, List, [], ◌∷◌, length, Option, Result, Ok, Err, Bool, true, false, nat_lt, refl, sym, ap, subst, ◌∙◌, arith}
+use Rattle.std.proofs.Common.{◌≡◌, ℕ, zero, suc, ◌+◌, ◌-◌, ◌≤◌, ◌<◌, List, [], ◌∷◌, length, Option, Result, Ok, Err, Bool, true}
+use Rattle.std.proofs.Common.{false, nat_lt, refl, sym, ap, subst, ◌∙◌, arith}
 use Rattle.std.proofs.lemmas.Bool.{lt-ltb, le-ltb}
 use Rattle.cap_bytes.specs.declared.fault.FormFault.{FormFault}
 use Rattle.cap_bytes.specs.declared.cursor.Cursor.{Cursor}
@@ -40,12 +41,13 @@ plus_one i x (Ok y) = let e : i + suc (length y.0) ≡ i + 1 + length y.0 = omeg
 plus_one i x (Err e) = refl
 
 -- i items from `start` on are passed, which changed the state from `first` to `s`, and `now` is after them
-pub record HasPassedUntil {X S : Type 0} (g : S → Grammar X) (step : S → X → S) (start : Cursor) (first : S) (i : ℕ) (now : Cursor) (s : S) : Type 0 where
-  pub fuel : ℕ
-  pub enough : length now.info.bytes.now - now.at ≤ fuel
-  pub goes_on : plus i (size_of (next (at_most fuel g step s) now)) ≡ size_of (next (until_end g step first) start)
-  pub info : now.info ≡ start.info
-  pub part : now.part ≡ start.part
+pub record HasPassedUntil {X S : Type 0} (g : S → Grammar X) (step : S → X → S) (start : Cursor) (first : S) (i : ℕ) (now : Cursor) (s : S) : Type 0
+  where
+    pub fuel : ℕ
+    pub enough : length now.info.bytes.now - now.at ≤ fuel
+    pub goes_on : plus i (size_of (next (at_most fuel g step s) now)) ≡ size_of (next (until_end g step first) start)
+    pub info : now.info ≡ start.info
+    pub part : now.part ≡ start.part
 
 pub until_none : {X S : Type 0} (g : S → Grammar X) (step : S → X → S) (start : Cursor) (first : S) → HasPassedUntil g step start first 0 start first
 until_none g step start first = record {
@@ -64,18 +66,22 @@ when_false : {X : Type 0} (b : Bool) (otherwise : X) (g : Grammar X) (now : Curs
 when_false true otherwise g now e = absurd cc
 when_false false otherwise g now e = refl
 
-one_item : {X S : Type 0} (g : S → Grammar X) (step : S → X → S) (n : ℕ) (now : Cursor) (s : S) → now.at < length now.info.bytes.now → next (at_most (suc n) g step s) now ≡ next (g s >>= λ x. at_most n g step (step s x) >>= λ xs. give (x ∷ xs)) now
+one_item : {X S : Type 0} (g : S → Grammar X) (step : S → X → S) (n : ℕ) (now : Cursor) (s : S) → now.at < length now.info.bytes.now
+    → next (at_most (suc n) g step s) now ≡ next (g s >>= λ x. at_most n g step (step s x) >>= λ xs. give (x ∷ xs)) now
 one_item g step n now s lt =
     let e : nat_lt 0 (length now.info.bytes.now - now.at) ≡ true = lt-ltb 0 (length now.info.bytes.now - now.at) (omega arith) in
     when_true (nat_lt 0 (length now.info.bytes.now - now.at)) [] (g s >>= λ x. at_most n g step (step s x) >>= λ xs. give (x ∷ xs)) now e
 
-pub until_more : {X S : Type 0} (g : S → Grammar X) (step : S → X → S) (start : Cursor) (first : S) (i : ℕ) (now : Cursor) (s : S) (x : X) (after : Cursor) → HasPassedUntil g step start first i now s → now.at < length now.info.bytes.now → Taken (g s) now x after → now.at < after.at → HasPassedUntil g step start first (i + 1) after (step s x)
+pub until_more : {X S : Type 0} (g : S → Grammar X) (step : S → X → S) (start : Cursor) (first : S) (i : ℕ) (now : Cursor) (s : S) (x : X)
+    (after : Cursor) → HasPassedUntil g step start first i now s → now.at < length now.info.bytes.now → Taken (g s) now x after → now.at < after.at
+    → HasPassedUntil g step start first (i + 1) after (step s x)
 until_more g step start first i now s x after so_far lt h moved =
     let enough = so_far.enough in
     let k : so_far.fuel ≡ suc (so_far.fuel - 1) = omega arith in
     let n = so_far.fuel - 1 in
     let one : plus i (size_of (next (at_most (suc n) g step s) now)) ≡ plus (i + 1) (size_of (next (at_most n g step (step s x)) after)) =
-    rw (one_item g step n now s lt, h.value, h.info, h.part) (plus_one i x (read (info_of now.part) (at_most n g step (step s x)) now.info.bytes.now after.at)) in
+    rw (one_item g step n now s lt, h.value, h.info, h.part)
+    (plus_one i x (read (info_of now.part) (at_most n g step (step s x)) now.info.bytes.now after.at)) in
     record {
       fuel = n;
       enough = rw h.info (omega arith);
@@ -84,23 +90,32 @@ until_more g step start first i now s x after so_far lt h moved =
       part = h.part ∙ so_far.part;
     }
 
-one_fault : {X S : Type 0} (g : S → Grammar X) (step : S → X → S) (i n : ℕ) (now : Cursor) (s : S) (fault : FormFault) → now.at < length now.info.bytes.now → TakingFails (g s) now fault → plus i (size_of (next (at_most (suc n) g step s) now)) ≡ Err fault
+one_fault : {X S : Type 0} (g : S → Grammar X) (step : S → X → S) (i n : ℕ) (now : Cursor) (s : S) (fault : FormFault)
+    → now.at < length now.info.bytes.now → TakingFails (g s) now fault → plus i (size_of (next (at_most (suc n) g step s) now)) ≡ Err fault
 one_fault g step i n now s fault lt h = rw (one_item g step n now s lt, h.answer) refl
 
-pub until_fault : {X S : Type 0} (g : S → Grammar X) (step : S → X → S) (start : Cursor) (first : S) (i : ℕ) (now : Cursor) (s : S) (fault : FormFault) → HasPassedUntil g step start first i now s → now.at < length now.info.bytes.now → TakingFails (g s) now fault → TakingFails (until_end g step first) start fault
+pub until_fault : {X S : Type 0} (g : S → Grammar X) (step : S → X → S) (start : Cursor) (first : S) (i : ℕ) (now : Cursor) (s : S)
+    (fault : FormFault) → HasPassedUntil g step start first i now s → now.at < length now.info.bytes.now → TakingFails (g s) now fault
+    → TakingFails (until_end g step first) start fault
 until_fault g step start first i now s fault so_far lt h =
     let enough = so_far.enough in
     let k : so_far.fuel ≡ suc (so_far.fuel - 1) = omega arith in
     let e : plus i (size_of (next (at_most (suc (so_far.fuel - 1)) g step s) now)) ≡ Err fault = one_fault g step i (so_far.fuel - 1) now s fault lt h in
-    record { answer = sized_err (next (until_end g step first) start) fault (sym so_far.goes_on ∙ ap (λ m. plus i (size_of (next (at_most m g step s) now))) k ∙ e) }
+    record {
+      answer = sized_err (next (until_end g step first) start) fault
+          (sym so_far.goes_on ∙ ap (λ m. plus i (size_of (next (at_most m g step s) now))) k ∙ e);
+    }
 
-no_item : {X S : Type 0} (g : S → Grammar X) (step : S → X → S) (n : ℕ) (now : Cursor) (s : S) → length now.info.bytes.now ≤ now.at → next (at_most n g step s) now ≡ Ok ([], now.at)
+no_item : {X S : Type 0} (g : S → Grammar X) (step : S → X → S) (n : ℕ) (now : Cursor) (s : S) → length now.info.bytes.now ≤ now.at
+    → next (at_most n g step s) now ≡ Ok ([], now.at)
 no_item g step zero now s le = refl
 no_item g step (suc n) now s le =
     let e : nat_lt 0 (length now.info.bytes.now - now.at) ≡ false = le-ltb 0 (length now.info.bytes.now - now.at) (omega arith) in
     when_false (nat_lt 0 (length now.info.bytes.now - now.at)) [] (g s >>= λ x. at_most n g step (step s x) >>= λ xs. give (x ∷ xs)) now e
 
-pub until_all : {X S : Type 0} (g : S → Grammar X) (step : S → X → S) (start : Cursor) (first : S) (i : ℕ) (now : Cursor) (s : S) → HasPassedUntil g step start first i now s → length now.info.bytes.now ≤ now.at → (xs : List X) × Taken (until_end g step first) start xs now × (length xs ≡ i)
+pub until_all : {X S : Type 0} (g : S → Grammar X) (step : S → X → S) (start : Cursor) (first : S) (i : ℕ) (now : Cursor) (s : S)
+    → HasPassedUntil g step start first i now s → length now.info.bytes.now ≤ now.at → (xs : List X) × Taken (until_end g step first) start xs now
+    × (length xs ≡ i)
 until_all g step start first i now s so_far le =
     let e : plus i (size_of (next (at_most so_far.fuel g step s) now)) ≡ Ok (i + 0, now.at) = rw (no_item g step so_far.fuel now s le) refl in
     let t = sized_ok (next (until_end g step first) start) (i + 0) now.at (sym so_far.goes_on ∙ e) in
@@ -114,28 +129,42 @@ pair_is x y a b e d = rw (e, d) refl
 
 -- ---- the same items without what the state asks
 
-no_more : {X : Type 0} (h : Grammar X) (from : Origin) (bytes : List ℕ) (at : ℕ) (xs : List X) (after : ℕ) → read_ok [] at ≡ Ok (xs, after) → read from (repeat (length xs) h) bytes at ≡ Ok (xs, after)
+no_more : {X : Type 0} (h : Grammar X) (from : Origin) (bytes : List ℕ) (at : ℕ) (xs : List X) (after : ℕ) → read_ok [] at ≡ Ok (xs, after)
+    → read from (repeat (length xs) h) bytes at ≡ Ok (xs, after)
 no_more h from bytes at xs after e = let p = pair_ok [] xs at after e in rw (p.0, p.1) refl
 
-one_more : {X S : Type 0} (g : S → Grammar X) (step : S → X → S) (h : Grammar X) → ReadsAll g h → (n : ℕ) (s : S) (from : Origin) (bytes : List ℕ) (at : ℕ) (xs : List X) (after : ℕ) (b : Bool)
-    → ((s' : S) (at' : ℕ) (ys : List X) (end : ℕ) → read from (at_most n g step s') bytes at' ≡ Ok (ys, end) → read from (repeat (length ys) h) bytes at' ≡ Ok (ys, end))
-    → read from (when b [] (g s >>= λ x. at_most n g step (step s x) >>= λ ys. give (x ∷ ys))) bytes at ≡ Ok (xs, after) → read from (repeat (length xs) h) bytes at ≡ Ok (xs, after)
+one_more : {X S : Type 0} (g : S → Grammar X) (step : S → X → S) (h : Grammar X) → ReadsAll g h
+    → (n : ℕ) (s : S) (from : Origin) (bytes : List ℕ) (at : ℕ) (xs : List X) (after : ℕ) (b : Bool)
+    → ((s' : S) (at' : ℕ) (ys : List X) (end : ℕ) → read from (at_most n g step s') bytes at' ≡ Ok (ys, end)
+    → read from (repeat (length ys) h) bytes at' ≡ Ok (ys, end))
+    → read from (when b [] (g s >>= λ x. at_most n g step (step s x) >>= λ ys. give (x ∷ ys))) bytes at ≡ Ok (xs, after)
+    → read from (repeat (length xs) h) bytes at ≡ Ok (xs, after)
 one_more g step h all n s from bytes at xs after false others e = no_more h from bytes at xs after e
 one_more g step h all n s from bytes at xs after true others e =
     let t = then_ok (read from (g s) bytes at) (λ x middle. read from (at_most n g step (step s x) >>= λ ys. give (x ∷ ys)) bytes middle) xs after e in
     let u = then_ok (read from (at_most n g step (step s t.0)) bytes t.1) (λ ys p. read_ok (t.0 ∷ ys) p) xs after t.3 in
     let p = pair_ok (t.0 ∷ u.0) xs u.1 after u.3 in
-    let whole : read from (repeat (suc (length u.0)) h) bytes at ≡ Ok (t.0 ∷ u.0, u.1) = rw (all s from bytes at t.0 t.1 t.2, others (step s t.0) t.1 u.0 u.1 u.2) refl in
-    subst (λ (q : List _ × ℕ). read from (repeat (length q.0) h) bytes at ≡ Ok q) {x = (t.0 ∷ u.0, u.1)} (pair_is (t.0 ∷ u.0) xs u.1 after p.0 p.1) whole
+    let whole : read from (repeat (suc (length u.0)) h) bytes at ≡ Ok (t.0 ∷ u.0, u.1) =
+    rw (all s from bytes at t.0 t.1 t.2, others (step s t.0) t.1 u.0 u.1 u.2) refl in
+    subst (λ (q : List _ × ℕ). read from (repeat (length q.0) h) bytes at ≡ Ok q) {x = (t.0 ∷ u.0, u.1)}
+    (pair_is (t.0 ∷ u.0) xs u.1 after p.0 p.1) whole
 
-pub most-repeat : {X S : Type 0} (g : S → Grammar X) (step : S → X → S) (h : Grammar X) → ReadsAll g h → (n : ℕ) (s : S) (from : Origin) (bytes : List ℕ) (at : ℕ) (xs : List X) (after : ℕ) → read from (at_most n g step s) bytes at ≡ Ok (xs, after) → read from (repeat (length xs) h) bytes at ≡ Ok (xs, after)
+pub most-repeat : {X S : Type 0} (g : S → Grammar X) (step : S → X → S) (h : Grammar X) → ReadsAll g h
+    → (n : ℕ) (s : S) (from : Origin) (bytes : List ℕ) (at : ℕ) (xs : List X) (after : ℕ) → read from (at_most n g step s) bytes at
+    ≡ Ok (xs, after) → read from (repeat (length xs) h) bytes at ≡ Ok (xs, after)
 most-repeat g step h all zero s from bytes at xs after e = no_more h from bytes at xs after e
 most-repeat g step h all (suc n) s from bytes at xs after e =
-    one_more g step h all n s from bytes at xs after (nat_lt 0 (length bytes - at)) (λ s' at' ys end d. most-repeat g step h all n s' from bytes at' ys end d) e
+    one_more g step h all n s from bytes at xs after (nat_lt 0 (length bytes - at))
+    (λ s' at' ys end d. most-repeat g step h all n s' from bytes at' ys end d) e
 
-pub until_taken : {X S : Type 0} (g : S → Grammar X) (step : S → X → S) (h : Grammar X) → ReadsAll g h → (s : S) (now : Cursor) (xs : List X) (after : Cursor) → Taken (until_end g step s) now xs after → Taken (repeat (length xs) h) now xs after
+pub until_taken : {X S : Type 0} (g : S → Grammar X) (step : S → X → S) (h : Grammar X) → ReadsAll g h
+    → (s : S) (now : Cursor) (xs : List X) (after : Cursor) → Taken (until_end g step s) now xs after → Taken (repeat (length xs) h) now xs after
 until_taken g step h all s now xs after t =
-    record { value = most-repeat g step h all (length now.info.bytes.now - now.at) s (info_of now.part) now.info.bytes.now now.at xs after.at t.value; info = t.info; part = t.part }
+    record {
+      value = most-repeat g step h all (length now.info.bytes.now - now.at) s (info_of now.part) now.info.bytes.now now.at xs after.at t.value;
+      info = t.info;
+      part = t.part;
+    }
 
 -- ---- items move on
 
@@ -153,7 +182,8 @@ moves_on (g >>= next) bytes at y after h =
     omega (arith, a, b)
 
 -- what begins with a number has the bytes of that number at least
-pub moves : {X : Type 0} (w : ℕ) (wrong : ℕ → Option FormKind) (then : ℕ → Grammar X) (now : Cursor) (x : X) (after : Cursor) → Taken (number w wrong >>= then) now x after → now.at + w ≤ after.at
+pub moves : {X : Type 0} (w : ℕ) (wrong : ℕ → Option FormKind) (then : ℕ → Grammar X) (now : Cursor) (x : X) (after : Cursor)
+    → Taken (number w wrong >>= then) now x after → now.at + w ≤ after.at
 unfolding Spells
 moves w wrong then now x after t =
     let h = read-spells (info_of now.part) (number w wrong >>= then) now.info.bytes.now now.at x after.at t.value in

@@ -1,5 +1,6 @@
 -- What is written item by item is spelled.
-use Rattle.std.proofs.Common.{◌≡◌, ℕ, ◌+◌, ◌^◌, ◌<◌, List, [], ◌++◌, length, take, None, Option, refl, sym, ap, subst, ◌∙◌, arith, length-append, append_assoc}
+use Rattle.std.proofs.Common.{◌≡◌, ℕ, ◌+◌, ◌^◌, ◌<◌, List, [], ◌++◌, length, take, None, Option, refl, sym, ap, subst, ◌∙◌, arith}
+use Rattle.std.proofs.Common.{length-append, append_assoc}
 use Rattle.std.proofs.lemmas.List.{drop_at, take_at, append-nil}
 use Rattle.byteorder.specs.Endian.{big_bytes}
 use Rattle.byteorder.specs.Numbers.{length-bytes_high_first}
@@ -13,7 +14,8 @@ pub writes_give : {X : Type 0} (total at : ℕ) (x : X) → SpellsInPlace total 
 unfolding Spells
 writes_give total at x = record { there = λ before after l t. (refl, omega arith) }
 
-pub writes_number : (total w n at : ℕ) (wrong : ℕ → Option FormKind) → n < 256 ^ w → wrong n ≡ None → SpellsInPlace total (number w wrong) at (big_bytes w n) n
+pub writes_number : (total w n at : ℕ) (wrong : ℕ → Option FormKind) → n < 256 ^ w → wrong n ≡ None
+    → SpellsInPlace total (number w wrong) at (big_bytes w n) n
 unfolding Spells
 writes_number total w n at wrong fits right = record {
   there = λ before after l t. (number_there w n at before after fits l, right, ap (λ k. at + k) (length-bytes_high_first w n));
@@ -37,7 +39,8 @@ writes_finish total at e = record {
   there = λ before after l t. let whole = length-append before after in (omega arith, omega arith);
 }
 
-pub writes_then : {X Y : Type 0} (total at : ℕ) (g : Grammar X) (next : X → Grammar Y) (out rest : List ℕ) (x : X) (y : Y) → SpellsInPlace total g at out x → SpellsInPlace total (next x) (at + length out) rest y → SpellsInPlace total (g >>= next) at (out ++ rest) y
+pub writes_then : {X Y : Type 0} (total at : ℕ) (g : Grammar X) (next : X → Grammar Y) (out rest : List ℕ) (x : X) (y : Y)
+    → SpellsInPlace total g at out x → SpellsInPlace total (next x) (at + length out) rest y → SpellsInPlace total (g >>= next) at (out ++ rest) y
 unfolding Spells
 writes_then total at g next out rest x y first second = record {
   there = λ before after l t.
@@ -52,7 +55,9 @@ writes_then total at g next out rest x y first second = record {
         x,
         at + length out,
         rw append_assoc one,
-        subst (λ (p : List ℕ × ℕ). Spells (next x) p.0 (at + length out) y p.1) {x = ((before ++ out) ++ (rest ++ after), at + length out + length rest)} {y = (before ++ ((out ++ rest) ++ after), at + length (out ++ rest))} (pair_is same end) two,
+        subst (λ (p : List ℕ × ℕ). Spells (next x) p.0 (at + length out) y p.1)
+            {x = ((before ++ out) ++ (rest ++ after), at + length out + length rest)} {y = (before ++ ((out ++ rest) ++ after), at + length (out ++ rest))}
+            (pair_is same end) two,
       );
 }
   where

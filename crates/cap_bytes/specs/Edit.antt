@@ -27,7 +27,8 @@ FitBytes [] = Unit {0}
 FitBytes (e ∷ es) = (e.number < 65536) × FitBytes es
 
 -- two numbers in six bytes
-two_numbers : patched_all (record { at = 1; number = 258 } ∷ record { at = 3; number = 7 } ∷ []) (9 ∷ 0 ∷ 0 ∷ 0 ∷ 0 ∷ 8 ∷ [])
+two_numbers : patched_all (record { at = 1; number = 258 } ∷ record { at = 3; number = 7 } ∷ [])
+    (9 ∷ 0 ∷ 0 ∷ 0 ∷ 0 ∷ 8 ∷ [])
     ≡ 9 ∷ 1 ∷ 2 ∷ 0 ∷ 7 ∷ 8 ∷ []
 unfolding patched
 two_numbers = refl

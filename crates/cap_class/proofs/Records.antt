@@ -21,12 +21,14 @@ pub record HavePassed (start : Cursor) (count : ℕ) (now : Cursor) (after_class
 pub advances : (after_class : Bool) (now : Cursor) (x : Class) (after : Cursor) → Taken (record_info after_class) now x after → now.at < after.at
 unfolding record_info
 advances after_class now x after t =
-    let m = moves 1 (wrong_record after_class) (λ first. beyond_first (is_interface (class_flags first)) now.at first) now x after (record { value = t.value; info = t.info; part = t.part }) in
+    let m = moves 1 (wrong_record after_class) (λ first. beyond_first (is_interface (class_flags first)) now.at first) now x after
+    (record { value = t.value; info = t.info; part = t.part }) in
     omega arith
 
 pub ruleset advancing = (advances)
 
-relaxed : (b c d : Bool) → cond (b && c) (Some BadValue) (cond d (Some Remote) None) ≡ None → cond (false && c) (Some BadValue) (cond d (Some Remote) None) ≡ None
+relaxed : (b c d : Bool) → cond (b && c) (Some BadValue) (cond d (Some Remote) None) ≡ None
+    → cond (false && c) (Some BadValue) (cond d (Some Remote) None) ≡ None
 relaxed true true d h = absurd cc
 relaxed true false d h = h
 relaxed false c d h = h
@@ -41,8 +43,10 @@ reads_all s from bytes at x after h =
     spelled-read from any_record bytes at x after (r.0, r.1, r.2, (t.0, t.1, (t.2.0, first, t.2.2), t.3))
 
 -- so many records up to the end are so many that may stand anywhere
-pub counted : (n : ℕ) (now : Cursor) (xs : List Class) (after : Cursor) → Taken (until_end record_info is_after false) now xs after → length xs ≡ n → Taken (repeat n any_record) now xs after
-counted n now xs after t e = subst (λ (k : ℕ). Taken (repeat k any_record) now xs after) e (until_taken record_info is_after any_record reads_all false now xs after t)
+pub counted : (n : ℕ) (now : Cursor) (xs : List Class) (after : Cursor) → Taken (until_end record_info is_after false) now xs after → length xs ≡ n
+    → Taken (repeat n any_record) now xs after
+counted n now xs after t e =
+    subst (λ (k : ℕ). Taken (repeat k any_record) now xs after) e (until_taken record_info is_after any_record reads_all false now xs after t)
 
 -- a table of no entries is always there
 pub never_fails : (now : Cursor) (fault : FormFault) → TakingFails (table 0) now fault → ⊥

@@ -16,7 +16,8 @@ turned true false c = refl
 turned false true c = refl
 turned false false c = refl
 
-pub one_interface : (set : ℕ → Bool) (c : Class) (cs : List Class) → is_interface c.flags ≡ true → either (also c.offset set) (names_interface cs) ≡ either set (names_interface (c ∷ cs))
+pub one_interface : (set : ℕ → Bool) (c : Class) (cs : List Class) → is_interface c.flags ≡ true → either (also c.offset set) (names_interface cs)
+    ≡ either set (names_interface (c ∷ cs))
 unfolding names_interface
 one_interface set c cs e = fun_ext (λ offset. rw e (turned (eqb c.offset offset) (set offset) (names_interface cs offset)))
 
@@ -24,6 +25,7 @@ passed : (a b c : Bool) → (b || c) ≡ (b || ((a && false) || c))
 passed true b c = refl
 passed false b c = refl
 
-pub one_class : (set : ℕ → Bool) (c : Class) (cs : List Class) → is_interface c.flags ≡ false → either set (names_interface cs) ≡ either set (names_interface (c ∷ cs))
+pub one_class : (set : ℕ → Bool) (c : Class) (cs : List Class) → is_interface c.flags ≡ false
+    → either set (names_interface cs) ≡ either set (names_interface (c ∷ cs))
 unfolding names_interface
 one_class set c cs e = fun_ext (λ offset. rw e (passed (eqb c.offset offset) (set offset) (names_interface cs offset)))

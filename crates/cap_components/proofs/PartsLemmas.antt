@@ -13,12 +13,14 @@ pub held-same : (tag : ℕ) (lent : Lent) (parts : List Lent) → eqb lent.part 
 held-same tag lent parts e = rw e refl
 
 -- a part that is not in a list, whose first part then is another
-absent-first : (b : Bool) (lent : Lent) (rest : Option Lent) → IsNone (option_map bytes_of (cond b (Some lent) rest)) → (b ≡ false) × IsNone (option_map bytes_of rest)
+absent-first : (b : Bool) (lent : Lent) (rest : Option Lent) → IsNone (option_map bytes_of (cond b (Some lent) rest)) → (b ≡ false)
+    × IsNone (option_map bytes_of rest)
 absent-first true lent rest h = absurd cc
 absent-first false lent rest h = (refl, h)
 
 -- a list that holds no part of a tag, and one more part of another tag
-absent-push : (tag : ℕ) (parts : List Lent) (lent : Lent) → IsNone (held parts tag) → eqb lent.part tag ≡ false → IsNone (held (parts ++ lent ∷ []) tag)
+absent-push : (tag : ℕ) (parts : List Lent) (lent : Lent) → IsNone (held parts tag) → eqb lent.part tag ≡ false
+    → IsNone (held (parts ++ lent ∷ []) tag)
 absent-push tag [] lent absent other = rw other refl
 absent-push tag (l ∷ ls) lent absent other =
     let first = absent-first (eqb l.part tag) l (find (is_of tag) ls) absent in

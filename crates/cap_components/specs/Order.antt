@@ -6,7 +6,10 @@ use Rattle.first_fault.specs.Order.{one, two}
 use Rattle.first_fault.specs.Least as first_fault
 pub use Rattle.first_fault.specs.Least.{refused}
 use Rattle.cap_components.specs.declared.fault.PackFault.{PackFault}
-use Rattle.cap_components.specs.declared.fault.PackFault.TheVariants.{Form, MissingPart, SizeDisagrees, MethodOverlaps, MethodOutside, CountDisagrees, HandlerOutside, StaticOverlaps, NoMethodAt, ClassUndescribed, TooManyRegisters, BadType, StaticOutside, MethodLength, NoStaticAt, PartTooLong}
+use Rattle.cap_components.specs.declared.fault.PackFault.TheVariants.{Form, MissingPart, SizeDisagrees, MethodOverlaps, MethodOutside}
+use Rattle.cap_components.specs.declared.fault.PackFault.TheVariants.{CountDisagrees, HandlerOutside, StaticOverlaps, NoMethodAt}
+use Rattle.cap_components.specs.declared.fault.PackFault.TheVariants.{ClassUndescribed, TooManyRegisters, BadType, StaticOutside}
+use Rattle.cap_components.specs.declared.fault.PackFault.TheVariants.{MethodLength, NoStaticAt, PartTooLong}
 use Rattle.cap_components.specs.CountKind.{number_of_kind}
 
 unfoldable pub pack_place : PackFault → Place

@@ -1,5 +1,6 @@
 -- Which parts must be there, and their sizes (JCVM 2.2, sections 6.1 and 6.4).
-use Rattle.std.specs.Prelude.{ℕ, List, [], ◌∷◌, length, Option, Some, None, Result, Ok, Err, is_some, map, ◌==◌, if◌then◌else◌}
+use Rattle.std.specs.Prelude.{ℕ, List, [], ◌∷◌, length, Option, Some, None, Result, Ok, Err, is_some, map, ◌==◌}
+use Rattle.std.specs.Prelude.{if◌then◌else◌}
 use Rattle.cap_frame.specs.DirectoryFormat.{DirectoryItems, Custom}
 use Rattle.cap_frame.specs.Directory.{size_in}
 use Rattle.cap_components.specs.declared.fault.PackFault.{PackFault}

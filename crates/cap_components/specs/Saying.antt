@@ -58,7 +58,8 @@ pub record AreSaid (parts : List Lent) (p : PackageRecord) : Type 0 where
 
 -- the file of the part with this tag, or the info in it, breaks its format: at the first item that does, in this way
 pub data IsBroken {X : Type 0} (parts : List Lent) (tag : ℕ) (g : Grammar X) (form : FormFault) : Type 0 where
-  in_file : (file : List ℕ) → held parts tag ≡ Some file → Breaks (file_of tag) (component tag) file 0 form → IsBroken parts tag g form
+  in_file : (file : List ℕ) → held parts tag ≡ Some file → Breaks (file_of tag) (component tag) file 0 form
+      → IsBroken parts tag g form
   in_info :
       (file info : List ℕ)
       → held parts tag ≡ Some file

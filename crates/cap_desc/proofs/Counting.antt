@@ -1,5 +1,6 @@
 -- Items of one kind are counted one after the other, to the end of a list.
-use Rattle.std.proofs.Common.{◌≡◌, ℕ, zero, suc, ◌+◌, ◌-◌, ◌≤◌, ◌<◌, List, [], ◌∷◌, ◌++◌, length, Some, None, Ok, Err, IsTrue, refl, sym, ap, subst, ◌∙◌, arith, append_assoc, append-nil}
+use Rattle.std.proofs.Common.{◌≡◌, ℕ, zero, suc, ◌+◌, ◌-◌, ◌≤◌, ◌<◌, List, [], ◌∷◌, ◌++◌, length, Some, None, Ok, Err}
+use Rattle.std.proofs.Common.{IsTrue, refl, sym, ap, subst, ◌∙◌, arith, append_assoc, append-nil}
 use Rattle.std.specs.Result.{result_ok}
 use Rattle.std.specs.Option.{option_map}
 use Rattle.std.proofs.lemmas.Bool.{lt-ltb, le-ltb}
@@ -31,15 +32,21 @@ fronts : {X : Type 0} (xs ys : List X) (r : Reading (List X)) → with_front xs 
 fronts xs ys (Ok x) = ap (λ zs. Ok (zs, x.1)) (sym (append_assoc xs ys x.0))
 fronts xs ys (Err e) = refl
 
-pub most-more : {X : Type 0} (g : Grammar X) (ns : List ℕ) (n at after : ℕ) (x : X) → at < length ns → at_place g ns at ≡ Ok (x, after) → most g (suc n) ns at ≡ with_front (x ∷ []) (most g n ns after)
+pub most-more : {X : Type 0} (g : Grammar X) (ns : List ℕ) (n at after : ℕ) (x : X) → at < length ns → at_place g ns at ≡ Ok (x, after)
+    → most g (suc n) ns at ≡ with_front (x ∷ []) (most g n ns after)
 most-more g ns n at after x lt k =
-    subst (λ t. at_place (when t [] (first_of_most g n)) ns at ≡ with_front (x ∷ []) (most g n ns after)) (sym (lt-ltb 0 (length ns - at) (omega arith))) (rw k refl)
+    subst (λ t. at_place (when t [] (first_of_most g n)) ns at ≡ with_front (x ∷ []) (most g n ns after))
+    (sym (lt-ltb 0 (length ns - at) (omega arith))) (rw k refl)
 
-pub most-fails : {X : Type 0} (g : Grammar X) (ns : List ℕ) (n at : ℕ) → at < length ns → result_ok (at_place g ns at) ≡ None → result_ok (most g (suc n) ns at) ≡ None
+pub most-fails : {X : Type 0} (g : Grammar X) (ns : List ℕ) (n at : ℕ) → at < length ns → result_ok (at_place g ns at) ≡ None
+    → result_ok (most g (suc n) ns at) ≡ None
 most-fails {X = X} g ns n at lt k =
-    subst (λ t. result_ok (at_place (when t [] (first_of_most g n)) ns at) ≡ None) (sym (lt-ltb 0 (length ns - at) (omega arith))) (no_first (at_place g ns at) k)
+    subst (λ t. result_ok (at_place (when t [] (first_of_most g n)) ns at) ≡ None) (sym (lt-ltb 0 (length ns - at) (omega arith)))
+    (no_first (at_place g ns at) k)
   where
-    no_first : (r : Reading X) → result_ok r ≡ None → result_ok (and_then r (λ x middle. at_place (at_most n (λ (s : Unit {0}). g) (λ s x. s) (tt {0}) >>= λ xs. give (x ∷ xs)) ns middle)) ≡ None
+    no_first : (r : Reading X) → result_ok r ≡ None
+        → result_ok (and_then r (λ x middle. at_place (at_most n (λ (s : Unit {0}). g) (λ s x. s) (tt {0}) >>= λ xs. give (x ∷ xs)) ns middle))
+        ≡ None
     no_first (Ok x) h = absurd cc
     no_first (Err e) h = refl
 
@@ -58,11 +65,14 @@ same_front {X = X} y ys xs p at h = let e : (y ∷ ys, p) ≡ (xs, at) = cc in (
 abbrev ok_with : {X : Type 0} → List X → ℕ → Reading (List X)
 ok_with xs p = Ok (xs, p)
 
-chain : {X Y : Type 0} (r : Reading X) (next : X → ℕ → Reading Y) (x : X) (middle : ℕ) (out : Reading Y) → r ≡ Ok (x, middle) → next x middle ≡ out → and_then r next ≡ out
+chain : {X Y : Type 0} (r : Reading X) (next : X → ℕ → Reading Y) (x : X) (middle : ℕ) (out : Reading Y) → r ≡ Ok (x, middle)
+    → next x middle ≡ out → and_then r next ≡ out
 chain r next x middle out e k = rw (e, k) refl
 
 -- one more item, after those that were read
-pub repeat-more : {X : Type 0} (g : Grammar X) (ns : List ℕ) (n start at after : ℕ) (xs : List X) (x : X) → at_place (repeat n g) ns start ≡ Ok (xs, at) → at_place g ns at ≡ Ok (x, after) → at_place (repeat (suc n) g) ns start ≡ Ok (xs ++ x ∷ [], after)
+pub repeat-more : {X : Type 0} (g : Grammar X) (ns : List ℕ) (n start at after : ℕ) (xs : List X) (x : X)
+    → at_place (repeat n g) ns start ≡ Ok (xs, at) → at_place g ns at ≡ Ok (x, after) → at_place (repeat (suc n) g) ns start
+    ≡ Ok (xs ++ x ∷ [], after)
 repeat-more {X = X} g ns zero start at after xs x h k =
     let e : ([], start) ≡ (xs, at) = cc in
     let xs_none : [] ≡ xs = ap (λ (p : List X × ℕ). p.0) e in
@@ -75,7 +85,8 @@ repeat-more {X = X} g ns (suc n) start at after xs x h k =
     let more = repeat-more g ns n first.1 at after others.0 x (others.2 ∙ ap (ok_with others.0) same.1) k in
     let f : Reading (List X) → Reading (List X) = λ r. and_then r (λ ys p. Ok (first.0 ∷ ys, p)) in
     let ends : List X → Reading (List X) = λ zs. Ok (zs ++ x ∷ [], after) in
-    chain (at_place g ns start) (λ y middle. and_then (at_place (repeat (suc n) g) ns middle) (λ ys p. Ok (y ∷ ys, p))) first.0 first.1 _ first.2 (ap f more ∙ ap ends (sym same.0))
+    chain (at_place g ns start) (λ y middle. and_then (at_place (repeat (suc n) g) ns middle) (λ ys p. Ok (y ∷ ys, p))) first.0 first.1 _ first.2
+    (ap f more ∙ ap ends (sym same.0))
 
 -- n items were counted, up to a place
 pub record HasCounted {X : Type 0} (g : Grammar X) (ns : List ℕ) (n at : ℕ) : Type 0 where
@@ -94,11 +105,13 @@ counted-none g ns = record {
   others = let e : length ns - 0 ≡ length ns = omega arith in rw e (no_front (most g (length ns) ns 0));
 }
 
-pub counted-more : {X : Type 0} (g : Grammar X) (ns : List ℕ) (n at after : ℕ) (x : X) → HasCounted g ns n at → at < length ns → at < after → after ≤ 255 → at_place g ns at ≡ Ok (x, after) → HasCounted g ns (n + 1) after
+pub counted-more : {X : Type 0} (g : Grammar X) (ns : List ℕ) (n at after : ℕ) (x : X) → HasCounted g ns n at → at < length ns → at < after
+    → after ≤ 255 → at_place g ns at ≡ Ok (x, after) → HasCounted g ns (n + 1) after
 counted-more g ns n at after x h lt rise near k =
     let few : n ≤ at = h.few in
     let one : length ns - n ≡ suc (length ns - (n + 1)) = omega arith in
-    let step : most g (length ns - n) ns at ≡ with_front (x ∷ []) (most g (length ns - (n + 1)) ns after) = rw one (most-more g ns (length ns - (n + 1)) at after x lt k) in
+    let step : most g (length ns - n) ns at ≡ with_front (x ∷ []) (most g (length ns - (n + 1)) ns after) = rw one
+    (most-more g ns (length ns - (n + 1)) at after x lt k) in
     let e : n + 1 ≡ suc n = omega arith in
     record {
       few = omega arith;
@@ -125,7 +138,8 @@ failed : {X : Type 0} (front : List X) (r : Reading (List X)) → result_ok r �
 failed front (Ok x) h = absurd cc
 failed front (Err e) h = refl
 
-pub counted-fails : {X : Type 0} (g : Grammar X) (ns : List ℕ) (n at : ℕ) → HasCounted g ns n at → at < length ns → result_ok (at_place g ns at) ≡ None → option_map (λ (p : List X × ℕ). p.0) (result_ok (most g (length ns - 0) ns 0)) ≡ None
+pub counted-fails : {X : Type 0} (g : Grammar X) (ns : List ℕ) (n at : ℕ) → HasCounted g ns n at → at < length ns
+    → result_ok (at_place g ns at) ≡ None → option_map (λ (p : List X × ℕ). p.0) (result_ok (most g (length ns - 0) ns 0)) ≡ None
 counted-fails g ns n at h lt k =
     let few : n ≤ at = h.few in
     let e : length ns - 0 ≡ length ns = omega arith in

@@ -1,5 +1,6 @@
 -- The n-th nibble stands in the byte n / 2.
-use Rattle.std.proofs.Common.{◌≡◌, ℕ, zero, suc, ◌+◌, ◌*◌, ◌/◌, ◌%◌, ◌≤◌, ◌<◌, List, [], ◌∷◌, length, take, Some, Bool, true, false, leb, refl, ap, ◌∙◌, arith, length-take-le}
+use Rattle.std.proofs.Common.{◌≡◌, ℕ, zero, suc, ◌+◌, ◌*◌, ◌/◌, ◌%◌, ◌≤◌, ◌<◌, List, [], ◌∷◌, length, take, Some, Bool}
+use Rattle.std.proofs.Common.{true, false, leb, refl, ap, ◌∙◌, arith, length-take-le}
 use Rattle.std.specs.List.{slice_get}
 use Rattle.std.proofs.lemmas.Bool.{le-leb, lt-leb, leb-true, leb-false}
 use Rattle.cap_bytes.specs.Number.{number_at}
@@ -21,7 +22,8 @@ item-taken [] (suc count) n lt = refl
 item-taken (x ∷ xs) (suc count) zero lt = refl
 item-taken (x ∷ xs) (suc count) (suc n) lt = item-taken xs count n (omega arith)
 
-pub high-nibble : (bytes : List ℕ) (n byte : ℕ) → n % 2 ≡ 0 → slice_get bytes (n / 2) ≡ Some byte → slice_get (nibbles bytes) n ≡ Some (byte / 16)
+pub high-nibble : (bytes : List ℕ) (n byte : ℕ) → n % 2 ≡ 0 → slice_get bytes (n / 2) ≡ Some byte
+    → slice_get (nibbles bytes) n ≡ Some (byte / 16)
 high-nibble [] n byte even e = absurd cc
 high-nibble (b ∷ bs) zero byte even e = let h : b ≡ byte = cc in rw h refl
 high-nibble (b ∷ bs) (suc zero) byte even e = absurd (omega arith)
@@ -29,7 +31,8 @@ high-nibble (b ∷ bs) (suc (suc n)) byte even e =
     let half : suc (suc n) / 2 ≡ suc (n / 2) = omega arith in
     high-nibble bs n byte (omega arith) (rw half at e)
 
-pub low-nibble : (bytes : List ℕ) (n byte : ℕ) → (n % 2 ≡ 0 → ⊥) → slice_get bytes (n / 2) ≡ Some byte → slice_get (nibbles bytes) n ≡ Some (byte % 16)
+pub low-nibble : (bytes : List ℕ) (n byte : ℕ) → (n % 2 ≡ 0 → ⊥) → slice_get bytes (n / 2) ≡ Some byte
+    → slice_get (nibbles bytes) n ≡ Some (byte % 16)
 low-nibble [] n byte odd e = absurd cc
 low-nibble (b ∷ bs) zero byte odd e = absurd (odd refl)
 low-nibble (b ∷ bs) (suc zero) byte odd e = let h : b ≡ byte = cc in rw h refl

@@ -26,10 +26,12 @@ at_end ns r x end e le = rw (e, le-leb (length ns) end le) refl
 before_end : (ns : List ℕ) (r : Reading TypeItem) (x : TypeItem) (end : ℕ) → r ≡ Ok (x, end) → end < length ns → then_end ns r ≡ None
 before_end ns r x end e lt = rw (e, lt-leb (length ns) end lt) refl
 
-pub one_type-alone : (ns : List ℕ) (x : TypeItem) (end : ℕ) → Some (x, end) ≡ result_ok (nibbles_read type_item ns 0) → length ns ≤ end → one_type_in ns ≡ Some x
+pub one_type-alone : (ns : List ℕ) (x : TypeItem) (end : ℕ) → Some (x, end) ≡ result_ok (nibbles_read type_item ns 0) → length ns ≤ end
+    → one_type_in ns ≡ Some x
 unfolding one_type_in
 one_type-alone ns x end h le = at_end ns (nibbles_read type_item ns 0) x end (read_where (nibbles_read type_item ns 0) (x, end) h) le
 
-pub one_type-more : (ns : List ℕ) (x : TypeItem) (end : ℕ) → Some (x, end) ≡ result_ok (nibbles_read type_item ns 0) → end < length ns → one_type_in ns ≡ None
+pub one_type-more : (ns : List ℕ) (x : TypeItem) (end : ℕ) → Some (x, end) ≡ result_ok (nibbles_read type_item ns 0) → end < length ns
+    → one_type_in ns ≡ None
 unfolding one_type_in
 one_type-more ns x end h lt = before_end ns (nibbles_read type_item ns 0) x end (read_where (nibbles_read type_item ns 0) (x, end) h) lt

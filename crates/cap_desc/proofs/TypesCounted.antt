@@ -7,7 +7,8 @@ use Rattle.cap_bytes.proofs.Loops.{length-repeat}
 use Rattle.cap_desc.specs.declared.type_item.TypeItem.{TypeItem}
 use Rattle.cap_desc.specs.TypeFormat.{type_item, nibbles_read, gives_types, given_types}
 
-count_value : (n : ℕ) (r : Reading (List TypeItem)) → ((xs : List TypeItem) (after : ℕ) → r ≡ Ok (xs, after) → length xs ≡ n) → IsTrue (is_read r) → n ≡ length (value_or [] r)
+count_value : (n : ℕ) (r : Reading (List TypeItem)) → ((xs : List TypeItem) (after : ℕ) → r ≡ Ok (xs, after) → length xs ≡ n)
+    → IsTrue (is_read r) → n ≡ length (value_or [] r)
 count_value n (Ok x) known h = sym (known x.0 x.1 refl)
 count_value n (Err e) known h = absurd cc
 

@@ -1,5 +1,6 @@
 -- Which types stand at an offset, as a relation and as the word that computes them.
-use Rattle.std.proofs.Common.{◌≡◌, ℕ, zero, suc, ◌+◌, ◌-◌, ◌/◌, ◌≤◌, ◌<◌, Bool, true, false, cond, List, [], ◌∷◌, length, take, Option, Some, None, Ok, Err, IfSome, IfNone, option_map, option_and_then, refl, sym, ◌∙◌, subst, inl, inr, arith}
+use Rattle.std.proofs.Common.{◌≡◌, ℕ, zero, suc, ◌+◌, ◌-◌, ◌/◌, ◌≤◌, ◌<◌, Bool, true, false, cond, List, [], ◌∷◌, length}
+use Rattle.std.proofs.Common.{take, Option, Some, None, Ok, Err, IfSome, IfNone, option_map, option_and_then, refl, sym, ◌∙◌, subst, inl, inr, arith}
 use Rattle.std.specs.Result.{result_ok}
 use Rattle.std.proofs.lemmas.Bool.{cases_lt}
 use Rattle.std.proofs.lemmas.Option.{option_and_then_some}
@@ -10,7 +11,8 @@ use Rattle.cap_bytes.specs.Spelling.{Spells, Stands, info_of}
 use Rattle.cap_bytes.specs.Reading.{Reading, and_then, number_read, read}
 use Rattle.cap_bytes.proofs.Laws.{spelled-read, read-spells}
 use Rattle.cap_desc.specs.declared.type_item.TypeItem.{TypeItem}
-use Rattle.cap_desc.specs.TypeFormat.{nibbles, class_nibbles, names_class, type_item, type_items, nibbles_read, types_in, one_type_in, nibbles_at, descriptor_nibbles, types_at, type_at}
+use Rattle.cap_desc.specs.TypeFormat.{nibbles, class_nibbles, names_class, type_item, type_items, nibbles_read, types_in, one_type_in, nibbles_at}
+use Rattle.cap_desc.specs.TypeFormat.{descriptor_nibbles, types_at, type_at}
 use Rattle.cap_desc.specs.TypeDescriptor.{type_descriptor, TypesAt}
 use Rattle.cap_desc.proofs.Counting.{at_place, most, most-more, most-ends, most-fails, with_front}
 use Rattle.cap_desc.proofs.OneType.{one_type-none, one_type-alone, one_type-more}
@@ -28,18 +30,25 @@ some_then f o x y h k = rw (h, k) refl
 
 -- ---- the nibbles that stand at an offset
 
-reached : (b : Bool) (part : List ℕ) (count end : ℕ) (fault : FormFault) → value_of (and_then (cond b (Ok (part, end)) (Err fault)) (λ bytes after. Ok (take count (nibbles bytes), after))) ≡ cond b (Some (take count (nibbles part))) None
+reached : (b : Bool) (part : List ℕ) (count end : ℕ) (fault : FormFault)
+    → value_of (and_then (cond b (Ok (part, end)) (Err fault)) (λ bytes after. Ok (take count (nibbles bytes), after)))
+    ≡ cond b (Some (take count (nibbles part))) None
 reached true part count end fault = refl
 reached false part count end fault = refl
 
-counted : (o : Option ℕ) (bytes : List ℕ) (at : ℕ) → value_of (and_then (number_read (info_of 11) any bytes at (at + 1) o) (λ count after. read (info_of 11) (piece ((count + 1) / 2) >>= λ part. give (take count (nibbles part))) bytes after)) ≡ option_and_then (λ count. nibbles_at bytes (at + 1) count) o
+counted : (o : Option ℕ) (bytes : List ℕ) (at : ℕ)
+    → value_of
+    (and_then (number_read (info_of 11) any bytes at (at + 1) o)
+    (λ count after. read (info_of 11) (piece ((count + 1) / 2) >>= λ part. give (take count (nibbles part))) bytes after)) ≡ option_and_then
+    (λ count. nibbles_at bytes (at + 1) count) o
 counted None bytes at = refl
 counted (Some count) bytes at = reached _ _ count _ _
 
 nibbles-there : (bytes : List ℕ) (at : ℕ) → value_of (read (info_of 11) type_descriptor bytes at) ≡ descriptor_nibbles bytes at
 nibbles-there bytes at = counted (number_at 1 at bytes) bytes at
 
-pub chained : {X Y Z : Type 0} (f : X → Option Y) (g : Y → Option Z) (o : Option X) → option_and_then (λ x. option_and_then g (f x)) o ≡ option_and_then g (option_and_then f o)
+pub chained : {X Y Z : Type 0} (f : X → Option Y) (g : Y → Option Z) (o : Option X) → option_and_then (λ x. option_and_then g (f x)) o
+    ≡ option_and_then g (option_and_then f o)
 chained f g None = refl
 chained f g (Some x) = refl
 
@@ -57,7 +66,8 @@ types-stand : (bytes : List ℕ) (at : ℕ) (ts : List TypeItem) → types_at by
 types-stand bytes at ts h =
     option_and_then_some (λ n. option_and_then types_in (nibbles_at bytes (at + 1) n)) (number_at 1 at bytes) ts h (λ count has_count has_types.
     option_and_then_some types_in (nibbles_at bytes (at + 1) count) ts has_types (λ ns has_nibbles spelled.
-    let r = found (read (info_of 11) type_descriptor bytes at) ns (nibbles-there bytes at ∙ some_then (λ n. nibbles_at bytes (at + 1) n) (number_at 1 at bytes) count ns has_count has_nibbles) in
+    let r = found (read (info_of 11) type_descriptor bytes at) ns
+    (nibbles-there bytes at ∙ some_then (λ n. nibbles_at bytes (at + 1) n) (number_at 1 at bytes) count ns has_count has_nibbles) in
     record {
       nibbles = ns;
       after = r.0;
@@ -98,11 +108,13 @@ two : (t u : TypeItem) (r : Reading (List TypeItem)) → option_and_then only (v
 two t u (Ok x) = refl
 two t u (Err e) = refl
 
-more_follow : (t : TypeItem) (ns : List ℕ) (n at : ℕ) (r : Reading TypeItem) → at_place type_item ns at ≡ r → at < length ns → option_and_then only (value_of (with_front (t ∷ []) (most type_item (suc n) ns at))) ≡ None
+more_follow : (t : TypeItem) (ns : List ℕ) (n at : ℕ) (r : Reading TypeItem) → at_place type_item ns at ≡ r → at < length ns
+    → option_and_then only (value_of (with_front (t ∷ []) (most type_item (suc n) ns at))) ≡ None
 more_follow t ns n at (Ok x) e lt = rw (most-more type_item ns n at x.1 x.0 lt e) (two t x.0 (most type_item n ns x.1))
 more_follow t ns n at (Err fault) e lt = none_more t (most type_item (suc n) ns at) (most-fails type_item ns n at lt (rw e refl))
 
-first_of : (ns : List ℕ) (n : ℕ) (r : Reading TypeItem) → nibbles_read type_item ns 0 ≡ r → suc n ≡ length ns → one_type_in ns ≡ option_and_then only (value_of (most type_item (suc n) ns 0))
+first_of : (ns : List ℕ) (n : ℕ) (r : Reading TypeItem) → nibbles_read type_item ns 0 ≡ r → suc n ≡ length ns
+    → one_type_in ns ≡ option_and_then only (value_of (most type_item (suc n) ns 0))
 first_of ns n (Err fault) e len =
     let none = most-fails type_item ns n 0 (omega (arith, len)) (rw e refl) in
     one_type-none ns (rw e refl) ∙ rw none refl
@@ -113,7 +125,8 @@ first_of ns n (Ok x) e len =
       | inr le ↦ one_type-alone ns x.0 x.1 (rw e refl) le ∙ rw (step, most-ends type_item ns n x.1 le) refl
     ]
   where
-    others : (n : ℕ) (ns : List ℕ) (t : TypeItem) (at : ℕ) → 0 < n → at < length ns → option_and_then only (value_of (with_front (t ∷ []) (most type_item n ns at))) ≡ None
+    others : (n : ℕ) (ns : List ℕ) (t : TypeItem) (at : ℕ) → 0 < n → at < length ns
+        → option_and_then only (value_of (with_front (t ∷ []) (most type_item n ns at))) ≡ None
     others zero ns t at more lt = absurd (omega (arith, more))
     others (suc n) ns t at more lt = more_follow t ns n at _ refl lt
 
@@ -126,7 +139,8 @@ one-only : (ns : List ℕ) → one_type_in ns ≡ option_and_then only (types_in
 unfolding types_in
 one-only ns = by_length ns (length ns - 0) (omega arith)
 
-one_there : (bytes : List ℕ) (at : ℕ) (o : Option ℕ) → option_and_then (λ count. option_and_then one_type_in (nibbles_at bytes (at + 1) count)) o ≡ option_and_then only (option_and_then (λ count. option_and_then types_in (nibbles_at bytes (at + 1) count)) o)
+one_there : (bytes : List ℕ) (at : ℕ) (o : Option ℕ) → option_and_then (λ count. option_and_then one_type_in (nibbles_at bytes (at + 1) count)) o
+    ≡ option_and_then only (option_and_then (λ count. option_and_then types_in (nibbles_at bytes (at + 1) count)) o)
 one_there bytes at None = refl
 one_there bytes at (Some count) = of_nibbles (nibbles_at bytes (at + 1) count)
   where
@@ -152,11 +166,13 @@ type-found bytes at t h = type-only bytes at ∙ rw (types-found bytes at (t ∷
 
 -- ---- what a reader promises
 
-pub found_types : {R : Type 0} (seen : R → List TypeItem) (bytes : List ℕ) (at : ℕ) (r : Option R) → option_map seen r ≡ types_at bytes at → IfSome r (λ x. TypesAt bytes at (seen x))
+pub found_types : {R : Type 0} (seen : R → List TypeItem) (bytes : List ℕ) (at : ℕ) (r : Option R) → option_map seen r ≡ types_at bytes at
+    → IfSome r (λ x. TypesAt bytes at (seen x))
 found_types seen bytes at (Some x) h = types-stand bytes at (seen x) (sym h)
 found_types seen bytes at None h = tt
 
-pub no_types : {R : Type 0} (seen : R → List TypeItem) (bytes : List ℕ) (at : ℕ) (r : Option R) → option_map seen r ≡ types_at bytes at → IfNone r ((ts : List TypeItem) → TypesAt bytes at ts → ⊥)
+pub no_types : {R : Type 0} (seen : R → List TypeItem) (bytes : List ℕ) (at : ℕ) (r : Option R) → option_map seen r ≡ types_at bytes at
+    → IfNone r ((ts : List TypeItem) → TypesAt bytes at ts → ⊥)
 no_types seen bytes at (Some x) h = tt
 no_types seen bytes at None h = λ ts there. let e : None ≡ Some ts = h ∙ types-found bytes at ts there in absurd cc
 
@@ -167,6 +183,7 @@ pub found_type : (bytes : List ℕ) (at : ℕ) (r : Option TypeItem) → r ≡ t
 found_type bytes at (Some t) h = type-stands bytes at t (sym h)
 found_type bytes at None h = tt
 
-pub no_type : (bytes : List ℕ) (at : ℕ) (r : Option TypeItem) → r ≡ type_at bytes at → IfNone r ((t : TypeItem) → TypesAt bytes at (t ∷ []) → ⊥)
+pub no_type : (bytes : List ℕ) (at : ℕ) (r : Option TypeItem) → r ≡ type_at bytes at
+    → IfNone r ((t : TypeItem) → TypesAt bytes at (t ∷ []) → ⊥)
 no_type bytes at (Some t) h = tt
 no_type bytes at None h = λ t there. let e : None ≡ Some t = h ∙ type-found bytes at t there in absurd cc

@@ -1,5 +1,6 @@
 -- Records with distinct keys as a map.
-use Rattle.std.proofs.Common.{◌≡◌, ℕ, suc, ◌+◌, ◌<◌, List, [], ◌∷◌, ◌++◌, Bool, true, false, cond, ◌&&◌, nat_lt, nat_le, length, Option, Some, None, option_map, is_some, sum_by, find, position, refl, ap, sym, subst, ◌∙◌, arith, length-append}
+use Rattle.std.proofs.Common.{◌≡◌, ℕ, suc, ◌+◌, ◌<◌, List, [], ◌∷◌, ◌++◌, Bool, true, false, cond, ◌&&◌, nat_lt, nat_le, length}
+use Rattle.std.proofs.Common.{Option, Some, None, option_map, is_some, sum_by, find, position, refl, ap, sym, subst, ◌∙◌, arith, length-append}
 use Rattle.std.proofs.lemmas.List.Sums.{sum_by-cons, sum_by_push}
 use Rattle.std.proofs.lemmas.Slice.Eq.{bytes_eq-Decides}
 use Rattle.std.proofs.lemmas.Iterator.Adapters.{position_from-zero}
@@ -117,7 +118,8 @@ missing_dropped k (r ∷ rs) apart =
 found_dropped : (k q : List ℕ) (rs : List Held) → eq_by_cmp order q k ≡ false → found q (dropped k rs) ≡ found q rs
 found_dropped k q [] e = refl
 found_dropped k q (r ∷ rs) e =
-    elim (has_key k r) as (λ b. eq_by_cmp order k r.0 ≡ b → found q (cond b rs (r ∷ dropped k rs)) ≡ cond (eq_by_cmp order q r.0) (Some r.1) (found q rs)) [
+    elim (has_key k r) as (λ b. eq_by_cmp order k r.0 ≡ b → found q (cond b rs (r ∷ dropped k rs)) ≡ cond (eq_by_cmp order q r.0) (Some r.1)
+    (found q rs)) [
       | true ↦ λ h. let same = same_key k r.0 h in sym (ap (λ b. cond b (Some r.1) (found q rs)) (subst (λ x. eq_by_cmp order q x ≡ false) same e))
       | false ↦ λ h. ap (cond (eq_by_cmp order q r.0) (Some r.1)) (found_dropped k q rs e)
     ] refl
@@ -125,7 +127,8 @@ found_dropped k q (r ∷ rs) e =
 missing_kept : (k q : List ℕ) (rs : List Held) → found q rs ≡ None → found q (dropped k rs) ≡ None
 missing_kept k q [] e = refl
 missing_kept k q (r ∷ rs) e =
-    elim (eq_by_cmp order q r.0) as (λ b. eq_by_cmp order q r.0 ≡ b → cond b (Some r.1) (found q rs) ≡ None → found q (cond (has_key k r) rs (r ∷ dropped k rs)) ≡ None) [
+    elim (eq_by_cmp order q r.0) as (λ b. eq_by_cmp order q r.0 ≡ b → cond b (Some r.1) (found q rs) ≡ None
+    → found q (cond (has_key k r) rs (r ∷ dropped k rs)) ≡ None) [
       | true ↦ λ h is. cc
       | false ↦ λ h is. elim (has_key k r) as (λ b. found q (cond b rs (r ∷ dropped k rs)) ≡ None) [
         | true ↦ is
@@ -152,22 +155,26 @@ missing_pushed q k v (r ∷ rs) e none =
 distinct_pushed : (k v : List ℕ) (rs : List Held) → AreDistinct rs → found k rs ≡ None → AreDistinct (rs ++ (k, v) ∷ [])
 distinct_pushed k v [] apart none = (refl, tt)
 distinct_pushed k v (r ∷ rs) apart none =
-    elim (eq_by_cmp order k r.0) as (λ b. eq_by_cmp order k r.0 ≡ b → cond b (Some r.1) (found k rs) ≡ None → AreDistinct ((r ∷ rs) ++ (k, v) ∷ [])) [
+    elim (eq_by_cmp order k r.0) as (λ b. eq_by_cmp order k r.0 ≡ b → cond b (Some r.1) (found k rs) ≡ None
+    → AreDistinct ((r ∷ rs) ++ (k, v) ∷ [])) [
       | true ↦ λ h is. cc
       | false ↦ λ h is. (missing_pushed r.0 k v rs (other_key k r.0 h) apart.0, distinct_pushed k v rs apart.1 is)
     ] refl none
 
 -- ---- the map
-from_pushed : (k v : List ℕ) (rs : List Held) → found k rs ≡ None → map.from_entries {R = order} (rs ++ (k, v) ∷ []) ≡ map.insert (map.from_entries rs) k v
+from_pushed : (k v : List ℕ) (rs : List Held) → found k rs ≡ None → map.from_entries {R = order} (rs ++ (k, v) ∷ [])
+    ≡ map.insert (map.from_entries rs) k v
 from_pushed k v rs none = map.from_entries_push nat_list_cmp_total (map.slice_cmp-IsAntisymmetric map.nat_cmp-IsAntisymmetric) rs k v none
 
 from_dropped : (k v : List ℕ) (rs : List Held) → map.insert (map.from_entries {R = order} (dropped k rs)) k v ≡ map.insert (map.from_entries rs) k v
 from_dropped k v rs =
     map.same_map nat_list_cmp_total (map.slice_cmp-IsAntisymmetric map.nat_cmp-IsAntisymmetric) _ _
     (λ q. map.get-insert nat_list_cmp_total _ k v q
-    ∙ elim (eq_by_cmp order q k) as (λ b. eq_by_cmp order q k ≡ b → cond b (Some v) (map.get (map.from_entries {R = order} (dropped k rs)) q) ≡ cond b (Some v) (map.get (map.from_entries {R = order} rs) q)) [
+    ∙ elim (eq_by_cmp order q k) as (λ b. eq_by_cmp order q k ≡ b → cond b (Some v) (map.get (map.from_entries {R = order} (dropped k rs)) q)
+    ≡ cond b (Some v) (map.get (map.from_entries {R = order} rs) q)) [
       | true ↦ λ _. refl
-      | false ↦ λ e. map.get-from_entries nat_list_cmp_total (dropped k rs) q ∙ found_dropped k q rs e ∙ sym (map.get-from_entries nat_list_cmp_total rs q)
+      | false ↦ λ e. map.get-from_entries nat_list_cmp_total (dropped k rs) q ∙ found_dropped k q rs e
+          ∙ sym (map.get-from_entries nat_list_cmp_total rs q)
     ] refl
     ∙ sym (map.get-insert nat_list_cmp_total _ k v q))
 
@@ -213,14 +220,17 @@ position_within t rs = subst (λ o. ForSome o (λ n. n < length rs)) (sym (posit
 
 pub distinct_put : (k v : List ℕ) (rs : List Held) → AreDistinct rs → AreDistinct (without (position (has_key k) rs) rs ++ (k, v) ∷ [])
 distinct_put k v rs apart =
-    subst (λ xs. AreDistinct (xs ++ (k, v) ∷ [])) (sym (rest_is k rs)) (distinct_pushed k v (dropped k rs) (distinct_dropped k rs apart) (missing_dropped k rs apart))
+    subst (λ xs. AreDistinct (xs ++ (k, v) ∷ [])) (sym (rest_is k rs))
+    (distinct_pushed k v (dropped k rs) (distinct_dropped k rs apart) (missing_dropped k rs apart))
 
 pub map_put : (k v : List ℕ) (rs : List Held) → AreDistinct rs
     → map.from_entries {R = order} (without (position (has_key k) rs) rs ++ (k, v) ∷ []) ≡ map.insert (map.from_entries rs) k v
 map_put k v rs apart =
-    ap (λ xs. map.from_entries {R = order} (xs ++ (k, v) ∷ [])) (rest_is k rs) ∙ from_pushed k v (dropped k rs) (missing_dropped k rs apart) ∙ from_dropped k v rs
+    ap (λ xs. map.from_entries {R = order} (xs ++ (k, v) ∷ [])) (rest_is k rs) ∙ from_pushed k v (dropped k rs) (missing_dropped k rs apart)
+    ∙ from_dropped k v rs
 
-pub held_put : (k v : List ℕ) (rs : List Held) → AreDistinct rs → map.len (map.insert (map.from_entries {R = order} rs) k v) ≡ suc (length (without (position (has_key k) rs) rs))
+pub held_put : (k v : List ℕ) (rs : List Held) → AreDistinct rs → map.len (map.insert (map.from_entries {R = order} rs) k v)
+    ≡ suc (length (without (position (has_key k) rs) rs))
 held_put k v rs apart =
     let rest = without (position (has_key k) rs) rs in
     ap map.len (sym (map_put k v rs apart)) ∙ held_is _ (distinct_put k v rs apart) ∙ length-append rest ((k, v) ∷ []) ∙ omega arith
@@ -232,5 +242,6 @@ taken_put k v rs apart =
 
 pub suffices_put : (k v : List ℕ) (rs : List Held) (room : Room) → AreDistinct rs
     → suffices room (map.insert (map.from_entries rs) k v)
-    ≡ (nat_lt (length (without (position (has_key k) rs) rs)) room.parts && nat_le (sum_by size_of (without (position (has_key k) rs) rs) + size_of (k, v)) room.bytes)
+    ≡ (nat_lt (length (without (position (has_key k) rs) rs)) room.parts && nat_le
+    (sum_by size_of (without (position (has_key k) rs) rs) + size_of (k, v)) room.bytes)
 suffices_put k v rs room apart = rw (held_put k v rs apart, taken_put k v rs apart) refl

@@ -10,11 +10,13 @@ taken_then a None (Some z) g h before now = absurd now
 taken_then None (Some y) (Some z) g h before now = absurd before
 taken_then (Some x) (Some y) (Some z) g h before now = now ∙ ap (λ t. t ++ h) before ∙ append_assoc x g h
 
-pub taken_on : (a b c : Option (List ℕ)) (piece left given after : List ℕ) (k : ℕ) → piece ≡ given ++ left → TakesWhole a given b → TakesWhole b (take k left) c → after ≡ drop k left
+pub taken_on : (a b c : Option (List ℕ)) (piece left given after : List ℕ) (k : ℕ) → piece ≡ given ++ left → TakesWhole a given b
+    → TakesWhole b (take k left) c → after ≡ drop k left
     → (x : List ℕ) × (piece ≡ x ++ after) × TakesWhole a x c
 taken_on a b c piece left given after k whole before now farther = (
   given ++ take k left,
-  whole ∙ ap (λ xs. given ++ xs) (sym (take-append-drop k left)) ∙ sym (append_assoc given (take k left) (drop k left)) ∙ ap (λ xs. (given ++ take k left) ++ xs) (sym farther),
+  whole ∙ ap (λ xs. given ++ xs) (sym (take-append-drop k left)) ∙ sym (append_assoc given (take k left) (drop k left))
+      ∙ ap (λ xs. (given ++ take k left) ++ xs) (sym farther),
   taken_then a b c given (take k left) before now,
 )
 
@@ -27,7 +29,8 @@ taken_first a None piece first n begins now = tt
 taken_first None (Some z) piece first n begins now = absurd now
 taken_first (Some x) (Some z) piece first n begins now = (n, now ∙ ap (λ t. x ++ t) begins)
 
-pub taken_no_more : (a b c : Option (List ℕ)) (piece left given : List ℕ) → piece ≡ given ++ left → TakesWhole a given b → TakesWhole b [] c → TakenFirst a piece c
+pub taken_no_more : (a b c : Option (List ℕ)) (piece left given : List ℕ) → piece ≡ given ++ left → TakesWhole a given b → TakesWhole b [] c
+    → TakenFirst a piece c
 taken_no_more a b c piece left given whole before now =
     taken_first a c piece (given ++ []) (length given) (append-nil given ∙ sym (ap (take (length given)) whole ∙ take-append_seam given left))
     (taken_then a b c given [] before now)

@@ -1,5 +1,6 @@
 -- Pieces of a buffer, one after another.
-use Rattle.std.proofs.Common.{◌≡◌, ℕ, zero, suc, ◌+◌, ◌<◌, ◌≤◌, List, [], ◌∷◌, ◌++◌, length, take, drop, remove, slice_index_or, refl, ap, sym, subst, ◌∙◌, arith, length-append, length-drop, zero-add, add_assoc, sum_by, append_assoc}
+use Rattle.std.proofs.Common.{◌≡◌, ℕ, zero, suc, ◌+◌, ◌<◌, ◌≤◌, List, [], ◌∷◌, ◌++◌, length, take, drop, remove, slice_index_or}
+use Rattle.std.proofs.Common.{refl, ap, sym, subst, ◌∙◌, arith, length-append, length-drop, zero-add, add_assoc, sum_by, append_assoc}
 use Rattle.std.proofs.lemmas.List.{take-append-le, drop-append-le, take-append-drop, length-take-le, drop-drop}
 use Rattle.std.proofs.lemmas.List.Sums.{sum_by-cons}
 use Rattle.std.proofs.Math.Seq.{drop-append_seam, take-append_seam, take-add, take-length, drop-length}
@@ -75,12 +76,15 @@ cut-taken (e ∷ es) (suc n) d bs laid l =
     let rest = cut-taken es n d (drop e.size bs) laid.2 (omega arith) in
     let before = end_of (take n es) in
     let size = (slice_index_or es n d).size in
-    let front : take (end_of (e ∷ take n es)) bs ≡ take e.size bs ++ take before (drop e.size bs) = ap (λ k. take k bs) (end_of-cons e (take n es)) ∙ take-add e.size before bs in
+    let front : take (end_of (e ∷ take n es)) bs ≡ take e.size bs ++ take before (drop e.size bs) = ap (λ k. take k bs) (end_of-cons e (take n es))
+    ∙ take-add e.size before bs in
     let farther : drop (end_of (e ∷ take n es) + size) bs ≡ drop (before + size) (drop e.size bs) =
-    ap (λ k. drop (k + size) bs) (end_of-cons e (take n es)) ∙ ap (λ k. drop k bs) (add_assoc e.size before size) ∙ sym (drop-drop (before + size) e.size bs) in
+    ap (λ k. drop (k + size) bs) (end_of-cons e (take n es)) ∙ ap (λ k. drop k bs) (add_assoc e.size before size)
+    ∙ sym (drop-drop (before + size) e.size bs) in
     rw (front, farther, append_assoc) (ap (λ xs. take e.size bs ++ xs) rest)
 
-pub records-cut : (es : List Entry) (n : ℕ) (bs : List ℕ) → IsLaid es bs → n < length es → records (remove es n) (cut es n bs) ≡ remove (records es bs) n
+pub records-cut : (es : List Entry) (n : ℕ) (bs : List ℕ) → IsLaid es bs → n < length es → records (remove es n) (cut es n bs)
+    ≡ remove (records es bs) n
 records-cut [] n bs laid l = absurd (omega arith)
 records-cut (e ∷ es) zero bs laid l = refl
 records-cut (e ∷ es) (suc n) bs laid l =
@@ -97,7 +101,8 @@ laid-cut (e ∷ es) (suc n) bs laid l =
       rw (after_kept e.size bs (cut es n (drop e.size bs)) laid.1) rest,
     )
 
-pub end_within : (es : List Entry) (n : ℕ) (d : Entry) (bs : List ℕ) → IsLaid es bs → n < length es → end_of (take n es) + (slice_index_or es n d).size ≤ length bs
+pub end_within : (es : List Entry) (n : ℕ) (d : Entry) (bs : List ℕ) → IsLaid es bs → n < length es
+    → end_of (take n es) + (slice_index_or es n d).size ≤ length bs
 end_within [] n d bs laid l = absurd (omega arith)
 end_within (e ∷ es) zero d bs laid l = rw (zero-add) laid.1
 end_within (e ∷ es) (suc n) d bs laid l =
@@ -107,7 +112,8 @@ end_within (e ∷ es) (suc n) d bs laid l =
 
 -- one more piece
 pub records-push : (es : List Entry) (bs word bytes : List ℕ) (part : Part) → IsLaid es bs
-    → records (es ++ record { part = part; word = length word; size = length word + length bytes } ∷ []) ((bs ++ word) ++ bytes) ≡ records es bs ++ (part.0 ∷ word, bytes) ∷ []
+    → records (es ++ record { part = part; word = length word; size = length word + length bytes } ∷ []) ((bs ++ word) ++ bytes)
+    ≡ records es bs ++ (part.0 ∷ word, bytes) ∷ []
 records-push es bs word bytes part laid =
     rw (append_assoc, records-append es _ bs (word ++ bytes) laid, all_taken word bytes, take-append_seam word bytes, drop-append_seam word bytes) refl
 
@@ -116,13 +122,21 @@ pub laid-push : (es : List Entry) (bs word bytes : List ℕ) (part : Part) → I
 laid-push es bs word bytes part laid =
     rw (append_assoc) (laid-append es _ bs (word ++ bytes) laid (omega arith, omega (arith, length-append word bytes), ap length (all_dropped word bytes)))
 
-length-cut : (es : List Entry) (n : ℕ) (d : Entry) (bs : List ℕ) → IsLaid es bs → n < length es → length (cut es n bs) + (slice_index_or es n d).size ≡ length bs
+length-cut : (es : List Entry) (n : ℕ) (d : Entry) (bs : List ℕ) → IsLaid es bs → n < length es
+    → length (cut es n bs) + (slice_index_or es n d).size ≡ length bs
 length-cut es n d bs laid l =
     let reach = end_within es n d bs laid l in
     let before = end_of (take n es) in
     let size = (slice_index_or es n d).size in
     let parts = ap length (cut-taken es n d bs laid l) in
-    omega (arith, parts, reach, length-append (take before bs) (drop (before + size) bs), length-take-le before bs (omega arith), length-drop (before + size) bs)
+    omega (
+      arith,
+      parts,
+      reach,
+      length-append (take before bs) (drop (before + size) bs),
+      length-take-le before bs (omega arith),
+      length-drop (before + size) bs,
+    )
 
 -- what the records without one take
 pub sizes-cut : (es : List Entry) (n : ℕ) (d : Entry) (bs : List ℕ) → IsLaid es bs → n < length es
@@ -135,4 +149,11 @@ sizes-cut es n d bs laid l =
 pub length-remove : (es : List Entry) (n : ℕ) (bs : List ℕ) → n < length es → suc (length (remove (records es bs) n)) ≡ length es
 length-remove es n bs l =
     let rs = records es bs in
-    omega (arith, l, length-append (take n rs) (drop (suc n) rs), length-take-le n rs (omega (arith, length-records es bs)), length-drop (suc n) rs, length-records es bs)
+    omega (
+      arith,
+      l,
+      length-append (take n rs) (drop (suc n) rs),
+      length-take-le n rs (omega (arith, length-records es bs)),
+      length-drop (suc n) rs,
+      length-records es bs,
+    )

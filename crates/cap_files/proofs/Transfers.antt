@@ -8,20 +8,24 @@ use Rattle.cap_files.specs.declared.folder.LoadEnd.{LoadEnd}
 use Rattle.cap_files.specs.declared.folder.LoadEnd.TheVariants.{Failed, TooLong, Memory}
 use Rattle.cap_files.specs.Transfer.{TakesMore, TakesAll}
 
-pub written_no_more : (a b c : Option (List ℕ)) (bytes left given : List ℕ) → bytes ≡ given ++ left → Appends a b given → Keeps b c → (n : ℕ) × Appends a c (take n bytes)
+pub written_no_more : (a b c : Option (List ℕ)) (bytes left given : List ℕ) → bytes ≡ given ++ left → Appends a b given → Keeps b c
+    → (n : ℕ) × Appends a c (take n bytes)
 written_no_more a b c bytes left given whole before now =
     (length given, subst (Appends a c) (sym (ap (take (length given)) whole ∙ take-append_seam given left)) (Appends-kept a b c given before now))
 
-pub written_on : (a b c : Option (List ℕ)) (bytes left given after : List ℕ) (k : ℕ) → bytes ≡ given ++ left → Appends a b given → Appends b c (take k left) → after ≡ drop k left
+pub written_on : (a b c : Option (List ℕ)) (bytes left given after : List ℕ) (k : ℕ) → bytes ≡ given ++ left → Appends a b given
+    → Appends b c (take k left) → after ≡ drop k left
     → (x : List ℕ) × (bytes ≡ x ++ after) × Appends a c x
 written_on a b c bytes left given after k whole before now farther = (
   given ++ take k left,
-  whole ∙ ap (λ xs. given ++ xs) (sym (take-append-drop k left)) ∙ sym (append_assoc given (take k left) (drop k left)) ∙ ap (λ xs. (given ++ take k left) ++ xs) (sym farther),
+  whole ∙ ap (λ xs. given ++ xs) (sym (take-append-drop k left)) ∙ sym (append_assoc given (take k left) (drop k left))
+      ∙ ap (λ xs. (given ++ take k left) ++ xs) (sym farther),
   Appends-trans a b c given (take k left) before now,
 )
 
 -- a read that ends with an error
-pub taken_ended : (end : LoadEnd) (left rest : Option (List ℕ)) (to after : List ℕ) (all : Option (List ℕ)) → TakesMore left rest to after (Err end) → TakesAll all after (Err end)
+pub taken_ended : (end : LoadEnd) (left rest : Option (List ℕ)) (to after : List ℕ) (all : Option (List ℕ)) → TakesMore left rest to after (Err end)
+    → TakesAll all after (Err end)
 taken_ended Failed left rest to after all more = tt
 taken_ended TooLong left rest to after all more = absurd more
 taken_ended Memory left rest to after all more = tt

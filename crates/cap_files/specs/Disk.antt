@@ -1,5 +1,6 @@
 -- The files in which folders keep their parts: what a disk holds when a file was opened, made or closed.
-use Rattle.std.specs.Prelude.{◌≡◌, ◌≢◌, ℕ, ◌≤◌, Bool, true, false, List, [], length, Option, Some, None, IfSome, IsSomeAnd, Result, Ok, Err, ◌⊎◌}
+use Rattle.std.specs.Prelude.{◌≡◌, ◌≢◌, ℕ, ◌≤◌, Bool, true, false, List, [], length, Option, Some, None, IfSome}
+use Rattle.std.specs.Prelude.{IsSomeAnd, Result, Ok, Err, ◌⊎◌}
 use Rattle.std.specs.FinMap as map
 use Rattle.std.specs.IoError.{error_kind}
 use Rattle.std.specs.declared.io.Error.{Error}
@@ -17,7 +18,8 @@ Opens held key left (Err _) = Unit {0}
 -- never begins to
 abbrev pub Creates : Option Parts → List ℕ → Option Parts → Option (List ℕ) → Result (Unit {0}) DiskFailed → Type 0
 Creates before key after written (Ok _) = IfSome after (λ now. IsSomeAnd before (λ parts. now ≡ parts) × (written ≡ Some []))
-Creates before key after written (Err _) = IfSome after (λ now. IsSomeAnd before (λ parts. (now ≡ parts) ⊎ (now ≡ map.insert parts key [])))
+Creates before key after written (Err _) =
+    IfSome after (λ now. IsSomeAnd before (λ parts. (now ≡ parts) ⊎ (now ≡ map.insert parts key [])))
 
 -- the bytes that were written are held at the part, and all else as before
 abbrev pub Closes : Option Parts → List ℕ → Option (List ℕ) → Option Parts → Type 0

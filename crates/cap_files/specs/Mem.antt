@@ -1,5 +1,6 @@
 -- Devices in memory that fail at the calls that were listed, and where their room does not suffice.
-use Rattle.std.specs.Prelude.{ℕ, Bool, ◌&&◌, not, List, take, Option, Some, None, is_some, Result, Ok, Err, IsTrue, if◌then◌else◌}
+use Rattle.std.specs.Prelude.{ℕ, Bool, ◌&&◌, not, List, take, Option, Some, None, is_some, Result, Ok, Err, IsTrue}
+use Rattle.std.specs.Prelude.{if◌then◌else◌}
 use Rattle.cap_files.specs.declared.folder.LoadEnd.{LoadEnd}
 use Rattle.cap_files.specs.declared.folder.LoadEnd.TheVariants.{Failed, TooLong, Memory}
 use Rattle.cap_files.specs.declared.mem_folder.MemFolder.{MemFolder}

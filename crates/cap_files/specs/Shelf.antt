@@ -14,7 +14,8 @@ pub record Shelved : Type 0 where
 abbrev pub shelved_code : Coded Shelved
 shelved_code =
     code_by (Parts × (ℕ × ℕ)) (coded× (map.code (coded_list coded_ℕ) (coded_list coded_ℕ)) (coded× coded_ℕ coded_ℕ))
-    (λ s. (s.parts, (s.room.parts, s.room.bytes))) (λ p. record { parts = p.0; room = record { parts = p.1.0; bytes = p.1.1 } }) (λ _. refl)
+    (λ s. (s.parts, (s.room.parts, s.room.bytes))) (λ p. record { parts = p.0; room = record { parts = p.1.0; bytes = p.1.1 } })
+    (λ _. refl)
 
 -- nothing is held, and there is room for so many parts and bytes
 abbrev pub empty_shelf : ℕ → ℕ → Shelved

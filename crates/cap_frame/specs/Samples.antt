@@ -22,25 +22,29 @@ unfolding reading
 not_framed = refl
 
 -- the flags ACC_INT and ACC_APPLET, and a bit that means nothing; the name is "a"
-small_header : reading (info_of 1) header_info (0xDE ∷ 0xCA ∷ 0xFF ∷ 0xED ∷ 2 ∷ 2 ∷ 0x15 ∷ 0 ∷ 1 ∷ 5 ∷ 0xF0 ∷ 1 ∷ 2 ∷ 3 ∷ 4 ∷ 1 ∷ 97 ∷ [])
+small_header : reading (info_of 1) header_info
+    (0xDE ∷ 0xCA ∷ 0xFF ∷ 0xED ∷ 2 ∷ 2 ∷ 0x15 ∷ 0 ∷ 1 ∷ 5 ∷ 0xF0 ∷ 1 ∷ 2 ∷ 3 ∷ 4 ∷ 1 ∷ 97 ∷ [])
     ≡ Ok (record { format = V22; flags = 5; package_of = record { minor = 0; major = 1; aid = identifier }; name = 97 ∷ [] })
 unfolding reading identifier magic version name_info
 small_header = refl
 
 -- the same in format 2.1, which has no name
-small_header_21 : reading (info_of 1) header_info (0xDE ∷ 0xCA ∷ 0xFF ∷ 0xED ∷ 1 ∷ 2 ∷ 0x15 ∷ 0 ∷ 1 ∷ 5 ∷ 0xF0 ∷ 1 ∷ 2 ∷ 3 ∷ 4 ∷ [])
+small_header_21 : reading (info_of 1) header_info
+    (0xDE ∷ 0xCA ∷ 0xFF ∷ 0xED ∷ 1 ∷ 2 ∷ 0x15 ∷ 0 ∷ 1 ∷ 5 ∷ 0xF0 ∷ 1 ∷ 2 ∷ 3 ∷ 4 ∷ [])
     ≡ Ok (record { format = V21; flags = 5; package_of = record { minor = 0; major = 1; aid = identifier }; name = [] })
 unfolding reading identifier magic version name_info
 small_header_21 = refl
 
 -- a name after the items of format 2.1
-header_21_with_name : reading (info_of 1) header_info (0xDE ∷ 0xCA ∷ 0xFF ∷ 0xED ∷ 1 ∷ 2 ∷ 0x15 ∷ 0 ∷ 1 ∷ 5 ∷ 0xF0 ∷ 1 ∷ 2 ∷ 3 ∷ 4 ∷ 0 ∷ [])
+header_21_with_name : reading (info_of 1) header_info
+    (0xDE ∷ 0xCA ∷ 0xFF ∷ 0xED ∷ 1 ∷ 2 ∷ 0x15 ∷ 0 ∷ 1 ∷ 5 ∷ 0xF0 ∷ 1 ∷ 2 ∷ 3 ∷ 4 ∷ 0 ∷ [])
     ≡ Err (record { part = 1; at = 18; kind = Trailing })
 unfolding reading identifier magic version name_info
 header_21_with_name = refl
 
 -- there is no format 2.3
-header_23 : reading (info_of 1) header_info (0xDE ∷ 0xCA ∷ 0xFF ∷ 0xED ∷ 3 ∷ 2 ∷ []) ≡ Err (record { part = 1; at = 7; kind = BadVersion })
+header_23 : reading (info_of 1) header_info (0xDE ∷ 0xCA ∷ 0xFF ∷ 0xED ∷ 3 ∷ 2 ∷ [])
+    ≡ Err (record { part = 1; at = 7; kind = BadVersion })
 unfolding reading magic version
 header_23 = refl
 

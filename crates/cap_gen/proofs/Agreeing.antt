@@ -23,15 +23,18 @@ use Rattle.cap_gen.specs.Record.{package_record}
 
 pub sizes_agree : (seed : ℕ) → at_fault (size_fault (generated seed) (package_record seed).directory) components
     ++ at_fault (size_fault (generated seed) (package_record seed).directory) (custom_tags (package_record seed).directory) ≡ []
-unfolding entry_bytes component_bytes each_from method_bytes entry_table entries method_info methods described_bytes descriptor_bytes location_bytes info_in reading size_fault
+unfolding entry_bytes component_bytes each_from method_bytes entry_table entries method_info methods described_bytes descriptor_bytes location_bytes info_in
+    reading size_fault
 sizes_agree seed = refl
 
 pub inside : (seed : ℕ) → at_fault (outside_fault (method_info seed) (length entries)) (described_methods (package_record seed)) ≡ []
 unfolding entry_bytes each_from method_bytes entry_table entries method_info methods names_interface outside_fault code_start code_end
 inside seed = refl
 
-pub arguments_agree : (seed : ℕ) → at_fault (arguments_fault (method_info seed) (package_record seed).description) (described_methods (package_record seed)) ≡ []
-unfolding entry_bytes each_from method_bytes entry_table entries method_info methods names_interface arguments_fault described_bytes descriptor_bytes header_in argument_words types_in
+pub arguments_agree : (seed : ℕ) → at_fault (arguments_fault (method_info seed) (package_record seed).description)
+    (described_methods (package_record seed)) ≡ []
+unfolding entry_bytes each_from method_bytes entry_table entries method_info methods names_interface arguments_fault described_bytes descriptor_bytes
+    header_in argument_words types_in
 arguments_agree seed = refl
 
 pub registers_few : (seed : ℕ) → at_fault (registers_fault (method_info seed)) (described_methods (package_record seed)) ≡ []

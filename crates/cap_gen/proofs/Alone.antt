@@ -1,5 +1,6 @@
 -- Each method of the world that a generated package makes has a dataflow typing.
-use Rattle.std.proofs.Common.{◌≡◌, ◌<◌, ◌+◌, ◌%◌, ℕ, zero, suc, List, [], ◌∷◌, map, take, drop, Some, refl, sym, ap, subst, ◌∙◌, arith, get_or}
+use Rattle.std.proofs.Common.{◌≡◌, ◌<◌, ◌+◌, ◌%◌, ℕ, zero, suc, List, [], ◌∷◌, map, take, drop, Some, refl, sym, ap, subst, ◌∙◌}
+use Rattle.std.proofs.Common.{arith, get_or}
 use Rattle.std.specs.Prelude.{slice_get}
 use Rattle.std.specs.List.{range_with_len}
 use Rattle.std.proofs.lemmas.List.FromFn.{get_or-map-range_with_len}
@@ -10,7 +11,8 @@ use Rattle.jc_control.specs.Method.{Method, IsMethodOf}
 use Rattle.jc_rules.specs.Flow.{HasFlowTyping}
 use Rattle.jc_link.specs.World.{IsLinked}
 use Rattle.cap_laying.specs.HandlerTable.{entry_bytes}
-use Rattle.cap_gen.specs.Methods.{each_from, method_bytes, entry_table, entries, method_info, shape, code_offset, code_size_of_kind, first_constant, second_constant}
+use Rattle.cap_gen.specs.Methods.{each_from, method_bytes, entry_table, entries, method_info, shape, code_offset, code_size_of_kind, first_constant}
+use Rattle.cap_gen.specs.Methods.{second_constant}
 use Rattle.cap_gen.specs.Linked.{roles, method_record}
 use Rattle.cap_gen.proofs.Linking.{alone, methods_are}
 use Rattle.cap_gen.proofs.Typed.{method_of, kind_typed}
@@ -43,7 +45,8 @@ found_in f a (suc c) (suc n) x h =
     let same : (a + 1) + n ≡ a + suc n = omega arith in
     (omega (arith, below), r.1 ∙ ap f same)
 
-worlds_typed_at : (seed : ℕ) (w : Linked) (m : Method) → w.infos ≡ method_info seed ∷ [] → w.methods ≡ map method_record (range_with_len 0 200) → IsMethodOf w m
+worlds_typed_at : (seed : ℕ) (w : Linked) (m : Method) → w.infos ≡ method_info seed ∷ [] → w.methods ≡ map method_record (range_with_len 0 200)
+    → IsMethodOf w m
     → HasFlowTyping w m Top
 worlds_typed_at seed w m infos methods of =
     let n = m.number in
@@ -51,7 +54,9 @@ worlds_typed_at seed w m infos methods of =
     let same : 0 + n ≡ n = omega arith in
     let rec_is : m.rec ≡ method_record n = found.1 ∙ ap method_record same in
     let code : m.code ≡ code_is seed n =
-    of.code ∙ (ap (λ (is : List (List ℕ)). code_of is m.rec) infos ∙ (ap (λ (r : MethodRec). code_of (method_info seed ∷ []) r) rec_is ∙ code_stands seed n found.0)) in
+    of.code
+    ∙ (ap (λ (is : List (List ℕ)). code_of is m.rec) infos
+    ∙ (ap (λ (r : MethodRec). code_of (method_info seed ∷ []) r) rec_is ∙ code_stands seed n found.0)) in
     let first : method_of n (n % 4) n (first_constant seed n) (second_constant seed n) ≡ record { number = n; rec = m.rec; code = code_is seed n } =
     ap (λ (r : MethodRec). record { number = n; rec = r; code = code_is seed n }) (sym rec_is) in
     let second : record { number = n; rec = m.rec; code = code_is seed n } ≡ m =

@@ -3,10 +3,12 @@ use Rattle.std.proofs.Common.{◌≡◌, ◌+◌, ◌%◌, ℕ, zero, suc, List,
 use Rattle.byteorder.specs.Endian.{big_bytes}
 use Rattle.cap_laying.specs.HandlerTable.{entry_bytes, entries_at, table_bytes}
 use Rattle.cap_gen.specs.Shape.{of_kind, handlers_of_kind, shape_bytes}
-use Rattle.cap_gen.specs.Methods.{first_constant, second_constant, method_bytes, code_offset, code_size_of_kind, method_offset, handlers, handler_index, entry_table}
+use Rattle.cap_gen.specs.Methods.{first_constant, second_constant, method_bytes, code_offset, code_size_of_kind, method_offset, handlers, handler_index}
+use Rattle.cap_gen.specs.Methods.{entry_table}
 use Rattle.cap_gen.specs.Described.{described_bytes}
 
-bytes_of : (seed k c d n : ℕ) → k % 4 ≡ n → c ≡ first_constant seed k → d ≡ second_constant seed k → method_bytes seed k ≡ shape_bytes (of_kind n c d)
+bytes_of : (seed k c d n : ℕ) → k % 4 ≡ n → c ≡ first_constant seed k → d ≡ second_constant seed k
+    → method_bytes seed k ≡ shape_bytes (of_kind n c d)
 unfolding method_bytes
 bytes_of seed k c d n e f g =
     ap (λ (m : ℕ). shape_bytes (of_kind m (first_constant seed k) (second_constant seed k))) e
@@ -17,7 +19,9 @@ pub choosing_bytes : (seed k c d : ℕ) → k % 4 ≡ 0 → c ≡ first_constant
 choosing_bytes seed k c d e f g = bytes_of seed k c d 0 e f g
 
 pub reusing_bytes : (seed k c d : ℕ) → k % 4 ≡ 1 → c ≡ first_constant seed k → d ≡ second_constant seed k
-    → method_bytes seed k ≡ 0x02 ∷ 0x21 ∷ 0x1C ∷ 0x31 ∷ 0x1E ∷ 0x10 ∷ c ∷ 0x41 ∷ 0x30 ∷ 0x01 ∷ 0x2D ∷ 0x1A ∷ 0x66 ∷ 4 ∷ 0x05 ∷ 0x78 ∷ 0x1D ∷ 0x78 ∷ []
+    → method_bytes seed k
+    ≡ 0x02 ∷ 0x21 ∷ 0x1C ∷ 0x31 ∷ 0x1E ∷ 0x10 ∷ c ∷ 0x41 ∷ 0x30 ∷ 0x01 ∷ 0x2D ∷ 0x1A ∷ 0x66 ∷ 4 ∷ 0x05 ∷ 0x78 ∷ 0x1D
+    ∷ 0x78 ∷ []
 reusing_bytes seed k c d e f g = bytes_of seed k c d 1 e f g
 
 pub dividing_bytes : (seed k c d : ℕ) → k % 4 ≡ 2 → c ≡ first_constant seed k → d ≡ second_constant seed k
@@ -25,7 +29,9 @@ pub dividing_bytes : (seed k c d : ℕ) → k % 4 ≡ 2 → c ≡ first_constant
 dividing_bytes seed k c d e f g = bytes_of seed k c d 2 e f g
 
 pub looping_bytes : (seed k c d : ℕ) → k % 4 ≡ 3 → c ≡ first_constant seed k → d ≡ second_constant seed k
-    → method_bytes seed k ≡ 0x02 ∷ 0x21 ∷ 0x10 ∷ 8 ∷ 0x31 ∷ 0x1C ∷ 0x10 ∷ c ∷ 0x41 ∷ 0x2F ∷ 0x59 ∷ 2 ∷ 0xFF ∷ 0x1E ∷ 0x61 ∷ 0xF7 ∷ 0x1C ∷ 0x78 ∷ []
+    → method_bytes seed k
+    ≡ 0x02 ∷ 0x21 ∷ 0x10 ∷ 8 ∷ 0x31 ∷ 0x1C ∷ 0x10 ∷ c ∷ 0x41 ∷ 0x2F ∷ 0x59 ∷ 2 ∷ 0xFF ∷ 0x1E ∷ 0x61 ∷ 0xF7 ∷ 0x1C
+    ∷ 0x78 ∷ []
 looping_bytes seed k c d e f g = bytes_of seed k c d 3 e f g
 
 pub ruleset bytes_by_kind = (choosing_bytes, reusing_bytes, dividing_bytes, looping_bytes)
@@ -35,13 +41,15 @@ pub ruleset bytes_by_kind = (choosing_bytes, reusing_bytes, dividing_bytes, loop
 abbrev pub numbers_bytes : ℕ → ℕ → ℕ → ℕ → List ℕ
 numbers_bytes start active entry index = big_bytes 2 start ++ (big_bytes 2 active ++ (big_bytes 2 entry ++ big_bytes 2 index))
 
-of_division : (code : ℕ) → table_bytes (entries_at code (handlers_of_kind 2)) ≡ numbers_bytes code 3 (code + 4) 1 ++ numbers_bytes code 0x8008 (code + 8) 0
+of_division : (code : ℕ) → table_bytes (entries_at code (handlers_of_kind 2)) ≡ numbers_bytes code 3 (code + 4) 1 ++ numbers_bytes code 0x8008
+    (code + 8) 0
 unfolding entry_bytes
 of_division code =
     let same : code + 0 ≡ code = omega arith in
     ap (λ (n : ℕ). numbers_bytes n 3 (code + 4) 1 ++ numbers_bytes n 0x8008 (code + 8) 0) same
 
-pub division_entries : (k : ℕ) → k % 4 ≡ 2 → entry_table k ≡ numbers_bytes (code_offset k) 3 (code_offset k + 4) 1 ++ numbers_bytes (code_offset k) 0x8008 (code_offset k + 8) 0
+pub division_entries : (k : ℕ) → k % 4 ≡ 2 → entry_table k ≡ numbers_bytes (code_offset k) 3 (code_offset k + 4) 1 ++ numbers_bytes
+    (code_offset k) 0x8008 (code_offset k + 8) 0
 unfolding entry_table
 division_entries k e = ap (λ (n : ℕ). table_bytes (entries_at (code_offset k) (handlers_of_kind n))) e ∙ of_division (code_offset k)
 
@@ -67,8 +75,10 @@ entries_steps k at out one e is h =
 
 -- ---- records of the Descriptor
 
-pub record_steps : (k offset size count index : ℕ) (out one two : List ℕ) → offset ≡ method_offset k → size ≡ code_size_of_kind k → count ≡ length (handlers k)
-    → index ≡ handler_index k → one ≡ out ++ k ∷ 9 ∷ [] → two ≡ one ++ big_bytes 2 offset → two ++ numbers_bytes 6 size count index ≡ out ++ described_bytes k
+pub record_steps : (k offset size count index : ℕ) (out one two : List ℕ) → offset ≡ method_offset k → size ≡ code_size_of_kind k
+    → count ≡ length (handlers k)
+    → index ≡ handler_index k → one ≡ out ++ k ∷ 9 ∷ [] → two ≡ one ++ big_bytes 2 offset → two ++ numbers_bytes 6 size count index
+    ≡ out ++ described_bytes k
 unfolding described_bytes
 record_steps k offset size count index out one two eo es ec ei e1 e2 =
     let rest = numbers_bytes 6 size count index in

@@ -14,7 +14,8 @@ use Rattle.cap_package.specs.Pairs.{pairs}
 use Rattle.cap_package.specs.Agreement.{or_none}
 use Rattle.cap_package.specs.FirstFault.{disagreements}
 use Rattle.cap_package.specs.StaticChecks.{share_pair, place_in, image_fault, array_kinds, filled_fault, kind_at, is_static_at, no_static_fault}
-use Rattle.cap_package.specs.NameChecks.{is_method_at, no_method_fault, no_entry_fault, table_entries, exported_methods, exported_fields, undescribed_fault, undescribed_class_fault, not_own_fault}
+use Rattle.cap_package.specs.NameChecks.{is_method_at, no_method_fault, no_entry_fault, table_entries, exported_methods, exported_fields, undescribed_fault}
+use Rattle.cap_package.specs.NameChecks.{undescribed_class_fault, not_own_fault}
 use Rattle.cap_package.specs.TypeChecks.{field_type_fault, method_type_fault}
 use Rattle.cap_package.specs.CountChecks.{differ, array_bytes, image_bytes, instance_fault, described_cells, count_if}
 use Rattle.cap_gen.specs.Methods.{each_from}
@@ -50,7 +51,8 @@ module _ (seed : ℕ) where
   unfolding differ
   pools_agree = refl
 
-  pub instances_agree : at_fault (instance_fault (package_record seed).classes (package_record seed).description) (package_record seed).description.items.classes ≡ []
+  pub instances_agree : at_fault (instance_fault (package_record seed).classes (package_record seed).description)
+      (package_record seed).description.items.classes ≡ []
   unfolding differ instance_fault described_cells field_type
   instances_agree = refl
 
@@ -63,12 +65,15 @@ module _ (seed : ℕ) where
 
   pub all_named : (at_fault (no_entry_fault (is_method_at (described_methods (package_record seed)))) (table_entries (package_record seed).classes)
       ++ at_fault (no_method_fault (is_method_at (described_methods (package_record seed)))) (exported_methods (or_none (package_record seed).export)))
-      ++ at_fault (no_method_fault (is_method_at (described_methods (package_record seed)))) (map (λ (a : Applet). a.install) (or_none (package_record seed).applets)) ≡ []
+      ++ at_fault (no_method_fault (is_method_at (described_methods (package_record seed))))
+      (map (λ (a : Applet). a.install) (or_none (package_record seed).applets)) ≡ []
   all_named = refl
 
   pub all_described : (at_fault (undescribed_fault (package_record seed).description.items.classes) (package_record seed).classes
-      ++ at_fault (not_own_fault (package_record seed).classes) (map (λ (d : described.ClassDescriptor). d.class_ref) (package_record seed).description.items.classes))
-      ++ at_fault (undescribed_class_fault (package_record seed).classes) (map (λ (c : Exported). c.class_offset) (or_none (package_record seed).export)) ≡ []
+      ++ at_fault (not_own_fault (package_record seed).classes)
+      (map (λ (d : described.ClassDescriptor). d.class_ref) (package_record seed).description.items.classes))
+      ++ at_fault (undescribed_class_fault (package_record seed).classes) (map (λ (c : Exported). c.class_offset) (or_none (package_record seed).export))
+      ≡ []
   unfolding undescribed_fault not_own_fault undescribed_class_fault
   all_described = refl
 

@@ -11,13 +11,15 @@ use Rattle.cap_components.specs.Descriptions.{field_type}
 use Rattle.cap_components.specs.PackageRecord.{PackageRecord, names_interface}
 use Rattle.cap_package.specs.HeaderChecks.{header_in}
 use Rattle.jc_base.specs.Class.{is_interface, parent_of, chain, chain_over, height}
-use Rattle.jc_base.specs.Dispatch.{package_of, public_of, visible_of, cell_count, own_cells, cells_of, entry_at, nearest_of, visible_in, dispatched, is_concrete}
+use Rattle.jc_base.specs.Dispatch.{package_of, public_of, visible_of, cell_count, own_cells, cells_of, entry_at, nearest_of, visible_in, dispatched}
+use Rattle.jc_base.specs.Dispatch.{is_concrete}
 use Rattle.jc_base.specs.Leads.{leads_below}
 use Rattle.jc_base.specs.Order.{is_on_chain, is_below}
 use Rattle.jc_base.specs.World.{Linked}
 use Rattle.jc_resolve.specs.Conditions.{no_package_fault, class_references, no_class_fault}
 use Rattle.jc_resolve.specs.Named.{infos_of, is_interface as named_interface, package_of as named_package}
-use Rattle.jc_resolve.specs.NamedClasses.{fields_described, instance_fields, with_token, cells_of_field, cells_of_fields, dispatch_entry, interface_named, named_class, named_classes}
+use Rattle.jc_resolve.specs.NamedClasses.{fields_described, instance_fields, with_token, cells_of_field, cells_of_fields, dispatch_entry, interface_named}
+use Rattle.jc_resolve.specs.NamedClasses.{named_class, named_classes}
 use Rattle.jc_resolve.specs.NamedMethods.{handler_named, body_of, class_described, have_headers, named_method, named_methods}
 use Rattle.jc_resolve.specs.Numbering.{class_at, is_interface_number, method_at}
 use Rattle.jc_resolve.specs.References.{met_by, class_referred, class_named}
@@ -25,10 +27,12 @@ use Rattle.jc_resolve.specs.WorldTypes.{type_of, kind_of, declared_signature}
 use Rattle.jc_classes.specs.Ancestor.{superclass, extended, is_above}
 use Rattle.jc_resolve.specs.declared.named.NamedClass.{NamedClass}
 use Rattle.jc_classes.specs.LineConditions.{numbered, is_class_number, super_fault, cycle_fault, role_fault, root_fault, not_interface_fault}
-use Rattle.jc_classes.specs.Outline.{chain as line_chain, chain_over as line_chain_over, is_on_chain as on_line_chain, parent_of as line_parent, package_of as line_package}
+use Rattle.jc_classes.specs.Outline.{chain as line_chain, chain_over as line_chain_over, is_on_chain as on_line_chain, parent_of as line_parent}
+use Rattle.jc_classes.specs.Outline.{package_of as line_package}
 use Rattle.jc_classes.specs.TableConditions.{hole_fault, layout_above, override_fault, long_fault, interface_type_fault as unserved_fault}
 use Rattle.jc_classes.specs.Entries.{reach, named_by, dispatch_list, overlaid_at}
-use Rattle.jc_classes.specs.Layout.{public_table, visible_table, own_of, home_run, public_entries, visible_entries, instance_cells, class_layout, class_layout_from, at_home}
+use Rattle.jc_classes.specs.Layout.{public_table, visible_table, own_of, home_run, public_entries, visible_entries, instance_cells, class_layout}
+use Rattle.jc_classes.specs.Layout.{class_layout_from, at_home}
 use Rattle.jc_classes.specs.Tables.{record_from}
 use Rattle.jc_link.specs.Catches.{catches_throwable, catch_fault}
 use Rattle.jc_link.specs.Entries.{field_place, method_place}
@@ -64,7 +68,8 @@ abbrev eight : List NamedClass
 eight = named_as None ∷ named_as (Some 0) ∷ replicate 6 (named_as (Some 1))
 
 eight_named : (seed : ℕ) → classes_of (alone seed) roles ≡ eight
-unfolding fields_described instance_fields with_token cells_of_field cells_of_fields dispatch_entry interface_named named_class named_classes class_at class_referred class_named
+unfolding fields_described instance_fields with_token cells_of_field cells_of_fields dispatch_entry interface_named named_class named_classes class_at
+    class_referred class_named
 eight_named seed = refl
 
 -- none is above itself
@@ -82,7 +87,15 @@ unfolding place_in field_type kind_of
 few_statics seed = refl
 
 faultless : (seed : ℕ) → AllEmpty (conditions (alone seed) roles)
-unfolding entry_bytes each_from method_bytes entry_table entries method_info methods described_bytes descriptor_bytes location_bytes types_in field_type names_interface header_in is_interface parent_of line_parent chain line_chain chain_over line_chain_over height package_of line_package public_of visible_of cell_count own_cells cells_of entry_at nearest_of visible_in dispatched is_concrete is_on_chain on_line_chain is_below no_package_fault class_references no_class_fault named_interface named_package fields_described instance_fields with_token cells_of_field cells_of_fields dispatch_entry interface_named named_class named_classes handler_named body_of class_described have_headers named_method named_methods class_at is_interface_number method_at met_by class_referred class_named type_of kind_of declared_signature superclass extended is_above is_class_number super_fault cycle_fault role_fault root_fault not_interface_fault hole_fault layout_above override_fault long_fault unserved_fault reach named_by dispatch_list overlaid_at public_table visible_table own_of home_run public_entries visible_entries instance_cells class_layout class_layout_from at_home record_from catches_throwable catch_fault referred field_place method_place class_member member_of member_fault abstract_fault
+unfolding entry_bytes each_from method_bytes entry_table entries method_info methods described_bytes descriptor_bytes location_bytes types_in field_type
+    names_interface header_in is_interface parent_of line_parent chain line_chain chain_over line_chain_over height package_of line_package public_of
+    visible_of cell_count own_cells cells_of entry_at nearest_of visible_in dispatched is_concrete is_on_chain on_line_chain is_below no_package_fault
+    class_references no_class_fault named_interface named_package fields_described instance_fields with_token cells_of_field cells_of_fields dispatch_entry
+    interface_named named_class named_classes handler_named body_of class_described have_headers named_method named_methods class_at is_interface_number
+    method_at met_by class_referred class_named type_of kind_of declared_signature superclass extended is_above is_class_number super_fault cycle_fault
+    role_fault root_fault not_interface_fault hole_fault layout_above override_fault long_fault unserved_fault reach named_by dispatch_list overlaid_at
+    public_table visible_table own_of home_run public_entries visible_entries instance_cells class_layout class_layout_from at_home record_from
+    catches_throwable catch_fault referred field_place method_place class_member member_of member_fault abstract_fault
 faultless seed = (
   refl,
   (
@@ -132,5 +145,7 @@ packages_link seed = (
 
 -- its methods
 pub methods_are : (seed : ℕ) → named_methods (alone seed) roles ≡ map method_record (range_with_len 0 200)
-unfolding entry_bytes each_from method_bytes entry_table entries method_info methods described_bytes descriptor_bytes types_in names_interface header_in handler_named body_of class_described have_headers named_method named_methods class_at is_interface_number referred class_referred class_named type_of declared_signature
+unfolding entry_bytes each_from method_bytes entry_table entries method_info methods described_bytes descriptor_bytes types_in names_interface header_in
+    handler_named body_of class_described have_headers named_method named_methods class_at is_interface_number referred class_referred class_named type_of
+    declared_signature
 methods_are seed = refl

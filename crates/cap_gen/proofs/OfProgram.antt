@@ -9,7 +9,8 @@ use Rattle.cap_gen.specs.Described.{described_bytes, descriptor_bytes, location_
 use Rattle.cap_gen.specs.Generated.{file, generated}
 use Rattle.cap_gen.specs.Plain.{first_parts}
 
-pub method_file : (seed : ℕ) → (0x07 ∷ 0x0F ∷ 0xA1 ∷ 100 ∷ []) ++ (each_method entry_table ++ each_method (method_bytes seed)) ≡ (file 7 (method_info seed)).bytes
+pub method_file : (seed : ℕ) → (0x07 ∷ 0x0F ∷ 0xA1 ∷ 100 ∷ []) ++ (each_method entry_table ++ each_method (method_bytes seed))
+    ≡ (file 7 (method_info seed)).bytes
 unfolding each_from method_bytes entry_table entry_bytes entries method_info
 method_file seed = refl
 
@@ -17,13 +18,15 @@ pub descriptor_file : DESCRIPTOR_HEAD ++ (each_method described_bytes ++ DESCRIP
 unfolding each_from described_bytes descriptor_bytes
 descriptor_file = refl
 
-pub whole : (seed : ℕ) → first_parts ++ file 7 (method_info seed) ∷ record { part = 8; bytes = STATIC_FIELD } ∷ record { part = 9; bytes = REF_LOCATION } ∷ file 11 descriptor_bytes ∷ []
+pub whole : (seed : ℕ) → first_parts ++ file 7 (method_info seed) ∷ record { part = 8; bytes = STATIC_FIELD } ∷ record
+    { part = 9; bytes = REF_LOCATION } ∷ file 11 descriptor_bytes ∷ []
     ≡ generated seed
 unfolding each_from method_bytes entry_table entry_bytes entries method_info described_bytes descriptor_bytes location_bytes component_bytes
 whole seed = refl
 
 -- what is left where the pieces were appended one after the other
-pub method_steps : (seed : ℕ) (none head table all : List ℕ) → none ≡ [] → head ≡ none ++ 0x07 ∷ 0x0F ∷ 0xA1 ∷ 100 ∷ [] → table ≡ head ++ each_method entry_table
+pub method_steps : (seed : ℕ) (none head table all : List ℕ) → none ≡ [] → head ≡ none ++ 0x07 ∷ 0x0F ∷ 0xA1 ∷ 100 ∷ []
+    → table ≡ head ++ each_method entry_table
     → all ≡ table ++ each_method (method_bytes seed) → all ≡ (file 7 (method_info seed)).bytes
 method_steps seed none head table all a b c d =
     let H : List ℕ = 0x07 ∷ 0x0F ∷ 0xA1 ∷ 100 ∷ [] in
@@ -31,7 +34,8 @@ method_steps seed none head table all a b c d =
     d ∙ (ap (λ (xs : List ℕ). xs ++ each_method (method_bytes seed)) (c ∙ ap (λ (xs : List ℕ). xs ++ each_method entry_table) first)
     ∙ (append_assoc H (each_method entry_table) (each_method (method_bytes seed)) ∙ method_file seed))
 
-pub descriptor_steps : (none head records all : List ℕ) → none ≡ [] → head ≡ none ++ DESCRIPTOR_HEAD → records ≡ head ++ each_method described_bytes
+pub descriptor_steps : (none head records all : List ℕ) → none ≡ [] → head ≡ none ++ DESCRIPTOR_HEAD
+    → records ≡ head ++ each_method described_bytes
     → all ≡ records ++ DESCRIPTOR_TAIL → all ≡ (file 11 descriptor_bytes).bytes
 descriptor_steps none head records all a b c d =
     let first : head ≡ DESCRIPTOR_HEAD = b ∙ ap (λ (xs : List ℕ). xs ++ DESCRIPTOR_HEAD) a in
@@ -44,9 +48,14 @@ pub parts_steps : (seed : ℕ) (a b c d e : List Lent) (ms ds : List ℕ) → a 
     → e ≡ d ++ record { part = 11; bytes = ds } ∷ [] → e ≡ generated seed
 parts_steps seed a b c d e ms ds ha hm hb hc hd hs he =
     let M : Lent = file 7 (method_info seed) in
-    let b_is : b ≡ first_parts ++ M ∷ [] = hb ∙ (ap (λ (xs : List Lent). xs ++ record { part = 7; bytes = ms } ∷ []) ha ∙ ap (λ (bs : List ℕ). first_parts ++ record { part = 7; bytes = bs } ∷ []) hm) in
+    let b_is : b ≡ first_parts ++ M ∷ [] = hb
+    ∙ (ap (λ (xs : List Lent). xs ++ record { part = 7; bytes = ms } ∷ []) ha
+    ∙ ap (λ (bs : List ℕ). first_parts ++ record { part = 7; bytes = bs } ∷ []) hm) in
     let c_is = hc ∙ ap (λ (xs : List Lent). xs ++ record { part = 8; bytes = STATIC_FIELD } ∷ []) b_is in
     let d_is = hd ∙ ap (λ (xs : List Lent). xs ++ record { part = 9; bytes = REF_LOCATION } ∷ []) c_is in
     let e_is = he ∙ (ap (λ (xs : List Lent). xs ++ record { part = 11; bytes = ds } ∷ []) d_is
-    ∙ ap (λ (bs : List ℕ). (((first_parts ++ M ∷ []) ++ record { part = 8; bytes = STATIC_FIELD } ∷ []) ++ record { part = 9; bytes = REF_LOCATION } ∷ []) ++ record { part = 11; bytes = bs } ∷ []) hs) in
+    ∙ ap
+    (λ (bs : List ℕ).
+    (((first_parts ++ M ∷ []) ++ record { part = 8; bytes = STATIC_FIELD } ∷ []) ++ record { part = 9; bytes = REF_LOCATION } ∷ []) ++ record
+    { part = 11; bytes = bs } ∷ []) hs) in
     e_is ∙ whole seed

@@ -4,7 +4,8 @@ use Rattle.std.specs.List.{range_with_len}
 use Rattle.std.proofs.lemmas.List.FromFn.{get_or-map-range_with_len}
 use Rattle.cap_method.specs.declared.handler.HandlerInfo.{HandlerInfo}
 use Rattle.cap_laying.specs.HandlerTable.{entry_bytes}
-use Rattle.cap_gen.specs.Methods.{each_from, method_bytes, entry_table, entries, entries_of_kind, method_info, method_offset, code_size_of_kind, handlers, handler_index}
+use Rattle.cap_gen.specs.Methods.{each_from, method_bytes, entry_table, entries, entries_of_kind, method_info, method_offset, code_size_of_kind, handlers}
+use Rattle.cap_gen.specs.Methods.{handler_index}
 use Rattle.cap_gen.specs.GeneratedPackage.{StandsThere}
 
 -- two lists by number are equal at each number

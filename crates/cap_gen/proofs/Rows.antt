@@ -1,5 +1,7 @@
 -- A dataflow typing of a method that is listed with its instructions: where each row passes a test, the frames are a typing.
-use Rattle.std.proofs.Common.{◌≡◌, ◌≤◌, ◌<◌, ◌+◌, ◌⊎◌, inl, inr, ℕ, zero, suc, ℤ, pos, negsuc, Bool, true, false, cond, List, [], ◌∷◌, length, map, Option, Some, None, Result, Ok, Err, refl, sym, ap, subst, ◌∙◌, arith, leb-true, ltb-true, eqb-true, eq-eqb, Contains, All}
+use Rattle.std.proofs.Common.{◌≡◌, ◌≤◌, ◌<◌, ◌+◌, ◌⊎◌, inl, inr, ℕ, zero, suc, ℤ, pos, negsuc, Bool, true, false, cond, List, []}
+use Rattle.std.proofs.Common.{◌∷◌, length, map, Option, Some, None, Result, Ok, Err, refl, sym, ap, subst, ◌∙◌, arith, leb-true, ltb-true, eqb-true}
+use Rattle.std.proofs.Common.{eq-eqb, Contains, All}
 use Rattle.std.specs.Prelude.{is_ok, ◌&&◌, ◌==◌, not, nat_le, nat_lt, slice_get, slice_set, IsTrue, IsSomeAnd}
 use Rattle.std.proofs.lemmas.Bool.{and_parts, not-true}
 use Rattle.jc_base.specs.declared.ty.Ty.{Ty}
@@ -28,7 +30,8 @@ use Rattle.jc_rules.specs.declared.effect.Effect.{Effect}
 use Rattle.jc_rules.specs.Demand.{Frame, Meets, Satisfies, SatisfiesAll}
 use Rattle.jc_rules.specs.Effect.{changed, WritesCells, raises_register}
 use Rattle.jc_rules.specs.Rule.{demands, effect, wrote}
-use Rattle.jc_rules.specs.Flow.{CellsBelow, no_cells, more_cells, FrameBelow, start_frame, caught_frame, IsNotFresh, IsNotTop, At, FlowSteps, IsFollowed, IsFit, FlowTyping, HasFlowTyping}
+use Rattle.jc_rules.specs.Flow.{CellsBelow, no_cells, more_cells, FrameBelow, start_frame, caught_frame, IsNotFresh, IsNotTop, At, FlowSteps, IsFollowed, IsFit}
+use Rattle.jc_rules.specs.Flow.{FlowTyping, HasFlowTyping}
 use Rattle.jc_control.specs.Method.{Method}
 use Rattle.jc_control.specs.WellFormed.{HasInstruction, IsPlace, IsTargetPlace, IsHandlerOf, IsWellFormed}
 use Rattle.jc_control.specs.Control.{IsSuccessor, falls_through, jumped, Covers, IsReached, begins, follows, caught, IsLeader, led_to, entered}
@@ -422,7 +425,8 @@ module _ (w : Linked) (m : Method) (rows : List Row) (a : AreRows w m rows) wher
 
   -- where it falls on
   falls_to : (r : Row) → Has rows r → IsTrue (falls r.placed.insn.op)
-      → (nat_lt (r.placed.place + r.placed.insn.len) (length m.code) ≡ true) × (fits_at rows (after_row w m.rec r) (r.placed.place + r.placed.insn.len) ≡ true)
+      → (nat_lt (r.placed.place + r.placed.insn.len) (length m.code) ≡ true)
+      × (fits_at rows (after_row w m.rec r) (r.placed.place + r.placed.insn.len) ≡ true)
   falls_to r h goes =
       let i = r.placed in
       let test = nat_lt (i.place + i.insn.len) (length m.code) && fits_at rows (after_row w m.rec r) (i.place + i.insn.len) in
@@ -430,13 +434,16 @@ module _ (w : Linked) (m : Method) (rows : List Row) (a : AreRows w m rows) wher
       and_parts (nat_lt (i.place + i.insn.len) (length m.code)) (fits_at rows (after_row w m.rec r) (i.place + i.insn.len)) e
 
   target_to : (r : Row) → Has rows r → (q : ℕ) → Contains (targets m.code r.placed) (pos q) → fits_at rows (after_row w m.rec r) q ≡ true
-  target_to r h q c = has_true (fits_target rows (after_row w m.rec r)) (targets m.code r.placed) (pos q) (leads_of r h).targets_fit (contains_has (targets m.code r.placed) (pos q) c)
+  target_to r h q c =
+      has_true (fits_target rows (after_row w m.rec r)) (targets m.code r.placed) (pos q) (leads_of r h).targets_fit
+      (contains_has (targets m.code r.placed) (pos q) c)
 
   next_to : (r : Row) → Has rows r → (q : ℕ) → IsSuccessor m.code r.placed q → fits_at rows (after_row w m.rec r) q ≡ true
   next_to r h _ (falls_through goes) = (falls_to r h goes).1
   next_to r h q (jumped c) = target_to r h q c
 
-  caught_to : (r : Row) → Has rows r → (h : Handler) → Contains m.rec.handlers h → Covers h r.placed.place → fits_at rows (caught_frame h r.before) h.entry ≡ true
+  caught_to : (r : Row) → Has rows r → (h : Handler) → Contains m.rec.handlers h → Covers h r.placed.place
+      → fits_at rows (caught_frame h r.before) h.entry ≡ true
   caught_to r among h c cov =
       let p = r.placed.place in
       let e : handled rows r h ≡ true = has_true (handled rows r) m.rec.handlers h (leads_of r among).caught_fit (contains_has m.rec.handlers h c) in
@@ -463,7 +470,8 @@ module _ (w : Linked) (m : Method) (rows : List Row) (a : AreRows w m rows) wher
       let r = row_of i stands in
       subst (λ (k : Placed). All (IsTargetPlace m.code) (targets m.code k)) r.is
       (all_at (IsTargetPlace m.code) (targets m.code r.row.placed)
-      (λ t h. target_place t (after_row w m.rec r.row) (has_true (fits_target rows (after_row w m.rec r.row)) (targets m.code r.row.placed) t (leads_of r.row r.among).targets_fit h)))
+      (λ t h. target_place t (after_row w m.rec r.row)
+      (has_true (fits_target rows (after_row w m.rec r.row)) (targets m.code r.row.placed) t (leads_of r.row r.among).targets_fit h)))
 
   handler_formed : (h : Handler) → is_handler_of m.code rows h ≡ true → IsHandlerOf m.code h
   handler_formed h e =
@@ -548,14 +556,16 @@ module _ (w : Linked) (m : Method) (rows : List Row) (a : AreRows w m rows) wher
     rules = λ i stands reach.
         let r = row_of i stands in
         let At : Placed → Type 0 = λ k. IsSomeAnd (frame_at rows k.place) (IsFollowed w m (frame_at rows) k) in
-        subst At r.is (at_some (IsFollowed w m (frame_at rows) r.row.placed) (frame_at rows r.row.placed.place) r.row.before (at_row r.row r.among) (row_followed r.row r.among));
+        subst At r.is (at_some (IsFollowed w m (frame_at rows) r.row.placed) (frame_at rows r.row.placed.place) r.row.before (at_row r.row r.among)
+        (row_followed r.row r.among));
     stays = λ i stands reach goes.
         let r = row_of i stands in
         let Stays : Placed → Type 0 = λ k. IsTrue (falls k.insn.op) → k.place + k.insn.len < length m.code in
         subst Stays r.is (λ g. ltb-true (r.row.placed.place + r.row.placed.insn.len) (length m.code) (falls_to r.row r.among g).0) goes;
     handlers = λ p h reach c cov.
         let r = reached_row p reach in
-        at_some (λ f. IsSomeAnd (frame_at rows h.entry) (FrameBelow w.classes (caught_frame h f))) (frame_at rows p) r.row.before (frame_there r.row r.among p r.place)
+        at_some (λ f. IsSomeAnd (frame_at rows h.entry) (FrameBelow w.classes (caught_frame h f))) (frame_at rows p) r.row.before
+        (frame_there r.row r.among p r.place)
         (below_at w.classes rows (caught_frame h r.row.before) h.entry (caught_to r.row r.among h c (subst (Covers h) (sym r.place) cov)));
     leaders = λ q leader. leader_ready q leader;
   }

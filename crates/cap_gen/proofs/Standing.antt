@@ -17,14 +17,17 @@ use Rattle.cap_gen.specs.Generated.{generated}
 use Rattle.cap_gen.specs.Record.{package_record}
 use Rattle.cap_components.proofs.Saying.{read-said}
 use Rattle.cap_gen.proofs.Agreeing.{sizes_agree, inside, apart, arguments_agree, registers_few, lengths_fit, none_abstract, handlers_home}
-use Rattle.cap_gen.proofs.Counted.{no_customs, imports_agree, applets_agree, images_agree, arrays_agree, array_sizes_agree, pools_agree, instances_agree, sums_agree, statics_apart, all_named, all_described, all_typed, fields_inside, no_exports}
+use Rattle.cap_gen.proofs.Counted.{no_customs, imports_agree, applets_agree, images_agree, arrays_agree, array_sizes_agree, pools_agree, instances_agree}
+use Rattle.cap_gen.proofs.Counted.{sums_agree, statics_apart, all_named, all_described, all_typed, fields_inside, no_exports}
 
 all_read : (seed : ℕ) → read_package (generated seed) ≡ Ok (package_record seed)
-unfolding entry_bytes component_bytes each_from method_bytes entry_table entries method_info methods described_bytes descriptor_bytes location_bytes table reading info_in read_package read_after read_part read_if_held read_methods read_description version magic name_info record_info
+unfolding entry_bytes component_bytes each_from method_bytes entry_table entries method_info methods described_bytes descriptor_bytes location_bytes table
+    reading info_in read_package read_after read_part read_if_held read_methods read_description version magic name_info record_info
 all_read seed = refl
 
 none_missing : (seed : ℕ) → missing_parts (generated seed) (read_directory (generated seed)) ≡ []
-unfolding entry_bytes component_bytes each_from method_bytes entry_table entries method_info methods described_bytes descriptor_bytes location_bytes table reading info_in read_directory read_part absent_fault sized_fault version magic name_info
+unfolding entry_bytes component_bytes each_from method_bytes entry_table entries method_info methods described_bytes descriptor_bytes location_bytes table
+    reading info_in read_directory read_part absent_fault sized_fault version magic name_info
 none_missing seed = refl
 
 pub parts_stand : (seed : ℕ) → StandsFor (generated seed) (package_record seed)

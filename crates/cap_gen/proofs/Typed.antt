@@ -56,19 +56,23 @@ rows kind c d frames = rows_of (listing (of_kind kind c d).code) frames
 
 module _ (w : Linked) (n k c d : ℕ) where
   choosing_rows : AreRows w (method_of n 0 k c d) (rows 0 c d choosing_frames)
-  unfolding listing listing_from at_most decoded layout_of opcode targets cases row_at table by_sort by_width by_kind first_four by_register literals binaries orders_all branching unused
+  unfolding listing listing_from at_most decoded layout_of opcode targets cases row_at table by_sort by_width by_kind first_four by_register literals
+      binaries orders_all branching unused
   choosing_rows = record { listed = refl; ends = refl; start = refl; handlers = refl; apart = refl; each = refl }
 
   reusing_rows : AreRows w (method_of n 1 k c d) (rows 1 c d reusing_frames)
-  unfolding listing listing_from at_most decoded layout_of opcode targets cases row_at table by_sort by_width by_kind first_four by_register literals binaries orders_all branching unused
+  unfolding listing listing_from at_most decoded layout_of opcode targets cases row_at table by_sort by_width by_kind first_four by_register literals
+      binaries orders_all branching unused
   reusing_rows = record { listed = refl; ends = refl; start = refl; handlers = refl; apart = refl; each = refl }
 
   dividing_rows : AreRows w (method_of n 2 k c d) (rows 2 c d dividing_frames)
-  unfolding listing listing_from at_most decoded layout_of opcode targets cases row_at table by_sort by_width by_kind first_four by_register literals binaries orders_all branching unused
+  unfolding listing listing_from at_most decoded layout_of opcode targets cases row_at table by_sort by_width by_kind first_four by_register literals
+      binaries orders_all branching unused
   dividing_rows = record { listed = refl; ends = refl; start = refl; handlers = refl; apart = refl; each = refl }
 
   looping_rows : AreRows w (method_of n 3 k c d) (rows 3 c d looping_frames)
-  unfolding listing listing_from at_most decoded layout_of opcode targets cases row_at table by_sort by_width by_kind first_four by_register literals binaries orders_all branching unused
+  unfolding listing listing_from at_most decoded layout_of opcode targets cases row_at table by_sort by_width by_kind first_four by_register literals
+      binaries orders_all branching unused
   looping_rows = record { listed = refl; ends = refl; start = refl; handlers = refl; apart = refl; each = refl }
 
 -- the kinds by number

@@ -9,7 +9,8 @@ use Rattle.jc_link.specs.World.{IsLinked}
 use Rattle.jc_rules.specs.Flow.{HasFlowTyping}
 use Rattle.cap_gen.specs.Shape.{of_kind}
 use Rattle.cap_gen.specs.Linked.{record_of, roles}
-use Rattle.cap_gen.specs.Methods.{method_bytes, method_offset, code_size_of_kind, method_info, handlers, handler_index, entries, entries_of_kind}
+use Rattle.cap_gen.specs.Methods.{method_bytes, method_offset, code_size_of_kind, method_info, handlers, handler_index, entries}
+use Rattle.cap_gen.specs.Methods.{entries_of_kind}
 use Rattle.cap_gen.specs.Generated.{generated}
 use Rattle.cap_gen.specs.Record.{package_record}
 

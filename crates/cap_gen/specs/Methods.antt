@@ -1,5 +1,6 @@
 -- The methods of the package that is generated from a seed, and the info of its Method component (JCVM 2.2, section 6.9).
-use Rattle.std.specs.Prelude.{◌≡◌, refl, true, false, ℕ, ◌+◌, ◌-◌, ◌*◌, ◌/◌, ◌%◌, List, [], ◌∷◌, ◌++◌, length, ◌==◌, if◌then◌else◌}
+use Rattle.std.specs.Prelude.{◌≡◌, refl, true, false, ℕ, ◌+◌, ◌-◌, ◌*◌, ◌/◌, ◌%◌, List, [], ◌∷◌, ◌++◌}
+use Rattle.std.specs.Prelude.{length, ◌==◌, if◌then◌else◌}
 use Rattle.std.specs.List.{flat_map, range_with_len}
 use Rattle.jc_decode.specs.declared.symbols.LaidHandler.{LaidHandler}
 use Rattle.cap_method.specs.declared.handler.HandlerInfo.{HandlerInfo}
@@ -62,12 +63,14 @@ unfoldable pub method_info : ℕ → List ℕ
 method_info seed = length entries ∷ (each_method entry_table ++ each_method (method_bytes seed))
 
 -- the first method of the package of seed 7: 7 or 7 + 0
-first : method_bytes 7 0 ≡ 0x02 ∷ 0x20 ∷ 0x1C ∷ 0x1D ∷ 0x60 ∷ 6 ∷ 0x10 ∷ 7 ∷ 0x70 ∷ 4 ∷ 0x10 ∷ 7 ∷ 0x41 ∷ 0x78 ∷ []
+first : method_bytes 7 0
+    ≡ 0x02 ∷ 0x20 ∷ 0x1C ∷ 0x1D ∷ 0x60 ∷ 6 ∷ 0x10 ∷ 7 ∷ 0x70 ∷ 4 ∷ 0x10 ∷ 7 ∷ 0x41 ∷ 0x78 ∷ []
 unfolding method_bytes
 first = refl
 
 -- the sixth method with handlers, the 23rd of all, of the package of seed 90
-sixth : method_bytes 90 22 ≡ 0x02 ∷ 0x20 ∷ 0x1C ∷ 0x1D ∷ 0x47 ∷ 0x78 ∷ 0x3B ∷ 0x10 ∷ 12 ∷ 0x78 ∷ 0x3B ∷ 0x10 ∷ 34 ∷ 0x78 ∷ []
+sixth : method_bytes 90 22
+    ≡ 0x02 ∷ 0x20 ∷ 0x1C ∷ 0x1D ∷ 0x47 ∷ 0x78 ∷ 0x3B ∷ 0x10 ∷ 12 ∷ 0x78 ∷ 0x3B ∷ 0x10 ∷ 34 ∷ 0x78 ∷ []
 unfolding method_bytes
 sixth = refl
 

@@ -13,7 +13,8 @@ use Rattle.cap_package.specs.Customs.{CustomItems, info_or_none, custom_in}
 use Rattle.cap_package.specs.PackageRecord.{PackageRecord}
 use Rattle.cap_package.proofs.InfoLaws.{info-short}
 
-formed-short : (tag : ℕ) (bytes : List ℕ) (r : Result (List ℕ) FormFault) → reading (file_of tag) (component tag) bytes ≡ r → length (info_or_none (formed r)) ≤ 65535
+formed-short : (tag : ℕ) (bytes : List ℕ) (r : Result (List ℕ) FormFault) → reading (file_of tag) (component tag) bytes ≡ r
+    → length (info_or_none (formed r)) ≤ 65535
 formed-short tag bytes (Ok info) e = info-short tag bytes info (stands (file_of tag) (component tag) bytes info e)
 formed-short tag bytes (Err fault) e = omega arith
 

@@ -1,5 +1,6 @@
 -- The exact indexes of methods, one after the other.
-use Rattle.std.proofs.Common.{◌≡◌, ◌≤◌, ◌<◌, ◌+◌, ◌*◌, ℕ, zero, suc, List, [], ◌∷◌, ◌++◌, length, drop, cond, Option, Some, None, refl, sym, ap, subst, ◌∙◌, arith, append_assoc, length-append}
+use Rattle.std.proofs.Common.{◌≡◌, ◌≤◌, ◌<◌, ◌+◌, ◌*◌, ℕ, zero, suc, List, [], ◌∷◌, ◌++◌, length, drop, cond, Option, Some}
+use Rattle.std.proofs.Common.{None, refl, sym, ap, subst, ◌∙◌, arith, append_assoc, length-append}
 use Rattle.std.specs.Prelude.{count_by, is_some}
 use Rattle.std.specs.List.{flat_map}
 use Rattle.std.proofs.lemmas.List.{append-nil}
@@ -21,7 +22,8 @@ entries_none laid left rest out s e =
     let t : IsSoFar laid (None ∷ rest) out = subst (λ ls. IsSoFar laid ls out) e s in
     record { each = λ lists exact. t.each lists exact; short = t.short }
 
-pub entries_more : (laid left rest : List (Option Laid)) (l : Laid) (out new : List ℕ) → IsSoFar laid left out → left ≡ Some l ∷ rest → IsListed l.code out new → IsSoFar laid rest new
+pub entries_more : (laid left rest : List (Option Laid)) (l : Laid) (out new : List ℕ) → IsSoFar laid left out → left ≡ Some l ∷ rest
+    → IsListed l.code out new → IsSoFar laid rest new
 entries_more laid left rest l out new s e listed =
     let t : IsSoFar laid (Some l ∷ rest) out = subst (λ ls. IsSoFar laid ls out) e s in
     record {
@@ -33,7 +35,8 @@ entries_more laid left rest l out new s e listed =
       short = t.short.1;
     }
 
-pub entries_next : (laid left rest : List (Option Laid)) (m : Option Laid) (out new : List ℕ) → IsSoFar laid left out → left ≡ m ∷ rest → IsListedIf m out new → IsSoFar laid rest new
+pub entries_next : (laid left rest : List (Option Laid)) (m : Option Laid) (out new : List ℕ) → IsSoFar laid left out → left ≡ m ∷ rest
+    → IsListedIf m out new → IsSoFar laid rest new
 entries_next laid left rest None out new s e listed = subst (IsSoFar laid rest) (sym listed) (entries_none laid left rest out s e)
 entries_next laid left rest (Some l) out new s e listed = entries_more laid left rest l out new s e listed
 
@@ -87,10 +90,13 @@ bytes_long (n ∷ ns) = let r = bytes_long ns in omega (arith, length-append (bi
 pub no_info : (laid : List (Option Laid)) (entries : List ℕ) → HasEntries laid entries → 32766 < length entries → IsIndexOf laid None
 no_info laid entries h long = record { lists = h.lists; exact = h.exact; bytes = omega (arith, ap length h.are) }
 
-pub one_info : (laid : List (Option Laid)) (entries : List ℕ) (count : ℕ) (one info : List ℕ) → HasEntries laid entries → length entries ≤ 32766 → count ≡ count_by is_some laid
+pub one_info : (laid : List (Option Laid)) (entries : List ℕ) (count : ℕ) (one info : List ℕ) → HasEntries laid entries → length entries ≤ 32766
+    → count ≡ count_by is_some laid
     → one ≡ [] ++ big_bytes 2 count → info ≡ one ++ flat_map (big_bytes 2) entries → IsIndexOf laid (Some info)
 one_info laid entries count one info h few n a b =
     let number : count ≡ length h.lists = n ∙ lists_counted laid h.lists h.exact in
-    let e : info ≡ index_bytes h.lists = b ∙ ap (λ xs. xs ++ flat_map (big_bytes 2) entries) a ∙ ap (λ k. big_bytes 2 k ++ flat_map (big_bytes 2) entries) number ∙ ap (λ ns. big_bytes 2 (length h.lists) ++ flat_map (big_bytes 2) ns) h.are in
+    let e : info ≡ index_bytes h.lists = b ∙ ap (λ xs. xs ++ flat_map (big_bytes 2) entries) a
+    ∙ ap (λ k. big_bytes 2 k ++ flat_map (big_bytes 2) entries) number ∙ ap (λ ns. big_bytes 2 (length h.lists) ++ flat_map (big_bytes 2) ns)
+    h.are in
     let long : length (index_bytes h.lists) ≡ 2 * suc (length (entries_of h.lists)) = bytes_long (length h.lists ∷ entries_of h.lists) in
     record { lists = h.lists; exact = h.exact; bytes = (e, omega (arith, ap length e, ap length h.are)) }

@@ -1,5 +1,6 @@
 -- Flags of the targets of instructions.
-use Rattle.std.proofs.Common.{◌≡◌, ◌<◌, ◌≤◌, ◌+◌, ◌⊎◌, inl, inr, ⊎_elim, ℕ, zero, suc, Bool, true, false, cond, List, [], ◌∷◌, length, Some, refl, sym, ap, ◌∙◌, subst, arith, Contains}
+use Rattle.std.proofs.Common.{◌≡◌, ◌<◌, ◌≤◌, ◌+◌, ◌⊎◌, inl, inr, ⊎_elim, ℕ, zero, suc, Bool, true, false, cond, List, []}
+use Rattle.std.proofs.Common.{◌∷◌, length, Some, refl, sym, ap, ◌∙◌, subst, arith, Contains}
 use Rattle.std.specs.Prelude.{ℤ, pos, negsuc, replicate, slice_get, slice_set, nat_lt, ◌&&◌}
 use Rattle.std.proofs.lemmas.Bool.{false≢true, and_parts, lt-ltb, ltb-true}
 use Rattle.std.proofs.lemmas.List.{length-set, length-replicate}
@@ -48,7 +49,8 @@ mark_only : (place : ℕ → Bool) (fs : List Bool) (t : ℤ) (q : ℕ) → IsFl
 mark_only place fs (negsuc n) q h = inl h
 mark_only place fs (pos p) q h = by (place p && nat_lt p (length fs)) refl h
   where
-    by : (b : Bool) → (place p && nat_lt p (length fs)) ≡ b → IsFlagged (cond b (slice_set fs p true) fs) q → IsFlagged fs q ⊎ IsMarked place (pos p) q
+    by : (b : Bool) → (place p && nat_lt p (length fs)) ≡ b → IsFlagged (cond b (slice_set fs p true) fs) q → IsFlagged fs q
+        ⊎ IsMarked place (pos p) q
     by true e h =
         ⊎_elim inl
         (λ same. inr (record { is = ap pos (sym same); known = subst (λ k. place k ≡ true) (sym same) (and_parts (place p) (nat_lt p (length fs)) e).0 }))
@@ -65,7 +67,8 @@ marked_kept : (place : ℕ → Bool) (fs : List Bool) (ts : List ℤ) (q : ℕ) 
 marked_kept place fs [] q h = h
 marked_kept place fs (t ∷ ts) q h = marked_kept place (mark place fs t) ts q (mark_kept place fs t q h)
 
-marked_one : (place : ℕ → Bool) (fs : List Bool) (ts : List ℤ) (q : ℕ) → Contains ts (pos q) → place q ≡ true → q < length fs → IsFlagged (marked place fs ts) q
+marked_one : (place : ℕ → Bool) (fs : List Bool) (ts : List ℤ) (q : ℕ) → Contains ts (pos q) → place q ≡ true → q < length fs
+    → IsFlagged (marked place fs ts) q
 marked_one place fs [] q c e lt = absurd (nothing-in (pos q) c)
 marked_one place fs (t ∷ ts) q c e lt =
     ⊎_elim
@@ -77,11 +80,14 @@ record IsMarkedOf (place : ℕ → Bool) (ts : List ℤ) (q : ℕ) : Type 0 wher
   among : Contains ts (pos q)
   known : place q ≡ true
 
-marked_only : (place : ℕ → Bool) (fs : List Bool) (ts : List ℤ) (q : ℕ) → IsFlagged (marked place fs ts) q → IsFlagged fs q ⊎ IsMarkedOf place ts q
+marked_only : (place : ℕ → Bool) (fs : List Bool) (ts : List ℤ) (q : ℕ) → IsFlagged (marked place fs ts) q → IsFlagged fs q
+    ⊎ IsMarkedOf place ts q
 marked_only place fs [] q h = inl h
 marked_only place fs (t ∷ ts) q h =
     ⊎_elim
-    (λ before. ⊎_elim inl (λ m. inr (record { among = subst (λ s. Contains (s ∷ ts) (pos q)) (sym m.is) (Contains-first (pos q) ts); known = m.known })) (mark_only place fs t q before))
+    (λ before. ⊎_elim inl
+    (λ m. inr (record { among = subst (λ s. Contains (s ∷ ts) (pos q)) (sym m.is) (Contains-first (pos q) ts); known = m.known }))
+    (mark_only place fs t q before))
     (λ m. inr (record { among = Contains-later t ts (pos q) m.among; known = m.known }))
     (marked_only place (mark place fs t) ts q h)
 
@@ -91,15 +97,18 @@ all_long : (code : List ℕ) (place : ℕ → Bool) (fs : List Bool) (is : List 
 all_long code place fs [] = refl
 all_long code place fs (i ∷ is) = all_long code place (marked place fs (targets code i)) is ∙ marked_long place fs (targets code i)
 
-all_kept : (code : List ℕ) (place : ℕ → Bool) (fs : List Bool) (is : List Placed) (q : ℕ) → IsFlagged fs q → IsFlagged (all_marked code place fs is) q
+all_kept : (code : List ℕ) (place : ℕ → Bool) (fs : List Bool) (is : List Placed) (q : ℕ) → IsFlagged fs q
+    → IsFlagged (all_marked code place fs is) q
 all_kept code place fs [] q h = h
 all_kept code place fs (i ∷ is) q h = all_kept code place (marked place fs (targets code i)) is q (marked_kept place fs (targets code i) q h)
 
-all_one : (code : List ℕ) (place : ℕ → Bool) (fs : List Bool) (is : List Placed) (i : Placed) (q : ℕ) → Contains is i → Contains (targets code i) (pos q) → place q ≡ true → q < length fs → IsFlagged (all_marked code place fs is) q
+all_one : (code : List ℕ) (place : ℕ → Bool) (fs : List Bool) (is : List Placed) (i : Placed) (q : ℕ) → Contains is i
+    → Contains (targets code i) (pos q) → place q ≡ true → q < length fs → IsFlagged (all_marked code place fs is) q
 all_one code place fs [] i q c t e lt = absurd (nothing-in i c)
 all_one code place fs (j ∷ is) i q c t e lt =
     ⊎_elim
-    (λ here. all_kept code place (marked place fs (targets code j)) is q (marked_one place fs (targets code j) q (subst (λ k. Contains (targets code k) (pos q)) (sym here) t) e lt))
+    (λ here. all_kept code place (marked place fs (targets code j)) is q
+    (marked_one place fs (targets code j) q (subst (λ k. Contains (targets code k) (pos q)) (sym here) t) e lt))
     (λ later. all_one code place (marked place fs (targets code j)) is i q later t e (omega (arith, marked_long place fs (targets code j))))
     (Contains-either j is i c)
 
@@ -107,12 +116,15 @@ record IsMarkedIn (code : List ℕ) (place : ℕ → Bool) (is : List Placed) (q
   target : IsTargetIn code is q
   known : place q ≡ true
 
-all_only : (code : List ℕ) (place : ℕ → Bool) (fs : List Bool) (is : List Placed) (q : ℕ) → IsFlagged (all_marked code place fs is) q → IsFlagged fs q ⊎ IsMarkedIn code place is q
+all_only : (code : List ℕ) (place : ℕ → Bool) (fs : List Bool) (is : List Placed) (q : ℕ) → IsFlagged (all_marked code place fs is) q
+    → IsFlagged fs q ⊎ IsMarkedIn code place is q
 all_only code place fs [] q h = inl h
 all_only code place fs (i ∷ is) q h =
     ⊎_elim
-    (λ before. ⊎_elim inl (λ m. inr (record { target = record { from = i; stands = Contains-first i is; leads = m.among }; known = m.known })) (marked_only place fs (targets code i) q before))
-    (λ m. let t = m.target in inr (record { target = record { from = t.from; stands = Contains-later i is t.from t.stands; leads = t.leads }; known = m.known }))
+    (λ before. ⊎_elim inl (λ m. inr (record { target = record { from = i; stands = Contains-first i is; leads = m.among }; known = m.known }))
+    (marked_only place fs (targets code i) q before))
+    (λ m. let t = m.target in
+    inr (record { target = record { from = t.from; stands = Contains-later i is t.from t.stands; leads = t.leads }; known = m.known }))
     (all_only code place (marked place fs (targets code i)) is q h)
 
 -- ---- the places that are flagged
@@ -123,7 +135,8 @@ from_low k (true ∷ fs) zero p h = let e : k ≡ p = cc in omega arith
 from_low k (true ∷ fs) (suc n) p h = let r = from_low (k + 1) fs n p h in omega arith
 from_low k (false ∷ fs) n p h = let r = from_low (k + 1) fs n p h in omega arith
 
-rising : (k : ℕ) (fs : List Bool) (a b p q : ℕ) → slice_get (flagged_from k fs) a ≡ Some p → slice_get (flagged_from k fs) b ≡ Some q → a < b → p < q
+rising : (k : ℕ) (fs : List Bool) (a b p q : ℕ) → slice_get (flagged_from k fs) a ≡ Some p → slice_get (flagged_from k fs) b ≡ Some q → a < b
+    → p < q
 rising k [] a b p q h g lt = absurd (cc)
 rising k (false ∷ fs) a b p q h g lt = rising (k + 1) fs a b p q h g lt
 rising k (true ∷ fs) a zero p q h g lt = absurd (omega arith)
@@ -149,7 +162,8 @@ has_flag k (true ∷ fs) q c =
 
 flag_has : (k : ℕ) (fs : List Bool) (n : ℕ) → IsFlagged fs n → Contains (flagged_from k fs) (k + n)
 flag_has k [] n h = absurd (let r = flagged-inside [] n h in omega arith)
-flag_has k (true ∷ fs) zero h = let e : k ≡ k + 0 = omega arith in subst (Contains (k ∷ flagged_from (k + 1) fs)) e (Contains-first k (flagged_from (k + 1) fs))
+flag_has k (true ∷ fs) zero h =
+    let e : k ≡ k + 0 = omega arith in subst (Contains (k ∷ flagged_from (k + 1) fs)) e (Contains-first k (flagged_from (k + 1) fs))
 flag_has k (true ∷ fs) (suc n) h =
     let e : k + 1 + n ≡ k + suc n = omega arith in
     subst (Contains (k ∷ flagged_from (k + 1) fs)) e (Contains-later k (flagged_from (k + 1) fs) (k + 1 + n) (flag_has (k + 1) fs n h))
@@ -166,7 +180,9 @@ exact_of_flags code places fs index marks listed e f = subst (IsExactIndexOf cod
   ascending = λ k p q h g. rising 0 all k (k + 1) p q h g (omega arith);
   targets = λ q. (
     λ c. let r = has_flag 0 all q c in target q (subst (IsFlagged all) (omega (arith, r.place)) r.flagged),
-    λ t. subst (Contains (flagged_from 0 all)) (zero_and q) (flag_has 0 all q (all_one code (flag places) none (listing code) t.target.from q t.target.stands t.target.leads ((marks q).1 t.place) (inside q t.place))),
+    λ t. subst (Contains (flagged_from 0 all)) (zero_and q)
+        (flag_has 0 all q (all_one code (flag places) none (listing code) t.target.from q t.target.stands t.target.leads ((marks q).1 t.place)
+        (inside q t.place))),
   );
 })
   where
@@ -190,7 +206,8 @@ exact_of_flags code places fs index marks listed e f = subst (IsExactIndexOf cod
         (all_only code (flag places) none (listing code) q h)
 
 -- there are as many flags as the code has bytes
-pub flags_long : (code : List ℕ) (place : ℕ → Bool) (fs old : List Bool) (is : List Placed) → fs ≡ all_marked code place old is → length fs ≡ length old
+pub flags_long : (code : List ℕ) (place : ℕ → Bool) (fs old : List Bool) (is : List Placed) → fs ≡ all_marked code place old is
+    → length fs ≡ length old
 flags_long code place fs old is e = ap length e ∙ all_long code place old is
 
 pub flagged_few : (k : ℕ) (fs : List Bool) → length (flagged_from k fs) ≤ length fs

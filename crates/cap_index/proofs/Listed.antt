@@ -1,5 +1,6 @@
 -- What the index of a method is, by the package of the method.
-use Rattle.std.proofs.Common.{◌≡◌, ℕ, zero, suc, ◌+◌, ◌<◌, ◌≤◌, Bool, true, false, cond, List, [], ◌∷◌, ◌++◌, length, take, get_or, Option, Some, None, Result, Ok, Err, refl, sym, ap, subst, ◌∙◌, arith}
+use Rattle.std.proofs.Common.{◌≡◌, ℕ, zero, suc, ◌+◌, ◌<◌, ◌≤◌, Bool, true, false, cond, List, [], ◌∷◌, ◌++◌, length, take}
+use Rattle.std.proofs.Common.{get_or, Option, Some, None, Result, Ok, Err, refl, sym, ap, subst, ◌∙◌, arith}
 use Rattle.std.specs.Prelude.{slice_get, count_by, ◌==◌, ◌&&◌}
 use Rattle.std.proofs.lemmas.List.Sums.{count_by_more_yes, sum_by-cons}
 use Rattle.std.proofs.lemmas.Option.{slice_get_within, get_or_from_slice_get, slice_get-get_or, slice_get_past}
@@ -39,7 +40,8 @@ at-after lists before (x ∷ ms) (suc n) m e =
     one-by-one (z ∷ xs) y ys = ap (λ zs. z ∷ zs) (one-by-one xs y ys)
 
 module _ (ps : List PackageRecord) (ms : List MethodRec) where
-  at-number : (n : ℕ) (m : MethodRec) → slice_get ms n ≡ Some m → slice_get (indexes_of ps ms) n ≡ Some (index_after (package_lists ps ms) (take n ms) m)
+  at-number : (n : ℕ) (m : MethodRec) → slice_get ms n ≡ Some m
+      → slice_get (indexes_of ps ms) n ≡ Some (index_after (package_lists ps ms) (take n ms) m)
   unfolding indexes_of
   at-number n m e = at-after (package_lists ps ms) [] ms n m e
 
@@ -56,12 +58,14 @@ lists-here ms k (suc j) (q ∷ ps) p e =
     let next : k + 1 + j ≡ k + suc j = omega arith in
     lists-here ms (k + 1) j ps p e ∙ ap (λ n. lists_in (count_by (is_coded n) ms) (index_in p)) next
 
-lists-own : (ms : List MethodRec) (j : ℕ) (ps : List PackageRecord) (p : PackageRecord) → slice_get ps j ≡ Some p → list_at (package_lists ps ms) j ≡ lists_in (count_by (is_coded j) ms) (index_in p)
+lists-own : (ms : List MethodRec) (j : ℕ) (ps : List PackageRecord) (p : PackageRecord) → slice_get ps j ≡ Some p
+    → list_at (package_lists ps ms) j ≡ lists_in (count_by (is_coded j) ms) (index_in p)
 lists-own ms j ps p e =
     let first : 0 + j ≡ j = omega arith in
     lists-here ms 0 j ps p e ∙ ap (λ n. lists_in (count_by (is_coded n) ms) (index_in p)) first
 
-formed-lists : (n : ℕ) (p : PackageRecord) (info : List ℕ) (lists : List (List ℕ)) → index_in p ≡ Some info → Stands (index_info n) info lists → lists_in n (index_in p) ≡ lists
+formed-lists : (n : ℕ) (p : PackageRecord) (info : List ℕ) (lists : List (List ℕ)) → index_in p ≡ Some info → Stands (index_info n) info lists
+    → lists_in n (index_in p) ≡ lists
 formed-lists n p info lists e h = ap (lists_in n) e ∙ ap lists_read (reading_where (info_of 128) (index_info n) info lists h)
 
 -- a well-formed index has a list for each method with code
@@ -71,7 +75,8 @@ count-stands n info lists h =
     let counted = h.1.3 in
     let given = counted.3 in
     let last = given.3 in
-    ap length last.0 ∙ length-repeat (info_of 128) list_info n info h.1.1 counted.0 counted.1 (spelled-read (info_of 128) (repeat n list_info) info h.1.1 counted.0 counted.1 counted.2)
+    ap length last.0 ∙ length-repeat (info_of 128) list_info n info h.1.1 counted.0 counted.1
+    (spelled-read (info_of 128) (repeat n list_info) info h.1.1 counted.0 counted.1 counted.2)
 
 most : (f : MethodRec → Bool) (k : ℕ) (xs : List MethodRec) → count_by f (take k xs) ≤ count_by f xs
 most f zero xs = omega arith
@@ -82,7 +87,8 @@ most f (suc k) (x ∷ xs) =
     omega (arith, one, all, most f k xs)
 
 -- a method with code comes before the end of those of its package
-fewer-before : (f : MethodRec → Bool) (ms : List MethodRec) (n : ℕ) (m : MethodRec) → slice_get ms n ≡ Some m → f m ≡ true → count_by f (take n ms) < count_by f ms
+fewer-before : (f : MethodRec → Bool) (ms : List MethodRec) (n : ℕ) (m : MethodRec) → slice_get ms n ≡ Some m → f m ≡ true
+    → count_by f (take n ms) < count_by f ms
 fewer-before f ms n m at coded =
     let here : f (get_or ms n m) ≡ true = ap f (get_or_from_slice_get ms n m m at) ∙ coded in
     let more = count_by_more_yes f ms n m (slice_get_within ms n m at) here in
@@ -106,7 +112,9 @@ module _ (ps : List PackageRecord) (ms : List MethodRec) (n : ℕ) (m : MethodRe
       let own = lists-own ms m.package ps h.record_of h.is ∙ formed-lists (count_by (is_coded m.package) ms) h.record_of h.info lists h.named h.formed in (
         get_or lists number [],
         there,
-        at-number ps ms n m at ∙ ap Some (ap (λ b. cond b (slice_get (list_at (package_lists ps ms) m.package) number) None) code ∙ ap (λ xs. slice_get xs number) own ∙ there),
+        at-number ps ms n m at
+            ∙ ap Some (ap (λ b. cond b (slice_get (list_at (package_lists ps ms) m.package) number) None) code ∙ ap (λ xs. slice_get xs number) own
+            ∙ there),
       )
 
   bare-at : has_code m ≡ false → slice_get (indexes_of ps ms) n ≡ Some None
@@ -121,10 +129,20 @@ module _ (ps : List PackageRecord) (ms : List MethodRec) (n : ℕ) (m : MethodRe
     where
       by : (r : Result (List (List ℕ)) FormFault) → reading (info_of 128) (index_info (count_by (is_coded m.package) ms)) info ≡ r → lists_read r ≡ []
       by (Ok lists) read =
-          absurd (never lists (record { record_of = p; is = is; info = info; named = e; formed = stands (info_of 128) (index_info (count_by (is_coded m.package) ms)) info lists read }))
+          absurd
+          (never lists
+          (record {
+            record_of = p;
+            is = is;
+            info = info;
+            named = e;
+            formed = stands (info_of 128) (index_info (count_by (is_coded m.package) ms)) info
+                lists read;
+          }))
       by (Err fault) read = refl
 
-  empty-at : ((lists : List (List ℕ)) → ¬ (HasIndex ps ms m.package lists)) → (o : Option PackageRecord) → slice_get ps m.package ≡ o → list_at (package_lists ps ms) m.package ≡ []
+  empty-at : ((lists : List (List ℕ)) → ¬ (HasIndex ps ms m.package lists)) → (o : Option PackageRecord) → slice_get ps m.package ≡ o
+      → list_at (package_lists ps ms) m.package ≡ []
   empty-at never (Some p) e = lists-own ms m.package ps p e ∙ empty-by p e never (index_in p) refl
   empty-at never None e = past ms 0 ps m.package e
     where

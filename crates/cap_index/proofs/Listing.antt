@@ -1,5 +1,6 @@
 -- The indexes of methods, one after the other.
-use Rattle.std.proofs.Common.{◌≡◌, ℕ, zero, suc, ◌+◌, ◌<◌, Bool, true, false, List, [], ◌∷◌, ◌++◌, length, take, drop, get_or, Option, Some, None, refl, sym, ap, subst, ◌∙◌, arith, append_assoc}
+use Rattle.std.proofs.Common.{◌≡◌, ℕ, zero, suc, ◌+◌, ◌<◌, Bool, true, false, List, [], ◌∷◌, ◌++◌, length, take, drop, get_or, Option}
+use Rattle.std.proofs.Common.{Some, None, refl, sym, ap, subst, ◌∙◌, arith, append_assoc}
 use Rattle.std.specs.Prelude.{IsTrue, slice_get, count_by, ◌==◌, ◌&&◌}
 use Rattle.std.proofs.lemmas.Option.{slice_get-get_or}
 use Rattle.cap_bytes.specs.declared.cursor.Cursor.{Cursor}
@@ -52,10 +53,12 @@ pub lists-more : (ms : List MethodRec) (xs ys all : List (List (List ℕ))) (ps 
 lists-more ms xs ys all ps n p lists e is more so_far =
     let d : lists_after ms n (drop n ps) ≡ lists ∷ lists_after ms (n + 1) (drop (n + 1) ps) =
     ap (lists_after ms n) (drop_here ps n p e) ∙ ap (λ l. l ∷ lists_after ms (n + 1) (drop (n + 1) ps)) (sym is) in
-    ap (λ zs. zs ++ lists_after ms (n + 1) (drop (n + 1) ps)) more ∙ append_assoc xs (lists ∷ []) (lists_after ms (n + 1) (drop (n + 1) ps)) ∙ ap (λ zs. xs ++ zs) (sym d) ∙ so_far
+    ap (λ zs. zs ++ lists_after ms (n + 1) (drop (n + 1) ps)) more ∙ append_assoc xs (lists ∷ []) (lists_after ms (n + 1) (drop (n + 1) ps))
+    ∙ ap (λ zs. xs ++ zs) (sym d) ∙ so_far
 
 -- the index of one method more
-pub indexes-more : (lists : List (List (List ℕ))) (xs ys all : List (Option (List ℕ))) (ms : List MethodRec) (n : ℕ) (m : MethodRec) (index : Option (List ℕ))
+pub indexes-more : (lists : List (List (List ℕ))) (xs ys all : List (Option (List ℕ))) (ms : List MethodRec) (n : ℕ) (m : MethodRec)
+    (index : Option (List ℕ))
     → slice_get ms n ≡ Some m → index ≡ index_after lists (take n ms) m → ys ≡ xs ++ index ∷ []
     → xs ++ indexes_after lists (take n ms) (drop n ms) ≡ all → ys ++ indexes_after lists (take (n + 1) ms) (drop (n + 1) ms) ≡ all
 indexes-more lists xs ys all ms n m index e is more so_far =

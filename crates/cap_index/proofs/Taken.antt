@@ -1,5 +1,6 @@
 -- What is left of each package's lists, once those of some methods are taken.
-use Rattle.std.proofs.Common.{◌≡◌, ℕ, zero, suc, ◌+◌, ◌<◌, Bool, true, false, List, [], ◌∷◌, length, take, drop, get_or, eqb, cond, Option, Some, None, refl, sym, ap, subst, ◌∙◌, arith}
+use Rattle.std.proofs.Common.{◌≡◌, ℕ, zero, suc, ◌+◌, ◌<◌, Bool, true, false, List, [], ◌∷◌, length, take, drop, get_or, eqb, cond}
+use Rattle.std.proofs.Common.{Option, Some, None, refl, sym, ap, subst, ◌∙◌, arith}
 use Rattle.std.specs.Prelude.{slice_get, slice_set, count_by, ◌==◌, ◌&&◌}
 use Rattle.std.proofs.lemmas.Bool.{eqb-true, false≢true, eq-eqb}
 use Rattle.std.proofs.lemmas.List.Sums.{count_by_more_no, count_by_more_yes}
@@ -33,16 +34,22 @@ pub record AreLeft (lists : List (List (List ℕ))) (ms : List MethodRec) (n : �
 pub all-left : (lists : List (List (List ℕ))) (ms : List MethodRec) → AreLeft lists ms 0 lists
 all-left lists ms = record { size = refl; each = λ k. refl }
 
-pub taken-index : (lists left : List (List (List ℕ))) (ms : List MethodRec) (n : ℕ) (m : MethodRec) (index : Option (List ℕ)) → AreLeft lists ms n left → index ≡ list_taken left m → index ≡ index_after lists (take n ms) m
+pub taken-index : (lists left : List (List (List ℕ))) (ms : List MethodRec) (n : ℕ) (m : MethodRec) (index : Option (List ℕ))
+    → AreLeft lists ms n left → index ≡ list_taken left m → index ≡ index_after lists (take n ms) m
 unfolding index_after
 taken-index lists left ms n m index are is =
-    is ∙ ap (λ o. cond (has_code m) o None) (ap (λ l. slice_get l 0) (are.each m.package) ∙ first-after (list_at lists m.package) (count_by (is_coded m.package) (take n ms)))
+    is
+    ∙ ap (λ o. cond (has_code m) o None)
+    (ap (λ l. slice_get l 0) (are.each m.package) ∙ first-after (list_at lists m.package) (count_by (is_coded m.package) (take n ms)))
 
-dropped-by : (asked : Bool) (ms : List MethodRec) (n : ℕ) (m : MethodRec) (k : ℕ) (xs : List (List ℕ)) → slice_get ms n ≡ Some m → is_coded k m ≡ asked
-    → cond asked (drop 1 (drop (count_by (is_coded k) (take n ms)) xs)) (drop (count_by (is_coded k) (take n ms)) xs) ≡ drop (count_by (is_coded k) (take (n + 1) ms)) xs
+dropped-by : (asked : Bool) (ms : List MethodRec) (n : ℕ) (m : MethodRec) (k : ℕ) (xs : List (List ℕ)) → slice_get ms n ≡ Some m
+    → is_coded k m ≡ asked
+    → cond asked (drop 1 (drop (count_by (is_coded k) (take n ms)) xs)) (drop (count_by (is_coded k) (take n ms)) xs)
+    ≡ drop (count_by (is_coded k) (take (n + 1) ms)) xs
 dropped-by true ms n m k xs at asked =
     let here : is_coded k (get_or ms n m) ≡ true = ap (is_coded k) (get_or_from_slice_get ms n m m at) ∙ asked in
-    one-more-dropped xs (count_by (is_coded k) (take n ms)) ∙ ap (λ c. drop c xs) (sym (count_by_more_yes (is_coded k) ms n m (slice_get_within ms n m at) here))
+    one-more-dropped xs (count_by (is_coded k) (take n ms))
+    ∙ ap (λ c. drop c xs) (sym (count_by_more_yes (is_coded k) ms n m (slice_get_within ms n m at) here))
 dropped-by false ms n m k xs at asked =
     let here : is_coded k (get_or ms n m) ≡ false = ap (is_coded k) (get_or_from_slice_get ms n m m at) ∙ asked in
     ap (λ c. drop c xs) (sym (count_by_more_no (is_coded k) ms n m (slice_get_within ms n m at) here))
@@ -71,7 +78,8 @@ set-other (ys ∷ yss) zero (suc k) xs ne = refl
 set-other (ys ∷ yss) (suc n) zero xs ne = refl
 set-other (ys ∷ yss) (suc n) (suc k) xs ne = set-other yss n k xs (λ e. ne (ap suc e))
 
-set-by : (same : Bool) (xss : List (List (List ℕ))) (n k : ℕ) (xs : List (List ℕ)) → n < length xss → (n == k) ≡ same → xs ≡ drop 1 (list_at xss n)
+set-by : (same : Bool) (xss : List (List (List ℕ))) (n k : ℕ) (xs : List (List ℕ)) → n < length xss → (n == k) ≡ same
+    → xs ≡ drop 1 (list_at xss n)
     → list_at (slice_set xss n xs) k ≡ cond (same && true) (drop 1 (list_at xss k)) (list_at xss k)
 set-by true xss n k xs lt e is =
     let at : n ≡ k = eqb-true n k e in
@@ -79,8 +87,10 @@ set-by true xss n k xs lt e is =
 set-by false xss n k xs lt e is = set-other xss n k xs (λ same. false≢true (sym e ∙ eq-eqb n k same))
 
 -- a method with code has taken the first list of its package
-pub taken-with : (xss : List (List (List ℕ))) (m : MethodRec) (xs : List (List ℕ)) (index : Option (List ℕ)) → m.package < length xss → has_code m ≡ true
-    → index ≡ slice_get (list_at xss m.package) 0 → xs ≡ drop 1 (list_at xss m.package) → length (slice_set xss m.package xs) ≡ length xss → IsTakenFrom xss m index (slice_set xss m.package xs)
+pub taken-with : (xss : List (List (List ℕ))) (m : MethodRec) (xs : List (List ℕ)) (index : Option (List ℕ)) → m.package < length xss
+    → has_code m ≡ true
+    → index ≡ slice_get (list_at xss m.package) 0 → xs ≡ drop 1 (list_at xss m.package) → length (slice_set xss m.package xs) ≡ length xss
+    → IsTakenFrom xss m index (slice_set xss m.package xs)
 taken-with xss m xs index lt code is rest size = record {
   is = is ∙ ap (λ b. cond b (slice_get (list_at xss m.package) 0) None) (sym code);
   size = size;
@@ -89,7 +99,8 @@ taken-with xss m xs index lt code is rest size = record {
       ∙ ap (λ b. cond ((m.package == k) && b) (drop 1 (list_at xss k)) (list_at xss k)) (sym code);
 }
 
-none-taken : (b : Bool) (k : ℕ) (m : MethodRec) (xss : List (List (List ℕ))) → has_code m ≡ false → (m.package == k) ≡ b → list_at xss k ≡ cond (is_coded k m) (drop 1 (list_at xss k)) (list_at xss k)
+none-taken : (b : Bool) (k : ℕ) (m : MethodRec) (xss : List (List (List ℕ))) → has_code m ≡ false → (m.package == k) ≡ b
+    → list_at xss k ≡ cond (is_coded k m) (drop 1 (list_at xss k)) (list_at xss k)
 none-taken true k m xss code e =
     let no : is_coded k m ≡ false = ap (λ b. b && has_code m) e ∙ code in
     ap (λ b. cond b (drop 1 (list_at xss k)) (list_at xss k)) (sym no)

@@ -1,6 +1,7 @@
 -- The info of the target index, a custom component (JCVM 2.2, section 6.1.2): numbers of two bytes, how many methods have
 -- code, and of each that has code how many places its exact index has, and these places.
-use Rattle.std.specs.Prelude.{◌≡◌, ◌≤◌, ◌<◌, ◌+◌, ◌*◌, ℕ, List, [], ◌∷◌, ◌++◌, length, Option, Some, None, option_map, Vec}
+use Rattle.std.specs.Prelude.{◌≡◌, ◌≤◌, ◌<◌, ◌+◌, ◌*◌, ℕ, List, [], ◌∷◌, ◌++◌, length, Option, Some}
+use Rattle.std.specs.Prelude.{None, option_map, Vec}
 use Rattle.std.specs.List.{flat_map}
 use Rattle.byteorder.specs.Endian.{big_bytes}
 use Rattle.jc_decode.specs.declared.symbols.Laid.{Laid}

@@ -1,5 +1,6 @@
 -- The info that is written stands for its handler table, and has each method at its place.
-use Rattle.std.proofs.Common.{◌≡◌, ℕ, zero, suc, ◌+◌, ◌*◌, ◌%◌, ◌^◌, ◌≤◌, ◌<◌, List, [], ◌∷◌, ◌++◌, length, take, drop, Option, Some, None, Bool, true, false, refl, ap, subst, ◌∙◌, arith, append_assoc, length-append}
+use Rattle.std.proofs.Common.{◌≡◌, ℕ, zero, suc, ◌+◌, ◌*◌, ◌%◌, ◌^◌, ◌≤◌, ◌<◌, List, [], ◌∷◌, ◌++◌, length, take}
+use Rattle.std.proofs.Common.{drop, Option, Some, None, Bool, true, false, refl, ap, subst, ◌∙◌, arith, append_assoc, length-append}
 use Rattle.std.specs.Prelude.{nat_le, if◌then◌else◌, slice_index_or}
 use Rattle.std.proofs.lemmas.List.{drop_at, take_at, append-nil}
 use Rattle.byteorder.specs.Endian.{big_bytes}
@@ -28,22 +29,44 @@ entry_written total at e small =
     let p1 = at + length (big_bytes 2 e.start) in
     let p2 = p1 + length (big_bytes 2 a) in
     let p3 = p2 + length (big_bytes 2 e.entry) in
-    let four : SpellsInPlace total (u2 >>= λ index. give (record { start = e.start; stop = nat_le (2 ^ 15) a; length = a % 2 ^ 15; entry = e.entry; index = index })) p3 (big_bytes 2 e.index ++ []) read =
-    writes_then total p3 u2 (λ index. give (record { start = e.start; stop = nat_le (2 ^ 15) a; length = a % 2 ^ 15; entry = e.entry; index = index })) (big_bytes 2 e.index) [] e.index read (writes_u2 total e.index p3 small.index) (writes_give total (p3 + length (big_bytes 2 e.index)) read) in
-    let four' : SpellsInPlace total (u2 >>= λ index. give (record { start = e.start; stop = nat_le (2 ^ 15) a; length = a % 2 ^ 15; entry = e.entry; index = index })) p3 (big_bytes 2 e.index) read = subst (λ xs. SpellsInPlace total (u2 >>= λ index. give (record { start = e.start; stop = nat_le (2 ^ 15) a; length = a % 2 ^ 15; entry = e.entry; index = index })) p3 xs read) (append-nil (big_bytes 2 e.index)) four in
-    let three : SpellsInPlace total (u2 >>= λ entry. u2 >>= λ index. give (record { start = e.start; stop = nat_le (2 ^ 15) a; length = a % 2 ^ 15; entry = entry; index = index })) p2 (big_bytes 2 e.entry ++ big_bytes 2 e.index) read =
-    writes_then total p2 u2 (λ entry. u2 >>= λ index. give (record { start = e.start; stop = nat_le (2 ^ 15) a; length = a % 2 ^ 15; entry = entry; index = index })) (big_bytes 2 e.entry) (big_bytes 2 e.index) e.entry read (writes_u2 total e.entry p2 small.entry) four' in
-    let two : SpellsInPlace total (u2 >>= λ active. u2 >>= λ entry. u2 >>= λ index. give (record { start = e.start; stop = nat_le (2 ^ 15) active; length = active % 2 ^ 15; entry = entry; index = index })) p1 (big_bytes 2 a ++ (big_bytes 2 e.entry ++ big_bytes 2 e.index)) read =
-    writes_then total p1 u2 (λ active. u2 >>= λ entry. u2 >>= λ index. give (record { start = e.start; stop = nat_le (2 ^ 15) active; length = active % 2 ^ 15; entry = entry; index = index })) (big_bytes 2 a) (big_bytes 2 e.entry ++ big_bytes 2 e.index) a read (writes_u2 total a p1 facts.0) three in
+    let four : SpellsInPlace total
+    (u2 >>= λ index. give (record { start = e.start; stop = nat_le (2 ^ 15) a; length = a % 2 ^ 15; entry = e.entry; index = index })) p3
+    (big_bytes 2 e.index ++ []) read =
+    writes_then total p3 u2 (λ index. give (record { start = e.start; stop = nat_le (2 ^ 15) a; length = a % 2 ^ 15; entry = e.entry; index = index }))
+    (big_bytes 2 e.index) [] e.index read (writes_u2 total e.index p3 small.index) (writes_give total (p3 + length (big_bytes 2 e.index)) read) in
+    let four' : SpellsInPlace total
+    (u2 >>= λ index. give (record { start = e.start; stop = nat_le (2 ^ 15) a; length = a % 2 ^ 15; entry = e.entry; index = index })) p3
+    (big_bytes 2 e.index) read = subst
+    (λ xs. SpellsInPlace total
+    (u2 >>= λ index. give (record { start = e.start; stop = nat_le (2 ^ 15) a; length = a % 2 ^ 15; entry = e.entry; index = index })) p3 xs read)
+    (append-nil (big_bytes 2 e.index)) four in
+    let three : SpellsInPlace total
+    (u2 >>= λ entry. u2 >>= λ index. give (record { start = e.start; stop = nat_le (2 ^ 15) a; length = a % 2 ^ 15; entry = entry; index = index }))
+    p2 (big_bytes 2 e.entry ++ big_bytes 2 e.index) read =
+    writes_then total p2 u2
+    (λ entry. u2 >>= λ index. give (record { start = e.start; stop = nat_le (2 ^ 15) a; length = a % 2 ^ 15; entry = entry; index = index }))
+    (big_bytes 2 e.entry) (big_bytes 2 e.index) e.entry read (writes_u2 total e.entry p2 small.entry) four' in
+    let two : SpellsInPlace total
+    (u2 >>= λ active. u2 >>= λ entry. u2 >>= λ index. give
+    (record { start = e.start; stop = nat_le (2 ^ 15) active; length = active % 2 ^ 15; entry = entry; index = index })) p1
+    (big_bytes 2 a ++ (big_bytes 2 e.entry ++ big_bytes 2 e.index)) read =
+    writes_then total p1 u2
+    (λ active. u2 >>= λ entry. u2 >>= λ index. give
+    (record { start = e.start; stop = nat_le (2 ^ 15) active; length = active % 2 ^ 15; entry = entry; index = index })) (big_bytes 2 a)
+    (big_bytes 2 e.entry ++ big_bytes 2 e.index) a read (writes_u2 total a p1 facts.0) three in
     let one : SpellsInPlace total handler_info at (big_bytes 2 e.start ++ (big_bytes 2 a ++ (big_bytes 2 e.entry ++ big_bytes 2 e.index))) read =
-    writes_then total at u2 (λ start. u2 >>= λ active. u2 >>= λ entry. u2 >>= λ index. give (record { start = start; stop = nat_le (2 ^ 15) active; length = active % 2 ^ 15; entry = entry; index = index })) (big_bytes 2 e.start) (big_bytes 2 a ++ (big_bytes 2 e.entry ++ big_bytes 2 e.index)) e.start read (writes_u2 total e.start at small.start) two in
+    writes_then total at u2
+    (λ start. u2 >>= λ active. u2 >>= λ entry. u2 >>= λ index. give
+    (record { start = start; stop = nat_le (2 ^ 15) active; length = active % 2 ^ 15; entry = entry; index = index })) (big_bytes 2 e.start)
+    (big_bytes 2 a ++ (big_bytes 2 e.entry ++ big_bytes 2 e.index)) e.start read (writes_u2 total e.start at small.start) two in
     let same : read ≡ e = rw (facts.1, facts.2) refl in
     subst (λ x. SpellsInPlace total handler_info at (big_bytes 2 e.start ++ (big_bytes 2 a ++ (big_bytes 2 e.entry ++ big_bytes 2 e.index))) x) same one
   where
     active_facts : (e : HandlerInfo) → e.length < 32768 → (active e < 65536) × (nat_le (2 ^ 15) (active e) ≡ e.stop) × (active e % 2 ^ 15 ≡ e.length)
     active_facts e h = by e.stop
       where
-        by : (b : Bool) → ((if b then 32768 + e.length else e.length) < 65536) × (nat_le (2 ^ 15) (if b then 32768 + e.length else e.length) ≡ b) × ((if b then 32768 + e.length else e.length) % 2 ^ 15 ≡ e.length)
+        by : (b : Bool) → ((if b then 32768 + e.length else e.length) < 65536) × (nat_le (2 ^ 15) (if b then 32768 + e.length else e.length) ≡ b)
+            × ((if b then 32768 + e.length else e.length) % 2 ^ 15 ≡ e.length)
         by true = (omega arith, grind arith, omega arith)
         by false = (omega arith, grind arith, omega arith)
 
@@ -52,9 +75,12 @@ table_written total at [] small = writes_give total at []
 table_written total at (e ∷ es) small =
     let next = at + length (entry_bytes e) in
     let more : SpellsInPlace total (repeat (length es) handler_info >>= λ xs. give (e ∷ xs)) next (table_bytes es ++ []) (e ∷ es) =
-    writes_then total next (repeat (length es) handler_info) (λ xs. give (e ∷ xs)) (table_bytes es) [] es (e ∷ es) (table_written total next es small.1) (writes_give total (next + length (table_bytes es)) (e ∷ es)) in
-    let more' : SpellsInPlace total (repeat (length es) handler_info >>= λ xs. give (e ∷ xs)) next (table_bytes es) (e ∷ es) = subst (λ xs. SpellsInPlace total (repeat (length es) handler_info >>= λ xs. give (e ∷ xs)) next xs (e ∷ es)) (append-nil (table_bytes es)) more in
-    writes_then total at handler_info (λ x. repeat (length es) handler_info >>= λ xs. give (x ∷ xs)) (entry_bytes e) (table_bytes es) e (e ∷ es) (entry_written total at e small.0) more'
+    writes_then total next (repeat (length es) handler_info) (λ xs. give (e ∷ xs)) (table_bytes es) [] es (e ∷ es)
+    (table_written total next es small.1) (writes_give total (next + length (table_bytes es)) (e ∷ es)) in
+    let more' : SpellsInPlace total (repeat (length es) handler_info >>= λ xs. give (e ∷ xs)) next (table_bytes es) (e ∷ es) = subst
+    (λ xs. SpellsInPlace total (repeat (length es) handler_info >>= λ xs. give (e ∷ xs)) next xs (e ∷ es)) (append-nil (table_bytes es)) more in
+    writes_then total at handler_info (λ x. repeat (length es) handler_info >>= λ xs. give (x ∷ xs)) (entry_bytes e) (table_bytes es) e (e ∷ es)
+    (entry_written total at e small.0) more'
 
 length_entry : (e : HandlerInfo) → length (entry_bytes e) ≡ 8
 unfolding entry_bytes
@@ -90,23 +116,30 @@ writes_rest total at bytes e = record {
     nil [] h = refl
     nil (x ∷ xs) h = absurd (omega arith)
 
-info_stands : (es : List HandlerInfo) (tail : List ℕ) → length es ≤ 255 → AreSmallEntries es → Stands methods_info (length es ∷ (table_bytes es ++ tail)) es
+info_stands : (es : List HandlerInfo) (tail : List ℕ) → length es ≤ 255 → AreSmallEntries es
+    → Stands methods_info (length es ∷ (table_bytes es ++ tail)) es
 info_stands es tail few small =
     let n = length es in
     let info = n ∷ (table_bytes es ++ tail) in
     let total = length info in
     let at = 1 + length (table_bytes es) in
     let long : total ≡ at + length tail = omega (arith, length-append (table_bytes es) tail) in
-    let list : SpellsInPlace total (counted handler_info) 0 (n ∷ table_bytes es) es = writes_then total 0 u1 (λ k. repeat k handler_info) (n ∷ []) (table_bytes es) n es (writes_u1 total n 0 (omega arith)) (table_written total 1 es small) in
+    let list : SpellsInPlace total (counted handler_info) 0 (n ∷ table_bytes es) es = writes_then total 0 u1 (λ k. repeat k handler_info) (n ∷ [])
+    (table_bytes es) n es (writes_u1 total n 0 (omega arith)) (table_written total 1 es small) in
     let after : SpellsInPlace total (rest >>= λ methods. give es) (0 + length (n ∷ table_bytes es)) (tail ++ []) es =
-    writes_then total (0 + length (n ∷ table_bytes es)) rest (λ methods. give es) tail [] tail es (writes_rest total (0 + length (n ∷ table_bytes es)) tail (omega arith)) (writes_give total (0 + length (n ∷ table_bytes es) + length tail) es) in
-    let after' : SpellsInPlace total (rest >>= λ methods. give es) (0 + length (n ∷ table_bytes es)) tail es = subst (λ xs. SpellsInPlace total (rest >>= λ methods. give es) (0 + length (n ∷ table_bytes es)) xs es) (append-nil tail) after in
-    let whole : SpellsInPlace total methods_info 0 ((n ∷ table_bytes es) ++ tail) es = writes_then total 0 (counted handler_info) (λ handlers. rest >>= λ methods. give handlers) (n ∷ table_bytes es) tail es es list after' in
+    writes_then total (0 + length (n ∷ table_bytes es)) rest (λ methods. give es) tail [] tail es
+    (writes_rest total (0 + length (n ∷ table_bytes es)) tail (omega arith))
+    (writes_give total (0 + length (n ∷ table_bytes es) + length tail) es) in
+    let after' : SpellsInPlace total (rest >>= λ methods. give es) (0 + length (n ∷ table_bytes es)) tail es = subst
+    (λ xs. SpellsInPlace total (rest >>= λ methods. give es) (0 + length (n ∷ table_bytes es)) xs es) (append-nil tail) after in
+    let whole : SpellsInPlace total methods_info 0 ((n ∷ table_bytes es) ++ tail) es = writes_then total 0 (counted handler_info)
+    (λ handlers. rest >>= λ methods. give handlers) (n ∷ table_bytes es) tail es es list after' in
     writes_stands methods_info info es whole
 
 -- ---- each method at its place
 
-pub bodies_there : (table : List (Option WrittenMember)) (lead : List ℕ) (at n : ℕ) (m : WrittenMember) → length lead ≡ at → slice_index_or table n None ≡ Some m → take (body_size m.body) (drop (place_in_table at table n) (lead ++ bodies table)) ≡ body_bytes m.body
+pub bodies_there : (table : List (Option WrittenMember)) (lead : List ℕ) (at n : ℕ) (m : WrittenMember) → length lead ≡ at
+    → slice_index_or table n None ≡ Some m → take (body_size m.body) (drop (place_in_table at table n) (lead ++ bodies table)) ≡ body_bytes m.body
 bodies_there [] lead at n m l e = absurd (cc)
 bodies_there (None ∷ ms) lead at zero m l e = absurd (cc)
 bodies_there (Some k ∷ ms) lead at zero m l e =
@@ -125,7 +158,8 @@ bodies_there (s ∷ ms) lead at (suc n) m l e =
     length_slot None = refl
     length_slot (Some m) = length_body m.body
 
-pub info_written : (entries : List HandlerInfo) (table : List (Option WrittenMember)) → length entries ≤ 255 → AreSmallEntries entries → IsInfoWritten entries table (method_info entries table)
+pub info_written : (entries : List HandlerInfo) (table : List (Option WrittenMember)) → length entries ≤ 255 → AreSmallEntries entries
+    → IsInfoWritten entries table (method_info entries table)
 info_written entries table few small = record {
   stands = info_stands entries (bodies table) few small;
   bodies = λ n m e. bodies_there table (length entries ∷ table_bytes entries) (methods_start entries) n m (omega (arith, length_table entries)) e;

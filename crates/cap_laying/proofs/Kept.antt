@@ -1,5 +1,6 @@
 -- The custom components that stay.
-use Rattle.std.proofs.Common.{◌≡◌, ◌≤◌, ◌<◌, ◌+◌, ◌*◌, ◌-◌, ℕ, zero, suc, List, [], ◌∷◌, ◌++◌, length, drop, Bool, true, false, cond, slice_index, Some, refl, sym, ap, ◌∙◌, arith, append_assoc}
+use Rattle.std.proofs.Common.{◌≡◌, ◌≤◌, ◌<◌, ◌+◌, ◌*◌, ◌-◌, ℕ, zero, suc, List, [], ◌∷◌, ◌++◌, length, drop, Bool, true}
+use Rattle.std.proofs.Common.{false, cond, slice_index, Some, refl, sym, ap, ◌∙◌, arith, append_assoc}
 use Rattle.std.specs.Prelude.{filter, nat_le, slice_get}
 use Rattle.std.specs.Option.{unwrap_or}
 use Rattle.std.proofs.lemmas.Bool.{le-leb}
@@ -23,17 +24,20 @@ count_more change c cs = by (stays_in_index change c)
     by true = omega arith
     by false = omega arith
 
-size_kept : (change : IndexChange) (c : Custom) (cs : List Custom) → customs_size (kept change (c ∷ cs)) ≡ kept_size change c + customs_size (kept change cs)
+size_kept : (change : IndexChange) (c : Custom) (cs : List Custom) → customs_size (kept change (c ∷ cs)) ≡ kept_size change c + customs_size
+    (kept change cs)
 size_kept change c cs = by (stays_in_index change c)
   where
     by : (b : Bool) → customs_size (cond b (c ∷ kept change cs) (kept change cs)) ≡ cond b (4 + length c.aid) 0 + customs_size (kept change cs)
     by true = refl
     by false = omega arith
 
-bytes_more : (change : IndexChange) (c : Custom) (cs : List Custom) → flat_map custom_bytes (kept change (c ∷ cs)) ≡ kept_bytes change c ++ flat_map custom_bytes (kept change cs)
+bytes_more : (change : IndexChange) (c : Custom) (cs : List Custom) → flat_map custom_bytes (kept change (c ∷ cs)) ≡ kept_bytes change c ++ flat_map
+    custom_bytes (kept change cs)
 bytes_more change c cs = by (stays_in_index change c)
   where
-    by : (b : Bool) → flat_map custom_bytes (cond b (c ∷ kept change cs) (kept change cs)) ≡ cond b (custom_bytes c) [] ++ flat_map custom_bytes (kept change cs)
+    by : (b : Bool) → flat_map custom_bytes (cond b (c ∷ kept change cs) (kept change cs)) ≡ cond b (custom_bytes c) [] ++ flat_map custom_bytes
+        (kept change cs)
     by true = refl
     by false = refl
 
@@ -73,7 +77,9 @@ pub record IsMeasured (change : IndexChange) (all : List Custom) (count size : �
   pub counted : count + length (kept change left) ≡ length (kept change all)
   pub sized : size + customs_size (kept change left) ≡ customs_size (kept change all)
 
-pub measured_more : (change : IndexChange) (all : List Custom) (count size : ℕ) (left : List Custom) (c : Custom) (cs : List Custom) (next bytes : ℕ) → IsMeasured change all count size left → left ≡ c ∷ cs → next ≡ count + kept_count change c → bytes ≡ size + kept_size change c → IsMeasured change all next bytes cs
+pub measured_more : (change : IndexChange) (all : List Custom) (count size : ℕ) (left : List Custom) (c : Custom) (cs : List Custom) (next bytes : ℕ)
+    → IsMeasured change all count size left → left ≡ c ∷ cs → next ≡ count + kept_count change c → bytes ≡ size + kept_size change c
+    → IsMeasured change all next bytes cs
 measured_more change all count size left c cs next bytes m e n b =
     let a = ap (λ xs. length (kept change xs)) e ∙ count_more change c cs in
     let d = ap (λ xs. customs_size (kept change xs)) e ∙ size_kept change c cs in
@@ -88,7 +94,8 @@ pub record IsNextCustom (change : IndexChange) (all : List Custom) (count size :
   pub counted : count + kept_count change c ≤ length all
   pub sized : size + kept_size change c ≤ 20 * length all
 
-pub next_custom : (change : IndexChange) (all : List Custom) (count size : ℕ) (left : List Custom) (c : Custom) (cs : List Custom) → AreShort all → IsMeasured change all count size left → left ≡ c ∷ cs → IsNextCustom change all count size c
+pub next_custom : (change : IndexChange) (all : List Custom) (count size : ℕ) (left : List Custom) (c : Custom) (cs : List Custom) → AreShort all
+    → IsMeasured change all count size left → left ≡ c ∷ cs → IsNextCustom change all count size c
 next_custom change all count size left c cs shorts m e =
     let a = ap (λ xs. length (kept change xs)) e ∙ count_more change c cs in
     let d = ap (λ xs. customs_size (kept change xs)) e ∙ size_kept change c cs in
@@ -100,18 +107,23 @@ next_custom change all count size left c cs shorts m e =
     record { short = short.0; counted = omega arith; sized = omega arith }
 
 -- one more was put
-pub put_more : (change : IndexChange) (c : Custom) (cs all : List Custom) (now new whole : List ℕ) → all ≡ c ∷ cs → new ≡ now ++ kept_bytes change c → now ++ flat_map custom_bytes (kept change all) ≡ whole → new ++ flat_map custom_bytes (kept change cs) ≡ whole
+pub put_more : (change : IndexChange) (c : Custom) (cs all : List Custom) (now new whole : List ℕ) → all ≡ c ∷ cs
+    → new ≡ now ++ kept_bytes change c → now ++ flat_map custom_bytes (kept change all) ≡ whole → new ++ flat_map custom_bytes (kept change cs)
+    ≡ whole
 put_more change c cs all now new whole e n h =
     ap (λ xs. xs ++ flat_map custom_bytes (kept change cs)) n ∙ append_assoc now (kept_bytes change c) (flat_map custom_bytes (kept change cs))
     ∙ ap (λ xs. now ++ xs) (sym (bytes_more change c cs) ∙ ap (λ xs. flat_map custom_bytes (kept change xs)) (sym e)) ∙ h
 
 -- one more size was put
-pub size_more : (own : ℕ) (new : ComponentSizes) (tag : ℕ) (sizes : List ℕ) (k : ℕ) (now next whole : List ℕ) → k < length sizes → next ≡ now ++ big_bytes 2 (new_size own new tag (slice_index sizes k))
-    → now ++ flat_map (big_bytes 2) (sizes_from own new tag (drop k sizes)) ≡ whole → next ++ flat_map (big_bytes 2) (sizes_from own new (tag + 1) (drop (k + 1) sizes)) ≡ whole
+pub size_more : (own : ℕ) (new : ComponentSizes) (tag : ℕ) (sizes : List ℕ) (k : ℕ) (now next whole : List ℕ) → k < length sizes
+    → next ≡ now ++ big_bytes 2 (new_size own new tag (slice_index sizes k))
+    → now ++ flat_map (big_bytes 2) (sizes_from own new tag (drop k sizes)) ≡ whole
+    → next ++ flat_map (big_bytes 2) (sizes_from own new (tag + 1) (drop (k + 1) sizes)) ≡ whole
 size_more own new tag sizes k now next whole lt n h =
     let rest = flat_map (big_bytes 2) (sizes_from own new (tag + 1) (drop (k + 1) sizes)) in
     let first = big_bytes 2 (new_size own new tag (slice_index sizes k)) in
-    ap (λ xs. xs ++ rest) n ∙ append_assoc now first rest ∙ ap (λ ss. now ++ flat_map (big_bytes 2) (sizes_from own new tag ss)) (sym (drop_more sizes k 0 lt)) ∙ h
+    ap (λ xs. xs ++ rest) n ∙ append_assoc now first rest ∙ ap (λ ss. now ++ flat_map (big_bytes 2) (sizes_from own new tag ss))
+    (sym (drop_more sizes k 0 lt)) ∙ h
 
 pub size_both : (xs ys : List Custom) → customs_size (xs ++ ys) ≡ customs_size xs + customs_size ys
 size_both [] ys = omega arith
@@ -119,7 +131,8 @@ size_both (x ∷ xs) ys = let r = size_both xs ys in omega arith
 
 bytes_both : (xs ys : List Custom) → flat_map custom_bytes (xs ++ ys) ≡ flat_map custom_bytes xs ++ flat_map custom_bytes ys
 bytes_both [] ys = refl
-bytes_both (x ∷ xs) ys = ap (λ bs. custom_bytes x ++ bs) (bytes_both xs ys) ∙ sym (append_assoc (custom_bytes x) (flat_map custom_bytes xs) (flat_map custom_bytes ys))
+bytes_both (x ∷ xs) ys =
+    ap (λ bs. custom_bytes x ++ bs) (bytes_both xs ys) ∙ sym (append_assoc (custom_bytes x) (flat_map custom_bytes xs) (flat_map custom_bytes ys))
 
 count_both : (xs ys : List Custom) → length (xs ++ ys) ≡ length xs + length ys
 count_both [] ys = omega arith
@@ -129,7 +142,8 @@ count_both (x ∷ xs) ys = let r = count_both xs ys in omega arith
 pub directory_steps : (new : ComponentSizes) (d : DirectoryItems) (own count : ℕ) (first second third fourth fifth : List ℕ)
     → own ≡ 2 * length d.sizes + 9 + (customs_size (kept new.index d.customs) + customs_size (index_entry new.index))
     → count ≡ length (kept new.index d.customs) + length (index_entry new.index)
-    → second ≡ first ++ head_of own new d → third ≡ second ++ count ∷ [] → fourth ≡ third ++ flat_map custom_bytes (kept new.index d.customs) → fifth ≡ fourth ++ flat_map custom_bytes (index_entry new.index)
+    → second ≡ first ++ head_of own new d → third ≡ second ++ count ∷ [] → fourth ≡ third ++ flat_map custom_bytes (kept new.index d.customs)
+    → fifth ≡ fourth ++ flat_map custom_bytes (index_entry new.index)
     → fifth ≡ first ++ directory_bytes (new_directory new d)
 unfolding directory_bytes
 directory_steps new d own count first second third fourth fifth o k a b c e =
@@ -138,8 +152,10 @@ directory_steps new d own count first second third fourth fifth o k a b c e =
     let size : own ≡ 2 * length d.sizes + 9 + customs_size (xs ++ ys) = omega (arith, size_both xs ys) in
     let number : count ≡ length (xs ++ ys) = omega (arith, count_both xs ys) in
     let tail : fifth ≡ ((first ++ head_of own new d) ++ count ∷ []) ++ flat_map custom_bytes xs ++ flat_map custom_bytes ys = rw (e, c, b, a) refl in
-    let right : ((first ++ head_of own new d) ++ count ∷ []) ++ flat_map custom_bytes xs ++ flat_map custom_bytes ys ≡ first ++ (head_of own new d ++ (count ∷ (flat_map custom_bytes xs ++ flat_map custom_bytes ys))) = simp append_assoc in
-    tail ∙ right ∙ ap (λ bs. first ++ (head_of own new d ++ (count ∷ bs))) (sym (bytes_both xs ys)) ∙ ap (λ n. first ++ (head_of own new d ++ (n ∷ flat_map custom_bytes (xs ++ ys)))) number
+    let right : ((first ++ head_of own new d) ++ count ∷ []) ++ flat_map custom_bytes xs ++ flat_map custom_bytes ys
+    ≡ first ++ (head_of own new d ++ (count ∷ (flat_map custom_bytes xs ++ flat_map custom_bytes ys))) = simp append_assoc in
+    tail ∙ right ∙ ap (λ bs. first ++ (head_of own new d ++ (count ∷ bs))) (sym (bytes_both xs ys))
+    ∙ ap (λ n. first ++ (head_of own new d ++ (n ∷ flat_map custom_bytes (xs ++ ys)))) number
     ∙ ap (λ n. first ++ (head_of n new d ++ (length (xs ++ ys) ∷ flat_map custom_bytes (xs ++ ys)))) size
 
 -- ---- a size as it was

@@ -1,5 +1,6 @@
 -- The items of the new Directory may stand, where those of the source may.
-use Rattle.std.proofs.Common.{◌≡◌, ◌≤◌, ◌<◌, ◌+◌, ◌*◌, ℕ, zero, suc, Bool, true, false, cond, List, [], ◌∷◌, ◌++◌, length, refl, sym, ap, ◌∙◌, arith, length-append}
+use Rattle.std.proofs.Common.{◌≡◌, ◌≤◌, ◌<◌, ◌+◌, ◌*◌, ℕ, zero, suc, Bool, true, false, cond, List, [], ◌∷◌, ◌++◌, length}
+use Rattle.std.proofs.Common.{refl, sym, ap, ◌∙◌, arith, length-append}
 use Rattle.std.specs.Prelude.{IsTrue, nat_le, not, ◌==◌, ◌&&◌, ◌||◌}
 use Rattle.std.specs.List.{flat_map}
 use Rattle.std.proofs.lemmas.Bool.{false≢true}
@@ -43,11 +44,13 @@ upto_same named c (suc n) h =
     let first : and_that_of named c (128 + n) ≡ named (128 + n) = same_tag (128 + n) c.tag (named (128 + n)) differ in
     ap (λ b. cond b 1 0 + named_upto (and_that_of named c) n) first ∙ ap (λ k. cond (named (128 + n)) 1 0 + k) r
 
-upto_more : (named : ℕ → Bool) (c : Custom) (n : ℕ) → named c.tag ≡ false → 128 ≤ c.tag → c.tag < 128 + n → named_upto (and_that_of named c) n ≡ 1 + named_upto named n
+upto_more : (named : ℕ → Bool) (c : Custom) (n : ℕ) → named c.tag ≡ false → 128 ≤ c.tag → c.tag < 128 + n
+    → named_upto (and_that_of named c) n ≡ 1 + named_upto named n
 upto_more named c zero e low high = absurd (omega arith)
 upto_more named c (suc n) e low high = by (128 + n == c.tag) refl (λ h. upto_more named c n e low h)
   where
-    by : (b : Bool) → (128 + n == c.tag) ≡ b → (c.tag < 128 + n → named_upto (and_that_of named c) n ≡ 1 + named_upto named n) → cond (and_that_of named c (128 + n)) 1 0 + named_upto (and_that_of named c) n ≡ 1 + (cond (named (128 + n)) 1 0 + named_upto named n)
+    by : (b : Bool) → (128 + n == c.tag) ≡ b → (c.tag < 128 + n → named_upto (and_that_of named c) n ≡ 1 + named_upto named n)
+        → cond (and_that_of named c (128 + n)) 1 0 + named_upto (and_that_of named c) n ≡ 1 + (cond (named (128 + n)) 1 0 + named_upto named n)
     by true t more =
         let here : 128 + n ≡ c.tag = grind (arith, nat_tests) in
         let old : named (128 + n) ≡ false = ap named here ∙ e in
@@ -138,7 +141,8 @@ within_later named others c within tag h = by (tag == c.tag) (within tag h)
     by true h = refl
     by false h = h
 
-free_more : (change : IndexChange) (named : ℕ → Bool) (c : Custom) → IsFree change named → stays_in_index change c ≡ true → IsFree change (and_that_of named c)
+free_more : (change : IndexChange) (named : ℕ → Bool) (c : Custom) → IsFree change named → stays_in_index change c ≡ true
+    → IsFree change (and_that_of named c)
 free_more Kept named c free h = tt
 free_more Dropped named c free h = tt
 free_more (Written size) named c free h = by (c.tag == 128) refl h
@@ -154,14 +158,16 @@ entry_fits Kept named fit free = tt
 entry_fits Dropped named fit free = tt
 entry_fits (Written size) named fit free = (tag_new named 128 (omega arith) free, omega arith, fit, refl, tt)
 
-kept_fit : (change : IndexChange) (named others : ℕ → Bool) (cs : List Custom) → IsFit change → IsFree change named → IsWithin named others → AreCustoms others cs → AreCustoms named (kept change cs ++ index_entry change)
+kept_fit : (change : IndexChange) (named others : ℕ → Bool) (cs : List Custom) → IsFit change → IsFree change named → IsWithin named others
+    → AreCustoms others cs → AreCustoms named (kept change cs ++ index_entry change)
 kept_fit change named others [] fit free within are = entry_fits change named fit free
 kept_fit change named others (c ∷ cs) fit free within are =
     by (stays_in_index change c) refl
     (λ e. kept_fit change (and_that_of named c) (and_that_of others c) cs fit (free_more change named c free e) (within_more named others c within) are.4)
     (kept_fit change named (and_that_of others c) cs fit free (within_later named others c within) are.4)
   where
-    by : (b : Bool) → stays_in_index change c ≡ b → (stays_in_index change c ≡ true → AreCustoms (and_that_of named c) (kept change cs ++ index_entry change))
+    by : (b : Bool) → stays_in_index change c ≡ b
+        → (stays_in_index change c ≡ true → AreCustoms (and_that_of named c) (kept change cs ++ index_entry change))
         → AreCustoms named (kept change cs ++ index_entry change) → AreCustoms named (cond b (c ∷ kept change cs) (kept change cs) ++ index_entry change)
     by true e more rest =
         let n = new_tag others c.tag are.0 in
@@ -190,7 +196,8 @@ pub sizes_counted : (own : ℕ) (new : ComponentSizes) (tag : ℕ) (ss : List �
 sizes_counted own new tag [] = refl
 sizes_counted own new tag (s ∷ ss) = ap suc (sizes_counted own new (tag + 1) ss)
 
-size_small : (own : ℕ) (new : ComponentSizes) (tag s : ℕ) → own < 65536 → new.methods < 65536 → new.references < 65536 → s < 65536 → new_size own new tag s < 65536
+size_small : (own : ℕ) (new : ComponentSizes) (tag s : ℕ) → own < 65536 → new.methods < 65536 → new.references < 65536 → s < 65536
+    → new_size own new tag s < 65536
 size_small own new tag s o m r h = by (tag == 2) (tag == 7) (tag == 9) (tag == 12)
   where
     by : (a b c d : Bool) → cond a own (cond b new.methods (cond c new.references (cond d 0 s))) < 65536
@@ -200,7 +207,8 @@ size_small own new tag s o m r h = by (tag == 2) (tag == 7) (tag == 9) (tag == 1
     by false false false true = omega arith
     by false false false false = h
 
-sizes_small : (own : ℕ) (new : ComponentSizes) (tag : ℕ) (ss : List ℕ) → own < 65536 → new.methods < 65536 → new.references < 65536 → AreSmall ss → AreSmall (sizes_from own new tag ss)
+sizes_small : (own : ℕ) (new : ComponentSizes) (tag : ℕ) (ss : List ℕ) → own < 65536 → new.methods < 65536 → new.references < 65536
+    → AreSmall ss → AreSmall (sizes_from own new tag ss)
 sizes_small own new tag [] o m r h = tt
 sizes_small own new tag (s ∷ ss) o m r h = (size_small own new tag s o m r h.0, sizes_small own new (tag + 1) ss o m r h.1)
 
@@ -217,7 +225,8 @@ own_small format new d m =
     let f = sizes_few format in
     omega (arith, m.counted)
 
-pub new_may_stand : (format : Format) (new : ComponentSizes) (d : DirectoryItems) → MayStand format d → new.methods < 65536 → new.references < 65536 → IsFit new.index → MayStand format (new_directory new d)
+pub new_may_stand : (format : Format) (new : ComponentSizes) (d : DirectoryItems) → MayStand format d → new.methods < 65536 → new.references < 65536
+    → IsFit new.index → MayStand format (new_directory new d)
 new_may_stand format new d m a b fit =
     let own = own_small format new d m in
     let few = few_customs d.customs m.customs in
@@ -254,7 +263,13 @@ directory_long d =
     let b = big_bytes 2 d.array_init_count in
     let a = big_bytes 2 d.image_size in
     let f = flat_map custom_bytes d.customs in
-    omega (arith, bytes_long d.sizes, customs_long d.customs, length-append (s ++ (a ++ (b ++ (c ++ t)))) (length d.customs ∷ f), length-append s (a ++ (b ++ (c ++ t))))
+    omega (
+      arith,
+      bytes_long d.sizes,
+      customs_long d.customs,
+      length-append (s ++ (a ++ (b ++ (c ++ t)))) (length d.customs ∷ f),
+      length-append s (a ++ (b ++ (c ++ t))),
+    )
 
 pub new_long : (new : ComponentSizes) (d : DirectoryItems) → length (directory_bytes (new_directory new d)) ≡ own_size new d
 new_long new d = omega (arith, directory_long (new_directory new d), sizes_counted (own_size new d) new 1 d.sizes)

@@ -1,5 +1,6 @@
 -- Where each method stands.
-use Rattle.std.proofs.Common.{◌≡◌, ◌≤◌, ◌<◌, ◌+◌, ℕ, zero, suc, List, [], ◌∷◌, ◌++◌, length, replicate, Option, Some, None, Bool, true, false, cond, refl, sym, ap, subst, ◌∙◌, arith, length-append}
+use Rattle.std.proofs.Common.{◌≡◌, ◌≤◌, ◌<◌, ◌+◌, ℕ, zero, suc, List, [], ◌∷◌, ◌++◌, length, replicate, Option, Some, None}
+use Rattle.std.proofs.Common.{Bool, true, false, cond, refl, sym, ap, subst, ◌∙◌, arith, length-append}
 use Rattle.std.specs.Prelude.{slice_set, slice_index_or, filter, is_none}
 use Rattle.std.specs.List.{flat_map}
 use Rattle.std.specs.Option.{option_to_list}
@@ -14,7 +15,8 @@ use Rattle.cap_laying.specs.NewPlaces.{new_method, news_from, AreSmallBodies}
 use Rattle.jc_decode.specs.declared.symbols.LaidHandler.{LaidHandler}
 use Rattle.cap_method.specs.declared.handler.HandlerInfo.{HandlerInfo}
 use Rattle.cap_laying.specs.HandlerTable.{entries_at, table_bytes}
-use Rattle.cap_laying.specs.Blocks.{block_entries, entries_of_blocks, put_by, put_firsts, firsts, had_none, blocks, IsPlacedBody, ArePlacedBodies, total_handlers}
+use Rattle.cap_laying.specs.Blocks.{block_entries, entries_of_blocks, put_by, put_firsts, firsts, had_none, blocks, IsPlacedBody, ArePlacedBodies}
+use Rattle.cap_laying.specs.Blocks.{total_handlers}
 use Rattle.cap_laying.specs.MethodInfo.{method_info, place_in_table}
 use Rattle.cap_laying.specs.Members.{IsAlone, AreApart, HasHandlersInside, MayBeMember, AreMembers}
 use Rattle.cap_laying.proofs.PlaceLaws.{end_grows}
@@ -36,12 +38,14 @@ none_all : (P : WrittenMember → Type 0) (n : ℕ) → AllIf P (replicate n Non
 none_all P zero = tt
 none_all P (suc n) = (tt, none_all P n)
 
-set_all : (P : WrittenMember → Type 0) (table : List (Option WrittenMember)) (i : ℕ) (m : WrittenMember) → P m → AllIf P table → AllIf P (slice_set table i (Some m))
+set_all : (P : WrittenMember → Type 0) (table : List (Option WrittenMember)) (i : ℕ) (m : WrittenMember) → P m → AllIf P table
+    → AllIf P (slice_set table i (Some m))
 set_all P [] i m p h = h
 set_all P (s ∷ ms) zero m p h = (p, h.1)
 set_all P (s ∷ ms) (suc i) m p h = (h.0, set_all P ms i m p h.1)
 
-placed_all : (P : WrittenMember → Type 0) (table : List (Option WrittenMember)) (ms : List WrittenMember) → All P ms → AllIf P table → AllIf P (placed table ms)
+placed_all : (P : WrittenMember → Type 0) (table : List (Option WrittenMember)) (ms : List WrittenMember) → All P ms → AllIf P table
+    → AllIf P (placed table ms)
 placed_all P table [] a h = h
 placed_all P table (m ∷ ms) a h = placed_all P (put_member table m) ms a.1 (set_all P table m.offset m a.0 h)
 
@@ -49,11 +53,13 @@ pub offset_all : (P : WrittenMember → Type 0) (size : ℕ) (ms : List WrittenM
 unfolding by_offset
 offset_all P size ms a = placed_all P (replicate size None) ms a (none_all P size)
 
-by_all : (P : WrittenMember → Type 0) (table : List (Option WrittenMember)) (m : WrittenMember) (o : Option ℕ) → P m → AllIf P table → AllIf P (put_by table m o)
+by_all : (P : WrittenMember → Type 0) (table : List (Option WrittenMember)) (m : WrittenMember) (o : Option ℕ) → P m → AllIf P table
+    → AllIf P (put_by table m o)
 by_all P table m None p h = h
 by_all P table m (Some i) p h = set_all P table i m p h
 
-firsts_all : (P : WrittenMember → Type 0) (table : List (Option WrittenMember)) (ms : List WrittenMember) → All P ms → AllIf P table → AllIf P (put_firsts table ms)
+firsts_all : (P : WrittenMember → Type 0) (table : List (Option WrittenMember)) (ms : List WrittenMember) → All P ms → AllIf P table
+    → AllIf P (put_firsts table ms)
 firsts_all P table [] a h = h
 firsts_all P table (m ∷ ms) a h = firsts_all P (put_by table m m.handlers_from) ms a.1 (by_all P table m m.handlers_from a.0 h)
 
@@ -90,7 +96,8 @@ set_same [] o m h = absurd (omega arith)
 set_same (s ∷ ms) zero m h = refl
 set_same (s ∷ ms) (suc o) m h = set_same ms o m (omega arith)
 
-pub set_other : (table : List (Option WrittenMember)) (o k : ℕ) (m : WrittenMember) → (k ≡ o → ⊥) → slot (slice_set table k (Some m)) o ≡ slot table o
+pub set_other : (table : List (Option WrittenMember)) (o k : ℕ) (m : WrittenMember) → (k ≡ o → ⊥) → slot (slice_set table k (Some m)) o
+    ≡ slot table o
 set_other [] o k m h = refl
 set_other (s ∷ ms) zero zero m h = absurd (h refl)
 set_other (s ∷ ms) (suc o) zero m h = refl
@@ -110,12 +117,16 @@ placed_other table (m ∷ ms) o alone = placed_other (put_member table m) ms o a
 abbrev pub IsInSlot : List (Option WrittenMember) → WrittenMember → Type 0
 IsInSlot table m = slot table m.offset ≡ Some m
 
-placed_own : (table : List (Option WrittenMember)) (size : ℕ) (ms : List WrittenMember) → length table ≡ size → AreMembers size ms → AreApart ms → All (IsInSlot (placed table ms)) ms
+placed_own : (table : List (Option WrittenMember)) (size : ℕ) (ms : List WrittenMember) → length table ≡ size → AreMembers size ms → AreApart ms
+    → All (IsInSlot (placed table ms)) ms
 placed_own table size [] len are apart = tt
 placed_own table size (m ∷ ms) len are apart =
     let in_size = are.0.within in
-    let long : length (put_member table m) ≡ size = length_set table m.offset m ∙ len in
-    (placed_other (put_member table m) ms m.offset apart.0 ∙ set_same table m.offset m (omega arith), placed_own (put_member table m) size ms long are.1 apart.1)
+    let long : length (put_member table m) ≡ size = length_set table m.offset m ∙ len in (
+      placed_other (put_member table m) ms m.offset apart.0 ∙ set_same table m.offset m (omega arith),
+      placed_own (put_member table m) size ms long are.1
+          apart.1,
+    )
 
 pub length_none : (n : ℕ) → length (replicate {A = Option WrittenMember} n None) ≡ n
 length_none zero = refl
@@ -131,7 +142,8 @@ pub record IsPlaced (indexes : List ℕ) (at : ℕ) (table : List (Option Writte
   pub new : at_offset (news_from indexes at table) o ≡ Some (new_method indexes (place_in_table at table o) m)
   pub within : place_in_table at table o + body_size m.body ≤ methods_end_from at table
 
-is_placed : (indexes : List ℕ) (at : ℕ) (table : List (Option WrittenMember)) (o : ℕ) (m : WrittenMember) → slot table o ≡ Some m → IsPlaced indexes at table o m
+is_placed : (indexes : List ℕ) (at : ℕ) (table : List (Option WrittenMember)) (o : ℕ) (m : WrittenMember) → slot table o ≡ Some m
+    → IsPlaced indexes at table o m
 is_placed indexes at [] o m e = absurd (cc)
 is_placed indexes at (None ∷ ms) zero m e = absurd (cc)
 is_placed indexes at (Some k ∷ ms) zero m e =
@@ -145,13 +157,15 @@ is_placed indexes at (s ∷ ms) (suc o) m e =
 offset_is : (o : ℕ) (n : Option NewMethod) (m : NewMethod) → n ≡ Some m → offset_or o n ≡ m.offset
 offset_is o n m e = rw e refl
 
-pub to_place : (indexes : List ℕ) (at : ℕ) (table : List (Option WrittenMember)) (o : ℕ) (m : WrittenMember) → slot table o ≡ Some m → (to (news_from indexes at table) o ≡ place_in_table at table o) × (place_in_table at table o + body_size m.body ≤ methods_end_from at table)
+pub to_place : (indexes : List ℕ) (at : ℕ) (table : List (Option WrittenMember)) (o : ℕ) (m : WrittenMember) → slot table o ≡ Some m
+    → (to (news_from indexes at table) o ≡ place_in_table at table o) × (place_in_table at table o + body_size m.body ≤ methods_end_from at table)
 unfolding to
 to_place indexes at table o m e =
     let p = is_placed indexes at table o m e in
     (offset_is o (at_offset (news_from indexes at table) o) (new_method indexes (place_in_table at table o) m) p.new, p.within)
 
-pub is_new : (indexes : List ℕ) (at : ℕ) (table : List (Option WrittenMember)) (o : ℕ) (m : WrittenMember) → slot table o ≡ Some m → at_offset (news_from indexes at table) o ≡ Some (new_method indexes (place_in_table at table o) m)
+pub is_new : (indexes : List ℕ) (at : ℕ) (table : List (Option WrittenMember)) (o : ℕ) (m : WrittenMember) → slot table o ≡ Some m
+    → at_offset (news_from indexes at table) o ≡ Some (new_method indexes (place_in_table at table o) m)
 is_new indexes at table o m e = (is_placed indexes at table o m e).new
 
 -- a method whose body is whole lies in the info
@@ -159,18 +173,22 @@ placed_body : (at : ℕ) (b : Body) → HasHandlersInside b → at + body_size b
 placed_body at (Code laid) whole h = (omega arith, whole)
 placed_body at (Lead header) whole h = tt
 
-all_placed : (indexes : List ℕ) (at size : ℕ) (table : List (Option WrittenMember)) (bs : List WrittenMember) → methods_end_from at table ≤ 65535 → All (IsInSlot table) bs → All (MayBeMember size) bs → ArePlacedBodies (news_from indexes at table) bs
+all_placed : (indexes : List ℕ) (at size : ℕ) (table : List (Option WrittenMember)) (bs : List WrittenMember) → methods_end_from at table ≤ 65535
+    → All (IsInSlot table) bs → All (MayBeMember size) bs → ArePlacedBodies (news_from indexes at table) bs
 all_placed indexes at size table [] end own are = tt
 all_placed indexes at size table (b ∷ bs) end own are =
     let p = to_place indexes at table b.offset b own.0 in
-    let within = p.1 in
-    (subst (λ o. IsPlacedBody o b.body) (sym p.0) (placed_body (place_in_table at table b.offset) b.body are.0.whole (omega arith)), all_placed indexes at size table bs end own.1 are.1)
+    let within = p.1 in (
+      subst (λ o. IsPlacedBody o b.body) (sym p.0) (placed_body (place_in_table at table b.offset) b.body are.0.whole (omega arith)),
+      all_placed indexes at size table bs end own.1 are.1,
+    )
 
 members_all : (size : ℕ) (ms : List WrittenMember) → AreMembers size ms → All (MayBeMember size) ms
 members_all size [] h = tt
 members_all size (m ∷ ms) h = (h.0, members_all size ms h.1)
 
-pub blocks_placed : (size room at : ℕ) (indexes : List ℕ) (ms : List WrittenMember) → AreMembers size ms → AreApart ms → methods_end_from at (by_offset size ms) ≤ 65535 → ArePlacedBodies (news_from indexes at (by_offset size ms)) (blocks room ms)
+pub blocks_placed : (size room at : ℕ) (indexes : List ℕ) (ms : List WrittenMember) → AreMembers size ms → AreApart ms
+    → methods_end_from at (by_offset size ms) ≤ 65535 → ArePlacedBodies (news_from indexes at (by_offset size ms)) (blocks room ms)
 blocks_placed size room at indexes ms are apart end =
     all_placed indexes at size (by_offset size ms) (blocks room ms) end
     (blocks_all (IsInSlot (by_offset size ms)) room ms (own_slots size ms are apart))
@@ -208,7 +226,8 @@ unfolding total_if
 total_none zero = refl
 total_none (suc n) = total_none n
 
-total_set : (table : List (Option WrittenMember)) (i : ℕ) (m : WrittenMember) → total_if (slice_set table i (Some m)) ≤ total_if table + length (handlers_of m.body)
+total_set : (table : List (Option WrittenMember)) (i : ℕ) (m : WrittenMember) → total_if (slice_set table i (Some m)) ≤ total_if table + length
+    (handlers_of m.body)
 unfolding total_if
 total_set [] i m = omega arith
 total_set (None ∷ ms) zero m = omega arith
@@ -226,12 +245,16 @@ total_present [] = refl
 total_present (None ∷ ms) = total_present ms
 total_present (Some m ∷ ms) = let r = total_present ms in omega arith
 
-total_both : (table : List (Option WrittenMember)) (ms : List WrittenMember) → total_if (put_firsts table ms) + total_handlers (filter had_none ms) ≤ total_if table + total_handlers ms
+total_both : (table : List (Option WrittenMember)) (ms : List WrittenMember) → total_if (put_firsts table ms) + total_handlers (filter had_none ms) ≤
+    total_if table + total_handlers ms
 unfolding total_if
 total_both table [] = omega arith
 total_both table (m ∷ ms) = by m.handlers_from (λ other. total_both other ms)
   where
-    by : (o : Option ℕ) → ((other : List (Option WrittenMember)) → total_if (put_firsts other ms) + total_handlers (filter had_none ms) ≤ total_if other + total_handlers ms) → total_if (put_firsts (put_by table m o) ms) + total_handlers (cond (is_none o) (m ∷ filter had_none ms) (filter had_none ms)) ≤ total_if table + (length (handlers_of m.body) + total_handlers ms)
+    by : (o : Option ℕ)
+        → ((other : List (Option WrittenMember)) → total_if (put_firsts other ms) + total_handlers (filter had_none ms) ≤ total_if other +
+        total_handlers ms) → total_if (put_firsts (put_by table m o) ms) + total_handlers
+        (cond (is_none o) (m ∷ filter had_none ms) (filter had_none ms)) ≤ total_if table + (length (handlers_of m.body) + total_handlers ms)
     by None others = let r = others table in omega arith
     by (Some i) others = let r = others (slice_set table i (Some m)) in let s = total_set table i m in omega arith
 
@@ -260,7 +283,8 @@ length_table news (b ∷ bs) =
     omega arith
 
 -- the steps of writing an info
-pub info_steps : (total : ℕ) (first second third fourth : List ℕ) (entries : List HandlerInfo) (table : List (Option WrittenMember)) → first ≡ [] → second ≡ first ++ total ∷ [] → third ≡ second ++ table_bytes entries → fourth ≡ third ++ bodies table → total ≡ length entries
+pub info_steps : (total : ℕ) (first second third fourth : List ℕ) (entries : List HandlerInfo) (table : List (Option WrittenMember)) → first ≡ []
+    → second ≡ first ++ total ∷ [] → third ≡ second ++ table_bytes entries → fourth ≡ third ++ bodies table → total ≡ length entries
     → fourth ≡ method_info entries table
 info_steps total first second third fourth entries table a b c d e = rw (d, c, b, a, e) refl
 

@@ -1,5 +1,6 @@
 -- What is known of the items of a Directory that was read.
-use Rattle.std.proofs.Common.{◌≡◌, ◌<◌, ◌+◌, ℕ, zero, suc, Bool, true, false, cond, List, length, drop, slice_index, Some, None, refl, sym, ap, subst, arith}
+use Rattle.std.proofs.Common.{◌≡◌, ◌<◌, ◌+◌, ℕ, zero, suc, Bool, true, false, cond, List, length, drop, slice_index, Some, None, refl, sym, ap}
+use Rattle.std.proofs.Common.{subst, arith}
 use Rattle.std.specs.Prelude.{IsTrue}
 use Rattle.std.proofs.lemmas.List.{get_or-drop, length-take, length-drop}
 use Rattle.byteorder.specs.Endian.{big_from}
@@ -51,7 +52,8 @@ record IsReadCustom (named : ℕ → Bool) (c : Custom) : Type 0 where
   size : c.size < 65536
   aid : IsTrue (is_aid_length (length c.aid))
 
-custom_read : (bytes : List ℕ) → AreBytes bytes → (named : ℕ → Bool) (at : ℕ) (c : Custom) (after : ℕ) → Spells (custom_info named) bytes at c after → IsReadCustom named c
+custom_read : (bytes : List ℕ) → AreBytes bytes → (named : ℕ → Bool) (at : ℕ) (c : Custom) (after : ℕ)
+    → Spells (custom_info named) bytes at c after → IsReadCustom named c
 unfolding Spells
 custom_read bytes are named at c after h =
     let s = h.3 in
@@ -66,7 +68,8 @@ custom_read bytes are named at c after h =
       aid = subst (λ n. IsTrue (is_aid_length n)) (sym long) (passed_is is_aid_length a.0 a.2.1);
     })
 
-customs_read : (bytes : List ℕ) → AreBytes bytes → (n : ℕ) (named : ℕ → Bool) (at : ℕ) (cs : List Custom) (after : ℕ) → Spells (each n custom_info and_that_of named) bytes at cs after → AreReadCustoms named n cs
+customs_read : (bytes : List ℕ) → AreBytes bytes → (n : ℕ) (named : ℕ → Bool) (at : ℕ) (cs : List Custom) (after : ℕ)
+    → Spells (each n custom_info and_that_of named) bytes at cs after → AreReadCustoms named n cs
 unfolding Spells
 customs_read bytes are zero named at cs after h = rw h.0 (record { counted = refl; customs = tt })
 customs_read bytes are (suc n) named at cs after h =
@@ -75,7 +78,8 @@ customs_read bytes are (suc n) named at cs after h =
     let r = customs_read bytes are n (and_that_of named h.0) h.1 g.0 g.1 g.2 in
     rw g.3.0 (record { counted = ap suc r.counted; customs = (c.new, c.tag, c.size, c.aid, r.customs) })
 
-pub read_may_stand : (format : Format) (bytes : List ℕ) (d : DirectoryItems) → AreBytes bytes → Stands (directory_info format) bytes d → MayStand format d
+pub read_may_stand : (format : Format) (bytes : List ℕ) (d : DirectoryItems) → AreBytes bytes → Stands (directory_info format) bytes d
+    → MayStand format d
 unfolding Stands Spells table
 read_may_stand format bytes d are s =
     let h = s.1 in

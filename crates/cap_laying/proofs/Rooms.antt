@@ -74,12 +74,14 @@ index_room i code at d = by_test (has_short_index i.op) refl (has_index i.op) re
     by_test : (a : Bool) → has_short_index i.op ≡ a → (b : Bool) → has_index i.op ≡ b → (c : Bool) → has_second_index i ≡ c
         → IfSome (cond a (Some (first_index i.x One)) (cond b (Some (first_index i.x Two)) (cond c (Some (second_index i.y)) None))) (IsRoomy i)
     by_test true e b f c g =
-        let l = long i code at 2 d (or-rest (has_short_index i.op) _ (passed-at short_room short_room-all i.op (small-short i.op e)) e) in (omega arith, omega arith)
+        let l = long i code at 2 d (or-rest (has_short_index i.op) _ (passed-at short_room short_room-all i.op (small-short i.op e)) e) in
+        (omega arith, omega arith)
     by_test false e true f c g =
         let l = long i code at 2 d (or-rest (has_index i.op) _ (passed-at first_room first_room-all i.op (small-first i.op f)) f) in (omega arith, omega arith)
     by_test false e false f true g =
         let op = second-op (i.op == 142) (is_between 148 149 i.op) (unsigned_abs i.x == 0 || unsigned_abs i.x == 14) g in
-        let l = long i code at 3 d (or-rest (i.op == 142 || is_between 148 149 i.op) _ (passed-at second_room second_room-all i.op (small-second i.op op)) op) in (omega arith, omega arith)
+        let l = long i code at 3 d (or-rest (i.op == 142 || is_between 148 149 i.op) _ (passed-at second_room second_room-all i.op (small-second i.op op))
+        op) in (omega arith, omega arith)
     by_test false e false f false g = search rules
 
 pub has_room : (i : Insn) (code : List ℕ) (at : ℕ) → decoded code at ≡ Ok i → HasIndexInside i

@@ -1,5 +1,6 @@
 -- Places told one after the other.
-use Rattle.std.proofs.Common.{◌≡◌, ◌≤◌, ◌+◌, ◌-◌, ◌/◌, ◌%◌, ◌*◌, ◌<◌, ℕ, zero, suc, List, [], ◌∷◌, ◌++◌, false, replicate, take, drop, refl, sym, ap, ◌∙◌, arith, append_assoc, length, length-append, take-append-drop}
+use Rattle.std.proofs.Common.{◌≡◌, ◌≤◌, ◌+◌, ◌-◌, ◌/◌, ◌%◌, ◌*◌, ◌<◌, ℕ, zero, suc, List, [], ◌∷◌, ◌++◌, false}
+use Rattle.std.proofs.Common.{replicate, take, drop, refl, sym, ap, ◌∙◌, arith, append_assoc, length, length-append, take-append-drop}
 use Rattle.std.specs.Prelude.{nat_eq}
 use Rattle.std.proofs.lemmas.List.{append-nil, length-replicate}
 use Rattle.std.proofs.Math.Seq.{take-append_seam}
@@ -12,23 +13,29 @@ tells_none told = record { bytes = sym (append-nil told.bytes.items); last = ref
 
 pub distances_both : (last : ℕ) (ps qs : List ℕ) → distances last (ps ++ qs) ≡ distances last ps ++ distances (last_of last ps) qs
 distances_both last [] qs = refl
-distances_both last (p ∷ ps) qs = ap (λ xs. distance_bytes (p - last) ++ xs) (distances_both p ps qs) ∙ sym (append_assoc (distance_bytes (p - last)) (distances p ps) (distances (last_of p ps) qs))
+distances_both last (p ∷ ps) qs =
+    ap (λ xs. distance_bytes (p - last) ++ xs) (distances_both p ps qs)
+    ∙ sym (append_assoc (distance_bytes (p - last)) (distances p ps) (distances (last_of p ps) qs))
 
 pub last_both : (last : ℕ) (ps qs : List ℕ) → last_of last (ps ++ qs) ≡ last_of (last_of last ps) qs
 last_both last [] qs = refl
 last_both last (p ∷ ps) qs = last_both p ps qs
 
 -- the first of some places are told, and the rest is still to be
-pub told_more : (told new : ToldPlaces) (xs ys zs whole : List ℕ) → zs ≡ xs ++ ys → AppendsDistances told xs new → told.bytes.items ++ distances told.last zs ≡ whole → new.bytes.items ++ distances new.last ys ≡ whole
+pub told_more : (told new : ToldPlaces) (xs ys zs whole : List ℕ) → zs ≡ xs ++ ys → AppendsDistances told xs new
+    → told.bytes.items ++ distances told.last zs ≡ whole → new.bytes.items ++ distances new.last ys ≡ whole
 told_more told new xs ys zs whole e t h =
     ap (λ bs. bs ++ distances new.last ys) t.bytes ∙ append_assoc told.bytes.items (distances told.last xs) (distances new.last ys)
-    ∙ ap (λ l. told.bytes.items ++ (distances told.last xs ++ distances l ys)) t.last ∙ ap (λ bs. told.bytes.items ++ bs) (sym (distances_both told.last xs ys) ∙ ap (distances told.last) (sym e)) ∙ h
+    ∙ ap (λ l. told.bytes.items ++ (distances told.last xs ++ distances l ys)) t.last
+    ∙ ap (λ bs. told.bytes.items ++ bs) (sym (distances_both told.last xs ys) ∙ ap (distances told.last) (sym e)) ∙ h
 
-pub last_more : (told new : ToldPlaces) (xs ys zs : List ℕ) (last : ℕ) → zs ≡ xs ++ ys → AppendsDistances told xs new → last_of told.last zs ≡ last → last_of new.last ys ≡ last
+pub last_more : (told new : ToldPlaces) (xs ys zs : List ℕ) (last : ℕ) → zs ≡ xs ++ ys → AppendsDistances told xs new
+    → last_of told.last zs ≡ last → last_of new.last ys ≡ last
 last_more told new xs ys zs last e t h = ap (λ l. last_of l ys) t.last ∙ sym (last_both told.last xs ys) ∙ ap (last_of told.last) (sym e) ∙ h
 
 -- all are told
-pub told_all : (told initial : ToldPlaces) (zs all : List ℕ) → zs ≡ [] → told.bytes.items ++ distances told.last zs ≡ initial.bytes.items ++ distances initial.last all → last_of told.last zs ≡ last_of initial.last all → AppendsDistances initial all told
+pub told_all : (told initial : ToldPlaces) (zs all : List ℕ) → zs ≡ [] → told.bytes.items ++ distances told.last zs
+    ≡ initial.bytes.items ++ distances initial.last all → last_of told.last zs ≡ last_of initial.last all → AppendsDistances initial all told
 told_all told initial zs all e b l = record {
   bytes = sym (append-nil told.bytes.items) ∙ ap (λ qs. told.bytes.items ++ distances told.last qs) (sym e) ∙ b;
   last = ap (last_of told.last) (sym e) ∙ l;
@@ -48,8 +55,10 @@ distance_last d h =
     rw (q, r) refl
 
 -- one more byte of the loop over a distance
-pub put_more : (d : ℕ) (out new whole : List ℕ) → 255 ≤ d → new ≡ out ++ 255 ∷ [] → out ++ distance_bytes d ≡ whole → new ++ distance_bytes (d - 255) ≡ whole
-put_more d out new whole h e so_far = rw e (append_assoc out (255 ∷ []) (distance_bytes (d - 255)) ∙ ap (λ xs. out ++ xs) (sym (distance_more d h)) ∙ so_far)
+pub put_more : (d : ℕ) (out new whole : List ℕ) → 255 ≤ d → new ≡ out ++ 255 ∷ [] → out ++ distance_bytes d ≡ whole
+    → new ++ distance_bytes (d - 255) ≡ whole
+put_more d out new whole h e so_far =
+    rw e (append_assoc out (255 ∷ []) (distance_bytes (d - 255)) ∙ ap (λ xs. out ++ xs) (sym (distance_more d h)) ∙ so_far)
 
 pub put_last : (d : ℕ) (out new whole : List ℕ) → d < 255 → new ≡ out ++ d ∷ [] → out ++ distance_bytes d ≡ whole → new ≡ whole
 put_last d out new whole h e so_far = e ∙ ap (λ xs. out ++ xs) (sym (distance_last d h)) ∙ so_far
@@ -67,7 +76,8 @@ begun_then a b c h k = begun_more a b c (drop (length b) c) h (sym (take-append-
 
 -- ---- what is told is read back
 
-whole_back : (n last r : ℕ) (bs : List ℕ) → r < 255 → places_in last (replicate n 255 ++ (r ∷ bs)) ≡ (last + n * 255 + r) ∷ places_in (last + n * 255 + r) bs
+whole_back : (n last r : ℕ) (bs : List ℕ) → r < 255 → places_in last (replicate n 255 ++ (r ∷ bs)) ≡ (last + n * 255 + r) ∷ places_in
+    (last + n * 255 + r) bs
 whole_back zero last r bs h =
     let e : nat_eq r 255 ≡ false = grind arith in
     let z : last + 0 * 255 + r ≡ last + r = omega arith in
@@ -80,7 +90,8 @@ distance_back : (d last : ℕ) (bs : List ℕ) → places_in last (distance_byte
 distance_back d last bs =
     let r : d % 255 < 255 = omega arith in
     let e : last + d / 255 * 255 + d % 255 ≡ last + d = omega arith in
-    ap (places_in last) (append_assoc (replicate (d / 255) 255) ((d % 255) ∷ []) bs) ∙ whole_back (d / 255) last (d % 255) bs r ∙ ap (λ p. p ∷ places_in p bs) e
+    ap (places_in last) (append_assoc (replicate (d / 255) 255) ((d % 255) ∷ []) bs) ∙ whole_back (d / 255) last (d % 255) bs r
+    ∙ ap (λ p. p ∷ places_in p bs) e
 
 pub read_back : (last : ℕ) (ps : List ℕ) → Rise last ps → places_in last (distances last ps) ≡ ps
 read_back last [] h = refl
@@ -96,7 +107,8 @@ length_distance d = length-append (replicate (d / 255) 255) ((d % 255) ∷ []) �
 
 pub few_more : (old new : ToldPlaces) (place : ℕ) → IsFew old → old.last < place → AppendsDistances old (place ∷ []) new → IsFew new
 few_more old new place few lt t =
-    let a : length new.bytes.items ≡ length old.bytes.items + length (distance_bytes (place - old.last) ++ []) = ap length t.bytes ∙ length-append old.bytes.items (distance_bytes (place - old.last) ++ []) in
+    let a : length new.bytes.items ≡ length old.bytes.items + length (distance_bytes (place - old.last) ++ []) = ap length t.bytes
+    ∙ length-append old.bytes.items (distance_bytes (place - old.last) ++ []) in
     let b : distance_bytes (place - old.last) ++ [] ≡ distance_bytes (place - old.last) = append-nil (distance_bytes (place - old.last)) in
     let c = length_distance (place - old.last) in
     let d : length (distance_bytes (place - old.last) ++ []) ≡ (place - old.last) / 255 + 1 = ap length b ∙ c in

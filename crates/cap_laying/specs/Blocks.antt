@@ -1,6 +1,7 @@
 -- The order of the handler table. The handlers of a method stand together, as a block: first those of the methods that had
 -- handlers, in the order of the former table, then those of the others, in the order of the Descriptor.
-use Rattle.std.specs.Prelude.{◌≤◌, ◌+◌, ℕ, List, [], ◌∷◌, ◌++◌, length, filter, replicate, slice_set, Bool, Option, Some, None, is_none, ◌==◌, if◌then◌else◌}
+use Rattle.std.specs.Prelude.{◌≤◌, ◌+◌, ℕ, List, [], ◌∷◌, ◌++◌, length, filter, replicate, slice_set, Bool, Option}
+use Rattle.std.specs.Prelude.{Some, None, is_none, ◌==◌, if◌then◌else◌}
 use Rattle.std.specs.List.{flat_map}
 use Rattle.std.specs.Option.{option_to_list}
 use Rattle.cap_method.specs.declared.handler.HandlerInfo.{HandlerInfo}

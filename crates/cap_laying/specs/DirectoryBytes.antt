@@ -29,7 +29,8 @@ abbrev pub directory_size : DirectoryItems → ℕ
 directory_size d = 2 * length d.sizes + 9 + customs_size d.customs
 
 -- one custom component of ten bytes
-one : custom_bytes (record { tag = 128; size = 10; aid = 1 ∷ 2 ∷ 3 ∷ 4 ∷ 5 ∷ 6 ∷ [] }) ≡ 128 ∷ 0 ∷ 10 ∷ 6 ∷ 1 ∷ 2 ∷ 3 ∷ 4 ∷ 5 ∷ 6 ∷ []
+one : custom_bytes (record { tag = 128; size = 10; aid = 1 ∷ 2 ∷ 3 ∷ 4 ∷ 5 ∷ 6 ∷ [] })
+    ≡ 128 ∷ 0 ∷ 10 ∷ 6 ∷ 1 ∷ 2 ∷ 3 ∷ 4 ∷ 5 ∷ 6 ∷ []
 one = refl
 
 -- each identifier has a length of one byte

@@ -1,6 +1,7 @@
 -- Places told by their distances (JCVM 2.2, section 6.11): each from the one before it, the first from 0. A distance is
 -- as many bytes of 255 as it has whole 255s, and a byte of what is left.
-use Rattle.std.specs.Prelude.{◌≡◌, ◌<◌, ◌+◌, ◌-◌, ◌/◌, ◌%◌, ℕ, List, [], ◌∷◌, ◌++◌, replicate, ◌==◌, if◌then◌else◌, refl}
+use Rattle.std.specs.Prelude.{◌≡◌, ◌<◌, ◌+◌, ◌-◌, ◌/◌, ◌%◌, ℕ, List, [], ◌∷◌, ◌++◌, replicate}
+use Rattle.std.specs.Prelude.{◌==◌, if◌then◌else◌, refl}
 
 abbrev pub distance_bytes : ℕ → List ℕ
 distance_bytes d = replicate (d / 255) 255 ++ ((d % 255) ∷ [])

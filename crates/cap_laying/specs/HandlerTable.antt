@@ -1,5 +1,6 @@
 -- The entries of the handler table that a method has when its code is laid at an offset (JCVM 2.2, section 6.9.1).
-use Rattle.std.specs.Prelude.{◌≡◌, ◌≤◌, ◌<◌, ◌+◌, ℕ, Bool, true, false, List, [], ◌∷◌, ◌++◌, not, nat_le, ◌&&◌, if◌then◌else◌, refl}
+use Rattle.std.specs.Prelude.{◌≡◌, ◌≤◌, ◌<◌, ◌+◌, ℕ, Bool, true, false, List, [], ◌∷◌, ◌++◌, not, nat_le}
+use Rattle.std.specs.Prelude.{◌&&◌, if◌then◌else◌, refl}
 use Rattle.std.specs.List.{list_any, flat_map}
 use Rattle.byteorder.specs.Endian.{big_bytes}
 use Rattle.cap_method.specs.declared.handler.HandlerInfo.{HandlerInfo}

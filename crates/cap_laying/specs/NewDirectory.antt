@@ -1,7 +1,8 @@
 -- The Directory of a package whose methods are written anew (JCVM 2.2, section 6.4): the sizes of the Method and the
 -- ReferenceLocation component and its own are others, that of Debug is 0, and the target index beside the code is a
 -- custom component.
-use Rattle.std.specs.Prelude.{◌+◌, ◌*◌, ℕ, Bool, true, false, List, [], ◌∷◌, ◌++◌, length, filter, not, ◌==◌, ◌&&◌, if◌then◌else◌}
+use Rattle.std.specs.Prelude.{◌+◌, ◌*◌, ℕ, Bool, true, false, List, [], ◌∷◌, ◌++◌, length, filter, not, ◌==◌}
+use Rattle.std.specs.Prelude.{◌&&◌, if◌then◌else◌}
 use Rattle.std.specs.List.{flat_map}
 use Rattle.byteorder.specs.Endian.{big_bytes}
 use Rattle.cap_frame.specs.Tags.{index_aid}

@@ -1,5 +1,6 @@
 -- What stands at an offset, from what taking it there answered.
-use Rattle.std.proofs.Common.{◌≡◌, ℕ, ◌+◌, ◌≤◌, ◌<◌, List, length, drop, Some, None, Result, Ok, Err, Bool, true, false, cond, leb, arith, refl, sym}
+use Rattle.std.proofs.Common.{◌≡◌, ℕ, ◌+◌, ◌≤◌, ◌<◌, List, length, drop, Some, None, Result, Ok, Err, Bool, true, false, cond, leb, arith}
+use Rattle.std.proofs.Common.{refl, sym}
 use Rattle.std.proofs.lemmas.Bool.{leb-true}
 use Rattle.std.specs.Prelude.{IfSome, IfNone}
 use Rattle.std.specs.Result.{result_ok}
@@ -13,15 +14,20 @@ use Rattle.cap_method.specs.declared.header.MethodHeader.{MethodHeader}
 use Rattle.cap_method.specs.MethodFormat.{Header, method_header}
 use Rattle.cap_method.specs.MethodPart.{header_seen, HeaderAt}
 
-pub header_found : (r : Result MethodHeader FormFault) (before after : Cursor) → Takes header_seen method_header before r after → IfSome (result_ok r) (λ h. HeaderAt before.info.bytes.now before.at (header_seen h))
-header_found (Ok h) before after t = (after.at, read-spells (info_of before.part) method_header before.info.bytes.now before.at (header_seen h) after.at t.value)
+pub header_found : (r : Result MethodHeader FormFault) (before after : Cursor) → Takes header_seen method_header before r after
+    → IfSome (result_ok r) (λ h. HeaderAt before.info.bytes.now before.at (header_seen h))
+header_found (Ok h) before after t =
+    (after.at, read-spells (info_of before.part) method_header before.info.bytes.now before.at (header_seen h) after.at t.value)
 header_found (Err fault) before after t = tt
 
-pub header_none : (r : Result MethodHeader FormFault) (before after : Cursor) → Takes header_seen method_header before r after → IfNone (result_ok r) ((h : Header) → HeaderAt before.info.bytes.now before.at h → ⊥)
+pub header_none : (r : Result MethodHeader FormFault) (before after : Cursor) → Takes header_seen method_header before r after
+    → IfNone (result_ok r) ((h : Header) → HeaderAt before.info.bytes.now before.at h → ⊥)
 header_none (Ok h) before after t = tt
-header_none (Err fault) before after t = λ h there. let e = spelled-read (info_of before.part) method_header before.info.bytes.now before.at h there.0 there.1 in let f = t.answer in absurd cc
+header_none (Err fault) before after t =
+    λ h there. let e = spelled-read (info_of before.part) method_header before.info.bytes.now before.at h there.0 there.1 in let f = t.answer in absurd cc
 
-reaches : (b : Bool) (w at n : ℕ) (bytes : List ℕ) → leb (at + w) (length bytes) ≡ b → cond b (Some (big_number w (drop at bytes))) None ≡ Some n → at + w ≤ length bytes
+reaches : (b : Bool) (w at n : ℕ) (bytes : List ℕ) → leb (at + w) (length bytes) ≡ b → cond b (Some (big_number w (drop at bytes))) None
+    ≡ Some n → at + w ≤ length bytes
 reaches true w at n bytes e h = leb-true _ _ e
 reaches false w at n bytes e h = absurd cc
 

@@ -1,5 +1,6 @@
 -- The initial arrays lie in the component, so they are short.
-use Rattle.std.proofs.Common.{◌≡◌, ℕ, zero, suc, ◌+◌, ◌≤◌, List, [], ◌∷◌, length, drop, Ok, Err, IsTrue, refl, ap, ◌∙◌, arith, length-take-le, length-drop}
+use Rattle.std.proofs.Common.{◌≡◌, ℕ, zero, suc, ◌+◌, ◌≤◌, List, [], ◌∷◌, length, drop, Ok, Err, IsTrue, refl, ap, ◌∙◌, arith}
+use Rattle.std.proofs.Common.{length-take-le, length-drop}
 use Rattle.std.proofs.lemmas.List.Sums.{sum_by-cons}
 use Rattle.cap_bytes.specs.Grammar.{give, ◌>>=◌, repeat}
 use Rattle.cap_bytes.specs.Spelling.{Origin, info_of, Spells}
@@ -16,7 +17,8 @@ pub record LiesWithin (bytes : List ℕ) (at n after : ℕ) : Type 0 where
   pub room : n + at ≤ after
   pub reach : after ≤ length bytes
 
-array_within : (bytes : List ℕ) (at : ℕ) (a : Array) (after : ℕ) → Spells array_init_info bytes at a after → LiesWithin bytes at (length a.values) after
+array_within : (bytes : List ℕ) (at : ℕ) (a : Array) (after : ℕ) → Spells array_init_info bytes at a after
+    → LiesWithin bytes at (length a.values) after
 unfolding Spells
 array_within bytes at a after h =
     let kind = h.2 in
@@ -35,12 +37,14 @@ front a ys p = Ok (a ∷ ys, p)
 one_more : (a : Array) (others : List Array) → array_bytes (a ∷ others) ≡ length a.values + array_bytes others
 one_more a others = sum_by-cons (λ (x : Array). length x.values) a others
 
-arrays_within : (n : ℕ) (from : Origin) (bytes : List ℕ) (at : ℕ) (xs : List Array) (after : ℕ) → at ≤ length bytes → read from (repeat n array_init_info) bytes at ≡ Ok (xs, after) → LiesWithin bytes at (array_bytes xs) after
+arrays_within : (n : ℕ) (from : Origin) (bytes : List ℕ) (at : ℕ) (xs : List Array) (after : ℕ) → at ≤ length bytes
+    → read from (repeat n array_init_info) bytes at ≡ Ok (xs, after) → LiesWithin bytes at (array_bytes xs) after
 arrays_within zero from bytes at xs after le h =
     let e = pair_ok [] xs at after h in
     record { room = rw (e.0, e.1) (omega arith); reach = rw e.1 le }
 arrays_within (suc n) from bytes at xs after le h =
-    let t = then_ok (read from array_init_info bytes at) (λ x middle. read from (repeat n array_init_info >>= λ ys. give (x ∷ ys)) bytes middle) xs after h in
+    let t = then_ok (read from array_init_info bytes at) (λ x middle. read from (repeat n array_init_info >>= λ ys. give (x ∷ ys)) bytes middle) xs
+    after h in
     let u = then_ok (read from (repeat n array_init_info) bytes t.1) (λ ys p. front t.0 ys p) xs after t.3 in
     let e = pair_ok (t.0 ∷ u.0) xs u.1 after u.3 in
     let w = array_within bytes at t.0 t.1 (read-spells from array_init_info bytes at t.0 t.1 t.2) in
@@ -48,12 +52,15 @@ arrays_within (suc n) from bytes at xs after le h =
     let sum : array_bytes xs ≡ length t.0.values + array_bytes u.0 = ap array_bytes e.0 ∙ one_more t.0 u.0 in
     record { room = omega (arith, w.room, v.room, sum, e.1); reach = omega (arith, v.reach, e.1) }
 
-value_short : (bytes : List ℕ) (at : ℕ) (r : Reading (List Array)) → ((xs : List Array) (after : ℕ) → r ≡ Ok (xs, after) → LiesWithin bytes at (array_bytes xs) after) → IsTrue (is_read r) → array_bytes (value_or [] r) ≤ length bytes
+value_short : (bytes : List ℕ) (at : ℕ) (r : Reading (List Array))
+    → ((xs : List Array) (after : ℕ) → r ≡ Ok (xs, after) → LiesWithin bytes at (array_bytes xs) after) → IsTrue (is_read r)
+    → array_bytes (value_or [] r) ≤ length bytes
 value_short bytes at (Ok x) known h = let w = known x.0 x.1 refl in omega (arith, w.room, w.reach)
 value_short bytes at (Err e) known h = absurd cc
 
 pub arrays_short : (x : ArrayInits) → array_bytes (arrays_left x) ≤ 65535
 unfolding gives given
 arrays_short x =
-    let s = value_short x.items.info.bytes.now x.items.at (next (repeat x.left array_init_info) x.items) (λ xs after e. arrays_within x.left (info_of x.items.part) x.items.info.bytes.now x.items.at xs after x.items.within e) x.known in
+    let s = value_short x.items.info.bytes.now x.items.at (next (repeat x.left array_init_info) x.items)
+    (λ xs after e. arrays_within x.left (info_of x.items.part) x.items.info.bytes.now x.items.at xs after x.items.within e) x.known in
     omega (arith, s, x.items.few)

@@ -1,5 +1,6 @@
 -- The type that a field names is one of a field.
-use Rattle.std.proofs.Common.{◌≡◌, ℕ, ◌+◌, ◌-◌, ◌≤◌, Bool, true, false, ◌&&◌, leb, eqb, cond, List, Option, Some, None, Ok, Err, refl, ap, sym, subst, arith}
+use Rattle.std.proofs.Common.{◌≡◌, ℕ, ◌+◌, ◌-◌, ◌≤◌, Bool, true, false, ◌&&◌, leb, eqb, cond, List, Option, Some, None, Ok, Err, refl}
+use Rattle.std.proofs.Common.{ap, sym, subst, arith}
 use Rattle.std.specs.Prelude.{option_and_then, option_map}
 use Rattle.std.specs.Result.{result_ok}
 use Rattle.std.proofs.lemmas.Bool.{leb-true, le-leb, ne_eqb}
@@ -54,7 +55,8 @@ void_by u t false e h typed =
     let same : u ≡ t = cc in
     subst IsFieldType same (record { typed = typed; no_void = e })
 
-by_descriptor : (o : Option TypeItem) (t : TypeItem) → ((u : TypeItem) → o ≡ Some u → is_type u.nibble ≡ true) → option_and_then no_void o ≡ Some t → IsFieldType t
+by_descriptor : (o : Option TypeItem) (t : TypeItem) → ((u : TypeItem) → o ≡ Some u → is_type u.nibble ≡ true)
+    → option_and_then no_void o ≡ Some t → IsFieldType t
 by_descriptor None t known h = absurd cc
 by_descriptor (Some u) t known h = void_by u t (eqb u.nibble 1) refl h (known u refl)
 
@@ -70,7 +72,8 @@ by_number n t low high h =
     subst IsFieldType same (record { typed = small_typed n low high; no_void = ne_eqb n 1 (λ e. omega (arith, e)) })
 
 named_type : (d : Description) (ty : ℕ) (t : TypeItem) (a b : Bool) → leb 0x8002 ty ≡ a → leb ty 0x8005 ≡ b
-    → cond (a && b) (Some (record { nibble = ty - 0x8000; class_ref = 0 })) (option_and_then no_void (type_at d.info (d.items.types_start + ty))) ≡ Some t → IsFieldType t
+    → cond (a && b) (Some (record { nibble = ty - 0x8000; class_ref = 0 })) (option_and_then no_void (type_at d.info (d.items.types_start + ty)))
+    ≡ Some t → IsFieldType t
 named_type d ty t true true e f h =
     let low = leb-true 0x8002 ty e in
     let high = leb-true ty 0x8005 f in

@@ -1,5 +1,6 @@
 -- A method whose bytes lie in the info has a header there, of the size that its first byte tells.
-use Rattle.std.proofs.Common.{◌≡◌, ℕ, ◌+◌, ◌*◌, ◌/◌, ◌%◌, ◌≤◌, Bool, true, false, ◌||◌, ltb, leb, cond, List, length, Option, Some, None, refl, sym, subst, arith}
+use Rattle.std.proofs.Common.{◌≡◌, ℕ, ◌+◌, ◌*◌, ◌/◌, ◌%◌, ◌≤◌, Bool, true, false, ◌||◌, ltb, leb, cond, List, length, Option}
+use Rattle.std.proofs.Common.{Some, None, refl, sym, subst, arith}
 use Rattle.std.proofs.lemmas.Bool.{false≢true, le-leb, ltb-false}
 use Rattle.cap_bytes.specs.Number.{number_at}
 use Rattle.cap_bytes.specs.Spelling.{Spells, info_of}
@@ -28,7 +29,8 @@ header_found : (info : List ℕ) (offset after : ℕ) (h : Header) → Spells me
 unfolding header_in
 header_found info offset after h s = rw (spelled-read (info_of 7) method_header info offset h after s) refl
 
-header_by : (info : List ℕ) (offset first : ℕ) (b : Bool) → leb 128 first ≡ b → number_at 1 offset info ≡ Some first → offset + cond b 4 2 ≤ length info → HasHeader info offset
+header_by : (info : List ℕ) (offset first : ℕ) (b : Bool) → leb 128 first ≡ b → number_at 1 offset info ≡ Some first
+    → offset + cond b 4 2 ≤ length info → HasHeader info offset
 unfolding Spells
 header_by info offset first true e at h =
     let second = byte_at info (offset + 1) (omega arith) in
@@ -36,10 +38,22 @@ header_by info offset first true e at h =
     let fourth = byte_at info (offset + 1 + 1 + 1) (omega arith) in
     let found : Header = record { flags = method_flags first; size = 4; max_stack = second.0; nargs = third.0; max_locals = fourth.0 } in
     let end = offset + 1 + 1 + 1 + 1 in
-    let farther : Spells (header_after true first) info (offset + 1) found end = (second.0, offset + 1 + 1, (second.1, refl, refl), (third.0, offset + 1 + 1 + 1, (third.1, refl, refl), (fourth.0, end, (fourth.1, refl, refl), (refl, refl)))) in
+    let farther : Spells (header_after true first) info (offset + 1) found end = (
+      second.0,
+      offset + 1 + 1,
+      (second.1, refl, refl),
+      (third.0, offset + 1 + 1 + 1, (third.1, refl, refl), (fourth.0, end, (fourth.1, refl, refl), (refl, refl))),
+    ) in
     record {
       header = found;
-      there = header_found info offset end found (first, offset + 1, (at, refl, refl), subst (λ k. Spells (header_after k first) info (offset + 1) found end) (sym e) farther);
+      there =
+          header_found info offset end found (
+            first,
+            offset + 1,
+            (at, refl, refl),
+            subst (λ k. Spells (header_after k first) info (offset + 1) found end)
+                (sym e) farther,
+          );
       size = rw (at, e) refl;
     }
 header_by info offset first false e at h =
@@ -49,7 +63,14 @@ header_by info offset first false e at h =
     let farther : Spells (header_after false first) info (offset + 1) found end = (second.0, end, (second.1, refl, refl), (refl, refl)) in
     record {
       header = found;
-      there = header_found info offset end found (first, offset + 1, (at, refl, refl), subst (λ k. Spells (header_after k first) info (offset + 1) found end) (sym e) farther);
+      there =
+          header_found info offset end found (
+            first,
+            offset + 1,
+            (at, refl, refl),
+            subst (λ k. Spells (header_after k first) info (offset + 1) found end)
+                (sym e) farther,
+          );
       size = rw (at, e) refl;
     }
 
@@ -61,7 +82,8 @@ within_by m false false e = refl
 -- a method that is not outside ends within the info
 pub ends-within : (info : List ℕ) (count : ℕ) (m : MethodDescriptor) → outside_fault info count m ≡ None → code_end info m ≤ length info
 unfolding outside_fault
-ends-within info count m e = ltb-false (length info) (code_end info m) (within_by m (ltb m.method_offset (1 + 8 * count)) (ltb (length info) (code_end info m)) e)
+ends-within info count m e =
+    ltb-false (length info) (code_end info m) (within_by m (ltb m.method_offset (1 + 8 * count)) (ltb (length info) (code_end info m)) e)
 
 size_of : (b : Bool) → 2 ≤ cond b 4 2
 size_of true = omega arith
@@ -74,7 +96,8 @@ size_least (Some first) = size_of (leb 128 first)
 size_told : (info : List ℕ) (offset first : ℕ) → number_at 1 offset info ≡ Some first → cond (leb 128 first) 4 2 ≡ size_by (number_at 1 offset info)
 size_told info offset first at = rw at refl
 
-header_at : (info : List ℕ) (offset first : ℕ) → number_at 1 offset info ≡ Some first → offset + size_by (number_at 1 offset info) ≤ length info → HasHeader info offset
+header_at : (info : List ℕ) (offset first : ℕ) → number_at 1 offset info ≡ Some first → offset + size_by (number_at 1 offset info) ≤ length info
+    → HasHeader info offset
 header_at info offset first at h =
     let size = size_told info offset first at in
     header_by info offset first (leb 128 first) refl at (omega arith)
@@ -88,11 +111,13 @@ has-header info m h =
 
 -- ---- registers
 
-registers_most : (m : MethodDescriptor) (h : Header) (b : Bool) → ltb 255 (h.nargs + h.max_locals) ≡ b → cond b (Some (TooManyRegisters m.method_offset (h.nargs + h.max_locals))) None ≡ None → h.nargs + h.max_locals ≤ 255
+registers_most : (m : MethodDescriptor) (h : Header) (b : Bool) → ltb 255 (h.nargs + h.max_locals) ≡ b
+    → cond b (Some (TooManyRegisters m.method_offset (h.nargs + h.max_locals))) None ≡ None → h.nargs + h.max_locals ≤ 255
 registers_most m h true e none = absurd cc
 registers_most m h false e none = ltb-false 255 (h.nargs + h.max_locals) e
 
 -- a method that has not too many registers has at most 255
-pub few_registers : (info : List ℕ) (m : MethodDescriptor) (h : Header) → header_in info m.method_offset ≡ Some h → registers_fault info m ≡ None → h.nargs + h.max_locals ≤ 255
+pub few_registers : (info : List ℕ) (m : MethodDescriptor) (h : Header) → header_in info m.method_offset ≡ Some h → registers_fault info m ≡ None
+    → h.nargs + h.max_locals ≤ 255
 unfolding registers_fault
 few_registers info m h at none = registers_most m h (ltb 255 (h.nargs + h.max_locals)) refl (rw at at none)

@@ -27,10 +27,12 @@ all_statics these = fun_ext (λ offset. or-false (these offset))
 static_first : (f : FieldDescriptor) (offset : ℕ) (b : Bool) → is_static f.flags ≡ b → b ≡ true → stands_at offset f ≡ eqb (image_offset f) offset
 static_first f offset b e h = rw (e ∙ h) refl
 
-pub more_statics : (these : ℕ → Bool) (f : FieldDescriptor) (fs : List FieldDescriptor) → is_static f.flags ≡ true → either (also (image_offset f) these) (is_static_at fs) ≡ either these (is_static_at (f ∷ fs))
+pub more_statics : (these : ℕ → Bool) (f : FieldDescriptor) (fs : List FieldDescriptor) → is_static f.flags ≡ true
+    → either (also (image_offset f) these) (is_static_at fs) ≡ either these (is_static_at (f ∷ fs))
 more_statics these f fs e = fun_ext (λ offset. rw e (turned (eqb (image_offset f) offset) (these offset) (is_static_at fs offset)))
 
-pub no_more_statics : (these : ℕ → Bool) (f : FieldDescriptor) (fs : List FieldDescriptor) → is_static f.flags ≡ false → either these (is_static_at fs) ≡ either these (is_static_at (f ∷ fs))
+pub no_more_statics : (these : ℕ → Bool) (f : FieldDescriptor) (fs : List FieldDescriptor) → is_static f.flags ≡ false
+    → either these (is_static_at fs) ≡ either these (is_static_at (f ∷ fs))
 no_more_statics these f fs e = fun_ext (λ offset. rw e refl)
 
 pub all_classes : (these : ℕ → Bool) → either these (is_class_at []) ≡ these

@@ -26,7 +26,8 @@ no_answer : (p : PackageRecord) (f : PackFault) (r : Result PackageRecord PackFa
 no_answer p f r e h = absurd cc
 
 -- what is told of parts that stand for a package
-pub stands_told : (parts : List Lent) (p : PackageRecord) (answer : Result PackageRecord PackFault) → StandsFor parts p → Tells parts answer → answer ≡ Ok p
+pub stands_told : (parts : List Lent) (p : PackageRecord) (answer : Result PackageRecord PackFault) → StandsFor parts p → Tells parts answer
+    → answer ≡ Ok p
 stands_told parts p (Ok q) s t = ap Ok (ok_same p q (read_package parts) (said-read parts p s.said) (said-read parts q t.1))
 stands_told parts p (Err f) s (inl l) = absurd (subst (λ fs. IsLeast pack_place fs f → ⊥) (sym s.missing) (λ k. k) l)
 stands_told parts p (Err f) s (inr (none, inl first)) = absurd (no_answer p f (read_package parts) (said-read parts p s.said) (fails-read parts f first))
@@ -53,10 +54,14 @@ same_info : (i j : List ℕ) (r : Result (List ℕ) PackFault) → r ≡ Ok i �
 same_info i j r e h = cc
 
 -- the info among the parts is the one that stands for the items
-pub holds-info : {X : Type 0} (parts : List Lent) (tag : ℕ) (g : Grammar X) (info : List ℕ) (items : X) → Says parts tag g items → info_in parts tag ≡ Ok info → HoldsComponent parts tag g info items
-holds-info parts tag g info items s e = subst (λ i. HoldsComponent parts tag g i items) (same_info s.0 info (info_in parts tag) (info-read parts tag g s.0 items s.1) e) s.1
+pub holds-info : {X : Type 0} (parts : List Lent) (tag : ℕ) (g : Grammar X) (info : List ℕ) (items : X) → Says parts tag g items
+    → info_in parts tag ≡ Ok info → HoldsComponent parts tag g info items
+holds-info parts tag g info items s e =
+    subst (λ i. HoldsComponent parts tag g i items) (same_info s.0 info (info_in parts tag) (info-read parts tag g s.0 items s.1) e) s.1
 
-pub holds-if : {R X : Type 0} (view : R → X) (bytes : R → List ℕ) (parts : List Lent) (tag : ℕ) (g : Grammar X) (o : Option R) → SaysIf parts tag g (option_map view o) → IfSome o (λ x. info_in parts tag ≡ Ok (bytes x)) → IfSome o (λ x. HoldsComponent parts tag g (bytes x) (view x))
+pub holds-if : {R X : Type 0} (view : R → X) (bytes : R → List ℕ) (parts : List Lent) (tag : ℕ) (g : Grammar X) (o : Option R)
+    → SaysIf parts tag g (option_map view o) → IfSome o (λ x. info_in parts tag ≡ Ok (bytes x))
+    → IfSome o (λ x. HoldsComponent parts tag g (bytes x) (view x))
 holds-if view bytes parts tag g None s e = tt
 holds-if view bytes parts tag g (Some x) s e = holds-info parts tag g (bytes x) (view x) s e
 

@@ -1,5 +1,6 @@
 -- What holds of the static fields of a package, since its parts agree.
-use Rattle.std.proofs.Common.{◌≡◌, ℕ, ◌+◌, ◌*◌, ◌/◌, ◌%◌, ◌≤◌, Bool, true, false, ◌||◌, ltb, eqb, cond, min, max, List, [], ◌∷◌, ◌++◌, map, Option, Some, None, refl, sym, subst, ◌∙◌, arith}
+use Rattle.std.proofs.Common.{◌≡◌, ℕ, ◌+◌, ◌*◌, ◌/◌, ◌%◌, ◌≤◌, Bool, true, false, ◌||◌, ltb, eqb, cond, min, max, List, []}
+use Rattle.std.proofs.Common.{◌∷◌, ◌++◌, map, Option, Some, None, refl, sym, subst, ◌∙◌, arith}
 use Rattle.std.specs.Prelude.{All, slice_get}
 use Rattle.std.specs.List.{filter_map, cons_option}
 use Rattle.std.proofs.lemmas.Bool.{ltb-false, eqb-true}
@@ -12,7 +13,8 @@ use Rattle.cap_components.specs.declared.fault.PackFault.{PackFault}
 use Rattle.cap_components.specs.declared.fault.PackFault.TheVariants.{StaticOutside, StaticOverlaps}
 use Rattle.cap_components.specs.Descriptions.{Description, field_type}
 use Rattle.cap_package.specs.HeaderChecks.{is_static}
-use Rattle.cap_package.specs.StaticChecks.{ImagePlace, image_offset, place_by, place_in, is_in_image, image_fault, array_kinds, kind_at, filled_by, filled_fault, width_of, share_by, share_fault, share_pair}
+use Rattle.cap_package.specs.StaticChecks.{ImagePlace, image_offset, place_by, place_in, is_in_image, image_fault, array_kinds, kind_at, filled_by}
+use Rattle.cap_package.specs.StaticChecks.{filled_fault, width_of, share_by, share_fault, share_pair}
 use Rattle.cap_package.specs.Pairs.{pairs}
 use Rattle.cap_components.specs.PackageRecord.{PackageRecord, fields}
 use Rattle.cap_package.specs.Agreement.{IsPackage}
@@ -26,7 +28,8 @@ abbrev NoneOf : {X Y : Type 0} → (X → Option Y) → List X → Type 0
 NoneOf f [] = Unit {0}
 NoneOf f (x ∷ xs) = (f x ≡ None) × NoneOf f xs
 
-none_first : {X Y : Type 0} (f : X → Option Y) (xs : List X) (o : Option Y) → (filter_map f xs ≡ [] → NoneOf f xs) → cons_option o (filter_map f xs) ≡ [] → (o ≡ None) × NoneOf f xs
+none_first : {X Y : Type 0} (f : X → Option Y) (xs : List X) (o : Option Y) → (filter_map f xs ≡ [] → NoneOf f xs)
+    → cons_option o (filter_map f xs) ≡ [] → (o ≡ None) × NoneOf f xs
 none_first f xs None known h = (refl, known h)
 none_first f xs (Some y) known h = absurd cc
 
@@ -56,7 +59,8 @@ record IsPlaceOf (f : FieldDescriptor) (t : TypeItem) (p : ImagePlace) : Type 0 
   offset : p.offset ≡ image_offset f
   ty : p.ty ≡ t
 
-static_by : (f : FieldDescriptor) (t : TypeItem) (p : ImagePlace) (b : Bool) → cond b (Some (record { offset = image_offset f; ty = t })) None ≡ Some p → IsPlaceOf f t p
+static_by : (f : FieldDescriptor) (t : TypeItem) (p : ImagePlace) (b : Bool) → cond b (Some (record { offset = image_offset f; ty = t })) None ≡ Some p
+    → IsPlaceOf f t p
 static_by f t p true h =
     let same : record { offset = image_offset f; ty = t } ≡ p = cc in
     subst (IsPlaceOf f t) same (record { offset = refl; ty = refl })
@@ -66,17 +70,20 @@ record ComesFrom (d : Description) (f : FieldDescriptor) (p : ImagePlace) : Type
   offset : p.offset ≡ image_offset f
   typed : IsFieldType p.ty
 
-place_from : (d : Description) (f : FieldDescriptor) (p : ImagePlace) (o : Option TypeItem) → field_type d f.ty ≡ o → place_by f o ≡ Some p → ComesFrom d f p
+place_from : (d : Description) (f : FieldDescriptor) (p : ImagePlace) (o : Option TypeItem) → field_type d f.ty ≡ o → place_by f o ≡ Some p
+    → ComesFrom d f p
 place_from d f p None e h = absurd cc
 place_from d f p (Some t) e h =
     let s = static_by f t p (is_static f.flags) h in
     record { offset = s.offset; typed = subst IsFieldType (sym s.ty) (field_typed d f.ty t e) }
 
-inside_by : (s : Statics) (p : ImagePlace) (fault : PackFault) (b : Bool) → is_in_image s p ≡ b → cond b None (Some fault) ≡ None → is_in_image s p ≡ true
+inside_by : (s : Statics) (p : ImagePlace) (fault : PackFault) (b : Bool) → is_in_image s p ≡ b → cond b None (Some fault) ≡ None
+    → is_in_image s p ≡ true
 inside_by s p fault true e h = e
 inside_by s p fault false e h = absurd cc
 
-filled_by_kind : (kind : ℕ) (p : ImagePlace) (fault : PackFault) (b : Bool) → eqb p.ty.nibble (kind + 8) ≡ b → cond b None (Some fault) ≡ None → p.ty.nibble ≡ kind + 8
+filled_by_kind : (kind : ℕ) (p : ImagePlace) (fault : PackFault) (b : Bool) → eqb p.ty.nibble (kind + 8) ≡ b → cond b None (Some fault) ≡ None
+    → p.ty.nibble ≡ kind + 8
 filled_by_kind kind p fault true e h = eqb-true _ _ e
 filled_by_kind kind p fault false e h = absurd cc
 
@@ -88,14 +95,17 @@ fills_at arrays k a e =
     let half : (2 * k) / 2 ≡ k = omega arith in
     rw (even, half, slice_get-map (λ (x : Array). x.kind) arrays k, e) refl
 
-filled_at : (arrays : List Array) (d : Description) (f : FieldDescriptor) (p : ImagePlace) (k : ℕ) (a : Array) → place_in d f ≡ Some p → image_offset f ≡ 2 * k → slice_get arrays k ≡ Some a → filled_fault (array_kinds arrays) d f ≡ None → p.ty.nibble ≡ a.kind + 8
+filled_at : (arrays : List Array) (d : Description) (f : FieldDescriptor) (p : ImagePlace) (k : ℕ) (a : Array) → place_in d f ≡ Some p
+    → image_offset f ≡ 2 * k → slice_get arrays k ≡ Some a → filled_fault (array_kinds arrays) d f ≡ None → p.ty.nibble ≡ a.kind + 8
 unfolding filled_fault
 filled_at arrays d f p k a e at there h =
-    let g : filled_by (kind_at (array_kinds arrays) (2 * k)) (place_in d f) ≡ None = subst (λ n. filled_by (kind_at (array_kinds arrays) n) (place_in d f) ≡ None) at h in
+    let g : filled_by (kind_at (array_kinds arrays) (2 * k)) (place_in d f)
+    ≡ None = subst (λ n. filled_by (kind_at (array_kinds arrays) n) (place_in d f) ≡ None) at h in
     let i : filled_by (Some a.kind) (Some p) ≡ None = rw (fills_at arrays k a there, e) at g in
     filled_by_kind a.kind p (StaticOutside p.offset) (eqb p.ty.nibble (a.kind + 8)) refl i
 
-place_known : (s : Statics) (d : Description) (f : FieldDescriptor) (p : ImagePlace) → place_in d f ≡ Some p → image_fault s d f ≡ None → filled_fault (array_kinds s.arrays) d f ≡ None → IsStaticPlace s p
+place_known : (s : Statics) (d : Description) (f : FieldDescriptor) (p : ImagePlace) → place_in d f ≡ Some p → image_fault s d f ≡ None
+    → filled_fault (array_kinds s.arrays) d f ≡ None → IsStaticPlace s p
 unfolding place_in image_fault
 place_known s d f p e image fills =
     let from = place_from d f p (field_type d f.ty) refl e in
@@ -106,11 +116,14 @@ place_known s d f p e image fills =
       filled = λ k a there at. filled_at s.arrays d f p k a e (sym from.offset ∙ at) there fills;
     }
 
-place_first : (s : Statics) (d : Description) (f : FieldDescriptor) (fs : List FieldDescriptor) (o : Option ImagePlace) → place_in d f ≡ o → image_fault s d f ≡ None → filled_fault (array_kinds s.arrays) d f ≡ None → All (IsStaticPlace s) (filter_map (place_in d) fs) → All (IsStaticPlace s) (cons_option o (filter_map (place_in d) fs))
+place_first : (s : Statics) (d : Description) (f : FieldDescriptor) (fs : List FieldDescriptor) (o : Option ImagePlace) → place_in d f ≡ o
+    → image_fault s d f ≡ None → filled_fault (array_kinds s.arrays) d f ≡ None → All (IsStaticPlace s) (filter_map (place_in d) fs)
+    → All (IsStaticPlace s) (cons_option o (filter_map (place_in d) fs))
 place_first s d f fs None e image fills others = others
 place_first s d f fs (Some p) e image fills others = All-cons (IsStaticPlace s) p (filter_map (place_in d) fs) (place_known s d f p e image fills) others
 
-places_known : (s : Statics) (d : Description) (fs : List FieldDescriptor) → NoneOf (image_fault s d) fs → NoneOf (filled_fault (array_kinds s.arrays) d) fs → All (IsStaticPlace s) (filter_map (place_in d) fs)
+places_known : (s : Statics) (d : Description) (fs : List FieldDescriptor) → NoneOf (image_fault s d) fs
+    → NoneOf (filled_fault (array_kinds s.arrays) d) fs → All (IsStaticPlace s) (filter_map (place_in d) fs)
 places_known s d [] images fills = All-nil (IsStaticPlace s)
 places_known s d (f ∷ fs) images fills = place_first s d f fs (place_in d f) refl images.0 fills.0 (places_known s d fs images.1 fills.1)
 
@@ -119,8 +132,10 @@ pub statics_known : (p : PackageRecord) → IsPackage p → All (IsStaticPlace p
 statics_known p h =
     let agree = (answer_is p.parts p h).agree in
     let none = agree.1.1.1.1.1.1.1.1.1.1.1.1.1.1.1.1.1.1.1.1.0 in
-    let both = both_empty (filter_map (image_fault p.statics p.description) (fields p)) (filter_map (filled_fault (array_kinds p.statics.arrays) p.description) (fields p)) none in
-    places_known p.statics p.description (fields p) (none_of (image_fault p.statics p.description) (fields p) both.0) (none_of (filled_fault (array_kinds p.statics.arrays) p.description) (fields p) both.1)
+    let both = both_empty (filter_map (image_fault p.statics p.description) (fields p))
+    (filter_map (filled_fault (array_kinds p.statics.arrays) p.description) (fields p)) none in
+    places_known p.statics p.description (fields p) (none_of (image_fault p.statics p.description) (fields p) both.0)
+    (none_of (filled_fault (array_kinds p.statics.arrays) p.description) (fields p) both.1)
 
 -- ---- fields that share no byte stand apart
 
@@ -133,7 +148,8 @@ one_byte false false false = omega arith
 pub takes_byte : (t : TypeItem) → 1 ≤ width_of t
 takes_byte t = one_byte (eqb t.nibble 2) (eqb t.nibble 3) (eqb t.nibble 5)
 
-apart_by : (p q : ImagePlace) (fault : PackFault) (b : Bool) → ltb (max p.offset q.offset) (min (p.offset + width_of p.ty) (q.offset + width_of q.ty)) ≡ b → cond b (Some fault) None ≡ None → p.offset ≡ q.offset → ⊥
+apart_by : (p q : ImagePlace) (fault : PackFault) (b : Bool) → ltb (max p.offset q.offset) (min (p.offset + width_of p.ty) (q.offset + width_of q.ty))
+    ≡ b → cond b (Some fault) None ≡ None → p.offset ≡ q.offset → ⊥
 apart_by p q fault true e h same = absurd cc
 apart_by p q fault false e h same =
     let le = ltb-false (max p.offset q.offset) (min (p.offset + width_of p.ty) (q.offset + width_of q.ty)) e in
@@ -142,18 +158,22 @@ apart_by p q fault false e h same =
 abbrev IsApart : ImagePlace → ImagePlace → Type 0
 IsApart p q = p.offset ≡ q.offset → ⊥
 
-next_apart : (d : Description) (p : ImagePlace) (fs : List FieldDescriptor) (o : Option ImagePlace) → share_by (Some p) o ≡ None → All (IsApart p) (filter_map (place_in d) fs) → All (IsApart p) (cons_option o (filter_map (place_in d) fs))
+next_apart : (d : Description) (p : ImagePlace) (fs : List FieldDescriptor) (o : Option ImagePlace) → share_by (Some p) o ≡ None
+    → All (IsApart p) (filter_map (place_in d) fs) → All (IsApart p) (cons_option o (filter_map (place_in d) fs))
 next_apart d p fs None h others = others
 next_apart d p fs (Some q) h others =
     All-cons (IsApart p) q (filter_map (place_in d) fs)
-    (apart_by p q (StaticOverlaps (min p.offset q.offset) (max p.offset q.offset)) (ltb (max p.offset q.offset) (min (p.offset + width_of p.ty) (q.offset + width_of q.ty))) refl h) others
+    (apart_by p q (StaticOverlaps (min p.offset q.offset) (max p.offset q.offset))
+    (ltb (max p.offset q.offset) (min (p.offset + width_of p.ty) (q.offset + width_of q.ty))) refl h) others
 
-others_apart : (d : Description) (p : ImagePlace) (fs : List FieldDescriptor) → NoneOf (share_fault d (Some p)) fs → All (IsApart p) (filter_map (place_in d) fs)
+others_apart : (d : Description) (p : ImagePlace) (fs : List FieldDescriptor) → NoneOf (share_fault d (Some p)) fs
+    → All (IsApart p) (filter_map (place_in d) fs)
 unfolding share_fault
 others_apart d p [] none = All-nil (IsApart p)
 others_apart d p (f ∷ fs) none = next_apart d p fs (place_in d f) none.0 (others_apart d p fs none.1)
 
-first_apart : (d : Description) (fs : List FieldDescriptor) (o : Option ImagePlace) → NoneOf (share_fault d o) fs → AreApart (filter_map (place_in d) fs) → AreApart (cons_option o (filter_map (place_in d) fs))
+first_apart : (d : Description) (fs : List FieldDescriptor) (o : Option ImagePlace) → NoneOf (share_fault d o) fs
+    → AreApart (filter_map (place_in d) fs) → AreApart (cons_option o (filter_map (place_in d) fs))
 first_apart d fs None none others = others
 first_apart d fs (Some p) none others = (others_apart d p fs none, others)
 

@@ -1,5 +1,6 @@
 -- Where there are no initial arrays, none fills the reference of a field.
-use Rattle.std.proofs.Common.{◌≡◌, ℕ, ◌/◌, ◌%◌, Bool, true, false, cond, List, [], ◌∷◌, Option, None, length, refl, sym, ap, ◌∙◌, eqb, eqb-true, slice_get}
+use Rattle.std.proofs.Common.{◌≡◌, ℕ, ◌/◌, ◌%◌, Bool, true, false, cond, List, [], ◌∷◌, Option, None, length, refl, sym, ap, ◌∙◌}
+use Rattle.std.proofs.Common.{eqb, eqb-true, slice_get}
 use Rattle.cap_desc.specs.DescriptorFormat.{FieldDescriptor}
 use Rattle.cap_components.specs.Descriptions.{Description}
 use Rattle.cap_components.specs.declared.fault.PackFault.{PackFault}
@@ -24,6 +25,7 @@ unfolding lesser
 none_filled d [] least = refl
 none_filled d (f ∷ fs) least = ap (λ fault. least_from (lesser pack_place least fault) (filled_fault [] d) fs) (not_filled d f) ∙ none_filled d fs least
 
-pub nothing_filled : (kinds : List ℕ) (d : Description) (fs : List FieldDescriptor) (least : Option PackFault) → eqb (length kinds) 0 ≡ true → least ≡ least_from least (filled_fault kinds d) fs
+pub nothing_filled : (kinds : List ℕ) (d : Description) (fs : List FieldDescriptor) (least : Option PackFault) → eqb (length kinds) 0 ≡ true
+    → least ≡ least_from least (filled_fault kinds d) fs
 nothing_filled [] d fs least e = sym (none_filled d fs least)
 nothing_filled (k ∷ kinds) d fs least e = let none : length (k ∷ kinds) ≡ 0 = eqb-true (length (k ∷ kinds)) 0 e in absurd cc

@@ -5,7 +5,8 @@ use Rattle.cap_frame.specs.AppletFormat.{Applet}
 use Rattle.cap_pool.specs.ExportFormat.{Exported}
 use Rattle.cap_desc.specs.DescriptorFormat as described
 use Rattle.cap_desc.specs.Members.{methods_of}
-use Rattle.cap_components.specs.declared.count_kind.CountKind.TheVariants.{Imports, Applets, ImageSize, InitialArrays, ArrayBytes, PoolTypes, ImageSegments}
+use Rattle.cap_components.specs.declared.count_kind.CountKind.TheVariants.{Imports, Applets, ImageSize, InitialArrays, ArrayBytes}
+use Rattle.cap_components.specs.declared.count_kind.CountKind.TheVariants.{PoolTypes, ImageSegments}
 use Rattle.cap_components.specs.declared.fault.PackFault.{PackFault}
 use Rattle.cap_components.specs.Parts.{Lent}
 use Rattle.cap_components.specs.Order.{least_of, least_from, refused}
@@ -19,7 +20,8 @@ use Rattle.cap_package.specs.HeaderChecks.{registers_fault, length_fault, argume
 use Rattle.cap_package.specs.HandlerChecks.{numbered_fault, claim_fault}
 use Rattle.std.specs.List.{enumerate_from}
 use Rattle.cap_package.specs.StaticChecks.{share_pair, image_fault, array_kinds, filled_fault, is_static_at, no_static_fault}
-use Rattle.cap_package.specs.NameChecks.{is_method_at, no_method_fault, no_entry_fault, table_entries, exported_methods, exported_fields, undescribed_fault, undescribed_class_fault, not_own_fault}
+use Rattle.cap_package.specs.NameChecks.{is_method_at, no_method_fault, no_entry_fault, table_entries, exported_methods, exported_fields}
+use Rattle.cap_package.specs.NameChecks.{undescribed_fault, undescribed_class_fault, not_own_fault}
 use Rattle.cap_package.specs.TypeChecks.{field_type_fault, method_type_fault}
 use Rattle.cap_package.specs.CountChecks.{differ, array_bytes, image_bytes, instance_fault, count_if}
 

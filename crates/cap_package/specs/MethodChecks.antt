@@ -1,5 +1,6 @@
 -- Where described methods stand in the Method component (JCVM 2.2, section 6.9).
-use Rattle.std.specs.Prelude.{ℕ, ◌+◌, ◌*◌, Bool, List, length, Option, Some, None, min, max, nat_lt, ◌||◌, if◌then◌else◌}
+use Rattle.std.specs.Prelude.{ℕ, ◌+◌, ◌*◌, Bool, List, length, Option, Some, None, min, max, nat_lt, ◌||◌}
+use Rattle.std.specs.Prelude.{if◌then◌else◌}
 use Rattle.cap_desc.specs.DescriptorFormat.{MethodDescriptor}
 pub use Rattle.cap_components.specs.MethodPlaces.{size_by}
 unfoldable pub use Rattle.cap_components.specs.MethodPlaces.{code_start, code_end}

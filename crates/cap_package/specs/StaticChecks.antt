@@ -1,6 +1,7 @@
 -- The static fields in the image (JCVM 2.2, section 6.10): the references first, two bytes each, of which the first
 -- name the initial arrays; then the primitive values.
-use Rattle.std.specs.Prelude.{ℕ, ◌+◌, ◌*◌, ◌/◌, ◌%◌, Bool, List, Option, Some, None, map, min, max, nat_lt, nat_le, slice_get, slice_index, ◌==◌, ◌||◌, ◌&&◌, if◌then◌else◌}
+use Rattle.std.specs.Prelude.{ℕ, ◌+◌, ◌*◌, ◌/◌, ◌%◌, Bool, List, Option, Some, None, map, min, max, nat_lt, nat_le}
+use Rattle.std.specs.Prelude.{slice_get, slice_index, ◌==◌, ◌||◌, ◌&&◌, if◌then◌else◌}
 use Rattle.std.specs.List.{list_any}
 use Rattle.cap_method.specs.StaticFormat.{Array, Statics}
 use Rattle.cap_desc.specs.declared.type_item.TypeItem.{TypeItem}

@@ -24,7 +24,8 @@ unfolding reading table
 one_class = refl
 
 -- the distances 262 and 5, and none to an index of two bytes
-distances : reading (info_of 9) locations_info (0 ∷ 3 ∷ 0xFF ∷ 7 ∷ 5 ∷ 0 ∷ 0 ∷ []) ≡ Ok (record { byte = 0xFF ∷ 7 ∷ 5 ∷ []; byte2 = [] })
+distances : reading (info_of 9) locations_info (0 ∷ 3 ∷ 0xFF ∷ 7 ∷ 5 ∷ 0 ∷ 0 ∷ [])
+    ≡ Ok (record { byte = 0xFF ∷ 7 ∷ 5 ∷ []; byte2 = [] })
 unfolding reading
 distances = refl
 

@@ -81,7 +81,10 @@ has_applets bytes xs s =
     record {
       count = h.2.0;
       head = subst (λ m. Spells u1 bytes 0 h.2.0 m) one c;
-      items = rw e (subst (λ m. Spells (repeat h.2.0 applet_info) bytes m h.0 (length bytes)) one (subst (λ m. Spells (repeat h.2.0 applet_info) bytes h.2.1 h.0 m) end h.2.3));
+      items =
+          rw e
+          (subst (λ m. Spells (repeat h.2.0 applet_info) bytes m h.0 (length bytes)) one
+          (subst (λ m. Spells (repeat h.2.0 applet_info) bytes h.2.1 h.0 m) end h.2.3));
       some = omega arith;
     }
 
@@ -90,18 +93,22 @@ unfolding Stands Spells
 applets_made bytes xs h =
     (length bytes, (xs, length bytes, (h.count, 1, h.head, h.items), (tt {0}, length bytes, (omega arith, refl), (refl, refl))))
 
-pub applets_inside : (to : ℕ → ℕ) (bytes : List ℕ) (xs : List Applet) → Stands applets_info bytes xs → AreInside (applets_edits to xs) 0 (length bytes)
+pub applets_inside : (to : ℕ → ℕ) (bytes : List ℕ) (xs : List Applet) → Stands applets_info bytes xs
+    → AreInside (applets_edits to xs) 0 (length bytes)
 applets_inside to bytes xs s =
     let h = has_applets bytes xs s in
     inside_from (applets_edits to xs) 0 1 (length bytes) (omega arith)
     (all_inside applet_info (applet_edits to) applet_width (renewed_applet to) bytes (applet_item to bytes) h.count 1 xs (length bytes) h.items)
 
-pub applets_fit : (to : ℕ → ℕ) (bytes : List ℕ) (xs : List Applet) → AreBytes bytes → KeepsSmall to → Stands applets_info bytes xs → FitBytes (applets_edits to xs)
+pub applets_fit : (to : ℕ → ℕ) (bytes : List ℕ) (xs : List Applet) → AreBytes bytes → KeepsSmall to → Stands applets_info bytes xs
+    → FitBytes (applets_edits to xs)
 applets_fit to bytes xs are keeps s =
     let h = has_applets bytes xs s in
-    all_fit applet_info (applet_edits to) applet_width (renewed_applet to) bytes (applet_item to bytes) (applet_fit to bytes are keeps) h.count 1 xs (length bytes) h.items
+    all_fit applet_info (applet_edits to) applet_width (renewed_applet to) bytes (applet_item to bytes) (applet_fit to bytes are keeps) h.count 1 xs
+    (length bytes) h.items
 
-pub applets_renewed : (to : ℕ → ℕ) (bytes out : List ℕ) (xs : List Applet) → Stands applets_info bytes xs → Renews (applets_edits to xs) bytes out → Stands applets_info out (map (renewed_applet to) xs)
+pub applets_renewed : (to : ℕ → ℕ) (bytes out : List ℕ) (xs : List Applet) → Stands applets_info bytes xs
+    → Renews (applets_edits to xs) bytes out → Stands applets_info out (map (renewed_applet to) xs)
 applets_renewed to bytes out xs s r =
     let h = has_applets bytes xs s in
     let len = r.long in
@@ -116,7 +123,8 @@ applets_renewed to bytes out xs s r =
     })
 
 -- where the loop over them begins
-pub applets_begin : (to : ℕ → ℕ) (bytes : List ℕ) (xs : List Applet) → Stands applets_info bytes xs → IsRenewing applet_info (applet_edits to) applet_width bytes (patched_all (applets_edits to xs) bytes) 1 xs bytes
+pub applets_begin : (to : ℕ → ℕ) (bytes : List ℕ) (xs : List Applet) → Stands applets_info bytes xs
+    → IsRenewing applet_info (applet_edits to) applet_width bytes (patched_all (applets_edits to xs) bytes) 1 xs bytes
 applets_begin to bytes xs s =
     let h = has_applets bytes xs s in
     record { here = has_more applet_info bytes h.count 1 xs (length bytes) h.some h.items; low = h.some; long = refl; so_far = refl }

@@ -1,5 +1,6 @@
 -- A class record with other offsets in its dispatch tables.
-use Rattle.std.proofs.Common.{◌≡◌, ℕ, zero, suc, ◌+◌, ◌-◌, ◌*◌, ◌%◌, ◌≤◌, List, [], ◌∷◌, ◌++◌, length, map, Bool, true, false, refl, sym, ap, subst, ◌∙◌, arith}
+use Rattle.std.proofs.Common.{◌≡◌, ℕ, zero, suc, ◌+◌, ◌-◌, ◌*◌, ◌%◌, ◌≤◌, List, [], ◌∷◌, ◌++◌, length, map, Bool, true}
+use Rattle.std.proofs.Common.{false, refl, sym, ap, subst, ◌∙◌, arith}
 use Rattle.std.specs.Prelude.{nat_lt}
 use Rattle.std.proofs.lemmas.List.{length-map}
 use Rattle.cap_bytes.specs.declared.format.Format.{Format}
@@ -7,7 +8,8 @@ use Rattle.cap_bytes.specs.Grammar.{Grammar, number, u1, u2, repeat, table, when
 use Rattle.cap_bytes.specs.Spelling.{Spells, Stands, info_of}
 use Rattle.cap_bytes.proofs.Wide.{read_within}
 use Rattle.cap_bytes.proofs.UntilLoops.{moves_on}
-use Rattle.cap_class.specs.ClassFormat.{Class, Instance, DispatchTables, Interface, is_interface, class_flags, wrong_record, interface_info, instance_info, tables_info, of_class, beyond_first, record_info, is_after, signature_pool, classes_info}
+use Rattle.cap_class.specs.ClassFormat.{Class, Instance, DispatchTables, Interface, is_interface, class_flags, wrong_record, interface_info, instance_info}
+use Rattle.cap_class.specs.ClassFormat.{tables_info, of_class, beyond_first, record_info, is_after, signature_pool, classes_info}
 use Rattle.cap_bytes.specs.Edit.{Edit, AreInside, FitBytes}
 use Rattle.cap_bytes.specs.Renewal.{Renews, IsEdited, AreSame}
 use Rattle.cap_bytes.proofs.Same.{spelled_same, same_part}
@@ -66,8 +68,22 @@ has_tables bytes at t after h =
 
 tables_made : (bytes : List ℕ) (at : ℕ) (t : DispatchTables) (after : ℕ) → HasTables bytes at t after → Spells tables_info bytes at t after
 unfolding Spells table
-tables_made bytes at t after h =
-    (t.public_base, at + 1, h.first_base, (h.public_count, at + 2, h.public_counted, (t.package_base, at + 3, h.second_base, (h.visible_count, at + 4, h.visible_counted, (t.public, at + 4 + 2 * length t.public, h.public, (t.visible, after, h.visible, (refl, refl)))))))
+tables_made bytes at t after h = (
+  t.public_base,
+  at + 1,
+  h.first_base,
+  (
+    h.public_count,
+    at + 2,
+    h.public_counted,
+    (
+      t.package_base,
+      at + 3,
+      h.second_base,
+      (h.visible_count, at + 4, h.visible_counted, (t.public, at + 4 + 2 * length t.public, h.public, (t.visible, after, h.visible, (refl, refl)))),
+    ),
+  ),
+)
 
 both_edits : (ℕ → ℕ) → ℕ → DispatchTables → List Edit
 both_edits to at t = table_edits to (at + 4) t.public ++ table_edits to (at + 4 + 2 * length t.public) t.visible
@@ -75,35 +91,46 @@ both_edits to at t = table_edits to (at + 4) t.public ++ table_edits to (at + 4 
 renewed_tables : (ℕ → ℕ) → DispatchTables → DispatchTables
 renewed_tables to t = record { public_base = t.public_base; package_base = t.package_base; public = map to t.public; visible = map to t.visible }
 
-public_inside : (to : ℕ → ℕ) (bytes : List ℕ) (at : ℕ) (t : DispatchTables) (after : ℕ) → HasTables bytes at t after → AreInside (table_edits to (at + 4) t.public) (at + 4) (at + 4 + 2 * length t.public)
-public_inside to bytes at t after h = all_inside u2 (number_edits to) two_bytes to bytes (number_item to bytes) h.public_count (at + 4) t.public (at + 4 + 2 * length t.public) h.public
+public_inside : (to : ℕ → ℕ) (bytes : List ℕ) (at : ℕ) (t : DispatchTables) (after : ℕ) → HasTables bytes at t after
+    → AreInside (table_edits to (at + 4) t.public) (at + 4) (at + 4 + 2 * length t.public)
+public_inside to bytes at t after h =
+    all_inside u2 (number_edits to) two_bytes to bytes (number_item to bytes) h.public_count (at + 4) t.public (at + 4 + 2 * length t.public) h.public
 
-visible_inside : (to : ℕ → ℕ) (bytes : List ℕ) (at : ℕ) (t : DispatchTables) (after : ℕ) → HasTables bytes at t after → AreInside (table_edits to (at + 4 + 2 * length t.public) t.visible) (at + 4 + 2 * length t.public) after
-visible_inside to bytes at t after h = all_inside u2 (number_edits to) two_bytes to bytes (number_item to bytes) h.visible_count (at + 4 + 2 * length t.public) t.visible after h.visible
+visible_inside : (to : ℕ → ℕ) (bytes : List ℕ) (at : ℕ) (t : DispatchTables) (after : ℕ) → HasTables bytes at t after
+    → AreInside (table_edits to (at + 4 + 2 * length t.public) t.visible) (at + 4 + 2 * length t.public) after
+visible_inside to bytes at t after h =
+    all_inside u2 (number_edits to) two_bytes to bytes (number_item to bytes) h.visible_count (at + 4 + 2 * length t.public) t.visible after h.visible
 
-tables_inside : (to : ℕ → ℕ) (bytes : List ℕ) (at : ℕ) (t : DispatchTables) (after : ℕ) → Spells tables_info bytes at t after → AreInside (both_edits to at t) at after
+tables_inside : (to : ℕ → ℕ) (bytes : List ℕ) (at : ℕ) (t : DispatchTables) (after : ℕ) → Spells tables_info bytes at t after
+    → AreInside (both_edits to at t) at after
 unfolding both_edits
 tables_inside to bytes at t after s =
     let h = has_tables bytes at t after s in
     inside_from (table_edits to (at + 4) t.public ++ table_edits to (at + 4 + 2 * length t.public) t.visible) at (at + 4) after (omega arith)
-    (inside_append (table_edits to (at + 4) t.public) (table_edits to (at + 4 + 2 * length t.public) t.visible) (at + 4) (at + 4 + 2 * length t.public) after (public_inside to bytes at t after h) (visible_inside to bytes at t after h))
+    (inside_append (table_edits to (at + 4) t.public) (table_edits to (at + 4 + 2 * length t.public) t.visible) (at + 4) (at + 4 + 2 * length t.public)
+    after (public_inside to bytes at t after h) (visible_inside to bytes at t after h))
 
-tables_fit : (to : ℕ → ℕ) (bytes : List ℕ) (at : ℕ) (t : DispatchTables) (after : ℕ) → AreBytes bytes → KeepsSmall to → Spells tables_info bytes at t after → FitBytes (both_edits to at t)
+tables_fit : (to : ℕ → ℕ) (bytes : List ℕ) (at : ℕ) (t : DispatchTables) (after : ℕ) → AreBytes bytes → KeepsSmall to
+    → Spells tables_info bytes at t after → FitBytes (both_edits to at t)
 unfolding both_edits
 tables_fit to bytes at t after are keeps s =
     let h = has_tables bytes at t after s in
     fit_append (table_edits to (at + 4) t.public) (table_edits to (at + 4 + 2 * length t.public) t.visible)
-    (all_fit u2 (number_edits to) two_bytes to bytes (number_item to bytes) (number_fit to bytes are keeps) h.public_count (at + 4) t.public (at + 4 + 2 * length t.public) h.public)
-    (all_fit u2 (number_edits to) two_bytes to bytes (number_item to bytes) (number_fit to bytes are keeps) h.visible_count (at + 4 + 2 * length t.public) t.visible after h.visible)
+    (all_fit u2 (number_edits to) two_bytes to bytes (number_item to bytes) (number_fit to bytes are keeps) h.public_count (at + 4) t.public
+    (at + 4 + 2 * length t.public) h.public)
+    (all_fit u2 (number_edits to) two_bytes to bytes (number_item to bytes) (number_fit to bytes are keeps) h.visible_count (at + 4 + 2 * length t.public)
+    t.visible after h.visible)
 
-tables_renewed : (to : ℕ → ℕ) (bytes out : List ℕ) (at : ℕ) (t : DispatchTables) (after : ℕ) → length out ≡ length bytes → Spells tables_info bytes at t after → IsEdited (both_edits to at t) at after bytes out → Spells tables_info out at (renewed_tables to t) after
+tables_renewed : (to : ℕ → ℕ) (bytes out : List ℕ) (at : ℕ) (t : DispatchTables) (after : ℕ) → length out ≡ length bytes
+    → Spells tables_info bytes at t after → IsEdited (both_edits to at t) at after bytes out → Spells tables_info out at (renewed_tables to t) after
 unfolding both_edits renewed_tables
 tables_renewed to bytes out at t after len s ed =
     let h = has_tables bytes at t after s in
     let mid = at + 4 + 2 * length t.public in
     let pi = public_inside to bytes at t after h in
     let vi = visible_inside to bytes at t after h in
-    let two = edited_split (table_edits to (at + 4) t.public) (table_edits to mid t.visible) at mid after bytes out (inside_from (table_edits to (at + 4) t.public) at (at + 4) mid (omega arith) pi) vi ed in
+    let two = edited_split (table_edits to (at + 4) t.public) (table_edits to mid t.visible) at mid after bytes out
+    (inside_from (table_edits to (at + 4) t.public) at (at + 4) mid (omega arith) pi) vi ed in
     let one = edited_split [] (table_edits to (at + 4) t.public) at (at + 4) mid bytes out (omega arith) pi two.0 in
     let cp = length-map t.public to in
     let cv = length-map t.visible to in
@@ -111,13 +138,22 @@ tables_renewed to bytes out at t after len s ed =
     let publics = all_renewed u2 (number_edits to) two_bytes to bytes (number_item to bytes) out len h.public_count (at + 4) t.public mid h.public one.1 in
     let visibles = all_renewed u2 (number_edits to) two_bytes to bytes (number_item to bytes) out len h.visible_count mid t.visible after h.visible two.1 in
     let there : mid ≡ at + 4 + 2 * length (map to t.public) = omega arith in
-    tables_made out at (record { public_base = t.public_base; package_base = t.package_base; public = map to t.public; visible = map to t.visible }) after (record {
+    tables_made out at (record { public_base = t.public_base; package_base = t.package_base; public = map to t.public; visible = map to t.visible }) after
+    (record {
       public_count = h.public_count;
       visible_count = h.visible_count;
-      first_base = spelled_same u1 bytes out at t.public_base (at + 1) len (same_part at (at + 4) at (at + 1) bytes out one.0 (omega arith) (omega arith)) h.first_base;
-      public_counted = spelled_same u1 bytes out (at + 1) h.public_count (at + 2) len (same_part at (at + 4) (at + 1) (at + 2) bytes out one.0 (omega arith) (omega arith)) h.public_counted;
-      second_base = spelled_same u1 bytes out (at + 2) t.package_base (at + 3) len (same_part at (at + 4) (at + 2) (at + 3) bytes out one.0 (omega arith) (omega arith)) h.second_base;
-      visible_counted = spelled_same u1 bytes out (at + 3) h.visible_count (at + 4) len (same_part at (at + 4) (at + 3) (at + 4) bytes out one.0 (omega arith) (omega arith)) h.visible_counted;
+      first_base =
+          spelled_same u1 bytes out at t.public_base (at + 1) len (same_part at (at + 4) at (at + 1) bytes out one.0 (omega arith) (omega arith))
+          h.first_base;
+      public_counted =
+          spelled_same u1 bytes out (at + 1) h.public_count (at + 2) len
+          (same_part at (at + 4) (at + 1) (at + 2) bytes out one.0 (omega arith) (omega arith)) h.public_counted;
+      second_base =
+          spelled_same u1 bytes out (at + 2) t.package_base (at + 3) len
+          (same_part at (at + 4) (at + 2) (at + 3) bytes out one.0 (omega arith) (omega arith)) h.second_base;
+      visible_counted =
+          spelled_same u1 bytes out (at + 3) h.visible_count (at + 4) len
+          (same_part at (at + 4) (at + 3) (at + 4) bytes out one.0 (omega arith) (omega arith)) h.visible_counted;
       public = subst (λ m. Spells (repeat h.public_count u2) out (at + 4) (map to t.public) m) there publics;
       visible = subst (λ m. Spells (repeat h.visible_count u2) out m (map to t.visible) after) there visibles;
       end = omega arith;
@@ -145,7 +181,8 @@ record HasClass (bytes : List ℕ) (at first : ℕ) (c : Class) (after : ℕ) : 
   dispatch : Spells tables_info bytes (at + 5) tables mid
   served : Spells (repeat (first % 16) (interface_info false)) bytes mid interfaces after
 
-has_class : (bytes : List ℕ) (at offset first : ℕ) (c : Class) (after : ℕ) → Spells (beyond_first false offset first) bytes at c after → (h : HasClass bytes at first c after) × (c ≡ of_class offset first h.instance h.tables h.interfaces)
+has_class : (bytes : List ℕ) (at offset first : ℕ) (c : Class) (after : ℕ) → Spells (beyond_first false offset first) bytes at c after
+    → (h : HasClass bytes at first c after) × (c ≡ of_class offset first h.instance h.tables h.interfaces)
 unfolding Spells
 has_class bytes at offset first c after h =
     let t = h.3 in
@@ -164,7 +201,8 @@ has_class bytes at offset first c after h =
       i.3.0,
     )
 
-class_edits_at : (to : ℕ → ℕ) (offset first : ℕ) (i : Instance) (t : DispatchTables) (xs : List Interface) → is_interface (class_flags first) ≡ false → class_edits to (of_class offset first i t xs) ≡ both_edits to (offset + 6) t
+class_edits_at : (to : ℕ → ℕ) (offset first : ℕ) (i : Instance) (t : DispatchTables) (xs : List Interface)
+    → is_interface (class_flags first) ≡ false → class_edits to (of_class offset first i t xs) ≡ both_edits to (offset + 6) t
 unfolding both_edits
 class_edits_at to offset first i t xs e =
     let ten : offset + 6 + 4 ≡ offset + 10 = omega arith in
@@ -173,12 +211,14 @@ class_edits_at to offset first i t xs e =
 interface_edits : (to : ℕ → ℕ) (c : Class) → is_interface c.flags ≡ true → class_edits to c ≡ []
 interface_edits to c e = rw e refl
 
-beyond_flags : (bytes : List ℕ) (at offset first : ℕ) (b : Bool) (c : Class) (after : ℕ) → Spells (beyond_first b offset first) bytes at c after → (c.flags ≡ class_flags first) × (c.offset ≡ offset)
+beyond_flags : (bytes : List ℕ) (at offset first : ℕ) (b : Bool) (c : Class) (after : ℕ) → Spells (beyond_first b offset first) bytes at c after
+    → (c.flags ≡ class_flags first) × (c.offset ≡ offset)
 unfolding Spells
 beyond_flags bytes at offset first true c after h = rw h.3.0 (refl, refl)
 beyond_flags bytes at offset first false c after h = rw h.3.3.3.0 (refl, refl)
 
-interface_same : (to : ℕ → ℕ) (bytes : List ℕ) (at offset first : ℕ) (c : Class) (after : ℕ) → Spells (beyond_first true offset first) bytes at c after → renewed_class to c ≡ c
+interface_same : (to : ℕ → ℕ) (bytes : List ℕ) (at offset first : ℕ) (c : Class) (after : ℕ)
+    → Spells (beyond_first true offset first) bytes at c after → renewed_class to c ≡ c
 unfolding Spells
 interface_same to bytes at offset first c after h = rw h.3.0 refl
 
@@ -186,13 +226,16 @@ interface_same to bytes at offset first c after h = rw h.3.0 refl
 record IsBeyond (to : ℕ → ℕ) (bytes : List ℕ) (offset first : ℕ) (b : Bool) (c : Class) (after : ℕ) : Type 0 where
   inside : AreInside (class_edits to c) (offset + 1) after
   fit : AreBytes bytes → KeepsSmall to → FitBytes (class_edits to c)
-  renewed : (out : List ℕ) → length out ≡ length bytes → IsEdited (class_edits to c) (offset + 1) after bytes out → Spells (beyond_first b offset first) out (offset + 1) (renewed_class to c) after
+  renewed : (out : List ℕ) → length out ≡ length bytes → IsEdited (class_edits to c) (offset + 1) after bytes out
+      → Spells (beyond_first b offset first) out (offset + 1) (renewed_class to c) after
 
-same_class : (to : ℕ → ℕ) (offset first : ℕ) (i : Instance) (t : DispatchTables) (xs : List Interface) → renewed_class to (of_class offset first i t xs) ≡ of_class offset first i (renewed_tables to t) xs
+same_class : (to : ℕ → ℕ) (offset first : ℕ) (i : Instance) (t : DispatchTables) (xs : List Interface)
+    → renewed_class to (of_class offset first i t xs) ≡ of_class offset first i (renewed_tables to t) xs
 unfolding renewed_tables
 same_class to offset first i t xs = refl
 
-is_beyond : (to : ℕ → ℕ) (bytes : List ℕ) (offset first : ℕ) (b : Bool) (c : Class) (after : ℕ) → is_interface (class_flags first) ≡ b → Spells (beyond_first b offset first) bytes (offset + 1) c after → IsBeyond to bytes offset first b c after
+is_beyond : (to : ℕ → ℕ) (bytes : List ℕ) (offset first : ℕ) (b : Bool) (c : Class) (after : ℕ) → is_interface (class_flags first) ≡ b
+    → Spells (beyond_first b offset first) bytes (offset + 1) c after → IsBeyond to bytes offset first b c after
 unfolding Spells
 is_beyond to bytes offset first true c after e h =
     let flags = beyond_flags bytes (offset + 1) offset first true c after h in
@@ -202,12 +245,14 @@ is_beyond to bytes offset first true c after e h =
       inside = rw none on;
       fit = λ are keeps. rw none tt;
       renewed = λ out len ed. rw (interface_same to bytes (offset + 1) offset first c after h)
-          (spelled_same (beyond_first true offset first) bytes out (offset + 1) c after len (subst (λ es. IsEdited es (offset + 1) after bytes out) none ed) h);
+          (spelled_same (beyond_first true offset first) bytes out (offset + 1) c after len
+          (subst (λ es. IsEdited es (offset + 1) after bytes out) none ed) h);
     }
 is_beyond to bytes offset first false c after e h =
     let p = has_class bytes (offset + 1) offset first c after h in
     let k = p.0 in
-    let es : class_edits to c ≡ both_edits to (offset + 6) k.tables = ap (class_edits to) p.1 ∙ class_edits_at to offset first k.instance k.tables k.interfaces e in
+    let es : class_edits to c ≡ both_edits to (offset + 6) k.tables = ap (class_edits to) p.1
+    ∙ class_edits_at to offset first k.instance k.tables k.interfaces e in
     let six : offset + 1 + 5 ≡ offset + 6 = omega arith in
     let dispatch : Spells tables_info bytes (offset + 6) k.tables k.mid = subst (λ m. Spells tables_info bytes m k.tables k.mid) six k.dispatch in
     let inside : AreInside (both_edits to (offset + 6) k.tables) (offset + 6) k.mid = tables_inside to bytes (offset + 6) k.tables k.mid dispatch in
@@ -217,10 +262,12 @@ is_beyond to bytes offset first false c after e h =
       inside = rw es (inside_from (both_edits to (offset + 6) k.tables) (offset + 1) (offset + 6) after (omega arith) all);
       fit = λ are keeps. rw es (tables_fit to bytes (offset + 6) k.tables k.mid are keeps dispatch);
       renewed = λ out len ed.
-          let whole : IsEdited (both_edits to (offset + 6) k.tables) (offset + 1) after bytes out = subst (λ xs. IsEdited xs (offset + 1) after bytes out) es ed in
+          let whole : IsEdited (both_edits to (offset + 6) k.tables) (offset + 1) after bytes out = subst (λ xs. IsEdited xs (offset + 1) after bytes out)
+          es ed in
           let one = edited_split [] (both_edits to (offset + 6) k.tables) (offset + 1) (offset + 6) after bytes out (omega arith) all whole in
           let two = edited_last (both_edits to (offset + 6) k.tables) (offset + 6) k.mid after bytes out inside on one.1 in
-          let own : AreSame (offset + 1) (offset + 1 + 5) bytes out = same_part (offset + 1) (offset + 6) (offset + 1) (offset + 1 + 5) bytes out one.0 (omega arith) (omega arith) in
+          let own : AreSame (offset + 1) (offset + 1 + 5) bytes out = same_part (offset + 1) (offset + 6) (offset + 1) (offset + 1 + 5) bytes out one.0
+          (omega arith) (omega arith) in
           let served : AreSame k.mid after bytes out = two.1 in
           let made = tables_renewed to bytes out (offset + 6) k.tables k.mid len dispatch two.0 in
           rw p.1 (
@@ -231,7 +278,12 @@ is_beyond to bytes offset first false c after e h =
               renewed_tables to k.tables,
               k.mid,
               subst (λ m. Spells tables_info out m (renewed_tables to k.tables) k.mid) (sym six) made,
-              (k.interfaces, after, spelled_same (repeat (first % 16) (interface_info false)) bytes out k.mid k.interfaces after len served k.served, (same_class to offset first k.instance k.tables k.interfaces, refl)),
+              (
+                k.interfaces,
+                after,
+                spelled_same (repeat (first % 16) (interface_info false)) bytes out k.mid k.interfaces after len served k.served,
+                (same_class to offset first k.instance k.tables k.interfaces, refl),
+              ),
             ),
           );
     }
@@ -240,9 +292,11 @@ is_beyond to bytes offset first false c after e h =
 record IsRecord (to : ℕ → ℕ) (bytes : List ℕ) (after_class : Bool) (at : ℕ) (c : Class) (after : ℕ) : Type 0 where
   inside : AreInside (class_edits to c) at after
   fit : AreBytes bytes → KeepsSmall to → FitBytes (class_edits to c)
-  renewed : (out : List ℕ) → length out ≡ length bytes → IsEdited (class_edits to c) at after bytes out → Spells (record_info after_class) out at (renewed_class to c) after
+  renewed : (out : List ℕ) → length out ≡ length bytes → IsEdited (class_edits to c) at after bytes out
+      → Spells (record_info after_class) out at (renewed_class to c) after
 
-is_record : (to : ℕ → ℕ) (bytes : List ℕ) (after_class : Bool) (at : ℕ) (c : Class) (after : ℕ) → Spells (record_info after_class) bytes at c after → IsRecord to bytes after_class at c after
+is_record : (to : ℕ → ℕ) (bytes : List ℕ) (after_class : Bool) (at : ℕ) (c : Class) (after : ℕ)
+    → Spells (record_info after_class) bytes at c after → IsRecord to bytes after_class at c after
 unfolding Spells record_info
 is_record to bytes after_class at c after h =
     let place : h.0 ≡ at = h.2.0 in
@@ -251,38 +305,57 @@ is_record to bytes after_class at c after h =
     let one : f.1 ≡ at + 1 = omega (arith, f.2.2, same) in
     let first = f.0 in
     let b = is_interface (class_flags first) in
-    let rest : Spells (beyond_first b at first) bytes (at + 1) c after = subst (λ o. Spells (beyond_first b o first) bytes (at + 1) c after) place (subst (λ m. Spells (beyond_first b h.0 first) bytes m c after) one f.3) in
+    let rest : Spells (beyond_first b at first) bytes (at + 1) c after = subst (λ o. Spells (beyond_first b o first) bytes (at + 1) c after) place
+    (subst (λ m. Spells (beyond_first b h.0 first) bytes m c after) one f.3) in
     let k = is_beyond to bytes at first b c after refl rest in
-    let tested : Spells (number 1 (wrong_record after_class)) bytes at first (at + 1) = subst (λ m. Spells (number 1 (wrong_record after_class)) bytes at first m) one (subst (λ m. Spells (number 1 (wrong_record after_class)) bytes m first f.1) same f.2) in
+    let tested : Spells (number 1 (wrong_record after_class)) bytes at first (at + 1) = subst
+    (λ m. Spells (number 1 (wrong_record after_class)) bytes at first m) one
+    (subst (λ m. Spells (number 1 (wrong_record after_class)) bytes m first f.1) same f.2) in
     record {
       inside = inside_from (class_edits to c) at (at + 1) after (omega arith) k.inside;
       fit = k.fit;
       renewed = λ out len ed.
-          let two = edited_split [] (class_edits to c) at (at + 1) after bytes out (omega arith) k.inside ed in
-          (at, at, (refl, refl), (first, at + 1, spelled_same (number 1 (wrong_record after_class)) bytes out at first (at + 1) len two.0 tested, k.renewed out len two.1));
+          let two = edited_split [] (class_edits to c) at (at + 1) after bytes out (omega arith) k.inside ed in (
+            at,
+            at,
+            (refl, refl),
+            (
+              first,
+              at + 1,
+              spelled_same (number 1 (wrong_record after_class)) bytes out at first (at + 1) len two.0 tested,
+              k.renewed out len two.1,
+            ),
+          );
     }
 
 -- the records up to the end
 record AreRecords (to : ℕ → ℕ) (bytes : List ℕ) (n : ℕ) (after_class : Bool) (at : ℕ) (cs : List Class) (after : ℕ) : Type 0 where
   inside : AreInside (classes_edits to cs) at after
   fit : AreBytes bytes → KeepsSmall to → FitBytes (classes_edits to cs)
-  renewed : (out : List ℕ) → length out ≡ length bytes → IsEdited (classes_edits to cs) at after bytes out → Spells (at_most n record_info is_after after_class) out at (map (renewed_class to) cs) after
+  renewed : (out : List ℕ) → length out ≡ length bytes → IsEdited (classes_edits to cs) at after bytes out
+      → Spells (at_most n record_info is_after after_class) out at (map (renewed_class to) cs) after
 
 no_records : (to : ℕ → ℕ) (bytes : List ℕ) (n : ℕ) (after_class : Bool) (at : ℕ) (cs : List Class) (after : ℕ) → cs ≡ [] → after ≡ at
-    → ((out : List ℕ) → length out ≡ length bytes → Spells (at_most n record_info is_after after_class) out at [] at) → AreRecords to bytes n after_class at cs after
-no_records to bytes n after_class at cs after e d again = rw (e, d) (record { inside = omega arith; fit = λ are keeps. tt; renewed = λ out len ed. again out len })
+    → ((out : List ℕ) → length out ≡ length bytes → Spells (at_most n record_info is_after after_class) out at [] at)
+    → AreRecords to bytes n after_class at cs after
+no_records to bytes n after_class at cs after e d again =
+    rw (e, d) (record { inside = omega arith; fit = λ are keeps. tt; renewed = λ out len ed. again out len })
 
-when_true : {X : Type 0} (b : Bool) (otherwise : X) (g : Grammar X) (bytes : List ℕ) (at : ℕ) (x : X) (after : ℕ) → b ≡ true → Spells g bytes at x after → Spells (when b otherwise g) bytes at x after
+when_true : {X : Type 0} (b : Bool) (otherwise : X) (g : Grammar X) (bytes : List ℕ) (at : ℕ) (x : X) (after : ℕ) → b ≡ true
+    → Spells g bytes at x after → Spells (when b otherwise g) bytes at x after
 when_true true otherwise g bytes at x after e h = h
 when_true false otherwise g bytes at x after e h = absurd (cc)
 
-when_false : {X : Type 0} (b : Bool) (otherwise : X) (g : Grammar X) (bytes : List ℕ) (at : ℕ) → b ≡ false → Spells (when b otherwise g) bytes at otherwise at
+when_false : {X : Type 0} (b : Bool) (otherwise : X) (g : Grammar X) (bytes : List ℕ) (at : ℕ) → b ≡ false
+    → Spells (when b otherwise g) bytes at otherwise at
 unfolding Spells
 when_false true otherwise g bytes at e = absurd (cc)
 when_false false otherwise g bytes at e = (refl, refl)
 
-more_records : (to : ℕ → ℕ) (bytes : List ℕ) (n : ℕ) (after_class : Bool) (at : ℕ) (c : Class) (mid : ℕ) (cs : List Class) (after : ℕ) → nat_lt 0 (length bytes - at) ≡ true
-    → Spells (record_info after_class) bytes at c mid → AreRecords to bytes n (is_after after_class c) mid cs after → AreRecords to bytes (suc n) after_class at (c ∷ cs) after
+more_records : (to : ℕ → ℕ) (bytes : List ℕ) (n : ℕ) (after_class : Bool) (at : ℕ) (c : Class) (mid : ℕ) (cs : List Class) (after : ℕ)
+    → nat_lt 0 (length bytes - at) ≡ true
+    → Spells (record_info after_class) bytes at c mid → AreRecords to bytes n (is_after after_class c) mid cs after
+    → AreRecords to bytes (suc n) after_class at (c ∷ cs) after
 unfolding Spells
 more_records to bytes n after_class at c mid cs after some h rest =
     let k = is_record to bytes after_class at c mid h in
@@ -291,33 +364,57 @@ more_records to bytes n after_class at c mid cs after some h rest =
       fit = λ are keeps. fit_append (class_edits to c) (classes_edits to cs) (k.fit are keeps) (rest.fit are keeps);
       renewed = λ out len ed.
           let two = edited_split (class_edits to c) (classes_edits to cs) at mid after bytes out k.inside rest.inside ed in
-          let items : Spells (record_info after_class >>= λ x. at_most n record_info is_after (is_after after_class x) >>= λ xs. give (x ∷ xs)) out at (map (renewed_class to) (c ∷ cs)) after =
+          let items : Spells (record_info after_class >>= λ x. at_most n record_info is_after (is_after after_class x) >>= λ xs. give (x ∷ xs)) out at
+          (map (renewed_class to) (c ∷ cs)) after =
           (renewed_class to c, mid, k.renewed out len two.0, (map (renewed_class to) cs, after, rest.renewed out len two.1, (refl, refl))) in
-          let test : nat_lt 0 (length out - at) ≡ true = rw len some in
-          (length out - at, at, (refl, refl), when_true (nat_lt 0 (length out - at)) [] (record_info after_class >>= λ x. at_most n record_info is_after (is_after after_class x) >>= λ xs. give (x ∷ xs)) out at (map (renewed_class to) (c ∷ cs)) after test items);
+          let test : nat_lt 0 (length out - at) ≡ true = rw len some in (
+            length out - at,
+            at,
+            (refl, refl),
+            when_true (nat_lt 0 (length out - at)) []
+                (record_info after_class >>= λ x. at_most n record_info is_after (is_after after_class x) >>= λ xs. give (x ∷ xs)) out at
+                (map (renewed_class to) (c ∷ cs)) after test items,
+          );
     }
 
-by_test : (to : ℕ → ℕ) (bytes : List ℕ) (n : ℕ) (after_class : Bool) (at : ℕ) (cs : List Class) (after : ℕ) (b : Bool) → nat_lt 0 (length bytes - at) ≡ b
-    → ((s : Bool) (at' : ℕ) (xs : List Class) (end : ℕ) → Spells (at_most n record_info is_after s) bytes at' xs end → AreRecords to bytes n s at' xs end)
-    → Spells (when b [] (record_info after_class >>= λ x. at_most n record_info is_after (is_after after_class x) >>= λ xs. give (x ∷ xs))) bytes at cs after → AreRecords to bytes (suc n) after_class at cs after
+by_test : (to : ℕ → ℕ) (bytes : List ℕ) (n : ℕ) (after_class : Bool) (at : ℕ) (cs : List Class) (after : ℕ) (b : Bool)
+    → nat_lt 0 (length bytes - at) ≡ b
+    → ((s : Bool) (at' : ℕ) (xs : List Class) (end : ℕ) → Spells (at_most n record_info is_after s) bytes at' xs end
+    → AreRecords to bytes n s at' xs end)
+    → Spells (when b [] (record_info after_class >>= λ x. at_most n record_info is_after (is_after after_class x) >>= λ xs. give (x ∷ xs))) bytes at
+    cs after → AreRecords to bytes (suc n) after_class at cs after
 unfolding Spells
 by_test to bytes n after_class at cs after false t others h = no_records to bytes (suc n) after_class at cs after h.0 h.1 (λ out len.
-    let test : nat_lt 0 (length out - at) ≡ false = rw len t in
-    (length out - at, at, (refl, refl), when_false (nat_lt 0 (length out - at)) [] (record_info after_class >>= λ x. at_most n record_info is_after (is_after after_class x) >>= λ xs. give (x ∷ xs)) out at test))
+    let test : nat_lt 0 (length out - at) ≡ false = rw len t in (
+      length out - at,
+      at,
+      (refl, refl),
+      when_false (nat_lt 0 (length out - at)) []
+          (record_info after_class >>= λ x. at_most n record_info is_after (is_after after_class x) >>= λ xs. give (x ∷ xs)) out at test,
+    ))
 by_test to bytes n after_class at cs after true t others h =
     let e : cs ≡ h.0 ∷ h.3.0 = h.3.3.0 in
     let d : after ≡ h.3.1 = h.3.3.1 in
     rw (e, d) (more_records to bytes n after_class at h.0 h.1 h.3.0 h.3.1 t h.2 (others (is_after after_class h.0) h.1 h.3.0 h.3.1 h.3.2))
 
-are_records : (to : ℕ → ℕ) (bytes : List ℕ) (n : ℕ) (after_class : Bool) (at : ℕ) (cs : List Class) (after : ℕ) → Spells (at_most n record_info is_after after_class) bytes at cs after → AreRecords to bytes n after_class at cs after
+are_records : (to : ℕ → ℕ) (bytes : List ℕ) (n : ℕ) (after_class : Bool) (at : ℕ) (cs : List Class) (after : ℕ)
+    → Spells (at_most n record_info is_after after_class) bytes at cs after → AreRecords to bytes n after_class at cs after
 unfolding Spells
 are_records to bytes zero after_class at cs after h = no_records to bytes zero after_class at cs after h.0 h.1 (λ out len. (refl, refl))
 are_records to bytes (suc n) after_class at cs after h =
     let size : h.0 ≡ length bytes - at = h.2.0 in
     let same : h.1 ≡ at = h.2.1 in
-    let items : Spells (when (nat_lt 0 (length bytes - at)) [] (record_info after_class >>= λ x. at_most n record_info is_after (is_after after_class x) >>= λ xs. give (x ∷ xs))) bytes at cs after =
-    subst (λ m. Spells (when (nat_lt 0 (length bytes - at)) [] (record_info after_class >>= λ x. at_most n record_info is_after (is_after after_class x) >>= λ xs. give (x ∷ xs))) bytes m cs after) same
-    (subst (λ r. Spells (when (nat_lt 0 r) [] (record_info after_class >>= λ x. at_most n record_info is_after (is_after after_class x) >>= λ xs. give (x ∷ xs))) bytes h.1 cs after) size h.3) in
+    let items : Spells
+    (when (nat_lt 0 (length bytes - at)) []
+    (record_info after_class >>= λ x. at_most n record_info is_after (is_after after_class x) >>= λ xs. give (x ∷ xs))) bytes at cs after =
+    subst
+    (λ m. Spells
+    (when (nat_lt 0 (length bytes - at)) []
+    (record_info after_class >>= λ x. at_most n record_info is_after (is_after after_class x) >>= λ xs. give (x ∷ xs))) bytes m cs after) same
+    (subst
+    (λ r. Spells
+    (when (nat_lt 0 r) [] (record_info after_class >>= λ x. at_most n record_info is_after (is_after after_class x) >>= λ xs. give (x ∷ xs))) bytes
+    h.1 cs after) size h.3) in
     by_test to bytes n after_class at cs after (nat_lt 0 (length bytes - at)) refl (λ s' at' xs end d. are_records to bytes n s' at' xs end d) items
 
 -- ---- the component
@@ -341,7 +438,8 @@ has_classes format bytes cs s =
     let some : h.1 ≤ length bytes = read_within (info_of 6) (signature_pool format) bytes 0 h.0 h.1 (omega arith) h.2 in
     let place : r.1 ≡ h.1 = r.2.1 in
     let size : r.0 ≡ length bytes - h.1 = r.2.0 in
-    let items : Spells (at_most r.0 record_info is_after false) bytes h.1 cs s.0 = subst (λ m. Spells (at_most r.0 record_info is_after false) bytes m cs s.0) place r.3 in
+    let items : Spells (at_most r.0 record_info is_after false) bytes h.1 cs s.0 = subst
+    (λ m. Spells (at_most r.0 record_info is_after false) bytes m cs s.0) place r.3 in
     record {
       pool = h.0;
       start = h.1;
@@ -357,18 +455,21 @@ classes_made : (format : Format) (bytes : List ℕ) (cs : List Class) → HasCla
 unfolding Stands Spells
 classes_made format bytes cs h = (h.after, (h.pool, h.start, h.head, (h.fuel, h.start, (h.same, refl), h.items)))
 
-pub classes_inside : (to : ℕ → ℕ) (format : Format) (bytes : List ℕ) (cs : List Class) → Stands (classes_info format) bytes cs → AreInside (classes_edits to cs) 0 (length bytes)
+pub classes_inside : (to : ℕ → ℕ) (format : Format) (bytes : List ℕ) (cs : List Class) → Stands (classes_info format) bytes cs
+    → AreInside (classes_edits to cs) 0 (length bytes)
 classes_inside to format bytes cs s =
     let h = has_classes format bytes cs s in
     let k = are_records to bytes h.fuel false h.start cs h.after h.items in
     inside_from (classes_edits to cs) 0 h.start (length bytes) (omega arith) (inside_to (classes_edits to cs) h.start h.after (length bytes) k.inside h.within)
 
-pub classes_fit : (to : ℕ → ℕ) (format : Format) (bytes : List ℕ) (cs : List Class) → AreBytes bytes → KeepsSmall to → Stands (classes_info format) bytes cs → FitBytes (classes_edits to cs)
+pub classes_fit : (to : ℕ → ℕ) (format : Format) (bytes : List ℕ) (cs : List Class) → AreBytes bytes → KeepsSmall to
+    → Stands (classes_info format) bytes cs → FitBytes (classes_edits to cs)
 classes_fit to format bytes cs are keeps s =
     let h = has_classes format bytes cs s in
     (are_records to bytes h.fuel false h.start cs h.after h.items).fit are keeps
 
-pub classes_renewed : (to : ℕ → ℕ) (format : Format) (bytes out : List ℕ) (cs : List Class) → Stands (classes_info format) bytes cs → Renews (classes_edits to cs) bytes out → Stands (classes_info format) out (map (renewed_class to) cs)
+pub classes_renewed : (to : ℕ → ℕ) (format : Format) (bytes out : List ℕ) (cs : List Class) → Stands (classes_info format) bytes cs
+    → Renews (classes_edits to cs) bytes out → Stands (classes_info format) out (map (renewed_class to) cs)
 classes_renewed to format bytes out cs s r =
     let h = has_classes format bytes cs s in
     let k = are_records to bytes h.fuel false h.start cs h.after h.items in
@@ -390,7 +491,8 @@ classes_renewed to format bytes out cs s r =
 rooms_more : (size : ℕ) (c : Class) (cs : List Class) → TablesFit size c → AllRooms size cs → AllRooms size (c ∷ cs)
 rooms_more size c cs a b = (a, b)
 
-room_beyond : (bytes : List ℕ) (at offset first : ℕ) (c : Class) (after : ℕ) → at ≡ offset + 1 → after ≤ length bytes → Spells (beyond_first false offset first) bytes at c after → c.offset + 10 + 2 * length c.public + 2 * length c.visible ≤ length bytes
+room_beyond : (bytes : List ℕ) (at offset first : ℕ) (c : Class) (after : ℕ) → at ≡ offset + 1 → after ≤ length bytes
+    → Spells (beyond_first false offset first) bytes at c after → c.offset + 10 + 2 * length c.public + 2 * length c.visible ≤ length bytes
 room_beyond bytes at offset first c after e le h =
     let p = has_class bytes at offset first c after h in
     let k = p.0 in
@@ -399,20 +501,25 @@ room_beyond bytes at offset first c after e le h =
     let end = t.end in
     rw p.1 (omega arith)
 
-room_by : (bytes : List ℕ) (offset first : ℕ) (b : Bool) (c : Class) (at after : ℕ) → at ≡ offset + 1 → is_interface (class_flags first) ≡ b → after ≤ length bytes → Spells (beyond_first b offset first) bytes at c after → TablesFit (length bytes) c
+room_by : (bytes : List ℕ) (offset first : ℕ) (b : Bool) (c : Class) (at after : ℕ) → at ≡ offset + 1 → is_interface (class_flags first) ≡ b
+    → after ≤ length bytes → Spells (beyond_first b offset first) bytes at c after → TablesFit (length bytes) c
 room_by bytes offset first true c at after e b le h =
     let flags = beyond_flags bytes at offset first true c after h in
     let is : is_interface c.flags ≡ true = ap is_interface flags.0 ∙ b in
     record { room = λ is_not. absurd (cc) }
 room_by bytes offset first false c at after e b le h = record { room = λ is_not. room_beyond bytes at offset first c after e le h }
 
-record_room : (bytes : List ℕ) (after_class : Bool) (at : ℕ) (c : Class) (after : ℕ) → after ≤ length bytes → Spells (record_info after_class) bytes at c after → TablesFit (length bytes) c
+record_room : (bytes : List ℕ) (after_class : Bool) (at : ℕ) (c : Class) (after : ℕ) → after ≤ length bytes
+    → Spells (record_info after_class) bytes at c after → TablesFit (length bytes) c
 unfolding Spells record_info
-record_room bytes after_class at c after le h = room_by bytes h.0 h.3.0 (is_interface (class_flags h.3.0)) c h.3.1 after (omega (arith, h.2.0, h.2.1, h.3.2.2)) refl le h.3.3
+record_room bytes after_class at c after le h =
+    room_by bytes h.0 h.3.0 (is_interface (class_flags h.3.0)) c h.3.1 after (omega (arith, h.2.0, h.2.1, h.3.2.2)) refl le h.3.3
 
 rooms_by : (bytes : List ℕ) (n : ℕ) (after_class : Bool) (at : ℕ) (cs : List Class) (after : ℕ) (b : Bool) → after ≤ length bytes
-    → ((s : Bool) (at' : ℕ) (xs : List Class) (end : ℕ) → end ≤ length bytes → Spells (at_most n record_info is_after s) bytes at' xs end → AllRooms (length bytes) xs)
-    → Spells (when b [] (record_info after_class >>= λ x. at_most n record_info is_after (is_after after_class x) >>= λ xs. give (x ∷ xs))) bytes at cs after → AllRooms (length bytes) cs
+    → ((s : Bool) (at' : ℕ) (xs : List Class) (end : ℕ) → end ≤ length bytes → Spells (at_most n record_info is_after s) bytes at' xs end
+    → AllRooms (length bytes) xs)
+    → Spells (when b [] (record_info after_class >>= λ x. at_most n record_info is_after (is_after after_class x) >>= λ xs. give (x ∷ xs))) bytes at
+    cs after → AllRooms (length bytes) cs
 unfolding Spells
 rooms_by bytes n after_class at cs after false le others h = rw h.0 tt
 rooms_by bytes n after_class at cs after true le others h =
@@ -420,12 +527,16 @@ rooms_by bytes n after_class at cs after true le others h =
     let d : after ≡ h.3.1 = h.3.3.1 in
     let last : h.3.1 ≤ length bytes = omega arith in
     let on : h.1 ≤ h.3.1 = moves_on (at_most n record_info is_after (is_after after_class h.0)) bytes h.1 h.3.0 h.3.1 h.3.2 in
-    rw e (rooms_more (length bytes) h.0 h.3.0 (record_room bytes after_class at h.0 h.1 (omega arith) h.2) (others (is_after after_class h.0) h.1 h.3.0 h.3.1 last h.3.2))
+    rw e
+    (rooms_more (length bytes) h.0 h.3.0 (record_room bytes after_class at h.0 h.1 (omega arith) h.2)
+    (others (is_after after_class h.0) h.1 h.3.0 h.3.1 last h.3.2))
 
-records_room : (bytes : List ℕ) (n : ℕ) (after_class : Bool) (at : ℕ) (cs : List Class) (after : ℕ) → after ≤ length bytes → Spells (at_most n record_info is_after after_class) bytes at cs after → AllRooms (length bytes) cs
+records_room : (bytes : List ℕ) (n : ℕ) (after_class : Bool) (at : ℕ) (cs : List Class) (after : ℕ) → after ≤ length bytes
+    → Spells (at_most n record_info is_after after_class) bytes at cs after → AllRooms (length bytes) cs
 unfolding Spells
 records_room bytes zero after_class at cs after le h = rw h.0 tt
-records_room bytes (suc n) after_class at cs after le h = rooms_by bytes n after_class h.1 cs after (nat_lt 0 h.0) le (λ s' at' xs end l d. records_room bytes n s' at' xs end l d) h.3
+records_room bytes (suc n) after_class at cs after le h =
+    rooms_by bytes n after_class h.1 cs after (nat_lt 0 h.0) le (λ s' at' xs end l d. records_room bytes n s' at' xs end l d) h.3
 
 pub classes_room : (format : Format) (bytes : List ℕ) (cs : List Class) → Stands (classes_info format) bytes cs → AllRooms (length bytes) cs
 classes_room format bytes cs s =

@@ -6,14 +6,16 @@ use Rattle.cap_bytes.specs.Grammar.{u1, u2, repeat, table}
 use Rattle.cap_bytes.specs.Spelling.{Spells, Stands, info_of}
 use Rattle.cap_bytes.proofs.Wide.{read_within}
 use Rattle.cap_bytes.proofs.UntilLoops.{moves_on}
-use Rattle.cap_desc.specs.DescriptorFormat.{FieldDescriptor, MethodDescriptor, ClassDescriptor, Descriptor, method_flags, field_descriptor_info, method_descriptor_info, class_descriptor_info, descriptor_info}
+use Rattle.cap_desc.specs.DescriptorFormat.{FieldDescriptor, MethodDescriptor, ClassDescriptor, Descriptor, method_flags, field_descriptor_info}
+use Rattle.cap_desc.specs.DescriptorFormat.{method_descriptor_info, class_descriptor_info, descriptor_info}
 use Rattle.cap_bytes.specs.Edit.{Edit, patched_all, AreInside, FitBytes}
 use Rattle.cap_bytes.specs.Renewal.{Renews, IsEdited, AreSame}
 use Rattle.cap_bytes.proofs.Same.{spelled_same, same_part}
 use Rattle.cap_bytes.proofs.Patches.{edited_split, edited_last, inside_to, inside_from}
 use Rattle.cap_renewal.specs.declared.new_methods.NewMethod.{NewMethod}
 use Rattle.cap_renewal.specs.NewMethods.{AreBytes, AreSmall, IsSmall, new_numbers}
-use Rattle.cap_renewal.specs.DescriptorEdits.{method_by, renewed_method, edits_to, method_edits, method_width, methods_edits, before_methods, renewed_class, class_edits, class_width, descriptor_edits, renewed_descriptor}
+use Rattle.cap_renewal.specs.DescriptorEdits.{method_by, renewed_method, edits_to, method_edits, method_width, methods_edits, before_methods, renewed_class}
+use Rattle.cap_renewal.specs.DescriptorEdits.{class_edits, class_width, descriptor_edits, renewed_descriptor}
 use Rattle.cap_renewal.proofs.Items.{IsItem, IsFit, all_inside, all_fit, all_renewed, all_wide, IsRenewing, has_more}
 use Rattle.cap_renewal.proofs.Numbers.{number_small, wide_u2}
 use Rattle.cap_renewal.proofs.News.{small_numbers}
@@ -32,7 +34,8 @@ record HasMethod (bytes : List ℕ) (at : ℕ) (m : MethodDescriptor) (after : �
   index : Spells u2 bytes (at + 10) m.handler_index (at + 12)
   end : after ≡ at + 12
 
-has_method : (bytes : List ℕ) (at : ℕ) (m : MethodDescriptor) (after : ℕ) → Spells method_descriptor_info bytes at m after → HasMethod bytes at m after
+has_method : (bytes : List ℕ) (at : ℕ) (m : MethodDescriptor) (after : ℕ) → Spells method_descriptor_info bytes at m after
+    → HasMethod bytes at m after
 unfolding Spells
 has_method bytes at m after h =
     let f = h.3 in
@@ -48,7 +51,15 @@ has_method bytes at m after h =
     let m8 : b.1 ≡ at + 8 = omega (arith, b.2.2, m6) in
     let m10 : c.1 ≡ at + 10 = omega (arith, c.2.2, m8) in
     let m12 : i.1 ≡ at + 12 = omega (arith, i.2.2, m10) in
-    let is : m ≡ record { token = h.0; flags = method_flags f.0; method_offset = o.0; type_offset = t.0; bytecode_count = b.0; handler_count = c.0; handler_index = i.0 } = i.3.0 in
+    let is : m ≡ record {
+      token = h.0;
+      flags = method_flags f.0;
+      method_offset = o.0;
+      type_offset = t.0;
+      bytecode_count = b.0;
+      handler_count = c.0;
+      handler_index = i.0;
+    } = i.3.0 in
     let z : after ≡ i.1 = i.3.1 in
     rw is (record {
       byte = f.0;
@@ -63,15 +74,50 @@ has_method bytes at m after h =
       end = z ∙ m12;
     })
 
-method_made : (bytes : List ℕ) (at : ℕ) (m : MethodDescriptor) (after : ℕ) → HasMethod bytes at m after → Spells method_descriptor_info bytes at m after
+method_made : (bytes : List ℕ) (at : ℕ) (m : MethodDescriptor) (after : ℕ) → HasMethod bytes at m after
+    → Spells method_descriptor_info bytes at m after
 unfolding Spells
-method_made bytes at m after h =
-    (m.token, at + 1, h.token, (h.byte, at + 2, h.flags, (m.method_offset, at + 4, h.offset, (m.type_offset, at + 6, h.type_of, (m.bytecode_count, at + 8, h.bytecodes, (m.handler_count, at + 10, h.handlers, (m.handler_index, at + 12, h.index, (same m h.byte h.flagged, h.end))))))))
+method_made bytes at m after h = (
+  m.token,
+  at + 1,
+  h.token,
+  (
+    h.byte,
+    at + 2,
+    h.flags,
+    (
+      m.method_offset,
+      at + 4,
+      h.offset,
+      (
+        m.type_offset,
+        at + 6,
+        h.type_of,
+        (
+          m.bytecode_count,
+          at + 8,
+          h.bytecodes,
+          (m.handler_count, at + 10, h.handlers, (m.handler_index, at + 12, h.index, (same m h.byte h.flagged, h.end))),
+        ),
+      ),
+    ),
+  ),
+)
   where
-    same : (m : MethodDescriptor) (byte : ℕ) → m.flags ≡ method_flags byte → m ≡ record { token = m.token; flags = method_flags byte; method_offset = m.method_offset; type_offset = m.type_offset; bytecode_count = m.bytecode_count; handler_count = m.handler_count; handler_index = m.handler_index }
+    same : (m : MethodDescriptor) (byte : ℕ) → m.flags ≡ method_flags byte
+        → m ≡ record {
+          token = m.token;
+          flags = method_flags byte;
+          method_offset = m.method_offset;
+          type_offset = m.type_offset;
+          bytecode_count = m.bytecode_count;
+          handler_count = m.handler_count;
+          handler_index = m.handler_index;
+        }
     same m byte e = rw (← e) refl
 
-edited_method : (bytes out : List ℕ) (at : ℕ) (m : MethodDescriptor) (n : NewMethod) (after : ℕ) → length out ≡ length bytes → HasMethod bytes at m after → IsEdited (edits_to at n) at after bytes out → HasMethod out at (method_by m n) after
+edited_method : (bytes out : List ℕ) (at : ℕ) (m : MethodDescriptor) (n : NewMethod) (after : ℕ) → length out ≡ length bytes
+    → HasMethod bytes at m after → IsEdited (edits_to at n) at after bytes out → HasMethod out at (method_by m n) after
 unfolding Spells
 edited_method bytes out at m n after len p ed =
     let end = p.end in
@@ -83,18 +129,23 @@ edited_method bytes out at m n after len p ed =
       flags = spelled_same u1 bytes out (at + 1) p.byte (at + 2) len (same_part at (at + 2) (at + 1) (at + 2) bytes out a (omega arith) (omega arith)) p.flags;
       flagged = p.flagged;
       offset = (ed.1.number, refl, omega arith);
-      type_of = spelled_same u2 bytes out (at + 4) m.type_offset (at + 6) len (same_part (at + 2 + 2) (at + 6) (at + 4) (at + 6) bytes out b (omega arith) (omega arith)) p.type_of;
+      type_of =
+          spelled_same u2 bytes out (at + 4) m.type_offset (at + 6) len
+          (same_part (at + 2 + 2) (at + 6) (at + 4) (at + 6) bytes out b (omega arith) (omega arith)) p.type_of;
       bytecodes = (ed.2.1.number, refl, omega arith);
       handlers = (ed.2.2.1.number, refl, omega arith);
       index = (ed.2.2.2.1.number, refl, omega arith);
       end = end;
     }
 
-pub method_item : (news : List (Option NewMethod)) (bytes : List ℕ) → IsItem method_descriptor_info (method_edits news) method_width (renewed_method news) bytes
+pub method_item : (news : List (Option NewMethod)) (bytes : List ℕ) → IsItem method_descriptor_info (method_edits news) method_width
+    (renewed_method news) bytes
 method_item news bytes = record {
   wide = λ at m after h. (has_method bytes at m after h).end;
   inside = λ at m after h. let e = (has_method bytes at m after h).end in (omega arith, (omega arith, (omega arith, (omega arith, omega arith))));
-  renewed = λ out at m after len h ed. method_made out at (renewed_method news m) after (edited_method bytes out at m (new_numbers news m) after len (has_method bytes at m after h) ed);
+  renewed =
+      λ out at m after len h ed. method_made out at (renewed_method news m) after
+      (edited_method bytes out at m (new_numbers news m) after len (has_method bytes at m after h) ed);
 }
 
 method_fit : (news : List (Option NewMethod)) (bytes : List ℕ) → AreBytes bytes → AreSmall news → IsFit method_descriptor_info (method_edits news) bytes
@@ -102,7 +153,8 @@ unfolding Spells
 method_fit news bytes are small = record {
   fit = λ at m after h.
       let p = has_method bytes at m after h in
-      let s : IsSmall (new_numbers news m) = small_numbers news m small (number_small (at + 2) bytes m.method_offset are p.offset.0) (number_small (at + 6) bytes m.bytecode_count are p.bytecodes.0)
+      let s : IsSmall (new_numbers news m) = small_numbers news m small (number_small (at + 2) bytes m.method_offset are p.offset.0)
+      (number_small (at + 6) bytes m.bytecode_count are p.bytecodes.0)
       (number_small (at + 8) bytes m.handler_count are p.handlers.0) (number_small (at + 10) bytes m.handler_index are p.index.0) in
       (s.offset, (s.bytecode_count, (s.handler_count, (s.handler_index, tt))));
 }
@@ -202,7 +254,12 @@ class_made bytes at c after h = (
             h.method_count,
             at + 9,
             h.methods_counted,
-            (c.interfaces, at + 9 + 2 * length c.interfaces, h.interfaces, (c.fields, at + before_methods c, h.fields, (c.methods, after, h.methods, (refl, refl)))),
+            (
+              c.interfaces,
+              at + 9 + 2 * length c.interfaces,
+              h.interfaces,
+              (c.fields, at + before_methods c, h.fields, (c.methods, after, h.methods, (refl, refl))),
+            ),
           ),
         ),
       ),
@@ -217,21 +274,31 @@ class_by b news c = if b then c else record c { methods = map (renewed_method ne
 edits_by : Bool → List (Option NewMethod) → ℕ → ClassDescriptor → List Edit
 edits_by b news at c = if b then [] else methods_edits news (at + before_methods c) c.methods
 
-methods_inside : (news : List (Option NewMethod)) (bytes : List ℕ) (at : ℕ) (c : ClassDescriptor) (after : ℕ) → HasClass bytes at c after → AreInside (methods_edits news (at + before_methods c) c.methods) (at + before_methods c) after
-methods_inside news bytes at c after p = all_inside method_descriptor_info (method_edits news) method_width (renewed_method news) bytes (method_item news bytes) p.method_count (at + before_methods c) c.methods after p.methods
+methods_inside : (news : List (Option NewMethod)) (bytes : List ℕ) (at : ℕ) (c : ClassDescriptor) (after : ℕ) → HasClass bytes at c after
+    → AreInside (methods_edits news (at + before_methods c) c.methods) (at + before_methods c) after
+methods_inside news bytes at c after p =
+    all_inside method_descriptor_info (method_edits news) method_width (renewed_method news) bytes (method_item news bytes) p.method_count
+    (at + before_methods c) c.methods after p.methods
 
-by_inside : (b : Bool) (news : List (Option NewMethod)) (bytes : List ℕ) (at : ℕ) (c : ClassDescriptor) (after : ℕ) → HasClass bytes at c after → AreInside (edits_by b news at c) at after
+by_inside : (b : Bool) (news : List (Option NewMethod)) (bytes : List ℕ) (at : ℕ) (c : ClassDescriptor) (after : ℕ) → HasClass bytes at c after
+    → AreInside (edits_by b news at c) at after
 unfolding edits_by
 by_inside true news bytes at c after p = let e = p.end in omega arith
-by_inside false news bytes at c after p = inside_from (methods_edits news (at + before_methods c) c.methods) at (at + before_methods c) after (omega arith) (methods_inside news bytes at c after p)
+by_inside false news bytes at c after p =
+    inside_from (methods_edits news (at + before_methods c) c.methods) at (at + before_methods c) after (omega arith)
+    (methods_inside news bytes at c after p)
 
-by_fit : (b : Bool) (news : List (Option NewMethod)) (bytes : List ℕ) (at : ℕ) (c : ClassDescriptor) (after : ℕ) → AreBytes bytes → AreSmall news → HasClass bytes at c after → FitBytes (edits_by b news at c)
+by_fit : (b : Bool) (news : List (Option NewMethod)) (bytes : List ℕ) (at : ℕ) (c : ClassDescriptor) (after : ℕ) → AreBytes bytes → AreSmall news
+    → HasClass bytes at c after → FitBytes (edits_by b news at c)
 unfolding edits_by
 by_fit true news bytes at c after are small p = tt
 by_fit false news bytes at c after are small p =
-    all_fit method_descriptor_info (method_edits news) method_width (renewed_method news) bytes (method_item news bytes) (method_fit news bytes are small) p.method_count (at + before_methods c) c.methods after p.methods
+    all_fit method_descriptor_info (method_edits news) method_width (renewed_method news) bytes (method_item news bytes) (method_fit news bytes are small)
+    p.method_count (at + before_methods c) c.methods after p.methods
 
-by_renewed : (b : Bool) (news : List (Option NewMethod)) (bytes out : List ℕ) (at : ℕ) (c : ClassDescriptor) (after : ℕ) → length out ≡ length bytes → Spells class_descriptor_info bytes at c after → IsEdited (edits_by b news at c) at after bytes out → Spells class_descriptor_info out at (class_by b news c) after
+by_renewed : (b : Bool) (news : List (Option NewMethod)) (bytes out : List ℕ) (at : ℕ) (c : ClassDescriptor) (after : ℕ)
+    → length out ≡ length bytes → Spells class_descriptor_info bytes at c after → IsEdited (edits_by b news at c) at after bytes out
+    → Spells class_descriptor_info out at (class_by b news c) after
 unfolding edits_by class_by
 by_renewed true news bytes out at c after len h ed = spelled_same class_descriptor_info bytes out at c after len ed h
 by_renewed false news bytes out at c after len h ed =
@@ -248,39 +315,62 @@ by_renewed false news bytes out at c after len h ed =
       method_count = p.method_count;
       token = spelled_same u1 bytes out at c.token (at + 1) len (same_part at mid at (at + 1) bytes out s (omega arith) (omega arith)) p.token;
       flags = spelled_same u1 bytes out (at + 1) p.byte (at + 2) len (same_part at mid (at + 1) (at + 2) bytes out s (omega arith) (omega arith)) p.flags;
-      reference = spelled_same u2 bytes out (at + 2) c.class_ref (at + 4) len (same_part at mid (at + 2) (at + 4) bytes out s (omega arith) (omega arith)) p.reference;
-      interfaces_counted = spelled_same u1 bytes out (at + 4) p.interface_count (at + 5) len (same_part at mid (at + 4) (at + 5) bytes out s (omega arith) (omega arith)) p.interfaces_counted;
-      fields_counted = spelled_same u2 bytes out (at + 5) p.field_count (at + 7) len (same_part at mid (at + 5) (at + 7) bytes out s (omega arith) (omega arith)) p.fields_counted;
-      methods_counted = spelled_same u2 bytes out (at + 7) p.method_count (at + 9) len (same_part at mid (at + 7) (at + 9) bytes out s (omega arith) (omega arith)) p.methods_counted;
-      interfaces = spelled_same (repeat p.interface_count u2) bytes out (at + 9) c.interfaces (at + 9 + 2 * length c.interfaces) len (same_part at mid (at + 9) (at + 9 + 2 * length c.interfaces) bytes out s (omega arith) (omega arith)) p.interfaces;
-      fields = spelled_same (repeat p.field_count field_descriptor_info) bytes out (at + 9 + 2 * length c.interfaces) c.fields mid len (same_part at mid (at + 9 + 2 * length c.interfaces) mid bytes out s (omega arith) (omega arith)) p.fields;
-      methods = all_renewed method_descriptor_info (method_edits news) method_width (renewed_method news) bytes (method_item news bytes) out len p.method_count mid c.methods after p.methods both.1;
+      reference =
+          spelled_same u2 bytes out (at + 2) c.class_ref (at + 4) len (same_part at mid (at + 2) (at + 4) bytes out s (omega arith) (omega arith))
+          p.reference;
+      interfaces_counted =
+          spelled_same u1 bytes out (at + 4) p.interface_count (at + 5) len (same_part at mid (at + 4) (at + 5) bytes out s (omega arith) (omega arith))
+          p.interfaces_counted;
+      fields_counted =
+          spelled_same u2 bytes out (at + 5) p.field_count (at + 7) len (same_part at mid (at + 5) (at + 7) bytes out s (omega arith) (omega arith))
+          p.fields_counted;
+      methods_counted =
+          spelled_same u2 bytes out (at + 7) p.method_count (at + 9) len (same_part at mid (at + 7) (at + 9) bytes out s (omega arith) (omega arith))
+          p.methods_counted;
+      interfaces =
+          spelled_same (repeat p.interface_count u2) bytes out (at + 9) c.interfaces (at + 9 + 2 * length c.interfaces) len
+          (same_part at mid (at + 9) (at + 9 + 2 * length c.interfaces) bytes out s (omega arith) (omega arith)) p.interfaces;
+      fields =
+          spelled_same (repeat p.field_count field_descriptor_info) bytes out (at + 9 + 2 * length c.interfaces) c.fields mid len
+          (same_part at mid (at + 9 + 2 * length c.interfaces) mid bytes out s (omega arith) (omega arith)) p.fields;
+      methods =
+          all_renewed method_descriptor_info (method_edits news) method_width (renewed_method news) bytes (method_item news bytes) out len p.method_count
+          mid c.methods after p.methods both.1;
       end = omega arith;
     })
 
-edits_are : (interfaces : ℕ → Bool) (news : List (Option NewMethod)) (at : ℕ) (c : ClassDescriptor) → class_edits interfaces news at c ≡ edits_by (interfaces c.class_ref) news at c
+edits_are : (interfaces : ℕ → Bool) (news : List (Option NewMethod)) (at : ℕ) (c : ClassDescriptor)
+    → class_edits interfaces news at c ≡ edits_by (interfaces c.class_ref) news at c
 unfolding edits_by
 edits_are interfaces news at c = refl
 
-class_is : (interfaces : ℕ → Bool) (news : List (Option NewMethod)) (c : ClassDescriptor) → class_by (interfaces c.class_ref) news c ≡ renewed_class interfaces news c
+class_is : (interfaces : ℕ → Bool) (news : List (Option NewMethod)) (c : ClassDescriptor) → class_by (interfaces c.class_ref) news c
+    ≡ renewed_class interfaces news c
 unfolding class_by
 class_is interfaces news c = refl
 
-pub class_item : (interfaces : ℕ → Bool) (news : List (Option NewMethod)) (bytes : List ℕ) → IsItem class_descriptor_info (class_edits interfaces news) class_width (renewed_class interfaces news) bytes
+pub class_item : (interfaces : ℕ → Bool) (news : List (Option NewMethod)) (bytes : List ℕ)
+    → IsItem class_descriptor_info (class_edits interfaces news) class_width (renewed_class interfaces news) bytes
 class_item interfaces news bytes = record {
   wide = λ at c after h. (has_class bytes at c after h).end;
-  inside = λ at c after h. subst (λ es. AreInside es at after) (sym (edits_are interfaces news at c)) (by_inside (interfaces c.class_ref) news bytes at c after (has_class bytes at c after h));
+  inside =
+      λ at c after h. subst (λ es. AreInside es at after) (sym (edits_are interfaces news at c))
+      (by_inside (interfaces c.class_ref) news bytes at c after (has_class bytes at c after h));
   renewed = λ out at c after len h ed. subst (λ d. Spells class_descriptor_info out at d after) (class_is interfaces news c)
       (by_renewed (interfaces c.class_ref) news bytes out at c after len h (subst (λ es. IsEdited es at after bytes out) (edits_are interfaces news at c) ed));
 }
 
-class_fit : (interfaces : ℕ → Bool) (news : List (Option NewMethod)) (bytes : List ℕ) → AreBytes bytes → AreSmall news → IsFit class_descriptor_info (class_edits interfaces news) bytes
+class_fit : (interfaces : ℕ → Bool) (news : List (Option NewMethod)) (bytes : List ℕ) → AreBytes bytes → AreSmall news
+    → IsFit class_descriptor_info (class_edits interfaces news) bytes
 class_fit interfaces news bytes are small = record {
-  fit = λ at c after h. subst FitBytes (sym (edits_are interfaces news at c)) (by_fit (interfaces c.class_ref) news bytes at c after are small (has_class bytes at c after h));
+  fit =
+      λ at c after h. subst FitBytes (sym (edits_are interfaces news at c))
+      (by_fit (interfaces c.class_ref) news bytes at c after are small (has_class bytes at c after h));
 }
 
 -- the methods of a class that is no interface stand in the info
-pub class_room : (bytes : List ℕ) (at : ℕ) (c : ClassDescriptor) (after : ℕ) → Spells class_descriptor_info bytes at c after → after ≡ at + before_methods c + 12 * length c.methods
+pub class_room : (bytes : List ℕ) (at : ℕ) (c : ClassDescriptor) (after : ℕ) → Spells class_descriptor_info bytes at c after
+    → after ≡ at + before_methods c + 12 * length c.methods
 class_room bytes at c after h = let e = (has_class bytes at c after h).end in omega arith
 
 -- ---- the component
@@ -330,28 +420,42 @@ has_classes bytes d s =
 
 classes_made : (bytes : List ℕ) (d : Descriptor) → HasClasses bytes d → Stands descriptor_info bytes d
 unfolding Stands Spells
-classes_made bytes d h =
-    (h.after, (d.classes, d.types_start, (h.count, 1, h.head, h.items), (d.types_start, d.types_start, (refl, refl), (d.pool_types, h.after, (h.pool_count, d.types_start + 2, h.counted, h.types), (refl, refl)))))
+classes_made bytes d h = (
+  h.after,
+  (
+    d.classes,
+    d.types_start,
+    (h.count, 1, h.head, h.items),
+    (d.types_start, d.types_start, (refl, refl), (d.pool_types, h.after, (h.pool_count, d.types_start + 2, h.counted, h.types), (refl, refl))),
+  ),
+)
 
-before_types : (interfaces : ℕ → Bool) (news : List (Option NewMethod)) (bytes : List ℕ) (d : Descriptor) (h : HasClasses bytes d) → AreInside (descriptor_edits interfaces news d.classes) 1 d.types_start
-before_types interfaces news bytes d h = all_inside class_descriptor_info (class_edits interfaces news) class_width (renewed_class interfaces news) bytes (class_item interfaces news bytes) h.count 1 d.classes d.types_start h.items
+before_types : (interfaces : ℕ → Bool) (news : List (Option NewMethod)) (bytes : List ℕ) (d : Descriptor) (h : HasClasses bytes d)
+    → AreInside (descriptor_edits interfaces news d.classes) 1 d.types_start
+before_types interfaces news bytes d h =
+    all_inside class_descriptor_info (class_edits interfaces news) class_width (renewed_class interfaces news) bytes (class_item interfaces news bytes)
+    h.count 1 d.classes d.types_start h.items
 
-pub descriptor_inside : (interfaces : ℕ → Bool) (news : List (Option NewMethod)) (bytes : List ℕ) (d : Descriptor) → Stands descriptor_info bytes d → AreInside (descriptor_edits interfaces news d.classes) 0 (length bytes)
+pub descriptor_inside : (interfaces : ℕ → Bool) (news : List (Option NewMethod)) (bytes : List ℕ) (d : Descriptor) → Stands descriptor_info bytes d
+    → AreInside (descriptor_edits interfaces news d.classes) 0 (length bytes)
 descriptor_inside interfaces news bytes d s =
     let h = has_classes bytes d s in
     inside_from (descriptor_edits interfaces news d.classes) 0 1 (length bytes) (omega arith)
     (inside_to (descriptor_edits interfaces news d.classes) 1 d.types_start (length bytes) (before_types interfaces news bytes d h) h.start)
 
-pub descriptor_fit : (interfaces : ℕ → Bool) (news : List (Option NewMethod)) (bytes : List ℕ) (d : Descriptor) → AreBytes bytes → AreSmall news → Stands descriptor_info bytes d → FitBytes (descriptor_edits interfaces news d.classes)
+pub descriptor_fit : (interfaces : ℕ → Bool) (news : List (Option NewMethod)) (bytes : List ℕ) (d : Descriptor) → AreBytes bytes → AreSmall news
+    → Stands descriptor_info bytes d → FitBytes (descriptor_edits interfaces news d.classes)
 descriptor_fit interfaces news bytes d are small s =
     let h = has_classes bytes d s in
-    all_fit class_descriptor_info (class_edits interfaces news) class_width (renewed_class interfaces news) bytes (class_item interfaces news bytes) (class_fit interfaces news bytes are small) h.count 1 d.classes d.types_start h.items
+    all_fit class_descriptor_info (class_edits interfaces news) class_width (renewed_class interfaces news) bytes (class_item interfaces news bytes)
+    (class_fit interfaces news bytes are small) h.count 1 d.classes d.types_start h.items
 
 pub record IsRenewed (interfaces : ℕ → Bool) (news : List (Option NewMethod)) (bytes out : List ℕ) (d : Descriptor) : Type 0 where
   pub stands : Stands descriptor_info out (renewed_descriptor interfaces news d)
   pub types : AreSame d.types_start (length bytes) bytes out
 
-pub descriptor_renewed : (interfaces : ℕ → Bool) (news : List (Option NewMethod)) (bytes out : List ℕ) (d : Descriptor) → Stands descriptor_info bytes d → Renews (descriptor_edits interfaces news d.classes) bytes out → IsRenewed interfaces news bytes out d
+pub descriptor_renewed : (interfaces : ℕ → Bool) (news : List (Option NewMethod)) (bytes out : List ℕ) (d : Descriptor)
+    → Stands descriptor_info bytes d → Renews (descriptor_edits interfaces news d.classes) bytes out → IsRenewed interfaces news bytes out d
 descriptor_renewed interfaces news bytes out d s r =
     let h = has_classes bytes d s in
     let len = r.long in
@@ -368,11 +472,17 @@ descriptor_renewed interfaces news bytes out d s r =
         count = h.count;
         after = h.after;
         head = spelled_same u1 bytes out 0 h.count 1 len both.0 h.head;
-        items = all_renewed class_descriptor_info (class_edits interfaces news) class_width (renewed_class interfaces news) bytes (class_item interfaces news bytes) out len h.count 1 d.classes d.types_start h.items last.0;
+        items =
+            all_renewed class_descriptor_info (class_edits interfaces news) class_width (renewed_class interfaces news) bytes
+            (class_item interfaces news bytes) out len h.count 1 d.classes d.types_start h.items last.0;
         start = omega (arith, h.start, len);
         pool_count = h.pool_count;
-        counted = spelled_same u2 bytes out d.types_start h.pool_count (d.types_start + 2) len (same_part d.types_start (length bytes) d.types_start (d.types_start + 2) bytes out same (omega arith) (omega arith)) h.counted;
-        types = spelled_same (table h.pool_count) bytes out (d.types_start + 2) d.pool_types h.after len (same_part d.types_start (length bytes) (d.types_start + 2) h.after bytes out same (omega arith) (omega arith)) h.types;
+        counted =
+            spelled_same u2 bytes out d.types_start h.pool_count (d.types_start + 2) len
+            (same_part d.types_start (length bytes) d.types_start (d.types_start + 2) bytes out same (omega arith) (omega arith)) h.counted;
+        types =
+            spelled_same (table h.pool_count) bytes out (d.types_start + 2) d.pool_types h.after len
+            (same_part d.types_start (length bytes) (d.types_start + 2) h.after bytes out same (omega arith) (omega arith)) h.types;
         within = omega (arith, h.within, len);
         some = omega (arith, h.some, len);
       });
@@ -380,7 +490,9 @@ descriptor_renewed interfaces news bytes out d s r =
     }
 
 -- where the loop over the classes begins
-pub descriptor_begins : (interfaces : ℕ → Bool) (news : List (Option NewMethod)) (bytes : List ℕ) (d : Descriptor) → Stands descriptor_info bytes d → IsRenewing class_descriptor_info (class_edits interfaces news) class_width bytes (patched_all (descriptor_edits interfaces news d.classes) bytes) 1 d.classes bytes
+pub descriptor_begins : (interfaces : ℕ → Bool) (news : List (Option NewMethod)) (bytes : List ℕ) (d : Descriptor) → Stands descriptor_info bytes d
+    → IsRenewing class_descriptor_info (class_edits interfaces news) class_width bytes (patched_all (descriptor_edits interfaces news d.classes) bytes) 1
+    d.classes bytes
 descriptor_begins interfaces news bytes d s =
     let h = has_classes bytes d s in
     record { here = has_more class_descriptor_info bytes h.count 1 d.classes d.types_start h.some h.items; low = h.some; long = refl; so_far = refl }

@@ -55,10 +55,20 @@ has_exported bytes at c after h =
 
 exported_made : (bytes : List ℕ) (at : ℕ) (c : Exported) (after : ℕ) → HasExported bytes at c after → Spells class_export_info bytes at c after
 unfolding Spells table
-exported_made bytes at c after h =
-    (c.class_offset, at + 2, h.offset, (h.field_count, at + 3, h.fields_counted, (h.method_count, at + 4, h.methods_counted, (c.fields, at + (4 + 2 * length c.fields), h.fields, (c.methods, after, h.methods, (refl, refl))))))
+exported_made bytes at c after h = (
+  c.class_offset,
+  at + 2,
+  h.offset,
+  (
+    h.field_count,
+    at + 3,
+    h.fields_counted,
+    (h.method_count, at + 4, h.methods_counted, (c.fields, at + (4 + 2 * length c.fields), h.fields, (c.methods, after, h.methods, (refl, refl)))),
+  ),
+)
 
-methods_inside : (to : ℕ → ℕ) (bytes : List ℕ) (at : ℕ) (c : Exported) (after : ℕ) → HasExported bytes at c after → AreInside (exported_edits to at c) (at + (4 + 2 * length c.fields)) after
+methods_inside : (to : ℕ → ℕ) (bytes : List ℕ) (at : ℕ) (c : Exported) (after : ℕ) → HasExported bytes at c after
+    → AreInside (exported_edits to at c) (at + (4 + 2 * length c.fields)) after
 methods_inside to bytes at c after p =
     all_inside u2 (number_edits to) two_bytes to bytes (number_item to bytes) p.method_count (at + (4 + 2 * length c.fields)) c.methods after p.methods
 
@@ -78,9 +88,15 @@ exported_item to bytes = record {
         field_count = p.field_count;
         method_count = p.method_count;
         offset = spelled_same u2 bytes out at c.class_offset (at + 2) len (same_part at mid at (at + 2) bytes out both.0 (omega arith) (omega arith)) p.offset;
-        fields_counted = spelled_same u1 bytes out (at + 2) p.field_count (at + 3) len (same_part at mid (at + 2) (at + 3) bytes out both.0 (omega arith) (omega arith)) p.fields_counted;
-        methods_counted = spelled_same u1 bytes out (at + 3) p.method_count (at + 4) len (same_part at mid (at + 3) (at + 4) bytes out both.0 (omega arith) (omega arith)) p.methods_counted;
-        fields = spelled_same (repeat p.field_count u2) bytes out (at + 4) c.fields mid len (same_part at mid (at + 4) mid bytes out both.0 (omega arith) (omega arith)) p.fields;
+        fields_counted =
+            spelled_same u1 bytes out (at + 2) p.field_count (at + 3) len (same_part at mid (at + 2) (at + 3) bytes out both.0 (omega arith) (omega arith))
+            p.fields_counted;
+        methods_counted =
+            spelled_same u1 bytes out (at + 3) p.method_count (at + 4) len (same_part at mid (at + 3) (at + 4) bytes out both.0 (omega arith) (omega arith))
+            p.methods_counted;
+        fields =
+            spelled_same (repeat p.field_count u2) bytes out (at + 4) c.fields mid len
+            (same_part at mid (at + 4) mid bytes out both.0 (omega arith) (omega arith)) p.fields;
         methods = all_renewed u2 (number_edits to) two_bytes to bytes (number_item to bytes) out len p.method_count mid c.methods after p.methods both.1;
         end = omega arith;
       });
@@ -90,7 +106,8 @@ exported_fit : (to : ℕ → ℕ) (bytes : List ℕ) → AreBytes bytes → Keep
 exported_fit to bytes are keeps = record {
   fit = λ at c after h.
       let p = has_exported bytes at c after h in
-      all_fit u2 (number_edits to) two_bytes to bytes (number_item to bytes) (number_fit to bytes are keeps) p.method_count (at + (4 + 2 * length c.fields)) c.methods after p.methods;
+      all_fit u2 (number_edits to) two_bytes to bytes (number_item to bytes) (number_fit to bytes are keeps) p.method_count (at + (4 + 2 * length c.fields))
+      c.methods after p.methods;
 }
 
 pub record HasExport (bytes : List ℕ) (cs : List Exported) : Type 0 where
@@ -113,7 +130,10 @@ has_export bytes cs s =
     record {
       count = h.2.0;
       head = subst (λ m. Spells u1 bytes 0 h.2.0 m) one c;
-      items = rw e (subst (λ m. Spells (repeat h.2.0 class_export_info) bytes m h.0 (length bytes)) one (subst (λ m. Spells (repeat h.2.0 class_export_info) bytes h.2.1 h.0 m) end h.2.3));
+      items =
+          rw e
+          (subst (λ m. Spells (repeat h.2.0 class_export_info) bytes m h.0 (length bytes)) one
+          (subst (λ m. Spells (repeat h.2.0 class_export_info) bytes h.2.1 h.0 m) end h.2.3));
       some = omega arith;
     }
 
@@ -122,18 +142,22 @@ unfolding Stands Spells
 export_made bytes cs h =
     (length bytes, (cs, length bytes, (h.count, 1, h.head, h.items), (tt {0}, length bytes, (omega arith, refl), (refl, refl))))
 
-pub export_inside : (to : ℕ → ℕ) (bytes : List ℕ) (cs : List Exported) → Stands export_info bytes cs → AreInside (export_edits to cs) 0 (length bytes)
+pub export_inside : (to : ℕ → ℕ) (bytes : List ℕ) (cs : List Exported) → Stands export_info bytes cs
+    → AreInside (export_edits to cs) 0 (length bytes)
 export_inside to bytes cs s =
     let h = has_export bytes cs s in
     inside_from (export_edits to cs) 0 1 (length bytes) (omega arith)
     (all_inside class_export_info (exported_edits to) exported_width (renewed_exported to) bytes (exported_item to bytes) h.count 1 cs (length bytes) h.items)
 
-pub export_fit : (to : ℕ → ℕ) (bytes : List ℕ) (cs : List Exported) → AreBytes bytes → KeepsSmall to → Stands export_info bytes cs → FitBytes (export_edits to cs)
+pub export_fit : (to : ℕ → ℕ) (bytes : List ℕ) (cs : List Exported) → AreBytes bytes → KeepsSmall to → Stands export_info bytes cs
+    → FitBytes (export_edits to cs)
 export_fit to bytes cs are keeps s =
     let h = has_export bytes cs s in
-    all_fit class_export_info (exported_edits to) exported_width (renewed_exported to) bytes (exported_item to bytes) (exported_fit to bytes are keeps) h.count 1 cs (length bytes) h.items
+    all_fit class_export_info (exported_edits to) exported_width (renewed_exported to) bytes (exported_item to bytes) (exported_fit to bytes are keeps)
+    h.count 1 cs (length bytes) h.items
 
-pub export_renewed : (to : ℕ → ℕ) (bytes out : List ℕ) (cs : List Exported) → Stands export_info bytes cs → Renews (export_edits to cs) bytes out → Stands export_info out (map (renewed_exported to) cs)
+pub export_renewed : (to : ℕ → ℕ) (bytes out : List ℕ) (cs : List Exported) → Stands export_info bytes cs
+    → Renews (export_edits to cs) bytes out → Stands export_info out (map (renewed_exported to) cs)
 export_renewed to bytes out cs s r =
     let h = has_export bytes cs s in
     let len = r.long in
@@ -143,12 +167,15 @@ export_renewed to bytes out cs s r =
     export_made out (map (renewed_exported to) cs) (record {
       count = h.count;
       head = spelled_same u1 bytes out 0 h.count 1 len both.0 h.head;
-      items = rw len (all_renewed class_export_info (exported_edits to) exported_width (renewed_exported to) bytes is out len h.count 1 cs (length bytes) h.items both.1);
+      items =
+          rw len (all_renewed class_export_info (exported_edits to) exported_width (renewed_exported to) bytes is out len h.count 1 cs (length bytes)
+          h.items both.1);
       some = omega (arith, h.some, len);
     })
 
 -- where the loop over them begins
-pub export_begins : (to : ℕ → ℕ) (bytes : List ℕ) (cs : List Exported) → Stands export_info bytes cs → IsRenewing class_export_info (exported_edits to) exported_width bytes (patched_all (export_edits to cs) bytes) 1 cs bytes
+pub export_begins : (to : ℕ → ℕ) (bytes : List ℕ) (cs : List Exported) → Stands export_info bytes cs
+    → IsRenewing class_export_info (exported_edits to) exported_width bytes (patched_all (export_edits to cs) bytes) 1 cs bytes
 export_begins to bytes cs s =
     let h = has_export bytes cs s in
     record { here = has_more class_export_info bytes h.count 1 cs (length bytes) h.some h.items; low = h.some; long = refl; so_far = refl }

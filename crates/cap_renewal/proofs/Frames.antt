@@ -1,5 +1,6 @@
 -- The frame of a component.
-use Rattle.std.proofs.Common.{◌≡◌, ◌≤◌, ◌<◌, ◌+◌, ◌*◌, ◌/◌, ◌%◌, ◌^◌, ℕ, Bool, true, false, cond, List, [], ◌∷◌, ◌++◌, length, Some, None, refl, ap, subst, ◌∙◌, arith}
+use Rattle.std.proofs.Common.{◌≡◌, ◌≤◌, ◌<◌, ◌+◌, ◌*◌, ◌/◌, ◌%◌, ◌^◌, ℕ, Bool, true, false, cond, List, [], ◌∷◌}
+use Rattle.std.proofs.Common.{◌++◌, length, Some, None, refl, ap, subst, ◌∙◌, arith}
 use Rattle.std.specs.Prelude.{◌==◌}
 use Rattle.std.proofs.lemmas.Bool.Decides.{nat_tests}
 use Rattle.std.proofs.lemmas.List.{append-nil}
@@ -13,7 +14,8 @@ use Rattle.cap_bytes.proofs.Written.{writes_give, writes_number, writes_piece, w
 use Rattle.cap_renewal.specs.Files.{file_bytes}
 
 -- the steps of writing a file
-pub file_steps : (tag : ℕ) (info one two three : List ℕ) → one ≡ [] ++ tag ∷ [] → two ≡ one ++ big_bytes 2 (length info) → three ≡ two ++ info → three ≡ file_bytes tag info
+pub file_steps : (tag : ℕ) (info one two three : List ℕ) → one ≡ [] ++ tag ∷ [] → two ≡ one ++ big_bytes 2 (length info)
+    → three ≡ two ++ info → three ≡ file_bytes tag info
 file_steps tag info one two three a b c = c ∙ ap (λ xs. xs ++ info) (b ∙ ap (λ xs. xs ++ big_bytes 2 (length info)) a)
 
 -- a tag and a size as one number of three bytes
@@ -42,12 +44,15 @@ file_stands tag info t s =
     let fits : head < 256 ^ 3 = omega arith in
     let high : head / 65536 ≡ tag = omega arith in
     let low : n ≡ head % 65536 = omega arith in
-    let first : SpellsInPlace total (number 3 (other_tag tag)) 0 (big_bytes 3 head) head = writes_number total 3 head 0 (other_tag tag) fits (only_this tag (head / 65536) _ high) in
+    let first : SpellsInPlace total (number 3 (other_tag tag)) 0 (big_bytes 3 head) head = writes_number total 3 head 0 (other_tag tag) fits
+    (only_this tag (head / 65536) _ high) in
     let second : SpellsInPlace total (piece (head % 65536)) 3 info info = writes_piece total (head % 65536) 3 info low in
     let end : total ≡ 3 + length info = three in
-    let last : SpellsInPlace total (finish >>= λ end. give info) (3 + length info) ([] ++ []) info = writes_then total (3 + length info) finish (λ end. give info) [] [] (tt {0}) info (writes_finish total (3 + length info) end) (writes_give total (3 + length info + 0) info) in
+    let last : SpellsInPlace total (finish >>= λ end. give info) (3 + length info) ([] ++ []) info = writes_then total (3 + length info) finish
+    (λ end. give info) [] [] (tt {0}) info (writes_finish total (3 + length info) end) (writes_give total (3 + length info + 0) info) in
     let rest = writes_then total 3 (piece (head % 65536)) (λ info. finish >>= λ end. give info) info ([] ++ []) info info second last in
-    let all : SpellsInPlace total (component tag) 0 (big_bytes 3 head ++ (info ++ ([] ++ []))) info = writes_then total 0 (number 3 (other_tag tag)) (λ head. piece (head % 65536) >>= λ info. finish >>= λ end. give info) (big_bytes 3 head) (info ++ ([] ++ [])) head info first rest in
+    let all : SpellsInPlace total (component tag) 0 (big_bytes 3 head ++ (info ++ ([] ++ []))) info = writes_then total 0 (number 3 (other_tag tag))
+    (λ head. piece (head % 65536) >>= λ info. finish >>= λ end. give info) (big_bytes 3 head) (info ++ ([] ++ [])) head info first rest in
     let bytes : big_bytes 3 head ++ (info ++ ([] ++ [])) ≡ file_bytes tag info =
     ap (λ xs. big_bytes 3 head ++ xs) (append-nil info) ∙ ap (λ xs. xs ++ info) (three_bytes tag n t (omega arith)) in
     writes_stands (component tag) (file_bytes tag info) info (subst (λ xs. SpellsInPlace total (component tag) 0 xs info) bytes all)

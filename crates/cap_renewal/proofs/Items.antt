@@ -1,5 +1,6 @@
 -- Items that stand one after the other, and their edits.
-use Rattle.std.proofs.Common.{◌≡◌, ℕ, zero, suc, ◌+◌, ◌*◌, ◌≤◌, List, ◌∷◌, ◌++◌, length, map, refl, sym, ap, subst, ◌∙◌, arith}
+use Rattle.std.proofs.Common.{◌≡◌, ℕ, zero, suc, ◌+◌, ◌*◌, ◌≤◌, List, ◌∷◌, ◌++◌, length, map, refl, sym, ap, subst, ◌∙◌}
+use Rattle.std.proofs.Common.{arith}
 use Rattle.cap_bytes.specs.Grammar.{Grammar, repeat}
 use Rattle.cap_bytes.specs.Spelling.{Spells, info_of}
 use Rattle.cap_bytes.proofs.Wide.{read_within}
@@ -13,13 +14,16 @@ use Rattle.cap_renewal.specs.Along.{along}
 pub record IsItem {X : Type 0} (g : Grammar X) (item : ℕ → X → List Edit) (width : X → ℕ) (f : X → X) (bytes : List ℕ) : Type 0 where
   pub wide : (at : ℕ) (x : X) (after : ℕ) → Spells g bytes at x after → after ≡ at + width x
   pub inside : (at : ℕ) (x : X) (after : ℕ) → Spells g bytes at x after → AreInside (item at x) at after
-  pub renewed : (out : List ℕ) (at : ℕ) (x : X) (after : ℕ) → length out ≡ length bytes → Spells g bytes at x after → IsEdited (item at x) at after bytes out → Spells g out at (f x) after
+  pub renewed : (out : List ℕ) (at : ℕ) (x : X) (after : ℕ) → length out ≡ length bytes → Spells g bytes at x after
+      → IsEdited (item at x) at after bytes out → Spells g out at (f x) after
 
 -- the numbers of its edits have two bytes
 pub record IsFit {X : Type 0} (g : Grammar X) (item : ℕ → X → List Edit) (bytes : List ℕ) : Type 0 where
   pub fit : (at : ℕ) (x : X) (after : ℕ) → Spells g bytes at x after → FitBytes (item at x)
 
-pub all_inside : {X : Type 0} (g : Grammar X) (item : ℕ → X → List Edit) (width : X → ℕ) (f : X → X) (bytes : List ℕ) → IsItem g item width f bytes → (n at : ℕ) (xs : List X) (after : ℕ) → Spells (repeat n g) bytes at xs after → AreInside (along item width at xs) at after
+pub all_inside : {X : Type 0} (g : Grammar X) (item : ℕ → X → List Edit) (width : X → ℕ) (f : X → X) (bytes : List ℕ)
+    → IsItem g item width f bytes → (n at : ℕ) (xs : List X) (after : ℕ) → Spells (repeat n g) bytes at xs after
+    → AreInside (along item width at xs) at after
 unfolding Spells
 all_inside g item width f bytes is zero at xs after h = rw h.0 (omega (arith, h.1))
 all_inside g item width f bytes is (suc n) at xs after h =
@@ -29,7 +33,9 @@ all_inside g item width f bytes is (suc n) at xs after h =
     let d : after ≡ h.3.1 = h.3.3.1 in
     rw (e, d) (inside_append (item at h.0) (along item width (at + width h.0) h.3.0) at h.1 h.3.1 (is.inside at h.0 h.1 h.2) (rw (← w) r))
 
-pub all_fit : {X : Type 0} (g : Grammar X) (item : ℕ → X → List Edit) (width : X → ℕ) (f : X → X) (bytes : List ℕ) → IsItem g item width f bytes → IsFit g item bytes → (n at : ℕ) (xs : List X) (after : ℕ) → Spells (repeat n g) bytes at xs after → FitBytes (along item width at xs)
+pub all_fit : {X : Type 0} (g : Grammar X) (item : ℕ → X → List Edit) (width : X → ℕ) (f : X → X) (bytes : List ℕ)
+    → IsItem g item width f bytes → IsFit g item bytes → (n at : ℕ) (xs : List X) (after : ℕ) → Spells (repeat n g) bytes at xs after
+    → FitBytes (along item width at xs)
 unfolding Spells
 all_fit g item width f bytes is fit zero at xs after h = rw h.0 tt
 all_fit g item width f bytes is fit (suc n) at xs after h =
@@ -38,7 +44,9 @@ all_fit g item width f bytes is fit (suc n) at xs after h =
     let e : xs ≡ h.0 ∷ h.3.0 = h.3.3.0 in
     rw e (fit_append (item at h.0) (along item width (at + width h.0) h.3.0) (fit.fit at h.0 h.1 h.2) (rw (← w) r))
 
-pub all_renewed : {X : Type 0} (g : Grammar X) (item : ℕ → X → List Edit) (width : X → ℕ) (f : X → X) (bytes : List ℕ) → IsItem g item width f bytes → (out : List ℕ) → length out ≡ length bytes → (n at : ℕ) (xs : List X) (after : ℕ) → Spells (repeat n g) bytes at xs after → IsEdited (along item width at xs) at after bytes out → Spells (repeat n g) out at (map f xs) after
+pub all_renewed : {X : Type 0} (g : Grammar X) (item : ℕ → X → List Edit) (width : X → ℕ) (f : X → X) (bytes : List ℕ)
+    → IsItem g item width f bytes → (out : List ℕ) → length out ≡ length bytes → (n at : ℕ) (xs : List X) (after : ℕ)
+    → Spells (repeat n g) bytes at xs after → IsEdited (along item width at xs) at after bytes out → Spells (repeat n g) out at (map f xs) after
 unfolding Spells
 all_renewed g item width f bytes is out len zero at xs after h ed = (rw h.0 refl, h.1)
 all_renewed g item width f bytes is out len (suc n) at xs after h ed =
@@ -47,7 +55,8 @@ all_renewed g item width f bytes is out len (suc n) at xs after h ed =
     let d : after ≡ h.3.1 = h.3.3.1 in
     let rest : AreInside (along item width h.1 h.3.0) h.1 h.3.1 = all_inside g item width f bytes is n h.1 h.3.0 h.3.1 h.3.2 in
     let first : AreInside (item at h.0) at h.1 = is.inside at h.0 h.1 h.2 in
-    let whole : IsEdited (item at h.0 ++ along item width h.1 h.3.0) at h.3.1 bytes out = rw w (rw (← d) (subst (λ ys. IsEdited (along item width at ys) at after bytes out) e ed)) in
+    let whole : IsEdited (item at h.0 ++ along item width h.1 h.3.0) at h.3.1 bytes out = rw w
+    (rw (← d) (subst (λ ys. IsEdited (along item width at ys) at after bytes out) e ed)) in
     let both = edited_split (item at h.0) (along item width h.1 h.3.0) at h.1 h.3.1 bytes out first rest whole in (
       f h.0,
       h.1,
@@ -55,7 +64,8 @@ all_renewed g item width f bytes is out len (suc n) at xs after h ed =
       (map f h.3.0, h.3.1, all_renewed g item width f bytes is out len n h.1 h.3.0 h.3.1 h.3.2 both.1, (rw e refl, d)),
     )
 
-pub length_spelled : {X : Type 0} (g : Grammar X) (bytes : List ℕ) (n at : ℕ) (xs : List X) (after : ℕ) → Spells (repeat n g) bytes at xs after → length xs ≡ n
+pub length_spelled : {X : Type 0} (g : Grammar X) (bytes : List ℕ) (n at : ℕ) (xs : List X) (after : ℕ) → Spells (repeat n g) bytes at xs after
+    → length xs ≡ n
 unfolding Spells
 length_spelled g bytes zero at xs after h = rw h.0 refl
 length_spelled g bytes (suc n) at xs after h =
@@ -63,7 +73,9 @@ length_spelled g bytes (suc n) at xs after h =
     rw e (ap suc (length_spelled g bytes n h.1 h.3.0 h.3.1 h.3.2))
 
 -- so many items of one width
-pub all_wide : {X : Type 0} (g : Grammar X) (w : ℕ) (bytes : List ℕ) → ((at : ℕ) (x : X) (after : ℕ) → Spells g bytes at x after → after ≡ at + w) → (n at : ℕ) (xs : List X) (after : ℕ) → Spells (repeat n g) bytes at xs after → after ≡ at + w * length xs
+pub all_wide : {X : Type 0} (g : Grammar X) (w : ℕ) (bytes : List ℕ)
+    → ((at : ℕ) (x : X) (after : ℕ) → Spells g bytes at x after → after ≡ at + w) → (n at : ℕ) (xs : List X) (after : ℕ)
+    → Spells (repeat n g) bytes at xs after → after ≡ at + w * length xs
 unfolding Spells
 all_wide g w bytes wide zero at xs after h = rw h.0 (omega (arith, h.1))
 all_wide g w bytes wide (suc n) at xs after h =
@@ -81,7 +93,8 @@ pub record HasMore {X : Type 0} (g : Grammar X) (bytes : List ℕ) (at : ℕ) (x
   pub spelled : Spells (repeat (length xs) g) bytes at xs after
   pub within : after ≤ length bytes
 
-pub has_more : {X : Type 0} (g : Grammar X) (bytes : List ℕ) (n at : ℕ) (xs : List X) (after : ℕ) → at ≤ length bytes → Spells (repeat n g) bytes at xs after → HasMore g bytes at xs
+pub has_more : {X : Type 0} (g : Grammar X) (bytes : List ℕ) (n at : ℕ) (xs : List X) (after : ℕ) → at ≤ length bytes
+    → Spells (repeat n g) bytes at xs after → HasMore g bytes at xs
 has_more g bytes n at xs after le h =
     let e : length xs ≡ n = length_spelled g bytes n at xs after h in
     record { after = after; spelled = rw e h; within = read_within (info_of 0) (repeat n g) bytes at xs after le h }
@@ -108,7 +121,8 @@ more_first g bytes at x xs more =
     }
 
 -- the bytes are renewed up to a place, and those of the items from there on are still to be
-pub record IsRenewing {X : Type 0} (g : Grammar X) (item : ℕ → X → List Edit) (width : X → ℕ) (bytes whole : List ℕ) (at : ℕ) (left : List X) (now : List ℕ) : Type 0 where
+pub record IsRenewing {X : Type 0} (g : Grammar X) (item : ℕ → X → List Edit) (width : X → ℕ) (bytes whole : List ℕ) (at : ℕ) (left : List X)
+    (now : List ℕ) : Type 0 where
   pub here : HasMore g bytes at left
   pub low : at ≤ length now
   pub long : length now ≡ length bytes
@@ -119,7 +133,9 @@ pub record IsNext {X : Type 0} (g : Grammar X) (width : X → ℕ) (bytes now : 
   pub spelled : Spells g bytes at x (at + width x)
   pub within : at + width x ≤ length now
 
-pub renewing_next : {X : Type 0} (g : Grammar X) (item : ℕ → X → List Edit) (width : X → ℕ) (f : X → X) (bytes whole : List ℕ) (at : ℕ) (left : List X) (now : List ℕ) (x : X) (xs : List X) → IsItem g item width f bytes → IsRenewing g item width bytes whole at left now → left ≡ x ∷ xs → IsNext g width bytes now at x
+pub renewing_next : {X : Type 0} (g : Grammar X) (item : ℕ → X → List Edit) (width : X → ℕ) (f : X → X) (bytes whole : List ℕ) (at : ℕ)
+    (left : List X) (now : List ℕ) (x : X) (xs : List X) → IsItem g item width f bytes → IsRenewing g item width bytes whole at left now
+    → left ≡ x ∷ xs → IsNext g width bytes now at x
 renewing_next g item width f bytes whole at left now x xs is r e =
     let more : HasMore g bytes at (x ∷ xs) = subst (λ ys. HasMore g bytes at ys) e r.here in
     let first = more_first g bytes at x xs more in
@@ -135,12 +151,16 @@ more_low g bytes at xs h =
     let le = h.within in
     omega arith
 
-pub renewing_more : {X : Type 0} (g : Grammar X) (item : ℕ → X → List Edit) (width : X → ℕ) (f : X → X) (bytes whole : List ℕ) (at : ℕ) (left : List X) (now : List ℕ) (x : X) (xs : List X) (next : ℕ) (new : List ℕ) → IsItem g item width f bytes → IsRenewing g item width bytes whole at left now → left ≡ x ∷ xs → next ≡ at + width x → new ≡ patched_all (item at x) now → length new ≡ length now → IsRenewing g item width bytes whole next xs new
+pub renewing_more : {X : Type 0} (g : Grammar X) (item : ℕ → X → List Edit) (width : X → ℕ) (f : X → X) (bytes whole : List ℕ) (at : ℕ)
+    (left : List X) (now : List ℕ) (x : X) (xs : List X) (next : ℕ) (new : List ℕ) → IsItem g item width f bytes
+    → IsRenewing g item width bytes whole at left now → left ≡ x ∷ xs → next ≡ at + width x → new ≡ patched_all (item at x) now
+    → length new ≡ length now → IsRenewing g item width bytes whole next xs new
 renewing_more g item width f bytes whole at left now x xs next new is r e n p l =
     let more : HasMore g bytes at (x ∷ xs) = subst (λ ys. HasMore g bytes at ys) e r.here in
     let first = more_first g bytes at x xs more in
     let w : first.middle ≡ next = is.wide at x first.middle first.first ∙ sym n in
-    let so_far : patched_all (item at x ++ along item width (at + width x) xs) now ≡ whole = subst (λ ys. patched_all (along item width at ys) now ≡ whole) e r.so_far in
+    let so_far : patched_all (item at x ++ along item width (at + width x) xs) now
+    ≡ whole = subst (λ ys. patched_all (along item width at ys) now ≡ whole) e r.so_far in
     let rest : HasMore g bytes next xs = subst (λ m. HasMore g bytes m xs) w first.rest in
     record {
       here = rest;

@@ -24,16 +24,19 @@ push_small news m s all = record { each = λ o. by news o (λ k. all.each k) }
     by (x ∷ xs) zero each = each 0
     by (x ∷ xs) (suc o) each = by xs o (λ k. each (suc k))
 
-pub one_small : (news : List (Option NewMethod)) (m : NewMethod) → AreSmall news → m.offset < 65536 → m.bytecode_count < 65536 → m.handler_count < 65536 → m.handler_index < 65536 → AreSmall (news ++ Some m ∷ [])
+pub one_small : (news : List (Option NewMethod)) (m : NewMethod) → AreSmall news → m.offset < 65536 → m.bytecode_count < 65536
+    → m.handler_count < 65536 → m.handler_index < 65536 → AreSmall (news ++ Some m ∷ [])
 one_small news m all a b c d = push_small news (Some m) (record { offset = a; bytecode_count = b; handler_count = c; handler_index = d }) all
 
 pub no_more : (news : List (Option NewMethod)) → AreSmall news → AreSmall (news ++ None ∷ [])
 no_more news all = push_small news None tt all
 
-small_by : (m : MethodDescriptor) (n : Option NewMethod) → IsSmallIf n → m.method_offset < 65536 → m.bytecode_count < 65536 → m.handler_count < 65536 → m.handler_index < 65536 → IsSmall (numbers_or m n)
+small_by : (m : MethodDescriptor) (n : Option NewMethod) → IsSmallIf n → m.method_offset < 65536 → m.bytecode_count < 65536
+    → m.handler_count < 65536 → m.handler_index < 65536 → IsSmall (numbers_or m n)
 small_by m None s a b c d = record { offset = a; bytecode_count = b; handler_count = c; handler_index = d }
 small_by m (Some n) s a b c d = s
 
-pub small_numbers : (news : List (Option NewMethod)) (m : MethodDescriptor) → AreSmall news → m.method_offset < 65536 → m.bytecode_count < 65536 → m.handler_count < 65536 → m.handler_index < 65536 → IsSmall (new_numbers news m)
+pub small_numbers : (news : List (Option NewMethod)) (m : MethodDescriptor) → AreSmall news → m.method_offset < 65536 → m.bytecode_count < 65536
+    → m.handler_count < 65536 → m.handler_index < 65536 → IsSmall (new_numbers news m)
 unfolding new_numbers
 small_numbers news m s a b c d = small_by m (at_offset news m.method_offset) (s.each m.method_offset) a b c d

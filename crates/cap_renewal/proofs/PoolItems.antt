@@ -1,5 +1,6 @@
 -- A pool entry with another offset.
-use Rattle.std.proofs.Common.{◌≡◌, ℕ, ◌+◌, ◌≤◌, ◌<◌, List, [], ◌∷◌, length, map, take, drop, Option, Some, None, slice_index, refl, sym, ap, subst, ◌∙◌, arith}
+use Rattle.std.proofs.Common.{◌≡◌, ℕ, ◌+◌, ◌≤◌, ◌<◌, List, [], ◌∷◌, length, map, take, drop, Option, Some, None, slice_index, refl}
+use Rattle.std.proofs.Common.{sym, ap, subst, ◌∙◌, arith}
 use Rattle.std.proofs.lemmas.List.{get_or-take, get_or-drop, drop_more}
 use Rattle.byteorder.specs.Endian.{big_bytes}
 use Rattle.cap_bytes.specs.Grammar.{number, that, u2, repeat}
@@ -47,10 +48,12 @@ by_inside to at (Some o) = (omega arith, omega arith)
 three_bytes : (k : ℕ) (xs : List ℕ) → k < length xs → take 3 (drop k xs) ≡ slice_index xs k ∷ take 2 (drop (k + 1) xs)
 three_bytes k xs h = ap (take 3) (drop_more xs k 0 h)
 
-first_byte : (bytes : List ℕ) (at : ℕ) (e : Entry) (after : ℕ) → HasEntry bytes at e after → (k : ℕ) → k < 3 → slice_index e.bytes k ≡ slice_index bytes (at + 1 + k)
+first_byte : (bytes : List ℕ) (at : ℕ) (e : Entry) (after : ℕ) → HasEntry bytes at e after → (k : ℕ) → k < 3
+    → slice_index e.bytes k ≡ slice_index bytes (at + 1 + k)
 first_byte bytes at e after p k h = ap (λ xs. slice_index xs k) p.three ∙ get_or-take 3 (drop (at + 1) bytes) k 0 h ∙ get_or-drop (at + 1) bytes k 0
 
-by_renewed : (to : ℕ → ℕ) (bytes out : List ℕ) (at : ℕ) (e : Entry) (after : ℕ) (o : Option ℕ) → length out ≡ length bytes → Spells entry_info bytes at e after → IsEdited (edits_by to at o) at after bytes out → Spells entry_info out at (entry_by to e o) after
+by_renewed : (to : ℕ → ℕ) (bytes out : List ℕ) (at : ℕ) (e : Entry) (after : ℕ) (o : Option ℕ) → length out ≡ length bytes
+    → Spells entry_info bytes at e after → IsEdited (edits_by to at o) at after bytes out → Spells entry_info out at (entry_by to e o) after
 unfolding Spells
 by_renewed to bytes out at e after None len h ed = spelled_same entry_info bytes out at e after len ed h
 by_renewed to bytes out at e after (Some o) len h ed =
@@ -64,10 +67,16 @@ by_renewed to bytes out at e after (Some o) len h ed =
     let kept : slice_index out (at + 1) ≡ slice_index bytes (at + 1) = ed.0.each (at + 1) (omega arith) (omega arith) in
     let there : take 2 (drop (at + 1 + 1) out) ≡ big_bytes 2 (to o) = ap (λ k. take 2 (drop k out)) two ∙ ed.1.bytes in
     let three : take 3 (drop (at + 1) out) ≡ slice_index e.bytes 0 ∷ big_bytes 2 (to o) =
-    three_bytes (at + 1) out (omega arith) ∙ ap (λ b. b ∷ take 2 (drop (at + 1 + 1) out)) (kept ∙ sym old) ∙ ap (λ bs. slice_index e.bytes 0 ∷ bs) there in
-    (e.tag, at + 1, spelled_same (number 1 (that is_pool_tag)) bytes out at e.tag (at + 1) len one p.tag, (slice_index e.bytes 0 ∷ big_bytes 2 (to o), at + 4, (omega arith, sym three, omega arith), (refl, end)))
+    three_bytes (at + 1) out (omega arith) ∙ ap (λ b. b ∷ take 2 (drop (at + 1 + 1) out)) (kept ∙ sym old)
+    ∙ ap (λ bs. slice_index e.bytes 0 ∷ bs) there in (
+      e.tag,
+      at + 1,
+      spelled_same (number 1 (that is_pool_tag)) bytes out at e.tag (at + 1) len one p.tag,
+      (slice_index e.bytes 0 ∷ big_bytes 2 (to o), at + 4, (omega arith, sym three, omega arith), (refl, end)),
+    )
 
-by_fit : (to : ℕ → ℕ) (at : ℕ) (e : Entry) (x : PoolReference) → referred e ≡ x → slice_index e.bytes 1 < 256 → slice_index e.bytes 2 < 256 → KeepsSmall to → FitBytes (edits_by to at (own_offset x))
+by_fit : (to : ℕ → ℕ) (at : ℕ) (e : Entry) (x : PoolReference) → referred e ≡ x → slice_index e.bytes 1 < 256 → slice_index e.bytes 2 < 256
+    → KeepsSmall to → FitBytes (edits_by to at (own_offset x))
 by_fit to at e (StaticMethod (Internal o)) is b c keeps = let told = (own-told e o [] is).told in (keeps.each o (omega (arith, told, b, c)), tt)
 by_fit to at e other is b c keeps = tt
 
@@ -110,7 +119,10 @@ has_pool bytes es s =
     record {
       count = h.0;
       head = subst (λ m. Spells u2 bytes 0 h.0 m) two c;
-      items = rw e (subst (λ m. Spells (repeat h.0 entry_info) bytes m r.0 (length bytes)) two (subst (λ m. Spells (repeat h.0 entry_info) bytes h.1 r.0 m) end r.2));
+      items =
+          rw e
+          (subst (λ m. Spells (repeat h.0 entry_info) bytes m r.0 (length bytes)) two
+          (subst (λ m. Spells (repeat h.0 entry_info) bytes h.1 r.0 m) end r.2));
       some = omega arith;
     }
 
@@ -125,12 +137,15 @@ pool_inside to bytes es s =
     inside_from (pool_edits to es) 0 2 (length bytes) (omega arith)
     (all_inside entry_info (entry_edits to) entry_width (renewed_entry to) bytes (entry_item to bytes) h.count 2 es (length bytes) h.items)
 
-pub pool_fit : (to : ℕ → ℕ) (bytes : List ℕ) (es : List Entry) → AreBytes bytes → KeepsSmall to → Stands pool_info bytes es → FitBytes (pool_edits to es)
+pub pool_fit : (to : ℕ → ℕ) (bytes : List ℕ) (es : List Entry) → AreBytes bytes → KeepsSmall to → Stands pool_info bytes es
+    → FitBytes (pool_edits to es)
 pool_fit to bytes es are keeps s =
     let h = has_pool bytes es s in
-    all_fit entry_info (entry_edits to) entry_width (renewed_entry to) bytes (entry_item to bytes) (entry_fit to bytes are keeps) h.count 2 es (length bytes) h.items
+    all_fit entry_info (entry_edits to) entry_width (renewed_entry to) bytes (entry_item to bytes) (entry_fit to bytes are keeps) h.count 2 es
+    (length bytes) h.items
 
-pub pool_renewed : (to : ℕ → ℕ) (bytes out : List ℕ) (es : List Entry) → Stands pool_info bytes es → Renews (pool_edits to es) bytes out → Stands pool_info out (map (renewed_entry to) es)
+pub pool_renewed : (to : ℕ → ℕ) (bytes out : List ℕ) (es : List Entry) → Stands pool_info bytes es → Renews (pool_edits to es) bytes out
+    → Stands pool_info out (map (renewed_entry to) es)
 pool_renewed to bytes out es s r =
     let h = has_pool bytes es s in
     let len = r.long in
@@ -145,7 +160,8 @@ pool_renewed to bytes out es s r =
     })
 
 -- where the loop over them begins
-pub pool_begins : (to : ℕ → ℕ) (bytes : List ℕ) (es : List Entry) → Stands pool_info bytes es → IsRenewing entry_info (entry_edits to) entry_width bytes (patched_all (pool_edits to es) bytes) 2 es bytes
+pub pool_begins : (to : ℕ → ℕ) (bytes : List ℕ) (es : List Entry) → Stands pool_info bytes es
+    → IsRenewing entry_info (entry_edits to) entry_width bytes (patched_all (pool_edits to es) bytes) 2 es bytes
 pool_begins to bytes es s =
     let h = has_pool bytes es s in
     record { here = has_more entry_info bytes h.count 2 es (length bytes) h.some h.items; low = h.some; long = refl; so_far = refl }

@@ -17,7 +17,8 @@ own_or_not other = inl refl
 pub record NamesOwn (to : ℕ → ℕ) (e : Entry) : Type 0 where
   pub offset : ℕ
   pub named : referred e ≡ StaticMethod (Internal offset)
-  pub renewed : referred (renewed_entry to e) ≡ StaticMethod (Internal (slice_index (big_bytes 2 (to offset)) 0 * 256 + slice_index (big_bytes 2 (to offset)) 1))
+  pub renewed : referred (renewed_entry to e)
+      ≡ StaticMethod (Internal (slice_index (big_bytes 2 (to offset)) 0 * 256 + slice_index (big_bytes 2 (to offset)) 1))
 
 pub none-or-own : (to : ℕ → ℕ) (e : Entry) → (own_method e ≡ None) ⊎ NamesOwn to e
 none-or-own to e = elim (own_or_not (referred e)) [
@@ -30,7 +31,8 @@ none-or-own to e = elim (own_or_not (referred e)) [
 ]
 
 -- what is asked of a reference and is one thing for all the package's own static methods
-pub asked-same : {Z : Type 0} (g : PoolReference → Z) (d : Z) → ((o : ℕ) → g (StaticMethod (Internal o)) ≡ d) → (to : ℕ → ℕ) (e : Entry) → g (referred (renewed_entry to e)) ≡ g (referred e)
+pub asked-same : {Z : Type 0} (g : PoolReference → Z) (d : Z) → ((o : ℕ) → g (StaticMethod (Internal o)) ≡ d) → (to : ℕ → ℕ) (e : Entry)
+    → g (referred (renewed_entry to e)) ≡ g (referred e)
 asked-same g d own to e = elim (none-or-own to e) [
   | inl none ↦ ap (λ o. g (referred (entry_by to e o))) none
   | inr n ↦ ap g n.renewed ∙ own _ ∙ sym (own n.offset) ∙ sym (ap g n.named)

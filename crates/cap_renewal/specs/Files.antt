@@ -26,7 +26,8 @@ pub record IsRenewed
   pub renews : Renews (edits items) before info
 
 -- the same of a component that may be absent
-abbrev pub IsRenewedIf : {X : Type 0} → List Lent → ℕ → Grammar X → (X → X) → (X → List Edit) → Option X → Option (List ℕ) → Type 0
+abbrev pub IsRenewedIf : {X : Type 0} → List Lent → ℕ → Grammar X → (X → X) → (X → List Edit) → Option X
+    → Option (List ℕ) → Type 0
 IsRenewedIf old tag g renew edits None None = held old tag ≡ None
 IsRenewedIf old tag g renew edits None (Some file) = ⊥
 IsRenewedIf old tag g renew edits (Some items) None = ⊥

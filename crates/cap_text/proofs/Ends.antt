@@ -21,14 +21,16 @@ past_one : (word : List ℕ) (tail : List (List ℕ)) → is_end word ≡ false 
 past_one word tail is = rw is refl
 
 -- a word that ends the folders is the first such
-pub hit : (ws rest tail : List (List ℕ)) (word : List ℕ) (count : ℕ) → rest ≡ drop count ws → count + position_or_len is_end rest ≡ position_or_len is_end ws
+pub hit : (ws rest tail : List (List ℕ)) (word : List ℕ) (count : ℕ) → rest ≡ drop count ws → count + position_or_len is_end rest
+    ≡ position_or_len is_end ws
     → rest ≡ word ∷ tail → is_end word ≡ true → tail ≡ after_first is_end ws
 hit ws rest tail word count left place is ends =
     let none : position_or_len is_end rest ≡ 0 = ap (position_or_len is_end) is ∙ at_end word tail ends in
     let here : position_or_len is_end ws ≡ count = omega (arith, none, place) in
     sym (ap (λ n. drop (n + 1) ws) here ∙ dropped_one count ws word tail (sym left ∙ is))
 
-pub left_one : (ws rest tail : List (List ℕ)) (word : List ℕ) (count : ℕ) → rest ≡ drop count ws → rest ≡ word ∷ tail → tail ≡ drop (count + 1) ws
+pub left_one : (ws rest tail : List (List ℕ)) (word : List ℕ) (count : ℕ) → rest ≡ drop count ws → rest ≡ word ∷ tail
+    → tail ≡ drop (count + 1) ws
 left_one ws rest tail word count left is = sym (dropped_one count ws word tail (sym left ∙ is))
 
 pub place_one : (ws rest tail : List (List ℕ)) (word : List ℕ) (count : ℕ) → count + position_or_len is_end rest ≡ position_or_len is_end ws
@@ -37,5 +39,6 @@ place_one ws rest tail word count place is goes =
     let one : position_or_len is_end rest ≡ 1 + position_or_len is_end tail = ap (position_or_len is_end) is ∙ past_one word tail goes in
     omega (arith, one, place)
 
-pub few_one : (ws rest tail : List (List ℕ)) (word : List ℕ) (count : ℕ) → count + length rest ≡ length ws → rest ≡ word ∷ tail → count + 1 + length tail ≡ length ws
+pub few_one : (ws rest tail : List (List ℕ)) (word : List ℕ) (count : ℕ) → count + length rest ≡ length ws → rest ≡ word ∷ tail
+    → count + 1 + length tail ≡ length ws
 few_one ws rest tail word count few is = let one : length rest ≡ suc (length tail) = ap length is in omega (arith, one, few)

@@ -1,5 +1,6 @@
 -- A word that writes an entry is split at its full stop.
-use Rattle.std.proofs.Common.{◌≡◌, ◌≢◌, ℕ, ◌<◌, ◌^◌, Option, List, [], ◌∷◌, ◌++◌, length, zero, suc, Bor, ap, sym, refl, subst, arith}
+use Rattle.std.proofs.Common.{◌≡◌, ◌≢◌, ℕ, ◌<◌, ◌^◌, Option, List, [], ◌∷◌, ◌++◌, length, zero, suc, Bor, ap, sym, refl, subst}
+use Rattle.std.proofs.Common.{arith}
 use Rattle.std.specs.Prelude.{decimal, get_or, MatchOption}
 use Rattle.std.specs.Char.{digit_value}
 use Rattle.std.specs.Str.Parse.{AllDigits}
@@ -45,7 +46,8 @@ split_same (x ∷ xs) (u ∷ us) ys vs all_xs all_us same =
     (λ i. head i ∷ rest.0 i, rest.1)
 
 -- two texts of a number, a full stop and a number are of the same numbers
-pub entry_halves : (e f : Entry) → e.class_no < 2 ^ 16 → f.class_no < 2 ^ 16 → decimal e.class_no ++ (46 ∷ decimal e.method_no) ≡ decimal f.class_no ++ (46 ∷ decimal f.method_no)
+pub entry_halves : (e f : Entry) → e.class_no < 2 ^ 16 → f.class_no < 2 ^ 16 → decimal e.class_no ++ (46 ∷ decimal e.method_no)
+    ≡ decimal f.class_no ++ (46 ∷ decimal f.method_no)
     → (decimal e.class_no ≡ decimal f.class_no) × (decimal e.method_no ≡ decimal f.method_no)
 entry_halves e f small less same =
     split_same (decimal e.class_no) (decimal f.class_no) (decimal e.method_no) (decimal f.method_no)

@@ -10,6 +10,10 @@ use Rattle.cap_text.specs.Word.{IsFolderWord, AreFolderWords}
 pub tells_folders : (told : Bool) (words : List (List ℕ)) (first : List ℕ) (rest : List (List ℕ)) → words ≡ first ∷ rest → IsFolderWord first
     → MatchBool told (AllWithin IsFolderWord rest 0 (length rest)) ((k : ℕ) × (k < length rest) × HoldsAt (λ w. IsFolderWord w → ⊥) rest k)
     → IsTrue told ↔ AreFolderWords words
-tells_folders true words first rest are names visit = (λ yes. subst AreFolderWords (sym are) (names, All-from_all_within IsFolderWord rest visit), λ all. refl)
-tells_folders false words first rest are names visit =
-    (λ yes. absurd (false≢true yes), λ all. true_from_All IsFolderWord (λ w. IsFolderWord w → ⊥) false rest (λ w is no. no is) visit ((subst AreFolderWords are all).1))
+tells_folders true words first rest are names visit =
+    (λ yes. subst AreFolderWords (sym are) (names, All-from_all_within IsFolderWord rest visit), λ all. refl)
+tells_folders false words first rest are names visit = (
+  λ yes. absurd (false≢true yes),
+  λ all. true_from_All IsFolderWord (λ w. IsFolderWord w → ⊥) false rest (λ w is no. no is) visit
+      ((subst AreFolderWords are all).1),
+)

@@ -1,6 +1,7 @@
 -- std's `parse` reads each word that the grammar allows, and a comparison of texts that fails
 -- tells two lists apart.
-use Rattle.std.proofs.Common.{◌≡◌, ◌≢◌, ℕ, ◌<◌, ◌≤◌, ◌^◌, ℤ, pos, negsuc, FitsSigned, List, [], ◌∷◌, length, Bor, ap, subst, false, eqb, sym, ◌∙◌, arith, rules, w32, to_z, of_z, true≢false}
+use Rattle.std.proofs.Common.{◌≡◌, ◌≢◌, ℕ, ◌<◌, ◌≤◌, ◌^◌, ℤ, pos, negsuc, FitsSigned, List, [], ◌∷◌, length, Bor, ap, subst}
+use Rattle.std.proofs.Common.{false, eqb, sym, ◌∙◌, arith, rules, w32, to_z, of_z, true≢false}
 use Rattle.std.specs.Prelude.{Result, Ok, Err, Option, Some, None, MatchOption, IfSome, IfNone, IsTrue, codes, decimal}
 use Rattle.std.specs.Fmt.{signed_decimal}
 use Rattle.std.specs.Str.Parse.{ParsesUnsigned, ParsesSigned}
@@ -80,14 +81,16 @@ unread digits bs e is w =
     absurd (cc)
 
 -- digits that the bytes that were read do not print write no bytes
-pub printed_apart : (digits bs read : List ℕ) → decode_of digits ≡ Ok read → (encode_lower read ≡ digits → ⊥) → IsBytesWord (35 ∷ digits) bs → ⊥
+pub printed_apart : (digits bs read : List ℕ) → decode_of digits ≡ Ok read → (encode_lower read ≡ digits → ⊥)
+    → IsBytesWord (35 ∷ digits) bs → ⊥
 printed_apart digits bs read is apart w =
     let same = digits_of digits bs w in
     let back : decode_of digits ≡ Ok bs = subst (λ d. decode_of d ≡ Ok bs) (sym same) (decode_of-encode_lower bs w.are_bytes) in
     apart (ap encode_lower (decode_of-same digits read bs is back) ∙ sym same)
 
 -- bytes that were read from digits and print as them are written by them
-pub written : (digits read : List ℕ) → decode_of digits ≡ Ok read → encode_lower read ≡ digits → length digits ≤ 2048 → IsBytesWord (35 ∷ digits) read
+pub written : (digits read : List ℕ) → decode_of digits ≡ Ok read → encode_lower read ≡ digits → length digits ≤ 2048
+    → IsBytesWord (35 ∷ digits) read
 written digits read is prints few =
     let same : length digits ≡ length (encode_lower read) = ap length (sym prints) in
     let twice = length-encode_with lower_digits read in
@@ -99,11 +102,13 @@ written digits read is prints few =
 
 -- ---- a number of 16 bits
 
-pub short_is_read : {E : Type 0} (word : List ℕ) (r : Result ℕ E) (n : ℕ) → ParsesUnsigned 16 10 word r → n < 2 ^ 16 → word ≡ decimal n → r ≡ Ok n
+pub short_is_read : {E : Type 0} (word : List ℕ) (r : Result ℕ E) (n : ℕ) → ParsesUnsigned 16 10 word r → n < 2 ^ 16 → word ≡ decimal n
+    → r ≡ Ok n
 short_is_read word r n reads fits writes = parse-decimal 16 n word r fits (omega (arith, fits)) writes reads
 
 -- no number of 16 bits is written by a word that the one that was read does not print
-pub no_short : {E : Type 0} (word : List ℕ) (r : Result ℕ E) (x : ℕ) → ParsesUnsigned 16 10 word r → r ≡ Ok x → (word ≡ decimal x → IsTrue false)
+pub no_short : {E : Type 0} (word : List ℕ) (r : Result ℕ E) (x : ℕ) → ParsesUnsigned 16 10 word r → r ≡ Ok x
+    → (word ≡ decimal x → IsTrue false)
     → (n : ℕ) → n < 2 ^ 16 → word ≢ decimal n
 no_short word r x reads is other n fits = λ writes.
     let read : r ≡ Ok n = short_is_read word r n reads fits writes in
@@ -136,7 +141,8 @@ unfolding first
 no_null_sign digits e = let differ : 35 ≡ 110 = ap first e in omega (arith, differ)
 
 -- a word with a number sign writes bytes or nothing
-pub no_signed : (word digits : List ℕ) → word ≡ 35 ∷ digits → ((bs : List ℕ) → IsBytesWord (35 ∷ digits) bs → ⊥) → (a : Argument) → IsArgWord word a → ⊥
+pub no_signed : (word digits : List ℕ) → word ≡ 35 ∷ digits → ((bs : List ℕ) → IsBytesWord (35 ∷ digits) bs → ⊥) → (a : Argument)
+    → IsArgWord word a → ⊥
 no_signed word digits is none null w = no_null_sign digits (sym is ∙ w)
 no_signed word digits is none (number z) w = no_sign z digits w.1 (sym is ∙ w.0)
 no_signed word digits is none (bytes bs) w = none bs (subst (λ t. IsBytesWord t bs) is w)

@@ -66,7 +66,8 @@ one_probe : (operands : List (List ℕ)) (p q : ProbeRequest) → IsProbe operan
 one_probe [] p q is_p is_q = absurd is_p
 one_probe (dir ∷ []) p q is_p is_q = absurd is_p
 one_probe (dir ∷ budget ∷ args) p q is_p is_q =
-    let steps : p.budget ≡ q.budget = decimal_injective p.budget q.budget (omega (arith, is_p.2.fits)) (omega (arith, is_q.2.fits)) (sym is_p.2.writes ∙ is_q.2.writes) in
+    let steps : p.budget ≡ q.budget = decimal_injective p.budget q.budget (omega (arith, is_p.2.fits)) (omega (arith, is_q.2.fits))
+    (sym is_p.2.writes ∙ is_q.2.writes) in
     let same_dir : p.dir ≡ q.dir = is_p.0 ∙ sym is_q.0 in
     let same_args = one_list args p.args q.args is_p.3 is_q.3 in
     λ i. record { dir = same_dir i; budget = steps i; args = same_args i }
@@ -87,14 +88,16 @@ one_entry : (word : List ℕ) (e f : Entry) → IsEntryWord word e → IsEntryWo
 one_entry word e f p q =
     let same = entry_halves e f p.class_fits q.class_fits (sym p.writes ∙ q.writes) in
     let class_no : e.class_no ≡ f.class_no = decimal_injective e.class_no f.class_no (omega (arith, p.class_fits)) (omega (arith, q.class_fits)) same.0 in
-    let method_no : e.method_no ≡ f.method_no = decimal_injective e.method_no f.method_no (omega (arith, p.method_fits)) (omega (arith, q.method_fits)) same.1 in
+    let method_no : e.method_no ≡ f.method_no = decimal_injective e.method_no f.method_no (omega (arith, p.method_fits)) (omega (arith, q.method_fits))
+    same.1 in
     λ i. record { class_no = class_no i; method_no = method_no i }
 
 one_run : (operands : List (List ℕ)) (r s : RunRequest) → AreRunWords operands r → AreRunWords operands s → r ≡ s
 one_run [] r s is_r is_s = absurd is_r
 one_run (budget ∷ []) r s is_r is_s = absurd is_r
 one_run (budget ∷ entry ∷ words) r s is_r is_s =
-    let steps : r.budget ≡ s.budget = decimal_injective r.budget s.budget (omega (arith, is_r.0.fits)) (omega (arith, is_s.0.fits)) (sym is_r.0.writes ∙ is_s.0.writes) in
+    let steps : r.budget ≡ s.budget = decimal_injective r.budget s.budget (omega (arith, is_r.0.fits)) (omega (arith, is_s.0.fits))
+    (sym is_r.0.writes ∙ is_s.0.writes) in
     let entries : r.entry ≡ s.entry = one_entry entry r.entry s.entry is_r.1 is_s.1 in
     let same_dirs : r.dirs ≡ s.dirs = is_r.2.folders ∙ sym is_s.2.folders in
     let same_args : r.args ≡ s.args = one_list (after_first is_end words) r.args s.args is_r.2.arguments is_s.2.arguments in
@@ -111,7 +114,8 @@ one_generate : (operands : List (List ℕ)) (g h : GenerateRequest) → IsGenera
 one_generate [] g h is_g is_h = absurd is_g
 one_generate (seed ∷ []) g h is_g is_h = absurd is_g
 one_generate (seed ∷ out ∷ []) g h is_g is_h =
-    let same_seed : g.seed ≡ h.seed = decimal_injective g.seed h.seed (omega (arith, is_g.0.fits)) (omega (arith, is_h.0.fits)) (sym is_g.0.writes ∙ is_h.0.writes) in
+    let same_seed : g.seed ≡ h.seed = decimal_injective g.seed h.seed (omega (arith, is_g.0.fits)) (omega (arith, is_h.0.fits))
+    (sym is_g.0.writes ∙ is_h.0.writes) in
     let same_out : g.out ≡ h.out = is_g.1 ∙ sym is_h.1 in
     λ i. record { seed = same_seed i; out = same_out i }
 one_generate (seed ∷ out ∷ more ∷ rest) g h is_g is_h = absurd is_g

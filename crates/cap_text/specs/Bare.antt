@@ -6,7 +6,8 @@ use Rattle.cap_text.specs.Fault.{name_1}
 use Rattle.jc_decode.specs.declared.insn.CodeEnd.{CodeEnd}
 use Rattle.jc_decode.specs.declared.insn.CodeEnd.TheVariants.{NoOpcode, Cut, OutOfScope, BadOperand}
 use Rattle.cap_bare.specs.declared.fault.BareKind.{BareKind}
-use Rattle.cap_bare.specs.declared.fault.BareKind.TheVariants.{Code, Underflow, Overflow, NoLocal, StackAtTarget, StackAtBranch, BadTarget, FallsOff}
+use Rattle.cap_bare.specs.declared.fault.BareKind.TheVariants.{Code, Underflow, Overflow, NoLocal, StackAtTarget, StackAtBranch, BadTarget}
+use Rattle.cap_bare.specs.declared.fault.BareKind.TheVariants.{FallsOff}
 
 abbrev pub code_end_text : CodeEnd → List ℕ
 code_end_text (NoOpcode opcode) = name_1 (codes "NoOpcode") opcode

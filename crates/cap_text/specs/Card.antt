@@ -3,7 +3,8 @@ use Rattle.std.specs.Prelude.{ℕ, List, [], ◌∷◌, codes, decimal}
 use Rattle.std.specs.List.{concat}
 use Rattle.card_typing.specs.declared.fault.CardFault.{CardFault}
 use Rattle.card_typing.specs.declared.fault.CardKind.{CardKind}
-use Rattle.card_typing.specs.declared.fault.CardKind.TheVariants.{Code, Rule, StackAtTarget, StackAtBranch, HandlerEntered, BadTarget, FallsOff, BadHandler, BadIndex, NotIndexed}
+use Rattle.card_typing.specs.declared.fault.CardKind.TheVariants.{Code, Rule, StackAtTarget, StackAtBranch, HandlerEntered, BadTarget}
+use Rattle.card_typing.specs.declared.fault.CardKind.TheVariants.{FallsOff, BadHandler, BadIndex, NotIndexed}
 use Rattle.cap_text.specs.Fault.{name_1}
 use Rattle.cap_text.specs.Bare.{code_end_text, bad_target_text}
 use Rattle.cap_text.specs.Rule.{rule_fault_text}

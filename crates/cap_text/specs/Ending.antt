@@ -69,7 +69,8 @@ kind_name ty = []
 
 -- an array by its handle, its kind and the number of its elements
 abbrev pub array_head : ℕ → Ty → ℕ → List ℕ
-array_head handle ty count = concat (codes "array " ∷ decimal handle ∷ codes " " ∷ kind_name ty ∷ codes " " ∷ decimal count ∷ [])
+array_head handle ty count =
+    concat (codes "array " ∷ decimal handle ∷ codes " " ∷ kind_name ty ∷ codes " " ∷ decimal count ∷ [])
 
 -- an element after a space
 abbrev pub element_text : ℤ → List ℕ

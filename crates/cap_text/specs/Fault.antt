@@ -7,7 +7,10 @@ use Rattle.cap_bytes.specs.declared.fault.FormKind.TheVariants.{Cut, WrongTag, B
 use Rattle.cap_bytes.specs.declared.fault.FormFault.{FormFault}
 use Rattle.cap_components.specs.CountKind.{number_of_kind}
 use Rattle.cap_components.specs.declared.fault.PackFault.{PackFault}
-use Rattle.cap_components.specs.declared.fault.PackFault.TheVariants.{Form, MissingPart, SizeDisagrees, MethodOverlaps, MethodOutside, CountDisagrees, HandlerOutside, StaticOverlaps, NoMethodAt, ClassUndescribed, TooManyRegisters, BadType, StaticOutside, MethodLength, NoStaticAt, PartTooLong}
+use Rattle.cap_components.specs.declared.fault.PackFault.TheVariants.{Form, MissingPart, SizeDisagrees, MethodOverlaps, MethodOutside}
+use Rattle.cap_components.specs.declared.fault.PackFault.TheVariants.{CountDisagrees, HandlerOutside, StaticOverlaps, NoMethodAt}
+use Rattle.cap_components.specs.declared.fault.PackFault.TheVariants.{ClassUndescribed, TooManyRegisters, BadType, StaticOutside}
+use Rattle.cap_components.specs.declared.fault.PackFault.TheVariants.{MethodLength, NoStaticAt, PartTooLong}
 
 -- a name and one, two or three numbers
 abbrev pub name_1 : List ℕ → ℕ → List ℕ

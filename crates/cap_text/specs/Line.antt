@@ -21,7 +21,8 @@ use Rattle.jc_flow.specs.declared.end.FlowEnd.TheVariants.{Memory}
 
 -- the parts of a package, by its number from 0, make no package
 abbrev pub malformed_line : ℕ → PackFault → List ℕ
-malformed_line number fault = concat (codes "malformed package " ∷ decimal number ∷ codes " " ∷ pack_fault_text fault ∷ codes "\n" ∷ [])
+malformed_line number fault =
+    concat (codes "malformed package " ∷ decimal number ∷ codes " " ∷ pack_fault_text fault ∷ codes "\n" ∷ [])
 
 -- the packages make no world with the roles
 abbrev pub not_linked_line : LinkFault → List ℕ
@@ -46,7 +47,8 @@ memory_line = codes "memory\n"
 
 -- the verifier refuses the bare method at a place
 abbrev pub refused_bare_line : BareFault → List ℕ
-refused_bare_line fault = concat (codes "refused place " ∷ decimal fault.place ∷ codes " " ∷ bare_kind_text fault.kind ∷ codes "\n" ∷ [])
+refused_bare_line fault =
+    concat (codes "refused place " ∷ decimal fault.place ∷ codes " " ∷ bare_kind_text fault.kind ∷ codes "\n" ∷ [])
 
 -- each method with code of the last package has a dataflow typing, and there are so many
 abbrev pub typed_line : ℕ → List ℕ
@@ -54,7 +56,9 @@ typed_line count = concat (codes "typed " ∷ decimal count ∷ codes " methods\
 
 -- a method by the numbers of its package, of its class in the Descriptor, and of itself in the class, each from 0
 abbrev pub method_text : MethodNumber → List ℕ
-method_text m = concat (codes "package " ∷ decimal m.package ∷ codes " method " ∷ decimal m.class_no ∷ codes "." ∷ decimal m.method_no ∷ [])
+method_text m =
+    concat (codes "package " ∷ decimal m.package ∷ codes " method " ∷ decimal m.class_no ∷ codes "." ∷ decimal
+    m.method_no ∷ [])
 
 -- the method has no dataflow typing; out of memory, nothing is known of it, and there is no line
 abbrev pub refused_flow_line : MethodNumber → FlowEnd → List ℕ
@@ -67,7 +71,8 @@ accepted_line count = concat (codes "accepted " ∷ decimal count ∷ codes " me
 
 -- the method has no card typing
 abbrev pub refused_card_line : MethodNumber → CardFault → List ℕ
-refused_card_line method fault = concat (codes "refused " ∷ method_text method ∷ codes " " ∷ card_fault_text fault ∷ codes "\n" ∷ [])
+refused_card_line method fault =
+    concat (codes "refused " ∷ method_text method ∷ codes " " ∷ card_fault_text fault ∷ codes "\n" ∷ [])
 
 -- how a run of a bare method ends
 abbrev pub bare_ending_line : BareEnd → List ℕ

@@ -2,7 +2,9 @@
 use Rattle.std.specs.Prelude.{ℕ, List, codes}
 use Rattle.cap_text.specs.Fault.{name_1, name_2}
 use Rattle.jc_link.specs.LinkFault.{LinkFault}
-use Rattle.jc_link.specs.LinkFault.TheVariants.{TooManyPackages, TooManyClasses, TooManyMethods, NoPackage, NoClass, SuperIsInterface, Cycle, NoRole, NoSuper, NotInterface, Hole, OverrideType, InterfaceType, InstanceLong, TooManyStatics, NoMember, BadCatch, NoRoom, RoleAbstract}
+use Rattle.jc_link.specs.LinkFault.TheVariants.{TooManyPackages, TooManyClasses, TooManyMethods, NoPackage, NoClass, SuperIsInterface}
+use Rattle.jc_link.specs.LinkFault.TheVariants.{Cycle, NoRole, NoSuper, NotInterface, Hole, OverrideType, InterfaceType, InstanceLong}
+use Rattle.jc_link.specs.LinkFault.TheVariants.{TooManyStatics, NoMember, BadCatch, NoRoom, RoleAbstract}
 
 abbrev pub link_fault_text : LinkFault → List ℕ
 link_fault_text (TooManyPackages n) = name_1 (codes "TooManyPackages") n

@@ -10,4 +10,5 @@ printed_text (Alone name) = name.now
 printed_text (One name a) = name_1 name.now a
 printed_text (Two name a b) = name_2 name.now a b
 printed_text (Three name a b c) = name_3 name.now a b c
-printed_text (Kind name a b kind) = concat (name.now ∷ codes " " ∷ decimal a ∷ codes " " ∷ decimal b ∷ codes " " ∷ kind.now ∷ [])
+printed_text (Kind name a b kind) =
+    concat (name.now ∷ codes " " ∷ decimal a ∷ codes " " ∷ decimal b ∷ codes " " ∷ kind.now ∷ [])

@@ -3,9 +3,11 @@ use Rattle.std.specs.Prelude.{ℕ, List, [], ◌∷◌, codes, decimal}
 use Rattle.std.specs.List.{concat}
 use Rattle.cap_text.specs.Fault.{name_1}
 use Rattle.jc_base.specs.declared.ty.Ty.{Ty}
-use Rattle.jc_base.specs.declared.ty.Ty.TheVariants.{Bottom, Short, IntHigh, IntLow, Null, Class, ArrBool, ArrByte, ArrShort, ArrInt, ArrRef, Fresh, Top}
+use Rattle.jc_base.specs.declared.ty.Ty.TheVariants.{Bottom, Short, IntHigh, IntLow, Null, Class, ArrBool, ArrByte, ArrShort, ArrInt}
+use Rattle.jc_base.specs.declared.ty.Ty.TheVariants.{ArrRef, Fresh, Top}
 use Rattle.jc_ops.specs.declared.fault.RuleFault.{RuleFault}
-use Rattle.jc_ops.specs.declared.fault.RuleFault.TheVariants.{Underflow, Overflow, Mismatch, NoLocal, SplitInt, FreshKept, BadMember, NotConcrete, StackMerge}
+use Rattle.jc_ops.specs.declared.fault.RuleFault.TheVariants.{Underflow, Overflow, Mismatch, NoLocal, SplitInt, FreshKept, BadMember}
+use Rattle.jc_ops.specs.declared.fault.RuleFault.TheVariants.{NotConcrete, StackMerge}
 
 -- an object on which no constructor was called, by the place of the `new` that makes it and by its class
 abbrev pub fresh_text : ℕ → ℕ → List ℕ

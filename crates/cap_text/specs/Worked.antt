@@ -12,7 +12,8 @@ use Rattle.vm_step.specs.declared.ending.Fault.TheVariants.{StackFault}
 use Rattle.vm_step.specs.declared.ending.Ending.TheVariants as endings
 use Rattle.cap_text.specs.Ending.{ending_line, static_lines, array_line}
 use Rattle.cap_text.specs.Table.{component_line}
-use Rattle.cap_text.specs.Line.{malformed_line, not_linked_line, not_started_line, refused_bare_line, typed_line, refused_flow_line, bare_ending_line, accepted_line, refused_card_line}
+use Rattle.cap_text.specs.Line.{malformed_line, not_linked_line, not_started_line, refused_bare_line, typed_line, refused_flow_line}
+use Rattle.cap_text.specs.Line.{bare_ending_line, accepted_line, refused_card_line}
 use Rattle.cap_text.specs.Transformed.{transformed_line, registers_limit_line, stack_limit_line, part_limit_line}
 use Rattle.card_typing.specs.declared.fault.CardKind.TheVariants as cards
 use Rattle.card_typing.specs.declared.fault.CardKind.TheVariants.{StackAtBranch}
@@ -102,7 +103,8 @@ two_transformed : transformed_line 2 ≡ codes "transformed 2 methods\n"
 unfolding digits
 two_transformed = refl
 
-many_registers : registers_limit_line (record { «package» = 1; class_no = 0; method_no = 3 }) 256 ≡ codes "limit method 0.3 Registers 256\n"
+many_registers : registers_limit_line (record { «package» = 1; class_no = 0; method_no = 3 }) 256
+    ≡ codes "limit method 0.3 Registers 256\n"
 unfolding digits
 many_registers = refl
 

@@ -1,5 +1,6 @@
 -- Described methods stand apart in the Method component, since the parts of a package agree.
-use Rattle.std.proofs.Common.{◌≡◌, ◌≤◌, ◌<◌, ◌+◌, ℕ, Bool, true, false, cond, List, [], ◌∷◌, length, map, Option, Some, None, refl, sym, ap, ◌∙◌, arith, leb}
+use Rattle.std.proofs.Common.{◌≡◌, ◌≤◌, ◌<◌, ◌+◌, ℕ, Bool, true, false, cond, List, [], ◌∷◌, length, map, Option, Some, None, refl}
+use Rattle.std.proofs.Common.{sym, ap, ◌∙◌, arith, leb}
 use Rattle.std.specs.Prelude.{min, max, ◌||◌}
 use Rattle.std.specs.List.{filter_map}
 use Rattle.std.proofs.lemmas.Bool.{ltb-false}
@@ -44,7 +45,8 @@ ends_inside info n m none =
 
 pub all_end : (info : List ℕ) (n : ℕ) (ms : List MethodDescriptor) → filter_map (outside_fault info n) ms ≡ [] → AllEnd info ms
 all_end info n [] e = tt
-all_end info n (m ∷ ms) e = let f = faultless_first (outside_fault info n m) (filter_map (outside_fault info n) ms) e in (ends_inside info n m f.0, all_end info n ms f.1)
+all_end info n (m ∷ ms) e =
+    let f = faultless_first (outside_fault info n m) (filter_map (outside_fault info n) ms) e in (ends_inside info n m f.0, all_end info n ms f.1)
 
 -- no offset of a list is another one
 abbrev pub IsNone : ℕ → List ℕ → Type 0
@@ -68,7 +70,8 @@ max_same n = grind arith
 least_above : (o a b c : ℕ) → o < a → o < b → o < c → o < min (min a b) c
 least_above o a b c x y z = grind arith
 
-differ : (info : List ℕ) (a b : MethodDescriptor) → EndsInside info a → EndsInside info b → overlap_fault info a b ≡ None → b.method_offset ≡ a.method_offset → ⊥
+differ : (info : List ℕ) (a b : MethodDescriptor) → EndsInside info a → EndsInside info b → overlap_fault info a b ≡ None
+    → b.method_offset ≡ a.method_offset → ⊥
 unfolding overlap_fault
 differ info a b ea eb none same =
     let f = test_false (share_byte info a b) (MethodOverlaps (min a.method_offset b.method_offset) (max a.method_offset b.method_offset)) none in
@@ -80,14 +83,17 @@ differ info a b ea eb none same =
     let above = least_above a.method_offset (code_end info a) (code_end info b) (length info) (omega arith) (omega arith) (omega arith) in
     omega arith
 
-one_apart : (info : List ℕ) (a : MethodDescriptor) (ms : List MethodDescriptor) → EndsInside info a → AllEnd info ms → filter_map (overlap_pair info) (map (λ b. (a, b)) ms) ≡ [] → IsNone a.method_offset (map offset_of ms)
+one_apart : (info : List ℕ) (a : MethodDescriptor) (ms : List MethodDescriptor) → EndsInside info a → AllEnd info ms
+    → filter_map (overlap_pair info) (map (λ b. (a, b)) ms) ≡ [] → IsNone a.method_offset (map offset_of ms)
 one_apart info a [] ea es e = tt
 one_apart info a (b ∷ ms) ea es e =
     let f = faultless_first (overlap_fault info a b) (filter_map (overlap_pair info) (map (λ b. (a, b)) ms)) e in
     (differ info a b ea es.0 f.0, one_apart info a ms ea es.1 f.1)
 
-pub all_apart : (info : List ℕ) (ms : List MethodDescriptor) → AllEnd info ms → filter_map (overlap_pair info) (pairs ms) ≡ [] → AreDistinct (map offset_of ms)
+pub all_apart : (info : List ℕ) (ms : List MethodDescriptor) → AllEnd info ms → filter_map (overlap_pair info) (pairs ms) ≡ []
+    → AreDistinct (map offset_of ms)
 all_apart info [] es e = tt
 all_apart info (a ∷ ms) es e =
-    let parts = both_empty (filter_map (overlap_pair info) (map (λ b. (a, b)) ms)) (filter_map (overlap_pair info) (pairs ms)) (sym (filter_map-append (overlap_pair info) (map (λ b. (a, b)) ms) (pairs ms)) ∙ e) in
+    let parts = both_empty (filter_map (overlap_pair info) (map (λ b. (a, b)) ms)) (filter_map (overlap_pair info) (pairs ms))
+    (sym (filter_map-append (overlap_pair info) (map (λ b. (a, b)) ms) (pairs ms)) ∙ e) in
     (one_apart info a ms es.0 es.1 parts.0, all_apart info ms es.1 parts.1)

@@ -1,5 +1,6 @@
 -- The custom components that the Directory names once methods are written anew.
-use Rattle.std.proofs.Common.{◌≡◌, ◌≤◌, ◌<◌, ℕ, Bool, true, false, cond, List, [], ◌∷◌, ◌++◌, filter, find, Some, None, refl, sym, ap, ◌∙◌, arith}
+use Rattle.std.proofs.Common.{◌≡◌, ◌≤◌, ◌<◌, ℕ, Bool, true, false, cond, List, [], ◌∷◌, ◌++◌, filter, find, Some, None, refl, sym}
+use Rattle.std.proofs.Common.{ap, ◌∙◌, arith}
 use Rattle.std.specs.Prelude.{◌==◌, ◌&&◌, not, nat_le, IsTrue}
 use Rattle.std.proofs.lemmas.Bool.Decides.{nat_tests}
 use Rattle.std.proofs.lemmas.Bool.{eqb-true, ne_eqb}
@@ -21,17 +22,21 @@ find_back : (tag : ℕ) (xs ys : List Custom) → find (has_tag tag) xs ≡ None
 find_back tag [] ys e = refl
 find_back tag (x ∷ xs) ys e = by (x.tag == tag) e (λ k. find_back tag xs ys k)
   where
-    by : (b : Bool) → cond b (Some x) (find (has_tag tag) xs) ≡ None → (find (has_tag tag) xs ≡ None → find (has_tag tag) (xs ++ ys) ≡ find (has_tag tag) ys) → cond b (Some x) (find (has_tag tag) (xs ++ ys)) ≡ find (has_tag tag) ys
+    by : (b : Bool) → cond b (Some x) (find (has_tag tag) xs) ≡ None
+        → (find (has_tag tag) xs ≡ None → find (has_tag tag) (xs ++ ys) ≡ find (has_tag tag) ys) → cond b (Some x) (find (has_tag tag) (xs ++ ys))
+        ≡ find (has_tag tag) ys
     by true e rest = absurd (cc)
     by false e rest = rest e
 
 -- a component with another tag stays
-find_other : (change : IndexChange) (tag : ℕ) (cs : List Custom) → (tag ≡ 128 → ⊥) → find (has_tag tag) (filter (stays_in_index change) cs) ≡ find (has_tag tag) cs
+find_other : (change : IndexChange) (tag : ℕ) (cs : List Custom) → (tag ≡ 128 → ⊥) → find (has_tag tag) (filter (stays_in_index change) cs)
+    ≡ find (has_tag tag) cs
 find_other change tag [] h = refl
 find_other change tag (c ∷ cs) h = by (drops change) (c.tag == 128) (c.tag == tag) refl refl (find_other change tag cs h)
   where
     by : (d x y : Bool) → (c.tag == 128) ≡ x → (c.tag == tag) ≡ y → find (has_tag tag) (filter (stays_in_index change) cs) ≡ find (has_tag tag) cs
-        → find (has_tag tag) (cond (not (d && x)) (c ∷ filter (stays_in_index change) cs) (filter (stays_in_index change) cs)) ≡ cond y (Some c) (find (has_tag tag) cs)
+        → find (has_tag tag) (cond (not (d && x)) (c ∷ filter (stays_in_index change) cs) (filter (stays_in_index change) cs)) ≡ cond y (Some c)
+        (find (has_tag tag) cs)
     by false x y e f r = ap (λ b. cond b (Some c) (find (has_tag tag) (filter (stays_in_index change) cs))) f ∙ ap (λ o. cond y (Some c) o) r
     by true false y e f r = ap (λ b. cond b (Some c) (find (has_tag tag) (filter (stays_in_index change) cs))) f ∙ ap (λ o. cond y (Some c) o) r
     by true true false e f r = r
@@ -42,7 +47,8 @@ entry_other Kept tag h = refl
 entry_other Dropped tag h = refl
 entry_other (Written size) tag h = ap (λ b. cond b (Some (record { tag = 128; size = size; aid = index_aid })) None) (ne_eqb 128 tag (λ e. h (sym e)))
 
-pub found_other : (change : IndexChange) (tag : ℕ) (cs : List Custom) → (tag ≡ 128 → ⊥) → find (has_tag tag) (new_customs change cs) ≡ find (has_tag tag) cs
+pub found_other : (change : IndexChange) (tag : ℕ) (cs : List Custom) → (tag ≡ 128 → ⊥) → find (has_tag tag) (new_customs change cs)
+    ≡ find (has_tag tag) cs
 found_other change tag cs h = find_front tag (filter (stays_in_index change) cs) (index_entry change) (entry_other change tag h) ∙ find_other change tag cs h
 
 -- the one with the tag of a target index stays, or goes
@@ -57,7 +63,8 @@ find_gone : (change : IndexChange) (cs : List Custom) → drops change ≡ true 
 find_gone change [] d = refl
 find_gone change (c ∷ cs) d = by (drops change) (c.tag == 128) d refl (find_gone change cs d)
   where
-    by : (d x : Bool) → d ≡ true → (c.tag == 128) ≡ x → find (has_tag 128) (filter (stays_in_index change) cs) ≡ None → find (has_tag 128) (cond (not (d && x)) (c ∷ filter (stays_in_index change) cs) (filter (stays_in_index change) cs)) ≡ None
+    by : (d x : Bool) → d ≡ true → (c.tag == 128) ≡ x → find (has_tag 128) (filter (stays_in_index change) cs) ≡ None
+        → find (has_tag 128) (cond (not (d && x)) (c ∷ filter (stays_in_index change) cs) (filter (stays_in_index change) cs)) ≡ None
     by false x d e r = absurd (cc)
     by true true d e r = r
     by true false d e r = ap (λ b. cond b (Some c) (find (has_tag 128) (filter (stays_in_index change) cs))) e ∙ r
@@ -65,7 +72,8 @@ find_gone change (c ∷ cs) d = by (drops change) (c.tag == 128) d refl (find_go
 pub found_dropped : (cs : List Custom) → find (has_tag 128) (new_customs Dropped cs) ≡ None
 found_dropped cs = find_front 128 (filter (stays_in_index Dropped) cs) [] refl ∙ find_gone Dropped cs refl
 
-pub found_written : (size : ℕ) (cs : List Custom) → find (has_tag 128) (new_customs (Written size) cs) ≡ Some (record { tag = 128; size = size; aid = index_aid })
+pub found_written : (size : ℕ) (cs : List Custom) → find (has_tag 128) (new_customs (Written size) cs)
+    ≡ Some (record { tag = 128; size = size; aid = index_aid })
 found_written size cs = find_back 128 (filter (stays_in_index (Written size)) cs) (index_entry (Written size)) (find_gone (Written size) cs refl)
 
 -- ---- tags
@@ -81,11 +89,13 @@ new_least named tag e = by (nat_le 128 tag) refl e
     by true e h = grind (arith, nat_tests)
     by false e h = absurd (cc)
 
-pub tag_found : (named : ℕ → Bool) (cs : List Custom) (tag : ℕ) (c : Custom) → AreCustoms named cs → find (has_tag tag) cs ≡ Some c → IsCustomTag tag
+pub tag_found : (named : ℕ → Bool) (cs : List Custom) (tag : ℕ) (c : Custom) → AreCustoms named cs → find (has_tag tag) cs ≡ Some c
+    → IsCustomTag tag
 tag_found named [] tag c a e = absurd (cc)
 tag_found named (x ∷ xs) tag c a e = by (x.tag == tag) refl e (λ k. tag_found (and_that_of named x) xs tag c a.4 k)
   where
-    by : (b : Bool) → (x.tag == tag) ≡ b → cond b (Some x) (find (has_tag tag) xs) ≡ Some c → (find (has_tag tag) xs ≡ Some c → IsCustomTag tag) → IsCustomTag tag
+    by : (b : Bool) → (x.tag == tag) ≡ b → cond b (Some x) (find (has_tag tag) xs) ≡ Some c
+        → (find (has_tag tag) xs ≡ Some c → IsCustomTag tag) → IsCustomTag tag
     by true f e rest =
         let same = eqb-true x.tag tag f in
         let least = new_least named x.tag a.0 in

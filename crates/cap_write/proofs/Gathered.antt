@@ -25,7 +25,8 @@ other_than : (This That : Type 0) (b : Bool) → b ≡ false → Either b This T
 other_than This That true e x = absurd (cc)
 other_than This That false e x = x
 
-module _ (p : PackageRecord) (news : List (Option NewMethod)) (methods references : List ℕ) (index : Index) (parts : List Lent) (f : AreFiled (IsFile p news methods references index) 256 parts) where
+module _ (p : PackageRecord) (news : List (Option NewMethod)) (methods references : List ℕ) (index : Index) (parts : List Lent)
+    (f : AreFiled (IsFile p news methods references index) 256 parts) where
   other_file : (tag : ℕ) → tag < 256 → (tag ≡ 0) ⊎ (12 < tag) → (tag ≡ 128 → ⊥) → held parts tag ≡ held p.parts tag
   other_file tag lt (inl zero) not_index = subst (λ t. held parts t ≡ held p.parts t) (sym zero) (f.each 0 (omega arith))
   other_file tag lt (inr high) not_index =
@@ -59,14 +60,19 @@ module _ (p : PackageRecord) (news : List (Option NewMethod)) (methods reference
     rising = f.rising;
   }
 
-pub are_written : (p : PackageRecord) (laid : List (Option Laid)) (ms : List WrittenMember) (w : Written) (index : Index) (parts : List Lent) → AreMembersFor p laid ms → MembersFit ms → IsWrittenAs (length p.methods.info) (length p.methods.handlers) ms w
-    → AreFiled (IsFile p w.news w.info.items w.references.items index) 256 parts → AreWritten p (length p.methods.info) (length p.methods.handlers) ms index parts
+pub are_written : (p : PackageRecord) (laid : List (Option Laid)) (ms : List WrittenMember) (w : Written) (index : Index) (parts : List Lent)
+    → AreMembersFor p laid ms → MembersFit ms → IsWrittenAs (length p.methods.info) (length p.methods.handlers) ms w
+    → AreFiled (IsFile p w.news w.info.items w.references.items index) 256 parts → AreWritten p (length p.methods.info) (length p.methods.handlers) ms
+    index parts
 are_written p laid ms w index parts are fit seen f =
     let size = length p.methods.info in
     let room = length p.methods.handlers in
-    let g : AreFiled (IsFile p (new_places size room ms) w.info.items w.references.items index) 256 parts = subst (λ x. AreFiled (IsFile p x w.info.items w.references.items index) 256 parts) seen.news f in
-    let h : AreFiled (IsFile p (new_places size room ms) (written_info size room ms) w.references.items index) 256 parts = subst (λ x. AreFiled (IsFile p (new_places size room ms) x w.references.items index) 256 parts) seen.info g in
-    let k : AreFiled (IsFile p (new_places size room ms) (written_info size room ms) (written_references size room ms) index) 256 parts = subst (λ x. AreFiled (IsFile p (new_places size room ms) (written_info size room ms) x index) 256 parts) seen.references h in
+    let g : AreFiled (IsFile p (new_places size room ms) w.info.items w.references.items index) 256 parts = subst
+    (λ x. AreFiled (IsFile p x w.info.items w.references.items index) 256 parts) seen.news f in
+    let h : AreFiled (IsFile p (new_places size room ms) (written_info size room ms) w.references.items index) 256 parts = subst
+    (λ x. AreFiled (IsFile p (new_places size room ms) x w.references.items index) 256 parts) seen.info g in
+    let k : AreFiled (IsFile p (new_places size room ms) (written_info size room ms) (written_references size room ms) index) 256 parts = subst
+    (λ x. AreFiled (IsFile p (new_places size room ms) (written_info size room ms) x index) 256 parts) seen.references h in
     record {
       short = seen.short;
       stand = methods_stand size room ms are.may;
@@ -75,7 +81,8 @@ are_written p laid ms w index parts are fit seen f =
       files = parts_of p (new_places size room ms) (written_info size room ms) (written_references size room ms) index parts k;
     }
 
-pub written_of : (p : PackageRecord) (laid : List (Option Laid)) (ms : List WrittenMember) (w : Written) (index : Index) (parts : List Lent) → AreMembersFor p laid ms → MembersFit ms → IsWrittenAs (length p.methods.info) (length p.methods.handlers) ms w
+pub written_of : (p : PackageRecord) (laid : List (Option Laid)) (ms : List WrittenMember) (w : Written) (index : Index) (parts : List Lent)
+    → AreMembersFor p laid ms → MembersFit ms → IsWrittenAs (length p.methods.info) (length p.methods.handlers) ms w
     → IsNewIndex p laid index → AreFiled (IsFile p w.news w.info.items w.references.items index) 256 parts → IsWritten p laid parts
 written_of p laid ms w index parts are fit seen i f = record {
   members = ms;

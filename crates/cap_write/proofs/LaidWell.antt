@@ -34,7 +34,8 @@ well_none : (p : PackageRecord) (ms : List MethodDescriptor) (ns : List (Option 
 well_none p [] ns h = h
 well_none p (m ∷ ms) ns h = well_none p ms ns h
 
-well_some : (p : PackageRecord) (ms ks : List MethodDescriptor) (ns : List (Option MethodDescriptor)) → Each (WasWell p) (ms ++ ks) → (Each (WasWell p) ks → AreWell p ns) → AreWell p (map Some ms ++ ns)
+well_some : (p : PackageRecord) (ms ks : List MethodDescriptor) (ns : List (Option MethodDescriptor)) → Each (WasWell p) (ms ++ ks)
+    → (Each (WasWell p) ks → AreWell p ns) → AreWell p (map Some ms ++ ns)
 well_some p [] ks ns h f = f h
 well_some p (m ∷ ms) ks ns h f = (h.0, well_some p ms ks ns h.1 f)
 
@@ -42,15 +43,18 @@ well_for : (p : PackageRecord) (set : ℕ → Bool) (cs : List ClassDescriptor) 
 well_for p set [] h = tt
 well_for p set (c ∷ cs) h = by (set c.class_ref) h (λ k. well_for p set cs k)
   where
-    by : (b : Bool) → Each (WasWell p) (if b then methods_but set cs else c.methods ++ methods_but set cs) → (Each (WasWell p) (methods_but set cs) → AreWell p (methods_for set cs))
+    by : (b : Bool) → Each (WasWell p) (if b then methods_but set cs else c.methods ++ methods_but set cs)
+        → (Each (WasWell p) (methods_but set cs) → AreWell p (methods_for set cs))
         → AreWell p ((if b then map no_method c.methods else map Some c.methods) ++ methods_for set cs)
     by true h f = well_none p c.methods (methods_for set cs) (f h)
     by false h f = well_some p c.methods (methods_but set cs) (methods_for set cs) h f
 
-laid_one : (p : PackageRecord) (m : MethodDescriptor) (l : Laid) → WasWell p m → IsElement p.methods.info (Some m) (Some l) → length l.handlers ≤ 255 → IsLaidWell l
+laid_one : (p : PackageRecord) (m : MethodDescriptor) (l : Laid) → WasWell p m → IsElement p.methods.info (Some m) (Some l)
+    → length l.handlers ≤ 255 → IsLaidWell l
 laid_one p m l w e few = let c = e w.header w.there in record { short = c.short; few = few; inside = c.inside }
 
-laid_all : (p : PackageRecord) (ms : List (Option MethodDescriptor)) (ls : List (Option Laid)) → AreWell p ms → AreElements p.methods.info ms ls → handler_sum ls ≤ 255 → AreLaidWell ls
+laid_all : (p : PackageRecord) (ms : List (Option MethodDescriptor)) (ls : List (Option Laid)) → AreWell p ms → AreElements p.methods.info ms ls
+    → handler_sum ls ≤ 255 → AreLaidWell ls
 laid_all p [] [] w e few = tt
 laid_all p [] (l ∷ ls) w e few = absurd e
 laid_all p (m ∷ ms) [] w e few = tt

@@ -1,5 +1,6 @@
 -- How long the Method component is that is written, and its plain size.
-use Rattle.std.proofs.Common.{◌≡◌, ◌≤◌, ◌+◌, ◌*◌, ℕ, zero, suc, Bool, true, false, cond, List, [], ◌∷◌, length, map, replicate, Option, Some, None, refl, ap, arith, length-append}
+use Rattle.std.proofs.Common.{◌≡◌, ◌≤◌, ◌+◌, ◌*◌, ℕ, zero, suc, Bool, true, false, cond, List, [], ◌∷◌, length, map, replicate}
+use Rattle.std.proofs.Common.{Option, Some, None, refl, ap, arith, length-append}
 use Rattle.std.specs.Prelude.{slice_set}
 use Rattle.jc_decode.proofs.InstructionLists.{all-are-listed}
 use Rattle.jc_decode.specs.CodeSize.{plain_code_size, plain_sum}
@@ -58,7 +59,8 @@ unfolding table_size
 none_size zero = refl
 none_size (suc n) = omega (arith, none_size n)
 
-set_size : (table : List (Option WrittenMember)) (i : ℕ) (m : WrittenMember) → table_size (slice_set table i (Some m)) ≤ table_size table + body_size m.body
+set_size : (table : List (Option WrittenMember)) (i : ℕ) (m : WrittenMember) → table_size (slice_set table i (Some m)) ≤ table_size table + body_size
+    m.body
 unfolding table_size
 set_size [] i m = omega arith
 set_size (s ∷ ms) zero m = omega arith

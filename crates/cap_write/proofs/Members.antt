@@ -1,5 +1,6 @@
 -- The methods of a package may be written.
-use Rattle.std.proofs.Common.{◌≡◌, ◌≤◌, ◌<◌, ◌+◌, ℕ, zero, suc, Bool, true, false, cond, leb, List, [], ◌∷◌, ◌++◌, length, drop, map, Option, Some, None, refl, sym, ap, subst, ◌∙◌, arith}
+use Rattle.std.proofs.Common.{◌≡◌, ◌≤◌, ◌<◌, ◌+◌, ℕ, zero, suc, Bool, true, false, cond, leb, List, [], ◌∷◌, ◌++◌, length, drop}
+use Rattle.std.proofs.Common.{map, Option, Some, None, refl, sym, ap, subst, ◌∙◌, arith}
 use Rattle.std.proofs.lemmas.List.{length-take}
 use Rattle.cap_bytes.specs.Number.{number_at}
 use Rattle.cap_desc.specs.DescriptorFormat.{MethodDescriptor, ClassDescriptor}
@@ -17,7 +18,8 @@ use Rattle.cap_laying.specs.Member.{handlers_of}
 use Rattle.cap_laying.specs.Members.{IsAlone, AreApart, HasHandlersInside, AreMembers, MayBeWritten}
 use Rattle.cap_laying.specs.NewPlaces.{IsSmallBody}
 use Rattle.law_package.specs.Written.{lead_bytes}
-use Rattle.cap_write.specs.Described.{SeenBody, code, lead, SeenMember, body_seen, member_seen, seen_body, first_of_them, others_of_them, seen_methods, seen_classes, seen_package}
+use Rattle.cap_write.specs.Described.{SeenBody, code, lead, SeenMember, body_seen, member_seen, seen_body, first_of_them, others_of_them, seen_methods}
+use Rattle.cap_write.specs.Described.{seen_classes, seen_package}
 use Rattle.cap_write.specs.Condition.{handler_sum, MayBeLaid}
 use Rattle.cap_write.proofs.LaidWell.{IsLaidWell, AreLaidWell, laid_well}
 use Rattle.cap_write.proofs.Apart.{AllEnd, IsNone, AreDistinct, offset_of, all_end, all_apart}
@@ -72,12 +74,15 @@ good_body : (info : List ℕ) (offset : ℕ) (l : Option Laid) → IsLaidIf l �
 good_body info offset None h = lead_short info offset
 good_body info offset (Some l) h = h
 
-good_methods : (info : List ℕ) (ms : List MethodDescriptor) (ls : List (Option Laid)) → AllEnd info ms → AreLaidWell ls → AreGood (length info) (seen_methods info ms ls)
+good_methods : (info : List ℕ) (ms : List MethodDescriptor) (ls : List (Option Laid)) → AllEnd info ms → AreLaidWell ls
+    → AreGood (length info) (seen_methods info ms ls)
 good_methods info [] ls ends laid = tt
 good_methods info (m ∷ ms) ls ends laid =
     let two = ends.0.two in
-    let end = ends.0.ends in
-    (record { within = omega arith; good = good_body info m.method_offset (first_of_them ls) (first_laid ls laid) }, good_methods info ms (others_of_them ls) ends.1 (others_laid ls laid))
+    let end = ends.0.ends in (
+      record { within = omega arith; good = good_body info m.method_offset (first_of_them ls) (first_laid ls laid) },
+      good_methods info ms (others_of_them ls) ends.1 (others_laid ls laid),
+    )
 
 good_both : (size : ℕ) (xs ys : List SeenMember) → AreGood size xs → AreGood size ys → AreGood size (xs ++ ys)
 good_both size [] ys a b = b
@@ -87,14 +92,19 @@ end_front : (info : List ℕ) (xs ys : List MethodDescriptor) → AllEnd info (x
 end_front info [] ys h = (tt, h)
 end_front info (x ∷ xs) ys h = let r = end_front info xs ys h.1 in ((h.0, r.0), r.1)
 
-good_classes : (set : ℕ → Bool) (info : List ℕ) (cs : List ClassDescriptor) (ls : List (Option Laid)) → AllEnd info (methods_but set cs) → AreLaidWell ls → AreGood (length info) (seen_classes set info cs ls)
+good_classes : (set : ℕ → Bool) (info : List ℕ) (cs : List ClassDescriptor) (ls : List (Option Laid)) → AllEnd info (methods_but set cs)
+    → AreLaidWell ls → AreGood (length info) (seen_classes set info cs ls)
 good_classes set info [] ls ends laid = tt
-good_classes set info (c ∷ cs) ls ends laid = by (set c.class_ref) ends (λ e. good_classes set info cs (drop (length c.methods) ls) e (drop_laid (length c.methods) ls laid))
+good_classes set info (c ∷ cs) ls ends laid =
+    by (set c.class_ref) ends (λ e. good_classes set info cs (drop (length c.methods) ls) e (drop_laid (length c.methods) ls laid))
   where
-    by : (b : Bool) → AllEnd info (cond b (methods_but set cs) (c.methods ++ methods_but set cs)) → (AllEnd info (methods_but set cs) → AreGood (length info) (seen_classes set info cs (drop (length c.methods) ls)))
+    by : (b : Bool) → AllEnd info (cond b (methods_but set cs) (c.methods ++ methods_but set cs))
+        → (AllEnd info (methods_but set cs) → AreGood (length info) (seen_classes set info cs (drop (length c.methods) ls)))
         → AreGood (length info) (cond b [] (seen_methods info c.methods ls) ++ seen_classes set info cs (drop (length c.methods) ls))
     by true e rest = rest e
-    by false e rest = let f = end_front info c.methods (methods_but set cs) e in good_both (length info) (seen_methods info c.methods ls) (seen_classes set info cs (drop (length c.methods) ls)) (good_methods info c.methods ls f.0 laid) (rest f.1)
+    by false e rest =
+        let f = end_front info c.methods (methods_but set cs) e in good_both (length info) (seen_methods info c.methods ls)
+        (seen_classes set info cs (drop (length c.methods) ls)) (good_methods info c.methods ls f.0 laid) (rest f.1)
 
 -- ---- their offsets
 
@@ -109,12 +119,14 @@ offsets_methods : (info : List ℕ) (ms : List MethodDescriptor) (ls : List (Opt
 offsets_methods info [] ls = refl
 offsets_methods info (m ∷ ms) ls = ap (λ os. m.method_offset ∷ os) (offsets_methods info ms (others_of_them ls))
 
-pub offsets_classes : (set : ℕ → Bool) (info : List ℕ) (cs : List ClassDescriptor) (ls : List (Option Laid)) → map seen_offset (seen_classes set info cs ls) ≡ map offset_of (methods_but set cs)
+pub offsets_classes : (set : ℕ → Bool) (info : List ℕ) (cs : List ClassDescriptor) (ls : List (Option Laid))
+    → map seen_offset (seen_classes set info cs ls) ≡ map offset_of (methods_but set cs)
 offsets_classes set info [] ls = refl
 offsets_classes set info (c ∷ cs) ls = by (set c.class_ref) (offsets_classes set info cs (drop (length c.methods) ls))
   where
     by : (b : Bool) → map seen_offset (seen_classes set info cs (drop (length c.methods) ls)) ≡ map offset_of (methods_but set cs)
-        → map seen_offset (cond b [] (seen_methods info c.methods ls) ++ seen_classes set info cs (drop (length c.methods) ls)) ≡ map offset_of (cond b (methods_but set cs) (c.methods ++ methods_but set cs))
+        → map seen_offset (cond b [] (seen_methods info c.methods ls) ++ seen_classes set info cs (drop (length c.methods) ls))
+        ≡ map offset_of (cond b (methods_but set cs) (c.methods ++ methods_but set cs))
     by true rest = rest
     by false rest =
         map_both seen_offset (seen_methods info c.methods ls) (seen_classes set info cs (drop (length c.methods) ls))
@@ -147,7 +159,8 @@ drop_none : (n : ℕ) → drop {A = Option Laid} n [] ≡ []
 drop_none zero = refl
 drop_none (suc n) = refl
 
-total_methods : (info : List ℕ) (ms : List MethodDescriptor) (ls : List (Option Laid)) → seen_total (seen_methods info ms ls) + handler_sum (drop (length ms) ls) ≤ handler_sum ls
+total_methods : (info : List ℕ) (ms : List MethodDescriptor) (ls : List (Option Laid))
+    → seen_total (seen_methods info ms ls) + handler_sum (drop (length ms) ls) ≤ handler_sum ls
 total_methods info [] ls = omega arith
 total_methods info (m ∷ ms) [] =
     let r = total_methods info ms [] in
@@ -168,7 +181,8 @@ drop_less zero ls = omega arith
 drop_less (suc n) [] = omega arith
 drop_less (suc n) (l ∷ ls) = let r = drop_less n ls in let s = sum_first l ls in omega arith
 
-total_classes : (set : ℕ → Bool) (info : List ℕ) (cs : List ClassDescriptor) (ls : List (Option Laid)) → seen_total (seen_classes set info cs ls) ≤ handler_sum ls
+total_classes : (set : ℕ → Bool) (info : List ℕ) (cs : List ClassDescriptor) (ls : List (Option Laid))
+    → seen_total (seen_classes set info cs ls) ≤ handler_sum ls
 total_classes set info [] ls = omega arith
 total_classes set info (c ∷ cs) ls = by (set c.class_ref) (total_classes set info cs (drop (length c.methods) ls))
   where
@@ -208,14 +222,16 @@ total_of : (ms : List WrittenMember) → total_handlers ms ≡ seen_total (map m
 total_of [] = refl
 total_of (m ∷ ms) = let c = count_of m.body in let r = total_of ms in omega arith
 
-pub may_be_written : (parts : List Lent) (p : PackageRecord) (ls : List (Option Laid)) (ms : List WrittenMember) → StandsFor parts p → MayBeLaid p ls → map member_seen ms ≡ seen_package p ls → MayBeWritten (length p.methods.info) ms
+pub may_be_written : (parts : List Lent) (p : PackageRecord) (ls : List (Option Laid)) (ms : List WrittenMember) → StandsFor parts p → MayBeLaid p ls
+    → map member_seen ms ≡ seen_package p ls → MayBeWritten (length p.methods.info) ms
 may_be_written parts p ls ms stands may e =
     let set = names_interface p.classes in
     let info = p.methods.info in
     let cs = p.description.items.classes in
     let ends : AllEnd info (described_methods p) = all_end info (length p.methods.handlers) (described_methods p) stands.agree.1.1.1.0 in
     let apart : AreDistinct (map offset_of (described_methods p)) = all_apart info (described_methods p) ends stands.agree.1.1.0 in
-    let good : AreGood (length info) (map member_seen ms) = subst (AreGood (length info)) (sym e) (good_classes set info cs ls ends (laid_well parts p ls stands may)) in
+    let good : AreGood (length info) (map member_seen ms) = subst (AreGood (length info)) (sym e)
+    (good_classes set info cs ls ends (laid_well parts p ls stands may)) in
     let offsets : map seen_offset (map member_seen ms) ≡ map offset_of (described_methods p) = ap (map seen_offset) e ∙ offsets_classes set info cs ls in
     let total : seen_total (map member_seen ms) ≡ seen_total (seen_package p ls) = ap seen_total e in
     let few = total_classes set info cs ls in

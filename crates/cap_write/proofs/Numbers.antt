@@ -1,5 +1,6 @@
 -- How many methods a package describes.
-use Rattle.std.proofs.Common.{◌≡◌, ◌≤◌, ◌+◌, ◌*◌, ℕ, zero, suc, Bool, true, false, cond, List, [], ◌∷◌, ◌++◌, length, map, Option, Some, None, sym, ap, ◌∙◌, arith, length-append}
+use Rattle.std.proofs.Common.{◌≡◌, ◌≤◌, ◌+◌, ◌*◌, ℕ, zero, suc, Bool, true, false, cond, List, [], ◌∷◌, ◌++◌, length, map}
+use Rattle.std.proofs.Common.{Option, Some, None, sym, ap, ◌∙◌, arith, length-append}
 use Rattle.std.proofs.lemmas.List.{length-map}
 use Rattle.cap_bytes.specs.Grammar.{repeat}
 use Rattle.cap_bytes.specs.Spelling.{Spells}
@@ -20,7 +21,8 @@ use Rattle.cap_write.specs.PlainComponent.{AreSmallMembers}
 use Rattle.cap_write.proofs.Apart.{offset_of}
 use Rattle.cap_write.proofs.Members.{offsets_classes, seen_offset}
 
-classes_room : (set : ℕ → Bool) (bytes : List ℕ) (n at : ℕ) (cs : List ClassDescriptor) (after : ℕ) → Spells (repeat n class_descriptor_info) bytes at cs after → at + 12 * length (methods_but set cs) ≤ after
+classes_room : (set : ℕ → Bool) (bytes : List ℕ) (n at : ℕ) (cs : List ClassDescriptor) (after : ℕ)
+    → Spells (repeat n class_descriptor_info) bytes at cs after → at + 12 * length (methods_but set cs) ≤ after
 unfolding Spells
 classes_room set bytes zero at cs after h = rw h.0 (omega (arith, h.1))
 classes_room set bytes (suc n) at cs after h =
@@ -30,7 +32,9 @@ classes_room set bytes (suc n) at cs after h =
     let same : g.1 ≡ after = omega (arith, g.3.1) in
     rw g.3.0 (by h.0 g.0 (set h.0.class_ref) (omega (arith, one, rest, same)) (omega (arith, one, rest, same, length-append h.0.methods (methods_but set g.0))))
   where
-    by : (c : ClassDescriptor) (cs : List ClassDescriptor) (b : Bool) → at + 12 * length (methods_but set cs) ≤ after → at + 12 * length (c.methods ++ methods_but set cs) ≤ after → at + 12 * length (cond b (methods_but set cs) (c.methods ++ methods_but set cs)) ≤ after
+    by : (c : ClassDescriptor) (cs : List ClassDescriptor) (b : Bool) → at + 12 * length (methods_but set cs) ≤ after
+        → at + 12 * length (c.methods ++ methods_but set cs) ≤ after
+        → at + 12 * length (cond b (methods_but set cs) (c.methods ++ methods_but set cs)) ≤ after
     by c cs true x y = x
     by c cs false x y = y
 
@@ -43,11 +47,13 @@ few_described parts p s =
     let start = c.start in
     omega arith
 
-pub few_members : (parts : List Lent) (p : PackageRecord) (ls : List (Option Laid)) (ms : List WrittenMember) → StandsFor parts p → map member_seen ms ≡ seen_package p ls → length ms ≤ 5461
+pub few_members : (parts : List Lent) (p : PackageRecord) (ls : List (Option Laid)) (ms : List WrittenMember) → StandsFor parts p
+    → map member_seen ms ≡ seen_package p ls → length ms ≤ 5461
 few_members parts p ls ms s e =
     let set = names_interface p.classes in
     let a : length ms ≡ length (seen_package p ls) = sym (length-map ms member_seen) ∙ ap length e in
-    let b : length (seen_package p ls) ≡ length (described_methods p) = sym (length-map (seen_package p ls) seen_offset) ∙ ap length (offsets_classes set p.methods.info p.description.items.classes ls) ∙ length-map (described_methods p) offset_of in
+    let b : length (seen_package p ls) ≡ length (described_methods p) = sym (length-map (seen_package p ls) seen_offset)
+    ∙ ap length (offsets_classes set p.methods.info p.description.items.classes ls) ∙ length-map (described_methods p) offset_of in
     omega (arith, few_described parts p s)
 
 pub small_members : (size : ℕ) (ms : List WrittenMember) → AreMembers size ms → AreSmallMembers ms

@@ -1,5 +1,6 @@
 -- The methods one after the other, each with its element of the list.
-use Rattle.std.proofs.Common.{◌≡◌, ℕ, Bool, true, cond, List, [], ◌∷◌, ◌++◌, length, drop, map, Option, refl, sym, ap, ◌∙◌, append_assoc}
+use Rattle.std.proofs.Common.{◌≡◌, ℕ, Bool, true, cond, List, [], ◌∷◌, ◌++◌, length, drop, map, Option, refl, sym, ap, ◌∙◌}
+use Rattle.std.proofs.Common.{append_assoc}
 use Rattle.std.proofs.lemmas.List.{append-nil, map_push}
 use Rattle.cap_desc.specs.DescriptorFormat.{MethodDescriptor, ClassDescriptor}
 use Rattle.jc_decode.specs.declared.symbols.Laid.{Laid}
@@ -10,8 +11,10 @@ drop_one : (ls : List (Option Laid)) → drop 1 ls ≡ others_of_them ls
 drop_one [] = refl
 drop_one (l ∷ ls) = refl
 
-pub one_method : (info : List ℕ) (m : MethodDescriptor) (ms all : List MethodDescriptor) (laid rest : List (Option Laid)) (now new : List WrittenMember) (x : WrittenMember) (whole : List SeenMember) → all ≡ m ∷ ms → new ≡ now ++ x ∷ []
-    → member_seen x ≡ seen_method info m (first_of_them laid) → rest ≡ drop 1 laid → map member_seen now ++ seen_methods info all laid ≡ whole → map member_seen new ++ seen_methods info ms rest ≡ whole
+pub one_method : (info : List ℕ) (m : MethodDescriptor) (ms all : List MethodDescriptor) (laid rest : List (Option Laid)) (now new : List WrittenMember)
+    (x : WrittenMember) (whole : List SeenMember) → all ≡ m ∷ ms → new ≡ now ++ x ∷ []
+    → member_seen x ≡ seen_method info m (first_of_them laid) → rest ≡ drop 1 laid → map member_seen now ++ seen_methods info all laid ≡ whole
+    → map member_seen new ++ seen_methods info ms rest ≡ whole
 one_method info m ms all laid rest now new x whole e n s r h =
     let others : seen_methods info ms rest ≡ seen_methods info ms (others_of_them laid) = ap (seen_methods info ms) (r ∙ drop_one laid) in
     ap (λ xs. map member_seen xs ++ seen_methods info ms rest) n
@@ -21,13 +24,16 @@ one_method info m ms all laid rest now new x whole e n s r h =
     ∙ ap (λ ys. map member_seen now ++ (seen_method info m (first_of_them laid) ∷ ys)) others
     ∙ ap (λ ns. map member_seen now ++ seen_methods info ns laid) (sym e) ∙ h
 
-pub one_class : (set : ℕ → Bool) (info : List ℕ) (c : ClassDescriptor) (cs all : List ClassDescriptor) (laid rest : List (Option Laid)) (now new : List WrittenMember) (whole : List SeenMember) → all ≡ c ∷ cs
-    → map member_seen new ≡ map member_seen now ++ seen_class set info c laid → rest ≡ drop (length c.methods) laid → map member_seen now ++ seen_classes set info all laid ≡ whole → map member_seen new ++ seen_classes set info cs rest ≡ whole
+pub one_class : (set : ℕ → Bool) (info : List ℕ) (c : ClassDescriptor) (cs all : List ClassDescriptor) (laid rest : List (Option Laid))
+    (now new : List WrittenMember) (whole : List SeenMember) → all ≡ c ∷ cs
+    → map member_seen new ≡ map member_seen now ++ seen_class set info c laid → rest ≡ drop (length c.methods) laid
+    → map member_seen now ++ seen_classes set info all laid ≡ whole → map member_seen new ++ seen_classes set info cs rest ≡ whole
 one_class set info c cs all laid rest now new whole e n r h =
     ap (λ xs. xs ++ seen_classes set info cs rest) n
     ∙ append_assoc (map member_seen now) (seen_class set info c laid) (seen_classes set info cs rest)
     ∙ ap (λ ls. map member_seen now ++ (seen_class set info c laid ++ seen_classes set info cs ls)) r
     ∙ ap (λ ns. map member_seen now ++ seen_classes set info ns laid) (sym e) ∙ h
 
-pub no_method : (set : ℕ → Bool) (info : List ℕ) (c : ClassDescriptor) (laid : List (Option Laid)) (now : List SeenMember) → set c.class_ref ≡ true → now ≡ now ++ seen_class set info c laid
+pub no_method : (set : ℕ → Bool) (info : List ℕ) (c : ClassDescriptor) (laid : List (Option Laid)) (now : List SeenMember)
+    → set c.class_ref ≡ true → now ≡ now ++ seen_class set info c laid
 no_method set info c laid now e = sym (ap (λ b. now ++ cond b [] (seen_methods info c.methods laid)) e ∙ append-nil now)

@@ -1,5 +1,6 @@
 -- Parts that are put by rising tag.
-use Rattle.std.proofs.Common.{◌≡◌, ◌≤◌, ◌<◌, ◌+◌, ◌⊎◌, inl, inr, ℕ, Bool, true, false, cond, List, [], ◌∷◌, ◌++◌, Option, Some, None, IsNone, refl, sym, subst, ◌∙◌, arith}
+use Rattle.std.proofs.Common.{◌≡◌, ◌≤◌, ◌<◌, ◌+◌, ◌⊎◌, inl, inr, ℕ, Bool, true, false, cond, List, [], ◌∷◌, ◌++◌, Option}
+use Rattle.std.proofs.Common.{Some, None, IsNone, refl, sym, subst, ◌∙◌, arith}
 use Rattle.std.specs.Prelude.{◌==◌}
 use Rattle.std.specs.Option.{option_map}
 use Rattle.std.specs.List.{find}
@@ -13,7 +14,8 @@ held_old : (parts others : List Lent) (tag : ℕ) (file : List ℕ) → held par
 held_old [] others tag file h = absurd (cc)
 held_old (l ∷ ls) others tag file h = by (l.part == tag) h (λ k. held_old ls others tag file k)
   where
-    by : (b : Bool) → option_map bytes_of (cond b (Some l) (find (is_of tag) ls)) ≡ Some file → (held ls tag ≡ Some file → held (ls ++ others) tag ≡ Some file)
+    by : (b : Bool) → option_map bytes_of (cond b (Some l) (find (is_of tag) ls)) ≡ Some file
+        → (held ls tag ≡ Some file → held (ls ++ others) tag ≡ Some file)
         → option_map bytes_of (cond b (Some l) (find (is_of tag) (ls ++ others))) ≡ Some file
     by true h rest = h
     by false h rest = rest h
@@ -22,7 +24,8 @@ held_new : (parts others : List Lent) (tag : ℕ) → held parts tag ≡ None �
 held_new [] others tag h = refl
 held_new (l ∷ ls) others tag h = by (l.part == tag) h (λ k. held_new ls others tag k)
   where
-    by : (b : Bool) → option_map bytes_of (cond b (Some l) (find (is_of tag) ls)) ≡ None → (held ls tag ≡ None → held (ls ++ others) tag ≡ held others tag)
+    by : (b : Bool) → option_map bytes_of (cond b (Some l) (find (is_of tag) ls)) ≡ None
+        → (held ls tag ≡ None → held (ls ++ others) tag ≡ held others tag)
         → option_map bytes_of (cond b (Some l) (find (is_of tag) (ls ++ others))) ≡ held others tag
     by true h rest = absurd (cc)
     by false h rest = rest h
@@ -47,7 +50,8 @@ rising_higher : (low high more : ℕ) (parts : List Lent) → high ≤ more → 
 rising_higher low high more [] h r = omega (arith, r)
 rising_higher low high more (l ∷ ls) h r = (r.0, rising_higher (l.part + 1) high more ls h r.1)
 
-rising_push : (low high : ℕ) (parts : List Lent) (file : List ℕ) → IsRising low parts high → IsRising low (parts ++ record { part = high; bytes = file } ∷ []) (high + 1)
+rising_push : (low high : ℕ) (parts : List Lent) (file : List ℕ) → IsRising low parts high
+    → IsRising low (parts ++ record { part = high; bytes = file } ∷ []) (high + 1)
 rising_push low high [] file r = (r, omega arith)
 rising_push low high (l ∷ ls) file r = (r.0, rising_push (l.part + 1) high ls file r.1)
 
@@ -66,7 +70,8 @@ held_kept k parts file tag other = by (held parts tag) refl
     by None e = held_new parts (lents k file) tag e ∙ lents_other k tag file other ∙ sym e
     by (Some f) e = held_old parts (lents k file) tag f e ∙ sym e
 
-pub filed_more : (Is : ℕ → Option (List ℕ) → Type 0) (k : ℕ) (old new : List Lent) → AreFiled Is k old → PutsFile (Is k) k old new → AreFiled Is (k + 1) new
+pub filed_more : (Is : ℕ → Option (List ℕ) → Type 0) (k : ℕ) (old new : List Lent) → AreFiled Is k old → PutsFile (Is k) k old new
+    → AreFiled Is (k + 1) new
 filed_more Is k old new f p = subst (AreFiled Is (k + 1)) (sym p.put) (record {
   each = λ tag lt. by tag lt (cases_eq tag k);
   none = λ tag le. held_kept k old p.file tag (λ e. omega arith) ∙ f.none tag (omega arith);

@@ -35,21 +35,25 @@ present Is (Some file) h = record { file = file; there = refl; is = h }
 
 -- ---- items
 
-pub kept_says : {X : Type 0} (old new : List Lent) (tag : ℕ) (g : Grammar X) (x : X) → held new tag ≡ held old tag → Says old tag g x → Says new tag g x
+pub kept_says : {X : Type 0} (old new : List Lent) (tag : ℕ) (g : Grammar X) (x : X) → held new tag ≡ held old tag → Says old tag g x
+    → Says new tag g x
 kept_says old new tag g x e s = (s.0, record { file = s.1.file; there = e ∙ s.1.there; framed = s.1.framed; said = s.1.said })
 
-pub renewed_says : {X : Type 0} (old new : List Lent) (tag : ℕ) (g : Grammar X) (renew : X → X) (edits : X → List Edit) (x : X) → IsPresent (IsRenewed old tag g renew edits x) (held new tag) → Says new tag g (renew x)
+pub renewed_says : {X : Type 0} (old new : List Lent) (tag : ℕ) (g : Grammar X) (renew : X → X) (edits : X → List Edit) (x : X)
+    → IsPresent (IsRenewed old tag g renew edits x) (held new tag) → Says new tag g (renew x)
 renewed_says old new tag g renew edits x h =
     let t = present (IsRenewed old tag g renew edits x) (held new tag) h in
     (t.is.info, record { file = t.file; there = t.there; framed = t.is.framed; said = t.is.said })
 
-if_says : {X : Type 0} (old new : List Lent) (tag : ℕ) (g : Grammar X) (renew : X → X) (edits : X → List Edit) (x : Option X) (o : Option (List ℕ)) → held new tag ≡ o → IsRenewedIf old tag g renew edits x o → SaysIf new tag g (option_map renew x)
+if_says : {X : Type 0} (old new : List Lent) (tag : ℕ) (g : Grammar X) (renew : X → X) (edits : X → List Edit) (x : Option X) (o : Option (List ℕ))
+    → held new tag ≡ o → IsRenewedIf old tag g renew edits x o → SaysIf new tag g (option_map renew x)
 if_says old new tag g renew edits None None e h = e
 if_says old new tag g renew edits None (Some file) e h = absurd h
 if_says old new tag g renew edits (Some x) None e h = absurd h
 if_says old new tag g renew edits (Some x) (Some file) e h = (h.info, record { file = file; there = e; framed = h.framed; said = h.said })
 
-pub renewed_if_says : {X : Type 0} (old new : List Lent) (tag : ℕ) (g : Grammar X) (renew : X → X) (edits : X → List Edit) (x : Option X) → IsRenewedIf old tag g renew edits x (held new tag) → SaysIf new tag g (option_map renew x)
+pub renewed_if_says : {X : Type 0} (old new : List Lent) (tag : ℕ) (g : Grammar X) (renew : X → X) (edits : X → List Edit) (x : Option X)
+    → IsRenewedIf old tag g renew edits x (held new tag) → SaysIf new tag g (option_map renew x)
 renewed_if_says old new tag g renew edits x h = if_says old new tag g renew edits x (held new tag) refl h
 
 -- ---- sizes
@@ -60,23 +64,27 @@ same_info tag file a b s t =
     let f : reading (file_of tag) (component tag) file ≡ Ok b = reading_where (file_of tag) (component tag) file b t in
     cc
 
-renewed_long : {X : Type 0} (old : List Lent) (tag size : ℕ) (g : Grammar X) (renew : X → X) (edits : X → List Edit) (x : X) (file : List ℕ) → IsRenewed old tag g renew edits x file → IsSizeOf tag size (held old tag) → IsSizeOf tag size (Some file)
+renewed_long : {X : Type 0} (old : List Lent) (tag size : ℕ) (g : Grammar X) (renew : X → X) (edits : X → List Edit) (x : X) (file : List ℕ)
+    → IsRenewed old tag g renew edits x file → IsSizeOf tag size (held old tag) → IsSizeOf tag size (Some file)
 renewed_long old tag size g renew edits x file r z =
     let k : IsSizeOf tag size (Some r.was.file) = subst (IsSizeOf tag size) r.was.there z in
     (r.info, r.framed, r.renews.long ∙ ap length (same_info tag r.was.file r.before k.0 r.was.framed k.1) ∙ k.2)
 
-pub renewed_size : {X : Type 0} (old new : List Lent) (tag size : ℕ) (g : Grammar X) (renew : X → X) (edits : X → List Edit) (x : X) → IsPresent (IsRenewed old tag g renew edits x) (held new tag) → IsSizeOf tag size (held old tag) → IsSizeOf tag size (held new tag)
+pub renewed_size : {X : Type 0} (old new : List Lent) (tag size : ℕ) (g : Grammar X) (renew : X → X) (edits : X → List Edit) (x : X)
+    → IsPresent (IsRenewed old tag g renew edits x) (held new tag) → IsSizeOf tag size (held old tag) → IsSizeOf tag size (held new tag)
 renewed_size old new tag size g renew edits x h z =
     let t = present (IsRenewed old tag g renew edits x) (held new tag) h in
     subst (IsSizeOf tag size) (sym t.there) (renewed_long old tag size g renew edits x t.file t.is z)
 
-if_size : {X : Type 0} (old : List Lent) (tag size : ℕ) (g : Grammar X) (renew : X → X) (edits : X → List Edit) (x : Option X) (o : Option (List ℕ)) → IsRenewedIf old tag g renew edits x o → IsSizeOf tag size (held old tag) → IsSizeOf tag size o
+if_size : {X : Type 0} (old : List Lent) (tag size : ℕ) (g : Grammar X) (renew : X → X) (edits : X → List Edit) (x : Option X) (o : Option (List ℕ))
+    → IsRenewedIf old tag g renew edits x o → IsSizeOf tag size (held old tag) → IsSizeOf tag size o
 if_size old tag size g renew edits None None h z = subst (IsSizeOf tag size) h z
 if_size old tag size g renew edits None (Some file) h z = absurd h
 if_size old tag size g renew edits (Some x) None h z = absurd h
 if_size old tag size g renew edits (Some x) (Some file) h z = renewed_long old tag size g renew edits x file h z
 
-pub renewed_if_size : {X : Type 0} (old new : List Lent) (tag size : ℕ) (g : Grammar X) (renew : X → X) (edits : X → List Edit) (x : Option X) → IsRenewedIf old tag g renew edits x (held new tag) → IsSizeOf tag size (held old tag) → IsSizeOf tag size (held new tag)
+pub renewed_if_size : {X : Type 0} (old new : List Lent) (tag size : ℕ) (g : Grammar X) (renew : X → X) (edits : X → List Edit) (x : Option X)
+    → IsRenewedIf old tag g renew edits x (held new tag) → IsSizeOf tag size (held old tag) → IsSizeOf tag size (held new tag)
 renewed_if_size old new tag size g renew edits x h z = if_size old tag size g renew edits x (held new tag) h z
 
 -- ---- the Descriptor
@@ -86,25 +94,31 @@ pub record HasSameTypes (p : PackageRecord) (info : List ℕ) : Type 0 where
   pub types : AreSame p.description.items.types_start (length p.description.info) p.description.info info
   pub long : length info ≡ length p.description.info
 
-same_before : (parts : List Lent) (a b : List ℕ) (d : Descriptor) → HoldsComponent parts 11 descriptor_info a d → HoldsComponent parts 11 descriptor_info b d → a ≡ b
+same_before : (parts : List Lent) (a b : List ℕ) (d : Descriptor) → HoldsComponent parts 11 descriptor_info a d
+    → HoldsComponent parts 11 descriptor_info b d → a ≡ b
 same_before parts a b d h k =
     let e : info_in parts 11 ≡ Ok a = info-read parts 11 descriptor_info a d h in
     let f : info_in parts 11 ≡ Ok b = info-read parts 11 descriptor_info b d k in
     cc
 
-edits_inside : (set : ℕ → Bool) (news : List (Option NewMethod)) (bytes : List ℕ) (d : Descriptor) → Stands descriptor_info bytes d → AreInside (along (class_edits set news) class_width 1 d.classes) 0 d.types_start
+edits_inside : (set : ℕ → Bool) (news : List (Option NewMethod)) (bytes : List ℕ) (d : Descriptor) → Stands descriptor_info bytes d
+    → AreInside (along (class_edits set news) class_width 1 d.classes) 0 d.types_start
 edits_inside set news bytes d s =
     let h = has_classes bytes d s in
     inside_from (along (class_edits set news) class_width 1 d.classes) 0 1 d.types_start (omega arith)
-    (all_inside class_descriptor_info (class_edits set news) class_width (renewed_class set news) bytes (class_item set news bytes) h.count 1 d.classes d.types_start h.items)
+    (all_inside class_descriptor_info (class_edits set news) class_width (renewed_class set news) bytes (class_item set news bytes) h.count 1 d.classes
+    d.types_start h.items)
 
-pub same_types : (p : PackageRecord) (news : List (Option NewMethod)) (file : List ℕ) → HoldsComponent p.parts 11 descriptor_info p.description.info p.description.items
-    → (r : IsRenewed p.parts 11 descriptor_info (renewed_descriptor (names_interface p.classes) news) (edits_of_methods p news) p.description.items file) → HasSameTypes p r.info
+pub same_types : (p : PackageRecord) (news : List (Option NewMethod)) (file : List ℕ) → HoldsComponent p.parts 11 descriptor_info p.description.info
+    p.description.items
+    → (r : IsRenewed p.parts 11 descriptor_info (renewed_descriptor (names_interface p.classes) news) (edits_of_methods p news) p.description.items file)
+    → HasSameTypes p r.info
 same_types p news file h r =
     let d = p.description.items in
     let same : r.before ≡ p.description.info = same_before p.parts r.before p.description.info d r.was h in
     let start = (has_classes r.before d r.was.said).start in
-    let last = edited_last (edits_of_methods p news d) 0 d.types_start (length r.before) r.before r.info (edits_inside (names_interface p.classes) news r.before d r.was.said) start r.renews.inside in
+    let last = edited_last (edits_of_methods p news d) 0 d.types_start (length r.before) r.before r.info
+    (edits_inside (names_interface p.classes) news r.before d r.was.said) start r.renews.inside in
     record {
       types = subst (λ bytes. AreSame d.types_start (length bytes) bytes r.info) same last.1;
       long = r.renews.long ∙ ap length same;

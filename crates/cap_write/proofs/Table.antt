@@ -18,7 +18,8 @@ use Rattle.cap_laying.proofs.InfoLaws.{info_written}
 use Rattle.cap_laying.proofs.Owned.{All, blocks_all, blocks_placed, length_table, total_blocks}
 use Rattle.cap_write.specs.Pools.{HandlersFit, MembersFit}
 
-small_at : (start size : ℕ) (hs : List LaidHandler) → start + size ≤ 65535 → AreInside size hs → HandlersFit hs → AreSmallEntries (entries_at start hs)
+small_at : (start size : ℕ) (hs : List LaidHandler) → start + size ≤ 65535 → AreInside size hs → HandlersFit hs
+    → AreSmallEntries (entries_at start hs)
 small_at start size [] end inside fit = tt
 small_at start size (h ∷ hs) end inside fit =
     let range = inside.0.range in
@@ -42,13 +43,16 @@ unfolding Fits
 all_fit [] h = tt
 all_fit (m ∷ ms) h = (h.0, all_fit ms h.1)
 
-small_all : (news : List (Option NewMethod)) (bs : List WrittenMember) → ArePlacedBodies news bs → All Fits bs → AreSmallEntries (entries_of_blocks news bs)
+small_all : (news : List (Option NewMethod)) (bs : List WrittenMember) → ArePlacedBodies news bs → All Fits bs
+    → AreSmallEntries (entries_of_blocks news bs)
 unfolding Fits
 small_all news [] placed fit = tt
 small_all news (b ∷ bs) placed fit =
-    small_both (entries_at (to news b.offset + lead_size b.body) (handlers_of b.body)) (entries_of_blocks news bs) (small_body (to news b.offset) b.body placed.0 fit.0) (small_all news bs placed.1 fit.1)
+    small_both (entries_at (to news b.offset + lead_size b.body) (handlers_of b.body)) (entries_of_blocks news bs)
+    (small_body (to news b.offset) b.body placed.0 fit.0) (small_all news bs placed.1 fit.1)
 
-pub table_stands : (size room : ℕ) (ms : List WrittenMember) → MayBeWritten size ms → MembersFit ms → written_size size room ms ≤ 65535 → Stands methods_info (written_info size room ms) (entries_of_blocks (new_places size room ms) (blocks room ms))
+pub table_stands : (size room : ℕ) (ms : List WrittenMember) → MayBeWritten size ms → MembersFit ms → written_size size room ms ≤ 65535
+    → Stands methods_info (written_info size room ms) (entries_of_blocks (new_places size room ms) (blocks room ms))
 unfolding written_info written_size new_places
 table_stands size room ms may fit short =
     let bs = blocks room ms in

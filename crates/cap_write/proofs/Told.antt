@@ -1,5 +1,6 @@
 -- The sizes that the Directory of a package tells are those of its parts.
-use Rattle.std.proofs.Common.{◌≡◌, ◌≤◌, ◌<◌, ◌+◌, ◌-◌, ℕ, zero, suc, Bool, true, false, cond, List, [], ◌∷◌, ◌++◌, length, map, find, filter_map, Option, Some, None, Result, Ok, Err, ◌⊎◌, inl, inr, refl, sym, ap, subst, ◌∙◌, arith}
+use Rattle.std.proofs.Common.{◌≡◌, ◌≤◌, ◌<◌, ◌+◌, ◌-◌, ℕ, zero, suc, Bool, true, false, cond, List, [], ◌∷◌, ◌++◌, length}
+use Rattle.std.proofs.Common.{map, find, filter_map, Option, Some, None, Result, Ok, Err, ◌⊎◌, inl, inr, refl, sym, ap, subst, ◌∙◌, arith}
 use Rattle.std.specs.Prelude.{◌==◌, ◌&&◌, nat_le, slice_get, slice_index, unwrap_or, is_some, if◌then◌else◌}
 use Rattle.std.proofs.lemmas.Bool.{cases_eq, eqb-true}
 use Rattle.std.proofs.lemmas.Bool.Decides.{nat_tests}
@@ -19,7 +20,8 @@ use Rattle.cap_components.specs.declared.fault.PackFault.TheVariants.{MissingPar
 use Rattle.cap_components.specs.Parts.{Lent, held}
 use Rattle.cap_components.specs.Components.{framed, info_in}
 use Rattle.cap_components.specs.PackageRecord.{PackageRecord}
-use Rattle.cap_components.specs.PartChecks.{required, optional, components, custom_tags, absent_fault, absent_by, sized_fault, form_fault, form_by, size_fault, size_by}
+use Rattle.cap_components.specs.PartChecks.{required, optional, components, custom_tags, absent_fault, absent_by, sized_fault, form_fault, form_by, size_fault}
+use Rattle.cap_components.specs.PartChecks.{size_by}
 use Rattle.cap_components.specs.Saying.{HoldsComponent, SaysIf}
 use Rattle.cap_components.proofs.Saying.{info-read, formed_ok}
 use Rattle.cap_package.specs.FirstFault.{missing_parts}
@@ -45,25 +47,30 @@ same_of : (b : Bool) (m n : ℕ) (f : PackFault) → (m == n) ≡ b → cond b N
 same_of true m n f e h = sym (eqb-true m n e)
 same_of false m n f e h = absurd (cc)
 
-info_framed : (parts : List Lent) (tag : ℕ) (file info : List ℕ) → held parts tag ≡ Some file → info_in parts tag ≡ Ok info → Stands (component tag) file info
+info_framed : (parts : List Lent) (tag : ℕ) (file info : List ℕ) → held parts tag ≡ Some file → info_in parts tag ≡ Ok info
+    → Stands (component tag) file info
 unfolding info_in
 info_framed parts tag file info e h =
     stands (file_of tag) (component tag) file info (formed_ok (reading (file_of tag) (component tag) file) info (ap (framed tag) (sym e) ∙ h))
 
-told_absent : (parts : List Lent) (d : DirectoryItems) (tag size : ℕ) → held parts tag ≡ None → size_in d tag ≡ Some size → sized_fault parts d tag ≡ None → size ≡ 0
+told_absent : (parts : List Lent) (d : DirectoryItems) (tag size : ℕ) → held parts tag ≡ None → size_in d tag ≡ Some size
+    → sized_fault parts d tag ≡ None → size ≡ 0
 unfolding sized_fault absent_fault
 told_absent parts d tag size e s h =
     let k : absent_by (Some size) (Some (MissingPart tag)) ≡ None =
-    ap (λ (o : Option (List ℕ)). absent_by (Some size) (if is_some o then None else Some (MissingPart tag))) (sym e) ∙ ap (λ o. absent_by o (absent_fault parts tag)) (sym s) ∙ h in
+    ap (λ (o : Option (List ℕ)). absent_by (Some size) (if is_some o then None else Some (MissingPart tag))) (sym e)
+    ∙ ap (λ o. absent_by o (absent_fault parts tag)) (sym s) ∙ h in
     zero_of (size == 0) size (MissingPart tag) refl k
 
-told_size : (parts : List Lent) (d : DirectoryItems) (tag size : ℕ) (info : List ℕ) → info_in parts tag ≡ Ok info → size_in d tag ≡ Some size → size_fault parts d tag ≡ None → length info ≡ size
+told_size : (parts : List Lent) (d : DirectoryItems) (tag size : ℕ) (info : List ℕ) → info_in parts tag ≡ Ok info → size_in d tag ≡ Some size
+    → size_fault parts d tag ≡ None → length info ≡ size
 unfolding size_fault
 told_size parts d tag size info e s h =
     let k : size_by tag (Some size) (Ok info) ≡ None = ap (size_by tag (Some size)) (sym e) ∙ ap (λ o. size_by tag o (info_in parts tag)) (sym s) ∙ h in
     same_of (size == length info) size (length info) (SizeDisagrees tag size (length info)) refl k
 
-told_there : (parts : List Lent) (d : DirectoryItems) (tag size : ℕ) (file : List ℕ) → held parts tag ≡ Some file → size_in d tag ≡ Some size → form_fault parts tag ≡ None → size_fault parts d tag ≡ None → IsSizeOf tag size (Some file)
+told_there : (parts : List Lent) (d : DirectoryItems) (tag size : ℕ) (file : List ℕ) → held parts tag ≡ Some file → size_in d tag ≡ Some size
+    → form_fault parts tag ≡ None → size_fault parts d tag ≡ None → IsSizeOf tag size (Some file)
 unfolding form_fault
 told_there parts d tag size file e s f h = by (info_in parts tag) refl (ap (λ o. form_by o (info_in parts tag)) (sym e) ∙ f)
   where
@@ -71,11 +78,13 @@ told_there parts d tag size file e s f h = by (info_in parts tag) refl (ap (λ o
     by (Ok info) k n = (info, info_framed parts tag file info e k, told_size parts d tag size info k s h)
     by (Err fault) k n = absurd (cc)
 
-told : (parts : List Lent) (d : DirectoryItems) (tag size : ℕ) (o : Option (List ℕ)) → held parts tag ≡ o → size_in d tag ≡ Some size → sized_fault parts d tag ≡ None → form_fault parts tag ≡ None → size_fault parts d tag ≡ None → IsSizeOf tag size o
+told : (parts : List Lent) (d : DirectoryItems) (tag size : ℕ) (o : Option (List ℕ)) → held parts tag ≡ o → size_in d tag ≡ Some size
+    → sized_fault parts d tag ≡ None → form_fault parts tag ≡ None → size_fault parts d tag ≡ None → IsSizeOf tag size o
 told parts d tag size None e s a f h = told_absent parts d tag size e s a
 told parts d tag size (Some file) e s a f h = told_there parts d tag size file e s f h
 
-told_said : {X : Type 0} (parts : List Lent) (d : DirectoryItems) (tag size : ℕ) (g : Grammar X) (info : List ℕ) (items : X) → HoldsComponent parts tag g info items → size_in d tag ≡ Some size → size_fault parts d tag ≡ None → IsSizeOf tag size (held parts tag)
+told_said : {X : Type 0} (parts : List Lent) (d : DirectoryItems) (tag size : ℕ) (g : Grammar X) (info : List ℕ) (items : X)
+    → HoldsComponent parts tag g info items → size_in d tag ≡ Some size → size_fault parts d tag ≡ None → IsSizeOf tag size (held parts tag)
 told_said parts d tag size g info items h s f =
     subst (IsSizeOf tag size) (sym h.there) (info, h.framed, told_size parts d tag size info (info-read parts tag g info items h) s f)
 
@@ -95,7 +104,8 @@ has_told p s =
     let d = p.directory in
     let a = agrees parts p s.agree in
     let m : missing_parts parts (Ok d) ≡ [] = ap (missing_parts parts) (sym (directory_read parts p s.said)) ∙ s.missing in
-    let both = both_empty (filter_map (absent_fault parts) required ++ filter_map (sized_fault parts d) optional) (filter_map (sized_fault parts d) (custom_tags d)) m in
+    let both = both_empty (filter_map (absent_fault parts) required ++ filter_map (sized_fault parts d) optional)
+    (filter_map (sized_fault parts d) (custom_tags d)) m in
     let front = both_empty (filter_map (absent_fault parts) required) (filter_map (sized_fault parts d) optional) both.0 in
     let sizes = both_empty (filter_map (size_fault parts d) components) (filter_map (size_fault parts d) (custom_tags d)) a.sizes in
     record {
@@ -114,7 +124,8 @@ form_absent : (parts : List Lent) (tag : ℕ) → held parts tag ≡ None → fo
 unfolding form_fault
 form_absent parts tag e = ap (λ o. form_by o (info_in parts tag)) e
 
-told_if : {X : Type 0} (p : PackageRecord) (tag : ℕ) (g : Grammar X) (items : Option X) → SaysIf p.parts tag g items → sized_fault p.parts p.directory tag ≡ None → size_fault p.parts p.directory tag ≡ None → Tells p tag
+told_if : {X : Type 0} (p : PackageRecord) (tag : ℕ) (g : Grammar X) (items : Option X) → SaysIf p.parts tag g items
+    → sized_fault p.parts p.directory tag ≡ None → size_fault p.parts p.directory tag ≡ None → Tells p tag
 told_if p tag g None h a f size s = subst (IsSizeOf tag size) (sym h) (told_absent p.parts p.directory tag size h s a)
 told_if p tag g (Some items) h a f size s = told_said p.parts p.directory tag size g h.0 items h.1 s f
 
@@ -149,7 +160,9 @@ found_has : (cs : List Custom) (tag : ℕ) (c : Custom) → find (has_tag tag) c
 found_has [] tag c e = absurd (cc)
 found_has (x ∷ xs) tag c e = by (x.tag == tag) refl e (λ k. found_has xs tag c k)
   where
-    by : (b : Bool) → (x.tag == tag) ≡ b → cond b (Some x) (find (has_tag tag) xs) ≡ Some c → (find (has_tag tag) xs ≡ Some c → Has (map (λ (y : Custom). y.tag) xs) tag) → (tag ≡ x.tag) ⊎ Has (map (λ (y : Custom). y.tag) xs) tag
+    by : (b : Bool) → (x.tag == tag) ≡ b → cond b (Some x) (find (has_tag tag) xs) ≡ Some c
+        → (find (has_tag tag) xs ≡ Some c → Has (map (λ (y : Custom). y.tag) xs) tag) → (tag ≡ x.tag)
+        ⊎ Has (map (λ (y : Custom). y.tag) xs) tag
     by true f e rest = inl (sym (eqb-true x.tag tag f))
     by false f e rest = inr (rest e)
 
@@ -163,7 +176,8 @@ custom_told p tag c s e size k =
 
 -- ---- the sizes of a Directory that is written anew
 
-sizes_at : (own : ℕ) (new : ComponentSizes) (tag : ℕ) (ss : List ℕ) (k : ℕ) → k < length ss → slice_index (sizes_from own new tag ss) k ≡ new_size own new (tag + k) (slice_index ss k)
+sizes_at : (own : ℕ) (new : ComponentSizes) (tag : ℕ) (ss : List ℕ) (k : ℕ) → k < length ss → slice_index (sizes_from own new tag ss) k
+    ≡ new_size own new (tag + k) (slice_index ss k)
 sizes_at own new tag [] k lt = absurd (omega arith)
 sizes_at own new tag (s ∷ ss) zero lt = let e : tag ≡ tag + 0 = omega arith in ap (λ n. new_size own new n s) e
 sizes_at own new tag (s ∷ ss) (suc k) lt =
@@ -175,22 +189,27 @@ count_least V21 = omega arith
 count_least V22 = omega arith
 
 -- the size of a component
-pub size_now : (own : ℕ) (new : ComponentSizes) (d e : DirectoryItems) (format : Format) (tag size : ℕ) → e.sizes ≡ sizes_from own new 1 d.sizes → length d.sizes ≡ size_count format → 1 ≤ tag → tag ≤ 11 → size_in e tag ≡ Some size
+pub size_now : (own : ℕ) (new : ComponentSizes) (d e : DirectoryItems) (format : Format) (tag size : ℕ) → e.sizes ≡ sizes_from own new 1 d.sizes
+    → length d.sizes ≡ size_count format → 1 ≤ tag → tag ≤ 11 → size_in e tag ≡ Some size
     → size ≡ new_size own new tag (slice_index d.sizes (tag - 1))
 size_now own new d e format tag size are counted low high s =
     let least = count_least format in
     let same : 1 + (tag - 1) ≡ tag = omega arith in
-    size_known e tag size low (omega arith) s ∙ ap (λ ss. slice_index ss (tag - 1)) are ∙ sizes_at own new 1 d.sizes (tag - 1) (omega arith) ∙ ap (λ n. new_size own new n (slice_index d.sizes (tag - 1))) same
+    size_known e tag size low (omega arith) s ∙ ap (λ ss. slice_index ss (tag - 1)) are ∙ sizes_at own new 1 d.sizes (tag - 1) (omega arith)
+    ∙ ap (λ n. new_size own new n (slice_index d.sizes (tag - 1))) same
 
 -- and that of Debug
-pub debug_now : (own : ℕ) (new : ComponentSizes) (d e : DirectoryItems) (format : Format) (size : ℕ) → e.sizes ≡ sizes_from own new 1 d.sizes → length d.sizes ≡ size_count format → size_in e 12 ≡ Some size → size ≡ 0
+pub debug_now : (own : ℕ) (new : ComponentSizes) (d e : DirectoryItems) (format : Format) (size : ℕ) → e.sizes ≡ sizes_from own new 1 d.sizes
+    → length d.sizes ≡ size_count format → size_in e 12 ≡ Some size → size ≡ 0
 debug_now own new d e V21 size are counted s =
-    size_known e 12 size (omega arith) (omega arith) s ∙ ap (λ ss. slice_index ss 11) are ∙ get_or_past (sizes_from own new 1 d.sizes) 11 0 (omega (arith, sizes_counted own new 1 d.sizes))
+    size_known e 12 size (omega arith) (omega arith) s ∙ ap (λ ss. slice_index ss 11) are
+    ∙ get_or_past (sizes_from own new 1 d.sizes) 11 0 (omega (arith, sizes_counted own new 1 d.sizes))
 debug_now own new d e V22 size are counted s =
     size_known e 12 size (omega arith) (omega arith) s ∙ ap (λ ss. slice_index ss 11) are ∙ sizes_at own new 1 d.sizes 11 (omega arith)
 
 -- the size that was told
-pub size_was : (d : DirectoryItems) (tag : ℕ) → (nat_le 1 tag && nat_le tag 12) ≡ true → 1 ≤ tag → tag ≤ 12 → size_in d tag ≡ Some (slice_index d.sizes (tag - 1))
+pub size_was : (d : DirectoryItems) (tag : ℕ) → (nat_le 1 tag && nat_le tag 12) ≡ true → 1 ≤ tag → tag ≤ 12
+    → size_in d tag ≡ Some (slice_index d.sizes (tag - 1))
 size_was d tag e low high =
     let n = unwrap_or (slice_get d.sizes (tag - 1)) 0 in
     let k : size_in d tag ≡ Some n = ap (λ b. if b then Some n else custom_size_in d.customs tag) e in
@@ -206,6 +225,7 @@ pub has_tag_from : (low n tag : ℕ) → low ≤ tag → tag < low + n → Has (
 has_tag_from low zero tag a b = absurd (omega arith)
 has_tag_from low (suc n) tag a b = by (cases_eq tag low) (λ ne. has_tag_from (low + 1) n tag (omega (arith, ne)) (omega arith))
   where
-    by : (tag ≡ low) ⊎ (tag ≡ low → ⊥) → ((tag ≡ low → ⊥) → Has (tags_from (low + 1) n) tag) → (tag ≡ low) ⊎ Has (tags_from (low + 1) n) tag
+    by : (tag ≡ low) ⊎ (tag ≡ low → ⊥) → ((tag ≡ low → ⊥) → Has (tags_from (low + 1) n) tag) → (tag ≡ low)
+        ⊎ Has (tags_from (low + 1) n) tag
     by (inl e) rest = inl e
     by (inr ne) rest = inr (rest ne)

@@ -20,7 +20,8 @@ use Rattle.cap_write.specs.declared.end.WriteEnd.{WriteEnd}
 use Rattle.cap_write.specs.declared.end.WriteEnd.TheVariants.{PartLong, Memory}
 use Rattle.cap_write.specs.WrittenMethods.{AreMembersFor, IsLong}
 use Rattle.cap_write.specs.NewIndex.{Index, IsNewIndex}
-use Rattle.cap_write.specs.Files.{IsAppletFile, IsClassFile, IsDescriptorFile, IsDirectoryFile, IsExportFile, IsFramed, IsPoolFile, IsPresent, index_file}
+use Rattle.cap_write.specs.Files.{IsAppletFile, IsClassFile, IsDescriptorFile, IsDirectoryFile, IsExportFile, IsFramed, IsPoolFile}
+use Rattle.cap_write.specs.Files.{IsPresent, index_file}
 use Rattle.cap_write.specs.Filed.{IsRising}
 
 -- the parts, component by component, where methods stand at new places, and the Method and the ReferenceLocation component

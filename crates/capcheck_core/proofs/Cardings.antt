@@ -1,5 +1,6 @@
 -- The methods with code of all packages, as the verifier on the card answers for them.
-use Rattle.std.proofs.Common.{◌≡◌, ℕ, ◌+◌, ◌<◌, ◌≤◌, Bool, List, length, take, Option, Some, None, option_map, slice_get, count_by, refl, sym, ap, subst, ◌∙◌, arith}
+use Rattle.std.proofs.Common.{◌≡◌, ℕ, ◌+◌, ◌<◌, ◌≤◌, Bool, List, length, take, Option, Some, None, option_map, slice_get, count_by, refl}
+use Rattle.std.proofs.Common.{sym, ap, subst, ◌∙◌, arith}
 use Rattle.std.specs.Prelude.{IfSome}
 use Rattle.std.specs.Int.{from_bool}
 use Rattle.std.proofs.lemmas.List.{take_all}
@@ -34,7 +35,8 @@ pub all_carded : (w : Linked) → AreAccepted w → HaveCardTypings w
 all_carded w all m is = below_carded w (length w.methods) all m is (slice_get_within w.methods m.number m.rec is.rec)
 
 -- the text says how many are accepted
-pub carded : (w : Linked) (count : ℕ) (text : List ℕ) → AreAccepted w → TypedCodeIsFaultFree w → count ≡ count_of_world w → text ≡ accepted_line count → TellsAccepted w text
+pub carded : (w : Linked) (count : ℕ) (text : List ℕ) → AreAccepted w → TypedCodeIsFaultFree w → count ≡ count_of_world w
+    → text ≡ accepted_line count → TellsAccepted w text
 carded w count text all free counts prints =
     record { carded = all_carded w all; fault_free = free Bottom (accepted-typed w all); prints = prints ∙ ap accepted_line counts }
 

@@ -1,5 +1,6 @@
 -- Where what a command needs is there and no device failed, no other verdict than Done and Memory has its cause.
-use Rattle.std.proofs.Common.{◌≡◌, ◌⊎◌, List, ℕ, ℤ, ◌<◌, length, map, ap, subst, ◌∙◌, inl, inr, refl, arith, rules, suc, zero, [], ◌∷◌, All, FitsSigned, w16}
+use Rattle.std.proofs.Common.{◌≡◌, ◌⊎◌, List, ℕ, ℤ, ◌<◌, length, map, ap, subst, ◌∙◌, inl, inr, refl, arith, rules, suc, zero, []}
+use Rattle.std.proofs.Common.{◌∷◌, All, FitsSigned, w16}
 use Rattle.std.specs.Prelude.{None, IfSome, IsSomeAnd, string_bytes, slice_get}
 use Rattle.std.specs.FinMap as map
 use Rattle.cap_files.specs.Folder.{Folders, Holds, IsThere, IsAbsent, IsTooLong}
@@ -29,7 +30,8 @@ use Rattle.capcheck_core.specs.Trial.{TriesWorld, Tries}
 use Rattle.capcheck_core.specs.World.{of_world}
 use Rattle.capcheck_core.specs.Outside.{Outside}
 use Rattle.capcheck_core.specs.Answers.{Answers, IsVerdict}
-use Rattle.capcheck_core.specs.Completeness.{CanProbe, CanShow, CanCheck, CanVerify, CanDefend, CanRun, CanBring, CanTransform, CanTry, CanGenerate, AreWithinLimits, CanDo, NoFault, Completes}
+use Rattle.capcheck_core.specs.Completeness.{CanProbe, CanShow, CanCheck, CanVerify, CanDefend, CanRun, CanBring, CanTransform, CanTry, CanGenerate}
+use Rattle.capcheck_core.specs.Completeness.{AreWithinLimits, CanDo, NoFault, Completes}
 use Rattle.capcheck_core.specs.MethodFile.{IsMethodFile}
 use Rattle.capcheck_core.specs.Probe.{ProbesFolder, FailsMethodPart, Probes, OfMethodPart, OfMethod, IsRefusal, IsUnstarted, IsNoMethod, method_key}
 use Rattle.capcheck_core.specs.Report.{Seen, IsReported}
@@ -64,18 +66,22 @@ long_not p before can long =
     absurd (omega (arith, can.short, beyond))
 
 -- each of a list of shorts is a short
-no_misfit : (values : List ℤ) (n : ℕ) → All (FitsSigned w16) values → IsSomeAnd (slice_get (map number values) n) (λ arg. (value : ℤ) → IsShort arg value → ⊥) → ⊥
+no_misfit : (values : List ℤ) (n : ℕ) → All (FitsSigned w16) values
+    → IsSomeAnd (slice_get (map number values) n) (λ arg. (value : ℤ) → IsShort arg value → ⊥) → ⊥
 no_misfit [] n fit misfit = absurd misfit
 no_misfit (x ∷ xs) zero fit misfit = misfit x (refl, fit 0 x (search rules))
 no_misfit (x ∷ xs) (suc n) fit misfit = no_misfit xs n (λ k d below. fit (suc k) d (omega (arith, below))) misfit
 
 -- arguments that fit are refused for nothing
-starts : (args : List Argument) (wanted : ℕ) (values : List ℤ) (fault : StartFault) → AreShorts args wanted values → RefusesStart args wanted fault → ⊥
+starts : (args : List Argument) (wanted : ℕ) (values : List ℤ) (fault : StartFault) → AreShorts args wanted values → RefusesStart args wanted fault
+    → ⊥
 starts args wanted values NoEntry fit refused = refused
 starts args wanted values NotStatic fit refused = refused
 starts args wanted values (ArgRoom n) fit refused = refused
 starts args wanted values (ArgCount said parameters) fit refused = refused.2 fit.count
-starts args wanted values (ArgKind n) fit refused = no_misfit values n fit.fit (subst (λ xs. IsSomeAnd (slice_get xs n) (λ arg. (value : ℤ) → IsShort arg value → ⊥)) fit.numbers refused.1.misfit)
+starts args wanted values (ArgKind n) fit refused =
+    no_misfit values n fit.fit
+    (subst (λ xs. IsSomeAnd (slice_get xs n) (λ arg. (value : ℤ) → IsShort arg value → ⊥)) fit.numbers refused.1.misfit)
 
 unrefused : (p : ProbeRequest) (before : Folders) → CanProbe p before → (text : List ℕ)
     → OfMethodPart p before (λ file. OfMethod file (λ bare code. IsRefusal bare code text)) → ⊥
@@ -96,7 +102,8 @@ unbroken p before can text part =
     ]
 
 -- the verdicts that stand where a probe can be done
-probed : (p : ProbeRequest) (before : Folders) (verdict : Verdict) → CanProbe p before → ProbesFolder p before verdict → (status_of verdict ≡ 0) ⊎ (status_of verdict ≡ 6)
+probed : (p : ProbeRequest) (before : Folders) (verdict : Verdict) → CanProbe p before → ProbesFolder p before verdict → (status_of verdict ≡ 0)
+    ⊎ (status_of verdict ≡ 6)
 probed p before (Done text) can probes = inl refl
 probed p before Memory can probes = inr refl
 probed p before (Refused text) can probes = absurd (unrefused p before can (string_bytes text) probes)
@@ -108,7 +115,8 @@ probed p before Usage can probes = absurd probes
 probed p before StoreFault can probes = absurd probes
 probed p before (Limit text) can probes = absurd probes
 
-unread : (p : ProbeRequest) (before after : Folders) (sink put : Seen) (verdict : Verdict) → NoFault before after sink put → FailsMethodPart p before after verdict → ⊥
+unread : (p : ProbeRequest) (before after : Folders) (sink put : Seen) (verdict : Verdict) → NoFault before after sink put
+    → FailsMethodPart p before after verdict → ⊥
 unread p before after sink put ReadFault calm fails = calm.loads fails.rose
 unread p before after sink put _ calm fails = fails
 
@@ -122,10 +130,12 @@ shown s before can text of =
     let same = one_list before can.held s.dir 256 can.parts of.parts can.told can.loaded of.loaded in
     no_fault of.parts can.shown of.holds.fault (subst (λ ps. StandsFor ps can.shown) same can.stands) of.holds.refused
 
-has_shown : (s : ShowRequest) (before : Folders) (verdict : Verdict) → CanShow s before → ShowsFolder s before verdict → (status_of verdict ≡ 0) ⊎ (status_of verdict ≡ 6)
+has_shown : (s : ShowRequest) (before : Folders) (verdict : Verdict) → CanShow s before → ShowsFolder s before verdict → (status_of verdict ≡ 0)
+    ⊎ (status_of verdict ≡ 6)
 has_shown s before (Done text) can shows = inl refl
 has_shown s before Memory can shows = inr refl
-has_shown s before (Malformed text) can (inl long) = absurd (none_long before can.held s.dir 256 long.tag can.parts can.told can.loaded long.first.byte long.first)
+has_shown s before (Malformed text) can (inl long) =
+    absurd (none_long before can.held s.dir 256 long.tag can.parts can.told can.loaded long.first.byte long.first)
 has_shown s before (Malformed text) can (inr of) = absurd (shown s before can (string_bytes text) of)
 has_shown s before ReadFault can shows = absurd shows
 has_shown s before (Refused text) can shows = absurd shows
@@ -133,7 +143,8 @@ has_shown s before Usage can shows = absurd shows
 has_shown s before StoreFault can shows = absurd shows
 has_shown s before (Limit text) can shows = absurd shows
 
-unloaded : (s : ShowRequest) (before after : Folders) (sink put : Seen) (verdict : Verdict) → NoFault before after sink put → FailsFolder s before after verdict → ⊥
+unloaded : (s : ShowRequest) (before after : Folders) (sink put : Seen) (verdict : Verdict) → NoFault before after sink put
+    → FailsFolder s before after verdict → ⊥
 unloaded s before after sink put ReadFault calm fails = calm.loads fails.1.holds.rose
 unloaded s before after sink put _ calm fails = fails
 
@@ -143,7 +154,8 @@ can_show s before after sink put verdict can calm (inl shows) = has_shown s befo
 can_show s before after sink put verdict can calm (inr fails) = absurd (unloaded s before after sink put verdict calm fails)
 
 -- the last step of a check refuses no world in which all methods are typed
-types : (w : Linked) (before after : Outside) (verdict : Verdict) → AreTyped w → ChecksWorld w before after verdict → (status_of verdict ≡ 0) ⊎ (status_of verdict ≡ 6)
+types : (w : Linked) (before after : Outside) (verdict : Verdict) → AreTyped w → ChecksWorld w before after verdict → (status_of verdict ≡ 0)
+    ⊎ (status_of verdict ≡ 6)
 types w before after (Done text) typed checks = inl refl
 types w before after Memory typed checks = inr refl
 types w before after (Refused text) typed checks = absurd (checks.1.first.lacks (typed checks.1.method checks.1.first.asked))
@@ -153,7 +165,8 @@ types w before after Usage typed checks = absurd checks.1
 types w before after ReadFault typed checks = absurd checks.1
 types w before after StoreFault typed checks = absurd checks.1
 
-can_check : (c : CheckRequest) (before after : Outside) (sink put : Seen) (verdict : Verdict) → CanCheck c before.folders → NoFault before.folders after.folders sink put
+can_check : (c : CheckRequest) (before after : Outside) (sink put : Seen) (verdict : Verdict) → CanCheck c before.folders
+    → NoFault before.folders after.folders sink put
     → Checks c before after verdict → (status_of verdict ≡ 0) ⊎ (status_of verdict ≡ 6)
 can_check c before after sink put verdict can calm checks =
     elim (reaches (of_world ChecksWorld) c.dirs before after can.world verdict can.links calm.loads checks) [
@@ -162,7 +175,8 @@ can_check c before after sink put verdict can calm checks =
     ]
 
 -- the last step of a verifying refuses no world in which all methods have card typings
-cards : (w : Linked) (before after : Outside) (verdict : Verdict) → HaveCardTypings w → VerifiesWorld w before after verdict → (status_of verdict ≡ 0) ⊎ (status_of verdict ≡ 6)
+cards : (w : Linked) (before after : Outside) (verdict : Verdict) → HaveCardTypings w → VerifiesWorld w before after verdict
+    → (status_of verdict ≡ 0) ⊎ (status_of verdict ≡ 6)
 cards w before after (Done text) carded verifies = inl refl
 cards w before after Memory carded verifies = inr refl
 cards w before after (Refused text) carded verifies = absurd (verifies.1.first.lacks (carded verifies.1.method verifies.1.first.asked))
@@ -172,7 +186,8 @@ cards w before after Usage carded verifies = absurd verifies.1
 cards w before after ReadFault carded verifies = absurd verifies.1
 cards w before after StoreFault carded verifies = absurd verifies.1
 
-can_verify : (v : VerifyRequest) (before after : Outside) (sink put : Seen) (verdict : Verdict) → CanVerify v before.folders → NoFault before.folders after.folders sink put
+can_verify : (v : VerifyRequest) (before after : Outside) (sink put : Seen) (verdict : Verdict) → CanVerify v before.folders
+    → NoFault before.folders after.folders sink put
     → Verifies v before after verdict → (status_of verdict ≡ 0) ⊎ (status_of verdict ≡ 6)
 can_verify v before after sink put verdict can calm verifies =
     elim (reaches (of_world VerifiesWorld) v.dirs before after can.world verdict can.links calm.loads verifies) [
@@ -192,7 +207,8 @@ defended r w before after Usage begins own = absurd own.1
 defended r w before after ReadFault begins own = absurd own.1
 defended r w before after StoreFault begins own = absurd own.1
 
-can_defend : (r : RunRequest) (before after : Outside) (sink put : Seen) (verdict : Verdict) → CanDefend r before.folders → NoFault before.folders after.folders sink put
+can_defend : (r : RunRequest) (before after : Outside) (sink put : Seen) (verdict : Verdict) → CanDefend r before.folders
+    → NoFault before.folders after.folders sink put
     → Defends r before after verdict → (status_of verdict ≡ 0) ⊎ (status_of verdict ≡ 6)
 can_defend r before after sink put verdict can calm answers =
     elim (reaches (of_world (DefendsWorld r)) r.dirs before after can.world verdict can.links calm.loads answers) [
@@ -201,7 +217,8 @@ can_defend r before after sink put verdict can calm answers =
     ]
 
 -- nor does that of a run on the machine of verified code, where all methods have card typings
-ran : (r : RunRequest) (w : Linked) (before after : Outside) (verdict : Verdict) → HaveCardTypings w → run_fault w r ≡ None → RunsWorld r w before after verdict
+ran : (r : RunRequest) (w : Linked) (before after : Outside) (verdict : Verdict) → HaveCardTypings w → run_fault w r ≡ None
+    → RunsWorld r w before after verdict
     → (status_of verdict ≡ 0) ⊎ (status_of verdict ≡ 6)
 ran r w before after (Done text) carded begins own = inl refl
 ran r w before after Memory carded begins own = inr refl
@@ -212,7 +229,8 @@ ran r w before after Usage carded begins own = absurd own.1
 ran r w before after ReadFault carded begins own = absurd own.1
 ran r w before after StoreFault carded begins own = absurd own.1
 
-can_run : (r : RunRequest) (before after : Outside) (sink put : Seen) (verdict : Verdict) → CanRun r before.folders → NoFault before.folders after.folders sink put
+can_run : (r : RunRequest) (before after : Outside) (sink put : Seen) (verdict : Verdict) → CanRun r before.folders
+    → NoFault before.folders after.folders sink put
     → RunsVerified r before after verdict → (status_of verdict ≡ 0) ⊎ (status_of verdict ≡ 6)
 can_run r before after sink put verdict can calm answers =
     elim (reaches (of_world (RunsWorld r)) r.dirs before after can.world verdict can.links calm.loads answers) [
@@ -283,7 +301,8 @@ has_generated : (g : GenerateRequest) (w : Linked) (before after : Outside) (sin
 has_generated g w before after sink put (Done text) within short calm own = inl refl
 has_generated g w before after sink put Memory within short calm own = inr refl
 has_generated g w before after sink put StoreFault within short calm own = absurd (calm.stores own.0.broken.rose)
-has_generated g w before after sink put (Limit text) within short calm (same, inl says) = absurd (within says.is.method says.is.of_last says.limit says.is.passes)
+has_generated g w before after sink put (Limit text) within short calm (same, inl says) =
+    absurd (within says.is.method says.is.of_last says.limit says.is.passes)
 has_generated g w before after sink put (Limit text) within short calm (same, inr says) = absurd (short says.size says.is)
 has_generated g w before after sink put (Refused text) within short calm own = absurd own
 has_generated g w before after sink put (Malformed text) within short calm own = absurd own
@@ -297,7 +316,8 @@ can_generate g before after sink put verdict can calm (inr of) =
     let free = can of.world of.linked in
     has_generated g of.world before after sink put verdict free.0 free.1 calm of.holds
 
-can_do : (r : Request) (before after : Outside) (sink put : Seen) (verdict : Verdict) → CanDo r before.folders → NoFault before.folders after.folders sink put
+can_do : (r : Request) (before after : Outside) (sink put : Seen) (verdict : Verdict) → CanDo r before.folders
+    → NoFault before.folders after.folders sink put
     → Answers r before after verdict → (status_of verdict ≡ 0) ⊎ (status_of verdict ≡ 6)
 can_do (probe p) before after sink put verdict can calm answers = can_probe p before.folders after.folders sink put verdict can calm answers.0
 can_do (show s) before after sink put verdict can calm answers = can_show s before.folders after.folders sink put verdict can calm answers.0
@@ -309,7 +329,8 @@ can_do (transform t) before after sink put verdict can calm answers = can_transf
 can_do (trial r) before after sink put verdict can calm answers = can_try r before after sink put verdict can calm answers
 can_do (generate g) before after sink put verdict can calm answers = can_generate g before after sink put verdict can calm answers
 
-reported : (verdict : Verdict) (before after : Folders) (sink put : Seen) (status : ℕ) → NoFault before after sink put → IsReported verdict sink put status
+reported : (verdict : Verdict) (before after : Folders) (sink put : Seen) (status : ℕ) → NoFault before after sink put
+    → IsReported verdict sink put status
     → (status_of verdict ≡ 0) ⊎ (status_of verdict ≡ 6) → (status ≡ 0) ⊎ (status ≡ 6)
 reported verdict before after sink put status calm (inr broken) known = absurd (calm.puts broken.risen)
 reported verdict before after sink put status calm (inl whole) (inl done) = inl (whole.says ∙ done)

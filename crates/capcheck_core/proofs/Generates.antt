@@ -1,6 +1,8 @@
 -- The package that is generated makes one world, in which its methods can be run.
-use Rattle.std.proofs.Common.{◌≡◌, ◌⊎◌, ◌<◌, ◌≤◌, ◌+◌, ◌-◌, ◌/◌, ◌%◌, ℕ, zero, suc, ℤ, pos, Bool, true, false, List, [], ◌∷◌, ◌++◌, length, map, Option, Some, None, inl, inr, refl, sym, ap, subst, ◌∙◌, arith}
-use Rattle.std.specs.Prelude.{slice_get, not, nat_lt, if◌then◌else◌, fold, ◌+ℤ◌, IsSomeAnd, IfOk, OnErr, MatchBool, MatchResult, Result, Ok, Err, string_bytes}
+use Rattle.std.proofs.Common.{◌≡◌, ◌⊎◌, ◌<◌, ◌≤◌, ◌+◌, ◌-◌, ◌/◌, ◌%◌, ℕ, zero, suc, ℤ, pos, Bool, true, false, List}
+use Rattle.std.proofs.Common.{[], ◌∷◌, ◌++◌, length, map, Option, Some, None, inl, inr, refl, sym, ap, subst, ◌∙◌, arith}
+use Rattle.std.specs.Prelude.{slice_get, not, nat_lt, if◌then◌else◌, fold, ◌+ℤ◌, IsSomeAnd, IfOk, OnErr, MatchBool, MatchResult, Result, Ok, Err}
+use Rattle.std.specs.Prelude.{string_bytes}
 use Rattle.std.specs.List.{range_with_len}
 use Rattle.std.proofs.lemmas.Option.{slice_get_within}
 use Rattle.std.proofs.lemmas.List.{length_push}
@@ -49,7 +51,8 @@ use Rattle.vm_offend.proofs.Accepting.{accepted-typed}
 use Rattle.cap_gen.proofs.Placed.{at_each}
 use Rattle.capcheck_core.specs.declared.verdict.Verdict.{Verdict}
 use Rattle.capcheck_core.specs.declared.verdict.Verdict.TheVariants.{Done, Refused, Limit, Malformed, Usage, ReadFault, StoreFault, Memory}
-use Rattle.capcheck_core.specs.Generate.{generated, run_of, short_result, short_ended, AreBegun, AreRun, ComeOfRuns, HaveEntries, GeneratesIn, IsKeptOrBegun, IsNew, ComesOfRun, RunsAll, TellsParts}
+use Rattle.capcheck_core.specs.Generate.{generated, run_of, short_result, short_ended, AreBegun, AreRun, ComeOfRuns, HaveEntries, GeneratesIn, IsKeptOrBegun}
+use Rattle.capcheck_core.specs.Generate.{IsNew, ComesOfRun, RunsAll, TellsParts}
 use Rattle.capcheck_core.specs.Defend.{ComesTo, method_entered}
 use Rattle.capcheck_core.specs.Outside.{Card, Outside, Untouched, card}
 use Rattle.capcheck_core.specs.Run.{HoldsWords}
@@ -95,7 +98,8 @@ found = refl
 abbrev told : Bool → Bool → Bool → Option StartFault
 told i a b = if not (not i) then Some NotStatic else or_room (if a then (if b then None else Some 1) else Some 0) None
 
-told_so : (w : Linked) (k : ℕ) → method_fault w (method_record k) (run_of k).args ≡ told (is_interface w.classes 0) (nat_lt k 32768) (nat_lt ((k / 4) % 2) 32768)
+told_so : (w : Linked) (k : ℕ) → method_fault w (method_record k) (run_of k).args ≡ told (is_interface w.classes 0) (nat_lt k 32768)
+    (nat_lt ((k / 4) % 2) 32768)
 told_so w k = refl
 
 no_reason : (w : Linked) (k : ℕ) → is_interface w.classes 0 ≡ false → k < 200 → method_fault w (method_record k) (run_of k).args ≡ None
@@ -134,7 +138,8 @@ entries seed w linked world k below =
     }
 
 -- so do they in a world that differs in their code alone
-pub new_entries : (w new : Linked) → HaveEntries w → IsSameBut w new → length new.infos ≡ length w.infos → StartsRefuseAlike w → MethodsAreNumberedAlike w
+pub new_entries : (w new : Linked) → HaveEntries w → IsSameBut w new → length new.infos ≡ length w.infos → StartsRefuseAlike w
+    → MethodsAreNumberedAlike w
     → HaveEntries new
 new_entries w new have same counted alike numbered k below =
     let entry = have k below in
@@ -199,7 +204,8 @@ sum_more start [] o = refl
 sum_more start (p ∷ ps) o = sum_more (start +ℤ short_result p) ps o
 
 -- one more
-pub one_run_more : (w : Linked) (k : ℕ) (begun before c : Card) (sum more : ℤ) (ending : PlainEnding) → HaveRun w k begun before sum → ComesOfRun w k c ending
+pub one_run_more : (w : Linked) (k : ℕ) (begun before c : Card) (sum more : ℤ) (ending : PlainEnding) → HaveRun w k begun before sum
+    → ComesOfRun w k c ending
     → more ≡ sum +ℤ short_ended ending → HaveRun w (k + 1) begun c more
 one_run_more w k begun before c sum more ending have is adds =
     let o = is.outcome in
@@ -217,7 +223,8 @@ one_run_more w k begun before c sum more ending have is adds =
           (subst (λ found. IsSomeAnd found (HoldsWords w c)) (sym there) is.holds));
     }
 
-held_last : (w : Linked) (begun c : Card) (os : List (Outcome Cell)) → ((◌≡◌ {A = ℕ} 200 0) × (c ≡ begun)) ⊎ IsSomeAnd (slice_get os 199) (HoldsWords w c)
+held_last : (w : Linked) (begun c : Card) (os : List (Outcome Cell)) → ((◌≡◌ {A = ℕ} 200 0) × (c ≡ begun))
+    ⊎ IsSomeAnd (slice_get os 199) (HoldsWords w c)
     → IsSomeAnd (slice_get os 199) (HoldsWords w c)
 held_last w begun c os (inl none) = let zero_is = none.0 in absurd (cc)
 held_last w begun c os (inr holds) = holds
@@ -283,7 +290,8 @@ run_wider w ram heap fields others sum long run = record {
     by (Some o) h = wider w ram heap fields others o long h
 
 pub begun_wider : (w : Linked) (ram heap fields others : List ℕ) (begun : Card) → length fields ≡ static_cells w
-    → IsKeptOrBegun w begun (card ram heap fields) → IsKeptOrBegun w (card begun.ram begun.heap (begun.statics ++ others)) (card ram heap (fields ++ others))
+    → IsKeptOrBegun w begun (card ram heap fields) → IsKeptOrBegun w (card begun.ram begun.heap (begun.statics ++ others))
+    (card ram heap (fields ++ others))
 begun_wider w ram heap fields others begun long (inl same) = inl (ap (λ (c : Card). card c.ram c.heap (c.statics ++ others)) same)
 begun_wider w ram heap fields others begun long (inr some) = inr (record {
   outcomes = some.outcomes;
@@ -344,7 +352,8 @@ module _ (seed : ℕ) (w : Linked) (parts : List Lent) (made : PackageRecord) (a
     is_linked fault tells = never_at_fault (generated seed) roles w parts t all fault alone tells
 
 -- with the world, of which all is accepted
-pub run_in_card : {E : Type 0} (w : Linked) (ram heap fields others : List ℕ) (end : Result ℤ E) → length fields ≡ static_cells w → HaveCardTypings w → AreAccepted w
+pub run_in_card : {E : Type 0} (w : Linked) (ram heap fields others : List ℕ) (end : Result ℤ E) → length fields ≡ static_cells w
+    → HaveCardTypings w → AreAccepted w
     → TypedCodeIsFaultFree w → IfOk end (AreRun w (card ram heap fields)) → IfOk end (RunsAll w (card ram heap (fields ++ others)))
 run_in_card w ram heap fields others (Ok sum) long carded accepted free run =
     (carded, free Bottom (accepted-typed w accepted), run_wider w ram heap fields others sum long run)
@@ -363,13 +372,16 @@ new_counted seed w new parts size linked n =
 pub entries_there : (seed : ℕ) (w new : Linked) (parts : List Lent) (size : ℕ) → IsLinked (generated seed) roles w → IsWorld w
     → IsNew seed w parts new size → StartsRefuseAlike w → MethodsAreNumberedAlike w → HaveEntries new
 entries_there seed w new parts size linked world n alike numbered =
-    new_entries w new (entries seed w linked world) (subst (λ v. IsSameBut w v) n.world n.made.anew.same) (new_counted seed w new parts size linked n) alike numbered
+    new_entries w new (entries seed w linked world) (subst (λ v. IsSameBut w v) n.world n.made.anew.same) (new_counted seed w new parts size linked n)
+    alike numbered
 
 pub carded_there : (seed : ℕ) (w new : Linked) (parts : List Lent) (size : ℕ) → IsNew seed w parts new size → HaveCardTypings new
 carded_there seed w new parts size n = subst HaveCardTypings n.world n.made.anew.carded
 
-pub told_of : {E : Type 0} (seed : ℕ) (w new : Linked) (parts : List Lent) (before c : Card) (size made_size : ℕ) (sum : ℤ) (text : Result _ E) (verdict : Verdict)
-    → IsNew seed w parts new made_size → size ≡ length (method_info seed) → RunsAll new c sum → IfOk text (λ t. string_bytes t ≡ generate_text size made_size sum)
+pub told_of : {E : Type 0} (seed : ℕ) (w new : Linked) (parts : List Lent) (before c : Card) (size made_size : ℕ) (sum : ℤ) (text : Result _ E)
+    (verdict : Verdict)
+    → IsNew seed w parts new made_size → size ≡ length (method_info seed) → RunsAll new c sum
+    → IfOk text (λ t. string_bytes t ≡ generate_text size made_size sum)
     → MatchResult text (λ t. verdict ≡ Done t) (λ _. verdict ≡ Memory) → TellsParts seed w parts before c verdict
 told_of seed w new parts before c size made_size sum (Ok t) verdict n is runs says result =
     let there : RunsAll n.made.world c sum = subst (λ v. RunsAll v c sum) (sym n.world) runs in
@@ -388,12 +400,15 @@ told_of seed w new parts before c size made_size sum (Err e) verdict n is runs s
     subst (TellsParts seed w parts before c) (sym result) (n.made, inr (run_begun n.made.world c sum there.2))
 
 -- without memory for its world nothing is run
-pub untold_there : (seed : ℕ) (w : Linked) (parts : List Lent) (c : Card) → IsTransformed (generated seed) roles w parts → TellsParts seed w parts c c Memory
+pub untold_there : (seed : ℕ) (w : Linked) (parts : List Lent) (c : Card) → IsTransformed (generated seed) roles w parts
+    → TellsParts seed w parts c c Memory
 untold_there seed w parts c made = (made, inl refl)
 
 -- all is stored, and of it is told
-pub all_told : (g : GenerateRequest) (w : Linked) (parts stores : List Lent) (before after : Outside) (verdict : Verdict) → AreInStoreOrder parts (Some roles) stores
-    → AreStored g.out stores before.folders after.folders → TellsParts g.seed w parts before.card after.card verdict → GeneratesIn g w before after verdict
+pub all_told : (g : GenerateRequest) (w : Linked) (parts stores : List Lent) (before after : Outside) (verdict : Verdict)
+    → AreInStoreOrder parts (Some roles) stores
+    → AreStored g.out stores before.folders after.folders → TellsParts g.seed w parts before.card after.card verdict
+    → GeneratesIn g w before after verdict
 all_told g w parts stores before after (Done text) order stored told =
     record { stored = record { stores = stores; brings = record { parts = parts; made = told.0; order = order }; stored = stored }; told = told.1 }
 all_told g w parts stores before after Memory order stored told =
@@ -415,7 +430,8 @@ source_is seed lent source law are stands =
 pub have_source : (seed : ℕ) (lent : List Lent) → PartsStand → lent ≡ parts.generated seed → HavePackage lent
 have_source seed lent law are = record { made = package_record seed; stands = subst (λ ps. StandsFor ps (package_record seed)) (sym are) (law seed) }
 
-pub never_unlinked : (seed : ℕ) (all : List PackageRecord) (fault : LinkFault) → PackagesLink → all ≡ generated seed → LinkTells all roles (Err (ends.Fault fault)) → ⊥
+pub never_unlinked : (seed : ℕ) (all : List PackageRecord) (fault : LinkFault) → PackagesLink → all ≡ generated seed
+    → LinkTells all roles (Err (ends.Fault fault)) → ⊥
 never_unlinked seed all fault law are tells =
     let world = law seed in
     linked_faultless (generated seed) roles world.0 fault world.1 (subst (λ ps. LinkTells ps roles (Err (ends.Fault fault))) are tells)

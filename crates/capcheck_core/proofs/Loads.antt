@@ -1,5 +1,6 @@
 -- The parts that are loaded have rising tags, and a folder that tells what it holds has one list of them.
-use Rattle.std.proofs.Common.{◌≡◌, ◌<◌, ◌≤◌, ◌+◌, ℕ, zero, suc, List, [], ◌∷◌, ◌++◌, Option, Some, None, IsNone, Bool, true, false, true≢false, eqb, ltb, leb, refl, sym, ap, subst, ◌∙◌, inl, inr, ◌⊎◌, arith, length, drop, append_assoc}
+use Rattle.std.proofs.Common.{◌≡◌, ◌<◌, ◌≤◌, ◌+◌, ℕ, zero, suc, List, [], ◌∷◌, ◌++◌, Option, Some, None, IsNone, Bool, true}
+use Rattle.std.proofs.Common.{false, true≢false, eqb, ltb, leb, refl, sym, ap, subst, ◌∙◌, inl, inr, ◌⊎◌, arith, length, drop, append_assoc}
 use Rattle.std.specs.Prelude.{Result, IfSome, slice_get, IsSomeAnd, is_some, Ok, Err, ◌&&◌, ◌||◌}
 use Rattle.std.specs.FinMap as fin_map
 use Rattle.std.proofs.Math.Bool.{and-false}
@@ -22,7 +23,8 @@ use Rattle.cap_components.specs.Openings.{IsOpening, GivesOpening}
 use Rattle.cap_package.specs.Parts.{Lent, held, HasEachOnce}
 use Rattle.cap_components.proofs.PartsLemmas.{held-other, held-same}
 use Rattle.cap_package.proofs.Given.{drop_here}
-use Rattle.capcheck_core.specs.Loads.{is_required, is_optional, is_some_size, is_sized, is_asked, Has, with_file, Rise, AreLoaded, AreParts, IsPartAdded, IsFirstLong}
+use Rattle.capcheck_core.specs.Loads.{is_required, is_optional, is_some_size, is_sized, is_asked, Has, with_file, Rise, AreLoaded, AreParts, IsPartAdded}
+use Rattle.capcheck_core.specs.Loads.{IsFirstLong}
 use Rattle.capcheck_core.specs.declared.load.LoadStop.{LoadStop}
 use Rattle.capcheck_core.specs.declared.load.LoadStop.TheVariants.{TooLong, Failed, Memory}
 use Rattle.capcheck_core.specs.LoadEnds.{StopsParts, AreRest, LoadsFile, EndsSized, EndsAsked}
@@ -60,7 +62,8 @@ rise_wider low top (lent ∷ parts) rise = (rise.0, omega (arith, rise.1), rise_
 abbrev pub lent_of : ℕ → List ℕ → Lent
 lent_of tag bytes = record { part = tag; bytes = bytes }
 
-pub rise_push : (low top : ℕ) (parts : List Lent) (bytes : List ℕ) → Rise low top parts → low ≤ top → Rise low (suc top) (parts ++ lent_of top bytes ∷ [])
+pub rise_push : (low top : ℕ) (parts : List Lent) (bytes : List ℕ) → Rise low top parts → low ≤ top
+    → Rise low (suc top) (parts ++ lent_of top bytes ∷ [])
 rise_push low top [] bytes rise le = (le, omega arith, tt {0})
 rise_push low top (lent ∷ parts) bytes rise le =
     let below = rise.1 in
@@ -80,11 +83,13 @@ push_same : (tag : ℕ) (parts : List Lent) (bytes : List ℕ) → held parts ta
 push_same tag [] bytes absent = held-same tag (lent_of tag bytes) [] (eq-eqb tag tag refl)
 push_same tag (l ∷ ls) bytes absent = by (eqb l.part tag) refl (push_same tag ls bytes)
   where
-    by : (b : Bool) → eqb l.part tag ≡ b → (held ls tag ≡ None → held (ls ++ lent_of tag bytes ∷ []) tag ≡ Some bytes) → held (l ∷ (ls ++ lent_of tag bytes ∷ [])) tag ≡ Some bytes
+    by : (b : Bool) → eqb l.part tag ≡ b → (held ls tag ≡ None → held (ls ++ lent_of tag bytes ∷ []) tag ≡ Some bytes)
+        → held (l ∷ (ls ++ lent_of tag bytes ∷ [])) tag ≡ Some bytes
     by true e rest = absurd (none_some l.bytes (sym absent ∙ held-same tag l ls e))
     by false e rest = held-other tag l (ls ++ lent_of tag bytes ∷ []) e ∙ rest (sym (held-other tag l ls e) ∙ absent)
 
-pub file_other : (tag top : ℕ) (parts : List Lent) (file : Option (List ℕ)) → eqb top tag ≡ false → held (with_file parts top file) tag ≡ held parts tag
+pub file_other : (tag top : ℕ) (parts : List Lent) (file : Option (List ℕ)) → eqb top tag ≡ false → held (with_file parts top file) tag
+    ≡ held parts tag
 file_other tag top parts None other = refl
 file_other tag top parts (Some bytes) other = push_other tag parts (lent_of top bytes) other
 
@@ -108,7 +113,8 @@ directory_same xs ys header directory =
     ap (λ h. h >>= λ items. read_part (directory_info items.format) 2 xs) (part_same header_info 1 xs ys header)
     ∙ by (read_part header_info 1 ys)
   where
-    by : (h : Result HeaderItems PackFault) → (h >>= λ items. read_part (directory_info items.format) 2 xs) ≡ (h >>= λ items. read_part (directory_info items.format) 2 ys)
+    by : (h : Result HeaderItems PackFault) → (h >>= λ items. read_part (directory_info items.format) 2 xs)
+        ≡ (h >>= λ items. read_part (directory_info items.format) 2 ys)
     by (Ok items) = part_same (directory_info items.format) 2 xs ys directory
     by (Err fault) = refl
 
@@ -140,7 +146,8 @@ asked_first (suc (suc zero)) xs ys lt = refl
 asked_first (suc (suc (suc n))) xs ys lt = absurd (omega (arith, lt))
 
 -- one more part after the Directory leaves what is asked for
-asked_kept : (tag top : ℕ) (parts : List Lent) (file : Option (List ℕ)) → (tag < 3) ⊎ (3 ≤ top) → is_asked (with_file parts top file) tag ≡ is_asked parts tag
+asked_kept : (tag top : ℕ) (parts : List Lent) (file : Option (List ℕ)) → (tag < 3) ⊎ (3 ≤ top) → is_asked (with_file parts top file) tag
+    ≡ is_asked parts tag
 asked_kept tag top parts file (inl lt) = asked_first tag (with_file parts top file) parts lt
 asked_kept tag top parts file (inr from) =
     asked_by tag (with_file parts top file) parts
@@ -182,16 +189,19 @@ module _ (before : Folders) (dir : List ℕ) (top : ℕ) (parts : List Lent) (lo
   }
 
   -- the next is asked for, and loaded as the folder has it
-  loaded_asked : (file : Option (List ℕ)) → is_asked parts top ≡ true → Has before dir top file → AreLoaded before dir (suc top) (with_file parts top file)
+  loaded_asked : (file : Option (List ℕ)) → is_asked parts top ≡ true → Has before dir top file
+      → AreLoaded before dir (suc top) (with_file parts top file)
   loaded_asked file wanted has = record {
     rising = file_rise top parts file loaded.rising;
     asked = λ tag below is. elim (split tag top below) [
       | inl same ↦ subst (λ t. Has before dir t (held (with_file parts top file) t)) (sym same)
           (subst (λ o. Has before dir top o) (sym (file_same top parts file (above_none 0 top top parts loaded.rising (omega arith)))) has)
-      | inr less ↦ subst (λ o. Has before dir tag o) (sym (others tag less)) (loaded.asked tag less (sym (asked_more tag top parts file (omega (arith, less))) ∙ is))
+      | inr less ↦ subst (λ o. Has before dir tag o) (sym (others tag less))
+          (loaded.asked tag less (sym (asked_more tag top parts file (omega (arith, less))) ∙ is))
     ];
     unasked = λ tag below is. elim (split tag top below) [
-      | inl same ↦ absurd (true≢false (sym wanted ∙ sym (asked_more top top parts file (omega arith)) ∙ ap (is_asked (with_file parts top file)) (sym same) ∙ is))
+      | inl same ↦ absurd
+          (true≢false (sym wanted ∙ sym (asked_more top top parts file (omega arith)) ∙ ap (is_asked (with_file parts top file)) (sym same) ∙ is))
       | inr less ↦ ap is_some (others tag less) ∙ loaded.unasked tag less (sym (asked_more tag top parts file (omega (arith, less))) ∙ is)
     ];
   }
@@ -221,7 +231,8 @@ one_more before now dir tag parts more loaded same asked added =
     (subst (λ ps. AreLoaded before dir (suc tag) ps) (sym here.adds) (loaded_asked before dir tag parts loaded here.file asked here.has))
 
 -- the parts with one that is not asked for
-pub none_more : (before : Folders) (dir : List ℕ) (tag : ℕ) (parts : List Lent) → AreLoaded before dir tag parts → is_asked parts tag ≡ false → AreLoaded before dir (tag + 1) parts
+pub none_more : (before : Folders) (dir : List ℕ) (tag : ℕ) (parts : List Lent) → AreLoaded before dir tag parts → is_asked parts tag ≡ false
+    → AreLoaded before dir (tag + 1) parts
 none_more before dir tag parts loaded unasked =
     let step : suc tag ≡ tag + 1 = omega arith in
     subst (λ n. AreLoaded before dir n parts) step (loaded_unasked before dir tag parts loaded unasked)
@@ -235,7 +246,8 @@ stopped before after dir tag parts old more Failed byte loaded asked fails =
     (tag, record { byte = byte; parts = parts; loaded = loaded; asked = asked; holds = fails })
 stopped before after dir tag parts old more Memory byte loaded asked loads = tt {0}
 
-pub stopped_there : (before now after : Folders) (dir : List ℕ) (tag : ℕ) (parts old more : List Lent) (stop : LoadStop) → tag < 256 → AreLoaded before dir tag parts → now ≡ before
+pub stopped_there : (before now after : Folders) (dir : List ℕ) (tag : ℕ) (parts old more : List Lent) (stop : LoadStop) → tag < 256
+    → AreLoaded before dir tag parts → now ≡ before
     → is_asked parts tag ≡ true → LoadsFile now after dir tag old more (Err stop) → StopsParts before after dir stop
 stopped_there before now after dir tag parts old more stop byte loaded same asked loads =
     stopped before after dir tag parts old more stop byte loaded asked (subst (λ f. LoadsFile f after dir tag old more (Err stop)) same loads)
@@ -256,7 +268,8 @@ file_after first rest tag None = refl
 file_after first rest tag (Some bytes) = sym (append_assoc first rest (lent_of tag bytes ∷ []))
 
 -- what is added to the rest is added to all
-pub added_after : (before : Folders) (dir : List ℕ) (tag : ℕ) (first rest more : List Lent) → IsPartAdded before dir tag rest more → IsPartAdded before dir tag (first ++ rest) (first ++ more)
+pub added_after : (before : Folders) (dir : List ℕ) (tag : ℕ) (first rest more : List Lent) → IsPartAdded before dir tag rest more
+    → IsPartAdded before dir tag (first ++ rest) (first ++ more)
 added_after before dir tag first rest more added =
     record { file = added.file; has = added.has; adds = ap (λ ps. first ++ ps) added.adds ∙ file_after first rest tag added.file }
 
@@ -267,7 +280,8 @@ Kept first all = (held all 1 ≡ held first 1) × (held all 2 ≡ held first 2)
 pub kept_none : (first : List Lent) → Kept first (first ++ [])
 kept_none first = (ap (λ ps. held ps 1) (append-nil first), ap (λ ps. held ps 2) (append-nil first))
 
-pub kept_more : (before : Folders) (dir : List ℕ) (tag : ℕ) (first parts more : List Lent) → 3 ≤ tag → Kept first parts → IsPartAdded before dir tag parts more → Kept first more
+pub kept_more : (before : Folders) (dir : List ℕ) (tag : ℕ) (first parts more : List Lent) → 3 ≤ tag → Kept first parts
+    → IsPartAdded before dir tag parts more → Kept first more
 kept_more before dir tag first parts more from kept added = (
   ap (λ ps. held ps 1) added.adds ∙ file_other 1 tag parts added.file (ne_eqb tag 1 (λ s. absurd (omega (arith, from, s)))) ∙ kept.0,
   ap (λ ps. held ps 2) added.adds ∙ file_other 2 tag parts added.file (ne_eqb tag 2 (λ s. absurd (omega (arith, from, s)))) ∙ kept.1,
@@ -318,7 +332,8 @@ next_new all parts more n lent at whole each =
 pub next_lent : (all parts more new : List Lent) (n : ℕ) (lent : Lent) → slice_get more n ≡ Some lent → new ≡ all ++ lent ∷ []
     → all ++ drop n more ≡ parts ++ more → new ++ drop (n + 1) more ≡ parts ++ more
 next_lent all parts more new n lent at pushed whole =
-    ap (λ ps. ps ++ drop (n + 1) more) pushed ∙ append_assoc all (lent ∷ []) (drop (n + 1) more) ∙ ap (λ ps. all ++ ps) (sym (drop_here more n lent at)) ∙ whole
+    ap (λ ps. ps ++ drop (n + 1) more) pushed ∙ append_assoc all (lent ∷ []) (drop (n + 1) more)
+    ∙ ap (λ ps. all ++ ps) (sym (drop_here more n lent at)) ∙ whole
 
 -- ---- the end of the loads
 
@@ -372,7 +387,8 @@ unrequired tag from =
 unasked : (parts : List Lent) (tag : ℕ) → 13 ≤ tag → is_sized (read_directory parts) tag ≡ false → is_asked parts tag ≡ false
 unasked parts tag from none = rw (unrequired tag from, none, and-false (is_optional tag)) refl
 
-ends_asked : (parts : List Lent) (directory : DirectoryItems) (top : ℕ) → read_directory parts ≡ Ok directory → EndsSized directory top → EndsAsked parts top
+ends_asked : (parts : List Lent) (directory : DirectoryItems) (top : ℕ) → read_directory parts ≡ Ok directory → EndsSized directory top
+    → EndsAsked parts top
 ends_asked parts directory top read ends = record {
   low = ends.low;
   high = ends.high;
@@ -395,18 +411,21 @@ ends_untold parts fault read =
 
 -- ---- a folder that tells has one list of parts
 
-told_file : (before : Folders) (parts : Parts) (dir : List ℕ) (tag : ℕ) (file : Option (List ℕ)) → before.held ≡ Some parts → Has before dir tag file → fin_map.get parts (tag ∷ dir) ≡ file
+told_file : (before : Folders) (parts : Parts) (dir : List ℕ) (tag : ℕ) (file : Option (List ℕ)) → before.held ≡ Some parts
+    → Has before dir tag file → fin_map.get parts (tag ∷ dir) ≡ file
 told_file before parts dir tag None told has = subst (λ held. IfSome held (λ ps. fin_map.get ps (tag ∷ dir) ≡ None)) told has
 told_file before parts dir tag (Some bytes) told has = subst (λ held. IfSome held (λ ps. Holds ps (tag ∷ dir) bytes)) told has.0
 
 -- the lesser of two first tags is held by one list alone
-apart : (top : ℕ) (l m : Lent) (ls ms : List Lent) → Rise (suc m.part) top ms → l.part < m.part → held (l ∷ ls) l.part ≡ held (m ∷ ms) l.part → ⊥
+apart : (top : ℕ) (l m : Lent) (ls ms : List Lent) → Rise (suc m.part) top ms → l.part < m.part → held (l ∷ ls) l.part ≡ held (m ∷ ms) l.part
+    → ⊥
 apart top l m ls ms rise lt one =
     let none : held (m ∷ ms) l.part ≡ None
     = held-other l.part m ms (ne_eqb m.part l.part (λ e. absurd (omega (arith, lt, e)))) ∙ below_none (suc m.part) top l.part ms rise (omega (arith, lt)) in
     none_some l.bytes (sym none ∙ sym one ∙ held-same l.part l ls (eq-eqb l.part l.part refl))
 
-module _ (top : ℕ) (x y : Lent) (xs ys : List Lent) (rx : Rise (suc x.part) top xs) (ry : Rise (suc y.part) top ys) (same : (tag : ℕ) → held (x ∷ xs) tag ≡ held (y ∷ ys) tag) where
+module _ (top : ℕ) (x y : Lent) (xs ys : List Lent) (rx : Rise (suc x.part) top xs) (ry : Rise (suc y.part) top ys)
+    (same : (tag : ℕ) → held (x ∷ xs) tag ≡ held (y ∷ ys) tag) where
   tails : x.part ≡ y.part → (tag : ℕ) → held xs tag ≡ held ys tag
   tails e tag = of (eqb x.part tag) refl
     where
@@ -442,12 +461,15 @@ rise_one low top (x ∷ xs) (y ∷ ys) rx ry same =
 
 module _ (before : Folders) (parts : Parts) (dir : List ℕ) (told : before.held ≡ Some parts) where
   -- two lists that are loaded have the same for a tag that both ask for
-  file_alike : (a b tag : ℕ) (xs ys : List Lent) → AreLoaded before dir a xs → AreLoaded before dir b ys → tag < a → tag < b → is_asked xs tag ≡ true → is_asked ys tag ≡ true → held xs tag ≡ held ys tag
+  file_alike : (a b tag : ℕ) (xs ys : List Lent) → AreLoaded before dir a xs → AreLoaded before dir b ys → tag < a → tag < b
+      → is_asked xs tag ≡ true → is_asked ys tag ≡ true → held xs tag ≡ held ys tag
   file_alike a b tag xs ys l m below under asked wanted =
-      sym (told_file before parts dir tag (held xs tag) told (l.asked tag below asked)) ∙ told_file before parts dir tag (held ys tag) told (m.asked tag under wanted)
+      sym (told_file before parts dir tag (held xs tag) told (l.asked tag below asked))
+      ∙ told_file before parts dir tag (held ys tag) told (m.asked tag under wanted)
 
   -- and ask for the same
-  asked_alike : (a b tag : ℕ) (xs ys : List Lent) → AreLoaded before dir a xs → AreLoaded before dir b ys → tag ≤ a → tag ≤ b → is_asked xs tag ≡ is_asked ys tag
+  asked_alike : (a b tag : ℕ) (xs ys : List Lent) → AreLoaded before dir a xs → AreLoaded before dir b ys → tag ≤ a → tag ≤ b
+      → is_asked xs tag ≡ is_asked ys tag
   asked_alike a b tag xs ys l m le less = by (ltb tag 3) refl
     where
       by : (c : Bool) → ltb tag 3 ≡ c → is_asked xs tag ≡ is_asked ys tag
@@ -462,7 +484,8 @@ module _ (before : Folders) (parts : Parts) (dir : List ℕ) (told : before.held
   held_alike top tag xs ys l m = by (ltb tag top) refl
     where
       under : tag < top → (b : Bool) → is_asked xs tag ≡ b → held xs tag ≡ held ys tag
-      under below true e = file_alike top top tag xs ys l m below below e (sym (asked_alike top top tag xs ys l m (omega (arith, below)) (omega (arith, below))) ∙ e)
+      under below true e =
+          file_alike top top tag xs ys l m below below e (sym (asked_alike top top tag xs ys l m (omega (arith, below)) (omega (arith, below))) ∙ e)
       under below false e =
           nothing (held xs tag) (l.unasked tag below e)
           ∙ sym (nothing (held ys tag) (m.unasked tag below (sym (asked_alike top top tag xs ys l m (omega (arith, below)) (omega (arith, below))) ∙ e)))
@@ -477,12 +500,14 @@ pub one_list : (before : Folders) (parts : Parts) (dir : List ℕ) (tag : ℕ) (
     → AreLoaded before dir tag xs → AreLoaded before dir tag ys → xs ≡ ys
 one_list before parts dir tag xs ys told l m = rise_one 0 tag xs ys l.rising m.rising (λ n. held_alike before parts dir told tag n xs ys l m)
 
-not_long : (before : Folders) (dir : List ℕ) (tag : ℕ) (file : Option (List ℕ)) → Has before dir tag file → IsSomeAnd file (λ bytes. 65538 < length bytes) → ⊥
+not_long : (before : Folders) (dir : List ℕ) (tag : ℕ) (file : Option (List ℕ)) → Has before dir tag file
+    → IsSomeAnd file (λ bytes. 65538 < length bytes) → ⊥
 not_long before dir tag None has beyond = absurd beyond
 not_long before dir tag (Some bytes) has beyond = let short = has.1 in absurd (omega (arith, short, beyond))
 
 -- no part is too long where the parts of all tags are loaded
-has_no_long : (before : Folders) (parts : Parts) (dir : List ℕ) (tag : ℕ) (file : Option (List ℕ)) → before.held ≡ Some parts → Has before dir tag file
+has_no_long : (before : Folders) (parts : Parts) (dir : List ℕ) (tag : ℕ) (file : Option (List ℕ)) → before.held ≡ Some parts
+    → Has before dir tag file
     → IsTooLong before (tag ∷ dir) → ⊥
 has_no_long before parts dir tag file told has long =
     let is : fin_map.get parts (tag ∷ dir) ≡ file = told_file before parts dir tag file told has in
@@ -491,7 +516,8 @@ has_no_long before parts dir tag file told has long =
     not_long before dir tag file has (subst (λ found. IsSomeAnd found (λ bytes. 65538 < length bytes)) is beyond)
 
 -- no part below a tag is the first that is too long where the parts below it are loaded
-pub none_long : (before : Folders) (parts : Parts) (dir : List ℕ) (top tag : ℕ) (xs : List Lent) → before.held ≡ Some parts → AreLoaded before dir top xs → tag < top
+pub none_long : (before : Folders) (parts : Parts) (dir : List ℕ) (top tag : ℕ) (xs : List Lent) → before.held ≡ Some parts
+    → AreLoaded before dir top xs → tag < top
     → IsFirstLong before dir tag → ⊥
 none_long before parts dir top tag xs told l below first =
     let asked : is_asked xs tag ≡ true

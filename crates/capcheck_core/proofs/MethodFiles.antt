@@ -20,10 +20,12 @@ pub same_method : (file : List ℕ) (bare bare' : Bare) (code code' : List ℕ) 
 same_method file bare bare' code code' m m' P p =
     let method : Stands method_info m'.info (record { bare = bare; code = code })
     = subst (λ info. Stands method_info info (record { bare = bare; code = code })) (same_info file m.info m'.info m.framed m'.framed) m.method in
-    subst (λ (w : MethodFile). P w.bare w.code) (same_bare m'.info (record { bare = bare; code = code }) (record { bare = bare'; code = code' }) method m'.method) p
+    subst (λ (w : MethodFile). P w.bare w.code)
+    (same_bare m'.info (record { bare = bare; code = code }) (record { bare = bare'; code = code' }) method m'.method) p
 
 -- the info of a bare method breaks nowhere, and its code has no bad length
-whole_info : (info : List ℕ) (m : MethodFile) → Stands method_info info m → 1 ≤ length m.code → length m.code ≤ 32767 → (fault : PackFault) → IsFileFault info fault → ⊥
+whole_info : (info : List ℕ) (m : MethodFile) → Stands method_info info m → 1 ≤ length m.code → length m.code ≤ 32767 → (fault : PackFault)
+    → IsFileFault info fault → ⊥
 whole_info info m stands filled short (Form form) breaks = (is_exact (info_of method_tag) method_info info).apart m form stands breaks
 whole_info info m stands filled short (MethodLength offset n) (other, stands', at, counts, bad) =
     let same : length other.code ≡ length m.code = ap (λ (w : MethodFile). length w.code) (same_bare info other m stands' stands) in

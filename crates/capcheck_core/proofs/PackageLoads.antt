@@ -1,5 +1,6 @@
 -- Why the loads of packages stop, and what a command goes on with, folder by folder.
-use Rattle.std.proofs.Common.{◌≡◌, ◌≤◌, ℕ, suc, List, [], ◌∷◌, ◌++◌, Option, Some, None, Result, Ok, Err, length, append_assoc, length-append, refl, sym, subst, ◌∙◌, inl, inr, arith}
+use Rattle.std.proofs.Common.{◌≡◌, ◌≤◌, ℕ, suc, List, [], ◌∷◌, ◌++◌, Option, Some, None, Result, Ok, Err, length, append_assoc}
+use Rattle.std.proofs.Common.{length-append, refl, sym, subst, ◌∙◌, inl, inr, arith}
 use Rattle.std.proofs.lemmas.List.{append-nil}
 use Rattle.cap_files.specs.Folder.{Folders}
 use Rattle.cap_package.specs.Parts.{Lent}
@@ -55,7 +56,8 @@ module _ (before after : Folders) (dir : List ℕ) where
   stops_roles None number others (TooMany count) has loads = loads
   stops_roles (Some roles) number others stop has loads = absurd loads
 
-  pub stops_after : (now : Folders) (given : Option (List ℕ)) (number : ℕ) (others : List (List ℕ)) (roles : List ℕ) (stop : PackagesStop) → GivenAfterFirst given number
+  pub stops_after : (now : Folders) (given : Option (List ℕ)) (number : ℕ) (others : List (List ℕ)) (roles : List ℕ) (stop : PackagesStop)
+      → GivenAfterFirst given number
       → HasPackage before dir → RolesBeside before now dir given (Ok roles) → StopsOver before after (Some roles) (suc number) others stop
       → StopsOver before after given number (dir ∷ others) stop
   stops_after now None number others roles (Malformed m fault) begun has are stops =
@@ -78,14 +80,17 @@ pub opening_leaves : (before now after : Folders) (dir : List ℕ) (number : ℕ
 opening_leaves before now after dir number stop same leaves loads =
     subst (λ f. PackagesStopLeaves f after stop × StopsPackage f after dir number stop) same (leaves, opening_stops now after dir number stop loads)
 
-pub reading_leaves : (before after : Folders) (dir : List ℕ) (parts : List Lent) (number : ℕ) (stop : PackagesStop) → after ≡ before → AreParts before dir parts
+pub reading_leaves : (before after : Folders) (dir : List ℕ) (parts : List Lent) (number : ℕ) (stop : PackagesStop) → after ≡ before
+    → AreParts before dir parts
     → ReadsPackage parts number (Err stop) → PackagesStopLeaves before after stop × StopsPackage before after dir number stop
-reading_leaves before after dir parts number (Malformed n fault) same loaded reads = (same, reading_stops before after dir parts number (Malformed n fault) loaded reads)
+reading_leaves before after dir parts number (Malformed n fault) same loaded reads =
+    (same, reading_stops before after dir parts number (Malformed n fault) loaded reads)
 reading_leaves before after dir parts number Failed same loaded reads = absurd reads
 reading_leaves before after dir parts number Memory same loaded reads = absurd reads
 reading_leaves before after dir parts number (TooMany count) same loaded reads = absurd reads
 
-pub has_package : (before : Folders) (dir : List ℕ) (parts : List Lent) (p : PackageRecord) → AreParts before dir parts → StandsFor parts p → HasPackage before dir
+pub has_package : (before : Folders) (dir : List ℕ) (parts : List Lent) (p : PackageRecord) → AreParts before dir parts → StandsFor parts p
+    → HasPackage before dir
 has_package before dir parts p loaded stands = record { parts = parts; loaded = loaded; whole = record { made = p; stands = stands } }
 
 -- ---- one more package
@@ -120,8 +125,10 @@ module _ (own : Own) (before : Folders) (card : Card) (dir : List ℕ) (others :
     card = goes.card;
   }
 
-  pub goes_on : (now : Folders) (after : Outside) (parts : List Lent) (p : PackageRecord) (roles : List ℕ) (new : List PackageRecord) (result : Result Verdict PackagesStop)
-      → GivenAfterFirst given (length made) → AreParts before dir parts → StandsFor parts p → RolesBeside before now dir given (Ok roles) → now ≡ before → new ≡ made ++ p ∷ []
+  pub goes_on : (now : Folders) (after : Outside) (parts : List Lent) (p : PackageRecord) (roles : List ℕ) (new : List PackageRecord)
+      (result : Result Verdict PackagesStop)
+      → GivenAfterFirst given (length made) → AreParts before dir parts → StandsFor parts p → RolesBeside before now dir given (Ok roles)
+      → now ≡ before → new ≡ made ++ p ∷ []
       → GoesOver own others new (Some roles) (outside now card) after result
       → GoesOver own (dir ∷ others) made given (outside before card) after result
   goes_on now after parts p roles new result begun loaded stands are same pushed goes =
@@ -144,7 +151,8 @@ goes_end own made roles before after verdict holds = record {
 
 -- ---- all folders
 
-stops_all : (before after : Folders) (dirs : List (List ℕ)) (stop : PackagesStop) → length dirs ≤ 16 → StopsOver before after None 0 dirs stop → StopsLoads before after dirs stop
+stops_all : (before after : Folders) (dirs : List (List ℕ)) (stop : PackagesStop) → length dirs ≤ 16 → StopsOver before after None 0 dirs stop
+    → StopsLoads before after dirs stop
 stops_all before after dirs (Malformed number fault) few stops = record { few = few; first = stops }
 stops_all before after dirs Failed few stops = record { few = few; first = stops }
 stops_all before after dirs Memory few stops = stops

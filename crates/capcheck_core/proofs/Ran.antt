@@ -94,7 +94,8 @@ holds w m ram heap statics o are =
 
 -- ---- the text
 
-named_same : (x y : State ℕ) (h : ℕ) → x.heap ≡ y.heap → option_and_then (number_array words) (object_at x h) ≡ option_and_then (number_array words) (object_at y h)
+named_same : (x y : State ℕ) (h : ℕ) → x.heap ≡ y.heap → option_and_then (number_array words) (object_at x h) ≡ option_and_then
+    (number_array words) (object_at y h)
 named_same x y zero objects = refl
 named_same x y (suc n) objects = ap (λ all. option_and_then (number_array words) (slice_get all n)) objects
 
@@ -177,7 +178,8 @@ whole_run w r ram heap fields others text long run = record {
 }
 
 -- whether it begins or not
-pub whole_end : {U : Type 0} (w : Linked) (r : RunRequest) (ram heap fields others text : List ℕ) (end : Result U RunStop) → length fields ≡ static_cells w
+pub whole_end : {U : Type 0} (w : Linked) (r : RunRequest) (ram heap fields others text : List ℕ) (end : Result U RunStop)
+    → length fields ≡ static_cells w
     → MatchResult end (λ _. IsRun w r (card ram heap fields) text) (StopsRun w r)
     → MatchResult end (λ _. IsRun w r (card ram heap (fields ++ others)) text) (StopsRun w r)
 whole_end w r ram heap fields others text (Ok u) long run = whole_run w r ram heap fields others text long run

@@ -29,7 +29,8 @@ pub lent_parts : (before now : Folders) (dir : List ℕ) (first rest parts : Lis
 lent_parts before now dir first rest parts same all loaded =
     subst (λ f. AreParts f dir parts) same (subst (λ ps. AreParts now dir ps) (sym all) loaded.loaded)
 
-pub table_shown : (s : ShowRequest) (before : Folders) (parts : List Lent) (p : PackageRecord) (verdict : Verdict) → AreParts before s.dir parts → StandsFor parts p
+pub table_shown : (s : ShowRequest) (before : Folders) (parts : List Lent) (p : PackageRecord) (verdict : Verdict) → AreParts before s.dir parts
+    → StandsFor parts p
     → IsTable p verdict → ShowsFolder s before verdict
 table_shown s before parts p (verdicts.Done text) loaded stands prints =
     record { parts = parts; loaded = loaded; holds = record { shown = p; stands = stands; prints = prints } }
@@ -49,10 +50,12 @@ fault_shown s before n fault text is (inr none) says =
     })
 
 -- the verdict of a stop
-pub stop_shown : (s : ShowRequest) (before after : Folders) (stop : PackagesStop) (verdict : Verdict) → ShowsOrStops s before after (Err stop) → IsStop stop verdict
+pub stop_shown : (s : ShowRequest) (before after : Folders) (stop : PackagesStop) (verdict : Verdict) → ShowsOrStops s before after (Err stop)
+    → IsStop stop verdict
     → Shows s before after verdict
 stop_shown s before after (TooMany count) verdict (leaves, stops) says = absurd stops
-stop_shown s before after (Malformed n fault) (verdicts.Malformed text) (leaves, (is, lacks)) says = inl (leaves, fault_shown s before n fault text is lacks says)
+stop_shown s before after (Malformed n fault) (verdicts.Malformed text) (leaves, (is, lacks)) says =
+    inl (leaves, fault_shown s before n fault text is lacks says)
 stop_shown s before after (Malformed n fault) verdicts.Memory (leaves, stops) says = inl (leaves, tt {0})
 stop_shown s before after Failed verdicts.ReadFault (leaves, stops) says = inr stops
 stop_shown s before after Memory verdicts.Memory (leaves, stops) says = inl (leaves, tt {0})

@@ -1,5 +1,6 @@
 -- Parts that are stored in a folder one after the other, what it then holds, and the order of a package's parts.
-use Rattle.std.proofs.Common.{◌≡◌, ◌<◌, ◌≤◌, ◌+◌, ℕ, suc, List, [], ◌∷◌, ◌++◌, Option, Some, None, IsSome, IsNone, Bool, true, false, cond, eqb, get_or, length, length-append, drop, refl, sym, ap, subst, ◌∙◌, inl, inr, ◌⊎◌, arith, take}
+use Rattle.std.proofs.Common.{◌≡◌, ◌<◌, ◌≤◌, ◌+◌, ℕ, suc, List, [], ◌∷◌, ◌++◌, Option, Some, None, IsSome, IsNone, Bool, true}
+use Rattle.std.proofs.Common.{false, cond, eqb, get_or, length, length-append, drop, refl, sym, ap, subst, ◌∙◌, inl, inr, ◌⊎◌, arith, take}
 use Rattle.std.specs.Prelude.{IfSome, IsSomeAnd}
 use Rattle.std.specs.Cmp.Lexicographic.{slice_cmp, nat_list_cmp_total}
 use Rattle.std.specs.declared.cmp.Ordering.{Ordering}
@@ -14,7 +15,8 @@ use Rattle.cap_package.specs.Parts.{Lent, held, HasEachOnce}
 use Rattle.cap_components.proofs.PartsLemmas.{held-other, held-same, HasEachOnce-push}
 use Rattle.capcheck_core.specs.Loads.{Rise, with_file}
 use Rattle.capcheck_core.specs.Roles.{roles_tag}
-use Rattle.capcheck_core.specs.Stores.{with_parts_stored, AreStored, IsPartlyStored, IsBrokenOff, AreInStoreOrder, StandWhole, HasAllButHeader, HasHeaderLast, header_tag}
+use Rattle.capcheck_core.specs.Stores.{with_parts_stored, AreStored, IsPartlyStored, IsBrokenOff, AreInStoreOrder, StandWhole, HasAllButHeader, HasHeaderLast}
+use Rattle.capcheck_core.specs.Stores.{header_tag}
 use Rattle.capcheck_core.proofs.Loads.{none_some, lent_of, above_none, below_none, rise_wider, rise_push, file_other, file_same}
 
 -- ---- one store more
@@ -121,7 +123,8 @@ pub roles_absent : (parts stores : List Lent) (top : ℕ) → AreInOrderBelow pa
 roles_absent parts stores top so_far = is_none (held stores roles_tag) (below_none 2 top 0 stores so_far.rising (omega arith))
 
 -- there is no Header before the last of the stores
-no_header_before : (others : List Lent) (top : ℕ) (roles : Option (List ℕ)) → Rise 2 top others → held (with_file others roles_tag roles) header_tag ≡ None
+no_header_before : (others : List Lent) (top : ℕ) (roles : Option (List ℕ)) → Rise 2 top others → held (with_file others roles_tag roles) header_tag
+    ≡ None
 no_header_before others top roles rise = file_other header_tag roles_tag others roles refl ∙ below_none 2 top 1 others rise (omega arith)
 
 pub header_absent : (parts others stores : List Lent) (top : ℕ) (roles : Option (List ℕ)) → AreInOrderBelow parts top others
@@ -179,7 +182,8 @@ get_kept dir old [] tag absent = refl
 get_kept dir old (l ∷ ls) tag absent = by (eqb l.part tag) refl (get_kept dir (map.insert old (l.part ∷ dir) l.bytes) ls tag)
   where
     by : (b : Bool) → eqb l.part tag ≡ b
-        → (held ls tag ≡ None → map.get (with_parts_stored dir old (l ∷ ls)) (tag ∷ dir) ≡ map.get (map.insert old (l.part ∷ dir) l.bytes) (tag ∷ dir))
+        → (held ls tag ≡ None → map.get (with_parts_stored dir old (l ∷ ls)) (tag ∷ dir) ≡ map.get (map.insert old (l.part ∷ dir) l.bytes)
+        (tag ∷ dir))
         → map.get (with_parts_stored dir old (l ∷ ls)) (tag ∷ dir) ≡ map.get old (tag ∷ dir)
     by true e rest = absurd (none_some l.bytes (sym absent ∙ held-same tag l ls e))
     by false e rest = rest (sym (held-other tag l ls e) ∙ absent) ∙ insert_other dir old l.part tag l.bytes (λ is. eqb-false l.part tag e is)
@@ -249,7 +253,11 @@ module _ (dir header : List ℕ) (others : List Lent) (each : HasEachOnce others
       → (map.get now (header_tag ∷ dir) ≡ None) ⊎ HasAllButHeader dir header others now
   at_header (inl same) = inl (ap (λ m. map.get m (header_tag ∷ dir)) same ∙ kept others no_header)
   at_header (inr begun) = inr (record {
-    begun = (begun.0, ap (λ m. map.get m (header_tag ∷ dir)) begun.1 ∙ insert_same dir (with_parts_stored dir old others) header_tag (take begun.0 header));
+    begun = (
+      begun.0,
+      ap (λ m. map.get m (header_tag ∷ dir)) begun.1 ∙ insert_same dir (with_parts_stored dir old others) header_tag
+          (take begun.0 header),
+    );
     whole = λ tag bytes is.
         ap (λ m. map.get m (tag ∷ dir)) begun.1
         ∙ insert_other dir (with_parts_stored dir old others) header_tag tag (take begun.0 header)
@@ -258,7 +266,8 @@ module _ (dir header : List ℕ) (others : List Lent) (each : HasEachOnce others
   })
 
   -- the Header is not begun
-  before_header : (done : List Lent) (b : Lent) (more : List Lent) → others ≡ done ++ b ∷ more → IsPartlyStored dir b (with_parts_stored dir old done) now
+  before_header : (done : List Lent) (b : Lent) (more : List Lent) → others ≡ done ++ b ∷ more
+      → IsPartlyStored dir b (with_parts_stored dir old done) now
       → map.get now (header_tag ∷ dir) ≡ None
   before_header done b more are begun =
       let absent = absent_parts header_tag done b more (subst (λ xs. held xs header_tag ≡ None) are no_header) in

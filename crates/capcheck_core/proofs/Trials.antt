@@ -51,11 +51,13 @@ module _ (packages : List PackageRecord) (roles : List ℕ) (w : Linked) (parts 
   with_made made all stands pushed =
       pushed t.libraries t.source t.are ∙ ap (λ p. and_last t.libraries p) (one_package parts made t.made stands t.stands)
 
-  pub has_new : (all : List PackageRecord) (new : Linked) → all ≡ and_last t.libraries t.made → IsLinked all roles new → HasNew packages roles w parts new
+  pub has_new : (all : List PackageRecord) (new : Linked) → all ≡ and_last t.libraries t.made → IsLinked all roles new
+      → HasNew packages roles w parts new
   has_new all new are linked =
       (t, one_world (and_last t.libraries t.made) roles t.world new t.anew.linked (subst (λ ps. IsLinked ps roles new) are linked))
 
-  pub never_at_fault : (all : List PackageRecord) (fault : LinkFault) → all ≡ and_last t.libraries t.made → LinkTells all roles (Err (ends.Fault fault)) → ⊥
+  pub never_at_fault : (all : List PackageRecord) (fault : LinkFault) → all ≡ and_last t.libraries t.made
+      → LinkTells all roles (Err (ends.Fault fault)) → ⊥
   never_at_fault all fault are tells =
       linked_faultless (and_last t.libraries t.made) roles t.world fault t.anew.linked
       (subst (λ ps. LinkTells ps roles (Err (ends.Fault fault))) are tells)

@@ -1,5 +1,6 @@
 -- The methods with code of the last package, one after the other.
-use Rattle.std.proofs.Common.{count_by, ◌≡◌, ◌⊎◌, ℕ, ◌+◌, ◌<◌, ◌≤◌, Bool, true, false, List, length, take, drop, Option, Some, None, option_map, slice_get, refl, sym, ap, subst, ◌∙◌, inl, inr, arith, true≢false}
+use Rattle.std.proofs.Common.{count_by, ◌≡◌, ◌⊎◌, ℕ, ◌+◌, ◌<◌, ◌≤◌, Bool, true, false, List, length, take, drop, Option, Some, None}
+use Rattle.std.proofs.Common.{option_map, slice_get, refl, sym, ap, subst, ◌∙◌, inl, inr, arith, true≢false}
 use Rattle.std.specs.Prelude.{IsSomeAnd, ◌==◌, nat_lt}
 use Rattle.std.proofs.lemmas.Bool.{eq-eqb, eqb-true, lt-ltb, ltb-true, and_parts}
 use Rattle.std.proofs.lemmas.List.{length-take, take_all}
@@ -66,7 +67,8 @@ some_code packages (Some rec) e =
     let test : is_of_last packages rec ≡ true = cc in
     ltb-true 0 rec.code_len (and_parts (rec.package + 1 == packages) (nat_lt 0 rec.code_len) test).1
 
-failed : (w : Linked) (n : ℕ) (end : FlowEnd) (o : Option MethodRec) → slice_get w.methods n ≡ o → option_map (is_of_last (length w.infos)) o ≡ Some true
+failed : (w : Linked) (n : ℕ) (end : FlowEnd) (o : Option MethodRec) → slice_get w.methods n ≡ o → option_map (is_of_last (length w.infos)) o
+    ≡ Some true
     → IsSomeAnd (option_map (method_with w n) o) (IsMethodOf w) → IsSomeAnd (option_map (method_with w n) o) (λ m. LacksTyping w m end)
     → IsSomeAnd (option_map (method_with w n) o) (λ m. TellsEnd w m end) → FailsMethod w n end
 failed w n end None at e is none tells = absurd is
@@ -75,14 +77,19 @@ failed w n end (Some rec) at e is none tells =
     record {
       method = method_with w n rec;
       number = refl;
-      of_last = record { method = is; last = eqb-true (rec.package + 1) (length w.infos) (and_parts (rec.package + 1 == length w.infos) (nat_lt 0 rec.code_len) test).0 };
+      of_last =
+          record {
+            method = is;
+            last = eqb-true (rec.package + 1) (length w.infos) (and_parts (rec.package + 1 == length w.infos) (nat_lt 0 rec.code_len) test).0;
+          };
       none = none;
       tells = tells;
     }
 
 -- the end says why no typing of the method of a number was found
 pub fails_at : (w : Linked) (n : ℕ) (end : FlowEnd) → option_map (is_of_last (length w.infos)) (slice_get w.methods n) ≡ Some true
-    → IsSomeAnd (method_in w n) (IsMethodOf w) → IsSomeAnd (method_in w n) (λ m. LacksTyping w m end) → IsSomeAnd (method_in w n) (λ m. TellsEnd w m end) → FailsMethod w n end
+    → IsSomeAnd (method_in w n) (IsMethodOf w) → IsSomeAnd (method_in w n) (λ m. LacksTyping w m end)
+    → IsSomeAnd (method_in w n) (λ m. TellsEnd w m end) → FailsMethod w n end
 fails_at w n end e is none tells = failed w n end (slice_get w.methods n) refl e is none tells
 
 -- ---- all of them
@@ -99,7 +106,8 @@ none_below w = λ m of_last below. absurd (omega (arith, below))
 
 -- ---- the count of them
 
-pub counted : (p : MethodRec → Bool) (xs : List MethodRec) (n : ℕ) (o : Option MethodRec) (asked : Bool) → slice_get xs n ≡ o → option_map p o ≡ Some asked
+pub counted : (p : MethodRec → Bool) (xs : List MethodRec) (n : ℕ) (o : Option MethodRec) (asked : Bool) → slice_get xs n ≡ o
+    → option_map p o ≡ Some asked
     → count_by p (take (n + 1) xs) ≡ count_by p (take n xs) + from_bool asked
 counted p xs n None asked at e = absurd cc
 counted p xs n (Some x) true at e =
@@ -110,7 +118,8 @@ counted p xs n (Some x) false at e =
     let same = count_by_more_no p xs n x (slice_get_within xs n x at) (ap p (get_or_from_slice_get xs n x x at) ∙ test) in
     same ∙ omega arith
 
-pub one_counted : (w : Linked) (n count one : ℕ) (asked : Bool) → option_map (is_of_last (length w.infos)) (slice_get w.methods n) ≡ Some asked → one ≡ from_bool asked
+pub one_counted : (w : Linked) (n count one : ℕ) (asked : Bool) → option_map (is_of_last (length w.infos)) (slice_get w.methods n) ≡ Some asked
+    → one ≡ from_bool asked
     → count ≡ count_by (is_of_last (length w.infos)) (take n w.methods) → count + one ≡ count_by (is_of_last (length w.infos)) (take (n + 1) w.methods)
 one_counted w n count one asked e is before =
     let step = counted (is_of_last (length w.infos)) w.methods n (slice_get w.methods n) asked refl e in
@@ -127,7 +136,8 @@ no_typing w m (BadTarget p target) known none = none
 no_typing w m (BadHandler entry number) known none = none
 
 -- the method that was not typed is the first
-pub first_untyped : (w : Linked) (n : ℕ) (end : FlowEnd) (number : MethodNumber) (text : List ℕ) → AreTypedBelow w n → FailsMethod w n end → (end ≡ Memory → ⊥)
+pub first_untyped : (w : Linked) (n : ℕ) (end : FlowEnd) (number : MethodNumber) (text : List ℕ) → AreTypedBelow w n → FailsMethod w n end
+    → (end ≡ Memory → ⊥)
     → option_map numbers_of_method (slice_get w.methods n) ≡ Some number → text ≡ refused_flow_line number end → TellsUntyped w text
 first_untyped w n end number text earlier f known named prints =
     let at : slice_get w.methods n ≡ Some f.method.rec = subst (λ k. slice_get w.methods k ≡ Some f.method.rec) f.number f.of_last.method.rec in
@@ -147,7 +157,8 @@ first_untyped w n end number text earlier f known named prints =
     }
 
 -- all of them are typed
-pub all_typed : (w : Linked) (n count : ℕ) (text : List ℕ) → AreTypedBelow w n → length w.methods ≤ n → count ≡ count_by (is_of_last (length w.infos)) (take n w.methods)
+pub all_typed : (w : Linked) (n count : ℕ) (text : List ℕ) → AreTypedBelow w n → length w.methods ≤ n
+    → count ≡ count_by (is_of_last (length w.infos)) (take n w.methods)
     → text ≡ typed_line count → TellsTyped w text
 all_typed w n count text typed past counts prints =
     let whole : count ≡ count_of_last w = counts ∙ ap (count_by (is_of_last (length w.infos))) (take_all n w.methods past) in

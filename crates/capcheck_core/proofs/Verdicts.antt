@@ -32,7 +32,8 @@ without_memory words outside =
     record { command = λ r is. no_memory r outside outside same; usage = λ none. (tt {0}, same) }
 
 -- a text that is made is the verdict's, and without memory for it there is none
-pub said : {T E : Type 0} (bytes : T → List ℕ) (as_verdict : T → Verdict) (P : Verdict → Type 0) (text : Result T E) (line : List ℕ) (verdict : Verdict)
+pub said : {T E : Type 0} (bytes : T → List ℕ) (as_verdict : T → Verdict) (P : Verdict → Type 0) (text : Result T E) (line : List ℕ)
+    (verdict : Verdict)
     → P Memory → ((t : T) → bytes t ≡ line → P (as_verdict t))
     → IfOk text (λ t. bytes t ≡ line) → MatchResult text (λ t. verdict ≡ as_verdict t) (λ _. verdict ≡ Memory) → P verdict
 said bytes as_verdict P (Ok t) line verdict memory all says is = subst P (sym is) (all t says)

@@ -1,6 +1,7 @@
 -- Where the parts in the folders and the roles beside the first make a world, nothing stops a command before its own last step but a load
 -- that fails, or no memory.
-use Rattle.std.proofs.Common.{◌≡◌, ◌⊎◌, ◌<◌, ◌≤◌, ℕ, suc, List, [], ◌∷◌, length, Some, refl, sym, ap, subst, ◌∙◌, inl, inr, arith}
+use Rattle.std.proofs.Common.{◌≡◌, ◌⊎◌, ◌<◌, ◌≤◌, ℕ, suc, List, [], ◌∷◌, length, Some, refl, sym, ap, subst, ◌∙◌, inl, inr}
+use Rattle.std.proofs.Common.{arith}
 use Rattle.std.specs.Prelude.{Err, IfSome, IsSomeAnd, None}
 use Rattle.std.specs.FinMap as map
 use Rattle.std.specs.List.{AllZip}
@@ -60,7 +61,8 @@ module _ (before : Folders) (held : Parts) (told : before.held ≡ Some held) wh
       let head = one_list before held dir 256 x y told s.0 t.0 in let tail = same_parts dirs xs ys s.1 t.1 in cc
 
   -- a folder with a package lacks none
-  no_lack : (dir : List ℕ) (parts : List Lent) (p : PackageRecord) (fault : PackFault) → AreParts before dir parts → StandsFor parts p → LacksPackage before dir fault → ⊥
+  no_lack : (dir : List ℕ) (parts : List Lent) (p : PackageRecord) (fault : PackFault) → AreParts before dir parts → StandsFor parts p
+      → LacksPackage before dir fault → ⊥
   no_lack dir parts p fault loaded stands (inl long) = none_long before held dir 256 long.tag parts told loaded long.first.byte long.first
   no_lack dir parts p fault loaded stands (inr refused) =
       let same = one_list before held dir 256 parts refused.parts told loaded refused.loaded in
@@ -91,7 +93,8 @@ module _ (before : Folders) (held : Parts) (told : before.held ≡ Some held) wh
 
   not_long : (key file : List ℕ) → IsThere before key file → length file ≤ 65538 → IsTooLong before key → ⊥
   not_long key file there short long =
-      let beyond : IsSomeAnd (map.get held key) (λ f. 65538 < length f) = subst (λ h. IfSome h (λ parts. IsSomeAnd (map.get parts key) (λ f. 65538 < length f))) told long in
+      let beyond : IsSomeAnd (map.get held key) (λ f. 65538 < length f) = subst
+      (λ h. IfSome h (λ parts. IsSomeAnd (map.get parts key) (λ f. 65538 < length f))) told long in
       let over : 65538 < length file = subst (λ found. IsSomeAnd found (λ f. 65538 < length f)) (file_of key file there) beyond in
       absurd (omega (arith, short, over))
 
@@ -107,7 +110,8 @@ module _ (before : Folders) (held : Parts) (told : before.held ≡ Some held) wh
   -- ---- where nothing stops the loads
 
   -- no folder is the first of which something is true that is true of none with a package
-  no_first : (P : ℕ → List ℕ → Type 0) → ((n : ℕ) (dir : List ℕ) (parts : List Lent) (p : PackageRecord) → AreParts before dir parts → StandsFor parts p → P n dir → ⊥)
+  no_first : (P : ℕ → List ℕ → Type 0)
+      → ((n : ℕ) (dir : List ℕ) (parts : List Lent) (p : PackageRecord) → AreParts before dir parts → StandsFor parts p → P n dir → ⊥)
       → (from : ℕ) (dirs : List (List ℕ)) (parts : List (List Lent)) (ps : List PackageRecord)
       → AllZip (AreParts before) dirs parts → AllZip StandsFor parts ps → IsFirstWhere before from dirs P → ⊥
   no_first P never from [] parts ps loaded stand first = first
@@ -126,7 +130,8 @@ module _ (before : Folders) (held : Parts) (told : before.held ≡ Some held) wh
   no_stop P R never none (dir ∷ dirs) (x ∷ xs) [] roles loaded stand are stop = absurd stand
   no_stop P R never none (dir ∷ dirs) (x ∷ xs) (p ∷ ps) roles loaded stand are (inl here) = never 0 dir x p loaded.0 stand.0 here
   no_stop P R never none (dir ∷ dirs) (x ∷ xs) (p ∷ ps) roles loaded stand are (inr (inl at)) = none dir roles are at.holds
-  no_stop P R never none (dir ∷ dirs) (x ∷ xs) (p ∷ ps) roles loaded stand are (inr (inr after)) = no_first P never 1 dirs xs ps loaded.1 stand.1 after.first
+  no_stop P R never none (dir ∷ dirs) (x ∷ xs) (p ∷ ps) roles loaded stand are (inr (inr after)) =
+      no_first P never 1 dirs xs ps loaded.1 stand.1 after.first
 
 -- ---- a load that failed raised the count
 
@@ -137,7 +142,8 @@ first_rose before after from (dir ∷ dirs) (inl here) = here.1.holds.rose
 first_rose before after from (dir ∷ dirs) (inr r) = first_rose before after (suc from) dirs r.1
 
 stop_rose : (before after : Folders) (dirs : List (List ℕ))
-    → IsFirstStop before dirs (λ n dir. FailsParts before dir after) (λ dir. LoadFails before (roles_key dir) after) → Rose before.load_faults after.load_faults
+    → IsFirstStop before dirs (λ n dir. FailsParts before dir after) (λ dir. LoadFails before (roles_key dir) after)
+    → Rose before.load_faults after.load_faults
 stop_rose before after [] stop = absurd stop
 stop_rose before after (dir ∷ dirs) (inl here) = here.1.holds.rose
 stop_rose before after (dir ∷ dirs) (inr (inl at)) = at.holds.rose
@@ -163,9 +169,13 @@ unstopped dirs before after world ReadFault can calm stops = absurd (calm (stop_
 unstopped dirs before after world (Malformed text) can calm (same, inl many) =
     let few = linked_few can.made.packages can.roles world can.made.linked in
     let count = counted dirs before.folders world can in
-    elim many.many.wrong [ inl none ↦ absurd (no_folders before.folders dirs can.roles none can.given.roles_are) | inr above ↦ absurd (omega (arith, few, count, above)) ]
+    elim many.many.wrong [
+      | inl none ↦ absurd (no_folders before.folders dirs can.roles none can.given.roles_are)
+      | inr above ↦ absurd (omega (arith, few, count, above))
+    ]
 unstopped dirs before after world (Malformed text) can calm (same, inr fault) =
-    absurd (no_stop before.folders can.held can.told (λ n dir. (fault.number ≡ n) × LacksPackage before.folders dir fault.fault) (λ dir. (fault.number ≡ 0) × LacksRoles before.folders dir fault.fault)
+    absurd (no_stop before.folders can.held can.told (λ n dir. (fault.number ≡ n) × LacksPackage before.folders dir fault.fault)
+    (λ dir. (fault.number ≡ 0) × LacksRoles before.folders dir fault.fault)
     (λ n dir parts p loaded stands lack. no_lack before.folders can.held can.told dir parts p fault.fault loaded stands lack.1)
     (λ dir roles are lack. no_roles_lack before.folders can.held can.told dir roles fault.fault are lack.1)
     dirs can.parts can.made.packages can.roles can.given.parts_are can.made.stand can.given.roles_are fault.is.first)

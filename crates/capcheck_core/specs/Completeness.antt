@@ -124,7 +124,9 @@ pub record CanTry (r : RunRequest) (before : Folders) : Type 0 where
 
 -- no limit is passed on the way to the form that a verifier on the card accepts
 abbrev pub CanGenerate : GenerateRequest → Type 0
-CanGenerate g = (w : Linked) → IsLinked (generated g.seed) roles w → AreWithinLimits w × ((n : ℕ) → IsPartLong (generated g.seed) w n → ⊥)
+CanGenerate g =
+    (w : Linked) → IsLinked (generated g.seed) roles w → AreWithinLimits w
+    × ((n : ℕ) → IsPartLong (generated g.seed) w n → ⊥)
 
 -- what a command needs is there
 abbrev pub CanDo : Request → Folders → Type 0

@@ -1,6 +1,7 @@
 -- What `gen` may answer, by its number, what it stores, and what it leaves in the memory of the card (JCVM 2.2, chapter 6; Leroy 2002,
 -- sections 3 and 4).
-use Rattle.std.specs.Prelude.{◌≡◌, ℕ, ℤ, pos, ◌+◌, ◌*◌, ◌/◌, ◌%◌, ◌+ℤ◌, ◌≤ℤ◌, neg_ℤ, List, [], ◌∷◌, length, map, IsSomeAnd, string_bytes, ◌⊎◌, ◌<◌, None, Some, fold, slice_get}
+use Rattle.std.specs.Prelude.{◌≡◌, ℕ, ℤ, pos, ◌+◌, ◌*◌, ◌/◌, ◌%◌, ◌+ℤ◌, ◌≤ℤ◌, neg_ℤ, List, []}
+use Rattle.std.specs.Prelude.{◌∷◌, length, map, IsSomeAnd, string_bytes, ◌⊎◌, ◌<◌, None, Some, fold, slice_get}
 use Rattle.cap_gen.specs.Linked.{roles}
 use Rattle.cap_gen.specs.Methods.{method_info}
 use Rattle.cap_gen.specs.Record.{package_record}

@@ -1,7 +1,8 @@
 -- The parts of a package's folder, as they are loaded: by rising tag, the components that every package has (JCVM 2.2, section 6.1),
 -- and the other ones to which the Directory gives a size that is not 0 (section 6.4). Where the
 -- Header or the Directory is absent or malformed, no sizes are told.
-use Rattle.std.specs.Prelude.{◌≡◌, ℕ, suc, ◌<◌, ◌≤◌, Bool, true, false, not, ◌&&◌, ◌||◌, ◌==◌, nat_le, List, [], ◌∷◌, ◌++◌, length, filter, Option, Some, None, IsNone, Result, Ok, Err, refl}
+use Rattle.std.specs.Prelude.{◌≡◌, ℕ, suc, ◌<◌, ◌≤◌, Bool, true, false, not, ◌&&◌, ◌||◌, ◌==◌, nat_le, List}
+use Rattle.std.specs.Prelude.{[], ◌∷◌, ◌++◌, length, filter, Option, Some, None, IsNone, Result, Ok, Err, refl}
 use Rattle.cap_frame.specs.DirectoryFormat.{DirectoryItems}
 use Rattle.cap_frame.specs.Directory.{size_in}
 use Rattle.cap_components.specs.declared.fault.PackFault.{PackFault}

@@ -30,7 +30,8 @@ RolesAre before dirs None roles = AreRoleBytes before dirs roles
 RolesAre before dirs (Some given) roles = roles ≡ given
 
 -- in the order of the loads the first place in these folders where `P` is true of a package's number and folder, or `R` of the roles
-abbrev pub IsStopAt : Folders → Option (List ℕ) → ℕ → List (List ℕ) → (ℕ → List ℕ → Type 0) → (List ℕ → Type 0) → Type 0
+abbrev pub IsStopAt : Folders → Option (List ℕ) → ℕ → List (List ℕ) → (ℕ → List ℕ → Type 0)
+    → (List ℕ → Type 0) → Type 0
 IsStopAt before None number dirs P R = IsFirstStop before dirs P R
 IsStopAt before (Some given) number dirs P R = IsFirstWhere before number dirs P
 
@@ -44,7 +45,8 @@ StopsOver before after given number dirs Memory = Unit {0}
 StopsOver before after given number dirs (TooMany count) = ⊥
 
 -- they stop, and only a failed load leaves a trace
-pub record Stops (before after : Outside) (given : Option (List ℕ)) (number : ℕ) (dirs : List (List ℕ)) (stop : PackagesStop) : Type 0 where
+pub record Stops (before after : Outside) (given : Option (List ℕ)) (number : ℕ) (dirs : List (List ℕ)) (stop : PackagesStop)
+    : Type 0 where
   pub stops : StopsOver before.folders after.folders given number dirs stop
   pub leaves : PackagesStopLeaves before.folders after.folders stop
   pub card : after.card ≡ before.card
@@ -61,7 +63,8 @@ pub record AnswersOverRest (own : Own) (dirs : List (List ℕ)) (made : List Pac
   pub holds : OverPackages own (made ++ more) roles before after verdict
 
 -- what a command answers over the packages that were made and those in these folders, and makes of the outside
-abbrev pub GoesOver : Own → List (List ℕ) → List PackageRecord → Option (List ℕ) → Outside → Outside → Result Verdict PackagesStop → Type 0
+abbrev pub GoesOver : Own → List (List ℕ) → List PackageRecord → Option (List ℕ) → Outside → Outside
+    → Result Verdict PackagesStop → Type 0
 GoesOver own dirs made given before after (Ok verdict) = AnswersOverRest own dirs made given before after verdict
 GoesOver own dirs made given before after (Err stop) = Stops before after given (length made) dirs stop
 
@@ -82,5 +85,6 @@ pub record StopsAll (before after : Outside) (dirs : List (List ℕ)) (stop : Pa
 
 -- what a command answers over the packages in all its folders, and makes of the outside
 abbrev pub GoesOverAll : Own → List (List ℕ) → Outside → Outside → Result Verdict PackagesStop → Type 0
-GoesOverAll own dirs before after (Ok verdict) = OfGiven before.folders dirs (λ parts roles. OverWorld own parts roles before after verdict)
+GoesOverAll own dirs before after (Ok verdict) =
+    OfGiven before.folders dirs (λ parts roles. OverWorld own parts roles before after verdict)
 GoesOverAll own dirs before after (Err stop) = StopsAll before after dirs stop

@@ -22,7 +22,8 @@ steps_each = 2000
 
 -- the last package has a form that a verifier on the card accepts. The text tells what comes of the run of its source, on a machine that
 -- tests what it does, and then what comes of the run of the new one; the memory holds what this leaves
-pub record IsTried (packages : List PackageRecord) (roles : List ℕ) (w : Linked) (r : RunRequest) (c : Card) (text : List ℕ) : Type 0 where
+pub record IsTried (packages : List PackageRecord) (roles : List ℕ) (w : Linked) (r : RunRequest) (c : Card) (text : List ℕ) : Type
+    0 where
   pub parts : List Lent
   pub made : IsTransformed packages roles w parts
   pub source : List ℕ

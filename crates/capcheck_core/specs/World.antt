@@ -54,7 +54,8 @@ IsUnlinkedBy _ _ = ⊥
 -- what a command over a world answers, and makes of the outside: where the world was made, `own` says both
 abbrev pub OverPackages : Own → List PackageRecord → List ℕ → Outside → Outside → Verdict → Type 0
 OverPackages own packages roles before after verdict =
-    (Untouched before after × StopsAtLink packages roles verdict) ⊎ OfLinked packages roles (λ w. own packages roles w before after verdict)
+    (Untouched before after × StopsAtLink packages roles verdict)
+    ⊎ OfLinked packages roles (λ w. own packages roles w before after verdict)
 
 -- ---- parts and roles
 

@@ -1,5 +1,6 @@
 -- A card typing gives a dataflow typing in which unset registers hold no value.
-use Rattle.std.proofs.Common.{◌≡◌, ℕ, ◌+◌, ◌<◌, ◌≤◌, ⊎_elim, Bool, true, false, if◌then◌else◌, List, [], ◌∷◌, length, All, Some, refl, sym, subst, arith, Contains}
+use Rattle.std.proofs.Common.{◌≡◌, ℕ, ◌+◌, ◌<◌, ◌≤◌, ⊎_elim, Bool, true, false, if◌then◌else◌, List, [], ◌∷◌, length, All}
+use Rattle.std.proofs.Common.{Some, refl, sym, subst, arith, Contains}
 use Rattle.std.specs.Prelude.{ℤ, pos, map}
 use Rattle.std.proofs.lemmas.List.Elements.{All-contains, All-nil, All-cons}
 use Rattle.jc_base.specs.declared.ty.Ty.{Ty}
@@ -32,7 +33,11 @@ jumps-where code i z c = by (jumps i.insn.op) refl
   where
     by : (b : Bool) → jumps i.insn.op ≡ b → jumps i.insn.op ≡ true
     by true e = e
-    by false e = absurd (nothing-in z (subst (λ (b : Bool). Contains (if b then target i.place i.insn.x ∷ map (λ c. target i.place c.offset) (cases code i.place i.insn) else []) z) e c))
+    by false e =
+        absurd
+        (nothing-in z
+        (subst (λ (b : Bool). Contains (if b then target i.place i.insn.x ∷ map (λ c. target i.place c.offset) (cases code i.place i.insn) else []) z) e
+        c))
 
 -- types of values of the world
 pub record IsSolid (w : Linked) (stack : List Ty) : Type 0 where
@@ -57,7 +62,8 @@ module _ (w : Linked) (is : AreRules w) (m : Method) (mo : IsMethodOf w m) (regs
 
   pub given-solid : (i : Placed) (t : IsTyped w m regs stacks i) → IsSolid w (stacks i.place) → IsSolid w t.after.stack
   given-solid i t s =
-      let k = is.keeps (site_of m i.place) i.insn Flow (frame_at regs stacks i.place) t.after t.applies.0 (known-with (stacks i.place) s.known) (at-site w m mo t.applies.1) in
+      let k = is.keeps (site_of m i.place) i.insn Flow (frame_at regs stacks i.place) t.after t.applies.0 (known-with (stacks i.place) s.known)
+      (at-site w m mo t.applies.1) in
       record { known = k.known.stack; no_top = k.no_top s.no_top }
 
   entry-of : (h : Handler) → Contains m.rec.handlers h → IsEntry m h.entry
@@ -91,7 +97,8 @@ module _ (w : Linked) (is : AreRules w) (m : Method) (mo : IsMethodOf w m) (regs
     reached-place _ (follows {i = i} {q = q} there r s) = succ-place i q there s
     reached-place _ (caught {h = h} r there covers) = (All-contains (IsHandlerOf m.code) m.rec.handlers h ty.formed.handlers there).entry
 
-    succ-below : (i : Placed) (there : HasInstruction m.code i) (q : ℕ) → IsSuccessor m.code i q → FrameBelow w.classes (ty.typed i there).after (frame_at regs stacks q)
+    succ-below : (i : Placed) (there : HasInstruction m.code i) (q : ℕ) → IsSuccessor m.code i q
+        → FrameBelow w.classes (ty.typed i there).after (frame_at regs stacks q)
     succ-below i there _ (falls_through goes) =
         let t = ty.typed i there in
         record { regs = t.stored; stack = subst (CellsBelow w.classes t.after.stack) (sym (t.goes_on goes).next) (is.order.self t.after.stack) }
@@ -99,12 +106,21 @@ module _ (w : Linked) (is : AreRules w) (m : Method) (mo : IsMethodOf w m) (regs
         let t = ty.typed i there in
         let left = t.branch (jumps-where m.code i (pos q) among) in
         let there_empty = (ty.targets q (target-of i q there among)).1 in
-        record { regs = t.stored; stack = subst (λ xs. CellsBelow w.classes xs (stacks q)) (sym left) (subst (CellsBelow w.classes []) (sym there_empty) no_cells) }
+        record {
+          regs = t.stored;
+          stack = subst (λ xs. CellsBelow w.classes xs (stacks q)) (sym left)
+              (subst (CellsBelow w.classes []) (sym there_empty) no_cells);
+        }
 
-    caught-below : (p : ℕ) (h : Handler) → Contains m.rec.handlers h → FrameBelow w.classes (caught_frame h (frame_at regs stacks p)) (frame_at regs stacks h.entry)
+    caught-below : (p : ℕ) (h : Handler) → Contains m.rec.handlers h → FrameBelow w.classes (caught_frame h (frame_at regs stacks p))
+        (frame_at regs stacks h.entry)
     caught-below p h there =
         let e = ty.entries h.entry (entry-of h there) in
-        record { regs = is.order.self regs; stack = subst (CellsBelow w.classes (Class h.class ∷ [])) (sym e.stack) (more_cells (e.catches.above h there refl) no_cells) }
+        record {
+          regs = is.order.self regs;
+          stack = subst (CellsBelow w.classes (Class h.class ∷ [])) (sym e.stack)
+              (more_cells (e.catches.above h there refl) no_cells);
+        }
 
     leader-ready : (q : ℕ) → IsLeader m q → All IsNotFresh (stacks q)
     leader-ready _ (led_to {i = i} {q = q} there r among) = subst (All IsNotFresh) (sym (ty.targets q (target-of i q there among)).1) (All-nil IsNotFresh)

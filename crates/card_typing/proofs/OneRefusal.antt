@@ -21,8 +21,10 @@ use Rattle.card_typing.specs.declared.fault.CardFault.{CardFault}
 use Rattle.card_typing.specs.declared.fault.CardKind.{CardKind}
 use Rattle.card_typing.specs.declared.fault.CardKind.TheVariants.{Rule}
 use Rattle.card_typing.specs.Place.{CatchesAt}
-use Rattle.card_typing.specs.Met.{Arrives, arrives_falling, arrives_empty, arrives_caught, arrives_full, IsOpenTo, IsPassed, GoesTo, goes_there, goes_again, IsMet, met_start, met_next}
-use Rattle.card_typing.specs.Refusal.{IsWrong, wrong_entry, wrong_room, wrong_target, wrong_rule, wrong_branch, wrong_end, fault_of, fault_at, IsFlawKind, IsRefused, refused_flaw, refused_state}
+use Rattle.card_typing.specs.Met.{Arrives, arrives_falling, arrives_empty, arrives_caught, arrives_full, IsOpenTo, IsPassed, GoesTo, goes_there, goes_again}
+use Rattle.card_typing.specs.Met.{IsMet, met_start, met_next}
+use Rattle.card_typing.specs.Refusal.{IsWrong, wrong_entry, wrong_room, wrong_target, wrong_rule, wrong_branch, wrong_end, fault_of, fault_at, IsFlawKind}
+use Rattle.card_typing.specs.Refusal.{IsRefused, refused_flaw, refused_state}
 use Rattle.card_typing.specs.Laws.{RefusalIsOne}
 use Rattle.card_typing.proofs.Below.{fault-kind}
 use Rattle.card_typing.proofs.Sites.{site_of, at-site, refuses-at-site}
@@ -59,9 +61,11 @@ pub data IsReached (w : Linked) (m : Method) (Suits : ℕ → List Ty → Type 0
   reached_next : (p q : ℕ) (f g : Frame) → IsReached w m Suits p f → IsNext w m Suits p f q g → IsReached w m Suits q g
 
 module _ (w : Linked) (m : Method) (Suits : ℕ → List Ty → Type 0) where
-  pub next-of : (i : Placed) (q : ℕ) (before after : Frame) (o : Outcome) (stack : List Ty) → Suits i.place before.stack → IsPassed w m i before after o → GoesTo m (i.place + i.insn.len) q → Arrives w m (falls i.insn.op) after.stack q stack
+  pub next-of : (i : Placed) (q : ℕ) (before after : Frame) (o : Outcome) (stack : List Ty) → Suits i.place before.stack
+      → IsPassed w m i before after o → GoesTo m (i.place + i.insn.len) q → Arrives w m (falls i.insn.op) after.stack q stack
       → IsNext w m Suits i.place before q (record { regs = after.regs; stack = stack })
-  next-of i q before after o stack suits passed goes a = record { i = i; at = refl; suits = suits; after = after; o = o; passed = passed; goes = goes; stack = stack; arrives = a; is = refl }
+  next-of i q before after o stack suits passed goes a =
+      record { i = i; at = refl; suits = suits; after = after; o = o; passed = passed; goes = goes; stack = stack; arrives = a; is = refl }
 
 -- ---- one step
 
@@ -121,7 +125,8 @@ module _ (w : Linked) (rules : AreRules w) (m : Method) (mo : IsMethodOf w m) wh
       same-stack =
           let here = subst (λ (n : ℕ). Arrives w m (falls b.i.insn.op) b.after.stack n b.stack) (sym same-place) b.arrives in
           let by = subst (λ (i : Placed). Arrives w m (falls i.insn.op) b.after.stack q b.stack) same-insn here in
-          arrives-one (falls a.i.insn.op) a.after.stack q a.stack b.stack a.arrives (subst (λ (x : Frame). Arrives w m (falls a.i.insn.op) x.stack q b.stack) same-after by)
+          arrives-one (falls a.i.insn.op) a.after.stack q a.stack b.stack a.arrives
+          (subst (λ (x : Frame). Arrives w m (falls a.i.insn.op) x.stack q b.stack) same-after by)
 
       same-frame : g ≡ h
       same-frame =
@@ -132,8 +137,10 @@ module _ (w : Linked) (rules : AreRules w) (m : Method) (mo : IsMethodOf w m) wh
     leads-next _ _ r _ _ h (leads_here p f) n = leads_on p r r f h h n (leads_here r h)
     leads-next _ _ r _ _ h (leads_on p q s f g k n l) last = leads_on p q r f g h n (leads-next q s r g k h l last)
 
-    start-leads : (stack : List Ty) → Arrives w m true [] 0 stack → (r : ℕ) (h : Frame) → IsReached w m Suits r h → LeadsTo w m Suits 0 (begun m stack) r h
-    start-leads stack a _ _ (reached_start other b) = subst (λ (s : List Ty). LeadsTo w m Suits 0 (begun m stack) 0 (begun m s)) (arrives-one true [] 0 stack other a b) (leads_here 0 (begun m stack))
+    start-leads : (stack : List Ty) → Arrives w m true [] 0 stack → (r : ℕ) (h : Frame) → IsReached w m Suits r h
+        → LeadsTo w m Suits 0 (begun m stack) r h
+    start-leads stack a _ _ (reached_start other b) =
+        subst (λ (s : List Ty). LeadsTo w m Suits 0 (begun m stack) 0 (begun m s)) (arrives-one true [] 0 stack other a b) (leads_here 0 (begun m stack))
     start-leads stack a _ _ (reached_next p q f g reached n) = leads-next 0 p q (begun m stack) f g (start-leads stack a p f reached) n
 
     module _ (r : ℕ) (h : Frame) (there : IsReached w m Suits r h) (last : IsLast w m Suits r h) where
@@ -143,7 +150,8 @@ module _ (w : Linked) (rules : AreRules w) (m : Method) (mo : IsMethodOf w m) wh
           by : (p r : ℕ) (f h : Frame) → LeadsTo w m Suits p f r h → IsNext w m Suits p f q g → IsLast w m Suits r h → LeadsTo w m Suits q g r h
           by _ _ _ _ (leads_here p f) n stops = absurd (stops q g n)
           by _ _ _ _ (leads_on p s r f k h step rest) n stops =
-              subst (λ (x : Frame). LeadsTo w m Suits q x r h) (same-frame p f s q k g step n) (subst (λ (j : ℕ). LeadsTo w m Suits j k r h) (same-place p f s q k g step n) rest)
+              subst (λ (x : Frame). LeadsTo w m Suits q x r h) (same-frame p f s q k g step n)
+              (subst (λ (j : ℕ). LeadsTo w m Suits j k r h) (same-place p f s q k g step n) rest)
 
       any-leads : (q : ℕ) (g : Frame) → IsReached w m Suits q g → LeadsTo w m Suits q g r h
       any-leads _ _ (reached_start stack a) = start-leads stack a r h there
@@ -160,7 +168,8 @@ module _ (w : Linked) (rules : AreRules w) (m : Method) (mo : IsMethodOf w m) wh
   -- ---- what is wrong with a state
 
   module _ (i : Placed) (before : Frame) where
-    pub unpassed : (kind : CardKind) (kept : Frame) → IsWrong w m i before kind kept → (after : Frame) (o : Outcome) → IsPassed w m i before after o → ⊥
+    pub unpassed : (kind : CardKind) (kept : Frame) → IsWrong w m i before kind kept → (after : Frame) (o : Outcome) → IsPassed w m i before after o
+        → ⊥
     unpassed _ _ (wrong_entry entry from) after o passed = ⊎_elim (passed.suits.entry entry).0 (passed.suits.entry entry).1 from
     unpassed _ _ (wrong_room entry alone full) after o passed = passed.suits.caught entry full
     unpassed _ _ (wrong_target free target fallen deep) after o passed = deep (passed.suits.target target fallen)
@@ -171,7 +180,8 @@ module _ (w : Linked) (rules : AreRules w) (m : Method) (mo : IsMethodOf w m) wh
         deep (ap (λ (x : Frame). x.stack) same ∙ passed.branch jumps)
     unpassed _ _ (wrong_end left p suits applies empty goes end) after o passed = let inside = passed.goes_on goes in absurd (omega (arith, inside, end))
 
-    pub wrong-one : IsOpenTo m i.place before.stack → (kind other : CardKind) (kept held : Frame) → IsWrong w m i before kind kept → IsWrong w m i before other held → Agree kind kept other held
+    pub wrong-one : IsOpenTo m i.place before.stack → (kind other : CardKind) (kept held : Frame) → IsWrong w m i before kind kept
+        → IsWrong w m i before other held → Agree kind kept other held
     wrong-one suits _ o _ t (wrong_entry entry from) b = absurd (⊎_elim (suits.entry entry).0 (suits.entry entry).1 from)
     wrong-one suits _ o _ t (wrong_room entry alone full) b = absurd (suits.caught entry full)
     wrong-one suits _ o _ t (wrong_target free target fallen deep) b = absurd (deep (suits.target target fallen))
@@ -186,7 +196,8 @@ module _ (w : Linked) (rules : AreRules w) (m : Method) (mo : IsMethodOf w m) wh
         absurd ((rules.decides (site_of m i.place) i.insn Card before).never_both (at-site w m mo applies) (refuses-at-site w m mo r))
     wrong-one suits _ _ _ _ (wrong_branch f o u applies j d) (wrong_rule fault v r) =
         absurd ((rules.decides (site_of m i.place) i.insn Card before).never_both (at-site w m mo applies) (refuses-at-site w m mo r))
-    wrong-one suits _ _ _ _ (wrong_branch f o u applies j d) (wrong_branch g p v also k e) = (refl, (rules.decides (site_of m i.place) i.insn Card before).one (at-site w m mo applies) (at-site w m mo also))
+    wrong-one suits _ _ _ _ (wrong_branch f o u applies j d) (wrong_branch g p v also k e) =
+        (refl, (rules.decides (site_of m i.place) i.insn Card before).one (at-site w m mo applies) (at-site w m mo also))
     wrong-one suits _ _ _ _ (wrong_branch f o u applies j d) (wrong_end g p v also empty goes end) =
         let same : f ≡ g = (rules.decides (site_of m i.place) i.insn Card before).one (at-site w m mo applies) (at-site w m mo also) in
         absurd (d (ap (λ (x : Frame). x.stack) same ∙ empty j))
@@ -195,10 +206,12 @@ module _ (w : Linked) (rules : AreRules w) (m : Method) (mo : IsMethodOf w m) wh
     wrong-one suits _ _ _ _ (wrong_end f o u applies empty goes end) (wrong_branch g p v also j d) =
         let same : g ≡ f = (rules.decides (site_of m i.place) i.insn Card before).one (at-site w m mo also) (at-site w m mo applies) in
         absurd (d (ap (λ (x : Frame). x.stack) same ∙ empty j))
-    wrong-one suits _ _ _ _ (wrong_end f o u applies empty goes end) (wrong_end g p v also none on off) = (refl, (rules.decides (site_of m i.place) i.insn Card before).one (at-site w m mo applies) (at-site w m mo also))
+    wrong-one suits _ _ _ _ (wrong_end f o u applies empty goes end) (wrong_end g p v also none on off) =
+        (refl, (rules.decides (site_of m i.place) i.insn Card before).one (at-site w m mo applies) (at-site w m mo also))
 
     -- two things that are wrong with a state are one, also where the place may not have the stack
-    wrong-alike : (kind other : CardKind) (kept held : Frame) → IsWrong w m i before kind kept → IsWrong w m i before other held → Agree kind kept other held
+    wrong-alike : (kind other : CardKind) (kept held : Frame) → IsWrong w m i before kind kept → IsWrong w m i before other held
+        → Agree kind kept other held
     wrong-alike _ _ _ _ (wrong_entry e from) (wrong_entry f by) = (refl, refl)
     wrong-alike _ _ _ _ (wrong_entry e from) (wrong_room f alone full) = absurd (alone from)
     wrong-alike _ _ _ _ (wrong_entry e from) (wrong_target free t n d) = absurd (free e)
@@ -226,9 +239,11 @@ module _ (w : Linked) (rules : AreRules w) (m : Method) (mo : IsMethodOf w m) wh
   reached-of : (r : ℕ) (h : Frame) → IsMet w m r h → IsReached w m Any r h
   reached-of _ _ (met_start stack a) = reached_start stack a
   reached-of _ _ (met_next i q before after o given met passed goes a) =
-      reached_next i.place q before (record { regs = after.regs; stack = given }) (reached-of i.place before met) (next-of w m Any i q before after o given tt passed goes a)
+      reached_next i.place q before (record { regs = after.regs; stack = given }) (reached-of i.place before met)
+      (next-of w m Any i q before after o given tt passed goes a)
 
-  closed : (i : Placed) (before : Frame) (kind : CardKind) (kept : Frame) → IsWrong w m i before kind kept → HasInstruction m.code i → IsLast w m Any i.place before
+  closed : (i : Placed) (before : Frame) (kind : CardKind) (kept : Frame) → IsWrong w m i before kind kept → HasInstruction m.code i
+      → IsLast w m Any i.place before
   closed i before kind kept wrong there q g n =
       let same : n.i ≡ i = (rules.listed m.code).one n.i i n.passed.stands there n.at in
       unpassed i before kind kept wrong n.after n.o (subst (λ (j : Placed). IsPassed w m j before n.after n.o) same n.passed)
@@ -243,20 +258,24 @@ module _ (w : Linked) (rules : AreRules w) (m : Method) (mo : IsMethodOf w m) wh
       → IsWrong w m j begun_with other held
       → Agrees (fault_at i.place kind kept) kept (fault_at j.place other held) held
   state-one i j before begun_with kept held kind other here there met also wrong worse =
-      let one = last-one Any j.place begun_with (reached-of j.place begun_with also) (closed j begun_with other held worse there) i.place before (reached-of i.place before met) (closed i before kind kept wrong here) in
+      let one = last-one Any j.place begun_with (reached-of j.place begun_with also) (closed j begun_with other held worse there) i.place before
+      (reached-of i.place before met) (closed i before kind kept wrong here) in
       let same : j ≡ i = (rules.listed m.code).one j i there here (sym one.0) in
       let at = subst (λ (k : Placed). IsWrong w m k before other held) same (subst (λ (f : Frame). IsWrong w m j f other held) (sym one.1) worse) in
       let agree = wrong-alike i before kind other kept held wrong at in (
-        ap (λ (k : Placed). fault_at k.place kind kept) (sym same) ∙ ap (λ (k : CardKind). fault_at j.place k kept) agree.0 ∙ ap (λ (f : Frame). fault_at j.place other f) agree.1,
+        ap (λ (k : Placed). fault_at k.place kind kept) (sym same) ∙ ap (λ (k : CardKind). fault_at j.place k kept) agree.0
+            ∙ ap (λ (f : Frame). fault_at j.place other f) agree.1,
         λ of_state. agree.1,
       )
 
   module _ (one_flaw : FirstFlawIsOne) where
     refusal-one-of : (fault other : CardFault) (kept held : Frame) → IsRefused w m fault kept → IsRefused w m other held → Agrees fault kept other held
-    refusal-one-of _ _ _ _ (refused_flaw f kept first) (refused_flaw g held also) = (ap fault_of (one_flaw m f g first also), λ of_state. absurd (of_state (fault-kind f)))
+    refusal-one-of _ _ _ _ (refused_flaw f kept first) (refused_flaw g held also) =
+        (ap fault_of (one_flaw m f g first also), λ of_state. absurd (of_state (fault-kind f)))
     refusal-one-of _ _ _ _ (refused_flaw f kept first) (refused_state i b held kind formed there met wrong) = absurd (first-flaw-refuses m f first formed)
     refusal-one-of _ _ _ _ (refused_state i b kept kind formed there met wrong) (refused_flaw f held first) = absurd (first-flaw-refuses m f first formed)
-    refusal-one-of _ _ _ _ (refused_state i b kept kind formed there met wrong) (refused_state j c held other also here met_too worse) = state-one i j b c kept held kind other there here met met_too wrong worse
+    refusal-one-of _ _ _ _ (refused_state i b kept kind formed there met wrong) (refused_state j c held other also here met_too worse) =
+        state-one i j b c kept held kind other there here met met_too wrong worse
 
 pub refusal-one : (w : Linked) → AreRules w → FirstFlawIsOne → RefusalIsOne w
 refusal-one w rules one_flaw m fault other kept held mo r s = refusal-one-of w rules m mo one_flaw fault other kept held r s

@@ -1,5 +1,6 @@
 -- What holds of a method of the world, of its start and of the classes that its handlers catch.
-use Rattle.std.proofs.Common.{◌≡◌, ◌+◌, ◌<◌, Bool, true, false, if◌then◌else◌, [], ◌∷◌, ◌++◌, length, replicate, All, refl, ◌∙◌, ap, arith, length-append, length-take}
+use Rattle.std.proofs.Common.{◌≡◌, ◌+◌, ◌<◌, Bool, true, false, if◌then◌else◌, [], ◌∷◌, ◌++◌, length, replicate, All, refl}
+use Rattle.std.proofs.Common.{◌∙◌, ap, arith, length-append, length-take}
 use Rattle.std.specs.List.{Contains}
 use Rattle.std.proofs.lemmas.List.{length-replicate}
 use Rattle.std.proofs.lemmas.List.Elements.{All-append, All-contains, All-nil, All-cons, All-replicate}
@@ -71,7 +72,13 @@ module _ (w : Linked) (is : IsWorld w) (m : Method) (mo : IsMethodOf w m) where
   pub start-length : length (start_frame m.rec Bottom).regs ≡ m.rec.nargs + m.rec.max_locals
   start-length =
       length-append (receiver_of m.rec ++ m.rec.sig.args) (replicate m.rec.max_locals Bottom)
-      ∙ omega (arith, length-append (receiver_of m.rec) m.rec.sig.args, length-replicate m.rec.max_locals Bottom, receiver-length m.rec.is_static, of_world.words)
+      ∙ omega (
+        arith,
+        length-append (receiver_of m.rec) m.rec.sig.args,
+        length-replicate m.rec.max_locals Bottom,
+        receiver-length m.rec.is_static,
+        of_world.words,
+      )
 
   pub start-known : All (IsKnown w.classes) (start_frame m.rec Bottom).regs
   start-known = start-all (IsKnown w.classes) own_class (declared-known w.classes) tt

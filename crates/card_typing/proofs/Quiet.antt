@@ -1,5 +1,6 @@
 -- A pass that raises no register is a card typing.
-use Rattle.std.proofs.Common.{◌≡◌, ℕ, zero, suc, ◌+◌, ◌<◌, ◌≤◌, ◌⊎◌, inl, inr, ⊎_elim, Bool, true, false, ◌==◌, if◌then◌else◌, List, [], ◌∷◌, length, All, refl, sym, ◌∙◌, ap, subst, arith, Contains, IsTrue}
+use Rattle.std.proofs.Common.{◌≡◌, ℕ, zero, suc, ◌+◌, ◌<◌, ◌≤◌, ◌⊎◌, inl, inr, ⊎_elim, Bool, true, false, ◌==◌}
+use Rattle.std.proofs.Common.{if◌then◌else◌, List, [], ◌∷◌, length, All, refl, sym, ◌∙◌, ap, subst, arith, Contains, IsTrue}
 use Rattle.std.specs.Prelude.{pos}
 use Rattle.std.proofs.lemmas.List.Elements.{All-contains}
 use Rattle.std.proofs.lemmas.Bool.{false≢true}
@@ -35,25 +36,29 @@ eq-other n m lt = grind arith
 -- ---- how a stack arrives
 
 module _ (w : Linked) (m : Method) where
-  arrived-falling : {b : Bool} {given : List Ty} {q : ℕ} {stack : List Ty} → Arrives w m b given q stack → b ≡ true → ¬ (IsEntry m q) → stack ≡ given
+  arrived-falling : {b : Bool} {given : List Ty} {q : ℕ} {stack : List Ty} → Arrives w m b given q stack → b ≡ true → ¬ (IsEntry m q)
+      → stack ≡ given
   arrived-falling (arrives_falling free e) h n = refl
   arrived-falling (arrives_empty free e) h n = absurd (false≢true (sym e ∙ h))
   arrived-falling (arrives_caught c entry room catches) h n = absurd (n entry)
   arrived-falling (arrives_full entry none) h n = absurd (n entry)
 
-  pub arrived-empty : {b : Bool} {given : List Ty} {q : ℕ} {stack : List Ty} → Arrives w m b given q stack → b ≡ false → ¬ (IsEntry m q) → stack ≡ []
+  pub arrived-empty : {b : Bool} {given : List Ty} {q : ℕ} {stack : List Ty} → Arrives w m b given q stack → b ≡ false → ¬ (IsEntry m q)
+      → stack ≡ []
   arrived-empty (arrives_falling free e) h n = absurd (false≢true (sym h ∙ e))
   arrived-empty (arrives_empty free e) h n = refl
   arrived-empty (arrives_caught c entry room catches) h n = absurd (n entry)
   arrived-empty (arrives_full entry none) h n = absurd (n entry)
 
-  arrived-caught : {b : Bool} {given : List Ty} {q : ℕ} {stack : List Ty} → Arrives w m b given q stack → IsEntry m q → ¬ (m.rec.max_stack ≡ 0) → (c : ℕ) × CatchesAt w.classes m q c × (stack ≡ Class c ∷ [])
+  arrived-caught : {b : Bool} {given : List Ty} {q : ℕ} {stack : List Ty} → Arrives w m b given q stack → IsEntry m q → ¬ (m.rec.max_stack ≡ 0)
+      → (c : ℕ) × CatchesAt w.classes m q c × (stack ≡ Class c ∷ [])
   arrived-caught (arrives_falling free e) h n = absurd (free h)
   arrived-caught (arrives_empty free e) h n = absurd (free h)
   arrived-caught (arrives_caught c entry room catches) h n = (c, catches, refl)
   arrived-caught (arrives_full entry none) h n = absurd (n none)
 
-  arrived-room : {b : Bool} {given : List Ty} {q : ℕ} {stack : List Ty} → Arrives w m b given q stack → length given ≤ m.rec.max_stack → length stack ≤ m.rec.max_stack
+  arrived-room : {b : Bool} {given : List Ty} {q : ℕ} {stack : List Ty} → Arrives w m b given q stack → length given ≤ m.rec.max_stack
+      → length stack ≤ m.rec.max_stack
   arrived-room (arrives_falling free e) h = h
   arrived-room (arrives_empty free e) h = omega arith
   arrived-room (arrives_caught c entry room catches) h = positive m.rec.max_stack room
@@ -81,16 +86,20 @@ module _ (w : Linked) (m : Method) (regs : List Ty) where
     after : List Ty
     outcome : Outcome
     passed : IsPassed w m i (record { regs = regs; stack = stacks i.place }) (record { regs = regs; stack = after }) outcome
-    next : Arrives w m (falls i.insn.op) after (i.place + i.insn.len) (stacks (i.place + i.insn.len)) ⊎ ((i.place + i.insn.len ≡ length m.code) × (stacks (i.place + i.insn.len) ≡ []))
+    next : Arrives w m (falls i.insn.op) after (i.place + i.insn.len) (stacks (i.place + i.insn.len))
+        ⊎ ((i.place + i.insn.len ≡ length m.code) × (stacks (i.place + i.insn.len) ≡ []))
 
   module _ (mo : IsMethodOf w m) (ordered : InstructionsAreListed) (stacks : ℕ → List Ty) where
-    after-room : (i : Placed) {stack after : List Ty} {o : Outcome} → IsPassed w m i (record { regs = regs; stack = stack }) (record { regs = regs; stack = after }) o → length after ≤ m.rec.max_stack
+    after-room : (i : Placed) {stack after : List Ty} {o : Outcome} → IsPassed w m i (record { regs = regs; stack = stack })
+        (record { regs = regs; stack = after }) o → length after ≤ m.rec.max_stack
     after-room i {stack} {after} {o} p =
         p.applies.does.room
 
     -- what the pass has at the place where it goes on
-    onward : (at : ℕ) (is : List Placed) (b : Bool) (given : List Ty) (u : IsQuiet w m regs b given is) → Lists m.code at is → end_from at is ≡ length m.code
-        → ((q : ℕ) → at ≤ q → stacks q ≡ stack-in b given is u q) → Arrives w m b given at (stacks at) ⊎ ((at ≡ length m.code) × (stacks at ≡ []))
+    onward : (at : ℕ) (is : List Placed) (b : Bool) (given : List Ty) (u : IsQuiet w m regs b given is) → Lists m.code at is
+        → end_from at is ≡ length m.code
+        → ((q : ℕ) → at ≤ q → stacks q ≡ stack-in b given is u q) → Arrives w m b given at (stacks at)
+        ⊎ ((at ≡ length m.code) × (stacks at ≡ []))
     unfolding stack-in
     onward at _ _ _ (quiet_end b given) l end agree = inr (end, agree at (omega arith))
     onward at _ _ _ (quiet_more b given stack after o i is a p u) l end agree =
@@ -98,13 +107,15 @@ module _ (w : Linked) (m : Method) (regs : List Ty) where
         let here : stacks at ≡ stack = agree at (omega arith) ∙ ap (λ (t : Bool). if t then stack else stack-in (falls i.insn.op) after is u at) test in
         inl (subst (Arrives w m b given at) (sym here) (subst (λ n. Arrives w m b given n stack) l.0 a))
 
-    visits : (at : ℕ) (is : List Placed) (b : Bool) (given : List Ty) (u : IsQuiet w m regs b given is) → Lists m.code at is → end_from at is ≡ length m.code
+    visits : (at : ℕ) (is : List Placed) (b : Bool) (given : List Ty) (u : IsQuiet w m regs b given is) → Lists m.code at is
+        → end_from at is ≡ length m.code
         → (b ≡ true → IsFallenInto m at) → length given ≤ m.rec.max_stack
         → ((q : ℕ) → at ≤ q → stacks q ≡ stack-in b given is u q) → (i : Placed) → Contains is i → IsVisited stacks i
     unfolding stack-in
     visits at _ _ _ (quiet_end b given) l end from room agree j c = absurd (omega (arith, c.1))
     visits at _ _ _ (quiet_more b given stack after o i is a p u) l end from room agree j c =
-        ⊎_elim (λ same. subst (IsVisited stacks) same this) (λ later. visits (at + i.insn.len) is (falls i.insn.op) after u l.2 end fallen (after-room i p) agrees j later) (Contains-either i is j c)
+        ⊎_elim (λ same. subst (IsVisited stacks) same this)
+        (λ later. visits (at + i.insn.len) is (falls i.insn.op) after u l.2 end fallen (after-room i p) agrees j later) (Contains-either i is j c)
       where
         place : i.place ≡ at
         place = l.0
@@ -124,7 +135,8 @@ module _ (w : Linked) (m : Method) (regs : List Ty) where
         fallen : falls i.insn.op ≡ true → IsFallenInto m (at + i.insn.len)
         fallen e = subst (λ n. IsFallenInto m (n + i.insn.len)) place (fallen_from i p.stands e)
 
-        next : Arrives w m (falls i.insn.op) after (at + i.insn.len) (stacks (at + i.insn.len)) ⊎ ((at + i.insn.len ≡ length m.code) × (stacks (at + i.insn.len) ≡ []))
+        next : Arrives w m (falls i.insn.op) after (at + i.insn.len) (stacks (at + i.insn.len))
+            ⊎ ((at + i.insn.len ≡ length m.code) × (stacks (at + i.insn.len) ≡ []))
         next = onward (at + i.insn.len) is (falls i.insn.op) after u l.2 end agrees
 
         this : IsVisited stacks i
@@ -137,17 +149,22 @@ module _ (w : Linked) (m : Method) (regs : List Ty) where
           after = after;
           outcome = o;
           passed = subst (λ (s : List Ty). IsPassed w m i (record { regs = regs; stack = s }) (record { regs = regs; stack = after }) o) (sym here) p;
-          next = subst (λ (n : ℕ). Arrives w m (falls i.insn.op) after (n + i.insn.len) (stacks (n + i.insn.len)) ⊎ ((n + i.insn.len ≡ length m.code) × (stacks (n + i.insn.len) ≡ []))) (sym place) next;
+          next =
+              subst (λ (n : ℕ). Arrives w m (falls i.insn.op) after (n + i.insn.len) (stacks (n + i.insn.len))
+              ⊎ ((n + i.insn.len ≡ length m.code) × (stacks (n + i.insn.len) ≡ []))) (sym place) next;
         }
 
 -- ---- the typing
 
-module _ (w : Linked) (rests : RuleRests w) (placed : InstructionsArePlaced) (ordered : InstructionsAreListed) (m : Method) (mo : IsMethodOf w m) (formed : IsWellFormed m) (regs : List Ty) (u : IsQuiet w m regs true [] (listing m.code)) where
+module _ (w : Linked) (rests : RuleRests w) (placed : InstructionsArePlaced) (ordered : InstructionsAreListed) (m : Method) (mo : IsMethodOf w m)
+    (formed : IsWellFormed m) (regs : List Ty) (u : IsQuiet w m regs true [] (listing m.code)) where
   abbrev pub stacks : ℕ → List Ty
   stacks = stack-in w m regs true [] (listing m.code) u
 
   visit : (i : Placed) → HasInstruction m.code i → IsVisited w m regs stacks i
-  visit i there = visits w m regs mo ordered stacks 0 (listing m.code) true [] u (ordered m.code).lists formed.ends (λ e. fallen_first) (omega arith) (λ q le. refl) i there
+  visit i there =
+      visits w m regs mo ordered stacks 0 (listing m.code) true [] u (ordered m.code).lists formed.ends (λ e. fallen_first) (omega arith) (λ q le. refl) i
+      there
 
   open-at : (q : ℕ) → IsPlace m.code q → IsOpenTo m q (stacks q)
   open-at q here = subst (λ p. IsOpenTo m p (stacks p)) here.2 (visit here.0 here.1).passed.suits
@@ -206,7 +223,8 @@ module _ (w : Linked) (rests : RuleRests w) (placed : InstructionsArePlaced) (or
   typed-at : (i : Placed) → HasInstruction m.code i → IsTyped w m regs stacks i
   typed-at i there =
       let v = visit i there in
-      let r = rests (site_of m i.place) i.insn (frame_at regs stacks i.place) (record { regs = regs; stack = v.after }) v.outcome (at-site w m mo v.passed.applies) refl in
+      let r = rests (site_of m i.place) i.insn (frame_at regs stacks i.place) (record { regs = regs; stack = v.after }) v.outcome
+      (at-site w m mo v.passed.applies) refl in
       record {
         after = record { regs = r.stored; stack = v.after };
         applies = (v.outcome, of-site w m mo r.applies);
@@ -216,7 +234,8 @@ module _ (w : Linked) (rests : RuleRests w) (placed : InstructionsArePlaced) (or
         ends = λ e free. ⊎_elim (λ a. arrived-empty w m a e free) (λ end. end.1) v.next;
       }
 
-  pub quiet-typing : All (IsKnown w.classes) regs → All IsNotFresh regs → CellsBelow w.classes (start_frame m.rec Bottom).regs regs → CardTyping w m regs stacks
+  pub quiet-typing : All (IsKnown w.classes) regs → All IsNotFresh regs → CellsBelow w.classes (start_frame m.rec Bottom).regs regs
+      → CardTyping w m regs stacks
   quiet-typing known ready declared = record {
     formed = formed;
     types = known;

@@ -17,7 +17,8 @@ use Rattle.card_typing.proofs.Sites.{site_of, at-site}
 use Rattle.card_typing.proofs.Own.{of_world, start-length, start-known, start-ready}
 
 -- a stack that arrives has types of the world where the given one has
-arrives-known : (w : Linked) (m : Method) {b : Bool} {given : List Ty} {q : ℕ} {stack : List Ty} → Arrives w m b given q stack → All (IsKnown w.classes) given → All (IsKnown w.classes) stack
+arrives-known : (w : Linked) (m : Method) {b : Bool} {given : List Ty} {q : ℕ} {stack : List Ty} → Arrives w m b given q stack
+    → All (IsKnown w.classes) given → All (IsKnown w.classes) stack
 arrives-known w m (arrives_falling free e) all = all
 arrives-known w m (arrives_empty free e) all = All-nil (IsKnown w.classes)
 arrives-known w m (arrives_caught c entry room catches) all = All-cons (IsKnown w.classes) (Class c) [] catches.class (All-nil (IsKnown w.classes))

@@ -70,7 +70,8 @@ RefusalIsOne w =
 
 -- a refusal tells a flaw exactly where the method is not well formed
 abbrev pub FlawsAreTold : Linked → Type 0
-FlawsAreTold w = (m : Method) (fault : CardFault) (kept : Frame) → IsRefused w m fault kept → IsFlawKind fault.kind ↔ ¬ (IsWellFormed m)
+FlawsAreTold w =
+    (m : Method) (fault : CardFault) (kept : Frame) → IsRefused w m fault kept → IsFlawKind fault.kind ↔ ¬ (IsWellFormed m)
 
 -- registers that are met at the start of a pass, which raises none of them, are those of the least card typing
 abbrev pub QuietIsLeast : Linked → Type 0

@@ -20,7 +20,8 @@ use Rattle.card_typing.specs.Place.{IsTarget, IsEntry, IsFallenInto, CatchesAt}
 pub data Arrives (w : Linked) (m : Method) (may_fall : Bool) (given : List Ty) (q : ℕ) : List Ty → Type 0 where
   arrives_falling : ¬ (IsEntry m q) → may_fall ≡ true → Arrives w m may_fall given q given
   arrives_empty : ¬ (IsEntry m q) → may_fall ≡ false → Arrives w m may_fall given q []
-  arrives_caught : (c : ℕ) → IsEntry m q → ¬ (m.rec.max_stack ≡ 0) → CatchesAt w.classes m q c → Arrives w m may_fall given q (Class c ∷ [])
+  arrives_caught : (c : ℕ) → IsEntry m q → ¬ (m.rec.max_stack ≡ 0) → CatchesAt w.classes m q c
+      → Arrives w m may_fall given q (Class c ∷ [])
   arrives_full : IsEntry m q → m.rec.max_stack ≡ 0 → Arrives w m may_fall given q []
 
 -- the place may have this stack: where a handler begins it is neither fallen into nor a target, and there is room for the

@@ -16,7 +16,8 @@ use Rattle.jc_rules.specs.Demand.{Frame}
 use Rattle.jc_rules.specs.Apply.{RuleApplies, RuleRefuses}
 use Rattle.card_typing.specs.declared.fault.CardFault.{CardFault}
 use Rattle.card_typing.specs.declared.fault.CardKind.{CardKind}
-use Rattle.card_typing.specs.declared.fault.CardKind.TheVariants.{Code, Rule, StackAtTarget, StackAtBranch, HandlerEntered, BadTarget, FallsOff, BadHandler}
+use Rattle.card_typing.specs.declared.fault.CardKind.TheVariants.{Code, Rule, StackAtTarget, StackAtBranch, HandlerEntered, BadTarget}
+use Rattle.card_typing.specs.declared.fault.CardKind.TheVariants.{FallsOff, BadHandler}
 use Rattle.card_typing.specs.Place.{IsTarget, IsEntry, IsFallenInto}
 use Rattle.card_typing.specs.Met.{IsOpenTo, IsMet}
 

@@ -109,4 +109,5 @@ pub record HasCardTyping (w : Linked) (m : Method) : Type 0 where
 pub record IsLeastCardTyping (w : Linked) (m : Method) (regs : List Ty) : Type 0 where
   pub stacks : ℕ → List Ty
   pub typing : CardTyping w m regs stacks
-  pub least : (others : List Ty) (other_stacks : ℕ → List Ty) → CardTyping w m others other_stacks → CellsBelow w.classes regs others
+  pub least : (others : List Ty) (other_stacks : ℕ → List Ty) → CardTyping w m others other_stacks
+      → CellsBelow w.classes regs others

@@ -1,5 +1,6 @@
 -- What the verifier answers.
-use Rattle.std.proofs.Common.{◌≡◌, ◌↔◌, ⊎_elim, ℕ, ◌+◌, ◌<◌, ◌≤◌, Bool, true, false, List, length, MatchBool, IsSomeAnd, IfSome, IfErr, OnOk, OnErr, Option, Some, option_map, Result, Ok, Err, slice_get, sym, ◌∙◌, ap, subst, arith}
+use Rattle.std.proofs.Common.{◌≡◌, ◌↔◌, ⊎_elim, ℕ, ◌+◌, ◌<◌, ◌≤◌, Bool, true, false, List, length, MatchBool, IsSomeAnd, IfSome}
+use Rattle.std.proofs.Common.{IfErr, OnOk, OnErr, Option, Some, option_map, Result, Ok, Err, slice_get, sym, ◌∙◌, ap, subst, arith}
 use Rattle.std.proofs.lemmas.Bool.{false≢true, cases_lt}
 use Rattle.std.proofs.lemmas.Option.{same_Some}
 use Rattle.jc_base.specs.declared.ty.Ty.{Ty}
@@ -22,11 +23,13 @@ use Rattle.card_verify.specs.Walk.{HasSlices, CanBeginPass, IsRaisedBy, IsSettle
 
 -- ---- passes
 
-pub raised : (v : Verifier) (regs after stack : List Ty) (rose : Bool) → MatchBool rose (IsRaisedBy v regs after stack) (IsSettled v regs after) → rose ≡ true → IsRaisedBy v regs after stack
+pub raised : (v : Verifier) (regs after stack : List Ty) (rose : Bool) → MatchBool rose (IsRaisedBy v regs after stack) (IsSettled v regs after)
+    → rose ≡ true → IsRaisedBy v regs after stack
 raised v regs after stack true h e = h
 raised v regs after stack false h e = absurd (false≢true e)
 
-pub settled : (v : Verifier) (regs after stack : List Ty) (rose : Bool) → MatchBool rose (IsRaisedBy v regs after stack) (IsSettled v regs after) → rose ≡ false → IsSettled v regs after
+pub settled : (v : Verifier) (regs after stack : List Ty) (rose : Bool) → MatchBool rose (IsRaisedBy v regs after stack) (IsSettled v regs after)
+    → rose ≡ false → IsSettled v regs after
 settled v regs after stack true h e = absurd (false≢true (sym e))
 settled v regs after stack false h e = h
 
@@ -35,13 +38,15 @@ finished v regs after stack begun s = subst (IsFinished v) (sym s.same) (record 
 
 -- ---- a well-formed method
 
-pub begun-start : (v : Verifier) (regs stack : List Ty) → regs ≡ (start_frame v.rec.now Bottom).regs → HasSlices v regs stack → CanBeginPass v regs stack
+pub begun-start : (v : Verifier) (regs stack : List Ty) → regs ≡ (start_frame v.rec.now Bottom).regs → HasSlices v regs stack
+    → CanBeginPass v regs stack
 begun-start v regs stack e slices = record {
   met = λ given a. subst (λ (xs : List Ty). IsMet (world_of v) (method v) 0 (record { regs = xs; stack = given })) (sym e) (met_start given a);
   slices = slices;
 }
 
-pub least-of : (v : Verifier) (regs : List Ty) → QuietIsLeast (world_of v) → IsMethodOf (world_of v) (method v) → IsWellFormed (method v) → IsFinished v regs → IsLeastCardTyping (world_of v) (method v) regs
+pub least-of : (v : Verifier) (regs : List Ty) → QuietIsLeast (world_of v) → IsMethodOf (world_of v) (method v) → IsWellFormed (method v)
+    → IsFinished v regs → IsLeastCardTyping (world_of v) (method v) regs
 least-of v regs least known formed f = least (method v) regs known formed f.met f.quiet
 
 pub on-ok : {A B : Type 0} (P Q : Type 0) (r : Result A B) → (P → Q) → OnOk r P → OnOk r Q
@@ -54,9 +59,11 @@ module _ (v : Verifier) where
   has-typing : (regs : List Ty) → IsLeastCardTyping (world_of v) (method v) regs → HasCardTyping (world_of v) (method v)
   has-typing regs least = record { regs = regs; stacks = least.stacks; typing = least.typing }
 
-  pub flow-of : (r : Result (Unit {0}) CardFault) (regs : List Ty) → CardIsFlow (world_of v) → IsMethodOf (world_of v) (method v) → OnOk r (IsLeastCardTyping (world_of v) (method v) regs) → OnOk r (HasFlowTyping (world_of v) (method v) Bottom)
+  pub flow-of : (r : Result (Unit {0}) CardFault) (regs : List Ty) → CardIsFlow (world_of v) → IsMethodOf (world_of v) (method v)
+      → OnOk r (IsLeastCardTyping (world_of v) (method v) regs) → OnOk r (HasFlowTyping (world_of v) (method v) Bottom)
   flow-of r regs flow known h =
-      on-ok (IsLeastCardTyping (world_of v) (method v) regs) (HasFlowTyping (world_of v) (method v) Bottom) r (λ least. flow (method v) known (has-typing regs least)) h
+      on-ok (IsLeastCardTyping (world_of v) (method v) regs) (HasFlowTyping (world_of v) (method v) Bottom) r
+      (λ least. flow (method v) known (has-typing regs least)) h
 
   module _ (regs stack : List Ty) (known : IsMethodOf (world_of v) (method v)) where
     abbrev Refused : Result (Unit {0}) CardFault → Type 0
@@ -66,22 +73,26 @@ module _ (v : Verifier) where
     none-of (Ok t) denies h = tt
     none-of (Err fault) denies h = denies (method v) fault (frame_of regs stack fault.depth) known h
 
-    pub told-of : (r : Result (Unit {0}) CardFault) → FlawsAreTold (world_of v) → Refused r → IfErr r (λ (fault : CardFault). IsFlawKind fault.kind ↔ ¬ (IsWellFormed (method v)))
+    pub told-of : (r : Result (Unit {0}) CardFault) → FlawsAreTold (world_of v) → Refused r
+        → IfErr r (λ (fault : CardFault). IsFlawKind fault.kind ↔ ¬ (IsWellFormed (method v)))
     told-of (Ok t) told h = tt
     told-of (Err fault) told h = told (method v) fault (frame_of regs stack fault.depth) h
 
     -- where the method is well formed no flaw is told
-    pub kept-of : (r : Result (Unit {0}) CardFault) (P : Type 0) → FlawsAreTold (world_of v) → IsWellFormed (method v) → Refused r → IfErr r (λ (fault : CardFault). IsFlawKind fault.kind → P)
+    pub kept-of : (r : Result (Unit {0}) CardFault) (P : Type 0) → FlawsAreTold (world_of v) → IsWellFormed (method v) → Refused r
+        → IfErr r (λ (fault : CardFault). IsFlawKind fault.kind → P)
     kept-of (Ok t) P told formed h = tt
     kept-of (Err fault) P told formed h = λ k. absurd ((told (method v) fault (frame_of regs stack fault.depth) h).0 k formed)
 
     pub refused-flaw : (fault : CardFault) → TellsFlaw (method v) fault → IsRefused (world_of v) (method v) fault (frame_of regs stack fault.depth)
     refused-flaw fault t =
-        subst (λ (f : CardFault). IsRefused (world_of v) (method v) f (frame_of regs stack fault.depth)) (sym t.2) (refused_flaw t.0 (frame_of regs stack fault.depth) t.1)
+        subst (λ (f : CardFault). IsRefused (world_of v) (method v) f (frame_of regs stack fault.depth)) (sym t.2)
+        (refused_flaw t.0 (frame_of regs stack fault.depth) t.1)
 
 -- ---- a method of the world
 
-module _ (w : Linked) (n : ℕ) (rec : MethodRec) (code : List ℕ) (here : slice_get w.methods n ≡ Some rec) (bytes : option_map (code_of w.infos) (slice_get w.methods n) ≡ Some code) where
+module _ (w : Linked) (n : ℕ) (rec : MethodRec) (code : List ℕ) (here : slice_get w.methods n ≡ Some rec)
+    (bytes : option_map (code_of w.infos) (slice_get w.methods n) ≡ Some code) where
   own-code : code_of w.infos rec ≡ code
   own-code = same_Some _ _ (ap (option_map (code_of w.infos)) (sym here) ∙ bytes)
 
@@ -94,43 +105,56 @@ module _ (w : Linked) (n : ℕ) (rec : MethodRec) (code : List ℕ) (here : slic
   pub record-fact : (P : MethodRec → Type 0) → IsSomeAnd (slice_get w.methods n) P → P rec
   record-fact P h = subst (λ (o : Option MethodRec). IsSomeAnd o P) here h
 
-  pub is-method : length code ≡ rec.code_len → IsSomeAnd (slice_get w.methods n) (λ m. 0 < m.code_len) → IsMethodOf w (record { number = n; rec = rec; code = code })
+  pub is-method : length code ≡ rec.code_len → IsSomeAnd (slice_get w.methods n) (λ m. 0 < m.code_len)
+      → IsMethodOf w (record { number = n; rec = rec; code = code })
   is-method len has = let filled = record-fact (λ m. 0 < m.code_len) has in record { rec = here; code = sym own-code; filled = omega (arith, len, filled) }
 
-pub own-length : (w : Linked) (n : ℕ) (rec : MethodRec) (code bytes : List ℕ) → slice_get w.methods n ≡ Some rec → code ≡ bytes → IfSome (slice_get w.methods n) (λ m. length bytes ≡ m.code_len) → length code ≡ rec.code_len
+pub own-length : (w : Linked) (n : ℕ) (rec : MethodRec) (code bytes : List ℕ) → slice_get w.methods n ≡ Some rec → code ≡ bytes
+    → IfSome (slice_get w.methods n) (λ m. length bytes ≡ m.code_len) → length code ≡ rec.code_len
 own-length w n rec code bytes here same h = ap length same ∙ subst (λ (o : Option MethodRec). IfSome o (λ m. length bytes ≡ m.code_len)) here h
 
 -- ---- the methods of a world
 
-accepted-at : (w : Linked) (n : ℕ) (rec : MethodRec) (regs : List Ty) (r : Result (Unit {0}) CardFault) → OnOk r (IsLeastCardTyping w (method_with w n rec) regs) → OnOk r (HasFlowTyping w (method_with w n rec) Bottom) → OnOk r (IsAccepted w n rec)
+accepted-at : (w : Linked) (n : ℕ) (rec : MethodRec) (regs : List Ty) (r : Result (Unit {0}) CardFault)
+    → OnOk r (IsLeastCardTyping w (method_with w n rec) regs) → OnOk r (HasFlowTyping w (method_with w n rec) Bottom) → OnOk r (IsAccepted w n rec)
 accepted-at w n rec regs (Ok t) least flow = record { card = record { regs = regs; stacks = least.stacks; typing = least.typing }; flow = flow }
 accepted-at w n rec regs (Err fault) least flow = tt
 
-refused-at : (w : Linked) (n : ℕ) (rec : MethodRec) (regs stack : List Ty) (r : Result (Unit {0}) CardFault) → OnErr r (¬ (HasCardTyping w (method_with w n rec)))
-    → IfErr r (λ (fault : CardFault). IsRefused w (method_with w n rec) fault (frame_of regs stack fault.depth)) → IfErr r (λ (fault : CardFault). IsRefusedMethod w n rec fault)
+refused-at : (w : Linked) (n : ℕ) (rec : MethodRec) (regs stack : List Ty) (r : Result (Unit {0}) CardFault)
+    → OnErr r (¬ (HasCardTyping w (method_with w n rec)))
+    → IfErr r (λ (fault : CardFault). IsRefused w (method_with w n rec) fault (frame_of regs stack fault.depth))
+    → IfErr r (λ (fault : CardFault). IsRefusedMethod w n rec fault)
 refused-at w n rec regs stack (Ok t) none refused = tt
 refused-at w n rec regs stack (Err fault) none refused = record { none = none; kept = frame_of regs stack fault.depth; refused = refused }
 
-pub on-method : (w : Linked) (n : ℕ) (rec : MethodRec) (P : Method → Type 0) → slice_get w.methods n ≡ Some rec → IsSomeAnd (method_in w n) P → P (method_with w n rec)
+pub on-method : (w : Linked) (n : ℕ) (rec : MethodRec) (P : Method → Type 0) → slice_get w.methods n ≡ Some rec → IsSomeAnd (method_in w n) P
+    → P (method_with w n rec)
 on-method w n rec P here h = subst (λ (o : Option Method). IsSomeAnd o P) (ap (option_map (method_with w n)) here) h
 
 module _ (w : Linked) (n : ℕ) (rec : MethodRec) (here : slice_get w.methods n ≡ Some rec) (r : Result (Unit {0}) CardFault) (regs stack : List Ty) where
-  pub accepted-of : IsSomeAnd (method_in w n) (λ m. OnOk r (IsLeastCardTyping w m regs)) → IsSomeAnd (method_in w n) (λ m. OnOk r (HasFlowTyping w m Bottom)) → OnOk r (IsAcceptedAt w n)
+  pub accepted-of : IsSomeAnd (method_in w n) (λ m. OnOk r (IsLeastCardTyping w m regs))
+      → IsSomeAnd (method_in w n) (λ m. OnOk r (HasFlowTyping w m Bottom)) → OnOk r (IsAcceptedAt w n)
   accepted-of least flow =
       on-ok (IsAccepted w n rec) (IsAcceptedAt w n) r (λ a other is code. subst (IsAccepted w n) (same_Some _ _ (sym here ∙ is)) a)
-      (accepted-at w n rec regs r (on-method w n rec (λ m. OnOk r (IsLeastCardTyping w m regs)) here least) (on-method w n rec (λ m. OnOk r (HasFlowTyping w m Bottom)) here flow))
+      (accepted-at w n rec regs r (on-method w n rec (λ m. OnOk r (IsLeastCardTyping w m regs)) here least)
+      (on-method w n rec (λ m. OnOk r (HasFlowTyping w m Bottom)) here flow))
 
-  pub refused-of : 0 < rec.code_len → IsSomeAnd (method_in w n) (λ m. OnErr r (¬ (HasCardTyping w m))) → IsSomeAnd (method_in w n) (λ m. IfErr r (λ (fault : CardFault). IsRefused w m fault (frame_of regs stack fault.depth)))
+  pub refused-of : 0 < rec.code_len → IsSomeAnd (method_in w n) (λ m. OnErr r (¬ (HasCardTyping w m)))
+      → IsSomeAnd (method_in w n) (λ m. IfErr r (λ (fault : CardFault). IsRefused w m fault (frame_of regs stack fault.depth)))
       → IfErr r (λ (fault : CardFault). IsRefusedAt w n fault)
   refused-of code none refused =
-      by r (refused-at w n rec regs stack r (on-method w n rec (λ m. OnErr r (¬ (HasCardTyping w m))) here none) (on-method w n rec (λ m. IfErr r (λ (fault : CardFault). IsRefused w m fault (frame_of regs stack fault.depth))) here refused))
+      by r
+      (refused-at w n rec regs stack r (on-method w n rec (λ m. OnErr r (¬ (HasCardTyping w m))) here none)
+      (on-method w n rec (λ m. IfErr r (λ (fault : CardFault). IsRefused w m fault (frame_of regs stack fault.depth))) here refused))
     where
-      by : (s : Result (Unit {0}) CardFault) → IfErr s (λ (fault : CardFault). IsRefusedMethod w n rec fault) → IfErr s (λ (fault : CardFault). IsRefusedAt w n fault)
+      by : (s : Result (Unit {0}) CardFault) → IfErr s (λ (fault : CardFault). IsRefusedMethod w n rec fault)
+          → IfErr s (λ (fault : CardFault). IsRefusedAt w n fault)
       by (Ok t) h = tt
       by (Err fault) h = record { rec = rec; is = here; has_code = code; refused = h }
 
 pub accepted-bare : (w : Linked) (n : ℕ) (rec : MethodRec) → slice_get w.methods n ≡ Some rec → rec.code_len ≡ 0 → IsAcceptedAt w n
-accepted-bare w n rec here none other is code = let same : rec ≡ other = same_Some _ _ (sym here ∙ is) in absurd (omega (arith, none, ap (λ (m : MethodRec). m.code_len) same, code))
+accepted-bare w n rec here none other is code =
+    let same : rec ≡ other = same_Some _ _ (sym here ∙ is) in absurd (omega (arith, none, ap (λ (m : MethodRec). m.code_len) same, code))
 
 pub accepted-more : (w : Linked) (n : ℕ) → AreAcceptedBefore w n → IsAcceptedAt w n → AreAcceptedBefore w (n + 1)
 accepted-more w n before here k lt = ⊎_elim (λ lower. before k lower) (λ le. subst (IsAcceptedAt w) (omega (arith, le, lt)) here) (cases_lt k n)

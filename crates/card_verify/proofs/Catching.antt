@@ -1,5 +1,6 @@
 -- The join of the classes that are caught where handlers begin.
-use Rattle.std.proofs.Common.{◌≡◌, ℕ, ◌+◌, ◌<◌, ◌≤◌, ◌⊎◌, inl, inr, ⊎_elim, Option, Some, None, List, length, slice_get, get_or, All, IfSome, IsSomeAnd, sym, ◌∙◌, ap, subst, arith, Contains}
+use Rattle.std.proofs.Common.{◌≡◌, ℕ, ◌+◌, ◌<◌, ◌≤◌, ◌⊎◌, inl, inr, ⊎_elim, Option, Some, None, List, length, slice_get, get_or}
+use Rattle.std.proofs.Common.{All, IfSome, IsSomeAnd, sym, ◌∙◌, ap, subst, arith, Contains}
 use Rattle.std.proofs.lemmas.Bool.{cases_lt, cases_eq}
 use Rattle.std.proofs.lemmas.Option.{slice_get_within, slice_get-get_or, get_or_from_slice_get}
 use Rattle.jc_base.specs.declared.ty.Ty.{Ty}
@@ -61,21 +62,25 @@ module _ (t : ClassTable) (hs : List Handler) (place : ℕ) where
     itself : h.entry ≡ place → IsCaughtBelow t hs place (n + 1) h
     itself e = record { number = n; below = omega arith; here = is; begins = e }
 
-    pub caught-here : (o : Option ℕ) (c : ℕ) → h.entry ≡ place → IsClass t h.class → CaughtBelow t hs n place o → IsJoined t o h.class c → CaughtBelow t hs (n + 1) place (Some c)
+    pub caught-here : (o : Option ℕ) (c : ℕ) → h.entry ≡ place → IsClass t h.class → CaughtBelow t hs n place o → IsJoined t o h.class c
+        → CaughtBelow t hs (n + 1) place (Some c)
     caught-here None c begins class none e = subst (λ d. CaughtBelow t hs (n + 1) place (Some d)) (sym e) (
       class,
-      λ g k. ⊎_elim (λ before. absurd (none g before)) (λ same_handler. subst (λ (x : Handler). Below t (Class x.class) (Class h.class)) (sym same_handler) same) (more g k),
+      λ g k. ⊎_elim (λ before. absurd (none g before))
+          (λ same_handler. subst (λ (x : Handler). Below t (Class x.class) (Class h.class)) (sym same_handler) same) (more g k),
       λ u above. above h (itself begins),
     )
     caught-here (Some d) c begins class s j = (
       j.0,
-      λ g k. ⊎_elim (λ before. joined (s.1 g before) j.1.left) (λ same_handler. subst (λ (x : Handler). Below t (Class x.class) (Class c)) (sym same_handler) j.1.right) (more g k),
+      λ g k. ⊎_elim (λ before. joined (s.1 g before) j.1.left)
+          (λ same_handler. subst (λ (x : Handler). Below t (Class x.class) (Class c)) (sym same_handler) j.1.right) (more g k),
       λ u above. j.1.least u (s.2 u (λ g k. above g (fewer n g k))) (above h (itself begins)),
     )
 
 module _ (t : ClassTable) (m : Method) (place n : ℕ) (all : length m.rec.handlers ≤ n) where
   listed : (h : Handler) → Contains m.rec.handlers h → h.entry ≡ place → IsCaughtBelow t m.rec.handlers place n h
-  listed h c e = record { number = c.0; below = let lt = c.1 in omega (arith, lt, all); here = slice_get-get_or m.rec.handlers c.0 h c.1 ∙ ap Some c.2; begins = e }
+  listed h c e =
+      record { number = c.0; below = let lt = c.1 in omega (arith, lt, all); here = slice_get-get_or m.rec.handlers c.0 h c.1 ∙ ap Some c.2; begins = e }
 
   found : (h : Handler) → IsCaughtBelow t m.rec.handlers place n h → Contains m.rec.handlers h
   found h c = (c.number, slice_get_within m.rec.handlers c.number h c.here, get_or_from_slice_get m.rec.handlers c.number h h c.here)
@@ -98,7 +103,8 @@ module _ (t : ClassTable) (hs items : List Handler) (place n : ℕ) (d : Handler
   pub next-other : (o : Option ℕ) → ¬ ((get_or items n d).entry ≡ place) → CaughtBelow t hs n place o → CaughtBelow t hs (n + 1) place o
   next-other o other s = caught-other t hs place n (get_or items n d) here-is o other s
 
-  pub next-here : (o : Option ℕ) (c : ℕ) → (get_or items n d).entry ≡ place → IsClass t (get_or items n d).class → CaughtBelow t hs n place o → IsJoined t o (get_or items n d).class c → CaughtBelow t hs (n + 1) place (Some c)
+  pub next-here : (o : Option ℕ) (c : ℕ) → (get_or items n d).entry ≡ place → IsClass t (get_or items n d).class → CaughtBelow t hs n place o
+      → IsJoined t o (get_or items n d).class c → CaughtBelow t hs (n + 1) place (Some c)
   next-here o c begins class s j = caught-here t hs place n (get_or items n d) here-is o c begins class s j
 
 pub caught-class : (t : ClassTable) (hs : List Handler) (n place : ℕ) (o : Option ℕ) → CaughtBelow t hs n place o → IfSome o (IsClass t)
@@ -106,20 +112,26 @@ caught-class t hs n place None s = tt
 caught-class t hs n place (Some c) s = s.0
 
 pub next-with : (t : ClassTable) (hs items : List Handler) (place n : ℕ) (d : Handler) (before after : Option ℕ) → items ≡ hs → n < length items
-    → IsClass t (get_or items n d).class → IsCaughtWith t place (get_or items n d) before after → CaughtBelow t hs n place before → CaughtBelow t hs (n + 1) place after
+    → IsClass t (get_or items n d).class → IsCaughtWith t place (get_or items n d) before after → CaughtBelow t hs n place before
+    → CaughtBelow t hs (n + 1) place after
 next-with t hs items place n d before after same_items inside class w s =
-    ⊎_elim (λ e. here after (w.here e) e) (λ other. subst (CaughtBelow t hs (n + 1) place) (sym (w.other other)) (next-other t hs items place n d same_items inside before other s)) (cases_eq (get_or items n d).entry place)
+    ⊎_elim (λ e. here after (w.here e) e)
+    (λ other. subst (CaughtBelow t hs (n + 1) place) (sym (w.other other)) (next-other t hs items place n d same_items inside before other s))
+    (cases_eq (get_or items n d).entry place)
   where
-    here : (o : Option ℕ) → IsSomeAnd o (IsJoined t before (get_or items n d).class) → (get_or items n d).entry ≡ place → CaughtBelow t hs (n + 1) place o
+    here : (o : Option ℕ) → IsSomeAnd o (IsJoined t before (get_or items n d).class) → (get_or items n d).entry ≡ place
+        → CaughtBelow t hs (n + 1) place o
     here None j e = absurd j
     here (Some c) j e = next-here t hs items place n d same_items inside before c e class s j
 
 -- the class that a handler of the method catches
-pub handler-class : (w : Linked) (m : Method) (t : ClassTable) (items : List Handler) (n : ℕ) (d : Handler) → t ≡ w.classes → IsWorld w → IsMethodOf w m → items ≡ m.rec.handlers → n < length items
+pub handler-class : (w : Linked) (m : Method) (t : ClassTable) (items : List Handler) (n : ℕ) (d : Handler) → t ≡ w.classes → IsWorld w
+    → IsMethodOf w m → items ≡ m.rec.handlers → n < length items
     → IsClass t (get_or items n d).class
 handler-class w m t items n d own is mo e inside =
     let method = All-slice_get (IsMethod w.infos w.pools w.classes) w.methods m.number m.rec is.methods mo.rec in
-    subst (λ (u : ClassTable). IsClass u (get_or items n d).class) (sym own) (subst (All (IsHandler w.classes (list_at w.pools m.rec.package) m.rec.code_len)) (sym e) method.handlers n d inside).class
+    subst (λ (u : ClassTable). IsClass u (get_or items n d).class) (sym own)
+    (subst (All (IsHandler w.classes (list_at w.pools m.rec.package) m.rec.code_len)) (sym e) method.handlers n d inside).class
 
 pub few-handlers : (w : Linked) (m : Method) → IsWorld w → IsMethodOf w m → length m.rec.handlers ≤ 255
 few-handlers w m is mo = (All-slice_get (IsMethod w.infos w.pools w.classes) w.methods m.number m.rec is.methods mo.rec).few_handlers

@@ -1,5 +1,6 @@
 -- Sums and products in which steps are counted.
-use Rattle.std.proofs.Common.{◌≡◌, ℕ, zero, suc, ◌+◌, ◌*◌, ◌<◌, ◌≤◌, List, [], ◌∷◌, ◌++◌, length, sum_by, Result, Ok, Err, OnOk, refl, sym, ap, ◌∙◌, arith}
+use Rattle.std.proofs.Common.{◌≡◌, ℕ, zero, suc, ◌+◌, ◌*◌, ◌<◌, ◌≤◌, List, [], ◌∷◌, ◌++◌, length, sum_by, Result, Ok, Err}
+use Rattle.std.proofs.Common.{OnOk, refl, sym, ap, ◌∙◌, arith}
 use Rattle.std.proofs.Math.Nat.{mul_assoc, mul-suc, suc-mul}
 use Rattle.std.proofs.lemmas.List.{length-append}
 use Rattle.std.proofs.lemmas.List.Sums.{sum_by-append, sum_by-cons}
@@ -45,9 +46,11 @@ module _ {A : Type 0} where
       let one : sum_by f (x ∷ []) ≡ f x = sum_by-cons f x [] ∙ omega arith in
       ap (λ n. n * b) (sum_by-append f xs (x ∷ []) ∙ ap (λ n. sum_by f xs + n) one) ∙ add-times (sum_by f xs) (f x) b
 
-  pub sum-within : (f : A → ℕ) (xs : List A) (x : A) (rest whole : List A) (b : ℕ) → xs ++ x ∷ rest ≡ whole → sum_by f xs * b + f x * b ≤ sum_by f whole * b
+  pub sum-within : (f : A → ℕ) (xs : List A) (x : A) (rest whole : List A) (b : ℕ) → xs ++ x ∷ rest ≡ whole
+      → sum_by f xs * b + f x * b ≤ sum_by f whole * b
   sum-within f xs x rest whole b e =
-      let parts : sum_by f whole ≡ sum_by f xs + (f x + sum_by f rest) = ap (sum_by f) (sym e) ∙ sum_by-append f xs (x ∷ rest) ∙ ap (λ n. sum_by f xs + n) (sum_by-cons f x rest) in
+      let parts : sum_by f whole ≡ sum_by f xs + (f x + sum_by f rest) = ap (sum_by f) (sym e) ∙ sum_by-append f xs (x ∷ rest)
+      ∙ ap (λ n. sum_by f xs + n) (sum_by-cons f x rest) in
       omega (arith, grow (sum_by f xs + f x) (sum_by f whole) b (omega (arith, parts)), add-times (sum_by f xs) (f x) b)
 
 -- one rise fewer pays for a pass
@@ -60,7 +63,8 @@ pub last-pass : (left u : ℕ) → u ≤ (1 + left) * u
 last-pass left u = let whole : suc left ≡ 1 + left = omega arith in rw (← whole) (omega (arith, suc-mul left u))
 
 -- what registers have left to rise
-pub most-rises : (t : ClassTable) (regs : List Ty) → ((a : Ty) → rises_left t a ≤ height t + 3) → sum_by (rises_left t) regs ≤ length regs * (height t + 3)
+pub most-rises : (t : ClassTable) (regs : List Ty) → ((a : Ty) → rises_left t a ≤ height t + 3)
+    → sum_by (rises_left t) regs ≤ length regs * (height t + 3)
 most-rises t [] most = omega arith
 most-rises t (a ∷ regs) most =
     omega (arith, sum_by-cons (rises_left t) a regs, suc-mul (length regs) (height t + 3), most-rises t regs most, most a)

@@ -22,7 +22,8 @@ use Rattle.card_typing.specs.Refusal.{IsWrong, wrong_entry, wrong_room, wrong_ta
 use Rattle.card_typing.specs.Laws.{MetIsBelow, RefusalDenies}
 use Rattle.card_verify.specs.IndexTyping.{IsExactIndex}
 use Rattle.card_verify.specs.Met.{IsMetOver, met_over_start, met_over_next}
-use Rattle.card_verify.specs.Refusal.{IsBadEntry, bad_place, bad_order, IsFirstLacking, IsWrongOver, wrong_over_entry, wrong_over_room, wrong_over_stack, wrong_over_open, IsRefusedOver, over_flaw, over_entry, over_target, over_state}
+use Rattle.card_verify.specs.Refusal.{IsBadEntry, bad_place, bad_order, IsFirstLacking, IsWrongOver, wrong_over_entry, wrong_over_room, wrong_over_stack}
+use Rattle.card_verify.specs.Refusal.{wrong_over_open, IsRefusedOver, over_flaw, over_entry, over_target, over_state}
 use Rattle.card_verify.specs.OverIndex.{IndexedIsTyped, ExactServes, ExactRefuses, RefusalDeniesOver}
 
 below-empty : (t : ClassTable) (xs ys : List Ty) → CellsBelow t xs ys → ys ≡ [] → xs ≡ []
@@ -35,7 +36,8 @@ indexed-typed w m index h = record { regs = h.regs; stacks = h.stacks; typing = 
 -- a state that is met over an index is met without one
 pub met-plainly : (w : Linked) (m : Method) (index : List ℕ) (q : ℕ) (f : Frame) → IsMetOver w m index q f → IsMet w m q f
 met-plainly w m index _ _ (met_over_start stack a) = met_start stack a
-met-plainly w m index _ _ (met_over_next i q before after o stack met suits passed goes a) = met_next i q before after o stack (met-plainly w m index i.place before met) passed goes a
+met-plainly w m index _ _ (met_over_next i q before after o stack met suits passed goes a) =
+    met_next i q before after o stack (met-plainly w m index i.place before met) passed goes a
 
 -- an index with a bad entry is none
 pub no-bad : (m : Method) (index : List ℕ) → IsAscending index → All (IsPlace m.code) index → (k : ℕ) → IsBadEntry m.code index k → ⊥
@@ -66,7 +68,8 @@ module _ (w : Linked) (below : MetIsBelow w) (denies : RefusalDenies w) where
           anyway g s bad = denies m (fault_at i.place g s) s mo (refused_state i before s g formed there plainly bad) (indexed-typed w m index h)
 
           wrongly : (g : CardKind) (s : Frame) → IsWrongOver w m index i before g s → ⊥
-          wrongly _ _ (wrong_over_entry entry from) = ⊎_elim (λ fallen. anyway _ _ (wrong_entry entry (inl fallen))) (λ listed. (h.typing.clear i.place listed).0 entry) from
+          wrongly _ _ (wrong_over_entry entry from) =
+              ⊎_elim (λ fallen. anyway _ _ (wrong_entry entry (inl fallen))) (λ listed. (h.typing.clear i.place listed).0 entry) from
           wrongly _ _ (wrong_over_room entry alone full) =
               anyway _ _ (wrong_room entry (λ from. alone (⊎_elim (λ fallen. inl fallen) (λ target. inr (whole.complete i.place target)) from)) full)
           wrongly _ _ (wrong_over_stack free listed fallen deep) =
@@ -80,7 +83,9 @@ target-place : (m : Method) → IsWellFormed m → (q : ℕ) → IsTarget m q �
 target-place m formed q t = All-contains (IsTargetPlace m.code) (targets m.code t.from) (pos q) (formed.targets t.from t.stands) t.leads
 
 exact-places : (m : Method) (index : List ℕ) → IsWellFormed m → IsExactIndex m index → All (IsPlace m.code) index
-exact-places m index formed exact k d lt = target-place m formed (get_or index k d) ((exact.targets (get_or index k d)).0 (Contains-slice_get index k (get_or index k d) (slice_get-get_or index k d lt)))
+exact-places m index formed exact k d lt =
+    target-place m formed (get_or index k d)
+    ((exact.targets (get_or index k d)).0 (Contains-slice_get index k (get_or index k d) (slice_get-get_or index k d lt)))
 
 pub exact-serves : (w : Linked) → ExactServes w
 exact-serves w m index exact = (
@@ -103,10 +108,13 @@ exact-refuses w m index fault kept exact r = by fault kept r
     by _ _ (over_flaw flaw k first) = refused_flaw flaw k first
     by _ _ (over_entry n k formed first) = absurd (no-bad m index exact.ascending (exact-places m index formed exact) n first.bad)
     by _ _ (over_target place q k formed up places first) = absurd (first.lacks.fails ((exact.targets q).1 (lacking-target m index place q first)))
-    by _ _ (over_state i before k kind formed whole there met wrong) = refused_state i before k kind formed there (met-plainly w m index i.place before met) (plainly kind k wrong)
+    by _ _ (over_state i before k kind formed whole there met wrong) =
+        refused_state i before k kind formed there (met-plainly w m index i.place before met) (plainly kind k wrong)
       where
         plainly : (g : CardKind) (s : Frame) → IsWrongOver w m index i before g s → IsWrong w m i before g s
-        plainly _ _ (wrong_over_entry entry from) = wrong_entry entry (⊎_elim (λ fallen. inl fallen) (λ listed. inr ((exact.targets i.place).0 listed)) from)
-        plainly _ _ (wrong_over_room entry alone full) = wrong_room entry (λ from. alone (⊎_elim (λ fallen. inl fallen) (λ target. inr ((exact.targets i.place).1 target)) from)) full
+        plainly _ _ (wrong_over_entry entry from) =
+            wrong_entry entry (⊎_elim (λ fallen. inl fallen) (λ listed. inr ((exact.targets i.place).0 listed)) from)
+        plainly _ _ (wrong_over_room entry alone full) =
+            wrong_room entry (λ from. alone (⊎_elim (λ fallen. inl fallen) (λ target. inr ((exact.targets i.place).1 target)) from)) full
         plainly _ _ (wrong_over_stack free listed fallen deep) = wrong_target free ((exact.targets i.place).0 listed) fallen deep
         plainly _ _ (wrong_over_open g s suits bad) = bad

@@ -1,5 +1,6 @@
 -- A search by halving in an ascending list.
-use Rattle.std.proofs.Common.{◌≡◌, ℕ, zero, suc, ◌+◌, ◌-◌, ◌*◌, ◌/◌, ◌^◌, ◌<◌, ◌≤◌, ⊎_elim, Bool, true, false, List, [], ◌∷◌, length, get_or, Option, Some, None, MatchBool, Contains, slice_get, refl, sym, ap, subst, ◌∙◌, arith}
+use Rattle.std.proofs.Common.{◌≡◌, ℕ, zero, suc, ◌+◌, ◌-◌, ◌*◌, ◌/◌, ◌^◌, ◌<◌, ◌≤◌, ⊎_elim, Bool, true, false, List, []}
+use Rattle.std.proofs.Common.{◌∷◌, length, get_or, Option, Some, None, MatchBool, Contains, slice_get, refl, sym, ap, subst, ◌∙◌, arith}
 use Rattle.std.proofs.Math.Nat.{mul_assoc, suc-mul, pow-succ'}
 use Rattle.std.proofs.Math.Pow.{pow_mono}
 use Rattle.std.proofs.lemmas.Bool.{cases_lt}
@@ -9,7 +10,8 @@ use Rattle.card_verify.proofs.Costs.{grow}
 
 -- ---- ascending lists
 
-pub ascending-far : (index : List ℕ) → IsAscending index → (k j p q : ℕ) → k < j → slice_get index k ≡ Some p → slice_get index j ≡ Some q → p < q
+pub ascending-far : (index : List ℕ) → IsAscending index → (k j p q : ℕ) → k < j → slice_get index k ≡ Some p → slice_get index j ≡ Some q
+    → p < q
 ascending-far index up k zero p q lt at there = absurd (omega (arith, lt))
 ascending-far index up k (suc j) p q lt at there =
     let step : j + 1 ≡ suc j = omega arith in
@@ -67,7 +69,8 @@ halves n h t len half le = rw (double t) (rw (← mul_assoc h 2 (2 ^ t)) (omega 
     double : (k : ℕ) → 2 ^ (k + 1) ≡ 2 * 2 ^ k
     double k = let next : k + 1 ≡ suc k = omega arith in ap (λ n. 2 ^ n) next ∙ pow-succ' 2 k
 
-module _ (index : List ℕ) (up : IsAscending index) (place low high taken middle found : ℕ) (so_far : IsNarrowed index place low high taken) (some : low < high)
+module _ (index : List ℕ) (up : IsAscending index) (place low high taken middle found : ℕ) (so_far : IsNarrowed index place low high taken)
+    (some : low < high)
     (half : middle ≡ low + (high - low) / 2) (at : slice_get index middle ≡ Some found) where
   seldom-next : (b : ℕ) → length index < 2 ^ b → taken + 1 ≤ b
   seldom-next b lt = digit (high - low) taken (length index) b (omega (arith, some)) so_far.fewer lt
@@ -93,7 +96,9 @@ module _ (index : List ℕ) (up : IsAscending index) (place low high taken middl
     order = omega (arith, some, half);
     inside = omega (arith, slice_get_within index middle found at);
     below = so_far.below;
-    above = λ k q le here. ⊎_elim (λ earlier. absurd (omega (arith, earlier, le))) (λ ge. ⊎_elim (λ later. let far = ascending-far index up middle k found q later at here in omega (arith, far, more)) (λ no.
+    above =
+        λ k q le here. ⊎_elim (λ earlier. absurd (omega (arith, earlier, le)))
+        (λ ge. ⊎_elim (λ later. let far = ascending-far index up middle k found q later at here in omega (arith, far, more)) (λ no.
         let same : k ≡ middle = omega (arith, le, no) in
         let own : q ≡ found = same_Some q found (sym here ∙ ap (slice_get index) same ∙ at) in
         omega (arith, own, more)) (cases_lt middle k)) (cases_lt k middle);
@@ -107,7 +112,8 @@ contains-found index middle found place at same = (middle, slice_get_within inde
 pub contains-none : (index : List ℕ) (place low high taken : ℕ) → IsNarrowed index place low high taken → high ≤ low → ¬ (Contains index place)
 contains-none index place low high taken so_far over c =
     let there : slice_get index c.0 ≡ Some place = slice_get-get_or index c.0 place c.1 ∙ ap Some c.2 in
-    ⊎_elim (λ lt. let less = so_far.below c.0 place lt there in omega (arith, less)) (λ ge. let more = so_far.above c.0 place (omega (arith, ge, over)) there in omega (arith, more)) (cases_lt c.0 low)
+    ⊎_elim (λ lt. let less = so_far.below c.0 place lt there in omega (arith, less))
+    (λ ge. let more = so_far.above c.0 place (omega (arith, ge, over)) there in omega (arith, more)) (cases_lt c.0 low)
 
 -- what is not below and not equal is above
 pub above-from : (a b c : ℕ) → a ≡ c → ¬ (a ≡ b) → b ≤ a → b < c

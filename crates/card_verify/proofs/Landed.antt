@@ -1,5 +1,6 @@
 -- A walk over an index comes to a place with a stack, which may stand there or not.
-use Rattle.std.proofs.Common.{◌≡◌, ℕ, zero, suc, ◌<◌, ◌≤◌, ◌⊎◌, inl, inr, ⊎_elim, Bool, true, false, List, [], length, MatchBool, Contains, Result, Ok, Err, IfOk, IfErr, refl, sym, ◌∙◌, ap, subst, arith}
+use Rattle.std.proofs.Common.{◌≡◌, ℕ, zero, suc, ◌<◌, ◌≤◌, ◌⊎◌, inl, inr, ⊎_elim, Bool, true, false, List, [], length, MatchBool}
+use Rattle.std.proofs.Common.{Contains, Result, Ok, Err, IfOk, IfErr, refl, sym, ◌∙◌, ap, subst, arith}
 use Rattle.jc_base.specs.declared.ty.Ty.{Ty}
 use Rattle.jc_base.specs.declared.ty.Ty.TheVariants.{Class}
 use Rattle.jc_ops.specs.declared.fault.RuleFault.TheVariants.{Overflow}
@@ -54,18 +55,23 @@ module _ (x : Indexed) (is : IsIndexed x) (place : ℕ) (arrival : Arrival) (her
     pub mislanded-over-target : (depth : ℕ) → depth ≡ left arrival → arrival.depth ≤ length stack → IsBlockedOver here arrival
         → IsMislandedOver x arrival stack stack (record { place = place; depth = depth; kind = StackAtTarget })
     mislanded-over-target depth is_left le blocked = record {
-      arrives = subst (λ (n : ℕ). Arrives (world_in x) m arrival.may_fall (cells stack arrival.depth) place (cells stack n)) (sym is_left) (arrived v place arrival stack free fallen arrival.may_fall refl);
+      arrives =
+          subst (λ (n : ℕ). Arrives (world_in x) m arrival.may_fall (cells stack arrival.depth) place (cells stack n)) (sym is_left)
+          (arrived v place arrival stack free fallen arrival.may_fall refl);
       wrong = λ i regs at.
           wrong_over_stack
           (λ e. free (subst (IsEntry m) at e))
           (subst (Contains (listed x)) (sym at) (when-true (Contains (listed x) place) here told blocked.1))
-          (subst (IsFallenInto m) (sym at) (when-true (IsFallenInto m place) arrival.may_fall fallen (falling v place arrival stack free fallen arrival.may_fall refl blocked.0)))
-          (subst (λ (n : ℕ). cells stack n ≡ [] → ⊥) (sym is_left) (some-cells stack (left arrival) (within v place arrival stack free fallen arrival.may_fall le) blocked.0));
+          (subst (IsFallenInto m) (sym at)
+          (when-true (IsFallenInto m place) arrival.may_fall fallen (falling v place arrival stack free fallen arrival.may_fall refl blocked.0)))
+          (subst (λ (n : ℕ). cells stack n ≡ [] → ⊥) (sym is_left)
+          (some-cells stack (left arrival) (within v place arrival stack free fallen arrival.may_fall le) blocked.0));
       within = subst (λ (n : ℕ). n ≤ length stack) (sym is_left) (within v place arrival stack free fallen arrival.may_fall le);
     }
 
   -- a handler begins there
-  module _ (before after : List Ty) (depth c : ℕ) (entry : IsEntry m place) (catches : CatchesAt (world_in x).classes m place c) (room : length before ≡ m.rec.max_stack) (long : length after ≡ length before) (put : IsPut before (Class c) after depth)
+  module _ (before after : List Ty) (depth c : ℕ) (entry : IsEntry m place) (catches : CatchesAt (world_in x).classes m place c)
+      (room : length before ≡ m.rec.max_stack) (long : length after ≡ length before) (put : IsPut before (Class c) after depth)
       (fallen : MatchBool arrival.may_fall (IsFallenInto m place) (¬ (IsFallenInto m place))) where
     unshared : ¬ (IsSharedOver here arrival) → ¬ (IsShared v place arrival)
     unshared other (inl falls) = other (inl falls)
@@ -93,13 +99,15 @@ module _ (x : Indexed) (is : IsIndexed x) (place : ℕ) (arrival : Arrival) (her
     pub over-depth : depth ≤ m.rec.max_stack
     over-depth = put-depth v place arrival before after depth c entry catches room long put fallen
 
-    pub mislanded-over-entry : IsSharedOver here arrival → IsMislandedOver x arrival before after (record { place = place; depth = depth; kind = HandlerEntered })
+    pub mislanded-over-entry : IsSharedOver here arrival
+        → IsMislandedOver x arrival before after (record { place = place; depth = depth; kind = HandlerEntered })
     mislanded-over-entry from = record {
       arrives = entered v place arrival before after depth c entry catches room long put fallen;
       wrong = λ i regs at.
           wrong_over_entry (subst (IsEntry m) (sym at) entry)
           (subst (λ q. IsFallenInto m q ⊎ Contains (listed x) q) (sym at)
-          (⊎_elim (λ falls. inl (when-true (IsFallenInto m place) arrival.may_fall fallen falls)) (λ h. inr (when-true (Contains (listed x) place) here told h)) from));
+          (⊎_elim (λ falls. inl (when-true (IsFallenInto m place) arrival.may_fall fallen falls))
+          (λ h. inr (when-true (Contains (listed x) place) here told h)) from));
       within = let most = over-depth in omega (arith, most, long, room);
     }
 
@@ -107,12 +115,14 @@ module _ (x : Indexed) (is : IsIndexed x) (place : ℕ) (arrival : Arrival) (her
     no-room none (inl full) = sym room ∙ full.0
     no-room none (inr there) = absurd (omega (arith, there.1, none))
 
-    pub mislanded-over-room : depth ≡ 0 → ¬ (IsSharedOver here arrival) → IsMislandedOver x arrival before after (record { place = place; depth = depth; kind = Rule Overflow })
+    pub mislanded-over-room : depth ≡ 0 → ¬ (IsSharedOver here arrival)
+        → IsMislandedOver x arrival before after (record { place = place; depth = depth; kind = Rule Overflow })
     mislanded-over-room none other = record {
       arrives = entered v place arrival before after depth c entry catches room long put fallen;
       wrong = λ i regs at.
           wrong_over_room (subst (IsEntry m) (sym at) entry)
-          (subst (λ q. ¬ (IsFallenInto m q ⊎ Contains (listed x) q)) (sym at) (λ either. ⊎_elim (unfallen other arrival.may_fall refl) (unlisted other) either))
+          (subst (λ q. ¬ (IsFallenInto m q ⊎ Contains (listed x) q)) (sym at)
+          (λ either. ⊎_elim (unfallen other arrival.may_fall refl) (unlisted other) either))
           (no-room none put);
       within = omega (arith, none);
     }
@@ -126,29 +136,34 @@ module _ (x : Indexed) (i : Placed) (arrival : Arrival) (place : ℕ) (here : pl
   over-open : (given : List Ty) → IsLandedOver x place arrival stack given → IsOpenOver (subject x) (listed x) i.place given
   over-open given l = subst (λ n. IsOpenOver (subject x) (listed x) n given) here l.suits
 
-  pub over-arrives : (given : List Ty) → IsLandedOver x place arrival stack given → Arrives (world_in x) (subject x) arrival.may_fall (cells stack arrival.depth) i.place given
+  pub over-arrives : (given : List Ty) → IsLandedOver x place arrival stack given
+      → Arrives (world_in x) (subject x) arrival.may_fall (cells stack arrival.depth) i.place given
   over-arrives given l = subst (λ n. Arrives (world_in x) (subject x) arrival.may_fall (cells stack arrival.depth) n given) here l.landed.arrives
 
-  pub stopped-over-landing : (stack_after : List Ty) (fault : CardFault) → fault.place ≡ place → IsMislandedOver x arrival stack stack_after fault → IsStoppedOver x i arrival regs stack regs stack_after fault
+  pub stopped-over-landing : (stack_after : List Ty) (fault : CardFault) → fault.place ≡ place → IsMislandedOver x arrival stack stack_after fault
+      → IsStoppedOver x i arrival regs stack regs stack_after fault
   stopped-over-landing stack_after fault at mis =
       let same : fault.place ≡ i.place = at ∙ here in
       record {
         given = cells stack_after fault.depth;
-        arrives = subst (λ n. Arrives (world_in x) (subject x) arrival.may_fall (cells stack arrival.depth) n (cells stack_after fault.depth)) same mis.arrives;
+        arrives =
+            subst (λ n. Arrives (world_in x) (subject x) arrival.may_fall (cells stack arrival.depth) n (cells stack_after fault.depth)) same mis.arrives;
         place = same;
         wrong = mis.wrong i regs (sym same);
         within = mis.within;
       }
 
   module _ (given regs_after stack_after : List Ty) (l : IsLandedOver x place arrival stack given) where
-    pub visited-over : (r : Result Outcome CardFault) → IfOk r (λ o. IsStepped x.verifier i regs given regs_after stack_after o) → IfOk r (λ o. IsVisitedOver x i arrival regs stack regs_after stack_after o)
+    pub visited-over : (r : Result Outcome CardFault) → IfOk r (λ o. IsStepped x.verifier i regs given regs_after stack_after o)
+        → IfOk r (λ o. IsVisitedOver x i arrival regs stack regs_after stack_after o)
     visited-over (Ok o) s = record {
       visited = record { given = given; arrives = over-arrives given l; stepped = s };
       suits = over-open given l;
     }
     visited-over (Err f) s = tt
 
-    pub stopped-over : (r : Result Outcome CardFault) → IfErr r (λ f. IsFailing x.verifier i regs given regs_after stack_after f) → IfErr r (λ f. IsStoppedOver x i arrival regs stack regs_after stack_after f)
+    pub stopped-over : (r : Result Outcome CardFault) → IfErr r (λ f. IsFailing x.verifier i regs given regs_after stack_after f)
+        → IfErr r (λ f. IsStoppedOver x i arrival regs stack regs_after stack_after f)
     stopped-over (Ok o) s = tt
     stopped-over (Err f) s = record {
       given = given;

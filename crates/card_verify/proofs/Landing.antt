@@ -1,5 +1,6 @@
 -- A walk comes to a place with a stack, which may stand there or not.
-use Rattle.std.proofs.Common.{◌≡◌, ◌≢◌, ℕ, zero, suc, ◌<◌, ◌≤◌, ◌⊎◌, inl, inr, ⊎_elim, Bool, true, false, ◌==◌, if◌then◌else◌, List, [], ◌∷◌, length, set, MatchBool, refl, sym, ◌∙◌, ap, subst, arith}
+use Rattle.std.proofs.Common.{◌≡◌, ◌≢◌, ℕ, zero, suc, ◌<◌, ◌≤◌, ◌⊎◌, inl, inr, ⊎_elim, Bool, true, false, ◌==◌}
+use Rattle.std.proofs.Common.{if◌then◌else◌, List, [], ◌∷◌, length, set, MatchBool, refl, sym, ◌∙◌, ap, subst, arith}
 use Rattle.std.proofs.lemmas.Bool.{false≢true}
 use Rattle.jc_base.specs.declared.ty.Ty.{Ty}
 use Rattle.jc_base.specs.declared.ty.Ty.TheVariants.{Class}
@@ -47,7 +48,8 @@ module _ (v : Verifier) (place : ℕ) (arrival : Arrival) where
 
   -- no handler begins there
   module _ (stack : List Ty) (free : ¬ (IsEntry m place)) (fallen : MatchBool arrival.may_fall (IsFallenInto m place) (¬ (IsFallenInto m place))) where
-    pub arrived : (b : Bool) → arrival.may_fall ≡ b → Arrives (world_of v) m arrival.may_fall (cells stack arrival.depth) place (cells stack (if b then arrival.depth else 0))
+    pub arrived : (b : Bool) → arrival.may_fall ≡ b → Arrives (world_of v) m arrival.may_fall (cells stack arrival.depth) place
+        (cells stack (if b then arrival.depth else 0))
     arrived true e = arrives_falling free e
     arrived false e = subst (Arrives (world_of v) m arrival.may_fall (cells stack arrival.depth) place) (sym (no-cells stack)) (arrives_empty free e)
 
@@ -76,7 +78,9 @@ module _ (v : Verifier) (place : ℕ) (arrival : Arrival) where
     pub mislanded-target : (depth : ℕ) → depth ≡ left arrival → arrival.depth ≤ length stack → IsBlocked v place arrival
         → IsMislanded v arrival stack stack (record { place = place; depth = depth; kind = StackAtTarget })
     mislanded-target depth is le blocked = record {
-      arrives = subst (λ (n : ℕ). Arrives (world_of v) m arrival.may_fall (cells stack arrival.depth) place (cells stack n)) (sym is) (arrived arrival.may_fall refl);
+      arrives =
+          subst (λ (n : ℕ). Arrives (world_of v) m arrival.may_fall (cells stack arrival.depth) place (cells stack n)) (sym is)
+          (arrived arrival.may_fall refl);
       wrong = λ i regs here.
           wrong_target
           (λ e. free (subst (IsEntry m) here e))
@@ -87,7 +91,8 @@ module _ (v : Verifier) (place : ℕ) (arrival : Arrival) where
     }
 
   -- a handler begins there
-  module _ (before after : List Ty) (depth c : ℕ) (entry : IsEntry m place) (catches : CatchesAt (world_of v).classes m place c) (room : length before ≡ m.rec.max_stack) (long : length after ≡ length before) (put : IsPut before (Class c) after depth)
+  module _ (before after : List Ty) (depth c : ℕ) (entry : IsEntry m place) (catches : CatchesAt (world_of v).classes m place c)
+      (room : length before ≡ m.rec.max_stack) (long : length after ≡ length before) (put : IsPut before (Class c) after depth)
       (fallen : MatchBool arrival.may_fall (IsFallenInto m place) (¬ (IsFallenInto m place))) where
     pub entered : Arrives (world_of v) m arrival.may_fall (cells before arrival.depth) place (cells after depth)
     entered = by put
@@ -144,17 +149,20 @@ module _ (v : Verifier) (place : ℕ) (arrival : Arrival) where
       arrives = entered;
       wrong = λ i regs here.
           wrong_entry (subst (IsEntry m) (sym here) entry)
-          (subst (λ q. IsFallenInto m q ⊎ IsTarget m q) (sym here) (⊎_elim (λ falls_in. inl (when-true (IsFallenInto m place) arrival.may_fall fallen falls_in)) (λ t. inr t) from));
+          (subst (λ q. IsFallenInto m q ⊎ IsTarget m q) (sym here)
+          (⊎_elim (λ falls_in. inl (when-true (IsFallenInto m place) arrival.may_fall fallen falls_in)) (λ t. inr t) from));
       within = let most = put-depth in omega (arith, most, long, room);
     }
 
-    pub mislanded-room : depth ≡ 0 → ¬ (IsShared v place arrival) → IsMislanded v arrival before after (record { place = place; depth = depth; kind = Rule Overflow })
+    pub mislanded-room : depth ≡ 0 → ¬ (IsShared v place arrival)
+        → IsMislanded v arrival before after (record { place = place; depth = depth; kind = Rule Overflow })
     mislanded-room none other = record {
       arrives = entered;
       wrong = λ i regs here.
           wrong_room (subst (IsEntry m) (sym here) entry)
           (subst (λ q. ¬ (IsFallenInto m q ⊎ IsTarget m q)) (sym here)
-          (λ either. ⊎_elim (when-false (IsFallenInto m place) arrival.may_fall fallen (not-falling other arrival.may_fall refl)) (λ t. other (inr t)) either))
+          (λ either. ⊎_elim (when-false (IsFallenInto m place) arrival.may_fall fallen (not-falling other arrival.may_fall refl)) (λ t. other (inr t))
+          either))
           (no-room none);
       within = omega (arith, none);
     }

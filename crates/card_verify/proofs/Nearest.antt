@@ -1,5 +1,7 @@
 -- The nearest place ahead is the least.
-use Rattle.std.proofs.Common.{◌≡◌, ℕ, ◌+◌, ◌<◌, ◌≤◌, ◌⊎◌, inl, inr, ⊎_elim, Bool, true, false, ◌&&◌, if◌then◌else◌, Option, Some, None, List, [], ◌∷◌, ◌++◌, length, slice_get, get_or, IsSomeAnd, MatchBool, refl, sym, ◌∙◌, ap, subst, arith, append_assoc, Contains}
+use Rattle.std.proofs.Common.{◌≡◌, ℕ, ◌+◌, ◌<◌, ◌≤◌, ◌⊎◌, inl, inr, ⊎_elim, Bool, true, false, ◌&&◌, if◌then◌else◌}
+use Rattle.std.proofs.Common.{Option, Some, None, List, [], ◌∷◌, ◌++◌, length, slice_get, get_or, IsSomeAnd, MatchBool, refl, sym, ◌∙◌, ap}
+use Rattle.std.proofs.Common.{subst, arith, append_assoc, Contains}
 use Rattle.std.specs.Prelude.{ℤ, pos, negsuc, fold, nat_le}
 use Rattle.std.proofs.lemmas.Bool.{false≢true, cases_lt, leb-true, leb-false, ltb-true, ltb-false}
 use Rattle.std.proofs.lemmas.Option.{slice_get_within, slice_get-get_or, get_or_from_slice_get}
@@ -14,7 +16,8 @@ use Rattle.card_typing.specs.Place.{IsTarget, IsEntry}
 use Rattle.card_verify.specs.Ahead.{IsLeastFrom, IsClear, is_nearer, least_or_none, nearer, nearer_target}
 
 -- a set of the same numbers
-pub least-same : (S T : ℕ → Type 0) (from : ℕ) (o : Option ℕ) → ((q : ℕ) → S q → T q) → ((q : ℕ) → T q → S q) → IsLeastFrom S from o → IsLeastFrom T from o
+pub least-same : (S T : ℕ → Type 0) (from : ℕ) (o : Option ℕ) → ((q : ℕ) → S q → T q) → ((q : ℕ) → T q → S q)
+    → IsLeastFrom S from o → IsLeastFrom T from o
 least-same S T from None to back h = λ q t. h q (back q t)
 least-same S T from (Some least) to back h = (to least h.0, h.1, λ q t le. h.2 q (back q t) le)
 
@@ -42,7 +45,8 @@ module _ (S : ℕ → Type 0) (from : ℕ) where
   step-farther : (p b : ℕ) → b ≤ p → IsLeastFrom S from (Some b) → IsLeastFrom (With (pos p)) from (Some b)
   step-farther p b le h = (inl h.0, h.1, λ q w ge. ⊎_elim (λ s. h.2 q s ge) (λ e. omega (arith, pos-same p q e, le)) w)
 
-  step-here : (p : ℕ) (best : Option ℕ) (a b : Bool) → nat_le from p ≡ a → is_nearer p best ≡ b → IsLeastFrom S from best → IsLeastFrom (With (pos p)) from (if a && b then Some p else best)
+  step-here : (p : ℕ) (best : Option ℕ) (a b : Bool) → nat_le from p ≡ a → is_nearer p best ≡ b → IsLeastFrom S from best
+      → IsLeastFrom (With (pos p)) from (if a && b then Some p else best)
   step-here p best false b e f h = step-past p best (leb-false from p e) h
   step-here p None true true e f h = step-first p (leb-true from p e) h
   step-here p None true false e f h = absurd (false≢true (sym f))
@@ -54,24 +58,33 @@ module _ (S : ℕ → Type 0) (from : ℕ) where
   nearer-step (negsuc n) best h = step-before n best h
 
 -- the targets of one instruction
-pub nearest-all : (S : ℕ → Type 0) (from : ℕ) (xs : List ℤ) (best : Option ℕ) → IsLeastFrom S from best → IsLeastFrom (λ q. S q ⊎ Contains xs (pos q)) from (fold (nearer_target from) best xs)
-nearest-all S from [] best h = least-same S (λ q. S q ⊎ Contains [] (pos q)) from best (λ q s. inl s) (λ q w. ⊎_elim (λ s. s) (λ c. absurd (omega (arith, c.1))) w) h
+pub nearest-all : (S : ℕ → Type 0) (from : ℕ) (xs : List ℤ) (best : Option ℕ) → IsLeastFrom S from best
+    → IsLeastFrom (λ q. S q ⊎ Contains xs (pos q)) from (fold (nearer_target from) best xs)
+nearest-all S from [] best h =
+    least-same S (λ q. S q ⊎ Contains [] (pos q)) from best (λ q s. inl s) (λ q w. ⊎_elim (λ s. s) (λ c. absurd (omega (arith, c.1))) w) h
 nearest-all S from (x ∷ xs) best h =
-    least-same (λ q. (S q ⊎ (x ≡ pos q)) ⊎ Contains xs (pos q)) (λ q. S q ⊎ Contains (x ∷ xs) (pos q)) from (fold (nearer_target from) (nearer_target from best x) xs)
-    (λ q w. ⊎_elim (λ u. ⊎_elim (λ s. inl s) (λ e. inr (subst (Contains (x ∷ xs)) e (Contains-first x xs))) u) (λ c. inr (Contains-later x xs (pos q) c)) w)
+    least-same (λ q. (S q ⊎ (x ≡ pos q)) ⊎ Contains xs (pos q)) (λ q. S q ⊎ Contains (x ∷ xs) (pos q)) from
+    (fold (nearer_target from) (nearer_target from best x) xs)
+    (λ q w. ⊎_elim (λ u. ⊎_elim (λ s. inl s) (λ e. inr (subst (Contains (x ∷ xs)) e (Contains-first x xs))) u)
+    (λ c. inr (Contains-later x xs (pos q) c)) w)
     (λ q w. ⊎_elim (λ s. inl (inl s)) (λ c. ⊎_elim (λ e. inl (inr e)) (λ later. inr later) (Contains-either x xs (pos q) c)) w)
     (nearest-all (λ q. S q ⊎ (x ≡ pos q)) from xs (nearer_target from best x) (nearer-step S from x best h))
 
 -- ---- the targets of the instructions so far
 
-pub led-more : (code : List ℕ) (from : ℕ) (is : List Placed) (i : Placed) (best : Option ℕ) → IsLeastFrom (IsTargetIn code is) from best → IsLeastFrom (IsTargetIn code (is ++ i ∷ [])) from (fold (nearer_target from) best (targets code i))
+pub led-more : (code : List ℕ) (from : ℕ) (is : List Placed) (i : Placed) (best : Option ℕ) → IsLeastFrom (IsTargetIn code is) from best
+    → IsLeastFrom (IsTargetIn code (is ++ i ∷ [])) from (fold (nearer_target from) best (targets code i))
 led-more code from is i best h =
-    least-same (λ q. IsTargetIn code is q ⊎ Contains (targets code i) (pos q)) (IsTargetIn code (is ++ i ∷ [])) from (fold (nearer_target from) best (targets code i))
-    (λ q w. ⊎_elim (λ l. record { from = l.from; stands = Contains-append_left is (i ∷ []) l.from l.stands; leads = l.leads }) (λ c. record { from = i; stands = Contains-push is i; leads = c }) w)
-    (λ q l. ⊎_elim (λ before. inl (record { from = l.from; stands = before; leads = l.leads })) (λ e. inr (subst (λ (j : Placed). Contains (targets code j) (pos q)) (sym e) l.leads)) (Contains-push_cases is i l.from l.stands))
+    least-same (λ q. IsTargetIn code is q ⊎ Contains (targets code i) (pos q)) (IsTargetIn code (is ++ i ∷ [])) from
+    (fold (nearer_target from) best (targets code i))
+    (λ q w. ⊎_elim (λ l. record { from = l.from; stands = Contains-append_left is (i ∷ []) l.from l.stands; leads = l.leads })
+    (λ c. record { from = i; stands = Contains-push is i; leads = c }) w)
+    (λ q l. ⊎_elim (λ before. inl (record { from = l.from; stands = before; leads = l.leads }))
+    (λ e. inr (subst (λ (j : Placed). Contains (targets code j) (pos q)) (sym e) l.leads)) (Contains-push_cases is i l.from l.stands))
     (nearest-all (IsTargetIn code is) from (targets code i) best h)
 
-pub led-all : (m : Method) (from : ℕ) (is : List Placed) (best : Option ℕ) → is ≡ listing m.code → IsLeastFrom (IsTargetIn m.code is) from best → IsLeastFrom (IsTarget m) from best
+pub led-all : (m : Method) (from : ℕ) (is : List Placed) (best : Option ℕ) → is ≡ listing m.code → IsLeastFrom (IsTargetIn m.code is) from best
+    → IsLeastFrom (IsTarget m) from best
 led-all m from is best e h = subst (λ (ps : List Placed). IsLeastFrom (IsTargetIn m.code ps) from best) e h
 
 -- ---- the entries of the handlers so far
@@ -85,7 +98,8 @@ entry-none hs from = λ q e. absurd (omega (arith, e.1))
 some-entry : (g h : Handler) (o : Option Handler) → o ≡ Some g → o ≡ Some h → g ≡ h
 some-entry g h o e f = cc
 
-pub entry-more : (hs : List Handler) (from n : ℕ) (h : Handler) (best : Option ℕ) → slice_get hs n ≡ Some h → IsLeastFrom (EntryBelow hs n) from best → IsLeastFrom (EntryBelow hs (n + 1)) from (nearer from best h.entry)
+pub entry-more : (hs : List Handler) (from n : ℕ) (h : Handler) (best : Option ℕ) → slice_get hs n ≡ Some h
+    → IsLeastFrom (EntryBelow hs n) from best → IsLeastFrom (EntryBelow hs (n + 1)) from (nearer from best h.entry)
 entry-more hs from n h best is s =
     least-same (λ q. EntryBelow hs n q ⊎ (pos h.entry ≡ pos q)) (EntryBelow hs (n + 1)) from (nearer from best h.entry)
     (λ q w. ⊎_elim (λ e. (e.0, let lt = e.1 in omega (arith, lt), e.2, e.3, e.4)) (λ e. (n, omega arith, h, is, pos-same h.entry q e)) w)
@@ -98,18 +112,32 @@ entry-more hs from n h best is s =
         let one : e.2 ≡ h = some-entry e.2 h (slice_get hs n) (ap (slice_get hs) (sym same) ∙ e.3) is in
         ap pos (ap (λ (x : Handler). x.entry) (sym one) ∙ e.4)
 
-pub entry-all : (m : Method) (from n : ℕ) (best : Option ℕ) → length m.rec.handlers ≤ n → IsLeastFrom (EntryBelow m.rec.handlers n) from best → IsLeastFrom (IsEntry m) from best
+pub entry-all : (m : Method) (from n : ℕ) (best : Option ℕ) → length m.rec.handlers ≤ n → IsLeastFrom (EntryBelow m.rec.handlers n) from best
+    → IsLeastFrom (IsEntry m) from best
 entry-all m from n best all s =
     least-same (EntryBelow m.rec.handlers n) (IsEntry m) from best
-    (λ q e. record { handler = e.2; listed = (e.0, slice_get_within m.rec.handlers e.0 e.2 e.3, get_or_from_slice_get m.rec.handlers e.0 e.2 e.2 e.3); begins = e.4 })
-    (λ q e. (e.listed.0, let lt = e.listed.1 in omega (arith, lt, all), e.handler, slice_get-get_or m.rec.handlers e.listed.0 e.handler e.listed.1 ∙ ap Some e.listed.2, e.begins)) s
+    (λ q e. record {
+      handler = e.2;
+      listed = (e.0, slice_get_within m.rec.handlers e.0 e.2 e.3, get_or_from_slice_get m.rec.handlers e.0 e.2 e.2 e.3);
+      begins = e.4;
+    })
+    (λ q e. (
+      e.listed.0,
+      let lt = e.listed.1 in omega (arith, lt, all),
+      e.handler,
+      slice_get-get_or m.rec.handlers e.listed.0 e.handler e.listed.1
+          ∙ ap Some e.listed.2,
+      e.begins,
+    )) s
 
 -- ---- what is kept
 
 -- a place that is not passed stays the least
-pub least-kept : (S : ℕ → Type 0) (from place : ℕ) (o : Option ℕ) → from ≤ place → ¬ (IsSomeAnd o (λ q. q < place)) → IsLeastFrom S from o → IsLeastFrom S place o
+pub least-kept : (S : ℕ → Type 0) (from place : ℕ) (o : Option ℕ) → from ≤ place → ¬ (IsSomeAnd o (λ q. q < place)) → IsLeastFrom S from o
+    → IsLeastFrom S place o
 least-kept S from place None le none h = λ q s. let lt = h q s in omega (arith, lt, le)
-least-kept S from place (Some b) le none h = (h.0, ⊎_elim (λ lt. absurd (none lt)) (λ ge. ge) (cases_lt b place), λ q s ge. h.2 q s (omega (arith, le, ge)))
+least-kept S from place (Some b) le none h =
+    (h.0, ⊎_elim (λ lt. absurd (none lt)) (λ ge. ge) (cases_lt b place), λ q s ge. h.2 q s (omega (arith, le, ge)))
 
 -- the least one tells whether the first is in the set
 pub least-here : (S : ℕ → Type 0) (from : ℕ) (o : Option ℕ) → IsLeastFrom S from o → o ≡ Some from → S from
@@ -121,18 +149,21 @@ here-least S from None h s = let lt = h from s in absurd (omega (arith, lt))
 here-least S from (Some b) h s = let le = h.2 from s (omega arith) in let ge = h.1 in ap Some (omega (arith, le, ge))
 
 -- the next of the handlers that a walk goes over
-pub entry-next : (hs items : List Handler) (from n : ℕ) (d : Handler) (best r : Option ℕ) (e : ℕ) → items ≡ hs → n < length items → e ≡ (get_or items n d).entry → r ≡ nearer from best e
+pub entry-next : (hs items : List Handler) (from n : ℕ) (d : Handler) (best r : Option ℕ) (e : ℕ) → items ≡ hs → n < length items
+    → e ≡ (get_or items n d).entry → r ≡ nearer from best e
     → IsLeastFrom (EntryBelow hs n) from best → IsLeastFrom (EntryBelow hs (n + 1)) from r
 entry-next hs items from n d best r e same inside entry is s =
     let here : slice_get hs n ≡ Some (get_or items n d) = ap (λ (xs : List Handler). slice_get xs n) (sym same) ∙ slice_get-get_or items n d inside in
     subst (IsLeastFrom (EntryBelow hs (n + 1)) from) (ap (nearer from best) (sym entry) ∙ sym is) (entry-more hs from n (get_or items n d) best here s)
 
 -- a walk along a list
-pub next-whole : {A : Type 0} (before rest : List A) (x : A) (after whole : List A) → before ++ rest ≡ whole → rest ≡ x ∷ after → (before ++ x ∷ []) ++ after ≡ whole
+pub next-whole : {A : Type 0} (before rest : List A) (x : A) (after whole : List A) → before ++ rest ≡ whole → rest ≡ x ∷ after
+    → (before ++ x ∷ []) ++ after ≡ whole
 next-whole before rest x after whole h e = append_assoc before (x ∷ []) after ∙ ap (λ (r : List _). before ++ r) (sym e) ∙ h
 
 -- whether the first is in the set, as the place that was found tells
-pub told-here : (S : ℕ → Type 0) (from : ℕ) (o : Option ℕ) (b : Bool) → IsLeastFrom S from o → MatchBool b (o ≡ Some from) (¬ (o ≡ Some from)) → MatchBool b (S from) (¬ (S from))
+pub told-here : (S : ℕ → Type 0) (from : ℕ) (o : Option ℕ) (b : Bool) → IsLeastFrom S from o
+    → MatchBool b (o ≡ Some from) (¬ (o ≡ Some from)) → MatchBool b (S from) (¬ (S from))
 told-here S from o true h e = least-here S from o h e
 told-here S from o false h e = λ s. e (here-least S from o h s)
 

@@ -1,5 +1,6 @@
 -- The entries of an index are looked for among the instructions in one walk.
-use Rattle.std.proofs.Common.{◌≡◌, ℕ, zero, suc, ◌+◌, ◌-◌, ◌<◌, ◌≤◌, ◌⊎◌, inl, inr, ⊎_elim, List, [], ◌∷◌, ◌++◌, length, get_or, All, Some, slice_get, refl, sym, ap, subst, ◌∙◌, arith, append_assoc, Contains}
+use Rattle.std.proofs.Common.{◌≡◌, ℕ, zero, suc, ◌+◌, ◌-◌, ◌<◌, ◌≤◌, ◌⊎◌, inl, inr, ⊎_elim, List, [], ◌∷◌, ◌++◌}
+use Rattle.std.proofs.Common.{length, get_or, All, Some, slice_get, refl, sym, ap, subst, ◌∙◌, arith, append_assoc, Contains}
 use Rattle.std.proofs.lemmas.Bool.{cases_lt}
 use Rattle.std.proofs.lemmas.List.{append-nil}
 use Rattle.std.proofs.lemmas.List.Elements.{Contains-push_cases}
@@ -20,7 +21,8 @@ at-middle : (pre : List Placed) (i : Placed) (post : List Placed) → slice_get 
 at-middle pre i post = slice_get-farther pre (i ∷ post) 0 (length pre) (omega arith)
 
 -- where places rise, what comes at a greater place stands after it
-after-middle : (code : List ℕ) → AreListed code → (pre : List Placed) (i : Placed) (post : List Placed) → pre ++ i ∷ post ≡ listing code → (j : Placed) → HasInstruction code j → i.place < j.place → Contains post j
+after-middle : (code : List ℕ) → AreListed code → (pre : List Placed) (i : Placed) (post : List Placed) → pre ++ i ∷ post ≡ listing code
+    → (j : Placed) → HasInstruction code j → i.place < j.place → Contains post j
 after-middle code order pre i post whole j c lt = by (c.0 - length pre) refl
   where
     there : slice_get (listing code) c.0 ≡ Some j
@@ -30,7 +32,9 @@ after-middle code order pre i post whole j c lt = by (c.0 - length pre) refl
     here = ap (λ xs. slice_get xs (length pre)) (sym whole) ∙ at-middle pre i post
 
     behind : length pre ≤ c.0
-    behind = ⊎_elim (λ less. let up = order.rising c.0 (length pre) j i there here less in absurd (omega (arith, up, lt))) (λ ge. ge) (cases_lt c.0 (length pre))
+    behind =
+        ⊎_elim (λ less. let up = order.rising c.0 (length pre) j i there here less in absurd (omega (arith, up, lt))) (λ ge. ge)
+        (cases_lt c.0 (length pre))
 
     rest : slice_get (i ∷ post) (c.0 - length pre) ≡ Some j
     rest = sym (slice_get-farther pre (i ∷ post) (c.0 - length pre) c.0 (omega (arith, behind))) ∙ ap (λ xs. slice_get xs c.0) whole ∙ there
@@ -89,7 +93,12 @@ module _ (code index : List ℕ) (order : AreListed code) (k least : ℕ) (left 
         together = append_assoc is.passed s.passed (s.found ∷ new) ∙ ap (λ xs. is.passed ++ xs) (sym s.whole) ∙ is.whole
 
         place : IsPlace code p
-        place = (s.found, subst (λ xs. Contains xs s.found) together (Contains-slice_get (before ++ s.found ∷ new) (length before) s.found (at-middle before s.found new)), s.at)
+        place = (
+          s.found,
+          subst (λ xs. Contains xs s.found) together
+              (Contains-slice_get (before ++ s.found ∷ new) (length before) s.found (at-middle before s.found new)),
+          s.at,
+        )
 
     none-before : (j : ℕ) → j < k → ¬ (IsBadEntry code index j)
     none-before j lt bad = by j bad lt

@@ -1,5 +1,6 @@
 -- The rule of an instruction applies or refuses, and what it leaves is in order or not.
-use Rattle.std.proofs.Common.{◌≡◌, ℕ, ◌+◌, ◌<◌, ◌≤◌, List, [], length, MatchBool, IsSomeAnd, IfOk, IfErr, Option, Result, Ok, Err, slice_get, sum_by, refl, sym, ◌∙◌, ap, subst, arith}
+use Rattle.std.proofs.Common.{◌≡◌, ℕ, ◌+◌, ◌<◌, ◌≤◌, List, [], length, MatchBool, IsSomeAnd, IfOk, IfErr, Option, Result, Ok, Err}
+use Rattle.std.proofs.Common.{slice_get, sum_by, refl, sym, ◌∙◌, ap, subst, arith}
 use Rattle.jc_base.specs.declared.ty.Ty.{Ty}
 use Rattle.jc_base.specs.declared.record.MethodRec.{MethodRec}
 use Rattle.jc_base.specs.Order.{rises_left}
@@ -12,7 +13,8 @@ use Rattle.jc_rules.specs.Stack.{cells}
 use Rattle.jc_rules.specs.Apply.{frame_of, HasDeclaredLengths, Applies, Refuses}
 use Rattle.card_typing.specs.declared.fault.CardFault.{CardFault}
 use Rattle.card_typing.specs.declared.fault.CardKind.{CardKind}
-use Rattle.card_typing.specs.declared.fault.CardKind.TheVariants.{Code, Rule, StackAtTarget, StackAtBranch, HandlerEntered, BadTarget, FallsOff, BadHandler, BadIndex, NotIndexed}
+use Rattle.card_typing.specs.declared.fault.CardKind.TheVariants.{Code, Rule, StackAtTarget, StackAtBranch, HandlerEntered, BadTarget, FallsOff, BadHandler}
+use Rattle.card_typing.specs.declared.fault.CardKind.TheVariants.{BadIndex, NotIndexed}
 use Rattle.card_typing.specs.Met.{Arrives, IsOpenTo}
 use Rattle.card_typing.specs.Refusal.{IsWrong, wrong_rule, wrong_branch, wrong_end}
 use Rattle.card_verify.specs.declared.verifier.Verifier.{Verifier}
@@ -22,11 +24,14 @@ use Rattle.card_verify.specs.Walk.{IsVerifier, HasSlices, IsLanded, IsMislanded,
 use Rattle.card_verify.proofs.Landing.{no-cells}
 
 module _ (v : Verifier) (is : IsVerifier v) where
-  pub has-room : (regs stack : List Ty) (depth : ℕ) → HasSlices v regs stack → depth ≤ v.rec.now.max_stack → IsSomeAnd (slice_get (world_of v).methods v.number) (λ m. HasDeclaredLengths m regs stack depth)
+  pub has-room : (regs stack : List Ty) (depth : ℕ) → HasSlices v regs stack → depth ≤ v.rec.now.max_stack
+      → IsSomeAnd (slice_get (world_of v).methods v.number) (λ m. HasDeclaredLengths m regs stack depth)
   has-room regs stack depth slices le =
-      subst (λ (o : Option MethodRec). IsSomeAnd o (λ m. HasDeclaredLengths m regs stack depth)) (sym is.known.rec) (record { registers = slices.registers; cells = slices.cells; within = le })
+      subst (λ (o : Option MethodRec). IsSomeAnd o (λ m. HasDeclaredLengths m regs stack depth)) (sym is.known.rec)
+      (record { registers = slices.registers; cells = slices.cells; within = le })
 
-  module _ (i : Placed) (there : HasInstruction (method v).code i) (regs stack regs_after stack_after : List Ty) (depth : ℕ) (long : length stack_after ≡ v.rec.now.max_stack)
+  module _ (i : Placed) (there : HasInstruction (method v).code i) (regs stack regs_after stack_after : List Ty) (depth : ℕ)
+      (long : length stack_after ≡ v.rec.now.max_stack)
       (suits : IsOpenTo (method v) i.place (cells stack depth)) where
     pub fail-rule : (fault : RuleFault) → depth ≤ v.rec.now.max_stack → (regs_after ≡ regs) × (stack_after ≡ stack)
         → Refuses (world_of v) (record { method = v.number; place = i.place }) i.insn (frame_of regs stack depth) fault
@@ -34,14 +39,17 @@ module _ (v : Verifier) (is : IsVerifier v) where
     fail-rule fault le same refuses = record {
       place = refl;
       wrong = subst (λ (xs : List Ty). IsWrong (world_of v) (method v) i (frame_of regs stack depth) (Rule fault) (frame_of xs stack_after depth)) (sym same.0)
-          (subst (λ (ys : List Ty). IsWrong (world_of v) (method v) i (frame_of regs stack depth) (Rule fault) (frame_of regs ys depth)) (sym same.1) (wrong_rule fault suits (is.records.refuses (method v) i.place i.insn (frame_of regs stack depth) fault is.known refuses)));
+          (subst (λ (ys : List Ty). IsWrong (world_of v) (method v) i (frame_of regs stack depth) (Rule fault) (frame_of regs ys depth)) (sym same.1)
+          (wrong_rule fault suits (is.records.refuses (method v) i.place i.insn (frame_of regs stack depth) fault is.known refuses)));
       within = omega (arith, le, long);
     }
 
-    module _ (o : Outcome) (applies : Applies (world_of v) (record { method = v.number; place = i.place }) i.insn Card (frame_of regs stack depth) (frame_of regs_after stack_after o.depth) o) where
+    module _ (o : Outcome) (applies : Applies (world_of v) (record { method = v.number; place = i.place }) i.insn Card (frame_of regs stack depth)
+        (frame_of regs_after stack_after o.depth) o) where
       shallow : o.depth ≤ v.rec.now.max_stack
       shallow =
-          let does = (is.records.applies (method v) i.place i.insn Card (frame_of regs stack depth) (frame_of regs_after stack_after o.depth) o is.known applies).does in
+          let does = (is.records.applies (method v) i.place i.insn Card (frame_of regs stack depth) (frame_of regs_after stack_after o.depth) o is.known
+          applies).does in
           omega (arith, does.room, does.depth)
 
       left-none : o.depth ≡ 0 → cells stack_after o.depth ≡ []
@@ -51,7 +59,15 @@ module _ (v : Verifier) (is : IsVerifier v) where
           → MatchBool o.rose (sum_by (rises_left (world_of v).classes) regs_after < sum_by (rises_left (world_of v).classes) regs) (regs_after ≡ regs)
           → IsStepped v i regs (cells stack depth) regs_after stack_after o
       stepped well count rises = record {
-        passed = record { stands = there; suits = suits; applies = is.records.applies (method v) i.place i.insn Card (frame_of regs stack depth) (frame_of regs_after stack_after o.depth) o is.known applies; branch = λ j. left-none (well.branch j); goes_on = well.goes_on };
+        passed =
+            record {
+              stands = there;
+              suits = suits;
+              applies = is.records.applies (method v) i.place i.insn Card (frame_of regs stack depth)
+                  (frame_of regs_after stack_after o.depth) o is.known applies;
+              branch = λ j. left-none (well.branch j);
+              goes_on = well.goes_on;
+            };
         rises = rises;
         slices = record { registers = count; cells = long };
         depth = shallow;
@@ -61,12 +77,19 @@ module _ (v : Verifier) (is : IsVerifier v) where
           → IsFailing v i regs (cells stack depth) regs_after stack_after (record { place = i.place; depth = o.depth; kind = kind })
       failing kind wrong = record { place = refl; wrong = wrong; within = let le = shallow in omega (arith, le, long) }
 
-      pub fail-left : (kind : CardKind) → IsLeftWrong v i o.depth kind → IsFailing v i regs (cells stack depth) regs_after stack_after (record { place = i.place; depth = o.depth; kind = kind })
+      pub fail-left : (kind : CardKind) → IsLeftWrong v i o.depth kind → IsFailing v i regs (cells stack depth) regs_after stack_after
+          (record { place = i.place; depth = o.depth; kind = kind })
       fail-left StackAtBranch h =
-          failing StackAtBranch (wrong_branch (frame_of regs_after stack_after o.depth) o suits (is.records.applies (method v) i.place i.insn Card (frame_of regs stack depth) (frame_of regs_after stack_after o.depth) o is.known applies) h.0 (λ e. h.1 (applies.rule.does.depth ∙ ap length e)))
+          failing StackAtBranch
+          (wrong_branch (frame_of regs_after stack_after o.depth) o suits
+          (is.records.applies (method v) i.place i.insn Card (frame_of regs stack depth) (frame_of regs_after stack_after o.depth) o is.known applies)
+          h.0 (λ e. h.1 (applies.rule.does.depth ∙ ap length e)))
       fail-left FallsOff h =
           let reach = (is.order (method v).code).within i there in
-          failing FallsOff (wrong_end (frame_of regs_after stack_after o.depth) o suits (is.records.applies (method v) i.place i.insn Card (frame_of regs stack depth) (frame_of regs_after stack_after o.depth) o is.known applies) (λ j. left-none (h.0 j)) h.1 (omega (arith, reach, h.2)))
+          failing FallsOff
+          (wrong_end (frame_of regs_after stack_after o.depth) o suits
+          (is.records.applies (method v) i.place i.insn Card (frame_of regs stack depth) (frame_of regs_after stack_after o.depth) o is.known applies)
+          (λ j. left-none (h.0 j)) h.1 (omega (arith, reach, h.2)))
       fail-left (Code end) h = absurd h
       fail-left (Rule fault) h = absurd h
       fail-left StackAtTarget h = absurd h
@@ -82,23 +105,28 @@ module _ (v : Verifier) (is : IsVerifier v) where
     pub landed-suits : (given : List Ty) → IsLanded v place arrival stack given → IsOpenTo (method v) i.place given
     landed-suits given landed = subst (λ n. IsOpenTo (method v) n given) here landed.suits
 
-    pub landed-arrives : (given : List Ty) → IsLanded v place arrival stack given → Arrives (world_of v) (method v) arrival.may_fall (cells stack arrival.depth) i.place given
+    pub landed-arrives : (given : List Ty) → IsLanded v place arrival stack given
+        → Arrives (world_of v) (method v) arrival.may_fall (cells stack arrival.depth) i.place given
     landed-arrives given landed = subst (λ n. Arrives (world_of v) (method v) arrival.may_fall (cells stack arrival.depth) n given) here landed.arrives
 
-    pub stopped-landing : (stack_after : List Ty) (fault : CardFault) → fault.place ≡ place → IsMislanded v arrival stack stack_after fault → IsStopped v i arrival regs stack regs stack_after fault
+    pub stopped-landing : (stack_after : List Ty) (fault : CardFault) → fault.place ≡ place → IsMislanded v arrival stack stack_after fault
+        → IsStopped v i arrival regs stack regs stack_after fault
     stopped-landing stack_after fault at mis =
         let same : fault.place ≡ i.place = at ∙ here in
         record {
           given = cells stack_after fault.depth;
-          arrives = subst (λ n. Arrives (world_of v) (method v) arrival.may_fall (cells stack arrival.depth) n (cells stack_after fault.depth)) same mis.arrives;
+          arrives =
+              subst (λ n. Arrives (world_of v) (method v) arrival.may_fall (cells stack arrival.depth) n (cells stack_after fault.depth)) same mis.arrives;
           fails = record { place = same; wrong = mis.wrong i regs (sym same); within = mis.within };
         }
 
     module _ (given regs_after stack_after : List Ty) (landed : IsLanded v place arrival stack given) where
-      pub visited : (r : Result Outcome CardFault) → IfOk r (λ o. IsStepped v i regs given regs_after stack_after o) → IfOk r (λ o. IsVisited v i arrival regs stack regs_after stack_after o)
+      pub visited : (r : Result Outcome CardFault) → IfOk r (λ o. IsStepped v i regs given regs_after stack_after o)
+          → IfOk r (λ o. IsVisited v i arrival regs stack regs_after stack_after o)
       visited (Ok o) s = record { given = given; arrives = landed-arrives given landed; stepped = s }
       visited (Err f) s = tt
 
-      pub stopped : (r : Result Outcome CardFault) → IfErr r (λ f. IsFailing v i regs given regs_after stack_after f) → IfErr r (λ f. IsStopped v i arrival regs stack regs_after stack_after f)
+      pub stopped : (r : Result Outcome CardFault) → IfErr r (λ f. IsFailing v i regs given regs_after stack_after f)
+          → IfErr r (λ f. IsStopped v i arrival regs stack regs_after stack_after f)
       stopped (Ok o) s = tt
       stopped (Err f) s = record { given = given; arrives = landed-arrives given landed; fails = s }

@@ -1,5 +1,7 @@
 -- How many methods are accepted over their indexes.
-use Rattle.std.proofs.Common.{◌≡◌, ℕ, zero, suc, ◌+◌, ◌<◌, ◌≤◌, ◌⊎◌, inl, inr, ⊎_elim, Bool, true, false, List, [], ◌∷◌, ◌++◌, length, Contains, MatchBool, Some, None, Result, Ok, Err, OnOk, OnErr, IsSomeAnd, IsTrue, slice_get, refl, sym, ap, subst, ◌∙◌, arith}
+use Rattle.std.proofs.Common.{◌≡◌, ℕ, zero, suc, ◌+◌, ◌<◌, ◌≤◌, ◌⊎◌, inl, inr, ⊎_elim, Bool, true, false, List, [], ◌∷◌}
+use Rattle.std.proofs.Common.{◌++◌, length, Contains, MatchBool, Some, None, Result, Ok, Err, OnOk, OnErr, IsSomeAnd, IsTrue, slice_get, refl, sym, ap}
+use Rattle.std.proofs.Common.{subst, ◌∙◌, arith}
 use Rattle.std.specs.Prelude.{is_ok}
 use Rattle.std.specs.Int.{from_bool}
 use Rattle.std.proofs.lemmas.Bool.{cases_lt}
@@ -21,7 +23,8 @@ use Rattle.card_verify.specs.Counting.{IsByIndex, CountsByIndex}
 use Rattle.card_verify.specs.IndexTyping.{HasIndexTyping}
 
 -- what stands in a list with one more at its end: an element of the list, or the last one
-pushed : (xs : List ℕ) (x k y : ℕ) → slice_get (xs ++ x ∷ []) k ≡ Some y → (k < length xs) × (slice_get xs k ≡ Some y) ⊎ (k ≡ length xs) × (x ≡ y)
+pushed : (xs : List ℕ) (x k y : ℕ) → slice_get (xs ++ x ∷ []) k ≡ Some y → (k < length xs) × (slice_get xs k ≡ Some y) ⊎ (k ≡ length xs)
+    × (x ≡ y)
 pushed [] x zero y e = inr (refl, same_Some x y e)
 pushed [] x (suc k) y e = absurd cc
 pushed (z ∷ xs) x zero y e = inl (omega arith, e)
@@ -30,7 +33,8 @@ pushed (z ∷ xs) x (suc k) y e = ⊎_elim (λ old. inl (omega (arith, old.0), o
 ascending-push : (xs : List ℕ) (x : ℕ) → IsAscending xs → ((j y : ℕ) → slice_get xs j ≡ Some y → y < x) → IsAscending (xs ++ x ∷ [])
 ascending-push xs x up below k p q at next = by (pushed xs x k p at) (pushed xs x (k + 1) q next)
   where
-    by : (k < length xs) × (slice_get xs k ≡ Some p) ⊎ (k ≡ length xs) × (x ≡ p) → (k + 1 < length xs) × (slice_get xs (k + 1) ≡ Some q) ⊎ (k + 1 ≡ length xs) × (x ≡ q) → p < q
+    by : (k < length xs) × (slice_get xs k ≡ Some p) ⊎ (k ≡ length xs) × (x ≡ p) → (k + 1 < length xs) × (slice_get xs (k + 1) ≡ Some q)
+        ⊎ (k + 1 ≡ length xs) × (x ≡ q) → p < q
     by (inl a) (inl b) = up k p q a.1 b.1
     by (inl a) (inr b) = subst (λ n. p < n) b.1 (below k p a.1)
     by (inr a) (inl b) = absurd (omega (arith, a.0, b.0))
@@ -50,7 +54,12 @@ module _ (w : Linked) (n count : ℕ) (c : CountsByIndex w n count) where
   counts-without other = record {
     numbers = c.numbers;
     ascending = c.ascending;
-    exactly = λ k. (λ here. let old = (c.exactly k).0 here in (omega (arith, old.0), old.1), λ h. ⊎_elim (λ lt. (c.exactly k).1 (lt, h.1)) (λ ge. absurd (other (subst (IsByIndex w) (omega (arith, h.0, ge)) h.1))) (cases_lt k n));
+    exactly =
+        λ k. (
+          λ here. let old = (c.exactly k).0 here in (omega (arith, old.0), old.1),
+          λ h. ⊎_elim (λ lt. (c.exactly k).1 (lt, h.1))
+              (λ ge. absurd (other (subst (IsByIndex w) (omega (arith, h.0, ge)) h.1))) (cases_lt k n),
+        );
     count_is = c.count_is;
   }
 
@@ -60,7 +69,8 @@ module _ (w : Linked) (n count : ℕ) (c : CountsByIndex w n count) where
     numbers = c.numbers ++ n ∷ [];
     ascending = rises;
     exactly = λ k. (
-      λ here. ⊎_elim (λ old. let known = (c.exactly k).0 old in (omega (arith, known.0), known.1)) (λ same. (omega (arith, same), subst (IsByIndex w) same this)) (Contains-push_cases c.numbers n k here),
+      λ here. ⊎_elim (λ old. let known = (c.exactly k).0 old in (omega (arith, known.0), known.1))
+          (λ same. (omega (arith, same), subst (IsByIndex w) same this)) (Contains-push_cases c.numbers n k here),
       λ h. ⊎_elim (λ lt. Contains-append_left c.numbers (n ∷ []) k ((c.exactly k).1 (lt, h.1))) (λ ge.
           let same : n ≡ k = omega (arith, h.0, ge) in
           subst (Contains (c.numbers ++ n ∷ [])) same (Contains-push c.numbers n)) (cases_lt k n),
@@ -72,7 +82,8 @@ module _ (w : Linked) (n count : ℕ) (c : CountsByIndex w n count) where
       rises k p q at next = ascending-push c.numbers n c.ascending (λ j r there. ((c.exactly r).0 (Contains-slice_get c.numbers j r there)).0) k p q at next
 
 -- the count after a method
-pub counts-by : (w : Linked) (n count : ℕ) → CountsByIndex w n count → (by : Bool) (one : ℕ) → one ≡ from_bool by → MatchBool by (IsByIndex w n) (¬ (IsByIndex w n)) → CountsByIndex w (n + 1) (count + one)
+pub counts-by : (w : Linked) (n count : ℕ) → CountsByIndex w n count → (by : Bool) (one : ℕ) → one ≡ from_bool by
+    → MatchBool by (IsByIndex w n) (¬ (IsByIndex w n)) → CountsByIndex w (n + 1) (count + one)
 counts-by w n count c true one e this = subst (λ k. CountsByIndex w (n + 1) (count + k)) (sym e) (counts-with w n count c this)
 counts-by w n count c false one e other =
     let same : count ≡ count + one = omega (arith, e) in
@@ -86,24 +97,39 @@ count-most n count le false one e = omega (arith, le, e)
 
 -- a method without code is none of them
 pub bare-not : (w : Linked) (n : ℕ) (rec : MethodRec) → slice_get w.methods n ≡ Some rec → rec.code_len ≡ 0 → ¬ (IsByIndex w n)
-bare-not w n rec here none by = let same : rec ≡ by.rec = same_Some _ _ (sym here ∙ by.is) in let e = ap (λ (r : MethodRec). r.code_len) same in let some = by.has_code in omega (arith, none, e, some)
+bare-not w n rec here none by =
+    let same : rec ≡ by.rec = same_Some _ _ (sym here ∙ by.is) in let e = ap (λ (r : MethodRec). r.code_len) same in let some = by.has_code in
+    omega (arith, none, e, some)
 
 -- one without an index
 pub unindexed-not : (w : Linked) (n : ℕ) → index_of w n ≡ None → ¬ (IsByIndex w n)
 unindexed-not w n none by = let e : Some by.index ≡ None = sym by.indexed ∙ none in cc
 
-module _ (w : Linked) (n : ℕ) (rec : MethodRec) (here : slice_get w.methods n ≡ Some rec) (code : 0 < rec.code_len) (index : List ℕ) (has : index_of w n ≡ Some index) where
+module _ (w : Linked) (n : ℕ) (rec : MethodRec) (here : slice_get w.methods n ≡ Some rec) (code : 0 < rec.code_len) (index : List ℕ)
+    (has : index_of w n ≡ Some index) where
   -- one with an index is one of them exactly where the verifier over it is content
-  pub served : (r : Result (Unit {0}) CardFault) (b : Bool) → b ≡ is_ok r → IsSomeAnd (method_in w n) (λ m. OnOk r (HasIndexTyping w m index)) → IsSomeAnd (method_in w n) (λ m. OnErr r (¬ (HasIndexTyping w m index)))
+  pub served : (r : Result (Unit {0}) CardFault) (b : Bool) → b ≡ is_ok r → IsSomeAnd (method_in w n) (λ m. OnOk r (HasIndexTyping w m index))
+      → IsSomeAnd (method_in w n) (λ m. OnErr r (¬ (HasIndexTyping w m index)))
       → MatchBool b (IsByIndex w n) (¬ (IsByIndex w n))
-  served (Ok t) b e typing none = subst (λ x. MatchBool x (IsByIndex w n) (¬ (IsByIndex w n))) (sym e) (record { rec = rec; is = here; has_code = code; index = index; indexed = has; typing = on-method w n rec (λ m. HasIndexTyping w m index) here typing })
+  served (Ok t) b e typing none =
+      subst (λ x. MatchBool x (IsByIndex w n) (¬ (IsByIndex w n))) (sym e)
+      (record {
+        rec = rec;
+        is = here;
+        has_code = code;
+        index = index;
+        indexed = has;
+        typing = on-method w n rec (λ m. HasIndexTyping w m index) here typing;
+      })
   served (Err f) b e typing none = subst (λ x. MatchBool x (IsByIndex w n) (¬ (IsByIndex w n))) (sym e) (λ by.
       let same : by.rec ≡ rec = same_Some _ _ (sym by.is ∙ here) in
       let own : by.index ≡ index = same_Some _ _ (sym by.indexed ∙ has) in
-      on-method w n rec (λ m. ¬ (HasIndexTyping w m index)) here none (subst (HasIndexTyping w (method_with w n rec)) own (subst (λ r. HasIndexTyping w (method_with w n r) by.index) same by.typing)))
+      on-method w n rec (λ m. ¬ (HasIndexTyping w m index)) here none
+      (subst (HasIndexTyping w (method_with w n rec)) own (subst (λ r. HasIndexTyping w (method_with w n r) by.index) same by.typing)))
 
 -- a method that is accepted over its index is accepted
-pub accepted-by : (w : Linked) (n : ℕ) (rec : MethodRec) (regs : List Ty) → slice_get w.methods n ≡ Some rec → CardIsFlow w → (r : Result (Unit {0}) CardFault) (b : Bool) → b ≡ is_ok r → IsSomeAnd (method_in w n) (λ m. IsMethodOf w m)
+pub accepted-by : (w : Linked) (n : ℕ) (rec : MethodRec) (regs : List Ty) → slice_get w.methods n ≡ Some rec → CardIsFlow w
+    → (r : Result (Unit {0}) CardFault) (b : Bool) → b ≡ is_ok r → IsSomeAnd (method_in w n) (λ m. IsMethodOf w m)
     → IsSomeAnd (method_in w n) (λ m. OnOk r (IsLeastCardTyping w m regs)) → IsTrue b → IsAcceptedAt w n
 accepted-by w n rec regs here flow (Err f) b e known least t other is code = let no : true ≡ false = sym t ∙ e in absurd cc
 accepted-by w n rec regs here flow (Ok u) b e known least t other is code =

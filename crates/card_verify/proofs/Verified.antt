@@ -1,5 +1,6 @@
 -- What the verifier over an index answers.
-use Rattle.std.proofs.Common.{◌≡◌, inr, ℕ, ◌+◌, ◌*◌, ◌≤◌, List, length, All, Result, Ok, Err, IsErr, OnOk, OnErr, IfErr, sum_by, refl, sym, ◌∙◌, ap, subst, arith}
+use Rattle.std.proofs.Common.{◌≡◌, inr, ℕ, ◌+◌, ◌*◌, ◌≤◌, List, length, All, Result, Ok, Err, IsErr, OnOk, OnErr, IfErr, sum_by, refl}
+use Rattle.std.proofs.Common.{sym, ◌∙◌, ap, subst, arith}
 use Rattle.std.specs.Prelude.{ℤ, pos, negsuc}
 use Rattle.std.proofs.lemmas.List.Elements.{All-contains, All-weaker}
 use Rattle.jc_base.specs.Index.{IsAscending}
@@ -36,7 +37,8 @@ use Rattle.card_verify.specs.Bound.{AreCounted, AreCountedTo, AreCountedBy, entr
 use Rattle.card_verify.specs.Indexed.{subject, world_in, listed}
 use Rattle.card_verify.specs.IndexTyping.{IsIndex, HasIndexTyping}
 use Rattle.card_verify.specs.OverIndex.{RefusalDeniesOver}
-use Rattle.card_verify.specs.Refusal.{IsListedTarget, LeadsToListed, IsFirstLacking, IsFormKind, IsWrongOver, wrong_over_entry, wrong_over_room, wrong_over_stack, wrong_over_open, IsRefusedOver, over_flaw, over_entry, over_target, over_state}
+use Rattle.card_verify.specs.Refusal.{IsListedTarget, LeadsToListed, IsFirstLacking, IsFormKind, IsWrongOver, wrong_over_entry, wrong_over_room}
+use Rattle.card_verify.specs.Refusal.{wrong_over_stack, wrong_over_open, IsRefusedOver, over_flaw, over_entry, over_target, over_state}
 use Rattle.card_verify.specs.IndexWalk.{IsFinishedOver, IsPlaceNumber, IsNotIndexed}
 use Rattle.card_verify.proofs.Clear.{plain, index-typing}
 use Rattle.card_verify.proofs.Denying.{no-bad, lacking-target}
@@ -45,18 +47,24 @@ use Rattle.card_verify.proofs.Costs.{grow, most-rises, whole-bound}
 -- ---- the form of the method and the index
 
 -- an index of places in ascending order, in which every target is listed, is one
-pub whole-index : (m : Method) (index : List ℕ) → IsAscending index → All (IsPlace m.code) index → All (LeadsToListed m.code index) (listing m.code) → IsIndex m index
+pub whole-index : (m : Method) (index : List ℕ) → IsAscending index → All (IsPlace m.code) index → All (LeadsToListed m.code index) (listing m.code)
+    → IsIndex m index
 whole-index m index up places leads = record {
   ascending = up;
   places = places;
-  complete = λ q t. All-contains (IsListedTarget index) (targets m.code t.from) (pos q) (All-contains (LeadsToListed m.code index) (listing m.code) t.from leads t.stands) t.leads;
+  complete =
+      λ q t. All-contains (IsListedTarget index) (targets m.code t.from) (pos q)
+      (All-contains (LeadsToListed m.code index) (listing m.code) t.from leads t.stands) t.leads;
 }
 
 -- a method whose targets are all listed by places of instructions is well formed where the rest of it is
-pub formed-by : (m : Method) (index : List ℕ) → listing_end m.code ≡ length m.code → All (IsHandlerOf m.code) m.rec.handlers → All (IsPlace m.code) index → All (LeadsToListed m.code index) (listing m.code) → IsWellFormed m
+pub formed-by : (m : Method) (index : List ℕ) → listing_end m.code ≡ length m.code → All (IsHandlerOf m.code) m.rec.handlers
+    → All (IsPlace m.code) index → All (LeadsToListed m.code index) (listing m.code) → IsWellFormed m
 formed-by m index ends handlers places leads = record {
   ends = ends;
-  targets = λ i there. All-weaker (IsListedTarget index) (IsTargetPlace m.code) place-of (targets m.code i) (All-contains (LeadsToListed m.code index) (listing m.code) i leads there);
+  targets =
+      λ i there. All-weaker (IsListedTarget index) (IsTargetPlace m.code) place-of (targets m.code i)
+      (All-contains (LeadsToListed m.code index) (listing m.code) i leads there);
   handlers = handlers;
 }
   where
@@ -74,7 +82,8 @@ flaw-form (flaws.BadHandler entry number) = tt
 pub form-of-flaw : (m : Method) (fault : CardFault) → TellsFlaw m fault → IsFormKind fault.kind
 form-of-flaw m fault t = subst (λ (f : CardFault). IsFormKind f.kind) (sym t.2) (flaw-form t.0)
 
-pub form-flawed : (m : Method) (r : Result (Unit {0}) CardFault) → IfErr r (λ (fault : CardFault). TellsFlaw m fault) → IfErr r (λ (fault : CardFault). IsFormKind fault.kind)
+pub form-flawed : (m : Method) (r : Result (Unit {0}) CardFault) → IfErr r (λ (fault : CardFault). TellsFlaw m fault)
+    → IfErr r (λ (fault : CardFault). IsFormKind fault.kind)
 form-flawed m (Ok t) h = tt
 form-flawed m (Err fault) h = form-of-flaw m fault h
 
@@ -100,7 +109,8 @@ module _ (w : Linked) (m : Method) (index : List ℕ) where
   pub over-of-flaw : (fault : CardFault) → TellsFlaw m fault → (kept : Frame) → IsRefusedOver w m index fault kept
   over-of-flaw fault t kept = subst (λ (f : CardFault). IsRefusedOver w m index f kept) (sym t.2) (over_flaw t.0 kept t.1)
 
-  pub over-flawed : (r : Result (Unit {0}) CardFault) → IfErr r (λ (fault : CardFault). TellsFlaw m fault) → IfErr r (λ (fault : CardFault). (kept : Frame) → IsRefusedOver w m index fault kept)
+  pub over-flawed : (r : Result (Unit {0}) CardFault) → IfErr r (λ (fault : CardFault). TellsFlaw m fault)
+      → IfErr r (λ (fault : CardFault). (kept : Frame) → IsRefusedOver w m index fault kept)
   over-flawed (Ok t) h = tt
   over-flawed (Err fault) h = over-of-flaw fault h
 
@@ -116,14 +126,19 @@ module _ (w : Linked) (m : Method) (index : List ℕ) where
       omega (arith, inside, short, place.2)
   number-of (negsuc n) ordered short place = place
 
-  pub lacking-number : (f : Lacking) → InstructionsAreListed → length m.code ≤ 32767 → IsWellFormed m → IsFirstLacking m.code index f.place f.target → IsPlaceNumber f.target
+  pub lacking-number : (f : Lacking) → InstructionsAreListed → length m.code ≤ 32767 → IsWellFormed m
+      → IsFirstLacking m.code index f.place f.target → IsPlaceNumber f.target
   lacking-number f ordered short formed first = number-of f.target ordered short (by-target f.place f.target formed first)
 
-  over-by : (f : Lacking) (fault : CardFault) (t : ℤ) → f.target ≡ t → IsWellFormed m → IsAscending index → All (IsPlace m.code) index → IsFirstLacking m.code index f.place t → IsTargetPlace m.code t → IsNotIndexed f fault → (kept : Frame) → IsRefusedOver w m index fault kept
-  over-by f fault (pos q) e formed up places first place told kept = subst (λ (g : CardFault). IsRefusedOver w m index g kept) (sym (told q e)) (over_target f.place q kept formed up places first)
+  over-by : (f : Lacking) (fault : CardFault) (t : ℤ) → f.target ≡ t → IsWellFormed m → IsAscending index → All (IsPlace m.code) index
+      → IsFirstLacking m.code index f.place t → IsTargetPlace m.code t → IsNotIndexed f fault → (kept : Frame)
+      → IsRefusedOver w m index fault kept
+  over-by f fault (pos q) e formed up places first place told kept =
+      subst (λ (g : CardFault). IsRefusedOver w m index g kept) (sym (told q e)) (over_target f.place q kept formed up places first)
   over-by f fault (negsuc n) e formed up places first place told kept = absurd place
 
-  pub over-of-lacking : (f : Lacking) (fault : CardFault) → IsWellFormed m → IsAscending index → All (IsPlace m.code) index → IsFirstLacking m.code index f.place f.target → IsNotIndexed f fault → (kept : Frame) → IsRefusedOver w m index fault kept
+  pub over-of-lacking : (f : Lacking) (fault : CardFault) → IsWellFormed m → IsAscending index → All (IsPlace m.code) index
+      → IsFirstLacking m.code index f.place f.target → IsNotIndexed f fault → (kept : Frame) → IsRefusedOver w m index fault kept
   over-of-lacking f fault formed up places first told kept =
       over-by f fault f.target refl formed up places first (by-target f.place f.target formed first) told kept
 
@@ -131,20 +146,24 @@ module _ (w : Linked) (m : Method) (index : List ℕ) where
   form-by f fault (pos q) e place told = subst (λ (g : CardFault). IsFormKind g.kind) (sym (told q e)) tt
   form-by f fault (negsuc n) e place told = absurd place
 
-  pub form-of-lacking : (f : Lacking) (fault : CardFault) → IsWellFormed m → IsFirstLacking m.code index f.place f.target → IsNotIndexed f fault → IsFormKind fault.kind
+  pub form-of-lacking : (f : Lacking) (fault : CardFault) → IsWellFormed m → IsFirstLacking m.code index f.place f.target → IsNotIndexed f fault
+      → IsFormKind fault.kind
   form-of-lacking f fault formed first told = form-by f fault f.target refl (by-target f.place f.target formed first) told
 
-  reads-by : (f : Lacking) (fault : CardFault) (entries : ℕ) (t : ℤ) → f.target ≡ t → IsTargetPlace m.code t → IsNotIndexed f fault → entries_read entries fault.kind ≤ entries
+  reads-by : (f : Lacking) (fault : CardFault) (entries : ℕ) (t : ℤ) → f.target ≡ t → IsTargetPlace m.code t → IsNotIndexed f fault
+      → entries_read entries fault.kind ≤ entries
   reads-by f fault entries (pos q) e place told =
       let all : entries_read entries fault.kind ≡ entries = ap (λ (g : CardFault). entries_read entries g.kind) (told q e) in
       omega (arith, all)
   reads-by f fault entries (negsuc n) e place told = absurd place
 
-  pub reads-of-lacking : (f : Lacking) (fault : CardFault) (entries : ℕ) → IsWellFormed m → IsFirstLacking m.code index f.place f.target → IsNotIndexed f fault
+  pub reads-of-lacking : (f : Lacking) (fault : CardFault) (entries : ℕ) → IsWellFormed m → IsFirstLacking m.code index f.place f.target
+      → IsNotIndexed f fault
       → entries_read entries fault.kind ≤ entries
   reads-of-lacking f fault entries formed first told = reads-by f fault entries f.target refl (by-target f.place f.target formed first) told
 
-  pub none-over : (regs stack : List Ty) (r : Result (Unit {0}) CardFault) → RefusalDeniesOver w → IsMethodOf w m → IfErr r (λ (fault : CardFault). IsRefusedOver w m index fault (frame_of regs stack fault.depth)) → OnErr r (¬ (HasIndexTyping w m index))
+  pub none-over : (regs stack : List Ty) (r : Result (Unit {0}) CardFault) → RefusalDeniesOver w → IsMethodOf w m
+      → IfErr r (λ (fault : CardFault). IsRefusedOver w m index fault (frame_of regs stack fault.depth)) → OnErr r (¬ (HasIndexTyping w m index))
   none-over regs stack (Ok t) denies mo h = tt
   none-over regs stack (Err fault) denies mo h = denies m index fault (frame_of regs stack fault.depth) mo h
 
@@ -163,13 +182,15 @@ module _ (w : Linked) (m : Method) (index : List ℕ) where
   over-never i before _ _ (wrong_over_stack f l n d) h = h
   over-never i before _ _ (wrong_over_open kind kept suits wrong) h = wrong-never i before kind kept wrong h
 
-  form-never : (fault : CardFault) (kept : Frame) → FlawsAreTold w → IsWellFormed m → IsIndex m index → IsRefusedOver w m index fault kept → ¬ (IsFormKind fault.kind)
+  form-never : (fault : CardFault) (kept : Frame) → FlawsAreTold w → IsWellFormed m → IsIndex m index → IsRefusedOver w m index fault kept
+      → ¬ (IsFormKind fault.kind)
   form-never _ _ told formed whole (over_flaw flaw kept first) h = (told m (fault_of flaw) kept (refused_flaw flaw kept first)).0 (fault-kind flaw) formed
   form-never _ _ told formed whole (over_entry k kept f first) h = no-bad m index whole.ascending whole.places k first.bad
   form-never _ _ told formed whole (over_target place q kept f up places first) h = first.lacks.fails (whole.complete q (lacking-target m index place q first))
   form-never _ _ told formed whole (over_state i before kept kind f is there met wrong) h = over-never i before kind kept wrong h
 
-  pub kept-over : (regs stack : List Ty) (r : Result (Unit {0}) CardFault) (P : Type 0) → FlawsAreTold w → IsWellFormed m → IsIndex m index → IfErr r (λ (fault : CardFault). IsRefusedOver w m index fault (frame_of regs stack fault.depth))
+  pub kept-over : (regs stack : List Ty) (r : Result (Unit {0}) CardFault) (P : Type 0) → FlawsAreTold w → IsWellFormed m → IsIndex m index
+      → IfErr r (λ (fault : CardFault). IsRefusedOver w m index fault (frame_of regs stack fault.depth))
       → IfErr r (λ (fault : CardFault). IsFormKind fault.kind → P)
   kept-over regs stack (Ok t) P told formed whole h = tt
   kept-over regs stack (Err fault) P told formed whole h = λ k. absurd (form-never fault (frame_of regs stack fault.depth) told formed whole h k)
@@ -179,10 +200,12 @@ module _ (w : Linked) (m : Method) (index : List ℕ) where
   pub bound-whole : (b : ℕ) → length index + target_count m * b + most_passes w m * (instruction_count m * (b + 1)) ≡ step_bound w m (length index) b
   bound-whole b = whole-bound (most_passes w m) (instruction_count m) (target_count m) b (length index)
 
-  pub passes-within : (regs : List Ty) (u : ℕ) → length regs ≡ m.rec.nargs + m.rec.max_locals → (1 + sum_by (rises_left w.classes) regs) * u ≤ most_passes w m * u
+  pub passes-within : (regs : List Ty) (u : ℕ) → length regs ≡ m.rec.nargs + m.rec.max_locals
+      → (1 + sum_by (rises_left w.classes) regs) * u ≤ most_passes w m * u
   passes-within regs u count =
       let most = most-rises w.classes regs (rises-bound w.classes) in
-      let same : length regs * (height w.classes + 3) ≡ (m.rec.nargs + m.rec.max_locals) * (height w.classes + 3) = ap (λ n. n * (height w.classes + 3)) count in
+      let same : length regs * (height w.classes + 3) ≡ (m.rec.nargs + m.rec.max_locals) * (height w.classes + 3) = ap (λ n. n * (height w.classes + 3))
+      count in
       grow (1 + sum_by (rises_left w.classes) regs) (most_passes w m) u (omega (arith, most, same))
 
 -- ---- the typing
@@ -191,7 +214,8 @@ module _ (x : Indexed) (mo : IsMethodOf (world_in x) (subject x)) (formed : IsWe
   pub finished-least : (regs : List Ty) → IsFinishedOver x regs → IsLeastCardTyping (world_in x) (subject x) regs
   finished-least regs f = quiet_is_least (subject x) regs mo formed f.met (plain (world_in x) (subject x) (listed x) regs _ _ _ f.quiet)
 
-  pub finished-typing : RuleRests (world_in x) → InstructionsArePlaced → InstructionsAreListed → IsIndex (subject x) (listed x) → (regs : List Ty) → IsFinishedOver x regs → HasIndexTyping (world_in x) (subject x) (listed x)
+  pub finished-typing : RuleRests (world_in x) → InstructionsArePlaced → InstructionsAreListed → IsIndex (subject x) (listed x) → (regs : List Ty)
+      → IsFinishedOver x regs → HasIndexTyping (world_in x) (subject x) (listed x)
   finished-typing rests placed ordered whole regs f =
       index-typing (world_in x) rests placed ordered (subject x) (listed x) regs mo formed whole (finished-least regs f) f.quiet
 
@@ -209,24 +233,30 @@ ok-always P (Err fault) h = tt
 
 -- so many entries are read at the least
 pub read-by : (entries most before after : ℕ) (r : Result (Unit {0}) CardFault) → before + most ≤ after
-    → IfErr r (λ (fault : CardFault). entries_read entries fault.kind ≤ most) → IfErr r (λ (fault : CardFault). before + entries_read entries fault.kind ≤ after)
+    → IfErr r (λ (fault : CardFault). entries_read entries fault.kind ≤ most)
+    → IfErr r (λ (fault : CardFault). before + entries_read entries fault.kind ≤ after)
 read-by entries most before after (Ok t) read few = tt
 read-by entries most before after (Err fault) read few = omega (arith, read, few)
 
-pub counted-of : (m : Method) (regs begun : List Ty) (before after : ℕ) (r : Result (Unit {0}) CardFault) → begun ≡ (start_frame m.rec Bottom).regs → OnOk r (before + instruction_count m ≤ after)
+pub counted-of : (m : Method) (regs begun : List Ty) (before after : ℕ) (r : Result (Unit {0}) CardFault) → begun ≡ (start_frame m.rec Bottom).regs
+    → OnOk r (before + instruction_count m ≤ after)
     → OnOk r (¬ (regs ≡ begun) → before + 2 * instruction_count m ≤ after) → OnOk r (AreCounted m 0 regs before after)
-counted-of m regs begun before after (Ok t) start once twice = record { once = omega (arith, once); twice = λ other. let paid = twice (λ same. other (same ∙ start)) in omega (arith, paid) }
+counted-of m regs begun before after (Ok t) start once twice =
+    record { once = omega (arith, once); twice = λ other. let paid = twice (λ same. other (same ∙ start)) in omega (arith, paid) }
 counted-of m regs begun before after (Err fault) start once twice = tt
 
 -- once each entry of the index was read
 module _ (m : Method) (entries sooner before after : ℕ) (read : sooner + entries ≤ before) where
-  pub counted-sooner : (regs : List Ty) (r : Result (Unit {0}) CardFault) → OnOk r (AreCounted m 0 regs before after) → OnOk r (AreCounted m entries regs sooner after)
-  counted-sooner regs (Ok t) c = record { once = let old = c.once in omega (arith, read, old); twice = λ other. let old = c.twice other in omega (arith, read, old) }
+  pub counted-sooner : (regs : List Ty) (r : Result (Unit {0}) CardFault) → OnOk r (AreCounted m 0 regs before after)
+      → OnOk r (AreCounted m entries regs sooner after)
+  counted-sooner regs (Ok t) c =
+      record { once = let old = c.once in omega (arith, read, old); twice = λ other. let old = c.twice other in omega (arith, read, old) }
   counted-sooner regs (Err fault) c = tt
 
   to-sooner : (place : ℕ) → AreCountedTo m 0 place before after → AreCountedTo m entries place sooner after
   to-sooner place c = record { here = c.here; at = c.at; number = c.number; stands = c.stands; counted = let old = c.counted in omega (arith, read, old) }
 
-  pub counted-by-state : (r : Result (Unit {0}) CardFault) → IfErr r (λ (fault : CardFault). AreCountedTo m 0 fault.place before after) → IfErr r (AreCountedBy m entries sooner after)
+  pub counted-by-state : (r : Result (Unit {0}) CardFault) → IfErr r (λ (fault : CardFault). AreCountedTo m 0 fault.place before after)
+      → IfErr r (AreCountedBy m entries sooner after)
   counted-by-state (Ok t) c = tt
   counted-by-state (Err fault) c = inr (to-sooner fault.place c)

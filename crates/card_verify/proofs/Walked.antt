@@ -1,5 +1,6 @@
 -- A walk over an index comes from one place to the next, and to the end.
-use Rattle.std.proofs.Common.{◌≡◌, ℕ, ◌+◌, ◌<◌, Bool, true, false, ◌||◌, List, [], ◌∷◌, ◌++◌, length, MatchBool, sum_by, refl, sym, ◌∙◌, ap, subst, arith, append_assoc}
+use Rattle.std.proofs.Common.{◌≡◌, ℕ, ◌+◌, ◌<◌, Bool, true, false, ◌||◌, List, [], ◌∷◌, ◌++◌, length, MatchBool, sum_by, refl}
+use Rattle.std.proofs.Common.{sym, ◌∙◌, ap, subst, arith, append_assoc}
 use Rattle.std.proofs.lemmas.Bool.{false≢true}
 use Rattle.std.proofs.lemmas.List.{append-nil}
 use Rattle.jc_base.specs.declared.ty.Ty.{Ty}
@@ -25,7 +26,8 @@ use Rattle.card_verify.specs.Indexed.{subject, world_in, listed}
 use Rattle.card_verify.specs.Met.{IsMetOver, met_over_start, met_over_next}
 use Rattle.card_verify.specs.Pass.{IsQuietOver, quiet_over_end, quiet_over_more}
 use Rattle.card_verify.specs.Refusal.{IsRefusedOver, over_state}
-use Rattle.card_verify.specs.IndexWalk.{IsIndexed, IsComingOver, IsBegunOver, IsVisitedOver, IsStoppedOver, IsRaisedOver, IsSettledOver, IsProgressOver, IsFinishedOver}
+use Rattle.card_verify.specs.IndexWalk.{IsIndexed, IsComingOver, IsBegunOver, IsVisitedOver, IsStoppedOver, IsRaisedOver, IsSettledOver, IsProgressOver}
+use Rattle.card_verify.specs.IndexWalk.{IsFinishedOver}
 
 module _ (x : Indexed) (is : IsIndexed x) where
   abbrev m : Method
@@ -33,15 +35,18 @@ module _ (x : Indexed) (is : IsIndexed x) where
 
   -- ---- from place to place
 
-  pub coming-over-first : (arrival : Arrival) (regs stack : List Ty) → arrival.may_fall ≡ true → arrival.depth ≡ 0 → cells stack arrival.depth ≡ [] → IsBegunOver x regs stack → IsComingOver x 0 arrival regs stack
+  pub coming-over-first : (arrival : Arrival) (regs stack : List Ty) → arrival.may_fall ≡ true → arrival.depth ≡ 0
+      → cells stack arrival.depth ≡ [] → IsBegunOver x regs stack → IsComingOver x 0 arrival regs stack
   coming-over-first arrival regs stack falling none empty begun = record {
     coming = coming-first x.verifier is.verifier arrival regs stack falling none empty begun.begun;
     met = λ q given goes a.
         by q given goes
-        (subst (λ (b : Bool). Arrives (world_in x) m b [] q given) falling (subst (λ (s : List Ty). Arrives (world_in x) m arrival.may_fall s q given) empty a));
+        (subst (λ (b : Bool). Arrives (world_in x) m b [] q given) falling
+        (subst (λ (s : List Ty). Arrives (world_in x) m arrival.may_fall s q given) empty a));
   }
     where
-      by : (q : ℕ) (given : List Ty) → GoesTo m 0 q → Arrives (world_in x) m true [] q given → IsMetOver (world_in x) m (listed x) q (record { regs = regs; stack = given })
+      by : (q : ℕ) (given : List Ty) → GoesTo m 0 q → Arrives (world_in x) m true [] q given
+          → IsMetOver (world_in x) m (listed x) q (record { regs = regs; stack = given })
       by _ given (goes_there lt) a = begun.met given a
       by _ given (goes_again e) a = begun.met given a
 
@@ -77,7 +82,8 @@ module _ (x : Indexed) (is : IsIndexed x) where
   again-arrives at arrival regs stack _ false end coming e (arrives_caught c entry room catches) = arrives_caught c entry room catches
   again-arrives at arrival regs stack _ false end coming e (arrives_full entry none) = arrives_full entry none
 
-  begun-over-again : (at : ℕ) (arrival : Arrival) (regs stack : List Ty) → at ≡ length m.code → IsComingOver x at arrival regs stack → IsBegunOver x regs stack
+  begun-over-again : (at : ℕ) (arrival : Arrival) (regs stack : List Ty) → at ≡ length m.code → IsComingOver x at arrival regs stack
+      → IsBegunOver x regs stack
   begun-over-again at arrival regs stack end come = record {
     begun = begun-again x.verifier is.verifier at arrival regs stack end come.coming;
     met = λ given a. come.met 0 given (goes_again end) (again-arrives at arrival regs stack given arrival.may_fall end come.coming refl a);
@@ -96,13 +102,17 @@ module _ (x : Indexed) (is : IsIndexed x) where
       ap (λ (n : ℕ). record { place = n; depth = length (cells stack_after fault.depth); kind = fault.kind }) (sym stopped.place)
       ∙ ap (λ (n : ℕ). record { place = fault.place; depth = n; kind = fault.kind }) (sym deep) in
       subst (λ (g : CardFault). IsRefusedOver (world_in x) m (listed x) g (frame_of regs_after stack_after fault.depth)) same
-      (over_state i (record { regs = regs; stack = stopped.given }) (frame_of regs_after stack_after fault.depth) fault.kind is.verifier.formed is.index there met stopped.wrong)
+      (over_state i (record { regs = regs; stack = stopped.given }) (frame_of regs_after stack_after fault.depth) fault.kind is.verifier.formed is.index
+      there met stopped.wrong)
 
   -- ---- what a pass has done so far
 
   pub progress-over-first : (begun given : List Ty) → given ≡ [] → IsProgressOver x begun false begun true given []
-  progress-over-first begun given e =
-      (refl, λ rest whole q. subst (λ (xs : List Placed). IsQuietOver (world_in x) m (listed x) begun true [] xs) whole (subst (λ (s : List Ty). IsQuietOver (world_in x) m (listed x) begun true s rest) e q))
+  progress-over-first begun given e = (
+    refl,
+    λ rest whole q. subst (λ (xs : List Placed). IsQuietOver (world_in x) m (listed x) begun true [] xs) whole
+        (subst (λ (s : List Ty). IsQuietOver (world_in x) m (listed x) begun true s rest) e q),
+  )
 
   pub progress-over-next :
       (begun : List Ty) (rose : Bool) (i : Placed) (yielded : List Placed) (before : Arrival) (regs stack regs_after stack_after : List Ty) (o : Outcome)
@@ -120,12 +130,17 @@ module _ (x : Indexed) (is : IsIndexed x) where
       by false true p r = subst (λ (xs : List Ty). sum_by (rises_left (world_in x).classes) regs_after < sum_by (rises_left (world_in x).classes) xs) p.0 r
       by false false p r =
           let given = over.visited.given in
-          let passed = subst (λ (xs : List Ty). IsPassed (world_in x) m i (record { regs = xs; stack = given }) (record { regs = xs; stack = cells stack_after o.depth }) o) p.0
-          (subst (λ (xs : List Ty). IsPassed (world_in x) m i (record { regs = regs; stack = given }) (record { regs = xs; stack = cells stack_after o.depth }) o) r over.visited.stepped.passed) in (
+          let passed = subst
+          (λ (xs : List Ty). IsPassed (world_in x) m i (record { regs = xs; stack = given }) (record { regs = xs; stack = cells stack_after o.depth })
+          o) p.0
+          (subst
+          (λ (xs : List Ty). IsPassed (world_in x) m i (record { regs = regs; stack = given })
+          (record { regs = xs; stack = cells stack_after o.depth }) o) r over.visited.stepped.passed) in (
             r ∙ p.0,
             λ rest whole q.
                 p.1 (i ∷ rest) (sym (append_assoc yielded (i ∷ []) rest) ∙ whole)
-                (quiet_over_more before.may_fall (cells stack before.depth) given (cells stack_after o.depth) o i rest over.visited.arrives over.suits passed q),
+                (quiet_over_more before.may_fall (cells stack before.depth) given (cells stack_after o.depth) o i rest over.visited.arrives over.suits
+                passed q),
           )
 
   pub pass-over-done :
@@ -139,25 +154,31 @@ module _ (x : Indexed) (is : IsIndexed x) where
       end : end_from 0 yielded ≡ length m.code
       end = ap (end_from 0) whole ∙ is.verifier.formed.ends
 
-      by : (b : Bool) → IsProgressOver x begun b regs arrival.may_fall (cells stack arrival.depth) yielded → MatchBool b (IsRaisedOver x begun regs stack) (IsSettledOver x begun regs)
+      by : (b : Bool) → IsProgressOver x begun b regs arrival.may_fall (cells stack arrival.depth) yielded
+          → MatchBool b (IsRaisedOver x begun regs stack) (IsSettledOver x begun regs)
       by true p = record { less = p; again = begun-over-again (end_from 0 yielded) arrival regs stack end coming }
       by false p = record { same = p.0; quiet = p.1 [] (append-nil yielded ∙ whole) (quiet_over_end arrival.may_fall (cells stack arrival.depth)) }
 
 -- ---- passes
 
-pub raised-over : (x : Indexed) (regs after stack : List Ty) (rose : Bool) → MatchBool rose (IsRaisedOver x regs after stack) (IsSettledOver x regs after) → rose ≡ true → IsRaisedOver x regs after stack
+pub raised-over : (x : Indexed) (regs after stack : List Ty) (rose : Bool) → MatchBool rose (IsRaisedOver x regs after stack) (IsSettledOver x regs after)
+    → rose ≡ true → IsRaisedOver x regs after stack
 raised-over x regs after stack true h e = h
 raised-over x regs after stack false h e = absurd (false≢true e)
 
-pub settled-over : (x : Indexed) (regs after stack : List Ty) (rose : Bool) → MatchBool rose (IsRaisedOver x regs after stack) (IsSettledOver x regs after) → rose ≡ false → IsSettledOver x regs after
+pub settled-over : (x : Indexed) (regs after stack : List Ty) (rose : Bool)
+    → MatchBool rose (IsRaisedOver x regs after stack) (IsSettledOver x regs after) → rose ≡ false → IsSettledOver x regs after
 settled-over x regs after stack true h e = absurd (false≢true (sym e))
 settled-over x regs after stack false h e = h
 
 pub finished-over : (x : Indexed) (regs after stack : List Ty) → IsBegunOver x regs stack → IsSettledOver x regs after → IsFinishedOver x after
 finished-over x regs after stack begun s = subst (IsFinishedOver x) (sym s.same) (record { met = begun.begun.met; quiet = s.quiet })
 
-pub begun-over-start : (x : Indexed) (regs stack : List Ty) → regs ≡ (start_frame x.verifier.rec.now Bottom).regs → HasSlices x.verifier regs stack → IsBegunOver x regs stack
+pub begun-over-start : (x : Indexed) (regs stack : List Ty) → regs ≡ (start_frame x.verifier.rec.now Bottom).regs → HasSlices x.verifier regs stack
+    → IsBegunOver x regs stack
 begun-over-start x regs stack e slices = record {
   begun = begun-start x.verifier regs stack e slices;
-  met = λ given a. subst (λ (xs : List Ty). IsMetOver (world_in x) (subject x) (listed x) 0 (record { regs = xs; stack = given })) (sym e) (met_over_start given a);
+  met =
+      λ given a. subst (λ (xs : List Ty). IsMetOver (world_in x) (subject x) (listed x) 0 (record { regs = xs; stack = given })) (sym e)
+      (met_over_start given a);
 }

@@ -1,5 +1,6 @@
 -- A walk comes from one place to the next, and to the end.
-use Rattle.std.proofs.Common.{◌≡◌, ℕ, ◌+◌, ◌<◌, ◌≤◌, ⊎_elim, Bool, true, false, ◌||◌, List, [], ◌∷◌, ◌++◌, length, MatchBool, Contains, sum_by, refl, sym, ◌∙◌, ap, subst, arith, append_assoc}
+use Rattle.std.proofs.Common.{◌≡◌, ℕ, ◌+◌, ◌<◌, ◌≤◌, ⊎_elim, Bool, true, false, ◌||◌, List, [], ◌∷◌, ◌++◌, length}
+use Rattle.std.proofs.Common.{MatchBool, Contains, sum_by, refl, sym, ◌∙◌, ap, subst, arith, append_assoc}
 use Rattle.std.proofs.lemmas.Bool.{false≢true, cases_lt}
 use Rattle.std.proofs.lemmas.List.{append-nil}
 use Rattle.std.proofs.lemmas.List.Elements.{Contains-append_right}
@@ -19,7 +20,8 @@ use Rattle.jc_rules.specs.Apply.{frame_of}
 use Rattle.jc_rules.proofs.Stacks.{length-cells}
 use Rattle.card_typing.specs.declared.fault.CardFault.{CardFault}
 use Rattle.card_typing.specs.Place.{IsFallenInto, fallen_first, fallen_from}
-use Rattle.card_typing.specs.Met.{Arrives, arrives_falling, arrives_empty, arrives_caught, arrives_full, IsPassed, GoesTo, goes_there, goes_again, IsMet, met_next}
+use Rattle.card_typing.specs.Met.{Arrives, arrives_falling, arrives_empty, arrives_caught, arrives_full, IsPassed, GoesTo, goes_there, goes_again, IsMet}
+use Rattle.card_typing.specs.Met.{met_next}
 use Rattle.card_typing.specs.Refusal.{IsRefused, refused_state}
 use Rattle.card_typing.specs.Pass.{IsQuiet, quiet_end, quiet_more}
 use Rattle.card_verify.specs.declared.verifier.Verifier.{Verifier}
@@ -39,7 +41,9 @@ module _ (m : Method) (order : AreListed m.code) (i : Placed) (there : HasInstru
   inside = let w = order.within i there in let l = long in omega (arith, w, l)
 
   same-place : (j : Placed) → HasInstruction m.code j → j.place + j.insn.len ≡ i.place + i.insn.len → j.place ≡ i.place
-  same-place j here e = ⊎_elim (λ before. earlier before) (λ le. ⊎_elim (λ later. absurd (after later)) (λ ge. omega arith) (cases_lt i.place j.place)) (cases_lt j.place i.place)
+  same-place j here e =
+      ⊎_elim (λ before. earlier before) (λ le. ⊎_elim (λ later. absurd (after later)) (λ ge. omega arith) (cases_lt i.place j.place))
+      (cases_lt j.place i.place)
     where
       earlier : j.place < i.place → j.place ≡ i.place
       earlier lt = let a = order.after j i here there lt in let l = long in absurd (omega (arith, a, l, e))
@@ -67,7 +71,8 @@ module _ (m : Method) (order : AreListed m.code) (i : Placed) (there : HasInstru
 -- ---- from place to place
 
 -- nothing falls into the first place from the end
-again-arrives : (w : Linked) (m : Method) (b : Bool) (given stack : List Ty) (q : ℕ) → b ≡ false → Arrives w m true [] q stack → Arrives w m b given q stack
+again-arrives : (w : Linked) (m : Method) (b : Bool) (given stack : List Ty) (q : ℕ) → b ≡ false → Arrives w m true [] q stack
+    → Arrives w m b given q stack
 again-arrives w m b given _ q e (arrives_falling free t) = arrives_empty free e
 again-arrives w m b given _ q e (arrives_empty free t) = absurd (false≢true (sym t))
 again-arrives w m b given _ q e (arrives_caught c entry room catches) = arrives_caught c entry room catches
@@ -77,7 +82,8 @@ module _ (v : Verifier) (is : IsVerifier v) where
   abbrev m : Method
   m = method v
 
-  pub coming-first : (arrival : Arrival) (regs stack : List Ty) → arrival.may_fall ≡ true → arrival.depth ≡ 0 → cells stack arrival.depth ≡ [] → CanBeginPass v regs stack → IsComing v 0 arrival regs stack
+  pub coming-first : (arrival : Arrival) (regs stack : List Ty) → arrival.may_fall ≡ true → arrival.depth ≡ 0 → cells stack arrival.depth ≡ []
+      → CanBeginPass v regs stack → IsComing v 0 arrival regs stack
   coming-first arrival regs stack falling none empty begun = record {
     met = λ q given goes a. by q given goes (subst (λ (s : List Ty). Arrives (world_of v) m arrival.may_fall s q given) empty a);
     fallen = subst (λ (b : Bool). MatchBool b (IsFallenInto m 0) (¬ (IsFallenInto m 0))) (sym falling) fallen_first;
@@ -86,7 +92,8 @@ module _ (v : Verifier) (is : IsVerifier v) where
     depth = omega (arith, none);
   }
     where
-      by : (q : ℕ) (given : List Ty) → GoesTo m 0 q → Arrives (world_of v) m arrival.may_fall [] q given → IsMet (world_of v) m q (record { regs = regs; stack = given })
+      by : (q : ℕ) (given : List Ty) → GoesTo m 0 q → Arrives (world_of v) m arrival.may_fall [] q given
+          → IsMet (world_of v) m q (record { regs = regs; stack = given })
       by _ given (goes_there lt) a = begun.met given (subst (λ (b : Bool). Arrives (world_of v) m b [] 0 given) falling a)
       by _ given (goes_again e) a = begun.met given (subst (λ (b : Bool). Arrives (world_of v) m b [] 0 given) falling a)
 
@@ -112,14 +119,17 @@ module _ (v : Verifier) (is : IsVerifier v) where
       }
 
   -- at the end of the code nothing falls through
-  never-falls : (at : ℕ) (arrival : Arrival) (regs stack : List Ty) → at ≡ length m.code → IsComing v at arrival regs stack → (b : Bool) → arrival.may_fall ≡ b → b ≡ false
+  never-falls : (at : ℕ) (arrival : Arrival) (regs stack : List Ty) → at ≡ length m.code → IsComing v at arrival regs stack → (b : Bool)
+      → arrival.may_fall ≡ b → b ≡ false
   never-falls at arrival regs stack end coming true e = absurd (omega (arith, coming.inside e, end))
   never-falls at arrival regs stack end coming false e = refl
 
-  pub begun-again : (at : ℕ) (arrival : Arrival) (regs stack : List Ty) → at ≡ length m.code → IsComing v at arrival regs stack → CanBeginPass v regs stack
+  pub begun-again : (at : ℕ) (arrival : Arrival) (regs stack : List Ty) → at ≡ length m.code → IsComing v at arrival regs stack
+      → CanBeginPass v regs stack
   begun-again at arrival regs stack end coming = record {
     met = λ given a. coming.met 0 given (goes_again end)
-        (again-arrives (world_of v) m arrival.may_fall (cells stack arrival.depth) given 0 (never-falls at arrival regs stack end coming arrival.may_fall refl) a);
+        (again-arrives (world_of v) m arrival.may_fall (cells stack arrival.depth) given 0
+        (never-falls at arrival regs stack end coming arrival.may_fall refl) a);
     slices = coming.slices;
   }
 
@@ -145,7 +155,11 @@ module _ (v : Verifier) (is : IsVerifier v) where
   less regs = sum_by (rises_left (world_of v).classes) regs
 
   pub progress-first : (begun given : List Ty) → given ≡ [] → IsProgress v begun false begun true given []
-  progress-first begun given e = (refl, λ rest whole q. subst (λ (xs : List Placed). IsQuiet (world_of v) m begun true [] xs) whole (subst (λ (s : List Ty). IsQuiet (world_of v) m begun true s rest) e q))
+  progress-first begun given e = (
+    refl,
+    λ rest whole q. subst (λ (xs : List Placed). IsQuiet (world_of v) m begun true [] xs) whole
+        (subst (λ (s : List Ty). IsQuiet (world_of v) m begun true s rest) e q),
+  )
 
   pub progress-next :
       (begun : List Ty) (rose : Bool) (i : Placed) (yielded : List Placed) (before : Arrival) (regs stack regs_after stack_after : List Ty) (o : Outcome)
@@ -162,8 +176,12 @@ module _ (v : Verifier) (is : IsVerifier v) where
       by true false p r = subst (λ (xs : List Ty). sum_by (rises_left (world_of v).classes) xs < sum_by (rises_left (world_of v).classes) begun) (sym r) p
       by false true p r = subst (λ (xs : List Ty). sum_by (rises_left (world_of v).classes) regs_after < sum_by (rises_left (world_of v).classes) xs) p.0 r
       by false false p r =
-          let passed = subst (λ (xs : List Ty). IsPassed (world_of v) m i (record { regs = xs; stack = visited.given }) (record { regs = xs; stack = cells stack_after o.depth }) o) p.0
-          (subst (λ (xs : List Ty). IsPassed (world_of v) m i (record { regs = regs; stack = visited.given }) (record { regs = xs; stack = cells stack_after o.depth }) o) r visited.stepped.passed) in (
+          let passed = subst
+          (λ (xs : List Ty). IsPassed (world_of v) m i (record { regs = xs; stack = visited.given })
+          (record { regs = xs; stack = cells stack_after o.depth }) o) p.0
+          (subst
+          (λ (xs : List Ty). IsPassed (world_of v) m i (record { regs = regs; stack = visited.given })
+          (record { regs = xs; stack = cells stack_after o.depth }) o) r visited.stepped.passed) in (
             r ∙ p.0,
             λ rest whole q.
                 p.1 (i ∷ rest) (sym (append_assoc yielded (i ∷ []) rest) ∙ whole)
@@ -181,21 +199,26 @@ module _ (v : Verifier) (is : IsVerifier v) where
       end : end_from 0 yielded ≡ length m.code
       end = ap (end_from 0) whole ∙ is.formed.ends
 
-      by : (b : Bool) → IsProgress v begun b regs arrival.may_fall (cells stack arrival.depth) yielded → MatchBool b (IsRaisedBy v begun regs stack) (IsSettled v begun regs)
+      by : (b : Bool) → IsProgress v begun b regs arrival.may_fall (cells stack arrival.depth) yielded
+          → MatchBool b (IsRaisedBy v begun regs stack) (IsSettled v begun regs)
       by true p = record { less = p; again = begun-again (end_from 0 yielded) arrival regs stack end coming }
       by false p = record { same = p.0; quiet = p.1 [] (append-nil yielded ∙ whole) (quiet_end arrival.may_fall (cells stack arrival.depth)) }
 
   -- where the next instruction stands
-  pub next-place : (yielded rest : List Placed) (i : Placed) (after : List Placed) → yielded ++ rest ≡ listing m.code → rest ≡ i ∷ after → i.place ≡ end_from 0 yielded
+  pub next-place : (yielded rest : List Placed) (i : Placed) (after : List Placed) → yielded ++ rest ≡ listing m.code → rest ≡ i ∷ after
+      → i.place ≡ end_from 0 yielded
   next-place yielded rest i after whole e =
       at-end m.code 0 yielded i after (subst (Lists m.code 0) (sym (ap (λ (r : List Placed). yielded ++ r) (sym e) ∙ whole)) (is.order m.code).lists)
 
-  pub next-stands : (yielded rest : List Placed) (i : Placed) (after : List Placed) → yielded ++ rest ≡ listing m.code → rest ≡ i ∷ after → HasInstruction m.code i
+  pub next-stands : (yielded rest : List Placed) (i : Placed) (after : List Placed) → yielded ++ rest ≡ listing m.code → rest ≡ i ∷ after
+      → HasInstruction m.code i
   next-stands yielded rest i after whole e =
-      subst (λ (xs : List Placed). Contains xs i) (ap (λ (r : List Placed). yielded ++ r) (sym e) ∙ whole) (Contains-append_right yielded (i ∷ after) i (0, omega arith, refl))
+      subst (λ (xs : List Placed). Contains xs i) (ap (λ (r : List Placed). yielded ++ r) (sym e) ∙ whole)
+      (Contains-append_right yielded (i ∷ after) i (0, omega arith, refl))
 
   -- the types of the state that is met
   pub known-here : (i : Placed) → HasInstruction m.code i → (arrival : Arrival) (regs stack given : List Ty) → IsComing v i.place arrival regs stack
-      → Arrives (world_of v) m arrival.may_fall (cells stack arrival.depth) i.place given → AreKnown (world_of v).classes (record { regs = regs; stack = given })
+      → Arrives (world_of v) m arrival.may_fall (cells stack arrival.depth) i.place given
+      → AreKnown (world_of v).classes (record { regs = regs; stack = given })
   known-here i there arrival regs stack given coming a =
       (is.sound m i.place (record { regs = regs; stack = given }) is.known (coming.met i.place given (goes_there (inside m (is.order m.code) i there)) a)).known

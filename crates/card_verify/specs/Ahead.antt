@@ -1,5 +1,6 @@
 -- The places ahead of a walk at which it must look whether control comes from elsewhere.
-use Rattle.std.specs.Prelude.{ℕ, ◌<◌, ◌≤◌, ℤ, pos, negsuc, Bool, true, ◌&&◌, nat_lt, nat_le, if◌then◌else◌, Option, Some, None}
+use Rattle.std.specs.Prelude.{ℕ, ◌<◌, ◌≤◌, ℤ, pos, negsuc, Bool, true, ◌&&◌, nat_lt, nat_le, if◌then◌else◌, Option}
+use Rattle.std.specs.Prelude.{Some, None}
 use Rattle.jc_control.specs.Method.{Method}
 use Rattle.card_typing.specs.Place.{IsTarget, IsEntry}
 use Rattle.card_verify.specs.declared.ahead.Ahead.{Ahead}

@@ -1,5 +1,6 @@
 -- A walk of the verifier along the code of a method over a target index, from the first place to the end.
-use Rattle.std.specs.Prelude.{◌≡◌, ℕ, ℤ, pos, negsuc, ◌<◌, ◌≤◌, Bool, true, List, [], ◌++◌, ◌⊎◌, length, sum_by, MatchBool, Contains}
+use Rattle.std.specs.Prelude.{◌≡◌, ℕ, ℤ, pos, negsuc, ◌<◌, ◌≤◌, Bool, true, List, [], ◌++◌, ◌⊎◌, length}
+use Rattle.std.specs.Prelude.{sum_by, MatchBool, Contains}
 use Rattle.jc_base.specs.declared.ty.Ty.{Ty}
 use Rattle.jc_base.specs.Order.{rises_left}
 use Rattle.jc_decode.specs.declared.insn.Placed.{Placed}

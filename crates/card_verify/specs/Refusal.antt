@@ -1,5 +1,6 @@
 -- Why the verifier on the card refuses a method over a target index (Leroy 2002, section 3).
-use Rattle.std.specs.Prelude.{◌≡◌, ◌≢◌, ◌⊎◌, ℕ, ℤ, pos, negsuc, ◌+◌, ◌<◌, ◌≤◌, List, [], Some, All, slice_get, Contains, ⊤}
+use Rattle.std.specs.Prelude.{◌≡◌, ◌≢◌, ◌⊎◌, ℕ, ℤ, pos, negsuc, ◌+◌, ◌<◌, ◌≤◌, List, [], Some, All}
+use Rattle.std.specs.Prelude.{slice_get, Contains, ⊤}
 use Rattle.jc_base.specs.Index.{IsAscending}
 use Rattle.jc_base.specs.World.{Linked}
 use Rattle.jc_decode.specs.declared.insn.Placed.{Placed}
@@ -13,7 +14,8 @@ use Rattle.jc_control.specs.declared.flaw.Flaw.{Flaw}
 use Rattle.jc_rules.specs.Demand.{Frame}
 use Rattle.card_typing.specs.declared.fault.CardFault.{CardFault}
 use Rattle.card_typing.specs.declared.fault.CardKind.{CardKind}
-use Rattle.card_typing.specs.declared.fault.CardKind.TheVariants.{Code, Rule, StackAtTarget, HandlerEntered, BadTarget, BadHandler, BadIndex, NotIndexed}
+use Rattle.card_typing.specs.declared.fault.CardKind.TheVariants.{Code, Rule, StackAtTarget, HandlerEntered, BadTarget, BadHandler}
+use Rattle.card_typing.specs.declared.fault.CardKind.TheVariants.{BadIndex, NotIndexed}
 use Rattle.card_typing.specs.Place.{IsEntry, IsFallenInto}
 use Rattle.card_typing.specs.Refusal.{IsWrong, fault_of, fault_at}
 use Rattle.card_verify.specs.IndexTyping.{IsIndex}
@@ -24,7 +26,8 @@ use Rattle.card_verify.specs.Met.{IsOpenOver, IsMetOver}
 -- the entry of this number is no place of an instruction, or is not above the one before it
 pub data IsBadEntry (code index : List ℕ) : ℕ → Type 0 where
   bad_place : (k p : ℕ) → slice_get index k ≡ Some p → ¬ (IsPlace code p) → IsBadEntry code index k
-  bad_order : (k p q : ℕ) → slice_get index k ≡ Some p → slice_get index (k + 1) ≡ Some q → q ≤ p → IsBadEntry code index (k + 1)
+  bad_order : (k p q : ℕ) → slice_get index k ≡ Some p → slice_get index (k + 1) ≡ Some q → q ≤ p
+      → IsBadEntry code index (k + 1)
 
 pub record IsFirstBadEntry (code index : List ℕ) (k : ℕ) : Type 0 where
   pub bad : IsBadEntry code index k

@@ -1,5 +1,6 @@
 -- A walk of the verifier along the code of a method, from the first place to the end.
-use Rattle.std.specs.Prelude.{◌≡◌, ℕ, ◌+◌, ◌<◌, ◌≤◌, Bool, true, if◌then◌else◌, List, [], ◌∷◌, ◌++◌, ◌⊎◌, length, sum_by, MatchBool, IsTrue, Option, Some, None, IsSomeAnd}
+use Rattle.std.specs.Prelude.{◌≡◌, ℕ, ◌+◌, ◌<◌, ◌≤◌, Bool, true, if◌then◌else◌, List, [], ◌∷◌, ◌++◌}
+use Rattle.std.specs.Prelude.{◌⊎◌, length, sum_by, MatchBool, IsTrue, Option, Some, None, IsSomeAnd}
 use Rattle.jc_base.specs.declared.ty.Ty.{Ty}
 use Rattle.jc_base.specs.declared.ty.Ty.TheVariants.{Class}
 use Rattle.jc_base.specs.declared.record.Handler.{Handler}

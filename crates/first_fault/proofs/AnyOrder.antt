@@ -26,18 +26,24 @@ module _ {F : Type 0} (place : F → Place) where
   abbrev pub AreExact : {X : Type 0} → (X → Option F) → Type 0
   AreExact {X} fault = (x y : X) (f g : F) → fault x ≡ Some f → fault y ≡ Some g → place f ≡ place g → f ≡ g
 
-  pair_by : (f g : F) (b c : Bool) → comes_before (place g) (place f) ≡ b → comes_before (place f) (place g) ≡ c → (place f ≡ place g → f ≡ g) → lesser place (Some f) (Some g) ≡ lesser place (Some g) (Some f)
+  pair_by : (f g : F) (b c : Bool) → comes_before (place g) (place f) ≡ b → comes_before (place f) (place g) ≡ c
+      → (place f ≡ place g → f ≡ g) → lesser place (Some f) (Some g) ≡ lesser place (Some g) (Some f)
   unfolding lesser
-  pair_by f g true true p q same = absurd (never_before (place f) (up_to-before (place f) (place g) (place f) (before-up_to (place f) (place g) (before-true (place f) (place g) q)) (before-true (place g) (place f) p)))
+  pair_by f g true true p q same =
+      absurd
+      (never_before (place f) (up_to-before (place f) (place g) (place f) (before-up_to (place f) (place g) (before-true (place f) (place g) q))
+      (before-true (place g) (place f) p)))
   pair_by f g true false p q same = rw (p, q) refl
   pair_by f g false true p q same = rw (p, q) refl
-  pair_by f g false false p q same = rw (p, q) (ap Some (same (same_place (place f) (place g) (before-false (place g) (place f) p) (before-false (place f) (place g) q))))
+  pair_by f g false false p q same =
+      rw (p, q) (ap Some (same (same_place (place f) (place g) (before-false (place g) (place f) p) (before-false (place f) (place g) q))))
 
   pair : (f g : F) → (place f ≡ place g → f ≡ g) → lesser place (Some f) (Some g) ≡ lesser place (Some g) (Some f)
   pair f g same = pair_by f g (comes_before (place g) (place f)) (comes_before (place f) (place g)) refl refl same
 
   -- what is not before a fault is not before one that is before that
-  stays : (f g h : F) → comes_before (place f) (place h) ≡ true → comes_before (place g) (place h) ≡ false → (b : Bool) → comes_before (place g) (place f) ≡ b → comes_before (place g) (place f) ≡ false
+  stays : (f g h : F) → comes_before (place f) (place h) ≡ true → comes_before (place g) (place h) ≡ false → (b : Bool)
+      → comes_before (place g) (place f) ≡ b → comes_before (place g) (place f) ≡ false
   stays f g h p q false e = e
   stays f g h p q true e =
       let g_f = before-true (place g) (place f) e in
@@ -45,7 +51,9 @@ module _ {F : Type 0} (place : F → Place) where
       let g_h = up_to-before (place g) (place f) (place h) (before-up_to (place g) (place f) g_f) f_h in
       absurd (never_before (place g) (before-then (place g) (place h) (place g) g_h (before-false (place g) (place h) q)))
 
-  three_by : (h f g : F) (b c : Bool) → comes_before (place f) (place h) ≡ b → comes_before (place g) (place h) ≡ c → (place f ≡ place g → f ≡ g) → lesser place (lesser place (Some h) (Some f)) (Some g) ≡ lesser place (lesser place (Some h) (Some g)) (Some f)
+  three_by : (h f g : F) (b c : Bool) → comes_before (place f) (place h) ≡ b → comes_before (place g) (place h) ≡ c
+      → (place f ≡ place g → f ≡ g) → lesser place (lesser place (Some h) (Some f)) (Some g) ≡ lesser place (lesser place (Some h) (Some g))
+      (Some f)
   unfolding lesser
   three_by h f g true true p q same = rw (p, q) (pair f g same)
   three_by h f g true false p q same =
@@ -57,22 +65,26 @@ module _ {F : Type 0} (place : F → Place) where
   three_by h f g false false p q same = rw (p, q, p) refl
 
   -- of two things it does not matter which is looked at first
-  two-turned : (before o p : Option F) → ((f g : F) → o ≡ Some f → p ≡ Some g → place f ≡ place g → f ≡ g) → lesser place (lesser place before o) p ≡ lesser place (lesser place before p) o
+  two-turned : (before o p : Option F) → ((f g : F) → o ≡ Some f → p ≡ Some g → place f ≡ place g → f ≡ g)
+      → lesser place (lesser place before o) p ≡ lesser place (lesser place before p) o
   unfolding lesser
   two-turned before None p same = refl
   two-turned before (Some f) None same = refl
   two-turned None (Some f) (Some g) same = pair f g (λ e. same f g refl refl e)
-  two-turned (Some h) (Some f) (Some g) same = three_by h f g (comes_before (place f) (place h)) (comes_before (place g) (place h)) refl refl (λ e. same f g refl refl e)
+  two-turned (Some h) (Some f) (Some g) same =
+      three_by h f g (comes_before (place f) (place h)) (comes_before (place g) (place h)) refl refl (λ e. same f g refl refl e)
 
   module _ {X : Type 0} (fault : X → Option F) (exact : AreExact fault) where
-    one-turned : (x : X) (xs : List X) (before : Option F) → lesser place (least_from place before fault xs) (fault x) ≡ least_from place (lesser place before (fault x)) fault xs
+    one-turned : (x : X) (xs : List X) (before : Option F) → lesser place (least_from place before fault xs) (fault x) ≡ least_from place
+        (lesser place before (fault x)) fault xs
     one-turned x [] before = refl
     one-turned x (y ∷ ys) before =
         one-turned x ys (lesser place before (fault y))
         ∙ ap (λ b. least_from place b fault ys) (two-turned before (fault y) (fault x) (λ f g p q e. exact y x f g p q e))
 
     -- of two lists of things it does not matter which is gone through first
-    pub least-turned : (xs ys : List X) (before : Option F) → least_from place (least_from place before fault xs) fault ys ≡ least_from place (least_from place before fault ys) fault xs
+    pub least-turned : (xs ys : List X) (before : Option F) → least_from place (least_from place before fault xs) fault ys ≡ least_from place
+        (least_from place before fault ys) fault xs
     least-turned xs [] before = refl
     least-turned xs (y ∷ ys) before =
         ap (λ b. least_from place b fault ys) (one-turned y xs before)

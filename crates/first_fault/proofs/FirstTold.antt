@@ -25,7 +25,8 @@ module _ {F : Type 0} (place : F → Place) where
   things-told f xs = record { same = least-at_fault place f xs None }
 
   -- the same of two and of three kinds of things
-  pub both-told : {X Y : Type 0} (f : X → Option F) (xs : List X) (g : Y → Option F) (ys : List Y) → IsLeastOf (least_from place (least_of place f xs) g ys) (filter_map f xs ++ filter_map g ys)
+  pub both-told : {X Y : Type 0} (f : X → Option F) (xs : List X) (g : Y → Option F) (ys : List Y)
+      → IsLeastOf (least_from place (least_of place f xs) g ys) (filter_map f xs ++ filter_map g ys)
   both-told f xs g ys = record { same = least-both place f xs g ys }
 
   pub three-told : {X Y Z : Type 0} (f : X → Option F) (xs : List X) (g : Y → Option F) (ys : List Y) (h : Z → Option F) (zs : List Z)
@@ -39,8 +40,13 @@ module _ {F : Type 0} (place : F → Place) where
   step_by None r s e = e
   step_by (Some f) r s e = refl
 
-  pub step : {o : Option F} {faults : List F} {r : Result (Unit {0}) F} {others : List (List F)} → IsLeastOf o faults → IsTold r others → IsTold ((refused o >>= λ _. r)) (faults ∷ others)
-  step {o} {faults} {r} {others} e h = record { same = subst (λ x. (refused x >>= λ _. r) ≡ first_refused (faults ∷ others)) (sym e.same) (step_by (least_in place None faults) r (first_refused others) h.same) }
+  pub step : {o : Option F} {faults : List F} {r : Result (Unit {0}) F} {others : List (List F)} → IsLeastOf o faults → IsTold r others
+      → IsTold ((refused o >>= λ _. r)) (faults ∷ others)
+  step {o} {faults} {r} {others} e h =
+      record {
+        same = subst (λ x. (refused x >>= λ _. r) ≡ first_refused (faults ∷ others)) (sym e.same)
+            (step_by (least_in place None faults) r (first_refused others) h.same);
+      }
 
   end_by : (o : Option F) → refused o ≡ (refused o >>= λ _. Ok (tt {0}))
   end_by None = refl
@@ -64,7 +70,9 @@ module _ {F : Type 0} (place : F → Place) where
 
   -- ---- what the first list that is not empty tells
 
-  first_of : (faults : List F) (others : List (List F)) (o : Option F) (f : F) → least_in place None faults ≡ o → (first_refused others ≡ Err f → IsFirst place others f) → (refused o >>= λ _. first_refused others) ≡ Err f → IsFirst place (faults ∷ others) f
+  first_of : (faults : List F) (others : List (List F)) (o : Option F) (f : F) → least_in place None faults ≡ o
+      → (first_refused others ≡ Err f → IsFirst place others f) → (refused o >>= λ _. first_refused others) ≡ Err f
+      → IsFirst place (faults ∷ others) f
   first_of faults others None f e known h = inr (least-none place faults e, known h)
   first_of faults others (Some g) f e known h = let k : g ≡ f = cc in inl (least-found place faults f (e ∙ ap Some k))
 
@@ -72,7 +80,9 @@ module _ {F : Type 0} (place : F → Place) where
   refused-first [] f h = absurd cc
   refused-first (faults ∷ others) f h = first_of faults others (least_in place None faults) f refl (λ k. refused-first others f k) h
 
-  empty_of : (faults : List F) (others : List (List F)) (o : Option F) → least_in place None faults ≡ o → (first_refused others ≡ Ok (tt {0}) → AllEmpty others) → (refused o >>= λ _. first_refused others) ≡ Ok (tt {0}) → AllEmpty (faults ∷ others)
+  empty_of : (faults : List F) (others : List (List F)) (o : Option F) → least_in place None faults ≡ o
+      → (first_refused others ≡ Ok (tt {0}) → AllEmpty others) → (refused o >>= λ _. first_refused others) ≡ Ok (tt {0})
+      → AllEmpty (faults ∷ others)
   empty_of faults others None e known h = (least-none place faults e, known h)
   empty_of faults others (Some g) e known h = absurd cc
 

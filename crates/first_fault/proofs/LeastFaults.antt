@@ -19,23 +19,28 @@ module _ {F : Type 0} (place : F → Place) where
   abbrev pub least_in : Option F → List F → Option F
   least_in before = least_from place before Some
 
-  found_one : {X : Type 0} (fault : X → Option F) (xs : List X) (before o : Option F) → ((b : Option F) → least_from place b fault xs ≡ least_in b (filter_map fault xs)) → least_from place (lesser place before o) fault xs ≡ least_in before (cons_option o (filter_map fault xs))
+  found_one : {X : Type 0} (fault : X → Option F) (xs : List X) (before o : Option F)
+      → ((b : Option F) → least_from place b fault xs ≡ least_in b (filter_map fault xs)) → least_from place (lesser place before o) fault xs
+      ≡ least_in before (cons_option o (filter_map fault xs))
   unfolding lesser
   found_one fault xs before None h = h before
   found_one fault xs before (Some f) h = h (lesser place before (Some f))
 
-  pub least-at_fault : {X : Type 0} (fault : X → Option F) (xs : List X) (before : Option F) → least_from place before fault xs ≡ least_in before (filter_map fault xs)
+  pub least-at_fault : {X : Type 0} (fault : X → Option F) (xs : List X) (before : Option F)
+      → least_from place before fault xs ≡ least_in before (filter_map fault xs)
   least-at_fault fault [] before = refl
   least-at_fault fault (x ∷ xs) before = found_one fault xs before (fault x) (λ b. least-at_fault fault xs b)
 
   -- the same of two and of three kinds of things, one after the other
-  pub least-both : {X Y : Type 0} (f : X → Option F) (xs : List X) (g : Y → Option F) (ys : List Y) → least_from place (least_of place f xs) g ys ≡ least_in None (filter_map f xs ++ filter_map g ys)
+  pub least-both : {X Y : Type 0} (f : X → Option F) (xs : List X) (g : Y → Option F) (ys : List Y) → least_from place (least_of place f xs) g ys
+      ≡ least_in None (filter_map f xs ++ filter_map g ys)
   least-both f xs g ys =
       least-at_fault g ys (least_of place f xs)
       ∙ ap (λ b. least_in b (filter_map g ys)) (least-at_fault f xs None)
       ∙ sym (fold-append _ None (filter_map f xs) (filter_map g ys))
 
-  pub least-three : {X Y Z : Type 0} (f : X → Option F) (xs : List X) (g : Y → Option F) (ys : List Y) (h : Z → Option F) (zs : List Z) → least_from place (least_from place (least_of place f xs) g ys) h zs ≡ least_in None ((filter_map f xs ++ filter_map g ys) ++ filter_map h zs)
+  pub least-three : {X Y Z : Type 0} (f : X → Option F) (xs : List X) (g : Y → Option F) (ys : List Y) (h : Z → Option F) (zs : List Z)
+      → least_from place (least_from place (least_of place f xs) g ys) h zs ≡ least_in None ((filter_map f xs ++ filter_map g ys) ++ filter_map h zs)
   least-three f xs g ys h zs =
       least-at_fault h zs (least_from place (least_of place f xs) g ys)
       ∙ ap (λ b. least_in b (filter_map h zs)) (least-both f xs g ys)
@@ -61,7 +66,9 @@ module _ {F : Type 0} (place : F → Place) where
       let m : IsBefore (place f) (place x) = before-then (place f) (place g) (place x) farther.0 le in
       inr (farther.0, inr (m, farther.1))
 
-  chosen_least : (g x : F) (xs : List F) (f : F) (b : Bool) → comes_before (place x) (place g) ≡ b → (least_in (Some x) xs ≡ Some f → IsLeast place (x ∷ xs) f) → (least_in (Some g) xs ≡ Some f → IsLeast place (g ∷ xs) f) → least_in (lesser place (Some g) (Some x)) xs ≡ Some f → IsLeast place (g ∷ x ∷ xs) f
+  chosen_least : (g x : F) (xs : List F) (f : F) (b : Bool) → comes_before (place x) (place g) ≡ b
+      → (least_in (Some x) xs ≡ Some f → IsLeast place (x ∷ xs) f) → (least_in (Some g) xs ≡ Some f → IsLeast place (g ∷ xs) f)
+      → least_in (lesser place (Some g) (Some x)) xs ≡ Some f → IsLeast place (g ∷ x ∷ xs) f
   unfolding lesser
   chosen_least g x xs f true e by_x by_g h =
       let l = by_x (rw e at h) in
@@ -75,7 +82,8 @@ module _ {F : Type 0} (place : F → Place) where
       inl (e, tt {0})
   least-some g (x ∷ xs) f h = chosen_least g x xs f (comes_before (place x) (place g)) refl (λ k. least-some x xs f k) (λ k. least-some g xs f k) h
 
-  chosen_none : (g x : F) (xs : List F) (b : Bool) → comes_before (place x) (place g) ≡ b → (least_in (Some x) xs ≡ None → ⊥) → (least_in (Some g) xs ≡ None → ⊥) → least_in (lesser place (Some g) (Some x)) xs ≡ None → ⊥
+  chosen_none : (g x : F) (xs : List F) (b : Bool) → comes_before (place x) (place g) ≡ b → (least_in (Some x) xs ≡ None → ⊥)
+      → (least_in (Some g) xs ≡ None → ⊥) → least_in (lesser place (Some g) (Some x)) xs ≡ None → ⊥
   unfolding lesser
   chosen_none g x xs true e by_x by_g h = by_x (rw e at h)
   chosen_none g x xs false e by_x by_g h = by_g (rw e at h)

@@ -24,7 +24,8 @@ pub before-up_to : (a b : Place) → IsBefore a b → IsUpTo a b
 before-up_to a b (inl p) = inl p
 before-up_to a b (inr p) = let h = p.1 in inr (p.0, omega arith)
 
-by_cases : (a b : Place) (l e s : Bool) → ltb a.first b.first ≡ l → eqb a.first b.first ≡ e → ltb a.second b.second ≡ s → (l || (e && s)) ≡ true → IsBefore a b
+by_cases : (a b : Place) (l e s : Bool) → ltb a.first b.first ≡ l → eqb a.first b.first ≡ e → ltb a.second b.second ≡ s
+    → (l || (e && s)) ≡ true → IsBefore a b
 by_cases a b true e s p q r h = inl (ltb-true a.first b.first p)
 by_cases a b false true true p q r h = inr (eqb-true a.first b.first q, ltb-true a.second b.second r)
 by_cases a b false true false p q r h = absurd cc
@@ -33,7 +34,8 @@ by_cases a b false false s p q r h = absurd cc
 pub before-true : (a b : Place) → comes_before a b ≡ true → IsBefore a b
 before-true a b h = by_cases a b _ _ _ refl refl refl h
 
-not_by_cases : (a b : Place) (l e s : Bool) → ltb a.first b.first ≡ l → eqb a.first b.first ≡ e → ltb a.second b.second ≡ s → (l || (e && s)) ≡ false → IsUpTo b a
+not_by_cases : (a b : Place) (l e s : Bool) → ltb a.first b.first ≡ l → eqb a.first b.first ≡ e → ltb a.second b.second ≡ s
+    → (l || (e && s)) ≡ false → IsUpTo b a
 not_by_cases a b true e s p q r h = absurd cc
 not_by_cases a b false true true p q r h = absurd cc
 not_by_cases a b false true false p q r h =

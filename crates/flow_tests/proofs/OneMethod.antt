@@ -1,5 +1,6 @@
 -- The sample world meets the invariant of worlds.
-use Rattle.std.proofs.Common.{◌≡◌, ℕ, zero, suc, ◌+◌, ◌<◌, ◌≤◌, Bool, true, false, List, [], ◌∷◌, length, refl, sym, subst, arith, lit<, lit≤, All}
+use Rattle.std.proofs.Common.{◌≡◌, ℕ, zero, suc, ◌+◌, ◌<◌, ◌≤◌, Bool, true, false, List, [], ◌∷◌, length, refl, sym, subst, arith}
+use Rattle.std.proofs.Common.{lit<, lit≤, All}
 use Rattle.std.specs.Prelude.{IfSome, slice_get, slice_index, ◌==◌}
 use Rattle.std.proofs.lemmas.List.Elements.{All-from_recursion, All-nil}
 use Rattle.jc_base.specs.declared.ty.Ty.TheVariants.{Class, IntHigh, IntLow, Short}
@@ -40,8 +41,10 @@ chains_end : (c : ℕ) → IsClass classes c → EndsWithObject classes c
 unfolding chain chain_over parent_of
 chains_end zero is = record { classes = All-from_recursion (IsClass classes) (0 ∷ []) (is_object, tt); ends = refl }
 chains_end (suc zero) is = record { classes = All-from_recursion (IsClass classes) (1 ∷ 0 ∷ []) (is_throwable, (is_object, tt)); ends = refl }
-chains_end (suc (suc zero)) is = record { classes = All-from_recursion (IsClass classes) (2 ∷ 1 ∷ 0 ∷ []) (is_first, (is_throwable, (is_object, tt))); ends = refl }
-chains_end (suc (suc (suc zero))) is = record { classes = All-from_recursion (IsClass classes) (3 ∷ 1 ∷ 0 ∷ []) (is_second, (is_throwable, (is_object, tt))); ends = refl }
+chains_end (suc (suc zero)) is =
+    record { classes = All-from_recursion (IsClass classes) (2 ∷ 1 ∷ 0 ∷ []) (is_first, (is_throwable, (is_object, tt))); ends = refl }
+chains_end (suc (suc (suc zero))) is =
+    record { classes = All-from_recursion (IsClass classes) (3 ∷ 1 ∷ 0 ∷ []) (is_second, (is_throwable, (is_object, tt))); ends = refl }
 chains_end (suc (suc (suc (suc c)))) is = let lt : suc (suc (suc (suc c))) < 4 = is.number in absurd (omega arith)
 
 pub are_classes : AreClasses classes
@@ -57,13 +60,49 @@ own_declared = All-from_recursion (IsDeclared classes) own_cells (tt, (tt, (tt, 
 linked : (methods : List MethodRec) (c : ℕ) → IfSome (slice_get classes.records c) (IsLinkedClass 1 classes methods c)
 unfolding parent_of package_of public_of visible_of cell_count
 linked methods zero =
-    record { home = lit< tt; earlier = tt; cells = refl; size = lit≤ tt; own = All-nil _; public = nothing_inherited methods 0; visible = nothing_inherited methods 0; implements = All-nil _ }
+    record {
+      home = lit< tt;
+      earlier = tt;
+      cells = refl;
+      size = lit≤ tt;
+      own = All-nil _;
+      public = nothing_inherited methods 0;
+      visible = nothing_inherited methods 0;
+      implements = All-nil _;
+    }
 linked methods (suc zero) =
-    record { home = lit< tt; earlier = lit≤ tt; cells = refl; size = lit≤ tt; own = All-nil _; public = nothing_inherited methods 1; visible = nothing_inherited methods 1; implements = All-nil _ }
+    record {
+      home = lit< tt;
+      earlier = lit≤ tt;
+      cells = refl;
+      size = lit≤ tt;
+      own = All-nil _;
+      public = nothing_inherited methods 1;
+      visible = nothing_inherited methods 1;
+      implements = All-nil _;
+    }
 linked methods (suc (suc zero)) =
-    record { home = lit< tt; earlier = lit≤ tt; cells = refl; size = lit≤ tt; own = own_declared; public = nothing_inherited methods 2; visible = nothing_inherited methods 2; implements = All-nil _ }
+    record {
+      home = lit< tt;
+      earlier = lit≤ tt;
+      cells = refl;
+      size = lit≤ tt;
+      own = own_declared;
+      public = nothing_inherited methods 2;
+      visible = nothing_inherited methods 2;
+      implements = All-nil _;
+    }
 linked methods (suc (suc (suc zero))) =
-    record { home = lit< tt; earlier = lit≤ tt; cells = refl; size = lit≤ tt; own = All-nil _; public = nothing_inherited methods 3; visible = nothing_inherited methods 3; implements = All-nil _ }
+    record {
+      home = lit< tt;
+      earlier = lit≤ tt;
+      cells = refl;
+      size = lit≤ tt;
+      own = All-nil _;
+      public = nothing_inherited methods 3;
+      visible = nothing_inherited methods 3;
+      implements = All-nil _;
+    }
 linked methods (suc (suc (suc (suc c)))) = tt
 
 no_visible : (home : ℕ) (b : Bool) → (0 == home) ≡ b → visible_in classes home 1 ≡ []
@@ -107,8 +146,10 @@ none_extends = λ i leads. leads-nowhere extends_nothing leads
 
 -- ---- the method and the world
 
-pub caught_all : (len start end entry : ℕ) → start ≤ end → end ≤ len → entry < len → IsHandler classes (ClassOf 1 ∷ []) len (record { start = start; end = end; entry = entry; index = 0; class = 1 })
-caught_all len start end entry range inside enters = record { range = range; inside = inside; entry = enters; catches = refl; class = is_throwable; thrown = same }
+pub caught_all : (len start end entry : ℕ) → start ≤ end → end ≤ len → entry < len
+    → IsHandler classes (ClassOf 1 ∷ []) len (record { start = start; end = end; entry = entry; index = 0; class = 1 })
+caught_all len start end entry range inside enters =
+    record { range = range; inside = inside; entry = enters; catches = refl; class = is_throwable; thrown = same }
 
 declared : (shape : Shape) → All (IsDeclared classes) (arguments_of shape)
 declared shapes.Thrown = All-from_recursion (IsDeclared classes) (Class 2 ∷ Class 3 ∷ []) (is_first, (is_second, tt))
@@ -152,7 +193,8 @@ few_registers shapes.Object = lit≤ tt
 few_registers shapes.Wide = lit≤ tt
 few_registers shapes.Ints = lit≤ tt
 
-module _ (shape : Shape) (code : List ℕ) (handlers : List Handler) (filled : 0 < length code) (short : length code ≤ 32767) (few : length handlers ≤ 255) (fit : All (IsHandler classes (ClassOf 1 ∷ []) (length code)) handlers) where
+module _ (shape : Shape) (code : List ℕ) (handlers : List Handler) (filled : 0 < length code) (short : length code ≤ 32767)
+    (few : length handlers ≤ 255) (fit : All (IsHandler classes (ClassOf 1 ∷ []) (length code)) handlers) where
   the_method : IsMethod (code ∷ []) ((ClassOf 1 ∷ []) ∷ []) classes (only_method shape (length code) handlers)
   unfolding is_interface
   the_method =
@@ -185,11 +227,15 @@ module _ (shape : Shape) (code : List ℕ) (handlers : List Handler) (filled : 0
           array_cells = lit≤ tt;
         };
         one_pool_each = refl;
-        members = All-from_recursion (All (IsMember classes (only_method shape (length code) handlers ∷ []) [])) ((ClassOf 1 ∷ []) ∷ []) (All-from_recursion (IsMember classes (only_method shape (length code) handlers ∷ []) []) (ClassOf 1 ∷ []) (lit< tt, tt), tt);
+        members =
+            All-from_recursion (All (IsMember classes (only_method shape (length code) handlers ∷ []) [])) ((ClassOf 1 ∷ []) ∷ [])
+            (All-from_recursion (IsMember classes (only_method shape (length code) handlers ∷ []) []) (ClassOf 1 ∷ []) (lit< tt, tt), tt);
         chains = are_classes;
         extension = none_extends;
         classes = linked (only_method shape (length code) handlers ∷ []);
-        methods = All-from_recursion (IsMethod (code ∷ []) ((ClassOf 1 ∷ []) ∷ []) classes) (only_method shape (length code) handlers ∷ []) (the_method, tt);
+        methods =
+            All-from_recursion (IsMethod (code ∷ []) ((ClassOf 1 ∷ []) ∷ []) classes) (only_method shape (length code) handlers ∷ [])
+            (the_method, tt);
         statics = All-nil _;
         slots = tt;
         arrays = All-nil _;

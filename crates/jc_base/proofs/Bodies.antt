@@ -1,5 +1,6 @@
 -- A climb over the superclasses of a class that looks at the first package-visible list of each package.
-use Rattle.std.proofs.Common.{◌≡◌, ◌≢◌, ℕ, ◌+◌, ◌<◌, ◌≤◌, ◌==◌, Bool, true, false, List, [], ◌∷◌, length, refl, sym, ◌∙◌, ap, subst, arith, All, Some, None, get_or, set, ◌⊎◌, inl, inr, slice_get, take, IsSomeAnd, IfSome, Option}
+use Rattle.std.proofs.Common.{◌≡◌, ◌≢◌, ℕ, ◌+◌, ◌<◌, ◌≤◌, ◌==◌, Bool, true, false, List, [], ◌∷◌, length, refl, sym}
+use Rattle.std.proofs.Common.{◌∙◌, ap, subst, arith, All, Some, None, get_or, set, ◌⊎◌, inl, inr, slice_get, take, IsSomeAnd, IfSome, Option}
 use Rattle.std.proofs.lemmas.Bool.Decides.{nat_tests, eqb_tells}
 use Rattle.std.proofs.lemmas.Bool.{true≢false}
 use Rattle.std.proofs.lemmas.List.Elements.{All-get_or, All-more}
@@ -43,7 +44,8 @@ module _ (t : ClassTable) (methods : List MethodRec) (c : ℕ) where
   nearest-end at home e ne = rw (e, other (package_of t at) home ne) refl
 
   -- the list of the class that is reached is that of its package, where this was not seen
-  pub visible-here : (seen : List Bool) (at : ℕ) (cs : List ℕ) → chain t at ≡ at ∷ cs → Climbs seen at → get_or seen (package_of t at) false ≡ false → visible_in t (package_of t at) c ≡ visible_of t at
+  pub visible-here : (seen : List Bool) (at : ℕ) (cs : List ℕ) → chain t at ≡ at ∷ cs → Climbs seen at → get_or seen (package_of t at) false
+      ≡ false → visible_in t (package_of t at) c ≡ visible_of t at
   unfolding visible_in
   visible-here seen at cs e k h = ap (list_of (visible_of t)) (k.rest (package_of t at) h ∙ nearest-here at cs e)
 
@@ -52,7 +54,8 @@ module _ (t : ClassTable) (methods : List MethodRec) (c : ℕ) where
     pub bodies : get_or seen (package_of t at) false ≡ false → All (HasBody methods) (visible_of t at)
     pub inside : package_of t at < length seen
 
-  mark-met : (seen : List Bool) (at : ℕ) (cs : List ℕ) → chain t at ≡ at ∷ cs → Climbs seen at → Met seen at → (b : Bool) → get_or seen (package_of t at) false ≡ b → All (HasBody methods) (visible_in t (package_of t at) c)
+  mark-met : (seen : List Bool) (at : ℕ) (cs : List ℕ) → chain t at ≡ at ∷ cs → Climbs seen at → Met seen at → (b : Bool)
+      → get_or seen (package_of t at) false ≡ b → All (HasBody methods) (visible_in t (package_of t at) c)
   mark-met seen at cs e k m true h = k.met (package_of t at) h
   mark-met seen at cs e k m false h = subst (All (HasBody methods)) (sym (visible-here seen at cs e k h)) (m.bodies h)
 
@@ -64,7 +67,8 @@ module _ (t : ClassTable) (methods : List MethodRec) (c : ℕ) where
       by_home (inl is) = subst (λ n. All (HasBody methods) (visible_in t n c)) is (mark-met seen at cs e k m (get_or seen (package_of t at) false) refl)
       by_home (inr ne) = k.met home (sym (get_or-set_other seen (package_of t at) home true false (λ e. ne (sym e))) ∙ h)
 
-  not_seen : (seen : List Bool) (at home : ℕ) → package_of t at < length seen → get_or (set seen (package_of t at) true) home false ≡ false → package_of t at ≢ home
+  not_seen : (seen : List Bool) (at home : ℕ) → package_of t at < length seen → get_or (set seen (package_of t at) true) home false ≡ false
+      → package_of t at ≢ home
   not_seen seen at home inside h is =
       true≢false (sym (get_or-set_same seen (package_of t at) true false inside) ∙ ap (λ n. get_or (set seen (package_of t at) true) n false) is ∙ h)
 
@@ -76,17 +80,22 @@ module _ (t : ClassTable) (methods : List MethodRec) (c : ℕ) where
         k.rest home (sym (get_or-set_other seen (package_of t at) home true false (λ e. ne (sym e))) ∙ h) ∙ nearest-above at p home next.chain_is ne;
   }
 
-  pub Climbs-end : (seen : List Bool) (at : ℕ) → IsEndOfChain t at → Climbs seen at → Met seen at → (home : ℕ) → All (HasBody methods) (visible_in t home c)
+  pub Climbs-end : (seen : List Bool) (at : ℕ) → IsEndOfChain t at → Climbs seen at → Met seen at → (home : ℕ)
+      → All (HasBody methods) (visible_in t home c)
   unfolding visible_in
   Climbs-end seen at end k m home = by_home (dec_eq (package_of t at) home)
     where
       by_home : ((package_of t at) ≡ home) ⊎ ((package_of t at) ≢ home) → All (HasBody methods) (list_of (visible_of t) (nearest_of t home c))
-      by_home (inl is) = subst (λ n. All (HasBody methods) (list_of (visible_of t) (nearest_of t n c))) is (mark-met seen at [] end.chain_is k m (get_or seen (package_of t at) false) refl)
+      by_home (inl is) =
+          subst (λ n. All (HasBody methods) (list_of (visible_of t) (nearest_of t n c))) is
+          (mark-met seen at [] end.chain_is k m (get_or seen (package_of t at) false) refl)
       by_home (inr ne) = by_seen (get_or seen home false) refl
         where
           by_seen : (b : Bool) → get_or seen home false ≡ b → All (HasBody methods) (list_of (visible_of t) (nearest_of t home c))
           by_seen true h = k.met home h
-          by_seen false h = subst (λ o. All (HasBody methods) (list_of (visible_of t) o)) (sym (k.rest home h ∙ nearest-end at home end.chain_is ne)) (λ i d lt. absurd (omega arith))
+          by_seen false h =
+              subst (λ o. All (HasBody methods) (list_of (visible_of t) o)) (sym (k.rest home h ∙ nearest-end at home end.chain_is ne))
+              (λ i d lt. absurd (omega arith))
 
   -- what was read of the class that is reached
   module _ (seen : List Bool) (at home : ℕ) (d : Bool) (is : home ≡ package_of t at) (inside : home < length seen) where
@@ -96,10 +105,14 @@ module _ (t : ClassTable) (methods : List MethodRec) (c : ℕ) where
     pub Met-read : (get_or seen home d ≡ false → All (HasBody methods) (visible_of t at)) → Met seen at
     Met-read h = record { bodies = λ e. h (sym read_at ∙ e); inside = subst (λ n. n < length seen) is inside }
 
-    pub Climbs-refuses : Climbs seen at → ((get_or seen home d ≡ false → All (HasBody methods) (visible_of t at)) → ⊥) → ((h : ℕ) → All (HasBody methods) (visible_in t h c)) → ⊥
-    Climbs-refuses k refused all = refused (λ e. subst (All (HasBody methods)) (visible-here seen at (chain-front t at).0 (chain-front t at).1 k (read_at ∙ e)) (all (package_of t at)))
+    pub Climbs-refuses : Climbs seen at → ((get_or seen home d ≡ false → All (HasBody methods) (visible_of t at)) → ⊥)
+        → ((h : ℕ) → All (HasBody methods) (visible_in t h c)) → ⊥
+    Climbs-refuses k refused all =
+        refused (λ e. subst (All (HasBody methods)) (visible-here seen at (chain-front t at).0 (chain-front t at).1 k (read_at ∙ e))
+        (all (package_of t at)))
 
-    pub Climbs-step : (p : ℕ) → IsNextOnChain t at p → Climbs seen at → (get_or seen home d ≡ false → All (HasBody methods) (visible_of t at)) → Climbs (set seen home true) p
+    pub Climbs-step : (p : ℕ) → IsNextOnChain t at p → Climbs seen at → (get_or seen home d ≡ false → All (HasBody methods) (visible_of t at))
+        → Climbs (set seen home true) p
     Climbs-step p next k h = subst (λ n. Climbs (set seen n true) p) (sym is) (Climbs-next seen at p next k (Met-read h))
 
 -- an entry without a body, and a list with one
@@ -109,32 +122,46 @@ HasBody-not methods n m e h b = true≢false (sym h ∙ subst (λ o. IsSomeAnd o
 HasBody-read : (methods : List MethodRec) (n : ℕ) (m : MethodRec) → slice_get methods n ≡ Some m → m.is_abstract ≡ false → HasBody methods n
 HasBody-read methods n m e h = subst (λ o. IsSomeAnd o (λ k. k.is_abstract ≡ false)) (sym e) h
 
-module _ (methods : List MethodRec) (list : List ℕ) (i d : ℕ) (m : MethodRec) (inside : i < length list) (read : slice_get methods (get_or list i d) ≡ Some m) where
+module _ (methods : List MethodRec) (list : List ℕ) (i d : ℕ) (m : MethodRec) (inside : i < length list)
+    (read : slice_get methods (get_or list i d) ≡ Some m) where
   pub bodies-none : m.is_abstract ≡ true → All (HasBody methods) list → ⊥
   bodies-none h all = HasBody-not methods (get_or list i d) m read h (All-get_or (HasBody methods) list i d inside all)
 
   pub bodies-more : m.is_abstract ≡ false → All (HasBody methods) (take i list) → All (HasBody methods) (take (i + 1) list)
   bodies-more h all = All-more (HasBody methods) list i d inside all (HasBody-read methods (get_or list i d) m read h)
 
-pub bodies-all : (methods : List MethodRec) (list : List ℕ) (i : ℕ) → length list ≤ i → All (HasBody methods) (take i list) → All (HasBody methods) list
+pub bodies-all : (methods : List MethodRec) (list : List ℕ) (i : ℕ) → length list ≤ i → All (HasBody methods) (take i list)
+    → All (HasBody methods) list
 bodies-all methods list i h all = subst (All (HasBody methods)) (take_all i list h) all
 
 -- ---- what holds of the classes of some packages holds of them among more
 
-linked_by : (p q : ℕ) (t : ClassTable) (methods : List MethodRec) (c : ℕ) (o : Option ClassRec) → p ≤ q → IfSome o (IsLinkedClass p t methods c) → IfSome o (IsLinkedClass q t methods c)
+linked_by : (p q : ℕ) (t : ClassTable) (methods : List MethodRec) (c : ℕ) (o : Option ClassRec) → p ≤ q → IfSome o (IsLinkedClass p t methods c)
+    → IfSome o (IsLinkedClass q t methods c)
 linked_by p q t methods c None le h = tt
 linked_by p q t methods c (Some r) le h =
     let home : r.package < p = h.home in
-    record { home = omega arith; earlier = h.earlier; cells = h.cells; size = h.size; own = h.own; public = h.public; visible = h.visible; implements = h.implements }
+    record {
+      home = omega arith;
+      earlier = h.earlier;
+      cells = h.cells;
+      size = h.size;
+      own = h.own;
+      public = h.public;
+      visible = h.visible;
+      implements = h.implements;
+    }
 
 pub linked_more : (p q : ℕ) (t : ClassTable) (methods : List MethodRec) → p ≤ q → AreLinkedClasses p t methods → AreLinkedClasses q t methods
 linked_more p q t methods le h c = linked_by p q t methods c (slice_get t.records c) le (h c)
 
 -- ---- entries of dispatch lists are numbers of methods
 
-in_methods : (methods : List MethodRec) (n : ℕ) (o : Option MethodRec) (P : MethodRec → Type 0) → slice_get methods n ≡ o → IsSomeAnd o P → n < length methods
+in_methods : (methods : List MethodRec) (n : ℕ) (o : Option MethodRec) (P : MethodRec → Type 0) → slice_get methods n ≡ o → IsSomeAnd o P
+    → n < length methods
 in_methods methods n None P e h = absurd h
 in_methods methods n (Some m) P e h = slice_get_within methods n m e
 
-pub inside_methods : (t : ClassTable) (methods : List MethodRec) (c : ℕ) (list : List ℕ) → All (λ n. IsSomeAnd (slice_get methods n) (IsInherited t c)) list → All (λ n. n < length methods) list
+pub inside_methods : (t : ClassTable) (methods : List MethodRec) (c : ℕ) (list : List ℕ)
+    → All (λ n. IsSomeAnd (slice_get methods n) (IsInherited t c)) list → All (λ n. n < length methods) list
 inside_methods t methods c list all k d lt = in_methods methods (get_or list k d) (slice_get methods (get_or list k d)) (IsInherited t c) refl (all k d lt)

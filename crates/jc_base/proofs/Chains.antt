@@ -1,5 +1,6 @@
 -- What holds of chains of superclasses.
-use Rattle.std.proofs.Common.{◌≡◌, ℕ, zero, suc, ◌<◌, ◌⊎◌, inl, inr, Bool, true, false, List, [], ◌∷◌, length, Option, Some, None, refl, sym, ap, subst, ◌∙◌, arith}
+use Rattle.std.proofs.Common.{◌≡◌, ℕ, zero, suc, ◌<◌, ◌⊎◌, inl, inr, Bool, true, false, List, [], ◌∷◌, length, Option, Some, None, refl}
+use Rattle.std.proofs.Common.{sym, ap, subst, ◌∙◌, arith}
 use Rattle.std.specs.Prelude.{All, IsTrue, IfSome, IfNone, slice_get}
 use Rattle.jc_base.specs.declared.record.ClassRec.{ClassRec}
 use Rattle.std.proofs.lemmas.List.Elements.{All-head, All-tail}
@@ -14,7 +15,8 @@ chain_over-front t (suc n) c = (list_of (chain_over t n) (parent_of t c), refl)
 pub last-cons : (x : ℕ) (xs ys : List ℕ) (y : ℕ) → xs ≡ y ∷ ys → last (x ∷ xs) ≡ last xs
 last-cons x xs ys y e = subst (λ (zs : List ℕ). last (x ∷ zs) ≡ last zs) (sym e) refl
 
-more_above : (t : ClassTable) (o n c : ℕ) (p : Option ℕ) → parent_of t c ≡ p → ((q : ℕ) → last (chain_over t n q) ≡ Some o → chain_over t (suc n) q ≡ chain_over t n q)
+more_above : (t : ClassTable) (o n c : ℕ) (p : Option ℕ) → parent_of t c ≡ p
+    → ((q : ℕ) → last (chain_over t n q) ≡ Some o → chain_over t (suc n) q ≡ chain_over t n q)
     → last (chain_over t (suc n) c) ≡ Some o → chain_over t (suc (suc n)) c ≡ chain_over t (suc n) c
 unfolding chain_over
 more_above t o n c None e more ends = rw e refl
@@ -25,7 +27,8 @@ more_above t o n c (Some p) e more ends =
     rw e (ap (λ (xs : List ℕ). c ∷ xs) (more p rest))
 
 -- a chain that ends with a class without superclass is as long as it gets
-pub chain_over-more : (t : ClassTable) (o n c : ℕ) → parent_of t o ≡ None → last (chain_over t n c) ≡ Some o → chain_over t (suc n) c ≡ chain_over t n c
+pub chain_over-more : (t : ClassTable) (o n c : ℕ) → parent_of t o ≡ None → last (chain_over t n c) ≡ Some o
+    → chain_over t (suc n) c ≡ chain_over t n c
 unfolding chain_over
 chain_over-more t o zero c top ends =
     let one : Some c ≡ Some o = ends in
@@ -43,7 +46,8 @@ chain_alone t zero c e = refl
 chain_alone t (suc n) c e = rw e refl
 
 -- the class above a class is next on its chain
-next_over : (t : ClassTable) (n c p : ℕ) → parent_of t (object t) ≡ None → parent_of t c ≡ Some p → All (IsClass t) (chain_over t (suc n) c) → last (chain_over t (suc n) c) ≡ Some (object t)
+next_over : (t : ClassTable) (n c p : ℕ) → parent_of t (object t) ≡ None → parent_of t c ≡ Some p → All (IsClass t) (chain_over t (suc n) c)
+    → last (chain_over t (suc n) c) ≡ Some (object t)
     → IsClass t p × (chain_over t (suc n) c ≡ c ∷ chain_over t (suc n) p)
 next_over t n c p top e classes ends =
     let f = chain_over-front t n p in
@@ -94,10 +98,12 @@ ends_at : (t : ClassTable) (c : ℕ) (o : Option ℕ) → AreClasses t → IsCla
 ends_at t c None are is e = end_of_chain t c are is e
 ends_at t c (Some p) are is e = tt
 
-pub parent_climbs : (t : ClassTable) (c : ℕ) (r : ClassRec) → AreClasses t → IsClass t c → slice_get t.records c ≡ Some r → IfSome r.parent (IsNextOnChain t c)
+pub parent_climbs : (t : ClassTable) (c : ℕ) (r : ClassRec) → AreClasses t → IsClass t c → slice_get t.records c ≡ Some r
+    → IfSome r.parent (IsNextOnChain t c)
 parent_climbs t c r are is e = climbs_to t c r.parent are is (sym (parent_read t c r is e))
 
-pub parent_ends : (t : ClassTable) (c : ℕ) (r : ClassRec) → AreClasses t → IsClass t c → slice_get t.records c ≡ Some r → IfNone r.parent (IsEndOfChain t c)
+pub parent_ends : (t : ClassTable) (c : ℕ) (r : ClassRec) → AreClasses t → IsClass t c → slice_get t.records c ≡ Some r
+    → IfNone r.parent (IsEndOfChain t c)
 parent_ends t c r are is e = ends_at t c r.parent are is (sym (parent_read t c r is e))
 
 pub interface_read : (t : ClassTable) (c : ℕ) (r : ClassRec) → slice_get t.records c ≡ Some r → r.interface ≡ is_interface t c

@@ -1,11 +1,13 @@
 -- Climbing the chain of superclasses one class at a time.
-use Rattle.std.proofs.Common.{◌≡◌, ℕ, zero, suc, ◌+◌, ◌<◌, ◌≤◌, ◌⊎◌, inl, inr, Bool, true, false, max, List, [], ◌∷◌, length, Option, Some, None, refl, sym, ap, subst, ◌∙◌, arith}
+use Rattle.std.proofs.Common.{◌≡◌, ℕ, zero, suc, ◌+◌, ◌<◌, ◌≤◌, ◌⊎◌, inl, inr, Bool, true, false, max, List, [], ◌∷◌, length}
+use Rattle.std.proofs.Common.{Option, Some, None, refl, sym, ap, subst, ◌∙◌, arith}
 use Rattle.std.specs.Prelude.{◌==◌, ◌||◌, slice_get}
 use Rattle.std.proofs.lemmas.Bool.{eqb-true, eq-eqb, false≢true, cases_lt, or_cases, ne_eqb}
 use Rattle.std.proofs.Math.Bool.{or-true}
 use Rattle.std.proofs.lemmas.Option.{slice_get_within}
 use Rattle.jc_base.specs.declared.record.ClassRec.{ClassRec}
-use Rattle.jc_base.specs.Class.{ClassTable, IsClass, AreClasses, IsNextOnChain, is_interface, parent_of, parent_in_record, chain_over, chain, height, height_below, list_of, object}
+use Rattle.jc_base.specs.Class.{ClassTable, IsClass, AreClasses, IsNextOnChain, is_interface, parent_of, parent_in_record, chain_over, chain, height}
+use Rattle.jc_base.specs.Class.{height_below, list_of, object}
 use Rattle.jc_base.specs.Order.{is_on_chain}
 use Rattle.jc_base.proofs.Chains.{chain_over-front, chain_alone, next_on_chain, end_of_chain}
 
@@ -109,7 +111,8 @@ pub on_chain-parent : (t : ClassTable) (c p : ℕ) → AreClasses t → parent_o
 on_chain-parent t c p are e = on_above t p c p (next_on_chain t c p are (parent_of-class t c p e) e) (on_chain-here t p)
 
 -- a class on a chain has the end of that chain for its own
-pub on_chain-trans : (t : ClassTable) → AreClasses t → (c d e : ℕ) → is_on_chain t d c ≡ true → is_on_chain t e d ≡ true → is_on_chain t e c ≡ true
+pub on_chain-trans : (t : ClassTable) → AreClasses t → (c d e : ℕ) → is_on_chain t d c ≡ true → is_on_chain t e d ≡ true
+    → is_on_chain t e c ≡ true
 on_chain-trans t are = climb t are (λ c. (d e : ℕ) → is_on_chain t d c ≡ true → is_on_chain t e d ≡ true → is_on_chain t e c ≡ true)
     (λ c top alone d e on above. subst (λ (x : ℕ). is_on_chain t e x ≡ true) (sym (on_alone t d c alone on)) above)
     (λ c p link next before d e on above. elim (on_next t d c p next on) [

@@ -7,7 +7,8 @@ use Rattle.std.proofs.lemmas.Bool.Decides.{nat_tests}
 use Rattle.std.proofs.lemmas.List.Elements.{All-nil}
 use Rattle.jc_base.specs.declared.record.MethodRec.{MethodRec}
 use Rattle.jc_base.specs.Class.{ClassTable, is_interface, chain, list_of}
-use Rattle.jc_base.specs.Dispatch.{HasBody, IsConcrete, has_body, has_body_in, all_have_bodies, is_concrete, package_of, public_of, visible_of, nearest_of, visible_in}
+use Rattle.jc_base.specs.Dispatch.{HasBody, IsConcrete, has_body, has_body_in, all_have_bodies, is_concrete, package_of, public_of, visible_of, nearest_of}
+use Rattle.jc_base.specs.Dispatch.{visible_in}
 use Rattle.jc_base.specs.Laws.{ConcreteDecides}
 use Rattle.jc_base.proofs.Eaching.{Each-at, Each-from_All}
 use Rattle.jc_base.proofs.Tests.{All-from_test, test-from_All, found-passes, same_truth}
@@ -28,22 +29,26 @@ module _ (t : ClassTable) (methods : List MethodRec) (c : ℕ) where
   bodies-complete list h = test-from_All (has_body methods) (HasBody methods) (λ n. body-complete (slice_get methods n)) list h
 
   -- the list of the packages of the chain are all that there are
-  visible-by : (home : ℕ) (o : Option ℕ) → nearest_of t home c ≡ o → All (λ a. All (HasBody methods) (visible_in t (package_of t a) c)) (chain t c) → All (HasBody methods) (visible_in t home c)
+  visible-by : (home : ℕ) (o : Option ℕ) → nearest_of t home c ≡ o → All (λ a. All (HasBody methods) (visible_in t (package_of t a) c))
+      (chain t c) → All (HasBody methods) (visible_in t home c)
   unfolding visible_in nearest_of
   visible-by home None e each = rw e (All-nil (HasBody methods))
   visible-by home (Some a) e each =
       let found = found-passes (λ x. package_of t x == home) (chain t c) a e in
       let same : package_of t a ≡ home = eqb-true (package_of t a) home found.0 in
       let own = Each-at (λ x. All (HasBody methods) (list_of (visible_of t) (find (λ y. package_of t y == package_of t x) (chain t c)))) a (chain t c)
-      (Each-from_All (λ x. All (HasBody methods) (list_of (visible_of t) (find (λ y. package_of t y == package_of t x) (chain t c)))) (chain t c) each) found.1 in
+      (Each-from_All (λ x. All (HasBody methods) (list_of (visible_of t) (find (λ y. package_of t y == package_of t x) (chain t c)))) (chain t c) each)
+      found.1 in
       subst (λ n. All (HasBody methods) (list_of (visible_of t) (find (λ y. package_of t y == n) (chain t c)))) same own
 
-  visible-sound : list_all (λ a. all_have_bodies methods (visible_in t (package_of t a) c)) (chain t c) ≡ true → (home : ℕ) → All (HasBody methods) (visible_in t home c)
+  visible-sound : list_all (λ a. all_have_bodies methods (visible_in t (package_of t a) c)) (chain t c) ≡ true → (home : ℕ)
+      → All (HasBody methods) (visible_in t home c)
   visible-sound h home = visible-by home (nearest_of t home c) refl
       (All-from_test (λ a. all_have_bodies methods (visible_in t (package_of t a) c)) (λ a. All (HasBody methods) (visible_in t (package_of t a) c))
       (λ a. bodies-sound (visible_in t (package_of t a) c)) (chain t c) h)
 
-  visible-complete : ((home : ℕ) → All (HasBody methods) (visible_in t home c)) → list_all (λ a. all_have_bodies methods (visible_in t (package_of t a) c)) (chain t c) ≡ true
+  visible-complete : ((home : ℕ) → All (HasBody methods) (visible_in t home c))
+      → list_all (λ a. all_have_bodies methods (visible_in t (package_of t a) c)) (chain t c) ≡ true
   visible-complete h = test-from_All (λ a. all_have_bodies methods (visible_in t (package_of t a) c)) (λ a. Unit {0})
       (λ a _. bodies-complete (visible_in t (package_of t a) c) (h (package_of t a))) (chain t c) (λ k d lt. tt)
 

@@ -18,7 +18,8 @@ count-le : (p q : ℕ → Bool) (xs : List ℕ) → ((x : ℕ) → p x ≡ true 
 count-le p q [] h = omega arith
 count-le p q (x ∷ xs) h = omega (arith, count-cons p x xs, count-cons q x xs, one-le (p x) (q x) (h x), count-le p q xs h)
 
-pub count-less : (p q : ℕ → Bool) (xs : List ℕ) (y : ℕ) → ((x : ℕ) → p x ≡ true → q x ≡ true) → Contains xs y → p y ≡ false → q y ≡ true → count_by p xs < count_by q xs
+pub count-less : (p q : ℕ → Bool) (xs : List ℕ) (y : ℕ) → ((x : ℕ) → p x ≡ true → q x ≡ true) → Contains xs y → p y ≡ false
+    → q y ≡ true → count_by p xs < count_by q xs
 count-less p q [] y h at lacks has = absurd (omega (arith, at.1))
 count-less p q (x ∷ xs) y h at lacks has = elim (Contains-append_cases (x ∷ []) xs y at) [
   | inl here ↦ elim (Contains-push_cases [] x y here) [

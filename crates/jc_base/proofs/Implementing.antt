@@ -82,29 +82,40 @@ implements-complete : (t : ClassTable) → AreClasses t → (c j : ℕ) → Impl
 unfolding implements
 implements-complete t are c j is =
     test-from_some (names_one t j) (chain t c) is.class (among-on_chain t c is.class (on_chain-from_Below t are c is.class is.inherits))
-    (test-from_some (λ i. is_or_extends t i j) (implemented t is.class) is.named (IsAmong-from_Contains is.named (implemented t is.class) is.names) (or_extends-complete t is.named j is.extends))
+    (test-from_some (λ i. is_or_extends t i j) (implemented t is.class) is.named (IsAmong-from_Contains is.named (implemented t is.class) is.names)
+    (or_extends-complete t is.named j is.extends))
 
 pub implements-decides : (t : ClassTable) → AreClasses t → ImplementsDecides t
 implements-decides t are = λ c j. (implements-sound t are c j, implements-complete t are c j)
 
 -- ---- what an interface extends comes to an end
 
-extended-inside_by : (t : ClassTable) (methods : List MethodRec) (r : ClassRec) (b : Bool) → r.interface ≡ b → MatchBool b (All (IsExtended t) r.implements) (All (IsImplemented t methods r.public) r.implements) → All (λ j. j < length t.records) (extended_in (Some r))
-extended-inside_by t methods r true e is = rw e (All-map (λ j. j < length t.records) (λ (i : Iface). i.class) r.implements (All-weaker (IsExtended t) (λ (i : Iface). i.class < length t.records) (λ i h. h.number) r.implements is))
+extended-inside_by : (t : ClassTable) (methods : List MethodRec) (r : ClassRec) (b : Bool) → r.interface ≡ b
+    → MatchBool b (All (IsExtended t) r.implements) (All (IsImplemented t methods r.public) r.implements)
+    → All (λ j. j < length t.records) (extended_in (Some r))
+extended-inside_by t methods r true e is =
+    rw e
+    (All-map (λ j. j < length t.records) (λ (i : Iface). i.class) r.implements
+    (All-weaker (IsExtended t) (λ (i : Iface). i.class < length t.records) (λ i h. h.number) r.implements is))
 extended-inside_by t methods r false e is = rw e (All-nil (λ j. j < length t.records))
 
-inside_by : (packages : ℕ) (t : ClassTable) (methods : List MethodRec) (i j : ℕ) (o : Option ClassRec) → slice_get t.records i ≡ o → IfSome o (IsLinkedClass packages t methods i) → Contains (extended_in o) j → j < length t.records
+inside_by : (packages : ℕ) (t : ClassTable) (methods : List MethodRec) (i j : ℕ) (o : Option ClassRec) → slice_get t.records i ≡ o
+    → IfSome o (IsLinkedClass packages t methods i) → Contains (extended_in o) j → j < length t.records
 inside_by packages t methods i j None e is h = absurd (omega (arith, h.1))
-inside_by packages t methods i j (Some r) e is h = All-contains (λ k. k < length t.records) (extended_in (Some r)) j (extended-inside_by t methods r r.interface refl is.implements) h
+inside_by packages t methods i j (Some r) e is h =
+    All-contains (λ k. k < length t.records) (extended_in (Some r)) j (extended-inside_by t methods r r.interface refl is.implements) h
 
-extends-inside : (packages : ℕ) (t : ClassTable) (methods : List MethodRec) → AreLinkedClasses packages t methods → (i j : ℕ) → Contains (extended t i) j → j < length t.records
+extends-inside : (packages : ℕ) (t : ClassTable) (methods : List MethodRec) → AreLinkedClasses packages t methods → (i j : ℕ)
+    → Contains (extended t i) j → j < length t.records
 unfolding extended
 extends-inside packages t methods linked i j h = inside_by packages t methods i j (slice_get t.records i) refl (linked i) h
 
-fewer-extended : (t : ClassTable) → NoneExtendsItself t → (i j : ℕ) → Contains (extended t i) j → j < length t.records → extended_count t j < extended_count t i
+fewer-extended : (t : ClassTable) → NoneExtendsItself t → (i j : ℕ) → Contains (extended t i) j → j < length t.records
+    → extended_count t j < extended_count t i
 unfolding extended_count
 fewer-extended t none i j step inside =
-    count-less (λ a. leads_below (extended t) (length t.records) j a) (λ a. leads_below (extended t) (length t.records) i a) (range_with_len 0 (length t.records)) j
+    count-less (λ a. leads_below (extended t) (length t.records) j a) (λ a. leads_below (extended t) (length t.records) i a)
+    (range_with_len 0 (length t.records)) j
     (λ a h. leads-decided t i a (further step (leads-sound (extended t) (length t.records) j a h)))
     (number-among (length t.records) j inside)
     (false_from_ne_true (leads_below (extended t) (length t.records) j j) (λ h. none j (leads-sound (extended t) (length t.records) j j h)))
@@ -114,7 +125,8 @@ few-extended : (t : ClassTable) (i : ℕ) → extended_count t i ≤ length t.re
 unfolding extended_count
 few-extended t i = count-most (λ j. leads_below (extended t) (length t.records) i j) (length t.records)
 
-pub extends-ends : (packages : ℕ) (t : ClassTable) (methods : List MethodRec) → AreLinkedClasses packages t methods → NoneExtendsItself t → ExtendsEnds t
+pub extends-ends : (packages : ℕ) (t : ClassTable) (methods : List MethodRec) → AreLinkedClasses packages t methods → NoneExtendsItself t
+    → ExtendsEnds t
 extends-ends packages t methods linked none = record {
   fewer = λ i j step. fewer-extended t none i j step (extends-inside packages t methods linked i j step);
   most = few-extended t;

@@ -30,12 +30,16 @@ module _ (packages : ℕ) (t : ClassTable) (methods : List MethodRec) (are : Are
   cells-own c = own_by c (parent_of t c) refl
 
 -- an instance begins with the cells of each class on its chain
-pub cells-on_chain : (t : ClassTable) → AreClasses t → (c h : ℕ) → is_on_chain t h c ≡ true → (farther : List Ty) × (cells_of t c ≡ cells_of t h ++ farther)
+pub cells-on_chain : (t : ClassTable) → AreClasses t → (c h : ℕ) → is_on_chain t h c ≡ true → (farther : List Ty)
+    × (cells_of t c ≡ cells_of t h ++ farther)
 cells-on_chain t are = climb t are (λ c. (h : ℕ) → is_on_chain t h c ≡ true → (farther : List Ty) × (cells_of t c ≡ cells_of t h ++ farther))
     (λ c top alone h on. ([], ap (cells_of t) (on_alone t h c alone on) ∙ sym (append-nil (cells_of t h))))
     (λ c p link next before h on. elim (on_next t h c p next on) [
       | inl here ↦ ([], ap (cells_of t) here ∙ sym (append-nil (cells_of t h)))
       | inr up ↦
-          let above = before h up in
-          (above.0 ++ own_cells t c, cells-next t c p next ∙ ap (λ (xs : List Ty). xs ++ own_cells t c) above.1 ∙ append_assoc (cells_of t h) above.0 (own_cells t c))
+          let above = before h up in (
+            above.0 ++ own_cells t c,
+            cells-next t c p next ∙ ap (λ (xs : List Ty). xs ++ own_cells t c) above.1
+                ∙ append_assoc (cells_of t h) above.0 (own_cells t c),
+          )
     ])

@@ -1,11 +1,14 @@
 -- The computed join is the least type above both, and a type rises seldom.
-use Rattle.std.proofs.Common.{◌≡◌, ℕ, ◌+◌, ◌<◌, ◌≤◌, ◌⊎◌, inl, inr, Bool, true, false, ◌&&◌, length, Some, refl, sym, ap, subst, ◌∙◌, arith}
+use Rattle.std.proofs.Common.{◌≡◌, ℕ, ◌+◌, ◌<◌, ◌≤◌, ◌⊎◌, inl, inr, Bool, true, false, ◌&&◌, length, Some, refl, sym, ap, subst}
+use Rattle.std.proofs.Common.{◌∙◌, arith}
 use Rattle.std.specs.Prelude.{◌==◌, if◌then◌else◌}
 use Rattle.std.proofs.lemmas.Bool.{false≢true, true≢false, eqb-true, and_parts}
 use Rattle.jc_base.specs.declared.ty.Ty.{Ty}
 use Rattle.jc_base.specs.declared.ty.Ty.TheVariants.{Bottom, Short, IntHigh, IntLow, Null, Class, ArrBool, ArrByte, ArrShort, ArrInt, ArrRef, Fresh, Top}
 use Rattle.jc_base.specs.Class.{ClassTable, IsClass, AreClasses, parent_of, height, object}
-use Rattle.jc_base.specs.Order.{Below, same, joined, nothing, anything, null_object, null_array, subclass, array_object, array_array, IsArray, of_booleans, of_bytes, of_shorts, of_ints, of_references, IsJoin, IsKnown, is_below, is_on_chain, is_reference, is_above_arrays, common, join_of, rises_left}
+use Rattle.jc_base.specs.Order.{Below, same, joined, nothing, anything, null_object, null_array, subclass, array_object, array_array, IsArray, of_booleans}
+use Rattle.jc_base.specs.Order.{of_bytes, of_shorts, of_ints, of_references, IsJoin, IsKnown, is_below, is_on_chain, is_reference, is_above_arrays, common}
+use Rattle.jc_base.specs.Order.{join_of, rises_left}
 use Rattle.jc_base.proofs.Chains.{next_on_chain}
 use Rattle.jc_base.proofs.Climbs.{on_chain-here, on_chain-object, on_chain-class, parent_of-class, chain-height, chain-not_empty, chain-alone}
 use Rattle.jc_base.proofs.Meets.{IsNearest, common-nearest}
@@ -13,13 +16,15 @@ use Rattle.jc_base.proofs.Subtypes.{is_below-refl, is_below-top, is_below-from_B
 
 -- ---- two classes, and two arrays of classes
 
-above_classes : (t : ClassTable) → AreClasses t → (c d n : ℕ) (u : Ty) → IsNearest t c d n → is_below t (Class c) u ≡ true → is_below t (Class d) u ≡ true → is_below t (Class n) u ≡ true
+above_classes : (t : ClassTable) → AreClasses t → (c d n : ℕ) (u : Ty) → IsNearest t c d n → is_below t (Class c) u ≡ true
+    → is_below t (Class d) u ≡ true → is_below t (Class n) u ≡ true
 unfolding is_below
 above_classes t are c d n (Class e) near p q = near.least e p q
 above_classes t are c d n Top near p q = refl
 above_classes t are c d n u near p q = absurd (false≢true p)
 
-above_references : (t : ClassTable) → AreClasses t → (c d n : ℕ) (u : Ty) → IsNearest t c d n → is_below t (ArrRef c) u ≡ true → is_below t (ArrRef d) u ≡ true → is_below t (ArrRef n) u ≡ true
+above_references : (t : ClassTable) → AreClasses t → (c d n : ℕ) (u : Ty) → IsNearest t c d n → is_below t (ArrRef c) u ≡ true
+    → is_below t (ArrRef d) u ≡ true → is_below t (ArrRef n) u ≡ true
 unfolding is_below
 above_references t are c d n (ArrRef e) near p q = near.least e p q
 above_references t are c d n (Class e) near p q = p
@@ -32,7 +37,9 @@ join_of_classes t are c d c_is d_is =
     record {
       left = below_class t are c (common t c d) near.left;
       right = below_class t are d (common t c d) near.right;
-      least = λ u p q. Below-from_is_below t are (Class (common t c d)) u (above_classes t are c d (common t c d) u near (is_below-from_Below t are p) (is_below-from_Below t are q));
+      least =
+          λ u p q. Below-from_is_below t are (Class (common t c d)) u
+          (above_classes t are c d (common t c d) u near (is_below-from_Below t are p) (is_below-from_Below t are q));
     }
 
 join_of_arrays : (t : ClassTable) → AreClasses t → (c d : ℕ) → IsClass t c → IsClass t d → IsJoin t (ArrRef c) (ArrRef d) (ArrRef (common t c d))
@@ -41,7 +48,9 @@ join_of_arrays t are c d c_is d_is =
     record {
       left = array_array (below_class t are c (common t c d) near.left);
       right = array_array (below_class t are d (common t c d) near.right);
-      least = λ u p q. Below-from_is_below t are (ArrRef (common t c d)) u (above_references t are c d (common t c d) u near (is_below-from_Below t are p) (is_below-from_Below t are q));
+      least =
+          λ u p q. Below-from_is_below t are (ArrRef (common t c d)) u
+          (above_references t are c d (common t c d) u near (is_below-from_Below t are p) (is_below-from_Below t are q));
     }
 
 -- ---- the others
@@ -114,7 +123,8 @@ null_is_below t (ArrRef c) h = refl
 null_is_below t b h = absurd (false≢true h)
 
 -- what is above two types that do not compare and are not both references is Top
-only_top : (t : ClassTable) (a b u : Ty) → Sort a → Sort b → is_below t a b ≡ false → is_below t b a ≡ false → (is_reference a && is_reference b) ≡ false
+only_top : (t : ClassTable) (a b u : Ty) → Sort a → Sort b → is_below t a b ≡ false → is_below t b a ≡ false
+    → (is_reference a && is_reference b) ≡ false
     → is_below t a u ≡ true → is_below t b u ≡ true → u ≡ Top
 only_top t a b u bottom sb ab ba r p q = absurd (true≢false (sym (bottom_below t b) ∙ ab))
 only_top t a b u top sb ab ba r p q = absurd (true≢false (sym (is_below-top t b) ∙ ba))
@@ -143,7 +153,8 @@ only_top t a b u (object_or_array h) (object_or_array k) ab ba r p q = absurd (t
 data Reference : Ty → Type 0 where
   class : {c : ℕ} → Reference (Class c)
   references : {c : ℕ} → Reference (ArrRef c)
-  primitive : {a : Ty} → IsArray a → ((t : ClassTable) (u : Ty) → is_below t a u ≡ true → (u ≡ a) ⊎ (is_above_arrays t u ≡ true)) → Reference a
+  primitive : {a : Ty} → IsArray a → ((t : ClassTable) (u : Ty) → is_below t a u ≡ true → (u ≡ a) ⊎ (is_above_arrays t u ≡ true))
+      → Reference a
 
 above_booleans : (t : ClassTable) (u : Ty) → is_below t ArrBool u ≡ true → (u ≡ ArrBool) ⊎ (is_above_arrays t u ≡ true)
 unfolding is_below
@@ -182,7 +193,8 @@ object_is_below t Top h = refl
 object_is_below t u h = absurd (false≢true h)
 
 -- what is above a class and an array is above every array
-above_class_array : (t : ClassTable) (c d : ℕ) (u : Ty) → is_below t (Class c) u ≡ true → is_below t (ArrRef d) u ≡ true → is_above_arrays t u ≡ true
+above_class_array : (t : ClassTable) (c d : ℕ) (u : Ty) → is_below t (Class c) u ≡ true → is_below t (ArrRef d) u ≡ true
+    → is_above_arrays t u ≡ true
 unfolding is_below
 above_class_array t c d (Class e) p q = q
 above_class_array t c d Top p q = refl
@@ -212,7 +224,8 @@ below_object t are (Class c) known class = below_class t are c (object t) (on_ch
 below_object t are a known references = array_object of_references refl
 below_object t are a known (primitive k only) = array_object k refl
 
-others_is : (t : ClassTable) → AreClasses t → (a b : Ty) → AreOthers a b → IsKnown t a → IsKnown t b → (x y z : Bool) → is_below t a b ≡ x → is_below t b a ≡ y → (is_reference a && is_reference b) ≡ z
+others_is : (t : ClassTable) → AreClasses t → (a b : Ty) → AreOthers a b → IsKnown t a → IsKnown t b → (x y z : Bool) → is_below t a b ≡ x
+    → is_below t b a ≡ y → (is_reference a && is_reference b) ≡ z
     → IsJoin t a b (if x then b else if y then a else if z then Class (object t) else Top)
 others_is t are a b others ka kb true y z ab ba r =
     record { left = Below-from_is_below t are a b ab; right = same; least = λ u p q. q }
@@ -225,16 +238,21 @@ others_is t are a b others ka kb false false true ab ba r =
     record {
       left = below_object t are a ka ra;
       right = below_object t are b kb rb;
-      least = λ u p q. Below-from_is_below t are (Class (object t)) u (object_is_below t u (above_both t a b u others ra rb ab ba (is_below-from_Below t are p) (is_below-from_Below t are q)));
+      least =
+          λ u p q. Below-from_is_below t are (Class (object t)) u
+          (object_is_below t u (above_both t a b u others ra rb ab ba (is_below-from_Below t are p) (is_below-from_Below t are q)));
     }
 others_is t are a b others ka kb false false false ab ba r =
     record {
       left = anything;
       right = anything;
-      least = λ u p q. subst (λ (x : Ty). Below t Top x) (sym (only_top t a b u (sort_of a) (sort_of b) ab ba r (is_below-from_Below t are p) (is_below-from_Below t are q))) same;
+      least =
+          λ u p q. subst (λ (x : Ty). Below t Top x)
+          (sym (only_top t a b u (sort_of a) (sort_of b) ab ba r (is_below-from_Below t are p) (is_below-from_Below t are q))) same;
     }
 
-others_known : (t : ClassTable) → AreClasses t → (a b : Ty) → IsKnown t a → IsKnown t b → (x y z : Bool) → IsKnown t (if x then b else if y then a else if z then Class (object t) else Top)
+others_known : (t : ClassTable) → AreClasses t → (a b : Ty) → IsKnown t a → IsKnown t b → (x y z : Bool)
+    → IsKnown t (if x then b else if y then a else if z then Class (object t) else Top)
 others_known t are a b ka kb true y z = kb
 others_known t are a b ka kb false true z = ka
 others_known t are a b ka kb false false true = are.objects
@@ -312,7 +330,8 @@ null_class_falls : (t : ClassTable) (c : ℕ) → rises_left t (Class c) < rises
 unfolding rises_left
 null_class_falls t c = omega (arith, chain-height t c)
 
-array_array_falls : (t : ClassTable) (c d : ℕ) → (Class c ≡ Class d) ⊎ (rises_left t (Class d) < rises_left t (Class c)) → (ArrRef c ≡ ArrRef d) ⊎ (rises_left t (ArrRef d) < rises_left t (ArrRef c))
+array_array_falls : (t : ClassTable) (c d : ℕ) → (Class c ≡ Class d) ⊎ (rises_left t (Class d) < rises_left t (Class c)) → (ArrRef c ≡ ArrRef d)
+    ⊎ (rises_left t (ArrRef d) < rises_left t (ArrRef c))
 unfolding rises_left
 array_array_falls t c d (inl e) = let n : c ≡ d = cc in inl (ap (λ (x : ℕ). ArrRef x) n)
 array_array_falls t c d (inr lt) = inr (omega arith)
@@ -327,7 +346,8 @@ unfolding rises_left
 top_falls t a (inl e) = inl e
 top_falls t a (inr lt) = inr lt
 
-falls-joined : (t : ClassTable) (a b c : Ty) → (a ≡ b) ⊎ (rises_left t b < rises_left t a) → (b ≡ c) ⊎ (rises_left t c < rises_left t b) → (a ≡ c) ⊎ (rises_left t c < rises_left t a)
+falls-joined : (t : ClassTable) (a b c : Ty) → (a ≡ b) ⊎ (rises_left t b < rises_left t a) → (b ≡ c) ⊎ (rises_left t c < rises_left t b)
+    → (a ≡ c) ⊎ (rises_left t c < rises_left t a)
 falls-joined t a b c (inl e) second = subst (λ (x : Ty). (x ≡ c) ⊎ (rises_left t c < rises_left t x)) (sym e) second
 falls-joined t a b c (inr lt) (inl e) = inr (subst (λ (x : Ty). rises_left t x < rises_left t a) e lt)
 falls-joined t a b c (inr lt) (inr le) = inr (omega arith)

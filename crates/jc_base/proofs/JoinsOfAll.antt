@@ -15,7 +15,8 @@ record IsJoinFrom (t : ClassTable) (first : Ty) (types : List Ty) (j : Ty) : Typ
   pub above : All (λ a. Below t a j) types
   pub least : (u : Ty) → Below t first u → All (λ a. Below t a u) types → Below t j u
 
-joined-from : (t : ClassTable) → AreClasses t → (first : Ty) (types : List Ty) → IsKnown t first → All (IsKnown t) types → IsJoinFrom t first types (fold (join_of t) first types)
+joined-from : (t : ClassTable) → AreClasses t → (first : Ty) (types : List Ty) → IsKnown t first → All (IsKnown t) types
+    → IsJoinFrom t first types (fold (join_of t) first types)
 joined-from t are first [] known all = record { known = known; start = same; above = All-nil _; least = λ u below each. below }
 joined-from t are first (a ∷ types) known all =
     let a_known = All-head (IsKnown t) a types all in

@@ -62,14 +62,16 @@ leads-step next (suc n) a b h = or_left (leads_below next n a b) (leads_below ne
 -- to n and from there
 over : (next : ℕ → List ℕ) (n a b : ℕ) → leads_below next n a n ≡ true → leads_below next n n b ≡ true → leads_below next (suc n) a b ≡ true
 unfolding leads_below
-over next n a b e f = or_right (leads_below next n a b) (leads_below next n a n && leads_below next n n b) (and_from (leads_below next n a n) (leads_below next n n b) e f)
+over next n a b e f =
+    or_right (leads_below next n a b) (leads_below next n a n && leads_below next n n b) (and_from (leads_below next n a n) (leads_below next n n b) e f)
 
 below : (next : ℕ → List ℕ) (n a b : ℕ) → leads_below next n a b ≡ true → leads_below next (suc n) a b ≡ true
 unfolding leads_below
 below next n a b e = or_left (leads_below next n a b) (leads_below next n a n && leads_below next n n b) e
 
 -- either not over n, or to n and from there
-parts : (next : ℕ → List ℕ) (n a b : ℕ) → leads_below next (suc n) a b ≡ true → (leads_below next n a b ≡ true) ⊎ ((leads_below next n a n ≡ true) × (leads_below next n n b ≡ true))
+parts : (next : ℕ → List ℕ) (n a b : ℕ) → leads_below next (suc n) a b ≡ true → (leads_below next n a b ≡ true)
+    ⊎ ((leads_below next n a n ≡ true) × (leads_below next n n b ≡ true))
 unfolding leads_below
 parts next n a b e = elim (or_cases (leads_below next n a b) (leads_below next n a n && leads_below next n n b) e) [
   | inl h ↦ inl h
@@ -83,7 +85,8 @@ to_last next n a e = elim (parts next n a n e) [ inl h ↦ h | inr h ↦ h.0 ]
 from_last : (next : ℕ → List ℕ) (n b : ℕ) → leads_below next (suc n) n b ≡ true → leads_below next n n b ≡ true
 from_last next n b e = elim (parts next n n b e) [ inl h ↦ h | inr h ↦ h.1 ]
 
-leads-through : (next : ℕ → List ℕ) (n m a b : ℕ) → m < n → leads_below next n a m ≡ true → leads_below next n m b ≡ true → leads_below next n a b ≡ true
+leads-through : (next : ℕ → List ℕ) (n m a b : ℕ) → m < n → leads_below next n a m ≡ true → leads_below next n m b ≡ true
+    → leads_below next n a b ≡ true
 leads-through next zero m a b h e f = absurd (omega arith)
 leads-through next (suc n) m a b h e f = elim (cases_lt m n) [
   | inl lt ↦ elim (parts next n a m e) [
@@ -101,7 +104,8 @@ leads-through next (suc n) m a b h e f = elim (cases_lt m n) [
       over next n a b (to_last next n a (rw here at e)) (from_last next n b (rw here at f))
 ]
 
-pub leads-complete : (next : ℕ → List ℕ) (n a b : ℕ) → ((x y : ℕ) → Contains (next x) y → x < n) → Leads next a b → leads_below next n a b ≡ true
+pub leads-complete : (next : ℕ → List ℕ) (n a b : ℕ) → ((x y : ℕ) → Contains (next x) y → x < n) → Leads next a b
+    → leads_below next n a b ≡ true
 leads-complete next n a b inside (at_once h) = leads-step next n a b h
 leads-complete next n a b inside (further {b = m} h rest) =
     leads-through next n m a b (Leads-from n inside rest) (leads-step next n a m h) (leads-complete next n m b inside rest)

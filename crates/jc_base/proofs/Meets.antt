@@ -1,10 +1,12 @@
 -- The nearest class that is on two chains.
-use Rattle.std.proofs.Common.{◌≡◌, ℕ, ◌<◌, ◌≤◌, inl, inr, Bool, true, false, cond, [], ◌∷◌, length, Option, Some, None, refl, sym, ap, subst, ◌∙◌, arith}
+use Rattle.std.proofs.Common.{◌≡◌, ℕ, ◌<◌, ◌≤◌, inl, inr, Bool, true, false, cond, [], ◌∷◌, length, Option, Some, None, refl, sym, ap}
+use Rattle.std.proofs.Common.{subst, ◌∙◌, arith}
 use Rattle.std.specs.Prelude.{find, unwrap_or}
 use Rattle.std.proofs.lemmas.Bool.{false_from_ne_true, false≢true}
 use Rattle.jc_base.specs.Class.{ClassTable, IsClass, AreClasses, IsNextOnChain, IsEndOfChain, chain, object}
 use Rattle.jc_base.specs.Order.{is_on_chain, common}
-use Rattle.jc_base.proofs.Climbs.{climb, chain-front, chain-not_empty, on_chain-here, on_chain-length, on_chain-object, on_alone, on_next, on_above, not_here-next}
+use Rattle.jc_base.proofs.Climbs.{climb, chain-front, chain-not_empty, on_chain-here, on_chain-length, on_chain-object, on_alone, on_next, on_above}
+use Rattle.jc_base.proofs.Climbs.{not_here-next}
 
 -- ---- the first class on a chain that passes a test
 
@@ -24,7 +26,8 @@ unfolding first_on
 first-here t q c h = let f = chain-front t c in rw (f.1, h) refl
 
 -- two tests that agree on a chain find the same class
-first-same : (t : ClassTable) → AreClasses t → (q r : ℕ → Bool) (c : ℕ) → ((x : ℕ) → is_on_chain t x c ≡ true → q x ≡ r x) → first_on t q c ≡ first_on t r c
+first-same : (t : ClassTable) → AreClasses t → (q r : ℕ → Bool) (c : ℕ) → ((x : ℕ) → is_on_chain t x c ≡ true → q x ≡ r x)
+    → first_on t q c ≡ first_on t r c
 first-same t are q r = climb t are (λ c. ((x : ℕ) → is_on_chain t x c ≡ true → q x ≡ r x) → first_on t q c ≡ first_on t r c)
     (λ c top alone agree. rw (first-alone t q c alone, first-alone t r c alone, agree c (on_chain-here t c)) refl)
     (λ c p link next before agree.
@@ -36,13 +39,16 @@ pub record IsFirstOn (t : ClassTable) (q : ℕ → Bool) (c n : ℕ) : Type 0 wh
   pub on : is_on_chain t n c ≡ true
   pub before : (x : ℕ) → is_on_chain t x c ≡ true → q x ≡ true → is_on_chain t x n ≡ true
 
-first_is-alone : (t : ClassTable) (q : ℕ → Bool) (c x : ℕ) (b : Bool) → chain t c ≡ c ∷ [] → q c ≡ b → is_on_chain t x c ≡ true → q x ≡ true → (n : ℕ) × (first_on t q c ≡ Some n) × IsFirstOn t q c n
+first_is-alone : (t : ClassTable) (q : ℕ → Bool) (c x : ℕ) (b : Bool) → chain t c ≡ c ∷ [] → q c ≡ b → is_on_chain t x c ≡ true
+    → q x ≡ true → (n : ℕ) × (first_on t q c ≡ Some n) × IsFirstOn t q c n
 first_is-alone t q c x true alone e on pass =
     (c, first-here t q c e, record { passes = e; on = on_chain-here t c; before = λ y h k. h })
 first_is-alone t q c x false alone e on pass = absurd (false≢true (sym e ∙ ap q (on_alone t x c alone on) ∙ pass))
 
-first_is-next : (t : ClassTable) (q : ℕ → Bool) (c p x : ℕ) (b : Bool) → IsNextOnChain t c p → q c ≡ b → is_on_chain t x c ≡ true → q x ≡ true
-    → (is_on_chain t x p ≡ true → (n : ℕ) × (first_on t q p ≡ Some n) × IsFirstOn t q p n) → (n : ℕ) × (first_on t q c ≡ Some n) × IsFirstOn t q c n
+first_is-next : (t : ClassTable) (q : ℕ → Bool) (c p x : ℕ) (b : Bool) → IsNextOnChain t c p → q c ≡ b → is_on_chain t x c ≡ true
+    → q x ≡ true
+    → (is_on_chain t x p ≡ true → (n : ℕ) × (first_on t q p ≡ Some n) × IsFirstOn t q p n) → (n : ℕ) × (first_on t q c ≡ Some n)
+    × IsFirstOn t q c n
 first_is-next t q c p x true next e on pass before =
     (c, first-here t q c e, record { passes = e; on = on_chain-here t c; before = λ y h k. h })
 first_is-next t q c p x false next e on pass before =
@@ -63,7 +69,8 @@ first_is-next t q c p x false next e on pass before =
       },
     )
 
-pub first_is : (t : ClassTable) → AreClasses t → (q : ℕ → Bool) (x c : ℕ) → is_on_chain t x c ≡ true → q x ≡ true → (n : ℕ) × (first_on t q c ≡ Some n) × IsFirstOn t q c n
+pub first_is : (t : ClassTable) → AreClasses t → (q : ℕ → Bool) (x c : ℕ) → is_on_chain t x c ≡ true → q x ≡ true → (n : ℕ)
+    × (first_on t q c ≡ Some n) × IsFirstOn t q c n
 first_is t are q x = climb t are (λ c. is_on_chain t x c ≡ true → q x ≡ true → (n : ℕ) × (first_on t q c ≡ Some n) × IsFirstOn t q c n)
     (λ c top alone on pass. first_is-alone t q c x (q c) alone refl on pass)
     (λ c p link next before on pass. first_is-next t q c p x (q c) next refl on pass (λ up. before up pass))
@@ -97,12 +104,14 @@ meets_same t c = sym (common-is t c c c (first-here t (λ x. is_on_chain t x c) 
 not_on_shorter : (t : ClassTable) → AreClasses t → (a b : ℕ) → length (chain t b) < length (chain t a) → is_on_chain t a b ≡ false
 not_on_shorter t are a b h = false_from_ne_true (is_on_chain t a b) (λ on. absurd (omega (arith, on_chain-length t are b a on)))
 
-common-with : (t : ClassTable) (a b c d : ℕ) → first_on t (λ x. is_on_chain t x b) a ≡ first_on t (λ x. is_on_chain t x d) c → common t a b ≡ common t c d
+common-with : (t : ClassTable) (a b c d : ℕ) → first_on t (λ x. is_on_chain t x b) a ≡ first_on t (λ x. is_on_chain t x d) c
+    → common t a b ≡ common t c d
 unfolding common first_on
 common-with t a b c d e = ap (λ (o : Option ℕ). unwrap_or o (object t)) e
 
 -- the longer chain on the right is climbed
-pub climb_right : (t : ClassTable) → AreClasses t → (a b q : ℕ) → IsNextOnChain t b q → length (chain t a) < length (chain t b) → common t a q ≡ common t a b
+pub climb_right : (t : ClassTable) → AreClasses t → (a b q : ℕ) → IsNextOnChain t b q → length (chain t a) < length (chain t b)
+    → common t a q ≡ common t a b
 climb_right t are a b q next h =
     common-with t a q a b (first-same t are (λ x. is_on_chain t x q) (λ x. is_on_chain t x b) a
     (λ x on. not_here-next t x b q next (λ same. absurd (omega (arith, on_chain-length t are a x on, ap (λ (y : ℕ). length (chain t y)) same)))))
@@ -117,17 +126,21 @@ on_longer t are a = climb t are (λ b. is_on_chain t a b ≡ true → length (ch
     ])
 
 -- of two different classes the one whose chain is no shorter is not on the other's chain
-not_on_other : (t : ClassTable) → AreClasses t → (a b : ℕ) → (a ≡ b → ⊥) → length (chain t b) ≤ length (chain t a) → is_on_chain t a b ≡ false
+not_on_other : (t : ClassTable) → AreClasses t → (a b : ℕ) → (a ≡ b → ⊥) → length (chain t b) ≤ length (chain t a)
+    → is_on_chain t a b ≡ false
 not_on_other t are a b ne h = false_from_ne_true (is_on_chain t a b) (λ on. ne (sym (on_longer t are a b on h)))
 
 -- the chain on the left, where it is no shorter, is climbed
-pub climb_left : (t : ClassTable) → AreClasses t → (a b p : ℕ) → IsNextOnChain t a p → (a ≡ b → ⊥) → length (chain t b) ≤ length (chain t a) → common t p b ≡ common t a b
+pub climb_left : (t : ClassTable) → AreClasses t → (a b p : ℕ) → IsNextOnChain t a p → (a ≡ b → ⊥)
+    → length (chain t b) ≤ length (chain t a) → common t p b ≡ common t a b
 climb_left t are a b p next ne h =
     let miss : is_on_chain t a b ≡ false = not_on_other t are a b ne h in
-    common-with t p b a b (sym (first-next t (λ x. is_on_chain t x b) a p next ∙ ap (λ (v : Bool). cond v (Some a) (first_on t (λ x. is_on_chain t x b) p)) miss))
+    common-with t p b a b
+    (sym (first-next t (λ x. is_on_chain t x b) a p next ∙ ap (λ (v : Bool). cond v (Some a) (first_on t (λ x. is_on_chain t x b) p)) miss))
 
 -- the left chain does not end before the classes meet, and neither does the right one
-pub not_end_left : (t : ClassTable) → AreClasses t → (a b : ℕ) → IsClass t b → IsEndOfChain t a → length (chain t b) ≤ length (chain t a) → b ≡ a
+pub not_end_left : (t : ClassTable) → AreClasses t → (a b : ℕ) → IsClass t b → IsEndOfChain t a → length (chain t b) ≤ length (chain t a)
+    → b ≡ a
 not_end_left t are a b is end h =
     on_longer t are a b (subst (λ (x : ℕ). is_on_chain t x b ≡ true) (sym end.last_is) (on_chain-object t are b is)) h
 

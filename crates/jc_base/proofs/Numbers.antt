@@ -1,5 +1,6 @@
 -- The entries of a target index, by the bytes that spell them.
-use Rattle.std.proofs.Common.{◌≡◌, ℕ, zero, suc, ◌+◌, ◌*◌, ◌/◌, ◌≤◌, ◌<◌, List, [], ◌∷◌, length, drop, take, Option, Some, None, refl, sym, ap, ◌∙◌, arith}
+use Rattle.std.proofs.Common.{◌≡◌, ℕ, zero, suc, ◌+◌, ◌*◌, ◌/◌, ◌≤◌, ◌<◌, List, [], ◌∷◌, length, drop, take, Option, Some}
+use Rattle.std.proofs.Common.{None, refl, sym, ap, ◌∙◌, arith}
 use Rattle.std.specs.Prelude.{slice_get}
 use Rattle.byteorder.specs.Endian.{big_number}
 use Rattle.jc_base.specs.Index.{words_of_bytes}
@@ -12,7 +13,8 @@ numbers_count (high ∷ low ∷ bytes) = omega (arith, numbers_count bytes)
 first-number : (high low : ℕ) → high * 256 + (low * 1 + 0) ≡ high * 256 + low
 first-number high low = omega arith
 
-pub number_there : (k at n : ℕ) (bytes : List ℕ) → at ≡ k * 2 → n ≡ 2 → at + 2 ≤ length bytes → Some (big_number 2 (take n (drop at bytes))) ≡ slice_get (words_of_bytes bytes) k
+pub number_there : (k at n : ℕ) (bytes : List ℕ) → at ≡ k * 2 → n ≡ 2 → at + 2 ≤ length bytes
+    → Some (big_number 2 (take n (drop at bytes))) ≡ slice_get (words_of_bytes bytes) k
 number_there k at n [] e two le = absurd (omega (arith, le))
 number_there k at n (high ∷ []) e two le = absurd (omega (arith, le))
 number_there zero at n (high ∷ low ∷ bytes) e two le =

@@ -23,7 +23,8 @@ instances-extend t are = λ c d below.
     let cells = cells-on_chain t are c d (on_chain-from_Below t are c d below) in
     record { more = cells.0; whole = cells.1 }
 
-pub public-methods_run : (packages : ℕ) (t : ClassTable) (methods : List MethodRec) → AreClasses t → AreLinkedClasses packages t methods → PublicMethodsRun t methods
+pub public-methods_run : (packages : ℕ) (t : ClassTable) (methods : List MethodRec) → AreClasses t → AreLinkedClasses packages t methods
+    → PublicMethodsRun t methods
 public-methods_run packages t methods are linked = λ r c token n below at.
     let run = runs_public packages t methods are linked r c token n (on_chain-from_Below t are r c below) at in
     record { method = run.method; found = run.found; signature = run.signature; inherited = run.inherited }

@@ -5,7 +5,8 @@ use Rattle.std.proofs.lemmas.Bool.{false≢true, eqb-true, eq-eqb, and_parts}
 use Rattle.jc_base.specs.declared.ty.Ty.{Ty}
 use Rattle.jc_base.specs.declared.ty.Ty.TheVariants.{Bottom, Short, IntHigh, IntLow, Null, Class, ArrBool, ArrByte, ArrShort, ArrInt, ArrRef, Fresh, Top}
 use Rattle.jc_base.specs.Class.{ClassTable, AreClasses, object}
-use Rattle.jc_base.specs.Order.{Below, same, joined, nothing, anything, null_object, null_array, subclass, array_object, array_array, IsArray, of_booleans, of_bytes, of_shorts, of_ints, of_references, is_below, is_on_chain, is_reference, is_above_arrays}
+use Rattle.jc_base.specs.Order.{Below, same, joined, nothing, anything, null_object, null_array, subclass, array_object, array_array, IsArray, of_booleans}
+use Rattle.jc_base.specs.Order.{of_bytes, of_shorts, of_ints, of_references, is_below, is_on_chain, is_reference, is_above_arrays}
 use Rattle.jc_base.proofs.Climbs.{climb, on_chain-here, on_chain-parent, on_chain-trans, on_object, on_alone, on_next}
 
 -- ---- reflexive
@@ -53,9 +54,11 @@ above_top : (t : ClassTable) (a c : Ty) → is_below t Top c ≡ true → is_bel
 above_top t a c e = subst (λ (x : Ty). is_below t a x ≡ true) (sym (top_below t c e)) (is_below-top t a)
 
 -- what is above class object is above every array
-above_object : (t : ClassTable) → AreClasses t → (d : ℕ) (c : Ty) → (d == object t) ≡ true → is_below t (Class d) c ≡ true → is_above_arrays t c ≡ true
+above_object : (t : ClassTable) → AreClasses t → (d : ℕ) (c : Ty) → (d == object t) ≡ true → is_below t (Class d) c ≡ true
+    → is_above_arrays t c ≡ true
 unfolding is_below
-above_object t are d (Class e) o h = eq-eqb e (object t) (sym (on_object t are e (subst (λ (x : ℕ). is_on_chain t e x ≡ true) (eqb-true d (object t) o) h)))
+above_object t are d (Class e) o h =
+    eq-eqb e (object t) (sym (on_object t are e (subst (λ (x : ℕ). is_on_chain t e x ≡ true) (eqb-true d (object t) o) h)))
 above_object t are d Top o h = refl
 above_object t are d c o h = absurd (false≢true h)
 
@@ -135,13 +138,15 @@ null_ints t (Class e) h = refl
 null_ints t Top h = refl
 null_ints t c h = absurd (false≢true h)
 
-class_below : (t : ClassTable) → AreClasses t → (c d : ℕ) (b : Ty) → is_on_chain t d c ≡ true → is_below t (Class d) b ≡ true → is_below t (Class c) b ≡ true
+class_below : (t : ClassTable) → AreClasses t → (c d : ℕ) (b : Ty) → is_on_chain t d c ≡ true → is_below t (Class d) b ≡ true
+    → is_below t (Class c) b ≡ true
 unfolding is_below
 class_below t are c d (Class e) on h = on_chain-trans t are c d e on h
 class_below t are c d Top on h = refl
 class_below t are c d b on h = absurd (false≢true h)
 
-references_below : (t : ClassTable) → AreClasses t → (c d : ℕ) (b : Ty) → is_on_chain t d c ≡ true → is_below t (ArrRef d) b ≡ true → is_below t (ArrRef c) b ≡ true
+references_below : (t : ClassTable) → AreClasses t → (c d : ℕ) (b : Ty) → is_on_chain t d c ≡ true → is_below t (ArrRef d) b ≡ true
+    → is_below t (ArrRef c) b ≡ true
 unfolding is_below
 references_below t are c d (ArrRef e) on h = on_chain-trans t are c d e on h
 references_below t are c d (Class e) on h = h

@@ -6,13 +6,15 @@ use Rattle.std.proofs.lemmas.Bool.{false≢true, or_cases, and_parts, or_left, o
 use Rattle.std.proofs.lemmas.List.Elements.{All-nil, All-cons, All-head, All-tail}
 use Rattle.jc_base.specs.Each.{IsAmong}
 
-pub All-from_test : {X : Type 0} (p : X → Bool) (P : X → Type 0) → ((x : X) → p x ≡ true → P x) → (xs : List X) → list_all p xs ≡ true → All P xs
+pub All-from_test : {X : Type 0} (p : X → Bool) (P : X → Type 0) → ((x : X) → p x ≡ true → P x) → (xs : List X) → list_all p xs ≡ true
+    → All P xs
 All-from_test p P sound [] h = All-nil P
 All-from_test p P sound (x ∷ xs) h =
     let two = and_parts (p x) (list_all p xs) h in
     All-cons P x xs (sound x two.0) (All-from_test p P sound xs two.1)
 
-pub test-from_All : {X : Type 0} (p : X → Bool) (P : X → Type 0) → ((x : X) → P x → p x ≡ true) → (xs : List X) → All P xs → list_all p xs ≡ true
+pub test-from_All : {X : Type 0} (p : X → Bool) (P : X → Type 0) → ((x : X) → P x → p x ≡ true) → (xs : List X) → All P xs
+    → list_all p xs ≡ true
 test-from_All p P complete [] all = refl
 test-from_All p P complete (x ∷ xs) all =
     and_from (p x) (list_all p xs) (complete x (All-head P x xs all)) (test-from_All p P complete xs (All-tail P x xs all))
@@ -29,7 +31,8 @@ test-from_some p [] x among h = absurd among
 test-from_some p (y ∷ ys) x (inl here) h = or_left (p y) (list_any p ys) (subst (λ z. p z ≡ true) (sym here) h)
 test-from_some p (y ∷ ys) x (inr later) h = or_right (p y) (list_any p ys) (test-from_some p ys x later h)
 
-found-by : {X : Type 0} (p : X → Bool) (x : X) (xs : List X) (a : X) (b : Bool) → p x ≡ b → (find p xs ≡ Some a → (p a ≡ true) × IsAmong a xs) → find p (x ∷ xs) ≡ Some a
+found-by : {X : Type 0} (p : X → Bool) (x : X) (xs : List X) (a : X) (b : Bool) → p x ≡ b
+    → (find p xs ≡ Some a → (p a ≡ true) × IsAmong a xs) → find p (x ∷ xs) ≡ Some a
     → (p a ≡ true) × IsAmong a (x ∷ xs)
 found-by p x xs a true e rest h =
     let here : Some x ≡ Some a = rw e at h in

@@ -1,5 +1,6 @@
 -- Classes and interfaces by number, and the chain of superclasses of a class (JCVM 2.2, sections 2.2.1 and 6.8).
-use Rattle.std.specs.Prelude.{◌≡◌, ℕ, zero, suc, ◌<◌, max, Bool, false, if◌then◌else◌, List, [], ◌∷◌, length, Option, Some, None, All, slice_get, slice_index}
+use Rattle.std.specs.Prelude.{◌≡◌, ℕ, zero, suc, ◌<◌, max, Bool, false, if◌then◌else◌, List, [], ◌∷◌, length}
+use Rattle.std.specs.Prelude.{Option, Some, None, All, slice_get, slice_index}
 use Rattle.jc_base.specs.declared.record.ClassRec.{ClassRec}
 
 -- the records of all classes and interfaces by number, and by role the class of the machine's own

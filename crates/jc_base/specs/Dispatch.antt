@@ -1,5 +1,6 @@
 -- Dispatch lists and instance cells of classes (JCVM 2.2, sections 4.3.7.6 and 6.8.2).
-use Rattle.std.specs.Prelude.{◌≡◌, ℕ, ◌-◌, Bool, false, if◌then◌else◌, not, ◌&&◌, nat_lt, ◌==◌, List, [], length, reverse, Option, Some, None, IsSomeAnd, All, slice_get, find, flat_map, option_map, option_and_then}
+use Rattle.std.specs.Prelude.{◌≡◌, ℕ, ◌-◌, Bool, false, if◌then◌else◌, not, ◌&&◌, nat_lt, ◌==◌, List, [], length}
+use Rattle.std.specs.Prelude.{reverse, Option, Some, None, IsSomeAnd, All, slice_get, find, flat_map, option_map, option_and_then}
 use Rattle.std.specs.List.{list_all}
 use Rattle.jc_base.specs.declared.ty.Ty.{Ty}
 use Rattle.jc_base.specs.declared.record.Sig.{Sig}

@@ -1,6 +1,7 @@
 -- Interfaces: those that an interface extends, those that a class implements (JCVM 2.2, sections 2.2.1.3 and 6.8), and that no interface
 -- extends itself.
-use Rattle.std.specs.Prelude.{◌≡◌, ℕ, ◌⊎◌, Bool, if◌then◌else◌, ◌==◌, ◌||◌, List, [], map, length, Option, Some, None, Contains, slice_get, count_by}
+use Rattle.std.specs.Prelude.{◌≡◌, ℕ, ◌⊎◌, Bool, if◌then◌else◌, ◌==◌, ◌||◌, List, [], map, length, Option, Some}
+use Rattle.std.specs.Prelude.{None, Contains, slice_get, count_by}
 use Rattle.std.specs.List.{list_any, range_with_len}
 use Rattle.jc_base.specs.declared.ty.Ty.TheVariants.{Class}
 use Rattle.jc_base.specs.declared.record.ClassRec.{ClassRec}

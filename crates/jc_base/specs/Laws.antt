@@ -1,6 +1,7 @@
 -- Laws of types and classes: the order of types and its joins, what is above a class, the cells of its instances, what these run, and the
 -- interfaces that it implements.
-use Rattle.std.specs.Prelude.{◌≡◌, ℕ, ◌<◌, ◌≤◌, ◌↔◌, ◌+◌, ◌++◌, List, length, Some, IsSomeAnd, IsTrue, Contains, slice_get}
+use Rattle.std.specs.Prelude.{◌≡◌, ℕ, ◌<◌, ◌≤◌, ◌↔◌, ◌+◌, ◌++◌, List, length, Some, IsSomeAnd, IsTrue}
+use Rattle.std.specs.Prelude.{Contains, slice_get}
 use Rattle.jc_base.specs.declared.ty.Ty.{Ty}
 use Rattle.jc_base.specs.declared.ty.Ty.TheVariants.{Class}
 use Rattle.jc_base.specs.declared.record.MethodRec.{MethodRec}

@@ -1,5 +1,7 @@
 -- What holds of each record of a linked world (JCVM 2.2, chapters 4 and 6).
-use Rattle.std.specs.Prelude.{◌≡◌, ℕ, zero, suc, ◌+◌, ◌≤◌, ◌<◌, Bool, true, false, if◌then◌else◌, ◌||◌, ◌==◌, ◌++◌, List, [], ◌∷◌, length, Option, Some, None, IfSome, IsSome, IsSomeAnd, MatchBool, All, Any, Contains, slice_get, option_and_then, ⊤}
+use Rattle.std.specs.Prelude.{◌≡◌, ℕ, zero, suc, ◌+◌, ◌≤◌, ◌<◌, Bool, true, false, if◌then◌else◌, ◌||◌}
+use Rattle.std.specs.Prelude.{◌==◌, ◌++◌, List, [], ◌∷◌, length, Option, Some, None, IfSome, IsSome, IsSomeAnd, MatchBool}
+use Rattle.std.specs.Prelude.{All, Any, Contains, slice_get, option_and_then, ⊤}
 use Rattle.jc_base.specs.declared.ty.Ty.{Ty}
 use Rattle.jc_base.specs.declared.ty.Ty.TheVariants.{Class, IntLow}
 use Rattle.jc_base.specs.declared.ty.Kind.{Kind}
@@ -15,7 +17,8 @@ use Rattle.jc_base.specs.declared.record.ArrayRec.{ArrayRec}
 use Rattle.jc_base.specs.Class.{ClassTable, IsClass, is_interface, parent_of, throwable, list_of}
 use Rattle.jc_base.specs.Order.{Below}
 use Rattle.jc_base.specs.Cell.{IsDeclared, AreWhole, IsFirstCell, IsOfKind, width, AreInitialWords}
-use Rattle.jc_base.specs.Dispatch.{package_of, public_of, visible_of, cell_count, cells_of, entry_at, dispatched, signature_of, signature_at}
+use Rattle.jc_base.specs.Dispatch.{package_of, public_of, visible_of, cell_count, cells_of, entry_at, dispatched, signature_of}
+use Rattle.jc_base.specs.Dispatch.{signature_at}
 
 -- ---- methods
 
@@ -140,7 +143,8 @@ pub record Dispatches (t : ClassTable) (methods : List MethodRec) (c token r n :
 
 -- an object of a class below another runs a method for each entry of the other's lists
 abbrev pub AreDispatched : ClassTable → List MethodRec → Type 0
-AreDispatched t methods = (c token r n : ℕ) → Below t (Class r) (Class c) → entry_at t c token ≡ Some n → Dispatches t methods c token r n
+AreDispatched t methods =
+    (c token r n : ℕ) → Below t (Class r) (Class c) → entry_at t c token ≡ Some n → Dispatches t methods c token r n
 
 -- ---- static fields
 

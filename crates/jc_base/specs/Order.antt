@@ -1,8 +1,10 @@
 -- The order of types and its join (Leroy 2002, section 2.1; JCVM 2.2, section 2.2).
-use Rattle.std.specs.Prelude.{◌≡◌, ℕ, ◌+◌, ◌<◌, ◌⊎◌, length, Bool, true, false, if◌then◌else◌, ◌&&◌, ◌==◌, List, Some, find, fold, unwrap_or, All, ⊤}
+use Rattle.std.specs.Prelude.{◌≡◌, ℕ, ◌+◌, ◌<◌, ◌⊎◌, length, Bool, true, false, if◌then◌else◌, ◌&&◌}
+use Rattle.std.specs.Prelude.{◌==◌, List, Some, find, fold, unwrap_or, All, ⊤}
 use Rattle.std.specs.List.{list_any}
 use Rattle.jc_base.specs.declared.ty.Ty.{Ty}
-use Rattle.jc_base.specs.declared.ty.Ty.TheVariants.{Bottom, Short, IntHigh, IntLow, Null, Class, ArrBool, ArrByte, ArrShort, ArrInt, ArrRef, Fresh, Top}
+use Rattle.jc_base.specs.declared.ty.Ty.TheVariants.{Bottom, Short, IntHigh, IntLow, Null, Class, ArrBool, ArrByte, ArrShort, ArrInt}
+use Rattle.jc_base.specs.declared.ty.Ty.TheVariants.{ArrRef, Fresh, Top}
 use Rattle.jc_base.specs.Class.{ClassTable, IsClass, parent_of, chain, height, object}
 
 -- the types of arrays

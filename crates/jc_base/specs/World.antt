@@ -1,5 +1,6 @@
 -- A linked world: the packages of a command with all that they name resolved (JCVM 2.2, chapters 4 and 6).
-use Rattle.std.specs.Prelude.{◌≡◌, ℕ, ◌≤◌, ◌<◌, Bool, ◌==◌, ◌&&◌, List, length, take, drop, Option, None, unwrap_or, All, sum_by, slice_get, slice_index, position}
+use Rattle.std.specs.Prelude.{◌≡◌, ℕ, ◌≤◌, ◌<◌, Bool, ◌==◌, ◌&&◌, List, length, take, drop, Option, None}
+use Rattle.std.specs.Prelude.{unwrap_or, All, sum_by, slice_get, slice_index, position}
 use Rattle.jc_base.specs.declared.ty.Ty.TheVariants.{Class}
 use Rattle.jc_base.specs.declared.record.Member.{Member}
 use Rattle.jc_base.specs.declared.record.MethodRec.{MethodRec}

@@ -32,11 +32,13 @@ parent-inside : (cs : List NamedClass) (o : Option ℕ) → IfSome o (λ p. p < 
 parent-inside cs None h = All-nil (λ p. p < length cs)
 parent-inside cs (Some p) h = All-cons (λ p. p < length cs) p [] h (All-nil (λ p. p < length cs))
 
-superclass-inside : (cs : List NamedClass) (r : NamedClass) (i : Bool) → r.interface ≡ i → HasKnownLine cs r → All (λ p. p < length cs) (superclass_in (Some r))
+superclass-inside : (cs : List NamedClass) (r : NamedClass) (i : Bool) → r.interface ≡ i → HasKnownLine cs r
+    → All (λ p. p < length cs) (superclass_in (Some r))
 superclass-inside cs r true e is = rw e (All-nil (λ p. p < length cs))
 superclass-inside cs r false e is = rw e (parent-inside cs r.parent is.parent)
 
-extended-inside : (cs : List NamedClass) (r : NamedClass) (i : Bool) → r.interface ≡ i → HasKnownLine cs r → All (λ p. p < length cs) (extended_in (Some r))
+extended-inside : (cs : List NamedClass) (r : NamedClass) (i : Bool) → r.interface ≡ i → HasKnownLine cs r
+    → All (λ p. p < length cs) (extended_in (Some r))
 extended-inside cs r true e is = rw e (All-map (λ p. p < length cs) (λ (i : Iface). i.class) r.interfaces is.interfaces)
 extended-inside cs r false e is = rw e (All-nil (λ p. p < length cs))
 
@@ -45,7 +47,8 @@ inside_by : (cs : List NamedClass) (f : Option NamedClass → List ℕ) (a b : �
 inside_by cs f a b None known none some e h = let there : Contains [] b = subst (λ xs. Contains xs b) none h in absurd (omega (arith, there.1))
 inside_by cs f a b (Some r) known none some e h = All-contains (λ p. p < length cs) (f (Some r)) b (some r (All-slice_get (HasKnownLine cs) cs a r known e)) h
 
-pub above-inside : (cs : List NamedClass) (interfaces : Bool) → All (HasKnownLine cs) cs → (a b : ℕ) → Contains (above cs interfaces a) b → b < length cs
+pub above-inside : (cs : List NamedClass) (interfaces : Bool) → All (HasKnownLine cs) cs → (a b : ℕ) → Contains (above cs interfaces a) b
+    → b < length cs
 unfolding superclass extended
 above-inside cs true known a b h = inside_by cs extended_in a b (slice_get cs a) known refl (λ r is. extended-inside cs r r.interface refl is) refl h
 above-inside cs false known a b h = inside_by cs superclass_in a b (slice_get cs a) known refl (λ r is. superclass-inside cs r r.interface refl is) refl h
@@ -63,6 +66,7 @@ is_above-complete cs interfaces a c h = leads-complete (above cs interfaces) (le
 pub tells-above : (cs : List NamedClass) → TellsAbove cs
 tells-above cs interfaces a c = (is_above-sound cs interfaces a c, is_above-complete cs interfaces a c)
 
-pub is_above-is : (cs : List NamedClass) (interfaces : Bool) (a c : ℕ) (b : Bool) → (b ≡ true → Leads (above cs interfaces) c a) → (Leads (above cs interfaces) c a → b ≡ true) → b ≡ is_above cs interfaces a c
+pub is_above-is : (cs : List NamedClass) (interfaces : Bool) (a c : ℕ) (b : Bool) → (b ≡ true → Leads (above cs interfaces) c a)
+    → (Leads (above cs interfaces) c a → b ≡ true) → b ≡ is_above cs interfaces a c
 is_above-is cs interfaces a c b sound complete =
     same_truth b (is_above cs interfaces a c) (λ e. is_above-complete cs interfaces a c (sound e)) (λ e. complete (is_above-sound cs interfaces a c e))

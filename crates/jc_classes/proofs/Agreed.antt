@@ -1,5 +1,6 @@
 -- The class table of classes of which nothing is at fault.
-use Rattle.std.proofs.Common.{◌≡◌, ℕ, zero, suc, ◌+◌, ◌<◌, ◌≤◌, Bool, true, false, take, get_or, List, [], length, flat_map, Some, None, Result, Ok, Err, refl, sym, ap, subst, ◌∙◌, arith}
+use Rattle.std.proofs.Common.{◌≡◌, ℕ, zero, suc, ◌+◌, ◌<◌, ◌≤◌, Bool, true, false, take, get_or, List, [], length, flat_map, Some, None}
+use Rattle.std.proofs.Common.{Result, Ok, Err, refl, sym, ap, subst, ◌∙◌, arith}
 use Rattle.std.specs.Prelude.{slice_get, nat_lt}
 use Rattle.std.specs.List.{range_with_len}
 use Rattle.std.proofs.lemmas.Bool.{ltb-false}
@@ -21,7 +22,8 @@ use Rattle.first_fault.proofs.FirstTold.{IsTold, things-told, step, last, refuse
 use Rattle.jc_classes.specs.declared.layout.ClassLayout.{ClassLayout}
 use Rattle.jc_classes.specs.Outline.{LineTable, AreLines, outline}
 use Rattle.jc_classes.specs.Layout.{instance_cells, layouts}
-use Rattle.jc_classes.specs.TableConditions.{hole_fault, entries_in, override_fault, replacements_in, interface_type_fault, implementations_in, long_fault, class_numbers, long_instances, conditions}
+use Rattle.jc_classes.specs.TableConditions.{hole_fault, entries_in, override_fault, replacements_in, interface_type_fault, implementations_in, long_fault}
+use Rattle.jc_classes.specs.TableConditions.{class_numbers, long_instances, conditions}
 use Rattle.jc_classes.specs.Tables.{records_from, class_tables, classes_agree, tables_of, TellsTableEnd}
 use Rattle.jc_classes.proofs.Folds.{cells_are, layout_at, layouts_count}
 use Rattle.jc_classes.proofs.ClassLines.{IsOutline, tables-classes, records-length}
@@ -35,7 +37,8 @@ slice_get-numbers a (suc n) (suc c) h =
     let same : a + 1 + c ≡ a + suc c = omega arith in
     slice_get-numbers (a + 1) n c (omega arith) ∙ ap Some same
 
-within_by : (t : LineTable) (classes : List NamedClass) (c : ℕ) (b : Bool) → nat_lt 32767 (instance_cells t classes c) ≡ b → long_fault t classes c ≡ None → instance_cells t classes c ≤ 32767
+within_by : (t : LineTable) (classes : List NamedClass) (c : ℕ) (b : Bool) → nat_lt 32767 (instance_cells t classes c) ≡ b
+    → long_fault t classes c ≡ None → instance_cells t classes c ≤ 32767
 unfolding long_fault
 within_by t classes c true e h =
     let some : long_fault t classes c ≡ Some (InstanceLong c (instance_cells t classes c)) = rw e refl in
@@ -43,18 +46,22 @@ within_by t classes c true e h =
     absurd cc
 within_by t classes c false e h = ltb-false 32767 (instance_cells t classes c) e
 
-pub cells_short : (t : LineTable) (classes : List NamedClass) (c : ℕ) → long_instances t classes ≡ [] → c < length classes → instance_cells t classes c ≤ 32767
+pub cells_short : (t : LineTable) (classes : List NamedClass) (c : ℕ) → long_instances t classes ≡ [] → c < length classes
+    → instance_cells t classes c ≤ 32767
 cells_short t classes c none h =
     let at : slice_get (class_numbers classes) c ≡ Some c = slice_get-numbers 0 (length classes) c h ∙ ap Some (omega arith) in
     within_by t classes c (nat_lt 32767 (instance_cells t classes c)) refl (faultless_at (long_fault t classes) (class_numbers classes) c c none at)
 
-pub layout_cells_short : (t : LineTable) (classes : List NamedClass) (all : List ClassLayout) (c : ℕ) (l : ClassLayout) → all ≡ layouts t classes → long_instances t classes ≡ [] → c < length classes → l ≡ get_or all c l → l.cells ≤ 32767
+pub layout_cells_short : (t : LineTable) (classes : List NamedClass) (all : List ClassLayout) (c : ℕ) (l : ClassLayout) → all ≡ layouts t classes
+    → long_instances t classes ≡ [] → c < length classes → l ≡ get_or all c l → l.cells ≤ 32767
 layout_cells_short t classes all c l e none h at = rw (cells_are t classes all c l e h at) (cells_short t classes c none h)
 
-pub least_of_records : (t : LineTable) (classes : List NamedClass) (n : ℕ) (records : List ClassRec) → length classes ≤ n → records ≡ take n (records_from t classes 0 classes) → records ≡ records_from t classes 0 classes
+pub least_of_records : (t : LineTable) (classes : List NamedClass) (n : ℕ) (records : List ClassRec) → length classes ≤ n
+    → records ≡ take n (records_from t classes 0 classes) → records ≡ records_from t classes 0 classes
 least_of_records t classes n records h e = e ∙ take_all n (records_from t classes 0 classes) (omega (arith, records-length t classes classes 0))
 
-pub table_classes : (t : LineTable) (classes : List NamedClass) (records : List ClassRec) → t ≡ outline classes t.roles → AreLines t → records ≡ records_from t classes 0 classes → AreClasses (record { records = records; roles = t.roles })
+pub table_classes : (t : LineTable) (classes : List NamedClass) (records : List ClassRec) → t ≡ outline classes t.roles → AreLines t
+    → records ≡ records_from t classes 0 classes → AreClasses (record { records = records; roles = t.roles })
 table_classes t classes records o are e =
     let outlined : IsOutline t classes = record { is = o } in
     subst (λ (rs : List ClassRec). AreClasses (record { records = rs; roles = t.roles })) (sym e) (tables-classes t classes outlined are)
@@ -63,7 +70,8 @@ pub ruleset building = (layouts_count)
 
 -- ---- the conditions one after the other
 
-pub agree-told : (t : LineTable) (classes : List NamedClass) (methods : List MethodRec) → IsTold link_place (classes_agree t classes methods) (conditions t classes methods)
+pub agree-told : (t : LineTable) (classes : List NamedClass) (methods : List MethodRec)
+    → IsTold link_place (classes_agree t classes methods) (conditions t classes methods)
 unfolding classes_agree
 agree-told t classes methods =
     step link_place (things-told link_place (hole_fault t methods) (flat_map (entries_in t classes) (class_numbers classes)))
@@ -71,13 +79,16 @@ agree-told t classes methods =
     (step link_place (things-told link_place (interface_type_fault methods) (flat_map (implementations_in t classes) (class_numbers classes)))
     (last link_place (things-told link_place (long_fault t classes) (class_numbers classes)))))
 
-pub told_first : (t : LineTable) (classes : List NamedClass) (methods : List MethodRec) (f : LinkFault) → Err f ≡ classes_agree t classes methods → IsFirst link_place (conditions t classes methods) f
+pub told_first : (t : LineTable) (classes : List NamedClass) (methods : List MethodRec) (f : LinkFault) → Err f ≡ classes_agree t classes methods
+    → IsFirst link_place (conditions t classes methods) f
 told_first t classes methods f e = refused-first link_place (conditions t classes methods) f (sym (agree-told t classes methods).same ∙ sym e)
 
-pub told_empty : (t : LineTable) (classes : List NamedClass) (methods : List MethodRec) → Ok (tt {0}) ≡ classes_agree t classes methods → AllEmpty (conditions t classes methods)
+pub told_empty : (t : LineTable) (classes : List NamedClass) (methods : List MethodRec) → Ok (tt {0}) ≡ classes_agree t classes methods
+    → AllEmpty (conditions t classes methods)
 told_empty t classes methods e = accepted-empty link_place (conditions t classes methods) (sym (agree-told t classes methods).same ∙ sym e)
 
-told-by : (t : LineTable) (classes : List NamedClass) (methods : List MethodRec) (s : Result (Unit {0}) LinkFault) (r : Result ClassTable LinkEnd) → classes_agree t classes methods ≡ s → IsDue (s >>= λ _. Ok (class_tables t classes)) r → TellsTableEnd t classes methods r
+told-by : (t : LineTable) (classes : List NamedClass) (methods : List MethodRec) (s : Result (Unit {0}) LinkFault) (r : Result ClassTable LinkEnd)
+    → classes_agree t classes methods ≡ s → IsDue (s >>= λ _. Ok (class_tables t classes)) r → TellsTableEnd t classes methods r
 told-by t classes methods (Ok x) (Ok table) e due =
     let same : class_tables t classes ≡ table = cc in
     (sym same, told_empty t classes methods (sym e))
@@ -90,11 +101,13 @@ told-by t classes methods (Err g) (Err (Fault f)) e due =
 told-by t classes methods (Err g) (Err Memory) e due = tt {0}
 
 -- the answer that is due tells the table, or the first condition that is broken
-pub due-tells : (t : LineTable) (classes : List NamedClass) (methods : List MethodRec) (r : Result ClassTable LinkEnd) → IsDue (tables_of t classes methods) r → TellsTableEnd t classes methods r
+pub due-tells : (t : LineTable) (classes : List NamedClass) (methods : List MethodRec) (r : Result ClassTable LinkEnd)
+    → IsDue (tables_of t classes methods) r → TellsTableEnd t classes methods r
 unfolding tables_of
 due-tells t classes methods r due = told-by t classes methods (classes_agree t classes methods) r refl due
 
-pub told_short : (t : LineTable) (classes : List NamedClass) (methods : List MethodRec) → Ok (tt {0}) ≡ classes_agree t classes methods → long_instances t classes ≡ []
+pub told_short : (t : LineTable) (classes : List NamedClass) (methods : List MethodRec) → Ok (tt {0}) ≡ classes_agree t classes methods
+    → long_instances t classes ≡ []
 told_short t classes methods e = (told_empty t classes methods e).1.1.1.0
 
 pub ruleset telling = (told_first, told_empty, told_short, layouts_count)

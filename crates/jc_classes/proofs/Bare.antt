@@ -1,5 +1,6 @@
 -- Lines have the superclasses of a class table without lists, so what holds of chains in class tables holds of lines.
-use Rattle.std.proofs.Common.{◌≡◌, ℕ, zero, suc, ◌+◌, ◌<◌, ◌≤◌, true, List, [], ◌∷◌, map, length, Option, Some, None, refl, sym, ap, subst, ◌∙◌, arith}
+use Rattle.std.proofs.Common.{◌≡◌, ℕ, zero, suc, ◌+◌, ◌<◌, ◌≤◌, true, List, [], ◌∷◌, map, length, Option, Some, None, refl, sym, ap}
+use Rattle.std.proofs.Common.{subst, ◌∙◌, arith}
 use Rattle.std.specs.Prelude.{◌==◌, All, slice_get}
 use Rattle.std.specs.List.{list_any}
 use Rattle.std.specs.Option.{option_map}
@@ -7,12 +8,15 @@ use Rattle.std.proofs.lemmas.Option.{slice_get-map}
 use Rattle.std.proofs.lemmas.List.{length-map}
 use Rattle.std.proofs.lemmas.List.Elements.{All-weaker}
 use Rattle.jc_base.specs.declared.record.ClassRec.{ClassRec}
-use Rattle.jc_base.specs.Class.{ClassTable, list_of, last, is_interface_record, parent_in_record, is_interface as interface_in_table, IsClass as IsTableClass, parent_of as parent_in_table, chain_over as chain_over_table, chain as chain_in_table, AreClasses}
+use Rattle.jc_base.specs.Class.{ClassTable, list_of, last, is_interface_record, parent_in_record, is_interface as interface_in_table, IsClass as IsTableClass}
+use Rattle.jc_base.specs.Class.{parent_of as parent_in_table, chain_over as chain_over_table, chain as chain_in_table, AreClasses}
 use Rattle.jc_base.specs.Order.{is_on_chain as on_chain_in_table}
-use Rattle.jc_base.proofs.Chains.{chain_over-front as front_over_table, chain_alone as alone_over_table, chain_above as above_over_table, next_on_chain as next_in_table}
+use Rattle.jc_base.proofs.Chains.{chain_over-front as front_over_table, chain_alone as alone_over_table, chain_above as above_over_table}
+use Rattle.jc_base.proofs.Chains.{next_on_chain as next_in_table}
 use Rattle.jc_base.proofs.Climbs.{chain-length as length_in_table, parent_of-class as class_of_parent, on_chain-here as here_in_table}
 use Rattle.jc_classes.specs.declared.lineage_type.Line.{Line}
-use Rattle.jc_classes.specs.Outline.{LineTable, IsClass, AreLines, object, is_interface_line, is_interface, parent_in_line, parent_of, chain_over, chain, is_on_chain}
+use Rattle.jc_classes.specs.Outline.{LineTable, IsClass, AreLines, object, is_interface_line, is_interface, parent_in_line, parent_of, chain_over, chain}
+use Rattle.jc_classes.specs.Outline.{is_on_chain}
 
 -- a line as the record of a class without cells, interfaces and dispatch lists
 abbrev pub record_of : Line → ClassRec
@@ -88,7 +92,9 @@ module _ (t : LineTable) where
     chains = λ c is.
         let ends = are.chains c (line-class c is) in
         record {
-          classes = subst (λ (xs : List ℕ). All (IsTableClass (bare t)) xs) (sym (bare-chain c)) (All-weaker (IsClass t) (IsTableClass (bare t)) bare-class (chain t c) ends.classes);
+          classes =
+              subst (λ (xs : List ℕ). All (IsTableClass (bare t)) xs) (sym (bare-chain c))
+              (All-weaker (IsClass t) (IsTableClass (bare t)) bare-class (chain t c) ends.classes);
           ends = ap last (bare-chain c) ∙ ends.ends;
         };
   }

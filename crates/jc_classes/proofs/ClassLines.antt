@@ -1,16 +1,21 @@
 -- A table with the superclasses of lines has their chains.
-use Rattle.std.proofs.Common.{◌≡◌, ℕ, zero, suc, ◌+◌, ◌<◌, get_or, take, List, [], ◌∷◌, ◌++◌, length, Option, Some, None, refl, sym, ap, subst, ◌∙◌, arith}
+use Rattle.std.proofs.Common.{◌≡◌, ℕ, zero, suc, ◌+◌, ◌<◌, get_or, take, List, [], ◌∷◌, ◌++◌, length, Option, Some, None, refl, sym}
+use Rattle.std.proofs.Common.{ap, subst, ◌∙◌, arith}
 use Rattle.std.specs.Prelude.{All, slice_get, slice_index, option_map, ◌==◌}
 use Rattle.std.specs.List.{list_any}
 use Rattle.std.proofs.lemmas.Option.{slice_get-map, get_or_from_slice_get}
 use Rattle.std.proofs.lemmas.List.{length-map, take_more}
 use Rattle.jc_base.specs.declared.record.ClassRec.{ClassRec}
-use Rattle.jc_base.specs.Class.{ClassTable, IsClass, AreClasses, chain, chain_over, list_of, last, object, parent_of, parent_in_record, is_interface, is_interface_record}
+use Rattle.jc_base.specs.Class.{ClassTable, IsClass, AreClasses, chain, chain_over, list_of, last, object, parent_of, parent_in_record, is_interface}
+use Rattle.jc_base.specs.Class.{is_interface_record}
 use Rattle.jc_base.specs.Order.{is_on_chain}
 use Rattle.jc_base.specs.Dispatch.{package_of, of_record}
 use Rattle.jc_resolve.specs.declared.named.NamedClass.{NamedClass}
 use Rattle.jc_classes.specs.declared.layout.ClassLayout.{ClassLayout}
-use Rattle.jc_classes.specs.Outline.{LineTable, AreLines, IsClass as IsLineClass, EndsWithObject as LineEnds, chain as line_chain, chain_over as line_chain_over, is_on_chain as on_line_chain, object as line_object, parent_of as line_parent, parent_in_line, is_interface as line_interface, is_interface_line, package_of as line_package, package_in_line, line_of, outline}
+use Rattle.jc_classes.specs.Outline.{LineTable, AreLines, IsClass as IsLineClass, EndsWithObject as LineEnds, chain as line_chain}
+use Rattle.jc_classes.specs.Outline.{chain_over as line_chain_over, is_on_chain as on_line_chain, object as line_object, parent_of as line_parent}
+use Rattle.jc_classes.specs.Outline.{parent_in_line, is_interface as line_interface, is_interface_line, package_of as line_package, package_in_line, line_of}
+use Rattle.jc_classes.specs.Outline.{outline}
 use Rattle.jc_classes.specs.Layout.{class_layout}
 use Rattle.jc_classes.specs.Tables.{record_from, records_from, class_tables}
 
@@ -65,7 +70,8 @@ classes-alike t u alike are = record {
 
 -- ---- the table that is built
 
-pub record_at : (t : LineTable) (all ks : List NamedClass) (a i : ℕ) → slice_get (records_from t all a ks) i ≡ option_map (λ k. record_from k (class_layout t all (a + i))) (slice_get ks i)
+pub record_at : (t : LineTable) (all ks : List NamedClass) (a i : ℕ) → slice_get (records_from t all a ks) i
+    ≡ option_map (λ k. record_from k (class_layout t all (a + i))) (slice_get ks i)
 record_at t all [] a i = refl
 record_at t all (k ∷ ks) a zero =
     let same : a ≡ a + 0 = omega arith in
@@ -79,7 +85,8 @@ records-length t all [] a = refl
 records-length t all (k ∷ ks) a = ap suc (records-length t all ks (a + 1))
 
 -- the record of a class in the table
-pub record_is : (t : LineTable) (classes : List NamedClass) (c : ℕ) → slice_get (class_tables t classes).records c ≡ option_map (λ k. record_from k (class_layout t classes c)) (slice_get classes c)
+pub record_is : (t : LineTable) (classes : List NamedClass) (c : ℕ) → slice_get (class_tables t classes).records c
+    ≡ option_map (λ k. record_from k (class_layout t classes c)) (slice_get classes c)
 record_is t classes c =
     let same : 0 + c ≡ c = omega arith in
     record_at t classes classes 0 c ∙ ap (λ (n : ℕ). option_map (λ k. record_from k (class_layout t classes n)) (slice_get classes c)) same
@@ -88,10 +95,12 @@ record_is t classes c =
 pub record IsOutline (t : LineTable) (classes : List NamedClass) : Type 0 where
   pub is : t ≡ outline classes t.roles
 
-pub outline_at : (t : LineTable) (classes : List NamedClass) (c : ℕ) → IsOutline t classes → slice_get t.lines c ≡ option_map line_of (slice_get classes c)
+pub outline_at : (t : LineTable) (classes : List NamedClass) (c : ℕ) → IsOutline t classes
+    → slice_get t.lines c ≡ option_map line_of (slice_get classes c)
 outline_at t classes c o = ap (λ (u : LineTable). slice_get u.lines c) o.is ∙ slice_get-map line_of classes c
 
-same_interface : (l : ClassLayout) (o : Option NamedClass) → is_interface_record (option_map (λ k. record_from k l) o) ≡ is_interface_line (option_map line_of o)
+same_interface : (l : ClassLayout) (o : Option NamedClass) → is_interface_record (option_map (λ k. record_from k l) o) ≡ is_interface_line
+    (option_map line_of o)
 unfolding record_from
 same_interface l None = refl
 same_interface l (Some k) = refl
@@ -101,7 +110,8 @@ unfolding record_from
 same_parent l None = refl
 same_parent l (Some k) = refl
 
-same_package : (l : ClassLayout) (o : Option NamedClass) → of_record 0 (λ r. r.«package») (option_map (λ k. record_from k l) o) ≡ package_in_line (option_map line_of o)
+same_package : (l : ClassLayout) (o : Option NamedClass) → of_record 0 (λ r. r.«package») (option_map (λ k. record_from k l) o) ≡ package_in_line
+    (option_map line_of o)
 unfolding record_from
 same_package l None = refl
 same_package l (Some k) = refl
@@ -110,9 +120,15 @@ pub tables-alike : (t : LineTable) (classes : List NamedClass) → IsOutline t c
 unfolding is_interface parent_of package_of line_interface line_parent line_package
 tables-alike t classes o = record {
   count = records-length t classes classes 0 ∙ sym (ap (λ (u : LineTable). length u.lines) o.is ∙ length-map classes line_of);
-  interfaces = λ c. ap is_interface_record (record_is t classes c) ∙ same_interface (class_layout t classes c) (slice_get classes c) ∙ ap is_interface_line (sym (outline_at t classes c o));
-  parents = λ c. ap parent_in_record (record_is t classes c) ∙ same_parent (class_layout t classes c) (slice_get classes c) ∙ ap parent_in_line (sym (outline_at t classes c o));
-  packages = λ c. ap (of_record 0 (λ r. r.«package»)) (record_is t classes c) ∙ same_package (class_layout t classes c) (slice_get classes c) ∙ ap package_in_line (sym (outline_at t classes c o));
+  interfaces =
+      λ c. ap is_interface_record (record_is t classes c) ∙ same_interface (class_layout t classes c) (slice_get classes c)
+      ∙ ap is_interface_line (sym (outline_at t classes c o));
+  parents =
+      λ c. ap parent_in_record (record_is t classes c) ∙ same_parent (class_layout t classes c) (slice_get classes c)
+      ∙ ap parent_in_line (sym (outline_at t classes c o));
+  packages =
+      λ c. ap (of_record 0 (λ r. r.«package»)) (record_is t classes c) ∙ same_package (class_layout t classes c) (slice_get classes c)
+      ∙ ap package_in_line (sym (outline_at t classes c o));
   roles_are = refl;
 }
 
@@ -120,11 +136,15 @@ pub tables-classes : (t : LineTable) (classes : List NamedClass) → IsOutline t
 tables-classes t classes o are = classes-alike t (class_tables t classes) (tables-alike t classes o) are
 
 -- one more record
-pub records_next : (t : LineTable) (classes : List NamedClass) (c : ℕ) (k : NamedClass) (l : ClassLayout) (r : ClassRec) (records : List ClassRec) → slice_get classes c ≡ Some k → l ≡ class_layout t classes c → r ≡ record_from k l → c < length classes
+pub records_next : (t : LineTable) (classes : List NamedClass) (c : ℕ) (k : NamedClass) (l : ClassLayout) (r : ClassRec) (records : List ClassRec)
+    → slice_get classes c ≡ Some k → l ≡ class_layout t classes c → r ≡ record_from k l → c < length classes
     → records ≡ take c (records_from t classes 0 classes) → records ++ (r ∷ []) ≡ take (c + 1) (records_from t classes 0 classes)
 records_next t classes c k l r records at same is low before =
     let low_too : c < length (records_from t classes 0 classes) = omega (arith, records-length t classes classes 0) in
-    let there : slice_get (records_from t classes 0 classes) c ≡ Some r = record_is t classes c ∙ ap (option_map (λ x. record_from x (class_layout t classes c))) at ∙ ap (λ (m : ClassLayout). Some (record_from k m)) (sym same) ∙ ap Some (sym is) in
+    let there : slice_get (records_from t classes 0 classes) c ≡ Some r = record_is t classes c
+    ∙ ap (option_map (λ x. record_from x (class_layout t classes c))) at ∙ ap (λ (m : ClassLayout). Some (record_from k m)) (sym same)
+    ∙ ap Some (sym is) in
     ap (λ (rs : List ClassRec). rs ++ (r ∷ [])) before
-    ∙ ap (λ (x : ClassRec). take c (records_from t classes 0 classes) ++ (x ∷ [])) (sym (get_or_from_slice_get (records_from t classes 0 classes) c r r there))
+    ∙ ap (λ (x : ClassRec). take c (records_from t classes 0 classes) ++ (x ∷ []))
+    (sym (get_or_from_slice_get (records_from t classes 0 classes) c r r there))
     ∙ sym (take_more (records_from t classes 0 classes) c r low_too)

@@ -24,19 +24,22 @@ pub no_end : (xs ys : List ℕ) (x : ℕ) → xs ++ (x ∷ ys) ≡ [] → ⊥
 no_end [] ys x e = cc
 no_end (y ∷ xs) ys x e = cc
 
-above_by : (t : LineTable) (above : Option ℕ) (xs : List ℕ) (x : ℕ) (rest : List ℕ) → ((p : ℕ) → xs ++ (x ∷ rest) ≡ chain t p → chain t x ≡ x ∷ rest)
+above_by : (t : LineTable) (above : Option ℕ) (xs : List ℕ) (x : ℕ) (rest : List ℕ)
+    → ((p : ℕ) → xs ++ (x ∷ rest) ≡ chain t p → chain t x ≡ x ∷ rest)
     → xs ++ (x ∷ rest) ≡ list_of (chain t) above → chain t x ≡ x ∷ rest
 above_by t None xs x rest further e = absurd (no_end xs rest x e)
 above_by t (Some p) xs x rest further e = further p e
 
 -- what stands on a chain from a class on is the chain of that class
-pub chain_from : (t : LineTable) → AreLines t → (xs : List ℕ) (c x : ℕ) (rest : List ℕ) → xs ++ (x ∷ rest) ≡ chain t c → chain t x ≡ x ∷ rest
+pub chain_from : (t : LineTable) → AreLines t → (xs : List ℕ) (c x : ℕ) (rest : List ℕ) → xs ++ (x ∷ rest) ≡ chain t c
+    → chain t x ≡ x ∷ rest
 chain_from t are [] c x rest e =
     let f = chain-front t c in
     let same : x ≡ c = head_same x c rest f.0 (e ∙ f.1) in
     ap (chain t) same ∙ sym e
 chain_from t are (y ∷ xs) c x rest e =
-    above_by t (parent_of t c) xs x rest (λ p h. chain_from t are xs p x rest h) (tail_same y c (xs ++ (x ∷ rest)) (list_of (chain t) (parent_of t c)) (e ∙ chain_step t c are))
+    above_by t (parent_of t c) xs x rest (λ p h. chain_from t are xs p x rest h)
+    (tail_same y c (xs ++ (x ∷ rest)) (list_of (chain t) (parent_of t c)) (e ∙ chain_step t c are))
 
 -- where the chain above is a whole chain, it is that of the class itself
 pub climbed_whole : (t : LineTable) (above : Option ℕ) (c : ℕ) → list_of (chain t) above ≡ chain t c → above ≡ Some c
@@ -59,7 +62,8 @@ unfolding parent_of is_interface
 no_parent t c e = no_parent_by (slice_get t.lines c) e
 
 -- one class further up
-pub climbed_more : (t : LineTable) (c a : ℕ) (path : List ℕ) (above next : Option ℕ) → above ≡ Some a → chain t a ≡ a ∷ list_of (chain t) next → path ++ list_of (chain t) above ≡ chain t c
+pub climbed_more : (t : LineTable) (c a : ℕ) (path : List ℕ) (above next : Option ℕ) → above ≡ Some a
+    → chain t a ≡ a ∷ list_of (chain t) next → path ++ list_of (chain t) above ≡ chain t c
     → (path ++ (a ∷ [])) ++ list_of (chain t) next ≡ chain t c
 climbed_more t c a path above next is step whole =
     append_assoc path (a ∷ []) (list_of (chain t) next)

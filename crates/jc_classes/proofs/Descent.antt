@@ -1,5 +1,6 @@
 -- Where nothing is at fault, every chain of superclasses ends with object.
-use Rattle.std.proofs.Common.{◌≡◌, ℕ, zero, suc, ◌<◌, ◌≤◌, ◌⊎◌, inl, inr, Bool, true, false, List, [], ◌∷◌, map, length, Option, Some, None, refl, sym, ap, subst, ◌∙◌, arith}
+use Rattle.std.proofs.Common.{◌≡◌, ℕ, zero, suc, ◌<◌, ◌≤◌, ◌⊎◌, inl, inr, Bool, true, false, List, [], ◌∷◌, map, length, Option}
+use Rattle.std.proofs.Common.{Some, None, refl, sym, ap, subst, ◌∙◌, arith}
 use Rattle.std.specs.Prelude.{◌==◌, ◌||◌, ◌&&◌, nat_lt, All, Contains, slice_get, slice_index}
 use Rattle.std.specs.Option.{option_map, option_to_list}
 use Rattle.std.proofs.lemmas.Bool.{false≢true, eqb-true, ltb-true, and_parts, or_cases}
@@ -14,7 +15,8 @@ use Rattle.jc_resolve.specs.Named.{is_interface}
 use Rattle.jc_classes.specs.KnownClasses.{HasKnownLine}
 use Rattle.jc_classes.specs.Ancestor.{IsAncestor, superclass, superclass_in, is_above}
 use Rattle.jc_classes.specs.LineConditions.{is_class_number, is_class_record, fits_role}
-use Rattle.jc_classes.specs.Outline.{LineTable, IsClass, AreLines, is_interface_line, is_interface as interface_in_table, parent_of, parent_in_line, object, chain, chain_over, line_of, outline}
+use Rattle.jc_classes.specs.Outline.{LineTable, IsClass, AreLines, is_interface_line, is_interface as interface_in_table, parent_of, parent_in_line, object}
+use Rattle.jc_classes.specs.Outline.{chain, chain_over, line_of, outline}
 use Rattle.jc_classes.proofs.Bare.{chain_alone, chain_above, chain_over-front}
 use Rattle.jc_classes.proofs.Above.{is_above-sound}
 use Rattle.jc_classes.proofs.FaultlessLines.{NoFault}
@@ -41,7 +43,8 @@ class-made cs roles c is =
     let n : length (map line_of cs) ≡ length cs = length-map cs line_of in
     record { number = omega arith; class = ap is_interface_line (outline-at cs c is.r is.at) ∙ is.plain }
 
-class-read-by : (cs : List NamedClass) (c : ℕ) (o : Option NamedClass) → slice_get cs c ≡ o → c < length cs → is_interface_line (option_map line_of o) ≡ false → IsPlain cs c
+class-read-by : (cs : List NamedClass) (c : ℕ) (o : Option NamedClass) → slice_get cs c ≡ o → c < length cs
+    → is_interface_line (option_map line_of o) ≡ false → IsPlain cs c
 class-read-by cs c None e h plain = absurd (past cs c h e) where
   past : (xs : List NamedClass) (i : ℕ) → i < length xs → slice_get xs i ≡ None → ⊥
   past [] i h e = omega arith
@@ -60,7 +63,8 @@ pub parent-made : (cs : List NamedClass) (roles : List ℕ) (c : ℕ) (is : IsPl
 unfolding parent_of
 parent-made cs roles c is = ap parent_in_line (outline-at cs c is.r is.at) ∙ rw is.plain refl
 
-parent-class-by : (cs : List NamedClass) (c p : ℕ) (o : Option NamedClass) → slice_get cs c ≡ o → parent_in_line (option_map line_of o) ≡ Some p → IsPlain cs c
+parent-class-by : (cs : List NamedClass) (c p : ℕ) (o : Option NamedClass) → slice_get cs c ≡ o → parent_in_line (option_map line_of o) ≡ Some p
+    → IsPlain cs c
 parent-class-by cs c p None e h = absurd cc
 parent-class-by cs c p (Some r) e h = plain r.interface refl where
   no_parent : None ≡ Some p → ⊥
@@ -85,7 +89,8 @@ parent-above cs roles c p e =
     subst (λ xs. Contains xs p) (sym (superclass-read cs c is ∙ ap option_to_list up)) (Contains-push [] p)
 
 -- a superclass is a class
-pub parent-plain : (cs : List NamedClass) (first : ℕ) (roles : List ℕ) → All (HasKnownLine cs) cs → NoFault cs first roles → (c p : ℕ) → parent_of (outline cs roles) c ≡ Some p → IsPlain cs p
+pub parent-plain : (cs : List NamedClass) (first : ℕ) (roles : List ℕ) → All (HasKnownLine cs) cs → NoFault cs first roles → (c p : ℕ)
+    → parent_of (outline cs roles) c ≡ Some p → IsPlain cs p
 unfolding is_interface
 parent-plain cs first roles known sound c p e =
     let is = parent-class cs roles c p e in
@@ -100,7 +105,8 @@ option-parent : (o : Option ℕ) (p : ℕ) → Contains (option_to_list o) p →
 option-parent None p h = absurd (omega (arith, h.1))
 option-parent (Some q) p h = elim (Contains-push_cases [] q p h) [ inl none ↦ absurd (omega (arith, none.1)) | inr e ↦ ap Some e ]
 
-above-parent-by : (cs : List NamedClass) (c p : ℕ) (o : Option NamedClass) → slice_get cs c ≡ o → Contains (superclass_in o) p → parent_in_line (option_map line_of o) ≡ Some p
+above-parent-by : (cs : List NamedClass) (c p : ℕ) (o : Option NamedClass) → slice_get cs c ≡ o → Contains (superclass_in o) p
+    → parent_in_line (option_map line_of o) ≡ Some p
 above-parent-by cs c p None e h = absurd (omega (arith, h.1))
 above-parent-by cs c p (Some r) e h = plain r.interface refl where
   plain : (b : Bool) → r.interface ≡ b → parent_in_line (Some (line_of r)) ≡ Some p
@@ -125,8 +131,10 @@ record Ends (t : LineTable) (cs : List ℕ) : Type 0 where
 no_cycle : (cs : List NamedClass) (first : ℕ) (roles : List ℕ) → NoFault cs first roles → (c : ℕ) → IsPlain cs c → is_above cs false c c ≡ false
 no_cycle cs first roles sound c is = subst (λ (b : Bool). is_above cs b c c ≡ false) is.plain (sound.cycles c is.r is.at)
 
-ends-by : (cs : List NamedClass) (first : ℕ) (roles : List ℕ) → All (HasKnownLine cs) cs → NoFault cs first roles → (m c : ℕ) (o : Option ℕ) → parent_of (outline cs roles) c ≡ o → IsPlain cs c → rank cs c ≤ m
-    → ((k p : ℕ) → m ≡ suc k → IsPlain cs p → rank cs p ≤ k → Ends (outline cs roles) (chain_over (outline cs roles) k p)) → Ends (outline cs roles) (chain_over (outline cs roles) m c)
+ends-by : (cs : List NamedClass) (first : ℕ) (roles : List ℕ) → All (HasKnownLine cs) cs → NoFault cs first roles → (m c : ℕ) (o : Option ℕ)
+    → parent_of (outline cs roles) c ≡ o → IsPlain cs c → rank cs c ≤ m
+    → ((k p : ℕ) → m ≡ suc k → IsPlain cs p → rank cs p ≤ k → Ends (outline cs roles) (chain_over (outline cs roles) k p))
+    → Ends (outline cs roles) (chain_over (outline cs roles) m c)
 ends-by cs first roles known sound m c None e is h above =
     let t = outline cs roles in
     let root : c ≡ object t = sound.rooted c is.r is.at is.plain (sym (parent-made cs roles c is) ∙ e) in
@@ -137,9 +145,12 @@ ends-by cs first roles known sound m c None e is h above =
 ends-by cs first roles known sound m c (Some p) e is h above =
     let t = outline cs roles in
     let up = parent-plain cs first roles known sound c p e in
-    let falls : rank cs p < rank cs c = rank-falls cs c p (parent-above cs roles c p e) (slice_get_within cs p up.r up.at) (no_cycle cs first roles sound p up) in
+    let falls : rank cs p < rank cs c = rank-falls cs c p (parent-above cs roles c p e) (slice_get_within cs p up.r up.at)
+    (no_cycle cs first roles sound p up) in
     further m refl (λ k. above k p) falls up where
-      further : (n : ℕ) → m ≡ n → ((k : ℕ) → m ≡ suc k → IsPlain cs p → rank cs p ≤ k → Ends (outline cs roles) (chain_over (outline cs roles) k p)) → rank cs p < rank cs c → IsPlain cs p
+      further : (n : ℕ) → m ≡ n
+          → ((k : ℕ) → m ≡ suc k → IsPlain cs p → rank cs p ≤ k → Ends (outline cs roles) (chain_over (outline cs roles) k p))
+          → rank cs p < rank cs c → IsPlain cs p
           → Ends (outline cs roles) (chain_over (outline cs roles) m c)
       further zero s rest falls up = absurd (omega arith)
       further (suc k) s rest falls up =
@@ -151,12 +162,14 @@ ends-by cs first roles known sound m c (Some p) e is h above =
             ends = last-cons c (chain_over t k p) f.0 p f.1 ∙ tail.ends;
           }))
 
-chain-ends : (cs : List NamedClass) (first : ℕ) (roles : List ℕ) → All (HasKnownLine cs) cs → NoFault cs first roles → (m c : ℕ) → IsPlain cs c → rank cs c ≤ m → Ends (outline cs roles) (chain_over (outline cs roles) m c)
+chain-ends : (cs : List NamedClass) (first : ℕ) (roles : List ℕ) → All (HasKnownLine cs) cs → NoFault cs first roles → (m c : ℕ)
+    → IsPlain cs c → rank cs c ≤ m → Ends (outline cs roles) (chain_over (outline cs roles) m c)
 chain-ends cs first roles known sound zero c is h =
     ends-by cs first roles known sound zero c (parent_of (outline cs roles) c) refl is h (λ k p e up le. absurd (omega arith))
 chain-ends cs first roles known sound (suc m) c is h =
     ends-by cs first roles known sound (suc m) c (parent_of (outline cs roles) c) refl is h
-    (λ k p e up le. let same : m ≡ k = omega arith in subst (λ (n : ℕ). Ends (outline cs roles) (chain_over (outline cs roles) n p)) same (chain-ends cs first roles known sound m p up (omega arith)))
+    (λ k p e up le. let same : m ≡ k = omega arith in subst (λ (n : ℕ). Ends (outline cs roles) (chain_over (outline cs roles) n p)) same
+    (chain-ends cs first roles known sound m p up (omega arith)))
 
 -- ---- roles
 
@@ -172,14 +185,16 @@ named-plain cs c (Some r) e h = plain r.interface refl where
   plain true i = absurd (false≢true (rw i at h))
   plain false i = record { r = r; at = e; plain = i }
 
-pub role-plain : (cs : List NamedClass) (first : ℕ) (roles : List ℕ) → NoFault cs first roles → (k : ℕ) → k < length roles → IsPlain cs (slice_index roles k)
+pub role-plain : (cs : List NamedClass) (first : ℕ) (roles : List ℕ) → NoFault cs first roles → (k : ℕ) → k < length roles
+    → IsPlain cs (slice_index roles k)
 unfolding is_class_number
 role-plain cs first roles sound k h =
     let c = slice_index roles k in
     named-plain cs c (slice_get cs c) refl (fitting-class cs first (slice_index roles 1) k c (sound.fitting k c (slice_get-get_or roles k 0 h)))
 
 -- a role from 2 on is throwable, or throwable is its ancestor
-thrown-by : (cs : List NamedClass) (first throwable k c : ℕ) → 2 ≤ k → fits_role cs first throwable k c ≡ true → (throwable ≡ c) ⊎ IsAncestor cs throwable c
+thrown-by : (cs : List NamedClass) (first throwable k c : ℕ) → 2 ≤ k → fits_role cs first throwable k c ≡ true → (throwable ≡ c)
+    ⊎ IsAncestor cs throwable c
 thrown-by cs first throwable k c h e =
     let part = and_parts (nat_lt c first && is_class_number cs c) (nat_lt k 2 || c == throwable || is_above cs false throwable c) e in
     elim (or_cases (nat_lt k 2 || c == throwable) (is_above cs false throwable c) part.1) [
@@ -190,13 +205,16 @@ thrown-by cs first throwable k c h e =
       | inr above ↦ inr (is_above-sound cs false throwable c above)
     ]
 
-pub role-thrown : (cs : List NamedClass) (first : ℕ) (roles : List ℕ) → NoFault cs first roles → (k : ℕ) → 2 ≤ k → k < length roles → (slice_index roles 1 ≡ slice_index roles k) ⊎ IsAncestor cs (slice_index roles 1) (slice_index roles k)
-role-thrown cs first roles sound k two h = thrown-by cs first (slice_index roles 1) k (slice_index roles k) two (sound.fitting k (slice_index roles k) (slice_get-get_or roles k 0 h))
+pub role-thrown : (cs : List NamedClass) (first : ℕ) (roles : List ℕ) → NoFault cs first roles → (k : ℕ) → 2 ≤ k → k < length roles
+    → (slice_index roles 1 ≡ slice_index roles k) ⊎ IsAncestor cs (slice_index roles 1) (slice_index roles k)
+role-thrown cs first roles sound k two h =
+    thrown-by cs first (slice_index roles 1) k (slice_index roles k) two (sound.fitting k (slice_index roles k) (slice_get-get_or roles k 0 h))
 
 -- ---- the law
 
 -- where nothing is at fault, every chain ends with object
-pub are-classes : (cs : List NamedClass) (first : ℕ) (roles : List ℕ) → All (HasKnownLine cs) cs → NoFault cs first roles → 0 < length roles → AreLines (outline cs roles)
+pub are-classes : (cs : List NamedClass) (first : ℕ) (roles : List ℕ) → All (HasKnownLine cs) cs → NoFault cs first roles → 0 < length roles
+    → AreLines (outline cs roles)
 unfolding chain
 are-classes cs first roles known sound some =
     let root = role-plain cs first roles sound 0 some in

@@ -13,14 +13,16 @@ use Rattle.first_fault.specs.First.{AllEmpty}
 use Rattle.first_fault.proofs.LeastFaults.{faultless_first}
 use Rattle.jc_resolve.proofs.Faultless.{faultless_at, flat_faultless}
 use Rattle.jc_classes.specs.Ancestor.{is_above}
-use Rattle.jc_classes.specs.LineConditions.{numbered, is_class_number, super_fault, cycle_fault, fits_role, role_fault, root_fault, named_interfaces, not_interface_fault, conditions}
+use Rattle.jc_classes.specs.LineConditions.{numbered, is_class_number, super_fault, cycle_fault, fits_role, role_fault, root_fault, named_interfaces}
+use Rattle.jc_classes.specs.LineConditions.{not_interface_fault, conditions}
 
 -- ---- lists in which nothing is at fault
 
 abbrev Faults : Type 0 → Type 0
 Faults X = X → Option LinkFault
 
-numbered-at : {X : Type 0} (n : ℕ) (xs : List X) (i m : ℕ) (x : X) → n + i ≡ m → slice_get xs i ≡ Some x → slice_get (enumerate_from n xs) i ≡ Some (m, x)
+numbered-at : {X : Type 0} (n : ℕ) (xs : List X) (i m : ℕ) (x : X) → n + i ≡ m → slice_get xs i ≡ Some x
+    → slice_get (enumerate_from n xs) i ≡ Some (m, x)
 numbered-at n [] i m x e at = absurd cc
 numbered-at n (y ∷ ys) zero m x e at =
     let same : y ≡ x = cc in
@@ -28,13 +30,15 @@ numbered-at n (y ∷ ys) zero m x e at =
     rw (same, here) refl
 numbered-at n (y ∷ ys) (suc i) m x e at = numbered-at (n + 1) ys i m x (omega arith) at
 
-none-numbered : {X : Type 0} (f : Faults (ℕ × X)) (xs : List X) (c : ℕ) (x : X) → filter_map f (numbered xs) ≡ [] → slice_get xs c ≡ Some x → f (c, x) ≡ None
+none-numbered : {X : Type 0} (f : Faults (ℕ × X)) (xs : List X) (c : ℕ) (x : X) → filter_map f (numbered xs) ≡ [] → slice_get xs c ≡ Some x
+    → f (c, x) ≡ None
 none-numbered f xs c x e at = faultless_at f (numbered xs) c (c, x) e (numbered-at 0 xs c c x (omega arith) at)
 
 none-all : {X Y : Type 0} (f : Faults Y) (h : X → Y) (xs : List X) → filter_map f (map h xs) ≡ [] → All (λ x. f (h x) ≡ None) xs
 none-all f h [] e = All-nil (λ x. f (h x) ≡ None)
 none-all f h (x ∷ xs) e =
-    All-cons (λ y. f (h y) ≡ None) x xs (faultless_first (f (h x)) (filter_map f (map h xs)) e).0 (none-all f h xs (faultless_first (f (h x)) (filter_map f (map h xs)) e).1)
+    All-cons (λ y. f (h y) ≡ None) x xs (faultless_first (f (h x)) (filter_map f (map h xs)) e).0
+    (none-all f h xs (faultless_first (f (h x)) (filter_map f (map h xs)) e).1)
 
 refused-not : (b : Bool) (f : LinkFault) → (cond b (Some f) None) ≡ None → b ≡ false
 refused-not true f e = absurd cc
@@ -71,7 +75,8 @@ not_some : (o : Option ℕ) → is_some o ≡ false → o ≡ None
 not_some None e = refl
 not_some (Some p) e = absurd (false≢true (sym e))
 
-root-none : (object c : ℕ) (r : NamedClass) → root_fault object (c, r) ≡ None → r.interface ≡ false → cond (c == object) (is_some r.parent) (is_none r.parent) ≡ false
+root-none : (object c : ℕ) (r : NamedClass) → root_fault object (c, r) ≡ None → r.interface ≡ false
+    → cond (c == object) (is_some r.parent) (is_none r.parent) ≡ false
 unfolding root_fault
 root-none object c r e plain = refused-not (cond (c == object) (is_some r.parent) (is_none r.parent)) (NoSuper c) (rw plain at e)
 
@@ -80,7 +85,8 @@ rootless-is object r e plain =
     let whole = root-none object object r e plain in
     not_some r.parent (rw (eq-eqb object object refl) at whole)
 
-rooted-is : (object c : ℕ) (b : Bool) (r : NamedClass) → (c == object) ≡ b → root_fault object (c, r) ≡ None → r.interface ≡ false → r.parent ≡ None → c ≡ object
+rooted-is : (object c : ℕ) (b : Bool) (r : NamedClass) → (c == object) ≡ b → root_fault object (c, r) ≡ None → r.interface ≡ false
+    → r.parent ≡ None → c ≡ object
 rooted-is object c true r same e plain none = eqb-true c object same
 rooted-is object c false r same e plain none =
     let whole = root-none object c r e plain in
@@ -90,11 +96,14 @@ interface-none : (cs : List NamedClass) (c : ℕ) (i : Iface) → not_interface_
 unfolding not_interface_fault
 interface-none cs c i e = refused-not (is_class_number cs i.class) (NotInterface c i.class) e
 
-interfaces-none : (cs : List NamedClass) (c : ℕ) (r : NamedClass) → filter_map (not_interface_fault cs) (named_interfaces cs) ≡ [] → slice_get cs c ≡ Some r
+interfaces-none : (cs : List NamedClass) (c : ℕ) (r : NamedClass) → filter_map (not_interface_fault cs) (named_interfaces cs) ≡ []
+    → slice_get cs c ≡ Some r
     → All (λ (i : Iface). is_class_number cs i.class ≡ false) r.interfaces
 interfaces-none cs c r e at =
-    let own = flat_faultless (not_interface_fault cs) (λ (p : ℕ × NamedClass). map (λ (i : Iface). (p.0, i)) p.1.interfaces) (numbered cs) c (c, r) e (numbered-at 0 cs c c r (omega arith) at) in
-    All-weaker (λ (i : Iface). not_interface_fault cs (c, i) ≡ None) (λ (i : Iface). is_class_number cs i.class ≡ false) (λ i h. interface-none cs c i h) r.interfaces
+    let own = flat_faultless (not_interface_fault cs) (λ (p : ℕ × NamedClass). map (λ (i : Iface). (p.0, i)) p.1.interfaces) (numbered cs) c (c, r) e
+    (numbered-at 0 cs c c r (omega arith) at) in
+    All-weaker (λ (i : Iface). not_interface_fault cs (c, i) ≡ None) (λ (i : Iface). is_class_number cs i.class ≡ false)
+    (λ i h. interface-none cs c i h) r.interfaces
     (none-all (not_interface_fault cs) (λ (i : Iface). (c, i)) r.interfaces own)
 
 pub no_fault : (cs : List NamedClass) (first : ℕ) (roles : List ℕ) → AllEmpty (conditions cs first roles) → NoFault cs first roles
@@ -102,7 +111,10 @@ no_fault cs first roles e = record {
   supers = λ c p r at named. super-none cs c p r (none-numbered (super_fault cs) cs c r e.0 at) named;
   cycles = λ c r at. cycle-none cs c r (none-numbered (cycle_fault cs) cs c r e.1.0 at);
   fitting = λ k c at. role-none cs first (slice_index roles 1) k c (none-numbered (role_fault cs first (slice_index roles 1)) roles k c e.1.1.0 at);
-  rootless = λ r at plain. rootless-is (slice_index roles 0) r (none-numbered (root_fault (slice_index roles 0)) cs (slice_index roles 0) r e.1.1.1.0 at) plain;
-  rooted = λ c r at plain none. rooted-is (slice_index roles 0) c (c == slice_index roles 0) r refl (none-numbered (root_fault (slice_index roles 0)) cs c r e.1.1.1.0 at) plain none;
+  rootless =
+      λ r at plain. rootless-is (slice_index roles 0) r (none-numbered (root_fault (slice_index roles 0)) cs (slice_index roles 0) r e.1.1.1.0 at) plain;
+  rooted =
+      λ c r at plain none. rooted-is (slice_index roles 0) c (c == slice_index roles 0) r refl
+      (none-numbered (root_fault (slice_index roles 0)) cs c r e.1.1.1.0 at) plain none;
   interfaces = λ c r at. interfaces-none cs c r e.1.1.1.1.0 at;
 }

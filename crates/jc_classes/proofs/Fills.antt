@@ -1,5 +1,6 @@
 -- The slots of classes as they are filled.
-use Rattle.std.proofs.Common.{◌≡◌, ℕ, zero, suc, ◌+◌, ◌≤◌, ◌<◌, set, List, [], ◌∷◌, ◌++◌, length, map, length-set, get_or, append_assoc, append-nil, replicate, Option, Some, None, refl, sym, ap, subst, ◌∙◌, arith, inl, inr}
+use Rattle.std.proofs.Common.{◌≡◌, ℕ, zero, suc, ◌+◌, ◌≤◌, ◌<◌, set, List, [], ◌∷◌, ◌++◌, length, map, length-set, get_or}
+use Rattle.std.proofs.Common.{append_assoc, append-nil, replicate, Option, Some, None, refl, sym, ap, subst, ◌∙◌, arith, inl, inr}
 use Rattle.std.specs.List.{range_with_len}
 use Rattle.std.proofs.lemmas.List.{length-replicate}
 use Rattle.std.specs.Prelude.{All, filter_map, IfSome, IsSome, slice_get}
@@ -25,11 +26,13 @@ pub filled-here : (slots : List (Option ClassLayout)) (c : ℕ) (l : ClassLayout
 unfolding slot_at
 filled-here slots c l h = ap option_flatten (slice_get-set_here slots c (Some l) h)
 
-pub filled-other : (slots : List (Option ClassLayout)) (c d : ℕ) (l : ClassLayout) → (c ≡ d → ⊥) → slot_at (set slots c (Some l)) d ≡ slot_at slots d
+pub filled-other : (slots : List (Option ClassLayout)) (c d : ℕ) (l : ClassLayout) → (c ≡ d → ⊥)
+    → slot_at (set slots c (Some l)) d ≡ slot_at slots d
 unfolding slot_at
 filled-other slots c d l ne = ap option_flatten (slice_get-set_other slots c d (Some l) ne)
 
-pub slots_filled : (t : LineTable) (classes : List NamedClass) (slots : List (Option ClassLayout)) (c : ℕ) (l : ClassLayout) → AreLayouts t classes slots → c < length classes → l ≡ class_layout t classes c
+pub slots_filled : (t : LineTable) (classes : List NamedClass) (slots : List (Option ClassLayout)) (c : ℕ) (l : ClassLayout)
+    → AreLayouts t classes slots → c < length classes → l ≡ class_layout t classes c
     → AreLayouts t classes (set slots c (Some l))
 slots_filled t classes slots c l are h is = record {
   count = length-set slots c (Some l) ∙ are.count;
@@ -42,7 +45,8 @@ slots_filled t classes slots c l are h is = record {
   ];
 }
 
-pub slots_kept : (t : LineTable) (classes : List NamedClass) (slots : List (Option ClassLayout)) (c : ℕ) (l : ClassLayout) → AreLayouts t classes slots → c < length classes → l ≡ class_layout t classes c
+pub slots_kept : (t : LineTable) (classes : List NamedClass) (slots : List (Option ClassLayout)) (c : ℕ) (l : ClassLayout) → AreLayouts t classes slots
+    → c < length classes → l ≡ class_layout t classes c
     → KeepsFilled t classes slots (set slots c (Some l))
 slots_kept t classes slots c l are h is = record {
   filled = λ d was. elim (cases_eq c d) [
@@ -55,16 +59,19 @@ slots_kept t classes slots c l are h is = record {
 
 -- ---- the superclass's slot
 
-made_is : (t : LineTable) (classes : List NamedClass) (p : ℕ) (o : Option ClassLayout) → IsSome o → IfSome o (λ l. l ≡ class_layout t classes p) → o ≡ Some (class_layout t classes p)
+made_is : (t : LineTable) (classes : List NamedClass) (p : ℕ) (o : Option ClassLayout) → IsSome o → IfSome o (λ l. l ≡ class_layout t classes p)
+    → o ≡ Some (class_layout t classes p)
 made_is t classes p None is e = absurd (false≢true is)
 made_is t classes p (Some l) is e = ap Some e
 
 -- a slot that is not empty holds the layout of its class
-pub filled_from : (t : LineTable) (classes : List NamedClass) (slots : List (Option ClassLayout)) (above : Option ℕ) → AreLayouts t classes slots → IfSome above (λ p. IsSome (slot_at slots p)) → IfSome above (IsFilled t classes slots)
+pub filled_from : (t : LineTable) (classes : List NamedClass) (slots : List (Option ClassLayout)) (above : Option ℕ) → AreLayouts t classes slots
+    → IfSome above (λ p. IsSome (slot_at slots p)) → IfSome above (IsFilled t classes slots)
 filled_from t classes slots None are made = tt
 filled_from t classes slots (Some p) are made = made_is t classes p (slot_at slots p) made (are.right p)
 
-pub above_filled : (t : LineTable) (classes : List NamedClass) (slots : List (Option ClassLayout)) (above : Option ℕ) → IfSome above (IsFilled t classes slots) → option_and_then (slot_at slots) above ≡ option_map (class_layout t classes) above
+pub above_filled : (t : LineTable) (classes : List NamedClass) (slots : List (Option ClassLayout)) (above : Option ℕ)
+    → IfSome above (IsFilled t classes slots) → option_and_then (slot_at slots) above ≡ option_map (class_layout t classes) above
 above_filled t classes slots None made = refl
 above_filled t classes slots (Some p) made = made
 
@@ -85,33 +92,41 @@ own_few classes c all = own_few_by (slice_get classes c) (sized_at classes c (sl
 all_few : (classes : List NamedClass) (cs : List ℕ) → All IsSized classes → All (λ a. length (own_of classes a) ≤ 131070) cs
 all_few classes cs all = λ k d h. own_few classes (get_or cs k d) all
 
-pub cells_few : (t : LineTable) (classes : List NamedClass) (c : ℕ) → All IsSized classes → length t.lines ≤ 4096 → instance_cells t classes c ≤ 536993790
+pub cells_few : (t : LineTable) (classes : List NamedClass) (c : ℕ) → All IsSized classes → length t.lines ≤ 4096
+    → instance_cells t classes c ≤ 536993790
 unfolding instance_cells
 cells_few t classes c all few =
     let sum = sum_by-le (λ a. length (own_of classes a)) 131070 (chain t c) (all_few classes (chain t c) all) in
     let long = chain-length t c in
     omega (arith, sum, long)
 
-pub above_few : (t : LineTable) (classes : List NamedClass) (above : Option ℕ) → All IsSized classes → length t.lines ≤ 4096 → (above_or_nothing (option_map (class_layout t classes) above)).cells ≤ 536993790
+pub above_few : (t : LineTable) (classes : List NamedClass) (above : Option ℕ) → All IsSized classes → length t.lines ≤ 4096
+    → (above_or_nothing (option_map (class_layout t classes) above)).cells ≤ 536993790
 unfolding class_layout
 above_few t classes None all few = omega arith
 above_few t classes (Some p) all few = cells_few t classes p all few
 
 -- ---- a class made from the one above it
 
-pub up_is : (t : LineTable) (classes : List NamedClass) (slots : List (Option ClassLayout)) (above : Option ℕ) (up : Option ClassLayout) → up ≡ option_and_then (slot_at slots) above → IfSome above (IsFilled t classes slots) → up ≡ option_map (class_layout t classes) above
+pub up_is : (t : LineTable) (classes : List NamedClass) (slots : List (Option ClassLayout)) (above : Option ℕ) (up : Option ClassLayout)
+    → up ≡ option_and_then (slot_at slots) above → IfSome above (IsFilled t classes slots) → up ≡ option_map (class_layout t classes) above
 up_is t classes slots above up e made = e ∙ above_filled t classes slots above made
 
-pub up_few : (t : LineTable) (classes : List NamedClass) (slots : List (Option ClassLayout)) (above : Option ℕ) (up : Option ClassLayout) → up ≡ option_and_then (slot_at slots) above → IfSome above (IsFilled t classes slots) → HaveSuperclasses t classes
+pub up_few : (t : LineTable) (classes : List NamedClass) (slots : List (Option ClassLayout)) (above : Option ℕ) (up : Option ClassLayout)
+    → up ≡ option_and_then (slot_at slots) above → IfSome above (IsFilled t classes slots) → HaveSuperclasses t classes
     → (above_or_nothing up).cells ≤ 536993790
-up_few t classes slots above up e made known = rw (up_is t classes slots above up e made) (above_few t classes above known.sized (omega (arith, known.few, known.count)))
+up_few t classes slots above up e made known =
+    rw (up_is t classes slots above up e made) (above_few t classes above known.sized (omega (arith, known.few, known.count)))
 
-pub made_right : (t : LineTable) (classes : List NamedClass) (slots : List (Option ClassLayout)) (above : Option ℕ) (up : Option ClassLayout) (c : ℕ) (k : NamedClass) (made : ClassLayout) → AreLayouts t classes slots → c < length classes
-    → up ≡ option_and_then (slot_at slots) above → IfSome above (IsFilled t classes slots) → slice_get classes c ≡ Some k → chain t c ≡ c ∷ list_of (chain t) above
+pub made_right : (t : LineTable) (classes : List NamedClass) (slots : List (Option ClassLayout)) (above : Option ℕ) (up : Option ClassLayout) (c : ℕ)
+    (k : NamedClass) (made : ClassLayout) → AreLayouts t classes slots → c < length classes
+    → up ≡ option_and_then (slot_at slots) above → IfSome above (IsFilled t classes slots) → slice_get classes c ≡ Some k
+    → chain t c ≡ c ∷ list_of (chain t) above
     → made ≡ class_layout_from k (above_or_nothing up) (at_home t above c) → IsMade t classes slots (set slots c (Some made)) c
 made_right t classes slots above up c k made are known e filled at step is =
     let same : made ≡ class_layout t classes c =
-    is ∙ ap (λ (o : Option ClassLayout). class_layout_from k (above_or_nothing o) (at_home t above c)) (up_is t classes slots above up e filled) ∙ sym (layout_step t classes c above k step at) in
+    is ∙ ap (λ (o : Option ClassLayout). class_layout_from k (above_or_nothing o) (at_home t above c)) (up_is t classes slots above up e filled)
+    ∙ sym (layout_step t classes c above k step at) in
     let within : c < length slots = omega (arith, are.count) in
     record {
       slots = slots_filled t classes slots c made are known same;
@@ -127,13 +142,15 @@ known_by : (t : LineTable) (c : ℕ) (above : Option ℕ) → AreLines t → par
 known_by t c None are e = tt
 known_by t c (Some p) are e = (next_on_chain t c p are (parent_of-class t c p e) e).class.number
 
-above_known_by : (t : LineTable) (above : Option ℕ) (xs : List ℕ) (x : ℕ) (rest : List ℕ) → ((p : ℕ) → p < length t.lines → xs ++ (x ∷ rest) ≡ chain t p → x < length t.lines)
+above_known_by : (t : LineTable) (above : Option ℕ) (xs : List ℕ) (x : ℕ) (rest : List ℕ)
+    → ((p : ℕ) → p < length t.lines → xs ++ (x ∷ rest) ≡ chain t p → x < length t.lines)
     → IfSome above (λ p. p < length t.lines) → xs ++ (x ∷ rest) ≡ list_of (chain t) above → x < length t.lines
 above_known_by t None xs x rest further known e = absurd (no_end xs rest x e)
 above_known_by t (Some p) xs x rest further known e = further p known e
 
 -- the number of each class on a chain is that of a record
-on_chain_known : (t : LineTable) → AreLines t → (xs : List ℕ) (c x : ℕ) (rest : List ℕ) → c < length t.lines → xs ++ (x ∷ rest) ≡ chain t c → x < length t.lines
+on_chain_known : (t : LineTable) → AreLines t → (xs : List ℕ) (c x : ℕ) (rest : List ℕ) → c < length t.lines
+    → xs ++ (x ∷ rest) ≡ chain t c → x < length t.lines
 on_chain_known t are [] c x rest h e =
     let f = chain-front t c in
     let same : x ≡ c = head_same x c rest f.0 (e ∙ f.1) in
@@ -142,17 +159,23 @@ on_chain_known t are (y ∷ xs) c x rest h e =
     above_known_by t (parent_of t c) xs x rest (λ p k g. on_chain_known t are xs p x rest k g) (known_by t c (parent_of t c) are refl)
     (tail_same y c (xs ++ (x ∷ rest)) (list_of (chain t) (parent_of t c)) (e ∙ chain_step t c are))
 
-taken : (t : LineTable) (path rest : List ℕ) (x : ℕ) (above : Option ℕ) (c : ℕ) → path ≡ rest ++ (x ∷ []) → path ++ list_of (chain t) above ≡ chain t c → rest ++ (x ∷ list_of (chain t) above) ≡ chain t c
-taken t path rest x above c e whole = sym (append_assoc rest (x ∷ []) (list_of (chain t) above)) ∙ ap (λ (xs : List ℕ). xs ++ list_of (chain t) above) (sym e) ∙ whole
+taken : (t : LineTable) (path rest : List ℕ) (x : ℕ) (above : Option ℕ) (c : ℕ) → path ≡ rest ++ (x ∷ [])
+    → path ++ list_of (chain t) above ≡ chain t c → rest ++ (x ∷ list_of (chain t) above) ≡ chain t c
+taken t path rest x above c e whole =
+    sym (append_assoc rest (x ∷ []) (list_of (chain t) above)) ∙ ap (λ (xs : List ℕ). xs ++ list_of (chain t) above) (sym e) ∙ whole
 
 -- the last class of the path stands below the class above it
-pub down_step : (t : LineTable) (path rest : List ℕ) (x : ℕ) (above : Option ℕ) (c : ℕ) → AreLines t → path ≡ rest ++ (x ∷ []) → path ++ list_of (chain t) above ≡ chain t c → chain t x ≡ x ∷ list_of (chain t) above
+pub down_step : (t : LineTable) (path rest : List ℕ) (x : ℕ) (above : Option ℕ) (c : ℕ) → AreLines t → path ≡ rest ++ (x ∷ [])
+    → path ++ list_of (chain t) above ≡ chain t c → chain t x ≡ x ∷ list_of (chain t) above
 down_step t path rest x above c are e whole = chain_from t are rest c x (list_of (chain t) above) (taken t path rest x above c e whole)
 
-pub down_whole : (t : LineTable) (path rest : List ℕ) (x : ℕ) (above : Option ℕ) (c : ℕ) → AreLines t → path ≡ rest ++ (x ∷ []) → path ++ list_of (chain t) above ≡ chain t c → rest ++ list_of (chain t) (Some x) ≡ chain t c
-down_whole t path rest x above c are e whole = ap (λ (xs : List ℕ). rest ++ xs) (down_step t path rest x above c are e whole) ∙ taken t path rest x above c e whole
+pub down_whole : (t : LineTable) (path rest : List ℕ) (x : ℕ) (above : Option ℕ) (c : ℕ) → AreLines t → path ≡ rest ++ (x ∷ [])
+    → path ++ list_of (chain t) above ≡ chain t c → rest ++ list_of (chain t) (Some x) ≡ chain t c
+down_whole t path rest x above c are e whole =
+    ap (λ (xs : List ℕ). rest ++ xs) (down_step t path rest x above c are e whole) ∙ taken t path rest x above c e whole
 
-pub down_known : (t : LineTable) (classes : List NamedClass) (path rest : List ℕ) (x : ℕ) (above : Option ℕ) (c : ℕ) → AreLines t → HaveSuperclasses t classes → c < length classes → path ≡ rest ++ (x ∷ []) → path ++ list_of (chain t) above ≡ chain t c
+pub down_known : (t : LineTable) (classes : List NamedClass) (path rest : List ℕ) (x : ℕ) (above : Option ℕ) (c : ℕ) → AreLines t
+    → HaveSuperclasses t classes → c < length classes → path ≡ rest ++ (x ∷ []) → path ++ list_of (chain t) above ≡ chain t c
     → x < length classes
 down_known t classes path rest x above c are known h e whole =
     let low : c < length t.lines = omega (arith, known.count) in
@@ -161,18 +184,21 @@ down_known t classes path rest x above c are known h e whole =
 
 -- ---- the invariant of the descent
 
-pub record IsDescent (t : LineTable) (classes : List NamedClass) (first : List (Option ClassLayout)) (slots : List (Option ClassLayout)) (c : ℕ) (path : List ℕ) (above : Option ℕ) : Type 0 where
+pub record IsDescent (t : LineTable) (classes : List NamedClass) (first : List (Option ClassLayout)) (slots : List (Option ClassLayout)) (c : ℕ)
+    (path : List ℕ) (above : Option ℕ) : Type 0 where
   pub whole : path ++ list_of (chain t) above ≡ chain t c
   pub right : AreLayouts t classes slots
   pub keeps : KeepsFilled t classes first slots
   pub filled : IfSome above (IsFilled t classes slots)
   pub known : IfSome above (λ p. p < length classes)
 
-above_counted : (t : LineTable) (classes : List NamedClass) (above : Option ℕ) → HaveSuperclasses t classes → IfSome above (λ p. p < length t.lines) → IfSome above (λ p. p < length classes)
+above_counted : (t : LineTable) (classes : List NamedClass) (above : Option ℕ) → HaveSuperclasses t classes → IfSome above (λ p. p < length t.lines)
+    → IfSome above (λ p. p < length classes)
 above_counted t classes None known h = tt
 above_counted t classes (Some p) known h = omega (arith, known.count, h)
 
-pub descent_first : (t : LineTable) (classes : List NamedClass) (slots : List (Option ClassLayout)) (c : ℕ) (path : List ℕ) (above : Option ℕ) → HaveSuperclasses t classes → AreLayouts t classes slots → IsClimb t slots c path above → IsDescent t classes slots slots c path above
+pub descent_first : (t : LineTable) (classes : List NamedClass) (slots : List (Option ClassLayout)) (c : ℕ) (path : List ℕ) (above : Option ℕ)
+    → HaveSuperclasses t classes → AreLayouts t classes slots → IsClimb t slots c path above → IsDescent t classes slots slots c path above
 descent_first t classes slots c path above known are climb = record {
   whole = climb.whole;
   right = are;
@@ -181,7 +207,8 @@ descent_first t classes slots c path above known are climb = record {
   known = above_counted t classes above known climb.known;
 }
 
-pub descent_next : (t : LineTable) (classes : List NamedClass) (first slots next : List (Option ClassLayout)) (c : ℕ) (path rest : List ℕ) (x : ℕ) (above : Option ℕ) → AreLines t → HaveSuperclasses t classes → c < length classes → path ≡ rest ++ (x ∷ [])
+pub descent_next : (t : LineTable) (classes : List NamedClass) (first slots next : List (Option ClassLayout)) (c : ℕ) (path rest : List ℕ) (x : ℕ)
+    (above : Option ℕ) → AreLines t → HaveSuperclasses t classes → c < length classes → path ≡ rest ++ (x ∷ [])
     → IsDescent t classes first slots c path above → IsMade t classes slots next x → IsDescent t classes first next c rest (Some x)
 descent_next t classes first slots next c path rest x above are known low e d made = record {
   whole = down_whole t path rest x above c are e d.whole;
@@ -191,7 +218,8 @@ descent_next t classes first slots next c path rest x above are known low e d ma
   known = down_known t classes path rest x above c are known low e d.whole;
 }
 
-pub descent_last : (t : LineTable) (classes : List NamedClass) (first slots : List (Option ClassLayout)) (c : ℕ) (path : List ℕ) (above : Option ℕ) → path ≡ [] → IsDescent t classes first slots c path above → IsMade t classes first slots c
+pub descent_last : (t : LineTable) (classes : List NamedClass) (first slots : List (Option ClassLayout)) (c : ℕ) (path : List ℕ) (above : Option ℕ)
+    → path ≡ [] → IsDescent t classes first slots c path above → IsMade t classes first slots c
 descent_last t classes first slots c path above e d =
     let top : above ≡ Some c = climbed_whole t above c (ap (λ (xs : List ℕ). xs ++ list_of (chain t) above) (sym e) ∙ d.whole) in
     record {
@@ -214,19 +242,23 @@ nothing_there zero c = refl
 nothing_there (suc n) zero = refl
 nothing_there (suc n) (suc c) = nothing_there n c
 
-pub none_filled : (t : LineTable) (classes : List NamedClass) (slots : List (Option ClassLayout)) (n : ℕ) → n ≡ length classes → slots ≡ replicate n None → AreFilledBelow t classes slots 0
+pub none_filled : (t : LineTable) (classes : List NamedClass) (slots : List (Option ClassLayout)) (n : ℕ) → n ≡ length classes
+    → slots ≡ replicate n None → AreFilledBelow t classes slots 0
 unfolding slot_at
 none_filled t classes slots n m e =
     let f : (c : ℕ) → c < 0 → IsFilled t classes slots c = λ c h. absurd (omega arith) in
     record {
       right = record {
         count = ap length e ∙ length-replicate n None ∙ m;
-        right = λ c. subst (λ (o : Option ClassLayout). IfSome o (λ l. l ≡ class_layout t classes c)) (sym (ap (λ (xs : List (Option ClassLayout)). slot_at xs c) e ∙ nothing_there n c)) tt;
+        right =
+            λ c. subst (λ (o : Option ClassLayout). IfSome o (λ l. l ≡ class_layout t classes c))
+            (sym (ap (λ (xs : List (Option ClassLayout)). slot_at xs c) e ∙ nothing_there n c)) tt;
       };
       filled = f;
     }
 
-pub more_filled : (t : LineTable) (classes : List NamedClass) (old new : List (Option ClassLayout)) (n : ℕ) → AreFilledBelow t classes old n → IsMade t classes old new n → AreFilledBelow t classes new (n + 1)
+pub more_filled : (t : LineTable) (classes : List NamedClass) (old new : List (Option ClassLayout)) (n : ℕ) → AreFilledBelow t classes old n
+    → IsMade t classes old new n → AreFilledBelow t classes new (n + 1)
 more_filled t classes old new n are made = record {
   right = made.slots;
   filled = λ c h. elim (cases_lt c n) [
@@ -242,16 +274,20 @@ there_by (None ∷ xs) o = there_by xs o
 there_by (Some y ∷ xs) o = ap (λ ys. y ∷ ys) (there_by xs o)
 
 -- one more slot, filled or empty
-pub there_more : {A : Type 0} (xs : List (Option A)) (o : Option A) (x : A) (ys : List A) → o ≡ Some x → ys ≡ filter_map (λ o. o) xs → ys ++ (x ∷ []) ≡ filter_map (λ o. o) (xs ++ (o ∷ []))
+pub there_more : {A : Type 0} (xs : List (Option A)) (o : Option A) (x : A) (ys : List A) → o ≡ Some x → ys ≡ filter_map (λ o. o) xs
+    → ys ++ (x ∷ []) ≡ filter_map (λ o. o) (xs ++ (o ∷ []))
 there_more xs o x ys e h = rw e (ap (λ zs. zs ++ (x ∷ [])) h ∙ sym (there_by xs (Some x)))
 
-pub there_same : {A : Type 0} (xs : List (Option A)) (o : Option A) (ys : List A) → o ≡ None → ys ≡ filter_map (λ o. o) xs → ys ≡ filter_map (λ o. o) (xs ++ (o ∷ []))
+pub there_same : {A : Type 0} (xs : List (Option A)) (o : Option A) (ys : List A) → o ≡ None → ys ≡ filter_map (λ o. o) xs
+    → ys ≡ filter_map (λ o. o) (xs ++ (o ∷ []))
 there_same xs o ys e h = rw e (h ∙ sym (append-nil (filter_map (λ o. o) xs)) ∙ sym (there_by xs None))
 
 pub ruleset slots_read = (there_more, there_same)
 
 -- the items of a list that are there are those that a function gives by number
-all_some : {A : Type 0} (f : ℕ → A) (slots : List (Option A)) (a : ℕ) → ((c : ℕ) → c < length slots → option_flatten (slice_get slots c) ≡ Some (f (a + c))) → filter_map (λ o. o) slots ≡ map f (range_with_len a (length slots))
+all_some : {A : Type 0} (f : ℕ → A) (slots : List (Option A)) (a : ℕ)
+    → ((c : ℕ) → c < length slots → option_flatten (slice_get slots c) ≡ Some (f (a + c)))
+    → filter_map (λ o. o) slots ≡ map f (range_with_len a (length slots))
 all_some f [] a h = refl
 all_some f (o ∷ os) a h =
     let here : option_flatten (Some o) ≡ Some (f (a + 0)) = h 0 (omega arith) in
@@ -263,7 +299,8 @@ all_some f (o ∷ os) a h =
     shifted : (c : ℕ) → c < length os → option_flatten (slice_get os c) ≡ Some (f (a + 1 + c))
     shifted c k = let e : a + suc c ≡ a + 1 + c = omega arith in h (suc c) (omega arith) ∙ ap (λ (n : ℕ). Some (f n)) e
 
-pub all_filled : (t : LineTable) (classes : List NamedClass) (slots : List (Option ClassLayout)) → AreFilledBelow t classes slots (length classes) → filter_map (λ o. o) slots ≡ layouts t classes
+pub all_filled : (t : LineTable) (classes : List NamedClass) (slots : List (Option ClassLayout)) → AreFilledBelow t classes slots (length classes)
+    → filter_map (λ o. o) slots ≡ layouts t classes
 unfolding slot_at
 all_filled t classes slots are =
     let n : length slots ≡ length classes = are.right.count in

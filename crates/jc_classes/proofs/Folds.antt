@@ -1,5 +1,6 @@
 -- The least fault of the things of all classes, class by class.
-use Rattle.std.proofs.Common.{◌≡◌, ℕ, suc, ◌+◌, ◌≤◌, ◌<◌, get_or, drop, drop-cons, append-nil, List, [], ◌∷◌, ◌++◌, length, map, flat_map, Option, Some, None, refl, sym, ap, ◌∙◌, arith}
+use Rattle.std.proofs.Common.{◌≡◌, ℕ, suc, ◌+◌, ◌≤◌, ◌<◌, get_or, drop, drop-cons, append-nil, List, [], ◌∷◌, ◌++◌, length, map}
+use Rattle.std.proofs.Common.{flat_map, Option, Some, None, refl, sym, ap, ◌∙◌, arith}
 use Rattle.std.specs.Prelude.{All, Bool, nat_lt, if◌then◌else◌, IfSome, slice_get, option_map}
 use Rattle.std.specs.List.{range_with_len}
 use Rattle.std.proofs.lemmas.List.Sums.{fold-append}
@@ -28,19 +29,25 @@ use Rattle.jc_classes.proofs.Overlays.{length-entries}
 use Rattle.jc_classes.proofs.Fills.{sized_at}
 
 -- the class of a method of an entry
-pub class_known : (methods : List MethodRec) (n : ℕ) (entry : Option ℕ) (m : MethodRec) → All (λ (k : MethodRec). k.class < n) methods → Some m ≡ entry_method methods entry → m.class < n
+pub class_known : (methods : List MethodRec) (n : ℕ) (entry : Option ℕ) (m : MethodRec) → All (λ (k : MethodRec). k.class < n) methods
+    → Some m ≡ entry_method methods entry → m.class < n
 class_known methods n None m all e = absurd cc
 class_known methods n (Some k) m all e = All-slice_get (λ (k : MethodRec). k.class < n) methods k m all (sym e)
 
 -- ---- entry by entry
 
-pub entries_next : (fault : DispatchEntry → Option LinkFault) (c token i : ℕ) (list : List (Option ℕ)) (least : Option LinkFault) (d : Option ℕ) → i < length list
-    → least_from link_place least fault (entries_from c token (drop i list)) ≡ least_from link_place (lesser link_place least (fault (record { class = c; token = token; method = get_or list i d }))) fault (entries_from c (token + 1) (drop (i + 1) list))
+pub entries_next : (fault : DispatchEntry → Option LinkFault) (c token i : ℕ) (list : List (Option ℕ)) (least : Option LinkFault) (d : Option ℕ)
+    → i < length list
+    → least_from link_place least fault (entries_from c token (drop i list)) ≡ least_from link_place
+    (lesser link_place least (fault (record { class = c; token = token; method = get_or list i d }))) fault
+    (entries_from c (token + 1) (drop (i + 1) list))
 entries_next fault c token i list least d h =
     let more : suc i ≡ i + 1 = omega arith in
-    ap (λ (es : List (Option ℕ)). least_from link_place least fault (entries_from c token es)) (drop-cons list i d h ∙ ap (λ (k : ℕ). get_or list i d ∷ drop k list) more)
+    ap (λ (es : List (Option ℕ)). least_from link_place least fault (entries_from c token es))
+    (drop-cons list i d h ∙ ap (λ (k : ℕ). get_or list i d ∷ drop k list) more)
 
-pub entries_end : (fault : DispatchEntry → Option LinkFault) (c token i : ℕ) (list : List (Option ℕ)) (least : Option LinkFault) → length list ≤ i → least_from link_place least fault (entries_from c token (drop i list)) ≡ least
+pub entries_end : (fault : DispatchEntry → Option LinkFault) (c token i : ℕ) (list : List (Option ℕ)) (least : Option LinkFault) → length list ≤ i
+    → least_from link_place least fault (entries_from c token (drop i list)) ≡ least
 entries_end fault c token i list least h = rw (drop_all i list h) refl
 
 pub ruleset entry_folds = (entries_next, entries_end)
@@ -59,14 +66,16 @@ flat_range f n =
     ∙ flat_map-append f (range_with_len 0 n) (n ∷ [])
     ∙ ap (λ xs. flat_map f (range_with_len 0 n) ++ xs) (append-nil (f n))
 
-pub least_next : {X : Type 0} (fault : X → Option LinkFault) (f : ℕ → List X) (n : ℕ) (least : Option LinkFault) → least ≡ least_of link_place fault (flat_map f (range_with_len 0 n))
+pub least_next : {X : Type 0} (fault : X → Option LinkFault) (f : ℕ → List X) (n : ℕ) (least : Option LinkFault)
+    → least ≡ least_of link_place fault (flat_map f (range_with_len 0 n))
     → least_from link_place least fault (f n) ≡ least_of link_place fault (flat_map f (range_with_len 0 (n + 1)))
 least_next fault f n least e =
     ap (λ (o : Option LinkFault). least_from link_place o fault (f n)) e
     ∙ sym (fold-append _ None (flat_map f (range_with_len 0 n)) (f n))
     ∙ ap (least_of link_place fault) (sym (flat_range f n))
 
-pub least_both : {X : Type 0} (fault : X → Option LinkFault) (xs ys : List X) (least : Option LinkFault) → least_from link_place (least_from link_place least fault xs) fault ys ≡ least_from link_place least fault (xs ++ ys)
+pub least_both : {X : Type 0} (fault : X → Option LinkFault) (xs ys : List X) (least : Option LinkFault)
+    → least_from link_place (least_from link_place least fault xs) fault ys ≡ least_from link_place least fault (xs ++ ys)
 least_both fault xs ys least = sym (fold-append _ least xs ys)
 
 -- ---- how long dispatch lists are
@@ -82,17 +91,22 @@ reach_few table h = reach_few_by table.base table.entries h.base h.count
 empty_table : IsByteTable no_table
 empty_table = record { base = omega arith; count = omega arith }
 
-table_few_by : (f : NamedClass → DispatchTable) → ((k : NamedClass) → IsSized k → IsByteTable (f k)) → (o : Option NamedClass) → IfSome o IsSized → IsByteTable (of_class no_table f o)
+table_few_by : (f : NamedClass → DispatchTable) → ((k : NamedClass) → IsSized k → IsByteTable (f k)) → (o : Option NamedClass)
+    → IfSome o IsSized → IsByteTable (of_class no_table f o)
 table_few_by f each None h = empty_table
 table_few_by f each (Some k) h = each k h
 
 public_few : (classes : List NamedClass) (c : ℕ) → All IsSized classes → reach (public_table classes c) ≤ 510
 unfolding public_table
-public_few classes c all = reach_few (public_table classes c) (table_few_by (λ k. k.public) (λ k h. h.public) (slice_get classes c) (sized_at classes c (slice_get classes c) refl all))
+public_few classes c all =
+    reach_few (public_table classes c)
+    (table_few_by (λ k. k.public) (λ k h. h.public) (slice_get classes c) (sized_at classes c (slice_get classes c) refl all))
 
 visible_few : (classes : List NamedClass) (c : ℕ) → All IsSized classes → reach (visible_table classes c) ≤ 510
 unfolding visible_table
-visible_few classes c all = reach_few (visible_table classes c) (table_few_by (λ k. k.visible) (λ k h. h.visible) (slice_get classes c) (sized_at classes c (slice_get classes c) refl all))
+visible_few classes c all =
+    reach_few (visible_table classes c)
+    (table_few_by (λ k. k.visible) (λ k h. h.visible) (slice_get classes c) (sized_at classes c (slice_get classes c) refl all))
 
 reach_of_few : (f : ℕ → DispatchTable) → ((c : ℕ) → reach (f c) ≤ 510) → (cs : List ℕ) → reach_of (map f cs) ≤ 510
 reach_of_few f each [] = omega arith
@@ -102,14 +116,19 @@ pub lists_short : (t : LineTable) (classes : List NamedClass) (c : ℕ) → All 
 unfolding class_layout public_entries visible_entries
 lists_short t classes c all = record {
   public = rw (length-entries (map (public_table classes) (chain t c))) (reach_of_few (public_table classes) (λ k. public_few classes k all) (chain t c));
-  visible = rw (length-entries (map (visible_table classes) (home_run t c))) (reach_of_few (visible_table classes) (λ k. visible_few classes k all) (home_run t c));
+  visible =
+      rw (length-entries (map (visible_table classes) (home_run t c)))
+      (reach_of_few (visible_table classes) (λ k. visible_few classes k all) (home_run t c));
 }
 
 -- the layout of a class in the list of all
-pub layout_is : (t : LineTable) (classes : List NamedClass) (all : List ClassLayout) (c : ℕ) (d : ClassLayout) → all ≡ layouts t classes → c < length classes → get_or all c d ≡ class_layout t classes c
-layout_is t classes all c d e h = ap (λ (ls : List ClassLayout). get_or ls c d) e ∙ get_or-map-range_with_len (class_layout t classes) 0 (length classes) c c d h (omega arith)
+pub layout_is : (t : LineTable) (classes : List NamedClass) (all : List ClassLayout) (c : ℕ) (d : ClassLayout) → all ≡ layouts t classes
+    → c < length classes → get_or all c d ≡ class_layout t classes c
+layout_is t classes all c d e h =
+    ap (λ (ls : List ClassLayout). get_or ls c d) e ∙ get_or-map-range_with_len (class_layout t classes) 0 (length classes) c c d h (omega arith)
 
-pub layout_short : (t : LineTable) (classes : List NamedClass) (all : List ClassLayout) (c : ℕ) (d : ClassLayout) → all ≡ layouts t classes → c < length classes → HaveSuperclasses t classes → HasShortLists (get_or all c d)
+pub layout_short : (t : LineTable) (classes : List NamedClass) (all : List ClassLayout) (c : ℕ) (d : ClassLayout) → all ≡ layouts t classes
+    → c < length classes → HaveSuperclasses t classes → HasShortLists (get_or all c d)
 layout_short t classes all c d e h known = rw (layout_is t classes all c d e h) (lists_short t classes c known.sized)
 
 pub layouts_count : (t : LineTable) (classes : List NamedClass) (all : List ClassLayout) → all ≡ layouts t classes → length all ≡ length classes
@@ -117,24 +136,36 @@ layouts_count t classes all e = ap length e ∙ length-map-range_with_len (class
 
 pub ruleset folds = (least_next, least_both, layout_is, layout_short, layouts_count)
 
-pub layout_at : (t : LineTable) (classes : List NamedClass) (all : List ClassLayout) (c : ℕ) (l : ClassLayout) → all ≡ layouts t classes → c < length classes → l ≡ get_or all c l → l ≡ class_layout t classes c
+pub layout_at : (t : LineTable) (classes : List NamedClass) (all : List ClassLayout) (c : ℕ) (l : ClassLayout) → all ≡ layouts t classes
+    → c < length classes → l ≡ get_or all c l → l ≡ class_layout t classes c
 layout_at t classes all c l e h is = is ∙ layout_is t classes all c l e h
 
 -- ---- replacement by replacement
 
-pub replacements_next : (fault : Replacement → Option LinkFault) (c first i : ℕ) (inherited list : List (Option ℕ)) (least : Option LinkFault) (d e : Option ℕ) → i < length inherited → i < length list
+pub replacements_next : (fault : Replacement → Option LinkFault) (c first i : ℕ) (inherited list : List (Option ℕ)) (least : Option LinkFault)
+    (d e : Option ℕ) → i < length inherited → i < length list
     → least_from link_place least fault (replacements_from c (first + i) (drop i inherited) (drop i list))
-    ≡ least_from link_place (lesser link_place least (fault (record { class = c; token = first + i; inherited = get_or inherited i d; method = get_or list i e }))) fault (replacements_from c (first + (i + 1)) (drop (i + 1) inherited) (drop (i + 1) list))
+    ≡ least_from link_place
+    (lesser link_place least (fault (record { class = c; token = first + i; inherited = get_or inherited i d; method = get_or list i e }))) fault
+    (replacements_from c (first + (i + 1)) (drop (i + 1) inherited) (drop (i + 1) list))
 replacements_next fault c first i inherited list least d e h k =
     let more : suc i ≡ i + 1 = omega arith in
     let token : first + i + 1 ≡ first + (i + 1) = omega arith in
-    ap (λ (es : List (Option ℕ)). least_from link_place least fault (replacements_from c (first + i) es (drop i list))) (drop-cons inherited i d h ∙ ap (λ (n : ℕ). get_or inherited i d ∷ drop n inherited) more)
-    ∙ ap (λ (es : List (Option ℕ)). least_from link_place least fault (replacements_from c (first + i) (get_or inherited i d ∷ drop (i + 1) inherited) es)) (drop-cons list i e k ∙ ap (λ (n : ℕ). get_or list i e ∷ drop n list) more)
-    ∙ ap (λ (n : ℕ). least_from link_place (lesser link_place least (fault (record { class = c; token = first + i; inherited = get_or inherited i d; method = get_or list i e }))) fault (replacements_from c n (drop (i + 1) inherited) (drop (i + 1) list))) token
+    ap (λ (es : List (Option ℕ)). least_from link_place least fault (replacements_from c (first + i) es (drop i list)))
+    (drop-cons inherited i d h ∙ ap (λ (n : ℕ). get_or inherited i d ∷ drop n inherited) more)
+    ∙ ap
+    (λ (es : List (Option ℕ)). least_from link_place least fault
+    (replacements_from c (first + i) (get_or inherited i d ∷ drop (i + 1) inherited) es))
+    (drop-cons list i e k ∙ ap (λ (n : ℕ). get_or list i e ∷ drop n list) more)
+    ∙ ap
+    (λ (n : ℕ). least_from link_place
+    (lesser link_place least (fault (record { class = c; token = first + i; inherited = get_or inherited i d; method = get_or list i e }))) fault
+    (replacements_from c n (drop (i + 1) inherited) (drop (i + 1) list))) token
 
 -- ---- the superclass among all classes
 
-pub above_at : (t : LineTable) (classes : List NamedClass) (all : List ClassLayout) (p : ℕ) (d : ClassLayout) (o : Option ℕ) → all ≡ layouts t classes → p < length t.lines → HaveSuperclasses t classes → Some p ≡ o → d ≡ get_or all p d
+pub above_at : (t : LineTable) (classes : List NamedClass) (all : List ClassLayout) (p : ℕ) (d : ClassLayout) (o : Option ℕ)
+    → all ≡ layouts t classes → p < length t.lines → HaveSuperclasses t classes → Some p ≡ o → d ≡ get_or all p d
     → Some d ≡ option_map (class_layout t classes) o
 above_at t classes all p d o e h known is at =
     let low : p < length classes = omega (arith, known.count) in
@@ -144,36 +175,45 @@ pub ruleset above_in_all = (above_at, layouts_count)
 
 -- ---- class numbers one by one
 
-pub least_one : (fault : ℕ → Option LinkFault) (n : ℕ) (least : Option LinkFault) → least ≡ least_of link_place fault (range_with_len 0 n) → lesser link_place least (fault n) ≡ least_of link_place fault (range_with_len 0 (n + 1))
+pub least_one : (fault : ℕ → Option LinkFault) (n : ℕ) (least : Option LinkFault) → least ≡ least_of link_place fault (range_with_len 0 n)
+    → lesser link_place least (fault n) ≡ least_of link_place fault (range_with_len 0 (n + 1))
 least_one fault n least e =
     ap (λ (o : Option LinkFault). lesser link_place o (fault n)) e
     ∙ sym (fold-append _ None (range_with_len 0 n) (n ∷ []))
     ∙ ap (least_of link_place fault) (sym (range_more n))
 
-long_by : (c cells : ℕ) (t : LineTable) (classes : List NamedClass) (b : Bool) → nat_lt 32767 cells ≡ b → cells ≡ instance_cells t classes c → (if b then Some (InstanceLong c cells) else None) ≡ long_fault t classes c
+long_by : (c cells : ℕ) (t : LineTable) (classes : List NamedClass) (b : Bool) → nat_lt 32767 cells ≡ b → cells ≡ instance_cells t classes c
+    → (if b then Some (InstanceLong c cells) else None) ≡ long_fault t classes c
 unfolding long_fault
 long_by c cells t classes b e is = rw (← is, e) refl
 
-pub cells_are : (t : LineTable) (classes : List NamedClass) (all : List ClassLayout) (c : ℕ) (l : ClassLayout) → all ≡ layouts t classes → c < length classes → l ≡ get_or all c l → l.cells ≡ instance_cells t classes c
+pub cells_are : (t : LineTable) (classes : List NamedClass) (all : List ClassLayout) (c : ℕ) (l : ClassLayout) → all ≡ layouts t classes
+    → c < length classes → l ≡ get_or all c l → l.cells ≡ instance_cells t classes c
 unfolding class_layout
 cells_are t classes all c l e h is = ap (λ (x : ClassLayout). x.cells) (layout_at t classes all c l e h is)
 
-pub long_next : (t : LineTable) (classes : List NamedClass) (all : List ClassLayout) (c : ℕ) (d : ClassLayout) (least fault : Option LinkFault) → all ≡ layouts t classes → c < length classes → d ≡ get_or all c d
-    → fault ≡ (if nat_lt 32767 d.cells then Some (InstanceLong c d.cells) else None) → least ≡ least_of link_place (long_fault t classes) (range_with_len 0 c)
+pub long_next : (t : LineTable) (classes : List NamedClass) (all : List ClassLayout) (c : ℕ) (d : ClassLayout) (least fault : Option LinkFault)
+    → all ≡ layouts t classes → c < length classes → d ≡ get_or all c d
+    → fault ≡ (if nat_lt 32767 d.cells then Some (InstanceLong c d.cells) else None) → least ≡ least_of link_place (long_fault t classes)
+    (range_with_len 0 c)
     → lesser link_place least fault ≡ least_of link_place (long_fault t classes) (range_with_len 0 (c + 1))
 long_next t classes all c d least fault e h at is before =
-    ap (lesser link_place least) (is ∙ long_by c d.cells t classes (nat_lt 32767 d.cells) refl (cells_are t classes all c d e h at)) ∙ least_one (long_fault t classes) c least before
+    ap (lesser link_place least) (is ∙ long_by c d.cells t classes (nat_lt 32767 d.cells) refl (cells_are t classes all c d e h at))
+    ∙ least_one (long_fault t classes) c least before
 
 pub ruleset long_folds = (long_next, layouts_count)
 
-pub public_at : (t : LineTable) (classes : List NamedClass) (all : List ClassLayout) (c : ℕ) (l : ClassLayout) → all ≡ layouts t classes → c < length classes → l ≡ get_or all c l → l.public ≡ public_entries t classes c
+pub public_at : (t : LineTable) (classes : List NamedClass) (all : List ClassLayout) (c : ℕ) (l : ClassLayout) → all ≡ layouts t classes
+    → c < length classes → l ≡ get_or all c l → l.public ≡ public_entries t classes c
 unfolding class_layout
 public_at t classes all c l e h is = ap (λ (x : ClassLayout). x.public) (layout_at t classes all c l e h is)
 
-pub public_is : (t : LineTable) (classes : List NamedClass) (all : List ClassLayout) (c : ℕ) (d : ClassLayout) → all ≡ layouts t classes → c < length classes → (get_or all c d).public ≡ public_entries t classes c
+pub public_is : (t : LineTable) (classes : List NamedClass) (all : List ClassLayout) (c : ℕ) (d : ClassLayout) → all ≡ layouts t classes
+    → c < length classes → (get_or all c d).public ≡ public_entries t classes c
 unfolding class_layout
 public_is t classes all c d e h = ap (λ (x : ClassLayout). x.public) (layout_is t classes all c d e h)
 
-pub visible_is : (t : LineTable) (classes : List NamedClass) (all : List ClassLayout) (c : ℕ) (d : ClassLayout) → all ≡ layouts t classes → c < length classes → (get_or all c d).visible ≡ visible_entries t classes c
+pub visible_is : (t : LineTable) (classes : List NamedClass) (all : List ClassLayout) (c : ℕ) (d : ClassLayout) → all ≡ layouts t classes
+    → c < length classes → (get_or all c d).visible ≡ visible_entries t classes c
 unfolding class_layout
 visible_is t classes all c d e h = ap (λ (x : ClassLayout). x.visible) (layout_is t classes all c d e h)

@@ -1,5 +1,6 @@
 -- What a class inherits as it is: the entries before and after the tokens of its own table.
-use Rattle.std.proofs.Common.{◌≡◌, ℕ, zero, suc, ◌+◌, ◌-◌, ◌≤◌, ◌<◌, max, min, take, drop, get_or, List, [], ◌∷◌, ◌++◌, length, map, Option, None, ◌⊎◌, refl, sym, ap, ◌∙◌, arith, inl, inr, append-nil}
+use Rattle.std.proofs.Common.{◌≡◌, ℕ, zero, suc, ◌+◌, ◌-◌, ◌≤◌, ◌<◌, max, min, take, drop, get_or, List, [], ◌∷◌, ◌++◌}
+use Rattle.std.proofs.Common.{length, map, Option, None, ◌⊎◌, refl, sym, ap, ◌∙◌, arith, inl, inr, append-nil}
 use Rattle.std.specs.List.{range_with_len}
 use Rattle.std.proofs.lemmas.Bool.{cases_lt, lt-ltb}
 use Rattle.std.proofs.lemmas.Option.{slice_get-get_or}
@@ -27,21 +28,24 @@ unnamed : (table : DispatchTable) (k : ℕ) → IsOutside table k → named_by t
 unnamed table k (inl h) = unnamed_before table k h
 unnamed table k (inr h) = named_past table k h
 
-kept_entry : (table : DispatchTable) (inherited : List (Option ℕ)) (k : ℕ) (d : Option ℕ) → IsOutside table k → k < length inherited → overlaid_at table inherited k ≡ get_or inherited k d
+kept_entry : (table : DispatchTable) (inherited : List (Option ℕ)) (k : ℕ) (d : Option ℕ) → IsOutside table k → k < length inherited
+    → overlaid_at table inherited k ≡ get_or inherited k d
 unfolding overlaid_at
 kept_entry table inherited k d out h = rw (unnamed table k out, slice_get-get_or inherited k d h) refl
 
 pub length-overlaid : (table : DispatchTable) (inherited : List (Option ℕ)) → length (overlaid table inherited) ≡ max (length inherited) (reach table)
 length-overlaid table inherited = length-map-range_with_len (overlaid_at table inherited) 0 (max (length inherited) (reach table))
 
-pub kept : (table : DispatchTable) (inherited : List (Option ℕ)) (k : ℕ) (d : Option ℕ) → IsOutside table k → k < length inherited → get_or (overlaid table inherited) k d ≡ get_or inherited k d
+pub kept : (table : DispatchTable) (inherited : List (Option ℕ)) (k : ℕ) (d : Option ℕ) → IsOutside table k → k < length inherited
+    → get_or (overlaid table inherited) k d ≡ get_or inherited k d
 kept table inherited k d out h =
     get_or-map-range_with_len (overlaid_at table inherited) 0 (max (length inherited) (reach table)) k k d (omega (arith, h)) (omega arith)
     ∙ kept_entry table inherited k d out h
 
 -- ---- an inherited list that is copied
 
-take_same : (xs ys : List (Option ℕ)) (n : ℕ) → n ≤ length xs → n ≤ length ys → ((k : ℕ) → k < n → get_or xs k None ≡ get_or ys k None) → take n xs ≡ take n ys
+take_same : (xs ys : List (Option ℕ)) (n : ℕ) → n ≤ length xs → n ≤ length ys
+    → ((k : ℕ) → k < n → get_or xs k None ≡ get_or ys k None) → take n xs ≡ take n ys
 take_same xs ys zero a b h = refl
 take_same [] ys (suc n) a b h = absurd (omega arith)
 take_same (x ∷ xs) [] (suc n) a b h = absurd (omega arith)
@@ -50,7 +54,8 @@ take_same (x ∷ xs) (y ∷ ys) (suc n) a b h =
     let rest : take n xs ≡ take n ys = take_same xs ys n (omega arith) (omega arith) (λ k c. h (suc k) (omega arith)) in
     rw (first, rest) refl
 
-drop_same : (xs ys : List (Option ℕ)) (n : ℕ) → length xs ≡ length ys → ((k : ℕ) → n ≤ k → k < length xs → get_or xs k None ≡ get_or ys k None) → drop n xs ≡ drop n ys
+drop_same : (xs ys : List (Option ℕ)) (n : ℕ) → length xs ≡ length ys
+    → ((k : ℕ) → n ≤ k → k < length xs → get_or xs k None ≡ get_or ys k None) → drop n xs ≡ drop n ys
 drop_same [] [] n e h = refl
 drop_same [] (y ∷ ys) n e h = absurd (omega (arith, e))
 drop_same (x ∷ xs) [] n e h = absurd (omega (arith, e))
@@ -62,30 +67,39 @@ drop_same (x ∷ xs) (y ∷ ys) zero e h =
 drop_same (x ∷ xs) (y ∷ ys) (suc n) e h = drop_same xs ys n (omega (arith, e)) (λ k a b. h (suc k) (omega arith) (omega arith))
 
 -- the copy up to the first token of the table
-pub copied_before : (table : DispatchTable) (inherited : List (Option ℕ)) (n : ℕ) → n ≡ min table.base (length inherited) → take n inherited ≡ map (overlaid_at table inherited) (range_with_len 0 n)
+pub copied_before : (table : DispatchTable) (inherited : List (Option ℕ)) (n : ℕ) → n ≡ min table.base (length inherited)
+    → take n inherited ≡ map (overlaid_at table inherited) (range_with_len 0 n)
 copied_before table inherited n e =
     let low : n ≤ table.base = omega (arith, e) in
     let within : n ≤ length inherited = omega (arith, e) in
-    sym (take_same (overlaid table inherited) inherited n (omega (arith, length-overlaid table inherited, within)) within (λ k h. kept table inherited k None (inl (omega (arith, h, low))) (omega (arith, h, within))))
+    sym (take_same (overlaid table inherited) inherited n (omega (arith, length-overlaid table inherited, within)) within
+    (λ k h. kept table inherited k None (inl (omega (arith, h, low))) (omega (arith, h, within))))
     ∙ take-map-range_with_len (overlaid_at table inherited) 0 (max (length inherited) (reach table)) n (omega (arith, within))
 
 -- what a copy of the rest completes
-copied_rest : (table : DispatchTable) (inherited : List (Option ℕ)) (n : ℕ) → reach table ≤ n → n ≤ length inherited → map (overlaid_at table inherited) (range_with_len 0 n) ++ drop n inherited ≡ overlaid table inherited
+copied_rest : (table : DispatchTable) (inherited : List (Option ℕ)) (n : ℕ) → reach table ≤ n → n ≤ length inherited
+    → map (overlaid_at table inherited) (range_with_len 0 n) ++ drop n inherited ≡ overlaid table inherited
 copied_rest table inherited n past within =
     let count : length (overlaid table inherited) ≡ length inherited = omega (arith, length-overlaid table inherited, past, within) in
     ap (λ (xs : List (Option ℕ)). map (overlaid_at table inherited) (range_with_len 0 n) ++ xs)
-    (sym (drop_same (overlaid table inherited) inherited n count (λ k a b. kept table inherited k None (inr (omega (arith, a, past))) (omega (arith, b, count)))))
+    (sym
+    (drop_same (overlaid table inherited) inherited n count
+    (λ k a b. kept table inherited k None (inr (omega (arith, a, past))) (omega (arith, b, count)))))
     ∙ ap (λ (xs : List (Option ℕ)). xs ++ drop n (overlaid table inherited))
     (sym (take-map-range_with_len (overlaid_at table inherited) 0 (max (length inherited) (reach table)) n (omega (arith, within))))
     ∙ take-append-drop n (overlaid table inherited)
 
-whole_by : (table : DispatchTable) (inherited entries : List (Option ℕ)) (n m : ℕ) → entries ≡ map (overlaid_at table inherited) (range_with_len 0 n) → length inherited ≤ n → n ≡ max (length inherited) (reach table) → m ≡ length inherited
+whole_by : (table : DispatchTable) (inherited entries : List (Option ℕ)) (n m : ℕ)
+    → entries ≡ map (overlaid_at table inherited) (range_with_len 0 n) → length inherited ≤ n → n ≡ max (length inherited) (reach table)
+    → m ≡ length inherited
     → entries ++ drop m inherited ≡ overlaid table inherited
 whole_by table inherited entries n m e past is at =
     ap (λ (xs : List (Option ℕ)). entries ++ xs) (drop_all m inherited (omega (arith, at)))
     ∙ append-nil entries ∙ e ∙ ap (λ (k : ℕ). map (overlaid_at table inherited) (range_with_len 0 k)) is
 
-after_by : (table : DispatchTable) (inherited entries : List (Option ℕ)) (n m : ℕ) → entries ≡ map (overlaid_at table inherited) (range_with_len 0 n) → reach table ≤ n → n ≤ max (length inherited) (reach table) → m ≡ min (length entries) (length inherited)
+after_by : (table : DispatchTable) (inherited entries : List (Option ℕ)) (n m : ℕ)
+    → entries ≡ map (overlaid_at table inherited) (range_with_len 0 n) → reach table ≤ n → n ≤ max (length inherited) (reach table)
+    → m ≡ min (length entries) (length inherited)
     → entries ++ drop m inherited ≡ overlaid table inherited
 after_by table inherited entries n m e past few at =
     let count : length entries ≡ n = ap length e ∙ length-map-range_with_len (overlaid_at table inherited) 0 n in
@@ -96,7 +110,9 @@ after_by table inherited entries n m e past few at =
       | inr le ↦ whole_by table inherited entries n m e le (omega (arith, past, few, le)) (omega (arith, at, count, le))
     ]
 
-pub copied_after : (table : DispatchTable) (inherited entries : List (Option ℕ)) (n m : ℕ) → entries ≡ map (overlaid_at table inherited) (range_with_len 0 n) → reach table ≤ n → n ≤ max (length inherited) (reach table) → m ≡ min (length entries) (length inherited)
+pub copied_after : (table : DispatchTable) (inherited entries : List (Option ℕ)) (n m : ℕ)
+    → entries ≡ map (overlaid_at table inherited) (range_with_len 0 n) → reach table ≤ n → n ≤ max (length inherited) (reach table)
+    → m ≡ min (length entries) (length inherited)
     → entries ++ take (length inherited - m) (drop m inherited) ≡ overlaid table inherited
 copied_after table inherited entries n m e past few at =
     ap (λ (xs : List (Option ℕ)). entries ++ xs) (take_all (length inherited - m) (drop m inherited) (omega (arith, length-drop m inherited)))
@@ -110,20 +126,25 @@ no_fault : (methods : List MethodRec) (r : Replacement) → r.method ≡ r.inher
 unfolding override_fault
 no_fault methods r e = rw (← same_entry methods r.method r.inherited e) refl
 
-passed : (methods : List MethodRec) (c token : ℕ) (x m : Option ℕ) (least : Option LinkFault) → m ≡ x → lesser link_place least (override_fault methods (record { class = c; token = token; inherited = x; method = m })) ≡ least
+passed : (methods : List MethodRec) (c token : ℕ) (x m : Option ℕ) (least : Option LinkFault) → m ≡ x
+    → lesser link_place least (override_fault methods (record { class = c; token = token; inherited = x; method = m })) ≡ least
 unfolding lesser
 passed methods c token x m least e = rw (no_fault methods (record { class = c; token = token; inherited = x; method = m }) e) refl
 
-same_rest : (methods : List MethodRec) (c token : ℕ) (inherited list : List (Option ℕ)) (least : Option LinkFault) → ((k : ℕ) → k < length inherited → k < length list → get_or list k None ≡ get_or inherited k None)
+same_rest : (methods : List MethodRec) (c token : ℕ) (inherited list : List (Option ℕ)) (least : Option LinkFault)
+    → ((k : ℕ) → k < length inherited → k < length list → get_or list k None ≡ get_or inherited k None)
     → least_from link_place least (override_fault methods) (replacements_from c token inherited list) ≡ least
 same_rest methods c token [] list least h = refl
 same_rest methods c token (x ∷ xs) [] least h = refl
 same_rest methods c token (x ∷ xs) (m ∷ ms) least h =
-    ap (λ (o : Option LinkFault). least_from link_place o (override_fault methods) (replacements_from c (token + 1) xs ms)) (passed methods c token x m least (h 0 (omega arith) (omega arith)))
+    ap (λ (o : Option LinkFault). least_from link_place o (override_fault methods) (replacements_from c (token + 1) xs ms))
+    (passed methods c token x m least (h 0 (omega arith) (omega arith)))
     ∙ same_rest methods c (token + 1) xs ms least (λ k a b. h (suc k) (omega arith) (omega arith))
 
-same_before : (methods : List MethodRec) (c token n : ℕ) (inherited list : List (Option ℕ)) (least : Option LinkFault) → ((k : ℕ) → k < n → k < length inherited → k < length list → get_or list k None ≡ get_or inherited k None)
-    → least_from link_place least (override_fault methods) (replacements_from c token inherited list) ≡ least_from link_place least (override_fault methods) (replacements_from c (token + n) (drop n inherited) (drop n list))
+same_before : (methods : List MethodRec) (c token n : ℕ) (inherited list : List (Option ℕ)) (least : Option LinkFault)
+    → ((k : ℕ) → k < n → k < length inherited → k < length list → get_or list k None ≡ get_or inherited k None)
+    → least_from link_place least (override_fault methods) (replacements_from c token inherited list) ≡ least_from link_place least
+    (override_fault methods) (replacements_from c (token + n) (drop n inherited) (drop n list))
 same_before methods c token zero inherited list least h =
     let same : token ≡ token + 0 = omega arith in
     ap (λ (k : ℕ). least_from link_place least (override_fault methods) (replacements_from c k inherited list)) same
@@ -134,18 +155,24 @@ same_before methods c token (suc n) (x ∷ xs) [] least h = none_left (drop n xs
   none_left (e ∷ es) = refl
 same_before methods c token (suc n) (x ∷ xs) (m ∷ ms) least h =
     let same : token + 1 + n ≡ token + suc n = omega arith in
-    ap (λ (o : Option LinkFault). least_from link_place o (override_fault methods) (replacements_from c (token + 1) xs ms)) (passed methods c token x m least (h 0 (omega arith) (omega arith) (omega arith)))
+    ap (λ (o : Option LinkFault). least_from link_place o (override_fault methods) (replacements_from c (token + 1) xs ms))
+    (passed methods c token x m least (h 0 (omega arith) (omega arith) (omega arith)))
     ∙ same_before methods c (token + 1) n xs ms least (λ k a b d. h (suc k) (omega arith) (omega arith) (omega arith))
     ∙ ap (λ (k : ℕ). least_from link_place least (override_fault methods) (replacements_from c k (drop n xs) (drop n ms))) same
 
 -- no entry before the first token of the table replaces another
-pub replaced_from : (methods : List MethodRec) (c token : ℕ) (table : DispatchTable) (inherited list : List (Option ℕ)) (least : Option LinkFault) → list ≡ overlaid table inherited
-    → least_from link_place least (override_fault methods) (replacements_from c (token + table.base) (drop table.base inherited) (drop table.base list)) ≡ least_from link_place least (override_fault methods) (replacements_from c token inherited list)
+pub replaced_from : (methods : List MethodRec) (c token : ℕ) (table : DispatchTable) (inherited list : List (Option ℕ)) (least : Option LinkFault)
+    → list ≡ overlaid table inherited
+    → least_from link_place least (override_fault methods) (replacements_from c (token + table.base) (drop table.base inherited) (drop table.base list))
+    ≡ least_from link_place least (override_fault methods) (replacements_from c token inherited list)
 replaced_from methods c token table inherited list least e =
-    sym (same_before methods c token table.base inherited list least (λ k a b d. ap (λ (xs : List (Option ℕ)). get_or xs k None) e ∙ kept table inherited k None (inl a) b))
+    sym
+    (same_before methods c token table.base inherited list least (λ k a b d. ap (λ (xs : List (Option ℕ)). get_or xs k None) e
+    ∙ kept table inherited k None (inl a) b))
 
 -- none after the last
-pub replaced_to : (methods : List MethodRec) (c token : ℕ) (table : DispatchTable) (inherited list : List (Option ℕ)) (least : Option LinkFault) (i : ℕ) → list ≡ overlaid table inherited → min (min (reach table) (length inherited)) (length list) ≤ i
+pub replaced_to : (methods : List MethodRec) (c token : ℕ) (table : DispatchTable) (inherited list : List (Option ℕ)) (least : Option LinkFault)
+    (i : ℕ) → list ≡ overlaid table inherited → min (min (reach table) (length inherited)) (length list) ≤ i
     → least_from link_place least (override_fault methods) (replacements_from c token (drop i inherited) (drop i list)) ≡ least
 replaced_to methods c token table inherited list least i e past =
     same_rest methods c token (drop i inherited) (drop i list) least (λ k a b.

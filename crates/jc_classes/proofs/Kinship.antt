@@ -1,5 +1,6 @@
 -- The chain of a class is the class and its ancestors, and no class is one of its ancestors.
-use Rattle.std.proofs.Common.{◌≡◌, ℕ, zero, suc, ◌<◌, ◌⊎◌, inl, inr, ◌↔◌, Bool, true, false, List, [], ◌∷◌, length, Option, Some, None, refl, sym, subst, ◌∙◌, arith}
+use Rattle.std.proofs.Common.{◌≡◌, ℕ, zero, suc, ◌<◌, ◌⊎◌, inl, inr, ◌↔◌, Bool, true, false, List, [], ◌∷◌, length, Option, Some}
+use Rattle.std.proofs.Common.{None, refl, sym, subst, ◌∙◌, arith}
 use Rattle.std.specs.Prelude.{IsTrue, Contains, slice_get}
 use Rattle.std.proofs.lemmas.Bool.{false≢true}
 use Rattle.jc_base.specs.Order.{is_on_chain as on_chain_in_table}
@@ -14,7 +15,8 @@ use Rattle.jc_classes.proofs.FaultlessLines.{NoFault}
 use Rattle.jc_classes.proofs.Descent.{above-parent, parent-above}
 
 -- a class on the chain of a class is this class, or an ancestor of it
-on-chain-ancestor : (cs : List NamedClass) (roles : List ℕ) → AreLines (outline cs roles) → (c : ℕ) → (a : ℕ) → on_chain_in_table (bare (outline cs roles)) a c ≡ true → (a ≡ c) ⊎ IsAncestor cs a c
+on-chain-ancestor : (cs : List NamedClass) (roles : List ℕ) → AreLines (outline cs roles) → (c : ℕ) → (a : ℕ)
+    → on_chain_in_table (bare (outline cs roles)) a c ≡ true → (a ≡ c) ⊎ IsAncestor cs a c
 on-chain-ancestor cs roles are =
     let t = outline cs roles in
     climb (bare t) (bare-classes t are) (λ c. (a : ℕ) → on_chain_in_table (bare t) a c ≡ true → (a ≡ c) ⊎ IsAncestor cs a c)
@@ -29,15 +31,18 @@ on-chain-ancestor cs roles are =
           ])
     ])
 
-ancestor-on-chain : (cs : List NamedClass) (roles : List ℕ) (a c : ℕ) → AreLines (outline cs roles) → Leads (superclass cs) c a → on_chain_in_table (bare (outline cs roles)) a c ≡ true
+ancestor-on-chain : (cs : List NamedClass) (roles : List ℕ) (a c : ℕ) → AreLines (outline cs roles) → Leads (superclass cs) c a
+    → on_chain_in_table (bare (outline cs roles)) a c ≡ true
 ancestor-on-chain cs roles a c are (at_once h) =
     let t = outline cs roles in
     on_chain-parent (bare t) c a (bare-classes t are) (bare-parent t c ∙ above-parent cs roles c a h)
 ancestor-on-chain cs roles a c are (further {b = b} h rest) =
     let t = outline cs roles in
-    on_chain-trans (bare t) (bare-classes t are) c b a (on_chain-parent (bare t) c b (bare-classes t are) (bare-parent t c ∙ above-parent cs roles c b h)) (ancestor-on-chain cs roles a b are rest)
+    on_chain-trans (bare t) (bare-classes t are) c b a (on_chain-parent (bare t) c b (bare-classes t are) (bare-parent t c ∙ above-parent cs roles c b h))
+    (ancestor-on-chain cs roles a b are rest)
 
-pub chain-ancestors : (cs : List NamedClass) (roles : List ℕ) → AreLines (outline cs roles) → (a c : ℕ) → IsTrue (is_on_chain (outline cs roles) a c) ↔ ((a ≡ c) ⊎ IsAncestor cs a c)
+pub chain-ancestors : (cs : List NamedClass) (roles : List ℕ) → AreLines (outline cs roles) → (a c : ℕ)
+    → IsTrue (is_on_chain (outline cs roles) a c) ↔ ((a ≡ c) ⊎ IsAncestor cs a c)
 chain-ancestors cs roles are a c = (λ on. on-chain-ancestor cs roles are c a (bare-on_chain (outline cs roles) a c ∙ on), back) where
   back : (a ≡ c) ⊎ IsAncestor cs a c → is_on_chain (outline cs roles) a c ≡ true
   back (inl same) = subst (λ x. is_on_chain (outline cs roles) x c ≡ true) (sym same) (on_chain-here (outline cs roles) c)
@@ -67,19 +72,22 @@ super-kind r true x i h =
 super-kind r false x i h = refl
 
 -- what has something above it among interfaces is one, and among classes is none
-above-kind : (cs : List NamedClass) (interfaces : Bool) (c x : ℕ) (r : NamedClass) → slice_get cs c ≡ Some r → Contains (above cs interfaces c) x → interfaces ≡ r.interface
+above-kind : (cs : List NamedClass) (interfaces : Bool) (c x : ℕ) (r : NamedClass) → slice_get cs c ≡ Some r → Contains (above cs interfaces c) x
+    → interfaces ≡ r.interface
 unfolding superclass extended
 above-kind cs true c x r at h = extends-kind r r.interface x refl (subst (λ o. Contains (extended_in o) x) at h)
 above-kind cs false c x r at h = super-kind r r.interface x refl (subst (λ o. Contains (superclass_in o) x) at h)
 
-acyclic-by : (cs : List NamedClass) (first : ℕ) (roles : List ℕ) → NoFault cs first roles → (interfaces : Bool) (c x : ℕ) (o : Option NamedClass) → slice_get cs c ≡ o → Contains (above cs interfaces c) x
+acyclic-by : (cs : List NamedClass) (first : ℕ) (roles : List ℕ) → NoFault cs first roles → (interfaces : Bool) (c x : ℕ) (o : Option NamedClass)
+    → slice_get cs c ≡ o → Contains (above cs interfaces c) x
     → Leads (above cs interfaces) c c → ⊥
 acyclic-by cs first roles sound interfaces c x None at step leads = past cs c (above-from cs interfaces c x step) at
 acyclic-by cs first roles sound interfaces c x (Some r) at step leads =
     let kind = above-kind cs interfaces c x r at step in
     false≢true (sym (sound.cycles c r at) ∙ subst (λ k. is_above cs k c c ≡ true) kind (is_above-complete cs interfaces c c leads))
 
-pub acyclic : (cs : List NamedClass) (first : ℕ) (roles : List ℕ) → NoFault cs first roles → (interfaces : Bool) (c : ℕ) → Leads (above cs interfaces) c c → ⊥
+pub acyclic : (cs : List NamedClass) (first : ℕ) (roles : List ℕ) → NoFault cs first roles → (interfaces : Bool) (c : ℕ)
+    → Leads (above cs interfaces) c c → ⊥
 acyclic cs first roles sound interfaces c leads =
     let step = first-step leads in
     acyclic-by cs first roles sound interfaces c step.0 (slice_get cs c) refl step.1 leads

@@ -1,5 +1,7 @@
 -- A climb marks exactly what stands above the number from which it starts.
-use Rattle.std.proofs.Common.{◌≡◌, ℕ, zero, suc, ◌+◌, ◌*◌, ◌<◌, ◌≤◌, ◌⊎◌, inl, inr, Bool, true, false, not, cond, List, [], ◌∷◌, ◌++◌, length, get_or, set, replicate, Some, refl, sym, ap, subst, ◌∙◌, arith, length-set, get_or-set_same, get_or-set_other, length-append}
+use Rattle.std.proofs.Common.{◌≡◌, ℕ, zero, suc, ◌+◌, ◌*◌, ◌<◌, ◌≤◌, ◌⊎◌, inl, inr, Bool, true, false, not, cond, List, []}
+use Rattle.std.proofs.Common.{◌∷◌, ◌++◌, length, get_or, set, replicate, Some, refl, sym, ap, subst, ◌∙◌, arith, length-set, get_or-set_same}
+use Rattle.std.proofs.Common.{get_or-set_other, length-append}
 use Rattle.std.specs.Prelude.{Contains, slice_get, count_by}
 use Rattle.std.proofs.lemmas.Bool.{false≢true, cases_eq}
 use Rattle.std.proofs.lemmas.List.{length-replicate}
@@ -75,7 +77,8 @@ still s d c h m = elim (cases_eq c d) [
 
 fewer : (s : MarkedNumbers) (d : ℕ) → d < length s.marked → get_or s.marked d false ≡ false → work (with s d) ≤ work s
 fewer s d h e =
-    let n : count_by not (set s.marked d true) + cond {A = ℕ} (not (get_or s.marked d false)) 1 0 ≡ count_by not s.marked + 0 = sum_by-set (λ (b : Bool). cond {A = ℕ} (not b) 1 0) s.marked d true false h in
+    let n : count_by not (set s.marked d true) + cond {A = ℕ} (not (get_or s.marked d false)) 1 0 ≡ count_by not s.marked + 0 = sum_by-set
+    (λ (b : Bool). cond {A = ℕ} (not b) 1 0) s.marked d true false h in
     let one : cond {A = ℕ} (not (get_or s.marked d false)) 1 0 ≡ 1 = rw e refl in
     omega (arith, length-append s.pending (d ∷ []))
 
@@ -95,8 +98,12 @@ marked_now s d h e = record {
   done = λ c m. subst (λ (x : ℕ). IsMarked (with s d) x) (contains_one d c m) (here s d h);
   only = λ c m. elim (before_or_here s d c h m) [ inl b ↦ inl b | inr same ↦ inr (subst (λ (x : ℕ). Contains (d ∷ []) x) same (Contains-push [] d)) ];
   waits = λ c m. Contains-append_left s.pending (d ∷ []) c m;
-  taken = λ c m. elim (before_or_here s d c h m) [ inl b ↦ inl b | inr same ↦ inr (subst (λ (x : ℕ). Contains (s.pending ++ d ∷ []) x) same (Contains-push s.pending d)) ];
-  known = λ c m. elim (Contains-push_cases s.pending d c m) [ inl b ↦ inl b | inr same ↦ inr (subst (λ (x : ℕ). IsMarked (with s d) x) same (here s d h)) ];
+  taken =
+      λ c m. elim (before_or_here s d c h m)
+      [ inl b ↦ inl b | inr same ↦ inr (subst (λ (x : ℕ). Contains (s.pending ++ d ∷ []) x) same (Contains-push s.pending d)) ];
+  known =
+      λ c m. elim (Contains-push_cases s.pending d c m)
+      [ inl b ↦ inl b | inr same ↦ inr (subst (λ (x : ℕ). IsMarked (with s d) x) same (here s d h)) ];
   less = fewer s d h e;
 }
 
@@ -136,7 +143,8 @@ mark-all : (ds : List ℕ) (s : MarkedNumbers) → ((d : ℕ) → Contains ds d 
 mark-all [] s inside = marked_none s
 mark-all (d ∷ ds) s inside =
     let first = mark-one s d (get_or s.marked d false) (inside d (head_of d ds)) refl in
-    let fits : (e : ℕ) → Contains ds e → e < length (mark s d).marked = λ e h. let k = inside e (Contains-append_right (d ∷ []) ds e h) in let same = first.size in omega arith in
+    let fits : (e : ℕ) → Contains ds e → e < length (mark s d).marked = λ e h. let k = inside e (Contains-append_right (d ∷ []) ds e h) in
+    let same = first.size in omega arith in
     marked-more d ds s (mark s d) (mark_all s (d ∷ ds)) first (mark-all ds (mark s d) fits)
 
 -- ---- a climb
@@ -157,7 +165,8 @@ not_blank zero d h = false≢true h
 not_blank (suc n) zero h = false≢true h
 not_blank (suc n) (suc d) h = not_blank n d h
 
-pub climb-starts : (next : ℕ → List ℕ) (n from : ℕ) → ((a b : ℕ) → Contains (next a) b → b < n) → IsClimb next n from (mark_all (blank n) (next from))
+pub climb-starts : (next : ℕ → List ℕ) (n from : ℕ) → ((a b : ℕ) → Contains (next a) b → b < n)
+    → IsClimb next n from (mark_all (blank n) (next from))
 climb-starts next n from inside =
     let size : length (blank n).marked ≡ n = length-replicate n false in
     let g = mark-all (next from) (blank n) (λ d h. let k = inside from d h in omega arith) in
@@ -206,7 +215,8 @@ climb-goes next n from c s u inside is same rest =
       falls = omega (arith, g.less, counted);
     }
 
-follow : (next : ℕ → List ℕ) (n from x d : ℕ) (s : MarkedNumbers) → IsClimb next n from s → s.pending ≡ [] → Leads next x d → ((e : ℕ) → Contains (next x) e → IsMarked s e) → IsMarked s d
+follow : (next : ℕ → List ℕ) (n from x d : ℕ) (s : MarkedNumbers) → IsClimb next n from s → s.pending ≡ [] → Leads next x d
+    → ((e : ℕ) → Contains (next x) e → IsMarked s e) → IsMarked s d
 follow next n from x d s is none (at_once h) all = all d h
 follow next n from x d s is none (further {b = b} h rest) all = elim (is.closed b (all b h)) [
   | inl p ↦ absurd (contains_none b (subst (λ ps. Contains ps b) none p))
@@ -214,15 +224,18 @@ follow next n from x d s is none (further {b = b} h rest) all = elim (is.closed 
 ]
 
 -- where nothing waits, what stands above is marked
-pub climb-ends : (next : ℕ → List ℕ) (n from d : ℕ) (s : MarkedNumbers) → IsClimb next n from s → s.pending ≡ [] → Leads next from d → IsMarked s d
+pub climb-ends : (next : ℕ → List ℕ) (n from d : ℕ) (s : MarkedNumbers) → IsClimb next n from s → s.pending ≡ [] → Leads next from d
+    → IsMarked s d
 climb-ends next n from d s is none leads = follow next n from from d s is none leads is.begun
 
 -- ---- the steps of the loop
 
-pub climb-begun : (next : ℕ → List ℕ) (n m from : ℕ) (s t : MarkedNumbers) → ((a b : ℕ) → Contains (next a) b → b < n) → m ≡ n → t ≡ blank m → s ≡ mark_all t (next from) → IsClimb next n from s
+pub climb-begun : (next : ℕ → List ℕ) (n m from : ℕ) (s t : MarkedNumbers) → ((a b : ℕ) → Contains (next a) b → b < n) → m ≡ n
+    → t ≡ blank m → s ≡ mark_all t (next from) → IsClimb next n from s
 climb-begun next n m from s t inside same start e =
     subst (IsClimb next n from) (sym (e ∙ ap (λ x. mark_all x (next from)) (start ∙ ap blank same))) (climb-starts next n from inside)
 
-pub climb-gone : (next : ℕ → List ℕ) (n from c : ℕ) (s u t : MarkedNumbers) → ((a b : ℕ) → Contains (next a) b → b < n) → IsClimb next n from s
+pub climb-gone : (next : ℕ → List ℕ) (n from c : ℕ) (s u t : MarkedNumbers) → ((a b : ℕ) → Contains (next a) b → b < n)
+    → IsClimb next n from s
     → u.marked ≡ s.marked → s.pending ≡ u.pending ++ c ∷ [] → t ≡ mark_all u (next c) → Goes next n from s t
 climb-gone next n from c s u t inside is same rest e = subst (Goes next n from s) (sym e) (climb-goes next n from c s u inside is same rest)

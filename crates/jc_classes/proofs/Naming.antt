@@ -8,4 +8,5 @@ use Rattle.jc_classes.specs.KnownClasses.{HasKnownLine}
 
 pub named-known : (packages methods object : ℕ) (cs : List NamedClass) → All (IsNamedClass packages methods cs object) cs → All (HasKnownLine cs) cs
 named-known packages methods object cs named =
-    All-weaker (IsNamedClass packages methods cs object) (HasKnownLine cs) (λ r is. record { parent = is.parent; earlier = is.earlier; interfaces = is.interfaces }) cs named
+    All-weaker (IsNamedClass packages methods cs object) (HasKnownLine cs)
+    (λ r is. record { parent = is.parent; earlier = is.earlier; interfaces = is.interfaces }) cs named

@@ -1,5 +1,6 @@
 -- What a lineage tells by its lines.
-use Rattle.std.proofs.Common.{◌≡◌, ℕ, ◌+◌, ◌<◌, List, [], ◌∷◌, ◌++◌, map, length, take, get_or, Option, Some, None, sym, ap, ◌∙◌, arith}
+use Rattle.std.proofs.Common.{◌≡◌, ℕ, ◌+◌, ◌<◌, List, [], ◌∷◌, ◌++◌, map, length, take, get_or, Option, Some, None, sym, ap}
+use Rattle.std.proofs.Common.{◌∙◌, arith}
 use Rattle.std.specs.Prelude.{slice_get, IfSome}
 use Rattle.std.proofs.lemmas.Option.{slice_get-get_or}
 use Rattle.std.proofs.lemmas.List.{map_more}
@@ -21,7 +22,8 @@ abbrev pub table : List Line → List ℕ → LineTable
 table lines roles = record { lines = lines; roles = roles }
 
 -- the line of a number, as it is read
-pub line_read : (t : LineTable) (lines : List Line) (roles : List ℕ) (c : ℕ) (line : Line) → table lines roles ≡ t → c < length t.lines → line ≡ get_or lines c line → slice_get lines c ≡ Some line
+pub line_read : (t : LineTable) (lines : List Line) (roles : List ℕ) (c : ℕ) (line : Line) → table lines roles ≡ t → c < length t.lines
+    → line ≡ get_or lines c line → slice_get lines c ≡ Some line
 line_read t lines roles c line view below is =
     let many : length lines ≡ length t.lines = ap (λ (u : LineTable). length u.lines) view in
     let there : c < length lines = omega (arith, below, many) in

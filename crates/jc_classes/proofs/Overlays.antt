@@ -1,5 +1,6 @@
 -- What a table makes of an inherited list.
-use Rattle.std.proofs.Common.{◌≡◌, ℕ, ◌-◌, ◌≤◌, ◌<◌, max, Bool, true, false, ltb, List, [], ◌∷◌, length, map, Option, Some, None, refl, sym, ap, ◌∙◌, arith, inl, inr}
+use Rattle.std.proofs.Common.{◌≡◌, ℕ, ◌-◌, ◌≤◌, ◌<◌, max, Bool, true, false, ltb, List, [], ◌∷◌, length, map, Option, Some, None}
+use Rattle.std.proofs.Common.{refl, sym, ap, ◌∙◌, arith, inl, inr}
 use Rattle.std.specs.Prelude.{slice_get}
 use Rattle.std.specs.Option.{option_or, option_flatten}
 use Rattle.std.specs.List.{range_with_len}
@@ -23,7 +24,8 @@ pub slice_get-range_past : {A : Type 0} (f : ℕ → A) (n k : ℕ) → n ≤ k 
 slice_get-range_past f n k h = slice_get_past (map f (range_with_len 0 n)) k (rw (length-map-range_with_len f 0 n) h)
 
 -- a table names no method from its reach on
-past_from : (base token : ℕ) (entries : List (Option ℕ)) → base ≤ token → reach_from base entries ≤ token → slice_get entries (token - base) ≡ None
+past_from : (base token : ℕ) (entries : List (Option ℕ)) → base ≤ token → reach_from base entries ≤ token
+    → slice_get entries (token - base) ≡ None
 past_from base token [] low h = refl
 past_from base token (e ∷ es) low h = slice_get_past (e ∷ es) (token - base) (omega arith)
 
@@ -54,7 +56,8 @@ pub length-entries : (tables : List DispatchTable) → length (dispatch_list tab
 unfolding dispatch_list
 length-entries tables = length-map-range_with_len (method_named tables) 0 (reach_of tables)
 
-overlaid_is : (table : DispatchTable) (tables : List DispatchTable) (token : ℕ) → overlaid_at table (dispatch_list tables) token ≡ method_named (table ∷ tables) token
+overlaid_is : (table : DispatchTable) (tables : List DispatchTable) (token : ℕ) → overlaid_at table (dispatch_list tables) token
+    ≡ method_named (table ∷ tables) token
 unfolding overlaid_at
 overlaid_is table tables token = ap (λ o. option_or (named_by table token) o) (entry_is tables token)
 
@@ -63,4 +66,5 @@ pub overlaid-is : (table : DispatchTable) (tables : List DispatchTable) → over
 unfolding dispatch_list
 overlaid-is table tables =
     ap (λ (n : ℕ). map (overlaid_at table (dispatch_list tables)) (range_with_len 0 (max n (reach table)))) (length-entries tables)
-    ∙ map-same (overlaid_at table (dispatch_list tables)) (method_named (table ∷ tables)) (overlaid_is table tables) (range_with_len 0 (max (reach_of tables) (reach table)))
+    ∙ map-same (overlaid_at table (dispatch_list tables)) (method_named (table ∷ tables)) (overlaid_is table tables)
+    (range_with_len 0 (max (reach_of tables) (reach table)))

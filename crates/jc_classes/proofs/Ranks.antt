@@ -17,7 +17,8 @@ rank cs c = count_by (λ a. is_above cs false a c) (range_with_len 0 (length cs)
 pub rank-most : (cs : List NamedClass) (c : ℕ) → rank cs c ≤ length cs
 rank-most cs c = count-most (λ a. is_above cs false a c) (length cs)
 
-pub rank-falls : (cs : List NamedClass) (c p : ℕ) → Contains (superclass cs c) p → p < length cs → is_above cs false p p ≡ false → rank cs p < rank cs c
+pub rank-falls : (cs : List NamedClass) (c p : ℕ) → Contains (superclass cs c) p → p < length cs → is_above cs false p p ≡ false
+    → rank cs p < rank cs c
 rank-falls cs c p up there acyclic =
     count-less (λ a. is_above cs false a p) (λ a. is_above cs false a c) (range_with_len 0 (length cs)) p
     (λ a h. is_above-complete cs false a c (further up (is_above-sound cs false a p h)))

@@ -1,5 +1,6 @@
 -- Types and signatures that are the same.
-use Rattle.std.proofs.Common.{◌≡◌, ℕ, suc, ◌+◌, ◌<◌, Bool, true, false, List, [], ◌∷◌, length, drop, get_or, refl, sym, ap, subst, ◌∙◌, ◌≤◌, arith, drop-cons, add-one}
+use Rattle.std.proofs.Common.{◌≡◌, ℕ, suc, ◌+◌, ◌<◌, Bool, true, false, List, [], ◌∷◌, length, drop, get_or, refl, sym, ap, subst}
+use Rattle.std.proofs.Common.{◌∙◌, ◌≤◌, arith, drop-cons, add-one}
 use Rattle.std.proofs.lemmas.List.{drop_all}
 use Rattle.std.specs.Prelude.{◌&&◌, ◌↔◌, IsTrue, Option, Some, None}
 use Rattle.std.proofs.lemmas.Bool.{false≢true, and_parts}
@@ -34,15 +35,20 @@ pub same_types-end : (xs ys : List Ty) (i : ℕ) → length xs ≤ i → length 
 same_types-end xs ys i h same = rw (drop_all i xs h, drop_all i ys (omega (arith, same))) refl
 
 -- the turn of the loop at types that are the same, and at types that differ
-pub same_types-next : (xs ys : List Ty) (i : ℕ) (d e : Ty) → i < length xs → length xs ≡ length ys → same_type (get_or xs i d) (get_or ys i e) ≡ true → same_types (drop i xs) (drop i ys) ≡ same_types xs ys
+pub same_types-next : (xs ys : List Ty) (i : ℕ) (d e : Ty) → i < length xs → length xs ≡ length ys → same_type (get_or xs i d) (get_or ys i e)
+    ≡ true → same_types (drop i xs) (drop i ys) ≡ same_types xs ys
     → same_types (drop (i + 1) xs) (drop (i + 1) ys) ≡ same_types xs ys
-same_types-next xs ys i d e h same on before = sym (same_types-step xs ys i d e h same ∙ ap (λ (b : Bool). b && same_types (drop (i + 1) xs) (drop (i + 1) ys)) on) ∙ before
+same_types-next xs ys i d e h same on before =
+    sym (same_types-step xs ys i d e h same ∙ ap (λ (b : Bool). b && same_types (drop (i + 1) xs) (drop (i + 1) ys)) on) ∙ before
 
-pub same_types-other : (xs ys : List Ty) (i : ℕ) (d e : Ty) → i < length xs → length xs ≡ length ys → same_type (get_or xs i d) (get_or ys i e) ≡ false → same_types (drop i xs) (drop i ys) ≡ same_types xs ys
+pub same_types-other : (xs ys : List Ty) (i : ℕ) (d e : Ty) → i < length xs → length xs ≡ length ys → same_type (get_or xs i d) (get_or ys i e)
+    ≡ false → same_types (drop i xs) (drop i ys) ≡ same_types xs ys
     → false ≡ same_types xs ys
-same_types-other xs ys i d e h same on before = sym (same_types-step xs ys i d e h same ∙ ap (λ (b : Bool). b && same_types (drop (i + 1) xs) (drop (i + 1) ys)) on) ∙ before
+same_types-other xs ys i d e h same on before =
+    sym (same_types-step xs ys i d e h same ∙ ap (λ (b : Bool). b && same_types (drop (i + 1) xs) (drop (i + 1) ys)) on) ∙ before
 
-pub same_types-whole : (xs ys : List Ty) (i : ℕ) → length xs ≤ i → length xs ≡ length ys → same_types (drop i xs) (drop i ys) ≡ same_types xs ys → true ≡ same_types xs ys
+pub same_types-whole : (xs ys : List Ty) (i : ℕ) → length xs ≤ i → length xs ≡ length ys → same_types (drop i xs) (drop i ys)
+    ≡ same_types xs ys → true ≡ same_types xs ys
 same_types-whole xs ys i h same before = sym (same_types-end xs ys i h same) ∙ before
 
 pub ruleset same_lists = (same_types-differ, same_types-next, same_types-other, same_types-whole)
@@ -79,7 +85,9 @@ same_sig-equal a b e =
     let results : a.result ≡ b.result = same_result-equal a.result b.result (and_parts (same_types a.args b.args) (same_result a.result b.result) e).1 in
     equal_parts a b args results where
       equal_parts : (a b : Sig) → a.args ≡ b.args → a.result ≡ b.result → a ≡ b
-      equal_parts a b e f = ap (λ (xs : List Ty). let s : Sig = record { args = xs; result = a.result } in s) e ∙ ap (λ (r : Option Ty). let s : Sig = record { args = b.args; result = r } in s) f
+      equal_parts a b e f =
+          ap (λ (xs : List Ty). let s : Sig = record { args = xs; result = a.result } in s) e
+          ∙ ap (λ (r : Option Ty). let s : Sig = record { args = b.args; result = r } in s) f
 
 pub same_sig-itself : (a : Sig) → same_sig a a ≡ true
 unfolding same_sig
@@ -99,10 +107,16 @@ same_signature-itself (Some a) = same_sig-itself a
 pub same_signature-exact : (a b : Option Sig) → IsTrue (same_signature a b) ↔ (a ≡ b)
 same_signature-exact a b = (λ e. same_signature-equal a b e, λ e. subst (λ (o : Option Sig). IsTrue (same_signature a o)) e (same_signature-itself a))
 
-pub same_signature-by : (methods : List MethodRec) (a b : Option ℕ) (r : Bool) → r ≡ same_signature (entry_signature methods a) (entry_signature methods b) → IsTrue r ↔ (entry_signature methods a ≡ entry_signature methods b)
-same_signature-by methods a b r e = subst (λ (x : Bool). IsTrue x ↔ (entry_signature methods a ≡ entry_signature methods b)) (sym e) (same_signature-exact (entry_signature methods a) (entry_signature methods b))
+pub same_signature-by : (methods : List MethodRec) (a b : Option ℕ) (r : Bool)
+    → r ≡ same_signature (entry_signature methods a) (entry_signature methods b)
+    → IsTrue r ↔ (entry_signature methods a ≡ entry_signature methods b)
+same_signature-by methods a b r e =
+    subst (λ (x : Bool). IsTrue x ↔ (entry_signature methods a ≡ entry_signature methods b)) (sym e)
+    (same_signature-exact (entry_signature methods a) (entry_signature methods b))
 
 pub same_entry : (methods : List MethodRec) (a b : Option ℕ) → a ≡ b → true ≡ same_signature (entry_signature methods a) (entry_signature methods b)
-same_entry methods a b e = sym (same_signature-itself (entry_signature methods a)) ∙ ap (λ (o : Option ℕ). same_signature (entry_signature methods a) (entry_signature methods o)) e
+same_entry methods a b e =
+    sym (same_signature-itself (entry_signature methods a))
+    ∙ ap (λ (o : Option ℕ). same_signature (entry_signature methods a) (entry_signature methods o)) e
 
 pub ruleset signatures = (same_signature-by, same_entry)

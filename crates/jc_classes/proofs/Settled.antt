@@ -1,5 +1,6 @@
 -- Classes and interfaces that are known to lead to no cycle, since all that stands above them is known to.
-use Rattle.std.proofs.Common.{◌≡◌, ℕ, ◌≤◌, ◌⊎◌, inl, inr, Bool, true, false, List, [], ◌∷◌, ◌++◌, map, length, get_or, Some, refl, sym, ap, subst, ◌∙◌, arith}
+use Rattle.std.proofs.Common.{◌≡◌, ℕ, ◌≤◌, ◌⊎◌, inl, inr, Bool, true, false, List, [], ◌∷◌, ◌++◌, map, length, get_or, Some, refl}
+use Rattle.std.proofs.Common.{sym, ap, subst, ◌∙◌, arith}
 use Rattle.std.specs.Prelude.{Contains, slice_get}
 use Rattle.std.specs.List.{list_all}
 use Rattle.std.specs.Option.{option_to_list}
@@ -40,7 +41,8 @@ rests-by : (settled : List Bool) (r : NamedClass) (e : ℕ) (interfaces b : Bool
 rests-by settled r e true true i all ext sup =
     let each : list_all (λ (n : Iface). get_or settled n.class false) r.interfaces ≡ true = rw i at all in
     let h : Contains (map (λ (n : Iface). n.class) r.interfaces) e = rw i at (ext refl) in
-    all-contained (λ n. get_or settled n false) (map (λ (n : Iface). n.class) r.interfaces) e (list_all-map (λ n. get_or settled n false) (λ (n : Iface). n.class) r.interfaces ∙ each) h
+    all-contained (λ n. get_or settled n false) (map (λ (n : Iface). n.class) r.interfaces) e
+    (list_all-map (λ n. get_or settled n false) (λ (n : Iface). n.class) r.interfaces ∙ each) h
 rests-by settled r e true false i all ext sup =
     let h : Contains [] e = rw i at (ext refl) in
     absurd (omega (arith, h.1))
@@ -53,14 +55,16 @@ rests-by settled r e false false i all ext sup =
     all-contained (λ p. get_or settled p false) (option_to_list r.parent) e one h
 
 -- what stands directly above what rests on settled classes is settled
-rests-above : (cs : List NamedClass) (settled : List Bool) (interfaces : Bool) (c e : ℕ) (r : NamedClass) → slice_get cs c ≡ Some r → rests_on settled r ≡ true → Contains (above cs interfaces c) e → IsSettled settled e
+rests-above : (cs : List NamedClass) (settled : List Bool) (interfaces : Bool) (c e : ℕ) (r : NamedClass) → slice_get cs c ≡ Some r
+    → rests_on settled r ≡ true → Contains (above cs interfaces c) e → IsSettled settled e
 unfolding superclass extended
 rests-above cs settled true c e r at all h =
     rests-by settled r e true r.interface refl all (λ k. subst (λ o. Contains (extended_in o) e) at h) (λ k. absurd (false≢true (sym k)))
 rests-above cs settled false c e r at all h =
     rests-by settled r e false r.interface refl all (λ k. absurd (false≢true k)) (λ k. subst (λ o. Contains (superclass_in o) e) at h)
 
-settled-leads : (cs : List NamedClass) (settled : List Bool) (interfaces : Bool) (c a : ℕ) → AreSettled cs settled → Leads (above cs interfaces) c a → IsSettled settled c → IsSettled settled a
+settled-leads : (cs : List NamedClass) (settled : List Bool) (interfaces : Bool) (c a : ℕ) → AreSettled cs settled → Leads (above cs interfaces) c a
+    → IsSettled settled c → IsSettled settled a
 settled-leads cs settled interfaces c a are (at_once h) at = are.closed interfaces c a at h
 settled-leads cs settled interfaces c a are (further {b = b} h rest) at = settled-leads cs settled interfaces b a are rest (are.closed interfaces c b at h)
 
@@ -68,12 +72,14 @@ past_end : (settled : List Bool) (c : ℕ) → length settled ≤ c → IsSettle
 past_end settled c h e = false≢true (sym (get_or_past settled c false h) ∙ e)
 
 -- what rests on settled classes leads to these, and not to itself
-pub rests-acyclic : (cs : List NamedClass) (settled : List Bool) (c : ℕ) (r : NamedClass) → AreSettled cs settled → length settled ≡ c → slice_get cs c ≡ Some r → rests_on settled r ≡ true
+pub rests-acyclic : (cs : List NamedClass) (settled : List Bool) (c : ℕ) (r : NamedClass) → AreSettled cs settled → length settled ≡ c
+    → slice_get cs c ≡ Some r → rests_on settled r ≡ true
     → is_above cs r.interface c c ≡ false
 rests-acyclic cs settled c r are count at all = false_from_ne_true (is_above cs r.interface c c) (λ e. leads (is_above-sound cs r.interface c c e)) where
   leads : Leads (above cs r.interface) c c → ⊥
   leads (at_once h) = past_end settled c (omega arith) (rests-above cs settled r.interface c c r at all h)
-  leads (further {b = b} h rest) = past_end settled c (omega arith) (settled-leads cs settled r.interface b c are rest (rests-above cs settled r.interface c b r at all h))
+  leads (further {b = b} h rest) =
+      past_end settled c (omega arith) (settled-leads cs settled r.interface b c are rest (rests-above cs settled r.interface c b r at all h))
 
 -- ---- one more class
 
@@ -86,7 +92,8 @@ stays_settled settled b e h = elim (cases_lt e (length settled)) [
   | inr le ↦ absurd (past_end settled e le h)
 ]
 
-settled_or_last : (settled : List Bool) (b : Bool) (d : ℕ) → IsSettled (settled ++ b ∷ []) d → IsSettled settled d ⊎ ((d ≡ length settled) × (b ≡ true))
+settled_or_last : (settled : List Bool) (b : Bool) (d : ℕ) → IsSettled (settled ++ b ∷ []) d → IsSettled settled d
+    ⊎ ((d ≡ length settled) × (b ≡ true))
 settled_or_last settled b d h = elim (cases_lt d (length settled)) [
   | inl lt ↦ inl (sym (get_or_append_left settled (b ∷ []) false d lt) ∙ h)
   | inr le ↦ elim (cases_lt (length settled) d) [
@@ -97,7 +104,8 @@ settled_or_last settled b d h = elim (cases_lt d (length settled)) [
   ]
 ]
 
-pub settled-more : (cs : List NamedClass) (settled : List Bool) (c : ℕ) (r : NamedClass) → AreSettled cs settled → length settled ≡ c → slice_get cs c ≡ Some r → AreSettled cs (settled ++ rests_on settled r ∷ [])
+pub settled-more : (cs : List NamedClass) (settled : List Bool) (c : ℕ) (r : NamedClass) → AreSettled cs settled → length settled ≡ c
+    → slice_get cs c ≡ Some r → AreSettled cs (settled ++ rests_on settled r ∷ [])
 settled-more cs settled c r are count at = record {
   closed = λ interfaces d e h up. stays_settled settled (rests_on settled r) e (elim (settled_or_last settled (rests_on settled r) d h) [
     | inl before ↦ are.closed interfaces d e before up

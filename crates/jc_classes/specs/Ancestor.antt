@@ -1,7 +1,8 @@
 -- What stands above a class or an interface: the superclass of a class and the superclass of that
 -- one, the interfaces that an interface extends and those that these extend (JCVM 2.2, sections
 -- 2.2.1 and 6.8).
-use Rattle.std.specs.Prelude.{ℕ, Bool, true, false, if◌then◌else◌, ◌↔◌, IsTrue, List, [], map, length, Option, Some, None, slice_get}
+use Rattle.std.specs.Prelude.{ℕ, Bool, true, false, if◌then◌else◌, ◌↔◌, IsTrue, List, [], map, length, Option, Some, None}
+use Rattle.std.specs.Prelude.{slice_get}
 use Rattle.std.specs.Option.{option_to_list}
 use Rattle.jc_base.specs.Leads.{Leads, leads_below}
 use Rattle.jc_resolve.specs.declared.named.NamedClass.{NamedClass}

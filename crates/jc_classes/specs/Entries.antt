@@ -1,5 +1,6 @@
 -- Dispatch lists by token, as the dispatch tables of a class and its superclasses make them (JCVM 2.2, sections 4.3.7.6 and 6.8.2).
-use Rattle.std.specs.Prelude.{ℕ, ◌+◌, ◌-◌, max, nat_lt, if◌then◌else◌, List, [], ◌∷◌, length, map, Option, None, slice_get}
+use Rattle.std.specs.Prelude.{ℕ, ◌+◌, ◌-◌, max, nat_lt, if◌then◌else◌, List, [], ◌∷◌, length, map, Option, None}
+use Rattle.std.specs.Prelude.{slice_get}
 use Rattle.std.specs.Option.{option_or, option_flatten}
 use Rattle.std.specs.List.{range_with_len}
 use Rattle.jc_resolve.specs.declared.named.DispatchTable.{DispatchTable}

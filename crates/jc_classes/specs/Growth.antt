@@ -1,5 +1,6 @@
 -- What a class adds to the dispatch list of its superclass (JCVM 2.2, section 4.3.7.6).
-use Rattle.std.specs.Prelude.{◌≡◌, ℕ, ◌<◌, ◌==◌, ◌&&◌, ◌⊎◌, not, Bool, true, false, List, length, Option, Some, None, slice_index_or}
+use Rattle.std.specs.Prelude.{◌≡◌, ℕ, ◌<◌, ◌==◌, ◌&&◌, ◌⊎◌, not, Bool, true, false, List, length, Option, Some}
+use Rattle.std.specs.Prelude.{None, slice_index_or}
 use Rattle.jc_base.specs.declared.record.MethodRec.{MethodRec}
 use Rattle.jc_classes.specs.Outline.{LineTable}
 use Rattle.jc_resolve.specs.declared.named.NamedClass.{NamedClass}

@@ -1,5 +1,6 @@
 -- The dispatch lists and the instance cells of each class (JCVM 2.2, sections 4.3.7.6 and 6.8.2).
-use Rattle.std.specs.Prelude.{ℕ, ◌+◌, Bool, false, ◌==◌, if◌then◌else◌, List, [], length, map, sum_by, Option, Some, None, slice_get}
+use Rattle.std.specs.Prelude.{ℕ, ◌+◌, Bool, false, ◌==◌, if◌then◌else◌, List, [], length, map, sum_by, Option, Some, None}
+use Rattle.std.specs.Prelude.{slice_get}
 use Rattle.std.specs.List.{range_with_len, take_while}
 use Rattle.jc_resolve.specs.NamedClasses.{no_table}
 use Rattle.jc_base.specs.declared.ty.Ty.{Ty}

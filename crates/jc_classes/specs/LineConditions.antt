@@ -1,5 +1,6 @@
 -- The conditions under which classes and roles have their places in one tree of superclasses: each is the list of the things at fault.
-use Rattle.std.specs.Prelude.{ℕ, Bool, false, if◌then◌else◌, ◌==◌, ◌&&◌, ◌||◌, not, nat_lt, List, [], ◌∷◌, map, Option, Some, None, is_some, is_none, slice_get, slice_index, flat_map}
+use Rattle.std.specs.Prelude.{ℕ, Bool, false, if◌then◌else◌, ◌==◌, ◌&&◌, ◌||◌, not, nat_lt, List, [], ◌∷◌, map}
+use Rattle.std.specs.Prelude.{Option, Some, None, is_some, is_none, slice_get, slice_index, flat_map}
 use Rattle.std.specs.List.{enumerate_from}
 use Rattle.jc_base.specs.declared.record.Iface.{Iface}
 use Rattle.jc_resolve.specs.declared.fault.LinkFault.{LinkFault}

@@ -1,5 +1,6 @@
 -- The classes in one tree of superclasses, or the first fault by the number of its condition, at the least thing at fault.
-use Rattle.std.specs.Prelude.{◌≡◌, ℕ, ◌≤◌, ◌<◌, ◌⊎◌, ◌↔◌, IsTrue, true, List, length, Some, Result, Ok, Err, IfSome, All, slice_get, slice_index}
+use Rattle.std.specs.Prelude.{◌≡◌, ℕ, ◌≤◌, ◌<◌, ◌⊎◌, ◌↔◌, IsTrue, true, List, length, Some, Result, Ok, Err}
+use Rattle.std.specs.Prelude.{IfSome, All, slice_get, slice_index}
 use Rattle.jc_base.specs.declared.record.Iface.{Iface}
 use Rattle.jc_resolve.specs.declared.fault.LinkFault.{LinkFault}
 use Rattle.jc_resolve.specs.declared.fault.LinkEnd.{LinkEnd}
@@ -9,7 +10,8 @@ use Rattle.jc_resolve.specs.Fault.{link_place}
 use Rattle.first_fault.specs.Least.{◌>>=◌, least_of, refused}
 use Rattle.first_fault.specs.First.{IsFirst, AllEmpty}
 use Rattle.jc_classes.specs.Ancestor.{IsAncestor, IsSuperinterface}
-use Rattle.jc_classes.specs.LineConditions.{numbered, super_fault, cycle_fault, role_fault, root_fault, named_interfaces, not_interface_fault, conditions}
+use Rattle.jc_classes.specs.LineConditions.{numbered, super_fault, cycle_fault, role_fault, root_fault, named_interfaces}
+use Rattle.jc_classes.specs.LineConditions.{not_interface_fault, conditions}
 use Rattle.jc_classes.specs.Outline.{LineTable, IsClass, is_interface, is_on_chain, package_of, parent_of, outline, throwable}
 
 -- the conditions, one after the other

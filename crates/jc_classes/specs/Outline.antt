@@ -1,6 +1,7 @@
 -- Classes and interfaces by their packages and superclasses alone, and the chain of superclasses of a class
 -- (JCVM 2.2, sections 2.2.1 and 6.8).
-use Rattle.std.specs.Prelude.{◌≡◌, ℕ, zero, suc, ◌<◌, Bool, false, if◌then◌else◌, ◌==◌, List, [], ◌∷◌, length, map, Option, Some, None, All, slice_get, slice_index}
+use Rattle.std.specs.Prelude.{◌≡◌, ℕ, zero, suc, ◌<◌, Bool, false, if◌then◌else◌, ◌==◌, List, [], ◌∷◌, length}
+use Rattle.std.specs.Prelude.{map, Option, Some, None, All, slice_get, slice_index}
 use Rattle.std.specs.List.{list_any}
 use Rattle.jc_base.specs.Class.{list_of, last}
 use Rattle.jc_resolve.specs.declared.named.NamedClass.{NamedClass}

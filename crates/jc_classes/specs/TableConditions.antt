@@ -1,5 +1,6 @@
 -- The conditions on dispatch lists, implemented interfaces and instances, as lists of what breaks them (JCVM 2.2, chapters 4 and 6).
-use Rattle.std.specs.Prelude.{ℕ, ◌+◌, ◌==◌, ◌&&◌, ◌||◌, not, nat_lt, Bool, false, if◌then◌else◌, List, [], ◌∷◌, ◌++◌, length, map, flat_map, Option, Some, None, option_map, option_and_then, slice_get}
+use Rattle.std.specs.Prelude.{ℕ, ◌+◌, ◌==◌, ◌&&◌, ◌||◌, not, nat_lt, Bool, false, if◌then◌else◌, List, []}
+use Rattle.std.specs.Prelude.{◌∷◌, ◌++◌, length, map, flat_map, Option, Some, None, option_map, option_and_then, slice_get}
 use Rattle.std.specs.List.{range_with_len, list_all}
 use Rattle.std.specs.Option.{option_flatten}
 use Rattle.jc_base.specs.declared.record.Iface.{Iface}

@@ -16,7 +16,8 @@ use Rattle.first_fault.specs.Least.{◌>>=◌, least_of, refused}
 use Rattle.first_fault.specs.First.{IsFirst, AllEmpty}
 use Rattle.jc_classes.specs.declared.layout.ClassLayout.{ClassLayout}
 use Rattle.jc_classes.specs.Layout.{class_layout}
-use Rattle.jc_classes.specs.TableConditions.{hole_fault, entries_in, override_fault, replacements_in, interface_type_fault, implementations_in, long_fault, class_numbers, conditions}
+use Rattle.jc_classes.specs.TableConditions.{hole_fault, entries_in, override_fault, replacements_in, interface_type_fault}
+use Rattle.jc_classes.specs.TableConditions.{implementations_in, long_fault, class_numbers, conditions}
 
 -- the methods of a dispatch list
 abbrev pub methods_listed : List (Option ℕ) → List ℕ
@@ -49,7 +50,8 @@ unfoldable pub classes_agree : LineTable → List NamedClass → List MethodRec 
 classes_agree t classes methods =
     refused (least_of link_place (hole_fault t methods) (flat_map (entries_in t classes) (class_numbers classes))) >>= λ _.
     (refused (least_of link_place (override_fault methods) (flat_map (replacements_in t classes) (class_numbers classes))) >>= λ _.
-    (refused (least_of link_place (interface_type_fault methods) (flat_map (implementations_in t classes) (class_numbers classes))) >>= λ _.
+    (refused (least_of link_place (interface_type_fault methods) (flat_map (implementations_in t classes) (class_numbers classes))) >>=
+    λ _.
     refused (least_of link_place (long_fault t classes) (class_numbers classes))))
 
 -- the table, where they hold

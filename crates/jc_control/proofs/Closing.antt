@@ -1,5 +1,6 @@
 -- What a traversal has found when nothing is pending is what control reaches.
-use Rattle.std.proofs.Common.{◌≡◌, ◌<◌, ◌≤◌, ◌+◌, ◌⊎◌, inl, inr, ⊎_elim, ℕ, Bool, false, Result, Ok, Err, List, [], ◌∷◌, length, refl, sym, ap, ◌∙◌, subst, arith, Contains, All, IsTrue}
+use Rattle.std.proofs.Common.{◌≡◌, ◌<◌, ◌≤◌, ◌+◌, ◌⊎◌, inl, inr, ⊎_elim, ℕ, Bool, false, Result, Ok, Err, List, [], ◌∷◌}
+use Rattle.std.proofs.Common.{length, refl, sym, ap, ◌∙◌, subst, arith, Contains, All, IsTrue}
 use Rattle.std.specs.Prelude.{pos, replicate}
 use Rattle.std.proofs.lemmas.Bool.{false≢true}
 use Rattle.std.proofs.lemmas.List.{length-replicate}
@@ -63,7 +64,8 @@ module _ (m : Method) (law : AreListed m.code) (w : IsWellFormed m) where
       at_place here =
           let found : decoded m.code i.place ≡ Ok here.0.insn = ap (decoded m.code) (sym here.2) ∙ law.decodes here.0 here.1 in
           let insn : here.0.insn ≡ i.insn = ok-same here.0.insn i.insn (decoded m.code i.place) found d in
-          let same : here.0 ≡ i = ap (λ (p : ℕ). record { place = p; insn = here.0.insn }) here.2 ∙ ap (λ (n : Insn). record { place = i.place; insn = n }) insn in
+          let same : here.0 ≡ i = ap (λ (p : ℕ). record { place = p; insn = here.0.insn }) here.2
+          ∙ ap (λ (n : Insn). record { place = i.place; insn = n }) insn in
           subst (HasInstruction m.code) same here.1
 
   -- nothing follows the end
@@ -83,15 +85,19 @@ module _ (m : Method) (law : AreListed m.code) (w : IsWellFormed m) where
       uncovered : (h : Handler) → Contains m.rec.handlers h → Covers h p → ⊥
       uncovered h there covers =
           let formed = All-contains (IsHandlerOf m.code) m.rec.handlers h w.handlers there in
-          ⊎_elim (λ end. let within = inside h formed in let before = covers.before in absurd (omega arith)) (λ place. none place.0 place.1 place.2) (reached-boundary p r)
+          ⊎_elim (λ end. let within = inside h formed in let before = covers.before in absurd (omega arith)) (λ place. none place.0 place.1 place.2)
+          (reached-boundary p r)
 
 -- what the three steps from an instruction find is all that follows it
 pub closed-after : (m : Method) → AreListed m.code → (a b c : Traversal) (i : Placed) → Grows a b → Grows b c → HasInstruction m.code i
-    → (IsTrue (falls i.insn.op) → IsFlagged a.reached (i.place + i.insn.len)) → All (IsLedTo b) (targets m.code i) → All (IsCaught c i.place) m.rec.handlers → IsClosedAt m c i.place
+    → (IsTrue (falls i.insn.op) → IsFlagged a.reached (i.place + i.insn.len)) → All (IsLedTo b) (targets m.code i)
+    → All (IsCaught c i.place) m.rec.handlers → IsClosedAt m c i.place
 closed-after m law a b c i g h stands fell led entries = record {
   follows = λ j q there here succ. goes q (subst (λ (k : Placed). IsSuccessor m.code k q) (law.one j i there stands here) succ);
   leads = λ j q there here target.
-      h.leaders q ((All-contains (IsLedTo b) (targets m.code i) (pos q) led (subst (λ (k : Placed). Contains (targets m.code k) (pos q)) (law.one j i there stands here) target)).1);
+      h.leaders q
+      ((All-contains (IsLedTo b) (targets m.code i) (pos q) led
+      (subst (λ (k : Placed). Contains (targets m.code k) (pos q)) (law.one j i there stands here) target)).1);
   catches = λ k there covers. All-contains (IsCaught c i.place) m.rec.handlers k entries there covers;
 }
   where
@@ -125,14 +131,25 @@ module _ (m : Method) (s t : Traversal) (sound : IsSoundTraversal m s) (closed :
   pub traversed : (l : Listed) → IsListingOf m.code l → IsWellFormed m → IsControlFlow m (found t l)
   traversed l of_code w = record {
     formed = w;
-    reached = λ p. (λ f. sound.reached p (subst (λ (fs : List Bool). IsFlagged fs p) done.reached f), λ r. subst (λ (fs : List Bool). IsFlagged fs p) (sym done.reached) (all-found p r));
-    leaders = λ p. (λ f. sound.leaders p (subst (λ (fs : List Bool). IsFlagged fs p) done.leaders f), λ r. subst (λ (fs : List Bool). IsFlagged fs p) (sym done.leaders) (all-led p r));
+    reached =
+        λ p. (
+          λ f. sound.reached p (subst (λ (fs : List Bool). IsFlagged fs p) done.reached f),
+          λ r. subst (λ (fs : List Bool). IsFlagged fs p)
+              (sym done.reached) (all-found p r),
+        );
+    leaders =
+        λ p. (
+          λ f. sound.leaders p (subst (λ (fs : List Bool). IsFlagged fs p) done.leaders f),
+          λ r. subst (λ (fs : List Bool). IsFlagged fs p)
+              (sym done.leaders) (all-led p r),
+        );
     listing = of_code;
   }
 
 -- ---- nothing found yet
 
-pub none-sound : (m : Method) (s : Traversal) (size : ℕ) → size ≡ length m.code + 1 → s.reached ≡ replicate size false → s.leaders ≡ replicate size false → s.pending.items ≡ [] → IsSoundTraversal m s
+pub none-sound : (m : Method) (s : Traversal) (size : ℕ) → size ≡ length m.code + 1 → s.reached ≡ replicate size false
+    → s.leaders ≡ replicate size false → s.pending.items ≡ [] → IsSoundTraversal m s
 none-sound m s size fits reached leaders pending = record {
   reached_size = ap length reached ∙ length-replicate size false ∙ fits;
   leaders_size = ap length leaders ∙ length-replicate size false ∙ fits;
@@ -145,4 +162,6 @@ none-sound m s size fits reached leaders pending = record {
     unflagged fs e p f = false≢true (sym (flag-none size p) ∙ subst (λ (gs : List Bool). IsFlagged gs p) e f)
 
 pub none-closed : (m : Method) (s : Traversal) (size : ℕ) → s.reached ≡ replicate size false → (t : Traversal) → Grows s t → IsClosed m t
-none-closed m s size reached t g p f = ⊎_elim (λ before. absurd (false≢true (sym (flag-none size p) ∙ subst (λ (fs : List Bool). IsFlagged fs p) reached before))) (λ waits. inl waits) (g.fresh p f)
+none-closed m s size reached t g p f =
+    ⊎_elim (λ before. absurd (false≢true (sym (flag-none size p) ∙ subst (λ (fs : List Bool). IsFlagged fs p) reached before)))
+    (λ waits. inl waits) (g.fresh p f)

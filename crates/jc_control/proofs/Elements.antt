@@ -1,5 +1,6 @@
 -- Elements of lists by their numbers, and lists that are gone over from the front.
-use Rattle.std.proofs.Common.{◌≡◌, ◌<◌, ◌+◌, ℕ, zero, suc, Some, List, [], ◌∷◌, ◌++◌, length, take, refl, sym, ap, ◌∙◌, arith, append_assoc, Contains, All}
+use Rattle.std.proofs.Common.{◌≡◌, ◌<◌, ◌+◌, ℕ, zero, suc, Some, List, [], ◌∷◌, ◌++◌, length, take, refl, sym, ap, ◌∙◌, arith}
+use Rattle.std.proofs.Common.{append_assoc, Contains, All}
 use Rattle.std.specs.Prelude.{slice_get}
 use Rattle.std.proofs.lemmas.List.{append-nil}
 use Rattle.jc_decode.proofs.Elements.{Contains-slice_get}
@@ -32,14 +33,16 @@ pub taken-in : {A : Type 0} (P : A → Type 0) (xs : List A) (k n : ℕ) (x : A)
 taken-in P xs k n x all h e = All-slice_get P (take n xs) k x all (slice_get-take xs k n x h e)
 
 -- a step along a list
-pub at-next : {A : Type 0} (before rest : List A) (x : A) (after whole : List A) → before ++ rest ≡ whole → rest ≡ x ∷ after → before ++ x ∷ after ≡ whole
+pub at-next : {A : Type 0} (before rest : List A) (x : A) (after whole : List A) → before ++ rest ≡ whole → rest ≡ x ∷ after
+    → before ++ x ∷ after ≡ whole
 at-next before rest x after whole h e = ap (λ (r : List _). before ++ r) (sym e) ∙ h
 
 pub at-last : {A : Type 0} (before rest whole : List A) → before ++ rest ≡ whole → rest ≡ [] → before ≡ whole
 at-last before rest whole h e = sym (append-nil before) ∙ ap (λ (r : List _). before ++ r) (sym e) ∙ h
 
 -- the next element fails where those before it do not
-pub first-failing : {A : Type 0} (P : A → Type 0) (before : List A) (x : A) (after whole : List A) → before ++ x ∷ after ≡ whole → All P before → ¬ P x
+pub first-failing : {A : Type 0} (P : A → Type 0) (before : List A) (x : A) (after whole : List A) → before ++ x ∷ after ≡ whole → All P before
+    → ¬ P x
     → IsFirstFailing P whole (length before) x
 first-failing P before x after whole h all fails = record {
   here = here-in before x after whole h;

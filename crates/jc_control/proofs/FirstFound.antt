@@ -18,7 +18,8 @@ use Rattle.jc_base.proofs.Lists.{All-slice_get}
 
 module _ (m : Method) (law : AreListed m.code) where
   -- an instruction before the first that leads astray leads to places
-  earlier-leads : (n : ℕ) (from : Placed) → IsFirstFailing (LeadsToPlaces m.code) (listing m.code) n from → (i : Placed) → HasInstruction m.code i → i.place < from.place → LeadsToPlaces m.code i
+  earlier-leads : (n : ℕ) (from : Placed) → IsFirstFailing (LeadsToPlaces m.code) (listing m.code) n from → (i : Placed) → HasInstruction m.code i
+      → i.place < from.place → LeadsToPlaces m.code i
   earlier-leads n from first i s before =
       let at = slice_get-Contains (listing m.code) i s in
       ⊎_elim (λ lower. taken-in (LeadsToPlaces m.code) (listing m.code) at.0 n i first.before lower at.1)
@@ -30,7 +31,9 @@ module _ (m : Method) (law : AreListed m.code) where
           (λ other. let rises = law.rising n k from i first.here e (omega arith) in absurd (omega arith)) (cases_eq n k)
         where
           same-element : (k : ℕ) → slice_get (listing m.code) k ≡ Some i → n ≡ k → i ≡ from
-          same-element k e same = let other : slice_get (listing m.code) k ≡ Some from = subst (λ (q : ℕ). slice_get (listing m.code) q ≡ Some from) same first.here in cc
+          same-element k e same =
+              let other : slice_get (listing m.code) k ≡ Some from = subst (λ (q : ℕ). slice_get (listing m.code) q ≡ Some from) same first.here in
+              cc
 
   pub stray-first : (f : Flaw) → IsFirstStray m.code f → IsFirstFlaw m f
   stray-first f s = subst (IsFirstFlaw m) (sym s.is) (record {
@@ -55,8 +58,10 @@ module _ (m : Method) (law : AreListed m.code) where
 
 module _ (m : Method) where
   -- where all instructions lead to places no target is a flaw
-  no-stray : All (LeadsToPlaces m.code) (listing m.code) → (i : Placed) (k : ℕ) (t : ℤ) → HasInstruction m.code i → slice_get (targets m.code i) k ≡ Some t → IsTargetPlace m.code t
-  no-stray all i k t there get = All-slice_get (IsTargetPlace m.code) (targets m.code i) k t (All-contains (LeadsToPlaces m.code) (listing m.code) i all there) get
+  no-stray : All (LeadsToPlaces m.code) (listing m.code) → (i : Placed) (k : ℕ) (t : ℤ) → HasInstruction m.code i
+      → slice_get (targets m.code i) k ≡ Some t → IsTargetPlace m.code t
+  no-stray all i k t there get =
+      All-slice_get (IsTargetPlace m.code) (targets m.code i) k t (All-contains (LeadsToPlaces m.code) (listing m.code) i all there) get
 
   pub stop-first : (f : Flaw) → All (LeadsToPlaces m.code) (listing m.code) → IsEndFlaw m.code f → IsFirstFlaw m f
   stop-first f all s = subst (IsFirstFlaw m) (sym s.is) (record {
@@ -85,7 +90,8 @@ module _ (m : Method) where
       none-before _ _ (flaw_handler n h get bad) before = bad (taken-in (IsHandlerOf m.code) m.rec.handlers n s.number h s.handler_is.before before get)
 
   -- where nothing is found the method is well formed
-  pub formed : All (LeadsToPlaces m.code) (listing m.code) → listing_end m.code ≡ length m.code → All (IsHandlerOf m.code) m.rec.handlers → IsWellFormed m
+  pub formed : All (LeadsToPlaces m.code) (listing m.code) → listing_end m.code ≡ length m.code → All (IsHandlerOf m.code) m.rec.handlers
+      → IsWellFormed m
   formed all ends handlers = record { ends = ends; targets = λ i there. All-contains (LeadsToPlaces m.code) (listing m.code) i all there; handlers = handlers }
 
 pub handler-told : (m : Method) (r : Result (Unit {0}) Flaw) → All (LeadsToPlaces m.code) (listing m.code) → listing_end m.code ≡ length m.code

@@ -1,5 +1,6 @@
 -- A method is well formed exactly where it has no flaw, and has at most one first flaw.
-use Rattle.std.proofs.Common.{◌≡◌, ◌<◌, ◌≤◌, ◌⊎◌, inl, inr, ⊎_elim, ℕ, Some, Err, List, [], ◌∷◌, length, get_or, refl, sym, ap, ◌∙◌, subst, arith, All}
+use Rattle.std.proofs.Common.{◌≡◌, ◌<◌, ◌≤◌, ◌⊎◌, inl, inr, ⊎_elim, ℕ, Some, Err, List, [], ◌∷◌, length, get_or, refl, sym, ap}
+use Rattle.std.proofs.Common.{◌∙◌, subst, arith, All}
 use Rattle.std.specs.Prelude.{ℤ, pos, negsuc, slice_get}
 use Rattle.std.proofs.lemmas.Bool.{cases_lt, cases_eq}
 use Rattle.std.proofs.lemmas.Option.{slice_get-get_or}
@@ -43,12 +44,15 @@ module _ (code : List ℕ) where
   target-decided (negsuc n) = inr (λ h. h)
 
   boundary-decided : (p : ℕ) → Decided (IsBoundary code p)
-  boundary-decided p = ⊎_elim (λ end. inl (inl end)) (λ inner. ⊎_elim (λ place. inl (inr place)) (λ none. inr (λ b. ⊎_elim inner none b)) (place-decided p)) (cases_eq p (length code))
+  boundary-decided p =
+      ⊎_elim (λ end. inl (inl end)) (λ inner. ⊎_elim (λ place. inl (inr place)) (λ none. inr (λ b. ⊎_elim inner none b)) (place-decided p))
+      (cases_eq p (length code))
 
   handler-decided : (h : Handler) → Decided (IsHandlerOf code h)
   handler-decided h = by_start (place-decided h.start) (boundary-decided h.end) (cases_lt h.start h.end) (place-decided h.entry)
     where
-      by_start : Decided (IsPlace code h.start) → Decided (IsBoundary code h.end) → (h.start < h.end) ⊎ (h.end ≤ h.start) → Decided (IsPlace code h.entry) → Decided (IsHandlerOf code h)
+      by_start : Decided (IsPlace code h.start) → Decided (IsBoundary code h.end) → (h.start < h.end) ⊎ (h.end ≤ h.start)
+          → Decided (IsPlace code h.entry) → Decided (IsHandlerOf code h)
       by_start (inr never) end order entry = inr (λ w. never w.start)
       by_start (inl start) (inr never) order entry = inr (λ w. never w.end)
       by_start (inl start) (inl end) (inr low) entry = inr (λ w. let o = w.order in absurd (omega arith))
@@ -56,7 +60,8 @@ module _ (code : List ℕ) where
       by_start (inl start) (inl end) (inl order) (inl entry) = inl (record { start = start; end = end; order = order; entry = entry })
 
 -- a fact that can't fail anywhere holds everywhere
-all-decided : {A : Type 0} (P : A → Type 0) (xs : List A) → ((x : A) → Decided (P x)) → ((n : ℕ) (x : A) → slice_get xs n ≡ Some x → ¬ P x → ⊥) → All P xs
+all-decided : {A : Type 0} (P : A → Type 0) (xs : List A) → ((x : A) → Decided (P x))
+    → ((n : ℕ) (x : A) → slice_get xs n ≡ Some x → ¬ P x → ⊥) → All P xs
 all-decided P xs decided never k d inside = by_case (decided _)
   where
     by_case : Decided (P (get_or xs k d)) → P (get_or xs k d)
@@ -72,8 +77,12 @@ flawless m w _ _ (flaw_handler n h get bad) = bad (All-slice_get (IsHandlerOf m.
 
 well-formed : (m : Method) → AreListed m.code → ((spot : Spot) (f : Flaw) → ¬ IsFlaw m spot f) → IsWellFormed m
 well-formed m law none = record {
-  ends = ⊎_elim (λ same. same) (λ other. let why = err-of (decoded m.code (listing_end m.code)) law.stops in absurd (none _ _ (flaw_end why.0 other why.1))) (cases_eq (listing_end m.code) (length m.code));
-  targets = λ i there. all-decided (IsTargetPlace m.code) (targets m.code i) (target-decided m.code) (λ n t get astray. none _ _ (flaw_target i n t there get astray));
+  ends =
+      ⊎_elim (λ same. same) (λ other. let why = err-of (decoded m.code (listing_end m.code)) law.stops in
+      absurd (none _ _ (flaw_end why.0 other why.1))) (cases_eq (listing_end m.code) (length m.code));
+  targets =
+      λ i there. all-decided (IsTargetPlace m.code) (targets m.code i) (target-decided m.code)
+      (λ n t get astray. none _ _ (flaw_target i n t there get astray));
   handlers = all-decided (IsHandlerOf m.code) m.rec.handlers (handler-decided m.code) (λ n h get bad. none _ _ (flaw_handler n h get bad));
 }
 
@@ -121,13 +130,16 @@ module _ (m : Method) where
   one-told law (in_code p n) f g (inl a) (inr b) = let before = law.before_end a.from a.stands in absurd (omega (arith, a.here, b.here))
   one-told law (in_code p n) f g (inr a) (inl b) = let before = law.before_end b.from b.stands in absurd (omega (arith, a.here, b.here))
   one-told law (in_code p n) f g (inr a) (inr b) = let same : a.end ≡ b.end = cc (a.why, b.why) in a.is ∙ ap (Code p) same ∙ sym b.is
-  one-told law (in_table n) f g a b = let same : a.handler ≡ b.handler = cc (a.get, b.get) in a.is ∙ ap (λ (h : Handler). BadHandler h.entry n) same ∙ sym b.is
+  one-told law (in_table n) f g a b =
+      let same : a.handler ≡ b.handler = cc (a.get, b.get) in a.is ∙ ap (λ (h : Handler). BadHandler h.entry n) same ∙ sym b.is
 
 -- of two spots one comes before the other, or they are the same
 same-spot : (s t : Spot) → ¬ ComesBefore s t → ¬ ComesBefore t s → s ≡ t
 same-spot (in_code p n) (in_code q k) not_st not_ts =
-    let place : p ≡ q = ⊎_elim (λ low. absurd (not_st (inl low))) (λ le. ⊎_elim (λ high. absurd (not_ts (inl high))) (λ ge. omega arith) (cases_lt q p)) (cases_lt p q) in
-    let number : n ≡ k = ⊎_elim (λ low. absurd (not_st (inr (place, low)))) (λ le. ⊎_elim (λ high. absurd (not_ts (inr (sym place, high)))) (λ ge. omega arith) (cases_lt k n)) (cases_lt n k) in
+    let place : p ≡ q = ⊎_elim (λ low. absurd (not_st (inl low)))
+    (λ le. ⊎_elim (λ high. absurd (not_ts (inl high))) (λ ge. omega arith) (cases_lt q p)) (cases_lt p q) in
+    let number : n ≡ k = ⊎_elim (λ low. absurd (not_st (inr (place, low))))
+    (λ le. ⊎_elim (λ high. absurd (not_ts (inr (sym place, high)))) (λ ge. omega arith) (cases_lt k n)) (cases_lt n k) in
     ap (λ (r : ℕ). in_code r n) place ∙ ap (in_code q) number
 same-spot (in_code p n) (in_table k) not_st not_ts = absurd (not_st tt)
 same-spot (in_table n) (in_code q k) not_st not_ts = absurd (not_ts tt)

@@ -1,5 +1,6 @@
 -- How a traversal goes on.
-use Rattle.std.proofs.Common.{◌≡◌, ◌<◌, ◌≤◌, ◌⊎◌, inl, inr, ⊎_elim, ℕ, Bool, true, false, cond, Result, Ok, Err, List, [], ◌∷◌, ◌++◌, length, refl, sym, ap, ◌∙◌, subst, arith, Contains, MatchBool, All}
+use Rattle.std.proofs.Common.{◌≡◌, ◌<◌, ◌≤◌, ◌⊎◌, inl, inr, ⊎_elim, ℕ, Bool, true, false, cond, Result, Ok, Err, List, [], ◌∷◌}
+use Rattle.std.proofs.Common.{◌++◌, length, refl, sym, ap, ◌∙◌, subst, arith, Contains, MatchBool, All}
 use Rattle.std.specs.Prelude.{ℤ, pos, negsuc, OnOk}
 use Rattle.std.proofs.Math.ListN.{set}
 use Rattle.std.proofs.lemmas.List.{length-append, length-set}
@@ -10,7 +11,8 @@ use Rattle.jc_control.specs.Method.{Method}
 use Rattle.jc_control.specs.Control.{IsReached, IsLeader}
 use Rattle.jc_control.specs.declared.traversal.Traversal.{Traversal}
 use Rattle.jc_control.specs.Flags.{flag, IsFlagged}
-use Rattle.jc_control.specs.Traversal.{IsPending, IsAsBefore, IsFound, ReachesPlace, TakesUp, work, Grows, IsSoundTraversal, IsLed, IsLedTo, IsCaught, IsClosedAt, IsClosed}
+use Rattle.jc_control.specs.Traversal.{IsPending, IsAsBefore, IsFound, ReachesPlace, TakesUp, work, Grows, IsSoundTraversal, IsLed, IsLedTo, IsCaught}
+use Rattle.jc_control.specs.Traversal.{IsClosedAt, IsClosed}
 use Rattle.jc_control.proofs.Marked.{flag-here, flag-kept, flag-only}
 
 -- ---- growth
@@ -22,7 +24,9 @@ pub grows-on : (a b c : Traversal) → Grows a b → Grows b c → Grows a c
 grows-on a b c g h = record {
   reached = λ p f. h.reached p (g.reached p f);
   leaders = λ p f. h.leaders p (g.leaders p f);
-  fresh = λ p f. ⊎_elim (λ before. ⊎_elim (λ known. inl known) (λ waits. inr (h.pending p waits)) (g.fresh p before)) (λ waits. inr waits) (h.fresh p f);
+  fresh =
+      λ p f. ⊎_elim (λ before. ⊎_elim (λ known. inl known) (λ waits. inr (h.pending p waits)) (g.fresh p before)) (λ waits. inr waits)
+      (h.fresh p f);
   pending = λ p w. h.pending p (g.pending p w);
   less = let x = g.less in let y = h.less in omega arith;
 }
@@ -32,7 +36,8 @@ weight b = cond b 0 1
 
 module _ (place : ℕ) (old new : Traversal) where
   -- what is so where the place was known, and where it was found
-  by_flag : (X : Type 0) → (IsFlagged old.reached place → IsAsBefore old new → X) → (flag old.reached place ≡ false → IsFound place old new → X) → ReachesPlace place old new → X
+  by_flag : (X : Type 0) → (IsFlagged old.reached place → IsAsBefore old new → X)
+      → (flag old.reached place ≡ false → IsFound place old new → X) → ReachesPlace place old new → X
   by_flag X known found r = go (flag old.reached place) refl r
     where
       go : (b : Bool) → flag old.reached place ≡ b → MatchBool b (IsAsBefore old new) (IsFound place old new) → X
@@ -63,13 +68,16 @@ module _ (place : ℕ) (old new : Traversal) where
     pending-only : (p : ℕ) → IsPending new p → IsPending old p ⊎ (p ≡ place)
     pending-only p k = by_flag (IsPending old p ⊎ (p ≡ place))
         (λ e h. inl (subst (λ (ps : List ℕ). Contains ps p) h.pending k))
-        (λ e h. ⊎_elim (λ before. inl before) (λ here. inr (sym here)) (Contains-push_cases old.pending.items place p (subst (λ (ps : List ℕ). Contains ps p) h.pending k))) r
+        (λ e h. ⊎_elim (λ before. inl before) (λ here. inr (sym here))
+        (Contains-push_cases old.pending.items place p (subst (λ (ps : List ℕ). Contains ps p) h.pending k))) r
 
     reached-fresh : (p : ℕ) → IsFlagged new.reached p → IsFlagged old.reached p ⊎ IsPending new p
     reached-fresh p k = by_flag (IsFlagged old.reached p ⊎ IsPending new p)
         (λ e h. inl (ap (λ (fs : List Bool). flag fs p) (sym h.reached) ∙ k))
         (λ e h. ⊎_elim (λ before. inl before)
-        (λ here. inr (subst (λ (ps : List ℕ). Contains ps p) (sym h.pending) (subst (λ (q : ℕ). Contains (old.pending.items ++ place ∷ []) q) (sym here) (Contains-push old.pending.items place))))
+        (λ here. inr
+        (subst (λ (ps : List ℕ). Contains ps p) (sym h.pending)
+        (subst (λ (q : ℕ). Contains (old.pending.items ++ place ∷ []) q) (sym here) (Contains-push old.pending.items place))))
         (reached-only p k)) r
 
     less-left : work new ≤ work old
@@ -88,15 +96,20 @@ module _ (place : ℕ) (old new : Traversal) where
     reach-grows leaders = record { reached = reached-kept; leaders = leaders; fresh = reached-fresh; pending = pending-kept; less = less-left }
 
     reached-length : length new.reached ≡ length old.reached
-    reached-length = by_flag (length new.reached ≡ length old.reached) (λ e h. ap length h.reached) (λ e h. ap length h.reached ∙ length-set old.reached place true) r
+    reached-length =
+        by_flag (length new.reached ≡ length old.reached) (λ e h. ap length h.reached)
+        (λ e h. ap length h.reached ∙ length-set old.reached place true) r
 
-    pub reach-sound : (m : Method) → IsSoundTraversal m old → IsReached m place → length new.leaders ≡ length old.leaders → ((p : ℕ) → IsFlagged new.leaders p → IsLeader m p) → IsSoundTraversal m new
+    pub reach-sound : (m : Method) → IsSoundTraversal m old → IsReached m place → length new.leaders ≡ length old.leaders
+        → ((p : ℕ) → IsFlagged new.leaders p → IsLeader m p) → IsSoundTraversal m new
     reach-sound m s here size leaders = record {
       reached_size = reached-length ∙ s.reached_size;
       leaders_size = size ∙ s.leaders_size;
       reached = λ p k. ⊎_elim (λ before. s.reached p before) (λ same. subst (IsReached m) (sym same) here) (reached-only p k);
       leaders = leaders;
-      pending = λ p k. ⊎_elim (λ before. reached-kept p (s.pending p before)) (λ same. subst (IsFlagged new.reached) (sym same) reached-here) (pending-only p k);
+      pending =
+          λ p k. ⊎_elim (λ before. reached-kept p (s.pending p before)) (λ same. subst (IsFlagged new.reached) (sym same) reached-here)
+          (pending-only p k);
     }
 
 -- what holds where a call answers Ok
@@ -105,7 +118,8 @@ on-ok P Q (Ok t) f h = f h
 on-ok P Q (Err e) f h = tt
 
 -- a place is reached
-module _ (m : Method) (place : ℕ) (old new : Traversal) (sound : IsSoundTraversal m old) (inside : place ≤ length m.code) (same : new.leaders ≡ old.leaders) (r : ReachesPlace place old new) where
+module _ (m : Method) (place : ℕ) (old new : Traversal) (sound : IsSoundTraversal m old) (inside : place ≤ length m.code)
+    (same : new.leaders ≡ old.leaders) (r : ReachesPlace place old new) where
   pub reached-sound : IsReached m place → IsSoundTraversal m new
   reached-sound here = reach-sound place old new (omega (arith, sound.reached_size)) r m sound here (ap length same)
       (λ p h. sound.leaders p (ap (λ (fs : List Bool). flag fs p) (sym same) ∙ h))
@@ -117,20 +131,28 @@ module _ (m : Method) (place : ℕ) (old new : Traversal) (sound : IsSoundTraver
   reached-found = reached-here place old new (omega (arith, sound.reached_size)) r
 
 -- control is led to a place
-module _ (m : Method) (place : ℕ) (old new : Traversal) (sound : IsSoundTraversal m old) (inside : place ≤ length m.code) (one_more : new.leaders ≡ set old.leaders place true) (r : ReachesPlace place old new) where
+module _ (m : Method) (place : ℕ) (old new : Traversal) (sound : IsSoundTraversal m old) (inside : place ≤ length m.code)
+    (one_more : new.leaders ≡ set old.leaders place true) (r : ReachesPlace place old new) where
   led_inside : place < length old.leaders
   led_inside = omega (arith, sound.leaders_size)
 
   pub led-sound : IsReached m place → IsLeader m place → IsSoundTraversal m new
-  led-sound here leader = reach-sound place old new (omega (arith, sound.reached_size)) r m sound here (ap length one_more ∙ length-set old.leaders place true)
+  led-sound here leader =
+      reach-sound place old new (omega (arith, sound.reached_size)) r m sound here (ap length one_more ∙ length-set old.leaders place true)
       (λ p h. ⊎_elim (λ before. sound.leaders p before) (λ now. subst (IsLeader m) (sym now) leader)
       (flag-only old.leaders place p (ap (λ (fs : List Bool). flag fs p) (sym one_more) ∙ h)))
 
   pub led-grows : Grows old new
-  led-grows = reach-grows place old new (omega (arith, sound.reached_size)) r (λ p h. ap (λ (fs : List Bool). flag fs p) one_more ∙ flag-kept old.leaders place p led_inside h)
+  led-grows =
+      reach-grows place old new (omega (arith, sound.reached_size)) r
+      (λ p h. ap (λ (fs : List Bool). flag fs p) one_more ∙ flag-kept old.leaders place p led_inside h)
 
   pub led-here : IsLed new place
-  led-here = (reached-here place old new (omega (arith, sound.reached_size)) r, ap (λ (fs : List Bool). flag fs place) one_more ∙ flag-here old.leaders place led_inside)
+  led-here = (
+    reached-here place old new (omega (arith, sound.reached_size)) r,
+    ap (λ (fs : List Bool). flag fs place) one_more
+        ∙ flag-here old.leaders place led_inside,
+  )
 
 -- ---- what is found stays found
 
@@ -145,7 +167,8 @@ pub all-caught-stay : (old new : Traversal) (place : ℕ) (hs : List Handler) �
 all-caught-stay old new place hs g all =
     All-weaker (IsCaught old place) (IsCaught new place) (λ h c covers. let led = c covers in (g.reached h.entry led.0, g.leaders h.entry led.1)) hs all
 
-pub closed-stays : (m : Method) (old new : Traversal) (p : ℕ) → ((q : ℕ) → IsFlagged old.reached q → IsFlagged new.reached q) → ((q : ℕ) → IsFlagged old.leaders q → IsFlagged new.leaders q)
+pub closed-stays : (m : Method) (old new : Traversal) (p : ℕ) → ((q : ℕ) → IsFlagged old.reached q → IsFlagged new.reached q)
+    → ((q : ℕ) → IsFlagged old.leaders q → IsFlagged new.leaders q)
     → IsClosedAt m old p → IsClosedAt m new p
 closed-stays m old new p reached leaders c = record {
   follows = λ i q there here succ. reached q (c.follows i q there here succ);

@@ -1,5 +1,6 @@
 -- Flags as the set of the flagged places.
-use Rattle.std.proofs.Common.{◌≡◌, ◌<◌, ◌≤◌, ◌⊎◌, inl, inr, ⊎_elim, ℕ, Bool, true, false, List, [], ◌∷◌, ◌++◌, length, sym, ap, ◌∙◌, subst, arith}
+use Rattle.std.proofs.Common.{◌≡◌, ◌<◌, ◌≤◌, ◌⊎◌, inl, inr, ⊎_elim, ℕ, Bool, true, false, List, [], ◌∷◌, ◌++◌, length, sym}
+use Rattle.std.proofs.Common.{ap, ◌∙◌, subst, arith}
 use Rattle.std.specs.Prelude.{replicate}
 use Rattle.std.proofs.Math.ListN.{set}
 use Rattle.std.proofs.lemmas.Bool.{cases_eq, cases_lt, false≢true}
@@ -47,10 +48,13 @@ marks-none n p = (λ e. absurd (false≢true (sym (flag-none n p) ∙ e)), λ b.
 pub marks-clear : (fs : List Bool) (n : ℕ) → length fs ≤ n → ((p : ℕ) → p < n → IsFlagged fs p → ⊥) → Marks (BeginsIn []) fs
 marks-clear fs n all none p = (λ e. absurd (none p (let inside = flagged-inside fs p e in omega arith) e), λ b. absurd (nothing-in b.0 b.1))
 
-pub marks-more : (is : List Placed) (i : Placed) (fs : List Bool) → i.place < length fs → Marks (BeginsIn is) fs → Marks (BeginsIn (is ++ i ∷ [])) (set fs i.place true)
+pub marks-more : (is : List Placed) (i : Placed) (fs : List Bool) → i.place < length fs → Marks (BeginsIn is) fs
+    → Marks (BeginsIn (is ++ i ∷ [])) (set fs i.place true)
 marks-more is i fs inside m p = (
-  λ e. ⊎_elim (λ before. let b = (m p).0 before in (b.0, Contains-append_left is (i ∷ []) b.0 b.1, b.2)) (λ here. (i, Contains-push is i, sym here)) (flag-only fs i.place p e),
+  λ e. ⊎_elim (λ before. let b = (m p).0 before in (b.0, Contains-append_left is (i ∷ []) b.0 b.1, b.2)) (λ here. (i, Contains-push is i, sym here))
+      (flag-only fs i.place p e),
   λ b. ⊎_elim (λ before. flag-kept fs i.place p inside ((m p).1 (b.0, before, b.2)))
-      (λ here. let same : i.place ≡ p = ap (λ (j : Placed). j.place) here ∙ b.2 in subst (IsFlagged (set fs i.place true)) same (flag-here fs i.place inside))
+      (λ here. let same : i.place ≡ p = ap (λ (j : Placed). j.place) here ∙ b.2 in
+      subst (IsFlagged (set fs i.place true)) same (flag-here fs i.place inside))
       (Contains-push_cases is i b.0 b.1),
 )

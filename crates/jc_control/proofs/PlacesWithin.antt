@@ -10,7 +10,8 @@ use Rattle.jc_control.specs.WellFormed.{IsPlace, IsTargetPlace}
 use Rattle.jc_control.proofs.Elements.{contained-in}
 
 -- where the next instruction of a walk stands
-pub at-end : (code : List ℕ) (at : ℕ) (before : List Placed) (i : Placed) (after : List Placed) → Lists code at (before ++ i ∷ after) → i.place ≡ end_from at before
+pub at-end : (code : List ℕ) (at : ℕ) (before : List Placed) (i : Placed) (after : List Placed) → Lists code at (before ++ i ∷ after)
+    → i.place ≡ end_from at before
 at-end code at [] i after l = l.0
 at-end code at (p ∷ ps) i after l = at-end code (at + p.insn.len) ps i after l.2
 
@@ -23,10 +24,12 @@ module _ (code : List ℕ) (law : AreListed code) where
   next-inside before i after whole = law.inside i (contained-in before i after (listing code) whole)
 
   -- and ends there
-  pub next-within : (before : List Placed) (i : Placed) (after : List Placed) → before ++ i ∷ after ≡ listing code → i.place + i.insn.len ≤ length code
+  pub next-within : (before : List Placed) (i : Placed) (after : List Placed) → before ++ i ∷ after ≡ listing code
+      → i.place + i.insn.len ≤ length code
   next-within before i after whole = law.within i (contained-in before i after (listing code) whole)
 
-  pub next-end : (before : List Placed) (i : Placed) (after : List Placed) → before ++ i ∷ after ≡ listing code → i.place + i.insn.len ≡ end_from 0 (before ++ i ∷ [])
+  pub next-end : (before : List Placed) (i : Placed) (after : List Placed) → before ++ i ∷ after ≡ listing code
+      → i.place + i.insn.len ≡ end_from 0 (before ++ i ∷ [])
   next-end before i after whole =
       ap (λ (n : ℕ). n + i.insn.len) (at-end code 0 before i after (subst (Lists code 0) (sym whole) law.lists)) ∙ sym (end-after 0 before i)
 

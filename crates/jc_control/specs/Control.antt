@@ -31,5 +31,6 @@ pub record IsLive (m : Method) (h : Handler) : Type 0 where
 
 -- a target of a reached branch or switch, or the entry of a handler that covers a reached place
 pub data IsLeader (m : Method) : ℕ → Type 0 where
-  led_to : {i : Placed} {q : ℕ} → HasInstruction m.code i → IsReached m i.place → Contains (targets m.code i) (pos q) → IsLeader m q
+  led_to : {i : Placed} {q : ℕ} → HasInstruction m.code i → IsReached m i.place → Contains (targets m.code i) (pos q)
+      → IsLeader m q
   entered : {h : Handler} {p : ℕ} → IsReached m p → Contains m.rec.handlers h → Covers h p → IsLeader m h.entry

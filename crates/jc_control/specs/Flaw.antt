@@ -24,7 +24,8 @@ ComesBefore (in_table n) (in_table k) = n < k
 
 -- a target of an instruction is no place of an instruction; the code goes on where no instruction is decoded; a handler is not well formed
 pub data IsFlaw (m : Method) : Spot → Flaw → Type 0 where
-  flaw_target : (i : Placed) (n : ℕ) (t : ℤ) → HasInstruction m.code i → slice_get (targets m.code i) n ≡ Some t → ¬ IsTargetPlace m.code t
+  flaw_target : (i : Placed) (n : ℕ) (t : ℤ) → HasInstruction m.code i → slice_get (targets m.code i) n ≡ Some t
+      → ¬ IsTargetPlace m.code t
       → IsFlaw m (in_code i.place n) (BadTarget i.place t)
   flaw_end : (end : CodeEnd) → listing_end m.code ≢ length m.code → decoded m.code (listing_end m.code) ≡ Err end
       → IsFlaw m (in_code (listing_end m.code) 0) (Code (listing_end m.code) end)

@@ -1,5 +1,6 @@
 -- What a traversal of the places that control reaches has found, and what is left of it.
-use Rattle.std.specs.Prelude.{◌≡◌, ◌⊎◌, ℕ, ℤ, pos, negsuc, ◌+◌, ◌*◌, ◌≤◌, true, if◌then◌else◌, [], ◌∷◌, ◌++◌, length, sum_by, slice_set, Contains, MatchBool, ⊤}
+use Rattle.std.specs.Prelude.{◌≡◌, ◌⊎◌, ℕ, ℤ, pos, negsuc, ◌+◌, ◌*◌, ◌≤◌, true, if◌then◌else◌, []}
+use Rattle.std.specs.Prelude.{◌∷◌, ◌++◌, length, sum_by, slice_set, Contains, MatchBool, ⊤}
 use Rattle.jc_base.specs.declared.record.Handler.{Handler}
 use Rattle.jc_decode.specs.declared.insn.Placed.{Placed}
 use Rattle.jc_decode.specs.Listing.{targets}
@@ -82,8 +83,10 @@ IsCaught s place h = Covers h place → IsLed s h.entry
 
 -- all that follows a place is found
 pub record IsClosedAt (m : Method) (s : Traversal) (place : ℕ) : Type 0 where
-  pub follows : (i : Placed) (q : ℕ) → HasInstruction m.code i → i.place ≡ place → IsSuccessor m.code i q → IsFlagged s.reached q
-  pub leads : (i : Placed) (q : ℕ) → HasInstruction m.code i → i.place ≡ place → Contains (targets m.code i) (pos q) → IsFlagged s.leaders q
+  pub follows : (i : Placed) (q : ℕ) → HasInstruction m.code i → i.place ≡ place → IsSuccessor m.code i q
+      → IsFlagged s.reached q
+  pub leads : (i : Placed) (q : ℕ) → HasInstruction m.code i → i.place ≡ place → Contains (targets m.code i) (pos q)
+      → IsFlagged s.leaders q
   pub catches : (h : Handler) → Contains m.rec.handlers h → IsCaught s place h
 
 -- each place that is reached is pending, or all that follows it is found

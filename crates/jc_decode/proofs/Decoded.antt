@@ -1,5 +1,6 @@
 -- What holds where an instruction is decoded.
-use Rattle.std.proofs.Common.{◌≡◌, ◌≤◌, ◌+◌, ◌-◌, ◌*◌, ℕ, Bool, true, false, cond, Option, Some, None, Result, Ok, Err, List, length, refl, sym, ap, ◌∙◌, subst, arith}
+use Rattle.std.proofs.Common.{◌≡◌, ◌≤◌, ◌+◌, ◌-◌, ◌*◌, ℕ, Bool, true, false, cond, Option, Some, None, Result, Ok, Err, List, length}
+use Rattle.std.proofs.Common.{refl, sym, ap, ◌∙◌, subst, arith}
 use Rattle.std.specs.Prelude.{ℤ, int_lt, unsigned_abs}
 use Rattle.cap_bytes.specs.Number.{number_at}
 use Rattle.jc_decode.specs.declared.layout.Operand.{Operand}
@@ -10,7 +11,8 @@ use Rattle.jc_decode.specs.declared.layout.Layout.{Layout}
 use Rattle.jc_decode.specs.declared.insn.CodeEnd.{CodeEnd}
 use Rattle.jc_decode.specs.declared.insn.Insn.{Insn}
 use Rattle.jc_decode.specs.Layout.{operand_width, total_width, layout_of}
-use Rattle.jc_decode.specs.Decoding.{◌>>=◌, or_cut, within_bytes, keys_rise, pairs_end, pair_width, range_end, range_count, bad_operand, operand_at, table_end, end_of_cases, decoded, Begins, IsWithin}
+use Rattle.jc_decode.specs.Decoding.{◌>>=◌, or_cut, within_bytes, keys_rise, pairs_end, pair_width, range_end, range_count, bad_operand, operand_at}
+use Rattle.jc_decode.specs.Decoding.{table_end, end_of_cases, decoded, Begins, IsWithin}
 
 -- a step that succeeds, and what comes of it
 pub bind-ok : {A B : Type 0} (r : Result A CodeEnd) (f : A → Result B CodeEnd) (y : B)

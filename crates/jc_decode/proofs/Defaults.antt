@@ -1,5 +1,6 @@
 -- A switch with another default.
-use Rattle.std.proofs.Common.{◌≡◌, ◌∙◌, ◌≤◌, ◌+◌, ℕ, Bool, true, false, Result, Ok, Err, List, [], length, refl, ap, subst, arith, rules}
+use Rattle.std.proofs.Common.{◌≡◌, ◌∙◌, ◌≤◌, ◌+◌, ℕ, Bool, true, false, Result, Ok, Err, List, [], length, refl, ap, subst, arith}
+use Rattle.std.proofs.Common.{rules}
 use Rattle.std.specs.Prelude.{ℤ, unsigned_abs, FitsSigned, not, ◌||◌, map, replicate}
 use Rattle.std.specs.Int.{w16}
 use Rattle.std.specs.List.{range_with_len}

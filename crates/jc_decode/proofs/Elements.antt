@@ -1,5 +1,6 @@
 -- Elements of lists.
-use Rattle.std.proofs.Common.{◌≡◌, ◌⊎◌, inl, inr, ℕ, zero, suc, Some, List, [], ◌∷◌, refl, ap, ◌∙◌, arith, Contains, None, drop, ◌+◌}
+use Rattle.std.proofs.Common.{◌≡◌, ◌⊎◌, inl, inr, ℕ, zero, suc, Some, List, [], ◌∷◌, refl, ap, ◌∙◌, arith, Contains, None, drop}
+use Rattle.std.proofs.Common.{◌+◌}
 use Rattle.std.specs.Prelude.{slice_get}
 use Rattle.std.proofs.lemmas.Option.{slice_get_within, slice_get-get_or, get_or_from_slice_get}
 use Rattle.std.proofs.lemmas.List.Elements.{Contains-append_right}

@@ -1,5 +1,6 @@
 -- A load or store of one of the first four registers in its short form is the same instruction, and allowed.
-use Rattle.std.proofs.Common.{◌≡◌, ◌∙◌, ◌<◌, ◌≤◌, ◌+◌, ◌-◌, ◌/◌, ◌%◌, ℕ, zero, suc, Bool, true, false, cond, Result, Ok, Err, refl, sym, ap, arith, rules}
+use Rattle.std.proofs.Common.{◌≡◌, ◌∙◌, ◌<◌, ◌≤◌, ◌+◌, ◌-◌, ◌/◌, ◌%◌, ℕ, zero, suc, Bool, true, false, cond, Result, Ok}
+use Rattle.std.proofs.Common.{Err, refl, sym, ap, arith, rules}
 use Rattle.std.specs.Prelude.{ℤ, pos, negsuc, unsigned_abs, not, ◌&&◌, ◌||◌, ◌==◌, nat_le, map, replicate}
 use Rattle.std.specs.List.{range_with_len}
 use Rattle.std.proofs.lemmas.Bool.{eqb-true, not-true, or_parts, and_parts}
@@ -198,7 +199,8 @@ short-essence i allowed = by_test (names_register i.op) refl (nat_le (unsigned_a
         let other = and_parts _ _ (or-rest _ _ (passed-at is_moved is_moved-all (first_short i.op + unsigned_abs i.x) short.small) short.moved) in
         let free = or_parts _ _ (not-true _ still.1) in
         rw (e, f)
-        (essence-moved (record i { op = first_short i.op + unsigned_abs i.x; x = pos 0 }) i.op (unsigned_abs i.x) (not-true _ other.1) short.moved short.long short.register
+        (essence-moved (record i { op = first_short i.op + unsigned_abs i.x; x = pos 0 }) i.op (unsigned_abs i.x) (not-true _ other.1) short.moved
+        short.long short.register
         ∙ ap (λ (x : ℤ). record i { x = x; len = 0 }) n.x
         ∙ sym (essence-named i (not-true _ still.0) free.0 free.1))
 
@@ -215,7 +217,8 @@ short-allowed i allowed = by_test (names_register i.op) refl (nat_le (unsigned_a
         let few = few-by (unsigned_abs i.x) f in
         let short = IsShort-at i.op (unsigned_abs i.x) small e few in
         let other = and_parts _ _ (or-rest _ _ (passed-at is_moved is_moved-all (first_short i.op + unsigned_abs i.x) short.small) short.moved) in
-        rw (e, f) (AllowsBy-none (record i { op = first_short i.op + unsigned_abs i.x; x = pos 0 }) (layout_of (first_short i.op + unsigned_abs i.x)) other.0 refl n.y n.z)
+        rw (e, f) (AllowsBy-none (record i { op = first_short i.op + unsigned_abs i.x; x = pos 0 }) (layout_of (first_short i.op + unsigned_abs i.x))
+        other.0 refl n.y n.z)
 
 pub short-jumps : (i : Insn) → jumps (short_form i).op ≡ jumps i.op
 short-jumps i = by_test (names_register i.op) refl (nat_le (unsigned_abs i.x) 3) refl

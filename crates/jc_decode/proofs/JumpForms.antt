@@ -93,7 +93,8 @@ offset-allows two SwapWords d h near fits = absurd (cc)
 offset-allows two ArrayType d h near fits = absurd (cc)
 offset-allows two TestedType d h near fits = absurd (cc)
 
-pub jump-allowed : (op : ℕ) (two : Bool) (d : ℤ) → is_wide_jump op ≡ true → (two ≡ false → is_near d ≡ true) → FitsSigned w16 d → IsAllowed (jump_to op two d)
+pub jump-allowed : (op : ℕ) (two : Bool) (d : ℤ) → is_wide_jump op ≡ true → (two ≡ false → is_near d ≡ true) → FitsSigned w16 d
+    → IsAllowed (jump_to op two d)
 jump-allowed op two d h near fits = by_layout (layout_of (cond two op (op - 56))) (IsJump-form two op h).layout
   where
     by_layout : (r : Result Layout CodeEnd) → has_offset two r ≡ true → AllowsBy (jump_to op two d) r
@@ -153,7 +154,8 @@ jump-branch op two h = (IsJump-form two op h).branch
 pub jump-only : (op : ℕ) (two : Bool) → is_wide_jump op ≡ true → is_switch (cond two op (op - 56)) ≡ false
 jump-only op two h = (IsJump-form two op h).only
 
-essence-branch : (i : Insn) (op : ℕ) → is_branch i.op ≡ true → wide i.op ≡ op → essence i ≡ record { op = op; x = pos 0; y = i.y; z = i.z; len = 0 }
+essence-branch : (i : Insn) (op : ℕ) → is_branch i.op ≡ true → wide i.op ≡ op
+    → essence i ≡ record { op = op; x = pos 0; y = i.y; z = i.z; len = 0 }
 essence-branch i op b w = let j : jumps i.op ≡ true = rw b refl in rw (j, w) refl
 
 pub jump-same : (op : ℕ) (two : Bool) (d : ℤ) → is_wide_jump op ≡ true → essence (jump_to op two d) ≡ essence (jump op)

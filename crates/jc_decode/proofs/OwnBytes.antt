@@ -1,5 +1,7 @@
 -- An instruction that is decoded is encoded as the bytes that stand there.
-use Rattle.std.proofs.Common.{◌≡◌, ◌<◌, ◌≤◌, ◌+◌, ◌*◌, ◌-◌, ◌^◌, ◌/◌, ◌%◌, ℕ, zero, suc, Bool, true, false, cond, nat_le, Some, None, Result, Ok, List, [], ◌∷◌, ◌++◌, length, take, drop, slice_index, Fits, refl, sym, ap, ◌∙◌, arith, rules, append_assoc}
+use Rattle.std.proofs.Common.{◌≡◌, ◌<◌, ◌≤◌, ◌+◌, ◌*◌, ◌-◌, ◌^◌, ◌/◌, ◌%◌, ℕ, zero, suc, Bool, true, false, cond}
+use Rattle.std.proofs.Common.{nat_le, Some, None, Result, Ok, List, [], ◌∷◌, ◌++◌, length, take, drop, slice_index, Fits, refl, sym, ap, ◌∙◌}
+use Rattle.std.proofs.Common.{arith, rules, append_assoc}
 use Rattle.std.specs.Prelude.{ℤ}
 use Rattle.std.specs.Int.{w8, w16, w32, byte_at, bytes_high_first}
 use Rattle.std.proofs.Math.Facts.{of_z-to_z}
@@ -37,7 +39,8 @@ byte_at-below a r n j h =
     let m = n - suc j in
     let split : n ≡ m + suc j = omega arith in
     let power : 256 ^ n ≡ (256 ^ m * 256) * 256 ^ j =
-    ap (λ (k : ℕ). 256 ^ k) split ∙ pow-add 256 m (suc j) ∙ ap (λ (q : ℕ). 256 ^ m * q) (pow-succ' 256 j) ∙ sym (mul_assoc (256 ^ m) 256 (256 ^ j)) in
+    ap (λ (k : ℕ). 256 ^ k) split ∙ pow-add 256 m (suc j) ∙ ap (λ (q : ℕ). 256 ^ m * q) (pow-succ' 256 j)
+    ∙ sym (mul_assoc (256 ^ m) 256 (256 ^ j)) in
     let moved : a * 256 ^ n ≡ ((a * 256 ^ m) * 256) * 256 ^ j =
     ap (λ (q : ℕ). a * q) power ∙ sym (mul_assoc a (256 ^ m * 256) (256 ^ j)) ∙ ap (λ (q : ℕ). q * 256 ^ j) (sym (mul_assoc a (256 ^ m) 256)) in
     byte_at-div j (a * 256 ^ n + r)
@@ -70,14 +73,16 @@ AreBytes-drop n xs bytes k = let e = get_or-drop n xs k 0 in let b = bytes (n + 
 number_at-bytes : (w at n : ℕ) (xs : List ℕ) → AreBytes xs → number_at w at xs ≡ Some n → big_bytes w n ≡ take w (drop at xs)
 number_at-bytes w at n xs bytes h = by_reach (nat_le (at + w) (length xs)) refl h
   where
-    by_reach : (b : Bool) → nat_le (at + w) (length xs) ≡ b → cond b (Some (big_number w (drop at xs))) None ≡ Some n → big_bytes w n ≡ take w (drop at xs)
+    by_reach : (b : Bool) → nat_le (at + w) (length xs) ≡ b → cond b (Some (big_number w (drop at xs))) None ≡ Some n
+        → big_bytes w n ≡ take w (drop at xs)
     by_reach true reach h =
         let e : big_number w (drop at xs) ≡ n = cc in
         let room : 0 + w ≤ length (drop at xs) = grind (arith, length-drop at xs) in
         ap (big_bytes w) (sym e) ∙ bytes-number w 0 (drop at xs) (AreBytes-drop at xs bytes) room
     by_reach false reach h = absurd (cc)
 
-number_of-bytes : (o : Operand) (at n : ℕ) (xs : List ℕ) → AreBytes xs → operand_number o xs at ≡ Some n → big_bytes (operand_width o) n ≡ take (operand_width o) (drop at xs)
+number_of-bytes : (o : Operand) (at n : ℕ) (xs : List ℕ) → AreBytes xs → operand_number o xs at ≡ Some n
+    → big_bytes (operand_width o) n ≡ take (operand_width o) (drop at xs)
 number_of-bytes Absent at n xs bytes h = refl
 number_of-bytes U1 at n xs bytes h = number_at-bytes 1 at n xs bytes h
 number_of-bytes U2 at n xs bytes h = number_at-bytes 2 at n xs bytes h
@@ -102,12 +107,14 @@ bits-same ArrayType n h = refl
 bits-same TestedType n h = refl
 
 -- an operand that is read is written as its bytes
-operand-bytes : (o : Operand) (xs : List ℕ) (at : ℕ) (v : ℤ) → AreBytes xs → operand_at o xs at ≡ Ok v → operand_bytes o v ≡ take (operand_width o) (drop at xs)
+operand-bytes : (o : Operand) (xs : List ℕ) (at : ℕ) (v : ℤ) → AreBytes xs → operand_at o xs at ≡ Ok v
+    → operand_bytes o v ≡ take (operand_width o) (drop at xs)
 operand-bytes o xs at v bytes h =
     from_bind (or_cut (operand_number o xs at)) _ v h (λ n n_is h1.
     let some = or_cut-ok _ n n_is in
     let same = bits-same o n (number_of-fits o xs at n bytes some) in
-    ap (λ (x : ℤ). big_bytes (operand_width o) (bits o x)) (sym (allowed-value o (allows o n) n v h1)) ∙ ap (big_bytes (operand_width o)) same ∙ number_of-bytes o at n xs bytes some)
+    ap (λ (x : ℤ). big_bytes (operand_width o) (bits o x)) (sym (allowed-value o (allows o n) n v h1)) ∙ ap (big_bytes (operand_width o)) same
+    ∙ number_of-bytes o at n xs bytes some)
 
 -- two parts of a list, one after the other
 take-more : (xs : List ℕ) (at m n : ℕ) → take (m + n) (drop at xs) ≡ take m (drop at xs) ++ take n (drop (at + m) xs)
@@ -117,7 +124,8 @@ take-more xs at m n = take-add m n (drop at xs) ∙ ap (λ (ys : List ℕ). take
 opcode-byte : (xs : List ℕ) (at op : ℕ) → number_at 1 at xs ≡ Some op → take 1 (drop at xs) ≡ op ∷ []
 opcode-byte xs at op h = by_reach (nat_le (at + 1) (length xs)) refl h
   where
-    by_reach : (b : Bool) → nat_le (at + 1) (length xs) ≡ b → cond b (Some (big_number 1 (drop at xs))) None ≡ Some op → take 1 (drop at xs) ≡ op ∷ []
+    by_reach : (b : Bool) → nat_le (at + 1) (length xs) ≡ b → cond b (Some (big_number 1 (drop at xs))) None ≡ Some op
+        → take 1 (drop at xs) ≡ op ∷ []
     by_reach true reach h =
         let here : at < length xs = grind arith in
         let first = drop-cons xs at 0 here in
@@ -127,10 +135,12 @@ opcode-byte xs at op h = by_reach (nat_le (at + 1) (length xs)) refl h
     by_reach false reach h = absurd (cc)
 
 -- the bytes of the table are those after the operands
-table-own : (xs : List ℕ) (at : ℕ) (i : Insn) (b : Begins xs at i) → table_bytes b.layout xs at i ≡ take (i.len - (1 + total_width b.layout)) (drop (at + 1 + total_width b.layout) xs)
+table-own : (xs : List ℕ) (at : ℕ) (i : Insn) (b : Begins xs at i) → table_bytes b.layout xs at i ≡ take (i.len - (1 + total_width b.layout))
+    (drop (at + 1 + total_width b.layout) xs)
 table-own xs at i b = by_table b.layout.cases refl
   where
-    by_table : (k : Cases) → b.layout.cases ≡ k → table_bytes b.layout xs at i ≡ take (i.len - (1 + total_width b.layout)) (drop (at + 1 + total_width b.layout) xs)
+    by_table : (k : Cases) → b.layout.cases ≡ k → table_bytes b.layout xs at i ≡ take (i.len - (1 + total_width b.layout))
+        (drop (at + 1 + total_width b.layout) xs)
     by_table NoCases is =
         let ends : end_of_cases NoCases b.layout.z xs (at + 1 + total_width b.layout) i.y i.z ≡ Ok (at + i.len) = rw is at b.ends in
         let same : at + 1 + total_width b.layout ≡ at + i.len = ok-same _ _ _ refl ends in
@@ -155,7 +165,8 @@ encoding-own xs at i bytes h =
     let t = table-own xs at i b in
     let place : at + 1 + operand_width l.x + operand_width l.y + operand_width l.z ≡ at + 1 + total_width l = omega arith in
     ap (λ (r : Result Layout CodeEnd). encoding_by r xs at i) b.is_layout
-    ∙ pieces xs at i.op (operand_bytes l.x i.x) (operand_bytes l.y i.y) (operand_bytes l.z i.z) (table_bytes l xs at i) (operand_width l.x) (operand_width l.y) (operand_width l.z) m
+    ∙ pieces xs at i.op (operand_bytes l.x i.x) (operand_bytes l.y i.y) (operand_bytes l.z i.z) (table_bytes l xs at i) (operand_width l.x)
+    (operand_width l.y) (operand_width l.z) m
     op x y z (t ∙ ap (λ (k : ℕ). take m (drop k xs)) (sym place))
     ∙ ap (λ (n : ℕ). take n (drop at xs)) (sym whole)
   where

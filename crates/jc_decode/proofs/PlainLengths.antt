@@ -1,5 +1,6 @@
 -- The plain size of code and its length.
-use Rattle.std.proofs.Common.{◌≡◌, ◌≤◌, ◌<◌, ◌+◌, ◌-◌, ◌*◌, ℕ, Bool, true, false, cond, Ok, List, [], ◌∷◌, length, ap, ◌∙◌, arith}
+use Rattle.std.proofs.Common.{◌≡◌, ◌≤◌, ◌<◌, ◌+◌, ◌-◌, ◌*◌, ℕ, Bool, true, false, cond, Ok, List, [], ◌∷◌, length, ap}
+use Rattle.std.proofs.Common.{◌∙◌, arith}
 use Rattle.jc_decode.specs.declared.insn.Insn.{Insn}
 use Rattle.jc_decode.specs.declared.insn.Placed.{Placed}
 use Rattle.jc_decode.specs.Decoding.{decoded}
@@ -54,6 +55,7 @@ plain_known code listed =
     let c = r.ends in
     record { ends = c; sum = omega arith; least = omega arith; most = omega arith }
 
-pub plain_is : (code : List ℕ) (sum end : ℕ) → sum ≡ plain_sum (listing code) → end ≡ listing_end code → sum + (length code - end) ≡ plain_code_size code
+pub plain_is : (code : List ℕ) (sum end : ℕ) → sum ≡ plain_sum (listing code) → end ≡ listing_end code
+    → sum + (length code - end) ≡ plain_code_size code
 unfolding plain_code_size
 plain_is code sum end a b = ap (λ n. n + (length code - end)) a ∙ ap (λ n. plain_sum (listing code) + (length code - n)) b

@@ -1,5 +1,6 @@
 -- The ranges of operands that are read from bytes.
-use Rattle.std.proofs.Common.{cond, nat_le, Fits, ◌≡◌, ◌<◌, ◌+◌, ◌^◌, ℕ, Bool, true, false, Some, None, List, length, drop, get_or, refl, sym, ap, ◌∙◌, subst, arith, rules}
+use Rattle.std.proofs.Common.{cond, nat_le, Fits, ◌≡◌, ◌<◌, ◌+◌, ◌^◌, ℕ, Bool, true, false, Some, None, List, length, drop, get_or, refl}
+use Rattle.std.proofs.Common.{sym, ap, ◌∙◌, subst, arith, rules}
 use Rattle.std.specs.Prelude.{IfOk, ℤ, FitsSigned, not, ◌||◌, map, replicate, Result, Ok, Err}
 use Rattle.std.specs.Int.{w8, w16, w32}
 use Rattle.std.specs.List.{range_with_len}

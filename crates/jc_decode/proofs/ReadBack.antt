@@ -1,5 +1,6 @@
 -- The bytes of an instruction are decoded to it, wherever they stand.
-use Rattle.std.proofs.Common.{◌≡◌, ◌<◌, ◌≤◌, ◌+◌, ◌*◌, ◌-◌, ◌^◌, ℕ, suc, Bool, true, false, cond, Some, Result, Ok, Err, List, [], ◌∷◌, ◌++◌, length, take, drop, refl, sym, ap, ◌∙◌, arith, rules, append_assoc, length-append}
+use Rattle.std.proofs.Common.{◌≡◌, ◌<◌, ◌≤◌, ◌+◌, ◌*◌, ◌-◌, ◌^◌, ℕ, suc, Bool, true, false, cond, Some, Result, Ok, Err, List}
+use Rattle.std.proofs.Common.{[], ◌∷◌, ◌++◌, length, take, drop, refl, sym, ap, ◌∙◌, arith, rules, append_assoc, length-append}
 use Rattle.std.specs.Prelude.{◌+ℤ◌, ℤ, pos, negsuc, int_lt, unsigned_abs, not}
 use Rattle.std.specs.Result.{result_unwrap_or}
 use Rattle.std.specs.Int.{w8, w16, w32}
@@ -19,7 +20,8 @@ use Rattle.jc_decode.specs.declared.layout.Layout.{Layout}
 use Rattle.jc_decode.specs.declared.insn.CodeEnd.{CodeEnd}
 use Rattle.jc_decode.specs.declared.insn.Insn.{Insn}
 use Rattle.jc_decode.specs.Layout.{operand_width, total_width, layout_of}
-use Rattle.jc_decode.specs.Decoding.{allows, value, operand_number, operand_at, within_bytes, bad_operand, key_at, rises, pair_width, range_count, range_end, pairs_end, end_of_cases, table_end, FitsOperand, Begins}
+use Rattle.jc_decode.specs.Decoding.{allows, value, operand_number, operand_at, within_bytes, bad_operand, key_at, rises, pair_width, range_count, range_end}
+use Rattle.jc_decode.specs.Decoding.{pairs_end, end_of_cases, table_end, FitsOperand, Begins}
 use Rattle.jc_decode.specs.Cases.{cases_in, range_case, pair_case, offset_at, is_table, HasTable}
 use Rattle.jc_decode.specs.Encoding.{bits, operand_bytes, Allows, AllowsBy, IsAllowed, head_bytes, table_bytes, encoding, encoding_by, sized, ReadsBack}
 use Rattle.jc_decode.proofs.Decoded.{decoded-Begins, reached-within, reached-ok, pairs_end-ok, range_end-ok, from_bind}
@@ -31,7 +33,8 @@ use Rattle.jc_decode.proofs.Rising.{keys_rise-none}
 number-back : (w n : ℕ) (ys pre post : List ℕ) (at : ℕ) → ys ≡ pre ++ (big_bytes w n ++ post) → at ≡ length pre → n < 256 ^ w
     → number_at w at ys ≡ Some n
 number-back w n ys pre post at here place fits =
-    let len : at + w ≤ length ys = rw (here, place) (omega (arith, length-append pre (big_bytes w n ++ post), length-append (big_bytes w n) post, length-bytes_high_first w n)) in
+    let len : at + w ≤ length ys = rw (here, place)
+    (omega (arith, length-append pre (big_bytes w n ++ post), length-append (big_bytes w n) post, length-bytes_high_first w n)) in
     let rest : drop at ys ≡ big_bytes w n ++ post = rw (here, place) (drop-append_seam pre (big_bytes w n ++ post)) in
     number_at-reached w at ys len ∙ ap Some (ap (big_number w) rest ∙ big_from-bytes w n post ∙ mod-eq_of_lt fits)
 
@@ -72,7 +75,8 @@ value-bits ArrayType (negsuc n) h = absurd h
 value-bits TestedType (pos n) h = refl
 value-bits TestedType (negsuc n) h = absurd h
 
-number_of-back : (o : Operand) (n : ℕ) (ys : List ℕ) (at : ℕ) → number_at (operand_width o) at ys ≡ Some n → (o ≡ Absent → n ≡ 0) → operand_number o ys at ≡ Some n
+number_of-back : (o : Operand) (n : ℕ) (ys : List ℕ) (at : ℕ) → number_at (operand_width o) at ys ≡ Some n → (o ≡ Absent → n ≡ 0)
+    → operand_number o ys at ≡ Some n
 number_of-back Absent n ys at h none = ap Some (sym (none refl))
 number_of-back U1 n ys at h none = h
 number_of-back U2 n ys at h none = h
@@ -88,7 +92,8 @@ bits-absent : (o : Operand) (v : ℤ) → o ≡ Absent → bits o v ≡ 0
 bits-absent o v h = rw h refl
 
 -- an operand is read back from its bytes
-pub operand-back : (o : Operand) (v : ℤ) (ys pre post : List ℕ) (at : ℕ) → ys ≡ pre ++ (operand_bytes o v ++ post) → at ≡ length pre → Allows o v
+pub operand-back : (o : Operand) (v : ℤ) (ys pre post : List ℕ) (at : ℕ) → ys ≡ pre ++ (operand_bytes o v ++ post) → at ≡ length pre
+    → Allows o v
     → operand_at o ys at ≡ Ok v
 operand-back o v ys pre post at here place allowed =
     let number = number-back (operand_width o) (bits o v) ys pre post at here place (bits-fit o v allowed.0) in
@@ -212,7 +217,8 @@ opcode-back op ys before rest here =
     number_at-reached 1 (length before) ys len ∙ ap Some (ap (big_number 1) tail ∙ one)
 
 -- a table that is copied stands alike
-copied : (xs : List ℕ) (t m : ℕ) (ys pre after : List ℕ) (u : ℕ) → t + m ≤ length xs → ys ≡ pre ++ (take m (drop t xs) ++ after) → u ≡ length pre
+copied : (xs : List ℕ) (t m : ℕ) (ys pre after : List ℕ) (u : ℕ) → t + m ≤ length xs → ys ≡ pre ++ (take m (drop t xs) ++ after)
+    → u ≡ length pre
     → Alike xs t ys u m
 copied xs t m ys pre after u inside here place =
     let size : length (take m (drop t xs)) ≡ m = omega (arith, length-take m (drop t xs), length-drop t xs) in
@@ -290,7 +296,8 @@ table-between l xs at i before after is_layout has =
     table-back (is_table l.cases) l xs at i _ _ after (length before + 1 + total_width l) is_layout has refl c.at_table n.3
 
 -- an instruction of this layout begins where its bytes stand
-Begins-between : (l : Layout) (xs : List ℕ) (at : ℕ) (i : Insn) (before after : List ℕ) → layout_of i.op ≡ Ok l → AllowsBy i (Ok l) → HasTable xs at i
+Begins-between : (l : Layout) (xs : List ℕ) (at : ℕ) (i : Insn) (before after : List ℕ) → layout_of i.op ≡ Ok l → AllowsBy i (Ok l)
+    → HasTable xs at i
     → Begins (before ++ ((head_bytes l i ++ table_bytes l xs at i) ++ after)) (length before) (sized (head_bytes l i ++ table_bytes l xs at i) i)
 Begins-between l xs at i before after is_layout allowed has =
     let ys = before ++ ((head_bytes l i ++ table_bytes l xs at i) ++ after) in

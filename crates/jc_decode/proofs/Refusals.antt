@@ -1,5 +1,6 @@
 -- A code's end is told exactly where no instruction begins for that reason.
-use Rattle.std.proofs.Common.{inl, inr, subst, ◌≡◌, ◌<◌, ◌≤◌, ◌+◌, ◌*◌, ◌-◌, ℕ, zero, suc, Bool, true, false, cond, nat_le, get_or, Option, Some, None, Result, Ok, Err, List, length, drop, refl, sym, ap, ◌∙◌, arith, rules}
+use Rattle.std.proofs.Common.{inl, inr, subst, ◌≡◌, ◌<◌, ◌≤◌, ◌+◌, ◌*◌, ◌-◌, ℕ, zero, suc, Bool, true, false, cond, nat_le}
+use Rattle.std.proofs.Common.{get_or, Option, Some, None, Result, Ok, Err, List, length, drop, refl, sym, ap, ◌∙◌, arith, rules}
 use Rattle.std.specs.Prelude.{ℤ, ◌<ℤ◌, ◌≤ℤ◌, ◌&&◌, int_lt, unsigned_abs, map, not, replicate, IsTrue, IfErr}
 use Rattle.std.specs.List.{find, range_with_len}
 use Rattle.std.proofs.lemmas.Int.{ints}
@@ -21,8 +22,10 @@ use Rattle.jc_decode.specs.declared.insn.CodeEnd.{CodeEnd}
 use Rattle.jc_decode.specs.declared.insn.CodeEnd.TheVariants.{Cut, BadOperand, NoOpcode, OutOfScope}
 use Rattle.jc_decode.specs.declared.insn.Insn.{Insn}
 use Rattle.jc_decode.specs.Layout.{Span, operand_width, total_width, layout_of, layout_from, opcode, is_in_span, spans, is_out_of_scope, opcode_in_span}
-use Rattle.jc_decode.specs.Decoding.{◌>>=◌, or_cut, within_bytes, bad_byte, bad_operand, operand_number, value, allows, operand_at, key_at, rises, keys_rise, pair_width, pairs_end, range_end, range_count, end_of_cases, table_end, decoded, AreBytes}
-use Rattle.jc_decode.specs.Refusal.{HasOpcode, HasOperands, IsFirstFall, RefusesBytes, nothing_there, left_out, unused, operands_cut, forbidden, bounds_turned, range_cut, pairs_cut, key_falls}
+use Rattle.jc_decode.specs.Decoding.{◌>>=◌, or_cut, within_bytes, bad_byte, bad_operand, operand_number, value, allows, operand_at, key_at, rises}
+use Rattle.jc_decode.specs.Decoding.{keys_rise, pair_width, pairs_end, range_end, range_count, end_of_cases, table_end, decoded, AreBytes}
+use Rattle.jc_decode.specs.Refusal.{HasOpcode, HasOperands, IsFirstFall, RefusesBytes, nothing_there, left_out, unused, operands_cut, forbidden, bounds_turned}
+use Rattle.jc_decode.specs.Refusal.{range_cut, pairs_cut, key_falls}
 use Rattle.jc_decode.proofs.Decoded.{reached-ok, reached-within, or_cut-ok}
 use Rattle.jc_decode.proofs.Ranges.{number_of-fits}
 use Rattle.jc_decode.proofs.Windows.{number_at-reached}
@@ -199,14 +202,17 @@ record Forbidden (o : Operand) (xs : List ℕ) (at : ℕ) (e : CodeEnd) : Type 0
   not_allowed : allows o byte ≡ false
   is : BadOperand byte ≡ e
 
-operand_at-failed : (o : Operand) (xs : List ℕ) (at : ℕ) (e : CodeEnd) → at + operand_width o ≤ length xs → operand_at o xs at ≡ Err e → Forbidden o xs at e
+operand_at-failed : (o : Operand) (xs : List ℕ) (at : ℕ) (e : CodeEnd) → at + operand_width o ≤ length xs → operand_at o xs at ≡ Err e
+    → Forbidden o xs at e
 operand_at-failed o xs at e inside h = by_number (operand_number o xs at) refl h
   where
-    by_test : (n : ℕ) (b : Bool) → operand_number o xs at ≡ Some n → allows o n ≡ b → cond b (Ok (value o n)) (Err (BadOperand n)) ≡ Err e → Forbidden o xs at e
+    by_test : (n : ℕ) (b : Bool) → operand_number o xs at ≡ Some n → allows o n ≡ b → cond b (Ok (value o n)) (Err (BadOperand n)) ≡ Err e
+        → Forbidden o xs at e
     by_test n true there is h = absurd (cc)
     by_test n false there is h = record { byte = n; there = there; not_allowed = is; is = cc }
 
-    by_number : (m : Option ℕ) → operand_number o xs at ≡ m → (or_cut m >>= (λ n. cond (allows o n) (Ok (value o n)) (Err (BadOperand n)))) ≡ Err e → Forbidden o xs at e
+    by_number : (m : Option ℕ) → operand_number o xs at ≡ m → (or_cut m >>= (λ n. cond (allows o n) (Ok (value o n)) (Err (BadOperand n))))
+        ≡ Err e → Forbidden o xs at e
     by_number None none h = absurd (number_of-none o xs at inside none)
     by_number (Some n) there h = by_test n (allows o n) there refl h
 
@@ -222,7 +228,8 @@ allows_all-allows SwapWords n all refused = absurd (cc)
 allows_all-allows ArrayType n all refused = absurd (cc)
 allows_all-allows TestedType n all refused = absurd (cc)
 
-never-failed : (o : Operand) (xs : List ℕ) (at : ℕ) (e : CodeEnd) → at + operand_width o ≤ length xs → allows_all o ≡ true → operand_at o xs at ≡ Err e → ⊥
+never-failed : (o : Operand) (xs : List ℕ) (at : ℕ) (e : CodeEnd) → at + operand_width o ≤ length xs → allows_all o ≡ true
+    → operand_at o xs at ≡ Err e → ⊥
 never-failed o xs at e inside all h = let f = operand_at-failed o xs at e inside h in allows_all-allows o f.byte all f.not_allowed
 
 -- ---- tables
@@ -273,13 +280,15 @@ found-find p from zero n f = absurd (omega (arith, f.low, f.high))
 found-find p from (suc count) n f = elim (cases_lt from n) [
   | inl later ↦
       let passed : p from ≡ false = f.before from (omega arith) later in
-      let rest = found-find p (from + 1) count n (record { low = omega arith; high = omega (arith, f.high); here = f.here; before = λ k low high. f.before k (omega arith) high }) in
+      let rest = found-find p (from + 1) count n
+      (record { low = omega arith; high = omega (arith, f.high); here = f.here; before = λ k low high. f.before k (omega arith) high }) in
       rw (passed, rest) refl
   | inr here ↦ let same : n ≡ from = omega (arith, f.low) in let yes : p from ≡ true = ap p (sym same) ∙ f.here in rw yes (ap Some (sym same))
 ]
 
 -- the first key that falls is the one that is found
-FirstFall-found : (key : Operand) (xs : List ℕ) (t count n : ℕ) → find (λ k. not (rises key xs t k)) (range_with_len 1 (count - 1)) ≡ Some n → IsFirstFall key xs t count n
+FirstFall-found : (key : Operand) (xs : List ℕ) (t count n : ℕ) → find (λ k. not (rises key xs t k)) (range_with_len 1 (count - 1)) ≡ Some n
+    → IsFirstFall key xs t count n
 FirstFall-found key xs t count n h =
     let f = find-found (λ k. not (rises key xs t k)) 1 (count - 1) n h in
     record {
@@ -289,7 +298,8 @@ FirstFall-found key xs t count n h =
       rises = λ k low high. test-less (key_at key xs t (k - 1)) (key_at key xs t k) (not-false (rises key xs t k) (f.before k low high));
     }
 
-found-FirstFall : (key : Operand) (xs : List ℕ) (t count n : ℕ) → IsFirstFall key xs t count n → find (λ k. not (rises key xs t k)) (range_with_len 1 (count - 1)) ≡ Some n
+found-FirstFall : (key : Operand) (xs : List ℕ) (t count n : ℕ) → IsFirstFall key xs t count n
+    → find (λ k. not (rises key xs t k)) (range_with_len 1 (count - 1)) ≡ Some n
 found-FirstFall key xs t count n f =
     found-find (λ k. not (rises key xs t k)) 1 (count - 1) n (record {
       low = f.after;
@@ -298,7 +308,8 @@ found-FirstFall key xs t count n f =
       before = λ k low high. ap not (less-test (key_at key xs t (k - 1)) (key_at key xs t k) (f.rises k low high));
     })
 
-pair-there : (xs : List ℕ) (key : Operand) (t count n : ℕ) → n < count → t + pair_width key * count ≤ length xs → t + pair_width key * n + 1 ≤ length xs
+pair-there : (xs : List ℕ) (key : Operand) (t count n : ℕ) → n < count → t + pair_width key * count ≤ length xs
+    → t + pair_width key * n + 1 ≤ length xs
 pair-there xs key t count n h inside =
     let step : pair_width key * (n + 1) ≤ pair_width key * count = mul-le-mul_left (pair_width key) (omega arith) in
     omega (arith, step, inside)
@@ -306,11 +317,13 @@ pair-there xs key t count n h inside =
 -- ---- the whole
 
 -- after the operands an instruction fails as its table does
-range-failed : (xs : List ℕ) (at t : ℕ) (l : Layout) (y z : ℤ) (e : CodeEnd) → HasOperands xs at l y z → l.cases ≡ Range → nat_le 1 (operand_width l.z) ≡ true
+range-failed : (xs : List ℕ) (at t : ℕ) (l : Layout) (y z : ℤ) (e : CodeEnd) → HasOperands xs at l y z → l.cases ≡ Range
+    → nat_le 1 (operand_width l.z) ≡ true
     → t ≡ at + 1 + total_width l → range_end l.z xs t y z ≡ Err e → RefusesBytes xs at e
 range-failed xs at t l y z e has is high t_is h = by_order (int_lt z y) refl h
   where
-    by_order : (b : Bool) → int_lt z y ≡ b → cond b (Err (bad_operand xs (t - operand_width l.z))) (within_bytes xs (t + 2 * range_count y z)) ≡ Err e → RefusesBytes xs at e
+    by_order : (b : Bool) → int_lt z y ≡ b → cond b (Err (bad_operand xs (t - operand_width l.z))) (within_bytes xs (t + 2 * range_count y z))
+        ≡ Err e → RefusesBytes xs at e
     by_order true turned h =
         let place : t - operand_width l.z ≡ at + 1 + operand_width l.x + operand_width l.y = omega (arith, t_is) in
         let there = byte-there xs (at + 1 + operand_width l.x + operand_width l.y) (omega (arith, has.reaches, leb-true 1 (operand_width l.z) high)) in
@@ -330,15 +343,18 @@ pairs-failed xs at l key y z e has is h =
     by_find end (omega (arith, far.0, far.1)) (find (λ n. not (rises key xs (at + 1 + total_width l) n)) (range_with_len 1 (unsigned_abs y - 1))) refl h1)
   where
     by_find : (end : ℕ) → at + 1 + total_width l + pair_width key * unsigned_abs y ≤ length xs → (o : Option ℕ)
-        → find (λ n. not (rises key xs (at + 1 + total_width l) n)) (range_with_len 1 (unsigned_abs y - 1)) ≡ o → keys_rise key xs (at + 1 + total_width l) end o ≡ Err e → RefusesBytes xs at e
+        → find (λ n. not (rises key xs (at + 1 + total_width l) n)) (range_with_len 1 (unsigned_abs y - 1)) ≡ o
+        → keys_rise key xs (at + 1 + total_width l) end o ≡ Err e → RefusesBytes xs at e
     by_find end inside None is_none h = absurd (cc)
     by_find end inside (Some n) is_found h =
         let fall = FirstFall-found key xs (at + 1 + total_width l) (unsigned_abs y) n is_found in
-        let there = byte-there xs (at + 1 + total_width l + pair_width key * n) (pair-there xs key (at + 1 + total_width l) (unsigned_abs y) n fall.inside inside) in
+        let there = byte-there xs (at + 1 + total_width l + pair_width key * n)
+        (pair-there xs key (at + 1 + total_width l) (unsigned_abs y) n fall.inside inside) in
         let named : BadOperand there.0 ≡ e = sym there.2 ∙ err-same _ e _ refl h in
         subst (RefusesBytes xs at) named (key_falls l key y z n there.0 has is inside fall there.1)
 
-table-failed : (xs : List ℕ) (at : ℕ) (l : Layout) (c : Cases) (y z : ℤ) (e : CodeEnd) → HasOperands xs at l y z → l.cases ≡ c → has_high c l.z ≡ true
+table-failed : (xs : List ℕ) (at : ℕ) (l : Layout) (c : Cases) (y z : ℤ) (e : CodeEnd) → HasOperands xs at l y z → l.cases ≡ c
+    → has_high c l.z ≡ true
     → end_of_cases c l.z xs (at + 1 + total_width l) y z ≡ Err e → RefusesBytes xs at e
 table-failed xs at l NoCases y z e has is high h = absurd (cc)
 table-failed xs at l Range y z e has is high h = range-failed xs at _ l y z e has is high refl h
@@ -381,13 +397,16 @@ decoded-RefusesBytes xs at e bytes h =
     (λ y y_is h5. from_failed (operand_at l.z xs (at + 1 + operand_width l.x + operand_width l.y)) _ e h5
     (λ bad. absurd (never-failed l.z xs _ e (omega (arith, inside)) third.0 bad))
     (λ z z_is h6.
-    let at_table : table_end l xs (at + 1 + total_width l) y z ≡ Err e = ap (λ (t : ℕ). table_end l xs t y z) (sym place.0) ∙ from_end (table_end l xs table y z) _ e h6 in
-    table-failed xs at l l.cases y z e (record { begun = begun; reaches = inside; first = x; first_is = x_is; second_is = y_is; third_is = z_is }) refl third.1 at_table))))))
+    let at_table : table_end l xs (at + 1 + total_width l) y z ≡ Err e = ap (λ (t : ℕ). table_end l xs t y z) (sym place.0)
+    ∙ from_end (table_end l xs table y z) _ e h6 in
+    table-failed xs at l l.cases y z e (record { begun = begun; reaches = inside; first = x; first_is = x_is; second_is = y_is; third_is = z_is }) refl
+    third.1 at_table))))))
 
 -- ---- the other way round
 
 -- after the operands nothing but the table is asked
-decoded-table : (xs : List ℕ) (at : ℕ) (l : Layout) (y z : ℤ) (e : CodeEnd) → HasOperands xs at l y z → table_end l xs (at + 1 + total_width l) y z ≡ Err e → decoded xs at ≡ Err e
+decoded-table : (xs : List ℕ) (at : ℕ) (l : Layout) (y z : ℤ) (e : CodeEnd) → HasOperands xs at l y z
+    → table_end l xs (at + 1 + total_width l) y z ≡ Err e → decoded xs at ≡ Err e
 unfolding decoded
 decoded-table xs at l y z e has h =
     let reach = reached-within xs (at + 1 + total_width l) has.reaches in
@@ -396,11 +415,13 @@ decoded-table xs at l y z e has h =
 bad-byte-is : (xs : List ℕ) (at b : ℕ) → number_at 1 at xs ≡ Some b → bad_operand xs at ≡ BadOperand b
 bad-byte-is xs at b h = ap bad_byte h
 
-range-end-turned : (bound : Operand) (xs : List ℕ) (t : ℕ) (low high : ℤ) (b : ℕ) → high <ℤ low → number_at 1 (t - operand_width bound) xs ≡ Some b → range_end bound xs t low high ≡ Err (BadOperand b)
+range-end-turned : (bound : Operand) (xs : List ℕ) (t : ℕ) (low high : ℤ) (b : ℕ) → high <ℤ low → number_at 1 (t - operand_width bound) xs
+    ≡ Some b → range_end bound xs t low high ≡ Err (BadOperand b)
 range-end-turned bound xs t low high b turned there =
     let e = less-test high low turned in rw e (ap Err (bad-byte-is xs (t - operand_width bound) b there))
 
-range-end-cut : (bound : Operand) (xs : List ℕ) (t : ℕ) (low high : ℤ) → low ≤ℤ high → length xs < t + 2 * range_count low high → range_end bound xs t low high ≡ Err Cut
+range-end-cut : (bound : Operand) (xs : List ℕ) (t : ℕ) (low high : ℤ) → low ≤ℤ high → length xs < t + 2 * range_count low high
+    → range_end bound xs t low high ≡ Err Cut
 range-end-cut bound xs t low high order far = let e = most-test low high order in rw e (reached-past xs _ far)
 
 pairs-end-cut : (key : Operand) (xs : List ℕ) (t count : ℕ) → length xs < t + pair_width key * count → pairs_end key xs t count ≡ Err Cut

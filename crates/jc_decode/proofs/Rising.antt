@@ -1,5 +1,6 @@
 -- The keys of a switch that is decoded rise, and its high is not below its low.
-use Rattle.std.proofs.Common.{inl, inr, subst, ◌≡◌, ◌<◌, ◌≤◌, ◌+◌, ◌*◌, ◌-◌, ℕ, zero, suc, Bool, true, false, cond, Option, Some, None, Result, Ok, Err, List, length, refl, sym, ap, ◌∙◌, arith, rules}
+use Rattle.std.proofs.Common.{inl, inr, subst, ◌≡◌, ◌<◌, ◌≤◌, ◌+◌, ◌*◌, ◌-◌, ℕ, zero, suc, Bool, true, false, cond, Option, Some}
+use Rattle.std.proofs.Common.{None, Result, Ok, Err, List, length, refl, sym, ap, ◌∙◌, arith, rules}
 use Rattle.std.specs.Prelude.{ℤ, pos, ◌+ℤ◌, ◌<ℤ◌, ◌≤ℤ◌, int_lt, unsigned_abs, map, not, slice_get, IsTrue, IfOk}
 use Rattle.std.specs.List.{find, range_with_len}
 use Rattle.std.proofs.lemmas.Int.{ints}
@@ -31,7 +32,8 @@ map-range-some f count n c h =
 first-none : (p : ℕ → Bool) (a k : ℕ) → find p (range_with_len a (suc k)) ≡ None → (p a ≡ false) × (find p (range_with_len (a + 1) k) ≡ None)
 first-none p a k h = by_first (p a) refl h
   where
-    by_first : (b : Bool) → p a ≡ b → cond b (Some a) (find p (range_with_len (a + 1) k)) ≡ None → (p a ≡ false) × (find p (range_with_len (a + 1) k) ≡ None)
+    by_first : (b : Bool) → p a ≡ b → cond b (Some a) (find p (range_with_len (a + 1) k)) ≡ None → (p a ≡ false)
+        × (find p (range_with_len (a + 1) k) ≡ None)
     by_first true e h = absurd (cc)
     by_first false e h = (e, h)
 
@@ -49,13 +51,15 @@ keys_rise-none key xs t end None e h = refl
 keys_rise-none key xs t end (Some n) e h = absurd (cc)
 
 -- the keys of a table of pairs rise
-pair-rises : (key : Operand) (xs : List ℕ) (t count e n : ℕ) → pairs_end key xs t count ≡ Ok e → n + 1 < count → key_at key xs t n <ℤ key_at key xs t (n + 1)
+pair-rises : (key : Operand) (xs : List ℕ) (t count e n : ℕ) → pairs_end key xs t count ≡ Ok e → n + 1 < count
+    → key_at key xs t n <ℤ key_at key xs t (n + 1)
 pair-rises key xs t count e n h below =
     from_bind (within_bytes xs (t + pair_width key * count)) _ e h (λ end end_is h1.
     let none = keys_rise-none key xs t end _ e h1 in
     let risen = not-false (rises key xs t (n + 1)) (find-none (λ k. not (rises key xs t k)) 1 (count - 1) (n + 1) none (omega arith) (omega arith)) in
     let before : n + 1 - 1 ≡ n = omega arith in
-    let test : int_lt (key_at key xs t n) (key_at key xs t (n + 1)) ≡ true = ap (λ (k : ℕ). int_lt (key_at key xs t k) (key_at key xs t (n + 1))) (sym before) ∙ risen in
+    let test : int_lt (key_at key xs t n) (key_at key xs t (n + 1)) ≡ true = ap (λ (k : ℕ). int_lt (key_at key xs t k) (key_at key xs t (n + 1)))
+    (sym before) ∙ risen in
     record { lt = search (rules, test) })
 
 range-rises : (low : ℤ) (n : ℕ) (c d : ℤ) → c ≡ low +ℤ pos n → d ≡ low +ℤ pos (n + 1) → c <ℤ d
@@ -101,6 +105,7 @@ pub rising-answer : (xs : List ℕ) (at : ℕ) (r : Result Insn CodeEnd) → r �
 rising-answer xs at (Ok i) h = KeysRise-Begins xs at i (Begins-decoded xs at i (sym h))
 rising-answer xs at (Err e) h = search rules
 
-pub order-answer : (xs : List ℕ) (at : ℕ) (r : Result Insn CodeEnd) → r ≡ decoded xs at → IfOk r (λ i. IsTrue (is_table_switch i.op) → i.y ≤ℤ i.z)
+pub order-answer : (xs : List ℕ) (at : ℕ) (r : Result Insn CodeEnd) → r ≡ decoded xs at
+    → IfOk r (λ i. IsTrue (is_table_switch i.op) → i.y ≤ℤ i.z)
 order-answer xs at (Ok i) h = range-order xs at i (Begins-decoded xs at i (sym h))
 order-answer xs at (Err e) h = search rules

@@ -63,10 +63,12 @@ length-plain i = by_kind (is_register_move i.op) refl (is_branch i.op) refl
     by_kind false e true f = length-small i 3 ((IsSmall-at i.op (branch-small i.op f)).branch f)
     by_kind false e false f = omega arith
 
-first-moved : (op n : ℕ) → names_register op ≡ true → nat_le n 3 ≡ true → (is_load_n (first_short op + n) || is_store_n (first_short op + n)) ≡ true
+first-moved : (op n : ℕ) → names_register op ≡ true → nat_le n 3 ≡ true → (is_load_n (first_short op + n) || is_store_n (first_short op + n))
+    ≡ true
 first-moved op n h k = by_kind (nat_le op 23) refl
   where
-    by_kind : (b : Bool) → nat_le op 23 ≡ b → (is_load_n (cond b (24 + 4 * (op - 21)) (43 + 4 * (op - 40)) + n) || is_store_n (cond b (24 + 4 * (op - 21)) (43 + 4 * (op - 40)) + n)) ≡ true
+    by_kind : (b : Bool) → nat_le op 23 ≡ b
+        → (is_load_n (cond b (24 + 4 * (op - 21)) (43 + 4 * (op - 40)) + n) || is_store_n (cond b (24 + 4 * (op - 21)) (43 + 4 * (op - 40)) + n)) ≡ true
     by_kind true e = grind (arith, nat_tests)
     by_kind false e = grind (arith, nat_tests)
 

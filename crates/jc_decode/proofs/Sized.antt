@@ -1,5 +1,6 @@
 -- How long an instruction is, and its bytes.
-use Rattle.std.proofs.Common.{◌≡◌, ◌+◌, ◌-◌, ℕ, Bool, true, false, cond, Result, Ok, Err, List, [], ◌++◌, length, take, drop, refl, arith, length-append}
+use Rattle.std.proofs.Common.{◌≡◌, ◌+◌, ◌-◌, ℕ, Bool, true, false, cond, Result, Ok, Err, List, [], ◌++◌, length, take, drop, refl, arith}
+use Rattle.std.proofs.Common.{length-append}
 use Rattle.std.proofs.lemmas.List.{length-drop, length-take}
 use Rattle.jc_decode.specs.declared.layout.Cases.{Cases}
 use Rattle.jc_decode.specs.declared.layout.Cases.TheVariants.{Range, Pairs}
@@ -21,12 +22,14 @@ pub length-encoding : (xs : List ℕ) (at : ℕ) (i : Insn) → IsAllowed i → 
 unfolding encoding
 length-encoding xs at i allowed has = by_layout (layout_of i.op) refl allowed
   where
-    by_layout : (r : Result Layout CodeEnd) → layout_of i.op ≡ r → AllowsBy i r → length (encoding_by r xs at i) ≡ cond (has_cases r) i.len (bytes_by r)
+    by_layout : (r : Result Layout CodeEnd) → layout_of i.op ≡ r → AllowsBy i r → length (encoding_by r xs at i) ≡ cond (has_cases r) i.len
+        (bytes_by r)
     by_layout (Err e) is a = absurd a
     by_layout (Ok l) is a = by_table (is_table l.cases) refl
       where
         by_table : (b : Bool) → is_table l.cases ≡ b
-            → length (head_bytes l i ++ cond b (take (i.len - (1 + total_width l)) (drop (at + 1 + total_width l) xs)) []) ≡ cond b i.len (1 + total_width l)
+            → length (head_bytes l i ++ cond b (take (i.len - (1 + total_width l)) (drop (at + 1 + total_width l) xs)) [])
+            ≡ cond b i.len (1 + total_width l)
         by_table true e =
             let within = table_within xs at i l has is e in
             omega (

@@ -1,5 +1,6 @@
 -- The table of a switch that is decoded, and the cases in it.
-use Rattle.std.proofs.Common.{subst, ◌≡◌, ◌≤◌, ◌<◌, ◌+◌, ◌*◌, ◌-◌, ℕ, zero, suc, Bool, true, false, cond, Some, None, Result, Ok, Err, List, length, refl, sym, ap, ◌∙◌, arith, rules}
+use Rattle.std.proofs.Common.{subst, ◌≡◌, ◌≤◌, ◌<◌, ◌+◌, ◌*◌, ◌-◌, ℕ, zero, suc, Bool, true, false, cond, Some, None, Result, Ok}
+use Rattle.std.proofs.Common.{Err, List, length, refl, sym, ap, ◌∙◌, arith, rules}
 use Rattle.std.specs.Prelude.{◌-ℤ◌, FitsSigned, ℤ, ◌≤ℤ◌, unsigned_abs, int_lt, map, slice_get, IsTrue}
 use Rattle.std.specs.List.{range_with_len}
 use Rattle.std.specs.Option.{option_map}
@@ -39,7 +40,9 @@ abs-passed y fits = ap unsigned_abs (to_z-of_z w32 y fits)
 
 pub abs_diff-passed : (y z : ℤ) → FitsSigned w32 y → FitsSigned w32 z
     → unsigned_abs (cast_signed w32 (cast_unsigned w32 z) -ℤ cast_signed w32 (cast_unsigned w32 y)) ≡ unsigned_abs (z -ℤ y)
-abs_diff-passed y z fits_y fits_z = ap (λ (d : ℤ). unsigned_abs (d -ℤ cast_signed w32 (cast_unsigned w32 y))) (to_z-of_z w32 z fits_z) ∙ ap (λ (d : ℤ). unsigned_abs (z -ℤ d)) (to_z-of_z w32 y fits_y)
+abs_diff-passed y z fits_y fits_z =
+    ap (λ (d : ℤ). unsigned_abs (d -ℤ cast_signed w32 (cast_unsigned w32 y))) (to_z-of_z w32 z fits_z)
+    ∙ ap (λ (d : ℤ). unsigned_abs (z -ℤ d)) (to_z-of_z w32 y fits_y)
 
 -- an instruction that is decoded but for its default
 record ButDefault (r : Result Insn CodeEnd) (i : Insn) : Type 0 where
@@ -54,7 +57,14 @@ ButDefault-with_default : (x : ℤ) (r : Result Insn CodeEnd) (i : Insn) → wit
 ButDefault-with_default x (Err e) i h = absurd (cc)
 ButDefault-with_default x (Ok j) i h =
     let same : record j { x = x } ≡ i = ok-same _ i _ refl h in
-    record { insn = j; is_decoded = refl; op = ap (λ (k : Insn). k.op) same; y = ap (λ (k : Insn). k.y) same; z = ap (λ (k : Insn). k.z) same; len = ap (λ (k : Insn). k.len) same }
+    record {
+      insn = j;
+      is_decoded = refl;
+      op = ap (λ (k : Insn). k.op) same;
+      y = ap (λ (k : Insn). k.y) same;
+      z = ap (λ (k : Insn). k.z) same;
+      len = ap (λ (k : Insn). k.len) same;
+    }
 
 end-moved : (xs : List ℕ) (at : ℕ) (k l : Layout) (y y' z z' : ℤ) (m n : ℕ) → k ≡ l → y ≡ y' → z ≡ z' → m ≡ n
     → table_end k xs (at + 1 + total_width k) y z ≡ Ok (at + m) → table_end l xs (at + 1 + total_width l) y' z' ≡ Ok (at + n)

@@ -1,5 +1,6 @@
 -- Bytes that stand in two lists are read alike.
-use Rattle.std.proofs.Common.{◌≡◌, ◌<◌, ◌≤◌, ◌+◌, ℕ, zero, suc, Bool, Some, List, length, drop, slice_index, refl, sym, ap, ◌∙◌, arith}
+use Rattle.std.proofs.Common.{◌≡◌, ◌<◌, ◌≤◌, ◌+◌, ℕ, zero, suc, Bool, Some, List, length, drop, slice_index, refl, sym, ap, ◌∙◌}
+use Rattle.std.proofs.Common.{arith}
 use Rattle.std.specs.Prelude.{map}
 use Rattle.std.specs.List.{find, range_with_len}
 use Rattle.std.proofs.lemmas.List.{get_or-drop}
@@ -19,13 +20,16 @@ pub record Alike (xs : List ℕ) (t : ℕ) (ys : List ℕ) (u m : ℕ) : Type 0 
 -- a part of what is alike
 pub Alike-part : (xs : List ℕ) (t : ℕ) (ys : List ℕ) (u m a n : ℕ) → Alike xs t ys u m → a + n ≤ m → Alike xs (t + a) ys (u + a) n
 Alike-part xs t ys u m a n w inside = record {
-  bytes = λ k h. let e : t + a + k ≡ t + (a + k) = omega arith in let f : u + a + k ≡ u + (a + k) = omega arith in rw (e, f) (w.bytes (a + k) (omega arith));
+  bytes =
+      λ k h. let e : t + a + k ≡ t + (a + k) = omega arith in let f : u + a + k ≡ u + (a + k) = omega arith in
+      rw (e, f) (w.bytes (a + k) (omega arith));
   left = let h = w.left in omega arith;
   right = let h = w.right in omega arith;
 }
 
 -- a number is read from its bytes alone
-big_from-alike : (n i : ℕ) (xs ys : List ℕ) → ((k : ℕ) → k < n → slice_index xs (i + k) ≡ slice_index ys (i + k)) → big_from i n xs ≡ big_from i n ys
+big_from-alike : (n i : ℕ) (xs ys : List ℕ) → ((k : ℕ) → k < n → slice_index xs (i + k) ≡ slice_index ys (i + k))
+    → big_from i n xs ≡ big_from i n ys
 big_from-alike zero i xs ys same = refl
 big_from-alike (suc n) i xs ys same =
     let z : i + 0 ≡ i = omega arith in
@@ -60,12 +64,14 @@ pub operand_at-alike : (o : Operand) (t u : ℕ) (xs ys : List ℕ) → Alike xs
 operand_at-alike o t u xs ys a = rw (number_of-alike o t u xs ys a) refl
 
 -- a search, and a list, that use the numbers of a range alone
-pub find-alike : (p q : ℕ → Bool) (a k : ℕ) → ((n : ℕ) → a ≤ n → n < a + k → p n ≡ q n) → find p (range_with_len a k) ≡ find q (range_with_len a k)
+pub find-alike : (p q : ℕ → Bool) (a k : ℕ) → ((n : ℕ) → a ≤ n → n < a + k → p n ≡ q n)
+    → find p (range_with_len a k) ≡ find q (range_with_len a k)
 find-alike p q a zero same = refl
 find-alike p q a (suc k) same =
     rw (same a (omega arith) (omega arith), find-alike p q (a + 1) k (λ n low high. same n (omega arith) (omega arith))) refl
 
-pub map-alike : {X : Type 0} (f g : ℕ → X) (a k : ℕ) → ((n : ℕ) → a ≤ n → n < a + k → f n ≡ g n) → map f (range_with_len a k) ≡ map g (range_with_len a k)
+pub map-alike : {X : Type 0} (f g : ℕ → X) (a k : ℕ) → ((n : ℕ) → a ≤ n → n < a + k → f n ≡ g n)
+    → map f (range_with_len a k) ≡ map g (range_with_len a k)
 map-alike f g a zero same = refl
 map-alike f g a (suc k) same =
     rw (same a (omega arith) (omega arith), map-alike f g (a + 1) k (λ n low high. same n (omega arith) (omega arith))) refl

@@ -1,5 +1,6 @@
 -- The offset of one case is written, and nothing else changes.
-use Rattle.std.proofs.Common.{◌≡◌, ◌≢◌, ◌<◌, ◌≤◌, ◌+◌, ◌*◌, ◌-◌, ◌⊎◌, inl, inr, ℕ, Bool, true, false, cond, Some, Result, Ok, Err, List, ◌++◌, length, take, drop, slice_index, refl, sym, ap, ◌∙◌, arith, rules, length-append}
+use Rattle.std.proofs.Common.{◌≡◌, ◌≢◌, ◌<◌, ◌≤◌, ◌+◌, ◌*◌, ◌-◌, ◌⊎◌, inl, inr, ℕ, Bool, true, false, cond, Some}
+use Rattle.std.proofs.Common.{Result, Ok, Err, List, ◌++◌, length, take, drop, slice_index, refl, sym, ap, ◌∙◌, arith, rules, length-append}
 use Rattle.std.specs.Prelude.{ℤ, pos, ◌+ℤ◌, FitsSigned, int_lt, unsigned_abs, map, not, slice_get}
 use Rattle.std.specs.List.{range_with_len}
 use Rattle.std.specs.Option.{option_map}
@@ -53,12 +54,14 @@ length-written xs p offset w =
     let back = length-append (big_bytes 2 (cast_unsigned w16 offset)) (drop (p + 2) xs) in
     omega (arith, front, back, length-two offset, length-take p xs, length-drop (p + 2) xs, w.inside)
 
-before-written : (xs : List ℕ) (p : ℕ) (offset : ℤ) (k : ℕ) → Written xs p offset → k < p → slice_index (with_offset xs p offset) k ≡ slice_index xs k
+before-written : (xs : List ℕ) (p : ℕ) (offset : ℤ) (k : ℕ) → Written xs p offset → k < p → slice_index (with_offset xs p offset) k
+    ≡ slice_index xs k
 before-written xs p offset k w h =
     get_or_append_left (take p xs) (big_bytes 2 (cast_unsigned w16 offset) ++ drop (p + 2) xs) 0 k (omega (arith, length-take p xs, w.inside))
     ∙ get_or-take p xs k 0 h
 
-after-written : (xs : List ℕ) (p : ℕ) (offset : ℤ) (k : ℕ) → Written xs p offset → p + 2 ≤ k → slice_index (with_offset xs p offset) k ≡ slice_index xs k
+after-written : (xs : List ℕ) (p : ℕ) (offset : ℤ) (k : ℕ) → Written xs p offset → p + 2 ≤ k → slice_index (with_offset xs p offset) k
+    ≡ slice_index xs k
 after-written xs p offset k w h =
     let len : length (take p xs) ≡ p = omega (arith, length-take p xs, w.inside) in
     let place : p + 2 + (k - p - 2) ≡ k = omega arith in
@@ -74,7 +77,8 @@ alike-before xs p offset a m w h = record {
   right = omega (arith, w.inside);
 }
 
-alike-after : (xs : List ℕ) (p : ℕ) (offset : ℤ) (a m : ℕ) → Written xs p offset → p + 2 ≤ a → a + m ≤ length xs → Alike (with_offset xs p offset) a xs a m
+alike-after : (xs : List ℕ) (p : ℕ) (offset : ℤ) (a m : ℕ) → Written xs p offset → p + 2 ≤ a → a + m ≤ length xs
+    → Alike (with_offset xs p offset) a xs a m
 alike-after xs p offset a m w low high = record {
   bytes = λ k below. after-written xs p offset (a + k) w (omega arith);
   left = omega (arith, length-written xs p offset w);
@@ -89,7 +93,8 @@ offset-written xs p offset w =
     (operand-back S2 offset (with_offset xs p offset) (take p xs) (drop (p + 2) xs) p refl place (w.fits, search rules))
 
 -- keys are as they were
-key_at-written : (key : Operand) (xs : List ℕ) (t count n k p : ℕ) (offset : ℤ) → Written xs p offset → p ≡ t + pair_width key * n + operand_width key
+key_at-written : (key : Operand) (xs : List ℕ) (t count n k p : ℕ) (offset : ℤ) → Written xs p offset
+    → p ≡ t + pair_width key * n + operand_width key
     → t + pair_width key * count ≤ length xs → k < count → key_at key (with_offset xs p offset) t k ≡ key_at key xs t k
 key_at-written key xs t count n k p offset w place inside h =
     ap (λ (r : Result ℤ CodeEnd). result_unwrap_or r (pos 0))
@@ -105,14 +110,16 @@ key_at-written key xs t count n k p offset w place inside h =
         alike-before xs p offset (t + pair_width key * k) (operand_width key) w (omega (arith, same, place))
 
 -- the other offsets are as they were
-pair_offset-written : (key : Operand) (xs : List ℕ) (t count n k p : ℕ) (offset : ℤ) → Written xs p offset → p ≡ t + pair_width key * n + operand_width key
+pair_offset-written : (key : Operand) (xs : List ℕ) (t count n k p : ℕ) (offset : ℤ) → Written xs p offset
+    → p ≡ t + pair_width key * n + operand_width key
     → t + pair_width key * count ≤ length xs → k < count → k ≢ n
     → offset_at (with_offset xs p offset) (t + pair_width key * k + operand_width key) ≡ offset_at xs (t + pair_width key * k + operand_width key)
 pair_offset-written key xs t count n k p offset w place inside h other =
     ap (λ (r : Result ℤ CodeEnd). result_unwrap_or r (pos 0))
     (operand_at-alike S2 _ _ (with_offset xs p offset) xs (by_side (cases_lt n k)))
   where
-    by_side : (n < k) ⊎ (k ≤ n) → Alike (with_offset xs p offset) (t + pair_width key * k + operand_width key) xs (t + pair_width key * k + operand_width key) 2
+    by_side : (n < k) ⊎ (k ≤ n) → Alike (with_offset xs p offset) (t + pair_width key * k + operand_width key) xs
+        (t + pair_width key * k + operand_width key) 2
     by_side (inl later) =
         let next = pair_before (pair_width key) n k later in
         let last = pair_before (pair_width key) k count h in
@@ -122,7 +129,8 @@ pair_offset-written key xs t count n k p offset w place inside h other =
         let next = pair_before (pair_width key) k n below in
         alike-before xs p offset _ 2 w (omega (arith, next, place))
 
-range_offset-written : (xs : List ℕ) (t count n k p : ℕ) (offset : ℤ) → Written xs p offset → p ≡ t + 2 * n → t + 2 * count ≤ length xs → k < count → k ≢ n
+range_offset-written : (xs : List ℕ) (t count n k p : ℕ) (offset : ℤ) → Written xs p offset → p ≡ t + 2 * n → t + 2 * count ≤ length xs
+    → k < count → k ≢ n
     → offset_at (with_offset xs p offset) (t + 2 * k) ≡ offset_at xs (t + 2 * k)
 range_offset-written xs t count n k p offset w place inside h other =
     ap (λ (r : Result ℤ CodeEnd). result_unwrap_or r (pos 0))
@@ -138,13 +146,16 @@ range_end-written : (bound : Operand) (xs : List ℕ) (t p e : ℕ) (y z offset 
 range_end-written bound xs t p e y z offset w h = by_test (int_lt z y) h
   where
     by_test : (b : Bool) → cond b (Err (bad_operand xs (t - operand_width bound))) (within_bytes xs (t + 2 * range_count y z)) ≡ Ok e
-        → cond b (Err (bad_operand (with_offset xs p offset) (t - operand_width bound))) (within_bytes (with_offset xs p offset) (t + 2 * range_count y z)) ≡ Ok e
+        → cond b (Err (bad_operand (with_offset xs p offset) (t - operand_width bound)))
+        (within_bytes (with_offset xs p offset) (t + 2 * range_count y z)) ≡ Ok e
     by_test true h = absurd (cc)
     by_test false h =
         let place = reached-ok xs (t + 2 * range_count y z) e h in
-        reached-within (with_offset xs p offset) (t + 2 * range_count y z) (omega (arith, place.0, place.1, length-written xs p offset w)) ∙ ap Ok (sym place.0)
+        reached-within (with_offset xs p offset) (t + 2 * range_count y z) (omega (arith, place.0, place.1, length-written xs p offset w))
+        ∙ ap Ok (sym place.0)
 
-pairs_end-written : (key : Operand) (xs : List ℕ) (t count n p e : ℕ) (offset : ℤ) → Written xs p offset → p ≡ t + pair_width key * n + operand_width key
+pairs_end-written : (key : Operand) (xs : List ℕ) (t count n p e : ℕ) (offset : ℤ) → Written xs p offset
+    → p ≡ t + pair_width key * n + operand_width key
     → pairs_end key xs t count ≡ Ok e → pairs_end key (with_offset xs p offset) t count ≡ Ok e
 pairs_end-written key xs t count n p e offset w place h =
     let whole = pairs_end-ok key xs t count e h in
@@ -156,14 +167,16 @@ pairs_end-written key xs t count n p e offset w place h =
     let reach = reached-within (with_offset xs p offset) (t + pair_width key * count) (omega (arith, inside, length-written xs p offset w)) in
     rw (reach, search_same, none) (ap Ok (sym whole.0)))
   where
-    rises-written : (k : ℕ) → t + pair_width key * count ≤ length xs → 1 ≤ k → k < count → rises key (with_offset xs p offset) t k ≡ rises key xs t k
+    rises-written : (k : ℕ) → t + pair_width key * count ≤ length xs → 1 ≤ k → k < count → rises key (with_offset xs p offset) t k
+        ≡ rises key xs t k
     rises-written k inside low high =
         let this = key_at-written key xs t count n k p offset w place inside high in
         let one = key_at-written key xs t count n (k - 1) p offset w place inside (omega arith) in
         rw (this, one) refl
 
 -- the cases of two tables of the same length, place by place
-map-other : (f g : ℕ → Case) (count k : ℕ) → (k < count → f k ≡ g k) → slice_get (map f (range_with_len 0 count)) k ≡ slice_get (map g (range_with_len 0 count)) k
+map-other : (f g : ℕ → Case) (count k : ℕ) → (k < count → f k ≡ g k) → slice_get (map f (range_with_len 0 count)) k
+    ≡ slice_get (map g (range_with_len 0 count)) k
 map-other f g count k same = by_side (cases_lt k count)
   where
     by_side : (k < count) ⊎ (count ≤ k) → slice_get (map f (range_with_len 0 count)) k ≡ slice_get (map g (range_with_len 0 count)) k
@@ -210,7 +223,8 @@ pair_case-at key xs t count n p offset w place inside h =
     ap (offset_at (with_offset xs p offset)) (sym place) ∙ offset-written xs p offset w in
     rw (same, led) refl
 
-pair_case-other : (key : Operand) (xs : List ℕ) (t count n k p : ℕ) (offset : ℤ) → Written xs p offset → p ≡ t + pair_width key * n + operand_width key
+pair_case-other : (key : Operand) (xs : List ℕ) (t count n k p : ℕ) (offset : ℤ) → Written xs p offset
+    → p ≡ t + pair_width key * n + operand_width key
     → t + pair_width key * count ≤ length xs → k < count → k ≢ n
     → pair_case (with_offset xs p offset) t key k ≡ pair_case xs t key k
 pair_case-other key xs t count n k p offset w place inside h other =
@@ -228,16 +242,21 @@ set-range xs at n p i offset b is_range counted fits place =
     let whole = range_end-ok l.z xs t i.y i.z (at + i.len) ends in
     let few : n < count = omega (arith, counted, ap length old, length-map-range_with_len (range_case xs t i.y) 0 count) in
     let w : Written xs p offset = record { inside = omega (arith, whole.0, whole.1, few, place); fits = fits } in
-    let end : table_end l (with_offset xs p offset) t i.y i.z ≡ Ok (at + i.len) = rw is_range (range_end-written l.z xs t p (at + i.len) i.y i.z offset w ends) in
+    let end : table_end l (with_offset xs p offset) t i.y i.z ≡ Ok (at + i.len) = rw is_range
+    (range_end-written l.z xs t p (at + i.len) i.y i.z offset w ends) in
     record {
       inside = w.inside;
       insn = decoded-Begins (with_offset xs p offset) at i (Begins-written xs at p i offset b w (omega (arith, place)) end);
-      changed = rw (new, old) (map-at (range_case (with_offset xs p offset) t i.y) (range_case xs t i.y) offset count n few (range_case-at xs t n p i.y offset w place));
+      changed =
+          rw (new, old)
+          (map-at (range_case (with_offset xs p offset) t i.y) (range_case xs t i.y) offset count n few (range_case-at xs t n p i.y offset w place));
       others = λ k other. rw (new, old) (map-other (range_case (with_offset xs p offset) t i.y) (range_case xs t i.y) count k
-          (λ h. ap (λ (o : ℤ). record { key = i.y +ℤ pos k; offset = o }) (range_offset-written xs t count n k p offset w place (omega (arith, whole.0, whole.1)) h other)));
+          (λ h. ap (λ (o : ℤ). record { key = i.y +ℤ pos k; offset = o })
+          (range_offset-written xs t count n k p offset w place (omega (arith, whole.0, whole.1)) h other)));
     }
 
-set-pairs : (key : Operand) (xs : List ℕ) (at n p : ℕ) (i : Insn) (offset : ℤ) → (b : Begins xs at i) → b.layout.cases ≡ Pairs key → n < length (cases xs at i)
+set-pairs : (key : Operand) (xs : List ℕ) (at n p : ℕ) (i : Insn) (offset : ℤ) → (b : Begins xs at i) → b.layout.cases ≡ Pairs key
+    → n < length (cases xs at i)
     → FitsSigned w16 offset → p ≡ at + 1 + total_width b.layout + pair_width key * n + operand_width key → SetCase xs at i n p offset
 set-pairs key xs at n p i offset b is_pairs counted fits place =
     let t = at + 1 + total_width b.layout in
@@ -250,11 +269,15 @@ set-pairs key xs at n p i offset b is_pairs counted fits place =
     let few : n < count = omega (arith, counted, ap length old, length-map-range_with_len (pair_case xs t key) 0 count) in
     let inside : t + pair_width key * count ≤ length xs = omega (arith, whole.0, whole.1) in
     let w : Written xs p offset = record { inside = omega (arith, inside, pair_before (pair_width key) n count few, place); fits = fits } in
-    let end : table_end l (with_offset xs p offset) t i.y i.z ≡ Ok (at + i.len) = rw is_pairs (pairs_end-written key xs t count n p (at + i.len) offset w place ends) in
+    let end : table_end l (with_offset xs p offset) t i.y i.z ≡ Ok (at + i.len) = rw is_pairs
+    (pairs_end-written key xs t count n p (at + i.len) offset w place ends) in
     record {
       inside = w.inside;
       insn = decoded-Begins (with_offset xs p offset) at i (Begins-written xs at p i offset b w (omega (arith, place)) end);
-      changed = rw (new, old) (map-at (pair_case (with_offset xs p offset) t key) (pair_case xs t key) offset count n few (pair_case-at key xs t count n p offset w place inside few));
+      changed =
+          rw (new, old)
+          (map-at (pair_case (with_offset xs p offset) t key) (pair_case xs t key) offset count n few
+          (pair_case-at key xs t count n p offset w place inside few));
       others = λ k other. rw (new, old) (map-other (pair_case (with_offset xs p offset) t key) (pair_case xs t key) count k
           (λ h. pair_case-other key xs t count n k p offset w place inside h other));
     }
@@ -269,4 +292,5 @@ SetCase-offset xs at n i offset h counted fits =
     by_cases : (b : Begins xs at i) (k : Cases) → b.layout.cases ≡ k → SetCase xs at i n (offset_place at i n) offset
     by_cases b NoCases is = absurd (omega (arith, counted, ap length (cases-by xs at i b.layout NoCases b.is_layout is)))
     by_cases b Range is = set-range xs at n (offset_place at i n) i offset b is counted fits (offset_place-by at i n b.layout Range b.is_layout is)
-    by_cases b (Pairs key) is = set-pairs key xs at n (offset_place at i n) i offset b is counted fits (offset_place-by at i n b.layout (Pairs key) b.is_layout is)
+    by_cases b (Pairs key) is =
+        set-pairs key xs at n (offset_place at i n) i offset b is counted fits (offset_place-by at i n b.layout (Pairs key) b.is_layout is)

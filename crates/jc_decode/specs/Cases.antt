@@ -1,6 +1,8 @@
 -- The cases of a switch: an offset for each number from low to high, or pairs of a key and an offset
 -- (JCVM 2.2, chapter 7: stableswitch, itableswitch, slookupswitch, ilookupswitch).
-use Rattle.std.specs.Prelude.{◌<ℤ◌, slice_get, Some, negsuc, ◌∷◌, ◌++◌, take, drop, true, false, ◌≡◌, ◌+◌, ◌*◌, ℕ, ℤ, pos, ◌+ℤ◌, unsigned_abs, List, [], map, Result, Ok, Err, IsTrue, Bool, ◌&&◌, nat_le}
+use Rattle.std.specs.Prelude.{◌<ℤ◌, slice_get, Some, negsuc, ◌∷◌, ◌++◌, take, drop, true, false, ◌≡◌, ◌+◌}
+use Rattle.std.specs.Prelude.{◌*◌, ℕ, ℤ, pos, ◌+ℤ◌, unsigned_abs, List, [], map, Result, Ok, Err, IsTrue, Bool, ◌&&◌}
+use Rattle.std.specs.Prelude.{nat_le}
 use Rattle.std.proofs.Common.{refl}
 use Rattle.std.specs.List.{range_with_len}
 use Rattle.std.specs.Int.{cast_unsigned, w16}

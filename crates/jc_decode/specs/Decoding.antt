@@ -1,6 +1,8 @@
 -- The instruction at a place of a method's code (JCVM 2.2, chapter 7): its opcode, then its operands one
 -- after the other, the highest byte first, then the table of a switch.
-use Rattle.std.specs.Prelude.{[], ◌∷◌, slice_index, ◌<◌, ◌≤◌, ℕ, ◌+◌, ◌-◌, ◌*◌, ◌/◌, ◌%◌, ◌<◌, ◌≡◌, ◌^◌, ℤ, pos, ◌-ℤ◌, int_lt, unsigned_abs, negsuc, List, length, Option, Some, None, Result, Ok, Err, Bool, true, not, ◌||◌, ◌&&◌, ◌==◌, nat_le, if◌then◌else◌, FitsSigned}
+use Rattle.std.specs.Prelude.{[], ◌∷◌, slice_index, ◌<◌, ◌≤◌, ℕ, ◌+◌, ◌-◌, ◌*◌, ◌/◌, ◌%◌, ◌<◌}
+use Rattle.std.specs.Prelude.{◌≡◌, ◌^◌, ℤ, pos, ◌-ℤ◌, int_lt, unsigned_abs, negsuc, List, length, Option, Some, None}
+use Rattle.std.specs.Prelude.{Result, Ok, Err, Bool, true, not, ◌||◌, ◌&&◌, ◌==◌, nat_le, if◌then◌else◌, FitsSigned}
 use Rattle.std.proofs.Common.{refl}
 use Rattle.std.specs.List.{find, range_with_len}
 use Rattle.std.specs.Result.{result_unwrap_or}

@@ -1,6 +1,7 @@
 -- The bytes of an instruction: its opcode, its operands and, of a switch, the table that stands in a code
 -- (JCVM 2.2, chapter 7).
-use Rattle.std.specs.Prelude.{pos, negsuc, ◌≡◌, ◌+◌, ◌-◌, ℕ, ℤ, unsigned_abs, List, [], ◌∷◌, ◌++◌, length, take, drop, Result, Ok, Err, IsTrue, if◌then◌else◌}
+use Rattle.std.specs.Prelude.{pos, negsuc, ◌≡◌, ◌+◌, ◌-◌, ℕ, ℤ, unsigned_abs, List, [], ◌∷◌, ◌++◌, length, take}
+use Rattle.std.specs.Prelude.{drop, Result, Ok, Err, IsTrue, if◌then◌else◌}
 use Rattle.std.proofs.Common.{refl}
 use Rattle.std.specs.Int.{cast_unsigned, w8, w16, w32}
 use Rattle.byteorder.specs.Endian.{big_bytes}

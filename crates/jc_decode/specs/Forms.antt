@@ -1,6 +1,7 @@
 -- The forms of one instruction (JCVM 2.2, section 7.5): a load or store of one of the first four registers
 -- has a form without an operand, a jump one with an offset of one byte and one with two.
-use Rattle.std.specs.Prelude.{◌≡◌, ℕ, pos, unsigned_abs, ◌+◌, ◌-◌, ◌*◌, ◌/◌, ◌%◌, Bool, Result, Ok, Err, ◌||◌, ◌&&◌, nat_le, if◌then◌else◌, negsuc, int_le, ℤ}
+use Rattle.std.specs.Prelude.{◌≡◌, ℕ, pos, unsigned_abs, ◌+◌, ◌-◌, ◌*◌, ◌/◌, ◌%◌, Bool, Result, Ok, Err}
+use Rattle.std.specs.Prelude.{◌||◌, ◌&&◌, nat_le, if◌then◌else◌, negsuc, int_le, ℤ}
 use Rattle.std.proofs.Common.{refl}
 use Rattle.jc_decode.specs.declared.layout.Layout.{Layout}
 use Rattle.jc_decode.specs.declared.insn.Insn.{Insn}

@@ -1,5 +1,6 @@
 -- Laws of instructions and of listings.
-use Rattle.std.specs.Prelude.{◌≡◌, ◌≤◌, ◌<◌, ◌+◌, ℕ, List, [], ◌∷◌, length, Some, Ok, Err, IsErr, ◌++◌, All, Contains, slice_get, false}
+use Rattle.std.specs.Prelude.{◌≡◌, ◌≤◌, ◌<◌, ◌+◌, ℕ, List, [], ◌∷◌, length, Some, Ok, Err, IsErr, ◌++◌, All}
+use Rattle.std.specs.Prelude.{Contains, slice_get, false}
 use Rattle.std.specs.List.{filter}
 use Rattle.jc_decode.specs.declared.insn.Insn.{Insn}
 use Rattle.jc_decode.specs.declared.insn.Placed.{Placed}

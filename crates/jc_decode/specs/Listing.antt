@@ -1,5 +1,6 @@
 -- The instructions of a method's code, and where each leads.
-use Rattle.std.specs.Prelude.{negsuc, Bool, ℤ, pos, ◌+ℤ◌, map, not, ◌||◌, ◌&&◌, ◌==◌, nat_le, if◌then◌else◌, ◌≡◌, ◌+◌, ℕ, zero, suc, List, [], ◌∷◌, length, Result, Ok, Err, IsErr}
+use Rattle.std.specs.Prelude.{negsuc, Bool, ℤ, pos, ◌+ℤ◌, map, not, ◌||◌, ◌&&◌, ◌==◌, nat_le, if◌then◌else◌}
+use Rattle.std.specs.Prelude.{◌≡◌, ◌+◌, ℕ, zero, suc, List, [], ◌∷◌, length, Result, Ok, Err, IsErr}
 use Rattle.jc_decode.specs.declared.insn.Insn.{Insn}
 use Rattle.jc_decode.specs.declared.insn.Placed.{Placed}
 use Rattle.jc_decode.specs.declared.insn.CodeEnd.{CodeEnd}

@@ -1,5 +1,6 @@
 -- Where an instruction has an index into the constant pool (JCVM 2.2, sections 6.11 and 7.5).
-use Rattle.std.specs.Prelude.{ℕ, ℤ, pos, ◌≡◌, Bool, Option, Some, None, unsigned_abs, ◌||◌, ◌&&◌, ◌==◌, if◌then◌else◌}
+use Rattle.std.specs.Prelude.{ℕ, ℤ, pos, ◌≡◌, Bool, Option, Some, None, unsigned_abs, ◌||◌, ◌&&◌, ◌==◌}
+use Rattle.std.specs.Prelude.{if◌then◌else◌}
 use Rattle.std.proofs.Common.{refl}
 use Rattle.jc_decode.specs.declared.insn.Insn.{Insn}
 use Rattle.jc_decode.specs.Forms.{is_between}

@@ -1,6 +1,7 @@
 -- Why no instruction begins at a place of a method's code (JCVM 2.2, chapter 7). It is asked in this order: the opcode, whether
 -- the bytes reach after the operands, the first operand, and of a switch the bounds or the bytes of the table, and then its keys.
-use Rattle.std.specs.Prelude.{◌≡◌, ◌<◌, ◌≤◌, ◌<ℤ◌, ◌≤ℤ◌, ◌+◌, ◌-◌, ◌*◌, ℕ, ℤ, List, length, Some, Ok, false, IsTrue, unsigned_abs}
+use Rattle.std.specs.Prelude.{◌≡◌, ◌<◌, ◌≤◌, ◌<ℤ◌, ◌≤ℤ◌, ◌+◌, ◌-◌, ◌*◌, ℕ, ℤ, List, length}
+use Rattle.std.specs.Prelude.{Some, Ok, false, IsTrue, unsigned_abs}
 use Rattle.cap_bytes.specs.Number.{number_at}
 use Rattle.jc_decode.specs.declared.layout.Operand.{Operand}
 use Rattle.jc_decode.specs.declared.layout.Cases.TheVariants.{Range, Pairs}

@@ -1,7 +1,8 @@
 -- Code whose jumps go to labels, read as the code of a method. Its places are the numbers of its
 -- instructions, from 0. A label takes no place: it stands for that of the first instruction after it, or
 -- for the end, which is the number of all instructions.
-use Rattle.std.specs.Prelude.{◌≡◌, ◌≤◌, ℕ, suc, pos, ◌+◌, ◌-◌, ℤ, List, [], ◌∷◌, map, sum_by, length, count_by, All, Ok, Bool, false, not, ◌==◌, IsTrue, if◌then◌else◌, true}
+use Rattle.std.specs.Prelude.{◌≡◌, ◌≤◌, ℕ, suc, pos, ◌+◌, ◌-◌, ℤ, List, [], ◌∷◌, map, sum_by, length}
+use Rattle.std.specs.Prelude.{count_by, All, Ok, Bool, false, not, ◌==◌, IsTrue, if◌then◌else◌, true}
 use Rattle.std.proofs.Common.{refl}
 use Rattle.jc_decode.specs.declared.insn.Insn.{Insn}
 use Rattle.jc_decode.specs.declared.symbols.Item.{Item}

@@ -21,13 +21,15 @@ module _ (w : Linked) (is : AreRules w) (m : Method) (p : ℕ) (old new : Found)
   still-closed closed = visited w is.order is.ready m (most_rises w.classes m) old new p v.goes.grown closed v.closed
 
 module _ (w : Linked) (order : IsOrderOfCells w.classes) (m : Method) (p : ℕ) (old new : Found) (v : IsVisited w m p (taken_up old p) new) where
-  pub still-started : At (state_at old.states) 0 (FrameBelow w.classes (start_frame m.rec Top)) → At (state_at new.states) 0 (FrameBelow w.classes (start_frame m.rec Top))
+  pub still-started : At (state_at old.states) 0 (FrameBelow w.classes (start_frame m.rec Top))
+      → At (state_at new.states) 0 (FrameBelow w.classes (start_frame m.rec Top))
   still-started start = at-grown w.classes order (most_rises w.classes m) (taken_up old p) new (start_frame m.rec Top) v.goes.grown 0 start
 
   pub still-less : IsPending old p → work w.classes (most_rises w.classes m) new < work w.classes (most_rises w.classes m) old
   still-less waits = let less = taken-less w.classes order (most_rises w.classes m) old p waits in omega (arith, v.goes.grown.less)
 
-pub least-found : (w : Linked) → AreRules w → (m : Method) → IsMethodOf w m → IsWellFormed m → (found end : Found) → end ≡ found → AreHeld w m found → AreClosed w m found → NonePending found
+pub least-found : (w : Linked) → AreRules w → (m : Method) → IsMethodOf w m → IsWellFormed m → (found end : Found) → end ≡ found
+    → AreHeld w m found → AreClosed w m found → NonePending found
     → At (state_at found.states) 0 (FrameBelow w.classes (start_frame m.rec Top)) → IsLeastTyping w m Top (state_at end.states)
 least-found w is m mo formed found end e held closed none start =
     subst (λ (x : Found). IsLeastTyping w m Top (state_at x.states)) (sym e) (settled-least w is m mo found formed held closed none start)
@@ -41,7 +43,8 @@ is-there None h = absurd (cc)
 is-there (Some f) h = (f, refl)
 
 -- the places with a frame are those that control reaches
-pub reached-are : (w : Linked) → AreRules w → (m : Method) → IsMethodOf w m → IsWellFormed m → (found end : Found) → end ≡ found → AreHeld w m found → AreClosed w m found → NonePending found
+pub reached-are : (w : Linked) → AreRules w → (m : Method) → IsMethodOf w m → IsWellFormed m → (found end : Found) → end ≡ found
+    → AreHeld w m found → AreClosed w m found → NonePending found
     → At (state_at found.states) 0 (FrameBelow w.classes (start_frame m.rec Top)) → AreReached m end.states
 reached-are w is m mo formed found end e held closed none start = subst (λ (x : Found). AreReached m x.states) (sym e) (λ p. (
   (λ h. found-reached w is m mo found formed held closed none start (is-there (state_at found.states p) h).1),
@@ -49,7 +52,8 @@ reached-are w is m mo formed found end e held closed none start = subst (λ (x :
 ))
 
 -- each frame has the method's registers
-pub registers-are : (w : Linked) → AreRules w → (m : Method) → IsMethodOf w m → (found end : Found) → end ≡ found → AreHeld w m found → HaveRegisters m end.states
+pub registers-are : (w : Linked) → AreRules w → (m : Method) → IsMethodOf w m → (found end : Found) → end ≡ found → AreHeld w m found
+    → HaveRegisters m end.states
 registers-are w is m mo found end e held = subst (λ (x : Found). HaveRegisters m x.states) (sym e) (λ p. at (state_at found.states p) p refl)
   where
     at : (o : Option Frame) (p : ℕ) → state_at found.states p ≡ o → IfSome o (λ f. length f.regs ≡ m.rec.nargs + m.rec.max_locals)
@@ -65,7 +69,8 @@ derived-are w m found end e held = subst (λ (x : Found). AreDerived w m x.state
     at (Some f) p h = (held.held p f h).derived
 
 -- and has known types
-pub known-are : (w : Linked) → AreRules w → (m : Method) → IsMethodOf w m → (found end : Found) → end ≡ found → AreHeld w m found → HaveKnownTypes w end.states
+pub known-are : (w : Linked) → AreRules w → (m : Method) → IsMethodOf w m → (found end : Found) → end ≡ found → AreHeld w m found
+    → HaveKnownTypes w end.states
 known-are w is m mo found end e held = subst (λ (x : Found). HaveKnownTypes w x.states) (sym e) (λ p. at (state_at found.states p) p refl)
   where
     at : (o : Option Frame) (p : ℕ) → state_at found.states p ≡ o → IfSome o (AreKnown w.classes)

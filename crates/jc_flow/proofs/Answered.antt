@@ -1,5 +1,6 @@
 -- What is answered for a method of the world.
-use Rattle.std.proofs.Common.{◌≡◌, ℕ, ◌<◌, ◌≤◌, List, length, Option, Some, option_map, IsSomeAnd, slice_get, sym, ◌∙◌, ap, subst, arith, length-take}
+use Rattle.std.proofs.Common.{◌≡◌, ℕ, ◌<◌, ◌≤◌, List, length, Option, Some, option_map, IsSomeAnd, slice_get, sym, ◌∙◌, ap, subst}
+use Rattle.std.proofs.Common.{arith, length-take}
 use Rattle.std.proofs.lemmas.Option.{slice_get_within, same_Some}
 use Rattle.jc_base.specs.declared.ty.Ty.TheVariants.{Top, Bottom}
 use Rattle.jc_base.specs.declared.record.MethodRec.{MethodRec}
@@ -28,7 +29,8 @@ use Rattle.jc_flow.proofs.Never.{none-where-fails, none-where-falls}
 pub number-below : {X : Type 0} (P : X → Type 0) (xs : List X) (n : ℕ) → IsSomeAnd (slice_get xs n) P → n < length xs
 number-below P xs n h = some_to P (n < length xs) (slice_get xs n) (λ x e p. slice_get_within xs n x e) h
 
-module _ (w : Linked) (n : ℕ) (rec : MethodRec) (code : List ℕ) (here : slice_get w.methods n ≡ Some rec) (bytes : option_map (code_of w.infos) (slice_get w.methods n) ≡ Some code) where
+module _ (w : Linked) (n : ℕ) (rec : MethodRec) (code : List ℕ) (here : slice_get w.methods n ≡ Some rec)
+    (bytes : option_map (code_of w.infos) (slice_get w.methods n) ≡ Some code) where
   own_code : code_of w.infos rec ≡ code
   own_code = same_Some _ _ (ap (option_map (code_of w.infos)) (sym here) ∙ bytes)
 
@@ -43,7 +45,8 @@ module _ (w : Linked) (n : ℕ) (rec : MethodRec) (code : List ℕ) (here : slic
 
   pub code-short : AreRules w → IsMethodOf w (record { number = n; rec = rec; code = code }) → length code ≤ 32767
   code-short is mo =
-      let most : rec.code_len ≤ 32767 = length-short (lacks_code w.classes rec) rec.code_len (of_world w is (record { number = n; rec = rec; code = code }) mo).code in
+      let most : rec.code_len ≤ 32767 = length-short (lacks_code w.classes rec) rec.code_len
+      (of_world w is (record { number = n; rec = rec; code = code }) mo).code in
       let size : length code ≡ _ = ap length mo.code ∙ length-take rec.code_len _ in
       omega arith
 
@@ -56,8 +59,10 @@ unformed-none decide w m (Flawed (flaws.BadTarget p t)) h = flaw-none decide w m
 unformed-none decide w m (Flawed (flaws.BadHandler p k)) h = flaw-none decide w m (flaws.BadHandler p k) h
 unformed-none decide w m NoControl h = tt
 
-pub none-unformed : FlawsDecide → (w : Linked) (o : Option Method) (end : ControlEnd) (r : FlowEnd) → r ≡ unformed_as end → IsSomeAnd o (λ m. TellsFlaw m end) → IsSomeAnd o (λ m. LacksTyping w m r)
-none-unformed decide w o end r e h = some_map (λ m. TellsFlaw m end) (λ m. LacksTyping w m r) o (λ m t. subst (LacksTyping w m) (sym e) (unformed-none decide w m end t)) h
+pub none-unformed : FlawsDecide → (w : Linked) (o : Option Method) (end : ControlEnd) (r : FlowEnd) → r ≡ unformed_as end
+    → IsSomeAnd o (λ m. TellsFlaw m end) → IsSomeAnd o (λ m. LacksTyping w m r)
+none-unformed decide w o end r e h =
+    some_map (λ m. TellsFlaw m end) (λ m. LacksTyping w m r) o (λ m t. subst (LacksTyping w m) (sym e) (unformed-none decide w m end t)) h
 
 pub none-failed : (w : Linked) → AreRules w → (m : Method) → IsMethodOf w m → (end : FlowEnd) → IsFailure w m end → LacksTyping w m end
 none-failed w is m mo (NoTyping p fault) h = none-where-fails w is m mo p fault h

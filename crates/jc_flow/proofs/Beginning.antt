@@ -1,5 +1,6 @@
 -- The begin of an analysis: an empty table, and the frame of the method's start.
-use Rattle.std.proofs.Common.{◌≡◌, ℕ, zero, suc, ◌⊎◌, inl, inr, false, length, replicate, Option, Some, None, IsSomeAnd, refl, sym, ◌∙◌, ap, subst, arith}
+use Rattle.std.proofs.Common.{◌≡◌, ℕ, zero, suc, ◌⊎◌, inl, inr, false, length, replicate, Option, Some, None, IsSomeAnd, refl, sym, ◌∙◌, ap}
+use Rattle.std.proofs.Common.{subst, arith}
 use Rattle.std.proofs.lemmas.List.{length-replicate}
 use Rattle.std.proofs.lemmas.Option.{none-some}
 use Rattle.std.proofs.lemmas.List.Elements.{All-nil}
@@ -56,6 +57,9 @@ module _ (w : Linked) (m : Method) where
   none-there P None e h = h
   none-there P (Some f) e h = none-some _ (sym e)
 
-  pub begin-failed : (old : Found) (f : Frame) (end : PutEnd) → old ≡ empty (length m.code) → Prevents w.classes old 0 f end → IsFailure w m (broken_at 0 end)
+  pub begin-failed : (old : Found) (f : Frame) (end : PutEnd) → old ≡ empty (length m.code) → Prevents w.classes old 0 f end
+      → IsFailure w m (broken_at 0 end)
   begin-failed old f Memory e h = tt
-  begin-failed old f Clash e h = absurd (none-there (λ g. Clashes w.classes g f) (state_at old.states 0) (ap (λ (x : Found). state_at x.states 0) e ∙ nothing-at (length m.code) 0) h)
+  begin-failed old f Clash e h =
+      absurd (none-there (λ g. Clashes w.classes g f) (state_at old.states 0) (ap (λ (x : Found). state_at x.states 0) e ∙ nothing-at (length m.code) 0)
+      h)

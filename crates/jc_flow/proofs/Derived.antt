@@ -1,5 +1,6 @@
 -- What holds of each derived frame, and that each flow typing is above it.
-use Rattle.std.proofs.Common.{◌≡◌, ℕ, ◌+◌, ◌<◌, Bool, true, false, if◌then◌else◌, [], ◌∷◌, ◌++◌, length, replicate, All, Option, Some, None, IsSomeAnd, refl, ◌∙◌, ap, subst, arith, length-append, length-take}
+use Rattle.std.proofs.Common.{◌≡◌, ℕ, ◌+◌, ◌<◌, Bool, true, false, if◌then◌else◌, [], ◌∷◌, ◌++◌, length, replicate, All, Option}
+use Rattle.std.proofs.Common.{Some, None, IsSomeAnd, refl, ◌∙◌, ap, subst, arith, length-append, length-take}
 use Rattle.std.specs.List.{Contains}
 use Rattle.std.proofs.lemmas.List.{length-replicate}
 use Rattle.std.proofs.lemmas.List.Elements.{All-append, All-contains, All-nil, All-cons, All-replicate}
@@ -21,7 +22,8 @@ use Rattle.jc_rules.specs.Demand.{Frame, AreKnown}
 use Rattle.jc_control.specs.Method.{Method, IsMethodOf}
 use Rattle.jc_control.specs.WellFormed.{HasInstruction}
 use Rattle.jc_control.specs.Control.{IsReached, begins, follows, caught}
-use Rattle.jc_rules.specs.Flow.{IsFit, FrameBelow, At, Merges, FlowSteps, start_frame, caught_frame, receiver_of, IsNotFresh, IsDerived, derived_start, derived_caught, derived_next, derived_joined, FlowTyping, IsFollowed}
+use Rattle.jc_rules.specs.Flow.{IsFit, FrameBelow, At, Merges, FlowSteps, start_frame, caught_frame, receiver_of, IsNotFresh, IsDerived, derived_start}
+use Rattle.jc_rules.specs.Flow.{derived_caught, derived_next, derived_joined, FlowTyping, IsFollowed}
 use Rattle.jc_rules.specs.Laws.{IsNotBottom, Keeps, FallsTo}
 use Rattle.jc_rules.proofs.Types.{declared-not_fresh}
 use Rattle.jc_flow.proofs.Steps.{site_of, at-site}
@@ -29,7 +31,8 @@ use Rattle.jc_flow.proofs.Frames.{frame-trans, join-least, join-length, join-all
 
 -- ---- elements
 
-pub some_both : {X : Type 0} (P Q R : X → Type 0) (o : Option X) → ((x : X) → o ≡ Some x → P x → Q x → R x) → IsSomeAnd o P → IsSomeAnd o Q → IsSomeAnd o R
+pub some_both : {X : Type 0} (P Q R : X → Type 0) (o : Option X) → ((x : X) → o ≡ Some x → P x → Q x → R x) → IsSomeAnd o P
+    → IsSomeAnd o Q → IsSomeAnd o R
 some_both P Q R None f p q = p
 some_both P Q R (Some x) f p q = f x refl p q
 
@@ -88,7 +91,13 @@ module _ (w : Linked) (is : AreRules w) (m : Method) (mo : IsMethodOf w m) where
   start-length : length (start_frame m.rec Top).regs ≡ m.rec.nargs + m.rec.max_locals
   start-length =
       length-append (receiver_of m.rec ++ m.rec.sig.args) (replicate m.rec.max_locals Top)
-      ∙ omega (arith, length-append (receiver_of m.rec) m.rec.sig.args, length-replicate m.rec.max_locals Top, receiver-length m.rec.is_static, of_world.words)
+      ∙ omega (
+        arith,
+        length-append (receiver_of m.rec) m.rec.sig.args,
+        length-replicate m.rec.max_locals Top,
+        receiver-length m.rec.is_static,
+        of_world.words,
+      )
 
   pub start-fine : IsFine (start_frame m.rec Top)
   start-fine = record {
@@ -157,7 +166,8 @@ module _ (w : Linked) (is : AreRules w) (m : Method) (mo : IsMethodOf w m) where
       pub followed : IsFollowed w m frames i greater
       pub fallen : FallsTo w (site_of m i.place) i.insn Flow f followed.after
 
-    pub followed-below : (i : Placed) (f : Frame) → IsFine f → IsReached m i.place → HasInstruction m.code i → At frames i.place (FrameBelow w.classes f) → Follows i f
+    pub followed-below : (i : Placed) (f : Frame) → IsFine f → IsReached m i.place → HasInstruction m.code i
+        → At frames i.place (FrameBelow w.classes f) → Follows i f
     followed-below i f fine reached st below =
         some_to (FrameBelow w.classes f) (Follows i f) (frames i.place)
         (λ g there le.
@@ -173,7 +183,9 @@ module _ (w : Linked) (is : AreRules w) (m : Method) (mo : IsMethodOf w m) where
 
     -- what the rule gives for the lesser frame is below what it gives for the greater one
     pub step-below : (i : Placed) (f g : Frame) → (s : Follows i f) → FlowSteps w m i f g → FrameBelow w.classes g s.followed.after
-    step-below i f g s steps = subst (λ x. FrameBelow w.classes x s.followed.after) ((is.decides (site_of m i.place) i.insn Flow f).one s.fallen.applies (at-site w m mo steps.1)) s.fallen.lower
+    step-below i f g s steps =
+        subst (λ x. FrameBelow w.classes x s.followed.after) ((is.decides (site_of m i.place) i.insn Flow f).one s.fallen.applies (at-site w m mo steps.1))
+        s.fallen.lower
 
     pub record IsUnder (p : ℕ) (f : Frame) : Type 0 where
       pub reached : IsReached m p
@@ -193,7 +205,9 @@ module _ (w : Linked) (is : AreRules w) (m : Method) (mo : IsMethodOf w m) where
         let follow = followed-below i f (derived-fine d) u.reached st u.below in
         record {
           reached = follows st u.reached to;
-          below = some_map (FrameBelow w.classes follow.followed.after) (FrameBelow w.classes g) (frames q) (λ k above. frame-trans w.classes is.order (step-below i f g follow s) above) (follow.followed.below q to);
+          below =
+              some_map (FrameBelow w.classes follow.followed.after) (FrameBelow w.classes g) (frames q)
+              (λ k above. frame-trans w.classes is.order (step-below i f g follow s) above) (follow.followed.below q to);
         }
     derived-under (derived_joined {p} {f} {g} {j} d e merges) =
         let u = derived-under d in
@@ -201,5 +215,6 @@ module _ (w : Linked) (is : AreRules w) (m : Method) (mo : IsMethodOf w m) where
         record {
           reached = u.reached;
           below = some_both (FrameBelow w.classes f) (FrameBelow w.classes g) (FrameBelow w.classes j) (frames p)
-              (λ k there a b. record { regs = join-least w.classes merges.regs a.regs b.regs; stack = join-least w.classes merges.stack a.stack b.stack }) u.below v.below;
+              (λ k there a b. record { regs = join-least w.classes merges.regs a.regs b.regs; stack = join-least w.classes merges.stack a.stack b.stack })
+              u.below v.below;
         }

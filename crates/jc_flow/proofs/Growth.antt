@@ -1,5 +1,6 @@
 -- How a table grows when a frame comes to a place.
-use Rattle.std.proofs.Common.{◌≡◌, ◌≢◌, ℕ, zero, suc, ◌<◌, ◌≤◌, ◌⊎◌, inl, inr, Bool, true, false, List, [], ◌∷◌, length, get_or, set, Option, Some, None, refl, sym, ◌∙◌, ap, subst, arith}
+use Rattle.std.proofs.Common.{◌≡◌, ◌≢◌, ℕ, zero, suc, ◌<◌, ◌≤◌, ◌⊎◌, inl, inr, Bool, true, false, List, [], ◌∷◌, length}
+use Rattle.std.proofs.Common.{get_or, set, Option, Some, None, refl, sym, ◌∙◌, ap, subst, arith}
 use Rattle.std.proofs.lemmas.List.{length-set, get_or-set_same, get_or-set_other}
 use Rattle.std.proofs.lemmas.List.Sums.{sum_by-set}
 use Rattle.jc_base.specs.Class.{ClassTable}
@@ -74,12 +75,15 @@ module _ (t : ClassTable) (order : IsOrderOfCells t) (most : ℕ) where
     less = omega arith;
   }
 
-  pub at-above : (old new : Found) (f : Frame) → ((p : ℕ) (f : Frame) → state_at old.states p ≡ Some f → At (state_at new.states) p (FrameBelow t f)) → (p : ℕ) → At (state_at old.states) p (FrameBelow t f) → At (state_at new.states) p (FrameBelow t f)
+  pub at-above : (old new : Found) (f : Frame)
+      → ((p : ℕ) (f : Frame) → state_at old.states p ≡ Some f → At (state_at new.states) p (FrameBelow t f)) → (p : ℕ)
+      → At (state_at old.states) p (FrameBelow t f) → At (state_at new.states) p (FrameBelow t f)
   at-above old new f above p h =
       some_to (FrameBelow t f) (At (state_at new.states) p (FrameBelow t f)) (state_at old.states p)
       (λ g e le. some_map (FrameBelow t g) (FrameBelow t f) (state_at new.states p) (λ k up. frame-trans t order le up) (above p g e)) h
 
-  pub at-grown : (old new : Found) (f : Frame) → Grown t most old new → (p : ℕ) → At (state_at old.states) p (FrameBelow t f) → At (state_at new.states) p (FrameBelow t f)
+  pub at-grown : (old new : Found) (f : Frame) → Grown t most old new → (p : ℕ) → At (state_at old.states) p (FrameBelow t f)
+      → At (state_at new.states) p (FrameBelow t f)
   at-grown old new f g p h = at-above old new f g.above p h
 
   pub grown-trans : {a b c : Found} → Grown t most a b → Grown t most b c → Grown t most a c
@@ -90,7 +94,8 @@ module _ (t : ClassTable) (order : IsOrderOfCells t) (most : ℕ) where
     less = omega (arith, g.less, h.less);
   }
     where
-      onward : (p : ℕ) → (state_at b.states p ≡ state_at a.states p) ⊎ IsPending b p → (state_at c.states p ≡ state_at b.states p) ⊎ IsPending c p → (state_at c.states p ≡ state_at a.states p) ⊎ IsPending c p
+      onward : (p : ℕ) → (state_at b.states p ≡ state_at a.states p) ⊎ IsPending b p → (state_at c.states p ≡ state_at b.states p)
+          ⊎ IsPending c p → (state_at c.states p ≡ state_at a.states p) ⊎ IsPending c p
       onward p d (inr k) = inr k
       onward p (inl d) (inl e) = inl (e ∙ d)
       onward p (inr k) (inl e) = inr (h.keeps p k)
@@ -101,17 +106,21 @@ module _ (t : ClassTable) (order : IsOrderOfCells t) (most : ℕ) where
 
   -- a greater frame is set at a place
   module _ (old : Found) (place : ℕ) (j : Frame) (inside : place < length old.states) (flag : place < length old.pending) where
-    set-work : (o : Option Frame) → state_at old.states place ≡ o → rises_of t j < rises_there t most o → work t most (with_state old place j) ≤ work t most old
+    set-work : (o : Option Frame) → state_at old.states place ≡ o → rises_of t j < rises_there t most o
+        → work t most (with_state old place j) ≤ work t most old
     set-work o e lt =
         let states = sum_by-set (rises_there t most) old.states place (Some j) None inside in
         let flags = sum_by-set one_if old.pending place true false flag in
-        let there : rises_there t most (get_or old.states place None) ≡ rises_there t most o = ap (rises_there t most) (sym (state_at-read old.states place None inside) ∙ e) in
+        let there : rises_there t most (get_or old.states place None) ≡ rises_there t most o = ap (rises_there t most)
+        (sym (state_at-read old.states place None inside) ∙ e) in
         omega arith
 
-    pub set-grown : (o : Option Frame) → state_at old.states place ≡ o → rises_of t j < rises_there t most o → ((g : Frame) → o ≡ Some g → FrameBelow t g j) → Grown t most old (with_state old place j)
+    pub set-grown : (o : Option Frame) → state_at old.states place ≡ o → rises_of t j < rises_there t most o
+        → ((g : Frame) → o ≡ Some g → FrameBelow t g j) → Grown t most old (with_state old place j)
     set-grown o e lt below = record {
       above = λ p f h. elim (same_or_not place p) [
-        | inl here ↦ subst (λ q. At (state_at (with_state old place j).states) q (FrameBelow t f)) (sym here) (IsSomeAnd-from (FrameBelow t f) _ _ (state_at-here old.states place j inside) (below f (sym e ∙ ap (state_at old.states) (sym here) ∙ h)))
+        | inl here ↦ subst (λ q. At (state_at (with_state old place j).states) q (FrameBelow t f)) (sym here)
+            (IsSomeAnd-from (FrameBelow t f) _ _ (state_at-here old.states place j inside) (below f (sym e ∙ ap (state_at old.states) (sym here) ∙ h)))
         | inr n ↦ IsSomeAnd-from (FrameBelow t f) _ _ (state_at-other old.states place p j n ∙ h) (frame-same t order f)
       ];
       stays = λ p. elim (same_or_not place p) [
@@ -128,20 +137,28 @@ module _ (t : ClassTable) (order : IsOrderOfCells t) (most : ℕ) where
   some-one : {g h : Frame} → ◌≡◌ {A = Option Frame} (Some g) (Some h) → g ≡ h
   some-one e = cc
 
-  pub lands-grown : {old new : Found} {place : ℕ} {f : Frame} → place < length old.states → place < length old.pending → rises_of t f < most → Lands t old place f new → Grown t most old new
+  pub lands-grown : {old new : Found} {place : ℕ} {f : Frame} → place < length old.states → place < length old.pending → rises_of t f < most
+      → Lands t old place f new → Grown t most old new
   lands-grown {old} {new} {place} {f} inside flag less (comes_first e is) =
       subst (Grown t most old) (sym is) (set-grown old place f inside flag None e less (λ g none. absurd (none-some none)))
   lands-grown {old} {new} {place} {f} inside flag less (stays g e merges is) = subst (Grown t most old) (sym is) (grown-same old)
   lands-grown {old} {new} {place} {f} inside flag less (rises g j e merges lt is) =
-      subst (Grown t most old) (sym is) (set-grown old place j inside flag (Some g) e lt (λ k same. subst (λ x. FrameBelow t x j) (some-one same) (record { regs = join-left t merges.regs; stack = join-left t merges.stack })))
+      subst (Grown t most old) (sym is)
+      (set-grown old place j inside flag (Some g) e lt
+      (λ k same. subst (λ x. FrameBelow t x j) (some-one same) (record { regs = join-left t merges.regs; stack = join-left t merges.stack })))
 
-  pub lands-above : {old new : Found} {place : ℕ} {f : Frame} → place < length old.states → Lands t old place f new → At (state_at new.states) place (FrameBelow t f)
+  pub lands-above : {old new : Found} {place : ℕ} {f : Frame} → place < length old.states → Lands t old place f new
+      → At (state_at new.states) place (FrameBelow t f)
   lands-above {old} {new} {place} {f} inside (comes_first e is) =
-      subst (λ x. At (state_at x.states) place (FrameBelow t f)) (sym is) (IsSomeAnd-from (FrameBelow t f) _ _ (state_at-here old.states place f inside) (frame-same t order f))
+      subst (λ x. At (state_at x.states) place (FrameBelow t f)) (sym is)
+      (IsSomeAnd-from (FrameBelow t f) _ _ (state_at-here old.states place f inside) (frame-same t order f))
   lands-above {old} {new} {place} {f} inside (stays g e merges is) =
-      subst (λ x. At (state_at x.states) place (FrameBelow t f)) (sym is) (IsSomeAnd-from (FrameBelow t f) _ _ e (record { regs = join-right t merges.regs; stack = join-right t merges.stack }))
+      subst (λ x. At (state_at x.states) place (FrameBelow t f)) (sym is)
+      (IsSomeAnd-from (FrameBelow t f) _ _ e (record { regs = join-right t merges.regs; stack = join-right t merges.stack }))
   lands-above {old} {new} {place} {f} inside (rises g j e merges lt is) =
-      subst (λ x. At (state_at x.states) place (FrameBelow t f)) (sym is) (IsSomeAnd-from (FrameBelow t f) _ _ (state_at-here old.states place j inside) (record { regs = join-right t merges.regs; stack = join-right t merges.stack }))
+      subst (λ x. At (state_at x.states) place (FrameBelow t f)) (sym is)
+      (IsSomeAnd-from (FrameBelow t f) _ _ (state_at-here old.states place j inside)
+      (record { regs = join-right t merges.regs; stack = join-right t merges.stack }))
 
   -- ---- a place is taken
 
@@ -163,12 +180,15 @@ module _ (w : Linked) (order : IsOrderOfCells w.classes) (ready_joins : JoinsSta
     ready = λ l. join-all w.classes IsNotFresh ready_joins merges.stack (a.ready l) (b.ready l);
   }
 
-  set-held : (old : Found) (place : ℕ) (j : Frame) → place < length old.states → AreHeld w m old → IsHeld w m place j → AreHeld w m (with_state old place j)
+  set-held : (old : Found) (place : ℕ) (j : Frame) → place < length old.states → AreHeld w m old → IsHeld w m place j
+      → AreHeld w m (with_state old place j)
   set-held old place j inside are_held h = record {
     places = length-set old.states place (Some j) ∙ are_held.places;
     flags = length-set old.pending place true ∙ are_held.flags;
     held = λ p f e. elim (same_or_not place p) [
-      | inl here ↦ subst (λ q. IsHeld w m q f) (sym here) (subst (IsHeld w m place) (one_there (sym (state_at-here old.states place j inside) ∙ ap (state_at (set old.states place (Some j))) (sym here) ∙ e)) h)
+      | inl here ↦ subst (λ q. IsHeld w m q f) (sym here)
+          (subst (IsHeld w m place)
+          (one_there (sym (state_at-here old.states place j inside) ∙ ap (state_at (set old.states place (Some j))) (sym here) ∙ e)) h)
       | inr n ↦ are_held.held p f (sym (state_at-other old.states place p j n) ∙ e)
     ];
   }
@@ -176,7 +196,8 @@ module _ (w : Linked) (order : IsOrderOfCells w.classes) (ready_joins : JoinsSta
       one_there : {g h : Frame} → ◌≡◌ {A = Option Frame} (Some g) (Some h) → g ≡ h
       one_there e = cc
 
-  pub lands-held : {old new : Found} {place : ℕ} {f : Frame} → place < length old.states → AreHeld w m old → IsHeld w m place f → Lands w.classes old place f new → AreHeld w m new
+  pub lands-held : {old new : Found} {place : ℕ} {f : Frame} → place < length old.states → AreHeld w m old → IsHeld w m place f
+      → Lands w.classes old place f new → AreHeld w m new
   lands-held {old} {new} {place} {f} inside are_held h (comes_first e is) = subst (AreHeld w m) (sym is) (set-held old place f inside are_held h)
   lands-held {old} {new} {place} {f} inside are_held h (stays g e merges is) = subst (AreHeld w m) (sym is) are_held
   lands-held {old} {new} {place} {f} inside are_held h (rises g j e merges lt is) =
@@ -187,10 +208,14 @@ module _ (w : Linked) (order : IsOrderOfCells w.classes) (ready_joins : JoinsSta
 
   -- ---- closed places
 
-  pub closed-raised : (old new : Found) (p : ℕ) (f : Frame) → ((q : ℕ) (g : Frame) → state_at old.states q ≡ Some g → At (state_at new.states) q (FrameBelow w.classes g)) → IsClosed w m old p f → IsClosed w m new p f
+  pub closed-raised : (old new : Found) (p : ℕ) (f : Frame)
+      → ((q : ℕ) (g : Frame) → state_at old.states q ≡ Some g → At (state_at new.states) q (FrameBelow w.classes g)) → IsClosed w m old p f
+      → IsClosed w m new p f
   closed-raised old new p f above c = record {
     handlers = λ h k cov. at-above w.classes order 0 old new (caught_frame h f) above h.entry (c.handlers h k cov);
-    rule = λ i st e. let r = c.rule i st e in record { after = r.after; steps = r.steps; below = λ q to. at-above w.classes order 0 old new r.after above q (r.below q to); ready = r.ready };
+    rule =
+        λ i st e. let r = c.rule i st e in
+        record { after = r.after; steps = r.steps; below = λ q to. at-above w.classes order 0 old new r.after above q (r.below q to); ready = r.ready };
     stays = c.stays;
   }
 

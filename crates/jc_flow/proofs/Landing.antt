@@ -1,5 +1,6 @@
 -- A frame comes to a place of the table.
-use Rattle.std.proofs.Common.{◌≡◌, ℕ, zero, suc, ◌<◌, ◌≤◌, Bool, true, List, [], ◌∷◌, length, get_or, set, Option, Some, None, IsSomeAnd, IfSome, is_some, refl, sym, ◌∙◌, ap, subst, arith}
+use Rattle.std.proofs.Common.{◌≡◌, ℕ, zero, suc, ◌<◌, ◌≤◌, Bool, true, List, [], ◌∷◌, length, get_or, set, Option, Some, None}
+use Rattle.std.proofs.Common.{IsSomeAnd, IfSome, is_some, refl, sym, ◌∙◌, ap, subst, arith}
 use Rattle.jc_base.specs.Class.{ClassTable}
 use Rattle.jc_rules.specs.Demand.{Frame}
 use Rattle.jc_rules.specs.declared.state.Merged.TheVariants.{Same, Risen, Clashing}
@@ -41,10 +42,13 @@ module _ (t : ClassTable) (states new : List (Option Frame)) (pending : List Boo
   pub lands_same : IsMergedAt t states p f new Same → Lands t (record { states = states; pending = pending }) p f (record { states = new; pending = pending })
   lands_same m =
       stays m.held m.there m.merged.0
-      (ap (λ (xs : List (Option Frame)). record { states = xs; pending = pending }) (m.set ∙ ap (λ (g : Frame). set states p (Some g)) m.merged.1 ∙ set-state states p m.held m.there))
+      (ap (λ (xs : List (Option Frame)). record { states = xs; pending = pending }) (m.set ∙ ap (λ (g : Frame). set states p (Some g)) m.merged.1
+      ∙ set-state states p m.held m.there))
 
-  pub lands_risen : IsMergedAt t states p f new Risen → Lands t (record { states = states; pending = pending }) p f (record { states = new; pending = set pending p true })
-  lands_risen m = rises m.held m.joined m.there m.merged.0 m.merged.1 (ap (λ (xs : List (Option Frame)). record { states = xs; pending = set pending p true }) m.set)
+  pub lands_risen : IsMergedAt t states p f new Risen → Lands t (record { states = states; pending = pending }) p f
+      (record { states = new; pending = set pending p true })
+  lands_risen m =
+      rises m.held m.joined m.there m.merged.0 m.merged.1 (ap (λ (xs : List (Option Frame)). record { states = xs; pending = set pending p true }) m.set)
 
   pub lands_not : IsMergedAt t states p f new Clashing → IsSomeAnd (state_at states p) (λ g. Clashes t g f)
   lands_not m = subst (λ (o : Option Frame). IsSomeAnd o (λ g. Clashes t g f)) (sym m.there) m.merged

@@ -1,5 +1,6 @@
 -- Where the instruction at the place of a frame leads: what it gives may stand there, or the place fails.
-use Rattle.std.proofs.Common.{◌≡◌, ℕ, ◌+◌, ◌<◌, ◌≤◌, inl, inr, Bool, true, false, List, [], ◌∷◌, length, All, IsTrue, refl, ◌∙◌, ap, subst, arith, if◌then◌else◌, map}
+use Rattle.std.proofs.Common.{◌≡◌, ℕ, ◌+◌, ◌<◌, ◌≤◌, inl, inr, Bool, true, false, List, [], ◌∷◌, length, All, IsTrue, refl}
+use Rattle.std.proofs.Common.{◌∙◌, ap, subst, arith, if◌then◌else◌, map}
 use Rattle.std.specs.Prelude.{ℤ, pos, negsuc, ◌≤ℤ◌, ◌<ℤ◌}
 use Rattle.std.specs.List.{Contains}
 use Rattle.std.proofs.lemmas.Int.{ints}
@@ -57,18 +58,21 @@ target-range code listed (pos p) h short =
 target-range code listed (negsuc n) h short = absurd h
 
 -- where the code goes on after an instruction one stands
-inside-code : (code : List ℕ) → ((i : Placed) → HasInstruction code i → IsBoundary code (i.place + i.insn.len)) → (i : Placed) → HasInstruction code i → i.place + i.insn.len < length code → IsPlace code (i.place + i.insn.len)
+inside-code : (code : List ℕ) → ((i : Placed) → HasInstruction code i → IsBoundary code (i.place + i.insn.len)) → (i : Placed)
+    → HasInstruction code i → i.place + i.insn.len < length code → IsPlace code (i.place + i.insn.len)
 inside-code code next i st lt = by (next i st)
   where
     by : IsBoundary code (i.place + i.insn.len) → IsPlace code (i.place + i.insn.len)
     by (inl end) = absurd (omega (arith, lt, end))
     by (inr place) = place
 
-module _ (w : Linked) (is : AreRules w) (m : Method) (mo : IsMethodOf w m) (formed : IsWellFormed m) (p : ℕ) (f g : Frame) (insn : Insn) (here : IsHeld w m p f) (st : HasStepped w m p f g insn) where
+module _ (w : Linked) (is : AreRules w) (m : Method) (mo : IsMethodOf w m) (formed : IsWellFormed m) (p : ℕ) (f g : Frame) (insn : Insn)
+    (here : IsHeld w m p f) (st : HasStepped w m p f g insn) where
   stands : HasInstruction m.code (record { place = p; insn = insn })
   stands = stands-here m.code (is.listed m.code) p here.place insn st.decodes
 
-  step-held : (q : ℕ) → IsSuccessor m.code (record { place = p; insn = insn }) q → IsPlace m.code q → (IsLeader m q → All IsNotFresh g.stack) → IsHeld w m q g
+  step-held : (q : ℕ) → IsSuccessor m.code (record { place = p; insn = insn }) q → IsPlace m.code q → (IsLeader m q → All IsNotFresh g.stack)
+      → IsHeld w m q g
   step-held q to place ready = record {
     derived = derived_next here.derived stands st.steps to;
     place = place;
@@ -78,15 +82,20 @@ module _ (w : Linked) (is : AreRules w) (m : Method) (mo : IsMethodOf w m) (form
   }
 
   pub next-held : IsTrue (falls insn.op) → (IsLeader m (p + insn.len) → All IsNotFresh g.stack) → IsHeld w m (p + insn.len) g
-  next-held on ready = step-held (p + insn.len) (falls_through on) (inside-code m.code (is.placed m formed).next (record { place = p; insn = insn }) stands (st.stays on)) ready
+  next-held on ready =
+      step-held (p + insn.len) (falls_through on) (inside-code m.code (is.placed m formed).next (record { place = p; insn = insn }) stands (st.stays on))
+      ready
 
   pub target-there : (t : ℤ) → Contains (targets m.code (record { place = p; insn = insn })) t → IsTargetPlace m.code t
-  target-there t c = All-contains (IsTargetPlace m.code) (targets m.code (record { place = p; insn = insn })) t (formed.targets (record { place = p; insn = insn }) stands) c
+  target-there t c =
+      All-contains (IsTargetPlace m.code) (targets m.code (record { place = p; insn = insn })) t (formed.targets (record { place = p; insn = insn }) stands)
+      c
 
   pub target-held : (q : ℕ) → Contains (targets m.code (record { place = p; insn = insn })) (pos q) → IsHeld w m q g
   target-held q c = step-held q (jumped c) (target-there (pos q) c) (λ l. st.ready (targets-jump m.code (record { place = p; insn = insn }) (pos q) c))
 
-  pub target-ranges : (t : ℤ) → length m.code ≤ 32767 → Contains (targets m.code (record { place = p; insn = insn })) t → (pos 0 ≤ℤ t) × (t <ℤ pos 65536)
+  pub target-ranges : (t : ℤ) → length m.code ≤ 32767 → Contains (targets m.code (record { place = p; insn = insn })) t → (pos 0 ≤ℤ t)
+      × (t <ℤ pos 65536)
   target-ranges t short c = target-range m.code (is.listed m.code) t (target-there t c) short
 
   pub caught-held : (h : Handler) → Contains m.rec.handlers h → Covers h p → ¬ (m.rec.max_stack ≡ 0) → IsHeld w m h.entry (caught_frame h f)
@@ -101,19 +110,32 @@ module _ (w : Linked) (is : AreRules w) (m : Method) (mo : IsMethodOf w m) (form
   -- ---- where it fails
 
   pub next-fresh : IsTrue (falls insn.op) → IsLeader m (p + insn.len) → ¬ (All IsNotFresh g.stack) → FailsAt w m p FreshKept
-  next-fresh on l n = record { frame = f; derived = here.derived; fails = fails_leader (record { place = p; insn = insn }) g (p + insn.len) stands refl st.steps (falls_through on) l n }
+  next-fresh on l n =
+      record {
+        frame = f;
+        derived = here.derived;
+        fails = fails_leader (record { place = p; insn = insn }) g (p + insn.len) stands refl st.steps
+            (falls_through on) l n;
+      }
 
   pub no-room : (h : Handler) → Contains m.rec.handlers h → Covers h p → m.rec.max_stack ≡ 0 → FailsAt w m p Overflow
   no-room h c cov e = record { frame = f; derived = here.derived; fails = fails_handler h c cov e }
 
   module _ (found : Found) (held : AreHeld w m found) where
-    pub edge-broken : (q : ℕ) → IsSuccessor m.code (record { place = p; insn = insn }) q → (end : PutEnd) → Prevents w.classes found q g end → IsFailure w m (broken_at p end)
+    pub edge-broken : (q : ℕ) → IsSuccessor m.code (record { place = p; insn = insn }) q → (end : PutEnd) → Prevents w.classes found q g end
+        → IsFailure w m (broken_at p end)
     edge-broken q to Memory h = tt
     edge-broken q to Clash h =
         some_to (λ e. Clashes w.classes e g) (FailsAt w m p StackMerge) (state_at found.states q)
-        (λ e at clash. record { frame = f; derived = here.derived; fails = fails_merge (record { place = p; insn = insn }) g e q stands refl st.steps to (held.held q e at).derived clash }) h
+        (λ e at clash. record {
+          frame = f;
+          derived = here.derived;
+          fails = fails_merge (record { place = p; insn = insn }) g e q stands refl st.steps to
+              (held.held q e at).derived clash;
+        }) h
 
-    pub caught-broken : (h : Handler) → Contains m.rec.handlers h → Covers h p → (end : PutEnd) → Prevents w.classes found h.entry (caught_frame h f) end → IsFailure w m (broken_at p end)
+    pub caught-broken : (h : Handler) → Contains m.rec.handlers h → Covers h p → (end : PutEnd)
+        → Prevents w.classes found h.entry (caught_frame h f) end → IsFailure w m (broken_at p end)
     caught-broken h c cov Memory k = tt
     caught-broken h c cov Clash k =
         some_to (λ e. Clashes w.classes e (caught_frame h f)) (FailsAt w m p StackMerge) (state_at found.states h.entry)

@@ -27,7 +27,8 @@ bounded a b n c k e le =
     let less : b * k ≤ c * k = mul-le-mul_right k le in
     omega arith
 
-pub frame-rises : (t : ClassTable) → IsOrderOfTypes t → (m : Method) (f : Frame) → length f.regs ≡ m.rec.nargs + m.rec.max_locals → length f.stack ≤ m.rec.max_stack → rises_of t f < most_rises t m
+pub frame-rises : (t : ClassTable) → IsOrderOfTypes t → (m : Method) (f : Frame) → length f.regs ≡ m.rec.nargs + m.rec.max_locals
+    → length f.stack ≤ m.rec.max_stack → rises_of t f < most_rises t m
 frame-rises t order m f e le =
     let regs = cells-rise t order f.regs in
     let stack = cells-rise t order f.stack in

@@ -26,14 +26,18 @@ use Rattle.jc_flow.proofs.Derived.{derived-fine, derived-under, followed-below, 
 use Rattle.jc_flow.specs.Fails.{Fails, fails_rule, fails_jump, fails_leader, fails_merge, fails_caught, fails_handler, FailsAt, FallsPast}
 
 -- frames below one without Top do not clash
-clash-never : (t : ClassTable) → IsOrderOfTypes t → IsOrderOfCells t → (a b u : Frame) → All IsNotTop u.stack → FrameBelow t a u → FrameBelow t b u → Clashes t a b → ⊥
+clash-never : (t : ClassTable) → IsOrderOfTypes t → IsOrderOfCells t → (a b u : Frame) → All IsNotTop u.stack → FrameBelow t a u
+    → FrameBelow t b u → Clashes t a b → ⊥
 clash-never t are order a b u none p q (depths n) = n (order.lengths p.stack ∙ sym (order.lengths q.stack))
 clash-never t are order a b u none p q (cells {joined} j n) = n (cells-fall t IsNotTop IsNotTop (topless-falls t are) (join-least t j p.stack q.stack) none)
 
 -- a branch or switch of a well-formed method has a target in the code
-jump-leads : (code : List ℕ) (i : Placed) → All (IsTargetPlace code) (targets code i) → IsTrue (jumps i.insn.op) → (q : ℕ) × Contains (targets code i) (pos q)
+jump-leads : (code : List ℕ) (i : Placed) → All (IsTargetPlace code) (targets code i) → IsTrue (jumps i.insn.op) → (q : ℕ)
+    × Contains (targets code i) (pos q)
 unfolding targets
-jump-leads code i places j = by (target i.place i.insn.x) (All-head (IsTargetPlace code) (target i.place i.insn.x) (map (λ c. target i.place c.offset) (cases code i.place i.insn)) (subst (All (IsTargetPlace code)) listed places)) refl
+jump-leads code i places j =
+    by (target i.place i.insn.x) (All-head (IsTargetPlace code) (target i.place i.insn.x) (map (λ c. target i.place c.offset) (cases code i.place i.insn))
+    (subst (All (IsTargetPlace code)) listed places)) refl
   where
     listed : targets code i ≡ target i.place i.insn.x ∷ map (λ c. target i.place c.offset) (cases code i.place i.insn)
     listed = rw j refl
@@ -69,7 +73,8 @@ module _ (w : Linked) (is : AreRules w) (m : Method) (mo : IsMethodOf w m) (fram
   at-instruction i p f e d = subst (λ q. IsDerived w m Top q f) (sym e) d
 
   -- what the rule gives is below what stands at each target, so it has no Top under the operands of a branch
-  after-topless : (i : Placed) → (f : Frame) → (d : IsDerived w m Top i.place f) → HasInstruction m.code i → (s : Follows w is m mo frames ty i f) → IsTrue (jumps i.insn.op) → All IsNotTop s.followed.after.stack
+  after-topless : (i : Placed) → (f : Frame) → (d : IsDerived w m Top i.place f) → HasInstruction m.code i → (s : Follows w is m mo frames ty i f)
+      → IsTrue (jumps i.insn.op) → All IsNotTop s.followed.after.stack
   after-topless i f d st s j =
       let to = jump-leads m.code i (ty.formed.targets i st) j in
       let u = derived-under w is m mo frames ty d in
@@ -79,12 +84,14 @@ module _ (w : Linked) (is : AreRules w) (m : Method) (mo : IsMethodOf w m) (fram
       (s.followed.below to.0 (jumped to.1))
 
   no-fresh : (g u : Frame) → FrameBelow w.classes g u → All IsNotFresh u.stack → All IsNotTop u.stack → All IsNotFresh g.stack
-  no-fresh g u le ready topless = cells-fall w.classes IsNotFresh IsReady (ready-falls w.classes is.types) le.stack (both IsNotFresh IsNotTop u.stack ready topless)
+  no-fresh g u le ready topless =
+      cells-fall w.classes IsNotFresh IsReady (ready-falls w.classes is.types) le.stack (both IsNotFresh IsNotTop u.stack ready topless)
 
   pub fails-never : (p : ℕ) (f : Frame) (fault : RuleFault) → IsDerived w m Top p f → Fails w m p f fault → ⊥
   fails-never p f fault d (fails_rule i st e r) =
       let s = follow i f (at-instruction i p f e d) st in
-      (is.decides (site_of m i.place) i.insn Flow f).never_both s.fallen.applies (refuses-at-site w m mo (subst (λ q. RuleRefuses w m.rec q i.insn f fault) (sym e) r))
+      (is.decides (site_of m i.place) i.insn Flow f).never_both s.fallen.applies
+      (refuses-at-site w m mo (subst (λ q. RuleRefuses w m.rec q i.insn f fault) (sym e) r))
   fails-never p f fault d (fails_jump i g st e steps j n) =
       let here = at-instruction i p f e d in
       let s = follow i f here st in

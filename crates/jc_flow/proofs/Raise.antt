@@ -1,5 +1,6 @@
 -- A frame that may stand at a place can be put there, and the table grows.
-use Rattle.std.proofs.Common.{◌≡◌, ℕ, ◌<◌, length, All, Option, Some, None, IfSome, Result, Ok, Err, MatchResult, refl, sym, ◌∙◌, subst, arith}
+use Rattle.std.proofs.Common.{◌≡◌, ℕ, ◌<◌, length, All, Option, Some, None, IfSome, Result, Ok, Err, MatchResult, refl, sym, ◌∙◌, subst}
+use Rattle.std.proofs.Common.{arith}
 use Rattle.jc_base.specs.Order.{IsKnown}
 use Rattle.jc_base.specs.World.{Linked}
 use Rattle.jc_rules.specs.FlowLaws.{AreRules}
@@ -44,12 +45,16 @@ module _ (w : Linked) (is : AreRules w) (m : Method) (mo : IsMethodOf w m) where
     pub raised : (new : Found) → Lands w.classes found to f new → Raised w m found new to f
     raised new lands = record {
       goes = record {
-        grown = lands-grown w.classes is.order _ place-there flag-there (frame-rises w.classes is.types m f (derived-fine w is m mo h.derived).count h.room) lands;
+        grown =
+            lands-grown w.classes is.order _ place-there flag-there (frame-rises w.classes is.types m f (derived-fine w is m mo h.derived).count h.room)
+            lands;
         held = lands-held w is.order is.ready m place-there held h lands;
       };
       above = lands-above w.classes is.order 0 place-there lands;
     }
 
-    pub raise-result : (t : ClassTable) (new : Found) (r : Result (Unit {0}) PutEnd) → t ≡ w.classes → MatchResult r (λ _. Lands t found to f new) (Prevents t found to f) → MatchResult r (λ _. Raised w m found new to f) (Prevents w.classes found to f)
+    pub raise-result : (t : ClassTable) (new : Found) (r : Result (Unit {0}) PutEnd) → t ≡ w.classes
+        → MatchResult r (λ _. Lands t found to f new) (Prevents t found to f)
+        → MatchResult r (λ _. Raised w m found new to f) (Prevents w.classes found to f)
     raise-result t new (Ok x) e h = raised new (subst (λ c. Lands c found to f new) e h)
     raise-result t new (Err end) e h = subst (λ c. Prevents c found to f end) e h

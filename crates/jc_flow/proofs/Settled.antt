@@ -15,7 +15,8 @@ use Rattle.jc_flow.specs.Found.{Found, IsPending, NonePending}
 use Rattle.jc_flow.specs.Progress.{IsHeld, AreHeld, IsClosed, AreClosed}
 use Rattle.jc_flow.proofs.Derived.{some_to, derived-fine, derived-under}
 
-module _ (w : Linked) (is : AreRules w) (m : Method) (mo : IsMethodOf w m) (found : Found) (formed : IsWellFormed m) (held : AreHeld w m found) (closed : AreClosed w m found) (none : NonePending found) (start : At (state_at found.states) 0 (FrameBelow w.classes (start_frame m.rec Top))) where
+module _ (w : Linked) (is : AreRules w) (m : Method) (mo : IsMethodOf w m) (found : Found) (formed : IsWellFormed m) (held : AreHeld w m found)
+    (closed : AreClosed w m found) (none : NonePending found) (start : At (state_at found.states) 0 (FrameBelow w.classes (start_frame m.rec Top))) where
   is_closed : (p : ℕ) (f : Frame) → state_at found.states p ≡ Some f → IsClosed w m found p f
   is_closed p f e = by (closed p f e)
     where
@@ -25,14 +26,18 @@ module _ (w : Linked) (is : AreRules w) (m : Method) (mo : IsMethodOf w m) (foun
 
   -- each reached place has a frame
   pub reached-found : {p : ℕ} → IsReached m p → (f : Frame) × (state_at found.states p ≡ Some f)
-  reached-found begins = some_to (FrameBelow w.classes (start_frame m.rec Top)) ((f : Frame) × (state_at found.states 0 ≡ Some f)) (state_at found.states 0) (λ f e le. (f, e)) start
+  reached-found begins =
+      some_to (FrameBelow w.classes (start_frame m.rec Top)) ((f : Frame) × (state_at found.states 0 ≡ Some f)) (state_at found.states 0)
+      (λ f e le. (f, e)) start
   reached-found (follows {i} {q} st r to) =
       let here = reached-found r in
       let rule : IsFollowed w m (state_at found.states) i here.0 = (is_closed i.place here.0 here.1).rule i st refl in
-      some_to (FrameBelow w.classes rule.after) ((f : Frame) × (state_at found.states q ≡ Some f)) (state_at found.states q) (λ f e le. (f, e)) (rule.below q to)
+      some_to (FrameBelow w.classes rule.after) ((f : Frame) × (state_at found.states q ≡ Some f)) (state_at found.states q) (λ f e le. (f, e))
+      (rule.below q to)
   reached-found (caught {h} {p} r c cov) =
       let here = reached-found r in
-      some_to (FrameBelow w.classes (caught_frame h here.0)) ((f : Frame) × (state_at found.states h.entry ≡ Some f)) (state_at found.states h.entry) (λ f e le. (f, e)) ((is_closed p here.0 here.1).handlers h c cov)
+      some_to (FrameBelow w.classes (caught_frame h here.0)) ((f : Frame) × (state_at found.states h.entry ≡ Some f)) (state_at found.states h.entry)
+      (λ f e le. (f, e)) ((is_closed p here.0 here.1).handlers h c cov)
 
   pub settled-typing : FlowTyping w m Top (state_at found.states)
   settled-typing = record {
@@ -42,11 +47,16 @@ module _ (w : Linked) (is : AreRules w) (m : Method) (mo : IsMethodOf w m) (foun
         let h : IsHeld w m p here.0 = held.held p here.0 here.1 in
         let fine = derived-fine w is m mo h.derived in
         IsSomeAnd-from (IsFit m) _ _ here.1 (record { room = h.room; no_top = h.no_top; no_fresh = fine.no_fresh });
-    rules = λ i st r. let here = reached-found r in IsSomeAnd-from (IsFollowed w m (state_at found.states) i) _ _ here.1 ((is_closed i.place here.0 here.1).rule i st refl);
+    rules =
+        λ i st r. let here = reached-found r in IsSomeAnd-from (IsFollowed w m (state_at found.states) i) _ _ here.1
+        ((is_closed i.place here.0 here.1).rule i st refl);
     stays = λ i st r falls. let here = reached-found r in (is_closed i.place here.0 here.1).stays i st refl falls;
     handlers = λ p h r c cov. let here = reached-found r in
-        IsSomeAnd-from (λ f. At (state_at found.states) h.entry (FrameBelow w.classes (caught_frame h f))) _ _ here.1 ((is_closed p here.0 here.1).handlers h c cov);
-    leaders = λ q l. let here = reached-found (leader-reached m q l) in IsSomeAnd-from (λ f. All IsNotFresh f.stack) _ _ here.1 ((held.held q here.0 here.1).ready l);
+        IsSomeAnd-from (λ f. At (state_at found.states) h.entry (FrameBelow w.classes (caught_frame h f))) _ _ here.1
+        ((is_closed p here.0 here.1).handlers h c cov);
+    leaders =
+        λ q l. let here = reached-found (leader-reached m q l) in IsSomeAnd-from (λ f. All IsNotFresh f.stack) _ _ here.1
+        ((held.held q here.0 here.1).ready l);
   }
 
   pub settled-least : IsLeastTyping w m Top (state_at found.states)

@@ -64,12 +64,21 @@ module _ (code : List ℕ) (listed : AreListed code) (p : ℕ) (here : IsPlace c
 
 module _ (w : Linked) (m : Method) (listed : AreListed m.code) (p : ℕ) (f : Frame) (h : IsHeld w m p f) (insn : Insn) (d : decoded m.code p ≡ Ok insn) where
   pub fail-rule : (fault : RuleFault) → RuleRefuses w m.rec p insn f fault → FailsAt w m p fault
-  fail-rule fault r = record { frame = f; derived = h.derived; fails = fails_rule (record { place = p; insn = insn }) (stands-here m.code listed p h.place insn d) refl r }
+  fail-rule fault r =
+      record { frame = f; derived = h.derived; fails = fails_rule (record { place = p; insn = insn }) (stands-here m.code listed p h.place insn d) refl r }
 
-  pub fail-jump : (g : Frame) → FlowSteps w m (record { place = p; insn = insn }) f g → IsTrue (jumps insn.op) → ¬ (All IsNotFresh g.stack) → FailsAt w m p FreshKept
-  fail-jump g s j n = record { frame = f; derived = h.derived; fails = fails_jump (record { place = p; insn = insn }) g (stands-here m.code listed p h.place insn d) refl s j n }
+  pub fail-jump : (g : Frame) → FlowSteps w m (record { place = p; insn = insn }) f g → IsTrue (jumps insn.op) → ¬ (All IsNotFresh g.stack)
+      → FailsAt w m p FreshKept
+  fail-jump g s j n =
+      record {
+        frame = f;
+        derived = h.derived;
+        fails = fails_jump (record { place = p; insn = insn }) g (stands-here m.code listed p h.place insn d) refl s
+            j n;
+      }
 
-  pub fall-past : (g : Frame) → FlowSteps w m (record { place = p; insn = insn }) f g → (IsTrue (jumps insn.op) → All IsNotFresh g.stack) → IsTrue (falls insn.op) → length m.code ≤ p + insn.len → FallsPast w m p
+  pub fall-past : (g : Frame) → FlowSteps w m (record { place = p; insn = insn }) f g → (IsTrue (jumps insn.op) → All IsNotFresh g.stack)
+      → IsTrue (falls insn.op) → length m.code ≤ p + insn.len → FallsPast w m p
   fall-past g s ready on past = record {
     frame = f;
     derived = h.derived;

@@ -1,5 +1,6 @@
 -- The visit of a place closes it.
-use Rattle.std.proofs.Common.{◌≡◌, ℕ, ◌+◌, ◌<◌, ◌≤◌, List, length, get_or, take, All, IsTrue, Option, Some, sym, ◌∙◌, ap, subst, arith}
+use Rattle.std.proofs.Common.{◌≡◌, ℕ, ◌+◌, ◌<◌, ◌≤◌, List, length, get_or, take, All, IsTrue, Option, Some, sym, ◌∙◌, ap, subst}
+use Rattle.std.proofs.Common.{arith}
 use Rattle.std.specs.Prelude.{ℤ, pos, negsuc, Contains}
 use Rattle.std.proofs.lemmas.List.{take_all}
 use Rattle.std.proofs.lemmas.List.Elements.{All-more, All-contains}
@@ -28,7 +29,8 @@ module _ (w : Linked) (order : IsOrderOfCells w.classes) (m : Method) where
   pub goes-on : (a b c : Found) → Goes w m a b → Goes w m b c → Goes w m a c
   goes-on a b c g h = record { grown = grown-trans w.classes order (most_rises w.classes m) g.grown h.grown; held = h.held }
 
-  pub goes-above : (a b : Found) (f : Frame) → Goes w m a b → (q : ℕ) → At (state_at a.states) q (FrameBelow w.classes f) → At (state_at b.states) q (FrameBelow w.classes f)
+  pub goes-above : (a b : Found) (f : Frame) → Goes w m a b → (q : ℕ) → At (state_at a.states) q (FrameBelow w.classes f)
+      → At (state_at b.states) q (FrameBelow w.classes f)
   goes-above a b f g q h = at-grown w.classes order (most_rises w.classes m) a b f g.grown q h
 
   -- ---- handlers
@@ -37,10 +39,12 @@ module _ (w : Linked) (order : IsOrderOfCells w.classes) (m : Method) where
     pub caught-on : (hs : List Handler) → All (CaughtIsBelow w p f old) hs → All (CaughtIsBelow w p f new) hs
     caught-on hs all k d lt cov = goes-above old new (caught_frame (get_or hs k d) f) goes (get_or hs k d).entry (all k d lt cov)
 
-    pub caught-more : (hs : List Handler) (k : ℕ) (d : Handler) → k < length hs → All (CaughtIsBelow w p f old) (take k hs) → CaughtIsBelow w p f new (get_or hs k d) → All (CaughtIsBelow w p f new) (take (k + 1) hs)
+    pub caught-more : (hs : List Handler) (k : ℕ) (d : Handler) → k < length hs → All (CaughtIsBelow w p f old) (take k hs)
+        → CaughtIsBelow w p f new (get_or hs k d) → All (CaughtIsBelow w p f new) (take (k + 1) hs)
     caught-more hs k d lt all one = All-more (CaughtIsBelow w p f new) hs k d lt (caught-on (take k hs) all) one
 
-  pub caught-all : (p : ℕ) (f : Frame) (found : Found) (hs items : List Handler) (k : ℕ) → items ≡ hs → length items ≤ k → All (CaughtIsBelow w p f found) (take k items) → All (CaughtIsBelow w p f found) hs
+  pub caught-all : (p : ℕ) (f : Frame) (found : Found) (hs items : List Handler) (k : ℕ) → items ≡ hs → length items ≤ k
+      → All (CaughtIsBelow w p f found) (take k items) → All (CaughtIsBelow w p f found) hs
   caught-all p f found hs items k e le all = subst (All (CaughtIsBelow w p f found)) (take_all k items le ∙ e) all
 
   -- ---- targets
@@ -70,10 +74,12 @@ module _ (w : Linked) (is : AreRules w) (m : Method) (mo : IsMethodOf w m) (p : 
   pub held-loaded : (s n : Scratched) → n ≡ record { frame = f; room = s.room } → IsHeld w m p n.frame
   held-loaded s n e = subst (IsHeld w m p) (sym (ap (λ (x : Scratched). x.frame) e)) here
 
-  pub step-loaded : (a old_a : Scratched) (g : Frame) (insn : Insn) → a ≡ record { frame = f; room = old_a.room } → HasStepped w m p a.frame g insn → HasStepped w m p f g insn
+  pub step-loaded : (a old_a : Scratched) (g : Frame) (insn : Insn) → a ≡ record { frame = f; room = old_a.room } → HasStepped w m p a.frame g insn
+      → HasStepped w m p f g insn
   step-loaded a old_a g insn ea st = subst (λ x. HasStepped w m p x g insn) (ap (λ (x : Scratched). x.frame) ea) st
 
-  pub is-step : (s : FlowStep) (b a old_a : Scratched) → s.place ≡ p → s.before.now ≡ b → (0 < length m.rec.handlers → b.frame ≡ f) → a ≡ record { frame = f; room = old_a.room } → HasStepped w m p a.frame s.after.now.frame s.insn → IsStep w m s
+  pub is-step : (s : FlowStep) (b a old_a : Scratched) → s.place ≡ p → s.before.now ≡ b → (0 < length m.rec.handlers → b.frame ≡ f)
+      → a ≡ record { frame = f; room = old_a.room } → HasStepped w m p a.frame s.after.now.frame s.insn → IsStep w m s
   is-step s b a old_a place now kept ea st = record {
     from = f;
     here = subst (λ q. IsHeld w m q f) (sym place) here;
@@ -82,7 +88,8 @@ module _ (w : Linked) (is : AreRules w) (m : Method) (mo : IsMethodOf w m) (p : 
   }
 
 -- what the handlers catch of the frame that is kept is what they catch of the state's
-pub caught-kept : (w : Linked) (m : Method) (p : ℕ) (f b : Frame) (found : Found) → (0 < length m.rec.handlers → b ≡ f) → All (CaughtIsBelow w p b found) m.rec.handlers → All (CaughtIsBelow w p f found) m.rec.handlers
+pub caught-kept : (w : Linked) (m : Method) (p : ℕ) (f b : Frame) (found : Found) → (0 < length m.rec.handlers → b ≡ f)
+    → All (CaughtIsBelow w p b found) m.rec.handlers → All (CaughtIsBelow w p f found) m.rec.handlers
 caught-kept w m p f b found kept all k d lt = subst (λ x. CaughtIsBelow w p x found (get_or m.rec.handlers k d)) (kept (omega (arith, lt))) (all k d lt)
 
 -- where there is a handler, the frame that is kept is the one of the step
@@ -98,17 +105,23 @@ module _ (w : Linked) (m : Method) (s : FlowStep) (is : IsStep w m s) (h : Handl
 
 -- ---- a visit
 
-module _ (w : Linked) (is : AreRules w) (m : Method) (t0 t1 t2 t3 : Found) (p : ℕ) (f g : Frame) (insn : Insn) (here : IsHeld w m p f) (stepped : HasStepped w m p f g insn) (g1 : Goes w m t0 t1) (g2 : Goes w m t1 t2) (g3 : Goes w m t2 t3) (caught : All (CaughtIsBelow w p f t1) m.rec.handlers) (on : IsTrue (falls insn.op) → At (state_at t2.states) (p + insn.len) (FrameBelow w.classes g)) (reached : All (IsAtTarget w g t3) (targets m.code (record { place = p; insn = insn }))) where
+module _ (w : Linked) (is : AreRules w) (m : Method) (t0 t1 t2 t3 : Found) (p : ℕ) (f g : Frame) (insn : Insn) (here : IsHeld w m p f)
+    (stepped : HasStepped w m p f g insn) (g1 : Goes w m t0 t1) (g2 : Goes w m t1 t2) (g3 : Goes w m t2 t3)
+    (caught : All (CaughtIsBelow w p f t1) m.rec.handlers) (on : IsTrue (falls insn.op) → At (state_at t2.states) (p + insn.len) (FrameBelow w.classes g))
+    (reached : All (IsAtTarget w g t3) (targets m.code (record { place = p; insn = insn }))) where
   to-successor : (q : ℕ) → IsSuccessor m.code (record { place = p; insn = insn }) q → At (state_at t3.states) q (FrameBelow w.classes g)
   to-successor q (falls_through falls_on) = goes-above w is.order m t2 t3 g g3 q (on falls_on)
   to-successor q (jumped c) = All-contains (IsAtTarget w g t3) (targets m.code (record { place = p; insn = insn })) (pos q) reached c
 
   same-instruction : (i : Placed) → HasInstruction m.code i → i.place ≡ p → record { place = p; insn = insn } ≡ i
-  same-instruction i st e = (is.listed m.code).one (record { place = p; insn = insn }) i (stands-here m.code (is.listed m.code) p here.place insn stepped.decodes) st (sym e)
+  same-instruction i st e =
+      (is.listed m.code).one (record { place = p; insn = insn }) i (stands-here m.code (is.listed m.code) p here.place insn stepped.decodes) st (sym e)
 
   visit-closed : IsClosed w m t3 p f
   visit-closed = record {
-    handlers = λ h c cov. goes-above w is.order m t1 t3 (caught_frame h f) (goes-on w is.order m t1 t2 t3 g2 g3) h.entry (All-contains (CaughtIsBelow w p f t1) m.rec.handlers h caught c cov);
+    handlers =
+        λ h c cov. goes-above w is.order m t1 t3 (caught_frame h f) (goes-on w is.order m t1 t2 t3 g2 g3) h.entry
+        (All-contains (CaughtIsBelow w p f t1) m.rec.handlers h caught c cov);
     rule = λ i st e. subst (λ j. IsFollowed w m (state_at t3.states) j f) (same-instruction i st e)
         (record { after = g; steps = stepped.steps; below = to-successor; ready = stepped.ready });
     stays = λ i st e. subst (λ j. IsTrue (falls j.insn.op) → j.place + j.insn.len < length m.code) (same-instruction i st e) stepped.stays;

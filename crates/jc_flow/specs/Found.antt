@@ -1,5 +1,6 @@
 -- What a dataflow analysis has found so far (Leroy 2002, section 2.3: Kildall's algorithm over a list of places that wait).
-use Rattle.std.specs.Prelude.{◌≡◌, ℕ, ◌<◌, ◌≤◌, Bool, true, false, List, length, All, Option, Some, None, slice_index_or, slice_set, IsSomeAnd, ⊤}
+use Rattle.std.specs.Prelude.{◌≡◌, ℕ, ◌<◌, ◌≤◌, Bool, true, false, List, length, All, Option, Some, None, slice_index_or}
+use Rattle.std.specs.Prelude.{slice_set, IsSomeAnd, ⊤}
 use Rattle.jc_base.specs.Class.{ClassTable}
 use Rattle.jc_base.specs.Order.{IsKnown}
 use Rattle.jc_rules.specs.Demand.{Frame}

@@ -1,5 +1,6 @@
 -- What a dataflow analysis keeps while it goes on, and what makes it end (Leroy 2002, section 2.3).
-use Rattle.std.specs.Prelude.{◌≡◌, ℕ, ◌+◌, ◌*◌, ◌<◌, ◌≤◌, ◌⊎◌, Bool, if◌then◌else◌, length, All, Contains, Option, Some, None, sum_by, IsTrue}
+use Rattle.std.specs.Prelude.{◌≡◌, ℕ, ◌+◌, ◌*◌, ◌<◌, ◌≤◌, ◌⊎◌, Bool, if◌then◌else◌, length, All}
+use Rattle.std.specs.Prelude.{Contains, Option, Some, None, sum_by, IsTrue}
 use Rattle.jc_base.specs.declared.ty.Ty.TheVariants.{Top}
 use Rattle.jc_base.specs.declared.record.Handler.{Handler}
 use Rattle.jc_base.specs.Class.{ClassTable, height}
@@ -38,7 +39,8 @@ pub record IsClosed (w : Linked) (m : Method) (found : Found) (p : ℕ) (f : Fra
       → Covers h p
       → At (state_at found.states) h.entry (FrameBelow w.classes (caught_frame h f))
   pub rule : (i : Placed) → HasInstruction m.code i → i.place ≡ p → IsFollowed w m (state_at found.states) i f
-  pub stays : (i : Placed) → HasInstruction m.code i → i.place ≡ p → IsTrue (falls i.insn.op) → i.place + i.insn.len < length m.code
+  pub stays : (i : Placed) → HasInstruction m.code i → i.place ≡ p → IsTrue (falls i.insn.op)
+      → i.place + i.insn.len < length m.code
 
 -- each frame is closed, or its place waits
 abbrev pub AreClosed : Linked → Method → Found → Type 0

@@ -1,5 +1,7 @@
 -- Initial arrays: package after package, and what holds of their words.
-use Rattle.std.proofs.Common.{◌≡◌, ℕ, zero, suc, ◌+◌, ◌/◌, ◌%◌, ◌≤◌, Bool, true, false, ◌&&◌, cond, eqb, leb, ltb, List, [], ◌∷◌, ◌++◌, length, get_or, map, drop, Some, None, refl, sym, ap, ◌∙◌, inl, inr, subst, append_assoc, arith, length-take-le, length-drop}
+use Rattle.std.proofs.Common.{◌≡◌, ℕ, zero, suc, ◌+◌, ◌/◌, ◌%◌, ◌≤◌, Bool, true, false, ◌&&◌, cond, eqb, leb, ltb, List, []}
+use Rattle.std.proofs.Common.{◌∷◌, ◌++◌, length, get_or, map, drop, Some, None, refl, sym, ap, ◌∙◌, inl, inr, subst, append_assoc, arith}
+use Rattle.std.proofs.Common.{length-take-le, length-drop}
 use Rattle.std.proofs.lemmas.Bool.{ltb-true, ltb-false, leb-true, eqb-true}
 use Rattle.std.proofs.lemmas.List.Elements.{All-map}
 use Rattle.std.proofs.lemmas.List.{map-append}
@@ -25,10 +27,13 @@ use Rattle.jc_resolve.proofs.Repeats.{given_all}
 pub one_package : (p : PackageRecord) (ps : List PackageRecord) → array_records (p ∷ ps) ≡ map array_record p.statics.arrays ++ array_records ps
 one_package p ps = map-append array_record p.statics.arrays (flat_map initial_arrays ps)
 
-pub arrays_more : (xs ys all : List ArrayRec) (ps : List PackageRecord) (n : ℕ) (p : PackageRecord) → slice_get ps n ≡ Some p → xs ++ array_records (drop n ps) ≡ all → ys ≡ xs ++ map array_record p.statics.arrays → ys ++ array_records (drop (n + 1) ps) ≡ all
+pub arrays_more : (xs ys all : List ArrayRec) (ps : List PackageRecord) (n : ℕ) (p : PackageRecord) → slice_get ps n ≡ Some p
+    → xs ++ array_records (drop n ps) ≡ all → ys ≡ xs ++ map array_record p.statics.arrays → ys ++ array_records (drop (n + 1) ps) ≡ all
 arrays_more xs ys all ps n p e h k =
-    let d : array_records (drop n ps) ≡ map array_record p.statics.arrays ++ array_records (drop (n + 1) ps) = ap array_records (drop_here ps n p e) ∙ one_package p (drop (n + 1) ps) in
-    ap (λ zs. zs ++ array_records (drop (n + 1) ps)) k ∙ append_assoc xs (map array_record p.statics.arrays) (array_records (drop (n + 1) ps)) ∙ ap (λ zs. xs ++ zs) (sym d) ∙ h
+    let d : array_records (drop n ps) ≡ map array_record p.statics.arrays ++ array_records (drop (n + 1) ps) = ap array_records (drop_here ps n p e)
+    ∙ one_package p (drop (n + 1) ps) in
+    ap (λ zs. zs ++ array_records (drop (n + 1) ps)) k ∙ append_assoc xs (map array_record p.statics.arrays) (array_records (drop (n + 1) ps))
+    ∙ ap (λ zs. xs ++ zs) (sym d) ∙ h
 
 -- ---- the words of an array have the type of its elements
 
@@ -59,7 +64,8 @@ whole_by n false e h = absurd cc
 even : (n m : ℕ) → m ≡ n / 2 → n % 4 ≡ 0 → m % 2 ≡ 0
 even n m e h = omega arith
 
-elements_of : (kind : ℕ) (values : List ℕ) → IsPrimitive kind → that (is_whole kind) (length values) ≡ None → AreElementsOf (array_type kind) (element_words kind values)
+elements_of : (kind : ℕ) (values : List ℕ) → IsPrimitive kind → that (is_whole kind) (length values) ≡ None
+    → AreElementsOf (array_type kind) (element_words kind values)
 elements_of zero values one whole = absurd (omega (arith, one.low))
 elements_of (suc zero) values one whole = absurd (omega (arith, one.low))
 elements_of (suc (suc zero)) values one whole = All-map IsByteWord signed values (λ k d lt. signed_is (get_or values k d))
@@ -75,7 +81,8 @@ kind_spelled bytes at a after h = subst (λ (b : Array). IsPrimitive b.kind) (sy
 
 pub kinds_known : (x : StaticPart) (s : Statics) → statics_seen x ≡ s → All (λ (a : Array). IsPrimitive a.kind) s.arrays
 kinds_known x s e =
-    subst (λ (seen : Statics). All (λ (a : Array). IsPrimitive a.kind) seen.arrays) e (given_all (λ (a : Array). IsPrimitive a.kind) array_init_info kind_spelled x.arrays.left x.arrays.items x.arrays.known)
+    subst (λ (seen : Statics). All (λ (a : Array). IsPrimitive a.kind) seen.arrays) e
+    (given_all (λ (a : Array). IsPrimitive a.kind) array_init_info kind_spelled x.arrays.left x.arrays.items x.arrays.known)
 
 abbrev AreOfType : Array → Type 0
 AreOfType a = AreElementsOf (array_type a.kind) (element_words a.kind a.values)
@@ -89,7 +96,10 @@ elements_spelled bytes at a after h =
     subst AreOfType (sym h.3.3.3.0) (elements_of h.0 h.3.3.0 (primitive h.0 h.2.1) (subst (λ n. that (is_whole h.0) n ≡ None) (sym size) h.3.2.1))
 
 pub arrays_are_elements : (x : ArrayInits) → All (λ (a : ArrayRec). AreElementsOf a.kind a.initial) (map array_record (arrays_left x))
-arrays_are_elements x = All-map (λ (a : ArrayRec). AreElementsOf a.kind a.initial) array_record (arrays_left x) (given_all AreOfType array_init_info elements_spelled x.left x.items x.known)
+arrays_are_elements x =
+    All-map (λ (a : ArrayRec). AreElementsOf a.kind a.initial) array_record (arrays_left x)
+    (given_all AreOfType array_init_info elements_spelled x.left x.items x.known)
 
-pub same_elements : (x : ArrayInits) (arrays : List Array) → arrays_left x ≡ arrays → All (λ (a : ArrayRec). AreElementsOf a.kind a.initial) (map array_record arrays)
+pub same_elements : (x : ArrayInits) (arrays : List Array) → arrays_left x ≡ arrays → All (λ (a : ArrayRec). AreElementsOf a.kind a.initial)
+    (map array_record arrays)
 same_elements x arrays e = subst (λ given. All (λ (a : ArrayRec). AreElementsOf a.kind a.initial) (map array_record given)) e (arrays_are_elements x)

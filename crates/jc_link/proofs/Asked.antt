@@ -31,10 +31,12 @@ pub record AreAsked (ps : List PackageRecord) (roles : List ℕ) (qs : List Pack
   pub table : IsTableOf ps roles t
   pub methods_are : methods ≡ methods_of ps roles
 
-pub asked : (n : NamesRecord) (qs : List PackageRecord) (t : ClassTable) (methods : List MethodRec) → AreNamesOf n.packages n.roles n → IsTableOf n.packages n.roles t → qs ≡ n.packages → methods ≡ n.methods → AreAsked n.packages n.roles qs t methods
+pub asked : (n : NamesRecord) (qs : List PackageRecord) (t : ClassTable) (methods : List MethodRec) → AreNamesOf n.packages n.roles n
+    → IsTableOf n.packages n.roles t → qs ≡ n.packages → methods ≡ n.methods → AreAsked n.packages n.roles qs t methods
 asked n qs t methods of is e m = record { packages = e; table = is; methods_are = m ∙ methods-are n.packages n.roles n of }
 
-module _ (ps : List PackageRecord) (roles : List ℕ) (qs : List PackageRecord) (t : ClassTable) (methods : List MethodRec) (a : AreAsked ps roles qs t methods) where
+module _ (ps : List PackageRecord) (roles : List ℕ) (qs : List PackageRecord) (t : ClassTable) (methods : List MethodRec)
+    (a : AreAsked ps roles qs t methods) where
   -- the static fields have room
   abbrev pub HasStatics : Type 0
   HasStatics = option_to_list (statics_fault ps) ≡ []
@@ -55,33 +57,54 @@ module _ (ps : List PackageRecord) (roles : List ℕ) (qs : List PackageRecord) 
   catches_same = ap (λ (u : ClassTable). bad_catches ps u) a.table.is
 
   roles_same : abstract_roles t methods ≡ abstract_roles (table_of ps roles) (methods_of ps roles)
-  roles_same = ap (λ (u : ClassTable). abstract_roles u methods) a.table.is ∙ ap (λ (ms : List MethodRec). abstract_roles (table_of ps roles) ms) a.methods_are
+  roles_same =
+      ap (λ (u : ClassTable). abstract_roles u methods) a.table.is ∙ ap (λ (ms : List MethodRec). abstract_roles (table_of ps roles) ms) a.methods_are
 
   -- ---- handlers, initial arrays and roles
 
-  pub catches_first : (f : LinkFault) → Err f ≡ refused (least_of link_place (catch_fault ps t) (handler_places ps)) → IsFirst link_place (rest_conditions ps roles) f
-  catches_first f h = inl (subst (λ (fs : List LinkFault). IsLeast link_place fs f) catches_same (things-refused link_place (catch_fault ps t) (handler_places ps) f h))
+  pub catches_first : (f : LinkFault) → Err f ≡ refused (least_of link_place (catch_fault ps t) (handler_places ps))
+      → IsFirst link_place (rest_conditions ps roles) f
+  catches_first f h =
+      inl (subst (λ (fs : List LinkFault). IsLeast link_place fs f) catches_same (things-refused link_place (catch_fault ps t) (handler_places ps) f h))
 
   pub arrays_first : (f : LinkFault) → bad_catches ps t ≡ [] → Err f ≡ refused (arrays_fault qs) → IsFirst link_place (rest_conditions ps roles) f
-  arrays_first f caught h = inr (sym catches_same ∙ caught, inl (one-refused link_place (arrays_fault ps) f (h ∙ ap (λ (xs : List PackageRecord). refused (arrays_fault xs)) a.packages)))
+  arrays_first f caught h =
+      inr (
+        sym catches_same
+            ∙ caught,
+        inl (one-refused link_place (arrays_fault ps) f (h ∙ ap (λ (xs : List PackageRecord). refused (arrays_fault xs)) a.packages)),
+      )
 
-  pub roles_first : (f : LinkFault) → bad_catches ps t ≡ [] → option_to_list (arrays_fault ps) ≡ [] → Err f ≡ refused (least_of link_place (role_fault t methods) thrown_roles) → IsFirst link_place (rest_conditions ps roles) f
+  pub roles_first : (f : LinkFault) → bad_catches ps t ≡ [] → option_to_list (arrays_fault ps) ≡ []
+      → Err f ≡ refused (least_of link_place (role_fault t methods) thrown_roles) → IsFirst link_place (rest_conditions ps roles) f
   roles_first f caught arrays h =
-      inr (sym catches_same ∙ caught, inr (arrays, inl (subst (λ (fs : List LinkFault). IsLeast link_place fs f) roles_same (things-refused link_place (role_fault t methods) thrown_roles f h))))
+      inr (
+        sym catches_same
+            ∙ caught,
+        inr (
+          arrays,
+          inl (subst (λ (fs : List LinkFault). IsLeast link_place fs f) roles_same (things-refused link_place (role_fault t methods) thrown_roles f h)),
+        ),
+      )
 
-  pub rest_empty : (x : Unit {0}) → bad_catches ps t ≡ [] → option_to_list (arrays_fault ps) ≡ [] → Ok x ≡ refused (least_of link_place (role_fault t methods) thrown_roles) → AllEmpty (rest_conditions ps roles)
-  rest_empty x caught arrays h = (sym catches_same ∙ caught, (arrays, (sym roles_same ∙ things-none link_place (role_fault t methods) thrown_roles x h, tt {0})))
+  pub rest_empty : (x : Unit {0}) → bad_catches ps t ≡ [] → option_to_list (arrays_fault ps) ≡ []
+      → Ok x ≡ refused (least_of link_place (role_fault t methods) thrown_roles) → AllEmpty (rest_conditions ps roles)
+  rest_empty x caught arrays h =
+      (sym catches_same ∙ caught, (arrays, (sym roles_same ∙ things-none link_place (role_fault t methods) thrown_roles x h, tt {0})))
 
   -- ---- static fields and pools before them
 
   module _ (statics : List StaticRec) (s : statics ≡ statics_of ps roles) where
     missing_same : missing_members ps t statics ≡ missing_members ps (table_of ps roles) (statics_of ps roles)
-    missing_same = ap (λ (u : ClassTable). missing_members ps u statics) a.table.is ∙ ap (λ (xs : List StaticRec). missing_members ps (table_of ps roles) xs) s
+    missing_same =
+        ap (λ (u : ClassTable). missing_members ps u statics) a.table.is ∙ ap (λ (xs : List StaticRec). missing_members ps (table_of ps roles) xs) s
 
-    pub members_first : (f : LinkFault) → HasStatics → IsLeast link_place (missing_members ps t statics) f → IsFirst link_place (member_conditions ps roles) f
+    pub members_first : (f : LinkFault) → HasStatics → IsLeast link_place (missing_members ps t statics) f
+        → IsFirst link_place (member_conditions ps roles) f
     members_first f none h = inr (none, inl (subst (λ (fs : List LinkFault). IsLeast link_place fs f) missing_same h))
 
-    pub rest_told : (end : LinkEnd) → HasStatics → missing_members ps t statics ≡ [] → TellsFirst {A = Unit {0}} (rest_conditions ps roles) (Err end) → TellsFirst {A = Resolved} (member_conditions ps roles) (Err end)
+    pub rest_told : (end : LinkEnd) → HasStatics → missing_members ps t statics ≡ [] → TellsFirst {A = Unit {0}} (rest_conditions ps roles)
+        (Err end) → TellsFirst {A = Resolved} (member_conditions ps roles) (Err end)
     rest_told (Fault f) none members h = inr (none, inr (sym missing_same ∙ members, h))
     rest_told Memory none members h = tt {0}
 
@@ -93,7 +116,8 @@ module _ (ps : List PackageRecord) (roles : List ℕ) (qs : List PackageRecord) 
     pub pools_same : (found : List (List Member)) → found ≡ pools ps t statics → found ≡ pools ps (table_of ps roles) (statics_of ps roles)
     pools_same found e = e ∙ ap (λ (u : ClassTable). pools ps u statics) a.table.is ∙ ap (λ (xs : List StaticRec). pools ps (table_of ps roles) xs) s
 
-    pub members_same : (found : List (List Member)) → All (All (IsMember t methods statics)) found → All (All (IsMember (table_of ps roles) (methods_of ps roles) statics)) found
+    pub members_same : (found : List (List Member)) → All (All (IsMember t methods statics)) found
+        → All (All (IsMember (table_of ps roles) (methods_of ps roles) statics)) found
     members_same found all =
         subst (λ (ms : List MethodRec). All (All (IsMember (table_of ps roles) ms statics)) found) a.methods_are
         (subst (λ (u : ClassTable). All (All (IsMember u methods statics)) found) a.table.is all)

@@ -14,6 +14,7 @@ pub records_counted : (classes : List NamedClass) (object_is : ℕ) (t : ClassTa
 records_counted classes object_is t has =
     sym (length-map t.records (λ (r : ClassRec). r.own)) ∙ ap length has.own ∙ length-map classes (λ (k : NamedClass). k.own)
 
-pub named_counted : (n : NamesRecord) → n.classes ≡ named_classes n.packages (slice_index n.roles 0) → length n.classes ≡ length (numbered_classes n.packages)
+pub named_counted : (n : NamesRecord) → n.classes ≡ named_classes n.packages (slice_index n.roles 0)
+    → length n.classes ≡ length (numbered_classes n.packages)
 unfolding named_classes
 named_counted n named = ap length named ∙ length-map (numbered_classes n.packages) (named_class n.packages (slice_index n.roles 0))

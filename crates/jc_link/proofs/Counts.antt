@@ -1,5 +1,6 @@
 -- How many static fields and initial arrays a package can have, and sums over packages.
-use Rattle.std.proofs.Common.{◌≡◌, ℕ, ◌+◌, ◌*◌, ◌≤◌, Bool, true, false, cond, leb, List, [], ◌∷◌, length, length-append, map, drop, Option, Some, None, ap, ◌∙◌, arith}
+use Rattle.std.proofs.Common.{◌≡◌, ℕ, ◌+◌, ◌*◌, ◌≤◌, Bool, true, false, cond, leb, List, [], ◌∷◌, length, length-append, map, drop}
+use Rattle.std.proofs.Common.{Option, Some, None, ap, ◌∙◌, arith}
 use Rattle.std.specs.Prelude.{slice_get, flat_map, sum_by}
 use Rattle.std.specs.List.{filter_map, cons_option}
 use Rattle.std.proofs.lemmas.List.{length-map}
@@ -67,22 +68,31 @@ words_few false bytes = omega (arith, words_length bytes)
 cells_below : (arrays : List Array) → initial_cells (map array_record arrays) ≤ array_bytes arrays
 cells_below [] = omega arith
 cells_below (a ∷ arrays) =
-    omega (arith, sum_by-cons (λ (r : ArrayRec). length r.initial) (array_record a) (map array_record arrays), sum_by-cons (λ (b : Array). length b.values) a arrays, words_few (leb a.kind 3) a.values, cells_below arrays)
+    omega (
+      arith,
+      sum_by-cons (λ (r : ArrayRec). length r.initial) (array_record a) (map array_record arrays),
+      sum_by-cons (λ (b : Array). length b.values) a arrays,
+      words_few (leb a.kind 3) a.values,
+      cells_below arrays,
+    )
 
 pub array_cells_few : (x : ArrayInits) → initial_cells (map array_record (arrays_left x)) ≤ 65535
 array_cells_few x = omega (arith, cells_below (arrays_left x), arrays_short x)
 
 -- ---- package after package
 
-pub static_cells_more : (ps : List PackageRecord) (n : ℕ) (p : PackageRecord) → slice_get ps n ≡ Some p → static_cells (drop n ps) ≡ sum_by cells_at (static_places p) + static_cells (drop (n + 1) ps)
+pub static_cells_more : (ps : List PackageRecord) (n : ℕ) (p : PackageRecord) → slice_get ps n ≡ Some p
+    → static_cells (drop n ps) ≡ sum_by cells_at (static_places p) + static_cells (drop (n + 1) ps)
 static_cells_more ps n p e = ap static_cells (drop_here ps n p e) ∙ sum_by-append cells_at (static_places p) (flat_map static_places (drop (n + 1) ps))
 
-pub array_cells_more : (ps : List PackageRecord) (n : ℕ) (p : PackageRecord) → slice_get ps n ≡ Some p → initial_cells (array_records (drop n ps)) ≡ initial_cells (map array_record p.statics.arrays) + initial_cells (array_records (drop (n + 1) ps))
+pub array_cells_more : (ps : List PackageRecord) (n : ℕ) (p : PackageRecord) → slice_get ps n ≡ Some p → initial_cells (array_records (drop n ps))
+    ≡ initial_cells (map array_record p.statics.arrays) + initial_cells (array_records (drop (n + 1) ps))
 array_cells_more ps n p e =
     ap (λ qs. initial_cells (array_records qs)) (drop_here ps n p e) ∙ ap initial_cells (one_package p (drop (n + 1) ps))
     ∙ sum_by-append (λ (a : ArrayRec). length a.initial) (map array_record p.statics.arrays) (array_records (drop (n + 1) ps))
 
-pub array_count_more : (ps : List PackageRecord) (n : ℕ) (p : PackageRecord) → slice_get ps n ≡ Some p → length (array_records (drop n ps)) ≡ length p.statics.arrays + length (array_records (drop (n + 1) ps))
+pub array_count_more : (ps : List PackageRecord) (n : ℕ) (p : PackageRecord) → slice_get ps n ≡ Some p → length (array_records (drop n ps))
+    ≡ length p.statics.arrays + length (array_records (drop (n + 1) ps))
 array_count_more ps n p e =
     ap (λ qs. length (array_records qs)) (drop_here ps n p e) ∙ ap length (one_package p (drop (n + 1) ps))
     ∙ length-append (map array_record p.statics.arrays) (array_records (drop (n + 1) ps))

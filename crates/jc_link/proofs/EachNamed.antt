@@ -1,5 +1,6 @@
 -- Each entry of the pools names one member, which the pools have; or an entry that names none is told.
-use Rattle.std.proofs.Common.{◌≡◌, ℕ, suc, ◌+◌, ◌⊎◌, Bool, true, false, cond, List, [], ◌∷◌, Option, Some, None, Result, Ok, Err, refl, sym, ap, subst, ◌∙◌, arith, inl, inr}
+use Rattle.std.proofs.Common.{◌≡◌, ℕ, suc, ◌+◌, ◌⊎◌, Bool, true, false, cond, List, [], ◌∷◌, Option, Some, None, Result, Ok, Err, refl}
+use Rattle.std.proofs.Common.{sym, ap, subst, ◌∙◌, arith, inl, inr}
 use Rattle.std.specs.Prelude.{All, slice_get, is_none}
 use Rattle.std.proofs.lemmas.List.Elements.{All-nil, All-cons, All-append}
 use Rattle.cap_pool.specs.PoolFormat.{Entry}
@@ -35,7 +36,8 @@ lesser_one a None f h = inl h
 lesser_one None (Some g) f h = inr h
 lesser_one (Some a) (Some g) f h = chosen a g f (comes_before (link_place g) (link_place a)) h
 
-from_one : {X : Type 0} (fault : X → Option LinkFault) (xs : List X) (before : Option LinkFault) (f : LinkFault) → least_from link_place before fault xs ≡ Some f
+from_one : {X : Type 0} (fault : X → Option LinkFault) (xs : List X) (before : Option LinkFault) (f : LinkFault) → least_from link_place before fault xs
+    ≡ Some f
     → (before ≡ Some f) ⊎ ((i : ℕ) × (x : X) × (slice_get xs i ≡ Some x) × (fault x ≡ Some f))
 from_one fault [] before f h = inl h
 from_one fault (x ∷ xs) before f h = elim (from_one fault xs (lesser link_place before (fault x)) f h) [
@@ -46,7 +48,8 @@ from_one fault (x ∷ xs) before f h = elim (from_one fault xs (lesser link_plac
   | inr r ↦ inr (suc r.0, r.1, r.2, r.3)
 ]
 
-of_one : {X : Type 0} (fault : X → Option LinkFault) (xs : List X) (f : LinkFault) → least_of link_place fault xs ≡ Some f → (i : ℕ) × (x : X) × (slice_get xs i ≡ Some x) × (fault x ≡ Some f)
+of_one : {X : Type 0} (fault : X → Option LinkFault) (xs : List X) (f : LinkFault) → least_of link_place fault xs ≡ Some f → (i : ℕ) × (x : X)
+    × (slice_get xs i ≡ Some x) × (fault x ≡ Some f)
 of_one fault xs f h = elim (from_one fault xs None f h) [
   | inl e ↦ absurd (none_some f e)
   | inr r ↦ r
@@ -61,7 +64,8 @@ module _ (ps : List PackageRecord) where
   abbrev IsPlace : PoolPlace → Type 0
   IsPlace x = IsPoolEntry ps x.home x.number x.entry
 
-  in_pool : (k : ℕ) (p : PackageRecord) → slice_get ps k ≡ Some p → (n : ℕ) (es : List Entry) → ((i : ℕ) (e : Entry) → slice_get es i ≡ Some e → slice_get p.pool (n + i) ≡ Some e) → All IsPlace (places_from k n es)
+  in_pool : (k : ℕ) (p : PackageRecord) → slice_get ps k ≡ Some p → (n : ℕ) (es : List Entry)
+      → ((i : ℕ) (e : Entry) → slice_get es i ≡ Some e → slice_get p.pool (n + i) ≡ Some e) → All IsPlace (places_from k n es)
   in_pool k p at n [] all = All-nil IsPlace
   in_pool k p at n (e ∷ es) all =
       let here : n + 0 ≡ n = omega arith in
@@ -70,7 +74,8 @@ module _ (ps : List PackageRecord) where
       (record { home = p; there = at; entry = first })
       (in_pool k p at (n + 1) es (λ i x h. let next : (n + 1) + i ≡ n + suc i = omega arith in rw next (all (suc i) x h)))
 
-  in_pools : (k : ℕ) (qs : List PackageRecord) → ((j : ℕ) (q : PackageRecord) → slice_get qs j ≡ Some q → slice_get ps (k + j) ≡ Some q) → All IsPlace (places_after k qs)
+  in_pools : (k : ℕ) (qs : List PackageRecord) → ((j : ℕ) (q : PackageRecord) → slice_get qs j ≡ Some q → slice_get ps (k + j) ≡ Some q)
+      → All IsPlace (places_after k qs)
   in_pools k [] all = All-nil IsPlace
   in_pools k (q ∷ qs) all =
       let here : k + 0 ≡ k = omega arith in
@@ -99,17 +104,21 @@ module _ (ps : List PackageRecord) (t : ClassTable) (statics : List StaticRec) w
 
   -- ---- the fault
 
-  nothing_named : (k : ℕ) (e : Entry) (o : Option Member) → member_of ps t statics k e ≡ o → is_none o ≡ true → (m : Member) → ¬ (NamesMember ps t statics k e m)
+  nothing_named : (k : ℕ) (e : Entry) (o : Option Member) → member_of ps t statics k e ≡ o → is_none o ≡ true → (m : Member)
+      → ¬ (NamesMember ps t statics k e m)
   nothing_named k e None is none m h = let there = sym is ∙ names-member ps t statics k e m h in absurd cc
   nothing_named k e (Some x) is none m h = absurd cc
 
-  fault_by : (x : PoolPlace) (f : LinkFault) (b : Bool) → is_none (member_of ps t statics x.home x.entry) ≡ b → cond b (Some (NoMember x.home x.number)) None ≡ Some f → IsPoolEntry ps x.home x.number x.entry → LacksMember ps t statics f
+  fault_by : (x : PoolPlace) (f : LinkFault) (b : Bool) → is_none (member_of ps t statics x.home x.entry) ≡ b
+      → cond b (Some (NoMember x.home x.number)) None ≡ Some f → IsPoolEntry ps x.home x.number x.entry → LacksMember ps t statics f
   fault_by x f true none h at =
       let same : NoMember x.home x.number ≡ f = cc in
-      subst (LacksMember ps t statics) same (record { of = x.entry; at = at; none = nothing_named x.home x.entry (member_of ps t statics x.home x.entry) refl none })
+      subst (LacksMember ps t statics) same
+      (record { of = x.entry; at = at; none = nothing_named x.home x.entry (member_of ps t statics x.home x.entry) refl none })
   fault_by x f false none h at = absurd cc
 
-  missing_of : (x : PoolPlace) (f : LinkFault) → member_fault ps t statics x ≡ Some f → IsPoolEntry ps x.home x.number x.entry → LacksMember ps t statics f
+  missing_of : (x : PoolPlace) (f : LinkFault) → member_fault ps t statics x ≡ Some f → IsPoolEntry ps x.home x.number x.entry
+      → LacksMember ps t statics f
   unfolding member_fault
   missing_of x f h at = fault_by x f (is_none (member_of ps t statics x.home x.entry)) refl h at
 

@@ -19,7 +19,8 @@ record-extends : (k : NamedClass) (l : ClassLayout) → extended_in (Some (recor
 unfolding record_from
 record-extends k l = refl
 
-records-extend : (t : LineTable) (all ks : List NamedClass) (c n : ℕ) → extended_in (slice_get (records_from t all c ks) n) ≡ named.extended_in (slice_get ks n)
+records-extend : (t : LineTable) (all ks : List NamedClass) (c n : ℕ) → extended_in (slice_get (records_from t all c ks) n) ≡ named.extended_in
+    (slice_get ks n)
 records-extend t all [] c n = refl
 records-extend t all (k ∷ ks) c zero = record-extends k (class_layout t all c)
 records-extend t all (k ∷ ks) c (suc n) = records-extend t all ks (c + 1) n
@@ -30,4 +31,5 @@ table-extends t ks n = records-extend t ks ks 0 n
 
 pub none-extends-itself : (ps : List PackageRecord) (roles : List ℕ) (t : ClassTable) → IsTableOf ps roles t → NoneExtendsItself (table_of ps roles)
 none-extends-itself ps roles t is = λ i leads.
-    is.lines.extension i (Leads-along (λ x y h. subst (λ (xs : List ℕ). Contains xs y) (table-extends (lineage_of ps roles) (classes_of ps roles) x) h) leads)
+    is.lines.extension i (Leads-along (λ x y h. subst (λ (xs : List ℕ). Contains xs y) (table-extends (lineage_of ps roles) (classes_of ps roles) x) h)
+    leads)

@@ -1,5 +1,7 @@
 -- The static fields of packages have their types, and their words too.
-use Rattle.std.proofs.Common.{◌≡◌, ℕ, zero, suc, ◌+◌, ◌*◌, ◌/◌, ◌%◌, ◌≤◌, ◌<◌, true, false, ◌&&◌, eqb, leb, List, [], ◌∷◌, ◌++◌, length, get_or, map, Option, Some, refl, sym, ap, subst, ◌∙◌, inl, inr, arith, append_assoc, length-append}
+use Rattle.std.proofs.Common.{◌≡◌, ℕ, zero, suc, ◌+◌, ◌*◌, ◌/◌, ◌%◌, ◌≤◌, ◌<◌, true, false, ◌&&◌, eqb, leb, List, []}
+use Rattle.std.proofs.Common.{◌∷◌, ◌++◌, length, get_or, map, Option, Some, refl, sym, ap, subst, ◌∙◌, inl, inr, arith, append_assoc}
+use Rattle.std.proofs.Common.{length-append}
 use Rattle.std.specs.Prelude.{All, slice_get, option_map}
 use Rattle.std.proofs.lemmas.Bool.{le-leb, eqb-true, and_parts}
 use Rattle.std.proofs.lemmas.List.{length-map}
@@ -40,17 +42,22 @@ record IsSite (n : ℕ) (arrays : List ArrayRec) (s : StaticSite) : Type 0 where
   first : s.first ≡ suc before
   handles : (k : ℕ) (a : Array) → slice_get s.statics.arrays k ≡ Some a → slice_get arrays (before + k) ≡ Some (array_record a)
 
-handle_of : (before : List ArrayRec) (arrays : List Array) (rest : List ArrayRec) (k : ℕ) (a : Array) → slice_get arrays k ≡ Some a → slice_get (before ++ (map array_record arrays ++ rest)) (length before + k) ≡ Some (array_record a)
+handle_of : (before : List ArrayRec) (arrays : List Array) (rest : List ArrayRec) (k : ℕ) (a : Array) → slice_get arrays k ≡ Some a
+    → slice_get (before ++ (map array_record arrays ++ rest)) (length before + k) ≡ Some (array_record a)
 handle_of before arrays rest k a e =
     slice_get-farther before (map array_record arrays ++ rest) k (length before + k) refl
-    ∙ slice_get-front (map array_record arrays) rest k (array_record a) (slice_get-map array_record arrays k ∙ ap (λ (o : Option Array). option_map array_record o) e)
+    ∙ slice_get-front (map array_record arrays) rest k (array_record a)
+    (slice_get-map array_record arrays k ∙ ap (λ (o : Option Array). option_map array_record o) e)
 
-sites_known : (n : ℕ) (arrays : List ArrayRec) (qs : List PackageRecord) (home first : ℕ) (before : List ArrayRec) → arrays ≡ before ++ array_records qs → first ≡ suc (length before) → home + length qs ≤ n → All AreStaticsKnown qs → All (IsSite n arrays) (sites_after home first qs)
+sites_known : (n : ℕ) (arrays : List ArrayRec) (qs : List PackageRecord) (home first : ℕ) (before : List ArrayRec)
+    → arrays ≡ before ++ array_records qs → first ≡ suc (length before) → home + length qs ≤ n → All AreStaticsKnown qs
+    → All (IsSite n arrays) (sites_after home first qs)
 sites_known n arrays [] home first before e f le known = All-nil (IsSite n arrays)
 sites_known n arrays (p ∷ qs) home first before e f le known =
     let p_known = All-head AreStaticsKnown p qs known in
     let split : arrays ≡ before ++ (map array_record p.statics.arrays ++ array_records qs) = e ∙ ap (λ rs. before ++ rs) (one_package p qs) in
-    let longer : length (before ++ map array_record p.statics.arrays) ≡ length before + length p.statics.arrays = length-append before (map array_record p.statics.arrays) ∙ ap (λ k. length before + k) (length-map p.statics.arrays array_record) in
+    let longer : length (before ++ map array_record p.statics.arrays) ≡ length before + length p.statics.arrays = length-append before
+    (map array_record p.statics.arrays) ∙ ap (λ k. length before + k) (length-map p.statics.arrays array_record) in
     let here : All (IsSite n arrays) (map (site home first p.statics) (static_places p)) =
     All-map (IsSite n arrays) (site home first p.statics) (static_places p) (λ k d lt. record {
       home = omega arith;
@@ -61,7 +68,8 @@ sites_known n arrays (p ∷ qs) home first before e f le known =
       handles = λ m a there. rw split (handle_of before p.statics.arrays (array_records qs) m a there);
     }) in
     let there = sites_known n arrays qs (home + 1) (first + length p.statics.arrays) (before ++ map array_record p.statics.arrays)
-    (split ∙ sym (append_assoc before (map array_record p.statics.arrays) (array_records qs))) (omega (arith, longer, f)) (omega arith) (All-tail AreStaticsKnown p qs known) in
+    (split ∙ sym (append_assoc before (map array_record p.statics.arrays) (array_records qs))) (omega (arith, longer, f)) (omega arith)
+    (All-tail AreStaticsKnown p qs known) in
     All-append (IsSite n arrays) (map (site home first p.statics) (static_places p)) (sites_after (home + 1) (first + length p.statics.arrays) qs) here there
 
 -- ---- references
@@ -84,7 +92,9 @@ even_place s p le h =
 at_reference : (n : ℕ) → n % 2 ≡ 0 → n ≡ 2 * (n / 2)
 at_reference n h = omega arith
 
-filled_reference : (told : ℕ → TypeItem → Ty) → AreTold told → (n : ℕ) (arrays : List ArrayRec) (t : ClassTable) (s : StaticSite) → length arrays ≤ 4096 → IsSite n arrays s → (a : Array) → slice_get s.statics.arrays (s.place.offset / 2) ≡ Some a → s.place.offset % 2 ≡ 0
+filled_reference : (told : ℕ → TypeItem → Ty) → AreTold told → (n : ℕ) (arrays : List ArrayRec) (t : ClassTable) (s : StaticSite)
+    → length arrays ≤ 4096 → IsSite n arrays s → (a : Array) → slice_get s.statics.arrays (s.place.offset / 2) ≡ Some a
+    → s.place.offset % 2 ≡ 0
     → IsInitialHandle t arrays (type_of_site told s) (get_or (references s.first s.statics) (s.place.offset / 2) 0)
 filled_reference told are n arrays t s few known a there even =
     let k = s.place.offset / 2 in
@@ -97,10 +107,12 @@ filled_reference told are n arrays t s few known a there even =
     subst (IsInitialHandle t arrays (type_of_site told s)) (sym h)
     (rw (known.handles k a there) (subst (λ u. Below t (array_type a.kind) u) (sym ty) same))
 
-null_reference : (arrays : List ArrayRec) (t : ClassTable) (s : StaticSite) (ty : Ty) → length s.statics.arrays ≤ s.place.offset / 2 → IsInitialHandle t arrays ty (get_or (references s.first s.statics) (s.place.offset / 2) 0)
+null_reference : (arrays : List ArrayRec) (t : ClassTable) (s : StaticSite) (ty : Ty) → length s.statics.arrays ≤ s.place.offset / 2
+    → IsInitialHandle t arrays ty (get_or (references s.first s.statics) (s.place.offset / 2) 0)
 null_reference arrays t s ty past = rw (handle_past s.first s.statics (s.place.offset / 2) past) tt
 
-reference_words : (told : ℕ → TypeItem → Ty) → AreTold told → (n : ℕ) (arrays : List ArrayRec) (t : ClassTable) (s : StaticSite) → length arrays ≤ 4096 → IsSite n arrays s → kind_of s.place.ty ≡ kinds.Ref
+reference_words : (told : ℕ → TypeItem → Ty) → AreTold told → (n : ℕ) (arrays : List ArrayRec) (t : ClassTable) (s : StaticSite)
+    → length arrays ≤ 4096 → IsSite n arrays s → kind_of s.place.ty ≡ kinds.Ref
     → IsInitialHandle t arrays (type_of_site told s) (get_or (references s.first s.statics) (s.place.offset / 2) 0)
 reference_words told are n arrays t s few known kind =
     let le = reference_type s.place.ty.nibble s.place.ty.class_ref kind known.place.typed known.place.no_void in
@@ -110,7 +122,8 @@ reference_words told are n arrays t s few known kind =
       | inr past ↦ null_reference arrays t s (type_of_site told s) past.0
     ]
 
-words_by : (told : ℕ → TypeItem → Ty) → AreTold told → (n : ℕ) (arrays : List ArrayRec) (t : ClassTable) (s : StaticSite) → length arrays ≤ 4096 → IsSite n arrays s → (k : Kind) → kind_of s.place.ty ≡ k
+words_by : (told : ℕ → TypeItem → Ty) → AreTold told → (n : ℕ) (arrays : List ArrayRec) (t : ClassTable) (s : StaticSite)
+    → length arrays ≤ 4096 → IsSite n arrays s → (k : Kind) → kind_of s.place.ty ≡ k
     → AreInitialWords t arrays k (type_of_site told s) (words_at s.first s.statics k s.place.offset)
 words_by told are n arrays t s few known kinds.Ref e = reference_words told are n arrays t s few known e
 words_by told are n arrays t s few known kinds.Byte e = signed_is (get_or (image s.statics) s.place.offset 0)
@@ -122,7 +135,9 @@ words_by told are n arrays t s few known kinds.Int e = tt
 abbrev AreDeclared : ClassTable → List StaticRec → Type 0
 AreDeclared t = All (λ (f : StaticRec). IsDeclared t f.ty)
 
-fields_known : (told : ℕ → TypeItem → Ty) → AreTold told → (n : ℕ) (arrays : List ArrayRec) (t : ClassTable) → length arrays ≤ 4096 → (slot : ℕ) (ss : List StaticSite) → All (IsSite n arrays) ss → AreDeclared t (records_from told slot ss) → All (IsStatic n t arrays) (records_from told slot ss)
+fields_known : (told : ℕ → TypeItem → Ty) → AreTold told → (n : ℕ) (arrays : List ArrayRec) (t : ClassTable) → length arrays ≤ 4096
+    → (slot : ℕ) (ss : List StaticSite) → All (IsSite n arrays) ss → AreDeclared t (records_from told slot ss)
+    → All (IsStatic n t arrays) (records_from told slot ss)
 fields_known told are n arrays t few slot [] known declared = All-nil (IsStatic n t arrays)
 fields_known told are n arrays t few slot (s ∷ ss) known declared =
     let f = static_record slot s (type_of_site told s) in
@@ -135,10 +150,13 @@ fields_known told are n arrays t few slot (s ∷ ss) known declared =
       kind = (are s.home s.place.ty site.place.typed site.place.no_void).kind;
       words = words_by told are n arrays t s few site (kind_of s.place.ty) refl;
     })
-    (fields_known told are n arrays t few (slot + cells_at s.place) ss (All-tail (IsSite n arrays) s ss known) (All-tail (λ (g : StaticRec). IsDeclared t g.ty) f others declared))
+    (fields_known told are n arrays t few (slot + cells_at s.place) ss (All-tail (IsSite n arrays) s ss known)
+    (All-tail (λ (g : StaticRec). IsDeclared t g.ty) f others declared))
 
-pub statics_typed : (told : ℕ → TypeItem → Ty) → AreTold told → (ps : List PackageRecord) → All AreStaticsKnown ps → (fields : List StaticRec) → fields ≡ static_records told ps
+pub statics_typed : (told : ℕ → TypeItem → Ty) → AreTold told → (ps : List PackageRecord) → All AreStaticsKnown ps → (fields : List StaticRec)
+    → fields ≡ static_records told ps
     → length (array_records ps) ≤ 4096 → (t : ClassTable) → AreDeclared t fields → All (IsStatic (length ps) t (array_records ps)) fields
 statics_typed told are ps known fields e few t declared =
     subst (λ fs. All (IsStatic (length ps) t (array_records ps)) fs) (sym e)
-    (fields_known told are (length ps) (array_records ps) t few 0 (sites ps) (sites_known (length ps) (array_records ps) ps 0 1 [] refl refl (omega arith) known) (subst (AreDeclared t) e declared))
+    (fields_known told are (length ps) (array_records ps) t few 0 (sites ps)
+    (sites_known (length ps) (array_records ps) ps 0 1 [] refl refl (omega arith) known) (subst (AreDeclared t) e declared))

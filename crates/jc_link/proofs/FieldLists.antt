@@ -1,5 +1,6 @@
 -- Static fields: package after package, and their slots.
-use Rattle.std.proofs.Common.{◌≡◌, ℕ, ◌+◌, List, [], ◌∷◌, ◌++◌, length, map, drop, Some, refl, sym, ap, subst, ◌∙◌, append_assoc, arith}
+use Rattle.std.proofs.Common.{◌≡◌, ℕ, ◌+◌, List, [], ◌∷◌, ◌++◌, length, map, drop, Some, refl, sym, ap, subst, ◌∙◌, append_assoc}
+use Rattle.std.proofs.Common.{arith}
 use Rattle.std.specs.Prelude.{slice_get, flat_map, sum_by}
 use Rattle.std.proofs.lemmas.List.Sums.{sum_by-cons, sum_by-append}
 use Rattle.jc_base.specs.declared.ty.Ty.{Ty}
@@ -21,16 +22,23 @@ cells_in = sum_by (λ (s : StaticSite). cells_at s.place)
 cells_at_home : (home first : ℕ) (s : Statics) (places : List ImagePlace) → cells_in (map (site home first s) places) ≡ sum_by cells_at places
 cells_at_home home first s [] = refl
 cells_at_home home first s (p ∷ places) =
-    omega (arith, sum_by-cons (λ (x : StaticSite). cells_at x.place) (site home first s p) (map (site home first s) places), sum_by-cons cells_at p places, cells_at_home home first s places)
+    omega (
+      arith,
+      sum_by-cons (λ (x : StaticSite). cells_at x.place) (site home first s p) (map (site home first s) places),
+      sum_by-cons cells_at p places,
+      cells_at_home home first s places,
+    )
 
-records_both : (told : ℕ → TypeItem → Ty) (slot : ℕ) (xs ys : List StaticSite) → records_from told slot (xs ++ ys) ≡ records_from told slot xs ++ records_from told (slot + cells_in xs) ys
+records_both : (told : ℕ → TypeItem → Ty) (slot : ℕ) (xs ys : List StaticSite) → records_from told slot (xs ++ ys) ≡ records_from told slot
+    xs ++ records_from told (slot + cells_in xs) ys
 records_both told slot [] ys = let e : slot + 0 ≡ slot = omega arith in rw e refl
 records_both told slot (x ∷ xs) ys =
     let e : slot + cells_in (x ∷ xs) ≡ (slot + cells_at x.place) + cells_in xs = omega (arith, sum_by-cons (λ (s : StaticSite). cells_at s.place) x xs) in
     rw e (ap (λ rest. static_record slot x (type_of_site told x) ∷ rest) (records_both told (slot + cells_at x.place) xs ys))
 
 -- a step of going over the packages
-pub statics_more : (told : ℕ → TypeItem → Ty) (before after all : List StaticRec) (ps : List PackageRecord) (n first slot next last : ℕ) (p : PackageRecord) → slice_get ps n ≡ Some p
+pub statics_more : (told : ℕ → TypeItem → Ty) (before after all : List StaticRec) (ps : List PackageRecord) (n first slot next last : ℕ)
+    (p : PackageRecord) → slice_get ps n ≡ Some p
     → before ++ records_from told slot (sites_after n first (drop n ps)) ≡ all
     → after ≡ before ++ records_from told slot (map (site n first p.statics) (static_places p))
     → next ≡ slot + sum_by cells_at (static_places p)
@@ -41,7 +49,8 @@ statics_more told before after all ps n first slot next last p e h pushed to oth
     let rest = sites_after (n + 1) (first + length p.statics.arrays) (drop (n + 1) ps) in
     let slots : slot + cells_in here ≡ next = omega (arith, cells_at_home n first p.statics (static_places p), to) in
     let both : records_from told slot (sites_after n first (drop n ps)) ≡ records_from told slot here ++ records_from told next rest =
-    ap (λ qs. records_from told slot (sites_after n first qs)) (drop_here ps n p e) ∙ records_both told slot here rest ∙ ap (λ k. records_from told slot here ++ records_from told k rest) slots in
+    ap (λ qs. records_from told slot (sites_after n first qs)) (drop_here ps n p e) ∙ records_both told slot here rest
+    ∙ ap (λ k. records_from told slot here ++ records_from told k rest) slots in
     rw (pushed, others) (append_assoc before (records_from told slot here) (records_from told next rest) ∙ ap (λ zs. before ++ zs) (sym both) ∙ h)
 
 -- ---- slots and cells
@@ -50,10 +59,17 @@ pub records_slots : (told : ℕ → TypeItem → Ty) (slot : ℕ) (xs : List Sta
 records_slots told slot [] = tt {0}
 records_slots told slot (x ∷ xs) = (refl, records_slots told (slot + cells_at x.place) xs)
 
-records_cells : (told : ℕ → TypeItem → Ty) (slot : ℕ) (xs : List StaticSite) → sum_by (λ (f : StaticRec). width f.kind) (records_from told slot xs) ≡ cells_in xs
+records_cells : (told : ℕ → TypeItem → Ty) (slot : ℕ) (xs : List StaticSite)
+    → sum_by (λ (f : StaticRec). width f.kind) (records_from told slot xs) ≡ cells_in xs
 records_cells told slot [] = refl
 records_cells told slot (x ∷ xs) =
-    omega (arith, sum_by-cons (λ (f : StaticRec). width f.kind) (static_record slot x (type_of_site told x)) (records_from told (slot + cells_at x.place) xs), sum_by-cons (λ (s : StaticSite). cells_at s.place) x xs, records_cells told (slot + cells_at x.place) xs)
+    omega (
+      arith,
+      sum_by-cons (λ (f : StaticRec). width f.kind) (static_record slot x (type_of_site told x))
+          (records_from told (slot + cells_at x.place) xs),
+      sum_by-cons (λ (s : StaticSite). cells_at s.place) x xs,
+      records_cells told (slot + cells_at x.place) xs,
+    )
 
 sites_cells : (home first : ℕ) (ps : List PackageRecord) → cells_in (sites_after home first ps) ≡ static_cells ps
 sites_cells home first [] = refl
@@ -67,11 +83,13 @@ sites_cells home first (p ∷ ps) =
       sites_cells (home + 1) (first + length p.statics.arrays) ps,
     )
 
-pub static_records_cells : (told : ℕ → TypeItem → Ty) (ps : List PackageRecord) → sum_by (λ (f : StaticRec). width f.kind) (static_records told ps) ≡ static_cells ps
+pub static_records_cells : (told : ℕ → TypeItem → Ty) (ps : List PackageRecord) → sum_by (λ (f : StaticRec). width f.kind) (static_records told ps)
+    ≡ static_cells ps
 static_records_cells told ps = records_cells told 0 (sites ps) ∙ sites_cells 0 1 ps
 
 pub slots_of : (told : ℕ → TypeItem → Ty) (ps : List PackageRecord) (fields : List StaticRec) → fields ≡ static_records told ps → AreSlots 0 fields
 slots_of told ps fields e = subst (AreSlots 0) (sym e) (records_slots told 0 (sites ps))
 
-pub cells_of_records : (told : ℕ → TypeItem → Ty) (ps : List PackageRecord) (fields : List StaticRec) → fields ≡ static_records told ps → sum_by (λ (f : StaticRec). width f.kind) fields ≡ static_cells ps
+pub cells_of_records : (told : ℕ → TypeItem → Ty) (ps : List PackageRecord) (fields : List StaticRec) → fields ≡ static_records told ps
+    → sum_by (λ (f : StaticRec). width f.kind) fields ≡ static_cells ps
 cells_of_records told ps fields e = ap (λ fs. sum_by (λ (f : StaticRec). width f.kind) fs) e ∙ static_records_cells told ps

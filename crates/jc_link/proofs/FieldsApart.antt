@@ -30,7 +30,8 @@ homes_from home first (p ∷ ps) =
     (All-weaker (λ (s : StaticSite). home + 1 ≤ s.home) P (λ s le. omega arith) rest (homes_from (home + 1) (first + length p.statics.arrays) ps))
 
 -- the fields of one package, before those of later ones
-package_apart : (home first : ℕ) (st : Statics) (places : List ImagePlace) (rest : List StaticSite) → AreApart places → All (λ (s : StaticSite). home + 1 ≤ s.home) rest → AreSitesApart rest → AreSitesApart (map (site home first st) places ++ rest)
+package_apart : (home first : ℕ) (st : Statics) (places : List ImagePlace) (rest : List StaticSite) → AreApart places
+    → All (λ (s : StaticSite). home + 1 ≤ s.home) rest → AreSitesApart rest → AreSitesApart (map (site home first st) places ++ rest)
 package_apart home first st [] rest apart later others = others
 package_apart home first st (p ∷ places) rest apart later others =
     let here = site home first st p in (
@@ -43,21 +44,28 @@ package_apart home first st (p ∷ places) rest apart later others =
 sites_apart : (home first : ℕ) (ps : List PackageRecord) → All AreStaticsKnown ps → AreSitesApart (sites_after home first ps)
 sites_apart home first [] known = tt {0}
 sites_apart home first (p ∷ ps) known =
-    package_apart home first p.statics (static_places p) (sites_after (home + 1) (first + length p.statics.arrays) ps) (All-head AreStaticsKnown p ps known).apart
+    package_apart home first p.statics (static_places p) (sites_after (home + 1) (first + length p.statics.arrays) ps)
+    (All-head AreStaticsKnown p ps known).apart
     (homes_from (home + 1) (first + length p.statics.arrays) ps)
     (sites_apart (home + 1) (first + length p.statics.arrays) ps (All-tail AreStaticsKnown p ps known))
 
-one_apart : (told : ℕ → TypeItem → Ty) (f : StaticRec) (s : StaticSite) → f.package ≡ s.home → f.offset ≡ s.place.offset → (slot : ℕ) (others : List StaticSite) → All (IsApart s) others → All (λ (g : StaticRec). f.package ≡ g.package → f.offset ≡ g.offset → ⊥) (records_from told slot others)
+one_apart : (told : ℕ → TypeItem → Ty) (f : StaticRec) (s : StaticSite) → f.package ≡ s.home → f.offset ≡ s.place.offset
+    → (slot : ℕ) (others : List StaticSite) → All (IsApart s) others
+    → All (λ (g : StaticRec). f.package ≡ g.package → f.offset ≡ g.offset → ⊥) (records_from told slot others)
 one_apart told f s home offset slot [] all = All-nil (λ (g : StaticRec). f.package ≡ g.package → f.offset ≡ g.offset → ⊥)
 one_apart told f s home offset slot (r ∷ others) all =
-    All-cons (λ (g : StaticRec). f.package ≡ g.package → f.offset ≡ g.offset → ⊥) (static_record slot r (type_of_site told r)) (records_from told (slot + cells_at r.place) others)
+    All-cons (λ (g : StaticRec). f.package ≡ g.package → f.offset ≡ g.offset → ⊥) (static_record slot r (type_of_site told r))
+    (records_from told (slot + cells_at r.place) others)
     (λ e h. All-head (IsApart s) r others all (sym home ∙ e) (sym offset ∙ h))
     (one_apart told f s home offset (slot + cells_at r.place) others (All-tail (IsApart s) r others all))
 
 records_apart : (told : ℕ → TypeItem → Ty) (slot : ℕ) (ss : List StaticSite) → AreSitesApart ss → StandApart (records_from told slot ss)
 records_apart told slot [] apart = tt {0}
-records_apart told slot (s ∷ ss) apart =
-    (one_apart told (static_record slot s (type_of_site told s)) s refl refl (slot + cells_at s.place) ss apart.0, records_apart told (slot + cells_at s.place) ss apart.1)
+records_apart told slot (s ∷ ss) apart = (
+  one_apart told (static_record slot s (type_of_site told s)) s refl refl (slot + cells_at s.place) ss apart.0,
+  records_apart told (slot + cells_at s.place) ss apart.1,
+)
 
-pub statics_stand_apart : (told : ℕ → TypeItem → Ty) (ps : List PackageRecord) → All AreStaticsKnown ps → (fields : List StaticRec) → fields ≡ static_records told ps → StandApart fields
+pub statics_stand_apart : (told : ℕ → TypeItem → Ty) (ps : List PackageRecord) → All AreStaticsKnown ps → (fields : List StaticRec)
+    → fields ≡ static_records told ps → StandApart fields
 statics_stand_apart told ps known fields e = subst StandApart (sym e) (records_apart told 0 (sites ps) (sites_apart 0 1 ps known))

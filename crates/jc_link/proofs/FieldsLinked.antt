@@ -1,5 +1,7 @@
 -- The field that a class has with a token stands among the cells of its instances.
-use Rattle.std.proofs.Common.{◌≡◌, ℕ, ◌+◌, ◌<◌, Bool, true, false, cond, List, [], ◌∷◌, ◌++◌, length, append_assoc, Option, Some, None, slice_get, find, option_map, option_and_then, IfSome, All, refl, sym, ap, ap₂, subst, ◌∙◌, arith, filter_map, flat_map}
+use Rattle.std.proofs.Common.{◌≡◌, ℕ, ◌+◌, ◌<◌, Bool, true, false, cond, List, [], ◌∷◌, ◌++◌, length, append_assoc, Option, Some}
+use Rattle.std.proofs.Common.{None, slice_get, find, option_map, option_and_then, IfSome, All, refl, sym, ap, ap₂, subst, ◌∙◌, arith, filter_map}
+use Rattle.std.proofs.Common.{flat_map}
 use Rattle.std.specs.Prelude.{◌==◌, ◌||◌}
 use Rattle.std.specs.List.{list_any, cons_option}
 use Rattle.std.proofs.lemmas.Bool.{eqb-true, eq-eqb}
@@ -45,7 +47,8 @@ abbrev IsKindly : OwnField → Type 0
 IsKindly f = IsOfKind f.kind f.ty
 
 module _ (ps : List PackageRecord) (object_is : ℕ) where
-  kindly_typed : (k : ℕ) (d : Description) (f : described.FieldDescriptor) (own : List OwnField) (o : Option TypeItem) → field_type d f.ty ≡ o → All IsKindly own → All IsKindly (cons_option (typed ps object_is k d f) own)
+  kindly_typed : (k : ℕ) (d : Description) (f : described.FieldDescriptor) (own : List OwnField) (o : Option TypeItem) → field_type d f.ty ≡ o
+      → All IsKindly own → All IsKindly (cons_option (typed ps object_is k d f) own)
   unfolding typed
   kindly_typed k d f own None e others = rw e others
   kindly_typed k d f own (Some t) e others =
@@ -60,7 +63,9 @@ module _ (ps : List PackageRecord) (object_is : ℕ) where
   unfolding own_fields
   own_kindly n = by (is_interface n.record_of.flags)
     where
-      by : (b : Bool) → All IsKindly (cond b [] (flat_map (fields_in ps object_is n.home n.of_package.description n.record_of.offset) n.of_package.description.items.classes))
+      by : (b : Bool)
+          → All IsKindly
+          (cond b [] (flat_map (fields_in ps object_is n.home n.of_package.description n.record_of.offset) n.of_package.description.items.classes))
       by true = All-nil IsKindly
       by false = subst (All IsKindly) (sym (of_records ps object_is n.home n.of_package.description n.record_of.offset n.of_package.description.items.classes))
           (all_kindly n.home n.of_package.description (flat_map (fields_described n.record_of.offset) n.of_package.description.items.classes))
@@ -77,18 +82,21 @@ at_first xs front cells n many whole =
     let same : n ≡ n + 0 = omega arith in
     ap (slice_get cells) same ∙ first_there xs front cells n 0 many whole
 
-cells_there : (k : Kind) (ty : Ty) (front farther cells : List Ty) (n : ℕ) → length front ≡ n → cells ≡ front ++ (cells_by_kind k ty ++ farther) → (slice_get cells n ≡ Some ty) × HasLowHalf k cells n
+cells_there : (k : Kind) (ty : Ty) (front farther cells : List Ty) (n : ℕ) → length front ≡ n → cells ≡ front ++ (cells_by_kind k ty ++ farther)
+    → (slice_get cells n ≡ Some ty) × HasLowHalf k cells n
 cells_there Ref ty front farther cells n many whole = (at_first (ty ∷ farther) front cells n many whole, tt)
 cells_there Byte ty front farther cells n many whole = (at_first (ty ∷ farther) front cells n many whole, tt)
 cells_there Short ty front farther cells n many whole = (at_first (ty ∷ farther) front cells n many whole, tt)
-cells_there Int ty front farther cells n many whole = (at_first (ty ∷ IntLow ∷ farther) front cells n many whole, first_there (ty ∷ IntLow ∷ farther) front cells n 1 many whole)
+cells_there Int ty front farther cells n many whole =
+    (at_first (ty ∷ IntLow ∷ farther) front cells n many whole, first_there (ty ∷ IntLow ∷ farther) front cells n 1 many whole)
 
 regrouped : (a b c d e : List Ty) → (a ++ (b ++ (c ++ d))) ++ e ≡ (a ++ b) ++ (c ++ (d ++ e))
 regrouped a b c d e = simp append_assoc
 
 -- ---- the nearest class that has the field
 
-on_chain_by : (p : ℕ → Bool) (x h : ℕ) (xs : List ℕ) (b : Bool) → p x ≡ b → (find p xs ≡ Some h → list_any (λ y. y == h) xs ≡ true) → cond b (Some x) (find p xs) ≡ Some h → list_any (λ y. y == h) (x ∷ xs) ≡ true
+on_chain_by : (p : ℕ → Bool) (x h : ℕ) (xs : List ℕ) (b : Bool) → p x ≡ b → (find p xs ≡ Some h → list_any (λ y. y == h) xs ≡ true)
+    → cond b (Some x) (find p xs) ≡ Some h → list_any (λ y. y == h) (x ∷ xs) ≡ true
 on_chain_by p x h xs true e others found =
     let same : x ≡ h = cc in
     rw (eq-eqb x h same) refl
@@ -102,13 +110,15 @@ holder_on : (t : ClassTable) (p : ℕ → Bool) (c h : ℕ) → find p (chain t 
 unfolding is_on_chain
 holder_on t p c h e = found_on p (chain t c) h e
 
-module _ (ps : List PackageRecord) (object_is packages : ℕ) (t : ClassTable) (methods : List MethodRec) (are : AreClasses t) (linked : AreLinkedClasses packages t methods)
+module _ (ps : List PackageRecord) (object_is packages : ℕ) (t : ClassTable) (methods : List MethodRec) (are : AreClasses t)
+    (linked : AreLinkedClasses packages t methods)
     (cells : HasCellsOf (named_classes ps object_is) object_is t) where
   own_is : (h : ℕ) (n : NumberedClass) → slice_get (numbered_classes ps) h ≡ Some n → own_cells t h ≡ cells_over (own_of ps (object t) n) 0 256
   unfolding own_cells
   own_is h n e = let has = has_own ps object_is t cells h n e in rw has.there has.own
 
-  stands_among : (c h token : ℕ) (n : NumberedClass) (f : OwnField) → slice_get (numbered_classes ps) h ≡ Some n → is_on_chain t h c ≡ true → token < 256 → own_with_token (own_of ps (object t) n) token ≡ f ∷ []
+  stands_among : (c h token : ℕ) (n : NumberedClass) (f : OwnField) → slice_get (numbered_classes ps) h ≡ Some n → is_on_chain t h c ≡ true
+      → token < 256 → own_with_token (own_of ps (object t) n) token ≡ f ∷ []
       → Stands (cells_of t c) (cells_above t (parent_of t h) + cells_before (own_of ps (object t) n) token) f
   stands_among c h token n f there on lt one =
       let own = only_stands (own_of ps (object t) n) 256 token f lt one in
@@ -126,36 +136,46 @@ module _ (ps : List PackageRecord) (object_is packages : ℕ) (t : ClassTable) (
 
   has_token : (token : ℕ) (own : List OwnField) (f : OwnField) → own_with_token own token ≡ f ∷ [] → f.token ≡ token
   has_token token own f one =
-      let passes : All (λ (g : OwnField). bears_token token g ≡ true) (f ∷ []) = subst (λ (fs : List OwnField). All (λ (g : OwnField). bears_token token g ≡ true) fs) one (filter_passes (bears_token token) own) in
+      let passes : All (λ (g : OwnField). bears_token token g ≡ true) (f ∷ []) = subst
+      (λ (fs : List OwnField). All (λ (g : OwnField). bears_token token g ≡ true) fs) one (filter_passes (bears_token token) own) in
       eqb-true f.token token (All-head (λ (g : OwnField). bears_token token g ≡ true) f [] passes)
 
   kindly : (token : ℕ) (n : NumberedClass) (f : OwnField) → own_with_token (own_of ps (object t) n) token ≡ f ∷ [] → IsOfKind f.kind f.ty
   kindly token n f one =
-      let all : All IsKindly (f ∷ []) = subst (λ (fs : List OwnField). All IsKindly fs) one (All-filter (bears_token token) IsKindly (own_of ps (object t) n) (own_kindly ps (object t) n)) in
+      let all : All IsKindly (f ∷ []) = subst (λ (fs : List OwnField). All IsKindly fs) one
+      (All-filter (bears_token token) IsKindly (own_of ps (object t) n) (own_kindly ps (object t) n)) in
       All-head IsKindly f [] all
 
-  field_of_class : (c h token : ℕ) (n : NumberedClass) (f : OwnField) → IsClass t c → slice_get (numbered_classes ps) h ≡ Some n → is_on_chain t h c ≡ true → token < 256 → own_with_token (own_of ps (object t) n) token ≡ f ∷ []
+  field_of_class : (c h token : ℕ) (n : NumberedClass) (f : OwnField) → IsClass t c → slice_get (numbered_classes ps) h ≡ Some n
+      → is_on_chain t h c ≡ true → token < 256 → own_with_token (own_of ps (object t) n) token ≡ f ∷ []
       → IsField t c (cells_above t (parent_of t h) + cells_before (own_of ps (object t) n) token) f.kind f.ty
   field_of_class c h token n f is there on lt one =
       let stands = stands_among c h token n f there on lt one in
-      let at = cells_there f.kind f.ty stands.front stands.farther (cells_of t c) (cells_above t (parent_of t h) + cells_before (own_of ps (object t) n) token) stands.many stands.whole in
+      let at = cells_there f.kind f.ty stands.front stands.farther (cells_of t c)
+      (cells_above t (parent_of t h) + cells_before (own_of ps (object t) n) token) stands.many stands.whole in
       record { class = is; kind = kindly token n f one; first = at.0; second = at.1 }
 
-  pub field_linked : (statics : List StaticRec) (token c : ℕ) → token < 256 → IsClass t c → IfSome (field_of (field_sites ps t) t token c) (IsMember t methods statics)
+  pub field_linked : (statics : List StaticRec) (token c : ℕ) → token < 256 → IsClass t c
+      → IfSome (field_of (field_sites ps t) t token c) (IsMember t methods statics)
   unfolding field_of holder_of
   field_linked statics token c lt is = by_holder (find (λ h. is_there (members_standing (field_sites ps t) (token_of_class h token))) (chain t c)) refl
     where
       is_field : (h : ℕ) (m : Member) → is_on_chain t h c ≡ true → StandsIn ps t h token m → IsMember t methods statics (as_of c m)
       is_field h m on s =
           subst (λ (x : Member). IsMember t methods statics (as_of c x)) s.is
-          (subst (λ (n : ℕ). IsField t c (cells_above t (parent_of t h) + cells_before (own_of ps (object t) s.class) n) s.field.kind s.field.ty) (sym (has_token token (own_of ps (object t) s.class) s.field s.one))
+          (subst (λ (n : ℕ). IsField t c (cells_above t (parent_of t h) + cells_before (own_of ps (object t) s.class) n) s.field.kind s.field.ty)
+          (sym (has_token token (own_of ps (object t) s.class) s.field s.one))
           (field_of_class c h token s.class s.field is s.there on lt s.one))
 
-      by_member : (h : ℕ) (o : Option Member) → is_on_chain t h c ≡ true → only (members_standing (field_sites ps t) (token_of_class h token)) ≡ o → IfSome (option_map (as_of c) o) (IsMember t methods statics)
+      by_member : (h : ℕ) (o : Option Member) → is_on_chain t h c ≡ true → only (members_standing (field_sites ps t) (token_of_class h token)) ≡ o
+          → IfSome (option_map (as_of c) o) (IsMember t methods statics)
       by_member h None on e = tt
       by_member h (Some m) on e = is_field h m on (stands_in ps t h token m e)
 
       by_holder : (o : Option ℕ) → find (λ h. is_there (members_standing (field_sites ps t) (token_of_class h token))) (chain t c) ≡ o
-          → IfSome (option_map (as_of c) (option_and_then (λ h. only (members_standing (field_sites ps t) (token_of_class h token))) o)) (IsMember t methods statics)
+          → IfSome (option_map (as_of c) (option_and_then (λ h. only (members_standing (field_sites ps t) (token_of_class h token))) o))
+          (IsMember t methods statics)
       by_holder None e = tt
-      by_holder (Some h) e = by_member h (only (members_standing (field_sites ps t) (token_of_class h token))) (holder_on t (λ x. is_there (members_standing (field_sites ps t) (token_of_class x token))) c h e) refl
+      by_holder (Some h) e =
+          by_member h (only (members_standing (field_sites ps t) (token_of_class h token)))
+          (holder_on t (λ x. is_there (members_standing (field_sites ps t) (token_of_class x token))) c h e) refl

@@ -44,13 +44,16 @@ pub record AreCaught (ps : List PackageRecord) (t : ClassTable) (statics : List 
   pub throwables : IsClass t (throwable t)
   pub at : (i : ℕ) → slice_get members i ≡ option_and_then (member_of ps t statics k) (slice_get pool i)
 
-module _ (ps : List PackageRecord) (t : ClassTable) (statics : List StaticRec) (k : ℕ) (pool : List Entry) (members : List Member) (are : AreCaught ps t statics k pool members) where
+module _ (ps : List PackageRecord) (t : ClassTable) (statics : List StaticRec) (k : ℕ) (pool : List Entry) (members : List Member)
+    (are : AreCaught ps t statics k pool members) where
   -- a Classref's member
-  class_is : (e : Entry) (r : ClassReference) (c : ℕ) → referred e ≡ ClassEntry r → class_referred ps k r ≡ Some c → member_of ps t statics k e ≡ Some (ClassOf c)
+  class_is : (e : Entry) (r : ClassReference) (c : ℕ) → referred e ≡ ClassEntry r → class_referred ps k r ≡ Some c
+      → member_of ps t statics k e ≡ Some (ClassOf c)
   unfolding member_of class_member
   class_is e r c is in_is = ap (member_referred ps t statics k) is ∙ ap (option_map ClassOf) in_is
 
-  found_class : (n : ℕ) (e : Entry) (r : ClassReference) (o : Option ℕ) → slice_get pool (suc n) ≡ Some e → referred e ≡ ClassEntry r → class_referred ps k r ≡ o → thrown_by t o ≡ true → CatchesThrown t members (suc n) (unwrap_or o 0)
+  found_class : (n : ℕ) (e : Entry) (r : ClassReference) (o : Option ℕ) → slice_get pool (suc n) ≡ Some e → referred e ≡ ClassEntry r
+      → class_referred ps k r ≡ o → thrown_by t o ≡ true → CatchesThrown t members (suc n) (unwrap_or o 0)
   found_class n e r None at entry is h = absurd (false≢true h)
   found_class n e r (Some c) at entry is h =
       let both = and_parts (not (is_interface t c)) (is_below t (Class c) (Class (throwable t))) h in
@@ -61,21 +64,25 @@ module _ (ps : List PackageRecord) (t : ClassTable) (statics : List StaticRec) (
         thrown = Below-from_is_below t are.chains (Class c) (Class (throwable t)) both.1;
       }
 
-  by_reference : (n : ℕ) (e : Entry) (x : PoolReference) → slice_get pool (suc n) ≡ Some e → referred e ≡ x → thrown_by t (class_caught ps k x) ≡ true → CatchesThrown t members (suc n) (class_or_none ps k x)
+  by_reference : (n : ℕ) (e : Entry) (x : PoolReference) → slice_get pool (suc n) ≡ Some e → referred e ≡ x
+      → thrown_by t (class_caught ps k x) ≡ true → CatchesThrown t members (suc n) (class_or_none ps k x)
   by_reference n e (ClassEntry r) at is h = found_class n e r (class_referred ps k r) at is refl h
   by_reference n e other at is h = absurd (false≢true h)
 
-  by_entry : (n : ℕ) (o : Option Entry) → slice_get pool (suc n) ≡ o → thrown_by t (class_caught_by ps k o) ≡ true → CatchesThrown t members (suc n) (class_in_entry ps k o)
+  by_entry : (n : ℕ) (o : Option Entry) → slice_get pool (suc n) ≡ o → thrown_by t (class_caught_by ps k o) ≡ true
+      → CatchesThrown t members (suc n) (class_in_entry ps k o)
   by_entry n None at h = absurd (false≢true h)
   by_entry n (Some e) at h = by_reference n e (referred e) at refl h
 
-  by_index : (index : ℕ) (b : Bool) → (index == 0) ≡ b → (b || thrown_by t (class_caught_by ps k (slice_get pool index))) ≡ true → CatchesThrown t members index (if b then throwable t else class_in_entry ps k (slice_get pool index))
+  by_index : (index : ℕ) (b : Bool) → (index == 0) ≡ b → (b || thrown_by t (class_caught_by ps k (slice_get pool index))) ≡ true
+      → CatchesThrown t members index (if b then throwable t else class_in_entry ps k (slice_get pool index))
   by_index zero true e h = record { catches = refl; class = are.throwables; thrown = same }
   by_index zero false e h = absurd (false≢true (sym e ∙ eq-eqb 0 0 refl))
   by_index (suc n) true e h = let zero_is : suc n ≡ 0 = eqb-true (suc n) 0 e in absurd (omega arith)
   by_index (suc n) false e h = by_entry n (slice_get pool (suc n)) refl h
 
-  pub caught-thrown : (index : ℕ) → catches_throwable ps t k pool index ≡ true → CatchesThrown t members index (caught_class ps (throwable t) k pool index)
+  pub caught-thrown : (index : ℕ) → catches_throwable ps t k pool index ≡ true
+      → CatchesThrown t members index (caught_class ps (throwable t) k pool index)
   unfolding catches_throwable
   caught-thrown index h = by_index index (index == 0) refl h
 
@@ -83,17 +90,21 @@ module _ (ps : List PackageRecord) (t : ClassTable) (statics : List StaticRec) (
   abbrev pub IsThrowing : Handler → Type 0
   IsThrowing h = CatchesThrown t members h.index h.class
 
-  handler_throws : (code_at : ℕ) (h : HandlerInfo) → catches_throwable ps t k pool h.index ≡ true → IsThrowing (handler_named ps (throwable t) k pool code_at h)
+  handler_throws : (code_at : ℕ) (h : HandlerInfo) → catches_throwable ps t k pool h.index ≡ true
+      → IsThrowing (handler_named ps (throwable t) k pool code_at h)
   unfolding handler_named
   handler_throws code_at h e = caught-thrown h.index e
 
-  pub named-throw : (code_at : ℕ) (hs : List HandlerInfo) → All (λ (h : HandlerInfo). catches_throwable ps t k pool h.index ≡ true) hs → All IsThrowing (map (handler_named ps (throwable t) k pool code_at) hs)
+  pub named-throw : (code_at : ℕ) (hs : List HandlerInfo) → All (λ (h : HandlerInfo). catches_throwable ps t k pool h.index ≡ true) hs
+      → All IsThrowing (map (handler_named ps (throwable t) k pool code_at) hs)
   named-throw code_at hs all =
       All-map IsThrowing (handler_named ps (throwable t) k pool code_at) hs
-      (All-weaker (λ (h : HandlerInfo). catches_throwable ps t k pool h.index ≡ true) (λ (h : HandlerInfo). IsThrowing (handler_named ps (throwable t) k pool code_at h)) (λ h e. handler_throws code_at h e) hs all)
+      (All-weaker (λ (h : HandlerInfo). catches_throwable ps t k pool h.index ≡ true)
+      (λ (h : HandlerInfo). IsThrowing (handler_named ps (throwable t) k pool code_at h)) (λ h e. handler_throws code_at h e) hs all)
 
 -- the handlers of a method of a package
-module _ (ps : List PackageRecord) (t : ClassTable) (statics : List StaticRec) (k : ℕ) (p : PackageRecord) (members : List Member) (are : AreCaught ps t statics k p.pool members)
+module _ (ps : List PackageRecord) (t : ClassTable) (statics : List StaticRec) (k : ℕ) (p : PackageRecord) (members : List Member)
+    (are : AreCaught ps t statics k p.pool members)
     (all : All (λ (h : HandlerInfo). catches_throwable ps t k p.pool h.index ≡ true) p.methods.handlers) where
   abbrev Throws : Handler → Type 0
   Throws h = CatchesThrown t members h.index h.class
@@ -102,7 +113,8 @@ module _ (ps : List PackageRecord) (t : ClassTable) (statics : List StaticRec) (
   body_by-throws m sig None = All-nil Throws
   body_by-throws m sig (Some h) =
       named-throw ps t statics k p.pool members are (offset_in_info (m.method_offset + h.size)) (handlers_of p m)
-      (All-take (λ (x : HandlerInfo). catches_throwable ps t k p.pool x.index ≡ true) m.handler_count _ (All-drop (λ (x : HandlerInfo). catches_throwable ps t k p.pool x.index ≡ true) m.handler_index p.methods.handlers all))
+      (All-take (λ (x : HandlerInfo). catches_throwable ps t k p.pool x.index ≡ true) m.handler_count _
+      (All-drop (λ (x : HandlerInfo). catches_throwable ps t k p.pool x.index ≡ true) m.handler_index p.methods.handlers all))
 
   pub body-throws : (m : MethodDescriptor) (sig : Sig) (b : Bool) → All Throws (body_of ps (throwable t) k p m sig b).handlers
   unfolding body_of

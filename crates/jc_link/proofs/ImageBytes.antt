@@ -1,5 +1,6 @@
 -- Bytes and references of the image by their places.
-use Rattle.std.proofs.Common.{◌≡◌, ℕ, zero, suc, ◌+◌, ◌-◌, ◌*◌, ◌≤◌, ◌<◌, min, List, [], ◌∷◌, ◌++◌, length, get_or, replicate, refl, arith}
+use Rattle.std.proofs.Common.{◌≡◌, ℕ, zero, suc, ◌+◌, ◌-◌, ◌*◌, ◌≤◌, ◌<◌, min, List, [], ◌∷◌, ◌++◌, length, get_or}
+use Rattle.std.proofs.Common.{replicate, refl, arith}
 use Rattle.cap_method.specs.StaticFormat.{Array, Statics}
 use Rattle.jc_link.specs.Image.{image, handles, references}
 
@@ -21,10 +22,12 @@ value_after (suc n) (suc k) xs h = let e : suc k - suc n ≡ k - n = omega arith
 pub byte_in_zeros : (s : Statics) (offset : ℕ) → offset < 2 * s.reference_count + s.default_value_count → get_or (image s) offset 0 ≡ 0
 byte_in_zeros s offset h = zero_before (2 * s.reference_count + s.default_value_count) offset s.values h
 
-pub byte_in_values : (s : Statics) (offset : ℕ) → 2 * s.reference_count + s.default_value_count ≤ offset → get_or (image s) offset 0 ≡ get_or s.values (offset - (2 * s.reference_count + s.default_value_count)) 0
+pub byte_in_values : (s : Statics) (offset : ℕ) → 2 * s.reference_count + s.default_value_count ≤ offset
+    → get_or (image s) offset 0 ≡ get_or s.values (offset - (2 * s.reference_count + s.default_value_count)) 0
 byte_in_values s offset h = value_after (2 * s.reference_count + s.default_value_count) offset s.values h
 
-handle_at : (first : ℕ) (arrays : List Array) (m k : ℕ) → k < length arrays → get_or (handles first arrays ++ replicate m 0) k 0 ≡ min (first + k) 65535
+handle_at : (first : ℕ) (arrays : List Array) (m k : ℕ) → k < length arrays → get_or (handles first arrays ++ replicate m 0) k 0 ≡ min (first + k)
+    65535
 handle_at first [] m k h = absurd (omega arith)
 handle_at first (a ∷ others) m zero h = omega arith
 handle_at first (a ∷ others) m (suc k) h = omega (arith, handle_at (first + 1) others m k (omega arith))

@@ -1,5 +1,6 @@
 -- What entries name is there.
-use Rattle.std.proofs.Common.{◌≡◌, ℕ, zero, suc, ◌<◌, ◌-◌, Bool, true, false, cond, List, [], ◌∷◌, ◌++◌, length, Option, Some, None, refl, sym, subst, ◌∙◌, slice_get, nat_lt, IfSome, Contains, All, arith, get_or}
+use Rattle.std.proofs.Common.{◌≡◌, ℕ, zero, suc, ◌<◌, ◌-◌, Bool, true, false, cond, List, [], ◌∷◌, ◌++◌, length, Option, Some, None}
+use Rattle.std.proofs.Common.{refl, sym, subst, ◌∙◌, slice_get, nat_lt, IfSome, Contains, All, arith, get_or}
 use Rattle.std.specs.Option.{option_to_list}
 use Rattle.std.proofs.lemmas.List.{append-nil}
 use Rattle.std.proofs.lemmas.Option.{slice_get-get_or, slice_get_within, same_Some}
@@ -24,7 +25,8 @@ use Rattle.jc_link.specs.Members.{static_site, static_sites, static_at}
 
 -- ---- classes and methods
 
-pub class-below : (ps : List PackageRecord) (k : ℕ) (reference : ClassReference) → IfSome (class_referred ps k reference) (λ c. c < length (numbered_classes ps))
+pub class-below : (ps : List PackageRecord) (k : ℕ) (reference : ClassReference)
+    → IfSome (class_referred ps k reference) (λ c. c < length (numbered_classes ps))
 unfolding class_referred
 class-below ps k reference = named_at ps (place_referred ps k reference)
 
@@ -45,7 +47,8 @@ pub entry_contained : (t : ClassTable) (p token n : ℕ) → entry_at t p token 
 unfolding entry_at
 entry_contained t p token n e = by (nat_lt token 128) e
   where
-    by : (b : Bool) → cond b (slice_get (public_of t p) token) (slice_get (visible_of t p) (token - 128)) ≡ Some n → Contains (public_of t p ++ visible_of t p) n
+    by : (b : Bool) → cond b (slice_get (public_of t p) token) (slice_get (visible_of t p) (token - 128)) ≡ Some n
+        → Contains (public_of t p ++ visible_of t p) n
     by true h = Contains-append_left (public_of t p) (visible_of t p) n (contained (public_of t p) token n h)
     by false h = Contains-append_right (public_of t p) (visible_of t p) n (contained (visible_of t p) (token - 128) n h)
 
@@ -68,11 +71,14 @@ standing-sites (f ∷ fs) spot m h = by (same_spot spot (static_site f).spot) (s
     further : IsSite fs m → IsSite (f ∷ fs) m
     further (g, at, e) = (g, Contains-append_right (f ∷ []) fs g at, e)
 
-    first : Contains ((static_site f).member ∷ members_standing (static_sites fs) spot) m → (Contains (members_standing (static_sites fs) spot) m → IsSite fs m) → IsSite (f ∷ fs) m
+    first : Contains ((static_site f).member ∷ members_standing (static_sites fs) spot) m
+        → (Contains (members_standing (static_sites fs) spot) m → IsSite fs m) → IsSite (f ∷ fs) m
     first (zero, lt, e) others = (f, (0, omega arith, refl), e)
     first (suc k, lt, e) others = further (others (k, omega arith, e))
 
-    by : (b : Bool) → (Contains (members_standing (static_sites fs) spot) m → IsSite fs m) → Contains (cond b ((static_site f).member ∷ members_standing (static_sites fs) spot) (members_standing (static_sites fs) spot)) m → IsSite (f ∷ fs) m
+    by : (b : Bool) → (Contains (members_standing (static_sites fs) spot) m → IsSite fs m)
+        → Contains (cond b ((static_site f).member ∷ members_standing (static_sites fs) spot) (members_standing (static_sites fs) spot)) m
+        → IsSite (f ∷ fs) m
     by true others at = first at others
     by false others at = further (others at)
 
@@ -80,7 +86,9 @@ is-member : (t : ClassTable) (methods : List MethodRec) (statics : List StaticRe
 unfolding IsSite
 is-member t methods statics m (f, (k, lt, at), e) = subst (IsMember t methods statics) e (k, f, lt, at, record { slot = refl; kind = refl; ty = refl })
 
-pub static_there : (t : ClassTable) (methods : List MethodRec) (statics : List StaticRec) (place : RecordPlace) → IfSome (static_at statics place) (IsMember t methods statics)
+pub static_there : (t : ClassTable) (methods : List MethodRec) (statics : List StaticRec) (place : RecordPlace)
+    → IfSome (static_at statics place) (IsMember t methods statics)
 unfolding static_at
 static_there t methods statics place =
-    only-has (IsMember t methods statics) (members_standing (static_sites statics) (record { owner = place.package; number = place.offset })) (λ m h. is-member t methods statics m (standing-sites statics _ m h))
+    only-has (IsMember t methods statics) (members_standing (static_sites statics) (record { owner = place.package; number = place.offset }))
+    (λ m h. is-member t methods statics m (standing-sites statics _ m h))

@@ -35,15 +35,19 @@ module _ (t : ClassTable) (methods : List MethodRec) where
   thrown_is (suc (suc (suc (suc (suc (suc (suc (suc n)))))))) two lt = absurd (omega arith)
 
   roles_concrete : abstract_roles t methods ≡ [] → (k : ℕ) → 2 ≤ k → k < 8 → is_concrete t methods (slice_index t.roles k) ≡ true
-  roles_concrete none k two lt = concrete_by k (is_concrete t methods (slice_index t.roles k)) refl (faultless (role_fault t methods) thrown_roles k none (thrown_is k two lt))
+  roles_concrete none k two lt =
+      concrete_by k (is_concrete t methods (slice_index t.roles k)) refl (faultless (role_fault t methods) thrown_roles k none (thrown_is k two lt))
 
-pub are-roles : ConcreteIsDecided → (ps : List PackageRecord) (roles : List ℕ) (t : ClassTable) → IsTableOf ps roles t → abstract_roles (table_of ps roles) (methods_of ps roles) ≡ [] → AreRoles (table_of ps roles) (methods_of ps roles)
+pub are-roles : ConcreteIsDecided → (ps : List PackageRecord) (roles : List ℕ) (t : ClassTable) → IsTableOf ps roles t
+    → abstract_roles (table_of ps roles) (methods_of ps roles) ≡ [] → AreRoles (table_of ps roles) (methods_of ps roles)
 are-roles decided ps roles t is none = record {
   count = is.eight;
   objects = role-class ps roles t is 0 (omega arith);
   throwables = role-class ps roles t is 1 (omega arith);
   others = λ k two lt. record {
-    concrete = (decided (table_of ps roles) (methods_of ps roles) (slice_index roles k)).0 (roles_concrete (table_of ps roles) (methods_of ps roles) none k two lt);
+    concrete =
+        (decided (table_of ps roles) (methods_of ps roles) (slice_index roles k)).0
+        (roles_concrete (table_of ps roles) (methods_of ps roles) none k two lt);
     thrown = role-thrown ps roles t is k two lt;
   };
 }

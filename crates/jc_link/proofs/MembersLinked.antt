@@ -1,5 +1,6 @@
 -- What the entries of constant pools name is there.
-use Rattle.std.proofs.Common.{◌≡◌, ℕ, ◌<◌, Bool, true, false, cond, eqb, List, ◌++◌, length, Option, Some, None, slice_index, option_map, option_and_then, is_some, IfSome, refl, sym, ap, subst, ◌∙◌}
+use Rattle.std.proofs.Common.{◌≡◌, ℕ, ◌<◌, Bool, true, false, cond, eqb, List, ◌++◌, length, Option, Some, None, slice_index, option_map}
+use Rattle.std.proofs.Common.{option_and_then, is_some, IfSome, refl, sym, ap, subst, ◌∙◌}
 use Rattle.std.specs.Prelude.{IsSomeAnd, Contains}
 use Rattle.std.proofs.lemmas.List.{length-map}
 use Rattle.cap_bytes.specs.declared.class_reference.ClassReference.{ClassReference}
@@ -26,17 +27,20 @@ use Rattle.jc_resolve.specs.NamedClasses.{named_classes}
 use Rattle.jc_resolve.proofs.NumberLaws.{method_below}
 use Rattle.jc_link.specs.Fields.{field_sites, HasCellsOf}
 use Rattle.jc_link.specs.Entries.{field_place, method_place}
-use Rattle.jc_link.specs.Members.{class_member, proper_by, proper_referred, virtual_by, virtual_member, may_name, super_by, super_of, super_member, static_at, static_member, call_member, field_of, field_member, member_referred}
+use Rattle.jc_link.specs.Members.{class_member, proper_by, proper_referred, virtual_by, virtual_member, may_name, super_by, super_of, super_member, static_at}
+use Rattle.jc_link.specs.Members.{static_member, call_member, field_of, field_member, member_referred}
 use Rattle.jc_link.proofs.KnownMembers.{class-below, entry_contained, static_there}
 use Rattle.jc_link.proofs.OwnRecords.{records_many}
 use Rattle.jc_link.proofs.FieldsLinked.{field_linked}
 
 -- what holds of what was found, step by step
-if_mapped : {X Y : Type 0} (P : Y → Type 0) (Q : X → Type 0) (f : X → Y) (o : Option X) → IfSome o Q → ((x : X) → Q x → P (f x)) → IfSome (option_map f o) P
+if_mapped : {X Y : Type 0} (P : Y → Type 0) (Q : X → Type 0) (f : X → Y) (o : Option X) → IfSome o Q → ((x : X) → Q x → P (f x))
+    → IfSome (option_map f o) P
 if_mapped P Q f None h step = tt
 if_mapped P Q f (Some x) h step = step x h
 
-if_then : {X Y : Type 0} (P : Y → Type 0) (Q : X → Type 0) (f : X → Option Y) (o : Option X) → IfSome o Q → ((x : X) → Q x → IfSome (f x) P) → IfSome (option_and_then f o) P
+if_then : {X Y : Type 0} (P : Y → Type 0) (Q : X → Type 0) (f : X → Option Y) (o : Option X) → IfSome o Q → ((x : X) → Q x → IfSome (f x) P)
+    → IfSome (option_and_then f o) P
 if_then P Q f None h step = tt
 if_then P Q f (Some x) h step = step x h
 
@@ -50,7 +54,9 @@ HasByteToken (InstanceField r token) = token < 256
 HasByteToken other = Unit {0}
 
 byte_by : (r : ClassReference) (f g : StaticReference) (token : ℕ) → token < 256 → (a b c d s : Bool)
-    → HasByteToken (cond a (Class r) (cond b (InstanceField r token) (cond c (VirtualMethod r token) (cond d (SuperMethod r token) (cond s (StaticField f) (StaticMethod g))))))
+    → HasByteToken
+    (cond a (Class r)
+    (cond b (InstanceField r token) (cond c (VirtualMethod r token) (cond d (SuperMethod r token) (cond s (StaticField f) (StaticMethod g))))))
 byte_by r f g token lt true b c d s = tt
 byte_by r f g token lt false true c d s = lt
 byte_by r f g token lt false false true d s = tt
@@ -60,9 +66,12 @@ byte_by r f g token lt false false false false false = tt
 
 byte-token : (e : Entry) → slice_index e.bytes 2 < 256 → HasByteToken (referred e)
 unfolding referred
-byte-token e lt = byte_by (class_in e.bytes) (static_in e.bytes) (static_in e.bytes) (slice_index e.bytes 2) lt (eqb e.tag 1) (eqb e.tag 2) (eqb e.tag 3) (eqb e.tag 4) (eqb e.tag 5)
+byte-token e lt =
+    byte_by (class_in e.bytes) (static_in e.bytes) (static_in e.bytes) (slice_index e.bytes 2) lt (eqb e.tag 1) (eqb e.tag 2) (eqb e.tag 3) (eqb e.tag 4)
+    (eqb e.tag 5)
 
-module _ (ps : List PackageRecord) (object packages : ℕ) (t : ClassTable) (methods : List MethodRec) (statics : List StaticRec) (are : AreClasses t) (linked : AreLinkedClasses packages t methods)
+module _ (ps : List PackageRecord) (object packages : ℕ) (t : ClassTable) (methods : List MethodRec) (statics : List StaticRec) (are : AreClasses t)
+    (linked : AreLinkedClasses packages t methods)
     (cells : HasCellsOf (named_classes ps object) object t) (many : length methods ≡ length (numbered_methods ps)) where
   class_known : (k : ℕ) (r : ClassReference) → IfSome (class_referred ps k r) (λ c. c < length t.records)
   class_known k r = subst (λ n. IfSome (class_referred ps k r) (λ c. c < n)) (sym (records_many ps object t cells)) (class-below ps k r)
@@ -77,7 +86,9 @@ module _ (ps : List PackageRecord) (object packages : ℕ) (t : ClassTable) (met
 
   proper_known : (k : ℕ) (r : ClassReference) → IfSome (proper_referred ps t k r) (IsClass t)
   unfolding proper_referred
-  proper_known k r = if_then (IsClass t) (λ c. c < length t.records) (proper_by t) (class_referred ps k r) (class_known k r) (λ c lt. proper_class c (is_interface t c) refl lt)
+  proper_known k r =
+      if_then (IsClass t) (λ c. c < length t.records) (proper_by t) (class_referred ps k r) (class_known k r)
+      (λ c lt. proper_class c (is_interface t c) refl lt)
 
   -- ---- fields
 
@@ -89,24 +100,30 @@ module _ (ps : List PackageRecord) (object packages : ℕ) (t : ClassTable) (met
 
   -- ---- methods with dispatch
 
-  virtual_class : (c token : ℕ) (o : Option ℕ) → entry_at t c token ≡ o → IsClass t c → IfSome (cond (is_some o) (Some (Virtual c token)) None) (IsMember t methods statics)
+  virtual_class : (c token : ℕ) (o : Option ℕ) → entry_at t c token ≡ o → IsClass t c → IfSome (cond (is_some o) (Some (Virtual c token)) None)
+      (IsMember t methods statics)
   virtual_class c token None e is = tt
   virtual_class c token (Some n) e is = (is, ap is_some e)
 
   virtual_linked : (k : ℕ) (r : ClassReference) (token : ℕ) → IfSome (virtual_member ps t k r token) (IsMember t methods statics)
   unfolding virtual_member virtual_by
   virtual_linked k r token =
-      if_then (IsMember t methods statics) (IsClass t) (virtual_by t token) (proper_referred ps t k r) (proper_known k r) (λ c is. virtual_class c token (entry_at t c token) refl is)
+      if_then (IsMember t methods statics) (IsClass t) (virtual_by t token) (proper_referred ps t k r) (proper_known k r)
+      (λ c is. virtual_class c token (entry_at t c token) refl is)
 
-  super_entry : (c p token : ℕ) (o : Option ℕ) → parent_of t c ≡ Some p → entry_at t p token ≡ o → IsClass t c → IfSome (option_map (Super c) o) (IsMember t methods statics)
+  super_entry : (c p token : ℕ) (o : Option ℕ) → parent_of t c ≡ Some p → entry_at t p token ≡ o → IsClass t c
+      → IfSome (option_map (Super c) o) (IsMember t methods statics)
   super_entry c p token None up e is = tt
-  super_entry c p token (Some n) up e is = (is, subst (λ o. IsSomeAnd o (λ q. Contains (public_of t q ++ visible_of t q) n)) (sym up) (entry_contained t p token n e))
+  super_entry c p token (Some n) up e is =
+      (is, subst (λ o. IsSomeAnd o (λ q. Contains (public_of t q ++ visible_of t q) n)) (sym up) (entry_contained t p token n e))
 
-  super_named : (c p token : ℕ) (b : Bool) → parent_of t c ≡ Some p → IsClass t c → IfSome (cond b (option_map (Super c) (entry_at t p token)) None) (IsMember t methods statics)
+  super_named : (c p token : ℕ) (b : Bool) → parent_of t c ≡ Some p → IsClass t c
+      → IfSome (cond b (option_map (Super c) (entry_at t p token)) None) (IsMember t methods statics)
   super_named c p token true up is = super_entry c p token (entry_at t p token) up refl is
   super_named c p token false up is = tt
 
-  super_class : (c token : ℕ) (o : Option ℕ) → parent_of t c ≡ o → IsClass t c → IfSome (option_and_then (super_by t token c) o) (IsMember t methods statics)
+  super_class : (c token : ℕ) (o : Option ℕ) → parent_of t c ≡ o → IsClass t c
+      → IfSome (option_and_then (super_by t token c) o) (IsMember t methods statics)
   unfolding super_by
   super_class c token None up is = tt
   super_class c token (Some p) up is = super_named c p token (may_name t c token p) up is
@@ -114,7 +131,8 @@ module _ (ps : List PackageRecord) (object packages : ℕ) (t : ClassTable) (met
   super_linked : (k : ℕ) (r : ClassReference) (token : ℕ) → IfSome (super_member ps t k r token) (IsMember t methods statics)
   unfolding super_member super_of
   super_linked k r token =
-      if_then (IsMember t methods statics) (IsClass t) (super_of t token) (proper_referred ps t k r) (proper_known k r) (λ c is. super_class c token (parent_of t c) refl is)
+      if_then (IsMember t methods statics) (IsClass t) (super_of t token) (proper_referred ps t k r) (proper_known k r)
+      (λ c is. super_class c token (parent_of t c) refl is)
 
   -- ---- static fields, and methods without dispatch
 
@@ -143,10 +161,15 @@ module _ (ps : List PackageRecord) (object packages : ℕ) (t : ClassTable) (met
   referred_linked k (StaticMethod r) lt = call_linked k r
 
 -- the same of the names of packages
-pub member_there : (n : NamesRecord) (t : ClassTable) (statics : List StaticRec) (k : ℕ) (e : Entry) (o : Option Member) → n.classes ≡ named_classes n.packages (slice_index n.roles 0) → n.methods ≡ named_methods n.packages n.roles
-    → AreClasses t → AreLinkedClasses (length n.packages) t n.methods → HasCellsOf n.classes (slice_index n.roles 0) t → slice_index e.bytes 2 < 256 → o ≡ member_referred n.packages t statics k (referred e) → IfSome o (IsMember t n.methods statics)
+pub member_there : (n : NamesRecord) (t : ClassTable) (statics : List StaticRec) (k : ℕ) (e : Entry) (o : Option Member)
+    → n.classes ≡ named_classes n.packages (slice_index n.roles 0) → n.methods ≡ named_methods n.packages n.roles
+    → AreClasses t → AreLinkedClasses (length n.packages) t n.methods → HasCellsOf n.classes (slice_index n.roles 0) t → slice_index e.bytes 2 < 256
+    → o ≡ member_referred n.packages t statics k (referred e) → IfSome o (IsMember t n.methods statics)
 unfolding named_methods
 member_there n t statics k e o classes methods are linked cells lt is =
-    let many : length n.methods ≡ length (numbered_methods n.packages) = ap length methods ∙ length-map (numbered_methods n.packages) (named_method n.packages n.roles) in
-    let own : HasCellsOf (named_classes n.packages (slice_index n.roles 0)) (slice_index n.roles 0) t = subst (λ (cs : List NamedClass). HasCellsOf cs (slice_index n.roles 0) t) classes cells in
-    subst (λ (m : Option Member). IfSome m (IsMember t n.methods statics)) (sym is) (referred_linked n.packages (slice_index n.roles 0) (length n.packages) t n.methods statics are linked own many k (referred e) (byte-token e lt))
+    let many : length n.methods ≡ length (numbered_methods n.packages) = ap length methods
+    ∙ length-map (numbered_methods n.packages) (named_method n.packages n.roles) in
+    let own : HasCellsOf (named_classes n.packages (slice_index n.roles 0)) (slice_index n.roles 0) t = subst
+    (λ (cs : List NamedClass). HasCellsOf cs (slice_index n.roles 0) t) classes cells in
+    subst (λ (m : Option Member). IfSome m (IsMember t n.methods statics)) (sym is)
+    (referred_linked n.packages (slice_index n.roles 0) (length n.packages) t n.methods statics are linked own many k (referred e) (byte-token e lt))

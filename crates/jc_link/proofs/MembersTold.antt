@@ -22,7 +22,8 @@ pools-each named k [] = refl
 pools-each named k (p ∷ ps) = ap suc (pools-each named (k + 1) ps)
 
 module _ (ps : List PackageRecord) (t : ClassTable) (statics : List StaticRec) where
-  told-by : (o : Option LinkFault) (r : Result (List (List Member)) LinkEnd) → least_of link_place (member_fault ps t statics) (pool_places ps) ≡ o → IsDue (refused o >>= λ _. Ok (pools ps t statics)) r → TellsPools ps t statics r
+  told-by : (o : Option LinkFault) (r : Result (List (List Member)) LinkEnd) → least_of link_place (member_fault ps t statics) (pool_places ps) ≡ o
+      → IsDue (refused o >>= λ _. Ok (pools ps t statics)) r → TellsPools ps t statics r
   told-by None (Ok found) e due =
       let same : pools ps t statics ≡ found = cc in
       (sym same, least-none link_place (missing_members ps t statics) (sym (least-at_fault link_place (member_fault ps t statics) (pool_places ps) None) ∙ e))
@@ -31,7 +32,8 @@ module _ (ps : List PackageRecord) (t : ClassTable) (statics : List StaticRec) w
   told-by (Some g) (Ok found) e due = absurd cc
   told-by (Some g) (Err (Fault f)) e due =
       let same : g ≡ f = cc in
-      least-found link_place (missing_members ps t statics) f (sym (least-at_fault link_place (member_fault ps t statics) (pool_places ps) None) ∙ e ∙ ap Some same)
+      least-found link_place (missing_members ps t statics) f (sym (least-at_fault link_place (member_fault ps t statics) (pool_places ps) None) ∙ e
+      ∙ ap Some same)
   told-by (Some g) (Err Memory) e due = tt {0}
 
   pub due-tells : (r : Result (List (List Member)) LinkEnd) → IsDue (pools_of ps t statics) r → TellsPools ps t statics r

@@ -1,5 +1,6 @@
 -- What an entry names by cases is what is computed, and at most one member is named.
-use Rattle.std.proofs.Common.{◌≡◌, ℕ, Bool, true, false, cond, eqb, ltb, List, [], ◌∷◌, Option, Some, None, option_map, option_and_then, is_some, refl, sym, ap, subst, ◌∙◌, inl, inr}
+use Rattle.std.proofs.Common.{◌≡◌, ℕ, Bool, true, false, cond, eqb, ltb, List, [], ◌∷◌, Option, Some, None, option_map, option_and_then, is_some}
+use Rattle.std.proofs.Common.{refl, sym, ap, subst, ◌∙◌, inl, inr}
 use Rattle.std.proofs.lemmas.Bool.{ltb-true, eqb-true, eq-eqb, lt-ltb, or_cases, or_left, or_right}
 use Rattle.std.proofs.lemmas.Option.{same_Some}
 use Rattle.cap_bytes.specs.declared.class_reference.ClassReference.{ClassReference}
@@ -22,8 +23,11 @@ use Rattle.jc_resolve.proofs.ReferenceLaws.{computed-refers, refers-computed}
 use Rattle.jc_link.specs.Sites.{only, members_standing}
 use Rattle.jc_link.specs.Entries.{place_in, exported_field, exported_method, place_by, field_place, method_place}
 use Rattle.jc_link.specs.Fields.{field_sites}
-use Rattle.jc_link.specs.Members.{class_member, proper_by, proper_referred, virtual_by, virtual_member, may_name, super_by, super_of, super_member, static_sites, static_at, static_member, call_member, holder_of, token_of_class, as_of, field_of, field_member, member_referred, member_of}
-use Rattle.jc_link.specs.Naming.{RefersTo, internal, imported, NamesClass, MayName, NamesMember, classref, instance_fieldref, virtual_methodref, super_methodref, static_fieldref, static_methodref}
+use Rattle.jc_link.specs.Members.{class_member, proper_by, proper_referred, virtual_by, virtual_member, may_name, super_by, super_of, super_member}
+use Rattle.jc_link.specs.Members.{static_sites, static_at, static_member, call_member, holder_of, token_of_class, as_of, field_of, field_member}
+use Rattle.jc_link.specs.Members.{member_referred, member_of}
+use Rattle.jc_link.specs.Naming.{RefersTo, internal, imported, NamesClass, MayName, NamesMember, classref, instance_fieldref, virtual_methodref}
+use Rattle.jc_link.specs.Naming.{super_methodref, static_fieldref, static_methodref}
 
 -- ---- what was found, step by step
 
@@ -111,15 +115,19 @@ module _ (ps : List PackageRecord) (t : ClassTable) (statics : List StaticRec) (
       let a = map_some ClassOf (class_referred ps k r) m h in
       classref r a.0 is (computed-refers ps k r a.0 a.1) (sym a.2)
 
-  field-from : (r : ClassReference) (token : ℕ) → referred e ≡ InstanceField r token → field_member ps t k r token ≡ Some m → NamesMember ps t statics k e m
+  field-from : (r : ClassReference) (token : ℕ) → referred e ≡ InstanceField r token → field_member ps t k r token ≡ Some m
+      → NamesMember ps t statics k e m
   unfolding field_member field_of
   field-from r token is h =
       let a = then_some (field_of (field_sites ps t) t token) (proper_referred ps t k r) m h in
-      let b = map_some (as_of a.0) (option_and_then (λ i. only (members_standing (field_sites ps t) (token_of_class i token))) (holder_of (field_sites ps t) t token a.0)) m a.2 in
+      let b = map_some (as_of a.0)
+      (option_and_then (λ i. only (members_standing (field_sites ps t) (token_of_class i token))) (holder_of (field_sites ps t) t token a.0)) m a.2 in
       let d = then_some (λ i. only (members_standing (field_sites ps t) (token_of_class i token))) (holder_of (field_sites ps t) t token a.0) b.0 b.1 in
-      instance_fieldref r token a.0 d.0 b.0 is (proper-from ps t k r a.0 a.1) d.1 (only-one (members_standing (field_sites ps t) (token_of_class d.0 token)) b.0 d.2) (sym b.2)
+      instance_fieldref r token a.0 d.0 b.0 is (proper-from ps t k r a.0 a.1) d.1
+      (only-one (members_standing (field_sites ps t) (token_of_class d.0 token)) b.0 d.2) (sym b.2)
 
-  virtual-from : (r : ClassReference) (token : ℕ) → referred e ≡ VirtualMethod r token → virtual_member ps t k r token ≡ Some m → NamesMember ps t statics k e m
+  virtual-from : (r : ClassReference) (token : ℕ) → referred e ≡ VirtualMethod r token → virtual_member ps t k r token ≡ Some m
+      → NamesMember ps t statics k e m
   unfolding virtual_member virtual_by
   virtual-from r token is h =
       let a = then_some (virtual_by t token) (proper_referred ps t k r) m h in
@@ -136,7 +144,8 @@ module _ (ps : List PackageRecord) (t : ClassTable) (statics : List StaticRec) (
   may-to c token p (inl low) = or_left (ltb token 128) (eqb (package_of t p) (package_of t c)) (lt-ltb token 128 low)
   may-to c token p (inr same) = or_right (ltb token 128) (eqb (package_of t p) (package_of t c)) (eq-eqb (package_of t p) (package_of t c) same)
 
-  super-from : (r : ClassReference) (token : ℕ) → referred e ≡ SuperMethod r token → super_member ps t k r token ≡ Some m → NamesMember ps t statics k e m
+  super-from : (r : ClassReference) (token : ℕ) → referred e ≡ SuperMethod r token → super_member ps t k r token ≡ Some m
+      → NamesMember ps t statics k e m
   unfolding super_member super_of super_by
   super-from r token is h =
       let a = then_some (super_of t token) (proper_referred ps t k r) m h in
@@ -149,7 +158,8 @@ module _ (ps : List PackageRecord) (t : ClassTable) (statics : List StaticRec) (
   unfolding static_member static_at
   static-from r is h =
       let a = then_some (static_at statics) (field_place ps k r) m h in
-      static_fieldref r a.0 is (field_place-from ps k r a.0 a.1) (only-one (members_standing (static_sites statics) (record { owner = a.0.package; number = a.0.offset })) m a.2)
+      static_fieldref r a.0 is (field_place-from ps k r a.0 a.1)
+      (only-one (members_standing (static_sites statics) (record { owner = a.0.package; number = a.0.offset })) m a.2)
 
   call-from : (r : StaticReference) → referred e ≡ StaticMethod r → call_member ps k r ≡ Some m → NamesMember ps t statics k e m
   unfolding call_member
@@ -207,5 +217,6 @@ module _ (ps : List PackageRecord) (t : ClassTable) (statics : List StaticRec) (
       ∙ ap Some (sym same)
 
 -- at most one member is named
-pub names-only : (ps : List PackageRecord) (t : ClassTable) (statics : List StaticRec) (k : ℕ) (e : Entry) (m n : Member) → NamesMember ps t statics k e m → NamesMember ps t statics k e n → n ≡ m
+pub names-only : (ps : List PackageRecord) (t : ClassTable) (statics : List StaticRec) (k : ℕ) (e : Entry) (m n : Member)
+    → NamesMember ps t statics k e m → NamesMember ps t statics k e n → n ≡ m
 names-only ps t statics k e m n a b = same_Some n m (sym (names-member ps t statics k e n b) ∙ names-member ps t statics k e m a)

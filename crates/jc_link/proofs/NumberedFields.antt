@@ -1,5 +1,6 @@
 -- The fields of all classes, class by class in the order of the classes' numbers.
-use Rattle.std.proofs.Common.{◌≡◌, ℕ, zero, suc, ◌+◌, ◌<◌, Bool, true, false, cond, eqb, List, [], ◌∷◌, ◌++◌, length, map, append_assoc, Option, Some, None, slice_get, refl, sym, ap, ap₂, ◌∙◌, arith}
+use Rattle.std.proofs.Common.{◌≡◌, ℕ, zero, suc, ◌+◌, ◌<◌, Bool, true, false, cond, eqb, List, [], ◌∷◌, ◌++◌, length, map}
+use Rattle.std.proofs.Common.{append_assoc, Option, Some, None, slice_get, refl, sym, ap, ap₂, ◌∙◌, arith}
 use Rattle.std.proofs.lemmas.Bool.Decides.{nat_tests}
 use Rattle.std.proofs.lemmas.List.{append-nil, length-map}
 use Rattle.cap_class.specs.ClassFormat.{Class}
@@ -28,18 +29,21 @@ module _ (ps : List PackageRecord) (t : ClassTable) where
       ap (λ (i : ℕ). numbered_sites i ns) e
   sites_append c (m ∷ ms) ns =
       let e : (c + 1) + length ms ≡ c + suc (length ms) = omega arith in
-      ap (λ (sites : List MemberSite). class_sites t c (own_of ps (object t) m) ++ sites) (sites_append (c + 1) ms ns ∙ ap (λ (i : ℕ). numbered_sites (c + 1) ms ++ numbered_sites i ns) e)
+      ap (λ (sites : List MemberSite). class_sites t c (own_of ps (object t) m) ++ sites)
+      (sites_append (c + 1) ms ns ∙ ap (λ (i : ℕ). numbered_sites (c + 1) ms ++ numbered_sites i ns) e)
       ∙ sym (append_assoc (class_sites t c (own_of ps (object t) m)) (numbered_sites (c + 1) ms) (numbered_sites (c + suc (length ms)) ns))
 
   of_package : (k : ℕ) (p : PackageRecord) (c : ℕ) (rs : List Class) → sites_of_classes ps t k p c rs ≡ numbered_sites c (map (numbered_class k p) rs)
   of_package k p c [] = refl
-  of_package k p c (r ∷ rs) = ap (λ (sites : List MemberSite). class_sites t c (own_of ps (object t) (numbered_class k p r)) ++ sites) (of_package k p (c + 1) rs)
+  of_package k p c (r ∷ rs) =
+      ap (λ (sites : List MemberSite). class_sites t c (own_of ps (object t) (numbered_class k p r)) ++ sites) (of_package k p (c + 1) rs)
 
   of_packages : (c k : ℕ) (qs : List PackageRecord) → sites_after ps t c k qs ≡ numbered_sites c (classes_after k qs)
   of_packages c k [] = refl
   of_packages c k (q ∷ qs) =
       let e : c + length q.classes ≡ c + length (numbered_classes_of k q) = ap (λ (n : ℕ). c + n) (sym (length-map q.classes (numbered_class k q))) in
-      ap₂ ◌++◌ (of_package k q c q.classes) (of_packages (c + length q.classes) (k + 1) qs ∙ ap (λ (i : ℕ). numbered_sites i (classes_after (k + 1) qs)) e)
+      ap₂ ◌++◌ (of_package k q c q.classes)
+      (of_packages (c + length q.classes) (k + 1) qs ∙ ap (λ (i : ℕ). numbered_sites i (classes_after (k + 1) qs)) e)
       ∙ sym (sites_append c (numbered_classes_of k q) (classes_after (k + 1) qs))
 
   -- ---- the fields with a token of a class
@@ -49,7 +53,8 @@ module _ (ps : List PackageRecord) (t : ClassTable) where
   standing_append spot (x ∷ xs) ys = by (same_spot spot x.spot) (standing_append spot xs ys)
     where
       by : (b : Bool) → members_standing (xs ++ ys) spot ≡ members_standing xs spot ++ members_standing ys spot
-          → cond b (x.member ∷ members_standing (xs ++ ys) spot) (members_standing (xs ++ ys) spot) ≡ cond b (x.member ∷ members_standing xs spot) (members_standing xs spot) ++ members_standing ys spot
+          → cond b (x.member ∷ members_standing (xs ++ ys) spot) (members_standing (xs ++ ys) spot) ≡ cond b (x.member ∷ members_standing xs spot)
+          (members_standing xs spot) ++ members_standing ys spot
       by true others = ap (λ (ms : List Member). x.member ∷ ms) others
       by false others = others
 
@@ -61,13 +66,16 @@ module _ (ps : List PackageRecord) (t : ClassTable) where
   turned a b = grind (arith, nat_tests)
 
   in_class : (c h token : ℕ) (own fs : List OwnField) (b : Bool) → eqb h c ≡ b
-      → members_standing (map (field_site (cells_above t (parent_of t c)) c own) fs) (token_of_class h token) ≡ cond b (map (field_at c own) (own_with_token fs token)) []
+      → members_standing (map (field_site (cells_above t (parent_of t c)) c own) fs) (token_of_class h token)
+      ≡ cond b (map (field_at c own) (own_with_token fs token)) []
   in_class c h token own [] true e = refl
   in_class c h token own [] false e = refl
   in_class c h token own (f ∷ fs) true e = rw (e, turned token f.token) (by (eqb f.token token) (in_class c h token own fs true e))
     where
-      by : (b : Bool) → members_standing (map (field_site (cells_above t (parent_of t c)) c own) fs) (token_of_class h token) ≡ map (field_at c own) (own_with_token fs token)
-          → cond b (field_at c own f ∷ members_standing (map (field_site (cells_above t (parent_of t c)) c own) fs) (token_of_class h token)) (members_standing (map (field_site (cells_above t (parent_of t c)) c own) fs) (token_of_class h token))
+      by : (b : Bool) → members_standing (map (field_site (cells_above t (parent_of t c)) c own) fs) (token_of_class h token) ≡ map (field_at c own)
+          (own_with_token fs token)
+          → cond b (field_at c own f ∷ members_standing (map (field_site (cells_above t (parent_of t c)) c own) fs) (token_of_class h token))
+          (members_standing (map (field_site (cells_above t (parent_of t c)) c own) fs) (token_of_class h token))
           ≡ map (field_at c own) (cond b (f ∷ own_with_token fs token) (own_with_token fs token))
       by true others = ap (λ (ms : List Member). field_at c own f ∷ ms) others
       by false others = others
@@ -93,20 +101,23 @@ module _ (ps : List PackageRecord) (t : ClassTable) where
       standing_append (token_of_class h token) (class_sites t c (own_of ps (object t) n)) (numbered_sites (c + 1) ns)
       ∙ ap₂ ◌++◌ (in_class c h token (own_of ps (object t) n) (own_of ps (object t) n) false (other h c lt)) (none_before ns (c + 1) h token further)
 
-  located : (ns : List NumberedClass) (c i h token : ℕ) → h ≡ c + i → members_standing (numbered_sites c ns) (token_of_class h token) ≡ members_at h token (slice_get ns i)
+  located : (ns : List NumberedClass) (c i h token : ℕ) → h ≡ c + i → members_standing (numbered_sites c ns) (token_of_class h token)
+      ≡ members_at h token (slice_get ns i)
   located [] c i h token e = refl
   located (n ∷ ns) c zero h token e =
       let here : h ≡ c = omega arith in
       let further : h < c + 1 = omega arith in
       standing_append (token_of_class h token) (class_sites t c (own_of ps (object t) n)) (numbered_sites (c + 1) ns)
-      ∙ ap₂ ◌++◌ (in_class c h token (own_of ps (object t) n) (own_of ps (object t) n) true (ap (λ (x : ℕ). eqb h x) (sym here) ∙ same h)) (none_before ns (c + 1) h token further)
+      ∙ ap₂ ◌++◌ (in_class c h token (own_of ps (object t) n) (own_of ps (object t) n) true (ap (λ (x : ℕ). eqb h x) (sym here) ∙ same h))
+      (none_before ns (c + 1) h token further)
       ∙ append-nil (map (field_at c (own_of ps (object t) n)) (own_with_token (own_of ps (object t) n) token))
       ∙ ap (λ (x : ℕ). map (field_at x (own_of ps (object t) n)) (own_with_token (own_of ps (object t) n) token)) (sym here)
   located (n ∷ ns) c (suc i) h token e =
       let below : c < h = omega arith in
       let further : h ≡ (c + 1) + i = omega arith in
       standing_append (token_of_class h token) (class_sites t c (own_of ps (object t) n)) (numbered_sites (c + 1) ns)
-      ∙ ap₂ ◌++◌ (in_class c h token (own_of ps (object t) n) (own_of ps (object t) n) false (other_back c h below)) (located ns (c + 1) i h token further)
+      ∙ ap₂ ◌++◌ (in_class c h token (own_of ps (object t) n) (own_of ps (object t) n) false (other_back c h below))
+      (located ns (c + 1) i h token further)
 
   -- the only field with a token of the class with a number
   pub record StandsIn (h token : ℕ) (m : Member) : Type 0 where
@@ -116,7 +127,8 @@ module _ (ps : List PackageRecord) (t : ClassTable) where
     pub one : own_with_token (own_of ps (object t) class) token ≡ field ∷ []
     pub is : field_at h (own_of ps (object t) class) field ≡ m
 
-  one_of : (h token : ℕ) (m : Member) (n : NumberedClass) (fs : List OwnField) → slice_get (numbered_classes ps) h ≡ Some n → own_with_token (own_of ps (object t) n) token ≡ fs
+  one_of : (h token : ℕ) (m : Member) (n : NumberedClass) (fs : List OwnField) → slice_get (numbered_classes ps) h ≡ Some n
+      → own_with_token (own_of ps (object t) n) token ≡ fs
       → only (map (field_at h (own_of ps (object t) n)) fs) ≡ Some m → StandsIn h token m
   one_of h token m n [] there e found = absurd cc
   one_of h token m n (f ∷ []) there e found =
@@ -124,7 +136,8 @@ module _ (ps : List PackageRecord) (t : ClassTable) where
       record { class = n; there = there; field = f; one = e; is = is }
   one_of h token m n (f ∷ g ∷ fs) there e found = absurd cc
 
-  found_in : (h token : ℕ) (m : Member) (o : Option NumberedClass) → slice_get (numbered_classes ps) h ≡ o → only (members_at h token o) ≡ Some m → StandsIn h token m
+  found_in : (h token : ℕ) (m : Member) (o : Option NumberedClass) → slice_get (numbered_classes ps) h ≡ o → only (members_at h token o) ≡ Some m
+      → StandsIn h token m
   found_in h token m None there found = absurd cc
   found_in h token m (Some n) there found = one_of h token m n (own_with_token (own_of ps (object t) n) token) there refl found
 

@@ -12,7 +12,8 @@ use Rattle.first_fault.specs.First.{IsFirst}
 use Rattle.first_fault.proofs.FirstTold.{none_first}
 use Rattle.jc_link.specs.World.{conditions, IsLinked}
 
-pub linked_faultless : (ps : List PackageRecord) (roles : List ℕ) (w : Linked) (f : LinkFault) → IsLinked ps roles w → IsFirst link_place (conditions ps roles) f → ⊥
+pub linked_faultless : (ps : List PackageRecord) (roles : List ℕ) (w : Linked) (f : LinkFault) → IsLinked ps roles w
+    → IsFirst link_place (conditions ps roles) f → ⊥
 linked_faultless ps roles w f l first = none_first link_place (conditions ps roles) f l.faultless first
 
 few : (n : ℕ) (fault : LinkFault) (a b : Bool) → nat_lt 16 n ≡ b → option_to_list (if a || b then Some fault else None) ≡ [] → n ≤ 16

@@ -1,5 +1,6 @@
 -- What the records of a table have of the cells of named classes.
-use Rattle.std.proofs.Common.{◌≡◌, ℕ, suc, ◌+◌, ◌≤◌, List, [], ◌∷◌, length, map, Option, Some, None, slice_get, slice_index, refl, sym, ap, subst, ◌∙◌, arith}
+use Rattle.std.proofs.Common.{◌≡◌, ℕ, suc, ◌+◌, ◌≤◌, List, [], ◌∷◌, length, map, Option, Some, None, slice_get, slice_index, refl, sym}
+use Rattle.std.proofs.Common.{ap, subst, ◌∙◌, arith}
 use Rattle.std.specs.Prelude.{option_map}
 use Rattle.std.proofs.lemmas.List.{length-map}
 use Rattle.std.proofs.lemmas.Option.{slice_get-map}
@@ -27,7 +28,8 @@ pub record HasOwn (ps : List PackageRecord) (t : ClassTable) (c : ℕ) (n : Numb
   pub there : slice_get t.records c ≡ Some class
   pub own : class.own ≡ cells_over (own_of ps (object t) n) 0 256
 
-own_by : (c : ℕ) (t : ClassTable) (o : Option ClassRec) (own : List Ty) → slice_get t.records c ≡ o → option_map (λ (r : ClassRec). r.own) o ≡ Some own → (r : ClassRec) × (slice_get t.records c ≡ Some r) × (r.own ≡ own)
+own_by : (c : ℕ) (t : ClassTable) (o : Option ClassRec) (own : List Ty) → slice_get t.records c ≡ o → option_map (λ (r : ClassRec). r.own) o
+    ≡ Some own → (r : ClassRec) × (slice_get t.records c ≡ Some r) × (r.own ≡ own)
 own_by c t None own e h = absurd cc
 own_by c t (Some r) own e h = let same : r.own ≡ own = cc in (r, e, same)
 
@@ -36,11 +38,13 @@ module _ (ps : List PackageRecord) (object_is : ℕ) (t : ClassTable) (cells : H
   unfolding named_classes
   records_many = records_counted (named_classes ps object_is) object_is t cells ∙ length-map (numbered_classes ps) (named_class ps object_is)
 
-  own_there : (c : ℕ) (n : NumberedClass) → slice_get (numbered_classes ps) c ≡ Some n → slice_get (map (λ (k : NamedClass). k.own) (named_classes ps object_is)) c ≡ Some (named_class ps object_is n).own
+  own_there : (c : ℕ) (n : NumberedClass) → slice_get (numbered_classes ps) c ≡ Some n
+      → slice_get (map (λ (k : NamedClass). k.own) (named_classes ps object_is)) c ≡ Some (named_class ps object_is n).own
   unfolding named_classes
   own_there c n e =
       slice_get-map (λ (k : NamedClass). k.own) (named_classes ps object_is) c
-      ∙ ap (option_map (λ (k : NamedClass). k.own)) (slice_get-map (named_class ps object_is) (numbered_classes ps) c ∙ ap (option_map (named_class ps object_is)) e)
+      ∙ ap (option_map (λ (k : NamedClass). k.own)) (slice_get-map (named_class ps object_is) (numbered_classes ps) c
+      ∙ ap (option_map (named_class ps object_is)) e)
 
   pub has_own : (c : ℕ) (n : NumberedClass) → slice_get (numbered_classes ps) c ≡ Some n → HasOwn ps t c n
   has_own c n e =
@@ -56,13 +60,16 @@ module _ (ps : List PackageRecord) (object_is : ℕ) (t : ClassTable) (cells : H
     has_room : (c : ℕ) (n : NumberedClass) → slice_get (numbered_classes ps) c ≡ Some n → FieldsFit t c (own_of ps (object t) n)
     has_room c n e =
         let has = has_own c n e in
-        let is : IsLinkedClass packages t methods c has.class = IfSome-is (IsLinkedClass packages t methods c) (slice_get t.records c) has.class (linked c) has.there in
+        let is : IsLinkedClass packages t methods c has.class = IfSome-is (IsLinkedClass packages t methods c) (slice_get t.records c) has.class (linked c)
+        has.there in
         let many : length has.class.own ≡ cells_before (own_of ps (object t) n) 256 = ap length has.own ∙ cells_first (own_of ps (object t) n) 256 in
         let sum : has.class.cells ≡ cells_above t (parent_of t c) + length has.class.own = is.cells in
         let size : has.class.cells ≤ 32767 = is.size in
         omega (arith, many, sum, size)
 
-    rooms_in : (k : ℕ) (p : PackageRecord) (c : ℕ) (rs : List Class) → ((i : ℕ) (n : NumberedClass) → slice_get (map (numbered_class k p) rs) i ≡ Some n → FieldsFit t (c + i) (own_of ps (object t) n)) → FieldsFitIn ps t k p c rs
+    rooms_in : (k : ℕ) (p : PackageRecord) (c : ℕ) (rs : List Class)
+        → ((i : ℕ) (n : NumberedClass) → slice_get (map (numbered_class k p) rs) i ≡ Some n → FieldsFit t (c + i) (own_of ps (object t) n))
+        → FieldsFitIn ps t k p c rs
     rooms_in k p c [] each = tt
     rooms_in k p c (r ∷ rs) each =
         let here : c + 0 ≡ c = omega arith in (
@@ -72,7 +79,9 @@ module _ (ps : List PackageRecord) (object_is : ℕ) (t : ClassTable) (cells : H
               subst (λ (j : ℕ). FieldsFit t j (own_of ps (object t) n)) next (each (suc i) n e)),
         )
 
-    rooms_after : (c k : ℕ) (qs : List PackageRecord) → ((i : ℕ) (n : NumberedClass) → slice_get (classes_after k qs) i ≡ Some n → FieldsFit t (c + i) (own_of ps (object t) n)) → AllFieldsFitAfter ps t c k qs
+    rooms_after : (c k : ℕ) (qs : List PackageRecord)
+        → ((i : ℕ) (n : NumberedClass) → slice_get (classes_after k qs) i ≡ Some n → FieldsFit t (c + i) (own_of ps (object t) n))
+        → AllFieldsFitAfter ps t c k qs
     rooms_after c k [] each = tt
     rooms_after c k (q ∷ qs) each = (
       rooms_in k q c q.classes (λ i n e. each i n (slice_get-front (numbered_classes_of k q) (classes_after (k + 1) qs) i n e)),
@@ -91,6 +100,8 @@ module _ (ps : List PackageRecord) (object_is : ℕ) (t : ClassTable) (cells : H
         subst (λ (j : ℕ). FieldsFit t j (own_of ps (object t) n)) same (has_room i n e))
 
 -- the same of the names of packages
-pub room_there : (n : NamesRecord) (t : ClassTable) → n.classes ≡ named_classes n.packages (slice_index n.roles 0) → AreLinkedClasses (length n.packages) t n.methods → HasCellsOf n.classes (slice_index n.roles 0) t → AllFieldsFit n.packages t
+pub room_there : (n : NamesRecord) (t : ClassTable) → n.classes ≡ named_classes n.packages (slice_index n.roles 0)
+    → AreLinkedClasses (length n.packages) t n.methods → HasCellsOf n.classes (slice_index n.roles 0) t → AllFieldsFit n.packages t
 room_there n t classes linked cells =
-    have_room n.packages (slice_index n.roles 0) t (subst (λ (cs : List NamedClass). HasCellsOf cs (slice_index n.roles 0) t) classes cells) (length n.packages) n.methods linked
+    have_room n.packages (slice_index n.roles 0) t (subst (λ (cs : List NamedClass). HasCellsOf cs (slice_index n.roles 0) t) classes cells)
+    (length n.packages) n.methods linked

@@ -1,5 +1,6 @@
 -- The first of the roles that the machine throws whose class is not concrete.
-use Rattle.std.proofs.Common.{◌≡◌, ℕ, zero, suc, ◌+◌, ◌<◌, ◌≤◌, Bool, true, false, ltb, List, Option, Some, None, Result, slice_index, refl, sym, ap, subst, ◌∙◌, arith}
+use Rattle.std.proofs.Common.{◌≡◌, ℕ, zero, suc, ◌+◌, ◌<◌, ◌≤◌, Bool, true, false, ltb, List, Option, Some, None, Result, slice_index}
+use Rattle.std.proofs.Common.{refl, sym, ap, subst, ◌∙◌, arith}
 use Rattle.std.specs.List.{range_with_len}
 use Rattle.std.proofs.lemmas.Bool.{ltb-true, ltb-false, le-ltb, ne_eqb, false≢true}
 use Rattle.jc_base.specs.declared.record.MethodRec.{MethodRec}
@@ -49,10 +50,13 @@ module _ (t : ClassTable) (methods : List MethodRec) where
   -- what is found among n roles from the role a on
   abbrev Found : ℕ → ℕ → Option LinkFault → Type 0
   Found a n None = (k : ℕ) → a ≤ k → k < a + n → concrete k ≡ true
-  Found a n (Some fault) = (k : ℕ) × (a ≤ k) × (k < a + n) × (concrete k ≡ false) × ((j : ℕ) → a ≤ j → j < k → concrete j ≡ true) × (fault ≡ RoleAbstract k)
+  Found a n (Some fault) =
+      (k : ℕ) × (a ≤ k) × (k < a + n) × (concrete k ≡ false) × ((j : ℕ) → a ≤ j → j < k → concrete j ≡ true)
+      × (fault ≡ RoleAbstract k)
 
   found_more : (a n : ℕ) (o : Option LinkFault) → concrete a ≡ true → Found (a + 1) n o → Found a (suc n) o
-  found_more a n None here f = λ k low high. from_on (λ j. j < a + suc n → concrete j ≡ true) a (λ lt. here) (λ j le lt. f j le (omega arith)) k low high
+  found_more a n None here f =
+      λ k low high. from_on (λ j. j < a + suc n → concrete j ≡ true) a (λ lt. here) (λ j le lt. f j le (omega arith)) k low high
   found_more a n (Some fault) here f =
       let low = f.1 in
       let high = f.2 in (
@@ -68,9 +72,11 @@ module _ (t : ClassTable) (methods : List MethodRec) where
   found zero a = λ k low high. absurd (omega arith)
   found (suc n) a = by (concrete a) refl (found n (a + 1))
     where
-      by : (b : Bool) → concrete a ≡ b → Found (a + 1) n (least_from link_place None (role_fault t methods) (range_with_len (a + 1) n)) → Found a (suc n) (least_from link_place None (role_fault t methods) (range_with_len a (suc n)))
+      by : (b : Bool) → concrete a ≡ b → Found (a + 1) n (least_from link_place None (role_fault t methods) (range_with_len (a + 1) n))
+          → Found a (suc n) (least_from link_place None (role_fault t methods) (range_with_len a (suc n)))
       by true e rest =
-          let step : least_from link_place None (role_fault t methods) (range_with_len (a + 1) n) ≡ least_from link_place None (role_fault t methods) (range_with_len a (suc n)) =
+          let step : least_from link_place None (role_fault t methods) (range_with_len (a + 1) n) ≡ least_from link_place None (role_fault t methods)
+          (range_with_len a (suc n)) =
           ap (λ o. least_from link_place o (role_fault t methods) (range_with_len (a + 1) n)) (sym (none_at a e)) in
           subst (Found a (suc n)) step (found_more a n (least_from link_place None (role_fault t methods) (range_with_len (a + 1) n)) e rest)
       by false e rest =
@@ -88,5 +94,6 @@ module _ (t : ClassTable) (methods : List MethodRec) where
         first = λ j low high. (decides (slice_index t.roles j)).0 (f.4 j low high);
       })
 
-  pub roles_told : (r : Result (Unit {0}) LinkFault) → ConcreteDecides t methods → r ≡ refused (least_of link_place (role_fault t methods) thrown_roles) → TellsRoles t methods r
+  pub roles_told : (r : Result (Unit {0}) LinkFault) → ConcreteDecides t methods
+      → r ≡ refused (least_of link_place (role_fault t methods) thrown_roles) → TellsRoles t methods r
   roles_told r decides e = subst (TellsRoles t methods) (sym e) (told_by decides (least_of link_place (role_fault t methods) thrown_roles) (found 6 2))

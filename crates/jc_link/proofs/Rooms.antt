@@ -1,5 +1,6 @@
 -- The cells of fields, and tables of the fields of several classes.
-use Rattle.std.proofs.Common.{◌≡◌, ℕ, ◌+◌, ◌≤◌, ◌<◌, Bool, true, false, cond, List, [], ◌∷◌, ◌++◌, Option, Some, None, slice_get, nat_lt, filter, refl, ap, arith, if◌then◌else◌}
+use Rattle.std.proofs.Common.{◌≡◌, ℕ, ◌+◌, ◌≤◌, ◌<◌, Bool, true, false, cond, List, [], ◌∷◌, ◌++◌, Option, Some, None}
+use Rattle.std.proofs.Common.{slice_get, nat_lt, filter, refl, ap, arith, if◌then◌else◌}
 use Rattle.std.proofs.lemmas.List.Sums.{sum_by-cons, fold-append}
 use Rattle.std.proofs.lemmas.Bool.Decides.{nat_tests}
 use Rattle.jc_base.specs.declared.record.Member.{Member}
@@ -16,7 +17,8 @@ pub counted : (b : Bool) (f : OwnField) (fs : List OwnField) → cells_in_all (c
 counted true f fs = sum_by-cons (λ (g : OwnField). width g.kind) f fs
 counted false f fs = omega arith
 
-pub taken_before : (f : OwnField) (fs : List OwnField) (token : ℕ) → cells_before (f ∷ fs) token ≡ (if nat_lt f.token token then width f.kind else 0) + cells_before fs token
+pub taken_before : (f : OwnField) (fs : List OwnField) (token : ℕ)
+    → cells_before (f ∷ fs) token ≡ (if nat_lt f.token token then width f.kind else 0) + cells_before fs token
 taken_before f fs token = counted (nat_lt f.token token) f (filter (λ (g : OwnField). nat_lt g.token token) fs)
 
 further : (w n token : ℕ) → token < 256 → cond (nat_lt n token) w 0 ≤ cond (nat_lt n 256) w 0

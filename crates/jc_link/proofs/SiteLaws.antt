@@ -18,13 +18,15 @@ same-equal a b h =
 
 -- ---- one more entry
 
-replaced : (v old : Option Member) (rest : Option (Option Member)) (b c : Bool) → c ≡ b → cond c (Some v) rest ≡ cond b (Some v) (cond c (Some old) rest)
+replaced : (v old : Option Member) (rest : Option (Option Member)) (b c : Bool) → c ≡ b
+    → cond c (Some v) rest ≡ cond b (Some v) (cond c (Some old) rest)
 replaced v old rest true true e = refl
 replaced v old rest false false e = refl
 replaced v old rest true false e = absurd (true≢false (sym e))
 replaced v old rest false true e = absurd (true≢false e)
 
-apart : (q k at : Spot) (v old : Option Member) (rest : Option (Option Member)) → same_spot k at ≡ false → (b c : Bool) → same_spot q k ≡ b → same_spot q at ≡ c
+apart : (q k at : Spot) (v old : Option Member) (rest : Option (Option Member)) → same_spot k at ≡ false → (b c : Bool) → same_spot q k ≡ b
+    → same_spot q at ≡ c
     → cond c (Some old) (cond b (Some v) rest) ≡ cond b (Some v) (cond c (Some old) rest)
 apart q k at v old rest ne true true e f =
     let h : same_spot k at ≡ true = ap (λ x. same_spot x at) (sym (same-equal q k e)) ∙ f in
@@ -33,13 +35,17 @@ apart q k at v old rest ne true false e f = refl
 apart q k at v old rest ne false true e f = refl
 apart q k at v old rest ne false false e f = refl
 
-kept-inserted : (es : List (Spot × Option Member)) (q k : Spot) (v : Option Member) → kept_at (insert_entry same_spot es k v) q ≡ cond (same_spot q k) (Some v) (kept_at es q)
+kept-inserted : (es : List (Spot × Option Member)) (q k : Spot) (v : Option Member) → kept_at (insert_entry same_spot es k v) q ≡ cond (same_spot q k)
+    (Some v) (kept_at es q)
 kept-inserted [] q k v = refl
 kept-inserted (e ∷ es) q k v = by (same_spot k e.0) (kept-inserted es q k v) refl
   where
-    by : (b : Bool) → kept_at (insert_entry same_spot es k v) q ≡ cond (same_spot q k) (Some v) (kept_at es q) → same_spot k e.0 ≡ b → kept_at (cond b ((e.0, v) ∷ es) (e ∷ insert_entry same_spot es k v)) q ≡ cond (same_spot q k) (Some v) (cond (same_spot q e.0) (Some e.1) (kept_at es q))
+    by : (b : Bool) → kept_at (insert_entry same_spot es k v) q ≡ cond (same_spot q k) (Some v) (kept_at es q) → same_spot k e.0 ≡ b
+        → kept_at (cond b ((e.0, v) ∷ es) (e ∷ insert_entry same_spot es k v)) q ≡ cond (same_spot q k) (Some v)
+        (cond (same_spot q e.0) (Some e.1) (kept_at es q))
     by true others h = replaced v e.1 (kept_at es q) (same_spot q k) (same_spot q e.0) (ap (λ x. same_spot q x) (sym (same-equal k e.0 h)))
-    by false others h = ap (λ o. cond (same_spot q e.0) (Some e.1) o) others ∙ apart q k e.0 v e.1 (kept_at es q) h (same_spot q k) (same_spot q e.0) refl refl
+    by false others h =
+        ap (λ o. cond (same_spot q e.0) (Some e.1) o) others ∙ apart q k e.0 v e.1 (kept_at es q) h (same_spot q k) (same_spot q e.0) refl refl
 
 -- ---- all entries
 
@@ -49,7 +55,8 @@ after o [] = o
 after None (m ∷ ms) = after (Some (Some m)) ms
 after (Some x) (m ∷ ms) = after (Some None) ms
 
-met : (es : List (Spot × Option Member)) (s : MemberSite) (q : Spot) (ms : List Member) → same_spot q s.spot ≡ true → (o : Option (Option Member)) → kept_at es q ≡ o → after (kept_at (added_entry es s) q) ms ≡ after o (s.member ∷ ms)
+met : (es : List (Spot × Option Member)) (s : MemberSite) (q : Spot) (ms : List Member) → same_spot q s.spot ≡ true → (o : Option (Option Member))
+    → kept_at es q ≡ o → after (kept_at (added_entry es s) q) ms ≡ after o (s.member ∷ ms)
 unfolding added_entry after
 met es s q ms h o e =
     let there : kept_at es s.spot ≡ o = ap (kept_at es) (sym (same-equal q s.spot h)) ∙ e in
@@ -68,12 +75,14 @@ passed es s q h =
     kept-inserted es q s.spot (cond (is_some (kept_at es s.spot)) None (Some s.member))
     ∙ ap (λ b. cond b (Some (cond (is_some (kept_at es s.spot)) None (Some s.member))) (kept_at es q)) h
 
-all-kept : (xs : List MemberSite) (es : List (Spot × Option Member)) (q : Spot) → kept_at (all_entered es xs) q ≡ after (kept_at es q) (members_standing xs q)
+all-kept : (xs : List MemberSite) (es : List (Spot × Option Member)) (q : Spot) → kept_at (all_entered es xs) q ≡ after (kept_at es q)
+    (members_standing xs q)
 unfolding after
 all-kept [] es q = refl
 all-kept (s ∷ xs) es q = all-kept xs (added_entry es s) q ∙ by (same_spot q s.spot) refl
   where
-    by : (b : Bool) → same_spot q s.spot ≡ b → after (kept_at (added_entry es s) q) (members_standing xs q) ≡ after (kept_at es q) (cond b (s.member ∷ members_standing xs q) (members_standing xs q))
+    by : (b : Bool) → same_spot q s.spot ≡ b → after (kept_at (added_entry es s) q) (members_standing xs q) ≡ after (kept_at es q)
+        (cond b (s.member ∷ members_standing xs q) (members_standing xs q))
     by true h = met es s q (members_standing xs q) h (kept_at es q) refl
     by false h = ap (λ o. after o (members_standing xs q)) (passed es s q h)
 
@@ -113,8 +122,10 @@ put-again : (q : Spot) (v w : Option Member) (es : List (Spot × Option Member))
 put-again q v w [] o e = absurd cc
 put-again q v w (x ∷ es) o e = by (λ found. put-again q v w es o found) (same_spot q x.0) refl e
   where
-    by : (kept_at es q ≡ Some o → insert_entry same_spot (insert_entry same_spot es q v) q w ≡ insert_entry same_spot es q w) → (b : Bool) → same_spot q x.0 ≡ b → cond b (Some x.1) (kept_at es q) ≡ Some o
-        → insert_entry same_spot (cond b ((x.0, v) ∷ es) (x ∷ insert_entry same_spot es q v)) q w ≡ cond b ((x.0, w) ∷ es) (x ∷ insert_entry same_spot es q w)
+    by : (kept_at es q ≡ Some o → insert_entry same_spot (insert_entry same_spot es q v) q w ≡ insert_entry same_spot es q w) → (b : Bool)
+        → same_spot q x.0 ≡ b → cond b (Some x.1) (kept_at es q) ≡ Some o
+        → insert_entry same_spot (cond b ((x.0, v) ∷ es) (x ∷ insert_entry same_spot es q v)) q w ≡ cond b ((x.0, w) ∷ es)
+        (x ∷ insert_entry same_spot es q w)
     by later true h found = rw h refl
     by later false h found = rw h (ap (λ l. x ∷ l) (later found))
 
@@ -123,6 +134,7 @@ pub several-entered : (es : List (Spot × Option Member)) (q : Spot) (m : Member
 unfolding added_entry
 several-entered es q m o e = rw e (put-again q (Some m) None es o e)
 
-pub first-entered : (es : List (Spot × Option Member)) (q : Spot) (m : Member) → kept_at es q ≡ None → insert_entry same_spot es q (Some m) ≡ added_entry es (record { spot = q; member = m })
+pub first-entered : (es : List (Spot × Option Member)) (q : Spot) (m : Member) → kept_at es q ≡ None → insert_entry same_spot es q (Some m)
+    ≡ added_entry es (record { spot = q; member = m })
 unfolding added_entry
 first-entered es q m e = rw e refl

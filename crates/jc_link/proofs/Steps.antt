@@ -30,7 +30,8 @@ use Rattle.jc_classes.specs.TableConditions as classes
 use Rattle.jc_classes.specs.KnownLines.{HaveSuperclasses, AreInRange}
 use Rattle.jc_classes.specs.Tables.{class_tables, Links, TellsTableEnd}
 use Rattle.jc_link.specs.Fields.{HasCellsOf}
-use Rattle.jc_link.specs.World.{classes_of, lineage_of, table_of, methods_of, first_classes, class_conditions, table_conditions, member_conditions, conditions, TellsFirst, TableTells, LinkTells}
+use Rattle.jc_link.specs.World.{classes_of, lineage_of, table_of, methods_of, first_classes, class_conditions, table_conditions, member_conditions, conditions}
+use Rattle.jc_link.specs.World.{TellsFirst, TableTells, LinkTells}
 use Rattle.jc_link.specs.declared.linking.Resolved.{Resolved}
 use Rattle.jc_link.specs.declared.tabling.Tabled.{Tabled}
 use Rattle.jc_link.specs.Known.{AreNamesOf, IsTableOf}
@@ -38,11 +39,13 @@ use Rattle.jc_link.proofs.Tables.{sized, in_range, methods_in, has-cells, counte
 
 -- ---- names
 
-named-by : (ps : List PackageRecord) (roles : List ℕ) (n : NamesRecord) (r : Result (Unit {0}) LinkFault) → (r >>= λ done. Ok (named ps roles)) ≡ Ok n → n ≡ named ps roles
+named-by : (ps : List PackageRecord) (roles : List ℕ) (n : NamesRecord) (r : Result (Unit {0}) LinkFault) → (r >>= λ done. Ok (named ps roles))
+    ≡ Ok n → n ≡ named ps roles
 named-by ps roles n (Ok x) e = cc
 named-by ps roles n (Err f) e = absurd cc
 
-pub names_known : (ps : List PackageRecord) (roles : List ℕ) (n : NamesRecord) → names_of ps roles ≡ Ok n → AreNamed (infos_of ps) (slice_index roles 0) n.classes n.methods → AreNamesOf ps roles n
+pub names_known : (ps : List PackageRecord) (roles : List ℕ) (n : NamesRecord) → names_of ps roles ≡ Ok n
+    → AreNamed (infos_of ps) (slice_index roles 0) n.classes n.methods → AreNamesOf ps roles n
 unfolding names_of
 names_known ps roles n e known =
     let are : n ≡ named ps roles = named-by ps roles n (checked ps) e in
@@ -53,7 +56,8 @@ names_first ps (Ok n) h = h
 names_first ps (Err (Fault f)) h = h
 names_first ps (Err Memory) h = tt {0}
 
-pub names_answered : (ps : List PackageRecord) (roles : List ℕ) (r : Result NamesRecord LinkEnd) → IsDue (names_of ps roles) r → IfOk r (λ n. AreNamed (infos_of ps) (slice_index roles 0) n.classes n.methods) → IfOk r (AreNamesOf ps roles)
+pub names_answered : (ps : List PackageRecord) (roles : List ℕ) (r : Result NamesRecord LinkEnd) → IsDue (names_of ps roles) r
+    → IfOk r (λ n. AreNamed (infos_of ps) (slice_index roles 0) n.classes n.methods) → IfOk r (AreNamesOf ps roles)
 names_answered ps roles (Ok n) e known = names_known ps roles n e known
 names_answered ps roles (Err end) e known = tt
 
@@ -78,7 +82,8 @@ module _ (ps : List PackageRecord) (roles : List ℕ) (n : NamesRecord) (of : Ar
 
   pub homes-known : All (λ (m : MethodRec). m.package < length ps) n.methods
   homes-known =
-      let homes = All-weaker (IsNamedMethod (infos_of ps) (classes_of ps roles) (slice_index roles 0)) (λ (m : MethodRec). m.package < length ps) (λ m is. subst (λ (k : ℕ). m.package < k) homes_count is.home) (methods_of ps roles) of.known.methods in
+      let homes = All-weaker (IsNamedMethod (infos_of ps) (classes_of ps roles) (slice_index roles 0)) (λ (m : MethodRec). m.package < length ps)
+      (λ m is. subst (λ (k : ℕ). m.package < k) homes_count is.home) (methods_of ps roles) of.known.methods in
       subst (All (λ (m : MethodRec). m.package < length ps)) (sym methods-are) homes
 
   pub along : (P : List PackageRecord → List ℕ → Type 0) → P n.packages n.roles → P ps roles
@@ -88,31 +93,45 @@ module _ (ps : List PackageRecord) (roles : List ℕ) (n : NamesRecord) (of : Ar
   back P h = subst (λ (rs : List ℕ). P n.packages rs) (sym roles-are) (subst (λ (xs : List PackageRecord). P xs roles) (sym packages-are) h)
 
   pub lines_known : (cs : List NamedClass) → cs ≡ n.classes → All (HasKnownLine cs) cs
-  lines_known cs e = subst (λ (xs : List NamedClass). All (HasKnownLine xs) xs) (sym (e ∙ classes-are)) (named-known (length (infos_of ps)) (length (methods_of ps roles)) (slice_index roles 0) (classes_of ps roles) of.known.classes)
+  lines_known cs e =
+      subst (λ (xs : List NamedClass). All (HasKnownLine xs) xs) (sym (e ∙ classes-are))
+      (named-known (length (infos_of ps)) (length (methods_of ps roles)) (slice_index roles 0) (classes_of ps roles) of.known.classes)
 
   pub range_known : (cs : List NamedClass) → cs ≡ n.classes → AreInRange cs
-  range_known cs e = subst AreInRange (sym (e ∙ classes-are)) (in_range (length (infos_of ps)) (length (methods_of ps roles)) (slice_index roles 0) (classes_of ps roles) of.known.classes)
+  range_known cs e =
+      subst AreInRange (sym (e ∙ classes-are))
+      (in_range (length (infos_of ps)) (length (methods_of ps roles)) (slice_index roles 0) (classes_of ps roles) of.known.classes)
 
-  pub methods_known : (cs : List NamedClass) (ms : List MethodRec) → cs ≡ n.classes → ms ≡ n.methods → All (λ (m : MethodRec). m.class < length cs) ms
+  pub methods_known : (cs : List NamedClass) (ms : List MethodRec) → cs ≡ n.classes → ms ≡ n.methods
+      → All (λ (m : MethodRec). m.class < length cs) ms
   methods_known cs ms e f =
       subst (λ (xs : List MethodRec). All (λ (m : MethodRec). m.class < length cs) xs) (sym (f ∙ methods-are))
-      (subst (λ (xs : List NamedClass). All (λ (m : MethodRec). m.class < length xs) (methods_of ps roles)) (sym (e ∙ classes-are)) (methods_in (infos_of ps) (slice_index roles 0) (classes_of ps roles) (methods_of ps roles) of.known.methods))
+      (subst (λ (xs : List NamedClass). All (λ (m : MethodRec). m.class < length xs) (methods_of ps roles)) (sym (e ∙ classes-are))
+      (methods_in (infos_of ps) (slice_index roles 0) (classes_of ps roles) (methods_of ps roles) of.known.methods))
 
   pub classes_known : (cs : List NamedClass) (t : LineTable) → cs ≡ n.classes → length cs ≤ 4096 → HaveLines cs t → HaveSuperclasses t cs
   classes_known cs t e few have = record {
     count = have.count;
     few = few;
-    sized = subst (All IsSized) (sym (e ∙ classes-are)) (sized (length (infos_of ps)) (length (methods_of ps roles)) (slice_index roles 0) (classes_of ps roles) of.known.classes);
+    sized =
+        subst (All IsSized) (sym (e ∙ classes-are))
+        (sized (length (infos_of ps)) (length (methods_of ps roles)) (slice_index roles 0) (classes_of ps roles) of.known.classes);
   }
 
   -- the first fault of superclasses, roles and interfaces
-  pub line_first : (cs : List NamedClass) (first : ℕ) (f : LinkFault) → cs ≡ n.classes → first ≡ first_classes ps → IsFirst link_place (lineage.conditions cs first roles) f → IsFirst link_place (class_conditions ps roles) f
+  pub line_first : (cs : List NamedClass) (first : ℕ) (f : LinkFault) → cs ≡ n.classes → first ≡ first_classes ps
+      → IsFirst link_place (lineage.conditions cs first roles) f → IsFirst link_place (class_conditions ps roles) f
   line_first cs first f e g h =
-      IsFirst-append_left link_place (lineage.conditions (classes_of ps roles) (first_classes ps) roles) (classes.conditions (lineage_of ps roles) (classes_of ps roles) (methods_of ps roles)) f
-      (subst (λ (k : ℕ). IsFirst link_place (lineage.conditions (classes_of ps roles) k roles) f) g (subst (λ (xs : List NamedClass). IsFirst link_place (lineage.conditions xs first roles) f) (e ∙ classes-are) h))
+      IsFirst-append_left link_place (lineage.conditions (classes_of ps roles) (first_classes ps) roles)
+      (classes.conditions (lineage_of ps roles) (classes_of ps roles) (methods_of ps roles)) f
+      (subst (λ (k : ℕ). IsFirst link_place (lineage.conditions (classes_of ps roles) k roles) f) g
+      (subst (λ (xs : List NamedClass). IsFirst link_place (lineage.conditions xs first roles) f) (e ∙ classes-are) h))
 
-  line_empty : (cs : List NamedClass) (first : ℕ) → cs ≡ n.classes → first ≡ first_classes ps → AllEmpty (lineage.conditions cs first roles) → AllEmpty (lineage.conditions (classes_of ps roles) (first_classes ps) roles)
-  line_empty cs first e g h = subst (λ (k : ℕ). AllEmpty (lineage.conditions (classes_of ps roles) k roles)) g (subst (λ (xs : List NamedClass). AllEmpty (lineage.conditions xs first roles)) (e ∙ classes-are) h)
+  line_empty : (cs : List NamedClass) (first : ℕ) → cs ≡ n.classes → first ≡ first_classes ps → AllEmpty (lineage.conditions cs first roles)
+      → AllEmpty (lineage.conditions (classes_of ps roles) (first_classes ps) roles)
+  line_empty cs first e g h =
+      subst (λ (k : ℕ). AllEmpty (lineage.conditions (classes_of ps roles) k roles)) g
+      (subst (λ (xs : List NamedClass). AllEmpty (lineage.conditions xs first roles)) (e ∙ classes-are) h)
 
   lineage_same : (cs : List NamedClass) (t : LineTable) → cs ≡ n.classes → t ≡ outline cs roles → t ≡ lineage_of ps roles
   lineage_same cs t e o = o ∙ ap (λ (xs : List NamedClass). outline xs roles) (e ∙ classes-are)
@@ -125,39 +144,50 @@ module _ (ps : List PackageRecord) (roles : List ℕ) (n : NamesRecord) (of : Ar
       ∙ ap (λ (xs : List MethodRec). classes.conditions (lineage_of ps roles) (classes_of ps roles) xs) (m ∙ methods-are)
 
   -- the first fault of dispatch lists and instances
-  pub class_first : (cs : List NamedClass) (ms : List MethodRec) (first : ℕ) (t : LineTable) (f : LinkFault) → cs ≡ n.classes → ms ≡ n.methods → first ≡ first_classes ps → t ≡ outline cs roles
-      → AllEmpty (lineage.conditions cs first roles) → IsFirst link_place (classes.conditions t cs ms) f → IsFirst link_place (class_conditions ps roles) f
+  pub class_first : (cs : List NamedClass) (ms : List MethodRec) (first : ℕ) (t : LineTable) (f : LinkFault) → cs ≡ n.classes → ms ≡ n.methods
+      → first ≡ first_classes ps → t ≡ outline cs roles
+      → AllEmpty (lineage.conditions cs first roles) → IsFirst link_place (classes.conditions t cs ms) f
+      → IsFirst link_place (class_conditions ps roles) f
   class_first cs ms first t f e m g o none h =
-      IsFirst-append_right link_place (lineage.conditions (classes_of ps roles) (first_classes ps) roles) (classes.conditions (lineage_of ps roles) (classes_of ps roles) (methods_of ps roles)) f
+      IsFirst-append_right link_place (lineage.conditions (classes_of ps roles) (first_classes ps) roles)
+      (classes.conditions (lineage_of ps roles) (classes_of ps roles) (methods_of ps roles)) f
       (line_empty cs first e g none)
       (subst (λ (lists : List (List LinkFault)). IsFirst link_place lists f) (conditions_same cs ms t e m o) h)
 
   -- the same of what linking ends with
-  pub line_told : (cs : List NamedClass) (first : ℕ) (end : LinkEnd) → cs ≡ n.classes → first ≡ first_classes ps → lines.TellsLines cs first roles (Err end) → TellsFirst {A = ClassTable} (class_conditions ps roles) (Err end)
+  pub line_told : (cs : List NamedClass) (first : ℕ) (end : LinkEnd) → cs ≡ n.classes → first ≡ first_classes ps
+      → lines.TellsLines cs first roles (Err end) → TellsFirst {A = ClassTable} (class_conditions ps roles) (Err end)
   line_told cs first (Fault f) e g h = line_first cs first f e g h
   line_told cs first Memory e g h = tt {0}
 
-  pub class_told : (cs : List NamedClass) (ms : List MethodRec) (first : ℕ) (t : LineTable) (end : LinkEnd) → cs ≡ n.classes → ms ≡ n.methods → first ≡ first_classes ps → t ≡ outline cs roles
+  pub class_told : (cs : List NamedClass) (ms : List MethodRec) (first : ℕ) (t : LineTable) (end : LinkEnd) → cs ≡ n.classes → ms ≡ n.methods
+      → first ≡ first_classes ps → t ≡ outline cs roles
       → AllEmpty (lineage.conditions cs first roles) → TellsTableEnd t cs ms (Err end) → TellsFirst {A = ClassTable} (class_conditions ps roles) (Err end)
   class_told cs ms first t (Fault f) e m g o none h = class_first cs ms first t f e m g o none h
   class_told cs ms first t Memory e m g o none h = tt {0}
 
-  pub class_empty : (cs : List NamedClass) (ms : List MethodRec) (first : ℕ) (t : LineTable) → cs ≡ n.classes → ms ≡ n.methods → first ≡ first_classes ps → t ≡ outline cs roles
+  pub class_empty : (cs : List NamedClass) (ms : List MethodRec) (first : ℕ) (t : LineTable) → cs ≡ n.classes → ms ≡ n.methods
+      → first ≡ first_classes ps → t ≡ outline cs roles
       → AllEmpty (lineage.conditions cs first roles) → AllEmpty (classes.conditions t cs ms) → AllEmpty (class_conditions ps roles)
   class_empty cs ms first t e m g o none h =
-      AllEmpty-append (lineage.conditions (classes_of ps roles) (first_classes ps) roles) (classes.conditions (lineage_of ps roles) (classes_of ps roles) (methods_of ps roles))
+      AllEmpty-append (lineage.conditions (classes_of ps roles) (first_classes ps) roles)
+      (classes.conditions (lineage_of ps roles) (classes_of ps roles) (methods_of ps roles))
       (line_empty cs first e g none)
       (subst AllEmpty (conditions_same cs ms t e m o) h)
 
   -- the table that is made
-  pub table_known : (cs : List NamedClass) (ms : List MethodRec) (t : LineTable) (u : ClassTable) → cs ≡ n.classes → ms ≡ n.methods → length cs ≤ 4096 → length t.roles ≡ 8 → t ≡ outline cs roles → AreLines t → HaveLines cs t → u ≡ class_tables t cs → Links t cs ms u
+  pub table_known : (cs : List NamedClass) (ms : List MethodRec) (t : LineTable) (u : ClassTable) → cs ≡ n.classes → ms ≡ n.methods
+      → length cs ≤ 4096 → length t.roles ≡ 8 → t ≡ outline cs roles → AreLines t → HaveLines cs t → u ≡ class_tables t cs
+      → Links t cs ms u
       → IsTableOf ps roles u
   table_known cs ms t u e m few eight o are have made links =
       let same_classes : cs ≡ classes_of ps roles = e ∙ classes-are in
       let same_methods : ms ≡ methods_of ps roles = m ∙ methods-are in
       let same_lineage : t ≡ lineage_of ps roles = lineage_same cs t e o in
-      let same_table : u ≡ table_of ps roles = made ∙ ap (λ (x : LineTable). class_tables x cs) same_lineage ∙ ap (λ (xs : List NamedClass). class_tables (lineage_of ps roles) xs) same_classes in
-      let in_lineage : HaveLines (classes_of ps roles) (lineage_of ps roles) = subst (HaveLines (classes_of ps roles)) same_lineage (subst (λ (xs : List NamedClass). HaveLines xs t) same_classes have) in
+      let same_table : u ≡ table_of ps roles = made ∙ ap (λ (x : LineTable). class_tables x cs) same_lineage
+      ∙ ap (λ (xs : List NamedClass). class_tables (lineage_of ps roles) xs) same_classes in
+      let in_lineage : HaveLines (classes_of ps roles) (lineage_of ps roles) = subst (HaveLines (classes_of ps roles)) same_lineage
+      (subst (λ (xs : List NamedClass). HaveLines xs t) same_classes have) in
       let links_of : Links (lineage_of ps roles) (classes_of ps roles) (methods_of ps roles) (table_of ps roles) =
       subst (Links (lineage_of ps roles) (classes_of ps roles) (methods_of ps roles)) same_table
       (subst (λ (xs : List MethodRec). Links (lineage_of ps roles) (classes_of ps roles) xs u) same_methods
@@ -167,7 +197,9 @@ module _ (ps : List PackageRecord) (roles : List ℕ) (n : NamesRecord) (of : Ar
         is = same_table;
         lines = in_lineage;
         chains = subst AreLines same_lineage are;
-        linked = subst (λ (k : ℕ). AreLinkedClasses k (table_of ps roles) (methods_of ps roles)) (length-map ps _) (links_of (length (infos_of ps)) of.known.classes);
+        linked =
+            subst (λ (k : ℕ). AreLinkedClasses k (table_of ps roles) (methods_of ps roles)) (length-map ps _)
+            (links_of (length (infos_of ps)) of.known.classes);
         few = subst (λ (xs : List NamedClass). length xs ≤ 4096) same_classes few;
         eight = subst (λ (rs : List ℕ). length rs ≡ 8) (ap (λ (x : LineTable). x.roles) o) eight;
       }
@@ -229,11 +261,13 @@ module _ (ps : List PackageRecord) (roles : List ℕ) where
 -- ---- what each step tells of the whole
 
 module _ (ps : List PackageRecord) (roles : List ℕ) where
-  pub names_tell : (end : LinkEnd) → TellsFirst {A = NamesRecord} (names.conditions ps) (Err end) → TellsFirst {A = Tabled} (table_conditions ps roles) (Err end)
+  pub names_tell : (end : LinkEnd) → TellsFirst {A = NamesRecord} (names.conditions ps) (Err end)
+      → TellsFirst {A = Tabled} (table_conditions ps roles) (Err end)
   names_tell (Fault f) h = names_table ps roles f h
   names_tell Memory h = tt {0}
 
-  pub classes_tell : (end : LinkEnd) → AllEmpty (names.conditions ps) → TellsFirst {A = ClassTable} (class_conditions ps roles) (Err end) → TellsFirst {A = Tabled} (table_conditions ps roles) (Err end)
+  pub classes_tell : (end : LinkEnd) → AllEmpty (names.conditions ps) → TellsFirst {A = ClassTable} (class_conditions ps roles) (Err end)
+      → TellsFirst {A = Tabled} (table_conditions ps roles) (Err end)
   classes_tell (Fault f) none h = classes_table ps roles f none h
   classes_tell Memory none h = tt {0}
 
@@ -245,6 +279,7 @@ module _ (ps : List PackageRecord) (roles : List ℕ) where
   table_tells (Fault f) h = table_all ps roles f h
   table_tells Memory h = tt {0}
 
-  pub members_tell : (end : LinkEnd) → AllEmpty (table_conditions ps roles) → TellsFirst {A = Resolved} (member_conditions ps roles) (Err end) → LinkTells ps roles (Err end)
+  pub members_tell : (end : LinkEnd) → AllEmpty (table_conditions ps roles) → TellsFirst {A = Resolved} (member_conditions ps roles) (Err end)
+      → LinkTells ps roles (Err end)
   members_tell (Fault f) none h = members_all ps roles f none h
   members_tell Memory none h = tt {0}

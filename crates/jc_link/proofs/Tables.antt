@@ -32,12 +32,14 @@ sized packages methods object cs all = All-weaker (IsNamedClass packages methods
 pub in_range : (packages methods object : ℕ) (cs : List NamedClass) → All (IsNamedClass packages methods cs object) cs → AreInRange cs
 in_range packages methods object cs all = All-weaker (IsNamedClass packages methods cs object) _ (λ r is. is.interfaces) cs all
 
-pub methods_in : (infos : List (List ℕ)) (object : ℕ) (cs : List NamedClass) (ms : List MethodRec) → All (IsNamedMethod infos cs object) ms → All (λ (m : MethodRec). m.class < length cs) ms
+pub methods_in : (infos : List (List ℕ)) (object : ℕ) (cs : List NamedClass) (ms : List MethodRec) → All (IsNamedMethod infos cs object) ms
+    → All (λ (m : MethodRec). m.class < length cs) ms
 methods_in infos object cs ms all = All-weaker (IsNamedMethod infos cs object) _ (λ m is. is.class) ms all
 
 -- ---- records keep the own cells of their classes
 
-pub own-kept : (t : LineTable) (all ks : List NamedClass) (c : ℕ) → map (λ (r : ClassRec). r.own) (records_from t all c ks) ≡ map (λ (k : NamedClass). k.own) ks
+pub own-kept : (t : LineTable) (all ks : List NamedClass) (c : ℕ) → map (λ (r : ClassRec). r.own) (records_from t all c ks)
+    ≡ map (λ (k : NamedClass). k.own) ks
 unfolding record_from
 own-kept t all [] c = refl
 own-kept t all (k ∷ ks) c = ap (λ (l : List (List Ty)). k.own ∷ l) (own-kept t all ks (c + 1))
@@ -80,7 +82,8 @@ module _ (ps : List PackageRecord) (roles : List ℕ) where
         Below-from_is_below (table_of ps roles) table-chains (Class (slice_index roles k)) (Class (slice_index roles 1))
         (below_same (slice_index roles k) (slice_index roles 1) ∙ above)
 
-    pub declared : AreNamed (infos_of ps) (slice_index roles 0) (classes_of ps roles) (methods_of ps roles) → (ty : Ty) → named.IsDeclared (classes_of ps roles) (slice_index roles 0) ty → IsDeclared (table_of ps roles) ty
+    pub declared : AreNamed (infos_of ps) (slice_index roles 0) (classes_of ps roles) (methods_of ps roles) → (ty : Ty)
+        → named.IsDeclared (classes_of ps roles) (slice_index roles 0) ty → IsDeclared (table_of ps roles) ty
     declared named_are ty h =
         declared_by (lineage_of ps roles) (classes_of ps roles) outlined_is is.chains
         (record { count = is.lines.count; few = is.few; sized = sized _ _ _ (classes_of ps roles) named_are.classes })

@@ -1,5 +1,6 @@
 -- The cells of the fields of a class in the order of the fields' tokens.
-use Rattle.std.proofs.Common.{◌≡◌, ℕ, zero, suc, ◌+◌, ◌-◌, ◌<◌, cond, List, [], ◌∷◌, ◌++◌, length, append_assoc, refl, sym, ap, ap₂, ◌∙◌, arith, nat_lt, flat_map}
+use Rattle.std.proofs.Common.{◌≡◌, ℕ, zero, suc, ◌+◌, ◌-◌, ◌<◌, cond, List, [], ◌∷◌, ◌++◌, length, append_assoc, refl, sym, ap}
+use Rattle.std.proofs.Common.{ap₂, ◌∙◌, arith, nat_lt, flat_map}
 use Rattle.std.specs.Prelude.{◌==◌}
 use Rattle.std.specs.List.{range_with_len}
 use Rattle.std.proofs.lemmas.Bool.Decides.{nat_tests}
@@ -99,11 +100,13 @@ pub record Stands (cells : List Ty) (at : ℕ) (f : OwnField) : Type 0 where
   pub many : length front ≡ at
   pub whole : cells ≡ front ++ (cells_of_own f ++ farther)
 
-alone : (own : List OwnField) (token : ℕ) (f : OwnField) → own_with_token own token ≡ f ∷ [] → flat_map cells_of_own (own_with_token own token) ≡ cells_of_own f
+alone : (own : List OwnField) (token : ℕ) (f : OwnField) → own_with_token own token ≡ f ∷ [] → flat_map cells_of_own (own_with_token own token)
+    ≡ cells_of_own f
 alone own token f one = ap (λ (fs : List OwnField). flat_map cells_of_own fs) one ∙ append-nil (cells_of_own f)
 
 -- the cells of the only field with a token stand after those of the fields of lesser tokens
-pub only_stands : (own : List OwnField) (n token : ℕ) (f : OwnField) → token < n → own_with_token own token ≡ f ∷ [] → Stands (cells_over own 0 n) (cells_before own token) f
+pub only_stands : (own : List OwnField) (n token : ℕ) (f : OwnField) → token < n → own_with_token own token ≡ f ∷ []
+    → Stands (cells_over own 0 n) (cells_before own token) f
 only_stands own n token f lt one =
     let rest : n ≡ token + suc (n - (token + 1)) = omega arith in
     let from : 0 + token ≡ token = omega arith in

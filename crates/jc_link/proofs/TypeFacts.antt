@@ -8,7 +8,8 @@ use Rattle.jc_resolve.proofs.ItemKinds.{kind_right}
 use Rattle.jc_link.specs.Arrays.{array_type}
 use Rattle.jc_link.specs.KnownFields.{IsPrimitive, AreTold}
 
-array_right : (ps : List PackageRecord) (object k : ℕ) (t : TypeItem) (kind : ℕ) → IsPrimitive kind → t.nibble ≡ kind + 8 → type_of ps object k t ≡ array_type kind
+array_right : (ps : List PackageRecord) (object k : ℕ) (t : TypeItem) (kind : ℕ) → IsPrimitive kind → t.nibble ≡ kind + 8
+    → type_of ps object k t ≡ array_type kind
 unfolding type_of
 array_right ps object k t zero p e = absurd (omega (arith, p.low))
 array_right ps object k t (suc zero) p e = absurd (omega (arith, p.low))

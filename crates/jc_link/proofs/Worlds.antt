@@ -39,19 +39,30 @@ pub record AreKnownLists (ps : List PackageRecord) (w : Linked) : Type 0 where
   pub methods : length w.methods ≤ 32768
   pub cells : sum_by (λ f. width f.kind) w.statics ≤ 32768
   pub slots : AreSlots 0 w.statics
-  pub fields : length (array_records ps) ≤ 4096 → (t : ClassTable) → All (λ f. IsDeclared t f.ty) w.statics → All (IsStatic (length ps) t (array_records ps)) w.statics
+  pub fields : length (array_records ps) ≤ 4096 → (t : ClassTable) → All (λ f. IsDeclared t f.ty) w.statics
+      → All (IsStatic (length ps) t (array_records ps)) w.statics
   pub arrays : length w.arrays ≤ 4096
   pub array_cells : sum_by (λ a. length a.initial) w.arrays ≤ 32768
   pub elements : All (λ a. AreElementsOf a.kind a.initial) w.arrays
 
 module _ (ps : List PackageRecord) (roles : List ℕ) where
   abbrev world_of : Linked
-  world_of = record { infos = infos_of ps; pools = pools ps (table_of ps roles) (statics_of ps roles); classes = table_of ps roles; methods = methods_of ps roles; statics = statics_of ps roles; arrays = array_records ps; indexes = indexes_of ps (methods_of ps roles) }
+  world_of =
+      record {
+        infos = infos_of ps;
+        pools = pools ps (table_of ps roles) (statics_of ps roles);
+        classes = table_of ps roles;
+        methods = methods_of ps roles;
+        statics = statics_of ps roles;
+        arrays = array_records ps;
+        indexes = indexes_of ps (methods_of ps roles);
+      }
 
   infos_count : length (infos_of ps) ≡ length ps
   infos_count = length-map ps _
 
-  made : ConcreteIsDecided → (t : ClassTable) → IsTableOf ps roles t → AreNamed (infos_of ps) (slice_index roles 0) (classes_of ps roles) (methods_of ps roles) → AllEmpty (member_conditions ps roles) → AreKnownLists ps world_of → IsWorld world_of
+  made : ConcreteIsDecided → (t : ClassTable) → IsTableOf ps roles t → AreNamed (infos_of ps) (slice_index roles 0) (classes_of ps roles)
+      (methods_of ps roles) → AllEmpty (member_conditions ps roles) → AreKnownLists ps world_of → IsWorld world_of
   made decided t is known none lists = record {
     limits = record {
       packages = rw infos_count lists.packages;
@@ -78,24 +89,92 @@ module _ (ps : List PackageRecord) (roles : List ℕ) where
 
   same_world : (w : Linked) → AreListsOf ps roles w → world_of ≡ w
   same_world w l =
-      ap (λ (x : List (List ℕ)). record { infos = x; pools = pools ps (table_of ps roles) (statics_of ps roles); classes = table_of ps roles; methods = methods_of ps roles; statics = statics_of ps roles; arrays = array_records ps; indexes = indexes_of ps (methods_of ps roles) }) (sym l.infos)
-      ∙ ap (λ (x : List (List Member)). record { infos = w.infos; pools = x; classes = table_of ps roles; methods = methods_of ps roles; statics = statics_of ps roles; arrays = array_records ps; indexes = indexes_of ps (methods_of ps roles) }) (sym l.pools)
-      ∙ ap (λ (x : ClassTable). record { infos = w.infos; pools = w.pools; classes = x; methods = methods_of ps roles; statics = statics_of ps roles; arrays = array_records ps; indexes = indexes_of ps (methods_of ps roles) }) (sym l.classes)
-      ∙ ap (λ (x : List MethodRec). record { infos = w.infos; pools = w.pools; classes = w.classes; methods = x; statics = statics_of ps roles; arrays = array_records ps; indexes = indexes_of ps (methods_of ps roles) }) (sym l.methods)
-      ∙ ap (λ (x : List StaticRec). record { infos = w.infos; pools = w.pools; classes = w.classes; methods = w.methods; statics = x; arrays = array_records ps; indexes = indexes_of ps (methods_of ps roles) }) (sym l.statics)
-      ∙ ap (λ (x : List ArrayRec). record { infos = w.infos; pools = w.pools; classes = w.classes; methods = w.methods; statics = w.statics; arrays = x; indexes = indexes_of ps (methods_of ps roles) }) (sym l.arrays)
-      ∙ ap (λ (x : List (Option (List ℕ))). record { infos = w.infos; pools = w.pools; classes = w.classes; methods = w.methods; statics = w.statics; arrays = w.arrays; indexes = x }) (sym l.indexes)
+      ap
+      (λ (x : List (List ℕ)). record {
+        infos = x;
+        pools = pools ps (table_of ps roles) (statics_of ps roles);
+        classes = table_of ps roles;
+        methods = methods_of ps roles;
+        statics = statics_of ps roles;
+        arrays = array_records ps;
+        indexes = indexes_of ps (methods_of ps roles);
+      })
+      (sym l.infos)
+      ∙ ap
+      (λ (x : List (List Member)). record {
+        infos = w.infos;
+        pools = x;
+        classes = table_of ps roles;
+        methods = methods_of ps roles;
+        statics = statics_of ps roles;
+        arrays = array_records ps;
+        indexes = indexes_of ps (methods_of ps roles);
+      }) (sym l.pools)
+      ∙ ap
+      (λ (x : ClassTable). record {
+        infos = w.infos;
+        pools = w.pools;
+        classes = x;
+        methods = methods_of ps roles;
+        statics = statics_of ps roles;
+        arrays = array_records ps;
+        indexes = indexes_of ps (methods_of ps roles);
+      }) (sym l.classes)
+      ∙ ap
+      (λ (x : List MethodRec). record {
+        infos = w.infos;
+        pools = w.pools;
+        classes = w.classes;
+        methods = x;
+        statics = statics_of ps roles;
+        arrays = array_records ps;
+        indexes = indexes_of ps (methods_of ps roles);
+      }) (sym l.methods)
+      ∙ ap
+      (λ (x : List StaticRec). record {
+        infos = w.infos;
+        pools = w.pools;
+        classes = w.classes;
+        methods = w.methods;
+        statics = x;
+        arrays = array_records ps;
+        indexes = indexes_of ps (methods_of ps roles);
+      }) (sym l.statics)
+      ∙ ap
+      (λ (x : List ArrayRec). record {
+        infos = w.infos;
+        pools = w.pools;
+        classes = w.classes;
+        methods = w.methods;
+        statics = w.statics;
+        arrays = x;
+        indexes = indexes_of ps (methods_of ps roles);
+      }) (sym l.arrays)
+      ∙ ap
+      (λ (x : List (Option (List ℕ))). record {
+        infos = w.infos;
+        pools = w.pools;
+        classes = w.classes;
+        methods = w.methods;
+        statics = w.statics;
+        arrays = w.arrays;
+        indexes = x;
+      }) (sym l.indexes)
 
   -- the lists of packages and roles, of which nothing is at fault, are a world
-  pub are-world : ConcreteIsDecided → (t : ClassTable) (w : Linked) → IsTableOf ps roles t → AreNamed (infos_of ps) (slice_index roles 0) (classes_of ps roles) (methods_of ps roles) → AllEmpty (member_conditions ps roles) → AreListsOf ps roles w → AreKnownLists ps w → IsWorld w
+  pub are-world : ConcreteIsDecided → (t : ClassTable) (w : Linked) → IsTableOf ps roles t
+      → AreNamed (infos_of ps) (slice_index roles 0) (classes_of ps roles) (methods_of ps roles) → AllEmpty (member_conditions ps roles)
+      → AreListsOf ps roles w → AreKnownLists ps w → IsWorld w
   are-world decided t w is known none l lists =
       let e : world_of ≡ w = same_world w l in
       subst IsWorld e (made decided t is known none (subst (AreKnownLists ps) (sym e) lists))
 
 -- ---- the lists that are made
 
-module _ (ps : List PackageRecord) (roles : List ℕ) (n : NamesRecord) (of : AreNamesOf ps roles n) (t : ClassTable) (is : IsTableOf ps roles t) (x : Resolved) (r : AreResolved n.packages n.roles x)
-    (infos : List (List ℕ)) (i : infos ≡ infos_of ps) (methods : List MethodRec) (m : methods ≡ n.methods) (arrays : List ArrayRec) (a : arrays ≡ array_records ps)
+module _ (ps : List PackageRecord) (roles : List ℕ) (n : NamesRecord) (of : AreNamesOf ps roles n) (t : ClassTable) (is : IsTableOf ps roles t)
+    (x : Resolved) (r : AreResolved n.packages n.roles x)
+    (infos : List (List ℕ)) (i : infos ≡ infos_of ps) (methods : List MethodRec) (m : methods ≡ n.methods) (arrays : List ArrayRec)
+    (a : arrays ≡ array_records ps)
     (indexes : List (Option (List ℕ))) (x_is : indexes ≡ indexes_of n.packages n.methods) where
   abbrev made_of : Linked
   made_of = record { infos = infos; pools = x.pools; classes = t; methods = methods; statics = x.statics; arrays = arrays; indexes = indexes }
@@ -107,9 +186,11 @@ module _ (ps : List PackageRecord) (roles : List ℕ) (n : NamesRecord) (of : Ar
   methods_same = m ∙ methods-are ps roles n of
 
   indexes_same : indexes ≡ indexes_of ps (methods_of ps roles)
-  indexes_same = x_is ∙ ap (λ (qs : List PackageRecord). indexes_of qs n.methods) (packages-are ps roles n of) ∙ ap (indexes_of ps) (methods-are ps roles n of)
+  indexes_same =
+      x_is ∙ ap (λ (qs : List PackageRecord). indexes_of qs n.methods) (packages-are ps roles n of) ∙ ap (indexes_of ps) (methods-are ps roles n of)
 
-  pub lists-are : AreListsOf ps roles (record { infos = infos; pools = x.pools; classes = t; methods = methods; statics = x.statics; arrays = arrays; indexes = indexes })
+  pub lists-are : AreListsOf ps roles
+      (record { infos = infos; pools = x.pools; classes = t; methods = methods; statics = x.statics; arrays = arrays; indexes = indexes })
   lists-are = record {
     infos = i;
     pools = resolved.pools_are;
@@ -126,7 +207,9 @@ module _ (ps : List PackageRecord) (roles : List ℕ) (n : NamesRecord) (of : Ar
     bytes = bytes;
     entries = resolved.entries;
     each = resolved.each;
-    members = subst (λ (ms : List MethodRec). All (All (IsMember t ms x.statics)) x.pools) (sym methods_same) (subst (λ (u : ClassTable). All (All (IsMember u (methods_of ps roles) x.statics)) x.pools) (sym is.is) resolved.members);
+    members =
+        subst (λ (ms : List MethodRec). All (All (IsMember t ms x.statics)) x.pools) (sym methods_same)
+        (subst (λ (u : ClassTable). All (All (IsMember u (methods_of ps roles) x.statics)) x.pools) (sym is.is) resolved.members);
     methods = subst (λ (ms : List MethodRec). length ms ≤ 32768) (sym methods_same) resolved.methods;
     cells = resolved.cells;
     slots = resolved.slots;
@@ -136,12 +219,17 @@ module _ (ps : List PackageRecord) (roles : List ℕ) (n : NamesRecord) (of : Ar
     elements = elements;
   }
 
-  pub world-made : ConcreteIsDecided → AllEmpty (member_conditions n.packages n.roles) → All (λ info. length info ≤ 65535) infos → All (λ (b : ArrayRec). AreElementsOf b.kind b.initial) arrays
+  pub world-made : ConcreteIsDecided → AllEmpty (member_conditions n.packages n.roles) → All (λ info. length info ≤ 65535) infos
+      → All (λ (b : ArrayRec). AreElementsOf b.kind b.initial) arrays
       → IsWorld (record { infos = infos; pools = x.pools; classes = t; methods = methods; statics = x.statics; arrays = arrays; indexes = indexes })
   world-made decided none bytes elements =
-      are-world ps roles decided t made_of is of.known (along ps roles n of (λ (xs : List PackageRecord) (rs : List ℕ). AllEmpty (member_conditions xs rs)) none) lists-are (known_lists bytes elements)
+      are-world ps roles decided t made_of is of.known
+      (along ps roles n of (λ (xs : List PackageRecord) (rs : List ℕ). AllEmpty (member_conditions xs rs)) none) lists-are
+      (known_lists bytes elements)
 
-  pub linked-made : (w : Linked) → w ≡ record { infos = infos; pools = x.pools; classes = t; methods = methods; statics = x.statics; arrays = arrays; indexes = indexes } → AllEmpty (table_conditions ps roles) → AllEmpty (member_conditions n.packages n.roles) → IsLinked ps roles w
+  pub linked-made : (w : Linked)
+      → w ≡ record { infos = infos; pools = x.pools; classes = t; methods = methods; statics = x.statics; arrays = arrays; indexes = indexes }
+      → AllEmpty (table_conditions ps roles) → AllEmpty (member_conditions n.packages n.roles) → IsLinked ps roles w
   linked-made w e none others = record {
     faultless = all_empty ps roles none (along ps roles n of (λ (xs : List PackageRecord) (rs : List ℕ). AllEmpty (member_conditions xs rs)) others);
     lists = subst (AreListsOf ps roles) (sym e) lists-are;

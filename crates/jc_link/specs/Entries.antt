@@ -12,7 +12,8 @@ abbrev pub place_in : ℕ → ℕ → RecordPlace
 place_in k offset = record { «package» = k; offset = offset }
 
 -- in the package that meets an import, when the offset is told that the package exports
-abbrev pub exported_place : List PackageRecord → (ℕ → ℕ → ℕ → Option ℕ) → ℕ → ℕ → ℕ → ℕ → Option RecordPlace
+abbrev pub exported_place : List PackageRecord → (ℕ → ℕ → ℕ → Option ℕ) → ℕ → ℕ → ℕ → ℕ
+    → Option RecordPlace
 exported_place ps exported k import class token =
     option_and_then (λ j. option_map (place_in j) (exported j class token)) (met_by ps k import)
 

@@ -1,10 +1,12 @@
 -- The member that an entry of a constant pool names: exactly one stands there (JCVM 2.2, section 6.7).
-use Rattle.std.specs.Prelude.{ℕ, Bool, List, Option, Some, None, option_map, option_and_then, is_some, map, find, nat_lt, ◌==◌, ◌||◌, if◌then◌else◌}
+use Rattle.std.specs.Prelude.{ℕ, Bool, List, Option, Some, None, option_map, option_and_then, is_some, map, find, nat_lt, ◌==◌}
+use Rattle.std.specs.Prelude.{◌||◌, if◌then◌else◌}
 use Rattle.std.specs.Option.{option_flatten}
 use Rattle.cap_bytes.specs.declared.class_reference.ClassReference.{ClassReference}
 use Rattle.cap_pool.specs.PoolFormat.{Entry}
 use Rattle.cap_pool.specs.declared.pool_reference.PoolReference.{PoolReference}
-use Rattle.cap_pool.specs.declared.pool_reference.PoolReference.TheVariants.{Class, InstanceField, VirtualMethod, SuperMethod, StaticField, StaticMethod}
+use Rattle.cap_pool.specs.declared.pool_reference.PoolReference.TheVariants.{Class, InstanceField, VirtualMethod, SuperMethod, StaticField}
+use Rattle.cap_pool.specs.declared.pool_reference.PoolReference.TheVariants.{StaticMethod}
 use Rattle.cap_pool.specs.declared.pool_reference.StaticReference.{StaticReference}
 use Rattle.cap_pool.specs.PoolReference.{referred}
 use Rattle.cap_package.specs.PackageRecord.{PackageRecord}

@@ -1,8 +1,10 @@
 -- What an entry of a constant pool names, by cases (JCVM 2.2, section 6.7).
-use Rattle.std.specs.Prelude.{◌≡◌, ◌<◌, ◌⊎◌, ℕ, false, List, [], ◌∷◌, Option, Some, Result, Ok, Err, IsSome, slice_get}
+use Rattle.std.specs.Prelude.{◌≡◌, ◌<◌, ◌⊎◌, ℕ, false, List, [], ◌∷◌, Option, Some, Result, Ok, Err, IsSome}
+use Rattle.std.specs.Prelude.{slice_get}
 use Rattle.cap_bytes.specs.declared.class_reference.ClassReference.{ClassReference}
 use Rattle.cap_pool.specs.PoolFormat.{Entry}
-use Rattle.cap_pool.specs.declared.pool_reference.PoolReference.TheVariants.{Class, InstanceField, VirtualMethod, SuperMethod, StaticField, StaticMethod}
+use Rattle.cap_pool.specs.declared.pool_reference.PoolReference.TheVariants.{Class, InstanceField, VirtualMethod, SuperMethod, StaticField}
+use Rattle.cap_pool.specs.declared.pool_reference.PoolReference.TheVariants.{StaticMethod}
 use Rattle.cap_pool.specs.declared.pool_reference.StaticReference.{StaticReference}
 use Rattle.cap_pool.specs.declared.pool_reference.StaticReference.TheVariants.{Internal, External}
 use Rattle.cap_pool.specs.PoolReference.{referred}
@@ -27,7 +29,8 @@ use Rattle.jc_link.specs.Sites.{members_standing}
 
 -- where the static field or the method without dispatch stands to which a reference of the package k leads: in
 -- the package itself at an offset, or in the package that meets an import where this one exports it
-pub data RefersTo (ps : List PackageRecord) (exported : ℕ → ℕ → ℕ → Option ℕ) (k : ℕ) (r : StaticReference) (place : RecordPlace)
+pub data RefersTo (ps : List PackageRecord) (exported : ℕ → ℕ → ℕ → Option ℕ) (k : ℕ) (r : StaticReference)
+    (place : RecordPlace)
     : Type 0 where
   internal : (offset : ℕ) → r ≡ Internal offset → place ≡ place_in k offset → RefersTo ps exported k r place
   imported :
@@ -50,7 +53,8 @@ MayName t c token p = (token < 128) ⊎ (package_of t p ≡ package_of t c)
 -- the entry of the package k names the member
 pub data NamesMember (ps : List PackageRecord) (t : ClassTable) (statics : List StaticRec) (k : ℕ) (e : Entry) (m : Member) : Type 0 where
   -- a Classref: the class or interface to which it refers
-  classref : (r : ClassReference) (c : ℕ) → referred e ≡ Class r → Refers ps k r c → m ≡ ClassOf c → NamesMember ps t statics k e m
+  classref : (r : ClassReference) (c : ℕ) → referred e ≡ Class r → Refers ps k r c → m ≡ ClassOf c
+      → NamesMember ps t statics k e m
   -- an InstanceFieldref: the one field with the token of the nearest class, among the class and its
   -- superclasses, that has one
   instance_fieldref :

@@ -1,5 +1,6 @@
 -- Members by where they are described: a static field at an offset in the image of its package, an instance field at a token of its class.
-use Rattle.std.specs.Prelude.{Bool, true, false, List, [], ◌∷◌, Option, Some, None, fold, is_some, ◌==◌, ◌&&◌, if◌then◌else◌}
+use Rattle.std.specs.Prelude.{Bool, true, false, List, [], ◌∷◌, Option, Some, None, fold, is_some, ◌==◌, ◌&&◌}
+use Rattle.std.specs.Prelude.{if◌then◌else◌}
 use Rattle.std.specs.Map.{lookup}
 use Rattle.indexmap.specs.IndexMap.{insert_entry}
 use Rattle.jc_base.specs.declared.record.Member.{Member}
@@ -26,7 +27,8 @@ same_spot a b = a.owner == b.owner && a.number == b.number
 -- the members at a spot
 abbrev pub members_standing : List MemberSite → Spot → List Member
 members_standing [] spot = []
-members_standing (s ∷ sites) spot = if same_spot spot s.spot then s.member ∷ members_standing sites spot else members_standing sites spot
+members_standing (s ∷ sites) spot =
+    if same_spot spot s.spot then s.member ∷ members_standing sites spot else members_standing sites spot
 
 -- ---- the same as a table keeps it: at each spot the one member, or that there are several
 

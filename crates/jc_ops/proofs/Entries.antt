@@ -1,5 +1,6 @@
 -- What is resolved rests on the pool entry that is named.
-use Rattle.std.proofs.Common.{◌≡◌, ℕ, ◌==◌, ◌||◌, if◌then◌else◌, Bool, true, false, Option, Some, None, IfSome, IfErr, Result, Ok, Err, slice_get, refl, sym, ◌∙◌, ap, subst}
+use Rattle.std.proofs.Common.{◌≡◌, ℕ, ◌==◌, ◌||◌, if◌then◌else◌, Bool, true, false, Option, Some, None, IfSome, IfErr, Result, Ok, Err}
+use Rattle.std.proofs.Common.{slice_get, refl, sym, ◌∙◌, ap, subst}
 use Rattle.jc_base.specs.declared.ty.Ty.{Ty}
 use Rattle.jc_base.specs.declared.ty.Ty.TheVariants.{Class, ArrRef}
 use Rattle.jc_base.specs.declared.ty.Kind.{Kind}
@@ -22,14 +23,17 @@ use Rattle.jc_ops.specs.declared.row.Invocation.TheVariants as invocations
 use Rattle.jc_ops.specs.declared.row.Row.{Row}
 use Rattle.jc_ops.specs.declared.row.Row.TheVariants as rows
 use Rattle.jc_ops.specs.Row.{row_at}
-use Rattle.jc_ops.specs.Resolve.{byte_of, short_of, taken_if, on, same_kind, static_field, instance_field, callee_if, entry_callee, virtual_callee, special_callee, static_callee, only, described, described_callee, interface_callee, class_type, array_of, tested_type, returns, returned, result_type, result_returned, new_object, resolved, Resolves}
+use Rattle.jc_ops.specs.Resolve.{byte_of, short_of, taken_if, on, same_kind, static_field, instance_field, callee_if, entry_callee, virtual_callee}
+use Rattle.jc_ops.specs.Resolve.{special_callee, static_callee, only, described, described_callee, interface_callee, class_type, array_of, tested_type, returns}
+use Rattle.jc_ops.specs.Resolve.{returned, result_type, result_returned, new_object, resolved, Resolves}
 use Rattle.std.proofs.lemmas.Bool.{false≢true}
 use Rattle.jc_ops.specs.Sound.{RefusesAbstract}
 use Rattle.jc_ops.specs.Entry.{entry_of, entry_named, RestsOnEntry, FaultNamesEntry}
 
 -- ---- the same entry gives the same operation
 
-tested-rests : (atype pool : ℕ) (at other : ℕ → Option Member) → IfSome (if atype == 0 || atype == 14 then Some pool else None) (λ entry. at entry ≡ other entry) → tested_type atype pool (at pool) ≡ tested_type atype pool (other pool)
+tested-rests : (atype pool : ℕ) (at other : ℕ → Option Member) → IfSome (if atype == 0 || atype == 14 then Some pool else None)
+    (λ entry. at entry ≡ other entry) → tested_type atype pool (at pool) ≡ tested_type atype pool (other pool)
 tested-rests atype pool at other h = go (atype == 0) (atype == 14) h
   where
     go : (b c : Bool) → IfSome (if b || c then Some pool else None) (λ entry. at entry ≡ other entry)
@@ -40,7 +44,8 @@ tested-rests atype pool at other h = go (atype == 0) (atype == 14) h
     go false false e = refl
 
 module _ (w : Linked) (m n : MethodRec) (place : ℕ) (i : Insn) (r : Result Operation RuleFault) (same_result : m.sig.result ≡ n.sig.result) where
-  row-rests : (row : Row) → IfSome (entry_of i row) (λ entry. member_at w m.package entry ≡ member_at w n.package entry) → r ≡ resolved w m place i row → r ≡ resolved w n place i row
+  row-rests : (row : Row) → IfSome (entry_of i row) (λ entry. member_at w m.package entry ≡ member_at w n.package entry)
+      → r ≡ resolved w m place i row → r ≡ resolved w n place i row
   row-rests (rows.StaticRead k) e h = h ∙ ap (λ o. on ops.StaticRead (static_field (short_of i.x) k o)) e
   row-rests (rows.StaticWrite k) e h = h ∙ ap (λ o. on ops.StaticWrite (static_field (short_of i.x) k o)) e
   row-rests (rows.FieldRead k holder) e h = h ∙ ap (λ o. on (λ f. ops.FieldRead f holder) (instance_field w.classes (short_of i.x) k o)) e
@@ -51,7 +56,8 @@ module _ (w : Linked) (m n : MethodRec) (place : ℕ) (i : Insn) (r : Result Ope
   row-rests (rows.Call invocations.Interface) e h = h ∙ ap (λ o. on ops.Call (interface_callee w (short_of i.y) (byte_of i.x) (byte_of i.z) o)) e
   row-rests rows.New e h = h ∙ ap (new_object w place (short_of i.x)) e
   row-rests rows.NewReferences e h = h ∙ ap (λ o. on ops.NewArray (class_type ArrRef (short_of i.x) o)) e
-  row-rests (rows.TypeTest test) e h = h ∙ ap (on (ops.TypeTest test)) (tested-rests (byte_of i.x) (short_of i.y) (member_at w m.package) (member_at w n.package) e)
+  row-rests (rows.TypeTest test) e h =
+      h ∙ ap (on (ops.TypeTest test)) (tested-rests (byte_of i.x) (short_of i.y) (member_at w m.package) (member_at w n.package) e)
   row-rests (rows.Return sort) e h = h ∙ ap (λ result. on ops.Return (result_returned w.classes sort result)) same_result
   row-rests (rows.Plain op) e h = h
   row-rests rows.PushShort e h = h
@@ -84,7 +90,8 @@ field-faults : (t : ClassTable) (pool : ℕ) (k : Kind) (o : Option Member) → 
 field-faults t pool k (Some (Field c cell kind ty)) = taken-faults _ pool (record { class = c; cell = cell; kind = kind; ty = ty })
 field-faults t pool k _ = refl
 
-callee-faults : (test : MethodRec → Bool) (pool n : ℕ) (o : Option MethodRec) (receiver : MethodRec → Option Want) (choice : Choice) → Faults pool (callee_if test pool n o receiver choice)
+callee-faults : (test : MethodRec → Bool) (pool n : ℕ) (o : Option MethodRec) (receiver : MethodRec → Option Want) (choice : Choice)
+    → Faults pool (callee_if test pool n o receiver choice)
 callee-faults test pool n None receiver choice = refl
 callee-faults test pool n (Some m) receiver choice = taken-faults (test m) pool (record { method = n; receiver = receiver m; choice = choice })
 
@@ -135,10 +142,12 @@ module _ (w : Linked) (decides : ConcreteDecides w.classes w.methods) where
   named-by op pool (Ok x) f = tt
   named-by op pool (Err fault) f = subst (Tells w (Some pool)) (sym f) refl
 
-  tested-tells : (test : Ty → Operation) (atype pool : ℕ) (o : Option Member) → IfErr (on test (tested_type atype pool o)) (Tells w (if atype == 0 || atype == 14 then Some pool else None))
+  tested-tells : (test : Ty → Operation) (atype pool : ℕ) (o : Option Member)
+      → IfErr (on test (tested_type atype pool o)) (Tells w (if atype == 0 || atype == 14 then Some pool else None))
   tested-tells test atype pool o = go (atype == 0) (atype == 14)
     where
-      go : (b c : Bool) → IfErr (on test (if b then class_type Class pool o else if c then class_type ArrRef pool o else Ok (array_of atype))) (Tells w (if b || c then Some pool else None))
+      go : (b c : Bool) → IfErr (on test (if b then class_type Class pool o else if c then class_type ArrRef pool o else Ok (array_of atype)))
+          (Tells w (if b || c then Some pool else None))
       go true c = named-by test pool (class_type Class pool o) (class-faults Class pool o)
       go false true = named-by test pool (class_type ArrRef pool o) (class-faults ArrRef pool o)
       go false false = tt
@@ -159,22 +168,34 @@ module _ (w : Linked) (decides : ConcreteDecides w.classes w.methods) where
   new-tells place pool _ = refl
 
   row-tells : (m : MethodRec) (place : ℕ) (i : Insn) (row : Row) → IfErr (resolved w m place i row) (Tells w (entry_of i row))
-  row-tells m place i (rows.StaticRead k) = named-by ops.StaticRead (short_of i.x) (static_field (short_of i.x) k (member_at w m.package (short_of i.x))) (static-faults (short_of i.x) k (member_at w m.package (short_of i.x)))
-  row-tells m place i (rows.StaticWrite k) = named-by ops.StaticWrite (short_of i.x) (static_field (short_of i.x) k (member_at w m.package (short_of i.x))) (static-faults (short_of i.x) k (member_at w m.package (short_of i.x)))
+  row-tells m place i (rows.StaticRead k) =
+      named-by ops.StaticRead (short_of i.x) (static_field (short_of i.x) k (member_at w m.package (short_of i.x)))
+      (static-faults (short_of i.x) k (member_at w m.package (short_of i.x)))
+  row-tells m place i (rows.StaticWrite k) =
+      named-by ops.StaticWrite (short_of i.x) (static_field (short_of i.x) k (member_at w m.package (short_of i.x)))
+      (static-faults (short_of i.x) k (member_at w m.package (short_of i.x)))
   row-tells m place i (rows.FieldRead k holder) =
       named-by (λ f. ops.FieldRead f holder) (short_of i.x) (instance_field w.classes (short_of i.x) k (member_at w m.package (short_of i.x)))
       (field-faults w.classes (short_of i.x) k (member_at w m.package (short_of i.x)))
   row-tells m place i (rows.FieldWrite k holder) =
       named-by (λ f. ops.FieldWrite f holder) (short_of i.x) (instance_field w.classes (short_of i.x) k (member_at w m.package (short_of i.x)))
       (field-faults w.classes (short_of i.x) k (member_at w m.package (short_of i.x)))
-  row-tells m place i (rows.Call invocations.Virtual) = named-by ops.Call (short_of i.x) (virtual_callee w (short_of i.x) (member_at w m.package (short_of i.x))) (virtual-faults w (short_of i.x) (member_at w m.package (short_of i.x)))
-  row-tells m place i (rows.Call invocations.Special) = named-by ops.Call (short_of i.x) (special_callee w (short_of i.x) (member_at w m.package (short_of i.x))) (special-faults w (short_of i.x) (member_at w m.package (short_of i.x)))
-  row-tells m place i (rows.Call invocations.Static) = named-by ops.Call (short_of i.x) (static_callee w (short_of i.x) (member_at w m.package (short_of i.x))) (static_call-faults w (short_of i.x) (member_at w m.package (short_of i.x)))
+  row-tells m place i (rows.Call invocations.Virtual) =
+      named-by ops.Call (short_of i.x) (virtual_callee w (short_of i.x) (member_at w m.package (short_of i.x)))
+      (virtual-faults w (short_of i.x) (member_at w m.package (short_of i.x)))
+  row-tells m place i (rows.Call invocations.Special) =
+      named-by ops.Call (short_of i.x) (special_callee w (short_of i.x) (member_at w m.package (short_of i.x)))
+      (special-faults w (short_of i.x) (member_at w m.package (short_of i.x)))
+  row-tells m place i (rows.Call invocations.Static) =
+      named-by ops.Call (short_of i.x) (static_callee w (short_of i.x) (member_at w m.package (short_of i.x)))
+      (static_call-faults w (short_of i.x) (member_at w m.package (short_of i.x)))
   row-tells m place i (rows.Call invocations.Interface) =
       named-by ops.Call (short_of i.y) (interface_callee w (short_of i.y) (byte_of i.x) (byte_of i.z) (member_at w m.package (short_of i.y)))
       (interface-faults w (short_of i.y) (byte_of i.x) (byte_of i.z) (member_at w m.package (short_of i.y)))
   row-tells m place i rows.New = new-tells place (short_of i.x) (member_at w m.package (short_of i.x))
-  row-tells m place i rows.NewReferences = named-by ops.NewArray (short_of i.x) (class_type ArrRef (short_of i.x) (member_at w m.package (short_of i.x))) (class-faults ArrRef (short_of i.x) (member_at w m.package (short_of i.x)))
+  row-tells m place i rows.NewReferences =
+      named-by ops.NewArray (short_of i.x) (class_type ArrRef (short_of i.x) (member_at w m.package (short_of i.x)))
+      (class-faults ArrRef (short_of i.x) (member_at w m.package (short_of i.x)))
   row-tells m place i (rows.TypeTest test) = tested-tells (ops.TypeTest test) (byte_of i.x) (short_of i.y) (member_at w m.package (short_of i.y))
   row-tells m place i (rows.Return sort) = return-tells w.classes sort m.sig.result
   row-tells m place i (rows.Plain op) = tt

@@ -1,5 +1,6 @@
 -- What a linked world says of the entries of a constant pool.
-use Rattle.std.proofs.Common.{◌≡◌, ℕ, ◌+◌, ◌-◌, ◌<◌, ◌≤◌, true, false, nat_lt, List, [], ◌∷◌, ◌++◌, length, refl, subst, arith, All, Option, Some, None, IfSome, IsSomeAnd, slice_get, cond, Contains, flat_map, reverse, get_or}
+use Rattle.std.proofs.Common.{◌≡◌, ℕ, ◌+◌, ◌-◌, ◌<◌, ◌≤◌, true, false, nat_lt, List, [], ◌∷◌, ◌++◌, length, refl, subst}
+use Rattle.std.proofs.Common.{arith, All, Option, Some, None, IfSome, IsSomeAnd, slice_get, cond, Contains, flat_map, reverse, get_or}
 use Rattle.std.proofs.lemmas.List.Elements.{All-contains, All-append}
 use Rattle.std.proofs.lemmas.Option.{slice_get_within}
 use Rattle.jc_base.proofs.Lists.{All-slice_get}
@@ -17,7 +18,8 @@ use Rattle.jc_base.specs.World.{Linked, IsWorld}
 use Rattle.jc_ops.specs.Sound.{TakesReceiver, IsKnownMember}
 
 -- the arguments of a method that is not static leave room for its receiver
-pub argument_room : (infos : List (List ℕ)) (pools : List (List Member)) (t : ClassTable) (m : MethodRec) → IsMethod infos pools t m → m.is_static ≡ false → length m.sig.args + 1 ≤ 255
+pub argument_room : (infos : List (List ℕ)) (pools : List (List Member)) (t : ClassTable) (m : MethodRec) → IsMethod infos pools t m
+    → m.is_static ≡ false → length m.sig.args + 1 ≤ 255
 argument_room infos pools t m is dynamic =
     let words : m.nargs ≡ length m.sig.args + 1 = subst (λ b. m.nargs ≡ length m.sig.args + receiver_words b) dynamic is.words in
     let room : m.nargs + m.max_locals ≤ 255 = is.registers in
@@ -25,7 +27,8 @@ argument_room infos pools t m is dynamic =
 
 module _ (w : Linked) (is : IsWorld w) where
   -- a method that a class inherits takes a receiver
-  inherited_at : (c : ℕ) (o : Option MethodRec) → ((m : MethodRec) → o ≡ Some m → IsMethod w.infos w.pools w.classes m) → IsSomeAnd o (IsInherited w.classes c) → IsSomeAnd o (λ m. length m.sig.args + 1 ≤ 255)
+  inherited_at : (c : ℕ) (o : Option MethodRec) → ((m : MethodRec) → o ≡ Some m → IsMethod w.infos w.pools w.classes m)
+      → IsSomeAnd o (IsInherited w.classes c) → IsSomeAnd o (λ m. length m.sig.args + 1 ≤ 255)
   inherited_at c None all h = h
   inherited_at c (Some m) all h = argument_room w.infos w.pools w.classes m (all m refl) h.dynamic
 
@@ -55,7 +58,8 @@ module _ (w : Linked) (is : IsWorld w) where
   visible-inherits c = (lists_at c (slice_get w.classes.records c) (is.classes c)).1
 
   -- the entries of a class's lists are numbers of methods
-  inside_list : (c : ℕ) (list : List ℕ) → All (λ n. IsSomeAnd (slice_get w.methods n) (IsInherited w.classes c)) list → All (λ n. n < length w.methods) list
+  inside_list : (c : ℕ) (list : List ℕ) → All (λ n. IsSomeAnd (slice_get w.methods n) (IsInherited w.classes c)) list
+      → All (λ n. n < length w.methods) list
   inside_list c list all k d lt = in_list (get_or list k d) (slice_get w.methods (get_or list k d)) (IsInherited w.classes c) refl (all k d lt)
 
   pub public-inside : (c : ℕ) (r : ClassRec) → IsLinkedClass (length w.infos) w.classes w.methods c r → All (λ n. n < length w.methods) r.public
@@ -64,7 +68,8 @@ module _ (w : Linked) (is : IsWorld w) where
   pub visible-inside : (c : ℕ) (r : ClassRec) → IsLinkedClass (length w.infos) w.classes w.methods c r → All (λ n. n < length w.methods) r.visible
   visible-inside c r h = inside_list c r.visible h.visible.entries
 
-  list-inherits : (c : ℕ) (list : List ℕ) → All (λ n. IsSomeAnd (slice_get w.methods n) (IsInherited w.classes c)) list → (k : ℕ) (o : Option ℕ) → slice_get list k ≡ o → IfSome o (λ n. IsSomeAnd (slice_get w.methods n) (IsInherited w.classes c))
+  list-inherits : (c : ℕ) (list : List ℕ) → All (λ n. IsSomeAnd (slice_get w.methods n) (IsInherited w.classes c)) list
+      → (k : ℕ) (o : Option ℕ) → slice_get list k ≡ o → IfSome o (λ n. IsSomeAnd (slice_get w.methods n) (IsInherited w.classes c))
   list-inherits c list all k None e = tt
   list-inherits c list all k (Some n) e = All-slice_get (λ n. IsSomeAnd (slice_get w.methods n) (IsInherited w.classes c)) list k n all e
 
@@ -72,19 +77,22 @@ module _ (w : Linked) (is : IsWorld w) where
   pub entry-inherits : (c token : ℕ) → IfSome (entry_at w.classes c token) (λ n. IsSomeAnd (slice_get w.methods n) (IsInherited w.classes c))
   unfolding entry_at
   entry-inherits c token =
-      elim (nat_lt token 128) as (λ b. IfSome (cond b (slice_get (public_of w.classes c) token) (slice_get (visible_of w.classes c) (token - 128))) (λ n. IsSomeAnd (slice_get w.methods n) (IsInherited w.classes c))) [
+      elim (nat_lt token 128) as (λ b. IfSome (cond b (slice_get (public_of w.classes c) token) (slice_get (visible_of w.classes c) (token - 128)))
+      (λ n. IsSomeAnd (slice_get w.methods n) (IsInherited w.classes c))) [
         | true ↦ list-inherits c (public_of w.classes c) (public-inherits c) token (slice_get (public_of w.classes c) token) refl
         | false ↦ list-inherits c (visible_of w.classes c) (visible-inherits c) (token - 128) (slice_get (visible_of w.classes c) (token - 128)) refl
       ]
 
-  receives_at : (c : ℕ) (o : Option ℕ) → IfSome o (λ n. IsSomeAnd (slice_get w.methods n) (IsInherited w.classes c)) → IfSome o (TakesReceiver w.methods)
+  receives_at : (c : ℕ) (o : Option ℕ) → IfSome o (λ n. IsSomeAnd (slice_get w.methods n) (IsInherited w.classes c))
+      → IfSome o (TakesReceiver w.methods)
   receives_at c None h = tt
   receives_at c (Some n) h = inherited-receives c n h
 
   pub entry-receives : (c token : ℕ) → IfSome (entry_at w.classes c token) (TakesReceiver w.methods)
   entry-receives c token = receives_at c (entry_at w.classes c token) (entry-inherits c token)
 
-  own_at : (c : ℕ) (o : Option ClassRec) → IfSome o (IsLinkedClass (length w.infos) w.classes w.methods c) → All (IsDeclared w.classes) (of_record [] (λ r. r.own) o)
+  own_at : (c : ℕ) (o : Option ClassRec) → IfSome o (IsLinkedClass (length w.infos) w.classes w.methods c)
+      → All (IsDeclared w.classes) (of_record [] (λ r. r.own) o)
   own_at c None h = λ k d lt. absurd (omega arith)
   own_at c (Some r) h = h.own
 
@@ -104,18 +112,22 @@ module _ (w : Linked) (is : IsWorld w) where
   static-known f k lt at = subst (λ g. IsStatic (length w.infos) w.classes w.arrays g) at (is.statics k f lt)
 
   -- a method that the superclass has
-  pub super-inherits : (p n : ℕ) → Contains (public_of w.classes p ++ visible_of w.classes p) n → IsSomeAnd (slice_get w.methods n) (IsInherited w.classes p)
+  pub super-inherits : (p n : ℕ) → Contains (public_of w.classes p ++ visible_of w.classes p) n
+      → IsSomeAnd (slice_get w.methods n) (IsInherited w.classes p)
   super-inherits p n h =
       All-contains (λ k. IsSomeAnd (slice_get w.methods k) (IsInherited w.classes p)) (public_of w.classes p ++ visible_of w.classes p) n
-      (All-append (λ k. IsSomeAnd (slice_get w.methods k) (IsInherited w.classes p)) (public_of w.classes p) (visible_of w.classes p) (public-inherits p) (visible-inherits p)) h
+      (All-append (λ k. IsSomeAnd (slice_get w.methods k) (IsInherited w.classes p)) (public_of w.classes p) (visible_of w.classes p) (public-inherits p)
+      (visible-inherits p)) h
 
-  super-receives : (c n : ℕ) → (o : Option ℕ) → IsSomeAnd o (λ p. Contains (public_of w.classes p ++ visible_of w.classes p) n) → TakesReceiver w.methods n
+  super-receives : (c n : ℕ) → (o : Option ℕ) → IsSomeAnd o (λ p. Contains (public_of w.classes p ++ visible_of w.classes p) n)
+      → TakesReceiver w.methods n
   super-receives c n None h = absurd h
   super-receives c n (Some p) h = inherited-receives p n (super-inherits p n h)
 
   pub member-known : DeclaredAreKnown w.classes → (m : Member) → IsMember w.classes w.methods w.statics m → IsKnownMember w m
   member-known known (ClassOf c) h = h
-  member-known known (Field c cell kind ty) h = (h.class, known ty (All-slice_get (IsDeclared w.classes) (cells_of w.classes c) cell ty (cells-declared c) h.first))
+  member-known known (Field c cell kind ty) h =
+      (h.class, known ty (All-slice_get (IsDeclared w.classes) (cells_of w.classes c) cell ty (cells-declared c) h.first))
   member-known known (Static slot kind ty) (k, f, lt, at, slot_of) = known ty (subst (IsDeclared w.classes) slot_of.ty (static-known f k lt at).ty)
   member-known known (Virtual c token) h = (h.0, entry-receives c token)
   member-known known (Super c n) h = (h.0, super-receives c n (parent_of w.classes c) h.1)

@@ -1,5 +1,7 @@
 -- What the operation of an instruction speaks of is in the world.
-use Rattle.std.proofs.Common.{◌≡◌, ℕ, ◌+◌, ◌/◌, ◌%◌, ◌<◌, ◌≤◌, ◌==◌, ◌&&◌, not, if◌then◌else◌, cond, zero, suc, Bool, true, false, List, [], ◌∷◌, ◌++◌, length, Option, Some, None, IfSome, IsSomeAnd, Result, Ok, Err, IfOk, slice_get, slice_index_or, filter, All, Contains, refl, sym, ◌∙◌, subst, arith}
+use Rattle.std.proofs.Common.{◌≡◌, ℕ, ◌+◌, ◌/◌, ◌%◌, ◌<◌, ◌≤◌, ◌==◌, ◌&&◌, not, if◌then◌else◌, cond, zero, suc}
+use Rattle.std.proofs.Common.{Bool, true, false, List, [], ◌∷◌, ◌++◌, length, Option, Some, None, IfSome, IsSomeAnd, Result, Ok, Err, IfOk, slice_get}
+use Rattle.std.proofs.Common.{slice_index_or, filter, All, Contains, refl, sym, ◌∙◌, subst, arith}
 use Rattle.std.specs.List.{range_with_len}
 use Rattle.std.proofs.lemmas.Bool.Decides.{nat_tests}
 use Rattle.std.proofs.lemmas.Bool.{and_parts, not-true, eqb-true, eqb-false, or_parts}
@@ -34,7 +36,9 @@ use Rattle.jc_ops.specs.declared.row.Invocation.TheVariants as invocations
 use Rattle.jc_ops.specs.declared.row.Row.{Row}
 use Rattle.jc_ops.specs.declared.row.Row.TheVariants as rows
 use Rattle.jc_ops.specs.Row.{table, row_at, unused, by_sort, by_width, by_kind, first_four, by_register, literals, binaries, orders_all, branching}
-use Rattle.jc_ops.specs.Resolve.{byte_of, short_of, taken_if, on, same_kind, static_field, instance_field, callee_if, entry_callee, virtual_callee, own_receiver, special_callee, static_callee, is_described, passes_test, described, only, described_callee, interface_callee, callee, class_type, array_of, tested_type, returns, returned, result_type, result_returned, new_object, resolved, Resolves}
+use Rattle.jc_ops.specs.Resolve.{byte_of, short_of, taken_if, on, same_kind, static_field, instance_field, callee_if, entry_callee, virtual_callee}
+use Rattle.jc_ops.specs.Resolve.{own_receiver, special_callee, static_callee, is_described, passes_test, described, only, described_callee, interface_callee}
+use Rattle.jc_ops.specs.Resolve.{callee, class_type, array_of, tested_type, returns, returned, result_type, result_returned, new_object, resolved, Resolves}
 use Rattle.jc_ops.specs.Sound.{IsKnownWant, IsStaticOf, IsFieldOf, IsReceiverOf, IsCalleeOf, IsNamedType, IsResult, IsSound, OperationsAreSound}
 use Rattle.jc_ops.proofs.Members.{argument_room, entry-inherits, super-inherits, static-known, cells-declared}
 
@@ -90,7 +94,8 @@ on-sound : {X : Type 0} (P : Operation → Type 0) (op : X → Operation) (r : R
 on-sound P op (Ok x) h = h
 on-sound P op (Err fault) h = tt
 
-if-sound : {X : Type 0} (P : X → Type 0) (b : Bool) (r s : Result X RuleFault) → (b ≡ true → IfOk r P) → (b ≡ false → IfOk s P) → IfOk (if b then r else s) P
+if-sound : {X : Type 0} (P : X → Type 0) (b : Bool) (r s : Result X RuleFault) → (b ≡ true → IfOk r P) → (b ≡ false → IfOk s P)
+    → IfOk (if b then r else s) P
 if-sound P true r s h k = h refl
 if-sound P false r s h k = k refl
 
@@ -112,10 +117,12 @@ only-passes p xs n h = at (filter p xs) refl h
     at (x ∷ []) e q = let is_n : x ≡ n = cc in subst (λ y. p y ≡ true) is_n (filter-first p xs x [] e)
     at (x ∷ y ∷ ys) e q = absurd (cc)
 
-described-is : (methods : List MethodRec) (c token n : ℕ) (m : MethodRec) → only (described methods c token) ≡ Some n → slice_get methods n ≡ Some m → (m.class ≡ c) × (m.token ≡ token)
+described-is : (methods : List MethodRec) (c token n : ℕ) (m : MethodRec) → only (described methods c token) ≡ Some n
+    → slice_get methods n ≡ Some m → (m.class ≡ c) × (m.token ≡ token)
 unfolding described
 described-is methods c token n m h e =
-    let p : passes_test (is_described c token) (slice_get methods n) ≡ true = only-passes (λ n. passes_test (is_described c token) (slice_get methods n)) (range_with_len 0 (length methods)) n h in
+    let p : passes_test (is_described c token) (slice_get methods n) ≡ true = only-passes (λ n. passes_test (is_described c token) (slice_get methods n))
+    (range_with_len 0 (length methods)) n h in
     let q : is_described c token m ≡ true = subst (λ o. passes_test (is_described c token) o ≡ true) e p in
     let r = and_parts (m.class == c) (m.token == token) q in
     (eqb-true m.class c r.0, eqb-true m.token token r.1)
@@ -126,7 +133,8 @@ module _ (w : Linked) (is : IsWorld w) (decides : ConcreteDecides w.classes w.me
 
   -- ---- fields
 
-  static-sound : (pool : ℕ) (k : Kind) (o : Option Member) → IfSome o (IsMember w.classes w.methods w.statics) → IfOk (static_field pool k o) (IsStaticOf w)
+  static-sound : (pool : ℕ) (k : Kind) (o : Option Member) → IfSome o (IsMember w.classes w.methods w.statics)
+      → IfOk (static_field pool k o) (IsStaticOf w)
   static-sound pool k (Some (Static slot kind ty)) (i, f, lt, at, slot_of) =
       let static : IsStatic (length w.infos) w.classes w.arrays f = static-known w is f i lt at in
       taken-sound (IsStaticOf w) (same_kind k kind) pool (record { slot = slot; kind = kind; ty = ty }) (λ b. record {
@@ -136,7 +144,8 @@ module _ (w : Linked) (is : IsWorld w) (decides : ConcreteDecides w.classes w.me
       })
   static-sound pool k _ h = tt
 
-  field-sound : (pool : ℕ) (k : Kind) (o : Option Member) → IfSome o (IsMember w.classes w.methods w.statics) → IfOk (instance_field w.classes pool k o) (IsFieldOf w)
+  field-sound : (pool : ℕ) (k : Kind) (o : Option Member) → IfSome o (IsMember w.classes w.methods w.statics)
+      → IfOk (instance_field w.classes pool k o) (IsFieldOf w)
   field-sound pool k (Some (Field c cell kind ty)) h =
       taken-sound (IsFieldOf w) (same_kind k kind && not (c == object w.classes)) pool (record { class = c; cell = cell; kind = kind; ty = ty }) (λ b. record {
         cells = h;
@@ -151,17 +160,21 @@ module _ (w : Linked) (is : IsWorld w) (decides : ConcreteDecides w.classes w.me
       → ((m : MethodRec) → o ≡ Some m → test m ≡ true → IsCalleeOf w (record { method = n; receiver = receiver m; choice = choice }))
       → IfOk (callee_if test pool n o receiver choice) (IsCalleeOf w)
   callee-by test pool n None receiver choice h = tt
-  callee-by test pool n (Some m) receiver choice h = taken-sound (IsCalleeOf w) (test m) pool (record { method = n; receiver = receiver m; choice = choice }) (λ b. h m refl b)
+  callee-by test pool n (Some m) receiver choice h =
+      taken-sound (IsCalleeOf w) (test m) pool (record { method = n; receiver = receiver m; choice = choice }) (λ b. h m refl b)
 
   of_some : (P : MethodRec → Type 0) (o : Option MethodRec) (m : MethodRec) → o ≡ Some m → IsSomeAnd o P → P m
   of_some P o m e h = subst (λ x. IsSomeAnd x P) e h
 
-  entry-sound : (pool c token : ℕ) (o : Option ℕ) → entry_at w.classes c token ≡ o → IsClass w.classes c → IfOk (entry_callee w pool c token o) (IsCalleeOf w)
+  entry-sound : (pool c token : ℕ) (o : Option ℕ) → entry_at w.classes c token ≡ o → IsClass w.classes c
+      → IfOk (entry_callee w pool c token o) (IsCalleeOf w)
   entry-sound pool c token None e h = tt
   entry-sound pool c token (Some n) e h =
-      callee-by (λ m. not (c == object w.classes && m.is_abstract)) pool n (slice_get w.methods n) (λ m. Some (Value (Class c))) (choices.Virtual c token) (λ m q b.
+      callee-by (λ m. not (c == object w.classes && m.is_abstract)) pool n (slice_get w.methods n) (λ m. Some (Value (Class c))) (choices.Virtual c token)
+      (λ m q b.
       let inherited : IsInherited w.classes c m =
-      of_some (IsInherited w.classes c) (slice_get w.methods n) m q (subst (λ x. IfSome x (λ n. IsSomeAnd (slice_get w.methods n) (IsInherited w.classes c))) e (entry-inherits w is c token)) in
+      of_some (IsInherited w.classes c) (slice_get w.methods n) m q
+      (subst (λ x. IfSome x (λ n. IsSomeAnd (slice_get w.methods n) (IsInherited w.classes c))) e (entry-inherits w is c token)) in
       record {
         rec = m;
         is_method = q;
@@ -184,7 +197,9 @@ module _ (w : Linked) (is : IsWorld w) (decides : ConcreteDecides w.classes w.me
   virtual-sound pool (Some (Virtual c token)) h = entry-sound pool c token (entry_at w.classes c token) refl h.0
   virtual-sound pool _ h = tt
 
-  super-sound : (pool c n : ℕ) (o : Option ℕ) → parent_of w.classes c ≡ o → IsClass w.classes c → IsSomeAnd o (λ p. Contains (public_of w.classes p ++ visible_of w.classes p) n) → IfOk (special_callee w pool (Some (Super c n))) (IsCalleeOf w)
+  super-sound : (pool c n : ℕ) (o : Option ℕ) → parent_of w.classes c ≡ o → IsClass w.classes c
+      → IsSomeAnd o (λ p. Contains (public_of w.classes p ++ visible_of w.classes p) n)
+      → IfOk (special_callee w pool (Some (Super c n))) (IsCalleeOf w)
   super-sound pool c n None e h k = absurd k
   super-sound pool c n (Some p) e h k =
       callee-by (λ m. not (lacks_code w.classes m)) pool n (slice_get w.methods n) (λ m. Some (Value (Class c))) choices.Special (λ m q b.
@@ -204,7 +219,8 @@ module _ (w : Linked) (is : IsWorld w) (decides : ConcreteDecides w.classes w.me
   own_class : (n : ℕ) (m : MethodRec) → slice_get w.methods n ≡ Some m → lacks_code w.classes m ≡ false → IsClass w.classes m.class
   own_class n m q body = record { number = (method-is n m q).class; class = (or_parts m.is_abstract (is_interface w.classes m.class) body).1 }
 
-  own-receives : (m : MethodRec) (b : Bool) → m.is_init ≡ b → IsClass w.classes m.class → IsReceiverOf w m (Some (if b then Receiver m.class else Value (Class m.class)))
+  own-receives : (m : MethodRec) (b : Bool) → m.is_init ≡ b → IsClass w.classes m.class
+      → IsReceiverOf w m (Some (if b then Receiver m.class else Value (Class m.class)))
   own-receives m true e h = (e, refl, h)
   own-receives m false e h = (e, h, same)
 
@@ -252,10 +268,12 @@ module _ (w : Linked) (is : IsWorld w) (decides : ConcreteDecides w.classes w.me
       three_true false b c h = absurd (cc)
   static_call-sound pool _ = tt
 
-  described-sound : (pool nargs c token : ℕ) (o : Option ℕ) → nargs ≤ 255 → is_interface w.classes c ≡ true → only (described w.methods c token) ≡ o → IfOk (described_callee w pool nargs c token o) (IsCalleeOf w)
+  described-sound : (pool nargs c token : ℕ) (o : Option ℕ) → nargs ≤ 255 → is_interface w.classes c ≡ true
+      → only (described w.methods c token) ≡ o → IfOk (described_callee w pool nargs c token o) (IsCalleeOf w)
   described-sound pool nargs c token None few interface e = tt
   described-sound pool nargs c token (Some n) few interface e =
-      callee-by (λ m. nargs == length m.sig.args + 1) pool n (slice_get w.methods n) (λ m. Some (Value (Class (object w.classes)))) (choices.Interface c token nargs) (λ m q b.
+      callee-by (λ m. nargs == length m.sig.args + 1) pool n (slice_get w.methods n) (λ m. Some (Value (Class (object w.classes))))
+      (choices.Interface c token nargs) (λ m q b.
       let names = described-is w.methods c token n m e q in
       let words : nargs ≡ length m.sig.args + 1 = eqb-true nargs (length m.sig.args + 1) b in
       record {
@@ -273,7 +291,8 @@ module _ (w : Linked) (is : IsWorld w) (decides : ConcreteDecides w.classes w.me
   interface-sound pool nargs token _ few = tt
 
   -- the entry of a pool
-  all_at : (pools : List (List Member)) (home : ℕ) → All (All (IsMember w.classes w.methods w.statics)) pools → All (IsMember w.classes w.methods w.statics) (list_at pools home)
+  all_at : (pools : List (List Member)) (home : ℕ) → All (All (IsMember w.classes w.methods w.statics)) pools
+      → All (IsMember w.classes w.methods w.statics) (list_at pools home)
   all_at [] home h = λ k d lt. absurd (omega arith)
   all_at (p ∷ ps) zero h = h 0 p (omega arith)
   all_at (p ∷ ps) (suc home) h = all_at ps home (λ k d lt. h (suc k) d (omega arith))
@@ -293,7 +312,8 @@ module _ (w : Linked) (is : IsWorld w) (decides : ConcreteDecides w.classes w.me
 
   -- ---- types
 
-  class-sound : (P : Ty → Type 0) (make : ℕ → Ty) (pool : ℕ) (o : Option Member) → ((c : ℕ) → c < length w.classes.records → P (make c)) → IfSome o (IsMember w.classes w.methods w.statics) → IfOk (class_type make pool o) P
+  class-sound : (P : Ty → Type 0) (make : ℕ → Ty) (pool : ℕ) (o : Option Member) → ((c : ℕ) → c < length w.classes.records → P (make c))
+      → IfSome o (IsMember w.classes w.methods w.statics) → IfOk (class_type make pool o) P
   class-sound P make pool (Some (ClassOf c)) g h = g c h
   class-sound P make pool _ g h = tt
 
@@ -306,7 +326,8 @@ module _ (w : Linked) (is : IsWorld w) (decides : ConcreteDecides w.classes w.me
       array_if P (atype == 10) ArrBool (if atype == 11 then ArrByte else if atype == 12 then ArrShort else ArrInt) of_bool
       (array_if P (atype == 11) ArrByte (if atype == 12 then ArrShort else ArrInt) of_byte (array_if P (atype == 12) ArrShort ArrInt of_short of_int))
 
-  tested-sound : (atype pool : ℕ) (o : Option Member) → IfSome o (IsMember w.classes w.methods w.statics) → IfOk (tested_type atype pool o) (IsNamedType w.classes)
+  tested-sound : (atype pool : ℕ) (o : Option Member) → IfSome o (IsMember w.classes w.methods w.statics)
+      → IfOk (tested_type atype pool o) (IsNamedType w.classes)
   tested-sound atype pool o h =
       if-sound (IsNamedType w.classes) (atype == 0) (class_type Class pool o) (if atype == 14 then class_type ArrRef pool o else Ok (array_of atype))
       (λ q. class-sound (IsNamedType w.classes) Class pool o (λ c lt. lt) h)
@@ -319,16 +340,19 @@ module _ (w : Linked) (is : IsWorld w) (decides : ConcreteDecides w.classes w.me
   low-unreturned (Some sorts.Short) = refl
   low-unreturned (Some sorts.Int) = refl
 
-  result-is : (sort : Option Sort) (result : Option Ty) → IfSome result (IsDeclared w.classes) → returns sort result ≡ true → IfSome result (IsResult w.classes)
+  result-is : (sort : Option Sort) (result : Option Ty) → IfSome result (IsDeclared w.classes) → returns sort result ≡ true
+      → IfSome result (IsResult w.classes)
   result-is sort None h q = tt
   result-is sort (Some ty) h q = record {
     declared = h;
     no_low = λ e. let never : false ≡ true = sym (low-unreturned sort) ∙ subst (λ x. returns sort (Some x) ≡ true) e q in absurd (cc);
   }
 
-  return-sound : (sort : Option Sort) (result : Option Ty) → IfSome result (IsDeclared w.classes) → IfOk (result_returned w.classes sort result) (λ r. (r ≡ result) × IfSome r (IsResult w.classes))
+  return-sound : (sort : Option Sort) (result : Option Ty) → IfSome result (IsDeclared w.classes)
+      → IfOk (result_returned w.classes sort result) (λ r. (r ≡ result) × IfSome r (IsResult w.classes))
   return-sound sort result h =
-      if-sound (λ r. (r ≡ result) × IfSome r (IsResult w.classes)) (returns sort result) (Ok result) (Err (Mismatch (returned w.classes sort) (result_type result)))
+      if-sound (λ r. (r ≡ result) × IfSome r (IsResult w.classes)) (returns sort result) (Ok result)
+      (Err (Mismatch (returned w.classes sort) (result_type result)))
       (λ q. (refl, result-is sort result h q)) (λ q. tt)
 
   -- ---- operations
@@ -360,13 +384,15 @@ module _ (w : Linked) (is : IsWorld w) (decides : ConcreteDecides w.classes w.me
 
     new-sound : (pool : ℕ) (o : Option Member) → IfOk (new_object w place pool o) (IsSound w m place)
     new-sound pool (Some (ClassOf c)) =
-        if-sound (IsSound w m place) (is_concrete w.classes w.methods c) (Ok (ops.New place c)) (Err (NotConcrete c)) (λ concrete. (refl, (decides c).0 concrete)) (λ abstract. tt)
+        if-sound (IsSound w m place) (is_concrete w.classes w.methods c) (Ok (ops.New place c)) (Err (NotConcrete c))
+        (λ concrete. (refl, (decides c).0 concrete)) (λ abstract. tt)
     new-sound pool _ = tt
 
     from_equal : {r s : Result Operation RuleFault} → r ≡ s → IfOk s (IsSound w m place) → IfOk r (IsSound w m place)
     from_equal e h = subst (λ x. IfOk x (IsSound w m place)) (sym e) h
 
-    row-sound : (i : Insn) (row : Row) (r : Result Operation RuleFault) → is_fine row ≡ true → IfSome m.sig.result (IsDeclared w.classes) → r ≡ resolved w m place i row → IfOk r (IsSound w m place)
+    row-sound : (i : Insn) (row : Row) (r : Result Operation RuleFault) → is_fine row ≡ true → IfSome m.sig.result (IsDeclared w.classes)
+        → r ≡ resolved w m place i row → IfOk r (IsSound w m place)
     unfolding is_fine
     row-sound i (rows.Plain op) r fine q e = from_equal e (plain-sound op fine)
     row-sound i rows.PushShort r fine q e = from_equal e tt
@@ -390,17 +416,21 @@ module _ (w : Linked) (is : IsWorld w) (decides : ConcreteDecides w.classes w.me
         (field-sound (short_of i.x) k (member_at w m.package (short_of i.x)) (member-at m.package (short_of i.x))))
     row-sound i (rows.Call by) r fine q e = from_equal e (on-sound (IsSound w m place) ops.Call (callee w m.package i by) (callee-sound m.package i by))
     row-sound i rows.New r fine q e = from_equal e (new-sound (short_of i.x) (member_at w m.package (short_of i.x)))
-    row-sound i rows.NewNumbers r fine q e = from_equal e (array-of (λ ty. IsArray ty × IsNamedType w.classes ty) (of_booleans, tt) (of_bytes, tt) (of_shorts, tt) (of_ints, tt) (byte_of i.x))
+    row-sound i rows.NewNumbers r fine q e =
+        from_equal e (array-of (λ ty. IsArray ty × IsNamedType w.classes ty) (of_booleans, tt) (of_bytes, tt) (of_shorts, tt) (of_ints, tt) (byte_of i.x))
     row-sound i rows.NewReferences r fine q e =
         from_equal e (on-sound (IsSound w m place) ops.NewArray (class_type ArrRef (short_of i.x) (member_at w m.package (short_of i.x)))
-        (class-sound (λ ty. IsArray ty × IsNamedType w.classes ty) ArrRef (short_of i.x) (member_at w m.package (short_of i.x)) (λ c lt. (of_references, lt)) (member-at m.package (short_of i.x))))
+        (class-sound (λ ty. IsArray ty × IsNamedType w.classes ty) ArrRef (short_of i.x) (member_at w m.package (short_of i.x))
+        (λ c lt. (of_references, lt)) (member-at m.package (short_of i.x))))
     row-sound i (rows.TypeTest test) r fine q e =
         from_equal e (on-sound (IsSound w m place) (ops.TypeTest test) (tested_type (byte_of i.x) (short_of i.y) (member_at w m.package (short_of i.y)))
         (tested-sound (byte_of i.x) (short_of i.y) (member_at w m.package (short_of i.y)) (member-at m.package (short_of i.y))))
-    row-sound i (rows.Return s) r fine q e = from_equal e (on-sound (IsSound w m place) ops.Return (result_returned w.classes s m.sig.result) (return-sound s m.sig.result q))
+    row-sound i (rows.Return s) r fine q e =
+        from_equal e (on-sound (IsSound w m place) ops.Return (result_returned w.classes s m.sig.result) (return-sound s m.sig.result q))
 
   -- what an instruction of a method is resolved to is sound
-  pub resolved-sound : (m : MethodRec) (place : ℕ) (i : Insn) (r : Result Operation RuleFault) → IfSome m.sig.result (IsDeclared w.classes) → Resolves w m place i r → IfOk r (IsSound w m place)
+  pub resolved-sound : (m : MethodRec) (place : ℕ) (i : Insn) (r : Result Operation RuleFault) → IfSome m.sig.result (IsDeclared w.classes)
+      → Resolves w m place i r → IfOk r (IsSound w m place)
   resolved-sound m place i r q h = row-sound m place i (row_at i.op) r (row-fine i.op) q h
 
 pub operations-are-sound : (w : Linked) → IsWorld w → ConcreteDecides w.classes w.methods → OperationsAreSound w

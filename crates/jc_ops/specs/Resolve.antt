@@ -1,6 +1,8 @@
 -- The operation of an instruction: what its operands name in the world, and when they name nothing that it takes
 -- (JCVM 2.2, section 7.5, the linking clauses of each instruction).
-use Rattle.std.specs.Prelude.{◌≡◌, ℕ, ◌+◌, ◌/◌, ◌%◌, Bool, true, false, not, ◌&&◌, ◌==◌, if◌then◌else◌, ℤ, unsigned_abs, List, [], ◌∷◌, length, filter, Option, Some, None, IsSomeAnd, Result, Ok, Err, slice_get}
+use Rattle.std.specs.Prelude.{◌≡◌, ℕ, ◌+◌, ◌/◌, ◌%◌, Bool, true, false, not, ◌&&◌, ◌==◌, if◌then◌else◌}
+use Rattle.std.specs.Prelude.{ℤ, unsigned_abs, List, [], ◌∷◌, length, filter, Option, Some, None, IsSomeAnd, Result, Ok, Err}
+use Rattle.std.specs.Prelude.{slice_get}
 use Rattle.std.specs.List.{range_with_len}
 use Rattle.jc_base.specs.declared.ty.Ty.{Ty}
 use Rattle.jc_base.specs.declared.ty.Ty.TheVariants.{Bottom, Short, IntHigh, Class, ArrBool, ArrByte, ArrShort, ArrInt, ArrRef}
@@ -79,7 +81,8 @@ instance_field t pool k _ = Err (BadMember pool)
 -- ---- calls
 
 -- a method, taken where the test on its record holds
-abbrev pub callee_if : (MethodRec → Bool) → ℕ → ℕ → Option MethodRec → (MethodRec → Option Want) → Choice → Result Callee RuleFault
+abbrev pub callee_if : (MethodRec → Bool) → ℕ → ℕ → Option MethodRec → (MethodRec → Option Want) → Choice
+    → Result Callee RuleFault
 callee_if test pool n (Some m) receiver choice = taken_if (test m) pool (record { method = n; receiver = receiver m; choice = choice })
 callee_if test pool n None receiver choice = Err (BadMember pool)
 

@@ -1,6 +1,7 @@
 -- What holds of a resolved operation: what it speaks of is in the world, so that nothing else of the constant pool
 -- and of the place is needed to run it (JCVM 2.2, sections 6.7 and 7.5).
-use Rattle.std.specs.Prelude.{◌≡◌, ℕ, ◌+◌, ◌<◌, ◌≤◌, true, false, List, length, Option, Some, None, IsSomeAnd, IfSome, Result, Ok, Err, Any, slice_get, ⊤}
+use Rattle.std.specs.Prelude.{◌≡◌, ℕ, ◌+◌, ◌<◌, ◌≤◌, true, false, List, length, Option, Some, None, IsSomeAnd, IfSome}
+use Rattle.std.specs.Prelude.{Result, Ok, Err, Any, slice_get, ⊤}
 use Rattle.jc_base.specs.declared.ty.Ty.{Ty}
 use Rattle.jc_base.specs.declared.ty.Ty.TheVariants.{IntLow, Class, ArrBool, ArrByte, ArrShort, ArrInt, ArrRef}
 use Rattle.jc_base.specs.declared.record.Member.{Member}

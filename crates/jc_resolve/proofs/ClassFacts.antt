@@ -1,5 +1,6 @@
 -- Everything in named classes is a number of a class or a method.
-use Rattle.std.proofs.Common.{◌≡◌, ℕ, ◌+◌, ◌≤◌, ◌<◌, Bool, true, false, eqb, List, [], ◌∷◌, length, get_or, map, take, Option, Some, None, option_map, option_and_then, position, if◌then◌else◌, refl, sym, ap, subst, ◌∙◌, arith, inl, inr}
+use Rattle.std.proofs.Common.{◌≡◌, ℕ, ◌+◌, ◌≤◌, ◌<◌, Bool, true, false, eqb, List, [], ◌∷◌, length, get_or, map, take, Option, Some}
+use Rattle.std.proofs.Common.{None, option_map, option_and_then, position, if◌then◌else◌, refl, sym, ap, subst, ◌∙◌, arith, inl, inr}
 use Rattle.std.specs.Prelude.{All, IfSome, slice_get, flat_map}
 use Rattle.std.specs.List.{cons_option}
 use Rattle.std.proofs.lemmas.Bool.{false≢true}
@@ -19,9 +20,11 @@ use Rattle.cap_package.specs.PackageRecord.{PackageRecord}
 use Rattle.cap_desc.specs.declared.type_item.TypeItem.{TypeItem}
 use Rattle.jc_resolve.specs.declared.named.NamedClass.{NamedClass}
 use Rattle.jc_resolve.specs.declared.place.RecordPlace.{RecordPlace}
-use Rattle.jc_resolve.specs.Numbering.{NumberedClass, numbered_class, numbered_classes_of, classes_after, numbered_classes, numbered_methods, same_place, place_of_class, class_places, class_at, method_at}
+use Rattle.jc_resolve.specs.Numbering.{NumberedClass, numbered_class, numbered_classes_of, classes_after, numbered_classes, numbered_methods, same_place}
+use Rattle.jc_resolve.specs.Numbering.{place_of_class, class_places, class_at, method_at}
 use Rattle.jc_resolve.specs.References.{meets_import, met_by, import_of, class_named, Refers, internal, imported}
-use Rattle.jc_resolve.specs.NamedClasses.{by_token, cells_by, cells_of_field, cells_of_fields, instance_fields, dispatch_entry, dispatch_table, interface_named, implemented_interfaces, parent_named, named_interface, named_proper, named_class, named_classes}
+use Rattle.jc_resolve.specs.NamedClasses.{by_token, cells_by, cells_of_field, cells_of_fields, instance_fields, dispatch_entry, dispatch_table, interface_named}
+use Rattle.jc_resolve.specs.NamedClasses.{implemented_interfaces, parent_named, named_interface, named_proper, named_class, named_classes}
 use Rattle.jc_resolve.specs.Named.{package_by, package_of, IsDeclared, AreEntries, IsSized, IsNamedClass}
 use Rattle.jc_resolve.proofs.NumberLaws.{same-equal, position_below, method_below}
 use Rattle.jc_resolve.proofs.ReferenceLaws.{named-refers}
@@ -47,16 +50,19 @@ found t xs i h = elim (slice_get_cases xs i).1 [
 
 home_named : (ps : List PackageRecord) (object : ℕ) (c : NumberedClass) → (named_class ps object c).package ≡ c.home
 unfolding named_class
-home_named ps object c = either (λ (k : NamedClass). k.package ≡ c.home) (format.is_interface c.record_of.flags) (named_interface ps c) (named_proper ps object c) refl refl
+home_named ps object c =
+    either (λ (k : NamedClass). k.package ≡ c.home) (format.is_interface c.record_of.flags) (named_interface ps c) (named_proper ps object c) refl refl
 
-home_by : (ps : List PackageRecord) (object : ℕ) (o : Option NumberedClass) (place : RecordPlace) → option_map place_of_class o ≡ Some place → package_by (option_map (named_class ps object) o) ≡ place.package
+home_by : (ps : List PackageRecord) (object : ℕ) (o : Option NumberedClass) (place : RecordPlace) → option_map place_of_class o ≡ Some place
+    → package_by (option_map (named_class ps object) o) ≡ place.package
 home_by ps object None place e = absurd cc
 home_by ps object (Some c) place e =
     let same : place_of_class c ≡ place = cc in
     home_named ps object c ∙ ap (λ (q : RecordPlace). q.package) same
 
 -- the class at a place is of the place's package
-package_at : (ps : List PackageRecord) (object : ℕ) (place : RecordPlace) (c : ℕ) → class_at ps place ≡ Some c → package_of (named_classes ps object) c ≡ place.package
+package_at : (ps : List PackageRecord) (object : ℕ) (place : RecordPlace) (c : ℕ) → class_at ps place ≡ Some c
+    → package_of (named_classes ps object) c ≡ place.package
 unfolding class_at package_of named_classes
 package_at ps object place c h =
     let f = found (same_place place) (class_places ps) c h in
@@ -65,7 +71,8 @@ package_at ps object place c h =
     ∙ home_by ps object (slice_get (numbered_classes ps) c) f.0 (sym (slice_get-map place_of_class (numbered_classes ps) c) ∙ f.1)
     ∙ ap (λ (q : RecordPlace). q.package) same
 
-met_by_earlier : (ps : List PackageRecord) (k j : ℕ) (o : Option Package) → option_and_then (λ asked. position (meets_import asked) (take k ps)) o ≡ Some j → j < k
+met_by_earlier : (ps : List PackageRecord) (k j : ℕ) (o : Option Package) → option_and_then (λ asked. position (meets_import asked) (take k ps)) o
+    ≡ Some j → j < k
 met_by_earlier ps k j None h = absurd cc
 met_by_earlier ps k j (Some asked) h = omega (arith, position_below (meets_import asked) (take k ps) j h, length-take k ps)
 
@@ -73,7 +80,8 @@ met_earlier : (ps : List PackageRecord) (k token j : ℕ) → met_by ps k token 
 unfolding met_by
 met_earlier ps k token j h = met_by_earlier ps k j (import_of ps k token) h
 
-refers_earlier : (ps : List PackageRecord) (object k : ℕ) (reference : ClassReference) (c : ℕ) → Refers ps k reference c → package_of (named_classes ps object) c ≤ k
+refers_earlier : (ps : List PackageRecord) (object k : ℕ) (reference : ClassReference) (c : ℕ) → Refers ps k reference c
+    → package_of (named_classes ps object) c ≤ k
 refers_earlier ps object k reference c (internal offset is at) = omega (arith, package_at ps object (record { «package» = k; offset = offset }) c at)
 refers_earlier ps object k reference c (imported import class j offset is met out at) =
     omega (arith, package_at ps object (record { «package» = j; offset = offset }) c at, met_earlier ps k import j met)
@@ -106,7 +114,8 @@ module _ (ps : List PackageRecord) (object : ℕ) where
   named_earlier k reference (Some c) e = refers_earlier ps object k (reference_of reference) c (named-refers ps k reference c e)
 
   parent_earlier : (k reference : ℕ) → IsEarlier k (parent_named ps k reference)
-  parent_earlier k reference = either (IsEarlier k) (eqb reference 0xFFFF) None (class_named ps k reference) tt (named_earlier k reference (class_named ps k reference) refl)
+  parent_earlier k reference =
+      either (IsEarlier k) (eqb reference 0xFFFF) None (class_named ps k reference) tt (named_earlier k reference (class_named ps k reference) refl)
 
   -- ---- interfaces
 
@@ -121,7 +130,8 @@ module _ (ps : List PackageRecord) (object : ℕ) where
   interfaces_within : (k : ℕ) (is : List Interface) → All IsWithin (implemented_interfaces ps k is)
   unfolding interface_named
   interfaces_within k [] = All-nil IsWithin
-  interfaces_within k (i ∷ is) = interface_by i (class_named ps k i.class_ref) (implemented_interfaces ps k is) (named_within k i.class_ref) (interfaces_within k is)
+  interfaces_within k (i ∷ is) =
+      interface_by i (class_named ps k i.class_ref) (implemented_interfaces ps k is) (named_within k i.class_ref) (interfaces_within k is)
 
   -- ---- tables
 
@@ -143,14 +153,16 @@ module _ (ps : List PackageRecord) (object : ℕ) where
   field_declared k None = All-nil (IsDeclared (named_classes ps object) object)
   field_declared k (Some t) = cells_declared ps object k t
 
-  fields_declared : (k : ℕ) (d : Description) (fields : List FieldDescriptor) → All (IsDeclared (named_classes ps object) object) (flat_map (cells_of_field ps object k d) fields)
+  fields_declared : (k : ℕ) (d : Description) (fields : List FieldDescriptor)
+      → All (IsDeclared (named_classes ps object) object) (flat_map (cells_of_field ps object k d) fields)
   unfolding cells_of_field
   fields_declared k d [] = All-nil (IsDeclared (named_classes ps object) object)
   fields_declared k d (f ∷ fields) =
       All-append (IsDeclared (named_classes ps object) object) (cells_of_field ps object k d f) (flat_map (cells_of_field ps object k d) fields)
       (field_declared k (field_type d f.ty)) (fields_declared k d fields)
 
-  own_declared : (k : ℕ) (d : Description) (fields : List FieldDescriptor) → All (IsDeclared (named_classes ps object) object) (cells_of_fields ps object k d fields)
+  own_declared : (k : ℕ) (d : Description) (fields : List FieldDescriptor)
+      → All (IsDeclared (named_classes ps object) object) (cells_of_fields ps object k d fields)
   unfolding cells_of_fields
   own_declared k d fields = fields_declared k d (by_token fields)
 
@@ -185,7 +197,8 @@ module _ (ps : List PackageRecord) (object : ℕ) where
     sized = sized;
   }
 
-  right_by : (c : NumberedClass) (b : Bool) → c.home < length ps → IsSized (if b then named_interface ps c else named_proper ps object c) → IsNamed (if b then named_interface ps c else named_proper ps object c)
+  right_by : (c : NumberedClass) (b : Bool) → c.home < length ps → IsSized (if b then named_interface ps c else named_proper ps object c)
+      → IsNamed (if b then named_interface ps c else named_proper ps object c)
   right_by c true home sized = interface_right c home sized
   right_by c false home sized = proper_right c home sized
 
@@ -193,14 +206,18 @@ module _ (ps : List PackageRecord) (object : ℕ) where
   unfolding named_class
   class_right c home sized = right_by c (format.is_interface c.record_of.flags) home sized
 
-  each_class : (cs : List NumberedClass) → All (λ (c : NumberedClass). c.home < length ps) cs → All IsSized (map (named_class ps object) cs) → All IsNamed (map (named_class ps object) cs)
+  each_class : (cs : List NumberedClass) → All (λ (c : NumberedClass). c.home < length ps) cs → All IsSized (map (named_class ps object) cs)
+      → All IsNamed (map (named_class ps object) cs)
   each_class [] homes sized = All-nil IsNamed
   each_class (c ∷ cs) homes sized =
       All-cons IsNamed (named_class ps object c) (map (named_class ps object) cs)
-      (class_right c (All-head (λ (c : NumberedClass). c.home < length ps) c cs homes) (All-head IsSized (named_class ps object c) (map (named_class ps object) cs) sized))
-      (each_class cs (All-tail (λ (c : NumberedClass). c.home < length ps) c cs homes) (All-tail IsSized (named_class ps object c) (map (named_class ps object) cs) sized))
+      (class_right c (All-head (λ (c : NumberedClass). c.home < length ps) c cs homes)
+      (All-head IsSized (named_class ps object c) (map (named_class ps object) cs) sized))
+      (each_class cs (All-tail (λ (c : NumberedClass). c.home < length ps) c cs homes)
+      (All-tail IsSized (named_class ps object c) (map (named_class ps object) cs) sized))
 
   -- the named classes of packages, where they are no larger than their components can tell
-  pub classes-named : All IsSized (named_classes ps object) → All (IsNamedClass (length ps) (length (numbered_methods ps)) (named_classes ps object) object) (named_classes ps object)
+  pub classes-named : All IsSized (named_classes ps object)
+      → All (IsNamedClass (length ps) (length (numbered_methods ps)) (named_classes ps object) object) (named_classes ps object)
   unfolding named_classes
   classes-named sized = each_class (numbered_classes ps) (homes_after (length ps) 0 ps (omega arith)) sized

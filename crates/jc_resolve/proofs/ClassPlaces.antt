@@ -1,5 +1,6 @@
 -- The records of the Class component stand one after the other, so no two classes stand at one place.
-use Rattle.std.proofs.Common.{◌≡◌, ℕ, zero, suc, ◌+◌, ◌<◌, ◌≤◌, ◌⊎◌, Bool, true, false, leb, cond, List, [], ◌∷◌, length, map, Option, Some, None, refl, sym, ap, subst, ◌∙◌, arith, inl, inr}
+use Rattle.std.proofs.Common.{◌≡◌, ℕ, zero, suc, ◌+◌, ◌<◌, ◌≤◌, ◌⊎◌, Bool, true, false, leb, cond, List, [], ◌∷◌, length, map}
+use Rattle.std.proofs.Common.{Option, Some, None, refl, sym, ap, subst, ◌∙◌, arith, inl, inr}
 use Rattle.std.specs.Prelude.{All, slice_get, option_map}
 use Rattle.std.proofs.lemmas.Bool.{leb-true}
 use Rattle.std.proofs.lemmas.List.Elements.{All-head, All-tail}
@@ -31,7 +32,8 @@ none_rising : (at : ℕ) (cs : List Class) → cs ≡ [] → AreRising at cs
 none_rising at cs e = subst (AreRising at) (sym e) (record { from = tt {0}; rising = tt {0} })
 
 -- a record stands at the place from which it is read
-at_offset : (interface : Bool) (offset first : ℕ) (bytes : List ℕ) (at : ℕ) (c : Class) (after : ℕ) → Spells (beyond_first interface offset first) bytes at c after → c.offset ≡ offset
+at_offset : (interface : Bool) (offset first : ℕ) (bytes : List ℕ) (at : ℕ) (c : Class) (after : ℕ)
+    → Spells (beyond_first interface offset first) bytes at c after → c.offset ≡ offset
 unfolding Spells
 at_offset true offset first bytes at c after h = ap (λ (x : Class). x.offset) h.3.0
 at_offset false offset first bytes at c after h = ap (λ (x : Class). x.offset) h.3.3.3.0
@@ -66,8 +68,10 @@ one_more at mid c cs xs here rest e =
     })
 
 rises_when : (n : ℕ) (s b : Bool) (bytes : List ℕ) (at : ℕ) (xs : List Class) (after : ℕ)
-    → ((s' : Bool) (at' : ℕ) (ys : List Class) (end : ℕ) → at' ≤ length bytes → Spells (at_most n record_info is_after s') bytes at' ys end → AreRising at' ys)
-    → at ≤ length bytes → Spells (when b [] (record_info s >>= λ x. at_most n record_info is_after (is_after s x) >>= λ ys. give (x ∷ ys))) bytes at xs after → AreRising at xs
+    → ((s' : Bool) (at' : ℕ) (ys : List Class) (end : ℕ) → at' ≤ length bytes → Spells (at_most n record_info is_after s') bytes at' ys end
+    → AreRising at' ys)
+    → at ≤ length bytes → Spells (when b [] (record_info s >>= λ x. at_most n record_info is_after (is_after s x) >>= λ ys. give (x ∷ ys))) bytes
+    at xs after → AreRising at xs
 unfolding Spells
 rises_when n s false bytes at xs after others le h = none_rising at xs h.0
 rises_when n s true bytes at xs after others le h =
@@ -75,7 +79,8 @@ rises_when n s true bytes at xs after others le h =
     let reach = (goes_on (record_info s) bytes at h.0 h.1 le h.2).reach in
     one_more at h.1 h.0 h.3.0 xs here (others (is_after s h.0) h.1 h.3.0 h.3.1 reach h.3.2) h.3.3.0
 
-rises : (n : ℕ) (s : Bool) (bytes : List ℕ) (at : ℕ) (xs : List Class) (after : ℕ) → at ≤ length bytes → Spells (at_most n record_info is_after s) bytes at xs after → AreRising at xs
+rises : (n : ℕ) (s : Bool) (bytes : List ℕ) (at : ℕ) (xs : List Class) (after : ℕ) → at ≤ length bytes
+    → Spells (at_most n record_info is_after s) bytes at xs after → AreRising at xs
 unfolding Spells
 rises zero s bytes at xs after le h = none_rising at xs h.0
 rises (suc n) s bytes at xs after le h =
@@ -113,8 +118,11 @@ homes_from k (p ∷ ps) =
 
 in_package : (k : ℕ) (p : PackageRecord) (cs : List Class) → Pairwise IsLower cs → Pairwise IsBefore (map (numbered_class k p) cs)
 in_package k p [] h = tt {0}
-in_package k p (c ∷ cs) h =
-    (each-map (IsBefore (numbered_class k p c)) (numbered_class k p) cs (Each-weaker (IsLower c) (λ d. IsBefore (numbered_class k p c) (numbered_class k p d)) (λ d lt. inr (refl, lt)) cs h.0), in_package k p cs h.1)
+in_package k p (c ∷ cs) h = (
+  each-map (IsBefore (numbered_class k p c)) (numbered_class k p) cs
+      (Each-weaker (IsLower c) (λ d. IsBefore (numbered_class k p c) (numbered_class k p d)) (λ d lt. inr (refl, lt)) cs h.0),
+  in_package k p cs h.1,
+)
 
 classes_before : (k : ℕ) (ps : List PackageRecord) → All IsAgreed ps → Pairwise IsBefore (classes_after k ps)
 classes_before k [] agreed = tt {0}
@@ -126,7 +134,11 @@ classes_before k (p ∷ ps) agreed =
   where
     across : (cs : List Class) → Each (λ (c : NumberedClass). Each (IsBefore c) (classes_after (k + 1) ps)) (map (numbered_class k p) cs)
     across [] = tt {0}
-    across (c ∷ cs) = (Each-weaker (λ (d : NumberedClass). k + 1 ≤ d.home) (IsBefore (numbered_class k p c)) (λ d le. inl (omega arith)) (classes_after (k + 1) ps) (homes_from (k + 1) ps), across cs)
+    across (c ∷ cs) = (
+      Each-weaker (λ (d : NumberedClass). k + 1 ≤ d.home) (IsBefore (numbered_class k p c)) (λ d le. inl (omega arith)) (classes_after (k + 1) ps)
+          (homes_from (k + 1) ps),
+      across cs,
+    )
 
 never_before : (c d : NumberedClass) (place : RecordPlace) → place_of_class c ≡ place → place_of_class d ≡ place → IsBefore c d → ⊥
 never_before c d place e f (inl lt) =
@@ -137,13 +149,16 @@ never_before c d place e f (inr both) =
     let lt = both.1 in
     omega arith
 
-at_place : (o : Option NumberedClass) (place : RecordPlace) → option_map place_of_class o ≡ Some place → (c : NumberedClass) × (o ≡ Some c) × (place_of_class c ≡ place)
+at_place : (o : Option NumberedClass) (place : RecordPlace) → option_map place_of_class o ≡ Some place → (c : NumberedClass) × (o ≡ Some c)
+    × (place_of_class c ≡ place)
 at_place None place h = absurd cc
 at_place (Some c) place h = (c, refl, cc)
 
 -- no two classes stand at one place
-pub classes_apart : (ps : List PackageRecord) → All IsAgreed ps → (i j : ℕ) (place : RecordPlace) → slice_get (class_places ps) i ≡ Some place → slice_get (class_places ps) j ≡ Some place → i ≡ j
+pub classes_apart : (ps : List PackageRecord) → All IsAgreed ps → (i j : ℕ) (place : RecordPlace) → slice_get (class_places ps) i ≡ Some place
+    → slice_get (class_places ps) j ≡ Some place → i ≡ j
 classes_apart ps agreed i j place e f =
     let c = at_place (slice_get (numbered_classes ps) i) place (sym (slice_get-map place_of_class (numbered_classes ps) i) ∙ e) in
     let d = at_place (slice_get (numbered_classes ps) j) place (sym (slice_get-map place_of_class (numbered_classes ps) j) ∙ f) in
-    one-place IsBefore (numbered_classes ps) i j c.0 d.0 (classes_before 0 ps agreed) c.1 d.1 (never_before c.0 d.0 place c.2 d.2) (never_before d.0 c.0 place d.2 c.2)
+    one-place IsBefore (numbered_classes ps) i j c.0 d.0 (classes_before 0 ps agreed) c.1 d.1 (never_before c.0 d.0 place c.2 d.2)
+    (never_before d.0 c.0 place d.2 c.2)

@@ -32,10 +32,12 @@ module _ {F : Type 0} (place : F → Place) where
   none_refused faults None x e h = least-none place faults e
   none_refused faults (Some g) x e h = absurd cc
 
-  pub things-refused : {X : Type 0} (fault : X → Option F) (xs : List X) (f : F) → Err f ≡ refused (least_of place fault xs) → IsLeast place (filter_map fault xs) f
+  pub things-refused : {X : Type 0} (fault : X → Option F) (xs : List X) (f : F) → Err f ≡ refused (least_of place fault xs)
+      → IsLeast place (filter_map fault xs) f
   things-refused fault xs f h = least_refused (filter_map fault xs) (least_of place fault xs) f (sym (least-at_fault place fault xs None)) h
 
-  pub things-none : {X : Type 0} (fault : X → Option F) (xs : List X) (x : Unit {0}) → Ok x ≡ refused (least_of place fault xs) → filter_map fault xs ≡ []
+  pub things-none : {X : Type 0} (fault : X → Option F) (xs : List X) (x : Unit {0}) → Ok x ≡ refused (least_of place fault xs)
+      → filter_map fault xs ≡ []
   things-none fault xs x h = none_refused (filter_map fault xs) (least_of place fault xs) x (sym (least-at_fault place fault xs None)) h
 
   pub one-refused : (o : Option F) (f : F) → Err f ≡ refused o → IsLeast place (option_to_list o) f

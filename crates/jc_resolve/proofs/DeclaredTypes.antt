@@ -1,5 +1,6 @@
 -- The types that packages tell are types of their named classes.
-use Rattle.std.proofs.Common.{◌≡◌, ℕ, ◌<◌, Bool, true, false, eqb, List, [], ◌∷◌, ◌++◌, length, Option, Some, None, option_map, option_and_then, if◌then◌else◌, refl, sym, ap, subst, ◌∙◌, inl, inr}
+use Rattle.std.proofs.Common.{◌≡◌, ℕ, ◌<◌, Bool, true, false, eqb, List, [], ◌∷◌, ◌++◌, length, Option, Some, None, option_map}
+use Rattle.std.proofs.Common.{option_and_then, if◌then◌else◌, refl, sym, ap, subst, ◌∙◌, inl, inr}
 use Rattle.std.specs.Prelude.{All, IfSome, slice_get}
 use Rattle.std.proofs.lemmas.List.{length-map}
 use Rattle.std.proofs.lemmas.List.Elements.{All-nil, All-cons, All-append}
@@ -16,7 +17,8 @@ use Rattle.jc_resolve.specs.declared.named.NamedClass.{NamedClass}
 use Rattle.jc_resolve.specs.declared.place.RecordPlace.{RecordPlace}
 use Rattle.jc_resolve.specs.Numbering.{NumberedClass, numbered_classes, class_at, flagged_interface, is_interface_number}
 use Rattle.jc_resolve.specs.References.{place_referred, class_referred, class_named}
-use Rattle.jc_resolve.specs.WorldTypes.{class_or_object, type_class, type_of, cells_of_type, arguments_before, result_after, signature_in, types_named, declared_signature}
+use Rattle.jc_resolve.specs.WorldTypes.{class_or_object, type_class, type_of, cells_of_type, arguments_before, result_after, signature_in, types_named}
+use Rattle.jc_resolve.specs.WorldTypes.{declared_signature}
 use Rattle.jc_resolve.specs.NamedClasses.{named_class, named_classes, named_interface, named_proper}
 use Rattle.jc_resolve.specs.Named.{interface_by, is_interface, IsTypeClass, IsDeclared}
 use Rattle.jc_resolve.proofs.NumberLaws.{class_below}
@@ -44,14 +46,16 @@ pub flag_named : (ps : List PackageRecord) (object : ℕ) (c : NumberedClass) �
 unfolding named_class
 flag_named ps object c = flag_by (format.is_interface c.record_of.flags) (named_interface ps c) (named_proper ps object c) refl refl
 
-interface_in : (ps : List PackageRecord) (object : ℕ) (o : Option NumberedClass) → interface_by (option_map (named_class ps object) o) ≡ flagged_interface o
+interface_in : (ps : List PackageRecord) (object : ℕ) (o : Option NumberedClass) → interface_by (option_map (named_class ps object) o)
+    ≡ flagged_interface o
 interface_in ps object None = refl
 interface_in ps object (Some c) = flag_named ps object c
 
 -- a named class is an interface where its record says so
 pub interface_numbered : (ps : List PackageRecord) (object c : ℕ) → is_interface (named_classes ps object) c ≡ is_interface_number ps c
 unfolding is_interface is_interface_number named_classes
-interface_numbered ps object c = ap interface_by (slice_get-map (named_class ps object) (numbered_classes ps) c) ∙ interface_in ps object (slice_get (numbered_classes ps) c)
+interface_numbered ps object c =
+    ap interface_by (slice_get-map (named_class ps object) (numbered_classes ps) c) ∙ interface_in ps object (slice_get (numbered_classes ps) c)
 
 -- ---- what is named is a number
 
@@ -70,11 +74,13 @@ module _ (ps : List PackageRecord) (object : ℕ) where
   abbrev IsKnown : Ty → Type 0
   IsKnown = IsDeclared (named_classes ps object) object
 
-  class_by : (c : ℕ) (b : Bool) → c < length (numbered_classes ps) → is_interface_number ps c ≡ b → IsTypeClass (named_classes ps object) object (if b then object else c)
+  class_by : (c : ℕ) (b : Bool) → c < length (numbered_classes ps) → is_interface_number ps c ≡ b
+      → IsTypeClass (named_classes ps object) object (if b then object else c)
   class_by c true lt e = inl refl
   class_by c false lt e = inr (subst (λ n. c < n) (sym (named-length ps object)) lt, interface_numbered ps object c ∙ e)
 
-  class_or : (o : Option ℕ) → IfSome o (λ c. c < length (numbered_classes ps)) → IsTypeClass (named_classes ps object) object (class_or_object ps object o)
+  class_or : (o : Option ℕ) → IfSome o (λ c. c < length (numbered_classes ps))
+      → IsTypeClass (named_classes ps object) object (class_or_object ps object o)
   class_or None h = inl refl
   class_or (Some c) h = class_by c (is_interface_number ps c) h refl
 
@@ -112,7 +118,8 @@ module _ (ps : List PackageRecord) (object : ℕ) where
 
   before_declared : (k : ℕ) (t : TypeItem) (us : List TypeItem) → All (IsDeclared (named_classes ps object) object) (arguments_before ps object k t us)
   before_declared k t [] = All-nil IsKnown
-  before_declared k t (u ∷ us) = All-append IsKnown (cells_of_type ps object k t) (arguments_before ps object k u us) (cells_declared k t) (before_declared k u us)
+  before_declared k t (u ∷ us) =
+      All-append IsKnown (cells_of_type ps object k t) (arguments_before ps object k u us) (cells_declared k t) (before_declared k u us)
 
   after_declared : (k : ℕ) (t : TypeItem) (us : List TypeItem) → IfSome (result_after ps object k t us) (IsDeclared (named_classes ps object) object)
   after_declared k t [] =
@@ -128,11 +135,13 @@ module _ (ps : List PackageRecord) (object : ℕ) where
   result_in k [] = tt
   result_in k (t ∷ ts) = after_declared k t ts
 
-  pub arguments_declared : (k : ℕ) (d : Description) (offset : ℕ) → All (IsDeclared (named_classes ps object) object) (declared_signature ps object k d offset).args
+  pub arguments_declared : (k : ℕ) (d : Description) (offset : ℕ)
+      → All (IsDeclared (named_classes ps object) object) (declared_signature ps object k d offset).args
   unfolding declared_signature
   arguments_declared k d offset = arguments_in k (types_named d offset)
 
-  pub result_declared : (k : ℕ) (d : Description) (offset : ℕ) → IfSome (declared_signature ps object k d offset).result (IsDeclared (named_classes ps object) object)
+  pub result_declared : (k : ℕ) (d : Description) (offset : ℕ) → IfSome (declared_signature ps object k d offset).result
+      (IsDeclared (named_classes ps object) object)
   unfolding declared_signature
   result_declared k d offset = result_in k (types_named d offset)
 
@@ -161,7 +170,8 @@ module _ (ps : List PackageRecord) (object : ℕ) where
   first_by k t true e = rw e tt
   first_by k t false e = no-half-first (type_of ps object k t) (not_half k t e)
 
-  cells_whole : (k : ℕ) (t : TypeItem) (b : Bool) (rest : List Ty) → eqb t.nibble 5 ≡ b → AreWhole rest → AreWhole (cells_of_type ps object k t ++ rest)
+  cells_whole : (k : ℕ) (t : TypeItem) (b : Bool) (rest : List Ty) → eqb t.nibble 5 ≡ b → AreWhole rest
+      → AreWhole (cells_of_type ps object k t ++ rest)
   cells_whole k t true rest e whole = rw e (whole_int whole)
   cells_whole k t false rest e whole = rw e (one_cell (not_half k t e) whole)
 

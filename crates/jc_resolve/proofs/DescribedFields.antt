@@ -40,7 +40,9 @@ field_takes : TakesEach (λ (f : FieldDescriptor). 1) field_descriptor_info
 field_takes = first_takes 1 u1 _ byte_takes
 
 fields_then : (count methods token class_ref : ℕ) (interfaces : List ℕ)
-    → TakesEach (λ (c : ClassDescriptor). length c.fields) (repeat count field_descriptor_info >>= λ fs. repeat methods method_descriptor_info >>= λ ms. give (record { token = token; class_ref = class_ref; interfaces = interfaces; fields = fs; methods = ms }))
+    → TakesEach (λ (c : ClassDescriptor). length c.fields)
+    (repeat count field_descriptor_info >>= λ fs. repeat methods method_descriptor_info >>= λ ms. give
+    (record { token = token; class_ref = class_ref; interfaces = interfaces; fields = fs; methods = ms }))
 unfolding Spells
 fields_then count methods token class_ref interfaces bytes at c after le h =
     let a = spelled_within (λ (f : FieldDescriptor). 1) field_descriptor_info field_takes count bytes at h.0 h.1 le h.2 in
@@ -61,7 +63,14 @@ all_fields (c ∷ cs) = omega (arith, length-append c.fields (fields_of cs), sum
 
 -- the fields of several classes, and those of one
 pub fields_of-few : (x : DescClasses) → length (fields_of (described_left x)) ≤ 65535
-fields_of-few x = omega (arith, all_fields (described_left x), given_within (λ (c : ClassDescriptor). length c.fields) class_descriptor_info class_takes x.left x.items, x.items.few)
+fields_of-few x =
+    omega (
+      arith,
+      all_fields (described_left x),
+      given_within (λ (c : ClassDescriptor). length c.fields) class_descriptor_info class_takes x.left x.items,
+      x.items.few,
+    )
 
 pub fields_left-few : (x : DescFields) → length (fields_left x) ≤ 65535
-fields_left-few x = omega (arith, one_each (fields_left x), given_within (λ (f : FieldDescriptor). 1) field_descriptor_info field_takes x.left x.items, x.items.few)
+fields_left-few x =
+    omega (arith, one_each (fields_left x), given_within (λ (f : FieldDescriptor). 1) field_descriptor_info field_takes x.left x.items, x.items.few)

@@ -10,7 +10,8 @@ use Rattle.jc_resolve.specs.References.{exported_class, exported_field, exported
 
 -- ---- a class by its package and its token
 
-entry_read : {X : Type 0} (f : X → Exported) (token : ℕ) (o : Option (List X)) (q : Option PackageRecord) → option_map (map f) o ≡ option_map (λ (p : PackageRecord). or_none p.export) q
+entry_read : {X : Type 0} (f : X → Exported) (token : ℕ) (o : Option (List X)) (q : Option PackageRecord)
+    → option_map (map f) o ≡ option_map (λ (p : PackageRecord). or_none p.export) q
     → option_map f (option_and_then (λ l. slice_get l token) o) ≡ option_and_then (λ (p : PackageRecord). slice_get (or_none p.export) token) q
 entry_read f token None None h = refl
 entry_read f token None (Some p) h = absurd cc
@@ -19,7 +20,8 @@ entry_read f token (Some l) (Some p) h =
     let same : map f l ≡ or_none p.export = cc in
     sym (slice_get-map f l token) ∙ ap (λ l. slice_get l token) same
 
-pub exported_there : {X : Type 0} (f : X → Exported) (ps : List PackageRecord) (exports : List (List X)) (k token : ℕ) → map (map f) exports ≡ exported_classes ps
+pub exported_there : {X : Type 0} (f : X → Exported) (ps : List PackageRecord) (exports : List (List X)) (k token : ℕ)
+    → map (map f) exports ≡ exported_classes ps
     → option_map f (option_and_then (λ l. slice_get l token) (slice_get exports k)) ≡ exported_class ps k token
 exported_there f ps exports k token h =
     entry_read f token (slice_get exports k) (slice_get ps k)

@@ -1,5 +1,6 @@
 -- Where nothing of a list is at fault, nothing is wrong with a thing of it.
-use Rattle.std.proofs.Common.{◌≡◌, ℕ, zero, suc, List, [], ◌∷◌, ◌++◌, flat_map, Option, Some, None, sym, ap, subst, ◌∙◌, ◌⊎◌, inl, inr}
+use Rattle.std.proofs.Common.{◌≡◌, ℕ, zero, suc, List, [], ◌∷◌, ◌++◌, flat_map, Option, Some, None, sym, ap, subst, ◌∙◌, ◌⊎◌, inl}
+use Rattle.std.proofs.Common.{inr}
 use Rattle.std.specs.Prelude.{slice_get}
 use Rattle.std.specs.List.{filter_map}
 use Rattle.std.proofs.lemmas.List.Elements.{filter_map-append}
@@ -41,11 +42,13 @@ faultless f (y ∷ xs) x e (inr h) = faultless f xs x (faultless_first (f y) (fi
 pub faultless_at : {X Y : Type 0} (f : X → Option Y) (xs : List X) (i : ℕ) (x : X) → filter_map f xs ≡ [] → slice_get xs i ≡ Some x → f x ≡ None
 faultless_at f xs i x e at = faultless f xs x e (one_of_get xs i x at)
 
-pub both_faultless : {X Y : Type 0} (f : X → Option Y) (xs ys : List X) → filter_map f (xs ++ ys) ≡ [] → (filter_map f xs ≡ []) × (filter_map f ys ≡ [])
+pub both_faultless : {X Y : Type 0} (f : X → Option Y) (xs ys : List X) → filter_map f (xs ++ ys) ≡ [] → (filter_map f xs ≡ [])
+    × (filter_map f ys ≡ [])
 both_faultless f xs ys e = both_empty (filter_map f xs) (filter_map f ys) (sym (filter_map-append f xs ys) ∙ e)
 
 -- the things that belong to one of several things
-pub flat_faultless : {X Y Z : Type 0} (f : Y → Option Z) (g : X → List Y) (xs : List X) (i : ℕ) (x : X) → filter_map f (flat_map g xs) ≡ [] → slice_get xs i ≡ Some x → filter_map f (g x) ≡ []
+pub flat_faultless : {X Y Z : Type 0} (f : Y → Option Z) (g : X → List Y) (xs : List X) (i : ℕ) (x : X) → filter_map f (flat_map g xs) ≡ []
+    → slice_get xs i ≡ Some x → filter_map f (g x) ≡ []
 flat_faultless f g [] i x e at = absurd cc
 flat_faultless f g (y ∷ ys) zero x e at =
     let same : y ≡ x = cc in

@@ -1,5 +1,6 @@
 -- How many cells the instance fields of a class have.
-use Rattle.std.proofs.Common.{◌≡◌, ℕ, zero, suc, ◌+◌, ◌*◌, ◌≤◌, ◌<◌, Bool, true, false, cond, eqb, List, [], ◌∷◌, length, length-append, Option, Some, None, refl, ap, arith, inl, inr}
+use Rattle.std.proofs.Common.{◌≡◌, ℕ, zero, suc, ◌+◌, ◌*◌, ◌≤◌, ◌<◌, Bool, true, false, cond, eqb, List, [], ◌∷◌, length}
+use Rattle.std.proofs.Common.{length-append, Option, Some, None, refl, ap, arith, inl, inr}
 use Rattle.std.specs.Prelude.{filter, flat_map}
 use Rattle.std.specs.List.{range_with_len}
 use Rattle.std.proofs.lemmas.Bool.{cases_eq, ne_eqb}
@@ -12,7 +13,8 @@ use Rattle.cap_desc.specs.Members.{fields_of}
 use Rattle.cap_package.specs.Descriptions.{Description, description, field_type}
 use Rattle.cap_package.specs.PackageRecord.{PackageRecord}
 use Rattle.jc_resolve.specs.WorldTypes.{type_of}
-use Rattle.jc_resolve.specs.NamedClasses.{describes, is_instance_field, fields_described, instance_fields, token_of, with_token, by_token, cells_by, cells_of_field, cells_of_fields}
+use Rattle.jc_resolve.specs.NamedClasses.{describes, is_instance_field, fields_described, instance_fields, token_of, with_token, by_token, cells_by}
+use Rattle.jc_resolve.specs.NamedClasses.{cells_of_field, cells_of_fields}
 use Rattle.jc_resolve.proofs.DeclaredTypes.{either}
 use Rattle.jc_resolve.proofs.DescribedFields.{fields_of-few}
 
@@ -64,17 +66,24 @@ few_by : (ps : List PackageRecord) (object k : ℕ) (o : Option TypeItem) → le
 few_by ps object k None = omega arith
 few_by ps object k (Some t) = either (λ cells. length cells ≤ 2) (eqb t.nibble 5) _ (type_of ps object k t ∷ []) (omega arith) (omega arith)
 
-cells_few : (ps : List PackageRecord) (object k : ℕ) (d : Description) (fields : List FieldDescriptor) → length (flat_map (cells_of_field ps object k d) fields) ≤ 2 * length fields
+cells_few : (ps : List PackageRecord) (object k : ℕ) (d : Description) (fields : List FieldDescriptor)
+    → length (flat_map (cells_of_field ps object k d) fields) ≤ 2 * length fields
 unfolding cells_of_field
 cells_few ps object k d [] = omega arith
 cells_few ps object k d (f ∷ fields) =
-    omega (arith, length-append (cells_of_field ps object k d f) (flat_map (cells_of_field ps object k d) fields), few_by ps object k (field_type d f.ty), cells_few ps object k d fields)
+    omega (
+      arith,
+      length-append (cells_of_field ps object k d f) (flat_map (cells_of_field ps object k d) fields),
+      few_by ps object k (field_type d f.ty),
+      cells_few ps object k d fields,
+    )
 
 tokens_once : (fields : List FieldDescriptor) → length (by_token fields) ≤ length fields
 unfolding with_token
 tokens_once fields = each_once token_of fields 0 256
 
-pub own_few : (ps : List PackageRecord) (object k : ℕ) (d : Description) (fields : List FieldDescriptor) → length (cells_of_fields ps object k d fields) ≤ 2 * length fields
+pub own_few : (ps : List PackageRecord) (object k : ℕ) (d : Description) (fields : List FieldDescriptor)
+    → length (cells_of_fields ps object k d fields) ≤ 2 * length fields
 unfolding cells_of_fields
 own_few ps object k d fields = omega (arith, cells_few ps object k d (by_token fields), tokens_once fields)
 
@@ -90,18 +99,27 @@ filtered_few t (x ∷ xs) = filtered_by (t x) (filtered_few t xs)
 
 described_few : (offset : ℕ) (c : ClassDescriptor) → length (fields_described offset c) ≤ length c.fields
 unfolding fields_described
-described_few offset c = either (λ fields. length fields ≤ length c.fields) (describes offset c) (filter is_instance_field c.fields) [] (filtered_few is_instance_field c.fields) (omega arith)
+described_few offset c =
+    either (λ fields. length fields ≤ length c.fields) (describes offset c) (filter is_instance_field c.fields) []
+    (filtered_few is_instance_field c.fields) (omega arith)
 
 pub instance_few : (classes : List ClassDescriptor) (offset : ℕ) → length (instance_fields classes offset) ≤ length (fields_of classes)
 unfolding instance_fields
 instance_few [] offset = omega arith
 instance_few (c ∷ classes) offset =
-    omega (arith, length-append (fields_described offset c) (instance_fields classes offset), length-append c.fields (fields_of classes), described_few offset c, instance_few classes offset)
+    omega (
+      arith,
+      length-append (fields_described offset c) (instance_fields classes offset),
+      length-append c.fields (fields_of classes),
+      described_few offset c,
+      instance_few classes offset,
+    )
 
 -- the cells of a class's fields are no more than a Descriptor can tell
 pub own_sized : (ps : List PackageRecord) (object k : ℕ) (d : Description) (x : DescPart) (offset : ℕ) (cells : List Ty) → description x ≡ d
     → cells ≡ cells_of_fields ps object k d (instance_fields d.items.classes offset) → length cells ≤ 131070
 own_sized ps object k d x offset cells e f =
     let fields = instance_fields d.items.classes offset in
-    let few : length fields ≤ length (fields_of (described_left x.classes)) = omega (arith, instance_few d.items.classes offset, ap (λ (y : Description). length (fields_of y.items.classes)) e) in
+    let few : length fields ≤ length (fields_of (described_left x.classes)) = omega
+    (arith, instance_few d.items.classes offset, ap (λ (y : Description). length (fields_of y.items.classes)) e) in
     omega (arith, ap length f, own_few ps object k d fields, few, fields_of-few x.classes)

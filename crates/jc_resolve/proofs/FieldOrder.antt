@@ -1,5 +1,6 @@
 -- After the greatest token of fields no field comes.
-use Rattle.std.proofs.Common.{◌≡◌, ℕ, zero, suc, ◌+◌, ◌≤◌, Bool, true, false, eqb, List, [], ◌∷◌, ◌++◌, filter, flat_map, fold, refl, arith}
+use Rattle.std.proofs.Common.{◌≡◌, ℕ, zero, suc, ◌+◌, ◌≤◌, Bool, true, false, eqb, List, [], ◌∷◌, ◌++◌, filter, flat_map, fold}
+use Rattle.std.proofs.Common.{refl, arith}
 use Rattle.std.specs.Prelude.{max}
 use Rattle.std.specs.List.{range_with_len}
 use Rattle.std.proofs.lemmas.Bool.{eqb-true}
@@ -35,7 +36,8 @@ none_after fs a zero h = refl
 none_after fs a (suc n) h = rw (none_left 0 a fs h) (none_after fs (a + 1) n (omega (arith, h)))
 
 -- fields up to their end are all
-pub all_placed : {Y : Type 0} (f : OwnField → List Y) (fs : List OwnField) (ys : List Y) (a n : ℕ) → tokens_end fs ≤ a → ys ++ flat_map f (flat_map (own_with_token fs) (range_with_len a n)) ≡ ys
+pub all_placed : {Y : Type 0} (f : OwnField → List Y) (fs : List OwnField) (ys : List Y) (a n : ℕ) → tokens_end fs ≤ a
+    → ys ++ flat_map f (flat_map (own_with_token fs) (range_with_len a n)) ≡ ys
 all_placed f fs ys a n h = rw (none_after fs a n h) (append-nil ys)
 
 -- what the loop over tokens needs

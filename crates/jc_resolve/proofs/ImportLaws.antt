@@ -1,5 +1,6 @@
 -- What meets an import is read in a table.
-use Rattle.std.proofs.Common.{◌≡◌, ℕ, zero, suc, ◌+◌, ◌<◌, List, [], ◌∷◌, map, take, Option, Some, None, IfSome, slice_get, option_map, option_and_then, refl, sym, ap, ◌∙◌, arith}
+use Rattle.std.proofs.Common.{◌≡◌, ℕ, zero, suc, ◌+◌, ◌<◌, List, [], ◌∷◌, map, take, Option, Some, None, IfSome, slice_get, option_map}
+use Rattle.std.proofs.Common.{option_and_then, refl, sym, ap, ◌∙◌, arith}
 use Rattle.std.proofs.lemmas.Option.{slice_get-map}
 use Rattle.std.proofs.lemmas.List.{length-take}
 use Rattle.cap_frame.specs.PackageFormat.{Package}
@@ -12,7 +13,8 @@ abbrev row_of : List PackageRecord → ℕ → PackageRecord → List (Option �
 row_of all k p = map (first_meeting (take k all)) p.imports
 
 -- the row of a package is what meets its imports
-row_at : (all : List PackageRecord) (k : ℕ) (ps : List PackageRecord) (j n : ℕ) → k + j ≡ n → slice_get (imports_after all k ps) j ≡ option_map (row_of all n) (slice_get ps j)
+row_at : (all : List PackageRecord) (k : ℕ) (ps : List PackageRecord) (j n : ℕ) → k + j ≡ n → slice_get (imports_after all k ps) j
+    ≡ option_map (row_of all n) (slice_get ps j)
 row_at all k [] j n e = refl
 row_at all k (p ∷ ps) zero n e =
     let same : k ≡ n = omega (arith, e) in
@@ -34,14 +36,16 @@ among_by all k token (Some p) =
     ap joined (slice_get-map (first_meeting (take k all)) p.imports token) ∙ flat (first_meeting (take k all)) (slice_get p.imports token)
 
 -- what the table says of an import is what meets it
-pub met_there : (ps : List PackageRecord) (met : List (List (Option ℕ))) (k token : ℕ) → met ≡ imports_met ps → met_among met k token ≡ met_by ps k token
+pub met_there : (ps : List PackageRecord) (met : List (List (Option ℕ))) (k token : ℕ) → met ≡ imports_met ps
+    → met_among met k token ≡ met_by ps k token
 unfolding met_by
 met_there ps met k token h =
     ap (λ (m : List (List (Option ℕ))). met_among m k token) h
     ∙ ap (option_and_then (λ (row : List (Option ℕ)). joined (slice_get row token))) (row_at ps 0 ps k k (omega arith))
     ∙ among_by ps k token (slice_get ps k)
 
-earlier_by : (ps : List PackageRecord) (k : ℕ) (asked : Option Package) (o : Option ℕ) → o ≡ option_and_then (first_meeting (take k ps)) asked → IfSome o (λ n. n < k)
+earlier_by : (ps : List PackageRecord) (k : ℕ) (asked : Option Package) (o : Option ℕ) → o ≡ option_and_then (first_meeting (take k ps)) asked
+    → IfSome o (λ n. n < k)
 earlier_by ps k asked None h = tt
 earlier_by ps k None (Some n) h = absurd cc
 earlier_by ps k (Some asked) (Some n) h = omega (arith, position_below (meets_import asked) (take k ps) n (sym h), length-take k ps)

@@ -20,7 +20,8 @@ two_ranges n false b false d e f h = absurd cc
 type_small : (n : ℕ) → is_type n ≡ true → n ≤ 14
 type_small n h = two_ranges n (leb 1 n) (leb n 6) (leb 10 n) (leb n 14) refl refl h
 
-by_nibble : (ps : List PackageRecord) (object k n r : ℕ) → is_type n ≡ true → eqb n 1 ≡ false → IsOfKind (kind_of (record { nibble = n; class_ref = r })) (type_of ps object k (record { nibble = n; class_ref = r }))
+by_nibble : (ps : List PackageRecord) (object k n r : ℕ) → is_type n ≡ true → eqb n 1 ≡ false
+    → IsOfKind (kind_of (record { nibble = n; class_ref = r })) (type_of ps object k (record { nibble = n; class_ref = r }))
 unfolding kind_of type_of
 by_nibble ps object k zero r typed void = absurd cc
 by_nibble ps object k (suc zero) r typed void = absurd cc
@@ -41,5 +42,6 @@ by_nibble ps object k (suc (suc (suc (suc (suc (suc (suc (suc (suc (suc (suc (su
     absurd (let small = type_small (suc (suc (suc (suc (suc (suc (suc (suc (suc (suc (suc (suc (suc (suc (suc n))))))))))))))) typed in omega arith)
 
 -- an item that is a type, and not void
-pub kind_right : (ps : List PackageRecord) (object k : ℕ) (t : TypeItem) → is_type t.nibble ≡ true → eqb t.nibble 1 ≡ false → IsOfKind (kind_of t) (type_of ps object k t)
+pub kind_right : (ps : List PackageRecord) (object k : ℕ) (t : TypeItem) → is_type t.nibble ≡ true → eqb t.nibble 1 ≡ false
+    → IsOfKind (kind_of t) (type_of ps object k t)
 kind_right ps object k t typed void = by_nibble ps object k t.nibble t.class_ref typed void

@@ -34,7 +34,8 @@ pub record IsBody (info : List ℕ) (count : ℕ) (class : Bool) (b : Body) : Ty
   pub handlers : All (HandlerLiesIn b.code_len) b.handlers
   pub few_handlers : length b.handlers ≤ 255
 
-bodiless : (info : List ℕ) (flags : ℕ) (sig : Sig) (class : Bool) → length sig.args + receiver_words (is_static flags) ≤ 255 → IsBody info (length sig.args + receiver_words (is_static flags)) class (no_body flags sig)
+bodiless : (info : List ℕ) (flags : ℕ) (sig : Sig) (class : Bool) → length sig.args + receiver_words (is_static flags) ≤ 255
+    → IsBody info (length sig.args + receiver_words (is_static flags)) class (no_body flags sig)
 bodiless info flags sig class few = record {
   words = omega arith;
   registers = omega arith;
@@ -46,7 +47,8 @@ bodiless info flags sig class few = record {
 }
 
 module _ (ps : List PackageRecord) (throwable k : ℕ) (p : PackageRecord) (m : MethodDescriptor) (sig : Sig) where
-  handler_in : (code_at : ℕ) (h : HandlerInfo) → code_at ≡ code_start p.methods.info m → code_end p.methods.info m ≤ 65535 → LiesIn p.methods.info m h → HandlerLiesIn m.bytecode_count (handler_named ps throwable k p.pool code_at h)
+  handler_in : (code_at : ℕ) (h : HandlerInfo) → code_at ≡ code_start p.methods.info m → code_end p.methods.info m ≤ 65535
+      → LiesIn p.methods.info m h → HandlerLiesIn m.bytecode_count (handler_named ps throwable k p.pool code_at h)
   unfolding handler_named code_end
   handler_in code_at h at short lies =
       let start = lies.start in
@@ -63,12 +65,14 @@ module _ (ps : List PackageRecord) (throwable k : ℕ) (p : PackageRecord) (m : 
       let short = x.short in
       omega arith
 
-  handlers_in : (x : IsPlaced p m) (code_at : ℕ) → code_at ≡ code_start p.methods.info m → All (HandlerLiesIn m.bytecode_count) (map (handler_named ps throwable k p.pool code_at) (handlers_of p m))
+  handlers_in : (x : IsPlaced p m) (code_at : ℕ) → code_at ≡ code_start p.methods.info m
+      → All (HandlerLiesIn m.bytecode_count) (map (handler_named ps throwable k p.pool code_at) (handlers_of p m))
   handlers_in x code_at at =
       let ends = x.ends in
       let short = x.short in
       All-map (HandlerLiesIn m.bytecode_count) (handler_named ps throwable k p.pool code_at) (handlers_of p m)
-      (All-weaker (LiesIn p.methods.info m) (λ h. HandlerLiesIn m.bytecode_count (handler_named ps throwable k p.pool code_at h)) (λ h lies. handler_in code_at h at (omega arith) lies) (handlers_of p m) x.handlers)
+      (All-weaker (LiesIn p.methods.info m) (λ h. HandlerLiesIn m.bytecode_count (handler_named ps throwable k p.pool code_at h))
+      (λ h lies. handler_in code_at h at (omega arith) lies) (handlers_of p m) x.handlers)
 
   handlers_few : (code_at : ℕ) → length p.methods.handlers ≤ 255 → length (map (handler_named ps throwable k p.pool code_at) (handlers_of p m)) ≤ 255
   handlers_few code_at few =
@@ -81,7 +85,9 @@ module _ (ps : List PackageRecord) (throwable k : ℕ) (p : PackageRecord) (m : 
   unfolding code_end
   ends_in x code_at at = let ends = x.ends in omega arith
 
-  farther : (x : IsPlaced p m) → length p.methods.handlers ≤ 255 → length sig.args ≡ x.words → IsBody p.methods.info (length sig.args + receiver_words (is_static m.flags)) true (body_after ps throwable k p m x.header (offset_in_info (m.method_offset + x.header.size)))
+  farther : (x : IsPlaced p m) → length p.methods.handlers ≤ 255 → length sig.args ≡ x.words
+      → IsBody p.methods.info (length sig.args + receiver_words (is_static m.flags)) true
+      (body_after ps throwable k p m x.header (offset_in_info (m.method_offset + x.header.size)))
   farther x few counted =
       let code_at = offset_in_info (m.method_offset + x.header.size) in
       record {
@@ -94,7 +100,9 @@ module _ (ps : List PackageRecord) (throwable k : ℕ) (p : PackageRecord) (m : 
         few_handlers = handlers_few code_at few;
       }
 
-  body_there : (x : IsPlaced p m) → length p.methods.handlers ≤ 255 → length sig.args ≡ x.words → IsBody p.methods.info (length sig.args + receiver_words (is_static m.flags)) true (body_by ps throwable k p m sig (header_in p.methods.info m.method_offset))
+  body_there : (x : IsPlaced p m) → length p.methods.handlers ≤ 255 → length sig.args ≡ x.words
+      → IsBody p.methods.info (length sig.args + receiver_words (is_static m.flags)) true
+      (body_by ps throwable k p m sig (header_in p.methods.info m.method_offset))
   body_there x few counted = rw x.there (farther x few counted)
 
   few_words : (x : IsPlaced p m) → length sig.args ≡ x.words → length sig.args + receiver_words (is_static m.flags) ≤ 255
@@ -103,7 +111,8 @@ module _ (ps : List PackageRecord) (throwable k : ℕ) (p : PackageRecord) (m : 
       let registers = x.registers in
       omega arith
 
-  body_placed : (class : Bool) (x : IsPlaced p m) → length p.methods.handlers ≤ 255 → length sig.args ≡ x.words → IsBody p.methods.info (length sig.args + receiver_words (is_static m.flags)) class (body_of ps throwable k p m sig (true && class))
+  body_placed : (class : Bool) (x : IsPlaced p m) → length p.methods.handlers ≤ 255 → length sig.args ≡ x.words
+      → IsBody p.methods.info (length sig.args + receiver_words (is_static m.flags)) class (body_of ps throwable k p m sig (true && class))
   unfolding body_of
   body_placed true x few counted = body_there x few counted
   body_placed false x few counted = bodiless p.methods.info m.flags sig false (few_words x counted)
@@ -112,7 +121,8 @@ module _ (ps : List PackageRecord) (throwable k : ℕ) (p : PackageRecord) (m : 
   receiver_one true = omega arith
   receiver_one false = omega arith
 
-  body_else : (class : Bool) (x : HasWords p.description m 254) → length sig.args ≡ x.words → IsBody p.methods.info (length sig.args + receiver_words (is_static m.flags)) class (body_of ps throwable k p m sig false)
+  body_else : (class : Bool) (x : HasWords p.description m 254) → length sig.args ≡ x.words
+      → IsBody p.methods.info (length sig.args + receiver_words (is_static m.flags)) class (body_of ps throwable k p m sig false)
   unfolding body_of
   body_else class x counted =
       let one = receiver_one (is_static m.flags) in
@@ -124,16 +134,21 @@ module _ (ps : List PackageRecord) (object throwable k : ℕ) (p : PackageRecord
   abbrev sig_of : Sig
   sig_of = declared_signature ps object k p.description m.type_offset
 
-  body_by_place : (interface class : Bool) → names_interface p.classes c.class_ref ≡ interface → StandsFor p.parts p → length p.methods.handlers ≤ 255 → IsOneOf p.description.items.classes c → IsOneOf c.methods m
+  body_by_place : (interface class : Bool) → names_interface p.classes c.class_ref ≡ interface → StandsFor p.parts p
+      → length p.methods.handlers ≤ 255 → IsOneOf p.description.items.classes c → IsOneOf c.methods m
       → IsBody p.methods.info (length (sig_of).args + receiver_words (is_static m.flags)) class (body_of ps throwable k p m sig_of (not interface && class))
   body_by_place false class e agreed few one of_class =
-      let x = is-placed p agreed m (from-class (names_interface p.classes) p.description.items.classes c m one e of_class) (from-any p.description.items.classes c m one of_class) in
+      let x = is-placed p agreed m (from-class (names_interface p.classes) p.description.items.classes c m one e of_class)
+      (from-any p.description.items.classes c m one of_class) in
       body_placed ps throwable k p m sig_of class x few (words-counted ps object k p.description m.type_offset x.words x.told)
   body_by_place true class e agreed few one of_class =
       let x = interface-words p agreed m (from-interface (names_interface p.classes) p.description.items.classes c m one e of_class) in
       body_else ps throwable k p m sig_of class x (words-counted ps object k p.description m.type_offset x.words x.told)
 
   pub body-known : StandsFor p.parts p → length p.methods.handlers ≤ 255 → IsOneOf p.description.items.classes c → IsOneOf c.methods m
-      → IsBody p.methods.info (length (declared_signature ps object k p.description m.type_offset).args + receiver_words (is_static m.flags)) (is_class ps (class_named ps k c.class_ref)) (body_of ps throwable k p m (declared_signature ps object k p.description m.type_offset) (have_headers ps k p c))
+      → IsBody p.methods.info (length (declared_signature ps object k p.description m.type_offset).args + receiver_words (is_static m.flags))
+      (is_class ps (class_named ps k c.class_ref))
+      (body_of ps throwable k p m (declared_signature ps object k p.description m.type_offset) (have_headers ps k p c))
   unfolding have_headers
-  body-known agreed few one of_class = body_by_place (names_interface p.classes c.class_ref) (is_class ps (class_named ps k c.class_ref)) refl agreed few one of_class
+  body-known agreed few one of_class =
+      body_by_place (names_interface p.classes c.class_ref) (is_class ps (class_named ps k c.class_ref)) refl agreed few one of_class

@@ -1,5 +1,6 @@
 -- What holds of the methods that the Descriptor of a package describes, since its parts agree.
-use Rattle.std.proofs.Common.{◌≡◌, ℕ, ◌+◌, ◌≤◌, Bool, true, false, not, ◌&&◌, ◌||◌, ltb, eqb, cond, List, [], ◌++◌, length, Option, Some, None, refl, sym, ap, arith}
+use Rattle.std.proofs.Common.{◌≡◌, ℕ, ◌+◌, ◌≤◌, Bool, true, false, not, ◌&&◌, ◌||◌, ltb, eqb, cond, List, [], ◌++◌, length}
+use Rattle.std.proofs.Common.{Option, Some, None, refl, sym, ap, arith}
 use Rattle.std.specs.Prelude.{All, MatchBool}
 use Rattle.std.specs.List.{enumerate_from, filter_map}
 use Rattle.std.proofs.lemmas.Bool.{ltb-false, eqb-true, eqb-false}
@@ -38,7 +39,8 @@ no_length : (n : ℕ) (f : PackFault) (b : Bool) → eqb n 0 ≡ b → cond (not
 no_length n f true e none = eqb-true n 0 e
 no_length n f false e none = absurd cc
 
-has_length : (n : ℕ) (f g : PackFault) (abstract : Bool) → cond (abstract && not (eqb n 0)) (Some f) None ≡ None → cond (not abstract && (eqb n 0 || ltb 32767 n)) (Some g) None ≡ None → HasLength abstract n
+has_length : (n : ℕ) (f g : PackFault) (abstract : Bool) → cond (abstract && not (eqb n 0)) (Some f) None ≡ None
+    → cond (not abstract && (eqb n 0 || ltb 32767 n)) (Some g) None ≡ None → HasLength abstract n
 has_length n f g true none some = no_length n f (eqb n 0) refl none
 has_length n f g false none some = code_length n g (eqb n 0) (ltb 32767 n) refl refl some
 
@@ -58,7 +60,8 @@ words_at_most : (f : PackFault) (most w : ℕ) (b : Bool) → ltb most w ≡ b �
 words_at_most f most w true e none = absurd cc
 words_at_most f most w false e none = ltb-false most w e
 
-words_by : (d : Description) (m : MethodDescriptor) (most : ℕ) (o : Option ℕ) → argument_words d m.type_offset ≡ o → method_type_by most m.type_offset o ≡ None → HasWords d m most
+words_by : (d : Description) (m : MethodDescriptor) (most : ℕ) (o : Option ℕ) → argument_words d m.type_offset ≡ o
+    → method_type_by most m.type_offset o ≡ None → HasWords d m most
 words_by d m most None e none = absurd cc
 words_by d m most (Some w) e none = record { words = w; told = e; few = words_at_most (BadType m.type_offset) most w (ltb most w) refl none }
 
@@ -82,13 +85,19 @@ pub record IsPlaced (p : PackageRecord) (m : MethodDescriptor) : Type 0 where
   pub length : HasLength (is_abstract header) m.bytecode_count
   pub handlers : All (LiesIn p.methods.info m) (handlers_of p m)
 
-length_of : (info : List ℕ) (m : MethodDescriptor) (h : Header) → header_in info m.method_offset ≡ Some h → abstract_fault info m ≡ None → length_fault info m ≡ None → HasLength (is_abstract h) m.bytecode_count
+length_of : (info : List ℕ) (m : MethodDescriptor) (h : Header) → header_in info m.method_offset ≡ Some h → abstract_fault info m ≡ None
+    → length_fault info m ≡ None → HasLength (is_abstract h) m.bytecode_count
 unfolding abstract_fault length_fault
-length_of info m h at none some = has_length m.bytecode_count (CountDisagrees AbstractCode m.bytecode_count 0) (MethodLength m.method_offset m.bytecode_count) (is_abstract h) (rw at at none) (rw at at some)
+length_of info m h at none some =
+    has_length m.bytecode_count (CountDisagrees AbstractCode m.bytecode_count 0) (MethodLength m.method_offset m.bytecode_count) (is_abstract h)
+    (rw at at none) (rw at at some)
 
-nargs_of : (info : List ℕ) (d : Description) (m : MethodDescriptor) (h : Header) (words : ℕ) → header_in info m.method_offset ≡ Some h → argument_words d m.type_offset ≡ Some words → arguments_fault info d m ≡ None → h.nargs ≡ words + this_words m
+nargs_of : (info : List ℕ) (d : Description) (m : MethodDescriptor) (h : Header) (words : ℕ) → header_in info m.method_offset ≡ Some h
+    → argument_words d m.type_offset ≡ Some words → arguments_fault info d m ≡ None → h.nargs ≡ words + this_words m
 unfolding arguments_fault
-nargs_of info d m h words at told none = same_words h.nargs (words + this_words m) (CountDisagrees ArgumentWords h.nargs (words + this_words m)) (eqb h.nargs (words + this_words m)) refl (rw (at, told) at none)
+nargs_of info d m h words at told none =
+    same_words h.nargs (words + this_words m) (CountDisagrees ArgumentWords h.nargs (words + this_words m)) (eqb h.nargs (words + this_words m)) refl
+    (rw (at, told) at none)
 
 begins_at : (info : List ℕ) (m : MethodDescriptor) (x : HasHeader info m.method_offset) → code_start info m ≡ m.method_offset + x.header.size
 unfolding code_start
@@ -99,18 +108,24 @@ module _ (p : PackageRecord) (agreed : StandsFor p.parts p) where
   types : filter_map (method_type_fault p.description 510) (methods_of p.description.items.classes) ≡ []
   types =
       let all = agreed.agree.1.1.1.1.1.1.1.1.1.1.1.1.1.1.1.1.1.1.1.0 in
-      let first = both_empty (filter_map (field_type_fault p.description) (fields p) ++ filter_map (method_type_fault p.description 510) (methods_of p.description.items.classes)) (filter_map (method_type_fault p.description 254) (interface_methods p)) all in
-      (both_empty (filter_map (field_type_fault p.description) (fields p)) (filter_map (method_type_fault p.description 510) (methods_of p.description.items.classes)) first.0).1
+      let first = both_empty
+      (filter_map (field_type_fault p.description) (fields p) ++ filter_map (method_type_fault p.description 510)
+      (methods_of p.description.items.classes)) (filter_map (method_type_fault p.description 254) (interface_methods p)) all in
+      (both_empty (filter_map (field_type_fault p.description) (fields p))
+      (filter_map (method_type_fault p.description 510) (methods_of p.description.items.classes)) first.0).1
 
   interface_types : filter_map (method_type_fault p.description 254) (interface_methods p) ≡ []
   interface_types =
       let all = agreed.agree.1.1.1.1.1.1.1.1.1.1.1.1.1.1.1.1.1.1.1.0 in
-      (both_empty (filter_map (field_type_fault p.description) (fields p) ++ filter_map (method_type_fault p.description 510) (methods_of p.description.items.classes)) (filter_map (method_type_fault p.description 254) (interface_methods p)) all).1
+      (both_empty
+      (filter_map (field_type_fault p.description) (fields p) ++ filter_map (method_type_fault p.description 510)
+      (methods_of p.description.items.classes)) (filter_map (method_type_fault p.description 254) (interface_methods p)) all).1
 
   entries_owned : filter_map (numbered_fault p.methods.info (described_methods p)) (enumerate_from 0 p.methods.handlers) ≡ []
   entries_owned =
       let all = agreed.agree.1.1.1.1.1.1.1.1.1.1.1.1.1.1.0 in
-      (both_empty (filter_map (numbered_fault p.methods.info (described_methods p)) (enumerate_from 0 p.methods.handlers)) (filter_map (claim_fault (length p.methods.handlers)) (described_methods p)) all).0
+      (both_empty (filter_map (numbered_fault p.methods.info (described_methods p)) (enumerate_from 0 p.methods.handlers))
+      (filter_map (claim_fault (length p.methods.handlers)) (described_methods p)) all).0
 
   pub interface-words : (m : MethodDescriptor) → IsOneOf (interface_methods p) m → HasWords p.description m 254
   interface-words m one = words_told p.description m 254 (faultless (method_type_fault p.description 254) _ m interface_types one)

@@ -1,11 +1,13 @@
 -- The class that a record of the Descriptor names is one of the numbered classes.
-use Rattle.std.proofs.Common.{◌≡◌, ℕ, zero, suc, ◌+◌, ◌<◌, cond, List, [], ◌∷◌, ◌++◌, length, map, flat_map, Option, Some, None, refl, ap, subst, inl, inr, arith}
+use Rattle.std.proofs.Common.{◌≡◌, ℕ, zero, suc, ◌+◌, ◌<◌, cond, List, [], ◌∷◌, ◌++◌, length, map, flat_map, Option, Some, None, refl}
+use Rattle.std.proofs.Common.{ap, subst, inl, inr, arith}
 use Rattle.std.specs.Prelude.{slice_get, is_none}
 use Rattle.cap_desc.specs.DescriptorFormat as described
 use Rattle.cap_package.specs.PackageRecord.{PackageRecord}
 use Rattle.jc_resolve.specs.declared.fault.LinkFault.TheVariants.{NoClass}
 use Rattle.first_fault.specs.First.{AllEmpty}
-use Rattle.jc_resolve.specs.Conditions.{named_after, named_in, references_of_class, references_of_record, references_of_types, class_references, no_class_fault, conditions}
+use Rattle.jc_resolve.specs.Conditions.{named_after, named_in, references_of_class, references_of_record, references_of_types, class_references, no_class_fault}
+use Rattle.jc_resolve.specs.Conditions.{conditions}
 use Rattle.jc_resolve.specs.Numbering.{numbered_classes}
 use Rattle.jc_resolve.specs.NamedMethods.{class_described}
 use Rattle.jc_resolve.specs.References.{class_named}
@@ -17,7 +19,8 @@ one_paired k [] n h = absurd h
 one_paired k (i ∷ ns) n (inl e) = inl (ap (λ j. (k, j)) e)
 one_paired k (i ∷ ns) n (inr h) = inr (one_paired k ns n h)
 
-named_further : (f : PackageRecord → List ℕ) (j : ℕ) (ps : List PackageRecord) (k : ℕ) (p : PackageRecord) (n : ℕ) → slice_get ps k ≡ Some p → IsOneOf (f p) n → IsOneOf {F = ℕ × ℕ} (named_after f j ps) (j + k, n)
+named_further : (f : PackageRecord → List ℕ) (j : ℕ) (ps : List PackageRecord) (k : ℕ) (p : PackageRecord) (n : ℕ) → slice_get ps k ≡ Some p
+    → IsOneOf (f p) n → IsOneOf {F = ℕ × ℕ} (named_after f j ps) (j + k, n)
 named_further f j [] k p n e h = absurd cc
 named_further f j (q ∷ ps) zero p n e h =
     let same : p ≡ q = cc in
@@ -35,7 +38,8 @@ pub record NamesClass (ps : List PackageRecord) (k reference : ℕ) : Type 0 whe
   pub named : class_named ps k reference ≡ Some number
   pub below : number < length (numbered_classes ps)
 
-named_by : (ps : List PackageRecord) (k reference : ℕ) (o : Option ℕ) → class_named ps k reference ≡ o → cond (is_none o) (Some (NoClass k reference)) None ≡ None → NamesClass ps k reference
+named_by : (ps : List PackageRecord) (k reference : ℕ) (o : Option ℕ) → class_named ps k reference ≡ o
+    → cond (is_none o) (Some (NoClass k reference)) None ≡ None → NamesClass ps k reference
 named_by ps k reference None e none = absurd cc
 named_by ps k reference (Some c) e none = record { number = c; named = e; below = rw e at (named_below ps k reference) }
 
@@ -44,22 +48,27 @@ unfolding no_class_fault
 named_since ps k reference none = named_by ps k reference (class_named ps k reference) refl none
 
 -- where no reference is at fault, each names a class
-pub names-class : (ps : List PackageRecord) (k : ℕ) (p : PackageRecord) (reference : ℕ) → AllEmpty (conditions ps) → slice_get ps k ≡ Some p → IsOneOf (class_references p) reference → NamesClass ps k reference
+pub names-class : (ps : List PackageRecord) (k : ℕ) (p : PackageRecord) (reference : ℕ) → AllEmpty (conditions ps) → slice_get ps k ≡ Some p
+    → IsOneOf (class_references p) reference → NamesClass ps k reference
 names-class ps k p reference none at one =
     let place : 0 + k ≡ k = omega arith in
-    let fault = faultless (no_class_fault ps) (named_in class_references ps) (0 + k, reference) none.1.1.1.1.0 (named_further class_references 0 ps k p reference at one) in
+    let fault = faultless (no_class_fault ps) (named_in class_references ps) (0 + k, reference) none.1.1.1.1.0
+    (named_further class_references 0 ps k p reference at one) in
     named_since ps k reference (rw place at fault)
 
 reference_described : (p : PackageRecord) (d : described.ClassDescriptor) → IsOneOf p.description.items.classes d → IsOneOf (class_references p) d.class_ref
 unfolding class_references
 reference_described p d one =
-    one_of_after (flat_map references_of_class p.classes) (flat_map references_of_record p.description.items.classes ++ references_of_types p.description) d.class_ref
+    one_of_after (flat_map references_of_class p.classes) (flat_map references_of_record p.description.items.classes ++ references_of_types p.description)
+    d.class_ref
     (one_of_front (flat_map references_of_record p.description.items.classes) (references_of_types p.description) d.class_ref
     (one_of_flat references_of_record p.description.items.classes d d.class_ref one (inl refl)))
 
-pub describes-class : (ps : List PackageRecord) (k : ℕ) (p : PackageRecord) (d : described.ClassDescriptor) → AllEmpty (conditions ps) → slice_get ps k ≡ Some p → IsOneOf p.description.items.classes d → NamesClass ps k d.class_ref
+pub describes-class : (ps : List PackageRecord) (k : ℕ) (p : PackageRecord) (d : described.ClassDescriptor) → AllEmpty (conditions ps)
+    → slice_get ps k ≡ Some p → IsOneOf p.description.items.classes d → NamesClass ps k d.class_ref
 describes-class ps k p d none at one = names-class ps k p d.class_ref none at (reference_described p d one)
 
-pub class-described : (ps : List PackageRecord) (k : ℕ) (d : described.ClassDescriptor) (x : NamesClass ps k d.class_ref) → class_described ps k d ≡ x.number
+pub class-described : (ps : List PackageRecord) (k : ℕ) (d : described.ClassDescriptor) (x : NamesClass ps k d.class_ref)
+    → class_described ps k d ≡ x.number
 unfolding class_described
 class-described ps k d x = rw x.named refl

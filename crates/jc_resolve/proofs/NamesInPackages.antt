@@ -23,7 +23,8 @@ use Rattle.jc_resolve.proofs.Totals.{named_methods_many}
 infos_many : (ps : List PackageRecord) → length (infos_of ps) ≡ length ps
 infos_many ps = length-map ps (λ (p : PackageRecord). p.methods.info)
 
-names_right : (ps : List PackageRecord) (roles : List ℕ) → All IsAgreed ps → All HasFewHandlers ps → AllEmpty (conditions ps) → All IsSized (named_classes ps (slice_index roles 0))
+names_right : (ps : List PackageRecord) (roles : List ℕ) → All IsAgreed ps → All HasFewHandlers ps → AllEmpty (conditions ps)
+    → All IsSized (named_classes ps (slice_index roles 0))
     → AreNamed (infos_of ps) (slice_index roles 0) (named_classes ps (slice_index roles 0)) (named_methods ps roles)
 names_right ps roles agreed few none sized =
     let object = slice_index roles 0 in
@@ -44,7 +45,8 @@ unfolding names_of
 answer_named ps roles n h = answer_by (checked ps) (named ps roles) n h
 
 -- the names that are answered, where the parts of the packages agree, are right
-pub answer_right : (ps : List PackageRecord) (roles : List ℕ) (answer : Result NamesRecord LinkEnd) → IsDue (names_of ps roles) answer → IfOk answer (λ n. All IsSized n.classes) → IfOk answer (λ n. All IsAgreed ps) → IfOk answer (λ n. All HasFewHandlers ps)
+pub answer_right : (ps : List PackageRecord) (roles : List ℕ) (answer : Result NamesRecord LinkEnd) → IsDue (names_of ps roles) answer
+    → IfOk answer (λ n. All IsSized n.classes) → IfOk answer (λ n. All IsAgreed ps) → IfOk answer (λ n. All HasFewHandlers ps)
     → IfOk answer (λ n. AreNamed (infos_of ps) (slice_index roles 0) n.classes n.methods)
 answer_right ps roles (Ok n) h sized agreed few =
     let e = answer_named ps roles n h in
@@ -53,6 +55,7 @@ answer_right ps roles (Ok n) h sized agreed few =
 answer_right ps roles (Err e) h sized agreed few = tt
 
 -- and have places and numbers of their own
-pub answer_apart : (ps : List PackageRecord) (roles : List ℕ) (answer : Result NamesRecord LinkEnd) → IsDue (names_of ps roles) answer → IfOk answer (λ n. All IsAgreed ps) → IfOk answer (λ n. HaveOwnPlaces ps n.methods)
+pub answer_apart : (ps : List PackageRecord) (roles : List ℕ) (answer : Result NamesRecord LinkEnd) → IsDue (names_of ps roles) answer
+    → IfOk answer (λ n. All IsAgreed ps) → IfOk answer (λ n. HaveOwnPlaces ps n.methods)
 answer_apart ps roles (Ok n) h agreed = subst (λ (m : NamesRecord). HaveOwnPlaces ps m.methods) (answer_named ps roles n h) (own_places ps roles agreed)
 answer_apart ps roles (Err e) h agreed = tt

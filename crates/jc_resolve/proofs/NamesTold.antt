@@ -8,7 +8,8 @@ use Rattle.jc_resolve.specs.Fault.{link_place}
 use Rattle.std.specs.Option.{option_to_list}
 use Rattle.first_fault.specs.First.{at_fault}
 use Rattle.first_fault.specs.Least.{◌>>=◌, refused, least_of}
-use Rattle.jc_resolve.specs.Conditions.{packages_fault, classes_fault, methods_fault, no_package_fault, no_class_fault, named_in, import_tokens, class_references, conditions}
+use Rattle.jc_resolve.specs.Conditions.{packages_fault, classes_fault, methods_fault, no_package_fault, no_class_fault, named_in, import_tokens}
+use Rattle.jc_resolve.specs.Conditions.{class_references, conditions}
 use Rattle.jc_resolve.specs.Due.{IsDue}
 use Rattle.jc_resolve.specs.Names.{NamesRecord, named, indexable, checked, names_of, TellsNames}
 use Rattle.first_fault.proofs.FirstTold.{IsTold, things-told, one-told, step, last, groups-told, refused-first, accepted-empty}
@@ -46,7 +47,8 @@ refused_by : (r : Result (Unit {0}) LinkFault) (n : NamesRecord) (f : LinkFault)
 refused_by (Ok x) n f h = absurd cc
 refused_by (Err g) n f h = let k : g ≡ f = cc in ap Err k
 
-pub names_told : (ps : List PackageRecord) (roles : List ℕ) (answer : Result NamesRecord LinkEnd) → IsDue (names_of ps roles) answer → TellsNames ps answer
+pub names_told : (ps : List PackageRecord) (roles : List ℕ) (answer : Result NamesRecord LinkEnd) → IsDue (names_of ps roles) answer
+    → TellsNames ps answer
 unfolding names_of
 names_told ps roles (Ok m) h = accepted-empty link_place (conditions ps) (sym (checked-told ps).same ∙ accepted_by (checked ps) (named ps roles) m h)
 names_told ps roles (Err (Fault f)) h = refused-first link_place (conditions ps) f (sym (checked-told ps).same ∙ refused_by (checked ps) (named ps roles) f h)

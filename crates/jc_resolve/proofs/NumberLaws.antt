@@ -1,5 +1,7 @@
 -- The numbers that the tables keep are the positions of classes and methods.
-use Rattle.std.proofs.Common.{◌≡◌, ℕ, suc, ◌+◌, ◌<◌, Bool, true, false, cond, eqb, List, [], ◌∷◌, ◌++◌, length, map, Option, Some, None, position, slice_get, option_map, IfSome, is_some, refl, sym, ap, ap₂, subst, ◌∙◌, arith, if◌then◌else◌, get_or}
+use Rattle.std.proofs.Common.{◌≡◌, ℕ, suc, ◌+◌, ◌<◌, Bool, true, false, cond, eqb, List, [], ◌∷◌, ◌++◌, length, map, Option, Some}
+use Rattle.std.proofs.Common.{None, position, slice_get, option_map, IfSome, is_some, refl, sym, ap, ap₂, subst, ◌∙◌, arith, if◌then◌else◌}
+use Rattle.std.proofs.Common.{get_or}
 use Rattle.std.specs.List.{position_from}
 use Rattle.std.specs.Map.{lookup}
 use Rattle.std.proofs.lemmas.Bool.{eqb-true, and_parts}
@@ -13,8 +15,11 @@ use Rattle.cap_desc.specs.DescriptorFormat as described
 use Rattle.cap_pool.specs.ExportFormat.{Exported}
 use Rattle.cap_package.specs.PackageRecord.{PackageRecord, names_interface}
 use Rattle.jc_resolve.specs.declared.place.RecordPlace.{RecordPlace}
-use Rattle.jc_resolve.specs.Numbering.{NumberedClass, same_place, is_at, numbered_classes_of, classes_after, numbered_classes, place_of_class, class_places, class_at, flagged_interface, is_interface_number, is_placed, methods_of_class, methods_of_classes, methods_after, numbered_methods, place_of_method, method_places, method_at}
-use Rattle.jc_resolve.specs.Numbers.{Numbered, none_numbered, number_by_place, added_entry, with_next, with_all, spot_of_class, class_spots, interface_flags, spot_of_method, spots_of_classes, method_spots, AreIndexed}
+use Rattle.jc_resolve.specs.Numbering.{NumberedClass, same_place, is_at, numbered_classes_of, classes_after, numbered_classes, place_of_class, class_places}
+use Rattle.jc_resolve.specs.Numbering.{class_at, flagged_interface, is_interface_number, is_placed, methods_of_class, methods_of_classes, methods_after}
+use Rattle.jc_resolve.specs.Numbering.{numbered_methods, place_of_method, method_places, method_at}
+use Rattle.jc_resolve.specs.Numbers.{Numbered, none_numbered, number_by_place, added_entry, with_next, with_all, spot_of_class, class_spots, interface_flags}
+use Rattle.jc_resolve.specs.Numbers.{spot_of_method, spots_of_classes, method_spots, AreIndexed}
 
 -- ---- places
 
@@ -36,12 +41,14 @@ unfolding or_else
 or_none None = refl
 or_none (Some x) = refl
 
-lookup_after : (t : RecordPlace → Bool) (es : List (RecordPlace × ℕ)) (q : RecordPlace) (n : ℕ) → lookup t (es ++ (q, n) ∷ []) ≡ or_else (lookup t es) (cond (t q) (Some n) None)
+lookup_after : (t : RecordPlace → Bool) (es : List (RecordPlace × ℕ)) (q : RecordPlace) (n : ℕ)
+    → lookup t (es ++ (q, n) ∷ []) ≡ or_else (lookup t es) (cond (t q) (Some n) None)
 unfolding or_else
 lookup_after t [] q n = refl
 lookup_after t (e ∷ es) q n = by (t e.0) (lookup_after t es q n)
   where
-    by : (b : Bool) → lookup t (es ++ (q, n) ∷ []) ≡ or_else (lookup t es) (cond (t q) (Some n) None) → cond b (Some e.1) (lookup t (es ++ (q, n) ∷ [])) ≡ or_else (cond b (Some e.1) (lookup t es)) (cond (t q) (Some n) None)
+    by : (b : Bool) → lookup t (es ++ (q, n) ∷ []) ≡ or_else (lookup t es) (cond (t q) (Some n) None)
+        → cond b (Some e.1) (lookup t (es ++ (q, n) ∷ [])) ≡ or_else (cond b (Some e.1) (lookup t es)) (cond (t q) (Some n) None)
     by true h = refl
     by false h = h
 
@@ -51,9 +58,12 @@ joined None true n rest = refl
 joined None false n rest = refl
 joined (Some x) b n rest = refl
 
-after : (es : List (RecordPlace × ℕ)) (q : RecordPlace) (n : ℕ) (place : RecordPlace) (rest o : Option ℕ) → number_by_place es q ≡ o → (b : Bool) → same_place place q ≡ b → or_else (number_by_place (added_entry es q n) place) rest ≡ or_else (number_by_place es place) (cond b (Some n) rest)
+after : (es : List (RecordPlace × ℕ)) (q : RecordPlace) (n : ℕ) (place : RecordPlace) (rest o : Option ℕ) → number_by_place es q ≡ o
+    → (b : Bool) → same_place place q ≡ b → or_else (number_by_place (added_entry es q n) place) rest ≡ or_else (number_by_place es place)
+    (cond b (Some n) rest)
 unfolding added_entry or_else
-after es q n place rest (Some m) e false f = ap (λ (x : Option ℕ). or_else (number_by_place (if is_some x then es else insert_entry same_place es q n) place) rest) e
+after es q n place rest (Some m) e false f =
+    ap (λ (x : Option ℕ). or_else (number_by_place (if is_some x then es else insert_entry same_place es q n) place) rest) e
 after es q n place rest (Some m) e true f =
     let same : number_by_place es place ≡ Some m = ap (number_by_place es) (same-equal place q f) ∙ e in
     ap (λ (x : Option ℕ). or_else (number_by_place (if is_some x then es else insert_entry same_place es q n) place) rest) e
@@ -67,7 +77,8 @@ after es q n place rest None e b f =
     ∙ ap (λ c. or_else (number_by_place es place) (cond c (Some n) rest)) f
 
 -- the number that is kept at a place is that of the first thing there
-numbered-all : (spots : List (Option RecordPlace)) (t : Numbered) (place : RecordPlace) → number_by_place (with_all t spots).entries place ≡ or_else (number_by_place t.entries place) (position_from (is_at place) t.next spots)
+numbered-all : (spots : List (Option RecordPlace)) (t : Numbered) (place : RecordPlace) → number_by_place (with_all t spots).entries place
+    ≡ or_else (number_by_place t.entries place) (position_from (is_at place) t.next spots)
 unfolding with_next
 numbered-all [] t place = or_none (number_by_place t.entries place)
 numbered-all (None ∷ spots) t place = numbered-all spots (record { entries = t.entries; next = t.next + 1 }) place
@@ -75,7 +86,8 @@ numbered-all (Some q ∷ spots) t place =
     numbered-all spots (record { entries = added_entry t.entries q t.next; next = t.next + 1 }) place
     ∙ after t.entries q t.next place (position_from (is_at place) (t.next + 1) spots) (number_by_place t.entries q) refl (same_place place q) refl
 
-pub numbered-first : (spots : List (Option RecordPlace)) (place : RecordPlace) → number_by_place (with_all none_numbered spots).entries place ≡ position (is_at place) spots
+pub numbered-first : (spots : List (Option RecordPlace)) (place : RecordPlace) → number_by_place (with_all none_numbered spots).entries place
+    ≡ position (is_at place) spots
 unfolding or_else
 numbered-first spots place = numbered-all spots none_numbered place ∙ sym (position_from-zero (is_at place) spots)
 
@@ -87,15 +99,18 @@ spots-are k (p ∷ ps) =
     ap₂ ◌++◌ (spots_of p.classes) (spots-are (k + 1) ps)
     ∙ sym (map-append (λ c. Some (place_of_class c)) (numbered_classes_of k p) (classes_after (k + 1) ps))
   where
-    spots_of : (cs : List Class) → map (spot_of_class k) cs ≡ map (λ c. Some (place_of_class c)) (map (λ c. record { home = k; of_package = p; record_of = c }) cs)
+    spots_of : (cs : List Class) → map (spot_of_class k) cs ≡ map (λ c. Some (place_of_class c))
+        (map (λ c. record { home = k; of_package = p; record_of = c }) cs)
     spots_of [] = refl
     spots_of (c ∷ cs) = ap (λ l. spot_of_class k c ∷ l) (spots_of cs)
 
-position_of : (place : RecordPlace) (n : ℕ) (cs : List NumberedClass) → position_from (is_at place) n (map (λ c. Some (place_of_class c)) cs) ≡ position_from (same_place place) n (map place_of_class cs)
+position_of : (place : RecordPlace) (n : ℕ) (cs : List NumberedClass) → position_from (is_at place) n (map (λ c. Some (place_of_class c)) cs)
+    ≡ position_from (same_place place) n (map place_of_class cs)
 position_of place n [] = refl
 position_of place n (c ∷ cs) = ap (λ o. cond (same_place place (place_of_class c)) (Some n) o) (position_of place (n + 1) cs)
 
-pub class_numbered : (ps : List PackageRecord) (t : Numbered) (flags : List Bool) (m : Numbered) (exports : List (List Exported)) (met : List (List (Option ℕ))) (place : RecordPlace) → AreIndexed ps t flags m exports met → number_by_place t.entries place ≡ class_at ps place
+pub class_numbered : (ps : List PackageRecord) (t : Numbered) (flags : List Bool) (m : Numbered) (exports : List (List Exported))
+    (met : List (List (Option ℕ))) (place : RecordPlace) → AreIndexed ps t flags m exports met → number_by_place t.entries place ≡ class_at ps place
 unfolding class_at
 class_numbered ps t flags m exports met place h =
     ap (λ (x : Numbered). number_by_place x.entries place) h.numbers
@@ -107,7 +122,8 @@ class_numbered ps t flags m exports met place h =
 
 -- ---- numbers are below the number of classes
 
-within_by : (n : ℕ) (many i : ℕ) (rest : Option ℕ) (b : Bool) → (rest ≡ Some i → i < n + 1 + many) → cond b (Some n) rest ≡ Some i → i < n + suc many
+within_by : (n : ℕ) (many i : ℕ) (rest : Option ℕ) (b : Bool) → (rest ≡ Some i → i < n + 1 + many) → cond b (Some n) rest ≡ Some i
+    → i < n + suc many
 within_by n many i rest true known e = let k : n ≡ i = cc in omega arith
 within_by n many i rest false known e = let k = known e in omega arith
 
@@ -118,10 +134,12 @@ position_within t n (x ∷ xs) i h = within_by n (length xs) i (position_from t 
 pub position_below : {X : Type 0} (t : X → Bool) (xs : List X) (i : ℕ) → position t xs ≡ Some i → i < length xs
 position_below t xs i h = let k = position_within t 0 xs i (sym (position_from-zero t xs) ∙ h) in omega arith
 
-pub class_below : (ps : List PackageRecord) (place : RecordPlace) (o : Option ℕ) → o ≡ class_at ps place → IfSome o (λ c. c < length (numbered_classes ps))
+pub class_below : (ps : List PackageRecord) (place : RecordPlace) (o : Option ℕ) → o ≡ class_at ps place
+    → IfSome o (λ c. c < length (numbered_classes ps))
 unfolding class_at
 class_below ps place None h = tt
-class_below ps place (Some c) h = subst (λ n. c < n) (length-map (numbered_classes ps) place_of_class) (position_below (same_place place) (class_places ps) c (sym h))
+class_below ps place (Some c) h =
+    subst (λ n. c < n) (length-map (numbered_classes ps) place_of_class) (position_below (same_place place) (class_places ps) c (sym h))
 
 -- ---- flags
 
@@ -131,32 +149,42 @@ flags-are k (p ∷ ps) =
     ap₂ ◌++◌ (flags_of p.classes) (flags-are (k + 1) ps)
     ∙ sym (map-append (λ (c : NumberedClass). is_interface c.record_of.flags) (numbered_classes_of k p) (classes_after (k + 1) ps))
   where
-    flags_of : (cs : List Class) → map (λ (c : Class). is_interface c.flags) cs ≡ map (λ (c : NumberedClass). is_interface c.record_of.flags) (map (λ c. record { home = k; of_package = p; record_of = c }) cs)
+    flags_of : (cs : List Class) → map (λ (c : Class). is_interface c.flags) cs ≡ map (λ (c : NumberedClass). is_interface c.record_of.flags)
+        (map (λ c. record { home = k; of_package = p; record_of = c }) cs)
     flags_of [] = refl
     flags_of (c ∷ cs) = ap (λ l. is_interface c.flags ∷ l) (flags_of cs)
 
-pub flags_many : (ps : List PackageRecord) (t : Numbered) (flags : List Bool) (m : Numbered) (exports : List (List Exported)) (met : List (List (Option ℕ))) → AreIndexed ps t flags m exports met → length flags ≡ length (numbered_classes ps)
+pub flags_many : (ps : List PackageRecord) (t : Numbered) (flags : List Bool) (m : Numbered) (exports : List (List Exported))
+    (met : List (List (Option ℕ))) → AreIndexed ps t flags m exports met → length flags ≡ length (numbered_classes ps)
 flags_many ps t flags m exports met h = ap length h.flags_are ∙ ap length (flags-are 0 ps) ∙ length-map (numbered_classes ps) _
 
-flag_by : (o : Option NumberedClass) (b : Bool) → option_map (λ (c : NumberedClass). is_interface c.record_of.flags) o ≡ Some b → b ≡ flagged_interface o
+flag_by : (o : Option NumberedClass) (b : Bool) → option_map (λ (c : NumberedClass). is_interface c.record_of.flags) o ≡ Some b
+    → b ≡ flagged_interface o
 flag_by None b h = absurd cc
 flag_by (Some c) b h = cc
 
-pub flag_numbered : (ps : List PackageRecord) (t : Numbered) (flags : List Bool) (m : Numbered) (exports : List (List Exported)) (met : List (List (Option ℕ))) (c : ℕ) (b : Bool) → AreIndexed ps t flags m exports met → slice_get flags c ≡ Some b → b ≡ is_interface_number ps c
+pub flag_numbered : (ps : List PackageRecord) (t : Numbered) (flags : List Bool) (m : Numbered) (exports : List (List Exported))
+    (met : List (List (Option ℕ))) (c : ℕ) (b : Bool) → AreIndexed ps t flags m exports met → slice_get flags c ≡ Some b
+    → b ≡ is_interface_number ps c
 unfolding is_interface_number
 flag_numbered ps t flags m exports met c b h at =
-    flag_by (slice_get (numbered_classes ps) c) b (sym (slice_get-map _ (numbered_classes ps) c) ∙ ap (λ l. slice_get l c) (sym (h.flags_are ∙ flags-are 0 ps)) ∙ at)
+    flag_by (slice_get (numbered_classes ps) c) b
+    (sym (slice_get-map _ (numbered_classes ps) c) ∙ ap (λ l. slice_get l c) (sym (h.flags_are ∙ flags-are 0 ps)) ∙ at)
 
-pub flag_read : (ps : List PackageRecord) (t : Numbered) (flags : List Bool) (m : Numbered) (exports : List (List Exported)) (met : List (List (Option ℕ))) (c : ℕ) (b : Bool) → AreIndexed ps t flags m exports met → c < length flags → b ≡ get_or flags c b → b ≡ is_interface_number ps c
+pub flag_read : (ps : List PackageRecord) (t : Numbered) (flags : List Bool) (m : Numbered) (exports : List (List Exported))
+    (met : List (List (Option ℕ))) (c : ℕ) (b : Bool) → AreIndexed ps t flags m exports met → c < length flags → b ≡ get_or flags c b
+    → b ≡ is_interface_number ps c
 flag_read ps t flags m exports met c b h lt e = flag_numbered ps t flags m exports met c b h (slice_get-get_or flags c b lt ∙ ap Some (sym e))
 
 -- ---- methods
 
-spots_in : (k : ℕ) (p : PackageRecord) (n : ℕ) (c : described.ClassDescriptor) (i : ℕ) (ms : List described.MethodDescriptor) → map (spot_of_method k (is_placed p c)) ms ≡ map place_of_method (methods_of_class k p n c i ms)
+spots_in : (k : ℕ) (p : PackageRecord) (n : ℕ) (c : described.ClassDescriptor) (i : ℕ) (ms : List described.MethodDescriptor)
+    → map (spot_of_method k (is_placed p c)) ms ≡ map place_of_method (methods_of_class k p n c i ms)
 spots_in k p n c i [] = refl
 spots_in k p n c i (m ∷ ms) = ap (λ l. spot_of_method k (is_placed p c) m ∷ l) (spots_in k p n c (i + 1) ms)
 
-spots_of : (k : ℕ) (p : PackageRecord) (n : ℕ) (cs : List described.ClassDescriptor) → spots_of_classes k (names_interface p.classes) cs ≡ map place_of_method (methods_of_classes k p n cs)
+spots_of : (k : ℕ) (p : PackageRecord) (n : ℕ) (cs : List described.ClassDescriptor) → spots_of_classes k (names_interface p.classes) cs
+    ≡ map place_of_method (methods_of_classes k p n cs)
 spots_of k p n [] = refl
 spots_of k p n (c ∷ cs) =
     ap₂ ◌++◌ (spots_in k p n c 0 c.methods) (spots_of k p (n + 1) cs)
@@ -168,14 +196,18 @@ method_spots_are k (p ∷ ps) =
     ap₂ ◌++◌ (spots_of k p 0 p.description.items.classes) (method_spots_are (k + 1) ps)
     ∙ sym (map-append place_of_method (methods_of_classes k p 0 p.description.items.classes) (methods_after (k + 1) ps))
 
-pub method_numbered : (ps : List PackageRecord) (t : Numbered) (flags : List Bool) (m : Numbered) (exports : List (List Exported)) (met : List (List (Option ℕ))) (place : RecordPlace) → AreIndexed ps t flags m exports met → number_by_place m.entries place ≡ method_at ps place
+pub method_numbered : (ps : List PackageRecord) (t : Numbered) (flags : List Bool) (m : Numbered) (exports : List (List Exported))
+    (met : List (List (Option ℕ))) (place : RecordPlace) → AreIndexed ps t flags m exports met
+    → number_by_place m.entries place ≡ method_at ps place
 unfolding method_at
 method_numbered ps t flags m exports met place h =
     ap (λ (x : Numbered). number_by_place x.entries place) h.methods
     ∙ numbered-first (method_spots 0 ps) place
     ∙ ap (position (is_at place)) (method_spots_are 0 ps)
 
-pub method_below : (ps : List PackageRecord) (place : RecordPlace) (o : Option ℕ) → o ≡ method_at ps place → IfSome o (λ n. n < length (numbered_methods ps))
+pub method_below : (ps : List PackageRecord) (place : RecordPlace) (o : Option ℕ) → o ≡ method_at ps place
+    → IfSome o (λ n. n < length (numbered_methods ps))
 unfolding method_at
 method_below ps place None h = tt
-method_below ps place (Some n) h = subst (λ i. n < i) (length-map (numbered_methods ps) place_of_method) (position_below (is_at place) (method_places ps) n (sym h))
+method_below ps place (Some n) h =
+    subst (λ i. n < i) (length-map (numbered_methods ps) place_of_method) (position_below (is_at place) (method_places ps) n (sym h))

@@ -1,5 +1,6 @@
 -- The own cells of a named class are those of its fields in the order of their tokens.
-use Rattle.std.proofs.Common.{◌≡◌, ℕ, zero, suc, ◌+◌, Bool, true, false, cond, eqb, not, List, [], ◌∷◌, ◌++◌, Option, Some, None, refl, sym, ap, ap₂, ◌∙◌, filter, filter_map, flat_map, option_map}
+use Rattle.std.proofs.Common.{◌≡◌, ℕ, zero, suc, ◌+◌, Bool, true, false, cond, eqb, not, List, [], ◌∷◌, ◌++◌, Option, Some, None, refl}
+use Rattle.std.proofs.Common.{sym, ap, ap₂, ◌∙◌, filter, filter_map, flat_map, option_map}
 use Rattle.std.specs.Prelude.{◌==◌, ◌||◌}
 use Rattle.std.specs.List.{range_with_len, cons_option}
 use Rattle.std.proofs.lemmas.Bool.{eqb-true}
@@ -14,7 +15,8 @@ use Rattle.cap_package.specs.PackageRecord.{PackageRecord}
 use Rattle.jc_base.specs.declared.ty.Ty.{Ty}
 use Rattle.jc_base.specs.declared.ty.Kind.TheVariants.{Ref, Byte, Short, Int}
 use Rattle.jc_resolve.specs.Numbering.{NumberedClass}
-use Rattle.jc_resolve.specs.NamedClasses.{describes, is_instance_field, fields_described, instance_fields, token_of, has_token, with_token, by_token, cells_of_field, cells_of_fields, named_interface, named_proper, named_class}
+use Rattle.jc_resolve.specs.NamedClasses.{describes, is_instance_field, fields_described, instance_fields, token_of, has_token, with_token, by_token}
+use Rattle.jc_resolve.specs.NamedClasses.{cells_of_field, cells_of_fields, named_interface, named_proper, named_class}
 use Rattle.jc_resolve.specs.WorldTypes.{type_of, kind_of, cells_of_type}
 use Rattle.jc_resolve.specs.declared.own_field.OwnField.{OwnField}
 use Rattle.jc_resolve.specs.declared.package_fields.PackageFields.{PackageFields}
@@ -41,7 +43,8 @@ module _ (ps : List PackageRecord) (object k : ℕ) (d : Description) where
 
   -- ---- the fields of a class are the instance fields that are described of it
 
-  instance_by : (f : FieldDescriptor) (fs : List FieldDescriptor) (b : Bool) → is_static f.flags ≡ b → filter_map (own_field ps object k d) fs ≡ filter_map typed (filter is_instance_field fs)
+  instance_by : (f : FieldDescriptor) (fs : List FieldDescriptor) (b : Bool) → is_static f.flags ≡ b → filter_map (own_field ps object k d) fs
+      ≡ filter_map typed (filter is_instance_field fs)
       → filter_map (own_field ps object k d) (f ∷ fs) ≡ filter_map typed (cond (not b) (f ∷ filter is_instance_field fs) (filter is_instance_field fs))
   unfolding own_field typed
   instance_by f fs true e others = rw e others
@@ -59,7 +62,8 @@ module _ (ps : List PackageRecord) (object k : ℕ) (d : Description) where
       by true = instances c.fields
       by false = refl
 
-  pub of_records : (offset : ℕ) (cs : List described.ClassDescriptor) → flat_map (fields_in ps object k d offset) cs ≡ filter_map typed (flat_map (fields_described offset) cs)
+  pub of_records : (offset : ℕ) (cs : List described.ClassDescriptor) → flat_map (fields_in ps object k d offset) cs ≡ filter_map typed
+      (flat_map (fields_described offset) cs)
   of_records offset [] = refl
   of_records offset (c ∷ cs) =
       ap₂ ◌++◌ (of_record offset c) (of_records offset cs)
@@ -67,7 +71,8 @@ module _ (ps : List PackageRecord) (object k : ℕ) (d : Description) where
 
   -- ---- and their cells
 
-  token_by : (f : FieldDescriptor) (token : ℕ) (fs : List FieldDescriptor) (b : Bool) (o : Option TypeItem) → eqb (token_of f) token ≡ b → field_type d f.ty ≡ o
+  token_by : (f : FieldDescriptor) (token : ℕ) (fs : List FieldDescriptor) (b : Bool) (o : Option TypeItem) → eqb (token_of f) token ≡ b
+      → field_type d f.ty ≡ o
       → filter_map typed (filter (has_token token) fs) ≡ own_with_token (filter_map typed fs) token
       → filter_map typed (cond b (f ∷ filter (has_token token) fs) (filter (has_token token) fs)) ≡ own_with_token (filter_map typed (f ∷ fs)) token
   unfolding typed
@@ -84,7 +89,8 @@ module _ (ps : List PackageRecord) (object k : ℕ) (d : Description) where
   unfolding kind_of type_of
   int_cells f t e = rw e refl
 
-  item_by : (f : FieldDescriptor) (t : TypeItem) (b : Bool) → eqb t.nibble 5 ≡ b → cells_of_type ps object k t ≡ cells_of_own (field_with ps object k f t)
+  item_by : (f : FieldDescriptor) (t : TypeItem) (b : Bool) → eqb t.nibble 5 ≡ b
+      → cells_of_type ps object k t ≡ cells_of_own (field_with ps object k f t)
   unfolding kind_of
   item_by f t true e = int_cells f t (eqb-true t.nibble 5 e)
   item_by f t false e = rw e (sym (one_cell (t.nibble == 2 || t.nibble == 3) (t.nibble == 4) (type_of ps object k t)))
@@ -103,7 +109,8 @@ module _ (ps : List PackageRecord) (object k : ℕ) (d : Description) where
   all_cells [] = refl
   all_cells (f ∷ fs) = field_cells f fs (field_type d f.ty) refl (all_cells fs)
 
-  by_tokens : (fs : List FieldDescriptor) (ts : List ℕ) → filter_map typed (flat_map (with_token fs) ts) ≡ flat_map (own_with_token (filter_map typed fs)) ts
+  by_tokens : (fs : List FieldDescriptor) (ts : List ℕ) → filter_map typed (flat_map (with_token fs) ts)
+      ≡ flat_map (own_with_token (filter_map typed fs)) ts
   unfolding with_token
   by_tokens fs [] = refl
   by_tokens fs (token ∷ ts) =
@@ -117,7 +124,8 @@ module _ (ps : List PackageRecord) (object k : ℕ) (d : Description) where
       ∙ ap (λ (own : List OwnField). flat_map cells_of_own own) (by_tokens fs (range_with_len 0 256))
 
 -- the cells by the fields are those by the descriptions
-described_cells : (ps : List PackageRecord) (object k : ℕ) (d : Description) (offset : ℕ) (ds : List described.ClassDescriptor) → cells_over (flat_map (fields_in ps object k d offset) ds) 0 256 ≡ cells_of_fields ps object k d (instance_fields ds offset)
+described_cells : (ps : List PackageRecord) (object k : ℕ) (d : Description) (offset : ℕ) (ds : List described.ClassDescriptor)
+    → cells_over (flat_map (fields_in ps object k d offset) ds) 0 256 ≡ cells_of_fields ps object k d (instance_fields ds offset)
 unfolding instance_fields
 described_cells ps object k d offset ds =
     ap (λ (own : List OwnField). cells_over own 0 256) (of_records ps object k d offset ds)
@@ -145,8 +153,11 @@ pub own_named : (ps : List PackageRecord) (object : ℕ) (c : NumberedClass) →
 unfolding named_class own_fields instance_fields
 own_named ps object c = by (is_interface c.record_of.flags)
   where
-    by : (b : Bool) → (cond b (named_interface ps c) (named_proper ps object c)).own ≡ cells_over (cond b [] (flat_map (fields_in ps object c.home c.of_package.description c.record_of.offset) c.of_package.description.items.classes)) 0 256
+    by : (b : Bool) → (cond b (named_interface ps c) (named_proper ps object c)).own
+        ≡ cells_over
+        (cond b [] (flat_map (fields_in ps object c.home c.of_package.description c.record_of.offset) c.of_package.description.items.classes)) 0 256
     by true = sym (none_over 256 0)
     by false =
         cells_are ps object c.home c.of_package.description (instance_fields c.of_package.description.items.classes c.record_of.offset)
-        ∙ ap (λ (own : List OwnField). cells_over own 0 256) (sym (of_records ps object c.home c.of_package.description c.record_of.offset c.of_package.description.items.classes))
+        ∙ ap (λ (own : List OwnField). cells_over own 0 256)
+        (sym (of_records ps object c.home c.of_package.description c.record_of.offset c.of_package.description.items.classes))

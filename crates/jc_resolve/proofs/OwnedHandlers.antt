@@ -1,5 +1,6 @@
 -- The handlers that a described method names lie in its code, since each entry of the table has one owner.
-use Rattle.std.proofs.Common.{◌≡◌, ℕ, zero, suc, ◌+◌, ◌<◌, ◌≤◌, Bool, true, false, ◌&&◌, ltb, leb, cond, List, [], ◌∷◌, filter, take, drop, Some, None, refl, sym, ap, subst, ◌∙◌, inl, inr, arith}
+use Rattle.std.proofs.Common.{◌≡◌, ℕ, zero, suc, ◌+◌, ◌<◌, ◌≤◌, Bool, true, false, ◌&&◌, ltb, leb, cond, List, [], ◌∷◌, filter}
+use Rattle.std.proofs.Common.{take, drop, Some, None, refl, sym, ap, subst, ◌∙◌, inl, inr, arith}
 use Rattle.std.specs.Prelude.{All, slice_get}
 use Rattle.std.specs.List.{enumerate_from, filter_map}
 use Rattle.std.proofs.lemmas.Bool.{false≢true, ltb-true, leb-true, lt-ltb, le-leb, and_parts, and_from}
@@ -32,7 +33,8 @@ lies info m h e =
 
 -- ---- one owner
 
-kept_by : {X : Type 0} (t : X → Bool) (y : X) (ys : List X) (b : Bool) (x : X) → t y ≡ b → (x ≡ y) → t x ≡ true → IsOneOf (cond b (y ∷ ys) ys) x
+kept_by : {X : Type 0} (t : X → Bool) (y : X) (ys : List X) (b : Bool) (x : X) → t y ≡ b → (x ≡ y) → t x ≡ true
+    → IsOneOf (cond b (y ∷ ys) ys) x
 kept_by t y ys true x e same h = inl same
 kept_by t y ys false x e same h = absurd (false≢true (sym e ∙ ap t (sym same) ∙ h))
 
@@ -45,7 +47,8 @@ one_kept t [] x h e = absurd h
 one_kept t (y ∷ ys) x (inl same) e = kept_by t y (filter t ys) (t y) x refl same e
 one_kept t (y ∷ ys) x (inr h) e = kept_after y (filter t ys) (t y) x (one_kept t ys x h e)
 
-only_home : (info : List ℕ) (h : HandlerInfo) (ms : List MethodDescriptor) (m : MethodDescriptor) → IsOneOf ms m → has_home info h ms ≡ true → is_within info h m ≡ true
+only_home : (info : List ℕ) (h : HandlerInfo) (ms : List MethodDescriptor) (m : MethodDescriptor) → IsOneOf ms m → has_home info h ms ≡ true
+    → is_within info h m ≡ true
 only_home info h [] m one e = absurd one
 only_home info h (n ∷ []) m (inl same) e = subst (λ (k : MethodDescriptor). is_within info h k ≡ true) (sym same) e
 only_home info h (n ∷ []) m (inr one) e = absurd one
@@ -58,14 +61,18 @@ home_by fault false e = absurd cc
 claimed : (number : ℕ) (m : MethodDescriptor) → m.handler_index ≤ number → number < m.handler_index + m.handler_count → claims number m ≡ true
 claimed number m low high = and_from _ _ (le-leb m.handler_index number low) (lt-ltb number (m.handler_index + m.handler_count) high)
 
-claimed_lies : (info : List ℕ) (ms : List MethodDescriptor) (m : MethodDescriptor) (number : ℕ) (h : HandlerInfo) → handler_fault info ms number h ≡ None → IsOneOf ms m → claims number m ≡ true → LiesIn info m h
+claimed_lies : (info : List ℕ) (ms : List MethodDescriptor) (m : MethodDescriptor) (number : ℕ) (h : HandlerInfo)
+    → handler_fault info ms number h ≡ None → IsOneOf ms m → claims number m ≡ true → LiesIn info m h
 unfolding handler_fault owners
 claimed_lies info ms m number h e one claim =
-    lies info m h (only_home info h (filter (claims number) ms) m (one_kept (claims number) ms m one claim) (home_by (HandlerOutside number) (has_home info h (filter (claims number) ms)) e))
+    lies info m h
+    (only_home info h (filter (claims number) ms) m (one_kept (claims number) ms m one claim)
+    (home_by (HandlerOutside number) (has_home info h (filter (claims number) ms)) e))
 
 -- ---- the entries that a method names
 
-pub entry_numbered : (hs : List HandlerInfo) (n i : ℕ) (h : HandlerInfo) → slice_get hs i ≡ Some h → IsOneOf {F = ℕ × HandlerInfo} (enumerate_from n hs) (n + i, h)
+pub entry_numbered : (hs : List HandlerInfo) (n i : ℕ) (h : HandlerInfo) → slice_get hs i ≡ Some h
+    → IsOneOf {F = ℕ × HandlerInfo} (enumerate_from n hs) (n + i, h)
 entry_numbered [] n i h e = absurd cc
 entry_numbered (g ∷ gs) n zero h e =
     let same : g ≡ h = cc in
@@ -76,7 +83,8 @@ entry_numbered (g ∷ gs) n (suc i) h e =
     inr (rw more (entry_numbered gs (n + 1) i h e))
 
 -- the first elements, so many, after so many others
-all_taken : {X : Type 0} (P : X → Type 0) (xs : List X) (index count : ℕ) → ((j : ℕ) (x : X) → j < count → slice_get xs (index + j) ≡ Some x → P x) → All P (take count (drop index xs))
+all_taken : {X : Type 0} (P : X → Type 0) (xs : List X) (index count : ℕ)
+    → ((j : ℕ) (x : X) → j < count → slice_get xs (index + j) ≡ Some x → P x) → All P (take count (drop index xs))
 all_taken P [] zero zero h = All-nil P
 all_taken P [] zero (suc n) h = All-nil P
 all_taken P [] (suc i) zero h = All-nil P
@@ -88,7 +96,9 @@ all_taken P (x ∷ xs) zero (suc n) h =
 all_taken P (x ∷ xs) (suc i) n h =
     all_taken P xs i n (λ j y lt e. h j y lt (let same : suc i + j ≡ suc (i + j) = omega arith in rw same e))
 
-pub handlers-lie : (info : List ℕ) (ms : List MethodDescriptor) (hs : List HandlerInfo) (m : MethodDescriptor) → filter_map (numbered_fault info ms) (enumerate_from 0 hs) ≡ [] → IsOneOf ms m → All (LiesIn info m) (take m.handler_count (drop m.handler_index hs))
+pub handlers-lie : (info : List ℕ) (ms : List MethodDescriptor) (hs : List HandlerInfo) (m : MethodDescriptor)
+    → filter_map (numbered_fault info ms) (enumerate_from 0 hs) ≡ [] → IsOneOf ms m
+    → All (LiesIn info m) (take m.handler_count (drop m.handler_index hs))
 handlers-lie info ms hs m none one =
     all_taken (LiesIn info m) hs m.handler_index m.handler_count (λ j h lt e.
     let number = m.handler_index + j in

@@ -23,7 +23,8 @@ abbrev pub Pairwise : {X : Type 0} → (X → X → Type 0) → List X → Type 
 Pairwise R [] = Unit {0}
 Pairwise R (x ∷ xs) = Each (R x) xs × Pairwise R xs
 
-pub pairwise-append : {X : Type 0} (R : X → X → Type 0) (xs ys : List X) → Pairwise R xs → Pairwise R ys → Each (λ x. Each (R x) ys) xs → Pairwise R (xs ++ ys)
+pub pairwise-append : {X : Type 0} (R : X → X → Type 0) (xs ys : List X) → Pairwise R xs → Pairwise R ys → Each (λ x. Each (R x) ys) xs
+    → Pairwise R (xs ++ ys)
 pairwise-append R [] ys a b c = b
 pairwise-append R (x ∷ xs) ys a b c = (Each-append (R x) xs ys a.0 c.0, pairwise-append R xs ys a.1 b c.1)
 
@@ -39,7 +40,8 @@ pairwise-split R (x ∷ xs) ys a =
     let rest = pairwise-split R xs ys a.1 in
     record { front = (first.0, rest.front); back = rest.back; across = (first.1, rest.across) }
 
-pairwise-at : {X : Type 0} (R : X → X → Type 0) (xs : List X) (i j : ℕ) (x y : X) → Pairwise R xs → i < j → slice_get xs i ≡ Some x → slice_get xs j ≡ Some y → R x y
+pairwise-at : {X : Type 0} (R : X → X → Type 0) (xs : List X) (i j : ℕ) (x y : X) → Pairwise R xs → i < j → slice_get xs i ≡ Some x
+    → slice_get xs j ≡ Some y → R x y
 pairwise-at R [] i j x y a lt e f = absurd cc
 pairwise-at R (z ∷ zs) zero zero x y a lt e f = absurd (omega arith)
 pairwise-at R (z ∷ zs) zero (suc j) x y a lt e f = let same : z ≡ x = cc in subst (λ w. R w y) same (each-at (R z) zs j y a.0 f)
@@ -47,7 +49,8 @@ pairwise-at R (z ∷ zs) (suc i) zero x y a lt e f = absurd (omega arith)
 pairwise-at R (z ∷ zs) (suc i) (suc j) x y a lt e f = pairwise-at R zs i j x y a.1 (omega arith) e f
 
 -- two things that are not so related, whichever comes first, are one
-pub one-place : {X : Type 0} (R : X → X → Type 0) (xs : List X) (i j : ℕ) (x y : X) → Pairwise R xs → slice_get xs i ≡ Some x → slice_get xs j ≡ Some y → (R x y → ⊥) → (R y x → ⊥) → i ≡ j
+pub one-place : {X : Type 0} (R : X → X → Type 0) (xs : List X) (i j : ℕ) (x y : X) → Pairwise R xs → slice_get xs i ≡ Some x
+    → slice_get xs j ≡ Some y → (R x y → ⊥) → (R y x → ⊥) → i ≡ j
 one-place R xs i j x y a e f before after = by (ltb i j) (ltb j i) refl refl
   where
     by : (b c : Bool) → ltb i j ≡ b → ltb j i ≡ c → i ≡ j

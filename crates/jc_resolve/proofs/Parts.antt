@@ -1,5 +1,6 @@
 -- The first of a list and those after them, step by step.
-use Rattle.std.proofs.Common.{◌≡◌, ℕ, zero, suc, ◌+◌, ◌-◌, ◌<◌, List, [], ◌∷◌, ◌++◌, Some, map, take, drop, ap, sym, append_assoc, arith, ◌∙◌}
+use Rattle.std.proofs.Common.{◌≡◌, ℕ, zero, suc, ◌+◌, ◌-◌, ◌<◌, List, [], ◌∷◌, ◌++◌, Some, map, take, drop, ap, sym, append_assoc}
+use Rattle.std.proofs.Common.{arith, ◌∙◌}
 use Rattle.std.specs.Prelude.{slice_get}
 
 pub drop_step : {X : Type 0} (a n : ℕ) (x : X) (xs : List X) → a < n → drop (n - a) (x ∷ xs) ≡ drop (n - (a + 1)) xs
@@ -8,7 +9,8 @@ drop_step a n x xs lt = let e : n - a ≡ suc (n - (a + 1)) = omega arith in ap 
 pub take_step : {X : Type 0} (a n : ℕ) (x : X) (xs : List X) → a < n → take (n - a) (x ∷ xs) ≡ x ∷ take (n - (a + 1)) xs
 take_step a n x xs lt = let e : n - a ≡ suc (n - (a + 1)) = omega arith in ap (λ k. take k (x ∷ xs)) e
 
-pub map_step : {X Y : Type 0} (f : X → Y) (ys : List Y) (a n : ℕ) (x : X) (xs : List X) → a < n → ys ++ map f (take (n - a) (x ∷ xs)) ≡ (ys ++ f x ∷ []) ++ map f (take (n - (a + 1)) xs)
+pub map_step : {X Y : Type 0} (f : X → Y) (ys : List Y) (a n : ℕ) (x : X) (xs : List X) → a < n → ys ++ map f (take (n - a) (x ∷ xs))
+    ≡ (ys ++ f x ∷ []) ++ map f (take (n - (a + 1)) xs)
 map_step f ys a n x xs lt = ap (λ l. ys ++ map f l) (take_step a n x xs lt) ∙ sym (append_assoc ys (f x ∷ []) (map f (take (n - (a + 1)) xs)))
 
 -- what is left after n begins with the one that has the number n

@@ -1,5 +1,6 @@
 -- What a class reference names by cases is what is computed, and at most one class is named.
-use Rattle.std.proofs.Common.{◌≡◌, ℕ, ◌-◌, ◌/◌, ◌%◌, ◌<◌, List, Option, Some, None, option_map, option_and_then, refl, sym, ap, ◌∙◌}
+use Rattle.std.proofs.Common.{◌≡◌, ℕ, ◌-◌, ◌/◌, ◌%◌, ◌<◌, List, Option, Some, None, option_map, option_and_then, refl, sym, ap}
+use Rattle.std.proofs.Common.{◌∙◌}
 use Rattle.std.specs.Prelude.{◌↔◌, if◌then◌else◌}
 use Rattle.std.proofs.lemmas.Bool.{lt-ltb}
 use Rattle.cap_bytes.specs.declared.class_reference.ClassReference.{ClassReference}
@@ -11,7 +12,8 @@ use Rattle.jc_resolve.specs.References.{met_by, exported_offset, exported_place,
 
 module _ (ps : List PackageRecord) (k import class c : ℕ) where
   exported_by : (j : ℕ) (o : Option ℕ) → met_by ps k import ≡ Some j → exported_offset ps j class ≡ o
-      → option_and_then (class_at ps) (option_map (λ offset. record { «package» = j; offset = offset }) o) ≡ Some c → Refers ps k (External import class) c
+      → option_and_then (class_at ps) (option_map (λ offset. record { «package» = j; offset = offset }) o) ≡ Some c
+      → Refers ps k (External import class) c
   exported_by j None met out h = absurd cc
   exported_by j (Some offset) met out h = imported import class j offset refl met out h
 
@@ -21,25 +23,29 @@ module _ (ps : List PackageRecord) (k import class c : ℕ) where
   met_first (Some j) met h = exported_by j (exported_offset ps j class) met refl h
 
 -- the class that is computed is referred to
-pub computed-refers : (ps : List PackageRecord) (k : ℕ) (reference : ClassReference) (c : ℕ) → class_referred ps k reference ≡ Some c → Refers ps k reference c
+pub computed-refers : (ps : List PackageRecord) (k : ℕ) (reference : ClassReference) (c : ℕ) → class_referred ps k reference ≡ Some c
+    → Refers ps k reference c
 unfolding class_referred
 computed-refers ps k (Internal offset) c h = internal offset refl h
 computed-refers ps k (External import class) c h = met_first ps k import class c (met_by ps k import) refl h
 
 -- what is referred to is computed
-pub refers-computed : (ps : List PackageRecord) (k : ℕ) (reference : ClassReference) (c : ℕ) → Refers ps k reference c → class_referred ps k reference ≡ Some c
+pub refers-computed : (ps : List PackageRecord) (k : ℕ) (reference : ClassReference) (c : ℕ) → Refers ps k reference c
+    → class_referred ps k reference ≡ Some c
 unfolding class_referred
 refers-computed ps k reference c (internal offset is at) = rw is at
 refers-computed ps k reference c (imported import class j offset is met out at) = rw (is, met, out) at
 
 -- at most one class is named
-pub refers-only : (ps : List PackageRecord) (k : ℕ) (reference : ClassReference) (c d : ℕ) → Refers ps k reference c → Refers ps k reference d → c ≡ d
+pub refers-only : (ps : List PackageRecord) (k : ℕ) (reference : ClassReference) (c d : ℕ) → Refers ps k reference c → Refers ps k reference d
+    → c ≡ d
 refers-only ps k reference c d h l =
     let e : Some c ≡ Some d = sym (refers-computed ps k reference c h) ∙ refers-computed ps k reference d l in
     cc
 
 -- an answer is the one class to which a reference refers
-pub answer-refers : (ps : List PackageRecord) (k : ℕ) (reference : ClassReference) (answer : Option ℕ) → answer ≡ class_referred ps k reference → (c : ℕ) → (answer ≡ Some c) ↔ Refers ps k reference c
+pub answer-refers : (ps : List PackageRecord) (k : ℕ) (reference : ClassReference) (answer : Option ℕ) → answer ≡ class_referred ps k reference
+    → (c : ℕ) → (answer ≡ Some c) ↔ Refers ps k reference c
 answer-refers ps k reference answer e c = (λ h. computed-refers ps k reference c (sym e ∙ h), λ h. e ∙ refers-computed ps k reference c h)
 
 -- the class that a class_ref names

@@ -1,5 +1,6 @@
 -- The least fault of class references, which are looked up in another order than that of the condition.
-use Rattle.std.proofs.Common.{◌≡◌, ℕ, ◌+◌, Bool, true, false, List, [], ◌∷◌, ◌++◌, map, flat_map, Option, Some, None, is_none, if◌then◌else◌, refl, sym, ap, ◌∙◌}
+use Rattle.std.proofs.Common.{◌≡◌, ℕ, ◌+◌, Bool, true, false, List, [], ◌∷◌, ◌++◌, map, flat_map, Option, Some, None, is_none}
+use Rattle.std.proofs.Common.{if◌then◌else◌, refl, sym, ap, ◌∙◌}
 use Rattle.std.proofs.lemmas.Grind.{flat_map-append}
 use Rattle.std.proofs.lemmas.List.{map-append}
 use Rattle.std.proofs.lemmas.List.Sums.{fold-append}
@@ -11,9 +12,11 @@ use Rattle.first_fault.specs.Least.{least_from, least_of}
 use Rattle.first_fault.proofs.AnyOrder.{AreExact, least-turned}
 use Rattle.jc_resolve.specs.declared.fault.LinkFault.{LinkFault}
 use Rattle.jc_resolve.specs.declared.fault.LinkFault.TheVariants.{NoClass}
-use Rattle.jc_resolve.specs.Conditions.{named_after, named_in, references_of_record, references_of_field_type, references_of_method, references_of_classes, references_described, class_references, reference_fault, no_class_fault}
+use Rattle.jc_resolve.specs.Conditions.{named_after, named_in, references_of_record, references_of_field_type, references_of_method, references_of_classes}
+use Rattle.jc_resolve.specs.Conditions.{references_described, class_references, reference_fault, no_class_fault}
 use Rattle.jc_resolve.specs.Fault.{link_place}
-use Rattle.jc_resolve.specs.LookedUp.{references_with_methods, references_for_methods, references_of_field_types, references_for_classes, references_without_methods, references_besides}
+use Rattle.jc_resolve.specs.LookedUp.{references_with_methods, references_for_methods, references_of_field_types, references_for_classes}
+use Rattle.jc_resolve.specs.LookedUp.{references_without_methods, references_besides}
 use Rattle.jc_resolve.specs.References.{class_named}
 use Rattle.jc_resolve.proofs.NamedFaults.{least_pairs, least_described}
 
@@ -48,14 +51,17 @@ module _ (fault : ℕ × ℕ → Option LinkFault) (exact : AreExact link_place 
 
   -- what one package names is looked at in two parts
   abbrev InParts : (PackageRecord → List ℕ) → (PackageRecord → List ℕ) → (PackageRecord → List ℕ) → Type 0
-  InParts whole front back = (k : ℕ) (p : PackageRecord) (before : Option LinkFault) → least before (of_package k (whole p)) ≡ least (least before (of_package k (front p))) (of_package k (back p))
+  InParts whole front back =
+      (k : ℕ) (p : PackageRecord) (before : Option LinkFault) → least before (of_package k (whole p)) ≡ least (least before (of_package k (front p)))
+      (of_package k (back p))
 
   appended-in_parts : (front back : PackageRecord → List ℕ) → InParts (λ p. front p ++ back p) front back
   appended-in_parts front back k p before =
       ap (least before) (map-append (λ n. (k, n)) (front p) (back p))
       ∙ fold-append _ before (of_package k (front p)) (of_package k (back p))
 
-  in_two_passes : (whole front back : PackageRecord → List ℕ) → InParts whole front back → (k : ℕ) (ps : List PackageRecord) (before : Option LinkFault)
+  in_two_passes : (whole front back : PackageRecord → List ℕ) → InParts whole front back
+      → (k : ℕ) (ps : List PackageRecord) (before : Option LinkFault)
       → least before (named_after whole k ps) ≡ least (least before (named_after front k ps)) (named_after back k ps)
   in_two_passes whole front back parts k [] before = refl
   in_two_passes whole front back parts k (p ∷ ps) before =
@@ -77,7 +83,8 @@ abbrev references_alone : PackageRecord → List ℕ
 references_alone p = references_besides p ++ references_of_field_types p
 
 -- the methods of several records, record by record
-methods_flat : {Y : Type 0} (f : MethodDescriptor → List Y) (ds : List ClassDescriptor) → flat_map f (methods_of ds) ≡ flat_map (λ (d : ClassDescriptor). flat_map f d.methods) ds
+methods_flat : {Y : Type 0} (f : MethodDescriptor → List Y) (ds : List ClassDescriptor)
+    → flat_map f (methods_of ds) ≡ flat_map (λ (d : ClassDescriptor). flat_map f d.methods) ds
 methods_flat f [] = refl
 methods_flat f (d ∷ ds) = flat_map-append f d.methods (methods_of ds) ∙ ap (λ l. flat_map f d.methods ++ l) (methods_flat f ds)
 
@@ -92,7 +99,9 @@ module _ (all : List PackageRecord) (k : ℕ) where
   on before = least_from link_place before (reference_fault all k)
 
   -- what each record names is looked at in two parts
-  records_in_two : (whole front back : ClassDescriptor → List ℕ) → ((d : ClassDescriptor) (before : Option LinkFault) → on before (whole d) ≡ on (on before (front d)) (back d)) → (ds : List ClassDescriptor) (before : Option LinkFault)
+  records_in_two : (whole front back : ClassDescriptor → List ℕ)
+      → ((d : ClassDescriptor) (before : Option LinkFault) → on before (whole d) ≡ on (on before (front d)) (back d))
+      → (ds : List ClassDescriptor) (before : Option LinkFault)
       → on before (flat_map whole ds) ≡ on (on before (flat_map front ds)) (flat_map back ds)
   records_in_two whole front back parts [] before = refl
   records_in_two whole front back parts (d ∷ ds) before =
@@ -110,7 +119,8 @@ module _ (all : List PackageRecord) (k : ℕ) where
   abbrev class_of : ClassDescriptor → List ℕ
   class_of d = d.class_ref ∷ []
 
-  descriptor_in_two : (p : PackageRecord) (before : Option LinkFault) → on before (references_described p) ≡ on (on before (references_for_methods p)) (references_alone p)
+  descriptor_in_two : (p : PackageRecord) (before : Option LinkFault) → on before (references_described p) ≡ on (on before (references_for_methods p))
+      (references_alone p)
   descriptor_in_two p before =
       let ds = p.description.items.classes in
       let types_of : ClassDescriptor → List ℕ = λ (d : ClassDescriptor). flat_map (references_of_method p.description) d.methods in
@@ -127,7 +137,8 @@ module _ (all : List PackageRecord) (k : ℕ) where
       ∙ ap (λ o. on (on o others) fields) (sym (records_in_two (references_with_methods p.description) class_of types_of (λ d b. refl) ds before))
       ∙ sym (fold-append _ (on before (references_for_methods p)) others fields)
 
-described_in_parts : (all : List PackageRecord) → InParts (no_class_fault all) (no-class-exact all) references_described references_for_methods references_alone
+described_in_parts : (all : List PackageRecord) → InParts (no_class_fault all) (no-class-exact all) references_described references_for_methods
+    references_alone
 described_in_parts all k p before =
     let fault = no_class_fault all in
     least_pairs fault k (references_described p) before
@@ -138,7 +149,8 @@ described_in_parts all k p before =
 -- the references that methods need, those that the records of fields and classes need, and the others
 pub all_looked : (ps : List PackageRecord) →
     least_from link_place
-    (least_from link_place (least_of link_place (no_class_fault ps) (named_in references_for_methods ps)) (no_class_fault ps) (named_in references_for_classes ps))
+    (least_from link_place (least_of link_place (no_class_fault ps) (named_in references_for_methods ps)) (no_class_fault ps)
+    (named_in references_for_classes ps))
     (no_class_fault ps) (named_in references_besides ps)
     ≡ least_of link_place (no_class_fault ps) (named_in class_references ps)
 unfolding class_references

@@ -6,17 +6,20 @@ use Rattle.cap_package.specs.PackageRecord.{PackageRecord}
 use Rattle.jc_resolve.specs.Numbering.{NumberedClass, NumberedMethod, numbered_classes_of, classes_after, methods_of_class, methods_of_classes, methods_after}
 
 module _ {Y : Type 0} (f : NumberedMethod → Y) (ys : List Y) (k : ℕ) (p : PackageRecord) where
-  pub classes_step : (n : ℕ) (c : described.ClassDescriptor) (cs : List described.ClassDescriptor) → ys ++ map f (methods_of_classes k p n (c ∷ cs)) ≡ (ys ++ map f (methods_of_class k p n c 0 c.methods)) ++ map f (methods_of_classes k p (n + 1) cs)
+  pub classes_step : (n : ℕ) (c : described.ClassDescriptor) (cs : List described.ClassDescriptor) → ys ++ map f (methods_of_classes k p n (c ∷ cs))
+      ≡ (ys ++ map f (methods_of_class k p n c 0 c.methods)) ++ map f (methods_of_classes k p (n + 1) cs)
   classes_step n c cs =
       ap (λ l. ys ++ l) (map-append f (methods_of_class k p n c 0 c.methods) (methods_of_classes k p (n + 1) cs))
       ∙ sym (append_assoc ys (map f (methods_of_class k p n c 0 c.methods)) (map f (methods_of_classes k p (n + 1) cs)))
 
-  pub methods_step : (ps : List PackageRecord) → ys ++ map f (methods_after k (p ∷ ps)) ≡ (ys ++ map f (methods_of_classes k p 0 p.description.items.classes)) ++ map f (methods_after (k + 1) ps)
+  pub methods_step : (ps : List PackageRecord) → ys ++ map f (methods_after k (p ∷ ps))
+      ≡ (ys ++ map f (methods_of_classes k p 0 p.description.items.classes)) ++ map f (methods_after (k + 1) ps)
   methods_step ps =
       ap (λ l. ys ++ l) (map-append f (methods_of_classes k p 0 p.description.items.classes) (methods_after (k + 1) ps))
       ∙ sym (append_assoc ys (map f (methods_of_classes k p 0 p.description.items.classes)) (map f (methods_after (k + 1) ps)))
 
-pub packages_step : {Y : Type 0} (f : NumberedClass → Y) (ys : List Y) (k : ℕ) (p : PackageRecord) (ps : List PackageRecord) → ys ++ map f (classes_after k (p ∷ ps)) ≡ (ys ++ map f (numbered_classes_of k p)) ++ map f (classes_after (k + 1) ps)
+pub packages_step : {Y : Type 0} (f : NumberedClass → Y) (ys : List Y) (k : ℕ) (p : PackageRecord) (ps : List PackageRecord)
+    → ys ++ map f (classes_after k (p ∷ ps)) ≡ (ys ++ map f (numbered_classes_of k p)) ++ map f (classes_after (k + 1) ps)
 packages_step f ys k p ps =
     ap (λ l. ys ++ l) (map-append f (numbered_classes_of k p) (classes_after (k + 1) ps))
     ∙ sym (append_assoc ys (map f (numbered_classes_of k p)) (map f (classes_after (k + 1) ps)))

@@ -4,7 +4,8 @@ use Rattle.std.proofs.lemmas.List.{length-map}
 use Rattle.std.proofs.lemmas.List.Sums.{sum_by-cons}
 use Rattle.cap_desc.specs.DescriptorFormat as described
 use Rattle.cap_package.specs.PackageRecord.{PackageRecord}
-use Rattle.jc_resolve.specs.Numbering.{numbered_classes_of, classes_after, numbered_classes, methods_of_class, methods_of_classes, methods_after, numbered_methods}
+use Rattle.jc_resolve.specs.Numbering.{numbered_classes_of, classes_after, numbered_classes, methods_of_class, methods_of_classes, methods_after}
+use Rattle.jc_resolve.specs.Numbering.{numbered_methods}
 use Rattle.jc_resolve.specs.NamedMethods.{named_method, named_methods}
 use Rattle.jc_resolve.specs.Counts.{class_total, method_count, method_total}
 
@@ -18,7 +19,8 @@ length_classes k (p ∷ ps) =
 pub classes_total : (ps : List PackageRecord) → length (numbered_classes ps) ≡ class_total ps
 classes_total ps = length_classes 0 ps
 
-length_class : (k : ℕ) (p : PackageRecord) (n : ℕ) (c : described.ClassDescriptor) (i : ℕ) (ms : List described.MethodDescriptor) → length (methods_of_class k p n c i ms) ≡ length ms
+length_class : (k : ℕ) (p : PackageRecord) (n : ℕ) (c : described.ClassDescriptor) (i : ℕ) (ms : List described.MethodDescriptor)
+    → length (methods_of_class k p n c i ms) ≡ length ms
 length_class k p n c i [] = refl
 length_class k p n c i (m ∷ ms) = ap suc (length_class k p n c (i + 1) ms)
 

@@ -2,7 +2,10 @@
 use Rattle.first_fault.specs.declared.place.Place.{Place}
 use Rattle.first_fault.specs.Order.{one, two}
 use Rattle.jc_resolve.specs.declared.fault.LinkFault.{LinkFault}
-use Rattle.jc_resolve.specs.declared.fault.LinkFault.TheVariants.{TooManyPackages, TooManyClasses, TooManyMethods, NoPackage, NoClass, SuperIsInterface, Cycle, NoRole, NoSuper, NotInterface, Hole, OverrideType, InterfaceType, InstanceLong, TooManyStatics, NoMember, BadCatch, NoRoom, RoleAbstract}
+use Rattle.jc_resolve.specs.declared.fault.LinkFault.TheVariants.{TooManyPackages, TooManyClasses, TooManyMethods, NoPackage, NoClass}
+use Rattle.jc_resolve.specs.declared.fault.LinkFault.TheVariants.{SuperIsInterface, Cycle, NoRole, NoSuper, NotInterface, Hole}
+use Rattle.jc_resolve.specs.declared.fault.LinkFault.TheVariants.{OverrideType, InterfaceType, InstanceLong, TooManyStatics, NoMember}
+use Rattle.jc_resolve.specs.declared.fault.LinkFault.TheVariants.{BadCatch, NoRoom, RoleAbstract}
 
 unfoldable pub link_place : LinkFault → Place
 link_place (TooManyPackages n) = one n

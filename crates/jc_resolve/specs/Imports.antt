@@ -18,4 +18,5 @@ imports_met ps = imports_after ps 0 ps
 
 -- what meets the import of a package with a token
 abbrev pub met_among : List (List (Option ℕ)) → ℕ → ℕ → Option ℕ
-met_among met k token = option_and_then (λ (row : List (Option ℕ)). option_and_then (λ one. one) (slice_get row token)) (slice_get met k)
+met_among met k token =
+    option_and_then (λ (row : List (Option ℕ)). option_and_then (λ one. one) (slice_get row token)) (slice_get met k)

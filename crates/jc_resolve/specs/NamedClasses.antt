@@ -1,5 +1,6 @@
 -- Classes and interfaces with each class and method that their records name by number (JCVM 2.2, section 6.8).
-use Rattle.std.specs.Prelude.{ℕ, Bool, true, false, not, List, [], map, filter, filter_map, flat_map, Option, Some, None, option_map, slice_index, ◌==◌, ◌&&◌, if◌then◌else◌}
+use Rattle.std.specs.Prelude.{ℕ, Bool, true, false, not, List, [], map, filter, filter_map, flat_map, Option, Some, None, option_map}
+use Rattle.std.specs.Prelude.{slice_index, ◌==◌, ◌&&◌, if◌then◌else◌}
 use Rattle.std.specs.List.{range_with_len}
 use Rattle.cap_class.specs.ClassFormat.{Class, Interface, is_interface}
 use Rattle.cap_desc.specs.declared.type_item.TypeItem.{TypeItem}

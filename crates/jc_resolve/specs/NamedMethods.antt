@@ -1,5 +1,6 @@
 -- Methods with each class that their records name by number (JCVM 2.2, sections 6.9 and 6.13).
-use Rattle.std.specs.Prelude.{ℕ, ◌+◌, ◌-◌, ◌*◌, ◌≤◌, Bool, true, false, not, List, [], length, map, min, Option, Some, None, unwrap_or, slice_get, slice_index, ◌==◌, ◌&&◌, if◌then◌else◌}
+use Rattle.std.specs.Prelude.{ℕ, ◌+◌, ◌-◌, ◌*◌, ◌≤◌, Bool, true, false, not, List, [], length, map, min, Option, Some}
+use Rattle.std.specs.Prelude.{None, unwrap_or, slice_get, slice_index, ◌==◌, ◌&&◌, if◌then◌else◌}
 use Rattle.std.specs.Int.RustNames.{bit_and}
 use Rattle.cap_pool.specs.PoolFormat.{Entry}
 use Rattle.cap_pool.specs.declared.pool_reference.PoolReference.{PoolReference}

@@ -15,7 +15,8 @@ use Rattle.first_fault.specs.First.{IsFirst, AllEmpty}
 use Rattle.jc_resolve.specs.NamedClasses.{named_classes}
 use Rattle.jc_resolve.specs.NamedMethods.{named_methods}
 use Rattle.jc_resolve.specs.TypedFields.{fields_after}
-use Rattle.jc_resolve.specs.Conditions.{packages_fault, classes_fault, methods_fault, no_package_fault, no_class_fault, named_in, import_tokens, class_references, conditions}
+use Rattle.jc_resolve.specs.Conditions.{packages_fault, classes_fault, methods_fault, no_package_fault, no_class_fault, named_in}
+use Rattle.jc_resolve.specs.Conditions.{import_tokens, class_references, conditions}
 
 -- packages and the roles of classes, with the classes and methods of all packages by number
 pub record NamesRecord : Type 0 where

@@ -1,7 +1,8 @@
 -- The numbers of classes and methods over all packages: classes by package and then in the order of
 -- the Class component, methods by package and then in the order of the Descriptor (JCVM 2.2,
 -- sections 6.8 and 6.13).
-use Rattle.std.specs.Prelude.{ℕ, ◌+◌, Bool, false, not, if◌then◌else◌, List, [], ◌∷◌, ◌++◌, map, Option, Some, None, position, slice_get, ◌==◌, ◌&&◌}
+use Rattle.std.specs.Prelude.{ℕ, ◌+◌, Bool, false, not, if◌then◌else◌, List, [], ◌∷◌, ◌++◌, map, Option, Some, None}
+use Rattle.std.specs.Prelude.{position, slice_get, ◌==◌, ◌&&◌}
 use Rattle.cap_class.specs.ClassFormat.{Class, is_interface}
 use Rattle.cap_desc.specs.DescriptorFormat as described
 use Rattle.cap_package.specs.PackageRecord.{PackageRecord, names_interface}
@@ -69,7 +70,8 @@ pub record NumberedMethod : Type 0 where
 abbrev pub is_placed : PackageRecord → described.ClassDescriptor → Bool
 is_placed p c = not (names_interface p.classes c.class_ref)
 
-abbrev pub numbered_method : ℕ → PackageRecord → ℕ → described.ClassDescriptor → ℕ → described.MethodDescriptor → NumberedMethod
+abbrev pub numbered_method : ℕ → PackageRecord → ℕ → described.ClassDescriptor → ℕ → described.MethodDescriptor
+    → NumberedMethod
 numbered_method k p class_no c method_no m = record {
   home = k;
   of_package = p;
@@ -80,7 +82,8 @@ numbered_method k p class_no c method_no m = record {
   placed = is_placed p c;
 }
 
-abbrev pub methods_of_class : ℕ → PackageRecord → ℕ → described.ClassDescriptor → ℕ → List described.MethodDescriptor → List NumberedMethod
+abbrev pub methods_of_class : ℕ → PackageRecord → ℕ → described.ClassDescriptor → ℕ → List described.MethodDescriptor
+    → List NumberedMethod
 methods_of_class k p class_no c method_no [] = []
 methods_of_class k p class_no c method_no (m ∷ ms) =
     numbered_method k p class_no c method_no m

@@ -1,5 +1,6 @@
 -- A table of numbers by places: of several things at one place it keeps the number of the first.
-use Rattle.std.specs.Prelude.{◌≡◌, ℕ, ◌+◌, ◌≤◌, Bool, List, [], ◌∷◌, ◌++◌, length, map, Option, Some, None, fold, is_some, not, if◌then◌else◌}
+use Rattle.std.specs.Prelude.{◌≡◌, ℕ, ◌+◌, ◌≤◌, Bool, List, [], ◌∷◌, ◌++◌, length, map, Option, Some, None}
+use Rattle.std.specs.Prelude.{fold, is_some, not, if◌then◌else◌}
 use Rattle.std.specs.Map.{lookup}
 use Rattle.indexmap.specs.IndexMap.{insert_entry}
 use Rattle.cap_class.specs.ClassFormat.{Class, is_interface}
@@ -55,7 +56,8 @@ spot_of_method k placed m = if placed then Some (record { «package» = k; offse
 -- the methods of classes, some of which, by their references, are interfaces
 abbrev pub spots_of_classes : ℕ → (ℕ → Bool) → List described.ClassDescriptor → List (Option RecordPlace)
 spots_of_classes k interfaces [] = []
-spots_of_classes k interfaces (c ∷ cs) = map (spot_of_method k (not (interfaces c.class_ref))) c.methods ++ spots_of_classes k interfaces cs
+spots_of_classes k interfaces (c ∷ cs) =
+    map (spot_of_method k (not (interfaces c.class_ref))) c.methods ++ spots_of_classes k interfaces cs
 
 abbrev pub method_spots : ℕ → List PackageRecord → List (Option RecordPlace)
 method_spots k [] = []

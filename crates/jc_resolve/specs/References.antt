@@ -1,5 +1,6 @@
 -- The package that meets an import, and the class that a class reference names (JCVM 2.2, sections 4.3.7.1, 6.6, 6.7 and 6.12).
-use Rattle.std.specs.Prelude.{◌≡◌, ℕ, Bool, List, take, Option, Some, option_map, option_and_then, position, slice_get, bytes_eq, nat_lt, nat_le, ◌==◌, ◌&&◌}
+use Rattle.std.specs.Prelude.{◌≡◌, ℕ, Bool, List, take, Option, Some, option_map, option_and_then, position, slice_get, bytes_eq}
+use Rattle.std.specs.Prelude.{nat_lt, nat_le, ◌==◌, ◌&&◌}
 use Rattle.cap_bytes.specs.declared.class_reference.ClassReference.{ClassReference}
 use Rattle.cap_bytes.specs.declared.class_reference.ClassReference.TheVariants.{Internal, External}
 use Rattle.cap_bytes.specs.ClassReference.{reference_of}
@@ -36,7 +37,8 @@ abbrev pub exported_field : List PackageRecord → ℕ → ℕ → ℕ → Optio
 exported_field ps k class token = option_and_then (λ (p : PackageRecord). field_offset_in (or_none p.export) class token) (slice_get ps k)
 
 abbrev pub exported_method : List PackageRecord → ℕ → ℕ → ℕ → Option ℕ
-exported_method ps k class token = option_and_then (λ (p : PackageRecord). method_offset_in (or_none p.export) class token) (slice_get ps k)
+exported_method ps k class token =
+    option_and_then (λ (p : PackageRecord). method_offset_in (or_none p.export) class token) (slice_get ps k)
 
 -- a class_ref with a clear high bit is the offset of a class of the package itself
 abbrev pub is_internal : ℕ → Bool

@@ -1,5 +1,6 @@
 -- On the card a rule raises registers, and applies to each lesser frame.
-use Rattle.std.proofs.Common.{◌≡◌, ℕ, zero, suc, ◌+◌, ◌<◌, Bool, true, false, not, ◌||◌, List, [], ◌∷◌, length, get_or, set, All, sum_by, refl, sym, ◌∙◌, ap, subst, arith}
+use Rattle.std.proofs.Common.{◌≡◌, ℕ, zero, suc, ◌+◌, ◌<◌, Bool, true, false, not, ◌||◌, List, [], ◌∷◌, length, get_or, set, All}
+use Rattle.std.proofs.Common.{sum_by, refl, sym, ◌∙◌, ap, subst, arith}
 use Rattle.std.proofs.lemmas.List.{get_or-set_other}
 use Rattle.std.proofs.lemmas.List.Sums.{sum_by-set}
 use Rattle.jc_base.specs.declared.ty.Ty.{Ty}
@@ -16,7 +17,8 @@ use Rattle.jc_rules.specs.declared.effect.Mode.TheVariants.{Card, Flow}
 use Rattle.jc_rules.specs.Effect.{WritesRegister, WritesInt, WritesCells, reg, rises_at, cells_rise}
 use Rattle.jc_rules.specs.Rule.{effect}
 use Rattle.jc_rules.specs.Flow.{CellsBelow, no_cells, more_cells}
-use Rattle.jc_rules.specs.Laws.{OperationFallsTo, OperationFallsOnCard, OperationRaises, OperationStays, OperationRests, RuleFallsOnCard, RuleRaises, RuleRises, RuleStays, RuleRests}
+use Rattle.jc_rules.specs.Laws.{OperationFallsTo, OperationFallsOnCard, OperationRaises, OperationStays, OperationRests, RuleFallsOnCard, RuleRaises, RuleRises}
+use Rattle.jc_rules.specs.Laws.{RuleStays, RuleRests}
 use Rattle.jc_rules.proofs.Effects.{CellsKept, Suits, suits, sound-known}
 use Rattle.jc_rules.proofs.Raising.{RoseTo}
 use Rattle.jc_rules.proofs.Types.{below-computed, below-told}
@@ -51,7 +53,8 @@ module _ (t : ClassTable) where
   under-one (x ∷ xs) zero (more_cells p ps) = p
   under-one (x ∷ xs) (suc n) (more_cells p ps) = under-one xs n ps
 
-  under-two : (xs : List Ty) (n : ℕ) {a b : Ty} → CellsBelow t (set (set xs n a) (suc n) b) xs → Below t a (get_or xs n Top) × Below t b (get_or xs (suc n) Top)
+  under-two : (xs : List Ty) (n : ℕ) {a b : Ty} → CellsBelow t (set (set xs n a) (suc n) b) xs → Below t a (get_or xs n Top)
+      × Below t b (get_or xs (suc n) Top)
   under-two [] n ps = (anything, anything)
   under-two (x ∷ xs) zero (more_cells p ps) = (p, under-one xs 0 ps)
   under-two (x ∷ xs) (suc n) (more_cells p ps) = under-two xs n ps
@@ -66,14 +69,17 @@ module _ (t : ClassTable) where
   below-one : (x : ℕ) (ty : Ty) (regs after : List Ty) → WritesRegister t Flow x ty regs after → CellsBelow t after regs → Below t ty (reg regs x)
   below-one x ty regs after u ps = under-one regs x (subst (λ ys. CellsBelow t ys regs) (u.after_is ∙ ap (set regs x) u.stored) ps)
 
-  below-two : (x : ℕ) (regs after : List Ty) → WritesInt t Flow x regs after → CellsBelow t after regs → Below t IntHigh (reg regs x) × Below t IntLow (reg regs (x + 1))
+  below-two : (x : ℕ) (regs after : List Ty) → WritesInt t Flow x regs after → CellsBelow t after regs → Below t IntHigh (reg regs x)
+      × Below t IntLow (reg regs (x + 1))
   below-two x regs after u ps =
-      let written = u.low.after_is ∙ ap (set u.between (x + 1)) u.low.stored ∙ ap (λ ys. set ys (x + 1) IntLow) (u.high.after_is ∙ ap (set regs x) u.high.stored) in
+      let written = u.low.after_is ∙ ap (set u.between (x + 1)) u.low.stored
+      ∙ ap (λ ys. set ys (x + 1) IntLow) (u.high.after_is ∙ ap (set regs x) u.high.stored) in
       let next : x + 1 ≡ suc x = omega arith in
       let both = under-two regs x (subst (λ n. CellsBelow t (set (set regs x IntHigh) n IntLow) regs) next (subst (λ ys. CellsBelow t ys regs) written ps)) in
       (both.0, subst (λ n. Below t IntLow (reg regs n)) (sym next) both.1)
 
-  store-stays : (x : ℕ) (cells : Cells) (regs after : List Ty) → WritesCells t Flow x cells regs after → CellsBelow t after regs → WritesCells t Card x cells regs regs
+  store-stays : (x : ℕ) (cells : Cells) (regs after : List Ty) → WritesCells t Flow x cells regs after → CellsBelow t after regs
+      → WritesCells t Card x cells regs regs
   store-stays x given.Nothing regs after u ps = refl
   store-stays x (given.One ty) regs after u ps = write-stays regs x (below-one x ty regs after u ps)
   store-stays x given.Int regs after u ps =
@@ -96,7 +102,8 @@ module _ (t : ClassTable) where
     below = subst (CellsBelow t (set regs x ty)) (sym u.after_is) (cells-set t x u.stored.right (cells-same t regs));
   }
   store-rests x given.Int regs u =
-      let high : CellsBelow t (set regs x IntHigh) u.between = subst (CellsBelow t (set regs x IntHigh)) (sym u.high.after_is) (cells-set t x u.high.stored.right (cells-same t regs)) in
+      let high : CellsBelow t (set regs x IntHigh) u.between = subst (CellsBelow t (set regs x IntHigh)) (sym u.high.after_is)
+      (cells-set t x u.high.stored.right (cells-same t regs)) in
       record {
         stored = set (set regs x IntHigh) (x + 1) IntLow;
         writes = record {
@@ -118,7 +125,8 @@ module _ (t : ClassTable) where
   in-list (x ∷ xs) zero b h = omega arith
   in-list (x ∷ xs) (suc n) b h = let more : n < length xs = in-list xs n b h in omega arith
 
-  set-less : (xs : List Ty) (n : ℕ) (b : Ty) → rises_left t b < rises_left t (get_or xs n Top) → sum_by (rises_left t) (set xs n b) < sum_by (rises_left t) xs
+  set-less : (xs : List Ty) (n : ℕ) (b : Ty) → rises_left t b < rises_left t (get_or xs n Top)
+      → sum_by (rises_left t) (set xs n b) < sum_by (rises_left t) xs
   set-less xs n b h = let e = sum_by-set (rises_left t) xs n b Top (in-list xs n b h) in omega arith
 
   -- ---- a lesser frame
@@ -131,7 +139,8 @@ module _ (t : ClassTable) where
     known : All (IsKnown t) below
 
   module _ (are : IsOrderOfTypes t) where
-    write-falls : {xs ys zs : List Ty} (x y : ℕ) (a b : Ty) → x ≡ y → Below t a b → IsKnown t a → All (IsKnown t) xs → CellsBelow t xs ys → WritesRegister t Card y b ys zs → WritesBelow x a xs zs
+    write-falls : {xs ys zs : List Ty} (x y : ℕ) (a b : Ty) → x ≡ y → Below t a b → IsKnown t a → All (IsKnown t) xs → CellsBelow t xs ys
+        → WritesRegister t Card y b ys zs → WritesBelow x a xs zs
     write-falls {xs} {ys} {zs} x y a b e le known all ps u =
         let held = all-or (IsKnown t) xs x tt all in
         let least = are.joins (reg xs x) a held known in
@@ -139,11 +148,14 @@ module _ (t : ClassTable) where
         record {
           below = set xs x (join_of t (reg xs x) a);
           writes = record { value = join_of t (reg xs x) a; stored = least; after_is = refl };
-          lower = subst (CellsBelow t (set xs x (join_of t (reg xs x) a))) (ap (λ n. set ys n u.value) e ∙ sym u.after_is) (cells-set t x (least.least u.value (joined (cells-or t x ps) high.left) (joined le high.right)) ps);
+          lower =
+              subst (CellsBelow t (set xs x (join_of t (reg xs x) a))) (ap (λ n. set ys n u.value) e ∙ sym u.after_is)
+              (cells-set t x (least.least u.value (joined (cells-or t x ps) high.left) (joined le high.right)) ps);
           known = All-set (IsKnown t) xs x (join_of t (reg xs x) a) (are.known held known least) all;
         }
 
-    store-card : (xs ys zs : List Ty) (x y : ℕ) (c d : Cells) → x ≡ y → GivenBelow t c d → CellsKept t c → All (IsKnown t) xs → CellsBelow t xs ys → WritesCells t Card y d ys zs → StoresBelow t Card (record { register = x; cells = c }) xs zs
+    store-card : (xs ys zs : List Ty) (x y : ℕ) (c d : Cells) → x ≡ y → GivenBelow t c d → CellsKept t c → All (IsKnown t) xs
+        → CellsBelow t xs ys → WritesCells t Card y d ys zs → StoresBelow t Card (record { register = x; cells = c }) xs zs
     unfolding GivenBelow
     store-card xs ys zs x y given.Nothing given.Nothing e g k all ps u = record { below = xs; stores = refl; lower = subst (CellsBelow t xs) (sym u) ps }
     store-card xs ys zs x y (given.One a) (given.One b) e g k all ps u =
@@ -167,7 +179,8 @@ module _ (t : ClassTable) (are : IsOrderOfTypes t) where
   not-below a b e h = let q : is_below t a b ≡ true = below-computed t are h in absurd (cc)
 
   -- one register is written: it stays where the stored type is below, and else it rises
-  write-rises : (x : ℕ) (ty : Ty) (regs after : List Ty) (b : Bool) → is_below t ty (reg regs x) ≡ b → WritesRegister t Card x ty regs after → RoseTo t regs after (not b)
+  write-rises : (x : ℕ) (ty : Ty) (regs after : List Ty) (b : Bool) → is_below t ty (reg regs x) ≡ b → WritesRegister t Card x ty regs after
+      → RoseTo t regs after (not b)
   write-rises x ty regs after true e u =
       let le : Below t ty (reg regs x) = below-told t are ty (reg regs x) e in
       u.after_is ∙ ap (set regs x) (are.one_join u.stored (join-above t le)) ∙ sym (set-read t regs x)
@@ -181,17 +194,21 @@ module _ (t : ClassTable) (are : IsOrderOfTypes t) where
   both-rise xs ys zs false true p q = subst (λ rs. sum_by (rises_left t) zs < sum_by (rises_left t) rs) p q
   both-rise xs ys zs false false p q = q ∙ p
 
-  pub store-rises : (x : ℕ) (cells : Cells) (regs after : List Ty) → WritesCells t Card x cells regs after → RoseTo t regs after (cells_rise t regs x cells)
+  pub store-rises : (x : ℕ) (cells : Cells) (regs after : List Ty) → WritesCells t Card x cells regs after
+      → RoseTo t regs after (cells_rise t regs x cells)
   store-rises x given.Nothing regs after u = u
   store-rises x (given.One ty) regs after u = write-rises x ty regs after (is_below t ty (reg regs x)) refl u
   store-rises x given.Int regs after u =
-      let next : reg u.between (x + 1) ≡ reg regs (x + 1) = ap (λ rs. reg rs (x + 1)) u.high.after_is ∙ get_or-set_other regs x (x + 1) u.high.value Top (λ same. absurd (omega arith)) in
+      let next : reg u.between (x + 1) ≡ reg regs (x + 1) = ap (λ rs. reg rs (x + 1)) u.high.after_is
+      ∙ get_or-set_other regs x (x + 1) u.high.value Top (λ same. absurd (omega arith)) in
       both-rise regs u.between after (rises_at t regs x IntHigh) (rises_at t regs (x + 1) IntLow)
       (write-rises x IntHigh regs u.between (is_below t IntHigh (reg regs x)) refl u.high)
-      (subst (λ ty. RoseTo t u.between after (not (is_below t IntLow ty))) next (write-rises (x + 1) IntLow u.between after (is_below t IntLow (reg u.between (x + 1))) refl u.low))
+      (subst (λ ty. RoseTo t u.between after (not (is_below t IntLow ty))) next
+      (write-rises (x + 1) IntLow u.between after (is_below t IntLow (reg u.between (x + 1))) refl u.low))
 
   -- where what is stored is below, none rises
-  none-rises : (x : ℕ) (cells : Cells) (regs after : List Ty) → WritesCells t Flow x cells regs after → CellsBelow t after regs → cells_rise t regs x cells ≡ false
+  none-rises : (x : ℕ) (cells : Cells) (regs after : List Ty) → WritesCells t Flow x cells regs after → CellsBelow t after regs
+      → cells_rise t regs x cells ≡ false
   none-rises x given.Nothing regs after u ps = refl
   none-rises x (given.One ty) regs after u ps = ap not (below-computed t are (below-one t x ty regs after u ps))
   none-rises x given.Int regs after u ps =
@@ -205,7 +222,9 @@ operation-raises w are limit op before after o a =
     let e = effect w op before in
     record {
       below = store-raises w.classes e.store.register e.store.cells before.regs after.regs a.regs;
-      rises = subst (RoseTo w.classes before.regs after.regs) (sym a.rose_is) (store-rises w.classes are e.store.register e.store.cells before.regs after.regs a.regs);
+      rises =
+          subst (RoseTo w.classes before.regs after.regs) (sym a.rose_is)
+          (store-rises w.classes are e.store.register e.store.cells before.regs after.regs a.regs);
     }
 
 pub rule-raises : (w : Linked) → IsOrderOfTypes w.classes → RuleRaises w
@@ -232,12 +251,21 @@ operation-stays w are limit op before after o a ps =
 pub rule-stays : (w : Linked) → IsOrderOfTypes w.classes → RuleStays w
 rule-stays w are site i before after o a ps =
     let r = a.rule in
-    record { method = a.method; is_method = a.is_method; rule = record { operation = r.operation; resolves = r.resolves; does = operation-stays w are a.method.max_stack r.operation before after o r.does ps } }
+    record {
+      method = a.method;
+      is_method = a.is_method;
+      rule = record {
+        operation = r.operation;
+        resolves = r.resolves;
+        does = operation-stays w are a.method.max_stack r.operation before after o r.does ps;
+      };
+    }
 
 pub operation-rests : (w : Linked) → IsOrderOfTypes w.classes → OperationRests w
 operation-rests w are limit op before after o a still =
     let e = effect w op before in
-    let writes : WritesCells w.classes Card e.store.register e.store.cells before.regs before.regs = subst (WritesCells w.classes Card e.store.register e.store.cells before.regs) still a.regs in
+    let writes : WritesCells w.classes Card e.store.register e.store.cells before.regs before.regs = subst
+    (WritesCells w.classes Card e.store.register e.store.cells before.regs) still a.regs in
     let r = store-rests w.classes e.store.register e.store.cells before.regs writes in
     record {
       stored = r.stored;
@@ -273,13 +301,15 @@ operation-falls-on-card w is are limit m place op greater lesser after o sound k
     let fits : Suits w.classes lesser d =
     suits w is lesser k op (sound-known w m place op sound) (asked-falls w are limit op Card greater lesser after o below no_top no_bottom a) in
     applies-falls w are limit op Card greater lesser after o below no_top no_bottom a Card
-    (store-card w.classes are lesser.regs greater.regs after.regs d.store.register e.store.register d.store.cells e.store.cells less.register less.cells fits.stored k.regs below.regs a.regs)
+    (store-card w.classes are lesser.regs greater.regs after.regs d.store.register e.store.register d.store.cells e.store.cells less.register less.cells
+    fits.stored k.regs below.regs a.regs)
 
 pub rule-falls-on-card : (w : Linked) → IsWorld w → IsOrderOfTypes w.classes → OperationsAreSound w → RuleFallsOnCard w
 rule-falls-on-card w is are sound site i greater lesser after o k below no_top no_bottom a =
     let r = a.rule in
     let falls : OperationFallsTo w a.method.max_stack r.operation Card lesser after =
-    operation-falls-on-card w is are a.method.max_stack a.method site.place r.operation greater lesser after o (site-sound w is sound a) k below no_top no_bottom r.does in
+    operation-falls-on-card w is are a.method.max_stack a.method site.place r.operation greater lesser after o (site-sound w is sound a) k below no_top
+    no_bottom r.does in
     record {
       below = falls.below;
       outcome = falls.outcome;

@@ -1,5 +1,6 @@
 -- A want and a demand are decided.
-use Rattle.std.proofs.Common.{◌≡◌, ℕ, ◌+◌, ◌-◌, ◌≤◌, ◌⊎◌, inl, inr, Bool, true, false, not, ◌&&◌, ◌||◌, ◌==◌, nat_le, MatchBool, length, Option, Some, None, IsSomeAnd, slice_get, refl, arith}
+use Rattle.std.proofs.Common.{◌≡◌, ℕ, ◌+◌, ◌-◌, ◌≤◌, ◌⊎◌, inl, inr, Bool, true, false, not, ◌&&◌, ◌||◌, ◌==◌, nat_le}
+use Rattle.std.proofs.Common.{MatchBool, length, Option, Some, None, IsSomeAnd, slice_get, refl, arith}
 use Rattle.std.proofs.lemmas.Bool.Decides.{nat_tests}
 use Rattle.jc_base.specs.declared.ty.Ty.{Ty}
 use Rattle.jc_base.specs.declared.ty.Ty.TheVariants.{Bottom, Short, IntHigh, IntLow, Null, Class, ArrBool, ArrByte, ArrShort, ArrInt, ArrRef, Fresh, Top}
@@ -11,7 +12,8 @@ use Rattle.jc_ops.specs.declared.want.Want.{Want}
 use Rattle.jc_ops.specs.declared.want.Want.TheVariants.{Value, Storable, ByteArray, AnyArray, Whole, Receiver}
 use Rattle.jc_rules.specs.declared.demand.Demand.{Demand}
 use Rattle.jc_rules.specs.declared.demand.Demand.TheVariants.{Registers, Depth, Cell, Cut, Held}
-use Rattle.jc_rules.specs.Demand.{Frame, IsArrayOrNull, IsHalf, IsFreshOf, Meets, Splits, Satisfies, is_array_or_null, is_half, is_fresh_of, meets, is_low, is_high, met_at, satisfies, AreDecided}
+use Rattle.jc_rules.specs.Demand.{Frame, IsArrayOrNull, IsHalf, IsFreshOf, Meets, Splits, Satisfies, is_array_or_null, is_half, is_fresh_of, meets, is_low}
+use Rattle.jc_rules.specs.Demand.{is_high, met_at, satisfies, AreDecided}
 
 either : (a b : Bool) (P Q : Type 0) → MatchBool a P (¬ P) → MatchBool b Q (¬ Q) → MatchBool (a || b) (P ⊎ Q) (¬ (P ⊎ Q))
 either true b P Q p q = inl p
@@ -133,10 +135,14 @@ module _ (t : ClassTable) (are : IsOrderOfTypes t) where
   want-decided : (want : Want) (found : Ty) → MatchBool (meets t want found) (Meets t want found) (¬ (Meets t want found))
   want-decided (Value wanted) found = below-decided found wanted
   want-decided Storable found = below-decided found (Class (object t))
-  want-decided ByteArray found = either (is_below t found ArrByte) (is_below t found ArrBool) (Below t found ArrByte) (Below t found ArrBool) (below-decided found ArrByte) (below-decided found ArrBool)
+  want-decided ByteArray found =
+      either (is_below t found ArrByte) (is_below t found ArrBool) (Below t found ArrByte) (Below t found ArrBool) (below-decided found ArrByte)
+      (below-decided found ArrBool)
   want-decided AnyArray found = array-decided found
   want-decided Whole found = negated (is_half found) (IsHalf found) (half-decided found)
-  want-decided (Receiver c) found = either (is_fresh_of c found) (is_below t found (Class c)) (IsFreshOf c found) (Below t found (Class c)) (fresh-decided c found) (below-decided found (Class c))
+  want-decided (Receiver c) found =
+      either (is_fresh_of c found) (is_below t found (Class c)) (IsFreshOf c found) (Below t found (Class c)) (fresh-decided c found)
+      (below-decided found (Class c))
 
   met-decided : (want : Want) (o : Option Ty) → MatchBool (met_at t want o) (IsSomeAnd o (Meets t want)) (¬ (IsSomeAnd o (Meets t want)))
   met-decided want None = λ h. h
@@ -148,7 +154,8 @@ module _ (t : ClassTable) (are : IsOrderOfTypes t) where
   demand-decided f (Cell n want) = met-decided want (slice_get f.stack n)
   demand-decided f (Cut n) =
       negated (is_low (slice_get f.stack (n - 1)) && is_high (slice_get f.stack n)) (Splits f.stack n)
-      (both (is_low (slice_get f.stack (n - 1))) (is_high (slice_get f.stack n)) (slice_get f.stack (n - 1) ≡ Some IntLow) (slice_get f.stack n ≡ Some IntHigh)
+      (both (is_low (slice_get f.stack (n - 1))) (is_high (slice_get f.stack n)) (slice_get f.stack (n - 1) ≡ Some IntLow)
+      (slice_get f.stack n ≡ Some IntHigh)
       (low-decided (slice_get f.stack (n - 1))) (high-decided (slice_get f.stack n)))
   demand-decided f (Held x ty) = met-decided (Value ty) (slice_get f.regs x)
 

@@ -28,7 +28,8 @@ breaks-not : (t : ClassTable) (f : Frame) {ds : List Demand} {fault : RuleFault}
 breaks-not t f (here n e) all = n all.0
 breaks-not t f (later h b) all = breaks-not t f b all.1
 
-breaks-unique : (t : ClassTable) (f : Frame) {ds : List Demand} {fault other : RuleFault} → IsFirstUnmet t f ds fault → IsFirstUnmet t f ds other → fault ≡ other
+breaks-unique : (t : ClassTable) (f : Frame) {ds : List Demand} {fault other : RuleFault} → IsFirstUnmet t f ds fault → IsFirstUnmet t f ds other
+    → fault ≡ other
 breaks-unique t f (here n e) (here m d) = e ∙ sym d
 breaks-unique t f (here n e) (later h b) = absurd (n h)
 breaks-unique t f (later h b) (here n e) = absurd (n h)
@@ -47,9 +48,11 @@ module _ (t : ClassTable) (are : IsOrderOfTypes t) (mode : Mode) where
   stored-unique Flow held ty a b e f = e ∙ sym f
   stored-unique Card held ty a b j k = are.one_join j k
 
-  writes-unique : {x : ℕ} {ty : Ty} {regs others f g : List Ty} → regs ≡ others → WritesRegister t mode x ty regs f → WritesRegister t mode x ty others g → f ≡ g
+  writes-unique : {x : ℕ} {ty : Ty} {regs others f g : List Ty} → regs ≡ others → WritesRegister t mode x ty regs f
+      → WritesRegister t mode x ty others g → f ≡ g
   writes-unique {x} {ty} {regs} {others} {f} {g} e u v =
-      let value : u.value ≡ v.value = stored-unique mode (reg regs x) ty u.value v.value u.stored (subst (λ rs. IsStoredOver t mode (reg rs x) ty v.value) (sym e) v.stored) in
+      let value : u.value ≡ v.value = stored-unique mode (reg regs x) ty u.value v.value u.stored
+      (subst (λ rs. IsStoredOver t mode (reg rs x) ty v.value) (sym e) v.stored) in
       u.after_is ∙ ap (slice_set regs x) value ∙ ap (λ rs. slice_set rs x v.value) e ∙ sym v.after_is
 
   cells-unique : (x : ℕ) (cells : Cells) (regs f g : List Ty) → WritesCells t mode x cells regs f → WritesCells t mode x cells regs g → f ≡ g
@@ -107,28 +110,39 @@ operation-decides w are limit op mode before = record {
 
 module _ (w : Linked) (are : IsOrderOfTypes w.classes) (decided : OperationsAreDecided w) (site : Site) (i : Insn) (mode : Mode) (before : Frame) where
   -- the rule by the other's method and operation
-  same-rule : {f g : Frame} {o p : Outcome} → (a : Applies w site i mode before f o) → (b : Applies w site i mode before g p) → OperationApplies w a.method.max_stack a.rule.operation mode before g p
+  same-rule : {f g : Frame} {o p : Outcome} → (a : Applies w site i mode before f o) → (b : Applies w site i mode before g p)
+      → OperationApplies w a.method.max_stack a.rule.operation mode before g p
   same-rule {g = g} {p = p} a b =
       let method : b.method ≡ a.method = same_Some _ _ (sym b.is_method ∙ a.is_method) in
       let op : b.rule.operation ≡ a.rule.operation =
-      ok-same (decided a.method site.place i (Ok b.rule.operation) (Ok a.rule.operation) (subst (λ m. Resolves w m site.place i (Ok b.rule.operation)) method b.rule.resolves) a.rule.resolves) in
+      ok-same
+      (decided a.method site.place i (Ok b.rule.operation) (Ok a.rule.operation)
+      (subst (λ m. Resolves w m site.place i (Ok b.rule.operation)) method b.rule.resolves) a.rule.resolves) in
       subst (λ x. OperationApplies w a.method.max_stack x mode before g p) op
       (subst (λ (m : MethodRec). OperationApplies w m.max_stack b.rule.operation mode before g p) method b.rule.does)
 
   -- the refusal by the other's method
-  same-refusal : {m : MethodRec} {fault : RuleFault} → slice_get w.methods site.method ≡ Some m → (r : Refuses w site i before fault) → RuleRefuses w m site.place i before fault
-  same-refusal {m = m} {fault = fault} e r = subst (λ (x : MethodRec). RuleRefuses w x site.place i before fault) (same_Some _ _ (sym r.is_method ∙ e)) r.rule
+  same-refusal : {m : MethodRec} {fault : RuleFault} → slice_get w.methods site.method ≡ Some m → (r : Refuses w site i before fault)
+      → RuleRefuses w m site.place i before fault
+  same-refusal {m = m} {fault = fault} e r =
+      subst (λ (x : MethodRec). RuleRefuses w x site.place i before fault) (same_Some _ _ (sym r.is_method ∙ e)) r.rule
 
-  rules-refuse : (m : MethodRec) {fault other : RuleFault} → RuleRefuses w m site.place i before fault → RuleRefuses w m site.place i before other → fault ≡ other
+  rules-refuse : (m : MethodRec) {fault other : RuleFault} → RuleRefuses w m site.place i before fault → RuleRefuses w m site.place i before other
+      → fault ≡ other
   rules-refuse m {fault = fault} {other = other} (unresolved h) (unresolved g) = err-same (decided m site.place i (Err fault) (Err other) h g)
-  rules-refuse m {fault = fault} (unresolved h) (refused_by {op} g b) = let e : ◌≡◌ {A = Result Operation RuleFault} (Err fault) (Ok op) = decided m site.place i (Err fault) (Ok op) h g in absurd (cc)
-  rules-refuse m {other = other} (refused_by {op} h b) (unresolved g) = let e : ◌≡◌ {A = Result Operation RuleFault} (Err other) (Ok op) = decided m site.place i (Err other) (Ok op) g h in absurd (cc)
+  rules-refuse m {fault = fault} (unresolved h) (refused_by {op} g b) =
+      let e : ◌≡◌ {A = Result Operation RuleFault} (Err fault) (Ok op) = decided m site.place i (Err fault) (Ok op) h g in absurd (cc)
+  rules-refuse m {other = other} (refused_by {op} h b) (unresolved g) =
+      let e : ◌≡◌ {A = Result Operation RuleFault} (Err other) (Ok op) = decided m site.place i (Err other) (Ok op) g h in absurd (cc)
   rules-refuse m {other = other} (refused_by {op} h b) (refused_by {op = another} g c) =
       faults-agree w are m.max_stack op mode before b
       (subst (λ x. OperationRefuses w m.max_stack x before other) (ok-same (decided m site.place i (Ok another) (Ok op) g h)) c)
 
-  rules-not-both : (m : MethodRec) {f : Frame} {o : Outcome} {fault : RuleFault} → RuleApplies w m site.place i mode before f o → RuleRefuses w m site.place i before fault → ⊥
-  rules-not-both m {fault = fault} a (unresolved h) = let e : ◌≡◌ {A = Result Operation RuleFault} (Err fault) (Ok a.operation) = decided m site.place i (Err fault) (Ok a.operation) h a.resolves in absurd (cc)
+  rules-not-both : (m : MethodRec) {f : Frame} {o : Outcome} {fault : RuleFault} → RuleApplies w m site.place i mode before f o
+      → RuleRefuses w m site.place i before fault → ⊥
+  rules-not-both m {fault = fault} a (unresolved h) =
+      let e : ◌≡◌ {A = Result Operation RuleFault} (Err fault) (Ok a.operation) = decided m site.place i (Err fault) (Ok a.operation) h a.resolves in
+      absurd (cc)
   rules-not-both m {fault = fault} a (refused_by {op} h b) =
       not-both w are m.max_stack a.operation mode before a.does
       (subst (λ x. OperationRefuses w m.max_stack x before fault) (ok-same (decided m site.place i (Ok op) (Ok a.operation) h a.resolves)) b)
@@ -136,7 +150,11 @@ module _ (w : Linked) (are : IsOrderOfTypes w.classes) (decided : OperationsAreD
 pub rule-decides : (w : Linked) → IsOrderOfTypes w.classes → OperationsAreDecided w → RuleDecides w
 rule-decides w are decided site i mode before = record {
   one = λ {f} {g} {o} {p} a b. frames-agree w are a.method.max_stack a.rule.operation mode before a.rule.does (same-rule w are decided site i mode before a b);
-  one_outcome = λ {f} {g} {o} {p} a b. outcomes-agree w are a.method.max_stack a.rule.operation mode before a.rule.does (same-rule w are decided site i mode before a b);
-  one_fault = λ {fault} {other} r s. rules-refuse w are decided site i mode before r.method r.rule (same-refusal w are decided site i mode before r.is_method s);
-  never_both = λ {f} {o} {fault} a r. rules-not-both w are decided site i mode before a.method a.rule (same-refusal w are decided site i mode before a.is_method r);
+  one_outcome =
+      λ {f} {g} {o} {p} a b. outcomes-agree w are a.method.max_stack a.rule.operation mode before a.rule.does
+      (same-rule w are decided site i mode before a b);
+  one_fault =
+      λ {fault} {other} r s. rules-refuse w are decided site i mode before r.method r.rule (same-refusal w are decided site i mode before r.is_method s);
+  never_both =
+      λ {f} {o} {fault} a r. rules-not-both w are decided site i mode before a.method a.rule (same-refusal w are decided site i mode before a.is_method r);
 }

@@ -1,5 +1,6 @@
 -- Lemmas on lists of demands, met one after another.
-use Rattle.std.proofs.Common.{◌≡◌, ℕ, ◌+◌, ◌<◌, List, [], ◌∷◌, ◌++◌, ◌-◌, ◌∙◌, ap, reverse, zero, suc, ◌≤◌, length, get_or, drop, subst, sym, arith, Result, Ok, Err, MatchResult, Option, Some, IsSomeAnd}
+use Rattle.std.proofs.Common.{◌≡◌, ℕ, ◌+◌, ◌<◌, List, [], ◌∷◌, ◌++◌, ◌-◌, ◌∙◌, ap, reverse, zero, suc, ◌≤◌, length}
+use Rattle.std.proofs.Common.{get_or, drop, subst, sym, arith, Result, Ok, Err, MatchResult, Option, Some, IsSomeAnd}
 use Rattle.std.proofs.lemmas.List.{drop_more, drop_all, length-reverse, get_or-reverse}
 use Rattle.jc_base.specs.declared.ty.Ty.{Ty}
 use Rattle.jc_base.specs.Class.{ClassTable}
@@ -24,7 +25,8 @@ abbrev pub CarriesAll : ClassTable → Frame → List Demand → ℕ → Type 0
 CarriesAll t f ds i = SatisfiesAll t f (drop i ds) → SatisfiesAll t f ds
 
 module _ (t : ClassTable) (f : Frame) (ds : List Demand) (i : ℕ) (d : Demand) (inside : i < length ds) where
-  pub IsFirstUnmet-at : (fault : RuleFault) → Carries t f ds i → (¬ (Satisfies t f (get_or ds i d))) × (fault ≡ demand_fault t f (get_or ds i d)) → IsFirstUnmet t f ds fault
+  pub IsFirstUnmet-at : (fault : RuleFault) → Carries t f ds i → (¬ (Satisfies t f (get_or ds i d))) × (fault ≡ demand_fault t f (get_or ds i d))
+      → IsFirstUnmet t f ds fault
   IsFirstUnmet-at fault carries b = carries fault (subst (λ es. IsFirstUnmet t f es fault) (sym (drop_more ds i d inside)) (here b.0 b.1))
 
   pub Carries-more : Carries t f ds i → Satisfies t f (get_or ds i d) → Carries t f ds (i + 1)
@@ -42,7 +44,8 @@ Known-at t (e ∷ ds) zero d h known = known.0
 Known-at t (e ∷ ds) (suc i) d h known = Known-at t ds i d (omega arith) known.1
 
 -- a demand that is met goes before others
-pub judged-later : (t : ClassTable) (f : Frame) (d : Demand) (ds : List Demand) (r : Result (Unit {0}) RuleFault) → Satisfies t f d → MatchResult r (λ _. SatisfiesAll t f ds) (IsFirstUnmet t f ds) → MatchResult r (λ _. SatisfiesAll t f (d ∷ ds)) (IsFirstUnmet t f (d ∷ ds))
+pub judged-later : (t : ClassTable) (f : Frame) (d : Demand) (ds : List Demand) (r : Result (Unit {0}) RuleFault) → Satisfies t f d
+    → MatchResult r (λ _. SatisfiesAll t f ds) (IsFirstUnmet t f ds) → MatchResult r (λ _. SatisfiesAll t f (d ∷ ds)) (IsFirstUnmet t f (d ∷ ds))
 judged-later t f d ds (Ok u) h all = (h, all)
 judged-later t f d ds (Err fault) h b = later h b
 
@@ -51,16 +54,19 @@ pub SatisfiesAll-append : (t : ClassTable) (f : Frame) (ds es : List Demand) →
 SatisfiesAll-append t f [] es h k = k
 SatisfiesAll-append t f (d ∷ ds) es h k = (h.0, SatisfiesAll-append t f ds es h.1 k)
 
-pub IsFirstUnmet-front : (t : ClassTable) (f : Frame) (ds es : List Demand) (fault : RuleFault) → IsFirstUnmet t f ds fault → IsFirstUnmet t f (ds ++ es) fault
+pub IsFirstUnmet-front : (t : ClassTable) (f : Frame) (ds es : List Demand) (fault : RuleFault) → IsFirstUnmet t f ds fault
+    → IsFirstUnmet t f (ds ++ es) fault
 IsFirstUnmet-front t f [] es fault b = elim b [ ]
 IsFirstUnmet-front t f (d ∷ ds) es fault (here no_d is) = here no_d is
 IsFirstUnmet-front t f (d ∷ ds) es fault (later h b) = later h (IsFirstUnmet-front t f ds es fault b)
 
-pub IsFirstUnmet-farther : (t : ClassTable) (f : Frame) (ds es : List Demand) (fault : RuleFault) → SatisfiesAll t f ds → IsFirstUnmet t f es fault → IsFirstUnmet t f (ds ++ es) fault
+pub IsFirstUnmet-farther : (t : ClassTable) (f : Frame) (ds es : List Demand) (fault : RuleFault) → SatisfiesAll t f ds → IsFirstUnmet t f es fault
+    → IsFirstUnmet t f (ds ++ es) fault
 IsFirstUnmet-farther t f [] es fault h b = b
 IsFirstUnmet-farther t f (d ∷ ds) es fault h b = later h.0 (IsFirstUnmet-farther t f ds es fault h.1 b)
 
-pub judged-farther : (t : ClassTable) (f : Frame) (ds es : List Demand) (r : Result (Unit {0}) RuleFault) → SatisfiesAll t f ds → MatchResult r (λ _. SatisfiesAll t f es) (IsFirstUnmet t f es) → MatchResult r (λ _. SatisfiesAll t f (ds ++ es)) (IsFirstUnmet t f (ds ++ es))
+pub judged-farther : (t : ClassTable) (f : Frame) (ds es : List Demand) (r : Result (Unit {0}) RuleFault) → SatisfiesAll t f ds
+    → MatchResult r (λ _. SatisfiesAll t f es) (IsFirstUnmet t f es) → MatchResult r (λ _. SatisfiesAll t f (ds ++ es)) (IsFirstUnmet t f (ds ++ es))
 judged-farther t f ds es (Ok u) h k = SatisfiesAll-append t f ds es h k
 judged-farther t f ds es (Err fault) h b = IsFirstUnmet-farther t f ds es fault h b
 
@@ -73,12 +79,14 @@ pub Wanted-start : (t : ClassTable) (f : Frame) (tys : List Ty) → Wanted t f t
 Wanted-start t f tys = record { all = λ h. h; breaks = λ fault b. b }
 
 module _ (t : ClassTable) (f : Frame) (args : List Ty) (n : ℕ) (d : Ty) (inside : n < length args) where
-  wanted-step : cells_wanted n (drop n (reverse args)) ≡ Cell n (Value (get_or args (length args - 1 - n) d)) ∷ cells_wanted (n + 1) (drop (n + 1) (reverse args))
+  wanted-step : cells_wanted n (drop n (reverse args)) ≡ Cell n (Value (get_or args (length args - 1 - n) d)) ∷ cells_wanted (n + 1)
+      (drop (n + 1) (reverse args))
   wanted-step =
       ap (cells_wanted n) (drop_more (reverse args) n d (subst (λ k. n < k) (sym (length-reverse args)) inside))
       ∙ ap (λ ty. Cell n (Value ty) ∷ cells_wanted (n + 1) (drop (n + 1) (reverse args))) (get_or-reverse args n d inside)
 
-  pub Wanted-breaks : (fault : RuleFault) → Wanted t f (reverse args) n → (¬ (Satisfies t f (Cell n (Value (get_or args (length args - 1 - n) d))))) × (fault ≡ demand_fault t f (Cell n (Value (get_or args (length args - 1 - n) d)))) → IsFirstUnmet t f (cells_wanted 0 (reverse args)) fault
+  pub Wanted-breaks : (fault : RuleFault) → Wanted t f (reverse args) n → (¬ (Satisfies t f (Cell n (Value (get_or args (length args - 1 - n) d)))))
+      × (fault ≡ demand_fault t f (Cell n (Value (get_or args (length args - 1 - n) d)))) → IsFirstUnmet t f (cells_wanted 0 (reverse args)) fault
   Wanted-breaks fault w b = w.breaks fault (subst (λ es. IsFirstUnmet t f es fault) (sym wanted-step) (here b.0 b.1))
 
   pub Wanted-more : Wanted t f (reverse args) n → Satisfies t f (Cell n (Value (get_or args (length args - 1 - n) d))) → Wanted t f (reverse args) (n + 1)
@@ -87,8 +95,10 @@ module _ (t : ClassTable) (f : Frame) (args : List Ty) (n : ℕ) (d : Ty) (insid
     breaks = λ fault b. w.breaks fault (subst (λ es. IsFirstUnmet t f es fault) (sym wanted-step) (later h b));
   }
 
-pub Wanted-end : (t : ClassTable) (f : Frame) (args : List Ty) (n : ℕ) → length args ≤ n → Wanted t f (reverse args) n → SatisfiesAll t f (cells_wanted 0 (reverse args))
-Wanted-end t f args n h w = w.all (subst (λ es. SatisfiesAll t f (cells_wanted n es)) (sym (drop_all n (reverse args) (subst (λ k. k ≤ n) (sym (length-reverse args)) h))) tt)
+pub Wanted-end : (t : ClassTable) (f : Frame) (args : List Ty) (n : ℕ) → length args ≤ n → Wanted t f (reverse args) n
+    → SatisfiesAll t f (cells_wanted 0 (reverse args))
+Wanted-end t f args n h w =
+    w.all (subst (λ es. SatisfiesAll t f (cells_wanted n es)) (sym (drop_all n (reverse args) (subst (λ k. k ≤ n) (sym (length-reverse args)) h))) tt)
 
 pub SatisfiesAll-front : (t : ClassTable) (f : Frame) (ds es : List Demand) → SatisfiesAll t f (ds ++ es) → SatisfiesAll t f ds
 SatisfiesAll-front t f [] es h = tt

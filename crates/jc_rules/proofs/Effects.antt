@@ -1,5 +1,7 @@
 -- What an instruction asks suffices for what it does: the cells and registers are there, and what it gives is known.
-use Rattle.std.proofs.Common.{◌≡◌, ℕ, zero, suc, ◌+◌, ◌-◌, ◌<◌, ◌≤◌, List, [], ◌∷◌, ◌++◌, length, take, drop, map, reverse, get_or, Option, Some, None, IsSomeAnd, IfSome, slice_get, All, refl, sym, subst, arith, cond, Bool, true, false, ◌==◌, if◌then◌else◌, length-append, length-take, length-drop}
+use Rattle.std.proofs.Common.{◌≡◌, ℕ, zero, suc, ◌+◌, ◌-◌, ◌<◌, ◌≤◌, List, [], ◌∷◌, ◌++◌, length, take, drop, map, reverse}
+use Rattle.std.proofs.Common.{get_or, Option, Some, None, IsSomeAnd, IfSome, slice_get, All, refl, sym, subst, arith, cond, Bool, true, false, ◌==◌}
+use Rattle.std.proofs.Common.{if◌then◌else◌, length-append, length-take, length-drop}
 use Rattle.std.specs.Bool.{⊤}
 use Rattle.std.proofs.lemmas.List.{length-map, length-reverse}
 use Rattle.std.proofs.lemmas.List.Elements.{All-append, All-take, All-drop, All-map, All-get_or}
@@ -46,7 +48,12 @@ use Rattle.jc_rules.specs.declared.effect.Change.TheVariants.{Replace, CopyUnder
 use Rattle.jc_rules.specs.declared.effect.Effect.{Effect}
 use Rattle.jc_rules.specs.Effect.{in_stack_order, ready, changed, cells_needed, depth_after, reg}
 use Rattle.jc_rules.specs.Demand.{Frame, Meets, SatisfiesAll, AreKnown}
-use Rattle.jc_rules.specs.Rule.{cell, number, two_numbers, size, number_given, value_given, value_wanted, value_size, on_stack, replacing, storing, constant_effect, load_demands, load_effect, or_null, store_demands, store_effect, increment_demands, increment_effect, move_demands, move_effect, arithmetic_demands, arithmetic_effect, element, array_read_demands, array_read_effect, array_write_demands, array_write_effect, branch_demands, branch_effect, field_read_demands, field_read_effect, field_write_demands, field_write_effect, cells_wanted, call_demands, call_effect, ready_with, result_given, args_at, result_at, seen, type_test_effect, array_wanted, a_reference, return_demands, return_effect, demands, effect}
+use Rattle.jc_rules.specs.Rule.{cell, number, two_numbers, size, number_given, value_given, value_wanted, value_size, on_stack, replacing, storing}
+use Rattle.jc_rules.specs.Rule.{constant_effect, load_demands, load_effect, or_null, store_demands, store_effect, increment_demands, increment_effect}
+use Rattle.jc_rules.specs.Rule.{move_demands, move_effect, arithmetic_demands, arithmetic_effect, element, array_read_demands, array_read_effect}
+use Rattle.jc_rules.specs.Rule.{array_write_demands, array_write_effect, branch_demands, branch_effect, field_read_demands, field_read_effect}
+use Rattle.jc_rules.specs.Rule.{field_write_demands, field_write_effect, cells_wanted, call_demands, call_effect, ready_with, result_given, args_at, result_at}
+use Rattle.jc_rules.specs.Rule.{seen, type_test_effect, array_wanted, a_reference, return_demands, return_effect, demands, effect}
 use Rattle.jc_rules.specs.Known.{IsValue, IsKnownCallee, IsKnownOperation}
 use Rattle.jc_rules.specs.Flow.{IsNotFresh, IsNotTop}
 use Rattle.jc_rules.specs.Laws.{IsNotBottom}
@@ -153,12 +160,14 @@ ready-known t place class (ArrRef c) h k = k
 ready-known t place class Top h k = k
 
 pub changed-known : (t : ClassTable) (c : Change) (s : List Ty) → ChangeKnown t c → All (IsKnown t) s → All (IsKnown t) (changed c s)
-changed-known t (Replace taken cells) s k all = All-append (IsKnown t) (in_stack_order cells) (drop taken s) (cells-known t cells k) (All-drop (IsKnown t) taken s all)
+changed-known t (Replace taken cells) s k all =
+    All-append (IsKnown t) (in_stack_order cells) (drop taken s) (cells-known t cells k) (All-drop (IsKnown t) taken s all)
 changed-known t (CopyUnder copied under) s k all =
     All-append (IsKnown t) (take under s) (take copied s ++ drop under s) (All-take (IsKnown t) under s all)
     (All-append (IsKnown t) (take copied s) (drop under s) (All-take (IsKnown t) copied s all) (All-drop (IsKnown t) under s all))
 changed-known t (Exchange top under) s k all =
-    All-append (IsKnown t) (take under (drop top s)) (take top s ++ drop (top + under) s) (All-take (IsKnown t) under (drop top s) (All-drop (IsKnown t) top s all))
+    All-append (IsKnown t) (take under (drop top s)) (take top s ++ drop (top + under) s)
+    (All-take (IsKnown t) under (drop top s) (All-drop (IsKnown t) top s all))
     (All-append (IsKnown t) (take top s) (drop (top + under) s) (All-take (IsKnown t) top s all) (All-drop (IsKnown t) (top + under) s all))
 changed-known t (MakeReady taken place class cells) s k all =
     All-append (IsKnown t) (in_stack_order cells) (map (ready place class) (drop taken s)) (cells-known t cells k.1)
@@ -196,7 +205,8 @@ ready-topless place class (ArrRef c) h = h
 ready-topless place class Top h = h
 
 -- what holds of values, and stays when objects are made ready, holds of the stack that is given
-module _ (t : ClassTable) (P : Ty → Type 0) (values : (ty : Ty) → IsValue ty → P ty) (readies : (place class : ℕ) (ty : Ty) → P ty → P (ready place class ty)) where
+module _ (t : ClassTable) (P : Ty → Type 0) (values : (ty : Ty) → IsValue ty → P ty)
+    (readies : (place class : ℕ) (ty : Ty) → P ty → P (ready place class ty)) where
   cells-each : (cells : Cells) → CellsKnown t cells → All P (in_stack_order cells)
   cells-each given.Nothing h k d lt = absurd (omega arith)
   cells-each (given.One ty) h zero d lt = values ty h.1
@@ -259,7 +269,8 @@ module _ (t : ClassTable) (f : Frame) where
   pub suits-replacing : (taken : ℕ) (cells : Cells) → taken ≤ length f.stack → CellsKnown t cells → Suits t f (replacing taken cells)
   suits-replacing taken cells h k = record { there = h; inside = omega arith; stored = tt; change = k }
 
-  pub suits-storing : (taken x : ℕ) (cells : Cells) → taken ≤ length f.stack → x + length (in_stack_order cells) ≤ length f.regs → CellsKept t cells → Suits t f (storing taken x cells)
+  pub suits-storing : (taken x : ℕ) (cells : Cells) → taken ≤ length f.stack → x + length (in_stack_order cells) ≤ length f.regs
+      → CellsKept t cells → Suits t f (storing taken x cells)
   suits-storing taken x cells h g k = record { there = h; inside = g; stored = k; change = tt }
 
   pub suits-on_stack : (c : Change) → cells_needed c ≤ length f.stack → ChangeKnown t c → Suits t f (on_stack c)
@@ -388,12 +399,18 @@ module _ (t : ClassTable) (f : Frame) where
     suits-constant (constants.Int n) = suits-replacing 0 given.Int (omega arith) tt
 
     suits-load : (s : Sort) (x : ℕ) → SatisfiesAll t f (load_demands t s x) → Suits t f (load_effect s x f)
-    suits-load sorts.Reference x h = let lt : x < length f.regs = omega (arith, h.0) in suits-replacing 0 (given.One (or_null (reg f.regs x))) (omega arith) (or_null-known (reg f.regs x) (reg-known x lt), or_null-full (reg f.regs x) (topless_class t (reg f.regs x) (some-or (λ ty. Below t ty (Class (object t))) f.regs x h.1.0)))
+    suits-load sorts.Reference x h =
+        let lt : x < length f.regs = omega (arith, h.0) in suits-replacing 0 (given.One (or_null (reg f.regs x))) (omega arith) (
+          or_null-known (reg f.regs x) (reg-known x lt),
+          or_null-full (reg f.regs x) (topless_class t (reg f.regs x) (some-or (λ ty. Below t ty (Class (object t))) f.regs x h.1.0)),
+        )
     suits-load sorts.Short x h = suits-replacing 0 (given.One Short) (omega arith) (tt, tt)
     suits-load sorts.Int x h = suits-replacing 0 given.Int (omega arith) tt
 
     suits-store : (s : Sort) (x : ℕ) → SatisfiesAll t f (store_demands s x) → Suits t f (store_effect s x f)
-    suits-store sorts.Reference x h = let there : 0 + 1 ≤ length f.stack = cell-there f.stack 0 (Meets t Storable) h.1.0 in suits-storing 1 x (given.One (cell f.stack 0)) (omega arith) h.0 (cell-known 0 (omega arith), plain_class t (cell f.stack 0) (some-or (λ ty. Below t ty (Class (object t))) f.stack 0 h.1.0))
+    suits-store sorts.Reference x h =
+        let there : 0 + 1 ≤ length f.stack = cell-there f.stack 0 (Meets t Storable) h.1.0 in suits-storing 1 x (given.One (cell f.stack 0)) (omega arith)
+        h.0 (cell-known 0 (omega arith), plain_class t (cell f.stack 0) (some-or (λ ty. Below t ty (Class (object t))) f.stack 0 h.1.0))
     suits-store sorts.Short x h = suits-storing 1 x (given.One Short) (cell-there f.stack 0 (Meets t (Value Short)) h.1.0) h.0 (tt, tt)
     suits-store sorts.Int x h = suits-storing 2 x given.Int (cell-there f.stack 1 (Meets t (Value IntHigh)) h.1.1.0) h.0 tt
 
@@ -404,7 +421,8 @@ module _ (t : ClassTable) (f : Frame) where
     suits-move : (m : Move) → SatisfiesAll t f (move_demands m) → Suits t f (move_effect m)
     suits-move moves.Pop h = suits-replacing 1 given.Nothing (cell-there f.stack 0 (Meets t Whole) h.0) tt
     suits-move moves.PopTwo h = suits-replacing 2 given.Nothing h.0 tt
-    suits-move moves.Duplicate h = let there : 0 + 1 ≤ length f.stack = cell-there f.stack 0 (Meets t Whole) h.0 in suits-on_stack (CopyUnder 1 0) (omega arith) tt
+    suits-move moves.Duplicate h =
+        let there : 0 + 1 ≤ length f.stack = cell-there f.stack 0 (Meets t Whole) h.0 in suits-on_stack (CopyUnder 1 0) (omega arith) tt
     suits-move moves.DuplicateTwo h = suits-on_stack (CopyUnder 2 0) (omega (arith, h.0)) tt
     suits-move (moves.CopyUnder p n) h = suits-on_stack (CopyUnder p n) (omega (arith, h.0, h.1.1.0)) tt
     suits-move (moves.Exchange p n) h = suits-on_stack (Exchange p n) h.1.1.0 tt
@@ -412,7 +430,8 @@ module _ (t : ClassTable) (f : Frame) where
     suits-arithmetic : (a : Arithmetic) → SatisfiesAll t f (arithmetic_demands a) → Suits t f (arithmetic_effect a)
     suits-arithmetic (arithmetic.Binary o widths.Short) h = suits-replacing 2 (given.One Short) (two-there widths.Short h) (tt, tt)
     suits-arithmetic (arithmetic.Binary o widths.Int) h = suits-replacing 4 given.Int (two-there widths.Int h) tt
-    suits-arithmetic (arithmetic.Negate w) h = let there : 0 + size w ≤ length f.stack = number-there w 0 h in suits-replacing (size w) (number_given w) (omega arith) (number-known w)
+    suits-arithmetic (arithmetic.Negate w) h =
+        let there : 0 + size w ≤ length f.stack = number-there w 0 h in suits-replacing (size w) (number_given w) (omega arith) (number-known w)
     suits-arithmetic arithmetic.ShortToByte h = suits-replacing 1 (given.One Short) (number-there widths.Short 0 h) (tt, tt)
     suits-arithmetic arithmetic.ShortToInt h = suits-replacing 1 given.Int (number-there widths.Short 0 h) tt
     suits-arithmetic arithmetic.IntToByte h = suits-replacing 2 (given.One Short) (number-there widths.Int 0 h) (tt, tt)
@@ -422,7 +441,10 @@ module _ (t : ClassTable) (f : Frame) where
     -- ---- objects
 
     suits-array_read : (kind : Kind) → SatisfiesAll t f (array_read_demands t kind) → Suits t f (array_read_effect kind f)
-    suits-array_read kinds.Ref h = let there : 1 + 1 ≤ length f.stack = cell-there f.stack 1 (Meets t (array_wanted t kinds.Ref)) h.1.0 in suits-replacing 2 (given.One (element (cell f.stack 1))) there (element-known (cell f.stack 1) (cell-known 1 (omega arith)), element-full (cell f.stack 1))
+    suits-array_read kinds.Ref h =
+        let there : 1 + 1 ≤ length f.stack = cell-there f.stack 1 (Meets t (array_wanted t kinds.Ref)) h.1.0 in
+        suits-replacing 2 (given.One (element (cell f.stack 1))) there
+        (element-known (cell f.stack 1) (cell-known 1 (omega arith)), element-full (cell f.stack 1))
     suits-array_read kinds.Byte h = suits-replacing 2 (given.One Short) (cell-there f.stack 1 (Meets t (array_wanted t kinds.Byte)) h.1.0) (tt, tt)
     suits-array_read kinds.Short h = suits-replacing 2 (given.One Short) (cell-there f.stack 1 (Meets t (array_wanted t kinds.Short)) h.1.0) (tt, tt)
     suits-array_read kinds.Int h = suits-replacing 2 given.Int (cell-there f.stack 1 (Meets t (array_wanted t kinds.Int)) h.1.0) tt
@@ -440,12 +462,16 @@ module _ (t : ClassTable) (f : Frame) where
     suits-branch (branches.References e) h = suits-replacing 2 given.Nothing (cell-there f.stack 1 (Meets t (a_reference t)) h.1.0) tt
     suits-branch (branches.Shorts o) h = suits-replacing 2 given.Nothing (two-there widths.Short h) tt
 
-    suits-read : (h : Holder) (c : ℕ) (ty : Ty) → IsKnown t ty × IsValue ty → SatisfiesAll t f (field_read_demands h c) → Suits t f (field_read_effect h ty)
+    suits-read : (h : Holder) (c : ℕ) (ty : Ty) → IsKnown t ty × IsValue ty → SatisfiesAll t f (field_read_demands h c)
+        → Suits t f (field_read_effect h ty)
     suits-read holders.Stack c ty known h = suits-replacing 1 (value_given ty) (cell-there f.stack 0 (Meets t (Value (Class c))) h.0) (value-known ty known)
     suits-read holders.This c ty known h = suits-replacing 0 (value_given ty) (omega arith) (value-known ty known)
 
     suits-write : (h : Holder) (c : ℕ) (ty : Ty) → SatisfiesAll t f (field_write_demands h c ty) → Suits t f (field_write_effect h ty)
-    suits-write holders.Stack c ty h = suits-replacing (value_size ty + 1) given.Nothing (cell-there f.stack (value_size ty) (Meets t (Value (Class c))) (SatisfiesAll-rest t f (value_wanted ty) (Cell (value_size ty) (Value (Class c)) ∷ []) h).0) tt
+    suits-write holders.Stack c ty h =
+        suits-replacing (value_size ty + 1) given.Nothing
+        (cell-there f.stack (value_size ty) (Meets t (Value (Class c)))
+        (SatisfiesAll-rest t f (value_wanted ty) (Cell (value_size ty) (Value (Class c)) ∷ []) h).0) tt
     suits-write holders.This c ty h = suits-replacing (value_size ty) given.Nothing (value-there (Held 0 (Class c) ∷ []) ty h.1) tt
 
     suits-test : (test : TypeTest) (ty : Ty) → IsKnown t ty × IsValue ty → 0 + 1 ≤ length f.stack → Suits t f (type_test_effect test ty)
@@ -465,14 +491,16 @@ module _ (t : ClassTable) (f : Frame) where
 
     arguments-there : (args : List Ty) (ds : List Demand) → SatisfiesAll t f (cells_wanted 0 (reverse args) ++ ds) → length args ≤ length f.stack
     arguments-there args ds h =
-        let there : 0 + length (reverse args) ≤ length f.stack = cells-there 0 (reverse args) (omega arith) (SatisfiesAll-front t f (cells_wanted 0 (reverse args)) ds h) in
+        let there : 0 + length (reverse args) ≤ length f.stack = cells-there 0 (reverse args) (omega arith)
+        (SatisfiesAll-front t f (cells_wanted 0 (reverse args)) ds h) in
         omega (arith, length-reverse args)
 
     result-known : (o : Option Ty) → IfSome o (λ ty. IsKnown t ty × IsValue ty) → CellsKnown t (result_given o)
     result-known None k = tt
     result-known (Some ty) k = value-known ty k
 
-    suits-ready : (taken : ℕ) (cells : Cells) (found : Ty) (want : Want) → taken ≤ length f.stack → CellsKnown t cells → IsKnownWant t want → Suits t f (on_stack (ready_with taken cells found want))
+    suits-ready : (taken : ℕ) (cells : Cells) (found : Ty) (want : Want) → taken ≤ length f.stack → CellsKnown t cells → IsKnownWant t want
+        → Suits t f (on_stack (ready_with taken cells found want))
     suits-ready taken cells (Fresh p c) (Receiver d) le known w = suits-on_stack (MakeReady taken p d cells) le (w, known)
     suits-ready taken cells (Fresh p c) (Value ty) le known w = suits-on_stack (Replace taken cells) le known
     suits-ready taken cells (Fresh p c) Storable le known w = suits-on_stack (Replace taken cells) le known
@@ -492,7 +520,8 @@ module _ (t : ClassTable) (f : Frame) where
     suits-ready taken cells (ArrRef c) want le known w = suits-on_stack (Replace taken cells) le known
     suits-ready taken cells Top want le known w = suits-on_stack (Replace taken cells) le known
 
-    suits-call : (args : List Ty) (result : Option Ty) (receiver : Option Want) → IfSome result (λ ty. IsKnown t ty × IsValue ty) → IfSome receiver (IsKnownWant t) → SatisfiesAll t f (call_demands args receiver) → Suits t f (call_effect args result receiver f)
+    suits-call : (args : List Ty) (result : Option Ty) (receiver : Option Want) → IfSome result (λ ty. IsKnown t ty × IsValue ty)
+        → IfSome receiver (IsKnownWant t) → SatisfiesAll t f (call_demands args receiver) → Suits t f (call_effect args result receiver f)
     suits-call args result None known w h = suits-on_stack (Replace (length args) (result_given result)) (arguments-there args [] h) (result-known result known)
     suits-call args result (Some want) known w h =
         suits-ready (length args + 1) (result_given result) (cell f.stack (length args)) want
@@ -516,7 +545,9 @@ declared-full t (ArrRef c) h = (h, tt)
 declared-full t (Fresh place c) h = absurd h
 declared-full t Top h = absurd h
 
-result-declared : (w : Linked) → IsWorld w → (o : Option MethodRec) → ((m : MethodRec) → o ≡ Some m → IfSome m.sig.result (λ ty. IsKnown w.classes ty × IsValue ty)) → IfSome (result_at o) (λ ty. IsKnown w.classes ty × IsValue ty)
+result-declared : (w : Linked) → IsWorld w → (o : Option MethodRec)
+    → ((m : MethodRec) → o ≡ Some m → IfSome m.sig.result (λ ty. IsKnown w.classes ty × IsValue ty))
+    → IfSome (result_at o) (λ ty. IsKnown w.classes ty × IsValue ty)
 result-declared w is None h = tt
 result-declared w is (Some m) h = h m refl
 
@@ -525,7 +556,9 @@ IfSome-full t None h = tt
 IfSome-full t (Some ty) h = declared-full t ty h
 
 method-result : (w : Linked) → IsWorld w → (n : ℕ) → IfSome (result_at (slice_get w.methods n)) (λ ty. IsKnown w.classes ty × IsValue ty)
-method-result w is n = result-declared w is (slice_get w.methods n) (λ m e. IfSome-full w.classes m.sig.result (All-slice_get (IsMethod w.infos w.pools w.classes) w.methods n m is.methods e).result)
+method-result w is n =
+    result-declared w is (slice_get w.methods n)
+    (λ m e. IfSome-full w.classes m.sig.result (All-slice_get (IsMethod w.infos w.pools w.classes) w.methods n m is.methods e).result)
 
 module _ (t : ClassTable) (objects : IsClass t (object t)) where
   standing-class : (c : ℕ) → c < length t.records → IsClass t (class_in_types t c)
@@ -585,20 +618,30 @@ module _ (w : Linked) (is : IsWorld w) (f : Frame) (k : AreKnown w.classes f) wh
   suits (ops.ArrayWrite kind) known all = suits-array_write w.classes f k kind all
   suits ops.ArrayLength known all = suits-replacing w.classes f 1 (given.One Short) (cell-there w.classes f f.stack 0 (Meets w.classes AnyArray) all.0) (tt, tt)
   suits (ops.Branch b) known all = suits-branch w.classes f k b all
-  suits (ops.Switch width) known all = let there : 0 + size width ≤ length f.stack = number-there w.classes f width 0 all in suits-replacing w.classes f (size width) given.Nothing (omega arith) tt
+  suits (ops.Switch width) known all =
+      let there : 0 + size width ≤ length f.stack = number-there w.classes f width 0 all in
+      suits-replacing w.classes f (size width) given.Nothing (omega arith) tt
   suits (ops.StaticRead field) known all = suits-replacing w.classes f 0 (value_given field.ty) (omega arith) (value-known w.classes f field.ty known)
   suits (ops.StaticWrite field) known all = suits-popped w.classes f k field.ty all
   suits (ops.FieldRead field h) known all = suits-read w.classes f k h field.class field.ty (known.1, known.2) all
   suits (ops.FieldWrite field h) known all = suits-write w.classes f k h field.class field.ty all
-  suits (ops.Call c) known all = suits-call w.classes f k (args_at (slice_get w.methods c.method)) (result_at (slice_get w.methods c.method)) c.receiver (method-result w is c.method) known.1 all
+  suits (ops.Call c) known all =
+      suits-call w.classes f k (args_at (slice_get w.methods c.method)) (result_at (slice_get w.methods c.method)) c.receiver (method-result w is c.method)
+      known.1 all
   suits (ops.New place c) known all = suits-replacing w.classes f 0 (given.One (Fresh place c)) (omega arith) (known, tt)
-  suits (ops.NewArray ty) known all = suits-replacing w.classes f 1 (given.One (seen w.classes ty)) (cell-there w.classes f f.stack 0 (Meets w.classes (Value Short)) all.0) (seen-known w.classes k.object ty known)
-  suits ops.Throw known all = suits-replacing w.classes f 1 given.Nothing (cell-there w.classes f f.stack 0 (Meets w.classes (Value (Class (throwable w.classes)))) all.0) tt
-  suits (ops.TypeTest test ty) known all = suits-test w.classes f k test (seen w.classes ty) (seen-known w.classes k.object ty known) (cell-there w.classes f f.stack 0 (Meets w.classes (a_reference w.classes)) all.0)
+  suits (ops.NewArray ty) known all =
+      suits-replacing w.classes f 1 (given.One (seen w.classes ty)) (cell-there w.classes f f.stack 0 (Meets w.classes (Value Short)) all.0)
+      (seen-known w.classes k.object ty known)
+  suits ops.Throw known all =
+      suits-replacing w.classes f 1 given.Nothing (cell-there w.classes f f.stack 0 (Meets w.classes (Value (Class (throwable w.classes)))) all.0) tt
+  suits (ops.TypeTest test ty) known all =
+      suits-test w.classes f k test (seen w.classes ty) (seen-known w.classes k.object ty known)
+      (cell-there w.classes f f.stack 0 (Meets w.classes (a_reference w.classes)) all.0)
   suits (ops.Return result) known all = suits-return result all
 
 -- what an operation stores where no cell is Bottom
-pub stored-full : (w : Linked) (f : Frame) (op : Operation) → SatisfiesAll w.classes f (demands w op) → All IsNotBottom f.stack → CellsFull (effect w op f).store.cells
+pub stored-full : (w : Linked) (f : Frame) (op : Operation) → SatisfiesAll w.classes f (demands w op) → All IsNotBottom f.stack
+    → CellsFull (effect w op f).store.cells
 stored-full w f (ops.Store sorts.Reference x) all full =
     let there : 0 + 1 ≤ length f.stack = cell-there w.classes f f.stack 0 (Meets w.classes Storable) all.1.0 in
     All-get_or IsNotBottom f.stack 0 Top (omega arith) full

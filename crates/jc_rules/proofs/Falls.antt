@@ -1,5 +1,6 @@
 -- A rule that applies to a frame applies in the dataflow to each lesser one, with a lesser result.
-use Rattle.std.proofs.Common.{◌≡◌, ℕ, zero, suc, ◌+◌, ◌-◌, ◌≤◌, true, false, inl, inr, List, [], ◌∷◌, ◌++◌, length, drop, map, reverse, get_or, set, Option, Some, None, IsSomeAnd, IfSome, slice_get, All, refl, sym, ◌∙◌, ap, subst}
+use Rattle.std.proofs.Common.{◌≡◌, ℕ, zero, suc, ◌+◌, ◌-◌, ◌≤◌, true, false, inl, inr, List, [], ◌∷◌, ◌++◌, length, drop, map}
+use Rattle.std.proofs.Common.{reverse, get_or, set, Option, Some, None, IsSomeAnd, IfSome, slice_get, All, refl, sym, ◌∙◌, ap, subst}
 use Rattle.std.specs.Bool.{⊤}
 use Rattle.jc_base.specs.declared.ty.Ty.{Ty}
 use Rattle.jc_base.specs.declared.ty.Ty.TheVariants.{Bottom, Short, IntHigh, IntLow, Null, Class, ArrBool, ArrByte, ArrShort, ArrInt, ArrRef, Fresh, Top}
@@ -7,7 +8,8 @@ use Rattle.jc_base.specs.declared.ty.Kind.{Kind}
 use Rattle.jc_base.specs.declared.ty.Kind.TheVariants as kinds
 use Rattle.jc_base.specs.Class.{ClassTable, object}
 use Rattle.jc_base.specs.Laws.{IsOrderOfTypes}
-use Rattle.jc_base.specs.Order.{Below, same, joined, nothing, anything, null_object, null_array, subclass, array_object, array_array, of_booleans, of_bytes, of_shorts, of_ints, of_references, is_below}
+use Rattle.jc_base.specs.Order.{Below, same, joined, nothing, anything, null_object, null_array, subclass, array_object, array_array, of_booleans, of_bytes}
+use Rattle.jc_base.specs.Order.{of_shorts, of_ints, of_references, is_below}
 use Rattle.jc_rules.proofs.Types.{below-computed, below-told}
 use Rattle.jc_base.specs.World.{Linked}
 use Rattle.jc_ops.specs.declared.operation.Sort.{Sort}
@@ -30,11 +32,13 @@ use Rattle.jc_rules.specs.declared.rule.Outcome.{Outcome}
 use Rattle.jc_rules.specs.Effect.{in_stack_order, ready, changed, reg, IsStoredOver, WritesRegister, WritesCells, StoresInRegisters, raises_register}
 use Rattle.jc_rules.specs.Demand.{Frame, IsArrayOrNull, IsHalf, IsFreshOf, Meets, Satisfies, SatisfiesAll}
 use Rattle.jc_ops.specs.Next.{falls_from, ends_at}
-use Rattle.jc_rules.specs.Rule.{cell, or_null, element, ready_with, call_demands, call_effect, cells_wanted, args_at, result_at, result_given, load_demands, load_effect, store_effect, array_read_demands, array_read_effect, wrote, demands, effect}
+use Rattle.jc_rules.specs.Rule.{cell, or_null, element, ready_with, call_demands, call_effect, cells_wanted, args_at, result_at, result_given, load_demands}
+use Rattle.jc_rules.specs.Rule.{load_effect, store_effect, array_read_demands, array_read_effect, wrote, demands, effect}
 use Rattle.jc_rules.specs.Flow.{CellsBelow, no_cells, more_cells, FrameBelow, IsNotTop, IsNotFresh}
 use Rattle.jc_rules.specs.Laws.{IsNotBottom, OperationFalls, OperationFallsTo, RuleFalls}
 use Rattle.jc_rules.specs.Apply.{OperationApplies}
-use Rattle.jc_rules.proofs.CellLists.{Each, each-from_All, each-at, PairAt, cells-at, cells-or, cells-length, cells-same, cells-append, cells-take, cells-drop, cells-set}
+use Rattle.jc_rules.proofs.CellLists.{Each, each-from_All, each-at, PairAt, cells-at, cells-or, cells-length, cells-same, cells-append, cells-take, cells-drop}
+use Rattle.jc_rules.proofs.CellLists.{cells-set}
 use Rattle.jc_rules.proofs.Demands.{SatisfiesAll-rest}
 
 -- ---- what lies below and above
@@ -219,7 +223,8 @@ plain_with taken cells want ArrInt h = refl
 plain_with taken cells want (ArrRef c) h = refl
 plain_with taken cells want Top h = refl
 
-plain_both : (taken : ℕ) (cells : Cells) (c : ℕ) (a b : Ty) → IsNotFresh a → IsNotFresh b → ready_with taken cells a (Receiver c) ≡ ready_with taken cells b (Receiver c)
+plain_both : (taken : ℕ) (cells : Cells) (c : ℕ) (a b : Ty) → IsNotFresh a → IsNotFresh b → ready_with taken cells a (Receiver c)
+    ≡ ready_with taken cells b (Receiver c)
 plain_both taken cells c a b h k = plain_with taken cells (Receiver c) a h ∙ sym (plain_with taken cells (Receiver c) b k)
 
 NotReceiver : Want → Type 0
@@ -343,7 +348,8 @@ bottom-least t are Top h = let e : false ≡ true = below-computed t are h in ab
 -- ---- demands
 
 module _ (t : ClassTable) where
-  cell-falls : (want : Want) (o p : Option Ty) → PairAt t o p → IfSome o IsNotBottom → IfSome p IsNotTop → IsSomeAnd p (Meets t want) → IsSomeAnd o (Meets t want)
+  cell-falls : (want : Want) (o p : Option Ty) → PairAt t o p → IfSome o IsNotBottom → IfSome p IsNotTop → IsSomeAnd p (Meets t want)
+      → IsSomeAnd o (Meets t want)
   unfolding PairAt
   cell-falls want (Some a) (Some b) x nb nt h = meets-falls t want a b x nb nt h
   cell-falls want None (Some b) x nb nt h = absurd x
@@ -370,11 +376,14 @@ module _ (t : ClassTable) where
   high-read None p x n e = absurd (cc)
 
   -- f is the lesser frame, g the greater
-  module _ (f g : Frame) (regs : CellsBelow t f.regs g.regs) (stack : CellsBelow t f.stack g.stack) (no_top : Each IsNotTop g.stack) (no_bottom : Each IsNotBottom f.stack) where
+  module _ (f g : Frame) (regs : CellsBelow t f.regs g.regs) (stack : CellsBelow t f.stack g.stack) (no_top : Each IsNotTop g.stack)
+      (no_bottom : Each IsNotBottom f.stack) where
     holds-falls : (d : Demand) → Satisfies t g d → Satisfies t f d
     holds-falls (Registers x n) h = subst (λ k. x + n ≤ k) (sym (cells-length t regs)) h
     holds-falls (Depth n) h = subst (λ k. n ≤ k) (sym (cells-length t stack)) h
-    holds-falls (Cell n want) h = cell-falls want (slice_get f.stack n) (slice_get g.stack n) (cells-at t n stack) (each-at IsNotBottom f.stack n no_bottom) (each-at IsNotTop g.stack n no_top) h
+    holds-falls (Cell n want) h =
+        cell-falls want (slice_get f.stack n) (slice_get g.stack n) (cells-at t n stack) (each-at IsNotBottom f.stack n no_bottom)
+        (each-at IsNotTop g.stack n no_top) h
     holds-falls (Cut n) h = λ s. h (
       low-read (slice_get f.stack (n - 1)) (slice_get g.stack (n - 1)) (cells-at t (n - 1) stack) (each-at IsNotTop g.stack (n - 1) no_top) s.0,
       high-read (slice_get f.stack n) (slice_get g.stack n) (cells-at t n stack) (each-at IsNotTop g.stack n no_top) s.1,
@@ -460,7 +469,8 @@ module _ (t : ClassTable) (are : IsOrderOfTypes t) where
   -- what is no uninitialised object stays as it is; what is above it may be one only over Bottom
   ready-plain : (place class : ℕ) (a b : Ty) → IsNotFresh a → Below t a b → Below t a (ready place class b)
   unfolding FreshDown
-  ready-plain place class a (Fresh q d) h x = subst (λ c. Below t c (ready place class (Fresh q d))) (sym (plain_under q d a h (fresh-down t q d x (refl, refl)))) nothing
+  ready-plain place class a (Fresh q d) h x =
+      subst (λ c. Below t c (ready place class (Fresh q d))) (sym (plain_under q d a h (fresh-down t q d x (refl, refl)))) nothing
   ready-plain place class a Bottom h x = x
   ready-plain place class a Short h x = x
   ready-plain place class a IntHigh h x = x
@@ -503,24 +513,31 @@ module _ (t : ClassTable) (are : IsOrderOfTypes t) where
   changed-falls : (c d : Change) {xs ys : List Ty} → ChangeBelow t c d → CellsBelow t xs ys → CellsBelow t (changed c xs) (changed d ys)
   unfolding ChangeBelow
   changed-falls (Replace m cells) (Replace n others) {xs = xs} {ys = ys} h ps =
-      subst (λ k. CellsBelow t (changed (Replace m cells) xs) (in_stack_order others ++ drop k ys)) h.0 (cells-append t (listed-falls cells others h.1) (cells-drop t m ps))
+      subst (λ k. CellsBelow t (changed (Replace m cells) xs) (in_stack_order others ++ drop k ys)) h.0
+      (cells-append t (listed-falls cells others h.1) (cells-drop t m ps))
   changed-falls (Replace m cells) (CopyUnder k n) h ps = absurd (cc)
   changed-falls (Replace m cells) (Exchange k n) h ps = absurd (cc)
   changed-falls (Replace m cells) (MakeReady k p c others) h ps = absurd (cc)
-  changed-falls (CopyUnder m n) d {xs = xs} {ys = ys} h ps = subst (λ e. CellsBelow t (changed (CopyUnder m n) xs) (changed e ys)) h (changed-same (CopyUnder m n) ps)
-  changed-falls (Exchange m n) d {xs = xs} {ys = ys} h ps = subst (λ e. CellsBelow t (changed (Exchange m n) xs) (changed e ys)) h (changed-same (Exchange m n) ps)
-  changed-falls (MakeReady m p c cells) d {xs = xs} {ys = ys} h ps = subst (λ e. CellsBelow t (changed (MakeReady m p c cells) xs) (changed e ys)) h (changed-same (MakeReady m p c cells) ps)
+  changed-falls (CopyUnder m n) d {xs = xs} {ys = ys} h ps =
+      subst (λ e. CellsBelow t (changed (CopyUnder m n) xs) (changed e ys)) h (changed-same (CopyUnder m n) ps)
+  changed-falls (Exchange m n) d {xs = xs} {ys = ys} h ps =
+      subst (λ e. CellsBelow t (changed (Exchange m n) xs) (changed e ys)) h (changed-same (Exchange m n) ps)
+  changed-falls (MakeReady m p c cells) d {xs = xs} {ys = ys} h ps =
+      subst (λ e. CellsBelow t (changed (MakeReady m p c cells) xs) (changed e ys)) h (changed-same (MakeReady m p c cells) ps)
 
   -- what is stored is below what the register holds then
   stored-below : (mode : Mode) (held ty now : Ty) → IsStoredOver t mode held ty now → Below t ty now
   stored-below Flow held ty now e = subst (Below t ty) (sym e) same
   stored-below Card held ty now is = is.right
 
-  write-flow : (mode : Mode) {xs ys zs : List Ty} (x y : ℕ) (a b : Ty) → x ≡ y → Below t a b → CellsBelow t xs ys → WritesRegister t mode y b ys zs → CellsBelow t (set xs x a) zs
+  write-flow : (mode : Mode) {xs ys zs : List Ty} (x y : ℕ) (a b : Ty) → x ≡ y → Below t a b → CellsBelow t xs ys
+      → WritesRegister t mode y b ys zs → CellsBelow t (set xs x a) zs
   write-flow mode {xs = xs} {ys = ys} x y a b e le ps u =
-      subst (CellsBelow t (set xs x a)) (ap (λ n. set ys n u.value) e ∙ sym u.after_is) (cells-set t x (joined le (stored-below mode (reg ys y) b u.value u.stored)) ps)
+      subst (CellsBelow t (set xs x a)) (ap (λ n. set ys n u.value) e ∙ sym u.after_is)
+      (cells-set t x (joined le (stored-below mode (reg ys y) b u.value u.stored)) ps)
 
-  store-flow : (mode : Mode) (xs ys zs : List Ty) (x y : ℕ) (c d : Cells) → x ≡ y → GivenBelow t c d → CellsBelow t xs ys → WritesCells t mode y d ys zs → StoresBelow t Flow (record { register = x; cells = c }) xs zs
+  store-flow : (mode : Mode) (xs ys zs : List Ty) (x y : ℕ) (c d : Cells) → x ≡ y → GivenBelow t c d → CellsBelow t xs ys
+      → WritesCells t mode y d ys zs → StoresBelow t Flow (record { register = x; cells = c }) xs zs
   unfolding GivenBelow
   store-flow mode xs ys zs x y given.Nothing given.Nothing e g ps u = record { below = xs; stores = refl; lower = subst (CellsBelow t xs) (sym u) ps }
   store-flow mode xs ys zs x y (given.One a) (given.One b) e g ps u = record {
@@ -629,12 +646,14 @@ module _ (t : ClassTable) (are : IsOrderOfTypes t) where
   element-falls a (Fresh q c) p h = absurd h
   element-falls a Top p h = absurd h
 
-  fresh_same : (taken : ℕ) (cells : Cells) (c : ℕ) (a b : Ty) → Below t a b → IsNotBottom a → IsFreshOf c b → ready_with taken cells a (Receiver c) ≡ ready_with taken cells b (Receiver c)
+  fresh_same : (taken : ℕ) (cells : Cells) (c : ℕ) (a b : Ty) → Below t a b → IsNotBottom a → IsFreshOf c b
+      → ready_with taken cells a (Receiver c) ≡ ready_with taken cells b (Receiver c)
   fresh_same taken cells c a (Fresh p d) x n h = ap (λ ty. ready_with taken cells ty (Receiver c)) (fresh_below t p d x n)
   fresh_same taken cells c a _ x n h = absurd h
 
   -- a receiver that is found: both are the same uninitialised object, or neither is one
-  ready_with-falls : (taken : ℕ) (cells : Cells) (want : Want) (a b : Ty) → Below t a b → IsNotBottom a → Meets t want b → ready_with taken cells a want ≡ ready_with taken cells b want
+  ready_with-falls : (taken : ℕ) (cells : Cells) (want : Want) (a b : Ty) → Below t a b → IsNotBottom a → Meets t want b
+      → ready_with taken cells a want ≡ ready_with taken cells b want
   unfolding NotReceiver
   ready_with-falls taken cells (Receiver c) a b p n (inl h) = fresh_same taken cells c a b p n h
   ready_with-falls taken cells (Receiver c) a b p n (inr h) = plain_both taken cells c a b (plain_class t a (joined p h)) (plain_class t b h)
@@ -658,7 +677,8 @@ each-or P [] n top h = top
 each-or P (x ∷ xs) zero top h = h.0
 each-or P (x ∷ xs) (suc n) top h = each-or P xs n top h.1
 
-module _ (w : Linked) (are : IsOrderOfTypes w.classes) (f g : Frame) (regs : CellsBelow w.classes f.regs g.regs) (stack : CellsBelow w.classes f.stack g.stack) (no_bottom : Each IsNotBottom f.stack) where
+module _ (w : Linked) (are : IsOrderOfTypes w.classes) (f g : Frame) (regs : CellsBelow w.classes f.regs g.regs)
+    (stack : CellsBelow w.classes f.stack g.stack) (no_bottom : Each IsNotBottom f.stack) where
   load-falls : (s : Sort) (x : ℕ) → SatisfiesAll w.classes g (load_demands w.classes s x) → EffectBelow w.classes (load_effect s x f) (load_effect s x g)
   unfolding ChangeBelow GivenBelow ReferenceDown
   load-falls sorts.Reference x h = record {
@@ -679,7 +699,8 @@ module _ (w : Linked) (are : IsOrderOfTypes w.classes) (f g : Frame) (regs : Cel
   store-falls sorts.Short x = effect-same w.classes are (store_effect sorts.Short x g)
   store-falls sorts.Int x = effect-same w.classes are (store_effect sorts.Int x g)
 
-  array-falls : (k : Kind) → SatisfiesAll w.classes g (array_read_demands w.classes k) → EffectBelow w.classes (array_read_effect k f) (array_read_effect k g)
+  array-falls : (k : Kind) → SatisfiesAll w.classes g (array_read_demands w.classes k)
+      → EffectBelow w.classes (array_read_effect k f) (array_read_effect k g)
   unfolding ChangeBelow GivenBelow ReferencesDown
   array-falls kinds.Ref h = record {
     change = (
@@ -694,7 +715,8 @@ module _ (w : Linked) (are : IsOrderOfTypes w.classes) (f g : Frame) (regs : Cel
   array-falls kinds.Short h = effect-same w.classes are (array_read_effect kinds.Short g)
   array-falls kinds.Int h = effect-same w.classes are (array_read_effect kinds.Int g)
 
-  call-falls : (args : List Ty) (result : Option Ty) (receiver : Option Want) → SatisfiesAll w.classes g (call_demands args receiver) → EffectBelow w.classes (call_effect args result receiver f) (call_effect args result receiver g)
+  call-falls : (args : List Ty) (result : Option Ty) (receiver : Option Want) → SatisfiesAll w.classes g (call_demands args receiver)
+      → EffectBelow w.classes (call_effect args result receiver f) (call_effect args result receiver g)
   unfolding GivenBelow
   call-falls args result None h = effect-same w.classes are (call_effect args result None g)
   call-falls args result (Some want) h = record {
@@ -702,7 +724,8 @@ module _ (w : Linked) (are : IsOrderOfTypes w.classes) (f g : Frame) (regs : Cel
         (sym (ready_with-falls w.classes are (length args + 1) (result_given result) want (cell f.stack (length args)) (cell g.stack (length args))
         (cells-or w.classes (length args) stack)
         (each-or IsNotBottom f.stack (length args) tt no_bottom)
-        (some-or (Meets w.classes want) g.stack (length args) (SatisfiesAll-rest w.classes g (cells_wanted 0 (reverse args)) (Cell (length args) want ∷ []) h).0)))
+        (some-or (Meets w.classes want) g.stack (length args)
+        (SatisfiesAll-rest w.classes g (cells_wanted 0 (reverse args)) (Cell (length args) want ∷ []) h).0)))
         (change-same w.classes are (ready_with (length args + 1) (result_given result) (cell g.stack (length args)) want));
     register = refl;
     cells = tt;
@@ -732,25 +755,37 @@ module _ (w : Linked) (are : IsOrderOfTypes w.classes) (f g : Frame) (regs : Cel
   effect-falls (ops.Return result) h = effect-same w.classes are (effect w (ops.Return result) g)
 
 -- an operation applies to a frame, and here is a lesser one
-module _ (w : Linked) (are : IsOrderOfTypes w.classes) (limit : ℕ) (op : Operation) (mode : Mode) (greater lesser after : Frame) (o : Outcome) (below : FrameBelow w.classes lesser greater)
+module _ (w : Linked) (are : IsOrderOfTypes w.classes) (limit : ℕ) (op : Operation) (mode : Mode) (greater lesser after : Frame) (o : Outcome)
+    (below : FrameBelow w.classes lesser greater)
     (no_top : All IsNotTop greater.stack) (no_bottom : All IsNotBottom lesser.stack) (a : OperationApplies w limit op mode greater after o) where
   -- what is asked is met
   pub asked-falls : SatisfiesAll w.classes lesser (demands w op)
-  asked-falls = all-falls w.classes lesser greater below.regs below.stack (each-from_All IsNotTop greater.stack no_top) (each-from_All IsNotBottom lesser.stack no_bottom) (demands w op) a.asked
+  asked-falls =
+      all-falls w.classes lesser greater below.regs below.stack (each-from_All IsNotTop greater.stack no_top)
+      (each-from_All IsNotBottom lesser.stack no_bottom) (demands w op) a.asked
 
   -- what is done is lesser
   pub doing-falls : EffectBelow w.classes (effect w op lesser) (effect w op greater)
   doing-falls = effect-falls w are lesser greater below.regs below.stack (each-from_All IsNotBottom lesser.stack no_bottom) op a.asked
 
   -- where the store can be made, the operation applies
-  pub applies-falls : (target : Mode) → StoresBelow w.classes target (effect w op lesser).store lesser.regs after.regs → OperationFallsTo w limit op target lesser after
+  pub applies-falls : (target : Mode) → StoresBelow w.classes target (effect w op lesser).store lesser.regs after.regs
+      → OperationFallsTo w limit op target lesser after
   applies-falls target s =
       let e = effect w op lesser in
       let stack : CellsBelow w.classes (changed e.change lesser.stack) after.stack =
-      subst (CellsBelow w.classes (changed e.change lesser.stack)) (sym a.stack) (changed-falls w.classes are e.change (effect w op greater).change doing-falls.change below.stack) in
+      subst (CellsBelow w.classes (changed e.change lesser.stack)) (sym a.stack)
+      (changed-falls w.classes are e.change (effect w op greater).change doing-falls.change below.stack) in
       record {
         below = record { regs = s.below; stack = changed e.change lesser.stack };
-        outcome = record { falls = falls_from op; ends = ends_at op; depth = length (changed e.change lesser.stack); wrote = wrote e.store.register e.store.cells; rose = raises_register w.classes target e.store lesser.regs };
+        outcome =
+            record {
+              falls = falls_from op;
+              ends = ends_at op;
+              depth = length (changed e.change lesser.stack);
+              wrote = wrote e.store.register e.store.cells;
+              rose = raises_register w.classes target e.store lesser.regs;
+            };
         applies = record {
           asked = asked-falls;
           regs = s.stores;
@@ -771,7 +806,8 @@ operation-falls w are limit op mode greater lesser after o below no_top no_botto
     let e = effect w op greater in
     let less : EffectBelow w.classes d e = doing-falls w are limit op mode greater lesser after o below no_top no_bottom a in
     applies-falls w are limit op mode greater lesser after o below no_top no_bottom a Flow
-    (store-flow w.classes are mode lesser.regs greater.regs after.regs d.store.register e.store.register d.store.cells e.store.cells less.register less.cells below.regs a.regs)
+    (store-flow w.classes are mode lesser.regs greater.regs after.regs d.store.register e.store.register d.store.cells e.store.cells less.register
+    less.cells below.regs a.regs)
 
 pub rule-falls : (w : Linked) → IsOrderOfTypes w.classes → RuleFalls w
 rule-falls w are site i mode greater lesser after o below no_top no_bottom a =

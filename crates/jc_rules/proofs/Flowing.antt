@@ -1,5 +1,6 @@
 -- Laws of frames and of dataflow typings.
-use Rattle.std.proofs.Common.{◌≡◌, ℕ, zero, suc, List, [], ◌∷◌, ◌++◌, reverse, replicate, Option, Some, None, IsSomeAnd, refl, sym, ◌∙◌, ap, subst}
+use Rattle.std.proofs.Common.{◌≡◌, ℕ, zero, suc, List, [], ◌∷◌, ◌++◌, reverse, replicate, Option, Some, None, IsSomeAnd, refl, sym, ◌∙◌}
+use Rattle.std.proofs.Common.{ap, subst}
 use Rattle.std.proofs.lemmas.List.{reverse-append}
 use Rattle.jc_base.specs.declared.ty.Ty.{Ty}
 use Rattle.jc_base.specs.declared.ty.Ty.TheVariants.{Bottom, Top}
@@ -24,7 +25,8 @@ module _ (t : ClassTable) where
 
   cells-apart : IsOrderOfTypes t → {xs ys : List Ty} → CellsBelow t xs ys → CellsBelow t ys xs → xs ≡ ys
   cells-apart are no_cells no_cells = refl
-  cells-apart are (more_cells {a = a} {b = b} {xs = xs} {ys = ys} p ps) (more_cells q qs) = ap (λ x. x ∷ xs) (are.apart a b p q) ∙ ap (λ zs. b ∷ zs) (cells-apart are ps qs)
+  cells-apart are (more_cells {a = a} {b = b} {xs = xs} {ys = ys} p ps) (more_cells q qs) =
+      ap (λ x. x ∷ xs) (are.apart a b p q) ∙ ap (λ zs. b ∷ zs) (cells-apart are ps qs)
 
   pub is-order-of-cells : IsOrderOfTypes t → IsOrderOfCells t
   is-order-of-cells are = record {
@@ -72,7 +74,8 @@ frames-apart t are f g p q =
     ap (λ (x : List Ty). record { regs = x; stack = f.stack }) (cells-apart t are p.regs q.regs)
     ∙ ap (λ (x : List Ty). record { regs = g.regs; stack = x }) (cells-apart t are p.stack q.stack)
 
-below-both : (t : ClassTable) → IsOrderOfTypes t → (o p : Option Frame) → IsSomeAnd o (λ f. IsSomeAnd p (FrameBelow t f)) → IsSomeAnd p (λ g. IsSomeAnd o (FrameBelow t g)) → o ≡ p
+below-both : (t : ClassTable) → IsOrderOfTypes t → (o p : Option Frame) → IsSomeAnd o (λ f. IsSomeAnd p (FrameBelow t f))
+    → IsSomeAnd p (λ g. IsSomeAnd o (FrameBelow t g)) → o ≡ p
 below-both t are None p h k = absurd h
 below-both t are (Some f) None h k = absurd h
 below-both t are (Some f) (Some g) h k = ap Some (frames-apart t are f g h k)

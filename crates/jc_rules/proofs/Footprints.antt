@@ -1,5 +1,6 @@
 -- What an operation asks and leaves, as numbers.
-use Rattle.std.proofs.Common.{◌≡◌, ℕ, zero, suc, ◌+◌, ◌-◌, ◌<◌, ◌≤◌, ◌==◌, ◌⊎◌, inl, inr, false, if◌then◌else◌, List, [], ◌∷◌, length, Option, Some, None, IsSomeAnd, slice_get, refl, sym, ◌∙◌, ap, subst, arith}
+use Rattle.std.proofs.Common.{◌≡◌, ℕ, zero, suc, ◌+◌, ◌-◌, ◌<◌, ◌≤◌, ◌==◌, ◌⊎◌, inl, inr, false, if◌then◌else◌, List}
+use Rattle.std.proofs.Common.{[], ◌∷◌, length, Option, Some, None, IsSomeAnd, slice_get, refl, sym, ◌∙◌, ap, subst, arith}
 use Rattle.std.proofs.lemmas.List.{get_or-set_other}
 use Rattle.std.proofs.lemmas.Option.{slice_get_within}
 use Rattle.jc_base.specs.declared.ty.Ty.{Ty}
@@ -30,8 +31,11 @@ use Rattle.jc_rules.specs.declared.effect.Mode.{Mode}
 use Rattle.jc_rules.specs.declared.effect.Mode.TheVariants.{Card, Flow}
 use Rattle.jc_rules.specs.Effect.{in_stack_order, changed, cells_needed, depth_after, reg, WritesRegister, WritesCells, StoresInRegisters, raises_register}
 use Rattle.jc_rules.specs.Demand.{Frame, Meets, Satisfies, SatisfiesAll}
-use Rattle.jc_rules.specs.Rule.{cell, on_stack, replacing, or_null, ready_with, call_effect, args_at, result_at, result_given, wrote, demands, effect, receiver_wanted}
-use Rattle.jc_rules.specs.Footprint.{cells_asked, registers_asked, registers_read, IsInFrame, AreInFrame, Footprint, footprint_of, footprint, cells_taken, cells_given, MetIsThere, AskedIsThere, AgreeOn, OperationReads, written_by, OperationLeaves, FootprintIsOne, OperationNamesNone, LeavesAlike, AlikeLeaveAlike}
+use Rattle.jc_rules.specs.Rule.{cell, on_stack, replacing, or_null, ready_with, call_effect, args_at, result_at, result_given, wrote, demands, effect}
+use Rattle.jc_rules.specs.Rule.{receiver_wanted}
+use Rattle.jc_rules.specs.Footprint.{cells_asked, registers_asked, registers_read, IsInFrame, AreInFrame, Footprint, footprint_of, footprint, cells_taken}
+use Rattle.jc_rules.specs.Footprint.{cells_given, MetIsThere, AskedIsThere, AgreeOn, OperationReads, written_by, OperationLeaves, FootprintIsOne}
+use Rattle.jc_rules.specs.Footprint.{OperationNamesNone, LeavesAlike, AlikeLeaveAlike}
 use Rattle.jc_rules.proofs.Effects.{Suits, suits, sound-known, length-changed}
 
 -- ---- what is asked
@@ -90,12 +94,14 @@ asked-is-there regs depth ds = record {
 -- ---- registers that are read
 
 module _ (w : Linked) (f g : Frame) (stack : f.stack ≡ g.stack) where
-  reads-hold : (ds : List Demand) → registers_asked ds ≤ length g.regs → AgreeOn (registers_read ds) f.regs g.regs → SatisfiesAll w.classes f ds → SatisfiesAll w.classes g ds
+  reads-hold : (ds : List Demand) → registers_asked ds ≤ length g.regs → AgreeOn (registers_read ds) f.regs g.regs → SatisfiesAll w.classes f ds
+      → SatisfiesAll w.classes g ds
   reads-hold [] r a h = tt
   reads-hold (Registers x n ∷ ds) r a h = (omega arith, reads-hold ds (omega arith) a h.1)
   reads-hold (Depth n ∷ ds) r a h = (subst (λ (s : List Ty). n ≤ length s) stack h.0, reads-hold ds r a h.1)
   reads-hold (Cell n want ∷ ds) r a h = (subst (λ (s : List Ty). IsSomeAnd (slice_get s n) (Meets w.classes want)) stack h.0, reads-hold ds r a h.1)
-  reads-hold (Cut n ∷ ds) r a h = (subst (λ (s : List Ty). Satisfies w.classes (record { regs = f.regs; stack = s }) (Cut n)) stack h.0, reads-hold ds r a h.1)
+  reads-hold (Cut n ∷ ds) r a h =
+      (subst (λ (s : List Ty). Satisfies w.classes (record { regs = f.regs; stack = s }) (Cut n)) stack h.0, reads-hold ds r a h.1)
   reads-hold (Held x ty ∷ ds) r a h = (subst (λ o. IsSomeAnd o (Meets w.classes (Value ty))) a.0 h.0, reads-hold ds (omega arith) a.1 h.1)
 
 -- a register that two lists hold alike
@@ -108,14 +114,17 @@ reg-alike (x ∷ xs) [] (suc n) e = reg-alike xs [] n e
 reg-alike (x ∷ xs) (y ∷ ys) zero e = cc
 reg-alike (x ∷ xs) (y ∷ ys) (suc n) e = reg-alike xs ys n e
 
-call-alike : (args : List Ty) (result : Option Ty) (receiver : Option Want) (f g : Frame) → f.stack ≡ g.stack → call_effect args result receiver f ≡ call_effect args result receiver g
+call-alike : (args : List Ty) (result : Option Ty) (receiver : Option Want) (f g : Frame) → f.stack ≡ g.stack → call_effect args result receiver f
+    ≡ call_effect args result receiver g
 call-alike args result None f g e = refl
 call-alike args result (Some want) f g e = ap (λ s. on_stack (ready_with (length args + 1) (result_given result) (cell s (length args)) want)) e
 
-load-alike : (w : Linked) (x : ℕ) (f g : Frame) → reg f.regs x ≡ reg g.regs x → effect w (ops.Load sorts.Reference x) f ≡ effect w (ops.Load sorts.Reference x) g
+load-alike : (w : Linked) (x : ℕ) (f g : Frame) → reg f.regs x ≡ reg g.regs x → effect w (ops.Load sorts.Reference x) f
+    ≡ effect w (ops.Load sorts.Reference x) g
 load-alike w x f g e = ap (λ ty. replacing 0 (given.One (or_null ty))) e
 
-done-alike : (w : Linked) (op : Operation) (f g : Frame) → f.stack ≡ g.stack → AgreeOn (registers_read (demands w op)) f.regs g.regs → effect w op f ≡ effect w op g
+done-alike : (w : Linked) (op : Operation) (f g : Frame) → f.stack ≡ g.stack → AgreeOn (registers_read (demands w op)) f.regs g.regs
+    → effect w op f ≡ effect w op g
 done-alike w (ops.Load sorts.Reference x) f g e a = load-alike w x f g (reg-alike f.regs g.regs x a.0)
 done-alike w (ops.Load sorts.Short x) f g e a = refl
 done-alike w (ops.Load sorts.Int x) f g e a = refl
@@ -137,7 +146,8 @@ operation-reads w op f g stack registers agree = record {
 
 -- ---- the footprint of each frame
 
-ready-footprint : (taken : ℕ) (cells : Cells) (found : Ty) (want : Want) → footprint_of (on_stack (ready_with taken cells found want)) ≡ record { taken = taken; given = length (in_stack_order cells); register = 0; written = 0 }
+ready-footprint : (taken : ℕ) (cells : Cells) (found : Ty) (want : Want) → footprint_of (on_stack (ready_with taken cells found want))
+    ≡ record { taken = taken; given = length (in_stack_order cells); register = 0; written = 0 }
 ready-footprint taken cells (Fresh p c) (Receiver d) = refl
 ready-footprint taken cells (Fresh p c) (Value ty) = refl
 ready-footprint taken cells (Fresh p c) Storable = refl
@@ -157,7 +167,8 @@ ready-footprint taken cells ArrInt want = refl
 ready-footprint taken cells (ArrRef c) want = refl
 ready-footprint taken cells Top want = refl
 
-call-footprint : (args : List Ty) (result : Option Ty) (receiver : Option Want) (f g : Frame) → footprint_of (call_effect args result receiver f) ≡ footprint_of (call_effect args result receiver g)
+call-footprint : (args : List Ty) (result : Option Ty) (receiver : Option Want) (f g : Frame) → footprint_of (call_effect args result receiver f)
+    ≡ footprint_of (call_effect args result receiver g)
 call-footprint args result None f g = refl
 call-footprint args result (Some want) f g =
     ready-footprint (length args + 1) (result_given result) (cell f.stack (length args)) want
@@ -174,7 +185,8 @@ footprint-is-one w (ops.ArrayRead kinds.Ref) f = refl
 footprint-is-one w (ops.ArrayRead kinds.Byte) f = refl
 footprint-is-one w (ops.ArrayRead kinds.Short) f = refl
 footprint-is-one w (ops.ArrayRead kinds.Int) f = refl
-footprint-is-one w (ops.Call c) f = call-footprint (args_at (slice_get w.methods c.method)) (result_at (slice_get w.methods c.method)) c.receiver f (record { regs = []; stack = [] })
+footprint-is-one w (ops.Call c) f =
+    call-footprint (args_at (slice_get w.methods c.method)) (result_at (slice_get w.methods c.method)) c.receiver f (record { regs = []; stack = [] })
 footprint-is-one w _ f = refl
 
 -- ---- what is left
@@ -198,11 +210,13 @@ wrote-by x (given.One ty) = refl
 wrote-by x given.Int = refl
 
 module _ (t : ClassTable) (mode : Mode) where
-  write-others : {x : ℕ} {ty : Ty} {regs after : List Ty} → WritesRegister t mode x ty regs after → (n : ℕ) → (n < x) ⊎ (x + 1 ≤ n) → reg after n ≡ reg regs n
+  write-others : {x : ℕ} {ty : Ty} {regs after : List Ty} → WritesRegister t mode x ty regs after → (n : ℕ) → (n < x) ⊎ (x + 1 ≤ n)
+      → reg after n ≡ reg regs n
   write-others {x = x} {regs = regs} u n (inl lt) = ap (λ rs. reg rs n) u.after_is ∙ get_or-set_other regs x n u.value Top (λ same. absurd (omega arith))
   write-others {x = x} {regs = regs} u n (inr le) = ap (λ rs. reg rs n) u.after_is ∙ get_or-set_other regs x n u.value Top (λ same. absurd (omega arith))
 
-  store-others : (x : ℕ) (cells : Cells) (regs after : List Ty) → WritesCells t mode x cells regs after → (n : ℕ) → (n < x) ⊎ (x + length (in_stack_order cells) ≤ n) → reg after n ≡ reg regs n
+  store-others : (x : ℕ) (cells : Cells) (regs after : List Ty) → WritesCells t mode x cells regs after → (n : ℕ) → (n < x)
+      ⊎ (x + length (in_stack_order cells) ≤ n) → reg after n ≡ reg regs n
   store-others x given.Nothing regs after u n h = ap (λ rs. reg rs n) u
   store-others x (given.One ty) regs after u n h = write-others u n h
   store-others x given.Int regs after u n (inl lt) = write-others u.low n (inl (omega arith)) ∙ write-others u.high n (inl lt)
@@ -225,7 +239,8 @@ operation-leaves w is limit m place op mode before after o sound k a =
 
 -- ---- an operation that names no register
 
-stores-nothing : (w : Linked) (op : Operation) (f : Frame) → registers_asked (demands w op) ≡ 0 → (effect w op f).store ≡ record { register = 0; cells = given.Nothing }
+stores-nothing : (w : Linked) (op : Operation) (f : Frame) → registers_asked (demands w op) ≡ 0
+    → (effect w op f).store ≡ record { register = 0; cells = given.Nothing }
 stores-nothing w (ops.Store sorts.Reference x) f e = absurd (omega arith)
 stores-nothing w (ops.Store sorts.Short x) f e = absurd (omega arith)
 stores-nothing w (ops.Store sorts.Int x) f e = absurd (omega arith)
@@ -312,11 +327,16 @@ leaves-self w op = record { cells = refl; taken = refl; given = refl; written = 
 
 pub alike-leave-alike : (w : Linked) → AlikeLeaveAlike w
 alike-leave-alike w _ _ (equal {op = op}) = leaves-self w op
-alike-leave-alike w _ _ (loads {s = sorts.Reference}) = record { cells = refl; taken = refl; given = refl; written = refl; falls = refl; jumps = refl; ends = refl }
+alike-leave-alike w _ _ (loads {s = sorts.Reference}) =
+    record { cells = refl; taken = refl; given = refl; written = refl; falls = refl; jumps = refl; ends = refl }
 alike-leave-alike w _ _ (loads {s = sorts.Short}) = record { cells = refl; taken = refl; given = refl; written = refl; falls = refl; jumps = refl; ends = refl }
 alike-leave-alike w _ _ (loads {s = sorts.Int}) = record { cells = refl; taken = refl; given = refl; written = refl; falls = refl; jumps = refl; ends = refl }
-alike-leave-alike w _ _ (stores {s = sorts.Reference}) = record { cells = refl; taken = refl; given = refl; written = refl; falls = refl; jumps = refl; ends = refl }
-alike-leave-alike w _ _ (stores {s = sorts.Short}) = record { cells = refl; taken = refl; given = refl; written = refl; falls = refl; jumps = refl; ends = refl }
+alike-leave-alike w _ _ (stores {s = sorts.Reference}) =
+    record { cells = refl; taken = refl; given = refl; written = refl; falls = refl; jumps = refl; ends = refl }
+alike-leave-alike w _ _ (stores {s = sorts.Short}) =
+    record { cells = refl; taken = refl; given = refl; written = refl; falls = refl; jumps = refl; ends = refl }
 alike-leave-alike w _ _ (stores {s = sorts.Int}) = record { cells = refl; taken = refl; given = refl; written = refl; falls = refl; jumps = refl; ends = refl }
-alike-leave-alike w _ _ (increments {width = widths.Short}) = record { cells = refl; taken = refl; given = refl; written = refl; falls = refl; jumps = refl; ends = refl }
-alike-leave-alike w _ _ (increments {width = widths.Int}) = record { cells = refl; taken = refl; given = refl; written = refl; falls = refl; jumps = refl; ends = refl }
+alike-leave-alike w _ _ (increments {width = widths.Short}) =
+    record { cells = refl; taken = refl; given = refl; written = refl; falls = refl; jumps = refl; ends = refl }
+alike-leave-alike w _ _ (increments {width = widths.Int}) =
+    record { cells = refl; taken = refl; given = refl; written = refl; falls = refl; jumps = refl; ends = refl }

@@ -39,7 +39,8 @@ module _ (t : ClassTable) (are : IsOrderOfTypes t) where
   join-not_fresh a b (Fresh p c) h k is =
       let a_bottom : a ≡ Bottom = fresh_is_bottom t p c a h is.left in
       let b_bottom : b ≡ Bottom = fresh_is_bottom t p c b k is.right in
-      fresh_not_below_bottom t p c (is.least Bottom (subst (λ x. Below t x Bottom) (sym a_bottom) nothing) (subst (λ x. Below t x Bottom) (sym b_bottom) nothing))
+      fresh_not_below_bottom t p c
+      (is.least Bottom (subst (λ x. Below t x Bottom) (sym a_bottom) nothing) (subst (λ x. Below t x Bottom) (sym b_bottom) nothing))
   join-not_fresh a b Bottom h k is = tt
   join-not_fresh a b Short h k is = tt
   join-not_fresh a b IntHigh h k is = tt
@@ -65,7 +66,8 @@ module _ (t : ClassTable) (are : IsOrderOfTypes t) where
     -- a register is written with what has a property that both the held type and the stored one have
     module _ (P : Ty → Type 0) (top : P Top) (keeps : (held ty now : Ty) → IsStoredOver t mode held ty now → P held → P ty → P now) where
       writes-keeps : {x : ℕ} {ty : Ty} {regs after : List Ty} → WritesRegister t mode x ty regs after → P ty → All P regs → All P after
-      writes-keeps {x} {ty} {regs} u p all = subst (All P) (sym u.after_is) (All-set P regs x u.value (keeps (reg regs x) ty u.value u.stored (all-or P regs x top all) p) all)
+      writes-keeps {x} {ty} {regs} u p all =
+          subst (All P) (sym u.after_is) (All-set P regs x u.value (keeps (reg regs x) ty u.value u.stored (all-or P regs x top all) p) all)
 
     writes-length : {x : ℕ} {ty : Ty} {regs after : List Ty} → WritesRegister t mode x ty regs after → length after ≡ length regs
     writes-length {x} {ty} {regs} u = ap length u.after_is ∙ length-set regs x u.value
@@ -75,15 +77,19 @@ module _ (t : ClassTable) (are : IsOrderOfTypes t) where
     stores-length x (given.One ty) regs after u = writes-length u
     stores-length x given.Int regs after u = writes-length u.low ∙ writes-length u.high
 
-    stores-known : (x : ℕ) (cells : Cells) (regs after : List Ty) → WritesCells t mode x cells regs after → CellsKept t cells → All (IsKnown t) regs → All (IsKnown t) after
+    stores-known : (x : ℕ) (cells : Cells) (regs after : List Ty) → WritesCells t mode x cells regs after → CellsKept t cells → All (IsKnown t) regs
+        → All (IsKnown t) after
     stores-known x given.Nothing regs after u k all = subst (All (IsKnown t)) (sym u) all
     stores-known x (given.One ty) regs after u k all = writes-keeps (IsKnown t) tt (stored-known mode) u k.0 all
-    stores-known x given.Int regs after u k all = writes-keeps (IsKnown t) tt (stored-known mode) u.low tt (writes-keeps (IsKnown t) tt (stored-known mode) u.high tt all)
+    stores-known x given.Int regs after u k all =
+        writes-keeps (IsKnown t) tt (stored-known mode) u.low tt (writes-keeps (IsKnown t) tt (stored-known mode) u.high tt all)
 
-    stores-not_fresh : (x : ℕ) (cells : Cells) (regs after : List Ty) → WritesCells t mode x cells regs after → CellsKept t cells → All IsNotFresh regs → All IsNotFresh after
+    stores-not_fresh : (x : ℕ) (cells : Cells) (regs after : List Ty) → WritesCells t mode x cells regs after → CellsKept t cells
+        → All IsNotFresh regs → All IsNotFresh after
     stores-not_fresh x given.Nothing regs after u k none = subst (All IsNotFresh) (sym u) none
     stores-not_fresh x (given.One ty) regs after u k none = writes-keeps IsNotFresh tt (stored-not_fresh mode) u k.1 none
-    stores-not_fresh x given.Int regs after u k none = writes-keeps IsNotFresh tt (stored-not_fresh mode) u.low tt (writes-keeps IsNotFresh tt (stored-not_fresh mode) u.high tt none)
+    stores-not_fresh x given.Int regs after u k none =
+        writes-keeps IsNotFresh tt (stored-not_fresh mode) u.low tt (writes-keeps IsNotFresh tt (stored-not_fresh mode) u.high tt none)
 
 -- a type of which Bottom is no upper bound
 full-below : (t : ClassTable) (are : IsOrderOfTypes t) (a b : Ty) → Below t a b → IsNotBottom a → IsNotBottom b
@@ -107,10 +113,12 @@ module _ (t : ClassTable) (are : IsOrderOfTypes t) where
   kept-full Card held ty now is h n = full-below t are held now is.left h
 
   module _ (mode : Mode) where
-    stores-full : (x : ℕ) (cells : Cells) (regs after : List Ty) → WritesCells t mode x cells regs after → CellsFull cells → All IsNotBottom regs → All IsNotBottom after
+    stores-full : (x : ℕ) (cells : Cells) (regs after : List Ty) → WritesCells t mode x cells regs after → CellsFull cells → All IsNotBottom regs
+        → All IsNotBottom after
     stores-full x given.Nothing regs after u k none = subst (All IsNotBottom) (sym u) none
     stores-full x (given.One ty) regs after u k none = writes-keeps t are mode IsNotBottom tt (kept-full mode) u k none
-    stores-full x given.Int regs after u k none = writes-keeps t are mode IsNotBottom tt (kept-full mode) u.low tt (writes-keeps t are mode IsNotBottom tt (kept-full mode) u.high tt none)
+    stores-full x given.Int regs after u k none =
+        writes-keeps t are mode IsNotBottom tt (kept-full mode) u.low tt (writes-keeps t are mode IsNotBottom tt (kept-full mode) u.high tt none)
 
 pub operation-keeps : (w : Linked) → IsWorld w → IsOrderOfTypes w.classes → OperationKeeps w
 operation-keeps w is are limit m place op mode before after o sound k a =
@@ -128,13 +136,17 @@ operation-keeps w is are limit m place op mode before after o sound k a =
       no_fresh = λ none. stores-not_fresh w.classes are mode e.store.register e.store.cells before.regs after.regs a.regs fits.stored none;
       no_bottom = λ none. subst (All IsNotBottom) (sym a.stack) (changed-full w.classes e.change before.stack fits.change none);
       no_top = λ none. subst (All IsNotTop) (sym a.stack) (changed-topless w.classes e.change before.stack fits.change none);
-      full_regs = λ none full. stores-full w.classes are mode e.store.register e.store.cells before.regs after.regs a.regs (stored-full w before op a.asked full) none;
+      full_regs =
+          λ none full. stores-full w.classes are mode e.store.register e.store.cells before.regs after.regs a.regs (stored-full w before op a.asked full)
+          none;
     }
 
 -- the operation at a site is sound
-pub site-sound : (w : Linked) (is : IsWorld w) → OperationsAreSound w → {site : Site} {i : Insn} {mode : Mode} {before after : Frame} {o : Outcome} → (a : Applies w site i mode before after o) → IsSound w a.method site.place a.rule.operation
+pub site-sound : (w : Linked) (is : IsWorld w) → OperationsAreSound w → {site : Site} {i : Insn} {mode : Mode} {before after : Frame} {o : Outcome}
+    → (a : Applies w site i mode before after o) → IsSound w a.method site.place a.rule.operation
 site-sound w is sound {site = site} {i = i} a =
-    sound a.method site.place i a.rule.operation (All-slice_get (IsMethod w.infos w.pools w.classes) w.methods site.method a.method is.methods a.is_method).result a.rule.resolves
+    sound a.method site.place i a.rule.operation
+    (All-slice_get (IsMethod w.infos w.pools w.classes) w.methods site.method a.method is.methods a.is_method).result a.rule.resolves
 
 pub rule-keeps : (w : Linked) → IsWorld w → IsOrderOfTypes w.classes → OperationsAreSound w → RuleKeeps w
 rule-keeps w is are sound site i mode before after o k a =

@@ -1,5 +1,6 @@
 -- Raising the cells of a list, one after another, to the join with those of another list.
-use Rattle.std.proofs.Common.{◌≡◌, ℕ, zero, suc, ◌+◌, ◌<◌, ◌≤◌, ◌||◌, if◌then◌else◌, Bool, true, false, ◌⊎◌, inl, inr, List, [], ◌∷◌, ◌++◌, length, reverse, get_or, set, All, sum_by, refl, sym, ◌∙◌, ap, subst, arith, MatchBool}
+use Rattle.std.proofs.Common.{◌≡◌, ℕ, zero, suc, ◌+◌, ◌<◌, ◌≤◌, ◌||◌, if◌then◌else◌, Bool, true, false, ◌⊎◌, inl, inr}
+use Rattle.std.proofs.Common.{List, [], ◌∷◌, ◌++◌, length, reverse, get_or, set, All, sum_by, refl, sym, ◌∙◌, ap, subst, arith, MatchBool}
 use Rattle.std.proofs.lemmas.List.{length-set, length-reverse, reverse-append, get_or-set_same, get_or-set_other, get_or_default}
 use Rattle.std.proofs.lemmas.List.Elements.{All-set}
 use Rattle.std.proofs.lemmas.List.Sorted.{IsPermutation-reverse, sum_by-IsPermutation}
@@ -25,13 +26,15 @@ pub record RaisedTo (t : ClassTable) (old others : List Ty) (n : ℕ) (now : Lis
   pub farther : (k : ℕ) → n ≤ k → get_or now k Top ≡ get_or old k Top
   pub rose : RoseTo t old now rises
 
-pub CellsJoin-by_index : (t : ClassTable) (xs ys js : List Ty) → length xs ≡ length ys → length js ≡ length xs → ((k : ℕ) → k < length xs → IsJoin t (get_or xs k Top) (get_or ys k Top) (get_or js k Top)) → CellsJoin t xs ys js
+pub CellsJoin-by_index : (t : ClassTable) (xs ys js : List Ty) → length xs ≡ length ys → length js ≡ length xs
+    → ((k : ℕ) → k < length xs → IsJoin t (get_or xs k Top) (get_or ys k Top) (get_or js k Top)) → CellsJoin t xs ys js
 CellsJoin-by_index t [] [] [] e d h = none_joined
 CellsJoin-by_index t [] [] (j ∷ js) e d h = absurd (omega arith)
 CellsJoin-by_index t [] (y ∷ ys) js e d h = absurd (omega arith)
 CellsJoin-by_index t (x ∷ xs) [] js e d h = absurd (omega arith)
 CellsJoin-by_index t (x ∷ xs) (y ∷ ys) [] e d h = absurd (omega arith)
-CellsJoin-by_index t (x ∷ xs) (y ∷ ys) (j ∷ js) e d h = more_joined (h 0 (omega arith)) (CellsJoin-by_index t xs ys js (omega arith) (omega arith) (λ k lt. h (suc k) (omega arith)))
+CellsJoin-by_index t (x ∷ xs) (y ∷ ys) (j ∷ js) e d h =
+    more_joined (h 0 (omega arith)) (CellsJoin-by_index t xs ys js (omega arith) (omega arith) (λ k lt. h (suc k) (omega arith)))
 
 split_last : (k n : ℕ) → k < n + 1 → (k < n) ⊎ (k ≡ n)
 split_last zero zero h = inr refl
@@ -43,12 +46,14 @@ split_last (suc k) (suc n) h = suc_cases (split_last k n (omega arith))
     suc_cases (inl lt) = inl (omega arith)
     suc_cases (inr e) = inr (ap suc e)
 
-module _ (t : ClassTable) (old others : List Ty) (n : ℕ) (now : List Ty) (b : Bool) (r : RaisedTo t old others n now b) (lt : n < length others) (len : length old ≡ length others) where
+module _ (t : ClassTable) (old others : List Ty) (n : ℕ) (now : List Ty) (b : Bool) (r : RaisedTo t old others n now b) (lt : n < length others)
+    (len : length old ≡ length others) where
   private_held : (a : Ty) → a ≡ get_or now n a → a ≡ get_or old n Top
   private_held a e = e ∙ get_or_default now n a Top (omega (arith, r.count)) ∙ r.farther n (omega arith)
 
   private_join : (a d j : Ty) → a ≡ get_or now n a → IsJoin t a (get_or others n d) j → IsJoin t (get_or old n Top) (get_or others n Top) j
-  private_join a d j e is = subst (λ x. IsJoin t x (get_or others n Top) j) (private_held a e) (subst (λ x. IsJoin t a x j) (get_or_default others n d Top lt) is)
+  private_join a d j e is =
+      subst (λ x. IsJoin t x (get_or others n Top) j) (private_held a e) (subst (λ x. IsJoin t a x j) (get_or_default others n d Top lt) is)
 
   -- the next cell stays
   pub raised_same : (a d : Ty) → a ≡ get_or now n a → IsJoin t a (get_or others n d) a → RaisedTo t old others (n + 1) now b
@@ -64,17 +69,22 @@ module _ (t : ClassTable) (old others : List Ty) (n : ℕ) (now : List Ty) (b : 
     rose = r.rose;
   }
 
-  private_less : (b : Bool) → RoseTo t old now b → (j : Ty) → rises_left t j < rises_left t (get_or now n Top) → sum_by (rises_left t) (set now n j) < sum_by (rises_left t) old
+  private_less : (b : Bool) → RoseTo t old now b → (j : Ty) → rises_left t j < rises_left t (get_or now n Top)
+      → sum_by (rises_left t) (set now n j) < sum_by (rises_left t) old
   private_less true h j less = let e = sum_by-set (rises_left t) now n j Top (omega (arith, r.count)) in omega arith
-  private_less false h j less = let e = sum_by-set (rises_left t) now n j Top (omega (arith, r.count)) in let f : sum_by (rises_left t) now ≡ sum_by (rises_left t) old = ap (sum_by (rises_left t)) h in omega arith
+  private_less false h j less =
+      let e = sum_by-set (rises_left t) now n j Top (omega (arith, r.count)) in let f : sum_by (rises_left t) now ≡ sum_by (rises_left t) old = ap
+      (sum_by (rises_left t)) h in omega arith
 
   -- the next cell rises
-  pub raised_next : (a d j : Ty) → a ≡ get_or now n a → IsJoin t a (get_or others n d) j → IsKnown t j → rises_left t j < rises_left t a → RaisedTo t old others (n + 1) (set now n j) true
+  pub raised_next : (a d j : Ty) → a ≡ get_or now n a → IsJoin t a (get_or others n d) j → IsKnown t j → rises_left t j < rises_left t a
+      → RaisedTo t old others (n + 1) (set now n j) true
   raised_next a d j e is known less = record {
     count = length-set now n j ∙ r.count;
     known = All-set (IsKnown t) now n j known r.known;
     joined = λ k lower. elim (split_last k n lower) [
-      | inl before ↦ subst (IsJoin t (get_or old k Top) (get_or others k Top)) (sym (get_or-set_other now n k j Top (λ same. absurd (omega arith)))) (r.joined k before)
+      | inl before ↦ subst (IsJoin t (get_or old k Top) (get_or others k Top)) (sym (get_or-set_other now n k j Top (λ same. absurd (omega arith))))
+          (r.joined k before)
       | inr here ↦ subst (λ m. IsJoin t (get_or old m Top) (get_or others m Top) (get_or (set now n j) m Top)) (sym here)
           (subst (IsJoin t (get_or old n Top) (get_or others n Top)) (sym (get_or-set_same now n j Top (omega (arith, r.count)))) (private_join a d j e is))
     ];
@@ -83,17 +93,20 @@ module _ (t : ClassTable) (old others : List Ty) (n : ℕ) (now : List Ty) (b : 
   }
 
 -- all cells are joined
-pub raised_all : (t : ClassTable) (old others : List Ty) (n : ℕ) (now : List Ty) (b : Bool) → RaisedTo t old others n now b → length others ≤ n → length old ≡ length others → CellsJoin t old others now
+pub raised_all : (t : ClassTable) (old others : List Ty) (n : ℕ) (now : List Ty) (b : Bool) → RaisedTo t old others n now b → length others ≤ n
+    → length old ≡ length others → CellsJoin t old others now
 raised_all t old others n now b r le len = CellsJoin-by_index t old others now len r.count (λ k lt. r.joined k (omega arith))
 
-CellsJoin-append : (t : ClassTable) {xs ys js us vs ks : List Ty} → CellsJoin t xs ys js → CellsJoin t us vs ks → CellsJoin t (xs ++ us) (ys ++ vs) (js ++ ks)
+CellsJoin-append : (t : ClassTable) {xs ys js us vs ks : List Ty} → CellsJoin t xs ys js → CellsJoin t us vs ks
+    → CellsJoin t (xs ++ us) (ys ++ vs) (js ++ ks)
 CellsJoin-append t none_joined q = q
 CellsJoin-append t (more_joined h p) q = more_joined h (CellsJoin-append t p q)
 
 pub CellsJoin-reverse : (t : ClassTable) {xs ys js : List Ty} → CellsJoin t xs ys js → CellsJoin t (reverse xs) (reverse ys) (reverse js)
 CellsJoin-reverse t none_joined = none_joined
 CellsJoin-reverse t (more_joined {a} {b} {j} {xs} {ys} {js} h p) =
-    let turned : CellsJoin t (reverse xs ++ a ∷ []) (reverse ys ++ b ∷ []) (reverse js ++ j ∷ []) = CellsJoin-append t (CellsJoin-reverse t p) (more_joined h none_joined) in
+    let turned : CellsJoin t (reverse xs ++ a ∷ []) (reverse ys ++ b ∷ []) (reverse js ++ j ∷ []) = CellsJoin-append t (CellsJoin-reverse t p)
+    (more_joined h none_joined) in
     subst (λ us. CellsJoin t us (reverse (b ∷ ys)) (reverse (j ∷ js))) (sym (reverse-append (a ∷ []) xs))
     (subst (λ us. CellsJoin t (reverse xs ++ a ∷ []) us (reverse (j ∷ js))) (sym (reverse-append (b ∷ []) ys))
     (subst (CellsJoin t (reverse xs ++ a ∷ []) (reverse ys ++ b ∷ [])) (sym (reverse-append (j ∷ []) js)) turned))
@@ -106,22 +119,27 @@ CellsJoin-length t none_joined = refl
 CellsJoin-length t (more_joined h p) = ap suc (CellsJoin-length t p)
 
 -- the stacks, with their tops last, have different depths
-pub clash_depths : (t : ClassTable) (regs others old stack : List Ty) → ¬ (length old ≡ length stack) → Clashes t (record { regs = regs; stack = reverse old }) (record { regs = others; stack = reverse stack })
+pub clash_depths : (t : ClassTable) (regs others old stack : List Ty) → ¬ (length old ≡ length stack)
+    → Clashes t (record { regs = regs; stack = reverse old }) (record { regs = others; stack = reverse stack })
 clash_depths t regs others old stack n = depths (λ e. n (sym (length-reverse old) ∙ e ∙ length-reverse stack))
 
 -- a cell's join is Top
-pub clash_cells : (t : ClassTable) (regs others old stack joined : List Ty) → CellsJoin t old stack joined → ¬ (All IsNotTop joined) → Clashes t (record { regs = regs; stack = reverse old }) (record { regs = others; stack = reverse stack })
+pub clash_cells : (t : ClassTable) (regs others old stack joined : List Ty) → CellsJoin t old stack joined → ¬ (All IsNotTop joined)
+    → Clashes t (record { regs = regs; stack = reverse old }) (record { regs = others; stack = reverse stack })
 clash_cells t regs others old stack joined j n = cells (CellsJoin-reverse t j) (λ all. n (All-turned IsNotTop joined all))
 
-module _ (t : ClassTable) (regs other_regs new_regs stack other_stack new_stack : List Ty) (rj : CellsJoin t regs other_regs new_regs) (sj : CellsJoin t stack other_stack new_stack) (none : All IsNotTop new_stack) where
+module _ (t : ClassTable) (regs other_regs new_regs stack other_stack new_stack : List Ty) (rj : CellsJoin t regs other_regs new_regs)
+    (sj : CellsJoin t stack other_stack new_stack) (none : All IsNotTop new_stack) where
   -- both parts are joined
-  pub merged : (s r : Bool) → RoseTo t stack new_stack s → RoseTo t regs new_regs r → IsMerged t (record { regs = regs; stack = reverse stack }) (record { regs = other_regs; stack = reverse other_stack }) (record { regs = new_regs; stack = reverse new_stack }) (if s || r then Risen else Same)
+  pub merged : (s r : Bool) → RoseTo t stack new_stack s → RoseTo t regs new_regs r → IsMerged t (record { regs = regs; stack = reverse stack })
+      (record { regs = other_regs; stack = reverse other_stack }) (record { regs = new_regs; stack = reverse new_stack }) (if s || r then Risen else Same)
   merged true r hs hr = (
     record { regs = rj; stack = CellsJoin-reverse t sj; no_top = All-reverse IsNotTop new_stack none },
     fewer r hr,
   )
     where
-      fewer : (r : Bool) → RoseTo t regs new_regs r → sum_by (rises_left t) new_regs + sum_by (rises_left t) (reverse new_stack) < sum_by (rises_left t) regs + sum_by (rises_left t) (reverse stack)
+      fewer : (r : Bool) → RoseTo t regs new_regs r → sum_by (rises_left t) new_regs + sum_by (rises_left t) (reverse new_stack) < sum_by (rises_left t)
+          regs + sum_by (rises_left t) (reverse stack)
       fewer true h = omega (arith, sum_by-reverse (rises_left t) new_stack, sum_by-reverse (rises_left t) stack, hs)
       fewer false h = omega (arith, sum_by-reverse (rises_left t) new_stack, sum_by-reverse (rises_left t) stack, hs, ap (sum_by (rises_left t)) h)
   merged false true hs hr = (
@@ -129,7 +147,11 @@ module _ (t : ClassTable) (regs other_regs new_regs stack other_stack new_stack 
     omega (arith, hr, ap (λ xs. sum_by (rises_left t) (reverse xs)) hs),
   )
   merged false false hs hr = (
-    record { regs = subst (CellsJoin t regs other_regs) hr rj; stack = CellsJoin-reverse t (subst (CellsJoin t stack other_stack) hs sj); no_top = All-reverse IsNotTop stack (subst (All IsNotTop) hs none) },
+    record {
+      regs = subst (CellsJoin t regs other_regs) hr rj;
+      stack = CellsJoin-reverse t (subst (CellsJoin t stack other_stack) hs sj);
+      no_top = All-reverse IsNotTop stack (subst (All IsNotTop) hs none);
+    },
     cc,
   )
 

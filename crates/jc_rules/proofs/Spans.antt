@@ -1,5 +1,6 @@
 -- Frames that are held in one list of cells, each in a span of its own.
-use Rattle.std.proofs.Common.{◌≡◌, ℕ, zero, suc, ◌+◌, ◌<◌, ◌≤◌, ◌⊎◌, inl, inr, List, [], ◌∷◌, ◌++◌, length, length-append, map, replicate, reverse, take, drop, set, Option, Some, None, Result, Ok, Err, refl, sym, ◌∙◌, ap, subst, arith}
+use Rattle.std.proofs.Common.{◌≡◌, ℕ, zero, suc, ◌+◌, ◌<◌, ◌≤◌, ◌⊎◌, inl, inr, List, [], ◌∷◌, ◌++◌, length, length-append}
+use Rattle.std.proofs.Common.{map, replicate, reverse, take, drop, set, Option, Some, None, Result, Ok, Err, refl, sym, ◌∙◌, ap, subst, arith}
 use Rattle.std.specs.Prelude.{option_map, OnErr}
 use Rattle.std.proofs.Math.Seq.{take-append_seam, drop-append_seam}
 use Rattle.std.proofs.lemmas.List.{append_assoc, append-nil, length-take, length-drop}
@@ -33,10 +34,12 @@ window-in (x ∷ front) own tail = window-in front own tail
 -- the cells of a part, which lies between others
 pub window-there : (front own tail : List Ty) (b n : ℕ) → length front ≡ b → length own ≡ n → take n (drop b (front ++ (own ++ tail))) ≡ own
 window-there front own tail b n eb en =
-    subst (λ k. take n (drop k (front ++ (own ++ tail))) ≡ own) eb (subst (λ k. take k (drop (length front) (front ++ (own ++ tail))) ≡ own) en (window-in front own tail))
+    subst (λ k. take n (drop k (front ++ (own ++ tail))) ≡ own) eb
+    (subst (λ k. take k (drop (length front) (front ++ (own ++ tail))) ≡ own) en (window-in front own tail))
 
 -- where that part changes, the cells before and after it stay
-pub window-elsewhere : (front own new tail : List Ty) → length new ≡ length own → (b n : ℕ) → (b + n ≤ length front) ⊎ (length front + length own ≤ b) → take n (drop b (front ++ (new ++ tail))) ≡ take n (drop b (front ++ (own ++ tail)))
+pub window-elsewhere : (front own new tail : List Ty) → length new ≡ length own → (b n : ℕ) → (b + n ≤ length front)
+    ⊎ (length front + length own ≤ b) → take n (drop b (front ++ (new ++ tail))) ≡ take n (drop b (front ++ (own ++ tail)))
 window-elsewhere front own new tail e b n (inl h) = window-more front (new ++ tail) b n h ∙ sym (window-more front (own ++ tail) b n h)
 window-elsewhere front own new tail e b n (inr h) =
     let same : length (front ++ new) ≡ length (front ++ own) = omega (arith, length-append front new, length-append front own, e) in
@@ -45,18 +48,22 @@ window-elsewhere front own new tail e b n (inr h) =
     ∙ ap (take n) (drop-after (front ++ new) (front ++ own) tail b same after)
     ∙ ap (λ (xs : List Ty). take n (drop b xs)) (append_assoc front own tail)
 
-module _ (cells front rest own tail : List Ty) (s : Span) (parts : cells ≡ front ++ rest) (after : rest ≡ own ++ tail) (before : length front ≡ s.at) (size : length own ≡ s.registers + s.depth) where
+module _ (cells front rest own tail : List Ty) (s : Span) (parts : cells ≡ front ++ rest) (after : rest ≡ own ++ tail) (before : length front ≡ s.at)
+    (size : length own ≡ s.registers + s.depth) where
   private_parts : cells ≡ front ++ (own ++ tail)
   private_parts = parts ∙ ap (λ (xs : List Ty). front ++ xs) after
 
   -- the cells of a span are a part of its own
   pub own-part : take (s.registers + s.depth) (drop s.at cells) ≡ own
-  own-part = ap (λ (xs : List Ty). take (s.registers + s.depth) (drop s.at xs)) private_parts ∙ window-there front own tail s.at (s.registers + s.depth) before size
+  own-part =
+      ap (λ (xs : List Ty). take (s.registers + s.depth) (drop s.at xs)) private_parts ∙ window-there front own tail s.at (s.registers + s.depth) before
+      size
 
   pub own-part_new : (new : List Ty) → length new ≡ length own → take (s.registers + s.depth) (drop s.at (front ++ (new ++ tail))) ≡ new
   own-part_new new e = window-there front new tail s.at (s.registers + s.depth) before (e ∙ size)
 
-  pub other-parts : (new : List Ty) → length new ≡ length own → (b n : ℕ) → (b + n ≤ s.at) ⊎ (span_end s ≤ b) → take n (drop b (front ++ (new ++ tail))) ≡ take n (drop b cells)
+  pub other-parts : (new : List Ty) → length new ≡ length own → (b n : ℕ) → (b + n ≤ s.at) ⊎ (span_end s ≤ b)
+      → take n (drop b (front ++ (new ++ tail))) ≡ take n (drop b cells)
   other-parts new e b n h = window-elsewhere front own new tail e b n (moved h) ∙ ap (λ (xs : List Ty). take n (drop b xs)) (sym private_parts)
     where
       moved : (b + n ≤ s.at) ⊎ (span_end s ≤ b) → (b + n ≤ length front) ⊎ (length front + length own ≤ b)
@@ -70,17 +77,21 @@ frame-more cells more s h = ap (parted s.registers) (window-more cells more s.at
 -- ---- spans by place
 
 -- the state at a place is the frame of its span
-pub state-span : (cells : List Ty) (spans : List (Option Span)) (p : ℕ) → state_at (frames_at cells spans) p ≡ option_map (frame_of_span cells) (span_at spans p)
+pub state-span : (cells : List Ty) (spans : List (Option Span)) (p : ℕ) → state_at (frames_at cells spans) p ≡ option_map (frame_of_span cells)
+    (span_at spans p)
 unfolding state_at
 state-span cells [] zero = refl
 state-span cells [] (suc p) = refl
 state-span cells (s ∷ spans) zero = refl
 state-span cells (s ∷ spans) (suc p) = state-span cells spans p
 
-pub frame-there : (cells : List Ty) (spans : List (Option Span)) (now : List (Option Frame)) (p : ℕ) (s : Span) → frames_at cells spans ≡ now → span_at spans p ≡ Some s → state_at now p ≡ Some (frame_of_span cells s)
-frame-there cells spans now p s v e = subst (λ xs. state_at xs p ≡ Some (frame_of_span cells s)) v (state-span cells spans p ∙ ap (option_map (frame_of_span cells)) e)
+pub frame-there : (cells : List Ty) (spans : List (Option Span)) (now : List (Option Frame)) (p : ℕ) (s : Span) → frames_at cells spans ≡ now
+    → span_at spans p ≡ Some s → state_at now p ≡ Some (frame_of_span cells s)
+frame-there cells spans now p s v e =
+    subst (λ xs. state_at xs p ≡ Some (frame_of_span cells s)) v (state-span cells spans p ∙ ap (option_map (frame_of_span cells)) e)
 
-pub none-there : (cells : List Ty) (spans : List (Option Span)) (now : List (Option Frame)) (p : ℕ) → frames_at cells spans ≡ now → span_at spans p ≡ None → state_at now p ≡ None
+pub none-there : (cells : List Ty) (spans : List (Option Span)) (now : List (Option Frame)) (p : ℕ) → frames_at cells spans ≡ now
+    → span_at spans p ≡ None → state_at now p ≡ None
 none-there cells spans now p v e = subst (λ xs. state_at xs p ≡ None) v (state-span cells spans p ∙ ap (option_map (frame_of_span cells)) e)
 
 -- a frame of a span has its registers
@@ -109,7 +120,8 @@ option-same : (f g : Span → Frame) (o : Option Span) → ((s : Span) → o ≡
 option-same f g None h = refl
 option-same f g (Some s) h = ap Some (h s refl)
 
-frames-same : (f g : Span → Frame) (spans : List (Option Span)) → ((q : ℕ) (s : Span) → span_at spans q ≡ Some s → f s ≡ g s) → map (option_map f) spans ≡ map (option_map g) spans
+frames-same : (f g : Span → Frame) (spans : List (Option Span)) → ((q : ℕ) (s : Span) → span_at spans q ≡ Some s → f s ≡ g s)
+    → map (option_map f) spans ≡ map (option_map g) spans
 frames-same f g [] h = refl
 frames-same f g (o ∷ spans) h =
     ap (λ (x : Option Frame). x ∷ map (option_map f) spans) (option-same f g o (h zero))
@@ -165,8 +177,10 @@ spans-kept cells new spans e is = record {
   apart = is.apart;
 }
 
-module _ (cells more : List Ty) (spans : List (Option Span)) (is : AreSpans cells spans) (p : ℕ) (lt : p < length spans) (new : Span) (at : new.at ≡ length cells) (size : length more ≡ new.registers + new.depth) (few : new.depth ≤ 255) where
-  private_within : (q : ℕ) (s : Span) → (q ≡ p) ⊎ (¬ (q ≡ p)) → span_at (set spans p (Some new)) q ≡ Some s → (span_end s ≤ length (cells ++ more)) × (s.depth ≤ 255)
+module _ (cells more : List Ty) (spans : List (Option Span)) (is : AreSpans cells spans) (p : ℕ) (lt : p < length spans) (new : Span)
+    (at : new.at ≡ length cells) (size : length more ≡ new.registers + new.depth) (few : new.depth ≤ 255) where
+  private_within : (q : ℕ) (s : Span) → (q ≡ p) ⊎ (¬ (q ≡ p)) → span_at (set spans p (Some new)) q ≡ Some s
+      → (span_end s ≤ length (cells ++ more)) × (s.depth ≤ 255)
   private_within q s (inl here) e =
       let is_new : new ≡ s = some-same (sym (span-set spans p (Some new) lt) ∙ subst (λ k. span_at (set spans p (Some new)) k ≡ Some s) here e) in
       subst (λ (u : Span). (span_end u ≤ length (cells ++ more)) × (u.depth ≤ 255)) is_new (omega (arith, length-append cells more, at, size), few)
@@ -177,7 +191,8 @@ module _ (cells more : List Ty) (spans : List (Option Span)) (is : AreSpans cell
       let old = sym (span-set_other spans p q (Some new) other) ∙ e in
       (omega (arith, length-append cells more, is.within q s old), is.few q s old)
 
-  private_apart : (q k : ℕ) (s u : Span) → (q ≡ p) ⊎ (¬ (q ≡ p)) → (k ≡ p) ⊎ (¬ (k ≡ p)) → ¬ (q ≡ k) → span_at (set spans p (Some new)) q ≡ Some s → span_at (set spans p (Some new)) k ≡ Some u → AreApart s u
+  private_apart : (q k : ℕ) (s u : Span) → (q ≡ p) ⊎ (¬ (q ≡ p)) → (k ≡ p) ⊎ (¬ (k ≡ p)) → ¬ (q ≡ k)
+      → span_at (set spans p (Some new)) q ≡ Some s → span_at (set spans p (Some new)) k ≡ Some u → AreApart s u
   private_apart q k s u (inl a) (inl b) n es eu = absurd (n (a ∙ sym b))
   private_apart q k s u (inl a) (inr b) n es eu =
       let is_new : new ≡ s = some-same (sym (span-set spans p (Some new) lt) ∙ subst (λ j. span_at (set spans p (Some new)) j ≡ Some s) a es) in
@@ -205,13 +220,15 @@ module _ (cells more : List Ty) (spans : List (Option Span)) (is : AreSpans cell
   }
 
   -- the frame of that span is put at the place
-  pub frames-put : (f : Frame) → frame_of_span (cells ++ more) new ≡ f → frames_at (cells ++ more) (set spans p (Some new)) ≡ set (frames_at cells spans) p (Some f)
+  pub frames-put : (f : Frame) → frame_of_span (cells ++ more) new ≡ f → frames_at (cells ++ more) (set spans p (Some new))
+      ≡ set (frames_at cells spans) p (Some f)
   frames-put f e =
       frames-set (frame_of_span (cells ++ more)) (frame_of_span cells) spans p (Some new) lt (λ q s n h. frame-more cells more s (is.within q s h))
       ∙ ap (λ (g : Frame). set (frames_at cells spans) p (Some g)) e
 
 -- the frame of the cells that came
-pub frame-put : (cells regs stack : List Ty) (s : Span) → s.at ≡ length cells → s.registers ≡ length regs → s.depth ≡ length stack → frame_of_span (cells ++ (regs ++ stack)) s ≡ record { regs = regs; stack = reverse stack }
+pub frame-put : (cells regs stack : List Ty) (s : Span) → s.at ≡ length cells → s.registers ≡ length regs → s.depth ≡ length stack
+    → frame_of_span (cells ++ (regs ++ stack)) s ≡ record { regs = regs; stack = reverse stack }
 frame-put cells regs stack s at registers depth =
     let own = regs ++ stack in
     let size : length own ≡ s.registers + s.depth = omega (arith, length-append regs stack, registers, depth) in

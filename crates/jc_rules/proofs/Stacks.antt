@@ -1,6 +1,8 @@
 -- Lemmas on the stack that a slice with a depth holds.
-use Rattle.std.proofs.Common.{◌≡◌, ℕ, ◌+◌, ◌-◌, ◌<◌, ◌≤◌, List, [], ◌∷◌, ◌++◌, length, take, drop, reverse, map, set, refl, sym, ◌∙◌, ap, subst, arith, append_assoc, length-append, length-take, length-drop}
-use Rattle.std.proofs.lemmas.List.{reverse-append, take-append-drop, take_more_set, length-reverse, drop-take, take-append-le, drop-append-le, map-append, length-map, take-take}
+use Rattle.std.proofs.Common.{◌≡◌, ℕ, ◌+◌, ◌-◌, ◌<◌, ◌≤◌, List, [], ◌∷◌, ◌++◌, length, take, drop, reverse, map, set, refl}
+use Rattle.std.proofs.Common.{sym, ◌∙◌, ap, subst, arith, append_assoc, length-append, length-take, length-drop}
+use Rattle.std.proofs.lemmas.List.{reverse-append, take-append-drop, take_more_set, length-reverse, drop-take, take-append-le, drop-append-le, map-append}
+use Rattle.std.proofs.lemmas.List.{length-map, take-take}
 use Rattle.std.proofs.lemmas.List.Edits.{take-paste}
 use Rattle.std.proofs.lemmas.Slice.{take-put_mid}
 use Rattle.std.proofs.Math.Seq.{take-append_seam, drop-append_seam, take-add, paste}
@@ -77,16 +79,22 @@ cells-exchanged s r d m n h g e =
     let high : length (drop n region) ≡ m = omega (arith, long, length-drop n region) in
     let size : length r ≡ m + n = ap length e ∙ length-append (drop n region) (take n region) ∙ omega arith in
     let now : take d (put_mid at (d - at) s r) ≡ take at s ++ r = take-put_mid at (d - at) s r d (omega arith) (omega arith) in
-    let turned_over : reverse (take at s ++ (drop n region ++ take n region)) ≡ take n (drop m (reverse (take at s ++ (take n region ++ drop n region)))) ++ (take m (reverse (take at s ++ (take n region ++ drop n region))) ++ drop (m + n) (reverse (take at s ++ (take n region ++ drop n region)))) =
+    let turned_over : reverse (take at s ++ (drop n region ++ take n region))
+    ≡ take n
+    (drop m (reverse (take at s ++ (take n region ++ drop n region)))) ++ (take m (reverse (take at s ++ (take n region ++ drop n region))) ++ drop
+    (m + n) (reverse (take at s ++ (take n region ++ drop n region)))) =
     exchanged m n (take at s) (take n region) (drop n region) high low in
     let before : take at s ++ (take n region ++ drop n region) ≡ take d s = ap (λ xs. take at s ++ xs) parts ∙ sym whole in
     ap reverse (now ∙ ap (λ xs. take at s ++ xs) e)
-    ∙ subst (λ w. reverse (take at s ++ (drop n region ++ take n region)) ≡ take n (drop m (reverse w)) ++ (take m (reverse w) ++ drop (m + n) (reverse w))) before turned_over
+    ∙ subst
+    (λ w. reverse (take at s ++ (drop n region ++ take n region)) ≡ take n (drop m (reverse w)) ++ (take m (reverse w) ++ drop (m + n) (reverse w)))
+    before turned_over
 
 -- a copy of the top cells goes under the top ones
 pub cells-copied : (s t r : List Ty) (d m n : ℕ) → m ≤ d → n ≤ d → d + m ≤ length s → length t ≡ length s →
     t ≡ paste s d (drop (d - m) s) (d - (d - m)) →
-    r ≡ drop (length (mid_of (d - n) (d + m - (d - n)) t) - m) (mid_of (d - n) (d + m - (d - n)) t) ++ take (length (mid_of (d - n) (d + m - (d - n)) t) - m) (mid_of (d - n) (d + m - (d - n)) t) →
+    r ≡ drop (length (mid_of (d - n) (d + m - (d - n)) t) - m) (mid_of (d - n) (d + m - (d - n)) t) ++ take
+    (length (mid_of (d - n) (d + m - (d - n)) t) - m) (mid_of (d - n) (d + m - (d - n)) t) →
     cells (put_mid (d - n) (d + m - (d - n)) t r) (d + m) ≡ take n (cells s d) ++ (take m (cells s d) ++ drop n (cells s d))
 unfolding cells
 cells-copied s t r d m n hm hn g of_t et er =
@@ -131,7 +139,8 @@ cells-copied s t r d m n hm hn g of_t et er =
     ∙ ap (λ xs. a ++ xs) turned_over in
     let first_n : take n (reverse (take d s)) ≡ reverse b = subst (λ w. take n (reverse w) ≡ reverse b) top_n (reverse-parts n a b of_b).0 in
     let past_n : drop n (reverse (take d s)) ≡ reverse a = subst (λ w. drop n (reverse w) ≡ reverse a) top_n (reverse-parts n a b of_b).1 in
-    let first_m : take m (reverse (take d s)) ≡ reverse c = subst (λ w. take m (reverse w) ≡ reverse c) top_m (reverse-parts m (take (d - m) s) c of_c).0 in
+    let first_m : take m (reverse (take d s)) ≡ reverse c = subst (λ w. take m (reverse w) ≡ reverse c) top_m
+    (reverse-parts m (take (d - m) s) c of_c).0 in
     let all : reverse (take (d + m) (put_mid at (d + m - at) t r)) ≡ reverse b ++ (reverse c ++ reverse a) = ap reverse now ∙ copied_under a b c in
     cc (all, first_n, past_n, first_m)
 

@@ -1,5 +1,6 @@
 -- Operations keep stacks whole.
-use Rattle.std.proofs.Common.{◌≡◌, ℕ, zero, suc, ◌+◌, ◌-◌, Bool, true, false, cond, ◌==◌, inl, inr, List, [], ◌∷◌, ◌++◌, length, take, drop, map, reverse, All, Option, Some, None, IsSomeAnd, IfSome, slice_get, refl, sym, ◌∙◌, ap, subst, arith}
+use Rattle.std.proofs.Common.{◌≡◌, ℕ, zero, suc, ◌+◌, ◌-◌, Bool, true, false, cond, ◌==◌, inl, inr, List, [], ◌∷◌, ◌++◌, length}
+use Rattle.std.proofs.Common.{take, drop, map, reverse, All, Option, Some, None, IsSomeAnd, IfSome, slice_get, refl, sym, ◌∙◌, ap, subst, arith}
 use Rattle.std.proofs.lemmas.List.{length-reverse, reverse-append, reverse-reverse}
 use Rattle.jc_base.specs.declared.ty.Ty.{Ty}
 use Rattle.jc_base.specs.declared.ty.Ty.TheVariants.{Bottom, Short, IntHigh, IntLow, Null, Class, ArrBool, ArrByte, ArrShort, ArrInt, ArrRef, Fresh, Top}
@@ -42,7 +43,12 @@ use Rattle.jc_rules.specs.declared.effect.Cells.{Cells}
 use Rattle.jc_rules.specs.declared.effect.Cells.TheVariants as given
 use Rattle.jc_rules.specs.Effect.{in_stack_order, ready, changed, reg}
 use Rattle.jc_rules.specs.Demand.{Frame, IsHalf, IsArrayOrNull, IsFreshOf, Meets, Splits, SatisfiesAll}
-use Rattle.jc_rules.specs.Rule.{constant_effect, load_demands, load_effect, store_demands, store_effect, increment_effect, move_demands, move_effect, arithmetic_demands, arithmetic_effect, array_read_demands, array_read_effect, array_write_demands, array_write_effect, branch_demands, branch_effect, field_read_demands, field_read_effect, field_write_demands, field_write_effect, type_test_effect, return_demands, return_effect, cell, number, two_numbers, size, number_given, value_given, value_wanted, value_size, or_null, element, array_wanted, a_reference, ready_with, cells_wanted, call_demands, call_effect, result_given, args_at, result_at, seen, demands, effect}
+use Rattle.jc_rules.specs.Rule.{constant_effect, load_demands, load_effect, store_demands, store_effect, increment_effect, move_demands, move_effect}
+use Rattle.jc_rules.specs.Rule.{arithmetic_demands, arithmetic_effect, array_read_demands, array_read_effect, array_write_demands, array_write_effect}
+use Rattle.jc_rules.specs.Rule.{branch_demands, branch_effect, field_read_demands, field_read_effect, field_write_demands, field_write_effect, type_test_effect}
+use Rattle.jc_rules.specs.Rule.{return_demands, return_effect, cell, number, two_numbers, size, number_given, value_given, value_wanted, value_size, or_null}
+use Rattle.jc_rules.specs.Rule.{element, array_wanted, a_reference, ready_with, cells_wanted, call_demands, call_effect, result_given, args_at, result_at, seen}
+use Rattle.jc_rules.specs.Rule.{demands, effect}
 use Rattle.jc_rules.specs.Whole.{OperationKeepsWhole}
 use Rattle.jc_rules.specs.Flow.{IsNotTop}
 use Rattle.jc_rules.proofs.Falls.{low-up, LowUp, half-up, some-or}
@@ -85,13 +91,16 @@ whole-join (one_cell n g) h = one_cell n (whole-join g h)
 
 paired-from : {xs : List Ty} → AreWhole xs → IsPaired (reverse xs)
 paired-from no_cells = paired_empty
-paired-from (whole_int {types = xs} h) = subst IsPaired (sym (reverse-append (IntHigh ∷ IntLow ∷ []) xs)) (whole-append (paired-from h) (paired_int paired_empty))
-paired-from (one_cell {a = a} {types = xs} n h) = subst IsPaired (sym (reverse-append (a ∷ []) xs)) (whole-append (paired-from h) (paired_cell (no-half a n) paired_empty))
+paired-from (whole_int {types = xs} h) =
+    subst IsPaired (sym (reverse-append (IntHigh ∷ IntLow ∷ []) xs)) (whole-append (paired-from h) (paired_int paired_empty))
+paired-from (one_cell {a = a} {types = xs} n h) =
+    subst IsPaired (sym (reverse-append (a ∷ []) xs)) (whole-append (paired-from h) (paired_cell (no-half a n) paired_empty))
 
 whole-from : {s : List Ty} → IsPaired s → AreWhole (reverse s)
 whole-from paired_empty = no_cells
 whole-from (paired_int {s = s} h) = subst AreWhole (sym (reverse-append (IntLow ∷ IntHigh ∷ []) s)) (whole-join (whole-from h) (whole_int no_cells))
-whole-from (paired_cell {ty = ty} {s = s} n h) = subst AreWhole (sym (reverse-append (ty ∷ []) s)) (whole-join (whole-from h) (one_cell (half-not ty n) no_cells))
+whole-from (paired_cell {ty = ty} {s = s} n h) =
+    subst AreWhole (sym (reverse-append (ty ∷ []) s)) (whole-join (whole-from h) (one_cell (half-not ty n) no_cells))
 
 whole-rest : {ty : Ty} {s : List Ty} → ¬ (IsHalf ty) → IsPaired (ty ∷ s) → IsPaired s
 whole-rest n (paired_int h) = absurd (n tt)
@@ -230,17 +239,21 @@ module _ (t : ClassTable) where
 
   -- ---- cells that go
 
-  peel-one : (s : List Ty) (n : ℕ) (want : Want) → TakesNoHalf want → IsSomeAnd (slice_get s n) (Meets t want) → IsPaired (drop n s) → IsPaired (drop (n + 1) s)
+  peel-one : (s : List Ty) (n : ℕ) (want : Want) → TakesNoHalf want → IsSomeAnd (slice_get s n) (Meets t want) → IsPaired (drop n s)
+      → IsPaired (drop (n + 1) s)
   peel-one [] n want k m h = absurd m
   peel-one (x ∷ s) zero want k m h = whole-rest (met-half want x k m) h
-  peel-one (x ∷ s) (suc n) want k m h = let e : suc n + 1 ≡ suc (n + 1) = omega arith in subst (λ j. IsPaired (drop j (x ∷ s))) (sym e) (peel-one s n want k m h)
+  peel-one (x ∷ s) (suc n) want k m h =
+      let e : suc n + 1 ≡ suc (n + 1) = omega arith in subst (λ j. IsPaired (drop j (x ∷ s))) (sym e) (peel-one s n want k m h)
 
-  int-top : (s : List Ty) → IsSomeAnd (slice_get s 0) (Meets t (Value IntLow)) → IsSomeAnd (slice_get s 1) (Meets t (Value IntHigh)) → IsPaired s → IsPaired (drop 2 s)
+  int-top : (s : List Ty) → IsSomeAnd (slice_get s 0) (Meets t (Value IntLow)) → IsSomeAnd (slice_get s 1) (Meets t (Value IntHigh)) → IsPaired s
+      → IsPaired (drop 2 s)
   int-top [] m k h = absurd m
   int-top (x ∷ []) m k h = absurd k
   int-top (x ∷ y ∷ s) m k h = int-rest m k h
 
-  peel-int : (s : List Ty) (n : ℕ) → IsSomeAnd (slice_get s n) (Meets t (Value IntLow)) → IsSomeAnd (slice_get s (n + 1)) (Meets t (Value IntHigh)) → IsPaired (drop n s) → IsPaired (drop (n + 2) s)
+  peel-int : (s : List Ty) (n : ℕ) → IsSomeAnd (slice_get s n) (Meets t (Value IntLow)) → IsSomeAnd (slice_get s (n + 1)) (Meets t (Value IntHigh))
+      → IsPaired (drop n s) → IsPaired (drop (n + 2) s)
   peel-int s zero m k h = int-top s m k h
   peel-int [] (suc n) m k h = absurd m
   peel-int (x ∷ s) (suc n) m k h =
@@ -248,13 +261,15 @@ module _ (t : ClassTable) where
       let f : suc n + 1 ≡ suc (n + 1) = omega arith in
       subst (λ j. IsPaired (drop j (x ∷ s))) (sym e) (peel-int s n m (subst (λ j. IsSomeAnd (slice_get (x ∷ s) j) (Meets t (Value IntHigh))) f k) h)
 
-  peel-number : (s : Frame) (width : Width) (n : ℕ) → SatisfiesAll t s (number width n) → IsPaired (drop n s.stack) → IsPaired (drop (n + size width) s.stack)
+  peel-number : (s : Frame) (width : Width) (n : ℕ) → SatisfiesAll t s (number width n) → IsPaired (drop n s.stack)
+      → IsPaired (drop (n + size width) s.stack)
   unfolding TakesNoHalf
   peel-number s widths.Short n all h = peel-one s.stack n (Value Short) ((λ k. k), tt) all.0 h
   peel-number s widths.Int n all h = peel-int s.stack n all.0 all.1.0 h
 
   -- the type of a value that a frame has is no low half
-  value-rest : (f : Frame) (ty : Ty) (rest : List Demand) → IsNotTop ty → ¬ (ty ≡ IntLow) → SatisfiesAll t f (value_wanted ty ++ rest) → IsPaired f.stack → IsPaired (drop (value_size ty) f.stack)
+  value-rest : (f : Frame) (ty : Ty) (rest : List Demand) → IsNotTop ty → ¬ (ty ≡ IntLow) → SatisfiesAll t f (value_wanted ty ++ rest)
+      → IsPaired f.stack → IsPaired (drop (value_size ty) f.stack)
   unfolding TakesNoHalf
   value-rest f IntHigh rest top low all h = peel-int f.stack 0 all.0 all.1.0 h
   value-rest f IntLow rest top low all h = absurd (low refl)
@@ -354,14 +369,16 @@ takes-class : (receiver : Option Want) (c : ℕ) → receiver ≡ Some (Value (C
 unfolding TakesNoHalf
 takes-class receiver c e = subst (λ o. IfSome o TakesNoHalf) (sym e) ((λ k. k), tt)
 
-receiver-takes : (w : Linked) (n : ℕ) (m : MethodRec) (receiver : Option Want) (choice : Choice) → IsChosen w n m receiver choice → IfSome receiver TakesNoHalf
+receiver-takes : (w : Linked) (n : ℕ) (m : MethodRec) (receiver : Option Want) (choice : Choice) → IsChosen w n m receiver choice
+    → IfSome receiver TakesNoHalf
 receiver-takes w n m receiver (choices.Virtual c token) h = takes-class receiver c h.receiver_is
 receiver-takes w n m receiver choices.Special h = receiver-of w m receiver h.receives
 receiver-takes w n m receiver choices.Static h = subst (λ o. IfSome o TakesNoHalf) (sym h.receiver_is) tt
 receiver-takes w n m receiver (choices.Interface c token words) h = takes-class receiver (object w.classes) h.receiver_is
 
 -- what a receiver that is found makes ready leaves halves as they are
-ready-keeps : (taken : ℕ) (cells : Cells) (found : Ty) (want : Want) (s : List Ty) → IsPaired (in_stack_order cells) → IsPaired (drop taken s) → IsPaired (changed (ready_with taken cells found want) s)
+ready-keeps : (taken : ℕ) (cells : Cells) (found : Ty) (want : Want) (s : List Ty) → IsPaired (in_stack_order cells) → IsPaired (drop taken s)
+    → IsPaired (changed (ready_with taken cells found want) s)
 ready-keeps taken cells (Fresh p c) (Receiver d) s g h = whole-append g (whole-ready p d h)
 ready-keeps taken cells (Fresh p c) (Value ty) s g h = whole-append g h
 ready-keeps taken cells (Fresh p c) Storable s g h = whole-append g h
@@ -387,7 +404,8 @@ top-one t (x ∷ s) m = paired_cell m paired_empty
 
 module _ (t : ClassTable) (f : Frame) (whole : IsPaired f.stack) where
   -- the arguments go
-  peel-args : (tys : List Ty) (n : ℕ) → IsPaired tys → All IsNotTop tys → SatisfiesAll t f (cells_wanted n tys) → IsPaired (drop n f.stack) → IsPaired (drop (n + length tys) f.stack)
+  peel-args : (tys : List Ty) (n : ℕ) → IsPaired tys → All IsNotTop tys → SatisfiesAll t f (cells_wanted n tys) → IsPaired (drop n f.stack)
+      → IsPaired (drop (n + length tys) f.stack)
   unfolding TakesNoHalf
   peel-args _ n paired_empty top all h = let e : n + 0 ≡ n = omega arith in subst (λ j. IsPaired (drop j f.stack)) (sym e) h
   peel-args _ n (paired_int {s = rest} g) top all h =
@@ -402,12 +420,14 @@ module _ (t : ClassTable) (f : Frame) (whole : IsPaired f.stack) where
       (peel-args rest (n + 1) g (λ k d lt. top (suc k) d (omega arith)) all.1
       (peel-one t f.stack n (Value ty) (c, top 0 ty (omega arith)) all.0 h))
 
-  args-rest : (args : List Ty) (ds : List Demand) → IsPaired (reverse args) → All IsNotTop (reverse args) → SatisfiesAll t f (cells_wanted 0 (reverse args) ++ ds) → IsPaired (drop (length args) f.stack)
+  args-rest : (args : List Ty) (ds : List Demand) → IsPaired (reverse args) → All IsNotTop (reverse args)
+      → SatisfiesAll t f (cells_wanted 0 (reverse args) ++ ds) → IsPaired (drop (length args) f.stack)
   args-rest args ds g top all =
       let e : 0 + length (reverse args) ≡ length args = omega (arith, length-reverse args) in
       subst (λ j. IsPaired (drop j f.stack)) e (peel-args (reverse args) 0 g top (SatisfiesAll-front t f (cells_wanted 0 (reverse args)) ds all) whole)
 
-  keep-call : (args : List Ty) (result : Option Ty) (receiver : Option Want) → IsPaired (reverse args) → All IsNotTop (reverse args) → IfSome result (λ ty. ¬ (ty ≡ IntLow)) → IfSome receiver TakesNoHalf
+  keep-call : (args : List Ty) (result : Option Ty) (receiver : Option Want) → IsPaired (reverse args) → All IsNotTop (reverse args)
+      → IfSome result (λ ty. ¬ (ty ≡ IntLow)) → IfSome receiver TakesNoHalf
       → SatisfiesAll t f (call_demands args receiver) → IsPaired (changed (call_effect args result receiver f).change f.stack)
   keep-call args result None g top low k all = whole-append (result-whole result low) (args-rest args [] g top all)
     where
@@ -428,7 +448,8 @@ module _ (t : ClassTable) (f : Frame) (whole : IsPaired f.stack) where
   one-gone : (want : Want) → TakesNoHalf want → IsSomeAnd (slice_get f.stack 0) (Meets t want) → IsPaired (drop 1 f.stack)
   one-gone want k m = peel-one t f.stack 0 want k m whole
 
-  next-gone : (n : ℕ) (want : Want) → TakesNoHalf want → IsSomeAnd (slice_get f.stack n) (Meets t want) → IsPaired (drop n f.stack) → IsPaired (drop (n + 1) f.stack)
+  next-gone : (n : ℕ) (want : Want) → TakesNoHalf want → IsSomeAnd (slice_get f.stack n) (Meets t want) → IsPaired (drop n f.stack)
+      → IsPaired (drop (n + 1) f.stack)
   next-gone n want k m h = peel-one t f.stack n want k m h
 
   a_short : TakesNoHalf (Value Short)
@@ -483,16 +504,29 @@ module _ (t : ClassTable) (f : Frame) (whole : IsPaired f.stack) where
   keep-arithmetic arithmetic.CompareInts all = whole-append (short-one t) (two-gone widths.Int all)
 
   keep-array_read : (k : Kind) → SatisfiesAll t f (array_read_demands t k) → IsPaired (changed (array_read_effect k f).change f.stack)
-  keep-array_read kinds.Ref all = whole-append (whole-one t (element (cell f.stack 1)) (element-half t (cell f.stack 1))) (next-gone 1 (array_wanted t kinds.Ref) (an_array kinds.Ref) all.1.0 (one-gone (Value Short) a_short all.0))
-  keep-array_read kinds.Byte all = whole-append (short-one t) (next-gone 1 (array_wanted t kinds.Byte) (an_array kinds.Byte) all.1.0 (one-gone (Value Short) a_short all.0))
-  keep-array_read kinds.Short all = whole-append (short-one t) (next-gone 1 (array_wanted t kinds.Short) (an_array kinds.Short) all.1.0 (one-gone (Value Short) a_short all.0))
-  keep-array_read kinds.Int all = whole-append (whole-number t widths.Int) (next-gone 1 (array_wanted t kinds.Int) (an_array kinds.Int) all.1.0 (one-gone (Value Short) a_short all.0))
+  keep-array_read kinds.Ref all =
+      whole-append (whole-one t (element (cell f.stack 1)) (element-half t (cell f.stack 1)))
+      (next-gone 1 (array_wanted t kinds.Ref) (an_array kinds.Ref) all.1.0 (one-gone (Value Short) a_short all.0))
+  keep-array_read kinds.Byte all =
+      whole-append (short-one t) (next-gone 1 (array_wanted t kinds.Byte) (an_array kinds.Byte) all.1.0 (one-gone (Value Short) a_short all.0))
+  keep-array_read kinds.Short all =
+      whole-append (short-one t) (next-gone 1 (array_wanted t kinds.Short) (an_array kinds.Short) all.1.0 (one-gone (Value Short) a_short all.0))
+  keep-array_read kinds.Int all =
+      whole-append (whole-number t widths.Int) (next-gone 1 (array_wanted t kinds.Int) (an_array kinds.Int) all.1.0 (one-gone (Value Short) a_short all.0))
 
   keep-array_write : (k : Kind) → SatisfiesAll t f (array_write_demands t k) → IsPaired (changed (array_write_effect k).change f.stack)
-  keep-array_write kinds.Ref all = next-gone 2 (array_wanted t kinds.Ref) (an_array kinds.Ref) all.1.1.0 (next-gone 1 (Value Short) a_short all.1.0 (one-gone (a_reference t) (a_class (object t)) all.0))
-  keep-array_write kinds.Byte all = next-gone 2 (array_wanted t kinds.Byte) (an_array kinds.Byte) all.1.1.0 (next-gone 1 (Value Short) a_short all.1.0 (one-gone (Value Short) a_short all.0))
-  keep-array_write kinds.Short all = next-gone 2 (array_wanted t kinds.Short) (an_array kinds.Short) all.1.1.0 (next-gone 1 (Value Short) a_short all.1.0 (one-gone (Value Short) a_short all.0))
-  keep-array_write kinds.Int all = next-gone 3 (array_wanted t kinds.Int) (an_array kinds.Int) all.1.1.1.0 (next-gone 2 (Value Short) a_short all.1.1.0 (peel-int t f.stack 0 all.0 all.1.0 whole))
+  keep-array_write kinds.Ref all =
+      next-gone 2 (array_wanted t kinds.Ref) (an_array kinds.Ref) all.1.1.0
+      (next-gone 1 (Value Short) a_short all.1.0 (one-gone (a_reference t) (a_class (object t)) all.0))
+  keep-array_write kinds.Byte all =
+      next-gone 2 (array_wanted t kinds.Byte) (an_array kinds.Byte) all.1.1.0
+      (next-gone 1 (Value Short) a_short all.1.0 (one-gone (Value Short) a_short all.0))
+  keep-array_write kinds.Short all =
+      next-gone 2 (array_wanted t kinds.Short) (an_array kinds.Short) all.1.1.0
+      (next-gone 1 (Value Short) a_short all.1.0 (one-gone (Value Short) a_short all.0))
+  keep-array_write kinds.Int all =
+      next-gone 3 (array_wanted t kinds.Int) (an_array kinds.Int) all.1.1.1.0
+      (next-gone 2 (Value Short) a_short all.1.1.0 (peel-int t f.stack 0 all.0 all.1.0 whole))
 
   keep-branch : (b : Branch) → SatisfiesAll t f (branch_demands t b) → IsPaired (changed (branch_effect b).change f.stack)
   keep-branch branches.Always all = whole
@@ -509,7 +543,10 @@ module _ (t : ClassTable) (f : Frame) (whole : IsPaired f.stack) where
 
   keep-load : (s : Sort) (x : ℕ) → SatisfiesAll t f (load_demands t s x) → IsPaired (changed (load_effect s x f).change f.stack)
   keep-load sorts.Reference x all =
-      whole-append (whole-one t (or_null (reg f.regs x)) (or_null-half t (reg f.regs x) (below-half t (reg f.regs x) (Class (object t)) (some-or (λ ty. Below t ty (Class (object t))) f.regs x all.1.0) (λ k. k) tt))) whole
+      whole-append
+      (whole-one t (or_null (reg f.regs x))
+      (or_null-half t (reg f.regs x) (below-half t (reg f.regs x) (Class (object t)) (some-or (λ ty. Below t ty (Class (object t))) f.regs x all.1.0)
+      (λ k. k) tt))) whole
   keep-load sorts.Short x all = whole-append (short-one t) whole
   keep-load sorts.Int x all = whole-append (whole-number t widths.Int) whole
 
@@ -522,14 +559,17 @@ module _ (t : ClassTable) (f : Frame) (whole : IsPaired f.stack) where
   keep-increment widths.Short x = whole
   keep-increment widths.Int x = whole
 
-  value-gone : (ty : Ty) (rest : List Demand) → IsNotTop ty → ¬ (ty ≡ IntLow) → SatisfiesAll t f (value_wanted ty ++ rest) → IsPaired (drop (value_size ty) f.stack)
+  value-gone : (ty : Ty) (rest : List Demand) → IsNotTop ty → ¬ (ty ≡ IntLow) → SatisfiesAll t f (value_wanted ty ++ rest)
+      → IsPaired (drop (value_size ty) f.stack)
   value-gone ty rest top low all = value-rest t f ty rest top low all whole
 
-  keep-read : (h : Holder) (c : ℕ) (ty : Ty) → ¬ (ty ≡ IntLow) → SatisfiesAll t f (field_read_demands h c) → IsPaired (changed (field_read_effect h ty).change f.stack)
+  keep-read : (h : Holder) (c : ℕ) (ty : Ty) → ¬ (ty ≡ IntLow) → SatisfiesAll t f (field_read_demands h c)
+      → IsPaired (changed (field_read_effect h ty).change f.stack)
   keep-read holders.Stack c ty low all = whole-append (whole-given t ty low) (one-gone (Value (Class c)) (a_class c) all.0)
   keep-read holders.This c ty low all = whole-append (whole-given t ty low) whole
 
-  keep-write : (h : Holder) (c : ℕ) (ty : Ty) → IsNotTop ty → ¬ (ty ≡ IntLow) → SatisfiesAll t f (field_write_demands h c ty) → IsPaired (changed (field_write_effect h ty).change f.stack)
+  keep-write : (h : Holder) (c : ℕ) (ty : Ty) → IsNotTop ty → ¬ (ty ≡ IntLow) → SatisfiesAll t f (field_write_demands h c ty)
+      → IsPaired (changed (field_write_effect h ty).change f.stack)
   keep-write holders.Stack c ty top low all =
       next-gone (value_size ty) (Value (Class c)) (a_class c) (SatisfiesAll-rest t f (value_wanted ty) (Cell (value_size ty) (Value (Class c)) ∷ []) all).0
       (value-gone ty (Cell (value_size ty) (Value (Class c)) ∷ []) top low all)
@@ -550,7 +590,9 @@ first-no_low None h = tt
 first-no_low (Some ty) h = λ e. subst IsFirstCell e h
 
 module _ (w : Linked) (is : IsWorld w) (f : Frame) (whole : IsPaired f.stack) (m : MethodRec) (place : ℕ) where
-  keep-called : (c : Callee) (o : Option MethodRec) → slice_get w.methods c.method ≡ o → IsCalleeOf w c → SatisfiesAll w.classes f (call_demands (args_at o) c.receiver) → IsPaired (changed (call_effect (args_at o) (result_at o) c.receiver f).change f.stack)
+  keep-called : (c : Callee) (o : Option MethodRec) → slice_get w.methods c.method ≡ o → IsCalleeOf w c
+      → SatisfiesAll w.classes f (call_demands (args_at o) c.receiver)
+      → IsPaired (changed (call_effect (args_at o) (result_at o) c.receiver f).change f.stack)
   keep-called c None e h all = absurd (no-method (h.is_method) e)
     where
       no-method : slice_get w.methods c.method ≡ Some h.rec → slice_get w.methods c.method ≡ None → ⊥
@@ -560,9 +602,11 @@ module _ (w : Linked) (is : IsWorld w) (f : Frame) (whole : IsPaired f.stack) (m
       keep-call w.classes f whole r.sig.args r.sig.result c.receiver (paired-from method.whole) (declared-args w r method)
       (first-no_low r.sig.result method.first) (receiver-takes w c.method h.rec c.receiver c.choice h.chosen) all
 
-  keep-return : (result : Option Ty) → IfSome result (IsResult w.classes) → SatisfiesAll w.classes f (return_demands result) → IsPaired (changed (return_effect result).change f.stack)
+  keep-return : (result : Option Ty) → IfSome result (IsResult w.classes) → SatisfiesAll w.classes f (return_demands result)
+      → IsPaired (changed (return_effect result).change f.stack)
   keep-return None h all = whole
-  keep-return (Some ty) h all = value-gone w.classes f whole ty [] (declared-not_top w.classes ty h.declared) h.no_low (SatisfiesAll-append w.classes f (value_wanted ty) [] all tt)
+  keep-return (Some ty) h all =
+      value-gone w.classes f whole ty [] (declared-not_top w.classes ty h.declared) h.no_low (SatisfiesAll-append w.classes f (value_wanted ty) [] all tt)
 
   keeps-whole : (op : Operation) → IsSound w m place op → SatisfiesAll w.classes f (demands w op) → IsPaired (changed (effect w op f).change f.stack)
   keeps-whole (ops.Constant c) sound all = keep-constant w.classes f whole c
@@ -578,17 +622,20 @@ module _ (w : Linked) (is : IsWorld w) (f : Frame) (whole : IsPaired f.stack) (m
   keeps-whole (ops.Switch width) sound all = number-gone w.classes f whole width all
   keeps-whole (ops.StaticRead field) sound all = whole-append (whole-given w.classes field.ty (kind-low field.kind field.ty sound.kind)) whole
   keeps-whole (ops.StaticWrite field) sound all =
-      value-gone w.classes f whole field.ty [] (declared-not_top w.classes field.ty sound.ty) (kind-low field.kind field.ty sound.kind) (SatisfiesAll-append w.classes f (value_wanted field.ty) [] all tt)
+      value-gone w.classes f whole field.ty [] (declared-not_top w.classes field.ty sound.ty) (kind-low field.kind field.ty sound.kind)
+      (SatisfiesAll-append w.classes f (value_wanted field.ty) [] all tt)
   keeps-whole (ops.FieldRead field h) sound all = keep-read w.classes f whole h field.class field.ty (kind-low field.kind field.ty sound.cells.kind) all
   keeps-whole (ops.FieldWrite field h) sound all =
       keep-write w.classes f whole h field.class field.ty (declared-not_top w.classes field.ty sound.ty) (kind-low field.kind field.ty sound.cells.kind) all
   keeps-whole (ops.Call c) sound all = keep-called c (slice_get w.methods c.method) refl sound all
   keeps-whole (ops.New p c) sound all = whole-append (whole-one w.classes (Fresh p c) (λ k. k)) whole
   keeps-whole (ops.NewArray ty) sound all =
-      whole-append (whole-one w.classes (seen w.classes ty) (seen-half w.classes ty sound.1)) (one-gone w.classes f whole (Value Short) (a_short w.classes f whole) all.0)
+      whole-append (whole-one w.classes (seen w.classes ty) (seen-half w.classes ty sound.1))
+      (one-gone w.classes f whole (Value Short) (a_short w.classes f whole) all.0)
   keeps-whole ops.Throw sound all = one-gone w.classes f whole (Value (Class (throwable w.classes))) (a_class w.classes f whole (throwable w.classes)) all.0
   keeps-whole (ops.TypeTest test ty) sound all =
-      keep-test w.classes f whole test (seen w.classes ty) (seen-half w.classes ty sound) (one-gone w.classes f whole (a_reference w.classes) (a_class w.classes f whole (object w.classes)) all.0)
+      keep-test w.classes f whole test (seen w.classes ty) (seen-half w.classes ty sound)
+      (one-gone w.classes f whole (a_reference w.classes) (a_class w.classes f whole (object w.classes)) all.0)
   keeps-whole (ops.Return result) sound all = keep-return result sound.1 all
 
 pub operation-keeps-whole : (w : Linked) → IsWorld w → OperationKeepsWhole w

@@ -55,10 +55,11 @@ pub data OperationRefuses (w : Linked) (limit : ℕ) (op : Operation) (before : 
 -- ---- an instruction, by the record of its method
 
 -- the instruction i at a place of a method's code has an operation, which applies
-pub record RuleApplies (w : Linked) (m : MethodRec) (place : ℕ) (i : Insn) (mode : Mode) (before after : Frame) (o : Outcome) : Type 0 where
-  pub operation : Operation
-  pub resolves : Resolves w m place i (Ok operation)
-  pub does : OperationApplies w m.max_stack operation mode before after o
+pub record RuleApplies (w : Linked) (m : MethodRec) (place : ℕ) (i : Insn) (mode : Mode) (before after : Frame) (o : Outcome) : Type 0
+  where
+    pub operation : Operation
+    pub resolves : Resolves w m place i (Ok operation)
+    pub does : OperationApplies w m.max_stack operation mode before after o
 
 -- it has no operation, or the operation refuses
 pub data RuleRefuses (w : Linked) (m : MethodRec) (place : ℕ) (i : Insn) (before : Frame) : RuleFault → Type 0 where

@@ -1,8 +1,11 @@
 -- What an instruction asks of the frame before it changes anything (JCVM 2.2, section 7.5; Leroy 2002,
 -- section 2.2), and the first thing that is missing.
-use Rattle.std.specs.Prelude.{◌≡◌, ℕ, ◌+◌, ◌-◌, ◌≤◌, ◌⊎◌, ⊤, Bool, true, false, not, ◌&&◌, ◌||◌, ◌==◌, nat_le, MatchBool, List, [], ◌∷◌, length, reverse, All, Option, Some, None, IsSomeAnd, Result, Ok, Err, slice_get}
+use Rattle.std.specs.Prelude.{◌≡◌, ℕ, ◌+◌, ◌-◌, ◌≤◌, ◌⊎◌, ⊤, Bool, true, false, not, ◌&&◌, ◌||◌}
+use Rattle.std.specs.Prelude.{◌==◌, nat_le, MatchBool, List, [], ◌∷◌, length, reverse, All, Option, Some, None, IsSomeAnd, Result}
+use Rattle.std.specs.Prelude.{Ok, Err, slice_get}
 use Rattle.jc_base.specs.declared.ty.Ty.{Ty}
-use Rattle.jc_base.specs.declared.ty.Ty.TheVariants.{Bottom, IntHigh, IntLow, Null, Class, ArrBool, ArrByte, ArrShort, ArrInt, ArrRef, Fresh}
+use Rattle.jc_base.specs.declared.ty.Ty.TheVariants.{Bottom, IntHigh, IntLow, Null, Class, ArrBool, ArrByte, ArrShort, ArrInt, ArrRef}
+use Rattle.jc_base.specs.declared.ty.Ty.TheVariants.{Fresh}
 use Rattle.jc_base.specs.Class.{ClassTable, IsClass, object}
 use Rattle.jc_base.specs.Order.{Below, IsKnown, is_below}
 use Rattle.jc_ops.specs.declared.fault.RuleFault.{RuleFault}

@@ -1,6 +1,7 @@
 -- Dataflow typings of a method (Leroy 2002, section 2.3; JCVM 2.2, section 7.5; the data-flow analysis of the class file verifier):
 -- registers and a stack at every reached place at once, that meet the rule of every instruction.
-use Rattle.std.specs.Prelude.{ℕ, ◌+◌, ◌<◌, ◌≤◌, if◌then◌else◌, ⊤, List, [], ◌∷◌, ◌++◌, length, replicate, All, Contains, Option, IsSomeAnd, IsTrue}
+use Rattle.std.specs.Prelude.{ℕ, ◌+◌, ◌<◌, ◌≤◌, if◌then◌else◌, ⊤, List, [], ◌∷◌, ◌++◌, length, replicate}
+use Rattle.std.specs.Prelude.{All, Contains, Option, IsSomeAnd, IsTrue}
 use Rattle.jc_base.specs.declared.ty.Ty.{Ty}
 use Rattle.jc_base.specs.declared.ty.Ty.TheVariants.{Class, Fresh, Top}
 use Rattle.jc_base.specs.declared.record.Handler.{Handler}
@@ -80,7 +81,8 @@ pub record FlowTyping (w : Linked) (m : Method) (unset : Ty) (frames : ℕ → O
   pub start : At frames 0 (FrameBelow w.classes (start_frame m.rec unset))
   pub fit : (p : ℕ) → IsReached m p → At frames p (IsFit m)
   pub rules : (i : Placed) → HasInstruction m.code i → IsReached m i.place → At frames i.place (IsFollowed w m frames i)
-  pub stays : (i : Placed) → HasInstruction m.code i → IsReached m i.place → IsTrue (falls i.insn.op) → i.place + i.insn.len < length m.code
+  pub stays : (i : Placed) → HasInstruction m.code i → IsReached m i.place → IsTrue (falls i.insn.op)
+      → i.place + i.insn.len < length m.code
   pub handlers :
       (p : ℕ) (h : Handler)
       → IsReached m p
@@ -109,7 +111,8 @@ pub record IsLeastTyping (w : Linked) (m : Method) (unset : Ty) (frames : ℕ �
 -- the join of two lists, cell by cell
 pub data CellsJoin (t : ClassTable) : List Ty → List Ty → List Ty → Type 0 where
   none_joined : CellsJoin t [] [] []
-  more_joined : {a b j : Ty} {xs ys js : List Ty} → IsJoin t a b j → CellsJoin t xs ys js → CellsJoin t (a ∷ xs) (b ∷ ys) (j ∷ js)
+  more_joined : {a b j : Ty} {xs ys js : List Ty} → IsJoin t a b j → CellsJoin t xs ys js
+      → CellsJoin t (a ∷ xs) (b ∷ ys) (j ∷ js)
 
 -- two frames merge where their stacks have equal depth and no cell's join is Top
 pub record Merges (t : ClassTable) (f g joined : Frame) : Type 0 where

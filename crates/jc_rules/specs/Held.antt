@@ -1,5 +1,6 @@
 -- How frames are held: the cells of many in one list, of each the registers and then the stack with its top last.
-use Rattle.std.specs.Prelude.{◌≡◌, ℕ, ◌+◌, ◌≤◌, ◌⊎◌, List, length, map, take, drop, reverse, Option, Some, option_map, slice_get}
+use Rattle.std.specs.Prelude.{◌≡◌, ℕ, ◌+◌, ◌≤◌, ◌⊎◌, List, length, map, take, drop, reverse, Option, Some}
+use Rattle.std.specs.Prelude.{option_map, slice_get}
 use Rattle.jc_base.specs.declared.ty.Ty.{Ty}
 use Rattle.jc_rules.specs.Demand.{Frame}
 use Rattle.jc_rules.specs.Typing.{flat}

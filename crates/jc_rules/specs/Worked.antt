@@ -13,7 +13,8 @@ use Rattle.jc_ops.specs.declared.operation.Sort.TheVariants as sorts
 use Rattle.jc_ops.specs.declared.operation.Move.TheVariants as moves
 use Rattle.jc_ops.specs.declared.operation.Operation.{Operation}
 use Rattle.jc_ops.specs.declared.operation.Operation.TheVariants as ops
-use Rattle.jc_ops.specs.Row.{table, row_at, unused, by_sort, by_width, by_kind, first_four, by_register, literals, binaries, orders_all, branching}
+use Rattle.jc_ops.specs.Row.{table, row_at, unused, by_sort, by_width, by_kind, first_four, by_register, literals, binaries, orders_all}
+use Rattle.jc_ops.specs.Row.{branching}
 use Rattle.jc_ops.specs.Resolve.{resolved}
 use Rattle.jc_rules.specs.declared.demand.Demand.TheVariants.{Registers, Cell}
 use Rattle.jc_rules.specs.declared.effect.Cells.TheVariants as given
@@ -81,11 +82,13 @@ module _ (w : Linked) (m : MethodRec) (f : Frame) where
   istore_asks = refl
 
   -- dup_x with m = 1 and n = 2 puts the top cell under the first two
-  under_two : (a b c : Ty) → changed (effect w (ops.Move (moves.CopyUnder 1 2)) f).change (a ∷ b ∷ c ∷ []) ≡ a ∷ b ∷ a ∷ c ∷ []
+  under_two : (a b c : Ty) → changed (effect w (ops.Move (moves.CopyUnder 1 2)) f).change (a ∷ b ∷ c ∷ [])
+      ≡ a ∷ b ∷ a ∷ c ∷ []
   under_two a b c = refl
 
   -- swap_x with m = 1 and n = 2
-  exchange_two : (a b c d : Ty) → changed (effect w (ops.Move (moves.Exchange 1 2)) f).change (a ∷ b ∷ c ∷ d ∷ []) ≡ b ∷ c ∷ a ∷ d ∷ []
+  exchange_two : (a b c d : Ty) → changed (effect w (ops.Move (moves.Exchange 1 2)) f).change (a ∷ b ∷ c ∷ d ∷ [])
+      ≡ b ∷ c ∷ a ∷ d ∷ []
   exchange_two a b c d = refl
 
 -- a constructor readies both copies of the object that the `new` at place 3 made

@@ -1,5 +1,6 @@
 -- The sample world meets the invariant of worlds.
-use Rattle.std.proofs.Common.{◌≡◌, ℕ, zero, suc, ◌+◌, ◌<◌, ◌≤◌, inl, inr, Bool, true, false, List, [], ◌∷◌, length, Some, refl, sym, subst, arith, lit<, lit≤}
+use Rattle.std.proofs.Common.{◌≡◌, ℕ, zero, suc, ◌+◌, ◌<◌, ◌≤◌, inl, inr, Bool, true, false, List, [], ◌∷◌, length, Some, refl, sym}
+use Rattle.std.proofs.Common.{subst, arith, lit<, lit≤}
 use Rattle.std.specs.Prelude.{All, IfSome, IsSomeAnd, slice_get, slice_index, slice_index_or, option_and_then, get_or, ◌==◌}
 use Rattle.std.proofs.lemmas.List.Elements.{All-from_recursion, All-nil}
 use Rattle.jc_base.specs.declared.ty.Ty.TheVariants.{Short, IntHigh, IntLow, Class}
@@ -14,7 +15,8 @@ use Rattle.jc_base.specs.Interface.{extended, NoneExtendsItself}
 use Rattle.jc_base.proofs.Leading.{leads-nowhere}
 use Rattle.jc_base.specs.Linked.{IsMethod, IsHandler, IsLinkedClass, IsInherited, IsDispatch, IsImplemented, IsStatic, IsMember, IsField, list_at}
 use Rattle.jc_base.specs.World.{IsWorld, IsThrown}
-use Rattle.jc_tests.specs.TwoPackages.{sample, HasSampleSizes, classes, methods, statics, arrays, first_pool, second_pool, first_info, second_info, instance_method, interface_method, static_method}
+use Rattle.jc_tests.specs.TwoPackages.{sample, HasSampleSizes, classes, methods, statics, arrays, first_pool, second_pool, first_info, second_info}
+use Rattle.jc_tests.specs.TwoPackages.{instance_method, interface_method, static_method}
 
 -- ---- the classes
 
@@ -48,7 +50,8 @@ chains_end zero is = record { classes = All-from_recursion (IsClass classes) (0 
 chains_end (suc zero) is = record { classes = All-from_recursion (IsClass classes) (1 ∷ 0 ∷ []) (is_throwable, (is_object, tt)); ends = refl }
 chains_end (suc (suc zero)) is = absurd (no_class is)
 chains_end (suc (suc (suc zero))) is = record { classes = All-from_recursion (IsClass classes) (3 ∷ 0 ∷ []) (is_base, (is_object, tt)); ends = refl }
-chains_end (suc (suc (suc (suc zero)))) is = record { classes = All-from_recursion (IsClass classes) (4 ∷ 3 ∷ 0 ∷ []) (is_derived, (is_base, (is_object, tt))); ends = refl }
+chains_end (suc (suc (suc (suc zero)))) is =
+    record { classes = All-from_recursion (IsClass classes) (4 ∷ 3 ∷ 0 ∷ []) (is_derived, (is_base, (is_object, tt))); ends = refl }
 chains_end (suc (suc (suc (suc (suc zero))))) is =
     record { classes = All-from_recursion (IsClass classes) (5 ∷ 4 ∷ 3 ∷ 0 ∷ []) (is_last, (is_derived, (is_base, (is_object, tt)))); ends = refl }
 chains_end (suc (suc (suc (suc (suc (suc c)))))) is = let lt : suc (suc (suc (suc (suc (suc c))))) < 6 = is.number in absurd (omega arith)
@@ -83,13 +86,26 @@ nothing_inherited c = record { longer = omega arith; entries = All-nil _; signat
 
 -- one entry, of a class above
 one_entry : (c n : ℕ) → IsSomeAnd (slice_get methods n) (IsInherited classes c) → (ms : List ℕ) → length ms ≤ 1
-    → ((token : ℕ) → token < length ms → signature_at methods (n ∷ []) token ≡ signature_at methods ms token) → IsDispatch classes methods c ms (n ∷ [])
-one_entry c n is ms short signatures = record { longer = short; entries = All-from_recursion (λ x. IsSomeAnd (slice_get methods x) (IsInherited classes c)) (n ∷ []) (is, tt); signatures = signatures }
+    → ((token : ℕ) → token < length ms → signature_at methods (n ∷ []) token ≡ signature_at methods ms token)
+    → IsDispatch classes methods c ms (n ∷ [])
+one_entry c n is ms short signatures =
+    record {
+      longer = short;
+      entries = All-from_recursion (λ x. IsSomeAnd (slice_get methods x) (IsInherited classes c)) (n ∷ []) (is, tt);
+      signatures = signatures;
+    }
 
-two_entries : (c n m : ℕ) → IsSomeAnd (slice_get methods n) (IsInherited classes c) → IsSomeAnd (slice_get methods m) (IsInherited classes c) → (ms : List ℕ) → length ms ≤ 2
-    → ((token : ℕ) → token < length ms → signature_at methods (n ∷ m ∷ []) token ≡ signature_at methods ms token) → IsDispatch classes methods c ms (n ∷ m ∷ [])
+two_entries : (c n m : ℕ) → IsSomeAnd (slice_get methods n) (IsInherited classes c) → IsSomeAnd (slice_get methods m) (IsInherited classes c)
+    → (ms : List ℕ) → length ms ≤ 2
+    → ((token : ℕ) → token < length ms → signature_at methods (n ∷ m ∷ []) token ≡ signature_at methods ms token)
+    → IsDispatch classes methods c ms (n ∷ m ∷ [])
 two_entries c n m first second ms short signatures =
-    record { longer = short; entries = All-from_recursion (λ x. IsSomeAnd (slice_get methods x) (IsInherited classes c)) (n ∷ m ∷ []) (first, (second, tt)); signatures = signatures }
+    record {
+      longer = short;
+      entries = All-from_recursion (λ x. IsSomeAnd (slice_get methods x) (IsInherited classes c)) (n ∷ m ∷ [])
+          (first, (second, tt));
+      signatures = signatures;
+    }
 
 same_first : (token : ℕ) → token < 1 → signature_at methods (0 ∷ 2 ∷ []) token ≡ signature_at methods (0 ∷ []) token
 same_first zero h = refl
@@ -174,7 +190,9 @@ linked (suc (suc (suc (suc zero)))) =
       cells = refl;
       size = lit≤ tt;
       own = All-from_recursion (IsDeclared classes) (IntHigh ∷ IntLow ∷ []) (tt, (tt, tt));
-      public = two_entries 4 0 4 (inherited 4 _ (joined derived_below base_below) refl refl) (inherited 4 _ same refl refl) (0 ∷ 2 ∷ []) (lit≤ tt) same_both;
+      public =
+          two_entries 4 0 4 (inherited 4 _ (joined derived_below base_below) refl refl) (inherited 4 _ same refl refl) (0 ∷ 2 ∷ []) (lit≤ tt)
+          same_both;
       visible = one_entry 4 5 (inherited 4 _ same refl refl) [] (lit≤ tt) (λ token h. absurd (omega arith));
       implements = All-from_recursion (IsImplemented classes methods (0 ∷ 4 ∷ [])) (record { class = 2; tokens = 1 ∷ [] } ∷ []) (implemented, tt);
     }
@@ -185,7 +203,9 @@ linked (suc (suc (suc (suc (suc zero))))) =
       cells = refl;
       size = lit≤ tt;
       own = All-nil _;
-      public = two_entries 5 0 4 (inherited 5 _ (joined last_below (joined derived_below base_below)) refl refl) (inherited 5 _ last_below refl refl) (0 ∷ 4 ∷ []) (lit≤ tt) (λ token h. refl);
+      public =
+          two_entries 5 0 4 (inherited 5 _ (joined last_below (joined derived_below base_below)) refl refl) (inherited 5 _ last_below refl refl)
+          (0 ∷ 4 ∷ []) (lit≤ tt) (λ token h. refl);
       visible = one_entry 5 6 (inherited 5 _ same refl refl) (5 ∷ []) (lit≤ tt) same_visible;
       implements = All-nil _;
     }
@@ -298,7 +318,13 @@ unfolding cells_of own_cells chain chain_over parent_of
 a_field = record { class = is_derived; kind = refl; first = refl; second = refl }
 
 a_slot : IsMember classes methods statics (Static 0 kinds.Byte Short)
-a_slot = (0, slice_index_or statics 0 (record { «package» = 1; offset = 2; kind = kinds.Byte; ty = Short; slot = 0; initial = [] }), lit< tt, refl, record { slot = refl; kind = refl; ty = refl })
+a_slot = (
+  0,
+  slice_index_or statics 0 (record { «package» = 1; offset = 2; kind = kinds.Byte; ty = Short; slot = 0; initial = [] }),
+  lit< tt,
+  refl,
+  record { slot = refl; kind = refl; ty = refl },
+)
 
 a_super : IsMember classes methods statics (Super 4 2)
 unfolding parent_of public_of visible_of
@@ -378,7 +404,9 @@ is_world =
       methods = are_methods;
       statics = are_statics;
       slots = (refl, (refl, tt));
-      arrays = All-from_recursion (λ a. AreElementsOf a.kind a.initial) arrays (All-from_recursion IsByteWord (1 ∷ 65535 ∷ []) (inl (lit< tt), (inr (lit≤ tt), tt)), tt);
+      arrays =
+          All-from_recursion (λ a. AreElementsOf a.kind a.initial) arrays
+          (All-from_recursion IsByteWord (1 ∷ 65535 ∷ []) (inl (lit< tt), (inr (lit≤ tt), tt)), tt);
       roles = record { count = refl; objects = is_object; throwables = is_throwable; others = all_thrown };
       one_index_each = refl;
     }

@@ -1,5 +1,6 @@
 -- Constants, moves, arithmetic, branches, reads, and tests of types, in two states that are alike.
-use Rattle.std.proofs.Common.{◌≡◌, ℕ, zero, suc, ◌*◌, Bool, true, false, if◌then◌else◌, List, [], ◌∷◌, map, drop, refl, sym, ap, ◌∙◌, subst}
+use Rattle.std.proofs.Common.{◌≡◌, ℕ, zero, suc, ◌*◌, Bool, true, false, if◌then◌else◌, List, [], ◌∷◌, map, drop, refl, sym, ap}
+use Rattle.std.proofs.Common.{◌∙◌, subst}
 use Rattle.std.specs.Prelude.{ℤ, pos, negsuc, Option, Some, slice_get}
 use Rattle.std.proofs.lemmas.List.{drop-map}
 use Rattle.jc_base.specs.declared.ty.Ty.{Ty}
@@ -37,7 +38,8 @@ use Rattle.vm_step.specs.Objects.{new_act, kind_of_type, array_of_count, new_arr
 use Rattle.vm_step.specs.Numbers.{handle_at, short_at, int_on, number_cells, dropped, replaced}
 use Rattle.law_alike.specs.Alike.{renamed_cell}
 use Rattle.law_alike.proofs.Cells.{word-at, short-is, int-is, moved-renamed, in-stays, object-stays, instance-stays, array-stays}
-use Rattle.law_alike.proofs.Twins.{Pair, two, first, second, Does, goes_both, leads_both, makes_both, raises_both, throws_both, stack-twins, stack-does, replaced-does, null-does, some-does}
+use Rattle.law_alike.proofs.Twins.{Pair, two, first, second, Does, goes_both, leads_both, makes_both, raises_both, throws_both, stack-twins, stack-does}
+use Rattle.law_alike.proofs.Twins.{replaced-does, null-does, some-does}
 
 numbers-stay :
     (f : ℕ → ℕ) (width : Width) (n : ℤ) → map (renamed_cell f) (number_cells tagged width n) ≡ number_cells tagged width n

@@ -19,11 +19,13 @@ fault-apart w args None = refl
 fault-apart w args (Some m) = refl
 
 -- nor in anything of the world but its classes and arrays
-fault-of : (v w : Linked) (args : List Argument) (o : Option MethodRec) → entry_fault (record v { classes = w.classes; arrays = w.arrays }) args o ≡ entry_fault w args o
+fault-of : (v w : Linked) (args : List Argument) (o : Option MethodRec) → entry_fault (record v { classes = w.classes; arrays = w.arrays }) args o
+    ≡ entry_fault w args o
 fault-of v w args None = refl
 fault-of v w args (Some m) = refl
 
-fault-same : (v w : Linked) (args : List Argument) (o : Option MethodRec) → v.classes ≡ w.classes → v.arrays ≡ w.arrays → entry_fault v args o ≡ entry_fault w args o
+fault-same : (v w : Linked) (args : List Argument) (o : Option MethodRec) → v.classes ≡ w.classes → v.arrays ≡ w.arrays
+    → entry_fault v args o ≡ entry_fault w args o
 fault-same v w args o classes arrays =
     ap (λ (t : ClassTable). entry_fault (record v { classes = t }) args o) classes
     ∙ (ap (λ (rs : List ArrayRec). entry_fault (record v { classes = w.classes; arrays = rs }) args o) arrays

@@ -1,5 +1,6 @@
 -- Every operation in two states that are alike, by its kind.
-use Rattle.std.proofs.Common.{◌≡◌, ℕ, ◌+◌, ◌≤◌, true, false, List, [], ◌∷◌, ◌++◌, length, map, refl, sym, ap, ◌∙◌, subst, arith}
+use Rattle.std.proofs.Common.{◌≡◌, ℕ, ◌+◌, ◌≤◌, true, false, List, [], ◌∷◌, ◌++◌, length, map, refl, sym, ap, ◌∙◌, subst}
+use Rattle.std.proofs.Common.{arith}
 use Rattle.std.specs.Prelude.{ℤ, Option, Some, None, option_map, IsSomeAnd, IfSome, slice_get}
 use Rattle.std.proofs.lemmas.List.{length-map}
 use Rattle.jc_base.specs.declared.ty.Ty.{Ty}
@@ -60,7 +61,8 @@ use Rattle.law_alike.specs.Running.{HaveKeys}
 use Rattle.law_alike.proofs.Asked.{register-same}
 use Rattle.law_alike.proofs.Cells.{value-stays}
 use Rattle.law_alike.proofs.Twins.{Pair, first, second, Does}
-use Rattle.law_alike.proofs.Acting.{constant-does, move-does, arithmetic-does, static-read-does, array-read-does, array-length-does, type-test-does, new-does, new-array-does, throw-does, branch-does}
+use Rattle.law_alike.proofs.Acting.{constant-does, move-does, arithmetic-does, static-read-does, array-read-does, array-length-does, type-test-does, new-does}
+use Rattle.law_alike.proofs.Acting.{new-array-does, throw-does, branch-does}
 use Rattle.law_alike.proofs.Switching.{ways, switch-does}
 use Rattle.law_alike.proofs.Storing.{ValueStays, static-write-does, field-read-does, field-write-does, array-write-does}
 use Rattle.law_alike.proofs.Registering.{RegisterSame, RegisterStays, LoadedFor, load-does, store-does, increment-does}

@@ -1,5 +1,6 @@
 -- Loads, stores and increments in two states that are alike, each of its own registers.
-use Rattle.std.proofs.Common.{◌≡◌, ℕ, zero, suc, ◌+◌, ◌<◌, ◌≤◌, ◌⊎◌, inl, inr, List, [], ◌∷◌, length, map, drop, set, sym, ap, ◌∙◌, subst, arith, length-set, true}
+use Rattle.std.proofs.Common.{◌≡◌, ℕ, zero, suc, ◌+◌, ◌<◌, ◌≤◌, ◌⊎◌, inl, inr, List, [], ◌∷◌, length, map, drop, set, sym, ap}
+use Rattle.std.proofs.Common.{◌∙◌, subst, arith, length-set, true}
 use Rattle.std.specs.Prelude.{ℤ, Some, slice_get}
 use Rattle.std.specs.Int.{w16, w32, int_wrapping_add}
 use Rattle.std.proofs.lemmas.List.{drop-map}

@@ -1,5 +1,6 @@
 -- What two acts that are the same lead to, where the first leads to no fault.
-use Rattle.std.proofs.Common.{◌≡◌, ℕ, suc, ◌+◌, ◌<◌, ◌≤◌, Bool, true, false, if◌then◌else◌, List, [], ◌∷◌, ◌++◌, length, map, refl, sym, ap, ◌∙◌, subst, arith}
+use Rattle.std.proofs.Common.{◌≡◌, ℕ, suc, ◌+◌, ◌<◌, ◌≤◌, Bool, true, false, if◌then◌else◌, List, [], ◌∷◌, ◌++◌, length}
+use Rattle.std.proofs.Common.{map, refl, sym, ap, ◌∙◌, subst, arith}
 use Rattle.std.specs.Prelude.{ℤ, pos, negsuc, nat_lt, nat_le, ◌&&◌, Option, Some, None, All, sum_by, slice_get}
 use Rattle.std.proofs.lemmas.Bool.{le-ltb, lt-leb, ltb-false}
 use Rattle.std.proofs.lemmas.List.{length-map}
@@ -26,7 +27,8 @@ use Rattle.vm_step.specs.Act.{Act, calls}
 use Rattle.vm_step.specs.Methods.{code_at, max_stack_of}
 use Rattle.vm_step.specs.Performed.{act}
 use Rattle.vm_step.specs.Raising.{Outcome, running, ended, ends}
-use Rattle.vm_step.specs.Settled.{unless_fault, fault_next, fault_target, is_target_place, is_there, place_number, with_new, goes_to, jumps_to, made, entered_call, settled}
+use Rattle.vm_step.specs.Settled.{unless_fault, fault_next, fault_target, is_target_place, is_there, place_number, with_new, goes_to, jumps_to, made}
+use Rattle.vm_step.specs.Settled.{entered_call, settled}
 use Rattle.law_sound.proofs.Places.{place-instruction}
 use Rattle.law_sound.proofs.Finish.{pick, pick-yes}
 use Rattle.law_erasure.specs.Erasure.{IsNoFault}

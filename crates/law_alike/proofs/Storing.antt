@@ -1,5 +1,6 @@
 -- Writes of fields, of elements and of static fields, in two states that are alike.
-use Rattle.std.proofs.Common.{◌≡◌, ℕ, zero, suc, ◌+◌, ◌*◌, Bool, true, false, if◌then◌else◌, List, [], ◌∷◌, map, drop, set, refl, sym, ap, ◌∙◌, subst}
+use Rattle.std.proofs.Common.{◌≡◌, ℕ, zero, suc, ◌+◌, ◌*◌, Bool, true, false, if◌then◌else◌, List, [], ◌∷◌, map, drop, set, refl}
+use Rattle.std.proofs.Common.{sym, ap, ◌∙◌, subst}
 use Rattle.std.specs.Prelude.{ℤ, ⊤}
 use Rattle.std.proofs.lemmas.List.{drop-map, map-set}
 use Rattle.jc_base.specs.declared.ty.Kind.{Kind}
@@ -19,7 +20,8 @@ use Rattle.vm_store.specs.Objects.{kinds, write_object}
 use Rattle.vm_store.specs.Value.{value_on, kept_value, byte_of_word, with_object_value, with_static_value}
 use Rattle.vm_step.specs.declared.exception.Exception.TheVariants as exceptions
 use Rattle.vm_step.specs.Act.{Act, goes, raises}
-use Rattle.vm_step.specs.Fields.{with_static_write, held_handle, holder_width, with_field_read, field_read_act, with_field_write, field_write_act, elements_of, element_index, at_element, takes_element, keeps_kind, with_element, array_write_act}
+use Rattle.vm_step.specs.Fields.{with_static_write, held_handle, holder_width, with_field_read, field_read_act, with_field_write, field_write_act, elements_of}
+use Rattle.vm_step.specs.Fields.{element_index, at_element, takes_element, keeps_kind, with_element, array_write_act}
 use Rattle.vm_step.specs.Numbers.{handle_at, short_at, dropped}
 use Rattle.law_alike.specs.Alike.{renamed_cell}
 use Rattle.law_alike.proofs.Cells.{Stay, nth-renamed, word-at, short-is, write-stays}

@@ -7,7 +7,8 @@ use Rattle.law_laid.specs.Apart.{IsSameBut}
 
 -- they begin with the same arguments, and are refused for the same reason
 abbrev pub StartsRefuseAlike : Linked → Type 0
-StartsRefuseAlike v = (w : Linked) (entry : ℕ) (args : List Argument) → IsSameBut v w → start_fault v entry args ≡ start_fault w entry args
+StartsRefuseAlike v =
+    (w : Linked) (entry : ℕ) (args : List Argument) → IsSameBut v w → start_fault v entry args ≡ start_fault w entry args
 
 -- the same method has these numbers in the Descriptor of a package
 abbrev pub MethodsAreNumberedAlike : Linked → Type 0

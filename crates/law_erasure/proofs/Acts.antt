@@ -1,5 +1,6 @@
 -- What an operation comes to over bare words is what it comes to over tagged cells, without their kinds.
-use Rattle.std.proofs.Common.{◌≡◌, ℕ, zero, suc, ◌+◌, ◌<◌, ◌*◌, ◌/◌, ◌==◌, ◌||◌, Bool, true, false, if◌then◌else◌, List, [], ◌∷◌, ◌++◌, length, map, reverse, take, drop, set, refl, sym, ap, ◌∙◌, arith}
+use Rattle.std.proofs.Common.{◌≡◌, ℕ, zero, suc, ◌+◌, ◌<◌, ◌*◌, ◌/◌, ◌==◌, ◌||◌, Bool, true, false, if◌then◌else◌, List}
+use Rattle.std.proofs.Common.{[], ◌∷◌, ◌++◌, length, map, reverse, take, drop, set, refl, sym, ap, ◌∙◌, arith}
 use Rattle.std.specs.Prelude.{ℤ, pos, negsuc, Option, Some, None, find, slice_get, unwrap_or}
 use Rattle.std.specs.Int.{w16, w32, int_wrapping_add}
 use Rattle.std.proofs.lemmas.List.{map-append, take-map, drop-map, map-set, length-map}
@@ -40,7 +41,8 @@ use Rattle.jc_ops.specs.declared.operation.TypeTest.TheVariants as tests
 use Rattle.jc_ops.specs.declared.operation.TypeTest.{TypeTest}
 use Rattle.jc_ops.specs.declared.operation.Operation.{Operation}
 use Rattle.jc_ops.specs.declared.operation.Operation.TheVariants as ops
-use Rattle.vm_arithmetic.specs.Arithmetic.{succeeds, int_to_short, short_to_byte, int_to_byte, compared, high_word, low_word, of_shorts, of_ints, int_of_words, short_of_word}
+use Rattle.vm_arithmetic.specs.Arithmetic.{succeeds, int_to_short, short_to_byte, int_to_byte, compared, high_word, low_word, of_shorts, of_ints, int_of_words}
+use Rattle.vm_arithmetic.specs.Arithmetic.{short_of_word}
 use Rattle.vm_store.specs.declared.cell.Cell.{Cell}
 use Rattle.vm_store.specs.declared.cell.Cell.TheVariants as cells
 use Rattle.vm_store.specs.declared.cell.CellKind.{CellKind}
@@ -62,7 +64,9 @@ use Rattle.vm_step.specs.Act.{Act, goes, jumps, makes, calls, gives, raises, thr
 use Rattle.vm_step.specs.Methods.{code_at}
 use Rattle.vm_step.specs.Values.{with_constant, with_load, with_store, incremented, with_increment, moved, computed, negated, arithmetic_act}
 use Rattle.vm_step.specs.Branching.{is_same, is_taken, leads_if, branch_width, branch_act, has_key, case_offset, switch_act}
-use Rattle.vm_step.specs.Fields.{with_static_read, with_static_write, held_handle, holder_width, with_field_read, field_read_act, with_field_write, field_write_act, element_count_in, elements_of, element_index, at_element, array_read_act, takes_element, keeps_kind, with_element, array_write_act, array_length_act}
+use Rattle.vm_step.specs.Fields.{with_static_read, with_static_write, held_handle, holder_width, with_field_read, field_read_act, with_field_write}
+use Rattle.vm_step.specs.Fields.{field_write_act, element_count_in, elements_of, element_index, at_element, array_read_act, takes_element, keeps_kind}
+use Rattle.vm_step.specs.Fields.{with_element, array_write_act, array_length_act}
 use Rattle.vm_step.specs.Objects.{new_act, kind_of_type, array_of_count, new_array_act, throw_act, kind_passes, passes, may_cast, truth, type_test_act}
 use Rattle.vm_step.specs.Calls.{class_with_methods, class_of, served, made_at, readied, with_ready, served_act, interface_act, chosen_act, args_of, return_act}
 use Rattle.vm_step.specs.Performed.{act}
@@ -78,7 +82,8 @@ null-erased h a b e = go (h == 0)
     go true = refl
     go false = e
 
-some-erased : {X : Type 0} (exception : Exception) (o : Option X) (a : X → Act Cell) (b : X → Act ℕ) → ((x : X) → b x ≡ erased_act (a x)) → if_some exception o b ≡ erased_act (if_some exception o a)
+some-erased : {X : Type 0} (exception : Exception) (o : Option X) (a : X → Act Cell) (b : X → Act ℕ) → ((x : X) → b x ≡ erased_act (a x))
+    → if_some exception o b ≡ erased_act (if_some exception o a)
 some-erased exception None a b e = refl
 some-erased exception (Some x) a b e = e x
 
@@ -106,7 +111,8 @@ module _ (w : Linked) (f : Frame Cell) (below : List (Frame Cell)) (heap : List 
   short-is : (cs : List Cell) (n : ℕ) → short_at words (map word_of cs) n ≡ short_at tagged cs n
   short-is cs n = ap short_of_word (word-at cs n)
 
-  int-is : (cs : List Cell) (m n : ℕ) → int_of_words (nth words (map word_of cs) m) (nth words (map word_of cs) n) ≡ int_of_words (word_of (nth tagged cs m)) (word_of (nth tagged cs n))
+  int-is : (cs : List Cell) (m n : ℕ) → int_of_words (nth words (map word_of cs) m) (nth words (map word_of cs) n)
+      ≡ int_of_words (word_of (nth tagged cs m)) (word_of (nth tagged cs n))
   int-is cs m n = ap (λ a. int_of_words a (nth words (map word_of cs) n)) (word-at cs m) ∙ ap (int_of_words (word_of (nth tagged cs m))) (word-at cs n)
 
   number-is : (width : Width) (cs : List Cell) → number_on words width (map word_of cs) ≡ number_on tagged width cs
@@ -115,7 +121,8 @@ module _ (w : Linked) (f : Frame Cell) (below : List (Frame Cell)) (heap : List 
 
   -- ---- states
 
-  dropped-is : (n : ℕ) → dropped (erased (record { frames = f ∷ below; heap = heap; statics = statics })) n ≡ erased (dropped (record { frames = f ∷ below; heap = heap; statics = statics }) n)
+  dropped-is : (n : ℕ) → dropped (erased (record { frames = f ∷ below; heap = heap; statics = statics })) n
+      ≡ erased (dropped (record { frames = f ∷ below; heap = heap; statics = statics }) n)
   dropped-is n = ap (framed (map word_of f.registers)) (drop-map word_of n f.stack)
 
   replaced-is :
@@ -141,7 +148,8 @@ module _ (w : Linked) (f : Frame Cell) (below : List (Frame Cell)) (heap : List 
 
   -- ---- constants and registers
 
-  constant-is : (c : Constant) → with_constant words c (erased (record { frames = f ∷ below; heap = heap; statics = statics })) ≡ erased (with_constant tagged c (record { frames = f ∷ below; heap = heap; statics = statics }))
+  constant-is : (c : Constant) → with_constant words c (erased (record { frames = f ∷ below; heap = heap; statics = statics }))
+      ≡ erased (with_constant tagged c (record { frames = f ∷ below; heap = heap; statics = statics }))
   constant-is constants.Nothing = refl
   constant-is constants.Null = refl
   constant-is (constants.Short n) = refl
@@ -150,12 +158,14 @@ module _ (w : Linked) (f : Frame Cell) (below : List (Frame Cell)) (heap : List 
   loaded-is : (kind : CellKind) (x : ℕ) → nth words (map word_of f.registers) x ≡ word_of (tagged.loaded kind (nth tagged f.registers x))
   loaded-is kind x = word-at f.registers x ∙ sym (words-erase.loaded kind (nth tagged f.registers x))
 
-  load-is : (sort : Sort) (x : ℕ) → with_load words sort x (erased (record { frames = f ∷ below; heap = heap; statics = statics })) ≡ erased (with_load tagged sort x (record { frames = f ∷ below; heap = heap; statics = statics }))
+  load-is : (sort : Sort) (x : ℕ) → with_load words sort x (erased (record { frames = f ∷ below; heap = heap; statics = statics }))
+      ≡ erased (with_load tagged sort x (record { frames = f ∷ below; heap = heap; statics = statics }))
   load-is sorts.Reference x = ap (λ c. framed (map word_of f.registers) (c ∷ map word_of f.stack)) (loaded-is made.Reference x)
   load-is sorts.Short x = ap (λ c. framed (map word_of f.registers) (c ∷ map word_of f.stack)) (loaded-is made.Short x)
   load-is sorts.Int x =
       ap (λ c. framed (map word_of f.registers) (c ∷ nth words (map word_of f.registers) x ∷ map word_of f.stack)) (loaded-is made.Low (x + 1))
-      ∙ ap (λ c. framed (map word_of f.registers) (word_of (tagged.loaded made.Low (nth tagged f.registers (x + 1))) ∷ c ∷ map word_of f.stack)) (loaded-is made.High x)
+      ∙ ap (λ c. framed (map word_of f.registers) (word_of (tagged.loaded made.Low (nth tagged f.registers (x + 1))) ∷ c ∷ map word_of f.stack))
+      (loaded-is made.High x)
 
   set-is : (rs : List Cell) (x : ℕ) (n : ℕ) (c : Cell) → n ≡ word_of c → set (map word_of rs) x n ≡ map word_of (set rs x c)
   set-is rs x n c e = ap (set (map word_of rs) x) e ∙ sym (map-set word_of rs x c)
@@ -164,7 +174,8 @@ module _ (w : Linked) (f : Frame Cell) (below : List (Frame Cell)) (heap : List 
       → framed (set (map word_of f.registers) x n) (drop taken (map word_of f.stack))
       ≡ framed (map word_of (set f.registers x c)) (map word_of (drop taken f.stack))
   one-stored x taken n c e =
-      ap (λ rs. framed rs (drop taken (map word_of f.stack))) (set-is f.registers x n c e) ∙ ap (framed (map word_of (set f.registers x c))) (drop-map word_of taken f.stack)
+      ap (λ rs. framed rs (drop taken (map word_of f.stack))) (set-is f.registers x n c e)
+      ∙ ap (framed (map word_of (set f.registers x c))) (drop-map word_of taken f.stack)
 
   two-stored : (x taken m n : ℕ) (c d : Cell) → m ≡ word_of c → n ≡ word_of d
       → framed (set (set (map word_of f.registers) x m) (x + 1) n) (drop taken (map word_of f.stack))
@@ -174,29 +185,35 @@ module _ (w : Linked) (f : Frame Cell) (below : List (Frame Cell)) (heap : List 
       (ap (λ rs. set rs (x + 1) n) (set-is f.registers x m c e) ∙ set-is (set f.registers x c) (x + 1) n d g)
       ∙ ap (framed (map word_of (set (set f.registers x c) (x + 1) d))) (drop-map word_of taken f.stack)
 
-  store-is : (sort : Sort) (x : ℕ) → with_store words sort x (erased (record { frames = f ∷ below; heap = heap; statics = statics })) ≡ erased (with_store tagged sort x (record { frames = f ∷ below; heap = heap; statics = statics }))
+  store-is : (sort : Sort) (x : ℕ) → with_store words sort x (erased (record { frames = f ∷ below; heap = heap; statics = statics }))
+      ≡ erased (with_store tagged sort x (record { frames = f ∷ below; heap = heap; statics = statics }))
   store-is sorts.Reference x = one-stored x 1 (nth words (map word_of f.stack) 0) (nth tagged f.stack 0) (word-at f.stack 0)
   store-is sorts.Short x = one-stored x 1 (nth words (map word_of f.stack) 0) (nth tagged f.stack 0) (word-at f.stack 0)
   store-is sorts.Int x =
-      two-stored x 2 (nth words (map word_of f.stack) 1) (nth words (map word_of f.stack) 0) (nth tagged f.stack 1) (nth tagged f.stack 0) (word-at f.stack 1) (word-at f.stack 0)
+      two-stored x 2 (nth words (map word_of f.stack) 1) (nth words (map word_of f.stack) 0) (nth tagged f.stack 1) (nth tagged f.stack 0)
+      (word-at f.stack 1) (word-at f.stack 0)
 
   increment-is : (width : Width) (x : ℕ) (amount : ℤ)
-      → with_increment words width x amount (erased (record { frames = f ∷ below; heap = heap; statics = statics })) ≡ erased (with_increment tagged width x amount (record { frames = f ∷ below; heap = heap; statics = statics }))
+      → with_increment words width x amount (erased (record { frames = f ∷ below; heap = heap; statics = statics }))
+      ≡ erased (with_increment tagged width x amount (record { frames = f ∷ below; heap = heap; statics = statics }))
   increment-is widths.Short x amount =
       let e : incremented words widths.Short (map word_of f.registers) x amount ≡ incremented tagged widths.Short f.registers x amount =
       ap (λ n. int_wrapping_add w16 n (int_to_short amount)) (short-is f.registers x) in
-      one-stored x 0 (words.short (incremented words widths.Short (map word_of f.registers) x amount)) (cells.Short (incremented tagged widths.Short f.registers x amount)) (ap words.short e)
+      one-stored x 0 (words.short (incremented words widths.Short (map word_of f.registers) x amount))
+      (cells.Short (incremented tagged widths.Short f.registers x amount)) (ap words.short e)
   increment-is widths.Int x amount =
       let e : incremented words widths.Int (map word_of f.registers) x amount ≡ incremented tagged widths.Int f.registers x amount =
       ap (λ n. int_wrapping_add w32 n amount) (int-is f.registers x (x + 1)) in
       let n = incremented tagged widths.Int f.registers x amount in
-      two-stored x 0 (high_word (incremented words widths.Int (map word_of f.registers) x amount)) (low_word (incremented words widths.Int (map word_of f.registers) x amount))
+      two-stored x 0 (high_word (incremented words widths.Int (map word_of f.registers) x amount))
+      (low_word (incremented words widths.Int (map word_of f.registers) x amount))
       (cells.High (high_word n)) (cells.Low (low_word n)) (ap high_word e) (ap low_word e)
 
   -- ---- moves
 
   copied-is : (copied under : ℕ) (cs : List Cell)
-      → take under (map word_of cs) ++ (take copied (map word_of cs) ++ drop under (map word_of cs)) ≡ map word_of (take under cs ++ (take copied cs ++ drop under cs))
+      → take under (map word_of cs) ++ (take copied (map word_of cs) ++ drop under (map word_of cs))
+      ≡ map word_of (take under cs ++ (take copied cs ++ drop under cs))
   copied-is copied under cs =
       ap (λ ts. ts ++ (take copied (map word_of cs) ++ drop under (map word_of cs))) (take-map word_of under cs)
       ∙ (ap (λ ts. map word_of (take under cs) ++ ts)
@@ -234,10 +251,12 @@ module _ (w : Linked) (f : Frame Cell) (below : List (Frame Cell)) (heap : List 
       (λ n. number-replaced taken width n n refl)
 
   arithmetic-is : (a : Arithmetic)
-      → arithmetic_act words a (erased (record { frames = f ∷ below; heap = heap; statics = statics })) ≡ erased_act (arithmetic_act tagged a (record { frames = f ∷ below; heap = heap; statics = statics }))
+      → arithmetic_act words a (erased (record { frames = f ∷ below; heap = heap; statics = statics }))
+      ≡ erased_act (arithmetic_act tagged a (record { frames = f ∷ below; heap = heap; statics = statics }))
   arithmetic-is (arithmetic.Binary o widths.Short) =
       computed-is widths.Short 2 _ _
-      (ap (λ n. of_shorts o n (short_at words (map word_of f.stack) 0)) (short-is f.stack 1) ∙ ap (of_shorts o (short_at tagged f.stack 1)) (short-is f.stack 0))
+      (ap (λ n. of_shorts o n (short_at words (map word_of f.stack) 0)) (short-is f.stack 1)
+      ∙ ap (of_shorts o (short_at tagged f.stack 1)) (short-is f.stack 0))
   arithmetic-is (arithmetic.Binary o widths.Int) =
       computed-is widths.Int 4 _ _
       (ap (λ n. of_ints o n (int_on words (map word_of f.stack) 0)) (int-is f.stack 3 2) ∙ ap (of_ints o (int_on tagged f.stack 2)) (int-is f.stack 1 0))
@@ -272,9 +291,11 @@ module _ (w : Linked) (f : Frame Cell) (below : List (Frame Cell)) (heap : List 
   leads-is false to n = ap goes (dropped-is n)
 
   branch-is : (i : Insn) (b : Branch)
-      → branch_act words i b (erased (record { frames = f ∷ below; heap = heap; statics = statics })) ≡ erased_act (branch_act tagged i b (record { frames = f ∷ below; heap = heap; statics = statics }))
+      → branch_act words i b (erased (record { frames = f ∷ below; heap = heap; statics = statics }))
+      ≡ erased_act (branch_act tagged i b (record { frames = f ∷ below; heap = heap; statics = statics }))
   branch-is i b =
-      ap (λ x. leads_if x (target f.place i.x) (dropped (erased (record { frames = f ∷ below; heap = heap; statics = statics })) (branch_width b))) (taken-is b f.stack)
+      ap (λ x. leads_if x (target f.place i.x) (dropped (erased (record { frames = f ∷ below; heap = heap; statics = statics })) (branch_width b)))
+      (taken-is b f.stack)
       ∙ leads-is (is_taken tagged b f.stack) (target f.place i.x) (branch_width b)
 
   switch-is : (code : List ℕ) (i : Insn) (width : Width)
@@ -282,30 +303,37 @@ module _ (w : Linked) (f : Frame Cell) (below : List (Frame Cell)) (heap : List 
       ≡ erased_act (switch_act tagged code i width (record { frames = f ∷ below; heap = heap; statics = statics }))
   switch-is code i width =
       let to : ℤ → ℤ = λ n. target f.place (case_offset i.x (find (has_key n) (cases code f.place i))) in
-      ap (λ n. jumps (to n) (dropped (erased (record { frames = f ∷ below; heap = heap; statics = statics })) (number_width width))) (number-is width f.stack)
+      ap (λ n. jumps (to n) (dropped (erased (record { frames = f ∷ below; heap = heap; statics = statics })) (number_width width)))
+      (number-is width f.stack)
       ∙ ap (jumps (to (number_on tagged width f.stack))) (dropped-is (number_width width))
 
   -- ---- fields
 
   static-read-is : (fd : StaticField)
-      → with_static_read words fd (erased (record { frames = f ∷ below; heap = heap; statics = statics })) ≡ erased (with_static_read tagged fd (record { frames = f ∷ below; heap = heap; statics = statics }))
-  static-read-is fd = replaced-is 0 (value_in tagged fd.kind statics fd.slot) (value_in words fd.kind (map word_of statics) fd.slot) (of-cells.read fd.kind statics fd.slot)
+      → with_static_read words fd (erased (record { frames = f ∷ below; heap = heap; statics = statics }))
+      ≡ erased (with_static_read tagged fd (record { frames = f ∷ below; heap = heap; statics = statics }))
+  static-read-is fd =
+      replaced-is 0 (value_in tagged fd.kind statics fd.slot) (value_in words fd.kind (map word_of statics) fd.slot) (of-cells.read fd.kind statics fd.slot)
 
-  kept-is : (kind : Kind) → map word_of (kept_value tagged kind (value_on tagged kind f.stack)) ≡ kept_value words kind (value_on words kind (map word_of f.stack))
+  kept-is : (kind : Kind) → map word_of (kept_value tagged kind (value_on tagged kind f.stack)) ≡ kept_value words kind
+      (value_on words kind (map word_of f.stack))
   kept-is kind = of-cells.stored kind (value_on tagged kind f.stack) ∙ ap (kept_value words kind) (of-cells.popped kind f.stack)
 
   objects-of : (z : State Cell) → ObjectsErase z
   objects-of z = ((states-erase w.methods w.classes).0 z).2
 
   static-write-is : (fd : StaticField)
-      → with_static_write words fd (erased (record { frames = f ∷ below; heap = heap; statics = statics })) ≡ erased (with_static_write tagged fd (record { frames = f ∷ below; heap = heap; statics = statics }))
+      → with_static_write words fd (erased (record { frames = f ∷ below; heap = heap; statics = statics }))
+      ≡ erased (with_static_write tagged fd (record { frames = f ∷ below; heap = heap; statics = statics }))
   static-write-is fd =
       let z : State Cell = dropped (record { frames = f ∷ below; heap = heap; statics = statics }) (width fd.kind) in
       ap (λ x. with_static_value x fd.slot (kept_value words fd.kind (value_on words fd.kind (map word_of f.stack)))) (dropped-is (width fd.kind))
-      ∙ (ap (with_static_value (erased z) fd.slot) (sym (kept-is fd.kind)) ∙ sym ((objects-of z).static_value fd.slot (kept_value tagged fd.kind (value_on tagged fd.kind f.stack))))
+      ∙ (ap (with_static_value (erased z) fd.slot) (sym (kept-is fd.kind))
+      ∙ sym ((objects-of z).static_value fd.slot (kept_value tagged fd.kind (value_on tagged fd.kind f.stack))))
 
   held-is : (holder : Holder) (under : ℕ)
-      → held_handle words holder under (erased (record { frames = f ∷ below; heap = heap; statics = statics })) ≡ held_handle tagged holder under (record { frames = f ∷ below; heap = heap; statics = statics })
+      → held_handle words holder under (erased (record { frames = f ∷ below; heap = heap; statics = statics })) ≡ held_handle tagged holder under
+      (record { frames = f ∷ below; heap = heap; statics = statics })
   held-is holders.Stack under = word-at f.stack under
   held-is holders.This under = word-at f.registers 0
 
@@ -313,13 +341,18 @@ module _ (w : Linked) (f : Frame Cell) (below : List (Frame Cell)) (heap : List 
       → map word_of (value_in tagged kind (object_cells (record { frames = f ∷ below; heap = heap; statics = statics }) h) i)
       ≡ value_in words kind (object_cells (erased (record { frames = f ∷ below; heap = heap; statics = statics })) h) i
   read-is kind h i =
-      of-cells.read kind (object_cells (record { frames = f ∷ below; heap = heap; statics = statics }) h) i ∙ ap (λ cs. value_in words kind cs i) (reads.cells h)
+      of-cells.read kind (object_cells (record { frames = f ∷ below; heap = heap; statics = statics }) h) i
+      ∙ ap (λ cs. value_in words kind cs i) (reads.cells h)
 
   field-read-is : (fd : InstanceField) (holder : Holder) (h : ℕ)
       → with_field_read words fd holder h (erased (record { frames = f ∷ below; heap = heap; statics = statics }))
       ≡ erased (with_field_read tagged fd holder h (record { frames = f ∷ below; heap = heap; statics = statics }))
-  field-read-is fd holders.Stack h = replaced-is 1 (value_in tagged fd.kind (object_cells (record { frames = f ∷ below; heap = heap; statics = statics }) h) fd.cell) _ (read-is fd.kind h fd.cell)
-  field-read-is fd holders.This h = replaced-is 0 (value_in tagged fd.kind (object_cells (record { frames = f ∷ below; heap = heap; statics = statics }) h) fd.cell) _ (read-is fd.kind h fd.cell)
+  field-read-is fd holders.Stack h =
+      replaced-is 1 (value_in tagged fd.kind (object_cells (record { frames = f ∷ below; heap = heap; statics = statics }) h) fd.cell) _
+      (read-is fd.kind h fd.cell)
+  field-read-is fd holders.This h =
+      replaced-is 0 (value_in tagged fd.kind (object_cells (record { frames = f ∷ below; heap = heap; statics = statics }) h) fd.cell) _
+      (read-is fd.kind h fd.cell)
 
   field-read-act-is : (fd : InstanceField) (holder : Holder)
       → field_read_act words fd holder (erased (record { frames = f ∷ below; heap = heap; statics = statics }))
@@ -328,16 +361,21 @@ module _ (w : Linked) (f : Frame Cell) (below : List (Frame Cell)) (heap : List 
       let s : State Cell = record { frames = f ∷ below; heap = heap; statics = statics } in
       let h : ℕ = held_handle tagged holder 0 s in
       ap (λ n. unless_null n (λ k. goes (with_field_read words fd holder k (erased s)))) (held-is holder 0)
-      ∙ null-erased h (λ k. goes (with_field_read tagged fd holder k s)) (λ k. goes (with_field_read words fd holder k (erased s))) (ap goes (field-read-is fd holder h))
+      ∙ null-erased h (λ k. goes (with_field_read tagged fd holder k s)) (λ k. goes (with_field_read words fd holder k (erased s)))
+      (ap goes (field-read-is fd holder h))
 
   -- a value on top of the stack goes into an object
   written-is : (taken h i : ℕ) (kind : Kind)
-      → with_object_value (dropped (erased (record { frames = f ∷ below; heap = heap; statics = statics })) taken) h i (kept_value words kind (value_on words kind (map word_of f.stack)))
-      ≡ erased (with_object_value (dropped (record { frames = f ∷ below; heap = heap; statics = statics }) taken) h i (kept_value tagged kind (value_on tagged kind f.stack)))
+      → with_object_value (dropped (erased (record { frames = f ∷ below; heap = heap; statics = statics })) taken) h i
+      (kept_value words kind (value_on words kind (map word_of f.stack)))
+      ≡ erased
+      (with_object_value (dropped (record { frames = f ∷ below; heap = heap; statics = statics }) taken) h i
+      (kept_value tagged kind (value_on tagged kind f.stack)))
   written-is taken h i kind =
       let z : State Cell = dropped (record { frames = f ∷ below; heap = heap; statics = statics }) taken in
       ap (λ x. with_object_value x h i (kept_value words kind (value_on words kind (map word_of f.stack)))) (dropped-is taken)
-      ∙ (ap (with_object_value (erased z) h i) (sym (kept-is kind)) ∙ sym ((objects-of z).value h i (kept_value tagged kind (value_on tagged kind f.stack))))
+      ∙ (ap (with_object_value (erased z) h i) (sym (kept-is kind))
+      ∙ sym ((objects-of z).value h i (kept_value tagged kind (value_on tagged kind f.stack))))
 
   field-write-act-is : (fd : InstanceField) (holder : Holder)
       → field_write_act words fd holder (erased (record { frames = f ∷ below; heap = heap; statics = statics }))
@@ -356,12 +394,14 @@ module _ (w : Linked) (f : Frame Cell) (below : List (Frame Cell)) (heap : List 
   counted-is (o ∷ os) zero = ap (λ n. n / element_width o.kind) (length-map o.cells word_of)
   counted-is (o ∷ os) (suc h) = counted-is os h
 
-  elements-are : (h : ℕ) → elements_of (erased (record { frames = f ∷ below; heap = heap; statics = statics })) h ≡ elements_of (record { frames = f ∷ below; heap = heap; statics = statics }) h
+  elements-are : (h : ℕ) → elements_of (erased (record { frames = f ∷ below; heap = heap; statics = statics })) h
+      ≡ elements_of (record { frames = f ∷ below; heap = heap; statics = statics }) h
   elements-are zero = refl
   elements-are (suc h) = counted-is heap h
 
   array-read-is : (kind : Kind)
-      → array_read_act words kind (erased (record { frames = f ∷ below; heap = heap; statics = statics })) ≡ erased_act (array_read_act tagged kind (record { frames = f ∷ below; heap = heap; statics = statics }))
+      → array_read_act words kind (erased (record { frames = f ∷ below; heap = heap; statics = statics }))
+      ≡ erased_act (array_read_act tagged kind (record { frames = f ∷ below; heap = heap; statics = statics }))
   array-read-is kind =
       let s : State Cell = record { frames = f ∷ below; heap = heap; statics = statics } in
       let h : ℕ = handle_at tagged f.stack 1 in
@@ -369,14 +409,16 @@ module _ (w : Linked) (f : Frame Cell) (below : List (Frame Cell)) (heap : List 
       let a : ℕ → ℕ → Act Cell = λ n i. goes (replaced s 2 (value_in tagged kind (object_cells s n) (i * width kind))) in
       let b : ℕ → ℕ → Act ℕ = λ n i. goes (replaced (erased s) 2 (value_in words kind (object_cells (erased s) n) (i * width kind))) in
       ap (λ n. unless_null n (λ k. at_element (short_at words (map word_of f.stack) 0) (elements_of (erased s) k) (b k))) (word-at f.stack 1)
-      ∙ null-erased h (λ k. at_element x (elements_of s k) (a k)) (λ k. at_element (short_at words (map word_of f.stack) 0) (elements_of (erased s) k) (b k))
+      ∙ null-erased h (λ k. at_element x (elements_of s k) (a k))
+      (λ k. at_element (short_at words (map word_of f.stack) 0) (elements_of (erased s) k) (b k))
       (ap (λ z. at_element z (elements_of (erased s) h) (b h)) (short-is f.stack 0)
       ∙ (ap (λ n. at_element x n (b h)) (elements-are h)
       ∙ some-erased exceptions.ArrayIndex (element_index x (elements_of s h)) (a h) (b h)
       (λ i. ap goes (replaced-is 2 (value_in tagged kind (object_cells s h) (i * width kind)) _ (read-is kind h (i * width kind))))))
 
   keeps-is : (t : ClassTable) (kind : Kind) (h : ℕ)
-      → keeps_kind words t kind (erased (record { frames = f ∷ below; heap = heap; statics = statics })) h ≡ keeps_kind tagged t kind (record { frames = f ∷ below; heap = heap; statics = statics }) h
+      → keeps_kind words t kind (erased (record { frames = f ∷ below; heap = heap; statics = statics })) h ≡ keeps_kind tagged t kind
+      (record { frames = f ∷ below; heap = heap; statics = statics }) h
   keeps-is t fields.Ref h =
       let ks = kinds (erased (record { frames = f ∷ below; heap = heap; statics = statics })) in
       ap (takes_element t ks (kind_of_handle ks h)) (word-at f.stack 0)
@@ -391,23 +433,29 @@ module _ (w : Linked) (f : Frame Cell) (below : List (Frame Cell)) (heap : List 
   kept-or-raised false a b e = refl
 
   array-write-is : (t : ClassTable) (kind : Kind)
-      → array_write_act words t kind (erased (record { frames = f ∷ below; heap = heap; statics = statics })) ≡ erased_act (array_write_act tagged t kind (record { frames = f ∷ below; heap = heap; statics = statics }))
+      → array_write_act words t kind (erased (record { frames = f ∷ below; heap = heap; statics = statics }))
+      ≡ erased_act (array_write_act tagged t kind (record { frames = f ∷ below; heap = heap; statics = statics }))
   array-write-is t kind =
       let s : State Cell = record { frames = f ∷ below; heap = heap; statics = statics } in
       let h : ℕ = handle_at tagged f.stack (width kind + 1) in
       let x : ℤ = short_at tagged f.stack (width kind) in
       let a : ℕ → ℕ → Act Cell = λ n i. if keeps_kind tagged t kind s n then goes (with_element tagged kind n i s) else raises exceptions.ArrayStore in
-      let b : ℕ → ℕ → Act ℕ = λ n i. if keeps_kind words t kind (erased s) n then goes (with_element words kind n i (erased s)) else raises exceptions.ArrayStore in
-      ap (λ n. unless_null n (λ k. at_element (short_at words (map word_of f.stack) (width kind)) (elements_of (erased s) k) (b k))) (word-at f.stack (width kind + 1))
-      ∙ null-erased h (λ k. at_element x (elements_of s k) (a k)) (λ k. at_element (short_at words (map word_of f.stack) (width kind)) (elements_of (erased s) k) (b k))
+      let b : ℕ → ℕ → Act ℕ = λ n i. if keeps_kind words t kind (erased s) n then goes (with_element words kind n i (erased s)) else raises
+      exceptions.ArrayStore in
+      ap (λ n. unless_null n (λ k. at_element (short_at words (map word_of f.stack) (width kind)) (elements_of (erased s) k) (b k)))
+      (word-at f.stack (width kind + 1))
+      ∙ null-erased h (λ k. at_element x (elements_of s k) (a k))
+      (λ k. at_element (short_at words (map word_of f.stack) (width kind)) (elements_of (erased s) k) (b k))
       (ap (λ z. at_element z (elements_of (erased s) h) (b h)) (short-is f.stack (width kind))
       ∙ (ap (λ n. at_element x n (b h)) (elements-are h)
       ∙ some-erased exceptions.ArrayIndex (element_index x (elements_of s h)) (a h) (b h)
       (λ i.
       ap (λ keep. if keep then goes (with_element words kind h i (erased s)) else raises exceptions.ArrayStore) (keeps-is t kind h)
-      ∙ kept-or-raised (keeps_kind tagged t kind s h) (with_element tagged kind h i s) (with_element words kind h i (erased s)) (written-is (width kind + 2) h (i * width kind) kind))))
+      ∙ kept-or-raised (keeps_kind tagged t kind s h) (with_element tagged kind h i s) (with_element words kind h i (erased s))
+      (written-is (width kind + 2) h (i * width kind) kind))))
 
-  array-length-is : array_length_act words (erased (record { frames = f ∷ below; heap = heap; statics = statics })) ≡ erased_act (array_length_act tagged (record { frames = f ∷ below; heap = heap; statics = statics }))
+  array-length-is : array_length_act words (erased (record { frames = f ∷ below; heap = heap; statics = statics }))
+      ≡ erased_act (array_length_act tagged (record { frames = f ∷ below; heap = heap; statics = statics }))
   array-length-is =
       let s : State Cell = record { frames = f ∷ below; heap = heap; statics = statics } in
       let h : ℕ = handle_at tagged f.stack 0 in
@@ -425,12 +473,15 @@ module _ (w : Linked) (f : Frame Cell) (below : List (Frame Cell)) (heap : List 
   array-of-is kind (negsuc k) n = refl
   array-of-is kind (pos count) n =
       ap (λ z. makes kind (array_cells words kind count) words.reference z) (dropped-is n)
-      ∙ ap (λ cs. makes kind cs (λ h. h) (erased (dropped (record { frames = f ∷ below; heap = heap; statics = statics }) n))) (sym (of-cells.array kind count))
+      ∙ ap (λ cs. makes kind cs (λ h. h) (erased (dropped (record { frames = f ∷ below; heap = heap; statics = statics }) n)))
+      (sym (of-cells.array kind count))
 
   new-array-is : (ty : Ty)
-      → new_array_act words ty (erased (record { frames = f ∷ below; heap = heap; statics = statics })) ≡ erased_act (new_array_act tagged ty (record { frames = f ∷ below; heap = heap; statics = statics }))
+      → new_array_act words ty (erased (record { frames = f ∷ below; heap = heap; statics = statics }))
+      ≡ erased_act (new_array_act tagged ty (record { frames = f ∷ below; heap = heap; statics = statics }))
   new-array-is ty =
-      ap (λ n. array_of_count words (kind_of_type ty) n (dropped (erased (record { frames = f ∷ below; heap = heap; statics = statics })) 1)) (short-is f.stack 0)
+      ap (λ n. array_of_count words (kind_of_type ty) n (dropped (erased (record { frames = f ∷ below; heap = heap; statics = statics })) 1))
+      (short-is f.stack 0)
       ∙ array-of-is (kind_of_type ty) (short_at tagged f.stack 0) 1
 
   new-is : (place class : ℕ)
@@ -439,14 +490,17 @@ module _ (w : Linked) (f : Frame Cell) (below : List (Frame Cell)) (heap : List 
   new-is place class =
       ap (λ cs. makes (Instance class) cs (λ h. h) (erased (record { frames = f ∷ below; heap = heap; statics = statics }))) (sym (of-cells.instance class))
 
-  throw-is : throw_act words (erased (record { frames = f ∷ below; heap = heap; statics = statics })) ≡ erased_act (throw_act tagged (record { frames = f ∷ below; heap = heap; statics = statics }))
+  throw-is : throw_act words (erased (record { frames = f ∷ below; heap = heap; statics = statics }))
+      ≡ erased_act (throw_act tagged (record { frames = f ∷ below; heap = heap; statics = statics }))
   throw-is = ap (λ n. unless_null n throws) (word-at f.stack 0) ∙ null-erased (handle_at tagged f.stack 0) throws throws refl
 
   passes-is : (ty : Ty) (h : ℕ)
-      → passes w.classes (erased (record { frames = f ∷ below; heap = heap; statics = statics })) ty h ≡ passes w.classes (record { frames = f ∷ below; heap = heap; statics = statics }) ty h
+      → passes w.classes (erased (record { frames = f ∷ below; heap = heap; statics = statics })) ty h ≡ passes w.classes
+      (record { frames = f ∷ below; heap = heap; statics = statics }) ty h
   passes-is ty h = ap (λ ks. kind_passes w.classes ty (kind_of_handle ks h)) reads.kinds_are
 
-  cast-or-raised : (b : Bool) (s : State Cell) → ◌≡◌ {A = Act ℕ} (if b then goes (erased s) else raises exceptions.ClassCast) (erased_act (if b then goes s else raises exceptions.ClassCast))
+  cast-or-raised : (b : Bool) (s : State Cell) → ◌≡◌ {A = Act ℕ} (if b then goes (erased s) else raises exceptions.ClassCast)
+      (erased_act (if b then goes s else raises exceptions.ClassCast))
   cast-or-raised true s = refl
   cast-or-raised false s = refl
 
@@ -456,7 +510,8 @@ module _ (w : Linked) (f : Frame Cell) (below : List (Frame Cell)) (heap : List 
   type-test-is tests.Cast ty =
       let s : State Cell = record { frames = f ∷ below; heap = heap; statics = statics } in
       ap (λ n. if may_cast w.classes (erased s) ty n then goes (erased s) else raises exceptions.ClassCast) (word-at f.stack 0)
-      ∙ (ap (λ b. if (handle_at tagged f.stack 0 == 0 || b) then goes (erased s) else raises exceptions.ClassCast) (passes-is ty (handle_at tagged f.stack 0))
+      ∙ (ap (λ b. if (handle_at tagged f.stack 0 == 0 || b) then goes (erased s) else raises exceptions.ClassCast)
+      (passes-is ty (handle_at tagged f.stack 0))
       ∙ cast-or-raised (may_cast w.classes s ty (handle_at tagged f.stack 0)) s)
   type-test-is tests.InstanceOf ty =
       let s : State Cell = record { frames = f ∷ below; heap = heap; statics = statics } in
@@ -477,9 +532,11 @@ module _ (w : Linked) (f : Frame Cell) (below : List (Frame Cell)) (heap : List 
 
   ready-words : (place : ℕ) (cs : List Cell) → map word_of (map (made_ready place) cs) ≡ map word_of cs
   ready-words place [] = refl
-  ready-words place (c ∷ cs) = ap (λ n. n ∷ map word_of (map (made_ready place) cs)) (words-erase.ready place c) ∙ ap (λ ns. word_of c ∷ ns) (ready-words place cs)
+  ready-words place (c ∷ cs) =
+      ap (λ n. n ∷ map word_of (map (made_ready place) cs)) (words-erase.ready place c) ∙ ap (λ ns. word_of c ∷ ns) (ready-words place cs)
 
-  readied-is : (place : Option ℕ) → erased (record { frames = f ∷ below; heap = heap; statics = statics }) ≡ erased (readied tagged (record { frames = f ∷ below; heap = heap; statics = statics }) place)
+  readied-is : (place : Option ℕ) → erased (record { frames = f ∷ below; heap = heap; statics = statics })
+      ≡ erased (readied tagged (record { frames = f ∷ below; heap = heap; statics = statics }) place)
   readied-is None = refl
   readied-is (Some place) = ap (framed (map word_of f.registers)) (sym (ready-words place f.stack))
 
@@ -491,14 +548,16 @@ module _ (w : Linked) (f : Frame Cell) (below : List (Frame Cell)) (heap : List 
       ap (readied words (erased s)) (made-top callee.receiver)
       ∙ readied-is (made_at callee.receiver (tagged.type_of w.classes (kinds s) (nth tagged f.stack args)))
 
-  class-is : (h : ℕ) → class_of w.classes (erased (record { frames = f ∷ below; heap = heap; statics = statics })) h ≡ class_of w.classes (record { frames = f ∷ below; heap = heap; statics = statics }) h
+  class-is : (h : ℕ) → class_of w.classes (erased (record { frames = f ∷ below; heap = heap; statics = statics })) h ≡ class_of w.classes
+      (record { frames = f ∷ below; heap = heap; statics = statics }) h
   class-is h = ap (λ ks. class_with_methods w.classes (kind_of_handle ks h)) reads.kinds_are
 
   served-is : (o : Option ℕ) (class count : ℕ) (s : State Cell) → served_act o class count (erased s) ≡ erased_act (served_act o class count s)
   served-is None class count s = refl
   served-is (Some n) class count s = refl
 
-  interface-is : (c token count : ℕ) (o : Option ObjectKind) (s : State Cell) → interface_act w.classes c token count o (erased s) ≡ erased_act (interface_act w.classes c token count o s)
+  interface-is : (c token count : ℕ) (o : Option ObjectKind) (s : State Cell) → interface_act w.classes c token count o (erased s)
+      ≡ erased_act (interface_act w.classes c token count o s)
   interface-is c token count (Some (Instance r)) s = served-is (served w.classes c token r) r count s
   interface-is c token count (Some Booleans) s = refl
   interface-is c token count (Some Bytes) s = refl
@@ -515,10 +574,12 @@ module _ (w : Linked) (f : Frame Cell) (below : List (Frame Cell)) (heap : List 
       let s : State Cell = record { frames = f ∷ below; heap = heap; statics = statics } in
       ap (λ n. unless_null n (λ h. calls callee.method (args + 1) (with_ready words w.classes callee args (erased s)))) (word-at f.stack args)
       ∙ null-erased (handle_at tagged f.stack args) (λ h. calls callee.method (args + 1) (with_ready tagged w.classes callee args s))
-      (λ h. calls callee.method (args + 1) (with_ready words w.classes callee args (erased s))) (ap (calls callee.method (args + 1)) (with-ready-is callee args))
+      (λ h. calls callee.method (args + 1) (with_ready words w.classes callee args (erased s)))
+      (ap (calls callee.method (args + 1)) (with-ready-is callee args))
   chosen-is callee args (choices.Virtual class token) =
       let s : State Cell = record { frames = f ∷ below; heap = heap; statics = statics } in
-      let b : ℕ → Act ℕ = λ h. calls (unwrap_or (dispatched w.classes class token (class_of w.classes (erased s) h)) callee.method) (args + 1) (erased s) in
+      let b : ℕ → Act ℕ = λ h. calls (unwrap_or (dispatched w.classes class token (class_of w.classes (erased s) h)) callee.method) (args + 1)
+      (erased s) in
       let h : ℕ = handle_at tagged f.stack args in
       ap (λ n. unless_null n b) (word-at f.stack args)
       ∙ null-erased h (λ k. calls (unwrap_or (dispatched w.classes class token (class_of w.classes s k)) callee.method) (args + 1) s) b
@@ -533,10 +594,12 @@ module _ (w : Linked) (f : Frame Cell) (below : List (Frame Cell)) (heap : List 
       ∙ interface-is class token (args + 1) (kind_of_handle (kinds s) h) s)
 
   return-is : (result : Option Ty)
-      → return_act words result (erased (record { frames = f ∷ below; heap = heap; statics = statics })) ≡ erased_act (return_act tagged result (record { frames = f ∷ below; heap = heap; statics = statics }))
+      → return_act words result (erased (record { frames = f ∷ below; heap = heap; statics = statics }))
+      ≡ erased_act (return_act tagged result (record { frames = f ∷ below; heap = heap; statics = statics }))
   return-is None = refl
   return-is (Some Short) =
-      ap (λ n. gives (values.Short n) (nth words (map word_of f.stack) 0 ∷ [])) (short-is f.stack 0) ∙ ap (λ n. gives (values.Short (short_at tagged f.stack 0)) (n ∷ [])) (word-at f.stack 0)
+      ap (λ n. gives (values.Short n) (nth words (map word_of f.stack) 0 ∷ [])) (short-is f.stack 0)
+      ∙ ap (λ n. gives (values.Short (short_at tagged f.stack 0)) (n ∷ [])) (word-at f.stack 0)
   return-is (Some IntHigh) =
       ap (λ n. gives (values.Int n) (nth words (map word_of f.stack) 1 ∷ nth words (map word_of f.stack) 0 ∷ [])) (int-is f.stack 1 0)
       ∙ (ap (λ n. gives (values.Int (int_on tagged f.stack 0)) (n ∷ nth words (map word_of f.stack) 0 ∷ [])) (word-at f.stack 1)
@@ -556,7 +619,8 @@ module _ (w : Linked) (f : Frame Cell) (below : List (Frame Cell)) (heap : List 
   -- ---- every operation
 
   pub act-erases : (i : Insn) (op : Operation)
-      → act words w i op (erased (record { frames = f ∷ below; heap = heap; statics = statics })) ≡ erased_act (act tagged w i op (record { frames = f ∷ below; heap = heap; statics = statics }))
+      → act words w i op (erased (record { frames = f ∷ below; heap = heap; statics = statics }))
+      ≡ erased_act (act tagged w i op (record { frames = f ∷ below; heap = heap; statics = statics }))
   act-erases i (ops.Constant c) = ap goes (constant-is c)
   act-erases i (ops.Load sort x) = ap goes (load-is sort x)
   act-erases i (ops.Store sort x) = ap goes (store-is sort x)
@@ -580,7 +644,8 @@ module _ (w : Linked) (f : Frame Cell) (below : List (Frame Cell)) (heap : List 
   act-erases i (ops.Return result) = return-is result
 
 acts-by : (w : Linked) (fs : List (Frame Cell)) (heap : List (Object Cell)) (statics : List Cell) (i : Insn) (op : Operation) → 0 < length fs
-    → act words w i op (erased (record { frames = fs; heap = heap; statics = statics })) ≡ erased_act (act tagged w i op (record { frames = fs; heap = heap; statics = statics }))
+    → act words w i op (erased (record { frames = fs; heap = heap; statics = statics }))
+    ≡ erased_act (act tagged w i op (record { frames = fs; heap = heap; statics = statics }))
 acts-by w [] heap statics i op runs = absurd (omega (arith, runs))
 acts-by w (f ∷ below) heap statics i op runs = act-erases w f below heap statics i op
 

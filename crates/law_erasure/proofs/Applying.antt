@@ -52,7 +52,9 @@ module _ (w : Linked) (world : IsWorld w) (typings : Typings) where
       → IsTypedState w typings (record { frames = fs; heap = heap; statics = statics })
       → Fetches w (record { frames = fs; heap = heap; statics = statics }) m i
       → Resolves w m i.place i.insn (Ok op)
-      → (after : Types) × (o : Rule) × OperationApplies w m.max_stack op Flow (types_of_frame w.classes (typings.unset (first_frame fs).method) (kinds_of heap) (first_frame fs)) after o
+      → (after : Types) × (o : Rule)
+      × OperationApplies w m.max_stack op Flow (types_of_frame w.classes (typings.unset (first_frame fs).method) (kinds_of heap) (first_frame fs))
+      after o
   applies-by [] heap statics m i op typed fetched resolves = let runs = fetched.runs in absurd (omega (arith, runs))
   applies-by (f ∷ below) heap statics m i op typed fetched resolves =
       of-turn f below heap statics m i op (turn w world typings (kinds_of heap) f typed.frames.0) fetched resolves

@@ -1,5 +1,6 @@
 -- What an act leads to over bare words is what it leads to over tagged cells, where that is no fault.
-use Rattle.std.proofs.Common.{◌≡◌, ℕ, ◌+◌, ◌<◌, Bool, true, false, ◌&&◌, if◌then◌else◌, List, [], ◌∷◌, ◌++◌, length, map, reverse, refl, sym, ap, ◌∙◌, subst, arith}
+use Rattle.std.proofs.Common.{◌≡◌, ℕ, ◌+◌, ◌<◌, Bool, true, false, ◌&&◌, if◌then◌else◌, List, [], ◌∷◌, ◌++◌, length, map}
+use Rattle.std.proofs.Common.{reverse, refl, sym, ap, ◌∙◌, subst, arith}
 use Rattle.std.specs.Prelude.{ℤ, Option, Some, None, nat_lt, slice_index}
 use Rattle.std.proofs.lemmas.List.{map-append, length-map}
 use Rattle.jc_base.specs.declared.record.Handler.{Handler}
@@ -29,7 +30,8 @@ use Rattle.vm_step.specs.Calls.{class_with_methods, class_of}
 use Rattle.vm_step.specs.Performed.{act}
 use Rattle.vm_step.specs.Tests.{fault_before}
 use Rattle.vm_step.specs.Raising.{Outcome, running, ended, ends, handler_for, caught, caught_or, unwound, thrown, raised}
-use Rattle.vm_step.specs.Settled.{unless_fault, fault_next, fault_target, place_number, return_place, goes_to, jumps_to, with_new, made, entered_call, given_to, settled}
+use Rattle.vm_step.specs.Settled.{unless_fault, fault_next, fault_target, place_number, return_place, goes_to, jumps_to, with_new, made, entered_call, given_to}
+use Rattle.vm_step.specs.Settled.{settled}
 use Rattle.vm_step.specs.Step.{Steps, misplaced, unresolved, performs, performed}
 use Rattle.vm_step.specs.Run.{Runs, stands, stops, steps}
 use Rattle.law_erasure.specs.Erasure.{erased_act, erased_outcome, IsNoFault, StepsErase, RunsErase}
@@ -40,7 +42,8 @@ unless-none : (s : State Cell) (o : Option Fault) (x : Outcome Cell) → IsNoFau
 unless-none s None x h = (refl, h)
 unless-none s (Some fault) x h = absurd h
 
-if-erased : (b : Bool) (x y : Outcome Cell) (u v : Outcome ℕ) → IsNoFault (if b then x else y) → (IsNoFault x → u ≡ erased_outcome x) → (IsNoFault y → v ≡ erased_outcome y)
+if-erased : (b : Bool) (x y : Outcome Cell) (u v : Outcome ℕ) → IsNoFault (if b then x else y) → (IsNoFault x → u ≡ erased_outcome x)
+    → (IsNoFault y → v ≡ erased_outcome y)
     → (if b then u else v) ≡ erased_outcome (if b then x else y)
 if-erased true x y u v h e g = e h
 if-erased false x y u v h e g = g h
@@ -57,38 +60,46 @@ module _ (w : Linked) where
 
   -- ---- going on
 
-  goes-erased : (next : ℕ) (s z : State Cell) → IsNoFault (goes_to tagged w next s z) → goes_to words w next (erased s) (erased z) ≡ erased_outcome (goes_to tagged w next s z)
+  goes-erased : (next : ℕ) (s z : State Cell) → IsNoFault (goes_to tagged w next s z) → goes_to words w next (erased s) (erased z)
+      ≡ erased_outcome (goes_to tagged w next s z)
   goes-erased next s z h =
       let passed = unless-none s (fault_next tagged w z (length (top z).stack) next) (running (with_place z next)) h in
       ap running (sym ((frames z).place next)) ∙ sym (ap erased_outcome passed.0)
 
-  jumps-erased : (to : ℤ) (z : State Cell) → IsNoFault (jumps_to tagged w to z) → jumps_to words w to (erased z) ≡ erased_outcome (jumps_to tagged w to z)
+  jumps-erased : (to : ℤ) (z : State Cell) → IsNoFault (jumps_to tagged w to z)
+      → jumps_to words w to (erased z) ≡ erased_outcome (jumps_to tagged w to z)
   jumps-erased to z h =
       let passed = unless-none z (fault_target tagged w z to) (running (with_place z (place_number to))) h in
       ap running (sym ((frames z).place (place_number to))) ∙ sym (ap erased_outcome passed.0)
 
   -- ---- new objects
 
-  with-new-erased : (z : State Cell) (kind : ObjectKind) (cs : List Cell) (c : Cell) → with_new (erased z) kind (map word_of cs) (word_of c) ≡ erased (with_new z kind cs c)
+  with-new-erased : (z : State Cell) (kind : ObjectKind) (cs : List Cell) (c : Cell) → with_new (erased z) kind (map word_of cs) (word_of c)
+      ≡ erased (with_new z kind cs c)
   with-new-erased z kind cs c =
       let m : State Cell = with_object z kind cs in
       ap (λ (x : State ℕ). with_stack x (word_of c ∷ (top (erased z)).stack)) (sym ((objects z).object kind cs))
       ∙ (ap (λ (g : Frame ℕ). with_stack (erased m) (word_of c ∷ g.stack)) (sym (reads z).top_is) ∙ sym ((frames m).stack (c ∷ (top z).stack)))
 
-  makes-erased : (next : ℕ) (kind : ObjectKind) (cs : List Cell) (reference : ℕ → Cell) (z : State Cell) → IsNoFault (made tagged w next kind cs reference z)
+  makes-erased : (next : ℕ) (kind : ObjectKind) (cs : List Cell) (reference : ℕ → Cell) (z : State Cell)
+      → IsNoFault (made tagged w next kind cs reference z)
       → made words w next kind (map word_of cs) (λ h. word_of (reference h)) (erased z) ≡ erased_outcome (made tagged w next kind cs reference z)
   makes-erased next kind cs reference z h =
       let new : State Cell = with_new z kind cs (reference (length z.heap + 1)) in
       let whole : Outcome Cell = if has_room z (length cs) then running (with_place new next) else ends (Plain HeapFull) z in
       let passed = unless-none z (fault_next tagged w z (length (top z).stack + 1) next) whole h in
       let count : length (erased z).heap ≡ length z.heap = length-map z.heap (map_object word_of) in
-      let now : with_place (with_new (erased z) kind (map word_of cs) (word_of (reference (length (erased z).heap + 1)))) next ≡ erased (with_place new next) =
+      let now : with_place (with_new (erased z) kind (map word_of cs) (word_of (reference (length (erased z).heap + 1)))) next
+      ≡ erased (with_place new next) =
       ap (λ n. with_place (with_new (erased z) kind (map word_of cs) (word_of (reference (n + 1)))) next) count
       ∙ (ap (λ (x : State ℕ). with_place x next) (with-new-erased z kind cs (reference (length z.heap + 1))) ∙ sym ((frames new).place next)) in
-      let room : has_room (erased z) (length (map word_of cs)) ≡ has_room z (length cs) = ap (has_room (erased z)) (length-map cs word_of) ∙ (reads z).room (length cs) in
-      ap (λ b. if b then running (with_place (with_new (erased z) kind (map word_of cs) (word_of (reference (length (erased z).heap + 1)))) next) else ends (Plain HeapFull) (erased z)) room
+      let room : has_room (erased z) (length (map word_of cs)) ≡ has_room z (length cs) = ap (has_room (erased z)) (length-map cs word_of)
+      ∙ (reads z).room (length cs) in
+      ap (λ b. if b then running (with_place (with_new (erased z) kind (map word_of cs) (word_of (reference (length (erased z).heap + 1)))) next) else ends
+      (Plain HeapFull) (erased z)) room
       ∙ (if-erased (has_room z (length cs)) (running (with_place new next)) (ends (Plain HeapFull) z)
-      (running (with_place (with_new (erased z) kind (map word_of cs) (word_of (reference (length (erased z).heap + 1)))) next)) (ends (Plain HeapFull) (erased z))
+      (running (with_place (with_new (erased z) kind (map word_of cs) (word_of (reference (length (erased z).heap + 1)))) next))
+      (ends (Plain HeapFull) (erased z))
       passed.1 (λ x. ap running now) (λ x. refl)
       ∙ sym (ap erased_outcome passed.0))
 
@@ -97,7 +108,8 @@ module _ (w : Linked) where
   enters-erased : (method count : ℕ) (z : State Cell) → IsNoFault (entered_call tagged w method count z)
       → entered_call words w method count (erased z) ≡ erased_outcome (entered_call tagged w method count z)
   enters-erased method count z h =
-      ap (λ n. if nat_lt n frame_limit then running (with_call words w.methods (erased z) method count) else ends (Plain TooDeep) (erased z)) (length-map z.frames (map_frame word_of))
+      ap (λ n. if nat_lt n frame_limit then running (with_call words w.methods (erased z) method count) else ends (Plain TooDeep) (erased z))
+      (length-map z.frames (map_frame word_of))
       ∙ if-erased (nat_lt (length z.frames) frame_limit) (running (with_call tagged w.methods z method count)) (ends (Plain TooDeep) z)
       (running (with_call words w.methods (erased z) method count)) (ends (Plain TooDeep) (erased z))
       h (λ x. ap running (sym ((frames z).call method count))) (λ x. refl)
@@ -117,10 +129,12 @@ module _ (w : Linked) where
       then goes_to words w (next (top (erased z))) (erased z) (with_stack (erased z) (with_value (map word_of cs) (top (erased z)).stack))
       else ends (Plain (Returned value)) (erased z)) (length-map z.frames (map_frame word_of))
       ∙ if-erased (nat_lt 0 (length z.frames)) (goes_to tagged w after z back) (ends (Plain (Returned value)) z)
-      (goes_to words w (next (top (erased z))) (erased z) (with_stack (erased z) (with_value (map word_of cs) (top (erased z)).stack))) (ends (Plain (Returned value)) (erased z))
+      (goes_to words w (next (top (erased z))) (erased z) (with_stack (erased z) (with_value (map word_of cs) (top (erased z)).stack)))
+      (ends (Plain (Returned value)) (erased z))
       h
       (λ x.
-      ap (λ (g : Frame ℕ). goes_to words w (next g) (erased z) (with_stack (erased z) (with_value (map word_of cs) (top (erased z)).stack))) (sym (reads z).top_is)
+      ap (λ (g : Frame ℕ). goes_to words w (next g) (erased z) (with_stack (erased z) (with_value (map word_of cs) (top (erased z)).stack)))
+      (sym (reads z).top_is)
       ∙ (ap (goes_to words w after (erased z)) back_is ∙ goes-erased after z back x))
       (λ x. refl)
 
@@ -128,7 +142,8 @@ module _ (w : Linked) where
 
   caught-erased : (s : State Cell) (f : Frame Cell) (below : List (Frame Cell)) (x : Outcome Cell) (u : Outcome ℕ) (handle : ℕ) (o : Option Handler)
       → IsNoFault (caught_or tagged w handle s f below x o) → (IsNoFault x → u ≡ erased_outcome x)
-      → caught_or words w handle (erased s) (map_frame word_of f) (map (map_frame word_of) below) u o ≡ erased_outcome (caught_or tagged w handle s f below x o)
+      → caught_or words w handle (erased s) (map_frame word_of f) (map (map_frame word_of) below) u o ≡ erased_outcome
+      (caught_or tagged w handle s f below x o)
   caught-erased s f below x u handle None h e = e h
   caught-erased s f below x u handle (Some k) h e = go (nat_lt (max_stack_of w f.method) 1) h
     where
@@ -142,32 +157,39 @@ module _ (w : Linked) where
       → unwound words w class handle (erased s) (map (map_frame word_of) fs) ≡ erased_outcome (unwound tagged w class handle s fs)
   unwound-erased class handle s [] h = refl
   unwound-erased class handle s (f ∷ fs) h =
-      caught-erased s f fs (unwound tagged w class handle s fs) (unwound words w class handle (erased s) (map (map_frame word_of) fs)) handle (handler_for w class f) h
+      caught-erased s f fs (unwound tagged w class handle s fs) (unwound words w class handle (erased s) (map (map_frame word_of) fs)) handle
+      (handler_for w class f) h
       (unwound-erased class handle s fs)
 
-  thrown-erased : (handle : ℕ) (s : State Cell) → IsNoFault (thrown tagged w handle s) → thrown words w handle (erased s) ≡ erased_outcome (thrown tagged w handle s)
+  thrown-erased : (handle : ℕ) (s : State Cell) → IsNoFault (thrown tagged w handle s)
+      → thrown words w handle (erased s) ≡ erased_outcome (thrown tagged w handle s)
   thrown-erased handle s h =
       ap (λ ks. unwound words w (class_with_methods w.classes (kind_of_handle ks handle)) handle (erased s) (erased s).frames) (reads s).kinds_are
       ∙ unwound-erased (class_of w.classes s handle) handle s s.frames h
 
-  raised-erased : (exception : Exception) (s : State Cell) → IsNoFault (raised tagged w exception s) → raised words w exception (erased s) ≡ erased_outcome (raised tagged w exception s)
+  raised-erased : (exception : Exception) (s : State Cell) → IsNoFault (raised tagged w exception s) → raised words w exception (erased s)
+      ≡ erased_outcome (raised tagged w exception s)
   raised-erased exception s h =
       let class : ℕ = slice_index w.classes.roles (role_of exception) in
       let count : length (erased s).heap ≡ length s.heap = length-map s.heap (map_object word_of) in
       let made_words : State ℕ = with_object (erased s) (Instance class) (new_instance_cells words w.classes class) in
       let made_cells : State Cell = with_object s (Instance class) (new_instance_cells tagged w.classes class) in
       let same : made_words ≡ erased made_cells =
-      ap (with_object (erased s) (Instance class)) (sym ((states-erase w.methods w.classes).1.instance class)) ∙ sym ((objects s).object (Instance class) (new_instance_cells tagged w.classes class)) in
-      ap (λ b. if b then thrown words w (length (erased s).heap + 1) made_words else ends (Plain HeapFull) (erased s)) ((reads s).room (length (cells_of w.classes class)))
+      ap (with_object (erased s) (Instance class)) (sym ((states-erase w.methods w.classes).1.instance class))
+      ∙ sym ((objects s).object (Instance class) (new_instance_cells tagged w.classes class)) in
+      ap (λ b. if b then thrown words w (length (erased s).heap + 1) made_words else ends (Plain HeapFull) (erased s))
+      ((reads s).room (length (cells_of w.classes class)))
       ∙ if-erased (has_room s (length (cells_of w.classes class))) (thrown tagged w (length s.heap + 1) made_cells) (ends (Plain HeapFull) s)
       (thrown words w (length (erased s).heap + 1) made_words) (ends (Plain HeapFull) (erased s))
       h
-      (λ x. ap (λ n. thrown words w (n + 1) made_words) count ∙ (ap (thrown words w (length s.heap + 1)) same ∙ thrown-erased (length s.heap + 1) made_cells x))
+      (λ x. ap (λ n. thrown words w (n + 1) made_words) count
+      ∙ (ap (thrown words w (length s.heap + 1)) same ∙ thrown-erased (length s.heap + 1) made_cells x))
       (λ x. refl)
 
   -- ---- every act
 
-  settled-erases : (next : ℕ) (s : State Cell) (a : Act Cell) → IsNoFault (settled tagged w next s a) → settled words w next (erased s) (erased_act a) ≡ erased_outcome (settled tagged w next s a)
+  settled-erases : (next : ℕ) (s : State Cell) (a : Act Cell) → IsNoFault (settled tagged w next s a) → settled words w next (erased s) (erased_act a)
+      ≡ erased_outcome (settled tagged w next s a)
   settled-erases next s (goes z) h = goes-erased next s z h
   settled-erases next s (jumps to z) h = jumps-erased to z h
   settled-erases next s (makes kind cs reference z) h = makes-erased next kind cs reference z h
@@ -182,7 +204,8 @@ module _ (w : Linked) where
 
   module _ (f : Frame Cell) (below : List (Frame Cell)) (heap : List (Object Cell)) (statics : List Cell) where
     performs-erased : (i : Placed) (op : Operation) → IsNoFault (performed tagged w i op (record { frames = f ∷ below; heap = heap; statics = statics }))
-        → performed words w i op (erased (record { frames = f ∷ below; heap = heap; statics = statics })) ≡ erased_outcome (performed tagged w i op (record { frames = f ∷ below; heap = heap; statics = statics }))
+        → performed words w i op (erased (record { frames = f ∷ below; heap = heap; statics = statics })) ≡ erased_outcome
+        (performed tagged w i op (record { frames = f ∷ below; heap = heap; statics = statics }))
     performs-erased i op h =
         let s : State Cell = record { frames = f ∷ below; heap = heap; statics = statics } in
         let next : ℕ = i.place + i.insn.len in
@@ -204,7 +227,8 @@ module _ (w : Linked) where
   runs-some s (performs fetched op resolves is) = fetched.runs
 
   steps-by : (fs : List (Frame Cell)) (heap : List (Object Cell)) (statics : List Cell) (o : Outcome Cell) → IsNoFault o
-      → Steps tagged w (record { frames = fs; heap = heap; statics = statics }) o → Steps words w (erased (record { frames = fs; heap = heap; statics = statics })) (erased_outcome o)
+      → Steps tagged w (record { frames = fs; heap = heap; statics = statics }) o
+      → Steps words w (erased (record { frames = fs; heap = heap; statics = statics })) (erased_outcome o)
   steps-by [] heap statics o h step = let runs = runs-some (record { frames = []; heap = heap; statics = statics }) step in absurd (omega (arith, runs))
   steps-by (f ∷ below) heap statics o h step = step-erased f below heap statics h step
 

@@ -45,14 +45,16 @@ typed-steps-follow w world decided typings s x are typed step =
     (there.0, there.1, steps-one words w decided (erased s) x (erased_outcome there.0) step (steps-erase w s there.0 free there.1))
 
 module _ (w : Linked) (world : IsWorld w) (decided : OperationsAreDecided w) (typings : Typings) (are : AreTypings w typings) where
-  follows : (n : ℕ) (s : State Cell) (x : Outcome ℕ) → IsTypedState w typings s → IsRunning s → Runs words w n (erased s) x → (o : Outcome Cell) × Runs tagged w n s o × (x ≡ erased_outcome o)
+  follows : (n : ℕ) (s : State Cell) (x : Outcome ℕ) → IsTypedState w typings s → IsRunning s → Runs words w n (erased s) x → (o : Outcome Cell)
+      × Runs tagged w n s o × (x ≡ erased_outcome o)
   follows n s x typed goes runs =
       let there = runs-exist w (steps-exist w) n s goes in
       let free = safe-free w typings there.0 (runs-are-safe w world typings n s there.0 are typed there.1) in
       let words_are = runs-erase w n s there.0 free there.1 in
       (there.0, there.1, continues-one words w (steps-one words w decided) n (running (erased s)) x (erased_outcome there.0) runs words_are)
 
-  runs-by : (n : ℕ) (s : State Cell) (z : State ℕ) (x : Outcome ℕ) → z ≡ erased s → IsTypedState w typings s → Runs words w n z x → (o : Outcome Cell) × Runs tagged w n s o × (x ≡ erased_outcome o)
+  runs-by : (n : ℕ) (s : State Cell) (z : State ℕ) (x : Outcome ℕ) → z ≡ erased s → IsTypedState w typings s → Runs words w n z x
+      → (o : Outcome Cell) × Runs tagged w n s o × (x ≡ erased_outcome o)
   runs-by zero s z x e typed stands = (running s, stands, ap running e)
   runs-by (suc n) s z x e typed (stops {z = y} {ending = f} step) =
       let first : Steps words w (erased s) (ended f y) = subst (λ (v : State ℕ). Steps words w v (ended f y)) e step in

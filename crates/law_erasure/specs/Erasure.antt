@@ -40,7 +40,8 @@ erased_act (lacks class) = lacks class
 
 -- an operation on bare words comes to the words of what it comes to on tagged cells
 abbrev pub ActsErase : Linked → Type 0
-ActsErase w = (i : Insn) (op : Operation) (s : State Cell) → IsRunning s → act words w i op (erased s) ≡ erased_act (act tagged w i op s)
+ActsErase w =
+    (i : Insn) (op : Operation) (s : State Cell) → IsRunning s → act words w i op (erased s) ≡ erased_act (act tagged w i op s)
 
 -- the words of an outcome
 abbrev pub erased_outcome : Outcome Cell → Outcome ℕ
@@ -57,11 +58,14 @@ StepsErase w = (s : State Cell) (o : Outcome Cell) → IsNoFault o → Steps tag
 
 -- so is a run of any number of steps
 abbrev pub RunsErase : Linked → Type 0
-RunsErase w = (n : ℕ) (s : State Cell) (o : Outcome Cell) → IsNoFault o → Runs tagged w n s o → Runs words w n (erased s) (erased_outcome o)
+RunsErase w =
+    (n : ℕ) (s : State Cell) (o : Outcome Cell) → IsNoFault o → Runs tagged w n s o
+    → Runs words w n (erased s) (erased_outcome o)
 
 -- and both machines begin alike
 abbrev pub StartsErase : Linked → Type 0
-StartsErase w = (entry : ℕ) (args : List Argument) (s : State Cell) → Starts tagged w entry args s → Starts words w entry args (erased s)
+StartsErase w =
+    (entry : ℕ) (args : List Argument) (s : State Cell) → Starts tagged w entry args s → Starts words w entry args (erased s)
 
 -- so where each method with code has a dataflow typing, what a run of bare words comes to, from the words of the state in which a run
 -- begins, are the words of what the run of tagged cells comes to

@@ -1,5 +1,6 @@
 -- A conditional branch or a switch with no cells under its operands: its step in laid code, and where that leads.
-use Rattle.std.proofs.Common.{◌≡◌, ◌≢◌, ℕ, zero, suc, ◌+◌, ◌-◌, ◌*◌, ◌<◌, ◌≤◌, Bool, true, false, if◌then◌else◌, List, [], ◌∷◌, ◌++◌, length, map, refl, sym, ap, ◌∙◌, subst, arith}
+use Rattle.std.proofs.Common.{◌≡◌, ◌≢◌, ℕ, zero, suc, ◌+◌, ◌-◌, ◌*◌, ◌<◌, ◌≤◌, Bool, true, false, if◌then◌else◌, List}
+use Rattle.std.proofs.Common.{[], ◌∷◌, ◌++◌, length, map, refl, sym, ap, ◌∙◌, subst, arith}
 use Rattle.std.specs.Prelude.{ℤ, pos, negsuc, All, Contains, Option, Some, None, Ok, is_some, nat_le, nat_lt, slice_get}
 use Rattle.std.specs.List.{filter}
 use Rattle.std.proofs.lemmas.Bool.Decides.{nat_tests}
@@ -29,7 +30,8 @@ use Rattle.xf_emission.specs.declared.origin.Origin.TheVariants.{After}
 use Rattle.xf_emission.specs.Edge.{cell_copies, copies}
 use Rattle.xf_emission.specs.Emission.{items}
 use Rattle.xf_emission.specs.Group.{body, branch_by, itself}
-use Rattle.xf_emission.specs.Jump.{branch, operands_slot, first_label, goto, has_under, jump_to, label_by, lead, leads, place as place_named, spill_if, stub, stub_label, stub_of, branch_copies, under}
+use Rattle.xf_emission.specs.Jump.{branch, operands_slot, first_label, goto, has_under, jump_to, label_by, lead, leads, place as place_named, spill_if, stub}
+use Rattle.xf_emission.specs.Jump.{stub_label, stub_of, branch_copies, under}
 use Rattle.law_groups.specs.Laid.{count_of, steps_of}
 use Rattle.law_groups.specs.Steps.{ItemsStandFrom}
 use Rattle.law_groups.proofs.Standing.{step-at}

@@ -1,5 +1,6 @@
 -- One step of the target for one of the source at a conditional branch or a switch.
-use Rattle.std.proofs.Common.{◌≡◌, ℕ, suc, ◌+◌, ◌<◌, ◌≤◌, ◌⊎◌, inl, inr, Bool, true, false, List, [], ◌∷◌, length, map, refl, sym, ap, ◌∙◌, subst, arith}
+use Rattle.std.proofs.Common.{◌≡◌, ℕ, suc, ◌+◌, ◌<◌, ◌≤◌, ◌⊎◌, inl, inr, Bool, true, false, List, [], ◌∷◌, length, map, refl}
+use Rattle.std.proofs.Common.{sym, ap, ◌∙◌, subst, arith}
 use Rattle.std.specs.Prelude.{ℤ, pos, All, Contains, Option, Some, None, Ok, is_some, option_map, slice_get, ⊤}
 use Rattle.std.proofs.lemmas.Bool.{cases_lt}
 use Rattle.std.proofs.lemmas.Option.{slice_get-map}
@@ -36,7 +37,8 @@ use Rattle.vm_step.specs.Step.{Steps}
 use Rattle.law_erasure.specs.Erasure.{IsNoFault}
 use Rattle.law_alike.specs.Alike.{AreAlike, IsOneToOne, StayAlike, renamed_cell, renamed_new}
 use Rattle.law_alike.specs.Likeness.{StepsAreAlike}
-use Rattle.law_alike.specs.Running.{ComeAlike, Executes, HaveKeys, call_alike, end_alike, exception_alike, keys_at, next_alike, return_alike, target_alike, throw_alike, top_code}
+use Rattle.law_alike.specs.Running.{ComeAlike, Executes, HaveKeys, call_alike, end_alike, exception_alike, keys_at, next_alike, return_alike, target_alike}
+use Rattle.law_alike.specs.Running.{throw_alike, top_code}
 use Rattle.xf_homes.specs.declared.home.Home.{Home}
 use Rattle.xf_homes.specs.Walk.{operands_of}
 use Rattle.law_laid.specs.Apart.{apart_from_code}

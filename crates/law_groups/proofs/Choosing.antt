@@ -1,5 +1,6 @@
 -- The group of a conditional branch or a switch with no cells under its operands.
-use Rattle.std.proofs.Common.{◌≡◌, ℕ, suc, ◌+◌, ◌<◌, ◌≤◌, Bool, true, false, if◌then◌else◌, List, [], ◌∷◌, length, map, refl, sym, ap, ◌∙◌, subst, arith}
+use Rattle.std.proofs.Common.{◌≡◌, ℕ, suc, ◌+◌, ◌<◌, ◌≤◌, Bool, true, false, if◌then◌else◌, List, [], ◌∷◌, length, map, refl}
+use Rattle.std.proofs.Common.{sym, ap, ◌∙◌, subst, arith}
 use Rattle.std.specs.Prelude.{ℤ, pos, negsuc, All, Contains, Option, Some, None, Ok, IsSomeAnd, IfSome, is_some, slice_get, ⊤}
 use Rattle.std.proofs.lemmas.Bool.{false≢true}
 use Rattle.std.proofs.lemmas.List.{length-map, nil_from_length}
@@ -106,7 +107,8 @@ none-beside : (s : Source) {hs ks : List Home} → AreMatched s hs ks → hs ≡
 none-beside s none_matched e = refl
 none-beside s (more_matched slot one two letter rest) e = absurd (cc)
 
-pub one-jump : (w : Linked) (i : Placed) (op : Operation) (n : ℕ) (ls : List ℕ) → operands_of w (Ok op) ≡ Some n → count_of (jump_to i op ls ∷ []) ≡ 1
+pub one-jump : (w : Linked) (i : Placed) (op : Operation) (n : ℕ) (ls : List ℕ) → operands_of w (Ok op) ≡ Some n
+    → count_of (jump_to i op ls ∷ []) ≡ 1
 one-jump w i (ops.Branch b) n ls e = refl
 one-jump w i (ops.Switch width) n ls e = refl
 one-jump w i _ n ls e = absurd (cc)

@@ -1,5 +1,6 @@
 -- The group of a conditional branch or a switch over a deeper stack: this goes into its own homes, and the operands come back.
-use Rattle.std.proofs.Common.{◌≡◌, ℕ, suc, ◌+◌, ◌<◌, ◌≤◌, inl, inr, Bool, true, false, if◌then◌else◌, List, [], ◌∷◌, ◌++◌, length, map, take, drop, refl, sym, ap, ◌∙◌, subst, arith}
+use Rattle.std.proofs.Common.{◌≡◌, ℕ, suc, ◌+◌, ◌<◌, ◌≤◌, inl, inr, Bool, true, false, if◌then◌else◌, List, [], ◌∷◌, ◌++◌}
+use Rattle.std.proofs.Common.{length, map, take, drop, refl, sym, ap, ◌∙◌, subst, arith}
 use Rattle.std.specs.Prelude.{ℤ, pos, Option, Some, None, Ok, ◌↔◌, is_some, slice_get}
 use Rattle.std.proofs.lemmas.Bool.{false≢true}
 use Rattle.std.proofs.lemmas.List.{drop-map, length-append, length-reverse, take-map}
@@ -46,7 +47,8 @@ use Rattle.xf_emission.specs.Move.{loads, spill}
 use Rattle.law_rewritten_typing.specs.Edges.{CellsFillStack, ForksAreCut, ForksMatch, IsForkedAt, LeadsTo, NeededHaveHomes, leads_after}
 use Rattle.law_rewritten_typing.proofs.ForkTypings.{each-left}
 use Rattle.law_sound.proofs.Branches.{targets-are}
-use Rattle.law_homes.specs.Edges.{CellsAreFew, CellsRun, CopiesAreFew, EdgesRun, HoldsAfter, IsBeside, KeptStacksStay, LeadersLoad, OperandsLoad, StacksSpill, UnderHold, UnderLoads, insns, top_at}
+use Rattle.law_homes.specs.Edges.{CellsAreFew, CellsRun, CopiesAreFew, EdgesRun, HoldsAfter, IsBeside, KeptStacksStay, LeadersLoad, OperandsLoad, StacksSpill}
+use Rattle.law_homes.specs.Edges.{UnderHold, UnderLoads, insns, top_at}
 use Rattle.law_homes.specs.Held.{HoldsFrame, HoldsValue, HoldsLocals, slots}
 use Rattle.law_homes.specs.Laws.{KeptRunAlike, LocalsStay, NamesNoneWritesNone, StepsExecute}
 use Rattle.law_homes.proofs.Beside.{among-each, each-among, held-as}

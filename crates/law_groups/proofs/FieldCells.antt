@@ -1,5 +1,6 @@
 -- The cells that a write of a field takes from the stack, and the objects after it.
-use Rattle.std.proofs.Common.{◌≡◌, ℕ, zero, suc, ◌+◌, ◌<◌, ◌≤◌, List, [], ◌∷◌, ◌++◌, length, map, refl, sym, ap, ◌∙◌, subst, arith}
+use Rattle.std.proofs.Common.{◌≡◌, ℕ, zero, suc, ◌+◌, ◌<◌, ◌≤◌, List, [], ◌∷◌, ◌++◌, length, map, refl, sym, ap, ◌∙◌}
+use Rattle.std.proofs.Common.{subst, arith}
 use Rattle.std.specs.Prelude.{Option, Some, None, Ok, IsSomeAnd, drop, slice_get}
 use Rattle.std.proofs.lemmas.Option.{slice_get-map}
 use Rattle.jc_base.specs.Cell.{IsNoHalf, IsOfKind, width}
@@ -52,17 +53,20 @@ module _ (t : ClassTable) (k : Types) where
   abbrev One : Ty → Type 0
   One T = IsSomeAnd (slice_get k.stack 0) (λ u. Below t u T)
 
-  pub one-asked : (T : Ty) (ds : List Demand) → IsNoHalf T → SatisfiesAll t k (value_wanted T ++ ds) → IsSomeAnd (slice_get k.stack 0) (λ u. Below t u T) × SatisfiesAll t k ds
+  pub one-asked : (T : Ty) (ds : List Demand) → IsNoHalf T → SatisfiesAll t k (value_wanted T ++ ds)
+      → IsSomeAnd (slice_get k.stack 0) (λ u. Below t u T) × SatisfiesAll t k ds
   one-asked IntHigh ds n h = absurd n
   one-asked IntLow ds n h = absurd n
   one-asked T ds n h = h
 
-  pub one-gives : (T : Ty) (ds : List Demand) → IsNoHalf T → IsSomeAnd (slice_get k.stack 0) (λ u. Below t u T) → SatisfiesAll t k ds → SatisfiesAll t k (value_wanted T ++ ds)
+  pub one-gives : (T : Ty) (ds : List Demand) → IsNoHalf T → IsSomeAnd (slice_get k.stack 0) (λ u. Below t u T) → SatisfiesAll t k ds
+      → SatisfiesAll t k (value_wanted T ++ ds)
   one-gives IntHigh ds n h g = absurd n
   one-gives IntLow ds n h g = absurd n
   one-gives T ds n h g = (h, g)
 
-  pub last-held : (T : Ty) (c : ℕ) → SatisfiesAll t k (value_wanted T ++ Held 0 (Class c) ∷ []) → IsSomeAnd (slice_get k.regs 0) (λ u. Below t u (Class c))
+  pub last-held : (T : Ty) (c : ℕ) → SatisfiesAll t k (value_wanted T ++ Held 0 (Class c) ∷ [])
+      → IsSomeAnd (slice_get k.regs 0) (λ u. Below t u (Class c))
   last-held IntHigh c h = h.1.1.0
   last-held T c h = h.1.0
 
@@ -97,13 +101,15 @@ drop-shorter (suc k) (c ∷ cs) = omega (arith, drop-shorter k cs)
 -- ---- an object put under a value
 
 -- after a swap the value is on top and the object below it, and the stack below both is that below the value before
-pub record Swaps (t : ClassTable) (ks : List ObjectKind) (k : ℕ) (val : List Cell → List Cell) (ty : Ty) (class : ℕ) (e : ℕ → ℕ) (regs : List Ty) (c : Cell) (stack other : List Cell) : Type 0 where
+pub record Swaps (t : ClassTable) (ks : List ObjectKind) (k : ℕ) (val : List Cell → List Cell) (ty : Ty) (class : ℕ) (e : ℕ → ℕ)
+    (regs : List Ty) (c : Cell) (stack other : List Cell) : Type 0 where
   pub value : val (moved (moves.Exchange 1 k) (c ∷ other)) ≡ val stack
   pub handle : nth tagged (moved (moves.Exchange 1 k) (c ∷ other)) k ≡ c
   pub rest : drop (k + 1) (moved (moves.Exchange 1 k) (c ∷ other)) ≡ map (renamed_cell e) (drop (k + 0) stack)
   pub size : length (moved (moves.Exchange 1 k) (c ∷ other)) ≡ suc (length other)
   pub cut : SatisfiesAll t (record { regs = regs; stack = least_types t Bottom ks (c ∷ other) }) (Depth 1 ∷ Cut 1 ∷ Depth (1 + k) ∷ Cut (1 + k) ∷ [])
-  pub write : SatisfiesAll t (record { regs = regs; stack = least_types t Bottom ks (moved (moves.Exchange 1 k) (c ∷ other)) }) (value_wanted ty ++ CellAt (value_size ty) (Value (Class class)) ∷ [])
+  pub write : SatisfiesAll t (record { regs = regs; stack = least_types t Bottom ks (moved (moves.Exchange 1 k) (c ∷ other)) })
+      (value_wanted ty ++ CellAt (value_size ty) (Value (Class class)) ∷ [])
 
 -- the type of a value in one cell
 record IsOne (ty : Ty) : Type 0 where
@@ -120,7 +126,8 @@ one-of ArrInt r = record { half = tt; fresh = tt; top = tt }
 one-of (ArrRef c) r = record { half = tt; fresh = tt; top = tt }
 one-of _ r = absurd r
 
-module _ (t : ClassTable) (are : AreClasses t) (types : IsOrderOfTypes t) (ks : List ObjectKind) (class : ℕ) (e : ℕ → ℕ) (regs : List Ty) (c : Cell) (object_is : Below t (least_type t Bottom ks c) (Class class)) where
+module _ (t : ClassTable) (are : AreClasses t) (types : IsOrderOfTypes t) (ks : List ObjectKind) (class : ℕ) (e : ℕ → ℕ) (regs : List Ty) (c : Cell)
+    (object_is : Below t (least_type t Bottom ks c) (Class class)) where
   never-low : (ty u : Ty) → IsNoHalf ty → IsNotTop ty → Below t u ty → ◌≡◌ {A = Option Ty} (Some u) (Some IntLow) → ⊥
   never-low ty u half top below is =
       let own : u ≡ IntLow = cc in
@@ -136,7 +143,8 @@ module _ (t : ClassTable) (are : AreClasses t) (types : IsOrderOfTypes t) (ks : 
       → Swaps t ks 1 (λ cs. nth tagged cs 0 ∷ []) ty class e regs c stack (map (renamed_cell e) stack)
   one-swaps ty [] one h = absurd h
   one-swaps ty (a ∷ r) one h =
-      subst (λ (d : Cell). Swaps t ks 1 (λ cs. nth tagged cs 0 ∷ []) ty class e regs c (a ∷ r) (d ∷ map (renamed_cell e) r)) (sym (value-stays e t are ks a ty one.fresh one.top h))
+      subst (λ (d : Cell). Swaps t ks 1 (λ cs. nth tagged cs 0 ∷ []) ty class e regs c (a ∷ r) (d ∷ map (renamed_cell e) r))
+      (sym (value-stays e t are ks a ty one.fresh one.top h))
       (record {
         value = refl;
         handle = refl;
@@ -150,20 +158,25 @@ module _ (t : ClassTable) (are : AreClasses t) (types : IsOrderOfTypes t) (ks : 
           ),
         );
         write =
-            one-gives t (record { regs = regs; stack = least_types t Bottom ks (a ∷ c ∷ map (renamed_cell e) r) }) ty (CellAt (value_size ty) (Value (Class class)) ∷ []) one.half h (
-              subst (λ (n : ℕ). IsSomeAnd (slice_get (least_types t Bottom ks (a ∷ c ∷ map (renamed_cell e) r)) n) (λ u. Below t u (Class class))) (sym (size-one ty one.half)) object_is,
+            one-gives t (record { regs = regs; stack = least_types t Bottom ks (a ∷ c ∷ map (renamed_cell e) r) }) ty
+            (CellAt (value_size ty) (Value (Class class)) ∷ []) one.half h (
+              subst (λ (n : ℕ). IsSomeAnd (slice_get (least_types t Bottom ks (a ∷ c ∷ map (renamed_cell e) r)) n) (λ u. Below t u (Class class)))
+                  (sym (size-one ty one.half)) object_is,
               tt,
             );
       })
 
   two-swaps : (stack : List Cell)
-      → IsSomeAnd (slice_get (least_types t Bottom ks stack) 0) (λ u. Below t u IntLow) → IsSomeAnd (slice_get (least_types t Bottom ks stack) 1) (λ u. Below t u IntHigh)
+      → IsSomeAnd (slice_get (least_types t Bottom ks stack) 0) (λ u. Below t u IntLow) → IsSomeAnd (slice_get (least_types t Bottom ks stack) 1)
+      (λ u. Below t u IntHigh)
       → Swaps t ks 2 (λ cs. nth tagged cs 1 ∷ nth tagged cs 0 ∷ []) IntHigh class e regs c stack (map (renamed_cell e) stack)
   two-swaps [] l h = absurd l
   two-swaps (a ∷ []) l h = absurd h
   two-swaps (a ∷ b ∷ r) l h =
-      subst (λ (d : Cell). Swaps t ks 2 (λ cs. nth tagged cs 1 ∷ nth tagged cs 0 ∷ []) IntHigh class e regs c (a ∷ b ∷ r) (d ∷ renamed_cell e b ∷ map (renamed_cell e) r)) (sym (value-stays e t are ks a IntLow tt tt l))
-      (subst (λ (d : Cell). Swaps t ks 2 (λ cs. nth tagged cs 1 ∷ nth tagged cs 0 ∷ []) IntHigh class e regs c (a ∷ b ∷ r) (a ∷ d ∷ map (renamed_cell e) r)) (sym (value-stays e t are ks b IntHigh tt tt h))
+      subst (λ (d : Cell). Swaps t ks 2 (λ cs. nth tagged cs 1 ∷ nth tagged cs 0 ∷ []) IntHigh class e regs c (a ∷ b ∷ r)
+      (d ∷ renamed_cell e b ∷ map (renamed_cell e) r)) (sym (value-stays e t are ks a IntLow tt tt l))
+      (subst (λ (d : Cell). Swaps t ks 2 (λ cs. nth tagged cs 1 ∷ nth tagged cs 0 ∷ []) IntHigh class e regs c (a ∷ b ∷ r)
+      (a ∷ d ∷ map (renamed_cell e) r)) (sym (value-stays e t are ks b IntHigh tt tt h))
       (record {
         value = refl;
         handle = refl;
@@ -184,7 +197,9 @@ module _ (t : ClassTable) (are : AreClasses t) (types : IsOrderOfTypes t) (ks : 
       → SatisfiesAll t (record { regs = more; stack = least_types t Bottom ks stack }) (value_wanted ty ++ Held 0 (Class class) ∷ [])
       → Swaps t ks 1 (λ cs. nth tagged cs 0 ∷ []) ty class e regs c stack (map (renamed_cell e) stack)
   short ty stack more is h =
-      let g = subst (λ (a : Ty). SatisfiesAll t (record { regs = more; stack = least_types t Bottom ks stack }) (value_wanted a ++ Held 0 (Class class) ∷ [])) is h in
+      let g = subst
+      (λ (a : Ty). SatisfiesAll t (record { regs = more; stack = least_types t Bottom ks stack }) (value_wanted a ++ Held 0 (Class class) ∷ [])) is
+      h in
       subst (λ (a : Ty). Swaps t ks 1 (λ cs. nth tagged cs 0 ∷ []) a class e regs c stack (map (renamed_cell e) stack)) (sym is)
       (one-swaps Short stack (record { half = tt; fresh = tt; top = tt }) g.0)
 
@@ -199,11 +214,15 @@ module _ (t : ClassTable) (are : AreClasses t) (types : IsOrderOfTypes t) (ks : 
   swaps kinds_of.Byte ty stack more is h = short ty stack more is h
   swaps kinds_of.Short ty stack more is h = short ty stack more is h
   swaps kinds_of.Int ty stack more is h =
-      let g = subst (λ (a : Ty). SatisfiesAll t (record { regs = more; stack = least_types t Bottom ks stack }) (value_wanted a ++ Held 0 (Class class) ∷ [])) is h in
-      subst (λ (a : Ty). Swaps t ks 2 (λ cs. nth tagged cs 1 ∷ nth tagged cs 0 ∷ []) a class e regs c stack (map (renamed_cell e) stack)) (sym is) (two-swaps stack g.0 g.1.0)
+      let g = subst
+      (λ (a : Ty). SatisfiesAll t (record { regs = more; stack = least_types t Bottom ks stack }) (value_wanted a ++ Held 0 (Class class) ∷ [])) is
+      h in
+      subst (λ (a : Ty). Swaps t ks 2 (λ cs. nth tagged cs 1 ∷ nth tagged cs 0 ∷ []) a class e regs c stack (map (renamed_cell e) stack)) (sym is)
+      (two-swaps stack g.0 g.1.0)
 
 -- swap_x of one word and those of a value
-pub swap-is : (w : Linked) (r : MethodRec) (n : ℕ) (kind : Kind) → Resolves w r n (with_byte 64 (swap_words kind)) (Ok (ops.Move (moves.Exchange 1 (width kind))))
+pub swap-is : (w : Linked) (r : MethodRec) (n : ℕ) (kind : Kind)
+    → Resolves w r n (with_byte 64 (swap_words kind)) (Ok (ops.Move (moves.Exchange 1 (width kind))))
 swap-is w r n kinds_of.Ref = sym (swap-one-is w r n)
 swap-is w r n kinds_of.Byte = sym (swap-one-is w r n)
 swap-is w r n kinds_of.Short = sym (swap-one-is w r n)

@@ -1,5 +1,6 @@
 -- Where an instruction goes on, a further group follows its own.
-use Rattle.std.proofs.Common.{◌≡◌, ℕ, suc, ◌+◌, ◌-◌, ◌<◌, ◌≤◌, Bool, true, false, if◌then◌else◌, List, [], ◌∷◌, ◌++◌, length, refl, sym, ap, ◌∙◌, subst, arith}
+use Rattle.std.proofs.Common.{◌≡◌, ℕ, suc, ◌+◌, ◌-◌, ◌<◌, ◌≤◌, Bool, true, false, if◌then◌else◌, List, [], ◌∷◌, ◌++◌}
+use Rattle.std.proofs.Common.{length, refl, sym, ap, ◌∙◌, subst, arith}
 use Rattle.std.specs.Prelude.{Option, Some, None, Ok, IsSomeAnd, IsSome, is_some}
 use Rattle.jc_base.specs.World.{Linked}
 use Rattle.jc_base.specs.declared.ty.Kind.{Kind}
@@ -28,7 +29,8 @@ use Rattle.xf_emission.specs.declared.origin.Origin.TheVariants.{After}
 use Rattle.xf_emission.specs.Edge.{copies}
 use Rattle.xf_emission.specs.Move.{load, spill, with_byte}
 use Rattle.xf_emission.specs.Jump.{branch, goto, has_under, jump_to, leads, spill_if}
-use Rattle.xf_emission.specs.Group.{body, branch_by, fallen, field_read, field_written, first_place, gone, group, increased, itself, loaded, stays, store_to_homes, swap_words}
+use Rattle.xf_emission.specs.Group.{body, branch_by, fallen, field_read, field_written, first_place, gone, group, increased, itself, loaded, stays}
+use Rattle.xf_emission.specs.Group.{store_to_homes, swap_words}
 use Rattle.law_homes.proofs.Loading.{step-place}
 use Rattle.law_groups.specs.Laid.{IsLaidIn, body_at, count_of, group_at, steps_of}
 use Rattle.law_groups.specs.Steps.{GroupsFollow, GroupsStandAtSteps}

@@ -1,5 +1,6 @@
 -- A goto to a label leads to the step for which the label stands.
-use Rattle.std.proofs.Common.{◌≡◌, ℕ, ◌+◌, ◌<◌, ◌≤◌, Bool, true, false, if◌then◌else◌, List, [], ◌∷◌, length, map, refl, sym, ap, ◌∙◌, subst, arith}
+use Rattle.std.proofs.Common.{◌≡◌, ℕ, ◌+◌, ◌<◌, ◌≤◌, Bool, true, false, if◌then◌else◌, List, [], ◌∷◌, length, map, refl, sym}
+use Rattle.std.proofs.Common.{ap, ◌∙◌, subst, arith}
 use Rattle.std.specs.Prelude.{ℤ, pos, Option, Some, None, Ok, nat_lt, slice_get}
 use Rattle.std.proofs.lemmas.Bool.{le-ltb}
 use Rattle.jc_base.specs.declared.record.MethodRec.{MethodRec}
@@ -37,7 +38,8 @@ use Rattle.law_homes.proofs.Standing.{steps-stand-at-places}
 
 -- a jump's only target by its operand
 module _ (code : List ℕ) (j : Placed) (to : ℤ) where
-  only-target : (cs : List Case) → target j.place j.insn.x ∷ map (λ (c : Case). target j.place c.offset) cs ≡ to ∷ [] → target j.place j.insn.x ≡ to
+  only-target : (cs : List Case) → target j.place j.insn.x ∷ map (λ (c : Case). target j.place c.offset) cs ≡ to ∷ []
+      → target j.place j.insn.x ≡ to
   only-target cs e = cc
 
   pub target-is : jumps j.insn.op ≡ true → targets code j ≡ to ∷ [] → target j.place j.insn.x ≡ to

@@ -1,5 +1,6 @@
 -- A group: the loads of a leader, the steps for the instruction, and the way into the next place.
-use Rattle.std.proofs.Common.{◌≡◌, ℕ, suc, ◌+◌, ◌<◌, ◌≤◌, Bool, true, false, if◌then◌else◌, List, [], ◌∷◌, length, refl, sym, ap, ◌∙◌, subst, arith}
+use Rattle.std.proofs.Common.{◌≡◌, ℕ, suc, ◌+◌, ◌<◌, ◌≤◌, Bool, true, false, if◌then◌else◌, List, [], ◌∷◌, length, refl, sym}
+use Rattle.std.proofs.Common.{ap, ◌∙◌, subst, arith}
 use Rattle.std.specs.Prelude.{Option, Some, None, Ok, is_some, slice_get}
 use Rattle.jc_base.specs.World.{Linked}
 use Rattle.jc_base.specs.declared.record.MethodRec.{MethodRec}
@@ -30,7 +31,8 @@ use Rattle.law_homes.specs.Held.{HoldsFrame}
 use Rattle.law_rewritten_typing.specs.Edges.{CellsFillStack, NeededHaveHomes}
 use Rattle.law_groups.specs.Laid.{IsLaidIn, body_at, rename}
 use Rattle.law_groups.specs.Beside.{AreEqualBut, IsAtGroup, IsTypedAt, MovesTop, SameUnder, StaysTyped}
-use Rattle.law_groups.specs.Comes.{AreAtGroup, CallAlike, ComesWithin, GroupComes, GroupRuns, IsWithinGroup, group_calls, group_ends, group_gives, group_leaves, group_raises, group_stays, group_throws}
+use Rattle.law_groups.specs.Comes.{AreAtGroup, CallAlike, ComesWithin, GroupComes, GroupRuns, IsWithinGroup, group_calls, group_ends, group_gives, group_leaves}
+use Rattle.law_groups.specs.Comes.{group_raises, group_stays, group_throws}
 use Rattle.law_groups.specs.Body.{AreAfter, AreAtBody, BodyComes, BodyRuns, body_done, body_falls}
 use Rattle.law_groups.specs.Steps.{GroupsFollow, GroupsStandAtSteps}
 use Rattle.law_groups.proofs.Arriving.{Arrives, falls-arrive, runs-then}

@@ -1,5 +1,6 @@
 -- One step of the target for one of the source, where the steps of both are plain instructions that are equal but for registers.
-use Rattle.std.proofs.Common.{◌≡◌, ℕ, zero, suc, ◌+◌, ◌<◌, ◌≤◌, ◌==◌, Bool, true, false, if◌then◌else◌, List, [], ◌∷◌, length, map, drop, refl, sym, ap, ◌∙◌, subst, arith}
+use Rattle.std.proofs.Common.{◌≡◌, ℕ, zero, suc, ◌+◌, ◌<◌, ◌≤◌, ◌==◌, Bool, true, false, if◌then◌else◌, List, [], ◌∷◌}
+use Rattle.std.proofs.Common.{length, map, drop, refl, sym, ap, ◌∙◌, subst, arith}
 use Rattle.std.specs.Prelude.{ℤ, pos, All, Option, Some, None, Ok, is_some, slice_get}
 use Rattle.std.proofs.lemmas.List.{drop-map}
 use Rattle.std.proofs.lemmas.Option.{slice_get_within, same_Some}
@@ -30,7 +31,8 @@ use Rattle.vm_step.specs.Raising.{Outcome, running, ended}
 use Rattle.vm_step.specs.Run.{Runs, stands, stops, steps as after_step}
 use Rattle.vm_step.specs.Step.{Steps}
 use Rattle.law_alike.specs.Alike.{AreAlike, KeepsPlain, StayAlike, renamed_cell, renamed_new}
-use Rattle.law_alike.specs.Running.{ComeAlike, Executes, HaveKeys, call_alike, end_alike, exception_alike, keys_at, next_alike, return_alike, target_alike, throw_alike, top_code}
+use Rattle.law_alike.specs.Running.{ComeAlike, Executes, HaveKeys, call_alike, end_alike, exception_alike, keys_at, next_alike, return_alike, target_alike}
+use Rattle.law_alike.specs.Running.{throw_alike, top_code}
 use Rattle.xf_homes.specs.declared.home.Home.{Home}
 use Rattle.xf_homes.specs.Order.{register_sum}
 use Rattle.xf_homes.specs.Source.{Source}
@@ -235,7 +237,8 @@ module _
             → ComeAlike tagged e v w z t i ex.instruction op own o p
             → BodyComes v w s place i op z t o p
         comes _ _ (next_alike {z = y} {y = u} stay falls here there) =
-            body_falls (after y u stay) (sym same_falls ∙ (sym (falls-renamed (λ q. place n) other) ∙ falls)) here (there ∙ (ex.ends ∙ ap (λ k. place (n + k)) (sym one)))
+            body_falls (after y u stay) (sym same_falls ∙ (sym (falls-renamed (λ q. place n) other) ∙ falls)) here
+            (there ∙ (ex.ends ∙ ap (λ k. place (n + k)) (sym one)))
         comes _ _ (target_alike k stay here there) =
             let none : slice_get [] k ≡ Some _ = ap (λ ts. slice_get ts k) (sym ex.is.leads) ∙ there in
             absurd (let lt = slice_get_within [] k _ none in omega (arith, lt))

@@ -1,6 +1,7 @@
 -- What running code asks of a world that differs from another in the code of its methods alone: classes, declared results, and
 -- operations that speak of what is there.
-use Rattle.std.proofs.Common.{◌≡◌, ℕ, ◌+◌, ◌≤◌, Bool, true, false, if◌then◌else◌, List, [], ◌∷◌, length, map, refl, sym, ap, ◌∙◌, subst}
+use Rattle.std.proofs.Common.{◌≡◌, ℕ, ◌+◌, ◌≤◌, Bool, true, false, if◌then◌else◌, List, [], ◌∷◌, length, map, refl, sym, ap}
+use Rattle.std.proofs.Common.{◌∙◌, subst}
 use Rattle.std.specs.Prelude.{Option, Some, None, Ok, All, IsSomeAnd, IfSome, option_map, slice_get}
 use Rattle.std.specs.List.{filter, range_with_len}
 use Rattle.std.proofs.lemmas.List.{length-map}
@@ -35,9 +36,24 @@ module _ (v w : Linked) (same : IsSameBut v w) (methods_kept : MethodsAreKept) (
 
   -- the record of b, which is that of a with other code
   recoded : (a b : MethodRec) → apart_from_code a ≡ apart_from_code b
-      → record a { nargs = b.nargs; max_locals = b.max_locals; max_stack = b.max_stack; code_at = b.code_at; code_len = b.code_len; handlers = b.handlers } ≡ b
+      → record a {
+        nargs = b.nargs;
+        max_locals = b.max_locals;
+        max_stack = b.max_stack;
+        code_at = b.code_at;
+        code_len = b.code_len;
+        handlers = b.handlers;
+      } ≡ b
   recoded a b e =
-      ap (λ (m : MethodRec). record m { nargs = b.nargs; max_locals = b.max_locals; max_stack = b.max_stack; code_at = b.code_at; code_len = b.code_len; handlers = b.handlers }) e
+      ap
+      (λ (m : MethodRec). record m {
+        nargs = b.nargs;
+        max_locals = b.max_locals;
+        max_stack = b.max_stack;
+        code_at = b.code_at;
+        code_len = b.code_len;
+        handlers = b.handlers;
+      }) e
 
   -- w, but for lists that are those of v
   abbrev other : Linked
@@ -66,10 +82,12 @@ module _ (v w : Linked) (same : IsSameBut v w) (methods_kept : MethodsAreKept) (
         visible = λ home. All-weaker (HasBody v.methods) (HasBody w.methods) body-too _ (h.visible home);
       }
 
-  method-too : (n : ℕ) (a : MethodRec) → slice_get v.methods n ≡ Some a → (b : MethodRec) × (slice_get w.methods n ≡ Some b) × (apart_from_code a ≡ apart_from_code b)
+  method-too : (n : ℕ) (a : MethodRec) → slice_get v.methods n ≡ Some a → (b : MethodRec) × (slice_get w.methods n ≡ Some b)
+      × (apart_from_code a ≡ apart_from_code b)
   method-too n a e = go (slice_get w.methods n) refl (ap (option_map apart_from_code) (sym e) ∙ methods_kept v w n same)
     where
-      go : (o : Option MethodRec) → slice_get w.methods n ≡ o → Alike (Some a) o → (b : MethodRec) × (slice_get w.methods n ≡ Some b) × (apart_from_code a ≡ apart_from_code b)
+      go : (o : Option MethodRec) → slice_get w.methods n ≡ o → Alike (Some a) o → (b : MethodRec) × (slice_get w.methods n ≡ Some b)
+          × (apart_from_code a ≡ apart_from_code b)
       go None is e = absurd (cc)
       go (Some b) is e = (b, is, some-same a b e)
 
@@ -164,7 +182,8 @@ module _ (v w : Linked) (same : IsSameBut v w) (methods_kept : MethodsAreKept) (
   each-declared [] all = all
   each-declared (m ∷ ms) all = (all.0, each-declared ms all.1)
 
-  apart-declared : (ms : List MethodRec) → Each (IsMethod v.infos v.pools v.classes) ms → Each (λ (m : MethodRec). IfSome m.sig.result (IsDeclared v.classes)) (map apart_from_code ms)
+  apart-declared : (ms : List MethodRec) → Each (IsMethod v.infos v.pools v.classes) ms
+      → Each (λ (m : MethodRec). IfSome m.sig.result (IsDeclared v.classes)) (map apart_from_code ms)
   apart-declared [] all = all
   apart-declared (m ∷ ms) all = (all.0.result, apart-declared ms all.1)
 

@@ -1,5 +1,6 @@
 -- A store of a local in laid code: the value goes into all homes that are needed after it.
-use Rattle.std.proofs.Common.{◌≡◌, ◌⊎◌, inl, inr, ℕ, zero, suc, ◌+◌, ◌*◌, ◌<◌, ◌≤◌, ◌==◌, ◌||◌, Bool, true, false, List, [], ◌∷◌, ◌++◌, drop, length, map, set, length-set, refl, sym, ap, ◌∙◌, subst, arith}
+use Rattle.std.proofs.Common.{◌≡◌, ◌⊎◌, inl, inr, ℕ, zero, suc, ◌+◌, ◌*◌, ◌<◌, ◌≤◌, ◌==◌, ◌||◌, Bool, true, false, List}
+use Rattle.std.proofs.Common.{[], ◌∷◌, ◌++◌, drop, length, map, set, length-set, refl, sym, ap, ◌∙◌, subst, arith}
 use Rattle.std.specs.Prelude.{Option, Some, None, Ok, All, IsSomeAnd, option_map, flat_map, is_some, slice_get}
 use Rattle.std.proofs.lemmas.Bool.Decides.{nat_tests}
 use Rattle.std.proofs.lemmas.List.{length-map, map-append}
@@ -110,7 +111,8 @@ module _ (v : Linked) (world : IsWorld v) (decided : OperationsAreDecided v) (i 
       let leads : Outcome Cell = settled tagged v next z (act tagged v i.insn op z) in
       let passed = unless-none z (fault_before tagged v op z) leads (subst IsNoFault o_is fine) in
       let after : State Cell = with_store tagged letter x z in
-      let second = unless-none z (fault_next tagged v after (length (top after).stack) next) (running (with_place after next)) (subst IsNoFault (o_is ∙ passed.1) fine) in
+      let second = unless-none z (fault_next tagged v after (length (top after).stack) next) (running (with_place after next))
+      (subst IsNoFault (o_is ∙ passed.1) fine) in
       record {
         asked = passed-asks v world f below heap statics op passed.0;
         comes = o_is ∙ (passed.1 ∙ second.1);
@@ -196,7 +198,8 @@ module _ (t : ClassTable) (ks : List ObjectKind) (x : ℕ) where
         );
         others = λ n e.
             let both = or_parts (n == x) (n == x + 1) e in
-            slice_get-set_other first (x + 1) n c (λ same. second-number n same both.1) ∙ slice_get-set_other registers x n d (λ same. same-number n same both.0);
+            slice_get-set_other first (x + 1) n c (λ same. second-number n same both.1)
+            ∙ slice_get-set_other registers x n d (λ same. same-number n same both.0);
         count = length-set first (x + 1) c ∙ count;
         low = λ e. subst (λ o. IsSomeAnd o (IsCellOf t ks IntLow)) (sym second) h;
       }
@@ -208,7 +211,8 @@ module _ (t : ClassTable) (ks : List ObjectKind) (x : ℕ) where
   cell-on stack n ty h filled =
       by (slice_get stack n) refl (subst (λ o. IsSomeAnd o (λ u. Below t u ty)) (slice_get-map (least_type t Bottom ks) stack n) h)
     where
-      by : (o : Option Cell) → slice_get stack n ≡ o → IsSomeAnd (option_map (least_type t Bottom ks) o) (λ u. Below t u ty) → IsSomeAnd o (IsCellOf t ks ty)
+      by : (o : Option Cell) → slice_get stack n ≡ o → IsSomeAnd (option_map (least_type t Bottom ks) o) (λ u. Below t u ty)
+          → IsSomeAnd o (IsCellOf t ks ty)
       by None e h = absurd h
       by (Some c) e h = (filled c e, h)
 
@@ -238,7 +242,8 @@ copies-few : (s : Source) (h : Home) (ks : List Home) → length (insns (flat_ma
 copies-few s h [] = omega arith
 copies-few s h (k ∷ ks) = omega (arith, copies-few s h ks)
 
-stored-few : (s : Source) (letter : Sort) (hs : List Home) → length hs ≤ 255 → (1 ≤ length (insns (store_to_homes s letter hs))) × (length (insns (store_to_homes s letter hs)) ≤ 600)
+stored-few : (s : Source) (letter : Sort) (hs : List Home) → length hs ≤ 255 → (1 ≤ length (insns (store_to_homes s letter hs)))
+    × (length (insns (store_to_homes s letter hs)) ≤ 600)
 stored-few s sorts.Reference [] le = (omega arith, omega arith)
 stored-few s sorts.Short [] le = (omega arith, omega arith)
 stored-few s sorts.Int [] le = (omega arith, omega arith)
@@ -261,7 +266,12 @@ module _
   q = i.place + i.insn.len
 
   abbrev y : List Cell → List Cell → State Cell
-  y after rest = record { frames = record { method = f.method; place = i.place + i.insn.len; registers = after; stack = rest } ∷ below; heap = heap; statics = statics }
+  y after rest =
+      record {
+        frames = record { method = f.method; place = i.place + i.insn.len; registers = after; stack = rest } ∷ below;
+        heap = heap;
+        statics = statics;
+      }
 
   module _ (letter : Sort) (b : AreAtBody v w s place i (ops.Store letter x) z t) where
     l : AreLaws v w
@@ -278,8 +288,10 @@ module _
     filled n c e =
         let here : slice_get (least_types w.classes Top (kinds t) f.stack) n ≡ Some (least_type w.classes Top (kinds t) c) =
         slice_get-map (least_type w.classes Top (kinds t)) f.stack n ∙ ap (option_map (least_type w.classes Top (kinds t))) e in
-        let above = over-at w.classes (least_types w.classes Top (kinds t) f.stack) ty_z.frame.stack n (least_type w.classes Top (kinds t) c) ty_z.below.stack here in
-        (cell-of w.classes (types v w l s laid.world laid.planned f.place f t beside_z) (objects v w l s laid.world laid.planned f.place f t beside_z) (kinds t) c above.0 above.2 (All-slice_get IsNotTop ty_z.frame.stack n above.0 no_top above.1)).0
+        let above = over-at w.classes (least_types w.classes Top (kinds t) f.stack) ty_z.frame.stack n (least_type w.classes Top (kinds t) c)
+        ty_z.below.stack here in
+        (cell-of w.classes (types v w l s laid.world laid.planned f.place f t beside_z) (objects v w l s laid.world laid.planned f.place f t beside_z)
+        (kinds t) c above.0 above.2 (All-slice_get IsNotTop ty_z.frame.stack n above.0 no_top above.1)).0
       where
         no_top : All IsNotTop ty_z.frame.stack
         no_top = by (s.frames f.place) ty_z.at (laid.planned.typing.fit f.place b.typed.reached)
@@ -325,7 +337,8 @@ module _
       stack_t =
           b.held.stack ∙ (ap (map (renamed_cell (rename s place))) put.split
           ∙ (map-append (renamed_cell (rename s place)) (value_in_register letter x after) rest
-          ∙ ap (λ (cs : List Cell). cs ++ map (renamed_cell (rename s place)) rest) (same-value w.classes order_w (kinds t) (rename s place) letter after x value_w)))
+          ∙ ap (λ (cs : List Cell). cs ++ map (renamed_cell (rename s place)) rest)
+          (same-value w.classes order_w (kinds t) (rename s place) letter after x value_w)))
 
       items : List Item
       items = store_to_homes s letter (needed s q x)
@@ -354,27 +367,36 @@ module _
           let size = g.size in
           omega (arith, later, inside, size, count)
 
-      stored_there : IsInHomes w s q x (top (y after rest)) t (map (renamed_cell (rename s place)) rest) (length (insns (store_to_homes s letter (needed s q x))))
+      stored_there : IsInHomes w s q x (top (y after rest)) t (map (renamed_cell (rename s place)) rest)
+          (length (insns (store_to_homes s letter (needed s q x))))
           (place (body_at s i.place + length (insns (store_to_homes s letter (needed s q x)))))
       stored_there =
-          stores-run v w l place (steps_of s) t (body_at s i.place) s letter q x (top (y after rest)) (map (renamed_cell (rename s place)) rest) laid.world laid.planned beside_y local_y
-          (at-step v w s place laid t (body_at s i.place) (length (insns (store_to_homes s letter (needed s q x)))) (omega (arith, b.equal.frames)) b.of.target b.at further)
+          stores-run v w l place (steps_of s) t (body_at s i.place) s letter q x (top (y after rest)) (map (renamed_cell (rename s place)) rest) laid.world
+          laid.planned beside_y local_y
+          (at-step v w s place laid t (body_at s i.place) (length (insns (store_to_homes s letter (needed s q x)))) (omega (arith, b.equal.frames))
+          b.of.target b.at further)
           (moves-stand s (body_at s i.place) (store_to_homes s letter (needed s q x)) moves (subst (ItemsStandFrom s (body_at s i.place)) body_is g.body_steps))
           stack_t
-          (let deep = depth-fits v w s place laid z b.typed in let e = ap length b.held.stack in let m = length-map f.stack (renamed_cell (rename s place)) in omega (arith, deep, e, m))
+          (let deep = depth-fits v w s place laid z b.typed in let e = ap length b.held.stack in
+          let m = length-map f.stack (renamed_cell (rename s place)) in omega (arith, deep, e, m))
 
       -- what is held afterwards
       held_after : HoldsAfter s i.place (ops.Store letter x) q (top (y after rest)) (record (top t) { registers = stored_there.registers })
       held_after = record {
         stored = λ k e. by k (stored-is letter x k e);
         others = λ k. each-among
-            (λ h. ((j : ℕ) → j < type_width h.ty → is_stored (ops.Store letter x) (h.slot + j) ≡ false) → HoldsValue s after (record (top t) { registers = stored_there.registers }) h)
+            (λ h. ((j : ℕ) → j < type_width h.ty → is_stored (ops.Store letter x) (h.slot + j) ≡ false)
+            → HoldsValue s after (record (top t) { registers = stored_there.registers }) h)
             (needed s i.place k) (λ h a free. other k h a free);
       }
         where
-          by : (k : ℕ) → (k ≡ x) ⊎ ((letter ≡ sorts.Int) × (k ≡ x + 1)) → Each (HoldsValue s after (record (top t) { registers = stored_there.registers })) (needed s q k)
-          by k (inl e) = subst (λ (j : ℕ). Each (HoldsValue s after (record (top t) { registers = stored_there.registers })) (needed s q j)) (sym e) stored_there.values
-          by k (inr (int, e)) = each-among (HoldsValue s after (record (top t) { registers = stored_there.registers })) (needed s q k) (λ h a. absurd (never h a))
+          by : (k : ℕ) → (k ≡ x) ⊎ ((letter ≡ sorts.Int) × (k ≡ x + 1))
+              → Each (HoldsValue s after (record (top t) { registers = stored_there.registers })) (needed s q k)
+          by k (inl e) =
+              subst (λ (j : ℕ). Each (HoldsValue s after (record (top t) { registers = stored_there.registers })) (needed s q j)) (sym e)
+              stored_there.values
+          by k (inr (int, e)) =
+              each-among (HoldsValue s after (record (top t) { registers = stored_there.registers })) (needed s q k) (λ h a. absurd (never h a))
             where
               low_w : IsSomeAnd (slice_get after (x + 1)) (IsCellOf w.classes (kinds t) IntLow)
               low_w =
@@ -387,11 +409,14 @@ module _
                   none-low w.classes (kinds t) order_w after (x + 1) (letter_of h.ty) low_w
                   (subst (λ (j : ℕ). CellsAt w.classes (kinds t) after j (asked_types w.classes (letter_of h.ty))) (m.0 ∙ e) m.2)
 
-          other : (k : ℕ) (h : Home) → IsAmong h (needed s i.place k) → ((j : ℕ) → j < type_width h.ty → is_stored (ops.Store letter x) (h.slot + j) ≡ false)
+          other : (k : ℕ) (h : Home) → IsAmong h (needed s i.place k)
+              → ((j : ℕ) → j < type_width h.ty → is_stored (ops.Store letter x) (h.slot + j) ≡ false)
               → HoldsValue s after (record (top t) { registers = stored_there.registers }) h
           other k h a free =
               let before : HoldsValue s f.registers (top t) h = among-each (HoldsValue s f.registers (top t)) (needed s i.place k) h (b.held.locals k) a in
-              let has = (needed-valued v w l s laid.world laid.planned f.place f t beside_z k h (subst (λ (p : ℕ). IsAmong h (needed s p k)) (sym b.here) a)).1.has in
+              let has =
+              (needed-valued v w l s laid.world laid.planned f.place f t beside_z k h
+              (subst (λ (p : ℕ). IsAmong h (needed s p k)) (sym b.here) a)).1.has in
               stored_there.others h has
               (record {
                 known = let known = before.known in let c = put.count in omega (arith, known, c);
@@ -400,7 +425,9 @@ module _
               })
 
       u : State Cell
-      u = top_at t (place (body_at s i.place + length (insns (store_to_homes s letter (needed s q x))))) stored_there.registers (map (renamed_cell (rename s place)) rest)
+      u =
+          top_at t (place (body_at s i.place + length (insns (store_to_homes s letter (needed s q x))))) stored_there.registers
+          (map (renamed_cell (rename s place)) rest)
 
       pub finished : (o : Outcome Cell) → o ≡ running (y after rest) → BodyRuns v w s place i (ops.Store letter x) z t o
       unfolding u
@@ -411,7 +438,9 @@ module _
             count = length (insns (store_to_homes s letter (needed s q x)));
             more = few.0;
             fewer = few.1;
-            outcome = running (top_at t (place (body_at s i.place + length (insns (store_to_homes s letter (needed s q x))))) stored_there.registers (map (renamed_cell (rename s place)) rest));
+            outcome =
+                running (top_at t (place (body_at s i.place + length (insns (store_to_homes s letter (needed s q x))))) stored_there.registers
+                (map (renamed_cell (rename s place)) rest));
             runs = stored_there.runs;
             comes =
                 body_falls

@@ -1,5 +1,6 @@
 -- The way over an edge that a conditional or a switch takes: cells, then locals are copied.
-use Rattle.std.proofs.Common.{◌≡◌, ◌≢◌, ℕ, suc, ◌+◌, ◌*◌, ◌<◌, ◌≤◌, Bool, true, false, if◌then◌else◌, List, [], ◌∷◌, ◌++◌, length, map, refl, sym, ap, ◌∙◌, subst, arith}
+use Rattle.std.proofs.Common.{◌≡◌, ◌≢◌, ℕ, suc, ◌+◌, ◌*◌, ◌<◌, ◌≤◌, Bool, true, false, if◌then◌else◌, List, [], ◌∷◌}
+use Rattle.std.proofs.Common.{◌++◌, length, map, refl, sym, ap, ◌∙◌, subst, arith}
 use Rattle.std.specs.Prelude.{ℤ, pos, Option, Some, Ok, is_some, slice_get}
 use Rattle.jc_base.specs.Each.{Each, IsAmong}
 use Rattle.jc_base.specs.World.{Linked}
@@ -294,7 +295,8 @@ module _
           → ComesWithin w 0 1019 x (ComesToGroup s place y x)
       by [] e there = wider (direct e (there ∙ ap (λ us. place (place_of (label_by q (stub_label p k) us) (items s))) e))
       by (t ∷ ts) e there =
-          let some_taken : branch_copies s i.place op n q ≢ [] = λ none. absurd (let bad = sym none ∙ (ap (λ r. branch_copies s r op n q) here ∙ e) in not-none t ts bad) in
+          let some_taken : branch_copies s i.place op n q ≢ [] = λ none. absurd
+          (let bad = sym none ∙ (ap (λ r. branch_copies s r op n q) here ∙ e) in not-none t ts bad) in
           let reached : is_some (s.frames i.place) ≡ true = reached-some v w s place laid i.place (subst (IsReached s.method) (sym here) from_p) in
           let st = stubs s i op n k (pos q) laid.planned.code stands reached does some target some_taken in
           let own : ItemsStandFrom s (place_of (stub_label p k) (items s)) (stub_of (stub_label p k) q (branch_copies s p op n q)) =

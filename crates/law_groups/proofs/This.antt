@@ -1,5 +1,6 @@
 -- Fields of `this`: the home of local 0, and instructions that stay where its register is 0.
-use Rattle.std.proofs.Common.{◌≡◌, ℕ, suc, ◌+◌, ◌<◌, ◌≤◌, true, false, List, [], ◌∷◌, length, map, refl, sym, ap, ◌∙◌, subst, arith}
+use Rattle.std.proofs.Common.{◌≡◌, ℕ, suc, ◌+◌, ◌<◌, ◌≤◌, true, false, List, [], ◌∷◌, length, map, refl, sym, ap, ◌∙◌, subst}
+use Rattle.std.proofs.Common.{arith}
 use Rattle.std.specs.Prelude.{Option, Some, None, Ok, IfSome, IsSomeAnd, is_some, slice_get}
 use Rattle.jc_base.specs.declared.ty.Ty.{Ty}
 use Rattle.jc_base.specs.declared.ty.Ty.TheVariants.{IntHigh, Class, Top}
@@ -66,7 +67,8 @@ AsksThis v op c = (f : Types) → SatisfiesAll v.classes f (demands v op) → Is
 
 pub this-home :
     (v w : Linked) (s : Source) (place : ℕ → ℕ) → IsLaidIn v w s place → IsOrderOfTypes v.classes → DerivedAreWhole v → NeededAreKept
-    → (i : Placed) (op : Operation) (c : ℕ) → AsksThis v op c → HasInstruction s.method.code i → is_some (s.frames i.place) ≡ true → operation s i ≡ Ok op
+    → (i : Placed) (op : Operation) (c : ℕ) → AsksThis v op c → HasInstruction s.method.code i → is_some (s.frames i.place) ≡ true
+    → operation s i ≡ Ok op
     → IsHomeOf s i.place 0 sorts.Reference
 unfolding needed
 this-home v w s place laid types whole kept i op c held stands reached does =

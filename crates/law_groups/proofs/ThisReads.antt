@@ -1,5 +1,6 @@
 -- Reads of fields of `this`: where register 0 is no longer the home of local 0, the object is loaded first.
-use Rattle.std.proofs.Common.{◌≡◌, ℕ, zero, suc, ◌+◌, ◌-◌, ◌<◌, ◌≤◌, ◌==◌, Bool, true, false, if◌then◌else◌, List, [], ◌∷◌, ◌++◌, length, map, refl, sym, ap, ◌∙◌, subst, arith}
+use Rattle.std.proofs.Common.{◌≡◌, ℕ, zero, suc, ◌+◌, ◌-◌, ◌<◌, ◌≤◌, ◌==◌, Bool, true, false, if◌then◌else◌, List, []}
+use Rattle.std.proofs.Common.{◌∷◌, ◌++◌, length, map, refl, sym, ap, ◌∙◌, subst, arith}
 use Rattle.std.specs.Prelude.{Option, Some, None, Ok, IsSomeAnd, is_some, slice_get, drop}
 use Rattle.std.proofs.lemmas.List.{length-map}
 use Rattle.jc_base.specs.Class.{ClassTable}
@@ -91,7 +92,8 @@ use Rattle.law_groups.proofs.Standing.{GroupSteps, stand-as}
 -- ---- a step that meets no fault
 
 -- it asked what is there, and came to what its operation settles
-pub record HasSettled (v : Linked) (i : Placed) (op : Operation) (f : Frame Cell) (below : List (Frame Cell)) (heap : List (Object Cell)) (statics : List Cell) (o : Outcome Cell) : Type 0 where
+pub record HasSettled (v : Linked) (i : Placed) (op : Operation) (f : Frame Cell) (below : List (Frame Cell)) (heap : List (Object Cell))
+    (statics : List Cell) (o : Outcome Cell) : Type 0 where
   pub asked : SatisfiesAll v.classes (types_of_frame v.classes Bottom (map (λ (q : Object Cell). q.kind) heap) f) (demands v op)
   pub comes :
       o
@@ -113,7 +115,8 @@ has-settled v world decided i op f below heap statics o ex step fine =
     record { asked = passed-asks v world f below heap statics op passed.0; comes = o_is ∙ passed.1 }
 
 -- the cells of an object have no uninitialised object
-pub cells-stay : (e : ℕ → ℕ) (z : State Cell) (h : ℕ) → map (map_object (renamed_cell e)) z.heap ≡ z.heap → map (renamed_cell e) (object_cells z h) ≡ object_cells z h
+pub cells-stay : (e : ℕ → ℕ) (z : State Cell) (h : ℕ) → map (map_object (renamed_cell e)) z.heap ≡ z.heap
+    → map (renamed_cell e) (object_cells z h) ≡ object_cells z h
 cells-stay e z zero stays_there = refl
 cells-stay e z (suc h) stays_there = object-stays e z.heap h stays_there
 
@@ -157,7 +160,8 @@ module _
   abbrev t1 : State Cell
   t1 = top_at t (place (body_at s i.place + 1)) (top t).registers (nth tagged f.registers 0 ∷ (top t).stack)
 
-  module _ (o : Outcome Cell) (b : AreAtBody v w s place i (ops.FieldRead fd holders.This) z t) (home : IsHomeOf s i.place 0 sorts.Reference) (moves : stays s (record { slot = 0; ty = home.ty }) ≡ false)
+  module _ (o : Outcome Cell) (b : AreAtBody v w s place i (ops.FieldRead fd holders.This) z t) (home : IsHomeOf s i.place 0 sorts.Reference)
+      (moves : stays s (record { slot = 0; ty = home.ty }) ≡ false)
       (step : Steps tagged v z o) (fine : IsNoFault o) (typed_after : StaysTyped v s o) where
     abbrev h : Home
     h = record { slot = 0; ty = home.ty }
@@ -169,7 +173,8 @@ module _
     unfolding body
     body_is =
         ap (field_read s i) home.at
-        ∙ ap (λ (d : Bool). if d then itself i else load s (record { slot = 0; ty = home.ty }) ∷ Plain (record i.insn { op = i.insn.op - 42 }) ∷ []) moves
+        ∙ ap (λ (d : Bool). if d then itself i else load s (record { slot = 0; ty = home.ty }) ∷ Plain (record i.insn { op = i.insn.op - 42 }) ∷ [])
+        moves
 
     g : GroupSteps s i (ops.FieldRead fd holders.This)
     g = steps-here v w s place laid stand follow i (ops.FieldRead fd holders.This) b.stands b.reached b.does
@@ -180,7 +185,8 @@ module _
     there : StandAmong (steps_of s) (body_at s i.place) (load_of s (record { slot = 0; ty = home.ty }) ∷ record i.insn { op = i.insn.op - 42 } ∷ [])
     there =
         moves-stand s (body_at s i.place) (load s (record { slot = 0; ty = home.ty }) ∷ Plain (record i.insn { op = i.insn.op - 42 }) ∷ []) tt
-        (stand-as s (body_at s i.place) (body s i (ops.FieldRead fd holders.This)) (load s (record { slot = 0; ty = home.ty }) ∷ Plain (record i.insn { op = i.insn.op - 42 }) ∷ []) body_is g.body_steps)
+        (stand-as s (body_at s i.place) (body s i (ops.FieldRead fd holders.This))
+        (load s (record { slot = 0; ty = home.ty }) ∷ Plain (record i.insn { op = i.insn.op - 42 }) ∷ []) body_is g.body_steps)
 
     further : body_at s i.place + 2 < length (steps_of s)
     further =
@@ -210,24 +216,31 @@ module _
     cell_is : nth tagged (top t).registers (register s (record { slot = 0; ty = home.ty })) ≡ nth tagged f.registers 0
     cell_is =
         let here : register s (record { slot = 0; ty = home.ty }) ≡ register s (record { slot = 0; ty = home.ty }) + 0 = omega arith in
-        ap (nth tagged (top t).registers) here ∙ register-same f.registers (top t).registers 0 (register s (record { slot = 0; ty = home.ty }) + 0) (held.equal 0 some)
+        ap (nth tagged (top t).registers) here ∙ register-same f.registers (top t).registers 0 (register s (record { slot = 0; ty = home.ty }) + 0)
+        (held.equal 0 some)
 
     loaded : Runs tagged w 1 t (running t1)
     loaded =
         let valued = needed-valued v w l s laid.world laid.planned f.place f t beside_z 0 (record { slot = 0; ty = home.ty })
         (subst (λ (p : ℕ). IsAmong (record { slot = 0; ty = home.ty }) (needed s p 0)) (sym b.here) home.among) in
-        let stack_is : value_in_register (letter_of home.ty) (register s (record { slot = 0; ty = home.ty })) (top t).registers ++ (top t).stack ≡ nth tagged f.registers 0 ∷ (top t).stack =
-        ap (λ (a : Sort). value_in_register a (register s (record { slot = 0; ty = home.ty })) (top t).registers ++ (top t).stack) home.letter_is ∙ ap (λ (d : Cell). d ∷ (top t).stack) cell_is in
+        let stack_is : value_in_register (letter_of home.ty) (register s (record { slot = 0; ty = home.ty })) (top t).registers ++ (top t).stack
+        ≡ nth tagged f.registers 0 ∷ (top t).stack =
+        ap (λ (a : Sort). value_in_register a (register s (record { slot = 0; ty = home.ty })) (top t).registers ++ (top t).stack) home.letter_is
+        ∙ ap (λ (d : Cell). d ∷ (top t).stack) cell_is in
         let deep = depth-fits v w s place laid z b.typed in
         let e = ap length b.held.stack in
         let m = length-map f.stack (renamed_cell (rename s place)) in
         let own = target-room v w s place laid in
         let method = ap (max_stack_of w) b.of.target in
-        let fits : length (value_in_register (letter_of home.ty) (register s (record { slot = 0; ty = home.ty })) (top t).registers ++ (top t).stack) ≤ max_stack_of w (top t).method =
+        let fits : length (value_in_register (letter_of home.ty) (register s (record { slot = 0; ty = home.ty })) (top t).registers ++ (top t).stack) ≤
+        max_stack_of w (top t).method =
         omega (arith, ap length stack_is, deep, e, m, own, method) in
         let ran = loads-run w l.world place (steps_of s) t (body_at s i.place) s (record { slot = 0; ty = home.ty } ∷ [])
-        (at-step v w s place laid t (body_at s i.place) 1 runs_t b.of.target b.at (omega (arith, further))) (there.0, tt)
-        (held-can-load w s f.registers t (record { slot = 0; ty = home.ty }) (register-small v w l s laid.world laid.planned (record { slot = 0; ty = home.ty }) valued.1.has) held valued.2, tt) fits in
+        (at-step v w s place laid t (body_at s i.place) 1 runs_t b.of.target b.at (omega (arith, further))) (there.0, tt) (
+          held-can-load w s f.registers t (record { slot = 0; ty = home.ty })
+              (register-small v w l s laid.world laid.planned (record { slot = 0; ty = home.ty }) valued.1.has) held valued.2,
+          tt,
+        ) fits in
         subst (λ (cs : List Cell). Runs tagged w 1 t (running (top_at t (place (body_at s i.place + 1)) (top t).registers cs))) stack_is ran
 
     -- ---- the field
@@ -241,9 +254,11 @@ module _
         let small = op-fits s.method.code i.place i.insn laid.planned.code.bytes ((all-are-listed s.method.code).decodes i b.stands) in
         sym (read-on-stack w laid.code.target.rec laid.code.target.rec i.place i.place i.insn fd small refl (sym own))
 
-    ex : ExecutesStep w t1 place (body_at s i.place + 1) (record { insn = record i.insn { op = i.insn.op - 42 }; targets = []; keys = [] }) (ops.FieldRead fd holders.Stack)
+    ex : ExecutesStep w t1 place (body_at s i.place + 1) (record { insn = record i.insn { op = i.insn.op - 42 }; targets = []; keys = [] })
+        (ops.FieldRead fd holders.Stack)
     ex =
-        executed w laid.new t1 laid.code.target.rec place (steps_of s) (body_at s i.place + 1) i.place (record { insn = record i.insn { op = i.insn.op - 42 }; targets = []; keys = [] })
+        executed w laid.new t1 laid.code.target.rec place (steps_of s) (body_at s i.place + 1) i.place
+        (record { insn = record i.insn { op = i.insn.op - 42 }; targets = []; keys = [] })
         (ops.FieldRead fd holders.Stack) (omega arith)
         (ap (slice_get w.methods) b.of.target ∙ target-at v w s place laid)
         (subst (λ m. AreSteps (code_at w m) place 0 (steps_of s) (listing (code_at w m))) (sym b.of.target) (steps-are v w s place laid))
@@ -251,10 +266,13 @@ module _
 
     asked : SatisfiesAll w.classes (types_of_frame w.classes Bottom (kinds t) (top t1)) (demands w (ops.FieldRead fd holders.Stack))
     asked =
-        let at_source = (cell-at v.classes Bottom (map (λ (q : Object Cell). q.kind) heap) f.registers 0 (λ u. Below v.classes u (Class fd.class)) has.asked.1.0).holds in
-        let kinds_are : map (λ (q : Object Cell). q.kind) heap ≡ kinds t = ap (λ (os : List (Object Cell)). map (λ (q : Object Cell). q.kind) os) (sym b.equal.heap) in (
+        let at_source = (cell-at v.classes Bottom (map (λ (q : Object Cell). q.kind) heap) f.registers 0 (λ u. Below v.classes u (Class fd.class))
+        has.asked.1.0).holds in
+        let kinds_are : map (λ (q : Object Cell). q.kind) heap ≡ kinds t = ap (λ (os : List (Object Cell)). map (λ (q : Object Cell). q.kind) os)
+        (sym b.equal.heap) in (
           subst (λ (k : ClassTable). Below k (least_type k Bottom (kinds t) (nth tagged f.registers 0)) (Class fd.class)) laid.code.same.classes
-              (subst (λ (os : List ObjectKind). Below v.classes (least_type v.classes Bottom os (nth tagged f.registers 0)) (Class fd.class)) kinds_are at_source),
+              (subst (λ (os : List ObjectKind). Below v.classes (least_type v.classes Bottom os (nth tagged f.registers 0)) (Class fd.class)) kinds_are
+              at_source),
           tt,
         )
 
@@ -291,14 +309,21 @@ module _
     null e =
         let next : ℕ = i.place + i.insn.len in
         let o_is : o ≡ raised tagged v NullPointer z =
-        has.comes ∙ ap (λ (d : Bool). settled tagged v next z (if d then raises NullPointer else goes (with_field_read tagged fd holders.This (word_of (nth tagged f.registers 0)) z))) e in
+        has.comes
+        ∙ ap
+        (λ (d : Bool). settled tagged v next z
+        (if d then raises NullPointer else goes (with_field_read tagged fd holders.This (word_of (nth tagged f.registers 0)) z))) e in
         let before : fault_before tagged w (ops.FieldRead fd holders.Stack) t1 ≡ None =
         passes-before w laid.new.chains (top t1) (other_frames t.frames) t.heap t.statics (ops.FieldRead fd holders.Stack) asked in
         let leads : Outcome Cell = settled tagged w (place_after ex.instruction) t1 (act tagged w ex.instruction.insn (ops.FieldRead fd holders.Stack) t1) in
         let raises_it : raised tagged w NullPointer t1 ≡ performed tagged w ex.instruction (ops.FieldRead fd holders.Stack) t1 =
-        sym (ap (λ (d : Bool). settled tagged w (place_after ex.instruction) t1 (if d then raises NullPointer else goes (with_field_read tagged fd holders.Stack (word_of (nth tagged f.registers 0)) t1))) e)
+        sym
+        (ap
+        (λ (d : Bool). settled tagged w (place_after ex.instruction) t1
+        (if d then raises NullPointer else goes (with_field_read tagged fd holders.Stack (word_of (nth tagged f.registers 0)) t1))) e)
         ∙ ap (λ p. unless_fault t1 p leads) (sym before) in
-        let second : Steps tagged w t1 (raised tagged w NullPointer t1) = performs ex.executes.fetched (ops.FieldRead fd holders.Stack) ex.executes.resolved raises_it in
+        let second : Steps tagged w t1 (raised tagged w NullPointer t1) = performs ex.executes.fetched (ops.FieldRead fd holders.Stack) ex.executes.resolved
+        raises_it in
         record {
           count = 2;
           more = omega arith;
@@ -314,12 +339,16 @@ module _
         let read : State Cell = pushed z (value_in tagged fd.kind (object_cells z (word_of (nth tagged f.registers 0))) fd.cell) in
         let y : State Cell = with_place read next in
         let goes_on : o ≡ unless_fault z (fault_next tagged v read (length (top read).stack) next) (running y) =
-        has.comes ∙ ap (λ (d : Bool). settled tagged v next z (if d then raises NullPointer else goes (with_field_read tagged fd holders.This (word_of (nth tagged f.registers 0)) z))) e in
+        has.comes
+        ∙ ap
+        (λ (d : Bool). settled tagged v next z
+        (if d then raises NullPointer else goes (with_field_read tagged fd holders.This (word_of (nth tagged f.registers 0)) z))) e in
         let passed = unless-none z (fault_next tagged v read (length (top read).stack) next) (running y) (subst IsNoFault goes_on fine) in
         let o_is : o ≡ running y = goes_on ∙ passed.1 in
         let typed_y : IsTypedAt v s y = subst (StaysTyped v s) o_is typed_after (omega arith) b.of.source in
         let u1 : State Cell = with_field_read tagged fd holders.Stack (word_of (nth tagged f.registers 0)) t1 in
-        let same_value : value_in tagged fd.kind (object_cells t1 (word_of (nth tagged f.registers 0))) fd.cell ≡ value_in tagged fd.kind (object_cells z (word_of (nth tagged f.registers 0))) fd.cell =
+        let same_value : value_in tagged fd.kind (object_cells t1 (word_of (nth tagged f.registers 0))) fd.cell ≡ value_in tagged fd.kind
+        (object_cells z (word_of (nth tagged f.registers 0))) fd.cell =
         ap (λ (cs : List Cell). value_in tagged fd.kind cs fd.cell) (cells-same z t1 (word_of (nth tagged f.registers 0)) b.equal.heap) in
         let renamed_value : map (renamed_cell (rename s place)) (value_in tagged fd.kind (object_cells z (word_of (nth tagged f.registers 0))) fd.cell)
         ≡ value_in tagged fd.kind (object_cells t1 (word_of (nth tagged f.registers 0))) fd.cell =

@@ -1,5 +1,6 @@
 -- Writes of fields of `this`: where register 0 is no longer the home of local 0, the object is loaded and put under the value first.
-use Rattle.std.proofs.Common.{◌≡◌, ℕ, zero, suc, ◌+◌, ◌-◌, ◌<◌, ◌≤◌, ◌==◌, Bool, true, false, if◌then◌else◌, List, [], ◌∷◌, ◌++◌, length, map, refl, sym, ap, ◌∙◌, subst, arith}
+use Rattle.std.proofs.Common.{◌≡◌, ℕ, zero, suc, ◌+◌, ◌-◌, ◌<◌, ◌≤◌, ◌==◌, Bool, true, false, if◌then◌else◌, List, []}
+use Rattle.std.proofs.Common.{◌∷◌, ◌++◌, length, map, refl, sym, ap, ◌∙◌, subst, arith}
 use Rattle.std.specs.Prelude.{Option, Some, None, Ok, IfSome, IsSomeAnd, is_some, slice_get, drop}
 use Rattle.jc_base.specs.Linked.{IsMethod}
 use Rattle.jc_base.proofs.Lists.{All-slice_get}
@@ -105,16 +106,19 @@ module _
   abbrev t1 : State Cell
   t1 = top_at t (place (body_at s i.place + 1)) (top t).registers (nth tagged f.registers 0 ∷ (top t).stack)
 
-  module _ (o : Outcome Cell) (b : AreAtBody v w s place i (ops.FieldWrite fd holders.This) z t) (home : IsHomeOf s i.place 0 sorts.Reference) (moves : stays s (record { slot = 0; ty = home.ty }) ≡ false)
+  module _ (o : Outcome Cell) (b : AreAtBody v w s place i (ops.FieldWrite fd holders.This) z t) (home : IsHomeOf s i.place 0 sorts.Reference)
+      (moves : stays s (record { slot = 0; ty = home.ty }) ≡ false)
       (step : Steps tagged v z o) (fine : IsNoFault o) where
     l : AreLaws v w
     l = laws w laid.new
 
-    body_is : body s i (ops.FieldWrite fd holders.This) ≡ load s (record { slot = 0; ty = home.ty }) ∷ Plain (with_byte 64 (swap_words fd.kind)) ∷ Plain (record i.insn { op = i.insn.op - 46 }) ∷ []
+    body_is : body s i (ops.FieldWrite fd holders.This) ≡ load s (record { slot = 0; ty = home.ty }) ∷ Plain
+        (with_byte 64 (swap_words fd.kind)) ∷ Plain (record i.insn { op = i.insn.op - 46 }) ∷ []
     unfolding body
     body_is =
         ap (field_written s i fd.kind) home.at
-        ∙ ap (λ (d : Bool). if d then itself i else load s (record { slot = 0; ty = home.ty }) ∷ Plain (with_byte 64 (swap_words fd.kind)) ∷ Plain (record i.insn { op = i.insn.op - 46 }) ∷ []) moves
+        ∙ ap (λ (d : Bool). if d then itself i else load s (record { slot = 0; ty = home.ty }) ∷ Plain (with_byte 64 (swap_words fd.kind)) ∷ Plain
+        (record i.insn { op = i.insn.op - 46 }) ∷ []) moves
 
     g : GroupSteps s i (ops.FieldWrite fd holders.This)
     g = steps-here v w s place laid stand follow i (ops.FieldWrite fd holders.This) b.stands b.reached b.does
@@ -122,10 +126,15 @@ module _
     count : count_of (body s i (ops.FieldWrite fd holders.This)) ≡ 3
     count = ap count_of body_is
 
-    there : StandAmong (steps_of s) (body_at s i.place) (load_of s (record { slot = 0; ty = home.ty }) ∷ with_byte 64 (swap_words fd.kind) ∷ record i.insn { op = i.insn.op - 46 } ∷ [])
+    there : StandAmong (steps_of s) (body_at s i.place)
+        (load_of s (record { slot = 0; ty = home.ty }) ∷ with_byte 64 (swap_words fd.kind) ∷ record i.insn { op = i.insn.op - 46 } ∷ [])
     there =
-        moves-stand s (body_at s i.place) (load s (record { slot = 0; ty = home.ty }) ∷ Plain (with_byte 64 (swap_words fd.kind)) ∷ Plain (record i.insn { op = i.insn.op - 46 }) ∷ []) tt
-        (stand-as s (body_at s i.place) (body s i (ops.FieldWrite fd holders.This)) (load s (record { slot = 0; ty = home.ty }) ∷ Plain (with_byte 64 (swap_words fd.kind)) ∷ Plain (record i.insn { op = i.insn.op - 46 }) ∷ []) body_is g.body_steps)
+        moves-stand s (body_at s i.place)
+        (load s (record { slot = 0; ty = home.ty }) ∷ Plain (with_byte 64 (swap_words fd.kind)) ∷ Plain
+        (record i.insn { op = i.insn.op - 46 }) ∷ []) tt
+        (stand-as s (body_at s i.place) (body s i (ops.FieldWrite fd holders.This))
+        (load s (record { slot = 0; ty = home.ty }) ∷ Plain (with_byte 64 (swap_words fd.kind)) ∷ Plain
+        (record i.insn { op = i.insn.op - 46 }) ∷ []) body_is g.body_steps)
 
     further : body_at s i.place + 3 < length (steps_of s)
     further =
@@ -155,24 +164,31 @@ module _
     cell_is : nth tagged (top t).registers (register s (record { slot = 0; ty = home.ty })) ≡ nth tagged f.registers 0
     cell_is =
         let here : register s (record { slot = 0; ty = home.ty }) ≡ register s (record { slot = 0; ty = home.ty }) + 0 = omega arith in
-        ap (nth tagged (top t).registers) here ∙ register-same f.registers (top t).registers 0 (register s (record { slot = 0; ty = home.ty }) + 0) (held.equal 0 some)
+        ap (nth tagged (top t).registers) here ∙ register-same f.registers (top t).registers 0 (register s (record { slot = 0; ty = home.ty }) + 0)
+        (held.equal 0 some)
 
     loaded : Runs tagged w 1 t (running t1)
     loaded =
         let valued = needed-valued v w l s laid.world laid.planned f.place f t beside_z 0 (record { slot = 0; ty = home.ty })
         (subst (λ (p : ℕ). IsAmong (record { slot = 0; ty = home.ty }) (needed s p 0)) (sym b.here) home.among) in
-        let stack_is : value_in_register (letter_of home.ty) (register s (record { slot = 0; ty = home.ty })) (top t).registers ++ (top t).stack ≡ nth tagged f.registers 0 ∷ (top t).stack =
-        ap (λ (a : Sort). value_in_register a (register s (record { slot = 0; ty = home.ty })) (top t).registers ++ (top t).stack) home.letter_is ∙ ap (λ (d : Cell). d ∷ (top t).stack) cell_is in
+        let stack_is : value_in_register (letter_of home.ty) (register s (record { slot = 0; ty = home.ty })) (top t).registers ++ (top t).stack
+        ≡ nth tagged f.registers 0 ∷ (top t).stack =
+        ap (λ (a : Sort). value_in_register a (register s (record { slot = 0; ty = home.ty })) (top t).registers ++ (top t).stack) home.letter_is
+        ∙ ap (λ (d : Cell). d ∷ (top t).stack) cell_is in
         let deep = depth-fits v w s place laid z b.typed in
         let e = ap length b.held.stack in
         let m = length-map f.stack (renamed_cell (rename s place)) in
         let own = target-room v w s place laid in
         let method = ap (max_stack_of w) b.of.target in
-        let fits : length (value_in_register (letter_of home.ty) (register s (record { slot = 0; ty = home.ty })) (top t).registers ++ (top t).stack) ≤ max_stack_of w (top t).method =
+        let fits : length (value_in_register (letter_of home.ty) (register s (record { slot = 0; ty = home.ty })) (top t).registers ++ (top t).stack) ≤
+        max_stack_of w (top t).method =
         omega (arith, ap length stack_is, deep, e, m, own, method) in
         let ran = loads-run w l.world place (steps_of s) t (body_at s i.place) s (record { slot = 0; ty = home.ty } ∷ [])
-        (at-step v w s place laid t (body_at s i.place) 1 runs_t b.of.target b.at (omega (arith, further))) (there.0, tt)
-        (held-can-load w s f.registers t (record { slot = 0; ty = home.ty }) (register-small v w l s laid.world laid.planned (record { slot = 0; ty = home.ty }) valued.1.has) held valued.2, tt) fits in
+        (at-step v w s place laid t (body_at s i.place) 1 runs_t b.of.target b.at (omega (arith, further))) (there.0, tt) (
+          held-can-load w s f.registers t (record { slot = 0; ty = home.ty })
+              (register-small v w l s laid.world laid.planned (record { slot = 0; ty = home.ty }) valued.1.has) held valued.2,
+          tt,
+        ) fits in
         subst (λ (cs : List Cell). Runs tagged w 1 t (running (top_at t (place (body_at s i.place + 1)) (top t).registers cs))) stack_is ran
 
     -- ---- the swap
@@ -198,15 +214,22 @@ module _
     swapped =
         let regs : List Ty = least_types w.classes Bottom (kinds t) (top t).registers in
         let held_there = last-held v.classes (types_of_frame v.classes Bottom (map (λ (q : Object Cell). q.kind) heap) f) fd.ty fd.class has.asked.1 in
-        let at_source = (cell-at v.classes Bottom (map (λ (q : Object Cell). q.kind) heap) f.registers 0 (λ u. Below v.classes u (Class fd.class)) held_there).holds in
-        let there_is = swaps v.classes world.chains types (map (λ (q : Object Cell). q.kind) heap) fd.class (rename s place) regs (nth tagged f.registers 0) at_source
+        let at_source = (cell-at v.classes Bottom (map (λ (q : Object Cell). q.kind) heap) f.registers 0 (λ u. Below v.classes u (Class fd.class))
+        held_there).holds in
+        let there_is = swaps v.classes world.chains types (map (λ (q : Object Cell). q.kind) heap) fd.class (rename s place) regs
+        (nth tagged f.registers 0) at_source
         fd.kind fd.ty f.stack (least_types v.classes Bottom (map (λ (q : Object Cell). q.kind) heap) f.registers) kind_is has.asked.1 in
-        subst (λ (cs : List Cell). Swaps w.classes (kinds t) (cells_of_kind fd.kind) (λ ds. value_on tagged fd.kind ds) fd.ty fd.class (rename s place) regs (nth tagged f.registers 0) f.stack cs) (sym b.held.stack)
-        (subst (λ (k : ClassTable). Swaps k (kinds t) (cells_of_kind fd.kind) (λ ds. value_on tagged fd.kind ds) fd.ty fd.class (rename s place) regs (nth tagged f.registers 0) f.stack (map (renamed_cell (rename s place)) f.stack)) laid.code.same.classes
-        (subst (λ (os : List ObjectKind). Swaps v.classes os (cells_of_kind fd.kind) (λ ds. value_on tagged fd.kind ds) fd.ty fd.class (rename s place) regs (nth tagged f.registers 0) f.stack (map (renamed_cell (rename s place)) f.stack)) kinds_are there_is))
+        subst (λ (cs : List Cell). Swaps w.classes (kinds t) (cells_of_kind fd.kind) (λ ds. value_on tagged fd.kind ds) fd.ty fd.class (rename s place)
+        regs (nth tagged f.registers 0) f.stack cs) (sym b.held.stack)
+        (subst (λ (k : ClassTable). Swaps k (kinds t) (cells_of_kind fd.kind) (λ ds. value_on tagged fd.kind ds) fd.ty fd.class (rename s place) regs
+        (nth tagged f.registers 0) f.stack (map (renamed_cell (rename s place)) f.stack)) laid.code.same.classes
+        (subst (λ (os : List ObjectKind). Swaps v.classes os (cells_of_kind fd.kind) (λ ds. value_on tagged fd.kind ds) fd.ty fd.class (rename s place)
+        regs (nth tagged f.registers 0) f.stack (map (renamed_cell (rename s place)) f.stack)) kinds_are there_is))
 
     abbrev t2 : State Cell
-    t2 = top_at t (place (body_at s i.place + 1 + 1)) (top t).registers (moved (shifts.Exchange 1 (cells_of_kind fd.kind)) (nth tagged f.registers 0 ∷ (top t).stack))
+    t2 =
+        top_at t (place (body_at s i.place + 1 + 1)) (top t).registers
+        (moved (shifts.Exchange 1 (cells_of_kind fd.kind)) (nth tagged f.registers 0 ∷ (top t).stack))
 
     next_at : (k : ℕ) → k < length (steps_of s) → IsPlace (code_at w (top t).method) (place k)
     next_at k lt =
@@ -222,9 +245,11 @@ module _
         let method = ap (max_stack_of w) b.of.target in
         omega (arith, deep, e, m, room, method)
 
-    ex2 : ExecutesStep w t1 place (body_at s i.place + 1) (record { insn = with_byte 64 (swap_words fd.kind); targets = []; keys = [] }) (ops.Move (shifts.Exchange 1 (cells_of_kind fd.kind)))
+    ex2 : ExecutesStep w t1 place (body_at s i.place + 1) (record { insn = with_byte 64 (swap_words fd.kind); targets = []; keys = [] })
+        (ops.Move (shifts.Exchange 1 (cells_of_kind fd.kind)))
     ex2 =
-        executed w laid.new t1 laid.code.target.rec place (steps_of s) (body_at s i.place + 1) i.place (record { insn = with_byte 64 (swap_words fd.kind); targets = []; keys = [] })
+        executed w laid.new t1 laid.code.target.rec place (steps_of s) (body_at s i.place + 1) i.place
+        (record { insn = with_byte 64 (swap_words fd.kind); targets = []; keys = [] })
         (ops.Move (shifts.Exchange 1 (cells_of_kind fd.kind))) (omega arith)
         (ap (slice_get w.methods) b.of.target ∙ target-at v w s place laid)
         (subst (λ m. AreSteps (code_at w m) place 0 (steps_of s) (listing (code_at w m))) (sym b.of.target) (steps-are v w s place laid))
@@ -236,7 +261,8 @@ module _
         let size = swapped.size in
         let fits = deep_t in
         let steps_to : Steps tagged w t1 (running (with_place z2 (place_after ex2.instruction))) =
-        operations-go-on w laid.new.chains t1 z2 ex2.instruction (ops.Move (shifts.Exchange 1 (cells_of_kind fd.kind))) ex2.executes swapped.cut refl (omega (arith, size, fits))
+        operations-go-on w laid.new.chains t1 z2 ex2.instruction (ops.Move (shifts.Exchange 1 (cells_of_kind fd.kind))) ex2.executes swapped.cut refl
+        (omega (arith, size, fits))
         (subst (λ (p : ℕ). IsPlace (code_at w (top t).method) p) (sym ex2.ends) (next_at (body_at s i.place + 1 + 1) (omega (arith, further)))) in
         one-step w t1 (running t2) (subst (λ (p : ℕ). Steps tagged w t1 (running (with_place z2 p))) ex2.ends steps_to)
 
@@ -247,9 +273,11 @@ module _
         let small = op-fits s.method.code i.place i.insn laid.planned.code.bytes ((all-are-listed s.method.code).decodes i b.stands) in
         sym (write-on-stack w laid.code.target.rec laid.code.target.rec i.place i.place i.insn fd small refl (sym own))
 
-    ex : ExecutesStep w t2 place (body_at s i.place + 1 + 1) (record { insn = record i.insn { op = i.insn.op - 46 }; targets = []; keys = [] }) (ops.FieldWrite fd holders.Stack)
+    ex : ExecutesStep w t2 place (body_at s i.place + 1 + 1) (record { insn = record i.insn { op = i.insn.op - 46 }; targets = []; keys = [] })
+        (ops.FieldWrite fd holders.Stack)
     ex =
-        executed w laid.new t2 laid.code.target.rec place (steps_of s) (body_at s i.place + 1 + 1) i.place (record { insn = record i.insn { op = i.insn.op - 46 }; targets = []; keys = [] })
+        executed w laid.new t2 laid.code.target.rec place (steps_of s) (body_at s i.place + 1 + 1) i.place
+        (record { insn = record i.insn { op = i.insn.op - 46 }; targets = []; keys = [] })
         (ops.FieldWrite fd holders.Stack) (omega arith)
         (ap (slice_get w.methods) b.of.target ∙ target-at v w s place laid)
         (subst (λ m. AreSteps (code_at w m) place 0 (steps_of s) (listing (code_at w m))) (sym b.of.target) (steps-are v w s place laid))
@@ -274,36 +302,51 @@ module _
 
     does :
         act tagged w ex.instruction.insn (ops.FieldWrite fd holders.Stack) t2
-        ≡ (if word_of (nth tagged f.registers 0) == 0 then raises NullPointer else goes (with_field_write tagged fd holders.Stack (word_of (nth tagged f.registers 0)) t2))
+        ≡ (if word_of (nth tagged f.registers 0) == 0 then raises NullPointer else goes
+        (with_field_write tagged fd holders.Stack (word_of (nth tagged f.registers 0)) t2))
     does = ap (λ (d : Cell). if word_of d == 0 then raises NullPointer else goes (with_field_write tagged fd holders.Stack (word_of d) t2)) swapped.handle
 
     null : (word_of (nth tagged f.registers 0) == 0) ≡ true → Run o
     null e =
         let next : ℕ = i.place + i.insn.len in
         let o_is : o ≡ raised tagged v NullPointer z =
-        has.comes ∙ ap (λ (d : Bool). settled tagged v next z (if d then raises NullPointer else goes (with_field_write tagged fd holders.This (word_of (nth tagged f.registers 0)) z))) e in
+        has.comes
+        ∙ ap
+        (λ (d : Bool). settled tagged v next z
+        (if d then raises NullPointer else goes (with_field_write tagged fd holders.This (word_of (nth tagged f.registers 0)) z))) e in
         let before : fault_before tagged w (ops.FieldWrite fd holders.Stack) t2 ≡ None =
         passes-before w laid.new.chains (top t2) (other_frames t.frames) t.heap t.statics (ops.FieldWrite fd holders.Stack) swapped.write in
         let leads : Outcome Cell = settled tagged w (place_after ex.instruction) t2 (act tagged w ex.instruction.insn (ops.FieldWrite fd holders.Stack) t2) in
         let acts : act tagged w ex.instruction.insn (ops.FieldWrite fd holders.Stack) t2 ≡ raises NullPointer =
-        does ∙ ap (λ (d : Bool). if d then raises NullPointer else goes (with_field_write tagged fd holders.Stack (word_of (nth tagged f.registers 0)) t2)) e in
+        does
+        ∙ ap
+        (λ (d : Bool). if d then raises NullPointer else goes (with_field_write tagged fd holders.Stack (word_of (nth tagged f.registers 0)) t2)) e in
         let raises_it : raised tagged w NullPointer t2 ≡ performed tagged w ex.instruction (ops.FieldWrite fd holders.Stack) t2 =
         sym (ap (λ (a : Act Cell). settled tagged w (place_after ex.instruction) t2 a) acts)
         ∙ ap (λ p. unless_fault t2 p leads) (sym before) in
-        let third : Steps tagged w t2 (raised tagged w NullPointer t2) = performs ex.executes.fetched (ops.FieldWrite fd holders.Stack) ex.executes.resolved raises_it in
+        let third : Steps tagged w t2 (raised tagged w NullPointer t2) = performs ex.executes.fetched (ops.FieldWrite fd holders.Stack) ex.executes.resolved
+        raises_it in
         record {
           count = 3;
           more = omega arith;
           fewer = omega arith;
           outcome = raised tagged w NullPointer t2;
-          runs = runs-then w 1 2 t t1 (raised tagged w NullPointer t2) loaded (runs-then w 1 1 t1 t2 (raised tagged w NullPointer t2) swapping (one-step w t2 (raised tagged w NullPointer t2) third));
+          runs =
+              runs-then w 1 2 t t1 (raised tagged w NullPointer t2) loaded
+              (runs-then w 1 1 t1 t2 (raised tagged w NullPointer t2) swapping (one-step w t2 (raised tagged w NullPointer t2) third));
           comes = body_done (group_raises NullPointer t2 (record { moves = record { frames = refl; heap = refl; statics = refl }; within = within }) o_is refl);
         }
 
     abbrev source_after : ℕ → State Cell
     source_after k =
         record {
-          frames = record { method = f.method; place = i.place + i.insn.len; registers = f.registers; stack = drop (cells_of_kind fd.kind + 0) f.stack } ∷ below;
+          frames =
+              record {
+                method = f.method;
+                place = i.place + i.insn.len;
+                registers = f.registers;
+                stack = drop (cells_of_kind fd.kind + 0) f.stack;
+              } ∷ below;
           heap = written heap k fd.cell (value_kept tagged fd.kind (value_on tagged fd.kind f.stack));
           statics = statics;
         }
@@ -319,7 +362,10 @@ module _
                 stack = drop (cells_of_kind fd.kind + 1) (moved (shifts.Exchange 1 (cells_of_kind fd.kind)) (nth tagged f.registers 0 ∷ (top t).stack));
               }
               ∷ other_frames t.frames;
-          heap = written t.heap k fd.cell (value_kept tagged fd.kind (value_on tagged fd.kind (moved (shifts.Exchange 1 (cells_of_kind fd.kind)) (nth tagged f.registers 0 ∷ (top t).stack))));
+          heap =
+              written t.heap k fd.cell
+              (value_kept tagged fd.kind
+              (value_on tagged fd.kind (moved (shifts.Exchange 1 (cells_of_kind fd.kind)) (nth tagged f.registers 0 ∷ (top t).stack))));
           statics = t.statics;
         }
 
@@ -332,21 +378,28 @@ module _
         let wrote : State Cell = with_field_write tagged fd holders.This (word_of (nth tagged f.registers 0)) z in
         let y : State Cell = source_after (word_of (nth tagged f.registers 0)) in
         let y_is : with_place wrote next ≡ y =
-        ap (λ (x : State Cell). with_place x next) (object-written (record f { stack = drop (cells_of_kind fd.kind + 0) f.stack } ∷ below) heap statics hd fd.cell value) in
+        ap (λ (x : State Cell). with_place x next)
+        (object-written (record f { stack = drop (cells_of_kind fd.kind + 0) f.stack } ∷ below) heap statics hd fd.cell value) in
         let goes_on : o ≡ unless_fault z (fault_next tagged v wrote (length (top wrote).stack) next) (running (with_place wrote next)) =
-        has.comes ∙ ap (λ (d : Bool). settled tagged v next z (if d then raises NullPointer else goes (with_field_write tagged fd holders.This (word_of (nth tagged f.registers 0)) z))) e in
-        let passed = unless-none z (fault_next tagged v wrote (length (top wrote).stack) next) (running (with_place wrote next)) (subst IsNoFault goes_on fine) in
+        has.comes
+        ∙ ap
+        (λ (d : Bool). settled tagged v next z
+        (if d then raises NullPointer else goes (with_field_write tagged fd holders.This (word_of (nth tagged f.registers 0)) z))) e in
+        let passed = unless-none z (fault_next tagged v wrote (length (top wrote).stack) next) (running (with_place wrote next))
+        (subst IsNoFault goes_on fine) in
         let o_is : o ≡ running y = goes_on ∙ (passed.1 ∙ ap (λ (x : State Cell). running x) y_is) in
         let u1 : State Cell = target_after (word_of (nth tagged f.registers 0)) (place (body_at s i.place + 1 + 1)) in
         let u_is : with_field_write tagged fd holders.Stack (word_of (nth tagged f.registers 0)) t2 ≡ u1 =
-        object-written (record (top t2) { stack = drop (cells_of_kind fd.kind + 1) (top t2).stack } ∷ other_frames t.frames) t.heap t.statics hd fd.cell other_value in
+        object-written (record (top t2) { stack = drop (cells_of_kind fd.kind + 1) (top t2).stack } ∷ other_frames t.frames) t.heap t.statics hd fd.cell
+        other_value in
         let acts : act tagged w ex.instruction.insn (ops.FieldWrite fd holders.Stack) t2 ≡ goes u1 =
         does
         ∙ (ap (λ (d : Bool). if d then raises NullPointer else goes (with_field_write tagged fd holders.Stack (word_of (nth tagged f.registers 0)) t2)) e
         ∙ ap (λ (x : State Cell). goes x) u_is) in
         let stack_is : (top u1).stack ≡ map (renamed_cell (rename s place)) (drop (cells_of_kind fd.kind + 0) f.stack) = swapped.rest in
         let heap_is : u1.heap ≡ y.heap =
-        ap (λ (os : List (Object Cell)). written os hd fd.cell other_value) b.equal.heap ∙ ap (λ (cs : List Cell). written heap hd fd.cell (value_kept tagged fd.kind cs)) swapped.value in
+        ap (λ (os : List (Object Cell)). written os hd fd.cell other_value) b.equal.heap
+        ∙ ap (λ (cs : List Cell). written heap hd fd.cell (value_kept tagged fd.kind cs)) swapped.value in
         let room : length (top u1).stack ≤ max_stack_of w (top t).method =
         let k = ap length stack_is in
         let m = length-map (drop (cells_of_kind fd.kind + 0) f.stack) (renamed_cell (rename s place)) in

@@ -1,5 +1,6 @@
 -- Writes of fields of `this`, wherever the home of local 0 is.
-use Rattle.std.proofs.Common.{◌≡◌, ℕ, ◌-◌, ◌<◌, ◌==◌, Bool, true, false, if◌then◌else◌, List, [], ◌∷◌, refl, sym, ap, ◌∙◌, subst, arith}
+use Rattle.std.proofs.Common.{◌≡◌, ℕ, ◌-◌, ◌<◌, ◌==◌, Bool, true, false, if◌then◌else◌, List, [], ◌∷◌, refl, sym, ap, ◌∙◌}
+use Rattle.std.proofs.Common.{subst, arith}
 use Rattle.std.proofs.lemmas.Bool.Decides.{nat_tests}
 use Rattle.std.specs.Prelude.{Some}
 use Rattle.jc_base.specs.Laws.{IsOrderOfTypes}
@@ -57,7 +58,9 @@ kept-body :
 unfolding body
 kept-body s i f h at e =
     ap (field_written s i f.kind) at
-    ∙ ap (λ (d : Bool). if d then itself i else load s h ∷ Plain (with_byte 64 (swap_words f.kind)) ∷ Plain (record i.insn { op = i.insn.op - 46 }) ∷ []) e
+    ∙ ap
+    (λ (d : Bool). if d then itself i else load s h ∷ Plain (with_byte 64 (swap_words f.kind)) ∷ Plain
+    (record i.insn { op = i.insn.op - 46 }) ∷ []) e
 
 module _
     (v : Linked) (world : IsWorld v) (decided : OperationsAreDecided v) (alike_steps : StepsAreAlike v) (operations : OperationsAreKept)
@@ -69,7 +72,9 @@ module _
       by-frames z.frames z.heap z.statics b step
     where
       home : IsHomeOf s i.place 0 sorts.Reference
-      home = this-home v w s place laid types whole needs i (ops.FieldWrite f holders.This) f.class (λ k asked. last-held v.classes k f.ty f.class asked.1) b.stands b.reached b.does
+      home =
+          this-home v w s place laid types whole needs i (ops.FieldWrite f holders.This) f.class (λ k asked. last-held v.classes k f.ty f.class asked.1)
+          b.stands b.reached b.does
 
       is-zero : (n : ℕ) → (n == 0) ≡ true → n ≡ 0
       is-zero n e = grind (arith, nat_tests, e)
@@ -90,4 +95,5 @@ module _
               (record { frames = g ∷ below; heap = heap; statics = statics }) t o home.ty laid b (writes-this v f) home.among
               (is-zero (register s (record { slot = 0; ty = home.ty })) e) (kept-body s i f (record { slot = 0; ty = home.ty }) home.at e) step fine
           by false e =
-              write-moved v world decided operations stand follow laws executed types source_sound w s place laid i f g below heap statics t o b home e step fine
+              write-moved v world decided operations stand follow laws executed types source_sound w s place laid i f g below heap statics t o b home e step
+              fine

@@ -17,7 +17,8 @@ use Rattle.law_groups.specs.Body.{AreAtBody, BodyRuns}
 -- the steps for it come to what it does
 abbrev pub IncrementBodiesRun : Linked → Type 0
 IncrementBodiesRun v =
-    (w : Linked) (s : Source) (place : ℕ → ℕ) (i : Placed) (width : Width) (x : ℕ) (amount : ℤ) (z t : State Cell) (o : Outcome Cell)
+    (w : Linked) (s : Source) (place : ℕ → ℕ) (i : Placed) (width : Width) (x : ℕ) (amount : ℤ) (z t : State Cell)
+    (o : Outcome Cell)
     → IsLaidIn v w s place
     → AreAtBody v w s place i (Increment width x amount) z t
     → Steps tagged v z o

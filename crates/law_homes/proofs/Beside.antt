@@ -1,5 +1,6 @@
 -- What is known of a state beside a frame of the source: its homes, and the types of the cells that stand in them.
-use Rattle.std.proofs.Common.{◌≡◌, ◌⊎◌, inl, inr, ℕ, zero, suc, ◌+◌, ◌<◌, ◌≤◌, List, [], ◌∷◌, ◌++◌, length, map, reverse, refl, sym, ap, ◌∙◌, subst, arith, length-append}
+use Rattle.std.proofs.Common.{◌≡◌, ◌⊎◌, inl, inr, ℕ, zero, suc, ◌+◌, ◌<◌, ◌≤◌, List, [], ◌∷◌, ◌++◌, length, map, reverse}
+use Rattle.std.proofs.Common.{refl, sym, ap, ◌∙◌, subst, arith, length-append}
 use Rattle.std.specs.Prelude.{Option, Some, None, IsSomeAnd, IfSome, is_some, slice_get}
 use Rattle.std.proofs.lemmas.List.{length-map, map-append}
 use Rattle.jc_base.specs.declared.ty.Ty.{Ty}
@@ -63,7 +64,8 @@ among-each P (k ∷ ks) h all (inr a) = among-each P ks h all.1 a
 
 -- ---- held values, whatever else the frame has
 
-pub held-as : (s : Source) (values : List Cell) (g k : Frame Cell) (h : Home) → k.registers ≡ g.registers → HoldsValue s values g h → HoldsValue s values k h
+pub held-as : (s : Source) (values : List Cell) (g k : Frame Cell) (h : Home) → k.registers ≡ g.registers → HoldsValue s values g h
+    → HoldsValue s values k h
 held-as s values g k h e held = record {
   known = held.known;
   there = subst (λ (rs : List Cell). register s h + type_width h.ty ≤ length rs) (sym e) held.there;
@@ -83,7 +85,8 @@ held-in-slots s f g h held = record {
   equal = λ n lt. held.equal n lt ∙ sym (get-left f.registers (reverse f.stack) (h.slot + n) (let le = held.known in omega (arith, le, lt)));
 }
 
-pub held-in-registers : (s : Source) (f g : Frame Cell) (h : Home) → h.slot + type_width h.ty ≤ length f.registers → HoldsValue s (slots f) g h → HoldsValue s f.registers g h
+pub held-in-registers : (s : Source) (f g : Frame Cell) (h : Home) → h.slot + type_width h.ty ≤ length f.registers → HoldsValue s (slots f) g h
+    → HoldsValue s f.registers g h
 held-in-registers s f g h inside held = record {
   known = inside;
   there = held.there;
@@ -186,7 +189,8 @@ module _ (v w : Linked) (l : AreLaws v w) (s : Source) (is : s.world ≡ v) (pla
         → (h.slot ≡ x) × KeepsValues s h × CellsAt w.classes (kinds t) f.registers h.slot (asked_types w.classes (letter_of h.ty))
     needed-valued x h a =
         let n = (subst NeededHaveHomes (sym is) l.needed) s refl plan q x typed.frame h typed.at a in
-        let above : CellsBelow w.classes typed.frame.regs n.types = subst (λ (c : ClassTable). CellsBelow c typed.frame.regs n.types) (sym beside.classes) n.above in (
+        let above : CellsBelow w.classes typed.frame.regs n.types = subst (λ (c : ClassTable). CellsBelow c typed.frame.regs n.types) (sym beside.classes)
+        n.above in (
           n.slot,
           n.keeps,
           value-cells w.classes types objects (kinds t) f.registers n.types (order.through typed.below.regs above) h.slot h.ty n.value n.keeps.kept

@@ -1,5 +1,6 @@
 -- Lists of copies, one after the other: those of an edge, and those of cells.
-use Rattle.std.proofs.Common.{◌≡◌, ◌⊎◌, inl, inr, ℕ, zero, suc, ◌+◌, ◌*◌, ◌<◌, ◌≤◌, ◌==◌, Bool, true, false, if◌then◌else◌, List, [], ◌∷◌, ◌++◌, length, map, refl, sym, ap, ◌∙◌, subst, arith, length-append}
+use Rattle.std.proofs.Common.{◌≡◌, ◌⊎◌, inl, inr, ℕ, zero, suc, ◌+◌, ◌*◌, ◌<◌, ◌≤◌, ◌==◌, Bool, true, false}
+use Rattle.std.proofs.Common.{if◌then◌else◌, List, [], ◌∷◌, ◌++◌, length, map, refl, sym, ap, ◌∙◌, subst, arith, length-append}
 use Rattle.std.specs.Prelude.{Option, Some, None, IfSome, flat_map, slice_get}
 use Rattle.std.proofs.lemmas.Bool.{cases_lt}
 use Rattle.std.proofs.lemmas.List.Concat.{flat_map-cons}
@@ -84,7 +85,8 @@ insns-append (Switch i at ls ∷ xs) ys = insns-append xs ys
 insns-append (Label n ∷ xs) ys = insns-append xs ys
 
 pub stand-append :
-    (steps : List Step) (n : ℕ) (xs ys : List Insn) → InstructionsStandFrom steps n (xs ++ ys) → InstructionsStandFrom steps n xs × InstructionsStandFrom steps (n + length xs) ys
+    (steps : List Step) (n : ℕ) (xs ys : List Insn) → InstructionsStandFrom steps n (xs ++ ys) → InstructionsStandFrom steps n xs
+    × InstructionsStandFrom steps (n + length xs) ys
 stand-append steps n [] ys stand = let e : n ≡ n + 0 = omega arith in (tt, subst (λ (k : ℕ). InstructionsStandFrom steps k ys) e stand)
 stand-append steps n (x ∷ xs) ys stand =
     let rest = stand-append steps (n + 1) xs ys stand.1 in
@@ -96,7 +98,8 @@ abbrev pub missing : List Home → List Home → List Home
 missing there [] = []
 missing there (k ∷ ks) = if has there k then missing there ks else k ∷ missing there ks
 
-pub new-copies : (s : Source) (from : Home) (there ks : List Home) → insns (flat_map (copy_new s from there) ks) ≡ flat_map (copy_of s from) (missing there ks)
+pub new-copies : (s : Source) (from : Home) (there ks : List Home) → insns (flat_map (copy_new s from there) ks) ≡ flat_map (copy_of s from)
+    (missing there ks)
 new-copies s from there [] = refl
 new-copies s from there (k ∷ ks) =
     ap insns (flat_map-cons (copy_new s from there) k ks)
@@ -115,7 +118,8 @@ copies-count s from [] = refl
 copies-count s from (k ∷ ks) = ap length (flat_map-cons (copy_of s from) k ks) ∙ omega (arith, copies-count s from ks)
 
 -- what is said of all is said of those that are missing
-missing-each : (P Q : Home → Type 0) (there ks : List Home) → ((k : Home) → P k → has there k ≡ false → Q k) → Each P ks → Each Q (missing there ks)
+missing-each : (P Q : Home → Type 0) (there ks : List Home) → ((k : Home) → P k → has there k ≡ false → Q k) → Each P ks
+    → Each Q (missing there ks)
 missing-each P Q there [] h all = tt
 missing-each P Q there (k ∷ ks) h all = by (has there k) refl (missing-each P Q there ks h all.1)
   where
@@ -135,7 +139,8 @@ none-missing P there (k ∷ ks) all = by (has there k) refl (none-missing P ther
     by false e rest = inr (k, all.0, e)
 
 -- those that were there and those that were missing are all
-missing-all : (P Q : Home → Type 0) (there ks : List Home) → ((k : Home) → P k → has there k ≡ true → Q k) → Each P ks → Each Q (missing there ks) → Each Q ks
+missing-all : (P Q : Home → Type 0) (there ks : List Home) → ((k : Home) → P k → has there k ≡ true → Q k) → Each P ks
+    → Each Q (missing there ks) → Each Q ks
 missing-all P Q there [] h all some = tt
 missing-all P Q there (k ∷ ks) h all some = by (has there k) refl some (missing-all P Q there ks h all.1)
   where
@@ -186,7 +191,8 @@ module _
       }
 
   pub went-then :
-      (n : ℕ) (registers : List Cell) (a b : ℕ) (hs ks : List Home) → Each (HasRegister s.homes) hs → (first : Went n registers a hs) → Went (n + a) first.after b ks
+      (n : ℕ) (registers : List Cell) (a b : ℕ) (hs ks : List Home) → Each (HasRegister s.homes) hs → (first : Went n registers a hs)
+      → Went (n + a) first.after b ks
       → Went n registers (a + b) (hs ++ ks)
   went-then n registers a b hs ks own first second =
       let e : n + a + b ≡ n + (a + b) = omega arith in
@@ -221,7 +227,8 @@ module _
       → Went n registers (2 * length ks) ks
   copy-fits n registers from ks stand further stood fits copies =
       let t : State Cell = at (place n) registers in
-      let held : HoldsValue s values (frame (place n) registers) from = held-as s values (frame 0 registers) (frame (place n) registers) from refl stood.holds in
+      let held : HoldsValue s values (frame (place n) registers) from = held-as s values (frame 0 registers) (frame (place n) registers) from refl
+      stood.holds in
       let can : CanLoad w s t from = held-can-load w s values t from stood.small held stood.value in
       let ran = homes-are-copied w world place steps t n s values from ks owns
       (record { runs = omega arith; method = m; is_method = is_method; are = are; at = refl; further = further })
@@ -266,7 +273,8 @@ module _
     pub many : length others ≡ length registers
     pub keeps : (a : Home) → HasRegister s.homes a → Has registers a → Has others a
 
-  from-later : (registers others : List Cell) (there : List Home) (from k : Home) → Keep registers others → HasRegister s.homes k → IsFrom registers there from k → IsFrom others there from k
+  from-later : (registers others : List Cell) (there : List Home) (from k : Home) → Keep registers others → HasRegister s.homes k
+      → IsFrom registers there from k → IsFrom others there from k
   from-later registers others there from k keep own is = record {
     stood = record { own = is.stood.own; small = is.stood.small; holds = keep.keeps from is.stood.own is.stood.holds; value = is.stood.value };
     copies = subst (λ (c : ℕ). IsCopy s c from k) (sym keep.many) is.copies;
@@ -274,12 +282,14 @@ module _
     single = is.single;
   }
 
-  later-each : (registers others : List Cell) (there : List Home) (from : Home) (ks : List Home) → Keep registers others → Each (HasRegister s.homes) ks → Each (IsFrom registers there from) ks → Each (IsFrom others there from) ks
+  later-each : (registers others : List Cell) (there : List Home) (from : Home) (ks : List Home) → Keep registers others → Each (HasRegister s.homes) ks
+      → Each (IsFrom registers there from) ks → Each (IsFrom others there from) ks
   later-each registers others there from [] keep own all = tt
   later-each registers others there from (k ∷ ks) keep own all =
       (from-later registers others there from k keep own.0 all.0, later-each registers others there from ks keep own.1 all.1)
 
-  holds-later : (registers others : List Cell) (ks : List Home) → Keep registers others → Each (HasRegister s.homes) ks → Each (Has registers) ks → Each (Has others) ks
+  holds-later : (registers others : List Cell) (ks : List Home) → Keep registers others → Each (HasRegister s.homes) ks → Each (Has registers) ks
+      → Each (Has others) ks
   holds-later registers others [] keep own all = tt
   holds-later registers others (k ∷ ks) keep own all = (keep.keeps k own.0 all.0, holds-later registers others ks keep own.1 all.1)
 
@@ -304,11 +314,14 @@ module _
       count : length (insns (flat_map (copy_new s from there) ks)) ≡ 2 * length (missing there ks)
       count = ap length are_copies ∙ copies-count s from (missing there ks)
 
-      all-hold : (after : List Cell) → ((a : Home) → HasRegister s.homes a → Has registers a → Has after a) → Each (Has after) (missing there ks) → Each (Has after) ks
+      all-hold : (after : List Cell) → ((a : Home) → HasRegister s.homes a → Has registers a → Has after a) → Each (Has after) (missing there ks)
+          → Each (Has after) ks
       all-hold after keeps some =
-          missing-all (λ k. HasRegister s.homes k × IsFrom registers there from k) (Has after) there ks (λ k p e. keeps k p.0 (p.1.already e)) (pairs ks own all) some
+          missing-all (λ k. HasRegister s.homes k × IsFrom registers there from k) (Has after) there ks (λ k p e. keeps k p.0 (p.1.already e))
+          (pairs ks own all) some
         where
-          pairs : (js : List Home) → Each (HasRegister s.homes) js → Each (IsFrom registers there from) js → Each (λ k. HasRegister s.homes k × IsFrom registers there from k) js
+          pairs : (js : List Home) → Each (HasRegister s.homes) js → Each (IsFrom registers there from) js
+              → Each (λ k. HasRegister s.homes k × IsFrom registers there from k) js
           pairs [] a b = tt
           pairs (j ∷ js) a b = ((a.0, b.0), pairs js a.1 b.1)
 
@@ -320,7 +333,8 @@ module _
           subst (λ (c : ℕ). Went n registers c ks) (sym zero_is)
           (went-nowhere n registers ks (all-hold registers (λ a has held. held) (subst (Each (Has registers)) (sym none) tt)))
       by (inr (k, is, e)) =
-          let ran = copy-all n registers from (missing there ks) (subst (InstructionsStandFrom steps n) are_copies stand) (omega (arith, further, count)) is.stood (is.single e)
+          let ran = copy-all n registers from (missing there ks) (subst (InstructionsStandFrom steps n) are_copies stand) (omega (arith, further, count))
+          is.stood (is.single e)
           (missing-each (IsFrom registers there from) (IsCopy s (length registers) from) there ks (λ j p f. p.copies) all) in
           subst (λ (c : ℕ). Went n registers c ks) (sym count)
           (record { after = ran.after; runs = ran.runs; many = ran.many; keeps = ran.keeps; holds = all-hold ran.after ran.keeps ran.holds })
@@ -423,12 +437,14 @@ module _
 
   one-cell :
       (same_is : SameTypeDecides) (n : ℕ) (registers : List Cell) (h k : Home) → IsPair registers h k
-      → InstructionsStandFrom steps n (insns (if same_home h k then [] else copy s h k)) → n + length (insns (if same_home h k then [] else copy s h k)) < length steps
+      → InstructionsStandFrom steps n (insns (if same_home h k then [] else copy s h k)) → n + length (insns (if same_home h k then [] else copy s h k))
+      < length steps
       → Went n registers (length (insns (if same_home h k then [] else copy s h k))) (k ∷ [])
   one-cell same_is n registers h k is stand further = by (same_home h k) refl stand further
     where
       by :
-          (b : Bool) → same_home h k ≡ b → InstructionsStandFrom steps n (insns (if b then [] else copy s h k)) → n + length (insns (if b then [] else copy s h k)) < length steps
+          (b : Bool) → same_home h k ≡ b → InstructionsStandFrom steps n (insns (if b then [] else copy s h k))
+          → n + length (insns (if b then [] else copy s h k)) < length steps
           → Went n registers (length (insns (if b then [] else copy s h k))) (k ∷ [])
       by true e stand further = went-nowhere n registers (k ∷ []) (subst (Has registers) (homes-equal same_is h k e) is.stood.holds, tt)
       by false e stand further = copy-all n registers h (k ∷ []) stand further is.stood (letter is.single) (is.copies, tt)

@@ -1,5 +1,6 @@
 -- Cells of a stack that are copied from homes to others, and the arguments at a method's start.
-use Rattle.std.proofs.Common.{◌≡◌, ◌⊎◌, inl, inr, ℕ, ◌+◌, ◌<◌, ◌≤◌, List, [], ◌∷◌, length, map, replicate, refl, sym, ap, ◌∙◌, subst, arith, length-append}
+use Rattle.std.proofs.Common.{◌≡◌, ◌⊎◌, inl, inr, ℕ, ◌+◌, ◌<◌, ◌≤◌, List, [], ◌∷◌, length, map, replicate, refl, sym, ap}
+use Rattle.std.proofs.Common.{◌∙◌, subst, arith, length-append}
 use Rattle.std.specs.Prelude.{Option, Some, None, IfSome, slice_get}
 use Rattle.jc_base.specs.declared.ty.Ty.{Ty}
 use Rattle.jc_base.specs.declared.ty.Ty.TheVariants.{IntHigh}
@@ -36,7 +37,8 @@ use Rattle.law_homes.proofs.Beside.{AreLaws, each-among, among-each, own, regist
 use Rattle.law_homes.proofs.Carrying.{same-letter, same-or-reference, ArePairs, no_pairs, more_pairs, cells-run}
 use Rattle.law_homes.proofs.Edging.{home-same}
 
-module _ (v w : Linked) (l : AreLaws v w) (place : ℕ → ℕ) (steps : List Step) (s : Source) (is : s.world ≡ v) (plan : IsPlanned s) (q : ℕ) (f : Frame Cell) (keeps : KeepsStack s.world s.method s.frames q) where
+module _ (v w : Linked) (l : AreLaws v w) (place : ℕ → ℕ) (steps : List Step) (s : Source) (is : s.world ≡ v) (plan : IsPlanned s) (q : ℕ)
+    (f : Frame Cell) (keeps : KeepsStack s.world s.method s.frames q) where
   module _
       (g : Frame Cell) (below : List (Frame Cell)) (heap : List (Object Cell)) (statics : List Cell) (n count : ℕ)
       (beside : IsBeside w s q f (record { frames = g ∷ below; heap = heap; statics = statics }))
@@ -50,7 +52,8 @@ module _ (v w : Linked) (l : AreLaws v w) (place : ℕ → ℕ) (steps : List St
 
     pairs-of :
         {hs ks : List Home} → AreMatched s hs ks → Each (HoldsValue s (slots f) g) hs → ((k : Home) → IsAmong k ks → IsAmong k (stack_homes s q))
-        → ArePairs w l.world place steps s (own v w l s is plan) (slots f) g.method g.stack below heap statics at.method at.is_method at.are room g.registers hs ks
+        → ArePairs w l.world place steps s (own v w l s is plan) (slots f) g.method g.stack below heap statics at.method at.is_method at.are room
+        g.registers hs ks
     pairs-of none_matched held inside = no_pairs
     pairs-of (more_matched {h = h} {k = k} slot of_h of_k loads more) held inside =
         let letter : letter_of h.ty ≡ letter_of k.ty = same-letter h.ty k.ty loads in
@@ -75,7 +78,8 @@ module _ (v w : Linked) (l : AreLaws v w) (place : ℕ → ℕ) (steps : List St
           single = by slot (same-or-reference h.ty k.ty loads);
         }) (pairs-of more held.1 (λ j a. inside j (inr a)))
       where
-        by : {h k : Home} → h.slot ≡ k.slot → (k.ty ≡ h.ty) ⊎ (letter_of h.ty ≡ sorts.Reference) → (k ≡ h) ⊎ (letter_of h.ty ≡ sorts.Reference)
+        by : {h k : Home} → h.slot ≡ k.slot → (k.ty ≡ h.ty) ⊎ (letter_of h.ty ≡ sorts.Reference) → (k ≡ h)
+            ⊎ (letter_of h.ty ≡ sorts.Reference)
         by {h = h} {k = k} slot (inl same) = inl (home-same k h (sym slot) same)
         by slot (inr reference) = inr reference
 
@@ -85,9 +89,19 @@ module _ (v w : Linked) (l : AreLaws v w) (place : ℕ → ℕ) (steps : List St
         → AreMoved w s f t ks (length (insns (cell_copies s hs ks))) (place (n + length (insns (cell_copies s hs ks))))
     run-cells hs ks matched held inside is_count stand =
         let ran = cells-run w l.world place steps s (own v w l s is plan) (slots f) g.method g.stack below heap statics at.method at.is_method at.are room
-        l.same_is g.registers g.registers (pairs-of matched held inside) n (record { many = refl; keeps = λ a has held. held }) stand (omega (arith, at.further, is_count)) in
-        let begins : record { frames = record { method = g.method; place = place n; registers = g.registers; stack = g.stack } ∷ below; heap = heap; statics = statics } ≡ t =
-        ap (λ (p : ℕ). record { frames = record { method = g.method; place = p; registers = g.registers; stack = g.stack } ∷ below; heap = heap; statics = statics }) (sym at.at) in
+        l.same_is g.registers g.registers (pairs-of matched held inside) n (record { many = refl; keeps = λ a has held. held }) stand
+        (omega (arith, at.further, is_count)) in
+        let begins : record {
+          frames = record { method = g.method; place = place n; registers = g.registers; stack = g.stack } ∷ below;
+          heap = heap;
+          statics = statics;
+        } ≡ t =
+        ap
+        (λ (p : ℕ). record {
+          frames = record { method = g.method; place = p; registers = g.registers; stack = g.stack } ∷ below;
+          heap = heap;
+          statics = statics;
+        }) (sym at.at) in
         record {
           registers = ran.after;
           runs =
@@ -97,7 +111,8 @@ module _ (v w : Linked) (l : AreLaws v w) (place : ℕ → ℕ) (steps : List St
               begins ran.runs;
           count = ran.many;
           cells = each-among (HoldsValue s (slots f) (record g { registers = ran.after })) ks
-              (λ k a. held-as s (slots f) (record { method = g.method; place = 0; registers = ran.after; stack = g.stack }) (record g { registers = ran.after }) k refl
+              (λ k a. held-as s (slots f) (record { method = g.method; place = 0; registers = ran.after; stack = g.stack })
+              (record g { registers = ran.after }) k refl
               (among-each (HoldsValue s (slots f) (record { method = g.method; place = 0; registers = ran.after; stack = g.stack })) ks k ran.holds a));
           others = λ h has held.
               held-as s (slots f) (record { method = g.method; place = 0; registers = ran.after; stack = g.stack }) (record g { registers = ran.after }) h refl

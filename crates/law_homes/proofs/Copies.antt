@@ -1,5 +1,6 @@
 -- Copies of a value from a home to others, one after the other.
-use Rattle.std.proofs.Common.{◌≡◌, ℕ, suc, ◌+◌, ◌*◌, ◌<◌, ◌≤◌, ◌⊎◌, inl, inr, List, [], ◌∷◌, length, map, refl, sym, ap, ◌∙◌, subst, arith}
+use Rattle.std.proofs.Common.{◌≡◌, ℕ, suc, ◌+◌, ◌*◌, ◌<◌, ◌≤◌, ◌⊎◌, inl, inr, List, [], ◌∷◌, length, map, refl, sym, ap}
+use Rattle.std.proofs.Common.{◌∙◌, subst, arith}
 use Rattle.std.specs.Prelude.{Option, Some, option_map, IsSomeAnd, flat_map, slice_get}
 use Rattle.std.proofs.lemmas.List.{length-map}
 use Rattle.std.proofs.lemmas.List.Concat.{flat_map-cons}
@@ -41,7 +42,8 @@ use Rattle.xf_homes.specs.Plan.{or_first, register}
 use Rattle.xf_emission.specs.Move.{with_byte, store_op}
 use Rattle.law_homes.specs.Held.{HoldsValue}
 use Rattle.law_homes.specs.Laws.{AreApart}
-use Rattle.law_homes.specs.Moves.{IsExecutable, size, copied, AreFilled, letter_of, InstructionsStandFrom, load_of, copy_of, IsAtStep, CanLoad, OwnRegisters, HomesOwnRegisters, IsCopy, AreCopied, HomesAreCopied}
+use Rattle.law_homes.specs.Moves.{IsExecutable, size, copied, AreFilled, letter_of, InstructionsStandFrom, load_of, copy_of, IsAtStep, CanLoad, OwnRegisters}
+use Rattle.law_homes.specs.Moves.{HomesOwnRegisters, IsCopy, AreCopied, HomesAreCopied}
 use Rattle.jc_decode.specs.Places.{place_after}
 use Rattle.law_homes.proofs.CopiedHomes.{copied-count, copies-keep-homes}
 use Rattle.law_homes.proofs.Going.{copies-run}

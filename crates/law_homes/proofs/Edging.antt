@@ -1,5 +1,6 @@
 -- The copies of an edge: from where it begins to the homes that are needed where it leads.
-use Rattle.std.proofs.Common.{◌≡◌, ◌⊎◌, inl, inr, ℕ, zero, suc, ◌+◌, ◌*◌, ◌<◌, ◌≤◌, Bool, true, false, if◌then◌else◌, List, [], ◌∷◌, ◌++◌, length, map, replicate, refl, sym, ap, ◌∙◌, subst, arith, length-append}
+use Rattle.std.proofs.Common.{◌≡◌, ◌⊎◌, inl, inr, ℕ, zero, suc, ◌+◌, ◌*◌, ◌<◌, ◌≤◌, Bool, true, false, if◌then◌else◌}
+use Rattle.std.proofs.Common.{List, [], ◌∷◌, ◌++◌, length, map, replicate, refl, sym, ap, ◌∙◌, subst, arith, length-append}
 use Rattle.std.specs.Prelude.{Option, Some, None, IfSome, slice_get}
 use Rattle.std.proofs.lemmas.Bool.{cases_lt, both_ways}
 use Rattle.jc_base.specs.declared.ty.Ty.{Ty}
@@ -37,7 +38,8 @@ use Rattle.law_homes.specs.Held.{HoldsValue, HoldsLocals, slots}
 use Rattle.law_homes.specs.Moves.{size, letter_of, InstructionsStandFrom, IsAtStep, IsCopy}
 use Rattle.law_homes.proofs.Copies.{wide}
 use Rattle.law_homes.proofs.Valued.{asked_types, CellsAt, cells-left, value-inside}
-use Rattle.law_homes.proofs.Beside.{AreLaws, each-among, among-each, own, register-inside, register-small, needed-valued, count-registers, held-as, held-in-slots, held-in-registers}
+use Rattle.law_homes.proofs.Beside.{AreLaws, each-among, among-each, own, register-inside, register-small, needed-valued, count-registers, held-as}
+use Rattle.law_homes.proofs.Beside.{held-in-slots, held-in-registers}
 use Rattle.law_homes.proofs.Carrying.{same-letter, same-or-reference, Stands, IsFrom, LocalIs, WentAll, locals-run}
 
 some-same : (a b : Home) → ◌≡◌ {A = Option Home} (Some a) (Some b) → a ≡ b
@@ -71,20 +73,24 @@ module _ (s : Source) (q : ℕ) (f g : Frame Cell) where
       (same_is : SameTypeDecides) (o : Origin) (x : ℕ) (from k : Home) → HoldsBefore s o q f g → home_before s o x ≡ Some from → k.slot ≡ x
       → ((n : ℕ) → n < type_width k.ty → stored_at o (k.slot + n) ≡ false) → has (homes_held s o x from) k ≡ true → HoldsValue s f.registers g k
   held-stands same_is (After p op) x from k holds before slot apart there =
-      among-each (λ h. ((n : ℕ) → n < type_width h.ty → is_stored op (h.slot + n) ≡ false) → HoldsValue s f.registers g h) (needed s p x) k (holds.others x)
+      among-each (λ h. ((n : ℕ) → n < type_width h.ty → is_stored op (h.slot + n) ≡ false) → HoldsValue s f.registers g h) (needed s p x) k
+      (holds.others x)
       (has-among same_is (needed s p x) k there) apart
-  held-stands same_is Start x from k holds before slot apart there = if-some (home_before s Start x) k (before ∙ ap Some (only (has-among same_is (from ∷ []) k there))) (holds x)
+  held-stands same_is Start x from k holds before slot apart there =
+      if-some (home_before s Start x) k (before ∙ ap Some (only (has-among same_is (from ∷ []) k there))) (holds x)
     where
       only : IsAmong k (from ∷ []) → from ≡ k
       only (inl e) = e
       only (inr a) = absurd a
-  held-stands same_is (Entry p) x from k holds before slot apart there = if-some (home_before s (Entry p) x) k (before ∙ ap Some (only (has-among same_is (from ∷ []) k there))) (holds x)
+  held-stands same_is (Entry p) x from k holds before slot apart there =
+      if-some (home_before s (Entry p) x) k (before ∙ ap Some (only (has-among same_is (from ∷ []) k there))) (holds x)
     where
       only : IsAmong k (from ∷ []) → from ≡ k
       only (inl e) = e
       only (inr a) = absurd a
 
-module _ (v w : Linked) (l : AreLaws v w) (place : ℕ → ℕ) (steps : List Step) (s : Source) (is : s.world ≡ v) (plan : IsPlanned s) (o : Origin) (q : ℕ) (f : Frame Cell) (leads : LeadsTo s o q) where
+module _ (v w : Linked) (l : AreLaws v w) (place : ℕ → ℕ) (steps : List Step) (s : Source) (is : s.world ≡ v) (plan : IsPlanned s) (o : Origin)
+    (q : ℕ) (f : Frame Cell) (leads : LeadsTo s o q) where
   module _
       (g : Frame Cell) (below : List (Frame Cell)) (heap : List (Object Cell)) (statics : List Cell) (n : ℕ)
       (beside : IsBeside w s q f (record { frames = g ∷ below; heap = heap; statics = statics }))
@@ -99,10 +105,13 @@ module _ (v w : Linked) (l : AreLaws v w) (place : ℕ → ℕ) (steps : List St
 
     abbrev FromHere : List Home → Home → Home → Type 0
     FromHere there from k =
-        IsFrom w l.world place steps s (own v w l s is plan) (slots f) g.method g.stack below heap statics at.method at.is_method at.are room g.registers there from k
+        IsFrom w l.world place steps s (own v w l s is plan) (slots f) g.method g.stack below heap statics at.method at.is_method at.are room g.registers
+        there from k
 
-    here-as : (k : Home) → HoldsValue s f.registers g k → HoldsValue s (slots f) (record { method = g.method; place = 0; registers = g.registers; stack = g.stack }) k
-    here-as k held = held-as s (slots f) g (record { method = g.method; place = 0; registers = g.registers; stack = g.stack }) k refl (held-in-slots s f g k held)
+    here-as : (k : Home) → HoldsValue s f.registers g k
+        → HoldsValue s (slots f) (record { method = g.method; place = 0; registers = g.registers; stack = g.stack }) k
+    here-as k held =
+        held-as s (slots f) g (record { method = g.method; place = 0; registers = g.registers; stack = g.stack }) k refl (held-in-slots s f g k held)
 
     needed-own : (x : ℕ) → Each (HasRegister s.homes) (needed s q x)
     needed-own x = each-among (HasRegister s.homes) (needed s q x) (λ k a. (needed-valued v w l s is plan q f t beside x k a).1.has)
@@ -144,8 +153,10 @@ module _ (v w : Linked) (l : AreLaws v w) (place : ℕ → ℕ) (steps : List St
               single = λ e. single (same-or-reference from.ty k.ty c.loads) there e;
             }
           where
-            single : (k.ty ≡ from.ty) ⊎ (letter_of from.ty ≡ sorts.Reference) → has (homes_held s o x from) from ≡ true → has (homes_held s o x from) k ≡ false → letter_of from.ty ≡ sorts.Reference
-            single (inl same) there e = absurd (both_ways (has (homes_held s o x from) from) (ap (has (homes_held s o x from)) (home-same from k c.slot (sym same)) ∙ e) there)
+            single : (k.ty ≡ from.ty) ⊎ (letter_of from.ty ≡ sorts.Reference) → has (homes_held s o x from) from ≡ true
+                → has (homes_held s o x from) k ≡ false → letter_of from.ty ≡ sorts.Reference
+            single (inl same) there e =
+                absurd (both_ways (has (homes_held s o x from) from) (ap (has (homes_held s o x from)) (home-same from k c.slot (sym same)) ∙ e) there)
             single (inr reference) there e = reference
 
         by : (stored_at o k.slot ≡ true) ⊎ ((other : Home) × IsCarried s o k other) → FromHere (homes_held s o x from) from k
@@ -166,29 +177,46 @@ module _ (v w : Linked) (l : AreLaws v w) (place : ℕ → ℕ) (steps : List St
 
     local-here :
         (x : ℕ)
-        → LocalIs w l.world place steps s (own v w l s is plan) (slots f) g.method g.stack below heap statics at.method at.is_method at.are room g.registers o q x (home_before s o x)
+        → LocalIs w l.world place steps s (own v w l s is plan) (slots f) g.method g.stack below heap statics at.method at.is_method at.are room
+        g.registers o q x (home_before s o x)
     local-here x = by (home_before s o x) refl
       where
         by :
             (h : Option Home) → home_before s o x ≡ h
-            → LocalIs w l.world place steps s (own v w l s is plan) (slots f) g.method g.stack below heap statics at.method at.is_method at.are room g.registers o q x h
+            → LocalIs w l.world place steps s (own v w l s is plan) (slots f) g.method g.stack below heap statics at.method at.is_method at.are room
+            g.registers o q x h
         by None e = each-among _ (needed s q x) (λ k a. here-as k (none-here x k e a))
         by (Some from) e = each-among _ (needed s q x) (λ k a. from-here x from k e a)
 
-    run-edge : InstructionsStandFrom steps n (insns (copies s o q)) → AreCarried w s q f t (length (insns (copies s o q))) (place (n + length (insns (copies s o q))))
+    run-edge : InstructionsStandFrom steps n (insns (copies s o q)) → AreCarried w s q f t (length (insns (copies s o q)))
+        (place (n + length (insns (copies s o q))))
     unfolding copies
     run-edge stand =
         let ran = locals-run w l.world place steps s (own v w l s is plan) (slots f) g.method g.stack below heap statics at.method at.is_method at.are room
-        g.registers g.registers o q needed-own local-here n 0 (register_count s.method.rec) (record { many = refl; keeps = λ a has held. held }) stand at.further in
-        let begins : record { frames = record { method = g.method; place = place n; registers = g.registers; stack = g.stack } ∷ below; heap = heap; statics = statics } ≡ t =
-        ap (λ (p : ℕ). record { frames = record { method = g.method; place = p; registers = g.registers; stack = g.stack } ∷ below; heap = heap; statics = statics }) (sym at.at) in
+        g.registers g.registers o q needed-own local-here n 0 (register_count s.method.rec) (record { many = refl; keeps = λ a has held. held }) stand
+        at.further in
+        let begins : record {
+          frames = record { method = g.method; place = place n; registers = g.registers; stack = g.stack } ∷ below;
+          heap = heap;
+          statics = statics;
+        } ≡ t =
+        ap
+        (λ (p : ℕ). record {
+          frames = record { method = g.method; place = p; registers = g.registers; stack = g.stack } ∷ below;
+          heap = heap;
+          statics = statics;
+        }) (sym at.at) in
         record {
           registers = ran.after;
           runs =
-              subst (λ (x : State Cell). Runs tagged w (length (insns (copies s o q))) x (running (top_at t (place (n + length (insns (copies s o q)))) ran.after g.stack))) begins
+              subst
+              (λ (x : State Cell). Runs tagged w (length (insns (copies s o q))) x
+              (running (top_at t (place (n + length (insns (copies s o q)))) ran.after g.stack))) begins
               ran.runs;
           count = ran.many;
-          locals = λ x. each-among (HoldsValue s f.registers (record g { registers = ran.after })) (needed s q x) (λ k a. local-after ran.after ran.locals x k a);
+          locals =
+              λ x. each-among (HoldsValue s f.registers (record g { registers = ran.after })) (needed s q x)
+              (λ k a. local-after ran.after ran.locals x k a);
           others = λ h has held.
               held-as s (slots f) (record { method = g.method; place = 0; registers = ran.after; stack = g.stack }) (record g { registers = ran.after }) h refl
               (ran.keeps h has (held-as s (slots f) g (record { method = g.method; place = 0; registers = g.registers; stack = g.stack }) h refl held));
@@ -196,11 +224,13 @@ module _ (v w : Linked) (l : AreLaws v w) (place : ℕ → ℕ) (steps : List St
       where
         local-after :
             (after : List Cell)
-            → ((y : ℕ) → 0 ≤ y → y < 0 + register_count s.method.rec → Each (HoldsValue s (slots f) (record { method = g.method; place = 0; registers = after; stack = g.stack })) (needed s q y))
+            → ((y : ℕ) → 0 ≤ y → y < 0 + register_count s.method.rec
+            → Each (HoldsValue s (slots f) (record { method = g.method; place = 0; registers = after; stack = g.stack })) (needed s q y))
             → (x : ℕ) (k : Home) → IsAmong k (needed s q x) → HoldsValue s f.registers (record g { registers = after }) k
         local-after after all x k a =
             let valued = needed-valued v w l s is plan q f t beside x k a in
-            let inside : k.slot + size (letter_of k.ty) ≤ length f.registers = value-inside w.classes (kinds t) (letter_of k.ty) f.registers k.slot valued.2 in
+            let inside : k.slot + size (letter_of k.ty) ≤ length f.registers = value-inside w.classes (kinds t) (letter_of k.ty) f.registers k.slot
+            valued.2 in
             let e = wide k.ty in
             let some : 0 < size (letter_of k.ty) = some-size (letter_of k.ty) in
             let count = count-registers v w l s is plan q f t beside in
@@ -221,7 +251,8 @@ module _ (v w : Linked) (l : AreLaws v w) (place : ℕ → ℕ) (steps : List St
       → InstructionsStandFrom steps n (insns (copies s o q))
       → length (first_frame fs).stack ≤ s.method.rec.max_stack
       → HoldsBefore s o q f (first_frame fs)
-      → AreCarried w s q f (record { frames = fs; heap = heap; statics = statics }) (length (insns (copies s o q))) (place (n + length (insns (copies s o q))))
+      → AreCarried w s q f (record { frames = fs; heap = heap; statics = statics }) (length (insns (copies s o q)))
+      (place (n + length (insns (copies s o q))))
   edge-frames [] heap statics n beside at stand low holds = absurd (let lt = at.runs in omega (arith, lt))
   edge-frames (g ∷ below) heap statics n beside at stand low holds = run-edge g below heap statics n beside at low holds stand
 

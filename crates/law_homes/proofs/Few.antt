@@ -1,5 +1,6 @@
 -- How many cells are kept and how many copies an edge has; and stacks that are kept, which have no uninitialised object.
-use Rattle.std.proofs.Common.{◌≡◌, ◌⊎◌, inl, inr, ℕ, zero, suc, ◌+◌, ◌*◌, ◌<◌, ◌≤◌, Bool, true, false, if◌then◌else◌, List, [], ◌∷◌, ◌++◌, length, map, reverse, refl, sym, ap, ◌∙◌, subst, arith, length-append}
+use Rattle.std.proofs.Common.{◌≡◌, ◌⊎◌, inl, inr, ℕ, zero, suc, ◌+◌, ◌*◌, ◌<◌, ◌≤◌, Bool, true, false, if◌then◌else◌}
+use Rattle.std.proofs.Common.{List, [], ◌∷◌, ◌++◌, length, map, reverse, refl, sym, ap, ◌∙◌, subst, arith, length-append}
 use Rattle.std.specs.Prelude.{Option, Some, None, IsSome, IsSomeAnd, flat_map, is_some, slice_get}
 use Rattle.std.proofs.lemmas.List.{length-map, map-append}
 use Rattle.std.proofs.lemmas.List.Concat.{flat_map-cons}
@@ -76,7 +77,8 @@ module _ (t : ClassTable) (order : IsOrderOfTypes t) (ks : List ObjectKind) wher
   same-cell e (cells_of.Fresh h p) ty is ready top = absurd (no-fresh h p ty is.1 ready top)
   same-cell e c ty is ready top = refl
 
-  same-nth : (e : ℕ → ℕ) (values : List Cell) (n : ℕ) (ty : Ty) → CellsAt t ks values n (ty ∷ []) → IsNotFresh ty → IsNotTop ty → renamed_cell e (nth tagged values n) ≡ nth tagged values n
+  same-nth : (e : ℕ → ℕ) (values : List Cell) (n : ℕ) (ty : Ty) → CellsAt t ks values n (ty ∷ []) → IsNotFresh ty → IsNotTop ty
+      → renamed_cell e (nth tagged values n) ≡ nth tagged values n
   same-nth e values n ty is ready top = same-cell e (nth tagged values n) ty (at-nth values n (IsCellOf t ks ty) is.0).1 ready top
 
   pub same-value :
@@ -129,7 +131,8 @@ module _ (v : Linked) (fill : CellsFillStack v) where
           (o : Option Types) → s.frames q ≡ o
           → length (cells_from (register_count s.method.rec) (stack_of (s.frames q)) 0 (length (stack_of (s.frames q)))) ≤ s.method.rec.max_stack
       by None e =
-          subst (λ (o : Option Types). length (cells_from (register_count s.method.rec) (stack_of o) 0 (length (stack_of o))) ≤ s.method.rec.max_stack) (sym e) (omega arith)
+          subst (λ (o : Option Types). length (cells_from (register_count s.method.rec) (stack_of o) 0 (length (stack_of o))) ≤ s.method.rec.max_stack)
+          (sym e) (omega arith)
       by (Some g) e =
           let filled = (subst CellsFillStack (sym is) fill) s refl plan q g e keeps in
           let fits = room-of g e in
@@ -153,7 +156,14 @@ new-few s from there [] = omega arith
 new-few s from there (k ∷ ks) =
     let e = ap (λ (xs : List Item). length (insns xs)) (flat_map-cons (copy_new s from there) k ks) in
     let p = ap length (insns-append (copy_new s from there k) (flat_map (copy_new s from there) ks)) in
-    omega (arith, e, p, length-append (insns (copy_new s from there k)) (insns (flat_map (copy_new s from there) ks)), insns-if s from k (has there k), new-few s from there ks)
+    omega (
+      arith,
+      e,
+      p,
+      length-append (insns (copy_new s from there k)) (insns (flat_map (copy_new s from there) ks)),
+      insns-if s from k (has there k),
+      new-few s from there ks,
+    )
 
 local-few : (s : Source) (o : Origin) (q x : ℕ) → length (insns (local_copies s o q x)) ≤ 2 * length (needed s q x)
 unfolding local_copies
@@ -172,7 +182,14 @@ locals-few : (s : Source) (o : Origin) (q x n : ℕ) → length (insns (locals_c
 locals-few s o q x zero = omega arith
 locals-few s o q x (suc n) =
     let p = ap length (insns-append (local_copies s o q x) (locals_copies s o q (suc x) n)) in
-    omega (arith, p, length-append (insns (local_copies s o q x)) (insns (locals_copies s o q (suc x) n)), local-few s o q x, locals-few s o q (suc x) n, length-append (needed s q x) (all_needed s q (suc x) n))
+    omega (
+      arith,
+      p,
+      length-append (insns (local_copies s o q x)) (insns (locals_copies s o q (suc x) n)),
+      local-few s o q x,
+      locals-few s o q (suc x) n,
+      length-append (needed s q x) (all_needed s q (suc x) n),
+    )
 
 in-homes : (same_is : SameTypeDecides) (n : ℕ) (hs : List Home) (h : Home) (r : ℕ) → register_from n hs h ≡ Some r → IsAmong h hs
 in-homes same_is n [] h r e = absurd (cc)
@@ -191,7 +208,8 @@ in-order-distinct s q x (h ∷ hs) o = (
   in-order-distinct s q x hs o.1,
 )
 
-module _ (v : Linked) (same_is : SameTypeDecides) (kept : NeededAreKept) (have : NeededHaveHomes v) (s : Source) (is : s.world ≡ v) (plan : IsPlanned s) (q : ℕ) (g : Types) (e : s.frames q ≡ Some g) where
+module _ (v : Linked) (same_is : SameTypeDecides) (kept : NeededAreKept) (have : NeededHaveHomes v) (s : Source) (is : s.world ≡ v) (plan : IsPlanned s)
+    (q : ℕ) (g : Types) (e : s.frames q ≡ Some g) where
   needed-are : (x : ℕ) → AreNeeded s.method s.frames q x (needed s q x)
   unfolding needed
   needed-are x = kept s.method s.frames q x
@@ -202,7 +220,8 @@ module _ (v : Linked) (same_is : SameTypeDecides) (kept : NeededAreKept) (have :
   slots-from : (x n : ℕ) (h : Home) → IsAmong h (all_needed s q x n) → x ≤ h.slot
   slots-from x zero h a = absurd a
   slots-from x (suc n) h a =
-      either-among (λ (k : Home). x ≤ k.slot) (needed s q x) (all_needed s q (suc x) n) (λ k b. omega (arith, slot-of x k b)) (λ k b. omega (arith, slots-from (suc x) n k b)) h a
+      either-among (λ (k : Home). x ≤ k.slot) (needed s q x) (all_needed s q (suc x) n) (λ k b. omega (arith, slot-of x k b))
+      (λ k b. omega (arith, slots-from (suc x) n k b)) h a
 
   all-distinct : (x n : ℕ) → Distinct (all_needed s q x n)
   all-distinct x zero = tt
@@ -226,7 +245,8 @@ module _ (v : Linked) (same_is : SameTypeDecides) (kept : NeededAreKept) (have :
   pub copies-few : (o : Origin) → length (insns (copies s o q)) ≤ 2 * 255
   unfolding copies
   copies-few o =
-      let all = no-longer (all_needed s q 0 (register_count s.method.rec)) s.homes (all-distinct 0 (register_count s.method.rec)) (all-homes 0 (register_count s.method.rec)) in
+      let all = no-longer (all_needed s q 0 (register_count s.method.rec)) s.homes (all-distinct 0 (register_count s.method.rec))
+      (all-homes 0 (register_count s.method.rec)) in
       omega (arith, locals-few s o q 0 (register_count s.method.rec), all, homes-few s.homes, plan.few)
 
 reached-by : (s : Source) (o : Origin) (q : ℕ) → LeadsTo s o q → IsReached s.method q

@@ -1,5 +1,6 @@
 -- A leader's loads put its stack back.
-use Rattle.std.proofs.Common.{◌≡◌, ℕ, suc, ◌+◌, ◌<◌, ◌≤◌, List, [], ◌∷◌, ◌++◌, length, map, refl, sym, ap, ◌∙◌, subst, arith}
+use Rattle.std.proofs.Common.{◌≡◌, ℕ, suc, ◌+◌, ◌<◌, ◌≤◌, List, [], ◌∷◌, ◌++◌, length, map, refl, sym, ap, ◌∙◌, subst}
+use Rattle.std.proofs.Common.{arith}
 use Rattle.std.proofs.lemmas.List.Sums.{sum_by-cons}
 use Rattle.jc_base.specs.declared.ty.Ty.{Ty}
 use Rattle.jc_base.specs.declared.ty.Ty.TheVariants.{IntHigh}
@@ -27,7 +28,8 @@ use Rattle.law_homes.specs.Held.{HoldsValue, Waits, slots}
 use Rattle.law_homes.specs.Moves.{InstructionsStandFrom, load_of, loaded_stack, CanLoad}
 use Rattle.law_homes.proofs.Loading.{loads-run}
 use Rattle.law_homes.proofs.Stacked.{loaded-is-stack}
-use Rattle.law_homes.proofs.Beside.{AreLaws, each-among, among-each, typed, count-registers, count-stack, stack-fits, cells-valued, register-small, held-can-load}
+use Rattle.law_homes.proofs.Beside.{AreLaws, each-among, among-each, typed, count-registers, count-stack, stack-fits, cells-valued, register-small}
+use Rattle.law_homes.proofs.Beside.{held-can-load}
 
 pub insns-loads : (s : Source) (hs : List Home) → insns (loads s hs) ≡ map (load_of s) hs
 insns-loads s [] = refl

@@ -1,5 +1,6 @@
 -- Loads of homes, one after the other.
-use Rattle.std.proofs.Common.{◌≡◌, ℕ, suc, ◌+◌, ◌<◌, ◌≤◌, ◌%◌, List, [], ◌∷◌, ◌++◌, length, map, refl, sym, ap, ◌∙◌, subst, arith}
+use Rattle.std.proofs.Common.{◌≡◌, ℕ, suc, ◌+◌, ◌<◌, ◌≤◌, ◌%◌, List, [], ◌∷◌, ◌++◌, length, map, refl, sym, ap, ◌∙◌}
+use Rattle.std.proofs.Common.{subst, arith}
 use Rattle.std.specs.Prelude.{Some, Ok, slice_get}
 use Rattle.std.proofs.Math.Nat.{mod-eq_of_lt}
 use Rattle.jc_base.specs.declared.ty.Ty.{Ty}
@@ -35,7 +36,8 @@ use Rattle.xf_emission.specs.Move.{with_byte, load_op, store_op}
 use Rattle.xf_homes.specs.declared.home.Home.{Home}
 use Rattle.xf_homes.specs.Source.{Source}
 use Rattle.xf_homes.specs.Plan.{register}
-use Rattle.law_homes.specs.Moves.{IsExecutable, AreFilled, letter_of, InstructionsStandFrom, load_of, IsAtStep, CanLoad, value_in_register, loaded_stack, LoadsRun}
+use Rattle.law_homes.specs.Moves.{IsExecutable, AreFilled, letter_of, InstructionsStandFrom, load_of, IsAtStep, CanLoad, value_in_register, loaded_stack}
+use Rattle.law_homes.specs.Moves.{LoadsRun}
 use Rattle.jc_decode.specs.Places.{place_after}
 use Rattle.law_homes.proofs.Going.{loaded-filled, operations-go-on}
 use Rattle.law_homes.proofs.Standing.{steps-stand-at-places, steps-execute}

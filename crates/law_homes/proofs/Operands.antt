@@ -1,5 +1,6 @@
 -- The loads after a conditional's stack was stored: those of its operands, and those of the cells under them.
-use Rattle.std.proofs.Common.{◌≡◌, inl, inr, ℕ, ◌+◌, ◌-◌, ◌<◌, ◌≤◌, true, List, [], ◌∷◌, ◌++◌, length, map, take, drop, reverse, Some, Ok, refl, sym, ap, ◌∙◌, subst, arith, append_assoc, length-append}
+use Rattle.std.proofs.Common.{◌≡◌, inl, inr, ℕ, ◌+◌, ◌-◌, ◌<◌, ◌≤◌, true, List, [], ◌∷◌, ◌++◌, length, map, take, drop}
+use Rattle.std.proofs.Common.{reverse, Some, Ok, refl, sym, ap, ◌∙◌, subst, arith, append_assoc, length-append}
 use Rattle.std.proofs.lemmas.List.{append_cancel_right, length-reverse, length-take, length-drop, reverse-append, reverse-reverse, take-append-drop, take_all}
 use Rattle.std.specs.Prelude.{◌↔◌, sum_by}
 use Rattle.std.proofs.lemmas.List.Sums.{sum_by-append, sum_by-cons}
@@ -35,7 +36,8 @@ use Rattle.law_homes.proofs.Copies.{wide}
 use Rattle.law_homes.proofs.Loading.{loads-run}
 use Rattle.law_homes.proofs.StackStores.{piled, piled-append, piled-from}
 use Rattle.law_homes.proofs.Leading.{insns-loads}
-use Rattle.law_homes.proofs.Beside.{AreLaws, each-among, among-each, typed, count-registers, count-stack, stack-fits, cells-valued, register-small, held-can-load, get-left}
+use Rattle.law_homes.proofs.Beside.{AreLaws, each-among, among-each, typed, count-registers, count-stack, stack-fits, cells-valued, register-small}
+use Rattle.law_homes.proofs.Beside.{held-can-load, get-left}
 
 -- ---- values that are loaded
 
@@ -46,7 +48,8 @@ piled-base values (h ∷ hs) stack =
     ∙ sym (append_assoc (value_in_register (letter_of h.ty) h.slot values) (piled values hs []) stack)
 
 module _ (s : Source) (values : List Cell) (g : Frame Cell) where
-  same-at : (h : Home) (k : ℕ) → k < type_width h.ty → HoldsValue s values g h → nth tagged g.registers (register s h + k) ≡ nth tagged values (h.slot + k)
+  same-at : (h : Home) (k : ℕ) → k < type_width h.ty → HoldsValue s values g h → nth tagged g.registers (register s h + k) ≡ nth tagged values
+      (h.slot + k)
   same-at h k lt held = register-same values g.registers (h.slot + k) (register s h + k) (held.equal k lt)
 
   same-first : (h : Home) → 0 < type_width h.ty → HoldsValue s values g h → nth tagged g.registers (register s h) ≡ nth tagged values h.slot
@@ -55,7 +58,8 @@ module _ (s : Source) (values : List Cell) (g : Frame Cell) where
       let there : h.slot + 0 ≡ h.slot = omega arith in
       ap (nth tagged g.registers) here ∙ (same-at h 0 some held ∙ ap (nth tagged values) there)
 
-  same-value : (letter : Sort) (h : Home) → type_width h.ty ≡ size letter → HoldsValue s values g h → value_in_register letter (register s h) g.registers ≡ value_in_register letter h.slot values
+  same-value : (letter : Sort) (h : Home) → type_width h.ty ≡ size letter → HoldsValue s values g h
+      → value_in_register letter (register s h) g.registers ≡ value_in_register letter h.slot values
   same-value sorts.Reference h e held = ap (λ (c : Cell). c ∷ []) (same-first h (omega (arith, e)) held)
   same-value sorts.Short h e held = ap (λ (c : Cell). c ∷ []) (same-first h (omega (arith, e)) held)
   same-value sorts.Int h e held =
@@ -63,7 +67,8 @@ module _ (s : Source) (values : List Cell) (g : Frame Cell) where
       ∙ ap (λ (c : Cell). nth tagged values (h.slot + 1) ∷ c ∷ []) (same-first h (omega (arith, e)) held)
 
   -- what is loaded from homes that hold their values
-  loaded-piled : (hs : List Home) (stack : List Cell) → Each (HoldsValue s values g) hs → loaded_stack s g.registers hs stack ≡ piled values (reverse hs) stack
+  loaded-piled : (hs : List Home) (stack : List Cell) → Each (HoldsValue s values g) hs → loaded_stack s g.registers hs stack
+      ≡ piled values (reverse hs) stack
   loaded-piled [] stack held = refl
   loaded-piled (h ∷ hs) stack held =
       ap (λ (cs : List Cell). loaded_stack s g.registers hs (cs ++ stack)) (same-value (letter_of h.ty) h (wide h.ty) held.0)
@@ -110,14 +115,16 @@ slots-to n (k ∷ hs) follow h (inr a) =
     omega (arith, sum, slots-to (n + type_width k.ty) hs follow.1 h a)
 
 -- a value among cells, and among more of them
-grown : (s : Source) (xs ys : List Cell) (g : Frame Cell) (h : Home) → h.slot + type_width h.ty ≤ length xs → HoldsValue s xs g h → HoldsValue s (xs ++ ys) g h
+grown : (s : Source) (xs ys : List Cell) (g : Frame Cell) (h : Home) → h.slot + type_width h.ty ≤ length xs → HoldsValue s xs g h
+    → HoldsValue s (xs ++ ys) g h
 grown s xs ys g h inside held = record {
   known = omega (arith, inside, length-append xs ys);
   there = held.there;
   equal = λ n lt. held.equal n lt ∙ sym (get-left xs ys (h.slot + n) (omega (arith, inside, lt)));
 }
 
-cut-back : (s : Source) (xs ys : List Cell) (g : Frame Cell) (h : Home) → h.slot + type_width h.ty ≤ length xs → HoldsValue s (xs ++ ys) g h → HoldsValue s xs g h
+cut-back : (s : Source) (xs ys : List Cell) (g : Frame Cell) (h : Home) → h.slot + type_width h.ty ≤ length xs → HoldsValue s (xs ++ ys) g h
+    → HoldsValue s xs g h
 cut-back s xs ys g h inside held = record {
   known = inside;
   there = held.there;
@@ -135,10 +142,14 @@ among-right h (k ∷ hs) ks a = inr (among-right h hs ks a)
 
 -- ---- a conditional over a deeper stack
 
-module _ (v w : Linked) (l : AreLaws v w) (place : ℕ → ℕ) (steps : List Step) (t : State Cell) (s : Source) (is : s.world ≡ v) (plan : IsPlanned s) (i : Placed) (k : ℕ) (f : Frame Cell)
-    (beside : IsBeside w s i.place f t) (fork : IsForkedAt s i.place k (typed v w l s is plan i.place f t beside).frame) (over : has_under s i.place k ≡ true) where
+module _ (v w : Linked) (l : AreLaws v w) (place : ℕ → ℕ) (steps : List Step) (t : State Cell) (s : Source) (is : s.world ≡ v) (plan : IsPlanned s)
+    (i : Placed) (k : ℕ) (f : Frame Cell)
+    (beside : IsBeside w s i.place f t) (fork : IsForkedAt s i.place k (typed v w l s is plan i.place f t beside).frame)
+    (over : has_under s i.place k ≡ true) where
   filled : FillStack s i.place (typed v w l s is plan i.place f t beside).frame
-  filled = (subst CellsFillStack (sym is) l.fill) s refl plan i.place (typed v w l s is plan i.place f t beside).frame (typed v w l s is plan i.place f t beside).at (fork.keeps over)
+  filled =
+      (subst CellsFillStack (sym is) l.fill) s refl plan i.place (typed v w l s is plan i.place f t beside).frame
+      (typed v w l s is plan i.place f t beside).at (fork.keeps over)
 
   follow : Follow (length f.registers) (under s i.place k ++ operands s i.place k)
   follow = subst (λ (n : ℕ). Follow n (under s i.place k ++ operands s i.place k)) (sym (count-registers v w l s is plan i.place f t beside))
@@ -162,7 +173,8 @@ module _ (v w : Linked) (l : AreLaws v w) (place : ℕ → ℕ) (steps : List St
       let count : length (reverse f.stack) ≡ length f.stack = length-reverse f.stack in
       let from_zero : 0 + register_sum (under s i.place k) ≡ length f.stack - k = omega (arith, under_sum) in
       piled-from f.registers (reverse f.stack) (under s i.place k) 0
-      (subst (λ (n : ℕ). Follow n (under s i.place k)) start (follow-left (length f.registers) (under s i.place k) (operands s i.place k) follow)) (omega (arith, total, count))
+      (subst (λ (n : ℕ). Follow n (under s i.place k)) start (follow-left (length f.registers) (under s i.place k) (operands s i.place k) follow))
+      (omega (arith, total, count))
       ∙ (ap (λ (n : ℕ). reverse (take n (reverse f.stack))) from_zero ∙ turned-drop f.stack k deep)
 
   operands-piled : piled (slots f) (reverse (operands s i.place k)) [] ≡ take k f.stack
@@ -174,7 +186,8 @@ module _ (v w : Linked) (l : AreLaws v w) (place : ℕ → ℕ) (steps : List St
       (follow-right (length f.registers) (under s i.place k) (operands s i.place k) follow) in
       let all : piled (slots f) (reverse (operands s i.place k)) (reverse (take (length f.stack - k) (reverse f.stack))) ≡ f.stack =
       piled-from f.registers (reverse f.stack) (operands s i.place k) (length f.stack - k) from_under (omega (arith, sum))
-      ∙ (ap reverse (take_all (length f.stack - k + register_sum (operands s i.place k)) (reverse f.stack) (omega (arith, sum))) ∙ reverse-reverse f.stack) in
+      ∙ (ap reverse (take_all (length f.stack - k + register_sum (operands s i.place k)) (reverse f.stack) (omega (arith, sum)))
+      ∙ reverse-reverse f.stack) in
       let based : piled (slots f) (reverse (operands s i.place k)) [] ++ drop k f.stack ≡ take k f.stack ++ drop k f.stack =
       sym (piled-base (slots f) (reverse (operands s i.place k)) (drop k f.stack))
       ∙ (ap (piled (slots f) (reverse (operands s i.place k))) (sym (turned-drop f.stack k deep)) ∙ (all ∙ sym (take-append-drop k f.stack))) in
@@ -204,17 +217,20 @@ module _ (v w : Linked) (l : AreLaws v w) (place : ℕ → ℕ) (steps : List St
       subst (λ (cs : List Cell). Runs tagged w (length hs) t (running (top_at t (place (n + length hs)) (top t).registers cs))) back ran
 
   operands-load :
-      (n : ℕ) → Each (HoldsValue s (slots f) (top t)) (stack_homes s i.place) → IsAtStep w place steps t n (length (operands s i.place k)) → InstructionsStandFrom steps n (insns (loads s (operands s i.place k))) → (top t).stack ≡ []
+      (n : ℕ) → Each (HoldsValue s (slots f) (top t)) (stack_homes s i.place) → IsAtStep w place steps t n (length (operands s i.place k))
+      → InstructionsStandFrom steps n (insns (loads s (operands s i.place k))) → (top t).stack ≡ []
       → Runs tagged w (length (operands s i.place k)) t (running (top_at t (place (n + length (operands s i.place k))) (top t).registers (take k f.stack)))
   operands-load n held at stand empty =
       part-loads n (operands s i.place k) (take k f.stack)
       (each-among (HoldsValue s (slots f) (top t)) (operands s i.place k)
-      (λ h a. among-each (HoldsValue s (slots f) (top t)) (stack_homes s i.place) h held (subst (IsAmong h) (sym fork.parts) (among-right h (under s i.place k) (operands s i.place k) a))))
+      (λ h a. among-each (HoldsValue s (slots f) (top t)) (stack_homes s i.place) h held
+      (subst (IsAmong h) (sym fork.parts) (among-right h (under s i.place k) (operands s i.place k) a))))
       (λ h a. subst (IsAmong h) (sym fork.parts) (among-right h (under s i.place k) (operands s i.place k) a)) at stand empty operands-piled
       (omega (arith, ap length (take-append-drop k f.stack), length-append (take k f.stack) (drop k f.stack)))
 
   under-load :
-      (n : ℕ) → Each (HoldsValue s (slots f) (top t)) (under s i.place k) → IsAtStep w place steps t n (length (under s i.place k)) → InstructionsStandFrom steps n (insns (loads s (under s i.place k))) → (top t).stack ≡ []
+      (n : ℕ) → Each (HoldsValue s (slots f) (top t)) (under s i.place k) → IsAtStep w place steps t n (length (under s i.place k))
+      → InstructionsStandFrom steps n (insns (loads s (under s i.place k))) → (top t).stack ≡ []
       → Runs tagged w (length (under s i.place k)) t (running (top_at t (place (n + length (under s i.place k))) (top t).registers (drop k f.stack)))
   under-load n held at stand empty =
       part-loads n (under s i.place k) (drop k f.stack) held
@@ -240,27 +256,39 @@ module _ (v w : Linked) (l : AreLaws v w) (place : ℕ → ℕ) (steps : List St
       parts : slots f ≡ slots y ++ reverse (take k f.stack)
       parts =
           ap (λ (cs : List Cell). f.registers ++ cs) (ap reverse (sym (take-append-drop k f.stack)) ∙ reverse-append (take k f.stack) (drop k f.stack))
-          ∙ (sym (append_assoc f.registers (reverse (drop k f.stack)) (reverse (take k f.stack))) ∙ ap (λ (cs : List Cell). cs ++ reverse (take k f.stack)) (sym own))
+          ∙ (sym (append_assoc f.registers (reverse (drop k f.stack)) (reverse (take k f.stack)))
+          ∙ ap (λ (cs : List Cell). cs ++ reverse (take k f.stack)) (sym own))
 
       inside : (h : Home) → IsAmong h (under s i.place k) → h.slot + type_width h.ty ≤ length (slots y)
       inside h a =
           let to = slots-to (length f.registers) (under s i.place k) (follow-left (length f.registers) (under s i.place k) (operands s i.place k) follow) h a in
-          omega (arith, to, under_sum, ap length own, length-append f.registers (reverse (drop k f.stack)), length-reverse (drop k f.stack), length-drop k f.stack)
+          omega (
+            arith,
+            to,
+            under_sum,
+            ap length own,
+            length-append f.registers (reverse (drop k f.stack)),
+            length-reverse (drop k f.stack),
+            length-drop k f.stack,
+          )
 
 pub operands-all-load : (v w : Linked) → AreLaws v w → ForksAreCut v → OperandsLoad v w
 operands-all-load v w l cuts place steps t n s i op k f is plan beside st names some over at stand empty held =
     let g = typed v w l s is plan i.place f t beside in
-    operands-load v w l place steps t s is plan i k f beside ((subst ForksAreCut (sym is) cuts) s refl plan i op k g.frame st g.at names some) over n held at stand empty
+    operands-load v w l place steps t s is plan i k f beside ((subst ForksAreCut (sym is) cuts) s refl plan i op k g.frame st g.at names some) over n held
+    at stand empty
 
 pub under-all-load : (v w : Linked) → AreLaws v w → ForksAreCut v → UnderLoads v w
 under-all-load v w l cuts place steps t n s i op k f is plan beside st names some over at stand empty held =
     let g = typed v w l s is plan i.place f t beside in
-    under-load v w l place steps t s is plan i k f beside ((subst ForksAreCut (sym is) cuts) s refl plan i op k g.frame st g.at names some) over n held at stand empty
+    under-load v w l place steps t s is plan i k f beside ((subst ForksAreCut (sym is) cuts) s refl plan i op k g.frame st g.at names some) over n held at
+    stand empty
 
 pub under-all-hold : (v w : Linked) → AreLaws v w → ForksAreCut v → UnderHold v w
 under-all-hold v w l cuts t s i op k f y g is plan beside st names some over same_registers same_stack =
     let p = typed v w l s is plan i.place f t beside in
-    under-holds v w l fixed [] t s is plan i k f beside ((subst ForksAreCut (sym is) cuts) s refl plan i op k p.frame st p.at names some) over y g same_registers same_stack
+    under-holds v w l fixed [] t s is plan i k f beside ((subst ForksAreCut (sym is) cuts) s refl plan i op k p.frame st p.at names some) over y g
+    same_registers same_stack
   where
     fixed : ℕ → ℕ
     fixed n = n

@@ -1,5 +1,6 @@
 -- The stores of a stack into homes, one after the other.
-use Rattle.std.proofs.Common.{◌≡◌, ◌⊎◌, inl, inr, ℕ, zero, suc, ◌+◌, ◌<◌, ◌≤◌, List, [], ◌∷◌, ◌++◌, length, map, reverse, refl, sym, ap, ◌∙◌, subst, arith}
+use Rattle.std.proofs.Common.{◌≡◌, ◌⊎◌, inl, inr, ℕ, zero, suc, ◌+◌, ◌<◌, ◌≤◌, List, [], ◌∷◌, ◌++◌, length, map, reverse}
+use Rattle.std.proofs.Common.{refl, sym, ap, ◌∙◌, subst, arith}
 use Rattle.std.specs.Prelude.{Some, slice_get}
 use Rattle.std.proofs.lemmas.List.{length-reverse}
 use Rattle.jc_base.specs.declared.record.MethodRec.{MethodRec}
@@ -44,7 +45,8 @@ use Rattle.law_homes.proofs.Loading.{store-resolves, step-place}
 use Rattle.law_homes.proofs.Standing.{steps-execute}
 use Rattle.law_homes.proofs.Valued.{asked_types, CellsAt, value-inside}
 use Rattle.law_homes.proofs.StackStores.{piled, piled-stack, stored, stored-count, stored-holds, stored-apart, store-asked}
-use Rattle.law_homes.proofs.Beside.{AreLaws, each-among, among-each, own, register-inside, register-small, typed, count-registers, count-stack, stack-fits, cells-valued, held-as}
+use Rattle.law_homes.proofs.Beside.{AreLaws, each-among, among-each, own, register-inside, register-small, typed, count-registers, count-stack, stack-fits}
+use Rattle.law_homes.proofs.Beside.{cells-valued, held-as}
 
 -- a store into a home
 abbrev pub store_of : Source → Home → Insn
@@ -75,7 +77,8 @@ module _
 
   store-is :
       (letter : Sort) (slot r p q : ℕ) (registers stack : List Cell)
-      → with_place (with_store tagged letter r (at p registers (value_in_register letter slot values ++ stack))) q ≡ at q (stored letter values slot r registers) stack
+      → with_place (with_store tagged letter r (at p registers (value_in_register letter slot values ++ stack))) q
+      ≡ at q (stored letter values slot r registers) stack
   store-is sorts.Reference slot r p q registers stack = refl
   store-is sorts.Short slot r p q registers stack = refl
   store-is sorts.Int slot r p q registers stack = refl
@@ -144,7 +147,8 @@ module _
   depth-piled [] stack = omega arith
   depth-piled (k ∷ ks) stack = by (letter_of k.ty) (depth-piled ks stack)
     where
-      by : (letter : Sort) → length stack ≤ length (piled values ks stack) → length stack ≤ length (value_in_register letter k.slot values ++ piled values ks stack)
+      by : (letter : Sort) → length stack ≤ length (piled values ks stack)
+          → length stack ≤ length (value_in_register letter k.slot values ++ piled values ks stack)
       by sorts.Reference le = omega (arith, le)
       by sorts.Short le = omega (arith, le)
       by sorts.Int le = omega (arith, le)
@@ -190,7 +194,8 @@ module _
       record {
         after = rest.after;
         runs = then first
-            (subst (λ (x : ℕ). Runs tagged w (length ks) (at (place (n + 1)) next (piled values ks stack)) (running (at (place x) rest.after stack))) last rest.runs);
+            (subst (λ (x : ℕ). Runs tagged w (length ks) (at (place (n + 1)) next (piled values ks stack)) (running (at (place x) rest.after stack)))
+            last rest.runs);
         many = rest.many ∙ count;
         keeps = λ a has held. rest.keeps a has (by a held (owns a k has is.has) written);
         holds = (rest.keeps k is.has written, rest.holds);
@@ -198,7 +203,8 @@ module _
       }
     where
       by :
-          (a : Home) → HoldsValue s values (frame 0 registers []) a → (a ≡ k) ⊎ AreApart (register s a) (type_width a.ty) (register s k) (type_width k.ty)
+          (a : Home) → HoldsValue s values (frame 0 registers []) a → (a ≡ k) ⊎ AreApart (register s a) (type_width a.ty) (register s k)
+          (type_width k.ty)
           → HoldsValue s values (frame 0 (stored (letter_of k.ty) values k.slot (register s k) registers) []) k
           → HoldsValue s values (frame 0 (stored (letter_of k.ty) values k.slot (register s k) registers) []) a
       by a held (inl same) written =
@@ -250,7 +256,8 @@ slots-from n [] follow h a = absurd a
 slots-from n (k ∷ hs) follow h (inl e) = omega (arith, follow.0, ap (λ (x : Home). x.slot) e)
 slots-from n (k ∷ hs) follow h (inr a) = omega (arith, slots-from (n + type_width k.ty) hs follow.1 h a)
 
-module _ (v w : Linked) (l : AreLaws v w) (place : ℕ → ℕ) (steps : List Step) (s : Source) (is : s.world ≡ v) (plan : IsPlanned s) (q : ℕ) (f : Frame Cell) (keeps : KeepsStack s.world s.method s.frames q) where
+module _ (v w : Linked) (l : AreLaws v w) (place : ℕ → ℕ) (steps : List Step) (s : Source) (is : s.world ≡ v) (plan : IsPlanned s) (q : ℕ)
+    (f : Frame Cell) (keeps : KeepsStack s.world s.method s.frames q) where
   spill-by :
       (g : Frame Cell) (below : List (Frame Cell)) (heap : List (Object Cell)) (statics : List Cell) (n : ℕ)
       → IsBeside w s q f (record { frames = g ∷ below; heap = heap; statics = statics })
@@ -267,8 +274,10 @@ module _ (v w : Linked) (l : AreLaws v w) (place : ℕ → ℕ) (steps : List St
       let sum : register_sum hs ≡ length f.stack = filled.fill ∙ sym (count-stack v w l s is plan q f t beside) in
       let pile : piled (slots f) (reverse hs) [] ≡ f.stack = piled-stack f hs follow sum in
       let count : length (reverse hs) ≡ length hs = length-reverse hs in
-      let stored_each : Each (IsStored w l.world place steps s (own v w l s is plan) (slots f) g.method below heap statics at.method at.is_method at.are (length g.registers)) (reverse hs) =
-      each-among (IsStored w l.world place steps s (own v w l s is plan) (slots f) g.method below heap statics at.method at.is_method at.are (length g.registers)) (reverse hs)
+      let stored_each : Each (IsStored w l.world place steps s (own v w l s is plan) (slots f) g.method below heap statics at.method at.is_method at.are
+      (length g.registers)) (reverse hs) =
+      each-among (IsStored w l.world place steps s (own v w l s is plan) (slots f) g.method below heap statics at.method at.is_method at.are
+      (length g.registers)) (reverse hs)
       (λ k a.
       let c = cells-valued v w l s is plan q f t beside keeps k (reverse-among k hs a) in
       record {
@@ -281,22 +290,38 @@ module _ (v w : Linked) (l : AreLaws v w) (place : ℕ → ℕ) (steps : List St
       n g.registers [] (reverse hs) (subst (InstructionsStandFrom steps n) (insns-spill s hs) stand) (omega (arith, at.further, count)) stored_each
       (omega (arith, ap length pile, stack-fits v w l s is plan q f t beside, beside.room)) in
       let whole : piled (slots f) (reverse hs) [] ≡ g.stack = pile ∙ sym stack_is in
-      let begins : record { frames = record { method = g.method; place = place n; registers = g.registers; stack = piled (slots f) (reverse hs) [] } ∷ below; heap = heap; statics = statics } ≡ t =
-      ap (λ (cs : List Cell). record { frames = record { method = g.method; place = place n; registers = g.registers; stack = cs } ∷ below; heap = heap; statics = statics }) whole
-      ∙ ap (λ (p : ℕ). record { frames = record { method = g.method; place = p; registers = g.registers; stack = g.stack } ∷ below; heap = heap; statics = statics }) (sym at.at) in
+      let begins : record {
+        frames = record { method = g.method; place = place n; registers = g.registers; stack = piled (slots f) (reverse hs) [] } ∷ below;
+        heap = heap;
+        statics = statics;
+      } ≡ t =
+      ap
+      (λ (cs : List Cell). record {
+        frames = record { method = g.method; place = place n; registers = g.registers; stack = cs } ∷ below;
+        heap = heap;
+        statics = statics;
+      }) whole
+      ∙ ap
+      (λ (p : ℕ). record {
+        frames = record { method = g.method; place = p; registers = g.registers; stack = g.stack } ∷ below;
+        heap = heap;
+        statics = statics;
+      }) (sym at.at) in
       record {
         registers = ran.after;
         runs =
             subst (λ (k : ℕ). Runs tagged w k t (running (top_at t (place (n + length hs)) ran.after []))) count
             (subst (λ (k : ℕ). Runs tagged w (length (reverse hs)) t (running (top_at t (place (n + k)) ran.after []))) count
-            (subst (λ (x : State Cell). Runs tagged w (length (reverse hs)) x (running (top_at t (place (n + length (reverse hs))) ran.after []))) begins ran.runs));
+            (subst (λ (x : State Cell). Runs tagged w (length (reverse hs)) x (running (top_at t (place (n + length (reverse hs))) ran.after []))) begins
+            ran.runs));
         count = ran.many;
         cells = each-among (HoldsValue s (slots f) (record g { registers = ran.after })) hs
             (λ k a. held-as s (slots f) _ (record g { registers = ran.after }) k refl (among-each _ (reverse hs) k ran.holds (among-reverse k hs a)));
         others = λ cs h has low held.
             held-as s cs (record { method = g.method; place = 0; registers = ran.after; stack = [] }) (record g { registers = ran.after }) h refl
             (ran.others cs h has
-            (λ k a e. let far = slots-from (register_count s.method.rec) hs filled.follow k (reverse-among k hs a) in absurd (omega (arith, far, low, ap (λ (x : Home). x.slot) e)))
+            (λ k a e. let far = slots-from (register_count s.method.rec) hs filled.follow k (reverse-among k hs a) in
+            absurd (omega (arith, far, low, ap (λ (x : Home). x.slot) e)))
             (held-as s cs g (record { method = g.method; place = 0; registers = g.registers; stack = [] }) h refl held));
       }
 

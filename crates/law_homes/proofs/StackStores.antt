@@ -1,5 +1,6 @@
 -- The values of homes on a stack, and the stores that take them from there.
-use Rattle.std.proofs.Common.{◌≡◌, ◌⊎◌, inl, inr, ℕ, zero, suc, ◌+◌, ◌<◌, ◌≤◌, List, [], ◌∷◌, ◌++◌, length, map, take, reverse, set, length-set, refl, sym, ap, ◌∙◌, subst, arith}
+use Rattle.std.proofs.Common.{◌≡◌, ◌⊎◌, inl, inr, ℕ, zero, suc, ◌+◌, ◌<◌, ◌≤◌, List, [], ◌∷◌, ◌++◌, length, map, take}
+use Rattle.std.proofs.Common.{reverse, set, length-set, refl, sym, ap, ◌∙◌, subst, arith}
 use Rattle.std.specs.Prelude.{Some, slice_get, sum_by}
 use Rattle.std.proofs.lemmas.List.{take_all, length-reverse, reverse-reverse}
 use Rattle.std.proofs.lemmas.List.Sums.{sum_by-cons}
@@ -88,7 +89,8 @@ module _ (regs xs : List Cell) where
       ∙ (ap (piled (regs ++ xs) (reverse hs)) own ∙ (rest ∙ ap (λ (n : ℕ). reverse (take n xs)) whole)))
 
 -- the values of the homes of a whole stack
-pub piled-stack : (f : Frame Cell) (hs : List Home) → Follow (length f.registers) hs → register_sum hs ≡ length f.stack → piled (slots f) (reverse hs) [] ≡ f.stack
+pub piled-stack : (f : Frame Cell) (hs : List Home) → Follow (length f.registers) hs → register_sum hs ≡ length f.stack
+    → piled (slots f) (reverse hs) [] ≡ f.stack
 piled-stack f hs follow sum =
     let xs : List Cell = reverse f.stack in
     let count : length xs ≡ length f.stack = length-reverse f.stack in
@@ -103,7 +105,8 @@ abbrev pub stored : Sort → List Cell → ℕ → ℕ → List Cell → List Ce
 stored sorts.Int values slot r registers = set (set registers r (nth tagged values slot)) (r + 1) (nth tagged values (slot + 1))
 stored _ values slot r registers = set registers r (nth tagged values slot)
 
-pub stored-count : (letter : Sort) (values : List Cell) (slot r : ℕ) (registers : List Cell) → length (stored letter values slot r registers) ≡ length registers
+pub stored-count : (letter : Sort) (values : List Cell) (slot r : ℕ) (registers : List Cell) → length (stored letter values slot r registers)
+    ≡ length registers
 stored-count sorts.Reference values slot r registers = length-set registers r (nth tagged values slot)
 stored-count sorts.Short values slot r registers = length-set registers r (nth tagged values slot)
 stored-count sorts.Int values slot r registers =
@@ -152,14 +155,17 @@ module _ (s : Source) (g : Frame Cell) (k : Home) (values : List Cell) (inside :
   after = record g { registers = stored (letter_of k.ty) values k.slot (register s k) g.registers }
 
   -- the home that was written holds what was stored
-  pub stored-holds : k.slot + type_width k.ty ≤ length values → HoldsValue s values (record g { registers = stored (letter_of k.ty) values k.slot (register s k) g.registers }) k
+  pub stored-holds : k.slot + type_width k.ty ≤ length values
+      → HoldsValue s values (record g { registers = stored (letter_of k.ty) values k.slot (register s k) g.registers }) k
   stored-holds there =
       let count = stored-count (letter_of k.ty) values k.slot (register s k) g.registers in
       let w = wide k.ty in
       record {
         known = there;
         there = omega (arith, inside, count);
-        equal = λ n lt. stored-here (letter_of k.ty) values k.slot (register s k) g.registers n (omega (arith, lt, w)) (omega (arith, there, w)) (omega (arith, inside, w));
+        equal =
+            λ n lt. stored-here (letter_of k.ty) values k.slot (register s k) g.registers n (omega (arith, lt, w)) (omega (arith, there, w))
+            (omega (arith, inside, w));
       }
 
   -- one apart from it holds what it held

@@ -1,5 +1,6 @@
 -- A store of the source in rewritten code.
-use Rattle.std.proofs.Common.{◌≡◌, ◌⊎◌, inl, inr, ℕ, zero, suc, ◌+◌, ◌*◌, ◌<◌, ◌≤◌, true, List, [], ◌∷◌, ◌++◌, length, map, refl, sym, ap, ◌∙◌, subst, arith, length-append}
+use Rattle.std.proofs.Common.{◌≡◌, ◌⊎◌, inl, inr, ℕ, zero, suc, ◌+◌, ◌*◌, ◌<◌, ◌≤◌, true, List, [], ◌∷◌, ◌++◌, length}
+use Rattle.std.proofs.Common.{map, refl, sym, ap, ◌∙◌, subst, arith, length-append}
 use Rattle.std.specs.Prelude.{Option, Some, None, Ok, IsSomeAnd, flat_map, option_map, pos, slice_get}
 use Rattle.std.proofs.lemmas.List.Concat.{flat_map-cons}
 use Rattle.jc_base.specs.declared.ty.Ty.{Ty}
@@ -100,7 +101,8 @@ module _ (t : ClassTable) (ks : List ObjectKind) where
       by (Some kinds_of.Ints) = tt
       by (Some (kinds_of.References c)) = tt
 
-  back-at : (cs : List Cell) (n : ℕ) (ty : Ty) → IsSomeAnd (slice_get (least_types t Bottom ks cs) n) (λ u. Below t u ty) → HasContent (nth tagged cs n) → IsSomeAnd (slice_get cs n) (IsCellOf t ks ty)
+  back-at : (cs : List Cell) (n : ℕ) (ty : Ty) → IsSomeAnd (slice_get (least_types t Bottom ks cs) n) (λ u. Below t u ty)
+      → HasContent (nth tagged cs n) → IsSomeAnd (slice_get cs n) (IsCellOf t ks ty)
   back-at [] n ty h filled = absurd h
   back-at (c ∷ cs) zero ty h filled = (filled, h)
   back-at (c ∷ cs) (suc n) ty h filled = back-at cs n ty h filled
@@ -124,7 +126,8 @@ module _ (t : ClassTable) (ks : List ObjectKind) where
     one-letter cs x sorts.Int sorts.Int p q = refl
     one-letter cs x sorts.Reference sorts.Short p q = absurd (reference-short cs x p.0 q.0)
       where
-        reference-short : (cs : List Cell) (x : ℕ) → IsSomeAnd (slice_get cs x) (IsCellOf t ks (Class (object t))) → IsSomeAnd (slice_get cs x) (IsCellOf t ks Short) → ⊥
+        reference-short : (cs : List Cell) (x : ℕ) → IsSomeAnd (slice_get cs x) (IsCellOf t ks (Class (object t)))
+            → IsSomeAnd (slice_get cs x) (IsCellOf t ks Short) → ⊥
         reference-short cs x p q =
             let a = (at-nth cs x (IsCellOf t ks (Class (object t))) p).1 in
             let b = (at-nth cs x (IsCellOf t ks Short) q).1 in
@@ -132,7 +135,8 @@ module _ (t : ClassTable) (ks : List ObjectKind) where
             no-short-object u (object t) (is-short t types_are u b.1 (filled-full (nth tagged cs x) b.0)) ((types_are.decided u (Class (object t))).1 a.1)
     one-letter cs x sorts.Short sorts.Reference p q = absurd (short-reference cs x p.0 q.0)
       where
-        short-reference : (cs : List Cell) (x : ℕ) → IsSomeAnd (slice_get cs x) (IsCellOf t ks Short) → IsSomeAnd (slice_get cs x) (IsCellOf t ks (Class (object t))) → ⊥
+        short-reference : (cs : List Cell) (x : ℕ) → IsSomeAnd (slice_get cs x) (IsCellOf t ks Short)
+            → IsSomeAnd (slice_get cs x) (IsCellOf t ks (Class (object t))) → ⊥
         short-reference cs x q p =
             let a = (at-nth cs x (IsCellOf t ks (Class (object t))) p).1 in
             let b = (at-nth cs x (IsCellOf t ks Short) q).1 in
@@ -140,7 +144,8 @@ module _ (t : ClassTable) (ks : List ObjectKind) where
             no-short-object u (object t) (is-short t types_are u b.1 (filled-full (nth tagged cs x) b.0)) ((types_are.decided u (Class (object t))).1 a.1)
     one-letter cs x sorts.Reference sorts.Int p q = absurd (reference-int cs x p.0 q.0)
       where
-        reference-int : (cs : List Cell) (x : ℕ) → IsSomeAnd (slice_get cs x) (IsCellOf t ks (Class (object t))) → IsSomeAnd (slice_get cs x) (IsCellOf t ks IntHigh) → ⊥
+        reference-int : (cs : List Cell) (x : ℕ) → IsSomeAnd (slice_get cs x) (IsCellOf t ks (Class (object t)))
+            → IsSomeAnd (slice_get cs x) (IsCellOf t ks IntHigh) → ⊥
         reference-int cs x p q =
             let a = (at-nth cs x (IsCellOf t ks (Class (object t))) p).1 in
             let b = (at-nth cs x (IsCellOf t ks IntHigh) q).1 in
@@ -148,7 +153,8 @@ module _ (t : ClassTable) (ks : List ObjectKind) where
             no-high-object u (object t) (is-high t types_are u b.1 (filled-full (nth tagged cs x) b.0)) ((types_are.decided u (Class (object t))).1 a.1)
     one-letter cs x sorts.Int sorts.Reference p q = absurd (int-reference cs x p.0 q.0)
       where
-        int-reference : (cs : List Cell) (x : ℕ) → IsSomeAnd (slice_get cs x) (IsCellOf t ks IntHigh) → IsSomeAnd (slice_get cs x) (IsCellOf t ks (Class (object t))) → ⊥
+        int-reference : (cs : List Cell) (x : ℕ) → IsSomeAnd (slice_get cs x) (IsCellOf t ks IntHigh)
+            → IsSomeAnd (slice_get cs x) (IsCellOf t ks (Class (object t))) → ⊥
         int-reference cs x q p =
             let a = (at-nth cs x (IsCellOf t ks (Class (object t))) p).1 in
             let b = (at-nth cs x (IsCellOf t ks IntHigh) q).1 in
@@ -156,7 +162,8 @@ module _ (t : ClassTable) (ks : List ObjectKind) where
             no-high-object u (object t) (is-high t types_are u b.1 (filled-full (nth tagged cs x) b.0)) ((types_are.decided u (Class (object t))).1 a.1)
     one-letter cs x sorts.Short sorts.Int p q = absurd (short-int cs x p.0 q.0)
       where
-        short-int : (cs : List Cell) (x : ℕ) → IsSomeAnd (slice_get cs x) (IsCellOf t ks Short) → IsSomeAnd (slice_get cs x) (IsCellOf t ks IntHigh) → ⊥
+        short-int : (cs : List Cell) (x : ℕ) → IsSomeAnd (slice_get cs x) (IsCellOf t ks Short) → IsSomeAnd (slice_get cs x) (IsCellOf t ks IntHigh)
+            → ⊥
         short-int cs x p q =
             let a = (at-nth cs x (IsCellOf t ks Short) p).1 in
             let b = (at-nth cs x (IsCellOf t ks IntHigh) q).1 in
@@ -165,7 +172,8 @@ module _ (t : ClassTable) (ks : List ObjectKind) where
             short-high (sym (is-short t types_are u a.1 full) ∙ is-high t types_are u b.1 full)
     one-letter cs x sorts.Int sorts.Short p q = absurd (int-short cs x p.0 q.0)
       where
-        int-short : (cs : List Cell) (x : ℕ) → IsSomeAnd (slice_get cs x) (IsCellOf t ks IntHigh) → IsSomeAnd (slice_get cs x) (IsCellOf t ks Short) → ⊥
+        int-short : (cs : List Cell) (x : ℕ) → IsSomeAnd (slice_get cs x) (IsCellOf t ks IntHigh) → IsSomeAnd (slice_get cs x) (IsCellOf t ks Short)
+            → ⊥
         int-short cs x p q =
             let a = (at-nth cs x (IsCellOf t ks Short) q).1 in
             let b = (at-nth cs x (IsCellOf t ks IntHigh) p).1 in
@@ -200,7 +208,8 @@ module _ (t : ClassTable) (ks : List ObjectKind) where
         is_low = is-low t types_are u b.1.1 full
 
         by : (a : Sort) → CellsAt t ks cs x (asked_types t a) → ⊥
-        by sorts.Reference h = no-low-object u (object t) is_low ((types_are.decided u (Class (object t))).1 (at-nth cs x (IsCellOf t ks (Class (object t))) h.0).1.1)
+        by sorts.Reference h =
+            no-low-object u (object t) is_low ((types_are.decided u (Class (object t))).1 (at-nth cs x (IsCellOf t ks (Class (object t))) h.0).1.1)
         by sorts.Short h = low-short (sym is_low ∙ is-short t types_are u (at-nth cs x (IsCellOf t ks Short) h.0).1.1 full)
         by sorts.Int h = low-high (sym is_low ∙ is-high t types_are u (at-nth cs x (IsCellOf t ks IntHigh) h.0).1.1 full)
 
@@ -218,7 +227,8 @@ module _ (t : ClassTable) (ks : List ObjectKind) where
     high-is : (c : Cell) → IsCellOf t ks IntHigh c → least_type t Bottom ks c ≡ IntHigh
     high-is c is = is-high t types_are (least_type t Bottom ks c) is.1 (filled-full c is.0)
 
-pub local-cells : (w : Linked) (t : State Cell) (letter : Sort) (x : ℕ) (f : Frame Cell) → HasLocal w t letter x f → CellsAt w.classes (kinds t) f.registers x (asked_types w.classes letter)
+pub local-cells : (w : Linked) (t : State Cell) (letter : Sort) (x : ℕ) (f : Frame Cell) → HasLocal w t letter x f
+    → CellsAt w.classes (kinds t) f.registers x (asked_types w.classes letter)
 local-cells w t sorts.Reference x f is = (back-at w.classes (kinds t) f.registers x (Class (object w.classes)) is.asked.1.0 is.filled, tt)
 local-cells w t sorts.Short x f is = (back-at w.classes (kinds t) f.registers x Short is.asked.1.0 is.filled, tt)
 local-cells w t sorts.Int x f is = (
@@ -250,7 +260,8 @@ module _
     (m : MethodRec) (is_method : slice_get w.methods method ≡ Some m)
     (are : AreSteps (code_at w method) place 0 steps (listing (code_at w method))) where
   abbrev at : ℕ → List Cell → List Cell → State Cell
-  at p registers stack = record { frames = record { method = method; place = p; registers = registers; stack = stack } ∷ below; heap = heap; statics = statics }
+  at p registers stack =
+      record { frames = record { method = method; place = p; registers = registers; stack = stack } ∷ below; heap = heap; statics = statics }
 
   abbrev ks : List ObjectKind
   ks = map (λ (o : Object Cell). o.kind) heap
@@ -269,8 +280,11 @@ module _
       let ex = steps-execute w world t m place steps n 0 (record { insn = pop_insn sorts.Reference; targets = []; keys = [] }) (ops.Move moves.Pop)
       (omega arith) is_method are stand refl (sym (pop-is w m 0 (pop_insn sorts.Reference))) in
       subst (λ (p : ℕ). Steps tagged w t (running (at p registers stack))) ex.ends
-      (operations-go-on w world.chains t (with_move moves.Pop t) ex.instruction (ops.Move moves.Pop) ex.executes
-      (whole-reference w.classes ks types_are (nth tagged values x) (object w.classes) (at-nth values x (IsCellOf w.classes ks (Class (object w.classes))) is.0).1, tt) refl room
+      (operations-go-on w world.chains t (with_move moves.Pop t) ex.instruction (ops.Move moves.Pop) ex.executes (
+        whole-reference w.classes ks types_are (nth tagged values x) (object w.classes)
+            (at-nth values x (IsCellOf w.classes ks (Class (object w.classes))) is.0).1,
+        tt,
+      ) refl room
       (subst (IsPlace (code_at w method)) (sym ex.ends) (step-place (code_at w method) place steps (n + 1) are (omega (arith, further)))))
   pop-step n x registers stack sorts.Short stand further is room =
       let t : State Cell = at (place n) registers (nth tagged values x ∷ stack) in
@@ -295,7 +309,8 @@ module _
 
 -- ---- the store
 
-module _ (v w : Linked) (l : AreLaws v w) (place : ℕ → ℕ) (steps : List Step) (s : Source) (is : s.world ≡ v) (plan : IsPlanned s) (letter : Sort) (q x : ℕ) (f : Frame Cell) (stack : List Cell) where
+module _ (v w : Linked) (l : AreLaws v w) (place : ℕ → ℕ) (steps : List Step) (s : Source) (is : s.world ≡ v) (plan : IsPlanned s) (letter : Sort)
+    (q x : ℕ) (f : Frame Cell) (stack : List Cell) where
   module _
       (g : Frame Cell) (below : List (Frame Cell)) (heap : List (Object Cell)) (statics : List Cell) (n count : ℕ)
       (beside : IsBeside w s q f (record { frames = g ∷ below; heap = heap; statics = statics }))
@@ -321,10 +336,21 @@ module _ (v w : Linked) (l : AreLaws v w) (place : ℕ → ℕ) (steps : List St
     at_now cs = record { frames = record { method = g.method; place = place n; registers = g.registers; stack = cs } ∷ below; heap = heap; statics = statics }
 
     begins : (cs : List Cell) → cs ≡ g.stack
-        → record { frames = record { method = g.method; place = place n; registers = g.registers; stack = cs } ∷ below; heap = heap; statics = statics } ≡ t
+        → record { frames = record { method = g.method; place = place n; registers = g.registers; stack = cs } ∷ below; heap = heap; statics = statics }
+        ≡ t
     begins cs e =
-        ap (λ (us : List Cell). record { frames = record { method = g.method; place = place n; registers = g.registers; stack = us } ∷ below; heap = heap; statics = statics }) e
-        ∙ ap (λ (p : ℕ). record { frames = record { method = g.method; place = p; registers = g.registers; stack = g.stack } ∷ below; heap = heap; statics = statics }) (sym at.at)
+        ap
+        (λ (us : List Cell). record {
+          frames = record { method = g.method; place = place n; registers = g.registers; stack = us } ∷ below;
+          heap = heap;
+          statics = statics;
+        }) e
+        ∙ ap
+        (λ (p : ℕ). record {
+          frames = record { method = g.method; place = p; registers = g.registers; stack = g.stack } ∷ below;
+          heap = heap;
+          statics = statics;
+        }) (sym at.at)
 
     -- a home that is needed has the letter of the store
     pub of-letter : (h : Home) → IsAmong h (needed s q x) → (h.slot ≡ x) × (letter_of h.ty ≡ letter) × HasRegister s.homes h
@@ -337,14 +363,17 @@ module _ (v w : Linked) (l : AreLaws v w) (place : ℕ → ℕ) (steps : List St
     abbrev Ended : List Home → Type 0
     Ended hs = IsInHomes w s q x f t stack (length (insns (stored_items s letter hs))) (place (n + length (insns (stored_items s letter hs))))
 
-    none-needed : needed s q x ≡ [] → count ≡ length (insns (stored_items s letter [])) → InstructionsStandFrom steps n (insns (stored_items s letter [])) → Ended []
+    none-needed : needed s q x ≡ [] → count ≡ length (insns (stored_items s letter []))
+        → InstructionsStandFrom steps n (insns (stored_items s letter [])) → Ended []
     none-needed none is_count stand =
         let one : length (insns (pop_item letter ∷ [])) ≡ 1 = ap length (popped-insns letter) in
         let lone = subst (InstructionsStandFrom steps n) (popped-insns letter) stand in
-        let step = pop-step w l.world (types v w l s is plan q f t beside) place steps f.registers g.method below heap statics at.method at.is_method at.are n x g.registers stack letter lone.0
+        let step = pop-step w l.world (types v w l s is plan q f t beside) place steps f.registers g.method below heap statics at.method at.is_method at.are
+        n x g.registers stack letter lone.0
         (omega (arith, at.further, is_count, one)) value (omega (arith, fits)) in
         let ran : Runs tagged w 1 t (running (top_at t (place (n + 1)) g.registers stack)) =
-        subst (λ (y : State Cell). Runs tagged w 1 y (running (top_at t (place (n + 1)) g.registers stack))) (begins (value_in_register letter x f.registers ++ stack) (sym stack_is)) (then step stands) in
+        subst (λ (y : State Cell). Runs tagged w 1 y (running (top_at t (place (n + 1)) g.registers stack)))
+        (begins (value_in_register letter x f.registers ++ stack) (sym stack_is)) (then step stands) in
         record {
           registers = g.registers;
           runs = subst (λ (k : ℕ). Runs tagged w k t (running (top_at t (place (n + k)) g.registers stack))) (sym one) ran;
@@ -354,7 +383,8 @@ module _ (v w : Linked) (l : AreLaws v w) (place : ℕ → ℕ) (steps : List St
         }
 
     some-needed :
-        (h : Home) (hs : List Home) → needed s q x ≡ h ∷ hs → count ≡ length (insns (stored_items s letter (h ∷ hs))) → InstructionsStandFrom steps n (insns (stored_items s letter (h ∷ hs)))
+        (h : Home) (hs : List Home) → needed s q x ≡ h ∷ hs → count ≡ length (insns (stored_items s letter (h ∷ hs)))
+        → InstructionsStandFrom steps n (insns (stored_items s letter (h ∷ hs)))
         → Ended (h ∷ hs)
     some-needed h hs some is_count stand =
         let own_h = of-letter h (subst (IsAmong h) (sym some) (inl refl)) in
@@ -364,10 +394,12 @@ module _ (v w : Linked) (l : AreLaws v w) (place : ℕ → ℕ) (steps : List St
         (subst (λ (a : Sort). CellsAt w.classes (kinds t) f.registers x (asked_types w.classes a)) (sym own_h.1) value) in
         let tail_is : insns (flat_map (copy s h) hs) ≡ flat_map (copy_of s h) hs = copies-insns s h hs in
         let tail_count : length (insns (flat_map (copy s h) hs)) ≡ 2 * length hs = ap length tail_is ∙ copies-count s h hs in
-        let first = one-store w l.world place steps s (own v w l s is plan) f.registers g.method below heap statics at.method at.is_method at.are n g.registers stack h stand.0
+        let first = one-store w l.world place steps s (own v w l s is plan) f.registers g.method below heap statics at.method at.is_method at.are n
+        g.registers stack h stand.0
         (omega (arith, at.further, is_count))
         (record { has = own_h.2; small = register-small v w l s is plan h own_h.2; inside = inside_h; value = value_h }) (omega (arith, fits)) in
-        let there : h.slot + type_width h.ty ≤ length f.registers = let i = value-inside w.classes (kinds t) (letter_of h.ty) f.registers h.slot value_h in let e = wide h.ty in omega (arith, i, e) in
+        let there : h.slot + type_width h.ty ≤ length f.registers = let i = value-inside w.classes (kinds t) (letter_of h.ty) f.registers h.slot
+        value_h in let e = wide h.ty in omega (arith, i, e) in
         let next : List Cell = stored (letter_of h.ty) f.registers h.slot (register s h) g.registers in
         let same : length next ≡ length g.registers = stored-count (letter_of h.ty) f.registers h.slot (register s h) g.registers in
         let written = stored-holds s (record { method = g.method; place = 0; registers = g.registers; stack = stack }) h f.registers inside_h there in
@@ -388,24 +420,32 @@ module _ (v w : Linked) (l : AreLaws v w) (place : ℕ → ℕ) (steps : List St
         let whole : 1 + 2 * length hs ≡ suc (length (insns (flat_map (copy s h) hs))) = omega (arith, tail_count) in
         let last : n + 1 + 2 * length hs ≡ n + suc (length (insns (flat_map (copy s h) hs))) = omega (arith, tail_count) in
         let stack_h : value_in_register (letter_of h.ty) h.slot f.registers ++ stack ≡ g.stack =
-        ap (λ (y : ℕ). value_in_register (letter_of h.ty) y f.registers ++ stack) own_h.0 ∙ ap (λ (a : Sort). value_in_register a x f.registers ++ stack) own_h.1 ∙ sym stack_is in
+        ap (λ (y : ℕ). value_in_register (letter_of h.ty) y f.registers ++ stack) own_h.0
+        ∙ ap (λ (a : Sort). value_in_register a x f.registers ++ stack) own_h.1 ∙ sym stack_is in
         let all : Runs tagged w (1 + 2 * length hs) t (running (top_at t (place (n + 1 + 2 * length hs)) rest.after stack)) =
-        subst (λ (y : State Cell). Runs tagged w (1 + 2 * length hs) y (running (top_at t (place (n + 1 + 2 * length hs)) rest.after stack))) (begins (value_in_register (letter_of h.ty) h.slot f.registers ++ stack) stack_h)
-        (subst (λ (k : ℕ). Runs tagged w k (at_now (value_in_register (letter_of h.ty) h.slot f.registers ++ stack)) (running (top_at t (place (n + 1 + 2 * length hs)) rest.after stack))) next_count (then first rest.runs)) in
+        subst (λ (y : State Cell). Runs tagged w (1 + 2 * length hs) y (running (top_at t (place (n + 1 + 2 * length hs)) rest.after stack)))
+        (begins (value_in_register (letter_of h.ty) h.slot f.registers ++ stack) stack_h)
+        (subst
+        (λ (k : ℕ). Runs tagged w k (at_now (value_in_register (letter_of h.ty) h.slot f.registers ++ stack))
+        (running (top_at t (place (n + 1 + 2 * length hs)) rest.after stack))) next_count (then first rest.runs)) in
         record {
           registers = rest.after;
           runs = subst (λ (k : ℕ). Runs tagged w k t (running (top_at t (place (n + suc (length (insns (flat_map (copy s h) hs))))) rest.after stack))) whole
               (subst (λ (k : ℕ). Runs tagged w (1 + 2 * length hs) t (running (top_at t (place k) rest.after stack))) last all);
           count = rest.many ∙ same;
           values = subst (Each (HoldsValue s f.registers (record g { registers = rest.after }))) (sym some) (
-            held-as s f.registers (record { method = g.method; place = 0; registers = rest.after; stack = stack }) (record g { registers = rest.after }) h refl (rest.keeps h own_h.2 written),
+            held-as s f.registers (record { method = g.method; place = 0; registers = rest.after; stack = stack }) (record g { registers = rest.after }) h
+                refl (rest.keeps h own_h.2 written),
             each-among (HoldsValue s f.registers (record g { registers = rest.after })) hs
-                (λ k a. held-as s f.registers (record { method = g.method; place = 0; registers = rest.after; stack = stack }) (record g { registers = rest.after }) k refl
+                (λ k a. held-as s f.registers (record { method = g.method; place = 0; registers = rest.after; stack = stack })
+                (record g { registers = rest.after }) k refl
                 (among-each (HoldsValue s f.registers (record { method = g.method; place = 0; registers = rest.after; stack = stack })) hs k rest.holds a)),
           );
           others = λ a has held.
-              held-as s f.registers (record { method = g.method; place = 0; registers = rest.after; stack = stack }) (record g { registers = rest.after }) a refl
-              (rest.keeps a has (kept a h inside_h (held-as s f.registers g (record { method = g.method; place = 0; registers = g.registers; stack = stack }) a refl held)
+              held-as s f.registers (record { method = g.method; place = 0; registers = rest.after; stack = stack }) (record g { registers = rest.after }) a
+              refl
+              (rest.keeps a has
+              (kept a h inside_h (held-as s f.registers g (record { method = g.method; place = 0; registers = g.registers; stack = stack }) a refl held)
               (own v w l s is plan a h has own_h.2) written));
         }
       where
@@ -424,18 +464,27 @@ module _ (v w : Linked) (l : AreLaws v w) (place : ℕ → ℕ) (steps : List St
             (a h : Home) → register s h + type_width h.ty ≤ length g.registers
             → HoldsValue s f.registers (record { method = g.method; place = 0; registers = g.registers; stack = stack }) a
             → (a ≡ h) ⊎ AreApart (register s a) (type_width a.ty) (register s h) (type_width h.ty)
-            → HoldsValue s f.registers (record { method = g.method; place = 0; registers = stored (letter_of h.ty) f.registers h.slot (register s h) g.registers; stack = stack }) h
-            → HoldsValue s f.registers (record { method = g.method; place = 0; registers = stored (letter_of h.ty) f.registers h.slot (register s h) g.registers; stack = stack }) a
+            → HoldsValue s f.registers
+            (record { method = g.method; place = 0; registers = stored (letter_of h.ty) f.registers h.slot (register s h) g.registers; stack = stack })
+            h
+            → HoldsValue s f.registers
+            (record { method = g.method; place = 0; registers = stored (letter_of h.ty) f.registers h.slot (register s h) g.registers; stack = stack })
+            a
         kept a h inside held (inl same) written =
-            subst (λ (y : Home). HoldsValue s f.registers (record { method = g.method; place = 0; registers = stored (letter_of h.ty) f.registers h.slot (register s h) g.registers; stack = stack }) y) (sym same) written
+            subst
+            (λ (y : Home). HoldsValue s f.registers
+            (record { method = g.method; place = 0; registers = stored (letter_of h.ty) f.registers h.slot (register s h) g.registers; stack = stack })
+            y) (sym same) written
         kept a h inside held (inr apart) written =
             stored-apart s (record { method = g.method; place = 0; registers = g.registers; stack = stack }) h f.registers inside f.registers a apart held
 
     store-runs :
-        count ≡ length (insns (stored_items s letter (needed s q x))) → InstructionsStandFrom steps n (insns (stored_items s letter (needed s q x))) → Ended (needed s q x)
+        count ≡ length (insns (stored_items s letter (needed s q x))) → InstructionsStandFrom steps n (insns (stored_items s letter (needed s q x)))
+        → Ended (needed s q x)
     store-runs is_count stand = by (needed s q x) refl is_count stand
       where
-        by : (hs : List Home) → needed s q x ≡ hs → count ≡ length (insns (stored_items s letter hs)) → InstructionsStandFrom steps n (insns (stored_items s letter hs)) → Ended hs
+        by : (hs : List Home) → needed s q x ≡ hs → count ≡ length (insns (stored_items s letter hs))
+            → InstructionsStandFrom steps n (insns (stored_items s letter hs)) → Ended hs
         by [] e is_count stand = none-needed e is_count stand
         by (h ∷ hs) e is_count stand = some-needed h hs e is_count stand
 

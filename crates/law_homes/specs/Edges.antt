@@ -1,6 +1,7 @@
 -- Lists of moves that rewritten code takes alone: a leader's loads, the stores of a stack into homes, and the copies of an edge (Leroy
 -- 2002, section 4.1). The frame on top of the state t runs rewritten code; the frame f is that of the source beside it.
-use Rattle.std.specs.Prelude.{◌≡◌, ◌↔◌, ◌<◌, ◌≤◌, ◌+◌, ◌*◌, ◌++◌, ℕ, true, false, List, [], ◌∷◌, drop, length, map, replicate, take, IfSome, Ok, Some}
+use Rattle.std.specs.Prelude.{◌≡◌, ◌↔◌, ◌<◌, ◌≤◌, ◌+◌, ◌*◌, ◌++◌, ℕ, true, false, List, [], ◌∷◌}
+use Rattle.std.specs.Prelude.{drop, length, map, replicate, take, IfSome, Ok, Some}
 use Rattle.jc_base.specs.declared.ty.Ty.TheVariants.{Top}
 use Rattle.jc_base.specs.Each.{Each, IsAmong}
 use Rattle.jc_base.specs.World.{Linked}
@@ -126,7 +127,8 @@ pub record HoldsAfter (s : Source) (p : ℕ) (op : Operation) (q : ℕ) (f g : F
   pub stored : (x : ℕ) → is_stored op x ≡ true → Each (HoldsValue s f.registers g) (needed s q x)
   pub others :
       (x : ℕ)
-      → Each (λ h. ((k : ℕ) → k < type_width h.ty → is_stored op (h.slot + k) ≡ false) → HoldsValue s f.registers g h) (needed s p x)
+      → Each (λ h. ((k : ℕ) → k < type_width h.ty → is_stored op (h.slot + k) ≡ false) → HoldsValue s f.registers g h)
+      (needed s p x)
 
 -- where an edge begins that leads to q
 abbrev pub HoldsBefore : Source → Origin → ℕ → Frame Cell → Frame Cell → Type 0
@@ -204,7 +206,8 @@ CellsRun v w =
 -- the stack f.stack with k operands on top is stored in homes; the loads of the operands put these back
 abbrev pub OperandsLoad : Linked → Linked → Type 0
 OperandsLoad v w =
-    (place : ℕ → ℕ) (steps : List Step) (t : State Cell) (n : ℕ) (s : Source) (i : Placed) (op : Operation) (k : ℕ) (f : Frame Cell)
+    (place : ℕ → ℕ) (steps : List Step) (t : State Cell) (n : ℕ) (s : Source) (i : Placed) (op : Operation) (k : ℕ)
+    (f : Frame Cell)
     → s.world ≡ v
     → IsPlanned s
     → IsBeside w s i.place f t
@@ -222,7 +225,8 @@ OperandsLoad v w =
 -- and those of the cells under them put these back
 abbrev pub UnderLoads : Linked → Linked → Type 0
 UnderLoads v w =
-    (place : ℕ → ℕ) (steps : List Step) (t : State Cell) (n : ℕ) (s : Source) (i : Placed) (op : Operation) (k : ℕ) (f : Frame Cell)
+    (place : ℕ → ℕ) (steps : List Step) (t : State Cell) (n : ℕ) (s : Source) (i : Placed) (op : Operation) (k : ℕ)
+    (f : Frame Cell)
     → s.world ≡ v
     → IsPlanned s
     → IsBeside w s i.place f t

@@ -1,5 +1,6 @@
 -- Steps that rewritten code takes alone: a value goes from one home to another (JCVM 2.2, chapter 7, the loads and stores).
-use Rattle.std.specs.Prelude.{◌≡◌, ◌<◌, ◌≤◌, ◌+◌, ◌*◌, ◌⊎◌, ℕ, List, [], ◌∷◌, ◌++◌, length, map, flat_map, slice_get, slice_set, All, Some, IfSome, ⊤}
+use Rattle.std.specs.Prelude.{◌≡◌, ◌<◌, ◌≤◌, ◌+◌, ◌*◌, ◌⊎◌, ℕ, List, [], ◌∷◌, ◌++◌, length, map}
+use Rattle.std.specs.Prelude.{flat_map, slice_get, slice_set, All, Some, IfSome, ⊤}
 use Rattle.jc_base.specs.Cell.{IsDeclared}
 use Rattle.jc_base.specs.Class.{AreClasses}
 use Rattle.jc_base.specs.declared.ty.Ty.{Ty}
@@ -158,7 +159,8 @@ value_in_register _ r registers = nth tagged registers r ∷ []
 -- a stack on which the values of homes were loaded, one after the other
 abbrev pub loaded_stack : Source → List Cell → List Home → List Cell → List Cell
 loaded_stack s registers [] stack = stack
-loaded_stack s registers (h ∷ hs) stack = loaded_stack s registers hs (value_in_register (letter_of h.ty) (register s h) registers ++ stack)
+loaded_stack s registers (h ∷ hs) stack =
+    loaded_stack s registers hs (value_in_register (letter_of h.ty) (register s h) registers ++ stack)
 
 -- loads of homes run one after the other, each in a step
 abbrev pub LoadsRun : Linked → Type 0

@@ -32,21 +32,23 @@ pub record HasLocal (w : Linked) (t : State Cell) (letter : Sort) (x : ℕ) (f :
   pub filled : AreFilled letter x f.registers
 
 -- after the moves: the local stands in all homes that are needed at q, and every value that is as before in that in which it stood
-pub record IsInHomes (w : Linked) (s : Source) (q x : ℕ) (f : Frame Cell) (t : State Cell) (stack : List Cell) (n last : ℕ) : Type 0 where
-  pub registers : List Cell
-  pub runs : Runs tagged w n t (running (top_at t last registers stack))
-  pub count : length registers ≡ length (top t).registers
-  pub values : Each (HoldsValue s f.registers (record (top t) { registers = registers })) (needed s q x)
-  pub others :
-      (h : Home)
-      → HasRegister s.homes h
-      → HoldsValue s f.registers (top t) h
-      → HoldsValue s f.registers (record (top t) { registers = registers }) h
+pub record IsInHomes (w : Linked) (s : Source) (q x : ℕ) (f : Frame Cell) (t : State Cell) (stack : List Cell) (n last : ℕ) : Type 0
+  where
+    pub registers : List Cell
+    pub runs : Runs tagged w n t (running (top_at t last registers stack))
+    pub count : length registers ≡ length (top t).registers
+    pub values : Each (HoldsValue s f.registers (record (top t) { registers = registers })) (needed s q x)
+    pub others :
+        (h : Home)
+        → HasRegister s.homes h
+        → HoldsValue s f.registers (top t) h
+        → HoldsValue s f.registers (record (top t) { registers = registers }) h
 
 -- the frame f is the source's after its store, at the place q; its value lies on the stack of t
 abbrev pub StoresRun : Linked → Linked → Type 0
 StoresRun v w =
-    (place : ℕ → ℕ) (steps : List Step) (t : State Cell) (n : ℕ) (s : Source) (letter : Sort) (q x : ℕ) (f : Frame Cell) (stack : List Cell)
+    (place : ℕ → ℕ) (steps : List Step) (t : State Cell) (n : ℕ) (s : Source) (letter : Sort) (q x : ℕ) (f : Frame Cell)
+    (stack : List Cell)
     → s.world ≡ v
     → IsPlanned s
     → IsBeside w s q f t

@@ -1,5 +1,6 @@
 -- Instructions that are the same in one of their forms resolve alike, fall through alike and jump alike.
-use Rattle.std.proofs.Common.{◌≡◌, ◌≢◌, ℕ, ◌<◌, ◌==◌, Bool, true, false, cond, if◌then◌else◌, ℤ, pos, List, [], ◌∷◌, map, get_or, set, Option, Some, None, IfSome, Result, Ok, Err, refl, sym, ◌∙◌, ap, subst, arith}
+use Rattle.std.proofs.Common.{◌≡◌, ◌≢◌, ℕ, ◌<◌, ◌==◌, Bool, true, false, cond, if◌then◌else◌, ℤ, pos, List, [], ◌∷◌, map}
+use Rattle.std.proofs.Common.{get_or, set, Option, Some, None, IfSome, Result, Ok, Err, refl, sym, ◌∙◌, ap, subst, arith}
 use Rattle.std.specs.Prelude.{◌||◌, nat_le, find}
 use Rattle.std.specs.List.{list_all, range_with_len}
 use Rattle.std.proofs.lemmas.Bool.{eqb-true, and_parts}
@@ -30,7 +31,8 @@ use Rattle.law_laid.proofs.Operations.{operation_renamed}
 
 -- ---- opcodes that are no byte
 
-past-span : (op : ℕ) → 255 < op → (s : Span) (rest : Option Span) (a b : Bool) → nat_le s.last 255 ≡ a → is_in_span op s ≡ b → rest ≡ None → a ≡ true → cond b (Some s) rest ≡ None
+past-span : (op : ℕ) → 255 < op → (s : Span) (rest : Option Span) (a b : Bool) → nat_le s.last 255 ≡ a → is_in_span op s ≡ b → rest ≡ None
+    → a ≡ true → cond b (Some s) rest ≡ None
 past-span op lt s rest true false x y r e = r
 past-span op lt s rest false b x y r e = absurd (cc)
 past-span op lt s rest true true x y r e = absurd (grind (arith, nat_tests, lt, x, y))
@@ -67,7 +69,8 @@ past-form i lt =
     let b : is_store_n i.op ≡ false = grind (arith, nat_tests, lt) in
     neither (is_load_n i.op) (is_store_n i.op) _ _ i a b
 
-plain-essence : (i j : Insn) (b : Bool) → b ≡ false → j ≡ i → (if b then record i { op = wide i.op; x = pos 0; len = 0 } else record j { len = 0 }) ≡ record i { len = 0 }
+plain-essence : (i j : Insn) (b : Bool) → b ≡ false → j ≡ i
+    → (if b then record i { op = wide i.op; x = pos 0; len = 0 } else record j { len = 0 }) ≡ record i { len = 0 }
 plain-essence i j true x y = absurd (cc)
 plain-essence i j false x y = subst (λ (k : Insn). record k { len = 0 } ≡ record i { len = 0 }) (sym y) refl
 
@@ -134,7 +137,8 @@ module _ (w : Linked) (m : MethodRec) where
 
   result-form : (place : ℕ) (i : Insn) → result place (essence i) ≡ result place i
   result-form place i = by-size i.op
-      (λ lt. at-op (λ op. result place (essence (insn i.x i.y i.z i.len op))) (λ op. result place (insn i.x i.y i.z i.len op)) (table-forms i.x i.y i.z i.len w m place) i.op lt (result place i))
+      (λ lt. at-op (λ op. result place (essence (insn i.x i.y i.z i.len op))) (λ op. result place (insn i.x i.y i.z i.len op))
+      (table-forms i.x i.y i.z i.len w m place) i.op lt (result place i))
       (λ lt. ap (λ j. result place j) (past-essence i lt)
       ∙ ap (λ row. resolved w m place (record i { len = 0 }) row) (past-row i.op lt)
       ∙ unused-alike place (record i { len = 0 }) i
@@ -173,10 +177,12 @@ module _ (w : Linked) (m : MethodRec) where
   at-new : (i : Insn) (place : ℕ) → i.op ≡ 143 → result place i ≡ new_object w place (short_of i.x) (member_at w m.package (short_of i.x))
   at-new i place e = ap (λ op. resolved w m place i (row_at op)) e ∙ new-row i place
 
-  made-renamed : (f : ℕ → ℕ) (place pool : ℕ) (o : Option Member) (op : Operation) → Ok op ≡ new_object w place pool o → Ok (operation_renamed f op) ≡ new_object w (f place) pool o
+  made-renamed : (f : ℕ → ℕ) (place pool : ℕ) (o : Option Member) (op : Operation) → Ok op ≡ new_object w place pool o
+      → Ok (operation_renamed f op) ≡ new_object w (f place) pool o
   made-renamed f place pool (Some (ClassOf c)) op e = by (is_concrete w.classes w.methods c) e
     where
-      by : (b : Bool) → Ok op ≡ (if b then Ok (ops.New place c) else Err (NotConcrete c)) → Ok (operation_renamed f op) ≡ (if b then Ok (ops.New (f place) c) else Err (NotConcrete c))
+      by : (b : Bool) → Ok op ≡ (if b then Ok (ops.New place c) else Err (NotConcrete c))
+          → Ok (operation_renamed f op) ≡ (if b then Ok (ops.New (f place) c) else Err (NotConcrete c))
       by true e = let is : op ≡ ops.New place c = cc in ap (λ x. Ok (operation_renamed f x)) is
       by false e = absurd (cc)
   made-renamed f place pool _ op e = absurd (cc)
@@ -188,7 +194,8 @@ module _ (w : Linked) (m : MethodRec) where
 
   module _ (sound : OperationsAreSound w) (declared : IfSome m.sig.result (IsDeclared w.classes)) where
     -- at another place of it an instruction has the operation that makes its objects there
-    moved : (f : ℕ → ℕ) (place : ℕ) (i : Insn) (op : Operation) → Resolves w m place i (Ok op) → Resolves w m (f place) i (Ok (operation_renamed f op))
+    moved : (f : ℕ → ℕ) (place : ℕ) (i : Insn) (op : Operation) → Resolves w m place i (Ok op)
+        → Resolves w m (f place) i (Ok (operation_renamed f op))
     moved f place i op e = by (i.op == 143) refl
       where
         by : (b : Bool) → (i.op == 143) ≡ b → Resolves w m (f place) i (Ok (operation_renamed f op))
@@ -197,9 +204,11 @@ module _ (w : Linked) (m : MethodRec) where
             made-renamed f place (short_of i.x) (member_at w m.package (short_of i.x)) op (e ∙ at-new i place new) ∙ sym (at-new i (f place) new)
         by false is =
             let other : i.op ≢ 143 = λ x. grind (arith, nat_tests, is, x) in
-            ap (λ x. Ok x) (no-new f op (sound m 0 i op declared (e ∙ elsewhere i place 0 other)) (sound m 1 i op declared (e ∙ elsewhere i place 1 other)))
+            ap (λ x. Ok x)
+            (no-new f op (sound m 0 i op declared (e ∙ elsewhere i place 0 other)) (sound m 1 i op declared (e ∙ elsewhere i place 1 other)))
             ∙ e ∙ elsewhere i place (f place) other
 
     -- and so has the same instruction in another of its forms
-    pub resolves-renamed : (f : ℕ → ℕ) (place : ℕ) (i j : Insn) (op : Operation) → essence i ≡ essence j → Resolves w m place j (Ok op) → Resolves w m (f place) i (Ok (operation_renamed f op))
+    pub resolves-renamed : (f : ℕ → ℕ) (place : ℕ) (i j : Insn) (op : Operation) → essence i ≡ essence j → Resolves w m place j (Ok op)
+        → Resolves w m (f place) i (Ok (operation_renamed f op))
     resolves-renamed f place i j op alike e = moved f place j op e ∙ sym (result-alike (f place) i j alike)

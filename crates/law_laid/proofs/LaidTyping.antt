@@ -1,5 +1,6 @@
 -- Laid code has the card typing of its symbols.
-use Rattle.std.proofs.Common.{◌≡◌, ℕ, suc, ◌+◌, ◌-◌, ◌<◌, ◌≤◌, Bool, true, false, if◌then◌else◌, List, [], length, map, Option, Some, None, IsSomeAnd, IfSome, Ok, slice_get, All, Contains, inl, inr, refl, sym, ◌∙◌, ap, subst, arith}
+use Rattle.std.proofs.Common.{◌≡◌, ℕ, suc, ◌+◌, ◌-◌, ◌<◌, ◌≤◌, Bool, true, false, if◌then◌else◌, List, [], length, map, Option}
+use Rattle.std.proofs.Common.{Some, None, IsSomeAnd, IfSome, Ok, slice_get, All, Contains, inl, inr, refl, sym, ◌∙◌, ap, subst, arith}
 use Rattle.std.specs.Prelude.{ℤ, pos, nat_le}
 use Rattle.std.proofs.lemmas.Bool.Decides.{nat_tests}
 use Rattle.std.proofs.lemmas.List.{length-map}
@@ -41,7 +42,8 @@ use Rattle.law_laid.specs.Laws.{LaidIsTyped}
 use Rattle.law_laid.proofs.Forms.{falls-form, jumps-form, resolves-renamed}
 use Rattle.law_laid.proofs.Operations.{operation_renamed, operation-renamed}
 use Rattle.law_laid.proofs.Renaming.{frame_renamed, cells-renamed, regs-stay}
-use Rattle.law_laid.proofs.Steps.{at-contains, all-contained, contains-map, Preimage, preimage, rises-from, one-to-one, number_of, number-is, IsLaidAt, step-at, same-count, end-is}
+use Rattle.law_laid.proofs.Steps.{at-contains, all-contained, contains-map, Preimage, preimage, rises-from, one-to-one, number_of, number-is, IsLaidAt, step-at}
+use Rattle.law_laid.proofs.Steps.{same-count, end-is}
 
 -- ---- places, and as many numbers beyond the end
 
@@ -64,7 +66,8 @@ onward-beyond place count n lt = by (nat_le n count) refl
     by true e = absurd (grind (arith, nat_tests, lt, e))
     by false e = refl
 
-onward-rises : (place : ℕ → ℕ) (count : ℕ) → ((n : ℕ) → n < count → place n < place (suc n)) → (n : ℕ) → onward place count n < onward place count (suc n)
+onward-rises : (place : ℕ → ℕ) (count : ℕ) → ((n : ℕ) → n < count → place n < place (suc n)) → (n : ℕ)
+    → onward place count n < onward place count (suc n)
 onward-rises place count rises n = by (nat_le (suc n) count) (nat_le n count) refl refl
   where
     by : (a b : Bool) → nat_le (suc n) count ≡ a → nat_le n count ≡ b → onward place count n < onward place count (suc n)
@@ -212,7 +215,9 @@ module _
 
     place-handlers : m.rec.handlers ≡ map by_places symbols.ranges
     unfolding by_places
-    place-handlers = has.handlers ∙ ap (map (catching r.handlers)) stand.handlers ∙ map-map (catching r.handlers) (handler (λ l. place (place_of l symbols.items))) symbols.ranges
+    place-handlers =
+        has.handlers ∙ ap (map (catching r.handlers)) stand.handlers ∙ map-map (catching r.handlers) (handler (λ l. place (place_of l symbols.items)))
+        symbols.ranges
 
     -- a range is a handler of the method, and of the symbols
     record IsRangeOf (h : Handler) : Type 0 where
@@ -239,7 +244,9 @@ module _
 
     entry-alike : (range : Range) → Contains symbols.ranges range → (by_places range).entry ≡ f (by_steps range).entry
     unfolding by_steps by_places
-    entry-alike range c = let lt : place_of range.entry symbols.items < count = (in-steps range c).entry in sym (within (place_of range.entry symbols.items) (omega (arith, lt)))
+    entry-alike range c =
+        let lt : place_of range.entry symbols.items < count = (in-steps range c).entry in
+        sym (within (place_of range.entry symbols.items) (omega (arith, lt)))
 
     handler-formed : (range : Range) → Contains symbols.ranges range → IsHandlerOf m.code (by_places range)
     unfolding by_steps by_places
@@ -381,8 +388,11 @@ module _
     target-empty : (q : ℕ) → IsTargetAmong (HasInstruction m.code) (targets m.code) q → ¬ (IsEntryAmong m.rec.handlers q) × (laid_stacks q ≡ [])
     target-empty q t =
         let x = step-target q t in
-        let e = ty.targets x.step_place x.target in
-        (λ entry. e.0 (entry-back x.step_place (subst (IsEntryAmong m.rec.handlers) x.at entry)), ap laid_stacks x.at ∙ none_at x.step_place (omega (arith, x.inside)) e.1)
+        let e = ty.targets x.step_place x.target in (
+          λ entry. e.0 (entry-back x.step_place (subst (IsEntryAmong m.rec.handlers) x.at entry)),
+          ap laid_stacks x.at
+              ∙ none_at x.step_place (omega (arith, x.inside)) e.1,
+        )
 
     -- ---- instructions
 
@@ -405,7 +415,8 @@ module _
         let b : ren (stacks x.number) ≡ laid_stacks i.place = sym (stack-at x.number (omega (arith, x.inside))) ∙ ap laid_stacks (sym x.begins) in
         ap (λ (rs : List Ty). record { regs = rs; stack = ren (stacks x.number) }) a ∙ ap (λ (xs : List Ty). record { regs = regs; stack = xs }) b
 
-    rule-there : (i : Placed) (x : IsStepOf i) (after : Frame) (o : Outcome) → RuleApplies w from x.number x.step.insn Flow (frame_at regs stacks x.number) after o
+    rule-there : (i : Placed) (x : IsStepOf i) (after : Frame) (o : Outcome)
+        → RuleApplies w from x.number x.step.insn Flow (frame_at regs stacks x.number) after o
         → RuleApplies w m.rec i.place i.insn Flow (frame_at regs laid_stacks i.place) (frame_renamed f after) o
     rule-there i x after o rule =
         let op = operation_renamed f rule.operation in
@@ -463,7 +474,9 @@ module _
     well-formed = record {
       ends = listing-whole;
       targets = targets-formed;
-      handlers = all-contained (IsHandlerOf m.code) m.rec.handlers (λ h c. let x = range-of h c in subst (IsHandlerOf m.code) (sym x.laid_as) (handler-formed x.range x.ranged));
+      handlers =
+          all-contained (IsHandlerOf m.code) m.rec.handlers
+          (λ h c. let x = range-of h c in subst (IsHandlerOf m.code) (sym x.laid_as) (handler-formed x.range x.ranged));
     }
 
     start-same : (start_frame from Bottom).regs ≡ (start_frame m.rec Bottom).regs
@@ -487,7 +500,11 @@ module _
       types = ty.types;
       ready = ty.ready;
       declared = subst (λ xs. CellsBelow w.classes xs regs) start-same ty.declared;
-      start = (λ e. ty.start.0 (entry-back 0 (subst (IsEntryAmong m.rec.handlers) (sym first) e)), ap laid_stacks (sym first) ∙ none_at 0 (omega arith) ty.start.1);
+      start = (
+        λ e. ty.start.0 (entry-back 0 (subst (IsEntryAmong m.rec.handlers) (sym first) e)),
+        ap laid_stacks (sym first)
+            ∙ none_at 0 (omega arith) ty.start.1,
+      );
       entries = entered;
       targets = target-empty;
       room = room-there;

@@ -1,6 +1,7 @@
 -- An operation that applies to a frame applies where the places of uninitialised objects are renamed one to one, that of its own `new`
 -- too.
-use Rattle.std.proofs.Common.{◌≡◌, ℕ, suc, ◌+◌, true, List, [], ◌∷◌, ◌++◌, length, map, reverse, Option, Some, None, IfSome, slice_get, All, refl, sym, ◌∙◌, ap, subst, arith}
+use Rattle.std.proofs.Common.{◌≡◌, ℕ, suc, ◌+◌, true, List, [], ◌∷◌, ◌++◌, length, map, reverse, Option, Some, None, IfSome, slice_get}
+use Rattle.std.proofs.Common.{All, refl, sym, ◌∙◌, ap, subst, arith}
 use Rattle.std.specs.Prelude.{◌&&◌}
 use Rattle.std.specs.List.{list_all}
 use Rattle.std.proofs.lemmas.List.{map-set, length-map}
@@ -44,10 +45,12 @@ use Rattle.jc_rules.specs.declared.effect.Mode.TheVariants.{Flow}
 use Rattle.jc_rules.specs.declared.rule.Outcome.{Outcome}
 use Rattle.jc_rules.specs.Effect.{changed, reg, WritesRegister, WritesCells, StoresInRegisters}
 use Rattle.jc_rules.specs.Demand.{Frame, SatisfiesAll}
-use Rattle.jc_rules.specs.Rule.{cell, or_null, element, value_given, value_wanted, value_size, cells_wanted, receiver_wanted, call_demands, result_given, ready_with, call_effect, args_at, result_at, seen, demands, effect, wrote}
+use Rattle.jc_rules.specs.Rule.{cell, or_null, element, value_given, value_wanted, value_size, cells_wanted, receiver_wanted, call_demands, result_given}
+use Rattle.jc_rules.specs.Rule.{ready_with, call_effect, args_at, result_at, seen, demands, effect, wrote}
 use Rattle.jc_rules.specs.Apply.{OperationApplies}
 use Rattle.law_laid.specs.Laid.{renamed}
-use Rattle.law_laid.proofs.Renaming.{is_ready, ready_demand, are_ready, frame_renamed, given_renamed, effect_renamed, change_renamed, ready-stays, all-renamed, changed-renamed}
+use Rattle.law_laid.proofs.Renaming.{is_ready, ready_demand, are_ready, frame_renamed, given_renamed, effect_renamed, change_renamed, ready-stays, all-renamed}
+use Rattle.law_laid.proofs.Renaming.{changed-renamed}
 
 -- ---- what is asked names no uninitialised object
 
@@ -84,7 +87,8 @@ cells-ready t n (ty ∷ tys) all =
     ∙ cells-ready t (n + 1) tys (λ k d lt. all (suc k) d (omega (arith, lt)))
 
 module _ (w : Linked) where
-  receiver-ready : (m : MethodRec) (n k : ℕ) (receiver : Option Want) (choice : Choice) → IsChosen w k m receiver choice → are_ready (receiver_wanted n receiver) ≡ true
+  receiver-ready : (m : MethodRec) (n k : ℕ) (receiver : Option Want) (choice : Choice) → IsChosen w k m receiver choice
+      → are_ready (receiver_wanted n receiver) ≡ true
   receiver-ready m n k receiver (choices.Virtual c token) h = ap (λ r. are_ready (receiver_wanted n r)) h.receiver_is
   receiver-ready m n k receiver choices.Static h = ap (λ r. are_ready (receiver_wanted n r)) h.receiver_is
   receiver-ready m n k receiver (choices.Interface c token words) h = ap (λ r. are_ready (receiver_wanted n r)) h.receiver_is
@@ -152,7 +156,8 @@ module _ (w : Linked) where
     demands-ready m place (ops.FieldRead field holders.Stack) h = refl
     demands-ready m place (ops.FieldRead field holders.This) h = refl
     demands-ready m place (ops.FieldWrite field holders.Stack) h =
-        both-ready (value_wanted field.ty) (Cell (value_size field.ty) (Value (Class field.class)) ∷ []) (value-ready field.ty (declared-ready w.classes field.ty h.ty)) refl
+        both-ready (value_wanted field.ty) (Cell (value_size field.ty) (Value (Class field.class)) ∷ [])
+        (value-ready field.ty (declared-ready w.classes field.ty h.ty)) refl
     demands-ready m place (ops.FieldWrite field holders.This) h =
         both-ready (value_wanted field.ty) (Held 0 (Class field.class) ∷ []) (value-ready field.ty (declared-ready w.classes field.ty h.ty)) refl
     demands-ready m place (ops.Call c) h = call-ready c h
@@ -186,7 +191,8 @@ module _ (f : ℕ → ℕ) where
   cell-alike : (xs : List Ty) (n : ℕ) → cell (map (renamed f) xs) n ≡ renamed f (cell xs n)
   cell-alike xs n = get_or-map (renamed f) xs n Top
 
-  ready-with-alike : (taken : ℕ) (cells : Cells) (ty : Ty) (want : Want) → given_renamed f cells ≡ cells → ready_with taken cells (renamed f ty) want ≡ change_renamed f (ready_with taken cells ty want)
+  ready-with-alike : (taken : ℕ) (cells : Cells) (ty : Ty) (want : Want) → given_renamed f cells ≡ cells
+      → ready_with taken cells (renamed f ty) want ≡ change_renamed f (ready_with taken cells ty want)
   ready-with-alike taken cells (Fresh p c) (Receiver d) e = ap (λ x. MakeReady taken (f p) d x) (sym e)
   ready-with-alike taken cells (Fresh p c) _ e = ap (λ x. Replace taken x) (sym e)
   ready-with-alike taken cells _ _ e = ap (λ x. Replace taken x) (sym e)
@@ -194,27 +200,32 @@ module _ (f : ℕ → ℕ) where
   on_change : Change → Effect
   on_change change = record { change = change; store = record { register = 0; cells = given.Nothing } }
 
-  call-alike : (args : List Ty) (result : Option Ty) (receiver : Option Want) (g : Frame) → given_renamed f (result_given result) ≡ result_given result → call_effect args result receiver (frame_renamed f g) ≡ effect_renamed f (call_effect args result receiver g)
+  call-alike : (args : List Ty) (result : Option Ty) (receiver : Option Want) (g : Frame) → given_renamed f (result_given result) ≡ result_given result
+      → call_effect args result receiver (frame_renamed f g) ≡ effect_renamed f (call_effect args result receiver g)
   call-alike args result None g e = ap (λ x. record { change = Replace (length args) x; store = record { register = 0; cells = given.Nothing } }) (sym e)
   call-alike args result (Some want) g e =
       ap (λ x. record { change = x; store = record { register = 0; cells = given.Nothing } })
-      (ap (λ ty. ready_with (length args + 1) (result_given result) ty want) (cell-alike g.stack (length args)) ∙ ready-with-alike (length args + 1) (result_given result) (cell g.stack (length args)) want e)
+      (ap (λ ty. ready_with (length args + 1) (result_given result) ty want) (cell-alike g.stack (length args))
+      ∙ ready-with-alike (length args + 1) (result_given result) (cell g.stack (length args)) want e)
 
   result-stays : (t : ClassTable) (result : Option Ty) → IfSome result (IsDeclared t) → given_renamed f (result_given result) ≡ result_given result
   result-stays t None h = refl
   result-stays t (Some ty) h = given-stays ty (declared-ready t ty h)
 
   module _ (w : Linked) (is : IsWorld w) where
-    effect-alike : (m : MethodRec) (place : ℕ) (op : Operation) (g : Frame) → IsSound w m place op → effect w (operation_renamed f op) (frame_renamed f g) ≡ effect_renamed f (effect w op g)
+    effect-alike : (m : MethodRec) (place : ℕ) (op : Operation) (g : Frame) → IsSound w m place op
+        → effect w (operation_renamed f op) (frame_renamed f g) ≡ effect_renamed f (effect w op g)
     effect-alike m place (ops.Constant constants.Nothing) g h = refl
     effect-alike m place (ops.Constant constants.Null) g h = refl
     effect-alike m place (ops.Constant (constants.Short n)) g h = refl
     effect-alike m place (ops.Constant (constants.Int n)) g h = refl
     effect-alike m place (ops.Load sorts.Reference x) g h =
-        ap (λ ty. record { change = Replace 0 (given.One ty); store = record { register = 0; cells = given.Nothing } }) (ap or_null (cell-alike g.regs x) ∙ null-alike (reg g.regs x))
+        ap (λ ty. record { change = Replace 0 (given.One ty); store = record { register = 0; cells = given.Nothing } })
+        (ap or_null (cell-alike g.regs x) ∙ null-alike (reg g.regs x))
     effect-alike m place (ops.Load sorts.Short x) g h = refl
     effect-alike m place (ops.Load sorts.Int x) g h = refl
-    effect-alike m place (ops.Store sorts.Reference x) g h = ap (λ ty. record { change = Replace 1 given.Nothing; store = record { register = x; cells = given.One ty } }) (cell-alike g.stack 0)
+    effect-alike m place (ops.Store sorts.Reference x) g h =
+        ap (λ ty. record { change = Replace 1 given.Nothing; store = record { register = x; cells = given.One ty } }) (cell-alike g.stack 0)
     effect-alike m place (ops.Store sorts.Short x) g h = refl
     effect-alike m place (ops.Store sorts.Int x) g h = refl
     effect-alike m place (ops.Increment widths.Short x amount) g h = refl
@@ -235,7 +246,8 @@ module _ (f : ℕ → ℕ) where
     effect-alike m place (ops.Arithmetic arithmetic.IntToShort) g h = refl
     effect-alike m place (ops.Arithmetic arithmetic.CompareInts) g h = refl
     effect-alike m place (ops.ArrayRead kinds.Ref) g h =
-        ap (λ ty. record { change = Replace 2 (given.One ty); store = record { register = 0; cells = given.Nothing } }) (ap element (cell-alike g.stack 1) ∙ element-alike (cell g.stack 1))
+        ap (λ ty. record { change = Replace 2 (given.One ty); store = record { register = 0; cells = given.Nothing } })
+        (ap element (cell-alike g.stack 1) ∙ element-alike (cell g.stack 1))
     effect-alike m place (ops.ArrayRead kinds.Byte) g h = refl
     effect-alike m place (ops.ArrayRead kinds.Short) g h = refl
     effect-alike m place (ops.ArrayRead kinds.Int) g h = refl
@@ -252,23 +264,30 @@ module _ (f : ℕ → ℕ) where
     effect-alike m place (ops.Switch widths.Short) g h = refl
     effect-alike m place (ops.Switch widths.Int) g h = refl
     effect-alike m place (ops.StaticRead field) g h =
-        ap (λ x. record { change = Replace 0 x; store = record { register = 0; cells = given.Nothing } }) (sym (given-stays field.ty (declared-ready w.classes field.ty h.ty)))
+        ap (λ x. record { change = Replace 0 x; store = record { register = 0; cells = given.Nothing } })
+        (sym (given-stays field.ty (declared-ready w.classes field.ty h.ty)))
     effect-alike m place (ops.StaticWrite field) g h = refl
     effect-alike m place (ops.FieldRead field holders.Stack) g h =
-        ap (λ x. record { change = Replace 1 x; store = record { register = 0; cells = given.Nothing } }) (sym (given-stays field.ty (declared-ready w.classes field.ty h.ty)))
+        ap (λ x. record { change = Replace 1 x; store = record { register = 0; cells = given.Nothing } })
+        (sym (given-stays field.ty (declared-ready w.classes field.ty h.ty)))
     effect-alike m place (ops.FieldRead field holders.This) g h =
-        ap (λ x. record { change = Replace 0 x; store = record { register = 0; cells = given.Nothing } }) (sym (given-stays field.ty (declared-ready w.classes field.ty h.ty)))
+        ap (λ x. record { change = Replace 0 x; store = record { register = 0; cells = given.Nothing } })
+        (sym (given-stays field.ty (declared-ready w.classes field.ty h.ty)))
     effect-alike m place (ops.FieldWrite field holders.Stack) g h = refl
     effect-alike m place (ops.FieldWrite field holders.This) g h = refl
     effect-alike m place (ops.Call c) g h =
-        subst (λ o. call_effect (args_at o) (result_at o) c.receiver (frame_renamed f g) ≡ effect_renamed f (call_effect (args_at o) (result_at o) c.receiver g)) (sym h.is_method)
+        subst
+        (λ o. call_effect (args_at o) (result_at o) c.receiver (frame_renamed f g) ≡ effect_renamed f
+        (call_effect (args_at o) (result_at o) c.receiver g)) (sym h.is_method)
         (call-alike h.rec.sig.args h.rec.sig.result c.receiver g (result-stays w.classes h.rec.sig.result (method_of w is c.method h.rec h.is_method).result))
     effect-alike m place (ops.New p c) g h = refl
     effect-alike m place (ops.NewArray ty) g h =
-        ap (λ x. record { change = Replace 1 (given.One x); store = record { register = 0; cells = given.Nothing } }) (sym (ready-stays f (seen w.classes ty) (seen-ready w.classes ty (array-ready ty h.0))))
+        ap (λ x. record { change = Replace 1 (given.One x); store = record { register = 0; cells = given.Nothing } })
+        (sym (ready-stays f (seen w.classes ty) (seen-ready w.classes ty (array-ready ty h.0))))
     effect-alike m place ops.Throw g h = refl
     effect-alike m place (ops.TypeTest tests.Cast ty) g h =
-        ap (λ x. record { change = Replace 1 (given.One x); store = record { register = 0; cells = given.Nothing } }) (sym (ready-stays f (seen w.classes ty) (seen-ready w.classes ty (named-ready w.classes ty h))))
+        ap (λ x. record { change = Replace 1 (given.One x); store = record { register = 0; cells = given.Nothing } })
+        (sym (ready-stays f (seen w.classes ty) (seen-ready w.classes ty (named-ready w.classes ty h))))
     effect-alike m place (ops.TypeTest tests.InstanceOf ty) g h = refl
     effect-alike m place (ops.Return None) g h = refl
     effect-alike m place (ops.Return (Some ty)) g h = refl
@@ -292,14 +311,16 @@ module _ (f : ℕ → ℕ) where
 
     -- ---- stores
 
-    writes-renamed : (t : ClassTable) (x : ℕ) (ty : Ty) (before after : List Ty) → WritesRegister t Flow x ty before after → WritesRegister t Flow x (renamed f ty) (map (renamed f) before) (map (renamed f) after)
+    writes-renamed : (t : ClassTable) (x : ℕ) (ty : Ty) (before after : List Ty) → WritesRegister t Flow x ty before after
+        → WritesRegister t Flow x (renamed f ty) (map (renamed f) before) (map (renamed f) after)
     writes-renamed t x ty before after h = record {
       value = renamed f h.value;
       stored = ap (renamed f) h.stored;
       after_is = ap (map (renamed f)) h.after_is ∙ map-set (renamed f) before x h.value;
     }
 
-    stores-renamed : (t : ClassTable) (x : ℕ) (cells : Cells) (before after : List Ty) → WritesCells t Flow x cells before after → WritesCells t Flow x (given_renamed f cells) (map (renamed f) before) (map (renamed f) after)
+    stores-renamed : (t : ClassTable) (x : ℕ) (cells : Cells) (before after : List Ty) → WritesCells t Flow x cells before after
+        → WritesCells t Flow x (given_renamed f cells) (map (renamed f) before) (map (renamed f) after)
     stores-renamed t x given.Nothing before after h = ap (map (renamed f)) h
     stores-renamed t x (given.One ty) before after h = writes-renamed t x ty before after h
     stores-renamed t x given.Int before after h = record {
@@ -316,11 +337,15 @@ module _ (f : ℕ → ℕ) where
     operation-renamed one m place limit op before after o sound h =
         let e = effect-alike m place op before sound in
         record {
-          asked = subst (SatisfiesAll w.classes (frame_renamed f before)) (sym (demands-alike op)) (all-renamed f w.classes before (demands w op) (demands-ready w is m place op sound) h.asked);
+          asked =
+              subst (SatisfiesAll w.classes (frame_renamed f before)) (sym (demands-alike op))
+              (all-renamed f w.classes before (demands w op) (demands-ready w is m place op sound) h.asked);
           regs =
               subst (λ x. StoresInRegisters w.classes Flow x.store (map (renamed f) before.regs) (map (renamed f) after.regs)) (sym e)
               (stores-renamed w.classes (effect w op before).store.register (effect w op before).store.cells before.regs after.regs h.regs);
-          stack = ap (map (renamed f)) h.stack ∙ sym (changed-renamed f one (effect w op before).change before.stack) ∙ ap (λ x. changed x.change (map (renamed f) before.stack)) (sym e);
+          stack =
+              ap (map (renamed f)) h.stack ∙ sym (changed-renamed f one (effect w op before).change before.stack)
+              ∙ ap (λ x. changed x.change (map (renamed f) before.stack)) (sym e);
           room = omega (arith, h.room, length-map after.stack (renamed f));
           falls = h.falls ∙ sym (falls-alike op);
           ends = h.ends ∙ sym (ends-alike op);

@@ -1,5 +1,6 @@
 -- The rule of an operation applies alike where the places of uninitialised objects are renamed one to one.
-use Rattle.std.proofs.Common.{◌≡◌, ℕ, suc, ◌+◌, ◌-◌, ◌==◌, Bool, true, false, inl, inr, ⊎_elim, if◌then◌else◌, List, [], ◌∷◌, ◌++◌, map, take, drop, Option, Some, None, option_map, IsSomeAnd, slice_get, All, refl, sym, ◌∙◌, ap, subst, arith}
+use Rattle.std.proofs.Common.{◌≡◌, ℕ, suc, ◌+◌, ◌-◌, ◌==◌, Bool, true, false, inl, inr, ⊎_elim, if◌then◌else◌, List, [], ◌∷◌}
+use Rattle.std.proofs.Common.{◌++◌, map, take, drop, Option, Some, None, option_map, IsSomeAnd, slice_get, All, refl, sym, ◌∙◌, ap, subst, arith}
 use Rattle.std.specs.List.{list_all}
 use Rattle.std.proofs.lemmas.Bool.{eqb-true, and_parts}
 use Rattle.std.proofs.lemmas.Bool.Decides.{nat_tests}
@@ -8,7 +9,8 @@ use Rattle.std.proofs.lemmas.Option.{slice_get-map}
 use Rattle.jc_base.specs.declared.ty.Ty.{Ty}
 use Rattle.jc_base.specs.declared.ty.Ty.TheVariants.{IntHigh, IntLow, Null, Class, Fresh}
 use Rattle.jc_base.specs.Class.{ClassTable}
-use Rattle.jc_base.specs.Order.{Below, same, joined, nothing, anything, null_object, null_array, subclass, array_object, array_array, IsArray, of_booleans, of_bytes, of_shorts, of_ints, of_references}
+use Rattle.jc_base.specs.Order.{Below, same, joined, nothing, anything, null_object, null_array, subclass, array_object, array_array, IsArray, of_booleans}
+use Rattle.jc_base.specs.Order.{of_bytes, of_shorts, of_ints, of_references}
 use Rattle.jc_ops.specs.declared.want.Want.{Want}
 use Rattle.jc_ops.specs.declared.want.Want.TheVariants.{Value, Storable, ByteArray, AnyArray, Whole, Receiver}
 use Rattle.jc_rules.specs.declared.demand.Demand.{Demand}
@@ -117,15 +119,18 @@ module _ (f : ℕ → ℕ) where
   high-back (Fresh p c) e = absurd (cc)
   high-back _ e = e
 
-  some-back : (half : Ty) → ((ty : Ty) → renamed f ty ≡ half → ty ≡ half) → (o : Option Ty) → option_map (renamed f) o ≡ Some half → o ≡ Some half
+  some-back : (half : Ty) → ((ty : Ty) → renamed f ty ≡ half → ty ≡ half) → (o : Option Ty) → option_map (renamed f) o ≡ Some half
+      → o ≡ Some half
   some-back half back None e = absurd (cc)
   some-back half back (Some ty) e = let inner : renamed f ty ≡ half = cc in ap (λ x. Some x) (back ty inner)
 
-  at-renamed : (t : ClassTable) (want : Want) (r : ready_want want ≡ true) (o : Option Ty) → IsSomeAnd o (Meets t want) → IsSomeAnd (option_map (renamed f) o) (Meets t want)
+  at-renamed : (t : ClassTable) (want : Want) (r : ready_want want ≡ true) (o : Option Ty) → IsSomeAnd o (Meets t want)
+      → IsSomeAnd (option_map (renamed f) o) (Meets t want)
   at-renamed t want r None h = absurd h
   at-renamed t want r (Some ty) h = meets-renamed t want ty r h
 
-  slice-renamed : (t : ClassTable) (want : Want) (r : ready_want want ≡ true) (xs : List Ty) (n : ℕ) → IsSomeAnd (slice_get xs n) (Meets t want) → IsSomeAnd (slice_get (map (renamed f) xs) n) (Meets t want)
+  slice-renamed : (t : ClassTable) (want : Want) (r : ready_want want ≡ true) (xs : List Ty) (n : ℕ) → IsSomeAnd (slice_get xs n) (Meets t want)
+      → IsSomeAnd (slice_get (map (renamed f) xs) n) (Meets t want)
   slice-renamed t want r xs n h = subst (λ o. IsSomeAnd o (Meets t want)) (sym (slice_get-map (renamed f) xs n)) (at-renamed t want r (slice_get xs n) h)
 
   splits-back : (xs : List Ty) (n : ℕ) → Splits (map (renamed f) xs) n → Splits xs n
@@ -170,7 +175,8 @@ module _ (f : ℕ → ℕ) where
     ready-alike : (place class : ℕ) (ty : Ty) → ready (f place) class (renamed f ty) ≡ renamed f (ready place class ty)
     ready-alike place class (Fresh p c) = by (p == place) (f p == f place) refl refl
       where
-        by : (a b : Bool) → (p == place) ≡ a → (f p == f place) ≡ b → (if b then Class class else Fresh (f p) c) ≡ renamed f (if a then Class class else Fresh p c)
+        by : (a b : Bool) → (p == place) ≡ a → (f p == f place) ≡ b → (if b then Class class else Fresh (f p) c)
+            ≡ renamed f (if a then Class class else Fresh p c)
         by true true x y = refl
         by false false x y = refl
         by true false x y = let e : f p ≡ f place = ap f (eqb-true p place x) in absurd (grind (arith, nat_tests, e, y))

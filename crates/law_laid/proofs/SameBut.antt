@@ -1,5 +1,6 @@
 -- What instructions mean, and what typings ask, is the same in worlds that differ in code alone.
-use Rattle.std.proofs.Common.{◌≡◌, ℕ, ◌+◌, ◌==◌, ◌&&◌, Bool, not, if◌then◌else◌, ℤ, List, [], ◌∷◌, ◌++◌, length, map, take, drop, get_or, Option, Some, None, option_map, Result, Ok, Err, slice_get, IsSomeAnd, refl, sym, ◌∙◌, ap, subst}
+use Rattle.std.proofs.Common.{◌≡◌, ℕ, ◌+◌, ◌==◌, ◌&&◌, Bool, not, if◌then◌else◌, ℤ, List, [], ◌∷◌, ◌++◌, length, map}
+use Rattle.std.proofs.Common.{take, drop, get_or, Option, Some, None, option_map, Result, Ok, Err, slice_get, IsSomeAnd, refl, sym, ◌∙◌, ap, subst}
 use Rattle.std.specs.Prelude.{nat_lt}
 use Rattle.std.proofs.Math.ListN.{get_or-map}
 use Rattle.std.specs.List.{list_all, filter, range_with_len}
@@ -25,7 +26,8 @@ use Rattle.jc_ops.specs.declared.operation.Choice.TheVariants as choices
 use Rattle.jc_ops.specs.declared.operation.Operation.{Operation}
 use Rattle.jc_ops.specs.declared.operation.Operation.TheVariants as ops
 use Rattle.jc_ops.specs.Row.{table, row_at, unused, by_sort, by_width, by_kind, first_four, by_register, literals, binaries, orders_all, branching}
-use Rattle.jc_ops.specs.Resolve.{byte_of, short_of, taken_if, on, callee_if, entry_callee, virtual_callee, own_receiver, special_callee, static_callee, is_described, passes_test, described, only, described_callee, interface_callee, new_object, resolved}
+use Rattle.jc_ops.specs.Resolve.{byte_of, short_of, taken_if, on, callee_if, entry_callee, virtual_callee, own_receiver, special_callee, static_callee}
+use Rattle.jc_ops.specs.Resolve.{is_described, passes_test, described, only, described_callee, interface_callee, new_object, resolved}
 use Rattle.jc_control.specs.Method.{Method}
 use Rattle.jc_rules.specs.declared.effect.Mode.{Mode}
 use Rattle.jc_rules.specs.declared.rule.Outcome.{Outcome}
@@ -58,7 +60,8 @@ Alike o p = option_map apart_from_code o ≡ option_map apart_from_code p
 some-alike : (a b : MethodRec) → Alike (Some a) (Some b) → apart_from_code a ≡ apart_from_code b
 some-alike a b e = cc
 
-asked-alike : {X : Type 0} (f : Option MethodRec → X) → f None ≡ f None → ((a : MethodRec) → f (Some a) ≡ f (Some (apart_from_code a))) → (o p : Option MethodRec) → Alike o p → f o ≡ f p
+asked-alike : {X : Type 0} (f : Option MethodRec → X) → f None ≡ f None → ((a : MethodRec) → f (Some a) ≡ f (Some (apart_from_code a)))
+    → (o p : Option MethodRec) → Alike o p → f o ≡ f p
 asked-alike f n s None None e = refl
 asked-alike f n s None (Some b) e = absurd (cc)
 asked-alike f n s (Some a) None e = absurd (cc)
@@ -76,7 +79,8 @@ callee-alike test receiver pool n choice t r o p e =
     (λ a. ap (λ b. taken_if b pool (record { method = n; receiver = receiver a; choice = choice })) (t a)
     ∙ ap (λ w. taken_if (test (apart_from_code a)) pool (record { method = n; receiver = w; choice = choice })) (r a)) o p e
 
-module _ (v : Linked) (infos : List (List ℕ)) (methods : List MethodRec) (indexes : List (Option (List ℕ))) (same : map apart_from_code v.methods ≡ map apart_from_code methods) where
+module _ (v : Linked) (infos : List (List ℕ)) (methods : List MethodRec) (indexes : List (Option (List ℕ)))
+    (same : map apart_from_code v.methods ≡ map apart_from_code methods) where
   abbrev other : Linked
   other = record { infos = infos; pools = v.pools; classes = v.classes; methods = methods; statics = v.statics; arrays = v.arrays; indexes = indexes }
 
@@ -91,7 +95,8 @@ module _ (v : Linked) (infos : List (List ℕ)) (methods : List MethodRec) (inde
   entry-same : (pool c token : ℕ) (o : Option ℕ) → entry_callee v pool c token o ≡ entry_callee other pool c token o
   entry-same pool c token None = refl
   entry-same pool c token (Some n) =
-      callee-alike (λ m. not (c == object v.classes && m.is_abstract)) (λ m. Some (Value (Class c))) pool n (choices.Virtual c token) (λ a. refl) (λ a. refl) (slice_get v.methods n) (slice_get methods n) (alike-at n)
+      callee-alike (λ m. not (c == object v.classes && m.is_abstract)) (λ m. Some (Value (Class c))) pool n (choices.Virtual c token) (λ a. refl)
+      (λ a. refl) (slice_get v.methods n) (slice_get methods n) (alike-at n)
 
   virtual-same : (pool : ℕ) (o : Option Member) → virtual_callee v pool o ≡ virtual_callee other pool o
   virtual-same pool (Some (Virtual c token)) = entry-same pool c token (entry_at v.classes c token)
@@ -99,44 +104,55 @@ module _ (v : Linked) (infos : List (List ℕ)) (methods : List MethodRec) (inde
 
   special-same : (pool : ℕ) (o : Option Member) → special_callee v pool o ≡ special_callee other pool o
   special-same pool (Some (Super c n)) =
-      callee-alike (λ m. not (lacks_code v.classes m)) (λ m. Some (Value (Class c))) pool n choices.Special (λ a. refl) (λ a. refl) (slice_get v.methods n) (slice_get methods n) (alike-at n)
+      callee-alike (λ m. not (lacks_code v.classes m)) (λ m. Some (Value (Class c))) pool n choices.Special (λ a. refl) (λ a. refl)
+      (slice_get v.methods n) (slice_get methods n) (alike-at n)
   special-same pool (Some (StaticCall n)) =
-      callee-alike (λ m. not m.is_static && not (lacks_code v.classes m)) (λ m. Some (own_receiver m)) pool n choices.Special (λ a. refl) (λ a. refl) (slice_get v.methods n) (slice_get methods n) (alike-at n)
+      callee-alike (λ m. not m.is_static && not (lacks_code v.classes m)) (λ m. Some (own_receiver m)) pool n choices.Special (λ a. refl) (λ a. refl)
+      (slice_get v.methods n) (slice_get methods n) (alike-at n)
   special-same pool _ = refl
 
   static-same : (pool : ℕ) (o : Option Member) → static_callee v pool o ≡ static_callee other pool o
   static-same pool (Some (StaticCall n)) =
-      callee-alike (λ m. m.is_static && not m.is_init && not (lacks_code v.classes m)) (λ m. None) pool n choices.Static (λ a. refl) (λ a. refl) (slice_get v.methods n) (slice_get methods n) (alike-at n)
+      callee-alike (λ m. m.is_static && not m.is_init && not (lacks_code v.classes m)) (λ m. None) pool n choices.Static (λ a. refl) (λ a. refl)
+      (slice_get v.methods n) (slice_get methods n) (alike-at n)
   static-same pool _ = refl
 
   described-same : (c token : ℕ) → described v.methods c token ≡ described methods c token
   unfolding described
   described-same c token =
       filter-alike (λ n. passes_test (is_described c token) (slice_get v.methods n)) (λ n. passes_test (is_described c token) (slice_get methods n))
-      (λ n. asked-alike (passes_test (is_described c token)) refl (λ a. refl) (slice_get v.methods n) (slice_get methods n) (alike-at n)) (range_with_len 0 (length v.methods))
+      (λ n. asked-alike (passes_test (is_described c token)) refl (λ a. refl) (slice_get v.methods n) (slice_get methods n) (alike-at n))
+      (range_with_len 0 (length v.methods))
       ∙ ap (λ k. filter (λ n. passes_test (is_described c token) (slice_get methods n)) (range_with_len 0 k)) same-count
 
   found-same : (pool nargs c token : ℕ) (o : Option ℕ) → described_callee v pool nargs c token o ≡ described_callee other pool nargs c token o
   found-same pool nargs c token None = refl
   found-same pool nargs c token (Some n) =
-      callee-alike (λ m. nargs == length m.sig.args + 1) (λ m. Some (Value (Class (object v.classes)))) pool n (choices.Interface c token nargs) (λ a. refl) (λ a. refl) (slice_get v.methods n) (slice_get methods n) (alike-at n)
+      callee-alike (λ m. nargs == length m.sig.args + 1) (λ m. Some (Value (Class (object v.classes)))) pool n (choices.Interface c token nargs)
+      (λ a. refl) (λ a. refl) (slice_get v.methods n) (slice_get methods n) (alike-at n)
 
   interface-same : (pool nargs token : ℕ) (o : Option Member) → interface_callee v pool nargs token o ≡ interface_callee other pool nargs token o
   interface-same pool nargs token (Some (ClassOf c)) =
       ap (λ r. if is_interface v.classes c then r else Err (BadMember pool))
-      (found-same pool nargs c token (only (described v.methods c token)) ∙ ap (λ ns. described_callee other pool nargs c token (only ns)) (described-same c token))
+      (found-same pool nargs c token (only (described v.methods c token)) ∙ ap (λ ns. described_callee other pool nargs c token (only ns))
+      (described-same c token))
   interface-same pool nargs token _ = refl
 
   bodies-same : (ns : List ℕ) → all_have_bodies v.methods ns ≡ all_have_bodies methods ns
-  bodies-same ns = list_all-alike (has_body v.methods) (has_body methods) (λ n. asked-alike has_body_in refl (λ a. refl) (slice_get v.methods n) (slice_get methods n) (alike-at n)) ns
+  bodies-same ns =
+      list_all-alike (has_body v.methods) (has_body methods)
+      (λ n. asked-alike has_body_in refl (λ a. refl) (slice_get v.methods n) (slice_get methods n) (alike-at n)) ns
 
   concrete-same : (c : ℕ) → is_concrete v.classes v.methods c ≡ is_concrete v.classes methods c
   unfolding is_concrete
   concrete-same c =
       let t = v.classes in
       let a = bodies-same (public_of t c) in
-      let b = list_all-alike (λ a. all_have_bodies v.methods (visible_in t (package_of t a) c)) (λ a. all_have_bodies methods (visible_in t (package_of t a) c)) (λ a. bodies-same (visible_in t (package_of t a) c)) (chain t c) in
-      ap (λ x. nat_lt c (length t.records) && (not (is_interface t c) && (x && list_all (λ a. all_have_bodies v.methods (visible_in t (package_of t a) c)) (chain t c)))) a
+      let b = list_all-alike (λ a. all_have_bodies v.methods (visible_in t (package_of t a) c))
+      (λ a. all_have_bodies methods (visible_in t (package_of t a) c)) (λ a. bodies-same (visible_in t (package_of t a) c)) (chain t c) in
+      ap
+      (λ x. nat_lt c (length t.records) &&
+      (not (is_interface t c) && (x && list_all (λ a. all_have_bodies v.methods (visible_in t (package_of t a) c)) (chain t c)))) a
       ∙ ap (λ x. nat_lt c (length t.records) && (not (is_interface t c) && (all_have_bodies methods (public_of t c) && x))) b
 
   new-same : (place pool : ℕ) (o : Option Member) → new_object v place pool o ≡ new_object other place pool o
@@ -148,7 +164,8 @@ module _ (v : Linked) (infos : List (List ℕ)) (methods : List MethodRec) (inde
     member x = member_at v m.package (short_of x)
 
     -- the results of all opcodes, of which these five name a method or the methods of a class
-    abbrev results : Result Operation RuleFault → Result Operation RuleFault → Result Operation RuleFault → Result Operation RuleFault → Result Operation RuleFault → List (Result Operation RuleFault)
+    abbrev results : Result Operation RuleFault → Result Operation RuleFault → Result Operation RuleFault → Result Operation RuleFault
+        → Result Operation RuleFault → List (Result Operation RuleFault)
     results a b c d e =
         let all = map (λ row. resolved v m place i row) table in
         take 139 all ++ (a ∷ b ∷ c ∷ d ∷ e ∷ drop 144 all)
@@ -209,7 +226,8 @@ module _ (v : Linked) (infos : List (List ℕ)) (methods : List MethodRec) (inde
       ∙ ap (λ r. call_effect (args_at (slice_get methods c.method)) r c.receiver f) (result-same c.method)
   effect-same _ f = refl
 
-  operation-kept : (limit : ℕ) (op : Operation) (mode : Mode) (f g : Frame) (o : Outcome) → OperationApplies v limit op mode f g o → OperationApplies other limit op mode f g o
+  operation-kept : (limit : ℕ) (op : Operation) (mode : Mode) (f g : Frame) (o : Outcome) → OperationApplies v limit op mode f g o
+      → OperationApplies other limit op mode f g o
   operation-kept limit op mode f g o a =
       let e = effect-same op f in
       record {
@@ -224,7 +242,8 @@ module _ (v : Linked) (infos : List (List ℕ)) (methods : List MethodRec) (inde
         rose_is = a.rose_is ∙ ap (λ x. raises_register v.classes mode x.store f.regs) e;
       }
 
-  rule-kept : (m : MethodRec) (place : ℕ) (i : Insn) (mode : Mode) (f g : Frame) (o : Outcome) → RuleApplies v m place i mode f g o → RuleApplies other m place i mode f g o
+  rule-kept : (m : MethodRec) (place : ℕ) (i : Insn) (mode : Mode) (f g : Frame) (o : Outcome) → RuleApplies v m place i mode f g o
+      → RuleApplies other m place i mode f g o
   rule-kept m place i mode f g o a = record {
     operation = a.operation;
     resolves = a.resolves ∙ resolved-same m place i;
@@ -256,7 +275,8 @@ module _ (v : Linked) (infos : List (List ℕ)) (methods : List MethodRec) (inde
     typed = λ i there. typed-kept s regs stacks i (t.typed i there);
   }
 
-  followed-kept : (m : Method) (frames : ℕ → Option Frame) (i : Placed) (o : Option Frame) → IsSomeAnd o (IsFollowed v m frames i) → IsSomeAnd o (IsFollowed other m frames i)
+  followed-kept : (m : Method) (frames : ℕ → Option Frame) (i : Placed) (o : Option Frame) → IsSomeAnd o (IsFollowed v m frames i)
+      → IsSomeAnd o (IsFollowed other m frames i)
   followed-kept m frames i None h = absurd h
   followed-kept m frames i (Some f) h = record {
     after = h.after;
@@ -286,8 +306,10 @@ whole v w s =
     ∙ ap (λ x. record w { arrays = x }) s.arrays
 
 -- of code of any form
-typings-are-kept : (v w : Linked) (s : Subject) (regs : List Ty) (stacks : ℕ → List Ty) → IsSameBut v w → TypingIn v s regs stacks → TypingIn w s regs stacks
-typings-are-kept v w s regs stacks same t = subst (λ u. TypingIn u s regs stacks) (whole v w same) (card-kept v w.infos w.methods w.indexes same.methods s regs stacks t)
+typings-are-kept : (v w : Linked) (s : Subject) (regs : List Ty) (stacks : ℕ → List Ty) → IsSameBut v w → TypingIn v s regs stacks
+    → TypingIn w s regs stacks
+typings-are-kept v w s regs stacks same t =
+    subst (λ u. TypingIn u s regs stacks) (whole v w same) (card-kept v w.infos w.methods w.indexes same.methods s regs stacks t)
 
 pub card-typings-are-kept : CardTypingsAreKept
 card-typings-are-kept v w m regs stacks same t = typings-are-kept v w (code_in_bytes m) regs stacks same t
@@ -296,7 +318,8 @@ pub symbol-typings-are-kept : SymbolTypingsAreKept
 symbol-typings-are-kept v w r source symbols regs stacks same t = typings-are-kept v w (code_in_symbols r source symbols) regs stacks same t
 
 pub flow-typings-are-kept : FlowTypingsAreKept
-flow-typings-are-kept v w m unset frames same t = subst (λ u. FlowTyping u m unset frames) (whole v w same) (flow-kept v w.infos w.methods w.indexes same.methods m unset frames t)
+flow-typings-are-kept v w m unset frames same t =
+    subst (λ u. FlowTyping u m unset frames) (whole v w same) (flow-kept v w.infos w.methods w.indexes same.methods m unset frames t)
 
 pub methods-are-kept : MethodsAreKept
 methods-are-kept v w n same = alike-at v w.infos w.methods w.indexes same.methods n

@@ -1,5 +1,6 @@
 -- Where the steps of symbols stand in laid code, and the numbers of the steps that stand at its places.
-use Rattle.std.proofs.Common.{◌≡◌, ℕ, zero, suc, ◌+◌, ◌-◌, ◌<◌, ◌≤◌, ◌==◌, Bool, true, false, if◌then◌else◌, List, [], ◌∷◌, length, map, get_or, Option, Some, None, option_map, slice_get, All, Contains, refl, sym, ◌∙◌, ap, subst, arith}
+use Rattle.std.proofs.Common.{◌≡◌, ℕ, zero, suc, ◌+◌, ◌-◌, ◌<◌, ◌≤◌, ◌==◌, Bool, true, false, if◌then◌else◌, List, []}
+use Rattle.std.proofs.Common.{◌∷◌, length, map, get_or, Option, Some, None, option_map, slice_get, All, Contains, refl, sym, ◌∙◌, ap, subst, arith}
 use Rattle.std.specs.Prelude.{nat_le, nat_lt}
 use Rattle.std.proofs.lemmas.Bool.{eqb-true}
 use Rattle.std.proofs.lemmas.Bool.Decides.{nat_tests}
@@ -87,7 +88,8 @@ pub record IsLaidAt (code : List ℕ) (place : ℕ → ℕ) (n : ℕ) (ps : List
   pub is : StandsForStep code place s placed
 
 module _ (code : List ℕ) (place : ℕ → ℕ) where
-  pub step-at : (n : ℕ) (ss : List Step) (ps : List Placed) → AreSteps code place n ss ps → (k : ℕ) (s : Step) → slice_get ss k ≡ Some s → IsLaidAt code place n ps k s
+  pub step-at : (n : ℕ) (ss : List Step) (ps : List Placed) → AreSteps code place n ss ps → (k : ℕ) (s : Step) → slice_get ss k ≡ Some s
+      → IsLaidAt code place n ps k s
   step-at n [] [] h k s e = absurd (omega (arith, slice_get_within [] k s e))
   step-at n [] (p ∷ ps) h k s e = absurd h
   step-at n (t ∷ ss) [] h k s e = absurd h
@@ -95,7 +97,14 @@ module _ (code : List ℕ) (place : ℕ → ℕ) where
       let same : t ≡ s = cc in
       let here : n ≡ n + 0 = omega arith in
       let next : suc n ≡ n + 1 = omega arith in
-      record { placed = p; listed = refl; begins = h.0 ∙ ap place here; ends = h.1 ∙ ap place next; is = subst (λ x. StandsForStep code place x p) same h.2 }
+      record {
+        placed = p;
+        listed = refl;
+        begins = h.0 ∙ ap place here;
+        ends = h.1 ∙ ap place next;
+        is = subst (λ x. StandsForStep code place x p) same
+            h.2;
+      }
   step-at n (t ∷ ss) (p ∷ ps) h (suc k) s e =
       let x = step-at (suc n) ss ps h.3 k s e in
       let here : suc n + k ≡ n + suc k = omega arith in

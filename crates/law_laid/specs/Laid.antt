@@ -1,6 +1,7 @@
 -- Code whose jumps go to labels, read as the code of a method by its card typing; and the method that has such code laid as bytes
 -- (JCVM 2.2, sections 6.9 and 7.5).
-use Rattle.std.specs.Prelude.{◌≡◌, ℕ, ◌+◌, ◌<◌, ◌≤◌, ◌==◌, if◌then◌else◌, ℤ, pos, List, [], ◌∷◌, length, map, All, Option, Some, None, IsSomeAnd, slice_get}
+use Rattle.std.specs.Prelude.{◌≡◌, ℕ, ◌+◌, ◌<◌, ◌≤◌, ◌==◌, if◌then◌else◌, ℤ, pos, List, [], ◌∷◌}
+use Rattle.std.specs.Prelude.{length, map, All, Option, Some, None, IsSomeAnd, slice_get}
 use Rattle.jc_base.specs.declared.ty.Ty.{Ty}
 use Rattle.jc_base.specs.declared.ty.Ty.TheVariants.{Fresh}
 use Rattle.jc_base.specs.declared.record.Handler.{Handler}

@@ -18,7 +18,8 @@ use Rattle.law_package.proofs.Standing.{stand_apart, lie_inside}
 use Rattle.law_package.proofs.Names.{all_named}
 use Rattle.law_package.proofs.Handlers.{all_home}
 
-agree_again : (parts new_parts : List Lent) (p q : PackageRecord) (laid : List (Option Laid)) → StandsFor parts p → AreLaidFor p laid → IsRewritten p laid q → AreSaid new_parts q → HasSizes new_parts q.directory → Agrees new_parts q
+agree_again : (parts new_parts : List Lent) (p q : PackageRecord) (laid : List (Option Laid)) → StandsFor parts p → AreLaidFor p laid
+    → IsRewritten p laid q → AreSaid new_parts q → HasSizes new_parts q.directory → Agrees new_parts q
 agree_again parts new_parts p q laid s l r said sizes =
     let a = agrees parts p s.agree in
     let n = same_numbers parts p q laid a r in
@@ -52,7 +53,8 @@ agree_again parts new_parts p q laid s l r said sizes =
       exports = same_exports parts p q laid a r;
     }
 
-pub stands_again : (parts new_parts : List Lent) (p q : PackageRecord) (laid : List (Option Laid)) → StandsFor parts p → AreLaidFor p laid → IsRewritten p laid q → AreSaid new_parts q → HasSizes new_parts q.directory → StandsFor new_parts q
+pub stands_again : (parts new_parts : List Lent) (p q : PackageRecord) (laid : List (Option Laid)) → StandsFor parts p → AreLaidFor p laid
+    → IsRewritten p laid q → AreSaid new_parts q → HasSizes new_parts q.directory → StandsFor new_parts q
 stands_again parts new_parts p q laid s l r said sizes = record {
   said = said;
   missing = nothing_missing new_parts q said sizes;

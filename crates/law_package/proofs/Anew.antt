@@ -1,5 +1,6 @@
 -- Each method of a class with its record as it is written, and with the member that is written for it.
-use Rattle.std.proofs.Common.{◌≡◌, ◌+◌, ℕ, zero, suc, List, [], ◌∷◌, ◌++◌, length, map, replicate, Bool, true, false, cond, Option, Some, None, inl, inr, refl, sym, ap, subst, ◌∙◌}
+use Rattle.std.proofs.Common.{◌≡◌, ◌+◌, ℕ, zero, suc, List, [], ◌∷◌, ◌++◌, length, map, replicate, Bool, true, false, cond, Option, Some}
+use Rattle.std.proofs.Common.{None, inl, inr, refl, sym, ap, subst, ◌∙◌}
 use Rattle.std.specs.Prelude.{if◌then◌else◌, slice_index, find}
 use Rattle.std.proofs.lemmas.List.{map-append}
 use Rattle.std.proofs.lemmas.Bool.{eqb-true, eqb-false}
@@ -57,7 +58,8 @@ pair_members info [] (m ∷ ms) a = absurd a
 pair_members info (s ∷ ss) [] a = absurd a
 pair_members info (s ∷ ss) (m ∷ ms) a = ap (λ xs. m ∷ xs) (pair_members info ss ms a.1)
 
-pub pair_each : (info : List ℕ) (ss : List FormerMethod) (ms : List WrittenMember) → AreMembersOf info ss ms → Each (λ (z : Pair). IsMemberOf info z.source z.member) (pairs_of ss ms)
+pub pair_each : (info : List ℕ) (ss : List FormerMethod) (ms : List WrittenMember) → AreMembersOf info ss ms
+    → Each (λ (z : Pair). IsMemberOf info z.source z.member) (pairs_of ss ms)
 unfolding pairs_of
 pair_each info [] [] a = tt
 pair_each info [] (m ∷ ms) a = absurd a
@@ -68,7 +70,8 @@ pair_each info (s ∷ ss) (m ∷ ms) a = (a.0, pair_each info ss ms a.1)
 abbrev pub change_in : List (Option NewMethod) → Pair → Change
 change_in news z = record { source = z.source; now = renewed_method news z.source.method }
 
-changes_are : (info : List ℕ) (news : List (Option NewMethod)) (ss : List FormerMethod) (ms : List WrittenMember) → AreMembersOf info ss ms → changes_of ss (map (renewed_method news) (map method_of ss)) ≡ map (change_in news) (pairs_of ss ms)
+changes_are : (info : List ℕ) (news : List (Option NewMethod)) (ss : List FormerMethod) (ms : List WrittenMember) → AreMembersOf info ss ms
+    → changes_of ss (map (renewed_method news) (map method_of ss)) ≡ map (change_in news) (pairs_of ss ms)
 unfolding pairs_of
 changes_are info news [] [] a = refl
 changes_are info news [] (m ∷ ms) a = absurd a
@@ -77,21 +80,26 @@ changes_are info news (s ∷ ss) (m ∷ ms) a = ap (λ xs. record { source = s; 
 
 -- ---- the Descriptor
 
-but_by : (set : ℕ → Bool) (f : MethodDescriptor → MethodDescriptor) (c : ClassDescriptor) (b : Bool) (us : List ClassDescriptor) (vs : List MethodDescriptor) → set c.class_ref ≡ b → methods_but set us ≡ map f vs
+but_by : (set : ℕ → Bool) (f : MethodDescriptor → MethodDescriptor) (c : ClassDescriptor) (b : Bool) (us : List ClassDescriptor)
+    (vs : List MethodDescriptor) → set c.class_ref ≡ b → methods_but set us ≡ map f vs
     → methods_but set ((if b then c else record c { methods = map f c.methods }) ∷ us) ≡ map f (if b then vs else c.methods ++ vs)
 but_by set f c true us vs e h = ap (λ b. if b then methods_but set us else c.methods ++ methods_but set us) e ∙ h
 but_by set f c false us vs e h =
-    ap (λ b. if b then methods_but set us else map f c.methods ++ methods_but set us) e ∙ ap (λ ms. map f c.methods ++ ms) h ∙ sym (map-append f c.methods vs)
+    ap (λ b. if b then methods_but set us else map f c.methods ++ methods_but set us) e ∙ ap (λ ms. map f c.methods ++ ms) h
+    ∙ sym (map-append f c.methods vs)
 
-but_renewed : (set : ℕ → Bool) (news : List (Option NewMethod)) (cs : List ClassDescriptor) → methods_but set (map (renewed_class set news) cs) ≡ map (renewed_method news) (methods_but set cs)
+but_renewed : (set : ℕ → Bool) (news : List (Option NewMethod)) (cs : List ClassDescriptor) → methods_but set (map (renewed_class set news) cs)
+    ≡ map (renewed_method news) (methods_but set cs)
 but_renewed set news [] = refl
-but_renewed set news (c ∷ cs) = but_by set (renewed_method news) c (set c.class_ref) (map (renewed_class set news) cs) (methods_but set cs) refl (but_renewed set news cs)
+but_renewed set news (c ∷ cs) =
+    but_by set (renewed_method news) c (set c.class_ref) (map (renewed_class set news) cs) (methods_but set cs) refl (but_renewed set news cs)
 
 bare_renewed : (news : List (Option NewMethod)) (ms : List MethodDescriptor) → map bare_method (map (renewed_method news) ms) ≡ map bare_method ms
 bare_renewed news [] = refl
 bare_renewed news (m ∷ ms) = ap (λ ns. bare_method m ∷ ns) (bare_renewed news ms)
 
-bare_by : (set : ℕ → Bool) (news : List (Option NewMethod)) (c : ClassDescriptor) (b : Bool) → set c.class_ref ≡ b → bare_class set (if b then c else record c { methods = map (renewed_method news) c.methods }) ≡ bare_class set c
+bare_by : (set : ℕ → Bool) (news : List (Option NewMethod)) (c : ClassDescriptor) (b : Bool) → set c.class_ref ≡ b
+    → bare_class set (if b then c else record c { methods = map (renewed_method news) c.methods }) ≡ bare_class set c
 bare_by set news c true e = refl
 bare_by set news c false e =
     ap (λ b. with_methods (if b then map (renewed_method news) c.methods else map bare_method (map (renewed_method news) c.methods))) e
@@ -101,21 +109,26 @@ bare_by set news c false e =
     with_methods : List MethodDescriptor → ClassDescriptor
     with_methods ms = record c { methods = ms }
 
-pub memberless_classes : (set : ℕ → Bool) (news : List (Option NewMethod)) (cs : List ClassDescriptor) → map (bare_class set) (map (renewed_class set news) cs) ≡ map (bare_class set) cs
+pub memberless_classes : (set : ℕ → Bool) (news : List (Option NewMethod)) (cs : List ClassDescriptor)
+    → map (bare_class set) (map (renewed_class set news) cs) ≡ map (bare_class set) cs
 memberless_classes set news [] = refl
 memberless_classes set news (c ∷ cs) =
-    ap (λ d. d ∷ map (bare_class set) (map (renewed_class set news) cs)) (bare_by set news c (set c.class_ref) refl) ∙ ap (λ ds. bare_class set c ∷ ds) (memberless_classes set news cs)
+    ap (λ d. d ∷ map (bare_class set) (map (renewed_class set news) cs)) (bare_by set news c (set c.class_ref) refl)
+    ∙ ap (λ ds. bare_class set c ∷ ds) (memberless_classes set news cs)
 
 abbrev pub pairs_in : PackageRecord → List (Option Laid) → List WrittenMember → List Pair
 pairs_in p laid ms = pairs_of (sources p laid) ms
 
-pub all_changes : (p q : PackageRecord) (laid : List (Option Laid)) (ms : List WrittenMember) → IsWrittenAnew p laid ms q → changes p laid q ≡ map (change_in (places p ms)) (pairs_in p laid ms)
+pub all_changes : (p q : PackageRecord) (laid : List (Option Laid)) (ms : List WrittenMember) → IsWrittenAnew p laid ms q
+    → changes p laid q ≡ map (change_in (places p ms)) (pairs_in p laid ms)
 all_changes p q laid ms w =
     let set = names_interface p.classes in
     let news = places p ms in
-    let was : map method_of (sources p laid) ≡ described_methods p = sources_method 0 (described_methods p) (laid_but set p.description.items.classes laid) (length_but set p.description.items.classes laid w.each) in
+    let was : map method_of (sources p laid) ≡ described_methods p = sources_method 0 (described_methods p)
+    (laid_but set p.description.items.classes laid) (length_but set p.description.items.classes laid w.each) in
     let is : described_methods q ≡ map (renewed_method news) (map method_of (sources p laid)) =
-    but_same (names_interface q.classes) set q.description.items.classes (λ n. ap (λ cs. names_interface cs n) w.classes ∙ same_interfaces (to news) p.classes n)
+    but_same (names_interface q.classes) set q.description.items.classes
+    (λ n. ap (λ cs. names_interface cs n) w.classes ∙ same_interfaces (to news) p.classes n)
     ∙ ap (λ d. methods_but set d.classes) w.description ∙ but_renewed set news p.description.items.classes ∙ ap (map (renewed_method news)) (sym was) in
     ap (changes_of (sources p laid)) is ∙ changes_are p.methods.info news (sources p laid) ms w.members
 
@@ -132,11 +145,13 @@ pub record IsToldOf (news : List (Option NewMethod)) (indexes : List ℕ) (z : P
   pub many : (renewed_method news z.source.method).handler_count ≡ length (handlers_of z.member.body)
   pub index : (renewed_method news z.source.method).handler_index ≡ slice_index indexes z.member.offset
 
-pub is_told_of : (info : List ℕ) (size room : ℕ) (all : List WrittenMember) (z : Pair) → IsMemberOf info z.source z.member → StandsAnew size room all z.member → IsToldOf (new_places size room all) (handler_indexes size (blocks room all)) z
+pub is_told_of : (info : List ℕ) (size room : ℕ) (all : List WrittenMember) (z : Pair) → IsMemberOf info z.source z.member
+    → StandsAnew size room all z.member → IsToldOf (new_places size room all) (handler_indexes size (blocks room all)) z
 unfolding new_numbers
 is_told_of info size room all z is st =
     let news = new_places size room all in
-    let n : at_offset news z.source.method.method_offset ≡ Some (new_method (handler_indexes size (blocks room all)) (to news z.member.offset) z.member) = ap (at_offset news) (sym is.offset) ∙ st.numbers in
+    let n : at_offset news z.source.method.method_offset ≡ Some (new_method (handler_indexes size (blocks room all)) (to news z.member.offset) z.member) =
+    ap (at_offset news) (sym is.offset) ∙ st.numbers in
     let e = ap (λ o. method_by z.source.method (numbers_or z.source.method o)) n in
     record {
       offset = ap (λ (m : MethodDescriptor). m.method_offset) e;
@@ -147,16 +162,19 @@ is_told_of info size room all z is st =
 
 -- ---- offsets
 
-none_new : (indexes : List ℕ) (at : ℕ) (table : List (Option WrittenMember)) (o : ℕ) → slot table o ≡ None → at_offset (news_from indexes at table) o ≡ None
+none_new : (indexes : List ℕ) (at : ℕ) (table : List (Option WrittenMember)) (o : ℕ) → slot table o ≡ None
+    → at_offset (news_from indexes at table) o ≡ None
 none_new indexes at [] o e = refl
 none_new indexes at (s ∷ table) zero e = ap (new_if indexes at) e
 none_new indexes at (s ∷ table) (suc o) e = none_new indexes (at + size_if s) table o e
 
 -- where no method stood an offset stays
-stays : (size room : ℕ) (ms : List WrittenMember) (o : ℕ) → Each (λ (m : WrittenMember). at_offset_of m ≡ Some o → ⊥) ms → to (new_places size room ms) o ≡ o
+stays : (size room : ℕ) (ms : List WrittenMember) (o : ℕ) → Each (λ (m : WrittenMember). at_offset_of m ≡ Some o → ⊥) ms
+    → to (new_places size room ms) o ≡ o
 unfolding to new_places
 stays size room ms o h =
-    let empty : slot (by_offset size ms) o ≡ None = ap (λ t. slot t o) (by_offset_is size ms) ∙ kept at_offset_of (replicate size None) ms o h ∙ slot_none size o in
+    let empty : slot (by_offset size ms) o ≡ None = ap (λ t. slot t o) (by_offset_is size ms) ∙ kept at_offset_of (replicate size None) ms o h
+    ∙ slot_none size o in
     ap (offset_or o) (none_new (handler_indexes size (blocks room ms)) (start_of room ms) (by_offset size ms) o empty)
 
 pub data Finding {X : Type 0} (p : X → Bool) (xs : List X) : Type 0 where
@@ -185,15 +203,19 @@ unfolding now_at
 renamed p q laid ms w told o =
     ap (λ cs. offset_by o (find (stood_at o) cs)) (all_changes p q laid ms w) ∙ by (look (stood_at o) (map (change_in (places p ms)) (pairs_in p laid ms)))
   where
-    at_one : (z : Pair) → IsMemberOf p.methods.info z.source z.member → IsToldOf (places p ms) (handler_indexes (length p.methods.info) (blocks (length p.methods.handlers) ms)) z → stood_at o (change_in (places p ms) z) ≡ true
+    at_one : (z : Pair) → IsMemberOf p.methods.info z.source z.member
+        → IsToldOf (places p ms) (handler_indexes (length p.methods.info) (blocks (length p.methods.handlers) ms)) z
+        → stood_at o (change_in (places p ms) z) ≡ true
         → (renewed_method (places p ms) z.source.method).method_offset ≡ to (places p ms) o
     at_one z is t e = t.offset ∙ ap (to (places p ms)) (is.offset ∙ eqb-true z.source.method.method_offset o e)
 
-    by : Finding (stood_at o) (map (change_in (places p ms)) (pairs_in p laid ms)) → offset_by o (find (stood_at o) (map (change_in (places p ms)) (pairs_in p laid ms))) ≡ to (places p ms) o
+    by : Finding (stood_at o) (map (change_in (places p ms)) (pairs_in p laid ms))
+        → offset_by o (find (stood_at o) (map (change_in (places p ms)) (pairs_in p laid ms))) ≡ to (places p ms) o
     by (nowhere f h) =
         let zs = pairs_in p laid ms in
         let is = pair_each p.methods.info (sources p laid) ms w.members in
-        let none : Each (λ (z : Pair). stood_at o (change_in (places p ms) z) ≡ false) zs = map_each (λ c. stood_at o c ≡ false) (change_in (places p ms)) zs h in
+        let none : Each (λ (z : Pair). stood_at o (change_in (places p ms) z) ≡ false) zs = map_each (λ c. stood_at o c ≡ false)
+        (change_in (places p ms)) zs h in
         let others : Each (λ (m : WrittenMember). at_offset_of m ≡ Some o → ⊥) ms =
         subst (Each (λ (m : WrittenMember). at_offset_of m ≡ Some o → ⊥)) (pair_members p.methods.info (sources p laid) ms w.members)
         (each_map (λ (m : WrittenMember). at_offset_of m ≡ Some o → ⊥) member_in zs (each_of (λ (z : Pair). at_offset_of z.member ≡ Some o → ⊥) zs
@@ -204,5 +226,6 @@ renamed p q laid ms w told o =
         let zs = pairs_in p laid ms in
         let z = has_source (change_in (places p ms)) zs c h in
         let is = each_at (λ (x : Pair). IsMemberOf p.methods.info x.source x.member) zs z.0 (pair_each p.methods.info (sources p laid) ms w.members) z.1 in
-        let told_one = each_at (λ (x : Pair). IsToldOf (places p ms) (handler_indexes (length p.methods.info) (blocks (length p.methods.handlers) ms)) x) zs z.0 told z.1 in
+        let told_one = each_at (λ (x : Pair). IsToldOf (places p ms) (handler_indexes (length p.methods.info) (blocks (length p.methods.handlers) ms)) x)
+        zs z.0 told z.1 in
         ap (offset_by o) f ∙ ap (λ (x : Change). x.now.method_offset) z.2 ∙ at_one z.0 is told_one (ap (stood_at o) (sym z.2) ∙ t)

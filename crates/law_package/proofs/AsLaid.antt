@@ -1,5 +1,6 @@
 -- A method that is written has the code that is laid, or the header that it had.
-use Rattle.std.proofs.Common.{◌≡◌, ◌≤◌, ◌+◌, ℕ, zero, suc, List, [], ◌∷◌, ◌++◌, length, take, drop, Some, refl, sym, ap, ◌∙◌, arith, length-take, length-drop}
+use Rattle.std.proofs.Common.{◌≡◌, ◌≤◌, ◌+◌, ℕ, zero, suc, List, [], ◌∷◌, ◌++◌, length, take, drop, Some, refl, sym, ap, ◌∙◌}
+use Rattle.std.proofs.Common.{arith, length-take, length-drop}
 use Rattle.std.proofs.lemmas.List.{drop-drop}
 use Rattle.cap_bytes.specs.Number.{number_at}
 use Rattle.cap_bytes.specs.Spelling.{info_of}
@@ -47,7 +48,8 @@ code_at info at laid back small e =
     let hs = header_bytes n in
     let long = length_header n in
     let lead : take (header_size n) (drop at info) ≡ hs =
-    sym (take_more (header_size n) (length laid.code) (drop at info)) ∙ ap (take (header_size n)) e ∙ ap (λ k. take k (hs ++ laid.code)) (sym long) ∙ take_front hs laid.code in
+    sym (take_more (header_size n) (length laid.code) (drop at info)) ∙ ap (take (header_size n)) e ∙ ap (λ k. take k (hs ++ laid.code)) (sym long)
+    ∙ take_front hs laid.code in
     let header = header_there info at (header_of n) (back n info at small lead) in
     let size : size_by (number_at 1 at info) ≡ header_size n = sym (header_sized info at (header_of n) header) in
     record {
@@ -76,14 +78,16 @@ lead_size m xs h =
     omega (arith, a, b)
 
 -- the bytes of a header that are written at another offset are its bytes there
-pub lead_at : (m n : ℕ) (xs ys lead : List ℕ) → m + size_by (number_at 1 m xs) ≤ length xs → lead ≡ lead_bytes xs m → take (length lead) (drop n ys) ≡ lead → IsLeadAt xs ys lead m n
+pub lead_at : (m n : ℕ) (xs ys lead : List ℕ) → m + size_by (number_at 1 m xs) ≤ length xs → lead ≡ lead_bytes xs m
+    → take (length lead) (drop n ys) ≡ lead → IsLeadAt xs ys lead m n
 unfolding lead_bytes
 lead_at m n xs ys lead h e t =
     let s = size_by (number_at 1 m xs) in
     let long : length lead ≡ s = ap length e ∙ lead_size m xs h in
     let j = some_bytes (number_at 1 m xs) in
     let whole : take s (drop n ys) ≡ take s (drop m xs) = ap (λ k. take k (drop n ys)) (sym long) ∙ t ∙ e in
-    let whole' : take (suc j.0) (drop n ys) ≡ take (suc j.0) (drop m xs) = ap (λ k. take k (drop n ys)) (sym j.1) ∙ whole ∙ ap (λ k. take k (drop m xs)) j.1 in
+    let whole' : take (suc j.0) (drop n ys) ≡ take (suc j.0) (drop m xs) = ap (λ k. take k (drop n ys)) (sym j.1) ∙ whole
+    ∙ ap (λ k. take k (drop m xs)) j.1 in
     let one : take 1 (drop n ys) ≡ take 1 (drop m xs) = sym (front_of j.0 (drop n ys)) ∙ ap (take 1) whole' ∙ front_of j.0 (drop m xs) in
     let size : size_by (number_at 1 n ys) ≡ s = ap size_by (first_same m n xs ys one) in
     record { long = long; bytes = ap (λ k. take k (drop n ys)) size ∙ whole; size = size }

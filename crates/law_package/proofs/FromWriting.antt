@@ -1,5 +1,6 @@
 -- What is written, component by component, is the package with the code that is laid.
-use Rattle.std.proofs.Common.{◌≡◌, ◌≤◌, ◌<◌, ◌+◌, ℕ, zero, suc, List, [], ◌∷◌, length, map, filter, sum_by, take, drop, All, Option, Some, None, option_map, refl, sym, ap, subst, ◌∙◌, arith}
+use Rattle.std.proofs.Common.{◌≡◌, ◌≤◌, ◌<◌, ◌+◌, ℕ, zero, suc, List, [], ◌∷◌, length, map, filter, sum_by, take, drop, All, Option}
+use Rattle.std.proofs.Common.{Some, None, option_map, refl, sym, ap, subst, ◌∙◌, arith}
 use Rattle.std.specs.Prelude.{if◌then◌else◌, ◌==◌, slice_index}
 use Rattle.jc_base.proofs.Eaching.{All-from_Each}
 use Rattle.cap_frame.specs.AppletFormat.{Applet}
@@ -64,7 +65,8 @@ option_same f g (Some xs) h = ap Some (map_same f g xs h)
 
 -- ---- types
 
-ends_alike : (from n : ℕ) (xs ys : List ℕ) → ((k : ℕ) → from ≤ k → k < n → slice_index ys k ≡ slice_index xs k) → length xs ≡ n → length ys ≡ n → drop from ys ≡ drop from xs
+ends_alike : (from n : ℕ) (xs ys : List ℕ) → ((k : ℕ) → from ≤ k → k < n → slice_index ys k ≡ slice_index xs k) → length xs ≡ n
+    → length ys ≡ n → drop from ys ≡ drop from xs
 ends_alike zero n [] [] h a b = refl
 ends_alike zero n [] (y ∷ ys) h a b = absurd (omega arith)
 ends_alike zero n (x ∷ xs) [] h a b = absurd (omega arith)
@@ -77,7 +79,8 @@ ends_alike (suc from) n [] (y ∷ ys) h a b = absurd (omega arith)
 ends_alike (suc from) n (x ∷ xs) [] h a b = absurd (omega arith)
 ends_alike (suc from) n (x ∷ xs) (y ∷ ys) h a b = ends_alike from (length xs) xs ys (λ k l g. h (suc k) (omega arith) (omega arith)) refl (omega arith)
 
-same_description : (p q : PackageRecord) (laid : List (Option Laid)) (ms : List WrittenMember) → IsWrittenAnew p laid ms q → HasSameDescription (names_interface p.classes) p.description q.description
+same_description : (p q : PackageRecord) (laid : List (Option Laid)) (ms : List WrittenMember) → IsWrittenAnew p laid ms q
+    → HasSameDescription (names_interface p.classes) p.description q.description
 same_description p q laid ms w =
     let set = names_interface p.classes in
     record {
@@ -90,11 +93,13 @@ same_description p q laid ms w =
 
 -- ---- methods
 
-index_if : (p q : PackageRecord) (laid : List (Option Laid)) (ms : List WrittenMember) (z : Pair) → IsWrittenAnew p laid ms q → Known p q ms z → (r : HasRank p laid ms z)
+index_if : (p q : PackageRecord) (laid : List (Option Laid)) (ms : List WrittenMember) (z : Pair) → IsWrittenAnew p laid ms q → Known p q ms z
+    → (r : HasRank p laid ms z)
     → (renewed_method (places p ms) z.source.method).handler_index ≡ first_entry r.before (many_of z.member)
 index_if p q laid ms z w k r = k.told.index ∙ index_among (length p.methods.info) (blocks (length p.methods.handlers) ms) z.member r.before r.among k.within
 
-handlers_if : (p q : PackageRecord) (laid : List (Option Laid)) (ms : List WrittenMember) (z : Pair) → IsWrittenAnew p laid ms q → Known p q ms z → HasRank p laid ms z
+handlers_if : (p q : PackageRecord) (laid : List (Option Laid)) (ms : List WrittenMember) (z : Pair) → IsWrittenAnew p laid ms q → Known p q ms z
+    → HasRank p laid ms z
     → handlers_of q (renewed_method (places p ms) z.source.method) ≡ block_entries (places p ms) z.member
 handlers_if p q laid ms z w k r =
     let m = renewed_method (places p ms) z.source.method in
@@ -103,7 +108,8 @@ handlers_if p q laid ms z w k r =
     ∙ ap (λ hs. take (many_of z.member) (drop (first_entry r.before (many_of z.member)) hs)) w.handlers
     ∙ entries_among (places p ms) (blocks (length p.methods.handlers) ms) z.member r.before r.among
 
-written_one : (parts : List Lent) (p q : PackageRecord) (laid : List (Option Laid)) (ms : List WrittenMember) (z : Pair) → StandsFor parts p → IsWrittenAnew p laid ms q → Each (Known p q ms) (pairs_in p laid ms) → Has (pairs_in p laid ms) z
+written_one : (parts : List Lent) (p q : PackageRecord) (laid : List (Option Laid)) (ms : List WrittenMember) (z : Pair) → StandsFor parts p
+    → IsWrittenAnew p laid ms q → Each (Known p q ms) (pairs_in p laid ms) → Has (pairs_in p laid ms) z
     → IsMethodWritten p q (map (change_in (places p ms)) (pairs_in p laid ms)) (change_in (places p ms) z)
 written_one parts p q laid ms z s w ks h =
     let zs = pairs_in p laid ms in
@@ -113,7 +119,8 @@ written_one parts p q laid ms z s w ks h =
     let m = renewed_method news z.source.method in
     let sum : r.before ≡ sum_by handlers_in (filter (caught_before p (change_in news z)) (map (change_in news) zs)) =
     r.sum
-    ∙ sums_agree (λ (y : Pair). many_of y.member) (λ (y : Pair). handlers_in (change_in news y)) (λ (y : Pair). caught_before p (change_in news z) (change_in news y)) (λ (y : Pair). caught_before p (change_in news z) (change_in news y)) zs
+    ∙ sums_agree (λ (y : Pair). many_of y.member) (λ (y : Pair). handlers_in (change_in news y))
+    (λ (y : Pair). caught_before p (change_in news z) (change_in news y)) (λ (y : Pair). caught_before p (change_in news z) (change_in news y)) zs
     (each_of (λ (y : Pair). many_of y.member ≡ handlers_in (change_in news y)) zs (λ y g. sym (each_at (Known p q ms) zs y ks g).told.many))
     (each_of (λ (y : Pair). caught_before p (change_in news z) (change_in news y) ≡ caught_before p (change_in news z) (change_in news y)) zs (λ y g. refl))
     ∙ sym (sum_through handlers_in (caught_before p (change_in news z)) (change_in news) zs) in
@@ -124,7 +131,8 @@ written_one parts p q laid ms z s w ks h =
           ∙ ap (λ n. if n == 0 then 0 else sum_by handlers_in (filter (caught_before p (change_in news z)) (map (change_in news) zs))) (sym k.told.many);
     }
 
-pub rewrites : HeadersReadBack → WrittenMethodsStand → (parts : List Lent) (p q : PackageRecord) (laid : List (Option Laid)) (ms : List WrittenMember) → StandsFor parts p → AreLaidFor p laid → IsWrittenAnew p laid ms q → IsRewritten p laid q
+pub rewrites : HeadersReadBack → WrittenMethodsStand → (parts : List Lent) (p q : PackageRecord) (laid : List (Option Laid)) (ms : List WrittenMember)
+    → StandsFor parts p → AreLaidFor p laid → IsWrittenAnew p laid ms q → IsRewritten p laid q
 rewrites back stand parts p q laid ms s l w =
     let zs = pairs_in p laid ms in
     let news = places p ms in
@@ -141,10 +149,18 @@ rewrites back stand parts p q laid ms s l w =
       directory = w.directory;
       customs = w.customs;
       debug = w.debug;
-      applets = w.applets ∙ option_same (renewed_applet (to news)) (renewed_applet (now_at (changes p laid q))) p.applets (λ a. applet_same (to news) (now_at (changes p laid q)) a name);
-      pool = w.pool ∙ map_same (renewed_entry (to news)) (renewed_entry (now_at (changes p laid q))) p.pool (λ e. entry_same (to news) (now_at (changes p laid q)) e name);
-      classes = w.classes ∙ map_same (renewed_class (to news)) (renewed_class (now_at (changes p laid q))) p.classes (λ c. class_same (to news) (now_at (changes p laid q)) c name);
-      export = w.export ∙ option_same (renewed_exported (to news)) (renewed_exported (now_at (changes p laid q))) p.export (λ c. exported_same (to news) (now_at (changes p laid q)) c name);
+      applets =
+          w.applets ∙ option_same (renewed_applet (to news)) (renewed_applet (now_at (changes p laid q))) p.applets
+          (λ a. applet_same (to news) (now_at (changes p laid q)) a name);
+      pool =
+          w.pool ∙ map_same (renewed_entry (to news)) (renewed_entry (now_at (changes p laid q))) p.pool
+          (λ e. entry_same (to news) (now_at (changes p laid q)) e name);
+      classes =
+          w.classes ∙ map_same (renewed_class (to news)) (renewed_class (now_at (changes p laid q))) p.classes
+          (λ c. class_same (to news) (now_at (changes p laid q)) c name);
+      export =
+          w.export ∙ option_same (renewed_exported (to news)) (renewed_exported (now_at (changes p laid q))) p.export
+          (λ c. exported_same (to news) (now_at (changes p laid q)) c name);
       description = same_description p q laid ms w;
       each = w.each;
       written = subst (λ xs. All (IsMethodWritten p q xs) xs) (sym are) each;

@@ -1,5 +1,7 @@
 -- Each entry of the handler table is owned by exactly one method, in whose code it lies.
-use Rattle.std.proofs.Common.{◌≡◌, ◌≤◌, ◌<◌, ◌+◌, ◌-◌, ℕ, zero, suc, List, [], ◌∷◌, ◌++◌, length, map, take, drop, sum_by, filter, filter_map, slice_get, max, Bool, true, false, cond, not, ◌&&◌, Option, Some, None, inl, inr, refl, sym, ap, subst, ◌∙◌, arith}
+use Rattle.std.proofs.Common.{◌≡◌, ◌≤◌, ◌<◌, ◌+◌, ◌-◌, ℕ, zero, suc, List, [], ◌∷◌, ◌++◌, length, map, take, drop, sum_by}
+use Rattle.std.proofs.Common.{filter, filter_map, slice_get, max, Bool, true, false, cond, not, ◌&&◌, Option, Some, None, inl, inr, refl, sym, ap, subst}
+use Rattle.std.proofs.Common.{◌∙◌, arith}
 use Rattle.std.specs.Prelude.{if◌then◌else◌, nat_lt, nat_le, ◌==◌}
 use Rattle.std.proofs.lemmas.Bool.{false≢true, leb-true, le-leb, lt-ltb}
 use Rattle.std.proofs.lemmas.Option.{slice_get_within}
@@ -30,7 +32,8 @@ use Rattle.law_package.proofs.Names.{is_told}
 
 -- ---- the former table: no two methods had one first entry
 
-numbered_at : {X : Type 0} (P : ℕ × X → Type 0) (n : ℕ) (xs : List X) → Each P (enumerate_from n xs) → (i : ℕ) → i < length xs → (x : X) × P (n + i, x)
+numbered_at : {X : Type 0} (P : ℕ × X → Type 0) (n : ℕ) (xs : List X) → Each P (enumerate_from n xs) → (i : ℕ) → i < length xs → (x : X)
+    × P (n + i, x)
 numbered_at P n [] h i lt = absurd (omega arith)
 numbered_at P n (x ∷ xs) h zero lt = let e : n ≡ n + 0 = omega arith in (x, subst (λ k. P (k, x)) e h.0)
 numbered_at P n (x ∷ xs) h (suc i) lt =
@@ -43,7 +46,8 @@ one_home info h [] e = omega arith
 one_home info h (m ∷ []) e = omega arith
 one_home info h (m ∷ n ∷ ms) e = absurd (false≢true e)
 
-pub one_owner : (info : List ℕ) (ms : List MethodDescriptor) (number : ℕ) (h : HandlerInfo) → handler_fault info ms number h ≡ None → length (filter (claims number) ms) ≤ 1
+pub one_owner : (info : List ℕ) (ms : List MethodDescriptor) (number : ℕ) (h : HandlerInfo) → handler_fault info ms number h ≡ None
+    → length (filter (claims number) ms) ≤ 1
 unfolding handler_fault owners
 one_owner info ms number h e = one_home info h (filter (claims number) ms) (is_told (has_home info h (filter (claims number) ms)) _ e)
 
@@ -54,8 +58,10 @@ pub owned_once : (parts : List Lent) (p : PackageRecord) → Agrees parts p → 
 owned_once parts p a i lt =
     let info = p.methods.info in
     let ms = described_methods p in
-    let both = both_empty (filter_map (numbered_fault info ms) (enumerate_from 0 p.methods.handlers)) (filter_map (claim_fault (length p.methods.handlers)) ms) a.handlers in
-    let at = numbered_at (λ x. numbered_fault info ms x ≡ None) 0 p.methods.handlers (none_each (numbered_fault info ms) (enumerate_from 0 p.methods.handlers) both.0) i lt in
+    let both = both_empty (filter_map (numbered_fault info ms) (enumerate_from 0 p.methods.handlers))
+    (filter_map (claim_fault (length p.methods.handlers)) ms) a.handlers in
+    let at = numbered_at (λ x. numbered_fault info ms x ≡ None) 0 p.methods.handlers
+    (none_each (numbered_fault info ms) (enumerate_from 0 p.methods.handlers) both.0) i lt in
     let e : 0 + i ≡ i = omega arith in
     subst (λ k. length (filter (claims k) ms) ≤ 1) e (one_owner info ms (0 + i) at.0 at.1)
 
@@ -68,7 +74,8 @@ some_count n e = grind arith
 claims_inside : (n : ℕ) (m : MethodDescriptor) → claim_fault n m ≡ None → ClaimsInside n m
 unfolding claim_fault
 claims_inside n m e some =
-    let f : not (m.handler_count == 0) && nat_lt n (m.handler_index + m.handler_count) ≡ false = few_by (not (m.handler_count == 0) && nat_lt n (m.handler_index + m.handler_count)) _ e in
+    let f : not (m.handler_count == 0) && nat_lt n (m.handler_index + m.handler_count) ≡ false = few_by
+    (not (m.handler_count == 0) && nat_lt n (m.handler_index + m.handler_count)) _ e in
     let g : nat_lt n (m.handler_index + m.handler_count) ≡ false = ap (λ b. not b && nat_lt n (m.handler_index + m.handler_count)) (sym some) ∙ f in
     grind arith
 
@@ -114,34 +121,42 @@ claims_first m e =
     rw (a, b) refl
 
 -- two methods that claim one entry
-claimed_twice : (ms : List MethodDescriptor) (m n : MethodDescriptor) (i : ℕ) → Has ms n → claims i m ≡ true → claims i n ≡ true → length (filter (claims i) (m ∷ ms)) ≤ 1 → ⊥
+claimed_twice : (ms : List MethodDescriptor) (m n : MethodDescriptor) (i : ℕ) → Has ms n → claims i m ≡ true → claims i n ≡ true
+    → length (filter (claims i) (m ∷ ms)) ≤ 1 → ⊥
 claimed_twice ms m n i h e f le =
-    let k : length (filter (claims i) (m ∷ ms)) ≡ suc (length (filter (claims i) ms)) = ap (λ b. length (cond b (m ∷ filter (claims i) ms) (filter (claims i) ms))) e in
+    let k : length (filter (claims i) (m ∷ ms)) ≡ suc (length (filter (claims i) ms)) = ap
+    (λ b. length (cond b (m ∷ filter (claims i) ms) (filter (claims i) ms))) e in
     let l = many_has (filter (claims i) ms) n (has_filter (claims i) ms n h f) in
     absurd (omega arith)
 
-blocks_differ : (p : PackageRecord) (c d : Change) (cs : List Change) (b e : Bool) → (c.source.method.handler_count == 0) ≡ b → (d.source.method.handler_count == 0) ≡ e → Has cs d
-    → (d.source.number ≡ c.source.number → ⊥) → ClaimsInside (length p.methods.handlers) c.source.method → ClaimsInside (length p.methods.handlers) d.source.method
+blocks_differ : (p : PackageRecord) (c d : Change) (cs : List Change) (b e : Bool) → (c.source.method.handler_count == 0) ≡ b
+    → (d.source.method.handler_count == 0) ≡ e → Has cs d
+    → (d.source.number ≡ c.source.number → ⊥) → ClaimsInside (length p.methods.handlers) c.source.method
+    → ClaimsInside (length p.methods.handlers) d.source.method
     → OwnedOnce (length p.methods.handlers) (map old_of (c ∷ cs)) → block_of p d.source ≡ block_of p c.source → ⊥
 blocks_differ p c d cs true true u v h n x y o s =
     let s' : length p.methods.handlers + d.source.number ≡ length p.methods.handlers + c.source.number =
-    ap (λ b. if b then length p.methods.handlers + d.source.number else d.source.method.handler_index) (sym v) ∙ s ∙ ap (λ b. if b then length p.methods.handlers + c.source.number else c.source.method.handler_index) u in
+    ap (λ b. if b then length p.methods.handlers + d.source.number else d.source.method.handler_index) (sym v) ∙ s
+    ∙ ap (λ b. if b then length p.methods.handlers + c.source.number else c.source.method.handler_index) u in
     n (omega arith)
 blocks_differ p c d cs true false u v h n x y o s =
     let s' : d.source.method.handler_index ≡ length p.methods.handlers + c.source.number =
-    ap (λ b. if b then length p.methods.handlers + d.source.number else d.source.method.handler_index) (sym v) ∙ s ∙ ap (λ b. if b then length p.methods.handlers + c.source.number else c.source.method.handler_index) u in
+    ap (λ b. if b then length p.methods.handlers + d.source.number else d.source.method.handler_index) (sym v) ∙ s
+    ∙ ap (λ b. if b then length p.methods.handlers + c.source.number else c.source.method.handler_index) u in
     let i = y v in
     let k = some_count d.source.method.handler_count v in
     absurd (omega arith)
 blocks_differ p c d cs false true u v h n x y o s =
     let s' : length p.methods.handlers + d.source.number ≡ c.source.method.handler_index =
-    ap (λ b. if b then length p.methods.handlers + d.source.number else d.source.method.handler_index) (sym v) ∙ s ∙ ap (λ b. if b then length p.methods.handlers + c.source.number else c.source.method.handler_index) u in
+    ap (λ b. if b then length p.methods.handlers + d.source.number else d.source.method.handler_index) (sym v) ∙ s
+    ∙ ap (λ b. if b then length p.methods.handlers + c.source.number else c.source.method.handler_index) u in
     let i = x u in
     let k = some_count c.source.method.handler_count u in
     absurd (omega arith)
 blocks_differ p c d cs false false u v h n x y o s =
     let s' : d.source.method.handler_index ≡ c.source.method.handler_index =
-    ap (λ b. if b then length p.methods.handlers + d.source.number else d.source.method.handler_index) (sym v) ∙ s ∙ ap (λ b. if b then length p.methods.handlers + c.source.number else c.source.method.handler_index) u in
+    ap (λ b. if b then length p.methods.handlers + d.source.number else d.source.method.handler_index) (sym v) ∙ s
+    ∙ ap (λ b. if b then length p.methods.handlers + c.source.number else c.source.method.handler_index) u in
     let i = x u in
     let k = some_count c.source.method.handler_count u in
     claimed_twice (map old_of cs) c.source.method d.source.method c.source.method.handler_index (has_map old_of cs d h) (claims_first c.source.method u)
@@ -156,21 +171,25 @@ later_once n c cs o i lt =
 abbrev pub block : PackageRecord → Change → ℕ
 block p c = block_of p c.source
 
-pub blocks_apart : (p : PackageRecord) (cs : List Change) → Each (λ (c : Change). ClaimsInside (length p.methods.handlers) c.source.method) cs → Distinct (λ (c : Change). c.source.number) cs
+pub blocks_apart : (p : PackageRecord) (cs : List Change) → Each (λ (c : Change). ClaimsInside (length p.methods.handlers) c.source.method) cs
+    → Distinct (λ (c : Change). c.source.number) cs
     → OwnedOnce (length p.methods.handlers) (map old_of cs) → Distinct (block p) cs
 blocks_apart p [] x n o = tt
 blocks_apart p (c ∷ cs) x n o = (
   each_of (λ (d : Change). block p d ≡ block p c → ⊥) cs
       (λ d h. blocks_differ p c d cs (c.source.method.handler_count == 0) (d.source.method.handler_count == 0) refl refl h
-      (each_at (λ (y : Change). y.source.number ≡ c.source.number → ⊥) cs d n.0 h) x.0 (each_at (λ (y : Change). ClaimsInside (length p.methods.handlers) y.source.method) cs d x.1 h) o),
+      (each_at (λ (y : Change). y.source.number ≡ c.source.number → ⊥) cs d n.0 h) x.0
+      (each_at (λ (y : Change). ClaimsInside (length p.methods.handlers) y.source.method) cs d x.1 h) o),
   blocks_apart p cs x.1 n.1 (later_once (length p.methods.handlers) c cs o),
 )
 
-pub all_blocks : (parts : List Lent) (p q : PackageRecord) (laid : List (Option Laid)) → Agrees parts p → IsRewritten p laid q → Distinct (block p) (changes p laid q)
+pub all_blocks : (parts : List Lent) (p q : PackageRecord) (laid : List (Option Laid)) → Agrees parts p → IsRewritten p laid q
+    → Distinct (block p) (changes p laid q)
 all_blocks parts p q laid a r =
     blocks_apart p (changes p laid q)
     (old_each p q laid (ClaimsInside (length p.methods.handlers)) r (all_claims parts p a))
-    (distinct_map (λ (s : FormerMethod). s.number) source_of (changes p laid q) (subst (Distinct (λ (s : FormerMethod). s.number)) (sym (froms p q laid r)) (distinct_numbers 0 (described_methods p) _)))
+    (distinct_map (λ (s : FormerMethod). s.number) source_of (changes p laid q)
+    (subst (Distinct (λ (s : FormerMethod). s.number)) (sym (froms p q laid r)) (distinct_numbers 0 (described_methods p) _)))
     (subst (OwnedOnce (length p.methods.handlers)) (sym (olds p q laid r)) (owned_once parts p a))
 
 -- ---- who owns an entry now
@@ -185,10 +204,12 @@ nothing_in n k z e = by (nat_le n k) refl
 is_none : (n : ℕ) → (n == 0) ≡ true → n ≡ 0
 is_none n e = grind arith
 
-index_is : (p q : PackageRecord) (all : List Change) (c : Change) → IsMethodWritten p q all c → c.now.handler_index ≡ (if c.now.handler_count == 0 then 0 else below handlers_in (block p) all (block p c))
+index_is : (p q : PackageRecord) (all : List Change) (c : Change) → IsMethodWritten p q all c
+    → c.now.handler_index ≡ (if c.now.handler_count == 0 then 0 else below handlers_in (block p) all (block p c))
 index_is p q all c w = w.index
 
-lies_or_claims : (p q : PackageRecord) (all : List Change) (k : ℕ) (c : Change) → IsMethodWritten p q all c → claims k c.now ≡ lies_in handlers_in (block p) all k c
+lies_or_claims : (p q : PackageRecord) (all : List Change) (k : ℕ) (c : Change) → IsMethodWritten p q all c
+    → claims k c.now ≡ lies_in handlers_in (block p) all k c
 lies_or_claims p q all k c w = by (c.now.handler_count == 0) refl
   where
     by : (b : Bool) → (c.now.handler_count == 0) ≡ b → claims k c.now ≡ lies_in handlers_in (block p) all k c
@@ -196,10 +217,12 @@ lies_or_claims p q all k c w = by (c.now.handler_count == 0) refl
         let z = is_none c.now.handler_count e in
         nothing_in c.now.handler_index k c.now.handler_count z ∙ sym (nothing_in (below handlers_in (block p) all (block p c)) k c.now.handler_count z)
     by false e =
-        let i : c.now.handler_index ≡ below handlers_in (block p) all (block p c) = index_is p q all c w ∙ ap (λ b. if b then 0 else below handlers_in (block p) all (block p c)) e in
+        let i : c.now.handler_index ≡ below handlers_in (block p) all (block p c) = index_is p q all c w
+        ∙ ap (λ b. if b then 0 else below handlers_in (block p) all (block p c)) e in
         ap (λ n. nat_le n k && nat_lt k (n + c.now.handler_count)) i
 
-owners_are : (p q : PackageRecord) (laid : List (Option Laid)) (k : ℕ) (c : Change) → IsRewritten p laid q → filter (lies_in handlers_in (block p) (changes p laid q) k) (changes p laid q) ≡ c ∷ [] → owners k (described_methods q) ≡ c.now ∷ []
+owners_are : (p q : PackageRecord) (laid : List (Option Laid)) (k : ℕ) (c : Change) → IsRewritten p laid q
+    → filter (lies_in handlers_in (block p) (changes p laid q) k) (changes p laid q) ≡ c ∷ [] → owners k (described_methods q) ≡ c.now ∷ []
 unfolding owners
 owners_are p q laid k c r alone =
     let cs = changes p laid q in
@@ -207,7 +230,8 @@ owners_are p q laid k c r alone =
     ap (filter (claims k)) (sym (news p q laid r))
     ∙ filter_map_in (claims k) now_of cs
     ∙ ap (map now_of) (filter_alike (λ (x : Change). claims k x.now) (lies_in handlers_in (block p) cs k) cs
-    (each_of (λ (x : Change). claims k x.now ≡ lies_in handlers_in (block p) cs k x) cs (λ x h. lies_or_claims p q cs k x (each_at (IsMethodWritten p q cs) cs x ws h))) ∙ alone)
+    (each_of (λ (x : Change). claims k x.now ≡ lies_in handlers_in (block p) cs k x) cs
+    (λ x h. lies_or_claims p q cs k x (each_at (IsMethodWritten p q cs) cs x ws h))) ∙ alone)
 
 -- ---- where an entry lies
 
@@ -228,7 +252,8 @@ pub record IsEntryOf (start size : ℕ) (e : HandlerInfo) : Type 0 where
   pub after : start ≤ e.entry
   pub before : e.entry < start + size
 
-entry_within : (start size : ℕ) (hs : List LaidHandler) (j : ℕ) (e : HandlerInfo) → AreInside size hs → slice_get (entries_at start hs) j ≡ Some e → IsEntryOf start size e
+entry_within : (start size : ℕ) (hs : List LaidHandler) (j : ℕ) (e : HandlerInfo) → AreInside size hs → slice_get (entries_at start hs) j ≡ Some e
+    → IsEntryOf start size e
 entry_within start size [] j e a g = absurd cc
 entry_within start size (h ∷ hs) zero e a g =
     let s : start + h.start ≡ e.start = ap (λ o. start_or start o) g in
@@ -254,7 +279,8 @@ entry_within start size (h ∷ hs) (suc j) e a g = entry_within start size hs j 
 four_tests : (a b c d : Bool) → a ≡ true → b ≡ true → c ≡ true → d ≡ true → a && b && c && d ≡ true
 four_tests a b c d e f g h = rw (e, f, g, h) refl
 
-within_code : (info : List ℕ) (m : MethodDescriptor) (size : ℕ) (h : HandlerInfo) → m.bytecode_count ≡ size → IsEntryOf (code_start info m) size h → is_within info h m ≡ true
+within_code : (info : List ℕ) (m : MethodDescriptor) (size : ℕ) (h : HandlerInfo) → m.bytecode_count ≡ size → IsEntryOf (code_start info m) size h
+    → is_within info h m ≡ true
 unfolding code_end
 within_code info m size h e i =
     let low = i.low in
@@ -262,11 +288,14 @@ within_code info m size h e i =
     let after = i.after in
     let before = i.before in
     let end : code_end info m ≡ code_start info m + m.bytecode_count = refl in
-    four_tests (nat_le (code_start info m) h.start) (nat_le (h.start + h.length) (code_end info m)) (nat_le (code_start info m) h.entry) (nat_lt h.entry (code_end info m))
+    four_tests (nat_le (code_start info m) h.start) (nat_le (h.start + h.length) (code_end info m)) (nat_le (code_start info m) h.entry)
+    (nat_lt h.entry (code_end info m))
     (grind arith) (le-leb (h.start + h.length) (code_end info m) (omega arith)) (grind arith) (lt-ltb h.entry (code_end info m) (omega arith))
 
-owner_within : (p q : PackageRecord) (all : List Change) (c : Change) (k : ℕ) (h : HandlerInfo) (l : Option Laid) (x : _) → IsFor x l → IsAs p q c.source.method l c.now → IsMethodWritten p q all c
-    → slice_get q.methods.handlers k ≡ Some h → below handlers_in (block p) all (block p c) ≤ k → k < below handlers_in (block p) all (block p c) + c.now.handler_count → is_within q.methods.info h c.now ≡ true
+owner_within : (p q : PackageRecord) (all : List Change) (c : Change) (k : ℕ) (h : HandlerInfo) (l : Option Laid) (x : _) → IsFor x l
+    → IsAs p q c.source.method l c.now → IsMethodWritten p q all c
+    → slice_get q.methods.handlers k ≡ Some h → below handlers_in (block p) all (block p c) ≤ k
+    → k < below handlers_in (block p) all (block p c) + c.now.handler_count → is_within q.methods.info h c.now ≡ true
 owner_within p q all c k h None x f is w g low high = let z = is.no_handlers in absurd (omega arith)
 owner_within p q all c k h (Some laid) x f is w g low high =
     let m = c.now in
@@ -275,7 +304,8 @@ owner_within p q all c k h (Some laid) x f is w g low high =
     let i : m.handler_index ≡ n = index_is p q all c w ∙ ap (λ b. if b then 0 else n) some in
     let at : m.handler_index + (k - n) ≡ k = omega arith in
     let e : slice_get (handlers_of q m) (k - n) ≡ Some h =
-    get_take m.handler_count (k - n) (drop m.handler_index q.methods.handlers) (omega arith) ∙ get_drop m.handler_index (k - n) q.methods.handlers ∙ ap (slice_get q.methods.handlers) at ∙ g in
+    get_take m.handler_count (k - n) (drop m.handler_index q.methods.handlers) (omega arith) ∙ get_drop m.handler_index (k - n) q.methods.handlers
+    ∙ ap (slice_get q.methods.handlers) at ∙ g in
     within_code q.methods.info m (length laid.code) h is.long
     (entry_within (code_start q.methods.info m) (length laid.code) laid.handlers (k - n) h f.inside (ap (λ hs. slice_get hs (k - n)) (sym is.handlers) ∙ e))
   where
@@ -284,17 +314,22 @@ owner_within p q all c k h (Some laid) x f is w g low high =
 
 -- ---- all entries, and all that methods claim
 
-numbered_all : {X : Type 0} (P : ℕ × X → Type 0) (n : ℕ) (xs : List X) → ((i : ℕ) (x : X) → slice_get xs i ≡ Some x → P (n + i, x)) → Each P (enumerate_from n xs)
+numbered_all : {X : Type 0} (P : ℕ × X → Type 0) (n : ℕ) (xs : List X) → ((i : ℕ) (x : X) → slice_get xs i ≡ Some x → P (n + i, x))
+    → Each P (enumerate_from n xs)
 numbered_all P n [] f = tt
 numbered_all P n (x ∷ xs) f =
-    let e : n + 0 ≡ n = omega arith in
-    (subst (λ k. P (k, x)) e (f 0 x refl), numbered_all P (n + 1) xs (λ i y g. let s : n + suc i ≡ n + 1 + i = omega arith in subst (λ k. P (k, y)) s (f (suc i) y g)))
+    let e : n + 0 ≡ n = omega arith in (
+      subst (λ k. P (k, x)) e (f 0 x refl),
+      numbered_all P (n + 1) xs (λ i y g. let s : n + suc i ≡ n + 1 + i = omega arith in subst (λ k. P (k, y)) s (f (suc i) y g)),
+    )
 
-entry_home : (info : List ℕ) (ms : List MethodDescriptor) (k : ℕ) (h : HandlerInfo) (m : MethodDescriptor) → owners k ms ≡ m ∷ [] → is_within info h m ≡ true → handler_fault info ms k h ≡ None
+entry_home : (info : List ℕ) (ms : List MethodDescriptor) (k : ℕ) (h : HandlerInfo) (m : MethodDescriptor) → owners k ms ≡ m ∷ []
+    → is_within info h m ≡ true → handler_fault info ms k h ≡ None
 unfolding handler_fault
 entry_home info ms k h m e w = rw (e, w) refl
 
-one_entry : (parts : List Lent) (p q : PackageRecord) (laid : List (Option Laid)) → Agrees parts p → AreLaidFor p laid → IsRewritten p laid q → (k : ℕ) (h : HandlerInfo) → slice_get q.methods.handlers k ≡ Some h → handler_fault q.methods.info (described_methods q) k h ≡ None
+one_entry : (parts : List Lent) (p q : PackageRecord) (laid : List (Option Laid)) → Agrees parts p → AreLaidFor p laid → IsRewritten p laid q
+    → (k : ℕ) (h : HandlerInfo) → slice_get q.methods.handlers k ≡ Some h → handler_fault q.methods.info (described_methods q) k h ≡ None
 one_entry parts p q laid a l r k h g =
     let cs = changes p laid q in
     let less = slice_get_within q.methods.handlers k h g in
@@ -308,21 +343,25 @@ claim_none : (n : ℕ) (m : MethodDescriptor) → ((m.handler_count == 0) ≡ fa
 unfolding claim_fault
 claim_none n m h = by (m.handler_count == 0) refl
   where
-    by : (b : Bool) → (m.handler_count == 0) ≡ b → (if not b && nat_lt n (m.handler_index + m.handler_count) then Some (HandlerOutside (max m.handler_index n)) else None) ≡ None
+    by : (b : Bool) → (m.handler_count == 0) ≡ b
+        → (if not b && nat_lt n (m.handler_index + m.handler_count) then Some (HandlerOutside (max m.handler_index n)) else None) ≡ None
     by true e = refl
     by false e = let le = h e in let f : nat_lt n (m.handler_index + m.handler_count) ≡ false = grind arith in rw f refl
 
 not_itself : (a : ℕ) → nat_lt a a ≡ false
 not_itself a = grind arith
 
-claims_now : (p q : PackageRecord) (all : List Change) (c : Change) → IsMethodWritten p q all c → Has all c → length q.methods.handlers ≡ sum_by handlers_in all → claim_fault (length q.methods.handlers) c.now ≡ None
+claims_now : (p q : PackageRecord) (all : List Change) (c : Change) → IsMethodWritten p q all c → Has all c
+    → length q.methods.handlers ≡ sum_by handlers_in all → claim_fault (length q.methods.handlers) c.now ≡ None
 claims_now p q all c w h many = claim_none (length q.methods.handlers) c.now (λ e.
-    let i : c.now.handler_index ≡ below handlers_in (block p) all (block p c) = index_is p q all c w ∙ ap (λ b. if b then 0 else below handlers_in (block p) all (block p c)) e in
+    let i : c.now.handler_index ≡ below handlers_in (block p) all (block p c) = index_is p q all c w
+    ∙ ap (λ b. if b then 0 else below handlers_in (block p) all (block p c)) e in
     let s = sum_beside handlers_in (is_below (block p) (block p c)) all c (not_itself (block p c)) h in
     omega arith)
 
 pub all_home : (parts : List Lent) (p q : PackageRecord) (laid : List (Option Laid)) → Agrees parts p → AreLaidFor p laid → IsRewritten p laid q
-    → filter_map (numbered_fault q.methods.info (described_methods q)) (enumerate_from 0 q.methods.handlers) ++ filter_map (claim_fault (length q.methods.handlers)) (described_methods q) ≡ []
+    → filter_map (numbered_fault q.methods.info (described_methods q)) (enumerate_from 0 q.methods.handlers) ++ filter_map
+    (claim_fault (length q.methods.handlers)) (described_methods q) ≡ []
 all_home parts p q laid a l r =
     let cs = changes p laid q in
     let ms = described_methods q in

@@ -1,5 +1,6 @@
 -- The headers of methods, wherever their bytes stand.
-use Rattle.std.proofs.Common.{◌≡◌, ◌+◌, ℕ, zero, suc, List, [], ◌∷◌, length, take, drop, Bool, true, false, Option, Some, None, Ok, Err, refl, sym, ap, subst, ◌∙◌, arith, length-drop, length-take}
+use Rattle.std.proofs.Common.{◌≡◌, ◌+◌, ℕ, zero, suc, List, [], ◌∷◌, length, take, drop, Bool, true, false, Option, Some, None, Ok, Err, refl}
+use Rattle.std.proofs.Common.{sym, ap, subst, ◌∙◌, arith, length-drop, length-take}
 use Rattle.std.specs.Prelude.{if◌then◌else◌, nat_le}
 use Rattle.std.specs.Result.{result_ok}
 use Rattle.std.specs.Option.{option_map}
@@ -21,7 +22,8 @@ number_drop n k xs =
     let d = drop-drop k n xs in
     let l = length-drop n xs in
     let t : nat_le (n + k + 1) (length xs) ≡ nat_le (k + 1) (length (drop n xs)) = grind (arith, l) in
-    ap (λ b. if b then Some (big_number 1 (drop (n + k) xs)) else None) t ∙ ap (λ ys. if nat_le (k + 1) (length (drop n xs)) then Some (big_number 1 ys) else None) (sym d)
+    ap (λ b. if b then Some (big_number 1 (drop (n + k) xs)) else None) t
+    ∙ ap (λ ys. if nat_le (k + 1) (length (drop n xs)) then Some (big_number 1 ys) else None) (sym d)
 
 number_front : (j : ℕ) (zs : List ℕ) → big_number 1 (take (suc j) zs) ≡ big_number 1 zs
 number_front j [] = refl
@@ -46,11 +48,13 @@ number_take k j ys =
     ∙ ap (λ n. if nat_le (k + 1) (length ys) then Some n else None) (ap (big_number 1) (drop_take k (suc j) ys) ∙ number_front j (drop k ys))
 
 -- where so many bytes are the same, so is each of them
-same_byte : (k j m n : ℕ) (xs ys : List ℕ) → take (k + suc j) (drop n ys) ≡ take (k + suc j) (drop m xs) → number_at 1 (n + k) ys ≡ number_at 1 (m + k) xs
+same_byte : (k j m n : ℕ) (xs ys : List ℕ) → take (k + suc j) (drop n ys) ≡ take (k + suc j) (drop m xs)
+    → number_at 1 (n + k) ys ≡ number_at 1 (m + k) xs
 same_byte k j m n xs ys e =
     number_drop n k ys ∙ sym (number_take k j (drop n ys)) ∙ ap (number_at 1 k) e ∙ number_take k j (drop m xs) ∙ sym (number_drop m k xs)
 
-byte_moved : (k j m n at to x : ℕ) (xs ys : List ℕ) → take (k + suc j) (drop n ys) ≡ take (k + suc j) (drop m xs) → at ≡ m + k → to ≡ n + k → number_at 1 at xs ≡ Some x → number_at 1 to ys ≡ Some x
+byte_moved : (k j m n at to x : ℕ) (xs ys : List ℕ) → take (k + suc j) (drop n ys) ≡ take (k + suc j) (drop m xs) → at ≡ m + k → to ≡ n + k
+    → number_at 1 at xs ≡ Some x → number_at 1 to ys ≡ Some x
 byte_moved k j m n at to x xs ys e a t h =
     ap (λ i. number_at 1 i ys) t ∙ same_byte k j m n xs ys e ∙ ap (λ i. number_at 1 i xs) (sym a) ∙ h
 
@@ -85,7 +89,8 @@ read_is info offset h r =
     let s : Spells method_header info offset h r.after = (r.first, offset + 1, (r.there, refl, refl), r.rest) in
     rw (spelled-read (info_of 7) method_header info offset h r.after s) refl
 
-size_read : (b : Bool) (first at after : ℕ) (info : List ℕ) (h : Header) → Spells (header_after b first) info at h after → h.size ≡ (if b then 4 else 2)
+size_read : (b : Bool) (first at after : ℕ) (info : List ℕ) (h : Header) → Spells (header_after b first) info at h after
+    → h.size ≡ (if b then 4 else 2)
 unfolding Spells
 size_read true first at after info h s = ap (λ (k : Header). k.size) s.3.3.3.0
 size_read false first at after info h s = ap (λ (k : Header). k.size) s.3.0
@@ -96,7 +101,8 @@ header_sized info offset h e =
     let r = is_read info offset h e in
     size_read (nat_le 128 r.first) r.first (offset + 1) r.after info h r.rest ∙ sym (ap size_by r.there)
 
-rest_moved : (b : Bool) (first m n after : ℕ) (xs ys : List ℕ) (h : Header) → take (if b then 4 else 2) (drop n ys) ≡ take (if b then 4 else 2) (drop m xs) → Spells (header_after b first) xs (m + 1) h after
+rest_moved : (b : Bool) (first m n after : ℕ) (xs ys : List ℕ) (h : Header) → take (if b then 4 else 2) (drop n ys) ≡ take (if b then 4 else 2)
+    (drop m xs) → Spells (header_after b first) xs (m + 1) h after
     → (end : ℕ) × Spells (header_after b first) ys (n + 1) h end
 unfolding Spells
 rest_moved true first m n after xs ys h e s =
@@ -104,7 +110,8 @@ rest_moved true first m n after xs ys h e s =
     let u = t.3 in
     let a : number_at 1 (n + 1) ys ≡ Some s.0 = byte_moved 1 2 m n (m + 1) (n + 1) s.0 xs ys e refl refl s.2.0 in
     let b : number_at 1 (n + 1 + 1) ys ≡ Some t.0 = byte_moved 2 1 m n s.1 (n + 1 + 1) t.0 xs ys e (omega (arith, s.2.2)) (omega arith) t.2.0 in
-    let c : number_at 1 (n + 1 + 1 + 1) ys ≡ Some u.0 = byte_moved 3 0 m n t.1 (n + 1 + 1 + 1) u.0 xs ys e (omega (arith, s.2.2, t.2.2)) (omega arith) u.2.0 in
+    let c : number_at 1 (n + 1 + 1 + 1) ys ≡ Some u.0 = byte_moved 3 0 m n t.1 (n + 1 + 1 + 1) u.0 xs ys e (omega (arith, s.2.2, t.2.2)) (omega arith)
+    u.2.0 in
     (n + 1 + 1 + 1 + 1, (s.0, n + 1 + 1, (a, refl, refl), (t.0, n + 1 + 1 + 1, (b, refl, refl), (u.0, n + 1 + 1 + 1 + 1, (c, refl, refl), (u.3.0, refl)))))
 rest_moved false first m n after xs ys h e s =
     let a : number_at 1 (n + 1) ys ≡ Some s.0 = byte_moved 1 0 m n (m + 1) (n + 1) s.0 xs ys e refl refl s.2.0 in
@@ -144,7 +151,8 @@ pub moved : (xs ys : List ℕ) (m n : ℕ) (h : Header) → lead_bytes ys n ≡ 
 unfolding lead_bytes
 moved xs ys m n h e there =
     let r = is_read xs m h there in
-    let one : take 1 (drop n ys) ≡ take 1 (drop m xs) = sym (front_by (number_at 1 n ys) (drop n ys)) ∙ ap (take 1) e ∙ front_by (number_at 1 m xs) (drop m xs) in
+    let one : take 1 (drop n ys) ≡ take 1 (drop m xs) = sym (front_by (number_at 1 n ys) (drop n ys)) ∙ ap (take 1) e
+    ∙ front_by (number_at 1 m xs) (drop m xs) in
     let first : number_at 1 n ys ≡ number_at 1 m xs = first_same m n xs ys one in
     let size : size_by (number_at 1 n ys) ≡ size_by (number_at 1 m xs) = ap size_by first in
     let told : size_by (number_at 1 m xs) ≡ (if nat_le 128 r.first then 4 else 2) = ap size_by r.there in

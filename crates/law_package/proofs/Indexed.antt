@@ -1,5 +1,6 @@
 -- Where a method that is written stands, and where its handlers do.
-use Rattle.std.proofs.Common.{◌≡◌, ◌≤◌, ◌<◌, ◌+◌, ℕ, suc, List, [], ◌∷◌, ◌++◌, length, map, filter, replicate, sum_by, Bool, true, false, not, Option, Some, None, is_none, inl, inr, ◌⊎◌, refl, sym, ap, subst, ◌∙◌, arith, length-append}
+use Rattle.std.proofs.Common.{◌≡◌, ◌≤◌, ◌<◌, ◌+◌, ℕ, suc, List, [], ◌∷◌, ◌++◌, length, map, filter, replicate, sum_by, Bool}
+use Rattle.std.proofs.Common.{true, false, not, Option, Some, None, is_none, inl, inr, ◌⊎◌, refl, sym, ap, subst, ◌∙◌, arith, length-append}
 use Rattle.std.specs.Prelude.{if◌then◌else◌, nat_lt, ◌==◌}
 use Rattle.std.proofs.lemmas.List.{map-append}
 use Rattle.std.proofs.lemmas.List.Filters.{sum_by-filter_both}
@@ -32,7 +33,8 @@ use Rattle.law_package.proofs.Kept.{map_twice, sum_map}
 use Rattle.law_package.proofs.Standing.{distinct_map}
 use Rattle.law_package.proofs.Handlers.{ClaimsInside, OwnedOnce, owned_once, all_claims, blocks_apart, distinct_numbers, has_map, some_count, block}
 use Rattle.law_package.proofs.Ranks.{sums_agree, sum_through, sums_all, split_at, late_sum, Rising, rising_map, rising_sources, rising_before, rising_after}
-use Rattle.law_package.proofs.Slots.{slot, sum_slots, size_of, key_below, Differ, AreApartBy, at_offset_of, first_of, put_all, own, holds, all_free, slot_none, sum_put, length_table, by_offset_is, firsts_is, place_is}
+use Rattle.law_package.proofs.Slots.{slot, sum_slots, size_of, key_below, Differ, AreApartBy, at_offset_of, first_of, put_all, own, holds, all_free, slot_none}
+use Rattle.law_package.proofs.Slots.{sum_put, length_table, by_offset_is, firsts_is, place_is}
 use Rattle.law_package.proofs.Anew.{Pair, pairs_in, source_in, member_in, pair_sources, pair_members, change_in}
 use Rattle.law_package.proofs.Order.{many_of, present, total_sum, total_slots, IsAmong, early, late}
 use Rattle.law_package.proofs.Known.{Known, was_described, of_methods, size_known}
@@ -49,18 +51,25 @@ apart_by size (m ∷ ms) a d =
     let in_size = a.0.within in
     let others = alone_each m.offset ms d.0 in (
       (λ i e. let s = same_Some m.offset i e in omega arith),
-      each_of (Differ at_offset_of m) ms (λ y h. λ i e f. each_at (λ (x : WrittenMember). x.offset ≡ m.offset → ⊥) ms y others h (same_Some y.offset i f ∙ sym (same_Some m.offset i e))),
+      each_of (Differ at_offset_of m) ms
+          (λ y h. λ i e f. each_at (λ (x : WrittenMember). x.offset ≡ m.offset → ⊥) ms y others h
+          (same_Some y.offset i f ∙ sym (same_Some m.offset i e))),
       apart_by size ms a.1 d.1,
     )
 
-apart_after : (lead rest : List WrittenMember) (m : WrittenMember) → AreApart (lead ++ m ∷ rest) → Each (λ (b : WrittenMember). b.offset ≡ m.offset → ⊥) rest
+apart_after : (lead rest : List WrittenMember) (m : WrittenMember) → AreApart (lead ++ m ∷ rest)
+    → Each (λ (b : WrittenMember). b.offset ≡ m.offset → ⊥) rest
 apart_after [] rest m a = alone_each m.offset rest a.0
 apart_after (x ∷ lead) rest m a = apart_after lead rest m a.1
 
-pub own_slot : (size : ℕ) (ms : List WrittenMember) (m : WrittenMember) → AreMembers size ms → AreApart ms → Has ms m → slot (by_offset size ms) m.offset ≡ Some m
-own_slot size ms m a d h = ap (λ t. slot t m.offset) (by_offset_is size ms) ∙ own at_offset_of (replicate size None) ms m m.offset (all_free at_offset_of size ms (apart_by size ms a d)) h refl
+pub own_slot : (size : ℕ) (ms : List WrittenMember) (m : WrittenMember) → AreMembers size ms → AreApart ms → Has ms m
+    → slot (by_offset size ms) m.offset ≡ Some m
+own_slot size ms m a d h =
+    ap (λ t. slot t m.offset) (by_offset_is size ms)
+    ∙ own at_offset_of (replicate size None) ms m m.offset (all_free at_offset_of size ms (apart_by size ms a d)) h refl
 
-only_one : (size : ℕ) (ms : List WrittenMember) (m b : WrittenMember) → AreMembers size ms → AreApart ms → Has ms m → Has ms b → b.offset ≡ m.offset → b ≡ m
+only_one : (size : ℕ) (ms : List WrittenMember) (m b : WrittenMember) → AreMembers size ms → AreApart ms → Has ms m → Has ms b
+    → b.offset ≡ m.offset → b ≡ m
 only_one size ms m b a d h g s =
     let x = own_slot size ms m a d h in
     let y = own_slot size ms b a d g in
@@ -82,29 +91,36 @@ place_among size room ms m a d h =
     ∙ ap (λ t. at + sum_slots size_of m.offset t) (by_offset_is size ms)
     ∙ ap (λ n. at + n) (sum_put size_of at_offset_of size m.offset ms (apart_by size ms a d))
 
-has_member : (p q : PackageRecord) (laid : List (Option Laid)) (ms : List WrittenMember) (z : Pair) → IsWrittenAnew p laid ms q → Has (pairs_in p laid ms) z → Has ms z.member
-has_member p q laid ms z w h = subst (λ xs. Has xs z.member) (pair_members p.methods.info (sources p laid) ms w.members) (has_map member_in (pairs_in p laid ms) z h)
+has_member : (p q : PackageRecord) (laid : List (Option Laid)) (ms : List WrittenMember) (z : Pair) → IsWrittenAnew p laid ms q
+    → Has (pairs_in p laid ms) z → Has ms z.member
+has_member p q laid ms z w h =
+    subst (λ xs. Has xs z.member) (pair_members p.methods.info (sources p laid) ms w.members) (has_map member_in (pairs_in p laid ms) z h)
 
-over_pairs : (p q : PackageRecord) (laid : List (Option Laid)) (ms : List WrittenMember) (f : WrittenMember → ℕ) (t : WrittenMember → Bool) → IsWrittenAnew p laid ms q
+over_pairs : (p q : PackageRecord) (laid : List (Option Laid)) (ms : List WrittenMember) (f : WrittenMember → ℕ) (t : WrittenMember → Bool)
+    → IsWrittenAnew p laid ms q
     → sum_by f (filter t ms) ≡ sum_by (λ (z : Pair). f z.member) (filter (λ (z : Pair). t z.member) (pairs_in p laid ms))
 over_pairs p q laid ms f t w =
     ap (λ xs. sum_by f (filter t xs)) (sym (pair_members p.methods.info (sources p laid) ms w.members)) ∙ sum_through f t member_in (pairs_in p laid ms)
 
-pub starts : (p q : PackageRecord) (laid : List (Option Laid)) (ms : List WrittenMember) → IsWrittenAnew p laid ms q → start_of (length p.methods.handlers) ms ≡ methods_begin q
+pub starts : (p q : PackageRecord) (laid : List (Option Laid)) (ms : List WrittenMember) → IsWrittenAnew p laid ms q
+    → start_of (length p.methods.handlers) ms ≡ methods_begin q
 starts p q laid ms w =
     let a = ap length w.handlers in
     let b = length_entries (places p ms) (blocks (length p.methods.handlers) ms) in
     omega arith
 
-pub placed_known : (p q : PackageRecord) (laid : List (Option Laid)) (ms : List WrittenMember) (z : Pair) → IsWrittenAnew p laid ms q → Each (Known p q ms) (pairs_in p laid ms) → Has (pairs_in p laid ms) z
-    → (renewed_method (places p ms) z.source.method).method_offset ≡ methods_begin q + sum_by (size_written q) (filter (stood_before (change_in (places p ms) z)) (map (change_in (places p ms)) (pairs_in p laid ms)))
+pub placed_known : (p q : PackageRecord) (laid : List (Option Laid)) (ms : List WrittenMember) (z : Pair) → IsWrittenAnew p laid ms q
+    → Each (Known p q ms) (pairs_in p laid ms) → Has (pairs_in p laid ms) z
+    → (renewed_method (places p ms) z.source.method).method_offset ≡ methods_begin q + sum_by (size_written q)
+    (filter (stood_before (change_in (places p ms) z)) (map (change_in (places p ms)) (pairs_in p laid ms)))
 placed_known p q laid ms z w ks h =
     let zs = pairs_in p laid ms in
     let size = length p.methods.info in
     let room = length p.methods.handlers in
     let news = places p ms in
     let k = each_at (Known p q ms) zs z ks h in
-    let sizes : Each (λ (y : Pair). size_of y.member ≡ size_written q (change_in news y)) zs = each_of (λ (y : Pair). size_of y.member ≡ size_written q (change_in news y)) zs (λ y g. sym (size_known p q ms y (each_at (Known p q ms) zs y ks g))) in
+    let sizes : Each (λ (y : Pair). size_of y.member ≡ size_written q (change_in news y)) zs = each_of
+    (λ (y : Pair). size_of y.member ≡ size_written q (change_in news y)) zs (λ y g. sym (size_known p q ms y (each_at (Known p q ms) zs y ks g))) in
     let tests : Each (λ (y : Pair). nat_lt y.member.offset z.member.offset ≡ nat_lt y.source.method.method_offset z.source.method.method_offset) zs =
     each_of (λ (y : Pair). nat_lt y.member.offset z.member.offset ≡ nat_lt y.source.method.method_offset z.source.method.method_offset) zs
     (λ y g. ap (λ n. nat_lt n z.member.offset) (each_at (Known p q ms) zs y ks g).is.offset ∙ ap (nat_lt y.source.method.method_offset) k.is.offset) in
@@ -112,7 +128,9 @@ placed_known p q laid ms z w ks h =
     ∙ place_among size room ms z.member w.may.each w.may.apart (has_member p q laid ms z w h)
     ∙ ap (λ n. n + sum_by size_of (filter (λ (y : WrittenMember). nat_lt y.offset z.member.offset) ms)) (starts p q laid ms w)
     ∙ ap (λ n. methods_begin q + n) (over_pairs p q laid ms size_of (λ (y : WrittenMember). nat_lt y.offset z.member.offset) w
-    ∙ sums_agree (λ (y : Pair). size_of y.member) (λ (y : Pair). size_written q (change_in news y)) (λ (y : Pair). nat_lt y.member.offset z.member.offset) (λ (y : Pair). nat_lt y.source.method.method_offset z.source.method.method_offset) zs sizes tests
+    ∙ sums_agree (λ (y : Pair). size_of y.member) (λ (y : Pair). size_written q (change_in news y))
+    (λ (y : Pair). nat_lt y.member.offset z.member.offset) (λ (y : Pair). nat_lt y.source.method.method_offset z.source.method.method_offset) zs sizes
+    tests
     ∙ sym (sum_through (size_written q) (stood_before (change_in news z)) (change_in news) zs))
 
 -- ---- blocks
@@ -145,11 +163,14 @@ was_first : (p : PackageRecord) (s : FormerMethod) → WasFirst p s (first_handl
 was_first p s = by (s.method.handler_count == 0) refl
   where
     by : (b : Bool) → (s.method.handler_count == 0) ≡ b → WasFirst p s (first_handler s.method)
-    by true h = had_not (ap (λ b. if b then None else Some s.method.handler_index) h) (record { block = ap (λ b. if b then length p.methods.handlers + s.number else s.method.handler_index) h })
+    by true h =
+        had_not (ap (λ b. if b then None else Some s.method.handler_index) h)
+        (record { block = ap (λ b. if b then length p.methods.handlers + s.number else s.method.handler_index) h })
     by false h = had s.method.handler_index (ap (λ b. if b then None else Some s.method.handler_index) h)
         (record { some = h; index = refl; block = ap (λ b. if b then length p.methods.handlers + s.number else s.method.handler_index) h })
 
-first_low : (p : PackageRecord) (s : FormerMethod) (i : ℕ) → ClaimsInside (length p.methods.handlers) s.method → HadFirst p s i → i < length p.methods.handlers
+first_low : (p : PackageRecord) (s : FormerMethod) (i : ℕ) → ClaimsInside (length p.methods.handlers) s.method → HadFirst p s i
+    → i < length p.methods.handlers
 first_low p s i c h =
     let a = c h.some in
     let b = some_count s.method.handler_count h.some in
@@ -163,25 +184,31 @@ distinct_up : {X Y : Type 0} (key : Y → ℕ) (g : X → Y) (xs : List X) → D
 distinct_up key g [] d = tt
 distinct_up key g (x ∷ xs) d = (each_map (λ y. key y ≡ key (g x) → ⊥) g xs d.0, distinct_up key g xs d.1)
 
-was_old : (p q : PackageRecord) (laid : List (Option Laid)) (ms : List WrittenMember) → IsWrittenAnew p laid ms q → map old_of (map (change_in (places p ms)) (pairs_in p laid ms)) ≡ described_methods p
+was_old : (p q : PackageRecord) (laid : List (Option Laid)) (ms : List WrittenMember) → IsWrittenAnew p laid ms q
+    → map old_of (map (change_in (places p ms)) (pairs_in p laid ms)) ≡ described_methods p
 was_old p q laid ms w =
     let zs = pairs_in p laid ms in
-    map_twice old_of (change_in (places p ms)) zs ∙ sym (map_twice method_of source_in zs) ∙ ap (map method_of) (pair_sources p.methods.info (sources p laid) ms w.members) ∙ was_described p q laid ms w
+    map_twice old_of (change_in (places p ms)) zs ∙ sym (map_twice method_of source_in zs)
+    ∙ ap (map method_of) (pair_sources p.methods.info (sources p laid) ms w.members) ∙ was_described p q laid ms w
 
-blocks_differ : (parts : List Lent) (p q : PackageRecord) (laid : List (Option Laid)) (ms : List WrittenMember) → StandsFor parts p → IsWrittenAnew p laid ms q → Distinct (block_in p) (pairs_in p laid ms)
+blocks_differ : (parts : List Lent) (p q : PackageRecord) (laid : List (Option Laid)) (ms : List WrittenMember) → StandsFor parts p
+    → IsWrittenAnew p laid ms q → Distinct (block_in p) (pairs_in p laid ms)
 blocks_differ parts p q laid ms s w =
     let zs = pairs_in p laid ms in
     let a = agrees parts p s.agree in
     let cs = map (change_in (places p ms)) zs in
     let numbers : Distinct (λ (z : Pair). z.source.number) zs = distinct_map (λ (x : FormerMethod). x.number) source_in zs
-    (subst (Distinct (λ (x : FormerMethod). x.number)) (sym (pair_sources p.methods.info (sources p laid) ms w.members)) (distinct_numbers 0 (described_methods p) _)) in
+    (subst (Distinct (λ (x : FormerMethod). x.number)) (sym (pair_sources p.methods.info (sources p laid) ms w.members))
+    (distinct_numbers 0 (described_methods p) _)) in
     distinct_map (block p) (change_in (places p ms)) zs
     (blocks_apart p cs
-    (each_map (λ (c : Change). ClaimsInside (length p.methods.handlers) c.source.method) (change_in (places p ms)) zs (of_methods p q laid ms (ClaimsInside (length p.methods.handlers)) w (all_claims parts p a)))
+    (each_map (λ (c : Change). ClaimsInside (length p.methods.handlers) c.source.method) (change_in (places p ms)) zs
+    (of_methods p q laid ms (ClaimsInside (length p.methods.handlers)) w (all_claims parts p a)))
     (distinct_up (λ (c : Change). c.source.number) (change_in (places p ms)) zs numbers)
     (subst (OwnedOnce (length p.methods.handlers)) (sym (was_old p q laid ms w)) (owned_once parts p a)))
 
-firsts_apart : (p q : PackageRecord) (ms : List WrittenMember) (zs : List Pair) → Each (Known p q ms) zs → Distinct (block_in p) zs → AreApartBy first_of (length p.methods.handlers) (map member_in zs)
+firsts_apart : (p q : PackageRecord) (ms : List WrittenMember) (zs : List Pair) → Each (Known p q ms) zs → Distinct (block_in p) zs
+    → AreApartBy first_of (length p.methods.handlers) (map member_in zs)
 firsts_apart p q ms [] k d = tt
 firsts_apart p q ms (z ∷ zs) k d = (
   (λ i e. first_low p z.source i k.0.inside (had_first p z.source i (sym k.0.is.handlers ∙ e))),
@@ -192,8 +219,11 @@ firsts_apart p q ms (z ∷ zs) k d = (
   firsts_apart p q ms zs k.1 d.1,
 )
 
-pub all_firsts : (parts : List Lent) (p q : PackageRecord) (laid : List (Option Laid)) (ms : List WrittenMember) → StandsFor parts p → IsWrittenAnew p laid ms q → Each (Known p q ms) (pairs_in p laid ms) → AreApartBy first_of (length p.methods.handlers) ms
-all_firsts parts p q laid ms s w ks = subst (AreApartBy first_of (length p.methods.handlers)) (pair_members p.methods.info (sources p laid) ms w.members) (firsts_apart p q ms (pairs_in p laid ms) ks (blocks_differ parts p q laid ms s w))
+pub all_firsts : (parts : List Lent) (p q : PackageRecord) (laid : List (Option Laid)) (ms : List WrittenMember) → StandsFor parts p
+    → IsWrittenAnew p laid ms q → Each (Known p q ms) (pairs_in p laid ms) → AreApartBy first_of (length p.methods.handlers) ms
+all_firsts parts p q laid ms s w ks =
+    subst (AreApartBy first_of (length p.methods.handlers)) (pair_members p.methods.info (sources p laid) ms w.members)
+    (firsts_apart p q ms (pairs_in p laid ms) ks (blocks_differ parts p q laid ms s w))
 
 -- ---- handlers before
 
@@ -203,14 +233,16 @@ pub record HasRank (p : PackageRecord) (laid : List (Option Laid)) (ms : List Wr
   pub among : IsAmong (blocks (length p.methods.handlers) ms) z.member before
   pub sum : before ≡ sum_by (λ (y : Pair). many_of y.member) (filter (λ (y : Pair). nat_lt (block_in p y) (block_in p z)) (pairs_in p laid ms))
 
-below_early : (p : PackageRecord) (s : FormerMethod) (o : Option ℕ) (i n : ℕ) → n ≡ i → i < length p.methods.handlers → WasFirst p s o → key_below i o ≡ nat_lt (block_of p s) n
+below_early : (p : PackageRecord) (s : FormerMethod) (o : Option ℕ) (i n : ℕ) → n ≡ i → i < length p.methods.handlers → WasFirst p s o
+    → key_below i o ≡ nat_lt (block_of p s) n
 below_early p s o i n e lt (had j k h) = ap (key_below i) k ∙ ap (λ m. nat_lt m i) (sym h.block) ∙ ap (nat_lt (block_of p s)) (sym e)
 below_early p s o i n e lt (had_not k h) =
     let b = h.block in
     let f : nat_lt (block_of p s) n ≡ false = le-ltb (block_of p s) n (omega arith) in
     ap (key_below i) k ∙ sym f
 
-early_rank : (p q : PackageRecord) (laid : List (Option Laid)) (ms : List WrittenMember) (z : Pair) (i : ℕ) → IsWrittenAnew p laid ms q → Each (Known p q ms) (pairs_in p laid ms) → Has (pairs_in p laid ms) z
+early_rank : (p q : PackageRecord) (laid : List (Option Laid)) (ms : List WrittenMember) (z : Pair) (i : ℕ) → IsWrittenAnew p laid ms q
+    → Each (Known p q ms) (pairs_in p laid ms) → Has (pairs_in p laid ms) z
     → AreApartBy first_of (length p.methods.handlers) ms → first_handler z.source.method ≡ Some i → HadFirst p z.source i → HasRank p laid ms z
 early_rank p q laid ms z i w ks h apart e hf =
     let room = length p.methods.handlers in
@@ -221,22 +253,31 @@ early_rank p q laid ms z i w ks h apart e hf =
     let has = has_member p q laid ms z w h in
     let first : first_of m ≡ Some i = k.is.handlers ∙ e in
     let low = first_low p z.source i k.inside hf in
-    let at : slot (firsts room ms) i ≡ Some m = ap (λ t. slot t i) (firsts_is room ms) ∙ own first_of (replicate room None) ms m i (all_free first_of room ms apart) has first in
+    let at : slot (firsts room ms) i ≡ Some m = ap (λ t. slot t i) (firsts_is room ms)
+    ∙ own first_of (replicate room None) ms m i (all_free first_of room ms apart) has first in
     let tests : Each (λ (y : Pair). key_below i (first_of y.member) ≡ nat_lt (block_in p y) (block_in p z)) zs =
     each_of (λ (y : Pair). key_below i (first_of y.member) ≡ nat_lt (block_in p y) (block_in p z)) zs
-    (λ y g. ap (key_below i) (each_at (Known p q ms) zs y ks g).is.handlers ∙ below_early p y.source (first_handler y.source.method) i (block_in p z) hf.block low (was_first p y.source)) in
+    (λ y g. ap (key_below i) (each_at (Known p q ms) zs y ks g).is.handlers ∙ below_early p y.source (first_handler y.source.method) i (block_in p z)
+    hf.block low (was_first p y.source)) in
     record {
       before = sum_slots many_of i (firsts room ms);
-      among = early room ms i m at first (λ j b g. held j b (holds first_of (replicate room None) ms j b (ap (λ t. slot t j) (sym (firsts_is room ms)) ∙ g))) (λ b g s. only_one size ms m b w.may.each w.may.apart has g s);
-      sum = ap (sum_slots many_of i) (firsts_is room ms) ∙ sum_put many_of first_of room i ms apart ∙ over_pairs p q laid ms many_of (λ y. key_below i (first_of y)) w
-          ∙ sums_agree (λ (y : Pair). many_of y.member) (λ (y : Pair). many_of y.member) (λ (y : Pair). key_below i (first_of y.member)) (λ (y : Pair). nat_lt (block_in p y) (block_in p z)) zs
+      among =
+          early room ms i m at first
+          (λ j b g. held j b (holds first_of (replicate room None) ms j b (ap (λ t. slot t j) (sym (firsts_is room ms)) ∙ g)))
+          (λ b g s. only_one size ms m b w.may.each w.may.apart has g s);
+      sum =
+          ap (sum_slots many_of i) (firsts_is room ms) ∙ sum_put many_of first_of room i ms apart
+          ∙ over_pairs p q laid ms many_of (λ y. key_below i (first_of y)) w
+          ∙ sums_agree (λ (y : Pair). many_of y.member) (λ (y : Pair). many_of y.member) (λ (y : Pair). key_below i (first_of y.member))
+          (λ (y : Pair). nat_lt (block_in p y) (block_in p z)) zs
           (each_of (λ (y : Pair). many_of y.member ≡ many_of y.member) zs (λ y g. refl)) tests;
     }
   where
     no_slot : (b : WrittenMember) → None ≡ Some b → ⊥
     no_slot b k = cc
 
-    held : (j : ℕ) (b : WrittenMember) → (slot (replicate (length p.methods.handlers) None) j ≡ Some b) ⊎ (Has ms b × (first_of b ≡ Some j)) → Has ms b × (first_of b ≡ Some j)
+    held : (j : ℕ) (b : WrittenMember) → (slot (replicate (length p.methods.handlers) None) j ≡ Some b) ⊎ (Has ms b × (first_of b ≡ Some j))
+        → Has ms b × (first_of b ≡ Some j)
     held j b (inl e) = absurd (no_slot b (sym (slot_none (length p.methods.handlers) j) ∙ e))
     held j b (inr g) = g
 
@@ -247,7 +288,8 @@ had_bool : (o : Option ℕ) → had_none_of o ≡ not (not (had_none_of o))
 had_bool None = refl
 had_bool (Some i) = refl
 
-below_all : (p : PackageRecord) (s : FormerMethod) (o : Option ℕ) → ClaimsInside (length p.methods.handlers) s.method → WasFirst p s o → key_below (length p.methods.handlers) o ≡ not (had_none_of o)
+below_all : (p : PackageRecord) (s : FormerMethod) (o : Option ℕ) → ClaimsInside (length p.methods.handlers) s.method → WasFirst p s o
+    → key_below (length p.methods.handlers) o ≡ not (had_none_of o)
 below_all p s None c f = refl
 below_all p s (Some i) c (had j k h) =
     let e = same_Some i j k in
@@ -256,7 +298,8 @@ below_all p s (Some i) c (had j k h) =
 below_all p s (Some i) c (had_not k h) = absurd cc
 
 -- of two methods, one that had handlers comes before one that had none, and of those the one with the lesser number
-late_before : (p : PackageRecord) (s : FormerMethod) (o : Option ℕ) (k n : ℕ) → k ≡ length p.methods.handlers + n → s.number < n → ClaimsInside (length p.methods.handlers) s.method → WasFirst p s o → nat_lt (block_of p s) k ≡ true
+late_before : (p : PackageRecord) (s : FormerMethod) (o : Option ℕ) (k n : ℕ) → k ≡ length p.methods.handlers + n → s.number < n
+    → ClaimsInside (length p.methods.handlers) s.method → WasFirst p s o → nat_lt (block_of p s) k ≡ true
 late_before p s o k n e lt c (had i f h) =
     let b = h.block in
     let low = first_low p s i c h in
@@ -265,7 +308,8 @@ late_before p s o k n e lt c (had_not f h) =
     let b = h.block in
     lt-ltb (block_of p s) k (omega arith)
 
-late_after : (p : PackageRecord) (s : FormerMethod) (o : Option ℕ) (k n : ℕ) → k ≡ length p.methods.handlers + n → n ≤ s.number → ClaimsInside (length p.methods.handlers) s.method → WasFirst p s o → nat_lt (block_of p s) k ≡ not (had_none_of o)
+late_after : (p : PackageRecord) (s : FormerMethod) (o : Option ℕ) (k n : ℕ) → k ≡ length p.methods.handlers + n → n ≤ s.number
+    → ClaimsInside (length p.methods.handlers) s.method → WasFirst p s o → nat_lt (block_of p s) k ≡ not (had_none_of o)
 late_after p s o k n e le c (had i f h) =
     let b = h.block in
     let low = first_low p s i c h in
@@ -274,31 +318,38 @@ late_after p s o k n e le c (had_not f h) =
     let b = h.block in
     le-ltb (block_of p s) k (omega arith) ∙ ap (λ x. not (had_none_of x)) (sym f)
 
-rising_pairs : (p q : PackageRecord) (laid : List (Option Laid)) (ms : List WrittenMember) → IsWrittenAnew p laid ms q → Rising (λ (z : Pair). z.source.number) (pairs_in p laid ms)
+rising_pairs : (p q : PackageRecord) (laid : List (Option Laid)) (ms : List WrittenMember) → IsWrittenAnew p laid ms q
+    → Rising (λ (z : Pair). z.source.number) (pairs_in p laid ms)
 rising_pairs p q laid ms w = rising_map (λ (s : FormerMethod). s.number) source_in (pairs_in p laid ms)
-    (subst (Rising (λ (s : FormerMethod). s.number)) (sym (pair_sources p.methods.info (sources p laid) ms w.members)) (rising_sources 0 (described_methods p) _))
+    (subst (Rising (λ (s : FormerMethod). s.number)) (sym (pair_sources p.methods.info (sources p laid) ms w.members))
+    (rising_sources 0 (described_methods p) _))
 
 -- how many handlers those methods have that had some
-early_total : (p q : PackageRecord) (laid : List (Option Laid)) (ms : List WrittenMember) → IsWrittenAnew p laid ms q → Each (Known p q ms) (pairs_in p laid ms) → AreApartBy first_of (length p.methods.handlers) ms
-    → total_handlers (present (firsts (length p.methods.handlers) ms)) ≡ sum_by (λ (y : Pair). many_of y.member) (filter (λ (y : Pair). not (had_none y.member)) (pairs_in p laid ms))
+early_total : (p q : PackageRecord) (laid : List (Option Laid)) (ms : List WrittenMember) → IsWrittenAnew p laid ms q
+    → Each (Known p q ms) (pairs_in p laid ms) → AreApartBy first_of (length p.methods.handlers) ms
+    → total_handlers (present (firsts (length p.methods.handlers) ms)) ≡ sum_by (λ (y : Pair). many_of y.member)
+    (filter (λ (y : Pair). not (had_none y.member)) (pairs_in p laid ms))
 early_total p q laid ms w ks apart =
     let room = length p.methods.handlers in
     let zs = pairs_in p laid ms in
     let tests : Each (λ (y : Pair). key_below room (first_of y.member) ≡ not (had_none y.member)) zs =
     each_of (λ (y : Pair). key_below room (first_of y.member) ≡ not (had_none y.member)) zs
-    (λ y g. let k = each_at (Known p q ms) zs y ks g in below_all p y.source (first_of y.member) k.inside (subst (WasFirst p y.source) (sym k.is.handlers) (was_first p y.source))) in
+    (λ y g. let k = each_at (Known p q ms) zs y ks g in
+    below_all p y.source (first_of y.member) k.inside (subst (WasFirst p y.source) (sym k.is.handlers) (was_first p y.source))) in
     ap (λ t. total_handlers (present t)) (firsts_is room ms)
     ∙ total_slots (put_all first_of (replicate room None) ms)
     ∙ ap (λ n. sum_slots many_of n (put_all first_of (replicate room None) ms)) (length_table first_of room ms)
     ∙ sum_put many_of first_of room room ms apart
     ∙ over_pairs p q laid ms many_of (λ y. key_below room (first_of y)) w
-    ∙ sums_agree (λ (y : Pair). many_of y.member) (λ (y : Pair). many_of y.member) (λ (y : Pair). key_below room (first_of y.member)) (λ (y : Pair). not (had_none y.member)) zs
+    ∙ sums_agree (λ (y : Pair). many_of y.member) (λ (y : Pair). many_of y.member) (λ (y : Pair). key_below room (first_of y.member))
+    (λ (y : Pair). not (had_none y.member)) zs
     (each_of (λ (y : Pair). many_of y.member ≡ many_of y.member) zs (λ y g. refl)) tests
 
 map_parts : {X Y : Type 0} (g : X → Y) (xs ys : List X) (x : X) → map g (xs ++ x ∷ ys) ≡ map g xs ++ g x ∷ map g ys
 map_parts g xs ys x = map-append g xs (x ∷ ys)
 
-late_rank : (p q : PackageRecord) (laid : List (Option Laid)) (ms : List WrittenMember) (z : Pair) → IsWrittenAnew p laid ms q → Each (Known p q ms) (pairs_in p laid ms) → Has (pairs_in p laid ms) z
+late_rank : (p q : PackageRecord) (laid : List (Option Laid)) (ms : List WrittenMember) (z : Pair) → IsWrittenAnew p laid ms q
+    → Each (Known p q ms) (pairs_in p laid ms) → Has (pairs_in p laid ms) z
     → AreApartBy first_of (length p.methods.handlers) ms → first_handler z.source.method ≡ None → HadNone p z.source → HasRank p laid ms z
 late_rank p q laid ms z w ks h apart e hn =
     let room = length p.methods.handlers in
@@ -308,7 +359,8 @@ late_rank p q laid ms z w ks h apart e hn =
     let lead = map member_in s.lead in
     let rest = map member_in s.rest in
     let m = z.member in
-    let parts : ms ≡ lead ++ m ∷ rest = sym (pair_members p.methods.info (sources p laid) ms w.members) ∙ ap (map member_in) s.is ∙ map_parts member_in s.lead s.rest z in
+    let parts : ms ≡ lead ++ m ∷ rest = sym (pair_members p.methods.info (sources p laid) ms w.members) ∙ ap (map member_in) s.is
+    ∙ map_parts member_in s.lead s.rest z in
     let none : had_none m ≡ true = ap had_none_of (k.is.handlers ∙ e) in
     let others = apart_after lead rest m (subst AreApart parts w.may.apart) in
     let among = late room lead rest m none others in
@@ -317,20 +369,29 @@ late_rank p q laid ms z w ks h apart e hn =
     let after = rising_after (λ (y : Pair). y.source.number) s.lead s.rest z rising in
     let ks' = subst (Each (Known p q ms)) s.is ks in
     let at_lead : (y : Pair) → Has s.lead y → Known p q ms y = λ y g. each_at (Known p q ms) s.lead y (lead_each s.lead (z ∷ s.rest) ks') g in
-    let at_rest : (y : Pair) → Has (z ∷ s.rest) y → Known p q ms y = λ y g. each_at (Known p q ms) (z ∷ s.rest) y (rest_each s.lead (z ∷ s.rest) ks') g in
+    let at_rest : (y : Pair) → Has (z ∷ s.rest) y → Known p q ms y = λ y g. each_at (Known p q ms) (z ∷ s.rest) y
+    (rest_each s.lead (z ∷ s.rest) ks') g in
     let sum : sum_by (λ (y : Pair). many_of y.member) (filter (λ (y : Pair). nat_lt (block_in p y) (block_in p z)) (s.lead ++ z ∷ s.rest))
-    ≡ sum_by (λ (y : Pair). many_of y.member) (filter (λ (y : Pair). not (had_none y.member)) (s.lead ++ z ∷ s.rest)) + sum_by (λ (y : Pair). many_of y.member) (filter (λ (y : Pair). had_none y.member) s.lead) =
-    late_sum (λ (y : Pair). many_of y.member) (λ (y : Pair). not (had_none y.member)) (λ (y : Pair). had_none y.member) (λ (y : Pair). nat_lt (block_in p y) (block_in p z)) s.lead (z ∷ s.rest)
+    ≡ sum_by (λ (y : Pair). many_of y.member) (filter (λ (y : Pair). not (had_none y.member)) (s.lead ++ z ∷ s.rest)) + sum_by
+    (λ (y : Pair). many_of y.member) (filter (λ (y : Pair). had_none y.member) s.lead) =
+    late_sum (λ (y : Pair). many_of y.member) (λ (y : Pair). not (had_none y.member)) (λ (y : Pair). had_none y.member)
+    (λ (y : Pair). nat_lt (block_in p y) (block_in p z)) s.lead (z ∷ s.rest)
     (λ y. had_bool (first_of y.member))
-    (each_of (λ (y : Pair). nat_lt (block_in p y) (block_in p z) ≡ true) s.lead (λ y g. late_before p y.source (first_handler y.source.method) (block_in p z) z.source.number hn.block (each_at (λ (x : Pair). x.source.number < z.source.number) s.lead y before g) (at_lead y g).inside (was_first p y.source)))
+    (each_of (λ (y : Pair). nat_lt (block_in p y) (block_in p z) ≡ true) s.lead
+    (λ y g. late_before p y.source (first_handler y.source.method) (block_in p z) z.source.number hn.block
+    (each_at (λ (x : Pair). x.source.number < z.source.number) s.lead y before g) (at_lead y g).inside (was_first p y.source)))
     (each_of (λ (y : Pair). nat_lt (block_in p y) (block_in p z) ≡ not (had_none y.member)) (z ∷ s.rest)
-    (λ y g. late_after p y.source (first_handler y.source.method) (block_in p z) z.source.number hn.block (not_less s.rest y g after) (at_rest y g).inside (was_first p y.source) ∙ ap (λ o. not (had_none_of o)) (sym (at_rest y g).is.handlers))) in
+    (λ y g. late_after p y.source (first_handler y.source.method) (block_in p z) z.source.number hn.block (not_less s.rest y g after) (at_rest y g).inside
+    (was_first p y.source) ∙ ap (λ o. not (had_none_of o)) (sym (at_rest y g).is.handlers))) in
     let following : total_handlers (filter had_none lead) ≡ sum_by (λ (y : Pair). many_of y.member) (filter (λ (y : Pair). had_none y.member) s.lead) =
     total_sum (filter had_none lead) ∙ sum_through many_of had_none member_in s.lead in
     record {
       before = total_handlers (present (firsts room ms)) + total_handlers (filter had_none lead);
       among = subst (λ xs. IsAmong (blocks room xs) m (total_handlers (present (firsts room xs)) + total_handlers (filter had_none lead))) (sym parts) among;
-      sum = sums (total_handlers (present (firsts room ms))) (total_handlers (filter had_none lead)) _ _ _ (early_total p q laid ms w ks apart ∙ ap (λ xs. sum_by (λ (y : Pair). many_of y.member) (filter (λ (y : Pair). not (had_none y.member)) xs)) s.is) following sum
+      sum =
+          sums (total_handlers (present (firsts room ms))) (total_handlers (filter had_none lead)) _ _ _
+          (early_total p q laid ms w ks apart ∙ ap (λ xs. sum_by (λ (y : Pair). many_of y.member) (filter (λ (y : Pair). not (had_none y.member)) xs))
+          s.is) following sum
           ∙ ap (λ xs. sum_by (λ (y : Pair). many_of y.member) (filter (λ (y : Pair). nat_lt (block_in p y) (block_in p z)) xs)) (sym s.is);
     }
   where
@@ -345,11 +406,13 @@ late_rank p q laid ms z w ks h apart e hn =
     rest_each [] ys k = k
     rest_each (x ∷ xs) ys k = rest_each xs ys k.1
 
-    not_less : (rest : List Pair) (y : Pair) → Has (z ∷ rest) y → Each (λ (x : Pair). z.source.number < x.source.number) rest → z.source.number ≤ y.source.number
+    not_less : (rest : List Pair) (y : Pair) → Has (z ∷ rest) y → Each (λ (x : Pair). z.source.number < x.source.number) rest
+        → z.source.number ≤ y.source.number
     not_less rest y (inl s) a = let n = ap (λ (x : Pair). x.source.number) s in omega arith
     not_less rest y (inr h) a = let n = each_at (λ (x : Pair). z.source.number < x.source.number) rest y a h in omega arith
 
-pub rank : (parts : List Lent) (p q : PackageRecord) (laid : List (Option Laid)) (ms : List WrittenMember) (z : Pair) → StandsFor parts p → IsWrittenAnew p laid ms q → Each (Known p q ms) (pairs_in p laid ms) → Has (pairs_in p laid ms) z → HasRank p laid ms z
+pub rank : (parts : List Lent) (p q : PackageRecord) (laid : List (Option Laid)) (ms : List WrittenMember) (z : Pair) → StandsFor parts p
+    → IsWrittenAnew p laid ms q → Each (Known p q ms) (pairs_in p laid ms) → Has (pairs_in p laid ms) z → HasRank p laid ms z
 rank parts p q laid ms z s w ks h = by (was_first p z.source)
   where
     by : WasFirst p z.source (first_handler z.source.method) → HasRank p laid ms z
@@ -359,7 +422,8 @@ rank parts p q laid ms z s w ks h = by (was_first p z.source)
 -- ---- whole sizes
 
 -- all methods together have the handlers of the blocks
-pub all_handlers : (parts : List Lent) (p q : PackageRecord) (laid : List (Option Laid)) (ms : List WrittenMember) → StandsFor parts p → IsWrittenAnew p laid ms q → Each (Known p q ms) (pairs_in p laid ms)
+pub all_handlers : (parts : List Lent) (p q : PackageRecord) (laid : List (Option Laid)) (ms : List WrittenMember) → StandsFor parts p
+    → IsWrittenAnew p laid ms q → Each (Known p q ms) (pairs_in p laid ms)
     → length q.methods.handlers ≡ sum_by handlers_in (map (change_in (places p ms)) (pairs_in p laid ms))
 all_handlers parts p q laid ms s w ks =
     let room = length p.methods.handlers in
@@ -367,12 +431,14 @@ all_handlers parts p q laid ms s w ks =
     let news = places p ms in
     let had = early_total p q laid ms w ks (all_firsts parts p q laid ms s w ks) in
     let none = total_sum (filter had_none ms) ∙ over_pairs p q laid ms many_of had_none w in
-    let both = sum_by-filter_both (λ (y : Pair). not (had_none y.member)) (λ (y : Pair). had_none y.member) (λ y. had_bool (first_of y.member)) (λ (y : Pair). many_of y.member) zs in
+    let both = sum_by-filter_both (λ (y : Pair). not (had_none y.member)) (λ (y : Pair). had_none y.member) (λ y. had_bool (first_of y.member))
+    (λ (y : Pair). many_of y.member) zs in
     let blocks_total = total_append (present (firsts room ms)) (filter had_none ms) in
     let same : sum_by (λ (y : Pair). many_of y.member) zs ≡ sum_by handlers_in (map (change_in news) zs) =
     sym (ap (sum_by (λ (y : Pair). many_of y.member)) (filter_every zs))
     ∙ sums_agree (λ (y : Pair). many_of y.member) (λ (y : Pair). handlers_in (change_in news y)) (λ y. true) (λ y. true) zs
-    (each_of (λ (y : Pair). many_of y.member ≡ handlers_in (change_in news y)) zs (λ y g. sym (each_at (Known p q ms) zs y ks g).told.many)) (each_of (λ (y : Pair). true ≡ true) zs (λ y g. refl))
+    (each_of (λ (y : Pair). many_of y.member ≡ handlers_in (change_in news y)) zs (λ y g. sym (each_at (Known p q ms) zs y ks g).told.many))
+    (each_of (λ (y : Pair). true ≡ true) zs (λ y g. refl))
     ∙ ap (sum_by (λ (y : Pair). handlers_in (change_in news y))) (filter_every zs) ∙ sym (sum_map handlers_in (change_in news) zs) in
     let a = ap length w.handlers in
     let b = length_entries news (blocks room ms) in
@@ -392,7 +458,8 @@ below_size : (size : ℕ) (ms : List WrittenMember) → AreMembers size ms → E
 below_size size [] a = tt
 below_size size (m ∷ ms) a = (lt-ltb m.offset size a.0.within, below_size size ms a.1)
 
-pub whole_info : (p q : PackageRecord) (laid : List (Option Laid)) (ms : List WrittenMember) → IsWrittenAnew p laid ms q → Each (Known p q ms) (pairs_in p laid ms)
+pub whole_info : (p q : PackageRecord) (laid : List (Option Laid)) (ms : List WrittenMember) → IsWrittenAnew p laid ms q
+    → Each (Known p q ms) (pairs_in p laid ms)
     → length q.methods.info ≡ methods_begin q + sum_by (size_written q) (map (change_in (places p ms)) (pairs_in p laid ms))
 unfolding written_info
 whole_info p q laid ms w ks =
@@ -414,7 +481,8 @@ whole_info p q laid ms w ks =
     let f : sum_by size_of ms ≡ sum_by (size_written q) (map (change_in news) zs) =
     ap (sum_by size_of) (sym (filter_every ms)) ∙ over_pairs p q laid ms size_of (λ m. true) w
     ∙ sums_agree (λ (y : Pair). size_of y.member) (λ (y : Pair). size_written q (change_in news y)) (λ y. true) (λ y. true) zs
-    (each_of (λ (y : Pair). size_of y.member ≡ size_written q (change_in news y)) zs (λ y g. sym (size_known p q ms y (each_at (Known p q ms) zs y ks g)))) (each_of (λ (y : Pair). true ≡ true) zs (λ y g. refl))
+    (each_of (λ (y : Pair). size_of y.member ≡ size_written q (change_in news y)) zs
+    (λ y g. sym (size_known p q ms y (each_at (Known p q ms) zs y ks g)))) (each_of (λ (y : Pair). true ≡ true) zs (λ y g. refl))
     ∙ ap (sum_by (λ (y : Pair). size_written q (change_in news y))) (filter_every zs) ∙ sym (sum_map (size_written q) (change_in news) zs) in
     let g = ap length w.handlers in
     let i : length (method_info entries table) ≡ suc (length (table_bytes entries ++ bodies table)) = refl in

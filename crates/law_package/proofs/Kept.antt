@@ -1,5 +1,6 @@
 -- Conditions on a package that ask for nothing that other code changes.
-use Rattle.std.proofs.Common.{◌≡◌, ℕ, List, [], ◌∷◌, ◌++◌, length, map, sum_by, count_by, filter_map, find, Bool, true, false, cond, Option, Some, None, option_map, refl, sym, ap, ◌∙◌, arith}
+use Rattle.std.proofs.Common.{◌≡◌, ℕ, List, [], ◌∷◌, ◌++◌, length, map, sum_by, count_by, filter_map, find, Bool, true, false, cond, Option}
+use Rattle.std.proofs.Common.{Some, None, option_map, refl, sym, ap, ◌∙◌, arith}
 use Rattle.std.specs.Prelude.{if◌then◌else◌, ◌==◌}
 use Rattle.std.proofs.lemmas.List.Sums.{sum_by-cons}
 use Rattle.std.proofs.lemmas.List.{length-map}
@@ -14,11 +15,13 @@ use Rattle.cap_components.specs.Descriptions.{Description}
 use Rattle.cap_components.specs.Parts.{Lent}
 use Rattle.cap_components.specs.PackageRecord.{PackageRecord, interface_methods, fields, names_interface}
 use Rattle.cap_package.specs.Pairs.{pairs}
-use Rattle.cap_package.specs.StaticChecks.{place_in, place_by, share_fault, share_by, share_pair, image_fault, image_by, array_kinds, filled_fault, filled_by, kind_at, image_offset, is_static_at, no_static_fault}
+use Rattle.cap_package.specs.StaticChecks.{place_in, place_by, share_fault, share_by, share_pair, image_fault, image_by, array_kinds, filled_fault, filled_by}
+use Rattle.cap_package.specs.StaticChecks.{kind_at, image_offset, is_static_at, no_static_fault}
 use Rattle.cap_package.specs.NameChecks.{exported_fields, undescribed_fault, undescribed_class_fault, not_own_fault}
 use Rattle.cap_package.specs.TypeChecks.{field_type_fault, field_type_by, method_type_fault, method_type_by}
 use Rattle.cap_components.specs.declared.count_kind.CountKind.{CountKind}
-use Rattle.cap_components.specs.declared.count_kind.CountKind.TheVariants.{Imports, Applets, ImageSize, InitialArrays, ArrayBytes, PoolTypes, InstanceCells, ImageSegments}
+use Rattle.cap_components.specs.declared.count_kind.CountKind.TheVariants.{Imports, Applets, ImageSize, InitialArrays, ArrayBytes, PoolTypes, InstanceCells}
+use Rattle.cap_components.specs.declared.count_kind.CountKind.TheVariants.{ImageSegments}
 use Rattle.cap_package.specs.CountChecks.{differ, array_bytes, image_bytes, instance_fault, instance_by, described_cells, described_cells_by, count_if}
 use Rattle.cap_package.specs.HeaderChecks.{is_static}
 use Rattle.cap_package.specs.Agreement.{or_none}
@@ -62,7 +65,8 @@ find_map : {X Y : Type 0} (p : Y → Bool) (g : X → Y) (xs : List X) → find 
 find_map p g [] = refl
 find_map p g (x ∷ xs) = by (p (g x)) (find_map p g xs)
   where
-    by : (b : Bool) → find p (map g xs) ≡ option_map g (find (λ y. p (g y)) xs) → cond b (Some (g x)) (find p (map g xs)) ≡ option_map g (cond b (Some x) (find (λ y. p (g y)) xs))
+    by : (b : Bool) → find p (map g xs) ≡ option_map g (find (λ y. p (g y)) xs) → cond b (Some (g x)) (find p (map g xs))
+        ≡ option_map g (cond b (Some x) (find (λ y. p (g y)) xs))
     by true e = refl
     by false e = e
 
@@ -110,18 +114,22 @@ same_cells : (set : ℕ → Bool) (d e : Description) (f : FieldDescriptor) → 
 unfolding described_cells
 same_cells set d e f h = ap (λ t. if is_static f.flags then 0 else described_cells_by t) (same_field set d e f.ty h)
 
-instance_same : (set : ℕ → Bool) (f : ℕ → ℕ) (d e : Description) (c : ClassDescriptor) (o : Option of_class.Class) → HasSameDescription set d e → instance_by e c (option_map (renewed_class f) o) ≡ instance_by d c o
+instance_same : (set : ℕ → Bool) (f : ℕ → ℕ) (d e : Description) (c : ClassDescriptor) (o : Option of_class.Class) → HasSameDescription set d e
+    → instance_by e c (option_map (renewed_class f) o) ≡ instance_by d c o
 instance_same set f d e c None h = refl
 instance_same set f d e c (Some entry) h =
-    ap (λ n. if is_interface entry.flags then None else differ InstanceCells entry.instance_size n) (sum_same (described_cells e) (described_cells d) c.fields (λ x. same_cells set d e x h))
+    ap (λ n. if is_interface entry.flags then None else differ InstanceCells entry.instance_size n)
+    (sum_same (described_cells e) (described_cells d) c.fields (λ x. same_cells set d e x h))
 
-instances_same : (set : ℕ → Bool) (f : ℕ → ℕ) (classes : List of_class.Class) (d e : Description) (c : ClassDescriptor) → HasSameDescription set d e → instance_fault (map (renewed_class f) classes) e c ≡ instance_fault classes d c
+instances_same : (set : ℕ → Bool) (f : ℕ → ℕ) (classes : List of_class.Class) (d e : Description) (c : ClassDescriptor)
+    → HasSameDescription set d e → instance_fault (map (renewed_class f) classes) e c ≡ instance_fault classes d c
 unfolding instance_fault
 instances_same set f classes d e c h =
     ap (instance_by e c) (find_map (λ (r : of_class.Class). r.offset == c.class_ref) (renewed_class f) classes)
     ∙ instance_same set f d e c (find (λ (r : of_class.Class). r.offset == c.class_ref) classes) h
 
-instance_bare : (set : ℕ → Bool) (classes : List of_class.Class) (d : Description) (c : ClassDescriptor) → instance_fault classes d c ≡ instance_fault classes d (bare_class set c)
+instance_bare : (set : ℕ → Bool) (classes : List of_class.Class) (d : Description) (c : ClassDescriptor)
+    → instance_fault classes d c ≡ instance_fault classes d (bare_class set c)
 unfolding instance_fault
 instance_bare set classes d c = by (find (λ (r : of_class.Class). r.offset == c.class_ref) classes)
   where
@@ -129,14 +137,16 @@ instance_bare set classes d c = by (find (λ (r : of_class.Class). r.offset == c
     by None = refl
     by (Some entry) = refl
 
-pub same_instances : (parts : List Lent) (p q : PackageRecord) (laid : List (Option Laid)) → Agrees parts p → IsRewritten p laid q → filter_map (instance_fault q.classes q.description) q.description.items.classes ≡ []
+pub same_instances : (parts : List Lent) (p q : PackageRecord) (laid : List (Option Laid)) → Agrees parts p → IsRewritten p laid q
+    → filter_map (instance_fault q.classes q.description) q.description.items.classes ≡ []
 same_instances parts p q laid a r =
     let f = now_at (changes p laid q) in
     let set = names_interface p.classes in
     ap (λ cs. filter_map (instance_fault cs q.description) q.description.items.classes) r.classes
     ∙ faults_same (instance_fault (map (renewed_class f) p.classes) q.description) (instance_fault p.classes p.description) q.description.items.classes
     (λ c. instances_same set f p.classes p.description q.description c r.description)
-    ∙ faults_alike (instance_fault p.classes p.description) (bare_class set) (instance_fault p.classes p.description) p.description.items.classes q.description.items.classes
+    ∙ faults_alike (instance_fault p.classes p.description) (bare_class set) (instance_fault p.classes p.description) p.description.items.classes
+    q.description.items.classes
     (instance_bare set p.classes p.description) r.description.classes
     ∙ a.instances
 
@@ -146,36 +156,44 @@ same_place : (set : ℕ → Bool) (d e : Description) (f : FieldDescriptor) → 
 unfolding place_in
 same_place set d e f h = ap (place_by f) (same_field set d e f.ty h)
 
-share_same : (set : ℕ → Bool) (d e : Description) (x : FieldDescriptor × FieldDescriptor) → HasSameDescription set d e → share_pair e x ≡ share_pair d x
+share_same : (set : ℕ → Bool) (d e : Description) (x : FieldDescriptor × FieldDescriptor) → HasSameDescription set d e
+    → share_pair e x ≡ share_pair d x
 unfolding share_fault
 share_same set d e x h = ap (λ o. share_by o (place_in e x.1)) (same_place set d e x.0 h) ∙ ap (share_by (place_in d x.0)) (same_place set d e x.1 h)
 
-image_same : (set : ℕ → Bool) (s : Statics) (d e : Description) (f : FieldDescriptor) → HasSameDescription set d e → image_fault s e f ≡ image_fault s d f
+image_same : (set : ℕ → Bool) (s : Statics) (d e : Description) (f : FieldDescriptor) → HasSameDescription set d e
+    → image_fault s e f ≡ image_fault s d f
 unfolding image_fault
 image_same set s d e f h = ap (image_by s) (same_place set d e f h)
 
-filled_same : (set : ℕ → Bool) (kinds : List ℕ) (d e : Description) (f : FieldDescriptor) → HasSameDescription set d e → filled_fault kinds e f ≡ filled_fault kinds d f
+filled_same : (set : ℕ → Bool) (kinds : List ℕ) (d e : Description) (f : FieldDescriptor) → HasSameDescription set d e
+    → filled_fault kinds e f ≡ filled_fault kinds d f
 unfolding filled_fault
 filled_same set kinds d e f h = ap (filled_by (kind_at kinds (image_offset f))) (same_place set d e f h)
 
 same_fields : (p q : PackageRecord) (laid : List (Option Laid)) → IsRewritten p laid q → fields q ≡ fields p
 same_fields p q laid r = (alike (names_interface p.classes) p.description.items.classes q.description.items.classes r.description.classes).fields
 
-pub same_shares : (parts : List Lent) (p q : PackageRecord) (laid : List (Option Laid)) → Agrees parts p → IsRewritten p laid q → filter_map (share_pair q.description) (pairs (fields q)) ≡ []
+pub same_shares : (parts : List Lent) (p q : PackageRecord) (laid : List (Option Laid)) → Agrees parts p → IsRewritten p laid q
+    → filter_map (share_pair q.description) (pairs (fields q)) ≡ []
 same_shares parts p q laid a r =
     ap (λ fs. filter_map (share_pair q.description) (pairs fs)) (same_fields p q laid r)
-    ∙ faults_same (share_pair q.description) (share_pair p.description) (pairs (fields p)) (λ x. share_same (names_interface p.classes) p.description q.description x r.description)
+    ∙ faults_same (share_pair q.description) (share_pair p.description) (pairs (fields p))
+    (λ x. share_same (names_interface p.classes) p.description q.description x r.description)
     ∙ a.statics
 
 pub same_places : (parts : List Lent) (p q : PackageRecord) (laid : List (Option Laid)) → Agrees parts p → IsRewritten p laid q
     → filter_map (image_fault q.statics q.description) (fields q) ++ filter_map (filled_fault (array_kinds q.statics.arrays) q.description) (fields q) ≡ []
 same_places parts p q laid a r =
     let set = names_interface p.classes in
-    let both = both_empty (filter_map (image_fault p.statics p.description) (fields p)) (filter_map (filled_fault (array_kinds p.statics.arrays) p.description) (fields p)) a.places in
-    append_none (filter_map (image_fault q.statics q.description) (fields q)) (filter_map (filled_fault (array_kinds q.statics.arrays) q.description) (fields q))
+    let both = both_empty (filter_map (image_fault p.statics p.description) (fields p))
+    (filter_map (filled_fault (array_kinds p.statics.arrays) p.description) (fields p)) a.places in
+    append_none (filter_map (image_fault q.statics q.description) (fields q))
+    (filter_map (filled_fault (array_kinds q.statics.arrays) q.description) (fields q))
     (ap (λ s. filter_map (image_fault s q.description) (fields q)) r.statics
     ∙ ap (filter_map (image_fault p.statics q.description)) (same_fields p q laid r)
-    ∙ faults_same (image_fault p.statics q.description) (image_fault p.statics p.description) (fields p) (λ x. image_same set p.statics p.description q.description x r.description)
+    ∙ faults_same (image_fault p.statics q.description) (image_fault p.statics p.description) (fields p)
+    (λ x. image_same set p.statics p.description q.description x r.description)
     ∙ both.0)
     (ap (λ (s : Statics). filter_map (filled_fault (array_kinds s.arrays) q.description) (fields q)) r.statics
     ∙ ap (filter_map (filled_fault (array_kinds p.statics.arrays) q.description)) (same_fields p q laid r)
@@ -183,7 +201,8 @@ same_places parts p q laid a r =
     (λ x. filled_same set (array_kinds p.statics.arrays) p.description q.description x r.description)
     ∙ both.1)
 
-exported_same : (f : ℕ → ℕ) (o : Option (List Exported)) → exported_fields (or_none (option_map (map (renewed_exported f)) o)) ≡ exported_fields (or_none o)
+exported_same : (f : ℕ → ℕ) (o : Option (List Exported)) → exported_fields (or_none (option_map (map (renewed_exported f)) o)) ≡ exported_fields
+    (or_none o)
 exported_same f None = refl
 exported_same f (Some cs) = by cs
   where
@@ -191,7 +210,8 @@ exported_same f (Some cs) = by cs
     by [] = refl
     by (c ∷ cs) = ap (λ xs. c.fields ++ xs) (by cs)
 
-pub same_exports : (parts : List Lent) (p q : PackageRecord) (laid : List (Option Laid)) → Agrees parts p → IsRewritten p laid q → filter_map (no_static_fault (is_static_at (fields q))) (exported_fields (or_none q.export)) ≡ []
+pub same_exports : (parts : List Lent) (p q : PackageRecord) (laid : List (Option Laid)) → Agrees parts p → IsRewritten p laid q
+    → filter_map (no_static_fault (is_static_at (fields q))) (exported_fields (or_none q.export)) ≡ []
 same_exports parts p q laid a r =
     ap (λ fs. filter_map (no_static_fault (is_static_at fs)) (exported_fields (or_none q.export))) (same_fields p q laid r)
     ∙ ap (λ o. filter_map (no_static_fault (is_static_at (fields p))) (exported_fields (or_none o))) r.export
@@ -203,7 +223,8 @@ same_exports parts p q laid a r =
 count_refs : (cs : List ClassDescriptor) (n : ℕ) → count_by (λ (d : ClassDescriptor). d.class_ref == n) cs ≡ count_by (λ r. r == n) (map ref_of cs)
 count_refs cs n = sym (sum_map (λ r. cond (r == n) 1 0) ref_of cs)
 
-undescribed_same : (f : ℕ → ℕ) (cs ds : List ClassDescriptor) (c : of_class.Class) → map ref_of ds ≡ map ref_of cs → undescribed_fault ds (renewed_class f c) ≡ undescribed_fault cs c
+undescribed_same : (f : ℕ → ℕ) (cs ds : List ClassDescriptor) (c : of_class.Class) → map ref_of ds ≡ map ref_of cs
+    → undescribed_fault ds (renewed_class f c) ≡ undescribed_fault cs c
 unfolding undescribed_fault
 undescribed_same f cs ds c e =
     let n : count_by (λ (d : ClassDescriptor). d.class_ref == c.offset) ds ≡ count_by (λ (d : ClassDescriptor). d.class_ref == c.offset) cs =
@@ -218,7 +239,8 @@ not_own_same : (f : ℕ → ℕ) (cs : List of_class.Class) (n : ℕ) → not_ow
 unfolding not_own_fault
 not_own_same f cs n = rw (any_map (λ (c : of_class.Class). c.offset == n) (renewed_class f) cs) refl
 
-pub offsets_same : (f : ℕ → ℕ) (o : Option (List Exported)) → map (λ (c : Exported). c.class_offset) (or_none (option_map (map (renewed_exported f)) o)) ≡ map (λ (c : Exported). c.class_offset) (or_none o)
+pub offsets_same : (f : ℕ → ℕ) (o : Option (List Exported))
+    → map (λ (c : Exported). c.class_offset) (or_none (option_map (map (renewed_exported f)) o)) ≡ map (λ (c : Exported). c.class_offset) (or_none o)
 offsets_same f None = refl
 offsets_same f (Some cs) = map_twice (λ (c : Exported). c.class_offset) (renewed_exported f) cs
 
@@ -231,14 +253,17 @@ same_classes parts p q laid a r =
     let ds = q.description.items.classes in
     let cs = p.description.items.classes in
     let same = (alike (names_interface p.classes) cs ds r.description.classes).refs in
-    let first = both_empty (filter_map (undescribed_fault cs) p.classes ++ filter_map (not_own_fault p.classes) (map ref_of cs)) (filter_map (undescribed_class_fault p.classes) (map (λ (c : Exported). c.class_offset) (or_none p.export))) a.classes in
+    let first = both_empty (filter_map (undescribed_fault cs) p.classes ++ filter_map (not_own_fault p.classes) (map ref_of cs))
+    (filter_map (undescribed_class_fault p.classes) (map (λ (c : Exported). c.class_offset) (or_none p.export))) a.classes in
     let second = both_empty (filter_map (undescribed_fault cs) p.classes) (filter_map (not_own_fault p.classes) (map ref_of cs)) first.0 in
     let no_class : (ns : List ℕ) → filter_map (undescribed_class_fault q.classes) ns ≡ filter_map (undescribed_class_fault p.classes) ns = λ ns.
-    ap (λ xs. filter_map (undescribed_class_fault xs) ns) r.classes ∙ faults_same (undescribed_class_fault (map (renewed_class f) p.classes)) (undescribed_class_fault p.classes) ns (no_class_same f p.classes) in
+    ap (λ xs. filter_map (undescribed_class_fault xs) ns) r.classes ∙ faults_same (undescribed_class_fault (map (renewed_class f) p.classes))
+    (undescribed_class_fault p.classes) ns (no_class_same f p.classes) in
     let not_own : (ns : List ℕ) → filter_map (not_own_fault q.classes) ns ≡ filter_map (not_own_fault p.classes) ns = λ ns.
     ap (λ xs. filter_map (not_own_fault xs) ns) r.classes
     ∙ faults_same (not_own_fault (map (renewed_class f) p.classes)) (not_own_fault p.classes) ns (not_own_same f p.classes) in
-    append_none (filter_map (undescribed_fault ds) q.classes ++ filter_map (not_own_fault q.classes) (map ref_of ds)) (filter_map (undescribed_class_fault q.classes) (map (λ (c : Exported). c.class_offset) (or_none q.export)))
+    append_none (filter_map (undescribed_fault ds) q.classes ++ filter_map (not_own_fault q.classes) (map ref_of ds))
+    (filter_map (undescribed_class_fault q.classes) (map (λ (c : Exported). c.class_offset) (or_none q.export)))
     (append_none (filter_map (undescribed_fault ds) q.classes) (filter_map (not_own_fault q.classes) (map ref_of ds))
     (ap (filter_map (undescribed_fault ds)) r.classes
     ∙ faults_map (undescribed_fault ds) (renewed_class f) p.classes
@@ -256,7 +281,8 @@ field_same : (set : ℕ → Bool) (d e : Description) (f : FieldDescriptor) → 
 unfolding field_type_fault
 field_same set d e f h = ap (field_type_by f.ty) (same_field set d e f.ty h)
 
-method_same : (set : ℕ → Bool) (d e : Description) (most : ℕ) (m : MethodDescriptor) → HasSameDescription set d e → method_type_fault e most m ≡ method_type_fault d most m
+method_same : (set : ℕ → Bool) (d e : Description) (most : ℕ) (m : MethodDescriptor) → HasSameDescription set d e
+    → method_type_fault e most m ≡ method_type_fault d most m
 unfolding method_type_fault
 method_same set d e most m h = ap (method_type_by most m.type_offset) (same_arguments set d e m.type_offset h)
 
@@ -280,15 +306,18 @@ same_types parts p q laid a r =
     let d = p.description in
     let e = q.description in
     let same = (alike set d.items.classes e.items.classes r.description.classes).methods in
-    let first = both_empty (filter_map (field_type_fault d) (fields p) ++ filter_map (method_type_fault d 510) (methods_of d.items.classes)) (filter_map (method_type_fault d 254) (interface_methods p)) a.types in
+    let first = both_empty (filter_map (field_type_fault d) (fields p) ++ filter_map (method_type_fault d 510) (methods_of d.items.classes))
+    (filter_map (method_type_fault d 254) (interface_methods p)) a.types in
     let second = both_empty (filter_map (field_type_fault d) (fields p)) (filter_map (method_type_fault d 510) (methods_of d.items.classes)) first.0 in
-    append_none (filter_map (field_type_fault e) (fields q) ++ filter_map (method_type_fault e 510) (methods_of e.items.classes)) (filter_map (method_type_fault e 254) (interface_methods q))
+    append_none (filter_map (field_type_fault e) (fields q) ++ filter_map (method_type_fault e 510) (methods_of e.items.classes))
+    (filter_map (method_type_fault e 254) (interface_methods q))
     (append_none (filter_map (field_type_fault e) (fields q)) (filter_map (method_type_fault e 510) (methods_of e.items.classes))
     (ap (filter_map (field_type_fault e)) (same_fields p q laid r)
     ∙ faults_same (field_type_fault e) (field_type_fault d) (fields p) (λ x. field_same set d e x r.description)
     ∙ second.0)
     (faults_same (method_type_fault e 510) (method_type_fault d 510) (methods_of e.items.classes) (λ m. method_same set d e 510 m r.description)
-    ∙ faults_alike (method_type_fault d 510) bare_method (method_type_fault d 510) (methods_of d.items.classes) (methods_of e.items.classes) (method_bare d 510) same
+    ∙ faults_alike (method_type_fault d 510) bare_method (method_type_fault d 510) (methods_of d.items.classes) (methods_of e.items.classes)
+    (method_bare d 510) same
     ∙ second.1))
     (ap (filter_map (method_type_fault e 254)) (same_interface_methods p q laid r)
     ∙ faults_same (method_type_fault e 254) (method_type_fault d 254) (interface_methods p) (λ m. method_same set d e 254 m r.description)

@@ -1,5 +1,6 @@
 -- What is known of each method that is written.
-use Rattle.std.proofs.Common.{◌≡◌, ◌≤◌, ◌<◌, ◌+◌, ℕ, List, [], ◌∷◌, length, map, take, drop, Option, Some, None, IfSome, sym, ap, subst, ◌∙◌, arith}
+use Rattle.std.proofs.Common.{◌≡◌, ◌≤◌, ◌<◌, ◌+◌, ℕ, List, [], ◌∷◌, length, map, take, drop, Option, Some, None, IfSome, sym, ap}
+use Rattle.std.proofs.Common.{subst, ◌∙◌, arith}
 use Rattle.cap_bytes.specs.Number.{number_at}
 use Rattle.jc_base.proofs.Eaching.{Each-from_All}
 use Rattle.cap_method.specs.MethodFormat.{Header}
@@ -35,19 +36,27 @@ use Rattle.law_package.proofs.Handlers.{ClaimsInside, all_claims}
 use Rattle.law_package.proofs.Anew.{Pair, pairs_in, source_in, member_in, pair_sources, pair_members, pair_each, change_in, standing, IsToldOf, is_told_of}
 use Rattle.law_package.proofs.AsLaid.{IsCodeAt, code_at, IsLeadAt, lead_at}
 
-pub was_described : (p q : PackageRecord) (laid : List (Option Laid)) (ms : List WrittenMember) → IsWrittenAnew p laid ms q → map method_of (sources p laid) ≡ described_methods p
-was_described p q laid ms w = sources_method 0 (described_methods p) (laid_but (names_interface p.classes) p.description.items.classes laid) (length_but (names_interface p.classes) p.description.items.classes laid w.each)
+pub was_described : (p q : PackageRecord) (laid : List (Option Laid)) (ms : List WrittenMember) → IsWrittenAnew p laid ms q
+    → map method_of (sources p laid) ≡ described_methods p
+was_described p q laid ms w =
+    sources_method 0 (described_methods p) (laid_but (names_interface p.classes) p.description.items.classes laid)
+    (length_but (names_interface p.classes) p.description.items.classes laid w.each)
 
 -- ---- from methods, sources and members to pairs
 
-of_sources : (p q : PackageRecord) (laid : List (Option Laid)) (ms : List WrittenMember) (P : FormerMethod → Type 0) → IsWrittenAnew p laid ms q → Each P (sources p laid) → Each (λ (z : Pair). P z.source) (pairs_in p laid ms)
+of_sources : (p q : PackageRecord) (laid : List (Option Laid)) (ms : List WrittenMember) (P : FormerMethod → Type 0) → IsWrittenAnew p laid ms q
+    → Each P (sources p laid) → Each (λ (z : Pair). P z.source) (pairs_in p laid ms)
 of_sources p q laid ms P w h = map_each P source_in (pairs_in p laid ms) (subst (Each P) (sym (pair_sources p.methods.info (sources p laid) ms w.members)) h)
 
-pub of_members : (p q : PackageRecord) (laid : List (Option Laid)) (ms : List WrittenMember) (P : WrittenMember → Type 0) → IsWrittenAnew p laid ms q → Each P ms → Each (λ (z : Pair). P z.member) (pairs_in p laid ms)
+pub of_members : (p q : PackageRecord) (laid : List (Option Laid)) (ms : List WrittenMember) (P : WrittenMember → Type 0) → IsWrittenAnew p laid ms q
+    → Each P ms → Each (λ (z : Pair). P z.member) (pairs_in p laid ms)
 of_members p q laid ms P w h = map_each P member_in (pairs_in p laid ms) (subst (Each P) (sym (pair_members p.methods.info (sources p laid) ms w.members)) h)
 
-pub of_methods : (p q : PackageRecord) (laid : List (Option Laid)) (ms : List WrittenMember) (P : MethodDescriptor → Type 0) → IsWrittenAnew p laid ms q → Each P (described_methods p) → Each (λ (z : Pair). P z.source.method) (pairs_in p laid ms)
-of_methods p q laid ms P w h = of_sources p q laid ms (λ (s : FormerMethod). P s.method) w (map_each P method_of (sources p laid) (subst (Each P) (sym (was_described p q laid ms w)) h))
+pub of_methods : (p q : PackageRecord) (laid : List (Option Laid)) (ms : List WrittenMember) (P : MethodDescriptor → Type 0) → IsWrittenAnew p laid ms q
+    → Each P (described_methods p) → Each (λ (z : Pair). P z.source.method) (pairs_in p laid ms)
+of_methods p q laid ms P w h =
+    of_sources p q laid ms (λ (s : FormerMethod). P s.method) w
+    (map_each P method_of (sources p laid) (subst (Each P) (sym (was_described p q laid ms w)) h))
 
 each_within : (size : ℕ) (ms : List WrittenMember) → AreMembers size ms → Each (λ (m : WrittenMember). m.offset < size) ms
 each_within size [] a = tt
@@ -65,12 +74,21 @@ one_byte a b h = omega arith
 other_byte : (a b : ℕ) → a + b ≤ 255 → b < 256
 other_byte a b h = omega arith
 
-body_at : (xs ys : List ℕ) (s : FormerMethod) (h : Header) (b : Body) (at : ℕ) → HeadersReadBack → s.method.method_offset + size_by (number_at 1 s.method.method_offset xs) ≤ length xs → IsFor h s.laid → HasSmallStack s → IsBodyOf xs s b
+body_at : (xs ys : List ℕ) (s : FormerMethod) (h : Header) (b : Body) (at : ℕ) → HeadersReadBack
+    → s.method.method_offset + size_by (number_at 1 s.method.method_offset xs) ≤ length xs → IsFor h s.laid → HasSmallStack s → IsBodyOf xs s b
     → take (body_size b) (drop at ys) ≡ body_bytes b → IsBodyAt xs ys s b at
 body_at xs ys s h (Code laid) at back within fits small is bytes =
     let f : IsCodeFor h laid.now = subst (IsFor h) is fits in
-    let k : IfSome (Some laid.now) (λ l. l.max_stack < 256) = subst (λ o. IfSome o (λ l. l.max_stack < 256)) is small in
-    (is, code_at ys at laid.now back (record { max_stack = k; nargs = one_byte laid.now.nargs laid.now.max_locals f.registers; max_locals = other_byte laid.now.nargs laid.now.max_locals f.registers }) bytes)
+    let k : IfSome (Some laid.now) (λ l. l.max_stack < 256) = subst (λ o. IfSome o (λ l. l.max_stack < 256)) is small in (
+      is,
+      code_at ys at laid.now back
+          (record {
+            max_stack = k;
+            nargs = one_byte laid.now.nargs laid.now.max_locals f.registers;
+            max_locals = other_byte laid.now.nargs laid.now.max_locals
+                f.registers;
+          }) bytes,
+    )
 body_at xs ys s h (Lead header) at back within fits small is bytes = (is.0, lead_at s.method.method_offset at xs ys header.now within is.1 bytes)
 
 body_long : (xs ys : List ℕ) (s : FormerMethod) (b : Body) (at : ℕ) → IsBodyAt xs ys s b at → size_by (number_at 1 at ys) + code_size b ≡ body_size b
@@ -100,9 +118,11 @@ told_all p q laid ms w stand =
     let is = pair_each p.methods.info (sources p laid) ms w.members in
     let st = of_members p q laid ms (StandsAnew size room ms) w (standing size room ms ms (stand size room ms w.may)) in
     each_of (λ (z : Pair). IsToldOf (places p ms) (handler_indexes size (blocks room ms)) z) zs
-    (λ z h. is_told_of p.methods.info size room ms z (each_at (λ (x : Pair). IsMemberOf p.methods.info x.source x.member) zs z is h) (each_at (λ (x : Pair). StandsAnew size room ms x.member) zs z st h))
+    (λ z h. is_told_of p.methods.info size room ms z (each_at (λ (x : Pair). IsMemberOf p.methods.info x.source x.member) zs z is h)
+    (each_at (λ (x : Pair). StandsAnew size room ms x.member) zs z st h))
 
-pub known : (parts : List Lent) (p q : PackageRecord) (laid : List (Option Laid)) (ms : List WrittenMember) → StandsFor parts p → AreLaidFor p laid → IsWrittenAnew p laid ms q → WrittenMethodsStand → HeadersReadBack → Each (Known p q ms) (pairs_in p laid ms)
+pub known : (parts : List Lent) (p q : PackageRecord) (laid : List (Option Laid)) (ms : List WrittenMember) → StandsFor parts p → AreLaidFor p laid
+    → IsWrittenAnew p laid ms q → WrittenMethodsStand → HeadersReadBack → Each (Known p q ms) (pairs_in p laid ms)
 known parts p q laid ms s l w stand back =
     let zs = pairs_in p laid ms in
     let size = length p.methods.info in
@@ -135,20 +155,25 @@ known parts p q laid ms s l w stand back =
     })
 
 -- its size is that of its body
-pub size_known : (p q : PackageRecord) (ms : List WrittenMember) (z : Pair) → Known p q ms z → size_written q (change_in (places p ms) z) ≡ body_size z.member.body
+pub size_known : (p q : PackageRecord) (ms : List WrittenMember) (z : Pair) → Known p q ms z → size_written q (change_in (places p ms) z)
+    ≡ body_size z.member.body
 size_known p q ms z k =
     let at = to (places p ms) z.member.offset in
-    let a : size_written q (change_in (places p ms) z) ≡ size_by (number_at 1 at q.methods.info) + (renewed_method (places p ms) z.source.method).bytecode_count =
+    let a : size_written q (change_in (places p ms) z) ≡ size_by (number_at 1 at q.methods.info) +
+    (renewed_method (places p ms) z.source.method).bytecode_count =
     ap (λ n. size_by (number_at 1 n q.methods.info) + (renewed_method (places p ms) z.source.method).bytecode_count) k.told.offset in
     a ∙ ap (λ n. size_by (number_at 1 at q.methods.info) + n) k.told.count ∙ body_long p.methods.info q.methods.info z.source z.member.body at k.body
 
-start_known : (p q : PackageRecord) (ms : List WrittenMember) (z : Pair) → Known p q ms z → code_start q.methods.info (renewed_method (places p ms) z.source.method) ≡ to (places p ms) z.member.offset + lead_size z.member.body
+start_known : (p q : PackageRecord) (ms : List WrittenMember) (z : Pair) → Known p q ms z
+    → code_start q.methods.info (renewed_method (places p ms) z.source.method) ≡ to (places p ms) z.member.offset + lead_size z.member.body
 unfolding code_start
 start_known p q ms z k =
     let at = to (places p ms) z.member.offset in
-    ap (λ n. n + size_by (number_at 1 n q.methods.info)) k.told.offset ∙ ap (λ n. at + n) (body_lead p.methods.info q.methods.info z.source z.member.body at k.body)
+    ap (λ n. n + size_by (number_at 1 n q.methods.info)) k.told.offset
+    ∙ ap (λ n. at + n) (body_lead p.methods.info q.methods.info z.source z.member.body at k.body)
 
-as_laid_by : (p q : PackageRecord) (s : FormerMethod) (m : MethodDescriptor) (b : Body) (at : ℕ) → IsBodyAt p.methods.info q.methods.info s b at → m.method_offset ≡ at → m.bytecode_count ≡ code_size b → m.handler_count ≡ length (laid_handlers b)
+as_laid_by : (p q : PackageRecord) (s : FormerMethod) (m : MethodDescriptor) (b : Body) (at : ℕ) → IsBodyAt p.methods.info q.methods.info s b at
+    → m.method_offset ≡ at → m.bytecode_count ≡ code_size b → m.handler_count ≡ length (laid_handlers b)
     → code_start q.methods.info m ≡ at + lead_size b → handlers_of q m ≡ entries_at (at + lead_size b) (laid_handlers b) → IsAs p q s.method s.laid m
 as_laid_by p q s m (Code laid) at i offset count many start handlers =
     subst (λ o. IsAs p q s.method o m) (sym i.0) (record {
@@ -171,7 +196,9 @@ as_laid_by p q s m (Lead header) at i offset count many start handlers =
     })
 
 -- it is as it is to be, where its entries are those of its block
-pub as_laid : (p q : PackageRecord) (ms : List WrittenMember) (z : Pair) → Known p q ms z → handlers_of q (renewed_method (places p ms) z.source.method) ≡ block_entries (places p ms) z.member
+pub as_laid : (p q : PackageRecord) (ms : List WrittenMember) (z : Pair) → Known p q ms z → handlers_of q (renewed_method (places p ms) z.source.method)
+    ≡ block_entries (places p ms) z.member
     → IsAs p q z.source.method z.source.laid (renewed_method (places p ms) z.source.method)
 as_laid p q ms z k handlers =
-    as_laid_by p q z.source (renewed_method (places p ms) z.source.method) z.member.body (to (places p ms) z.member.offset) k.body k.told.offset k.told.count k.told.many (start_known p q ms z k) handlers
+    as_laid_by p q z.source (renewed_method (places p ms) z.source.method) z.member.body (to (places p ms) z.member.offset) k.body k.told.offset
+    k.told.count k.told.many (start_known p q ms z k) handlers

@@ -1,5 +1,6 @@
 -- Facts of each element of a list, and lists in which nothing is at fault.
-use Rattle.std.proofs.Common.{◌≡◌, List, [], ◌∷◌, ◌++◌, map, filter, filter_map, Bool, true, false, cond, Option, Some, None, ◌⊎◌, inl, inr, refl, sym, ap, subst, ◌∙◌}
+use Rattle.std.proofs.Common.{◌≡◌, List, [], ◌∷◌, ◌++◌, map, filter, filter_map, Bool, true, false, cond, Option, Some, None, ◌⊎◌, inl}
+use Rattle.std.proofs.Common.{inr, refl, sym, ap, subst, ◌∙◌}
 use Rattle.std.specs.List.{cons_option}
 use Rattle.first_fault.proofs.LeastFaults.{faultless_first}
 
@@ -60,7 +61,8 @@ faults_same f g [] h = refl
 faults_same f g (x ∷ xs) h = ap (λ o. cons_option o (filter_map f xs)) (h x) ∙ ap (cons_option (g x)) (faults_same f g xs h)
 
 -- lists that a map makes the same have the same faults, where no fault asks for what the map changes
-pub faults_alike : {F X Y : Type 0} (f : X → Option F) (g : X → Y) (b : Y → Option F) (xs ys : List X) → ((x : X) → f x ≡ b (g x)) → map g ys ≡ map g xs → filter_map f ys ≡ filter_map f xs
+pub faults_alike : {F X Y : Type 0} (f : X → Option F) (g : X → Y) (b : Y → Option F) (xs ys : List X) → ((x : X) → f x ≡ b (g x))
+    → map g ys ≡ map g xs → filter_map f ys ≡ filter_map f xs
 faults_alike f g b xs ys h e =
     faults_same f (λ x. b (g x)) ys h ∙ sym (faults_map b g ys) ∙ ap (filter_map b) e ∙ faults_map b g xs ∙ sym (faults_same f (λ x. b (g x)) xs h)
 
@@ -79,7 +81,8 @@ pub filter_map_in : {X Y : Type 0} (p : Y → Bool) (g : X → Y) (xs : List X) 
 filter_map_in p g [] = refl
 filter_map_in p g (x ∷ xs) = by (p (g x)) (filter_map_in p g xs)
   where
-    by : (b : Bool) → filter p (map g xs) ≡ map g (filter (λ y. p (g y)) xs) → cond b (g x ∷ filter p (map g xs)) (filter p (map g xs)) ≡ map g (cond b (x ∷ filter (λ y. p (g y)) xs) (filter (λ y. p (g y)) xs))
+    by : (b : Bool) → filter p (map g xs) ≡ map g (filter (λ y. p (g y)) xs) → cond b (g x ∷ filter p (map g xs)) (filter p (map g xs))
+        ≡ map g (cond b (x ∷ filter (λ y. p (g y)) xs) (filter (λ y. p (g y)) xs))
     by true e = ap (λ ys. g x ∷ ys) e
     by false e = e
 

@@ -1,5 +1,6 @@
 -- What names methods by their offsets names described methods after them too.
-use Rattle.std.proofs.Common.{◌≡◌, ◌≤◌, ◌<◌, ℕ, List, [], ◌∷◌, ◌++◌, length, map, find, filter_map, Bool, true, false, cond, Option, Some, None, option_map, ◌||◌, inl, inr, refl, sym, ap, ◌∙◌, arith}
+use Rattle.std.proofs.Common.{◌≡◌, ◌≤◌, ◌<◌, ℕ, List, [], ◌∷◌, ◌++◌, length, map, find, filter_map, Bool, true, false, cond, Option}
+use Rattle.std.proofs.Common.{Some, None, option_map, ◌||◌, inl, inr, refl, sym, ap, ◌∙◌, arith}
 use Rattle.std.specs.Prelude.{if◌then◌else◌, ◌==◌}
 use Rattle.std.specs.List.{list_any}
 use Rattle.std.proofs.lemmas.Bool.{false≢true}
@@ -76,11 +77,13 @@ pub is_told : (b : Bool) (f : PackFault) → (if b then None else Some f) ≡ No
 is_told true f e = refl
 is_told false f e = absurd cc
 
-method_now : (cs : List Change) (offset : ℕ) → no_method_fault (is_method_at (map old_of cs)) offset ≡ None → no_method_fault (is_method_at (map now_of cs)) (now_at cs offset) ≡ None
+method_now : (cs : List Change) (offset : ℕ) → no_method_fault (is_method_at (map old_of cs)) offset ≡ None
+    → no_method_fault (is_method_at (map now_of cs)) (now_at cs offset) ≡ None
 unfolding no_method_fault
 method_now cs offset e = let t = names_now cs offset (is_told (is_method_at (map old_of cs) offset) _ e) in rw t refl
 
-entry_now : (cs : List Change) (offset : ℕ) → now_at cs 0xFFFF ≡ 0xFFFF → no_entry_fault (is_method_at (map old_of cs)) offset ≡ None → no_entry_fault (is_method_at (map now_of cs)) (now_at cs offset) ≡ None
+entry_now : (cs : List Change) (offset : ℕ) → now_at cs 0xFFFF ≡ 0xFFFF → no_entry_fault (is_method_at (map old_of cs)) offset ≡ None
+    → no_entry_fault (is_method_at (map now_of cs)) (now_at cs offset) ≡ None
 unfolding no_entry_fault
 entry_now cs offset last e = by (offset == 0xFFFF) refl
   where
@@ -91,12 +94,14 @@ entry_now cs offset last e = by (offset == 0xFFFF) refl
     either true o e = refl
     either false o e = e
 
-    by : (b : Bool) → (offset == 0xFFFF) ≡ b → (if now_at cs offset == 0xFFFF then None else no_method_fault (is_method_at (map now_of cs)) (now_at cs offset)) ≡ None
+    by : (b : Bool) → (offset == 0xFFFF) ≡ b
+        → (if now_at cs offset == 0xFFFF then None else no_method_fault (is_method_at (map now_of cs)) (now_at cs offset)) ≡ None
     by true h =
         let s : now_at cs offset ≡ 0xFFFF = ap (now_at cs) (is_last offset h) ∙ last in
         rw s refl
     by false h =
-        let k : no_method_fault (is_method_at (map old_of cs)) offset ≡ None = ap (λ b. if b then None else no_method_fault (is_method_at (map old_of cs)) offset) (sym h) ∙ e in
+        let k : no_method_fault (is_method_at (map old_of cs)) offset
+        ≡ None = ap (λ b. if b then None else no_method_fault (is_method_at (map old_of cs)) offset) (sym h) ∙ e in
         either (now_at cs offset == 0xFFFF) (no_method_fault (is_method_at (map now_of cs)) (now_at cs offset)) (method_now cs offset k)
 
 -- no method stood at 0xFFFF
@@ -108,13 +113,17 @@ below_last p m w short =
     let lt : m.method_offset < 65535 = omega arith in
     grind arith
 
-pub last_stays : (parts : List Lent) (p q : PackageRecord) (laid : List (Option Laid)) → StandsFor parts p → IsRewritten p laid q → now_at (changes p laid q) 0xFFFF ≡ 0xFFFF
+pub last_stays : (parts : List Lent) (p q : PackageRecord) (laid : List (Option Laid)) → StandsFor parts p → IsRewritten p laid q
+    → now_at (changes p laid q) 0xFFFF ≡ 0xFFFF
 unfolding now_at
 last_stays parts p q laid s r =
     let cs = changes p laid q in
     let short = info-short 7 s.said.methods.file p.methods.info s.said.methods.framed in
     let ws = old_each p q laid (WasWell p) r (wells parts p (agrees parts p s.agree)) in
-    ap (offset_by 0xFFFF) (find_none (stood_at 0xFFFF) cs (each_of (λ (c : Change). stood_at 0xFFFF c ≡ false) cs (λ c h. below_last p c.source.method (each_at (λ (x : Change). WasWell p x.source.method) cs c ws h) short)))
+    ap (offset_by 0xFFFF)
+    (find_none (stood_at 0xFFFF) cs
+    (each_of (λ (c : Change). stood_at 0xFFFF c ≡ false) cs
+    (λ c h. below_last p c.source.method (each_at (λ (x : Change). WasWell p x.source.method) cs c ws h) short)))
 
 -- ---- lists of names
 
@@ -125,7 +134,8 @@ table_map f (c ∷ cs) =
     ∙ ap (λ es. map f c.public ++ es) (sym (map-append f c.visible (table_entries cs)))
     ∙ sym (map-append f c.public (c.visible ++ table_entries cs))
 
-exported_map : (f : ℕ → ℕ) (o : Option (List Exported)) → exported_methods (or_none (option_map (map (renewed_exported f)) o)) ≡ map f (exported_methods (or_none o))
+exported_map : (f : ℕ → ℕ) (o : Option (List Exported)) → exported_methods (or_none (option_map (map (renewed_exported f)) o))
+    ≡ map f (exported_methods (or_none o))
 exported_map f None = refl
 exported_map f (Some cs) = by cs
   where
@@ -133,14 +143,18 @@ exported_map f (Some cs) = by cs
     by [] = refl
     by (c ∷ cs) = ap (λ es. map f c.methods ++ es) (by cs) ∙ sym (map-append f c.methods (exported_methods cs))
 
-installs_map : (f : ℕ → ℕ) (o : Option (List Applet)) → map (λ (a : Applet). a.install) (or_none (option_map (map (renewed_applet f)) o)) ≡ map f (map (λ (a : Applet). a.install) (or_none o))
+installs_map : (f : ℕ → ℕ) (o : Option (List Applet)) → map (λ (a : Applet). a.install) (or_none (option_map (map (renewed_applet f)) o))
+    ≡ map f (map (λ (a : Applet). a.install) (or_none o))
 installs_map f None = refl
 installs_map f (Some as_) = map_twice (λ (a : Applet). a.install) (renewed_applet f) as_ ∙ sym (map_twice f (λ (a : Applet). a.install) as_)
 
-none_named : (old now : ℕ → Option PackFault) (f : ℕ → ℕ) (offsets : List ℕ) → ((offset : ℕ) → old offset ≡ None → now (f offset) ≡ None) → filter_map old offsets ≡ [] → filter_map now (map f offsets) ≡ []
+none_named : (old now : ℕ → Option PackFault) (f : ℕ → ℕ) (offsets : List ℕ)
+    → ((offset : ℕ) → old offset ≡ None → now (f offset) ≡ None) → filter_map old offsets ≡ [] → filter_map now (map f offsets) ≡ []
 none_named old now f offsets h e =
     let each = none_each old offsets e in
-    faults_map now f offsets ∙ each_none (λ offset. now (f offset)) offsets (each_of (λ offset. now (f offset) ≡ None) offsets (λ offset k. h offset (each_at (λ x. old x ≡ None) offsets offset each k)))
+    faults_map now f offsets
+    ∙ each_none (λ offset. now (f offset)) offsets
+    (each_of (λ offset. now (f offset) ≡ None) offsets (λ offset k. h offset (each_at (λ x. old x ≡ None) offsets offset each k)))
 
 pub all_named : (parts : List Lent) (p q : PackageRecord) (laid : List (Option Laid)) → StandsFor parts p → IsRewritten p laid q
     → (filter_map (no_entry_fault (is_method_at (described_methods q))) (table_entries q.classes)
@@ -155,17 +169,31 @@ all_named parts p q laid s r =
     let after : is_method_at (described_methods q) ≡ is = ap is_method_at (sym (news p q laid r)) in
     let a = (agrees parts p s.agree).names in
     let installs : Option (List Applet) → List ℕ = λ o. map (λ (x : Applet). x.install) (or_none o) in
-    let first = both_empty (filter_map (no_entry_fault (is_method_at (described_methods p))) (table_entries p.classes) ++ filter_map (no_method_fault (is_method_at (described_methods p))) (exported_methods (or_none p.export))) (filter_map (no_method_fault (is_method_at (described_methods p))) (map (λ (x : Applet). x.install) (or_none p.applets))) a in
-    let second = both_empty (filter_map (no_entry_fault (is_method_at (described_methods p))) (table_entries p.classes)) (filter_map (no_method_fault (is_method_at (described_methods p))) (exported_methods (or_none p.export))) first.0 in
-    let methods : (offsets : List ℕ) → filter_map (no_method_fault (is_method_at (described_methods p))) offsets ≡ [] → filter_map (no_method_fault (is_method_at (described_methods q))) (map f offsets) ≡ [] = λ offsets e.
+    let first = both_empty
+    (filter_map (no_entry_fault (is_method_at (described_methods p))) (table_entries p.classes) ++ filter_map
+    (no_method_fault (is_method_at (described_methods p))) (exported_methods (or_none p.export)))
+    (filter_map (no_method_fault (is_method_at (described_methods p))) (map (λ (x : Applet). x.install) (or_none p.applets))) a in
+    let second = both_empty (filter_map (no_entry_fault (is_method_at (described_methods p))) (table_entries p.classes))
+    (filter_map (no_method_fault (is_method_at (described_methods p))) (exported_methods (or_none p.export))) first.0 in
+    let methods : (offsets : List ℕ) → filter_map (no_method_fault (is_method_at (described_methods p))) offsets ≡ []
+    → filter_map (no_method_fault (is_method_at (described_methods q))) (map f offsets) ≡ [] = λ offsets e.
     ap (λ t. filter_map (no_method_fault t) (map f offsets)) after
-    ∙ none_named (no_method_fault was) (no_method_fault is) f offsets (method_now cs) (ap (λ t. filter_map (no_method_fault t) offsets) (sym before) ∙ e) in
-    let entries : (offsets : List ℕ) → filter_map (no_entry_fault (is_method_at (described_methods p))) offsets ≡ [] → filter_map (no_entry_fault (is_method_at (described_methods q))) (map f offsets) ≡ [] = λ offsets e.
+    ∙ none_named (no_method_fault was) (no_method_fault is) f offsets (method_now cs) (ap (λ t. filter_map (no_method_fault t) offsets) (sym before)
+    ∙ e) in
+    let entries : (offsets : List ℕ) → filter_map (no_entry_fault (is_method_at (described_methods p))) offsets ≡ []
+    → filter_map (no_entry_fault (is_method_at (described_methods q))) (map f offsets) ≡ [] = λ offsets e.
     ap (λ t. filter_map (no_entry_fault t) (map f offsets)) after
-    ∙ none_named (no_entry_fault was) (no_entry_fault is) f offsets (λ offset k. entry_now cs offset (last_stays parts p q laid s r) k) (ap (λ t. filter_map (no_entry_fault t) offsets) (sym before) ∙ e) in
-    append_none (filter_map (no_entry_fault (is_method_at (described_methods q))) (table_entries q.classes) ++ filter_map (no_method_fault (is_method_at (described_methods q))) (exported_methods (or_none q.export)))
+    ∙ none_named (no_entry_fault was) (no_entry_fault is) f offsets (λ offset k. entry_now cs offset (last_stays parts p q laid s r) k)
+    (ap (λ t. filter_map (no_entry_fault t) offsets) (sym before) ∙ e) in
+    append_none
+    (filter_map (no_entry_fault (is_method_at (described_methods q))) (table_entries q.classes) ++ filter_map
+    (no_method_fault (is_method_at (described_methods q))) (exported_methods (or_none q.export)))
     (filter_map (no_method_fault (is_method_at (described_methods q))) (map (λ (x : Applet). x.install) (or_none q.applets)))
-    (append_none (filter_map (no_entry_fault (is_method_at (described_methods q))) (table_entries q.classes)) (filter_map (no_method_fault (is_method_at (described_methods q))) (exported_methods (or_none q.export)))
-    (ap (filter_map (no_entry_fault (is_method_at (described_methods q)))) (ap table_entries r.classes ∙ table_map f p.classes) ∙ entries (table_entries p.classes) second.0)
-    (ap (filter_map (no_method_fault (is_method_at (described_methods q)))) (ap (λ o. exported_methods (or_none o)) r.export ∙ exported_map f p.export) ∙ methods (exported_methods (or_none p.export)) second.1))
-    (ap (filter_map (no_method_fault (is_method_at (described_methods q)))) (ap installs r.applets ∙ installs_map f p.applets) ∙ methods (map (λ (x : Applet). x.install) (or_none p.applets)) first.1)
+    (append_none (filter_map (no_entry_fault (is_method_at (described_methods q))) (table_entries q.classes))
+    (filter_map (no_method_fault (is_method_at (described_methods q))) (exported_methods (or_none q.export)))
+    (ap (filter_map (no_entry_fault (is_method_at (described_methods q)))) (ap table_entries r.classes ∙ table_map f p.classes)
+    ∙ entries (table_entries p.classes) second.0)
+    (ap (filter_map (no_method_fault (is_method_at (described_methods q)))) (ap (λ o. exported_methods (or_none o)) r.export ∙ exported_map f p.export)
+    ∙ methods (exported_methods (or_none p.export)) second.1))
+    (ap (filter_map (no_method_fault (is_method_at (described_methods q)))) (ap installs r.applets ∙ installs_map f p.applets)
+    ∙ methods (map (λ (x : Applet). x.install) (or_none p.applets)) first.1)

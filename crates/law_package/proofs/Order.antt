@@ -1,5 +1,7 @@
 -- The order of the blocks of handlers, and where the entries of a method stand in it.
-use Rattle.std.proofs.Common.{◌≡◌, ◌≤◌, ◌<◌, ◌+◌, ℕ, zero, suc, List, [], ◌∷◌, ◌++◌, length, filter, replicate, sum_by, take, drop, flat_map, option_to_list, Bool, true, false, cond, Option, Some, None, is_none, inl, inr, refl, sym, ap, ◌∙◌, arith, append_assoc}
+use Rattle.std.proofs.Common.{◌≡◌, ◌≤◌, ◌<◌, ◌+◌, ℕ, zero, suc, List, [], ◌∷◌, ◌++◌, length, filter, replicate, sum_by, take}
+use Rattle.std.proofs.Common.{drop, flat_map, option_to_list, Bool, true, false, cond, Option, Some, None, is_none, inl, inr, refl, sym, ap, ◌∙◌, arith}
+use Rattle.std.proofs.Common.{append_assoc}
 use Rattle.std.specs.Prelude.{if◌then◌else◌, ◌==◌, slice_set, slice_index}
 use Rattle.std.proofs.lemmas.List.Sums.{sum_by-cons}
 use Rattle.std.proofs.lemmas.Option.{same_Some}
@@ -46,7 +48,8 @@ pub record IsAmong (ms : List WrittenMember) (m : WrittenMember) (before : ℕ) 
   pub total : total_handlers lead ≡ before
   pub others : Each (λ (b : WrittenMember). b.offset ≡ m.offset → ⊥) rest
 
-in_slot : (table : List (Option WrittenMember)) (i : ℕ) (m : WrittenMember) → slot table i ≡ Some m → present table ≡ present (take i table) ++ m ∷ present (drop (suc i) table)
+in_slot : (table : List (Option WrittenMember)) (i : ℕ) (m : WrittenMember) → slot table i ≡ Some m
+    → present table ≡ present (take i table) ++ m ∷ present (drop (suc i) table)
 in_slot [] i m e = absurd cc
 in_slot (None ∷ table) zero m e = absurd cc
 in_slot (Some k ∷ table) zero m e = let s : k ≡ m = cc in ap (λ x. x ∷ present table) s
@@ -57,14 +60,16 @@ each_parts : (P : WrittenMember → Type 0) (xs ys : List WrittenMember) → Eac
 each_parts P [] ys a b = b
 each_parts P (x ∷ xs) ys a b = (a.0, each_parts P xs ys a.1 b)
 
-each_after : (P : WrittenMember → Type 0) (table : List (Option WrittenMember)) (n : ℕ) → ((j : ℕ) (b : WrittenMember) → n ≤ j → slot table j ≡ Some b → P b) → Each P (present (drop n table))
+each_after : (P : WrittenMember → Type 0) (table : List (Option WrittenMember)) (n : ℕ)
+    → ((j : ℕ) (b : WrittenMember) → n ≤ j → slot table j ≡ Some b → P b) → Each P (present (drop n table))
 each_after P [] zero f = tt
 each_after P [] (suc n) f = tt
 each_after P (None ∷ table) zero f = each_after P table zero (λ j b h e. f (suc j) b (omega arith) e)
 each_after P (Some m ∷ table) zero f = (f 0 m (omega arith) refl, each_after P table zero (λ j b h e. f (suc j) b (omega arith) e))
 each_after P (s ∷ table) (suc n) f = each_after P table n (λ j b h e. f (suc j) b (omega arith) e)
 
-each_late : (P : WrittenMember → Type 0) (ms : List WrittenMember) → ((b : WrittenMember) → Has ms b → had_none b ≡ true → P b) → Each P (filter had_none ms)
+each_late : (P : WrittenMember → Type 0) (ms : List WrittenMember) → ((b : WrittenMember) → Has ms b → had_none b ≡ true → P b)
+    → Each P (filter had_none ms)
 each_late P [] f = tt
 each_late P (m ∷ ms) f = by (had_none m) refl (each_late P ms (λ b h e. f b (inr h) e))
   where
@@ -81,7 +86,8 @@ some_none i e = absurd cc
 
 -- one that had handlers stands among those that had
 pub early : (room : ℕ) (ms : List WrittenMember) (i : ℕ) (m : WrittenMember) → slot (firsts room ms) i ≡ Some m → first_of m ≡ Some i
-    → ((j : ℕ) (b : WrittenMember) → slot (firsts room ms) j ≡ Some b → Has ms b × (first_of b ≡ Some j)) → ((b : WrittenMember) → Has ms b → b.offset ≡ m.offset → b ≡ m)
+    → ((j : ℕ) (b : WrittenMember) → slot (firsts room ms) j ≡ Some b → Has ms b × (first_of b ≡ Some j))
+    → ((b : WrittenMember) → Has ms b → b.offset ≡ m.offset → b ≡ m)
     → IsAmong (blocks room ms) m (sum_slots many_of i (firsts room ms))
 early room ms i m e first hold one =
     let table = firsts room ms in
@@ -89,10 +95,13 @@ early room ms i m e first hold one =
     record {
       lead = present (take i table);
       rest = present (drop (suc i) table) ++ filter had_none ms;
-      is = ap (λ xs. xs ++ filter had_none ms) (in_slot table i m e) ∙ append_assoc (present (take i table)) (m ∷ present (drop (suc i) table)) (filter had_none ms);
+      is =
+          ap (λ xs. xs ++ filter had_none ms) (in_slot table i m e) ∙ append_assoc (present (take i table)) (m ∷ present (drop (suc i) table))
+          (filter had_none ms);
       total = total_front table i;
       others = each_parts P (present (drop (suc i) table)) (filter had_none ms)
-          (each_after P table (suc i) (λ j b h g. λ s. let k = hold j b g in let n = same_Some j i (sym k.1 ∙ ap first_of (one b k.0 s) ∙ first) in absurd (omega arith)))
+          (each_after P table (suc i) (λ j b h g. λ s. let k = hold j b g in let n = same_Some j i (sym k.1 ∙ ap first_of (one b k.0 s) ∙ first) in
+          absurd (omega arith)))
           (each_late P ms (λ b h n. λ s. some_none i (sym first ∙ sym (ap first_of (one b h s)) ∙ none_of (first_of b) n)));
     }
 
@@ -100,12 +109,14 @@ filter_parts : (p : WrittenMember → Bool) (xs ys : List WrittenMember) → fil
 filter_parts p [] ys = refl
 filter_parts p (x ∷ xs) ys = by (p x) (filter_parts p xs ys)
   where
-    by : (b : Bool) → filter p (xs ++ ys) ≡ filter p xs ++ filter p ys → cond b (x ∷ filter p (xs ++ ys)) (filter p (xs ++ ys)) ≡ cond b (x ∷ filter p xs) (filter p xs) ++ filter p ys
+    by : (b : Bool) → filter p (xs ++ ys) ≡ filter p xs ++ filter p ys → cond b (x ∷ filter p (xs ++ ys)) (filter p (xs ++ ys))
+        ≡ cond b (x ∷ filter p xs) (filter p xs) ++ filter p ys
     by true e = ap (λ zs. x ∷ zs) e
     by false e = e
 
 -- one that had none stands after them
-pub late : (room : ℕ) (lead rest : List WrittenMember) (m : WrittenMember) → had_none m ≡ true → Each (λ (b : WrittenMember). b.offset ≡ m.offset → ⊥) rest
+pub late : (room : ℕ) (lead rest : List WrittenMember) (m : WrittenMember) → had_none m ≡ true
+    → Each (λ (b : WrittenMember). b.offset ≡ m.offset → ⊥) rest
     → IsAmong (blocks room (lead ++ m ∷ rest)) m (total_handlers (present (firsts room (lead ++ m ∷ rest))) + total_handlers (filter had_none lead))
 late room lead rest m e apart =
     let ms = lead ++ m ∷ rest in
@@ -141,19 +152,24 @@ length_set (x ∷ xs) (suc i) k = ap suc (length_set xs i k)
 
 length_indexes : (xs : List ℕ) (before : ℕ) (bs : List WrittenMember) → length (put_indexes xs before bs) ≡ length xs
 length_indexes xs before [] = refl
-length_indexes xs before (b ∷ bs) = length_indexes (slice_set xs b.offset (first_entry before (many_of b))) (before + many_of b) bs ∙ length_set xs b.offset (first_entry before (many_of b))
+length_indexes xs before (b ∷ bs) =
+    length_indexes (slice_set xs b.offset (first_entry before (many_of b))) (before + many_of b) bs
+    ∙ length_set xs b.offset (first_entry before (many_of b))
 
-indexes_parts : (xs : List ℕ) (before : ℕ) (as_ bs : List WrittenMember) → put_indexes xs before (as_ ++ bs) ≡ put_indexes (put_indexes xs before as_) (before + total_handlers as_) bs
+indexes_parts : (xs : List ℕ) (before : ℕ) (as_ bs : List WrittenMember)
+    → put_indexes xs before (as_ ++ bs) ≡ put_indexes (put_indexes xs before as_) (before + total_handlers as_) bs
 indexes_parts xs before [] bs = ap (λ n. put_indexes xs n bs) (omega arith)
 indexes_parts xs before (a ∷ as_) bs =
     let e : before + many_of a + total_handlers as_ ≡ before + (many_of a + total_handlers as_) = omega arith in
     indexes_parts (slice_set xs a.offset (first_entry before (many_of a))) (before + many_of a) as_ bs
     ∙ ap (λ n. put_indexes (put_indexes (slice_set xs a.offset (first_entry before (many_of a))) (before + many_of a) as_) n bs) e
 
-index_stays : (xs : List ℕ) (before i : ℕ) (bs : List WrittenMember) → Each (λ (b : WrittenMember). b.offset ≡ i → ⊥) bs → slice_index (put_indexes xs before bs) i ≡ slice_index xs i
+index_stays : (xs : List ℕ) (before i : ℕ) (bs : List WrittenMember) → Each (λ (b : WrittenMember). b.offset ≡ i → ⊥) bs
+    → slice_index (put_indexes xs before bs) i ≡ slice_index xs i
 index_stays xs before i [] h = refl
 index_stays xs before i (b ∷ bs) h =
-    index_stays (slice_set xs b.offset (first_entry before (many_of b))) (before + many_of b) i bs h.1 ∙ set_elsewhere xs i b.offset (first_entry before (many_of b)) h.0
+    index_stays (slice_set xs b.offset (first_entry before (many_of b))) (before + many_of b) i bs h.1
+    ∙ set_elsewhere xs i b.offset (first_entry before (many_of b)) h.0
 
 length_zeros : (n : ℕ) → length (replicate {A = ℕ} n 0) ≡ n
 length_zeros zero = refl
@@ -174,11 +190,15 @@ index_among size bs m before a lt =
     ∙ index_stays (slice_set led m.offset (first_entry before (many_of m))) (before + many_of m) m.offset a.rest a.others
     ∙ set_there led m.offset (first_entry before (many_of m)) (omega arith)
 
-entries_parts : (news : List (Option NewMethod)) (as_ bs : List WrittenMember) → entries_of_blocks news (as_ ++ bs) ≡ entries_of_blocks news as_ ++ entries_of_blocks news bs
+entries_parts : (news : List (Option NewMethod)) (as_ bs : List WrittenMember) → entries_of_blocks news (as_ ++ bs) ≡ entries_of_blocks news
+    as_ ++ entries_of_blocks news bs
 entries_parts news [] bs = refl
-entries_parts news (a ∷ as_) bs = ap (λ xs. block_entries news a ++ xs) (entries_parts news as_ bs) ∙ sym (append_assoc (block_entries news a) (entries_of_blocks news as_) (entries_of_blocks news bs))
+entries_parts news (a ∷ as_) bs =
+    ap (λ xs. block_entries news a ++ xs) (entries_parts news as_ bs)
+    ∙ sym (append_assoc (block_entries news a) (entries_of_blocks news as_) (entries_of_blocks news bs))
 
-pub entries_among : (news : List (Option NewMethod)) (bs : List WrittenMember) (m : WrittenMember) (before : ℕ) → IsAmong bs m before → take (many_of m) (drop (first_entry before (many_of m)) (entries_of_blocks news bs)) ≡ block_entries news m
+pub entries_among : (news : List (Option NewMethod)) (bs : List WrittenMember) (m : WrittenMember) (before : ℕ) → IsAmong bs m before
+    → take (many_of m) (drop (first_entry before (many_of m)) (entries_of_blocks news bs)) ≡ block_entries news m
 entries_among news bs m before a = by (many_of m == 0) refl
   where
     none : (n : ℕ) → (n == 0) ≡ true → n ≡ 0
@@ -204,4 +224,5 @@ entries_among news bs m before a = by (many_of m == 0) refl
         ∙ ap (drop before) (entries_parts news a.lead (m ∷ a.rest))
         ∙ ap (λ n. drop n (entries_of_blocks news a.lead ++ entries_of_blocks news (m ∷ a.rest))) (sym (l ∙ t))
         ∙ drop_front (entries_of_blocks news a.lead) (entries_of_blocks news (m ∷ a.rest)) in
-        ap (take (many_of m)) d ∙ ap (λ n. take n (block_entries news m ++ entries_of_blocks news a.rest)) (sym long) ∙ take_front (block_entries news m) (entries_of_blocks news a.rest)
+        ap (take (many_of m)) d ∙ ap (λ n. take n (block_entries news m ++ entries_of_blocks news a.rest)) (sym long)
+        ∙ take_front (block_entries news m) (entries_of_blocks news a.rest)

@@ -1,5 +1,6 @@
 -- Pieces that stand one after the other in the order of a key: each number below their whole size lies in exactly one.
-use Rattle.std.proofs.Common.{◌≡◌, ◌≤◌, ◌<◌, ◌+◌, ℕ, zero, suc, List, [], ◌∷◌, filter, sum_by, Bool, true, false, cond, ◌&&◌, ◌⊎◌, inl, inr, refl, sym, ap, subst, ◌∙◌, arith, ltb-true, ltb-false}
+use Rattle.std.proofs.Common.{◌≡◌, ◌≤◌, ◌<◌, ◌+◌, ℕ, zero, suc, List, [], ◌∷◌, filter, sum_by, Bool, true, false, cond, ◌&&◌}
+use Rattle.std.proofs.Common.{◌⊎◌, inl, inr, refl, sym, ap, subst, ◌∙◌, arith, ltb-true, ltb-false}
 use Rattle.std.specs.Prelude.{nat_lt, nat_le, ◌==◌}
 use Rattle.std.proofs.lemmas.List.Sums.{sum_by-cons}
 use Rattle.std.proofs.lemmas.Bool.{eqb-true, ne_eqb, lt-ltb}
@@ -63,7 +64,8 @@ all_below size key xs = ap (sum_by size) (filter_alike (is_below key (suc (sum_b
 
 -- ---- the pieces at a key
 
-split_by : {X : Type 0} (size : X → ℕ) (x : X) (a n : ℕ) (ps qs rs : List X) → sum_by size ps ≡ sum_by size qs + sum_by size rs → (a < n) ⊎ ((a ≡ n) ⊎ (n < a))
+split_by : {X : Type 0} (size : X → ℕ) (x : X) (a n : ℕ) (ps qs rs : List X) → sum_by size ps ≡ sum_by size qs + sum_by size rs → (a < n)
+    ⊎ ((a ≡ n) ⊎ (n < a))
     → sum_by size (cond (nat_lt a (suc n)) (x ∷ ps) ps) ≡ sum_by size (cond (nat_lt a n) (x ∷ qs) qs) + sum_by size (cond (a == n) (x ∷ rs) rs)
 split_by size x a n ps qs rs e (inl h) =
     let b : nat_lt a (suc n) ≡ true = grind arith in
@@ -85,7 +87,8 @@ split_by size x a n ps qs rs e (inr (inr h)) =
     let d : (a == n) ≡ false = grind arith in
     rw (b, c, d) e
 
-split : {X : Type 0} (size key : X → ℕ) (xs : List X) (n : ℕ) → below size key xs (suc n) ≡ below size key xs n + sum_by size (filter (is_at key n) xs)
+split : {X : Type 0} (size key : X → ℕ) (xs : List X) (n : ℕ) → below size key xs (suc n) ≡ below size key xs n + sum_by size
+    (filter (is_at key n) xs)
 split size key [] n = refl
 split size key (x ∷ xs) n =
     split_by size x (key x) n (filter (is_below key (suc n)) xs) (filter (is_below key n) xs) (filter (is_at key n) xs) (split size key xs n) (three (key x) n)
@@ -101,7 +104,8 @@ at_most_one {X = X} key n (x ∷ xs) d = by (key x == n) refl (at_most_one key n
     by : (b : Bool) → (key x == n) ≡ b → AtMostOne key n xs → AtMostOne key n (x ∷ xs)
     by true e others =
         let same = eqb-true (key x) n e in
-        let rest : filter (is_at key n) xs ≡ [] = filter_none (is_at key n) xs (each_of (λ y. is_at key n y ≡ false) xs (λ y h. ne_eqb (key y) n (λ s. apart xs y d.0 h (s ∙ sym same)))) in
+        let rest : filter (is_at key n) xs ≡ [] = filter_none (is_at key n) xs
+        (each_of (λ y. is_at key n y ≡ false) xs (λ y h. ne_eqb (key y) n (λ s. apart xs y d.0 h (s ∙ sym same)))) in
         one x (ap (λ c. cond c (x ∷ filter (is_at key n) xs) (filter (is_at key n) xs)) e ∙ ap (λ ys. x ∷ ys) rest) (inl refl) same
       where
         apart : (ys : List X) (y : X) → Each (λ z. key z ≡ key x → ⊥) ys → Has ys y → key y ≡ key x → ⊥
@@ -124,7 +128,8 @@ rises : (a n m : ℕ) → n ≤ m → nat_lt a n ≡ true → nat_lt a m ≡ tru
 rises a n m h e = grind arith
 
 -- a piece before the key ends before the number
-pub ends_before : {X : Type 0} (size key : X → ℕ) (xs : List X) (n : ℕ) (x : X) → Has xs x → key x < n → below size key xs (key x) + size x ≤ below size key xs n
+pub ends_before : {X : Type 0} (size key : X → ℕ) (xs : List X) (n : ℕ) (x : X) → Has xs x → key x < n
+    → below size key xs (key x) + size x ≤ below size key xs n
 ends_before size key xs n x h lt =
     sum_more size (is_below key (key x)) (is_below key n) xs x (λ y e. rises (key y) (key x) n (omega arith) e) (itself (key x)) (lt-ltb (key x) n lt) h
   where
@@ -145,7 +150,8 @@ in_it : (k n m : ℕ) → n ≤ k → k < m → nat_le n k && nat_lt k m ≡ tru
 in_it k n m g h = let e : nat_le n k ≡ true = grind arith in let f : nat_lt k m ≡ true = grind arith in rw (e, f) refl
 
 -- the pieces in which the number lies are those at the key
-lies_at : {X : Type 0} (size key : X → ℕ) (xs : List X) (k n : ℕ) (x : X) → Has xs x → below size key xs n ≤ k → k < below size key xs (suc n) → (key x ≡ n → k < below size key xs n + size x)
+lies_at : {X : Type 0} (size key : X → ℕ) (xs : List X) (k n : ℕ) (x : X) → Has xs x → below size key xs n ≤ k → k < below size key xs (suc n)
+    → (key x ≡ n → k < below size key xs n + size x)
     → (key x < n) ⊎ ((key x ≡ n) ⊎ (n < key x)) → lies_in size key xs k x ≡ is_at key n x
 lies_at size key xs k n x h low high at (inl lt) =
     let e = ends_before size key xs n x h lt in
@@ -170,7 +176,8 @@ at_of {X = X} key n xs x y e h s =
     alone (inl k) = k
     alone (inr k) = absurd k
 
-owned_at : {X : Type 0} (size key : X → ℕ) (xs : List X) (k n : ℕ) → below size key xs n ≤ k → k < below size key xs (suc n) → AtMostOne key n xs → IsOwned size key xs k
+owned_at : {X : Type 0} (size key : X → ℕ) (xs : List X) (k n : ℕ) → below size key xs n ≤ k → k < below size key xs (suc n)
+    → AtMostOne key n xs → IsOwned size key xs k
 owned_at size key xs k n low high (no_one e) =
     let s = split size key xs n in
     let z = ap (sum_by size) e in

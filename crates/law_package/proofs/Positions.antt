@@ -46,7 +46,8 @@ get_now [] k c e = absurd cc
 get_now (x ∷ cs) zero c e = let s : x ≡ c = cc in ap (λ (y : Change). Some y.now) s
 get_now (x ∷ cs) (suc k) c e = get_now cs k c e
 
-pub names_stay : (parts : List Lent) (p q : PackageRecord) (laid : List (Option Laid)) → StandsFor parts p → IsRewritten p laid q → (offset position : ℕ) → Names p offset position → Names q (now_at (changes p laid q) offset) position
+pub names_stay : (parts : List Lent) (p q : PackageRecord) (laid : List (Option Laid)) → StandsFor parts p → IsRewritten p laid q
+    → (offset position : ℕ) → Names p offset position → Names q (now_at (changes p laid q) offset) position
 unfolding now_at
 names_stay parts p q laid s r offset position n =
     let cs = changes p laid q in

@@ -1,5 +1,6 @@
 -- Sums over some of the methods, and methods in the order of their positions.
-use Rattle.std.proofs.Common.{◌≡◌, ◌≤◌, ◌<◌, ◌+◌, ℕ, List, [], ◌∷◌, ◌++◌, map, filter, sum_by, Bool, true, false, cond, not, Option, inl, inr, refl, sym, ap, ◌∙◌, arith}
+use Rattle.std.proofs.Common.{◌≡◌, ◌≤◌, ◌<◌, ◌+◌, ℕ, List, [], ◌∷◌, ◌++◌, map, filter, sum_by, Bool, true, false, cond, not}
+use Rattle.std.proofs.Common.{Option, inl, inr, refl, sym, ap, ◌∙◌, arith}
 use Rattle.std.proofs.lemmas.List.Sums.{sum_by-cons, sum_by-append}
 use Rattle.std.proofs.lemmas.List.Filters.{sum_by-filter_both}
 use Rattle.std.proofs.lemmas.List.Elements.{filter-append}
@@ -11,15 +12,18 @@ use Rattle.law_package.proofs.Sums.{filter_every}
 use Rattle.law_package.proofs.Zipped.{from_number}
 use Rattle.law_package.proofs.Kept.{sum_map}
 
-pub sums_agree : {X : Type 0} (f g : X → ℕ) (p q : X → Bool) (xs : List X) → Each (λ x. f x ≡ g x) xs → Each (λ x. p x ≡ q x) xs → sum_by f (filter p xs) ≡ sum_by g (filter q xs)
+pub sums_agree : {X : Type 0} (f g : X → ℕ) (p q : X → Bool) (xs : List X) → Each (λ x. f x ≡ g x) xs → Each (λ x. p x ≡ q x) xs
+    → sum_by f (filter p xs) ≡ sum_by g (filter q xs)
 sums_agree f g p q [] e h = refl
 sums_agree f g p q (x ∷ xs) e h = ap (λ b. sum_by f (cond b (x ∷ filter p xs) (filter p xs))) h.0 ∙ by (q x) (sums_agree f g p q xs e.1 h.1)
   where
-    by : (b : Bool) → sum_by f (filter p xs) ≡ sum_by g (filter q xs) → sum_by f (cond b (x ∷ filter p xs) (filter p xs)) ≡ sum_by g (cond b (x ∷ filter q xs) (filter q xs))
+    by : (b : Bool) → sum_by f (filter p xs) ≡ sum_by g (filter q xs) → sum_by f (cond b (x ∷ filter p xs) (filter p xs))
+        ≡ sum_by g (cond b (x ∷ filter q xs) (filter q xs))
     by true r = let a = sum_by-cons f x (filter p xs) in let b = sum_by-cons g x (filter q xs) in let s = e.0 in omega arith
     by false r = r
 
-pub sum_through : {X Y : Type 0} (f : Y → ℕ) (p : Y → Bool) (g : X → Y) (xs : List X) → sum_by f (filter p (map g xs)) ≡ sum_by (λ x. f (g x)) (filter (λ x. p (g x)) xs)
+pub sum_through : {X Y : Type 0} (f : Y → ℕ) (p : Y → Bool) (g : X → Y) (xs : List X) → sum_by f (filter p (map g xs)) ≡ sum_by (λ x. f (g x))
+    (filter (λ x. p (g x)) xs)
 sum_through f p g xs = ap (sum_by f) (filter_map_in p g xs) ∙ sum_map f g (filter (λ x. p (g x)) xs)
 
 pub sums_all : {X : Type 0} (f : X → ℕ) (p : X → Bool) (xs : List X) → Each (λ x. p x ≡ true) xs → sum_by f (filter p xs) ≡ sum_by f xs
@@ -38,7 +42,8 @@ split_at (y ∷ ys) x (inl s) = record { lead = []; rest = ys; is = ap (λ z. z 
 split_at (y ∷ ys) x (inr h) = let r = split_at ys x h in record { lead = y ∷ r.lead; rest = r.rest; is = ap (λ zs. y ∷ zs) r.is }
 
 -- those that pass a test t are all before it, and after it those that had something
-pub late_sum : {X : Type 0} (w : X → ℕ) (had none t : X → Bool) (lead rest : List X) → ((x : X) → none x ≡ not (had x)) → Each (λ x. t x ≡ true) lead → Each (λ x. t x ≡ had x) rest
+pub late_sum : {X : Type 0} (w : X → ℕ) (had none t : X → Bool) (lead rest : List X) → ((x : X) → none x ≡ not (had x))
+    → Each (λ x. t x ≡ true) lead → Each (λ x. t x ≡ had x) rest
     → sum_by w (filter t (lead ++ rest)) ≡ sum_by w (filter had (lead ++ rest)) + sum_by w (filter none lead)
 late_sum w had none t lead rest other before after =
     let a = ap (sum_by w) (filter-append t lead rest) ∙ sum_by-append w (filter t lead) (filter t rest) in
@@ -72,7 +77,8 @@ rising_sources n (m ∷ ms) (l ∷ ls) =
       rising_sources (n + 1) ms ls,
     )
 
-pub rising_before : {X : Type 0} (number : X → ℕ) (lead rest : List X) (x : X) → Rising number (lead ++ x ∷ rest) → Each (λ y. number y < number x) lead
+pub rising_before : {X : Type 0} (number : X → ℕ) (lead rest : List X) (x : X) → Rising number (lead ++ x ∷ rest)
+    → Each (λ y. number y < number x) lead
 rising_before {X = X} number [] rest x r = tt
 rising_before {X = X} number (y ∷ lead) rest x r = (among lead r.0, rising_before number lead rest x r.1)
   where
@@ -80,6 +86,7 @@ rising_before {X = X} number (y ∷ lead) rest x r = (among lead r.0, rising_bef
     among [] h = h.0
     among (z ∷ zs) h = among zs h.1
 
-pub rising_after : {X : Type 0} (number : X → ℕ) (lead rest : List X) (x : X) → Rising number (lead ++ x ∷ rest) → Each (λ y. number x < number y) rest
+pub rising_after : {X : Type 0} (number : X → ℕ) (lead rest : List X) (x : X) → Rising number (lead ++ x ∷ rest)
+    → Each (λ y. number x < number y) rest
 rising_after number [] rest x r = r.0
 rising_after number (y ∷ lead) rest x r = rising_after number lead rest x r.1

@@ -1,5 +1,6 @@
 -- Parts whose sizes the Directory tells, and which say what every package says.
-use Rattle.std.proofs.Common.{◌≡◌, ◌-◌, ℕ, List, [], ◌∷◌, ◌++◌, length, map, filter_map, find, Bool, true, false, cond, Option, Some, None, Ok, Err, option_map, inl, inr, refl, ap, subst, ◌∙◌, arith}
+use Rattle.std.proofs.Common.{◌≡◌, ◌-◌, ℕ, List, [], ◌∷◌, ◌++◌, length, map, filter_map, find, Bool, true, false, cond, Option, Some}
+use Rattle.std.proofs.Common.{None, Ok, Err, option_map, inl, inr, refl, ap, subst, ◌∙◌, arith}
 use Rattle.std.specs.Prelude.{if◌then◌else◌, ◌==◌, nat_le, ◌&&◌, slice_get, unwrap_or}
 use Rattle.cap_bytes.specs.Spelling.{Stands, file_of}
 use Rattle.cap_bytes.proofs.Laws.{reading_where}
@@ -25,7 +26,8 @@ pub directory_read : (parts : List Lent) (p : PackageRecord) → AreSaid parts p
 unfolding read_directory
 directory_read parts p s = rw (part_read parts 1 header_info p.header s.header) (part_read parts 2 (directory_info p.header.format) p.directory s.directory)
 
-file_info : (parts : List Lent) (tag : ℕ) (file info : List ℕ) → held parts tag ≡ Some file → Stands (component tag) file info → info_in parts tag ≡ Ok info
+file_info : (parts : List Lent) (tag : ℕ) (file info : List ℕ) → held parts tag ≡ Some file → Stands (component tag) file info
+    → info_in parts tag ≡ Ok info
 unfolding info_in
 file_info parts tag file info e s = rw (e, reading_where (file_of tag) (component tag) file info s) refl
 
@@ -43,7 +45,8 @@ either_none : (b : Bool) (o : Option PackFault) → o ≡ None → (if b then No
 either_none true o e = refl
 either_none false o e = e
 
-sized_by : (parts : List Lent) (tag : ℕ) (o : Option (List ℕ)) (s : Option ℕ) → held parts tag ≡ o → ((size : ℕ) → s ≡ Some size → IsSizeOf tag size o) → absent_by s (absent_fault parts tag) ≡ None
+sized_by : (parts : List Lent) (tag : ℕ) (o : Option (List ℕ)) (s : Option ℕ) → held parts tag ≡ o
+    → ((size : ℕ) → s ≡ Some size → IsSizeOf tag size o) → absent_by s (absent_fault parts tag) ≡ None
 sized_by parts tag o None e h = refl
 sized_by parts tag None (Some size) e h = let z : size ≡ 0 = h size refl in rw z refl
 sized_by parts tag (Some file) (Some size) e h = either_none (size == 0) (absent_fault parts tag) (there_none parts tag file e)
@@ -79,7 +82,8 @@ required_there parts p s = (
   ),
 )
 
-pub nothing_missing : (parts : List Lent) (p : PackageRecord) → AreSaid parts p → HasSizes parts p.directory → missing_parts parts (read_directory parts) ≡ []
+pub nothing_missing : (parts : List Lent) (p : PackageRecord) → AreSaid parts p → HasSizes parts p.directory
+    → missing_parts parts (read_directory parts) ≡ []
 nothing_missing parts p s h =
     let d = p.directory in
     let sized : (tags : List ℕ) → filter_map (sized_fault parts d) tags ≡ [] = λ tags.
@@ -98,7 +102,8 @@ same_size n = grind arith
 told_size : (tag size : ℕ) (info : List ℕ) → length info ≡ size → size_by tag (Some size) (Ok info) ≡ None
 told_size tag size info e = subst (λ n. size_by tag (Some n) (Ok info) ≡ None) e (rw (same_size (length info)) refl)
 
-size_none_by : (parts : List Lent) (tag : ℕ) (o : Option (List ℕ)) (s : Option ℕ) → held parts tag ≡ o → ((size : ℕ) → s ≡ Some size → IsSizeOf tag size o) → size_by tag s (info_in parts tag) ≡ None
+size_none_by : (parts : List Lent) (tag : ℕ) (o : Option (List ℕ)) (s : Option ℕ) → held parts tag ≡ o
+    → ((size : ℕ) → s ≡ Some size → IsSizeOf tag size o) → size_by tag s (info_in parts tag) ≡ None
 size_none_by parts tag o None e h = refl
 size_none_by parts tag None (Some size) e h = ap (size_by tag (Some size)) (no_info parts tag e)
 size_none_by parts tag (Some file) (Some size) e h =
@@ -107,7 +112,9 @@ size_none_by parts tag (Some file) (Some size) e h =
 
 pub sizes_told : (parts : List Lent) (d : DirectoryItems) (tags : List ℕ) → HasSizes parts d → filter_map (size_fault parts d) tags ≡ []
 unfolding size_fault
-sizes_told parts d tags h = each_none (size_fault parts d) tags (each_of (λ tag. size_fault parts d tag ≡ None) tags (λ tag k. size_none_by parts tag (held parts tag) (size_in d tag) refl (h tag)))
+sizes_told parts d tags h =
+    each_none (size_fault parts d) tags
+    (each_of (λ tag. size_fault parts d tag ≡ None) tags (λ tag k. size_none_by parts tag (held parts tag) (size_in d tag) refl (h tag)))
 
 -- ---- custom components
 
@@ -118,7 +125,8 @@ found (c ∷ cs) n (inl s) =
     (c, ap (λ b. cond b (Some c) (find (λ (x : Custom). x.tag == n) cs)) e)
 found (c ∷ cs) n (inr h) = by (c.tag == n) (found cs n h)
   where
-    by : (b : Bool) → ((x : Custom) × (find (λ (y : Custom). y.tag == n) cs ≡ Some x)) → (x : Custom) × (cond b (Some c) (find (λ (y : Custom). y.tag == n) cs) ≡ Some x)
+    by : (b : Bool) → ((x : Custom) × (find (λ (y : Custom). y.tag == n) cs ≡ Some x)) → (x : Custom)
+        × (cond b (Some c) (find (λ (y : Custom). y.tag == n) cs) ≡ Some x)
     by true r = (c, refl)
     by false r = r
 
@@ -132,7 +140,8 @@ has_size d tag h =
     let e : custom_size_in d.customs tag ≡ Some f.0.size = ap (option_map (λ (c : Custom). c.size)) f.1 in
     size_by_tag (nat_le 1 tag && nat_le tag 12) (unwrap_or (slice_get d.sizes (tag - 1)) 0) (custom_size_in d.customs tag) f.0.size e
 
-form_none_by : (parts : List Lent) (tag size : ℕ) (o : Option (List ℕ)) → held parts tag ≡ o → IsSizeOf tag size o → form_by o (info_in parts tag) ≡ None
+form_none_by : (parts : List Lent) (tag size : ℕ) (o : Option (List ℕ)) → held parts tag ≡ o → IsSizeOf tag size o
+    → form_by o (info_in parts tag) ≡ None
 form_none_by parts tag size None e h = refl
 form_none_by parts tag size (Some file) e h = rw (file_info parts tag file h.0 e h.1) refl
 

@@ -1,5 +1,6 @@
 -- Tables in which members are put at the numbers of a key.
-use Rattle.std.proofs.Common.{◌≡◌, ◌<◌, ◌+◌, ℕ, zero, suc, List, [], ◌∷◌, length, filter, replicate, sum_by, Bool, true, false, cond, Option, Some, None, ◌⊎◌, inl, inr, refl, sym, ap, subst, ◌∙◌, arith}
+use Rattle.std.proofs.Common.{◌≡◌, ◌<◌, ◌+◌, ℕ, zero, suc, List, [], ◌∷◌, length, filter, replicate, sum_by, Bool, true, false, cond}
+use Rattle.std.proofs.Common.{Option, Some, None, ◌⊎◌, inl, inr, refl, sym, ap, subst, ◌∙◌, arith}
 use Rattle.std.specs.Prelude.{if◌then◌else◌, nat_lt, ◌==◌, slice_set, slice_index_or}
 use Rattle.std.proofs.lemmas.List.Sums.{sum_by-cons}
 use Rattle.std.proofs.lemmas.Bool.{eqb-true, eqb-false}
@@ -29,11 +30,13 @@ put_all key table (m ∷ ms) = put_all key (put_by table m (key m)) ms
 
 -- ---- one more
 
-first_set : (w : WrittenMember → ℕ) (n : ℕ) (table : List (Option WrittenMember)) (m : WrittenMember) (b : Bool) (k : ℕ) → k ≡ 0 → b ≡ true → w m + sum_slots w n table ≡ k + sum_slots w n table + (if b then w m else 0)
+first_set : (w : WrittenMember → ℕ) (n : ℕ) (table : List (Option WrittenMember)) (m : WrittenMember) (b : Bool) (k : ℕ) → k ≡ 0 → b ≡ true
+    → w m + sum_slots w n table ≡ k + sum_slots w n table + (if b then w m else 0)
 first_set w n table m true k z t = omega arith
 first_set w n table m false k z t = absurd cc
 
-set_sum : (w : WrittenMember → ℕ) (n : ℕ) (table : List (Option WrittenMember)) (i : ℕ) (m : WrittenMember) → i < length table → slot table i ≡ None
+set_sum : (w : WrittenMember → ℕ) (n : ℕ) (table : List (Option WrittenMember)) (i : ℕ) (m : WrittenMember) → i < length table
+    → slot table i ≡ None
     → sum_slots w n (slice_set table i (Some m)) ≡ sum_slots w n table + (if nat_lt i n then w m else 0)
 set_sum w n [] i m lt e = absurd (omega arith)
 set_sum w zero (s ∷ table) zero m lt e = refl
@@ -60,18 +63,21 @@ abbrev pub AreFree : (WrittenMember → Option ℕ) → List (Option WrittenMemb
 AreFree key table [] = Unit {0}
 AreFree key table (m ∷ ms) = FreeAt table (key m) × Each (Differ key m) ms × AreFree key table ms
 
-free_one : (table : List (Option WrittenMember)) (m : WrittenMember) (i : ℕ) (o : Option ℕ) → (o ≡ Some i → ⊥) → FreeAt table o → FreeAt (slice_set table i (Some m)) o
+free_one : (table : List (Option WrittenMember)) (m : WrittenMember) (i : ℕ) (o : Option ℕ) → (o ≡ Some i → ⊥) → FreeAt table o
+    → FreeAt (slice_set table i (Some m)) o
 free_one table m i None h f = tt
 free_one table m i (Some j) h f =
     let l = length_set table i m in
     let lt = f.0 in
     (omega arith, set_other table j i m (λ e. h (ap Some (sym e))) ∙ f.1)
 
-free_set : (key : WrittenMember → Option ℕ) (table : List (Option WrittenMember)) (m : WrittenMember) (i : ℕ) (ms : List WrittenMember) → Each (λ y. key y ≡ Some i → ⊥) ms → AreFree key table ms → AreFree key (slice_set table i (Some m)) ms
+free_set : (key : WrittenMember → Option ℕ) (table : List (Option WrittenMember)) (m : WrittenMember) (i : ℕ) (ms : List WrittenMember)
+    → Each (λ y. key y ≡ Some i → ⊥) ms → AreFree key table ms → AreFree key (slice_set table i (Some m)) ms
 free_set key table m i [] d f = tt
 free_set key table m i (y ∷ ms) d f = (free_one table m i (key y) d.0 f.0, f.1, free_set key table m i ms d.1 f.2)
 
-free_put : (key : WrittenMember → Option ℕ) (table : List (Option WrittenMember)) (m : WrittenMember) (ms : List WrittenMember) (o : Option ℕ) → key m ≡ o → Each (Differ key m) ms → AreFree key table ms → AreFree key (put_by table m o) ms
+free_put : (key : WrittenMember → Option ℕ) (table : List (Option WrittenMember)) (m : WrittenMember) (ms : List WrittenMember) (o : Option ℕ)
+    → key m ≡ o → Each (Differ key m) ms → AreFree key table ms → AreFree key (put_by table m o) ms
 free_put key table m ms None e d f = f
 free_put key table m ms (Some i) e d f = free_set key table m i ms (each_of (λ y. key y ≡ Some i → ⊥) ms (λ y h. each_at (Differ key m) ms y d h i e)) f
 
@@ -79,52 +85,63 @@ abbrev pub key_below : ℕ → Option ℕ → Bool
 key_below n None = false
 key_below n (Some i) = nat_lt i n
 
-put_one : (w : WrittenMember → ℕ) (n : ℕ) (table : List (Option WrittenMember)) (m : WrittenMember) (o : Option ℕ) → FreeAt table o → sum_slots w n (put_by table m o) ≡ sum_slots w n table + (if key_below n o then w m else 0)
+put_one : (w : WrittenMember → ℕ) (n : ℕ) (table : List (Option WrittenMember)) (m : WrittenMember) (o : Option ℕ) → FreeAt table o
+    → sum_slots w n (put_by table m o) ≡ sum_slots w n table + (if key_below n o then w m else 0)
 put_one w n table m None f = omega arith
 put_one w n table m (Some i) f = set_sum w n table i m f.0 f.1
 
-sum_cond : (w : WrittenMember → ℕ) (b : Bool) (m : WrittenMember) (ms : List WrittenMember) → sum_by w (cond b (m ∷ ms) ms) ≡ (if b then w m else 0) + sum_by w ms
+sum_cond : (w : WrittenMember → ℕ) (b : Bool) (m : WrittenMember) (ms : List WrittenMember)
+    → sum_by w (cond b (m ∷ ms) ms) ≡ (if b then w m else 0) + sum_by w ms
 sum_cond w true m ms = sum_by-cons w m ms
 sum_cond w false m ms = omega arith
 
-pub put_sum : (w : WrittenMember → ℕ) (key : WrittenMember → Option ℕ) (n : ℕ) (table : List (Option WrittenMember)) (ms : List WrittenMember) → AreFree key table ms
+pub put_sum : (w : WrittenMember → ℕ) (key : WrittenMember → Option ℕ) (n : ℕ) (table : List (Option WrittenMember)) (ms : List WrittenMember)
+    → AreFree key table ms
     → sum_slots w n (put_all key table ms) ≡ sum_slots w n table + sum_by w (filter (λ m. key_below n (key m)) ms)
 put_sum w key n table [] f = omega arith
 put_sum w key n table (m ∷ ms) f =
     let a = put_sum w key n (put_by table m (key m)) ms (free_put key table m ms (key m) refl f.1 f.2) in
     let b = put_one w n table m (key m) f.0 in
     let c = sum_cond w (key_below n (key m)) m (filter (λ x. key_below n (key x)) ms) in
-    a ∙ ap (λ k. k + sum_by w (filter (λ x. key_below n (key x)) ms)) b ∙ shifted (sum_slots w n table) (if key_below n (key m) then w m else 0) (sum_by w (filter (λ x. key_below n (key x)) ms)) _ c
+    a ∙ ap (λ k. k + sum_by w (filter (λ x. key_below n (key x)) ms)) b ∙ shifted (sum_slots w n table) (if key_below n (key m) then w m else 0)
+    (sum_by w (filter (λ x. key_below n (key x)) ms)) _ c
   where
     shifted : (x y z t : ℕ) → t ≡ y + z → x + y + z ≡ x + t
     shifted x y z t e = omega arith
 
-put_kept : (key : WrittenMember → Option ℕ) (table : List (Option WrittenMember)) (m : WrittenMember) (o : Option ℕ) (i : ℕ) → (o ≡ Some i → ⊥) → slot (put_by table m o) i ≡ slot table i
+put_kept : (key : WrittenMember → Option ℕ) (table : List (Option WrittenMember)) (m : WrittenMember) (o : Option ℕ) (i : ℕ)
+    → (o ≡ Some i → ⊥) → slot (put_by table m o) i ≡ slot table i
 put_kept key table m None i h = refl
 put_kept key table m (Some j) i h = set_other table i j m (λ e. h (ap Some e))
 
 -- a slot at whose number none is put stays
-pub kept : (key : WrittenMember → Option ℕ) (table : List (Option WrittenMember)) (ms : List WrittenMember) (i : ℕ) → Each (λ y. key y ≡ Some i → ⊥) ms → slot (put_all key table ms) i ≡ slot table i
+pub kept : (key : WrittenMember → Option ℕ) (table : List (Option WrittenMember)) (ms : List WrittenMember) (i : ℕ)
+    → Each (λ y. key y ≡ Some i → ⊥) ms → slot (put_all key table ms) i ≡ slot table i
 kept key table [] i d = refl
 kept key table (m ∷ ms) i d = kept key (put_by table m (key m)) ms i d.1 ∙ put_kept key table m (key m) i d.0
 
-put_same : (table : List (Option WrittenMember)) (m : WrittenMember) (o : Option ℕ) (i : ℕ) → FreeAt table o → o ≡ Some i → slot (put_by table m o) i ≡ Some m
+put_same : (table : List (Option WrittenMember)) (m : WrittenMember) (o : Option ℕ) (i : ℕ) → FreeAt table o → o ≡ Some i
+    → slot (put_by table m o) i ≡ Some m
 put_same table m None i f e = absurd cc
 put_same table m (Some j) i f e = let s : j ≡ i = cc in ap (slot (slice_set table j (Some m))) (sym s) ∙ set_same table j m f.0
 
 -- each stands at its number
-pub own : (key : WrittenMember → Option ℕ) (table : List (Option WrittenMember)) (ms : List WrittenMember) (m : WrittenMember) (i : ℕ) → AreFree key table ms → Has ms m → key m ≡ Some i → slot (put_all key table ms) i ≡ Some m
+pub own : (key : WrittenMember → Option ℕ) (table : List (Option WrittenMember)) (ms : List WrittenMember) (m : WrittenMember) (i : ℕ)
+    → AreFree key table ms → Has ms m → key m ≡ Some i → slot (put_all key table ms) i ≡ Some m
 own key table [] m i f h e = absurd h
 own key table (y ∷ ms) m i f (inl s) e =
     let k : key y ≡ Some i = ap key (sym s) ∙ e in
-    kept key (put_by table y (key y)) ms i (each_of (λ x. key x ≡ Some i → ⊥) ms (λ x g. each_at (Differ key y) ms x f.1 g i k)) ∙ put_same table y (key y) i f.0 k ∙ ap Some (sym s)
+    kept key (put_by table y (key y)) ms i (each_of (λ x. key x ≡ Some i → ⊥) ms (λ x g. each_at (Differ key y) ms x f.1 g i k))
+    ∙ put_same table y (key y) i f.0 k ∙ ap Some (sym s)
 own key table (y ∷ ms) m i f (inr h) e = own key (put_by table y (key y)) ms m i (free_put key table y ms (key y) refl f.1 f.2) h e
 
-held_by : (key : WrittenMember → Option ℕ) (table : List (Option WrittenMember)) (m : WrittenMember) (o : Option ℕ) (j : ℕ) (b : WrittenMember) → key m ≡ o → slot (put_by table m o) j ≡ Some b → (slot table j ≡ Some b) ⊎ ((b ≡ m) × (key b ≡ Some j))
+held_by : (key : WrittenMember → Option ℕ) (table : List (Option WrittenMember)) (m : WrittenMember) (o : Option ℕ) (j : ℕ) (b : WrittenMember)
+    → key m ≡ o → slot (put_by table m o) j ≡ Some b → (slot table j ≡ Some b) ⊎ ((b ≡ m) × (key b ≡ Some j))
 held_by key table m None j b k e = inl e
 held_by key table m (Some i) j b k e = at_slot table i j k e
   where
-    at_slot : (table : List (Option WrittenMember)) (i j : ℕ) → key m ≡ Some i → slot (slice_set table i (Some m)) j ≡ Some b → (slot table j ≡ Some b) ⊎ ((b ≡ m) × (key b ≡ Some j))
+    at_slot : (table : List (Option WrittenMember)) (i j : ℕ) → key m ≡ Some i → slot (slice_set table i (Some m)) j ≡ Some b
+        → (slot table j ≡ Some b) ⊎ ((b ≡ m) × (key b ≡ Some j))
     at_slot table i j k e = by (i == j) refl
       where
         first : (table : List (Option WrittenMember)) (j : ℕ) → slot (slice_set table j (Some m)) j ≡ Some b → (slot table j ≡ Some b) ⊎ (b ≡ m)
@@ -143,7 +160,8 @@ held_by key table m (Some i) j b k e = at_slot table i j k e
         by false t = inl (sym (set_other table j i m (eqb-false i j t)) ∙ e)
 
 -- what a slot has is one of those that were put there
-pub holds : (key : WrittenMember → Option ℕ) (table : List (Option WrittenMember)) (ms : List WrittenMember) (j : ℕ) (b : WrittenMember) → slot (put_all key table ms) j ≡ Some b → (slot table j ≡ Some b) ⊎ (Has ms b × (key b ≡ Some j))
+pub holds : (key : WrittenMember → Option ℕ) (table : List (Option WrittenMember)) (ms : List WrittenMember) (j : ℕ) (b : WrittenMember)
+    → slot (put_all key table ms) j ≡ Some b → (slot table j ≡ Some b) ⊎ (Has ms b × (key b ≡ Some j))
 holds key table [] j b e = inl e
 holds key table (m ∷ ms) j b e = by (holds key (put_by table m (key m)) ms j b e)
   where
@@ -151,7 +169,8 @@ holds key table (m ∷ ms) j b e = by (holds key (put_by table m (key m)) ms j b
     at_one (inl h) = inl h
     at_one (inr h) = inr (inl h.0, h.1)
 
-    by : (slot (put_by table m (key m)) j ≡ Some b) ⊎ (Has ms b × (key b ≡ Some j)) → (slot table j ≡ Some b) ⊎ (Has (m ∷ ms) b × (key b ≡ Some j))
+    by : (slot (put_by table m (key m)) j ≡ Some b) ⊎ (Has ms b × (key b ≡ Some j)) → (slot table j ≡ Some b)
+        ⊎ (Has (m ∷ ms) b × (key b ≡ Some j))
     by (inl h) = at_one (held_by key table m (key m) j b refl h)
     by (inr h) = inr (inr h.0, h.1)
 
@@ -167,7 +186,8 @@ sum_none w zero k = refl
 sum_none w (suc n) zero = refl
 sum_none w (suc n) (suc k) = let r = sum_none w n k in omega arith
 
-pub free_none : (key : WrittenMember → Option ℕ) (size : ℕ) (m : WrittenMember) (o : Option ℕ) → ((i : ℕ) → o ≡ Some i → i < size) → FreeAt (replicate size None) o
+pub free_none : (key : WrittenMember → Option ℕ) (size : ℕ) (m : WrittenMember) (o : Option ℕ) → ((i : ℕ) → o ≡ Some i → i < size)
+    → FreeAt (replicate size None) o
 free_none key size m None h = tt
 free_none key size m (Some i) h = let l = length_none size in let lt = h i refl in (omega arith, slot_none size i)
 
@@ -180,7 +200,8 @@ all_free key size [] a = tt
 all_free key size (m ∷ ms) a = (free_none key size m (key m) a.0, a.1, all_free key size ms a.2)
 
 -- what stands in the first n slots
-pub sum_put : (w : WrittenMember → ℕ) (key : WrittenMember → Option ℕ) (size n : ℕ) (ms : List WrittenMember) → AreApartBy key size ms → sum_slots w n (put_all key (replicate size None) ms) ≡ sum_by w (filter (λ m. key_below n (key m)) ms)
+pub sum_put : (w : WrittenMember → ℕ) (key : WrittenMember → Option ℕ) (size n : ℕ) (ms : List WrittenMember) → AreApartBy key size ms
+    → sum_slots w n (put_all key (replicate size None) ms) ≡ sum_by w (filter (λ m. key_below n (key m)) ms)
 sum_put w key size n ms a =
     let s = put_sum w key n (replicate size None) ms (all_free key size ms a) in
     let z = sum_none w n size in
@@ -239,7 +260,8 @@ length_put_by : (table : List (Option WrittenMember)) (m : WrittenMember) (o : O
 length_put_by table m None = refl
 length_put_by table m (Some i) = length_set table i m
 
-length_put : (key : WrittenMember → Option ℕ) (table : List (Option WrittenMember)) (ms : List WrittenMember) → length (put_all key table ms) ≡ length table
+length_put : (key : WrittenMember → Option ℕ) (table : List (Option WrittenMember)) (ms : List WrittenMember)
+    → length (put_all key table ms) ≡ length table
 length_put key table [] = refl
 length_put key table (m ∷ ms) = length_put key (put_by table m (key m)) ms ∙ length_put_by table m (key m)
 

@@ -1,5 +1,6 @@
 -- Methods that stand one after the other share no byte and lie in the info.
-use Rattle.std.proofs.Common.{◌≡◌, ◌≤◌, ◌<◌, ◌+◌, ◌*◌, ℕ, List, [], ◌∷◌, ◌++◌, length, map, sum_by, filter_map, min, max, Bool, true, false, Option, None, ◌⊎◌, inl, inr, refl, sym, ap, subst, ◌∙◌, arith, ltb-true, ltb-false}
+use Rattle.std.proofs.Common.{◌≡◌, ◌≤◌, ◌<◌, ◌+◌, ◌*◌, ℕ, List, [], ◌∷◌, ◌++◌, length, map, sum_by, filter_map, min, max}
+use Rattle.std.proofs.Common.{Bool, true, false, Option, None, ◌⊎◌, inl, inr, refl, sym, ap, subst, ◌∙◌, arith, ltb-true, ltb-false}
 use Rattle.std.specs.Prelude.{nat_lt}
 use Rattle.cap_bytes.specs.Number.{number_at}
 use Rattle.cap_desc.specs.DescriptorFormat.{MethodDescriptor}
@@ -21,7 +22,8 @@ use Rattle.law_package.proofs.Zipped.{now_of, old_of}
 use Rattle.law_package.proofs.Headers.{some_bytes}
 use Rattle.law_package.proofs.Facts.{WasWell, wells, news, olds, no_faults, all_written, few_by}
 
-pub sizes_end : (info : List ℕ) (m : MethodDescriptor) → code_end info m ≡ m.method_offset + (size_by (number_at 1 m.method_offset info) + m.bytecode_count)
+pub sizes_end : (info : List ℕ) (m : MethodDescriptor)
+    → code_end info m ≡ m.method_offset + (size_by (number_at 1 m.method_offset info) + m.bytecode_count)
 unfolding code_end code_start
 sizes_end info m = omega arith
 
@@ -33,7 +35,8 @@ sizes_some info m = let s = some_bytes (number_at 1 m.method_offset info) in let
 abbrev pub offset_of : Change → ℕ
 offset_of c = c.source.method.method_offset
 
-stood_apart : (info : List ℕ) (a b : MethodDescriptor) → code_end info a ≤ length info → code_end info b ≤ length info → overlap_fault info a b ≡ None → b.method_offset ≡ a.method_offset → ⊥
+stood_apart : (info : List ℕ) (a b : MethodDescriptor) → code_end info a ≤ length info → code_end info b ≤ length info
+    → overlap_fault info a b ≡ None → b.method_offset ≡ a.method_offset → ⊥
 unfolding overlap_fault
 stood_apart info a b ha hb e s =
     let shares = few_by (share_byte info a b) _ e in
@@ -44,7 +47,8 @@ stood_apart info a b ha hb e s =
     let sb = sizes_some info b in
     absurd (omega arith)
 
-all_apart : (p : PackageRecord) (ms : List MethodDescriptor) → Each (WasWell p) ms → filter_map (overlap_pair p.methods.info) (pairs ms) ≡ [] → Distinct (λ (m : MethodDescriptor). m.method_offset) ms
+all_apart : (p : PackageRecord) (ms : List MethodDescriptor) → Each (WasWell p) ms → filter_map (overlap_pair p.methods.info) (pairs ms) ≡ []
+    → Distinct (λ (m : MethodDescriptor). m.method_offset) ms
 all_apart p [] w e = tt
 all_apart p (m ∷ ms) w e =
     let info = p.methods.info in
@@ -54,24 +58,28 @@ all_apart p (m ∷ ms) w e =
     (λ y h. stood_apart info m y w.0.within (each_at (WasWell p) ms y w.1 h).within (each_at (λ x. overlap_fault info m x ≡ None) ms y each h)) in
     (apart, all_apart p ms w.1 both.1)
   where
-    split : (m : MethodDescriptor) (ms : List MethodDescriptor) → filter_map (overlap_pair p.methods.info) (pairs (m ∷ ms)) ≡ filter_map (overlap_pair p.methods.info) (map (λ y. (m, y)) ms) ++ filter_map (overlap_pair p.methods.info) (pairs ms)
+    split : (m : MethodDescriptor) (ms : List MethodDescriptor) → filter_map (overlap_pair p.methods.info) (pairs (m ∷ ms))
+        ≡ filter_map (overlap_pair p.methods.info) (map (λ y. (m, y)) ms) ++ filter_map (overlap_pair p.methods.info) (pairs ms)
     split m ms = faults_append (overlap_pair p.methods.info) (map (λ y. (m, y)) ms) (pairs ms)
 
 pub distinct_map : {X Y : Type 0} (key : Y → ℕ) (g : X → Y) (xs : List X) → Distinct key (map g xs) → Distinct (λ x. key (g x)) xs
 distinct_map key g [] d = tt
 distinct_map key g (x ∷ xs) d = (map_each (λ y. key y ≡ key (g x) → ⊥) g xs d.0, distinct_map key g xs d.1)
 
-pub apart : (parts : List Lent) (p q : PackageRecord) (laid : List (Option Laid)) → Agrees parts p → IsRewritten p laid q → Distinct offset_of (changes p laid q)
+pub apart : (parts : List Lent) (p q : PackageRecord) (laid : List (Option Laid)) → Agrees parts p → IsRewritten p laid q
+    → Distinct offset_of (changes p laid q)
 apart parts p q laid a r =
     distinct_map (λ (m : MethodDescriptor). m.method_offset) old_of (changes p laid q)
     (subst (Distinct (λ (m : MethodDescriptor). m.method_offset)) (sym (olds p q laid r)) (all_apart p (described_methods p) (wells parts p a) a.overlaps))
 
 -- ---- they stand apart
 
-place_of : (p q : PackageRecord) (all : List Change) (c : Change) → IsMethodWritten p q all c → c.now.method_offset ≡ methods_begin q + below (size_written q) offset_of all (offset_of c)
+place_of : (p q : PackageRecord) (all : List Change) (c : Change) → IsMethodWritten p q all c
+    → c.now.method_offset ≡ methods_begin q + below (size_written q) offset_of all (offset_of c)
 place_of p q all c w = w.place
 
-pub one_ends : (p q : PackageRecord) (all : List Change) (c d : Change) → IsMethodWritten p q all c → IsMethodWritten p q all d → Has all c → offset_of c < offset_of d → code_end q.methods.info c.now ≤ d.now.method_offset
+pub one_ends : (p q : PackageRecord) (all : List Change) (c d : Change) → IsMethodWritten p q all c → IsMethodWritten p q all d → Has all c
+    → offset_of c < offset_of d → code_end q.methods.info c.now ≤ d.now.method_offset
 one_ends p q all c d w v h lt =
     let a = place_of p q all c w in
     let b = place_of p q all d v in
@@ -87,7 +95,8 @@ compare a b h = by (nat_lt a b) (nat_lt b a) refl refl
     by false true e f = inr (ltb-true b a f)
     by false false e f = let u = ltb-false a b e in let v = ltb-false b a f in absurd (h (omega arith))
 
-shares_none : (info : List ℕ) (a b : MethodDescriptor) → (code_end info a ≤ b.method_offset) ⊎ (code_end info b ≤ a.method_offset) → overlap_fault info a b ≡ None
+shares_none : (info : List ℕ) (a b : MethodDescriptor) → (code_end info a ≤ b.method_offset) ⊎ (code_end info b ≤ a.method_offset)
+    → overlap_fault info a b ≡ None
 unfolding overlap_fault
 shares_none info a b (inl h) =
     let e : nat_lt (max a.method_offset b.method_offset) (min (min (code_end info a) (code_end info b)) (length info)) ≡ false = grind arith in
@@ -96,32 +105,43 @@ shares_none info a b (inr h) =
     let e : nat_lt (max a.method_offset b.method_offset) (min (min (code_end info a) (code_end info b)) (length info)) ≡ false = grind arith in
     rw e refl
 
-pair_none : (p q : PackageRecord) (all : List Change) (c d : Change) → Each (IsMethodWritten p q all) all → Has all c → Has all d → (offset_of d ≡ offset_of c → ⊥) → overlap_fault q.methods.info c.now d.now ≡ None
+pair_none : (p q : PackageRecord) (all : List Change) (c d : Change) → Each (IsMethodWritten p q all) all → Has all c → Has all d
+    → (offset_of d ≡ offset_of c → ⊥) → overlap_fault q.methods.info c.now d.now ≡ None
 pair_none p q all c d ws hc hd ne = by (compare (offset_of d) (offset_of c) ne)
   where
     by : (offset_of d < offset_of c) ⊎ (offset_of c < offset_of d) → overlap_fault q.methods.info c.now d.now ≡ None
-    by (inl lt) = shares_none q.methods.info c.now d.now (inr (one_ends p q all d c (each_at (IsMethodWritten p q all) all d ws hd) (each_at (IsMethodWritten p q all) all c ws hc) hd lt))
-    by (inr lt) = shares_none q.methods.info c.now d.now (inl (one_ends p q all c d (each_at (IsMethodWritten p q all) all c ws hc) (each_at (IsMethodWritten p q all) all d ws hd) hc lt))
+    by (inl lt) =
+        shares_none q.methods.info c.now d.now
+        (inr (one_ends p q all d c (each_at (IsMethodWritten p q all) all d ws hd) (each_at (IsMethodWritten p q all) all c ws hc) hd lt))
+    by (inr lt) =
+        shares_none q.methods.info c.now d.now
+        (inl (one_ends p q all c d (each_at (IsMethodWritten p q all) all c ws hc) (each_at (IsMethodWritten p q all) all d ws hd) hc lt))
 
-no_pairs : (p q : PackageRecord) (all cs : List Change) → Each (IsMethodWritten p q all) all → ((c : Change) → Has cs c → Has all c) → Distinct offset_of cs → filter_map (overlap_pair q.methods.info) (pairs (map now_of cs)) ≡ []
+no_pairs : (p q : PackageRecord) (all cs : List Change) → Each (IsMethodWritten p q all) all → ((c : Change) → Has cs c → Has all c)
+    → Distinct offset_of cs → filter_map (overlap_pair q.methods.info) (pairs (map now_of cs)) ≡ []
 no_pairs p q all [] ws i d = refl
 no_pairs p q all (c ∷ cs) ws i d =
     let info = q.methods.info in
     let each = each_of (λ (y : Change). overlap_fault info c.now y.now ≡ None) cs
     (λ y h. pair_none p q all c y ws (i c (inl refl)) (i y (inr h)) (each_at (λ (z : Change). offset_of z ≡ offset_of c → ⊥) cs y d.0 h)) in
     let head : filter_map (overlap_pair info) (map (λ y. (c.now, y)) (map now_of cs)) ≡ [] =
-    faults_map (overlap_pair info) (λ y. (c.now, y)) (map now_of cs) ∙ faults_map (λ y. overlap_fault info c.now y) now_of cs ∙ each_none (λ (y : Change). overlap_fault info c.now y.now) cs each in
+    faults_map (overlap_pair info) (λ y. (c.now, y)) (map now_of cs) ∙ faults_map (λ y. overlap_fault info c.now y) now_of cs
+    ∙ each_none (λ (y : Change). overlap_fault info c.now y.now) cs each in
     faults_append (overlap_pair info) (map (λ y. (c.now, y)) (map now_of cs)) (pairs (map now_of cs))
-    ∙ append_none (filter_map (overlap_pair info) (map (λ y. (c.now, y)) (map now_of cs))) (filter_map (overlap_pair info) (pairs (map now_of cs))) head (no_pairs p q all cs ws (λ y h. i y (inr h)) d.1)
+    ∙ append_none (filter_map (overlap_pair info) (map (λ y. (c.now, y)) (map now_of cs))) (filter_map (overlap_pair info) (pairs (map now_of cs))) head
+    (no_pairs p q all cs ws (λ y h. i y (inr h)) d.1)
 
-pub stand_apart : (parts : List Lent) (p q : PackageRecord) (laid : List (Option Laid)) → Agrees parts p → IsRewritten p laid q → filter_map (overlap_pair q.methods.info) (pairs (described_methods q)) ≡ []
+pub stand_apart : (parts : List Lent) (p q : PackageRecord) (laid : List (Option Laid)) → Agrees parts p → IsRewritten p laid q
+    → filter_map (overlap_pair q.methods.info) (pairs (described_methods q)) ≡ []
 stand_apart parts p q laid a r =
     let cs = changes p laid q in
-    ap (λ ms. filter_map (overlap_pair q.methods.info) (pairs ms)) (sym (news p q laid r)) ∙ no_pairs p q cs cs (all_written p q laid r) (λ c h. h) (apart parts p q laid a r)
+    ap (λ ms. filter_map (overlap_pair q.methods.info) (pairs ms)) (sym (news p q laid r)) ∙ no_pairs p q cs cs (all_written p q laid r) (λ c h. h)
+    (apart parts p q laid a r)
 
 -- ---- they lie in the info
 
-lies_inside : (info : List ℕ) (n : ℕ) (m : MethodDescriptor) → 1 + 8 * n ≤ m.method_offset → code_end info m ≤ length info → outside_fault info n m ≡ None
+lies_inside : (info : List ℕ) (n : ℕ) (m : MethodDescriptor) → 1 + 8 * n ≤ m.method_offset → code_end info m ≤ length info
+    → outside_fault info n m ≡ None
 unfolding outside_fault
 lies_inside info n m low high =
     let a : nat_lt m.method_offset (1 + 8 * n) ≡ false = grind arith in
@@ -131,14 +151,16 @@ lies_inside info n m low high =
 itself : (a : ℕ) → nat_lt a a ≡ false
 itself a = grind arith
 
-pub ends_inside : (p q : PackageRecord) (all : List Change) (c : Change) → IsMethodWritten p q all c → Has all c → length q.methods.info ≡ methods_begin q + sum_by (size_written q) all → code_end q.methods.info c.now ≤ length q.methods.info
+pub ends_inside : (p q : PackageRecord) (all : List Change) (c : Change) → IsMethodWritten p q all c → Has all c
+    → length q.methods.info ≡ methods_begin q + sum_by (size_written q) all → code_end q.methods.info c.now ≤ length q.methods.info
 ends_inside p q all c w h long =
     let a = place_of p q all c w in
     let e = sizes_end q.methods.info c.now in
     let k = sum_beside (size_written q) (is_below offset_of (offset_of c)) all c (itself (offset_of c)) h in
     omega arith
 
-pub lie_inside : (p q : PackageRecord) (laid : List (Option Laid)) → IsRewritten p laid q → filter_map (outside_fault q.methods.info (length q.methods.handlers)) (described_methods q) ≡ []
+pub lie_inside : (p q : PackageRecord) (laid : List (Option Laid)) → IsRewritten p laid q
+    → filter_map (outside_fault q.methods.info (length q.methods.handlers)) (described_methods q) ≡ []
 lie_inside p q laid r =
     let cs = changes p laid q in
     let ws = all_written p q laid r in

@@ -1,5 +1,6 @@
 -- A StaticMethodref of the last package names the method of the same number.
-use Rattle.std.proofs.Common.{◌≡◌, ◌≤◌, ◌<◌, ◌+◌, ◌*◌, ℕ, List, [], ◌∷◌, ◌++◌, length, Bool, true, false, not, Option, Some, None, option_map, option_and_then, slice_index, ◌⊎◌, inl, inr, refl, sym, ap, subst, ◌∙◌, arith}
+use Rattle.std.proofs.Common.{◌≡◌, ◌≤◌, ◌<◌, ◌+◌, ◌*◌, ℕ, List, [], ◌∷◌, ◌++◌, length, Bool, true, false, not, Option, Some}
+use Rattle.std.proofs.Common.{None, option_map, option_and_then, slice_index, ◌⊎◌, inl, inr, refl, sym, ap, subst, ◌∙◌, arith}
 use Rattle.std.specs.Prelude.{if◌then◌else◌, nat_lt, ◌==◌}
 use Rattle.std.proofs.lemmas.Bool.{false≢true, and_parts, eqb-true}
 use Rattle.byteorder.specs.Endian.{big_bytes}
@@ -25,7 +26,8 @@ use Rattle.jc_decode.specs.declared.symbols.Laid.{Laid}
 use Rattle.jc_link.specs.Entries.{place_in, method_place}
 use Rattle.jc_link.specs.Members.{call_member, member_of}
 use Rattle.jc_resolve.specs.declared.place.RecordPlace.{RecordPlace}
-use Rattle.jc_resolve.specs.Numbering.{NumberedMethod, methods_of_class, methods_of_classes, methods_after, numbered_methods, place_of_method, method_places, is_at, is_placed, method_at}
+use Rattle.jc_resolve.specs.Numbering.{NumberedMethod, methods_of_class, methods_of_classes, methods_after, numbered_methods, place_of_method, method_places}
+use Rattle.jc_resolve.specs.Numbering.{is_at, is_placed, method_at}
 use Rattle.law_package.specs.Changes.{Change, changes, now_at}
 use Rattle.law_package.specs.Written.{IsMethodWritten}
 use Rattle.law_package.specs.Rewritten.{IsRewritten}

@@ -1,5 +1,7 @@
 -- Each handler catches all, or a class below throwable.
-use Rattle.std.proofs.Common.{◌≡◌, ◌≤◌, ◌<◌, ◌+◌, ◌-◌, ◌*◌, ℕ, zero, suc, List, [], ◌∷◌, length, drop, map, filter_map, Bool, true, false, Option, Some, None, option_map, ◌||◌, ◌&&◌, ◌⊎◌, inl, inr, slice_get, refl, sym, ap, subst, ◌∙◌, arith}
+use Rattle.std.proofs.Common.{◌≡◌, ◌≤◌, ◌<◌, ◌+◌, ◌-◌, ◌*◌, ℕ, zero, suc, List, [], ◌∷◌, length, drop, map, filter_map}
+use Rattle.std.proofs.Common.{Bool, true, false, Option, Some, None, option_map, ◌||◌, ◌&&◌, ◌⊎◌, inl, inr, slice_get, refl, sym, ap, subst}
+use Rattle.std.proofs.Common.{◌∙◌, arith}
 use Rattle.std.specs.Prelude.{if◌then◌else◌, All, nat_lt, slice_index, ◌==◌}
 use Rattle.std.proofs.lemmas.Option.{slice_get-map, slice_get_within}
 use Rattle.cap_desc.specs.DescriptorFormat.{MethodDescriptor}
@@ -20,7 +22,8 @@ use Rattle.jc_base.specs.Class.{ClassTable}
 use Rattle.jc_base.proofs.Eaching.{Each-from_All}
 use Rattle.jc_decode.specs.declared.symbols.LaidHandler.{LaidHandler as Laying}
 use Rattle.jc_decode.specs.declared.symbols.Laid.{Laid}
-use Rattle.jc_link.specs.Catches.{class_caught, class_caught_by, thrown_by, catches_throwable, HandlerPlace, handlers_from, handlers_after, catch_fault, bad_catches}
+use Rattle.jc_link.specs.Catches.{class_caught, class_caught_by, thrown_by, catches_throwable, HandlerPlace, handlers_from, handlers_after, catch_fault}
+use Rattle.jc_link.specs.Catches.{bad_catches}
 use Rattle.jc_resolve.specs.declared.fault.LinkFault.TheVariants.{BadCatch}
 use Rattle.jc_resolve.specs.NamedMethods.{handler_named}
 use Rattle.law_package.specs.Changes.{Change, changes, now_at}

@@ -1,5 +1,6 @@
 -- The classes are the same, with each class, type and method that they name.
-use Rattle.std.proofs.Common.{◌≡◌, ◌≤◌, ◌<◌, ◌+◌, ℕ, List, [], ◌∷◌, ◌++◌, length, map, flat_map, Bool, true, false, Option, Some, None, option_map, inl, inr, refl, sym, ap, subst, ◌∙◌, arith}
+use Rattle.std.proofs.Common.{◌≡◌, ◌≤◌, ◌<◌, ◌+◌, ℕ, List, [], ◌∷◌, ◌++◌, length, map, flat_map, Bool, true, false, Option}
+use Rattle.std.proofs.Common.{Some, None, option_map, inl, inr, refl, sym, ap, subst, ◌∙◌, arith}
 use Rattle.std.specs.Prelude.{if◌then◌else◌, ◌==◌, ◌||◌}
 use Rattle.std.specs.List.{list_any, cons_option}
 use Rattle.std.proofs.lemmas.Bool.{false≢true, eqb-true}
@@ -22,7 +23,8 @@ use Rattle.jc_decode.specs.declared.symbols.Laid.{Laid}
 use Rattle.jc_resolve.specs.Numbering.{numbered_class, method_at}
 use Rattle.jc_resolve.specs.References.{class_named}
 use Rattle.jc_resolve.specs.WorldTypes.{class_or_object, type_class, type_of}
-use Rattle.jc_resolve.specs.NamedClasses.{fields_described, instance_fields, by_token, cells_by, cells_of_field, cells_of_fields, dispatch_entry, interface_named, implemented_interfaces, parent_named, named_class, named_classes}
+use Rattle.jc_resolve.specs.NamedClasses.{fields_described, instance_fields, by_token, cells_by, cells_of_field, cells_of_fields, dispatch_entry}
+use Rattle.jc_resolve.specs.NamedClasses.{interface_named, implemented_interfaces, parent_named, named_class, named_classes}
 use Rattle.jc_resolve.proofs.Pairwise.{each-split}
 use Rattle.law_package.specs.Changes.{Change, changes, now_at}
 use Rattle.law_package.specs.Written.{IsMethodWritten}
@@ -63,7 +65,8 @@ pub flat_same : {X Y : Type 0} (f g : X → List Y) (xs : List X) → ((x : X) �
 flat_same f g [] h = refl
 flat_same f g (x ∷ xs) h = ap (λ ys. ys ++ flat_map f xs) (h x) ∙ ap (λ ys. g x ++ ys) (flat_same f g xs h)
 
-pub flat_bare : {Z : Type 0} (f : described.ClassDescriptor → List Z) (g : described.ClassDescriptor → described.ClassDescriptor) (cs : List described.ClassDescriptor)
+pub flat_bare : {Z : Type 0} (f : described.ClassDescriptor → List Z) (g : described.ClassDescriptor → described.ClassDescriptor)
+    (cs : List described.ClassDescriptor)
     → ((c : described.ClassDescriptor) → f c ≡ f (g c)) → flat_map f cs ≡ flat_map f (map g cs)
 flat_bare f g [] h = refl
 flat_bare f g (c ∷ cs) h = ap (λ ys. ys ++ flat_map f cs) (h c) ∙ ap (λ ys. f (g c) ++ ys) (flat_bare f g cs h)

@@ -1,5 +1,6 @@
 -- The same things are at fault with numbers, imports and class references.
-use Rattle.std.proofs.Common.{◌≡◌, ◌+◌, ℕ, suc, List, [], ◌∷◌, ◌++◌, length, map, flat_map, filter_map, Bool, Option, option_to_list, refl, sym, ap, ◌∙◌, arith, length-append}
+use Rattle.std.proofs.Common.{◌≡◌, ◌+◌, ℕ, suc, List, [], ◌∷◌, ◌++◌, length, map, flat_map, filter_map, Bool, Option, option_to_list}
+use Rattle.std.proofs.Common.{refl, sym, ap, ◌∙◌, arith, length-append}
 use Rattle.std.proofs.lemmas.List.{length-map}
 use Rattle.std.specs.List.{range_with_len, cons_option}
 use Rattle.cap_desc.specs.DescriptorFormat.{MethodDescriptor, FieldDescriptor, ClassDescriptor}
@@ -11,7 +12,8 @@ use Rattle.cap_renewal.specs.ClassEdits.{renewed_class}
 use Rattle.jc_decode.specs.declared.symbols.Laid.{Laid}
 use Rattle.jc_resolve.specs.declared.fault.LinkFault.{LinkFault}
 use Rattle.jc_resolve.specs.Numbering.{place_of_class, numbered_classes, numbered_methods, methods_after, methods_of_classes, methods_of_class}
-use Rattle.jc_resolve.specs.Conditions.{named_after, named_in, import_tokens, no_package_fault, references_of_class, references_of_record, reference_of_type, references_of_field_type, references_of_method, references_of_types, class_references, no_class_fault, conditions}
+use Rattle.jc_resolve.specs.Conditions.{named_after, named_in, import_tokens, no_package_fault, references_of_class, references_of_record, reference_of_type}
+use Rattle.jc_resolve.specs.Conditions.{references_of_field_type, references_of_method, references_of_types, class_references, no_class_fault, conditions}
 use Rattle.law_package.specs.Changes.{changes, now_at}
 use Rattle.law_package.specs.Rewritten.{bare_method, bare_class, HasSameDescription, IsRewritten}
 use Rattle.law_package.proofs.Bare.{alike, same_field, same_types_named}

@@ -1,5 +1,6 @@
 -- Lists that are the same seen by a view.
-use Rattle.std.proofs.Common.{◌≡◌, ◌<◌, ◌+◌, ℕ, zero, suc, List, [], ◌∷◌, ◌++◌, length, take, drop, map, flat_map, slice_get, get_or, position, Bool, true, cond, not, Option, Some, None, ◌⊎◌, inl, inr, option_and_then, refl, ap, ◌∙◌, arith}
+use Rattle.std.proofs.Common.{◌≡◌, ◌<◌, ◌+◌, ℕ, zero, suc, List, [], ◌∷◌, ◌++◌, length, take, drop, map, flat_map, slice_get, get_or}
+use Rattle.std.proofs.Common.{position, Bool, true, cond, not, Option, Some, None, ◌⊎◌, inl, inr, option_and_then, refl, ap, ◌∙◌, arith}
 use Rattle.std.specs.Prelude.{nat_lt}
 use Rattle.std.specs.List.{position_or_len}
 use Rattle.std.proofs.lemmas.List.Quantifiers.{position-Some}

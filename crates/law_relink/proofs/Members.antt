@@ -1,5 +1,6 @@
 -- Pool entries name the same members.
-use Rattle.std.proofs.Common.{◌≡◌, ◌≤◌, ◌<◌, ◌+◌, ◌-◌, ◌*◌, ℕ, List, [], ◌∷◌, ◌++◌, length, take, map, flat_map, Bool, true, false, Option, Some, None, option_map, option_and_then, position, slice_index, refl, sym, ap, ◌∙◌, arith, length-take}
+use Rattle.std.proofs.Common.{◌≡◌, ◌≤◌, ◌<◌, ◌+◌, ◌-◌, ◌*◌, ℕ, List, [], ◌∷◌, ◌++◌, length, take, map, flat_map, Bool}
+use Rattle.std.proofs.Common.{true, false, Option, Some, None, option_map, option_and_then, position, slice_index, refl, sym, ap, ◌∙◌, arith, length-take}
 use Rattle.std.specs.Prelude.{if◌then◌else◌, nat_lt, ◌==◌}
 use Rattle.cap_bytes.specs.declared.class_reference.ClassReference.{ClassReference}
 use Rattle.cap_class.specs.ClassFormat.{Class, is_interface}
@@ -8,7 +9,8 @@ use Rattle.cap_desc.specs.DescriptorFormat as described
 use Rattle.cap_pool.specs.Export.{field_offset_in, method_offset_in}
 use Rattle.cap_pool.specs.PoolFormat.{Entry}
 use Rattle.cap_pool.specs.declared.pool_reference.PoolReference.{PoolReference}
-use Rattle.cap_pool.specs.declared.pool_reference.PoolReference.TheVariants.{Class as ClassEntry, InstanceField, VirtualMethod, SuperMethod, StaticField, StaticMethod}
+use Rattle.cap_pool.specs.declared.pool_reference.PoolReference.TheVariants.{Class as ClassEntry, InstanceField, VirtualMethod, SuperMethod, StaticField}
+use Rattle.cap_pool.specs.declared.pool_reference.PoolReference.TheVariants.{StaticMethod}
 use Rattle.cap_pool.specs.declared.pool_reference.StaticReference.{StaticReference}
 use Rattle.cap_pool.specs.declared.pool_reference.StaticReference.TheVariants.{Internal, External}
 use Rattle.cap_pool.specs.PoolReference.{referred}
@@ -24,7 +26,8 @@ use Rattle.jc_decode.specs.declared.symbols.Laid.{Laid}
 use Rattle.jc_link.specs.Entries.{place_in, exported_field, exported_method, exported_place, field_place, method_place}
 use Rattle.jc_resolve.specs.OwnFields.{field_with, own_field, fields_in, own_fields}
 use Rattle.jc_link.specs.Fields.{class_sites, sites_of_classes, sites_after, field_sites}
-use Rattle.jc_link.specs.Members.{class_member, proper_by, proper_referred, virtual_by, virtual_member, super_of, super_member, static_at, static_member, call_member, field_of, field_member, member_referred, member_of}
+use Rattle.jc_link.specs.Members.{class_member, proper_by, proper_referred, virtual_by, virtual_member, super_of, super_member, static_at, static_member}
+use Rattle.jc_link.specs.Members.{call_member, field_of, field_member, member_referred, member_of}
 use Rattle.jc_resolve.specs.declared.place.RecordPlace.{RecordPlace}
 use Rattle.jc_resolve.specs.NamedClasses.{describes, token_of}
 use Rattle.jc_resolve.specs.Numbering.{method_at}
@@ -239,7 +242,8 @@ module _ (ps : List PackageRecord) (p q : PackageRecord) (laid : List (Option La
   earlier_member t statics k e lt = members_same t statics k e (omega arith) (calls_same k (referred e) lt)
 
 -- a StaticMethodref names what is called
-pub call_is : (xs : List PackageRecord) (t : ClassTable) (statics : List StaticRec) (k : ℕ) (e : Entry) (x : StaticReference) → referred e ≡ StaticMethod x
+pub call_is : (xs : List PackageRecord) (t : ClassTable) (statics : List StaticRec) (k : ℕ) (e : Entry) (x : StaticReference)
+    → referred e ≡ StaticMethod x
     → member_of xs t statics k e ≡ call_member xs k x
 unfolding member_of
 call_is xs t statics k e x is = ap (member_referred xs t statics k) is

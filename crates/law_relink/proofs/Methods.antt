@@ -1,5 +1,6 @@
 -- What is asked of methods where classes are linked asks for nothing of their code.
-use Rattle.std.proofs.Common.{◌≡◌, ℕ, List, [], ◌∷◌, length, map, Bool, not, Option, Some, None, option_map, option_and_then, slice_get, refl, sym, ap, ◌∙◌}
+use Rattle.std.proofs.Common.{◌≡◌, ℕ, List, [], ◌∷◌, length, map, Bool, not, Option, Some, None, option_map, option_and_then, slice_get, refl}
+use Rattle.std.proofs.Common.{sym, ap, ◌∙◌}
 use Rattle.std.specs.Prelude.{if◌then◌else◌, nat_lt, slice_index, ◌==◌, ◌&&◌, ◌||◌, flat_map}
 use Rattle.std.specs.Option.{option_flatten}
 use Rattle.std.specs.List.{list_all}
@@ -11,7 +12,8 @@ use Rattle.jc_base.specs.Dispatch.{has_body, has_body_in, all_have_bodies, is_co
 use Rattle.jc_resolve.specs.declared.fault.LinkFault.TheVariants.{Hole, OverrideType, InterfaceType, RoleAbstract}
 use Rattle.jc_resolve.specs.declared.named.NamedClass.{NamedClass}
 use Rattle.jc_classes.specs.Outline.{LineTable}
-use Rattle.jc_classes.specs.TableConditions.{class_numbers, DispatchEntry, entries_in, may_stand, hole_fault, Replacement, replacements_in, override_fault, Implementation, implementations_in, serves, serves_all, interface_type_fault, conditions}
+use Rattle.jc_classes.specs.TableConditions.{class_numbers, DispatchEntry, entries_in, may_stand, hole_fault, Replacement, replacements_in, override_fault}
+use Rattle.jc_classes.specs.TableConditions.{Implementation, implementations_in, serves, serves_all, interface_type_fault, conditions}
 use Rattle.jc_classes.specs.Signatures.{entry_method, entry_signature, same_signature}
 use Rattle.jc_link.specs.Roles.{role_fault, thrown_roles, abstract_roles}
 use Rattle.law_package.proofs.Lists.{faults_same}

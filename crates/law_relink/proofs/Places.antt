@@ -1,5 +1,6 @@
 -- The places of methods: an offset is renewed to that of the method of the same number.
-use Rattle.std.proofs.Common.{◌≡◌, ◌<◌, ◌+◌, ℕ, suc, List, [], ◌∷◌, ◌++◌, length, map, find, Bool, true, false, cond, not, Option, Some, None, ◌⊎◌, inl, inr, refl, sym, ap, subst, ◌∙◌, arith}
+use Rattle.std.proofs.Common.{◌≡◌, ◌<◌, ◌+◌, ℕ, suc, List, [], ◌∷◌, ◌++◌, length, map, find, Bool, true, false, cond, not, Option}
+use Rattle.std.proofs.Common.{Some, None, ◌⊎◌, inl, inr, refl, sym, ap, subst, ◌∙◌, arith}
 use Rattle.std.specs.Prelude.{if◌then◌else◌, ◌==◌, ◌&&◌}
 use Rattle.std.proofs.lemmas.List.{map-append, length-map}
 use Rattle.std.proofs.lemmas.Bool.{eqb-true, eqb-false, ne_eqb}
@@ -247,7 +248,8 @@ earlier_method ps p q laid k o r lt =
           ∙ sym (in_classes k n o p 0 p.description.items.classes);
     }))
   where
-    map_false : (xs ys : List MethodDescriptor) → length xs ≡ length ys → map (λ (m : MethodDescriptor). false) xs ≡ map (λ (m : MethodDescriptor). false) ys
+    map_false : (xs ys : List MethodDescriptor) → length xs ≡ length ys → map (λ (m : MethodDescriptor). false) xs
+        ≡ map (λ (m : MethodDescriptor). false) ys
     map_false [] [] e = refl
     map_false [] (y ∷ ys) e = absurd (omega arith)
     map_false (x ∷ xs) [] e = absurd (omega arith)

@@ -1,5 +1,6 @@
 -- The record of a method reads of the packages only what they name.
-use Rattle.std.proofs.Common.{◌≡◌, ◌+◌, ◌-◌, ℕ, List, [], ◌∷◌, ◌++◌, Bool, true, false, not, Option, Some, None, slice_get, slice_index, refl, ap, ◌∙◌}
+use Rattle.std.proofs.Common.{◌≡◌, ◌+◌, ◌-◌, ℕ, List, [], ◌∷◌, ◌++◌, Bool, true, false, not, Option, Some, None, slice_get}
+use Rattle.std.proofs.Common.{slice_index, refl, ap, ◌∙◌}
 use Rattle.std.specs.Prelude.{if◌then◌else◌, unwrap_or, ◌==◌, ◌&&◌}
 use Rattle.cap_desc.specs.declared.type_item.TypeItem.{TypeItem}
 use Rattle.cap_desc.specs.DescriptorFormat.{ClassDescriptor, MethodDescriptor}
@@ -18,7 +19,8 @@ use Rattle.jc_decode.specs.declared.symbols.Laid.{Laid}
 use Rattle.jc_resolve.specs.Numbering.{NumberedMethod, numbered_method, is_placed}
 use Rattle.jc_resolve.specs.References.{class_named}
 use Rattle.jc_resolve.specs.WorldTypes.{cells_of_type, arguments_before, result_after, signature_in, types_named, declared_signature}
-use Rattle.jc_resolve.specs.NamedMethods.{class_or_none, class_in_entry, caught_class, offset_in_info, handler_named, no_body, body_after, body_by, body_of, class_described, is_class, have_headers, method_with, method_as, named_method}
+use Rattle.jc_resolve.specs.NamedMethods.{class_or_none, class_in_entry, caught_class, offset_in_info, handler_named, no_body, body_after, body_by, body_of}
+use Rattle.jc_resolve.specs.NamedMethods.{class_described, is_class, have_headers, method_with, method_as, named_method}
 use Rattle.law_package.specs.Changes.{changes, now_at}
 use Rattle.law_package.specs.Rewritten.{IsRewritten}
 use Rattle.law_package.proofs.FromWriting.{map_same}

@@ -1,5 +1,6 @@
 -- The methods of a package and of the same one with other code, side by side.
-use Rattle.std.proofs.Common.{◌≡◌, ◌+◌, ℕ, suc, List, [], ◌∷◌, ◌++◌, length, take, drop, map, Bool, true, false, Option, refl, sym, ap, subst, ◌∙◌, arith, length-append, length-take, length-drop}
+use Rattle.std.proofs.Common.{◌≡◌, ◌+◌, ℕ, suc, List, [], ◌∷◌, ◌++◌, length, take, drop, map, Bool, true, false, Option, refl, sym, ap}
+use Rattle.std.proofs.Common.{subst, ◌∙◌, arith, length-append, length-take, length-drop}
 use Rattle.std.specs.Prelude.{if◌then◌else◌}
 use Rattle.std.proofs.lemmas.Bool.{false≢true}
 use Rattle.std.proofs.lemmas.List.{map-append, take-append-drop, length-map}
@@ -34,7 +35,8 @@ after_in k q t = numbered_method k q t.class_no t.new_class t.method_no t.new
 abbrev pub laid_in : Twin → Option Laid
 laid_in t = t.laid
 
-abbrev pub twins_of_class : ℕ → ClassDescriptor → ClassDescriptor → ℕ → List MethodDescriptor → List MethodDescriptor → List (Option Laid) → List Twin
+abbrev pub twins_of_class : ℕ → ClassDescriptor → ClassDescriptor → ℕ → List MethodDescriptor → List MethodDescriptor → List (Option Laid)
+    → List Twin
 twins_of_class i c d j [] ns ls = []
 twins_of_class i c d j (m ∷ ms) [] ls = []
 twins_of_class i c d j (m ∷ ms) (n ∷ ns) [] = []

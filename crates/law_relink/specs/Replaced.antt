@@ -1,5 +1,6 @@
 -- Code that is laid for the methods of the last package of a world, and the methods when it stands there.
-use Rattle.std.specs.Prelude.{◌≡◌, ℕ, ◌+◌, ◌<◌, ◌⊎◌, List, [], ◌∷◌, ◌++◌, length, All, Any, Option, Some, None, IsSomeAnd, slice_get}
+use Rattle.std.specs.Prelude.{◌≡◌, ℕ, ◌+◌, ◌<◌, ◌⊎◌, List, [], ◌∷◌, ◌++◌, length, All, Any, Option, Some}
+use Rattle.std.specs.Prelude.{None, IsSomeAnd, slice_get}
 use Rattle.std.proofs.Common.{refl, arith}
 use Rattle.jc_base.specs.declared.record.Handler.{Handler}
 use Rattle.jc_base.specs.declared.record.MethodRec.{MethodRec}

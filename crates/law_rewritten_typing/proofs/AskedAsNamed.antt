@@ -1,5 +1,6 @@
 -- The labels of a rewritten method are asked for as they are named, so that it has a card typing.
-use Rattle.std.proofs.Common.{◌≡◌, ℕ, suc, ◌+◌, ◌<◌, Bool, true, if◌then◌else◌, List, [], ◌∷◌, map, length, slice_get, Contains, Some, Ok, IfSome, refl, sym, ◌∙◌, ap, subst, arith}
+use Rattle.std.proofs.Common.{◌≡◌, ℕ, suc, ◌+◌, ◌<◌, Bool, true, if◌then◌else◌, List, [], ◌∷◌, map, length, slice_get, Contains}
+use Rattle.std.proofs.Common.{Some, Ok, IfSome, refl, sym, ◌∙◌, ap, subst, arith}
 use Rattle.std.specs.Prelude.{ℤ, pos, negsuc, is_some}
 use Rattle.std.proofs.lemmas.List.{length-map}
 use Rattle.std.proofs.lemmas.List.Elements.{All-contains}
@@ -47,7 +48,8 @@ use Rattle.law_rewritten_typing.proofs.Ordered.{ranges-filled, handlers-are}
 use Rattle.law_rewritten_typing.proofs.Others.{no-others}
 use Rattle.law_rewritten_typing.proofs.Named.{Names, items-name}
 
-module _ (s : Source) (l : AreLaws s.world) (ready : IsReady s) (code : IsCode s) (mo : IsMethodOf s.world s.method) (by_pool : CatchesByPool) (r : MethodRec) (own_rec : IsRecordFor s.method.rec r) where
+module _ (s : Source) (l : AreLaws s.world) (ready : IsReady s) (code : IsCode s) (mo : IsMethodOf s.world s.method) (by_pool : CatchesByPool)
+    (r : MethodRec) (own_rec : IsRecordFor s.method.rec r) where
   res : IfSome s.method.rec.sig.result (IsDeclared s.world.classes)
   res = (of_world s.world l.rules s.method mo).result
 
@@ -68,7 +70,8 @@ module _ (s : Source) (l : AreLaws s.world) (ready : IsReady s) (code : IsCode s
       let flagged : is_leader s q ≡ true = (ready.marks q).1 leads in
       (named-among s q (label-of q there), wanted.places q ((ready.has.reached q).1 there) ∙ ap (λ (b : Bool). if b then emptied else nothing_asked) flagged)
 
-  target-named : (i : Placed) → IsListed s.method.code i → IsReached s.method i.place → (t : ℤ) → Contains (targets s.method.code i) t → IsTargetPlace s.method.code t → IsEmptied (place t)
+  target-named : (i : Placed) → IsListed s.method.code i → IsReached s.method i.place → (t : ℤ) → Contains (targets s.method.code i) t
+      → IsTargetPlace s.method.code t → IsEmptied (place t)
   target-named i st there (pos q) c is = leader-named q (follows {i = i} st there (jumped c)) (led_to {i = i} st there c)
   target-named i st there (negsuc n) c is = absurd is
 
@@ -78,7 +81,8 @@ module _ (s : Source) (l : AreLaws s.world) (ready : IsReady s) (code : IsCode s
       ap (λ (b : Bool). length (if b then target i.place i.insn.x ∷ map (λ c. target i.place c.offset) (cases s.method.code i.place i.insn) else [])) j
       ∙ omega (arith, length-map (cases s.method.code i.place i.insn) (λ c. target i.place c.offset))
 
-  emitted : (i : Placed) (op : Operation) → IsListed s.method.code i → is_some (s.frames i.place) ≡ true → operation s i ≡ Ok op → Names IsEmptied s i op
+  emitted : (i : Placed) (op : Operation) → IsListed s.method.code i → is_some (s.frames i.place) ≡ true → operation s i ≡ Ok op
+      → Names IsEmptied s i op
   unfolding lead
   emitted i op st some is =
       let d = (l.rules.listed s.method.code).decodes i st in
@@ -94,18 +98,28 @@ module _ (s : Source) (l : AreLaws s.world) (ready : IsReady s) (code : IsCode s
         some = λ j. omega (arith, target-count i (sym go.jumps_alike ∙ j));
       }
     where
-      by : (n k : ℕ) (t : ℤ) → operands_of s.world (Ok op) ≡ Some n → slice_get (targets s.method.code i) k ≡ Some t → IsEmptied (place t) → (copied : List Item) → branch_copies s i.place op n (place t) ≡ copied
+      by : (n k : ℕ) (t : ℤ) → operands_of s.world (Ok op) ≡ Some n → slice_get (targets s.method.code i) k ≡ Some t → IsEmptied (place t)
+          → (copied : List Item) → branch_copies s i.place op n (place t) ≡ copied
           → IsEmptied (label_by (place t) (stub_label i.place k) copied)
       by n k t asks e here [] none = here
-      by n k t asks e here (x ∷ xs) more = (named-among s (stub_label i.place k) (of_stub {i = i} {op = op} {n = n} {t = t} k st some is asks e (λ none. absurd (filled_not (sym more ∙ none)))), wanted.stubs i k t st e)
+      by n k t asks e here (x ∷ xs) more = (
+        named-among s (stub_label i.place k)
+            (of_stub {i = i} {op = op} {n = n} {t = t} k st some is asks e (λ none. absurd (filled_not (sym more ∙ none)))),
+        wanted.stubs i k t st e,
+      )
         where
           filled_not : x ∷ xs ≡ [] → ⊥
           filled_not e = absurd (cc)
 
-  entries : (hs : List Handler) → ((h : Handler) → Contains hs h → Contains s.method.rec.handlers h) → Each (λ h. is_live s h ≡ true → IsEmptied h.entry) hs
+  entries : (hs : List Handler) → ((h : Handler) → Contains hs h → Contains s.method.rec.handlers h)
+      → Each (λ h. is_live s h ≡ true → IsEmptied h.entry) hs
   entries [] inside = tt
-  entries (h ∷ hs) inside =
-      ((λ live. here (live-is s (l.rules.listed s.method.code) ready.has h (All-contains (IsHandlerOf s.method.code) s.method.rec.handlers h ready.has.formed.handlers there) there live)), entries hs (λ k c. inside k (suc c.0, omega (arith, c.1), c.2)))
+  entries (h ∷ hs) inside = (
+    (λ live. here
+        (live-is s (l.rules.listed s.method.code) ready.has h
+        (All-contains (IsHandlerOf s.method.code) s.method.rec.handlers h ready.has.formed.handlers there) there live)),
+    entries hs (λ k c. inside k (suc c.0, omega (arith, c.1), c.2)),
+  )
     where
       there : Contains s.method.rec.handlers h
       there = inside h (0, omega arith, refl)
@@ -116,8 +130,10 @@ module _ (s : Source) (l : AreLaws s.world) (ready : IsReady s) (code : IsCode s
   full : (i : Placed) → IsListed s.method.code i → is_some (s.frames i.place) ≡ true → 0 < count (group s i)
   full i st some =
       let each = filled (λ n. n) (λ a b e. e) s l ready r own_rec (asks_of s) res code (listing s.method.code) (λ j c. c) in
-      let less = All-contains (λ (j : Placed). is_some (s.frames j.place) ≡ true → count (entrance s j.place) < count (group s j)) (listing s.method.code) i
-      (All-from_Each (λ (j : Placed). is_some (s.frames j.place) ≡ true → count (entrance s j.place) < count (group s j)) (listing s.method.code) each) st some in
+      let less = All-contains (λ (j : Placed). is_some (s.frames j.place) ≡ true → count (entrance s j.place) < count (group s j))
+      (listing s.method.code) i
+      (All-from_Each (λ (j : Placed). is_some (s.frames j.place) ≡ true → count (entrance s j.place) < count (group s j)) (listing s.method.code) each)
+      st some in
       omega (arith, less)
 
   pub are-asked : AreAsked s.world s.method.rec s.method.code (rewritten s) (registers_of s.homes) (asks_of s)
@@ -125,14 +141,20 @@ module _ (s : Source) (l : AreLaws s.world) (ready : IsReady s) (code : IsCode s
   are-asked =
       let listed = l.rules.listed s.method.code in
       let hs = s.method.rec.handlers in
-      let all = ranges-caught s l.rules mo by_pool 0 hs (λ j h e. let same_j : 0 + j ≡ j = omega arith in ap (slice_get s.method.rec.handlers) same_j ∙ e) in
+      let all = ranges-caught s l.rules mo by_pool 0 hs (λ j h e. let same_j : 0 + j ≡ j = omega arith in ap (slice_get s.method.rec.handlers) same_j
+      ∙ e) in
       record {
         low = 0;
         high = handler_label 256;
         rise = all-rise s code.bytes code.lists code.short code.few;
         named = items-name IsEmptied s emitted (entries s.method.rec.handlers (λ h c. c));
-        caught = Each-weaker (IsCaught s l.rules mo by_pool) (λ (q : Range). IsAmong q.entry (labels (items s)) × (asks_of s q.entry ≡ catching (class_by s.method.rec.handlers q.pool))) (λ q t. (t.0, t.1)) (ranges_from s 0 hs) all;
-        classes = Each-weaker (IsCaught s l.rules mo by_pool) (λ (q : Range). IsClass s.world.classes (class_by s.method.rec.handlers q.pool)) (λ q t. t.2) (ranges_from s 0 hs) all;
+        caught =
+            Each-weaker (IsCaught s l.rules mo by_pool)
+            (λ (q : Range). IsAmong q.entry (labels (items s)) × (asks_of s q.entry ≡ catching (class_by s.method.rec.handlers q.pool)))
+            (λ q t. (t.0, t.1)) (ranges_from s 0 hs) all;
+        classes =
+            Each-weaker (IsCaught s l.rules mo by_pool) (λ (q : Range). IsClass s.world.classes (class_by s.method.rec.handlers q.pool)) (λ q t. t.2)
+            (ranges_from s 0 hs) all;
         order = ranges-filled s code listed ready.has full 0 hs (handlers-are s code listed ready.has full);
         no_others = λ m c a asks. no-others s listed code m c a asks;
       }

@@ -1,5 +1,6 @@
 -- A walk along all items gives each place a stack, as a card typing has it.
-use Rattle.std.proofs.Common.{◌≡◌, ◌≢◌, ◌⊎◌, ℕ, zero, suc, ◌+◌, ◌<◌, ◌≤◌, ◌==◌, Bool, true, false, if◌then◌else◌, inl, inr, List, [], ◌∷◌, slice_get, Option, Some, None, refl, sym, ◌∙◌, ap, subst, arith, ne_of_gt}
+use Rattle.std.proofs.Common.{◌≡◌, ◌≢◌, ◌⊎◌, ℕ, zero, suc, ◌+◌, ◌<◌, ◌≤◌, ◌==◌, Bool, true, false, if◌then◌else◌}
+use Rattle.std.proofs.Common.{inl, inr, List, [], ◌∷◌, slice_get, Option, Some, None, refl, sym, ◌∙◌, ap, subst, arith, ne_of_gt}
 use Rattle.std.proofs.lemmas.Bool.Decides.{nat_tests}
 use Rattle.std.proofs.lemmas.Bool.{ne_eqb}
 use Rattle.jc_base.specs.Each.{IsAmong}
@@ -12,7 +13,8 @@ use Rattle.jc_decode.specs.declared.symbols.Item.TheVariants.{Plain, Branch, Swi
 use Rattle.jc_decode.specs.Symbols.{Step, is_instruction, place_of, steps_in}
 use Rattle.xf_emission.proofs.Labels.{labels}
 use Rattle.xf_emission.proofs.Rises.{Rises}
-use Rattle.law_rewritten_typing.proofs.Walks.{State, holding, left, Asked, nothing_asked, emptied, catching, Passes, Turn, Flows, flow_end, flow_label, flow_step, insn_of, count, count-step}
+use Rattle.law_rewritten_typing.proofs.Walks.{State, holding, left, Asked, nothing_asked, emptied, catching, Passes, Turn, Flows, flow_end, flow_label}
+use Rattle.law_rewritten_typing.proofs.Walks.{flow_step, insn_of, count, count-step}
 
 -- ---- an instruction at the head of items
 
@@ -24,7 +26,8 @@ labels-step : (x : Item) (xs : List Item) → is_instruction x ≡ true → labe
 labels-step (Label m) xs is = absurd (cc)
 labels-step x xs is = refl
 
-first-step : (source : List ℕ) (all : List Item) (x : Item) (xs : List Item) (st : Step) → is_instruction x ≡ true → slice_get (steps_in source all (x ∷ xs)) 0 ≡ Some st → st.insn ≡ insn_of x
+first-step : (source : List ℕ) (all : List Item) (x : Item) (xs : List Item) (st : Step) → is_instruction x ≡ true
+    → slice_get (steps_in source all (x ∷ xs)) 0 ≡ Some st → st.insn ≡ insn_of x
 first-step source all (Label l) xs st is e = absurd (cc)
 first-step source all (Plain i) xs st is e = let own : record { insn = i; targets = []; keys = [] } ≡ st = cc in ap (λ (y : Step). y.insn) (sym own)
 first-step source all (Branch op l) xs st is e = ap insn_at (sym e)
@@ -38,7 +41,8 @@ first-step source all (Switch i at ls) xs st is e = ap insn_at (sym e)
     insn_at None = i
     insn_at (Some y) = y.insn
 
-later-step : (source : List ℕ) (all : List Item) (x : Item) (xs : List Item) (k : ℕ) → is_instruction x ≡ true → slice_get (steps_in source all (x ∷ xs)) (suc k) ≡ slice_get (steps_in source all xs) k
+later-step : (source : List ℕ) (all : List Item) (x : Item) (xs : List Item) (k : ℕ) → is_instruction x ≡ true
+    → slice_get (steps_in source all (x ∷ xs)) (suc k) ≡ slice_get (steps_in source all xs) k
 later-step source all (Label l) xs k is = absurd (cc)
 later-step source all x xs k is = refl
 
@@ -69,7 +73,8 @@ module _ (w : Linked) (r : MethodRec) (regs : List Ty) (asks : ℕ → Asked) wh
     pub stack : at n ≡ s
     pub free : (l c : ℕ) → asks l ≡ catching c → IsAmong l (labels xs) → 0 < place_of l xs
 
-  pub comes-next : {n : ℕ} {a b : State} {xs : List Item} (f : Flows w r regs asks n a xs b) (s : List Ty) → a ≡ holding s → b ≡ left → Follows n xs (stack_at f) s
+  pub comes-next : {n : ℕ} {a b : State} {xs : List Item} (f : Flows w r regs asks n a xs b) (s : List Ty) → a ≡ holding s → b ≡ left
+      → Follows n xs (stack_at f) s
   unfolding stack_at
   comes-next (flow_end {n = n} {a = a}) s e g = absurd (never s (sym e ∙ g))
   comes-next (flow_label {n = n} {l = l} {a = a} {b = b} {xs = xs} p f) s e g = by (asks l) refl p (λ u h. comes-next f u h g)
@@ -81,15 +86,18 @@ module _ (w : Linked) (r : MethodRec) (regs : List Ty) (asks : ℕ → Asked) wh
         free = λ m c is_catching among. past m c is_catching among (l == m) refl;
       }
         where
-          past : (m c : ℕ) → asks m ≡ catching c → IsAmong m (labels (Label l ∷ xs)) → (y : Bool) → (l == m) ≡ y → 0 < (if y then 0 else place_of m xs)
+          past : (m c : ℕ) → asks m ≡ catching c → IsAmong m (labels (Label l ∷ xs)) → (y : Bool) → (l == m) ≡ y
+              → 0 < (if y then 0 else place_of m xs)
           past m c is_catching among true q = let own : l ≡ m = grind (arith, nat_tests, q) in absurd (other c (sym is ∙ ap asks own ∙ is_catching))
-          past m c is_catching (inl own) false q = let same : (l == m) ≡ true = ap (λ (k : ℕ). l == k) (sym own) ∙ itself l in absurd (differ (l == m) same q)
+          past m c is_catching (inl own) false q =
+              let same : (l == m) ≡ true = ap (λ (k : ℕ). l == k) (sym own) ∙ itself l in absurd (differ (l == m) same q)
             where
               differ : (z : Bool) → z ≡ true → z ≡ false → ⊥
               differ z e f = absurd (cc)
           past m c is_catching (inr among) false q = rest.free m c is_catching among
 
-      by : (q : Asked) → asks l ≡ q → Passes q a b → ((u : List Ty) → b ≡ holding u → Follows n xs (stack_at f) u) → Follows n (Label l ∷ xs) (stack_at f) s
+      by : (q : Asked) → asks l ≡ q → Passes q a b → ((u : List Ty) → b ≡ holding u → Follows n xs (stack_at f) u)
+          → Follows n (Label l ∷ xs) (stack_at f) s
       by nothing_asked is p rest = freed nothing_asked is (λ c e. absurd (cc)) (rest s (sym p ∙ e))
       by emptied is p rest = emptied-by p.0
         where
@@ -117,7 +125,8 @@ module _ (w : Linked) (r : MethodRec) (regs : List Ty) (asks : ℕ → Asked) wh
     pub later : (q : ℕ) → place < q → at q ≡ stack_at flow q
     pub size : count xs ≡ suc k + count rest
     pub labelled : (l : ℕ) → IsAmong l (labels xs) → k < place_of l xs → IsAmong l (labels rest) × (place_of l xs ≡ suc k + place_of l rest)
-    pub beyond : (low high l : ℕ) → Rises low high (labels xs) → IsAmong l (labels rest) → IsAmong l (labels xs) × (place_of l xs ≡ suc k + place_of l rest)
+    pub beyond : (low high l : ℕ) → Rises low high (labels xs) → IsAmong l (labels rest) → IsAmong l (labels xs)
+        × (place_of l xs ≡ suc k + place_of l rest)
 
   differ : (z : Bool) → z ≡ true → z ≡ false → ⊥
   differ z e f = absurd (cc)
@@ -131,11 +140,13 @@ module _ (w : Linked) (r : MethodRec) (regs : List Ty) (asks : ℕ → Asked) wh
       → ((j : ℕ) → IsAmong j (labels xs) → k < place_of j xs → IsAmong j (labels rest) × (place_of j xs ≡ suc k + place_of j rest))
       → IsAmong m (labels rest) × ((if y then 0 else place_of m xs) ≡ suc k + place_of m rest)
   past-label l k xs rest m among true q lt h = absurd (omega (arith, lt))
-  past-label l k xs rest m (inl own) false q lt h = let same : (l == m) ≡ true = ap (λ (j : ℕ). l == j) (sym own) ∙ itself l in absurd (differ (l == m) same q)
+  past-label l k xs rest m (inl own) false q lt h =
+      let same : (l == m) ≡ true = ap (λ (j : ℕ). l == j) (sym own) ∙ itself l in absurd (differ (l == m) same q)
   past-label l k xs rest m (inr among) false q lt h = h m among lt
 
   pub turned-at :
-      {n : ℕ} {a b : State} {xs : List Item} (source : List ℕ) (all : List Item) (f : Flows w r regs asks n a xs b) (k : ℕ) (st : Step) → slice_get (steps_in source all xs) k ≡ Some st → IsTurned n k st.insn xs (stack_at f) b
+      {n : ℕ} {a b : State} {xs : List Item} (source : List ℕ) (all : List Item) (f : Flows w r regs asks n a xs b) (k : ℕ) (st : Step)
+      → slice_get (steps_in source all xs) k ≡ Some st → IsTurned n k st.insn xs (stack_at f) b
   unfolding stack_at
   turned-at source all flow_end k st e = absurd (cc)
   turned-at source all (flow_label {n = n} {l = l} {xs = xs} p f) k st e =
@@ -186,7 +197,9 @@ module _ (w : Linked) (r : MethodRec) (regs : List Ty) (asks : ℕ → Asked) wh
         stack = u.stack ∙ ap (λ (y : Bool). holding (if y then t.stack else stack_at f u.place)) (sym (ne_eqb u.place n (ne_of_gt far)));
         rest = u.rest;
         flow = u.flow;
-        later = λ q lt. let beyond : n < q = omega (arith, far, lt) in ap (λ (y : Bool). if y then t.stack else stack_at f q) (ne_eqb q n (ne_of_gt beyond)) ∙ u.later q lt;
+        later =
+            λ q lt. let beyond : n < q = omega (arith, far, lt) in ap (λ (y : Bool). if y then t.stack else stack_at f q) (ne_eqb q n (ne_of_gt beyond))
+            ∙ u.later q lt;
         size = omega (arith, count-step x xs is, u.size);
         labelled = λ l among lt.
             let p = place-step l x xs is in
@@ -200,7 +213,8 @@ module _ (w : Linked) (r : MethodRec) (regs : List Ty) (asks : ℕ → Asked) wh
       }
 
   -- where control doesn't come from before, and no handler's label stands first, the stack is empty
-  pub left-empty : {n : ℕ} {a b : State} {xs : List Item} (f : Flows w r regs asks n a xs b) → a ≡ left → b ≡ left → ((l c : ℕ) → asks l ≡ catching c → IsAmong l (labels xs) → 0 < place_of l xs) → stack_at f n ≡ []
+  pub left-empty : {n : ℕ} {a b : State} {xs : List Item} (f : Flows w r regs asks n a xs b) → a ≡ left → b ≡ left
+      → ((l c : ℕ) → asks l ≡ catching c → IsAmong l (labels xs) → 0 < place_of l xs) → stack_at f n ≡ []
   unfolding stack_at
   left-empty flow_end e g free = refl
   left-empty (flow_label {n = n} {l = l} {a = a} {b = b} {xs = xs} p f) e g free = by (asks l) refl p (λ h. left-empty f h g later)
@@ -215,7 +229,9 @@ module _ (w : Linked) (r : MethodRec) (regs : List Ty) (asks : ℕ → Asked) wh
       by : (q : Asked) → asks l ≡ q → Passes q a b → (b ≡ left → stack_at f n ≡ []) → stack_at f n ≡ []
       by nothing_asked is p rest = rest (sym p ∙ e)
       by emptied is p rest = (comes-next f [] p.1 g).stack
-      by (catching c) is p rest = let first = free l c is (inl refl) in let zero_place : (if l == l then 0 else place_of l xs) ≡ 0 = ap (λ (y : Bool). if y then 0 else place_of l xs) (itself l) in absurd (omega (arith, first, zero_place))
+      by (catching c) is p rest =
+          let first = free l c is (inl refl) in let zero_place : (if l == l then 0 else place_of l xs)
+          ≡ 0 = ap (λ (y : Bool). if y then 0 else place_of l xs) (itself l) in absurd (omega (arith, first, zero_place))
   left-empty (flow_step is t f) e g free = absurd (never t.stack (sym t.here ∙ e))
 
   -- ---- what a label asks is there
@@ -225,7 +241,8 @@ module _ (w : Linked) (r : MethodRec) (regs : List Ty) (asks : ℕ → Asked) wh
     pub stack : at (n + place_of l xs) ≡ s
 
   -- the stack that a label gives stands at its place
-  pub asked-at : {n : ℕ} {a b : State} {xs : List Item} (f : Flows w r regs asks n a xs b) (l : ℕ) (s : List Ty) → b ≡ left → IsAmong l (labels xs) → ((c d : State) → Passes (asks l) c d → d ≡ holding s) → IsAskedFor n l xs (stack_at f) s
+  pub asked-at : {n : ℕ} {a b : State} {xs : List Item} (f : Flows w r regs asks n a xs b) (l : ℕ) (s : List Ty) → b ≡ left
+      → IsAmong l (labels xs) → ((c d : State) → Passes (asks l) c d → d ≡ holding s) → IsAskedFor n l xs (stack_at f) s
   unfolding stack_at
   asked-at flow_end l s g among gives = absurd among
   asked-at (flow_label {n = n} {l = m} {a = a} {b = b} {xs = xs} p f) l s g among gives = by (m == l) refl among (λ h. asked-at f l s g h gives)
@@ -233,7 +250,8 @@ module _ (w : Linked) (r : MethodRec) (regs : List Ty) (asks : ℕ → Asked) wh
       here : m ≡ l → Follows n xs (stack_at f) s
       here own = comes-next f s (gives a b (subst (λ (j : ℕ). Passes (asks j) a b) own p)) g
 
-      by : (y : Bool) → (m == l) ≡ y → IsAmong l (labels (Label m ∷ xs)) → (IsAmong l (labels xs) → IsAskedFor n l xs (stack_at f) s) → IsAskedFor n l (Label m ∷ xs) (stack_at f) s
+      by : (y : Bool) → (m == l) ≡ y → IsAmong l (labels (Label m ∷ xs)) → (IsAmong l (labels xs) → IsAskedFor n l xs (stack_at f) s)
+          → IsAskedFor n l (Label m ∷ xs) (stack_at f) s
       by true q among rest =
           let h = here (grind (arith, nat_tests, q)) in
           let zero_place : (if m == l then 0 else place_of l xs) ≡ 0 = ap (λ (y : Bool). if y then 0 else place_of l xs) q in
@@ -252,5 +270,7 @@ module _ (w : Linked) (r : MethodRec) (regs : List Ty) (asks : ℕ → Asked) wh
       let far : n < suc n + place_of l xs = omega arith in
       record {
         inside = omega (arith, p, count-step x xs is, r.inside);
-        stack = ap (λ (q : ℕ). if q == n then t.stack else stack_at f q) same ∙ ap (λ (y : Bool). if y then t.stack else stack_at f (suc n + place_of l xs)) (ne_eqb (suc n + place_of l xs) n (ne_of_gt far)) ∙ r.stack;
+        stack =
+            ap (λ (q : ℕ). if q == n then t.stack else stack_at f q) same
+            ∙ ap (λ (y : Bool). if y then t.stack else stack_at f (suc n + place_of l xs)) (ne_eqb (suc n + place_of l xs) n (ne_of_gt far)) ∙ r.stack;
       }

@@ -1,5 +1,6 @@
 -- What an edge carries: the values of the locals that stand where it begins.
-use Rattle.std.proofs.Common.{◌≡◌, ℕ, zero, suc, ◌+◌, ◌==◌, Bool, true, false, ◌||◌, if◌then◌else◌, inl, List, [], ◌∷◌, ◌++◌, set, slice_get, replicate, All, Option, Some, None, IsSomeAnd, refl, sym, ◌∙◌, ap, subst, arith}
+use Rattle.std.proofs.Common.{◌≡◌, ℕ, zero, suc, ◌+◌, ◌==◌, Bool, true, false, ◌||◌, if◌then◌else◌, inl, List, [], ◌∷◌}
+use Rattle.std.proofs.Common.{◌++◌, set, slice_get, replicate, All, Option, Some, None, IsSomeAnd, refl, sym, ◌∙◌, ap, subst, arith}
 use Rattle.std.specs.Prelude.{⊤}
 use Rattle.std.proofs.lemmas.Bool.Decides.{nat_tests}
 use Rattle.jc_base.specs.Class.{ClassTable}
@@ -111,7 +112,8 @@ stores-nothing w (ops.Return None) f h = refl
 stores-nothing w (ops.Return (Some ty)) f h = refl
 
 -- the registers stay
-pub registers-stay : (w : Linked) (limit : ℕ) (op : Operation) (before after : Frame) (o : Outcome) → StoresNone op → OperationApplies w limit op Flow before after o → after.regs ≡ before.regs
+pub registers-stay : (w : Linked) (limit : ℕ) (op : Operation) (before after : Frame) (o : Outcome) → StoresNone op
+    → OperationApplies w limit op Flow before after o → after.regs ≡ before.regs
 registers-stay w limit op before after o none a =
     let store = (effect w op before).store in
     subst (λ (c : Cells). WritesCells w.classes Flow store.register c before.regs after.regs) (stores-nothing w op before none) a.regs
@@ -161,11 +163,13 @@ module _ (t : ClassTable) (types : IsOrderOfTypes t) where
   pub is-low : (a : Ty) → Below t a IntLow → IsNotBottom a → a ≡ IntLow
   is-low a le n = under-low a ((types.decided a IntLow).1 le) n
 
-held-at : (t : ClassTable) (xs : List Ty) (x : ℕ) (a b : Ty) → slice_get xs x ≡ Some a → IsSomeAnd (slice_get xs x) (λ found. Below t found b) → Below t a b
+held-at : (t : ClassTable) (xs : List Ty) (x : ℕ) (a b : Ty) → slice_get xs x ≡ Some a → IsSomeAnd (slice_get xs x) (λ found. Below t found b)
+    → Below t a b
 held-at t xs x a b e h = subst (λ (o : Option Ty). IsSomeAnd o (λ found. Below t found b)) e h
 
 -- a local that an operation does not store has its value afterwards
-pub unstored : (w : Linked) (types : IsOrderOfTypes w.classes) (limit : ℕ) (op : Operation) (before after : Frame) (o : Outcome) → OperationApplies w limit op Flow before after o → All IsNotBottom before.regs
+pub unstored : (w : Linked) (types : IsOrderOfTypes w.classes) (limit : ℕ) (op : Operation) (before after : Frame) (o : Outcome)
+    → OperationApplies w limit op Flow before after o → All IsNotBottom before.regs
     → (y : ℕ) (ty : Ty) → is_stored op y ≡ false → value_in_cells before.regs y ≡ Some ty → slice_get after.regs y ≡ Some ty
 unstored w types limit (ops.Store sorts.Reference x) before after o a full y ty none v =
     ap (λ (rs : List Ty). slice_get rs y) a.regs.after_is ∙ set-other before.regs x y a.regs.value none ∙ (value-is before.regs y ty v).first
@@ -178,7 +182,8 @@ unstored w types limit (ops.Store sorts.Int x) before after o a full y ty none v
     by false true e g h = absurd (cc)
     by false false e g h =
         ap (λ (rs : List Ty). slice_get rs y) a.regs.low.after_is ∙ set-other a.regs.between (x + 1) y a.regs.low.value g
-        ∙ ap (λ (rs : List Ty). slice_get rs y) a.regs.high.after_is ∙ set-other before.regs x y a.regs.high.value e ∙ (value-is before.regs y ty v).first
+        ∙ ap (λ (rs : List Ty). slice_get rs y) a.regs.high.after_is ∙ set-other before.regs x y a.regs.high.value e
+        ∙ (value-is before.regs y ty v).first
 unstored w types limit (ops.Increment widths.Short x amount) before after o a full y ty none v = by (y == x) refl
   where
     is : IsValueAt before.regs y ty
@@ -189,8 +194,10 @@ unstored w types limit (ops.Increment widths.Short x amount) before after o a fu
     by true e =
         let own : y ≡ x = grind (arith, nat_tests, e) in
         let there : slice_get before.regs x ≡ Some ty = ap (slice_get before.regs) (sym own) ∙ is.first in
-        let short : ty ≡ Short = is-short w.classes types ty (held-at w.classes before.regs x ty Short there a.asked.1.0) (All-slice_get IsNotBottom before.regs x ty full there) in
-        ap (λ (rs : List Ty). slice_get rs y) a.regs.after_is ∙ ap (slice_get (set before.regs x a.regs.value)) own ∙ set-here before.regs x a.regs.value ty there ∙ ap Some (a.regs.stored ∙ sym short)
+        let short : ty ≡ Short = is-short w.classes types ty (held-at w.classes before.regs x ty Short there a.asked.1.0)
+        (All-slice_get IsNotBottom before.regs x ty full there) in
+        ap (λ (rs : List Ty). slice_get rs y) a.regs.after_is ∙ ap (slice_get (set before.regs x a.regs.value)) own
+        ∙ set-here before.regs x a.regs.value ty there ∙ ap Some (a.regs.stored ∙ sym short)
 unstored w types limit (ops.Increment widths.Int x amount) before after o a full y ty none v = by (y == x) (y == x + 1) refl refl
   where
     is : IsValueAt before.regs y ty
@@ -203,13 +210,18 @@ unstored w types limit (ops.Increment widths.Int x amount) before after o a full
     by b true e g =
         let own : y ≡ x + 1 = grind (arith, nat_tests, g) in
         let there : slice_get before.regs (x + 1) ≡ Some ty = ap (slice_get before.regs) (sym own) ∙ is.first in
-        absurd (is.no_low (is-low w.classes types ty (held-at w.classes before.regs (x + 1) ty IntLow there a.asked.1.1.0) (All-slice_get IsNotBottom before.regs (x + 1) ty full there)))
+        absurd
+        (is.no_low
+        (is-low w.classes types ty (held-at w.classes before.regs (x + 1) ty IntLow there a.asked.1.1.0)
+        (All-slice_get IsNotBottom before.regs (x + 1) ty full there)))
     by true false e g =
         let own : y ≡ x = grind (arith, nat_tests, e) in
         let there : slice_get before.regs x ≡ Some ty = ap (slice_get before.regs) (sym own) ∙ is.first in
-        let high : ty ≡ IntHigh = is-high w.classes types ty (held-at w.classes before.regs x ty IntHigh there a.asked.1.0) (All-slice_get IsNotBottom before.regs x ty full there) in
+        let high : ty ≡ IntHigh = is-high w.classes types ty (held-at w.classes before.regs x ty IntHigh there a.asked.1.0)
+        (All-slice_get IsNotBottom before.regs x ty full there) in
         ap (λ (rs : List Ty). slice_get rs y) a.regs.low.after_is ∙ set-other a.regs.between (x + 1) y a.regs.low.value g
-        ∙ ap (λ (rs : List Ty). slice_get rs y) a.regs.high.after_is ∙ ap (slice_get (set before.regs x a.regs.high.value)) own ∙ set-here before.regs x a.regs.high.value ty there ∙ ap Some (a.regs.high.stored ∙ sym high)
+        ∙ ap (λ (rs : List Ty). slice_get rs y) a.regs.high.after_is ∙ ap (slice_get (set before.regs x a.regs.high.value)) own
+        ∙ set-here before.regs x a.regs.high.value ty there ∙ ap Some (a.regs.high.stored ∙ sym high)
     by false false e g =
         ap (λ (rs : List Ty). slice_get rs y) a.regs.low.after_is ∙ set-other a.regs.between (x + 1) y a.regs.low.value g
         ∙ ap (λ (rs : List Ty). slice_get rs y) a.regs.high.after_is ∙ set-other before.regs x y a.regs.high.value e ∙ is.first
@@ -227,18 +239,23 @@ home-at cells x from e = by (value_in_cells cells x) refl e
   where
     by : (v : Option Ty) → value_in_cells cells x ≡ v → home_of x v ≡ Some from → IsHomeAt cells x from
     by None h e = absurd (cc)
-    by (Some ty) h e = let own : record { slot = x; ty = ty } ≡ from = cc in record { slot = ap (λ (k : Home). k.slot) (sym own); value = h ∙ ap (λ (k : Home). Some k.ty) own }
+    by (Some ty) h e =
+        let own : record { slot = x; ty = ty } ≡ from = cc in
+        record { slot = ap (λ (k : Home). k.slot) (sym own); value = h ∙ ap (λ (k : Home). Some k.ty) own }
 
-module _ (same_is : SameTypeDecides) (kept : NeededAreKept) (s : Source) (objects : ClassesAreObjects s.world.classes) (rules : AreRules s.world) (ready : IsReady s) (r : MethodRec) (asks : ℕ → Asked) where
+module _ (same_is : SameTypeDecides) (kept : NeededAreKept) (s : Source) (objects : ClassesAreObjects s.world.classes) (rules : AreRules s.world)
+    (ready : IsReady s) (r : MethodRec) (asks : ℕ → Asked) where
   local-is : (p x : ℕ) (f : Frame) (from : Home) → s.frames p ≡ Some f → home_of x (local_of (s.frames p) x) ≡ Some from → IsHomeAt f.regs x from
   local-is p x f from e h = home-at f.regs x from (ap (λ (o : Option Frame). home_of x (local_of o x)) (sym e) ∙ h)
 
   home-is : (h : Home) (x : ℕ) → h.slot ≡ x → record { slot = x; ty = h.ty } ≡ h
   home-is h x e = ap (λ (k : ℕ). record { slot = k; ty = h.ty }) (sym e)
 
-  from-stands : (p x : ℕ) (f : Frame) (from : Home) → s.frames p ≡ Some f → IsHomeAt f.regs x from → Stands s objects r (registers_of s.homes) asks from
+  from-stands : (p x : ℕ) (f : Frame) (from : Home) → s.frames p ≡ Some f → IsHomeAt f.regs x from
+      → Stands s objects r (registers_of s.homes) asks from
   from-stands p x f from e is =
-      subst (Stands s objects r (registers_of s.homes) asks) (home-is from x is.slot) (local-stands same_is kept s objects rules ready r asks p f x from.ty e is.value)
+      subst (Stands s objects r (registers_of s.homes) asks) (home-is from x is.slot)
+      (local-stands same_is kept s objects rules ready r asks p f x from.ty e is.value)
 
   is-needed : (p x : ℕ) (f : Frame) (from : Home) → s.frames p ≡ Some f → IsHomeAt f.regs x from → IsAmong from (needed s p x)
   is-needed p x f from e is =
@@ -255,7 +272,8 @@ module _ (same_is : SameTypeDecides) (kept : NeededAreKept) (s : Source) (object
       → (y : ℕ) (from : Home) → home_before s (After p op) y ≡ Some from → Carries same_is kept s objects rules ready r asks (After p op) q y from
   carries-after p q limit op f after g o e a to below y from h = by (is_stored op y) refl h
     where
-      by : (b : Bool) → is_stored op y ≡ b → (if b then None else home_of y (local_of (s.frames p) y)) ≡ Some from → Carries same_is kept s objects rules ready r asks (After p op) q y from
+      by : (b : Bool) → is_stored op y ≡ b → (if b then None else home_of y (local_of (s.frames p) y)) ≡ Some from
+          → Carries same_is kept s objects rules ready r asks (After p op) q y from
       by true stored h = absurd (cc)
       by false stored h =
           let is = local-is p y f from e h in
@@ -268,14 +286,17 @@ module _ (same_is : SameTypeDecides) (kept : NeededAreKept) (s : Source) (object
           }
 
   -- where a handler takes over, into its entry
-  pub carries-entry : (q : ℕ) (g : Frame) → s.frames q ≡ Some g → (y : ℕ) (from : Home) → home_before s (Entry q) y ≡ Some from → Carries same_is kept s objects rules ready r asks (Entry q) q y from
+  pub carries-entry : (q : ℕ) (g : Frame) → s.frames q ≡ Some g → (y : ℕ) (from : Home) → home_before s (Entry q) y ≡ Some from
+      → Carries same_is kept s objects rules ready r asks (Entry q) q y from
   carries-entry q g to y from h =
       let is = local-is q y g from to h in
       record {
         slot = is.slot;
         stands = from-stands q y g from to is;
         there = among-has same_is (from ∷ []) from (inl refl);
-        below = λ k among. (needed-served same_is kept s objects rules ready r asks q y k among).above g.regs g from.ty to (rules.order.self g.regs) (value-is g.regs y from.ty is.value).first;
+        below =
+            λ k among. (needed-served same_is kept s objects rules ready r asks q y k among).above g.regs g from.ty to (rules.order.self g.regs)
+            (value-is g.regs y from.ty is.value).first;
       }
 
   get-left : (xs ys : List Ty) (x : ℕ) (a : Ty) → slice_get xs x ≡ Some a → slice_get (xs ++ ys) x ≡ Some a
@@ -285,15 +306,20 @@ module _ (same_is : SameTypeDecides) (kept : NeededAreKept) (s : Source) (object
 
   -- an argument, into the first place
   pub carries-start : (g : Frame) → s.frames 0 ≡ Some g → CellsBelow s.world.classes (start_frame s.method.rec Top).regs g.regs
-      → All (IsKnown s.world.classes) (argument_types s.method.rec) → All IsNotBottom (argument_types s.method.rec) → All IsNotFresh (argument_types s.method.rec)
+      → All (IsKnown s.world.classes) (argument_types s.method.rec) → All IsNotBottom (argument_types s.method.rec)
+      → All IsNotFresh (argument_types s.method.rec)
       → (y : ℕ) (from : Home) → home_before s Start y ≡ Some from → Carries same_is kept s objects rules ready r asks Start 0 y from
   carries-start g to below known full fresh y from h =
       let is = home-at (argument_types s.method.rec) y from h in
-      let argument : value_in_cells (argument_types s.method.rec) from.slot ≡ Some from.ty = ap (value_in_cells (argument_types s.method.rec)) is.slot ∙ is.value in
+      let argument : value_in_cells (argument_types s.method.rec) from.slot ≡ Some from.ty = ap (value_in_cells (argument_types s.method.rec)) is.slot
+      ∙ is.value in
       record {
         slot = is.slot;
-        stands = home-stands same_is kept s objects rules ready r asks from (from.slot, ready.serve.arguments from argument) (value-plain s.world.classes (argument_types s.method.rec) y from.ty is.value known full fresh);
+        stands =
+            home-stands same_is kept s objects rules ready r asks from (from.slot, ready.serve.arguments from argument)
+            (value-plain s.world.classes (argument_types s.method.rec) y from.ty is.value known full fresh);
         there = among-has same_is (from ∷ []) from (inl refl);
         below = λ k among. (needed-served same_is kept s objects rules ready r asks 0 y k among).above (start_frame s.method.rec Top).regs g from.ty to below
-            (get-left (argument_types s.method.rec) (replicate s.method.rec.max_locals Top) y from.ty (value-is (argument_types s.method.rec) y from.ty is.value).first);
+            (get-left (argument_types s.method.rec) (replicate s.method.rec.max_locals Top) y from.ty
+            (value-is (argument_types s.method.rec) y from.ty is.value).first);
       }

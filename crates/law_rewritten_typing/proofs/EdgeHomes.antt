@@ -1,5 +1,7 @@
 -- The homes of what stands at a place, and of what an edge carries there.
-use Rattle.std.proofs.Common.{◌≡◌, ◌≢◌, ◌⊎◌, ℕ, zero, suc, ◌+◌, ◌<◌, ◌≤◌, Bool, true, false, if◌then◌else◌, inl, inr, List, [], ◌∷◌, ◌++◌, length, reverse, slice_get, replicate, All, Option, Some, None, Result, Ok, IsSomeAnd, IfSome, refl, sym, ◌∙◌, ap, subst, arith, length-append}
+use Rattle.std.proofs.Common.{◌≡◌, ◌≢◌, ◌⊎◌, ℕ, zero, suc, ◌+◌, ◌<◌, ◌≤◌, Bool, true, false, if◌then◌else◌, inl, inr}
+use Rattle.std.proofs.Common.{List, [], ◌∷◌, ◌++◌, length, reverse, slice_get, replicate, All, Option, Some, None, Result, Ok, IsSomeAnd, IfSome}
+use Rattle.std.proofs.Common.{refl, sym, ◌∙◌, ap, subst, arith, length-append}
 use Rattle.std.specs.Prelude.{IsSome}
 use Rattle.std.proofs.lemmas.List.{append-nil, length-reverse}
 use Rattle.std.proofs.lemmas.List.Sums.{sum_by-cons}
@@ -33,7 +35,8 @@ use Rattle.xf_emission.specs.declared.origin.Origin.{Origin}
 use Rattle.xf_emission.specs.declared.origin.Origin.TheVariants.{Start, After, Entry}
 use Rattle.xf_emission.specs.Edge.{home_before, is_stored}
 use Rattle.law_rewritten_typing.specs.Planned.{IsPlanned, IsKept, KeepsValues}
-use Rattle.law_rewritten_typing.specs.Edges.{IsNeededFor, NeededHaveHomes, slot_types, FillStack, CellsFillStack, LeadsTo, leads_start, leads_after, leads_entry, stored_at, IsCarried, EdgesCarry}
+use Rattle.law_rewritten_typing.specs.Edges.{IsNeededFor, NeededHaveHomes, slot_types, FillStack, CellsFillStack, LeadsTo, leads_start, leads_after}
+use Rattle.law_rewritten_typing.specs.Edges.{leads_entry, stored_at, IsCarried, EdgesCarry}
 use Rattle.law_rewritten_typing.specs.Whole.{IsWholeFrame, DerivedAreWhole}
 use Rattle.law_rewritten_typing.proofs.Walks.{Asked, nothing_asked}
 use Rattle.law_rewritten_typing.proofs.Moves.{IsPlainValue}
@@ -181,7 +184,8 @@ module _ (s : Source) (l : AreLaws s.world) (dw : DerivedAreWhole s.world) (sv :
       let count : length f.regs ≡ base = subst (λ (o : Option Frame). IfSome o (λ g. length g.regs ≡ base)) e (plan.registers q) in
       let is = cells-are q f e in
       let full : types ++ [] ≡ types = append-nil types in
-      let all = subst (λ (ts : List Ty). Fills (base + 0) (length types) (cells_from base ts 0 (length types))) full (fills base [] types [] whole.whole no_top) in
+      let all = subst (λ (ts : List Ty). Fills (base + 0) (length types) (cells_from base ts 0 (length types))) full
+      (fills base [] types [] whole.whole no_top) in
       let here : base + 0 ≡ base = omega arith in
       record {
         follow = subst (SlotsFollow base) (sym is) (subst (λ (n : ℕ). SlotsFollow n (cells_from base types 0 (length types))) here all.follow);
@@ -206,7 +210,8 @@ module _ (s : Source) (l : AreLaws s.world) (dw : DerivedAreWhole s.world) (sv :
   wide-only IntHigh k lt = (refl, omega (arith, lt))
   wide-only ty k lt = absurd (omega (arith, lt))
 
-  home-of : (cells : List Ty) (h : Home) (u : Ty) → value_in_cells cells h.slot ≡ Some u → home_of h.slot (value_in_cells cells h.slot) ≡ Some (record { slot = h.slot; ty = u })
+  home-of : (cells : List Ty) (h : Home) (u : Ty) → value_in_cells cells h.slot ≡ Some u → home_of h.slot (value_in_cells cells h.slot)
+      ≡ Some (record { slot = h.slot; ty = u })
   home-of cells h u v = ap (home_of h.slot) v
 
   pub frame-at : (q : ℕ) → IsReached s.method q → (g : Frame) × (s.frames q ≡ Some g)
@@ -218,10 +223,12 @@ module _ (s : Source) (l : AreLaws s.world) (dw : DerivedAreWhole s.world) (sv :
 
   on-start : (x : ℕ) (h : Home) → IsAmong h (needed s 0 x) → (from : Home) × IsCarried s Start h from
   on-start x h a =
-      let begun = framed l.same_is l.needed s l.objects l.rules ready r asks (s.frames 0) (FrameBelow s.world.classes (start_frame s.method.rec Top)) plan.typing.start in
+      let begun = framed l.same_is l.needed s l.objects l.rules ready r asks (s.frames 0) (FrameBelow s.world.classes (start_frame s.method.rec Top))
+      plan.typing.start in
       let k = needed-for 0 x begun.0 h begun.1 a in
       let whole : IsWholeFrame s.world (start_frame s.method.rec Top) = dw s.method 0 (start_frame s.method.rec Top) plan.method derived_start in
-      let v = value-below s.world.classes l.rules.types (start_frame s.method.rec Top).regs k.types (l.rules.order.through begun.2.regs k.above) whole.regs h.slot h.ty k.value in
+      let v = value-below s.world.classes l.rules.types (start_frame s.method.rec Top).regs k.types (l.rules.order.through begun.2.regs k.above) whole.regs
+      h.slot h.ty k.value in
       let own : value_in_cells (argument_types s.method.rec) h.slot ≡ Some v.0 = value-before (argument_types s.method.rec) s.method.rec.max_locals h.slot v.0
       (ap (λ (ts : List Ty). value_in_cells ts h.slot) (start-is) ∙ v.1) in
       let from : Home = record { slot = h.slot; ty = v.0 } in
@@ -236,7 +243,8 @@ module _ (s : Source) (l : AreLaws s.world) (dw : DerivedAreWhole s.world) (sv :
           there = among-has l.same_is (from ∷ []) from (inl refl);
           keeps = record { kept = kept-is v.0 plain.0; known = plain.1; has = (h.slot, ready.serve.arguments from own) };
           loads = loads-same s.world.classes l.rules.types v.0 h.ty v.2
-              (All-slice_get IsNotBottom (start_frame s.method.rec Top).regs h.slot v.0 whole.regs (value-is (start_frame s.method.rec Top).regs h.slot v.0 v.1).first)
+              (All-slice_get IsNotBottom (start_frame s.method.rec Top).regs h.slot v.0 whole.regs
+              (value-is (start_frame s.method.rec Top).regs h.slot v.0 v.1).first)
               (kept-not-top h.ty k.keeps.kept);
           apart = λ n lt. refl;
         },
@@ -272,7 +280,8 @@ module _ (s : Source) (l : AreLaws s.world) (dw : DerivedAreWhole s.world) (sv :
       → IsSuccessor s.method.code i q → IsAmong h (needed s q x)
       → (is_stored op h.slot ≡ true) ⊎ ((from : Home) × IsCarried s (After i.place op) h from)
   on-after i op q x h st there is succ a =
-      let follows = framed l.same_is l.needed s l.objects l.rules ready r asks (s.frames i.place) (IsFollowed s.world s.method s.frames i) (plan.typing.rules i st there) in
+      let follows = framed l.same_is l.needed s l.objects l.rules ready r asks (s.frames i.place) (IsFollowed s.world s.method s.frames i)
+      (plan.typing.rules i st there) in
       let f = follows.0 in
       let after = follows.2.after in
       let step = follows.2.steps.1 in
@@ -311,7 +320,9 @@ module _ (s : Source) (l : AreLaws s.world) (dw : DerivedAreWhole s.world) (sv :
               before = ap (λ (c : Bool). if c then None else home_of h.slot (local_of (s.frames i.place) h.slot)) stored
                   ∙ ap (λ (o : Option Frame). home_of h.slot (local_of o h.slot)) at ∙ home-of f.regs h u own;
               slot = refl;
-              there = among-has l.same_is (needed s i.place h.slot) from (((needed-are l.same_is l.needed s l.objects l.rules ready r asks i.place h.slot).all from).1
+              there =
+                  among-has l.same_is (needed s i.place h.slot) from
+                  (((needed-are l.same_is l.needed s l.objects l.rules ready r asks i.place h.slot).all from).1
                   (refl, (0, asked_here (subst (λ (o : Option Frame). IsSomeAnd o (λ (g : Frame). value_in_cells g.regs h.slot ≡ Some u)) (sym at) own))));
               keeps = local-keeps i.place f from at own;
               loads = loads-same s.world.classes l.rules.types u h.ty le full (kept-not-top h.ty kept);
@@ -328,7 +339,8 @@ module _ (s : Source) (l : AreLaws s.world) (dw : DerivedAreWhole s.world) (sv :
               let there : h.slot + 1 ≡ h.slot + suc k = omega (arith, wide.1) in
               subst (λ (y : ℕ). is_stored op y ≡ false) there (second high)
 
-  carry : (o : Origin) (q x : ℕ) (h : Home) → LeadsTo s o q → IsAmong h (needed s q x) → (stored_at o h.slot ≡ true) ⊎ ((from : Home) × IsCarried s o h from)
+  carry : (o : Origin) (q x : ℕ) (h : Home) → LeadsTo s o q → IsAmong h (needed s q x) → (stored_at o h.slot ≡ true)
+      ⊎ ((from : Home) × IsCarried s o h from)
   carry _ _ x h leads_start a = inr (on-start x h a)
   carry _ _ x h (leads_after {i = i} {op = op} {q = q} st there is succ) a = on-after i op q x h st there is succ a
   carry _ _ x h (leads_entry {q = q} there) a = inr (on-entry q x h there a)

@@ -1,5 +1,6 @@
 -- Conditional branches and switches: the homes of the cells under their operands, and of those where they lead.
-use Rattle.std.proofs.Common.{◌≡◌, inl, ℕ, suc, ◌+◌, ◌≤◌, Bool, true, false, List, [], ◌∷◌, ◌++◌, length, reverse, All, Option, Some, Ok, IfSome, refl, sym, ◌∙◌, ap, subst, arith, append_assoc, length-append}
+use Rattle.std.proofs.Common.{◌≡◌, inl, ℕ, suc, ◌+◌, ◌≤◌, Bool, true, false, List, [], ◌∷◌, ◌++◌, length, reverse, All, Option}
+use Rattle.std.proofs.Common.{Some, Ok, IfSome, refl, sym, ◌∙◌, ap, subst, arith, append_assoc, length-append}
 use Rattle.std.proofs.lemmas.Bool.Decides.{nat_tests}
 use Rattle.std.proofs.lemmas.List.{append-nil, length-reverse}
 use Rattle.std.proofs.lemmas.List.Sums.{sum_by-append}
@@ -59,28 +60,39 @@ conditional-of s op n e = absurd (cc)
 module _ (s : Source) (l : AreLaws s.world) where
   -- the homes of two lists of whole values, one below the other
   matched-homes :
-      (slot : ℕ) (pre before : List Ty) {xs ys : List Ty} (over : List Ty) → length pre ≡ length before → AreWhole xs → CellsBelow s.world.classes xs ys
+      (slot : ℕ) (pre before : List Ty) {xs ys : List Ty} (over : List Ty) → length pre ≡ length before → AreWhole xs
+      → CellsBelow s.world.classes xs ys
       → All IsNotBottom xs → All IsNotTop xs → All IsNotTop ys
       → Each (KeepsValues s) (cells_from slot (pre ++ (xs ++ over)) (length pre) (length xs))
       → Each (KeepsValues s) (cells_from slot (before ++ ys) (length before) (length ys))
       → AreMatched s (cells_from slot (pre ++ (xs ++ over)) (length pre) (length xs)) (cells_from slot (before ++ ys) (length before) (length ys))
   matched-homes slot pre before over e no_whole no_cells full top top2 a b = none_matched
-  matched-homes slot pre before over e (whole_int {types = us} is) (more_cells {a = h} {b = p} {xs = xs} {ys = ys} le (more_cells {a = c} {b = d} {xs = zs} {ys = vs} ge more)) full top top2 a b =
+  matched-homes slot pre before over e (whole_int {types = us} is)
+      (more_cells {a = h} {b = p} {xs = xs} {ys = ys} le (more_cells {a = c} {b = d} {xs = zs} {ys = vs} ge more)) full top top2 a b =
       let high : p ≡ IntHigh = high-only s.world.classes l.rules.types p ((l.rules.types.decided IntHigh p).1 le) (All-head IsNotTop p (d ∷ vs) top2) in
-      let low : d ≡ IntLow = low-only s.world.classes l.rules.types d ((l.rules.types.decided IntLow d).1 ge) (All-head IsNotTop d vs (All-tail IsNotTop p (d ∷ vs) top2)) in
+      let low : d ≡ IntLow = low-only s.world.classes l.rules.types d ((l.rules.types.decided IntLow d).1 ge)
+      (All-head IsNotTop d vs (All-tail IsNotTop p (d ∷ vs) top2)) in
       let left_is = home-int slot pre (us ++ over) (length us) in
-      let right_is : cells_from slot (before ++ p ∷ d ∷ vs) (length before) (suc (suc (length vs))) ≡ record { slot = slot + length before; ty = IntHigh } ∷ cells_from slot ((before ++ IntHigh ∷ IntLow ∷ []) ++ vs) (length (before ++ IntHigh ∷ IntLow ∷ [])) (length vs) =
+      let right_is : cells_from slot (before ++ p ∷ d ∷ vs) (length before) (suc (suc (length vs)))
+      ≡ record { slot = slot + length before; ty = IntHigh } ∷ cells_from slot ((before ++ IntHigh ∷ IntLow ∷ []) ++ vs)
+      (length (before ++ IntHigh ∷ IntLow ∷ [])) (length vs) =
       ap (λ (y : Ty). cells_from slot (before ++ y ∷ d ∷ vs) (length before) (suc (suc (length vs)))) high
       ∙ ap (λ (y : Ty). cells_from slot (before ++ IntHigh ∷ y ∷ vs) (length before) (suc (suc (length vs)))) low
       ∙ home-int slot before vs (length vs) in
       let a2 = subst (Each (KeepsValues s)) left_is a in
       let b2 = subst (Each (KeepsValues s)) right_is b in
-      let lengths : length (pre ++ IntHigh ∷ IntLow ∷ []) ≡ length (before ++ IntHigh ∷ IntLow ∷ []) = omega (arith, length-append pre (IntHigh ∷ IntLow ∷ []), length-append before (IntHigh ∷ IntLow ∷ []), e) in
+      let lengths : length (pre ++ IntHigh ∷ IntLow ∷ []) ≡ length (before ++ IntHigh ∷ IntLow ∷ []) = omega
+      (arith, length-append pre (IntHigh ∷ IntLow ∷ []), length-append before (IntHigh ∷ IntLow ∷ []), e) in
       let rest = matched-homes slot (pre ++ IntHigh ∷ IntLow ∷ []) (before ++ IntHigh ∷ IntLow ∷ []) over lengths is more
-      (All-tail IsNotBottom IntLow us (All-tail IsNotBottom IntHigh (IntLow ∷ us) full)) (All-tail IsNotTop IntLow us (All-tail IsNotTop IntHigh (IntLow ∷ us) top)) (All-tail IsNotTop d vs (All-tail IsNotTop p (d ∷ vs) top2)) a2.1 b2.1 in
+      (All-tail IsNotBottom IntLow us (All-tail IsNotBottom IntHigh (IntLow ∷ us) full))
+      (All-tail IsNotTop IntLow us (All-tail IsNotTop IntHigh (IntLow ∷ us) top)) (All-tail IsNotTop d vs (All-tail IsNotTop p (d ∷ vs) top2)) a2.1
+      b2.1 in
       let slots : slot + length pre ≡ slot + length before = ap (λ (k : ℕ). slot + k) e in
       subst (λ (hs : List Home). AreMatched s hs (cells_from slot (before ++ p ∷ d ∷ vs) (length before) (suc (suc (length vs))))) (sym left_is)
-      (subst (λ (ks : List Home). AreMatched s (record { slot = slot + length pre; ty = IntHigh } ∷ cells_from slot ((pre ++ IntHigh ∷ IntLow ∷ []) ++ (us ++ over)) (length (pre ++ IntHigh ∷ IntLow ∷ [])) (length us)) ks) (sym right_is)
+      (subst
+      (λ (ks : List Home). AreMatched s
+      (record { slot = slot + length pre; ty = IntHigh } ∷ cells_from slot ((pre ++ IntHigh ∷ IntLow ∷ []) ++ (us ++ over))
+      (length (pre ++ IntHigh ∷ IntLow ∷ [])) (length us)) ks) (sym right_is)
       (more_matched slots a2.0 b2.0 refl rest))
   matched-homes slot pre before over e (one_cell {a = u} {types = us} h is) (more_cells {a = c} {b = p} {xs = xs} {ys = vs} le more) full top top2 a b =
       let whole : IsNoHalf p = no-half-above s.world.classes l.rules.types u p le (All-head IsNotBottom u us full) h in
@@ -88,12 +100,16 @@ module _ (s : Source) (l : AreLaws s.world) where
       let right_is = home-one slot before p vs (length vs) whole (All-head IsNotTop p vs top2) in
       let a2 = subst (Each (KeepsValues s)) left_is a in
       let b2 = subst (Each (KeepsValues s)) right_is b in
-      let lengths : length (pre ++ u ∷ []) ≡ length (before ++ p ∷ []) = omega (arith, length-append pre (u ∷ []), length-append before (p ∷ []), e) in
+      let lengths : length (pre ++ u ∷ []) ≡ length (before ++ p ∷ []) = omega
+      (arith, length-append pre (u ∷ []), length-append before (p ∷ []), e) in
       let rest = matched-homes slot (pre ++ u ∷ []) (before ++ p ∷ []) over lengths is more
       (All-tail IsNotBottom u us full) (All-tail IsNotTop u us top) (All-tail IsNotTop p vs top2) a2.1 b2.1 in
       let slots : slot + length pre ≡ slot + length before = ap (λ (k : ℕ). slot + k) e in
       subst (λ (hs : List Home). AreMatched s hs (cells_from slot (before ++ p ∷ vs) (length before) (suc (length vs)))) (sym left_is)
-      (subst (λ (ks : List Home). AreMatched s (record { slot = slot + length pre; ty = u } ∷ cells_from slot ((pre ++ u ∷ []) ++ (us ++ over)) (length (pre ++ u ∷ [])) (length us)) ks) (sym right_is)
+      (subst
+      (λ (ks : List Home). AreMatched s
+      (record { slot = slot + length pre; ty = u } ∷ cells_from slot ((pre ++ u ∷ []) ++ (us ++ over)) (length (pre ++ u ∷ [])) (length us)) ks)
+      (sym right_is)
       (more_matched slots a2.0 b2.0 (loads-same s.world.classes l.rules.types u p le (All-head IsNotBottom u us full) (All-head IsNotTop p vs top2)) rest))
 
 module _ (s : Source) (l : AreLaws s.world) (dw : DerivedAreWhole s.world) (sv : HomesServe s.world) (plan : IsPlanned s) where
@@ -112,7 +128,8 @@ module _ (s : Source) (l : AreLaws s.world) (dw : DerivedAreWhole s.world) (sv :
   res : IfSome s.method.rec.sig.result (IsDeclared s.world.classes)
   res = (of_world s.world l.rules s.method plan.method).result
 
-  module _ (i : Placed) (op : Operation) (n : ℕ) (f : Frame) (st : HasInstruction s.method.code i) (at : s.frames i.place ≡ Some f) (names : operation s i ≡ Ok op) (some : operands_of s.world (Ok op) ≡ Some n) where
+  module _ (i : Placed) (op : Operation) (n : ℕ) (f : Frame) (st : HasInstruction s.method.code i) (at : s.frames i.place ≡ Some f)
+      (names : operation s i ≡ Ok op) (some : operands_of s.world (Ok op) ≡ Some n) where
     k : IsReachedRun new apart s l (ready s l dw sv plan) r (record-for s) asks res plan.code i f
     k = run-of new apart s l (ready s l dw sv plan) r (record-for s) asks res plan.code i f st at
 
@@ -132,17 +149,24 @@ module _ (s : Source) (l : AreLaws s.world) (dw : DerivedAreWhole s.world) (sv :
     cut = cut-at new apart s l (ready s l dw sv plan) r (record-for s) asks res plan.code i k.op f k.after n k.run forked
 
     whole_after : AreWhole (reverse k.after.stack)
-    whole_after = l.whole s.method.rec.max_stack s.method.rec i.place k.op _ f k.after k.run.outcome k.run.sound ((ready s l dw sv plan).whole i.place f at).whole k.run.does
+    whole_after =
+        l.whole s.method.rec.max_stack s.method.rec i.place k.op _ f k.after k.run.outcome k.run.sound ((ready s l dw sv plan).whole i.place f at).whole
+        k.run.does
 
     no_top_after : All IsNotTop k.after.stack
     no_top_after = all-right IsNotTop forked.operands k.after.stack (subst (All IsNotTop) forked.parts k.run.fit.no_top)
 
-    under_is : under s i.place n ≡ cells_from (register_count s.method.rec) (reverse k.after.stack ++ reverse forked.operands) 0 (length (reverse k.after.stack))
-    under_is = cut.from_bottom ∙ ap (λ (m : ℕ). cells_from (register_count s.method.rec) (reverse k.after.stack ++ reverse forked.operands) 0 m) (sym (length-reverse k.after.stack))
+    under_is : under s i.place n ≡ cells_from (register_count s.method.rec) (reverse k.after.stack ++ reverse forked.operands) 0
+        (length (reverse k.after.stack))
+    under_is =
+        cut.from_bottom ∙ ap (λ (m : ℕ). cells_from (register_count s.method.rec) (reverse k.after.stack ++ reverse forked.operands) 0 m)
+        (sym (length-reverse k.after.stack))
 
     under_fill : register_sum (under s i.place n) ≡ length k.after.stack
     under_fill =
-        ap register_sum under_is ∙ (fills (register_count s.method.rec) [] (reverse k.after.stack) (reverse forked.operands) whole_after (All-reverse IsNotTop k.after.stack no_top_after)).fill
+        ap register_sum under_is
+        ∙ (fills (register_count s.method.rec) [] (reverse k.after.stack) (reverse forked.operands) whole_after
+        (All-reverse IsNotTop k.after.stack no_top_after)).fill
         ∙ length-reverse k.after.stack
 
     all_fill : register_sum (stack_homes s i.place) ≡ length f.stack
@@ -151,7 +175,9 @@ module _ (s : Source) (l : AreLaws s.world) (dw : DerivedAreWhole s.world) (sv :
         let full : types ++ [] ≡ types = append-nil types in
         let whole = (ready s l dw sv plan).whole i.place f at in
         let all = fills (register_count s.method.rec) [] types [] whole.whole (All-reverse IsNotTop f.stack k.run.fit.no_top) in
-        ap register_sum (cells-are s l dw sv plan i.place f at) ∙ ap (λ (ts : List Ty). register_sum (cells_from (register_count s.method.rec) ts 0 (length types))) (sym full) ∙ all.fill ∙ length-reverse f.stack
+        ap register_sum (cells-are s l dw sv plan i.place f at)
+        ∙ ap (λ (ts : List Ty). register_sum (cells_from (register_count s.method.rec) ts 0 (length types))) (sym full) ∙ all.fill
+        ∙ length-reverse f.stack
 
     count : length f.stack ≡ n + length k.after.stack
     count = ap length forked.parts ∙ length-append forked.operands k.after.stack ∙ omega (arith, forked.size)
@@ -179,7 +205,8 @@ module _ (s : Source) (l : AreLaws s.world) (dw : DerivedAreWhole s.world) (sv :
             let deep = depth-is new apart s l (ready s l dw sv plan) r (record-for s) asks res plan.code i k.op f k.after k.run in
             let le : length f.stack ≤ n = grind (arith, nat_tests, over, deep) in
             let none : length (reverse k.after.stack) ≡ 0 = omega (arith, count, le, length-reverse k.after.stack) in
-            let empty : under s i.place n ≡ [] = under_is ∙ ap (λ (m : ℕ). cells_from (register_count s.method.rec) (reverse k.after.stack ++ reverse forked.operands) 0 m) none in
+            let empty : under s i.place n ≡ [] = under_is
+            ∙ ap (λ (m : ℕ). cells_from (register_count s.method.rec) (reverse k.after.stack ++ reverse forked.operands) 0 m) none in
             subst (Each (KeepsValues s)) (sym empty) tt
 
     pub matched-at : (q : ℕ) → IsSuccessor s.method.code i q → is_leader s q ≡ true → AreMatched s (under s i.place n) (stack_homes s q)
@@ -187,12 +214,17 @@ module _ (s : Source) (l : AreLaws s.world) (dw : DerivedAreWhole s.world) (sv :
         let g = k.below q succ in
         let keeps = fill-stack s l dw sv plan q g.frame g.at (inl ((plan.leaders q).0 lead)) in
         let second = cells-are s l dw sv plan q g.frame g.at in
-        let full = all-right IsNotBottom forked.operands k.after.stack (subst (All IsNotBottom) forked.parts ((ready s l dw sv plan).whole i.place f at).stack) in
+        let full = all-right IsNotBottom forked.operands k.after.stack
+        (subst (All IsNotBottom) forked.parts ((ready s l dw sv plan).whole i.place f at).stack) in
         let m = matched-homes s l (register_count s.method.rec) [] [] (reverse forked.operands) refl whole_after (l.rules.order.turned g.below.stack)
-        (All-reverse IsNotBottom k.after.stack full) (All-reverse IsNotTop k.after.stack no_top_after) (All-reverse IsNotTop g.frame.stack (fit-at s l dw sv plan q g.frame g.at).no_top)
+        (All-reverse IsNotBottom k.after.stack full) (All-reverse IsNotTop k.after.stack no_top_after)
+        (All-reverse IsNotTop g.frame.stack (fit-at s l dw sv plan q g.frame g.at).no_top)
         (subst (Each (KeepsValues s)) under_is under-keeps) (subst (Each (KeepsValues s)) second keeps.keep) in
         subst (λ (hs : List Home). AreMatched s hs (stack_homes s q)) (sym under_is)
-        (subst (λ (ks : List Home). AreMatched s (cells_from (register_count s.method.rec) (reverse k.after.stack ++ reverse forked.operands) 0 (length (reverse k.after.stack))) ks) (sym second) m)
+        (subst
+        (λ (ks : List Home). AreMatched s
+        (cells_from (register_count s.method.rec) (reverse k.after.stack ++ reverse forked.operands) 0 (length (reverse k.after.stack))) ks)
+        (sym second) m)
 
 module _ (w : Linked) (laws : AreLaws w) (dw : DerivedAreWhole w) (sv : HomesServe w) where
   pub forks-are-cut : ForksAreCut w
@@ -201,4 +233,5 @@ module _ (w : Linked) (laws : AreLaws w) (dw : DerivedAreWhole w) (sv : HomesSer
 
   pub forks-match : ForksMatch w
   forks-match s own plan i op n q f st at names some succ lead =
-      matched-at s (subst AreLaws (sym own) laws) (subst DerivedAreWhole (sym own) dw) (subst HomesServe (sym own) sv) plan i op n f st at names some q succ lead
+      matched-at s (subst AreLaws (sym own) laws) (subst DerivedAreWhole (sym own) dw) (subst HomesServe (sym own) sv) plan i op n f st at names some q succ
+      lead

@@ -1,5 +1,6 @@
 -- An instruction that is kept does in rewritten code what it does in the method, but for the places of uninitialised objects.
-use Rattle.std.proofs.Common.{◌≡◌, ℕ, suc, ◌+◌, List, [], ◌∷◌, ◌++◌, length, map, reverse, slice_get, All, Option, Some, None, IfSome, refl, sym, ◌∙◌, ap, subst, arith}
+use Rattle.std.proofs.Common.{◌≡◌, ℕ, suc, ◌+◌, List, [], ◌∷◌, ◌++◌, length, map, reverse, slice_get, All, Option, Some, None, IfSome}
+use Rattle.std.proofs.Common.{refl, sym, ◌∙◌, ap, subst, arith}
 use Rattle.std.specs.Prelude.{⊤}
 use Rattle.std.proofs.lemmas.List.{length-map}
 use Rattle.jc_base.proofs.Lists.{All-slice_get, All-reverse}
@@ -38,10 +39,12 @@ use Rattle.jc_rules.specs.Effect.{changed, in_stack_order, StoresInRegisters}
 use Rattle.jc_rules.specs.Flow.{IsNotFresh}
 use Rattle.jc_rules.specs.FlowLaws.{AreRules}
 use Rattle.jc_rules.specs.Apply.{OperationApplies}
-use Rattle.jc_rules.specs.Rule.{demands, effect, replacing, cell, number, value_given, value_wanted, value_size, cells_wanted, receiver_wanted, return_demands, result_given, result_at, args_at, array_wanted, seen, element}
+use Rattle.jc_rules.specs.Rule.{demands, effect, replacing, cell, number, value_given, value_wanted, value_size, cells_wanted, receiver_wanted, return_demands}
+use Rattle.jc_rules.specs.Rule.{result_given, result_at, args_at, array_wanted, seen, element}
 use Rattle.jc_rules.proofs.Types.{declared-not_fresh}
 use Rattle.law_rewritten_typing.proofs.Moves.{applies-by}
-use Rattle.law_rewritten_typing.proofs.Renames.{named, named_op, same-named, IsSteady, IsSteadyWant, all-named, replaced, value-same, result-same, under-named, exchange-named, cell-named, element-same, element-ready, call-named}
+use Rattle.law_rewritten_typing.proofs.Renames.{named, named_op, same-named, IsSteady, IsSteadyWant, all-named, replaced, value-same, result-same, under-named}
+use Rattle.law_rewritten_typing.proofs.Renames.{exchange-named, cell-named, element-same, element-ready, call-named}
 
 -- names no register to load or store
 abbrev pub IsKeptOperation : Operation → Type 0
@@ -55,7 +58,8 @@ module _ (new : ℕ → ℕ) (apart : (a b : ℕ) → new a ≡ new b → a ≡ 
   pub record Renames (op : Operation) (regs st : List Ty) : Type 0 where
     pub asks : demands w (named_op new apart op) ≡ demands w op
     pub steady : Each (IsSteady new apart) (demands w op)
-    pub store : (effect w (named_op new apart op) (record { regs = regs; stack = map (named new apart) st })).store ≡ (effect w op (record { regs = regs; stack = st })).store
+    pub store : (effect w (named_op new apart op) (record { regs = regs; stack = map (named new apart) st })).store
+        ≡ (effect w op (record { regs = regs; stack = st })).store
     pub change :
         changed (effect w (named_op new apart op) (record { regs = regs; stack = map (named new apart) st })).change (map (named new apart) st)
         ≡ map (named new apart) (changed (effect w op (record { regs = regs; stack = st })).change st)
@@ -110,11 +114,14 @@ module _ (new : ℕ → ℕ) (apart : (a b : ℕ) → new a ≡ new b → a ≡ 
   receiver-steady n m (Some (Value (Class c))) h = (tt, tt)
   receiver-steady n m (Some want) h = absurd h
 
-  chosen-steady : (k n : ℕ) (m : MethodRec) (receiver : Option Want) (choice : Choice) → IsChosen w n m receiver choice → Each (IsSteady new apart) (receiver_wanted k receiver)
-  chosen-steady k n m receiver (choices.Virtual c token) h = subst (λ (o : Option Want). Each (IsSteady new apart) (receiver_wanted k o)) (sym h.receiver_is) (tt, tt)
+  chosen-steady : (k n : ℕ) (m : MethodRec) (receiver : Option Want) (choice : Choice) → IsChosen w n m receiver choice
+      → Each (IsSteady new apart) (receiver_wanted k receiver)
+  chosen-steady k n m receiver (choices.Virtual c token) h =
+      subst (λ (o : Option Want). Each (IsSteady new apart) (receiver_wanted k o)) (sym h.receiver_is) (tt, tt)
   chosen-steady k n m receiver choices.Special h = receiver-steady k m receiver h.receives
   chosen-steady k n m receiver choices.Static h = subst (λ (o : Option Want). Each (IsSteady new apart) (receiver_wanted k o)) (sym h.receiver_is) tt
-  chosen-steady k n m receiver (choices.Interface c token words) h = subst (λ (o : Option Want). Each (IsSteady new apart) (receiver_wanted k o)) (sym h.receiver_is) (tt, tt)
+  chosen-steady k n m receiver (choices.Interface c token words) h =
+      subst (λ (o : Option Want). Each (IsSteady new apart) (receiver_wanted k o)) (sym h.receiver_is) (tt, tt)
 
   declared-some : (result : Option Ty) → IfSome result (IsDeclared w.classes) → IfSome result IsNotFresh
   declared-some None h = tt
@@ -142,58 +149,99 @@ module _ (new : ℕ → ℕ) (apart : (a b : ℕ) → new a ≡ new b → a ≡ 
         ∙ ap (λ e. map (named new apart) (changed e.change st)) (sym b);
   }
 
-  pub renames : (m : MethodRec) (place : ℕ) (op : Operation) → IsSound w m place op → IfSome m.sig.result (IsDeclared w.classes) → IsKeptOperation op → (regs st : List Ty) → Renames op regs st
+  pub renames : (m : MethodRec) (place : ℕ) (op : Operation) → IsSound w m place op → IfSome m.sig.result (IsDeclared w.classes)
+      → IsKeptOperation op → (regs st : List Ty) → Renames op regs st
   renames m place (ops.Load letter x) sound res kept regs st = absurd kept
   renames m place (ops.Store letter x) sound res kept regs st = absurd kept
   renames m place (ops.Increment width x amount) sound res kept regs st = absurd kept
-  renames m place (ops.Constant constants.Nothing) sound res kept regs st = by-replacing (ops.Constant constants.Nothing) regs st 0 given.Nothing refl tt refl refl refl
-  renames m place (ops.Constant constants.Null) sound res kept regs st = by-replacing (ops.Constant constants.Null) regs st 0 (given.One Null) refl tt refl refl refl
-  renames m place (ops.Constant (constants.Short n)) sound res kept regs st = by-replacing (ops.Constant (constants.Short n)) regs st 0 (given.One Short) refl tt refl refl refl
-  renames m place (ops.Constant (constants.Int n)) sound res kept regs st = by-replacing (ops.Constant (constants.Int n)) regs st 0 given.Int refl tt refl refl refl
+  renames m place (ops.Constant constants.Nothing) sound res kept regs st =
+      by-replacing (ops.Constant constants.Nothing) regs st 0 given.Nothing refl tt refl refl refl
+  renames m place (ops.Constant constants.Null) sound res kept regs st =
+      by-replacing (ops.Constant constants.Null) regs st 0 (given.One Null) refl tt refl refl refl
+  renames m place (ops.Constant (constants.Short n)) sound res kept regs st =
+      by-replacing (ops.Constant (constants.Short n)) regs st 0 (given.One Short) refl tt refl refl refl
+  renames m place (ops.Constant (constants.Int n)) sound res kept regs st =
+      by-replacing (ops.Constant (constants.Int n)) regs st 0 given.Int refl tt refl refl refl
   renames m place (ops.Move moves.Pop) sound res kept regs st = by-replacing (ops.Move moves.Pop) regs st 1 given.Nothing refl (tt, tt) refl refl refl
-  renames m place (ops.Move moves.PopTwo) sound res kept regs st = by-replacing (ops.Move moves.PopTwo) regs st 2 given.Nothing refl (tt, (tt, tt)) refl refl refl
-  renames m place (ops.Move moves.Duplicate) sound res kept regs st = record { asks = refl; steady = (tt, tt); store = refl; change = under-named new apart 1 0 st }
-  renames m place (ops.Move moves.DuplicateTwo) sound res kept regs st = record { asks = refl; steady = (tt, (tt, tt)); store = refl; change = under-named new apart 2 0 st }
-  renames m place (ops.Move (moves.CopyUnder a b)) sound res kept regs st = record { asks = refl; steady = (tt, (tt, (tt, (tt, tt)))); store = refl; change = under-named new apart a b st }
-  renames m place (ops.Move (moves.Exchange a b)) sound res kept regs st = record { asks = refl; steady = (tt, (tt, (tt, (tt, tt)))); store = refl; change = exchange-named new apart a b st }
-  renames m place (ops.Arithmetic (arithmetic.Binary o widths.Short)) sound res kept regs st = by-replacing (ops.Arithmetic (arithmetic.Binary o widths.Short)) regs st 2 (given.One Short) refl (tt, (tt, tt)) refl refl refl
-  renames m place (ops.Arithmetic (arithmetic.Binary o widths.Int)) sound res kept regs st = by-replacing (ops.Arithmetic (arithmetic.Binary o widths.Int)) regs st 4 given.Int refl (tt, (tt, (tt, (tt, tt)))) refl refl refl
-  renames m place (ops.Arithmetic (arithmetic.Negate widths.Short)) sound res kept regs st = by-replacing (ops.Arithmetic (arithmetic.Negate widths.Short)) regs st 1 (given.One Short) refl (tt, tt) refl refl refl
-  renames m place (ops.Arithmetic (arithmetic.Negate widths.Int)) sound res kept regs st = by-replacing (ops.Arithmetic (arithmetic.Negate widths.Int)) regs st 2 given.Int refl (tt, (tt, tt)) refl refl refl
-  renames m place (ops.Arithmetic arithmetic.ShortToByte) sound res kept regs st = by-replacing (ops.Arithmetic arithmetic.ShortToByte) regs st 1 (given.One Short) refl (tt, tt) refl refl refl
-  renames m place (ops.Arithmetic arithmetic.ShortToInt) sound res kept regs st = by-replacing (ops.Arithmetic arithmetic.ShortToInt) regs st 1 given.Int refl (tt, tt) refl refl refl
-  renames m place (ops.Arithmetic arithmetic.IntToByte) sound res kept regs st = by-replacing (ops.Arithmetic arithmetic.IntToByte) regs st 2 (given.One Short) refl (tt, (tt, tt)) refl refl refl
-  renames m place (ops.Arithmetic arithmetic.IntToShort) sound res kept regs st = by-replacing (ops.Arithmetic arithmetic.IntToShort) regs st 2 (given.One Short) refl (tt, (tt, tt)) refl refl refl
-  renames m place (ops.Arithmetic arithmetic.CompareInts) sound res kept regs st = by-replacing (ops.Arithmetic arithmetic.CompareInts) regs st 4 (given.One Short) refl (tt, (tt, (tt, (tt, tt)))) refl refl refl
+  renames m place (ops.Move moves.PopTwo) sound res kept regs st =
+      by-replacing (ops.Move moves.PopTwo) regs st 2 given.Nothing refl (tt, (tt, tt)) refl refl refl
+  renames m place (ops.Move moves.Duplicate) sound res kept regs st =
+      record { asks = refl; steady = (tt, tt); store = refl; change = under-named new apart 1 0 st }
+  renames m place (ops.Move moves.DuplicateTwo) sound res kept regs st =
+      record { asks = refl; steady = (tt, (tt, tt)); store = refl; change = under-named new apart 2 0 st }
+  renames m place (ops.Move (moves.CopyUnder a b)) sound res kept regs st =
+      record { asks = refl; steady = (tt, (tt, (tt, (tt, tt)))); store = refl; change = under-named new apart a b st }
+  renames m place (ops.Move (moves.Exchange a b)) sound res kept regs st =
+      record { asks = refl; steady = (tt, (tt, (tt, (tt, tt)))); store = refl; change = exchange-named new apart a b st }
+  renames m place (ops.Arithmetic (arithmetic.Binary o widths.Short)) sound res kept regs st =
+      by-replacing (ops.Arithmetic (arithmetic.Binary o widths.Short)) regs st 2 (given.One Short) refl (tt, (tt, tt)) refl refl refl
+  renames m place (ops.Arithmetic (arithmetic.Binary o widths.Int)) sound res kept regs st =
+      by-replacing (ops.Arithmetic (arithmetic.Binary o widths.Int)) regs st 4 given.Int refl (tt, (tt, (tt, (tt, tt)))) refl refl refl
+  renames m place (ops.Arithmetic (arithmetic.Negate widths.Short)) sound res kept regs st =
+      by-replacing (ops.Arithmetic (arithmetic.Negate widths.Short)) regs st 1 (given.One Short) refl (tt, tt) refl refl refl
+  renames m place (ops.Arithmetic (arithmetic.Negate widths.Int)) sound res kept regs st =
+      by-replacing (ops.Arithmetic (arithmetic.Negate widths.Int)) regs st 2 given.Int refl (tt, (tt, tt)) refl refl refl
+  renames m place (ops.Arithmetic arithmetic.ShortToByte) sound res kept regs st =
+      by-replacing (ops.Arithmetic arithmetic.ShortToByte) regs st 1 (given.One Short) refl (tt, tt) refl refl refl
+  renames m place (ops.Arithmetic arithmetic.ShortToInt) sound res kept regs st =
+      by-replacing (ops.Arithmetic arithmetic.ShortToInt) regs st 1 given.Int refl (tt, tt) refl refl refl
+  renames m place (ops.Arithmetic arithmetic.IntToByte) sound res kept regs st =
+      by-replacing (ops.Arithmetic arithmetic.IntToByte) regs st 2 (given.One Short) refl (tt, (tt, tt)) refl refl refl
+  renames m place (ops.Arithmetic arithmetic.IntToShort) sound res kept regs st =
+      by-replacing (ops.Arithmetic arithmetic.IntToShort) regs st 2 (given.One Short) refl (tt, (tt, tt)) refl refl refl
+  renames m place (ops.Arithmetic arithmetic.CompareInts) sound res kept regs st =
+      by-replacing (ops.Arithmetic arithmetic.CompareInts) regs st 4 (given.One Short) refl (tt, (tt, (tt, (tt, tt)))) refl refl refl
   renames m place (ops.ArrayRead kinds.Ref) sound res kept regs st =
-      let same : given.One (element (cell (map (named new apart) st) 1)) ≡ given.One (element (cell st 1)) = ap (λ (u : Ty). given.One (element u)) (cell-named new apart st 1) ∙ element-same new apart (cell st 1) in
-      by-replacing (ops.ArrayRead kinds.Ref) regs st 2 (given.One (element (cell st 1))) refl (tt, (tt, tt)) (one-same (element (cell st 1)) (element-ready new apart (cell st 1)))
+      let same : given.One (element (cell (map (named new apart) st) 1)) ≡ given.One (element (cell st 1)) = ap (λ (u : Ty). given.One (element u))
+      (cell-named new apart st 1) ∙ element-same new apart (cell st 1) in
+      by-replacing (ops.ArrayRead kinds.Ref) regs st 2 (given.One (element (cell st 1))) refl (tt, (tt, tt))
+      (one-same (element (cell st 1)) (element-ready new apart (cell st 1)))
       (ap (λ (c : Cells). replacing 2 c) same) refl
-  renames m place (ops.ArrayRead kinds.Byte) sound res kept regs st = by-replacing (ops.ArrayRead kinds.Byte) regs st 2 (given.One Short) refl (tt, (tt, tt)) refl refl refl
-  renames m place (ops.ArrayRead kinds.Short) sound res kept regs st = by-replacing (ops.ArrayRead kinds.Short) regs st 2 (given.One Short) refl (tt, (tt, tt)) refl refl refl
-  renames m place (ops.ArrayRead kinds.Int) sound res kept regs st = by-replacing (ops.ArrayRead kinds.Int) regs st 2 given.Int refl (tt, (tt, tt)) refl refl refl
-  renames m place (ops.ArrayWrite kinds.Ref) sound res kept regs st = by-replacing (ops.ArrayWrite kinds.Ref) regs st 3 given.Nothing refl (tt, (tt, (tt, tt))) refl refl refl
-  renames m place (ops.ArrayWrite kinds.Byte) sound res kept regs st = by-replacing (ops.ArrayWrite kinds.Byte) regs st 3 given.Nothing refl (tt, (tt, (tt, tt))) refl refl refl
-  renames m place (ops.ArrayWrite kinds.Short) sound res kept regs st = by-replacing (ops.ArrayWrite kinds.Short) regs st 3 given.Nothing refl (tt, (tt, (tt, tt))) refl refl refl
-  renames m place (ops.ArrayWrite kinds.Int) sound res kept regs st = by-replacing (ops.ArrayWrite kinds.Int) regs st 4 given.Nothing refl (tt, (tt, (tt, (tt, tt)))) refl refl refl
+  renames m place (ops.ArrayRead kinds.Byte) sound res kept regs st =
+      by-replacing (ops.ArrayRead kinds.Byte) regs st 2 (given.One Short) refl (tt, (tt, tt)) refl refl refl
+  renames m place (ops.ArrayRead kinds.Short) sound res kept regs st =
+      by-replacing (ops.ArrayRead kinds.Short) regs st 2 (given.One Short) refl (tt, (tt, tt)) refl refl refl
+  renames m place (ops.ArrayRead kinds.Int) sound res kept regs st =
+      by-replacing (ops.ArrayRead kinds.Int) regs st 2 given.Int refl (tt, (tt, tt)) refl refl refl
+  renames m place (ops.ArrayWrite kinds.Ref) sound res kept regs st =
+      by-replacing (ops.ArrayWrite kinds.Ref) regs st 3 given.Nothing refl (tt, (tt, (tt, tt))) refl refl refl
+  renames m place (ops.ArrayWrite kinds.Byte) sound res kept regs st =
+      by-replacing (ops.ArrayWrite kinds.Byte) regs st 3 given.Nothing refl (tt, (tt, (tt, tt))) refl refl refl
+  renames m place (ops.ArrayWrite kinds.Short) sound res kept regs st =
+      by-replacing (ops.ArrayWrite kinds.Short) regs st 3 given.Nothing refl (tt, (tt, (tt, tt))) refl refl refl
+  renames m place (ops.ArrayWrite kinds.Int) sound res kept regs st =
+      by-replacing (ops.ArrayWrite kinds.Int) regs st 4 given.Nothing refl (tt, (tt, (tt, (tt, tt)))) refl refl refl
   renames m place ops.ArrayLength sound res kept regs st = by-replacing ops.ArrayLength regs st 1 (given.One Short) refl (tt, tt) refl refl refl
   renames m place (ops.Branch branches.Always) sound res kept regs st = by-replacing (ops.Branch branches.Always) regs st 0 given.Nothing refl tt refl refl refl
-  renames m place (ops.Branch (branches.Zero o)) sound res kept regs st = by-replacing (ops.Branch (branches.Zero o)) regs st 1 given.Nothing refl (tt, tt) refl refl refl
-  renames m place (ops.Branch (branches.Null o)) sound res kept regs st = by-replacing (ops.Branch (branches.Null o)) regs st 1 given.Nothing refl (tt, tt) refl refl refl
-  renames m place (ops.Branch (branches.References o)) sound res kept regs st = by-replacing (ops.Branch (branches.References o)) regs st 2 given.Nothing refl (tt, (tt, tt)) refl refl refl
-  renames m place (ops.Branch (branches.Shorts o)) sound res kept regs st = by-replacing (ops.Branch (branches.Shorts o)) regs st 2 given.Nothing refl (tt, (tt, tt)) refl refl refl
+  renames m place (ops.Branch (branches.Zero o)) sound res kept regs st =
+      by-replacing (ops.Branch (branches.Zero o)) regs st 1 given.Nothing refl (tt, tt) refl refl refl
+  renames m place (ops.Branch (branches.Null o)) sound res kept regs st =
+      by-replacing (ops.Branch (branches.Null o)) regs st 1 given.Nothing refl (tt, tt) refl refl refl
+  renames m place (ops.Branch (branches.References o)) sound res kept regs st =
+      by-replacing (ops.Branch (branches.References o)) regs st 2 given.Nothing refl (tt, (tt, tt)) refl refl refl
+  renames m place (ops.Branch (branches.Shorts o)) sound res kept regs st =
+      by-replacing (ops.Branch (branches.Shorts o)) regs st 2 given.Nothing refl (tt, (tt, tt)) refl refl refl
   renames m place (ops.Switch widths.Short) sound res kept regs st = by-replacing (ops.Switch widths.Short) regs st 1 given.Nothing refl (tt, tt) refl refl refl
-  renames m place (ops.Switch widths.Int) sound res kept regs st = by-replacing (ops.Switch widths.Int) regs st 2 given.Nothing refl (tt, (tt, tt)) refl refl refl
-  renames m place (ops.StaticRead f) sound res kept regs st = by-replacing (ops.StaticRead f) regs st 0 (value_given f.ty) refl tt (value-same new apart f.ty (declared-not_fresh w.classes f.ty sound.ty)) refl refl
-  renames m place (ops.StaticWrite f) sound res kept regs st = by-replacing (ops.StaticWrite f) regs st (value_size f.ty) given.Nothing refl (value-steady f.ty (declared-not_fresh w.classes f.ty sound.ty)) refl refl refl
+  renames m place (ops.Switch widths.Int) sound res kept regs st =
+      by-replacing (ops.Switch widths.Int) regs st 2 given.Nothing refl (tt, (tt, tt)) refl refl refl
+  renames m place (ops.StaticRead f) sound res kept regs st =
+      by-replacing (ops.StaticRead f) regs st 0 (value_given f.ty) refl tt (value-same new apart f.ty (declared-not_fresh w.classes f.ty sound.ty)) refl
+      refl
+  renames m place (ops.StaticWrite f) sound res kept regs st =
+      by-replacing (ops.StaticWrite f) regs st (value_size f.ty) given.Nothing refl (value-steady f.ty (declared-not_fresh w.classes f.ty sound.ty)) refl
+      refl refl
   renames m place (ops.FieldRead f holders.Stack) sound res kept regs st =
-      by-replacing (ops.FieldRead f holders.Stack) regs st 1 (value_given f.ty) refl (tt, tt) (value-same new apart f.ty (declared-not_fresh w.classes f.ty sound.ty)) refl refl
+      by-replacing (ops.FieldRead f holders.Stack) regs st 1 (value_given f.ty) refl (tt, tt)
+      (value-same new apart f.ty (declared-not_fresh w.classes f.ty sound.ty)) refl refl
   renames m place (ops.FieldRead f holders.This) sound res kept regs st =
-      by-replacing (ops.FieldRead f holders.This) regs st 0 (value_given f.ty) refl (tt, (tt, tt)) (value-same new apart f.ty (declared-not_fresh w.classes f.ty sound.ty)) refl refl
+      by-replacing (ops.FieldRead f holders.This) regs st 0 (value_given f.ty) refl (tt, (tt, tt))
+      (value-same new apart f.ty (declared-not_fresh w.classes f.ty sound.ty)) refl refl
   renames m place (ops.FieldWrite f holders.Stack) sound res kept regs st =
-      by-replacing (ops.FieldWrite f holders.Stack) regs st (value_size f.ty + 1) given.Nothing refl (each-steady (value_wanted f.ty) _ (value-steady f.ty (declared-not_fresh w.classes f.ty sound.ty)) (tt, tt)) refl refl refl
+      by-replacing (ops.FieldWrite f holders.Stack) regs st (value_size f.ty + 1) given.Nothing refl
+      (each-steady (value_wanted f.ty) _ (value-steady f.ty (declared-not_fresh w.classes f.ty sound.ty)) (tt, tt)) refl refl refl
   renames m place (ops.FieldWrite f holders.This) sound res kept regs st =
-      by-replacing (ops.FieldWrite f holders.This) regs st (value_size f.ty) given.Nothing refl (tt, each-steady (value_wanted f.ty) _ (value-steady f.ty (declared-not_fresh w.classes f.ty sound.ty)) (tt, tt)) refl refl refl
+      by-replacing (ops.FieldWrite f holders.This) regs st (value_size f.ty) given.Nothing refl
+      (tt, each-steady (value_wanted f.ty) _ (value-steady f.ty (declared-not_fresh w.classes f.ty sound.ty)) (tt, tt)) refl refl refl
   renames m place (ops.Call c) sound res kept regs st =
       let is = method-at c.method sound.rec sound.is_method in
       let args = args_at (slice_get w.methods c.method) in
@@ -201,25 +249,34 @@ module _ (new : ℕ → ℕ) (apart : (a b : ℕ) → new a ≡ new b → a ≡ 
       let result : result_at (slice_get w.methods c.method) ≡ sound.rec.sig.result = ap result_at sound.is_method in
       let ready : All IsNotFresh sound.rec.sig.args = λ k d lt. declared-not_fresh w.classes _ (is.arguments k d lt) in
       let cells : Each (IsSteady new apart) (cells_wanted 0 (reverse args)) =
-      subst (λ (tys : List Ty). Each (IsSteady new apart) (cells_wanted 0 (reverse tys))) (sym own) (cells-steady 0 (reverse sound.rec.sig.args) (All-reverse IsNotFresh sound.rec.sig.args ready)) in
+      subst (λ (tys : List Ty). Each (IsSteady new apart) (cells_wanted 0 (reverse tys))) (sym own)
+      (cells-steady 0 (reverse sound.rec.sig.args) (All-reverse IsNotFresh sound.rec.sig.args ready)) in
       record {
         asks = refl;
-        steady = each-steady (cells_wanted 0 (reverse args)) (receiver_wanted (length args) c.receiver) cells (chosen-steady (length args) c.method sound.rec c.receiver c.choice sound.chosen);
+        steady =
+            each-steady (cells_wanted 0 (reverse args)) (receiver_wanted (length args) c.receiver) cells
+            (chosen-steady (length args) c.method sound.rec c.receiver c.choice sound.chosen);
         store = refl;
         change =
             call-named new apart args (result_given (result_at (slice_get w.methods c.method))) c.receiver regs st
-            (subst (λ (o : Option Ty). in_stack_order (result_given o) ≡ map (named new apart) (in_stack_order (result_given o))) (sym result) (result-same new apart sound.rec.sig.result (declared-some sound.rec.sig.result is.result)));
+            (subst (λ (o : Option Ty). in_stack_order (result_given o) ≡ map (named new apart) (in_stack_order (result_given o))) (sym result)
+            (result-same new apart sound.rec.sig.result (declared-some sound.rec.sig.result is.result)));
       }
-  renames m place (ops.New p c) sound res kept regs st = record { asks = refl; steady = tt; store = refl; change = replaced new apart 0 (given.One (Fresh p c)) (given.One (Fresh (new p) c)) st refl }
+  renames m place (ops.New p c) sound res kept regs st =
+      record { asks = refl; steady = tt; store = refl; change = replaced new apart 0 (given.One (Fresh p c)) (given.One (Fresh (new p) c)) st refl }
   renames m place (ops.NewArray ty) sound res kept regs st =
-      by-replacing (ops.NewArray ty) regs st 1 (given.One (seen w.classes ty)) refl (tt, tt) (one-same (seen w.classes ty) (named-type-ready ty sound.1)) refl refl
+      by-replacing (ops.NewArray ty) regs st 1 (given.One (seen w.classes ty)) refl (tt, tt) (one-same (seen w.classes ty) (named-type-ready ty sound.1))
+      refl refl
   renames m place ops.Throw sound res kept regs st = by-replacing ops.Throw regs st 1 given.Nothing refl (tt, tt) refl refl refl
   renames m place (ops.TypeTest tests.Cast ty) sound res kept regs st =
-      by-replacing (ops.TypeTest tests.Cast ty) regs st 1 (given.One (seen w.classes ty)) refl (tt, tt) (one-same (seen w.classes ty) (named-type-ready ty sound)) refl refl
-  renames m place (ops.TypeTest tests.InstanceOf ty) sound res kept regs st = by-replacing (ops.TypeTest tests.InstanceOf ty) regs st 1 (given.One Short) refl (tt, tt) refl refl refl
+      by-replacing (ops.TypeTest tests.Cast ty) regs st 1 (given.One (seen w.classes ty)) refl (tt, tt)
+      (one-same (seen w.classes ty) (named-type-ready ty sound)) refl refl
+  renames m place (ops.TypeTest tests.InstanceOf ty) sound res kept regs st =
+      by-replacing (ops.TypeTest tests.InstanceOf ty) regs st 1 (given.One Short) refl (tt, tt) refl refl refl
   renames m place (ops.Return None) sound res kept regs st = by-replacing (ops.Return None) regs st 0 given.Nothing refl tt refl refl refl
   renames m place (ops.Return (Some ty)) sound res kept regs st =
-      by-replacing (ops.Return (Some ty)) regs st (value_size ty) given.Nothing refl (value-steady ty (returned ty (subst (λ (o : Option Ty). IfSome o (IsDeclared w.classes)) (sym sound.0) res))) refl refl refl
+      by-replacing (ops.Return (Some ty)) regs st (value_size ty) given.Nothing refl
+      (value-steady ty (returned ty (subst (λ (o : Option Ty). IfSome o (IsDeclared w.classes)) (sym sound.0) res))) refl refl refl
     where
       returned : (ty : Ty) → IsDeclared w.classes ty → IsNotFresh ty
       returned ty h = declared-not_fresh w.classes ty h
@@ -232,11 +289,14 @@ module _ (new : ℕ → ℕ) (apart : (a b : ℕ) → new a ≡ new b → a ≡ 
       → IsKeptOperation op
       → OperationApplies w limit op Flow (record { regs = regs; stack = st }) (record { regs = stored; stack = after }) o
       → (other : Outcome)
-      × OperationApplies w limit (named_op new apart op) Flow (record { regs = regs; stack = map (named new apart) st }) (record { regs = stored; stack = map (named new apart) after }) other
+      × OperationApplies w limit (named_op new apart op) Flow (record { regs = regs; stack = map (named new apart) st })
+      (record { regs = stored; stack = map (named new apart) after }) other
   applies-named m place limit op regs st stored after o sound res kept a =
       let n = renames m place op sound res kept regs st in
-      applies-by w limit (named_op new apart op) (record { regs = regs; stack = map (named new apart) st }) (record { regs = stored; stack = map (named new apart) after })
-      (subst (SatisfiesAll w.classes (record { regs = regs; stack = map (named new apart) st })) (sym n.asks) (all-named new apart w.classes rules.types regs st (demands w op) n.steady a.asked))
+      applies-by w limit (named_op new apart op) (record { regs = regs; stack = map (named new apart) st })
+      (record { regs = stored; stack = map (named new apart) after })
+      (subst (SatisfiesAll w.classes (record { regs = regs; stack = map (named new apart) st })) (sym n.asks)
+      (all-named new apart w.classes rules.types regs st (demands w op) n.steady a.asked))
       (subst (λ (e : RegisterStore). StoresInRegisters w.classes Flow e regs stored) (sym n.store) a.regs)
       (ap (map (named new apart)) a.stack ∙ sym n.change)
       (omega (arith, length-map after (named new apart), a.room))

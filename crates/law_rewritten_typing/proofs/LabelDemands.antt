@@ -1,5 +1,6 @@
 -- What the labels of a rewritten method ask.
-use Rattle.std.proofs.Common.{◌≡◌, ℕ, ◌+◌, ◌-◌, ◌/◌, ◌<◌, Bool, true, false, if◌then◌else◌, length, slice_get, Option, Some, None, IfSome, refl, ◌∙◌, ap, arith}
+use Rattle.std.proofs.Common.{◌≡◌, ℕ, ◌+◌, ◌-◌, ◌/◌, ◌<◌, Bool, true, false, if◌then◌else◌, length, slice_get, Option, Some, None}
+use Rattle.std.proofs.Common.{IfSome, refl, ◌∙◌, ap, arith}
 use Rattle.std.specs.Prelude.{nat_lt}
 use Rattle.std.proofs.lemmas.Bool.Decides.{nat_tests}
 use Rattle.std.proofs.lemmas.Option.{slice_get_within}
@@ -34,7 +35,9 @@ at-place s n lt = let e : nat_lt n 32768 ≡ true = grind (arith, nat_tests) in 
 
 at-stub : (s : Source) (n : ℕ) → n < 16384 → asks_of s (32768 + n) ≡ emptied
 unfolding asks_of
-at-stub s n lt = let e : nat_lt (32768 + n) 32768 ≡ false = grind (arith, nat_tests) in let f : nat_lt (32768 + n) 49152 ≡ true = grind (arith, nat_tests, lt) in rw (e, f) refl
+at-stub s n lt =
+    let e : nat_lt (32768 + n) 32768 ≡ false = grind (arith, nat_tests) in let f : nat_lt (32768 + n) 49152 ≡ true = grind (arith, nat_tests, lt) in
+    rw (e, f) refl
 
 pub at-handler : (s : Source) (n : ℕ) → asks_of s (49152 + n) ≡ caught_by (slice_get s.method.rec.handlers n)
 unfolding asks_of
@@ -42,11 +45,14 @@ at-handler s n =
     let e : nat_lt (49152 + n) 32768 ≡ false = grind (arith, nat_tests) in
     let f : nat_lt (49152 + n) 49152 ≡ false = grind (arith, nat_tests) in
     let g : 49152 + n - 49152 ≡ n = omega arith in
-    let h : caught_by (slice_get s.method.rec.handlers (49152 + n - 49152)) ≡ caught_by (slice_get s.method.rec.handlers n) = ap (λ (k : ℕ). caught_by (slice_get s.method.rec.handlers k)) g in
-    ap (λ (b : Bool). if b then (if is_leader s (49152 + n) then emptied else nothing_asked) else if nat_lt (49152 + n) 49152 then emptied else caught_by (slice_get s.method.rec.handlers (49152 + n - 49152))) e
+    let h : caught_by (slice_get s.method.rec.handlers (49152 + n - 49152)) ≡ caught_by (slice_get s.method.rec.handlers n) = ap
+    (λ (k : ℕ). caught_by (slice_get s.method.rec.handlers k)) g in
+    ap (λ (b : Bool). if b then (if is_leader s (49152 + n) then emptied else nothing_asked) else if nat_lt (49152 + n) 49152 then emptied else caught_by
+    (slice_get s.method.rec.handlers (49152 + n - 49152))) e
     ∙ ap (λ (b : Bool). if b then emptied else caught_by (slice_get s.method.rec.handlers (49152 + n - 49152))) f ∙ h
 
-module _ (new : ℕ → ℕ) (apart : (a b : ℕ) → new a ≡ new b → a ≡ b) (s : Source) (l : AreLaws s.world) (ready : IsReady s) (r : MethodRec) (own_rec : IsRecordFor s.method.rec r) (res : IfSome s.method.rec.sig.result (IsDeclared s.world.classes)) (code : IsCode s) where
+module _ (new : ℕ → ℕ) (apart : (a b : ℕ) → new a ≡ new b → a ≡ b) (s : Source) (l : AreLaws s.world) (ready : IsReady s) (r : MethodRec)
+    (own_rec : IsRecordFor s.method.rec r) (res : IfSome s.method.rec.sig.result (IsDeclared s.world.classes)) (code : IsCode s) where
   reached-inside : (q : ℕ) → IsReached s.method q → q < length s.method.code
   reached-inside q there =
       let p = ready.has.placed q there in
@@ -62,7 +68,8 @@ module _ (new : ℕ → ℕ) (apart : (a b : ℕ) → new a ≡ new b → a ≡ 
     where
       by : (b : Bool) → is_leader s (length s.method.code) ≡ b → is_leader s (length s.method.code) ≡ false
       by false e = e
-      by true e = absurd (omega (arith, reached-inside (length s.method.code) (leader-reached (length s.method.code) ((ready.marks (length s.method.code)).0 e))))
+      by true e =
+          absurd (omega (arith, reached-inside (length s.method.code) (leader-reached (length s.method.code) ((ready.marks (length s.method.code)).0 e))))
 
   pub are-wanted : AreWanted new apart s l ready r own_rec (asks_of s) res code
   are-wanted = record {

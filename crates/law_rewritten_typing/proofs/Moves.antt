@@ -1,5 +1,6 @@
 -- Loads, stores and copies of homes, over the registers of a card typing.
-use Rattle.std.proofs.Common.{◌≡◌, ◌⊎◌, ℕ, zero, suc, ◌+◌, ◌%◌, ◌<◌, ◌≤◌, true, false, if◌then◌else◌, inl, inr, List, [], ◌∷◌, ◌++◌, length, set, slice_get, Option, Some, Ok, IsSomeAnd, refl, sym, ◌∙◌, ap, subst, arith}
+use Rattle.std.proofs.Common.{◌≡◌, ◌⊎◌, ℕ, zero, suc, ◌+◌, ◌%◌, ◌<◌, ◌≤◌, true, false, if◌then◌else◌, inl, inr, List, []}
+use Rattle.std.proofs.Common.{◌∷◌, ◌++◌, length, set, slice_get, Option, Some, Ok, IsSomeAnd, refl, sym, ◌∙◌, ap, subst, arith}
 use Rattle.std.specs.Prelude.{⊤}
 use Rattle.std.proofs.lemmas.Bool.{both_ways}
 use Rattle.jc_base.specs.declared.ty.Ty.{Ty}
@@ -177,7 +178,8 @@ module _ (w : Linked) (objects : ClassesAreObjects w.classes) (r : MethodRec) (r
   pub two-there : (x : ℕ) → slice_get regs (x + 1) ≡ Some IntLow → x + 2 ≤ length regs
   two-there x e = omega (arith, get-inside regs (x + 1) IntLow e)
 
-  pub load-turn : (n : ℕ) (ty : Ty) (x : ℕ) (stack : List Ty) → Holds ty x → length (cells_on ty ++ stack) ≤ r.max_stack → length stack ≤ r.max_stack
+  pub load-turn : (n : ℕ) (ty : Ty) (x : ℕ) (stack : List Ty) → Holds ty x → length (cells_on ty ++ stack) ≤ r.max_stack
+      → length stack ≤ r.max_stack
       → Turn w r regs asks n (with_byte (load_op ty) x) (holding stack) (holding (cells_on ty ++ stack))
   load-turn n ty x stack h room below = by (sorted ty h.value h.known)
     where
@@ -188,9 +190,12 @@ module _ (w : Linked) (objects : ClassesAreObjects w.classes) (r : MethodRec) (r
           let own : length (ty ∷ stack) ≤ r.max_stack = subst (λ (ts : List Ty). length (ts ++ stack) ≤ r.max_stack) c.cells room in
           let full : length (or_null (reg regs x) ∷ stack) ≤ r.max_stack = omega (arith, own) in
           subst (λ (u : Ty). Turn w r regs asks n (with_byte 21 x) (holding stack) (holding (u ∷ stack))) given
-          (turn-by n (with_byte 21 x) (ops.Load sorts.Reference x) stack (record { regs = regs; stack = or_null (reg regs x) ∷ stack }) (loads-reference n x h.small)
-          (applies-by w r.max_stack (ops.Load sorts.Reference x) (record { regs = regs; stack = stack }) (record { regs = regs; stack = or_null (reg regs x) ∷ stack })
-          (there x ty h.first, (held x ty (Class (object w.classes)) h.first c.object, tt)) refl refl full) (same-cells w.classes regs) (quiet 21 (inl refl)) refl below)
+          (turn-by n (with_byte 21 x) (ops.Load sorts.Reference x) stack (record { regs = regs; stack = or_null (reg regs x) ∷ stack })
+          (loads-reference n x h.small)
+          (applies-by w r.max_stack (ops.Load sorts.Reference x) (record { regs = regs; stack = stack })
+          (record { regs = regs; stack = or_null (reg regs x) ∷ stack })
+          (there x ty h.first, (held x ty (Class (object w.classes)) h.first c.object, tt)) refl refl full) (same-cells w.classes regs)
+          (quiet 21 (inl refl)) refl below)
 
       sload : ty ≡ Short → Turn w r regs asks n (with_byte 22 x) (holding stack) (holding (Short ∷ stack))
       sload e =
@@ -206,10 +211,13 @@ module _ (w : Linked) (objects : ClassesAreObjects w.classes) (r : MethodRec) (r
           let first : slice_get regs x ≡ Some IntHigh = h.first ∙ ap Some e in
           let second = h.second e in
           turn-by n (with_byte 23 x) (ops.Load sorts.Int x) stack (record { regs = regs; stack = IntLow ∷ IntHigh ∷ stack }) (loads-int n x h.small)
-          (applies-by w r.max_stack (ops.Load sorts.Int x) (record { regs = regs; stack = stack }) (record { regs = regs; stack = IntLow ∷ IntHigh ∷ stack })
-          (two-there x second, (held x IntHigh IntHigh first same, (held (x + 1) IntLow IntLow second same, tt))) refl refl own) (same-cells w.classes regs) (quiet 23 (inr (inr (inl refl)))) refl below
+          (applies-by w r.max_stack (ops.Load sorts.Int x) (record { regs = regs; stack = stack })
+          (record { regs = regs; stack = IntLow ∷ IntHigh ∷ stack })
+          (two-there x second, (held x IntHigh IntHigh first same, (held (x + 1) IntLow IntLow second same, tt))) refl refl own) (same-cells w.classes regs)
+          (quiet 23 (inr (inr (inl refl)))) refl below
 
-      by : IsReferenceCell ty ⊎ (ty ≡ Short) ⊎ (ty ≡ IntHigh) → Turn w r regs asks n (with_byte (load_op ty) x) (holding stack) (holding (cells_on ty ++ stack))
+      by : IsReferenceCell ty ⊎ (ty ≡ Short) ⊎ (ty ≡ IntHigh) → Turn w r regs asks n (with_byte (load_op ty) x) (holding stack)
+          (holding (cells_on ty ++ stack))
       by (inl c) =
           subst (λ (op : ℕ). Turn w r regs asks n (with_byte op x) (holding stack) (holding (cells_on ty ++ stack))) (sym c.loads)
           (subst (λ (ts : List Ty). Turn w r regs asks n (with_byte 21 x) (holding stack) (holding (ts ++ stack))) (sym c.cells) (aload c))
@@ -230,36 +238,48 @@ module _ (w : Linked) (objects : ClassesAreObjects w.classes) (r : MethodRec) (r
   unfolding row_at table by_sort by_width by_kind first_four by_register literals binaries orders_all branching unused
   stores-int n x lt = ap (λ k. Ok (ops.Store sorts.Int k)) (byte-small x lt)
 
-  pub store-turn : (n : ℕ) (ty : Ty) (x : ℕ) (vs stack : List Ty) → Holds ty x → CellsBelow w.classes vs (cells_on ty) → length (vs ++ stack) ≤ r.max_stack → length stack ≤ r.max_stack
+  pub store-turn : (n : ℕ) (ty : Ty) (x : ℕ) (vs stack : List Ty) → Holds ty x → CellsBelow w.classes vs (cells_on ty)
+      → length (vs ++ stack) ≤ r.max_stack → length stack ≤ r.max_stack
       → Turn w r regs asks n (with_byte (store_op ty) x) (holding (vs ++ stack)) (holding stack)
   store-turn n ty x vs stack h le room below = by (sorted ty h.value h.known)
     where
-      astore : IsReferenceCell ty → (us : List Ty) → CellsBelow w.classes us (ty ∷ []) → length (us ++ stack) ≤ r.max_stack → Turn w r regs asks n (with_byte 40 x) (holding (us ++ stack)) (holding stack)
+      astore : IsReferenceCell ty → (us : List Ty) → CellsBelow w.classes us (ty ∷ []) → length (us ++ stack) ≤ r.max_stack
+          → Turn w r regs asks n (with_byte 40 x) (holding (us ++ stack)) (holding stack)
       astore c _ (more_cells {a = v} p no_cells) full =
           turn-by n (with_byte 40 x) (ops.Store sorts.Reference x) (v ∷ stack) (record { regs = set regs x v; stack = stack }) (stores-reference n x h.small)
           (applies-by w r.max_stack (ops.Store sorts.Reference x) (record { regs = regs; stack = v ∷ stack }) (record { regs = set regs x v; stack = stack })
-          (there x ty h.first, (joined p c.object, tt)) (record { value = v; stored = refl; after_is = refl }) refl below) (set-below w.classes regs x v ty h.first p) (quiet 40 (inr (inr (inr (inl refl))))) refl full
+          (there x ty h.first, (joined p c.object, tt)) (record { value = v; stored = refl; after_is = refl }) refl below)
+          (set-below w.classes regs x v ty h.first p) (quiet 40 (inr (inr (inr (inl refl))))) refl full
 
-      sstore : ty ≡ Short → (us : List Ty) → CellsBelow w.classes us (Short ∷ []) → length (us ++ stack) ≤ r.max_stack → Turn w r regs asks n (with_byte 41 x) (holding (us ++ stack)) (holding stack)
+      sstore : ty ≡ Short → (us : List Ty) → CellsBelow w.classes us (Short ∷ []) → length (us ++ stack) ≤ r.max_stack
+          → Turn w r regs asks n (with_byte 41 x) (holding (us ++ stack)) (holding stack)
       sstore e _ (more_cells {a = v} p no_cells) full =
           let first : slice_get regs x ≡ Some Short = h.first ∙ ap Some e in
           turn-by n (with_byte 41 x) (ops.Store sorts.Short x) (v ∷ stack) (record { regs = set regs x Short; stack = stack }) (stores-short n x h.small)
           (applies-by w r.max_stack (ops.Store sorts.Short x) (record { regs = regs; stack = v ∷ stack }) (record { regs = set regs x Short; stack = stack })
-          (there x Short first, (p, tt)) (record { value = Short; stored = refl; after_is = refl }) refl below) (set-below w.classes regs x Short Short first same) (quiet 41 (inr (inr (inr (inr (inl refl)))))) refl full
+          (there x Short first, (p, tt)) (record { value = Short; stored = refl; after_is = refl }) refl below)
+          (set-below w.classes regs x Short Short first same) (quiet 41 (inr (inr (inr (inr (inl refl)))))) refl full
 
-      istore : ty ≡ IntHigh → (us : List Ty) → CellsBelow w.classes us (IntLow ∷ IntHigh ∷ []) → length (us ++ stack) ≤ r.max_stack → Turn w r regs asks n (with_byte 42 x) (holding (us ++ stack)) (holding stack)
+      istore : ty ≡ IntHigh → (us : List Ty) → CellsBelow w.classes us (IntLow ∷ IntHigh ∷ []) → length (us ++ stack) ≤ r.max_stack
+          → Turn w r regs asks n (with_byte 42 x) (holding (us ++ stack)) (holding stack)
       istore e _ (more_cells {a = v} p (more_cells {a = u} q no_cells)) full =
           let first : slice_get regs x ≡ Some IntHigh = h.first ∙ ap Some e in
           let second = h.second e in
           let high : set regs x IntHigh ≡ regs = set-same regs x IntHigh first in
           let after : List Ty = set (set regs x IntHigh) (x + 1) IntLow in
-          let stays : CellsBelow w.classes after regs = subst (λ (ts : List Ty). CellsBelow w.classes (set ts (x + 1) IntLow) regs) (sym high) (set-below w.classes regs (x + 1) IntLow IntLow second same) in
+          let stays : CellsBelow w.classes after regs = subst (λ (ts : List Ty). CellsBelow w.classes (set ts (x + 1) IntLow) regs) (sym high)
+          (set-below w.classes regs (x + 1) IntLow IntLow second same) in
           turn-by n (with_byte 42 x) (ops.Store sorts.Int x) (v ∷ u ∷ stack) (record { regs = after; stack = stack }) (stores-int n x h.small)
           (applies-by w r.max_stack (ops.Store sorts.Int x) (record { regs = regs; stack = v ∷ u ∷ stack }) (record { regs = after; stack = stack })
           (two-there x second, (p, (q, tt)))
-          (record { between = set regs x IntHigh; high = record { value = IntHigh; stored = refl; after_is = refl }; low = record { value = IntLow; stored = refl; after_is = refl } }) refl below) stays (quiet 42 (inr (inr (inr (inr (inr refl)))))) refl full
+          (record {
+            between = set regs x IntHigh;
+            high = record { value = IntHigh; stored = refl; after_is = refl };
+            low = record { value = IntLow; stored = refl; after_is = refl };
+          }) refl below) stays (quiet 42 (inr (inr (inr (inr (inr refl)))))) refl full
 
-      by : IsReferenceCell ty ⊎ (ty ≡ Short) ⊎ (ty ≡ IntHigh) → Turn w r regs asks n (with_byte (store_op ty) x) (holding (vs ++ stack)) (holding stack)
+      by : IsReferenceCell ty ⊎ (ty ≡ Short) ⊎ (ty ≡ IntHigh) → Turn w r regs asks n (with_byte (store_op ty) x) (holding (vs ++ stack))
+          (holding stack)
       by (inl c) =
           subst (λ (op : ℕ). Turn w r regs asks n (with_byte op x) (holding (vs ++ stack)) (holding stack)) (sym c.stores)
           (astore c vs (subst (CellsBelow w.classes vs) c.cells le) room)

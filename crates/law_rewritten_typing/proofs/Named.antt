@@ -1,5 +1,6 @@
 -- What the items of a rewritten method name: the places of targets and of entries, and stubs.
-use Rattle.std.proofs.Common.{◌≡◌, ℕ, zero, suc, ◌+◌, ◌<◌, Bool, true, false, if◌then◌else◌, List, [], ◌∷◌, ◌++◌, map, reverse, flat_map, length, Contains, Option, Some, None, Result, Ok, Err, refl, ap, subst, arith}
+use Rattle.std.proofs.Common.{◌≡◌, ℕ, zero, suc, ◌+◌, ◌<◌, Bool, true, false, if◌then◌else◌, List, [], ◌∷◌, ◌++◌, map, reverse}
+use Rattle.std.proofs.Common.{flat_map, length, Contains, Option, Some, None, Result, Ok, Err, refl, ap, subst, arith}
 use Rattle.std.specs.Prelude.{ℤ, is_some, slice_get}
 use Rattle.jc_base.specs.Each.{Each}
 use Rattle.jc_base.specs.declared.ty.Kind.{Kind}
@@ -26,8 +27,10 @@ use Rattle.xf_emission.specs.declared.origin.Origin.{Origin}
 use Rattle.xf_emission.specs.declared.origin.Origin.TheVariants.{Start, After, Entry}
 use Rattle.xf_emission.specs.Move.{store, copy, loads, spill}
 use Rattle.xf_emission.specs.Edge.{home_before, homes_held, copy_new, copies_from, local_copies, locals_copies, copies, cell_copies}
-use Rattle.xf_emission.specs.Jump.{under, operands, has_under, spill_if, branch_copies, place, lead, leads, first_label, jump_to, branch, goto, stub, stub_of, stub_label, stubs_of}
-use Rattle.xf_emission.specs.Group.{itself, loaded, increased, store_to_homes, stays, field_read, field_written, gone, first_place, body, fall, fall_over, fall_by, fallen, entrance, done, group_by, group}
+use Rattle.xf_emission.specs.Jump.{under, operands, has_under, spill_if, branch_copies, place, lead, leads, first_label, jump_to, branch, goto, stub, stub_of}
+use Rattle.xf_emission.specs.Jump.{stub_label, stubs_of}
+use Rattle.xf_emission.specs.Group.{itself, loaded, increased, store_to_homes, stays, field_read, field_written, gone, first_place, body, fall, fall_over}
+use Rattle.xf_emission.specs.Group.{fall_by, fallen, entrance, done, group_by, group}
 use Rattle.xf_emission.specs.Emission.{stubs, stubs_at, stubs_by, stubs_done, is_live, catching_stub, catching_stubs, items}
 use Rattle.xf_emission.proofs.Items.{each-if, each-flat}
 use Rattle.law_rewritten_typing.proofs.Typings.{names}
@@ -38,7 +41,8 @@ module _ (P : ℕ → Type 0) (s : Source) where
 
   -- an instruction with its operation: its targets, and the way to each, are such
   pub record Names (i : Placed) (op : Operation) : Type 0 where
-    pub ways : (n k : ℕ) (t : ℤ) → operands_of s.world (Ok op) ≡ Some n → slice_get (targets s.method.code i) k ≡ Some t → P (lead s i.place op n k t)
+    pub ways : (n k : ℕ) (t : ℤ) → operands_of s.world (Ok op) ≡ Some n → slice_get (targets s.method.code i) k ≡ Some t
+        → P (lead s i.place op n k t)
     pub places : (k : ℕ) (t : ℤ) → slice_get (targets s.method.code i) k ≡ Some t → P (place t)
     pub some : jumps_from op ≡ true → 0 < length (targets s.method.code i)
 
@@ -87,7 +91,8 @@ module _ (P : ℕ → Type 0) (s : Source) where
   taken-names : (p : ℕ) (op : Operation) (n q : ℕ) → Each IsNamed (branch_copies s p op n q)
   unfolding branch_copies
   taken-names p op n q =
-      Each-append IsNamed (cell_copies s (under s p n) (stack_homes s q)) (copies s (After p op) q) (cells-name (under s p n) (stack_homes s q)) (copies-name (After p op) q)
+      Each-append IsNamed (cell_copies s (under s p n) (stack_homes s q)) (copies s (After p op) q) (cells-name (under s p n) (stack_homes s q))
+      (copies-name (After p op) q)
 
   -- ---- instructions
 
@@ -117,12 +122,14 @@ module _ (P : ℕ → Type 0) (s : Source) where
     written-names k (Some h) = each-if IsNamed (stays s h) (itself i) _ kept-names (tt {0}, (tt {0}, (tt {0}, tt {0})))
 
   module _ (i : Placed) (op : Operation) (e : Names i op) where
-    leads-name : (n k : ℕ) (ts : List ℤ) → ((j : ℕ) (t : ℤ) → slice_get ts j ≡ Some t → P (lead s i.place op n (k + j) t)) → Each P (leads s i.place op n k ts)
+    leads-name : (n k : ℕ) (ts : List ℤ) → ((j : ℕ) (t : ℤ) → slice_get ts j ≡ Some t → P (lead s i.place op n (k + j) t))
+        → Each P (leads s i.place op n k ts)
     leads-name n k [] h = tt
     leads-name n k (t ∷ ts) h =
         let here : k + 0 ≡ k = omega arith in (
           subst (λ (j : ℕ). P (lead s i.place op n j t)) here (h 0 t refl),
-          leads-name n (suc k) ts (λ j u at. let next : k + suc j ≡ suc k + j = omega arith in subst (λ (m : ℕ). P (lead s i.place op n m u)) next (h (suc j) u at)),
+          leads-name n (suc k) ts (λ j u at. let next : k + suc j ≡ suc k + j = omega arith in subst (λ (m : ℕ). P (lead s i.place op n m u)) next
+              (h (suc j) u at)),
         )
 
     leads-length : (n k : ℕ) (ts : List ℤ) → length (leads s i.place op n k ts) ≡ length ts
@@ -134,9 +141,12 @@ module _ (P : ℕ → Type 0) (s : Source) where
     first-name (l ∷ ls) lt o = o.0
 
     ways-name : (n : ℕ) → operands_of s.world (Ok op) ≡ Some n → Each P (leads s i.place op n 0 (targets s.method.code i))
-    ways-name n asks = leads-name n 0 (targets s.method.code i) (λ j t at. let same : j ≡ 0 + j = omega arith in subst (λ (m : ℕ). P (lead s i.place op n m t)) same (e.ways n j t asks at))
+    ways-name n asks =
+        leads-name n 0 (targets s.method.code i)
+        (λ j t at. let same : j ≡ 0 + j = omega arith in subst (λ (m : ℕ). P (lead s i.place op n m t)) same (e.ways n j t asks at))
 
-    jump-names : (n : ℕ) → operands_of s.world (Ok op) ≡ Some n → jumps_from op ≡ true → IsNamed (jump_to i op (leads s i.place op n 0 (targets s.method.code i)))
+    jump-names : (n : ℕ) → operands_of s.world (Ok op) ≡ Some n → jumps_from op ≡ true
+        → IsNamed (jump_to i op (leads s i.place op n 0 (targets s.method.code i)))
     jump-names n asks j = by op refl
       where
         ls : List ℕ
@@ -154,7 +164,8 @@ module _ (P : ℕ → Type 0) (s : Source) where
     branch-names n asks j =
         Each-append IsNamed (spill_if (has_under s i.place n) s i.place n) (jump_to i op _ ∷ [])
         (each-if IsNamed (has_under s i.place n) (spill s (stack_homes s i.place) ++ loads s (operands s i.place n)) []
-        (Each-append IsNamed (spill s (stack_homes s i.place)) (loads s (operands s i.place n)) (spill-names (stack_homes s i.place)) (loads-name (operands s i.place n))) tt)
+        (Each-append IsNamed (spill s (stack_homes s i.place)) (loads s (operands s i.place n)) (spill-names (stack_homes s i.place))
+        (loads-name (operands s i.place n))) tt)
         (jump-names n asks j, tt {0})
 
     first-place-named : jumps_from op ≡ true → P (first_place (targets s.method.code i))
@@ -181,7 +192,8 @@ module _ (P : ℕ → Type 0) (s : Source) where
     fall-by-names None q = fall-names q
     fall-by-names (Some n) q =
         each-if IsNamed (has_under s i.place n) (fall_over s i.place op n q) (fall s i.place op q)
-        (each-if IsNamed (is_leader s q) (branch_copies s i.place op n q) (copies s (After i.place op) q ++ loads s (under s i.place n)) (taken-names i.place op n q)
+        (each-if IsNamed (is_leader s q) (branch_copies s i.place op n q) (copies s (After i.place op) q ++ loads s (under s i.place n))
+        (taken-names i.place op n q)
         (Each-append IsNamed (copies s (After i.place op) q) (loads s (under s i.place n)) (copies-name (After i.place op) q) (loads-name (under s i.place n))))
         (fall-names q)
 
@@ -197,7 +209,8 @@ module _ (P : ℕ → Type 0) (s : Source) where
     stub-names q l [] h own = tt
     stub-names q l (x ∷ xs) h own = (tt {0}, Each-append IsNamed (x ∷ xs) (goto q ∷ []) h ((own, tt {0}), tt {0}))
 
-    stubs-name-from : (n k : ℕ) (ts : List ℤ) → ((j : ℕ) (t : ℤ) → slice_get ts j ≡ Some t → P (place t)) → Each IsNamed (stubs_of s i.place op n k ts)
+    stubs-name-from : (n k : ℕ) (ts : List ℤ) → ((j : ℕ) (t : ℤ) → slice_get ts j ≡ Some t → P (place t))
+        → Each IsNamed (stubs_of s i.place op n k ts)
     unfolding stub
     stubs-name-from n k [] h = tt
     stubs-name-from n k (t ∷ ts) h =
@@ -226,7 +239,8 @@ module _ (P : ℕ → Type 0) (s : Source) where
   body-names i (ops.Switch width) e = branch-names i (ops.Switch width) e _ refl refl
   body-names i op e = kept-names i
 
-  module _ (emitted : (i : Placed) (op : Operation) → Contains (listing s.method.code) i → is_some (s.frames i.place) ≡ true → operation s i ≡ Ok op → Names i op) where
+  module _ (emitted : (i : Placed) (op : Operation) → Contains (listing s.method.code) i → is_some (s.frames i.place) ≡ true
+      → operation s i ≡ Ok op → Names i op) where
     done-names : (i : Placed) (r : Result Operation RuleFault) → ((op : Operation) → r ≡ Ok op → Names i op) → Each IsNamed (done s i r)
     done-names i (Err fault) h = tt
     done-names i (Ok op) h = Each-append IsNamed (body s i op) (fallen s i op) (body-names i op (h op refl)) (fallen-names i op (h op refl))
@@ -266,13 +280,15 @@ module _ (P : ℕ → Type 0) (s : Source) where
     caught-name-from : (n : ℕ) (hs : List Handler) → Each (λ h. is_live s h ≡ true → P h.entry) hs → Each IsNamed (catching_stubs s n hs)
     caught-name-from n [] o = tt
     caught-name-from n (h ∷ hs) o =
-        Each-append IsNamed (if is_live s h then catching_stub s n h else []) (catching_stubs s (suc n) hs) (by (is_live s h) refl) (caught-name-from (suc n) hs o.1)
+        Each-append IsNamed (if is_live s h then catching_stub s n h else []) (catching_stubs s (suc n) hs) (by (is_live s h) refl)
+        (caught-name-from (suc n) hs o.1)
       where
         by : (b : Bool) → is_live s h ≡ b → Each IsNamed (if b then catching_stub s n h else [])
         by true live = caught-names n h (o.0 live)
         by false dead = tt
 
-    each-of : {X : Type 0} (f : X → List Item) (xs whole : List X) → ((x : X) → Contains xs x → Contains whole x) → ((x : X) → Contains whole x → Each IsNamed (f x)) → Each IsNamed (flat_map f xs)
+    each-of : {X : Type 0} (f : X → List Item) (xs whole : List X) → ((x : X) → Contains xs x → Contains whole x)
+        → ((x : X) → Contains whole x → Each IsNamed (f x)) → Each IsNamed (flat_map f xs)
     each-of f [] whole inside h = tt
     each-of f (x ∷ xs) whole inside h =
         Each-append IsNamed (f x) (flat_map f xs) (h x (inside x (0, omega arith, refl)))
@@ -282,8 +298,10 @@ module _ (P : ℕ → Type 0) (s : Source) where
     unfolding items
     items-name entries =
         Each-append IsNamed (copies s Start 0) _ (copies-name Start 0)
-        (Each-append IsNamed (flat_map (group s) (listing s.method.code)) _ (each-of (group s) (listing s.method.code) (listing s.method.code) (λ x c. c) group-names) (
+        (Each-append IsNamed (flat_map (group s) (listing s.method.code)) _
+        (each-of (group s) (listing s.method.code) (listing s.method.code) (λ x c. c) group-names) (
           tt {0},
-          Each-append IsNamed (flat_map (stubs s) (listing s.method.code)) (catching_stubs s 0 s.method.rec.handlers) (each-of (stubs s) (listing s.method.code) (listing s.method.code) (λ x c. c) stubs-name)
+          Each-append IsNamed (flat_map (stubs s) (listing s.method.code)) (catching_stubs s 0 s.method.rec.handlers)
+              (each-of (stubs s) (listing s.method.code) (listing s.method.code) (λ x c. c) stubs-name)
               (caught-name-from 0 s.method.rec.handlers entries),
         ))

@@ -1,5 +1,6 @@
 -- The numbers of the instructions in rewritten code: where each group's instruction stands, one to one.
-use Rattle.std.proofs.Common.{◌≡◌, ℕ, suc, ◌+◌, ◌<◌, ◌≤◌, ◌==◌, Bool, true, false, ◌&&◌, if◌then◌else◌, List, [], ◌∷◌, ◌++◌, flat_map, Contains, Option, Some, None, Ok, refl, sym, ◌∙◌, ap, arith}
+use Rattle.std.proofs.Common.{◌≡◌, ℕ, suc, ◌+◌, ◌<◌, ◌≤◌, ◌==◌, Bool, true, false, ◌&&◌, if◌then◌else◌, List, [], ◌∷◌}
+use Rattle.std.proofs.Common.{◌++◌, flat_map, Contains, Option, Some, None, Ok, refl, sym, ◌∙◌, ap, arith}
 use Rattle.std.specs.Prelude.{⊤, is_some}
 use Rattle.std.proofs.lemmas.Bool.Decides.{nat_tests}
 use Rattle.std.proofs.lemmas.Bool.{and_parts}
@@ -22,7 +23,8 @@ use Rattle.xf_emission.specs.declared.origin.Origin.TheVariants.{After}
 use Rattle.xf_emission.specs.Move.{spill}
 use Rattle.xf_emission.specs.Edge.{copies}
 use Rattle.xf_emission.specs.Jump.{branch, jump_to, spill_if, has_under, leads, goto}
-use Rattle.xf_emission.specs.Group.{body, itself, loaded, increased, store_to_homes, stays, field_read, field_written, gone, branch_by, first_place, entrance, group}
+use Rattle.xf_emission.specs.Group.{body, itself, loaded, increased, store_to_homes, stays, field_read, field_written, gone, branch_by, first_place, entrance}
+use Rattle.xf_emission.specs.Group.{group}
 use Rattle.law_rewritten_typing.proofs.Walks.{count, count-append}
 
 -- ---- each body has an instruction
@@ -62,14 +64,18 @@ module _ (s : Source) (i : Placed) where
 
   branch-some : (op : Operation) (n : ℕ) → 0 < count (branch s i op n)
   unfolding branch
-  branch-some op n = right-some (spill_if (has_under s i.place n) s i.place n) (jump_to i op (leads s i.place op n 0 (targets s.method.code i)) ∷ []) (jump-some op (leads s i.place op n 0 (targets s.method.code i)))
+  branch-some op n =
+      right-some (spill_if (has_under s i.place n) s i.place n) (jump_to i op (leads s i.place op n 0 (targets s.method.code i)) ∷ [])
+      (jump-some op (leads s i.place op n 0 (targets s.method.code i)))
 
   by-some : (op : Operation) (n : Option ℕ) → 0 < count (branch_by s i op n)
   by-some op None = omega arith
   by-some op (Some n) = branch-some op n
 
   gone-some : (op : Operation) (q : ℕ) → 0 < count (gone s i.place op q)
-  gone-some op q = right-some (spill s (stack_homes s q)) (copies s (After i.place op) q ++ goto q ∷ []) (right-some (copies s (After i.place op) q) (goto q ∷ []) (omega arith))
+  gone-some op q =
+      right-some (spill s (stack_homes s q)) (copies s (After i.place op) q ++ goto q ∷ [])
+      (right-some (copies s (After i.place op) q) (goto q ∷ []) (omega arith))
 
   pub body-some : (op : Operation) → 0 < count (body s i op)
   unfolding body
@@ -87,7 +93,8 @@ module _ (s : Source) where
   -- a `new` is numbered by where its group's instruction stands
   abbrev pub IsNumbered : (ℕ → ℕ) → ℕ → List Placed → Type 0
   IsNumbered new n [] = ⊤
-  IsNumbered new n (i ∷ xs) = (is_some (s.frames i.place) ≡ true → new i.place ≡ n + count (entrance s i.place)) × IsNumbered new (n + count (group s i)) xs
+  IsNumbered new n (i ∷ xs) =
+      (is_some (s.frames i.place) ≡ true → new i.place ≡ n + count (entrance s i.place)) × IsNumbered new (n + count (group s i)) xs
 
   -- the number of the instruction of the group of a place, in groups from a number on
   number : ℕ → List Placed → ℕ → Option ℕ
@@ -104,12 +111,14 @@ module _ (s : Source) where
   number-within : (n k p : ℕ) (xs : List Placed) → AreFilled xs → number n xs p ≡ Some k → (n ≤ k) × (k < n + count (flat_map (group s) xs))
   unfolding number
   number-within n k p [] filled e = absurd (cc)
-  number-within n k p (i ∷ xs) filled e = by (i.place == p && is_some (s.frames i.place)) refl e (λ f. number-within (n + count (group s i)) k p xs filled.1 f)
+  number-within n k p (i ∷ xs) filled e =
+      by (i.place == p && is_some (s.frames i.place)) refl e (λ f. number-within (n + count (group s i)) k p xs filled.1 f)
     where
       parts : count (flat_map (group s) (i ∷ xs)) ≡ count (group s i) + count (flat_map (group s) xs)
       parts = count-append (group s i) (flat_map (group s) xs)
 
-      by : (b : Bool) → (i.place == p && is_some (s.frames i.place)) ≡ b → (if b then Some (n + count (entrance s i.place)) else number (n + count (group s i)) xs p) ≡ Some k
+      by : (b : Bool) → (i.place == p && is_some (s.frames i.place)) ≡ b
+          → (if b then Some (n + count (entrance s i.place)) else number (n + count (group s i)) xs p) ≡ Some k
           → (number (n + count (group s i)) xs p ≡ Some k → (n + count (group s i) ≤ k) × (k < n + count (group s i) + count (flat_map (group s) xs)))
           → (n ≤ k) × (k < n + count (flat_map (group s) (i ∷ xs)))
       by true q f rest =
@@ -122,12 +131,14 @@ module _ (s : Source) where
   unfolding number
   number-one n k p q [] filled e g = absurd (cc)
   number-one n k p q (i ∷ xs) filled e g =
-      by (i.place == p && is_some (s.frames i.place)) (i.place == q && is_some (s.frames i.place)) refl refl e g (λ x y. number-one (n + count (group s i)) k p q xs filled.1 x y)
+      by (i.place == p && is_some (s.frames i.place)) (i.place == q && is_some (s.frames i.place)) refl refl e g
+      (λ x y. number-one (n + count (group s i)) k p q xs filled.1 x y)
     where
       here : (m : ℕ) → (i.place == m && is_some (s.frames i.place)) ≡ true → i.place ≡ m
       here m t = let b = and_parts (i.place == m) (is_some (s.frames i.place)) t in let c = b.0 in grind (arith, nat_tests, c)
 
-      clash : (m : ℕ) → (i.place == m && is_some (s.frames i.place)) ≡ true → n + count (entrance s i.place) ≡ k → (j : ℕ) → number (n + count (group s i)) xs j ≡ Some k → ⊥
+      clash : (m : ℕ) → (i.place == m && is_some (s.frames i.place)) ≡ true → n + count (entrance s i.place) ≡ k → (j : ℕ)
+          → number (n + count (group s i)) xs j ≡ Some k → ⊥
       clash m t own j f =
           let less = filled.0 (and_parts (i.place == m) (is_some (s.frames i.place)) t).1 in
           let r = number-within (n + count (group s i)) k j xs filled.1 f in
@@ -164,13 +175,17 @@ module _ (s : Source) where
       by None (Some k) f g e = let r = number-within n k q xs filled g in absurd (omega (arith, r.1, e))
       by (Some k) (Some j) f g e = number-one n k p q xs filled f (g ∙ ap Some (sym e))
 
-  numbers-agree : (code : List ℕ) (new : ℕ → ℕ) (at n : ℕ) (xs : List Placed) → Lists code at xs → ((i : Placed) → Contains xs i → 0 < i.insn.len) → ((p k : ℕ) → at ≤ p → number n xs p ≡ Some k → new p ≡ k) → IsNumbered new n xs
+  numbers-agree : (code : List ℕ) (new : ℕ → ℕ) (at n : ℕ) (xs : List Placed) → Lists code at xs
+      → ((i : Placed) → Contains xs i → 0 < i.insn.len) → ((p k : ℕ) → at ≤ p → number n xs p ≡ Some k → new p ≡ k)
+      → IsNumbered new n xs
   unfolding number
   numbers-agree code new at n [] lists long h = tt
   numbers-agree code new at n (i ∷ xs) lists long h = (
-    (λ some. h i.place (n + count (entrance s i.place)) (omega (arith, lists.0)) (ap (λ (b : Bool). if b then Some (n + count (entrance s i.place)) else number (n + count (group s i)) xs i.place) (own some))),
+    (λ some. h i.place (n + count (entrance s i.place)) (omega (arith, lists.0))
+        (ap (λ (b : Bool). if b then Some (n + count (entrance s i.place)) else number (n + count (group s i)) xs i.place) (own some))),
     numbers-agree code new (at + i.insn.len) (n + count (group s i)) xs lists.2 (λ j c. long j (suc c.0, omega (arith, c.1), c.2))
-        (λ p k le e. h p k (omega (arith, le)) (ap (λ (b : Bool). if b then Some (n + count (entrance s i.place)) else number (n + count (group s i)) xs p) (other p le) ∙ e)),
+        (λ p k le e. h p k (omega (arith, le))
+        (ap (λ (b : Bool). if b then Some (n + count (entrance s i.place)) else number (n + count (group s i)) xs p) (other p le) ∙ e)),
   )
     where
       own : is_some (s.frames i.place) ≡ true → (i.place == i.place && is_some (s.frames i.place)) ≡ true
@@ -183,6 +198,7 @@ module _ (s : Source) where
           let far : (i.place == p) ≡ false = grind (arith, nat_tests, place_is, n_long, le) in
           rw far refl
 
-  pub numbered-is : (code : List ℕ) (n : ℕ) (xs : List Placed) → Lists code 0 xs → ((i : Placed) → Contains xs i → 0 < i.insn.len) → IsNumbered (numbered n xs) n xs
+  pub numbered-is : (code : List ℕ) (n : ℕ) (xs : List Placed) → Lists code 0 xs → ((i : Placed) → Contains xs i → 0 < i.insn.len)
+      → IsNumbered (numbered n xs) n xs
   unfolding numbered or-beyond
   numbered-is code n xs lists long = numbers-agree code (numbered n xs) 0 n xs lists long (λ p k le e. ap (or-beyond (n + count (flat_map (group s) xs)) p) e)

@@ -1,5 +1,6 @@
 -- No range of a rewritten method is empty: the first group in it has an instruction.
-use Rattle.std.proofs.Common.{◌≡◌, ℕ, suc, ◌+◌, ◌-◌, ◌<◌, ◌≤◌, ◌==◌, Bool, true, false, if◌then◌else◌, inl, inr, List, [], ◌∷◌, ◌++◌, length, flat_map, slice_get, Option, Some, None, refl, sym, ◌∙◌, ap, subst, arith}
+use Rattle.std.proofs.Common.{◌≡◌, ℕ, suc, ◌+◌, ◌-◌, ◌<◌, ◌≤◌, ◌==◌, Bool, true, false, if◌then◌else◌, inl, inr, List, []}
+use Rattle.std.proofs.Common.{◌∷◌, ◌++◌, length, flat_map, slice_get, Option, Some, None, refl, sym, ◌∙◌, ap, subst, arith}
 use Rattle.std.specs.Prelude.{is_some}
 use Rattle.std.proofs.lemmas.Bool.Decides.{nat_tests}
 use Rattle.std.proofs.lemmas.List.Elements.{All-contains}
@@ -44,7 +45,8 @@ skip b (Branch op l ∷ xs) ys apart = omega (arith, skip b xs ys apart)
 skip b (Switch i at ls ∷ xs) ys apart = omega (arith, skip b xs ys apart)
 skip b (Label m ∷ xs) ys apart = by (m == b) refl (skip b xs ys (λ a. apart (inr a)))
   where
-    by : (c : Bool) → (m == b) ≡ c → place_of b (xs ++ ys) ≡ count xs + place_of b ys → (if c then 0 else place_of b (xs ++ ys)) ≡ count xs + place_of b ys
+    by : (c : Bool) → (m == b) ≡ c → place_of b (xs ++ ys) ≡ count xs + place_of b ys → (if c then 0 else place_of b (xs ++ ys))
+        ≡ count xs + place_of b ys
     by true e rest = absurd (apart (inl (eqb-true m b e)))
     by false e rest = rest
 
@@ -81,18 +83,25 @@ module _ (s : Source) where
 
   module _ (code : IsCode s) where
     -- a label after that of a group with an instruction stands for a later place
-    group-before : (i : Placed) → IsListed s.method.code i → is_some (s.frames i.place) ≡ true → 0 < count (group s i) → (b : ℕ) → i.place < b → place_of i.place (items s) < place_of b (items s)
+    group-before : (i : Placed) → IsListed s.method.code i → is_some (s.frames i.place) ≡ true → 0 < count (group s i) → (b : ℕ) → i.place < b
+        → place_of i.place (items s) < place_of b (items s)
     group-before i st reached some b lt =
         let g = groups-stand s code i st reached in
         let rest : List Item = flat_map (group s) g.later ++ g.after in
         let h = group-head i reached in
         let parts : items s ≡ g.before ++ Label i.place ∷ (h.0 ++ rest) = g.parts ∙ ap (λ (xs : List Item). g.before ++ (xs ++ rest)) h.1 in
-        let ls : labels (items s) ≡ labels g.before ++ i.place ∷ labels (h.0 ++ rest) = ap labels parts ∙ labels-append g.before (Label i.place ∷ (h.0 ++ rest)) in
-        let rise : Rises 0 (handler_label 256) (labels g.before ++ i.place ∷ labels (h.0 ++ rest)) = subst (Rises 0 (handler_label 256)) ls (all-rise s code.bytes code.lists code.short code.few) in
-        let low : place_of i.place (items s) ≤ count g.before = subst (λ (xs : List Item). place_of i.place xs ≤ count g.before) (sym parts) (no-later i.place g.before (h.0 ++ rest)) in
+        let ls : labels (items s) ≡ labels g.before ++ i.place ∷ labels (h.0 ++ rest) = ap labels parts
+        ∙ labels-append g.before (Label i.place ∷ (h.0 ++ rest)) in
+        let rise : Rises 0 (handler_label 256) (labels g.before ++ i.place ∷ labels (h.0 ++ rest)) = subst (Rises 0 (handler_label 256)) ls
+        (all-rise s code.bytes code.lists code.short code.few) in
+        let low : place_of i.place (items s) ≤ count g.before = subst (λ (xs : List Item). place_of i.place xs ≤ count g.before) (sym parts)
+        (no-later i.place g.before (h.0 ++ rest)) in
         let first : place_of b (g.before ++ (group s i ++ rest)) ≡ count g.before + place_of b (group s i ++ rest) =
-        skip b g.before (group s i ++ rest) (λ c. let early = rises-before 0 (handler_label 256) i.place b (labels g.before) (labels (h.0 ++ rest)) rise c in absurd (omega (arith, early, lt))) in
-        let second : place_of b (group s i ++ rest) ≡ count (group s i) + place_of b rest = skip b (group s i) rest (λ c. not-own (subst (IsAmong b) (group-label s i ∙ ap (λ (y : Bool). if y then i.place ∷ [] else []) reached) c)) in
+        skip b g.before (group s i ++ rest)
+        (λ c. let early = rises-before 0 (handler_label 256) i.place b (labels g.before) (labels (h.0 ++ rest)) rise c in
+        absurd (omega (arith, early, lt))) in
+        let second : place_of b (group s i ++ rest) ≡ count (group s i) + place_of b rest = skip b (group s i) rest
+        (λ c. not-own (subst (IsAmong b) (group-label s i ∙ ap (λ (y : Bool). if y then i.place ∷ [] else []) reached) c)) in
         let whole : place_of b (items s) ≡ place_of b (g.before ++ (group s i ++ rest)) = ap (place_of b) g.parts in
         omega (arith, low, first, second, whole, some)
       where
@@ -100,7 +109,8 @@ module _ (s : Source) where
         not-own (inl e) = absurd (omega (arith, e, lt))
         not-own (inr c) = absurd c
 
-    module _ (listed : AreListed s.method.code) (has : HasFrames s) (full : (i : Placed) → IsListed s.method.code i → is_some (s.frames i.place) ≡ true → 0 < count (group s i)) where
+    module _ (listed : AreListed s.method.code) (has : HasFrames s)
+        (full : (i : Placed) → IsListed s.method.code i → is_some (s.frames i.place) ≡ true → 0 < count (group s i)) where
       end-inside : (h : Handler) → IsHandlerOf s.method.code h → h.end ≤ length s.method.code
       end-inside h is = by is.end
         where
@@ -125,13 +135,16 @@ module _ (s : Source) where
           let p : IsPlace s.method.code (first_reached s h.start) = has.placed (first_reached s h.start) ((has.reached (first_reached s h.start)).0 some) in
           let own : is_some (s.frames p.0.place) ≡ true = ap (λ (q : ℕ). is_some (s.frames q)) p.2 ∙ some in
           let later : p.0.place < first_reached s h.end = omega (arith, p.2, lt, to.from) in
-          subst (λ (q : ℕ). place_of q (items s) < place_of (first_reached s h.end) (items s)) p.2 (group-before p.0 p.1 own (full p.0 p.1 own) (first_reached s h.end) later)
+          subst (λ (q : ℕ). place_of q (items s) < place_of (first_reached s h.end) (items s)) p.2
+          (group-before p.0 p.1 own (full p.0 p.1 own) (first_reached s h.end) later)
 
-      pub ranges-filled : (n : ℕ) (hs : List Handler) → ((j : ℕ) (h : Handler) → slice_get hs j ≡ Some h → IsHandlerOf s.method.code h) → Each IsFilled (ranges_from s n hs)
+      pub ranges-filled : (n : ℕ) (hs : List Handler) → ((j : ℕ) (h : Handler) → slice_get hs j ≡ Some h → IsHandlerOf s.method.code h)
+          → Each IsFilled (ranges_from s n hs)
       ranges-filled n [] are = tt
       ranges-filled n (h ∷ hs) are = by (is_live s h) refl (ranges-filled (suc n) hs (λ j k e. are (suc j) k e))
         where
-          by : (b : Bool) → is_live s h ≡ b → Each IsFilled (ranges_from s (suc n) hs) → Each IsFilled ((if b then range s n h ∷ [] else []) ++ ranges_from s (suc n) hs)
+          by : (b : Bool) → is_live s h ≡ b → Each IsFilled (ranges_from s (suc n) hs)
+              → Each IsFilled ((if b then range s n h ∷ [] else []) ++ ranges_from s (suc n) hs)
           by true live rest = (range-filled n h (are 0 h refl) live, rest)
           by false live rest = rest
 

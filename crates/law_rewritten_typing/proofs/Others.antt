@@ -1,5 +1,6 @@
 -- A label that asks for a caught object is the entry of a range.
-use Rattle.std.proofs.Common.{◌≡◌, ◌⊎◌, ℕ, suc, ◌+◌, ◌-◌, ◌<◌, Bool, true, false, if◌then◌else◌, inl, inr, List, [], ◌∷◌, ◌++◌, length, flat_map, slice_get, Contains, Option, Some, None, Result, Ok, Err, refl, subst, arith}
+use Rattle.std.proofs.Common.{◌≡◌, ◌⊎◌, ℕ, suc, ◌+◌, ◌-◌, ◌<◌, Bool, true, false, if◌then◌else◌, inl, inr, List, [], ◌∷◌}
+use Rattle.std.proofs.Common.{◌++◌, length, flat_map, slice_get, Contains, Option, Some, None, Result, Ok, Err, refl, subst, arith}
 use Rattle.std.specs.Prelude.{ℤ, nat_lt}
 use Rattle.std.proofs.lemmas.Bool.Decides.{nat_tests}
 use Rattle.std.proofs.lemmas.List.Elements.{Contains-append_right}
@@ -41,7 +42,8 @@ either l (x ∷ xs) ys (inr a) = by (either l xs ys a)
 pieces : (l : ℕ) (xs ys : List Item) → IsAmong l (labels (xs ++ ys)) → IsAmong l (labels xs) ⊎ IsAmong l (labels ys)
 pieces l xs ys a = either l (labels xs) (labels ys) (subst (IsAmong l) (labels-append xs ys) a)
 
-flat-piece : {X : Type 0} (P : Type 0) (f : X → List Item) (l : ℕ) (xs : List X) → ((x : X) → Contains xs x → IsAmong l (labels (f x)) → P) → IsAmong l (labels (flat_map f xs)) → P
+flat-piece : {X : Type 0} (P : Type 0) (f : X → List Item) (l : ℕ) (xs : List X) → ((x : X) → Contains xs x → IsAmong l (labels (f x)) → P)
+    → IsAmong l (labels (flat_map f xs)) → P
 flat-piece P f l [] h a = absurd a
 flat-piece P f l (x ∷ xs) h a = by (pieces l (f x) (flat_map f xs) a) (λ b. flat-piece P f l xs (λ y c. h y (suc c.0, omega (arith, c.1), c.2)) b)
   where
@@ -55,7 +57,9 @@ below-none : (s : Source) (n c : ℕ) → n < 49152 → asks_of s n ≡ catching
 unfolding asks_of
 below-none s n c lt e = let small : nat_lt n 49152 ≡ true = grind (arith, nat_tests, lt) in by (nat_lt n 32768) (is_leader s n) (nat_lt n 49152) small e
   where
-    by : (a d b : Bool) → b ≡ true → (if a then (if d then emptied else nothing_asked) else if b then emptied else caught_by (slice_get s.method.rec.handlers (n - 49152))) ≡ catching c → ⊥
+    by : (a d b : Bool) → b ≡ true
+        → (if a then (if d then emptied else nothing_asked) else if b then emptied else caught_by (slice_get s.method.rec.handlers (n - 49152)))
+        ≡ catching c → ⊥
     by true true b t e = absurd (cc)
     by true false b t e = absurd (cc)
     by false d true t e = absurd (cc)
@@ -66,12 +70,16 @@ one-label [] l m a = absurd a
 one-label (i ∷ is) l m (inl e) = e
 one-label (i ∷ is) l m (inr a) = absurd a
 
-stubs-below : (s : Source) (p : ℕ) (op : Operation) (n k : ℕ) (ts : List ℤ) (l : ℕ) → IsAmong l (labels (stubs_of s p op n k ts)) → l < stub_label p (k + length ts)
+stubs-below : (s : Source) (p : ℕ) (op : Operation) (n k : ℕ) (ts : List ℤ) (l : ℕ) → IsAmong l (labels (stubs_of s p op n k ts))
+    → l < stub_label p (k + length ts)
 stubs-below s p op n k [] l a = absurd a
 stubs-below s p op n k (t ∷ ts) l a = by (pieces l (stub s p op n k t) (stubs_of s p op n (suc k) ts) a) (λ b. stubs-below s p op n (suc k) ts l b)
   where
-    by : IsAmong l (labels (stub s p op n k t)) ⊎ IsAmong l (labels (stubs_of s p op n (suc k) ts)) → (IsAmong l (labels (stubs_of s p op n (suc k) ts)) → l < stub_label p (suc k + length ts)) → l < stub_label p (k + length (t ∷ ts))
-    by (inl b) rest = let own : stub_label p k ≡ l = one-label (branch_copies s p op n (place t)) l (stub_label p k) (subst (IsAmong l) (stub-label s p op n k t) b) in omega (arith, own)
+    by : IsAmong l (labels (stub s p op n k t)) ⊎ IsAmong l (labels (stubs_of s p op n (suc k) ts))
+        → (IsAmong l (labels (stubs_of s p op n (suc k) ts)) → l < stub_label p (suc k + length ts)) → l < stub_label p (k + length (t ∷ ts))
+    by (inl b) rest =
+        let own : stub_label p k ≡ l = one-label (branch_copies s p op n (place t)) l (stub_label p k) (subst (IsAmong l) (stub-label s p op n k t) b) in
+        omega (arith, own)
     by (inr b) rest = let less = rest b in omega (arith, less)
 
 module _ (s : Source) (listed : AreListed s.method.code) (code : IsCode s) where
@@ -102,9 +110,12 @@ module _ (s : Source) (listed : AreListed s.method.code) (code : IsCode s) where
 
   caught-range : (n : ℕ) (hs : List Handler) (l : ℕ) → IsAmong l (labels (catching_stubs s n hs)) → HasRange (ranges_from s n hs) l
   caught-range n [] l a = absurd a
-  caught-range n (h ∷ hs) l a = by (is_live s h) (pieces l (if is_live s h then catching_stub s n h else []) (catching_stubs s (suc n) hs) a) (λ c. caught-range (suc n) hs l c)
+  caught-range n (h ∷ hs) l a =
+      by (is_live s h) (pieces l (if is_live s h then catching_stub s n h else []) (catching_stubs s (suc n) hs) a) (λ c. caught-range (suc n) hs l c)
     where
-      by : (b : Bool) → IsAmong l (labels (if b then catching_stub s n h else [])) ⊎ IsAmong l (labels (catching_stubs s (suc n) hs)) → (IsAmong l (labels (catching_stubs s (suc n) hs)) → HasRange (ranges_from s (suc n) hs) l) → HasRange ((if b then range s n h ∷ [] else []) ++ ranges_from s (suc n) hs) l
+      by : (b : Bool) → IsAmong l (labels (if b then catching_stub s n h else [])) ⊎ IsAmong l (labels (catching_stubs s (suc n) hs))
+          → (IsAmong l (labels (catching_stubs s (suc n) hs)) → HasRange (ranges_from s (suc n) hs) l)
+          → HasRange ((if b then range s n h ∷ [] else []) ++ ranges_from s (suc n) hs) l
       by b (inr c) rest = let r = rest c in (r.0, Contains-append_right (if b then range s n h ∷ [] else []) (ranges_from s (suc n) hs) r.0 r.1, r.2)
       by false (inl c) rest = absurd c
       by true (inl c) rest = own (subst (IsAmong l) (caught-label s n h) c)
@@ -136,6 +147,8 @@ module _ (s : Source) (listed : AreListed s.method.code) (code : IsCode s) where
       by-rest (inr b) = caught-range 0 s.method.rec.handlers l b
 
       by : IsAmong l groups ⊎ IsAmong l (end ∷ labels (branches ++ caughts)) → HasRange (ranges_from s 0 s.method.rec.handlers) l
-      by (inl b) = let less : l < end = rises-before 0 (handler_label 256) end l groups (labels (branches ++ caughts)) rise b in absurd (below-none s l c (omega (arith, less, code.short)) asks)
+      by (inl b) =
+          let less : l < end = rises-before 0 (handler_label 256) end l groups (labels (branches ++ caughts)) rise b in
+          absurd (below-none s l c (omega (arith, less, code.short)) asks)
       by (inr (inl e)) = absurd (below-none s l c (omega (arith, e, code.short)) asks)
       by (inr (inr b)) = by-rest (pieces l branches caughts b)

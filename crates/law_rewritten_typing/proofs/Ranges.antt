@@ -1,5 +1,6 @@
 -- The ranges of a rewritten method enter where the caught object is asked for.
-use Rattle.std.proofs.Common.{◌≡◌, ℕ, suc, ◌+◌, Bool, true, false, if◌then◌else◌, List, [], ◌∷◌, ◌++◌, slice_get, Some, refl, sym, ◌∙◌, ap, subst, arith}
+use Rattle.std.proofs.Common.{◌≡◌, ℕ, suc, ◌+◌, Bool, true, false, if◌then◌else◌, List, [], ◌∷◌, ◌++◌, slice_get, Some, refl, sym}
+use Rattle.std.proofs.Common.{◌∙◌, ap, subst, arith}
 use Rattle.std.proofs.lemmas.List.Elements.{All-contains}
 use Rattle.jc_base.specs.Class.{IsClass}
 use Rattle.jc_base.specs.Each.{Each, IsAmong}
@@ -22,26 +23,36 @@ use Rattle.law_rewritten_typing.proofs.Walks.{catching}
 use Rattle.law_rewritten_typing.proofs.LabelDemands.{asks_of, caught_by, at-handler}
 
 module _ (s : Source) (rules : AreRules s.world) (mo : IsMethodOf s.world s.method) (by_pool : CatchesByPool) where
-  handler-is : (n : ℕ) (h : Handler) → slice_get s.method.rec.handlers n ≡ Some h → IsHandler s.world.classes (list_at s.world.pools s.method.rec.package) s.method.rec.code_len h
+  handler-is : (n : ℕ) (h : Handler) → slice_get s.method.rec.handlers n ≡ Some h
+      → IsHandler s.world.classes (list_at s.world.pools s.method.rec.package) s.method.rec.code_len h
   handler-is n h e =
-      All-contains (IsHandler s.world.classes (list_at s.world.pools s.method.rec.package) s.method.rec.code_len) s.method.rec.handlers h (of_world s.world rules s.method mo).handlers (Contains-slice_get s.method.rec.handlers n h e)
+      All-contains (IsHandler s.world.classes (list_at s.world.pools s.method.rec.package) s.method.rec.code_len) s.method.rec.handlers h
+      (of_world s.world rules s.method mo).handlers (Contains-slice_get s.method.rec.handlers n h e)
 
   class-is : (n : ℕ) (h : Handler) → slice_get s.method.rec.handlers n ≡ Some h → class_by s.method.rec.handlers h.index ≡ h.class
   class-is n h e =
-      by_pool s.world.classes (list_at s.world.pools s.method.rec.package) s.method.rec.code_len s.method.rec.handlers h h.class (of_world s.world rules s.method mo).handlers (Contains-slice_get s.method.rec.handlers n h e) (handler-is n h e).catches
+      by_pool s.world.classes (list_at s.world.pools s.method.rec.package) s.method.rec.code_len s.method.rec.handlers h h.class
+      (of_world s.world rules s.method mo).handlers (Contains-slice_get s.method.rec.handlers n h e) (handler-is n h e).catches
 
   abbrev pub IsCaught : Range → Type 0
-  IsCaught q = IsAmong q.entry (labels (items s)) × (asks_of s q.entry ≡ catching (class_by s.method.rec.handlers q.pool)) × IsClass s.world.classes (class_by s.method.rec.handlers q.pool)
+  IsCaught q =
+      IsAmong q.entry (labels (items s)) × (asks_of s q.entry ≡ catching (class_by s.method.rec.handlers q.pool))
+      × IsClass s.world.classes (class_by s.method.rec.handlers q.pool)
 
-  pub ranges-caught : (n : ℕ) (hs : List Handler) → ((j : ℕ) (h : Handler) → slice_get hs j ≡ Some h → slice_get s.method.rec.handlers (n + j) ≡ Some h) → Each IsCaught (ranges_from s n hs)
+  pub ranges-caught : (n : ℕ) (hs : List Handler)
+      → ((j : ℕ) (h : Handler) → slice_get hs j ≡ Some h → slice_get s.method.rec.handlers (n + j) ≡ Some h)
+      → Each IsCaught (ranges_from s n hs)
   ranges-caught n [] inside = tt
   ranges-caught n (h ∷ hs) inside =
-      by (is_live s h) refl (ranges-caught (suc n) hs (λ j k e. let next : n + suc j ≡ suc n + j = omega arith in ap (slice_get s.method.rec.handlers) (sym next) ∙ inside (suc j) k e))
+      by (is_live s h) refl
+      (ranges-caught (suc n) hs (λ j k e. let next : n + suc j ≡ suc n + j = omega arith in ap (slice_get s.method.rec.handlers) (sym next)
+      ∙ inside (suc j) k e))
     where
       here : slice_get s.method.rec.handlers n ≡ Some h
       here = let same_n : n + 0 ≡ n = omega arith in ap (slice_get s.method.rec.handlers) (sym same_n) ∙ inside 0 h refl
 
-      by : (b : Bool) → is_live s h ≡ b → Each IsCaught (ranges_from s (suc n) hs) → Each IsCaught ((if b then range s n h ∷ [] else []) ++ ranges_from s (suc n) hs)
+      by : (b : Bool) → is_live s h ≡ b → Each IsCaught (ranges_from s (suc n) hs)
+          → Each IsCaught ((if b then range s n h ∷ [] else []) ++ ranges_from s (suc n) hs)
       by true live rest =
           let own = class-is n h here in
           let first : IsCaught (range s n h) = (

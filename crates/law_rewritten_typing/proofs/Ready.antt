@@ -1,5 +1,6 @@
 -- What the card typing of rewritten code rests on, and the values that stand in homes.
-use Rattle.std.proofs.Common.{◌≡◌, ◌≢◌, ℕ, zero, suc, ◌+◌, ◌<◌, ◌≤◌, Bool, true, false, if◌then◌else◌, List, [], ◌∷◌, ◌++◌, slice_get, All, Contains, Option, Some, None, IsSomeAnd, refl, sym, ◌∙◌, ap, subst, arith}
+use Rattle.std.proofs.Common.{◌≡◌, ◌≢◌, ℕ, zero, suc, ◌+◌, ◌<◌, ◌≤◌, Bool, true, false, if◌then◌else◌, List, [], ◌∷◌}
+use Rattle.std.proofs.Common.{◌++◌, slice_get, All, Contains, Option, Some, None, IsSomeAnd, refl, sym, ◌∙◌, ap, subst, arith}
 use Rattle.std.specs.Prelude.{is_some}
 use Rattle.std.proofs.lemmas.List.Sums.{sum_by-cons}
 use Rattle.jc_base.specs.Each.{IsAmong}
@@ -64,7 +65,8 @@ pub record IsPlacedAt (homes : List Home) (h : Home) (k : ℕ) : Type 0 where
   pub below : k < register_sum homes
 
 module _ (same_is : SameTypeDecides) where
-  pub placed-at : (n : ℕ) (homes : List Home) (h : Home) (x : ℕ) → register_from n homes h ≡ Some x → (k : ℕ) × (x ≡ n + k) × IsPlacedAt homes h k
+  pub placed-at : (n : ℕ) (homes : List Home) (h : Home) (x : ℕ) → register_from n homes h ≡ Some x → (k : ℕ) × (x ≡ n + k)
+      × IsPlacedAt homes h k
   unfolding register_sum
   placed-at n [] h x e = absurd (cc)
   placed-at n (j ∷ js) h x e = by (same_home j h) refl e (λ f. placed-at (n + type_width j.ty) js h x f)
@@ -99,7 +101,9 @@ module _ (same_is : SameTypeDecides) where
             omega (arith, r.1),
             record {
               first = past-cells j.ty (registers_of js) r.0 ∙ r.2.first;
-              second = λ high. let next : type_width j.ty + r.0 + 1 ≡ type_width j.ty + (r.0 + 1) = omega arith in ap (slice_get all) next ∙ past-cells j.ty (registers_of js) (r.0 + 1) ∙ r.2.second high;
+              second =
+                  λ high. let next : type_width j.ty + r.0 + 1 ≡ type_width j.ty + (r.0 + 1) = omega arith in ap (slice_get all) next
+                  ∙ past-cells j.ty (registers_of js) (r.0 + 1) ∙ r.2.second high;
               below = omega (arith, total, r.2.below);
             },
           )
@@ -117,7 +121,8 @@ pub value-is : (cells : List Ty) (x : ℕ) (ty : Ty) → value_in_cells cells x 
 unfolding value_in_cells
 value-is cells x ty e = by (slice_get cells x) (slice_get cells (x + 1)) refl refl e
   where
-    is : (u : Ty) (next : Option Ty) → slice_get cells x ≡ Some u → slice_get cells (x + 1) ≡ next → u ≡ ty → u ≢ IntLow → u ≢ Top → (u ≡ IntHigh → next ≡ Some IntLow) → IsValueAt cells x ty
+    is : (u : Ty) (next : Option Ty) → slice_get cells x ≡ Some u → slice_get cells (x + 1) ≡ next → u ≡ ty → u ≢ IntLow → u ≢ Top
+        → (u ≡ IntHigh → next ≡ Some IntLow) → IsValueAt cells x ty
     is u next here there own low top second = record {
       first = here ∙ ap Some own;
       no_low = λ q. low (own ∙ q);
@@ -141,23 +146,31 @@ plain-value Top b f l t = absurd (t refl)
 plain-value ty b f l t = tt
 
 -- a value of such cells
-pub value-plain : (t : ClassTable) (cells : List Ty) (x : ℕ) (ty : Ty) → value_in_cells cells x ≡ Some ty → All (IsKnown t) cells → All IsNotBottom cells → All IsNotFresh cells → IsPlainValue ty × IsKnown t ty
+pub value-plain : (t : ClassTable) (cells : List Ty) (x : ℕ) (ty : Ty) → value_in_cells cells x ≡ Some ty → All (IsKnown t) cells
+    → All IsNotBottom cells → All IsNotFresh cells → IsPlainValue ty × IsKnown t ty
 value-plain t cells x ty e known full ready =
-    let v = value-is cells x ty e in
-    (plain-value ty (All-slice_get IsNotBottom cells x ty full v.first) (All-slice_get IsNotFresh cells x ty ready v.first) v.no_low v.no_top, All-slice_get (IsKnown t) cells x ty known v.first)
+    let v = value-is cells x ty e in (
+      plain-value ty (All-slice_get IsNotBottom cells x ty full v.first) (All-slice_get IsNotFresh cells x ty ready v.first) v.no_low v.no_top,
+      All-slice_get (IsKnown t) cells x ty known v.first,
+    )
 
-pub cells-at : (t : ClassTable) (xs ys : List Ty) (x : ℕ) (a b : Ty) → CellsBelow t xs ys → slice_get xs x ≡ Some a → slice_get ys x ≡ Some b → Below t a b
+pub cells-at : (t : ClassTable) (xs ys : List Ty) (x : ℕ) (a b : Ty) → CellsBelow t xs ys → slice_get xs x ≡ Some a → slice_get ys x ≡ Some b
+    → Below t a b
 cells-at t _ _ x a b no_cells e f = absurd (cc)
-cells-at t _ _ zero a b (more_cells {a = c} {b = d} p ps) e f = let own : c ≡ a = cc in let other : d ≡ b = cc in subst (λ (u : Ty). Below t u b) own (subst (Below t c) other p)
+cells-at t _ _ zero a b (more_cells {a = c} {b = d} p ps) e f =
+    let own : c ≡ a = cc in let other : d ≡ b = cc in subst (λ (u : Ty). Below t u b) own (subst (Below t c) other p)
 cells-at t _ _ (suc x) a b (more_cells {xs = xs} {ys = ys} p ps) e f = cells-at t xs ys x a b ps e f
 
 -- ---- homes that stand
 
-module _ (same_is : SameTypeDecides) (kept : NeededAreKept) (s : Source) (objects : ClassesAreObjects s.world.classes) (rules : AreRules s.world) (ready : IsReady s) (r : MethodRec) (asks : ℕ → Asked) where
-  pub home-stands : (h : Home) → HasRegister s.homes h → IsPlainValue h.ty × IsKnown s.world.classes h.ty → Stands s objects r (registers_of s.homes) asks h
+module _ (same_is : SameTypeDecides) (kept : NeededAreKept) (s : Source) (objects : ClassesAreObjects s.world.classes) (rules : AreRules s.world)
+    (ready : IsReady s) (r : MethodRec) (asks : ℕ → Asked) where
+  pub home-stands : (h : Home) → HasRegister s.homes h → IsPlainValue h.ty × IsKnown s.world.classes h.ty
+      → Stands s objects r (registers_of s.homes) asks h
   home-stands h has v = by (register_from 0 s.homes h) refl has
     where
-      by : (o : Option ℕ) → register_from 0 s.homes h ≡ o → HasRegister s.homes h → Holds s.world objects r (registers_of s.homes) asks h.ty (or_first o)
+      by : (o : Option ℕ) → register_from 0 s.homes h ≡ o → HasRegister s.homes h → Holds s.world objects r (registers_of s.homes) asks h.ty
+          (or_first o)
       by None e has = absurd (differ has.0 (sym e ∙ has.1))
         where
           differ : (x : ℕ) → ◌≡◌ {A = Option ℕ} None (Some x) → ⊥
@@ -209,7 +222,8 @@ module _ (same_is : SameTypeDecides) (kept : NeededAreKept) (s : Source) (object
         at = f.1;
         value = f.2;
         above = λ g e.
-            let caught = framed (s.frames q) (λ (k : Frame). At s.frames h.entry (FrameBelow s.world.classes (caught_frame h k))) (ready.typing.handlers q h (reached q g e) (listed s.method.rec.handlers n h there) covers) in
+            let caught = framed (s.frames q) (λ (k : Frame). At s.frames h.entry (FrameBelow s.world.classes (caught_frame h k)))
+            (ready.typing.handlers q h (reached q g e) (listed s.method.rec.handlers n h there) covers) in
             let entry = framed (s.frames h.entry) (FrameBelow s.world.classes (caught_frame h caught.0)) caught.2 in
             subst (λ (k : Frame). CellsBelow s.world.classes g.regs k.regs) (some-same entry.0 f.0 (sym entry.1 ∙ f.1))
             (subst (λ (k : Frame). CellsBelow s.world.classes k.regs entry.0.regs) (some-same caught.0 g (sym caught.1 ∙ e)) entry.2.regs);
@@ -225,16 +239,20 @@ module _ (same_is : SameTypeDecides) (kept : NeededAreKept) (s : Source) (object
   needed-are q x = kept s.method s.frames q x
 
   -- the value of a local in a frame has a home, which stands
-  pub local-stands : (p : ℕ) (f : Frame) (x : ℕ) (ty : Ty) → s.frames p ≡ Some f → value_in_cells f.regs x ≡ Some ty → Stands s objects r (registers_of s.homes) asks (record { slot = x; ty = ty })
+  pub local-stands : (p : ℕ) (f : Frame) (x : ℕ) (ty : Ty) → s.frames p ≡ Some f → value_in_cells f.regs x ≡ Some ty
+      → Stands s objects r (registers_of s.homes) asks (record { slot = x; ty = ty })
   local-stands p f x ty e v =
       let w = ready.whole p f e in
-      let asked : IsAsked s.method s.frames p x 0 ty = asked_here (subst (λ (o : Option Frame). IsSomeAnd o (λ (g : Frame). value_in_cells g.regs x ≡ Some ty)) (sym e) v) in
-      home-stands (record { slot = x; ty = ty }) (ready.serve.needed p x ty (reached p f e) (0, asked)) (value-plain s.world.classes f.regs x ty v w.known.regs w.regs w.ready)
+      let asked : IsAsked s.method s.frames p x 0 ty = asked_here
+      (subst (λ (o : Option Frame). IsSomeAnd o (λ (g : Frame). value_in_cells g.regs x ≡ Some ty)) (sym e) v) in
+      home-stands (record { slot = x; ty = ty }) (ready.serve.needed p x ty (reached p f e) (0, asked))
+      (value-plain s.world.classes f.regs x ty v w.known.regs w.regs w.ready)
 
   pub record IsServed (q x : ℕ) (h : Home) : Type 0 where
     pub slot : h.slot ≡ x
     pub stands : Stands s objects r (registers_of s.homes) asks h
-    pub above : (regs : List Ty) (f : Frame) (u : Ty) → s.frames q ≡ Some f → CellsBelow s.world.classes regs f.regs → slice_get regs x ≡ Some u → Below s.world.classes u h.ty
+    pub above : (regs : List Ty) (f : Frame) (u : Ty) → s.frames q ≡ Some f → CellsBelow s.world.classes regs f.regs → slice_get regs x ≡ Some u
+        → Below s.world.classes u h.ty
 
   pub needed-served : (q x : ℕ) (h : Home) → IsAmong h (needed s q x) → IsServed q x h
   needed-served q x h a =
@@ -242,6 +260,10 @@ module _ (same_is : SameTypeDecides) (kept : NeededAreKept) (s : Source) (object
       let f = found q x n.1.0 h.ty n.1.1 in
       record {
         slot = n.0;
-        stands = subst (λ (k : ℕ). Stands s objects r (registers_of s.homes) asks (record { slot = k; ty = h.ty })) (sym n.0) (local-stands f.place f.frame x h.ty f.at f.value);
-        above = λ regs g u e le here. cells-at s.world.classes regs f.frame.regs x u h.ty (rules.order.through le (f.above g e)) here (value-is f.frame.regs x h.ty f.value).first;
+        stands =
+            subst (λ (k : ℕ). Stands s objects r (registers_of s.homes) asks (record { slot = k; ty = h.ty })) (sym n.0)
+            (local-stands f.place f.frame x h.ty f.at f.value);
+        above =
+            λ regs g u e le here. cells-at s.world.classes regs f.frame.regs x u h.ty (rules.order.through le (f.above g e)) here
+            (value-is f.frame.regs x h.ty f.value).first;
       }

@@ -1,5 +1,7 @@
 -- The registers of homes: values that are no uninitialised objects, the arguments first.
-use Rattle.std.proofs.Common.{◌≡◌, ◌⊎◌, ℕ, zero, suc, ◌+◌, ◌-◌, ◌<◌, Bool, true, false, if◌then◌else◌, inl, inr, List, [], ◌∷◌, ◌++◌, length, drop, reverse, replicate, slice_get, All, Option, Some, Result, Ok, IsSomeAnd, refl, sym, ◌∙◌, ap, subst, arith, append_assoc, length-append}
+use Rattle.std.proofs.Common.{◌≡◌, ◌⊎◌, ℕ, zero, suc, ◌+◌, ◌-◌, ◌<◌, Bool, true, false, if◌then◌else◌, inl, inr, List, []}
+use Rattle.std.proofs.Common.{◌∷◌, ◌++◌, length, drop, reverse, replicate, slice_get, All, Option, Some, Result, Ok, IsSomeAnd, refl, sym, ◌∙◌}
+use Rattle.std.proofs.Common.{ap, subst, arith, append_assoc, length-append}
 use Rattle.std.proofs.lemmas.List.Sums.{sum_by-cons}
 use Rattle.std.proofs.lemmas.List.Elements.{All-nil, All-cons, All-head, All-tail}
 use Rattle.jc_base.proofs.Lists.{All-reverse}
@@ -57,27 +59,36 @@ module _ (t : ClassTable) (types : IsOrderOfTypes t) where
   pub not-fresh : (a b : Ty) → Below t a b → IsNotFresh b → IsNotTop b → IsNotFresh a
   not-fresh a b le f n = under-fresh a b ((types.decided a b).1 le) f n
 
-  one-taken : (P : Ty → Type 0) (stack : List Ty) (b : Ty) → ((a : Ty) → Below t a b → P a) → IsSomeAnd (slice_get stack 0) (λ found. Below t found b) → All P (drop 1 stack) → All P stack
+  one-taken : (P : Ty → Type 0) (stack : List Ty) (b : Ty) → ((a : Ty) → Below t a b → P a)
+      → IsSomeAnd (slice_get stack 0) (λ found. Below t found b) → All P (drop 1 stack) → All P stack
   one-taken P [] b is h all = absurd h
   one-taken P (a ∷ rest) b is h all = All-cons P a rest (is a h) all
 
   two-taken : (P : Ty → Type 0) (stack : List Ty) (b c : Ty) → ((a : Ty) → Below t a b → P a) → ((a : Ty) → Below t a c → P a)
-      → IsSomeAnd (slice_get stack 0) (λ found. Below t found b) → IsSomeAnd (slice_get stack 1) (λ found. Below t found c) → All P (drop 2 stack) → All P stack
+      → IsSomeAnd (slice_get stack 0) (λ found. Below t found b) → IsSomeAnd (slice_get stack 1) (λ found. Below t found c) → All P (drop 2 stack)
+      → All P stack
   two-taken P [] b c is has h g all = absurd h
   two-taken P (a ∷ []) b c is has h g all = absurd g
   two-taken P (a ∷ d ∷ rest) b c is has h g all = All-cons P a (d ∷ rest) (is a h) (All-cons P d rest (has d g) all)
 
-pub conditional-ready : (w : Linked) (types : IsOrderOfTypes w.classes) (limit : ℕ) (op : Operation) (before after : Frame) (o : Outcome) → IsConditional op → OperationApplies w limit op Flow before after o → All IsNotFresh after.stack → All IsNotFresh before.stack
+pub conditional-ready : (w : Linked) (types : IsOrderOfTypes w.classes) (limit : ℕ) (op : Operation) (before after : Frame) (o : Outcome)
+    → IsConditional op → OperationApplies w limit op Flow before after o → All IsNotFresh after.stack → All IsNotFresh before.stack
 conditional-ready w types limit (ops.Branch branches.Always) f after o is a all = absurd is
-conditional-ready w types limit (ops.Branch (branches.Zero e)) f after o is a all = one-taken w.classes types IsNotFresh f.stack Short (λ x le. not-fresh w.classes types x Short le tt tt) a.asked.0 (subst (All IsNotFresh) a.stack all)
-conditional-ready w types limit (ops.Branch (branches.Null e)) f after o is a all = one-taken w.classes types IsNotFresh f.stack _ (λ x le. not-fresh w.classes types x _ le tt tt) a.asked.0 (subst (All IsNotFresh) a.stack all)
+conditional-ready w types limit (ops.Branch (branches.Zero e)) f after o is a all =
+    one-taken w.classes types IsNotFresh f.stack Short (λ x le. not-fresh w.classes types x Short le tt tt) a.asked.0 (subst (All IsNotFresh) a.stack all)
+conditional-ready w types limit (ops.Branch (branches.Null e)) f after o is a all =
+    one-taken w.classes types IsNotFresh f.stack _ (λ x le. not-fresh w.classes types x _ le tt tt) a.asked.0 (subst (All IsNotFresh) a.stack all)
 conditional-ready w types limit (ops.Branch (branches.References e)) f after o is a all =
-    two-taken w.classes types IsNotFresh f.stack _ _ (λ x le. not-fresh w.classes types x _ le tt tt) (λ x le. not-fresh w.classes types x _ le tt tt) a.asked.0 a.asked.1.0 (subst (All IsNotFresh) a.stack all)
+    two-taken w.classes types IsNotFresh f.stack _ _ (λ x le. not-fresh w.classes types x _ le tt tt) (λ x le. not-fresh w.classes types x _ le tt tt)
+    a.asked.0 a.asked.1.0 (subst (All IsNotFresh) a.stack all)
 conditional-ready w types limit (ops.Branch (branches.Shorts e)) f after o is a all =
-    two-taken w.classes types IsNotFresh f.stack Short Short (λ x le. not-fresh w.classes types x Short le tt tt) (λ x le. not-fresh w.classes types x Short le tt tt) a.asked.0 a.asked.1.0 (subst (All IsNotFresh) a.stack all)
-conditional-ready w types limit (ops.Switch widths.Short) f after o is a all = one-taken w.classes types IsNotFresh f.stack Short (λ x le. not-fresh w.classes types x Short le tt tt) a.asked.0 (subst (All IsNotFresh) a.stack all)
+    two-taken w.classes types IsNotFresh f.stack Short Short (λ x le. not-fresh w.classes types x Short le tt tt)
+    (λ x le. not-fresh w.classes types x Short le tt tt) a.asked.0 a.asked.1.0 (subst (All IsNotFresh) a.stack all)
+conditional-ready w types limit (ops.Switch widths.Short) f after o is a all =
+    one-taken w.classes types IsNotFresh f.stack Short (λ x le. not-fresh w.classes types x Short le tt tt) a.asked.0 (subst (All IsNotFresh) a.stack all)
 conditional-ready w types limit (ops.Switch widths.Int) f after o is a all =
-    two-taken w.classes types IsNotFresh f.stack IntLow IntHigh (λ x le. not-fresh w.classes types x IntLow le tt tt) (λ x le. not-fresh w.classes types x IntHigh le tt tt) a.asked.0 a.asked.1.0 (subst (All IsNotFresh) a.stack all)
+    two-taken w.classes types IsNotFresh f.stack IntLow IntHigh (λ x le. not-fresh w.classes types x IntLow le tt tt)
+    (λ x le. not-fresh w.classes types x IntHigh le tt tt) a.asked.0 a.asked.1.0 (subst (All IsNotFresh) a.stack all)
 conditional-ready w types limit op f after o is a all = absurd is
 
 conditional-jumps : (op : Operation) → IsConditional op → jumps_from op ≡ true
@@ -103,13 +114,16 @@ value-cells types n IntHigh is =
     let next : suc n ≡ n + 1 = omega arith in
     let second = drop-at types (n + 1) IntLow (is.second refl) in
     let end : suc (n + 1) ≡ n + 2 = omega arith in
-    first ∙ ap (λ (k : ℕ). IntHigh ∷ drop k types) next ∙ ap (λ (ts : List Ty). IntHigh ∷ ts) second ∙ ap (λ (k : ℕ). IntHigh ∷ IntLow ∷ drop k types) end
+    first ∙ ap (λ (k : ℕ). IntHigh ∷ drop k types) next ∙ ap (λ (ts : List Ty). IntHigh ∷ ts) second
+    ∙ ap (λ (k : ℕ). IntHigh ∷ IntLow ∷ drop k types) end
 value-cells types n ty is = other ty is.first
   where
     other : (u : Ty) → slice_get types n ≡ Some u → drop n types ≡ u ∷ drop (n + 1) types
     other u e = let next : suc n ≡ n + 1 = omega arith in drop-at types n u e ∙ ap (λ (k : ℕ). u ∷ drop k types) next
 
-registers-are : (types : List Ty) (n : ℕ) (hs : List Home) → SlotsFollow n hs → ((h : Home) → IsAmong h hs → value_in_cells types h.slot ≡ Some h.ty) → n + register_sum hs ≡ length types → registers_of hs ≡ drop n types
+registers-are : (types : List Ty) (n : ℕ) (hs : List Home) → SlotsFollow n hs
+    → ((h : Home) → IsAmong h hs → value_in_cells types h.slot ≡ Some h.ty) → n + register_sum hs ≡ length types
+    → registers_of hs ≡ drop n types
 unfolding register_sum
 registers-are types n [] st is e = let here : n ≡ length types = omega (arith, e) in sym (ap (λ (k : ℕ). drop k types) here ∙ drop-all types)
 registers-are types n (h ∷ hs) st is e =
@@ -120,7 +134,9 @@ registers-are types n (h ∷ hs) st is e =
 
 registers-append : (hs ks : List Home) → registers_of (hs ++ ks) ≡ registers_of hs ++ registers_of ks
 registers-append [] ks = refl
-registers-append (h ∷ hs) ks = ap (λ (ts : List Ty). cells_of_value h.ty ++ ts) (registers-append hs ks) ∙ sym (append_assoc (cells_of_value h.ty) (registers_of hs) (registers_of ks))
+registers-append (h ∷ hs) ks =
+    ap (λ (ts : List Ty). cells_of_value h.ty ++ ts) (registers-append hs ks)
+    ∙ sym (append_assoc (cells_of_value h.ty) (registers_of hs) (registers_of ks))
 
 cells-width : (ty : Ty) → length (cells_of_value ty) ≡ type_width ty
 cells-width IntHigh = refl
@@ -130,12 +146,14 @@ pub registers-length : (hs : List Home) → length (registers_of hs) ≡ registe
 unfolding register_sum
 registers-length [] = refl
 registers-length (h ∷ hs) =
-    length-append (cells_of_value h.ty) (registers_of hs) ∙ omega (arith, cells-width h.ty, registers-length hs, sum_by-cons (λ (i : Home). type_width i.ty) h hs)
+    length-append (cells_of_value h.ty) (registers_of hs)
+    ∙ omega (arith, cells-width h.ty, registers-length hs, sum_by-cons (λ (i : Home). type_width i.ty) h hs)
 
 sum-append : (hs ks : List Home) → register_sum (hs ++ ks) ≡ register_sum hs + register_sum ks
 unfolding register_sum
 sum-append [] ks = omega arith
-sum-append (h ∷ hs) ks = omega (arith, sum_by-cons (λ (i : Home). type_width i.ty) h (hs ++ ks), sum_by-cons (λ (i : Home). type_width i.ty) h hs, sum-append hs ks)
+sum-append (h ∷ hs) ks =
+    omega (arith, sum_by-cons (λ (i : Home). type_width i.ty) h (hs ++ ks), sum_by-cons (λ (i : Home). type_width i.ty) h hs, sum-append hs ks)
 
 bottom-below : (t : ClassTable) (ts : List Ty) (n : ℕ) → length ts ≡ n → CellsBelow t (replicate n Bottom) ts
 bottom-below t [] zero e = no_cells
@@ -163,21 +181,26 @@ plain-ready : (ty : Ty) → IsPlainValue ty → IsNotFresh ty
 plain-ready (Fresh p c) h = absurd h
 plain-ready ty h = tt
 
-module _ (same_is : SameTypeDecides) (kept : NeededAreKept) (s : Source) (objects : ClassesAreObjects s.world.classes) (rules : AreRules s.world) (ready : IsReady s) (r : MethodRec) (asks : ℕ → Asked) where
+module _ (same_is : SameTypeDecides) (kept : NeededAreKept) (s : Source) (objects : ClassesAreObjects s.world.classes) (rules : AreRules s.world)
+    (ready : IsReady s) (r : MethodRec) (asks : ℕ → Asked) where
   module _ (alike : OperationsGoAlike s.world) (code : IsCode s) where
     -- a stack that is kept has no uninitialised object
     pub kept-ready : (p : ℕ) (f : Frame) → s.frames p ≡ Some f → KeepsStack s.world s.method s.frames p → All IsNotFresh f.stack
-    kept-ready p f e (inl leader) = let g = framed same_is kept s objects rules ready r asks (s.frames p) (λ f. All IsNotFresh f.stack) (ready.typing.leaders p leader) in subst (λ (k : Frame). All IsNotFresh k.stack) (some-same g.0 f (sym g.1 ∙ e)) g.2
+    kept-ready p f e (inl leader) =
+        let g = framed same_is kept s objects rules ready r asks (s.frames p) (λ f. All IsNotFresh f.stack) (ready.typing.leaders p leader) in
+        subst (λ (k : Frame). All IsNotFresh k.stack) (some-same g.0 f (sym g.1 ∙ e)) g.2
       where
         some-same : (f g : Frame) → ◌≡◌ {A = Option Frame} (Some f) (Some g) → f ≡ g
         some-same f g e = cc
     kept-ready p f e (inr b) =
         let i = b.instruction in
         let at : s.frames i.place ≡ Some f = ap s.frames b.at ∙ e in
-        let g = framed same_is kept s objects rules ready r asks (s.frames i.place) (IsFollowed s.world s.method s.frames i) (ready.typing.rules i b.stands (reached same_is kept s objects rules ready r asks i.place f at)) in
+        let g = framed same_is kept s objects rules ready r asks (s.frames i.place) (IsFollowed s.world s.method s.frames i)
+        (ready.typing.rules i b.stands (reached same_is kept s objects rules ready r asks i.place f at)) in
         let own : g.0 ≡ f = some-same g.0 f (sym g.1 ∙ at) in
         let step = g.2.steps.1 in
-        let same_op : step.operation ≡ b.operation = ok-same step.operation b.operation (step.resolves ∙ sym (subst (λ (q : ℕ). Resolves s.world s.method.rec q i.insn (Ok b.operation)) (sym b.at) b.resolves)) in
+        let same_op : step.operation ≡ b.operation = ok-same step.operation b.operation
+        (step.resolves ∙ sym (subst (λ (q : ℕ). Resolves s.world s.method.rec q i.insn (Ok b.operation)) (sym b.at) b.resolves)) in
         let decoded = (rules.listed s.method.code).decodes i b.stands in
         let small : i.insn.op < 256 = op-fits s.method.code i.place i.insn code.bytes decoded in
         let go = alike s.method.rec i.place i.insn step.operation small step.resolves in
@@ -202,7 +225,8 @@ module _ (same_is : SameTypeDecides) (kept : NeededAreKept) (s : Source) (object
         let f = framed same_is kept s objects rules ready r asks (s.frames p) (λ (g : Frame). value_in_cells (reverse g.stack) i ≡ Some ty) at in
         let w = ready.whole p f.0 f.1 in
         value-plain s.world.classes (reverse f.0.stack) i ty f.2
-        (All-reverse (IsKnown s.world.classes) f.0.stack w.known.stack) (All-reverse IsNotBottom f.0.stack w.stack) (All-reverse IsNotFresh f.0.stack (kept-ready p f.0 f.1 keeps))
+        (All-reverse (IsKnown s.world.classes) f.0.stack w.known.stack) (All-reverse IsNotBottom f.0.stack w.stack)
+        (All-reverse IsNotFresh f.0.stack (kept-ready p f.0 f.1 keeps))
 
     module _ (mo : IsMethodOf s.world s.method) (derived : DerivedAreWhole s.world) (are : AreHomes s.world s.method s.frames s.homes) where
       start_whole : IsWholeFrame s.world (start_frame s.method.rec Top)
@@ -224,7 +248,9 @@ module _ (same_is : SameTypeDecides) (kept : NeededAreKept) (s : Source) (object
       home-plain h a = by (IsAmong-append_cases h are.arguments are.others (subst (IsAmong h) are.parts a))
         where
           by : IsAmong h are.arguments ⊎ IsAmong h are.others → IsPlainValue h.ty × IsKnown s.world.classes h.ty
-          by (inl argument) = value-plain s.world.classes (argument_types s.method.rec) h.slot h.ty ((are.declared h).0 argument) arguments-known arguments-full arguments-ready
+          by (inl argument) =
+              value-plain s.world.classes (argument_types s.method.rec) h.slot h.ty ((are.declared h).0 argument) arguments-known arguments-full
+              arguments-ready
           by (inr other) = let m = ((are.met h).0 other).0 in met-plain m.0 h m.1
 
       pub registers-known : All (IsKnown s.world.classes) (registers_of s.homes)
@@ -243,12 +269,17 @@ module _ (same_is : SameTypeDecides) (kept : NeededAreKept) (s : Source) (object
           length-append (receiver_of s.method.rec) s.method.rec.sig.args ∙ omega (arith, receiver-length s.method.rec.is_static, is.words)
 
       -- the arguments stand at their registers, and the other registers are free at the start
-      pub registers-declared : CellsBelow s.world.classes (argument_types s.method.rec ++ replicate (register_sum s.homes - s.method.rec.nargs) Bottom) (registers_of s.homes)
+      pub registers-declared : CellsBelow s.world.classes (argument_types s.method.rec ++ replicate (register_sum s.homes - s.method.rec.nargs) Bottom)
+          (registers_of s.homes)
       registers-declared =
-          let first : registers_of are.arguments ≡ argument_types s.method.rec = registers-are (argument_types s.method.rec) 0 are.arguments are.stand (λ h a. (are.declared h).0 a) (omega (arith, are.filled, arguments-length)) in
+          let first : registers_of are.arguments ≡ argument_types s.method.rec = registers-are (argument_types s.method.rec) 0 are.arguments are.stand
+          (λ h a. (are.declared h).0 a) (omega (arith, are.filled, arguments-length)) in
           let rest : length (registers_of are.others) ≡ register_sum s.homes - s.method.rec.nargs =
           omega (arith, registers-length are.others, ap register_sum are.parts, sum-append are.arguments are.others, are.filled) in
-          let whole : argument_types s.method.rec ++ registers_of are.others ≡ registers_of s.homes = ap (λ (ts : List Ty). ts ++ registers_of are.others) (sym first) ∙ sym (registers-append are.arguments are.others) ∙ ap registers_of (sym are.parts) in
+          let whole : argument_types s.method.rec ++ registers_of are.others ≡ registers_of s.homes = ap
+          (λ (ts : List Ty). ts ++ registers_of are.others) (sym first) ∙ sym (registers-append are.arguments are.others)
+          ∙ ap registers_of (sym are.parts) in
           subst (CellsBelow s.world.classes (argument_types s.method.rec ++ replicate (register_sum s.homes - s.method.rec.nargs) Bottom)) whole
-          (both-below s.world.classes (replicate (register_sum s.homes - s.method.rec.nargs) Bottom) (registers_of are.others) (rules.order.self (argument_types s.method.rec))
+          (both-below s.world.classes (replicate (register_sum s.homes - s.method.rec.nargs) Bottom) (registers_of are.others)
+          (rules.order.self (argument_types s.method.rec))
           (bottom-below s.world.classes (registers_of are.others) (register_sum s.homes - s.method.rec.nargs) rest))

@@ -1,6 +1,8 @@
 -- Uninitialised objects carry the place of the `new` that makes them. Where such places have other numbers, each to its own, what an
 -- operation does to the stack is the same but for these numbers.
-use Rattle.std.proofs.Common.{◌≡◌, ℕ, zero, suc, ◌+◌, ◌-◌, Bool, true, false, ◌==◌, if◌then◌else◌, inl, inr, List, [], ◌∷◌, ◌++◌, length, map, take, drop, slice_get, Option, Some, None, IsSomeAnd, IfSome, option_map, refl, sym, ◌∙◌, ap, subst, arith}
+use Rattle.std.proofs.Common.{◌≡◌, ℕ, zero, suc, ◌+◌, ◌-◌, Bool, true, false, ◌==◌, if◌then◌else◌, inl, inr, List, [], ◌∷◌}
+use Rattle.std.proofs.Common.{◌++◌, length, map, take, drop, slice_get, Option, Some, None, IsSomeAnd, IfSome, option_map, refl, sym, ◌∙◌, ap, subst}
+use Rattle.std.proofs.Common.{arith}
 use Rattle.std.specs.Prelude.{⊤}
 use Rattle.std.proofs.lemmas.Bool.Decides.{nat_tests}
 use Rattle.std.proofs.lemmas.List.{drop-map, take-map, map-append, length-map}
@@ -85,7 +87,8 @@ module _ (new : ℕ → ℕ) (apart : (a b : ℕ) → new a ≡ new b → a ≡ 
     half-at None half h e = absurd (cc)
     half-at (Some found) half h e = let own : named found ≡ half = cc in ap Some (half-named found half h own)
 
-    hold-named : (regs st : List Ty) (d : Demand) → IsSteady d → Satisfies t (record { regs = regs; stack = st }) d → Satisfies t (record { regs = regs; stack = map named st }) d
+    hold-named : (regs st : List Ty) (d : Demand) → IsSteady d → Satisfies t (record { regs = regs; stack = st }) d
+        → Satisfies t (record { regs = regs; stack = map named st }) d
     hold-named regs st (Registers x n) s h = h
     hold-named regs st (Depth n) s h = omega (arith, h, length-map st named)
     hold-named regs st (Cell n want) s h = subst (λ (o : Option Ty). IsSomeAnd o (Meets t want)) (sym (slice_get-map named st n)) (by (slice_get st n) h)
@@ -93,10 +96,15 @@ module _ (new : ℕ → ℕ) (apart : (a b : ℕ) → new a ≡ new b → a ≡ 
         by : (o : Option Ty) → IsSomeAnd o (Meets t want) → IsSomeAnd (option_map named o) (Meets t want)
         by None h = h
         by (Some found) h = meets-named want found s h
-    hold-named regs st (Cut n) s h = λ split. h (half-at (slice_get st (n - 1)) IntLow tt (sym (slice_get-map named st (n - 1)) ∙ split.0), half-at (slice_get st n) IntHigh tt (sym (slice_get-map named st n) ∙ split.1))
+    hold-named regs st (Cut n) s h =
+        λ split. h (
+          half-at (slice_get st (n - 1)) IntLow tt (sym (slice_get-map named st (n - 1)) ∙ split.0),
+          half-at (slice_get st n) IntHigh tt (sym (slice_get-map named st n) ∙ split.1),
+        )
     hold-named regs st (Held x ty) s h = h
 
-    pub all-named : (regs st : List Ty) (ds : List Demand) → Each IsSteady ds → SatisfiesAll t (record { regs = regs; stack = st }) ds → SatisfiesAll t (record { regs = regs; stack = map named st }) ds
+    pub all-named : (regs st : List Ty) (ds : List Demand) → Each IsSteady ds → SatisfiesAll t (record { regs = regs; stack = st }) ds
+        → SatisfiesAll t (record { regs = regs; stack = map named st }) ds
     all-named regs st [] s h = tt
     all-named regs st (d ∷ ds) s h = (hold-named regs st d s.0 h.0, all-named regs st ds s.1 h.1)
 
@@ -105,7 +113,8 @@ module _ (new : ℕ → ℕ) (apart : (a b : ℕ) → new a ≡ new b → a ≡ 
   ready-named : (p d : ℕ) (ty : Ty) → ready (new p) d (named ty) ≡ named (ready p d ty)
   ready-named p d (Fresh q c) = by (q == p) refl (new q == new p) refl
     where
-      by : (a : Bool) → (q == p) ≡ a → (b : Bool) → (new q == new p) ≡ b → (if b then Class d else Fresh (new q) c) ≡ named (if a then Class d else Fresh q c)
+      by : (a : Bool) → (q == p) ≡ a → (b : Bool) → (new q == new p) ≡ b → (if b then Class d else Fresh (new q) c)
+          ≡ named (if a then Class d else Fresh q c)
       by true e true f = refl
       by false e false f = refl
       by true e false f = let own : q ≡ p = grind (arith, nat_tests, e) in absurd (differ (new q) (new p) (ap new own) f)
@@ -120,23 +129,28 @@ module _ (new : ℕ → ℕ) (apart : (a b : ℕ) → new a ≡ new b → a ≡ 
 
   map-ready : (p d : ℕ) (st : List Ty) → map (ready (new p) d) (map named st) ≡ map named (map (ready p d) st)
   map-ready p d [] = refl
-  map-ready p d (ty ∷ st) = ap (λ (u : Ty). u ∷ map (ready (new p) d) (map named st)) (ready-named p d ty) ∙ ap (λ (us : List Ty). named (ready p d ty) ∷ us) (map-ready p d st)
+  map-ready p d (ty ∷ st) =
+      ap (λ (u : Ty). u ∷ map (ready (new p) d) (map named st)) (ready-named p d ty)
+      ∙ ap (λ (us : List Ty). named (ready p d ty) ∷ us) (map-ready p d st)
 
   pub cell-named : (st : List Ty) (n : ℕ) → cell (map named st) n ≡ named (cell st n)
   cell-named [] n = refl
   cell-named (ty ∷ st) zero = refl
   cell-named (ty ∷ st) (suc n) = cell-named st n
 
-  pub replaced : (n : ℕ) (cells others : Cells) (st : List Ty) → in_stack_order others ≡ map named (in_stack_order cells) → changed (Replace n others) (map named st) ≡ map named (changed (Replace n cells) st)
+  pub replaced : (n : ℕ) (cells others : Cells) (st : List Ty) → in_stack_order others ≡ map named (in_stack_order cells)
+      → changed (Replace n others) (map named st) ≡ map named (changed (Replace n cells) st)
   replaced n cells others st e =
-      ap (λ (us : List Ty). us ++ drop n (map named st)) e ∙ ap (λ (us : List Ty). map named (in_stack_order cells) ++ us) (drop-map named n st) ∙ sym (map-append named (in_stack_order cells) (drop n st))
+      ap (λ (us : List Ty). us ++ drop n (map named st)) e ∙ ap (λ (us : List Ty). map named (in_stack_order cells) ++ us) (drop-map named n st)
+      ∙ sym (map-append named (in_stack_order cells) (drop n st))
 
   pub value-same : (ty : Ty) → IsNotFresh ty → in_stack_order (value_given ty) ≡ map named (in_stack_order (value_given ty))
   value-same IntHigh h = refl
   value-same (Fresh p c) h = absurd h
   value-same ty h = refl
 
-  pub result-same : (result : Option Ty) → IfSome result IsNotFresh → in_stack_order (result_given result) ≡ map named (in_stack_order (result_given result))
+  pub result-same : (result : Option Ty) → IfSome result IsNotFresh → in_stack_order (result_given result)
+      ≡ map named (in_stack_order (result_given result))
   result-same None h = refl
   result-same (Some ty) h = value-same ty h
 
@@ -180,7 +194,8 @@ module _ (new : ℕ → ℕ) (apart : (a b : ℕ) → new a ≡ new b → a ≡ 
   ready-with-named n cells ty want st e = replaced n cells cells st e
 
   pub call-named : (args : List Ty) (cells : Cells) (receiver : Option Want) (regs st : List Ty) → in_stack_order cells ≡ map named (in_stack_order cells)
-      → changed (call_change args cells receiver (record { regs = regs; stack = map named st })) (map named st) ≡ map named (changed (call_change args cells receiver (record { regs = regs; stack = st })) st)
+      → changed (call_change args cells receiver (record { regs = regs; stack = map named st })) (map named st)
+      ≡ map named (changed (call_change args cells receiver (record { regs = regs; stack = st })) st)
   call-named args cells None regs st e = replaced (length args) cells cells st e
   call-named args cells (Some want) regs st e =
       ap (λ (ty : Ty). changed (ready_with (length args + 1) cells ty want) (map named st)) (cell-named st (length args))

@@ -1,5 +1,6 @@
 -- The operations of the instructions that rewriting emits in place of others: rows of the table at their opcodes.
-use Rattle.std.proofs.Common.{◌≡◌, ◌⊎◌, ℕ, ◌-◌, ◌%◌, ◌<◌, ◌==◌, Bool, true, false, ◌||◌, if◌then◌else◌, inl, inr, List, [], ◌∷◌, map, replicate, Result, Ok, Err, refl, sym, ◌∙◌, ap, subst, arith}
+use Rattle.std.proofs.Common.{◌≡◌, ◌⊎◌, ℕ, ◌-◌, ◌%◌, ◌<◌, ◌==◌, Bool, true, false, ◌||◌, if◌then◌else◌, inl, inr, List}
+use Rattle.std.proofs.Common.{[], ◌∷◌, map, replicate, Result, Ok, Err, refl, sym, ◌∙◌, ap, subst, arith}
 use Rattle.std.specs.Prelude.{pos, ℤ}
 use Rattle.std.specs.List.{range_with_len}
 use Rattle.std.proofs.lemmas.Bool.Decides.{nat_tests}
@@ -73,7 +74,8 @@ one-of op a b c d e = by (op == a) (op == b) (op == c) (op == d) refl refl refl 
     is : (m : ℕ) → (op == m) ≡ true → op ≡ m
     is m e = grind (arith, nat_tests, e)
 
-    by : (p q r s : Bool) → (op == a) ≡ p → (op == b) ≡ q → (op == c) ≡ r → (op == d) ≡ s → (p || (q || (r || s))) ≡ true → (op ≡ a) ⊎ (op ≡ b) ⊎ (op ≡ c) ⊎ (op ≡ d)
+    by : (p q r s : Bool) → (op == a) ≡ p → (op == b) ≡ q → (op == c) ≡ r → (op == d) ≡ s → (p || (q || (r || s))) ≡ true → (op ≡ a)
+        ⊎ (op ≡ b) ⊎ (op ≡ c) ⊎ (op ≡ d)
     by true q r s e f g h t = inl (is a e)
     by false true r s e f g h t = inr (inl (is b f))
     by false false true s e f g h t = inr (inr (inl (is c g)))
@@ -95,26 +97,31 @@ at-register k op = op
 
 -- an increment of another register
 pub increased-at : (w : Linked) (m r : MethodRec) (place n : ℕ) (i : Insn) (width : Width) (x k : ℕ) (amount : ℤ) → i.op < 256 → k < 256
-    → resolved w m place i (row_at i.op) ≡ Ok (ops.Increment width x amount) → resolved w r n (record i { x = pos k }) (row_at i.op) ≡ Ok (ops.Increment width k amount)
+    → resolved w m place i (row_at i.op) ≡ Ok (ops.Increment width x amount) → resolved w r n (record i { x = pos k }) (row_at i.op)
+    ≡ Ok (ops.Increment width k amount)
 unfolding row_at table by_sort by_width by_kind first_four by_register literals binaries orders_all branching unused at-register
-increased-at w m r place n i width x k amount lt small e = by (one-of i.op 89 90 150 151 (when (is_increase (kind_at i.op)) _ (ap is_increase (sym is)) (passed-at increases increases-all i.op lt)))
+increased-at w m r place n i width x k amount lt small e =
+    by (one-of i.op 89 90 150 151 (when (is_increase (kind_at i.op)) _ (ap is_increase (sym is)) (passed-at increases increases-all i.op lt)))
   where
     is : kind.increasing ≡ kind_at i.op
     is = kind-of w m place i (ops.Increment width x amount) lt e
 
-    again : (op : ℕ) → i.op ≡ op → resolved w r n (record i { x = pos k }) (row_at op) ≡ Ok (ops.Increment width k amount) → resolved w r n (record i { x = pos k }) (row_at i.op) ≡ Ok (ops.Increment width k amount)
+    again : (op : ℕ) → i.op ≡ op → resolved w r n (record i { x = pos k }) (row_at op) ≡ Ok (ops.Increment width k amount)
+        → resolved w r n (record i { x = pos k }) (row_at i.op) ≡ Ok (ops.Increment width k amount)
     again op own f = ap (λ o. resolved w r n (record i { x = pos k }) (row_at o)) own ∙ f
 
     here : (op : ℕ) → i.op ≡ op → resolved w m place i (row_at op) ≡ Ok (ops.Increment width x amount)
     here op own = ap (λ o. resolved w m place i (row_at o)) (sym own) ∙ e
 
-    moved : (a : Operation) → ◌≡◌ {A = Result Operation RuleFault} (Ok a) (Ok (ops.Increment width x amount)) → ◌≡◌ {A = Result Operation RuleFault} (Ok (at-register k a)) (Ok (ops.Increment width k amount))
+    moved : (a : Operation) → ◌≡◌ {A = Result Operation RuleFault} (Ok a) (Ok (ops.Increment width x amount))
+        → ◌≡◌ {A = Result Operation RuleFault} (Ok (at-register k a)) (Ok (ops.Increment width k amount))
     moved a f = ap (λ o. Ok (at-register k o)) (ok-same f)
 
     byte : (v : Width) → ◌≡◌ {A = Result Operation RuleFault} (Ok (ops.Increment v (k % 256) i.y)) (Ok (ops.Increment v k i.y))
     byte v = ap (λ (j : ℕ). Ok (ops.Increment v j i.y)) (byte-small k small)
 
-    by : (i.op ≡ 89) ⊎ (i.op ≡ 90) ⊎ (i.op ≡ 150) ⊎ (i.op ≡ 151) → resolved w r n (record i { x = pos k }) (row_at i.op) ≡ Ok (ops.Increment width k amount)
+    by : (i.op ≡ 89) ⊎ (i.op ≡ 90) ⊎ (i.op ≡ 150) ⊎ (i.op ≡ 151) → resolved w r n (record i { x = pos k }) (row_at i.op)
+        ≡ Ok (ops.Increment width k amount)
     by (inl own) = again 89 own (byte _ ∙ moved _ (here 89 own))
     by (inr (inl own)) = again 90 own (byte _ ∙ moved _ (here 90 own))
     by (inr (inr (inl own))) = again 150 own (byte _ ∙ moved _ (here 150 own))
@@ -127,21 +134,25 @@ on-stack (ops.FieldRead f h) = ops.FieldRead f holders.Stack
 on-stack (ops.FieldWrite f h) = ops.FieldWrite f holders.Stack
 on-stack op = op
 
-read-again : (found : Result InstanceField RuleFault) (f : InstanceField) → on (λ g. ops.FieldRead g holders.This) found ≡ Ok (ops.FieldRead f holders.This) → on (λ g. ops.FieldRead g holders.Stack) found ≡ Ok (ops.FieldRead f holders.Stack)
+read-again : (found : Result InstanceField RuleFault) (f : InstanceField) → on (λ g. ops.FieldRead g holders.This) found
+    ≡ Ok (ops.FieldRead f holders.This) → on (λ g. ops.FieldRead g holders.Stack) found ≡ Ok (ops.FieldRead f holders.Stack)
 unfolding on-stack
 read-again (Ok g) f e = ap (λ o. Ok (on-stack o)) (ok-same e)
 read-again (Err fault) f e = absurd (cc)
 
-write-again : (found : Result InstanceField RuleFault) (f : InstanceField) → on (λ g. ops.FieldWrite g holders.This) found ≡ Ok (ops.FieldWrite f holders.This) → on (λ g. ops.FieldWrite g holders.Stack) found ≡ Ok (ops.FieldWrite f holders.Stack)
+write-again : (found : Result InstanceField RuleFault) (f : InstanceField) → on (λ g. ops.FieldWrite g holders.This) found
+    ≡ Ok (ops.FieldWrite f holders.This) → on (λ g. ops.FieldWrite g holders.Stack) found ≡ Ok (ops.FieldWrite f holders.Stack)
 unfolding on-stack
 write-again (Ok g) f e = ap (λ o. Ok (on-stack o)) (ok-same e)
 write-again (Err fault) f e = absurd (cc)
 
 -- a read of a field of `this`, as that of an object on the stack
 pub read-on-stack : (w : Linked) (m r : MethodRec) (place n : ℕ) (i : Insn) (f : InstanceField) → i.op < 256 → m.package ≡ r.package
-    → resolved w m place i (row_at i.op) ≡ Ok (ops.FieldRead f holders.This) → resolved w r n (record i { op = i.op - 42 }) (row_at (i.op - 42)) ≡ Ok (ops.FieldRead f holders.Stack)
+    → resolved w m place i (row_at i.op) ≡ Ok (ops.FieldRead f holders.This) → resolved w r n (record i { op = i.op - 42 }) (row_at (i.op - 42))
+    ≡ Ok (ops.FieldRead f holders.Stack)
 unfolding row_at table by_sort by_width by_kind first_four by_register literals binaries orders_all branching unused
-read-on-stack w m r place n i f lt home e = by (one-of i.op 173 174 175 176 (when (is_reading (kind_at i.op)) _ (ap is_reading (sym is)) (passed-at reads reads-all i.op lt)))
+read-on-stack w m r place n i f lt home e =
+    by (one-of i.op 173 174 175 176 (when (is_reading (kind_at i.op)) _ (ap is_reading (sym is)) (passed-at reads reads-all i.op lt)))
   where
     is : kind.reading ≡ kind_at i.op
     is = kind-of w m place i (ops.FieldRead f holders.This) lt e
@@ -149,17 +160,24 @@ read-on-stack w m r place n i f lt home e = by (one-of i.op 173 174 175 176 (whe
     here : (op : ℕ) → i.op ≡ op → resolved w m place i (row_at op) ≡ Ok (ops.FieldRead f holders.This)
     here op own = ap (λ o. resolved w m place i (row_at o)) (sym own) ∙ e
 
-    again : (op : ℕ) → i.op ≡ op → resolved w r n (record i { op = op - 42 }) (row_at (op - 42)) ≡ Ok (ops.FieldRead f holders.Stack) → resolved w r n (record i { op = i.op - 42 }) (row_at (i.op - 42)) ≡ Ok (ops.FieldRead f holders.Stack)
+    again : (op : ℕ) → i.op ≡ op → resolved w r n (record i { op = op - 42 }) (row_at (op - 42)) ≡ Ok (ops.FieldRead f holders.Stack)
+        → resolved w r n (record i { op = i.op - 42 }) (row_at (i.op - 42)) ≡ Ok (ops.FieldRead f holders.Stack)
     again op own g = ap (λ o. resolved w r n (record i { op = o - 42 }) (row_at (o - 42))) own ∙ g
 
-    member : (k : Kind) → instance_field w.classes (short_of i.x) k (member_at w r.package (short_of i.x)) ≡ instance_field w.classes (short_of i.x) k (member_at w m.package (short_of i.x))
+    member : (k : Kind) → instance_field w.classes (short_of i.x) k (member_at w r.package (short_of i.x)) ≡ instance_field w.classes (short_of i.x) k
+        (member_at w m.package (short_of i.x))
     member k = ap (λ p. instance_field w.classes (short_of i.x) k (member_at w p (short_of i.x))) (sym home)
 
-    row : (k : Kind) → on (λ g. ops.FieldRead g holders.This) (instance_field w.classes (short_of i.x) k (member_at w m.package (short_of i.x))) ≡ Ok (ops.FieldRead f holders.This)
-        → on (λ g. ops.FieldRead g holders.Stack) (instance_field w.classes (short_of i.x) k (member_at w r.package (short_of i.x))) ≡ Ok (ops.FieldRead f holders.Stack)
-    row k g = ap (on (λ g. ops.FieldRead g holders.Stack)) (member k) ∙ read-again (instance_field w.classes (short_of i.x) k (member_at w m.package (short_of i.x))) f g
+    row : (k : Kind) → on (λ g. ops.FieldRead g holders.This) (instance_field w.classes (short_of i.x) k (member_at w m.package (short_of i.x)))
+        ≡ Ok (ops.FieldRead f holders.This)
+        → on (λ g. ops.FieldRead g holders.Stack) (instance_field w.classes (short_of i.x) k (member_at w r.package (short_of i.x)))
+        ≡ Ok (ops.FieldRead f holders.Stack)
+    row k g =
+        ap (on (λ g. ops.FieldRead g holders.Stack)) (member k)
+        ∙ read-again (instance_field w.classes (short_of i.x) k (member_at w m.package (short_of i.x))) f g
 
-    by : (i.op ≡ 173) ⊎ (i.op ≡ 174) ⊎ (i.op ≡ 175) ⊎ (i.op ≡ 176) → resolved w r n (record i { op = i.op - 42 }) (row_at (i.op - 42)) ≡ Ok (ops.FieldRead f holders.Stack)
+    by : (i.op ≡ 173) ⊎ (i.op ≡ 174) ⊎ (i.op ≡ 175) ⊎ (i.op ≡ 176) → resolved w r n (record i { op = i.op - 42 }) (row_at (i.op - 42))
+        ≡ Ok (ops.FieldRead f holders.Stack)
     by (inl own) = again 173 own (row cells.Ref (here 173 own))
     by (inr (inl own)) = again 174 own (row cells.Byte (here 174 own))
     by (inr (inr (inl own))) = again 175 own (row cells.Short (here 175 own))
@@ -167,9 +185,11 @@ read-on-stack w m r place n i f lt home e = by (one-of i.op 173 174 175 176 (whe
 
 -- a write of a field of `this`, as that of an object on the stack
 pub write-on-stack : (w : Linked) (m r : MethodRec) (place n : ℕ) (i : Insn) (f : InstanceField) → i.op < 256 → m.package ≡ r.package
-    → resolved w m place i (row_at i.op) ≡ Ok (ops.FieldWrite f holders.This) → resolved w r n (record i { op = i.op - 46 }) (row_at (i.op - 46)) ≡ Ok (ops.FieldWrite f holders.Stack)
+    → resolved w m place i (row_at i.op) ≡ Ok (ops.FieldWrite f holders.This) → resolved w r n (record i { op = i.op - 46 }) (row_at (i.op - 46))
+    ≡ Ok (ops.FieldWrite f holders.Stack)
 unfolding row_at table by_sort by_width by_kind first_four by_register literals binaries orders_all branching unused
-write-on-stack w m r place n i f lt home e = by (one-of i.op 181 182 183 184 (when (is_writing (kind_at i.op)) _ (ap is_writing (sym is)) (passed-at writes writes-all i.op lt)))
+write-on-stack w m r place n i f lt home e =
+    by (one-of i.op 181 182 183 184 (when (is_writing (kind_at i.op)) _ (ap is_writing (sym is)) (passed-at writes writes-all i.op lt)))
   where
     is : kind.writing ≡ kind_at i.op
     is = kind-of w m place i (ops.FieldWrite f holders.This) lt e
@@ -177,17 +197,24 @@ write-on-stack w m r place n i f lt home e = by (one-of i.op 181 182 183 184 (wh
     here : (op : ℕ) → i.op ≡ op → resolved w m place i (row_at op) ≡ Ok (ops.FieldWrite f holders.This)
     here op own = ap (λ o. resolved w m place i (row_at o)) (sym own) ∙ e
 
-    again : (op : ℕ) → i.op ≡ op → resolved w r n (record i { op = op - 46 }) (row_at (op - 46)) ≡ Ok (ops.FieldWrite f holders.Stack) → resolved w r n (record i { op = i.op - 46 }) (row_at (i.op - 46)) ≡ Ok (ops.FieldWrite f holders.Stack)
+    again : (op : ℕ) → i.op ≡ op → resolved w r n (record i { op = op - 46 }) (row_at (op - 46)) ≡ Ok (ops.FieldWrite f holders.Stack)
+        → resolved w r n (record i { op = i.op - 46 }) (row_at (i.op - 46)) ≡ Ok (ops.FieldWrite f holders.Stack)
     again op own g = ap (λ o. resolved w r n (record i { op = o - 46 }) (row_at (o - 46))) own ∙ g
 
-    member : (k : Kind) → instance_field w.classes (short_of i.x) k (member_at w r.package (short_of i.x)) ≡ instance_field w.classes (short_of i.x) k (member_at w m.package (short_of i.x))
+    member : (k : Kind) → instance_field w.classes (short_of i.x) k (member_at w r.package (short_of i.x)) ≡ instance_field w.classes (short_of i.x) k
+        (member_at w m.package (short_of i.x))
     member k = ap (λ p. instance_field w.classes (short_of i.x) k (member_at w p (short_of i.x))) (sym home)
 
-    row : (k : Kind) → on (λ g. ops.FieldWrite g holders.This) (instance_field w.classes (short_of i.x) k (member_at w m.package (short_of i.x))) ≡ Ok (ops.FieldWrite f holders.This)
-        → on (λ g. ops.FieldWrite g holders.Stack) (instance_field w.classes (short_of i.x) k (member_at w r.package (short_of i.x))) ≡ Ok (ops.FieldWrite f holders.Stack)
-    row k g = ap (on (λ g. ops.FieldWrite g holders.Stack)) (member k) ∙ write-again (instance_field w.classes (short_of i.x) k (member_at w m.package (short_of i.x))) f g
+    row : (k : Kind) → on (λ g. ops.FieldWrite g holders.This) (instance_field w.classes (short_of i.x) k (member_at w m.package (short_of i.x)))
+        ≡ Ok (ops.FieldWrite f holders.This)
+        → on (λ g. ops.FieldWrite g holders.Stack) (instance_field w.classes (short_of i.x) k (member_at w r.package (short_of i.x)))
+        ≡ Ok (ops.FieldWrite f holders.Stack)
+    row k g =
+        ap (on (λ g. ops.FieldWrite g holders.Stack)) (member k)
+        ∙ write-again (instance_field w.classes (short_of i.x) k (member_at w m.package (short_of i.x))) f g
 
-    by : (i.op ≡ 181) ⊎ (i.op ≡ 182) ⊎ (i.op ≡ 183) ⊎ (i.op ≡ 184) → resolved w r n (record i { op = i.op - 46 }) (row_at (i.op - 46)) ≡ Ok (ops.FieldWrite f holders.Stack)
+    by : (i.op ≡ 181) ⊎ (i.op ≡ 182) ⊎ (i.op ≡ 183) ⊎ (i.op ≡ 184) → resolved w r n (record i { op = i.op - 46 }) (row_at (i.op - 46))
+        ≡ Ok (ops.FieldWrite f holders.Stack)
     by (inl own) = again 181 own (row cells.Ref (here 181 own))
     by (inr (inl own)) = again 182 own (row cells.Byte (here 182 own))
     by (inr (inr (inl own))) = again 183 own (row cells.Short (here 183 own))
@@ -241,7 +268,8 @@ each-is P op (k ∷ ks) all e = by (op == k) refl e (λ f. each-is P op ks all.1
     by true q f rest = let own : op ≡ k = grind (arith, nat_tests, q) in subst P (sym own) all.0
     by false q f rest = rest f
 
-wide-alike : (w : Linked) (m r : MethodRec) (place n : ℕ) (i : Insn) → Each (λ op. resolved w r n (jump (wide op)) (row_at (wide op)) ≡ resolved w m place i (row_at op)) branches_all
+wide-alike : (w : Linked) (m r : MethodRec) (place n : ℕ) (i : Insn)
+    → Each (λ op. resolved w r n (jump (wide op)) (row_at (wide op)) ≡ resolved w m place i (row_at op)) branches_all
 unfolding row_at table by_sort by_width by_kind first_four by_register literals binaries orders_all branching unused
 wide-alike w m r place n i = (
   refl,
@@ -277,7 +305,16 @@ wide-alike w m r place n i = (
                                 refl,
                                 (
                                   refl,
-                                  (refl, (refl, (refl, (refl, (refl, (refl, (refl, (refl, (refl, (refl, (refl, (refl, (refl, (refl, (refl, (refl, (refl, tt))))))))))))))))),
+                                  (
+                                    refl,
+                                    (
+                                      refl,
+                                      (
+                                        refl,
+                                        (refl, (refl, (refl, (refl, (refl, (refl, (refl, (refl, (refl, (refl, (refl, (refl, (refl, (refl, tt)))))))))))))),
+                                      ),
+                                    ),
+                                  ),
                                 ),
                               ),
                             ),
@@ -302,4 +339,5 @@ pub wide-is : (w : Linked) (m r : MethodRec) (place n : ℕ) (i : Insn) (b : Bra
 wide-is w m r place n i b lt e =
     let is : kind.branching_kind ≡ kind_at i.op = kind-of w m place i (ops.Branch b) lt e in
     let among = when (is_branching (kind_at i.op)) (is_in i.op branches_all) (ap is_branching (sym is)) (passed-at branch_test branch-all i.op lt) in
-    each-is (λ op. resolved w r n (jump (wide op)) (row_at (wide op)) ≡ resolved w m place i (row_at op)) i.op branches_all (wide-alike w m r place n i) among ∙ e
+    each-is (λ op. resolved w r n (jump (wide op)) (row_at (wide op)) ≡ resolved w m place i (row_at op)) i.op branches_all (wide-alike w m r place n i)
+    among ∙ e

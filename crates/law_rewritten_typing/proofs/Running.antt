@@ -1,5 +1,6 @@
 -- An instruction that control reaches, in rewritten code: from a stack below that of its frame, to one below that of what it leaves.
-use Rattle.std.proofs.Common.{◌≡◌, ℕ, ◌+◌, ◌<◌, ◌≤◌, Bool, true, false, if◌then◌else◌, List, [], ◌∷◌, ◌++◌, length, map, slice_get, All, Option, Some, None, Ok, IsSomeAnd, IfSome, refl, sym, ◌∙◌, ap, subst, arith}
+use Rattle.std.proofs.Common.{◌≡◌, ℕ, ◌+◌, ◌<◌, ◌≤◌, Bool, true, false, if◌then◌else◌, List, [], ◌∷◌, ◌++◌, length, map}
+use Rattle.std.proofs.Common.{slice_get, All, Option, Some, None, Ok, IsSomeAnd, IfSome, refl, sym, ◌∙◌, ap, subst, arith}
 use Rattle.std.proofs.lemmas.List.{length-map, map-append}
 use Rattle.std.proofs.lemmas.List.Elements.{All-append, All-nil, All-cons}
 use Rattle.std.proofs.lemmas.Bool.{both_ways}
@@ -91,7 +92,8 @@ pub value-one : (cells : List Ty) (x : ℕ) (a : Ty) → slice_get cells x ≡ S
 unfolding value_in_cells
 value-one cells x a e h n = ap (λ (o : Option Ty). value_of o (slice_get cells (x + 1))) e ∙ one-value a (slice_get cells (x + 1)) h n
 
-pub value-int : (cells : List Ty) (x : ℕ) → slice_get cells x ≡ Some IntHigh → slice_get cells (x + 1) ≡ Some IntLow → value_in_cells cells x ≡ Some IntHigh
+pub value-int : (cells : List Ty) (x : ℕ) → slice_get cells x ≡ Some IntHigh → slice_get cells (x + 1) ≡ Some IntLow
+    → value_in_cells cells x ≡ Some IntHigh
 unfolding value_in_cells
 value-int cells x e f = ap (λ (o : Option Ty). value_of o (slice_get cells (x + 1))) e ∙ ap (value_of (Some IntHigh)) f
 
@@ -129,7 +131,8 @@ pub record IsFoundBelow (t : ClassTable) (cells : List Ty) (x : ℕ) (b : Ty) : 
   pub at : slice_get cells x ≡ Some ty
   pub below : Below t ty b
 
-pub found-below : (t : ClassTable) (cells : List Ty) (x : ℕ) (b : Ty) → IsSomeAnd (slice_get cells x) (λ found. Below t found b) → IsFoundBelow t cells x b
+pub found-below : (t : ClassTable) (cells : List Ty) (x : ℕ) (b : Ty) → IsSomeAnd (slice_get cells x) (λ found. Below t found b)
+    → IsFoundBelow t cells x b
 found-below t cells x b h = by (slice_get cells x) refl h
   where
     by : (o : Option Ty) → slice_get cells x ≡ o → IsSomeAnd o (λ found. Below t found b) → IsFoundBelow t cells x b
@@ -144,14 +147,17 @@ pub record IsLoaded (f after : Frame) (x : ℕ) : Type 0 where
   pub value : value_in_cells f.regs x ≡ Some ty
   pub stack : after.stack ≡ cells_on ty ++ f.stack
 
-load-is : (w : Linked) (types : IsOrderOfTypes w.classes) (limit : ℕ) (letter : Sort) (x : ℕ) (f after : Frame) (o : Outcome) → All IsNotBottom f.regs → OperationApplies w limit (ops.Load letter x) Flow f after o → IsLoaded f after x
+load-is : (w : Linked) (types : IsOrderOfTypes w.classes) (limit : ℕ) (letter : Sort) (x : ℕ) (f after : Frame) (o : Outcome) → All IsNotBottom f.regs
+    → OperationApplies w limit (ops.Load letter x) Flow f after o → IsLoaded f after x
 load-is w types limit sorts.Reference x f after o full a =
     let k = found-below w.classes f.regs x (Class (object w.classes)) a.asked.1.0 in
     let c = is-reference w.classes types k.ty (object w.classes) k.below (All-slice_get IsNotBottom f.regs x k.ty full k.at) in
     record {
       ty = k.ty;
       value = value-one f.regs x k.ty k.at c.no_half c.no_top;
-      stack = a.stack ∙ ap (λ (u : Ty). or_null u ∷ f.stack) (get-reg f.regs x k.ty k.at) ∙ ap (λ (u : Ty). u ∷ f.stack) c.null ∙ ap (λ (us : List Ty). us ++ f.stack) (sym c.one);
+      stack =
+          a.stack ∙ ap (λ (u : Ty). or_null u ∷ f.stack) (get-reg f.regs x k.ty k.at) ∙ ap (λ (u : Ty). u ∷ f.stack) c.null
+          ∙ ap (λ (us : List Ty). us ++ f.stack) (sym c.one);
     }
 load-is w types limit sorts.Short x f after o full a =
     let k = found-below w.classes f.regs x Short a.asked.1.0 in
@@ -164,7 +170,8 @@ load-is w types limit sorts.Int x f after o full a =
     let low = is-low w.classes types j.ty j.below (All-slice_get IsNotBottom f.regs (x + 1) j.ty full j.at) in
     record { ty = IntHigh; value = value-int f.regs x (k.at ∙ ap Some own) (j.at ∙ ap Some low); stack = a.stack }
 
-pub local-at : (s : Source) (p x : ℕ) (f : Frame) (ty : Ty) → s.frames p ≡ Some f → value_in_cells f.regs x ≡ Some ty → home_of x (local_of (s.frames p) x) ≡ Some (record { slot = x; ty = ty })
+pub local-at : (s : Source) (p x : ℕ) (f : Frame) (ty : Ty) → s.frames p ≡ Some f → value_in_cells f.regs x ≡ Some ty
+    → home_of x (local_of (s.frames p) x) ≡ Some (record { slot = x; ty = ty })
 local-at s p x f ty e v = ap (λ (o : Option Frame). home_of x (local_of o x)) e ∙ ap (home_of x) v
 
 pub cells-plain : (P : Ty → Type 0) (ty : Ty) → P ty → P IntLow → All P (cells_on ty)
@@ -182,24 +189,29 @@ module _ (new : ℕ → ℕ) (apart : (a b : ℕ) → new a ≡ new b → a ≡ 
   cells-named IntHigh h = refl
   cells-named ty h = refl
 
-module _ (new : ℕ → ℕ) (apart : (a b : ℕ) → new a ≡ new b → a ≡ b) (s : Source) (l : AreLaws s.world) (ready : IsReady s) (r : MethodRec) (own_rec : IsRecordFor s.method.rec r) (asks : ℕ → Asked) (res : IfSome s.method.rec.sig.result (IsDeclared s.world.classes)) where
+module _ (new : ℕ → ℕ) (apart : (a b : ℕ) → new a ≡ new b → a ≡ b) (s : Source) (l : AreLaws s.world) (ready : IsReady s) (r : MethodRec)
+    (own_rec : IsRecordFor s.method.rec r) (asks : ℕ → Asked) (res : IfSome s.method.rec.sig.result (IsDeclared s.world.classes)) where
   -- the items take a stack below that of the frame to one below that of what the operation leaves, where it falls through
   pub record IsPassed (n : ℕ) (xs : List Item) (op : Operation) (st : List Ty) (after : Frame) : Type 0 where
     pub stack : List Ty
     pub lesser : IsLesser s.world after stack
-    pub flow : Flows s.world r (registers_of s.homes) asks n (holding (map (named new apart) st)) xs (if falls_from op then holding (map (named new apart) stack) else left)
+    pub flow : Flows s.world r (registers_of s.homes) asks n (holding (map (named new apart) st)) xs
+        (if falls_from op then holding (map (named new apart) stack) else left)
 
-  pub has-room : (i : Placed) (op : Operation) (f after : Frame) (st : List Ty) → IsRun s i op f after → IsLesser s.world f st → length (map (named new apart) st) ≤ s.method.rec.max_stack
+  pub has-room : (i : Placed) (op : Operation) (f after : Frame) (st : List Ty) → IsRun s i op f after → IsLesser s.world f st
+      → length (map (named new apart) st) ≤ s.method.rec.max_stack
   has-room i op f after st run lesser = omega (arith, length-map st (named new apart), l.rules.order.lengths lesser.below, run.fit.room)
 
   -- ---- instructions that are kept
 
-  pub kept-passed : (i : Placed) (op : Operation) (f after : Frame) (st : List Ty) (n : ℕ) → IsRun s i op f after → NamesNone op → IsKeptOperation op → jumps_from op ≡ false → new i.place ≡ n → IsLesser s.world f st → IsPassed n (itself i) op st after
+  pub kept-passed : (i : Placed) (op : Operation) (f after : Frame) (st : List Ty) (n : ℕ) → IsRun s i op f after → NamesNone op
+      → IsKeptOperation op → jumps_from op ≡ false → new i.place ≡ n → IsLesser s.world f st → IsPassed n (itself i) op st after
   kept-passed i op f after st n run none keeps quiet here lesser =
       let whole = ready.whole i.place f run.at in
       let room = has-room i op f after st run lesser in
       let wide : s.method.rec.max_stack ≤ r.max_stack = omega (arith, own_rec.room) in
-      let k = kept-done new apart s.world l.rules l.falls l.keeps l.none l.rests l.entry s.method.rec i.place r.max_stack op f after run.outcome (registers_of s.homes) st none keeps run.sound res whole.known run.fit.no_top lesser wide run.does in
+      let k = kept-done new apart s.world l.rules l.falls l.keeps l.none l.rests l.entry s.method.rec i.place r.max_stack op f after run.outcome
+      (registers_of s.homes) st none keeps run.sound res whole.known run.fit.no_top lesser wide run.does in
       let go = l.alike s.method.rec i.place i.insn op run.small (sym run.resolves) in
       let calm : jumps i.insn.op ≡ false = sym go.jumps_alike ∙ quiet in
       record {
@@ -215,7 +227,9 @@ module _ (new : ℕ → ℕ) (apart : (a b : ℕ) → new a ≡ new b → a ≡ 
                 k.applies.0,
                 record {
                   operation = named_op new apart op;
-                  resolves = kept-resolves new apart s.world l.rules l.falls l.keeps l.none l.rests l.entry s.method.rec r i.place n i.insn op run.small here own_rec.home own_rec.sig run.sound run.resolves;
+                  resolves =
+                      kept-resolves new apart s.world l.rules l.falls l.keeps l.none l.rests l.entry s.method.rec r i.place n i.insn op run.small here
+                      own_rec.home own_rec.sig run.sound run.resolves;
                   does = k.applies.1;
                 },
               );
@@ -229,7 +243,8 @@ module _ (new : ℕ → ℕ) (apart : (a b : ℕ) → new a ≡ new b → a ≡ 
 
   -- ---- loads
 
-  pub push-lesser : (cells : List Ty) (f after : Frame) (st : List Ty) → All IsNotBottom cells → All (IsKnown s.world.classes) cells → after.stack ≡ cells ++ f.stack → IsLesser s.world f st → IsLesser s.world after (cells ++ st)
+  pub push-lesser : (cells : List Ty) (f after : Frame) (st : List Ty) → All IsNotBottom cells → All (IsKnown s.world.classes) cells
+      → after.stack ≡ cells ++ f.stack → IsLesser s.world f st → IsLesser s.world after (cells ++ st)
   push-lesser cells f after st full known e lesser = record {
     below = subst (CellsBelow s.world.classes (cells ++ st)) (sym e) (above cells);
     full = All-append IsNotBottom cells st full lesser.full;
@@ -240,7 +255,8 @@ module _ (new : ℕ → ℕ) (apart : (a b : ℕ) → new a ≡ new b → a ≡ 
       above [] = lesser.below
       above (c ∷ cs) = more_cells same (above cs)
 
-  pub load-passed : (i : Placed) (letter : Sort) (x : ℕ) (f after : Frame) (st : List Ty) (n : ℕ) → IsRun s i (ops.Load letter x) f after → IsLesser s.world f st → IsPassed n (body s i (ops.Load letter x)) (ops.Load letter x) st after
+  pub load-passed : (i : Placed) (letter : Sort) (x : ℕ) (f after : Frame) (st : List Ty) (n : ℕ) → IsRun s i (ops.Load letter x) f after
+      → IsLesser s.world f st → IsPassed n (body s i (ops.Load letter x)) (ops.Load letter x) st after
   unfolding body
   load-passed i letter x f after st n run lesser =
       let whole = ready.whole i.place f run.at in
@@ -252,16 +268,21 @@ module _ (new : ℕ → ℕ) (apart : (a b : ℕ) → new a ≡ new b → a ≡ 
       let room = has-room i (ops.Load letter x) f after st run lesser in
       let pushed : map (named new apart) (cells_on is.ty ++ st) ≡ cells_on is.ty ++ map (named new apart) st =
       map-append (named new apart) (cells_on is.ty) st ∙ ap (λ (us : List Ty). us ++ map (named new apart) st) (cells-named new apart is.ty plain.0) in
-      let more = push-lesser (cells_on is.ty) f after st (cells-plain IsNotBottom is.ty (plain-full is.ty plain.0) tt) (cells-plain (IsKnown s.world.classes) is.ty plain.1 tt) is.stack lesser in
+      let more = push-lesser (cells_on is.ty) f after st (cells-plain IsNotBottom is.ty (plain-full is.ty plain.0) tt)
+      (cells-plain (IsKnown s.world.classes) is.ty plain.1 tt) is.stack lesser in
       let full : length (cells_on is.ty ++ map (named new apart) st) ≤ r.max_stack =
       omega (arith, own_rec.room, ap length pushed, length-map (cells_on is.ty ++ st) (named new apart), l.rules.order.lengths more.below, run.does.room) in
       let below : length (map (named new apart) st) ≤ r.max_stack = omega (arith, own_rec.room, room) in
-      let turn : Flows s.world r (registers_of s.homes) asks n (holding (map (named new apart) st)) (load s h ∷ []) (holding (cells_on is.ty ++ map (named new apart) st)) =
-      flow_plain s.world r (registers_of s.homes) asks (load-turn s.world l.objects r (registers_of s.homes) asks n is.ty (register s h) (map (named new apart) st) stands full below) flow_end in
+      let turn : Flows s.world r (registers_of s.homes) asks n (holding (map (named new apart) st)) (load s h ∷ [])
+      (holding (cells_on is.ty ++ map (named new apart) st)) =
+      flow_plain s.world r (registers_of s.homes) asks
+      (load-turn s.world l.objects r (registers_of s.homes) asks n is.ty (register s h) (map (named new apart) st) stands full below) flow_end in
       record {
         stack = cells_on is.ty ++ st;
         lesser = more;
         flow =
-            subst (λ (o : Option Home). Flows s.world r (registers_of s.homes) asks n (holding (map (named new apart) st)) (loaded s i o) (holding (map (named new apart) (cells_on is.ty ++ st)))) (sym own)
-            (subst (λ (us : List Ty). Flows s.world r (registers_of s.homes) asks n (holding (map (named new apart) st)) (load s h ∷ []) (holding us)) (sym pushed) turn);
+            subst (λ (o : Option Home). Flows s.world r (registers_of s.homes) asks n (holding (map (named new apart) st)) (loaded s i o)
+            (holding (map (named new apart) (cells_on is.ty ++ st)))) (sym own)
+            (subst (λ (us : List Ty). Flows s.world r (registers_of s.homes) asks n (holding (map (named new apart) st)) (load s h ∷ []) (holding us))
+            (sym pushed) turn);
       }

@@ -1,5 +1,6 @@
 -- Stacks that are loaded from homes and stored into homes.
-use Rattle.std.proofs.Common.{◌≡◌, ℕ, suc, ◌+◌, ◌≤◌, List, [], ◌∷◌, ◌++◌, length, map, reverse, slice_get, Option, Some, None, refl, sym, ◌∙◌, ap, subst, arith, append_assoc, length-append, All}
+use Rattle.std.proofs.Common.{◌≡◌, ℕ, suc, ◌+◌, ◌≤◌, List, [], ◌∷◌, ◌++◌, length, map, reverse, slice_get, Option, Some, None, refl}
+use Rattle.std.proofs.Common.{sym, ◌∙◌, ap, subst, arith, append_assoc, length-append, All}
 use Rattle.std.proofs.lemmas.List.{append-nil, reverse-append, reverse-reverse}
 use Rattle.jc_base.specs.Each.{Each}
 use Rattle.jc_base.specs.Cell.{AreWhole, no_cells as no_whole, whole_int, one_cell, IsNoHalf}
@@ -50,7 +51,8 @@ pushed-longer [] stack = omega arith
 pushed-longer (h ∷ hs) stack = omega (arith, pushed-longer hs (cells_on h.ty ++ stack), length-append (cells_on h.ty) stack)
 
 -- the lower part of cells that are below others
-split-below : {t : ClassTable} (us vs st : List Ty) → CellsBelow t st (us ++ vs) → (above : List Ty) × (rest : List Ty) × (st ≡ above ++ rest) × CellsBelow t above us × CellsBelow t rest vs
+split-below : {t : ClassTable} (us vs st : List Ty) → CellsBelow t st (us ++ vs) → (above : List Ty) × (rest : List Ty) × (st ≡ above ++ rest)
+    × CellsBelow t above us × CellsBelow t rest vs
 split-below [] vs st le = ([], st, refl, no_cells, le)
 split-below {t = t} (u ∷ us) vs [] le = elim le [ ]
 split-below (u ∷ us) vs (x ∷ xs) (more_cells p ps) =
@@ -62,26 +64,32 @@ module _ (s : Source) (objects : ClassesAreObjects s.world.classes) (r : MethodR
   abbrev pub Stands : Home → Type 0
   Stands h = Holds s.world objects r regs asks h.ty (register s h)
 
-  pub loads-go : (hs : List Home) (stack : List Ty) → Each Stands hs → length (pushed hs stack) ≤ r.max_stack → Goes s.world r regs asks (holding stack) (loads s hs) (holding (pushed hs stack))
+  pub loads-go : (hs : List Home) (stack : List Ty) → Each Stands hs → length (pushed hs stack) ≤ r.max_stack
+      → Goes s.world r regs asks (holding stack) (loads s hs) (holding (pushed hs stack))
   loads-go [] stack h room = goes-nowhere s.world r regs asks
   loads-go (h ∷ hs) stack e room =
       let longer = pushed-longer hs (cells_on h.ty ++ stack) in
       let full : length (cells_on h.ty ++ stack) ≤ r.max_stack = omega (arith, longer, room) in
       let below : length stack ≤ r.max_stack = omega (arith, full, length-append (cells_on h.ty) stack) in
-      λ n. flow_plain s.world r regs asks (load-turn s.world objects r regs asks n h.ty (register s h) stack e.0 full below) (loads-go hs (cells_on h.ty ++ stack) e.1 room (suc n))
+      λ n. flow_plain s.world r regs asks (load-turn s.world objects r regs asks n h.ty (register s h) stack e.0 full below)
+      (loads-go hs (cells_on h.ty ++ stack) e.1 room (suc n))
 
-  stores-go : (ks : List Home) (stack : List Ty) → Each Stands ks → CellsBelow s.world.classes stack (tops ks) → length stack ≤ r.max_stack → Goes s.world r regs asks (holding stack) (map (store s) ks) (holding [])
+  stores-go : (ks : List Home) (stack : List Ty) → Each Stands ks → CellsBelow s.world.classes stack (tops ks) → length stack ≤ r.max_stack
+      → Goes s.world r regs asks (holding stack) (map (store s) ks) (holding [])
   stores-go [] _ e no_cells room = goes-nowhere s.world r regs asks
   stores-go (k ∷ ks) stack e le room = by (split-below (cells_on k.ty) (tops ks) stack le) (λ rest p under. stores-go ks rest e.1 p under)
     where
-      by : (above : List Ty) × (rest : List Ty) × (stack ≡ above ++ rest) × CellsBelow s.world.classes above (cells_on k.ty) × CellsBelow s.world.classes rest (tops ks)
-          → ((rest : List Ty) → CellsBelow s.world.classes rest (tops ks) → length rest ≤ r.max_stack → Goes s.world r regs asks (holding rest) (map (store s) ks) (holding []))
+      by : (above : List Ty) × (rest : List Ty) × (stack ≡ above ++ rest) × CellsBelow s.world.classes above (cells_on k.ty)
+          × CellsBelow s.world.classes rest (tops ks)
+          → ((rest : List Ty) → CellsBelow s.world.classes rest (tops ks) → length rest ≤ r.max_stack
+          → Goes s.world r regs asks (holding rest) (map (store s) ks) (holding []))
           → Goes s.world r regs asks (holding stack) (map (store s) (k ∷ ks)) (holding [])
       by d later =
           let own : length (d.0 ++ d.1) ≤ r.max_stack = omega (arith, ap length d.2, room) in
           let under : length d.1 ≤ r.max_stack = omega (arith, own, length-append d.0 d.1) in
           subst (λ (st : List Ty). Goes s.world r regs asks (holding st) (map (store s) (k ∷ ks)) (holding [])) (sym d.2)
-          (λ n. flow_plain s.world r regs asks (store-turn s.world objects r regs asks n k.ty (register s k) d.0 d.1 e.0 d.3 own under) (later d.1 d.4 under (suc n)))
+          (λ n. flow_plain s.world r regs asks (store-turn s.world objects r regs asks n k.ty (register s k) d.0 d.1 e.0 d.3 own under)
+          (later d.1 d.4 under (suc n)))
 
   each-turned : (hs : List Home) → Each Stands hs → Each Stands (reverse hs)
   each-turned [] e = tt
@@ -91,7 +99,8 @@ module _ (s : Source) (objects : ClassesAreObjects s.world.classes) (r : MethodR
       last [] e p = (p, tt)
       last (k ∷ ks) e p = (e.0, last ks e.1 p)
 
-  pub spill-goes : (hs : List Home) (stack : List Ty) → Each Stands hs → CellsBelow s.world.classes stack (pushed hs []) → length stack ≤ r.max_stack → Goes s.world r regs asks (holding stack) (spill s hs) (holding [])
+  pub spill-goes : (hs : List Home) (stack : List Ty) → Each Stands hs → CellsBelow s.world.classes stack (pushed hs [])
+      → length stack ≤ r.max_stack → Goes s.world r regs asks (holding stack) (spill s hs) (holding [])
   unfolding spill
   spill-goes hs stack e le room =
       stores-go (reverse hs) stack (each-turned hs e) (subst (CellsBelow s.world.classes stack) (pushed-tops hs [] ∙ append-nil (tops (reverse hs))) le) room
@@ -118,7 +127,8 @@ get-at (p ∷ pre) a rest = get-at pre a rest
 
 get-next : (pre : List Ty) (a b : Ty) (rest : List Ty) → slice_get (pre ++ a ∷ b ∷ rest) (length pre + 1) ≡ Some b
 get-next [] a b rest = refl
-get-next (p ∷ pre) a b rest = let e : suc (length pre) + 1 ≡ suc (length pre + 1) = omega arith in ap (slice_get (p ∷ pre ++ a ∷ b ∷ rest)) e ∙ get-next pre a b rest
+get-next (p ∷ pre) a b rest =
+    let e : suc (length pre) + 1 ≡ suc (length pre + 1) = omega arith in ap (slice_get (p ∷ pre ++ a ∷ b ∷ rest)) e ∙ get-next pre a b rest
 
 get-end : (pre : List Ty) (a : Ty) → slice_get (pre ++ a ∷ []) (length pre + 1) ≡ None
 get-end [] a = refl
@@ -145,7 +155,8 @@ one-at pre a rest h n =
     ∙ one-value a (slice_get (pre ++ a ∷ rest) (length pre + 1)) h n
 
 -- the loads of the homes of whole cells leave these cells
-pub cells-pushed : (slot : ℕ) (pre rest stack : List Ty) → AreWhole rest → All IsNotTop rest → pushed (cells_from slot (pre ++ rest) (length pre) (length rest)) stack ≡ turned rest stack
+pub cells-pushed : (slot : ℕ) (pre rest stack : List Ty) → AreWhole rest → All IsNotTop rest
+    → pushed (cells_from slot (pre ++ rest) (length pre) (length rest)) stack ≡ turned rest stack
 cells-pushed slot pre [] stack no_whole nt = refl
 cells-pushed slot pre _ stack (whole_int {types = us} is) nt =
     let first = int-value pre us in
@@ -155,13 +166,16 @@ cells-pushed slot pre _ stack (whole_int {types = us} is) nt =
     let shape : (pre ++ IntHigh ∷ []) ++ IntLow ∷ us ≡ all = append_assoc pre (IntHigh ∷ []) (IntLow ∷ us) in
     let shape2 : (pre ++ IntHigh ∷ IntLow ∷ []) ++ us ≡ all = append_assoc pre (IntHigh ∷ IntLow ∷ []) us in
     let second : value_in_cells all (suc (length pre)) ≡ None =
-    subst (λ (n : ℕ). value_in_cells all n ≡ None) (sym e) (subst (λ (ts : List Ty). value_in_cells ts (length (pre ++ IntHigh ∷ [])) ≡ None) shape (low-none (pre ++ IntHigh ∷ []) us)) in
+    subst (λ (n : ℕ). value_in_cells all n ≡ None) (sym e)
+    (subst (λ (ts : List Ty). value_in_cells ts (length (pre ++ IntHigh ∷ [])) ≡ None) shape (low-none (pre ++ IntHigh ∷ []) us)) in
     let rest = cells-pushed slot (pre ++ IntHigh ∷ IntLow ∷ []) us (IntLow ∷ IntHigh ∷ stack) is (λ k d lt. nt (suc (suc k)) d (omega (arith, lt))) in
     let later : pushed (cells_from slot all (suc (suc (length pre))) (length us)) (IntLow ∷ IntHigh ∷ stack) ≡ turned us (IntLow ∷ IntHigh ∷ stack) =
     subst (λ (n : ℕ). pushed (cells_from slot all n (length us)) (IntLow ∷ IntHigh ∷ stack) ≡ turned us (IntLow ∷ IntHigh ∷ stack)) (sym f)
-    (subst (λ (ts : List Ty). pushed (cells_from slot ts (length (pre ++ IntHigh ∷ IntLow ∷ [])) (length us)) (IntLow ∷ IntHigh ∷ stack) ≡ turned us (IntLow ∷ IntHigh ∷ stack)) shape2 rest) in
+    (subst (λ (ts : List Ty). pushed (cells_from slot ts (length (pre ++ IntHigh ∷ IntLow ∷ [])) (length us)) (IntLow ∷ IntHigh ∷ stack)
+    ≡ turned us (IntLow ∷ IntHigh ∷ stack)) shape2 rest) in
     ap (λ (o : Option Ty). pushed (with_home_of (home_of (slot + length pre) o) (cells_from slot all (suc (length pre)) (suc (length us)))) stack) first
-    ∙ ap (λ (o : Option Ty). pushed (with_home_of (home_of (slot + suc (length pre)) o) (cells_from slot all (suc (suc (length pre))) (length us))) (IntLow ∷ IntHigh ∷ stack)) second
+    ∙ ap (λ (o : Option Ty). pushed (with_home_of (home_of (slot + suc (length pre)) o) (cells_from slot all (suc (suc (length pre))) (length us)))
+    (IntLow ∷ IntHigh ∷ stack)) second
     ∙ later
 cells-pushed slot pre _ stack (one_cell {a = a} {types = us} h is) nt =
     let first = one-at pre a us h (nt 0 a (omega arith)) in
@@ -179,9 +193,11 @@ cells-pushed slot pre _ stack (one_cell {a = a} {types = us} h is) nt =
 pub turned-reverse : (ts stack : List Ty) → turned ts stack ≡ reverse ts ++ stack
 turned-reverse [] stack = refl
 turned-reverse (a ∷ ts) stack =
-    turned-reverse ts (a ∷ stack) ∙ sym (append_assoc (reverse ts) (a ∷ []) stack) ∙ ap (λ (us : List Ty). us ++ stack) (sym (reverse-append (a ∷ []) ts))
+    turned-reverse ts (a ∷ stack) ∙ sym (append_assoc (reverse ts) (a ∷ []) stack)
+    ∙ ap (λ (us : List Ty). us ++ stack) (sym (reverse-append (a ∷ []) ts))
 
 -- the homes of a whole stack, loaded, leave that stack
-pub stack-pushed : (slot : ℕ) (stack : List Ty) → AreWhole (reverse stack) → All IsNotTop (reverse stack) → pushed (cells_from slot (reverse stack) 0 (length (reverse stack))) [] ≡ stack
+pub stack-pushed : (slot : ℕ) (stack : List Ty) → AreWhole (reverse stack) → All IsNotTop (reverse stack)
+    → pushed (cells_from slot (reverse stack) 0 (length (reverse stack))) [] ≡ stack
 stack-pushed slot stack whole nt =
     cells-pushed slot [] (reverse stack) [] whole nt ∙ turned-reverse (reverse stack) [] ∙ append-nil (reverse (reverse stack)) ∙ reverse-reverse stack

@@ -1,5 +1,6 @@
 -- The turn of a kept instruction.
-use Rattle.std.proofs.Common.{◌≡◌, ℕ, ◌+◌, ◌<◌, ◌≤◌, List, [], ◌∷◌, ◌++◌, length, map, reverse, slice_get, All, Option, Some, None, Ok, IfSome, refl, sym, ◌∙◌, ap, arith}
+use Rattle.std.proofs.Common.{◌≡◌, ℕ, ◌+◌, ◌<◌, ◌≤◌, List, [], ◌∷◌, ◌++◌, length, map, reverse, slice_get, All, Option, Some}
+use Rattle.std.proofs.Common.{None, Ok, IfSome, refl, sym, ◌∙◌, ap, arith}
 use Rattle.jc_base.specs.declared.ty.Ty.{Ty}
 use Rattle.jc_base.specs.declared.ty.Ty.TheVariants.{IntHigh}
 use Rattle.jc_base.specs.declared.ty.Kind.TheVariants as kinds
@@ -106,7 +107,8 @@ none-asked w (ops.FieldRead f holders.Stack) h = refl
 none-asked w (ops.FieldWrite f holders.Stack) h = none-append (value_wanted f.ty) _ (value-none f.ty) refl
 none-asked w (ops.Call c) h =
     let args = args_at (slice_get w.methods c.method) in
-    none-append (cells_wanted 0 (reverse args)) (receiver_wanted (length args) c.receiver) (cells-none 0 (reverse args)) (receiver-registers (length args) c.receiver)
+    none-append (cells_wanted 0 (reverse args)) (receiver_wanted (length args) c.receiver) (cells-none 0 (reverse args))
+    (receiver-registers (length args) c.receiver)
 none-asked w (ops.New p c) h = refl
 none-asked w (ops.NewArray ty) h = refl
 none-asked w ops.Throw h = refl
@@ -115,7 +117,8 @@ none-asked w (ops.Return result) h = return-none result
 
 -- ---- the turn
 
-wider : (w : Linked) (limit more : ℕ) (op : Operation) (before after : Frame) (o : Outcome) → limit ≤ more → OperationApplies w limit op Flow before after o → OperationApplies w more op Flow before after o
+wider : (w : Linked) (limit more : ℕ) (op : Operation) (before after : Frame) (o : Outcome) → limit ≤ more
+    → OperationApplies w limit op Flow before after o → OperationApplies w more op Flow before after o
 wider w limit more op before after o le a = record {
   asked = a.asked;
   regs = a.regs;
@@ -134,14 +137,16 @@ pub record IsLesser (w : Linked) (f : Frame) (st : List Ty) : Type 0 where
   pub full : All IsNotBottom st
   pub known : All (IsKnown w.classes) st
 
-module _ (new : ℕ → ℕ) (apart : (a b : ℕ) → new a ≡ new b → a ≡ b) (w : Linked) (rules : AreRules w) (falls_to : OperationFalls w) (keeps : OperationKeeps w) (names_none : OperationNamesNone w) (rests : OperationRests w) (entry : RestsOnEntry w) where
+module _ (new : ℕ → ℕ) (apart : (a b : ℕ) → new a ≡ new b → a ≡ b) (w : Linked) (rules : AreRules w) (falls_to : OperationFalls w)
+    (keeps : OperationKeeps w) (names_none : OperationNamesNone w) (rests : OperationRests w) (entry : RestsOnEntry w) where
   -- over the registers of the card the operation gives a stack below what the method's gives
   pub record IsDone (limit : ℕ) (op : Operation) (regs st : List Ty) (after : Frame) : Type 0 where
     pub stack : List Ty
     pub lesser : IsLesser w after stack
     pub stored : List Ty
     pub stays : CellsBelow w.classes stored regs
-    pub applies : (o : Outcome) × OperationApplies w limit (named_op new apart op) Flow (record { regs = regs; stack = map (named new apart) st }) (record { regs = stored; stack = map (named new apart) stack }) o
+    pub applies : (o : Outcome) × OperationApplies w limit (named_op new apart op) Flow (record { regs = regs; stack = map (named new apart) st })
+        (record { regs = stored; stack = map (named new apart) stack }) o
 
   pub kept-done :
       (m : MethodRec) (place limit : ℕ) (op : Operation) (f after : Frame) (o : Outcome) (regs st : List Ty)
@@ -158,7 +163,8 @@ module _ (new : ℕ → ℕ) (apart : (a b : ℕ) → new a ≡ new b → a ≡ 
   kept-done m place limit op f after o regs st none kept sound res known no_top lesser le a =
       let under : Frame = record { regs = f.regs; stack = st } in
       let fallen = falls_to m.max_stack op Flow f under after o (record { regs = rules.order.self f.regs; stack = lesser.below }) no_top lesser.full a in
-      let kept_is = keeps m.max_stack m place op Flow under fallen.below fallen.outcome sound (record { few = known.few; regs = known.regs; stack = lesser.known; object = known.object }) fallen.applies in
+      let kept_is = keeps m.max_stack m place op Flow under fallen.below fallen.outcome sound
+      (record { few = known.few; regs = known.regs; stack = lesser.known; object = known.object }) fallen.applies in
       let card = names_none m.max_stack op under fallen.below fallen.outcome regs (none-asked w op none) fallen.applies in
       let at = rests m.max_stack op (record { regs = regs; stack = st }) (record { regs = regs; stack = fallen.below.stack }) fallen.outcome card refl in
       let same = applies-named new apart w rules m place m.max_stack op regs st at.stored fallen.below.stack fallen.outcome sound res kept at.applies in
@@ -185,7 +191,8 @@ module _ (new : ℕ → ℕ) (apart : (a b : ℕ) → new a ≡ new b → a ≡ 
       → resolved w m place i (row_at i.op) ≡ Ok op
       → Ok (named_op new apart op) ≡ resolved w r n i (row_at i.op)
   kept-resolves m r place n i op lt e home sig sound is =
-      let moved : resolved w m n i (row_at i.op) ≡ Ok (named_op new apart op) = resolved-elsewhere w m place n i op lt is ∙ ap Ok (moved-is place n m op e sound) in
+      let moved : resolved w m n i (row_at i.op) ≡ Ok (named_op new apart op) = resolved-elsewhere w m place n i op lt is
+      ∙ ap Ok (moved-is place n m op e sound) in
       entry m r n i (Ok (named_op new apart op)) (by (entry_named i)) (ap (λ s. s.result) (sym sig)) (sym moved)
     where
       by : (o : Option ℕ) → IfSome o (λ k. member_at w m.package k ≡ member_at w r.package k)

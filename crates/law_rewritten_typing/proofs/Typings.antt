@@ -1,5 +1,6 @@
 -- A walk along all items of code is a card typing of it.
-use Rattle.std.proofs.Common.{◌≡◌, ℕ, zero, suc, ◌+◌, ◌<◌, ◌≤◌, Bool, true, false, if◌then◌else◌, inl, inr, List, [], ◌∷◌, length, map, slice_get, All, Contains, Option, Some, None, IsSomeAnd, refl, sym, ◌∙◌, ap, subst, arith}
+use Rattle.std.proofs.Common.{◌≡◌, ℕ, zero, suc, ◌+◌, ◌<◌, ◌≤◌, Bool, true, false, if◌then◌else◌, inl, inr, List, [], ◌∷◌}
+use Rattle.std.proofs.Common.{length, map, slice_get, All, Contains, Option, Some, None, IsSomeAnd, refl, sym, ◌∙◌, ap, subst, arith}
 use Rattle.std.specs.Prelude.{pos, ◌==◌}
 use Rattle.std.proofs.lemmas.Simd.{map-map}
 use Rattle.std.proofs.lemmas.List.Elements.{All-contains}
@@ -75,7 +76,8 @@ place-within l (Branch op m ∷ xs) = omega (arith, place-within l xs)
 place-within l (Switch i at ls ∷ xs) = omega (arith, place-within l xs)
 
 -- where each label that the items name is as said, each target of a step is the place of such a label
-pub target-named : (P : ℕ → Type 0) (source : List ℕ) (all xs : List Item) (k : ℕ) (st : Step) (t : ℕ) → Each (λ x. Each P (names x)) xs → slice_get (steps_in source all xs) k ≡ Some st → Contains st.targets t → (l : ℕ) × P l × (t ≡ place_of l all)
+pub target-named : (P : ℕ → Type 0) (source : List ℕ) (all xs : List Item) (k : ℕ) (st : Step) (t : ℕ) → Each (λ x. Each P (names x)) xs
+    → slice_get (steps_in source all xs) k ≡ Some st → Contains st.targets t → (l : ℕ) × P l × (t ≡ place_of l all)
 target-named P source all [] k st t h e c = absurd (cc)
 target-named P source all (Label l ∷ xs) k st t h e c = target-named P source all xs k st t h.1 e c
 target-named P source all (Plain i ∷ xs) zero st t h e c =
@@ -87,7 +89,8 @@ target-named P source all (Plain i ∷ xs) zero st t h e c =
 target-named P source all (Plain i ∷ xs) (suc k) st t h e c = target-named P source all xs k st t h.1 e c
 target-named P source all (Branch op l ∷ xs) zero st t h e c = by st.targets (targets-are e) c
   where
-    targets-are : Some (record { insn = record { op = op; x = pos 0; y = pos 0; z = pos 0; len = 3 }; targets = place_of l all ∷ []; keys = [] }) ≡ Some st → place_of l all ∷ [] ≡ st.targets
+    targets-are : Some (record { insn = record { op = op; x = pos 0; y = pos 0; z = pos 0; len = 3 }; targets = place_of l all ∷ []; keys = [] })
+        ≡ Some st → place_of l all ∷ [] ≡ st.targets
     targets-are e = ap targets_at e
       where
         targets_at : Option Step → List ℕ
@@ -121,10 +124,12 @@ module _ (w : Linked) (r0 : MethodRec) (source : List ℕ) (symbols : Symbols) (
     pub high : ℕ
     pub rise : Rises low high (labels symbols.items)
     pub named : Each (λ x. Each (λ l. IsAmong l (labels symbols.items) × (asks l ≡ emptied)) (names x)) symbols.items
-    pub caught : Each (λ (range : Range). IsAmong range.entry (labels symbols.items) × (asks range.entry ≡ catching (class_by r0.handlers range.pool))) symbols.ranges
+    pub caught : Each (λ (range : Range). IsAmong range.entry (labels symbols.items) × (asks range.entry ≡ catching (class_by r0.handlers range.pool)))
+        symbols.ranges
     pub classes : Each (λ (range : Range). IsClass w.classes (class_by r0.handlers range.pool)) symbols.ranges
     pub order : Each (λ (range : Range). place_of range.from symbols.items < place_of range.to symbols.items) symbols.ranges
-    pub no_others : (l c : ℕ) → IsAmong l (labels symbols.items) → asks l ≡ catching c → (range : Range) × Contains symbols.ranges range × (range.entry ≡ l)
+    pub no_others : (l c : ℕ) → IsAmong l (labels symbols.items) → asks l ≡ catching c → (range : Range) × Contains symbols.ranges range
+        × (range.entry ≡ l)
 
   abbrev rec : MethodRec
   rec = record_with r0 symbols
@@ -154,19 +159,23 @@ module _ (w : Linked) (r0 : MethodRec) (source : List ℕ) (symbols : Symbols) (
     has-range : (range : Range) → Contains symbols.ranges range → Contains rec.handlers (by_label range)
     has-range range c = subst (λ hs. Contains hs (by_label range)) (sym handlers-are) (contains-map by_label symbols.ranges range c)
 
-    stack-is : (l : ℕ) (s : List Ty) → IsAmong l (labels symbols.items) → ((c d : State) → Passes (asks l) c d → d ≡ holding s) → (place_of l symbols.items < count symbols.items) × (stacks (place_of l symbols.items) ≡ s)
+    stack-is : (l : ℕ) (s : List Ty) → IsAmong l (labels symbols.items) → ((c d : State) → Passes (asks l) c d → d ≡ holding s)
+        → (place_of l symbols.items < count symbols.items) × (stacks (place_of l symbols.items) ≡ s)
     unfolding stacks
     stack-is l s among gives =
         let a = asked-at w (record_with r0 symbols) regs asks f l s refl among gives in
         let here : place_of l symbols.items ≡ 0 + place_of l symbols.items = omega arith in
         (a.inside, ap (stack_at w (record_with r0 symbols) regs asks f) here ∙ a.stack)
 
-    empty-at : (l : ℕ) → IsAmong l (labels symbols.items) → asks l ≡ emptied → (place_of l symbols.items < count symbols.items) × (stacks (place_of l symbols.items) ≡ [])
+    empty-at : (l : ℕ) → IsAmong l (labels symbols.items) → asks l ≡ emptied → (place_of l symbols.items < count symbols.items)
+        × (stacks (place_of l symbols.items) ≡ [])
     empty-at l among is = stack-is l [] among (λ c d p. (subst (λ (q : Asked). Passes q c d) is p).1)
 
-    caught-at : (range : Range) → Contains symbols.ranges range → (place_of range.entry symbols.items < count symbols.items) × (stacks (place_of range.entry symbols.items) ≡ Class (class_by r0.handlers range.pool) ∷ [])
+    caught-at : (range : Range) → Contains symbols.ranges range → (place_of range.entry symbols.items < count symbols.items)
+        × (stacks (place_of range.entry symbols.items) ≡ Class (class_by r0.handlers range.pool) ∷ [])
     caught-at range c =
-        let a = each-in (λ (range : Range). IsAmong range.entry (labels symbols.items) × (asks range.entry ≡ catching (class_by r0.handlers range.pool))) symbols.ranges range asked.caught c in
+        let a = each-in (λ (range : Range). IsAmong range.entry (labels symbols.items)
+        × (asks range.entry ≡ catching (class_by r0.handlers range.pool))) symbols.ranges range asked.caught c in
         stack-is range.entry (Class (class_by r0.handlers range.pool) ∷ []) a.0 (λ x y p. (subst (λ (q : Asked). Passes q x y) a.1 p).1)
 
     -- where a handler begins the caught object is on the stack
@@ -207,7 +216,8 @@ module _ (w : Linked) (r0 : MethodRec) (source : List ℕ) (symbols : Symbols) (
             above = λ h listed begins.
                 let p = range-of h listed in
                 let there : place_of p.of.entry symbols.items ≡ q = ap (λ (k : Handler). k.entry) (sym p.is) ∙ begins in
-                let own : class_by r0.handlers p.of.pool ≡ class = same-class (class_by r0.handlers p.of.pool) class (stacks q) (ap stacks (sym there) ∙ (caught-at p.of p.listed).1) c.stack in
+                let own : class_by r0.handlers p.of.pool ≡ class = same-class (class_by r0.handlers p.of.pool) class (stacks q)
+                (ap stacks (sym there) ∙ (caught-at p.of p.listed).1) c.stack in
                 let is : h.class ≡ class = ap (λ (k : Handler). k.class) p.is ∙ own in
                 subst (λ (n : ℕ). Below w.classes (Class n) (Class class)) (sym is) same;
             least = λ u above. above (by_label c.range) (has-range c.range c.listed) c.at;
@@ -217,20 +227,24 @@ module _ (w : Linked) (r0 : MethodRec) (source : List ℕ) (symbols : Symbols) (
 
     -- ---- targets
 
-    step-target : (k : ℕ) (st : Step) (t : ℕ) → slice_get (steps source symbols.items) k ≡ Some st → Contains st.targets t → (t < count symbols.items) × (stacks t ≡ [])
+    step-target : (k : ℕ) (st : Step) (t : ℕ) → slice_get (steps source symbols.items) k ≡ Some st → Contains st.targets t
+        → (t < count symbols.items) × (stacks t ≡ [])
     step-target k st t e c =
         let n = target-named (λ l. IsAmong l (labels symbols.items) × (asks l ≡ emptied)) source symbols.items symbols.items k st t asked.named e c in
         let a = empty-at n.0 n.1.0 n.1.1 in
         (omega (arith, n.2, a.0), ap stacks n.2 ∙ a.1)
 
-    step-at : (i : Placed) → IsSomeAnd (slice_get (steps source symbols.items) i.place) (λ step. step.insn ≡ i.insn) → (st : Step) × (slice_get (steps source symbols.items) i.place ≡ Some st) × (st.insn ≡ i.insn)
+    step-at : (i : Placed) → IsSomeAnd (slice_get (steps source symbols.items) i.place) (λ step. step.insn ≡ i.insn) → (st : Step)
+        × (slice_get (steps source symbols.items) i.place ≡ Some st) × (st.insn ≡ i.insn)
     step-at i stands = by (slice_get (steps source symbols.items) i.place) refl stands
       where
-        by : (o : Option Step) → slice_get (steps source symbols.items) i.place ≡ o → IsSomeAnd o (λ step. step.insn ≡ i.insn) → (st : Step) × (slice_get (steps source symbols.items) i.place ≡ Some st) × (st.insn ≡ i.insn)
+        by : (o : Option Step) → slice_get (steps source symbols.items) i.place ≡ o → IsSomeAnd o (λ step. step.insn ≡ i.insn) → (st : Step)
+            × (slice_get (steps source symbols.items) i.place ≡ Some st) × (st.insn ≡ i.insn)
         by None e h = absurd h
         by (Some st) e h = (st, e, h)
 
-    targeted : (q : ℕ) → IsTargetAmong (code_in_symbols r0 source symbols).stands (code_in_symbols r0 source symbols).leads q → ¬ (IsEntryAmong rec.handlers q) × (stacks q ≡ [])
+    targeted : (q : ℕ) → IsTargetAmong (code_in_symbols r0 source symbols).stands (code_in_symbols r0 source symbols).leads q
+        → ¬ (IsEntryAmong rec.handlers q) × (stacks q ≡ [])
     targeted q t =
         let s = step-at t.from t.stands in
         let c : Contains (map (λ (k : ℕ). pos k) s.0.targets) (pos q) = subst (λ (o : Option Step). Contains (leads_of o) (pos q)) s.1 t.leads in
@@ -244,26 +258,32 @@ module _ (w : Linked) (r0 : MethodRec) (source : List ℕ) (symbols : Symbols) (
 
     -- ---- the instruction at a place
 
-    turned : (i : Placed) → IsSomeAnd (slice_get (steps source symbols.items) i.place) (λ step. step.insn ≡ i.insn) → IsTurned w (record_with r0 symbols) regs asks 0 i.place i.insn symbols.items (stack_at w (record_with r0 symbols) regs asks f) left
+    turned : (i : Placed) → IsSomeAnd (slice_get (steps source symbols.items) i.place) (λ step. step.insn ≡ i.insn)
+        → IsTurned w (record_with r0 symbols) regs asks 0 i.place i.insn symbols.items (stack_at w (record_with r0 symbols) regs asks f) left
     turned i stands =
         let s = step-at i stands in
         let t = turned-at w (record_with r0 symbols) regs asks source symbols.items f i.place s.0 s.1 in
-        subst (λ (n : Insn). IsTurned w (record_with r0 symbols) regs asks 0 i.place n symbols.items (stack_at w (record_with r0 symbols) regs asks f) left) s.2 t
+        subst (λ (n : Insn). IsTurned w (record_with r0 symbols) regs asks 0 i.place n symbols.items (stack_at w (record_with r0 symbols) regs asks f)
+        left) s.2 t
 
     held : (a b : List Ty) → holding a ≡ holding b → a ≡ b
     held a b e = cc
 
-    typed-so : (i : Placed) → IsTurned w (record_with r0 symbols) regs asks 0 i.place i.insn symbols.items (stack_at w (record_with r0 symbols) regs asks f) left → IsTypedIn w (code_in_symbols r0 source symbols) regs stacks i
+    typed-so : (i : Placed) → IsTurned w (record_with r0 symbols) regs asks 0 i.place i.insn symbols.items
+        (stack_at w (record_with r0 symbols) regs asks f) left → IsTypedIn w (code_in_symbols r0 source symbols) regs stacks i
     unfolding stacks by_label
     typed-so i t =
         let here : t.place ≡ i.place = omega (arith, t.is) in
-        let own : t.turn.stack ≡ stacks i.place = held t.turn.stack (stacks i.place) (sym t.turn.here ∙ t.stack ∙ ap (λ (q : ℕ). holding (stacks q)) here) in
+        let own : t.turn.stack ≡ stacks i.place = held t.turn.stack (stacks i.place)
+        (sym t.turn.here ∙ t.stack ∙ ap (λ (q : ℕ). holding (stacks q)) here) in
         let rule : (o : Outcome) × RuleApplies w (record_with r0 symbols) i.place i.insn Flow (frame_at regs stacks i.place) t.turn.after o =
         subst (λ (q : ℕ). (o : Outcome) × RuleApplies w (record_with r0 symbols) q i.insn Flow (frame_at regs stacks i.place) t.turn.after o) here
-        (subst (λ (s : List Ty). (o : Outcome) × RuleApplies w (record_with r0 symbols) t.place i.insn Flow (record { regs = regs; stack = s }) t.turn.after o) own t.turn.applies) in
+        (subst (λ (s : List Ty). (o : Outcome) × RuleApplies w (record_with r0 symbols) t.place i.insn Flow (record { regs = regs; stack = s })
+        t.turn.after o) own t.turn.applies) in
         let next : suc t.place ≡ i.place + 1 = omega (arith, here) in
         let far : t.place < suc t.place = omega arith in
-        let flowing : stacks (i.place + 1) ≡ stack_at w (record_with r0 symbols) regs asks t.flow (suc t.place) = ap stacks (sym next) ∙ t.later (suc t.place) far in
+        let flowing : stacks (i.place + 1) ≡ stack_at w (record_with r0 symbols) regs asks t.flow (suc t.place) = ap stacks (sym next)
+        ∙ t.later (suc t.place) far in
         record {
           after = t.turn.after;
           applies = rule;
@@ -276,7 +296,8 @@ module _ (w : Linked) (r0 : MethodRec) (source : List ℕ) (symbols : Symbols) (
                 inside = omega (arith, counted, t.size, n.inside);
                 no_entry = λ e.
                     let c = caught (i.place + 1) e in
-                    let a = each-in (λ (range : Range). IsAmong range.entry (labels symbols.items) × (asks range.entry ≡ catching (class_by r0.handlers range.pool))) symbols.ranges c.range asked.caught c.listed in
+                    let a = each-in (λ (range : Range). IsAmong range.entry (labels symbols.items)
+                    × (asks range.entry ≡ catching (class_by r0.handlers range.pool))) symbols.ranges c.range asked.caught c.listed in
                     let l = t.labelled c.range.entry a.0 (omega (arith, c.at)) in
                     let free = n.free c.range.entry (class_by r0.handlers c.range.pool) a.1 l.0 in
                     absurd (omega (arith, c.at, l.1, free));
@@ -302,11 +323,13 @@ module _ (w : Linked) (r0 : MethodRec) (source : List ℕ) (symbols : Symbols) (
         entry-is : (range : Range) → (l : ℕ) → range.entry ≡ l → place_of l symbols.items ≡ i.place + 1 → (by_label range).entry ≡ i.place + 1
         entry-is range l e g = ap (λ (k : ℕ). place_of k symbols.items) e ∙ g
 
-    room-so : (i : Placed) → IsTurned w (record_with r0 symbols) regs asks 0 i.place i.insn symbols.items (stack_at w (record_with r0 symbols) regs asks f) left → length (stacks i.place) ≤ symbols.max_stack
+    room-so : (i : Placed) → IsTurned w (record_with r0 symbols) regs asks 0 i.place i.insn symbols.items
+        (stack_at w (record_with r0 symbols) regs asks f) left → length (stacks i.place) ≤ symbols.max_stack
     unfolding stacks
     room-so i t =
         let here : t.place ≡ i.place = omega (arith, t.is) in
-        let own : t.turn.stack ≡ stacks i.place = held t.turn.stack (stacks i.place) (sym t.turn.here ∙ t.stack ∙ ap (λ (q : ℕ). holding (stacks q)) here) in
+        let own : t.turn.stack ≡ stacks i.place = held t.turn.stack (stacks i.place)
+        (sym t.turn.here ∙ t.stack ∙ ap (λ (q : ℕ). holding (stacks q)) here) in
         subst (λ (s : List Ty). length s ≤ symbols.max_stack) own t.turn.room
 
     -- ---- the whole
@@ -333,7 +356,8 @@ module _ (w : Linked) (r0 : MethodRec) (source : List ℕ) (symbols : Symbols) (
     begins = (comes-next w (record_with r0 symbols) regs asks f [] refl refl).stack
 
     -- a walk from an empty stack along all items is a card typing
-    pub walk-types : All (IsKnown w.classes) regs → All IsNotFresh regs → CellsBelow w.classes (start_frame rec Bottom).regs regs → TypingIn w (code_in_symbols r0 source symbols) regs stacks
+    pub walk-types : All (IsKnown w.classes) regs → All IsNotFresh regs → CellsBelow w.classes (start_frame rec Bottom).regs regs
+        → TypingIn w (code_in_symbols r0 source symbols) regs stacks
     walk-types types ready declared = record {
       formed = formed;
       types = types;

@@ -1,5 +1,6 @@
 -- A walk along the items of code, over one list of registers: what is on the stack before each instruction.
-use Rattle.std.proofs.Common.{◌≡◌, ◌⊎◌, ℕ, suc, ◌+◌, ◌≤◌, Bool, true, false, if◌then◌else◌, List, [], ◌∷◌, ◌++◌, length, flat_map, refl, subst, arith}
+use Rattle.std.proofs.Common.{◌≡◌, ◌⊎◌, ℕ, suc, ◌+◌, ◌≤◌, Bool, true, false, if◌then◌else◌, List, [], ◌∷◌, ◌++◌, length}
+use Rattle.std.proofs.Common.{flat_map, refl, subst, arith}
 use Rattle.std.specs.Prelude.{IsTrue}
 use Rattle.jc_base.specs.declared.ty.Ty.{Ty}
 use Rattle.jc_base.specs.declared.ty.Ty.TheVariants.{Class}
@@ -74,7 +75,8 @@ module _ (w : Linked) (r : MethodRec) (regs : List Ty) (asks : ℕ → Asked) wh
   pub data Flows : ℕ → State → List Item → State → Type 0 where
     flow_end : {n : ℕ} {a : State} → Flows n a [] a
     flow_label : {n l : ℕ} {a b c : State} {xs : List Item} → Passes (asks l) a b → Flows n b xs c → Flows n a (Label l ∷ xs) c
-    flow_step : {n : ℕ} {a b c : State} {x : Item} {xs : List Item} → is_instruction x ≡ true → Turn n (insn_of x) a b → Flows (suc n) b xs c → Flows n a (x ∷ xs) c
+    flow_step : {n : ℕ} {a b c : State} {x : Item} {xs : List Item} → is_instruction x ≡ true → Turn n (insn_of x) a b → Flows (suc n) b xs c
+        → Flows n a (x ∷ xs) c
 
   pub flow_plain : {n : ℕ} {a b c : State} {i : Insn} {xs : List Item} → Turn n i a b → Flows (suc n) b xs c → Flows n a (Plain i ∷ xs) c
   flow_plain {i = i} t f = flow_step {x = Plain i} refl t f
@@ -83,7 +85,8 @@ module _ (w : Linked) (r : MethodRec) (regs : List Ty) (asks : ℕ → Asked) wh
   flows-append {n = n} {b = b} {c = c} {ys = ys} flow_end g = let e : n + 0 ≡ n = omega arith in subst (λ (k : ℕ). Flows k b ys c) e g
   flows-append (flow_label p f) g = flow_label p (flows-append f g)
   flows-append {n = n} {b = z} {c = c} {ys = ys} (flow_step {x = x} {xs = xs} is t f) g =
-      let e : n + count (x ∷ xs) ≡ suc n + count xs = omega (arith, count-step x xs is) in flow_step is t (flows-append f (subst (λ (k : ℕ). Flows k z ys c) e g))
+      let e : n + count (x ∷ xs) ≡ suc n + count xs = omega (arith, count-step x xs is) in
+      flow_step is t (flows-append f (subst (λ (k : ℕ). Flows k z ys c) e g))
 
   -- a walk from any place
   abbrev pub Goes : State → List Item → State → Type 0
@@ -95,7 +98,8 @@ module _ (w : Linked) (r : MethodRec) (regs : List Ty) (asks : ℕ → Asked) wh
   pub goes-nowhere : {a : State} → Goes a [] a
   goes-nowhere = λ n. flow_end
 
-  pub goes-if : {a c : State} {xs ys : List Item} (b : Bool) → (b ≡ true → Goes a xs c) → (b ≡ false → Goes a ys c) → Goes a (if b then xs else ys) c
+  pub goes-if : {a c : State} {xs ys : List Item} (b : Bool) → (b ≡ true → Goes a xs c) → (b ≡ false → Goes a ys c)
+      → Goes a (if b then xs else ys) c
   goes-if true f g = f refl
   goes-if false f g = g refl
 

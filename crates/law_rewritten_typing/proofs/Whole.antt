@@ -22,8 +22,10 @@ use Rattle.law_rewritten_typing.proofs.Rewriting.{AreArguments, items-flow}
 use Rattle.law_rewritten_typing.proofs.LabelDemands.{asks_of, are-wanted}
 use Rattle.law_rewritten_typing.proofs.Typings.{AreAsked, stacks, walk-types}
 
-module _ (s : Source) (l : AreLaws s.world) (ready : IsReady s) (code : IsCode s) (mo : IsMethodOf s.world s.method) (derived : DerivedAreWhole s.world) (are : AreHomes s.world s.method s.frames s.homes) where
-  pub rewritten-typed : AreAsked s.world s.method.rec s.method.code (rewritten s) (registers_of s.homes) (asks_of s) → HasTypingByHomes s.world s.method s.homes (rewritten s)
+module _ (s : Source) (l : AreLaws s.world) (ready : IsReady s) (code : IsCode s) (mo : IsMethodOf s.world s.method) (derived : DerivedAreWhole s.world)
+    (are : AreHomes s.world s.method s.frames s.homes) where
+  pub rewritten-typed : AreAsked s.world s.method.rec s.method.code (rewritten s) (registers_of s.homes) (asks_of s)
+      → HasTypingByHomes s.world s.method s.homes (rewritten s)
   unfolding rewritten
   rewritten-typed asked =
       let r = record_with s.method.rec (rewritten s) in

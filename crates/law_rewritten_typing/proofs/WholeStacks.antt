@@ -1,5 +1,6 @@
 -- Derived states have whole stacks, and no register without a value.
-use Rattle.std.proofs.Common.{◌≡◌, ℕ, suc, Bool, true, false, if◌then◌else◌, List, [], ◌∷◌, ◌++◌, replicate, All, refl, sym, subst, arith}
+use Rattle.std.proofs.Common.{◌≡◌, ℕ, suc, Bool, true, false, if◌then◌else◌, List, [], ◌∷◌, ◌++◌, replicate, All, refl, sym, subst}
+use Rattle.std.proofs.Common.{arith}
 use Rattle.std.proofs.lemmas.List.Elements.{All-append, All-nil, All-cons, All-replicate}
 use Rattle.jc_base.proofs.Lists.{All-reverse}
 use Rattle.jc_base.specs.declared.ty.Ty.{Ty}
@@ -13,7 +14,8 @@ use Rattle.jc_decode.specs.declared.insn.Placed.{Placed}
 use Rattle.jc_ops.specs.Sound.{IsSound, OperationsAreSound}
 use Rattle.jc_control.specs.Method.{Method, IsMethodOf}
 use Rattle.jc_rules.specs.Demand.{Frame}
-use Rattle.jc_rules.specs.Flow.{CellsBelow, no_cells as no_below, more_cells, CellsJoin, none_joined, more_joined, FlowSteps, start_frame, receiver_of, IsNotTop, IsDerived, derived_start, derived_caught, derived_next, derived_joined}
+use Rattle.jc_rules.specs.Flow.{CellsBelow, no_cells as no_below, more_cells, CellsJoin, none_joined, more_joined, FlowSteps, start_frame, receiver_of}
+use Rattle.jc_rules.specs.Flow.{IsNotTop, IsDerived, derived_start, derived_caught, derived_next, derived_joined}
 use Rattle.jc_rules.specs.FlowLaws.{AreRules}
 use Rattle.jc_rules.specs.Laws.{IsNotBottom}
 use Rattle.jc_rules.specs.Whole.{IsWholeStack, OperationKeepsWhole}
@@ -66,7 +68,8 @@ module _ (t : ClassTable) (types : IsOrderOfTypes t) where
       let above = all-rest IsNotTop b (d ∷ vs) nt in
       let high : b ≡ IntHigh = high-only b ((types.decided IntHigh b).1 le) (all-first IsNotTop b (d ∷ vs) nt) in
       let low : d ≡ IntLow = low-only d ((types.decided IntLow d).1 ge) (all-first IsNotTop d vs above) in
-      let tail : AreWhole vs = whole-above is more (all-rest IsNotBottom IntLow rest (all-rest IsNotBottom IntHigh (IntLow ∷ rest) nb)) (all-rest IsNotTop d vs above) in
+      let tail : AreWhole vs = whole-above is more (all-rest IsNotBottom IntLow rest (all-rest IsNotBottom IntHigh (IntLow ∷ rest) nb))
+      (all-rest IsNotTop d vs above) in
       subst (λ x. AreWhole (x ∷ d ∷ vs)) (sym high) (subst (λ x. AreWhole (IntHigh ∷ x ∷ vs)) (sym low) (whole_int tail))
   whole-above (one_cell {a = u} {types = rest} h is) (more_cells {a = a} {b = b} {xs = xs} {ys = ys} le more) nb nt =
       one_cell (no-half-above u b le (all-first IsNotBottom u rest nb) h) (whole-above is more (all-rest IsNotBottom u rest nb) (all-rest IsNotTop b ys nt))
@@ -94,7 +97,8 @@ module _ (w : Linked) (is : AreRules w) (keeps : OperationKeepsWhole w) (m : Met
   start-good = record {
     regs =
         All-append IsNotBottom (receiver_of m.rec ++ m.rec.sig.args) (replicate m.rec.max_locals Top)
-        (All-append IsNotBottom (receiver_of m.rec) m.rec.sig.args (receiver-full m.rec.is_static) (λ k d lt. declared-full w.classes _ ((of_world w is m mo).arguments k d lt)))
+        (All-append IsNotBottom (receiver_of m.rec) m.rec.sig.args (receiver-full m.rec.is_static)
+        (λ k d lt. declared-full w.classes _ ((of_world w is m mo).arguments k d lt)))
         (All-replicate IsNotBottom m.rec.max_locals Top tt);
     whole = no_cells;
   }
@@ -118,7 +122,8 @@ module _ (w : Linked) (is : AreRules w) (keeps : OperationKeepsWhole w) (m : Met
       record {
         regs = join-all w.classes IsNotBottom (full-join w.classes is.types) merges.regs a.regs b.regs;
         whole =
-            whole-above w.classes is.types a.whole (is.order.turned below) (All-reverse IsNotBottom f.stack (derived-fine w is m mo d).no_bottom) (All-reverse IsNotTop j.stack merges.no_top);
+            whole-above w.classes is.types a.whole (is.order.turned below) (All-reverse IsNotBottom f.stack (derived-fine w is m mo d).no_bottom)
+            (All-reverse IsNotTop j.stack merges.no_top);
       }
 
 pub derived-are-whole : (w : Linked) → AreRules w → OperationsAreSound w → OperationKeepsWhole w → DerivedAreWhole w

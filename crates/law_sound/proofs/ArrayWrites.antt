@@ -1,5 +1,6 @@
 -- Writes to elements of arrays, and their lengths, at a frame's turn.
-use Rattle.std.proofs.Common.{◌≡◌, ℕ, ◌+◌, ◌*◌, ◌<◌, inl, inr, Bool, true, false, if◌then◌else◌, List, [], ◌∷◌, length, refl, sym, ap, ◌∙◌, subst}
+use Rattle.std.proofs.Common.{◌≡◌, ℕ, ◌+◌, ◌*◌, ◌<◌, inl, inr, Bool, true, false, if◌then◌else◌, List, [], ◌∷◌, length, refl}
+use Rattle.std.proofs.Common.{sym, ap, ◌∙◌, subst}
 use Rattle.std.specs.Prelude.{ℤ, Some, IsSomeAnd, slice_get, slice_index_or}
 use Rattle.jc_base.specs.declared.ty.Ty.{Ty}
 use Rattle.jc_base.specs.declared.ty.Ty.TheVariants.{Short, IntHigh, IntLow, Class}
@@ -54,9 +55,11 @@ module _ (w : Linked) (world : IsWorld w) (assigned : Typings) (f : Frame Cell) 
 
     pub held-filled : (n : ℕ) → n < length f.stack → HasContent (slice_index_or f.stack n cells.Empty)
     held-filled n lt =
-        stacked-filled w here.turn.stands.rec (kinds_of heap) (slice_index_or f.stack n cells.Empty) (stacked-at w here.turn.stands.rec (kinds_of heap) f.stack n lt here.turn.stacked)
+        stacked-filled w here.turn.stands.rec (kinds_of heap) (slice_index_or f.stack n cells.Empty)
+        (stacked-at w here.turn.stands.rec (kinds_of heap) f.stack n lt here.turn.stacked)
 
-    pub held-at : (n : ℕ) (ty : Ty) → IsReady ty → IsSomeAnd (slice_get (least_types w.classes (assigned.unset f.method) (kinds_of heap) f.stack) n) (λ a. Below w.classes a ty) → IsHeld n ty
+    pub held-at : (n : ℕ) (ty : Ty) → IsReady ty → IsSomeAnd (slice_get (least_types w.classes (assigned.unset f.method) (kinds_of heap) f.stack) n)
+        (λ a. Below w.classes a ty) → IsHeld n ty
     held-at n ty ready asked =
         let at = cell-at w.classes (assigned.unset f.method) (kinds_of heap) f.stack n (λ a. Below w.classes a ty) asked in
         let c : Cell = slice_index_or f.stack n cells.Empty in
@@ -76,10 +79,14 @@ module _ (w : Linked) (world : IsWorld w) (assigned : Typings) (f : Frame Cell) 
     kept-below h k value e fits made test = absurd fits
 
     reference-write :
-        (h i : ℕ) (a : IsArrayAt w.classes heap h fields.Ref) → here.turn.operation ≡ ops.ArrayWrite fields.Ref → (h ≡ 0 → ⊥) → i < elements_of (with_heap heap) h
+        (h i : ℕ) (a : IsArrayAt w.classes heap h fields.Ref) → here.turn.operation ≡ ops.ArrayWrite fields.Ref → (h ≡ 0 → ⊥)
+        → i < elements_of (with_heap heap) h
         → (b : Bool) → keeps_kind tagged w.classes fields.Ref (record { frames = f ∷ below; heap = heap; statics = statics }) h ≡ b
-        → IsTypedOutcome w assigned (settled tagged w (here.turn.stands.instruction.place + here.turn.stands.instruction.insn.len) (record { frames = f ∷ below; heap = heap; statics = statics })
-        (if b then goes (with_element tagged fields.Ref h i (record { frames = f ∷ below; heap = heap; statics = statics })) else raises exceptions.ArrayStore))
+        → IsTypedOutcome w assigned
+        (settled tagged w (here.turn.stands.instruction.place + here.turn.stands.instruction.insn.len)
+        (record { frames = f ∷ below; heap = heap; statics = statics })
+        (if b then goes (with_element tagged fields.Ref h i (record { frames = f ∷ below; heap = heap; statics = statics })) else raises
+        exceptions.ArrayStore))
     reference-write h i a is some within false e = raise-safe w world assigned f below heap statics here exceptions.ArrayStore
     reference-write h i a is some within true e =
         let t = w.classes in
@@ -89,15 +96,21 @@ module _ (w : Linked) (world : IsWorld w) (assigned : Typings) (f : Frame Cell) 
         let asked = asked-of w world assigned f below heap statics here (ops.ArrayWrite fields.Ref) is in
         let at = cell-at t (assigned.unset f.method) ks f.stack 0 (λ ty. Below t ty (Class (object t))) asked.0 in
         let filled = held-filled 0 at.inside in
-        let lower : Below t (type_of_handle t ks (word_of c)) (element_type t k) = kept-below h k (word_of c) a.kind_is a.fits (made-at w ks h k here.store.made a.kind_is) e in
+        let lower : Below t (type_of_handle t ks (word_of c)) (element_type t k) = kept-below h k (word_of c) a.kind_is a.fits
+        (made-at w ks h k here.store.made a.kind_is) e in
         let own : Below t (least_type t (assigned.unset f.method) ks c) (element_type t k) =
-        subst (λ ty. Below t ty (element_type t k)) (sym (reference-same t world.chains (assigned.unset f.method) ks c (Class (object t)) tt filled at.holds)) lower in
+        subst (λ ty. Below t ty (element_type t k))
+        (sym (reference-same t world.chains (assigned.unset f.method) ks c (Class (object t)) tt filled at.holds)) lower in
         write-safe w world assigned f below heap statics here h (i * 1) (element_type t k) c 3 (ops.ArrayWrite fields.Ref) is refl refl some
-        (first-at t heap h fields.Ref a i within) (below-has t (assigned.unset f.method) ks world.chains c (element_type t k) own filled (element-ready t k)) filled
+        (first-at t heap h fields.Ref a i within)
+        (below-has t (assigned.unset f.method) ks world.chains c (element_type t k) own filled (element-ready t k)) filled
 
     element-write :
-        (fk : Kind) (h i : ℕ) (a : IsArrayAt w.classes heap h fk) → here.turn.operation ≡ ops.ArrayWrite fk → (h ≡ 0 → ⊥) → i < elements_of (with_heap heap) h
-        → IsTypedOutcome w assigned (settled tagged w (here.turn.stands.instruction.place + here.turn.stands.instruction.insn.len) (record { frames = f ∷ below; heap = heap; statics = statics })
+        (fk : Kind) (h i : ℕ) (a : IsArrayAt w.classes heap h fk) → here.turn.operation ≡ ops.ArrayWrite fk → (h ≡ 0 → ⊥)
+        → i < elements_of (with_heap heap) h
+        → IsTypedOutcome w assigned
+        (settled tagged w (here.turn.stands.instruction.place + here.turn.stands.instruction.insn.len)
+        (record { frames = f ∷ below; heap = heap; statics = statics })
         (if keeps_kind tagged w.classes fk (record { frames = f ∷ below; heap = heap; statics = statics }) h
         then goes (with_element tagged fk h i (record { frames = f ∷ below; heap = heap; statics = statics }))
         else raises exceptions.ArrayStore))
@@ -110,13 +123,15 @@ module _ (w : Linked) (world : IsWorld w) (assigned : Typings) (f : Frame Cell) 
     element-write fields.Short h i a is some within =
         let asked = asked-of w world assigned f below heap statics here (ops.ArrayWrite fields.Short) is in
         let value = held-at 0 Short tt asked.0 in
-        write-safe w world assigned f below heap statics here h (i * 1) Short (slice_index_or f.stack 0 cells.Empty) 3 (ops.ArrayWrite fields.Short) is refl refl some
+        write-safe w world assigned f below heap statics here h (i * 1) Short (slice_index_or f.stack 0 cells.Empty) 3 (ops.ArrayWrite fields.Short) is refl
+        refl some
         (first-at w.classes heap h fields.Short a i within ∙ ap Some (short-element w.classes a.object.kind (inr a.fits))) value.has value.filled
     element-write fields.Int h i a is some within =
         let asked = asked-of w world assigned f below heap statics here (ops.ArrayWrite fields.Int) is in
         let lower = held-at 0 IntLow tt asked.0 in
         let upper = held-at 1 IntHigh tt asked.1.0 in
-        write-int-safe w world assigned f below heap statics here h (i * 2) IntHigh IntLow (slice_index_or f.stack 1 cells.Empty) (slice_index_or f.stack 0 cells.Empty) 4
+        write-int-safe w world assigned f below heap statics here h (i * 2) IntHigh IntLow (slice_index_or f.stack 1 cells.Empty)
+        (slice_index_or f.stack 0 cells.Empty) 4
         (ops.ArrayWrite fields.Int) is refl refl some
         (first-at w.classes heap h fields.Int a i within ∙ ap Some (int-element w.classes a.object.kind a.fits)) upper.has upper.filled
         (second-at w.classes heap h a i within) lower.has lower.filled
@@ -124,7 +139,8 @@ module _ (w : Linked) (world : IsWorld w) (assigned : Typings) (f : Frame Cell) 
     -- the array lies under the value and the index
     array-wanted :
         (fk : Kind) → here.turn.operation ≡ ops.ArrayWrite fk
-        → IsSomeAnd (slice_get (least_types w.classes (assigned.unset f.method) (kinds_of heap) f.stack) (width fk + 1)) (Meets w.classes (array_wanted w.classes fk))
+        → IsSomeAnd (slice_get (least_types w.classes (assigned.unset f.method) (kinds_of heap) f.stack) (width fk + 1))
+        (Meets w.classes (array_wanted w.classes fk))
     array-wanted fields.Ref is = (asked-of w world assigned f below heap statics here (ops.ArrayWrite fields.Ref) is).1.1.0
     array-wanted fields.Byte is = (asked-of w world assigned f below heap statics here (ops.ArrayWrite fields.Byte) is).1.1.0
     array-wanted fields.Short is = (asked-of w world assigned f below heap statics here (ops.ArrayWrite fields.Short) is).1.1.0
@@ -132,7 +148,9 @@ module _ (w : Linked) (world : IsWorld w) (assigned : Typings) (f : Frame Cell) 
 
     pub array-write-safe :
         (fk : Kind) → here.turn.operation ≡ ops.ArrayWrite fk
-        → IsTypedOutcome w assigned (settled tagged w (here.turn.stands.instruction.place + here.turn.stands.instruction.insn.len) (record { frames = f ∷ below; heap = heap; statics = statics })
+        → IsTypedOutcome w assigned
+        (settled tagged w (here.turn.stands.instruction.place + here.turn.stands.instruction.insn.len)
+        (record { frames = f ∷ below; heap = heap; statics = statics })
         (array_write_act tagged w.classes fk (record { frames = f ∷ below; heap = heap; statics = statics })))
     array-write-safe fk is =
         let now : State Cell = record { frames = f ∷ below; heap = heap; statics = statics } in
@@ -140,18 +158,23 @@ module _ (w : Linked) (world : IsWorld w) (assigned : Typings) (f : Frame Cell) 
         let c : Cell = slice_index_or f.stack (width fk + 1) cells.Empty in
         let h : ℕ = word_of c in
         let index : ℤ = short_at tagged f.stack (width fk) in
-        let wanted = cell-at w.classes (assigned.unset f.method) (kinds_of heap) f.stack (width fk + 1) (Meets w.classes (array_wanted w.classes fk)) (array-wanted fk is) in
-        let keep : ℕ → ℕ → Act Cell = λ n i. if keeps_kind tagged w.classes fk now n then goes (with_element tagged fk n i now) else raises exceptions.ArrayStore in
+        let wanted = cell-at w.classes (assigned.unset f.method) (kinds_of heap) f.stack (width fk + 1) (Meets w.classes (array_wanted w.classes fk))
+        (array-wanted fk is) in
+        let keep : ℕ → ℕ → Act Cell = λ n i. if keeps_kind tagged w.classes fk now n then goes (with_element tagged fk n i now) else raises
+        exceptions.ArrayStore in
         null-safe w world assigned f below heap statics here next h
         (λ n. at_element index (elements_of now n) (λ i. keep n i))
         (λ some. some-safe w world assigned f below heap statics here next exceptions.ArrayIndex (element_index index (elements_of now h)) (λ i. keep h i)
-        (λ i e. element-write fk h i (array-there w.classes world.chains (assigned.unset f.method) heap c fk some wanted.holds) is some (index-within index (elements_of now h) i e)))
+        (λ i e. element-write fk h i (array-there w.classes world.chains (assigned.unset f.method) heap c fk some wanted.holds) is some
+        (index-within index (elements_of now h) i e)))
 
     -- ---- lengths
 
     pub array-length-safe :
         here.turn.operation ≡ ops.ArrayLength
-        → IsTypedOutcome w assigned (settled tagged w (here.turn.stands.instruction.place + here.turn.stands.instruction.insn.len) (record { frames = f ∷ below; heap = heap; statics = statics })
+        → IsTypedOutcome w assigned
+        (settled tagged w (here.turn.stands.instruction.place + here.turn.stands.instruction.insn.len)
+        (record { frames = f ∷ below; heap = heap; statics = statics })
         (array_length_act tagged (record { frames = f ∷ below; heap = heap; statics = statics })))
     array-length-safe is =
         let now : State Cell = record { frames = f ∷ below; heap = heap; statics = statics } in

@@ -1,5 +1,6 @@
 -- Elements of arrays at a frame's turn.
-use Rattle.std.proofs.Common.{◌≡◌, ℕ, zero, suc, ◌+◌, ◌*◌, ◌/◌, ◌<◌, ◌⊎◌, inl, inr, ⊎_elim, Bool, true, false, if◌then◌else◌, List, [], ◌∷◌, length, refl, sym, ap, ◌∙◌, subst, arith, div-one}
+use Rattle.std.proofs.Common.{◌≡◌, ℕ, zero, suc, ◌+◌, ◌*◌, ◌/◌, ◌<◌, ◌⊎◌, inl, inr, ⊎_elim, Bool, true, false}
+use Rattle.std.proofs.Common.{if◌then◌else◌, List, [], ◌∷◌, length, refl, sym, ap, ◌∙◌, subst, arith, div-one}
 use Rattle.std.specs.Prelude.{ℤ, pos, negsuc, Some, None, slice_get, slice_index_or, option_and_then, nat_lt, ⊤}
 use Rattle.std.proofs.lemmas.Bool.{false≢true}
 use Rattle.std.proofs.lemmas.Bool.{ltb-true}
@@ -117,7 +118,8 @@ repeated-one zero i ty lt = absurd (omega (arith, lt))
 repeated-one (suc n) zero ty lt = refl
 repeated-one (suc n) (suc i) ty lt = repeated-one n i ty (omega (arith, lt))
 
-repeated-two : (n i : ℕ) (a b : Ty) → i < n → (slice_get (repeated n (a ∷ b ∷ [])) (i * 2) ≡ Some a) × (slice_get (repeated n (a ∷ b ∷ [])) (i * 2 + 1) ≡ Some b)
+repeated-two : (n i : ℕ) (a b : Ty) → i < n → (slice_get (repeated n (a ∷ b ∷ [])) (i * 2) ≡ Some a)
+    × (slice_get (repeated n (a ∷ b ∷ [])) (i * 2 + 1) ≡ Some b)
 repeated-two zero i a b lt = absurd (omega (arith, lt))
 repeated-two (suc n) zero a b lt =
     let e : 0 * 2 ≡ 0 = refl in
@@ -134,7 +136,8 @@ types-one : (n i : ℕ) (ty : Ty) → i < n / 1 → slice_get (repeated n (ty �
 types-one n i ty lt = repeated-one n (i * 1) ty (omega (arith, lt, div-one n))
 
 element-first :
-    (t : ClassTable) (fk : Kind) (k : ObjectKind) (n i : ℕ) → Fits fk k → i < n / element_width k → slice_get (cell_types t k n) (i * width fk) ≡ Some (element_type t k)
+    (t : ClassTable) (fk : Kind) (k : ObjectKind) (n i : ℕ) → Fits fk k → i < n / element_width k → slice_get (cell_types t k n) (i * width fk)
+    ≡ Some (element_type t k)
 element-first t fields.Ref (References c) n i fits lt = types-one n i (Class (class_in_types t c)) lt
 element-first t fields.Byte Bytes n i fits lt = types-one n i Short lt
 element-first t fields.Byte Booleans n i fits lt = types-one n i Short lt
@@ -142,7 +145,8 @@ element-first t fields.Short Shorts n i fits lt = types-one n i Short lt
 element-first t fields.Int Ints n i fits lt = (repeated-two (n / 2) i IntHigh IntLow lt).0
 element-first t fk k n i fits lt = absurd fits
 
-element-second : (t : ClassTable) (k : ObjectKind) (n i : ℕ) → Fits fields.Int k → i < n / element_width k → slice_get (cell_types t k n) (i * 2 + 1) ≡ Some IntLow
+element-second : (t : ClassTable) (k : ObjectKind) (n i : ℕ) → Fits fields.Int k → i < n / element_width k
+    → slice_get (cell_types t k n) (i * 2 + 1) ≡ Some IntLow
 element-second t Ints n i fits lt = (repeated-two (n / 2) i IntHigh IntLow lt).1
 element-second t k n i fits lt = absurd fits
 
@@ -162,7 +166,8 @@ pub record IsArrayAt (t : ClassTable) (heap : List (Object Cell)) (h : ℕ) (fk 
   pub kind_is : kind_of_handle (kinds_of heap) h ≡ Some object.kind
   pub fits : Fits fk object.kind
 
-array-of : (t : ClassTable) (heap : List (Object Cell)) (h : ℕ) (fk : Kind) (ty : Ty) (o : IsObject t heap h ty) → Fits fk o.object.kind → IsArrayAt t heap h fk
+array-of : (t : ClassTable) (heap : List (Object Cell)) (h : ℕ) (fk : Kind) (ty : Ty) (o : IsObject t heap h ty) → Fits fk o.object.kind
+    → IsArrayAt t heap h fk
 array-of t heap h fk ty o fits = record { object = o.object; found = o.found; kind_is = o.kind_is; fits = fits }
 
 pub array-there :
@@ -185,7 +190,8 @@ array-there t are unset heap c fields.Int some meets =
     array-of t heap (word_of c) fields.Int ArrInt o (fits-int t are o.object.kind (is_below-from_Below t are o.below))
 
 -- the types of the cells of an element of it
-module _ (t : ClassTable) (heap : List (Object Cell)) (h : ℕ) (fk : Kind) (a : IsArrayAt t heap h fk) (i : ℕ) (within : i < elements_of (with_heap heap) h) where
+module _ (t : ClassTable) (heap : List (Object Cell)) (h : ℕ) (fk : Kind) (a : IsArrayAt t heap h fk) (i : ℕ)
+    (within : i < elements_of (with_heap heap) h) where
   counted : i < element_count a.object
   counted = subst (λ n. i < n) (ap element_count_in a.found) within
 
@@ -242,7 +248,8 @@ module _ (w : Linked) (world : IsWorld w) (assigned : Typings) (f : Frame Cell) 
   where
     -- a cell that is read from an object is below its type, and ready
     pub record IsRead (h i : ℕ) (ty : Ty) : Type 0 where
-      pub lower : Below w.classes (least_type w.classes (assigned.unset f.method) (kinds_of heap) (slice_index_or (object_cells (with_heap heap) h) i cells.Empty)) ty
+      pub lower : Below w.classes
+          (least_type w.classes (assigned.unset f.method) (kinds_of heap) (slice_index_or (object_cells (with_heap heap) h) i cells.Empty)) ty
       pub ready : IsReadyCell (slice_index_or (object_cells (with_heap heap) h) i cells.Empty)
 
     pub cell-read : (h i : ℕ) (ty : Ty) → IsNotTop ty → IsNotFresh ty → cell_type_at w.classes (with_heap heap) h i ≡ Some ty → IsRead h i ty
@@ -258,8 +265,11 @@ module _ (w : Linked) (world : IsWorld w) (assigned : Typings) (f : Frame Cell) 
         → here.turn.operation ≡ op
         → effect w op (types_of_frame w.classes (assigned.unset f.method) (kinds_of heap) f) ≡ replacing taken (given.One seen) → falls_from op ≡ true
         → ty ≡ seen → IsRead h i ty
-        → IsTypedOutcome w assigned (goes_to tagged w (here.turn.stands.instruction.place + here.turn.stands.instruction.insn.len) (record { frames = f ∷ below; heap = heap; statics = statics })
-        (replaced (record { frames = f ∷ below; heap = heap; statics = statics }) taken (slice_index_or (object_cells (with_heap heap) h) i cells.Empty ∷ [])))
+        → IsTypedOutcome w assigned
+        (goes_to tagged w (here.turn.stands.instruction.place + here.turn.stands.instruction.insn.len)
+        (record { frames = f ∷ below; heap = heap; statics = statics })
+        (replaced (record { frames = f ∷ below; heap = heap; statics = statics }) taken
+        (slice_index_or (object_cells (with_heap heap) h) i cells.Empty ∷ [])))
     read-one-safe h i taken ty seen op is does falls e read =
         let c : Cell = slice_index_or (object_cells (with_heap heap) h) i cells.Empty in
         replace-safe w world assigned f below heap statics here taken (given.One seen) (c ∷ []) heap statics
@@ -272,7 +282,9 @@ module _ (w : Linked) (world : IsWorld w) (assigned : Typings) (f : Frame Cell) 
         → here.turn.operation ≡ op
         → effect w op (types_of_frame w.classes (assigned.unset f.method) (kinds_of heap) f) ≡ replacing taken given.Int → falls_from op ≡ true
         → IsRead h i IntHigh → IsRead h (i + 1) IntLow
-        → IsTypedOutcome w assigned (goes_to tagged w (here.turn.stands.instruction.place + here.turn.stands.instruction.insn.len) (record { frames = f ∷ below; heap = heap; statics = statics })
+        → IsTypedOutcome w assigned
+        (goes_to tagged w (here.turn.stands.instruction.place + here.turn.stands.instruction.insn.len)
+        (record { frames = f ∷ below; heap = heap; statics = statics })
         (replaced (record { frames = f ∷ below; heap = heap; statics = statics }) taken
         (slice_index_or (object_cells (with_heap heap) h) i cells.Empty ∷ slice_index_or (object_cells (with_heap heap) h) (i + 1) cells.Empty ∷ [])))
     read-int-safe h i taken op is does falls high low =
@@ -287,7 +299,9 @@ module _ (w : Linked) (world : IsWorld w) (assigned : Typings) (f : Frame Cell) 
     element-read :
         (fk : Kind) (h i : ℕ) → here.turn.operation ≡ ops.ArrayRead fk → h ≡ word_of (slice_index_or f.stack 1 cells.Empty)
         → (a : IsArrayAt w.classes heap h fk) → i < elements_of (with_heap heap) h
-        → IsTypedOutcome w assigned (goes_to tagged w (here.turn.stands.instruction.place + here.turn.stands.instruction.insn.len) (record { frames = f ∷ below; heap = heap; statics = statics })
+        → IsTypedOutcome w assigned
+        (goes_to tagged w (here.turn.stands.instruction.place + here.turn.stands.instruction.insn.len)
+        (record { frames = f ∷ below; heap = heap; statics = statics })
         (replaced (record { frames = f ∷ below; heap = heap; statics = statics }) 2 (value_in tagged fk (object_cells (with_heap heap) h) (i * width fk))))
     element-read fields.Ref h i is at a within =
         let t = w.classes in
@@ -298,18 +312,22 @@ module _ (w : Linked) (world : IsWorld w) (assigned : Typings) (f : Frame Cell) 
         let cell = cell-at t (assigned.unset f.method) ks f.stack 1 (λ ty. Below t ty (ArrRef (object t))) asked.1.0 in
         let filled = stacked-filled w here.turn.stands.rec ks c (stacked-at w here.turn.stands.rec ks f.stack 1 cell.inside here.turn.stacked) in
         let type_is : least_type t (assigned.unset f.method) ks c ≡ type_of_kind t k =
-        reference-same t world.chains (assigned.unset f.method) ks c (ArrRef (object t)) tt filled cell.holds ∙ (ap (type_of_handle t ks) (sym at) ∙ kind-type t ks h k a.kind_is) in
-        read-one-safe h (i * 1) 2 (element_type t k) (element (slice_index_or (least_types t (assigned.unset f.method) ks f.stack) 1 Top)) (ops.ArrayRead fields.Ref) is refl refl
+        reference-same t world.chains (assigned.unset f.method) ks c (ArrRef (object t)) tt filled cell.holds
+        ∙ (ap (type_of_handle t ks) (sym at) ∙ kind-type t ks h k a.kind_is) in
+        read-one-safe h (i * 1) 2 (element_type t k) (element (slice_index_or (least_types t (assigned.unset f.method) ks f.stack) 1 Top))
+        (ops.ArrayRead fields.Ref) is refl refl
         (reference-element t k a.fits ∙ ap element (sym type_is ∙ sym cell.seen))
         (cell-read h (i * 1) (element_type t k) (element-value t k).0 (element-value t k).1 (first-at t heap h fields.Ref a i within))
     element-read fields.Byte h i is at a within =
         let k = a.object.kind in
         read-one-safe h (i * 1) 2 (element_type w.classes k) Short (ops.ArrayRead fields.Byte) is refl refl (short-element w.classes k (inl a.fits))
-        (cell-read h (i * 1) (element_type w.classes k) (element-value w.classes k).0 (element-value w.classes k).1 (first-at w.classes heap h fields.Byte a i within))
+        (cell-read h (i * 1) (element_type w.classes k) (element-value w.classes k).0 (element-value w.classes k).1
+        (first-at w.classes heap h fields.Byte a i within))
     element-read fields.Short h i is at a within =
         let k = a.object.kind in
         read-one-safe h (i * 1) 2 (element_type w.classes k) Short (ops.ArrayRead fields.Short) is refl refl (short-element w.classes k (inr a.fits))
-        (cell-read h (i * 1) (element_type w.classes k) (element-value w.classes k).0 (element-value w.classes k).1 (first-at w.classes heap h fields.Short a i within))
+        (cell-read h (i * 1) (element_type w.classes k) (element-value w.classes k).0 (element-value w.classes k).1
+        (first-at w.classes heap h fields.Short a i within))
     element-read fields.Int h i is at a within =
         read-int-safe h (i * 2) 2 (ops.ArrayRead fields.Int) is refl refl
         (cell-read h (i * 2) IntHigh tt tt (first-at w.classes heap h fields.Int a i within ∙ ap Some (int-element w.classes a.object.kind a.fits)))
@@ -317,7 +335,9 @@ module _ (w : Linked) (world : IsWorld w) (assigned : Typings) (f : Frame Cell) 
 
     pub array-read-safe :
         (fk : Kind) → here.turn.operation ≡ ops.ArrayRead fk
-        → IsTypedOutcome w assigned (settled tagged w (here.turn.stands.instruction.place + here.turn.stands.instruction.insn.len) (record { frames = f ∷ below; heap = heap; statics = statics })
+        → IsTypedOutcome w assigned
+        (settled tagged w (here.turn.stands.instruction.place + here.turn.stands.instruction.insn.len)
+        (record { frames = f ∷ below; heap = heap; statics = statics })
         (array_read_act tagged fk (record { frames = f ∷ below; heap = heap; statics = statics })))
     array-read-safe fk is =
         let now : State Cell = record { frames = f ∷ below; heap = heap; statics = statics } in
@@ -327,7 +347,10 @@ module _ (w : Linked) (world : IsWorld w) (assigned : Typings) (f : Frame Cell) 
         let asked = asked-of w world assigned f below heap statics here (ops.ArrayRead fk) is in
         let wanted = cell-at w.classes (assigned.unset f.method) (kinds_of heap) f.stack 1 (Meets w.classes (array_wanted w.classes fk)) asked.1.0 in
         null-safe w world assigned f below heap statics here next h
-        (λ n. at_element (short_at tagged f.stack 0) (elements_of now n) (λ i. goes (replaced now 2 (value_in tagged fk (object_cells now n) (i * width fk)))))
-        (λ some. some-safe w world assigned f below heap statics here next exceptions.ArrayIndex (element_index (short_at tagged f.stack 0) (elements_of now h))
+        (λ n. at_element (short_at tagged f.stack 0) (elements_of now n)
+        (λ i. goes (replaced now 2 (value_in tagged fk (object_cells now n) (i * width fk)))))
+        (λ some. some-safe w world assigned f below heap statics here next exceptions.ArrayIndex
+        (element_index (short_at tagged f.stack 0) (elements_of now h))
         (λ i. goes (replaced now 2 (value_in tagged fk (object_cells now h) (i * width fk))))
-        (λ i e. element-read fk h i is refl (array-there w.classes world.chains (assigned.unset f.method) heap c fk some wanted.holds) (index-within (short_at tagged f.stack 0) (elements_of now h) i e)))
+        (λ i e. element-read fk h i is refl (array-there w.classes world.chains (assigned.unset f.method) heap c fk some wanted.holds)
+        (index-within (short_at tagged f.stack 0) (elements_of now h) i e)))

@@ -1,5 +1,6 @@
 -- Branches and switches at a frame's turn.
-use Rattle.std.proofs.Common.{◌≡◌, ℕ, ◌+◌, Bool, true, false, inl, inr, if◌then◌else◌, List, [], ◌∷◌, drop, map, refl, sym, ap, ◌∙◌, subst}
+use Rattle.std.proofs.Common.{◌≡◌, ℕ, ◌+◌, Bool, true, false, inl, inr, if◌then◌else◌, List, [], ◌∷◌, drop, map, refl, sym, ap}
+use Rattle.std.proofs.Common.{◌∙◌, subst}
 use Rattle.std.specs.Prelude.{ℤ, pos, negsuc, Option, Some, None, Contains, find}
 use Rattle.std.proofs.lemmas.List.Elements.{All-nil, All-drop, All-contains}
 use Rattle.jc_base.specs.Each.{IsAmong}
@@ -42,7 +43,8 @@ use Rattle.law_sound.proofs.SafeTurns.{Here, replace-safe, replaced-below}
 
 -- ---- where an instruction leads
 
-pub targets-are : (code : List ℕ) (p : Placed) → jumps p.insn.op ≡ true → targets code p ≡ target p.place p.insn.x ∷ map (λ (c : Case). target p.place c.offset) (cases code p.place p.insn)
+pub targets-are : (code : List ℕ) (p : Placed) → jumps p.insn.op ≡ true
+    → targets code p ≡ target p.place p.insn.x ∷ map (λ (c : Case). target p.place c.offset) (cases code p.place p.insn)
 unfolding targets
 targets-are code p h = ap (λ b. if b then target p.place p.insn.x ∷ map (λ (c : Case). target p.place c.offset) (cases code p.place p.insn) else []) h
 
@@ -57,13 +59,15 @@ default-led code p h =
     (Contains-first (target p.place p.insn.x) (map (λ (c : Case). target p.place c.offset) (cases code p.place p.insn)))
 
 chosen-led :
-    (code : List ℕ) (p : Placed) (test : Case → Bool) (chosen : Option Case) → jumps p.insn.op ≡ true → find test (cases code p.place p.insn) ≡ chosen
+    (code : List ℕ) (p : Placed) (test : Case → Bool) (chosen : Option Case) → jumps p.insn.op ≡ true → find test (cases code p.place p.insn)
+    ≡ chosen
     → Contains (targets code p) (target p.place (case_offset p.insn.x chosen))
 chosen-led code p test None h e = default-led code p h
 chosen-led code p test (Some c) h e =
     let g : Case → ℤ = λ (x : Case). target p.place x.offset in
     subst (λ ts. Contains ts (target p.place c.offset)) (sym (targets-are code p h))
-    (Contains-later (target p.place p.insn.x) (map g (cases code p.place p.insn)) (g c) (mapped-among g (cases code p.place p.insn) c (found-passes test (cases code p.place p.insn) c e).1))
+    (Contains-later (target p.place p.insn.x) (map g (cases code p.place p.insn)) (g c)
+    (mapped-among g (cases code p.place p.insn) c (found-passes test (cases code p.place p.insn) c e).1))
 
 module _ (w : Linked) (world : IsWorld w) (assigned : Typings) (f : Frame Cell) (below : List (Frame Cell)) (heap : List (Object Cell)) (statics : List Cell)
     (here : Here w assigned f below heap statics)
@@ -116,7 +120,8 @@ module _ (w : Linked) (world : IsWorld w) (assigned : Typings) (f : Frame Cell) 
         (record { frames = f ∷ below; heap = heap; statics = statics })
         (leads_if taken (target f.place here.turn.stands.instruction.insn.x) (dropped (record { frames = f ∷ below; heap = heap; statics = statics }) width)))
     branch-by b true width is does falls =
-        leads-safe (here.turn.stands.instruction.place + here.turn.stands.instruction.insn.len) (target f.place here.turn.stands.instruction.insn.x) width (ops.Branch b) is does
+        leads-safe (here.turn.stands.instruction.place + here.turn.stands.instruction.insn.len) (target f.place here.turn.stands.instruction.insn.x) width
+        (ops.Branch b) is does
         (led-to (ops.Branch b) is refl)
     branch-by b false width is does falls =
         replace-safe w world assigned f below heap statics here width given.Nothing [] heap statics
@@ -129,7 +134,8 @@ module _ (w : Linked) (world : IsWorld w) (assigned : Typings) (f : Frame Cell) 
         (record { frames = f ∷ below; heap = heap; statics = statics })
         (branch_act tagged here.turn.stands.instruction.insn b (record { frames = f ∷ below; heap = heap; statics = statics })))
     branch-safe branches.Always is =
-        leads-safe (here.turn.stands.instruction.place + here.turn.stands.instruction.insn.len) (target f.place here.turn.stands.instruction.insn.x) 0 (ops.Branch branches.Always) is refl
+        leads-safe (here.turn.stands.instruction.place + here.turn.stands.instruction.insn.len) (target f.place here.turn.stands.instruction.insn.x) 0
+        (ops.Branch branches.Always) is refl
         (led-to (ops.Branch branches.Always) is refl)
     branch-safe (branches.Zero o) is = branch-by (branches.Zero o) (is_taken tagged (branches.Zero o) f.stack) 1 is refl refl
     branch-safe (branches.Null e) is = branch-by (branches.Null e) (is_taken tagged (branches.Null e) f.stack) 1 is refl refl
@@ -142,7 +148,9 @@ module _ (w : Linked) (world : IsWorld w) (assigned : Typings) (f : Frame Cell) 
         → IsTypedOutcome w assigned (settled tagged w (here.turn.stands.instruction.place + here.turn.stands.instruction.insn.len)
         (record { frames = f ∷ below; heap = heap; statics = statics })
         (jumping
-        (target f.place (case_offset here.turn.stands.instruction.insn.x (find (has_key (number_on tagged width f.stack)) (cases (code_at w f.method) f.place here.turn.stands.instruction.insn))))
+        (target f.place
+        (case_offset here.turn.stands.instruction.insn.x
+        (find (has_key (number_on tagged width f.stack)) (cases (code_at w f.method) f.place here.turn.stands.instruction.insn))))
         (dropped (record { frames = f ∷ below; heap = heap; statics = statics }) size)))
     switch-by width size is does =
         let st = here.turn.stands in
@@ -153,7 +161,8 @@ module _ (w : Linked) (world : IsWorld w) (assigned : Typings) (f : Frame Cell) 
         let led : Contains (targets code st.instruction) (to st.instruction.place code) =
         chosen-led code st.instruction test (find test (cases code st.instruction.place st.instruction.insn))
         (jumps-on w st.rec st.instruction.place st.instruction.insn here.turn.operation here.turn.resolves (ap jumps_from is)) refl in
-        let at_place : Contains (targets code st.instruction) (to f.place code) = subst (λ p. Contains (targets code st.instruction) (to p code)) there.at led in
+        let at_place : Contains (targets code st.instruction) (to f.place code) = subst (λ p. Contains (targets code st.instruction) (to p code)) there.at
+        led in
         leads-safe (st.instruction.place + st.instruction.insn.len) (to f.place (code_at w f.method)) size (ops.Switch width) is does
         (subst (λ bytes. Contains (targets code st.instruction) (to f.place bytes)) (sym (code-is w assigned f.method st.rec st.is_method)) at_place)
 

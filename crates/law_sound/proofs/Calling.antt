@@ -1,5 +1,6 @@
 -- Calls at a frame's turn.
-use Rattle.std.proofs.Common.{◌≡◌, ℕ, ◌+◌, ◌<◌, Bool, true, false, if◌then◌else◌, List, [], ◌∷◌, ◌++◌, length, map, reverse, take, drop, refl, sym, ap, ◌∙◌, subst, arith}
+use Rattle.std.proofs.Common.{◌≡◌, ℕ, ◌+◌, ◌<◌, Bool, true, false, if◌then◌else◌, List, [], ◌∷◌, ◌++◌, length, map, reverse}
+use Rattle.std.proofs.Common.{take, drop, refl, sym, ap, ◌∙◌, subst, arith}
 use Rattle.std.specs.Prelude.{Option, Some, None, IsSomeAnd, All, slice_get, slice_index_or}
 use Rattle.std.proofs.lemmas.Bool.{eq-eqb}
 use Rattle.std.proofs.lemmas.List.{map-append, take-map, drop-map, length-map, length-reverse, reverse-append, reverse-reverse, take_more}
@@ -57,7 +58,8 @@ use Rattle.law_sound.proofs.Registers.{asked-of}
 use Rattle.law_sound.proofs.Turns.{waits}
 use Rattle.law_sound.proofs.SafeTurns.{Here}
 
-module _ (w : Linked) (world : IsWorld w) (assigned : Typings) (typings : AreTypings w assigned) (f : Frame Cell) (below : List (Frame Cell)) (heap : List (Object Cell)) (statics : List Cell)
+module _ (w : Linked) (world : IsWorld w) (assigned : Typings) (typings : AreTypings w assigned) (f : Frame Cell) (below : List (Frame Cell))
+    (heap : List (Object Cell)) (statics : List Cell)
     (here : Here w assigned f below heap statics)
   where
     -- a method with code is entered with so many cells of a stack, which are below its parameters, and the caller waits for its result
@@ -67,7 +69,8 @@ module _ (w : Linked) (world : IsWorld w) (assigned : Typings) (typings : AreTyp
         → falls_from here.turn.operation ≡ true
         → CellsBelow w.classes (least_types w.classes (assigned.unset f.method) (kinds_of heap) (reverse (take count stack))) (receiver_of m ++ m.sig.args)
         → FrameBelow w.classes
-        (types_with w.classes (assigned.unset f.method) (kinds_of heap) result (record { method = f.method; place = f.place; registers = f.registers; stack = drop count stack })) here.turn.after
+        (types_with w.classes (assigned.unset f.method) (kinds_of heap) result
+        (record { method = f.method; place = f.place; registers = f.registers; stack = drop count stack })) here.turn.after
         → All (IsStacked w here.turn.stands.rec (kinds_of heap)) stack
         → IsTypedOutcome w assigned (entered_call tagged w n count
         (record { frames = record { method = f.method; place = f.place; registers = f.registers; stack = stack } ∷ below; heap = heap; statics = statics }))
@@ -90,7 +93,8 @@ module _ (w : Linked) (world : IsWorld w) (assigned : Typings) (typings : AreTyp
           frames = (
             entered-typed w world assigned typings ks n m is lacks (reverse (take count stack)) own_args,
             (
-              subst (λ r. IsWaiting w assigned ks r (record { method = f.method; place = f.place; registers = f.registers; stack = drop count stack })) (sym given) waiting,
+              subst (λ r. IsWaiting w assigned ks r (record { method = f.method; place = f.place; registers = f.registers; stack = drop count stack }))
+                  (sym given) waiting,
               here.waits,
             ),
           );
@@ -104,18 +108,22 @@ module _ (w : Linked) (world : IsWorld w) (assigned : Typings) (typings : AreTyp
       where
         demanded : SatisfiesAll w.classes (types_of_frame w.classes (assigned.unset f.method) (kinds_of heap) f) (call_demands m.sig.args receiver)
         demanded =
-            subst (λ args. SatisfiesAll w.classes (types_of_frame w.classes (assigned.unset f.method) (kinds_of heap) f) (call_demands args receiver)) (ap args_at method)
+            subst (λ args. SatisfiesAll w.classes (types_of_frame w.classes (assigned.unset f.method) (kinds_of heap) f) (call_demands args receiver))
+            (ap args_at method)
             (asked-of w world assigned f below heap statics here (ops.Call (record { method = n; receiver = receiver; choice = choice })) is)
 
         -- the arguments are below their types, the last on top
-        pub args-below : CellsBelow w.classes (take (length m.sig.args) (least_types w.classes (assigned.unset f.method) (kinds_of heap) f.stack)) (reverse m.sig.args)
+        pub args-below : CellsBelow w.classes (take (length m.sig.args) (least_types w.classes (assigned.unset f.method) (kinds_of heap) f.stack))
+            (reverse m.sig.args)
         args-below =
             let exact = types_of_frame w.classes (assigned.unset f.method) (kinds_of heap) f in
             subst (λ k. CellsBelow w.classes (take k exact.stack) (reverse m.sig.args)) (length-reverse m.sig.args)
             (wanted-below w.classes exact 0 (reverse m.sig.args) (SatisfiesAll-front w.classes exact (cells_wanted 0 (reverse m.sig.args)) _ demanded))
 
         -- what the rule gives, by the change that the call makes
-        does : effect w here.turn.operation (types_of_frame w.classes (assigned.unset f.method) (kinds_of heap) f) ≡ on_stack (call_change m.sig.args (result_given m.sig.result) receiver (types_of_frame w.classes (assigned.unset f.method) (kinds_of heap) f))
+        does : effect w here.turn.operation (types_of_frame w.classes (assigned.unset f.method) (kinds_of heap) f)
+            ≡ on_stack
+            (call_change m.sig.args (result_given m.sig.result) receiver (types_of_frame w.classes (assigned.unset f.method) (kinds_of heap) f))
         does =
             let exact = types_of_frame w.classes (assigned.unset f.method) (kinds_of heap) f in
             ap (λ o. effect w o exact) is ∙ (ap (λ args. call_effect args (result_at (slice_get w.methods n)) receiver exact) (ap args_at method)
@@ -123,9 +131,15 @@ module _ (w : Linked) (world : IsWorld w) (assigned : Typings) (typings : AreTyp
 
         -- a frame whose stack is what the rule gives but for the result is below it
         given-below :
-            (change : Change) (stack : List Cell) → on_stack (call_change m.sig.args (result_given m.sig.result) receiver (types_of_frame w.classes (assigned.unset f.method) (kinds_of heap) f)) ≡ on_stack change
-            → in_stack_order (result_given m.sig.result) ++ least_types w.classes (assigned.unset f.method) (kinds_of heap) stack ≡ changed change (least_types w.classes (assigned.unset f.method) (kinds_of heap) f.stack)
-            → FrameBelow w.classes (types_with w.classes (assigned.unset f.method) (kinds_of heap) m.sig.result (record { method = f.method; place = f.place; registers = f.registers; stack = stack })) here.turn.after
+            (change : Change) (stack : List Cell)
+            → on_stack
+            (call_change m.sig.args (result_given m.sig.result) receiver (types_of_frame w.classes (assigned.unset f.method) (kinds_of heap) f))
+            ≡ on_stack change
+            → in_stack_order (result_given m.sig.result) ++ least_types w.classes (assigned.unset f.method) (kinds_of heap) stack ≡ changed change
+            (least_types w.classes (assigned.unset f.method) (kinds_of heap) f.stack)
+            → FrameBelow w.classes
+            (types_with w.classes (assigned.unset f.method) (kinds_of heap) m.sig.result
+            (record { method = f.method; place = f.place; registers = f.registers; stack = stack })) here.turn.after
         given-below change stack e stack_is =
             let ks = kinds_of heap in
             let exact = types_of_frame w.classes (assigned.unset f.method) ks f in
@@ -136,7 +150,9 @@ module _ (w : Linked) (world : IsWorld w) (assigned : Typings) (typings : AreTyp
             let regs_after : after.regs ≡ exact.regs = subst (λ (z : Effect). StoresInRegisters w.classes Flow z.store exact.regs after.regs) whole a.regs in
             record {
               regs = subst (CellsBelow w.classes exact.regs) (sym regs_after) (cells-same w.classes exact.regs);
-              stack = subst (CellsBelow w.classes (in_stack_order (result_given m.sig.result) ++ least_types w.classes (assigned.unset f.method) ks stack)) (stack_is ∙ sym stack_after)
+              stack =
+                  subst (CellsBelow w.classes (in_stack_order (result_given m.sig.result) ++ least_types w.classes (assigned.unset f.method) ks stack))
+                  (stack_is ∙ sym stack_after)
                   (cells-same w.classes (in_stack_order (result_given m.sig.result) ++ least_types w.classes (assigned.unset f.method) ks stack));
             }
 
@@ -150,10 +166,12 @@ module _ (w : Linked) (world : IsWorld w) (assigned : Typings) (typings : AreTyp
 
         -- the types of the arguments, in the order of the parameters
         args-turned :
-            (count : ℕ) (stack : List Cell) (tys : List Ty) → CellsBelow w.classes (take count (least_types w.classes (assigned.unset f.method) (kinds_of heap) stack)) tys
+            (count : ℕ) (stack : List Cell) (tys : List Ty)
+            → CellsBelow w.classes (take count (least_types w.classes (assigned.unset f.method) (kinds_of heap) stack)) tys
             → CellsBelow w.classes (least_types w.classes (assigned.unset f.method) (kinds_of heap) (reverse (take count stack))) (reverse tys)
         args-turned count stack tys h =
-            turned-below (take count stack) tys (subst (λ ts. CellsBelow w.classes ts tys) (take-map (least_type w.classes (assigned.unset f.method) (kinds_of heap)) count stack) h)
+            turned-below (take count stack) tys
+            (subst (λ ts. CellsBelow w.classes ts tys) (take-map (least_type w.classes (assigned.unset f.method) (kinds_of heap)) count stack) h)
 
         count-is : args_of w n ≡ length m.sig.args
         count-is = ap (of_method 0 (λ (x : MethodRec). length x.sig.args)) method
@@ -180,7 +198,8 @@ module _ (w : Linked) (world : IsWorld w) (assigned : Typings) (typings : AreTyp
         -- ---- with a receiver under the arguments
 
         module _ (want : Want) (wants : receiver ≡ Some want) where
-          receiver-asked : IsSomeAnd (slice_get (least_types w.classes (assigned.unset f.method) (kinds_of heap) f.stack) (length m.sig.args)) (Meets w.classes want)
+          receiver-asked : IsSomeAnd (slice_get (least_types w.classes (assigned.unset f.method) (kinds_of heap) f.stack) (length m.sig.args))
+              (Meets w.classes want)
           receiver-asked =
               let exact = types_of_frame w.classes (assigned.unset f.method) (kinds_of heap) f in
               let all = subst (λ r. SatisfiesAll w.classes exact (call_demands m.sig.args r)) wants demanded in
@@ -196,7 +215,8 @@ module _ (w : Linked) (world : IsWorld w) (assigned : Typings) (typings : AreTyp
 
           -- the receiver and the arguments, in the order of the parameters of the method that runs
           parameters-are :
-              (o : MethodRec) → o.sig ≡ m.sig → o.is_static ≡ false → reverse (reverse m.sig.args ++ Class o.class ∷ []) ≡ receiver_of o ++ o.sig.args
+              (o : MethodRec) → o.sig ≡ m.sig → o.is_static ≡ false → reverse (reverse m.sig.args ++ Class o.class ∷ [])
+              ≡ receiver_of o ++ o.sig.args
           parameters-are o sig dynamic =
               reverse-append (reverse m.sig.args) (Class o.class ∷ [])
               ∙ (ap (λ ts. Class o.class ∷ [] ++ ts) (reverse-reverse m.sig.args ∙ ap (λ (x : Sig). x.args) (sym sig))
@@ -205,9 +225,11 @@ module _ (w : Linked) (world : IsWorld w) (assigned : Typings) (typings : AreTyp
           -- an object that is ready runs a method with code
           pub run-safe :
               (k : ℕ) (o : MethodRec) → slice_get w.methods k ≡ Some o → lacks_code w.classes o ≡ false → o.sig ≡ m.sig → o.is_static ≡ false
-              → ready_with (length m.sig.args + 1) (result_given m.sig.result) (cell (least_types w.classes (assigned.unset f.method) (kinds_of heap) f.stack) (length m.sig.args)) want
+              → ready_with (length m.sig.args + 1) (result_given m.sig.result)
+              (cell (least_types w.classes (assigned.unset f.method) (kinds_of heap) f.stack) (length m.sig.args)) want
               ≡ Replace (length m.sig.args + 1) (result_given m.sig.result)
-              → Below w.classes (least_type w.classes (assigned.unset f.method) (kinds_of heap) (slice_index_or f.stack (length m.sig.args) cells.Empty)) (Class o.class)
+              → Below w.classes (least_type w.classes (assigned.unset f.method) (kinds_of heap) (slice_index_or f.stack (length m.sig.args) cells.Empty))
+              (Class o.class)
               → IsTypedOutcome w assigned (entered_call tagged w k (args_of w n + 1) (record { frames = f ∷ below; heap = heap; statics = statics }))
           run-safe k o there lacks sig dynamic plain receives =
               let ks = kinds_of heap in
@@ -215,16 +237,21 @@ module _ (w : Linked) (world : IsWorld w) (assigned : Typings) (typings : AreTyp
               let l : ℕ = length m.sig.args in
               let inside : l < length exact.stack = omega (arith, receiver-at.inside, length-map f.stack (least_type w.classes (assigned.unset f.method) ks)) in
               let split : take (l + 1) exact.stack ≡ take l exact.stack ++ slice_index_or exact.stack l Top ∷ [] = take_more exact.stack l Top inside in
-              let recv : Below w.classes (slice_index_or exact.stack l Top) (Class o.class) = subst (λ a. Below w.classes a (Class o.class)) (sym receiver-at.seen) receives in
+              let recv : Below w.classes (slice_index_or exact.stack l Top) (Class o.class) = subst (λ a. Below w.classes a (Class o.class))
+              (sym receiver-at.seen) receives in
               let taken : CellsBelow w.classes (take (l + 1) exact.stack) (reverse m.sig.args ++ Class o.class ∷ []) =
-              subst (λ ts. CellsBelow w.classes ts (reverse m.sig.args ++ Class o.class ∷ [])) (sym split) (cells-append w.classes args-below (more_cells recv no_cells)) in
+              subst (λ ts. CellsBelow w.classes ts (reverse m.sig.args ++ Class o.class ∷ [])) (sym split)
+              (cells-append w.classes args-below (more_cells recv no_cells)) in
               let args = args-turned (l + 1) f.stack (reverse m.sig.args ++ Class o.class ∷ []) taken in
-              subst (λ c. IsTypedOutcome w assigned (entered_call tagged w k (c + 1) (record { frames = f ∷ below; heap = heap; statics = statics }))) (sym count-is)
+              subst (λ c. IsTypedOutcome w assigned (entered_call tagged w k (c + 1) (record { frames = f ∷ below; heap = heap; statics = statics })))
+              (sym count-is)
               (call-safe k (l + 1) o m.sig.result f.stack there lacks (ap (λ (x : Sig). x.result) sig) (ap falls_from is)
-              (subst (CellsBelow w.classes (least_types w.classes (assigned.unset f.method) ks (reverse (take (l + 1) f.stack)))) (parameters-are o sig dynamic) args)
+              (subst (CellsBelow w.classes (least_types w.classes (assigned.unset f.method) ks (reverse (take (l + 1) f.stack))))
+              (parameters-are o sig dynamic) args)
               (given-below (Replace (l + 1) (result_given m.sig.result)) (drop (l + 1) f.stack)
               (ap (λ r. on_stack (call_change m.sig.args (result_given m.sig.result) r exact)) wants ∙ ap on_stack plain)
-              (ap (λ ts. in_stack_order (result_given m.sig.result) ++ ts) (sym (drop-map (least_type w.classes (assigned.unset f.method) ks) (l + 1) f.stack))))
+              (ap (λ ts. in_stack_order (result_given m.sig.result) ++ ts)
+              (sym (drop-map (least_type w.classes (assigned.unset f.method) ks) (l + 1) f.stack))))
               here.turn.stacked)
 
         -- ---- a constructor, on an object that is not ready
@@ -262,36 +289,49 @@ module _ (w : Linked) (world : IsWorld w) (assigned : Typings) (typings : AreTyp
             ∙ (map-append (made_ready p) (take l f.stack) (r ∷ [])
             ∙ (ap (λ xs. xs ++ made_ready p r ∷ []) kept ∙ ap (λ c. take l f.stack ++ c ∷ []) ready_is))) in
             let recv : Below t (type_of_handle t ks new.handle) (Class m.class) =
-            subst (λ a. Below t a (Class m.class)) (sym (kind-type t ks new.handle (Instance class) new.kind)) (subst (λ c. Below t (Class class) (Class c)) own same) in
+            subst (λ a. Below t a (Class m.class)) (sym (kind-type t ks new.handle (Instance class) new.kind))
+            (subst (λ c. Below t (Class class) (Class c)) own same) in
             let front : CellsBelow t (least_types t (assigned.unset f.method) ks (take l f.stack)) (reverse m.sig.args) =
             subst (λ ts. CellsBelow t ts (reverse m.sig.args)) (take-map ty l f.stack) args-below in
-            let cells_below : CellsBelow t (least_types t (assigned.unset f.method) ks (take l f.stack ++ cells.Ref new.handle ∷ [])) (reverse m.sig.args ++ Class m.class ∷ []) =
+            let cells_below : CellsBelow t (least_types t (assigned.unset f.method) ks (take l f.stack ++ cells.Ref new.handle ∷ []))
+            (reverse m.sig.args ++ Class m.class ∷ []) =
             subst (λ ts. CellsBelow t ts (reverse m.sig.args ++ Class m.class ∷ [])) (sym (map-append ty (take l f.stack) (cells.Ref new.handle ∷ [])))
             (cells-append t front (more_cells recv no_cells)) in
-            let args : CellsBelow t (least_types t (assigned.unset f.method) ks (reverse (take (l + 1) ready_stack))) (reverse (reverse m.sig.args ++ Class m.class ∷ [])) =
+            let args : CellsBelow t (least_types t (assigned.unset f.method) ks (reverse (take (l + 1) ready_stack)))
+            (reverse (reverse m.sig.args ++ Class m.class ∷ [])) =
             turned-below (take (l + 1) ready_stack) (reverse m.sig.args ++ Class m.class ∷ [])
-            (subst (λ xs. CellsBelow t (least_types t (assigned.unset f.method) ks xs) (reverse m.sig.args ++ Class m.class ∷ [])) (sym taken) cells_below) in
+            (subst (λ xs. CellsBelow t (least_types t (assigned.unset f.method) ks xs) (reverse m.sig.args ++ Class m.class ∷ [])) (sym taken)
+            cells_below) in
             let dropped_is : drop (l + 1) ready_stack ≡ map (made_ready p) (drop (l + 1) f.stack) = drop-map (made_ready p) (l + 1) f.stack in
             let rest : All (IsStacked w st.rec ks) (drop (l + 1) f.stack) = All-drop (IsStacked w st.rec ks) (l + 1) f.stack here.turn.stacked in
             let types_rest : least_types t (assigned.unset f.method) ks (drop (l + 1) ready_stack) ≡ map (ready p class) (drop (l + 1) exact.stack) =
             ap (least_types t (assigned.unset f.method) ks) dropped_is
-            ∙ (types-readied w world.chains st.rec (assigned.unset f.method) ks p class made (drop (l + 1) f.stack) rest ∙ ap (map (ready p class)) (sym (drop-map ty (l + 1) f.stack))) in
-            let changes : on_stack (call_change m.sig.args (result_given m.sig.result) receiver exact) ≡ on_stack (MakeReady (l + 1) p class (result_given m.sig.result)) =
+            ∙ (types-readied w world.chains st.rec (assigned.unset f.method) ks p class made (drop (l + 1) f.stack) rest
+            ∙ ap (map (ready p class)) (sym (drop-map ty (l + 1) f.stack))) in
+            let changes : on_stack (call_change m.sig.args (result_given m.sig.result) receiver exact)
+            ≡ on_stack (MakeReady (l + 1) p class (result_given m.sig.result)) =
             ap (λ x. on_stack (call_change m.sig.args (result_given m.sig.result) x exact)) wants
             ∙ ap (λ a. on_stack (ready_with (l + 1) (result_given m.sig.result) a (Receiver class))) (at.seen ∙ new.type_is) in
             subst (λ c. IsTypedOutcome w assigned (entered_call tagged w n (c + 1)
-            (record { frames = record { method = f.method; place = f.place; registers = f.registers; stack = ready_stack } ∷ below; heap = heap; statics = statics }))) (sym count-is)
+            (record {
+              frames = record { method = f.method; place = f.place; registers = f.registers; stack = ready_stack } ∷ below;
+              heap = heap;
+              statics = statics;
+            }))) (sym count-is)
             (call-safe n (l + 1) m m.sig.result ready_stack method lacks refl (ap falls_from is)
-            (subst (CellsBelow t (least_types t (assigned.unset f.method) ks (reverse (take (l + 1) ready_stack)))) (parameters-are (Receiver class) wants m refl dynamic) args)
+            (subst (CellsBelow t (least_types t (assigned.unset f.method) ks (reverse (take (l + 1) ready_stack))))
+            (parameters-are (Receiver class) wants m refl dynamic) args)
             (given-below (MakeReady (l + 1) p class (result_given m.sig.result)) (drop (l + 1) ready_stack) changes
             (ap (λ ts. in_stack_order (result_given m.sig.result) ++ ts) types_rest))
             (stacked-readied w world.chains st.rec (assigned.unset f.method) ks p class made f.stack here.turn.stacked))
           where
-            place-told : (r : Cell) → (x : IsNewOf w.classes (assigned.unset f.method) (kinds_of heap) class r) → IsStacked w here.turn.stands.rec (kinds_of heap) r → class_made w here.turn.stands.rec x.place ≡ Some class
+            place-told : (r : Cell) → (x : IsNewOf w.classes (assigned.unset f.method) (kinds_of heap) class r)
+                → IsStacked w here.turn.stands.rec (kinds_of heap) r → class_made w here.turn.stands.rec x.place ≡ Some class
             place-told r x stacked =
                 let there : IsSomeAnd (class_made w here.turn.stands.rec x.place) (λ c. kind_of_handle (kinds_of heap) x.handle ≡ Some (Instance c)) =
                 subst (IsStacked w here.turn.stands.rec (kinds_of heap)) x.cell_is stacked in
-                let found = IsSomeAnd-some (λ (c : ℕ). kind_of_handle (kinds_of heap) x.handle ≡ Some (Instance c)) (class_made w here.turn.stands.rec x.place) there in
+                let found = IsSomeAnd-some (λ (c : ℕ). kind_of_handle (kinds_of heap) x.handle ≡ Some (Instance c))
+                (class_made w here.turn.stands.rec x.place) there in
                 let kinds : ◌≡◌ {A = Option ObjectKind} (Some (Instance found.0)) (Some (Instance class)) = sym found.2 ∙ x.kind in
                 let one : found.0 ≡ class = cc in
                 found.1 ∙ ap Some one

@@ -140,7 +140,8 @@ module _ (w : Linked) (m : MethodRec) where
   stacked-falls ks more (cells.Low n) h = tt
   stacked-falls ks more (cells.Ref n) h = tt
   stacked-falls ks more (cells.Fresh n p) h =
-      some-weaker (λ c. kind_of_handle ks n ≡ Some (Instance c)) (λ c. kind_of_handle (ks ++ more) n ≡ Some (Instance c)) (λ c e. kind-front ks more n (Instance c) e)
+      some-weaker (λ c. kind_of_handle ks n ≡ Some (Instance c)) (λ c. kind_of_handle (ks ++ more) n ≡ Some (Instance c))
+      (λ c e. kind-front ks more n (Instance c) e)
       (class_made w m p) h
 
   pub not_bottoms : (unset : Ty) (ks : List ObjectKind) (cs : List Cell) → All (IsStacked w m ks) cs → All IsNotBottom (least_types w.classes unset ks cs)
@@ -151,11 +152,13 @@ module _ (w : Linked) (m : MethodRec) where
       (not_bottoms unset ks cs (All-tail (IsStacked w m ks) c cs h))
 
   -- cells of a stack are of the same types, however empty ones are read
-  pub stacked-alike : (a b : Ty) (ks : List ObjectKind) (cs : List Cell) → All (IsStacked w m ks) cs → least_types w.classes a ks cs ≡ least_types w.classes b ks cs
+  pub stacked-alike : (a b : Ty) (ks : List ObjectKind) (cs : List Cell) → All (IsStacked w m ks) cs
+      → least_types w.classes a ks cs ≡ least_types w.classes b ks cs
   stacked-alike a b ks [] h = refl
   stacked-alike a b ks (c ∷ cs) h =
       let filled = stacked-filled ks c (All-head (IsStacked w m ks) c cs h) in
-      let first : least_type w.classes a ks c ≡ least_type w.classes b ks c = sym (filled-same w.classes a ks c filled) ∙ filled-same w.classes b ks c filled in
+      let first : least_type w.classes a ks c ≡ least_type w.classes b ks c = sym (filled-same w.classes a ks c filled)
+      ∙ filled-same w.classes b ks c filled in
       ap (λ ty. ty ∷ least_types w.classes a ks cs) first
       ∙ ap (λ ts. least_type w.classes b ks c ∷ ts) (stacked-alike a b ks cs (All-tail (IsStacked w m ks) c cs h))
 

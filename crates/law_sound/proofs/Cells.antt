@@ -29,12 +29,14 @@ cell-at t unset ks (c ∷ cs) (suc n) P h =
     let rest = cell-at t unset ks cs n P h in
     record { inside = omega (arith, rest.inside); seen = rest.seen; holds = rest.holds }
 
-pub stacked-at : (w : Linked) (m : MethodRec) (ks : List ObjectKind) (cs : List Cell) (n : ℕ) → n < length cs → All (IsStacked w m ks) cs → IsStacked w m ks (slice_index_or cs n Empty)
+pub stacked-at : (w : Linked) (m : MethodRec) (ks : List ObjectKind) (cs : List Cell) (n : ℕ) → n < length cs → All (IsStacked w m ks) cs
+    → IsStacked w m ks (slice_index_or cs n Empty)
 stacked-at w m ks cs n lt all = All-get_or (IsStacked w m ks) cs n Empty lt all
 
 -- one ready cell, and two
 pub one-stacked : (w : Linked) (m : MethodRec) (ks : List ObjectKind) (c : Cell) → IsReadyCell c → All (IsStacked w m ks) (c ∷ [])
 one-stacked w m ks c h = All-cons (IsStacked w m ks) c [] (ready-stacked w m ks c h) (All-nil (IsStacked w m ks))
 
-pub two-stacked : (w : Linked) (m : MethodRec) (ks : List ObjectKind) (c d : Cell) → IsReadyCell c → IsReadyCell d → All (IsStacked w m ks) (c ∷ d ∷ [])
+pub two-stacked : (w : Linked) (m : MethodRec) (ks : List ObjectKind) (c d : Cell) → IsReadyCell c → IsReadyCell d
+    → All (IsStacked w m ks) (c ∷ d ∷ [])
 two-stacked w m ks c d h g = All-cons (IsStacked w m ks) c (d ∷ []) (ready-stacked w m ks c h) (one-stacked w m ks d g)

@@ -1,5 +1,6 @@
 -- The method that a call runs has code, and takes the receiver.
-use Rattle.std.proofs.Common.{◌≡◌, ℕ, ◌-◌, inl, inr, Bool, true, false, if◌then◌else◌, List, [], ◌∷◌, length, refl, sym, ap, ◌∙◌, subst}
+use Rattle.std.proofs.Common.{◌≡◌, ℕ, ◌-◌, inl, inr, Bool, true, false, if◌then◌else◌, List, [], ◌∷◌, length, refl, sym, ap, ◌∙◌}
+use Rattle.std.proofs.Common.{subst}
 use Rattle.std.specs.Prelude.{Option, Some, None, IsSomeAnd, All, slice_get, nat_lt, ◌==◌, find, cond, flat_map, option_and_then, option_map}
 use Rattle.std.proofs.lemmas.Bool.{eq-eqb, eqb-true, MatchBool-at_false, or_from}
 use Rattle.std.proofs.lemmas.Option.{same_Some, option_and_then_some}
@@ -12,7 +13,8 @@ use Rattle.jc_base.specs.declared.record.ClassRec.{ClassRec}
 use Rattle.jc_base.specs.declared.record.MethodRec.{MethodRec}
 use Rattle.jc_base.specs.Class.{ClassTable, IsClass, is_interface, chain, list_of}
 use Rattle.jc_base.specs.Order.{Below, is_on_chain, is_below}
-use Rattle.jc_base.specs.Dispatch.{of_record, package_of, public_of, visible_of, entry_at, nearest_of, visible_in, dispatched, HasBody, IsConcrete, signature_of, signature_at}
+use Rattle.jc_base.specs.Dispatch.{of_record, package_of, public_of, visible_of, entry_at, nearest_of, visible_in, dispatched, HasBody, IsConcrete}
+use Rattle.jc_base.specs.Dispatch.{signature_of, signature_at}
 use Rattle.jc_base.specs.Linked.{IsInherited, Dispatches, IsImplemented, IsExtended, IsLinkedClass, lacks_code}
 use Rattle.jc_base.specs.Laws.{RunsPublic}
 use Rattle.jc_base.specs.World.{Linked, IsWorld}
@@ -55,11 +57,13 @@ own-dispatched t c token = ap (λ xs. if nat_lt token 128 then slice_get (public
 
 -- ---- a concrete class
 
-dispatched-body : (t : ClassTable) (methods : List MethodRec) (r c token n : ℕ) → IsConcrete t methods r → dispatched t c token r ≡ Some n → HasBody methods n
+dispatched-body : (t : ClassTable) (methods : List MethodRec) (r c token n : ℕ) → IsConcrete t methods r → dispatched t c token r ≡ Some n
+    → HasBody methods n
 unfolding dispatched
 dispatched-body t methods r c token n concrete e = go (nat_lt token 128) e
   where
-    go : (b : Bool) → (if b then slice_get (public_of t r) token else slice_get (visible_in t (package_of t c) r) (token - 128)) ≡ Some n → HasBody methods n
+    go : (b : Bool) → (if b then slice_get (public_of t r) token else slice_get (visible_in t (package_of t c) r) (token - 128)) ≡ Some n
+        → HasBody methods n
     go true e = All-slice_get (HasBody methods) (public_of t r) token n concrete.public e
     go false e = All-slice_get (HasBody methods) (visible_in t (package_of t c) r) (token - 128) n (concrete.visible (package_of t c)) e
 
@@ -78,7 +82,8 @@ module _ (w : Linked) (world : IsWorld w) where
   Below-from_on_chain c d on = Below-from_is_below w.classes world.chains (Class c) (Class d) on
 
   -- a method of a class, with a body, has code
-  pub class-code : (r : ℕ) (m : MethodRec) → IsClass w.classes r → Below w.classes (Class r) (Class m.class) → m.is_abstract ≡ false → lacks_code w.classes m ≡ false
+  pub class-code : (r : ℕ) (m : MethodRec) → IsClass w.classes r → Below w.classes (Class r) (Class m.class) → m.is_abstract ≡ false
+      → lacks_code w.classes m ≡ false
   class-code r m class below body =
       let on = on_chain-from_Below w.classes world.chains r m.class below in
       or_from m.is_abstract (is_interface w.classes m.class) body (on_chain-class w.classes world.chains r m.class class on).class
@@ -111,10 +116,12 @@ module _ (w : Linked) (world : IsWorld w) where
     pub runs : RunsFor w r method sig
 
   pub dispatch-runs :
-      (c token r n : ℕ) (o : MethodRec) → IsConcrete w.classes w.methods r → Below w.classes (Class r) (Class c) → entry_at w.classes c token ≡ Some n → slice_get w.methods n ≡ Some o
+      (c token r n : ℕ) (o : MethodRec) → IsConcrete w.classes w.methods r → Below w.classes (Class r) (Class c)
+      → entry_at w.classes c token ≡ Some n → slice_get w.methods n ≡ Some o
       → IsDispatched c token r o.sig
   dispatch-runs c token r n o concrete below entry is =
-      let d : Dispatches w.classes w.methods c token r n = are_dispatched (length w.infos) w.classes w.methods world.chains world.classes c token r n below entry in
+      let d : Dispatches w.classes w.methods c token r n = are_dispatched (length w.infos) w.classes w.methods world.chains world.classes c token r n below
+      entry in
       record {
         method = d.method;
         found = d.found;
@@ -149,9 +156,11 @@ module _ (w : Linked) (world : IsWorld w) where
       go : (o : Option ClassRec) → slice_get w.classes.records a ≡ o → IsAmong e (of_record [] (λ (r : ClassRec). r.implements) o) → IsServed a e
       go None is h = absurd h
       go (Some r) is h =
-          let linked : IsLinkedClass (length w.infos) w.classes w.methods a r = IfSome-is (IsLinkedClass (length w.infos) w.classes w.methods a) (slice_get w.classes.records a) r (world.classes a) is in
+          let linked : IsLinkedClass (length w.infos) w.classes w.methods a r = IfSome-is (IsLinkedClass (length w.infos) w.classes w.methods a)
+          (slice_get w.classes.records a) r (world.classes a) is in
           let no_interface : r.interface ≡ false = interface_read w.classes a r is ∙ class in
-          let all = MatchBool-at_false (All (IsExtended w.classes) r.implements) (All (IsImplemented w.classes w.methods r.public) r.implements) no_interface linked.implements in
+          let all = MatchBool-at_false (All (IsExtended w.classes) r.implements) (All (IsImplemented w.classes w.methods r.public) r.implements)
+          no_interface linked.implements in
           record {
             record_of = r;
             is_record = is;
@@ -170,7 +179,9 @@ module _ (w : Linked) (world : IsWorld w) where
       let a = from.0 in
       let a_class = on_chain-class t world.chains r a concrete.class from.1 in
       let s = entry-implemented a e a_class.class from.2 in
-      let serves = All-slice_get (λ (m : MethodRec). m.class ≡ e.class → option_and_then (signature_at w.methods s.record_of.public) (slice_get e.tokens m.token) ≡ Some m.sig)
+      let serves = All-slice_get
+      (λ (m : MethodRec). m.class ≡ e.class → option_and_then (signature_at w.methods s.record_of.public) (slice_get e.tokens m.token)
+      ≡ Some m.sig)
       w.methods n o s.implemented.serves is (class ∙ sym from.3) in
       let signature : signature_at w.methods s.record_of.public public ≡ Some o.sig =
       sym (ap (option_and_then (signature_at w.methods s.record_of.public)) (ap (slice_get e.tokens) at ∙ told)) ∙ serves in
@@ -178,7 +189,8 @@ module _ (w : Linked) (world : IsWorld w) where
       (λ x first sig.
       let below : Below t (Class r) (Class a) = Below-from_on_chain r a from.1 in
       let runs : RunsPublic t w.methods r public x =
-      public-methods_run (length w.infos) t w.methods world.chains world.classes r a public x below (ap (λ xs. slice_get xs public) (public_read t a s.record_of s.is_record) ∙ first) in
+      public-methods_run (length w.infos) t w.methods world.chains world.classes r a public x below
+      (ap (λ xs. slice_get xs public) (public_read t a s.record_of s.is_record) ∙ first) in
       let one : runs.method ≡ method = same_Some runs.method method (sym runs.found ∙ there) in
       inherited-runs r method n o concrete is
       (sym (ap (signature_of w.methods) one) ∙ (runs.signature ∙ (sig ∙ sym (ap (option_map (λ (m : MethodRec). m.sig)) is))))
@@ -191,7 +203,8 @@ module _ (w : Linked) (world : IsWorld w) where
       → served w.classes interface token r ≡ Some method
       → RunsFor w r method o.sig
   served-runs interface token r n method o concrete is class at e =
-      option_and_then_some (λ (x : Iface). option_and_then (λ public. slice_get (public_of w.classes r) public) (slice_get x.tokens token)) (serving w.classes interface r) method e
+      option_and_then_some (λ (x : Iface). option_and_then (λ public. slice_get (public_of w.classes r) public) (slice_get x.tokens token))
+      (serving w.classes interface r) method e
       (λ x served_by rest.
       option_and_then_some (λ public. slice_get (public_of w.classes r) public) (slice_get x.tokens token) method rest
       (λ public told there. told-runs interface token r n public method o x concrete is class at served_by told there))

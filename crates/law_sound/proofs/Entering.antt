@@ -1,5 +1,6 @@
 -- A method is entered with arguments of its types, and its caller waits for the result.
-use Rattle.std.proofs.Common.{◌≡◌, ℕ, zero, suc, ◌+◌, ◌-◌, min, Bool, true, false, if◌then◌else◌, List, [], ◌∷◌, ◌++◌, length, map, reverse, take, drop, replicate, refl, sym, ap, ◌∙◌, subst, arith, length-append}
+use Rattle.std.proofs.Common.{◌≡◌, ℕ, zero, suc, ◌+◌, ◌-◌, min, Bool, true, false, if◌then◌else◌, List, [], ◌∷◌, ◌++◌, length}
+use Rattle.std.proofs.Common.{map, reverse, take, drop, replicate, refl, sym, ap, ◌∙◌, subst, arith, length-append}
 use Rattle.std.specs.Prelude.{Some, slice_get}
 use Rattle.std.proofs.lemmas.Bool.{MatchBool-at_false}
 use Rattle.std.proofs.lemmas.List.{map-append, length-map, length-take, length-drop, reverse-append}
@@ -46,13 +47,15 @@ map-replicate : {X Y : Type 0} (g : X → Y) (n : ℕ) (x : X) → map g (replic
 map-replicate g zero x = refl
 map-replicate g (suc n) x = ap (λ ys. g x ∷ ys) (map-replicate g n x)
 
-pub types-turned : (t : ClassTable) (unset : Ty) (ks : List ObjectKind) (cs : List Cell) → least_types t unset ks (reverse cs) ≡ reverse (least_types t unset ks cs)
+pub types-turned : (t : ClassTable) (unset : Ty) (ks : List ObjectKind) (cs : List Cell) → least_types t unset ks (reverse cs)
+    ≡ reverse (least_types t unset ks cs)
 types-turned t unset ks cs = map-reverse (least_type t unset ks) cs
 
 -- ---- arguments
 
 -- the cells that are wanted are below their types
-pub wanted-below : (t : ClassTable) (f : Types) (n : ℕ) (tys : List Ty) → SatisfiesAll t f (cells_wanted n tys) → CellsBelow t (take (length tys) (drop n f.stack)) tys
+pub wanted-below : (t : ClassTable) (f : Types) (n : ℕ) (tys : List Ty) → SatisfiesAll t f (cells_wanted n tys)
+    → CellsBelow t (take (length tys) (drop n f.stack)) tys
 wanted-below t f n [] h = no_cells
 wanted-below t f n (ty ∷ tys) h =
     let found = IsSomeAnd-some (λ a. Below t a ty) (slice_get f.stack n) h.0 in
@@ -69,15 +72,19 @@ module _ (w : Linked) (world : IsWorld w) where
   has-code n m e lacks =
       let known = method-known n m e in
       let long : IsCodeLength m.code_len = MatchBool-at_false (m.code_len ≡ 0) (IsCodeLength m.code_len) lacks known.code in
-      let size : length (code_of w.infos m) ≡ min m.code_len (length (drop m.code_at (list_at w.infos m.package))) = length-take m.code_len (drop m.code_at (list_at w.infos m.package)) in
-      let rest : length (drop m.code_at (list_at w.infos m.package)) ≡ length (list_at w.infos m.package) - m.code_at = length-drop m.code_at (list_at w.infos m.package) in
+      let size : length (code_of w.infos m) ≡ min m.code_len (length (drop m.code_at (list_at w.infos m.package))) = length-take m.code_len
+      (drop m.code_at (list_at w.infos m.package)) in
+      let rest : length (drop m.code_at (list_at w.infos m.package)) ≡ length (list_at w.infos m.package) - m.code_at = length-drop m.code_at
+      (list_at w.infos m.package) in
       record { rec = e; code = refl; filled = omega (arith, size, rest, long.least, known.inside) }
 
-  module _ (assigned : Typings) (typings : AreTypings w assigned) (ks : List ObjectKind) (n : ℕ) (m : MethodRec) (is : slice_get w.methods n ≡ Some m) (lacks : lacks_code w.classes m ≡ false) where
+  module _ (assigned : Typings) (typings : AreTypings w assigned) (ks : List ObjectKind) (n : ℕ) (m : MethodRec) (is : slice_get w.methods n ≡ Some m)
+      (lacks : lacks_code w.classes m ≡ false) where
     -- its registers are the arguments, and as many others as it has locals
     registers-are :
         (args : List Cell) → CellsBelow w.classes (least_types w.classes (assigned.unset n) ks args) (receiver_of m ++ m.sig.args)
-        → least_types w.classes (assigned.unset n) ks (args ++ replicate (register_count w.methods n - length args) cells.Empty) ≡ least_types w.classes (assigned.unset n) ks args ++ replicate m.max_locals (assigned.unset n)
+        → least_types w.classes (assigned.unset n) ks (args ++ replicate (register_count w.methods n - length args) cells.Empty) ≡ least_types w.classes
+        (assigned.unset n) ks args ++ replicate m.max_locals (assigned.unset n)
     registers-are args below =
         let ty : Cell → Ty = least_type w.classes (assigned.unset n) ks in
         let known = method-known n m is in
@@ -87,7 +94,8 @@ module _ (w : Linked) (world : IsWorld w) where
         let own : length (receiver_of m) ≡ receiver_words m.is_static = receiver-length m.is_static m.class in
         let left : register_count w.methods n - length args ≡ m.max_locals = omega (arith, count, given, all, own, known.words) in
         map-append ty args (replicate (register_count w.methods n - length args) cells.Empty)
-        ∙ ap (λ ts. map ty args ++ ts) (map-replicate ty (register_count w.methods n - length args) cells.Empty ∙ ap (λ k. replicate k (assigned.unset n)) left)
+        ∙ ap (λ ts. map ty args ++ ts) (map-replicate ty (register_count w.methods n - length args) cells.Empty
+        ∙ ap (λ k. replicate k (assigned.unset n)) left)
       where
         receiver-length : (static : Bool) (c : ℕ) → length (if static then [] else Class c ∷ []) ≡ receiver_words static
         receiver-length true c = refl

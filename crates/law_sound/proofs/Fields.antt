@@ -84,7 +84,8 @@ one-cell fields.Int ty h one = absurd (omega (arith, one))
 
 -- ---- the cells of an object of a class
 
-instance-of : (t : ClassTable) → AreClasses t → (k : ObjectKind) (c : ℕ) → (c ≡ object t → ⊥) → Below t (type_of_kind t k) (Class c) → (d : ℕ) × (k ≡ Instance d) × Below t (Class d) (Class c)
+instance-of : (t : ClassTable) → AreClasses t → (k : ObjectKind) (c : ℕ) → (c ≡ object t → ⊥) → Below t (type_of_kind t k) (Class c)
+    → (d : ℕ) × (k ≡ Instance d) × Below t (Class d) (Class c)
 unfolding is_below
 instance-of t are (Instance d) c no_object b = (d, refl, b)
 instance-of t are Booleans c no_object b = absurd (no_object (eqb-true c (object t) (is_below-from_Below t are b)))
@@ -94,7 +95,8 @@ instance-of t are Ints c no_object b = absurd (no_object (eqb-true c (object t) 
 instance-of t are (References e) c no_object b = absurd (no_object (eqb-true c (object t) (is_below-from_Below t are b)))
 
 field-at :
-    (t : ClassTable) → AreClasses t → (heap : List (Object StoreCell)) (h c i : ℕ) (ty : Ty) (o : IsObject t heap h (Class c)) → (c ≡ object t → ⊥) → slice_get (cells_of t c) i ≡ Some ty
+    (t : ClassTable) → AreClasses t → (heap : List (Object StoreCell)) (h c i : ℕ) (ty : Ty) (o : IsObject t heap h (Class c))
+    → (c ≡ object t → ⊥) → slice_get (cells_of t c) i ≡ Some ty
     → cell_type_at t (with_heap heap) h i ≡ Some ty
 field-at t are heap h c i ty o no_object e =
     let n : ℕ = length o.object.cells in
@@ -104,7 +106,8 @@ field-at t are heap h c i ty o no_object e =
     ∙ (ap (λ k. slice_get (cell_types t k n) i) found.1
     ∙ (ap (λ ts. slice_get ts i) extends.whole ∙ slice_get-front (cells_of t c) extends.more i ty e))
 
-module _ (w : Linked) (world : IsWorld w) (assigned : Typings) (f : Frame StoreCell) (below : List (Frame StoreCell)) (heap : List (Object StoreCell)) (statics : List StoreCell)
+module _ (w : Linked) (world : IsWorld w) (assigned : Typings) (f : Frame StoreCell) (below : List (Frame StoreCell)) (heap : List (Object StoreCell))
+    (statics : List StoreCell)
     (here : Here w assigned f below heap statics)
   where
     -- a value that is read from an object in place of cells of the stack
@@ -115,16 +118,21 @@ module _ (w : Linked) (world : IsWorld w) (assigned : Typings) (f : Frame StoreC
         → IsOfKind kind ty → IsDeclared w.classes ty
         → cell_type_at w.classes (with_heap heap) h i ≡ Some ty
         → (kind ≡ fields.Int → cell_type_at w.classes (with_heap heap) h (i + 1) ≡ Some IntLow)
-        → IsTypedOutcome w assigned (goes_to tagged w (here.turn.stands.instruction.place + here.turn.stands.instruction.insn.len) (record { frames = f ∷ below; heap = heap; statics = statics })
+        → IsTypedOutcome w assigned
+        (goes_to tagged w (here.turn.stands.instruction.place + here.turn.stands.instruction.insn.len)
+        (record { frames = f ∷ below; heap = heap; statics = statics })
         (replaced (record { frames = f ∷ below; heap = heap; statics = statics }) taken (value_in tagged kind (object_cells (with_heap heap) h) i)))
     read-value-safe h i taken fields.Ref ty op is does falls of_kind declared first second =
-        read-one-safe w world assigned f below heap statics here h i taken ty ty op is (does ∙ ap (replacing taken) (one-cell fields.Ref ty of_kind refl).given_is) falls refl
+        read-one-safe w world assigned f below heap statics here h i taken ty ty op is
+        (does ∙ ap (replacing taken) (one-cell fields.Ref ty of_kind refl).given_is) falls refl
         (cell-read w world assigned f below heap statics here h i ty (declared-not_top w.classes ty declared) (declared-not_fresh w.classes ty declared) first)
     read-value-safe h i taken fields.Byte ty op is does falls of_kind declared first second =
-        read-one-safe w world assigned f below heap statics here h i taken ty ty op is (does ∙ ap (replacing taken) (one-cell fields.Byte ty of_kind refl).given_is) falls refl
+        read-one-safe w world assigned f below heap statics here h i taken ty ty op is
+        (does ∙ ap (replacing taken) (one-cell fields.Byte ty of_kind refl).given_is) falls refl
         (cell-read w world assigned f below heap statics here h i ty (declared-not_top w.classes ty declared) (declared-not_fresh w.classes ty declared) first)
     read-value-safe h i taken fields.Short ty op is does falls of_kind declared first second =
-        read-one-safe w world assigned f below heap statics here h i taken ty ty op is (does ∙ ap (replacing taken) (one-cell fields.Short ty of_kind refl).given_is) falls refl
+        read-one-safe w world assigned f below heap statics here h i taken ty ty op is
+        (does ∙ ap (replacing taken) (one-cell fields.Short ty of_kind refl).given_is) falls refl
         (cell-read w world assigned f below heap statics here h i ty (declared-not_top w.classes ty declared) (declared-not_fresh w.classes ty declared) first)
     read-value-safe h i taken fields.Int ty op is does falls of_kind declared first second =
         read-int-safe w world assigned f below heap statics here h i taken op is (does ∙ ap (λ a. replacing taken (value_given a)) of_kind) falls
@@ -134,13 +142,17 @@ module _ (w : Linked) (world : IsWorld w) (assigned : Typings) (f : Frame StoreC
     -- ---- where the object is
 
     abbrev IsHolderAsked : Holder → ℕ → ℕ → Type 0
-    IsHolderAsked holders.Stack under c = IsSomeAnd (slice_get (least_types w.classes (assigned.unset f.method) (kinds_of heap) f.stack) under) (λ a. Below w.classes a (Class c))
-    IsHolderAsked holders.This under c = IsSomeAnd (slice_get (least_types w.classes (assigned.unset f.method) (kinds_of heap) f.registers) 0) (λ a. Below w.classes a (Class c))
+    IsHolderAsked holders.Stack under c =
+        IsSomeAnd (slice_get (least_types w.classes (assigned.unset f.method) (kinds_of heap) f.stack) under) (λ a. Below w.classes a (Class c))
+    IsHolderAsked holders.This under c =
+        IsSomeAnd (slice_get (least_types w.classes (assigned.unset f.method) (kinds_of heap) f.registers) 0) (λ a. Below w.classes a (Class c))
 
     holder-below :
         (holder : Holder) (under c : ℕ)
         → IsHolderAsked holder under c
-        → Below w.classes (type_of_handle w.classes (kinds_of heap) (held_handle tagged holder under (record { frames = f ∷ below; heap = heap; statics = statics }))) (Class c)
+        → Below w.classes
+        (type_of_handle w.classes (kinds_of heap) (held_handle tagged holder under (record { frames = f ∷ below; heap = heap; statics = statics })))
+        (Class c)
     holder-below holders.Stack under c asked =
         let at = cell-at w.classes (assigned.unset f.method) (kinds_of heap) f.stack under (λ a. Below w.classes a (Class c)) asked in
         reference-handle w.classes world.chains (assigned.unset f.method) (kinds_of heap) (slice_index_or f.stack under cells.Empty) (Class c) tt at.holds
@@ -155,7 +167,8 @@ module _ (w : Linked) (world : IsWorld w) (assigned : Typings) (f : Frame StoreC
     read-asked class cell kind ty holders.This is =
         (asked-of w world assigned f below heap statics here (ops.FieldRead (record { class = class; cell = cell; kind = kind; ty = ty }) holders.This) is).1.0
 
-    low-half : (kind : Kind) (h i c : ℕ) (o : IsObject w.classes heap h (Class c)) → (c ≡ object w.classes → ⊥) → HasLowHalf kind (cells_of w.classes c) i → kind ≡ fields.Int
+    low-half : (kind : Kind) (h i c : ℕ) (o : IsObject w.classes heap h (Class c)) → (c ≡ object w.classes → ⊥)
+        → HasLowHalf kind (cells_of w.classes c) i → kind ≡ fields.Int
         → cell_type_at w.classes (with_heap heap) h (i + 1) ≡ Some IntLow
     low-half fields.Int h i c o no_object half e = field-at w.classes world.chains heap h c (i + 1) IntLow o no_object half
     low-half fields.Ref h i c o no_object half e = absurd (cc)
@@ -166,8 +179,11 @@ module _ (w : Linked) (world : IsWorld w) (assigned : Typings) (f : Frame StoreC
         (class cell : ℕ) (kind : Kind) (ty : Ty) (holder : Holder)
         → here.turn.operation ≡ ops.FieldRead (record { class = class; cell = cell; kind = kind; ty = ty }) holder
         → IsFieldOf w (record { class = class; cell = cell; kind = kind; ty = ty })
-        → IsTypedOutcome w assigned (settled tagged w (here.turn.stands.instruction.place + here.turn.stands.instruction.insn.len) (record { frames = f ∷ below; heap = heap; statics = statics })
-        (field_read_act tagged (record { class = class; cell = cell; kind = kind; ty = ty }) holder (record { frames = f ∷ below; heap = heap; statics = statics })))
+        → IsTypedOutcome w assigned
+        (settled tagged w (here.turn.stands.instruction.place + here.turn.stands.instruction.insn.len)
+        (record { frames = f ∷ below; heap = heap; statics = statics })
+        (field_read_act tagged (record { class = class; cell = cell; kind = kind; ty = ty }) holder
+        (record { frames = f ∷ below; heap = heap; statics = statics })))
     field-read-safe class cell kind ty holder is field =
         let now : State StoreCell = record { frames = f ∷ below; heap = heap; statics = statics } in
         let h : ℕ = held_handle tagged holder 0 now in
@@ -178,22 +194,30 @@ module _ (w : Linked) (world : IsWorld w) (assigned : Typings) (f : Frame StoreC
         by-holder holder h is o)
       where
         by-holder :
-            (place : Holder) (h : ℕ) → here.turn.operation ≡ ops.FieldRead (record { class = class; cell = cell; kind = kind; ty = ty }) place → IsObject w.classes heap h (Class class)
-            → IsTypedOutcome w assigned (goes_to tagged w (here.turn.stands.instruction.place + here.turn.stands.instruction.insn.len) (record { frames = f ∷ below; heap = heap; statics = statics })
-            (with_field_read tagged (record { class = class; cell = cell; kind = kind; ty = ty }) place h (record { frames = f ∷ below; heap = heap; statics = statics })))
+            (place : Holder) (h : ℕ) → here.turn.operation ≡ ops.FieldRead (record { class = class; cell = cell; kind = kind; ty = ty }) place
+            → IsObject w.classes heap h (Class class)
+            → IsTypedOutcome w assigned
+            (goes_to tagged w (here.turn.stands.instruction.place + here.turn.stands.instruction.insn.len)
+            (record { frames = f ∷ below; heap = heap; statics = statics })
+            (with_field_read tagged (record { class = class; cell = cell; kind = kind; ty = ty }) place h
+            (record { frames = f ∷ below; heap = heap; statics = statics })))
         by-holder holders.Stack h is o =
-            read-value-safe h cell 1 kind ty (ops.FieldRead (record { class = class; cell = cell; kind = kind; ty = ty }) holders.Stack) is refl refl field.cells.kind field.ty
+            read-value-safe h cell 1 kind ty (ops.FieldRead (record { class = class; cell = cell; kind = kind; ty = ty }) holders.Stack) is refl refl
+            field.cells.kind field.ty
             (field-at w.classes world.chains heap h class cell ty o field.not_object field.cells.first)
             (low-half kind h cell class o field.not_object field.cells.second)
         by-holder holders.This h is o =
-            read-value-safe h cell 0 kind ty (ops.FieldRead (record { class = class; cell = cell; kind = kind; ty = ty }) holders.This) is refl refl field.cells.kind field.ty
+            read-value-safe h cell 0 kind ty (ops.FieldRead (record { class = class; cell = cell; kind = kind; ty = ty }) holders.This) is refl refl
+            field.cells.kind field.ty
             (field-at w.classes world.chains heap h class cell ty o field.not_object field.cells.first)
             (low-half kind h cell class o field.not_object field.cells.second)
 
     -- ---- writes
 
     -- the cells of the value on top of the stack have their types
-    pub value-held : (ty : Ty) → IsOneCell ty → IsDeclared w.classes ty → SatisfiesAll w.classes (types_of_frame w.classes (assigned.unset f.method) (kinds_of heap) f) (value_wanted ty) → IsHeld w world assigned f below heap statics here 0 ty
+    pub value-held : (ty : Ty) → IsOneCell ty → IsDeclared w.classes ty
+        → SatisfiesAll w.classes (types_of_frame w.classes (assigned.unset f.method) (kinds_of heap) f) (value_wanted ty)
+        → IsHeld w world assigned f below heap statics here 0 ty
     value-held ty one declared asked =
         held-at w world assigned f below heap statics here 0 ty (declared-ready w.classes ty declared)
         (subst (SatisfiesAll w.classes (types_of_frame w.classes (assigned.unset f.method) (kinds_of heap) f)) one.wanted asked).0
@@ -203,26 +227,35 @@ module _ (w : Linked) (world : IsWorld w) (assigned : Typings) (f : Frame StoreC
         (h i taken : ℕ) (kind : Kind) (ty : Ty) (op : Operation)
         → here.turn.operation ≡ op
         → effect w op (types_of_frame w.classes (assigned.unset f.method) (kinds_of heap) f) ≡ replacing taken given.Nothing → falls_from op ≡ true
-        → IsOfKind kind ty → IsDeclared w.classes ty → SatisfiesAll w.classes (types_of_frame w.classes (assigned.unset f.method) (kinds_of heap) f) (value_wanted ty)
+        → IsOfKind kind ty → IsDeclared w.classes ty → SatisfiesAll w.classes (types_of_frame w.classes (assigned.unset f.method) (kinds_of heap) f)
+        (value_wanted ty)
         → (h ≡ 0 → ⊥)
         → cell_type_at w.classes (with_heap heap) h i ≡ Some ty
         → (kind ≡ fields.Int → cell_type_at w.classes (with_heap heap) h (i + 1) ≡ Some IntLow)
-        → IsTypedOutcome w assigned (goes_to tagged w (here.turn.stands.instruction.place + here.turn.stands.instruction.insn.len) (record { frames = f ∷ below; heap = heap; statics = statics })
-        (with_object_value (dropped (record { frames = f ∷ below; heap = heap; statics = statics }) taken) h i (kept_value tagged kind (value_on tagged kind f.stack))))
+        → IsTypedOutcome w assigned
+        (goes_to tagged w (here.turn.stands.instruction.place + here.turn.stands.instruction.insn.len)
+        (record { frames = f ∷ below; heap = heap; statics = statics })
+        (with_object_value (dropped (record { frames = f ∷ below; heap = heap; statics = statics }) taken) h i
+        (kept_value tagged kind (value_on tagged kind f.stack))))
     write-value-safe h i taken fields.Ref ty op is does falls of_kind declared asked some first second =
         let value = value-held ty (one-cell fields.Ref ty of_kind refl) declared asked in
-        write-safe w world assigned f below heap statics here h i ty (slice_index_or f.stack 0 cells.Empty) taken op is does falls some first value.has value.filled
+        write-safe w world assigned f below heap statics here h i ty (slice_index_or f.stack 0 cells.Empty) taken op is does falls some first value.has
+        value.filled
     write-value-safe h i taken fields.Byte ty op is does falls of_kind declared asked some first second =
-        write-safe w world assigned f below heap statics here h i Short (cells.Short (byte_of_word (word_of (slice_index_or f.stack 0 cells.Empty)))) taken op is does falls some
+        write-safe w world assigned f below heap statics here h i Short (cells.Short (byte_of_word (word_of (slice_index_or f.stack 0 cells.Empty)))) taken
+        op is does falls some
         (first ∙ ap Some of_kind) short tt
     write-value-safe h i taken fields.Short ty op is does falls of_kind declared asked some first second =
         let value = value-held ty (one-cell fields.Short ty of_kind refl) declared asked in
-        write-safe w world assigned f below heap statics here h i ty (slice_index_or f.stack 0 cells.Empty) taken op is does falls some first value.has value.filled
+        write-safe w world assigned f below heap statics here h i ty (slice_index_or f.stack 0 cells.Empty) taken op is does falls some first value.has
+        value.filled
     write-value-safe h i taken fields.Int ty op is does falls of_kind declared asked some first second =
-        let halves = subst (λ a. SatisfiesAll w.classes (types_of_frame w.classes (assigned.unset f.method) (kinds_of heap) f) (value_wanted a)) of_kind asked in
+        let halves = subst (λ a. SatisfiesAll w.classes (types_of_frame w.classes (assigned.unset f.method) (kinds_of heap) f) (value_wanted a)) of_kind
+        asked in
         let lower = held-at w world assigned f below heap statics here 0 IntLow tt halves.0 in
         let upper = held-at w world assigned f below heap statics here 1 IntHigh tt halves.1.0 in
-        write-int-safe w world assigned f below heap statics here h i IntHigh IntLow (slice_index_or f.stack 1 cells.Empty) (slice_index_or f.stack 0 cells.Empty) taken op is does falls some
+        write-int-safe w world assigned f below heap statics here h i IntHigh IntLow (slice_index_or f.stack 1 cells.Empty)
+        (slice_index_or f.stack 0 cells.Empty) taken op is does falls some
         (first ∙ ap Some of_kind) upper.has upper.filled (second refl) lower.has lower.filled
 
     -- how many cells a value takes
@@ -242,8 +275,11 @@ module _ (w : Linked) (world : IsWorld w) (assigned : Typings) (f : Frame StoreC
         (class cell : ℕ) (kind : Kind) (ty : Ty) (holder : Holder)
         → here.turn.operation ≡ ops.FieldWrite (record { class = class; cell = cell; kind = kind; ty = ty }) holder
         → IsFieldOf w (record { class = class; cell = cell; kind = kind; ty = ty })
-        → IsTypedOutcome w assigned (settled tagged w (here.turn.stands.instruction.place + here.turn.stands.instruction.insn.len) (record { frames = f ∷ below; heap = heap; statics = statics })
-        (field_write_act tagged (record { class = class; cell = cell; kind = kind; ty = ty }) holder (record { frames = f ∷ below; heap = heap; statics = statics })))
+        → IsTypedOutcome w assigned
+        (settled tagged w (here.turn.stands.instruction.place + here.turn.stands.instruction.insn.len)
+        (record { frames = f ∷ below; heap = heap; statics = statics })
+        (field_write_act tagged (record { class = class; cell = cell; kind = kind; ty = ty }) holder
+        (record { frames = f ∷ below; heap = heap; statics = statics })))
     field-write-safe class cell kind ty holders.Stack is field =
         let now : State StoreCell = record { frames = f ∷ below; heap = heap; statics = statics } in
         let fd : InstanceField = record { class = class; cell = cell; kind = kind; ty = ty } in
@@ -257,7 +293,8 @@ module _ (w : Linked) (world : IsWorld w) (assigned : Typings) (f : Frame StoreC
         (λ n. goes (with_field_write tagged fd holders.Stack n now))
         (λ some.
         let o = handle-object w.classes world.chains heap h (Class class) tt some (holder-below holders.Stack (width kind) class at_width) in
-        write-value-safe h cell (width kind + 1) kind ty (ops.FieldWrite fd holders.Stack) is (ap (λ n. replacing (n + 1) given.Nothing) size) refl field.cells.kind field.ty
+        write-value-safe h cell (width kind + 1) kind ty (ops.FieldWrite fd holders.Stack) is (ap (λ n. replacing (n + 1) given.Nothing) size) refl
+        field.cells.kind field.ty
         (SatisfiesAll-front w.classes exact (value_wanted ty) (Cell (value_size ty) (Value (Class class)) ∷ []) asked) some
         (field-at w.classes world.chains heap h class cell ty o field.not_object field.cells.first)
         (low-half kind h cell class o field.not_object field.cells.second))
@@ -273,7 +310,8 @@ module _ (w : Linked) (world : IsWorld w) (assigned : Typings) (f : Frame StoreC
         (λ n. goes (with_field_write tagged fd holders.This n now))
         (λ some.
         let o = handle-object w.classes world.chains heap h (Class class) tt some (holder-below holders.This (width kind) class object_asked) in
-        write-value-safe h cell (width kind + 0) kind ty (ops.FieldWrite fd holders.This) is (ap (λ n. replacing n given.Nothing) (size ∙ more-none kind)) refl field.cells.kind field.ty
+        write-value-safe h cell (width kind + 0) kind ty (ops.FieldWrite fd holders.This) is
+        (ap (λ n. replacing n given.Nothing) (size ∙ more-none kind)) refl field.cells.kind field.ty
         (SatisfiesAll-front w.classes exact (value_wanted ty) (Held 0 (Class class) ∷ []) asked) some
         (field-at w.classes world.chains heap h class cell ty o field.not_object field.cells.first)
         (low-half kind h cell class o field.not_object field.cells.second))

@@ -1,5 +1,6 @@
 -- What the act of an instruction leads to is safe where the state after it is typed.
-use Rattle.std.proofs.Common.{◌≡◌, ℕ, ◌+◌, ◌<◌, ◌≤◌, Bool, true, false, if◌then◌else◌, List, [], ◌∷◌, ◌++◌, length, map, reverse, refl, sym, ap, ◌∙◌, subst, arith}
+use Rattle.std.proofs.Common.{◌≡◌, ℕ, ◌+◌, ◌<◌, ◌≤◌, Bool, true, false, if◌then◌else◌, List, [], ◌∷◌, ◌++◌, length, map}
+use Rattle.std.proofs.Common.{reverse, refl, sym, ap, ◌∙◌, subst, arith}
 use Rattle.std.specs.Prelude.{Option, Some, None, All, pos, nat_lt, nat_le, slice_get}
 use Rattle.std.proofs.lemmas.Bool.{false≢true}
 use Rattle.std.proofs.lemmas.Bool.{le-ltb, lt-leb}
@@ -63,7 +64,8 @@ module _ (w : Linked) (assigned : Typings) where
       → IsTypedOutcome w assigned (ends (endings.Plain p) (record { frames = frames; heap = heap; statics = statics }))
   plain-safe p frames heap statics store = record { made = store.made; heap = store.objects; statics = store.fields; frames = tt }
 
-  safe-unless : (s : State Cell) (o : Option Fault) (x : Outcome Cell) → o ≡ None → IsTypedOutcome w assigned x → IsTypedOutcome w assigned (unless_fault s o x)
+  safe-unless : (s : State Cell) (o : Option Fault) (x : Outcome Cell) → o ≡ None → IsTypedOutcome w assigned x
+      → IsTypedOutcome w assigned (unless_fault s o x)
   safe-unless s o x e h = subst (λ (p : Option Fault). IsTypedOutcome w assigned (unless_fault s p x)) (sym e) h
 
   -- ---- what a typed frame has
@@ -93,7 +95,8 @@ module _ (w : Linked) (assigned : Typings) where
       (some-both (FrameBelow w.classes exact) (IsFit m) ((assigned.frames f.method) f.place) typed.below (st.typing.fit f.place st.reached)) in
       let same : length f.stack ≡ length both.0.stack =
       sym (length-map f.stack (least_type w.classes (assigned.unset f.method) ks)) ∙ cells-length w.classes both.2.0.stack in
-      let inside : f.place < length (code_of w.infos st.rec) = place-inside (code_of w.infos st.rec) (all-are-listed (code_of w.infos st.rec)) f.place (st.instruction, there.stands, there.at) in
+      let inside : f.place < length (code_of w.infos st.rec) = place-inside (code_of w.infos st.rec) (all-are-listed (code_of w.infos st.rec)) f.place
+      (st.instruction, there.stands, there.at) in
       record {
         room = subst (λ n. length f.stack ≤ n) (sym (stack-is f.method st.rec st.is_method)) (subst (λ n. n ≤ st.rec.max_stack) (sym same) both.2.1.room);
         inside = subst (λ (code : List ℕ). f.place < length code) (sym (code-is f.method st.rec st.is_method)) inside;
@@ -140,7 +143,8 @@ module _ (w : Linked) (assigned : Typings) where
       safe-unless now (fault_target tagged w now (pos to)) (running (with_place now to))
       (target-passes f below heap statics to fits.room fits.instruction) typed
 
-  pub safe-if : (b : Bool) (x y : Outcome Cell) → IsTypedOutcome w assigned x → IsTypedOutcome w assigned y → IsTypedOutcome w assigned (if b then x else y)
+  pub safe-if : (b : Bool) (x y : Outcome Cell) → IsTypedOutcome w assigned x → IsTypedOutcome w assigned y
+      → IsTypedOutcome w assigned (if b then x else y)
   safe-if true x y h k = h
   safe-if false x y h k = k
 
@@ -190,10 +194,13 @@ module _ (w : Linked) (assigned : Typings) where
       subst (λ ts. CellsBelow w.classes ts (in_stack_order (result_given result)))
       (stacked-alike w next.rec Bottom (assigned.unset f.method) ks (reverse value) (ready next.rec)) least in
       let new : List Cell = reverse value ++ f.stack in
-      let exact : Types = record { regs = least_types w.classes (assigned.unset f.method) ks f.registers; stack = least_types w.classes (assigned.unset f.method) ks new } in
-      let split : least_types w.classes (assigned.unset f.method) ks new ≡ least_types w.classes (assigned.unset f.method) ks (reverse value) ++ least_types w.classes (assigned.unset f.method) ks f.stack =
+      let exact : Types = record
+      { regs = least_types w.classes (assigned.unset f.method) ks f.registers; stack = least_types w.classes (assigned.unset f.method) ks new } in
+      let split : least_types w.classes (assigned.unset f.method) ks new ≡ least_types w.classes (assigned.unset f.method) ks
+      (reverse value) ++ least_types w.classes (assigned.unset f.method) ks f.stack =
       map-append (least_type w.classes (assigned.unset f.method) ks) (reverse value) f.stack in
-      let stack : CellsBelow w.classes (least_types w.classes (assigned.unset f.method) ks new) (types_with w.classes (assigned.unset f.method) ks result f).stack =
+      let stack : CellsBelow w.classes (least_types w.classes (assigned.unset f.method) ks new)
+      (types_with w.classes (assigned.unset f.method) ks result f).stack =
       subst (λ ts. CellsBelow w.classes ts (types_with w.classes (assigned.unset f.method) ks result f).stack) (sym split)
       (cells-append w.classes below (cells-same w.classes (least_types w.classes (assigned.unset f.method) ks f.stack))) in
       record {

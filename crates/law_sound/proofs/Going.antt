@@ -29,19 +29,22 @@ past-row op h = get_or_past table op unused (omega (arith, h, table-length))
 past-falls : (op : ℕ) → 256 ≤ op → falls op ≡ true
 past-falls op h = grind (arith, nat_tests)
 
-past-operation : (w : Linked) (m : MethodRec) (place : ℕ) (i : Insn) (op : Operation) → 256 ≤ i.op → Resolves w m place i (Ok op) → op ≡ ops.Constant constants.Nothing
+past-operation : (w : Linked) (m : MethodRec) (place : ℕ) (i : Insn) (op : Operation) → 256 ≤ i.op → Resolves w m place i (Ok op)
+    → op ≡ ops.Constant constants.Nothing
 unfolding unused
 past-operation w m place i op h r =
     let e : ◌≡◌ {A = Result Operation RuleFault} (Ok op) (Ok (ops.Constant constants.Nothing)) = r ∙ ap (resolved w m place i) (past-row i.op h) in
     cc
 
-pub goes-on : (w : Linked) (m : MethodRec) (place : ℕ) (i : Insn) (op : Operation) → Resolves w m place i (Ok op) → falls_from op ≡ true → IsTrue (falls i.op)
+pub goes-on : (w : Linked) (m : MethodRec) (place : ℕ) (i : Insn) (op : Operation) → Resolves w m place i (Ok op) → falls_from op ≡ true
+    → IsTrue (falls i.op)
 goes-on w m place i op r h = elim (cases_lt i.op 256) [
   | inl small ↦ sym (operations-go-alike w m place i op small r).falls_alike ∙ h
   | inr large ↦ past-falls i.op large
 ]
 
-pub jumps-on : (w : Linked) (m : MethodRec) (place : ℕ) (i : Insn) (op : Operation) → Resolves w m place i (Ok op) → jumps_from op ≡ true → jumps i.op ≡ true
+pub jumps-on : (w : Linked) (m : MethodRec) (place : ℕ) (i : Insn) (op : Operation) → Resolves w m place i (Ok op) → jumps_from op ≡ true
+    → jumps i.op ≡ true
 jumps-on w m place i op r h = elim (cases_lt i.op 256) [
   | inl small ↦ sym (operations-go-alike w m place i op small r).jumps_alike ∙ h
   | inr large ↦ let is = past-operation w m place i op large r in let no : false ≡ true = sym (ap jumps_from is) ∙ h in absurd (cc)

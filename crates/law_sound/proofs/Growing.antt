@@ -27,11 +27,14 @@ module _ (w : Linked) (assigned : Typings) (ks more : List ObjectKind) where
             (λ g b. cells-trans w.classes (types-fall w.classes (assigned.unset f.method) ks more f.registers) b)
             ((assigned.frames f.method) f.place) waits.regs;
         next = next;
-        below = some-weaker (FrameBelow w.classes (types_with w.classes (assigned.unset f.method) ks result f)) (FrameBelow w.classes (types_with w.classes (assigned.unset f.method) (ks ++ more) result f))
+        below =
+            some-weaker (FrameBelow w.classes (types_with w.classes (assigned.unset f.method) ks result f))
+            (FrameBelow w.classes (types_with w.classes (assigned.unset f.method) (ks ++ more) result f))
             (λ g b. record {
               regs = cells-trans w.classes (types-fall w.classes (assigned.unset f.method) ks more f.registers) b.regs;
               stack = cells-trans w.classes
-                  (cells-append w.classes (cells-same w.classes (in_stack_order (result_given result))) (types-fall w.classes (assigned.unset f.method) ks more f.stack)) b.stack;
+                  (cells-append w.classes (cells-same w.classes (in_stack_order (result_given result)))
+                  (types-fall w.classes (assigned.unset f.method) ks more f.stack)) b.stack;
             })
             ((assigned.frames f.method) (at_next w f).place) waits.below;
         stacked = All-weaker (IsStacked w next.rec ks) (IsStacked w next.rec (ks ++ more)) (stacked-falls w next.rec ks more) f.stack waits.stacked;

@@ -1,5 +1,6 @@
 -- A method begins with as many cells as it has parameters.
-use Rattle.std.proofs.Common.{◌≡◌, ℕ, ◌+◌, ◌*◌, ◌≤◌, ◌==◌, Bool, true, false, if◌then◌else◌, inl, inr, List, [], ◌∷◌, length, map, reverse, take, refl, sym, ap, ◌∙◌, subst, arith}
+use Rattle.std.proofs.Common.{◌≡◌, ℕ, ◌+◌, ◌*◌, ◌≤◌, ◌==◌, Bool, true, false, if◌then◌else◌, inl, inr, List, [], ◌∷◌}
+use Rattle.std.proofs.Common.{length, map, reverse, take, refl, sym, ap, ◌∙◌, subst, arith}
 use Rattle.std.specs.Prelude.{ℤ, pos, negsuc, Option, Some, None, Ok, slice_get, slice_index_or, unwrap_or, ⊤}
 use Rattle.std.proofs.lemmas.Bool.{eqb-false}
 use Rattle.std.proofs.lemmas.List.{length-map, length-reverse, length-take}
@@ -121,7 +122,8 @@ return-calls-none (Some IntHigh) s = tt
 return-calls-none (Some ty) s = tt
 
 test-calls-none : (w : Linked) (test : TypeTest) (ty : Ty) (s : State Cell) → IsNoCall (type_test_act tagged w.classes test ty s)
-test-calls-none w tests.Cast ty s = either-calls-none (may_cast w.classes s ty (handle_at tagged (top s).stack 0)) (goes s) (raises exceptions.ClassCast) (tt {0}) (tt {0})
+test-calls-none w tests.Cast ty s =
+    either-calls-none (may_cast w.classes s ty (handle_at tagged (top s).stack 0)) (goes s) (raises exceptions.ClassCast) (tt {0}) (tt {0})
 test-calls-none w tests.InstanceOf ty s = tt
 
 call-or-none : (op : Operation) → CallOrNone op
@@ -132,7 +134,8 @@ call-or-none (ops.Increment width x amount) = calls_none (λ w i s. tt)
 call-or-none (ops.Move move) = calls_none (λ w i s. tt)
 call-or-none (ops.Arithmetic a) = calls_none (λ w i s. arithmetic-calls-none a s)
 call-or-none (ops.ArrayRead kind) = calls_none (λ w i s. null-calls-none (handle_at tagged (top s).stack 1)
-    (λ h. at_element (short_at tagged (top s).stack 0) (elements_of s h) (λ i. goes (replaced s 2 (value_in tagged kind (object_cells s h) (i * width kind)))))
+    (λ h. at_element (short_at tagged (top s).stack 0) (elements_of s h)
+    (λ i. goes (replaced s 2 (value_in tagged kind (object_cells s h) (i * width kind)))))
     (λ h. some-calls-none exceptions.ArrayIndex (element_index (short_at tagged (top s).stack 0) (elements_of s h))
     (λ i. goes (replaced s 2 (value_in tagged kind (object_cells s h) (i * width kind)))) (λ n. tt {0})))
 call-or-none (ops.ArrayWrite kind) =
@@ -143,8 +146,11 @@ call-or-none (ops.ArrayWrite kind) =
     (λ i. if keeps_kind tagged w.classes kind s h then goes (with_element tagged kind h i s) else raises exceptions.ArrayStore)
     (λ i. either-calls-none (keeps_kind tagged w.classes kind s h) (goes (with_element tagged kind h i s)) (raises exceptions.ArrayStore) (tt {0}) (tt {0}))))
 call-or-none ops.ArrayLength =
-    calls_none (λ w i s. null-calls-none (handle_at tagged (top s).stack 0) (λ h. goes (replaced s 1 (tagged.short (short_of_word (elements_of s h)) ∷ []))) (λ h. tt {0}))
-call-or-none (ops.Branch branch) = calls_none (λ w i s. branch-calls-none (is_taken tagged branch (top s).stack) (target (top s).place i.x) (dropped s (branch_width branch)))
+    calls_none
+    (λ w i s. null-calls-none (handle_at tagged (top s).stack 0) (λ h. goes (replaced s 1 (tagged.short (short_of_word (elements_of s h)) ∷ [])))
+    (λ h. tt {0}))
+call-or-none (ops.Branch branch) =
+    calls_none (λ w i s. branch-calls-none (is_taken tagged branch (top s).stack) (target (top s).place i.x) (dropped s (branch_width branch)))
 call-or-none (ops.Switch width) = calls_none (λ w i s. tt)
 call-or-none (ops.StaticRead f) = calls_none (λ w i s. tt)
 call-or-none (ops.StaticWrite f) = calls_none (λ w i s. tt)
@@ -181,10 +187,12 @@ called-state none (calls method count s) = s
 called-state none _ = none
 
 null-calls :
-    (h : ℕ) (rest : ℕ → Act Cell) (k count : ℕ) (y : State Cell) → unless_null h rest ≡ calls k count y → (h ≡ 0 → ⊥) × (rest h ≡ calls k count y)
+    (h : ℕ) (rest : ℕ → Act Cell) (k count : ℕ) (y : State Cell) → unless_null h rest ≡ calls k count y → (h ≡ 0 → ⊥)
+    × (rest h ≡ calls k count y)
 null-calls h rest k count y e = go (h == 0) refl e
   where
-    go : (b : Bool) → (h == 0) ≡ b → (if b then raises exceptions.NullPointer else rest h) ≡ calls k count y → (h ≡ 0 → ⊥) × (rest h ≡ calls k count y)
+    go : (b : Bool) → (h == 0) ≡ b → (if b then raises exceptions.NullPointer else rest h) ≡ calls k count y → (h ≡ 0 → ⊥)
+        × (rest h ≡ calls k count y)
     go true is e = absurd (cc)
     go false is e = (eqb-false h 0 is, e)
 
@@ -206,7 +214,8 @@ module _ (w : Linked) (world : IsWorld w) where
   words-of : (k : ℕ) (o : MethodRec) → slice_get w.methods k ≡ Some o → nargs_of w k ≡ length o.sig.args + receiver_words o.is_static
   words-of k o e = ap (of_method 0 (λ (x : MethodRec). x.nargs)) e ∙ (method-known w world k o e).words
 
-  with-receiver : (k : ℕ) (o : MethodRec) (sig : Sig) → slice_get w.methods k ≡ Some o → o.sig ≡ sig → o.is_static ≡ false → nargs_of w k ≡ length sig.args + 1
+  with-receiver : (k : ℕ) (o : MethodRec) (sig : Sig) → slice_get w.methods k ≡ Some o → o.sig ≡ sig → o.is_static ≡ false
+      → nargs_of w k ≡ length sig.args + 1
   with-receiver k o sig e same dynamic =
       words-of k o e ∙ (ap (λ (s : Sig). length s.args + receiver_words o.is_static) same ∙ ap (λ b. length sig.args + receiver_words b) dynamic)
 
@@ -230,7 +239,13 @@ module _ (w : Linked) (world : IsWorld w) where
           args-there =
               let tys = map (least_type w.classes (assigned.unset f.method) (kinds_of heap)) f.stack in
               let same = cells-length w.classes (args-below w world assigned typings f below heap statics here n receiver choice m is method) in
-              omega (arith, same, length-take few tys, length-map f.stack (least_type w.classes (assigned.unset f.method) (kinds_of heap)), length-reverse m.sig.args)
+              omega (
+                arith,
+                same,
+                length-take few tys,
+                length-map f.stack (least_type w.classes (assigned.unset f.method) (kinds_of heap)),
+                length-reverse m.sig.args,
+              )
 
           receiver-there : (want : Want) → receiver ≡ Some want → few + 1 ≤ length f.stack
           receiver-there want wants =
@@ -263,11 +278,14 @@ module _ (w : Linked) (world : IsWorld w) where
 
           special-handed :
               (k count : ℕ) (y : State Cell) (want : Want) → receiver ≡ Some want → m.is_static ≡ false
-              → chosen_act tagged w.classes (record { method = n; receiver = receiver; choice = choice }) (args_of w n) choices.Special now ≡ calls k count y
+              → chosen_act tagged w.classes (record { method = n; receiver = receiver; choice = choice }) (args_of w n) choices.Special now
+              ≡ calls k count y
               → length (arguments count (top y).stack) ≡ nargs_of w k
           special-handed k count y want wants dynamic e =
               let ready : Option ℕ = made_at receiver (least_type w.classes Bottom (kinds_of heap) (slice_index_or f.stack (args_of w n) cells.Empty)) in
-              let rest = (null-calls (word_of (slice_index_or f.stack (args_of w n) cells.Empty)) (λ h. calls n (args_of w n + 1) (readied tagged now ready)) k count y e).1 in
+              let rest =
+              (null-calls (word_of (slice_index_or f.stack (args_of w n) cells.Empty)) (λ h. calls n (args_of w n + 1) (readied tagged now ready)) k
+              count y e).1 in
               whole k count y n m (readied tagged now ready) want wants method refl dynamic (readied-length ready) rest
 
           module _ (c : ℕ) (wants : receiver ≡ Some (Value (Class c))) where
@@ -278,7 +296,8 @@ module _ (w : Linked) (world : IsWorld w) where
             its-object some =
                 let at = receiver-at w world assigned typings f below heap statics here n receiver choice m is method (Value (Class c)) wants in
                 handle-object w.classes world.chains heap handle (Class c) tt some
-                (reference-handle w.classes world.chains (assigned.unset f.method) (kinds_of heap) (slice_index_or f.stack few cells.Empty) (Class c) tt at.holds)
+                (reference-handle w.classes world.chains (assigned.unset f.method) (kinds_of heap) (slice_index_or f.stack few cells.Empty) (Class c) tt
+                at.holds)
 
             run-handed :
                 (k count : ℕ) (y : State Cell) (r j : ℕ) → RunsFor w r j m.sig → calls j (args_of w n + 1) now ≡ calls k count y
@@ -287,7 +306,8 @@ module _ (w : Linked) (world : IsWorld w) where
 
             virtual-handed :
                 (k count : ℕ) (y : State Cell) (token : ℕ) → IsVirtualCall w n m receiver c token → (handle ≡ 0 → ⊥)
-                → calls (unwrap_or (dispatched w.classes c token (class_with_methods w.classes (kind_of_handle (kinds_of heap) handle))) n) (args_of w n + 1) now ≡ calls k count y
+                → calls (unwrap_or (dispatched w.classes c token (class_with_methods w.classes (kind_of_handle (kinds_of heap) handle))) n)
+                (args_of w n + 1) now ≡ calls k count y
                 → length (arguments count (top y).stack) ≡ nargs_of w k
             virtual-handed k count y token call some e =
                 let o = its-object some in
@@ -295,23 +315,30 @@ module _ (w : Linked) (world : IsWorld w) where
                   | inl found ↦
                       let made : CanBeMade w o.object.kind = made-at w (kinds_of heap) handle o.object.kind here.store.made o.kind_is in
                       let concrete : IsConcrete w.classes w.methods found.0 = subst (CanBeMade w) found.1 made in
-                      let lower : Below w.classes (Class found.0) (Class c) = subst (λ k. Below w.classes (type_of_kind w.classes k) (Class c)) found.1 o.below in
+                      let lower : Below w.classes (Class found.0) (Class c) = subst (λ k. Below w.classes (type_of_kind w.classes k) (Class c)) found.1
+                      o.below in
                       let d = dispatch-runs w world c token found.0 n m concrete lower call.entry method in
-                      let chosen : unwrap_or (dispatched w.classes c token (class_with_methods w.classes (kind_of_handle (kinds_of heap) handle))) n ≡ d.method =
-                      ap (λ k. unwrap_or (dispatched w.classes c token (class_with_methods w.classes k)) n) (o.kind_is ∙ ap Some found.1) ∙ ap (λ x. unwrap_or x n) d.found in
+                      let chosen : unwrap_or (dispatched w.classes c token (class_with_methods w.classes (kind_of_handle (kinds_of heap) handle))) n
+                      ≡ d.method =
+                      ap (λ k. unwrap_or (dispatched w.classes c token (class_with_methods w.classes k)) n) (o.kind_is ∙ ap Some found.1)
+                      ∙ ap (λ x. unwrap_or x n) d.found in
                       run-handed k count y found.0 d.method d.runs (ap (λ j. calls j (args_of w n + 1) now) (sym chosen) ∙ e)
                   | inr array ↦
-                      let object_is : c ≡ object w.classes = array-object w.classes o.object.kind c array (is_below-from_Below w.classes world.chains o.below) in
+                      let object_is : c ≡ object w.classes = array-object w.classes o.object.kind c array
+                      (is_below-from_Below w.classes world.chains o.below) in
                       let entry : dispatched w.classes c token (object w.classes) ≡ Some n =
                       subst (λ x. dispatched w.classes c token x ≡ Some n) object_is (own-dispatched w.classes c token ∙ call.entry) in
                       let chosen : unwrap_or (dispatched w.classes c token (class_with_methods w.classes (kind_of_handle (kinds_of heap) handle))) n ≡ n =
                       ap (λ k. unwrap_or (dispatched w.classes c token (class_with_methods w.classes k)) n) o.kind_is
-                      ∙ (ap (λ x. unwrap_or (dispatched w.classes c token x) n) (array-class w.classes o.object.kind array) ∙ ap (λ x. unwrap_or x n) entry) in
-                      whole k count y n m now (Value (Class c)) wants method refl call.inherited.dynamic refl (ap (λ j. calls j (args_of w n + 1) now) (sym chosen) ∙ e)
+                      ∙ (ap (λ x. unwrap_or (dispatched w.classes c token x) n) (array-class w.classes o.object.kind array)
+                      ∙ ap (λ x. unwrap_or x n) entry) in
+                      whole k count y n m now (Value (Class c)) wants method refl call.inherited.dynamic refl
+                      (ap (λ j. calls j (args_of w n + 1) now) (sym chosen) ∙ e)
                 ]
 
             served-handed :
-                (k count : ℕ) (y : State Cell) (interface token r : ℕ) (o : Option ℕ) → served w.classes interface token r ≡ o → IsConcrete w.classes w.methods r
+                (k count : ℕ) (y : State Cell) (interface token r : ℕ) (o : Option ℕ) → served w.classes interface token r ≡ o
+                → IsConcrete w.classes w.methods r
                 → m.class ≡ interface → m.token ≡ token → served_act o r (args_of w n + 1) now ≡ calls k count y
                 → length (arguments count (top y).stack) ≡ nargs_of w k
             served-handed k count y interface token r None is concrete class at e = absurd (cc)
@@ -327,11 +354,13 @@ module _ (w : Linked) (world : IsWorld w) where
                 elim (instance-or-array o.object.kind) [
                   | inl found ↦
                       let made : CanBeMade w o.object.kind = made-at w (kinds_of heap) handle o.object.kind here.store.made o.kind_is in
-                      served-handed k count y interface token found.0 (served w.classes interface token found.0) refl (subst (CanBeMade w) found.1 made) class at
+                      served-handed k count y interface token found.0 (served w.classes interface token found.0) refl (subst (CanBeMade w) found.1 made)
+                      class at
                       (ap (λ k. interface_act w.classes interface token (args_of w n + 1) k now) (sym (o.kind_is ∙ ap Some found.1)) ∙ e)
                   | inr array ↦
                       let none : lacks (object w.classes) ≡ calls k count y =
-                      sym (ap (λ k. interface_act w.classes interface token (args_of w n + 1) k now) o.kind_is ∙ array-lacks w.classes interface token (args_of w n + 1) o.object.kind now array) ∙ e in
+                      sym (ap (λ k. interface_act w.classes interface token (args_of w n + 1) k now) o.kind_is
+                      ∙ array-lacks w.classes interface token (args_of w n + 1) o.object.kind now array) ∙ e in
                       absurd (cc)
                 ]
 
@@ -350,17 +379,25 @@ module _ (w : Linked) (world : IsWorld w) where
       chosen-handed n receiver (choices.Virtual c token) m is method chosen k count y e =
           let few : args_of w n ≡ length m.sig.args = counted n receiver (choices.Virtual c token) m is method in
           let rest = null-calls (word_of (slice_index_or f.stack (args_of w n) cells.Empty))
-          (λ h. calls (unwrap_or (dispatched w.classes c token (class_with_methods w.classes (kind_of_handle (kinds_of heap) h))) n) (args_of w n + 1) now) k count y e in
+          (λ h. calls (unwrap_or (dispatched w.classes c token (class_with_methods w.classes (kind_of_handle (kinds_of heap) h))) n) (args_of w n + 1) now)
+          k count y e in
           virtual-handed n receiver (choices.Virtual c token) m is method c chosen.receiver_is k count y token chosen
           (subst (λ j. word_of (slice_index_or f.stack j cells.Empty) ≡ 0 → ⊥) few rest.0)
-          (subst (λ j. calls (unwrap_or (dispatched w.classes c token (class_with_methods w.classes (kind_of_handle (kinds_of heap) (word_of (slice_index_or f.stack j cells.Empty))))) n) (args_of w n + 1) now ≡ calls k count y) few rest.1)
+          (subst
+          (λ j. calls
+          (unwrap_or
+          (dispatched w.classes c token
+          (class_with_methods w.classes (kind_of_handle (kinds_of heap) (word_of (slice_index_or f.stack j cells.Empty))))) n) (args_of w n + 1) now
+          ≡ calls k count y) few rest.1)
       chosen-handed n receiver (choices.Interface c token words) m is method chosen k count y e =
           let few : args_of w n ≡ length m.sig.args = counted n receiver (choices.Interface c token words) m is method in
           let rest = null-calls (word_of (slice_index_or f.stack (args_of w n) cells.Empty))
           (λ h. interface_act w.classes c token (args_of w n + 1) (kind_of_handle (kinds_of heap) h) now) k count y e in
-          interface-handed n receiver (choices.Interface c token words) m is method (object w.classes) chosen.receiver_is k count y c token chosen.class chosen.token_is
+          interface-handed n receiver (choices.Interface c token words) m is method (object w.classes) chosen.receiver_is k count y c token chosen.class
+          chosen.token_is
           (subst (λ j. word_of (slice_index_or f.stack j cells.Empty) ≡ 0 → ⊥) few rest.0)
-          (subst (λ j. interface_act w.classes c token (args_of w n + 1) (kind_of_handle (kinds_of heap) (word_of (slice_index_or f.stack j cells.Empty))) now ≡ calls k count y) few rest.1)
+          (subst (λ j. interface_act w.classes c token (args_of w n + 1) (kind_of_handle (kinds_of heap) (word_of (slice_index_or f.stack j cells.Empty)))
+          now ≡ calls k count y) few rest.1)
 
       call-handed :
           (callee : Callee) → here.turn.operation ≡ ops.Call callee → (k count : ℕ) (y : State Cell)

@@ -19,7 +19,8 @@ use Rattle.law_sound.proofs.Ready.{not-over-top}
 abbrev pub kinds_of : List (Object Cell) → List ObjectKind
 kinds_of heap = map (λ (o : Object Cell). o.kind) heap
 
-pub kind-type : (t : ClassTable) (ks : List ObjectKind) (h : ℕ) (k : ObjectKind) → kind_of_handle ks h ≡ Some k → type_of_handle t ks h ≡ type_of_kind t k
+pub kind-type : (t : ClassTable) (ks : List ObjectKind) (h : ℕ) (k : ObjectKind) → kind_of_handle ks h ≡ Some k
+    → type_of_handle t ks h ≡ type_of_kind t k
 kind-type t ks zero k e = absurd (none-some k e)
 kind-type t ks (suc h) k e = ap (type_seen t) e
 
@@ -31,7 +32,8 @@ pub new-kind : (heap : List (Object Cell)) (o : Object Cell) → kind_of_handle 
 new-kind heap o =
     let e : length heap + 1 ≡ suc (length heap) = omega arith in
     subst (λ h. kind_of_handle (kinds_of heap ++ o.kind ∷ []) h ≡ Some o.kind) (sym e)
-    (subst (λ n. slice_get (kinds_of heap ++ o.kind ∷ []) n ≡ Some o.kind) (length-map heap (λ (x : Object Cell). x.kind)) (last-kind (kinds_of heap) o.kind))
+    (subst (λ n. slice_get (kinds_of heap ++ o.kind ∷ []) n ≡ Some o.kind) (length-map heap (λ (x : Object Cell). x.kind))
+    (last-kind (kinds_of heap) o.kind))
 
 pub kinds-more : (heap : List (Object Cell)) (o : Object Cell) → kinds_of (heap ++ o ∷ []) ≡ kinds_of heap ++ o.kind ∷ []
 kinds-more heap o = map-append (λ (x : Object Cell). x.kind) heap (o ∷ [])

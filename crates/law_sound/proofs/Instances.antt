@@ -56,16 +56,19 @@ module _ (t : ClassTable) (are : AreClasses t) where
   pub subtype-below : (c d : ℕ) → c < length t.records → is_subtype t c d ≡ true → Below t (Class (class_in_types t c)) (Class (class_in_types t d))
   subtype-below c d lt h = sub-below c d (is_interface t c) (is_interface t d) lt refl refl h
 
-  object-below : (k : ObjectKind) (d : ℕ) → Below t (type_of_kind t k) (Class (object t)) → (d == object t) ≡ true → Below t (type_of_kind t k) (Class (class_in_types t d))
+  object-below : (k : ObjectKind) (d : ℕ) → Below t (type_of_kind t k) (Class (object t)) → (d == object t) ≡ true
+      → Below t (type_of_kind t k) (Class (class_in_types t d))
   object-below k d b h =
       let e : object t ≡ class_in_types t d = object-seen ∙ ap (class_in_types t) (sym (eqb-true d (object t) h)) in
       subst (λ x. Below t (type_of_kind t k) (Class x)) e b
 
 -- an object that can be made
 pub instance-below :
-    (w : Linked) → AreClasses w.classes → (k : ObjectKind) (ty : Ty) → CanBeMade w k → is_instance w.classes k ty ≡ true → Below w.classes (type_of_kind w.classes k) (seen w.classes ty)
+    (w : Linked) → AreClasses w.classes → (k : ObjectKind) (ty : Ty) → CanBeMade w k → is_instance w.classes k ty ≡ true
+    → Below w.classes (type_of_kind w.classes k) (seen w.classes ty)
 instance-below w are (Instance c) (Class d) made h =
-    subst (λ x. Below w.classes (Class x) (Class (class_in_types w.classes d))) (sym (seen-itself w.classes are c made.class)) (subtype-below w.classes are c d made.class.number h)
+    subst (λ x. Below w.classes (Class x) (Class (class_in_types w.classes d))) (sym (seen-itself w.classes are c made.class))
+    (subtype-below w.classes are c d made.class.number h)
 instance-below w are (References c) (ArrRef d) made h = array_array (subtype-below w.classes are c d made h)
 instance-below w are (References c) (Class d) made h = object-below w.classes are (References c) d (array_object of_references refl) h
 instance-below w are Booleans (Class d) made h = object-below w.classes are Booleans d (array_object of_booleans refl) h

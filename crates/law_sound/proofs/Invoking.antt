@@ -71,7 +71,8 @@ array-object t Shorts c h b = eqb-true c (object t) b
 array-object t Ints c h b = eqb-true c (object t) b
 array-object t (References d) c h b = eqb-true c (object t) b
 
-pub array-lacks : (t : ClassTable) (interface token count : ℕ) (k : ObjectKind) (s : State Cell) → IsArrayKind k → interface_act t interface token count (Some k) s ≡ lacks (object t)
+pub array-lacks : (t : ClassTable) (interface token count : ℕ) (k : ObjectKind) (s : State Cell) → IsArrayKind k
+    → interface_act t interface token count (Some k) s ≡ lacks (object t)
 array-lacks t interface token count (Instance d) s h = absurd h
 array-lacks t interface token count Booleans s h = refl
 array-lacks t interface token count Bytes s h = refl
@@ -79,7 +80,8 @@ array-lacks t interface token count Shorts s h = refl
 array-lacks t interface token count Ints s h = refl
 array-lacks t interface token count (References d) s h = refl
 
-module _ (w : Linked) (world : IsWorld w) (assigned : Typings) (typings : AreTypings w assigned) (f : Frame Cell) (below : List (Frame Cell)) (heap : List (Object Cell)) (statics : List Cell)
+module _ (w : Linked) (world : IsWorld w) (assigned : Typings) (typings : AreTypings w assigned) (f : Frame Cell) (below : List (Frame Cell))
+    (heap : List (Object Cell)) (statics : List Cell)
     (here : Here w assigned f below heap statics)
   where
     module _ (n : ℕ) (receiver : Option Want) (choice : Choice) (m : MethodRec)
@@ -89,26 +91,33 @@ module _ (w : Linked) (world : IsWorld w) (assigned : Typings) (typings : AreTyp
         -- ---- an object of a class
 
         module _ (c : ℕ) (wants : receiver ≡ Some (Value (Class c))) where
-          under : Below w.classes (least_type w.classes (assigned.unset f.method) (kinds_of heap) (slice_index_or f.stack (length m.sig.args) cells.Empty)) (Class c)
+          under : Below w.classes (least_type w.classes (assigned.unset f.method) (kinds_of heap) (slice_index_or f.stack (length m.sig.args) cells.Empty))
+              (Class c)
           under = (receiver-at w world assigned typings f below heap statics here n receiver choice m is method (Value (Class c)) wants).holds
 
           -- its type is that of its object
           own-type : (o : IsObject w.classes heap (word_of (slice_index_or f.stack (length m.sig.args) cells.Empty)) (Class c))
-              → least_type w.classes (assigned.unset f.method) (kinds_of heap) (slice_index_or f.stack (length m.sig.args) cells.Empty) ≡ type_of_kind w.classes o.object.kind
+              → least_type w.classes (assigned.unset f.method) (kinds_of heap) (slice_index_or f.stack (length m.sig.args) cells.Empty)
+              ≡ type_of_kind w.classes o.object.kind
           own-type o =
-              reference-same w.classes world.chains (assigned.unset f.method) (kinds_of heap) (slice_index_or f.stack (length m.sig.args) cells.Empty) (Class c) tt
+              reference-same w.classes world.chains (assigned.unset f.method) (kinds_of heap) (slice_index_or f.stack (length m.sig.args) cells.Empty)
+              (Class c) tt
               (receiver-filled w world assigned typings f below heap statics here n receiver choice m is method (Value (Class c)) wants) under
               ∙ kind-type w.classes (kinds_of heap) (word_of (slice_index_or f.stack (length m.sig.args) cells.Empty)) o.object.kind o.kind_is
 
-          run : (k : ℕ) (o : MethodRec) → slice_get w.methods k ≡ Some o → lacks_code w.classes o ≡ false → o.sig ≡ m.sig → o.is_static ≡ false
-              → Below w.classes (least_type w.classes (assigned.unset f.method) (kinds_of heap) (slice_index_or f.stack (length m.sig.args) cells.Empty)) (Class o.class)
+          run : (k : ℕ) (o : MethodRec) → slice_get w.methods k ≡ Some o → lacks_code w.classes o ≡ false → o.sig ≡ m.sig
+              → o.is_static ≡ false
+              → Below w.classes (least_type w.classes (assigned.unset f.method) (kinds_of heap) (slice_index_or f.stack (length m.sig.args) cells.Empty))
+              (Class o.class)
               → IsTypedOutcome w assigned (entered_call tagged w k (args_of w n + 1) (record { frames = f ∷ below; heap = heap; statics = statics }))
           run k o there code_is sig dynamic receives =
               run-safe w world assigned typings f below heap statics here n receiver choice m is method (Value (Class c)) wants k o there code_is sig dynamic
-              (ready-value (length m.sig.args + 1) (result_given m.sig.result) (cell (least_types w.classes (assigned.unset f.method) (kinds_of heap) f.stack) (length m.sig.args)) (Class c)) receives
+              (ready-value (length m.sig.args + 1) (result_given m.sig.result)
+              (cell (least_types w.classes (assigned.unset f.method) (kinds_of heap) f.stack) (length m.sig.args)) (Class c)) receives
 
           run-for : (r k : ℕ) (kind : ObjectKind) → kind ≡ Instance r → RunsFor w r k m.sig
-              → least_type w.classes (assigned.unset f.method) (kinds_of heap) (slice_index_or f.stack (length m.sig.args) cells.Empty) ≡ type_of_kind w.classes kind
+              → least_type w.classes (assigned.unset f.method) (kinds_of heap) (slice_index_or f.stack (length m.sig.args) cells.Empty)
+              ≡ type_of_kind w.classes kind
               → IsTypedOutcome w assigned (entered_call tagged w k (args_of w n + 1) (record { frames = f ∷ below; heap = heap; statics = statics }))
           run-for r k kind kind_is runs type_is =
               run k runs.rec runs.is_method runs.code runs.sig_is runs.dynamic
@@ -116,29 +125,45 @@ module _ (w : Linked) (world : IsWorld w) (assigned : Typings) (typings : AreTyp
 
           -- by the class of the object
           dispatched-safe :
-              (token : ℕ) → IsVirtualCall w n m receiver c token → (o : IsObject w.classes heap (word_of (slice_index_or f.stack (length m.sig.args) cells.Empty)) (Class c))
+              (token : ℕ) → IsVirtualCall w n m receiver c token
+              → (o : IsObject w.classes heap (word_of (slice_index_or f.stack (length m.sig.args) cells.Empty)) (Class c))
               → IsTypedOutcome w assigned (entered_call tagged w
-              (unwrap_or (dispatched w.classes c token (class_with_methods w.classes (kind_of_handle (kinds_of heap) (word_of (slice_index_or f.stack (length m.sig.args) cells.Empty))))) n)
+              (unwrap_or
+              (dispatched w.classes c token
+              (class_with_methods w.classes (kind_of_handle (kinds_of heap) (word_of (slice_index_or f.stack (length m.sig.args) cells.Empty))))) n)
               (args_of w n + 1) (record { frames = f ∷ below; heap = heap; statics = statics }))
           dispatched-safe token call o = elim (instance-or-array o.object.kind) [
             | inl found ↦
-                let made : CanBeMade w o.object.kind = made-at w (kinds_of heap) (word_of (slice_index_or f.stack (length m.sig.args) cells.Empty)) o.object.kind here.store.made o.kind_is in
+                let made : CanBeMade w o.object.kind = made-at w (kinds_of heap) (word_of (slice_index_or f.stack (length m.sig.args) cells.Empty))
+                o.object.kind here.store.made o.kind_is in
                 let concrete : IsConcrete w.classes w.methods found.0 = subst (CanBeMade w) found.1 made in
                 let lower : Below w.classes (Class found.0) (Class c) = subst (λ k. Below w.classes (type_of_kind w.classes k) (Class c)) found.1 o.below in
                 let d = dispatch-runs w world c token found.0 n m concrete lower call.entry method in
-                let chosen : unwrap_or (dispatched w.classes c token (class_with_methods w.classes (kind_of_handle (kinds_of heap) (word_of (slice_index_or f.stack (length m.sig.args) cells.Empty))))) n ≡ d.method =
-                ap (λ k. unwrap_or (dispatched w.classes c token (class_with_methods w.classes k)) n) (o.kind_is ∙ ap Some found.1) ∙ ap (λ x. unwrap_or x n) d.found in
-                subst (λ k. IsTypedOutcome w assigned (entered_call tagged w k (args_of w n + 1) (record { frames = f ∷ below; heap = heap; statics = statics }))) (sym chosen)
+                let chosen : unwrap_or
+                (dispatched w.classes c token
+                (class_with_methods w.classes (kind_of_handle (kinds_of heap) (word_of (slice_index_or f.stack (length m.sig.args) cells.Empty))))) n
+                ≡ d.method =
+                ap (λ k. unwrap_or (dispatched w.classes c token (class_with_methods w.classes k)) n) (o.kind_is ∙ ap Some found.1)
+                ∙ ap (λ x. unwrap_or x n) d.found in
+                subst
+                (λ k. IsTypedOutcome w assigned
+                (entered_call tagged w k (args_of w n + 1) (record { frames = f ∷ below; heap = heap; statics = statics }))) (sym chosen)
                 (run-for found.0 d.method o.object.kind found.1 d.runs (own-type o))
             | inr array ↦
                 let object_is : c ≡ object w.classes = array-object w.classes o.object.kind c array (is_below-from_Below w.classes world.chains o.below) in
                 let entry : dispatched w.classes c token (object w.classes) ≡ Some n =
                 subst (λ x. dispatched w.classes c token x ≡ Some n) object_is (own-dispatched w.classes c token ∙ call.entry) in
-                let chosen : unwrap_or (dispatched w.classes c token (class_with_methods w.classes (kind_of_handle (kinds_of heap) (word_of (slice_index_or f.stack (length m.sig.args) cells.Empty))))) n ≡ n =
+                let chosen : unwrap_or
+                (dispatched w.classes c token
+                (class_with_methods w.classes (kind_of_handle (kinds_of heap) (word_of (slice_index_or f.stack (length m.sig.args) cells.Empty))))) n
+                ≡ n =
                 ap (λ k. unwrap_or (dispatched w.classes c token (class_with_methods w.classes k)) n) o.kind_is
                 ∙ (ap (λ x. unwrap_or (dispatched w.classes c token x) n) (array-class w.classes o.object.kind array) ∙ ap (λ x. unwrap_or x n) entry) in
-                subst (λ k. IsTypedOutcome w assigned (entered_call tagged w k (args_of w n + 1) (record { frames = f ∷ below; heap = heap; statics = statics }))) (sym chosen)
-                (run n m method (class-code w world c m call.class call.inherited.class (call.body object_is)) refl call.inherited.dynamic (joined under call.inherited.class))
+                subst
+                (λ k. IsTypedOutcome w assigned
+                (entered_call tagged w k (args_of w n + 1) (record { frames = f ∷ below; heap = heap; statics = statics }))) (sym chosen)
+                (run n m method (class-code w world c m call.class call.inherited.class (call.body object_is)) refl call.inherited.dynamic
+                (joined under call.inherited.class))
           ]
 
           pub virtual-safe :
@@ -154,15 +179,19 @@ module _ (w : Linked) (world : IsWorld w) (assigned : Typings) (typings : AreTyp
               (record { frames = f ∷ below; heap = heap; statics = statics }))
               (λ some. dispatched-safe token call
               (handle-object w.classes world.chains heap h (Class c) tt some
-              (reference-handle w.classes world.chains (assigned.unset f.method) (kinds_of heap) (slice_index_or f.stack (length m.sig.args) cells.Empty) (Class c) tt under)))
+              (reference-handle w.classes world.chains (assigned.unset f.method) (kinds_of heap) (slice_index_or f.stack (length m.sig.args) cells.Empty)
+              (Class c) tt under)))
 
           -- by the interfaces of the class of the object
           served-safe :
-              (interface token next r h : ℕ) (o : Option ℕ) → served w.classes interface token r ≡ o → IsConcrete w.classes w.methods r → m.class ≡ interface → m.token ≡ token
-              → least_type w.classes (assigned.unset f.method) (kinds_of heap) (slice_index_or f.stack (length m.sig.args) cells.Empty) ≡ type_of_kind w.classes (Instance r)
+              (interface token next r h : ℕ) (o : Option ℕ) → served w.classes interface token r ≡ o → IsConcrete w.classes w.methods r
+              → m.class ≡ interface → m.token ≡ token
+              → least_type w.classes (assigned.unset f.method) (kinds_of heap) (slice_index_or f.stack (length m.sig.args) cells.Empty)
+              ≡ type_of_kind w.classes (Instance r)
               → IsTypedOutcome w assigned (settled tagged w next (record { frames = f ∷ below; heap = heap; statics = statics })
               (served_act o r (args_of w n + 1) (record { frames = f ∷ below; heap = heap; statics = statics })))
-          served-safe interface token next r h None e concrete class at type_is = plain-safe w assigned (InterfaceMissing r) (f ∷ below) heap statics here.store
+          served-safe interface token next r h None e concrete class at type_is =
+              plain-safe w assigned (InterfaceMissing r) (f ∷ below) heap statics here.store
           served-safe interface token next r h (Some k) e concrete class at type_is =
               run-for r k (Instance r) refl (served-runs w world interface token r n k m concrete method class at e) type_is
 
@@ -170,7 +199,8 @@ module _ (w : Linked) (world : IsWorld w) (assigned : Typings) (typings : AreTyp
               (interface token next : ℕ) → m.class ≡ interface → m.token ≡ token
               → IsTypedOutcome w assigned (settled tagged w next (record { frames = f ∷ below; heap = heap; statics = statics })
               (unless_null (word_of (slice_index_or f.stack (length m.sig.args) cells.Empty))
-              (λ h. interface_act w.classes interface token (args_of w n + 1) (kind_of_handle (kinds_of heap) h) (record { frames = f ∷ below; heap = heap; statics = statics }))))
+              (λ h. interface_act w.classes interface token (args_of w n + 1) (kind_of_handle (kinds_of heap) h)
+              (record { frames = f ∷ below; heap = heap; statics = statics }))))
           interface-safe interface token next class at =
               let now : State Cell = record { frames = f ∷ below; heap = heap; statics = statics } in
               let h : ℕ = word_of (slice_index_or f.stack (length m.sig.args) cells.Empty) in
@@ -178,16 +208,19 @@ module _ (w : Linked) (world : IsWorld w) (assigned : Typings) (typings : AreTyp
               (λ h. interface_act w.classes interface token (args_of w n + 1) (kind_of_handle (kinds_of heap) h) now)
               (λ some.
               let o = handle-object w.classes world.chains heap h (Class c) tt some
-              (reference-handle w.classes world.chains (assigned.unset f.method) (kinds_of heap) (slice_index_or f.stack (length m.sig.args) cells.Empty) (Class c) tt under) in
+              (reference-handle w.classes world.chains (assigned.unset f.method) (kinds_of heap) (slice_index_or f.stack (length m.sig.args) cells.Empty)
+              (Class c) tt under) in
               elim (instance-or-array o.object.kind) [
                 | inl found ↦
                     let made : CanBeMade w o.object.kind = made-at w (kinds_of heap) h o.object.kind here.store.made o.kind_is in
-                    subst (λ k. IsTypedOutcome w assigned (settled tagged w next now (interface_act w.classes interface token (args_of w n + 1) k now))) (sym (o.kind_is ∙ ap Some found.1))
+                    subst (λ k. IsTypedOutcome w assigned (settled tagged w next now (interface_act w.classes interface token (args_of w n + 1) k now)))
+                    (sym (o.kind_is ∙ ap Some found.1))
                     (served-safe interface token next found.0 h (served w.classes interface token found.0) refl (subst (CanBeMade w) found.1 made) class at
                     (own-type o ∙ ap (type_of_kind w.classes) found.1))
                 | inr array ↦
                     subst (λ a. IsTypedOutcome w assigned (settled tagged w next now a))
-                    (sym (ap (λ k. interface_act w.classes interface token (args_of w n + 1) k now) o.kind_is ∙ array-lacks w.classes interface token (args_of w n + 1) o.object.kind now array))
+                    (sym (ap (λ k. interface_act w.classes interface token (args_of w n + 1) k now) o.kind_is
+                    ∙ array-lacks w.classes interface token (args_of w n + 1) o.object.kind now array))
                     (plain-safe w assigned (InterfaceMissing (object w.classes)) (f ∷ below) heap statics here.store)
               ])
 
@@ -196,10 +229,14 @@ module _ (w : Linked) (world : IsWorld w) (assigned : Typings) (typings : AreTyp
         -- what is readied before it
         readied-safe :
             (o : Option ℕ) (place : Option ℕ) → place ≡ o
-            → IsTypedOutcome w assigned (entered_call tagged w n (args_of w n + 1) (readied tagged (record { frames = f ∷ below; heap = heap; statics = statics }) o))
-            → IsTypedOutcome w assigned (entered_call tagged w n (args_of w n + 1) (readied tagged (record { frames = f ∷ below; heap = heap; statics = statics }) place))
+            → IsTypedOutcome w assigned
+            (entered_call tagged w n (args_of w n + 1) (readied tagged (record { frames = f ∷ below; heap = heap; statics = statics }) o))
+            → IsTypedOutcome w assigned
+            (entered_call tagged w n (args_of w n + 1) (readied tagged (record { frames = f ∷ below; heap = heap; statics = statics }) place))
         readied-safe o place e h =
-            subst (λ p. IsTypedOutcome w assigned (entered_call tagged w n (args_of w n + 1) (readied tagged (record { frames = f ∷ below; heap = heap; statics = statics }) p))) (sym e) h
+            subst
+            (λ p. IsTypedOutcome w assigned
+            (entered_call tagged w n (args_of w n + 1) (readied tagged (record { frames = f ∷ below; heap = heap; statics = statics }) p))) (sym e) h
 
         pub named-safe :
             (want : Want) → receiver ≡ Some want → lacks_code w.classes m ≡ false → m.is_static ≡ false → IsReceiverOf w m (Some want)
@@ -227,7 +264,8 @@ module _ (w : Linked) (world : IsWorld w) (assigned : Typings) (typings : AreTyp
                   let plain : IsNotFresh (least_type t (assigned.unset f.method) ks r) = plain_class t (least_type t (assigned.unset f.method) ks r) old in
                   readied-safe None (made_at (Some (Receiver c)) found) (made-none c found (subst IsNotFresh (sym same_type) plain))
                   (run-safe w world assigned typings f below heap statics here n receiver choice m is method (Receiver c) wants n m method code_is refl dynamic
-                  (ready-receiver (length m.sig.args + 1) (result_given m.sig.result) (cell (least_types t (assigned.unset f.method) ks f.stack) (length m.sig.args)) c (subst IsNotFresh (sym at.seen) plain))
+                  (ready-receiver (length m.sig.args + 1) (result_given m.sig.result)
+                  (cell (least_types t (assigned.unset f.method) ks f.stack) (length m.sig.args)) c (subst IsNotFresh (sym at.seen) plain))
                   (subst (λ d. Below t (least_type t (assigned.unset f.method) ks r) (Class d)) receives.1 old))
             ]
         named-safe (Value Bottom) wants code_is dynamic receives = absurd receives

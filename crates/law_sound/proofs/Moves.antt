@@ -44,7 +44,8 @@ exchanged-types ty top under cs =
     ∙ (ap (λ ts. ts ++ map ty (take top cs ++ drop (top + under) cs)) (sym (take-map ty under (drop top cs)) ∙ ap (take under) (sym (drop-map ty top cs)))
     ∙ ap (λ ts. take under (drop top (map ty cs)) ++ ts)
     (map-append ty (take top cs) (drop (top + under) cs)
-    ∙ (ap (λ ts. ts ++ map ty (drop (top + under) cs)) (sym (take-map ty top cs)) ∙ ap (λ ts. take top (map ty cs) ++ ts) (sym (drop-map ty (top + under) cs))))))
+    ∙ (ap (λ ts. ts ++ map ty (drop (top + under) cs)) (sym (take-map ty top cs))
+    ∙ ap (λ ts. take top (map ty cs) ++ ts) (sym (drop-map ty (top + under) cs))))))
 
 moved-types : (ty : Cell → Ty) (m : Move) (cs : List Cell) → map ty (moved m cs) ≡ changed (move_effect m).change (map ty cs)
 moved-types ty moves.Pop cs = sym (drop-map ty 1 cs)
@@ -63,7 +64,8 @@ moved-all P (moves.CopyUnder copied under) cs h =
     All-append P (take under cs) (take copied cs ++ drop under cs) (All-take P under cs h)
     (All-append P (take copied cs) (drop under cs) (All-take P copied cs h) (All-drop P under cs h))
 moved-all P (moves.Exchange top under) cs h =
-    All-append P (drop top (take (top + under) cs)) (take top cs ++ drop (top + under) cs) (All-drop P top (take (top + under) cs) (All-take P (top + under) cs h))
+    All-append P (drop top (take (top + under) cs)) (take top cs ++ drop (top + under) cs)
+    (All-drop P top (take (top + under) cs) (All-take P (top + under) cs h))
     (All-append P (take top cs) (drop (top + under) cs) (All-take P top cs h) (All-drop P (top + under) cs h))
 
 on-stack-alone : (m : Move) → move_effect m ≡ on_stack (move_effect m).change
@@ -79,7 +81,9 @@ module _ (w : Linked) (world : IsWorld w) (assigned : Typings) (f : Frame Cell) 
   where
     pub move-safe :
         (m : Move) → here.turn.operation ≡ ops.Move m
-        → IsTypedOutcome w assigned (goes_to tagged w (here.turn.stands.instruction.place + here.turn.stands.instruction.insn.len) (record { frames = f ∷ below; heap = heap; statics = statics })
+        → IsTypedOutcome w assigned
+        (goes_to tagged w (here.turn.stands.instruction.place + here.turn.stands.instruction.insn.len)
+        (record { frames = f ∷ below; heap = heap; statics = statics })
         (with_move m (record { frames = f ∷ below; heap = heap; statics = statics })))
     move-safe m is =
         let ks = kinds_of heap in
@@ -89,10 +93,13 @@ module _ (w : Linked) (world : IsWorld w) (assigned : Typings) (f : Frame Cell) 
         let e : effect w here.turn.operation exact ≡ on_stack (move_effect m).change = ap (λ o. effect w o exact) is ∙ on-stack-alone m in
         let stack_is : after.stack ≡ changed (move_effect m).change exact.stack = a.stack ∙ ap (λ (z : Effect). changed z.change exact.stack) e in
         let regs_are : after.regs ≡ exact.regs = subst (λ (z : Effect). StoresInRegisters w.classes Flow z.store exact.regs after.regs) e a.regs in
-        let stack_now : least_types w.classes (assigned.unset f.method) ks (moved m f.stack) ≡ after.stack = moved-types (least_type w.classes (assigned.unset f.method) ks) m f.stack ∙ sym stack_is in
+        let stack_now : least_types w.classes (assigned.unset f.method) ks (moved m f.stack) ≡ after.stack = moved-types
+        (least_type w.classes (assigned.unset f.method) ks) m f.stack ∙ sym stack_is in
         on-safe w world assigned f below heap statics here f.registers (moved m f.stack) heap statics (ap falls_from is)
         (record {
           regs = subst (CellsBelow w.classes exact.regs) (sym regs_are) (cells-same w.classes exact.regs);
-          stack = subst (CellsBelow w.classes (least_types w.classes (assigned.unset f.method) ks (moved m f.stack))) stack_now (cells-same w.classes (least_types w.classes (assigned.unset f.method) ks (moved m f.stack)));
+          stack =
+              subst (CellsBelow w.classes (least_types w.classes (assigned.unset f.method) ks (moved m f.stack))) stack_now
+              (cells-same w.classes (least_types w.classes (assigned.unset f.method) ks (moved m f.stack)));
         })
         (moved-all (IsStacked w here.turn.stands.rec ks) m f.stack here.turn.stacked) here.store refl

@@ -38,8 +38,11 @@ module _ (w : Linked) (world : IsWorld w) (assigned : Typings) (f : Frame Cell) 
     -- a number in place of cells of the stack
     number-safe :
         (taken : ℕ) (width : Width) (n : ℤ) (op : Operation)
-        → here.turn.operation ≡ op → effect w op (types_of_frame w.classes (assigned.unset f.method) (kinds_of heap) f) ≡ replacing taken (number_given width) → falls_from op ≡ true
-        → IsTypedOutcome w assigned (goes_to tagged w (here.turn.stands.instruction.place + here.turn.stands.instruction.insn.len) (record { frames = f ∷ below; heap = heap; statics = statics })
+        → here.turn.operation ≡ op → effect w op (types_of_frame w.classes (assigned.unset f.method) (kinds_of heap) f) ≡ replacing taken
+        (number_given width) → falls_from op ≡ true
+        → IsTypedOutcome w assigned
+        (goes_to tagged w (here.turn.stands.instruction.place + here.turn.stands.instruction.insn.len)
+        (record { frames = f ∷ below; heap = heap; statics = statics })
         (replaced (record { frames = f ∷ below; heap = heap; statics = statics }) taken (number_cells tagged width n)))
     number-safe taken widths.Short n op is does falls =
         replace-safe w world assigned f below heap statics here taken (given.One _) (cells.Short n ∷ []) heap statics
@@ -48,11 +51,14 @@ module _ (w : Linked) (world : IsWorld w) (assigned : Typings) (f : Frame Cell) 
     number-safe taken widths.Int n op is does falls =
         replace-safe w world assigned f below heap statics here taken given.Int (cells.Low (low_word n) ∷ cells.High (high_word n) ∷ []) heap statics
         (ap (λ o. effect w o (types_of_frame w.classes (assigned.unset f.method) (kinds_of heap) f)) is ∙ does) (ap falls_from is ∙ falls)
-        (more_cells same (more_cells same no_cells)) (two-stacked w here.turn.stands.rec (kinds_of heap) (cells.Low (low_word n)) (cells.High (high_word n)) tt tt) here.store refl
+        (more_cells same (more_cells same no_cells))
+        (two-stacked w here.turn.stands.rec (kinds_of heap) (cells.Low (low_word n)) (cells.High (high_word n)) tt tt) here.store refl
 
     pub constant-safe :
         (c : Constant) → here.turn.operation ≡ ops.Constant c
-        → IsTypedOutcome w assigned (goes_to tagged w (here.turn.stands.instruction.place + here.turn.stands.instruction.insn.len) (record { frames = f ∷ below; heap = heap; statics = statics })
+        → IsTypedOutcome w assigned
+        (goes_to tagged w (here.turn.stands.instruction.place + here.turn.stands.instruction.insn.len)
+        (record { frames = f ∷ below; heap = heap; statics = statics })
         (with_constant tagged c (record { frames = f ∷ below; heap = heap; statics = statics })))
     constant-safe constants.Nothing is =
         replace-safe w world assigned f below heap statics here 0 given.Nothing [] heap statics
@@ -69,12 +75,14 @@ module _ (w : Linked) (world : IsWorld w) (assigned : Typings) (f : Frame Cell) 
 
     computed-safe :
         (taken : ℕ) (width : Width) (result : Option ℤ) (op : Operation)
-        → here.turn.operation ≡ op → effect w op (types_of_frame w.classes (assigned.unset f.method) (kinds_of heap) f) ≡ replacing taken (number_given width) → falls_from op ≡ true
+        → here.turn.operation ≡ op → effect w op (types_of_frame w.classes (assigned.unset f.method) (kinds_of heap) f) ≡ replacing taken
+        (number_given width) → falls_from op ≡ true
         → IsTypedOutcome w assigned (settled tagged w (here.turn.stands.instruction.place + here.turn.stands.instruction.insn.len)
         (record { frames = f ∷ below; heap = heap; statics = statics })
         (computed tagged width (record { frames = f ∷ below; heap = heap; statics = statics }) taken result))
     computed-safe taken width result op is does falls =
-        some-safe w world assigned f below heap statics here (here.turn.stands.instruction.place + here.turn.stands.instruction.insn.len) exceptions.Arithmetic result
+        some-safe w world assigned f below heap statics here (here.turn.stands.instruction.place + here.turn.stands.instruction.insn.len)
+        exceptions.Arithmetic result
         (λ n. goes (replaced (record { frames = f ∷ below; heap = heap; statics = statics }) taken (number_cells tagged width n)))
         (λ n e. number-safe taken width n op is does falls)
 
@@ -91,9 +99,12 @@ module _ (w : Linked) (world : IsWorld w) (assigned : Typings) (f : Frame Cell) 
         number-safe 1 widths.Short (negated widths.Short (number_on tagged widths.Short f.stack)) (ops.Arithmetic (arithmetic.Negate widths.Short)) is refl refl
     arithmetic-safe (arithmetic.Negate widths.Int) is =
         number-safe 2 widths.Int (negated widths.Int (number_on tagged widths.Int f.stack)) (ops.Arithmetic (arithmetic.Negate widths.Int)) is refl refl
-    arithmetic-safe arithmetic.ShortToByte is = number-safe 1 widths.Short (short_to_byte (short_at tagged f.stack 0)) (ops.Arithmetic arithmetic.ShortToByte) is refl refl
+    arithmetic-safe arithmetic.ShortToByte is =
+        number-safe 1 widths.Short (short_to_byte (short_at tagged f.stack 0)) (ops.Arithmetic arithmetic.ShortToByte) is refl refl
     arithmetic-safe arithmetic.ShortToInt is = number-safe 1 widths.Int (short_at tagged f.stack 0) (ops.Arithmetic arithmetic.ShortToInt) is refl refl
-    arithmetic-safe arithmetic.IntToByte is = number-safe 2 widths.Short (int_to_byte (int_on tagged f.stack 0)) (ops.Arithmetic arithmetic.IntToByte) is refl refl
-    arithmetic-safe arithmetic.IntToShort is = number-safe 2 widths.Short (int_to_short (int_on tagged f.stack 0)) (ops.Arithmetic arithmetic.IntToShort) is refl refl
+    arithmetic-safe arithmetic.IntToByte is =
+        number-safe 2 widths.Short (int_to_byte (int_on tagged f.stack 0)) (ops.Arithmetic arithmetic.IntToByte) is refl refl
+    arithmetic-safe arithmetic.IntToShort is =
+        number-safe 2 widths.Short (int_to_short (int_on tagged f.stack 0)) (ops.Arithmetic arithmetic.IntToShort) is refl refl
     arithmetic-safe arithmetic.CompareInts is =
         number-safe 4 widths.Short (compared (int_on tagged f.stack 2) (int_on tagged f.stack 0)) (ops.Arithmetic arithmetic.CompareInts) is refl refl

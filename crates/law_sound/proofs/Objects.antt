@@ -1,5 +1,6 @@
 -- New objects, casts and what is thrown, at a frame's turn.
-use Rattle.std.proofs.Common.{◌≡◌, ℕ, ◌+◌, ◌<◌, inl, inr, Bool, true, false, if◌then◌else◌, List, [], ◌∷◌, ◌++◌, length, drop, refl, sym, ap, ◌∙◌, subst, arith}
+use Rattle.std.proofs.Common.{◌≡◌, ℕ, ◌+◌, ◌<◌, inl, inr, Bool, true, false, if◌then◌else◌, List, [], ◌∷◌, ◌++◌, length, drop}
+use Rattle.std.proofs.Common.{refl, sym, ap, ◌∙◌, subst, arith}
 use Rattle.std.specs.Prelude.{ℤ, pos, negsuc, Option, Some, None, Ok, All, slice_index_or, ◌==◌, ◌||◌}
 use Rattle.std.proofs.lemmas.Bool.{false≢true, eqb-true, or_cases}
 use Rattle.std.proofs.lemmas.List.Elements.{All-cons, All-drop, All-weaker}
@@ -65,11 +66,14 @@ module _ (w : Linked) (world : IsWorld w) (assigned : Typings) (f : Frame Cell) 
     made-safe :
         (taken : ℕ) (made_type : Ty) (kind : ObjectKind) (cs : List Cell) (reference : ℕ → Cell) (op : Operation)
         → here.turn.operation ≡ op
-        → effect w op (types_of_frame w.classes (assigned.unset f.method) (kinds_of heap) f) ≡ replacing taken (given.One made_type) → falls_from op ≡ true
+        → effect w op (types_of_frame w.classes (assigned.unset f.method) (kinds_of heap) f) ≡ replacing taken (given.One made_type)
+        → falls_from op ≡ true
         → IsTypedStore w (heap ++ record { kind = kind; cells = cs } ∷ []) statics
         → Below w.classes (least_type w.classes (assigned.unset f.method) (kinds_of heap ++ kind ∷ []) (reference (length heap + 1))) made_type
         → IsStacked w here.turn.stands.rec (kinds_of heap ++ kind ∷ []) (reference (length heap + 1))
-        → IsTypedOutcome w assigned (settled tagged w (here.turn.stands.instruction.place + here.turn.stands.instruction.insn.len) (record { frames = f ∷ below; heap = heap; statics = statics })
+        → IsTypedOutcome w assigned
+        (settled tagged w (here.turn.stands.instruction.place + here.turn.stands.instruction.insn.len)
+        (record { frames = f ∷ below; heap = heap; statics = statics })
         (makes kind cs reference (dropped (record { frames = f ∷ below; heap = heap; statics = statics }) taken)))
     made-safe taken made_type kind cs reference op is does falls store lower stacked =
         let o : Object Cell = record { kind = kind; cells = cs } in
@@ -80,24 +84,30 @@ module _ (w : Linked) (world : IsWorld w) (assigned : Typings) (f : Frame Cell) 
         let new : List Cell = c ∷ drop taken f.stack in
         let next : ℕ = st.instruction.place + st.instruction.insn.len in
         let top : Frame Cell = record { method = f.method; place = next; registers = f.registers; stack = new } in
-        let under = replaced-below w world assigned f below heap statics here taken (given.One made_type) (c ∷ []) more (ap (λ o. effect w o (types_of_frame w.classes (assigned.unset f.method) ks f)) is ∙ does)
-        (more_cells lower no_cells) (types-fall w.classes (assigned.unset f.method) ks (kind ∷ []) f.registers) (types-fall w.classes (assigned.unset f.method) ks (kind ∷ []) f.stack) in
+        let under = replaced-below w world assigned f below heap statics here taken (given.One made_type) (c ∷ []) more
+        (ap (λ o. effect w o (types_of_frame w.classes (assigned.unset f.method) ks f)) is ∙ does)
+        (more_cells lower no_cells) (types-fall w.classes (assigned.unset f.method) ks (kind ∷ []) f.registers)
+        (types-fall w.classes (assigned.unset f.method) ks (kind ∷ []) f.stack) in
         let all : All (IsStacked w st.rec more) new =
         All-cons (IsStacked w st.rec more) c (drop taken f.stack) stacked
-        (All-drop (IsStacked w st.rec more) taken f.stack (All-weaker (IsStacked w st.rec ks) (IsStacked w st.rec more) (stacked-falls w st.rec ks (kind ∷ [])) f.stack here.turn.stacked)) in
+        (All-drop (IsStacked w st.rec more) taken f.stack
+        (All-weaker (IsStacked w st.rec ks) (IsStacked w st.rec more) (stacked-falls w st.rec ks (kind ∷ [])) f.stack here.turn.stacked)) in
         let same = sym (kinds-more heap o) in
         makes-safe w assigned (record f { stack = drop taken f.stack }) next below heap statics kind cs reference here.store (record {
           made = store.made;
           heap = store.objects;
           statics = store.fields;
           frames = (
-            subst (λ xs. IsTypedFrame w assigned xs top) same (typed-after w world assigned f below heap statics here more f.registers new (ap falls_from is ∙ falls) under all),
-            subst (λ xs. AreWaiting w assigned xs (result_of w f.method) below) same (all-waiting-fall w assigned ks (kind ∷ []) (result_of w f.method) below here.waits),
+            subst (λ xs. IsTypedFrame w assigned xs top) same
+                (typed-after w world assigned f below heap statics here more f.registers new (ap falls_from is ∙ falls) under all),
+            subst (λ xs. AreWaiting w assigned xs (result_of w f.method) below) same
+                (all-waiting-fall w assigned ks (kind ∷ []) (result_of w f.method) below here.waits),
           );
         })
 
     -- the class that the instruction makes is the one that its place tells
-    class-told : (place class : ℕ) → here.turn.operation ≡ ops.New place class → here.turn.stands.instruction.place ≡ place → class_made w here.turn.stands.rec place ≡ Some class
+    class-told : (place class : ℕ) → here.turn.operation ≡ ops.New place class → here.turn.stands.instruction.place ≡ place
+        → class_made w here.turn.stands.rec place ≡ Some class
     class-told place class is at =
         let st = here.turn.stands in
         let there = instruction-there (code_of w.infos st.rec) f.place st.instruction st.there in
@@ -106,8 +116,11 @@ module _ (w : Linked) (world : IsWorld w) (assigned : Typings) (f : Frame Cell) 
         ap (class_made_by w st.rec) found ∙ (ap class_of_new (sym here.turn.resolves) ∙ ap (λ op. class_of_new (Ok op)) is)
 
     pub new-safe :
-        (place class : ℕ) → here.turn.operation ≡ ops.New place class → here.turn.stands.instruction.place ≡ place → IsConcrete w.classes w.methods class
-        → IsTypedOutcome w assigned (settled tagged w (here.turn.stands.instruction.place + here.turn.stands.instruction.insn.len) (record { frames = f ∷ below; heap = heap; statics = statics })
+        (place class : ℕ) → here.turn.operation ≡ ops.New place class → here.turn.stands.instruction.place ≡ place
+        → IsConcrete w.classes w.methods class
+        → IsTypedOutcome w assigned
+        (settled tagged w (here.turn.stands.instruction.place + here.turn.stands.instruction.insn.len)
+        (record { frames = f ∷ below; heap = heap; statics = statics })
         (new_act tagged w.classes place class (record { frames = f ∷ below; heap = heap; statics = statics })))
     new-safe place class is at concrete =
         let o : Object Cell = record { kind = Instance class; cells = new_instance_cells tagged w.classes class } in
@@ -115,10 +128,12 @@ module _ (w : Linked) (world : IsWorld w) (assigned : Typings) (f : Frame Cell) 
         let handle : ℕ = length heap + 1 in
         let kind : kind_of_handle more handle ≡ Some (Instance class) = new-kind heap o in
         let ty : type_of_fresh more handle place ≡ Fresh place class = fresh-at more handle place ∙ ap (fresh_seen place) kind in
-        made-safe 0 (Fresh place class) (Instance class) (new_instance_cells tagged w.classes class) (λ h. cells.Fresh h place) (ops.New place class) is refl refl
+        made-safe 0 (Fresh place class) (Instance class) (new_instance_cells tagged w.classes class) (λ h. cells.Fresh h place) (ops.New place class) is
+        refl refl
         (with-instance w heap statics here.store world class concrete)
         (subst (λ a. Below w.classes a (Fresh place class)) (sym ty) same)
-        (IsSomeAnd-from (λ c. kind_of_handle more handle ≡ Some (Instance c)) (class_made w here.turn.stands.rec place) class (class-told place class is at) kind)
+        (IsSomeAnd-from (λ c. kind_of_handle more handle ≡ Some (Instance c)) (class_made w here.turn.stands.rec place) class
+        (class-told place class is at) kind)
 
     -- an array, whose type stands for the elements of an interface too
     kind-seen : (ty : Ty) → IsArray ty → type_of_kind w.classes (kind_of_type ty) ≡ seen w.classes ty
@@ -168,7 +183,9 @@ module _ (w : Linked) (world : IsWorld w) (assigned : Typings) (f : Frame Cell) 
 
     array-safe :
         (ty : Ty) (count : ℤ) → here.turn.operation ≡ ops.NewArray ty → IsArray ty → IsNamedType w.classes ty
-        → IsTypedOutcome w assigned (settled tagged w (here.turn.stands.instruction.place + here.turn.stands.instruction.insn.len) (record { frames = f ∷ below; heap = heap; statics = statics })
+        → IsTypedOutcome w assigned
+        (settled tagged w (here.turn.stands.instruction.place + here.turn.stands.instruction.insn.len)
+        (record { frames = f ∷ below; heap = heap; statics = statics })
         (array_of_count tagged (kind_of_type ty) count (dropped (record { frames = f ∷ below; heap = heap; statics = statics }) 1)))
     array-safe ty (negsuc n) is array named = raise-safe w world assigned f below heap statics here exceptions.NegativeSize
     array-safe ty (pos count) is array named =
@@ -184,7 +201,9 @@ module _ (w : Linked) (world : IsWorld w) (assigned : Typings) (f : Frame Cell) 
 
     pub new-array-safe :
         (ty : Ty) → here.turn.operation ≡ ops.NewArray ty → IsArray ty → IsNamedType w.classes ty
-        → IsTypedOutcome w assigned (settled tagged w (here.turn.stands.instruction.place + here.turn.stands.instruction.insn.len) (record { frames = f ∷ below; heap = heap; statics = statics })
+        → IsTypedOutcome w assigned
+        (settled tagged w (here.turn.stands.instruction.place + here.turn.stands.instruction.insn.len)
+        (record { frames = f ∷ below; heap = heap; statics = statics })
         (new_array_act tagged ty (record { frames = f ∷ below; heap = heap; statics = statics })))
     new-array-safe ty is array named = array-safe ty (short_at tagged f.stack 0) is array named
 
@@ -192,7 +211,9 @@ module _ (w : Linked) (world : IsWorld w) (assigned : Typings) (f : Frame Cell) 
 
     pub throw-act-safe :
         here.turn.operation ≡ ops.Throw
-        → IsTypedOutcome w assigned (settled tagged w (here.turn.stands.instruction.place + here.turn.stands.instruction.insn.len) (record { frames = f ∷ below; heap = heap; statics = statics })
+        → IsTypedOutcome w assigned
+        (settled tagged w (here.turn.stands.instruction.place + here.turn.stands.instruction.insn.len)
+        (record { frames = f ∷ below; heap = heap; statics = statics })
         (throw_act tagged (record { frames = f ∷ below; heap = heap; statics = statics })))
     throw-act-safe is =
         let c : Cell = slice_index_or f.stack 0 cells.Empty in
@@ -233,13 +254,16 @@ module _ (w : Linked) (world : IsWorld w) (assigned : Typings) (f : Frame Cell) 
         (ty : Ty) (h : ℕ) → IsNamedType w.classes ty → (h == 0 || kind_passes w.classes ty (kind_of_handle (kinds_of heap) h)) ≡ true
         → Below w.classes (type_of_handle w.classes (kinds_of heap) h) (seen w.classes ty)
     may-cast-below ty h named test = elim (or_cases (h == 0) (kind_passes w.classes ty (kind_of_handle (kinds_of heap) h)) test) [
-      | inl null ↦ subst (λ n. Below w.classes (type_of_handle w.classes (kinds_of heap) n) (seen w.classes ty)) (sym (eqb-true h 0 null)) (null-below ty named)
+      | inl null ↦ subst (λ n. Below w.classes (type_of_handle w.classes (kinds_of heap) n) (seen w.classes ty)) (sym (eqb-true h 0 null))
+          (null-below ty named)
       | inr passed ↦ cast-below ty h named passed
     ]
 
     pub type-test-safe :
         (test : TypeTest) (ty : Ty) → here.turn.operation ≡ ops.TypeTest test ty → IsNamedType w.classes ty
-        → IsTypedOutcome w assigned (settled tagged w (here.turn.stands.instruction.place + here.turn.stands.instruction.insn.len) (record { frames = f ∷ below; heap = heap; statics = statics })
+        → IsTypedOutcome w assigned
+        (settled tagged w (here.turn.stands.instruction.place + here.turn.stands.instruction.insn.len)
+        (record { frames = f ∷ below; heap = heap; statics = statics })
         (type_test_act tagged w.classes test ty (record { frames = f ∷ below; heap = heap; statics = statics })))
     type-test-safe tests.InstanceOf ty is named =
         let now : State Cell = record { frames = f ∷ below; heap = heap; statics = statics } in
@@ -247,10 +271,14 @@ module _ (w : Linked) (world : IsWorld w) (assigned : Typings) (f : Frame Cell) 
         replace-safe w world assigned f below heap statics here 1 (given.One Short) (c ∷ []) heap statics
         (ap (λ o. effect w o (types_of_frame w.classes (assigned.unset f.method) (kinds_of heap) f)) is) (ap falls_from is)
         (more_cells same no_cells) (one-stacked w here.turn.stands.rec (kinds_of heap) c tt) here.store refl
-    type-test-safe tests.Cast ty is named = go (may_cast w.classes (record { frames = f ∷ below; heap = heap; statics = statics }) ty (word_of (slice_index_or f.stack 0 cells.Empty))) refl
+    type-test-safe tests.Cast ty is named =
+        go (may_cast w.classes (record { frames = f ∷ below; heap = heap; statics = statics }) ty (word_of (slice_index_or f.stack 0 cells.Empty))) refl
       where
-        go : (b : Bool) → may_cast w.classes (record { frames = f ∷ below; heap = heap; statics = statics }) ty (word_of (slice_index_or f.stack 0 cells.Empty)) ≡ b
-            → IsTypedOutcome w assigned (settled tagged w (here.turn.stands.instruction.place + here.turn.stands.instruction.insn.len) (record { frames = f ∷ below; heap = heap; statics = statics })
+        go : (b : Bool) → may_cast w.classes (record { frames = f ∷ below; heap = heap; statics = statics }) ty
+            (word_of (slice_index_or f.stack 0 cells.Empty)) ≡ b
+            → IsTypedOutcome w assigned
+            (settled tagged w (here.turn.stands.instruction.place + here.turn.stands.instruction.insn.len)
+            (record { frames = f ∷ below; heap = heap; statics = statics })
             (if b then goes (record { frames = f ∷ below; heap = heap; statics = statics }) else raises exceptions.ClassCast))
         go false e = raise-safe w world assigned f below heap statics here exceptions.ClassCast
         go true e =
@@ -261,11 +289,16 @@ module _ (w : Linked) (world : IsWorld w) (assigned : Typings) (f : Frame Cell) 
             let at = cell-at t (assigned.unset f.method) ks f.stack 0 (λ a. Below t a (Class (object t))) asked.0 in
             let filled = stacked-filled w here.turn.stands.rec ks c (stacked-at w here.turn.stands.rec ks f.stack 0 at.inside here.turn.stacked) in
             let lower : Below t (least_type t (assigned.unset f.method) ks c) (seen t ty) =
-            subst (λ a. Below t a (seen t ty)) (sym (reference-same t world.chains (assigned.unset f.method) ks c (Class (object t)) tt filled at.holds)) (may-cast-below ty (word_of c) named e) in
-            subst (λ xs. IsTypedOutcome w assigned (goes_to tagged w (here.turn.stands.instruction.place + here.turn.stands.instruction.insn.len) (record { frames = f ∷ below; heap = heap; statics = statics })
+            subst (λ a. Below t a (seen t ty)) (sym (reference-same t world.chains (assigned.unset f.method) ks c (Class (object t)) tt filled at.holds))
+            (may-cast-below ty (word_of c) named e) in
+            subst
+            (λ xs. IsTypedOutcome w assigned
+            (goes_to tagged w (here.turn.stands.instruction.place + here.turn.stands.instruction.insn.len)
+            (record { frames = f ∷ below; heap = heap; statics = statics })
             (record { frames = record { method = f.method; place = f.place; registers = f.registers; stack = xs } ∷ below; heap = heap; statics = statics })))
             (top-and-rest f.stack at.inside)
             (replace-safe w world assigned f below heap statics here 1 (given.One (seen t ty)) (c ∷ []) heap statics
             (ap (λ o. effect w o (types_of_frame t (assigned.unset f.method) ks f)) is) (ap falls_from is)
             (more_cells lower no_cells)
-            (one-stacked w here.turn.stands.rec ks c (value-ready t world.chains (assigned.unset f.method) ks c (Class (object t)) filled tt tt at.holds)) here.store refl)
+            (one-stacked w here.turn.stands.rec ks c (value-ready t world.chains (assigned.unset f.method) ks c (Class (object t)) filled tt tt at.holds))
+            here.store refl)

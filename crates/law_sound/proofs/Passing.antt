@@ -24,7 +24,8 @@ use Rattle.vm_step.specs.Tests.{fault_before}
 use Rattle.law_sound.specs.Frames.{types_of_frame}
 
 module _ (w : Linked) (chains : AreClasses w.classes) where
-  pick : {X : Type 0} (x y z : Option X) (a b c : Bool) → a ≡ false → b ≡ false → c ≡ true → (if a then x else if b then y else if c then None else z) ≡ None
+  pick : {X : Type 0} (x y z : Option X) (a b c : Bool) → a ≡ false → b ≡ false → c ≡ true
+      → (if a then x else if b then y else if c then None else z) ≡ None
   pick x y z true b c h k l = absurd (false≢true (sym h))
   pick x y z false true c h k l = absurd (false≢true (sym k))
   pick x y z false false false h k l = absurd (false≢true l)

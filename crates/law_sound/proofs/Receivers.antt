@@ -1,5 +1,6 @@
 -- The receiver of a call, and cells that a constructor makes ready.
-use Rattle.std.proofs.Common.{◌≡◌, ℕ, zero, suc, Bool, true, false, if◌then◌else◌, ◌==◌, List, [], ◌∷◌, map, refl, sym, ap, ◌∙◌, subst}
+use Rattle.std.proofs.Common.{◌≡◌, ℕ, zero, suc, Bool, true, false, if◌then◌else◌, ◌==◌, List, [], ◌∷◌, map, refl, sym, ap, ◌∙◌}
+use Rattle.std.proofs.Common.{subst}
 use Rattle.std.specs.Prelude.{Option, Some, None, All, slice_get}
 use Rattle.std.proofs.lemmas.Bool.{eqb-true}
 use Rattle.std.proofs.lemmas.Option.{same_Some}
@@ -52,7 +53,8 @@ ready-value taken given ArrInt wanted = refl
 ready-value taken given (ArrRef c) wanted = refl
 ready-value taken given Top wanted = refl
 
-pub ready-receiver : (taken : ℕ) (given : Cells) (found : Ty) (class : ℕ) → IsNotFresh found → ready_with taken given found (Receiver class) ≡ Replace taken given
+pub ready-receiver : (taken : ℕ) (given : Cells) (found : Ty) (class : ℕ) → IsNotFresh found → ready_with taken given found (Receiver class)
+    ≡ Replace taken given
 ready-receiver taken given (Fresh p c) class h = absurd h
 ready-receiver taken given Bottom class h = refl
 ready-receiver taken given Short class h = refl
@@ -176,7 +178,8 @@ cell-kept place (cells.Fresh n p) h = absurd h
 below-parts : (t : ClassTable) {a b : Ty} {xs ys : List Ty} → CellsBelow t (a ∷ xs) (b ∷ ys) → Below t a b × CellsBelow t xs ys
 below-parts t (more_cells first rest) = (first, rest)
 
-module _ (w : Linked) (are : AreClasses w.classes) (m : MethodRec) (unset : Ty) (ks : List ObjectKind) (place class : ℕ) (made : class_made w m place ≡ Some class) where
+module _ (w : Linked) (are : AreClasses w.classes) (m : MethodRec) (unset : Ty) (ks : List ObjectKind) (place class : ℕ)
+    (made : class_made w m place ≡ Some class) where
   -- the type of a reference to an object is none of those
   reference-not_fresh : (h : ℕ) → IsNotFresh (type_of_handle w.classes ks h)
   reference-not_fresh zero = tt
@@ -209,7 +212,9 @@ module _ (w : Linked) (are : AreClasses w.classes) (m : MethodRec) (unset : Ty) 
           let cell_is : made_ready place (cells.Fresh h p) ≡ cells.Ref h = ap (λ x. if x then cells.Ref h else cells.Fresh h p) e in
           let after_is : ready place class (Fresh p c) ≡ Class class = ap (λ x. if x then Class class else Fresh p c) e in
           record {
-            type_is = ap (least_type w.classes unset ks) cell_is ∙ (kind-type w.classes ks h (Instance c) kind ∙ (ap Class same_class ∙ sym (ap (ready place class) ty ∙ after_is)));
+            type_is =
+                ap (least_type w.classes unset ks) cell_is
+                ∙ (kind-type w.classes ks h (Instance c) kind ∙ (ap Class same_class ∙ sym (ap (ready place class) ty ∙ after_is)));
             stacked = subst (IsStacked w m ks) (sym cell_is) tt;
           }
       go false e =
@@ -232,7 +237,8 @@ module _ (w : Linked) (are : AreClasses w.classes) (m : MethodRec) (unset : Ty) 
       new-readied n p found.0 found.2 found.1
 
   -- of all cells of a stack
-  pub types-readied : (cs : List Cell) → All (IsStacked w m ks) cs → least_types w.classes unset ks (map (made_ready place) cs) ≡ map (ready place class) (least_types w.classes unset ks cs)
+  pub types-readied : (cs : List Cell) → All (IsStacked w m ks) cs → least_types w.classes unset ks (map (made_ready place) cs)
+      ≡ map (ready place class) (least_types w.classes unset ks cs)
   types-readied [] h = refl
   types-readied (c ∷ cs) h =
       let first = cell-readied c (All-head (IsStacked w m ks) c cs h) in
@@ -247,7 +253,8 @@ module _ (w : Linked) (are : AreClasses w.classes) (m : MethodRec) (unset : Ty) 
 
   -- arguments are ready as they are
   pub arguments-kept :
-      (cs : List Cell) (tys : List Ty) → All (IsStacked w m ks) cs → All (IsDeclared w.classes) tys → CellsBelow w.classes (least_types w.classes unset ks cs) tys
+      (cs : List Cell) (tys : List Ty) → All (IsStacked w m ks) cs → All (IsDeclared w.classes) tys
+      → CellsBelow w.classes (least_types w.classes unset ks cs) tys
       → map (made_ready place) cs ≡ cs
   arguments-kept [] tys h d below = refl
   arguments-kept (c ∷ cs) [] h d below = elim below [ ]
@@ -255,6 +262,7 @@ module _ (w : Linked) (are : AreClasses w.classes) (m : MethodRec) (unset : Ty) 
       let parts = below-parts w.classes below in
       let declared = All-head (IsDeclared w.classes) ty tys d in
       let filled = stacked-filled w m ks c (All-head (IsStacked w m ks) c cs h) in
-      let ready_cell = value-ready w.classes are unset ks c ty filled (declared-not_fresh w.classes ty declared) (declared-not_top w.classes ty declared) parts.0 in
+      let ready_cell = value-ready w.classes are unset ks c ty filled (declared-not_fresh w.classes ty declared) (declared-not_top w.classes ty declared)
+      parts.0 in
       ap (λ d. d ∷ map (made_ready place) cs) (cell-kept place c ready_cell)
       ∙ ap (λ ds. c ∷ ds) (arguments-kept cs tys (All-tail (IsStacked w m ks) c cs h) (All-tail (IsDeclared w.classes) ty tys d) parts.1)

@@ -82,14 +82,16 @@ module _ (t : ClassTable) (are : AreClasses t) where
 
   -- the word of such a cell is a handle whose type lies below it, which is null where nothing was stored
   pub reference-handle :
-      (unset : Ty) (ks : List ObjectKind) (c : Cell) (ty : Ty) → IsReference ty → Below t (least_type t unset ks c) ty → Below t (type_of_handle t ks (word_of c)) ty
+      (unset : Ty) (ks : List ObjectKind) (c : Cell) (ty : Ty) → IsReference ty → Below t (least_type t unset ks c) ty
+      → Below t (type_of_handle t ks (word_of c)) ty
   reference-handle unset ks cells.Empty ty r b = null-reference t ty r
   reference-handle unset ks (cells.Short n) ty r b = absurd (over-short ty r (is_below-from_Below t are b))
   reference-handle unset ks (cells.High n) ty r b = absurd (over-high ty r (is_below-from_Below t are b))
   reference-handle unset ks (cells.Low n) ty r b = absurd (over-low ty r (is_below-from_Below t are b))
   reference-handle unset ks (cells.Ref n) ty r b = b
   reference-handle unset ks (cells.Fresh zero p) ty r b = absurd (not-over-top t are ty (reference-topless ty r) b)
-  reference-handle unset ks (cells.Fresh (suc n) p) ty r b = absurd (not-over-seen t are p (slice_get ks n) ty (reference-ready ty r) (reference-topless ty r) b)
+  reference-handle unset ks (cells.Fresh (suc n) p) ty r b =
+      absurd (not-over-seen t are p (slice_get ks n) ty (reference-ready ty r) (reference-topless ty r) b)
 
   -- and its least type is that of the handle, where something was stored
   pub reference-same :
@@ -101,7 +103,8 @@ module _ (t : ClassTable) (are : AreClasses t) where
   reference-same unset ks (cells.Low n) ty r h b = absurd (over-low ty r (is_below-from_Below t are b))
   reference-same unset ks (cells.Ref n) ty r h b = refl
   reference-same unset ks (cells.Fresh zero p) ty r h b = absurd (not-over-top t are ty (reference-topless ty r) b)
-  reference-same unset ks (cells.Fresh (suc n) p) ty r h b = absurd (not-over-seen t are p (slice_get ks n) ty (reference-ready ty r) (reference-topless ty r) b)
+  reference-same unset ks (cells.Fresh (suc n) p) ty r h b =
+      absurd (not-over-seen t are p (slice_get ks n) ty (reference-ready ty r) (reference-topless ty r) b)
 
 -- the object of a handle that is not null
 pub record IsObject (t : ClassTable) (heap : List (Object Cell)) (h : ℕ) (ty : Ty) : Type 0 where
@@ -117,14 +120,17 @@ object-found heap (suc h) k e = go (slice_get heap h) refl
   where
     go : (p : Option (Object Cell)) → slice_get heap h ≡ p → (o : Object Cell) × (slice_get heap h ≡ Some o) × (o.kind ≡ k)
     go None f =
-        let none : ◌≡◌ {A = Option ObjectKind} None (Some k) = ap (option_map (λ (o : Object Cell). o.kind)) (sym f) ∙ (sym (slice_get-map (λ (o : Object Cell). o.kind) heap h) ∙ e) in
+        let none : ◌≡◌ {A = Option ObjectKind} None (Some k) = ap (option_map (λ (o : Object Cell). o.kind)) (sym f)
+        ∙ (sym (slice_get-map (λ (o : Object Cell). o.kind) heap h) ∙ e) in
         absurd (none-some k none)
     go (Some o) f =
-        let some : Some o.kind ≡ Some k = ap (option_map (λ (o : Object Cell). o.kind)) (sym f) ∙ (sym (slice_get-map (λ (o : Object Cell). o.kind) heap h) ∙ e) in
+        let some : Some o.kind ≡ Some k = ap (option_map (λ (o : Object Cell). o.kind)) (sym f)
+        ∙ (sym (slice_get-map (λ (o : Object Cell). o.kind) heap h) ∙ e) in
         (o, f, same_Some o.kind k some)
 
 pub handle-object :
-    (t : ClassTable) → AreClasses t → (heap : List (Object Cell)) (h : ℕ) (ty : Ty) → IsNotTop ty → (h ≡ 0 → ⊥) → Below t (type_of_handle t (kinds_of heap) h) ty → IsObject t heap h ty
+    (t : ClassTable) → AreClasses t → (heap : List (Object Cell)) (h : ℕ) (ty : Ty) → IsNotTop ty → (h ≡ 0 → ⊥)
+    → Below t (type_of_handle t (kinds_of heap) h) ty → IsObject t heap h ty
 handle-object t are heap h ty top some b = elim (value-handle t are (kinds_of heap) h ty top b) [
   | inl null ↦ absurd (some null)
   | inr found ↦

@@ -82,7 +82,8 @@ module _ (t : ClassTable) (are : AreClasses t) (unset : Ty) (ks : List ObjectKin
   reference-kept : (c : Cell) (o : ℕ) → IsReadyCell c → IsLoaded c (or_null (least_type t unset ks c))
   reference-kept c o ready = record { below = or_null-above t (least_type t unset ks c); ready = ready }
 
-  reference-loaded : (c : Cell) (o : ℕ) → Below t (least_type t unset ks c) (Class o) → IsLoaded (loaded_as made.Reference c) (or_null (least_type t unset ks c))
+  reference-loaded : (c : Cell) (o : ℕ) → Below t (least_type t unset ks c) (Class o)
+      → IsLoaded (loaded_as made.Reference c) (or_null (least_type t unset ks c))
   reference-loaded cells.Empty o b = record { below = null-under t o unset (is_below-from_Below t are b); ready = tt }
   reference-loaded (cells.Short n) o b = reference-kept (cells.Short n) o tt
   reference-loaded (cells.High n) o b = reference-kept (cells.High n) o tt
@@ -118,12 +119,16 @@ module _ (w : Linked) (world : IsWorld w) (assigned : Typings) (f : Frame Cell) 
     (here : Here w assigned f below heap statics)
   where
     -- what the operation asks of the least types of cells
-    pub asked-of : (op : Operation) → here.turn.operation ≡ op → SatisfiesAll w.classes (types_of_frame w.classes (assigned.unset f.method) (kinds_of heap) f) (demands w op)
-    asked-of op is = subst (λ o. SatisfiesAll w.classes (types_of_frame w.classes (assigned.unset f.method) (kinds_of heap) f) (demands w o)) is here.turn.applies.asked
+    pub asked-of : (op : Operation) → here.turn.operation ≡ op
+        → SatisfiesAll w.classes (types_of_frame w.classes (assigned.unset f.method) (kinds_of heap) f) (demands w op)
+    asked-of op is =
+        subst (λ o. SatisfiesAll w.classes (types_of_frame w.classes (assigned.unset f.method) (kinds_of heap) f) (demands w o)) is here.turn.applies.asked
 
     pub load-safe :
         (sort : Sort) (x : ℕ) → here.turn.operation ≡ ops.Load sort x
-        → IsTypedOutcome w assigned (goes_to tagged w (here.turn.stands.instruction.place + here.turn.stands.instruction.insn.len) (record { frames = f ∷ below; heap = heap; statics = statics })
+        → IsTypedOutcome w assigned
+        (goes_to tagged w (here.turn.stands.instruction.place + here.turn.stands.instruction.insn.len)
+        (record { frames = f ∷ below; heap = heap; statics = statics })
         (with_load tagged sort x (record { frames = f ∷ below; heap = heap; statics = statics })))
     load-safe sorts.Reference x is =
         let ks = kinds_of heap in
@@ -131,10 +136,12 @@ module _ (w : Linked) (world : IsWorld w) (assigned : Typings) (f : Frame Cell) 
         let asked = asked-of (ops.Load sorts.Reference x) is in
         let at = cell-at w.classes (assigned.unset f.method) ks f.registers x (λ ty. Below w.classes ty (Class (object w.classes))) asked.1.0 in
         let loaded = reference-loaded w.classes world.chains (assigned.unset f.method) ks c (object w.classes) at.holds in
-        replace-safe w world assigned f below heap statics here 0 (given.One (or_null (slice_index_or (least_types w.classes (assigned.unset f.method) ks f.registers) x Top)))
+        replace-safe w world assigned f below heap statics here 0
+        (given.One (or_null (slice_index_or (least_types w.classes (assigned.unset f.method) ks f.registers) x Top)))
         (loaded_as made.Reference c ∷ []) heap statics
         (ap (λ o. effect w o (types_of_frame w.classes (assigned.unset f.method) ks f)) is) (ap falls_from is)
-        (more_cells (subst (Below w.classes (least_type w.classes (assigned.unset f.method) ks (loaded_as made.Reference c))) (sym (ap or_null at.seen)) loaded.below) no_cells)
+        (more_cells (subst (Below w.classes (least_type w.classes (assigned.unset f.method) ks (loaded_as made.Reference c))) (sym (ap or_null at.seen))
+        loaded.below) no_cells)
         (one-stacked w here.turn.stands.rec ks (loaded_as made.Reference c) loaded.ready) here.store refl
     load-safe sorts.Short x is =
         let ks = kinds_of heap in
@@ -151,8 +158,10 @@ module _ (w : Linked) (world : IsWorld w) (assigned : Typings) (f : Frame Cell) 
         let c : Cell = slice_index_or f.registers x cells.Empty in
         let d : Cell = slice_index_or f.registers (x + 1) cells.Empty in
         let asked = asked-of (ops.Load sorts.Int x) is in
-        let high = high-loaded w.classes world.chains (assigned.unset f.method) ks c (cell-at w.classes (assigned.unset f.method) ks f.registers x (λ ty. Below w.classes ty IntHigh) asked.1.0).holds in
-        let low = low-loaded w.classes world.chains (assigned.unset f.method) ks d (cell-at w.classes (assigned.unset f.method) ks f.registers (x + 1) (λ ty. Below w.classes ty IntLow) asked.1.1.0).holds in
+        let high = high-loaded w.classes world.chains (assigned.unset f.method) ks c
+        (cell-at w.classes (assigned.unset f.method) ks f.registers x (λ ty. Below w.classes ty IntHigh) asked.1.0).holds in
+        let low = low-loaded w.classes world.chains (assigned.unset f.method) ks d
+        (cell-at w.classes (assigned.unset f.method) ks f.registers (x + 1) (λ ty. Below w.classes ty IntLow) asked.1.1.0).holds in
         replace-safe w world assigned f below heap statics here 0 given.Int (loaded_as made.Low d ∷ loaded_as made.High c ∷ []) heap statics
         (ap (λ o. effect w o (types_of_frame w.classes (assigned.unset f.method) ks f)) is) (ap falls_from is)
         (more_cells low.below (more_cells high.below no_cells))
@@ -166,7 +175,9 @@ module _ (w : Linked) (world : IsWorld w) (assigned : Typings) (f : Frame Cell) 
         → here.turn.operation ≡ op
         → effect w op (types_of_frame w.classes (assigned.unset f.method) (kinds_of heap) f) ≡ storing taken x (given.One ty) → falls_from op ≡ true
         → Below w.classes (least_type w.classes (assigned.unset f.method) (kinds_of heap) c) ty
-        → IsTypedOutcome w assigned (goes_to tagged w (here.turn.stands.instruction.place + here.turn.stands.instruction.insn.len) (record { frames = f ∷ below; heap = heap; statics = statics })
+        → IsTypedOutcome w assigned
+        (goes_to tagged w (here.turn.stands.instruction.place + here.turn.stands.instruction.insn.len)
+        (record { frames = f ∷ below; heap = heap; statics = statics })
         (record {
           frames = record { method = f.method; place = f.place; registers = set f.registers x c; stack = drop taken f.stack } ∷ below;
           heap = heap;
@@ -179,7 +190,8 @@ module _ (w : Linked) (world : IsWorld w) (assigned : Typings) (f : Frame Cell) 
         let after = here.turn.after in
         let e : effect w here.turn.operation exact ≡ storing taken x (given.One ty) = ap (λ o. effect w o exact) is ∙ does in
         let stack_is : after.stack ≡ drop taken exact.stack = a.stack ∙ ap (λ (z : Effect). changed z.change exact.stack) e in
-        let wrote : WritesRegister w.classes Flow x ty exact.regs after.regs = subst (λ (z : Effect). StoresInRegisters w.classes Flow z.store exact.regs after.regs) e a.regs in
+        let wrote : WritesRegister w.classes Flow x ty exact.regs after.regs = subst
+        (λ (z : Effect). StoresInRegisters w.classes Flow z.store exact.regs after.regs) e a.regs in
         let regs_are : after.regs ≡ set exact.regs x ty = wrote.after_is ∙ ap (set exact.regs x) wrote.stored in
         on-safe w world assigned f below heap statics here (set f.registers x c) (drop taken f.stack) heap statics (ap falls_from is ∙ falls)
         (record {
@@ -197,8 +209,11 @@ module _ (w : Linked) (world : IsWorld w) (assigned : Typings) (f : Frame Cell) 
         (taken x : ℕ) (c d : Cell) (op : Operation)
         → here.turn.operation ≡ op
         → effect w op (types_of_frame w.classes (assigned.unset f.method) (kinds_of heap) f) ≡ storing taken x given.Int → falls_from op ≡ true
-        → Below w.classes (least_type w.classes (assigned.unset f.method) (kinds_of heap) c) IntHigh → Below w.classes (least_type w.classes (assigned.unset f.method) (kinds_of heap) d) IntLow
-        → IsTypedOutcome w assigned (goes_to tagged w (here.turn.stands.instruction.place + here.turn.stands.instruction.insn.len) (record { frames = f ∷ below; heap = heap; statics = statics })
+        → Below w.classes (least_type w.classes (assigned.unset f.method) (kinds_of heap) c) IntHigh
+        → Below w.classes (least_type w.classes (assigned.unset f.method) (kinds_of heap) d) IntLow
+        → IsTypedOutcome w assigned
+        (goes_to tagged w (here.turn.stands.instruction.place + here.turn.stands.instruction.insn.len)
+        (record { frames = f ∷ below; heap = heap; statics = statics })
         (record {
           frames = record { method = f.method; place = f.place; registers = set (set f.registers x c) (x + 1) d; stack = drop taken f.stack } ∷ below;
           heap = heap;
@@ -212,7 +227,8 @@ module _ (w : Linked) (world : IsWorld w) (assigned : Typings) (f : Frame Cell) 
         let after = here.turn.after in
         let e : effect w here.turn.operation exact ≡ storing taken x given.Int = ap (λ o. effect w o exact) is ∙ does in
         let stack_is : after.stack ≡ drop taken exact.stack = a.stack ∙ ap (λ (z : Effect). changed z.change exact.stack) e in
-        let wrote : WritesInt w.classes Flow x exact.regs after.regs = subst (λ (z : Effect). StoresInRegisters w.classes Flow z.store exact.regs after.regs) e a.regs in
+        let wrote : WritesInt w.classes Flow x exact.regs after.regs = subst
+        (λ (z : Effect). StoresInRegisters w.classes Flow z.store exact.regs after.regs) e a.regs in
         let between : wrote.between ≡ set exact.regs x IntHigh = wrote.high.after_is ∙ ap (set exact.regs x) wrote.high.stored in
         let regs_are : after.regs ≡ set (set exact.regs x IntHigh) (x + 1) IntLow =
         wrote.low.after_is ∙ (ap (set wrote.between (x + 1)) wrote.low.stored ∙ ap (λ ts. set ts (x + 1) IntLow) between) in
@@ -230,13 +246,16 @@ module _ (w : Linked) (world : IsWorld w) (assigned : Typings) (f : Frame Cell) 
 
     pub store-safe :
         (sort : Sort) (x : ℕ) → here.turn.operation ≡ ops.Store sort x
-        → IsTypedOutcome w assigned (goes_to tagged w (here.turn.stands.instruction.place + here.turn.stands.instruction.insn.len) (record { frames = f ∷ below; heap = heap; statics = statics })
+        → IsTypedOutcome w assigned
+        (goes_to tagged w (here.turn.stands.instruction.place + here.turn.stands.instruction.insn.len)
+        (record { frames = f ∷ below; heap = heap; statics = statics })
         (with_store tagged sort x (record { frames = f ∷ below; heap = heap; statics = statics })))
     store-safe sorts.Reference x is =
         let ks = kinds_of heap in
         let asked = asked-of (ops.Store sorts.Reference x) is in
         let at = cell-at w.classes (assigned.unset f.method) ks f.stack 0 (λ ty. Below w.classes ty (Class (object w.classes))) asked.1.0 in
-        stored-safe 1 x (slice_index_or f.stack 0 cells.Empty) (cell (least_types w.classes (assigned.unset f.method) ks f.stack) 0) (ops.Store sorts.Reference x) is refl refl
+        stored-safe 1 x (slice_index_or f.stack 0 cells.Empty) (cell (least_types w.classes (assigned.unset f.method) ks f.stack) 0)
+        (ops.Store sorts.Reference x) is refl refl
         (subst (Below w.classes (least_type w.classes (assigned.unset f.method) ks (slice_index_or f.stack 0 cells.Empty))) (sym at.seen) same)
     store-safe sorts.Short x is =
         let asked = asked-of (ops.Store sorts.Short x) is in
@@ -250,7 +269,9 @@ module _ (w : Linked) (world : IsWorld w) (assigned : Typings) (f : Frame Cell) 
 
     pub increment-safe :
         (width : Width) (x : ℕ) (amount : ℤ) → here.turn.operation ≡ ops.Increment width x amount
-        → IsTypedOutcome w assigned (goes_to tagged w (here.turn.stands.instruction.place + here.turn.stands.instruction.insn.len) (record { frames = f ∷ below; heap = heap; statics = statics })
+        → IsTypedOutcome w assigned
+        (goes_to tagged w (here.turn.stands.instruction.place + here.turn.stands.instruction.insn.len)
+        (record { frames = f ∷ below; heap = heap; statics = statics })
         (with_increment tagged width x amount (record { frames = f ∷ below; heap = heap; statics = statics })))
     increment-safe widths.Short x amount is =
         stored-safe 0 x (cells.Short (incremented tagged widths.Short f.registers x amount)) Short (ops.Increment widths.Short x amount) is refl refl same

@@ -50,16 +50,20 @@ module _ (w : Linked) (world : IsWorld w) (assigned : Typings) (f : Frame Cell) 
 
     -- a value of one cell
     one-given :
-        (ty : Ty) (value : Given) → here.turn.operation ≡ ops.Return (Some ty) → Some ty ≡ here.turn.stands.rec.sig.result → IsDeclared w.classes ty → IsOneResult ty
-        → IsTypedOutcome w assigned (given_to tagged w value (slice_index_or f.stack 0 cells.Empty ∷ []) (record { frames = below; heap = heap; statics = statics }))
+        (ty : Ty) (value : Given) → here.turn.operation ≡ ops.Return (Some ty) → Some ty ≡ here.turn.stands.rec.sig.result
+        → IsDeclared w.classes ty → IsOneResult ty
+        → IsTypedOutcome w assigned
+        (given_to tagged w value (slice_index_or f.stack 0 cells.Empty ∷ []) (record { frames = below; heap = heap; statics = statics }))
     one-given ty value is result declared one =
         let t = w.classes in
         let ks = kinds_of heap in
         let c : Cell = slice_index_or f.stack 0 cells.Empty in
-        let asked = subst (SatisfiesAll t (types_of_frame t (assigned.unset f.method) ks f)) one.wanted (asked-of w world assigned f below heap statics here (ops.Return (Some ty)) is) in
+        let asked = subst (SatisfiesAll t (types_of_frame t (assigned.unset f.method) ks f)) one.wanted
+        (asked-of w world assigned f below heap statics here (ops.Return (Some ty)) is) in
         let at = cell-at t (assigned.unset f.method) ks f.stack 0 (λ a. Below t a ty) asked.0 in
         let filled = stacked-filled w here.turn.stands.rec ks c (stacked-at w here.turn.stands.rec ks f.stack 0 at.inside here.turn.stacked) in
-        let ready = value-ready t world.chains (assigned.unset f.method) ks c ty filled (declared-not_fresh t ty declared) (declared-not_top t ty declared) at.holds in
+        let ready = value-ready t world.chains (assigned.unset f.method) ks c ty filled (declared-not_fresh t ty declared) (declared-not_top t ty declared)
+        at.holds in
         gives-safe w assigned below heap statics (Some ty) value (c ∷ []) here.store (waits-for (Some ty) result)
         (cells-trans t (bottoms-below t (assigned.unset f.method) ks (c ∷ []))
         (subst (CellsBelow t (least_types t (assigned.unset f.method) ks (c ∷ []))) (sym one.given_is) (more_cells at.holds no_cells)))
@@ -67,7 +71,8 @@ module _ (w : Linked) (world : IsWorld w) (assigned : Typings) (f : Frame Cell) 
 
     int-given :
         (value : Given) → here.turn.operation ≡ ops.Return (Some IntHigh) → Some IntHigh ≡ here.turn.stands.rec.sig.result
-        → IsTypedOutcome w assigned (given_to tagged w value (slice_index_or f.stack 1 cells.Empty ∷ slice_index_or f.stack 0 cells.Empty ∷ []) (record { frames = below; heap = heap; statics = statics }))
+        → IsTypedOutcome w assigned (given_to tagged w value (slice_index_or f.stack 1 cells.Empty ∷ slice_index_or f.stack 0 cells.Empty ∷ [])
+        (record { frames = below; heap = heap; statics = statics }))
     int-given value is result =
         let t = w.classes in
         let ks = kinds_of heap in
@@ -81,24 +86,34 @@ module _ (w : Linked) (world : IsWorld w) (assigned : Typings) (f : Frame Cell) 
         let high_filled = stacked-filled w st.rec ks d (stacked-at w st.rec ks f.stack 1 high.inside here.turn.stacked) in
         gives-safe w assigned below heap statics (Some IntHigh) value (d ∷ c ∷ []) here.store (waits-for (Some IntHigh) result)
         (cells-trans t (bottoms-below t (assigned.unset f.method) ks (c ∷ d ∷ [])) (more_cells low.holds (more_cells high.holds no_cells)))
-        (λ m. two-stacked w m ks c d (value-ready t world.chains (assigned.unset f.method) ks c IntLow low_filled tt tt low.holds) (value-ready t world.chains (assigned.unset f.method) ks d IntHigh high_filled tt tt high.holds))
+        (λ m. two-stacked w m ks c d (value-ready t world.chains (assigned.unset f.method) ks c IntLow low_filled tt tt low.holds)
+        (value-ready t world.chains (assigned.unset f.method) ks d IntHigh high_filled tt tt high.holds))
 
     pub return-safe :
         (result : Option Ty) → here.turn.operation ≡ ops.Return result → result ≡ here.turn.stands.rec.sig.result → IfSome result (IsResult w.classes)
-        → IsTypedOutcome w assigned (settled tagged w (here.turn.stands.instruction.place + here.turn.stands.instruction.insn.len) (record { frames = f ∷ below; heap = heap; statics = statics })
+        → IsTypedOutcome w assigned
+        (settled tagged w (here.turn.stands.instruction.place + here.turn.stands.instruction.insn.len)
+        (record { frames = f ∷ below; heap = heap; statics = statics })
         (return_act tagged result (record { frames = f ∷ below; heap = heap; statics = statics })))
     return-safe None is result known =
         gives-safe w assigned below heap statics None values.Void [] here.store (waits-for None result) no_cells (λ m. All-nil (IsStacked w m (kinds_of heap)))
-    return-safe (Some Short) is result known = one-given Short (values.Short (short_at tagged f.stack 0)) is result known.declared (record { given_is = refl; wanted = refl })
+    return-safe (Some Short) is result known =
+        one-given Short (values.Short (short_at tagged f.stack 0)) is result known.declared (record { given_is = refl; wanted = refl })
     return-safe (Some IntHigh) is result known = int-given (values.Int (int_on tagged f.stack 0)) is result
     return-safe (Some IntLow) is result known = absurd (known.no_low refl)
     return-safe (Some Bottom) is result known = absurd known.declared
     return-safe (Some Null) is result known = absurd known.declared
     return-safe (Some (Fresh p c)) is result known = absurd known.declared
     return-safe (Some Top) is result known = absurd known.declared
-    return-safe (Some (Class c)) is result known = one-given (Class c) (values.Ref (handle_at tagged f.stack 0)) is result known.declared (record { given_is = refl; wanted = refl })
-    return-safe (Some ArrBool) is result known = one-given ArrBool (values.Ref (handle_at tagged f.stack 0)) is result known.declared (record { given_is = refl; wanted = refl })
-    return-safe (Some ArrByte) is result known = one-given ArrByte (values.Ref (handle_at tagged f.stack 0)) is result known.declared (record { given_is = refl; wanted = refl })
-    return-safe (Some ArrShort) is result known = one-given ArrShort (values.Ref (handle_at tagged f.stack 0)) is result known.declared (record { given_is = refl; wanted = refl })
-    return-safe (Some ArrInt) is result known = one-given ArrInt (values.Ref (handle_at tagged f.stack 0)) is result known.declared (record { given_is = refl; wanted = refl })
-    return-safe (Some (ArrRef c)) is result known = one-given (ArrRef c) (values.Ref (handle_at tagged f.stack 0)) is result known.declared (record { given_is = refl; wanted = refl })
+    return-safe (Some (Class c)) is result known =
+        one-given (Class c) (values.Ref (handle_at tagged f.stack 0)) is result known.declared (record { given_is = refl; wanted = refl })
+    return-safe (Some ArrBool) is result known =
+        one-given ArrBool (values.Ref (handle_at tagged f.stack 0)) is result known.declared (record { given_is = refl; wanted = refl })
+    return-safe (Some ArrByte) is result known =
+        one-given ArrByte (values.Ref (handle_at tagged f.stack 0)) is result known.declared (record { given_is = refl; wanted = refl })
+    return-safe (Some ArrShort) is result known =
+        one-given ArrShort (values.Ref (handle_at tagged f.stack 0)) is result known.declared (record { given_is = refl; wanted = refl })
+    return-safe (Some ArrInt) is result known =
+        one-given ArrInt (values.Ref (handle_at tagged f.stack 0)) is result known.declared (record { given_is = refl; wanted = refl })
+    return-safe (Some (ArrRef c)) is result known =
+        one-given (ArrRef c) (values.Ref (handle_at tagged f.stack 0)) is result known.declared (record { given_is = refl; wanted = refl })

@@ -1,5 +1,6 @@
 -- A frame at its turn in a typed state: where its operation leads is safe.
-use Rattle.std.proofs.Common.{◌≡◌, ℕ, ◌+◌, ◌<◌, ◌≤◌, Bool, true, false, if◌then◌else◌, List, [], ◌∷◌, ◌++◌, length, drop, refl, sym, ap, ◌∙◌, subst, lit<, lit≤}
+use Rattle.std.proofs.Common.{◌≡◌, ℕ, ◌+◌, ◌<◌, ◌≤◌, Bool, true, false, if◌then◌else◌, List, [], ◌∷◌, ◌++◌, length, drop}
+use Rattle.std.proofs.Common.{refl, sym, ap, ◌∙◌, subst, lit<, lit≤}
 use Rattle.std.specs.Prelude.{Option, Some, None, All, slice_index, ◌==◌}
 use Rattle.std.proofs.lemmas.Bool.{eqb-false}
 use Rattle.std.proofs.lemmas.List.{map-append, drop-map, append-nil}
@@ -58,9 +59,19 @@ module _ (w : Linked) (world : IsWorld w) (assigned : Typings) (f : Frame Cell) 
     -- a frame whose cells are below what the rule gives is typed after the instruction, be the objects as they were or others
     pub typed-after :
         (ks : List ObjectKind) (registers stack : List Cell) → falls_from here.turn.operation ≡ true
-        → FrameBelow w.classes (record { regs = least_types w.classes (assigned.unset f.method) ks registers; stack = least_types w.classes (assigned.unset f.method) ks stack }) here.turn.after
+        → FrameBelow w.classes
+        (record {
+          regs = least_types w.classes (assigned.unset f.method) ks registers;
+          stack = least_types w.classes (assigned.unset f.method) ks stack;
+        }) here.turn.after
         → All (IsStacked w here.turn.stands.rec ks) stack
-        → IsTypedFrame w assigned ks (record { method = f.method; place = here.turn.stands.instruction.place + here.turn.stands.instruction.insn.len; registers = registers; stack = stack })
+        → IsTypedFrame w assigned ks
+        (record {
+          method = f.method;
+          place = here.turn.stands.instruction.place + here.turn.stands.instruction.insn.len;
+          registers = registers;
+          stack = stack;
+        })
     typed-after ks registers stack falls lower stacked =
         let st = here.turn.stands in
         lands w world assigned (kinds_of heap) f here.turn ks registers stack (st.instruction.place + st.instruction.insn.len)
@@ -70,16 +81,23 @@ module _ (w : Linked) (world : IsWorld w) (assigned : Typings) (f : Frame Cell) 
     pub on-safe :
         (registers stack : List Cell) (objects : List (Object Cell)) (fields : List Cell)
         → falls_from here.turn.operation ≡ true
-        → FrameBelow w.classes (record { regs = least_types w.classes (assigned.unset f.method) (kinds_of heap) registers; stack = least_types w.classes (assigned.unset f.method) (kinds_of heap) stack }) here.turn.after
+        → FrameBelow w.classes
+        (record {
+          regs = least_types w.classes (assigned.unset f.method) (kinds_of heap) registers;
+          stack = least_types w.classes (assigned.unset f.method) (kinds_of heap) stack;
+        }) here.turn.after
         → All (IsStacked w here.turn.stands.rec (kinds_of heap)) stack
         → IsTypedStore w objects fields → kinds_of objects ≡ kinds_of heap
-        → IsTypedOutcome w assigned (goes_to tagged w (here.turn.stands.instruction.place + here.turn.stands.instruction.insn.len) (record { frames = f ∷ below; heap = heap; statics = statics })
+        → IsTypedOutcome w assigned
+        (goes_to tagged w (here.turn.stands.instruction.place + here.turn.stands.instruction.insn.len)
+        (record { frames = f ∷ below; heap = heap; statics = statics })
         (record { frames = record { method = f.method; place = f.place; registers = registers; stack = stack } ∷ below; heap = objects; statics = fields }))
     on-safe registers stack objects fields falls lower stacked store same =
         let st = here.turn.stands in
         let next : ℕ = st.instruction.place + st.instruction.insn.len in
         let now : Frame Cell = record { method = f.method; place = next; registers = registers; stack = stack } in
-        goes-safe w assigned (record { frames = f ∷ below; heap = heap; statics = statics }) (record { method = f.method; place = f.place; registers = registers; stack = stack }) next below objects fields
+        goes-safe w assigned (record { frames = f ∷ below; heap = heap; statics = statics })
+        (record { method = f.method; place = f.place; registers = registers; stack = stack }) next below objects fields
         (record {
           made = store.made;
           heap = store.objects;
@@ -95,19 +113,27 @@ module _ (w : Linked) (world : IsWorld w) (assigned : Typings) (f : Frame Cell) 
         (taken : ℕ) (given : Cells) (value : List Cell) (ks : List ObjectKind)
         → effect w here.turn.operation (types_of_frame w.classes (assigned.unset f.method) (kinds_of heap) f) ≡ replacing taken given
         → CellsBelow w.classes (least_types w.classes (assigned.unset f.method) ks value) (in_stack_order given)
-        → CellsBelow w.classes (least_types w.classes (assigned.unset f.method) ks f.registers) (least_types w.classes (assigned.unset f.method) (kinds_of heap) f.registers)
-        → CellsBelow w.classes (least_types w.classes (assigned.unset f.method) ks f.stack) (least_types w.classes (assigned.unset f.method) (kinds_of heap) f.stack)
+        → CellsBelow w.classes (least_types w.classes (assigned.unset f.method) ks f.registers)
+        (least_types w.classes (assigned.unset f.method) (kinds_of heap) f.registers)
+        → CellsBelow w.classes (least_types w.classes (assigned.unset f.method) ks f.stack)
+        (least_types w.classes (assigned.unset f.method) (kinds_of heap) f.stack)
         → FrameBelow w.classes
-        (record { regs = least_types w.classes (assigned.unset f.method) ks f.registers; stack = least_types w.classes (assigned.unset f.method) ks (value ++ drop taken f.stack) }) here.turn.after
+        (record {
+          regs = least_types w.classes (assigned.unset f.method) ks f.registers;
+          stack = least_types w.classes (assigned.unset f.method) ks
+              (value ++ drop taken f.stack);
+        }) here.turn.after
     replaced-below taken given value ks is lower regs stack =
         let exact = types_of_frame w.classes (assigned.unset f.method) (kinds_of heap) f in
         let a = here.turn.applies in
         let after = here.turn.after in
         let stack_is : after.stack ≡ in_stack_order given ++ drop taken exact.stack = a.stack ∙ ap (λ (e : Effect). changed e.change exact.stack) is in
         let regs_are : after.regs ≡ exact.regs = subst (λ (e : Effect). StoresInRegisters w.classes Flow e.store exact.regs after.regs) is a.regs in
-        let split : least_types w.classes (assigned.unset f.method) ks (value ++ drop taken f.stack) ≡ least_types w.classes (assigned.unset f.method) ks value ++ drop taken (least_types w.classes (assigned.unset f.method) ks f.stack) =
+        let split : least_types w.classes (assigned.unset f.method) ks (value ++ drop taken f.stack) ≡ least_types w.classes (assigned.unset f.method) ks
+        value ++ drop taken (least_types w.classes (assigned.unset f.method) ks f.stack) =
         map-append (least_type w.classes (assigned.unset f.method) ks) value (drop taken f.stack)
-        ∙ ap (λ ts. least_types w.classes (assigned.unset f.method) ks value ++ ts) (sym (drop-map (least_type w.classes (assigned.unset f.method) ks) taken f.stack)) in
+        ∙ ap (λ ts. least_types w.classes (assigned.unset f.method) ks value ++ ts)
+        (sym (drop-map (least_type w.classes (assigned.unset f.method) ks) taken f.stack)) in
         record {
           regs = subst (CellsBelow w.classes (least_types w.classes (assigned.unset f.method) ks f.registers)) (sym regs_are) regs;
           stack = subst (CellsBelow w.classes (least_types w.classes (assigned.unset f.method) ks (value ++ drop taken f.stack))) (sym stack_is)
@@ -123,7 +149,9 @@ module _ (w : Linked) (world : IsWorld w) (assigned : Typings) (f : Frame Cell) 
         → CellsBelow w.classes (least_types w.classes (assigned.unset f.method) (kinds_of heap) value) (in_stack_order given)
         → All (IsStacked w here.turn.stands.rec (kinds_of heap)) value
         → IsTypedStore w objects fields → kinds_of objects ≡ kinds_of heap
-        → IsTypedOutcome w assigned (goes_to tagged w (here.turn.stands.instruction.place + here.turn.stands.instruction.insn.len) (record { frames = f ∷ below; heap = heap; statics = statics })
+        → IsTypedOutcome w assigned
+        (goes_to tagged w (here.turn.stands.instruction.place + here.turn.stands.instruction.insn.len)
+        (record { frames = f ∷ below; heap = heap; statics = statics })
         (record {
           frames = record { method = f.method; place = f.place; registers = f.registers; stack = value ++ drop taken f.stack } ∷ below;
           heap = objects;
@@ -131,7 +159,8 @@ module _ (w : Linked) (world : IsWorld w) (assigned : Typings) (f : Frame Cell) 
         }))
     replace-safe taken given value objects fields is falls lower stacked store same =
         on-safe f.registers (value ++ drop taken f.stack) objects fields falls
-        (replaced-below taken given value (kinds_of heap) is lower (cells-same w.classes (least_types w.classes (assigned.unset f.method) (kinds_of heap) f.registers))
+        (replaced-below taken given value (kinds_of heap) is lower
+        (cells-same w.classes (least_types w.classes (assigned.unset f.method) (kinds_of heap) f.registers))
         (cells-same w.classes (least_types w.classes (assigned.unset f.method) (kinds_of heap) f.stack)))
         (All-append (IsStacked w here.turn.stands.rec (kinds_of heap)) value (drop taken f.stack) stacked
         (All-drop (IsStacked w here.turn.stands.rec (kinds_of heap)) taken f.stack here.turn.stacked))
@@ -144,7 +173,9 @@ module _ (w : Linked) (world : IsWorld w) (assigned : Typings) (f : Frame Cell) 
     catching more = (
       record {
         stands = here.turn.stands;
-        regs = IsSomeAnd-from (λ (g : Types). CellsBelow w.classes (least_types w.classes (assigned.unset f.method) (kinds_of heap ++ more) f.registers) g.regs)
+        regs =
+            IsSomeAnd-from (λ (g : Types). CellsBelow w.classes (least_types w.classes (assigned.unset f.method) (kinds_of heap ++ more) f.registers)
+            g.regs)
             ((assigned.frames f.method) f.place) here.turn.above here.turn.held
             (cells-trans w.classes (types-fall w.classes (assigned.unset f.method) (kinds_of heap) more f.registers) here.turn.under.regs);
       },
@@ -166,7 +197,8 @@ module _ (w : Linked) (world : IsWorld w) (assigned : Typings) (f : Frame Cell) 
         (handle : ℕ) (k : ObjectKind) → kind_of_handle (kinds_of heap) handle ≡ Some k
         → IsTypedOutcome w assigned (thrown tagged w handle (record { frames = f ∷ below; heap = heap; statics = statics }))
     throw-safe handle k e =
-        unwound-safe w assigned heap statics here.store (class_with_methods w.classes (kind_of_handle (kinds_of heap) handle)) handle (throwable (kinds_of heap) handle k e)
+        unwound-safe w assigned heap statics here.store (class_with_methods w.classes (kind_of_handle (kinds_of heap) handle)) handle
+        (throwable (kinds_of heap) handle k e)
         (f ∷ below) (f ∷ below) catching-now
 
     role-range : (e : Exception) → (2 ≤ role_of e) × (role_of e < 8)
@@ -185,12 +217,14 @@ module _ (w : Linked) (world : IsWorld w) (assigned : Typings) (f : Frame Cell) 
         let handle : ℕ = length heap + 1 in
         let kind : kind_of_handle (kinds_of objects) handle ≡ Some (Instance c) =
         subst (λ ks. kind_of_handle ks handle ≡ Some (Instance c)) (sym (kinds-more heap o)) (new-kind heap o) in
-        unwound-safe w assigned objects statics (with-instance w heap statics here.store world c concrete) (class_with_methods w.classes (kind_of_handle (kinds_of objects) handle)) handle
+        unwound-safe w assigned objects statics (with-instance w heap statics here.store world c concrete)
+        (class_with_methods w.classes (kind_of_handle (kinds_of objects) handle)) handle
         (throwable (kinds_of objects) handle (Instance c) kind) (f ∷ below) (f ∷ below)
         (subst (λ ks. AreCatching w assigned ks (f ∷ below)) (sym (kinds-more heap o)) (catching (Instance c ∷ [])))
 
     -- an exception, of which an object is made where it has room
-    pub raise-safe : (exception : Exception) → IsTypedOutcome w assigned (raised tagged w exception (record { frames = f ∷ below; heap = heap; statics = statics }))
+    pub raise-safe : (exception : Exception)
+        → IsTypedOutcome w assigned (raised tagged w exception (record { frames = f ∷ below; heap = heap; statics = statics }))
     raise-safe exception =
         let now : State Cell = record { frames = f ∷ below; heap = heap; statics = statics } in
         let class : ℕ = slice_index w.classes.roles (role_of exception) in
@@ -210,13 +244,16 @@ module _ (w : Linked) (world : IsWorld w) (assigned : Typings) (f : Frame Cell) 
     null-safe next h rest safe = go (h == 0) refl
       where
         go : (b : Bool) → (h == 0) ≡ b
-            → IsTypedOutcome w assigned (settled tagged w next (record { frames = f ∷ below; heap = heap; statics = statics }) (if b then raises exceptions.NullPointer else rest h))
+            → IsTypedOutcome w assigned
+            (settled tagged w next (record { frames = f ∷ below; heap = heap; statics = statics })
+            (if b then raises exceptions.NullPointer else rest h))
         go true e = raise-safe exceptions.NullPointer
         go false e = safe (eqb-false h 0 e)
 
     pub some-safe :
         {X : Type 0} (next : ℕ) (exception : Exception) (o : Option X) (rest : X → Act Cell)
-        → ((x : X) → o ≡ Some x → IsTypedOutcome w assigned (settled tagged w next (record { frames = f ∷ below; heap = heap; statics = statics }) (rest x)))
+        → ((x : X) → o ≡ Some x
+        → IsTypedOutcome w assigned (settled tagged w next (record { frames = f ∷ below; heap = heap; statics = statics }) (rest x)))
         → IsTypedOutcome w assigned (settled tagged w next (record { frames = f ∷ below; heap = heap; statics = statics }) (if_some exception o rest))
     some-safe next exception None rest safe = raise-safe exception
     some-safe next exception (Some x) rest safe = safe x refl

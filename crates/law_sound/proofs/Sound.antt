@@ -58,7 +58,8 @@ use Rattle.law_sound.proofs.Returns.{return-safe}
 use Rattle.law_sound.proofs.Calling.{static-call}
 use Rattle.law_sound.proofs.Invoking.{virtual-safe, interface-safe, named-safe}
 
-module _ (w : Linked) (world : IsWorld w) (assigned : Typings) (typings : AreTypings w assigned) (f : Frame Cell) (below : List (Frame Cell)) (heap : List (Object Cell)) (statics : List Cell)
+module _ (w : Linked) (world : IsWorld w) (assigned : Typings) (typings : AreTypings w assigned) (f : Frame Cell) (below : List (Frame Cell))
+    (heap : List (Object Cell)) (statics : List Cell)
     (here : Here w assigned f below heap statics)
   where
     -- what the operation speaks of is in the world
@@ -77,7 +78,9 @@ module _ (w : Linked) (world : IsWorld w) (assigned : Typings) (typings : AreTyp
         (n : ℕ) (receiver : Option Want) (choice : Choice) (m : MethodRec)
         → here.turn.operation ≡ ops.Call (record { method = n; receiver = receiver; choice = choice })
         → slice_get w.methods n ≡ Some m → IsChosen w n m receiver choice
-        → IsTypedOutcome w assigned (settled tagged w (here.turn.stands.instruction.place + here.turn.stands.instruction.insn.len) (record { frames = f ∷ below; heap = heap; statics = statics })
+        → IsTypedOutcome w assigned
+        (settled tagged w (here.turn.stands.instruction.place + here.turn.stands.instruction.insn.len)
+        (record { frames = f ∷ below; heap = heap; statics = statics })
         (call_act tagged w (record { method = n; receiver = receiver; choice = choice }) (record { frames = f ∷ below; heap = heap; statics = statics })))
     chosen-safe n receiver choices.Static m is method chosen =
         static-call w world assigned typings f below heap statics here n receiver choices.Static m is method chosen.receiver_is chosen.static chosen.body
@@ -87,12 +90,14 @@ module _ (w : Linked) (world : IsWorld w) (assigned : Typings) (typings : AreTyp
         let next : ℕ = here.turn.stands.instruction.place + here.turn.stands.instruction.insn.len in
         subst (λ k. IsTypedOutcome w assigned (settled tagged w next now
         (unless_null (word_of (slice_index_or f.stack k cells.Empty))
-        (λ h. calls n (args_of w n + 1) (readied tagged now (made_at (Some want) (least_type w.classes Bottom (kinds_of heap) (slice_index_or f.stack k cells.Empty))))))))
+        (λ h. calls n (args_of w n + 1)
+        (readied tagged now (made_at (Some want) (least_type w.classes Bottom (kinds_of heap) (slice_index_or f.stack k cells.Empty))))))))
         (sym (ap (of_method 0 (λ (x : MethodRec). length x.sig.args)) method))
         (null-safe w world assigned f below heap statics here next (word_of (slice_index_or f.stack (length m.sig.args) cells.Empty))
         (λ h. calls n (args_of w n + 1)
         (readied tagged now (made_at (Some want) (least_type w.classes Bottom (kinds_of heap) (slice_index_or f.stack (length m.sig.args) cells.Empty)))))
-        (λ some. named-safe w world assigned typings f below heap statics here n (Some want) choices.Special m is method want refl chosen.body chosen.dynamic chosen.receives))
+        (λ some. named-safe w world assigned typings f below heap statics here n (Some want) choices.Special m is method want refl chosen.body
+        chosen.dynamic chosen.receives))
     chosen-safe n receiver (choices.Virtual c token) m is method chosen =
         let now : State Cell = record { frames = f ∷ below; heap = heap; statics = statics } in
         let next : ℕ = here.turn.stands.instruction.place + here.turn.stands.instruction.insn.len in
@@ -100,7 +105,8 @@ module _ (w : Linked) (world : IsWorld w) (assigned : Typings) (typings : AreTyp
         (unless_null (word_of (slice_index_or f.stack k cells.Empty))
         (λ h. calls (unwrap_or (dispatched w.classes c token (class_with_methods w.classes (kind_of_handle (kinds_of heap) h))) n) (args_of w n + 1) now))))
         (sym (ap (of_method 0 (λ (x : MethodRec). length x.sig.args)) method))
-        (virtual-safe w world assigned typings f below heap statics here n receiver (choices.Virtual c token) m is method c chosen.receiver_is token next chosen)
+        (virtual-safe w world assigned typings f below heap statics here n receiver (choices.Virtual c token) m is method c chosen.receiver_is token next
+        chosen)
     chosen-safe n receiver (choices.Interface c token words) m is method chosen =
         let now : State Cell = record { frames = f ∷ below; heap = heap; statics = statics } in
         let next : ℕ = here.turn.stands.instruction.place + here.turn.stands.instruction.insn.len in
@@ -108,23 +114,29 @@ module _ (w : Linked) (world : IsWorld w) (assigned : Typings) (typings : AreTyp
         (unless_null (word_of (slice_index_or f.stack k cells.Empty))
         (λ h. interface_act w.classes c token (args_of w n + 1) (kind_of_handle (kinds_of heap) h) now))))
         (sym (ap (of_method 0 (λ (x : MethodRec). length x.sig.args)) method))
-        (interface-safe w world assigned typings f below heap statics here n receiver (choices.Interface c token words) m is method (object w.classes) chosen.receiver_is
+        (interface-safe w world assigned typings f below heap statics here n receiver (choices.Interface c token words) m is method (object w.classes)
+        chosen.receiver_is
         c token next chosen.class chosen.token_is)
 
     call-safe :
         (n : ℕ) (receiver : Option Want) (choice : Choice)
         → here.turn.operation ≡ ops.Call (record { method = n; receiver = receiver; choice = choice })
-        → IsTypedOutcome w assigned (settled tagged w (here.turn.stands.instruction.place + here.turn.stands.instruction.insn.len) (record { frames = f ∷ below; heap = heap; statics = statics })
+        → IsTypedOutcome w assigned
+        (settled tagged w (here.turn.stands.instruction.place + here.turn.stands.instruction.insn.len)
+        (record { frames = f ∷ below; heap = heap; statics = statics })
         (call_act tagged w (record { method = n; receiver = receiver; choice = choice }) (record { frames = f ∷ below; heap = heap; statics = statics })))
     call-safe n receiver choice is =
-        let callee : IsCalleeOf w (record { method = n; receiver = receiver; choice = choice }) = sound-of (ops.Call (record { method = n; receiver = receiver; choice = choice })) is in
+        let callee : IsCalleeOf w (record { method = n; receiver = receiver; choice = choice }) = sound-of
+        (ops.Call (record { method = n; receiver = receiver; choice = choice })) is in
         chosen-safe n receiver choice callee.rec is callee.is_method callee.chosen
 
     -- ---- every operation
 
     pub act-safe :
         (op : Operation) → here.turn.operation ≡ op
-        → IsTypedOutcome w assigned (settled tagged w (here.turn.stands.instruction.place + here.turn.stands.instruction.insn.len) (record { frames = f ∷ below; heap = heap; statics = statics })
+        → IsTypedOutcome w assigned
+        (settled tagged w (here.turn.stands.instruction.place + here.turn.stands.instruction.insn.len)
+        (record { frames = f ∷ below; heap = heap; statics = statics })
         (act tagged w here.turn.stands.instruction.insn op (record { frames = f ∷ below; heap = heap; statics = statics })))
     act-safe (ops.Constant c) is = constant-safe w world assigned f below heap statics here c is
     act-safe (ops.Load sort x) is = load-safe w world assigned f below heap statics here sort x is
@@ -139,8 +151,10 @@ module _ (w : Linked) (world : IsWorld w) (assigned : Typings) (typings : AreTyp
     act-safe (ops.Switch width) is = switch-safe w world assigned f below heap statics here width is
     act-safe (ops.StaticRead fd) is = static-read-safe w world assigned f below heap statics here fd.slot fd.kind fd.ty is (sound-of (ops.StaticRead fd) is)
     act-safe (ops.StaticWrite fd) is = static-write-safe w world assigned f below heap statics here fd.slot fd.kind fd.ty is (sound-of (ops.StaticWrite fd) is)
-    act-safe (ops.FieldRead fd holder) is = field-read-safe w world assigned f below heap statics here fd.class fd.cell fd.kind fd.ty holder is (sound-of (ops.FieldRead fd holder) is)
-    act-safe (ops.FieldWrite fd holder) is = field-write-safe w world assigned f below heap statics here fd.class fd.cell fd.kind fd.ty holder is (sound-of (ops.FieldWrite fd holder) is)
+    act-safe (ops.FieldRead fd holder) is =
+        field-read-safe w world assigned f below heap statics here fd.class fd.cell fd.kind fd.ty holder is (sound-of (ops.FieldRead fd holder) is)
+    act-safe (ops.FieldWrite fd holder) is =
+        field-write-safe w world assigned f below heap statics here fd.class fd.cell fd.kind fd.ty holder is (sound-of (ops.FieldWrite fd holder) is)
     act-safe (ops.Call callee) is = call-safe callee.method callee.receiver callee.choice is
     act-safe (ops.New place class) is =
         let known = sound-of (ops.New place class) is in
@@ -166,14 +180,20 @@ module _ (w : Linked) (world : IsWorld w) (assigned : Typings) (typings : AreTyp
   performs-safe f below heap statics m i op here same_m same_i same_op =
       let now : State Cell = record { frames = f ∷ below; heap = heap; statics = statics } in
       let st = here.turn.stands in
-      let passed : fault_before tagged w here.turn.operation now ≡ None = passes-before w world.chains f below heap statics here.turn.operation here.turn.asked in
+      let passed : fault_before tagged w here.turn.operation now ≡ None = passes-before w world.chains f below heap statics here.turn.operation
+      here.turn.asked in
       let safe = act-safe w world assigned typings f below heap statics here here.turn.operation refl in
       let own : IsTypedOutcome w assigned (performed tagged w st.instruction here.turn.operation now) =
-      subst (λ o. IsTypedOutcome w assigned (unless_fault now o (settled tagged w (st.instruction.place + st.instruction.insn.len) now (act tagged w st.instruction.insn here.turn.operation now))))
+      subst
+      (λ o. IsTypedOutcome w assigned
+      (unless_fault now o
+      (settled tagged w (st.instruction.place + st.instruction.insn.len) now (act tagged w st.instruction.insn here.turn.operation now))))
       (sym passed) safe in
-      subst (λ x. IsTypedOutcome w assigned (performed tagged w i x now)) same_op (subst (λ j. IsTypedOutcome w assigned (performed tagged w j here.turn.operation now)) same_i own)
+      subst (λ x. IsTypedOutcome w assigned (performed tagged w i x now)) same_op
+      (subst (λ j. IsTypedOutcome w assigned (performed tagged w j here.turn.operation now)) same_i own)
 
-  module _ (f : Frame Cell) (below : List (Frame Cell)) (heap : List (Object Cell)) (statics : List Cell) (typed : IsTypedState w assigned (record { frames = f ∷ below; heap = heap; statics = statics })) where
+  module _ (f : Frame Cell) (below : List (Frame Cell)) (heap : List (Object Cell)) (statics : List Cell)
+      (typed : IsTypedState w assigned (record { frames = f ∷ below; heap = heap; statics = statics })) where
     now : State Cell
     now = record { frames = f ∷ below; heap = heap; statics = statics }
 
@@ -194,11 +214,13 @@ module _ (w : Linked) (world : IsWorld w) (assigned : Typings) (typings : AreTyp
     pub same-instruction : (i : Placed) → instruction_at (code_at w f.method) f.place ≡ Some i → here-now.turn.stands.instruction ≡ i
     same-instruction i e = same_Some here-now.turn.stands.instruction i (sym there ∙ e)
 
-    pub same-answer : (m : MethodRec) (i : Placed) (r : Result Operation RuleFault) → here-now.turn.stands.rec ≡ m → here-now.turn.stands.instruction ≡ i
+    pub same-answer : (m : MethodRec) (i : Placed) (r : Result Operation RuleFault) → here-now.turn.stands.rec ≡ m
+        → here-now.turn.stands.instruction ≡ i
         → Resolves w m i.place i.insn r → Ok here-now.turn.operation ≡ r
     same-answer m i r same_m same_i resolves =
         let moved : Resolves w m here-now.turn.stands.instruction.place here-now.turn.stands.instruction.insn (Ok here-now.turn.operation) =
-        subst (λ (x : MethodRec). Resolves w x here-now.turn.stands.instruction.place here-now.turn.stands.instruction.insn (Ok here-now.turn.operation)) same_m here-now.turn.resolves in
+        subst (λ (x : MethodRec). Resolves w x here-now.turn.stands.instruction.place here-now.turn.stands.instruction.insn (Ok here-now.turn.operation))
+        same_m here-now.turn.resolves in
         let here_too : Resolves w m i.place i.insn (Ok here-now.turn.operation) =
         subst (λ (x : Placed). Resolves w m x.place x.insn (Ok here-now.turn.operation)) same_i moved in
         here_too ∙ sym resolves
@@ -206,10 +228,12 @@ module _ (w : Linked) (world : IsWorld w) (assigned : Typings) (typings : AreTyp
     step-safe : {o : Outcome Cell} → Steps tagged w (record { frames = f ∷ below; heap = heap; statics = statics }) o → IsTypedOutcome w assigned o
     step-safe (misplaced checks runs e) = absurd (none-some here-now.turn.stands.instruction (sym e ∙ there))
     step-safe (unresolved {m = m} {i = i} checks fetched fault resolves) =
-        let same : Ok here-now.turn.operation ≡ Err fault = same-answer m i (Err fault) (same-method m fetched.method) (same-instruction i fetched.instruction) resolves in
+        let same : Ok here-now.turn.operation ≡ Err fault = same-answer m i (Err fault) (same-method m fetched.method)
+        (same-instruction i fetched.instruction) resolves in
         absurd (cc)
     step-safe (performs {m = m} {i = i} {o = o} fetched op resolves is) =
-        let same : Ok here-now.turn.operation ≡ Ok op = same-answer m i (Ok op) (same-method m fetched.method) (same-instruction i fetched.instruction) resolves in
+        let same : Ok here-now.turn.operation ≡ Ok op = same-answer m i (Ok op) (same-method m fetched.method) (same-instruction i fetched.instruction)
+        resolves in
         let same_op : here-now.turn.operation ≡ op = cc in
         subst (IsTypedOutcome w assigned) (sym is)
         (performs-safe f below heap statics m i op here-now (same-method m fetched.method) (same-instruction i fetched.instruction) same_op)
@@ -220,7 +244,8 @@ module _ (w : Linked) (world : IsWorld w) (assigned : Typings) (typings : AreTyp
   runs-some s (performs fetched op resolves is) = fetched.runs
 
   steps-by : (fs : List (Frame Cell)) (heap : List (Object Cell)) (statics : List Cell) (o : Outcome Cell)
-      → IsTypedState w assigned (record { frames = fs; heap = heap; statics = statics }) → Steps tagged w (record { frames = fs; heap = heap; statics = statics }) o → IsTypedOutcome w assigned o
+      → IsTypedState w assigned (record { frames = fs; heap = heap; statics = statics })
+      → Steps tagged w (record { frames = fs; heap = heap; statics = statics }) o → IsTypedOutcome w assigned o
   steps-by [] heap statics o typed step =
       let runs = runs-some (record { frames = []; heap = heap; statics = statics }) step in absurd (omega (arith, runs))
   steps-by (f ∷ below) heap statics o typed step = step-safe f below heap statics typed step

@@ -1,5 +1,6 @@
 -- A run begins in a typed state.
-use Rattle.std.proofs.Common.{◌≡◌, ℕ, zero, suc, ◌+◌, ◌*◌, ◌/◌, ◌%◌, Bool, true, false, not, if◌then◌else◌, ◌==◌, List, [], ◌∷◌, ◌++◌, length, map, filter, refl, sym, ap, ◌∙◌, subst, arith, lit<, append_assoc}
+use Rattle.std.proofs.Common.{◌≡◌, ℕ, zero, suc, ◌+◌, ◌*◌, ◌/◌, ◌%◌, Bool, true, false, not, if◌then◌else◌, ◌==◌, List, []}
+use Rattle.std.proofs.Common.{◌∷◌, ◌++◌, length, map, filter, refl, sym, ap, ◌∙◌, subst, arith, lit<, append_assoc}
 use Rattle.std.specs.Prelude.{ℤ, Option, Some, None, All, slice_get, flat_map, option_map}
 use Rattle.std.proofs.Math.Nat.{mul-div_cancel_left}
 use Rattle.std.proofs.lemmas.Bool.{false≢true, and_parts, eqb-true, not-true}
@@ -15,7 +16,8 @@ use Rattle.jc_base.specs.declared.record.StaticRec.{StaticRec}
 use Rattle.jc_base.specs.declared.record.ArrayRec.{ArrayRec}
 use Rattle.jc_base.specs.Class.{ClassTable}
 use Rattle.jc_base.specs.Order.{Below, same, null_object, null_array, of_booleans, of_bytes, of_shorts, of_ints, of_references}
-use Rattle.jc_base.specs.Cell.{IsReference, IsOfKind, AreWhole, no_cells as no_whole, whole_int, one_cell, IsNoHalf, IsInitialHandle, AreInitialWords, AreElementsOf}
+use Rattle.jc_base.specs.Cell.{IsReference, IsOfKind, AreWhole, no_cells as no_whole, whole_int, one_cell, IsNoHalf, IsInitialHandle, AreInitialWords}
+use Rattle.jc_base.specs.Cell.{AreElementsOf}
 use Rattle.jc_base.specs.Linked.{IsStatic, lacks_code, receiver_words}
 use Rattle.jc_base.specs.World.{Linked, IsWorld}
 use Rattle.jc_base.proofs.Lists.{All-slice_get, slice_get-front, IsSomeAnd-some}
@@ -36,7 +38,8 @@ use Rattle.vm_step.specs.declared.start_fault.StartFault.{StartFault}
 use Rattle.vm_step.specs.Arguments.{Argument, number, null as no_object, bytes}
 use Rattle.vm_step.specs.Objects.{kind_of_type}
 use Rattle.vm_step.specs.Methods.{of_method}
-use Rattle.vm_step.specs.Start.{field_cells, int_cells, initial_element_cells, initial_object, with_arrays, argument_cells, cells_handed, can_begin, is_parameter, parameters, fits, first_misfit, or_room, entry_fault, entry_state}
+use Rattle.vm_step.specs.Start.{field_cells, int_cells, initial_element_cells, initial_object, with_arrays, argument_cells, cells_handed, can_begin}
+use Rattle.vm_step.specs.Start.{is_parameter, parameters, fits, first_misfit, or_room, entry_fault, entry_state}
 use Rattle.law_sound.specs.Frames.{Typings, least_types}
 use Rattle.law_sound.specs.State.{CanBeMade, field_types, static_types, IsTypedState}
 use Rattle.law_sound.specs.Soundness.{AreTypings, StartsAreTyped}
@@ -50,13 +53,15 @@ use Rattle.law_sound.proofs.Finish.{IsTypedStore}
 -- ---- cells of initial words
 
 module _ (t : ClassTable) (ks : List ObjectKind) where
-  have-both : (cs ds : List Cell) (types others : List Ty) → CellsHave t ks cs types → CellsHave t ks ds others → CellsHave t ks (cs ++ ds) (types ++ others)
+  have-both : (cs ds : List Cell) (types others : List Ty) → CellsHave t ks cs types → CellsHave t ks ds others
+      → CellsHave t ks (cs ++ ds) (types ++ others)
   have-both [] ds [] others h g = g
   have-both [] ds (ty ∷ types) others h g = absurd h
   have-both (c ∷ cs) ds [] others h g = absurd h
   have-both (c ∷ cs) ds (ty ∷ types) others h g = (h.0, h.1, have-both cs ds types others h.2 g)
 
-  shorts-have : (g : ℕ → ℤ) (ws : List ℕ) → CellsHave t ks (map (λ w. cells.Short (g w)) ws) (repeated (length (map (λ w. cells.Short (g w)) ws)) (Short ∷ []))
+  shorts-have : (g : ℕ → ℤ) (ws : List ℕ)
+      → CellsHave t ks (map (λ w. cells.Short (g w)) ws) (repeated (length (map (λ w. cells.Short (g w)) ws)) (Short ∷ []))
   shorts-have g [] = tt {0}
   shorts-have g (w ∷ ws) = (short, tt, shorts-have g ws)
 
@@ -73,7 +78,8 @@ module _ (t : ClassTable) (ks : List ObjectKind) where
       let rest = ints-have ws n (omega (arith, e)) in
       record { count = omega (arith, rest.count); have = (high, tt, (low, tt, rest.have)) }
 
-  int-elements : (ws : List ℕ) → length ws % 2 ≡ 0 → CellsHave t ks (int_cells tagged ws) (repeated (length (int_cells tagged ws) / 2) (IntHigh ∷ IntLow ∷ []))
+  int-elements : (ws : List ℕ) → length ws % 2 ≡ 0
+      → CellsHave t ks (int_cells tagged ws) (repeated (length (int_cells tagged ws) / 2) (IntHigh ∷ IntLow ∷ []))
   int-elements ws even =
       let n : ℕ = length ws / 2 in
       let e : length ws ≡ 2 * n = omega (arith, even) in
@@ -83,7 +89,8 @@ module _ (t : ClassTable) (ks : List ObjectKind) where
 
   elements-have :
       (ty : Ty) (ws : List ℕ) → AreElementsOf ty ws
-      → CellsHave t ks (initial_element_cells tagged (kind_of_type ty) ws) (cell_types t (kind_of_type ty) (length (initial_element_cells tagged (kind_of_type ty) ws)))
+      → CellsHave t ks (initial_element_cells tagged (kind_of_type ty) ws)
+      (cell_types t (kind_of_type ty) (length (initial_element_cells tagged (kind_of_type ty) ws)))
   elements-have ArrBool ws h = shorts-have short_of_word ws
   elements-have ArrByte ws h = shorts-have short_of_word ws
   elements-have ArrShort ws h = shorts-have short_of_word ws
@@ -106,12 +113,14 @@ kind-is t ArrShort ws h = refl
 kind-is t ArrInt ws h = refl
 kind-is t ty ws h = absurd h
 
-initial-kind : (arrays : List ArrayRec) (n : ℕ) (a : ArrayRec) → slice_get arrays n ≡ Some a → slice_get (kinds_of (map (initial_object tagged) arrays)) n ≡ Some (kind_of_type a.kind)
+initial-kind : (arrays : List ArrayRec) (n : ℕ) (a : ArrayRec) → slice_get arrays n ≡ Some a
+    → slice_get (kinds_of (map (initial_object tagged) arrays)) n ≡ Some (kind_of_type a.kind)
 initial-kind [] n a e = absurd (none-some a e)
 initial-kind (x ∷ xs) zero a e = ap (λ (o : Option ArrayRec). option_map (λ (y : ArrayRec). kind_of_type y.kind) o) e
 initial-kind (x ∷ xs) (suc n) a e = initial-kind xs n a e
 
-initial-made : (w : Linked) (arrays : List ArrayRec) → All (λ (a : ArrayRec). AreElementsOf a.kind a.initial) arrays → All (CanBeMade w) (kinds_of (map (initial_object tagged) arrays))
+initial-made : (w : Linked) (arrays : List ArrayRec) → All (λ (a : ArrayRec). AreElementsOf a.kind a.initial) arrays
+    → All (CanBeMade w) (kinds_of (map (initial_object tagged) arrays))
 initial-made w [] h = All-nil (CanBeMade w)
 initial-made w (a ∷ arrays) h =
     All-cons (CanBeMade w) (kind_of_type a.kind) (kinds_of (map (initial_object tagged) arrays))
@@ -130,7 +139,8 @@ initial-objects t ks (a ∷ arrays) h =
 -- ---- static fields
 
 module _ (w : Linked) (world : IsWorld w) where
-  handle-has : (ty : Ty) (h : ℕ) → IsReference ty → IsInitialHandle w.classes w.arrays ty h → HasType w.classes (kinds_of (map (initial_object tagged) w.arrays)) (cells.Ref h) ty
+  handle-has : (ty : Ty) (h : ℕ) → IsReference ty → IsInitialHandle w.classes w.arrays ty h
+      → HasType w.classes (kinds_of (map (initial_object tagged) w.arrays)) (cells.Ref h) ty
   handle-has ty zero r h = null (null-reference w.classes ty r)
   handle-has ty (suc k) r h =
       let found = IsSomeAnd-some (λ (a : ArrayRec). Below w.classes a.kind ty) (slice_get w.arrays k) h in
@@ -159,11 +169,13 @@ module _ (w : Linked) (world : IsWorld w) where
   field-have fields.Int ty (h ∷ (v ∷ (x ∷ ws))) of_kind words = absurd words
 
   statics-have : (fs : List StaticRec) → All (IsStatic (length w.infos) w.classes w.arrays) fs
-      → CellsHave w.classes (kinds_of (map (initial_object tagged) w.arrays)) (flat_map (λ (f : StaticRec). field_cells tagged f.kind f.initial) fs) (static_types fs)
+      → CellsHave w.classes (kinds_of (map (initial_object tagged) w.arrays)) (flat_map (λ (f : StaticRec). field_cells tagged f.kind f.initial) fs)
+      (static_types fs)
   statics-have [] h = tt {0}
   statics-have (f ∷ fs) h =
       let first = All-head (IsStatic (length w.infos) w.classes w.arrays) f fs h in
-      have-both w.classes (kinds_of (map (initial_object tagged) w.arrays)) (field_cells tagged f.kind f.initial) (flat_map (λ (g : StaticRec). field_cells tagged g.kind g.initial) fs)
+      have-both w.classes (kinds_of (map (initial_object tagged) w.arrays)) (field_cells tagged f.kind f.initial)
+      (flat_map (λ (g : StaticRec). field_cells tagged g.kind g.initial) fs)
       (field_types f.kind f.ty) (static_types fs) (field-have f.kind f.ty f.initial first.kind first.words)
       (statics-have fs (All-tail (IsStatic (length w.infos) w.classes w.arrays) f fs h))
 
@@ -205,7 +217,8 @@ module _ (w : Linked) where
   arrays-store (number n ∷ args) heap statics store = arrays-store args heap statics store
   arrays-store (no_object ∷ args) heap statics store = arrays-store args heap statics store
   arrays-store (bytes bs ∷ args) heap statics store =
-      arrays-store args (heap ++ record { kind = kinds.Bytes; cells = map (λ b. cells.Short (byte_of_word b)) bs } ∷ []) statics (store-more heap statics bs store)
+      arrays-store args (heap ++ record { kind = kinds.Bytes; cells = map (λ b. cells.Short (byte_of_word b)) bs } ∷ []) statics
+      (store-more heap statics bs store)
 
   -- the objects that were there before are there
   record KeepsObjects (before after : List ObjectKind) : Type 0 where
@@ -261,7 +274,8 @@ words-are (one_cell {a = a} {types = types} no_half h) = one-word a types no_hal
 module _ (t : ClassTable) (unset : Ty) (ks : List ObjectKind) where
   -- an argument that fits a parameter is below its words
   argument-below :
-      (objects : ℕ) (arg : Argument) (ty : Ty) → fits arg ty ≡ true → ((bs : List ℕ) → arg ≡ bytes bs → kind_of_handle ks (objects + 1) ≡ Some kinds.Bytes)
+      (objects : ℕ) (arg : Argument) (ty : Ty) → fits arg ty ≡ true
+      → ((bs : List ℕ) → arg ≡ bytes bs → kind_of_handle ks (objects + 1) ≡ Some kinds.Bytes)
       → CellsBelow t (least_types t unset ks (argument_cells tagged objects arg ty)) (word_types ty)
   unfolding word_types
   argument-below objects (number n) Short h there = more_cells same no_cells
@@ -284,7 +298,8 @@ fit-first : (n : ℕ) (arg : Argument) (ty : Ty) (args : List Argument) (types :
     → (fits arg ty ≡ true) × (first_misfit (n + 1) args types ≡ None)
 fit-first n arg ty args types e = go (fits arg ty) refl e
   where
-    go : (b : Bool) → fits arg ty ≡ b → (if b then first_misfit (n + 1) args types else Some n) ≡ None → (fits arg ty ≡ true) × (first_misfit (n + 1) args types ≡ None)
+    go : (b : Bool) → fits arg ty ≡ b → (if b then first_misfit (n + 1) args types else Some n) ≡ None → (fits arg ty ≡ true)
+        × (first_misfit (n + 1) args types ≡ None)
     go true f h = (f, h)
     go false f h = absurd (none-some n (sym h))
 
@@ -304,7 +319,8 @@ module _ (w : Linked) (unset : Ty) where
       (args : List Argument) (types : List Ty) (n : ℕ) (heap : List (Object Cell)) (statics : List Cell)
       → length args ≡ length types → first_misfit n args types ≡ None
       → CellsBelow w.classes
-      (least_types w.classes unset (kinds_of (with_arrays tagged args (record { frames = []; heap = heap; statics = statics })).heap) (cells_handed tagged (length heap) args types))
+      (least_types w.classes unset (kinds_of (with_arrays tagged args (record { frames = []; heap = heap; statics = statics })).heap)
+      (cells_handed tagged (length heap) args types))
       (words_of types)
   unfolding words_of
   handed-below [] [] n heap statics e h = no_cells
@@ -352,7 +368,8 @@ begins-by true true x y (Some n) room e = absurd (none-some _ (sym e))
 module _ (w : Linked) (world : IsWorld w) (assigned : Typings) (typings : AreTypings w assigned) (entry : ℕ) (args : List Argument) where
   -- a static method with code, whose parameters the arguments fit
   method-starts :
-      (m : MethodRec) → slice_get w.methods entry ≡ Some m → can_begin w m ≡ true → length args ≡ length (parameters m) → first_misfit 0 args (parameters m) ≡ None
+      (m : MethodRec) → slice_get w.methods entry ≡ Some m → can_begin w m ≡ true → length args ≡ length (parameters m)
+      → first_misfit 0 args (parameters m) ≡ None
       → IsTypedState w assigned (entry_state tagged w entry args)
   method-starts m is begins count fit =
       let heap : List (Object Cell) = map (initial_object tagged) w.arrays in
@@ -380,7 +397,8 @@ module _ (w : Linked) (world : IsWorld w) (assigned : Typings) (typings : AreTyp
         frames = (entered-typed w world assigned typings ks entry m is code cells_are lower, tt);
       }
 
-  entry-starts : (o : Option MethodRec) → slice_get w.methods entry ≡ o → entry_fault w args o ≡ None → IsTypedState w assigned (entry_state tagged w entry args)
+  entry-starts : (o : Option MethodRec) → slice_get w.methods entry ≡ o → entry_fault w args o ≡ None
+      → IsTypedState w assigned (entry_state tagged w entry args)
   entry-starts None is e = absurd (none-some _ (sym e))
   entry-starts (Some m) is e =
       let parts = begins-by (can_begin w m) (length args == length (parameters m)) _ _ (first_misfit 0 args (parameters m)) _ e in
@@ -394,7 +412,8 @@ starts-are-typed w world assigned entry args s typings starts =
 
 module _ (w : Linked) (world : IsWorld w) (entry : ℕ) (args : List Argument) where
   method-handed :
-      (m : MethodRec) → slice_get w.methods entry ≡ Some m → length args ≡ length (parameters m) → first_misfit 0 args (parameters m) ≡ None → m.is_static ≡ true
+      (m : MethodRec) → slice_get w.methods entry ≡ Some m → length args ≡ length (parameters m) → first_misfit 0 args (parameters m) ≡ None
+      → m.is_static ≡ true
       → length (cells_handed tagged (length w.arrays) args (of_method [] parameters (slice_get w.methods entry))) ≡ nargs_of w entry
   method-handed m is count fit static =
       let heap : List (Object Cell) = map (initial_object tagged) w.arrays in

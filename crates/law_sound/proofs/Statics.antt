@@ -1,5 +1,6 @@
 -- Static fields at a frame's turn.
-use Rattle.std.proofs.Common.{◌≡◌, ℕ, zero, suc, ◌+◌, ◌<◌, List, [], ◌∷◌, ◌++◌, length, set, drop, get_or, refl, sym, ap, ◌∙◌, subst, arith}
+use Rattle.std.proofs.Common.{◌≡◌, ℕ, zero, suc, ◌+◌, ◌<◌, List, [], ◌∷◌, ◌++◌, length, set, drop, get_or, refl, sym, ap, ◌∙◌}
+use Rattle.std.proofs.Common.{subst, arith}
 use Rattle.std.specs.Prelude.{Some, IsSomeAnd, Any, slice_get, slice_index_or}
 use Rattle.std.proofs.lemmas.Option.{none-some, same_Some}
 use Rattle.std.proofs.lemmas.List.Elements.{All-nil}
@@ -102,7 +103,8 @@ slot-in :
 slot-in base slot kind ty [] k x slots lt is of = absurd (omega (arith, lt))
 slot-in base slot kind ty (f ∷ fs) zero x slots lt is of =
     let same : f ≡ x = is in
-    let at : IsFieldAt (static_types (f ∷ fs)) x.kind x.ty 0 = subst (λ (y : StaticRec). IsFieldAt (static_types (f ∷ fs)) y.kind y.ty 0) same (own-types f.kind f.ty (static_types fs)) in
+    let at : IsFieldAt (static_types (f ∷ fs)) x.kind x.ty 0 = subst (λ (y : StaticRec). IsFieldAt (static_types (f ∷ fs)) y.kind y.ty 0) same
+    (own-types f.kind f.ty (static_types fs)) in
     let here : x.slot ≡ base = sym (ap (λ (y : StaticRec). y.slot) same) ∙ slots.0 in (
       0,
       omega (arith, of.slot, here),
@@ -116,7 +118,8 @@ slot-in base slot kind ty (f ∷ fs) (suc k) x slots lt is of =
       later-types (field_types f.kind f.ty) (static_types fs) kind ty rest.0 rest.2,
     )
 
-slot-at : (w : Linked) → IsWorld w → (slot : ℕ) (kind : Kind) (ty : Ty) → Any (IsSlotOf slot kind ty) w.statics → IsFieldAt (static_types w.statics) kind ty slot
+slot-at : (w : Linked) → IsWorld w → (slot : ℕ) (kind : Kind) (ty : Ty) → Any (IsSlotOf slot kind ty) w.statics
+    → IsFieldAt (static_types w.statics) kind ty slot
 slot-at w world slot kind ty (k, x, lt, is, of) =
     let found = slot-in 0 slot kind ty w.statics k x world.slots lt is of in
     let e : slot ≡ found.0 = omega (arith, found.1) in
@@ -143,9 +146,12 @@ module _ (w : Linked) (world : IsWorld w) (assigned : Typings) (f : Frame Cell) 
         (slot : ℕ) (kind : Kind) (ty : Ty) → width kind ≡ 1
         → here.turn.operation ≡ ops.StaticRead (record { slot = slot; kind = kind; ty = ty })
         → IsStaticOf w (record { slot = slot; kind = kind; ty = ty })
-        → IsTypedOutcome w assigned (goes_to tagged w (here.turn.stands.instruction.place + here.turn.stands.instruction.insn.len) (record { frames = f ∷ below; heap = heap; statics = statics })
+        → IsTypedOutcome w assigned
+        (goes_to tagged w (here.turn.stands.instruction.place + here.turn.stands.instruction.insn.len)
+        (record { frames = f ∷ below; heap = heap; statics = statics })
         (record {
-          frames = record { method = f.method; place = f.place; registers = f.registers; stack = slice_index_or statics slot cells.Empty ∷ f.stack } ∷ below;
+          frames =
+              record { method = f.method; place = f.place; registers = f.registers; stack = slice_index_or statics slot cells.Empty ∷ f.stack } ∷ below;
           heap = heap;
           statics = statics;
         }))
@@ -154,14 +160,17 @@ module _ (w : Linked) (world : IsWorld w) (assigned : Typings) (f : Frame Cell) 
         let at = slot-at w world slot kind ty field.there in
         let read = static-cell slot ty (declared-not_top w.classes ty field.ty) (declared-not_fresh w.classes ty field.ty) at.first in
         replace-safe w world assigned f below heap statics here 0 (given.One ty) (c ∷ []) heap statics
-        (ap (λ o. effect w o (types_of_frame w.classes (assigned.unset f.method) (kinds_of heap) f)) is ∙ ap (replacing 0) (one-cell kind ty field.kind one).given_is) (ap falls_from is)
+        (ap (λ o. effect w o (types_of_frame w.classes (assigned.unset f.method) (kinds_of heap) f)) is
+        ∙ ap (replacing 0) (one-cell kind ty field.kind one).given_is) (ap falls_from is)
         (more_cells read.lower no_cells) (one-stacked w here.turn.stands.rec (kinds_of heap) c read.ready) here.store refl
 
     pub static-read-safe :
         (slot : ℕ) (kind : Kind) (ty : Ty)
         → here.turn.operation ≡ ops.StaticRead (record { slot = slot; kind = kind; ty = ty })
         → IsStaticOf w (record { slot = slot; kind = kind; ty = ty })
-        → IsTypedOutcome w assigned (goes_to tagged w (here.turn.stands.instruction.place + here.turn.stands.instruction.insn.len) (record { frames = f ∷ below; heap = heap; statics = statics })
+        → IsTypedOutcome w assigned
+        (goes_to tagged w (here.turn.stands.instruction.place + here.turn.stands.instruction.insn.len)
+        (record { frames = f ∷ below; heap = heap; statics = statics })
         (with_static_read tagged (record { slot = slot; kind = kind; ty = ty }) (record { frames = f ∷ below; heap = heap; statics = statics })))
     static-read-safe slot fields.Ref ty is field = static-one slot fields.Ref ty refl is field
     static-read-safe slot fields.Byte ty is field = static-one slot fields.Byte ty refl is field
@@ -173,7 +182,8 @@ module _ (w : Linked) (world : IsWorld w) (assigned : Typings) (f : Frame Cell) 
         let high = static-cell slot IntHigh tt tt (at.first ∙ ap Some field.kind) in
         let low = static-cell (slot + 1) IntLow tt tt (at.second refl) in
         replace-safe w world assigned f below heap statics here 0 given.Int (d ∷ c ∷ []) heap statics
-        (ap (λ o. effect w o (types_of_frame w.classes (assigned.unset f.method) (kinds_of heap) f)) is ∙ ap (λ a. replacing 0 (value_given a)) field.kind) (ap falls_from is)
+        (ap (λ o. effect w o (types_of_frame w.classes (assigned.unset f.method) (kinds_of heap) f)) is
+        ∙ ap (λ a. replacing 0 (value_given a)) field.kind) (ap falls_from is)
         (more_cells low.lower (more_cells high.lower no_cells)) (two-stacked w here.turn.stands.rec (kinds_of heap) d c low.ready high.ready) here.store refl
 
     -- ---- writes
@@ -186,7 +196,9 @@ module _ (w : Linked) (world : IsWorld w) (assigned : Typings) (f : Frame Cell) 
         → here.turn.operation ≡ ops.StaticWrite (record { slot = slot; kind = kind; ty = ty })
         → IsStaticOf w (record { slot = slot; kind = kind; ty = ty })
         → HasType w.classes (kinds_of heap) c ty → HasContent c
-        → IsTypedOutcome w assigned (goes_to tagged w (here.turn.stands.instruction.place + here.turn.stands.instruction.insn.len) (record { frames = f ∷ below; heap = heap; statics = statics })
+        → IsTypedOutcome w assigned
+        (goes_to tagged w (here.turn.stands.instruction.place + here.turn.stands.instruction.insn.len)
+        (record { frames = f ∷ below; heap = heap; statics = statics })
         (record {
           frames = record { method = f.method; place = f.place; registers = f.registers; stack = drop 1 f.stack } ∷ below;
           heap = heap;
@@ -195,15 +207,19 @@ module _ (w : Linked) (world : IsWorld w) (assigned : Typings) (f : Frame Cell) 
     write-static slot kind ty c one is field has filled =
         let at = slot-at w world slot kind ty field.there in
         replace-safe w world assigned f below heap statics here 1 given.Nothing [] heap (set statics slot c)
-        (ap (λ o. effect w o (types_of_frame w.classes (assigned.unset f.method) (kinds_of heap) f)) is ∙ ap (λ n. replacing n given.Nothing) (one-cell kind ty field.kind one).size) (ap falls_from is)
+        (ap (λ o. effect w o (types_of_frame w.classes (assigned.unset f.method) (kinds_of heap) f)) is
+        ∙ ap (λ n. replacing n given.Nothing) (one-cell kind ty field.kind one).size) (ap falls_from is)
         no_cells (All-nil (IsStacked w here.turn.stands.rec (kinds_of heap)))
-        (store-with (set statics slot c) (have-write w.classes (kinds_of heap) statics (static_types w.statics) slot ty c here.store.fields at.first has filled)) refl
+        (store-with (set statics slot c) (have-write w.classes (kinds_of heap) statics (static_types w.statics) slot ty c here.store.fields at.first has
+        filled)) refl
 
     pub static-write-safe :
         (slot : ℕ) (kind : Kind) (ty : Ty)
         → here.turn.operation ≡ ops.StaticWrite (record { slot = slot; kind = kind; ty = ty })
         → IsStaticOf w (record { slot = slot; kind = kind; ty = ty })
-        → IsTypedOutcome w assigned (goes_to tagged w (here.turn.stands.instruction.place + here.turn.stands.instruction.insn.len) (record { frames = f ∷ below; heap = heap; statics = statics })
+        → IsTypedOutcome w assigned
+        (goes_to tagged w (here.turn.stands.instruction.place + here.turn.stands.instruction.insn.len)
+        (record { frames = f ∷ below; heap = heap; statics = statics })
         (with_static_write tagged (record { slot = slot; kind = kind; ty = ty }) (record { frames = f ∷ below; heap = heap; statics = statics })))
     static-write-safe slot fields.Ref ty is field =
         let asked = asked-of w world assigned f below heap statics here (ops.StaticWrite (record { slot = slot; kind = fields.Ref; ty = ty })) is in
@@ -230,5 +246,6 @@ module _ (w : Linked) (world : IsWorld w) (assigned : Typings) (f : Frame Cell) 
         let once = have-write t ks statics types slot IntHigh c here.store.fields (at.first ∙ ap Some field.kind) upper.has upper.filled in
         let twice = have-write t ks (set statics slot c) types (slot + 1) IntLow d once (at.second refl) lower.has lower.filled in
         replace-safe w world assigned f below heap statics here 2 given.Nothing [] heap (set (set statics slot c) (slot + 1) d)
-        (ap (λ o. effect w o (types_of_frame t (assigned.unset f.method) ks f)) is ∙ ap (λ a. replacing (value_size a) given.Nothing) field.kind) (ap falls_from is)
+        (ap (λ o. effect w o (types_of_frame t (assigned.unset f.method) ks f)) is ∙ ap (λ a. replacing (value_size a) given.Nothing) field.kind)
+        (ap falls_from is)
         no_cells (All-nil (IsStacked w here.turn.stands.rec ks)) (store-with (set (set statics slot c) (slot + 1) d) twice) refl

@@ -69,8 +69,10 @@ module _ (w : Linked) (world : IsWorld w) (assigned : Typings) where
       (st.typing.rules st.instruction there.stands (subst (IsReached m) (sym there.at) st.reached)) in
       let fit : At (assigned.frames f.method) f.place (IsFit m) = st.typing.fit f.place st.reached in
       let exact = types_of_frame w.classes (assigned.unset f.method) ks f in
-      let all = IsSomeAnd-some (λ (g : Types). FrameBelow w.classes exact g × (IsFollowed w m (assigned.frames f.method) st.instruction g × IsFit m g)) ((assigned.frames f.method) f.place)
-      (some-both (FrameBelow w.classes exact) (λ g. IsFollowed w m (assigned.frames f.method) st.instruction g × IsFit m g) ((assigned.frames f.method) f.place) typed.below
+      let all = IsSomeAnd-some (λ (g : Types). FrameBelow w.classes exact g × (IsFollowed w m (assigned.frames f.method) st.instruction g × IsFit m g))
+      ((assigned.frames f.method) f.place)
+      (some-both (FrameBelow w.classes exact) (λ g. IsFollowed w m (assigned.frames f.method) st.instruction g × IsFit m g)
+      ((assigned.frames f.method) f.place) typed.below
       (some-both (IsFollowed w m (assigned.frames f.method) st.instruction) (IsFit m) ((assigned.frames f.method) f.place) rules fit)) in
       let above : Types = all.0 in
       let below : FrameBelow w.classes exact above = all.2.0 in
@@ -83,7 +85,11 @@ module _ (w : Linked) (world : IsWorld w) (assigned : Typings) where
       let least = types_of_frame w.classes Bottom ks f in
       let least_below : FrameBelow w.classes least above =
       frame-trans w.classes
-      (record { regs = bottoms-below w.classes (assigned.unset f.method) ks f.registers; stack = bottoms-below w.classes (assigned.unset f.method) ks f.stack }) below in
+      (record {
+        regs = bottoms-below w.classes (assigned.unset f.method) ks f.registers;
+        stack = bottoms-below w.classes (assigned.unset f.method) ks
+            f.stack;
+      }) below in
       let tested : OperationFallsTo w st.rec.max_stack r.operation Flow least followed.after =
       operation-falls w order st.rec.max_stack r.operation Flow above least followed.after followed.steps.0 least_below fits.no_top
       (not_bottoms w st.rec Bottom ks f.stack typed.stacked) r.does in
@@ -126,7 +132,12 @@ module _ (w : Linked) (world : IsWorld w) (assigned : Typings) where
   pub lands :
       (ks : List ObjectKind) (f : Frame Cell) (turn : Turn w assigned ks f) (more : List ObjectKind) (registers stack : List Cell) (q : ℕ)
       → IsSuccessor (code_of w.infos turn.stands.rec) turn.stands.instruction q
-      → FrameBelow w.classes (record { regs = least_types w.classes (assigned.unset f.method) more registers; stack = least_types w.classes (assigned.unset f.method) more stack }) turn.after
+      → FrameBelow w.classes
+      (record {
+        regs = least_types w.classes (assigned.unset f.method) more registers;
+        stack = least_types w.classes (assigned.unset f.method) more
+            stack;
+      }) turn.after
       → All (IsStacked w turn.stands.rec more) stack
       → IsTypedFrame w assigned more (record { method = f.method; place = q; registers = registers; stack = stack })
   lands ks f turn more registers stack q to below stacked =
@@ -142,7 +153,12 @@ module _ (w : Linked) (world : IsWorld w) (assigned : Typings) where
           typing = st.typing;
         };
         below = some-weaker (FrameBelow w.classes turn.followed.after)
-            (FrameBelow w.classes (record { regs = least_types w.classes (assigned.unset f.method) more registers; stack = least_types w.classes (assigned.unset f.method) more stack }))
+            (FrameBelow w.classes
+            (record {
+              regs = least_types w.classes (assigned.unset f.method) more registers;
+              stack = least_types w.classes (assigned.unset f.method)
+                  more stack;
+            }))
             (λ g b. frame-trans w.classes below (frame-trans w.classes turn.lower b))
             ((assigned.frames f.method) q) (turn.followed.below q to);
         stacked = stacked;
@@ -153,7 +169,9 @@ module _ (w : Linked) (world : IsWorld w) (assigned : Typings) where
       (ks : List ObjectKind) (f : Frame Cell) (turn : Turn w assigned ks f) (registers stack : List Cell) (result : Option Ty)
       → IsSuccessor (code_of w.infos turn.stands.rec) turn.stands.instruction (turn.stands.instruction.place + turn.stands.instruction.insn.len)
       → CellsBelow w.classes (least_types w.classes (assigned.unset f.method) ks registers) turn.above.regs
-      → FrameBelow w.classes (types_with w.classes (assigned.unset f.method) ks result (record { method = f.method; place = f.place; registers = registers; stack = stack })) turn.after
+      → FrameBelow w.classes
+      (types_with w.classes (assigned.unset f.method) ks result (record { method = f.method; place = f.place; registers = registers; stack = stack }))
+      turn.after
       → All (IsStacked w turn.stands.rec ks) stack
       → IsWaiting w assigned ks result (record { method = f.method; place = f.place; registers = registers; stack = stack })
   waits ks f turn registers stack result to held below stacked =
@@ -175,7 +193,9 @@ module _ (w : Linked) (world : IsWorld w) (assigned : Typings) where
           reached = st.reached;
           typing = st.typing;
         };
-        regs = IsSomeAnd-from (λ (g : Types). CellsBelow w.classes (least_types w.classes (assigned.unset f.method) ks registers) g.regs) ((assigned.frames f.method) f.place) turn.above turn.held held;
+        regs =
+            IsSomeAnd-from (λ (g : Types). CellsBelow w.classes (least_types w.classes (assigned.unset f.method) ks registers) g.regs)
+            ((assigned.frames f.method) f.place) turn.above turn.held held;
         next = record {
           rec = st.rec;
           is_method = st.is_method;
@@ -185,7 +205,8 @@ module _ (w : Linked) (world : IsWorld w) (assigned : Typings) where
           typing = st.typing;
         };
         below = subst (λ p. At (assigned.frames f.method) p (FrameBelow w.classes exact)) next
-            (some-weaker (FrameBelow w.classes turn.followed.after) (FrameBelow w.classes exact) (λ g b. frame-trans w.classes below (frame-trans w.classes turn.lower b))
+            (some-weaker (FrameBelow w.classes turn.followed.after) (FrameBelow w.classes exact)
+            (λ g b. frame-trans w.classes below (frame-trans w.classes turn.lower b))
             ((assigned.frames f.method) q) (turn.followed.below q to));
         stacked = stacked;
       }

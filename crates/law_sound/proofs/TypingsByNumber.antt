@@ -18,7 +18,8 @@ module _ (w : Linked) (unset : Ty) (typed : AreTypedMethods w unset) where
   abbrev Numbered : ℕ → Type 0
   Numbered n = (frames : ℕ → Option Types) × ((m : Method) → IsMethodOf w m → m.number ≡ n → FlowTyping w m unset frames)
 
-  same-method : (m : Method) (n : ℕ) (rec : MethodRec) → IsMethodOf w m → m.number ≡ n → slice_get w.methods n ≡ Some rec → method_with w n rec ≡ m
+  same-method : (m : Method) (n : ℕ) (rec : MethodRec) → IsMethodOf w m → m.number ≡ n → slice_get w.methods n ≡ Some rec
+      → method_with w n rec ≡ m
   same-method m n rec is number e =
       let rec_is : rec ≡ m.rec = same_Some rec m.rec (sym e ∙ (ap (slice_get w.methods) (sym number) ∙ is.rec)) in
       let code_is : code_of w.infos rec ≡ m.code = ap (code_of w.infos) rec_is ∙ sym is.code in

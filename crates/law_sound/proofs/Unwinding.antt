@@ -1,5 +1,6 @@
 -- An object that is thrown is caught where its handler is typed, or ends the run.
-use Rattle.std.proofs.Common.{◌≡◌, ℕ, ◌≤◌, Bool, true, false, ◌&&◌, if◌then◌else◌, List, [], ◌∷◌, length, map, refl, sym, ap, ◌∙◌, subst}
+use Rattle.std.proofs.Common.{◌≡◌, ℕ, ◌≤◌, Bool, true, false, ◌&&◌, if◌then◌else◌, List, [], ◌∷◌, length, map, refl, sym, ap}
+use Rattle.std.proofs.Common.{◌∙◌, subst}
 use Rattle.std.specs.Prelude.{Option, Some, None, Contains, ⊤, nat_lt, nat_le, slice_get, find}
 use Rattle.std.proofs.lemmas.Bool.{false≢true, and_parts}
 use Rattle.std.proofs.lemmas.Bool.{le-ltb, leb-true, ltb-true}
@@ -48,7 +49,8 @@ use Rattle.law_sound.proofs.Finish.{IsTypedStore, plain-safe}
 unfoldable pub IsThrowable : ClassTable → List ObjectKind → ℕ → ℕ → Type 0
 IsThrowable t ks class handle = (d : ℕ) → is_on_chain t d class ≡ true → Below t (least_type t Bottom ks (cells.Ref handle)) (Class d)
 
-pub kind-throwable : (t : ClassTable) → AreClasses t → (k : ObjectKind) (d : ℕ) → is_on_chain t d (class_with_methods t (Some k)) ≡ true → Below t (type_of_kind t k) (Class d)
+pub kind-throwable : (t : ClassTable) → AreClasses t → (k : ObjectKind) (d : ℕ) → is_on_chain t d (class_with_methods t (Some k)) ≡ true
+    → Below t (type_of_kind t k) (Class d)
 unfolding is_below
 kind-throwable t are (Instance c) d h = Below-from_is_below t are (Class c) (Class d) h
 kind-throwable t are Booleans d h = array_object of_booleans (sym (on_object t are d h))
@@ -61,7 +63,8 @@ module _ (w : Linked) (assigned : Typings) (ks : List ObjectKind) where
   -- a frame whose registers are typed where it stands, so that its handlers are
   pub record IsCatching (f : Frame Cell) : Type 0 where
     pub stands : Standing w assigned f
-    pub regs : At (assigned.frames f.method) f.place (λ (g : Types). CellsBelow w.classes (least_types w.classes (assigned.unset f.method) ks f.registers) g.regs)
+    pub regs : At (assigned.frames f.method) f.place
+        (λ (g : Types). CellsBelow w.classes (least_types w.classes (assigned.unset f.method) ks f.registers) g.regs)
 
   unfoldable pub AreCatching : List (Frame Cell) → Type 0
   AreCatching [] = ⊤
@@ -80,7 +83,8 @@ module _ (w : Linked) (assigned : Typings) (ks : List ObjectKind) where
     covers : Covers h place
     on : is_on_chain w.classes h.class class ≡ true
 
-  catcher : (f : Frame Cell) (m : MethodRec) → slice_get w.methods f.method ≡ Some m → (class : ℕ) (h : Handler) → handler_for w class f ≡ Some h → Catcher m f.place class h
+  catcher : (f : Frame Cell) (m : MethodRec) → slice_get w.methods f.method ≡ Some m → (class : ℕ) (h : Handler)
+      → handler_for w class f ≡ Some h → Catcher m f.place class h
   catcher f m is class h e =
       let found = found-passes (catches w.classes f.place class) m.handlers h
       (ap (λ hs. find (catches w.classes f.place class) hs) (sym (ap (of_method [] (λ (x : MethodRec). x.handlers)) is)) ∙ e) in
@@ -97,7 +101,8 @@ module _ (w : Linked) (assigned : Typings) (ks : List ObjectKind) where
     room : 1 ≤ max_stack_of w f.method
     typed : IsTypedFrame w assigned ks (caught_in tagged h handle f)
 
-  catch-typed : (f : Frame Cell) (class handle : ℕ) (h : Handler) → IsCatching f → IsThrowable w.classes ks class handle → handler_for w class f ≡ Some h → IsCaught f h handle
+  catch-typed : (f : Frame Cell) (class handle : ℕ) (h : Handler) → IsCatching f → IsThrowable w.classes ks class handle
+      → handler_for w class f ≡ Some h → IsCaught f h handle
   unfolding IsThrowable
   catch-typed f class handle h catching thrown e =
       let st = catching.stands in
@@ -105,20 +110,28 @@ module _ (w : Linked) (assigned : Typings) (ks : List ObjectKind) where
       let by = catcher f st.rec st.is_method class h e in
       let handlers = st.typing.handlers f.place h st.reached by.listed by.covers in
       let entered : IsReached m h.entry = caught st.reached by.listed by.covers in
-      let here = IsSomeAnd-some (λ (g : Types). CellsBelow w.classes (least_types w.classes (assigned.unset f.method) ks f.registers) g.regs × At (assigned.frames f.method) h.entry (FrameBelow w.classes (caught_frame h g)))
+      let here = IsSomeAnd-some (λ (g : Types). CellsBelow w.classes (least_types w.classes (assigned.unset f.method) ks f.registers) g.regs
+      × At (assigned.frames f.method) h.entry (FrameBelow w.classes (caught_frame h g)))
       ((assigned.frames f.method) f.place)
-      (some-both (λ (g : Types). CellsBelow w.classes (least_types w.classes (assigned.unset f.method) ks f.registers) g.regs) (λ g. At (assigned.frames f.method) h.entry (FrameBelow w.classes (caught_frame h g)))
+      (some-both (λ (g : Types). CellsBelow w.classes (least_types w.classes (assigned.unset f.method) ks f.registers) g.regs)
+      (λ g. At (assigned.frames f.method) h.entry (FrameBelow w.classes (caught_frame h g)))
       ((assigned.frames f.method) f.place) catching.regs handlers) in
       let there = IsSomeAnd-some (λ (g : Types). FrameBelow w.classes (caught_frame h here.0) g × IsFit m g) ((assigned.frames f.method) h.entry)
       (some-both (FrameBelow w.classes (caught_frame h here.0)) (IsFit m) ((assigned.frames f.method) h.entry) here.2.1 (st.typing.fit h.entry entered)) in
-      let exact : Types = record { regs = least_types w.classes (assigned.unset f.method) ks f.registers; stack = least_type w.classes (assigned.unset f.method) ks (cells.Ref handle) ∷ [] } in
+      let exact : Types = record {
+        regs = least_types w.classes (assigned.unset f.method) ks f.registers;
+        stack = least_type w.classes (assigned.unset f.method) ks
+            (cells.Ref handle) ∷ [];
+      } in
       let lower : FrameBelow w.classes exact (caught_frame h here.0) =
       record { regs = here.2.0; stack = more_cells (thrown h.class by.on) no_cells } in
       let place = (All-contains (IsHandlerOf (code_of w.infos st.rec)) st.rec.handlers h st.typing.formed.handlers by.listed).entry in
       let at = place-instruction (code_of w.infos st.rec) h.entry place in
       let same : 1 ≡ length there.0.stack = cells-length w.classes there.2.0.stack in
       record {
-        room = subst (λ n. 1 ≤ n) (sym (ap (of_method 0 (λ (x : MethodRec). x.max_stack)) st.is_method)) (subst (λ n. n ≤ st.rec.max_stack) (sym same) there.2.1.room);
+        room =
+            subst (λ n. 1 ≤ n) (sym (ap (of_method 0 (λ (x : MethodRec). x.max_stack)) st.is_method))
+            (subst (λ n. n ≤ st.rec.max_stack) (sym same) there.2.1.room);
         typed = record {
           stands = record {
             rec = st.rec;
@@ -128,7 +141,9 @@ module _ (w : Linked) (assigned : Typings) (ks : List ObjectKind) where
             reached = entered;
             typing = st.typing;
           };
-          below = some-weaker (FrameBelow w.classes (caught_frame h here.0)) (FrameBelow w.classes exact) (λ g b. frame-trans w.classes lower b) ((assigned.frames f.method) h.entry) here.2.1;
+          below =
+              some-weaker (FrameBelow w.classes (caught_frame h here.0)) (FrameBelow w.classes exact) (λ g b. frame-trans w.classes lower b)
+              ((assigned.frames f.method) h.entry) here.2.1;
           stacked = All-cons (IsStacked w st.rec ks) (cells.Ref handle) [] tt (All-nil (IsStacked w st.rec ks));
         };
       }
@@ -157,7 +172,8 @@ module _ (w : Linked) (assigned : Typings) (heap : List (Object Cell)) (statics 
     unfolding AreCatching
     unwound-safe frames [] h = plain-safe w assigned (Threw class handle) frames heap statics store
     unwound-safe frames (f ∷ fs) h =
-        go (handler_for w class f) refl (unwound-safe frames fs (waiting-catching w assigned (map (λ (o : Object Cell). o.kind) heap) (result_of w f.method) fs h.1))
+        go (handler_for w class f) refl
+        (unwound-safe frames fs (waiting-catching w assigned (map (λ (o : Object Cell). o.kind) heap) (result_of w f.method) fs h.1))
       where
         go : (o : Option Handler) → handler_for w class f ≡ o
             → IsTypedOutcome w assigned (unwound tagged w class handle (record { frames = frames; heap = heap; statics = statics }) fs)

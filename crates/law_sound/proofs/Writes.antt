@@ -40,9 +40,11 @@ some-nth P (x ∷ xs) (suc n) d h = some-nth P xs n d h
 
 pub read-cell :
     (t : ClassTable) (heap : List (Object Cell)) (h i : ℕ) (ty : Ty) → IsTypedHeap t (with_heap heap) → cell_type_at t (with_heap heap) h i ≡ Some ty
-    → HasType t (kinds_of heap) (slice_index_or (object_cells (with_heap heap) h) i cells.Empty) ty × HasContent (slice_index_or (object_cells (with_heap heap) h) i cells.Empty)
+    → HasType t (kinds_of heap) (slice_index_or (object_cells (with_heap heap) h) i cells.Empty) ty
+    × HasContent (slice_index_or (object_cells (with_heap heap) h) i cells.Empty)
 read-cell t heap h i ty typed e =
-    some-nth (λ c. HasType t (kinds_of heap) c ty × HasContent c) (object_cells (with_heap heap) h) i cells.Empty (heap-read t (with_heap heap) h i ty typed e)
+    some-nth (λ c. HasType t (kinds_of heap) c ty × HasContent c) (object_cells (with_heap heap) h) i cells.Empty
+    (heap-read t (with_heap heap) h i ty typed e)
 
 -- a write keeps the types of the cells of the object
 type-kept :
@@ -74,7 +76,9 @@ module _ (w : Linked) (world : IsWorld w) (assigned : Typings) (f : Frame Cell) 
         → here.turn.operation ≡ op
         → effect w op (types_of_frame w.classes (assigned.unset f.method) (kinds_of heap) f) ≡ replacing taken given.Nothing → falls_from op ≡ true
         → (h ≡ 0 → ⊥) → cell_type_at w.classes (with_heap heap) h i ≡ Some ty → HasType w.classes (kinds_of heap) c ty → HasContent c
-        → IsTypedOutcome w assigned (goes_to tagged w (here.turn.stands.instruction.place + here.turn.stands.instruction.insn.len) (record { frames = f ∷ below; heap = heap; statics = statics })
+        → IsTypedOutcome w assigned
+        (goes_to tagged w (here.turn.stands.instruction.place + here.turn.stands.instruction.insn.len)
+        (record { frames = f ∷ below; heap = heap; statics = statics })
         (with_object_value (dropped (record { frames = f ∷ below; heap = heap; statics = statics }) taken) h i (c ∷ [])))
     write-safe zero i ty c taken op is does falls some e has filled = absurd (some refl)
     write-safe (suc h) i ty c taken op is does falls some e has filled =
@@ -89,7 +93,9 @@ module _ (w : Linked) (world : IsWorld w) (assigned : Typings) (f : Frame Cell) 
         → effect w op (types_of_frame w.classes (assigned.unset f.method) (kinds_of heap) f) ≡ replacing taken given.Nothing → falls_from op ≡ true
         → (h ≡ 0 → ⊥) → cell_type_at w.classes (with_heap heap) h i ≡ Some ty → HasType w.classes (kinds_of heap) c ty → HasContent c
         → cell_type_at w.classes (with_heap heap) h (i + 1) ≡ Some low → HasType w.classes (kinds_of heap) d low → HasContent d
-        → IsTypedOutcome w assigned (goes_to tagged w (here.turn.stands.instruction.place + here.turn.stands.instruction.insn.len) (record { frames = f ∷ below; heap = heap; statics = statics })
+        → IsTypedOutcome w assigned
+        (goes_to tagged w (here.turn.stands.instruction.place + here.turn.stands.instruction.insn.len)
+        (record { frames = f ∷ below; heap = heap; statics = statics })
         (with_object_value (dropped (record { frames = f ∷ below; heap = heap; statics = statics }) taken) h i (c ∷ d ∷ [])))
     write-int-safe zero i ty low c d taken op is does falls some e has filled e2 has2 filled2 = absurd (some refl)
     write-int-safe (suc h) i ty low c d taken op is does falls some e has filled e2 has2 filled2 =

@@ -1,6 +1,7 @@
 -- Frames whose cells have the types that a dataflow typing of their method holds for them (Leroy 2002, sections 2.2 and 2.3; JCVM 2.2,
 -- section 3.5).
-use Rattle.std.specs.Prelude.{◌≡◌, ℕ, List, [], ◌∷◌, ◌++◌, map, All, Option, Some, None, IsSomeAnd, Result, Ok, slice_get, ⊤}
+use Rattle.std.specs.Prelude.{◌≡◌, ℕ, List, [], ◌∷◌, ◌++◌, map, All, Option, Some, None, IsSomeAnd, Result, Ok, slice_get}
+use Rattle.std.specs.Prelude.{⊤}
 use Rattle.jc_base.specs.declared.ty.Ty.{Ty}
 use Rattle.jc_base.specs.declared.record.MethodRec.{MethodRec}
 use Rattle.jc_base.specs.Class.{ClassTable}

@@ -12,7 +12,8 @@ use Rattle.jc_base.specs.World.{Linked}
 use Rattle.jc_decode.specs.Layout.{layout_of, opcode}
 use Rattle.jc_decode.specs.Decoding.{decoded}
 use Rattle.jc_decode.specs.Listing.{listing, listing_from, at_most}
-use Rattle.jc_ops.specs.Row.{table, row_at, unused, by_sort, by_width, by_kind, first_four, by_register, literals, binaries, orders_all, branching}
+use Rattle.jc_ops.specs.Row.{table, row_at, unused, by_sort, by_width, by_kind, first_four, by_register, literals, binaries, orders_all}
+use Rattle.jc_ops.specs.Row.{branching}
 use Rattle.vm_store.specs.declared.cell.Cell.TheVariants as cells
 use Rattle.vm_store.specs.declared.kind.ObjectKind.TheVariants.{Instance, Bytes}
 use Rattle.vm_step.specs.Methods.{instruction_at}
@@ -62,7 +63,8 @@ world =
 
 -- an empty register has the type of unset ones, null its own, and a reference that of its object
 first_types :
-    least_types world.classes Top (Instance 0 ∷ Bytes ∷ []) (cells.Empty ∷ cells.Ref 0 ∷ cells.Ref 1 ∷ cells.Ref 2 ∷ cells.Fresh 1 7 ∷ [])
+    least_types world.classes Top (Instance 0 ∷ Bytes ∷ [])
+    (cells.Empty ∷ cells.Ref 0 ∷ cells.Ref 1 ∷ cells.Ref 2 ∷ cells.Fresh 1 7 ∷ [])
     ≡ Top ∷ Null ∷ Class 0 ∷ ArrByte ∷ Fresh 7 0 ∷ []
 first_types = refl
 

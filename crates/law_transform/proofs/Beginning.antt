@@ -1,5 +1,6 @@
 -- Runs begin alike, and end alike.
-use Rattle.std.proofs.Common.{◌≡◌, ℕ, zero, suc, ◌+◌, ◌*◌, ◌-◌, ◌≤◌, List, [], ◌∷◌, length, map, refl, sym, ap, ◌∙◌, subst, arith}
+use Rattle.std.proofs.Common.{◌≡◌, ℕ, zero, suc, ◌+◌, ◌*◌, ◌-◌, ◌≤◌, List, [], ◌∷◌, length, map, refl, sym, ap, ◌∙◌}
+use Rattle.std.proofs.Common.{subst, arith}
 use Rattle.std.specs.Prelude.{Option, Some, None, option_map, slice_get, flat_map}
 use Rattle.std.proofs.lemmas.Option.{slice_get-map}
 use Rattle.jc_base.specs.declared.ty.Ty.{Ty}
@@ -28,7 +29,8 @@ use Rattle.law_transform.proofs.Settling.{Settles, enters}
 use Rattle.law_transform.proofs.Simulating.{both-running, both-ended, runs-come}
 
 -- a run that goes on for so many steps goes on for fewer
-shorter : (w : Linked) (n : ℕ) {count : ℕ} {t y : State Cell} → Runs tagged w count t (running y) → n ≤ count → (x : State Cell) × Runs tagged w n t (running x)
+shorter : (w : Linked) (n : ℕ) {count : ℕ} {t y : State Cell} → Runs tagged w count t (running y) → n ≤ count → (x : State Cell)
+    × Runs tagged w n t (running x)
 shorter w zero {t = t} runs le = (t, stands)
 shorter w (suc n) stands le = absurd (omega (arith, le))
 shorter w (suc n) (steps step more) le = let rest = shorter w n more (omega (arith, le)) in (rest.0, steps step rest.1)
@@ -57,7 +59,9 @@ module _ (v w : Linked) (typings : Typings) (laws : AreLaws v) (pair : AreCounte
   initial-same : initial tagged w ≡ initial tagged v
   initial-same =
       ap (λ (rs : List ArrayRec). record { frames = []; heap = map (initial_object tagged) rs; statics = (initial tagged w).statics }) (sym pair.same.arrays)
-      ∙ ap (λ (fs : List StaticRec). record { frames = []; heap = map (initial_object tagged) v.arrays; statics = flat_map (λ (f : StaticRec). field_cells tagged f.kind f.initial) fs })
+      ∙ ap
+      (λ (fs : List StaticRec). record
+      { frames = []; heap = map (initial_object tagged) v.arrays; statics = flat_map (λ (f : StaticRec). field_cells tagged f.kind f.initial) fs })
       (sym pair.same.statics)
 
   made-same : made w ≡ made v

@@ -39,7 +39,8 @@ some-step s planned stand =
 
 -- so has the code that stands for it
 first-listed :
-    (code : List ℕ) (place : ℕ → ℕ) (ss : List Step) (ps : List Placed) → AreSteps code place 0 ss ps → 0 < length ss → ((p : Placed) → Contains ps p → p.place < length code)
+    (code : List ℕ) (place : ℕ → ℕ) (ss : List Step) (ps : List Placed) → AreSteps code place 0 ss ps → 0 < length ss
+    → ((p : Placed) → Contains ps p → p.place < length code)
     → 0 < length code
 first-listed code place [] ps are lt inside = absurd (omega (arith, lt))
 first-listed code place (s ∷ ss) [] are lt inside = absurd are
@@ -47,7 +48,8 @@ first-listed code place (s ∷ ss) (p ∷ ps) are lt inside =
     let there = inside p (Contains-from_IsAmong p (p ∷ ps) (inl refl)) in
     omega (arith, there)
 
-pub laid-filled : (s : Source) (places : ℕ → ℕ) (l : Laid) → IsPlanned s → GroupsStandAtSteps → StandsAt places s.method.code (rewritten s) l → 0 < length l.code
+pub laid-filled : (s : Source) (places : ℕ → ℕ) (l : Laid) → IsPlanned s → GroupsStandAtSteps → StandsAt places s.method.code (rewritten s) l
+    → 0 < length l.code
 unfolding rewritten
 laid-filled s places l planned stand stands =
     first-listed l.code places (steps_of s) (listing l.code) stands.instructions (some-step s planned stand) (all-are-listed l.code).inside

@@ -1,5 +1,6 @@
 -- A step of a method that is kept comes to the same in both worlds.
-use Rattle.std.proofs.Common.{◌≡◌, ℕ, zero, suc, ◌+◌, ◌-◌, ◌<◌, ◌≤◌, ◌⊎◌, inl, inr, ⊎_elim, Bool, true, false, if◌then◌else◌, List, [], ◌∷◌, length, map, drop, refl, sym, ap, ◌∙◌, subst, arith}
+use Rattle.std.proofs.Common.{◌≡◌, ℕ, zero, suc, ◌+◌, ◌-◌, ◌<◌, ◌≤◌, ◌⊎◌, inl, inr, ⊎_elim, Bool, true, false}
+use Rattle.std.proofs.Common.{if◌then◌else◌, List, [], ◌∷◌, length, map, drop, refl, sym, ap, ◌∙◌, subst, arith}
 use Rattle.std.specs.Prelude.{ℤ, pos, nat_lt, Option, Some, None, Ok, All, slice_get}
 use Rattle.std.specs.List.{list_all}
 use Rattle.std.proofs.lemmas.Bool.{ltb-false, cases_lt}
@@ -45,7 +46,8 @@ use Rattle.law_sound.proofs.Places.{IsThere, instruction-there}
 use Rattle.law_erasure.specs.Erasure.{IsNoFault}
 use Rattle.law_erasure.proofs.Together.{safe-free}
 use Rattle.law_alike.specs.Alike.{renamed_cell, renamed_new, StayAlike}
-use Rattle.law_alike.specs.Running.{HaveKeys, keys_at, Executes, RunAlike, ComeAlike, next_alike, target_alike, call_alike, return_alike, exception_alike, throw_alike, end_alike}
+use Rattle.law_alike.specs.Running.{HaveKeys, keys_at, Executes, RunAlike, ComeAlike, next_alike, target_alike, call_alike, return_alike, exception_alike}
+use Rattle.law_alike.specs.Running.{throw_alike, end_alike}
 use Rattle.law_alike.proofs.Settling.{unless-none}
 use Rattle.law_transform.specs.Counterparts.{IsSameMethod, AreCounterparts}
 use Rattle.law_transform.specs.Beside.{AreTop, top_kept, WaitBeside, wait_kept, AreUnder, more_frames, both_run, both_end}
@@ -91,7 +93,8 @@ same-frames f g a b c d =
     let first : f ≡ record f { method = g.method } = ap (λ n. record f { method = n }) a in
     let second : record f { method = g.method } ≡ record g { registers = f.registers; stack = f.stack } =
     ap (λ n. record f { method = g.method; place = n }) b in
-    let third : record g { registers = f.registers; stack = f.stack } ≡ record g { stack = f.stack } = ap (λ rs. record g { registers = rs; stack = f.stack }) c in
+    let third : record g { registers = f.registers; stack = f.stack } ≡ record g { stack = f.stack } = ap
+    (λ rs. record g { registers = rs; stack = f.stack }) c in
     let fourth : record g { stack = f.stack } ≡ g = ap (λ cs. record g { stack = cs }) d in
     first ∙ (second ∙ (third ∙ fourth))
 
@@ -161,8 +164,12 @@ module _ (v w : Linked) (typings : Typings) (laws : AreLaws v) (pair : AreCounte
           subst (λ (g : Frame Cell). WaitBeside v w typings here (record g { stack = drop count g.stack })) (sym tops) (wait_kept still-kept) in
           let args : List Cell = arguments count (top y).stack in
           subst (λ cs. Settles v w typings (running (with_call tagged v.methods y method count))
-          (running (record u { frames = entered tagged w.methods method cs ∷ (record (top u) { stack = drop count (top u).stack } ∷ other_frames u.frames) }))) (sym handed)
-          (enters v w typings laws pair method args (here ∷ other_frames y.frames) (record (top u) { stack = drop count (top u).stack } ∷ other_frames u.frames)
+          (running
+          (record u {
+            frames = entered tagged w.methods method cs ∷ (record (top u) { stack = drop count (top u).stack } ∷ other_frames u.frames);
+          }))) (sym handed)
+          (enters v w typings laws pair method args (here ∷ other_frames y.frames)
+          (record (top u) { stack = drop count (top u).stack } ∷ other_frames u.frames)
           y.heap u.heap y.statics u.statics stays.alike.heap stays.alike.statics (more_frames waits rest) now_typed
           (laws.handed typings z y m i op method count pair.typed typed fetched resolved acts))
 
@@ -190,11 +197,13 @@ module _ (v w : Linked) (typings : Typings) (laws : AreLaws v) (pair : AreCounte
         (subst (IsTypedOutcome v typings) is safe))
     come-settles m o p fetched resolved (exception_alike exception acts is also) safe =
         settles-as v w typings o p (raised tagged v exception z) (raised tagged w exception t) is also
-        (raises-settle v w typings laws pair (top z) (top t) (other_frames z.frames) (other_frames t.frames) under catch-here exception z t first second heap statics
+        (raises-settle v w typings laws pair (top z) (top t) (other_frames z.frames) (other_frames t.frames) under catch-here exception z t first second
+        heap statics
         (subst (IsTypedOutcome v typings) is safe))
     come-settles m o p fetched resolved (throw_alike handle acts is also) safe =
         settles-as v w typings o p (thrown tagged v handle z) (thrown tagged w handle t) is also
-        (throws-settle v w typings laws pair (top z) (top t) (other_frames z.frames) (other_frames t.frames) under catch-here handle z t first second heap statics
+        (throws-settle v w typings laws pair (top z) (top t) (other_frames z.frames) (other_frames t.frames) under catch-here handle z t first second heap
+        statics
         (subst (IsTypedOutcome v typings) is safe))
     come-settles m o p fetched resolved (end_alike ending y) safe =
         settled-now v w typings (ended (endings.Plain ending) y) (ended (endings.Plain ending) y) (both_end (endings.Plain ending) refl refl)
@@ -274,12 +283,14 @@ module _ (v w : Linked) (typings : Typings) (laws : AreLaws v) (pair : AreCounte
           → (p : Outcome Cell) × Steps tagged w t p × Settles v w typings o p
       performs-alike o step is safe =
           let free = safe-free v typings o safe in
-          let passed = unless-none z (fault_before tagged v op z) (settled tagged v (i.place + i.insn.len) z (act tagged v i.insn op z)) (subst IsNoFault is free) in
+          let passed = unless-none z (fault_before tagged v op z) (settled tagged v (i.place + i.insn.len) z (act tagged v i.insn op z))
+          (subst IsNoFault is free) in
           let other = laws.alike w own z t i i op op o pair.same (λ p q e. e) (record { method = m; fetched = fetched; resolved = resolved }) other-executes
           (runs-alike passed.0) step free in
           (other.0, other.1, come-settles m o other.0 fetched resolved other.2 safe)
 
-  pub kept-steps : (o : Outcome Cell) → Steps tagged v z o → IsTypedOutcome v typings o → (p : Outcome Cell) × Steps tagged w t p × Settles v w typings o p
+  pub kept-steps : (o : Outcome Cell) → Steps tagged v z o → IsTypedOutcome v typings o → (p : Outcome Cell) × Steps tagged w t p
+      × Settles v w typings o p
   kept-steps o step safe = go step safe
     where
       go : {o : Outcome Cell} → Steps tagged v z o → IsTypedOutcome v typings o → (p : Outcome Cell) × Steps tagged w t p × Settles v w typings o p

@@ -1,5 +1,6 @@
 -- The world of a package that is written with what is laid for its methods: each method with code is kept, or rewritten.
-use Rattle.std.proofs.Common.{◌≡◌, ◌⊎◌, inl, inr, ⊎_elim, ℕ, zero, suc, ◌+◌, ◌-◌, ◌<◌, ◌≤◌, List, [], length, get_or, take, drop, All, Option, Some, None, option_map, IsSomeAnd, slice_get, refl, sym, ◌∙◌, ap, subst, arith, length-take}
+use Rattle.std.proofs.Common.{◌≡◌, ◌⊎◌, inl, inr, ⊎_elim, ℕ, zero, suc, ◌+◌, ◌-◌, ◌<◌, ◌≤◌, List, [], length, get_or, take}
+use Rattle.std.proofs.Common.{drop, All, Option, Some, None, option_map, IsSomeAnd, slice_get, refl, sym, ◌∙◌, ap, subst, arith, length-take}
 use Rattle.std.proofs.lemmas.Bool.{cases_lt}
 use Rattle.std.proofs.lemmas.List.Elements.{All-contains, All-weaker}
 use Rattle.std.proofs.lemmas.Option.{none-some, same_Some, slice_get_within, slice_get-get_or}
@@ -42,10 +43,12 @@ use Rattle.law_transform.proofs.Filling.{laid-filled}
 use Rattle.law_groups.proofs.Sounding.{can-run}
 use Rattle.law_transform.proofs.Typed.{method-is}
 
-method-there : (w : Linked) (n : ℕ) (P : Method → Type 0) → IsSomeAnd (method_in w n) P → (r : MethodRec) × (slice_get w.methods n ≡ Some r) × P (method_with w n r)
+method-there : (w : Linked) (n : ℕ) (P : Method → Type 0) → IsSomeAnd (method_in w n) P → (r : MethodRec) × (slice_get w.methods n ≡ Some r)
+    × P (method_with w n r)
 method-there w n P h = by (slice_get w.methods n) refl h
   where
-    by : (o : Option MethodRec) → slice_get w.methods n ≡ o → IsSomeAnd (option_map (method_with w n) o) P → (r : MethodRec) × (slice_get w.methods n ≡ Some r) × P (method_with w n r)
+    by : (o : Option MethodRec) → slice_get w.methods n ≡ o → IsSomeAnd (option_map (method_with w n) o) P → (r : MethodRec)
+        × (slice_get w.methods n ≡ Some r) × P (method_with w n r)
     by None e h = absurd h
     by (Some r) e h = (r, e, h)
 
@@ -60,7 +63,8 @@ record Assigned (v w : Linked) (n : ℕ) : Type 0 where
   typed : (m : Method) → IsMethodOf v m → m.number ≡ n → FlowTyping v m unset frames
   goes : (m : Method) → IsMethodOf v m → m.number ≡ n → Goes v w n unset frames
 
-of-goes : (v w : Linked) (typings : Typings) (n : ℕ) {unset : Ty} {frames : ℕ → Option Types} → Goes v w n unset frames → typings.unset n ≡ unset → typings.frames n ≡ frames
+of-goes : (v w : Linked) (typings : Typings) (n : ℕ) {unset : Ty} {frames : ℕ → Option Types} → Goes v w n unset frames
+    → typings.unset n ≡ unset → typings.frames n ≡ frames
     → IsKeptOrRewritten v w typings n
 of-goes v w typings n (goes_kept k) unset frames = kept k
 of-goes v w typings n (goes_rewritten s place number laid) unset frames =
@@ -82,7 +86,8 @@ module _ (v : Linked) (laws : AreLaws v) (catches : CatchesByPool) (card : CardI
       let code : code_of w.infos found.0 ≡ code_of v.infos r = ap (λ (m : Method). m.code) found.2 in
       record { rec = r; first = here; second = found.1 ∙ ap Some rec; code = ap (code_of w.infos) (sym rec) ∙ code }
 
-  library-typed : (n : ℕ) (r : MethodRec) → slice_get v.methods n ≡ Some r → IsMethodOf v (method_with v n r) → n < first → HasFlowTyping v (method_with v n r) Bottom
+  library-typed : (n : ℕ) (r : MethodRec) → slice_get v.methods n ≡ Some r → IsMethodOf v (method_with v n r) → n < first
+      → HasFlowTyping v (method_with v n r) Bottom
   library-typed n r here is lt =
       let there = slice_get-get_or are.libraries n r lt in
       let whole : slice_get v.methods n ≡ Some (get_or are.libraries n r) =
@@ -177,12 +182,15 @@ module _ (v : Linked) (laws : AreLaws v) (catches : CatchesByPool) (card : CardI
         record {
           unset = Top;
           frames = state_at is.typing;
-          typed = λ m mo number. subst (λ (x : Method). FlowTyping v x Top (state_at is.typing)) (method-is v m n r mo (sym number) here) is.typed.least.typing;
+          typed =
+              λ m mo number. subst (λ (x : Method). FlowTyping v x Top (state_at is.typing)) (method-is v m n r mo (sym number) here)
+              is.typed.least.typing;
           goes = λ m mo number. goes_rewritten source places refl laid-in;
         }
 
   by-element :
-      (k : ℕ) (r : MethodRec) (o : Option Laid) → slice_get are.own k ≡ Some r → slice_get laid k ≡ Some o → slice_get v.methods (first + k) ≡ Some r
+      (k : ℕ) (r : MethodRec) (o : Option Laid) → slice_get are.own k ≡ Some r → slice_get laid k ≡ Some o
+      → slice_get v.methods (first + k) ≡ Some r
       → 0 < length (code_of v.infos r) → Assigned v w (first + k)
   by-element k r None own at here filled =
       let none : r.code_len ≡ 0 = element-at v first are.own laid k r None are.each own at in
@@ -196,7 +204,8 @@ module _ (v : Linked) (laws : AreLaws v) (catches : CatchesByPool) (card : CardI
       let at : first + (n - first) ≡ n = omega (arith, le) in
       let there : slice_get v.methods (first + (n - first)) ≡ Some r = ap (slice_get v.methods) at ∙ here in
       let own : slice_get are.own (n - first) ≡ Some r =
-      sym (slice_get-farther are.libraries are.own (n - first) (first + (n - first)) refl) ∙ (ap (λ ms. slice_get ms (first + (n - first))) (sym are.parts) ∙ there) in
+      sym (slice_get-farther are.libraries are.own (n - first) (first + (n - first)) refl)
+      ∙ (ap (λ ms. slice_get ms (first + (n - first))) (sym are.parts) ∙ there) in
       let element = element-there v first are.own laid (n - first) r are.each own in
       subst (Assigned v w) at (by-element (n - first) r element.0 own element.1 there filled)
 
@@ -245,11 +254,14 @@ module _ (v : Linked) (laws : AreLaws v) (laid : List (Option Laid)) (are : AreL
       record { filled = its.0; catches = All-weaker (HasPoolOf r.handlers) (λ h. (h.pool ≡ 0) ⊎ HasPoolOf r.handlers h) (λ h p. inr p) l.handlers pools }
 
 pub laid-end-alike :
-    (v : Linked) → AreLaws v → CatchesByPool → CardIsFlow v → LaidMethodsStand → GroupsStandAtSteps → MethodsAreKept → OperationsAreKept → OperationsAreSound v
+    (v : Linked) → AreLaws v → CatchesByPool → CardIsFlow v → LaidMethodsStand → GroupsStandAtSteps → MethodsAreKept → OperationsAreKept
+    → OperationsAreSound v
     → CounterpartsEndAlike v → LaidEndAlike v
-laid-end-alike v laws catches card stand steps methods operations sound alike libraries source made parts new_parts roles laid w s t r linked accepted are anew =
+laid-end-alike v laws catches card stand steps methods operations sound alike libraries source made parts new_parts roles laid w s t r linked accepted are
+    anew =
     let cut : AreMethodsOf v are.libraries are.own = record { parts = are.parts; earlier = are.before; last = are.last } in
-    let standing = stand parts new_parts libraries source made laid roles v w are.libraries are.own s t r linked anew.linked cut (may-replace v laws laid are) in
+    let standing = stand parts new_parts libraries source made laid roles v w are.libraries are.own s t r linked anew.linked cut
+    (may-replace v laws laid are) in
     let runs : IsExecutable w = can-run v w anew.same methods operations laws.links sound in
     alike w (by_number v laws catches card laid are accepted steps w runs anew.same standing)
     (counterparts v laws catches card laid are accepted steps w runs anew.same standing)

@@ -1,5 +1,6 @@
 -- A method of a world that code is laid for: its symbols, and the code with its numbers and handlers, have a card typing there.
-use Rattle.std.proofs.Common.{◌≡◌, ℕ, zero, suc, ◌<◌, List, [], ◌∷◌, map, drop, Option, Some, slice_get, refl, sym, ◌∙◌, arith, length-take}
+use Rattle.std.proofs.Common.{◌≡◌, ℕ, zero, suc, ◌<◌, List, [], ◌∷◌, map, drop, Option, Some, slice_get, refl, sym, ◌∙◌, arith}
+use Rattle.std.proofs.Common.{length-take}
 use Rattle.std.specs.Prelude.{is_some}
 use Rattle.std.proofs.lemmas.List.{length-drop}
 use Rattle.jc_base.specs.declared.record.MethodRec.{MethodRec}

@@ -1,5 +1,6 @@
 -- What follows the step of another method in both worlds: a method that is called begins, one that waits goes on, an object is caught.
-use Rattle.std.proofs.Common.{◌≡◌, ℕ, zero, suc, ◌+◌, ◌-◌, ◌<◌, ◌≤◌, Bool, true, false, ◌&&◌, if◌then◌else◌, List, [], ◌∷◌, ◌++◌, length, map, reverse, replicate, refl, sym, ap, ◌∙◌, subst, arith, length-append}
+use Rattle.std.proofs.Common.{◌≡◌, ℕ, zero, suc, ◌+◌, ◌-◌, ◌<◌, ◌≤◌, Bool, true, false, ◌&&◌, if◌then◌else◌, List, []}
+use Rattle.std.proofs.Common.{◌∷◌, ◌++◌, length, map, reverse, replicate, refl, sym, ap, ◌∙◌, subst, arith, length-append}
 use Rattle.std.specs.Prelude.{Option, Some, None, nat_lt, nat_le, slice_get, slice_index, sum_by, find}
 use Rattle.std.proofs.lemmas.Bool.{le-ltb, lt-leb, ltb-false, false≢true}
 use Rattle.std.proofs.lemmas.Bool.Decides.{nat_tests}
@@ -53,7 +54,8 @@ use Rattle.law_groups.specs.Beside.{AreEqualBut, AreOf, IsUnderCall, StandsInGro
 use Rattle.law_groups.specs.Comes.{ComesToGroup, ComesWithin}
 use Rattle.law_groups.specs.Laws.{CatchAlike, none_catches, both_catch}
 use Rattle.law_transform.specs.Counterparts.{IsSameMethod, IsRewrittenIn, IsKeptOrRewritten, kept, rewritten, AreCounterparts}
-use Rattle.law_transform.specs.Beside.{AreTop, top_kept, top_rewritten, WaitBeside, wait_kept, wait_rewritten, AreUnder, no_frames, more_frames, AreBeside, OutcomesBeside, both_run, both_end}
+use Rattle.law_transform.specs.Beside.{AreTop, top_kept, top_rewritten, WaitBeside, wait_kept, wait_rewritten, AreUnder, no_frames, more_frames, AreBeside}
+use Rattle.law_transform.specs.Beside.{OutcomesBeside, both_run, both_end}
 use Rattle.law_transform.proofs.Typed.{AreLaws, its-method, stands-at, reached-at, typed-at}
 
 -- how many steps may still follow: an ending comes at once
@@ -255,7 +257,8 @@ module _ (v w : Linked) (typings : Typings) (laws : AreLaws v) (pair : AreCounte
           let back : State Cell = record { frames = record f { stack = with_value cells f.stack } ∷ fs; heap = heap; statics = statics } in
           let goes = given-goes v value cells f fs heap statics in
           let here : IsTypedOutcome v typings (goes_to tagged v (after_call v f) waiting back) = subst (IsTypedOutcome v typings) goes safe in
-          let passed = unless-none waiting (fault_next tagged v back depth (after_call v f)) (running given) (safe-free v typings (goes_to tagged v (after_call v f) waiting back) here) in
+          let passed = unless-none waiting (fault_next tagged v back depth (after_call v f)) (running given)
+          (safe-free v typings (goes_to tagged v (after_call v f) waiting back) here) in
           let tests = both-passed (nat_lt (max_stack_of v f.method) depth) (nat_le (length (code_at v f.method)) (after_call v f)) passed.0 in
           record {
             goes = goes ∙ passed.1;
@@ -271,11 +274,13 @@ module _ (v w : Linked) (typings : Typings) (laws : AreLaws v) (pair : AreCounte
           let depth : ℕ = length (with_value cells g.stack) in
           let back : State Cell = record { frames = record g { stack = with_value cells g.stack } ∷ gs; heap = other; statics = others } in
           let none : fault_next tagged w back depth (after_call w g) ≡ None =
-          passed-both (nat_lt (max_stack_of w g.method) depth) (nat_le (length (code_at w g.method)) (after_call w g)) (le-ltb (max_stack_of w g.method) depth fits) inside in
+          passed-both (nat_lt (max_stack_of w g.method) depth) (nat_le (length (code_at w g.method)) (after_call w g))
+          (le-ltb (max_stack_of w g.method) depth fits) inside in
           given-goes w value cells g gs other others ∙ ap (λ o. unless_fault also_waiting o (running also_given)) none
 
       -- in a method that is rewritten
-      module _ (s : Source) (place : ℕ → ℕ) (r : IsRewrittenIn v w typings f.method s place) (reached : IsReached s.method f.place) (call : IsUnderCall s place f g)
+      module _ (s : Source) (place : ℕ → ℕ) (r : IsRewrittenIn v w typings f.method s place) (reached : IsReached s.method f.place)
+          (call : IsUnderCall s place f g)
           (is : IsGiven) where
         abbrev of_call : AreOf s f g
         of_call = call.within.of
@@ -296,8 +301,11 @@ module _ (v w : Linked) (typings : Typings) (laws : AreLaws v) (pair : AreCounte
         next-place : after_call v f ≡ call.within.instruction.place + call.within.instruction.insn.len
         next-place =
             let code : code_at v f.method ≡ s.method.code =
-            ap (code_at v) (sym r.number) ∙ (ap (of_method [] (code_of v.infos)) (its-method v w typings f.method s place r).rec ∙ sym (its-method v w typings f.method s place r).code) in
-            ap return_place (ap (λ c. instruction_at c f.place) code ∙ stands-at s.method.code f.place call.within.instruction call.within.stands call.within.there)
+            ap (code_at v) (sym r.number)
+            ∙ (ap (of_method [] (code_of v.infos)) (its-method v w typings f.method s place r).rec
+            ∙ sym (its-method v w typings f.method s place r).code) in
+            ap return_place (ap (λ c. instruction_at c f.place) code ∙ stands-at s.method.code f.place call.within.instruction call.within.stands
+            call.within.there)
 
         rewritten-given : Settles v w typings (given_to tagged v value cells waiting) (given_to tagged w value cells also_waiting)
         rewritten-given =
@@ -340,15 +348,19 @@ module _ (v w : Linked) (typings : Typings) (laws : AreLaws v) (pair : AreCounte
         let is = is-given f f fs gs under safe in
         let code : code_at w f.method ≡ code_at v f.method = kept-code f.method k in
         let next : after_call w f ≡ after_call v f = ap (λ c. return_place (instruction_at c f.place)) code in
-        let fits : length (with_value cells f.stack) ≤ max_stack_of w f.method = subst (λ n. length (with_value cells f.stack) ≤ n) (sym (kept-room f.method k)) is.fits in
+        let fits : length (with_value cells f.stack) ≤ max_stack_of w f.method = subst (λ n. length (with_value cells f.stack) ≤ n)
+        (sym (kept-room f.method k)) is.fits in
         let inside : nat_le (length (code_at w f.method)) (after_call w f) ≡ false =
         ap (λ (c : List ℕ). nat_le (length c) (after_call w f)) code ∙ (ap (nat_le (length (code_at v f.method))) next ∙ is.inside) in
         let z : State Cell = given f f fs gs under in
         let t : State Cell = also_given f f fs gs under in
         let tops : AreTop v w typings (given_frame v cells f) (given_frame w cells f) =
-        subst (λ p. AreTop v w typings (given_frame v cells f) (record { method = f.method; place = p; registers = f.registers; stack = with_value cells f.stack }))
+        subst
+        (λ p. AreTop v w typings (given_frame v cells f)
+        (record { method = f.method; place = p; registers = f.registers; stack = with_value cells f.stack }))
         (sym next) (top_kept k) in
-        settles-as v w typings (given_to tagged v value cells (waiting f f fs gs under)) (given_to tagged w value cells (also_waiting f f fs gs under)) (running z) (running t)
+        settles-as v w typings (given_to tagged v value cells (waiting f f fs gs under)) (given_to tagged w value cells (also_waiting f f fs gs under))
+        (running z) (running t)
         is.goes (also-goes f f fs gs under fits inside)
         (settled-now v w typings (running z) (running t)
         (both_run (record { first = refl; second = refl; tops = tops; under = under; heap = same_heap; statics = same_statics; typed = is.typed })))

@@ -19,10 +19,12 @@ use Rattle.law_sound.specs.State.{IsTypedState}
 use Rattle.law_sound.specs.Soundness.{IsTypedOutcome}
 use Rattle.xf_homes.specs.Source.{Source}
 use Rattle.law_groups.specs.Beside.{IsAtGroup}
-use Rattle.law_groups.specs.Comes.{ComesWithin, AreAtGroup, CallAlike, GroupComes, group_calls, group_gives, group_raises, group_throws, group_ends, GroupRuns, group_leaves, group_stays}
+use Rattle.law_groups.specs.Comes.{ComesWithin, AreAtGroup, CallAlike, GroupComes, group_calls, group_gives, group_raises, group_throws, group_ends, GroupRuns}
+use Rattle.law_groups.specs.Comes.{group_leaves, group_stays}
 use Rattle.law_groups.proofs.Plain.{one-step}
 use Rattle.law_transform.specs.Counterparts.{IsSameMethod, IsRewrittenIn, AreCounterparts}
-use Rattle.law_transform.specs.Beside.{AreTop, top_kept, top_rewritten, WaitBeside, wait_rewritten, AreUnder, more_frames, AreBeside, OutcomesBeside, both_run, both_end}
+use Rattle.law_transform.specs.Beside.{AreTop, top_kept, top_rewritten, WaitBeside, wait_rewritten, AreUnder, more_frames, AreBeside, OutcomesBeside, both_run}
+use Rattle.law_transform.specs.Beside.{both_end}
 use Rattle.law_transform.proofs.Typed.{AreLaws, its-method, method-is, typed-at, stays-typed, reached-at}
 use Rattle.law_transform.proofs.Settling.{extra, Settles, settled-now, settles-as, beside, equal-but, enters, gives}
 use Rattle.law_transform.proofs.Throwing.{catch_rewritten, throws-settle, raises-settle}
@@ -41,7 +43,8 @@ module _ (v w : Linked) (typings : Typings) (laws : AreLaws v) (pair : AreCounte
   abbrev StepComes : Outcome Cell → State Cell → Type 0
   StepComes o t = ComesWithin w 1 (most o) t (OutcomesBeside v w typings o)
 
-  settles-then : (o : Outcome Cell) (t : State Cell) (count : ℕ) (p : Outcome Cell) → 1 ≤ count → count ≤ 1000 → Runs tagged w count t p → Settles v w typings o p → StepComes o t
+  settles-then : (o : Outcome Cell) (t : State Cell) (count : ℕ) (p : Outcome Cell) → 1 ≤ count → count ≤ 1000 → Runs tagged w count t p
+      → Settles v w typings o p → StepComes o t
   settles-then o t count p more fewer runs s =
       let total : 1000 + extra o ≡ most o = most-is o in
       let few : s.count ≤ extra o = s.fewer in
@@ -78,11 +81,14 @@ module _ (v w : Linked) (typings : Typings) (laws : AreLaws v) (pair : AreCounte
         let its : IsRewrittenIn v w typings here.method s place = of-frame here c.waits.within.of.source in
         let stand = now_typed.frames.1.0.stands in
         let reached : IsReached s.method here.place =
-        subst (λ (m : Method). IsReached m here.place) (method-is v s.method here.method stand.rec (its-method v w typings here.method s place its) (sym its.number) stand.is_method) stand.reached in
+        subst (λ (m : Method). IsReached m here.place)
+        (method-is v s.method here.method stand.rec (its-method v w typings here.method s place its) (sym its.number) stand.is_method) stand.reached in
         let waits : WaitBeside v w typings here there = wait_rewritten s place its reached c.waits in
         let args : List Cell = arguments c.count (top y).stack in
-        let many = laws.handed typings z y c.executes.method c.instruction c.op c.method c.count pair.typed typed c.executes.fetched c.executes.resolved c.acts in
-        settles-as v w typings o p (running (with_call tagged v.methods y c.method c.count)) (running (with_call tagged w.methods u c.method c.count)) c.enters c.too
+        let many = laws.handed typings z y c.executes.method c.instruction c.op c.method c.count pair.typed typed c.executes.fetched c.executes.resolved
+        c.acts in
+        settles-as v w typings o p (running (with_call tagged v.methods y c.method c.count)) (running (with_call tagged w.methods u c.method c.count))
+        c.enters c.too
         (subst (λ cs. Settles v w typings (running (with_call tagged v.methods y c.method c.count))
         (running (record u { frames = entered tagged w.methods c.method cs ∷ (there ∷ other_frames u.frames) }))) (sym c.handed)
         (enters v w typings laws pair c.method args (here ∷ other_frames y.frames) (there ∷ other_frames u.frames)
@@ -96,18 +102,21 @@ module _ (v w : Linked) (typings : Typings) (laws : AreLaws v) (pair : AreCounte
     group-settles o p (group_raises exception u at is also) safe =
         settles-as v w typings o p (raised tagged v exception z) (raised tagged w exception u) is also
         (raises-settle v w typings laws pair (top z) (top u) (other_frames z.frames) (other_frames t.frames) under
-        (catch_rewritten s place r (reached-at v typings w s place z first typed r) at.within) exception z u first at.moves.frames (at.moves.heap ∙ heap) (at.moves.statics ∙ statics)
+        (catch_rewritten s place r (reached-at v typings w s place z first typed r) at.within) exception z u first at.moves.frames (at.moves.heap ∙ heap)
+        (at.moves.statics ∙ statics)
         (subst (IsTypedOutcome v typings) is safe))
     group-settles o p (group_throws handle u at is also) safe =
         settles-as v w typings o p (thrown tagged v handle z) (thrown tagged w handle u) is also
         (throws-settle v w typings laws pair (top z) (top u) (other_frames z.frames) (other_frames t.frames) under
-        (catch_rewritten s place r (reached-at v typings w s place z first typed r) at.within) handle z u first at.moves.frames (at.moves.heap ∙ heap) (at.moves.statics ∙ statics)
+        (catch_rewritten s place r (reached-at v typings w s place z first typed r) at.within) handle z u first at.moves.frames (at.moves.heap ∙ heap)
+        (at.moves.statics ∙ statics)
         (subst (IsTypedOutcome v typings) is safe))
     group-settles o p (group_ends ending y) safe =
         settled-now v w typings (ended (endings.Plain ending) y) (ended (endings.Plain ending) y) (both_end (endings.Plain ending) refl refl)
 
     stays-beside :
-        (y : State Cell) → IsTypedState v typings y → ComesWithin w 1 2000 t (λ p. (u : State Cell) × (p ≡ running u) × AreAtGroup s place z t y u) → StepComes (running y) t
+        (y : State Cell) → IsTypedState v typings y → ComesWithin w 1 2000 t (λ p. (u : State Cell) × (p ≡ running u) × AreAtGroup s place z t y u)
+        → StepComes (running y) t
     stays-beside y now_typed c =
         let u : State Cell = c.comes.0 in
         let at : AreAtGroup s place z t y u = c.comes.2 in
@@ -140,11 +149,13 @@ module _ (v w : Linked) (typings : Typings) (laws : AreLaws v) (pair : AreCounte
       → (o : Outcome Cell) → Steps tagged v z o → IsTypedOutcome v typings o → StepComes o t
   steps-by z t f g (top_kept k) here there b o step safe =
       let same : top t ≡ top z = there ∙ sym here in
-      let done = kept-steps v w typings laws pair z t b.first b.second b.under b.heap b.statics b.typed (subst (λ (x : Frame Cell). IsSameMethod v w x.method) (sym here) k) same o step safe in
+      let done = kept-steps v w typings laws pair z t b.first b.second b.under b.heap b.statics b.typed
+      (subst (λ (x : Frame Cell). IsSameMethod v w x.method) (sym here) k) same o step safe in
       settles-then o t 1 done.0 (omega arith) (omega arith) (one-step w t done.0 done.1) done.2
   steps-by z t f g (top_rewritten s place r group) here there b o step safe =
       let its : IsRewrittenIn v w typings (top z).method s place = subst (λ (x : Frame Cell). IsRewrittenIn v w typings x.method s place) (sym here) r in
-      let at : IsAtGroup s place (top z) (top t) = subst (λ x. IsAtGroup s place x (top t)) (sym here) (subst (λ x. IsAtGroup s place f x) (sym there) group) in
+      let at : IsAtGroup s place (top z) (top t) = subst (λ x. IsAtGroup s place x (top t)) (sym here)
+      (subst (λ x. IsAtGroup s place f x) (sym there) group) in
       rewritten-steps z t b.first b.second b.under b.heap b.statics b.typed s place its at o step safe
 
   pub step-comes : (z t : State Cell) → AreBeside v w typings z t → (o : Outcome Cell) → Steps tagged v z o → StepComes o t
@@ -172,7 +183,8 @@ module _ (v w : Linked) (typings : Typings) (laws : AreLaws v) (pair : AreCounte
     pub runs : Runs tagged w count t outcome
     pub comes : OutcomesBeside v w typings o outcome
 
-  pub both-running : {y : State Cell} {p : Outcome Cell} → OutcomesBeside v w typings (running y) p → (u : State Cell) × (p ≡ running u) × AreBeside v w typings y u
+  pub both-running : {y : State Cell} {p : Outcome Cell} → OutcomesBeside v w typings (running y) p → (u : State Cell) × (p ≡ running u)
+      × AreBeside v w typings y u
   both-running (both_run {t = u} b) = (u, refl, b)
 
   pub record IsEndedToo (ending : Ending) (z : State Cell) (p : Outcome Cell) : Type 0 where

@@ -1,5 +1,6 @@
 -- An object that is thrown is caught by the same frame in both worlds, or ends both runs.
-use Rattle.std.proofs.Common.{◌≡◌, ℕ, ◌+◌, ◌≤◌, Bool, true, false, ◌&&◌, if◌then◌else◌, List, [], ◌∷◌, ◌++◌, length, map, refl, sym, ap, ◌∙◌, subst, arith}
+use Rattle.std.proofs.Common.{◌≡◌, ℕ, ◌+◌, ◌≤◌, Bool, true, false, ◌&&◌, if◌then◌else◌, List, [], ◌∷◌, ◌++◌, length, map}
+use Rattle.std.proofs.Common.{refl, sym, ap, ◌∙◌, subst, arith}
 use Rattle.std.specs.Prelude.{Option, Some, None, nat_lt, nat_le, slice_get, slice_index, sum_by, find}
 use Rattle.std.proofs.lemmas.Bool.{le-ltb}
 use Rattle.jc_base.specs.declared.record.Handler.{Handler}
@@ -36,7 +37,8 @@ use Rattle.law_transform.proofs.Settling.{Settles, settled-now, settles-as, loca
 pub data CatchBeside (v w : Linked) (typings : Typings) : Frame Cell → Frame Cell → Type 0 where
   catch_kept : {f : Frame Cell} → IsSameMethod v w f.method → CatchBeside v w typings f f
   catch_rewritten :
-      {f g : Frame Cell} (s : Source) (place : ℕ → ℕ) → IsRewrittenIn v w typings f.method s place → IsReached s.method f.place → StandsInGroup s place f g
+      {f g : Frame Cell} (s : Source) (place : ℕ → ℕ) → IsRewrittenIn v w typings f.method s place → IsReached s.method f.place
+      → StandsInGroup s place f g
       → CatchBeside v w typings f g
 
 wait-catch : (v w : Linked) (typings : Typings) {f g : Frame Cell} → WaitBeside v w typings f g → CatchBeside v w typings f g
@@ -75,7 +77,8 @@ module _ (v w : Linked) (typings : Typings) (laws : AreLaws v) (pair : AreCounte
 
     abbrev Unwinds : List (Frame Cell) → List (Frame Cell) → Type 0
     Unwinds fs gs =
-        IsTypedOutcome v typings (unwound tagged v class handle sv fs) → Settles v w typings (unwound tagged v class handle sv fs) (unwound tagged w class handle sw gs)
+        IsTypedOutcome v typings (unwound tagged v class handle sv fs) → Settles v w typings (unwound tagged v class handle sv fs)
+        (unwound tagged w class handle sw gs)
 
     -- in a method that is kept
     module _ (f : Frame Cell) (fs gs : List (Frame Cell)) (under : AreUnder v w typings fs gs) (k : IsSameMethod v w f.method) (rest : Unwinds fs gs) where
@@ -97,59 +100,64 @@ module _ (v w : Linked) (typings : Typings) (laws : AreLaws v) (pair : AreCounte
           let same : handler_for w class f ≡ handler_for v class f =
           ap (λ (t : ClassTable). find (catches t f.place class) (handlers_of w f.method)) (sym pair.same.classes)
           ∙ ap (λ hs. find (catches v.classes f.place class) hs) (kept-handlers v w typings laws pair f.method k) in
-          subst (λ o. Settles v w typings (unwound tagged v class handle sv (f ∷ fs)) (caught_or tagged w handle sw f gs (unwound tagged w class handle sw gs) o))
+          subst
+          (λ o. Settles v w typings (unwound tagged v class handle sv (f ∷ fs))
+          (caught_or tagged w handle sw f gs (unwound tagged w class handle sw gs) o))
           (sym same) (kept-by (handler_for v class f) safe)
 
     -- in one that is rewritten
     module _
         (f g : Frame Cell) (fs gs : List (Frame Cell)) (under : AreUnder v w typings fs gs) (s : Source) (place : ℕ → ℕ)
-        (r : IsRewrittenIn v w typings f.method s place) (reached : IsReached s.method f.place) (within : StandsInGroup s place f g) (rest : Unwinds fs gs) where
-      abbrev first_by : Option Handler → Outcome Cell
-      first_by o = caught_or tagged v handle sv f fs (unwound tagged v class handle sv fs) o
+        (r : IsRewrittenIn v w typings f.method s place) (reached : IsReached s.method f.place) (within : StandsInGroup s place f g) (rest : Unwinds fs gs)
+      where
+        abbrev first_by : Option Handler → Outcome Cell
+        first_by o = caught_or tagged v handle sv f fs (unwound tagged v class handle sv fs) o
 
-      abbrev second_by : Option Handler → Outcome Cell
-      second_by o = caught_or tagged w handle sw g gs (unwound tagged w class handle sw gs) o
+        abbrev second_by : Option Handler → Outcome Cell
+        second_by o = caught_or tagged w handle sw g gs (unwound tagged w class handle sw gs) o
 
-      caught-by : CatchAlike v w s place class f g → Unwinds (f ∷ fs) (g ∷ gs)
-      caught-by (none_catches here_none there_none) safe =
-          let e : first_by (handler_for v class f) ≡ unwound tagged v class handle sv fs = ap first_by here_none in
-          settles-as v w typings (first_by (handler_for v class f)) (second_by (handler_for w class g)) (unwound tagged v class handle sv fs)
-          (unwound tagged w class handle sw gs) e (ap second_by there_none) (rest (subst (IsTypedOutcome v typings) e safe))
-      caught-by (both_catch n h k caught_here listed covers caught_there entry) safe =
-          let e : first_by (handler_for v class f) ≡ caught_by tagged v h handle sv f fs = ap first_by caught_here in
-          let is = caught-in h f fs (subst (IsTypedOutcome v typings) e safe) in
-          let more : max_stack_of w f.method ≡ max_stack_of v f.method + 1 = more-room v w typings laws pair s place f.method r in
-          let method : g.method ≡ f.method = within.of.target ∙ sym within.of.source in
-          let size : max_stack_of w g.method ≡ max_stack_of w f.method = ap (max_stack_of w) method in
-          let room : nat_lt (max_stack_of w g.method) 1 ≡ false = le-ltb (max_stack_of w g.method) 1 (omega (arith, more, size)) in
-          let z : State Cell = here h f fs in
-          let t : State Cell = there k g gs in
-          settles-as v w typings (first_by (handler_for v class f)) (second_by (handler_for w class g)) (running z) (running t)
-          (e ∙ is.goes) (ap second_by caught_there ∙ also-caught k g gs room)
-          (to-group v w typings laws pair s place z t 1 refl r under is.typed
-          (laws.handlers w s place r.laid z t n f.place h (typed-at v typings w s place laws.stay z refl is.typed r)
-          (equal-but v w typings laws pair z t refl refl under same_heap same_statics)
-          (record {
-            listed = listed;
-            reached = reached;
-            covers = covers;
-            of = record { source = within.of.source; target = within.of.target; count = within.of.count };
-            entry = refl;
-            at = entry;
-            object = handle;
-            source = refl;
-            target = refl;
-            locals = locals-too s f.place f g h.entry k.entry (tagged.reference handle ∷ []) (tagged.reference handle ∷ []) within.locals;
-          })))
+        caught-by : CatchAlike v w s place class f g → Unwinds (f ∷ fs) (g ∷ gs)
+        caught-by (none_catches here_none there_none) safe =
+            let e : first_by (handler_for v class f) ≡ unwound tagged v class handle sv fs = ap first_by here_none in
+            settles-as v w typings (first_by (handler_for v class f)) (second_by (handler_for w class g)) (unwound tagged v class handle sv fs)
+            (unwound tagged w class handle sw gs) e (ap second_by there_none) (rest (subst (IsTypedOutcome v typings) e safe))
+        caught-by (both_catch n h k caught_here listed covers caught_there entry) safe =
+            let e : first_by (handler_for v class f) ≡ caught_by tagged v h handle sv f fs = ap first_by caught_here in
+            let is = caught-in h f fs (subst (IsTypedOutcome v typings) e safe) in
+            let more : max_stack_of w f.method ≡ max_stack_of v f.method + 1 = more-room v w typings laws pair s place f.method r in
+            let method : g.method ≡ f.method = within.of.target ∙ sym within.of.source in
+            let size : max_stack_of w g.method ≡ max_stack_of w f.method = ap (max_stack_of w) method in
+            let room : nat_lt (max_stack_of w g.method) 1 ≡ false = le-ltb (max_stack_of w g.method) 1 (omega (arith, more, size)) in
+            let z : State Cell = here h f fs in
+            let t : State Cell = there k g gs in
+            settles-as v w typings (first_by (handler_for v class f)) (second_by (handler_for w class g)) (running z) (running t)
+            (e ∙ is.goes) (ap second_by caught_there ∙ also-caught k g gs room)
+            (to-group v w typings laws pair s place z t 1 refl r under is.typed
+            (laws.handlers w s place r.laid z t n f.place h (typed-at v typings w s place laws.stay z refl is.typed r)
+            (equal-but v w typings laws pair z t refl refl under same_heap same_statics)
+            (record {
+              listed = listed;
+              reached = reached;
+              covers = covers;
+              of = record { source = within.of.source; target = within.of.target; count = within.of.count };
+              entry = refl;
+              at = entry;
+              object = handle;
+              source = refl;
+              target = refl;
+              locals = locals-too s f.place f g h.entry k.entry (tagged.reference handle ∷ []) (tagged.reference handle ∷ []) within.locals;
+            })))
 
-    unwinds-one : {f g : Frame Cell} (fs gs : List (Frame Cell)) → AreUnder v w typings fs gs → CatchBeside v w typings f g → Unwinds fs gs → Unwinds (f ∷ fs) (g ∷ gs)
+    unwinds-one : {f g : Frame Cell} (fs gs : List (Frame Cell)) → AreUnder v w typings fs gs → CatchBeside v w typings f g → Unwinds fs gs
+        → Unwinds (f ∷ fs) (g ∷ gs)
     unwinds-one fs gs under (catch_kept {f = f} k) rest safe = kept-unwinds f fs gs under k rest safe
     unwinds-one fs gs under (catch_rewritten {f = f} {g = g} s place r reached within) rest safe =
         caught-by f g fs gs under s place r reached within rest (laws.catch w s place r.laid class f g reached within) safe
 
     unwinds : {fs gs : List (Frame Cell)} → AreUnder v w typings fs gs → Unwinds fs gs
     unwinds no_frames safe =
-        settled-now v w typings (ended (endings.Plain (Threw class handle)) (without_frames sv)) (ended (endings.Plain (Threw class handle)) (without_frames sw))
+        settled-now v w typings (ended (endings.Plain (Threw class handle)) (without_frames sv))
+        (ended (endings.Plain (Threw class handle)) (without_frames sw))
         (both_end (endings.Plain (Threw class handle)) same_heap same_statics)
     unwinds (more_frames {fs = fs} {gs = gs} wait rest) safe =
         unwinds-one fs gs rest (wait-catch v w typings wait) (unwinds rest) safe
@@ -169,17 +177,20 @@ module _ (v w : Linked) (typings : Typings) (laws : AreLaws v) (pair : AreCounte
         let here : thrown tagged v handle z ≡ unwound tagged v class handle z (f ∷ fs) = ap (unwound tagged v class handle z) first in
         let there : thrown tagged w handle u ≡ unwound tagged w class handle u (g ∷ gs) =
         ap (λ c. unwound tagged w c handle u u.frames) same ∙ ap (unwound tagged w class handle u) second in
-        settles-as v w typings (thrown tagged v handle z) (thrown tagged w handle u) (unwound tagged v class handle z (f ∷ fs)) (unwound tagged w class handle u (g ∷ gs))
+        settles-as v w typings (thrown tagged v handle z) (thrown tagged w handle u) (unwound tagged v class handle z (f ∷ fs))
+        (unwound tagged w class handle u (g ∷ gs))
         here there
         (unwinds-one class handle z u heap statics fs gs under catch (unwinds class handle z u heap statics under) (subst (IsTypedOutcome v typings) here safe))
 
     abbrev raised_by : Linked → ClassTable → Exception → State Cell → Outcome Cell
     raised_by x t e s =
         if has_room s (length (cells_of t (slice_index t.roles (role_of e))))
-        then thrown tagged x (length s.heap + 1) (with_object s (Instance (slice_index t.roles (role_of e))) (new_instance_cells tagged t (slice_index t.roles (role_of e))))
+        then thrown tagged x (length s.heap + 1)
+        (with_object s (Instance (slice_index t.roles (role_of e))) (new_instance_cells tagged t (slice_index t.roles (role_of e))))
         else ends (endings.Plain HeapFull) s
 
-    module _ (exception : Exception) (z u : State Cell) (first : z.frames ≡ f ∷ fs) (second : u.frames ≡ g ∷ gs) (heap : u.heap ≡ z.heap) (statics : u.statics ≡ z.statics) where
+    module _ (exception : Exception) (z u : State Cell) (first : z.frames ≡ f ∷ fs) (second : u.frames ≡ g ∷ gs) (heap : u.heap ≡ z.heap)
+        (statics : u.statics ≡ z.statics) where
       abbrev class_raised : ℕ
       class_raised = slice_index v.classes.roles (role_of exception)
 
@@ -197,7 +208,8 @@ module _ (v w : Linked) (typings : Typings) (laws : AreLaws v) (pair : AreCounte
           let count : length z.heap + 1 ≡ length u.heap + 1 = ap (λ (os : List (Object Cell)). length os + 1) (sym heap) in
           subst (λ n. Settles v w typings (thrown tagged v (length z.heap + 1) made_here) (thrown tagged w n made_there)) count
           (throws-settle (length z.heap + 1) made_here made_there first second
-          (ap (λ (os : List (Object Cell)). os ++ record { kind = Instance class_raised; cells = new_instance_cells tagged v.classes class_raised } ∷ []) heap) statics safe)
+          (ap (λ (os : List (Object Cell)). os ++ record { kind = Instance class_raised; cells = new_instance_cells tagged v.classes class_raised } ∷ [])
+          heap) statics safe)
       raised-by false safe =
           settled-now v w typings (ends (endings.Plain HeapFull) z) (ends (endings.Plain HeapFull) u) (both_end (endings.Plain HeapFull) heap statics)
 

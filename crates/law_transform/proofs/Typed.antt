@@ -71,7 +71,8 @@ stands-at code place i stands at =
     found.1 ∙ ap Some same
 
 -- the method of a number, with its record
-pub method-is : (v : Linked) (m : Method) (n : ℕ) (rec : MethodRec) → IsMethodOf v m → n ≡ m.number → slice_get v.methods n ≡ Some rec → method_with v n rec ≡ m
+pub method-is : (v : Linked) (m : Method) (n : ℕ) (rec : MethodRec) → IsMethodOf v m → n ≡ m.number → slice_get v.methods n ≡ Some rec
+    → method_with v n rec ≡ m
 method-is v m n rec is number e =
     let rec_is : rec ≡ m.rec = same_Some rec m.rec (sym e ∙ (ap (slice_get v.methods) number ∙ is.rec)) in
     let first : method_with v n rec ≡ method_with v m.number rec = ap (λ k. method_with v k rec) number in
@@ -79,7 +80,8 @@ method-is v m n rec is number e =
     let third : method_with v m.number m.rec ≡ m = ap (λ (c : List ℕ). record { number = m.number; rec = m.rec; code = c }) (sym is.code) in
     first ∙ (second ∙ third)
 
-pub its-method : (v w : Linked) (typings : Typings) (n : ℕ) (s : Source) (place : ℕ → ℕ) → IsRewrittenIn v w typings n s place → IsMethodOf v s.method
+pub its-method : (v w : Linked) (typings : Typings) (n : ℕ) (s : Source) (place : ℕ → ℕ) → IsRewrittenIn v w typings n s place
+    → IsMethodOf v s.method
 its-method v w typings n s place r = subst (λ (x : Linked). IsMethodOf x s.method) r.laid.world r.laid.planned.method
 
 -- ---- typed states
@@ -96,11 +98,14 @@ module _ (v : Linked) (typings : Typings) where
         → IsReached s.method (top z).place
     reached-at z first typed r =
         let stands = (frames-typed z first typed).0.stands in
-        subst (λ (m : Method). IsReached m (top z).place) (method-is v s.method (top z).method stands.rec (its-method v w typings (top z).method s place r) (sym r.number) stands.is_method) stands.reached
+        subst (λ (m : Method). IsReached m (top z).place)
+        (method-is v s.method (top z).method stands.rec (its-method v w typings (top z).method s place r) (sym r.number) stands.is_method)
+        stands.reached
 
     -- the state is typed as the groups ask
     pub typed-at :
-        TypedStatesStay v → (z : State Cell) → z.frames ≡ top z ∷ other_frames z.frames → IsTypedState v typings z → IsRewrittenIn v w typings (top z).method s place
+        TypedStatesStay v → (z : State Cell) → z.frames ≡ top z ∷ other_frames z.frames → IsTypedState v typings z
+        → IsRewrittenIn v w typings (top z).method s place
         → IsTypedAt v s z
     typed-at stay z first typed r =
         let frame = (frames-typed z first typed).0 in
@@ -109,7 +114,8 @@ module _ (v : Linked) (typings : Typings) where
           method = sym r.number;
           reached = reached-at z first typed r;
           below = subst (λ (fs : ℕ → Option Types). At fs (top z).place (FrameBelow v.classes (types_of_frame v.classes Top (kinds z) (top z)))) r.frames
-              (subst (λ (ty : Ty). At (typings.frames (top z).method) (top z).place (FrameBelow v.classes (types_of_frame v.classes ty (kinds z) (top z)))) r.unset frame.below);
+              (subst (λ (ty : Ty). At (typings.frames (top z).method) (top z).place (FrameBelow v.classes (types_of_frame v.classes ty (kinds z) (top z))))
+              r.unset frame.below);
           objects_stay = λ e. (stay typings e z typed).0;
           statics_stay = λ e. (stay typings e z typed).1;
         }

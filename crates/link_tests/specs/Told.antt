@@ -1,7 +1,10 @@
 -- What is told of packages that are not linked.
 use Rattle.std.specs.Prelude.{◌≡◌, ℕ}
 use Rattle.jc_resolve.specs.declared.fault.LinkFault.{LinkFault}
-use Rattle.jc_resolve.specs.declared.fault.LinkFault.TheVariants.{TooManyPackages, TooManyClasses, TooManyMethods, NoPackage, NoClass, SuperIsInterface, Cycle, NoRole, NoSuper, NotInterface, Hole, OverrideType, InterfaceType, InstanceLong, TooManyStatics, NoMember, BadCatch, NoRoom, RoleAbstract}
+use Rattle.jc_resolve.specs.declared.fault.LinkFault.TheVariants.{TooManyPackages, TooManyClasses, TooManyMethods, NoPackage, NoClass}
+use Rattle.jc_resolve.specs.declared.fault.LinkFault.TheVariants.{SuperIsInterface, Cycle, NoRole, NoSuper, NotInterface, Hole}
+use Rattle.jc_resolve.specs.declared.fault.LinkFault.TheVariants.{OverrideType, InterfaceType, InstanceLong, TooManyStatics, NoMember}
+use Rattle.jc_resolve.specs.declared.fault.LinkFault.TheVariants.{BadCatch, NoRoom, RoleAbstract}
 use Rattle.jc_resolve.specs.declared.fault.LinkEnd.{LinkEnd}
 use Rattle.jc_resolve.specs.declared.fault.LinkEnd.TheVariants.{Fault, Memory}
 

@@ -1,5 +1,7 @@
 -- Bits by offset are a set of offsets.
-use Rattle.std.proofs.Common.{◌≡◌, ◌≢◌, ℕ, zero, ◌+◌, ◌*◌, ◌/◌, ◌%◌, ◌^◌, ◌<◌, ◌≤◌, Bool, true, false, ◌||◌, eqb, List, length, get_or, set, replicate, refl, sym, ap, subst, ◌∙◌, inl, inr, arith, bit_or, eqb-true, eq-eqb, ne_eqb, w64, ◌-◌, ◌⊎◌, Some, None, div-le_self}
+use Rattle.std.proofs.Common.{◌≡◌, ◌≢◌, ℕ, zero, ◌+◌, ◌*◌, ◌/◌, ◌%◌, ◌^◌, ◌<◌, ◌≤◌, Bool, true, false, ◌||◌}
+use Rattle.std.proofs.Common.{eqb, List, length, get_or, set, replicate, refl, sym, ap, subst, ◌∙◌, inl, inr, arith, bit_or, eqb-true, eq-eqb, ne_eqb}
+use Rattle.std.proofs.Common.{w64, ◌-◌, ◌⊎◌, Some, None, div-le_self}
 use mathlib.Core.Path.{fun_ext}
 use Rattle.std.specs.Int.{bit_at, trailing_zeros}
 use Rattle.std.proofs.lemmas.Bool.{cases_lt, eqb-false}
@@ -12,7 +14,12 @@ use Rattle.offset_set.specs.Bits.{is_set}
 -- ---- no bit
 
 no_word : (n word : ℕ) → get_or {A = ℕ} (replicate n 0) word 0 ≡ zero
-no_word n word = elim (cases_lt word n) [ inl lt ↦ get_or-replicate n word 0 0 lt | inr le ↦ get_or_past (replicate n 0) word 0 (let same = length-replicate {A = ℕ} n 0 in omega (arith, same, le)) ]
+no_word n word =
+    elim (cases_lt word n) [
+      | inl lt ↦ get_or-replicate n word 0 0 lt
+      | inr le ↦ get_or_past (replicate n 0) word 0
+          (let same = length-replicate {A = ℕ} n 0 in omega (arith, same, le))
+    ]
 
 pub no-bits : (n : ℕ) → is_set (replicate n 0) ≡ nowhere
 unfolding is_set
@@ -39,14 +46,22 @@ module _ (words : List ℕ) (one : ℕ) (within : one / 64 < length words) where
   abbrev marked : List ℕ
   marked = set words (one / 64) (bit_or (get_or words (one / 64) 0) (1 * 2 ^ (one % 64) % 2 ^ 64))
 
-  by_word : (offset : ℕ) (b : Bool) → eqb (one / 64) (offset / 64) ≡ b → eqb (bit_at (get_or marked (offset / 64) 0) (offset % 64)) 1 ≡ (eqb one offset || eqb (bit_at (get_or words (offset / 64) 0) (offset % 64)) 1)
+  by_word : (offset : ℕ) (b : Bool) → eqb (one / 64) (offset / 64) ≡ b → eqb (bit_at (get_or marked (offset / 64) 0) (offset % 64)) 1
+      ≡ (eqb one offset || eqb (bit_at (get_or words (offset / 64) 0) (offset % 64)) 1)
   by_word offset true e =
       let same = eqb-true (one / 64) (offset / 64) e in
-      rw (sym same, get_or-set_same words (one / 64) (bit_or (get_or words (one / 64) 0) (1 * 2 ^ (one % 64) % 2 ^ 64)) 0 within, same_offset one offset (eqb (one % 64) (offset % 64)) same refl)
+      rw (
+        sym same,
+        get_or-set_same words (one / 64) (bit_or (get_or words (one / 64) 0) (1 * 2 ^ (one % 64) % 2 ^ 64)) 0 within,
+        same_offset one offset (eqb (one % 64) (offset % 64)) same refl,
+      )
       (same_word (get_or words (one / 64) 0) (one % 64) (offset % 64) (eqb (one % 64) (offset % 64)) (omega arith) refl)
   by_word offset false e =
       let apart = eqb-false (one / 64) (offset / 64) e in
-      rw (get_or-set_other words (one / 64) (offset / 64) (bit_or (get_or words (one / 64) 0) (1 * 2 ^ (one % 64) % 2 ^ 64)) 0 (λ same. apart (sym same)), other_offset one offset apart) refl
+      rw (
+        get_or-set_other words (one / 64) (offset / 64) (bit_or (get_or words (one / 64) 0) (1 * 2 ^ (one % 64) % 2 ^ 64)) 0 (λ same. apart (sym same)),
+        other_offset one offset apart,
+      ) refl
 
   pub one-more : is_set marked ≡ also one (is_set words)
   unfolding is_set
@@ -103,7 +118,9 @@ module _ (words : List ℕ) (offset : ℕ) where
           omega arith
 
       inside : (t : ℕ) → bit_at first (offset % 64 + 1 + t) ≡ 1 → first < 2 ^ 64 → offset % 64 + 1 + t < 64
-      inside t there short = elim (cases_lt (offset % 64 + 1 + t) 64) [ inl lt ↦ lt | inr le ↦ (let none = bit_at_above first 64 (offset % 64 + 1 + t) short le in absurd (omega arith)) ]
+      inside t there short =
+          elim (cases_lt (offset % 64 + 1 + t) 64)
+          [ inl lt ↦ lt | inr le ↦ (let none = bit_at_above first 64 (offset % 64 + 1 + t) short le in absurd (omega arith)) ]
 
       there_set : (t : ℕ) → offset % 64 + 1 + t < 64 → bit_at first (offset % 64 + 1 + t) ≡ 1 → is_set words (offset + 1 + t) ≡ true
       there_set t within there =
@@ -127,7 +144,8 @@ module _ (words : List ℕ) (offset : ℕ) where
       rest other lt same =
           let place : other % 64 ≡ offset % 64 + 1 + (other - offset - 1) = omega arith in
           free_at words other (offset / 64) same
-          (ap (bit_at first) place ∙ sym (above_bit first (offset % 64) (other - offset - 1)) ∙ ap (λ n. bit_at n (other - offset - 1)) none ∙ bit_at-zero (other - offset - 1))
+          (ap (bit_at first) place ∙ sym (above_bit first (offset % 64) (other - offset - 1)) ∙ ap (λ n. bit_at n (other - offset - 1)) none
+          ∙ bit_at-zero (other - offset - 1))
 
   pub none-above : (word : ℕ) → word ≡ first → word / 2 ^ (offset % 64) / 2 ≡ 0 → IsFree words offset (64 * (offset / 64 + 1))
   none-above word e none = none_above (ap (λ w. w / 2 ^ (offset % 64) / 2) (sym e) ∙ none)
@@ -145,12 +163,18 @@ module _ (words : List ℕ) (offset : ℕ) where
     pub next : IsNext (is_set words) offset (Some (word * 64 + trailing_zeros w64 bits))
 
   -- the lowest bit of the first word that has one
-  first_in : (word : ℕ) → offset < 64 * word → IsFree words offset (64 * word) → 0 < get_or words word 0 → get_or words word 0 < 2 ^ 64 → FirstIn word (get_or words word 0)
+  first_in : (word : ℕ) → offset < 64 * word → IsFree words offset (64 * word) → 0 < get_or words word 0 → get_or words word 0 < 2 ^ 64
+      → FirstIn word (get_or words word 0)
   first_in word farther before some short =
       let lowest = bit_at-trailing_zeros w64 (get_or words word 0) some short in
       record {
         within = lowest.0;
-        next = (omega (arith, lowest.0), there (trailing_zeros w64 (get_or words word 0)) lowest.0 lowest.1, λ other lt below. by other lt below lowest.2 (cases_lt other (64 * word)));
+        next = (
+          omega (arith, lowest.0),
+          there (trailing_zeros w64 (get_or words word 0)) lowest.0 lowest.1,
+          λ other lt below. by other lt below lowest.2
+              (cases_lt other (64 * word)),
+        );
       }
     where
       there : (t : ℕ) → t < 64 → bit_at (get_or words word 0) t ≡ 1 → is_set words (word * 64 + t) ≡ true
@@ -158,14 +182,17 @@ module _ (words : List ℕ) (offset : ℕ) where
           let place : (word * 64 + t) % 64 ≡ t = omega arith in
           set_at words (word * 64 + t) word (omega arith) (ap (bit_at (get_or words word 0)) place ∙ bit)
 
-      by : (other : ℕ) → offset < other → other < word * 64 + trailing_zeros w64 (get_or words word 0) → ((i : ℕ) → i < trailing_zeros w64 (get_or words word 0) → bit_at (get_or words word 0) i ≡ 0) → (other < 64 * word) ⊎ (64 * word ≤ other) → is_set words other ≡ false
+      by : (other : ℕ) → offset < other → other < word * 64 + trailing_zeros w64 (get_or words word 0)
+          → ((i : ℕ) → i < trailing_zeros w64 (get_or words word 0) → bit_at (get_or words word 0) i ≡ 0) → (other < 64 * word)
+          ⊎ (64 * word ≤ other) → is_set words other ≡ false
       by other lt below none (inl less) = before.free other lt less
       by other lt below none (inr le) =
           let few = trailing_le 64 (get_or words word 0) in
           let place : other % 64 ≡ other - word * 64 = omega arith in
           free_at words other word (omega arith) (ap (bit_at (get_or words word 0)) place ∙ none (other - word * 64) (omega arith))
 
-  pub first-in : (word bits : ℕ) → bits ≡ get_or words word 0 → offset < 64 * word → IsFree words offset (64 * word) → (bits ≡ 0 → ⊥) → bits < 2 ^ 64 → FirstIn word bits
+  pub first-in : (word bits : ℕ) → bits ≡ get_or words word 0 → offset < 64 * word → IsFree words offset (64 * word) → (bits ≡ 0 → ⊥)
+      → bits < 2 ^ 64 → FirstIn word bits
   first-in word bits e farther before =
       subst (λ b. (b ≡ 0 → ⊥) → b < 2 ^ 64 → FirstIn word b) (sym e) (λ some short. first_in word farther before (omega (arith, some)) short)
 
@@ -175,4 +202,6 @@ module _ (words : List ℕ) (offset : ℕ) where
     where
       by : (other : ℕ) → offset < other → (other < 65536) ⊎ (65536 ≤ other) → is_set words other ≡ false
       by other lt (inl less) = before.free other lt (omega arith)
-      by other lt (inr le) = free_at words other (other / 64) refl (ap (λ n. bit_at n (other % 64)) (get_or_past words (other / 64) 0 (omega arith)) ∙ bit_at-zero (other % 64))
+      by other lt (inr le) =
+          free_at words other (other / 64) refl (ap (λ n. bit_at n (other % 64)) (get_or_past words (other / 64) 0 (omega arith))
+          ∙ bit_at-zero (other % 64))

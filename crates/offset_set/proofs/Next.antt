@@ -1,5 +1,6 @@
 -- The next offset of a set is one alone, and that of the offsets of a list is the least of those above.
-use Rattle.std.proofs.Common.{◌≡◌, ℕ, ◌<◌, ◌≤◌, Bool, true, false, ltb, eqb, min, cond, List, [], ◌∷◌, Option, Some, None, refl, sym, ap, subst, ◌∙◌, arith, inl, inr, ltb-true, ltb-false, eq-eqb, ne_eqb, true≢false, ◌⊎◌}
+use Rattle.std.proofs.Common.{◌≡◌, ℕ, ◌<◌, ◌≤◌, Bool, true, false, ltb, eqb, min, cond, List, [], ◌∷◌, Option, Some, None, refl, sym}
+use Rattle.std.proofs.Common.{ap, subst, ◌∙◌, arith, inl, inr, ltb-true, ltb-false, eq-eqb, ne_eqb, true≢false, ◌⊎◌}
 use Rattle.std.specs.Prelude.{MatchBool}
 use Rattle.std.proofs.lemmas.Bool.{cases_lt, or_from, or_left, or_right}
 use Rattle.offset_set.specs.Sets.{IsNext, is_among, is_repeated, lesser_of, least_above, nearest}
@@ -23,26 +24,42 @@ one-next set offset (Some m) (Some n) h k = ap Some (by_order (cases_lt m n) (ca
 itself : (n : ℕ) → eqb n n ≡ true
 itself n = eq-eqb n n refl
 
-step : (offset n : ℕ) (ns : List ℕ) (b : Bool) (o : Option ℕ) → ltb offset n ≡ b → IsNext (is_among ns) offset o → IsNext (is_among (n ∷ ns)) offset (cond b (Some (lesser_of n o)) o)
-step offset n ns true None e h = (ltb-true offset n e, or_left (eqb n n) (is_among ns n) (itself n), λ other lt below. or_from (eqb n other) (is_among ns other) (ne_eqb n other (λ same. absurd (omega arith))) (h other lt))
+step : (offset n : ℕ) (ns : List ℕ) (b : Bool) (o : Option ℕ) → ltb offset n ≡ b → IsNext (is_among ns) offset o
+    → IsNext (is_among (n ∷ ns)) offset (cond b (Some (lesser_of n o)) o)
+step offset n ns true None e h = (
+  ltb-true offset n e,
+  or_left (eqb n n) (is_among ns n) (itself n),
+  λ other lt below. or_from (eqb n other) (is_among ns other)
+      (ne_eqb n other (λ same. absurd (omega arith))) (h other lt),
+)
 step offset n ns true (Some m) e h =
     let lt = ltb-true offset n e in
-    let above = h.0 in
-    (omega arith, least (cases_lt m n), λ other lt below. or_from (eqb n other) (is_among ns other) (ne_eqb n other (λ same. absurd (omega arith))) (h.2 other lt (omega arith)))
+    let above = h.0 in (
+      omega arith,
+      least (cases_lt m n),
+      λ other lt below. or_from (eqb n other) (is_among ns other) (ne_eqb n other (λ same. absurd (omega arith)))
+          (h.2 other lt (omega arith)),
+    )
   where
     least : (m < n) ⊎ (n ≤ m) → is_among (n ∷ ns) (min n m) ≡ true
     least (inl lt) = let same : min n m ≡ m = omega arith in rw same (or_right (eqb n m) (is_among ns m) h.1)
     least (inr le) = let same : min n m ≡ n = omega arith in rw same (or_left (eqb n n) (is_among ns n) (itself n))
-step offset n ns false None e h = let le = ltb-false offset n e in λ other lt. or_from (eqb n other) (is_among ns other) (ne_eqb n other (λ same. absurd (omega arith))) (h other lt)
+step offset n ns false None e h =
+    let le = ltb-false offset n e in λ other lt. or_from (eqb n other) (is_among ns other) (ne_eqb n other (λ same. absurd (omega arith))) (h other lt)
 step offset n ns false (Some m) e h =
-    let le = ltb-false offset n e in
-    (h.0, or_right (eqb n m) (is_among ns m) h.1, λ other lt below. or_from (eqb n other) (is_among ns other) (ne_eqb n other (λ same. absurd (omega arith))) (h.2 other lt below))
+    let le = ltb-false offset n e in (
+      h.0,
+      or_right (eqb n m) (is_among ns m) h.1,
+      λ other lt below. or_from (eqb n other) (is_among ns other)
+          (ne_eqb n other (λ same. absurd (omega arith))) (h.2 other lt below),
+    )
 
 pub next-above : (offset : ℕ) (ns : List ℕ) → IsNext (is_among ns) offset (least_above offset ns)
 next-above offset [] = λ other lt. refl
 next-above offset (n ∷ ns) = step offset n ns (ltb offset n) (least_above offset ns) refl (next-above offset ns)
 
-nearest_by : (ns : List ℕ) (offset : ℕ) (near : Option ℕ) (b : Bool) → MatchBool b (near ≡ Some offset) (IsNext (is_among ns) offset near) → near ≡ cond b (Some offset) (least_above offset ns)
+nearest_by : (ns : List ℕ) (offset : ℕ) (near : Option ℕ) (b : Bool) → MatchBool b (near ≡ Some offset) (IsNext (is_among ns) offset near)
+    → near ≡ cond b (Some offset) (least_above offset ns)
 nearest_by ns offset near true h = h
 nearest_by ns offset near false h = one-next (is_among ns) offset near (least_above offset ns) h (next-above offset ns)
 

@@ -43,7 +43,8 @@ repeated_next false false false i s = refl
 
 counted-after : (ns : List ℕ) (t : Tallied) → with_all t ns ≡ after t ns
 unfolding with_one
-counted-after [] t = same_tally t (after t []) (fun_ext (λ offset. or_false (t.met offset))) (fun_ext (λ offset. none_after (t.repeated offset) (t.met offset)))
+counted-after [] t =
+    same_tally t (after t []) (fun_ext (λ offset. or_false (t.met offset))) (fun_ext (λ offset. none_after (t.repeated offset) (t.met offset)))
 counted-after (n ∷ ns) t =
     counted-after ns (with_one t n)
     ∙ same_tally (after (with_one t n) ns) (after t (n ∷ ns))

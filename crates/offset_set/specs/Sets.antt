@@ -1,5 +1,6 @@
 -- Sets of offsets into a component, as tests of an offset.
-use Rattle.std.specs.Prelude.{◌≡◌, ℕ, ◌<◌, Bool, true, false, List, [], ◌∷◌, Option, Some, None, min, nat_lt, ◌==◌, ◌||◌, ◌&&◌, if◌then◌else◌}
+use Rattle.std.specs.Prelude.{◌≡◌, ℕ, ◌<◌, Bool, true, false, List, [], ◌∷◌, Option, Some, None, min, nat_lt, ◌==◌}
+use Rattle.std.specs.Prelude.{◌||◌, ◌&&◌, if◌then◌else◌}
 
 -- no offset
 abbrev pub nowhere : ℕ → Bool
@@ -16,7 +17,8 @@ either these those offset = these offset || those offset
 -- the least offset of a set above an offset, or that none is above it
 abbrev pub IsNext : (ℕ → Bool) → ℕ → Option ℕ → Type 0
 IsNext set offset None = (other : ℕ) → offset < other → set other ≡ false
-IsNext set offset (Some next) = (offset < next) × (set next ≡ true) × ((other : ℕ) → offset < other → other < next → set other ≡ false)
+IsNext set offset (Some next) =
+    (offset < next) × (set next ≡ true) × ((other : ℕ) → offset < other → other < next → set other ≡ false)
 
 -- ---- the offsets of a list
 

@@ -15,7 +15,8 @@ use Rattle.jc_rules.specs.Rule.{cells_wanted, receiver_wanted, call_demands, arg
 use Rattle.vm_step.specs.Methods.{of_method}
 use Rattle.vm_step.specs.Calls.{args_of}
 
-wanted-args : (tys : List Ty) (ds : List Demand) (n d : ℕ) → n ≤ d → cells_asked (cells_wanted n tys ++ ds) ≤ d → (n + length tys ≤ d) × (cells_asked ds ≤ d)
+wanted-args : (tys : List Ty) (ds : List Demand) (n d : ℕ) → n ≤ d → cells_asked (cells_wanted n tys ++ ds) ≤ d → (n + length tys ≤ d)
+    × (cells_asked ds ≤ d)
 wanted-args [] ds n d le h = (omega (arith, le), h)
 wanted-args (ty ∷ tys) ds n d le h =
     let rest = wanted-args tys ds (n + 1) d (omega (arith, h)) (omega (arith, h)) in
@@ -25,7 +26,8 @@ wanted-receiver : (n d : ℕ) (receiver : Option Want) → n ≤ d → cells_ask
 wanted-receiver n d None le h = omega (arith, le)
 wanted-receiver n d (Some want) le h = omega (arith, h)
 
-wanted-call : (args : List Ty) (receiver : Option Want) (d : ℕ) → cells_asked (call_demands args receiver) ≤ d → length args + receiver_count receiver ≤ d
+wanted-call : (args : List Ty) (receiver : Option Want) (d : ℕ) → cells_asked (call_demands args receiver) ≤ d
+    → length args + receiver_count receiver ≤ d
 wanted-call args receiver d h =
     let both = wanted-args (reverse args) (receiver_wanted (length args) receiver) 0 d (omega arith) h in
     wanted-receiver (length args) d receiver (omega (arith, both.0, length-reverse args)) both.1

@@ -1,5 +1,6 @@
 -- Searches along the chain of superclasses, one class after the other.
-use Rattle.std.proofs.Common.{◌≡◌, ℕ, ◌-◌, ◌<◌, ◌≤◌, ◌==◌, Bool, true, false, List, [], ◌∷◌, ◌++◌, Option, Some, None, refl, sym, ap, ◌∙◌}
+use Rattle.std.proofs.Common.{◌≡◌, ℕ, ◌-◌, ◌<◌, ◌≤◌, ◌==◌, Bool, true, false, List, [], ◌∷◌, ◌++◌, Option, Some, None, refl}
+use Rattle.std.proofs.Common.{sym, ap, ◌∙◌}
 use Rattle.std.specs.Prelude.{find, flat_map, slice_get}
 use Rattle.std.proofs.lemmas.List.{append-nil}
 use Rattle.std.proofs.lemmas.List.Concat.{flat_map-cons}
@@ -19,7 +20,8 @@ module _ {A : Type 0} (p : A → Bool) where
   pub find-no : (x : A) (xs : List A) → p x ≡ false → find p (x ∷ xs) ≡ find p xs
   find-no x xs h = rw h refl
 
-  find-first : (b : Bool) (x y : A) (xs ys : List A) → p x ≡ b → (find p xs ≡ Some y → find p (xs ++ ys) ≡ Some y) → find p (x ∷ xs) ≡ Some y → find p (x ∷ (xs ++ ys)) ≡ Some y
+  find-first : (b : Bool) (x y : A) (xs ys : List A) → p x ≡ b → (find p xs ≡ Some y → find p (xs ++ ys) ≡ Some y)
+      → find p (x ∷ xs) ≡ Some y → find p (x ∷ (xs ++ ys)) ≡ Some y
   find-first true x y xs ys e rest h = find-yes x (xs ++ ys) e ∙ (sym (find-yes x xs e) ∙ h)
   find-first false x y xs ys e rest h = find-no x (xs ++ ys) e ∙ rest (sym (find-no x xs e) ∙ h)
 
@@ -27,7 +29,8 @@ module _ {A : Type 0} (p : A → Bool) where
   find-in-first [] ys y h = absurd cc
   find-in-first (x ∷ xs) ys y h = find-first (p x) x y xs ys refl (find-in-first xs ys y) h
 
-  find-second : (b : Bool) (x : A) (xs ys : List A) → p x ≡ b → (find p xs ≡ None → find p (xs ++ ys) ≡ find p ys) → find p (x ∷ xs) ≡ None → find p (x ∷ (xs ++ ys)) ≡ find p ys
+  find-second : (b : Bool) (x : A) (xs ys : List A) → p x ≡ b → (find p xs ≡ None → find p (xs ++ ys) ≡ find p ys)
+      → find p (x ∷ xs) ≡ None → find p (x ∷ (xs ++ ys)) ≡ find p ys
   find-second true x xs ys e rest h = let found : Some x ≡ None = sym (find-yes x xs e) ∙ h in absurd cc
   find-second false x xs ys e rest h = find-no x (xs ++ ys) e ∙ rest (sym (find-no x xs e) ∙ h)
 
@@ -70,7 +73,8 @@ module _ (t : ClassTable) where
       ∙ (ap (find (Is interface)) (flat_map-cons (interfaces_of t) c front.0)
       ∙ find-in-first (Is interface) (interfaces_of t c) (flat_map (interfaces_of t) front.0) e h)
 
-  pub serving-next : (interface c p : ℕ) → IsNextOnChain t c p → find (Is interface) (interfaces_of t c) ≡ None → serving t interface c ≡ serving t interface p
+  pub serving-next : (interface c p : ℕ) → IsNextOnChain t c p → find (Is interface) (interfaces_of t c) ≡ None
+      → serving t interface c ≡ serving t interface p
   unfolding serving
   serving-next interface c p next h =
       ap (find (Is interface)) (entries-next c p next)
@@ -85,7 +89,8 @@ module _ (t : ClassTable) where
 
   -- ---- dispatch lists
 
-  pub visible-found : (home c a : ℕ) (r : ClassRec) → nearest_of t home c ≡ Some a → slice_get t.records a ≡ Some r → visible_in t home c ≡ r.visible
+  pub visible-found : (home c a : ℕ) (r : ClassRec) → nearest_of t home c ≡ Some a → slice_get t.records a ≡ Some r
+      → visible_in t home c ≡ r.visible
   unfolding visible_in
   visible-found home c a r nearest at = ap (list_of (visible_of t)) nearest ∙ visible_read t a r at
 

@@ -1,5 +1,6 @@
 -- The first case of a switch with a key, found by going over the cases; there are fewer than bytes.
-use Rattle.std.proofs.Common.{◌≡◌, ℕ, suc, ◌+◌, ◌<◌, ◌≤◌, Bool, true, false, List, [], ◌∷◌, length, drop, refl, sym, ap, ◌∙◌, arith}
+use Rattle.std.proofs.Common.{◌≡◌, ℕ, suc, ◌+◌, ◌<◌, ◌≤◌, Bool, true, false, List, [], ◌∷◌, length, drop, refl, sym, ap, ◌∙◌}
+use Rattle.std.proofs.Common.{arith}
 use Rattle.std.specs.Prelude.{ℤ, Option, Some, None, Result, Ok, Err, find, map, option_map, slice_get}
 use Rattle.std.proofs.lemmas.Option.{slice_get-map}
 use Rattle.std.proofs.lemmas.Bool.{or_right}
@@ -32,7 +33,8 @@ some-table NoCases code at n i c h = absurd cc
 some-table Range code at n i c h = refl
 some-table (Pairs key) code at n i c h = refl
 
-has-table : (r : Result Layout CodeEnd) (code : List ℕ) (at n : ℕ) (i : Insn) (c : Case) → slice_get (cases_by r code at i) n ≡ Some c → has_cases r ≡ true
+has-table : (r : Result Layout CodeEnd) (code : List ℕ) (at n : ℕ) (i : Insn) (c : Case) → slice_get (cases_by r code at i) n ≡ Some c
+    → has_cases r ≡ true
 has-table (Ok l) code at n i c h = some-table l.cases code (at + 1 + total_width l) n i c h
 has-table (Err e) code at n i c h = absurd cc
 
@@ -55,5 +57,6 @@ few-cases code at i short few_targets n past = none (slice_get (cases code at i)
     none : (o : Option Case) → slice_get (cases code at i) n ≡ o → o ≡ None
     none None h = refl
     none (Some c) h =
-        let few : suc n < 65536 = target-number code (record { place = at; insn = i }) (suc n) (target at c.offset) short few_targets (case-target code at i n c h) in
+        let few : suc n < 65536 = target-number code (record { place = at; insn = i }) (suc n) (target at c.offset) short few_targets
+        (case-target code at i n c h) in
         absurd (omega (arith, few, past))

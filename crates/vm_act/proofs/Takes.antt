@@ -1,6 +1,7 @@
 -- A method that a call may run has registers for the arguments and the receiver.
 use Rattle.std.proofs.Common.{◌≡◌, ℕ, ◌+◌, ◌≤◌, Bool, true, false, List, [], ◌∷◌, length, refl, sym, ap, ◌∙◌, subst, arith}
-use Rattle.std.specs.Prelude.{Option, Some, None, All, IfSome, IsSomeAnd, MatchBool, if◌then◌else◌, find, slice_get, option_and_then, option_map, unwrap_or}
+use Rattle.std.specs.Prelude.{Option, Some, None, All, IfSome, IsSomeAnd, MatchBool, if◌then◌else◌, find, slice_get, option_and_then, option_map}
+use Rattle.std.specs.Prelude.{unwrap_or}
 use Rattle.std.proofs.lemmas.Bool.{eqb-true}
 use Rattle.std.proofs.lemmas.List.Elements.{All-head, All-tail, All-nil}
 use Rattle.std.proofs.lemmas.Option.{slice_get_within}
@@ -29,7 +30,8 @@ use Rattle.vm_act.specs.Lead.{TakesCells}
 use Rattle.vm_act.proofs.Climbing.{Is, serving-here, serving-next, serving-end}
 
 -- a method of this number has so many registers
-known-registers : (w : Linked) → IsWorld w → (n : ℕ) (m : MethodRec) → slice_get w.methods n ≡ Some m → (count : ℕ) → count ≤ length m.sig.args + receiver_words m.is_static → TakesCells w n count
+known-registers : (w : Linked) → IsWorld w → (n : ℕ) (m : MethodRec) → slice_get w.methods n ≡ Some m → (count : ℕ)
+    → count ≤ length m.sig.args + receiver_words m.is_static → TakesCells w n count
 known-registers w is n m e count few =
     let method : IsMethod w.infos w.pools w.classes m = All-slice_get (IsMethod w.infos w.pools w.classes) w.methods n m is.methods e in
     let counted : register_count w.methods n ≡ m.nargs + m.max_locals = ap register_count_of e in
@@ -43,21 +45,27 @@ static-takes w is c sound e =
     let rec = sound.rec in
     known-registers w is c.method rec sound.is_method (args_of w c.method) (omega (arith, args-known w c.method rec sound.is_method))
 
-dynamic-takes : (w : Linked) → IsWorld w → (n : ℕ) (m : MethodRec) → slice_get w.methods n ≡ Some m → m.is_static ≡ false → TakesCells w n (length m.sig.args + 1)
+dynamic-takes : (w : Linked) → IsWorld w → (n : ℕ) (m : MethodRec) → slice_get w.methods n ≡ Some m → m.is_static ≡ false
+    → TakesCells w n (length m.sig.args + 1)
 dynamic-takes w is n m e dynamic = known-registers w is n m e (length m.sig.args + 1) (omega (arith, ap receiver_words dynamic))
 
-pub special-takes : (w : Linked) → IsWorld w → (c : Callee) → IsCalleeOf w c → c.choice ≡ choices.Special → TakesCells w c.method (args_of w c.method + 1)
+pub special-takes : (w : Linked) → IsWorld w → (c : Callee) → IsCalleeOf w c → c.choice ≡ choices.Special
+    → TakesCells w c.method (args_of w c.method + 1)
 special-takes w is c sound e =
     let rec = sound.rec in
     let chosen : IsSpecialCall w rec c.receiver = subst (IsChosen w c.method rec c.receiver) e sound.chosen in
-    subst (λ n. TakesCells w c.method (n + 1)) (sym (args-known w c.method rec sound.is_method)) (dynamic-takes w is c.method rec sound.is_method chosen.dynamic)
+    subst (λ n. TakesCells w c.method (n + 1)) (sym (args-known w c.method rec sound.is_method))
+    (dynamic-takes w is c.method rec sound.is_method chosen.dynamic)
 
 -- a method of the same signature that takes a receiver
-alike-takes : (w : Linked) → IsWorld w → (n q : ℕ) (rec : MethodRec) → slice_get w.methods q ≡ Some rec → signature_of w.methods n ≡ signature_of w.methods q
-    → (o : Option MethodRec) → slice_get w.methods n ≡ o → IsSomeAnd o (λ (m : MethodRec). m.is_static ≡ false) → TakesCells w n (length rec.sig.args + 1)
+alike-takes : (w : Linked) → IsWorld w → (n q : ℕ) (rec : MethodRec) → slice_get w.methods q ≡ Some rec
+    → signature_of w.methods n ≡ signature_of w.methods q
+    → (o : Option MethodRec) → slice_get w.methods n ≡ o → IsSomeAnd o (λ (m : MethodRec). m.is_static ≡ false)
+    → TakesCells w n (length rec.sig.args + 1)
 alike-takes w is n q rec at same None e h = absurd h
 alike-takes w is n q rec at same (Some m) e dynamic =
-    let sigs : Some m.sig ≡ Some rec.sig = ap (option_map (λ (x : MethodRec). x.sig)) (sym e) ∙ (same ∙ ap (option_map (λ (x : MethodRec). x.sig)) at) in
+    let sigs : Some m.sig ≡ Some rec.sig = ap (option_map (λ (x : MethodRec). x.sig)) (sym e)
+    ∙ (same ∙ ap (option_map (λ (x : MethodRec). x.sig)) at) in
     let sig : m.sig ≡ rec.sig = cc in
     subst (λ (g : Sig). TakesCells w n (length g.args + 1)) sig (dynamic-takes w is n m e dynamic)
 
@@ -66,7 +74,8 @@ some-dynamic t r None h = h
 some-dynamic t r (Some m) h = h.dynamic
 
 pub virtual-takes :
-    (w : Linked) → IsWorld w → AreDispatched w.classes w.methods → (c : Callee) → IsCalleeOf w c → (class token of : ℕ) → c.choice ≡ choices.Virtual class token
+    (w : Linked) → IsWorld w → AreDispatched w.classes w.methods → (c : Callee) → IsCalleeOf w c → (class token of : ℕ)
+    → c.choice ≡ choices.Virtual class token
     → Below w.classes (Class of) (Class class) → TakesCells w (unwrap_or (dispatched w.classes class token of) c.method) (args_of w c.method + 1)
 virtual-takes w is runs c sound class token of e below =
     let rec = sound.rec in
@@ -102,33 +111,40 @@ module _ (w : Linked) (is : IsWorld w) where
     pub interface_is : e.class ≡ interface
 
   own-implemented : (c : ℕ) (o : Option ClassRec) → slice_get w.classes.records c ≡ o → is_interface w.classes c ≡ false
-      → IfSome o (IsLinkedClass (length w.infos) w.classes w.methods c) → All (IsImplemented w.classes w.methods (public_of w.classes c)) (of_record [] (λ r. r.implements) o)
+      → IfSome o (IsLinkedClass (length w.infos) w.classes w.methods c) → All (IsImplemented w.classes w.methods (public_of w.classes c))
+      (of_record [] (λ r. r.implements) o)
   unfolding is_interface public_of
   own-implemented c None e plain linked = All-nil (IsImplemented w.classes w.methods (public_of w.classes c))
   own-implemented c (Some r) e plain linked =
       let class : r.interface ≡ false = sym (ap is_interface_record e) ∙ plain in
       let public : r.public ≡ of_record [] (λ x. x.public) (slice_get w.classes.records c) = ap (of_record [] (λ x. x.public)) (sym e) in
       let all : All (IsImplemented w.classes w.methods r.public) r.implements =
-      subst (λ b. MatchBool b (All (IsExtended w.classes) r.implements) (All (IsImplemented w.classes w.methods r.public) r.implements)) class linked.implements in
+      subst (λ b. MatchBool b (All (IsExtended w.classes) r.implements) (All (IsImplemented w.classes w.methods r.public) r.implements)) class
+      linked.implements in
       subst (λ list. All (IsImplemented w.classes w.methods list) r.implements) public all
 
   implemented-by : (c : ℕ) → IsClass w.classes c → All (IsImplemented w.classes w.methods (public_of w.classes c)) (interfaces_of w.classes c)
   implemented-by c class = own-implemented c (slice_get w.classes.records c) refl class.class (is.classes c)
 
-  here-found : (interface c : ℕ) → IsClass w.classes c → (e : Iface) → find (Is interface) (interfaces_of w.classes c) ≡ Some e → Implements c interface e
+  here-found : (interface c : ℕ) → IsClass w.classes c → (e : Iface) → find (Is interface) (interfaces_of w.classes c) ≡ Some e
+      → Implements c interface e
   here-found interface c class e h =
-      let found = all-found (Is interface) (IsImplemented w.classes w.methods (public_of w.classes c)) (interfaces_of w.classes c) e (implemented-by c class) h in
+      let found = all-found (Is interface) (IsImplemented w.classes w.methods (public_of w.classes c)) (interfaces_of w.classes c) e
+      (implemented-by c class) h in
       record { above = c; on = on_chain-here w.classes c; implemented = found.is; interface_is = eqb-true e.class interface found.passes }
 
   farther : (interface c p : ℕ) → IsNextOnChain w.classes c p → (e : Iface) → Implements p interface e → Implements c interface e
-  farther interface c p next e i = record { above = i.above; on = on_above w.classes i.above c p next i.on; implemented = i.implemented; interface_is = i.interface_is }
+  farther interface c p next e i =
+      record { above = i.above; on = on_above w.classes i.above c p next i.on; implemented = i.implemented; interface_is = i.interface_is }
 
   serving-found : (interface c : ℕ) → IsClass w.classes c → (e : Iface) → serving w.classes interface c ≡ Some e → Implements c interface e
-  serving-found interface = climb w.classes is.chains (λ c. IsClass w.classes c → (e : Iface) → serving w.classes interface c ≡ Some e → Implements c interface e)
+  serving-found interface =
+      climb w.classes is.chains (λ c. IsClass w.classes c → (e : Iface) → serving w.classes interface c ≡ Some e → Implements c interface e)
       (λ c top alone class e h. ends c alone class e h (find (Is interface) (interfaces_of w.classes c)) refl)
       (λ c p link next before class e h. goes-on c p next (before next.class) class e h (find (Is interface) (interfaces_of w.classes c)) refl)
     where
-      here : (c : ℕ) → IsClass w.classes c → (e x : Iface) → serving w.classes interface c ≡ Some e → find (Is interface) (interfaces_of w.classes c) ≡ Some x → Implements c interface e
+      here : (c : ℕ) → IsClass w.classes c → (e x : Iface) → serving w.classes interface c ≡ Some e
+          → find (Is interface) (interfaces_of w.classes c) ≡ Some x → Implements c interface e
       here c class e x h found =
           let both : Some x ≡ Some e = sym (serving-here w.classes interface c x found) ∙ h in
           let one : x ≡ e = cc in
@@ -155,37 +171,46 @@ module _ (w : Linked) (is : IsWorld w) where
   below-on c d on = (below_decided w.classes is.chains (Class c) (Class d)).0 on
 
   -- the method at the public token that serves, by cases on what is found
-  public-takes : (c : Callee) (rec : MethodRec) → slice_get w.methods c.method ≡ Some rec → (of above public : ℕ) → is_on_chain w.classes above of ≡ true
+  public-takes : (c : Callee) (rec : MethodRec) → slice_get w.methods c.method ≡ Some rec → (of above public : ℕ)
+      → is_on_chain w.classes above of ≡ true
       → (o : Option ℕ) → slice_get (public_of w.classes above) public ≡ o → option_and_then (signature_of w.methods) o ≡ Some rec.sig
       → IfSome (slice_get (public_of w.classes of) public) (λ n. TakesCells w n (length rec.sig.args + 1))
   public-takes c rec at of above public on None e h = absurd (cc)
   public-takes c rec at of above public on (Some n) e h =
-      let run : RunsPublic w.classes w.methods of public n = public-methods_run (length w.infos) w.classes w.methods is.chains is.classes of above public n (below-on of above on) e in
-      let same : signature_of w.methods run.method ≡ signature_of w.methods c.method = run.signature ∙ (h ∙ sym (ap (option_map (λ (x : MethodRec). x.sig)) at)) in
+      let run : RunsPublic w.classes w.methods of public n = public-methods_run (length w.infos) w.classes w.methods is.chains is.classes of above public n
+      (below-on of above on) e in
+      let same : signature_of w.methods run.method ≡ signature_of w.methods c.method = run.signature
+      ∙ (h ∙ sym (ap (option_map (λ (x : MethodRec). x.sig)) at)) in
       let takes = alike-takes w is run.method c.method rec at same (slice_get w.methods run.method) refl
       (some-dynamic w.classes of (slice_get w.methods run.method) run.inherited) in
       subst (λ o. IfSome o (λ k. TakesCells w k (length rec.sig.args + 1))) (sym run.found) takes
 
-  token-takes : (c : Callee) (rec : MethodRec) → slice_get w.methods c.method ≡ Some rec → (interface token of : ℕ) → rec.class ≡ interface → rec.token ≡ token
+  token-takes : (c : Callee) (rec : MethodRec) → slice_get w.methods c.method ≡ Some rec → (interface token of : ℕ) → rec.class ≡ interface
+      → rec.token ≡ token
       → (e : Iface) → Implements of interface e → (o : Option ℕ) → slice_get e.tokens token ≡ o
       → IfSome (option_and_then (λ public. slice_get (public_of w.classes of) public) o) (λ n. TakesCells w n (length rec.sig.args + 1))
   token-takes c rec at interface token of class_is token_is e i None h = tt
   token-takes c rec at interface token of class_is token_is e i (Some public) h =
-      let Serves : MethodRec → Type 0 = λ m. m.class ≡ e.class → option_and_then (signature_at w.methods (public_of w.classes i.above)) (slice_get e.tokens m.token) ≡ Some m.sig in
+      let Serves : MethodRec → Type 0 = λ m. m.class ≡ e.class → option_and_then (signature_at w.methods (public_of w.classes i.above))
+      (slice_get e.tokens m.token) ≡ Some m.sig in
       let serves : Serves rec = All-slice_get Serves w.methods c.method rec i.implemented.serves at in
-      let told : option_and_then (signature_at w.methods (public_of w.classes i.above)) (slice_get e.tokens rec.token) ≡ Some rec.sig = serves (class_is ∙ sym i.interface_is) in
+      let told : option_and_then (signature_at w.methods (public_of w.classes i.above)) (slice_get e.tokens rec.token) ≡ Some rec.sig = serves
+      (class_is ∙ sym i.interface_is) in
       let there : option_and_then (signature_at w.methods (public_of w.classes i.above)) (Some public) ≡ Some rec.sig =
       sym (ap (option_and_then (signature_at w.methods (public_of w.classes i.above))) (ap (slice_get e.tokens) token_is ∙ h)) ∙ told in
       public-takes c rec at of i.above public i.on (slice_get (public_of w.classes i.above) public) refl there
 
-  entry-takes : (c : Callee) (rec : MethodRec) → slice_get w.methods c.method ≡ Some rec → (interface token of : ℕ) → IsClass w.classes of → rec.class ≡ interface → rec.token ≡ token
+  entry-takes : (c : Callee) (rec : MethodRec) → slice_get w.methods c.method ≡ Some rec → (interface token of : ℕ) → IsClass w.classes of
+      → rec.class ≡ interface → rec.token ≡ token
       → (o : Option Iface) → serving w.classes interface of ≡ o
-      → IfSome (option_and_then (λ (e : Iface). option_and_then (λ public. slice_get (public_of w.classes of) public) (slice_get e.tokens token)) o) (λ n. TakesCells w n (length rec.sig.args + 1))
+      → IfSome (option_and_then (λ (e : Iface). option_and_then (λ public. slice_get (public_of w.classes of) public) (slice_get e.tokens token)) o)
+      (λ n. TakesCells w n (length rec.sig.args + 1))
   entry-takes c rec at interface token of class class_is token_is None h = tt
   entry-takes c rec at interface token of class class_is token_is (Some e) h =
       token-takes c rec at interface token of class_is token_is e (serving-found interface of class e h) (slice_get e.tokens token) refl
 
-  pub interface-takes : (c : Callee) → IsCalleeOf w c → (interface token words of : ℕ) → c.choice ≡ choices.Interface interface token words → IsClass w.classes of
+  pub interface-takes : (c : Callee) → IsCalleeOf w c → (interface token words of : ℕ) → c.choice ≡ choices.Interface interface token words
+      → IsClass w.classes of
       → IfSome (served w.classes interface token of) (λ n. TakesCells w n (args_of w c.method + 1))
   interface-takes c sound interface token words of e class =
       let rec = sound.rec in

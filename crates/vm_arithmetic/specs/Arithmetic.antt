@@ -1,9 +1,12 @@
 -- The arithmetic of shorts and ints (JCVM 2.2, section 2.2.2 and chapter 7): results wrap to 16 or 32 bits. A quotient is rounded towards
 -- zero, and a remainder has the sign of the dividend; the least number divided by -1 is itself, with remainder 0.
-use Rattle.std.specs.Prelude.{ℕ, ◌+◌, ◌*◌, ◌/◌, ◌%◌, ◌^◌, ℤ, pos, negsuc, Bool, not, ◌==◌, if◌then◌else◌, int_lt, int_le, int_rem, Option, Some, None}
-use Rattle.std.specs.Int.{w8, w16, w32, cast_signed, cast_unsigned, int_wrapping_add, int_wrapping_sub, int_wrapping_mul, int_wrapping_div, int_wrapping_neg, int_bit_and, int_bit_or, int_bit_xor, int_shl, int_shr}
+use Rattle.std.specs.Prelude.{ℕ, ◌+◌, ◌*◌, ◌/◌, ◌%◌, ◌^◌, ℤ, pos, negsuc, Bool, not, ◌==◌, if◌then◌else◌}
+use Rattle.std.specs.Prelude.{int_lt, int_le, int_rem, Option, Some, None}
+use Rattle.std.specs.Int.{w8, w16, w32, cast_signed, cast_unsigned, int_wrapping_add, int_wrapping_sub, int_wrapping_mul, int_wrapping_div}
+use Rattle.std.specs.Int.{int_wrapping_neg, int_bit_and, int_bit_or, int_bit_xor, int_shl, int_shr}
 use Rattle.jc_ops.specs.declared.operation.Operator.{Operator}
-use Rattle.jc_ops.specs.declared.operation.Operator.TheVariants.{Add, Subtract, Multiply, Divide, Remainder, ShiftLeft, ShiftRight, ShiftRightUnsigned, And, Or, ExclusiveOr}
+use Rattle.jc_ops.specs.declared.operation.Operator.TheVariants.{Add, Subtract, Multiply, Divide, Remainder, ShiftLeft, ShiftRight}
+use Rattle.jc_ops.specs.declared.operation.Operator.TheVariants.{ShiftRightUnsigned, And, Or, ExclusiveOr}
 use Rattle.jc_ops.specs.declared.operation.Order.{Order}
 use Rattle.jc_ops.specs.declared.operation.Order.TheVariants.{Equal, NotEqual, Less, GreaterOrEqual, Greater, LessOrEqual}
 

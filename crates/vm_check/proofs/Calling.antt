@@ -1,5 +1,6 @@
 -- The demands of a call, as numbers and as tests.
-use Rattle.std.proofs.Common.{◌≡◌, ℕ, zero, suc, ◌+◌, ◌-◌, ◌<◌, ◌≤◌, Bool, true, false, List, [], ◌∷◌, ◌++◌, length, drop, get_or, refl, ap, ◌∙◌, arith}
+use Rattle.std.proofs.Common.{◌≡◌, ℕ, zero, suc, ◌+◌, ◌-◌, ◌<◌, ◌≤◌, Bool, true, false, List, [], ◌∷◌, ◌++◌, length, drop}
+use Rattle.std.proofs.Common.{get_or, refl, ap, ◌∙◌, arith}
 use Rattle.std.specs.Prelude.{max, reverse, Option, Some, None, if◌then◌else◌, ◌&&◌, nat_lt}
 use Rattle.std.specs.List.{list_all}
 use Rattle.std.proofs.lemmas.Bool.{lt-ltb, le-ltb}
@@ -48,7 +49,8 @@ args-under : (n : ℕ) (tys : List Ty) (ds : List Demand) → cells_asked ds ≤
 args-under n [] ds = omega arith
 args-under n (ty ∷ tys) ds = let rest = args-under (n + 1) tys ds in omega (arith, rest)
 
-receiver-cells : (n : ℕ) (o : Option Want) → (cells_asked (receiver_wanted n o) ≤ n + receiver_count o) × (n + receiver_count o ≤ max n (cells_asked (receiver_wanted n o)))
+receiver-cells : (n : ℕ) (o : Option Want) → (cells_asked (receiver_wanted n o) ≤ n + receiver_count o)
+    × (n + receiver_count o ≤ max n (cells_asked (receiver_wanted n o)))
 receiver-cells n None = (omega arith, omega arith)
 receiver-cells n (Some want) = (omega arith, omega arith)
 
@@ -56,7 +58,15 @@ call-cells : (args : List Ty) (o : Option Want) → cells_asked (call_demands ar
 call-cells args o =
     let tail = receiver_wanted (length args) o in
     let turned = length-reverse args in
-    omega (arith, turned, args-most 0 (reverse args) tail, args-least 0 (reverse args) tail, args-under 0 (reverse args) tail, (receiver-cells (length args) o).0, (receiver-cells (length args) o).1)
+    omega (
+      arith,
+      turned,
+      args-most 0 (reverse args) tail,
+      args-least 0 (reverse args) tail,
+      args-under 0 (reverse args) tail,
+      (receiver-cells (length args) o).0,
+      (receiver-cells (length args) o).1,
+    )
 
 module _ {A : Type 0} (k : Cells A) (w : Linked) (args : List Ty) (o : Option Want) (s : State A) where
   three : (a b c : Bool) → Option Fault
@@ -67,24 +77,29 @@ module _ {A : Type 0} (k : Cells A) (w : Linked) (args : List Ty) (o : Option Wa
 
   pub too-few : length (top s).stack < length args + receiver_count o → Some StackFault ≡ unmet k w (call_demands args o) s
   too-few lt =
-      let less : nat_lt (length (top s).stack) (cells_asked (call_demands args o)) ≡ true = lt-ltb (length (top s).stack) (cells_asked (call_demands args o)) (omega (arith, lt, call-cells args o)) in
+      let less : nat_lt (length (top s).stack) (cells_asked (call_demands args o)) ≡ true = lt-ltb (length (top s).stack)
+      (cells_asked (call_demands args o)) (omega (arith, lt, call-cells args o)) in
       rw (no-registers, less) refl
 
   enough : length args + receiver_count o ≤ length (top s).stack → nat_lt (length (top s).stack) (cells_asked (call_demands args o)) ≡ false
   enough le = le-ltb (length (top s).stack) (cells_asked (call_demands args o)) (omega (arith, le, call-cells args o))
 
-  pub all-met : length args + receiver_count o ≤ length (top s).stack → list_all (satisfies w.classes (types_of k w s)) (call_demands args o) ≡ true → None ≡ unmet k w (call_demands args o) s
+  pub all-met : length args + receiver_count o ≤ length (top s).stack → list_all (satisfies w.classes (types_of k w s)) (call_demands args o) ≡ true
+      → None ≡ unmet k w (call_demands args o) s
   all-met le h = rw (no-registers, enough le, h) refl
 
-  pub one-unmet : length args + receiver_count o ≤ length (top s).stack → list_all (satisfies w.classes (types_of k w s)) (call_demands args o) ≡ false → Some TypeFault ≡ unmet k w (call_demands args o) s
+  pub one-unmet : length args + receiver_count o ≤ length (top s).stack → list_all (satisfies w.classes (types_of k w s)) (call_demands args o)
+      ≡ false → Some TypeFault ≡ unmet k w (call_demands args o) s
   one-unmet le h = rw (no-registers, enough le, h) refl
 
 -- ---- as tests
 
 -- the n-th argument from the last one on is wanted first
 pub next-argument : (p : Demand → Bool) (args : List Ty) (n : ℕ) (d : Ty) → n < length args
-    → list_all p (cells_wanted n (drop n (reverse args))) ≡ (p (Cell n (Value (get_or args (length args - 1 - n) d))) && list_all p (cells_wanted (n + 1) (drop (n + 1) (reverse args))))
+    → list_all p (cells_wanted n (drop n (reverse args)))
+    ≡ (p (Cell n (Value (get_or args (length args - 1 - n) d))) && list_all p (cells_wanted (n + 1) (drop (n + 1) (reverse args))))
 next-argument p args n d lt =
-    let first : drop n (reverse args) ≡ get_or (reverse args) n d ∷ drop (n + 1) (reverse args) = drop_more (reverse args) n d (omega (arith, lt, length-reverse args)) in
+    let first : drop n (reverse args) ≡ get_or (reverse args) n d ∷ drop (n + 1) (reverse args) = drop_more (reverse args) n d
+    (omega (arith, lt, length-reverse args)) in
     ap (λ tys. list_all p (cells_wanted n tys)) first
     ∙ ap (λ ty. p (Cell n (Value ty)) && list_all p (cells_wanted (n + 1) (drop (n + 1) (reverse args)))) (get_or-reverse args n d lt)

@@ -68,16 +68,19 @@ module _ (w : Linked) (is : IsWorld w) (s : State TaggedCell) (kept : IsShaped w
   abbrev on : ℕ → TaggedCell
   on n = nth tagged (top s).stack n
 
-  met : (n : ℕ) (want : Want) → Satisfies w.classes frame (Cell n want) → Meets w.classes want (least_type w.classes Bottom (kinds s) (nth tagged (top s).stack n))
+  met : (n : ℕ) (want : Want) → Satisfies w.classes frame (Cell n want)
+      → Meets w.classes want (least_type w.classes Bottom (kinds s) (nth tagged (top s).stack n))
   met n want h = cell-is (λ c. least_type w.classes Bottom (kinds s) c) (top s).stack n tagged.empty (Meets w.classes want) h
 
-  held : (x : ℕ) (ty : Ty) → Satisfies w.classes frame (Held x ty) → Below w.classes (least_type w.classes Bottom (kinds s) (nth tagged (top s).registers x)) ty
+  held : (x : ℕ) (ty : Ty) → Satisfies w.classes frame (Held x ty)
+      → Below w.classes (least_type w.classes Bottom (kinds s) (nth tagged (top s).registers x)) ty
   held x ty h = cell-is (λ c. least_type w.classes Bottom (kinds s) c) (top s).registers x tagged.empty (Meets w.classes (Value ty)) h
 
   -- ---- by kind
 
   -- of an array of references what it may keep can be asked
-  compare-refs : (h v : ℕ) → IsNullOr h (IsObject w.classes s h) → IsNullOr v (IsObject w.classes s v) → v ≡ word_of (on 0) → IsNullOr h (MayCompare tagged w.classes fields.Ref s h)
+  compare-refs : (h v : ℕ) → IsNullOr h (IsObject w.classes s h) → IsNullOr v (IsObject w.classes s v) → v ≡ word_of (on 0)
+      → IsNullOr h (MayCompare tagged w.classes fields.Ref s h)
   compare-refs h v array value e = by (h == 0) array
     where
       here : IsNullOr (word_of (on 0)) (IsObject w.classes s (word_of (on 0)))
@@ -99,13 +102,15 @@ module _ (w : Linked) (is : IsWorld w) (s : State TaggedCell) (kept : IsShaped w
   finds-write i fields.Short h = (array-or-null w is s kept.objects fields.Short (on 2) (met 2 (Value ArrShort) h.1.1.0), null-or (word_of (on 2)) ⊤ (inr tt))
   finds-write i fields.Int h = (array-or-null w is s kept.objects fields.Int (on 3) (met 3 (Value ArrInt) h.1.1.1.0), null-or (word_of (on 3)) ⊤ (inr tt))
 
-  finds-read : (i : Insn) (f : InstanceField) (holder : Holder) → IsFieldOf w f → SatisfiesAll w.classes frame (demands w (ops.FieldRead f holder)) → FindsNamed tagged w i (ops.FieldRead f holder) s
+  finds-read : (i : Insn) (f : InstanceField) (holder : Holder) → IsFieldOf w f → SatisfiesAll w.classes frame (demands w (ops.FieldRead f holder))
+      → FindsNamed tagged w i (ops.FieldRead f holder) s
   finds-read i f holders.Stack field h =
       (field.cells.kind, field-or-null w is s kept.objects f field (on 0) (met 0 (Value (Class f.class)) h.0))
   finds-read i f holders.This field h =
       (field.cells.kind, field-or-null w is s kept.objects f field (nth tagged (top s).registers 0) (held 0 (Class f.class) h.1.0))
 
-  finds-put : (i : Insn) (f : InstanceField) (holder : Holder) → IsFieldOf w f → SatisfiesAll w.classes frame (demands w (ops.FieldWrite f holder)) → FindsNamed tagged w i (ops.FieldWrite f holder) s
+  finds-put : (i : Insn) (f : InstanceField) (holder : Holder) → IsFieldOf w f → SatisfiesAll w.classes frame (demands w (ops.FieldWrite f holder))
+      → FindsNamed tagged w i (ops.FieldWrite f holder) s
   finds-put i f holders.Stack field h =
       let last : Satisfies w.classes frame (Cell (value_size f.ty) (Value (Class f.class))) =
       last-holds w.classes frame (value_wanted f.ty) (Cell (value_size f.ty) (Value (Class f.class))) h in
@@ -133,16 +138,21 @@ module _ (w : Linked) (is : IsWorld w) (s : State TaggedCell) (kept : IsShaped w
       (subst (λ n. Satisfies w.classes frame (Cell n (Value (Class class)))) (count-args (slice_get w.methods c.method)) one.0)
 
   -- what is below object alone
-  drop-below : (h : ℕ) → IsNullOr h (IsSome (object_at s h) × IsClass w.classes (class_of w.classes s h) × Below w.classes (Class (class_of w.classes s h)) (Class (object w.classes)))
+  drop-below : (h : ℕ)
+      → IsNullOr h (IsSome (object_at s h) × IsClass w.classes (class_of w.classes s h)
+      × Below w.classes (Class (class_of w.classes s h)) (Class (object w.classes)))
       → IsNullOr h (IsSome (object_at s h) × IsClass w.classes (class_of w.classes s h))
   drop-below h a = by (h == 0) a
     where
-      by : (b : Bool) → MatchBool b ⊤ (IsSome (object_at s h) × IsClass w.classes (class_of w.classes s h) × Below w.classes (Class (class_of w.classes s h)) (Class (object w.classes)))
+      by : (b : Bool)
+          → MatchBool b ⊤ (IsSome (object_at s h) × IsClass w.classes (class_of w.classes s h)
+          × Below w.classes (Class (class_of w.classes s h)) (Class (object w.classes)))
           → MatchBool b ⊤ (IsSome (object_at s h) × IsClass w.classes (class_of w.classes s h))
       by true x = tt
       by false x = (x.0, x.1)
 
-  has-receiver : (c : Callee) (rec : MethodRec) (choice : Choice) → IsChosen w c.method rec c.receiver choice → SatisfiesAll w.classes frame (demands w (ops.Call c)) → HasReceiver tagged w c choice s
+  has-receiver : (c : Callee) (rec : MethodRec) (choice : Choice) → IsChosen w c.method rec c.receiver choice
+      → SatisfiesAll w.classes frame (demands w (ops.Call c)) → HasReceiver tagged w c choice s
   has-receiver c rec choices.Static chosen h = tt
   has-receiver c rec choices.Special chosen h = tt
   has-receiver c rec (choices.Virtual class token) chosen h =
@@ -151,7 +161,8 @@ module _ (w : Linked) (is : IsWorld w) (s : State TaggedCell) (kept : IsShaped w
       drop-below (word_of (on (args_of w c.method)))
       (receiver-or-null w is s kept.objects (object w.classes) (on (args_of w c.method)) (receiver-met c (object w.classes) chosen.receiver_is h))
 
-  pub finds : (m : MethodRec) (place : ℕ) (i : Insn) (op : Operation) → IsSound w m place op → IsInCode w i s → SatisfiesAll w.classes frame (demands w op) → FindsNamed tagged w i op s
+  pub finds : (m : MethodRec) (place : ℕ) (i : Insn) (op : Operation) → IsSound w m place op → IsInCode w i s
+      → SatisfiesAll w.classes frame (demands w op) → FindsNamed tagged w i op s
   finds m place i (ops.Constant c) sound code h = tt
   finds m place i (ops.Load sort x) sound code h = tt
   finds m place i (ops.Store sort x) sound code h = tt
@@ -170,7 +181,8 @@ module _ (w : Linked) (is : IsWorld w) (s : State TaggedCell) (kept : IsShaped w
   finds m place i (ops.Call c) sound code h = (sound, has-receiver c sound.rec c.choice sound.chosen h)
   finds m place i (ops.New at class) sound code h = sound.1.class
   finds m place i (ops.NewArray ty) sound code h = sound
-  finds m place i ops.Throw sound code h = there-or-null w is s kept.objects (on 0) (Class (throwable w.classes)) refl (met 0 (Value (Class (throwable w.classes))) h.0)
+  finds m place i ops.Throw sound code h =
+      there-or-null w is s kept.objects (on 0) (Class (throwable w.classes)) refl (met 0 (Value (Class (throwable w.classes))) h.0)
   finds m place i (ops.TypeTest test ty) sound code h =
       (object-or-null w is s kept.objects (on 0) (Class (object w.classes)) refl (met 0 (Value (Class (object w.classes))) h.0), sound)
   finds m place i (ops.Return result) sound code h = tt

@@ -1,5 +1,6 @@
 -- What the least type of a cell says of the object that it refers to.
-use Rattle.std.proofs.Common.{◌≡◌, ℕ, zero, suc, ◌==◌, ◌⊎◌, inl, inr, Bool, true, false, List, [], ◌∷◌, length, IsTrue, refl, sym, ◌∙◌, subst}
+use Rattle.std.proofs.Common.{◌≡◌, ℕ, zero, suc, ◌==◌, ◌⊎◌, inl, inr, Bool, true, false, List, [], ◌∷◌, length, IsTrue, refl, sym}
+use Rattle.std.proofs.Common.{◌∙◌, subst}
 use Rattle.std.specs.Prelude.{◌↔◌, Option, Some, None, All, MatchBool, map, slice_get, ⊤}
 use Rattle.std.proofs.lemmas.Bool.{true≢false, eq-eqb}
 use Rattle.jc_base.specs.declared.ty.Ty.{Ty}
@@ -73,7 +74,8 @@ module _ (t : ClassTable) (decided : (a b : Ty) → IsTrue (is_below t a b) ↔ 
   fresh-none ks (suc h) p ty has b = fresh-never (slice_get ks h) p ty has b
 
   -- a cell of a reference type is empty, null or a reference to an object
-  pub cell-object : (ks : List ObjectKind) (c : Cell) (ty : Ty) → is_reference ty ≡ true → Below t (least_type t Bottom ks c) ty → (word_of c ≡ 0) ⊎ HasKind t ks (word_of c) ty
+  pub cell-object : (ks : List ObjectKind) (c : Cell) (ty : Ty) → is_reference ty ≡ true → Below t (least_type t Bottom ks c) ty → (word_of c ≡ 0)
+      ⊎ HasKind t ks (word_of c) ty
   cell-object ks cells.Empty ty r b = inl refl
   cell-object ks (cells.Short n) ty r b = never Short ty b (has-objects t ty r).short
   cell-object ks (cells.High n) ty r b = never IntHigh ty b (has-objects t ty r).high
@@ -94,7 +96,8 @@ kind-in [] n kind e = absurd (cc)
 kind-in (o ∷ os) zero kind e = (o, refl, cc)
 kind-in (o ∷ os) (suc n) kind e = kind-in os n kind e
 
-pub has-object : {A : Type 0} (t : ClassTable) (s : State A) (h : ℕ) (kind : ObjectKind) → All (IsShapedObject t) s.heap → kind_of_handle (kinds s) h ≡ Some kind → HasObject t s h kind
+pub has-object : {A : Type 0} (t : ClassTable) (s : State A) (h : ℕ) (kind : ObjectKind) → All (IsShapedObject t) s.heap
+    → kind_of_handle (kinds s) h ≡ Some kind → HasObject t s h kind
 has-object t s zero kind shaped e = absurd (cc)
 has-object t s (suc h) kind shaped e =
     let found = kind-in s.heap h kind e in

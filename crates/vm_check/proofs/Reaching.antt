@@ -1,5 +1,6 @@
 -- What the tests before an operation say of the objects, fields and classes that it speaks of.
-use Rattle.std.proofs.Common.{◌≡◌, ℕ, zero, suc, ◌+◌, ◌<◌, ◌≤◌, ◌⊎◌, inl, inr, true, List, [], ◌∷◌, length, IsTrue, refl, sym, ap, ◌∙◌, subst, arith}
+use Rattle.std.proofs.Common.{◌≡◌, ℕ, zero, suc, ◌+◌, ◌<◌, ◌≤◌, ◌⊎◌, inl, inr, true, List, [], ◌∷◌, length, IsTrue, refl, sym}
+use Rattle.std.proofs.Common.{ap, ◌∙◌, subst, arith}
 use Rattle.std.specs.Prelude.{◌↔◌, Option, Some, None, All, Any, IsSome, IsSomeAnd, sum_by, slice_get, slice_index_or, is_some}
 use Rattle.std.proofs.lemmas.Bool.{eqb-true}
 use Rattle.std.proofs.lemmas.Option.{slice_get_within}
@@ -70,14 +71,16 @@ module _ (w : Linked) (is : IsWorld w) (s : State Cell) (shaped : All (IsShapedO
       (subst (IsRecorded w.classes) (sym o.kind_is) recorded)
 
   -- a cell of a reference type refers to an object of the world, or to none
-  pub object-or-null : (c : Cell) (ty : Ty) → is_reference ty ≡ true → Below w.classes (type_of c) ty → IsNullOr (word_of c) (IsObject w.classes s (word_of c))
+  pub object-or-null : (c : Cell) (ty : Ty) → is_reference ty ≡ true → Below w.classes (type_of c) ty
+      → IsNullOr (word_of c) (IsObject w.classes s (word_of c))
   object-or-null c ty r b = null-or (word_of c) (IsObject w.classes s (word_of c)) (by (cell-object w.classes decided (kinds s) c ty r b))
     where
       by : (word_of c ≡ 0) ⊎ HasKind w.classes (kinds s) (word_of c) ty → (word_of c ≡ 0) ⊎ IsObject w.classes s (word_of c)
       by (inl e) = inl e
       by (inr k) = inr (is-object (word_of c) k.kind (some-object (word_of c) k.kind k.there))
 
-  pub there-or-null : (c : Cell) (ty : Ty) → is_reference ty ≡ true → Below w.classes (type_of c) ty → IsNullOr (word_of c) (IsSome (object_at s (word_of c)))
+  pub there-or-null : (c : Cell) (ty : Ty) → is_reference ty ≡ true → Below w.classes (type_of c) ty
+      → IsNullOr (word_of c) (IsSome (object_at s (word_of c)))
   there-or-null c ty r b = null-or (word_of c) (IsSome (object_at s (word_of c))) (by (cell-object w.classes decided (kinds s) c ty r b))
     where
       by : (word_of c ≡ 0) ⊎ HasKind w.classes (kinds s) (word_of c) ty → (word_of c ≡ 0) ⊎ IsSome (object_at s (word_of c))
@@ -101,11 +104,13 @@ module _ (w : Linked) (is : IsWorld w) (s : State Cell) (shaped : All (IsShapedO
       by fields.Short c = omega (arith, first)
       by fields.Int c = omega (arith, slice_get_within (cells_of w.classes f.class) (f.cell + 1) IntLow c.second)
 
-  field-in : (f : InstanceField) → IsFieldOf w f → (kind : ObjectKind) (n : ℕ) → IsShapedFor w.classes kind n → Below w.classes (type_of_kind w.classes kind) (Class f.class) → f.cell + width f.kind ≤ n
+  field-in : (f : InstanceField) → IsFieldOf w f → (kind : ObjectKind) (n : ℕ) → IsShapedFor w.classes kind n
+      → Below w.classes (type_of_kind w.classes kind) (Class f.class) → f.cell + width f.kind ≤ n
   unfolding is_below
   field-in f field (Instance c) n h b =
       let more = instances-extend w.classes is.chains c f.class b in
-      let longer : length (cells_of w.classes c) ≡ length (cells_of w.classes f.class) + length more.more = ap length more.whole ∙ length-append (cells_of w.classes f.class) more.more in
+      let longer : length (cells_of w.classes c) ≡ length (cells_of w.classes f.class) + length more.more = ap length more.whole
+      ∙ length-append (cells_of w.classes f.class) more.more in
       omega (arith, field-end f field, longer, h.1)
   field-in f field Booleans n h b = absurd (not-above f field ((decided ArrBool (Class f.class)).1 b))
   field-in f field Bytes n h b = absurd (not-above f field ((decided ArrByte (Class f.class)).1 b))
@@ -113,7 +118,8 @@ module _ (w : Linked) (is : IsWorld w) (s : State Cell) (shaped : All (IsShapedO
   field-in f field Ints n h b = absurd (not-above f field ((decided ArrInt (Class f.class)).1 b))
   field-in f field (References c) n h b = absurd (not-above f field ((decided (ArrRef (class_in_types w.classes c)) (Class f.class)).1 b))
 
-  pub field-or-null : (f : InstanceField) → IsFieldOf w f → (c : Cell) → Below w.classes (type_of c) (Class f.class) → IsNullOr (word_of c) (HasField f s (word_of c))
+  pub field-or-null : (f : InstanceField) → IsFieldOf w f → (c : Cell) → Below w.classes (type_of c) (Class f.class)
+      → IsNullOr (word_of c) (HasField f s (word_of c))
   field-or-null f field c b = null-or (word_of c) (HasField f s (word_of c)) (by (cell-object w.classes decided (kinds s) c (Class f.class) refl b))
     where
       by : (word_of c ≡ 0) ⊎ HasKind w.classes (kinds s) (word_of c) (Class f.class) → (word_of c ≡ 0) ⊎ HasField f s (word_of c)
@@ -178,14 +184,16 @@ module _ (w : Linked) (is : IsWorld w) (s : State Cell) (shaped : All (IsShapedO
   ints-below Ints b = refl
   ints-below (References c) b = never w.classes decided (ArrRef (class_in_types w.classes c)) ArrInt b refl
 
-  array-of : (kind : Kind) (c : Cell) (ty : Ty) → is_reference ty ≡ true → width-below kind ty → Below w.classes (type_of c) ty → IsNullOr (word_of c) (IsArrayFor kind s (word_of c))
+  array-of : (kind : Kind) (c : Cell) (ty : Ty) → is_reference ty ≡ true → width-below kind ty → Below w.classes (type_of c) ty
+      → IsNullOr (word_of c) (IsArrayFor kind s (word_of c))
   array-of kind c ty r wide b = null-or (word_of c) (IsArrayFor kind s (word_of c)) (by (cell-object w.classes decided (kinds s) c ty r b))
     where
       by : (word_of c ≡ 0) ⊎ HasKind w.classes (kinds s) (word_of c) ty → (word_of c ≡ 0) ⊎ IsArrayFor kind s (word_of c)
       by (inl e) = inl e
       by (inr k) = inr (array-for kind (word_of c) k.kind (some-object (word_of c) k.kind k.there) (wide k.kind k.below))
 
-  pub array-or-null : (kind : Kind) (c : Cell) → Meets w.classes (array_wanted w.classes kind) (type_of c) → IsNullOr (word_of c) (IsArrayFor kind s (word_of c))
+  pub array-or-null : (kind : Kind) (c : Cell) → Meets w.classes (array_wanted w.classes kind) (type_of c)
+      → IsNullOr (word_of c) (IsArrayFor kind s (word_of c))
   array-or-null fields.Ref c m = array-of fields.Ref c (ArrRef (object w.classes)) refl refs-below m
   array-or-null fields.Byte c (inl m) = array-of fields.Byte c ArrByte refl bytes-below m
   array-or-null fields.Byte c (inr m) = array-of fields.Byte c ArrBool refl booleans-below m
@@ -233,7 +241,8 @@ module _ (w : Linked) (is : IsWorld w) (s : State Cell) (shaped : All (IsShapedO
   object-is : (class : ℕ) → is_above_arrays w.classes (Class class) ≡ true → Below w.classes (Class (object w.classes)) (Class class)
   object-is class e = subst (λ c. Below w.classes (Class (object w.classes)) (Class c)) (sym (eqb-true class (object w.classes) e)) same
 
-  class-below : (kind : ObjectKind) (class : ℕ) → Below w.classes (type_of_kind w.classes kind) (Class class) → Below w.classes (Class (class_with_methods w.classes (Some kind))) (Class class)
+  class-below : (kind : ObjectKind) (class : ℕ) → Below w.classes (type_of_kind w.classes kind) (Class class)
+      → Below w.classes (Class (class_with_methods w.classes (Some kind))) (Class class)
   unfolding is_below
   class-below (Instance c) class b = b
   class-below Booleans class b = object-is class ((decided ArrBool (Class class)).1 b)
@@ -246,7 +255,8 @@ module _ (w : Linked) (is : IsWorld w) (s : State Cell) (shaped : All (IsShapedO
   Receives class h =
       IsSome (object_at s h) × IsClass w.classes (class_of w.classes s h) × Below w.classes (Class (class_of w.classes s h)) (Class class)
 
-  receives : (class h : ℕ) (kind : ObjectKind) → kind_of_handle (kinds s) h ≡ Some kind → Below w.classes (type_of_kind w.classes kind) (Class class) → Receives class h
+  receives : (class h : ℕ) (kind : ObjectKind) → kind_of_handle (kinds s) h ≡ Some kind
+      → Below w.classes (type_of_kind w.classes kind) (Class class) → Receives class h
   receives class h kind e b =
       let o = some-object h kind e in
       let known : class_of w.classes s h ≡ class_with_methods w.classes (Some kind) = ap (class_with_methods w.classes) e in (
@@ -264,7 +274,8 @@ module _ (w : Linked) (is : IsWorld w) (s : State Cell) (shaped : All (IsShapedO
 
   -- ---- static fields
 
-  slots-end : (from slot : ℕ) (k : Kind) (u : Ty) (fs : List StaticRec) → AreSlots from fs → Any (IsSlotOf slot k u) fs → slot + width k ≤ from + sum_by (λ (f : StaticRec). width f.kind) fs
+  slots-end : (from slot : ℕ) (k : Kind) (u : Ty) (fs : List StaticRec) → AreSlots from fs → Any (IsSlotOf slot k u) fs
+      → slot + width k ≤ from + sum_by (λ (f : StaticRec). width f.kind) fs
   slots-end from slot k u [] slots any = absurd (omega (arith, any.2))
   slots-end from slot k u (f ∷ fs) slots any = by any.0 any.1 any.2 any.3 any.4 (slots-end (from + width f.kind) slot k u fs slots.1)
     where
@@ -273,10 +284,12 @@ module _ (w : Linked) (is : IsWorld w) (s : State Cell) (shaped : All (IsShapedO
           → slot + width k ≤ from + sum_by (λ (g : StaticRec). width g.kind) (f ∷ fs)
       by zero x lt at p rest =
           let here : IsSlotOf slot k u f = subst (IsSlotOf slot k u) (sym at) p in
-          let split : sum_by (λ (g : StaticRec). width g.kind) (f ∷ fs) ≡ width f.kind + sum_by (λ (g : StaticRec). width g.kind) fs = sum_by-cons (λ (g : StaticRec). width g.kind) f fs in
+          let split : sum_by (λ (g : StaticRec). width g.kind) (f ∷ fs) ≡ width f.kind + sum_by (λ (g : StaticRec). width g.kind) fs = sum_by-cons
+          (λ (g : StaticRec). width g.kind) f fs in
           omega (arith, split, here.slot, slots.0, ap width here.kind)
       by (suc n) x lt at p rest =
-          let split : sum_by (λ (g : StaticRec). width g.kind) (f ∷ fs) ≡ width f.kind + sum_by (λ (g : StaticRec). width g.kind) fs = sum_by-cons (λ (g : StaticRec). width g.kind) f fs in
+          let split : sum_by (λ (g : StaticRec). width g.kind) (f ∷ fs) ≡ width f.kind + sum_by (λ (g : StaticRec). width g.kind) fs = sum_by-cons
+          (λ (g : StaticRec). width g.kind) f fs in
           omega (arith, split, rest (n, x, omega (arith, lt), at, p))
 
   pub static-there : (f : StaticField) → IsStaticOf w f → length s.statics ≡ sum_by (λ (g : StaticRec). width g.kind) w.statics → HasStatic f s

@@ -96,7 +96,8 @@ gives-few w (ops.FieldRead f holders.This) = let few = given-cells (value_given 
 gives-few w (ops.FieldWrite f holders.Stack) = omega arith
 gives-few w (ops.FieldWrite f holders.This) = omega arith
 gives-few w (ops.Call c) =
-    let few = call-given (args_at (slice_get w.methods c.method)) (result_given (result_at (slice_get w.methods c.method))) c.receiver (record { regs = []; stack = [] }) in
+    let few = call-given (args_at (slice_get w.methods c.method)) (result_given (result_at (slice_get w.methods c.method))) c.receiver
+    (record { regs = []; stack = [] }) in
     omega (arith, few)
 gives-few w (ops.New place class) = omega arith
 gives-few w (ops.NewArray ty) = omega arith
@@ -147,5 +148,6 @@ copies-few w m place (ops.TypeTest test ty) h = omega arith
 copies-few w m place (ops.Return result) h = omega arith
 
 -- on a stack of 255 cells each operation has room in 510
-pub room-for : (w : Linked) (m : MethodRec) (place : ℕ) (op : Operation) (depth : ℕ) → IsSound w m place op → depth ≤ 255 → depth + (footprint w op).given ≤ 510 + (footprint w op).taken
+pub room-for : (w : Linked) (m : MethodRec) (place : ℕ) (op : Operation) (depth : ℕ) → IsSound w m place op → depth ≤ 255
+    → depth + (footprint w op).given ≤ 510 + (footprint w op).taken
 room-for w m place op depth sound few = omega (arith, gives-few w op, copies-few w m place op sound)

@@ -1,5 +1,6 @@
 -- A step of tagged cells keeps the shape, whether the run goes on or ends.
-use Rattle.std.proofs.Common.{◌≡◌, ℕ, ◌+◌, ◌-◌, ◌<◌, ◌≤◌, Bool, true, false, List, [], ◌∷◌, ◌++◌, length, replicate, take, drop, refl, sym, ap, ◌∙◌, subst, arith, length-drop, length-take}
+use Rattle.std.proofs.Common.{◌≡◌, ℕ, ◌+◌, ◌-◌, ◌<◌, ◌≤◌, Bool, true, false, List, [], ◌∷◌, ◌++◌, length, replicate, take}
+use Rattle.std.proofs.Common.{drop, refl, sym, ap, ◌∙◌, subst, arith, length-drop, length-take}
 use Rattle.std.specs.Prelude.{ℤ, Option, Some, None, All, if◌then◌else◌, nat_lt, slice_index}
 use Rattle.std.proofs.lemmas.Bool.{ltb-false, ltb-true}
 use Rattle.std.proofs.lemmas.List.Elements.{All-nil, All-cons, All-head, All-tail, All-push}
@@ -16,7 +17,8 @@ use Rattle.vm_store.specs.declared.kind.ObjectKind.{ObjectKind}
 use Rattle.vm_store.specs.declared.kind.ObjectKind.TheVariants.{Instance}
 use Rattle.vm_store.specs.Kind.{cell_kind}
 use Rattle.vm_store.specs.Cells.{tagged, zero_cell}
-use Rattle.vm_store.specs.State.{Frame, State, IsRunning, other_frames, top, with_stack, with_place, with_call, without_top, without_frames, register_count, arguments, entered, frame_limit}
+use Rattle.vm_store.specs.State.{Frame, State, IsRunning, other_frames, top, with_stack, with_place, with_call, without_top, without_frames, register_count}
+use Rattle.vm_store.specs.State.{arguments, entered, frame_limit}
 use Rattle.vm_store.specs.Objects.{has_room, with_object, new_instance_cells}
 use Rattle.vm_store.specs.Value.{with_value}
 use Rattle.vm_step.specs.declared.ending.Value.{Value}
@@ -32,7 +34,8 @@ use Rattle.vm_step.specs.Calls.{class_of}
 use Rattle.vm_step.specs.Raising.{Outcome, running, ended, ends, handler_for, caught, caught_or, unwound, thrown, raised}
 use Rattle.vm_step.specs.Tests.{fault_before}
 use Rattle.vm_step.specs.Performed.{act}
-use Rattle.vm_step.specs.Settled.{unless_fault, is_over, is_past, is_target_place, place_number, return_place, goes_to, jumps_to, made, entered_call, given_to, with_new, settled}
+use Rattle.vm_step.specs.Settled.{unless_fault, is_over, is_past, is_target_place, place_number, return_place, goes_to, jumps_to, made, entered_call, given_to}
+use Rattle.vm_step.specs.Settled.{with_new, settled}
 use Rattle.vm_step.specs.Step.{Steps, misplaced, unresolved, performs}
 use Rattle.vm_act.specs.Lead.{TakesCells}
 use Rattle.vm_check.specs.Shaped.{IsShaped, IsShapedFrame, IsShapedObject, IsShapedFor}
@@ -73,10 +76,12 @@ module _ (w : Linked) where
 
   jumps-good : (to : ℤ) (s z : State Cell) → IsRunning s → IsShaped w s → Next w s z → Good (jumps_to tagged w to z)
   jumps-good to s z runs kept n =
-      target-tests z (running (with_place z (place_number to))) (is_over w z (length (top z).stack)) (is_target_place (code_at w (top z).method) to) (next-ended s z kept n)
+      target-tests z (running (with_place z (place_number to))) (is_over w z (length (top z).stack)) (is_target_place (code_at w (top z).method) to)
+      (next-ended s z kept n)
       (λ e. shaped-place w z (place_number to) n.running (shaped-next w s z runs kept n (ltb-false (max_stack_of w (top z).method) (length (top z).stack) e)))
 
-  new-next : (s z : State Cell) → Next w s z → (kind : ObjectKind) (cells : List Cell) (r : Cell) → IsShapedFor w.classes kind (length cells) → Next w s (with_new z kind cells r)
+  new-next : (s z : State Cell) → Next w s z → (kind : ObjectKind) (cells : List Cell) (r : Cell) → IsShapedFor w.classes kind (length cells)
+      → Next w s (with_new z kind cells r)
   new-next s z n kind cells r h = record {
     running = omega arith;
     method = n.method;
@@ -86,12 +91,14 @@ module _ (w : Linked) where
     statics = n.statics;
   }
 
-  made-good : (next : ℕ) (kind : ObjectKind) (cells : List Cell) (reference : ℕ → Cell) (s z : State Cell) → IsRunning s → IsShaped w s → Next w s z → IsShapedFor w.classes kind (length cells)
+  made-good : (next : ℕ) (kind : ObjectKind) (cells : List Cell) (reference : ℕ → Cell) (s z : State Cell) → IsRunning s → IsShaped w s
+      → Next w s z → IsShapedFor w.classes kind (length cells)
       → Good (made tagged w next kind cells reference z)
   made-good next kind cells reference s z runs kept n h =
       let new : State Cell = with_new z kind cells (reference (length z.heap + 1)) in
       let made_next : Next w s new = new-next s z n kind cells (reference (length z.heap + 1)) h in
-      next-tests z (if has_room z (length cells) then running (with_place new next) else ends (Plain HeapFull) z) (is_over w z (length (top z).stack + 1)) (is_past w z next) (next-ended s z kept n)
+      next-tests z (if has_room z (length cells) then running (with_place new next) else ends (Plain HeapFull) z) (is_over w z (length (top z).stack + 1))
+      (is_past w z next) (next-ended s z kept n)
       (λ e.
       let few : length (top z).stack + 1 ≤ max_stack_of w (top z).method = ltb-false (max_stack_of w (top z).method) (length (top z).stack + 1) e in
       good-if (has_room z (length cells)) (running (with_place new next)) (ends (Plain HeapFull) z)
@@ -103,7 +110,8 @@ module _ (w : Linked) where
   filled : {A : Type 0} (args : List A) (n : ℕ) (e : A) → length args ≤ n → length (args ++ replicate (n - length args) e) ≡ n
   filled args n e h = length-append args (replicate (n - length args) e) ∙ omega (arith, length-replicate (n - length args) e)
 
-  called-good : (method count : ℕ) (s z : State Cell) → IsRunning s → IsShaped w s → Next w s z → length (top z).stack ≤ length (top s).stack → TakesCells w method count → count ≤ length (top z).stack
+  called-good : (method count : ℕ) (s z : State Cell) → IsRunning s → IsShaped w s → Next w s z → length (top z).stack ≤ length (top s).stack
+      → TakesCells w method count → count ≤ length (top z).stack
       → Good (entered_call tagged w method count z)
   called-good method count s z runs kept n fewer takes there =
       let before = first-of (IsShapedFrame w) s.frames runs kept.frames in
@@ -119,10 +127,13 @@ module _ (w : Linked) where
         registers = n.registers ∙ (before.registers ∙ ap (register_count w.methods) (sym n.method));
         cells = omega (arith, length-drop count (top z).stack, fewer, before.cells, ap (max_stack_of w) n.method);
       } in
-      let others : All (IsShapedFrame w) (other_frames z.frames) = subst (All (IsShapedFrame w)) (sym n.others) (others-of (IsShapedFrame w) s.frames kept.frames) in
+      let others : All (IsShapedFrame w) (other_frames z.frames) = subst (All (IsShapedFrame w)) (sym n.others)
+      (others-of (IsShapedFrame w) s.frames kept.frames) in
       good-if (nat_lt (length z.frames) frame_limit) (running (with_call tagged w.methods z method count)) (ends (Plain TooDeep) z)
       (λ room. record {
-        frames = All-cons (IsShapedFrame w) (entered tagged w.methods method args) (record (top z) { stack = drop count (top z).stack } ∷ other_frames z.frames) callee
+        frames =
+            All-cons (IsShapedFrame w) (entered tagged w.methods method args)
+            (record (top z) { stack = drop count (top z).stack } ∷ other_frames z.frames) callee
             (All-cons (IsShapedFrame w) (record (top z) { stack = drop count (top z).stack }) (other_frames z.frames) caller others);
         objects = n.objects;
         statics = n.statics ∙ kept.statics;
@@ -143,9 +154,11 @@ module _ (w : Linked) where
 
   -- ---- exceptions
 
-  unwound-good : (class handle : ℕ) (s : State Cell) → IsShaped w s → (fs : List (Frame Cell)) → All (IsShapedFrame w) fs → Good (unwound tagged w class handle s fs)
+  unwound-good : (class handle : ℕ) (s : State Cell) → IsShaped w s → (fs : List (Frame Cell)) → All (IsShapedFrame w) fs
+      → Good (unwound tagged w class handle s fs)
   unwound-good class handle s kept [] all = shaped-ended w s kept
-  unwound-good class handle s kept (f ∷ below) all = by (handler_for w class f) (unwound-good class handle s kept below (All-tail (IsShapedFrame w) f below all))
+  unwound-good class handle s kept (f ∷ below) all =
+      by (handler_for w class f) (unwound-good class handle s kept below (All-tail (IsShapedFrame w) f below all))
     where
       framed : IsShapedFrame w f
       framed = All-head (IsShapedFrame w) f below all
@@ -154,12 +167,16 @@ module _ (w : Linked) where
           → Good (if tight then ends (Faulted StackFault) s else running (record s { frames = caught tagged h handle f ∷ below }))
       at h true e = shaped-ended w s kept
       at h false e = record {
-        frames = All-cons (IsShapedFrame w) (caught tagged h handle f) below (record { known = framed.known; registers = framed.registers; cells = ltb-false (max_stack_of w f.method) 1 e }) (All-tail (IsShapedFrame w) f below all);
+        frames =
+            All-cons (IsShapedFrame w) (caught tagged h handle f) below
+            (record { known = framed.known; registers = framed.registers; cells = ltb-false (max_stack_of w f.method) 1 e })
+            (All-tail (IsShapedFrame w) f below all);
         objects = kept.objects;
         statics = kept.statics;
       }
 
-      by : (o : Option Handler) → Good (unwound tagged w class handle s below) → Good (caught_or tagged w handle s f below (unwound tagged w class handle s below) o)
+      by : (o : Option Handler) → Good (unwound tagged w class handle s below)
+          → Good (caught_or tagged w handle s f below (unwound tagged w class handle s below) o)
       by None rest = rest
       by (Some h) rest = at h (nat_lt (max_stack_of w f.method) 1) refl
 
@@ -179,14 +196,16 @@ module _ (w : Linked) where
       let class = slice_index w.classes.roles (role_of e) in
       let cells = new_instance_cells tagged w.classes class in
       let new : State Cell = with_object s (Instance class) cells in
-      let whole : IsShapedFor w.classes (Instance class) (length cells) = (role-class is e, length-map (cells_of w.classes class) (λ ty. zero_cell tagged (cell_kind ty))) in
+      let whole : IsShapedFor w.classes (Instance class) (length cells) =
+      (role-class is e, length-map (cells_of w.classes class) (λ ty. zero_cell tagged (cell_kind ty))) in
       good-if (has_room s (length (cells_of w.classes class))) (thrown tagged w (length s.heap + 1) new) (ends (Plain HeapFull) s)
       (λ room. thrown-good (length s.heap + 1) new (shaped-made w s (Instance class) cells kept whole))
       (shaped-ended w s kept)
 
   -- ---- the step
 
-  settled-good : IsWorld w → (next : ℕ) (s : State Cell) → IsRunning s → IsShaped w s → (a : Act Cell) → Fine w s a → Good (settled tagged w next s a)
+  settled-good : IsWorld w → (next : ℕ) (s : State Cell) → IsRunning s → IsShaped w s → (a : Act Cell) → Fine w s a
+      → Good (settled tagged w next s a)
   settled-good is next s runs kept (goes z) fine = goes-good next s z runs kept fine
   settled-good is next s runs kept (jumps to z) fine = jumps-good to s z runs kept fine
   settled-good is next s runs kept (makes kind cells reference z) fine = made-good next kind cells reference s z runs kept fine.0 fine.1
@@ -200,7 +219,8 @@ module _ (w : Linked) where
   unless-good s None p x kept e good = good (sym e)
   unless-good s (Some f) p x kept e good = shaped-ended w s kept
 
-  pub step-good : IsWorld w → AreDispatched w.classes w.methods → AreDecided w.classes → OperationsAreSound w → (s : State Cell) (o : Outcome Cell) → IsShaped w s → Steps tagged w s o → Good o
+  pub step-good : IsWorld w → AreDispatched w.classes w.methods → AreDecided w.classes → OperationsAreSound w → (s : State Cell) (o : Outcome Cell)
+      → IsShaped w s → Steps tagged w s o → Good o
   step-good is runs decided sounds s o kept (misplaced c run e) = shaped-ended w s kept
   step-good is runs decided sounds s o kept (unresolved c f fault r) = shaped-ended w s kept
   step-good is runs decided sounds s o kept (performs {m = m} {i = i} f op r e) =
@@ -209,4 +229,5 @@ module _ (w : Linked) where
       (unless-good s (fault_before tagged w op s) (fault_before tagged w op s) done kept refl
       (λ none.
       let told = tested w is decided sounds s m i op kept f r none in
-      settled-good is (i.place + i.insn.len) s f.runs kept (act tagged w i.insn op s) (act-fine tagged w is runs i.insn s f.runs kept.objects op told.cells told.finds)))
+      settled-good is (i.place + i.insn.len) s f.runs kept (act tagged w i.insn op s)
+      (act-fine tagged w is runs i.insn s f.runs kept.objects op told.cells told.finds)))

@@ -58,7 +58,8 @@ use Rattle.vm_act.specs.Reaches.{FindsNamed, HasReceiver}
 use Rattle.vm_act.proofs.Asked.{call-cells}
 use Rattle.vm_act.proofs.Takes.{static-takes, special-takes, virtual-takes, interface-takes}
 use Rattle.vm_check.specs.Shaped.{IsShapedObject, IsShapedFor}
-use Rattle.vm_check.proofs.Staying.{Fine, Next, next-same, next-stack, next-register, next-registers, next-popped, next-popped-twice, value-written, static-written}
+use Rattle.vm_check.proofs.Staying.{Fine, Next, next-same, next-stack, next-register, next-registers, next-popped, next-popped-twice, value-written}
+use Rattle.vm_check.proofs.Staying.{static-written}
 
 module _ {A : Type 0} (w : Linked) (s : State A) where
   fine-if : (b : Bool) (x y : Act A) → Fine w s x → Fine w s y → Fine w s (if b then x else y)
@@ -93,12 +94,14 @@ one-special w c sound e =
     let chosen : IsSpecialCall w sound.rec c.receiver = subst (IsChosen w c.method sound.rec c.receiver) e sound.chosen in
     count-some w sound.rec c.receiver chosen.receives
 
-one-virtual : (w : Linked) (c : Callee) (sound : IsCalleeOf w c) (class token : ℕ) → c.choice ≡ choices.Virtual class token → receiver_count c.receiver ≡ 1
+one-virtual : (w : Linked) (c : Callee) (sound : IsCalleeOf w c) (class token : ℕ) → c.choice ≡ choices.Virtual class token
+    → receiver_count c.receiver ≡ 1
 one-virtual w c sound class token e =
     let chosen : IsVirtualCall w c.method sound.rec c.receiver class token = subst (IsChosen w c.method sound.rec c.receiver) e sound.chosen in
     ap receiver_count chosen.receiver_is
 
-one-interface : (w : Linked) (c : Callee) (sound : IsCalleeOf w c) (class token words : ℕ) → c.choice ≡ choices.Interface class token words → receiver_count c.receiver ≡ 1
+one-interface : (w : Linked) (c : Callee) (sound : IsCalleeOf w c) (class token words : ℕ) → c.choice ≡ choices.Interface class token words
+    → receiver_count c.receiver ≡ 1
 one-interface w c sound class token words e =
     let chosen : IsInterfaceCall w c.method sound.rec c.receiver class token words = subst (IsChosen w c.method sound.rec c.receiver) e sound.chosen in
     ap receiver_count chosen.receiver_is
@@ -118,7 +121,8 @@ array-named w ArrInt n h = tt
 array-named w (Fresh p c) n h = tt
 array-named w Top n h = tt
 
-module _ {A : Type 0} (k : Cells A) (w : Linked) (is : IsWorld w) (runs : AreDispatched w.classes w.methods) (i : Insn) (s : State A) (running : IsRunning s) (shaped : All (IsShapedObject w.classes) s.heap) where
+module _ {A : Type 0} (k : Cells A) (w : Linked) (is : IsWorld w) (runs : AreDispatched w.classes w.methods) (i : Insn) (s : State A)
+    (running : IsRunning s) (shaped : All (IsShapedObject w.classes) s.heap) where
   on-stack : (cells : List A) → Next w s (with_stack s cells)
   on-stack cells = next-stack w s running shaped cells
 
@@ -148,10 +152,13 @@ module _ {A : Type 0} (k : Cells A) (w : Linked) (is : IsWorld w) (runs : AreDis
   fine-arithmetic arithmetic.CompareInts = next-stack w s running shaped _
 
   fine-field : (f : InstanceField) (holder : Holder) → Fine w s (act k w i (ops.FieldRead f holder) s)
-  fine-field f holders.Stack = fine-null w s (held_handle k holders.Stack 0 s) (λ h. goes (with_field_read k f holders.Stack h s)) (next-stack w s running shaped _)
-  fine-field f holders.This = fine-null w s (held_handle k holders.This 0 s) (λ h. goes (with_field_read k f holders.This h s)) (next-stack w s running shaped _)
+  fine-field f holders.Stack =
+      fine-null w s (held_handle k holders.Stack 0 s) (λ h. goes (with_field_read k f holders.Stack h s)) (next-stack w s running shaped _)
+  fine-field f holders.This =
+      fine-null w s (held_handle k holders.This 0 s) (λ h. goes (with_field_read k f holders.This h s)) (next-stack w s running shaped _)
 
-  fine-count : (kind : ObjectKind) (n : ℤ) (z : State A) → Next w s z → ((m : ℕ) → IsShapedFor w.classes kind m) → Fine w s (array_of_count k kind n z)
+  fine-count : (kind : ObjectKind) (n : ℤ) (z : State A) → Next w s z → ((m : ℕ) → IsShapedFor w.classes kind m)
+      → Fine w s (array_of_count k kind n z)
   fine-count kind (pos n) z next named = (next, named (length (array_cells k kind n)))
   fine-count kind (negsuc n) z next named = tt {0}
 
@@ -172,11 +179,13 @@ module _ {A : Type 0} (k : Cells A) (w : Linked) (is : IsWorld w) (runs : AreDis
       let len : length (map (k.ready place) (top s).stack) ≡ length (top s).stack = length-map (top s).stack (k.ready place) in
       (next-stack w s running shaped _, omega (arith, len), takes, omega (arith, len, there))
 
-  fine-served : (o : Option ℕ) (class count : ℕ) → IfSome o (λ n. TakesCells w n count) → count ≤ length (top s).stack → Fine w s (served_act o class count s)
+  fine-served : (o : Option ℕ) (class count : ℕ) → IfSome o (λ n. TakesCells w n count) → count ≤ length (top s).stack
+      → Fine w s (served_act o class count s)
   fine-served None class count takes there = tt {0}
   fine-served (Some n) class count takes there = same-stack n count takes there
 
-  fine-interface : (c : Callee) → IsCalleeOf w c → (interface token words : ℕ) → c.choice ≡ choices.Interface interface token words → (o : Option ObjectKind) → IsClass w.classes (class_with_methods w.classes o)
+  fine-interface : (c : Callee) → IsCalleeOf w c → (interface token words : ℕ) → c.choice ≡ choices.Interface interface token words
+      → (o : Option ObjectKind) → IsClass w.classes (class_with_methods w.classes o)
       → args_of w c.method + 1 ≤ length (top s).stack → Fine w s (interface_act w.classes interface token (args_of w c.method + 1) o s)
   fine-interface c sound interface token words e (Some (Instance of)) class there =
       fine-served (served w.classes interface token of) of (args_of w c.method + 1) (interface-takes w is c sound interface token words of e class) there
@@ -190,22 +199,28 @@ module _ {A : Type 0} (k : Cells A) (w : Linked) (is : IsWorld w) (runs : AreDis
   abbrev Receives : ℕ → ℕ → Type 0
   Receives class h = IsSome (object_at s h) × IsClass w.classes (class_of w.classes s h) × Below w.classes (Class (class_of w.classes s h)) (Class class)
 
-  fine-chosen : (c : Callee) → IsCalleeOf w c → (choice : Choice) → c.choice ≡ choice → args_of w c.method + receiver_count c.receiver ≤ length (top s).stack
+  fine-chosen : (c : Callee) → IsCalleeOf w c → (choice : Choice) → c.choice ≡ choice → args_of w c.method + receiver_count c.receiver ≤ length
+      (top s).stack
       → HasReceiver k w c choice s → Fine w s (chosen_act k w.classes c (args_of w c.method) choice s)
   fine-chosen c sound choices.Static e there receiver = same-stack c.method (args_of w c.method) (static-takes w is c sound e) (omega (arith, there))
   fine-chosen c sound choices.Special e there receiver =
-      fine-null w s (handle_at k (top s).stack (args_of w c.method)) (λ h. calls c.method (args_of w c.method + 1) (with_ready k w.classes c (args_of w c.method) s))
+      fine-null w s (handle_at k (top s).stack (args_of w c.method))
+      (λ h. calls c.method (args_of w c.method + 1) (with_ready k w.classes c (args_of w c.method) s))
       (readied-stays (made_at c.receiver (k.type_of w.classes (kinds s) (nth k (top s).stack (args_of w c.method)))) c.method (args_of w c.method + 1)
       (special-takes w is c sound e) (omega (arith, there, one-special w c sound e)))
   fine-chosen c sound (choices.Virtual class token) e there receiver =
       fine-known w s (handle_at k (top s).stack (args_of w c.method)) (Receives class (handle_at k (top s).stack (args_of w c.method)))
       (λ h. calls (unwrap_or (dispatched w.classes class token (class_of w.classes s h)) c.method) (args_of w c.method + 1) s) receiver
-      (λ known. same-stack (unwrap_or (dispatched w.classes class token (class_of w.classes s (handle_at k (top s).stack (args_of w c.method)))) c.method) (args_of w c.method + 1)
-      (virtual-takes w is runs c sound class token (class_of w.classes s (handle_at k (top s).stack (args_of w c.method))) e known.2) (omega (arith, there, one-virtual w c sound class token e)))
+      (λ known. same-stack (unwrap_or (dispatched w.classes class token (class_of w.classes s (handle_at k (top s).stack (args_of w c.method)))) c.method)
+      (args_of w c.method + 1)
+      (virtual-takes w is runs c sound class token (class_of w.classes s (handle_at k (top s).stack (args_of w c.method))) e known.2)
+      (omega (arith, there, one-virtual w c sound class token e)))
   fine-chosen c sound (choices.Interface class token words) e there receiver =
-      fine-known w s (handle_at k (top s).stack (args_of w c.method)) (IsSome (object_at s (handle_at k (top s).stack (args_of w c.method))) × IsClass w.classes (class_of w.classes s (handle_at k (top s).stack (args_of w c.method))))
+      fine-known w s (handle_at k (top s).stack (args_of w c.method)) (IsSome (object_at s (handle_at k (top s).stack (args_of w c.method)))
+      × IsClass w.classes (class_of w.classes s (handle_at k (top s).stack (args_of w c.method))))
       (λ h. interface_act w.classes class token (args_of w c.method + 1) (kind_of_handle (kinds s) h) s) receiver
-      (λ known. fine-interface c sound class token words e (kind_of_handle (kinds s) (handle_at k (top s).stack (args_of w c.method))) known.1 (omega (arith, there, one-interface w c sound class token words e)))
+      (λ known. fine-interface c sound class token words e (kind_of_handle (kinds s) (handle_at k (top s).stack (args_of w c.method))) known.1
+      (omega (arith, there, one-interface w c sound class token words e)))
 
   fine-return : (result : Option Ty) → Fine w s (act k w i (ops.Return result) s)
   fine-return None = tt {0}
@@ -233,26 +248,32 @@ module _ {A : Type 0} (k : Cells A) (w : Linked) (is : IsWorld w) (runs : AreDis
   act-fine (ops.Arithmetic a) cells found = fine-arithmetic a
   act-fine (ops.ArrayRead kind) cells found =
       let h = handle_at k (top s).stack 1 in
-      fine-null w s h (λ a. at_element (short_at k (top s).stack 0) (elements_of s a) (λ n. goes (replaced s 2 (value_in k kind (object_cells s a) (n * width kind)))))
-      (fine-some w s {X = ℕ} exceptions.ArrayIndex (element_index (short_at k (top s).stack 0) (elements_of s h)) (λ n. goes (replaced s 2 (value_in k kind (object_cells s h) (n * width kind))))
+      fine-null w s h
+      (λ a. at_element (short_at k (top s).stack 0) (elements_of s a)
+      (λ n. goes (replaced s 2 (value_in k kind (object_cells s a) (n * width kind)))))
+      (fine-some w s {X = ℕ} exceptions.ArrayIndex (element_index (short_at k (top s).stack 0) (elements_of s h))
+      (λ n. goes (replaced s 2 (value_in k kind (object_cells s h) (n * width kind))))
       (λ n. next-stack w s running shaped _))
   act-fine (ops.ArrayWrite kind) cells found =
       let h = handle_at k (top s).stack (width kind + 1) in
       let index = short_at k (top s).stack (width kind) in
       fine-null w s h
-      (λ a. at_element index (elements_of s a) (λ n. if keeps_kind k w.classes kind s a then goes (with_element k kind a n s) else raises exceptions.ArrayStore))
+      (λ a. at_element index (elements_of s a)
+      (λ n. if keeps_kind k w.classes kind s a then goes (with_element k kind a n s) else raises exceptions.ArrayStore))
       (fine-some w s {X = ℕ} exceptions.ArrayIndex (element_index index (elements_of s h))
       (λ n. if keeps_kind k w.classes kind s h then goes (with_element k kind h n s) else raises exceptions.ArrayStore)
       (λ n. fine-if w s (keeps_kind k w.classes kind s h) (goes (with_element k kind h n s)) (raises exceptions.ArrayStore)
       (value-written w s (dropped s (width kind + 2)) (next-stack w s running shaped _) h (n * width kind) (kept_value k kind (value_on k kind (top s).stack)))
       (tt {0})))
   act-fine ops.ArrayLength cells found =
-      fine-null w s (handle_at k (top s).stack 0) (λ h. goes (replaced s 1 (k.short (short_of_word (elements_of s h)) ∷ []))) (next-stack w s running shaped _)
+      fine-null w s (handle_at k (top s).stack 0) (λ h. goes (replaced s 1 (k.short (short_of_word (elements_of s h)) ∷ [])))
+      (next-stack w s running shaped _)
   act-fine (ops.Branch branch) cells found =
       fine-leads w s (is_taken k branch (top s).stack) (target (top s).place i.x) (dropped s (branch_width branch)) (next-stack w s running shaped _)
   act-fine (ops.Switch width) cells found = next-stack w s running shaped _
   act-fine (ops.StaticRead f) cells found = next-stack w s running shaped _
-  act-fine (ops.StaticWrite f) cells found = static-written w s (dropped s (width f.kind)) (next-stack w s running shaped _) f.slot (kept_value k f.kind (value_on k f.kind (top s).stack))
+  act-fine (ops.StaticWrite f) cells found =
+      static-written w s (dropped s (width f.kind)) (next-stack w s running shaped _) f.slot (kept_value k f.kind (value_on k f.kind (top s).stack))
   act-fine (ops.FieldRead f holder) cells found = fine-field f holder
   act-fine (ops.FieldWrite f holder) cells found =
       fine-null w s (held_handle k holder (width f.kind) s) (λ h. goes (with_field_write k f holder h s))
@@ -260,8 +281,10 @@ module _ {A : Type 0} (k : Cells A) (w : Linked) (is : IsWorld w) (runs : AreDis
       (kept_value k f.kind (value_on k f.kind (top s).stack)))
   act-fine (ops.Call c) cells found = fine-chosen c found.0 c.choice refl (call-cells w c (length (top s).stack) cells) found.1
   act-fine (ops.New place class) cells found = (next-same w s running shaped, (found, instance-cells class))
-  act-fine (ops.NewArray ty) cells found = fine-count (kind_of_type ty) (short_at k (top s).stack 0) (dropped s 1) (next-stack w s running shaped _) (λ m. array-named w ty m found.1)
+  act-fine (ops.NewArray ty) cells found =
+      fine-count (kind_of_type ty) (short_at k (top s).stack 0) (dropped s 1) (next-stack w s running shaped _) (λ m. array-named w ty m found.1)
   act-fine ops.Throw cells found = fine-null w s (handle_at k (top s).stack 0) (λ h. throws h) (tt {0})
-  act-fine (ops.TypeTest tests.Cast ty) cells found = fine-if w s (may_cast w.classes s ty (handle_at k (top s).stack 0)) (goes s) (raises exceptions.ClassCast) (next-same w s running shaped) (tt {0})
+  act-fine (ops.TypeTest tests.Cast ty) cells found =
+      fine-if w s (may_cast w.classes s ty (handle_at k (top s).stack 0)) (goes s) (raises exceptions.ClassCast) (next-same w s running shaped) (tt {0})
   act-fine (ops.TypeTest tests.InstanceOf ty) cells found = next-stack w s running shaped _
   act-fine (ops.Return result) cells found = fine-return result

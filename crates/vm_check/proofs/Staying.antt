@@ -6,7 +6,8 @@ use Rattle.std.proofs.lemmas.List.{length-set}
 use Rattle.jc_base.specs.Class.{ClassTable}
 use Rattle.jc_base.specs.World.{Linked}
 use Rattle.vm_store.specs.declared.kind.ObjectKind.{ObjectKind}
-use Rattle.vm_store.specs.State.{Frame, State, Object, IsRunning, first_frame, other_frames, top, with_stack, with_register, with_place, without_top, without_frames, register_count}
+use Rattle.vm_store.specs.State.{Frame, State, Object, IsRunning, first_frame, other_frames, top, with_stack, with_register, with_place, without_top}
+use Rattle.vm_store.specs.State.{without_frames, register_count}
 use Rattle.vm_store.specs.Objects.{write_object, with_object, with_object_cell, with_static_cell}
 use Rattle.vm_store.specs.Value.{with_object_value, with_static_value}
 use Rattle.vm_step.specs.Act.{Act, goes, jumps, makes, calls}
@@ -25,7 +26,8 @@ pub others-of : {A : Type 0} (P : Frame A → Type 0) (fs : List (Frame A)) → 
 others-of P [] h = All-nil P
 others-of P (f ∷ fs) h = All-tail P f fs h
 
-written : {A : Type 0} (t : ClassTable) (heap : List (Object A)) (h i : ℕ) (c : A) → All (IsShapedObject t) heap → All (IsShapedObject t) (write_object heap h i c)
+written : {A : Type 0} (t : ClassTable) (heap : List (Object A)) (h i : ℕ) (c : A) → All (IsShapedObject t) heap
+    → All (IsShapedObject t) (write_object heap h i c)
 written t [] h i c all = all
 written t (o ∷ os) zero i c all =
     All-cons (IsShapedObject t) (record o { cells = set o.cells i c }) os
@@ -52,7 +54,8 @@ module _ {A : Type 0} (w : Linked) where
     next-stack cells = record { running = omega arith; method = refl; registers = refl; others = refl; objects = shaped; statics = refl }
 
     pub next-register : (x : ℕ) (c : A) → Next s (with_register s x c)
-    next-register x c = record { running = omega arith; method = refl; registers = length-set (top s).registers x c; others = refl; objects = shaped; statics = refl }
+    next-register x c =
+        record { running = omega arith; method = refl; registers = length-set (top s).registers x c; others = refl; objects = shaped; statics = refl }
 
     pub next-registers : (x y : ℕ) (c d : A) → Next s (with_register (with_register s x c) y d)
     next-registers x y c d = record {
@@ -65,7 +68,8 @@ module _ {A : Type 0} (w : Linked) where
     }
 
     pub next-popped : (cells : List A) (x : ℕ) (c : A) → Next s (with_register (with_stack s cells) x c)
-    next-popped cells x c = record { running = omega arith; method = refl; registers = length-set (top s).registers x c; others = refl; objects = shaped; statics = refl }
+    next-popped cells x c =
+        record { running = omega arith; method = refl; registers = length-set (top s).registers x c; others = refl; objects = shaped; statics = refl }
 
     pub next-popped-twice : (cells : List A) (x y : ℕ) (c d : A) → Next s (with_register (with_register (with_stack s cells) x c) y d)
     next-popped-twice cells x y c d = record {
@@ -124,7 +128,8 @@ module _ {A : Type 0} (w : Linked) where
         registers = n.registers ∙ (before.registers ∙ ap (register_count w.methods) (sym n.method));
         cells = few;
       } in
-      let others : All (IsShapedFrame w) (other_frames z.frames) = subst (All (IsShapedFrame w)) (sym n.others) (others-of (IsShapedFrame w) s.frames kept.frames) in
+      let others : All (IsShapedFrame w) (other_frames z.frames) = subst (All (IsShapedFrame w)) (sym n.others)
+      (others-of (IsShapedFrame w) s.frames kept.frames) in
       record {
         frames = subst (All (IsShapedFrame w)) (front z.frames n.running) (All-cons (IsShapedFrame w) (top z) (other_frames z.frames) here others);
         objects = n.objects;
@@ -147,7 +152,8 @@ module _ {A : Type 0} (w : Linked) where
   pub shaped-left : (s : State A) → IsShaped w s → IsShaped w (without_top s)
   shaped-left s kept = record { frames = others-of (IsShapedFrame w) s.frames kept.frames; objects = kept.objects; statics = kept.statics }
 
-  pub shaped-made : (s : State A) (kind : ObjectKind) (cells : List A) → IsShaped w s → IsShapedFor w.classes kind (length cells) → IsShaped w (with_object s kind cells)
+  pub shaped-made : (s : State A) (kind : ObjectKind) (cells : List A) → IsShaped w s → IsShapedFor w.classes kind (length cells)
+      → IsShaped w (with_object s kind cells)
   shaped-made s kind cells kept h = record {
     frames = kept.frames;
     objects = All-push (IsShapedObject w.classes) s.heap (record { kind = kind; cells = cells }) kept.objects h;

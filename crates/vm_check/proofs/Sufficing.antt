@@ -59,7 +59,8 @@ kind-known t are Shorts n h = tt
 kind-known t are Ints n h = tt
 kind-known t are (References c) n h = seen-class t are c h
 
-seen-known : (t : ClassTable) → AreClasses t → (heap : List (Object Cell)) (n : ℕ) → All (IsShapedObject t) heap → IsKnown t (type_seen t (slice_get (map (λ (o : Object Cell). o.kind) heap) n))
+seen-known : (t : ClassTable) → AreClasses t → (heap : List (Object Cell)) (n : ℕ) → All (IsShapedObject t) heap
+    → IsKnown t (type_seen t (slice_get (map (λ (o : Object Cell). o.kind) heap) n))
 seen-known t are [] n h = tt
 seen-known t are (o ∷ os) zero h = kind-known t are o.kind (length o.cells) (All-head (IsShapedObject t) o os h)
 seen-known t are (o ∷ os) (suc n) h = seen-known t are os n (All-tail (IsShapedObject t) o os h)
@@ -72,12 +73,14 @@ fresh-kind t p Shorts n h = tt
 fresh-kind t p Ints n h = tt
 fresh-kind t p (References c) n h = tt
 
-fresh-known : (t : ClassTable) (p : ℕ) (heap : List (Object Cell)) (n : ℕ) → All (IsShapedObject t) heap → IsKnown t (fresh_seen p (slice_get (map (λ (o : Object Cell). o.kind) heap) n))
+fresh-known : (t : ClassTable) (p : ℕ) (heap : List (Object Cell)) (n : ℕ) → All (IsShapedObject t) heap
+    → IsKnown t (fresh_seen p (slice_get (map (λ (o : Object Cell). o.kind) heap) n))
 fresh-known t p [] n h = tt
 fresh-known t p (o ∷ os) zero h = fresh-kind t p o.kind (length o.cells) (All-head (IsShapedObject t) o os h)
 fresh-known t p (o ∷ os) (suc n) h = fresh-known t p os n (All-tail (IsShapedObject t) o os h)
 
-cell-known : (t : ClassTable) → AreClasses t → (s : State Cell) → All (IsShapedObject t) s.heap → (c : Cell) → IsKnown t (least_type t Bottom (kinds s) c)
+cell-known : (t : ClassTable) → AreClasses t → (s : State Cell) → All (IsShapedObject t) s.heap → (c : Cell)
+    → IsKnown t (least_type t Bottom (kinds s) c)
 cell-known t are s h cells.Empty = tt
 cell-known t are s h (cells.Short n) = tt
 cell-known t are s h (cells.High n) = tt
@@ -117,7 +120,8 @@ top-shaped w [] lt h = absurd (omega (arith, lt))
 top-shaped w (f ∷ fs) lt h = All-head (IsShapedFrame w) f fs h
 
 result-declared : (w : Linked) → IsWorld w → (n : ℕ) (m : MethodRec) → slice_get w.methods n ≡ Some m → IfSome m.sig.result (IsDeclared w.classes)
-result-declared w is n m e = let method : IsMethod w.infos w.pools w.classes m = All-slice_get (IsMethod w.infos w.pools w.classes) w.methods n m is.methods e in method.result
+result-declared w is n m e =
+    let method : IsMethod w.infos w.pools w.classes m = All-slice_get (IsMethod w.infos w.pools w.classes) w.methods n m is.methods e in method.result
 
 -- what the tests that pass say of an operation that is fetched and named
 pub record Tested (w : Linked) (s : State Cell) (i : Placed) (op : Operation) : Type 0 where
@@ -126,7 +130,8 @@ pub record Tested (w : Linked) (s : State Cell) (i : Placed) (op : Operation) : 
   pub finds : FindsNamed tagged w i.insn op s
   pub sound : (m : MethodRec) × IsSound w m i.place op
 
-pub tested : (w : Linked) → IsWorld w → AreDecided w.classes → OperationsAreSound w → (s : State Cell) (m : MethodRec) (i : Placed) (op : Operation) → IsShaped w s
+pub tested : (w : Linked) → IsWorld w → AreDecided w.classes → OperationsAreSound w → (s : State Cell) (m : MethodRec) (i : Placed) (op : Operation)
+    → IsShaped w s
     → Fetches w s m i → Resolves w m i.place i.insn (Ok op) → fault_before tagged w op s ≡ None → Tested w s i op
 tested w is decided sounds s m i op kept fetched r none =
     let pass = passes tagged w decided (demands w op) s none in

@@ -19,7 +19,8 @@ pub record Pass {A : Type 0} (k : Cells A) (w : Linked) (ds : List Demand) (s : 
   pub cells : cells_asked ds ≤ length (top s).stack
   pub hold : SatisfiesAll w.classes (types_of k w s) ds
 
-three-tests : (a b c : Bool) → (if a then Some LocalFault else if b then Some StackFault else if c then None else Some TypeFault) ≡ None → (a ≡ false) × (b ≡ false) × (c ≡ true)
+three-tests : (a b c : Bool) → (if a then Some LocalFault else if b then Some StackFault else if c then None else Some TypeFault) ≡ None
+    → (a ≡ false) × (b ≡ false) × (c ≡ true)
 three-tests true b c e = absurd (cc)
 three-tests false true c e = absurd (cc)
 three-tests false false true e = (refl, refl, refl)
@@ -48,7 +49,8 @@ passes k w decided ds s e =
     }
 
 -- a test of a cell is one of the cell that is read
-pub cell-is : {A : Type 0} (f : A → Ty) (xs : List A) (n : ℕ) (d : A) (P : Ty → Type 0) → IsSomeAnd (slice_get (map f xs) n) P → P (f (slice_index_or xs n d))
+pub cell-is : {A : Type 0} (f : A → Ty) (xs : List A) (n : ℕ) (d : A) (P : Ty → Type 0) → IsSomeAnd (slice_get (map f xs) n) P
+    → P (f (slice_index_or xs n d))
 cell-is f [] n d P h = absurd h
 cell-is f (x ∷ xs) zero d P h = h
 cell-is f (x ∷ xs) (suc n) d P h = cell-is f xs n d P h

@@ -89,7 +89,8 @@ one = cells.Short (pos 1)
 -- ---- registers and moves
 
 -- an empty register is read as of any type
-loads : faults (ops.Load sorts.Short 0) (at [] [] ∷ at (cells.Ref 0 ∷ []) [] ∷ at (one ∷ []) [] ∷ at (cells.Empty ∷ []) [] ∷ [])
+loads : faults (ops.Load sorts.Short 0)
+    (at [] [] ∷ at (cells.Ref 0 ∷ []) [] ∷ at (one ∷ []) [] ∷ at (cells.Empty ∷ []) [] ∷ [])
     ≡ Some LocalFault ∷ Some TypeFault ∷ None ∷ None ∷ []
 unfolding is_below is_on_chain parent_of chain chain_over
 loads = refl
@@ -112,7 +113,8 @@ increments = refl
 
 -- a cut through an int
 copies :
-    faults (ops.Move (moves.CopyUnder 1 2)) (at [] (one ∷ []) ∷ at [] (cells.Low 1 ∷ cells.High 0 ∷ []) ∷ at [] (one ∷ one ∷ []) ∷ [])
+    faults (ops.Move (moves.CopyUnder 1 2))
+    (at [] (one ∷ []) ∷ at [] (cells.Low 1 ∷ cells.High 0 ∷ []) ∷ at [] (one ∷ one ∷ []) ∷ [])
     ≡ Some StackFault ∷ Some TypeFault ∷ None ∷ []
 unfolding is_below is_on_chain parent_of chain chain_over
 copies = refl

@@ -21,12 +21,17 @@ numbers-shaped t Bytes count h = tt {0}
 numbers-shaped t Shorts count h = tt {0}
 numbers-shaped t Ints count h = tt {0}
 
-pub begun-shaped : (w : Linked) (entry : ℕ) (args : List Argument) → HasEntrySizes w entry (entry_state tagged w entry args) → IsShaped w (entry_state tagged w entry args)
+pub begun-shaped : (w : Linked) (entry : ℕ) (args : List Argument) → HasEntrySizes w entry (entry_state tagged w entry args)
+    → IsShaped w (entry_state tagged w entry args)
 begun-shaped w entry args size =
     let s : State Cell = entry_state tagged w entry args in
     record {
-      frames = All-cons (IsShapedFrame w) (top s) [] (record { known = size.known; registers = size.registers; cells = omega arith }) (All-nil (IsShapedFrame w));
-      objects = All-weaker (λ (o : Object Cell). IsOfNumbers o.kind) (IsShapedObject w.classes) (λ (o : Object Cell) (h : IsOfNumbers o.kind). numbers-shaped w.classes o.kind (length o.cells) h)
+      frames =
+          All-cons (IsShapedFrame w) (top s) [] (record { known = size.known; registers = size.registers; cells = omega arith })
+          (All-nil (IsShapedFrame w));
+      objects =
+          All-weaker (λ (o : Object Cell). IsOfNumbers o.kind) (IsShapedObject w.classes)
+          (λ (o : Object Cell) (h : IsOfNumbers o.kind). numbers-shaped w.classes o.kind (length o.cells) h)
           s.heap size.objects;
       statics = size.statics;
     }

@@ -22,4 +22,5 @@ RefusesRun w entry args Memory = start_fault w entry args ≡ None
 
 -- the state in which a run begins has the shape of its world
 abbrev pub StartsAreShaped : Linked → Type 0
-StartsAreShaped w = (entry : ℕ) (args : List Argument) → start_fault w entry args ≡ None → IsShaped w (entry_state tagged w entry args)
+StartsAreShaped w =
+    (entry : ℕ) (args : List Argument) → start_fault w entry args ≡ None → IsShaped w (entry_state tagged w entry args)

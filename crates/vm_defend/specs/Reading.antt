@@ -1,5 +1,6 @@
 -- What is read of the state that a run has reached: the values of static fields, the classes of objects, and arrays of numbers.
-use Rattle.std.specs.Prelude.{◌≡◌, ℕ, ◌+◌, ◌*◌, ℤ, ◌<◌, ◌≤◌, nat_lt, sum_by, if◌then◌else◌, List, Option, Some, None, slice_get, option_and_then, option_map, IsSomeAnd}
+use Rattle.std.specs.Prelude.{◌≡◌, ℕ, ◌+◌, ◌*◌, ℤ, ◌<◌, ◌≤◌, nat_lt, sum_by, if◌then◌else◌, List, Option}
+use Rattle.std.specs.Prelude.{Some, None, slice_get, option_and_then, option_map, IsSomeAnd}
 use Rattle.jc_base.specs.declared.ty.Ty.{Ty}
 use Rattle.jc_base.specs.declared.ty.Ty.TheVariants.{ArrBool, ArrByte, ArrShort, ArrInt}
 use Rattle.jc_base.specs.declared.ty.Kind.{Kind}
@@ -29,7 +30,8 @@ static_value k w n s = option_map (λ (f : StaticRec). value_at k f.kind s.stati
 -- the cells of each static field lie among those of all
 abbrev pub SlotsAreInside : Linked → Type 0
 SlotsAreInside w =
-    (n : ℕ) (f : StaticRec) → slice_get w.statics n ≡ Some f → f.slot + width f.kind ≤ sum_by (λ (g : StaticRec). width g.kind) w.statics
+    (n : ℕ) (f : StaticRec) → slice_get w.statics n ≡ Some f
+    → f.slot + width f.kind ≤ sum_by (λ (g : StaticRec). width g.kind) w.statics
 
 -- the class of which an object is an instance; an array has none
 abbrev pub class_of_kind : ObjectKind → Option ℕ

@@ -1,5 +1,6 @@
 -- The words of a typed state have what its cells have: shape, and what an operation asks.
-use Rattle.std.proofs.Common.{◌≡◌, ℕ, zero, suc, ◌+◌, ◌<◌, ◌≤◌, ◌==◌, Bool, true, false, List, ◌∷◌, length, map, refl, sym, ap, ◌∙◌, subst, arith}
+use Rattle.std.proofs.Common.{◌≡◌, ℕ, zero, suc, ◌+◌, ◌<◌, ◌≤◌, ◌==◌, Bool, true, false, List, ◌∷◌, length, map, refl, sym, ap}
+use Rattle.std.proofs.Common.{◌∙◌, subst, arith}
 use Rattle.std.specs.Prelude.{Option, Some, None, IsSome, IsSomeAnd, MatchBool, ⊤, option_map}
 use Rattle.std.proofs.lemmas.List.{length-map}
 use Rattle.std.proofs.lemmas.List.Elements.{All-map, All-weaker}
@@ -44,7 +45,8 @@ some-erased : {X Y : Type 0} (g : X → Y) (o : Option X) → IsSome o → IsSom
 some-erased g None h = h
 some-erased g (Some x) h = refl
 
-and-erased : {X Y : Type 0} (g : X → Y) (P : X → Type 0) (Q : Y → Type 0) → ((x : X) → P x → Q (g x)) → (o : Option X) → IsSomeAnd o P → IsSomeAnd (option_map g o) Q
+and-erased : {X Y : Type 0} (g : X → Y) (P : X → Type 0) (Q : Y → Type 0) → ((x : X) → P x → Q (g x)) → (o : Option X) → IsSomeAnd o P
+    → IsSomeAnd (option_map g o) Q
 and-erased g P Q go None h = absurd h
 and-erased g P Q go (Some x) h = go x h
 
@@ -59,7 +61,8 @@ recorded-erased t s h object =
 array-erased : (kind : Kind) (s : State Cell) (h : ℕ) → IsArrayFor kind s h → IsArrayFor kind (erased s) h
 array-erased kind s h array =
     subst (λ (o : Option (Object ℕ)). IsSomeAnd o (λ (x : Object ℕ). element_width x.kind ≡ width kind)) (sym (object-erased s h))
-    (and-erased (map_object word_of) (λ (x : Object Cell). element_width x.kind ≡ width kind) (λ (x : Object ℕ). element_width x.kind ≡ width kind) (λ x e. e) (object_at s h) array)
+    (and-erased (map_object word_of) (λ (x : Object Cell). element_width x.kind ≡ width kind) (λ (x : Object ℕ). element_width x.kind ≡ width kind)
+    (λ x e. e) (object_at s h) array)
 
 -- where there is no object
 pub none-null : (z : State ℕ) (h : ℕ) → h ≤ 0 → None ≡ option_map (λ (o : Object ℕ). o.kind) (object_at z h)
@@ -87,7 +90,8 @@ shaped-erased w s shaped = record {
   frames = All-map (IsShapedFrame w) (map_frame word_of) s.frames
       (All-weaker (IsShapedFrame w) (λ (f : Frame Cell). IsShapedFrame w (map_frame word_of f)) (frame-shaped w) s.frames shaped.frames);
   objects = All-map (IsShapedObject w.classes) (map_object word_of) s.heap
-      (All-weaker (IsShapedObject w.classes) (λ (o : Object Cell). IsShapedObject w.classes (map_object word_of o)) (object-shaped w.classes) s.heap shaped.objects);
+      (All-weaker (IsShapedObject w.classes) (λ (o : Object Cell). IsShapedObject w.classes (map_object word_of o)) (object-shaped w.classes) s.heap
+      shaped.objects);
   statics = length-map s.statics word_of ∙ shaped.statics;
 }
 
@@ -100,7 +104,8 @@ or-weaker h P Q go = by (h == 0)
     by true x = x
     by false x = go x
 
-module _ (w : Linked) (erase : StatesErase w.methods w.classes) (f : Frame Cell) (below : List (Frame Cell)) (heap : List (Object Cell)) (statics : List Cell) where
+module _ (w : Linked) (erase : StatesErase w.methods w.classes) (f : Frame Cell) (below : List (Frame Cell)) (heap : List (Object Cell))
+    (statics : List Cell) where
   abbrev now : State Cell
   now = record { frames = f ∷ below; heap = heap; statics = statics }
 
@@ -123,7 +128,8 @@ module _ (w : Linked) (erase : StatesErase w.methods w.classes) (f : Frame Cell)
   held-is holders.Stack under = word-at f.stack under
   held-is holders.This under = word-at f.registers 0
 
-  field-erased : (fd : InstanceField) (holder : Holder) (under : ℕ) → IsNullOr (held_handle tagged holder under now) (HasField fd now (held_handle tagged holder under now))
+  field-erased : (fd : InstanceField) (holder : Holder) (under : ℕ)
+      → IsNullOr (held_handle tagged holder under now) (HasField fd now (held_handle tagged holder under now))
       → IsNullOr (held_handle words holder under (erased now)) (HasField fd (erased now) (held_handle words holder under (erased now)))
   field-erased fd holder under held =
       let h : ℕ = held_handle tagged holder under now in
@@ -143,7 +149,8 @@ module _ (w : Linked) (erase : StatesErase w.methods w.classes) (f : Frame Cell)
   receiver-erased c (choices.Virtual class token) has =
       handle-erased (args_of w c.method)
       (λ h. IsSome (object_at now h) × IsClass w.classes (class_of w.classes now h) × Below w.classes (Class (class_of w.classes now h)) (Class class))
-      (λ h. IsSome (object_at (erased now) h) × IsClass w.classes (class_of w.classes (erased now) h) × Below w.classes (Class (class_of w.classes (erased now) h)) (Class class))
+      (λ h. IsSome (object_at (erased now) h) × IsClass w.classes (class_of w.classes (erased now) h)
+      × Below w.classes (Class (class_of w.classes (erased now) h)) (Class class))
       (λ h has. (
         there-erased now h has.0,
         subst (IsClass w.classes) (class-is h) has.1,

@@ -24,12 +24,15 @@ held (running s) = s
 held (ended e s) = s
 
 -- a run that has not ended
-pub going-on : (e : Option Ending) (s : State ℕ) (o : Outcome Cell) → e ≡ None → with_ending e s ≡ erased_outcome o → (t : State Cell) × (o ≡ running t) × (s ≡ erased t)
-going-on e s (running t) none is = (t, refl, let now : running s ≡ running (erased t) = sym (ap (λ (x : Option Ending). with_ending x s) none) ∙ is in ap held now)
+pub going-on : (e : Option Ending) (s : State ℕ) (o : Outcome Cell) → e ≡ None → with_ending e s ≡ erased_outcome o → (t : State Cell)
+    × (o ≡ running t) × (s ≡ erased t)
+going-on e s (running t) none is =
+    (t, refl, let now : running s ≡ running (erased t) = sym (ap (λ (x : Option Ending). with_ending x s) none) ∙ is in ap held now)
 going-on e s (ended f t) none is = let now : running s ≡ ended f (erased t) = sym (ap (λ (x : Option Ending). with_ending x s) none) ∙ is in absurd (cc)
 
 -- its ending is no fault
-pub plain-ending : (w : Linked) (typings : Typings) (e : Option Ending) (s : State ℕ) (o : Outcome Cell) → with_ending e s ≡ erased_outcome o → IsTypedOutcome w typings o → IfSome e IsPlainEnding
+pub plain-ending : (w : Linked) (typings : Typings) (e : Option Ending) (s : State ℕ) (o : Outcome Cell) → with_ending e s ≡ erased_outcome o
+    → IsTypedOutcome w typings o → IfSome e IsPlainEnding
 plain-ending w typings None s o is safe = tt {0}
 plain-ending w typings (Some (endings.Plain plain)) s o is safe = tt {0}
 plain-ending w typings (Some (endings.Faulted fault)) s (running t) is safe = absurd (cc)
@@ -47,7 +50,8 @@ answers None = refl
 answers (Some plain) = refl
 
 -- an ending stays
-pub ended-follows : (w : Linked) (m : Machine) (ram heap statics : List ℕ) (budget : ℕ) (plain : Plain) → m.ending ≡ Some plain → (o : Outcome Cell) → AreWordsOf w m ram heap statics o
+pub ended-follows : (w : Linked) (m : Machine) (ram heap statics : List ℕ) (budget : ℕ) (plain : Plain) → m.ending ≡ Some plain
+    → (o : Outcome Cell) → AreWordsOf w m ram heap statics o
     → Follows w budget o m ram heap statics plain
 ended-follows w m ram heap statics budget plain is (running t) held =
     let now : ended (endings.Plain plain) (words_state w.methods ram heap statics m.counts) ≡ running (erased t) =

@@ -62,7 +62,9 @@ module _ {A : Type 0} (k : Cells A) (w : Linked) (s : State A) where
   leads-stays false to n = tt {0}
 
   arithmetic-stays : (a : Arithmetic) → Stays (arithmetic_act k a s)
-  arithmetic-stays (arithmetic.Binary operator width) = some-stays exceptions.Arithmetic (binary k operator width (top s).stack) (λ n. goes (replaced s (both_widths width) (number_cells k width n))) (λ n. tt {0})
+  arithmetic-stays (arithmetic.Binary operator width) =
+      some-stays exceptions.Arithmetic (binary k operator width (top s).stack) (λ n. goes (replaced s (both_widths width) (number_cells k width n)))
+      (λ n. tt {0})
   arithmetic-stays (arithmetic.Negate width) = tt {0}
   arithmetic-stays arithmetic.ShortToByte = tt {0}
   arithmetic-stays arithmetic.ShortToInt = tt {0}
@@ -92,7 +94,8 @@ module _ {A : Type 0} (k : Cells A) (w : Linked) (s : State A) where
       (λ h. calls (unwrap_or (dispatched w.classes class token (class_of w.classes s h)) callee.method) (args + 1) s) (tt {0})
   chosen-stays callee args (choices.Interface class token words) =
       let h : ℕ = handle_at k (top s).stack args in
-      null-stays h (λ n. interface_act w.classes class token (args + 1) (kind_of_handle (kinds s) n) s) (interface-stays class token (args + 1) (kind_of_handle (kinds s) h))
+      null-stays h (λ n. interface_act w.classes class token (args + 1) (kind_of_handle (kinds s) n) s)
+      (interface-stays class token (args + 1) (kind_of_handle (kinds s) h))
 
   array-stays : (kind : ObjectKind) (count : ℤ) (z : State A) → Stays (array_of_count k kind count z)
   array-stays kind (pos count) z = tt {0}
@@ -135,7 +138,8 @@ module _ {A : Type 0} (k : Cells A) (w : Linked) (s : State A) where
       let x : ℤ = short_at k (top s).stack (width kind) in
       let a : ℕ → ℕ → Act A = λ n j. if keeps_kind k w.classes kind s n then goes (with_element k kind n j s) else raises exceptions.ArrayStore in
       null-stays h (λ n. at_element x (elements_of s n) (a n))
-      (some-stays exceptions.ArrayIndex (element_index x (elements_of s h)) (a h) (λ j. goes-or (keeps_kind k w.classes kind s h) (with_element k kind h j s) exceptions.ArrayStore))
+      (some-stays exceptions.ArrayIndex (element_index x (elements_of s h)) (a h)
+      (λ j. goes-or (keeps_kind k w.classes kind s h) (with_element k kind h j s) exceptions.ArrayStore))
   jumps-stay i ops.ArrayLength =
       null-stays (handle_at k (top s).stack 0) (λ n. goes (replaced s 1 (k.short (short_of_word (elements_of s n)) ∷ []))) (tt {0})
   jumps-stay i (ops.Branch branch) = leads-stays (is_taken k branch (top s).stack) (target (top s).place i.x) (branch_width branch)

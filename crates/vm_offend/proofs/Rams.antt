@@ -1,5 +1,6 @@
 -- The words of all frames, and what a write to those of the frame on top does.
-use Rattle.std.proofs.Common.{◌≡◌, ℕ, zero, suc, ◌+◌, ◌-◌, ◌*◌, ◌<◌, ◌≤◌, List, [], ◌∷◌, ◌++◌, length, take, drop, refl, sym, ◌∙◌, ap, subst, arith, length-drop, length-take}
+use Rattle.std.proofs.Common.{◌≡◌, ℕ, zero, suc, ◌+◌, ◌-◌, ◌*◌, ◌<◌, ◌≤◌, List, [], ◌∷◌, ◌++◌, length, take, drop, refl}
+use Rattle.std.proofs.Common.{sym, ◌∙◌, ap, subst, arith, length-drop, length-take}
 use Rattle.std.proofs.lemmas.List.{take-take, take_at, drop_at, append_assoc, length-append, drop-take}
 use borrow.Rule.Slice.PartMut.{put_mid}
 use Rattle.jc_base.specs.declared.record.MethodRec.{MethodRec}
@@ -20,14 +21,16 @@ window_below xs ys n k lt e =
     λ zs. sym (drop-take (513 * n) 513 zs) ∙ ap (drop (513 * n)) (sym (take-take (513 * n + 513) (513 * k) zs fits)) in
     cut xs ∙ (ap (λ zs. drop (513 * n) (take (513 * n + 513) zs)) e ∙ sym (cut ys))
 
-pub frames_below : (methods : List MethodRec) (xs ys : List ℕ) (n k : ℕ) → n ≤ k → take (513 * k) xs ≡ take (513 * k) ys → frames_in methods xs n ≡ frames_in methods ys n
+pub frames_below : (methods : List MethodRec) (xs ys : List ℕ) (n k : ℕ) → n ≤ k → take (513 * k) xs ≡ take (513 * k) ys
+    → frames_in methods xs n ≡ frames_in methods ys n
 frames_below methods xs ys zero k le e = refl
 frames_below methods xs ys (suc n) k le e =
     let w = window_below xs ys n k le e in
     let rest = frames_below methods xs ys n k (omega arith) e in
     ap (λ v. frame_in methods v ∷ frames_in methods xs n) w ∙ ap (λ fs. frame_in methods (window ys n) ∷ fs) rest
 
-pub fits_below : (methods : List MethodRec) (xs ys : List ℕ) (n k : ℕ) → n ≤ k → take (513 * k) xs ≡ take (513 * k) ys → FitWindows methods xs n → FitWindows methods ys n
+pub fits_below : (methods : List MethodRec) (xs ys : List ℕ) (n k : ℕ) → n ≤ k → take (513 * k) xs ≡ take (513 * k) ys
+    → FitWindows methods xs n → FitWindows methods ys n
 fits_below methods xs ys zero k le e fits = tt
 fits_below methods xs ys (suc n) k le e (here, rest) =
     (subst (FitsWindow methods) (window_below xs ys n k le e) here, fits_below methods xs ys n k (omega arith) e rest)
@@ -68,7 +71,8 @@ frames_whole (f ∷ fs) h = refl
 
 -- ---- the frame on top, in the words that the code takes for it
 
-module _ (w : Linked) (ram heap : List ℕ) (counts : Counts) (laid : AreLaid w ram heap counts) (running : 0 < length (frames_in w.methods ram counts.frames)) where
+module _ (w : Linked) (ram heap : List ℕ) (counts : Counts) (laid : AreLaid w ram heap counts)
+    (running : 0 < length (frames_in w.methods ram counts.frames)) where
   pub some : 0 < counts.frames
   some = omega (arith, length-frames_in w.methods ram counts.frames)
 
@@ -106,14 +110,17 @@ module _ (w : Linked) (ram heap : List ℕ) (counts : Counts) (laid : AreLaid w 
   pub taken_fits : FitsWindow w.methods (take (513 * (counts.frames - 1) + 513 - 513 * (counts.frames - 1)) (drop (513 * (counts.frames - 1)) ram))
   taken_fits = subst (FitsWindow w.methods) (sym taken) fits_all.0
 
-  whole : (ws : List ℕ) → length ws ≡ length (take (513 * (counts.frames - 1) + 513 - 513 * (counts.frames - 1)) (drop (513 * (counts.frames - 1)) ram)) → length ws ≡ 513
+  whole : (ws : List ℕ)
+      → length ws ≡ length (take (513 * (counts.frames - 1) + 513 - 513 * (counts.frames - 1)) (drop (513 * (counts.frames - 1)) ram))
+      → length ws ≡ 513
   whole ws same = same ∙ taken_length
 
   -- the state once those words hold another frame
   pub put_top :
       (statics ws : List ℕ) (change : Frame ℕ → Frame ℕ)
       → length ws ≡ length (take (513 * (counts.frames - 1) + 513 - 513 * (counts.frames - 1)) (drop (513 * (counts.frames - 1)) ram))
-      → frame_in w.methods ws ≡ change (frame_in w.methods (take (513 * (counts.frames - 1) + 513 - 513 * (counts.frames - 1)) (drop (513 * (counts.frames - 1)) ram)))
+      → frame_in w.methods ws
+      ≡ change (frame_in w.methods (take (513 * (counts.frames - 1) + 513 - 513 * (counts.frames - 1)) (drop (513 * (counts.frames - 1)) ram)))
       → words_state w.methods (put_mid (513 * (counts.frames - 1)) (513 * (counts.frames - 1) + 513 - 513 * (counts.frames - 1)) ram ws) heap statics counts
       ≡ with_top (words_state w.methods ram heap statics counts) (change (first_frame (frames_in w.methods ram counts.frames)))
   put_top statics ws change same e =
@@ -121,7 +128,8 @@ module _ (w : Linked) (ram heap : List ℕ) (counts : Counts) (laid : AreLaid w 
       let f : Frame ℕ = change (first_frame (frames_in w.methods ram counts.frames)) in
       let held : frame_in w.methods ws ≡ f = e ∙ ap change taken_is in
       let framed : List (Frame ℕ) → State ℕ = λ fs. record (words_state w.methods ram heap statics counts) { frames = fs } in
-      let narrow : frames_in w.methods (put_mid (513 * n) (513 * n + 513 - 513 * n) ram ws) counts.frames ≡ frames_in w.methods (put_mid (513 * n) 513 ram ws) counts.frames =
+      let narrow : frames_in w.methods (put_mid (513 * n) (513 * n + 513 - 513 * n) ram ws) counts.frames ≡ frames_in w.methods
+      (put_mid (513 * n) 513 ram ws) counts.frames =
       ap (λ k. frames_in w.methods (put_mid (513 * n) k ram ws) counts.frames) width in
       let counted : frames_in w.methods (put_mid (513 * n) 513 ram ws) counts.frames ≡ frames_in w.methods (put_mid (513 * n) 513 ram ws) (suc n) =
       ap (frames_in w.methods (put_mid (513 * n) 513 ram ws)) (sym last) in
@@ -152,7 +160,8 @@ module _ (w : Linked) (ram heap : List ℕ) (counts : Counts) (laid : AreLaid w 
       })
 
   -- the state without the frame on top
-  pub left_state : (statics : List ℕ) → words_state w.methods ram heap statics (record counts { frames = counts.frames - 1 }) ≡ without_top (words_state w.methods ram heap statics counts)
+  pub left_state : (statics : List ℕ) → words_state w.methods ram heap statics (record counts { frames = counts.frames - 1 })
+      ≡ without_top (words_state w.methods ram heap statics counts)
   left_state statics =
       let framed : List (Frame ℕ) → State ℕ = λ fs. record (words_state w.methods ram heap statics counts) { frames = fs } in
       ap framed (ap other_frames (sym frames_are))
@@ -170,14 +179,16 @@ module _ (w : Linked) (ram heap : List ℕ) (counts : Counts) (laid : AreLaid w 
       }
 
   -- nothing is done to the frame on top
-  pub same_state : (statics : List ℕ) → words_state w.methods ram heap statics counts ≡ with_top (words_state w.methods ram heap statics counts) (first_frame (frames_in w.methods ram counts.frames))
+  pub same_state : (statics : List ℕ) → words_state w.methods ram heap statics counts ≡ with_top (words_state w.methods ram heap statics counts)
+      (first_frame (frames_in w.methods ram counts.frames))
   same_state statics =
       let framed : List (Frame ℕ) → State ℕ = λ fs. record (words_state w.methods ram heap statics counts) { frames = fs } in
       ap framed (sym (frames_whole (frames_in w.methods ram counts.frames) running))
 
 -- ---- one frame more, in the words after those of the frames that are there
 
-module _ (w : Linked) (ram heap : List ℕ) (counts : Counts) (laid : AreLaid w ram heap counts) (room : length (frames_in w.methods ram counts.frames) < 64) where
+module _ (w : Linked) (ram heap : List ℕ) (counts : Counts) (laid : AreLaid w ram heap counts)
+    (room : length (frames_in w.methods ram counts.frames) < 64) where
   next_within : 513 * counts.frames + 513 ≤ length ram
   next_within = omega (arith, laid.ram_length, room, length-frames_in w.methods ram counts.frames)
 
@@ -195,7 +206,8 @@ module _ (w : Linked) (ram heap : List ℕ) (counts : Counts) (laid : AreLaid w 
   pub next_state :
       (statics ws : List ℕ) (f : Frame ℕ)
       → length ws ≡ length (take (513 * counts.frames + 513 - 513 * counts.frames) (drop (513 * counts.frames) ram)) → frame_in w.methods ws ≡ f
-      → words_state w.methods (put_mid (513 * counts.frames) (513 * counts.frames + 513 - 513 * counts.frames) ram ws) heap statics (record counts { frames = counts.frames + 1 })
+      → words_state w.methods (put_mid (513 * counts.frames) (513 * counts.frames + 513 - 513 * counts.frames) ram ws) heap statics
+      (record counts { frames = counts.frames + 1 })
       ≡ record (words_state w.methods ram heap statics counts) { frames = f ∷ frames_in w.methods ram counts.frames }
   next_state statics ws f same e =
       let n = counts.frames in
@@ -207,7 +219,8 @@ module _ (w : Linked) (ram heap : List ℕ) (counts : Counts) (laid : AreLaid w 
       ∙ (put_frames w.methods ram ws n next_within (same ∙ next_length) ∙ ap (λ g. g ∷ frames_in w.methods ram n) e)))
 
   pub next_laid :
-      (ws : List ℕ) → length ws ≡ length (take (513 * counts.frames + 513 - 513 * counts.frames) (drop (513 * counts.frames) ram)) → FitsWindow w.methods ws
+      (ws : List ℕ) → length ws ≡ length (take (513 * counts.frames + 513 - 513 * counts.frames) (drop (513 * counts.frames) ram))
+      → FitsWindow w.methods ws
       → AreLaid w (put_mid (513 * counts.frames) (513 * counts.frames + 513 - 513 * counts.frames) ram ws) heap (record counts { frames = counts.frames + 1 })
   next_laid ws same fits =
       let n = counts.frames in
@@ -236,7 +249,8 @@ below_at : (lower ws more : List ℕ) (n : ℕ) → length lower ≡ 513 * n →
 below_at lower ws more n l = ap (take (513 * n)) (append_assoc lower ws more) ∙ take_at lower (ws ++ more) (513 * n) l
 
 module _ (methods : List MethodRec) (ram lower was caller callee above rest : List ℕ) (n : ℕ)
-    (whole : ram ≡ (lower ++ was) ++ above) (l : length lower ≡ 513 * n) (s : length was ≡ 513) (s₁ : length caller ≡ 513) (s₂ : length callee ≡ 513)
+    (whole : ram ≡ (lower ++ was) ++ above) (l : length lower ≡ 513 * n) (s : length was ≡ 513) (s₁ : length caller ≡ 513)
+    (s₂ : length callee ≡ 513)
   where
     -- the words of the caller as they were
     pub called_top : frame_in methods was ≡ first_frame (frames_in methods ram (suc n))
@@ -265,7 +279,8 @@ module _ (methods : List MethodRec) (ram lower was caller callee above rest : Li
         ∙ (ap (λ v. frame_in methods callee ∷ (frame_in methods v ∷ frames_in methods now n)) first
         ∙ ap (λ fs. frame_in methods callee ∷ (frame_in methods caller ∷ fs)) (frames_below methods now ram n n (omega arith) same_below))
 
-    pub called_fits : FitsWindow methods callee → FitsWindow methods caller → FitWindows methods ram n → FitWindows methods ((lower ++ caller) ++ (callee ++ rest)) (suc (suc n))
+    pub called_fits : FitsWindow methods callee → FitsWindow methods caller → FitWindows methods ram n
+        → FitWindows methods ((lower ++ caller) ++ (callee ++ rest)) (suc (suc n))
     called_fits two one others =
         let now = (lower ++ caller) ++ (callee ++ rest) in (
           subst (FitsWindow methods) (sym second) two,

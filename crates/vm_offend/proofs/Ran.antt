@@ -31,7 +31,8 @@ use Rattle.vm_offend.proofs.Reached.{reached-on, reached-safe, reached-runs, rea
 use Rattle.vm_offend.proofs.Following.{going-on, plain-ending, ending-is, answers}
 
 -- what the steps left in the memory: a machine of before, and one of after
-pub record Ran (w : Linked) (m : Machine) (ram heap statics : List ℕ) (budget : ℕ) (n : Machine) (frames objects fields : List ℕ) (plain : Plain) : Type 0 where
+pub record Ran (w : Linked) (m : Machine) (ram heap statics : List ℕ) (budget : ℕ) (n : Machine) (frames objects fields : List ℕ) (plain : Plain)
+    : Type 0 where
   pub going : m.ending ≡ None
   pub ending : Option Ending
   pub runs : Runs words w budget (words_state w.methods ram heap statics m.counts) (with_ending ending (words_state w.methods frames objects fields n.counts))
@@ -49,14 +50,16 @@ module _ (w : Linked) (has : HasTypings w Bottom) (starts : StartsAreTyped w) (s
   held-state m ram heap statics going o held =
       going-on (option_map endings.Plain m.ending) (words_state w.methods ram heap statics m.counts) o (ap (option_map endings.Plain) going) held.words
 
-  pub can-run : StepsAreOne tagged w → RunsExist w → (m : Machine) (ram heap statics : List ℕ) → m.ending ≡ None → (r : IsRunOf w m ram heap statics)
+  pub can-run : StepsAreOne tagged w → RunsExist w → (m : Machine) (ram heap statics : List ℕ) → m.ending ≡ None
+      → (r : IsRunOf w m ram heap statics)
       → (s : State ℕ) → s ≡ words_state w.methods ram heap statics m.counts → IsRunning s
   can-run one exist m ram heap statics going r s is =
       let t = held-state m ram heap statics going r.outcome r.words in
       let runs : IsRunning t.0 = reached-runs w one exist t.0 (subst (IsOutcomeOfRun w) t.1 r.reached) in
       subst (λ (x : State ℕ). IsRunning x) (sym (is ∙ t.2)) (omega (arith, runs, length-map t.0.frames (map_frame word_of)))
 
-  pub run-keeps : StartsAreShaped w → StepsStay tagged (IsShaped w) w → (m : Machine) (ram heap statics : List ℕ) → m.ending ≡ None → (r : IsRunOf w m ram heap statics)
+  pub run-keeps : StartsAreShaped w → StepsStay tagged (IsShaped w) w → (m : Machine) (ram heap statics : List ℕ) → m.ending ≡ None
+      → (r : IsRunOf w m ram heap statics)
       → (s : State ℕ) → s ≡ words_state w.methods ram heap statics m.counts → AreTypedWords w s
   run-keeps shapes stay m ram heap statics going r s is =
       let t = held-state m ram heap statics going r.outcome r.words in
@@ -64,7 +67,8 @@ module _ (w : Linked) (has : HasTypings w Bottom) (starts : StartsAreTyped w) (s
 
   -- ---- after them
 
-  gone : TypedRunsFollow w → (budget : ℕ) (s z : State ℕ) (e : Option Ending) (t : State Cell) → s ≡ erased t → IsOutcomeOfRun w (running t) → Runs words w budget s (with_ending e z)
+  gone : TypedRunsFollow w → (budget : ℕ) (s z : State ℕ) (e : Option Ending) (t : State Cell) → s ≡ erased t → IsOutcomeOfRun w (running t)
+      → Runs words w budget s (with_ending e z)
       → (o : Outcome Cell) × Runs tagged w budget t o × (with_ending e z ≡ erased_outcome o) × IsTypedOutcome w has.typings o
   gone follow budget s z e t is r runs =
       let typed = reached-safe w has starts safe (running t) r in
@@ -72,13 +76,15 @@ module _ (w : Linked) (has : HasTypings w Bottom) (starts : StartsAreTyped w) (s
       (there.0, there.1, there.2, safe has.typings budget t there.0 has.are typed there.1)
 
   pub run-plain : TypedRunsFollow w → (m : Machine) (ram heap statics : List ℕ) → m.ending ≡ None → (r : IsRunOf w m ram heap statics)
-      → (budget : ℕ) (s z : State ℕ) (e : Option Ending) → s ≡ words_state w.methods ram heap statics m.counts → Runs words w budget s (with_ending e z) → IfSome e IsPlainEnding
+      → (budget : ℕ) (s z : State ℕ) (e : Option Ending) → s ≡ words_state w.methods ram heap statics m.counts
+      → Runs words w budget s (with_ending e z) → IfSome e IsPlainEnding
   run-plain follow m ram heap statics going r budget s z e is runs =
       let t = held-state m ram heap statics going r.outcome r.words in
       let g = gone follow budget s z e t.0 (is ∙ t.2) (subst (IsOutcomeOfRun w) t.1 r.reached) runs in
       plain-ending w has.typings e z g.0 g.2 g.3
 
-  module _ (follow : TypedRunsFollow w) (m : Machine) (ram heap statics : List ℕ) (budget : ℕ) (n : Machine) (frames objects fields : List ℕ) (plain : Plain)
+  module _ (follow : TypedRunsFollow w) (m : Machine) (ram heap statics : List ℕ) (budget : ℕ) (n : Machine) (frames objects fields : List ℕ)
+      (plain : Plain)
       (ran : Ran w m ram heap statics budget n frames objects fields plain)
     where
       pub follows-each : (o : Outcome Cell) → IsOutcomeOfRun w o → AreWordsOf w m ram heap statics o → Follows w budget o n frames objects fields plain

@@ -27,7 +27,8 @@ module _ (w : Linked) where
     runs = on r.steps n (running r.start) o z r.runs more;
   }
 
-  pub reached-safe : (has : HasTypings w Bottom) → StartsAreTyped w → RunsAreSafe w → (o : Outcome Cell) → IsOutcomeOfRun w o → IsTypedOutcome w has.typings o
+  pub reached-safe : (has : HasTypings w Bottom) → StartsAreTyped w → RunsAreSafe w → (o : Outcome Cell) → IsOutcomeOfRun w o
+      → IsTypedOutcome w has.typings o
   reached-safe has starts safe o r = safe has.typings r.steps r.start o has.are (starts has.typings r.entry r.args r.start has.are r.starts) r.runs
 
   -- ---- shape
@@ -55,7 +56,8 @@ module _ (w : Linked) where
   same-running z y e = cc
 
   -- a run of one step more takes it from the state that the run reaches
-  last-runs : StepsAreOne tagged w → {n : ℕ} {s t : State Cell} {o : Outcome Cell} → Runs tagged w n s (running t) → Runs tagged w (suc n) s o → IsRunning t
+  last-runs : StepsAreOne tagged w → {n : ℕ} {s t : State Cell} {o : Outcome Cell} → Runs tagged w n s (running t) → Runs tagged w (suc n) s o
+      → IsRunning t
   last-runs one stands more = first-runs more
   last-runs one (steps {s = s} {z = y} first rest) (stops {z = z} {ending = e} last) = let both = one s (running y) (ended e z) first last in absurd (cc)
   last-runs one (steps {n = n} {s = s} {z = y} {o = r} first rest) (steps {n = m} {z = z} {o = o} also more) =

@@ -1,6 +1,10 @@
 -- A frame in its words, and what a write to them does to it.
-use Rattle.std.proofs.Common.{◌≡◌, ◌≢◌, ℕ, ◌+◌, ◌-◌, ◌<◌, ◌≤◌, List, [], ◌∷◌, ◌++◌, length, take, drop, reverse, replicate, set, get_or, sym, ◌∙◌, ap, subst, inl, inr, refl, arith, length-drop, length-take, length-set}
-use Rattle.std.proofs.lemmas.List.{take_more, take_more_set, take-set-le, take_all, take_at, take-append-le, take-append-drop, drop_at, drop-drop, drop-take, drop-set-lt, drop-set-add, drop-append-le, get_or-set_other, get_or-set_same, get_or-reverse, get_or-take, get_or-drop, get_or_append_left, get_or-append_right, get_or-replicate, get_or_past, reverse-append, reverse-reverse, length-reverse, length-append, length-replicate, take-take}
+use Rattle.std.proofs.Common.{◌≡◌, ◌≢◌, ℕ, ◌+◌, ◌-◌, ◌<◌, ◌≤◌, List, [], ◌∷◌, ◌++◌, length, take, drop, reverse}
+use Rattle.std.proofs.Common.{replicate, set, get_or, sym, ◌∙◌, ap, subst, inl, inr, refl, arith, length-drop, length-take, length-set}
+use Rattle.std.proofs.lemmas.List.{take_more, take_more_set, take-set-le, take_all, take_at, take-append-le, take-append-drop, drop_at, drop-drop, drop-take}
+use Rattle.std.proofs.lemmas.List.{drop-set-lt, drop-set-add, drop-append-le, get_or-set_other, get_or-set_same, get_or-reverse, get_or-take, get_or-drop}
+use Rattle.std.proofs.lemmas.List.{get_or_append_left, get_or-append_right, get_or-replicate, get_or_past, reverse-append, reverse-reverse, length-reverse}
+use Rattle.std.proofs.lemmas.List.{length-append, length-replicate, take-take}
 use Rattle.std.proofs.lemmas.Bool.{cases_lt}
 use borrow.Rule.Slice.PartMut.{put_mid}
 use Rattle.jc_base.specs.declared.record.MethodRec.{MethodRec}
@@ -248,7 +252,8 @@ module _ (methods : List MethodRec) (ws : List ℕ) (len : length ws ≡ 513) (f
 -- ---- a frame that begins
 
 -- the registers of a method, one by one: an argument, or 0
-pub register_of : (args : List ℕ) (count x : ℕ) → length args ≤ count → x < count → get_or (args ++ replicate (count - length args) 0) x 0 ≡ get_or args x 0
+pub register_of : (args : List ℕ) (count x : ℕ) → length args ≤ count → x < count → get_or (args ++ replicate (count - length args) 0) x 0
+    ≡ get_or args x 0
 register_of args count x room lt =
     elim (cases_lt x (length args)) [
       | inl less ↦ get_or_append_left args (replicate (count - length args) 0) 0 x less
@@ -277,7 +282,8 @@ register-more ws args count x v len few room lt is e =
 
 module _ (methods : List MethodRec) (ws args : List ℕ) (method : ℕ) (len : length ws ≡ 513) (few : register_count methods method ≤ 255)
     (room : length args ≤ register_count methods method)
-    (written : take (register_count methods method) (drop 3 ws) ≡ take (register_count methods method) (args ++ replicate (register_count methods method - length args) 0))
+    (written : take (register_count methods method) (drop 3 ws) ≡ take (register_count methods method)
+    (args ++ replicate (register_count methods method - length args) 0))
   where
     begun_words : List ℕ
     begun_words = set (set (set ws 0 method) 1 0) 2 0

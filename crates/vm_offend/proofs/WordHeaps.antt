@@ -1,7 +1,9 @@
 -- The objects in the words of the heap: headers first, and all cells from word 12,288 on.
-use Rattle.std.proofs.Common.{◌≡◌, ℕ, zero, suc, ◌+◌, ◌-◌, ◌*◌, ◌<◌, ◌≤◌, true, false, List, [], ◌∷◌, ◌++◌, length, take, drop, set, get_or, refl, sym, ◌∙◌, ap, inl, inr, arith, length-drop, length-take, length-set}
+use Rattle.std.proofs.Common.{◌≡◌, ℕ, zero, suc, ◌+◌, ◌-◌, ◌*◌, ◌<◌, ◌≤◌, true, false, List, [], ◌∷◌, ◌++◌, length}
+use Rattle.std.proofs.Common.{take, drop, set, get_or, refl, sym, ◌∙◌, ap, inl, inr, arith, length-drop, length-take, length-set}
 use Rattle.std.specs.Prelude.{nat_lt, if◌then◌else◌, ◌==◌}
-use Rattle.std.proofs.lemmas.List.{get_or-set_other, get_or-set_same, get_or_append_left, get_or-append_right, get_or-take, length-append, length_push, drop-set-lt, drop-set-add, drop_at, drop_all, append-nil}
+use Rattle.std.proofs.lemmas.List.{get_or-set_other, get_or-set_same, get_or_append_left, get_or-append_right, get_or-take, length-append, length_push}
+use Rattle.std.proofs.lemmas.List.{drop-set-lt, drop-set-add, drop_at, drop_all, append-nil}
 use Rattle.std.proofs.lemmas.Bool.{cases_lt}
 use Rattle.std.proofs.lemmas.Bool.Decides.{nat_tests}
 use borrow.Rule.Slice.PartMut.{put_mid}
@@ -24,7 +26,8 @@ array_less c h = grind (arith, nat_tests)
 
 pub kind-word : (k : ObjectKind) → IsNumbered k → kind_of_word (word_of_kind k) ≡ k
 kind-word (Instance c) h =
-    let others : ObjectKind = if nat_lt c 0xF000 then References (c - 0x8000) else if c == 0xF000 then Booleans else if c == 0xF001 then Bytes else if c == 0xF002 then Shorts else Ints in
+    let others : ObjectKind = if nat_lt c 0xF000 then References (c - 0x8000) else if c == 0xF000 then Booleans else if c == 0xF001 then Bytes else if c ==
+    0xF002 then Shorts else Ints in
     ap (λ b. if b then Instance c else others) (class_less c h)
 kind-word (References c) h =
     let w = 0x8000 + c in
@@ -66,7 +69,8 @@ same_header xs ys n m same lt =
     ap (λ k. make k (get_or xs (3 * n + 1) 0) (get_or xs (3 * n + 2) 0)) a
     ∙ (ap (λ s. make (get_or ys (3 * n) 0) s (get_or xs (3 * n + 2) 0)) b ∙ ap (make (get_or ys (3 * n) 0) (get_or ys (3 * n + 1) 0)) c)
 
-pub same_headers : (xs ys : List ℕ) (n m : ℕ) → ((k : ℕ) → k < 3 * m → get_or xs k 0 ≡ get_or ys k 0) → n ≤ m → headers_in xs n ≡ headers_in ys n
+pub same_headers : (xs ys : List ℕ) (n m : ℕ) → ((k : ℕ) → k < 3 * m → get_or xs k 0 ≡ get_or ys k 0) → n ≤ m
+    → headers_in xs n ≡ headers_in ys n
 same_headers xs ys zero m same le = refl
 same_headers xs ys (suc n) m same le =
     ap (λ h. headers_in xs n ++ h ∷ []) (same_header xs ys n m same (omega arith))
@@ -83,7 +87,8 @@ module _ (heap : List ℕ) (n p v : ℕ) (few : n ≤ 4096) where
 
 -- ---- a new object: its cells, and then its header
 
-module _ (heap ws : List ℕ) (n size : ℕ) (h : ObjectHeader) (few : n < 4096) (len : length heap ≡ 45056) (whole : size ≡ length heap - 12288) (same : length ws ≡ size) (numbered : IsNumbered h.kind) where
+module _ (heap ws : List ℕ) (n size : ℕ) (h : ObjectHeader) (few : n < 4096) (len : length heap ≡ 45056) (whole : size ≡ length heap - 12288)
+    (same : length ws ≡ size) (numbered : IsNumbered h.kind) where
   front : length (take 12288 heap) ≡ 12288
   front = omega (arith, length-take 12288 heap, len)
 
@@ -123,7 +128,8 @@ module _ (heap ws : List ℕ) (n size : ℕ) (h : ObjectHeader) (few : n < 4096)
       let ws₂ = set ws₁ (3 * n + 1) h.start in
       length-set ws₂ (3 * n + 2) h.elements ∙ (length-set ws₁ (3 * n + 1) h.start ∙ (length-set ws₀ (3 * n) (word_of_kind h.kind) ∙ filled_length))
 
-  old_headers : headers_in (set (set (set (put_mid 12288 size heap ws) (3 * n) (word_of_kind h.kind)) (3 * n + 1) h.start) (3 * n + 2) h.elements) n ≡ headers_in heap n
+  old_headers : headers_in (set (set (set (put_mid 12288 size heap ws) (3 * n) (word_of_kind h.kind)) (3 * n + 1) h.start) (3 * n + 2) h.elements) n
+      ≡ headers_in heap n
   old_headers =
       let ws₀ = put_mid 12288 size heap ws in
       let ws₁ = set ws₀ (3 * n) (word_of_kind h.kind) in
@@ -145,7 +151,8 @@ module _ (heap ws : List ℕ) (n size : ℕ) (h : ObjectHeader) (few : n < 4096)
       let l₂ : length ws₂ ≡ 45056 = length-set ws₁ (3 * n + 1) h.start ∙ l₁ in
       let a : get_or ws₃ (3 * n) 0 ≡ word_of_kind h.kind =
       get_or-set_other ws₂ (3 * n + 2) (3 * n) h.elements 0 (omega arith)
-      ∙ (get_or-set_other ws₁ (3 * n + 1) (3 * n) h.start 0 (omega arith) ∙ get_or-set_same ws₀ (3 * n) (word_of_kind h.kind) 0 (omega (arith, l₀))) in
+      ∙ (get_or-set_other ws₁ (3 * n + 1) (3 * n) h.start 0 (omega arith) ∙ get_or-set_same ws₀ (3 * n) (word_of_kind h.kind) 0
+      (omega (arith, l₀))) in
       let b : get_or ws₃ (3 * n + 1) 0 ≡ h.start =
       get_or-set_other ws₂ (3 * n + 2) (3 * n + 1) h.elements 0 (omega arith) ∙ get_or-set_same ws₁ (3 * n + 1) h.start 0 (omega (arith, l₁)) in
       let c : get_or ws₃ (3 * n + 2) 0 ≡ h.elements = get_or-set_same ws₂ (3 * n + 2) h.elements 0 (omega (arith, l₂)) in
@@ -154,7 +161,8 @@ module _ (heap ws : List ℕ) (n size : ℕ) (h : ObjectHeader) (few : n < 4096)
       ∙ (ap (λ k. make k (get_or ws₃ (3 * n + 1) 0) (get_or ws₃ (3 * n + 2) 0)) (kind-word h.kind numbered)
       ∙ (ap (λ s. make h.kind s (get_or ws₃ (3 * n + 2) 0)) b ∙ ap (make h.kind h.start) c))
 
-  pub new-headers : headers_in (set (set (set (put_mid 12288 size heap ws) (3 * n) (word_of_kind h.kind)) (3 * n + 1) h.start) (3 * n + 2) h.elements) (n + 1) ≡ headers_in heap n ++ h ∷ []
+  pub new-headers : headers_in (set (set (set (put_mid 12288 size heap ws) (3 * n) (word_of_kind h.kind)) (3 * n + 1) h.start) (3 * n + 2) h.elements)
+      (n + 1) ≡ headers_in heap n ++ h ∷ []
   new-headers =
       let ws₃ = set (set (set (put_mid 12288 size heap ws) (3 * n) (word_of_kind h.kind)) (3 * n + 1) h.start) (3 * n + 2) h.elements in
       let next : n + 1 ≡ suc n = omega arith in

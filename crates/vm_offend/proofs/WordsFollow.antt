@@ -1,5 +1,6 @@
 -- Words of a typed state are that of one after each step, and its tests, which nothing makes, would all be passed.
-use Rattle.std.proofs.Common.{◌≡◌, ℕ, ◌+◌, ◌<◌, ◌≤◌, Bool, true, false, if◌then◌else◌, List, [], ◌∷◌, length, map, reverse, refl, sym, ap, ◌∙◌, subst, arith}
+use Rattle.std.proofs.Common.{◌≡◌, ℕ, ◌+◌, ◌<◌, ◌≤◌, Bool, true, false, if◌then◌else◌, List, [], ◌∷◌, length, map, reverse}
+use Rattle.std.proofs.Common.{refl, sym, ap, ◌∙◌, subst, arith}
 use Rattle.std.specs.Prelude.{ℤ, Option, Some, None, Ok, Err, All, IsSome, slice_get, nat_lt}
 use Rattle.std.proofs.lemmas.Bool.{ltb-false}
 use Rattle.std.proofs.lemmas.Bool.Decides.{nat_tests}
@@ -67,7 +68,8 @@ held (running s) = s
 held (ended e s) = s
 
 module _ (w : Linked) (follow : TypedStepsFollow w) (safe : StepsAreSafe w) where
-  stays-by : (z : State ℕ) (t : State Cell) (o : Outcome Cell) → running z ≡ erased_outcome o → (typings : Typings) → ((n : ℕ) → typings.unset n ≡ Bottom) → AreTypings w typings → IsTypedOutcome w typings o
+  stays-by : (z : State ℕ) (t : State Cell) (o : Outcome Cell) → running z ≡ erased_outcome o → (typings : Typings)
+      → ((n : ℕ) → typings.unset n ≡ Bottom) → AreTypings w typings → IsTypedOutcome w typings o
       → IsShaped w t → Steps tagged w t o → StepsStay tagged (IsShaped w) w → AreTypedWords w z
   stays-by z t (running y) e typings unset are typed shaped step stay =
       let same : z ≡ erased y = ap held e in
@@ -76,10 +78,13 @@ module _ (w : Linked) (follow : TypedStepsFollow w) (safe : StepsAreSafe w) wher
 
   pub steps-stay : StepsStay tagged (IsShaped w) w → StepsStay words (AreTypedWords w) w
   steps-stay stay s z kept step =
-      let there = follow kept.typings kept.state (running z) kept.methods kept.typed (subst (λ (x : State ℕ). Steps words w x (running z)) kept.words step) in
-      stays-by z kept.state there.0 there.2 kept.typings kept.unset kept.methods (safe kept.typings kept.state there.0 kept.methods kept.typed there.1) kept.shaped there.1 stay
+      let there = follow kept.typings kept.state (running z) kept.methods kept.typed
+      (subst (λ (x : State ℕ). Steps words w x (running z)) kept.words step) in
+      stays-by z kept.state there.0 there.2 kept.typings kept.unset kept.methods (safe kept.typings kept.state there.0 kept.methods kept.typed there.1)
+      kept.shaped there.1 stay
 
-  ends-by : (z : State ℕ) (e : Ending) (t : State Cell) (o : Outcome Cell) → ended e z ≡ erased_outcome o → IsShaped w t → Steps tagged w t o → StepsEnd tagged (IsShaped w) w → IsShaped w z
+  ends-by : (z : State ℕ) (e : Ending) (t : State Cell) (o : Outcome Cell) → ended e z ≡ erased_outcome o → IsShaped w t → Steps tagged w t o
+      → StepsEnd tagged (IsShaped w) w → IsShaped w z
   ends-by z e t (running y) is shaped step last = absurd (cc)
   ends-by z e t (ended ending y) is shaped step last =
       let same : z ≡ erased y = ap held is in
@@ -87,7 +92,8 @@ module _ (w : Linked) (follow : TypedStepsFollow w) (safe : StepsAreSafe w) wher
 
   pub steps-end : StepsEnd tagged (IsShaped w) w → StepsEnd words (AreTypedWords w) w
   steps-end last s z e kept step =
-      let there = follow kept.typings kept.state (ended e z) kept.methods kept.typed (subst (λ (x : State ℕ). Steps words w x (ended e z)) kept.words step) in
+      let there = follow kept.typings kept.state (ended e z) kept.methods kept.typed
+      (subst (λ (x : State ℕ). Steps words w x (ended e z)) kept.words step) in
       ends-by z e kept.state there.0 there.2 kept.shaped there.1 last
 
 -- ---- a step of the cells
@@ -96,11 +102,13 @@ all-of : {X : Type 0} (P : X → Type 0) → ((x : X) → P x) → (xs : List X)
 all-of P p [] = All-nil P
 all-of P p (x ∷ xs) = All-cons P x xs (p x) (all-of P p xs)
 
-passed : (w : Linked) (assigned : Typings) (s : State Cell) (o : Option Fault) (x : Outcome Cell) → IsTypedOutcome w assigned (unless_fault s o x) → (o ≡ None) × IsTypedOutcome w assigned x
+passed : (w : Linked) (assigned : Typings) (s : State Cell) (o : Option Fault) (x : Outcome Cell) → IsTypedOutcome w assigned (unless_fault s o x)
+    → (o ≡ None) × IsTypedOutcome w assigned x
 passed w assigned s None x safe = (refl, safe)
 passed w assigned s (Some fault) x safe = absurd safe
 
-module _ (w : Linked) (is : IsWorld w) (erase : StatesErase w.methods w.classes) (safe : StepsAreSafe w) (assigned : Typings) (bottom : (n : ℕ) → assigned.unset n ≡ Bottom) (typings : AreTypings w assigned)
+module _ (w : Linked) (is : IsWorld w) (erase : StatesErase w.methods w.classes) (safe : StepsAreSafe w) (assigned : Typings)
+    (bottom : (n : ℕ) → assigned.unset n ≡ Bottom) (typings : AreTypings w assigned)
     (reach : TestsReach 510 tagged (IsShaped w) w) (known : KnowsTypes tagged (IsShaped w) w)
     (f : Frame Cell) (below : List (Frame Cell)) (heap : List (Object Cell)) (statics : List Cell)
     (typed : IsTypedState w assigned (record { frames = f ∷ below; heap = heap; statics = statics }))
@@ -119,7 +127,8 @@ module _ (w : Linked) (is : IsWorld w) (erase : StatesErase w.methods w.classes)
         passed w assigned now (fault_before tagged w op now) (settled tagged w (i.place + i.insn.len) now (act tagged w i.insn op now))
         (safe assigned now (performed tagged w i op now) typings typed (performs fetched op names refl))
 
-    reached : (m : MethodRec) (i : Placed) (op : Operation) → Fetches w now m i → max_stack_of w f.method ≤ 255 → Resolves w m i.place i.insn (Ok op) → Reaches 510 tagged w i.insn op now
+    reached : (m : MethodRec) (i : Placed) (op : Operation) → Fetches w now m i → max_stack_of w f.method ≤ 255
+        → Resolves w m i.place i.insn (Ok op) → Reaches 510 tagged w i.insn op now
     reached m i op fetched few names = reach now m i op shaped fetched few names (step-safe m i op fetched names).0
 
     -- ---- what an operation asks
@@ -131,7 +140,9 @@ module _ (w : Linked) (is : IsWorld w) (erase : StatesErase w.methods w.classes)
     method-is m e = All-slice_get (IsMethod w.infos w.pools w.classes) w.methods f.method m is.methods e
 
     all-known : (cs : List Cell) → All (IsKnown w.classes) (map (least_type w.classes Bottom (kinds now)) cs)
-    all-known cs = All-map (IsKnown w.classes) (least_type w.classes Bottom (kinds now)) cs (all-of (λ (c : Cell). IsKnown w.classes (least_type w.classes Bottom (kinds now) c)) (known now shaped).each cs)
+    all-known cs =
+        All-map (IsKnown w.classes) (least_type w.classes Bottom (kinds now)) cs
+        (all-of (λ (c : Cell). IsKnown w.classes (least_type w.classes Bottom (kinds now) c)) (known now shaped).each cs)
 
     frame-known : (m : MethodRec) → slice_get w.methods f.method ≡ Some m → AreKnown w.classes (types_of_frame w.classes Bottom (kinds now) f)
     frame-known m e =
@@ -144,7 +155,8 @@ module _ (w : Linked) (is : IsWorld w) (erase : StatesErase w.methods w.classes)
           object = is.chains.objects;
         }
 
-    room-left : OperationsAreSound w → OperationLeaves w → TypedStatesApply w → (m : MethodRec) (i : Placed) (op : Operation) → Fetches w now m i → max_stack_of w f.method ≤ 255
+    room-left : OperationsAreSound w → OperationLeaves w → TypedStatesApply w → (m : MethodRec) (i : Placed) (op : Operation) → Fetches w now m i
+        → max_stack_of w f.method ≤ 255
         → Resolves w m i.place i.insn (Ok op) → length f.stack + (footprint w op).given ≤ 255 + (footprint w op).taken
     room-left sound leaves applies m i op fetched few names =
         let a = applies assigned now m i op typed fetched names in
@@ -154,7 +166,8 @@ module _ (w : Linked) (is : IsWorld w) (erase : StatesErase w.methods w.classes)
         let limit : max_stack_of w f.method ≡ m.max_stack = ap (of_method 0 (λ (x : MethodRec). x.max_stack)) fetched.method in
         omega (arith, done.taken, done.depth, a.2.room, few, limit, length-map f.stack (least_type w.classes (assigned.unset f.method) (kinds now)))
 
-    words-reach : OperationsAreSound w → OperationLeaves w → TypedStatesApply w → (m : MethodRec) (i : Placed) (op : Operation) → Fetches w (erased now) m i → max_stack_of w f.method ≤ 255
+    words-reach : OperationsAreSound w → OperationLeaves w → TypedStatesApply w → (m : MethodRec) (i : Placed) (op : Operation)
+        → Fetches w (erased now) m i → max_stack_of w f.method ≤ 255
         → Resolves w m i.place i.insn (Ok op) → Reaches 255 words w i.insn op (erased now)
     words-reach sound leaves applies m i op fetched few names =
         let cells = fetched-cells m i fetched in
@@ -184,7 +197,8 @@ module _ (w : Linked) (is : IsWorld w) (erase : StatesErase w.methods w.classes)
     target-passes z x false true h = refl
     target-passes z x false false h = absurd h
 
-    jump-lands : (next : ℕ) (a : Act Cell) (to : ℤ) (z : State ℕ) → IsTypedOutcome w assigned (settled tagged w next now a) → Stays tagged w now a → erased_act a ≡ jumps to z → is_target_place (code_at w f.method) to ≡ true
+    jump-lands : (next : ℕ) (a : Act Cell) (to : ℤ) (z : State ℕ) → IsTypedOutcome w assigned (settled tagged w next now a) → Stays tagged w now a
+        → erased_act a ≡ jumps to z → is_target_place (code_at w f.method) to ≡ true
     jump-lands next (jumps from y) to z h stays e =
         let same : from ≡ to = cc in
         let lands : is_target_place (code_at w (top y).method) from ≡ true =
@@ -198,10 +212,12 @@ module _ (w : Linked) (is : IsWorld w) (erase : StatesErase w.methods w.classes)
     jump-lands next (throws handle) to z h stays e = absurd (cc)
     jump-lands next (lacks class) to z h stays e = absurd (cc)
 
-    words-land : ActsErase w → (m : MethodRec) (i : Placed) (op : Operation) (to : ℤ) (z : State ℕ) → Fetches w (erased now) m i → Resolves w m i.place i.insn (Ok op)
+    words-land : ActsErase w → (m : MethodRec) (i : Placed) (op : Operation) (to : ℤ) (z : State ℕ) → Fetches w (erased now) m i
+        → Resolves w m i.place i.insn (Ok op)
         → act words w i.insn op (erased now) ≡ jumps to z → is_target_place (code_at w f.method) to ≡ true
     words-land acts m i op to z fetched names e =
-        jump-lands (i.place + i.insn.len) (act tagged w i.insn op now) to z (step-safe m i op (fetched-cells m i fetched) names).1 (jumps-stay tagged w now i.insn op)
+        jump-lands (i.place + i.insn.len) (act tagged w i.insn op now) to z (step-safe m i op (fetched-cells m i fetched) names).1
+        (jumps-stay tagged w now i.insn op)
         (sym (acts i.insn op now (omega arith)) ∙ e)
 
     next-passes : (s : State Cell) (x : Outcome Cell) (over past : Bool)
@@ -213,21 +229,24 @@ module _ (w : Linked) (is : IsWorld w) (erase : StatesErase w.methods w.classes)
     taken-if true x y e h = h
     taken-if false x y e h = absurd (cc)
 
-    given-fits : (g : Frame Cell) (gs : List (Frame Cell)) (value : Value) (cs : List Cell) → IsTypedOutcome w assigned (given_to tagged w value cs (record { frames = g ∷ gs; heap = heap; statics = statics }))
+    given-fits : (g : Frame Cell) (gs : List (Frame Cell)) (value : Value) (cs : List Cell)
+        → IsTypedOutcome w assigned (given_to tagged w value cs (record { frames = g ∷ gs; heap = heap; statics = statics }))
         → length (with_value cs g.stack) ≤ max_stack_of w g.method
     given-fits g gs value cs h =
         let z : State Cell = record { frames = g ∷ gs; heap = heap; statics = statics } in
         let back : State Cell = with_stack z (with_value cs g.stack) in
         let after : ℕ = return_place (instruction_at (code_at w g.method) g.place) in
         let some : nat_lt 0 (length (g ∷ gs)) ≡ true = grind (arith, nat_tests) in
-        let goes_on : IsTypedOutcome w assigned (goes_to tagged w after z back) = taken-if (nat_lt 0 (length (g ∷ gs))) (goes_to tagged w after z back) (ends (Plain (Returned value)) z) some h in
+        let goes_on : IsTypedOutcome w assigned (goes_to tagged w after z back) = taken-if (nat_lt 0 (length (g ∷ gs))) (goes_to tagged w after z back)
+        (ends (Plain (Returned value)) z) some h in
         ltb-false (max_stack_of w g.method) (length (with_value cs g.stack))
         (next-passes z (running (with_place back after)) (is_over w back (length (with_value cs g.stack))) (is_past w back after) goes_on)
 
     waits-fit :
         (bs : List (Frame Cell)) (next : ℕ) (a : Act Cell) (value : Value) (cells : List ℕ) (result : Option Ty)
         → AreWaiting w assigned (kinds now) result bs → All (IsShapedFrame w) bs
-        → erased_act a ≡ gives value cells → IsTypedOutcome w assigned (settled tagged w next (record { frames = f ∷ bs; heap = heap; statics = statics }) a)
+        → erased_act a ≡ gives value cells
+        → IsTypedOutcome w assigned (settled tagged w next (record { frames = f ∷ bs; heap = heap; statics = statics }) a)
         → 0 < length (map (map_frame word_of) bs)
         → CanResume 255 w Verified (length cells) (without_top (erased (record { frames = f ∷ bs; heap = heap; statics = statics })))
     waits-fit [] next a value cells result waits shapes e h lt = absurd (omega (arith, lt))
@@ -235,7 +254,8 @@ module _ (w : Linked) (is : IsWorld w) (erase : StatesErase w.methods w.classes)
         let same : map word_of cs ≡ cells = cc in
         let many : length cells ≡ length cs = ap (λ (ns : List ℕ). length ns) (sym same) ∙ length-map cs word_of in
         let fits : length (with_value cs g.stack) ≤ max_stack_of w g.method = given-fits g gs told cs h in
-        let whole : length (with_value cs g.stack) ≡ length cs + length g.stack = length-append (reverse cs) g.stack ∙ ap (λ n. n + length g.stack) (length-reverse cs) in
+        let whole : length (with_value cs g.stack) ≡ length cs + length g.stack = length-append (reverse cs) g.stack
+        ∙ ap (λ n. n + length g.stack) (length-reverse cs) in
         record {
           method = (All-head (IsShapedFrame w) g gs shapes).known;
           call = standing-there g waits.0.stands;
@@ -249,10 +269,13 @@ module _ (w : Linked) (is : IsWorld w) (erase : StatesErase w.methods w.classes)
     waits-fit (g ∷ gs) next (throws handle) value cells result waits shapes e h lt = absurd (cc)
     waits-fit (g ∷ gs) next (lacks class) value cells result waits shapes e h lt = absurd (cc)
 
-    words-resume : ActsErase w → (m : MethodRec) (i : Placed) (op : Operation) (value : Value) (cells : List ℕ) → Fetches w (erased now) m i → Resolves w m i.place i.insn (Ok op)
-        → act words w i.insn op (erased now) ≡ gives value cells → IsRunning (without_top (erased now)) → CanResume 255 w Verified (length cells) (without_top (erased now))
+    words-resume : ActsErase w → (m : MethodRec) (i : Placed) (op : Operation) (value : Value) (cells : List ℕ) → Fetches w (erased now) m i
+        → Resolves w m i.place i.insn (Ok op)
+        → act words w i.insn op (erased now) ≡ gives value cells → IsRunning (without_top (erased now))
+        → CanResume 255 w Verified (length cells) (without_top (erased now))
     words-resume acts m i op value cells fetched names e runs =
-        waits-fit below (i.place + i.insn.len) (act tagged w i.insn op now) value cells (result_of w f.method) typed.frames.1 (All-tail (IsShapedFrame w) f below shaped.frames)
+        waits-fit below (i.place + i.insn.len) (act tagged w i.insn op now) value cells (result_of w f.method) typed.frames.1
+        (All-tail (IsShapedFrame w) f below shaped.frames)
         (sym (acts i.insn op now (omega arith)) ∙ e) (step-safe m i op (fetched-cells m i fetched) names).1 runs
 
     words-verified : ActsErase w → IsVerified 255 words w (erased now)
@@ -273,8 +296,10 @@ cells-run s t e runs =
 module _ (w : Linked) (is : IsWorld w) (erase : StatesErase w.methods w.classes) (safe : StepsAreSafe w)
     (reach : TestsReach 510 tagged (IsShaped w) w) (known : KnowsTypes tagged (IsShaped w) w)
   where
-    verified-by : ActsErase w → (fs : List (Frame Cell)) (heap : List (Object Cell)) (statics : List Cell) → (assigned : Typings) → ((n : ℕ) → assigned.unset n ≡ Bottom) → AreTypings w assigned
-        → IsTypedState w assigned (record { frames = fs; heap = heap; statics = statics }) → IsShaped w (record { frames = fs; heap = heap; statics = statics }) → 0 < length fs
+    verified-by : ActsErase w → (fs : List (Frame Cell)) (heap : List (Object Cell)) (statics : List Cell) → (assigned : Typings)
+        → ((n : ℕ) → assigned.unset n ≡ Bottom) → AreTypings w assigned
+        → IsTypedState w assigned (record { frames = fs; heap = heap; statics = statics })
+        → IsShaped w (record { frames = fs; heap = heap; statics = statics }) → 0 < length fs
         → IsVerified 255 words w (erased (record { frames = fs; heap = heap; statics = statics }))
     verified-by acts [] heap statics assigned bottom typings typed shaped lt = absurd (omega (arith, lt))
     verified-by acts (f ∷ below) heap statics assigned bottom typings typed shaped lt =
@@ -283,10 +308,14 @@ module _ (w : Linked) (is : IsWorld w) (erase : StatesErase w.methods w.classes)
     pub are-verified : ActsErase w → AreVerified 255 words (AreTypedWords w) w
     are-verified acts untested s kept runs =
         subst (λ (x : State ℕ). IsVerified 255 words w x) (sym kept.words)
-        (verified-by acts kept.state.frames kept.state.heap kept.state.statics kept.typings kept.unset kept.methods kept.typed kept.shaped (cells-run s kept.state kept.words runs))
+        (verified-by acts kept.state.frames kept.state.heap kept.state.statics kept.typings kept.unset kept.methods kept.typed kept.shaped
+        (cells-run s kept.state kept.words runs))
 
-    reach-by : OperationsAreSound w → OperationLeaves w → TypedStatesApply w → (fs : List (Frame Cell)) (heap : List (Object Cell)) (statics : List Cell) (m : MethodRec) (i : Placed) (op : Operation)
-        → (assigned : Typings) → ((n : ℕ) → assigned.unset n ≡ Bottom) → AreTypings w assigned → IsTypedState w assigned (record { frames = fs; heap = heap; statics = statics }) → IsShaped w (record { frames = fs; heap = heap; statics = statics }) → 0 < length fs
+    reach-by : OperationsAreSound w → OperationLeaves w → TypedStatesApply w → (fs : List (Frame Cell)) (heap : List (Object Cell))
+        (statics : List Cell) (m : MethodRec) (i : Placed) (op : Operation)
+        → (assigned : Typings) → ((n : ℕ) → assigned.unset n ≡ Bottom) → AreTypings w assigned
+        → IsTypedState w assigned (record { frames = fs; heap = heap; statics = statics })
+        → IsShaped w (record { frames = fs; heap = heap; statics = statics }) → 0 < length fs
         → Fetches w (erased (record { frames = fs; heap = heap; statics = statics })) m i
         → max_stack_of w (top (erased (record { frames = fs; heap = heap; statics = statics }))).method ≤ 255
         → Resolves w m i.place i.insn (Ok op) → Reaches 255 words w i.insn op (erased (record { frames = fs; heap = heap; statics = statics }))
@@ -300,4 +329,5 @@ module _ (w : Linked) (is : IsWorld w) (erase : StatesErase w.methods w.classes)
         let here : Fetches w (erased t) m i = subst (λ (x : State ℕ). Fetches w x m i) kept.words fetched in
         let most : max_stack_of w (top (erased t)).method ≤ 255 = subst (λ (x : State ℕ). max_stack_of w (top x).method ≤ 255) kept.words few in
         subst (λ (x : State ℕ). Reaches 255 words w i.insn op x) (sym kept.words)
-        (reach-by sound leaves applies t.frames t.heap t.statics m i op kept.typings kept.unset kept.methods kept.typed kept.shaped (cells-run s t kept.words fetched.runs) here most names)
+        (reach-by sound leaves applies t.frames t.heap t.statics m i op kept.typings kept.unset kept.methods kept.typed kept.shaped
+        (cells-run s t kept.words fetched.runs) here most names)

@@ -3,7 +3,8 @@
 --   heap     object n, counted from 0, from word 3 n on: its kind, its first cell, its elements; all cells from word 12,288 on
 --   statics  the cells of the static fields by slot
 -- An int takes its high word first. Empty and null are 0, a reference is its handle, a short its 16 bits.
-use Rattle.std.specs.Prelude.{◌≡◌, ℕ, zero, suc, ◌+◌, ◌-◌, ◌*◌, ◌≤◌, nat_lt, ◌==◌, if◌then◌else◌, List, [], ◌∷◌, ◌++◌, length, take, drop, reverse, slice_index}
+use Rattle.std.specs.Prelude.{◌≡◌, ℕ, zero, suc, ◌+◌, ◌-◌, ◌*◌, ◌≤◌, nat_lt, ◌==◌, if◌then◌else◌, List}
+use Rattle.std.specs.Prelude.{[], ◌∷◌, ◌++◌, length, take, drop, reverse, slice_index}
 use Rattle.jc_base.specs.declared.record.MethodRec.{MethodRec}
 use Rattle.jc_base.specs.World.{Linked}
 use Rattle.vm_store.specs.declared.kind.ObjectKind.{ObjectKind}
@@ -101,7 +102,8 @@ pub record AreLaid (w : Linked) (ram heap : List ℕ) (counts : Counts) : Type 0
 abbrev pub called_words : List MethodRec → List (Frame ℕ) → ℕ → ℕ → List (Frame ℕ)
 called_words methods frames method count =
     let caller = first_frame frames in
-    entered words methods method (arguments count caller.stack) ∷ (record caller { stack = drop count caller.stack } ∷ other_frames frames)
+    entered words methods method (arguments count caller.stack) ∷ (record caller { stack = drop count caller.stack } ∷ other_frames
+    frames)
 
 -- ---- the objects alone
 

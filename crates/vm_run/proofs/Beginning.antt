@@ -1,5 +1,6 @@
 -- What it means that a run begins, and what is there before its frame is made.
-use Rattle.std.proofs.Common.{◌≡◌, ◌<◌, ◌≤◌, ◌+◌, ◌-◌, ℕ, zero, suc, Bool, true, false, List, [], ◌∷◌, ◌++◌, length, drop, refl, sym, ap, ◌∙◌, subst, arith, Option, Some, None}
+use Rattle.std.proofs.Common.{◌≡◌, ◌<◌, ◌≤◌, ◌+◌, ◌-◌, ℕ, zero, suc, Bool, true, false, List, [], ◌∷◌, ◌++◌, length, drop}
+use Rattle.std.proofs.Common.{refl, sym, ap, ◌∙◌, subst, arith, Option, Some, None}
 use Rattle.std.specs.Prelude.{filter, if◌then◌else◌, not, ◌==◌, slice_get, sum_by, option_map, replicate}
 use Rattle.std.proofs.lemmas.Bool.{false≢true}
 use Rattle.std.proofs.lemmas.Bool.Decides.{nat_tests}
@@ -15,7 +16,8 @@ use Rattle.vm_step.specs.declared.start_fault.StartFault.{StartFault}
 use Rattle.vm_step.specs.declared.start_fault.StartFault.TheVariants.{NoEntry, NotStatic, ArgCount, ArgKind, ArgRoom}
 use Rattle.vm_step.specs.Arguments.{Argument, number, null, bytes}
 use Rattle.vm_step.specs.Methods.{of_method}
-use Rattle.vm_step.specs.Start.{can_begin, parameters, first_misfit, first_without_room, or_room, method_fault, entry_fault, start_fault, with_arrays, cells_handed, initial, entry_state}
+use Rattle.vm_step.specs.Start.{can_begin, parameters, first_misfit, first_without_room, or_room, method_fault, entry_fault, start_fault, with_arrays}
+use Rattle.vm_step.specs.Start.{cells_handed, initial, entry_state}
 
 -- the entry is a method that takes these arguments
 pub record Takes (w : Linked) (entry : ℕ) (args : List Argument) (m : MethodRec) : Type 0 where
@@ -36,12 +38,14 @@ neither (Some n) b e = absurd (cc)
 neither None (Some n) e = absurd (cc)
 neither None None e = (refl, refl)
 
-taken-by : (w : Linked) (entry : ℕ) (args : List Argument) (o : Option MethodRec) → slice_get w.methods entry ≡ o → entry_fault w args o ≡ None → (m : MethodRec) × Takes w entry args m
+taken-by : (w : Linked) (entry : ℕ) (args : List Argument) (o : Option MethodRec) → slice_get w.methods entry ≡ o → entry_fault w args o ≡ None
+    → (m : MethodRec) × Takes w entry args m
 taken-by w entry args None e none = absurd (cc)
 taken-by w entry args (Some m) e none =
     let static = none-of (not (can_begin w m)) NotStatic _ none in
     let count = none-of (not (length args == length (parameters m))) (ArgCount (length args) (length (parameters m))) _ static.1 in
-    let rest = neither (first_misfit 0 args (parameters m)) (first_without_room 0 (length w.arrays) (sum_by (λ (a : ArrayRec). length a.initial) w.arrays) args) count.1 in
+    let rest = neither (first_misfit 0 args (parameters m))
+    (first_without_room 0 (length w.arrays) (sum_by (λ (a : ArrayRec). length a.initial) w.arrays) args) count.1 in
     (m, record { is = e; count = same-count (length args) (length (parameters m)) count.0; fit = rest.0; room = rest.1 })
 
 pub takes : (w : Linked) (entry : ℕ) (args : List Argument) → start_fault w entry args ≡ None → (m : MethodRec) × Takes w entry args m
@@ -66,7 +70,8 @@ arrays-frames k (bytes bs ∷ args) s = arrays-frames k args _
 pub registers-written : {A : Type 0} (k : Cells A) (methods : List MethodRec) (entry : ℕ) (cells : List A)
     → record (entered k methods entry []) { registers = overwritten (entered k methods entry []).registers 0 cells } ≡ entered k methods entry cells
 registers-written {A} k methods entry cells =
-    let rest : drop (0 + length cells) (replicate (register_count methods entry - 0) k.empty) ≡ replicate (register_count methods entry - length cells) k.empty =
+    let rest : drop (0 + length cells) (replicate (register_count methods entry - 0) k.empty) ≡ replicate (register_count methods entry - length cells)
+    k.empty =
     drop-replicate (0 + length cells) (register_count methods entry - 0) k.empty ∙ ap (λ (n : ℕ). replicate n k.empty) (omega arith) in
     ap (λ (xs : List A). record { method = entry; place = 0; registers = cells ++ xs; stack = [] }) rest
 
@@ -86,4 +91,6 @@ entry-made {A} k w entry args m y z is e final =
     ∙ (ap (λ (f : Frame A). record y { frames = f ∷ y.frames }) (registers-written k w.methods entry cells)
     ∙ (ap (λ (fs : List (Frame A)). record y { frames = entered k w.methods entry cells ∷ fs }) none
     ∙ (ap (λ (x : State A). record x { frames = entered k w.methods entry cells ∷ [] }) e
-    ∙ ap (λ (ts : List Ty). record (with_arrays k args (initial k w)) { frames = entered k w.methods entry (cells_handed k (length w.arrays) args ts) ∷ [] }) types)))
+    ∙ ap
+    (λ (ts : List Ty). record (with_arrays k args (initial k w))
+    { frames = entered k w.methods entry (cells_handed k (length w.arrays) args ts) ∷ [] }) types)))

@@ -1,5 +1,6 @@
 -- Arrays whose elements are written one after another.
-use Rattle.std.proofs.Common.{◌≡◌, ◌<◌, ◌≤◌, ◌+◌, ◌*◌, ◌/◌, ◌%◌, ℕ, zero, suc, List, [], ◌∷◌, ◌++◌, length, take, map, get_or, set, refl, sym, ap, ◌∙◌, subst, arith, Option, Some, None}
+use Rattle.std.proofs.Common.{◌≡◌, ◌<◌, ◌≤◌, ◌+◌, ◌*◌, ◌/◌, ◌%◌, ℕ, zero, suc, List, [], ◌∷◌, ◌++◌, length, take}
+use Rattle.std.proofs.Common.{map, get_or, set, refl, sym, ap, ◌∙◌, subst, arith, Option, Some, None}
 use Rattle.std.specs.Prelude.{slice_get, sum_by, All}
 use Rattle.std.proofs.lemmas.List.{length-map, map-append, take_more, take_all, append_assoc, length-append}
 use Rattle.std.proofs.lemmas.List.Sums.{sum_by-cons}
@@ -24,7 +25,8 @@ use Rattle.vm_run.proofs.WritesInOrder.{last-cells, last-cell-more, length-overw
 pub narrow-size : {A : Type 0} (k : Cells A) (kind : ObjectKind) (n : ℕ) → element_width kind ≡ 1 → length (array_cells k kind n) ≡ n
 narrow-size k kind n e = length-array k kind n ∙ (ap (λ w. w * n) e ∙ omega arith)
 
-module _ {A : Type 0} (s z : State A) (kind : ObjectKind) (zeros : List A) (f : ℕ → A) (words : List ℕ) (h i : ℕ) (at : h ≡ length s.heap + 1) (size : length zeros ≡ length words) where
+module _ {A : Type 0} (s z : State A) (kind : ObjectKind) (zeros : List A) (f : ℕ → A) (words : List ℕ) (h i : ℕ) (at : h ≡ length s.heap + 1)
+    (size : length zeros ≡ length words) where
   done-size : i ≤ length words → length (map f (take i words)) ≡ i
   done-size le = length-map (take i words) f ∙ ap length refl ∙ cut words i le where
     cut : (xs : List ℕ) (n : ℕ) → n ≤ length xs → length (take n xs) ≡ n
@@ -35,7 +37,8 @@ module _ {A : Type 0} (s z : State A) (kind : ObjectKind) (zeros : List A) (f : 
   pub element-there : z ≡ with_object s kind (overwritten zeros 0 (map f (take i words))) → i < length words → i < length (object_cells z h)
   element-there e lt =
       let d = done-size (omega arith) in
-      let all = ap length (last-cells s z kind (overwritten zeros 0 (map f (take i words))) h e at) ∙ length-overwritten zeros (map f (take i words)) 0 (omega arith) in
+      let all = ap length (last-cells s z kind (overwritten zeros 0 (map f (take i words))) h e at)
+      ∙ length-overwritten zeros (map f (take i words)) 0 (omega arith) in
       omega (arith, all)
 
   pub element-more : (v : A) → z ≡ with_object s kind (overwritten zeros 0 (map f (take i words))) → i < length words → v ≡ f (get_or words i 0)
@@ -66,7 +69,8 @@ doubled-is (suc n) = let r = doubled-is n in omega arith
 
 module _ {A : Type 0} (k : Cells A) where
   pair-more : (i : ℕ) (ws : List ℕ) → suc (doubled i) < length ws
-      → int_cells k (take (suc (suc (doubled i))) ws) ≡ int_cells k (take (doubled i) ws) ++ k.high (get_or ws (doubled i) 0) ∷ k.low (get_or ws (suc (doubled i)) 0) ∷ []
+      → int_cells k (take (suc (suc (doubled i))) ws) ≡ int_cells k (take (doubled i) ws) ++ k.high (get_or ws (doubled i) 0) ∷ k.low
+      (get_or ws (suc (doubled i)) 0) ∷ []
   unfolding doubled
   pair-more zero [] lt = absurd (omega arith)
   pair-more zero (a ∷ []) lt = absurd (omega arith)
@@ -76,7 +80,8 @@ module _ {A : Type 0} (k : Cells A) where
   pair-more (suc i) (a ∷ b ∷ ws) lt = ap (λ (xs : List A). k.high a ∷ k.low b ∷ xs) (pair-more i ws (omega arith))
 
   pub int-more : (i : ℕ) (ws : List ℕ) → 2 * i + 1 < length ws
-      → (int_cells k (take (2 * i) ws) ++ k.high (get_or ws (2 * i) 0) ∷ []) ++ k.low (get_or ws (2 * i + 1) 0) ∷ [] ≡ int_cells k (take (2 * (i + 1)) ws)
+      → (int_cells k (take (2 * i) ws) ++ k.high (get_or ws (2 * i) 0) ∷ []) ++ k.low (get_or ws (2 * i + 1) 0) ∷ []
+      ≡ int_cells k (take (2 * (i + 1)) ws)
   int-more i ws lt =
       let d = doubled-is i in
       let one : suc (doubled i) ≡ 2 * i + 1 = omega arith in
@@ -100,10 +105,12 @@ module _ {A : Type 0} (k : Cells A) where
   pub ints-size : (ws : List ℕ) → length ws % 2 ≡ 0 → length (int_cells k ws) ≡ length ws
   ints-size ws even =
       let half : 2 * (length ws / 2) ≡ length ws = omega arith in
-      ap (λ (xs : List ℕ). length (int_cells k xs)) (sym (take_all (2 * (length ws / 2)) ws (omega arith))) ∙ (int-size (length ws / 2) ws (omega arith) ∙ half)
+      ap (λ (xs : List ℕ). length (int_cells k xs)) (sym (take_all (2 * (length ws / 2)) ws (omega arith)))
+      ∙ (int-size (length ws / 2) ws (omega arith) ∙ half)
 
 -- two cells more of an array of ints
-module _ {A : Type 0} (k : Cells A) (s z : State A) (words : List ℕ) (h i : ℕ) (at : h ≡ length s.heap + 1) (inside : 2 * i + 1 < length words) (even : length words % 2 ≡ 0)
+module _ {A : Type 0} (k : Cells A) (s z : State A) (words : List ℕ) (h i : ℕ) (at : h ≡ length s.heap + 1) (inside : 2 * i + 1 < length words)
+    (even : length words % 2 ≡ 0)
     (e : z ≡ with_object s Ints (overwritten (array_cells k Ints (length words / 2)) 0 (int_cells k (take (2 * i) words)))) where
   zeros : List A
   zeros = array_cells k Ints (length words / 2)
@@ -154,7 +161,8 @@ module _ {A : Type 0} (k : Cells A) (s z : State A) (words : List ℕ) (h i : �
       ∙ ap (λ (cells : List A). with_object s Ints (overwritten zeros 0 cells)) all)
 
 pub ints-done : {A : Type 0} (k : Cells A) (s z : State A) (words : List ℕ) (i : ℕ) → length words % 2 ≡ 0 → length words / 2 ≤ i
-    → z ≡ with_object s Ints (overwritten (array_cells k Ints (length words / 2)) 0 (int_cells k (take (2 * i) words))) → z ≡ with_object s Ints (int_cells k words)
+    → z ≡ with_object s Ints (overwritten (array_cells k Ints (length words / 2)) 0 (int_cells k (take (2 * i) words)))
+    → z ≡ with_object s Ints (int_cells k words)
 ints-done {A} k s z words i even le e =
     let zeros = array_cells k Ints (length words / 2) in
     let zs : length zeros ≡ length words = length-array k Ints (length words / 2) ∙ omega arith in
@@ -163,7 +171,8 @@ ints-done {A} k s z words i even le e =
 
 -- ---- the cells of initial arrays
 
-pub initial-size : {A : Type 0} (k : Cells A) (a : ArrayRec) → AreElementsOf a.kind a.initial → length (initial_element_cells k (kind_of_type a.kind) a.initial) ≡ length a.initial
+pub initial-size : {A : Type 0} (k : Cells A) (a : ArrayRec) → AreElementsOf a.kind a.initial
+    → length (initial_element_cells k (kind_of_type a.kind) a.initial) ≡ length a.initial
 initial-size k a h = go a.kind h where
   go : (ty : Ty) → AreElementsOf ty a.initial → length (initial_element_cells k (kind_of_type ty) a.initial) ≡ length a.initial
   go types.ArrBool e = length-map a.initial _

@@ -10,7 +10,8 @@ use Rattle.jc_base.specs.Cell.{width, AreInitialWords}
 use Rattle.vm_store.specs.Cells.{Cells, short_of_word}
 use Rattle.vm_step.specs.Start.{field_cells}
 
-pub field-size : {A : Type 0} (k : Cells A) (kind : Kind) (words : List ℕ) → length words ≡ width kind → length (field_cells k kind words) ≡ width kind
+pub field-size : {A : Type 0} (k : Cells A) (kind : Kind) (words : List ℕ) → length words ≡ width kind
+    → length (field_cells k kind words) ≡ width kind
 field-size k fields.Int [] e = absurd (omega arith)
 field-size k fields.Int (a ∷ []) e = absurd (omega arith)
 field-size k fields.Int (a ∷ b ∷ ws) e = refl
@@ -25,7 +26,8 @@ field-size k fields.Short [] e = absurd (omega arith)
 field-size k fields.Short (a ∷ b ∷ ws) e = absurd (omega arith)
 
 -- as many words as the kind has cells
-pub words-size : (t : ClassTable) (arrays : List ArrayRec) (kind : Kind) (ty : Ty) (words : List ℕ) → AreInitialWords t arrays kind ty words → length words ≡ width kind
+pub words-size : (t : ClassTable) (arrays : List ArrayRec) (kind : Kind) (ty : Ty) (words : List ℕ) → AreInitialWords t arrays kind ty words
+    → length words ≡ width kind
 words-size t arrays fields.Ref ty [] h = absurd h
 words-size t arrays fields.Ref ty (a ∷ []) h = refl
 words-size t arrays fields.Ref ty (a ∷ b ∷ ws) h = absurd h
@@ -40,7 +42,8 @@ words-size t arrays fields.Int ty (a ∷ []) h = absurd h
 words-size t arrays fields.Int ty (a ∷ b ∷ []) h = refl
 words-size t arrays fields.Int ty (a ∷ b ∷ c ∷ ws) h = absurd h
 
-pub reference-cells : {A : Type 0} (k : Cells A) (kind : Kind) (words : List ℕ) (first : ℕ) → kind ≡ fields.Ref → length words ≡ width kind → slice_get words 0 ≡ Some first
+pub reference-cells : {A : Type 0} (k : Cells A) (kind : Kind) (words : List ℕ) (first : ℕ) → kind ≡ fields.Ref → length words ≡ width kind
+    → slice_get words 0 ≡ Some first
     → k.reference first ∷ [] ≡ field_cells k kind words
 reference-cells k fields.Ref (a ∷ []) first e size at = let same : a ≡ first = cc in ap (λ h. k.reference h ∷ []) (sym same)
 reference-cells k fields.Ref [] first e size at = absurd (omega arith)
@@ -49,7 +52,8 @@ reference-cells k fields.Int words first e size at = absurd (cc)
 reference-cells k fields.Byte words first e size at = absurd (cc)
 reference-cells k fields.Short words first e size at = absurd (cc)
 
-pub short-cells : {A : Type 0} (k : Cells A) (kind : Kind) (words : List ℕ) (first : ℕ) → (kind ≡ fields.Ref → ⊥) → (kind ≡ fields.Int → ⊥) → length words ≡ width kind
+pub short-cells : {A : Type 0} (k : Cells A) (kind : Kind) (words : List ℕ) (first : ℕ) → (kind ≡ fields.Ref → ⊥)
+    → (kind ≡ fields.Int → ⊥) → length words ≡ width kind
     → slice_get words 0 ≡ Some first → k.short (short_of_word first) ∷ [] ≡ field_cells k kind words
 short-cells k fields.Ref words first r i size at = absurd (r refl)
 short-cells k fields.Int words first r i size at = absurd (i refl)

@@ -1,5 +1,6 @@
 -- The instruction that is found at a place of a code.
-use Rattle.std.proofs.Common.{◌≡◌, ◌<◌, ◌≤◌, ◌+◌, ℕ, zero, suc, Bool, true, false, List, [], ◌∷◌, ◌++◌, length, refl, sym, ap, ◌∙◌, subst, arith, rules, Contains, Option, Some, None, ◌⊎◌, inl, inr, ⊎_elim}
+use Rattle.std.proofs.Common.{◌≡◌, ◌<◌, ◌≤◌, ◌+◌, ℕ, zero, suc, Bool, true, false, List, [], ◌∷◌, ◌++◌, length, refl, sym, ap}
+use Rattle.std.proofs.Common.{◌∙◌, subst, arith, rules, Contains, Option, Some, None, ◌⊎◌, inl, inr, ⊎_elim}
 use Rattle.std.specs.Prelude.{find, All, ◌==◌, if◌then◌else◌, IsSome, IfSome, slice_get, Result, Ok, Err, ℤ, pos, negsuc, ◌≤ℤ◌, ◌<ℤ◌}
 use Rattle.std.proofs.lemmas.Int.{ints}
 use Rattle.std.proofs.lemmas.Bool.{false≢true, eqb-true, eq-eqb, ne_eqb}
@@ -45,9 +46,11 @@ module _ {X : Type 0} (p : X → Bool) where
   unfolding Passes
   later-passes y x ys ((k, lt, is), h) = ((suc k, omega arith, is), h)
 
-  here-or-later : (y x : X) (ys : List X) (b : Bool) → p y ≡ b → find p (y ∷ ys) ≡ Some x → (find p ys ≡ Some x → Passes ys x) → Passes (y ∷ ys) x
+  here-or-later : (y x : X) (ys : List X) (b : Bool) → p y ≡ b → find p (y ∷ ys) ≡ Some x → (find p ys ≡ Some x → Passes ys x)
+      → Passes (y ∷ ys) x
   unfolding Passes
-  here-or-later y x ys true h e rest = let both : Some y ≡ Some x = sym (passes-here y ys h) ∙ e in let same : y ≡ x = cc in ((0, omega arith, same), ap p (sym same) ∙ h)
+  here-or-later y x ys true h e rest =
+      let both : Some y ≡ Some x = sym (passes-here y ys h) ∙ e in let same : y ≡ x = cc in ((0, omega arith, same), ap p (sym same) ∙ h)
   here-or-later y x ys false h e rest = later-passes y x ys (rest (sym (passes-later y ys h) ∙ e))
 
   -- what is found stands in the list and passes
@@ -66,23 +69,27 @@ module _ (code : List ℕ) (listed : AreListed code) where
   unfolding instruction_at
   at-place place x there is =
       only-found (λ (i : Placed). i.place == place) (listing code) x
-      (All-weaker (HasInstruction code) (λ y. (y.place == place) ≡ true → y ≡ x) (λ y h e. listed.one y x h there (eqb-true y.place place e ∙ sym is)) (listing code) (All-contains_itself (listing code)))
+      (All-weaker (HasInstruction code) (λ y. (y.place == place) ≡ true → y ≡ x)
+      (λ y h e. listed.one y x h there (eqb-true y.place place e ∙ sym is)) (listing code) (All-contains_itself (listing code)))
       there
       (eq-eqb x.place place is)
 
   -- the instruction that is decoded at the place of one
-  pub placed-there : (place : ℕ) (insn : Insn) → IsPlace code place → decoded code place ≡ Ok insn → instruction_at code place ≡ Some (record { place = place; insn = insn })
+  pub placed-there : (place : ℕ) (insn : Insn) → IsPlace code place → decoded code place ≡ Ok insn
+      → instruction_at code place ≡ Some (record { place = place; insn = insn })
   placed-there place insn (x, there, is) d =
       let same : Ok insn ≡ Ok x.insn = sym d ∙ (ap (decoded code) (sym is) ∙ listed.decodes x there) in
       let insns : insn ≡ x.insn = cc in
-      let placed : x ≡ record { place = place; insn = insn } = ap (λ (p : ℕ). record { place = p; insn = x.insn }) is ∙ ap (λ (i : Insn). record { place = place; insn = i }) (sym insns) in
+      let placed : x ≡ record { place = place; insn = insn } = ap (λ (p : ℕ). record { place = p; insn = x.insn }) is
+      ∙ ap (λ (i : Insn). record { place = place; insn = i }) (sym insns) in
       at-place place x there is ∙ ap Some placed
 
   pub nothing-there : (place : ℕ) → (IsPlace code place → ⊥) → instruction_at code place ≡ None
   unfolding instruction_at
   nothing-there place none =
       none-found (λ (i : Placed). i.place == place) (listing code)
-      (All-weaker (HasInstruction code) (λ y. (y.place == place) ≡ false) (λ y h. ne_eqb y.place place (λ e. none (y, h, e))) (listing code) (All-contains_itself (listing code)))
+      (All-weaker (HasInstruction code) (λ y. (y.place == place) ≡ false) (λ y h. ne_eqb y.place place (λ e. none (y, h, e))) (listing code)
+      (All-contains_itself (listing code)))
 
 -- an instruction that is found is one of the code
 pub found-there : (code : List ℕ) (place : ℕ) (x : Placed) → instruction_at code place ≡ Some x → IsPlace code place
@@ -99,29 +106,34 @@ pub some-there : (code : List ℕ) (place : ℕ) → IsSome (instruction_at code
 some-there code place h = let t = there-is (instruction_at code place) h in found-there code place t.0 t.1
 
 -- whether one is there, by a flag
-pub flag-tells : (code : List ℕ) (place : ℕ) (listed : AreListed code) (b : Bool) → (b ≡ true → IsPlace code place) → (IsPlace code place → b ≡ true)
+pub flag-tells : (code : List ℕ) (place : ℕ) (listed : AreListed code) (b : Bool) → (b ≡ true → IsPlace code place)
+    → (IsPlace code place → b ≡ true)
     → b ≡ is_there (instruction_at code place)
 flag-tells code place listed true to from = let h = to refl in sym (ap is_there (at-place code listed place h.0 h.1 h.2))
 flag-tells code place listed false to from = sym (ap is_there (nothing-there code listed place (λ h. false≢true (from h))))
 
 -- an instruction that is found begins in the code
-pub target-range : (code : List ℕ) (listed : AreListed code) (t : ℤ) → is_target_place code t ≡ true → length code ≤ 32767 → (pos 0 ≤ℤ t) × (t <ℤ pos 65536)
+pub target-range : (code : List ℕ) (listed : AreListed code) (t : ℤ) → is_target_place code t ≡ true → length code ≤ 32767 → (pos 0 ≤ℤ t)
+    × (t <ℤ pos 65536)
 target-range code listed (negsuc n) h short = absurd (false≢true h)
 target-range code listed (pos p) h short =
     let inside = in-code code listed p (instruction_at code p) refl h in (omega (arith, ints), omega (arith, ints)) where
-      in-code : (code : List ℕ) → AreListed code → (p : ℕ) (o : Option Placed) → instruction_at code p ≡ o → is_there (instruction_at code p) ≡ true → p < length code
+      in-code : (code : List ℕ) → AreListed code → (p : ℕ) (o : Option Placed) → instruction_at code p ≡ o
+          → is_there (instruction_at code p) ≡ true → p < length code
       in-code code listed p None e h = absurd (false≢true (sym (ap is_there e) ∙ h))
       in-code code listed p (Some x) e h = let f = found-there code p x e in omega (arith, listed.inside f.0 f.1, f.2)
 
 -- what lies before the code or far beyond it is no target
-pub no-target : (code : List ℕ) (listed : AreListed code) (t : ℤ) → length code ≤ 32767 → (t <ℤ pos 0) ⊎ (pos 65536 ≤ℤ t) → false ≡ is_target_place code t
+pub no-target : (code : List ℕ) (listed : AreListed code) (t : ℤ) → length code ≤ 32767 → (t <ℤ pos 0) ⊎ (pos 65536 ≤ℤ t)
+    → false ≡ is_target_place code t
 no-target code listed t short out = go (is_target_place code t) refl where
   go : (b : Bool) → is_target_place code t ≡ b → false ≡ is_target_place code t
   go false e = sym e
   go true e = let r = target-range code listed t e short in absurd (⊎_elim (λ l. omega (arith, ints)) (λ l. omega (arith, ints)) out)
 
 -- one more method's flags
-pub flags-more : (P : ℕ → List Bool → Type 0) (xs : List (List Bool)) (x : List Bool) → ((n : ℕ) → IfSome (slice_get xs n) (P n)) → P (length xs) x
+pub flags-more : (P : ℕ → List Bool → Type 0) (xs : List (List Bool)) (x : List Bool) → ((n : ℕ) → IfSome (slice_get xs n) (P n))
+    → P (length xs) x
     → (n : ℕ) → IfSome (slice_get (xs ++ x ∷ []) n) (P n)
 flags-more P [] x h last zero = last
 flags-more P [] x h last (suc n) = search rules

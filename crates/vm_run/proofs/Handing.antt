@@ -1,5 +1,6 @@
 -- Arguments that are handed to the parameters of a method, one after another.
-use Rattle.std.proofs.Common.{◌≡◌, ◌<◌, ◌≤◌, ◌+◌, ℕ, zero, suc, Bool, true, false, List, [], ◌∷◌, ◌++◌, length, drop, get_or, refl, sym, ap, ◌∙◌, subst, arith, Option, Some, None, IsTrue}
+use Rattle.std.proofs.Common.{◌≡◌, ◌<◌, ◌≤◌, ◌+◌, ℕ, zero, suc, Bool, true, false, List, [], ◌∷◌, ◌++◌, length, drop, get_or}
+use Rattle.std.proofs.Common.{refl, sym, ap, ◌∙◌, subst, arith, Option, Some, None, IsTrue}
 use Rattle.std.specs.Prelude.{filter, if◌then◌else◌, ℤ, slice_get}
 use Rattle.std.proofs.lemmas.Bool.{false≢true}
 use Rattle.std.proofs.lemmas.List.{length-append, drop_more}
@@ -24,7 +25,8 @@ first-fits n arg args ty tys e = go (fits arg ty) refl where
   go true h = (h, sym (ap (λ c. if c then first_misfit (n + 1) args tys else Some n) h) ∙ e)
   go false h = let bad : Some n ≡ None = sym (ap (λ c. if c then first_misfit (n + 1) args tys else Some n) h) ∙ e in absurd (cc)
 
-pub misfit-here : (n : ℕ) (arg : Argument) (args : List Argument) (ty : Ty) (tys : List Ty) → fits arg ty ≡ false → first_misfit n (arg ∷ args) (ty ∷ tys) ≡ Some n
+pub misfit-here : (n : ℕ) (arg : Argument) (args : List Argument) (ty : Ty) (tys : List Ty) → fits arg ty ≡ false
+    → first_misfit n (arg ∷ args) (ty ∷ tys) ≡ Some n
 misfit-here n arg args ty tys h = ap (λ c. if c then first_misfit (n + 1) args tys else Some n) h
 
 pub misfit-later : (n : ℕ) (arg : Argument) (args : List Argument) (ty : Ty) (tys : List Ty) → fits arg ty ≡ true
@@ -34,7 +36,8 @@ misfit-later n arg args ty tys h = ap (λ c. if c then first_misfit (n + 1) args
 -- ---- how many cells they take
 
 -- an argument that fits a parameter of one word takes a cell
-one-cell-size : {A : Type 0} (k : Cells A) (objects : ℕ) (arg : Argument) (ty : Ty) → IsNoHalf ty → fits arg ty ≡ true → length (argument_cells k objects arg ty) ≡ 1
+one-cell-size : {A : Type 0} (k : Cells A) (objects : ℕ) (arg : Argument) (ty : Ty) → IsNoHalf ty → fits arg ty ≡ true
+    → length (argument_cells k objects arg ty) ≡ 1
 one-cell-size k objects (number n) types.Short h f = refl
 one-cell-size k objects (number n) types.IntHigh h f = absurd h
 one-cell-size k objects (number n) types.IntLow h f = absurd h
@@ -51,7 +54,8 @@ one-cell-size k objects (number n) types.Top h f = absurd (false≢true f)
 one-cell-size k objects null ty h f = refl
 one-cell-size k objects (bytes bs) ty h f = refl
 
-int-cells-size : {A : Type 0} (k : Cells A) (objects : ℕ) (arg : Argument) → fits arg types.IntHigh ≡ true → length (argument_cells k objects arg types.IntHigh) ≡ 2
+int-cells-size : {A : Type 0} (k : Cells A) (objects : ℕ) (arg : Argument) → fits arg types.IntHigh ≡ true
+    → length (argument_cells k objects arg types.IntHigh) ≡ 2
 int-cells-size k objects (number n) f = refl
 int-cells-size k objects null f = absurd (false≢true f)
 int-cells-size k objects (bytes bs) f = absurd (false≢true f)
@@ -89,10 +93,12 @@ handed-size k n objects (arg ∷ args) (one_cell {a = ty} {types = tys} half w) 
     let rest = handed-size k (n + 1) (objects + arrays_made arg) args w (omega arith) f.1 in
     let one = one-cell-size k objects arg ty half f.0 in
     ap (λ (ps : List Ty). length (cells_handed k objects (arg ∷ args) ps)) first
-    ∙ (length-append (argument_cells k objects arg ty) (cells_handed k (objects + arrays_made arg) args (filter is_parameter tys)) ∙ omega (arith, one, rest))
+    ∙ (length-append (argument_cells k objects arg ty) (cells_handed k (objects + arrays_made arg) args (filter is_parameter tys))
+    ∙ omega (arith, one, rest))
 
 -- a number for what is no short takes two cells
-pub int-argument : {A : Type 0} (k : Cells A) (objects : ℕ) (n : ℤ) (ty : Ty) → (ty ≡ types.Short → ⊥) → argument_cells k objects (number n) ty ≡ number_cells k widths.Int n
+pub int-argument : {A : Type 0} (k : Cells A) (objects : ℕ) (n : ℤ) (ty : Ty) → (ty ≡ types.Short → ⊥)
+    → argument_cells k objects (number n) ty ≡ number_cells k widths.Int n
 int-argument k objects n types.Short h = absurd (h refl)
 int-argument k objects n types.IntHigh h = refl
 int-argument k objects n types.IntLow h = refl
@@ -114,7 +120,8 @@ pub next-parameter : (tys : List Ty) (i : ℕ) → i < length tys → is_paramet
     → filter is_parameter (drop i tys) ≡ get_or tys i types.Bottom ∷ filter is_parameter (drop (i + 1) tys)
 next-parameter tys i lt h = ap (filter is_parameter) (drop_more tys i types.Bottom lt) ∙ kept-first (get_or tys i types.Bottom) (drop (i + 1) tys) h
 
-pub no-parameter : (tys : List Ty) (i : ℕ) → i < length tys → is_parameter (get_or tys i types.Bottom) ≡ false → filter is_parameter (drop i tys) ≡ filter is_parameter (drop (i + 1) tys)
+pub no-parameter : (tys : List Ty) (i : ℕ) → i < length tys → is_parameter (get_or tys i types.Bottom) ≡ false
+    → filter is_parameter (drop i tys) ≡ filter is_parameter (drop (i + 1) tys)
 no-parameter tys i lt h =
     ap (filter is_parameter) (drop_more tys i types.Bottom lt)
     ∙ ap (λ b. if b then get_or tys i types.Bottom ∷ filter is_parameter (drop (i + 1) tys) else filter is_parameter (drop (i + 1) tys)) h
@@ -123,10 +130,12 @@ no-parameter tys i lt h =
 pub past-all-fit : (n : ℕ) (args : List Argument) (tys : List Ty) → args ≡ [] → first_misfit n args tys ≡ None
 past-all-fit n args tys e = ap (λ (xs : List Argument). first_misfit n xs tys) e
 
-module _ {A : Type 0} (k : Cells A) (args : List Argument) (tys : List Ty) (n i made : ℕ) (arg : Argument) (there : slice_get args n ≡ Some arg) (inside : i < length tys)
+module _ {A : Type 0} (k : Cells A) (args : List Argument) (tys : List Ty) (n i made : ℕ) (arg : Argument) (there : slice_get args n ≡ Some arg)
+    (inside : i < length tys)
     (begins : is_parameter (get_or tys i types.Bottom) ≡ true) where
   pub handed-next : cells_handed k made (drop n args) (filter is_parameter (drop i tys))
-      ≡ argument_cells k made arg (get_or tys i types.Bottom) ++ cells_handed k (made + arrays_made arg) (drop (n + 1) args) (filter is_parameter (drop (i + 1) tys))
+      ≡ argument_cells k made arg (get_or tys i types.Bottom) ++ cells_handed k (made + arrays_made arg) (drop (n + 1) args)
+      (filter is_parameter (drop (i + 1) tys))
   handed-next =
       ap (λ (xs : List Argument). cells_handed k made xs (filter is_parameter (drop i tys))) (drop-at args n arg there)
       ∙ ap (λ (ts : List Ty). cells_handed k made (arg ∷ drop (n + 1) args) ts) (next-parameter tys i inside begins)
@@ -138,7 +147,8 @@ module _ {A : Type 0} (k : Cells A) (args : List Argument) (tys : List Ty) (n i 
       (sym (ap (λ (xs : List Argument). first_misfit n xs (filter is_parameter (drop i tys))) (drop-at args n arg there)
       ∙ ap (λ (ts : List Ty). first_misfit n (arg ∷ drop (n + 1) args) ts) (next-parameter tys i inside begins)) ∙ fit)
 
-  pub count-next : length (drop n args) ≡ length (filter is_parameter (drop i tys)) → length (drop (n + 1) args) ≡ length (filter is_parameter (drop (i + 1) tys))
+  pub count-next : length (drop n args) ≡ length (filter is_parameter (drop i tys))
+      → length (drop (n + 1) args) ≡ length (filter is_parameter (drop (i + 1) tys))
   count-next e =
       let a = ap length (drop-at args n arg there) in let b = ap length (next-parameter tys i inside begins) in omega (arith, a, b)
 
@@ -147,7 +157,8 @@ module _ {A : Type 0} (k : Cells A) (args : List Argument) (tys : List Ty) (n i 
       → x + length (argument_cells k made arg (get_or tys i types.Bottom)) ≤ length tys
   room-next x e =
       let all = ap length handed-next in
-      let both = length-append (argument_cells k made arg (get_or tys i types.Bottom)) (cells_handed k (made + arrays_made arg) (drop (n + 1) args) (filter is_parameter (drop (i + 1) tys))) in
+      let both = length-append (argument_cells k made arg (get_or tys i types.Bottom))
+      (cells_handed k (made + arrays_made arg) (drop (n + 1) args) (filter is_parameter (drop (i + 1) tys))) in
       omega (arith, all, both)
 
   pub left-next : (x y : ℕ) → y ≡ x + length (argument_cells k made arg (get_or tys i types.Bottom))
@@ -155,7 +166,8 @@ module _ {A : Type 0} (k : Cells A) (args : List Argument) (tys : List Ty) (n i 
       → y + length (cells_handed k (made + arrays_made arg) (drop (n + 1) args) (filter is_parameter (drop (i + 1) tys))) ≡ length tys
   left-next x y is e =
       let all = ap length handed-next in
-      let both = length-append (argument_cells k made arg (get_or tys i types.Bottom)) (cells_handed k (made + arrays_made arg) (drop (n + 1) args) (filter is_parameter (drop (i + 1) tys))) in
+      let both = length-append (argument_cells k made arg (get_or tys i types.Bottom))
+      (cells_handed k (made + arrays_made arg) (drop (n + 1) args) (filter is_parameter (drop (i + 1) tys))) in
       omega (arith, all, both)
 
   -- what is left is written after it
@@ -164,7 +176,8 @@ module _ {A : Type 0} (k : Cells A) (args : List Argument) (tys : List Ty) (n i 
       (cells_handed k (made + arrays_made arg) (drop (n + 1) args) (filter is_parameter (drop (i + 1) tys)))
       ≡ overwritten regs x (cells_handed k made (drop n args) (filter is_parameter (drop i tys)))
   written-next regs x y is le =
-      overwritten-append regs (argument_cells k made arg (get_or tys i types.Bottom)) (cells_handed k (made + arrays_made arg) (drop (n + 1) args) (filter is_parameter (drop (i + 1) tys))) x y is le
+      overwritten-append regs (argument_cells k made arg (get_or tys i types.Bottom))
+      (cells_handed k (made + arrays_made arg) (drop (n + 1) args) (filter is_parameter (drop (i + 1) tys))) x y is le
       ∙ ap (overwritten regs x) (sym handed-next)
 
 one-array : (arg : Argument) → arrays_made arg ≤ 1
@@ -176,17 +189,20 @@ pub made-next : (arg : Argument) (made objects n : ℕ) → made ≤ objects + n
 made-next arg made objects n h = let one = one-array arg in omega arith
 
 -- registers of the frame on top that are written
-pub framed-next : {A : Type 0} (s z y : State A) (r q : List A) → z ≡ with_top s (record (top s) { registers = r }) → y ≡ with_top z (record (top z) { registers = q })
+pub framed-next : {A : Type 0} (s z y : State A) (r q : List A) → z ≡ with_top s (record (top s) { registers = r })
+    → y ≡ with_top z (record (top z) { registers = q })
     → y ≡ with_top s (record (top s) { registers = q })
 framed-next {A} s z y r q e f = f ∙ ap (λ (x : State A). with_top x (record (top x) { registers = q })) e
 
-pub framed-itself : {A : Type 0} (s y : State A) (q : List A) → y ≡ with_top s (record (top s) { registers = q }) → y ≡ with_top s (record (top s) { registers = (top y).registers })
+pub framed-itself : {A : Type 0} (s y : State A) (q : List A) → y ≡ with_top s (record (top s) { registers = q })
+    → y ≡ with_top s (record (top s) { registers = (top y).registers })
 framed-itself {A} s y q e = e ∙ ap (λ (x : State A). with_top s (record (top s) { registers = (top x).registers })) (sym e)
 
 pub framed-runs : {A : Type 0} (s y : State A) (q : List A) → y ≡ with_top s (record (top s) { registers = q }) → IsRunning y
 framed-runs {A} s y q e = subst (λ (x : State A). IsRunning x) (sym e) (omega arith)
 
-all-frames : {A : Type 0} (fs : List (Frame A)) → 0 < length fs → record (first_frame fs) { registers = (first_frame fs).registers } ∷ other_frames fs ≡ fs
+all-frames : {A : Type 0} (fs : List (Frame A)) → 0 < length fs → record (first_frame fs) { registers = (first_frame fs).registers } ∷ other_frames fs
+    ≡ fs
 all-frames [] h = absurd (omega arith)
 all-frames (f ∷ fs) h = refl
 
@@ -214,7 +230,8 @@ none-left tys i le = ap (filter is_parameter) (past-all tys i le)
 
 module _ (args : List Argument) (tys : List Ty) (n i : ℕ) (arg : Argument) (there : slice_get args n ≡ Some arg) (inside : i < length tys)
     (begins : is_parameter (get_or tys i types.Bottom) ≡ true) where
-  both-next : first_misfit n (drop n args) (filter is_parameter (drop i tys)) ≡ first_misfit n (arg ∷ drop (n + 1) args) (get_or tys i types.Bottom ∷ filter is_parameter (drop (i + 1) tys))
+  both-next : first_misfit n (drop n args) (filter is_parameter (drop i tys)) ≡ first_misfit n (arg ∷ drop (n + 1) args)
+      (get_or tys i types.Bottom ∷ filter is_parameter (drop (i + 1) tys))
   both-next =
       ap (λ (xs : List Argument). first_misfit n xs (filter is_parameter (drop i tys))) (drop-at args n arg there)
       ∙ ap (λ (ts : List Ty). first_misfit n (arg ∷ drop (n + 1) args) ts) (next-parameter tys i inside begins)

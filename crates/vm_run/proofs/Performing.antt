@@ -1,5 +1,6 @@
 -- What a step rests on, and what its parts come to together.
-use Rattle.std.proofs.Common.{◌≡◌, ◌<◌, ◌≤◌, ℕ, true, List, [], ◌∷◌, length, refl, sym, ap, ◌∙◌, subst, arith, rules, Option, Some, None}
+use Rattle.std.proofs.Common.{◌≡◌, ◌<◌, ◌≤◌, ℕ, true, List, [], ◌∷◌, length, refl, sym, ap, ◌∙◌, subst, arith, rules, Option}
+use Rattle.std.proofs.Common.{Some, None}
 use Rattle.std.specs.Prelude.{All, IsSome, IsSomeAnd, slice_get, Ok, Err}
 use Rattle.std.proofs.lemmas.List.Elements.{All-nil, All-cons, All-head, All-tail, All-map, All-weaker}
 use Rattle.jc_base.specs.declared.record.MethodRec.{MethodRec}
@@ -71,7 +72,8 @@ module _ {A : Type 0} (w : Linked) where
   can-test k s shaped known runs = record { running = runs; frame = top-frame s shaped runs; types = known }
 
   -- the frames after an act are of methods of the world
-  methods-of : (fs : List (Frame A)) → (first_frame fs).method < length w.methods → All (IsShapedFrame w) (other_frames fs) → All (λ (f : Frame A). f.method < length w.methods) fs
+  methods-of : (fs : List (Frame A)) → (first_frame fs).method < length w.methods → All (IsShapedFrame w) (other_frames fs)
+      → All (λ (f : Frame A). f.method < length w.methods) fs
   methods-of [] k o = All-nil (λ (f : Frame A). f.method < length w.methods)
   methods-of (f ∷ fs) k o =
       All-cons (λ (g : Frame A). g.method < length w.methods) f fs k
@@ -97,7 +99,8 @@ module _ {A : Type 0} (w : Linked) where
 
   pub reaches-by : (k : Cells A) (room : ℕ) (keeps : State A → Type 0) → TestsReach room k keeps w → (s : State A) (i : Placed) (op : Operation)
       → keeps s → IsRunning s → instruction_at (code_at w (top s).method) (top s).place ≡ Some i → max_stack_of w (top s).method ≤ 255
-      → IsSomeAnd (slice_get w.methods (top s).method) (λ m. Resolves w m i.place i.insn (Ok op)) → fault_before k w op s ≡ None → Reaches room k w i.insn op s
+      → IsSomeAnd (slice_get w.methods (top s).method) (λ m. Resolves w m i.place i.insn (Ok op)) → fault_before k w op s ≡ None
+      → Reaches room k w i.insn op s
   reaches-by k room keeps law s i op kept runs there most names none =
       let m = some-and (slice_get w.methods (top s).method) (λ m. Resolves w m i.place i.insn (Ok op)) names in
       law s m.0 i op kept (fetched s m.0 i runs m.1 there) most m.2 none
@@ -110,16 +113,20 @@ module _ {A : Type 0} (w : Linked) where
   value-size k (values.Int n) stack = refl
   value-size k (values.Ref h) stack = refl
 
-  tested-resumes : (room : ℕ) (s : State A) (value : Value) (known : Known) → IsShaped w s → 257 ≤ room → KnowsAt w known (top (without_top s)).method (top (without_top s)).place
+  tested-resumes : (room : ℕ) (s : State A) (value : Value) (known : Known) → IsShaped w s → 257 ≤ room
+      → KnowsAt w known (top (without_top s)).method (top (without_top s)).place
       → IsRunning (without_top s) → CanResume room w known (value_width value) (without_top s)
   tested-resumes room s value known shaped enough call runs =
       let f = head-frame (other_frames s.frames) (rest-frames s.frames shaped.frames) runs in
       let two = two-cells value in
       record { method = f.known; call = call; room_is = λ most. let deep = f.cells in omega arith }
 
-  module _ (k : Cells A) (room : ℕ) (keeps : State A → Type 0) (s z : State A) (m : MethodRec) (i : Placed) (op : Operation) (kept : keeps s) (shaped : IsShaped w s) (runs : IsRunning s)
-      (fetches : Fetches w s m i) (names : Resolves w m i.place i.insn (Ok op)) (has : HasRoomToCatch room k.checks) (verified : AreVerified room k keeps w) (stay : FramesStay s z) where
-    pub leads-on : (known : Known) (lead : Lead) → KnowPlaces k.checks w known → act k w i.insn op s ≡ told k w z lead → Stays lead s z → LeadsOn room w known z lead
+  module _ (k : Cells A) (room : ℕ) (keeps : State A → Type 0) (s z : State A) (m : MethodRec) (i : Placed) (op : Operation) (kept : keeps s)
+      (shaped : IsShaped w s) (runs : IsRunning s)
+      (fetches : Fetches w s m i) (names : Resolves w m i.place i.insn (Ok op)) (has : HasRoomToCatch room k.checks) (verified : AreVerified room k keeps w)
+      (stay : FramesStay s z) where
+    pub leads-on : (known : Known) (lead : Lead) → KnowPlaces k.checks w known → act k w i.insn op s ≡ told k w z lead → Stays lead s z
+        → LeadsOn room w known z lead
     leads-on (Marked p) (leads.Jumps to) know e same = tt {0}
     leads-on Verified (leads.Jumps to) know e same =
         subst (λ (n : ℕ). is_target_place (code_at w n) to ≡ true) (sym stay.method) ((verified know s kept runs).lands m i op to z fetches names e)
@@ -157,29 +164,37 @@ module _ {A : Type 0} (w : Linked) where
       → settled k w next z (told k w z lead) ≡ settled k w next s a
   same-outcome k next s z leads.Goes a e same = goes-same k next s z same ∙ ap (settled k w next s) (sym e)
   same-outcome k next s z (leads.Jumps to) a e same = ap (settled k w next s) (sym e)
-  same-outcome k next s z (leads.Puts put) a e same = ap (λ (x : State A). settled k w next x (told k w z (leads.Puts put))) same ∙ ap (settled k w next s) (sym e)
+  same-outcome k next s z (leads.Puts put) a e same =
+      ap (λ (x : State A). settled k w next x (told k w z (leads.Puts put))) same ∙ ap (settled k w next s) (sym e)
   same-outcome k next s z (leads.MakesInstance class place) a e same = ap (settled k w next s) (sym e)
   same-outcome k next s z (leads.MakesArray kind count) a e same = ap (settled k w next s) (sym e)
   same-outcome k next s z (leads.Calls method count) a e same = ap (settled k w next s) (sym e)
-  same-outcome k next s z (leads.Gives value) a e same = ap (λ (x : State A). settled k w next x (told k w z (leads.Gives value))) same ∙ ap (settled k w next s) (sym e)
-  same-outcome k next s z (leads.Raises exception) a e same = ap (λ (x : State A). settled k w next x (told k w z (leads.Raises exception))) same ∙ ap (settled k w next s) (sym e)
-  same-outcome k next s z (leads.Throws handle) a e same = ap (λ (x : State A). settled k w next x (told k w z (leads.Throws handle))) same ∙ ap (settled k w next s) (sym e)
-  same-outcome k next s z (leads.Lacks class) a e same = ap (λ (x : State A). settled k w next x (told k w z (leads.Lacks class))) same ∙ ap (settled k w next s) (sym e)
+  same-outcome k next s z (leads.Gives value) a e same =
+      ap (λ (x : State A). settled k w next x (told k w z (leads.Gives value))) same ∙ ap (settled k w next s) (sym e)
+  same-outcome k next s z (leads.Raises exception) a e same =
+      ap (λ (x : State A). settled k w next x (told k w z (leads.Raises exception))) same ∙ ap (settled k w next s) (sym e)
+  same-outcome k next s z (leads.Throws handle) a e same =
+      ap (λ (x : State A). settled k w next x (told k w z (leads.Throws handle))) same ∙ ap (settled k w next s) (sym e)
+  same-outcome k next s z (leads.Lacks class) a e same =
+      ap (λ (x : State A). settled k w next x (told k w z (leads.Lacks class))) same ∙ ap (settled k w next s) (sym e)
 
   -- ---- the instruction at the place
 
-  pub knows-here : (k : Cells A) (room : ℕ) (keeps : State A → Type 0) (s : State A) (known : Known) → keeps s → IsRunning s → AreVerified room k keeps w → KnowPlaces k.checks w known
+  pub knows-here : (k : Cells A) (room : ℕ) (keeps : State A → Type 0) (s : State A) (known : Known) → keeps s → IsRunning s
+      → AreVerified room k keeps w → KnowPlaces k.checks w known
       → KnowsAt w known (top s).method (top s).place
   knows-here k room keeps s (Marked p) kept runs verified know = know.1
   knows-here k room keeps s Verified kept runs verified know = (verified know s kept runs).place
 
   -- a machine that finds none tests
-  pub none-tests : (k : Cells A) (known : Known) (method place : ℕ) → KnowPlaces k.checks w known → KnowsAt w known method place → instruction_at (code_at w method) place ≡ None → k.checks ≡ true
+  pub none-tests : (k : Cells A) (known : Known) (method place : ℕ) → KnowPlaces k.checks w known → KnowsAt w known method place
+      → instruction_at (code_at w method) place ≡ None → k.checks ≡ true
   none-tests k (Marked p) method place know at e = know.0
   none-tests k Verified method place know at e = let h = subst (λ (o : Option Placed). IsSome o) e at in absurd (search rules)
 
   -- and so does one that finds an instruction that names nothing that it takes
-  pub fault-tests : (k : Cells A) (room : ℕ) (keeps : State A → Type 0) (s : State A) (known : Known) (m : MethodRec) (i : Placed) (fault : RuleFault) → keeps s → IsRunning s
+  pub fault-tests : (k : Cells A) (room : ℕ) (keeps : State A → Type 0) (s : State A) (known : Known) (m : MethodRec) (i : Placed) (fault : RuleFault)
+      → keeps s → IsRunning s
       → AreVerified room k keeps w → KnowPlaces k.checks w known → Fetches w s m i → Resolves w m i.place i.insn (Err fault) → k.checks ≡ true
   fault-tests k room keeps s (Marked p) m i fault kept runs verified know fetches names = know.0
   fault-tests k room keeps s Verified m i fault kept runs verified know fetches names = absurd ((verified know s kept runs).resolves m i fault fetches names)

@@ -1,5 +1,6 @@
 -- The sizes of a state in which a run begins.
-use Rattle.std.proofs.Common.{◌≡◌, ◌<◌, ◌≤◌, ◌+◌, ◌-◌, ℕ, List, [], ◌∷◌, ◌++◌, length, map, refl, sym, ap, ◌∙◌, arith, Option, None, length-append}
+use Rattle.std.proofs.Common.{◌≡◌, ◌<◌, ◌≤◌, ◌+◌, ◌-◌, ℕ, List, [], ◌∷◌, ◌++◌, length, map, refl, sym, ap, ◌∙◌, arith}
+use Rattle.std.proofs.Common.{Option, None, length-append}
 use Rattle.std.specs.Prelude.{All, sum_by, flat_map, slice_get, replicate}
 use Rattle.std.proofs.lemmas.List.{length-replicate}
 use Rattle.std.proofs.lemmas.List.Sums.{sum_by-cons}
@@ -27,7 +28,8 @@ use Rattle.vm_run.proofs.Fields.{field-size, words-size}
 use Rattle.vm_run.proofs.Handing.{handed-size}
 use Rattle.vm_run.proofs.Beginning.{Takes, takes}
 
-statics-size : {A : Type 0} (k : Cells A) (packages : ℕ) (t : ClassTable) (arrays : List ArrayRec) (fs : List StaticRec) → All (IsStatic packages t arrays) fs
+statics-size : {A : Type 0} (k : Cells A) (packages : ℕ) (t : ClassTable) (arrays : List ArrayRec) (fs : List StaticRec)
+    → All (IsStatic packages t arrays) fs
     → length (flat_map (λ (f : StaticRec). field_cells k f.kind f.initial) fs) ≡ sum_by (λ (f : StaticRec). width f.kind) fs
 statics-size k packages t arrays [] all = refl
 statics-size k packages t arrays (f ∷ fs) all =
@@ -47,12 +49,14 @@ numbers-kind a h = go a.kind h where
   go _ e = absurd e
 
 module _ {A : Type 0} (k : Cells A) where
-  initial-numbers : (xs : List ArrayRec) → All (λ a. AreElementsOf a.kind a.initial) xs → All (λ (o : Object A). IsOfNumbers o.kind) (map (initial_object k) xs)
+  initial-numbers : (xs : List ArrayRec) → All (λ a. AreElementsOf a.kind a.initial) xs
+      → All (λ (o : Object A). IsOfNumbers o.kind) (map (initial_object k) xs)
   initial-numbers xs all =
       All-map (λ (o : Object A). IsOfNumbers o.kind) (initial_object k) xs
       (All-weaker (λ a. AreElementsOf a.kind a.initial) (λ a. IsOfNumbers (kind_of_type a.kind)) (λ a h. numbers-kind a h) xs all)
 
-  arrays-numbers : (args : List Argument) (s : State A) → All (λ (o : Object A). IsOfNumbers o.kind) s.heap → All (λ (o : Object A). IsOfNumbers o.kind) (with_arrays k args s).heap
+  arrays-numbers : (args : List Argument) (s : State A) → All (λ (o : Object A). IsOfNumbers o.kind) s.heap
+      → All (λ (o : Object A). IsOfNumbers o.kind) (with_arrays k args s).heap
   arrays-numbers [] s all = all
   arrays-numbers (number n ∷ args) s all = arrays-numbers args s all
   arrays-numbers (null ∷ args) s all = arrays-numbers args s all
@@ -67,7 +71,8 @@ module _ {A : Type 0} (k : Cells A) where
   filled : (n : ℕ) (cells : List A) → length cells ≤ n → length (cells ++ replicate (n - length cells) k.empty) ≡ n
   filled n cells le = length-append cells (replicate (n - length cells) k.empty) ∙ omega (arith, length-replicate (n - length cells) k.empty)
 
-  sized-by : (w : Linked) → IsWorld w → (entry : ℕ) (args : List Argument) (m : MethodRec) → Takes w entry args m → HasEntrySizes w entry (entry_state k w entry args)
+  sized-by : (w : Linked) → IsWorld w → (entry : ℕ) (args : List Argument) (m : MethodRec) → Takes w entry args m
+      → HasEntrySizes w entry (entry_state k w entry args)
   sized-by w is entry args m t =
       let method : IsMethod w.infos w.pools w.classes m = All-slice_get (IsMethod w.infos w.pools w.classes) w.methods entry m is.methods t.is in
       let handed = handed-size k 0 (length w.arrays) args method.whole t.count t.fit in
@@ -82,5 +87,6 @@ module _ {A : Type 0} (k : Cells A) where
         statics = ap length (arrays-statics args (initial k w)) ∙ statics-size k (length w.infos) w.classes w.arrays w.statics is.statics;
       }
 
-  pub sized : (w : Linked) → IsWorld w → (entry : ℕ) (args : List Argument) → start_fault w entry args ≡ None → HasEntrySizes w entry (entry_state k w entry args)
+  pub sized : (w : Linked) → IsWorld w → (entry : ℕ) (args : List Argument) → start_fault w entry args ≡ None
+      → HasEntrySizes w entry (entry_state k w entry args)
   sized w is entry args none = let t = takes w entry args none in sized-by w is entry args t.0 t.1

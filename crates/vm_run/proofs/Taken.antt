@@ -16,7 +16,8 @@ module _ {A : Type 0} (k : Cells A) (w : Linked) where
       let next : suc (n + 1) ≡ suc n + 1 = omega arith in subst (λ (m : ℕ). Runs k w m s (running y)) next (steps first (run-more y more step))
 
   -- a step that ends the run, before the budget is spent
-  pub run-ends : {n : ℕ} {s z : State A} → Runs k w n s (running z) → (budget : ℕ) (ending : Ending) (y : State A) → Steps k w z (ended ending y) → n < budget
+  pub run-ends : {n : ℕ} {s z : State A} → Runs k w n s (running z) → (budget : ℕ) (ending : Ending) (y : State A) → Steps k w z (ended ending y)
+      → n < budget
       → Runs k w budget s (ended ending y)
   run-ends stands zero ending y step lt = absurd (omega arith)
   run-ends stands (suc budget) ending y step lt = stops step

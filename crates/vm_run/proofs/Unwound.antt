@@ -31,14 +31,16 @@ module _ {A : Type 0} (k : Cells A) (w : Linked) (class n : ℕ) where
   pub unwound_caught : (s : State A) (h : Handler) → IsRunning s → handler_for w class (top s) ≡ Some h
       → unwound k w class n s s.frames ≡ caught_by k w h n s (top s) (other_frames s.frames)
   unwound_caught s h runs e = go s.frames runs e where
-    go : (fs : List (Frame A)) → 0 < length fs → handler_for w class (first_frame fs) ≡ Some h → unwound k w class n s fs ≡ caught_by k w h n s (first_frame fs) (other_frames fs)
+    go : (fs : List (Frame A)) → 0 < length fs → handler_for w class (first_frame fs) ≡ Some h
+        → unwound k w class n s fs ≡ caught_by k w h n s (first_frame fs) (other_frames fs)
     go [] r e = absurd (omega arith)
     go (f ∷ fs) r e = ap (caught_or k w n s f fs (unwound k w class n s fs)) e
 
   pub unwound_dropped : (s : State A) → IsRunning s → handler_for w class (top s) ≡ None
       → unwound k w class n (without_top s) (without_top s).frames ≡ unwound k w class n s s.frames
   unwound_dropped s runs e = over_same s (other_frames s.frames) (other_frames s.frames) ∙ go s.frames runs e where
-    go : (fs : List (Frame A)) → 0 < length fs → handler_for w class (first_frame fs) ≡ None → unwound k w class n s (other_frames fs) ≡ unwound k w class n s fs
+    go : (fs : List (Frame A)) → 0 < length fs → handler_for w class (first_frame fs) ≡ None → unwound k w class n s (other_frames fs)
+        ≡ unwound k w class n s fs
     go [] r e = absurd (omega arith)
     go (f ∷ fs) r e = sym (ap (caught_or k w n s f fs (unwound k w class n s fs)) e)
 
@@ -48,7 +50,8 @@ last-kind : {A : Type 0} (os : List (Object A)) (o : Object A) → slice_get (ma
 last-kind [] o = refl
 last-kind (x ∷ os) o = last-kind os o
 
-pub last-class : {A : Type 0} (t : ClassTable) (s : State A) (class : ℕ) (cells : List A) → class_of t (with_object s (Instance class) cells) (length s.heap + 1) ≡ class
+pub last-class : {A : Type 0} (t : ClassTable) (s : State A) (class : ℕ) (cells : List A)
+    → class_of t (with_object s (Instance class) cells) (length s.heap + 1) ≡ class
 last-class {A} t s class cells =
     let z : State A = with_object s (Instance class) cells in
     ap (class_of t z) (add-one (length s.heap)) ∙ ap (class_with_methods t) (last-kind s.heap (record { kind = Instance class; cells = cells }))
@@ -59,9 +62,11 @@ pub raised-is : {A : Type 0} (k : Cells A) (w : Linked) (exception : Exception) 
     → unwound k w class h z z.frames ≡ raised k w exception s
 raised-is {A} k w exception s z class h is room at e =
     let made : ℕ → State A = λ c. with_object s (Instance c) (new_instance_cells k w.classes c) in
-    let Raised : ℕ → Outcome A = λ c. if has_room s (length (cells_of w.classes c)) then thrown k w (length s.heap + 1) (made c) else ends (Plain HeapFull) s in
+    let Raised : ℕ → Outcome A = λ c. if has_room s (length (cells_of w.classes c)) then thrown k w (length s.heap + 1) (made c) else ends
+    (Plain HeapFull) s in
     ap (λ (x : State A). unwound k w class h x x.frames) e
     ∙ (ap (λ (n : ℕ). unwound k w class n (made class) (made class).frames) at
-    ∙ (ap (λ (c : ℕ). unwound k w c (length s.heap + 1) (made class) (made class).frames) (sym (last-class w.classes s class (new_instance_cells k w.classes class)))
+    ∙ (ap (λ (c : ℕ). unwound k w c (length s.heap + 1) (made class) (made class).frames)
+    (sym (last-class w.classes s class (new_instance_cells k w.classes class)))
     ∙ (ap (λ b. if b then thrown k w (length s.heap + 1) (made class) else ends (Plain HeapFull) s) (sym room)
     ∙ ap Raised is)))

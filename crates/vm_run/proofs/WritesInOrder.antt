@@ -1,5 +1,6 @@
 -- Cells that are written one after another, in lists and in the object that was made last.
-use Rattle.std.proofs.Common.{◌≡◌, ◌<◌, ◌≤◌, ◌+◌, ◌*◌, ℕ, zero, suc, List, [], ◌∷◌, ◌++◌, length, take, drop, set, refl, sym, ap, ◌∙◌, subst, arith, add-one, length-take, length-append, Option, Some, None}
+use Rattle.std.proofs.Common.{◌≡◌, ◌<◌, ◌≤◌, ◌+◌, ◌*◌, ℕ, zero, suc, List, [], ◌∷◌, ◌++◌, length, take, drop, set, refl}
+use Rattle.std.proofs.Common.{sym, ap, ◌∙◌, subst, arith, add-one, length-take, length-append, Option, Some, None}
 use Rattle.std.specs.Prelude.{slice_get, map}
 use Rattle.std.proofs.lemmas.List.{append-nil, append_assoc, take_at, drop_at, drop-drop, length-drop}
 use Rattle.vm_store.specs.declared.kind.ObjectKind.{ObjectKind}
@@ -19,7 +20,8 @@ module _ {A : Type 0} where
   cut-after xs ys p n e = sym (drop-drop n p (xs ++ ys)) ∙ ap (drop n) (drop_at xs ys p e)
 
   -- cells after those that were written
-  pub overwritten-append : (xs ys zs : List A) (at p : ℕ) → p ≡ at + length ys → p ≤ length xs → overwritten (overwritten xs at ys) p zs ≡ overwritten xs at (ys ++ zs)
+  pub overwritten-append : (xs ys zs : List A) (at p : ℕ) → p ≡ at + length ys → p ≤ length xs → overwritten (overwritten xs at ys) p zs
+      ≡ overwritten xs at (ys ++ zs)
   overwritten-append xs ys zs at p is le =
       let front = take at xs ++ ys in
       let rest = drop (at + length ys) xs in
@@ -28,7 +30,8 @@ module _ {A : Type 0} where
       let end : at + length ys + length zs ≡ at + length (ys ++ zs) = omega (arith, length-append ys zs) in
       ap (λ ws. take p ws ++ (zs ++ drop (p + length zs) ws)) joined
       ∙ (ap (λ ws. ws ++ (zs ++ drop (p + length zs) (front ++ rest))) (take_at front rest p size)
-      ∙ (ap (λ ws. front ++ (zs ++ ws)) (cut-after front rest p (length zs) size ∙ (drop-drop (length zs) (at + length ys) xs ∙ ap (λ n. drop n xs) end))
+      ∙ (ap (λ ws. front ++ (zs ++ ws))
+      (cut-after front rest p (length zs) size ∙ (drop-drop (length zs) (at + length ys) xs ∙ ap (λ n. drop n xs) end))
       ∙ (append_assoc (take at xs) ys (zs ++ drop (at + length (ys ++ zs)) xs)
       ∙ ap (λ ws. take at xs ++ ws) (sym (append_assoc ys zs (drop (at + length (ys ++ zs)) xs))))))
 
@@ -54,16 +57,20 @@ module _ {A : Type 0} where
   last-is [] o = refl
   last-is (x ∷ os) o = last-is os o
 
-  last-written : (os : List (Object A)) (o : Object A) (i : ℕ) (v : A) → write_object (os ++ o ∷ []) (length os) i v ≡ os ++ record o { cells = set o.cells i v } ∷ []
+  last-written : (os : List (Object A)) (o : Object A) (i : ℕ) (v : A) → write_object (os ++ o ∷ []) (length os) i v
+      ≡ os ++ record o { cells = set o.cells i v } ∷ []
   last-written [] o i v = refl
   last-written (x ∷ os) o i v = ap (λ rest. x ∷ rest) (last-written os o i v)
 
-  pub last-cells : (s z : State A) (kind : ObjectKind) (cells : List A) (h : ℕ) → z ≡ with_object s kind cells → h ≡ length s.heap + 1 → object_cells z h ≡ cells
+  pub last-cells : (s z : State A) (kind : ObjectKind) (cells : List A) (h : ℕ) → z ≡ with_object s kind cells → h ≡ length s.heap + 1
+      → object_cells z h ≡ cells
   last-cells s z kind cells h e at =
       let next : h ≡ suc (length s.heap) = at ∙ add-one (length s.heap) in
-      ap (λ (x : State A). object_cells x h) e ∙ (ap (object_cells (with_object s kind cells)) next ∙ ap cells_in (last-is s.heap (record { kind = kind; cells = cells })))
+      ap (λ (x : State A). object_cells x h) e
+      ∙ (ap (object_cells (with_object s kind cells)) next ∙ ap cells_in (last-is s.heap (record { kind = kind; cells = cells })))
 
-  pub last-cell-written : (s z : State A) (kind : ObjectKind) (cells : List A) (h i : ℕ) (v : A) → z ≡ with_object s kind cells → h ≡ length s.heap + 1
+  pub last-cell-written : (s z : State A) (kind : ObjectKind) (cells : List A) (h i : ℕ) (v : A) → z ≡ with_object s kind cells
+      → h ≡ length s.heap + 1
       → with_object_cell z h i v ≡ with_object s kind (set cells i v)
   last-cell-written s z kind cells h i v e at =
       let next : h ≡ suc (length s.heap) = at ∙ add-one (length s.heap) in

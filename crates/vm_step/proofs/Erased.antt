@@ -20,7 +20,8 @@ use Rattle.vm_store.proofs.Erasing.{entered-erased}
 use Rattle.vm_step.specs.Objects.{kind_of_type}
 use Rattle.vm_step.specs.Methods.{of_method}
 use Rattle.vm_step.specs.Arguments.{Argument, number, null, bytes}
-use Rattle.vm_step.specs.Start.{field_cells, int_cells, initial_element_cells, initial_object, initial, with_arrays, argument_cells, arrays_made, cells_handed, parameters, entry_state}
+use Rattle.vm_step.specs.Start.{field_cells, int_cells, initial_element_cells, initial_object, initial, with_arrays, argument_cells, arrays_made, cells_handed}
+use Rattle.vm_step.specs.Start.{parameters, entry_state}
 
 -- a cell for each word
 each-word : (f : ℕ → Cell) (ws : List ℕ) → map word_of (map f ws) ≡ map (λ w. word_of (f w)) ws
@@ -37,7 +38,8 @@ field-erased fields.Int [] = refl
 field-erased fields.Int (a ∷ []) = refl
 field-erased fields.Int (a ∷ b ∷ ws) = refl
 
-statics-erased : (fs : List StaticRec) → map word_of (flat_map (λ f. field_cells tagged f.kind f.initial) fs) ≡ flat_map (λ f. field_cells words f.kind f.initial) fs
+statics-erased : (fs : List StaticRec) → map word_of (flat_map (λ f. field_cells tagged f.kind f.initial) fs)
+    ≡ flat_map (λ f. field_cells words f.kind f.initial) fs
 statics-erased [] = refl
 statics-erased (f ∷ fs) =
     map-append word_of (field_cells tagged f.kind f.initial) (flat_map (λ f. field_cells tagged f.kind f.initial) fs)
@@ -61,7 +63,8 @@ objects-erased : (xs : List ArrayRec) → map (map_object word_of) (map (initial
 objects-erased [] = refl
 objects-erased (a ∷ xs) =
     let kind = kind_of_type a.kind in
-    ap (λ (cells : List ℕ). record { kind = kind; cells = cells } ∷ map (map_object word_of) (map (initial_object tagged) xs)) (elements-erased kind a.initial)
+    ap (λ (cells : List ℕ). record { kind = kind; cells = cells } ∷ map (map_object word_of) (map (initial_object tagged) xs))
+    (elements-erased kind a.initial)
     ∙ ap (λ (os : List (Object ℕ)). initial_object words a ∷ os) (objects-erased xs)
 
 made : List (Object ℕ) → List ℕ → State ℕ
@@ -70,7 +73,8 @@ made heap statics = record { frames = []; heap = heap; statics = statics }
 initial-erased : (w : Linked) → erased (initial tagged w) ≡ initial words w
 unfolding made
 initial-erased w =
-    ap (λ (os : List (Object ℕ)). made os (map word_of (flat_map (λ (f : StaticRec). field_cells tagged f.kind f.initial) w.statics))) (objects-erased w.arrays)
+    ap (λ (os : List (Object ℕ)). made os (map word_of (flat_map (λ (f : StaticRec). field_cells tagged f.kind f.initial) w.statics)))
+    (objects-erased w.arrays)
     ∙ ap (made (map (initial_object words) w.arrays)) (statics-erased w.statics)
 
 -- ---- what is handed in
@@ -84,7 +88,8 @@ arrays-erased (bytes bs ∷ args) s =
     arrays-erased args (with_object s Bytes cells)
     ∙ ap (λ (os : List (Object ℕ)). with_arrays words args (record (erased s) { heap = os }))
     (map-append (map_object word_of) s.heap (record { kind = Bytes; cells = cells } ∷ [])
-    ∙ ap (λ (xs : List ℕ). map (map_object word_of) s.heap ++ record { kind = Bytes; cells = xs } ∷ []) (each-word (λ b. tagged.short (byte_of_word b)) bs))
+    ∙ ap (λ (xs : List ℕ). map (map_object word_of) s.heap ++ record { kind = Bytes; cells = xs } ∷ [])
+    (each-word (λ b. tagged.short (byte_of_word b)) bs))
 
 argument-erased : (objects : ℕ) (arg : Argument) (ty : Ty) → map word_of (argument_cells tagged objects arg ty) ≡ argument_cells words objects arg ty
 argument-erased objects (number n) types.Short = refl
@@ -103,7 +108,8 @@ argument-erased objects (number n) types.Top = refl
 argument-erased objects null ty = refl
 argument-erased objects (bytes bs) ty = refl
 
-handed-erased : (objects : ℕ) (args : List Argument) (tys : List Ty) → map word_of (cells_handed tagged objects args tys) ≡ cells_handed words objects args tys
+handed-erased : (objects : ℕ) (args : List Argument) (tys : List Ty) → map word_of (cells_handed tagged objects args tys) ≡ cells_handed words objects
+    args tys
 handed-erased objects [] tys = refl
 handed-erased objects (arg ∷ args) [] = refl
 handed-erased objects (arg ∷ args) (ty ∷ tys) =

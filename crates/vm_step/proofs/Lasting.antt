@@ -1,5 +1,6 @@
 -- A step that goes on leaves a frame, so there is a run of each number of steps.
-use Rattle.std.proofs.Common.{◌≡◌, ℕ, zero, suc, ◌+◌, ◌<◌, Bool, true, false, List, [], ◌∷◌, length, refl, sym, ap, ◌∙◌, subst, arith}
+use Rattle.std.proofs.Common.{◌≡◌, ℕ, zero, suc, ◌+◌, ◌<◌, Bool, true, false, List, [], ◌∷◌, length, refl, sym, ap, ◌∙◌, subst}
+use Rattle.std.proofs.Common.{arith}
 use Rattle.std.specs.Prelude.{Option, Some, None, if◌then◌else◌, nat_lt, slice_index}
 use Rattle.jc_base.specs.declared.record.Handler.{Handler}
 use Rattle.jc_base.specs.Dispatch.{cells_of}
@@ -88,7 +89,8 @@ module _ {A : Type 0} where
 abbrev HasRun : Linked → ℕ → State Cell → Type 0
 HasRun w n s = (o : Outcome Cell) × Runs tagged w n s o
 
-run-on : (w : Linked) (n : ℕ) (s : State Cell) (o : Outcome Cell) → Steps tagged w s o → ((z : State Cell) → IsRunning z → HasRun w n z) → HasRun w (suc n) s
+run-on : (w : Linked) (n : ℕ) (s : State Cell) (o : Outcome Cell) → Steps tagged w s o → ((z : State Cell) → IsRunning z → HasRun w n z)
+    → HasRun w (suc n) s
 run-on w n s (running z) step rest = let more = rest z (lasts-step tagged w s step) in (more.0, steps step more.1)
 run-on w n s (ended e z) step rest = (ended e z, stops step)
 

@@ -41,12 +41,15 @@ module _ {A : Type 0} (k : Cells A) (w : Linked) where
       let there : Resolves w n j.place j.insn r = subst (λ (x : Placed). Resolves w n x.place x.insn r) same_i moved in
       (same_i, decided n j.place j.insn r q there b)
 
-  one-answer : (s : State A) (m n : MethodRec) (i j : Placed) (op : Operation) (fault : RuleFault) → OperationsAreDecided w → Fetches w s m i → Fetches w s n j
+  one-answer : (s : State A) (m n : MethodRec) (i j : Placed) (op : Operation) (fault : RuleFault) → OperationsAreDecided w → Fetches w s m i
+      → Fetches w s n j
       → Resolves w m i.place i.insn (Ok op) → Resolves w n j.place j.insn (Err fault) → ⊥
   one-answer s m n i j op fault decided f g a b = let same = (same-answer decided s m n i j (Ok op) (Err fault) f g a b).1 in cc
 
-  same-act : (s : State A) (m n : MethodRec) (i j : Placed) (op other : Operation) (o p : Outcome A) → OperationsAreDecided w → Fetches w s m i → Fetches w s n j
-      → Resolves w m i.place i.insn (Ok op) → Resolves w n j.place j.insn (Ok other) → o ≡ performed k w i op s → p ≡ performed k w j other s → o ≡ p
+  same-act : (s : State A) (m n : MethodRec) (i j : Placed) (op other : Operation) (o p : Outcome A) → OperationsAreDecided w → Fetches w s m i
+      → Fetches w s n j
+      → Resolves w m i.place i.insn (Ok op) → Resolves w n j.place j.insn (Ok other) → o ≡ performed k w i op s → p ≡ performed k w j other s
+      → o ≡ p
   same-act s m n i j op other o p decided f g a b is was =
       let same = same-answer decided s m n i j (Ok op) (Ok other) f g a b in
       let answers : Ok op ≡ Ok other = same.1 in
@@ -74,8 +77,10 @@ module _ {A : Type 0} (k : Cells A) (w : Linked) where
   one-run : StepsAreOne k w → {n : ℕ} {s : State A} {o p : Outcome A} → Runs k w n s o → Runs k w n s p → o ≡ p
   one-run one stands stands = refl
   one-run one (stops {s = s} {z = z} {ending = e} a) (stops {z = y} {ending = f} b) = one s (ended e z) (ended f y) a b
-  one-run one (stops {s = s} {z = y} {ending = e} b) (steps {z = z} a more) = let both : running z ≡ ended e y = one s (running z) (ended e y) a b in absurd cc
-  one-run one (steps {s = s} {z = z} a more) (stops {z = y} {ending = e} b) = let both : running z ≡ ended e y = one s (running z) (ended e y) a b in absurd cc
+  one-run one (stops {s = s} {z = y} {ending = e} b) (steps {z = z} a more) =
+      let both : running z ≡ ended e y = one s (running z) (ended e y) a b in absurd cc
+  one-run one (steps {s = s} {z = z} a more) (stops {z = y} {ending = e} b) =
+      let both : running z ≡ ended e y = one s (running z) (ended e y) a b in absurd cc
   one-run one (steps {n = n} {s = s} {z = z} {o = o} a more) (steps {z = y} b rest) =
       let same : z ≡ y = same-running z y (one s (running z) (running y) a b) in
       one-run one (subst (λ x. Runs k w n x o) same more) rest
@@ -110,7 +115,8 @@ module _ {A : Type 0} (k : Cells A) (w : Linked) (checks : k.checks ≡ true) (s
   by-answer m i fetched (Ok op) resolves = (performed k w i op s, performs fetched op resolves refl)
   by-answer m i fetched (Err fault) resolves = (ends (Faulted TypeFault) s, unresolved checks fetched fault resolves)
 
-  by-place : (m : MethodRec) → slice_get w.methods (top s).method ≡ Some m → (p : Option Placed) → instruction_at (code_at w (top s).method) (top s).place ≡ p → HasStep
+  by-place : (m : MethodRec) → slice_get w.methods (top s).method ≡ Some m → (p : Option Placed)
+      → instruction_at (code_at w (top s).method) (top s).place ≡ p → HasStep
   unfolding HasStep
   by-place m is None e = (ends (Faulted JumpFault) s, misplaced checks runs e)
   by-place m is (Some i) e = by-answer m i (record { runs = runs; method = is; instruction = e }) (resolved w m i.place i.insn (row_at i.insn.op)) refl

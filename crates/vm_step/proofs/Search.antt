@@ -1,5 +1,6 @@
 -- A search along the interfaces that others extend.
-use Rattle.std.proofs.Common.{◌≡◌, ◌+◌, ◌<◌, ◌≤◌, ◌⊎◌, inl, inr, ℕ, zero, suc, ◌==◌, Bool, true, false, List, [], ◌∷◌, length, map, take, set, get_or, replicate, refl, sym, ap, ◌∙◌, subst, arith}
+use Rattle.std.proofs.Common.{◌≡◌, ◌+◌, ◌<◌, ◌≤◌, ◌⊎◌, inl, inr, ℕ, zero, suc, ◌==◌, Bool, true, false, List, [], ◌∷◌}
+use Rattle.std.proofs.Common.{length, map, take, set, get_or, replicate, refl, sym, ap, ◌∙◌, subst, arith}
 use Rattle.std.specs.Prelude.{Some, All, Contains, MatchBool, ◌||◌, if◌then◌else◌, slice_get}
 use Rattle.std.specs.List.{list_any}
 use Rattle.std.proofs.lemmas.Bool.{false≢true, false_from_ne_true, or_left, or_right, or_from}
@@ -9,7 +10,8 @@ use Rattle.std.proofs.lemmas.List.Folds.{list_any_more}
 use Rattle.jc_base.specs.declared.record.Iface.{Iface}
 use Rattle.jc_base.specs.declared.record.ClassRec.{ClassRec}
 use Rattle.jc_base.specs.declared.record.MethodRec.{MethodRec}
-use Rattle.jc_base.specs.Class.{ClassTable, IsClass, IsNextOnChain, IsEndOfChain, is_interface, is_interface_record, object, chain, chain_over, list_of, parent_of}
+use Rattle.jc_base.specs.Class.{ClassTable, IsClass, IsNextOnChain, IsEndOfChain, is_interface, is_interface_record, object, chain, chain_over, list_of}
+use Rattle.jc_base.specs.Class.{parent_of}
 use Rattle.jc_base.specs.declared.ty.Ty.TheVariants.{Class}
 use Rattle.jc_base.specs.Order.{is_below, is_on_chain}
 use Rattle.jc_base.specs.Linked.{IsLinkedClass, IsExtended, IsImplemented}
@@ -29,9 +31,11 @@ pub or-first : (a b : Bool) → a ≡ false → a || b ≡ b
 or-first true b h = absurd (false≢true (sym h))
 or-first false b h = refl
 
-any-contains : (p : ℕ → Bool) (xs : List Iface) (b : ℕ) → Contains (map (λ (e : Iface). e.class) xs) b → p b ≡ true → list_any (λ (e : Iface). p e.class) xs ≡ true
+any-contains : (p : ℕ → Bool) (xs : List Iface) (b : ℕ) → Contains (map (λ (e : Iface). e.class) xs) b → p b ≡ true
+    → list_any (λ (e : Iface). p e.class) xs ≡ true
 any-contains p [] b (k, lt, e) h = absurd (omega (arith, lt))
-any-contains p (x ∷ xs) b (zero, lt, e) h = let same : x.class ≡ b = e in or_left (p x.class) (list_any (λ (e : Iface). p e.class) xs) (subst (λ z. p z ≡ true) (sym same) h)
+any-contains p (x ∷ xs) b (zero, lt, e) h =
+    let same : x.class ≡ b = e in or_left (p x.class) (list_any (λ (e : Iface). p e.class) xs) (subst (λ z. p z ≡ true) (sym same) h)
 any-contains p (x ∷ xs) b (suc k, lt, e) h =
     or_right (p x.class) (list_any (λ (e : Iface). p e.class) xs) (any-contains p xs b (k, omega (arith, lt), e) h)
 
@@ -49,7 +53,8 @@ each-set (x ∷ xs) (suc i) (suc n) e = elim (each-set xs i n e) [ inl same ↦ 
 -- ---- the search
 
 -- one interface more is left
-pub left-more : (t : ClassTable) (sought i : ℕ) (searched : List Bool) → AreLeft t sought searched → is_or_extends t i sought ≡ false → AreLeft t sought (set searched i true)
+pub left-more : (t : ClassTable) (sought i : ℕ) (searched : List Bool) → AreLeft t sought searched → is_or_extends t i sought ≡ false
+    → AreLeft t sought (set searched i true)
 left-more t sought i searched left here = record {
   each = λ n e. elim (each-set searched i n e) [
     | inl same ↦ subst (λ k. is_or_extends t k sought ≡ false) (sym same) here
@@ -60,7 +65,8 @@ left-more t sought i searched left here = record {
 -- one interface more leads to nothing
 pub none-more :
     (t : ClassTable) (sought : ℕ) (xs : List Iface) (i : ℕ) (e : Iface)
-    → NoneExtends t sought (take i xs) → i < length xs → e ≡ get_or xs i e → is_or_extends t e.class sought ≡ false → NoneExtends t sought (take (i + 1) xs)
+    → NoneExtends t sought (take i xs) → i < length xs → e ≡ get_or xs i e → is_or_extends t e.class sought ≡ false
+    → NoneExtends t sought (take (i + 1) xs)
 none-more t sought xs i e so_far lt is here =
     let p : Iface → Bool = λ x. is_or_extends t x.class sought in
     record { none = list_any_more p xs i e lt ∙ or_from (list_any p (take i xs)) (p (get_or xs i e)) so_far.none (sym (ap p is) ∙ here) }
@@ -68,7 +74,8 @@ none-more t sought xs i e so_far lt is here =
 pub none-all : (t : ClassTable) (sought : ℕ) (xs : List Iface) (n : ℕ) → NoneExtends t sought (take n xs) → length xs ≤ n → NoneExtends t sought xs
 none-all t sought xs n h enough = subst (NoneExtends t sought) (take_all n xs enough) h
 
-extended-is : (t : ClassTable) (i : ℕ) (r : ClassRec) → slice_get t.records i ≡ Some r → r.interface ≡ true → extended t i ≡ map (λ (e : Iface). e.class) r.implements
+extended-is : (t : ClassTable) (i : ℕ) (r : ClassRec) → slice_get t.records i ≡ Some r → r.interface ≡ true
+    → extended t i ≡ map (λ (e : Iface). e.class) r.implements
 unfolding extended
 extended-is t i r e h = ap extended_in e ∙ ap (λ b. if b then map (λ (x : Iface). x.class) r.implements else []) h
 
@@ -84,9 +91,11 @@ not-extends t decides i sought r at interface other h =
     let p : ℕ → Bool = λ x. is_or_extends t x sought in
     let leads : Leads (extended t) i sought → ⊥ = λ l. elim l [
       | at_once step ↦
-          false≢true (sym h.none ∙ any-contains p r.implements sought (subst (λ xs. Contains xs sought) (extended-is t i r at interface) step) ((decides sought sought).1 (inl refl)))
+          false≢true (sym h.none ∙ any-contains p r.implements sought (subst (λ xs. Contains xs sought) (extended-is t i r at interface) step)
+          ((decides sought sought).1 (inl refl)))
       | further {b = b} step more ↦
-          false≢true (sym h.none ∙ any-contains p r.implements b (subst (λ xs. Contains xs b) (extended-is t i r at interface) step) ((decides b sought).1 (inr more)))
+          false≢true (sym h.none ∙ any-contains p r.implements b (subst (λ xs. Contains xs b) (extended-is t i r at interface) step)
+          ((decides b sought).1 (inr more)))
     ] in
     false_from_ne_true (is_or_extends t i sought) (λ yes. elim ((decides i sought).0 yes) [ inl same ↦ other same | inr more ↦ leads more ])
 
@@ -97,16 +106,19 @@ pub class-extends :
 class-extends t decides i sought r at class other =
     let leads : Leads (extended t) i sought → ⊥ = λ l. elim l [
       | at_once step ↦ let in_none : Contains [] sought = subst (λ xs. Contains xs sought) (nothing-extended t i r at class) step in omega (arith, in_none.1)
-      | further {b = b} step more ↦ let in_none : Contains [] b = subst (λ xs. Contains xs b) (nothing-extended t i r at class) step in omega (arith, in_none.1)
+      | further {b = b} step more ↦ let in_none : Contains [] b =
+          subst (λ xs. Contains xs b) (nothing-extended t i r at class) step in omega (arith, in_none.1)
     ] in
     false_from_ne_true (is_or_extends t i sought) (λ yes. elim ((decides i sought).0 yes) [ inl same ↦ other same | inr more ↦ leads more ])
 
 -- an interface that extends one which leads to the one that is sought
 pub yes-extends :
     (t : ClassTable) → ExtendsDecides t → (i sought : ℕ) (r : ClassRec) → slice_get t.records i ≡ Some r → r.interface ≡ true
-    → (k : ℕ) (e : Iface) → k < length r.implements → e ≡ get_or r.implements k e → is_or_extends t e.class sought ≡ true → is_or_extends t i sought ≡ true
+    → (k : ℕ) (e : Iface) → k < length r.implements → e ≡ get_or r.implements k e → is_or_extends t e.class sought ≡ true
+    → is_or_extends t i sought ≡ true
 yes-extends t decides i sought r at interface k e lt is h =
-    let step : Contains (extended t i) e.class = subst (λ xs. Contains xs e.class) (sym (extended-is t i r at interface)) (contains-at r.implements k e lt is) in
+    let step : Contains (extended t i) e.class = subst (λ xs. Contains xs e.class) (sym (extended-is t i r at interface))
+    (contains-at r.implements k e lt is) in
     (decides i sought).1 (inr (elim ((decides e.class sought).0 h) [
       | inl same ↦ at_once (subst (λ x. Contains (extended t i) x) same step)
       | inr more ↦ further step more
@@ -118,18 +130,21 @@ pub record IsNext (t : ClassTable) (i : ℕ) (e : Iface) : Type 0 where
   pub fewer : extended_count t e.class < extended_count t i
 
 pub next-extended :
-    (t : ClassTable) (packages : ℕ) (methods : List MethodRec) → ExtendsEnds t → (i : ℕ) (r : ClassRec) → slice_get t.records i ≡ Some r → r.interface ≡ true
+    (t : ClassTable) (packages : ℕ) (methods : List MethodRec) → ExtendsEnds t → (i : ℕ) (r : ClassRec) → slice_get t.records i ≡ Some r
+    → r.interface ≡ true
     → IsLinkedClass packages t methods i r → (k : ℕ) (e : Iface) → k < length r.implements → e ≡ get_or r.implements k e → IsNext t i e
 next-extended t packages methods ends i r at interface linked k e lt is =
     let all : All (IsExtended t) r.implements =
     subst (λ b. MatchBool b (All (IsExtended t) r.implements) (All (IsImplemented t methods r.public) r.implements)) interface linked.implements in
     let here : IsExtended t e = subst (IsExtended t) (sym is) (all k e lt) in
-    let step : Contains (extended t i) e.class = subst (λ xs. Contains xs e.class) (sym (extended-is t i r at interface)) (contains-at r.implements k e lt is) in
+    let step : Contains (extended t i) e.class = subst (λ xs. Contains xs e.class) (sym (extended-is t i r at interface))
+    (contains-at r.implements k e lt is) in
     record { known = here.number; fewer = ends.fewer i e.class step }
 
 -- ---- what a class names
 
-pub implemented-is : (t : ClassTable) (i : ℕ) (r : ClassRec) → slice_get t.records i ≡ Some r → r.interface ≡ false → implemented t i ≡ map (λ (e : Iface). e.class) r.implements
+pub implemented-is : (t : ClassTable) (i : ℕ) (r : ClassRec) → slice_get t.records i ≡ Some r → r.interface ≡ false
+    → implemented t i ≡ map (λ (e : Iface). e.class) r.implements
 unfolding implemented
 implemented-is t i r e h = ap implemented_in e ∙ ap (λ b. if b then [] else map (λ (x : Iface). x.class) r.implements) h
 
@@ -146,18 +161,22 @@ pub named-is :
     (t : ClassTable) (i sought : ℕ) (r : ClassRec) → IsClass t i → slice_get t.records i ≡ Some r
     → list_any (λ x. is_or_extends t x sought) (implemented t i) ≡ list_any (λ (e : Iface). is_or_extends t e.class sought) r.implements
 named-is t i sought r class e =
-    ap (list_any (λ x. is_or_extends t x sought)) (implemented-is t i r e (record-class t i r class e)) ∙ any-map (λ x. is_or_extends t x sought) r.implements
+    ap (list_any (λ x. is_or_extends t x sought)) (implemented-is t i r e (record-class t i r class e))
+    ∙ any-map (λ x. is_or_extends t x sought) r.implements
 
 pub named-known :
     (t : ClassTable) (packages : ℕ) (methods : List MethodRec) (i : ℕ) (r : ClassRec) → IsClass t i → slice_get t.records i ≡ Some r
-    → IsLinkedClass packages t methods i r → (k : ℕ) (e : Iface) → k < length r.implements → e ≡ get_or r.implements k e → e.class < length t.records
+    → IsLinkedClass packages t methods i r → (k : ℕ) (e : Iface) → k < length r.implements → e ≡ get_or r.implements k e
+    → e.class < length t.records
 named-known t packages methods i r class at linked k e lt is =
     let all : All (IsImplemented t methods r.public) r.implements =
-    subst (λ b. MatchBool b (All (IsExtended t) r.implements) (All (IsImplemented t methods r.public) r.implements)) (record-class t i r class at) linked.implements in
+    subst (λ b. MatchBool b (All (IsExtended t) r.implements) (All (IsImplemented t methods r.public) r.implements)) (record-class t i r class at)
+    linked.implements in
     let here : IsImplemented t methods r.public e = subst (IsImplemented t methods r.public) (sym is) (all k e lt) in
     here.number
 
-pub any-found : (p : Iface → Bool) (xs : List Iface) (k : ℕ) (e : Iface) → k < length xs → e ≡ get_or xs k e → p e ≡ true → list_any p xs ≡ true
+pub any-found : (p : Iface → Bool) (xs : List Iface) (k : ℕ) (e : Iface) → k < length xs → e ≡ get_or xs k e → p e ≡ true
+    → list_any p xs ≡ true
 any-found p [] k e lt is h = absurd (omega (arith, lt))
 any-found p (x ∷ xs) zero e lt is h = or_left (p x) (list_any p xs) (sym (ap p is) ∙ h)
 any-found p (x ∷ xs) (suc k) e lt is h = or_right (p x) (list_any p xs) (any-found p xs k e (omega (arith, lt)) is h)
@@ -172,10 +191,12 @@ unfolding implements
 implements-next t c p sought next = ap (list_any (λ a. list_any (λ i. is_or_extends t i sought) (implemented t a))) next.chain_is
 
 pub implements-end :
-    (t : ClassTable) (c sought : ℕ) → IsEndOfChain t c → list_any (λ x. is_or_extends t x sought) (implemented t c) ≡ false → implements t c sought ≡ false
+    (t : ClassTable) (c sought : ℕ) → IsEndOfChain t c → list_any (λ x. is_or_extends t x sought) (implemented t c) ≡ false
+    → implements t c sought ≡ false
 unfolding implements
 implements-end t c sought end h =
-    ap (list_any (λ a. list_any (λ i. is_or_extends t i sought) (implemented t a))) end.chain_is ∙ or_from (list_any (λ i. is_or_extends t i sought) (implemented t c)) false h refl
+    ap (list_any (λ a. list_any (λ i. is_or_extends t i sought) (implemented t a))) end.chain_is
+    ∙ or_from (list_any (λ i. is_or_extends t i sought) (implemented t c)) false h refl
 
 -- a class that names it implements it: it is the first on its chain
 here-over :
@@ -184,7 +205,8 @@ here-over :
 unfolding chain_over
 here-over t sought zero c h = or_left (list_any (λ i. is_or_extends t i sought) (implemented t c)) false h
 here-over t sought (suc n) c h =
-    or_left (list_any (λ i. is_or_extends t i sought) (implemented t c)) (list_any (λ a. list_any (λ i. is_or_extends t i sought) (implemented t a)) (list_of (chain_over t n) (parent_of t c))) h
+    or_left (list_any (λ i. is_or_extends t i sought) (implemented t c))
+    (list_any (λ a. list_any (λ i. is_or_extends t i sought) (implemented t a)) (list_of (chain_over t n) (parent_of t c))) h
 
 pub implements-here :
     (t : ClassTable) (c sought : ℕ) → list_any (λ x. is_or_extends t x sought) (implemented t c) ≡ true → implements t c sought ≡ true
@@ -193,11 +215,14 @@ implements-here t c sought h = here-over t sought (length t.records) c h
 
 -- ---- two classes, and a search that begins
 
-pub subtype-classes : (t : ClassTable) (c d : ℕ) → is_interface t d ≡ false → is_interface t c ≡ false → is_below t (Class c) (Class d) ≡ is_subtype t c d
+pub subtype-classes : (t : ClassTable) (c d : ℕ) → is_interface t d ≡ false → is_interface t c ≡ false
+    → is_below t (Class c) (Class d) ≡ is_subtype t c d
 unfolding is_below
 subtype-classes t c d above of =
     sym
-    (ap (λ b. if b then (if is_interface t c then is_or_extends t c d else implements t c d) else (if is_interface t c then d == object t else is_on_chain t d c)) above
+    (ap
+    (λ b. if b then (if is_interface t c then is_or_extends t c d else implements t c d) else
+    (if is_interface t c then d == object t else is_on_chain t d c)) above
     ∙ ap (λ b. if b then d == object t else is_on_chain t d c) of)
 
 none-set : (n i : ℕ) → slice_get (replicate n false) i ≡ Some true → ⊥

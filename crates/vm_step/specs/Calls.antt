@@ -1,5 +1,6 @@
 -- Which method a call runs, and with what (JCVM 2.2, chapter 7, the invoke instructions; sections 2.2.1 and 6.8.2).
-use Rattle.std.specs.Prelude.{ℕ, zero, suc, ◌+◌, ◌==◌, List, [], ◌∷◌, length, map, Option, Some, None, find, flat_map, slice_get, option_and_then, unwrap_or}
+use Rattle.std.specs.Prelude.{ℕ, zero, suc, ◌+◌, ◌==◌, List, [], ◌∷◌, length, map, Option, Some, None, find, flat_map}
+use Rattle.std.specs.Prelude.{slice_get, option_and_then, unwrap_or}
 use Rattle.jc_base.specs.declared.ty.Ty.{Ty}
 use Rattle.jc_base.specs.declared.ty.Ty.TheVariants.{Short, IntHigh, Fresh}
 use Rattle.jc_base.specs.declared.record.Iface.{Iface}

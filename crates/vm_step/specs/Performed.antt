@@ -9,7 +9,8 @@ use Rattle.vm_store.specs.State.{State, top}
 use Rattle.vm_step.specs.Act.{Act, goes}
 use Rattle.vm_step.specs.Values.{with_constant, with_load, with_store, with_increment, with_move, arithmetic_act}
 use Rattle.vm_step.specs.Branching.{branch_act, switch_act}
-use Rattle.vm_step.specs.Fields.{with_static_read, with_static_write, field_read_act, field_write_act, array_read_act, array_write_act, array_length_act}
+use Rattle.vm_step.specs.Fields.{with_static_read, with_static_write, field_read_act, field_write_act, array_read_act, array_write_act}
+use Rattle.vm_step.specs.Fields.{array_length_act}
 use Rattle.vm_step.specs.Objects.{new_act, new_array_act, throw_act, type_test_act}
 use Rattle.vm_step.specs.Calls.{call_act, return_act}
 use Rattle.vm_step.specs.Methods.{code_at}

@@ -1,6 +1,8 @@
 -- How a run begins (JCVM 2.2, sections 2.2, 3.1 to 3.5 and 6.10): what the world has from the start, what is handed to the first
 -- method, and why a run does not begin.
-use Rattle.std.specs.Prelude.{◌≡◌, ℕ, ◌+◌, ℤ, pos, negsuc, Bool, true, false, not, ◌==◌, ◌&&◌, nat_lt, nat_le, if◌then◌else◌, List, [], ◌∷◌, ◌++◌, length, map, filter, flat_map, sum_by, Option, Some, None, option_map, slice_get}
+use Rattle.std.specs.Prelude.{◌≡◌, ℕ, ◌+◌, ℤ, pos, negsuc, Bool, true, false, not, ◌==◌, ◌&&◌, nat_lt, nat_le}
+use Rattle.std.specs.Prelude.{if◌then◌else◌, List, [], ◌∷◌, ◌++◌, length, map, filter, flat_map, sum_by, Option, Some, None}
+use Rattle.std.specs.Prelude.{option_map, slice_get}
 use Rattle.jc_base.specs.declared.ty.Ty.{Ty}
 use Rattle.jc_base.specs.declared.ty.Ty.TheVariants.{Short, IntHigh, IntLow, ArrByte}
 use Rattle.jc_base.specs.declared.ty.Kind.{Kind}
@@ -77,7 +79,8 @@ arrays_made arg = 0
 
 -- the cells of all arguments, for the parameters in their order
 abbrev pub cells_handed : {A : Type 0} → Cells A → ℕ → List Argument → List Ty → List A
-cells_handed k objects (arg ∷ args) (ty ∷ types) = argument_cells k objects arg ty ++ cells_handed k (objects + arrays_made arg) args types
+cells_handed k objects (arg ∷ args) (ty ∷ types) =
+    argument_cells k objects arg ty ++ cells_handed k (objects + arrays_made arg) args types
 cells_handed k objects _ _ = []
 
 -- ---- why a run does not begin

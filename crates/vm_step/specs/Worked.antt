@@ -81,7 +81,8 @@ less = refl
 abbrev bytes : List Cell → State Cell
 bytes stack = record (at [] stack) { heap = record { kind = Bytes; cells = cells.Short (pos 5) ∷ cells.Short (negsuc 0) ∷ [] } ∷ [] }
 
-last_byte : array_read_act tagged fields.Byte (bytes (cells.Short (pos 1) ∷ cells.Ref 1 ∷ [])) ≡ goes (bytes (cells.Short (negsuc 0) ∷ []))
+last_byte : array_read_act tagged fields.Byte (bytes (cells.Short (pos 1) ∷ cells.Ref 1 ∷ []))
+    ≡ goes (bytes (cells.Short (negsuc 0) ∷ []))
 last_byte = refl
 
 past_the_end : array_read_act tagged fields.Byte (bytes (cells.Short (pos 2) ∷ cells.Ref 1 ∷ [])) ≡ raises ArrayIndex

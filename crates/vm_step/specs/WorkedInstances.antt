@@ -31,7 +31,8 @@ abbrev table : ClassTable
 table =
     record {
       records =
-          line false None [] ∷ line true None [] ∷ line true None (1 ∷ []) ∷ line false (Some 0) (2 ∷ []) ∷ line false (Some 3) []
+          line false None [] ∷ line true None [] ∷ line true None (1 ∷ []) ∷ line false (Some 0) (2 ∷ []) ∷ line false
+          (Some 3) []
           ∷ line false (Some 0) [] ∷ [];
       roles = 0 ∷ [];
     }
@@ -43,7 +44,8 @@ instances : map (is_instance table (Instance 4)) (Class 0 ∷ Class 4 ∷ Class 
 unfolding is_interface parent_of chain chain_over leads_below is_on_chain extended implemented is_or_extends implements
 instances = refl
 
-no_instances : map (is_instance table (Instance 3)) (Class 4 ∷ Class 5 ∷ ArrRef 3 ∷ ArrByte ∷ []) ≡ false ∷ false ∷ false ∷ false ∷ []
+no_instances : map (is_instance table (Instance 3)) (Class 4 ∷ Class 5 ∷ ArrRef 3 ∷ ArrByte ∷ [])
+    ≡ false ∷ false ∷ false ∷ false ∷ []
 unfolding is_interface parent_of chain chain_over leads_below is_on_chain extended implemented is_or_extends implements
 no_instances = refl
 
@@ -52,16 +54,19 @@ unfolding is_interface parent_of chain chain_over leads_below is_on_chain extend
 not_implemented = refl
 
 -- an array of numbers is one of object and of its own type; arrays of booleans and of bytes differ here
-numbers : map (is_instance table Bytes) (Class 0 ∷ ArrByte ∷ ArrBool ∷ Class 1 ∷ ArrRef 0 ∷ []) ≡ true ∷ true ∷ false ∷ false ∷ false ∷ []
+numbers : map (is_instance table Bytes) (Class 0 ∷ ArrByte ∷ ArrBool ∷ Class 1 ∷ ArrRef 0 ∷ [])
+    ≡ true ∷ true ∷ false ∷ false ∷ false ∷ []
 unfolding is_interface
 numbers = refl
 
 -- an array of a class, and one of an interface
-references : map (is_instance table (References 4)) (ArrRef 4 ∷ ArrRef 3 ∷ ArrRef 1 ∷ ArrRef 0 ∷ Class 0 ∷ ArrRef 5 ∷ ArrInt ∷ [])
+references : map (is_instance table (References 4))
+    (ArrRef 4 ∷ ArrRef 3 ∷ ArrRef 1 ∷ ArrRef 0 ∷ Class 0 ∷ ArrRef 5 ∷ ArrInt ∷ [])
     ≡ true ∷ true ∷ true ∷ true ∷ true ∷ false ∷ false ∷ []
 unfolding is_interface parent_of chain chain_over leads_below is_on_chain extended implemented is_or_extends implements
 references = refl
 
-interfaces : map (is_instance table (References 2)) (ArrRef 2 ∷ ArrRef 1 ∷ ArrRef 0 ∷ ArrRef 3 ∷ []) ≡ true ∷ true ∷ true ∷ false ∷ []
+interfaces : map (is_instance table (References 2)) (ArrRef 2 ∷ ArrRef 1 ∷ ArrRef 0 ∷ ArrRef 3 ∷ [])
+    ≡ true ∷ true ∷ true ∷ false ∷ []
 unfolding is_interface parent_of chain chain_over leads_below is_on_chain extended implemented is_or_extends implements
 interfaces = refl

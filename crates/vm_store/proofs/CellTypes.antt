@@ -16,7 +16,8 @@ use Rattle.vm_store.specs.declared.cell.CellKind.TheVariants as made
 use Rattle.vm_store.specs.declared.kind.ObjectKind.{ObjectKind}
 use Rattle.vm_store.specs.declared.kind.ObjectKind.TheVariants.{Instance}
 use Rattle.vm_store.specs.Kind.{type_of_kind}
-use Rattle.vm_store.specs.Typing.{HasType, anything, empty, short, high, low, null, reference, fresh, IsReady, type_seen, fresh_seen, least_type, IsLeastType, FallsWithObjects}
+use Rattle.vm_store.specs.Typing.{HasType, anything, empty, short, high, low, null, reference, fresh, IsReady, type_seen, fresh_seen, least_type, IsLeastType}
+use Rattle.vm_store.specs.Typing.{FallsWithObjects}
 use Rattle.vm_store.specs.Cells.{tagged, words, word_of, loaded_as, made_ready, IsErasure}
 
 -- ---- types with nothing above them but Top
@@ -70,7 +71,8 @@ module _ (t : ClassTable) (ks : List ObjectKind) where
   own_reference h None e = anything
   own_reference h (Some k) e = reference e same
 
-  above_reference : AreClasses t → (h : ℕ) (o : Option ObjectKind) → slice_get ks h ≡ o → (u : Ty) → Below t (type_seen t o) u → HasType t ks (cells.Ref (suc h)) u
+  above_reference : AreClasses t → (h : ℕ) (o : Option ObjectKind) → slice_get ks h ≡ o → (u : Ty) → Below t (type_seen t o) u
+      → HasType t ks (cells.Ref (suc h)) u
   above_reference are h None e u b = above_top are (cells.Ref (suc h)) u b
   above_reference are h (Some k) e u b = reference e b
 
@@ -107,11 +109,13 @@ module _ (t : ClassTable) (ks : List ObjectKind) where
 
   -- ---- more objects
 
-  fall_reference : (more : List ObjectKind) (h : ℕ) (o : Option ObjectKind) → slice_get ks h ≡ o → Below t (type_seen t (slice_get (ks ++ more) h)) (type_seen t o)
+  fall_reference : (more : List ObjectKind) (h : ℕ) (o : Option ObjectKind) → slice_get ks h ≡ o
+      → Below t (type_seen t (slice_get (ks ++ more) h)) (type_seen t o)
   fall_reference more h None e = below_top
   fall_reference more h (Some k) e = subst (λ o. Below t (type_seen t o) (type_of_kind t k)) (sym (slice_get-front ks more h k e)) same
 
-  fall_fresh : (more : List ObjectKind) (h p : ℕ) (o : Option ObjectKind) → slice_get ks h ≡ o → Below t (fresh_seen p (slice_get (ks ++ more) h)) (fresh_seen p o)
+  fall_fresh : (more : List ObjectKind) (h p : ℕ) (o : Option ObjectKind) → slice_get ks h ≡ o
+      → Below t (fresh_seen p (slice_get (ks ++ more) h)) (fresh_seen p o)
   fall_fresh more h p None e = below_top
   fall_fresh more h p (Some k) e = subst (λ o. Below t (fresh_seen p o) (fresh_seen p (Some k))) (sym (slice_get-front ks more h k e)) same
 

@@ -1,5 +1,6 @@
 -- The words of a state, and those of its changes.
-use Rattle.std.proofs.Common.{◌≡◌, ℕ, zero, suc, ◌+◌, ◌-◌, Bool, List, [], ◌∷◌, ◌++◌, length, map, take, drop, reverse, replicate, set, refl, sym, ap, ◌∙◌}
+use Rattle.std.proofs.Common.{◌≡◌, ℕ, zero, suc, ◌+◌, ◌-◌, Bool, List, [], ◌∷◌, ◌++◌, length, map, take, drop, reverse, replicate}
+use Rattle.std.proofs.Common.{set, refl, sym, ap, ◌∙◌}
 use Rattle.std.specs.Prelude.{slice_get, sum, sum_by, nat_lt, nat_le, ◌&&◌}
 use Rattle.std.proofs.Math.ListN.{get_or-map}
 use Rattle.std.proofs.lemmas.List.Sums.{sum-map}
@@ -17,8 +18,10 @@ use Rattle.vm_store.specs.declared.cell.CellKind.TheVariants as made
 use Rattle.vm_store.specs.declared.kind.ObjectKind.{ObjectKind}
 use Rattle.vm_store.specs.Kind.{cell_kind, element_cells}
 use Rattle.vm_store.specs.Cells.{tagged, words, word_of, zero_cell}
-use Rattle.vm_store.specs.State.{State, Frame, Object, map_frame, map_object, erased, first_frame, other_frames, top, nth, with_top, with_place, with_stack, with_register, with_call, with_entry, entered, arguments, register_count}
-use Rattle.vm_store.specs.Objects.{cells_in, object_cells, has_room, heap_cells, new_instance_cells, array_cells, repeated, write_object, with_object, with_object_cell, with_static_cell}
+use Rattle.vm_store.specs.State.{State, Frame, Object, map_frame, map_object, erased, first_frame, other_frames, top, nth, with_top, with_place, with_stack}
+use Rattle.vm_store.specs.State.{with_register, with_call, with_entry, entered, arguments, register_count}
+use Rattle.vm_store.specs.Objects.{cells_in, object_cells, has_room, heap_cells, new_instance_cells, array_cells, repeated, write_object, with_object}
+use Rattle.vm_store.specs.Objects.{with_object_cell, with_static_cell}
 use Rattle.vm_store.specs.Value.{value_in, value_on, kept_value, byte_of_word, with_object_value, with_static_value}
 use Rattle.vm_store.specs.Erasing.{ReadsErased, FramesErase, ObjectsErase, CellsErase, StatesErase}
 
@@ -60,11 +63,13 @@ cells-erased [] h = refl
 cells-erased (o ∷ os) zero = refl
 cells-erased (o ∷ os) (suc h) = cells-erased os h
 
-lengths-erased : (os : List (Object Cell)) → map (λ (o : Object ℕ). length o.cells) (map (map_object word_of) os) ≡ map (λ (o : Object Cell). length o.cells) os
+lengths-erased : (os : List (Object Cell)) → map (λ (o : Object ℕ). length o.cells) (map (map_object word_of) os)
+    ≡ map (λ (o : Object Cell). length o.cells) os
 lengths-erased [] = refl
 lengths-erased (o ∷ os) = cc (length-map o.cells word_of, lengths-erased os)
 
-count-erased : (os : List (Object Cell)) → sum_by (λ (o : Object ℕ). length o.cells) (map (map_object word_of) os) ≡ sum_by (λ (o : Object Cell). length o.cells) os
+count-erased : (os : List (Object Cell)) → sum_by (λ (o : Object ℕ). length o.cells) (map (map_object word_of) os)
+    ≡ sum_by (λ (o : Object Cell). length o.cells) os
 count-erased os =
     sym (sum-map (λ (o : Object ℕ). length o.cells) (map (map_object word_of) os))
     ∙ (ap sum (lengths-erased os) ∙ sum-map (λ (o : Object Cell). length o.cells) os)
@@ -88,7 +93,8 @@ reads s = record {
 frame-erased : (s : State Cell) (f : Frame Cell) → erased (with_top s f) ≡ with_top (erased s) (map_frame word_of f)
 frame-erased s f = ap (λ fs. record (erased s) { frames = map_frame word_of f ∷ fs }) (others-erased s.frames)
 
-pub entered-erased : (methods : List MethodRec) (m : ℕ) (args : List Cell) → map_frame word_of (entered tagged methods m args) ≡ entered words methods m (map word_of args)
+pub entered-erased : (methods : List MethodRec) (m : ℕ) (args : List Cell) → map_frame word_of (entered tagged methods m args) ≡ entered words methods
+    m (map word_of args)
 entered-erased methods m args =
     let k = register_count methods m in
     ap (λ rs. record { method = m; place = 0; registers = rs; stack = [] })
@@ -110,13 +116,27 @@ frames methods s = record {
       ∙ (ap (λ rs. with_top (erased s) (record (map_frame word_of (top s)) { registers = rs })) (map-set word_of (top s).registers x c)
       ∙ ap (λ (f : Frame ℕ). with_top (erased s) (record f { registers = set f.registers x (word_of c) })) (first-erased s.frames));
   call = λ m count.
-      ap (λ f. record (erased s) { frames = f ∷ (map_frame word_of (record (top s) { stack = drop count (top s).stack }) ∷ map (map_frame word_of) (other_frames s.frames)) })
+      ap
+      (λ f. record (erased s)
+      { frames = f ∷ (map_frame word_of (record (top s) { stack = drop count (top s).stack }) ∷ map (map_frame word_of) (other_frames s.frames)) })
       (entered-erased methods m (arguments count (top s).stack) ∙ ap (entered words methods m) (arguments-erased count (top s).stack))
-      ∙ (ap (λ cells. record (erased s) { frames = entered words methods m (arguments count (map word_of (top s).stack)) ∷ (record (map_frame word_of (top s)) { stack = cells } ∷ map (map_frame word_of) (other_frames s.frames)) })
+      ∙ (ap
+      (λ cells. record (erased s) {
+        frames = entered words methods m (arguments count (map word_of (top s).stack)) ∷ (record (map_frame word_of (top s)) { stack = cells } ∷ map
+            (map_frame word_of) (other_frames s.frames));
+      })
       (sym (drop-map word_of count (top s).stack))
-      ∙ (ap (λ (f : Frame ℕ). record (erased s) { frames = entered words methods m (arguments count f.stack) ∷ (record f { stack = drop count f.stack } ∷ map (map_frame word_of) (other_frames s.frames)) })
+      ∙ (ap
+      (λ (f : Frame ℕ). record (erased s) {
+        frames = entered words methods m
+            (arguments count f.stack) ∷ (record f { stack = drop count f.stack } ∷ map (map_frame word_of) (other_frames s.frames));
+      })
       (first-erased s.frames)
-      ∙ ap (λ fs. let caller = top (erased s) in record (erased s) { frames = entered words methods m (arguments count caller.stack) ∷ (record caller { stack = drop count caller.stack } ∷ fs) })
+      ∙ ap
+      (λ fs. let caller = top (erased s) in
+      record (erased s) {
+        frames = entered words methods m (arguments count caller.stack) ∷ (record caller { stack = drop count caller.stack } ∷ fs);
+      })
       (others-erased s.frames)));
   entry = λ m.
       ap (λ f. record (erased s) { frames = f ∷ map (map_frame word_of) s.frames }) (entered-erased methods m []);
@@ -126,7 +146,8 @@ frames methods s = record {
 
 -- ---- objects and static fields
 
-write-erased : (os : List (Object Cell)) (h i : ℕ) (c : Cell) → map (map_object word_of) (write_object os h i c) ≡ write_object (map (map_object word_of) os) h i (word_of c)
+write-erased : (os : List (Object Cell)) (h i : ℕ) (c : Cell) → map (map_object word_of) (write_object os h i c)
+    ≡ write_object (map (map_object word_of) os) h i (word_of c)
 write-erased [] h i c = refl
 write-erased (o ∷ os) zero i c = ap (λ cs. record { kind = o.kind; cells = cs } ∷ map (map_object word_of) os) (map-set word_of o.cells i c)
 write-erased (o ∷ os) (suc h) i c = ap (λ xs. map_object word_of o ∷ xs) (write-erased os h i c)

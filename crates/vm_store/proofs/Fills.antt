@@ -1,5 +1,6 @@
 -- Cells written one after another from a place on.
-use Rattle.std.proofs.Common.{◌≡◌, ℕ, zero, suc, ◌+◌, ◌-◌, ◌*◌, ◌<◌, ◌≤◌, List, [], ◌∷◌, ◌++◌, length, take, drop, map, set, refl, sym, ◌∙◌, ap, arith, length-take}
+use Rattle.std.proofs.Common.{◌≡◌, ℕ, zero, suc, ◌+◌, ◌-◌, ◌*◌, ◌<◌, ◌≤◌, List, [], ◌∷◌, ◌++◌, length, take, drop, map}
+use Rattle.std.proofs.Common.{set, refl, sym, ◌∙◌, ap, arith, length-take}
 use Rattle.std.proofs.lemmas.List.{append-nil, append_assoc, length-append, set-append_right, take-append-drop, drop_at, drop_more, take-append-le, take-take}
 use Rattle.vm_store.specs.declared.kind.ObjectKind.{ObjectKind}
 use Rattle.vm_store.specs.declared.kind.ObjectKind.TheVariants.{Instance, Booleans, Bytes, Shorts, Ints, References}
@@ -80,7 +81,8 @@ overwritten-before xs ys zs from p at le =
     let less : from ≤ p = omega (arith, at) in
     let cut : from ≤ length (take p xs) = omega (arith, front, at) in
     let end : p + length zs ≡ from + length (ys ++ zs) = omega (arith, at, length-append ys zs) in
-    ap (λ ws. ws ++ (ys ++ drop (from + length ys) (take p xs ++ (zs ++ rest)))) (take-append-le from (take p xs) (zs ++ rest) cut ∙ take-take from p xs less)
+    ap (λ ws. ws ++ (ys ++ drop (from + length ys) (take p xs ++ (zs ++ rest))))
+    (take-append-le from (take p xs) (zs ++ rest) cut ∙ take-take from p xs less)
     ∙ ap (λ ws. take from xs ++ ws)
     (ap (λ k. ys ++ drop k (take p xs ++ (zs ++ rest))) (sym at)
     ∙ (ap (λ ws. ys ++ ws) (drop_at (take p xs) (zs ++ rest) p front)

@@ -1,5 +1,6 @@
 -- The object of a handle, where the objects lie in memory one after another.
-use Rattle.std.proofs.Common.{◌≡◌, ℕ, zero, suc, ◌+◌, ◌-◌, ◌*◌, ◌/◌, ◌<◌, ◌≤◌, List, [], ◌∷◌, length, take, drop, set, get_or, refl, sym, ◌∙◌, ap, subst, arith, length-drop, length-take}
+use Rattle.std.proofs.Common.{◌≡◌, ℕ, zero, suc, ◌+◌, ◌-◌, ◌*◌, ◌/◌, ◌<◌, ◌≤◌, List, [], ◌∷◌, length, take, drop, set}
+use Rattle.std.proofs.Common.{get_or, refl, sym, ◌∙◌, ap, subst, arith, length-drop, length-take}
 use Rattle.std.specs.Prelude.{Option, Some, None, IsSome, slice_get, option_map}
 use Rattle.std.proofs.lemmas.Option.{slice_get-map, slice_get-get_or}
 use Rattle.std.proofs.lemmas.List.{get_or-take, get_or-drop, length-map}
@@ -32,7 +33,8 @@ pub record IsHandle (hs : List ObjectHeader) (handle : ℕ) : Type 0 where
   pub counted : 0 < handle
   pub within : handle - 1 < length hs
 
-module _ {A : Type 0} (s : State A) (xs : List A) (hs : List ObjectHeader) (end : ℕ) (heap : s.heap ≡ objects_in xs hs) (follow : Follow 0 hs end) (enough : end ≤ length xs) (d : ObjectHeader) where
+module _ {A : Type 0} (s : State A) (xs : List A) (hs : List ObjectHeader) (end : ℕ) (heap : s.heap ≡ objects_in xs hs) (follow : Follow 0 hs end)
+    (enough : end ≤ length xs) (d : ObjectHeader) where
   found : (k : ℕ) → k < length hs → slice_get s.heap k ≡ Some (object_in xs (get_or hs k d))
   found k lt = ap (λ os. slice_get os k) heap ∙ (slice_get-map (object_in xs) hs k ∙ ap (option_map (object_in xs)) (slice_get-get_or hs k d lt))
 
@@ -61,7 +63,8 @@ module _ {A : Type 0} (s : State A) (xs : List A) (hs : List ObjectHeader) (end 
       ∙ (ap (option_map (λ (o : Object A). o.kind)) (found k lt) ∙ ap (λ n. Some (get_or hs n d).kind) (sym e))
 
   -- its cells
-  pub whole : (handle : ℕ) → IsHandle hs handle → length (take (size (get_or hs (handle - 1) d)) (drop (get_or hs (handle - 1) d).start xs)) ≡ size (get_or hs (handle - 1) d)
+  pub whole : (handle : ℕ) → IsHandle hs handle → length (take (size (get_or hs (handle - 1) d)) (drop (get_or hs (handle - 1) d).start xs))
+      ≡ size (get_or hs (handle - 1) d)
   whole handle h =
       let x = get_or hs (handle - 1) d in
       let le : x.start + size x ≤ end = end-le 0 hs end (handle - 1) d follow h.within in
@@ -83,7 +86,8 @@ module _ {A : Type 0} (s : State A) (xs : List A) (hs : List ObjectHeader) (end 
   pub cell_handle : (handle i : ℕ) → i < length (object_cells s handle) → IsHandle hs handle
   cell_handle handle i lt = is_handle handle (some_cell handle i lt)
 
-  cells_are : (handle : ℕ) → IsHandle hs handle → object_cells s handle ≡ take (size (get_or hs (handle - 1) d)) (drop (get_or hs (handle - 1) d).start xs)
+  cells_are : (handle : ℕ) → IsHandle hs handle → object_cells s handle ≡ take (size (get_or hs (handle - 1) d))
+      (drop (get_or hs (handle - 1) d).start xs)
   cells_are handle h = ap cells_in (object_is handle h)
 
   pub cell_within : (handle i : ℕ) → i < length (object_cells s handle) → i < size (get_or hs (handle - 1) d)
@@ -97,7 +101,8 @@ module _ {A : Type 0} (s : State A) (xs : List A) (hs : List ObjectHeader) (end 
       let le = end-le 0 hs end (handle - 1) d follow h.within in
       omega (arith, cell_within handle i lt, le)
 
-  pub cell_read : (handle i : ℕ) → i < length (object_cells s handle) → (e : A) → get_or (object_cells s handle) i e ≡ get_or xs ((get_or hs (handle - 1) d).start + i) e
+  pub cell_read : (handle i : ℕ) → i < length (object_cells s handle) → (e : A) → get_or (object_cells s handle) i e
+      ≡ get_or xs ((get_or hs (handle - 1) d).start + i) e
   cell_read handle i lt e =
       let x = get_or hs (handle - 1) d in
       ap (λ cs. get_or cs i e) (cells_are handle (cell_handle handle i lt))

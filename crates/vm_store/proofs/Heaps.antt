@@ -1,5 +1,6 @@
 -- Objects whose cells follow one another in memory.
-use Rattle.std.proofs.Common.{◌≡◌, ℕ, zero, suc, ◌+◌, ◌-◌, ◌<◌, ◌≤◌, List, [], ◌∷◌, ◌++◌, length, take, drop, set, get_or, refl, sym, ◌∙◌, ap, arith, length-drop, length-take}
+use Rattle.std.proofs.Common.{◌≡◌, ℕ, zero, suc, ◌+◌, ◌-◌, ◌<◌, ◌≤◌, List, [], ◌∷◌, ◌++◌, length, take, drop, set, get_or}
+use Rattle.std.proofs.Common.{refl, sym, ◌∙◌, ap, arith, length-drop, length-take}
 use Rattle.std.specs.Prelude.{sum_by}
 use Rattle.std.proofs.lemmas.List.{take-set-le, drop-set-lt, drop-set-add, drop-drop, take-take, drop-take, take_at, drop_at, map-append}
 use Rattle.std.proofs.lemmas.List.Sums.{sum_by-cons}
@@ -71,14 +72,16 @@ write_after xs from hs end p v f le =
     ∙ (ap (take (end - from)) (drop-set-add from xs (p - from) v) ∙ take-set-le (end - from) (drop from xs) (p - from) v far))
 
 -- each object begins at the begin of all or after it
-pub start-ge : (from : ℕ) (hs : List ObjectHeader) (end k : ℕ) (d : ObjectHeader) → Follow from hs end → k < length hs → from ≤ (get_or hs k d).start
+pub start-ge : (from : ℕ) (hs : List ObjectHeader) (end k : ℕ) (d : ObjectHeader) → Follow from hs end → k < length hs
+    → from ≤ (get_or hs k d).start
 start-ge from [] end k d f lt = absurd (omega (arith, lt))
 start-ge from (h ∷ hs) end zero d (here, rest) lt = omega (arith, here)
 start-ge from (h ∷ hs) end (suc k) d (here, rest) lt =
     let r = start-ge (from + size h) hs end k d rest (omega (arith, lt)) in omega (arith, r)
 
 -- each object ends at the end of all or before it
-pub end-le : (from : ℕ) (hs : List ObjectHeader) (end k : ℕ) (d : ObjectHeader) → Follow from hs end → k < length hs → (get_or hs k d).start + size (get_or hs k d) ≤ end
+pub end-le : (from : ℕ) (hs : List ObjectHeader) (end k : ℕ) (d : ObjectHeader) → Follow from hs end → k < length hs
+    → (get_or hs k d).start + size (get_or hs k d) ≤ end
 end-le from [] end k d f lt = absurd (omega (arith, lt))
 end-le from (h ∷ hs) end zero d (here, rest) lt = let r = begin-le-end (from + size h) hs end rest in omega (arith, r, here)
 end-le from (h ∷ hs) end (suc k) d (here, rest) lt = end-le (from + size h) hs end k d rest (omega (arith, lt))
@@ -114,13 +117,20 @@ pub sum-objects :
 sum-objects xs from [] end f le = omega (arith, f)
 sum-objects {A} xs from (h ∷ hs) end (here, rest) le =
     let after = begin-le-end (from + size h) hs end rest in
-    let whole : length (take (size h) (drop h.start xs)) ≡ size h = omega (arith, length-take (size h) (drop h.start xs), length-drop h.start xs, here, after) in
+    let whole : length (take (size h) (drop h.start xs)) ≡ size h = omega (
+      arith,
+      length-take (size h) (drop h.start xs),
+      length-drop h.start xs,
+      here,
+      after,
+    ) in
     let others = sum-objects xs (from + size h) hs end rest le in
     let sum = sum_by-cons (λ (o : Object A). length o.cells) (object_in xs h) (objects_in xs hs) in
     omega (arith, whole, others, sum)
 
 -- one object more, after those that are there
-pub follow-more : (from : ℕ) (hs : List ObjectHeader) (end : ℕ) (h : ObjectHeader) → Follow from hs end → h.start ≡ end → Follow from (hs ++ h ∷ []) (end + size h)
+pub follow-more : (from : ℕ) (hs : List ObjectHeader) (end : ℕ) (h : ObjectHeader) → Follow from hs end → h.start ≡ end
+    → Follow from (hs ++ h ∷ []) (end + size h)
 follow-more from [] end h f here = (here ∙ sym f, ap (λ k. k + size h) f)
 follow-more from (g ∷ gs) end h (first, rest) here = (first, follow-more (from + size g) gs end h rest here)
 

@@ -1,5 +1,6 @@
 -- The cells of a new instance, written class by class from its own up to those of object.
-use Rattle.std.proofs.Common.{◌≡◌, ℕ, ◌+◌, ◌-◌, ◌<◌, ◌≤◌, List, [], ◌∷◌, ◌++◌, length, take, map, set, get_or, sym, ◌∙◌, ap, arith, length-take}
+use Rattle.std.proofs.Common.{◌≡◌, ℕ, ◌+◌, ◌-◌, ◌<◌, ◌≤◌, List, [], ◌∷◌, ◌++◌, length, take, map, set, get_or, sym}
+use Rattle.std.proofs.Common.{◌∙◌, ap, arith, length-take}
 use Rattle.std.proofs.lemmas.List.{map-append, append_assoc, length-append, length-map, append-nil, map_more}
 use Rattle.jc_base.specs.declared.ty.Ty.{Ty}
 use Rattle.jc_base.specs.Class.{ClassTable, IsClass, IsNextOnChain, IsEndOfChain}

@@ -1,5 +1,6 @@
 -- New objects among typed ones.
-use Rattle.std.proofs.Common.{◌≡◌, ℕ, zero, suc, ◌+◌, ◌*◌, ◌/◌, ◌<◌, List, [], ◌∷◌, ◌++◌, length, map, reverse, refl, sym, ap, ◌∙◌, subst, arith, lit<}
+use Rattle.std.proofs.Common.{◌≡◌, ℕ, zero, suc, ◌+◌, ◌*◌, ◌/◌, ◌<◌, List, [], ◌∷◌, ◌++◌, length, map, reverse, refl, sym, ap}
+use Rattle.std.proofs.Common.{◌∙◌, subst, arith, lit<}
 use Rattle.std.specs.Prelude.{Option, Some, None, IfSome, All, slice_get, flat_map}
 use Rattle.std.proofs.Math.Nat.{mul-div_cancel_left}
 use Rattle.std.proofs.lemmas.List.{map-append}
@@ -50,7 +51,8 @@ module _ (t : ClassTable) where
   heap-kept ks more os h =
       All-weaker (IsTypedObject t ks) (IsTypedObject t (ks ++ more)) (λ o typed. cells-kept ks more o.cells (cell_types t o.kind (length o.cells)) typed) os h
 
-  with-object : (s : State Cell) (kind : ObjectKind) (cs : List Cell) → IsTypedHeap t s → ((ks : List ObjectKind) → CellsHave t ks cs (cell_types t kind (length cs))) → IsTypedHeap t (with_object s kind cs)
+  with-object : (s : State Cell) (kind : ObjectKind) (cs : List Cell) → IsTypedHeap t s
+      → ((ks : List ObjectKind) → CellsHave t ks cs (cell_types t kind (length cs))) → IsTypedHeap t (with_object s kind cs)
   with-object s kind cs typed new =
       let o : Object Cell = record { kind = kind; cells = cs } in
       let more : List ObjectKind = kinds s ++ kind ∷ [] in
@@ -61,13 +63,15 @@ module _ (t : ClassTable) where
 
   -- ---- the cells of a new object
 
-  have-both : (ks : List ObjectKind) (cs ds : List Cell) (types others : List Ty) → CellsHave t ks cs types → CellsHave t ks ds others → CellsHave t ks (cs ++ ds) (types ++ others)
+  have-both : (ks : List ObjectKind) (cs ds : List Cell) (types others : List Ty) → CellsHave t ks cs types → CellsHave t ks ds others
+      → CellsHave t ks (cs ++ ds) (types ++ others)
   have-both ks [] ds [] others h g = g
   have-both ks [] ds (ty ∷ types) others h g = absurd h
   have-both ks (c ∷ cs) ds [] others h g = absurd h
   have-both ks (c ∷ cs) ds (ty ∷ types) others h g = (h.0, h.1, have-both ks cs ds types others h.2 g)
 
-  zero-has : (ks : List ObjectKind) (ty : Ty) → IsDeclared t ty → HasType t ks (zero_cell tagged (cell_kind ty)) ty × HasContent (zero_cell tagged (cell_kind ty))
+  zero-has : (ks : List ObjectKind) (ty : Ty) → IsDeclared t ty → HasType t ks (zero_cell tagged (cell_kind ty)) ty
+      × HasContent (zero_cell tagged (cell_kind ty))
   zero-has ks Bottom h = absurd h
   zero-has ks Short h = (short, tt {0})
   zero-has ks IntHigh h = (high, tt {0})
@@ -94,7 +98,8 @@ module _ (t : ClassTable) where
 
   -- ---- instances
 
-  own_by : (packages : ℕ) (methods : List MethodRec) (c : ℕ) (o : Option ClassRec) → IfSome o (IsLinkedClass packages t methods c) → All (IsDeclared t) (of_record [] (λ r. r.own) o)
+  own_by : (packages : ℕ) (methods : List MethodRec) (c : ℕ) (o : Option ClassRec) → IfSome o (IsLinkedClass packages t methods c)
+      → All (IsDeclared t) (of_record [] (λ r. r.own) o)
   own_by packages methods c None linked = All-nil (IsDeclared t)
   own_by packages methods c (Some r) linked = linked.own
 
@@ -102,22 +107,26 @@ module _ (t : ClassTable) where
   unfolding own_cells
   own-declared packages methods linked c = own_by packages methods c (slice_get t.records c) (linked c)
 
-  all-declared : (packages : ℕ) (methods : List MethodRec) → AreLinkedClasses packages t methods → (cs : List ℕ) → All (IsDeclared t) (flat_map (own_cells t) cs)
+  all-declared : (packages : ℕ) (methods : List MethodRec) → AreLinkedClasses packages t methods → (cs : List ℕ)
+      → All (IsDeclared t) (flat_map (own_cells t) cs)
   all-declared packages methods linked [] = All-nil (IsDeclared t)
   all-declared packages methods linked (c ∷ cs) =
       subst (All (IsDeclared t)) (sym (flat_map-cons (own_cells t) c cs))
       (All-append (IsDeclared t) (own_cells t c) (flat_map (own_cells t) cs) (own-declared packages methods linked c) (all-declared packages methods linked cs))
 
-  instance-has : (packages : ℕ) (methods : List MethodRec) → AreLinkedClasses packages t methods → (ks : List ObjectKind) (c : ℕ) → CellsHave t ks (new_instance_cells tagged t c) (cells_of t c)
+  instance-has : (packages : ℕ) (methods : List MethodRec) → AreLinkedClasses packages t methods → (ks : List ObjectKind) (c : ℕ)
+      → CellsHave t ks (new_instance_cells tagged t c) (cells_of t c)
   unfolding zeros cells_of
   instance-has packages methods linked ks c = zeros-have ks (cells_of t c) (all-declared packages methods linked (reverse (chain t c)))
 
   pub new-instances : (packages : ℕ) (methods : List MethodRec) → AreLinkedClasses packages t methods → NewInstancesAreTyped t
-  new-instances packages methods linked s c typed class = with-object s (Instance c) (new_instance_cells tagged t c) typed (λ ks. instance-has packages methods linked ks c)
+  new-instances packages methods linked s c typed class =
+      with-object s (Instance c) (new_instance_cells tagged t c) typed (λ ks. instance-has packages methods linked ks c)
 
   -- ---- arrays
 
-  element-has : (ks : List ObjectKind) (kind : ObjectKind) → IsArrayKind kind → CellsHave t ks (map (zero_cell tagged) (element_cells kind)) (element_types t kind)
+  element-has : (ks : List ObjectKind) (kind : ObjectKind) → IsArrayKind kind → CellsHave t ks (map (zero_cell tagged) (element_cells kind))
+      (element_types t kind)
   element-has ks (Instance c) h = absurd h
   element-has ks Booleans h = (short, tt {0}, tt {0})
   element-has ks Bytes h = (short, tt {0}, tt {0})
@@ -125,32 +134,40 @@ module _ (t : ClassTable) where
   element-has ks Ints h = (high, tt {0}, (low, tt {0}, tt {0}))
   element-has ks (References c) h = (null null_object, tt {0}, tt {0})
 
-  repeated-has : (ks : List ObjectKind) (n : ℕ) (cs : List Cell) (types : List Ty) → CellsHave t ks cs types → CellsHave t ks (repeated n cs) (repeated n types)
+  repeated-has : (ks : List ObjectKind) (n : ℕ) (cs : List Cell) (types : List Ty) → CellsHave t ks cs types
+      → CellsHave t ks (repeated n cs) (repeated n types)
   repeated-has ks zero cs types h = tt {0}
   repeated-has ks (suc n) cs types h = have-both ks cs (repeated n cs) types (repeated n types) h (repeated-has ks n cs types h)
 
-  counted : (ks : List ObjectKind) (cs : List Cell) (types : List Ty) (n count : ℕ) → count ≡ n → CellsHave t ks cs (repeated count types) → CellsHave t ks cs (repeated n types)
+  counted : (ks : List ObjectKind) (cs : List Cell) (types : List Ty) (n count : ℕ) → count ≡ n → CellsHave t ks cs (repeated count types)
+      → CellsHave t ks cs (repeated n types)
   counted ks cs types n count e h = subst (λ k. CellsHave t ks cs (repeated k types)) e h
 
   halved : (n count : ℕ) → n ≡ 2 * count → count ≡ n / 2
   halved n count e = sym (ap (λ k. k / 2) e ∙ mul-div_cancel_left count {n = 2} (lit< tt))
 
-  array-has : (ks : List ObjectKind) (kind : ObjectKind) (count : ℕ) → IsArrayKind kind → CellsHave t ks (array_cells tagged kind count) (cell_types t kind (length (array_cells tagged kind count)))
+  array-has : (ks : List ObjectKind) (kind : ObjectKind) (count : ℕ) → IsArrayKind kind
+      → CellsHave t ks (array_cells tagged kind count) (cell_types t kind (length (array_cells tagged kind count)))
   array-has ks (Instance c) count h = absurd h
   array-has ks Booleans count h =
-      counted ks (array_cells tagged Booleans count) (element_types t Booleans) (length (array_cells tagged Booleans count)) count (omega (arith, length-array tagged Booleans count))
+      counted ks (array_cells tagged Booleans count) (element_types t Booleans) (length (array_cells tagged Booleans count)) count
+      (omega (arith, length-array tagged Booleans count))
       (repeated-has ks count (map (zero_cell tagged) (element_cells Booleans)) (element_types t Booleans) (element-has ks Booleans h))
   array-has ks Bytes count h =
-      counted ks (array_cells tagged Bytes count) (element_types t Bytes) (length (array_cells tagged Bytes count)) count (omega (arith, length-array tagged Bytes count))
+      counted ks (array_cells tagged Bytes count) (element_types t Bytes) (length (array_cells tagged Bytes count)) count
+      (omega (arith, length-array tagged Bytes count))
       (repeated-has ks count (map (zero_cell tagged) (element_cells Bytes)) (element_types t Bytes) (element-has ks Bytes h))
   array-has ks Shorts count h =
-      counted ks (array_cells tagged Shorts count) (element_types t Shorts) (length (array_cells tagged Shorts count)) count (omega (arith, length-array tagged Shorts count))
+      counted ks (array_cells tagged Shorts count) (element_types t Shorts) (length (array_cells tagged Shorts count)) count
+      (omega (arith, length-array tagged Shorts count))
       (repeated-has ks count (map (zero_cell tagged) (element_cells Shorts)) (element_types t Shorts) (element-has ks Shorts h))
   array-has ks Ints count h =
-      counted ks (array_cells tagged Ints count) (element_types t Ints) (length (array_cells tagged Ints count) / 2) count (halved (length (array_cells tagged Ints count)) count (length-array tagged Ints count))
+      counted ks (array_cells tagged Ints count) (element_types t Ints) (length (array_cells tagged Ints count) / 2) count
+      (halved (length (array_cells tagged Ints count)) count (length-array tagged Ints count))
       (repeated-has ks count (map (zero_cell tagged) (element_cells Ints)) (element_types t Ints) (element-has ks Ints h))
   array-has ks (References c) count h =
-      counted ks (array_cells tagged (References c) count) (element_types t (References c)) (length (array_cells tagged (References c) count)) count (omega (arith, length-array tagged (References c) count))
+      counted ks (array_cells tagged (References c) count) (element_types t (References c)) (length (array_cells tagged (References c) count)) count
+      (omega (arith, length-array tagged (References c) count))
       (repeated-has ks count (map (zero_cell tagged) (element_cells (References c))) (element_types t (References c)) (element-has ks (References c) h))
 
   pub new-arrays : NewArraysAreTyped t

@@ -19,9 +19,12 @@ room-means s n h =
     let b = and_parts (nat_lt (length s.heap) 4096) (nat_le (heap_cells s + n) 32768) h in
     record { one = ltb-true (length s.heap) 4096 b.0; all = leb-true (heap_cells s + n) 32768 b.1 }
 
-module _ {A : Type 0} (s : State A) (xs : List A) (hs : List ObjectHeader) (end : ℕ) (heap : s.heap ≡ objects_in xs hs) (follow : Follow 0 hs end) (enough : end ≤ length xs) where
+module _ {A : Type 0} (s : State A) (xs : List A) (hs : List ObjectHeader) (end : ℕ) (heap : s.heap ≡ objects_in xs hs) (follow : Follow 0 hs end)
+    (enough : end ≤ length xs) where
   pub cells_counted : heap_cells s ≡ end
-  cells_counted = let total : State A → ℕ = heap_cells in ap (λ os. heap_cells (record s { heap = os })) heap ∙ (omega (arith, sum-objects xs 0 hs end follow enough))
+  cells_counted =
+      let total : State A → ℕ = heap_cells in ap (λ os. heap_cells (record s { heap = os })) heap
+      ∙ (omega (arith, sum-objects xs 0 hs end follow enough))
 
   pub objects_counted : length s.heap ≡ length hs
   objects_counted = ap length heap ∙ length-map hs _

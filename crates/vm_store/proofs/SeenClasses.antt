@@ -1,5 +1,6 @@
 -- What objects are, and their types.
-use Rattle.std.proofs.Common.{◌≡◌, ℕ, zero, suc, ◌-◌, ◌<◌, ◌≤◌, false, List, [], ◌∷◌, length, map, get_or, refl, ap, sym, ◌∙◌, arith}
+use Rattle.std.proofs.Common.{◌≡◌, ℕ, zero, suc, ◌-◌, ◌<◌, ◌≤◌, false, List, [], ◌∷◌, length, map, get_or, refl, ap, sym, ◌∙◌}
+use Rattle.std.proofs.Common.{arith}
 use Rattle.std.specs.Prelude.{slice_get, option_map, Some}
 use Rattle.vm_store.specs.declared.kind.ObjectKind.{ObjectKind}
 use Rattle.vm_store.specs.declared.header.ObjectHeader.{ObjectHeader}
@@ -38,6 +39,7 @@ kind-read hs h x counted within read =
     ∙ (ap (option_map (λ (g : ObjectHeader). g.kind)) (slice_get-get_or hs (h - 1) x within) ∙ ap (λ (g : ObjectHeader). Some g.kind) (sym read))))
 
 -- the kinds of the objects are those of their headers
-pub kinds-objects : {A : Type 0} (xs : List A) (hs : List ObjectHeader) → map (λ (o : Object A). o.kind) (objects_in xs hs) ≡ map (λ (h : ObjectHeader). h.kind) hs
+pub kinds-objects : {A : Type 0} (xs : List A) (hs : List ObjectHeader) → map (λ (o : Object A). o.kind) (objects_in xs hs)
+    ≡ map (λ (h : ObjectHeader). h.kind) hs
 kinds-objects xs [] = refl
 kinds-objects xs (h ∷ hs) = ap (λ ks. h.kind ∷ ks) (kinds-objects xs hs)

@@ -1,6 +1,8 @@
 -- A stack that lies in memory with its top last is the reverse of the list of its cells.
-use Rattle.std.proofs.Common.{◌≡◌, ℕ, ◌-◌, ◌≤◌, List, [], ◌∷◌, ◌++◌, length, take, drop, map, reverse, refl, sym, ◌∙◌, ap, arith, length-drop}
-use Rattle.std.proofs.lemmas.List.{map-append, take-append-drop, reverse-append, length-reverse, take_at, drop_at, take-take, take_all, drop_all, append-nil, append_assoc}
+use Rattle.std.proofs.Common.{◌≡◌, ℕ, ◌-◌, ◌≤◌, List, [], ◌∷◌, ◌++◌, length, take, drop, map, reverse, refl, sym, ◌∙◌, ap}
+use Rattle.std.proofs.Common.{arith, length-drop}
+use Rattle.std.proofs.lemmas.List.{map-append, take-append-drop, reverse-append, length-reverse, take_at, drop_at, take-take, take_all, drop_all, append-nil}
+use Rattle.std.proofs.lemmas.List.{append_assoc}
 use borrow.Rule.Slice.PartMut.{put_mid}
 use Rattle.vm_store.specs.State.{rotated}
 
@@ -12,10 +14,12 @@ length_last : {A : Type 0} (xs : List A) (n : ℕ) → n ≤ length xs → lengt
 length_last xs n h = length-reverse (drop (length xs - n) xs) ∙ (length-drop (length xs - n) xs ∙ (omega arith))
 
 pub drop-reverse : {A : Type 0} (xs : List A) (n : ℕ) → n ≤ length xs → drop n (reverse xs) ≡ reverse (take (length xs - n) xs)
-drop-reverse xs n h = ap (drop n) (reverse_parted xs n) ∙ drop_at (reverse (drop (length xs - n) xs)) (reverse (take (length xs - n) xs)) n (length_last xs n h)
+drop-reverse xs n h =
+    ap (drop n) (reverse_parted xs n) ∙ drop_at (reverse (drop (length xs - n) xs)) (reverse (take (length xs - n) xs)) n (length_last xs n h)
 
 pub take-reverse : {A : Type 0} (xs : List A) (n : ℕ) → n ≤ length xs → take n (reverse xs) ≡ reverse (drop (length xs - n) xs)
-take-reverse xs n h = ap (take n) (reverse_parted xs n) ∙ take_at (reverse (drop (length xs - n) xs)) (reverse (take (length xs - n) xs)) n (length_last xs n h)
+take-reverse xs n h =
+    ap (take n) (reverse_parted xs n) ∙ take_at (reverse (drop (length xs - n) xs)) (reverse (take (length xs - n) xs)) n (length_last xs n h)
 
 -- the cells ms in which the top of the stack ends are turned by some to the right
 pub reverse-turned :
@@ -40,7 +44,8 @@ reverse-turned xs ms count by h b e =
     ∙ (cc)))
 
 -- what is left once the last n cells are gone
-pub discarded : {A : Type 0} (xs ys : List A) (m n : ℕ) → n ≤ length xs → m ≡ length xs - n → ys ≡ take m xs → reverse ys ≡ drop n (reverse xs)
+pub discarded : {A : Type 0} (xs ys : List A) (m n : ℕ) → n ≤ length xs → m ≡ length xs - n → ys ≡ take m xs
+    → reverse ys ≡ drop n (reverse xs)
 discarded xs ys m n h e k = ap reverse (k ∙ ap (λ i. take i xs) e) ∙ sym (drop-reverse xs n h)
 
 -- the part of the stack from k on, as a call gives it back that turned it by some to the right
@@ -57,7 +62,8 @@ rotated_in_place xs ys ms k n count by h b from size part e =
     let turned : ys ≡ drop (count - by) ms ++ take (count - by) ms = e ∙ ap (λ i. drop (i - by) ms ++ take (i - by) ms) len in
     let all : put_mid k n xs ys ≡ take (length xs - count) xs ++ (drop (count - by) ms ++ take (count - by) ms) =
     ap (λ r. take k xs ++ (ys ++ r)) none
-    ∙ (ap (λ r. take k xs ++ r) (append-nil ys) ∙ (ap (λ r. take k xs ++ r) turned ∙ ap (λ i. take i xs ++ (drop (count - by) ms ++ take (count - by) ms)) from)) in
+    ∙ (ap (λ r. take k xs ++ r) (append-nil ys)
+    ∙ (ap (λ r. take k xs ++ r) turned ∙ ap (λ i. take i xs ++ (drop (count - by) ms ++ take (count - by) ms)) from)) in
     ap reverse all ∙ reverse-turned xs ms count by h b same
 
 pub reverse-map : {A B : Type 0} (f : A → B) (xs : List A) → reverse (map f xs) ≡ map f (reverse xs)

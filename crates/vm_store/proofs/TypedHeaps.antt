@@ -13,7 +13,8 @@ use Rattle.vm_store.specs.Objects.{kinds, object_cells, cells_in, write_object, 
 use Rattle.vm_store.specs.Laws.{KeepsKinds, cell_types, HasContent, CellsHave, IsTypedObject, IsTypedHeap, cell_type_at}
 
 -- a write keeps what every object is
-pub kinds-write : {A : Type 0} (os : List (Object A)) (h i : ℕ) (c : A) → map (λ (o : Object A). o.kind) (write_object os h i c) ≡ map (λ (o : Object A). o.kind) os
+pub kinds-write : {A : Type 0} (os : List (Object A)) (h i : ℕ) (c : A) → map (λ (o : Object A). o.kind) (write_object os h i c)
+    ≡ map (λ (o : Object A). o.kind) os
 kinds-write [] h i c = refl
 kinds-write (o ∷ os) zero i c = refl
 kinds-write (o ∷ os) (suc h) i c = ap (λ ks. o.kind ∷ ks) (kinds-write os h i c)
@@ -23,7 +24,8 @@ kinds-kept s zero i c = record { kept = refl }
 kinds-kept s (suc h) i c = record { kept = kinds-write s.heap h i c }
 
 -- a write keeps how many cells an object has
-pub length-write : {A : Type 0} (os : List (Object A)) (h i : ℕ) (c : A) → length (cells_in (slice_get (write_object os h i c) h)) ≡ length (cells_in (slice_get os h))
+pub length-write : {A : Type 0} (os : List (Object A)) (h i : ℕ) (c : A) → length (cells_in (slice_get (write_object os h i c) h))
+    ≡ length (cells_in (slice_get os h))
 length-write [] h i c = refl
 length-write (o ∷ os) zero i c = length-set o.cells i c
 length-write (o ∷ os) (suc h) i c = length-write os h i c
@@ -55,7 +57,8 @@ module _ (t : ClassTable) (ks : List ObjectKind) where
   -- an object of typed objects
   object-read :
       (os : List (Object Cell)) (h i : ℕ) (ty : Ty)
-      → All (IsTypedObject t ks) os → option_and_then (λ (o : Object Cell). slice_get (cell_types t o.kind (length o.cells)) i) (slice_get os h) ≡ Some ty
+      → All (IsTypedObject t ks) os → option_and_then (λ (o : Object Cell). slice_get (cell_types t o.kind (length o.cells)) i) (slice_get os h)
+      ≡ Some ty
       → IsSomeAnd (slice_get (cells_in (slice_get os h)) i) (λ c. HasType t ks c ty × HasContent c)
   object-read [] h i ty typed e = absurd (none-some ty e)
   object-read (o ∷ os) zero i ty typed e =
@@ -64,7 +67,8 @@ module _ (t : ClassTable) (ks : List ObjectKind) where
 
   object-write :
       (os : List (Object Cell)) (h i : ℕ) (ty : Ty) (c : Cell)
-      → All (IsTypedObject t ks) os → option_and_then (λ (o : Object Cell). slice_get (cell_types t o.kind (length o.cells)) i) (slice_get os h) ≡ Some ty
+      → All (IsTypedObject t ks) os → option_and_then (λ (o : Object Cell). slice_get (cell_types t o.kind (length o.cells)) i) (slice_get os h)
+      ≡ Some ty
       → HasType t ks c ty → HasContent c → All (IsTypedObject t ks) (write_object os h i c)
   object-write [] h i ty c typed e has filled = absurd (none-some ty e)
   object-write (o ∷ os) zero i ty c typed e has filled =

@@ -1,5 +1,6 @@
 -- Laws of cells, objects and their types.
-use Rattle.std.specs.Prelude.{◌≡◌, ℕ, ◌/◌, List, [], ◌∷◌, length, All, IsSomeAnd, slice_get, Option, Some, option_and_then, ⊤}
+use Rattle.std.specs.Prelude.{◌≡◌, ℕ, ◌/◌, List, [], ◌∷◌, length, All, IsSomeAnd, slice_get, Option, Some}
+use Rattle.std.specs.Prelude.{option_and_then, ⊤}
 use Rattle.jc_base.specs.declared.ty.Ty.{Ty}
 use Rattle.jc_base.specs.declared.ty.Ty.TheVariants.{Bottom, Short, IntHigh, IntLow, Class}
 use Rattle.jc_base.specs.Class.{ClassTable, class_in_types}

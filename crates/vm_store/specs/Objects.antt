@@ -1,5 +1,6 @@
 -- Objects, their making and their cells (JCVM 2.2, sections 2.2, 3.1 and 3.6; chapter 7, `new`, `newarray` and `anewarray`).
-use Rattle.std.specs.Prelude.{ℕ, zero, suc, ◌+◌, ◌/◌, Bool, ◌&&◌, nat_lt, nat_le, List, [], ◌∷◌, ◌++◌, length, map, slice_set, slice_get, sum_by, Option, Some, None}
+use Rattle.std.specs.Prelude.{ℕ, zero, suc, ◌+◌, ◌/◌, Bool, ◌&&◌, nat_lt, nat_le, List, [], ◌∷◌, ◌++◌, length, map}
+use Rattle.std.specs.Prelude.{slice_set, slice_get, sum_by, Option, Some, None}
 use Rattle.jc_base.specs.Class.{ClassTable}
 use Rattle.jc_base.specs.Dispatch.{cells_of}
 use Rattle.vm_store.specs.declared.kind.ObjectKind.{ObjectKind}

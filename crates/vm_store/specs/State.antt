@@ -1,6 +1,7 @@
 -- The state of a machine over cells of a type A: the frames, the objects and the static fields
 -- (JCVM 2.2, sections 3.2 to 3.6).
-use Rattle.std.specs.Prelude.{ℕ, ◌+◌, ◌-◌, ◌<◌, List, [], ◌∷◌, ◌++◌, length, map, take, drop, reverse, replicate, slice_index_or, slice_set, slice_get, Option, Some, None}
+use Rattle.std.specs.Prelude.{ℕ, ◌+◌, ◌-◌, ◌<◌, List, [], ◌∷◌, ◌++◌, length, map, take, drop, reverse, replicate}
+use Rattle.std.specs.Prelude.{slice_index_or, slice_set, slice_get, Option, Some, None}
 use Rattle.jc_base.specs.declared.record.MethodRec.{MethodRec}
 use Rattle.vm_store.specs.declared.cell.Cell.{Cell}
 use Rattle.vm_store.specs.declared.kind.ObjectKind.{ObjectKind}

@@ -29,15 +29,21 @@ made_object s kind cells =
 pub made_cells : {A : Type 0} (k : Cells A) (s t : State A) (kind : ObjectKind) (count h : ℕ)
     → t ≡ with_object s kind (array_cells k kind count) → h ≡ length s.heap + 1 → length (object_cells t h) ≡ element_width kind * count
 made_cells k s t kind count h made at =
-    ap (λ x. length (cells_in x)) (ap (λ x. object_at x h) made ∙ (ap (object_at (with_object s kind (array_cells k kind count))) at ∙ made_object s kind (array_cells k kind count)))
+    ap (λ x. length (cells_in x))
+    (ap (λ x. object_at x h) made
+    ∙ (ap (object_at (with_object s kind (array_cells k kind count))) at ∙ made_object s kind (array_cells k kind count)))
     ∙ length-array k kind count
 
 -- and of a new instance of the class that has a field of each kind
 pub made_instance : {A : Type 0} (k : Cells A) (s t : State A) (classes : ClassTable) (h : ℕ)
-    → classes ≡ sample_classes → t ≡ with_object s (Instance 2) (new_instance_cells k classes 2) → h ≡ length s.heap + 1 → length (object_cells t h) ≡ 4
+    → classes ≡ sample_classes → t ≡ with_object s (Instance 2) (new_instance_cells k classes 2) → h ≡ length s.heap + 1
+    → length (object_cells t h) ≡ 4
 unfolding cells_of own_cells chain chain_over parent_of
 made_instance k s t classes h is made at =
-    ap (λ x. length (cells_in x)) (ap (λ x. object_at x h) made ∙ (ap (object_at (with_object s (Instance 2) (new_instance_cells k classes 2))) at ∙ made_object s (Instance 2) (new_instance_cells k classes 2)))
+    ap (λ x. length (cells_in x))
+    (ap (λ x. object_at x h) made
+    ∙ (ap (object_at (with_object s (Instance 2) (new_instance_cells k classes 2))) at
+    ∙ made_object s (Instance 2) (new_instance_cells k classes 2)))
     ∙ ap (λ t. length (new_instance_cells k t 2)) is
 
 pub four_cells : (classes : ClassTable) → classes ≡ sample_classes → length (cells_of classes 2) ≡ 4

@@ -40,7 +40,8 @@ element_alike : (kind : ObjectKind) (cells : List Cell) (i : ℕ) → element_in
 element_alike Ints cells i = cc (word_at cells (i * 2), word_at cells (i * 2 + 1))
 element_alike _ cells i = cc (word_at cells i)
 
-elements_alike : (kind : ObjectKind) (cells : List Cell) (ns : List ℕ) → map (element_in words kind (map word_of cells)) ns ≡ map (element_in tagged kind cells) ns
+elements_alike : (kind : ObjectKind) (cells : List Cell) (ns : List ℕ) → map (element_in words kind (map word_of cells)) ns
+    ≡ map (element_in tagged kind cells) ns
 elements_alike kind cells [] = refl
 elements_alike kind cells (n ∷ ns) = let head = element_alike kind cells n in let tail = elements_alike kind cells ns in cc
 

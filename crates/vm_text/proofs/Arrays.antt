@@ -26,10 +26,12 @@ told : (t : Option Ty) (b : Bool) (f : ℕ → ℤ) (n i : ℕ) → nat_lt i n �
 told None true f n i is = refl
 told None false f n i is = refl
 told (Some ty) true f n i is = let same : 0 + i ≡ i = omega arith in sym (given_at f 0 n i (ltb-true i n is) ∙ ap (λ k. Some (f k)) same)
-told (Some ty) false f n i is = let long = length-map-range_with_len f 0 n in sym (slice_get_past (map f (range_with_len 0 n)) i (omega (arith, long, ltb-false i n is)))
+told (Some ty) false f n i is =
+    let long = length-map-range_with_len f 0 n in sym (slice_get_past (map f (range_with_len 0 n)) i (omega (arith, long, ltb-false i n is)))
 
 counted : (t : Option Ty) (f : ℕ → ℤ) (n : ℕ)
-    → if_numbers t n ≡ option_map (λ (a : NumberArray). length a.elements) (option_map (λ ty. record { ty = ty; elements = map f (range_with_len 0 n) }) t)
+    → if_numbers t n ≡ option_map (λ (a : NumberArray). length a.elements)
+    (option_map (λ ty. record { ty = ty; elements = map f (range_with_len 0 n) }) t)
 counted None f n = refl
 counted (Some ty) f n = ap Some (sym (length-map-range_with_len f 0 n))
 

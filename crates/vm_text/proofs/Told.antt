@@ -1,5 +1,6 @@
 -- Lines and elements that are written one after the other.
-use Rattle.std.proofs.Common.{◌≡◌, ◌<◌, ℕ, zero, suc, ◌+◌, ℤ, List, [], ◌∷◌, ◌++◌, length, Option, Some, None, refl, sym, ap, subst, ◌∙◌, append_assoc, append-nil, arith}
+use Rattle.std.proofs.Common.{◌≡◌, ◌<◌, ℕ, zero, suc, ◌+◌, ℤ, List, [], ◌∷◌, ◌++◌, length, Option, Some, None, refl, sym, ap, subst}
+use Rattle.std.proofs.Common.{◌∙◌, append_assoc, append-nil, arith}
 use Rattle.std.specs.Prelude.{take, slice_get, option_map, option_and_then}
 use Rattle.std.specs.List.{flat_map}
 use Rattle.std.proofs.lemmas.Grind.{flat_map-append}
@@ -16,7 +17,8 @@ nothing a = record { text = sym (append-nil a.text); used = omega arith; whole =
 
 -- ---- elements
 
-pub counted : (o : Option NumberArray) (count : ℕ) → option_map (λ (a : NumberArray). length a.elements) o ≡ Some count → length (elements_in o) ≡ count
+pub counted : (o : Option NumberArray) (count : ℕ) → option_map (λ (a : NumberArray). length a.elements) o ≡ Some count
+    → length (elements_in o) ≡ count
 counted None count is = absurd (cc)
 counted (Some a) count is = cc
 
@@ -28,7 +30,8 @@ element_found (Some a) i r is = sym is
 pub one_element : (a b c : Roomed) (xs : List ℤ) (i : ℕ) (x : ℤ) → slice_get xs i ≡ Some x
     → Writes a b (flat_map element_text (take i xs)) → Writes b c (element_text x) → Writes a c (flat_map element_text (take (i + 1) xs))
 one_element a b c xs i x is before one =
-    let taken : take (i + 1) xs ≡ take i xs ++ x ∷ [] = take_more xs i x (slice_get_within xs i x is) ∙ ap (λ y. take i xs ++ y ∷ []) (get_or_from_slice_get xs i x x is) in
+    let taken : take (i + 1) xs ≡ take i xs ++ x ∷ [] = take_more xs i x (slice_get_within xs i x is)
+    ∙ ap (λ y. take i xs ++ y ∷ []) (get_or_from_slice_get xs i x x is) in
     let all : flat_map element_text (take (i + 1) xs) ≡ flat_map element_text (take i xs) ++ element_text x
     = ap (flat_map element_text) taken ∙ flat_map-append element_text (take i xs) (x ∷ [])
     ∙ ap (λ t. flat_map element_text (take i xs) ++ t) (append-nil (element_text x)) in
@@ -47,7 +50,8 @@ pub one_field : (a b c : Roomed) (xs : List Value) (n : ℕ) (x : Value) → len
     → Writes a b (static_lines 0 (take n xs)) → Writes b c (static_line n x) → Writes a c (static_lines 0 (take (n + 1) xs))
 one_field a b c xs n x long is before one =
     let place : 0 + length (take n xs) ≡ n = omega (arith, long) in
-    let taken : take (n + 1) xs ≡ take n xs ++ x ∷ [] = take_more xs n x (slice_get_within xs n x is) ∙ ap (λ y. take n xs ++ y ∷ []) (get_or_from_slice_get xs n x x is) in
+    let taken : take (n + 1) xs ≡ take n xs ++ x ∷ [] = take_more xs n x (slice_get_within xs n x is)
+    ∙ ap (λ y. take n xs ++ y ∷ []) (get_or_from_slice_get xs n x x is) in
     let all : static_lines 0 (take (n + 1) xs) ≡ static_lines 0 (take n xs) ++ static_line n x
     = ap (static_lines 0) taken ∙ lines_joined 0 (take n xs) x ∙ ap (λ k. static_lines 0 (take n xs) ++ static_line k x) place in
     subst (Writes a c) (sym all) (both a b c (static_lines 0 (take n xs)) (static_line n x) before one)

@@ -12,7 +12,9 @@ use Rattle.vm_text.specs.Text.{left_text}
 
 -- one static field, and an array of three bytes wherever one asks
 abbrev sample : Readout
-sample = record { statics = Short (pos 7) ∷ []; array = λ h. Some (record { ty = ArrByte; elements = pos 5 ∷ pos 2 ∷ negsuc 0 ∷ [] }) }
+sample =
+    record
+    { statics = Short (pos 7) ∷ []; array = λ h. Some (record { ty = ArrByte; elements = pos 5 ∷ pos 2 ∷ negsuc 0 ∷ [] }) }
 
 returned : left_text sample (Plain (Returned (Ref 1))) ≡ codes "returned reference 1\narray 1 byte 3 5 2 -1\nstatic 0 short 7\n"
 unfolding digits

@@ -30,7 +30,8 @@ use Rattle.law_rewritten_typing.specs.Planned.{IsPlanned}
 use Rattle.law_rewritten_typing.specs.Typed.{HasTypingByHomes}
 use Rattle.xf_code.proofs.Subjects.{code-short}
 
-module _ (w : Linked) (m : Method) (typing : List (Option Frame)) (control : Marked) (homes : List Home) (typed : IsTypingOf w m typing) (flow : IsControlFlow m control) (placed : ArePlaced m) (listed : AreListed m.code) (mo : IsMethodOf w m)
+module _ (w : Linked) (m : Method) (typing : List (Option Frame)) (control : Marked) (homes : List Home) (typed : IsTypingOf w m typing)
+    (flow : IsControlFlow m control) (placed : ArePlaced m) (listed : AreListed m.code) (mo : IsMethodOf w m)
     (method : IsMethod w.infos w.pools w.classes m.rec) (bytes : AreBytes m.code) where
   pub is-code : IsCode (record { world = w; method = m; frames = state_at typing; leaders = control.leaders; homes = homes })
   is-code = record { bytes = bytes; lists = listed.lists; short = code-short w m mo method; few = method.few_handlers }
@@ -50,7 +51,8 @@ module _ (w : Linked) (m : Method) (typing : List (Option Frame)) (control : Mar
           let own : IsFit m f = subst (λ (o : Option Frame). IsSomeAnd o (IsFit m)) at fit in
           omega (arith, own.room, room, length-reverse f.stack)
 
-  module _ (symbols : Symbols) (e : symbols ≡ rewritten (record { world = w; method = m; frames = state_at typing; leaders = control.leaders; homes = homes })) where
+  module _ (symbols : Symbols)
+      (e : symbols ≡ rewritten (record { world = w; method = m; frames = state_at typing; leaders = control.leaders; homes = homes })) where
     pub live-by : LiveAreKept → KeepsLive m m.rec.handlers symbols.ranges
     unfolding rewritten
     live-by law = subst (λ (y : Symbols). KeepsLive m m.rec.handlers y.ranges) (sym e) (law _ has-frames)
@@ -63,11 +65,13 @@ module _ (w : Linked) (m : Method) (typing : List (Option Frame)) (control : Mar
     unfolding rewritten
     items-by law few = subst (λ (y : Symbols). All (IsItem m.code y.items) y.items) (sym e) (law _ refl is-code has-frames few)
 
-    pub small-by : PlainSizeFits w → AreHomes w m (state_at typing) homes → register_sum homes ≤ 255 → m.rec.max_stack ≤ 255 → plain_size symbols.items < 2 ^ 32
+    pub small-by : PlainSizeFits w → AreHomes w m (state_at typing) homes → register_sum homes ≤ 255 → m.rec.max_stack ≤ 255
+        → plain_size symbols.items < 2 ^ 32
     unfolding rewritten
     small-by law are few room = subst (λ (y : Symbols). plain_size y.items < 2 ^ 32) (sym e) (law _ refl is-code has-frames are few (λ p. shallow room p))
 
-    pub typed-by : RewrittenIsTyped w → AreDerived w m typing → AreHomes w m (state_at typing) homes → register_sum homes ≤ 255 → HasTypingByHomes w m homes symbols
+    pub typed-by : RewrittenIsTyped w → AreDerived w m typing → AreHomes w m (state_at typing) homes → register_sum homes ≤ 255
+        → HasTypingByHomes w m homes symbols
     typed-by law derived are few = subst (HasTypingByHomes w m homes) (sym e) (law _ refl is-code has-frames mo typed.least.typing derived flow.leaders are few)
 
   pub is-planned :

@@ -28,7 +28,8 @@ near code short listed (pos q) (i, st, e) = omega (arith, listed.inside i st, e)
 near code short listed (negsuc n) h = absurd h
 
 -- the method of a plan is well formed, and so is each of its instructions
-pub is-subject : (p : Plan) → IsMethodOf p.walk.world.now (walked p.walk) → IsMethod p.walk.world.now.infos p.walk.world.now.pools p.walk.world.now.classes p.walk.rec.now
+pub is-subject : (p : Plan) → IsMethodOf p.walk.world.now (walked p.walk) → IsMethod p.walk.world.now.infos p.walk.world.now.pools
+    p.walk.world.now.classes p.walk.rec.now
     → IsWellFormed (walked p.walk) → AreListed p.walk.code.bytes.now → IsSubject p
 is-subject p mo method formed listed =
     let code = p.walk.code.bytes.now in

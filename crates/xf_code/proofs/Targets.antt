@@ -1,5 +1,6 @@
 -- How many targets an instruction has: each takes two bytes of the code.
-use Rattle.std.proofs.Common.{◌≡◌, ◌≤◌, ◌<◌, ◌+◌, ◌*◌, ◌/◌, ℕ, Bool, true, false, if◌then◌else◌, Result, Ok, Err, List, [], ◌∷◌, length, map, refl, ap, arith}
+use Rattle.std.proofs.Common.{◌≡◌, ◌≤◌, ◌<◌, ◌+◌, ◌*◌, ◌/◌, ℕ, Bool, true, false, if◌then◌else◌, Result, Ok, Err, List, []}
+use Rattle.std.proofs.Common.{◌∷◌, length, map, refl, ap, arith}
 use Rattle.std.specs.Prelude.{unsigned_abs}
 use Rattle.std.proofs.Math.Nat.{add-mul}
 use Rattle.std.proofs.lemmas.List.{length-map}
@@ -45,10 +46,12 @@ few-cases xs at i h = by_layout (layout_of i.op) refl
     by_layout (Ok l) is = by_cases l l.cases is refl
     by_layout (Err e) is = omega (arith, ap length (no_cases xs at i e is))
 
-pub few-targets : (xs : List ℕ) (p : Placed) → length xs ≤ 32767 → p.place < length xs → decoded xs p.place ≡ Ok p.insn → p.place / 2 + length (targets xs p) ≤ 32768
+pub few-targets : (xs : List ℕ) (p : Placed) → length xs ≤ 32767 → p.place < length xs → decoded xs p.place ≡ Ok p.insn
+    → p.place / 2 + length (targets xs p) ≤ 32768
 unfolding targets
 few-targets xs p short inside h = by (jumps p.insn.op)
   where
-    by : (b : Bool) → p.place / 2 + length (if b then target p.place p.insn.x ∷ map (λ c. target p.place c.offset) (cases xs p.place p.insn) else []) ≤ 32768
+    by : (b : Bool) → p.place / 2 + length (if b then target p.place p.insn.x ∷ map (λ c. target p.place c.offset) (cases xs p.place p.insn) else [])
+        ≤ 32768
     by true = omega (arith, few-cases xs p.place p.insn h, length-map (cases xs p.place p.insn) (λ c. target p.place c.offset))
     by false = omega arith

@@ -46,7 +46,8 @@ module _ {X : Type 0} where
       by (inl b) = inl (inr b)
       by (inr b) = inr b
 
-  pub either-among : (P : X → Type 0) (xs ys : List X) → ((x : X) → IsAmong x xs → P x) → ((x : X) → IsAmong x ys → P x) → (x : X) → IsAmong x (xs ++ ys) → P x
+  pub either-among : (P : X → Type 0) (xs ys : List X) → ((x : X) → IsAmong x xs → P x) → ((x : X) → IsAmong x ys → P x) → (x : X)
+      → IsAmong x (xs ++ ys) → P x
   either-among P xs ys left right x a = by (among-both xs ys x a)
     where
       by : IsAmong x xs ⊎ IsAmong x ys → P x

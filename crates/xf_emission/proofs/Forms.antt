@@ -72,7 +72,8 @@ suits-all : map suits (range_with_len 0 256) ≡ replicate 256 true
 unfolding kind_at kinds layout_of opcode
 suits-all = refl
 
-pub suits-op : (w : Linked) (m : MethodRec) (place : ℕ) (i : Insn) (op : Operation) → i.op < 256 → resolved w m place i (row_at i.op) ≡ Ok op → suits_kind i.op (op_kind op) ≡ true
+pub suits-op : (w : Linked) (m : MethodRec) (place : ℕ) (i : Insn) (op : Operation) → i.op < 256 → resolved w m place i (row_at i.op) ≡ Ok op
+    → suits_kind i.op (op_kind op) ≡ true
 suits-op w m place i op lt e = ap (suits_kind i.op) (kind-of w m place i op lt e) ∙ passed-at suits suits-all i.op lt
 
 -- ---- operands that are emitted
@@ -122,7 +123,8 @@ absent-is ArrayType e = absurd (cc)
 absent-is TestedType e = absurd (cc)
 
 -- another instruction whose only operand is a byte
-pub other-opcode : (i : Insn) (op : ℕ) → only_u1 (layout_of i.op) ≡ true → only_u1 (layout_of op) ≡ true → IsAllowed i → IsAllowed (record i { op = op })
+pub other-opcode : (i : Insn) (op : ℕ) → only_u1 (layout_of i.op) ≡ true → only_u1 (layout_of op) ≡ true → IsAllowed i
+    → IsAllowed (record i { op = op })
 other-opcode i op e f a = by (layout_of i.op) (layout_of op) e f a
   where
     by : (l k : Result Layout CodeEnd) → only_u1 l ≡ true → only_u1 k ≡ true → AllowsBy i l → AllowsBy (record i { op = op }) k

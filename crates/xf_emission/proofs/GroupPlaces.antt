@@ -1,5 +1,6 @@
 -- Where the groups of a rewritten method stand.
-use Rattle.std.proofs.Common.{◌≡◌, ◌⊎◌, ℕ, suc, ◌+◌, ◌≤◌, Bool, true, false, if◌then◌else◌, inl, inr, List, [], ◌∷◌, ◌++◌, flat_map, length, All, Contains, Option, Some, None, refl, sym, ◌∙◌, ap, subst, arith, append_assoc}
+use Rattle.std.proofs.Common.{◌≡◌, ◌⊎◌, ℕ, suc, ◌+◌, ◌≤◌, Bool, true, false, if◌then◌else◌, inl, inr, List, [], ◌∷◌}
+use Rattle.std.proofs.Common.{◌++◌, flat_map, length, All, Contains, Option, Some, None, refl, sym, ◌∙◌, ap, subst, arith, append_assoc}
 use Rattle.std.specs.Prelude.{is_some}
 use Rattle.std.proofs.lemmas.List.Concat.{flat_map-append, flat_map-cons}
 use Rattle.std.proofs.lemmas.Bool.{ne_eqb}
@@ -59,7 +60,8 @@ module _ (s : Source) where
       by true = (omega (arith, e), omega (arith, e, w.one), omega (arith, e, w.one))
       by false = omega arith
 
-  earlier-rise : (at : ℕ) (earlier : List Placed) (i : Placed) (later : List Placed) → Lists s.method.code at (earlier ++ i ∷ later) → Rises at i.place (labels (flat_map (group s) earlier))
+  earlier-rise : (at : ℕ) (earlier : List Placed) (i : Placed) (later : List Placed) → Lists s.method.code at (earlier ++ i ∷ later)
+      → Rises at i.place (labels (flat_map (group s) earlier))
   earlier-rise at [] i later l = omega (arith, l.0)
   earlier-rise at (j ∷ js) i later l =
       let inside = IsWithin-decoded s.method.code at j.insn l.1 in
@@ -86,7 +88,8 @@ module _ (s : Source) where
   unfolding items
   items-are earlier i later e =
       let groups : flat_map (group s) (listing s.method.code) ≡ flat_map (group s) earlier ++ (group s i ++ flat_map (group s) later) =
-      ap (flat_map (group s)) e ∙ flat_map-append (group s) earlier (i ∷ later) ∙ ap (λ xs. flat_map (group s) earlier ++ xs) (flat_map-cons (group s) i later) in
+      ap (flat_map (group s)) e ∙ flat_map-append (group s) earlier (i ∷ later)
+      ∙ ap (λ xs. flat_map (group s) earlier ++ xs) (flat_map-cons (group s) i later) in
       ap (λ xs. copies s Start 0 ++ (xs ++ ending)) groups ∙ simp append_assoc
 
   stands : IsCode s → (i : Placed) → HasInstruction s.method.code i → is_some (s.frames i.place) ≡ true → GroupStands s i
@@ -96,9 +99,12 @@ module _ (s : Source) where
       let rest = flat_map (group s) p.after ++ ending in
       let are = items-are p.before i p.after p.parts in
       let rise : Rises 0 i.place (labels before) =
-      subst (Rises 0 i.place) (sym (labels-append (copies s Start 0) (flat_map (group s) p.before) ∙ ap (λ ls. ls ++ labels (flat_map (group s) p.before)) (copies-none s Start 0)))
+      subst (Rises 0 i.place)
+      (sym (labels-append (copies s Start 0) (flat_map (group s) p.before) ∙ ap (λ ls. ls ++ labels (flat_map (group s) p.before))
+      (copies-none s Start 0)))
       (earlier-rise 0 p.before i p.after (subst (Lists s.method.code 0) p.parts code.lists)) in
-      let none : All (λ x. is_label i.place x ≡ false) before = All-from_Each (λ x. is_label i.place x ≡ false) before (none-named 0 i.place i.place before (omega arith) rise) in
+      let none : All (λ x. is_label i.place x ≡ false) before = All-from_Each (λ x. is_label i.place x ≡ false) before
+      (none-named 0 i.place i.place before (omega arith) rise) in
       record {
         earlier = p.before;
         later = p.after;

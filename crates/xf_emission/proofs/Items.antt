@@ -1,5 +1,6 @@
 -- The items of a rewritten method are such as are laid.
-use Rattle.std.proofs.Common.{ℕ, zero, suc, ◌<◌, Bool, true, false, if◌then◌else◌, List, [], ◌∷◌, map, reverse, flat_map, Option, Some, None, refl, lit<}
+use Rattle.std.proofs.Common.{ℕ, zero, suc, ◌<◌, Bool, true, false, if◌then◌else◌, List, [], ◌∷◌, map, reverse, flat_map, Option, Some, None}
+use Rattle.std.proofs.Common.{refl, lit<}
 use Rattle.jc_base.specs.Each.{Each}
 use Rattle.jc_base.specs.declared.ty.Kind.{Kind}
 use Rattle.jc_base.specs.declared.ty.Kind.TheVariants as kinds
@@ -98,7 +99,8 @@ module _ (code : List ℕ) (all : List Item) (s : Source) (small : (h : Home) �
   pub taken-suits : (p : ℕ) (op : Operation) (n q : ℕ) → Each (IsItem code all) (branch_copies s p op n q)
   unfolding branch_copies
   taken-suits p op n q =
-      Each-append (IsItem code all) (cell_copies s (under s p n) (stack_homes s q)) (copies s (After p op) q) (cells-suit (under s p n) (stack_homes s q)) (copies-suit (After p op) q)
+      Each-append (IsItem code all) (cell_copies s (under s p n) (stack_homes s q)) (copies s (After p op) q) (cells-suit (under s p n) (stack_homes s q))
+      (copies-suit (After p op) q)
 
   -- ---- what is emitted beside
 

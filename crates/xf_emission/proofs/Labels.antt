@@ -1,5 +1,6 @@
 -- The labels among the items of a rewritten method, in their order.
-use Rattle.std.proofs.Common.{◌≡◌, ℕ, zero, suc, ◌+◌, Bool, true, false, if◌then◌else◌, List, [], ◌∷◌, ◌++◌, map, reverse, flat_map, Option, Some, None, Result, Ok, Err, refl, sym, ◌∙◌, ap, arith}
+use Rattle.std.proofs.Common.{◌≡◌, ℕ, zero, suc, ◌+◌, Bool, true, false, if◌then◌else◌, List, [], ◌∷◌, ◌++◌, map, reverse, flat_map}
+use Rattle.std.proofs.Common.{Option, Some, None, Result, Ok, Err, refl, sym, ◌∙◌, ap, arith}
 use Rattle.std.specs.Prelude.{ℤ, count_by, cond, ◌==◌, is_some}
 use Rattle.std.proofs.lemmas.List.Sums.{sum_by-cons}
 use Rattle.jc_base.specs.declared.record.Handler.{Handler}
@@ -27,7 +28,8 @@ use Rattle.xf_emission.specs.declared.origin.Origin.TheVariants.{After, Entry}
 use Rattle.xf_emission.specs.Move.{store, copy, loads, spill}
 use Rattle.xf_emission.specs.Edge.{home_before, homes_held, copy_new, copies_from, local_copies, locals_copies, copies, cell_copies}
 use Rattle.xf_emission.specs.Jump.{under, operands, has_under, spill_if, branch_copies, jump_to, branch, goto, place, stub_label, stub_of, stub, handler_label}
-use Rattle.xf_emission.specs.Group.{itself, loaded, increased, pop_item, store_to_homes, stays, field_read, field_written, gone, branch_by, body, fall, fall_over, fall_by, fallen, done, group_by, group}
+use Rattle.xf_emission.specs.Group.{itself, loaded, increased, pop_item, store_to_homes, stays, field_read, field_written, gone, branch_by, body, fall}
+use Rattle.xf_emission.specs.Group.{fall_over, fall_by, fallen, done, group_by, group}
 use Rattle.xf_emission.specs.Emission.{catching_stub}
 
 -- the numbers of the labels
@@ -94,11 +96,14 @@ module _ (s : Source) (o : Origin) (q : ℕ) where
 cells-none : (s : Source) (hs ks : List Home) → labels (cell_copies s hs ks) ≡ []
 cells-none s [] ks = refl
 cells-none s (h ∷ hs) [] = refl
-cells-none s (h ∷ hs) (k ∷ ks) = none-both (if same_home h k then [] else copy s h k) (cell_copies s hs ks) (none-if (same_home h k) [] (copy s h k) refl refl) (cells-none s hs ks)
+cells-none s (h ∷ hs) (k ∷ ks) =
+    none-both (if same_home h k then [] else copy s h k) (cell_copies s hs ks) (none-if (same_home h k) [] (copy s h k) refl refl) (cells-none s hs ks)
 
 pub taken-none : (s : Source) (p : ℕ) (op : Operation) (n q : ℕ) → labels (branch_copies s p op n q) ≡ []
 unfolding branch_copies
-taken-none s p op n q = none-both (cell_copies s (under s p n) (stack_homes s q)) (copies s (After p op) q) (cells-none s (under s p n) (stack_homes s q)) (copies-none s (After p op) q)
+taken-none s p op n q =
+    none-both (cell_copies s (under s p n) (stack_homes s q)) (copies s (After p op) q) (cells-none s (under s p n) (stack_homes s q))
+    (copies-none s (After p op) q)
 
 -- ---- instructions
 
@@ -111,7 +116,9 @@ module _ (s : Source) (i : Placed) where
   unfolding branch
   branch-none op n =
       none-both (spill_if (has_under s i.place n) s i.place n) (jump_to i op _ ∷ [])
-      (none-if (has_under s i.place n) (spill s (stack_homes s i.place) ++ loads s (operands s i.place n)) [] (none-both (spill s (stack_homes s i.place)) (loads s (operands s i.place n)) (spill-none s (stack_homes s i.place)) (loads-none s (operands s i.place n))) refl)
+      (none-if (has_under s i.place n) (spill s (stack_homes s i.place) ++ loads s (operands s i.place n)) []
+      (none-both (spill s (stack_homes s i.place)) (loads s (operands s i.place n)) (spill-none s (stack_homes s i.place))
+      (loads-none s (operands s i.place n))) refl)
       (jump-none op _)
 
   loaded-none : (h : Option Home) → labels (loaded s i h) ≡ []
@@ -174,7 +181,9 @@ module _ (s : Source) (i : Placed) where
 
   pub fallen-none : (op : Operation) → labels (fallen s i op) ≡ []
   unfolding fallen
-  fallen-none op = none-if (falls_from op) (fall_by s i.place op (operands_of s.world (Ok op)) (i.place + i.insn.len)) [] (fall-by-none op (operands_of s.world (Ok op)) (i.place + i.insn.len)) refl
+  fallen-none op =
+      none-if (falls_from op) (fall_by s i.place op (operands_of s.world (Ok op)) (i.place + i.insn.len)) []
+      (fall-by-none op (operands_of s.world (Ok op)) (i.place + i.insn.len)) refl
 
   -- ---- groups
 
@@ -200,7 +209,8 @@ abbrev pub label_if : List Item → ℕ → List ℕ
 label_if [] l = []
 label_if (i ∷ is) l = l ∷ []
 
-pub stub-label : (s : Source) (p : ℕ) (op : Operation) (n k : ℕ) (t : ℤ) → labels (stub s p op n k t) ≡ label_if (branch_copies s p op n (place t)) (stub_label p k)
+pub stub-label : (s : Source) (p : ℕ) (op : Operation) (n k : ℕ) (t : ℤ)
+    → labels (stub s p op n k t) ≡ label_if (branch_copies s p op n (place t)) (stub_label p k)
 unfolding stub
 stub-label s p op n k t = by (branch_copies s p op n (place t)) (taken-none s p op n (place t))
   where
@@ -222,7 +232,9 @@ is-it m l xs = sum_by-cons (λ x. cond (is_label l x) 1 0) (Label m) xs
 -- a label occurs as often as its number
 pub count-labels : (l : ℕ) (xs : List Item) → count_by (is_label l) xs ≡ count_by (λ m. m == l) (labels xs)
 count-labels l [] = refl
-count-labels l (Label m ∷ xs) = sum_by-cons (λ x. cond (is_label l x) 1 0) (Label m) xs ∙ ap (λ k. cond (m == l) 1 0 + k) (count-labels l xs) ∙ sym (sum_by-cons (λ x. cond (x == l) 1 0) m (labels xs))
+count-labels l (Label m ∷ xs) =
+    sum_by-cons (λ x. cond (is_label l x) 1 0) (Label m) xs ∙ ap (λ k. cond (m == l) 1 0 + k) (count-labels l xs)
+    ∙ sym (sum_by-cons (λ x. cond (x == l) 1 0) m (labels xs))
 count-labels l (Plain i ∷ xs) = sum_by-cons (λ x. cond (is_label l x) 1 0) (Plain i) xs ∙ omega (arith, count-labels l xs)
 count-labels l (Branch op m ∷ xs) = sum_by-cons (λ x. cond (is_label l x) 1 0) (Branch op m) xs ∙ omega (arith, count-labels l xs)
 count-labels l (Switch i at ls ∷ xs) = sum_by-cons (λ x. cond (is_label l x) 1 0) (Switch i at ls) xs ∙ omega (arith, count-labels l xs)

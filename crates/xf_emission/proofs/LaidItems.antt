@@ -1,5 +1,6 @@
 -- The items of a rewritten method are such as are laid.
-use Rattle.std.proofs.Common.{◌≡◌, ℕ, suc, ◌+◌, ◌<◌, ◌≤◌, Bool, true, false, if◌then◌else◌, List, [], ◌∷◌, All, Contains, Option, Some, None, Ok, refl, sym, ◌∙◌, ap, subst, arith}
+use Rattle.std.proofs.Common.{◌≡◌, ℕ, suc, ◌+◌, ◌<◌, ◌≤◌, Bool, true, false, if◌then◌else◌, List, [], ◌∷◌, All, Contains}
+use Rattle.std.proofs.Common.{Option, Some, None, Ok, refl, sym, ◌∙◌, ap, subst, arith}
 use Rattle.std.specs.Prelude.{ℤ, pos, negsuc, is_some, slice_get, sum_by}
 use Rattle.std.proofs.lemmas.List.Elements.{All-contains}
 use Rattle.std.proofs.lemmas.List.Sums.{sum_by-cons}
@@ -38,7 +39,8 @@ register-below : (n : ℕ) (hs : List Home) (h : Home) (r : ℕ) → register_fr
 register-below n [] h r e = absurd (cc)
 register-below n (k ∷ ks) h r e = by (same_home k h) e (λ later. register-below (n + type_width k.ty) ks h r later)
   where
-    by : (b : Bool) → (if b then Some n else register_from (n + type_width k.ty) ks h) ≡ Some r → (register_from (n + type_width k.ty) ks h ≡ Some r → r ≤ n + type_width k.ty + sum_by (λ (j : Home). type_width j.ty) ks)
+    by : (b : Bool) → (if b then Some n else register_from (n + type_width k.ty) ks h) ≡ Some r
+        → (register_from (n + type_width k.ty) ks h ≡ Some r → r ≤ n + type_width k.ty + sum_by (λ (j : Home). type_width j.ty) ks)
         → r ≤ n + sum_by (λ (j : Home). type_width j.ty) (k ∷ ks)
     by true e rest = let same : n ≡ r = cc in omega (arith, same)
     by false e rest = omega (arith, rest e, sum_by-cons (λ (j : Home). type_width j.ty) k ks)
@@ -55,7 +57,8 @@ small-register homes h few = by (register_from 0 homes h) refl
 
 -- ---- the whole
 
-module _ (w : Linked) (alike : OperationsGoAlike w) (listing_is : InstructionsAreListed) (s : Source) (own : s.world ≡ w) (code : IsCode s) (has : HasFrames s) (few : register_sum s.homes ≤ 255) where
+module _ (w : Linked) (alike : OperationsGoAlike w) (listing_is : InstructionsAreListed) (s : Source) (own : s.world ≡ w) (code : IsCode s)
+    (has : HasFrames s) (few : register_sum s.homes ≤ 255) where
   listed : AreListed s.method.code
   listed = listing_is s.method.code
 
@@ -68,11 +71,13 @@ module _ (w : Linked) (alike : OperationsGoAlike w) (listing_is : InstructionsAr
       by : IsPlace s.method.code p → IsOnce (items s) p
       by (i, st, at) = once p (subst (IsLabelOf s) at (of_place {i = i} st (ap (λ (q : ℕ). is_some (s.frames q)) at ∙ (has.reached p).1 r)))
 
-  target-once : (i : Placed) → HasInstruction s.method.code i → IsReached s.method i.place → (t : ℤ) → Contains (targets s.method.code i) t → IsTargetPlace s.method.code t → IsOnce (items s) (place t)
+  target-once : (i : Placed) → HasInstruction s.method.code i → IsReached s.method i.place → (t : ℤ) → Contains (targets s.method.code i) t
+      → IsTargetPlace s.method.code t → IsOnce (items s) (place t)
   target-once i st r (pos q) c is = reached-once q (follows {i = i} st r (jumped c))
   target-once i st r (negsuc n) c is = absurd is
 
-  emitted : (i : Placed) (op : Operation) → HasInstruction s.method.code i → is_some (s.frames i.place) ≡ true → operation s i ≡ Ok op → IsEmitted (items s) s i op
+  emitted : (i : Placed) (op : Operation) → HasInstruction s.method.code i → is_some (s.frames i.place) ≡ true → operation s i ≡ Ok op
+      → IsEmitted (items s) s i op
   unfolding lead
   emitted i op st some is =
       let d = listed.decodes i st in
@@ -91,17 +96,23 @@ module _ (w : Linked) (alike : OperationsGoAlike w) (listing_is : InstructionsAr
         places = at;
       }
     where
-      by : (n k : ℕ) (t : ℤ) → operands_of s.world (Ok op) ≡ Some n → slice_get (targets s.method.code i) k ≡ Some t → IsOnce (items s) (place t) → (copied : List Item) → branch_copies s i.place op n (place t) ≡ copied
+      by : (n k : ℕ) (t : ℤ) → operands_of s.world (Ok op) ≡ Some n → slice_get (targets s.method.code i) k ≡ Some t
+          → IsOnce (items s) (place t) → (copied : List Item) → branch_copies s i.place op n (place t) ≡ copied
           → IsOnce (items s) (label_by (place t) (stub_label i.place k) copied)
       by n k t asks e here [] none = here
-      by n k t asks e here (x ∷ xs) more = once (stub_label i.place k) (of_stub {i = i} {op = op} {n = n} {t = t} k st some is asks e (λ none. absurd (filled (sym more ∙ none))))
+      by n k t asks e here (x ∷ xs) more =
+          once (stub_label i.place k) (of_stub {i = i} {op = op} {n = n} {t = t} k st some is asks e (λ none. absurd (filled (sym more ∙ none))))
         where
           filled : x ∷ xs ≡ [] → ⊥
           filled e = absurd (cc)
 
-  entries-once : (hs : List Handler) → ((h : Handler) → Contains hs h → Contains s.method.rec.handlers h) → Each (λ h. is_live s h ≡ true → IsOnce (items s) h.entry) hs
+  entries-once : (hs : List Handler) → ((h : Handler) → Contains hs h → Contains s.method.rec.handlers h)
+      → Each (λ h. is_live s h ≡ true → IsOnce (items s) h.entry) hs
   entries-once [] inside = tt
-  entries-once (h ∷ hs) inside = (λ live. here (live-is s listed has h (All-contains (IsHandlerOf s.method.code) s.method.rec.handlers h has.formed.handlers there) there live), entries-once hs (λ k c. inside k (suc c.0, omega (arith, c.1), c.2)))
+  entries-once (h ∷ hs) inside = (
+    λ live. here (live-is s listed has h (All-contains (IsHandlerOf s.method.code) s.method.rec.handlers h has.formed.handlers there) there live),
+    entries-once hs (λ k c. inside k (suc c.0, omega (arith, c.1), c.2)),
+  )
     where
       there : Contains s.method.rec.handlers h
       there = inside h (0, omega arith, refl)

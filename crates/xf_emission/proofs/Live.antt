@@ -1,5 +1,6 @@
 -- A rewritten method has a range for each live handler.
-use Rattle.std.proofs.Common.{◌≡◌, ℕ, zero, suc, ◌+◌, ◌-◌, ◌<◌, ◌≤◌, Bool, true, false, if◌then◌else◌, inl, inr, List, [], ◌∷◌, ◌++◌, length, All, Contains, Option, IsSome, refl, sym, ◌∙◌, ap, subst, arith, append_assoc}
+use Rattle.std.proofs.Common.{◌≡◌, ℕ, zero, suc, ◌+◌, ◌-◌, ◌<◌, ◌≤◌, Bool, true, false, if◌then◌else◌, inl, inr, List, []}
+use Rattle.std.proofs.Common.{◌∷◌, ◌++◌, length, All, Contains, Option, IsSome, refl, sym, ◌∙◌, ap, subst, arith, append_assoc}
 use Rattle.std.specs.Prelude.{is_some, nat_lt}
 use Rattle.std.proofs.lemmas.Bool.Decides.{nat_tests}
 use Rattle.std.proofs.lemmas.List.Elements.{All-contains, Contains-append_right}
@@ -20,7 +21,8 @@ pub stands-next : {X : Type 0} (before rest after whole : List X) (x : X) → re
 stands-next before rest after whole x e inv =
     subst (λ xs. Contains xs x) (ap (λ xs. before ++ xs) (sym e) ∙ inv) (Contains-append_right before (x ∷ after) x (0, omega arith, refl))
 
-pub moves-on : {X : Type 0} (before rest after whole : List X) (x : X) → rest ≡ x ∷ after → before ++ rest ≡ whole → (before ++ x ∷ []) ++ after ≡ whole
+pub moves-on : {X : Type 0} (before rest after whole : List X) (x : X) → rest ≡ x ∷ after → before ++ rest ≡ whole
+    → (before ++ x ∷ []) ++ after ≡ whole
 moves-on before rest after whole x e inv = append_assoc before (x ∷ []) after ∙ ap (λ xs. before ++ xs) (sym e) ∙ inv
 
 -- what is found is the first place of those, or the one after them
@@ -46,7 +48,8 @@ is-first frames p (suc n) = by (is_some (frames p)) refl (is-first frames (suc p
         dead r le lt true t f = f.none r (grind (arith, nat_tests, t)) lt
         dead r le lt false t f = let same : p ≡ r = grind (arith, nat_tests, t) in subst (λ (k : ℕ). is_some (frames k) ≡ false) same e
 
-    by : (b : Bool) → is_some (frames p) ≡ b → IsFirst frames (suc p) n (first_of frames (suc p) n) → IsFirst frames p (suc n) (if b then p else first_of frames (suc p) n)
+    by : (b : Bool) → is_some (frames p) ≡ b → IsFirst frames (suc p) n (first_of frames (suc p) n)
+        → IsFirst frames p (suc n) (if b then p else first_of frames (suc p) n)
     by true e f = record { from = omega arith; to = omega arith; there = λ lt. e; none = λ r le lt. absurd (omega arith) }
     by false e f = later e (first_of frames (suc p) n) f
 
@@ -88,21 +91,24 @@ module _ (s : Source) (listed : AreListed s.method.code) (has : HasFrames s) whe
       let f = first-is h.start in
       by (nat_lt (first_reached s h.start) h.end) refl f
     where
-      by : (b : Bool) → nat_lt (first_reached s h.start) h.end ≡ b → IsFirst s.frames h.start (length s.method.code - h.start) (first_reached s h.start) → b ≡ true
+      by : (b : Bool) → nat_lt (first_reached s h.start) h.end ≡ b → IsFirst s.frames h.start (length s.method.code - h.start)
+          (first_reached s h.start) → b ≡ true
       by true e f = refl
       by false e f =
           let past : h.end ≤ first_reached s h.start = grind (arith, nat_tests, e) in
           let dead = f.none l.place l.covers.from (omega (arith, past, l.covers.before)) in
           absurd (both_ways (is_some (s.frames l.place)) dead (there l.place l.reached))
 
-  pub keeps-live : All (IsHandlerOf s.method.code) s.method.rec.handlers → (n : ℕ) (before hs : List Handler) → before ++ hs ≡ s.method.rec.handlers → KeepsLive s.method hs (ranges_from s n hs)
+  pub keeps-live : All (IsHandlerOf s.method.code) s.method.rec.handlers → (n : ℕ) (before hs : List Handler) → before ++ hs ≡ s.method.rec.handlers
+      → KeepsLive s.method hs (ranges_from s n hs)
   keeps-live formed n before [] e = none_left
   keeps-live formed n before (h ∷ hs) e =
       let c = stands-next before (h ∷ hs) hs s.method.rec.handlers h refl e in
       by (is_live s h) refl (All-contains (IsHandlerOf s.method.code) s.method.rec.handlers h formed c) c
       (keeps-live formed (suc n) (before ++ h ∷ []) hs (moves-on before (h ∷ hs) hs s.method.rec.handlers h refl e))
     where
-      by : (b : Bool) → is_live s h ≡ b → IsHandlerOf s.method.code h → Contains s.method.rec.handlers h → KeepsLive s.method hs (ranges_from s (suc n) hs)
+      by : (b : Bool) → is_live s h ≡ b → IsHandlerOf s.method.code h → Contains s.method.rec.handlers h
+          → KeepsLive s.method hs (ranges_from s (suc n) hs)
           → KeepsLive s.method (h ∷ hs) ((if b then range s n h ∷ [] else []) ++ ranges_from s (suc n) hs)
       by true e is c rest = live_kept (live-is h is c e) refl rest
       by false e is c rest = dead_left (λ l. both_ways (is_live s h) e (is-live h is l)) rest

@@ -1,5 +1,6 @@
 -- Each label of a rewritten method stands once.
-use Rattle.std.proofs.Common.{◌≡◌, ◌≢◌, ◌⊎◌, ℕ, zero, suc, ◌+◌, true, if◌then◌else◌, inl, inr, List, [], ◌∷◌, ◌++◌, flat_map, length, Contains, Option, Some, None, Result, Ok, Err, refl, sym, ◌∙◌, ap, subst, arith}
+use Rattle.std.proofs.Common.{◌≡◌, ◌≢◌, ◌⊎◌, ℕ, zero, suc, ◌+◌, true, if◌then◌else◌, inl, inr, List, [], ◌∷◌, ◌++◌}
+use Rattle.std.proofs.Common.{flat_map, length, Contains, Option, Some, None, Result, Ok, Err, refl, sym, ◌∙◌, ap, subst, arith}
 use Rattle.std.specs.Prelude.{ℤ, is_some, slice_get}
 use Rattle.jc_base.specs.Each.{IsAmong}
 use Rattle.jc_base.specs.declared.record.Handler.{Handler}
@@ -29,7 +30,8 @@ in-left l xs ys a = subst (IsAmong l) (sym (labels-append xs ys)) (among-left l 
 in-right : (l : ℕ) (xs ys : List Item) → IsAmong l (labels ys) → IsAmong l (labels (xs ++ ys))
 in-right l xs ys a = subst (IsAmong l) (sym (labels-append xs ys)) (among-right l (labels xs) (labels ys) a)
 
-in-flat : {X : Type 0} (f : X → List Item) (xs : List X) (x : X) (l : ℕ) → Contains xs x → IsAmong l (labels (f x)) → IsAmong l (labels (flat_map f xs))
+in-flat : {X : Type 0} (f : X → List Item) (xs : List X) (x : X) (l : ℕ) → Contains xs x → IsAmong l (labels (f x))
+    → IsAmong l (labels (flat_map f xs))
 in-flat f [] x l c a = absurd (nothing-in x c)
 in-flat f (y ∷ ys) x l c a = by (Contains-either y ys x c) (λ r. in-flat f ys x l r a)
   where
@@ -46,7 +48,8 @@ filled : (copied : List Item) (l : ℕ) → copied ≢ [] → IsAmong l (label_i
 filled [] l some = absurd (some refl)
 filled (i ∷ is) l some = inl refl
 
-in-stubs : (s : Source) (p : ℕ) (op : Operation) (n from k : ℕ) (ts : List ℤ) (t : ℤ) → slice_get ts k ≡ Some t → branch_copies s p op n (place t) ≢ [] → IsAmong (stub_label p (from + k)) (labels (stubs_of s p op n from ts))
+in-stubs : (s : Source) (p : ℕ) (op : Operation) (n from k : ℕ) (ts : List ℤ) (t : ℤ) → slice_get ts k ≡ Some t
+    → branch_copies s p op n (place t) ≢ [] → IsAmong (stub_label p (from + k)) (labels (stubs_of s p op n from ts))
 in-stubs s p op n from k [] t at some = absurd (cc)
 in-stubs s p op n from zero (u ∷ us) t at some =
     let same : u ≡ t = cc in
@@ -60,7 +63,8 @@ in-stubs s p op n from (suc k) (u ∷ us) t at some =
     in-right (stub_label p (from + suc k)) (stub s p op n from u) (stubs_of s p op n (suc from) us)
     (subst (λ (j : ℕ). IsAmong (stub_label p j) (labels (stubs_of s p op n (suc from) us))) next (in-stubs s p op n (suc from) k us t at some))
 
-in-caught : (s : Source) (from n : ℕ) (hs : List Handler) (h : Handler) → slice_get hs n ≡ Some h → is_live s h ≡ true → IsAmong (handler_label (from + n)) (labels (catching_stubs s from hs))
+in-caught : (s : Source) (from n : ℕ) (hs : List Handler) (h : Handler) → slice_get hs n ≡ Some h → is_live s h ≡ true
+    → IsAmong (handler_label (from + n)) (labels (catching_stubs s from hs))
 in-caught s from n [] h at live = absurd (cc)
 in-caught s from zero (g ∷ gs) h at live =
     let same : g ≡ h = cc in
@@ -81,11 +85,15 @@ module _ (s : Source) where
   among-groups : (l : ℕ) → IsAmong l (labels (flat_map (group s) (listing s.method.code))) → IsAmong l (labels (items s))
   among-groups l a = subst (IsAmong l) (sym (all-labels s)) (among-left l (labels (flat_map (group s) (listing s.method.code))) _ a)
 
-  among-rest : (l : ℕ) → IsAmong l (length s.method.code ∷ labels (flat_map (stubs s) (listing s.method.code) ++ catching_stubs s 0 s.method.rec.handlers)) → IsAmong l (labels (items s))
+  among-rest : (l : ℕ)
+      → IsAmong l (length s.method.code ∷ labels (flat_map (stubs s) (listing s.method.code) ++ catching_stubs s 0 s.method.rec.handlers))
+      → IsAmong l (labels (items s))
   among-rest l a = subst (IsAmong l) (sym (all-labels s)) (among-right l (labels (flat_map (group s) (listing s.method.code))) _ a)
 
-  stub-there : (i : Placed) (op : Operation) (n k : ℕ) (t : ℤ) → is_some (s.frames i.place) ≡ true → operation s i ≡ Ok op → operands_of s.world (Ok op) ≡ Some n
-      → slice_get (targets s.method.code i) k ≡ Some t → branch_copies s i.place op n (place t) ≢ [] → IsAmong (stub_label i.place k) (labels (stubs s i))
+  stub-there : (i : Placed) (op : Operation) (n k : ℕ) (t : ℤ) → is_some (s.frames i.place) ≡ true → operation s i ≡ Ok op
+      → operands_of s.world (Ok op) ≡ Some n
+      → slice_get (targets s.method.code i) k ≡ Some t → branch_copies s i.place op n (place t) ≢ []
+      → IsAmong (stub_label i.place k) (labels (stubs s i))
   unfolding stubs
   stub-there i op n k t reached is asks at some = by-frame (s.frames i.place) reached
     where
@@ -97,13 +105,15 @@ module _ (s : Source) where
       by-operands (Some m) e =
           let same : n ≡ m = cc in
           subst (λ (j : ℕ). IsAmong (stub_label i.place k) (labels (stubs_of s i.place op j 0 (targets s.method.code i)))) same
-          (subst (λ (j : ℕ). IsAmong (stub_label i.place j) (labels (stubs_of s i.place op n 0 (targets s.method.code i)))) zero-first (in-stubs s i.place op n 0 k (targets s.method.code i) t at some))
+          (subst (λ (j : ℕ). IsAmong (stub_label i.place j) (labels (stubs_of s i.place op n 0 (targets s.method.code i)))) zero-first
+          (in-stubs s i.place op n 0 k (targets s.method.code i) t at some))
 
       by-operation : (r : Result Operation RuleFault) → r ≡ Ok op → IsAmong (stub_label i.place k) (labels (stubs_done s i r))
       by-operation (Err fault) e = absurd (cc)
       by-operation (Ok other) e =
           let same : op ≡ other = cc in
-          subst (λ (o : Operation). IsAmong (stub_label i.place k) (labels (stubs_by s i o (operands_of s.world (Ok o))))) same (by-operands (operands_of s.world (Ok op)) asks)
+          subst (λ (o : Operation). IsAmong (stub_label i.place k) (labels (stubs_by s i o (operands_of s.world (Ok o))))) same
+          (by-operands (operands_of s.world (Ok op)) asks)
 
       by-frame : (f : Option Frame) → is_some f ≡ true → IsAmong (stub_label i.place k) (labels (stubs_at s i f))
       by-frame None e = absurd (cc)
@@ -120,8 +130,10 @@ module _ (s : Source) where
       let first : 0 + n ≡ n = omega arith in
       among-rest (handler_label n)
       (inr (in-right (handler_label n) (flat_map (stubs s) (listing s.method.code)) (catching_stubs s 0 s.method.rec.handlers)
-      (subst (λ (j : ℕ). IsAmong (handler_label j) (labels (catching_stubs s 0 s.method.rec.handlers))) first (in-caught s 0 n s.method.rec.handlers h at live))))
+      (subst (λ (j : ℕ). IsAmong (handler_label j) (labels (catching_stubs s 0 s.method.rec.handlers))) first
+      (in-caught s 0 n s.method.rec.handlers h at live))))
 
 pub labels-stand-once : LabelsStandOnce
 labels-stand-once s code l named =
-    count-labels l (items s) ∙ count-among 0 (handler_label 256) l (labels (items s)) (all-rise s code.bytes code.lists code.short code.few) (named-among s l named)
+    count-labels l (items s) ∙ count-among 0 (handler_label 256) l (labels (items s)) (all-rise s code.bytes code.lists code.short code.few)
+    (named-among s l named)

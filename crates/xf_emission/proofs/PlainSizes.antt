@@ -1,5 +1,7 @@
 -- The plain size of a rewritten method: each edge has no more copies than there are homes.
-use Rattle.std.proofs.Common.{◌≡◌, ℕ, zero, suc, ◌+◌, ◌-◌, ◌*◌, ◌≤◌, Bool, true, false, if◌then◌else◌, inl, inr, List, [], ◌∷◌, ◌++◌, map, reverse, flat_map, length, Option, Some, None, Result, Ok, Err, refl, sym, ◌∙◌, ap, subst, arith, length-append}
+use Rattle.std.proofs.Common.{◌≡◌, ℕ, zero, suc, ◌+◌, ◌-◌, ◌*◌, ◌≤◌, Bool, true, false, if◌then◌else◌, inl, inr, List, []}
+use Rattle.std.proofs.Common.{◌∷◌, ◌++◌, map, reverse, flat_map, length, Option, Some, None, Result, Ok, Err, refl, sym, ◌∙◌, ap, subst, arith}
+use Rattle.std.proofs.Common.{length-append}
 use Rattle.std.specs.Prelude.{ℤ, pos, is_some, nat_lt, nat_le, sum_by, count_by, cond, IsSomeAnd}
 use Rattle.std.specs.List.{filter}
 use Rattle.std.proofs.lemmas.List.{length-reverse}
@@ -48,8 +50,10 @@ use Rattle.xf_emission.specs.declared.origin.Origin.{Origin}
 use Rattle.xf_emission.specs.declared.origin.Origin.TheVariants.{Start, After, Entry}
 use Rattle.xf_emission.specs.Move.{with_byte, load_op, store_op, load, store, copy, loads, spill}
 use Rattle.xf_emission.specs.Edge.{home_before, homes_held, copy_new, copies_from, local_copies, locals_copies, copies, cell_copies}
-use Rattle.xf_emission.specs.Jump.{under, operands, has_under, spill_if, branch_copies, place, leads, jump_to, branch, goto, stub, stub_of, stub_label, stubs_of, handler_label, operands_slot}
-use Rattle.xf_emission.specs.Group.{itself, loaded, increased, pop_item, store_to_homes, stays, field_read, field_written, swap_words, gone, first_place, branch_by, body, fall, fall_over, fall_by, fallen, entrance, done, group_by, group}
+use Rattle.xf_emission.specs.Jump.{under, operands, has_under, spill_if, branch_copies, place, leads, jump_to, branch, goto, stub, stub_of, stub_label}
+use Rattle.xf_emission.specs.Jump.{stubs_of, handler_label, operands_slot}
+use Rattle.xf_emission.specs.Group.{itself, loaded, increased, pop_item, store_to_homes, stays, field_read, field_written, swap_words, gone, first_place}
+use Rattle.xf_emission.specs.Group.{branch_by, body, fall, fall_over, fall_by, fallen, entrance, done, group_by, group}
 use Rattle.xf_emission.specs.Emission.{stubs, stubs_at, stubs_by, stubs_done, is_live, catching_stub, catching_stubs, items}
 use Rattle.xf_emission.specs.Laws.{IsCode, HasFrames, PlainSizeFits}
 use Rattle.xf_emission.proofs.Fewer.{Distinct, no-longer, either-among, distinct-append}
@@ -138,7 +142,9 @@ module _ (s : Source) where
     where
       by : (h : Option Home) → plain_size (copies_from s o q x h) ≤ 4 * length (needed s q x)
       by None = omega (arith, none-size)
-      by (Some from) = each-copied (copy_new s from (homes_held s o x from)) (needed s q x) (λ to. if-size (has (homes_held s o x from) to) [] (copy s from to) 4 (omega (arith, none-size)) (copy-size from to))
+      by (Some from) =
+          each-copied (copy_new s from (homes_held s o x from)) (needed s q x)
+          (λ to. if-size (has (homes_held s o x from) to) [] (copy s from to) 4 (omega (arith, none-size)) (copy-size from to))
 
   -- what is needed of so many locals from x on
   abbrev needed_from : ℕ → ℕ → ℕ → List Home
@@ -148,13 +154,25 @@ module _ (s : Source) where
   locals-size : (o : Origin) (q x n : ℕ) → plain_size (locals_copies s o q x n) ≤ 4 * length (needed_from q x n)
   locals-size o q x zero = omega (arith, none-size)
   locals-size o q x (suc n) =
-      omega (arith, append-size (local_copies s o q x) (locals_copies s o q (suc x) n), local-size o q x, locals-size o q (suc x) n, length-append (needed s q x) (needed_from q (suc x) n))
+      omega (
+        arith,
+        append-size (local_copies s o q x) (locals_copies s o q (suc x) n),
+        local-size o q x,
+        locals-size o q (suc x) n,
+        length-append (needed s q x) (needed_from q (suc x) n),
+      )
 
   cells-size : (hs ks : List Home) → plain_size (cell_copies s hs ks) ≤ 4 * length hs
   cells-size [] ks = omega (arith, none-size)
   cells-size (h ∷ hs) [] = omega (arith, none-size)
   cells-size (h ∷ hs) (k ∷ ks) =
-      omega (arith, append-size (if same_home h k then [] else copy s h k) (cell_copies s hs ks), if-size (same_home h k) [] (copy s h k) 4 (omega (arith, none-size)) (copy-size h k), cells-size hs ks)
+      omega (
+        arith,
+        append-size (if same_home h k then [] else copy s h k) (cell_copies s hs ks),
+        if-size (same_home h k) [] (copy s h k) 4
+            (omega (arith, none-size)) (copy-size h k),
+        cells-size hs ks,
+      )
 
   cells-few : (slot : ℕ) (ts : List Ty) (i n : ℕ) → length (cells_from slot ts i n) ≤ n
   cells-few slot ts i zero = omega arith
@@ -185,7 +203,8 @@ module _ (same : SameTypeDecides) (kept_are : NeededAreKept) (s : Source) (has_f
   in-homes n [] h r e = absurd (cc)
   in-homes n (k ∷ ks) h r e = by (same_home k h) refl e (λ f. in-homes (n + home_width k.ty) ks h r f)
     where
-      by : (b : Bool) → same_home k h ≡ b → (if b then Some n else register_from (n + home_width k.ty) ks h) ≡ Some r → (register_from (n + home_width k.ty) ks h ≡ Some r → IsAmong h ks) → IsAmong h (k ∷ ks)
+      by : (b : Bool) → same_home k h ≡ b → (if b then Some n else register_from (n + home_width k.ty) ks h) ≡ Some r
+          → (register_from (n + home_width k.ty) ks h ≡ Some r → IsAmong h ks) → IsAmong h (k ∷ ks)
       by true q e rest = inl (homes-equal same k h q)
       by false q e rest = inr (rest e)
 
@@ -195,7 +214,8 @@ module _ (same : SameTypeDecides) (kept_are : NeededAreKept) (s : Source) (has_f
 
   asked-home : (q x n : ℕ) (ty : Ty) → IsAsked s.method s.frames q x n ty → HasRegister s.homes (record { slot = x; ty = ty })
   asked-home q x _ ty (asked_here at) = serve.needed q x ty ((has_frames.reached q).0 (framed (s.frames q) _ at)) (0, asked_here at)
-  asked-home q x _ ty (asked_caught {n = n} {h = h} there covers at) = serve.needed h.entry x ty ((has_frames.reached h.entry).0 (framed (s.frames h.entry) _ at)) (0, asked_here at)
+  asked-home q x _ ty (asked_caught {n = n} {h = h} there covers at) =
+      serve.needed h.entry x ty ((has_frames.reached h.entry).0 (framed (s.frames h.entry) _ at)) (0, asked_here at)
 
   needed-are : (q x : ℕ) → AreNeeded s.method s.frames q x (needed s q x)
   unfolding needed
@@ -225,7 +245,8 @@ module _ (same : SameTypeDecides) (kept_are : NeededAreKept) (s : Source) (has_f
   slots-from : (q x n : ℕ) (h : Home) → IsAmong h (needed_from s q x n) → x ≤ h.slot
   slots-from q x zero h a = absurd a
   slots-from q x (suc n) h a =
-      either-among (λ (k : Home). x ≤ k.slot) (needed s q x) (needed_from s q (suc x) n) (λ k b. omega (arith, slot-of q x k b)) (λ k b. omega (arith, slots-from q (suc x) n k b)) h a
+      either-among (λ (k : Home). x ≤ k.slot) (needed s q x) (needed_from s q (suc x) n) (λ k b. omega (arith, slot-of q x k b))
+      (λ k b. omega (arith, slots-from q (suc x) n k b)) h a
 
   all-distinct : (q x n : ℕ) → Distinct (needed_from s q x n)
   all-distinct q x zero = tt
@@ -235,7 +256,9 @@ module _ (same : SameTypeDecides) (kept_are : NeededAreKept) (s : Source) (has_f
 
   all-homes : (q x n : ℕ) (h : Home) → IsAmong h (needed_from s q x n) → IsAmong h s.homes
   all-homes q x zero h a = absurd a
-  all-homes q x (suc n) h a = either-among (λ (k : Home). IsAmong k s.homes) (needed s q x) (needed_from s q (suc x) n) (λ k b. needed-home q x k b) (λ k b. all-homes q (suc x) n k b) h a
+  all-homes q x (suc n) h a =
+      either-among (λ (k : Home). IsAmong k s.homes) (needed s q x) (needed_from s q (suc x) n) (λ k b. needed-home q x k b)
+      (λ k b. all-homes q (suc x) n k b) h a
 
   homes-few : (hs : List Home) → length hs ≤ sum_by (λ (h : Home). home_width h.ty) hs
   homes-few [] = omega arith
@@ -278,7 +301,13 @@ module _ (same : SameTypeDecides) (kept_are : NeededAreKept) (s : Source) (has_f
       taken-size : (p : ℕ) (op : Operation) (n q : ℕ) → plain_size (branch_copies s p op n q) ≤ 2040
       unfolding branch_copies
       taken-size p op n q =
-          omega (arith, append-size (cell_copies s (under s p n) (stack_homes s q)) (copies s (After p op) q), cells-size s (under s p n) (stack_homes s q), under-few p n, copies-size (After p op) q)
+          omega (
+            arith,
+            append-size (cell_copies s (under s p n) (stack_homes s q)) (copies s (After p op) q),
+            cells-size s (under s p n) (stack_homes s q),
+            under-few p n,
+            copies-size (After p op) q,
+          )
 
       spilled : (p : ℕ) → plain_size (spill s (stack_homes s p)) ≤ 510
       spilled p = omega (arith, spill-size s (stack_homes s p), stack-few p)
@@ -296,7 +325,13 @@ module _ (same : SameTypeDecides) (kept_are : NeededAreKept) (s : Source) (has_f
 
         increased-size : (h : Option Home) → plain_size (increased s i h) ≤ i.insn.len + 13
         increased-size None = kept-size
-        increased-size (Some h) = omega (arith, cons-size (Plain (record i.insn { x = pos (register s h) })) [], none-size, plain-length (record i.insn { x = pos (register s h) }))
+        increased-size (Some h) =
+            omega (
+              arith,
+              cons-size (Plain (record i.insn { x = pos (register s h) })) [],
+              none-size,
+              plain-length (record i.insn { x = pos (register s h) }),
+            )
 
         popped-size : (letter : Sort) → plain_bytes (pop_item letter) ≤ 14
         popped-size sorts.Int = plain-length (record { op = 60; x = pos 0; y = pos 0; z = pos 0; len = 1 })
@@ -304,13 +339,15 @@ module _ (same : SameTypeDecides) (kept_are : NeededAreKept) (s : Source) (has_f
 
         stored-size : (letter : Sort) (hs : List Home) → length hs ≤ 255 → plain_size (store_to_homes s letter hs) ≤ 1036
         stored-size letter [] le = omega (arith, cons-size (pop_item letter) [], none-size, popped-size letter)
-        stored-size letter (h ∷ hs) le = omega (arith, cons-size (store s h) (flat_map (copy s h) hs), store-size s h, each-copied s (copy s h) hs (copy-size s h), le)
+        stored-size letter (h ∷ hs) le =
+            omega (arith, cons-size (store s h) (flat_map (copy s h) hs), store-size s h, each-copied s (copy s h) hs (copy-size s h), le)
 
         read-size : (h : Option Home) → plain_size (field_read s i h) ≤ i.insn.len + 15
         read-size None = omega (arith, kept-size)
         read-size (Some h) =
             let j : Insn = record i.insn { op = i.insn.op - 42 } in
-            if-size (stays s h) (itself i) (load s h ∷ Plain j ∷ []) (i.insn.len + 15) (omega (arith, kept-size)) (omega (arith, cons-size (load s h) (Plain j ∷ []), cons-size (Plain j) [], none-size, load-size s h, plain-length j))
+            if-size (stays s h) (itself i) (load s h ∷ Plain j ∷ []) (i.insn.len + 15) (omega (arith, kept-size))
+            (omega (arith, cons-size (load s h) (Plain j ∷ []), cons-size (Plain j) [], none-size, load-size s h, plain-length j))
 
         written-size : (k : Kind) (h : Option Home) → plain_size (field_written s i k h) ≤ i.insn.len + 30
         written-size k None = omega (arith, kept-size)
@@ -318,7 +355,16 @@ module _ (same : SameTypeDecides) (kept_are : NeededAreKept) (s : Source) (has_f
             let j : Insn = record i.insn { op = i.insn.op - 46 } in
             let swap : Insn = with_byte 64 (swap_words k) in
             if-size (stays s h) (itself i) (load s h ∷ Plain swap ∷ Plain j ∷ []) (i.insn.len + 30) (omega (arith, kept-size))
-            (omega (arith, cons-size (load s h) (Plain swap ∷ Plain j ∷ []), cons-size (Plain swap) (Plain j ∷ []), cons-size (Plain j) [], none-size, load-size s h, plain-length swap, plain-length j))
+            (omega (
+              arith,
+              cons-size (load s h) (Plain swap ∷ Plain j ∷ []),
+              cons-size (Plain swap) (Plain j ∷ []),
+              cons-size (Plain j) [],
+              none-size,
+              load-size s h,
+              plain-length swap,
+              plain-length j,
+            ))
 
         jump-size : (ls : List ℕ) → plain_bytes (jump_to i op ls) ≤ i.insn.len + 13
         jump-size ls = by op
@@ -332,7 +378,13 @@ module _ (same : SameTypeDecides) (kept_are : NeededAreKept) (s : Source) (has_f
         branch-size n =
             let ls = leads s i.place op n 0 (targets s.method.code i) in
             let spilt : plain_size (spill s (stack_homes s i.place) ++ loads s (operands s i.place n)) ≤ 1020 =
-            omega (arith, append-size (spill s (stack_homes s i.place)) (loads s (operands s i.place n)), spilled i.place, loads-size s (operands s i.place n), operands-few i.place n) in
+            omega (
+              arith,
+              append-size (spill s (stack_homes s i.place)) (loads s (operands s i.place n)),
+              spilled i.place,
+              loads-size s (operands s i.place n),
+              operands-few i.place n,
+            ) in
             omega (
               arith,
               append-size (spill_if (has_under s i.place n) s i.place n) (jump_to i op ls ∷ []),
@@ -370,20 +422,29 @@ module _ (same : SameTypeDecides) (kept_are : NeededAreKept) (s : Source) (has_f
         fall-by-size None q = omega (arith, fall-size q)
         fall-by-size (Some n) q =
             let back : plain_size (copies s (After i.place op) q ++ loads s (under s i.place n)) ≤ 2040 =
-            omega (arith, append-size (copies s (After i.place op) q) (loads s (under s i.place n)), copies-size (After i.place op) q, loads-size s (under s i.place n), under-few i.place n) in
+            omega (
+              arith,
+              append-size (copies s (After i.place op) q) (loads s (under s i.place n)),
+              copies-size (After i.place op) q,
+              loads-size s (under s i.place n),
+              under-few i.place n,
+            ) in
             if-size (has_under s i.place n) (fall_over s i.place op n q) (fall s i.place op q) 2040
-            (if-size (is_leader s q) (branch_copies s i.place op n q) (copies s (After i.place op) q ++ loads s (under s i.place n)) 2040 (taken-size i.place op n q) back) (omega (arith, fall-size q))
+            (if-size (is_leader s q) (branch_copies s i.place op n q) (copies s (After i.place op) q ++ loads s (under s i.place n)) 2040
+            (taken-size i.place op n q) back) (omega (arith, fall-size q))
 
         fallen-size : plain_size (fallen s i op) ≤ 2040
         unfolding fallen
         fallen-size =
-            if-size (falls_from op) (fall_by s i.place op (operands_of s.world (Ok op)) (i.place + i.insn.len)) [] 2040 (fall-by-size (operands_of s.world (Ok op)) (i.place + i.insn.len)) (omega (arith, none-size))
+            if-size (falls_from op) (fall_by s i.place op (operands_of s.world (Ok op)) (i.place + i.insn.len)) [] 2040
+            (fall-by-size (operands_of s.world (Ok op)) (i.place + i.insn.len)) (omega (arith, none-size))
 
       body-size : (i : Placed) (op : Operation) → plain_size (body s i op) ≤ i.insn.len + 1533
       unfolding body
       body-size i (ops.Load letter x) = omega (arith, loaded-size i (ops.Load letter x) (local s i.place x))
       body-size i (ops.Increment operand_width x amount) = omega (arith, increased-size i (ops.Increment operand_width x amount) (local s i.place x))
-      body-size i (ops.Store letter x) = omega (arith, stored-size i (ops.Store letter x) letter (needed s (i.place + i.insn.len) x) (one-few (i.place + i.insn.len) x))
+      body-size i (ops.Store letter x) =
+          omega (arith, stored-size i (ops.Store letter x) letter (needed s (i.place + i.insn.len) x) (one-few (i.place + i.insn.len) x))
       body-size i (ops.FieldRead f holders.This) = omega (arith, read-size i (ops.FieldRead f holders.This) (local s i.place 0))
       body-size i (ops.FieldWrite f holders.This) = omega (arith, written-size i (ops.FieldWrite f holders.This) f.kind (local s i.place 0))
       body-size i (ops.Branch branches.Always) = omega (arith, gone-size i (ops.Branch branches.Always) (first_place (targets s.method.code i)))
@@ -398,7 +459,8 @@ module _ (same : SameTypeDecides) (kept_are : NeededAreKept) (s : Source) (has_f
               omega (
                 arith,
                 cons-size (Label i.place) (if is_leader s i.place then loads s (stack_homes s i.place) else []),
-                if-size (is_leader s i.place) (loads s (stack_homes s i.place)) [] 510 (omega (arith, loads-size s (stack_homes s i.place), stack-few i.place)) (omega (arith, none-size)),
+                if-size (is_leader s i.place) (loads s (stack_homes s i.place)) [] 510
+                    (omega (arith, loads-size s (stack_homes s i.place), stack-few i.place)) (omega (arith, none-size)),
               )
 
           done-size : (r : Result Operation RuleFault) → plain_size (done s i r) ≤ i.insn.len + 3573
@@ -471,13 +533,15 @@ module _ (same : SameTypeDecides) (kept_are : NeededAreKept) (s : Source) (has_f
         decoded-there : (at : ℕ) (i : Placed) → i.place ≡ at → decoded s.method.code at ≡ Ok i.insn → decoded s.method.code i.place ≡ Ok i.insn
         decoded-there at i e d = ap (decoded s.method.code) e ∙ d
 
-        groups-size : (at : ℕ) (is : List Placed) → Lists s.method.code at is → at ≤ length s.method.code → plain_size (flat_map (group s) is) + 4084 * at ≤ 4084 * length s.method.code
+        groups-size : (at : ℕ) (is : List Placed) → Lists s.method.code at is → at ≤ length s.method.code
+            → plain_size (flat_map (group s) is) + 4084 * at ≤ 4084 * length s.method.code
         groups-size at [] l le = omega (arith, none-size)
         groups-size at (i ∷ is) l le =
             let w = IsWithin-decoded s.method.code at i.insn l.1 in
             omega (arith, append-size (group s i) (flat_map (group s) is), group-size i, w.one, groups-size (at + i.insn.len) is l.2 w.reaches)
 
-        all-stubs-size : (at : ℕ) (is : List Placed) → Lists s.method.code at is → at ≤ length s.method.code → plain_size (flat_map (stubs s) is) + 2043 * at ≤ 2043 * length s.method.code
+        all-stubs-size : (at : ℕ) (is : List Placed) → Lists s.method.code at is → at ≤ length s.method.code
+            → plain_size (flat_map (stubs s) is) + 2043 * at ≤ 2043 * length s.method.code
         all-stubs-size at [] l le = omega (arith, none-size)
         all-stubs-size at (i ∷ is) l le =
             let w = IsWithin-decoded s.method.code at i.insn l.1 in

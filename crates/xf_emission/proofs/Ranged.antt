@@ -1,5 +1,6 @@
 -- The ranges of a rewritten method are such as are laid.
-use Rattle.std.proofs.Common.{◌≡◌, ◌⊎◌, ℕ, suc, ◌-◌, ◌<◌, ◌≤◌, Bool, true, false, if◌then◌else◌, inl, inr, List, [], ◌∷◌, ◌++◌, length, All, refl, sym, ◌∙◌, ap, subst, arith, length-append, ne_of_lt}
+use Rattle.std.proofs.Common.{◌≡◌, ◌⊎◌, ℕ, suc, ◌-◌, ◌<◌, ◌≤◌, Bool, true, false, if◌then◌else◌, inl, inr, List, []}
+use Rattle.std.proofs.Common.{◌∷◌, ◌++◌, length, All, refl, sym, ◌∙◌, ap, subst, arith, length-append, ne_of_lt}
 use Rattle.std.specs.Prelude.{is_some, nat_lt, ◌==◌, slice_get, Some}
 use Rattle.std.proofs.lemmas.Bool.Decides.{nat_tests}
 use Rattle.std.proofs.lemmas.List.Elements.{All-contains}
@@ -38,7 +39,8 @@ place-rises low high a b (Label m ∷ xs) r at le = by (m == a) refl at (λ late
     above low high l (k ∷ ks) r (inl e) = omega (arith, r.0, e)
     above low high l (k ∷ ks) r (inr at) = omega (arith, r.0, above (suc k) high l ks r.2 at)
 
-    by : (c : Bool) → (m == a) ≡ c → (m ≡ a) ⊎ IsAmong a (labels xs) → (IsAmong a (labels xs) → place_of a xs ≤ place_of b xs) → (if c then 0 else place_of a xs) ≤ (if m == b then 0 else place_of b xs)
+    by : (c : Bool) → (m == a) ≡ c → (m ≡ a) ⊎ IsAmong a (labels xs) → (IsAmong a (labels xs) → place_of a xs ≤ place_of b xs)
+        → (if c then 0 else place_of a xs) ≤ (if m == b then 0 else place_of b xs)
     by true e at rest = omega arith
     by false e (inl same) rest = absurd (both_ways (m == a) e (ap (λ k. m == k) (sym same) ∙ itself m))
       where
@@ -62,8 +64,10 @@ module _ (s : Source) (code : IsCode s) (placed : (p : ℕ) → is_some (s.frame
   first-label : (p : ℕ) → p ≤ length s.method.code → IsLabelOf s (first_reached s p)
   first-label p le = by (nat_lt (first_reached s p) (length s.method.code)) refl (first-is p)
     where
-      by : (b : Bool) → nat_lt (first_reached s p) (length s.method.code) ≡ b → IsFirst s.frames p (length s.method.code - p) (first_reached s p) → IsLabelOf s (first_reached s p)
-      by true e f = let lt : first_reached s p < length s.method.code = grind (arith, nat_tests, e) in place-label (first_reached s p) (f.there (omega (arith, lt)))
+      by : (b : Bool) → nat_lt (first_reached s p) (length s.method.code) ≡ b → IsFirst s.frames p (length s.method.code - p) (first_reached s p)
+          → IsLabelOf s (first_reached s p)
+      by true e f =
+          let lt : first_reached s p < length s.method.code = grind (arith, nat_tests, e) in place-label (first_reached s p) (f.there (omega (arith, lt)))
       by false e f =
           let past : length s.method.code ≤ first_reached s p = grind (arith, nat_tests, e) in
           let same : length s.method.code ≡ first_reached s p = omega (arith, past, f.to, le) in
@@ -72,17 +76,21 @@ module _ (s : Source) (code : IsCode s) (placed : (p : ℕ) → is_some (s.frame
   first-rises : (p q : ℕ) → p ≤ q → q ≤ length s.method.code → first_reached s p ≤ first_reached s q
   first-rises p q le within = by (nat_lt (first_reached s q) (first_reached s p)) refl (first-is p) (first-is q)
     where
-      by : (b : Bool) → nat_lt (first_reached s q) (first_reached s p) ≡ b → IsFirst s.frames p (length s.method.code - p) (first_reached s p) → IsFirst s.frames q (length s.method.code - q) (first_reached s q)
+      by : (b : Bool) → nat_lt (first_reached s q) (first_reached s p) ≡ b → IsFirst s.frames p (length s.method.code - p) (first_reached s p)
+          → IsFirst s.frames q (length s.method.code - q) (first_reached s q)
           → first_reached s p ≤ first_reached s q
       by false e f g = grind (arith, nat_tests, e)
       by true e f g =
           let lt : first_reached s q < first_reached s p = grind (arith, nat_tests, e) in
-          absurd (both_ways (is_some (s.frames (first_reached s q))) (f.none (first_reached s q) (omega (arith, g.from)) lt) (g.there (omega (arith, lt, f.to))))
+          absurd
+          (both_ways (is_some (s.frames (first_reached s q))) (f.none (first_reached s q) (omega (arith, g.from)) lt)
+          (g.there (omega (arith, lt, f.to))))
 
   once : (l : ℕ) → IsLabelOf s l → IsOnce (items s) l
   once l named = labels-stand-once s code l named
 
-  within : (h : Handler) → IsHandlerOf s.method.code h → ((i : Placed) → HasInstruction s.method.code i → i.place < length s.method.code) → (h.start ≤ length s.method.code) × (h.end ≤ length s.method.code)
+  within : (h : Handler) → IsHandlerOf s.method.code h → ((i : Placed) → HasInstruction s.method.code i → i.place < length s.method.code)
+      → (h.start ≤ length s.method.code) × (h.end ≤ length s.method.code)
   within h is inside = (by-place is.start, by-end is.end)
     where
       by-place : IsPlace s.method.code h.start → h.start ≤ length s.method.code
@@ -92,8 +100,10 @@ module _ (s : Source) (code : IsCode s) (placed : (p : ℕ) → is_some (s.frame
       by-end (inl e) = omega (arith, e)
       by-end (inr (i, st, e)) = omega (arith, inside i st, e)
 
-  module _ (inside : (i : Placed) → HasInstruction s.method.code i → i.place < length s.method.code) (formed : All (IsHandlerOf s.method.code) s.method.rec.handlers) where
-    range-suits : (n : ℕ) (h : Handler) → slice_get s.method.rec.handlers n ≡ Some h → IsHandlerOf s.method.code h → is_live s h ≡ true → IsRange (items s) (range s n h)
+  module _ (inside : (i : Placed) → HasInstruction s.method.code i → i.place < length s.method.code)
+      (formed : All (IsHandlerOf s.method.code) s.method.rec.handlers) where
+    range-suits : (n : ℕ) (h : Handler) → slice_get s.method.rec.handlers n ≡ Some h → IsHandlerOf s.method.code h → is_live s h ≡ true
+        → IsRange (items s) (range s n h)
     range-suits n h at is live =
         let w = within h is inside in
         let start = first-label h.start w.0 in
@@ -101,19 +111,24 @@ module _ (s : Source) (code : IsCode s) (placed : (p : ℕ) → is_some (s.frame
           «from» = once (first_reached s h.start) start;
           to = once (first_reached s h.end) (first-label h.end w.1);
           entry = once (handler_label n) (of_handler {h = h} n at live);
-          order = place-rises 0 (handler_label 256) (first_reached s h.start) (first_reached s h.end) (items s) (all-rise s code.bytes code.lists code.short code.few) (named-among s (first_reached s h.start) start)
+          order =
+              place-rises 0 (handler_label 256) (first_reached s h.start) (first_reached s h.end) (items s)
+              (all-rise s code.bytes code.lists code.short code.few) (named-among s (first_reached s h.start) start)
               (first-rises h.start h.end (omega (arith, is.order)) w.1);
         }
 
-    ranges-suit-from : (before hs : List Handler) (n : ℕ) → n ≡ length before → before ++ hs ≡ s.method.rec.handlers → Each (IsRange (items s)) (ranges_from s n hs)
+    ranges-suit-from : (before hs : List Handler) (n : ℕ) → n ≡ length before → before ++ hs ≡ s.method.rec.handlers
+        → Each (IsRange (items s)) (ranges_from s n hs)
     ranges-suit-from before [] n at e = tt
     ranges-suit-from before (h ∷ hs) n at e =
-        let here : slice_get s.method.rec.handlers n ≡ Some h = subst (λ (k : ℕ). slice_get s.method.rec.handlers k ≡ Some h) (sym at) (here-in before h hs s.method.rec.handlers e) in
+        let here : slice_get s.method.rec.handlers n ≡ Some h = subst (λ (k : ℕ). slice_get s.method.rec.handlers k ≡ Some h) (sym at)
+        (here-in before h hs s.method.rec.handlers e) in
         let is = All-contains (IsHandlerOf s.method.code) s.method.rec.handlers h formed (contained-in before h hs s.method.rec.handlers e) in
         let longer : suc n ≡ length (before ++ h ∷ []) = omega (arith, at, length-append before (h ∷ [])) in
         by (is_live s h) refl here is (ranges-suit-from (before ++ h ∷ []) hs (suc n) longer (go-on before h hs s.method.rec.handlers e))
       where
-        by : (b : Bool) → is_live s h ≡ b → slice_get s.method.rec.handlers n ≡ Some h → IsHandlerOf s.method.code h → Each (IsRange (items s)) (ranges_from s (suc n) hs)
+        by : (b : Bool) → is_live s h ≡ b → slice_get s.method.rec.handlers n ≡ Some h → IsHandlerOf s.method.code h
+            → Each (IsRange (items s)) (ranges_from s (suc n) hs)
             → Each (IsRange (items s)) ((if b then range s n h ∷ [] else []) ++ ranges_from s (suc n) hs)
         by true live here is rest = (range-suits n h here is live, rest)
         by false live here is rest = rest

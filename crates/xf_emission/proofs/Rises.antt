@@ -1,5 +1,6 @@
 -- Lists of numbers that rise, in which no number stands twice.
-use Rattle.std.proofs.Common.{◌≡◌, ℕ, suc, ◌+◌, ◌<◌, ◌≤◌, true, false, inl, inr, List, [], ◌∷◌, ◌++◌, refl, sym, ◌∙◌, ap, arith}
+use Rattle.std.proofs.Common.{◌≡◌, ℕ, suc, ◌+◌, ◌<◌, ◌≤◌, true, false, inl, inr, List, [], ◌∷◌, ◌++◌, refl, sym, ◌∙◌, ap}
+use Rattle.std.proofs.Common.{arith}
 use Rattle.std.specs.Prelude.{count_by, cond, ◌==◌}
 use Rattle.std.proofs.lemmas.List.Sums.{sum_by-cons}
 use Rattle.std.proofs.lemmas.Bool.Decides.{nat_tests}
@@ -34,14 +35,16 @@ pub count-below : (low high l : ℕ) (xs : List ℕ) → l < low → Rises low h
 count-below low high l [] lt r = refl
 count-below low high l (x ∷ xs) lt r =
     let no : (x == l) ≡ false = ne_eqb x l (λ e. omega (arith, e, r.0)) in
-    sum_by-cons (λ m. cond (m == l) 1 0) x xs ∙ ap (λ b. cond b 1 0 + count_by (λ m. m == l) xs) no ∙ omega (arith, count-below (suc x) high l xs (omega (arith, r.0)) r.2)
+    sum_by-cons (λ m. cond (m == l) 1 0) x xs ∙ ap (λ b. cond b 1 0 + count_by (λ m. m == l) xs) no
+    ∙ omega (arith, count-below (suc x) high l xs (omega (arith, r.0)) r.2)
 
 -- one that stands among them occurs once
 pub count-among : (low high l : ℕ) (xs : List ℕ) → Rises low high xs → IsAmong l xs → count_by (λ m. m == l) xs ≡ 1
 count-among low high l [] r a = absurd a
 count-among low high l (x ∷ xs) r (inl e) =
     let yes : (x == l) ≡ true = ap (λ k. x == k) (sym e) ∙ same-yes x in
-    sum_by-cons (λ m. cond (m == l) 1 0) x xs ∙ ap (λ b. cond b 1 0 + count_by (λ m. m == l) xs) yes ∙ omega (arith, count-below (suc x) high l xs (omega (arith, e)) r.2)
+    sum_by-cons (λ m. cond (m == l) 1 0) x xs ∙ ap (λ b. cond b 1 0 + count_by (λ m. m == l) xs) yes
+    ∙ omega (arith, count-below (suc x) high l xs (omega (arith, e)) r.2)
 count-among low high l (x ∷ xs) r (inr a) =
     let above : x < l = among-above (suc x) high l xs r.2 a in
     let no : (x == l) ≡ false = same-below x l above in

@@ -1,5 +1,6 @@
 -- Where the stubs of a rewritten method stand.
-use Rattle.std.proofs.Common.{◌≡◌, ◌≢◌, ℕ, zero, suc, ◌+◌, ◌≤◌, true, false, if◌then◌else◌, List, [], ◌∷◌, ◌++◌, flat_map, length, All, Option, Some, None, Ok, refl, sym, ◌∙◌, ap, subst, arith, append_assoc}
+use Rattle.std.proofs.Common.{◌≡◌, ◌≢◌, ℕ, zero, suc, ◌+◌, ◌≤◌, true, false, if◌then◌else◌, List, [], ◌∷◌, ◌++◌}
+use Rattle.std.proofs.Common.{flat_map, length, All, Option, Some, None, Ok, refl, sym, ◌∙◌, ap, subst, arith, append_assoc}
 use Rattle.std.specs.Prelude.{ℤ, is_some, slice_get}
 use Rattle.std.specs.List.{filter}
 use Rattle.std.proofs.lemmas.List.Concat.{flat_map-append, flat_map-cons}
@@ -39,10 +40,12 @@ rises-before : (low high l : ℕ) (xs ys : List ℕ) → Rises low high (xs ++ l
 rises-before low high l [] ys r = r.0
 rises-before low high l (x ∷ xs) ys r = (r.0, omega (arith, rises-low (suc x) high l xs ys r.2), rises-before (suc x) high l xs ys r.2)
 
-at-label : (s : Source) → IsCode s → (before after : List Item) (l : ℕ) → items s ≡ before ++ Label l ∷ after → place_of l (items s) ≡ length (filter is_instruction before)
+at-label : (s : Source) → IsCode s → (before after : List Item) (l : ℕ) → items s ≡ before ++ Label l ∷ after
+    → place_of l (items s) ≡ length (filter is_instruction before)
 at-label s code before after l e =
     let whole : Rises 0 (handler_label 256) (labels (items s)) = all-rise s code.bytes code.lists code.short code.few in
-    let split_so : Rises 0 (handler_label 256) (labels before ++ l ∷ labels after) = subst (Rises 0 (handler_label 256)) (ap labels e ∙ labels-append before (Label l ∷ after)) whole in
+    let split_so : Rises 0 (handler_label 256) (labels before ++ l ∷ labels after) = subst (Rises 0 (handler_label 256))
+    (ap labels e ∙ labels-append before (Label l ∷ after)) whole in
     let rise : Rises 0 l (labels before) = rises-before 0 (handler_label 256) l (labels before) (labels after) split_so in
     let none : All (λ x. is_label l x ≡ false) before = All-from_Each (λ x. is_label l x ≡ false) before (none-named 0 l l before (omega arith) rise) in
     ap (place_of l) e ∙ label-between before after l none
@@ -54,7 +57,8 @@ record StubParts (s : Source) (p : ℕ) (op : Operation) (n at : ℕ) (t : ℤ) 
   after : List Item
   parts : whole ≡ before ++ (stub s p op n at t ++ after)
 
-stub-parts : (s : Source) (p : ℕ) (op : Operation) (n from k : ℕ) (ts : List ℤ) (t : ℤ) → slice_get ts k ≡ Some t → StubParts s p op n (from + k) t (stubs_of s p op n from ts)
+stub-parts : (s : Source) (p : ℕ) (op : Operation) (n from k : ℕ) (ts : List ℤ) (t : ℤ) → slice_get ts k ≡ Some t
+    → StubParts s p op n (from + k) t (stubs_of s p op n from ts)
 stub-parts s p op n from k [] t at = absurd (cc)
 stub-parts s p op n from zero (u ∷ us) t at =
     let same : u ≡ t = cc in
@@ -62,7 +66,9 @@ stub-parts s p op n from zero (u ∷ us) t at =
     record {
       before = [];
       after = stubs_of s p op n (suc from) us;
-      parts = ap (λ (v : ℤ). stub s p op n from v ++ stubs_of s p op n (suc from) us) same ∙ ap (λ (j : ℕ). stub s p op n j t ++ stubs_of s p op n (suc from) us) here;
+      parts =
+          ap (λ (v : ℤ). stub s p op n from v ++ stubs_of s p op n (suc from) us) same
+          ∙ ap (λ (j : ℕ). stub s p op n j t ++ stubs_of s p op n (suc from) us) here;
     }
 stub-parts s p op n from (suc k) (u ∷ us) t at =
     let rest = stub-parts s p op n (suc from) k us t at in
@@ -72,7 +78,9 @@ stub-parts s p op n from (suc k) (u ∷ us) t at =
     record {
       before = stub s p op n from u ++ rest.before;
       after = rest.after;
-      parts = ap (λ xs. stub s p op n from u ++ xs) whole ∙ sym (append_assoc (stub s p op n from u) rest.before (stub s p op n (from + suc k) t ++ rest.after));
+      parts =
+          ap (λ xs. stub s p op n from u ++ xs) whole
+          ∙ sym (append_assoc (stub s p op n from u) rest.before (stub s p op n (from + suc k) t ++ rest.after));
     }
 
 module _ (s : Source) (i : Placed) (op : Operation) (n : ℕ) (is : operation s i ≡ Ok op) (asks : operands_of s.world (Ok op) ≡ Some n) where
@@ -84,18 +92,22 @@ module _ (s : Source) (i : Placed) (op : Operation) (n : ℕ) (is : operation s 
       by None e = absurd (cc)
       by (Some f) e = ap (stubs_done s i) is ∙ ap (stubs_by s i op) asks
 
-  stub-stands : IsCode s → HasInstruction s.method.code i → is_some (s.frames i.place) ≡ true → (k : ℕ) (t : ℤ) → slice_get (targets s.method.code i) k ≡ Some t
+  stub-stands : IsCode s → HasInstruction s.method.code i → is_some (s.frames i.place) ≡ true → (k : ℕ) (t : ℤ)
+      → slice_get (targets s.method.code i) k ≡ Some t
       → branch_copies s i.place op n (place t) ≢ [] → StubStands s i op n k t
   unfolding items stub
   stub-stands code st reached k t at copied =
       let p = split (listing s.method.code) i st in
       let q = stub-parts s i.place op n 0 k (targets s.method.code i) t at in
       let first : 0 + k ≡ k = omega arith in
-      let own : stubs s i ≡ q.before ++ (stub s i.place op n k t ++ q.after) = stubs-are reached ∙ q.parts ∙ ap (λ (j : ℕ). q.before ++ (stub s i.place op n j t ++ q.after)) first in
+      let own : stubs s i ≡ q.before ++ (stub s i.place op n k t ++ q.after) = stubs-are reached ∙ q.parts
+      ∙ ap (λ (j : ℕ). q.before ++ (stub s i.place op n j t ++ q.after)) first in
       let groups = flat_map (group s) (listing s.method.code) in
       let caughts = catching_stubs s 0 s.method.rec.handlers in
-      let all : flat_map (stubs s) (listing s.method.code) ≡ flat_map (stubs s) p.before ++ ((q.before ++ (stub s i.place op n k t ++ q.after)) ++ flat_map (stubs s) p.after) =
-      ap (flat_map (stubs s)) p.parts ∙ flat_map-append (stubs s) p.before (i ∷ p.after) ∙ ap (λ xs. flat_map (stubs s) p.before ++ xs) (flat_map-cons (stubs s) i p.after ∙ ap (λ xs. xs ++ flat_map (stubs s) p.after) own) in
+      let all : flat_map (stubs s) (listing s.method.code) ≡ flat_map (stubs s)
+      p.before ++ ((q.before ++ (stub s i.place op n k t ++ q.after)) ++ flat_map (stubs s) p.after) =
+      ap (flat_map (stubs s)) p.parts ∙ flat_map-append (stubs s) p.before (i ∷ p.after)
+      ∙ ap (λ xs. flat_map (stubs s) p.before ++ xs) (flat_map-cons (stubs s) i p.after ∙ ap (λ xs. xs ++ flat_map (stubs s) p.after) own) in
       let before = copies s Start 0 ++ (groups ++ (Label (length s.method.code) ∷ (flat_map (stubs s) p.before ++ q.before))) in
       let after = q.after ++ (flat_map (stubs s) p.after ++ caughts) in
       let whole : items s ≡ before ++ (stub s i.place op n k t ++ after) =
@@ -107,11 +119,13 @@ module _ (s : Source) (i : Placed) (op : Operation) (n : ℕ) (is : operation s 
         at = by (branch_copies s i.place op n (place t)) refl before after whole code;
       }
     where
-      by : (copied_items : List Item) → branch_copies s i.place op n (place t) ≡ copied_items → (before after : List Item) → items s ≡ before ++ (stub s i.place op n k t ++ after) → IsCode s
+      by : (copied_items : List Item) → branch_copies s i.place op n (place t) ≡ copied_items → (before after : List Item)
+          → items s ≡ before ++ (stub s i.place op n k t ++ after) → IsCode s
           → place_of (stub_label i.place k) (items s) ≡ length (filter is_instruction before)
       by [] e before after whole code = absurd (copied e)
       by (x ∷ xs) e before after whole code =
-          let head : stub s i.place op n k t ≡ Label (stub_label i.place k) ∷ ((x ∷ xs) ++ goto (place t) ∷ []) = ap (stub_of (stub_label i.place k) (place t)) e in
+          let head : stub s i.place op n k t ≡ Label (stub_label i.place k) ∷ ((x ∷ xs) ++ goto (place t) ∷ []) = ap
+          (stub_of (stub_label i.place k) (place t)) e in
           at-label s code before (((x ∷ xs) ++ goto (place t) ∷ []) ++ after) (stub_label i.place k) (whole ∙ ap (λ ys. before ++ (ys ++ after)) head)
 
 pub stubs-stand : StubsStand
@@ -124,7 +138,8 @@ record CaughtParts (s : Source) (at : ℕ) (h : Handler) (whole : List Item) : T
   after : List Item
   parts : whole ≡ before ++ (catching_stub s at h ++ after)
 
-caught-parts : (s : Source) (from n : ℕ) (hs : List Handler) (h : Handler) → slice_get hs n ≡ Some h → is_live s h ≡ true → CaughtParts s (from + n) h (catching_stubs s from hs)
+caught-parts : (s : Source) (from n : ℕ) (hs : List Handler) (h : Handler) → slice_get hs n ≡ Some h → is_live s h ≡ true
+    → CaughtParts s (from + n) h (catching_stubs s from hs)
 caught-parts s from n [] h at live = absurd (cc)
 caught-parts s from zero (g ∷ gs) h at live =
     let same : g ≡ h = cc in
@@ -133,12 +148,16 @@ caught-parts s from zero (g ∷ gs) h at live =
     record {
       before = [];
       after = catching_stubs s (suc from) gs;
-      parts = ap (λ b. (if b then catching_stub s from g else []) ++ catching_stubs s (suc from) gs) alive ∙ ap (λ (k : Handler). catching_stub s from k ++ catching_stubs s (suc from) gs) same ∙ ap (λ (j : ℕ). catching_stub s j h ++ catching_stubs s (suc from) gs) here;
+      parts =
+          ap (λ b. (if b then catching_stub s from g else []) ++ catching_stubs s (suc from) gs) alive
+          ∙ ap (λ (k : Handler). catching_stub s from k ++ catching_stubs s (suc from) gs) same
+          ∙ ap (λ (j : ℕ). catching_stub s j h ++ catching_stubs s (suc from) gs) here;
     }
 caught-parts s from (suc n) (g ∷ gs) h at live =
     let rest = caught-parts s (suc from) n gs h at live in
     let next : suc from + n ≡ from + suc n = omega arith in
-    let whole : catching_stubs s (suc from) gs ≡ rest.before ++ (catching_stub s (from + suc n) h ++ rest.after) = rest.parts ∙ ap (λ (j : ℕ). rest.before ++ (catching_stub s j h ++ rest.after)) next in
+    let whole : catching_stubs s (suc from) gs ≡ rest.before ++ (catching_stub s (from + suc n) h ++ rest.after) = rest.parts
+    ∙ ap (λ (j : ℕ). rest.before ++ (catching_stub s j h ++ rest.after)) next in
     let first = if is_live s g then catching_stub s from g else [] in
     record {
       before = first ++ rest.before;
@@ -151,10 +170,12 @@ unfolding items
 handlers-stand s code n h at live =
     let q = caught-parts s 0 n s.method.rec.handlers h at live in
     let first : 0 + n ≡ n = omega arith in
-    let own : catching_stubs s 0 s.method.rec.handlers ≡ q.before ++ (catching_stub s n h ++ q.after) = q.parts ∙ ap (λ (j : ℕ). q.before ++ (catching_stub s j h ++ q.after)) first in
+    let own : catching_stubs s 0 s.method.rec.handlers ≡ q.before ++ (catching_stub s n h ++ q.after) = q.parts
+    ∙ ap (λ (j : ℕ). q.before ++ (catching_stub s j h ++ q.after)) first in
     let groups = flat_map (group s) (listing s.method.code) in
     let branches = flat_map (stubs s) (listing s.method.code) in
     let before = copies s Start 0 ++ (groups ++ (Label (length s.method.code) ∷ (branches ++ q.before))) in
     let rest = spill s (stack_homes s h.entry) ++ (copies s (Entry h.entry) h.entry ++ goto h.entry ∷ []) in
-    let whole : items s ≡ before ++ (catching_stub s n h ++ q.after) = ap (λ xs. copies s Start 0 ++ (groups ++ (Label (length s.method.code) ∷ branches ++ xs))) own ∙ simp append_assoc in
+    let whole : items s ≡ before ++ (catching_stub s n h ++ q.after) = ap
+    (λ xs. copies s Start 0 ++ (groups ++ (Label (length s.method.code) ∷ branches ++ xs))) own ∙ simp append_assoc in
     record { before = before; after = q.after; parts = whole; at = at-label s code before (rest ++ q.after) (handler_label n) whole }

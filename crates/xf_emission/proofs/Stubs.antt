@@ -1,5 +1,6 @@
 -- The labels of all stubs rise, and so do those of all items.
-use Rattle.std.proofs.Common.{◌≡◌, ℕ, suc, ◌+◌, ◌≤◌, Bool, true, false, if◌then◌else◌, List, [], ◌∷◌, ◌++◌, flat_map, length, Option, Some, None, Result, Ok, Err, refl, sym, ◌∙◌, ap, subst, arith}
+use Rattle.std.proofs.Common.{◌≡◌, ℕ, suc, ◌+◌, ◌≤◌, Bool, true, false, if◌then◌else◌, List, [], ◌∷◌, ◌++◌, flat_map, length}
+use Rattle.std.proofs.Common.{Option, Some, None, Result, Ok, Err, refl, sym, ◌∙◌, ap, subst, arith}
 use Rattle.std.specs.Prelude.{ℤ, is_some}
 use Rattle.jc_base.specs.declared.record.Handler.{Handler}
 use Rattle.jc_decode.specs.declared.insn.Placed.{Placed}
@@ -34,9 +35,12 @@ module _ (s : Source) (p : ℕ) (op : Operation) (n : ℕ) where
   stubs-of-rise k (t ∷ ts) =
       let here : Rises (stub_label p k) (stub_label p (suc k)) (labels (stub s p op n k t)) =
       subst (Rises (stub_label p k) (stub_label p (suc k))) (sym (stub-label s p op n k t))
-      (let e : suc (stub_label p k) ≡ stub_label p (suc k) = omega arith in subst (λ (h : ℕ). Rises (stub_label p k) h (label_if (branch_copies s p op n (place t)) (stub_label p k))) e (one-rises (branch_copies s p op n (place t)) (stub_label p k))) in
+      (let e : suc (stub_label p k) ≡ stub_label p (suc k) = omega arith in
+      subst (λ (h : ℕ). Rises (stub_label p k) h (label_if (branch_copies s p op n (place t)) (stub_label p k))) e
+      (one-rises (branch_copies s p op n (place t)) (stub_label p k))) in
       let rest : Rises (stub_label p (suc k)) (stub_label p (k + length (t ∷ ts))) (labels (stubs_of s p op n (suc k) ts)) =
-      (let e : stub_label p (suc k + length ts) ≡ stub_label p (k + length (t ∷ ts)) = omega arith in subst (λ (h : ℕ). Rises (stub_label p (suc k)) h (labels (stubs_of s p op n (suc k) ts))) e (stubs-of-rise (suc k) ts)) in
+      (let e : stub_label p (suc k + length ts) ≡ stub_label p (k + length (t ∷ ts)) = omega arith in
+      subst (λ (h : ℕ). Rises (stub_label p (suc k)) h (labels (stubs_of s p op n (suc k) ts))) e (stubs-of-rise (suc k) ts)) in
       subst (Rises (stub_label p k) (stub_label p (k + length (t ∷ ts)))) (sym (labels-append (stub s p op n k t) (stubs_of s p op n (suc k) ts)))
       (rises-append (stub_label p k) (stub_label p (suc k)) (stub_label p (k + length (t ∷ ts))) _ _ here rest)
 
@@ -47,7 +51,8 @@ handlers-rise s n [] = omega arith
 handlers-rise s n (h ∷ hs) =
     let e : handler_label (suc n + length hs) ≡ handler_label (n + length (h ∷ hs)) = omega arith in
     let rest = subst (λ (k : ℕ). Rises (handler_label (suc n)) k (labels (catching_stubs s (suc n) hs))) e (handlers-rise s (suc n) hs) in
-    subst (Rises (handler_label n) (handler_label (n + length (h ∷ hs)))) (sym (labels-append (if is_live s h then catching_stub s n h else []) (catching_stubs s (suc n) hs)))
+    subst (Rises (handler_label n) (handler_label (n + length (h ∷ hs))))
+    (sym (labels-append (if is_live s h then catching_stub s n h else []) (catching_stubs s (suc n) hs)))
     (rises-append (handler_label n) (handler_label (suc n)) (handler_label (n + length (h ∷ hs))) _ _ (by (is_live s h)) rest)
   where
     by : (b : Bool) → Rises (handler_label n) (handler_label (suc n)) (labels (if b then catching_stub s n h else []))
@@ -67,7 +72,8 @@ module _ (s : Source) (bytes : AreBytes s.method.code) where
     by-operands : (op : Operation) (n : Option ℕ) → Rises (stub_label i.place 0) (stub_label (i.place + i.insn.len) 0) (labels (stubs_by s i op n))
     by-operands op None = low
     by-operands op (Some n) =
-        let here : Rises (stub_label i.place 0) (stub_label i.place (0 + length (targets s.method.code i))) (labels (stubs_of s i.place op n 0 (targets s.method.code i))) = stubs-of-rise s i.place op n 0 (targets s.method.code i) in
+        let here : Rises (stub_label i.place 0) (stub_label i.place (0 + length (targets s.method.code i)))
+        (labels (stubs_of s i.place op n 0 (targets s.method.code i))) = stubs-of-rise s i.place op n 0 (targets s.method.code i) in
         rises-below (stub_label i.place 0) (stub_label i.place (0 + length (targets s.method.code i))) (stub_label (i.place + i.insn.len) 0) _ high here
 
     by-operation : (r : Result Operation RuleFault) → Rises (stub_label i.place 0) (stub_label (i.place + i.insn.len) 0) (labels (stubs_done s i r))
@@ -82,24 +88,31 @@ module _ (s : Source) (bytes : AreBytes s.method.code) where
     unfolding stubs
     stubs-here = by-frame (s.frames i.place)
 
-  all-stubs : (at : ℕ) (is : List Placed) → Lists s.method.code at is → at ≤ length s.method.code → Rises (stub_label at 0) (stub_label (length s.method.code) 0) (labels (flat_map (stubs s) is))
+  all-stubs : (at : ℕ) (is : List Placed) → Lists s.method.code at is → at ≤ length s.method.code
+      → Rises (stub_label at 0) (stub_label (length s.method.code) 0) (labels (flat_map (stubs s) is))
   all-stubs at [] l le = omega arith
   all-stubs at (i ∷ is) l le =
       let d : decoded s.method.code i.place ≡ Ok i.insn = ap (decoded s.method.code) l.0 ∙ l.1 in
       let inside = IsWithin-decoded s.method.code at i.insn l.1 in
-      let here : Rises (stub_label at 0) (stub_label (at + i.insn.len) 0) (labels (stubs s i)) = subst (λ (p : ℕ). Rises (stub_label p 0) (stub_label (p + i.insn.len) 0) (labels (stubs s i))) l.0 (stubs-here i d) in
+      let here : Rises (stub_label at 0) (stub_label (at + i.insn.len) 0) (labels (stubs s i)) = subst
+      (λ (p : ℕ). Rises (stub_label p 0) (stub_label (p + i.insn.len) 0) (labels (stubs s i))) l.0 (stubs-here i d) in
       subst (Rises (stub_label at 0) (stub_label (length s.method.code) 0)) (sym (labels-append (stubs s i) (flat_map (stubs s) is)))
-      (rises-append (stub_label at 0) (stub_label (at + i.insn.len) 0) (stub_label (length s.method.code) 0) _ _ here (all-stubs (at + i.insn.len) is l.2 inside.reaches))
+      (rises-append (stub_label at 0) (stub_label (at + i.insn.len) 0) (stub_label (length s.method.code) 0) _ _ here
+      (all-stubs (at + i.insn.len) is l.2 inside.reaches))
 
-  all-groups : (at : ℕ) (is : List Placed) → Lists s.method.code at is → at ≤ length s.method.code → Rises at (length s.method.code) (labels (flat_map (group s) is))
+  all-groups : (at : ℕ) (is : List Placed) → Lists s.method.code at is → at ≤ length s.method.code
+      → Rises at (length s.method.code) (labels (flat_map (group s) is))
   all-groups at [] l le = le
   all-groups at (i ∷ is) l le =
       let inside = IsWithin-decoded s.method.code at i.insn l.1 in
       subst (Rises at (length s.method.code)) (sym (labels-append (group s i) (flat_map (group s) is)))
-      (rises-append at (at + i.insn.len) (length s.method.code) _ _ (by (is_some (s.frames i.place)) refl inside) (all-groups (at + i.insn.len) is l.2 inside.reaches))
+      (rises-append at (at + i.insn.len) (length s.method.code) _ _ (by (is_some (s.frames i.place)) refl inside)
+      (all-groups (at + i.insn.len) is l.2 inside.reaches))
     where
       by : (b : Bool) → is_some (s.frames i.place) ≡ b → IsWithin s.method.code at i.insn → Rises at (at + i.insn.len) (labels (group s i))
-      by true e w = subst (Rises at (at + i.insn.len)) (sym (group-label s i ∙ ap (λ (b : Bool). if b then i.place ∷ [] else []) e)) (omega (arith, l.0), omega (arith, l.0, w.one), omega (arith, l.0, w.one))
+      by true e w =
+          subst (Rises at (at + i.insn.len)) (sym (group-label s i ∙ ap (λ (b : Bool). if b then i.place ∷ [] else []) e))
+          (omega (arith, l.0), omega (arith, l.0, w.one), omega (arith, l.0, w.one))
       by false e w = subst (Rises at (at + i.insn.len)) (sym (group-label s i ∙ ap (λ (b : Bool). if b then i.place ∷ [] else []) e)) (omega arith)
 
 -- ---- the whole
@@ -117,15 +130,20 @@ all-labels s =
     ∙ labels-append groups rest
 
 module _ (s : Source) (bytes : AreBytes s.method.code) where
-  pub all-rise : Lists s.method.code 0 (listing s.method.code) → length s.method.code ≤ 32767 → length s.method.rec.handlers ≤ 255 → Rises 0 (handler_label 256) (labels (items s))
+  pub all-rise : Lists s.method.code 0 (listing s.method.code) → length s.method.code ≤ 32767 → length s.method.rec.handlers ≤ 255
+      → Rises 0 (handler_label 256) (labels (items s))
   all-rise l short few =
       let n = length s.method.code in
       let branches = flat_map (stubs s) (listing s.method.code) in
       let caughts = catching_stubs s 0 s.method.rec.handlers in
-      let last : Rises (handler_label 0) (handler_label 256) (labels caughts) = rises-below (handler_label 0) (handler_label (0 + length s.method.rec.handlers)) (handler_label 256) _ (omega (arith, few)) (handlers-rise s 0 s.method.rec.handlers) in
-      let middle : Rises (stub_label 0 0) (handler_label 0) (labels branches) = rises-below (stub_label 0 0) (stub_label n 0) (handler_label 0) _ (omega (arith, short)) (all-stubs s bytes 0 (listing s.method.code) l (omega arith)) in
+      let last : Rises (handler_label 0) (handler_label 256) (labels caughts) = rises-below (handler_label 0)
+      (handler_label (0 + length s.method.rec.handlers)) (handler_label 256) _ (omega (arith, few)) (handlers-rise s 0 s.method.rec.handlers) in
+      let middle : Rises (stub_label 0 0) (handler_label 0) (labels branches) = rises-below (stub_label 0 0) (stub_label n 0) (handler_label 0) _
+      (omega (arith, short)) (all-stubs s bytes 0 (listing s.method.code) l (omega arith)) in
       let after : Rises (suc n) (handler_label 256) (labels (branches ++ caughts)) =
       subst (Rises (suc n) (handler_label 256)) (sym (labels-append branches caughts))
-      (rises-wider (suc n) (stub_label 0 0) (handler_label 256) _ (omega (arith, short)) (rises-append (stub_label 0 0) (handler_label 0) (handler_label 256) _ _ middle last)) in
+      (rises-wider (suc n) (stub_label 0 0) (handler_label 256) _ (omega (arith, short))
+      (rises-append (stub_label 0 0) (handler_label 0) (handler_label 256) _ _ middle last)) in
       let end : Rises n (handler_label 256) (n ∷ labels (branches ++ caughts)) = (omega arith, omega (arith, short), after) in
-      subst (Rises 0 (handler_label 256)) (sym (all-labels s)) (rises-append 0 n (handler_label 256) _ _ (all-groups s bytes 0 (listing s.method.code) l (omega arith)) end)
+      subst (Rises 0 (handler_label 256)) (sym (all-labels s))
+      (rises-append 0 n (handler_label 256) _ _ (all-groups s bytes 0 (listing s.method.code) l (omega arith)) end)

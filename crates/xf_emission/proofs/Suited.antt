@@ -1,5 +1,6 @@
 -- What is emitted for an instruction, on the edges of a branch and where a handler takes over may be laid.
-use Rattle.std.proofs.Common.{◌≡◌, ℕ, suc, ◌+◌, ◌-◌, ◌<◌, Bool, true, false, if◌then◌else◌, List, [], ◌∷◌, ◌++◌, map, flat_map, length, Contains, Option, Some, None, Result, Ok, Err, refl, sym, ◌∙◌, ap, subst, arith}
+use Rattle.std.proofs.Common.{◌≡◌, ℕ, suc, ◌+◌, ◌-◌, ◌<◌, Bool, true, false, if◌then◌else◌, List, [], ◌∷◌, ◌++◌, map}
+use Rattle.std.proofs.Common.{flat_map, length, Contains, Option, Some, None, Result, Ok, Err, refl, sym, ◌∙◌, ap, subst, arith}
 use Rattle.std.specs.Prelude.{ℤ, not, is_some, slice_get}
 use Rattle.std.proofs.lemmas.List.{length-map}
 use Rattle.std.proofs.lemmas.Bool.{and_parts}
@@ -32,12 +33,15 @@ use Rattle.xf_homes.specs.Plan.{register, local, needed, stack_homes, is_leader,
 use Rattle.xf_emission.specs.declared.origin.Origin.TheVariants.{Start, After, Entry}
 use Rattle.xf_emission.specs.Move.{copy, loads, spill}
 use Rattle.xf_emission.specs.Edge.{copies}
-use Rattle.xf_emission.specs.Jump.{under, operands, has_under, spill_if, branch_copies, place, lead, leads, first_label, jump_to, branch, goto, stub, stub_of, stub_label, stubs_of}
-use Rattle.xf_emission.specs.Group.{itself, loaded, increased, store_to_homes, stays, field_read, field_written, gone, first_place, body, fall, fall_over, fall_by, fallen, entrance, done, group_by, group}
+use Rattle.xf_emission.specs.Jump.{under, operands, has_under, spill_if, branch_copies, place, lead, leads, first_label, jump_to, branch, goto, stub, stub_of}
+use Rattle.xf_emission.specs.Jump.{stub_label, stubs_of}
+use Rattle.xf_emission.specs.Group.{itself, loaded, increased, store_to_homes, stays, field_read, field_written, gone, first_place, body, fall, fall_over}
+use Rattle.xf_emission.specs.Group.{fall_by, fallen, entrance, done, group_by, group}
 use Rattle.xf_emission.specs.Emission.{stubs, stubs_at, stubs_by, stubs_done, is_live, catching_stub, catching_stubs, items}
 use Rattle.xf_emission.proofs.RowByRow.{op_kind, branching_kind, switching}
 use Rattle.xf_emission.proofs.Forms.{suits_kind, first_u1, only_u1, other-register, other-opcode}
-use Rattle.xf_emission.proofs.Items.{each-if, each-flat, load-suits, store-suits, copy-suits, loads-suit, spill-suits, copies-suit, taken-suits, popped-suits, swap-suits}
+use Rattle.xf_emission.proofs.Items.{each-if, each-flat, load-suits, store-suits, copy-suits, loads-suit, spill-suits, copies-suit, taken-suits, popped-suits}
+use Rattle.xf_emission.proofs.Items.{swap-suits}
 
 -- an instruction that is allowed, with its operation, in code whose labels stand once
 pub record IsEmitted (all : List Item) (s : Source) (i : Placed) (op : Operation) : Type 0 where
@@ -46,7 +50,8 @@ pub record IsEmitted (all : List Item) (s : Source) (i : Placed) (op : Operation
   pub alike : jumps_from op ≡ jumps i.insn.op
   pub suits : suits_kind i.insn.op (op_kind op) ≡ true
   -- each of its targets, and the way to each, has a label that stands once
-  pub ways : (n k : ℕ) (t : ℤ) → operands_of s.world (Ok op) ≡ Some n → slice_get (targets s.method.code i) k ≡ Some t → IsOnce all (lead s i.place op n k t)
+  pub ways : (n k : ℕ) (t : ℤ) → operands_of s.world (Ok op) ≡ Some n → slice_get (targets s.method.code i) k ≡ Some t
+      → IsOnce all (lead s i.place op n k t)
   pub places : (k : ℕ) (t : ℤ) → slice_get (targets s.method.code i) k ≡ Some t → IsOnce all (place t)
 
 module _ (all : List Item) (s : Source) (small : (h : Home) → register s h < 256) where
@@ -58,22 +63,26 @@ module _ (all : List Item) (s : Source) (small : (h : Home) → register s h < 2
     loaded-suits j None = kept-suits j
     loaded-suits j (Some h) = (load-suits s.method.code all s small h, tt)
 
-    increased-suits : jumps_from op ≡ false → first_u1 (layout_of i.insn.op) ≡ true → (h : Option Home) → Each (IsItem s.method.code all) (increased s i h)
+    increased-suits : jumps_from op ≡ false → first_u1 (layout_of i.insn.op) ≡ true → (h : Option Home)
+        → Each (IsItem s.method.code all) (increased s i h)
     increased-suits j u None = kept-suits j
     increased-suits j u (Some h) = ((other-register i.insn (register s h) u (small h) e.allowed, ap not (sym e.alike ∙ j)), tt)
 
     stored-suits : (letter : Sort) (hs : List Home) → Each (IsItem s.method.code all) (store_to_homes s letter hs)
     stored-suits letter [] = (popped-suits s.method.code all s small letter, tt)
-    stored-suits letter (h ∷ hs) = (store-suits s.method.code all s small h, each-flat (IsItem s.method.code all) (copy s h) hs (λ k. copy-suits s.method.code all s small h k))
+    stored-suits letter (h ∷ hs) =
+        (store-suits s.method.code all s small h, each-flat (IsItem s.method.code all) (copy s h) hs (λ k. copy-suits s.method.code all s small h k))
 
-    read-suits : jumps_from op ≡ false → only_u1 (layout_of i.insn.op) ≡ true → (only_u1 (layout_of (i.insn.op - 42)) ≡ true) × (not (jumps (i.insn.op - 42)) ≡ true) → (h : Option Home)
+    read-suits : jumps_from op ≡ false → only_u1 (layout_of i.insn.op) ≡ true → (only_u1 (layout_of (i.insn.op - 42)) ≡ true)
+        × (not (jumps (i.insn.op - 42)) ≡ true) → (h : Option Home)
         → Each (IsItem s.method.code all) (field_read s i h)
     read-suits j u v None = kept-suits j
     read-suits j u v (Some h) =
         each-if (IsItem s.method.code all) (stays s h) (itself i) _ (kept-suits j)
         (load-suits s.method.code all s small h, ((other-opcode i.insn (i.insn.op - 42) u v.0 e.allowed, v.1), tt))
 
-    written-suits : jumps_from op ≡ false → only_u1 (layout_of i.insn.op) ≡ true → (only_u1 (layout_of (i.insn.op - 46)) ≡ true) × (not (jumps (i.insn.op - 46)) ≡ true) → (k : Kind) (h : Option Home)
+    written-suits : jumps_from op ≡ false → only_u1 (layout_of i.insn.op) ≡ true → (only_u1 (layout_of (i.insn.op - 46)) ≡ true)
+        × (not (jumps (i.insn.op - 46)) ≡ true) → (k : Kind) (h : Option Home)
         → Each (IsItem s.method.code all) (field_written s i k h)
     written-suits j u v k None = kept-suits j
     written-suits j u v k (Some h) =
@@ -82,12 +91,14 @@ module _ (all : List Item) (s : Source) (small : (h : Home) → register s h < 2
 
     -- ---- jumps
 
-    leads-once : (n k : ℕ) (ts : List ℤ) → ((j : ℕ) (t : ℤ) → slice_get ts j ≡ Some t → IsOnce all (lead s i.place op n (k + j) t)) → Each (IsOnce all) (leads s i.place op n k ts)
+    leads-once : (n k : ℕ) (ts : List ℤ) → ((j : ℕ) (t : ℤ) → slice_get ts j ≡ Some t → IsOnce all (lead s i.place op n (k + j) t))
+        → Each (IsOnce all) (leads s i.place op n k ts)
     leads-once n k [] h = tt
     leads-once n k (t ∷ ts) h =
         let here : k + 0 ≡ k = omega arith in (
           subst (λ (j : ℕ). IsOnce all (lead s i.place op n j t)) here (h 0 t refl),
-          leads-once n (suc k) ts (λ j u at. let next : k + suc j ≡ suc k + j = omega arith in subst (λ (m : ℕ). IsOnce all (lead s i.place op n m u)) next (h (suc j) u at)),
+          leads-once n (suc k) ts (λ j u at. let next : k + suc j ≡ suc k + j = omega arith in subst (λ (m : ℕ). IsOnce all (lead s i.place op n m u))
+              next (h (suc j) u at)),
         )
 
     leads-length : (n k : ℕ) (ts : List ℤ) → length (leads s i.place op n k ts) ≡ length ts
@@ -99,7 +110,9 @@ module _ (all : List Item) (s : Source) (small : (h : Home) → register s h < 2
     first-once (l ∷ ls) m e o = o.0
 
     ways-once : (n : ℕ) → operands_of s.world (Ok op) ≡ Some n → Each (IsOnce all) (leads s i.place op n 0 (targets s.method.code i))
-    ways-once n asks = leads-once n 0 (targets s.method.code i) (λ j t at. let same : j ≡ 0 + j = omega arith in subst (λ (m : ℕ). IsOnce all (lead s i.place op n m t)) same (e.ways n j t asks at))
+    ways-once n asks =
+        leads-once n 0 (targets s.method.code i)
+        (λ j t at. let same : j ≡ 0 + j = omega arith in subst (λ (m : ℕ). IsOnce all (lead s i.place op n m t)) same (e.ways n j t asks at))
 
     target-count : jumps i.insn.op ≡ true → length (targets s.method.code i) ≡ length (cases s.method.code i.place i.insn) + 1
     unfolding targets
@@ -107,7 +120,8 @@ module _ (all : List Item) (s : Source) (small : (h : Home) → register s h < 2
         ap (λ (b : Bool). length (if b then target i.place i.insn.x ∷ map (λ c. target i.place c.offset) (cases s.method.code i.place i.insn) else [])) j
         ∙ omega (arith, length-map (cases s.method.code i.place i.insn) (λ c. target i.place c.offset))
 
-    jump-suits : (n : ℕ) → operands_of s.world (Ok op) ≡ Some n → jumps_from op ≡ true → IsItem s.method.code all (jump_to i op (leads s i.place op n 0 (targets s.method.code i)))
+    jump-suits : (n : ℕ) → operands_of s.world (Ok op) ≡ Some n → jumps_from op ≡ true
+        → IsItem s.method.code all (jump_to i op (leads s i.place op n 0 (targets s.method.code i)))
     jump-suits n asks j = by op refl j
       where
         jumping : jumps i.insn.op ≡ true
@@ -139,38 +153,47 @@ module _ (all : List Item) (s : Source) (small : (h : Home) → register s h < 2
     spill-if-suits : (over : Bool) (n : ℕ) → Each (IsItem s.method.code all) (spill_if over s i.place n)
     spill-if-suits over n =
         each-if (IsItem s.method.code all) over (spill s (stack_homes s i.place) ++ loads s (operands s i.place n)) []
-        (Each-append (IsItem s.method.code all) (spill s (stack_homes s i.place)) (loads s (operands s i.place n)) (spill-suits s.method.code all s small (stack_homes s i.place)) (loads-suit s.method.code all s small (operands s i.place n))) tt
+        (Each-append (IsItem s.method.code all) (spill s (stack_homes s i.place)) (loads s (operands s i.place n))
+        (spill-suits s.method.code all s small (stack_homes s i.place)) (loads-suit s.method.code all s small (operands s i.place n))) tt
 
     branch-items : (n : ℕ) → operands_of s.world (Ok op) ≡ Some n → jumps_from op ≡ true → Each (IsItem s.method.code all) (branch s i op n)
     unfolding branch
-    branch-items n asks j = Each-append (IsItem s.method.code all) (spill_if (has_under s i.place n) s i.place n) (jump_to i op _ ∷ []) (spill-if-suits (has_under s i.place n) n) (jump-suits n asks j, tt)
+    branch-items n asks j =
+        Each-append (IsItem s.method.code all) (spill_if (has_under s i.place n) s i.place n) (jump_to i op _ ∷ [])
+        (spill-if-suits (has_under s i.place n) n) (jump-suits n asks j, tt)
 
     first-place-once : jumps_from op ≡ true → IsOnce all (first_place (targets s.method.code i))
     first-place-once j = by (targets s.method.code i) e.places (target-count (sym e.alike ∙ j))
       where
-        by : (ts : List ℤ) → ((k : ℕ) (t : ℤ) → slice_get ts k ≡ Some t → IsOnce all (place t)) → length ts ≡ length (cases s.method.code i.place i.insn) + 1 → IsOnce all (first_place ts)
+        by : (ts : List ℤ) → ((k : ℕ) (t : ℤ) → slice_get ts k ≡ Some t → IsOnce all (place t))
+            → length ts ≡ length (cases s.method.code i.place i.insn) + 1 → IsOnce all (first_place ts)
         by [] h n = absurd (omega (arith, n))
         by (t ∷ ts) h n = h 0 t refl
 
     gone-suits : jumps_from op ≡ true → Each (IsItem s.method.code all) (gone s i.place op (first_place (targets s.method.code i)))
     gone-suits j =
         let q = first_place (targets s.method.code i) in
-        Each-append (IsItem s.method.code all) (spill s (stack_homes s q)) (copies s (After i.place op) q ++ goto q ∷ []) (spill-suits s.method.code all s small (stack_homes s q))
-        (Each-append (IsItem s.method.code all) (copies s (After i.place op) q) (goto q ∷ []) (copies-suit s.method.code all s small (After i.place op) q) ((refl, first-place-once j), tt))
+        Each-append (IsItem s.method.code all) (spill s (stack_homes s q)) (copies s (After i.place op) q ++ goto q ∷ [])
+        (spill-suits s.method.code all s small (stack_homes s q))
+        (Each-append (IsItem s.method.code all) (copies s (After i.place op) q) (goto q ∷ []) (copies-suit s.method.code all s small (After i.place op) q)
+        ((refl, first-place-once j), tt))
 
     -- ---- falling
 
     fall-suits : (q : ℕ) → Each (IsItem s.method.code all) (fall s i.place op q)
     fall-suits q =
         Each-append (IsItem s.method.code all) (if is_leader s q then spill s (stack_homes s q) else []) (copies s (After i.place op) q)
-        (each-if (IsItem s.method.code all) (is_leader s q) (spill s (stack_homes s q)) [] (spill-suits s.method.code all s small (stack_homes s q)) tt) (copies-suit s.method.code all s small (After i.place op) q)
+        (each-if (IsItem s.method.code all) (is_leader s q) (spill s (stack_homes s q)) [] (spill-suits s.method.code all s small (stack_homes s q)) tt)
+        (copies-suit s.method.code all s small (After i.place op) q)
 
     fall-by-suits : (n : Option ℕ) (q : ℕ) → Each (IsItem s.method.code all) (fall_by s i.place op n q)
     fall-by-suits None q = fall-suits q
     fall-by-suits (Some n) q =
         each-if (IsItem s.method.code all) (has_under s i.place n) (fall_over s i.place op n q) (fall s i.place op q)
-        (each-if (IsItem s.method.code all) (is_leader s q) (branch_copies s i.place op n q) (copies s (After i.place op) q ++ loads s (under s i.place n)) (taken-suits s.method.code all s small i.place op n q)
-        (Each-append (IsItem s.method.code all) (copies s (After i.place op) q) (loads s (under s i.place n)) (copies-suit s.method.code all s small (After i.place op) q) (loads-suit s.method.code all s small (under s i.place n))))
+        (each-if (IsItem s.method.code all) (is_leader s q) (branch_copies s i.place op n q) (copies s (After i.place op) q ++ loads s (under s i.place n))
+        (taken-suits s.method.code all s small i.place op n q)
+        (Each-append (IsItem s.method.code all) (copies s (After i.place op) q) (loads s (under s i.place n))
+        (copies-suit s.method.code all s small (After i.place op) q) (loads-suit s.method.code all s small (under s i.place n))))
         (fall-suits q)
 
     fallen-suits : Each (IsItem s.method.code all) (fallen s i op)
@@ -181,16 +204,19 @@ module _ (all : List Item) (s : Source) (small : (h : Home) → register s h < 2
 
     -- ---- stubs
 
-    stub-suits : (q l : ℕ) (copied : List Item) → Each (IsItem s.method.code all) copied → IsOnce all q → Each (IsItem s.method.code all) (stub_of l q copied)
+    stub-suits : (q l : ℕ) (copied : List Item) → Each (IsItem s.method.code all) copied → IsOnce all q
+        → Each (IsItem s.method.code all) (stub_of l q copied)
     stub-suits q l [] h once = tt
     stub-suits q l (x ∷ xs) h once = (tt {0}, Each-append (IsItem s.method.code all) (x ∷ xs) (goto q ∷ []) h ((refl, once), tt))
 
-    stubs-suit-from : (n k : ℕ) (ts : List ℤ) → ((j : ℕ) (t : ℤ) → slice_get ts j ≡ Some t → IsOnce all (place t)) → Each (IsItem s.method.code all) (stubs_of s i.place op n k ts)
+    stubs-suit-from : (n k : ℕ) (ts : List ℤ) → ((j : ℕ) (t : ℤ) → slice_get ts j ≡ Some t → IsOnce all (place t))
+        → Each (IsItem s.method.code all) (stubs_of s i.place op n k ts)
     unfolding stub
     stubs-suit-from n k [] h = tt
     stubs-suit-from n k (t ∷ ts) h =
         Each-append (IsItem s.method.code all) (stub s i.place op n k t) (stubs_of s i.place op n (suc k) ts)
-        (stub-suits (place t) (stub_label i.place k) (branch_copies s i.place op n (place t)) (taken-suits s.method.code all s small i.place op n (place t)) (h 0 t refl))
+        (stub-suits (place t) (stub_label i.place k) (branch_copies s i.place op n (place t)) (taken-suits s.method.code all s small i.place op n (place t))
+        (h 0 t refl))
         (stubs-suit-from n (suc k) ts (λ j u at. h (suc j) u at))
 
     pub stubs-by-suit : (n : Option ℕ) → Each (IsItem s.method.code all) (stubs_by s i op n)
@@ -207,10 +233,12 @@ module _ (all : List Item) (s : Source) (small : (h : Home) → register s h < 2
   body-suits i (ops.Store letter x) e = stored-suits i (ops.Store letter x) e letter (needed s (i.place + i.insn.len) x)
   body-suits i (ops.FieldRead f holders.This) e =
       let is = and_parts (only_u1 (layout_of i.insn.op)) _ e.suits in
-      read-suits i (ops.FieldRead f holders.This) e refl is.0 (and_parts (only_u1 (layout_of (i.insn.op - 42))) (not (jumps (i.insn.op - 42))) is.1) (local s i.place 0)
+      read-suits i (ops.FieldRead f holders.This) e refl is.0 (and_parts (only_u1 (layout_of (i.insn.op - 42))) (not (jumps (i.insn.op - 42))) is.1)
+      (local s i.place 0)
   body-suits i (ops.FieldWrite f holders.This) e =
       let is = and_parts (only_u1 (layout_of i.insn.op)) _ e.suits in
-      written-suits i (ops.FieldWrite f holders.This) e refl is.0 (and_parts (only_u1 (layout_of (i.insn.op - 46))) (not (jumps (i.insn.op - 46))) is.1) f.kind (local s i.place 0)
+      written-suits i (ops.FieldWrite f holders.This) e refl is.0 (and_parts (only_u1 (layout_of (i.insn.op - 46))) (not (jumps (i.insn.op - 46))) is.1)
+      f.kind (local s i.place 0)
   body-suits i (ops.Branch branches.Always) e = gone-suits i (ops.Branch branches.Always) e refl
   body-suits i (ops.Branch (branches.Zero o)) e = branch-items i (ops.Branch (branches.Zero o)) e _ refl refl
   body-suits i (ops.Branch (branches.Null o)) e = branch-items i (ops.Branch (branches.Null o)) e _ refl refl
@@ -219,14 +247,20 @@ module _ (all : List Item) (s : Source) (small : (h : Home) → register s h < 2
   body-suits i (ops.Switch width) e = branch-items i (ops.Switch width) e _ refl refl
   body-suits i op e = kept-suits i op e refl
 
-  pub done-suits : (i : Placed) (r : Result Operation RuleFault) → ((op : Operation) → r ≡ Ok op → IsEmitted all s i op) → Each (IsItem s.method.code all) (done s i r)
+  pub done-suits : (i : Placed) (r : Result Operation RuleFault) → ((op : Operation) → r ≡ Ok op → IsEmitted all s i op)
+      → Each (IsItem s.method.code all) (done s i r)
   done-suits i (Err fault) h = tt
   done-suits i (Ok op) h = Each-append (IsItem s.method.code all) (body s i op) (fallen s i op) (body-suits i op (h op refl)) (fallen-suits i op (h op refl))
 
   entered-suits : (p : ℕ) → Each (IsItem s.method.code all) (entrance s p)
-  entered-suits p = (tt {0}, each-if (IsItem s.method.code all) (is_leader s p) (loads s (stack_homes s p)) [] (loads-suit s.method.code all s small (stack_homes s p)) tt)
+  entered-suits p = (
+    tt {0},
+    each-if (IsItem s.method.code all) (is_leader s p) (loads s (stack_homes s p)) [] (loads-suit s.method.code all s small (stack_homes s p))
+        tt,
+  )
 
-  module _ (emitted : (i : Placed) (op : Operation) → Contains (listing s.method.code) i → is_some (s.frames i.place) ≡ true → operation s i ≡ Ok op → IsEmitted all s i op) where
+  module _ (emitted : (i : Placed) (op : Operation) → Contains (listing s.method.code) i → is_some (s.frames i.place) ≡ true
+      → operation s i ≡ Ok op → IsEmitted all s i op) where
     group-suits : (i : Placed) → Contains (listing s.method.code) i → Each (IsItem s.method.code all) (group s i)
     unfolding group
     group-suits i st = by (s.frames i.place) refl
@@ -241,7 +275,8 @@ module _ (all : List Item) (s : Source) (small : (h : Home) → register s h < 2
     unfolding stubs
     stubs-suit i st = by (s.frames i.place) refl
       where
-        by-operation : (r : Result Operation RuleFault) → operation s i ≡ r → is_some (s.frames i.place) ≡ true → Each (IsItem s.method.code all) (stubs_done s i r)
+        by-operation : (r : Result Operation RuleFault) → operation s i ≡ r → is_some (s.frames i.place) ≡ true
+            → Each (IsItem s.method.code all) (stubs_done s i r)
         by-operation (Err fault) is some = tt
         by-operation (Ok op) is some = stubs-by-suit i op (emitted i op st some is) (operands_of s.world (Ok op))
 
@@ -252,20 +287,25 @@ module _ (all : List Item) (s : Source) (small : (h : Home) → register s h < 2
     caught-suits : (n : ℕ) (h : Handler) → IsOnce all h.entry → Each (IsItem s.method.code all) (catching_stub s n h)
     caught-suits n h once = (
       tt {0},
-      Each-append (IsItem s.method.code all) (spill s (stack_homes s h.entry)) (copies s (Entry h.entry) h.entry ++ goto h.entry ∷ []) (spill-suits s.method.code all s small (stack_homes s h.entry))
-          (Each-append (IsItem s.method.code all) (copies s (Entry h.entry) h.entry) (goto h.entry ∷ []) (copies-suit s.method.code all s small (Entry h.entry) h.entry) ((refl, once), tt)),
+      Each-append (IsItem s.method.code all) (spill s (stack_homes s h.entry)) (copies s (Entry h.entry) h.entry ++ goto h.entry ∷ [])
+          (spill-suits s.method.code all s small (stack_homes s h.entry))
+          (Each-append (IsItem s.method.code all) (copies s (Entry h.entry) h.entry) (goto h.entry ∷ [])
+          (copies-suit s.method.code all s small (Entry h.entry) h.entry) ((refl, once), tt)),
     )
 
-    caught-suit-from : (n : ℕ) (hs : List Handler) → Each (λ h. is_live s h ≡ true → IsOnce all h.entry) hs → Each (IsItem s.method.code all) (catching_stubs s n hs)
+    caught-suit-from : (n : ℕ) (hs : List Handler) → Each (λ h. is_live s h ≡ true → IsOnce all h.entry) hs
+        → Each (IsItem s.method.code all) (catching_stubs s n hs)
     caught-suit-from n [] o = tt
     caught-suit-from n (h ∷ hs) o =
-        Each-append (IsItem s.method.code all) (if is_live s h then catching_stub s n h else []) (catching_stubs s (suc n) hs) (by (is_live s h) refl) (caught-suit-from (suc n) hs o.1)
+        Each-append (IsItem s.method.code all) (if is_live s h then catching_stub s n h else []) (catching_stubs s (suc n) hs) (by (is_live s h) refl)
+        (caught-suit-from (suc n) hs o.1)
       where
         by : (b : Bool) → is_live s h ≡ b → Each (IsItem s.method.code all) (if b then catching_stub s n h else [])
         by true live = caught-suits n h (o.0 live)
         by false dead = tt
 
-    each-of : {X : Type 0} (f : X → List Item) (xs whole : List X) → ((x : X) → Contains xs x → Contains whole x) → ((x : X) → Contains whole x → Each (IsItem s.method.code all) (f x)) → Each (IsItem s.method.code all) (flat_map f xs)
+    each-of : {X : Type 0} (f : X → List Item) (xs whole : List X) → ((x : X) → Contains xs x → Contains whole x)
+        → ((x : X) → Contains whole x → Each (IsItem s.method.code all) (f x)) → Each (IsItem s.method.code all) (flat_map f xs)
     each-of f [] whole inside h = tt
     each-of f (x ∷ xs) whole inside h =
         Each-append (IsItem s.method.code all) (f x) (flat_map f xs) (h x (inside x (0, omega arith, refl)))
@@ -275,8 +315,10 @@ module _ (all : List Item) (s : Source) (small : (h : Home) → register s h < 2
     unfolding items
     items-suit entries =
         Each-append (IsItem s.method.code all) (copies s Start 0) _ (copies-suit s.method.code all s small Start 0)
-        (Each-append (IsItem s.method.code all) (flat_map (group s) (listing s.method.code)) _ (each-of (group s) (listing s.method.code) (listing s.method.code) (λ x c. c) group-suits) (
+        (Each-append (IsItem s.method.code all) (flat_map (group s) (listing s.method.code)) _
+        (each-of (group s) (listing s.method.code) (listing s.method.code) (λ x c. c) group-suits) (
           tt {0},
-          Each-append (IsItem s.method.code all) (flat_map (stubs s) (listing s.method.code)) (catching_stubs s 0 s.method.rec.handlers) (each-of (stubs s) (listing s.method.code) (listing s.method.code) (λ x c. c) stubs-suit)
+          Each-append (IsItem s.method.code all) (flat_map (stubs s) (listing s.method.code)) (catching_stubs s 0 s.method.rec.handlers)
+              (each-of (stubs s) (listing s.method.code) (listing s.method.code) (λ x c. c) stubs-suit)
               (caught-suit-from 0 s.method.rec.handlers entries),
         ))

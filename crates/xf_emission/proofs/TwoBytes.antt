@@ -1,5 +1,6 @@
 -- Each target of an instruction takes two bytes of it.
-use Rattle.std.proofs.Common.{◌≡◌, ◌≤◌, ◌+◌, ◌*◌, ℕ, Bool, true, false, if◌then◌else◌, Result, Ok, Err, List, [], ◌∷◌, length, map, refl, sym, ap, ◌∙◌, arith}
+use Rattle.std.proofs.Common.{◌≡◌, ◌≤◌, ◌+◌, ◌*◌, ℕ, Bool, true, false, if◌then◌else◌, Result, Ok, Err, List, [], ◌∷◌, length}
+use Rattle.std.proofs.Common.{map, refl, sym, ap, ◌∙◌, arith}
 use Rattle.std.specs.Prelude.{unsigned_abs, not, ◌||◌, nat_le, replicate}
 use Rattle.std.specs.List.{range_with_len}
 use Rattle.std.proofs.lemmas.Bool.Decides.{nat_tests}
@@ -35,7 +36,8 @@ unfolding layout_of opcode
 has_operand-all = refl
 
 -- how long an instruction is, with its cases
-cases-long : (c : Cases) (l : Layout) (xs : List ℕ) (table at : ℕ) (i : Insn) → table ≡ at + 1 + total_width l → end_of_cases c l.z xs table i.y i.z ≡ Ok (at + i.len)
+cases-long : (c : Cases) (l : Layout) (xs : List ℕ) (table at : ℕ) (i : Insn) → table ≡ at + 1 + total_width l
+    → end_of_cases c l.z xs table i.y i.z ≡ Ok (at + i.len)
     → 1 + total_width l + 2 * length (cases_in c xs table i) ≤ i.len
 cases-long NoCases l xs table at i e h = let same : table ≡ at + i.len = cc in omega (arith, same, e)
 cases-long Range l xs table at i e h =
@@ -56,9 +58,11 @@ module _ (xs : List ℕ) (p : Placed) (bytes : AreBytes xs) (h : decoded xs p.pl
   long : 1 + total_width l + 2 * length (cases xs p.place p.insn) ≤ p.insn.len
   long = rw (cases-by xs p.place p.insn l l.cases is refl) (cases-long l.cases l xs (p.place + 1 + total_width l) p.place p.insn refl ends)
 
-  by-jump : (j : Bool) → jumps p.insn.op ≡ j → 2 * length (if j then target p.place p.insn.x ∷ map (λ c. target p.place c.offset) (cases xs p.place p.insn) else []) ≤ p.insn.len
+  by-jump : (j : Bool) → jumps p.insn.op ≡ j
+      → 2 * length (if j then target p.place p.insn.x ∷ map (λ c. target p.place c.offset) (cases xs p.place p.insn) else []) ≤ p.insn.len
   by-jump true e =
-      let passed = or-rest (jumps p.insn.op) (has_operand_by (layout_of p.insn.op)) (passed-at has_operand has_operand-all p.insn.op (op-fits xs p.place p.insn bytes h)) e in
+      let passed = or-rest (jumps p.insn.op) (has_operand_by (layout_of p.insn.op))
+      (passed-at has_operand has_operand-all p.insn.op (op-fits xs p.place p.insn bytes h)) e in
       let wide : nat_le 1 (total_width l) ≡ true = ap has_operand_by (sym is) ∙ passed in
       let one : 1 ≤ total_width l = grind (arith, nat_tests, wide) in
       omega (arith, long, one, length-map (cases xs p.place p.insn) (λ c. target p.place c.offset))

@@ -1,5 +1,6 @@
 -- Conditional branches and switches: where they lead in rewritten code, and the stubs that stand on their edges.
-use Rattle.std.specs.Prelude.{◌≡◌, ◌<◌, ◌≤◌, pos, negsuc, All, length, ℕ, ℤ, unsigned_abs, suc, ◌+◌, ◌-◌, ◌/◌, Bool, nat_le, nat_lt, List, [], ◌∷◌, ◌++◌, filter, Ok, if◌then◌else◌}
+use Rattle.std.specs.Prelude.{◌≡◌, ◌<◌, ◌≤◌, pos, negsuc, All, length, ℕ, ℤ, unsigned_abs, suc, ◌+◌, ◌-◌}
+use Rattle.std.specs.Prelude.{◌/◌, Bool, nat_le, nat_lt, List, [], ◌∷◌, ◌++◌, filter, Ok, if◌then◌else◌}
 use Rattle.jc_decode.specs.declared.insn.Placed.{Placed}
 use Rattle.jc_decode.specs.declared.symbols.Item.{Item}
 use Rattle.jc_decode.specs.declared.symbols.Item.TheVariants.{Branch, Switch, Label}

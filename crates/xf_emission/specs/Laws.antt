@@ -1,5 +1,6 @@
 -- Laws of rewritten methods: what their layout and their running rest on.
-use Rattle.std.specs.Prelude.{◌≡◌, ◌≢◌, ◌<◌, ◌≤◌, ◌^◌, ◌↔◌, ℕ, ℤ, true, List, [], ◌∷◌, ◌++◌, flat_map, length, is_some, All, IsSome, Some, Ok, slice_get}
+use Rattle.std.specs.Prelude.{◌≡◌, ◌≢◌, ◌<◌, ◌≤◌, ◌^◌, ◌↔◌, ℕ, ℤ, true, List, [], ◌∷◌, ◌++◌}
+use Rattle.std.specs.Prelude.{flat_map, length, is_some, All, IsSome, Some, Ok, slice_get}
 use Rattle.std.specs.List.{filter}
 use Rattle.jc_base.specs.declared.record.Handler.{Handler}
 use Rattle.jc_base.specs.World.{Linked}
@@ -68,7 +69,9 @@ pub record GroupStands (s : Source) (i : Placed) : Type 0 where
   pub at : place_of i.place (items s) ≡ length (filter is_instruction before)
 
 abbrev pub GroupsStand : Type 0
-GroupsStand = (s : Source) → IsCode s → (i : Placed) → HasInstruction s.method.code i → is_some (s.frames i.place) ≡ true → GroupStands s i
+GroupsStand =
+    (s : Source) → IsCode s → (i : Placed) → HasInstruction s.method.code i → is_some (s.frames i.place) ≡ true
+    → GroupStands s i
 
 -- ---- stubs
 

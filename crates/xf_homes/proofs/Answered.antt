@@ -1,5 +1,6 @@
 -- What is answered for a method of the world.
-use Rattle.std.proofs.Common.{◌≡◌, ℕ, ◌+◌, ◌<◌, ◌≤◌, inl, inr, Bool, true, false, List, length, Option, Some, None, option_map, IsSome, IsSomeAnd, IfSome, Result, Ok, Err, IfOk, IfErr, MatchBool, slice_get, refl, sym, ◌∙◌, ap, subst, arith, length-take}
+use Rattle.std.proofs.Common.{◌≡◌, ℕ, ◌+◌, ◌<◌, ◌≤◌, inl, inr, Bool, true, false, List, length, Option, Some, None, option_map, IsSome}
+use Rattle.std.proofs.Common.{IsSomeAnd, IfSome, Result, Ok, Err, IfOk, IfErr, MatchBool, slice_get, refl, sym, ◌∙◌, ap, subst, arith, length-take}
 use Rattle.std.specs.Prelude.{pos, is_some}
 use Rattle.std.proofs.lemmas.Option.{same_Some}
 use Rattle.std.proofs.lemmas.List.Elements.{All-contains}
@@ -35,7 +36,8 @@ use Rattle.xf_homes.proofs.AllHomes.{IsTyped, are-homes}
 -- ---- options
 
 -- the method of a number, by its record and its code
-module _ (w : Linked) (n : ℕ) (rec : MethodRec) (code : List ℕ) (here : slice_get w.methods n ≡ Some rec) (bytes : option_map (code_of w.infos) (slice_get w.methods n) ≡ Some code) where
+module _ (w : Linked) (n : ℕ) (rec : MethodRec) (code : List ℕ) (here : slice_get w.methods n ≡ Some rec)
+    (bytes : option_map (code_of w.infos) (slice_get w.methods n) ≡ Some code) where
   own-code : code_of w.infos rec ≡ code
   own-code = same_Some _ _ (ap (option_map (code_of w.infos)) (sym here) ∙ bytes)
 
@@ -50,7 +52,8 @@ module _ (w : Linked) (n : ℕ) (rec : MethodRec) (code : List ℕ) (here : slic
 
 -- ---- a method with a typing has no flaw
 
-pub flaw-never : FlawsDecide → (w : Linked) (typing : List (Option Frame)) (o : Option Method) (end : ControlEnd) (f : Flaw) → end ≡ Flawed f → IsSomeAnd o (λ m. IsTypingOf w m typing) → IsSomeAnd o (λ m. TellsFlaw m end) → ⊥
+pub flaw-never : FlawsDecide → (w : Linked) (typing : List (Option Frame)) (o : Option Method) (end : ControlEnd) (f : Flaw) → end ≡ Flawed f
+    → IsSomeAnd o (λ m. IsTypingOf w m typing) → IsSomeAnd o (λ m. TellsFlaw m end) → ⊥
 flaw-never decide w typing None end f e typed flaw = typed
 flaw-never decide w typing (Some m) end f e typed flaw =
     let first : IsFirstFlaw m f = subst (TellsFlaw m) e flaw in
@@ -79,7 +82,8 @@ is-there (Some x) h = (x, refl)
 some-fact : {X : Type 0} (P : X → Type 0) (o : Option X) (x : X) → o ≡ Some x → IfSome o P → P x
 some-fact P o x e h = subst (λ r. IfSome r P) e h
 
-module _ (w : Linked) (m : Method) (typing : List (Option Frame)) (typed : IsTypingOf w m typing) (control : Marked) (flow : IsControlFlow m control) (placed : ArePlaced m) (listed : AreListed m.code)
+module _ (w : Linked) (m : Method) (typing : List (Option Frame)) (typed : IsTypingOf w m typing) (control : Marked) (flow : IsControlFlow m control)
+    (placed : ArePlaced m) (listed : AreListed m.code)
     (mo : IsMethodOf w m) (method : IsMethod w.infos w.pools w.classes m.rec) where
   pub is-typed : IsTyped m (state_at typing) control.leaders
   is-typed = record {
@@ -94,7 +98,8 @@ module _ (w : Linked) (m : Method) (typing : List (Option Frame)) (typed : IsTyp
     words = method.words;
   }
 
-  module _ (same : SameTypeDecides) (found : List Home) (is : found ≡ with_events (argument_homes m.rec) (code_events w m (state_at typing) control.leaders)) where
+  module _ (same : SameTypeDecides) (found : List Home)
+      (is : found ≡ with_events (argument_homes m.rec) (code_events w m (state_at typing) control.leaders)) where
     found-homes : AreHomes w m (state_at typing) found
     unfolding homes_found
     found-homes = subst (AreHomes w m (state_at typing)) (sym is) (are-homes same w m (state_at typing) control.leaders is-typed)

@@ -1,5 +1,6 @@
 -- A handler need be asked only where it first covers a place: from there on the values at its entry are kept.
-use Rattle.std.proofs.Common.{◌≡◌, ℕ, zero, suc, ◌+◌, ◌<◌, ◌≤◌, ◌⊎◌, inl, inr, Bool, true, false, not, ◌&&◌, ◌||◌, if◌then◌else◌, List, [], ◌∷◌, ◌++◌, All, Option, Some, None, refl, sym, ◌∙◌, ap, subst, arith}
+use Rattle.std.proofs.Common.{◌≡◌, ℕ, zero, suc, ◌+◌, ◌<◌, ◌≤◌, ◌⊎◌, inl, inr, Bool, true, false, not, ◌&&◌, ◌||◌}
+use Rattle.std.proofs.Common.{if◌then◌else◌, List, [], ◌∷◌, ◌++◌, All, Option, Some, None, refl, sym, ◌∙◌, ap, subst, arith}
 use Rattle.std.specs.Prelude.{fold}
 use Rattle.std.specs.List.{list_any}
 use Rattle.std.proofs.lemmas.Bool.{false≢true}
@@ -15,8 +16,10 @@ use Rattle.jc_decode.specs.declared.insn.Placed.{Placed}
 use Rattle.xf_homes.specs.Home.{register_count}
 use Rattle.jc_rules.specs.Demand.{Frame}
 use Rattle.xf_homes.specs.declared.home.Home.{Home}
-use Rattle.xf_homes.specs.Walk.{Event, same_home, has, with_home, with_home_of_value, with_event, with_events, is_covered, local_of, caught_of, caught_events, local_events, locals_events, frame_events, place_events}
-use Rattle.xf_homes.specs.Asked.{knows, AreKnownAt, AreKnownFrom, LocalsAreKnown, covers_last, is_new, last_local, AreLastKnown, NoneIsNew, HandlersAreAsked, last_after}
+use Rattle.xf_homes.specs.Walk.{Event, same_home, has, with_home, with_home_of_value, with_event, with_events, is_covered, local_of, caught_of, caught_events}
+use Rattle.xf_homes.specs.Walk.{local_events, locals_events, frame_events, place_events}
+use Rattle.xf_homes.specs.Asked.{knows, AreKnownAt, AreKnownFrom, LocalsAreKnown, covers_last, is_new, last_local, AreLastKnown, NoneIsNew, HandlersAreAsked}
+use Rattle.xf_homes.specs.Asked.{last_after}
 use Rattle.xf_homes.proofs.Events.{home-itself}
 
 no-events : (homes : List Home) → with_events homes [] ≡ homes
@@ -45,7 +48,8 @@ has-value : (homes : List Home) (slot : ℕ) (v : Option Ty) (h : Home) → has 
 has-value homes slot None h e = e
 has-value homes slot (Some ty) h e = has-with homes (record { slot = slot; ty = ty }) h e
 
-knows-value : (homes : List Home) (slot : ℕ) (v : Option Ty) (x : ℕ) (u : Option Ty) → knows homes x u ≡ true → knows (with_home_of_value homes slot v) x u ≡ true
+knows-value : (homes : List Home) (slot : ℕ) (v : Option Ty) (x : ℕ) (u : Option Ty) → knows homes x u ≡ true
+    → knows (with_home_of_value homes slot v) x u ≡ true
 knows-value homes slot v x None e = refl
 knows-value homes slot v x (Some ty) e = has-value homes slot v (record { slot = x; ty = ty }) e
 
@@ -70,26 +74,32 @@ abbrev CaughtKnown : (ℕ → Option Frame) → List Home → ℕ → ℕ → Li
 CaughtKnown frames homes p x [] = Unit {0}
 CaughtKnown frames homes p x (h ∷ hs) = (is_covered h p ≡ true → knows homes x (local_of (frames h.entry) x) ≡ true) × CaughtKnown frames homes p x hs
 
-caught-known : (frames : ℕ → Option Frame) (count : ℕ) (homes : List Home) (p x : ℕ) (hs : List Handler) → x < count → AreKnownAt frames count homes p hs → CaughtKnown frames homes p x hs
+caught-known : (frames : ℕ → Option Frame) (count : ℕ) (homes : List Home) (p x : ℕ) (hs : List Handler) → x < count
+    → AreKnownAt frames count homes p hs → CaughtKnown frames homes p x hs
 caught-known frames count homes p x [] inside known = tt
 caught-known frames count homes p x (h ∷ hs) inside known = (λ covers. known.0 covers x inside, caught-known frames count homes p x hs inside known.1)
 
-caught-value : (frames : ℕ → Option Frame) (homes : List Home) (p x : ℕ) (h : Handler) → (is_covered h p ≡ true → knows homes x (local_of (frames h.entry) x) ≡ true) → knows homes x (caught_of frames p x h) ≡ true
+caught-value : (frames : ℕ → Option Frame) (homes : List Home) (p x : ℕ) (h : Handler)
+    → (is_covered h p ≡ true → knows homes x (local_of (frames h.entry) x) ≡ true) → knows homes x (caught_of frames p x h) ≡ true
 caught-value frames homes p x h known = by (is_covered h p) known
   where
-    by : (b : Bool) → (b ≡ true → knows homes x (local_of (frames h.entry) x) ≡ true) → knows homes x (if b then local_of (frames h.entry) x else None) ≡ true
+    by : (b : Bool) → (b ≡ true → knows homes x (local_of (frames h.entry) x) ≡ true)
+        → knows homes x (if b then local_of (frames h.entry) x else None) ≡ true
     by true f = f refl
     by false f = refl
 
-caught-more : (frames : ℕ → Option Frame) (homes : List Home) (slot : ℕ) (v : Option Ty) (p x : ℕ) (hs : List Handler) → CaughtKnown frames homes p x hs → CaughtKnown frames (with_home_of_value homes slot v) p x hs
+caught-more : (frames : ℕ → Option Frame) (homes : List Home) (slot : ℕ) (v : Option Ty) (p x : ℕ) (hs : List Handler)
+    → CaughtKnown frames homes p x hs → CaughtKnown frames (with_home_of_value homes slot v) p x hs
 caught-more frames homes slot v p x [] known = tt
 caught-more frames homes slot v p x (h ∷ hs) known =
     (λ covers. knows-value homes slot v x (local_of (frames h.entry) x) (known.0 covers), caught-more frames homes slot v p x hs known.1)
 
-skip-caught : (frames : ℕ → Option Frame) (homes : List Home) (p x n : ℕ) (hs : List Handler) → CaughtKnown frames homes p x hs → fold with_event homes (caught_events frames p x n hs) ≡ homes
+skip-caught : (frames : ℕ → Option Frame) (homes : List Home) (p x n : ℕ) (hs : List Handler) → CaughtKnown frames homes p x hs
+    → fold with_event homes (caught_events frames p x n hs) ≡ homes
 skip-caught frames homes p x n [] known = refl
 skip-caught frames homes p x n (h ∷ hs) known =
-    ap (λ acc. fold with_event acc (caught_events frames p x (suc n) hs)) (value-kept homes x (caught_of frames p x h) (caught-value frames homes p x h known.0))
+    ap (λ acc. fold with_event acc (caught_events frames p x (suc n) hs))
+    (value-kept homes x (caught_of frames p x h) (caught-value frames homes p x h known.0))
     ∙ skip-caught frames homes p x (suc n) hs known.1
 
 skip-local : (frames : ℕ → Option Frame) (homes : List Home) (p x : ℕ) (hs : List Handler) → CaughtKnown frames homes p x hs
@@ -98,7 +108,8 @@ unfolding local_events
 skip-local frames homes p x hs known =
     sym (skip-caught frames (with_home_of_value homes x (local_of (frames p) x)) p x 0 hs (caught-more frames homes x (local_of (frames p) x) p x hs known))
 
-skip-locals : (frames : ℕ → Option Frame) (count n x : ℕ) (homes : List Home) (p : ℕ) (hs : List Handler) → x + n ≤ count → AreKnownAt frames count homes p hs
+skip-locals : (frames : ℕ → Option Frame) (count n x : ℕ) (homes : List Home) (p : ℕ) (hs : List Handler) → x + n ≤ count
+    → AreKnownAt frames count homes p hs
     → fold with_event homes (locals_events frames [] p x n) ≡ fold with_event homes (locals_events frames hs p x n)
 skip-locals frames count zero x homes p hs inside known = refl
 skip-locals frames count (suc n) x homes p hs inside known =
@@ -124,17 +135,21 @@ nat-cases (suc x) (suc y) le = next (nat-cases x y (omega arith))
 -- of the locals themselves
 
 -- the value of a local that is that at the last place
-pub same-kept : (frames : ℕ → Option Frame) (homes : List Home) (last : Option ℕ) (x : ℕ) (v : Option Ty) → v ≡ last_local frames last x → knows homes x (last_local frames last x) ≡ true → homes ≡ with_home_of_value homes x v
+pub same-kept : (frames : ℕ → Option Frame) (homes : List Home) (last : Option ℕ) (x : ℕ) (v : Option Ty) → v ≡ last_local frames last x
+    → knows homes x (last_local frames last x) ≡ true → homes ≡ with_home_of_value homes x v
 same-kept frames homes last x v is known = sym (value-kept homes x v (subst (λ u. knows homes x u ≡ true) (sym is) known))
 
-pub last-known : (frames : ℕ → Option Frame) (count : ℕ) (homes : List Home) (hs : List Handler) (last : Option ℕ) → LocalsAreKnown frames count homes hs last → AreLastKnown frames count homes last
+pub last-known : (frames : ℕ → Option Frame) (count : ℕ) (homes : List Home) (hs : List Handler) (last : Option ℕ)
+    → LocalsAreKnown frames count homes hs last → AreLastKnown frames count homes last
 unfolding LocalsAreKnown
 last-known frames count homes hs None known = λ x inside. refl
 last-known frames count homes hs (Some q) known = known.0
 
-pub last-more : (frames : ℕ → Option Frame) (count : ℕ) (homes after : List Home) (es : List Event) (last : Option ℕ) → after ≡ with_events homes es → AreLastKnown frames count homes last → AreLastKnown frames count after last
+pub last-more : (frames : ℕ → Option Frame) (count : ℕ) (homes after : List Home) (es : List Event) (last : Option ℕ)
+    → after ≡ with_events homes es → AreLastKnown frames count homes last → AreLastKnown frames count after last
 unfolding with_events
-last-more frames count homes after es last is known = λ x inside. subst (λ hs. knows hs x (last_local frames last x) ≡ true) (sym is) (knows-fold es homes x (last_local frames last x) (known x inside))
+last-more frames count homes after es last is known =
+    λ x inside. subst (λ hs. knows hs x (last_local frames last x) ≡ true) (sym is) (knows-fold es homes x (last_local frames last x) (known x inside))
 
 module _ (same : SameTypeDecides) where
   has-last : (homes : List Home) (h : Home) → has (homes ++ h ∷ []) h ≡ true
@@ -149,18 +164,21 @@ module _ (same : SameTypeDecides) where
   value-known homes x None = refl
   value-known homes x (Some ty) = by (has homes (record { slot = x; ty = ty })) refl
     where
-      by : (b : Bool) → has homes (record { slot = x; ty = ty }) ≡ b → has (if b then homes else homes ++ record { slot = x; ty = ty } ∷ []) (record { slot = x; ty = ty }) ≡ true
+      by : (b : Bool) → has homes (record { slot = x; ty = ty }) ≡ b → has (if b then homes else homes ++ record { slot = x; ty = ty } ∷ [])
+          (record { slot = x; ty = ty }) ≡ true
       by true e = e
       by false e = has-last homes (record { slot = x; ty = ty })
 
-  asked-caught : (frames : ℕ → Option Frame) (homes : List Home) (p x n : ℕ) (hs : List Handler) → CaughtKnown frames (fold with_event homes (caught_events frames p x n hs)) p x hs
+  asked-caught : (frames : ℕ → Option Frame) (homes : List Home) (p x n : ℕ) (hs : List Handler)
+      → CaughtKnown frames (fold with_event homes (caught_events frames p x n hs)) p x hs
   asked-caught frames homes p x n [] = tt
   asked-caught frames homes p x n (h ∷ hs) =
       let acc = with_home_of_value homes x (caught_of frames p x h) in
       let rest = caught_events frames p x (suc n) hs in (
         λ covers.
             let is : caught_of frames p x h ≡ local_of (frames h.entry) x = ap (λ b. if b then local_of (frames h.entry) x else None) covers in
-            subst (λ v. knows (fold with_event acc rest) x v ≡ true) is (knows-fold rest acc x (caught_of frames p x h) (value-known homes x (caught_of frames p x h))),
+            subst (λ v. knows (fold with_event acc rest) x v ≡ true) is
+            (knows-fold rest acc x (caught_of frames p x h) (value-known homes x (caught_of frames p x h))),
         asked-caught frames acc p x (suc n) hs,
       )
 
@@ -168,27 +186,34 @@ module _ (same : SameTypeDecides) where
   abbrev AreKnownUpTo : (ℕ → Option Frame) → List Home → ℕ → ℕ → ℕ → List Handler → Type 0
   AreKnownUpTo frames homes p x end [] = Unit {0}
   AreKnownUpTo frames homes p x end (h ∷ hs) =
-      (is_covered h p ≡ true → (y : ℕ) → x ≤ y → y < end → knows homes y (local_of (frames h.entry) y) ≡ true) × AreKnownUpTo frames homes p x end hs
+      (is_covered h p ≡ true → (y : ℕ) → x ≤ y → y < end → knows homes y (local_of (frames h.entry) y) ≡ true)
+      × AreKnownUpTo frames homes p x end hs
 
   no-locals : (frames : ℕ → Option Frame) (homes : List Home) (p x : ℕ) (hs : List Handler) → AreKnownUpTo frames homes p x (x + 0) hs
   no-locals frames homes p x [] = tt
   no-locals frames homes p x (h ∷ hs) = (λ covers y low high. absurd (omega arith), no-locals frames homes p x hs)
 
   first-local : (frames : ℕ → Option Frame) (homes : List Home) (es : List Event) (p x n : ℕ) (hs : List Handler)
-      → CaughtKnown frames homes p x hs → AreKnownUpTo frames (fold with_event homes es) p (suc x) (suc x + n) hs → AreKnownUpTo frames (fold with_event homes es) p x (x + suc n) hs
+      → CaughtKnown frames homes p x hs → AreKnownUpTo frames (fold with_event homes es) p (suc x) (suc x + n) hs
+      → AreKnownUpTo frames (fold with_event homes es) p x (x + suc n) hs
   first-local frames homes es p x n [] first rest = tt
   first-local frames homes es p x n (h ∷ hs) first rest =
       (λ covers y low high. by covers y low high (nat-cases x y low), first-local frames homes es p x n hs first.1 rest.1)
     where
-      by : is_covered h p ≡ true → (y : ℕ) → x ≤ y → y < x + suc n → (x ≡ y) ⊎ (suc x ≤ y) → knows (fold with_event homes es) y (local_of (frames h.entry) y) ≡ true
-      by covers y low high (inl e) = subst (λ z. knows (fold with_event homes es) z (local_of (frames h.entry) z) ≡ true) e (knows-fold es homes x (local_of (frames h.entry) x) (first.0 covers))
+      by : is_covered h p ≡ true → (y : ℕ) → x ≤ y → y < x + suc n → (x ≡ y) ⊎ (suc x ≤ y)
+          → knows (fold with_event homes es) y (local_of (frames h.entry) y) ≡ true
+      by covers y low high (inl e) =
+          subst (λ z. knows (fold with_event homes es) z (local_of (frames h.entry) z) ≡ true) e
+          (knows-fold es homes x (local_of (frames h.entry) x) (first.0 covers))
       by covers y low high (inr l) = rest.0 covers y l (omega arith)
 
-  asked-local : (frames : ℕ → Option Frame) (homes : List Home) (p x : ℕ) (hs : List Handler) → CaughtKnown frames (fold with_event homes (local_events frames hs p x)) p x hs
+  asked-local : (frames : ℕ → Option Frame) (homes : List Home) (p x : ℕ) (hs : List Handler)
+      → CaughtKnown frames (fold with_event homes (local_events frames hs p x)) p x hs
   unfolding local_events
   asked-local frames homes p x hs = asked-caught frames (with_home_of_value homes x (local_of (frames p) x)) p x 0 hs
 
-  asked-locals : (frames : ℕ → Option Frame) (n x : ℕ) (homes : List Home) (p : ℕ) (hs : List Handler) → AreKnownUpTo frames (fold with_event homes (locals_events frames hs p x n)) p x (x + n) hs
+  asked-locals : (frames : ℕ → Option Frame) (n x : ℕ) (homes : List Home) (p : ℕ) (hs : List Handler)
+      → AreKnownUpTo frames (fold with_event homes (locals_events frames hs p x n)) p x (x + n) hs
   asked-locals frames zero x homes p hs = no-locals frames homes p x hs
   asked-locals frames (suc n) x homes p hs =
       let acc = fold with_event homes (local_events frames hs p x) in
@@ -196,11 +221,14 @@ module _ (same : SameTypeDecides) where
       subst (λ a. AreKnownUpTo frames a p x (x + suc n) hs) (sym (fold-append with_event homes (local_events frames hs p x) rest))
       (first-local frames acc rest p x n hs (asked-local frames homes p x hs) (asked-locals frames n (suc x) acc p hs))
 
-  from-first : (frames : ℕ → Option Frame) (count : ℕ) (homes : List Home) (p : ℕ) (hs : List Handler) → AreKnownUpTo frames homes p 0 (0 + count) hs → AreKnownAt frames count homes p hs
+  from-first : (frames : ℕ → Option Frame) (count : ℕ) (homes : List Home) (p : ℕ) (hs : List Handler)
+      → AreKnownUpTo frames homes p 0 (0 + count) hs → AreKnownAt frames count homes p hs
   from-first frames count homes p [] known = tt
-  from-first frames count homes p (h ∷ hs) known = (λ covers x inside. known.0 covers x (omega arith) (omega arith), from-first frames count homes p hs known.1)
+  from-first frames count homes p (h ∷ hs) known =
+      (λ covers x inside. known.0 covers x (omega arith) (omega arith), from-first frames count homes p hs known.1)
 
-  asked-own : (frames : ℕ → Option Frame) (n x : ℕ) (homes : List Home) (p : ℕ) (hs : List Handler) (y : ℕ) → x ≤ y → y < x + n → knows (fold with_event homes (locals_events frames hs p x n)) y (local_of (frames p) y) ≡ true
+  asked-own : (frames : ℕ → Option Frame) (n x : ℕ) (homes : List Home) (p : ℕ) (hs : List Handler) (y : ℕ) → x ≤ y → y < x + n
+      → knows (fold with_event homes (locals_events frames hs p x n)) y (local_of (frames p) y) ≡ true
   unfolding local_events
   asked-own frames zero x homes p hs y low high = absurd (omega arith)
   asked-own frames (suc n) x homes p hs y low high =
@@ -209,12 +237,17 @@ module _ (same : SameTypeDecides) where
       subst (λ a. knows a y (local_of (frames p) y) ≡ true) (sym (fold-append with_event homes (local_events frames hs p x) rest))
       (by (nat-cases x y low) (λ l. asked-own frames n (suc x) acc p hs y l (omega arith)))
     where
-      by : (x ≡ y) ⊎ (suc x ≤ y) → (suc x ≤ y → knows (fold with_event (fold with_event homes (local_events frames hs p x)) (locals_events frames hs p (suc x) n)) y (local_of (frames p) y) ≡ true)
-          → knows (fold with_event (fold with_event homes (local_events frames hs p x)) (locals_events frames hs p (suc x) n)) y (local_of (frames p) y) ≡ true
+      by : (x ≡ y) ⊎ (suc x ≤ y)
+          → (suc x ≤ y → knows (fold with_event (fold with_event homes (local_events frames hs p x)) (locals_events frames hs p (suc x) n)) y
+          (local_of (frames p) y) ≡ true)
+          → knows (fold with_event (fold with_event homes (local_events frames hs p x)) (locals_events frames hs p (suc x) n)) y (local_of (frames p) y)
+          ≡ true
       by (inl e) later =
-          subst (λ z. knows (fold with_event (fold with_event homes (local_events frames hs p x)) (locals_events frames hs p (suc x) n)) z (local_of (frames p) z) ≡ true) e
+          subst (λ z. knows (fold with_event (fold with_event homes (local_events frames hs p x)) (locals_events frames hs p (suc x) n)) z
+          (local_of (frames p) z) ≡ true) e
           (knows-fold (locals_events frames hs p (suc x) n) (fold with_event homes (local_events frames hs p x)) x (local_of (frames p) x)
-          (knows-fold (caught_events frames p x 0 hs) (with_home_of_value homes x (local_of (frames p) x)) x (local_of (frames p) x) (value-known homes x (local_of (frames p) x))))
+          (knows-fold (caught_events frames p x 0 hs) (with_home_of_value homes x (local_of (frames p) x)) x (local_of (frames p) x)
+          (value-known homes x (local_of (frames p) x))))
       by (inr l) later = later l
 
   -- after a reached place
@@ -240,7 +273,8 @@ module _ (frames : ℕ → Option Frame) (count : ℕ) (homes : List Home) (p : 
       by true false e c = absurd (false≢true (sym e))
       by false b e c = absurd (false≢true c)
 
-  none-asked : (q : ℕ) (hs : List Handler) → All (λ h. is_new h p (Some q) ≡ false) hs → AreKnownAt frames count homes q hs → AreKnownAt frames count homes p hs
+  none-asked : (q : ℕ) (hs : List Handler) → All (λ h. is_new h p (Some q) ≡ false) hs → AreKnownAt frames count homes q hs
+      → AreKnownAt frames count homes p hs
   none-asked q [] none known = tt
   none-asked q (h ∷ hs) none known = (
     λ covers. known.0 (old-handler h (Some q) (All-head (λ h. is_new h p (Some q) ≡ false) h hs none) covers),
@@ -254,7 +288,8 @@ module _ (frames : ℕ → Option Frame) (count : ℕ) (homes : List Home) (p : 
     none-covers hs (All-tail (λ h. is_new h p None ≡ false) h hs none),
   )
 
-  known-here : (last : Option ℕ) (hs : List Handler) → NoneIsNew hs p last → LocalsAreKnown frames count homes hs last → AreKnownAt frames count homes p hs
+  known-here : (last : Option ℕ) (hs : List Handler) → NoneIsNew hs p last → LocalsAreKnown frames count homes hs last
+      → AreKnownAt frames count homes p hs
   unfolding NoneIsNew LocalsAreKnown
   known-here None hs none known = none-covers hs none
   known-here (Some q) hs none known = none-asked q hs none known.1
@@ -265,17 +300,22 @@ module _ (frames : ℕ → Option Frame) (count : ℕ) (homes : List Home) (p : 
   unfolding with_events
   asked-alike last hs asked (inl e) known = ap (λ r. fold with_event homes (locals_events frames r p 0 count)) e
   asked-alike last hs asked (inr e) known =
-      ap (λ r. fold with_event homes (locals_events frames r p 0 count)) e.0 ∙ skip-locals frames count count 0 homes p hs (omega arith) (known-here last hs e.1 known)
+      ap (λ r. fold with_event homes (locals_events frames r p 0 count)) e.0 ∙ skip-locals frames count count 0 homes p hs (omega arith)
+      (known-here last hs e.1 known)
 
 -- ---- along the walk
 
 module _ (same : SameTypeDecides) (w : Linked) (m : Method) (frames : ℕ → Option Frame) (leaders : List Bool) where
   -- after an instruction the handlers are known from the last reached place on, the instruction's if control reaches it
   pub known-after : (homes after : List Home) (i : Placed) (last : Option ℕ) → LocalsAreKnown frames (register_count m.rec) homes m.rec.handlers last
-      → after ≡ with_events homes (place_events w m frames leaders i) → LocalsAreKnown frames (register_count m.rec) after m.rec.handlers (last_after (frames i.place) i.place last)
+      → after ≡ with_events homes (place_events w m frames leaders i) → LocalsAreKnown frames (register_count m.rec) after m.rec.handlers
+      (last_after (frames i.place) i.place last)
   unfolding place_events
   known-after homes after i last known is = by (frames i.place) is
     where
-      by : (f : Option Frame) → after ≡ with_events homes (frame_events w m frames leaders i f) → LocalsAreKnown frames (register_count m.rec) after m.rec.handlers (last_after f i.place last)
+      by : (f : Option Frame) → after ≡ with_events homes (frame_events w m frames leaders i f)
+          → LocalsAreKnown frames (register_count m.rec) after m.rec.handlers (last_after f i.place last)
       by None e = subst (λ hs. LocalsAreKnown frames (register_count m.rec) hs m.rec.handlers last) (sym (e ∙ no-events homes)) known
-      by (Some f) e = subst (λ hs. LocalsAreKnown frames (register_count m.rec) hs m.rec.handlers (Some i.place)) (sym e) (asked-at same frames (register_count m.rec) homes i.place m.rec.handlers _)
+      by (Some f) e =
+          subst (λ hs. LocalsAreKnown frames (register_count m.rec) hs m.rec.handlers (Some i.place)) (sym e)
+          (asked-at same frames (register_count m.rec) homes i.place m.rec.handlers _)

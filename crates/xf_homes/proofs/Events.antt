@@ -1,5 +1,6 @@
 -- What is kept of a list of events at rising spots: each pair once, at the first spot at which it is met.
-use Rattle.std.proofs.Common.{◌≡◌, ℕ, ◌⊎◌, inl, inr, Bool, true, false, ◌||◌, ◌==◌, if◌then◌else◌, List, [], ◌∷◌, ◌++◌, Option, Some, None, refl, sym, ◌∙◌, ap, subst, arith, append_assoc}
+use Rattle.std.proofs.Common.{◌≡◌, ℕ, ◌⊎◌, inl, inr, Bool, true, false, ◌||◌, ◌==◌, if◌then◌else◌, List, [], ◌∷◌, ◌++◌}
+use Rattle.std.proofs.Common.{Option, Some, None, refl, sym, ◌∙◌, ap, subst, arith, append_assoc}
 use Rattle.std.specs.Prelude.{fold}
 use Rattle.std.specs.List.{list_any}
 use Rattle.std.proofs.lemmas.Bool.{false≢true, and_parts, and_from}
@@ -77,14 +78,17 @@ module _ (same : SameTypeDecides) where
       ap (λ (n : ℕ). record { slot = n; ty = a.ty }) slots ∙ ap (λ (t : Ty). record { slot = b.slot; ty = t }) types
 
   pub home-itself : (a : Home) → same_home a a ≡ true
-  home-itself a = let slots : (a.slot == a.slot) ≡ true = grind (arith, nat_tests) in and_from (a.slot == a.slot) (same_type a.ty a.ty) slots ((same a.ty a.ty).1 refl)
+  home-itself a =
+      let slots : (a.slot == a.slot) ≡ true = grind (arith, nat_tests) in
+      and_from (a.slot == a.slot) (same_type a.ty a.ty) slots ((same a.ty a.ty).1 refl)
 
   pub has-among : (homes : List Home) (h : Home) → has homes h ≡ true → IsAmong h homes
   unfolding has
   has-among [] h e = absurd (cc)
   has-among (k ∷ ks) h e = by (same_home k h) refl e (λ r. has-among ks h r)
     where
-      by : (b : Bool) → same_home k h ≡ b → (b || list_any (λ j. same_home j h) ks) ≡ true → (list_any (λ j. same_home j h) ks ≡ true → IsAmong h ks) → IsAmong h (k ∷ ks)
+      by : (b : Bool) → same_home k h ≡ b → (b || list_any (λ j. same_home j h) ks) ≡ true
+          → (list_any (λ j. same_home j h) ks ≡ true → IsAmong h ks) → IsAmong h (k ∷ ks)
       by true q r rest = inl (homes-equal k h q)
       by false q r rest = inr (rest r)
 
@@ -108,7 +112,8 @@ module _ (same : SameTypeDecides) where
         split other (inl at) = absurd (never other at)
         split other (inr o) = b.first other o
 
-    each-more : (h : Home) (ks : List Home) → ((k : Home) → IsAmong k ks → (s : PairSpot) → IsAt e s k → ⊥) → Each (OccursBefore es h) ks → Each (OccursBefore (e ∷ es) h) ks
+    each-more : (h : Home) (ks : List Home) → ((k : Home) → IsAmong k ks → (s : PairSpot) → IsAt e s k → ⊥) → Each (OccursBefore es h) ks
+        → Each (OccursBefore (e ∷ es) h) ks
     each-more h [] never each = tt
     each-more h (k ∷ ks) never each = (before-more (never k (inl refl)) each.0, each-more h ks (λ j a. never j (inr a)) each.1)
 
@@ -117,7 +122,8 @@ module _ (same : SameTypeDecides) where
     ordered-more (k ∷ ks) never o = (each-more k ks (λ j a. never j (inr a)) o.0, ordered-more ks (λ j a. never j (inr a)) o.1)
 
     -- what it would meet is there, or nothing is
-    skipped : (before after : List Home) → ((h : Home) (s : PairSpot) → IsAt e s h → IsAmong h before) → Kept before es after → Kept before (e ∷ es) after
+    skipped : (before after : List Home) → ((h : Home) (s : PairSpot) → IsAt e s h → IsAmong h before) → Kept before es after
+        → Kept before (e ∷ es) after
     skipped before after there k = record {
       new = k.new;
       parts = k.parts;
@@ -132,7 +138,8 @@ module _ (same : SameTypeDecides) where
         split h s n (inr o) = k.all h s o n
 
     -- the pair is new
-    added : (before after : List Home) (home : Home) → ((h : Home) (s : PairSpot) → IsAt e s h → home ≡ h) → IsAt e e.spot home → ¬ (IsAmong home before)
+    added : (before after : List Home) (home : Home) → ((h : Home) (s : PairSpot) → IsAt e s h → home ≡ h) → IsAt e e.spot home
+        → ¬ (IsAmong home before)
         → Each (λ k. ComesBefore e.spot k.spot) es → Kept (before ++ home ∷ []) es after → Kept before (e ∷ es) after
     added before after home only here none rises k = record {
       new = home ∷ k.new;
@@ -154,7 +161,8 @@ module _ (same : SameTypeDecides) where
         not-there h (inl same_is) = λ b. none (subst (λ j. IsAmong j before) (sym same_is) b)
         not-there h (inr a) = λ b. k.fresh h a (among-left h before (home ∷ []) b)
 
-        later : (h : Home) (s : PairSpot) → ¬ (IsAmong h before) → Occurs es s h → (b : Bool) → same_home home h ≡ b → (home ≡ h) ⊎ IsAmong h k.new
+        later : (h : Home) (s : PairSpot) → ¬ (IsAmong h before) → Occurs es s h → (b : Bool) → same_home home h ≡ b → (home ≡ h)
+            ⊎ IsAmong h k.new
         later h s n o true q = inl (homes-equal home h q)
         later h s n o false q = inr (k.all h s o (λ a. split (IsAmong-append_cases h before (home ∷ []) a)))
           where
@@ -199,16 +207,20 @@ module _ (same : SameTypeDecides) where
           let types : ty ≡ h.ty = some-type (sym v ∙ at.value) in
           ap (λ (n : ℕ). record { slot = n; ty = ty }) at.slot ∙ ap (λ (t : Ty). record { slot = h.slot; ty = t }) types
 
-      with-one : (ty : Ty) → e.value ≡ Some ty → ((acc : List Home) → Kept acc es (fold with_event acc es)) → (b : Bool) → has before (record { slot = e.spot.slot; ty = ty }) ≡ b
+      with-one : (ty : Ty) → e.value ≡ Some ty → ((acc : List Home) → Kept acc es (fold with_event acc es)) → (b : Bool)
+          → has before (record { slot = e.spot.slot; ty = ty }) ≡ b
           → Kept before (e ∷ es) (fold with_event (if b then before else before ++ record { slot = e.spot.slot; ty = ty } ∷ []) es)
       with-one ty v rest true q =
           skipped e es before (fold with_event before es)
           (λ h s at. subst (λ j. IsAmong j before) (is-home ty v h s at) (has-among before (record { slot = e.spot.slot; ty = ty }) q)) (rest before)
       with-one ty v rest false q =
-          added e es before (fold with_event (before ++ record { slot = e.spot.slot; ty = ty } ∷ []) es) (record { slot = e.spot.slot; ty = ty }) (is-home ty v)
+          added e es before (fold with_event (before ++ record { slot = e.spot.slot; ty = ty } ∷ []) es) (record { slot = e.spot.slot; ty = ty })
+          (is-home ty v)
           (record { spot = refl; slot = refl; value = v })
-          (λ a. false≢true (sym q ∙ among-has before (record { slot = e.spot.slot; ty = ty }) a)) r.0 (rest (before ++ record { slot = e.spot.slot; ty = ty } ∷ []))
+          (λ a. false≢true (sym q ∙ among-has before (record { slot = e.spot.slot; ty = ty }) a)) r.0
+          (rest (before ++ record { slot = e.spot.slot; ty = ty } ∷ []))
 
-      by : (v : Option Ty) → e.value ≡ v → ((acc : List Home) → Kept acc es (fold with_event acc es)) → Kept before (e ∷ es) (fold with_event (with_home_of_value before e.spot.slot v) es)
+      by : (v : Option Ty) → e.value ≡ v → ((acc : List Home) → Kept acc es (fold with_event acc es))
+          → Kept before (e ∷ es) (fold with_event (with_home_of_value before e.spot.slot v) es)
       by None v rest = skipped e es before (fold with_event before es) (λ h s at. absurd (nothing-met (sym v ∙ at.value))) (rest before)
       by (Some ty) v rest = with-one ty v rest (has before (record { slot = e.spot.slot; ty = ty })) refl

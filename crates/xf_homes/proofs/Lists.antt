@@ -1,5 +1,6 @@
 -- Lists of homes that are gone over from the front.
-use Rattle.std.proofs.Common.{◌≡◌, ℕ, zero, suc, ◌+◌, ◌<◌, ◌≤◌, ◌||◌, Bool, true, false, if◌then◌else◌, List, [], ◌∷◌, length, take, drop, Some, sum_by, refl, sym, ◌∙◌, ap, arith, drop-cons}
+use Rattle.std.proofs.Common.{◌≡◌, ℕ, zero, suc, ◌+◌, ◌<◌, ◌≤◌, ◌||◌, Bool, true, false, if◌then◌else◌, List, [], ◌∷◌}
+use Rattle.std.proofs.Common.{length, take, drop, Some, sum_by, refl, sym, ◌∙◌, ap, arith, drop-cons}
 use Rattle.std.specs.Prelude.{get_or}
 use Rattle.std.specs.List.{list_any}
 use Rattle.std.proofs.lemmas.List.{take_more}
@@ -21,14 +22,19 @@ rest-none (h ∷ hs) (suc n) le = rest-none hs n (omega arith)
 
 -- ---- whether a home is there
 
-pub has-here : (homes : List Home) (home : Home) (n : ℕ) (d : Home) → n < length homes → (b : Bool) → b ≡ same_home (get_or homes n d) home → b ≡ true → has (drop n homes) home ≡ true
+pub has-here : (homes : List Home) (home : Home) (n : ℕ) (d : Home) → n < length homes → (b : Bool) → b ≡ same_home (get_or homes n d) home
+    → b ≡ true → has (drop n homes) home ≡ true
 unfolding has
-has-here homes home n d lt b e t = ap (λ hs. list_any (λ k. same_home k home) hs) (rest-cons homes n d lt) ∙ ap (λ c. c || list_any (λ k. same_home k home) (drop (n + 1) homes)) (sym e ∙ t)
+has-here homes home n d lt b e t =
+    ap (λ hs. list_any (λ k. same_home k home) hs) (rest-cons homes n d lt) ∙ ap (λ c. c || list_any (λ k. same_home k home) (drop (n + 1) homes))
+    (sym e ∙ t)
 
-pub has-later : (homes : List Home) (home : Home) (n : ℕ) (d : Home) → n < length homes → (b : Bool) → b ≡ same_home (get_or homes n d) home → b ≡ false → has (drop (n + 1) homes) home ≡ has (drop n homes) home
+pub has-later : (homes : List Home) (home : Home) (n : ℕ) (d : Home) → n < length homes → (b : Bool) → b ≡ same_home (get_or homes n d) home
+    → b ≡ false → has (drop (n + 1) homes) home ≡ has (drop n homes) home
 unfolding has
 has-later homes home n d lt b e f =
-    sym (ap (λ hs. list_any (λ k. same_home k home) hs) (rest-cons homes n d lt) ∙ ap (λ c. c || list_any (λ k. same_home k home) (drop (n + 1) homes)) (sym e ∙ f))
+    sym (ap (λ hs. list_any (λ k. same_home k home) hs) (rest-cons homes n d lt)
+    ∙ ap (λ c. c || list_any (λ k. same_home k home) (drop (n + 1) homes)) (sym e ∙ f))
 
 pub has-past : (homes : List Home) (home : Home) (n : ℕ) → length homes ≤ n → has (drop n homes) home ≡ false
 unfolding has
@@ -40,21 +46,24 @@ pub sum-none : register_sum [] ≡ 0
 unfolding register_sum
 sum-none = refl
 
-pub sum-next : (homes : List Home) (n : ℕ) (d : Home) (v : ℕ) → n < length homes → v ≡ type_width (get_or homes n d).ty → register_sum (take (n + 1) homes) ≡ register_sum (take n homes) + v
+pub sum-next : (homes : List Home) (n : ℕ) (d : Home) (v : ℕ) → n < length homes → v ≡ type_width (get_or homes n d).ty
+    → register_sum (take (n + 1) homes) ≡ register_sum (take n homes) + v
 unfolding register_sum
 sum-next homes n d v lt e =
     ap (sum_by (λ h. type_width h.ty)) (take_more homes n d lt)
     ∙ sum_by-append (λ h. type_width h.ty) (take n homes) (get_or homes n d ∷ [])
     ∙ ap (λ k. sum_by (λ h. type_width h.ty) (take n homes) + k) (sum_by-cons (λ h. type_width h.ty) (get_or homes n d) [] ∙ omega (arith, e))
 
-pub sum-rest : (homes : List Home) (n : ℕ) (d : Home) (v : ℕ) → n < length homes → v ≡ type_width (get_or homes n d).ty → register_sum (drop n homes) ≡ v + register_sum (drop (n + 1) homes)
+pub sum-rest : (homes : List Home) (n : ℕ) (d : Home) (v : ℕ) → n < length homes → v ≡ type_width (get_or homes n d).ty
+    → register_sum (drop n homes) ≡ v + register_sum (drop (n + 1) homes)
 unfolding register_sum
 sum-rest homes n d v lt e =
     ap (sum_by (λ h. type_width h.ty)) (rest-cons homes n d lt)
     ∙ sum_by-cons (λ h. type_width h.ty) (get_or homes n d) (drop (n + 1) homes)
     ∙ ap (λ k. k + sum_by (λ h. type_width h.ty) (drop (n + 1) homes)) (sym e)
 
-pub register-next : (homes : List Home) (home : Home) (n r : ℕ) (d : Home) (v : ℕ) (b : Bool) → n < length homes → v ≡ type_width (get_or homes n d).ty → b ≡ same_home (get_or homes n d) home → b ≡ false
+pub register-next : (homes : List Home) (home : Home) (n r : ℕ) (d : Home) (v : ℕ) (b : Bool) → n < length homes
+    → v ≡ type_width (get_or homes n d).ty → b ≡ same_home (get_or homes n d) home → b ≡ false
     → register_from (r + v) (drop (n + 1) homes) home ≡ register_from r (drop n homes) home
 register-next homes home n r d v b lt w e f =
     sym (ap (λ hs. register_from r hs home) (rest-cons homes n d lt)

@@ -1,5 +1,7 @@
 -- The events of a walk over the code are what is met.
-use Rattle.std.proofs.Common.{◌≡◌, ℕ, zero, suc, ◌+◌, ◌<◌, ◌≤◌, ◌⊎◌, inl, inr, Bool, true, false, nat_le, nat_lt, if◌then◌else◌, List, [], ◌∷◌, ◌++◌, length, reverse, flat_map, Option, Some, None, Result, Ok, IsSomeAnd, slice_get, refl, sym, ◌∙◌, ap, subst, arith}
+use Rattle.std.proofs.Common.{◌≡◌, ℕ, zero, suc, ◌+◌, ◌<◌, ◌≤◌, ◌⊎◌, inl, inr, Bool, true, false, nat_le, nat_lt}
+use Rattle.std.proofs.Common.{if◌then◌else◌, List, [], ◌∷◌, ◌++◌, length, reverse, flat_map, Option, Some, None, Result, Ok, IsSomeAnd}
+use Rattle.std.proofs.Common.{slice_get, refl, sym, ◌∙◌, ap, subst, arith}
 use Rattle.std.proofs.lemmas.Bool.{false≢true, and_parts, or_cases, or_right, or_left}
 use Rattle.std.proofs.lemmas.Bool.Decides.{nat_tests}
 use Rattle.std.proofs.lemmas.Option.{slice_get_within, same_Some}
@@ -27,7 +29,8 @@ use Rattle.jc_rules.specs.Footprint.{footprint}
 use Rattle.xf_homes.specs.declared.home.Home.{Home}
 use Rattle.xf_homes.specs.Value.{value_of, value_in_cells}
 use Rattle.xf_homes.specs.Home.{PairSpot, register_count, IsAsked, asked_here, asked_caught, IsConditional, KeepsStack, IsMetAt, met_local, met_cell}
-use Rattle.xf_homes.specs.Walk.{Event, local_of, is_covered, caught_of, caught_events, local_events, locals_events, cells_events, operands_of, is_deeper, keeps_stack, stack_events, frame_events, place_events, code_events}
+use Rattle.xf_homes.specs.Walk.{Event, local_of, is_covered, caught_of, caught_events, local_events, locals_events, cells_events, operands_of, is_deeper}
+use Rattle.xf_homes.specs.Walk.{keeps_stack, stack_events, frame_events, place_events, code_events}
 use Rattle.xf_homes.proofs.Events.{Occurs}
 
 -- ---- occurrences in parts
@@ -60,7 +63,8 @@ value-inside cells n ty e = by (slice_get cells n) refl e
     by None q e = absurd (cc)
     by (Some a) q e = slice_get_within cells n a q
 
-pub local-at : (frames : ℕ → Option Frame) (p x : ℕ) (ty : Ty) (o : Option Frame) → local_of o x ≡ Some ty → IsSomeAnd o (λ f. value_in_cells f.regs x ≡ Some ty)
+pub local-at : (frames : ℕ → Option Frame) (p x : ℕ) (ty : Ty) (o : Option Frame) → local_of o x ≡ Some ty
+    → IsSomeAnd o (λ f. value_in_cells f.regs x ≡ Some ty)
 local-at frames p x ty None e = absurd (cc)
 local-at frames p x ty (Some f) e = e
 
@@ -82,7 +86,8 @@ covers h p c =
 -- ---- what is asked for a local
 
 module _ (m : Method) (frames : ℕ → Option Frame) (p x : ℕ) where
-  pub caught-asked : (h : Handler) (n : ℕ) (ty : Ty) → slice_get m.rec.handlers n ≡ Some h → (b : Bool) → is_covered h p ≡ b → (if b then local_of (frames h.entry) x else None) ≡ Some ty → IsAsked m frames p x (suc n) ty
+  pub caught-asked : (h : Handler) (n : ℕ) (ty : Ty) → slice_get m.rec.handlers n ≡ Some h → (b : Bool) → is_covered h p ≡ b
+      → (if b then local_of (frames h.entry) x else None) ≡ Some ty → IsAsked m frames p x (suc n) ty
   caught-asked h n ty at true q e = asked_caught at (covered h p q) (local-at frames p x ty (frames h.entry) e)
   caught-asked h n ty at false q e = absurd (cc)
 
@@ -123,13 +128,15 @@ module _ (m : Method) (frames : ℕ → Option Frame) (p x : ℕ) where
       inl (record { spot = ap (λ (i : ℕ). record { place = p; slot = x; time = suc i }) sum; slot = refl; value = ap (caught_of frames p x) same ∙ e })
   caught-occurs n (j ∷ js) (suc k) h ty at e =
       let sum : suc n + k ≡ n + suc k = omega arith in
-      inr (subst (λ i. Occurs (caught_events frames p x (suc n) js) (record { place = p; slot = x; time = suc i }) (record { slot = x; ty = ty })) sum (caught-occurs (suc n) js k h ty at e))
+      inr (subst (λ i. Occurs (caught_events frames p x (suc n) js) (record { place = p; slot = x; time = suc i }) (record { slot = x; ty = ty })) sum
+      (caught-occurs (suc n) js k h ty at e))
 
   occurs-local : (s : PairSpot) (h : Home) → IsReached m p → (w : Linked) → Occurs (local_events frames m.rec.handlers p x) s h → IsMetAt w m frames s h
   unfolding local_events
   occurs-local s h reached w (inl at) =
       subst (λ r. IsMetAt w m frames r h) at.spot
-      (subst (λ n. IsMetAt w m frames (record { place = p; slot = x; time = 0 }) (record { slot = n; ty = h.ty })) at.slot (met_local reached (asked_here (local-at frames p x h.ty (frames p) at.value))))
+      (subst (λ n. IsMetAt w m frames (record { place = p; slot = x; time = 0 }) (record { slot = n; ty = h.ty })) at.slot
+      (met_local reached (asked_here (local-at frames p x h.ty (frames p) at.value))))
   occurs-local s h reached w (inr o) =
       let c = occurs-caught 0 m.rec.handlers s h o in
       let sum : c.number ≡ 0 + c.number = omega arith in
@@ -137,13 +144,15 @@ module _ (m : Method) (frames : ℕ → Option Frame) (p x : ℕ) where
       (subst (λ n. IsMetAt w m frames (record { place = p; slot = x; time = suc c.number }) (record { slot = n; ty = h.ty })) c.slot
       (met_local reached (caught-asked c.handler c.number h.ty c.at (is_covered c.handler p) refl c.value)))
 
-  pub local-occurs : (n : ℕ) (ty : Ty) → IsAsked m frames p x n ty → Occurs (local_events frames m.rec.handlers p x) (record { place = p; slot = x; time = n }) (record { slot = x; ty = ty })
+  pub local-occurs : (n : ℕ) (ty : Ty) → IsAsked m frames p x n ty
+      → Occurs (local_events frames m.rec.handlers p x) (record { place = p; slot = x; time = n }) (record { slot = x; ty = ty })
   unfolding local_events
   local-occurs _ ty (asked_here at) = inl (record { spot = refl; slot = refl; value = at-local x ty (frames p) at })
   local-occurs _ ty (asked_caught {n = n} {h = h} at cov here) =
       let value : caught_of frames p x h ≡ Some ty = rw (covers h p cov) (at-local x ty (frames h.entry) here) in
       let sum : 0 + n ≡ n = omega arith in
-      inr (subst (λ i. Occurs (caught_events frames p x 0 m.rec.handlers) (record { place = p; slot = x; time = suc i }) (record { slot = x; ty = ty })) sum (caught-occurs 0 m.rec.handlers n h ty at value))
+      inr (subst (λ i. Occurs (caught_events frames p x 0 m.rec.handlers) (record { place = p; slot = x; time = suc i }) (record { slot = x; ty = ty }))
+      sum (caught-occurs 0 m.rec.handlers n h ty at value))
 
 module _ (w : Linked) (m : Method) (frames : ℕ → Option Frame) (p : ℕ) (reached : IsReached m p) where
   occurs-locals : (x n : ℕ) (s : PairSpot) (h : Home) → Occurs (locals_events frames m.rec.handlers p x n) s h → IsMetAt w m frames s h
@@ -168,13 +177,16 @@ from-or (suc x) (suc k) le = step (from-or x k (omega arith))
     step (inr l) = inr (omega arith)
 
 module _ (frames : ℕ → Option Frame) (handlers : List Handler) (p : ℕ) where
-  locals-occurs : (from n x : ℕ) (s : PairSpot) (h : Home) → from ≤ x → x < from + n → Occurs (local_events frames handlers p x) s h → Occurs (locals_events frames handlers p from n) s h
+  locals-occurs : (from n x : ℕ) (s : PairSpot) (h : Home) → from ≤ x → x < from + n → Occurs (local_events frames handlers p x) s h
+      → Occurs (locals_events frames handlers p from n) s h
   locals-occurs from zero x s h le lt o = absurd (omega arith)
   locals-occurs from (suc n) x s h le lt o = by (from-or x from le) (λ later. locals-occurs (suc from) n x s h later (omega arith) o)
     where
-      by : (from ≡ x) ⊎ (suc from ≤ x) → (suc from ≤ x → Occurs (locals_events frames handlers p (suc from) n) s h) → Occurs (locals_events frames handlers p from (suc n)) s h
+      by : (from ≡ x) ⊎ (suc from ≤ x) → (suc from ≤ x → Occurs (locals_events frames handlers p (suc from) n) s h)
+          → Occurs (locals_events frames handlers p from (suc n)) s h
       by (inl e) rest =
-          occurs-left (local_events frames handlers p from) (locals_events frames handlers p (suc from) n) s h (subst (λ k. Occurs (local_events frames handlers p k) s h) (sym e) o)
+          occurs-left (local_events frames handlers p from) (locals_events frames handlers p (suc from) n) s h
+          (subst (λ k. Occurs (local_events frames handlers p k) s h) (sym e) o)
       by (inr later) rest = occurs-right (local_events frames handlers p from) (locals_events frames handlers p (suc from) n) s h (rest later)
 
 -- ---- cells
@@ -185,7 +197,8 @@ record IsCellAt (p slot : ℕ) (cells : List Ty) (s : PairSpot) (h : Home) : Typ
   slot_is : slot + number ≡ h.slot
   value : value_in_cells cells number ≡ Some h.ty
 
-occurs-cells : (p slot : ℕ) (cells : List Ty) (i n : ℕ) (s : PairSpot) (h : Home) → Occurs (cells_events p slot cells i n) s h → IsCellAt p slot cells s h
+occurs-cells : (p slot : ℕ) (cells : List Ty) (i n : ℕ) (s : PairSpot) (h : Home) → Occurs (cells_events p slot cells i n) s h
+    → IsCellAt p slot cells s h
 occurs-cells p slot cells i zero s h o = absurd o
 occurs-cells p slot cells i (suc n) s h (inl at) = record { number = i; spot = at.spot; slot_is = at.slot; value = at.value }
 occurs-cells p slot cells i (suc n) s h (inr o) = occurs-cells p slot cells (suc i) n s h o
@@ -195,12 +208,19 @@ cells-occurs : (p slot : ℕ) (cells : List Ty) (from n i : ℕ) (ty : Ty) → f
 cells-occurs p slot cells from zero i ty le lt e = absurd (omega arith)
 cells-occurs p slot cells from (suc n) i ty le lt e = by (nat_le i from) refl (λ later. cells-occurs p slot cells (suc from) n i ty later (omega arith) e)
   where
-    by : (b : Bool) → nat_le i from ≡ b → (suc from ≤ i → Occurs (cells_events p slot cells (suc from) n) (record { place = p; slot = slot + i; time = 0 }) (record { slot = slot + i; ty = ty }))
+    by : (b : Bool) → nat_le i from ≡ b
+        → (suc from ≤ i → Occurs (cells_events p slot cells (suc from) n) (record { place = p; slot = slot + i; time = 0 })
+        (record { slot = slot + i; ty = ty }))
         → Occurs (cells_events p slot cells from (suc n)) (record { place = p; slot = slot + i; time = 0 }) (record { slot = slot + i; ty = ty })
     by true q rest =
         let below : i ≤ from = grind (arith, nat_tests, q) in
         let same : from ≡ i = omega arith in
-        inl (record { spot = ap (λ (k : ℕ). record { place = p; slot = slot + k; time = 0 }) same; slot = ap (λ k. slot + k) same; value = ap (value_in_cells cells) same ∙ e })
+        inl
+        (record {
+          spot = ap (λ (k : ℕ). record { place = p; slot = slot + k; time = 0 }) same;
+          slot = ap (λ k. slot + k) same;
+          value = ap (value_in_cells cells) same ∙ e;
+        })
     by false q rest = let above : suc from ≤ i = grind (arith, nat_tests, q) in inr (rest above)
 
 -- ---- a stack that is kept
@@ -215,8 +235,10 @@ record AsksFor (w : Linked) (r : Result Operation RuleFault) (operands : ℕ) : 
 asks-for : (w : Linked) (r : Result Operation RuleFault) (operands : ℕ) → operands_of w r ≡ Some operands → AsksFor w r operands
 asks-for w (Ok (ops.Branch (branches.Zero o))) operands e = record { operation = ops.Branch (branches.Zero o); is = refl; asks = tt; taken = same_Some _ _ e }
 asks-for w (Ok (ops.Branch (branches.Null o))) operands e = record { operation = ops.Branch (branches.Null o); is = refl; asks = tt; taken = same_Some _ _ e }
-asks-for w (Ok (ops.Branch (branches.References o))) operands e = record { operation = ops.Branch (branches.References o); is = refl; asks = tt; taken = same_Some _ _ e }
-asks-for w (Ok (ops.Branch (branches.Shorts o))) operands e = record { operation = ops.Branch (branches.Shorts o); is = refl; asks = tt; taken = same_Some _ _ e }
+asks-for w (Ok (ops.Branch (branches.References o))) operands e =
+    record { operation = ops.Branch (branches.References o); is = refl; asks = tt; taken = same_Some _ _ e }
+asks-for w (Ok (ops.Branch (branches.Shorts o))) operands e =
+    record { operation = ops.Branch (branches.Shorts o); is = refl; asks = tt; taken = same_Some _ _ e }
 asks-for w (Ok (ops.Switch width)) operands e = record { operation = ops.Switch width; is = refl; asks = tt; taken = same_Some _ _ e }
 asks-for w _ operands e = absurd (cc)
 
@@ -232,11 +254,13 @@ deeper-by : (o : Option ℕ) (depth : ℕ) → is_deeper o depth ≡ true → (n
 deeper-by None depth e = absurd (false≢true e)
 deeper-by (Some n) depth e = let lt : n < depth = grind (arith, nat_tests, e) in (n, refl, lt)
 
-module _ (w : Linked) (m : Method) (frames : ℕ → Option Frame) (leaders : List Bool) (marks : Marks (IsLeader m) leaders) (listed : AreListed m.code) (i : Placed) (stands : HasInstruction m.code i) (f : Frame) (there : frames i.place ≡ Some f) where
+module _ (w : Linked) (m : Method) (frames : ℕ → Option Frame) (leaders : List Bool) (marks : Marks (IsLeader m) leaders) (listed : AreListed m.code)
+    (i : Placed) (stands : HasInstruction m.code i) (f : Frame) (there : frames i.place ≡ Some f) where
   keeps-sound : keeps_stack w m.rec leaders i (length f.stack) ≡ true → KeepsStack w m frames i.place
   keeps-sound e = by (or_cases (flag leaders i.place) (is_deeper (operands_of w (resolved w m.rec i.place i.insn (row_at i.insn.op))) (length f.stack)) e)
     where
-      by : (flag leaders i.place ≡ true) ⊎ (is_deeper (operands_of w (resolved w m.rec i.place i.insn (row_at i.insn.op))) (length f.stack) ≡ true) → KeepsStack w m frames i.place
+      by : (flag leaders i.place ≡ true) ⊎ (is_deeper (operands_of w (resolved w m.rec i.place i.insn (row_at i.insn.op))) (length f.stack) ≡ true)
+          → KeepsStack w m frames i.place
       by (inl l) = inl ((marks i.place).0 l)
       by (inr d) =
           let deep = deeper-by (operands_of w (resolved w m.rec i.place i.insn (row_at i.insn.op))) (length f.stack) d in
@@ -248,34 +272,47 @@ module _ (w : Linked) (m : Method) (frames : ℕ → Option Frame) (leaders : Li
             operation = asks.operation;
             resolves = sym asks.is;
             asks = asks.asks;
-            deeper = subst (λ o. IsSomeAnd o (λ g. (footprint w asks.operation).taken < length g.stack)) (sym there) (subst (λ n. n < length f.stack) (sym asks.taken) deep.2);
+            deeper =
+                subst (λ o. IsSomeAnd o (λ g. (footprint w asks.operation).taken < length g.stack)) (sym there)
+                (subst (λ n. n < length f.stack) (sym asks.taken) deep.2);
           })
 
   keeps-complete : KeepsStack w m frames i.place → keeps_stack w m.rec leaders i (length f.stack) ≡ true
-  keeps-complete (inl l) = or_left (flag leaders i.place) (is_deeper (operands_of w (resolved w m.rec i.place i.insn (row_at i.insn.op))) (length f.stack)) ((marks i.place).1 l)
+  keeps-complete (inl l) =
+      or_left (flag leaders i.place) (is_deeper (operands_of w (resolved w m.rec i.place i.insn (row_at i.insn.op))) (length f.stack)) ((marks i.place).1 l)
   keeps-complete (inr b) =
       let same : b.instruction ≡ i = listed.one b.instruction i b.stands stands b.at in
       let resolves : Ok b.operation ≡ resolved w m.rec i.place i.insn (row_at i.insn.op) =
       subst (λ j. ◌≡◌ {A = Result Operation RuleFault} (Ok b.operation) (resolved w m.rec i.place j.insn (row_at j.insn.op))) same b.resolves in
-      let deep : (footprint w b.operation).taken < length f.stack = subst (λ o. IsSomeAnd o (λ g. (footprint w b.operation).taken < length g.stack)) there b.deeper in
+      let deep : (footprint w b.operation).taken < length f.stack = subst (λ o. IsSomeAnd o (λ g. (footprint w b.operation).taken < length g.stack)) there
+      b.deeper in
       let less : nat_lt (footprint w b.operation).taken (length f.stack) ≡ true = grind (arith, nat_tests, deep) in
       or_right (flag leaders i.place) (is_deeper (operands_of w (resolved w m.rec i.place i.insn (row_at i.insn.op))) (length f.stack))
-      (subst (λ r. is_deeper (operands_of w r) (length f.stack) ≡ true) resolves (subst (λ o. is_deeper o (length f.stack) ≡ true) (sym (operands-of w b.operation b.asks)) less))
+      (subst (λ r. is_deeper (operands_of w r) (length f.stack) ≡ true) resolves
+      (subst (λ o. is_deeper o (length f.stack) ≡ true) (sym (operands-of w b.operation b.asks)) less))
 
   -- ---- at an instruction
 
-  occurs-stack : IsReached m i.place → (b : Bool) → keeps_stack w m.rec leaders i (length f.stack) ≡ b → (s : PairSpot) (h : Home) → Occurs (stack_events b i.place (register_count m.rec) (reverse f.stack)) s h → IsMetAt w m frames s h
+  occurs-stack : IsReached m i.place → (b : Bool) → keeps_stack w m.rec leaders i (length f.stack) ≡ b → (s : PairSpot) (h : Home)
+      → Occurs (stack_events b i.place (register_count m.rec) (reverse f.stack)) s h → IsMetAt w m frames s h
   occurs-stack reached true q s h o =
       let c = occurs-cells i.place (register_count m.rec) (reverse f.stack) 0 (length (reverse f.stack)) s h o in
       subst (λ r. IsMetAt w m frames r h) c.spot
-      (subst (λ n. IsMetAt w m frames (record { place = i.place; slot = register_count m.rec + c.number; time = 0 }) (record { slot = n; ty = h.ty })) c.slot_is
-      (met_cell c.number reached (keeps-sound q) (subst (λ o. IsSomeAnd o (λ g. value_in_cells (reverse g.stack) c.number ≡ Some h.ty)) (sym there) c.value)))
+      (subst (λ n. IsMetAt w m frames (record { place = i.place; slot = register_count m.rec + c.number; time = 0 }) (record { slot = n; ty = h.ty }))
+      c.slot_is
+      (met_cell c.number reached (keeps-sound q)
+      (subst (λ o. IsSomeAnd o (λ g. value_in_cells (reverse g.stack) c.number ≡ Some h.ty)) (sym there) c.value)))
   occurs-stack reached false q s h o = absurd o
 
   occurs-frame : IsReached m i.place → (s : PairSpot) (h : Home) → Occurs (frame_events w m frames leaders i (Some f)) s h → IsMetAt w m frames s h
-  occurs-frame reached s h o = by (occurs-either (locals_events frames m.rec.handlers i.place 0 (register_count m.rec)) (stack_events (keeps_stack w m.rec leaders i (length f.stack)) i.place (register_count m.rec) (reverse f.stack)) s h o)
+  occurs-frame reached s h o =
+      by
+      (occurs-either (locals_events frames m.rec.handlers i.place 0 (register_count m.rec))
+      (stack_events (keeps_stack w m.rec leaders i (length f.stack)) i.place (register_count m.rec) (reverse f.stack)) s h o)
     where
-      by : Occurs (locals_events frames m.rec.handlers i.place 0 (register_count m.rec)) s h ⊎ Occurs (stack_events (keeps_stack w m.rec leaders i (length f.stack)) i.place (register_count m.rec) (reverse f.stack)) s h → IsMetAt w m frames s h
+      by : Occurs (locals_events frames m.rec.handlers i.place 0 (register_count m.rec)) s h
+          ⊎ Occurs (stack_events (keeps_stack w m.rec leaders i (length f.stack)) i.place (register_count m.rec) (reverse f.stack)) s h
+          → IsMetAt w m frames s h
       by (inl l) = occurs-locals w m frames i.place reached 0 (register_count m.rec) s h l
       by (inr r) = occurs-stack reached (keeps_stack w m.rec leaders i (length f.stack)) refl s h r
 
@@ -286,7 +323,8 @@ module _ (w : Linked) (m : Method) (frames : ℕ → Option Frame) (leaders : Li
     (there : (p : ℕ) (f : Frame) → frames p ≡ Some f → IsReached m p)
     (placed : (p : ℕ) → IsReached m p → IsPlace m.code p)
     (framed : (p : ℕ) → IsReached m p → (f : Frame) × (frames p ≡ Some f)) where
-  within : (x : ℕ) (ty : Ty) (o : Option Frame) → ((g : Frame) → o ≡ Some g → length g.regs ≡ register_count m.rec) → IsSomeAnd o (λ g. value_in_cells g.regs x ≡ Some ty) → x < register_count m.rec
+  within : (x : ℕ) (ty : Ty) (o : Option Frame) → ((g : Frame) → o ≡ Some g → length g.regs ≡ register_count m.rec)
+      → IsSomeAnd o (λ g. value_in_cells g.regs x ≡ Some ty) → x < register_count m.rec
   within x ty None size at = absurd at
   within x ty (Some g) size at = let less = value-inside g.regs x ty at in let same = size g refl in omega arith
 
@@ -295,7 +333,8 @@ module _ (w : Linked) (m : Method) (frames : ℕ → Option Frame) (leaders : Li
   asked-inside p x _ ty (asked_caught {h = h} a cov at) = within x ty (frames h.entry) (sizes h.entry) at
 
   -- the pair is met at an instruction
-  occurs-place : (i : Placed) → HasInstruction m.code i → (s : PairSpot) (h : Home) → Occurs (place_events w m frames leaders i) s h → IsMetAt w m frames s h
+  occurs-place : (i : Placed) → HasInstruction m.code i → (s : PairSpot) (h : Home) → Occurs (place_events w m frames leaders i) s h
+      → IsMetAt w m frames s h
   unfolding place_events
   occurs-place i stands s h o = by (frames i.place) refl o
     where
@@ -303,10 +342,13 @@ module _ (w : Linked) (m : Method) (frames : ℕ → Option Frame) (leaders : Li
       by None e o = absurd o
       by (Some f) e o = occurs-frame w m frames leaders marks listed i stands f e (there i.place f e) s h o
 
-  occurs-flat : (is : List Placed) → ((i : Placed) → IsAmong i is → HasInstruction m.code i) → (s : PairSpot) (h : Home) → Occurs (flat_map (place_events w m frames leaders) is) s h → IsMetAt w m frames s h
+  occurs-flat : (is : List Placed) → ((i : Placed) → IsAmong i is → HasInstruction m.code i) → (s : PairSpot) (h : Home)
+      → Occurs (flat_map (place_events w m frames leaders) is) s h → IsMetAt w m frames s h
   occurs-flat [] all s h o = absurd o
   occurs-flat (i ∷ is) all s h o =
-      by (occurs-either (place_events w m frames leaders i) (flat_map (place_events w m frames leaders) is) s h (subst (λ es. Occurs es s h) (flat_map-cons (place_events w m frames leaders) i is) o))
+      by
+      (occurs-either (place_events w m frames leaders i) (flat_map (place_events w m frames leaders) is) s h
+      (subst (λ es. Occurs es s h) (flat_map-cons (place_events w m frames leaders) i is) o))
       (occurs-flat is (λ j a. all j (inr a)) s h)
     where
       by : Occurs (place_events w m frames leaders i) s h ⊎ Occurs (flat_map (place_events w m frames leaders) is) s h
@@ -318,10 +360,13 @@ module _ (w : Linked) (m : Method) (frames : ℕ → Option Frame) (leaders : Li
   unfolding code_events
   occurs-met s h o = occurs-flat (listing m.code) (λ i a. Contains-from_IsAmong i (listing m.code) a) s h o
 
-  flat-occurs : (is : List Placed) (i : Placed) → IsAmong i is → (s : PairSpot) (h : Home) → Occurs (place_events w m frames leaders i) s h → Occurs (flat_map (place_events w m frames leaders) is) s h
+  flat-occurs : (is : List Placed) (i : Placed) → IsAmong i is → (s : PairSpot) (h : Home) → Occurs (place_events w m frames leaders i) s h
+      → Occurs (flat_map (place_events w m frames leaders) is) s h
   flat-occurs [] i a s h o = absurd a
   flat-occurs (j ∷ js) i (inl e) s h o =
-      rw flat_map-cons (occurs-left (place_events w m frames leaders j) (flat_map (place_events w m frames leaders) js) s h (subst (λ k. Occurs (place_events w m frames leaders k) s h) (sym e) o))
+      rw flat_map-cons
+      (occurs-left (place_events w m frames leaders j) (flat_map (place_events w m frames leaders) js) s h
+      (subst (λ k. Occurs (place_events w m frames leaders k) s h) (sym e) o))
   flat-occurs (j ∷ js) i (inr a) s h o =
       rw flat_map-cons (occurs-right (place_events w m frames leaders j) (flat_map (place_events w m frames leaders) js) s h (flat-occurs js i a s h o))
 
@@ -341,15 +386,24 @@ module _ (w : Linked) (m : Method) (frames : ℕ → Option Frame) (leaders : Li
   met-occurs s h (met_local {p = p} {x = x} {n = n} {ty = ty} r a) =
       let f = framed p r in
       occurs-at p _ _ r f.0 f.1 (λ i stands e.
-      occurs-left (locals_events frames m.rec.handlers i.place 0 (register_count m.rec)) (stack_events (keeps_stack w m.rec leaders i (length f.0.stack)) i.place (register_count m.rec) (reverse f.0.stack)) _ _
+      occurs-left (locals_events frames m.rec.handlers i.place 0 (register_count m.rec))
+      (stack_events (keeps_stack w m.rec leaders i (length f.0.stack)) i.place (register_count m.rec) (reverse f.0.stack)) _ _
       (locals-occurs frames m.rec.handlers i.place 0 (register_count m.rec) x _ _ (omega arith) (omega (arith, asked-inside p x n ty a))
-      (subst (λ q. Occurs (local_events frames m.rec.handlers q x) (record { place = p; slot = x; time = n }) (record { slot = x; ty = ty })) (sym e) (local-occurs m frames p x n ty a))))
+      (subst (λ q. Occurs (local_events frames m.rec.handlers q x) (record { place = p; slot = x; time = n }) (record { slot = x; ty = ty })) (sym e)
+      (local-occurs m frames p x n ty a))))
   met-occurs s h (met_cell k {p = p} {ty = ty} r keeps at) =
       let f = framed p r in
       let value : value_in_cells (reverse f.0.stack) k ≡ Some ty = subst (λ o. IsSomeAnd o (λ g. value_in_cells (reverse g.stack) k ≡ Some ty)) f.1 at in
       occurs-at p _ _ r f.0 f.1 (λ i stands e.
-      let kept : keeps_stack w m.rec leaders i (length f.0.stack) ≡ true = keeps-complete w m frames leaders marks listed i stands f.0 (ap frames e ∙ f.1) (subst (KeepsStack w m frames) (sym e) keeps) in
-      occurs-right (locals_events frames m.rec.handlers i.place 0 (register_count m.rec)) (stack_events (keeps_stack w m.rec leaders i (length f.0.stack)) i.place (register_count m.rec) (reverse f.0.stack)) _ _
-      (subst (λ b. Occurs (stack_events b i.place (register_count m.rec) (reverse f.0.stack)) (record { place = p; slot = register_count m.rec + k; time = 0 }) (record { slot = register_count m.rec + k; ty = ty })) (sym kept)
-      (subst (λ q. Occurs (cells_events i.place (register_count m.rec) (reverse f.0.stack) 0 (length (reverse f.0.stack))) (record { place = q; slot = register_count m.rec + k; time = 0 }) (record { slot = register_count m.rec + k; ty = ty })) e
-      (cells-occurs i.place (register_count m.rec) (reverse f.0.stack) 0 (length (reverse f.0.stack)) k ty (omega arith) (omega (arith, value-inside (reverse f.0.stack) k ty value)) value))))
+      let kept : keeps_stack w m.rec leaders i (length f.0.stack) ≡ true = keeps-complete w m frames leaders marks listed i stands f.0
+      (ap frames e ∙ f.1) (subst (KeepsStack w m frames) (sym e) keeps) in
+      occurs-right (locals_events frames m.rec.handlers i.place 0 (register_count m.rec))
+      (stack_events (keeps_stack w m.rec leaders i (length f.0.stack)) i.place (register_count m.rec) (reverse f.0.stack)) _ _
+      (subst
+      (λ b. Occurs (stack_events b i.place (register_count m.rec) (reverse f.0.stack))
+      (record { place = p; slot = register_count m.rec + k; time = 0 }) (record { slot = register_count m.rec + k; ty = ty })) (sym kept)
+      (subst
+      (λ q. Occurs (cells_events i.place (register_count m.rec) (reverse f.0.stack) 0 (length (reverse f.0.stack)))
+      (record { place = q; slot = register_count m.rec + k; time = 0 }) (record { slot = register_count m.rec + k; ty = ty })) e
+      (cells-occurs i.place (register_count m.rec) (reverse f.0.stack) 0 (length (reverse f.0.stack)) k ty (omega arith)
+      (omega (arith, value-inside (reverse f.0.stack) k ty value)) value))))

@@ -40,9 +40,11 @@ module _ (m : Method) (frames : ℕ → Option Frame) (p x : ℕ) where
       }
 
   -- and where it is asked for, it is met
-  asked-occurs : (n : ℕ) (h : Home) → h.slot ≡ x → IsAsked m frames p x n h.ty → Occurs (local_events frames m.rec.handlers p x) (record { place = p; slot = x; time = n }) h
+  asked-occurs : (n : ℕ) (h : Home) → h.slot ≡ x → IsAsked m frames p x n h.ty
+      → Occurs (local_events frames m.rec.handlers p x) (record { place = p; slot = x; time = n }) h
   asked-occurs n h e asked =
-      subst (λ (y : ℕ). Occurs (local_events frames m.rec.handlers p x) (record { place = p; slot = x; time = n }) (record { slot = y; ty = h.ty })) (sym e) (local-occurs m frames p x n h.ty asked)
+      subst (λ (y : ℕ). Occurs (local_events frames m.rec.handlers p x) (record { place = p; slot = x; time = n }) (record { slot = y; ty = h.ty }))
+      (sym e) (local-occurs m frames p x n h.ty asked)
 
   asked-before : (h k : Home) → k.slot ≡ x → OccursBefore (local_events frames m.rec.handlers p x) h k → IsAskedBefore m frames p x h k
   asked-before h k e o =
@@ -50,16 +52,20 @@ module _ (m : Method) (frames : ℕ → Option Frame) (p x : ℕ) where
         a.time,
         a.asked,
         λ j asked.
-            let c : ComesBefore o.spot (record { place = p; slot = x; time = j }) = o.first (record { place = p; slot = x; time = j }) (asked-occurs j k e asked) in
-            let d : ComesBefore (record { place = p; slot = x; time = a.time }) (record { place = p; slot = x; time = j }) = subst (λ s. ComesBefore s (record { place = p; slot = x; time = j })) a.spot c in
+            let c : ComesBefore o.spot (record { place = p; slot = x; time = j }) = o.first (record { place = p; slot = x; time = j })
+            (asked-occurs j k e asked) in
+            let d : ComesBefore (record { place = p; slot = x; time = a.time }) (record { place = p; slot = x; time = j }) = subst
+            (λ s. ComesBefore s (record { place = p; slot = x; time = j })) a.spot c in
             before-time p x a.time j d,
       )
 
-  each-before : (h : Home) (hs : List Home) → ((k : Home) → IsAmong k hs → k.slot ≡ x) → Each (OccursBefore (local_events frames m.rec.handlers p x) h) hs → Each (IsAskedBefore m frames p x h) hs
+  each-before : (h : Home) (hs : List Home) → ((k : Home) → IsAmong k hs → k.slot ≡ x)
+      → Each (OccursBefore (local_events frames m.rec.handlers p x) h) hs → Each (IsAskedBefore m frames p x h) hs
   each-before h [] at e = tt
   each-before h (k ∷ ks) at e = (asked-before h k (at k (inl refl)) e.0, each-before h ks (λ j a. at j (inr a)) e.1)
 
-  in-order : (hs : List Home) → ((k : Home) → IsAmong k hs → k.slot ≡ x) → Ordered (local_events frames m.rec.handlers p x) hs → AreAskedInOrder m frames p x hs
+  in-order : (hs : List Home) → ((k : Home) → IsAmong k hs → k.slot ≡ x) → Ordered (local_events frames m.rec.handlers p x) hs
+      → AreAskedInOrder m frames p x hs
   in-order [] at o = tt
   in-order (h ∷ hs) at o = (each-before h hs (λ k a. at k (inr a)) o.0, in-order hs (λ k a. at k (inr a)) o.1)
 

@@ -1,5 +1,6 @@
 -- A method has one list of homes.
-use Rattle.std.proofs.Common.{◌≡◌, ℕ, ◌+◌, ◌<◌, ◌≤◌, ◌⊎◌, inl, inr, List, [], ◌∷◌, ◌++◌, Option, refl, sym, ◌∙◌, ap, subst, arith}
+use Rattle.std.proofs.Common.{◌≡◌, ℕ, ◌+◌, ◌<◌, ◌≤◌, ◌⊎◌, inl, inr, List, [], ◌∷◌, ◌++◌, Option, refl, sym, ◌∙◌, ap}
+use Rattle.std.proofs.Common.{subst, arith}
 use Rattle.jc_base.specs.declared.ty.Ty.{Ty}
 use Rattle.jc_base.specs.declared.ty.Ty.TheVariants.{Bottom, Short, IntHigh, IntLow, Null, Class, ArrBool, ArrByte, ArrShort, ArrInt, ArrRef, Fresh, Top}
 use Rattle.jc_base.specs.Each.{IsAmong}
@@ -37,7 +38,8 @@ module _ (w : Linked) (m : Method) (frames : ℕ → Option Frame) where
   before-apart : (h k : Home) → IsMetBefore w m frames h k → IsMetBefore w m frames k h → ⊥
   before-apart h k p q = never-both p.spot q.spot (p.first q.spot q.met) (q.first p.spot p.met)
 
-  first-same : (h k : Home) (hs ks : List Home) → AreInOrder w m frames (h ∷ hs) → AreInOrder w m frames (k ∷ ks) → AreSame (h ∷ hs) (k ∷ ks) → h ≡ k
+  first-same : (h k : Home) (hs ks : List Home) → AreInOrder w m frames (h ∷ hs) → AreInOrder w m frames (k ∷ ks) → AreSame (h ∷ hs) (k ∷ ks)
+      → h ≡ k
   first-same h k hs ks p q s = by (s.to h (inl refl)) (s.from k (inl refl))
     where
       by : IsAmong h (k ∷ ks) → IsAmong k (h ∷ hs) → h ≡ k
@@ -45,12 +47,15 @@ module _ (w : Linked) (m : Method) (frames : ℕ → Option Frame) where
       by (inr a) (inl e) = e
       by (inr a) (inr b) = absurd (before-apart h k (Each-at (IsMetBefore w m frames h) k hs p.0 b) (Each-at (IsMetBefore w m frames k) h ks q.0 a))
 
-  rest-same : (h k : Home) (hs ks : List Home) → h ≡ k → AreInOrder w m frames (h ∷ hs) → ((x : Home) → IsAmong x (h ∷ hs) → IsAmong x (k ∷ ks)) → (x : Home) → IsAmong x hs → IsAmong x ks
+  rest-same : (h k : Home) (hs ks : List Home) → h ≡ k → AreInOrder w m frames (h ∷ hs)
+      → ((x : Home) → IsAmong x (h ∷ hs) → IsAmong x (k ∷ ks)) → (x : Home) → IsAmong x hs → IsAmong x ks
   rest-same h k hs ks e p to x a = by (to x (inr a))
     where
       by : IsAmong x (k ∷ ks) → IsAmong x ks
       by (inr b) = b
-      by (inl f) = let b : IsMetBefore w m frames h h = subst (IsMetBefore w m frames h) (sym (e ∙ f)) (Each-at (IsMetBefore w m frames h) x hs p.0 a) in absurd (before-apart h h b b)
+      by (inl f) =
+          let b : IsMetBefore w m frames h h = subst (IsMetBefore w m frames h) (sym (e ∙ f)) (Each-at (IsMetBefore w m frames h) x hs p.0 a) in
+          absurd (before-apart h h b b)
 
   ordered-one : (hs ks : List Home) → AreInOrder w m frames hs → AreInOrder w m frames ks → AreSame hs ks → hs ≡ ks
   ordered-one [] [] p q s = refl
@@ -89,7 +94,8 @@ stands-first : (h k : Home) (hs ks : List Home) (n : ℕ) → SlotsFollow n (h �
 stands-first h k hs ks n p q (inl e) = sym e
 stands-first h k hs ks n p q (inr a) = let later = stands-later ks (n + type_width k.ty) q.1 h a in absurd (omega (arith, later, p.0, wide k.ty))
 
-stands-rest : (h k : Home) (hs ks : List Home) (n : ℕ) → SlotsFollow n (h ∷ hs) → SlotsFollow n (k ∷ ks) → ((x : Home) → IsAmong x (h ∷ hs) → IsAmong x (k ∷ ks)) → (x : Home) → IsAmong x hs → IsAmong x ks
+stands-rest : (h k : Home) (hs ks : List Home) (n : ℕ) → SlotsFollow n (h ∷ hs) → SlotsFollow n (k ∷ ks)
+    → ((x : Home) → IsAmong x (h ∷ hs) → IsAmong x (k ∷ ks)) → (x : Home) → IsAmong x hs → IsAmong x ks
 stands-rest h k hs ks n p q to x a = by (to x (inr a))
   where
     by : IsAmong x (k ∷ ks) → IsAmong x ks

@@ -1,5 +1,6 @@
 -- The arguments of a method at their declared types: each stands where its register is.
-use Rattle.std.proofs.Common.{◌≡◌, ℕ, zero, suc, ◌+◌, inl, inr, Bool, true, false, if◌then◌else◌, List, [], ◌∷◌, ◌++◌, length, sum_by, All, Option, Some, None, slice_get, refl, sym, ◌∙◌, ap, subst, arith}
+use Rattle.std.proofs.Common.{◌≡◌, ℕ, zero, suc, ◌+◌, inl, inr, Bool, true, false, if◌then◌else◌, List, [], ◌∷◌, ◌++◌, length}
+use Rattle.std.proofs.Common.{sum_by, All, Option, Some, None, slice_get, refl, sym, ◌∙◌, ap, subst, arith}
 use Rattle.std.proofs.lemmas.List.Sums.{sum_by-cons}
 use Rattle.std.proofs.lemmas.List.Elements.{All-head, All-tail}
 use Rattle.jc_base.specs.declared.ty.Ty.{Ty}
@@ -79,11 +80,14 @@ values-in (whole_int {types = ts} whole) top slot h (inl e) = record {
   value = value-first IntHigh (IntLow ∷ ts) ∙ ap (λ (k : Home). Some k.ty) e;
 }
 values-in (whole_int {types = ts} whole) top slot h (inr a) =
-    later-in slot IntHigh (IntLow ∷ ts) h (later-in (suc slot) IntLow ts h (values-in whole (All-tail IsNotTop IntLow ts (All-tail IsNotTop IntHigh (IntLow ∷ ts) top)) (suc (suc slot)) h a))
+    later-in slot IntHigh (IntLow ∷ ts) h
+    (later-in (suc slot) IntLow ts h (values-in whole (All-tail IsNotTop IntLow ts (All-tail IsNotTop IntHigh (IntLow ∷ ts) top)) (suc (suc slot)) h
+    a))
 values-in (one_cell {a = x} {types = ts} n whole) top slot h a =
     by (subst (IsAmong h) ((own-value x n (All-head IsNotTop x ts top)).first slot ts) a) (values-in whole (All-tail IsNotTop x ts top) (suc slot) h)
   where
-    by : IsAmong h (record { slot = slot; ty = x } ∷ values_from (suc slot) ts) → (IsAmong h (values_from (suc slot) ts) → IsIn (suc slot) ts h) → IsIn slot (x ∷ ts) h
+    by : IsAmong h (record { slot = slot; ty = x } ∷ values_from (suc slot) ts) → (IsAmong h (values_from (suc slot) ts) → IsIn (suc slot) ts h)
+        → IsIn slot (x ∷ ts) h
     by (inl e) rest = record {
       number = 0;
       at = let s : slot + 0 ≡ slot = omega arith in s ∙ ap (λ (k : Home). k.slot) e;
@@ -91,7 +95,8 @@ values-in (one_cell {a = x} {types = ts} n whole) top slot h a =
     }
     by (inr a) rest = later-in slot x ts h (rest a)
 
-in-values : {types : List Ty} → AreWhole types → All IsNotTop types → (slot n : ℕ) (ty : Ty) → value_in_cells types n ≡ Some ty → IsAmong (record { slot = slot + n; ty = ty }) (values_from slot types)
+in-values : {types : List Ty} → AreWhole types → All IsNotTop types → (slot n : ℕ) (ty : Ty) → value_in_cells types n ≡ Some ty
+    → IsAmong (record { slot = slot + n; ty = ty }) (values_from slot types)
 in-values no_cells top slot n ty v = absurd (none-there n ty v)
 in-values (whole_int {types = ts} whole) top slot zero ty v =
     let s : slot ≡ slot + 0 = omega arith in
@@ -102,26 +107,34 @@ in-values (whole_int {types = ts} whole) top slot (suc zero) ty v =
 in-values (whole_int {types = ts} whole) top slot (suc (suc n)) ty v =
     let s : suc (suc slot) + n ≡ slot + suc (suc n) = omega arith in
     inr (subst (λ k. IsAmong (record { slot = k; ty = ty }) (values_from (suc (suc slot)) ts)) s
-    (in-values whole (All-tail IsNotTop IntLow ts (All-tail IsNotTop IntHigh (IntLow ∷ ts) top)) (suc (suc slot)) n ty (sym (value-later IntLow ts n) ∙ sym (value-later IntHigh (IntLow ∷ ts) (suc n)) ∙ v)))
+    (in-values whole (All-tail IsNotTop IntLow ts (All-tail IsNotTop IntHigh (IntLow ∷ ts) top)) (suc (suc slot)) n ty
+    (sym (value-later IntLow ts n) ∙ sym (value-later IntHigh (IntLow ∷ ts) (suc n)) ∙ v)))
 in-values (one_cell {a = x} {types = ts} p whole) top slot zero ty v =
     let own = own-value x p (All-head IsNotTop x ts top) in
     let s : slot ≡ slot + 0 = omega arith in
-    subst (IsAmong (record { slot = slot + 0; ty = ty })) (sym (own.first slot ts)) (inl (home-is slot x _ s (some-type (sym (value-first x ts ∙ own.value (slice_get ts 0)) ∙ v))))
+    subst (IsAmong (record { slot = slot + 0; ty = ty })) (sym (own.first slot ts))
+    (inl (home-is slot x _ s (some-type (sym (value-first x ts ∙ own.value (slice_get ts 0)) ∙ v))))
 in-values (one_cell {a = x} {types = ts} p whole) top slot (suc n) ty v =
     let own = own-value x p (All-head IsNotTop x ts top) in
     let s : suc slot + n ≡ slot + suc n = omega arith in
     subst (IsAmong (record { slot = slot + suc n; ty = ty })) (sym (own.first slot ts))
-    (inr (subst (λ k. IsAmong (record { slot = k; ty = ty }) (values_from (suc slot) ts)) s (in-values whole (All-tail IsNotTop x ts top) (suc slot) n ty (sym (value-later x ts n) ∙ v))))
+    (inr
+    (subst (λ k. IsAmong (record { slot = k; ty = ty }) (values_from (suc slot) ts)) s
+    (in-values whole (All-tail IsNotTop x ts top) (suc slot) n ty (sym (value-later x ts n) ∙ v))))
 
 stand-from : {types : List Ty} → AreWhole types → All IsNotTop types → (slot : ℕ) → SlotsFollow slot (values_from slot types)
 stand-from no_cells top slot = tt
 stand-from (whole_int {types = ts} whole) top slot =
-    let s : suc (suc slot) ≡ slot + 2 = omega arith in
-    (refl, subst (λ k. SlotsFollow k (values_from (suc (suc slot)) ts)) s (stand-from whole (All-tail IsNotTop IntLow ts (All-tail IsNotTop IntHigh (IntLow ∷ ts) top)) (suc (suc slot))))
+    let s : suc (suc slot) ≡ slot + 2 = omega arith in (
+      refl,
+      subst (λ k. SlotsFollow k (values_from (suc (suc slot)) ts)) s
+          (stand-from whole (All-tail IsNotTop IntLow ts (All-tail IsNotTop IntHigh (IntLow ∷ ts) top)) (suc (suc slot))),
+    )
 stand-from (one_cell {a = x} {types = ts} p whole) top slot =
     let own = own-value x p (All-head IsNotTop x ts top) in
     let s : suc slot ≡ slot + type_width x = omega (arith, own.one) in
-    subst (SlotsFollow slot) (sym (own.first slot ts)) (refl, subst (λ k. SlotsFollow k (values_from (suc slot) ts)) s (stand-from whole (All-tail IsNotTop x ts top) (suc slot)))
+    subst (SlotsFollow slot) (sym (own.first slot ts))
+    (refl, subst (λ k. SlotsFollow k (values_from (suc slot) ts)) s (stand-from whole (All-tail IsNotTop x ts top) (suc slot)))
 
 sum-values : {types : List Ty} → AreWhole types → All IsNotTop types → (slot : ℕ) → register_sum (values_from slot types) ≡ length types
 unfolding register_sum
@@ -132,7 +145,8 @@ sum-values (whole_int {types = ts} whole) top slot =
 sum-values (one_cell {a = x} {types = ts} p whole) top slot =
     let own = own-value x p (All-head IsNotTop x ts top) in
     let rest = sum-values whole (All-tail IsNotTop x ts top) (suc slot) in
-    ap (sum_by (λ h. type_width h.ty)) (own.first slot ts) ∙ sum_by-cons (λ h. type_width h.ty) (record { slot = slot; ty = x }) (values_from (suc slot) ts) ∙ omega (arith, rest, own.one)
+    ap (sum_by (λ h. type_width h.ty)) (own.first slot ts) ∙ sum_by-cons (λ h. type_width h.ty) (record { slot = slot; ty = x })
+    (values_from (suc slot) ts) ∙ omega (arith, rest, own.one)
 
 -- ---- the arguments of a method
 
@@ -144,13 +158,15 @@ pub record AreArguments (r : MethodRec) : Type 0 where
 
 module _ (r : MethodRec) (whole : AreWhole r.sig.args) (top : All IsNotTop r.sig.args) where
   -- the receiver is one more value in front
-  with-receiver : AreWhole (argument_types r) → All IsNotTop (argument_types r) → argument_homes r ≡ values_from 0 (argument_types r) → length (argument_types r) ≡ length r.sig.args + receiver_words r.is_static → AreArguments r
+  with-receiver : AreWhole (argument_types r) → All IsNotTop (argument_types r) → argument_homes r ≡ values_from 0 (argument_types r)
+      → length (argument_types r) ≡ length r.sig.args + receiver_words r.is_static → AreArguments r
   with-receiver all topless same size = record {
     sound = λ h a. let i = values-in all topless 0 h (subst (IsAmong h) same a) in
         let s : i.number ≡ h.slot = omega (arith, i.at) in
         subst (λ n. value_in_cells (argument_types r) n ≡ Some h.ty) s i.value;
     complete = λ h v. let s : 0 + h.slot ≡ h.slot = omega arith in
-        subst (IsAmong h) (sym same) (subst (λ n. IsAmong (record { slot = n; ty = h.ty }) (values_from 0 (argument_types r))) s (in-values all topless 0 h.slot h.ty v));
+        subst (IsAmong h) (sym same)
+        (subst (λ n. IsAmong (record { slot = n; ty = h.ty }) (values_from 0 (argument_types r))) s (in-values all topless 0 h.slot h.ty v));
     stand = subst (SlotsFollow 0) (sym same) (stand-from all topless 0);
     filled = ap register_sum same ∙ sum-values all topless 0 ∙ size;
   }

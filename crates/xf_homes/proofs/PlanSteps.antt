@@ -1,5 +1,6 @@
 -- Steps along cells and places.
-use Rattle.std.proofs.Common.{◌≡◌, ℕ, suc, ◌+◌, ◌-◌, ◌<◌, ◌≤◌, true, false, List, [], ◌++◌, Option, Some, None, refl, sym, ◌∙◌, ap, arith, append_assoc}
+use Rattle.std.proofs.Common.{◌≡◌, ℕ, suc, ◌+◌, ◌-◌, ◌<◌, ◌≤◌, true, false, List, [], ◌++◌, Option, Some, None, refl, sym}
+use Rattle.std.proofs.Common.{◌∙◌, ap, arith, append_assoc}
 use Rattle.std.specs.Prelude.{is_some, if◌then◌else◌}
 use Rattle.std.proofs.lemmas.List.{append-nil}
 use Rattle.jc_base.specs.declared.ty.Ty.{Ty}
@@ -20,8 +21,10 @@ split-first None rest = refl
 split-first (Some h) rest = refl
 
 -- the next cell
-pub cells-next : (homes now whole : List Home) (slot : ℕ) (cells : List Ty) (n len : ℕ) (o : Option Home) → n < len → o ≡ home_of (slot + n) (value_in_cells cells n)
-    → now ≡ homes ++ with_home_of o [] → homes ++ cells_from slot cells n (len - n) ≡ whole → now ++ cells_from slot cells (n + 1) (len - (n + 1)) ≡ whole
+pub cells-next : (homes now whole : List Home) (slot : ℕ) (cells : List Ty) (n len : ℕ) (o : Option Home) → n < len
+    → o ≡ home_of (slot + n) (value_in_cells cells n)
+    → now ≡ homes ++ with_home_of o [] → homes ++ cells_from slot cells n (len - n) ≡ whole → now ++ cells_from slot cells (n + 1) (len - (n + 1))
+    ≡ whole
 cells-next homes now whole slot cells n len o lt is pushed inv =
     let rest = cells_from slot cells (n + 1) (len - (n + 1)) in
     ap (λ xs. xs ++ rest) pushed
@@ -42,11 +45,13 @@ first-here frames at end lt is =
     let e : end - at ≡ suc (end - (at + 1)) = omega arith in
     ap (first_of frames at) e ∙ ap (λ b. if b then at else first_of frames (suc at) (end - (at + 1))) is
 
-pub first-later : (frames : ℕ → Option Frame) (at end : ℕ) → at < end → is_some (frames at) ≡ false → first_of frames at (end - at) ≡ first_of frames (at + 1) (end - (at + 1))
+pub first-later : (frames : ℕ → Option Frame) (at end : ℕ) → at < end → is_some (frames at) ≡ false
+    → first_of frames at (end - at) ≡ first_of frames (at + 1) (end - (at + 1))
 first-later frames at end lt is =
     let e : end - at ≡ suc (end - (at + 1)) = omega arith in
     let next : suc at ≡ at + 1 = omega arith in
-    ap (first_of frames at) e ∙ ap (λ b. if b then at else first_of frames (suc at) (end - (at + 1))) is ∙ ap (λ k. first_of frames k (end - (at + 1))) next
+    ap (first_of frames at) e ∙ ap (λ b. if b then at else first_of frames (suc at) (end - (at + 1))) is
+    ∙ ap (λ k. first_of frames k (end - (at + 1))) next
 
 pub first-past : (frames : ℕ → Option Frame) (at end : ℕ) → end ≤ at → first_of frames at (end - at) ≡ at
 first-past frames at end le = let none : end - at ≡ 0 = omega arith in ap (first_of frames at) none

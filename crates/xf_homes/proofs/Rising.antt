@@ -1,5 +1,6 @@
 -- The events of a walk over the code stand at rising spots.
-use Rattle.std.proofs.Common.{◌≡◌, ℕ, zero, suc, ◌+◌, ◌<◌, ◌≤◌, inl, inr, Bool, true, false, List, [], ◌∷◌, ◌++◌, length, reverse, flat_map, Option, Some, None, slice_get, refl, sym, ◌∙◌, ap, arith}
+use Rattle.std.proofs.Common.{◌≡◌, ℕ, zero, suc, ◌+◌, ◌<◌, ◌≤◌, inl, inr, Bool, true, false, List, [], ◌∷◌, ◌++◌, length}
+use Rattle.std.proofs.Common.{reverse, flat_map, Option, Some, None, slice_get, refl, sym, ◌∙◌, ap, arith}
 use Rattle.std.proofs.lemmas.List.Concat.{flat_map-cons}
 use Rattle.jc_base.specs.declared.ty.Ty.{Ty}
 use Rattle.jc_base.specs.declared.record.Handler.{Handler}
@@ -12,10 +13,12 @@ use Rattle.jc_control.specs.Method.{Method}
 use Rattle.jc_decode.specs.Laws.{AreListed}
 use Rattle.jc_rules.specs.Demand.{Frame}
 use Rattle.xf_homes.specs.Home.{ComesBefore, register_count}
-use Rattle.xf_homes.specs.Walk.{Event, caught_events, local_events, locals_events, cells_events, stack_events, keeps_stack, frame_events, place_events, code_events}
+use Rattle.xf_homes.specs.Walk.{Event, caught_events, local_events, locals_events, cells_events, stack_events, keeps_stack, frame_events, place_events}
+use Rattle.xf_homes.specs.Walk.{code_events}
 use Rattle.xf_homes.proofs.Events.{Rising}
 
-rising-append : (P Q : Event → Type 0) → ((a b : Event) → P a → Q b → ComesBefore a.spot b.spot) → (xs ys : List Event) → Each P xs → Each Q ys → Rising xs → Rising ys → Rising (xs ++ ys)
+rising-append : (P Q : Event → Type 0) → ((a b : Event) → P a → Q b → ComesBefore a.spot b.spot) → (xs ys : List Event) → Each P xs
+    → Each Q ys → Rising xs → Rising ys → Rising (xs ++ ys)
 rising-append P Q before [] ys p q r s = s
 rising-append P Q before (x ∷ xs) ys p q r s = (
   Each-append (λ k. ComesBefore x.spot k.spot) xs ys r.0 (Each-weaker Q (λ k. ComesBefore x.spot k.spot) (λ k qk. before x k p.0 qk) ys q),
@@ -52,7 +55,8 @@ module _ (frames : ℕ → Option Frame) (handlers : List Handler) (p : ℕ) whe
   caught-rising : (x n : ℕ) (hs : List Handler) → Rising (caught_events frames p x n hs)
   caught-rising x n [] = tt
   caught-rising x n (h ∷ hs) = (
-    Each-weaker (IsOfLocal p x (suc (suc n))) (λ k. ComesBefore (record { place = p; slot = x; time = suc n }) k.spot) (later-time x (suc n)) (caught_events frames p x (suc n) hs)
+    Each-weaker (IsOfLocal p x (suc (suc n))) (λ k. ComesBefore (record { place = p; slot = x; time = suc n }) k.spot) (later-time x (suc n))
+        (caught_events frames p x (suc n) hs)
         (caught-of_local x (suc n) (suc n) hs (omega arith)),
     caught-rising x (suc n) hs,
   )
@@ -69,7 +73,8 @@ module _ (frames : ℕ → Option Frame) (handlers : List Handler) (p : ℕ) whe
   unfolding local_events
   local-between x to lt = (
     record { place = refl; low = omega arith; high = lt },
-    Each-weaker (IsOfLocal p x 1) (IsBetween p x to) (λ e of. record { place = of.place; low = omega (arith, of.slot); high = omega (arith, of.slot, lt) }) (caught_events frames p x 0 handlers)
+    Each-weaker (IsOfLocal p x 1) (IsBetween p x to) (λ e of. record { place = of.place; low = omega (arith, of.slot); high = omega (arith, of.slot, lt) })
+        (caught_events frames p x 0 handlers)
         (caught-of_local x 0 0 handlers (omega arith)),
   )
 
@@ -80,7 +85,8 @@ module _ (frames : ℕ → Option Frame) (handlers : List Handler) (p : ℕ) whe
   locals-between x (suc n) to le =
       Each-append (IsBetween p x to) (local_events frames handlers p x) (locals_events frames handlers p (suc x) n)
       (local-between x to (omega arith))
-      (Each-weaker (IsBetween p (suc x) to) (IsBetween p x to) (λ e b. record { place = b.place; low = omega (arith, b.low); high = b.high }) (locals_events frames handlers p (suc x) n)
+      (Each-weaker (IsBetween p (suc x) to) (IsBetween p x to) (λ e b. record { place = b.place; low = omega (arith, b.low); high = b.high })
+      (locals_events frames handlers p (suc x) n)
       (locals-between (suc x) n to (omega arith)))
 
   locals-rising : (x n : ℕ) → Rising (locals_events frames handlers p x n)
@@ -99,7 +105,8 @@ module _ (frames : ℕ → Option Frame) (handlers : List Handler) (p : ℕ) whe
   pub cells-rising : (slot : ℕ) (cells : List Ty) (i n : ℕ) → Rising (cells_events p slot cells i n)
   cells-rising slot cells i zero = tt
   cells-rising slot cells i (suc n) = (
-    Each-weaker (IsFrom p (suc (slot + i))) (λ k. ComesBefore (record { place = p; slot = slot + i; time = 0 }) k.spot) (λ k f. inr (sym f.place, inl f.low)) (cells_events p slot cells (suc i) n)
+    Each-weaker (IsFrom p (suc (slot + i))) (λ k. ComesBefore (record { place = p; slot = slot + i; time = 0 }) k.spot)
+        (λ k f. inr (sym f.place, inl f.low)) (cells_events p slot cells (suc i) n)
         (cells-from slot cells (suc i) n (suc (slot + i)) (omega arith)),
     cells-rising slot cells (suc i) n,
   )
@@ -123,7 +130,8 @@ among-index x [] a = absurd a
 among-index x (y ∷ ys) (inl e) = (0, ap Some e)
 among-index x (y ∷ ys) (inr a) = let r = among-index x ys a in (suc r.0, r.1)
 
-places-rise : (is : List Placed) → ((a b : ℕ) (i j : Placed) → slice_get is a ≡ Some i → slice_get is b ≡ Some j → a < b → i.place < j.place) → ArePlacesRising is
+places-rise : (is : List Placed)
+    → ((a b : ℕ) (i j : Placed) → slice_get is a ≡ Some i → slice_get is b ≡ Some j → a < b → i.place < j.place) → ArePlacesRising is
 places-rise [] f = tt
 places-rise (i ∷ is) f = (
   Each-from_among (λ (j : Placed). i.place < j.place) is (λ j a. let r = among-index j is a in f 0 (suc r.0) i j refl r.1 (omega arith)),
@@ -134,8 +142,10 @@ module _ (w : Linked) (m : Method) (frames : ℕ → Option Frame) (leaders : Li
   frame-rising : (i : Placed) (o : Option Frame) → Rising (frame_events w m frames leaders i o)
   frame-rising i None = tt
   frame-rising i (Some f) =
-      rising-append (IsBetween i.place 0 (register_count m.rec)) (IsFrom i.place (register_count m.rec)) (λ a b p q. inr (p.place ∙ sym q.place, inl (omega (arith, p.high, q.low))))
-      (locals_events frames m.rec.handlers i.place 0 (register_count m.rec)) (stack_events (keeps_stack w m.rec leaders i (length f.stack)) i.place (register_count m.rec) (reverse f.stack))
+      rising-append (IsBetween i.place 0 (register_count m.rec)) (IsFrom i.place (register_count m.rec))
+      (λ a b p q. inr (p.place ∙ sym q.place, inl (omega (arith, p.high, q.low))))
+      (locals_events frames m.rec.handlers i.place 0 (register_count m.rec))
+      (stack_events (keeps_stack w m.rec leaders i (length f.stack)) i.place (register_count m.rec) (reverse f.stack))
       (locals-between frames m.rec.handlers i.place 0 (register_count m.rec) (register_count m.rec) (omega arith))
       (stack-from frames m.rec.handlers i.place (keeps_stack w m.rec leaders i (length f.stack)) (register_count m.rec) (reverse f.stack))
       (locals-rising frames m.rec.handlers i.place 0 (register_count m.rec))
@@ -144,10 +154,13 @@ module _ (w : Linked) (m : Method) (frames : ℕ → Option Frame) (leaders : Li
   frame-place : (i : Placed) (o : Option Frame) → Each (IsAtPlace i.place) (frame_events w m frames leaders i o)
   frame-place i None = tt
   frame-place i (Some f) =
-      Each-append (IsAtPlace i.place) (locals_events frames m.rec.handlers i.place 0 (register_count m.rec)) (stack_events (keeps_stack w m.rec leaders i (length f.stack)) i.place (register_count m.rec) (reverse f.stack))
-      (Each-weaker (IsBetween i.place 0 (register_count m.rec)) (IsAtPlace i.place) (λ e b. b.place) (locals_events frames m.rec.handlers i.place 0 (register_count m.rec))
+      Each-append (IsAtPlace i.place) (locals_events frames m.rec.handlers i.place 0 (register_count m.rec))
+      (stack_events (keeps_stack w m.rec leaders i (length f.stack)) i.place (register_count m.rec) (reverse f.stack))
+      (Each-weaker (IsBetween i.place 0 (register_count m.rec)) (IsAtPlace i.place) (λ e b. b.place)
+      (locals_events frames m.rec.handlers i.place 0 (register_count m.rec))
       (locals-between frames m.rec.handlers i.place 0 (register_count m.rec) (register_count m.rec) (omega arith)))
-      (Each-weaker (IsFrom i.place (register_count m.rec)) (IsAtPlace i.place) (λ e b. b.place) (stack_events (keeps_stack w m.rec leaders i (length f.stack)) i.place (register_count m.rec) (reverse f.stack))
+      (Each-weaker (IsFrom i.place (register_count m.rec)) (IsAtPlace i.place) (λ e b. b.place)
+      (stack_events (keeps_stack w m.rec leaders i (length f.stack)) i.place (register_count m.rec) (reverse f.stack))
       (stack-from frames m.rec.handlers i.place (keeps_stack w m.rec leaders i (length f.stack)) (register_count m.rec) (reverse f.stack)))
 
   place-rising : (i : Placed) → Rising (place_events w m frames leaders i)
@@ -158,16 +171,20 @@ module _ (w : Linked) (m : Method) (frames : ℕ → Option Frame) (leaders : Li
   unfolding place_events
   place-place i = frame-place i (frames i.place)
 
-  flat-later : (p : ℕ) (is : List Placed) → Each (λ (j : Placed). p < j.place) is → Each (λ e. p < e.spot.place) (flat_map (place_events w m frames leaders) is)
+  flat-later : (p : ℕ) (is : List Placed) → Each (λ (j : Placed). p < j.place) is
+      → Each (λ e. p < e.spot.place) (flat_map (place_events w m frames leaders) is)
   flat-later p [] each = tt
   flat-later p (i ∷ is) each =
       rw flat_map-cons (Each-append (λ e. p < e.spot.place) (place_events w m frames leaders i) (flat_map (place_events w m frames leaders) is)
-      (Each-weaker (IsAtPlace i.place) (λ e. p < e.spot.place) (λ e at. omega (arith, at, each.0)) (place_events w m frames leaders i) (place-place i)) (flat-later p is each.1))
+      (Each-weaker (IsAtPlace i.place) (λ e. p < e.spot.place) (λ e at. omega (arith, at, each.0)) (place_events w m frames leaders i) (place-place i))
+      (flat-later p is each.1))
 
   flat-rising : (is : List Placed) → ArePlacesRising is → Rising (flat_map (place_events w m frames leaders) is)
   flat-rising [] r = tt
   flat-rising (i ∷ is) r =
-      rw flat_map-cons (rising-append (IsAtPlace i.place) (λ e. i.place < e.spot.place) (λ a b p q. inl (omega (arith, p, q))) (place_events w m frames leaders i) (flat_map (place_events w m frames leaders) is)
+      rw flat_map-cons
+      (rising-append (IsAtPlace i.place) (λ e. i.place < e.spot.place) (λ a b p q. inl (omega (arith, p, q))) (place_events w m frames leaders i)
+      (flat_map (place_events w m frames leaders) is)
       (place-place i) (flat-later i.place is r.0) (place-rising i) (flat-rising is r.1))
 
   pub code-rising : AreListed m.code → Rising (code_events w m frames leaders)

@@ -1,5 +1,6 @@
 -- What homes serve for.
-use Rattle.std.proofs.Common.{◌≡◌, ℕ, ◌+◌, ◌≤◌, ◌⊎◌, inl, inr, Bool, true, false, if◌then◌else◌, List, [], ◌∷◌, ◌++◌, Option, Some, refl, sym, ◌∙◌, ap, subst, arith}
+use Rattle.std.proofs.Common.{◌≡◌, ℕ, ◌+◌, ◌≤◌, ◌⊎◌, inl, inr, Bool, true, false, if◌then◌else◌, List, [], ◌∷◌, ◌++◌}
+use Rattle.std.proofs.Common.{Option, Some, refl, sym, ◌∙◌, ap, subst, arith}
 use Rattle.std.proofs.lemmas.Bool.{false≢true}
 use Rattle.std.proofs.lemmas.List.Sums.{sum_by-cons}
 use Rattle.std.proofs.lemmas.Option.{same_Some}
@@ -29,7 +30,8 @@ module _ (same : SameTypeDecides) where
   among-register [] h n a = absurd a
   among-register (k ∷ ks) h n a = by (same_home k h) refl a (λ b. among-register ks h (n + type_width k.ty) b)
     where
-      by : (b : Bool) → same_home k h ≡ b → (k ≡ h) ⊎ IsAmong h ks → (IsAmong h ks → (r : ℕ) × (register_from (n + type_width k.ty) ks h ≡ Some r))
+      by : (b : Bool) → same_home k h ≡ b → (k ≡ h) ⊎ IsAmong h ks
+          → (IsAmong h ks → (r : ℕ) × (register_from (n + type_width k.ty) ks h ≡ Some r))
           → (r : ℕ) × ((if b then Some n else register_from (n + type_width k.ty) ks h) ≡ Some r)
       by true q a rest = (n, refl)
       by false q (inl e) rest = absurd (false≢true (sym q ∙ subst (λ j. same_home k j ≡ true) e (home-itself same k)))
@@ -44,7 +46,8 @@ module _ (same : SameTypeDecides) where
   register-is [] h n r e = absurd (cc)
   register-is (k ∷ ks) h n r e = by (same_home k h) refl e (λ f. register-is ks h (n + type_width k.ty) r f)
     where
-      by : (b : Bool) → same_home k h ≡ b → (if b then Some n else register_from (n + type_width k.ty) ks h) ≡ Some r → (register_from (n + type_width k.ty) ks h ≡ Some r → IsRegister (n + type_width k.ty) ks h r) → IsRegister n (k ∷ ks) h r
+      by : (b : Bool) → same_home k h ≡ b → (if b then Some n else register_from (n + type_width k.ty) ks h) ≡ Some r
+          → (register_from (n + type_width k.ty) ks h ≡ Some r → IsRegister (n + type_width k.ty) ks h r) → IsRegister n (k ∷ ks) h r
       by true q f rest =
           let home : k ≡ h = homes-equal same k h q in
           let at : n ≡ r = same_Some _ _ f in
@@ -71,8 +74,10 @@ module _ (same : SameTypeDecides) where
           let wide : type_width j.ty ≡ type_width k.ty = ap (λ (x : Home). type_width x.ty) (homes-equal same j k q) in
           omega (arith, i.from, wide, at)
 
-      by : (b c : Bool) → same_home j h ≡ b → same_home j k ≡ c → (if b then Some n else register_from (n + type_width j.ty) js h) ≡ Some r → (if c then Some n else register_from (n + type_width j.ty) js k) ≡ Some s
-          → (register_from (n + type_width j.ty) js h ≡ Some r → register_from (n + type_width j.ty) js k ≡ Some s → AreApart h k r s) → AreApart h k r s
+      by : (b c : Bool) → same_home j h ≡ b → same_home j k ≡ c → (if b then Some n else register_from (n + type_width j.ty) js h) ≡ Some r
+          → (if c then Some n else register_from (n + type_width j.ty) js k) ≡ Some s
+          → (register_from (n + type_width j.ty) js h ≡ Some r → register_from (n + type_width j.ty) js k ≡ Some s → AreApart h k r s)
+          → AreApart h k r s
       by true true p q e f rest = inl (sym (homes-equal same j h p) ∙ homes-equal same j k q)
       by true false p q e f rest = inr (inl (first p (same_Some _ _ e) f))
       by false true p q e f rest = inr (inr (second q (same_Some _ _ f) e))
@@ -83,7 +88,8 @@ module _ (same : SameTypeDecides) where
   stands-at [] others h n st a = absurd a
   stands-at (k ∷ ks) others h n st a = by (same_home k h) refl a (λ b. stands-at ks others h (n + type_width k.ty) st.1 b)
     where
-      by : (b : Bool) → same_home k h ≡ b → (k ≡ h) ⊎ IsAmong h ks → (IsAmong h ks → register_from (n + type_width k.ty) (ks ++ others) h ≡ Some h.slot)
+      by : (b : Bool) → same_home k h ≡ b → (k ≡ h) ⊎ IsAmong h ks
+          → (IsAmong h ks → register_from (n + type_width k.ty) (ks ++ others) h ≡ Some h.slot)
           → (if b then Some n else register_from (n + type_width k.ty) (ks ++ others) h) ≡ Some h.slot
       by true q a rest = ap Some (sym st.0 ∙ ap (λ (j : Home). j.slot) (homes-equal same k h q))
       by false q (inl e) rest = absurd (false≢true (sym q ∙ subst (λ j. same_home k j ≡ true) e (home-itself same k)))
@@ -117,7 +123,9 @@ module _ (same : SameTypeDecides) where
     serve : Serve w m frames homes
     serve = record {
       all = λ h. (λ r. among-home h (register-is homes h 0 r.0 r.1).among, has-register h);
-      arguments = λ h argument. subst (λ ks. register_from 0 ks h ≡ Some h.slot) (sym are.parts) (stands-at are.arguments are.others h 0 are.stand ((are.declared h).1 argument));
+      arguments =
+          λ h argument. subst (λ ks. register_from 0 ks h ≡ Some h.slot) (sym are.parts)
+          (stands-at are.arguments are.others h 0 are.stand ((are.declared h).1 argument));
       needed = λ p x ty reached n. has-register (record { slot = x; ty = ty }) (inr (record { place = p; slot = x; time = n.0 }, met_local reached n.1));
       cells = λ p i ty reached keeps at. has-register _ (inr (_, met_cell i reached keeps at));
       apart = λ h k r s e f. registers-apart homes h k 0 r s e f;

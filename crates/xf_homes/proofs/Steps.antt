@@ -1,5 +1,6 @@
 -- Steps along the events of a walk.
-use Rattle.std.proofs.Common.{◌≡◌, ℕ, zero, suc, ◌+◌, ◌-◌, ◌<◌, ◌≤◌, Bool, true, false, List, [], ◌∷◌, length, drop, flat_map, Option, MatchBool, refl, sym, ◌∙◌, ap, arith, drop-cons}
+use Rattle.std.proofs.Common.{◌≡◌, ℕ, zero, suc, ◌+◌, ◌-◌, ◌<◌, ◌≤◌, Bool, true, false, List, [], ◌∷◌, length, drop, flat_map}
+use Rattle.std.proofs.Common.{Option, MatchBool, refl, sym, ◌∙◌, ap, arith, drop-cons}
 use Rattle.std.specs.Prelude.{fold, get_or}
 use Rattle.std.proofs.lemmas.List.Sums.{fold-append}
 use Rattle.std.proofs.lemmas.List.Concat.{flat_map-cons}
@@ -10,11 +11,13 @@ use Rattle.jc_control.specs.Control.{Covers}
 use Rattle.jc_rules.specs.Demand.{Frame}
 use Rattle.xf_homes.specs.declared.home.Home.{Home}
 use Rattle.xf_homes.specs.Value.{value_in_cells}
-use Rattle.xf_homes.specs.Walk.{Event, is_covered, caught_of, caught_events, local_events, locals_events, cells_events, with_home_of_value, with_event, with_events}
+use Rattle.xf_homes.specs.Walk.{Event, is_covered, caught_of, caught_events, local_events, locals_events, cells_events, with_home_of_value, with_event}
+use Rattle.xf_homes.specs.Walk.{with_events}
 use Rattle.xf_homes.proofs.Meeting.{covered, covers}
 
 pub cells-step : (homes : List Home) (p slot : ℕ) (cells : List Ty) (n len : ℕ) → n < len
-    → with_events homes (cells_events p slot cells n (len - n)) ≡ with_events (with_home_of_value homes (slot + n) (value_in_cells cells n)) (cells_events p slot cells (n + 1) (len - (n + 1)))
+    → with_events homes (cells_events p slot cells n (len - n)) ≡ with_events (with_home_of_value homes (slot + n) (value_in_cells cells n))
+    (cells_events p slot cells (n + 1) (len - (n + 1)))
 unfolding with_events
 cells-step homes p slot cells n len lt =
     let e : len - n ≡ suc (len - (n + 1)) = omega arith in
@@ -23,7 +26,8 @@ cells-step homes p slot cells n len lt =
     ∙ ap (λ k. fold with_event (with_home_of_value homes (slot + n) (value_in_cells cells n)) (cells_events p slot cells k (len - (n + 1)))) next
 
 pub locals-step : (homes : List Home) (frames : ℕ → Option Frame) (handlers : List Handler) (p x len : ℕ) → x < len
-    → with_events homes (locals_events frames handlers p x (len - x)) ≡ with_events (with_events homes (local_events frames handlers p x)) (locals_events frames handlers p (x + 1) (len - (x + 1)))
+    → with_events homes (locals_events frames handlers p x (len - x)) ≡ with_events (with_events homes (local_events frames handlers p x))
+    (locals_events frames handlers p (x + 1) (len - (x + 1)))
 unfolding with_events
 locals-step homes frames handlers p x len lt =
     let e : len - x ≡ suc (len - (x + 1)) = omega arith in
@@ -32,8 +36,10 @@ locals-step homes frames handlers p x len lt =
     ∙ fold-append with_event homes (local_events frames handlers p x) (locals_events frames handlers p (suc x) (len - (x + 1)))
     ∙ ap (λ k. fold with_event (fold with_event homes (local_events frames handlers p x)) (locals_events frames handlers p k (len - (x + 1)))) next
 
-pub handlers-step : (homes : List Home) (frames : ℕ → Option Frame) (p x n : ℕ) (handlers : List Handler) (d : Handler) (value : Option Ty) → n < length handlers → value ≡ caught_of frames p x (get_or handlers n d)
-    → with_events homes (caught_events frames p x n (drop n handlers)) ≡ with_events (with_home_of_value homes x value) (caught_events frames p x (n + 1) (drop (n + 1) handlers))
+pub handlers-step : (homes : List Home) (frames : ℕ → Option Frame) (p x n : ℕ) (handlers : List Handler) (d : Handler) (value : Option Ty)
+    → n < length handlers → value ≡ caught_of frames p x (get_or handlers n d)
+    → with_events homes (caught_events frames p x n (drop n handlers)) ≡ with_events (with_home_of_value homes x value)
+    (caught_events frames p x (n + 1) (drop (n + 1) handlers))
 unfolding with_events
 handlers-step homes frames p x n handlers d value lt is =
     let next : suc n ≡ n + 1 = omega arith in
@@ -41,7 +47,8 @@ handlers-step homes frames p x n handlers d value lt is =
     ∙ ap (λ v. fold with_event (with_home_of_value homes x v) (caught_events frames p x (suc n) (drop (suc n) handlers))) (sym is)
     ∙ ap (λ k. fold with_event (with_home_of_value homes x value) (caught_events frames p x k (drop k handlers))) next
 
-pub handlers-end : (homes : List Home) (frames : ℕ → Option Frame) (p x n : ℕ) (handlers : List Handler) → length handlers ≤ n → with_events homes (caught_events frames p x n (drop n handlers)) ≡ homes
+pub handlers-end : (homes : List Home) (frames : ℕ → Option Frame) (p x n : ℕ) (handlers : List Handler) → length handlers ≤ n
+    → with_events homes (caught_events frames p x n (drop n handlers)) ≡ homes
 unfolding with_events
 handlers-end homes frames p x n handlers le = ap (λ hs. fold with_event homes (caught_events frames p x n hs)) (drop-past handlers n le)
   where
@@ -72,6 +79,8 @@ pub places-end : (homes : List Home) (f : Placed → List Event) (rest : List Pl
 unfolding with_events
 places-end homes f rest e = ap (λ is. fold with_event homes (flat_map f is)) (sym e)
 
-pub locals-end : (homes : List Home) (frames : ℕ → Option Frame) (handlers : List Handler) (p x len : ℕ) → len ≤ x → homes ≡ with_events homes (locals_events frames handlers p x (len - x))
+pub locals-end : (homes : List Home) (frames : ℕ → Option Frame) (handlers : List Handler) (p x len : ℕ) → len ≤ x
+    → homes ≡ with_events homes (locals_events frames handlers p x (len - x))
 unfolding with_events
-locals-end homes frames handlers p x len le = let none : 0 ≡ len - x = omega arith in ap (λ k. fold with_event homes (locals_events frames handlers p x k)) none
+locals-end homes frames handlers p x len le =
+    let none : 0 ≡ len - x = omega arith in ap (λ k. fold with_event homes (locals_events frames handlers p x k)) none

@@ -1,6 +1,7 @@
 -- What is asked at a place in the walk: of locals those whose value is not that at the last reached place, and of handlers all, where one
 -- covers the place that does not cover the last one, and else none. What was asked before is kept. No public promise rests on it.
-use Rattle.std.specs.Prelude.{◌≡◌, ℕ, ◌<◌, ◌⊎◌, Bool, true, false, not, ◌&&◌, List, [], ◌∷◌, All, Option, Some, None}
+use Rattle.std.specs.Prelude.{◌≡◌, ℕ, ◌<◌, ◌⊎◌, Bool, true, false, not, ◌&&◌, List, [], ◌∷◌, All, Option, Some}
+use Rattle.std.specs.Prelude.{None}
 use Rattle.jc_base.specs.declared.ty.Ty.{Ty}
 use Rattle.jc_base.specs.declared.record.Handler.{Handler}
 use Rattle.jc_rules.specs.Demand.{Frame}

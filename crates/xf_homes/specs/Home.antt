@@ -1,7 +1,8 @@
 -- The homes of a method: pairs of a slot and the type of a value that may have to be kept there, by the method's least dataflow typing
 -- (Leroy 2002, section 4.1: registers are given anew so that each holds values of one type). The slots are the registers of the method,
 -- and after them the cells of its stack from the bottom; an int stands at the slot of its high half, as IntHigh.
-use Rattle.std.specs.Prelude.{◌≡◌, ℕ, suc, ◌+◌, ◌<◌, ◌⊎◌, ◌++◌, ⊤, List, length, reverse, Option, Some, Ok, slice_get}
+use Rattle.std.specs.Prelude.{◌≡◌, ℕ, suc, ◌+◌, ◌<◌, ◌⊎◌, ◌++◌, ⊤, List, length, reverse, Option, Some, Ok}
+use Rattle.std.specs.Prelude.{slice_get}
 use Rattle.jc_base.specs.declared.ty.Ty.{Ty}
 use Rattle.jc_base.specs.declared.record.Handler.{Handler}
 use Rattle.jc_base.specs.declared.record.MethodRec.{MethodRec}

@@ -1,5 +1,6 @@
 -- Laws of homes: what the rewriting of a method rests on.
-use Rattle.std.specs.Prelude.{◌≡◌, ◌↔◌, ℕ, ◌+◌, ◌<◌, ◌≤◌, ◌⊎◌, ⊤, List, [], ◌∷◌, reverse, Option, Some}
+use Rattle.std.specs.Prelude.{◌≡◌, ◌↔◌, ℕ, ◌+◌, ◌<◌, ◌≤◌, ◌⊎◌, ⊤, List, [], ◌∷◌, reverse, Option}
+use Rattle.std.specs.Prelude.{Some}
 use Rattle.jc_base.specs.declared.ty.Ty.{Ty}
 use Rattle.jc_base.specs.Each.{Each, IsAmong}
 use Rattle.jc_base.specs.World.{Linked}

@@ -1,6 +1,7 @@
 -- What the rewritten code of a method goes by: at each place the homes of its locals and of the cells of its stack, and the homes in which
 -- each local has to stand (Leroy 2002, section 4.1).
-use Rattle.std.specs.Prelude.{ℕ, zero, suc, ◌+◌, ◌-◌, Bool, is_some, if◌then◌else◌, List, [], ◌∷◌, length, reverse, Option, Some, None, Result}
+use Rattle.std.specs.Prelude.{ℕ, zero, suc, ◌+◌, ◌-◌, Bool, is_some, if◌then◌else◌, List, [], ◌∷◌, length, reverse}
+use Rattle.std.specs.Prelude.{Option, Some, None, Result}
 use Rattle.jc_base.specs.declared.ty.Ty.{Ty}
 use Rattle.jc_decode.specs.declared.insn.Placed.{Placed}
 use Rattle.jc_ops.specs.declared.fault.RuleFault.{RuleFault}

@@ -19,8 +19,10 @@ use Rattle.xf_layout.proofs.Pieces.{plain-piece, jump-piece, switch-piece}
 
 -- ---- an instruction that names no place
 
-pub plain-adds : (source : List ℕ) (place : ℕ → ℕ) (i short : Insn) (f : Form) (old new piece xs : List ℕ) (at : ℕ) → IsForm (Plain i) (Fixed (length_of short))
-    → IsForm (Plain i) f → new ≡ old ++ piece → ReadsBack xs at short piece → length piece ≡ length_of short → essence short ≡ essence i → jumps short.op ≡ false
+pub plain-adds : (source : List ℕ) (place : ℕ → ℕ) (i short : Insn) (f : Form) (old new piece xs : List ℕ) (at : ℕ)
+    → IsForm (Plain i) (Fixed (length_of short))
+    → IsForm (Plain i) f → new ≡ old ++ piece → ReadsBack xs at short piece → length piece ≡ length_of short → essence short ≡ essence i
+    → jumps short.op ≡ false
     → Adds source place (Plain i) f old new
 plain-adds source place i short (Fixed n) old new piece xs at shortest form appended reads long alike still = record {
   piece = piece;
@@ -60,14 +62,17 @@ pub decoded-alone : (xs : List ℕ) (at : ℕ) (s : Insn) (bytes : List ℕ) →
 decoded-alone xs at s bytes reads long =
     ap (λ (ys : List ℕ). decoded ys 0) (sym (append-nil bytes)) ∙ reads.insn [] [] ∙ ap (λ (n : ℕ). Ok (record s { len = n })) long
 
-pub cases-alone : (xs : List ℕ) (at : ℕ) (s : Insn) (bytes : List ℕ) → ReadsBack xs at s bytes → length bytes ≡ s.len → cases bytes 0 s ≡ cases xs at s
+pub cases-alone : (xs : List ℕ) (at : ℕ) (s : Insn) (bytes : List ℕ) → ReadsBack xs at s bytes → length bytes ≡ s.len
+    → cases bytes 0 s ≡ cases xs at s
 cases-alone xs at s bytes reads long =
     ap (λ (ys : List ℕ). cases ys 0 s) (sym (append-nil bytes))
     ∙ ap (λ (n : ℕ). cases (bytes ++ []) 0 (record s { len = n })) (sym long) ∙ reads.cases [] []
 
-pub switch-adds : (source : List ℕ) (place : ℕ → ℕ) (i : Insn) (from : ℕ) (labels : List ℕ) (s : Insn) (old new bytes : List ℕ) (l : ℕ) (ls : List ℕ) → labels ≡ l ∷ ls
+pub switch-adds : (source : List ℕ) (place : ℕ → ℕ) (i : Insn) (from : ℕ) (labels : List ℕ) (s : Insn) (old new bytes : List ℕ) (l : ℕ)
+    (ls : List ℕ) → labels ≡ l ∷ ls
     → new ≡ old ++ bytes → length bytes ≡ i.len → ReadsBack bytes 0 s bytes → essence s ≡ essence i → is_switch s.op ≡ true
-    → s.x ≡ pos (place l) -ℤ pos (length old) → cases bytes 0 s ≡ led place (length old) ls (cases source from i) → length ls ≡ length (cases source from i)
+    → s.x ≡ pos (place l) -ℤ pos (length old) → cases bytes 0 s ≡ led place (length old) ls (cases source from i)
+    → length ls ≡ length (cases source from i)
     → AddsSwitch source place i from labels old new
 switch-adds source place i from labels s old new bytes l ls split appended long reads alike switch x led_so count =
     subst (λ (ks : List ℕ). AddsSwitch source place i from ks old new) (sym split) (record {
@@ -77,7 +82,8 @@ switch-adds source place i from labels s old new bytes l ls split appended long 
       stands = switch-piece source place (length old) i from l ls s bytes reads alike switch x led_so count;
     })
 
-pub switch-form : (source : List ℕ) (place : ℕ → ℕ) (i : Insn) (from : ℕ) (labels : List ℕ) (f : Form) (old new : List ℕ) → IsForm (Switch i from labels) f
+pub switch-form : (source : List ℕ) (place : ℕ → ℕ) (i : Insn) (from : ℕ) (labels : List ℕ) (f : Form) (old new : List ℕ)
+    → IsForm (Switch i from labels) f
     → is_switch i.op ≡ true → AddsSwitch source place i from labels old new → Adds source place (Switch i from labels) f old new
 switch-form source place i from labels (Fixed n) old new form switch adds =
     let long : length_of i ≡ i.len = rw switch refl in
@@ -86,14 +92,16 @@ switch-form source place i from labels (Jump l w) old new form switch adds = abs
 switch-form source place i from labels (Mark l) old new form switch adds = absurd form
 
 -- a switch is as long as its form
-pub switch-few : (i : Insn) (from : ℕ) (labels : List ℕ) (f : Form) → IsForm (Switch i from labels) f → is_switch i.op ≡ true → form_bytes f ≤ 32767 → i.len ≤ 32767
+pub switch-few : (i : Insn) (from : ℕ) (labels : List ℕ) (f : Form) → IsForm (Switch i from labels) f → is_switch i.op ≡ true
+    → form_bytes f ≤ 32767 → i.len ≤ 32767
 switch-few i from labels (Fixed n) form switch few = let long : length_of i ≡ i.len = rw switch refl in omega (arith, long, form, few)
 switch-few i from labels (Jump l w) form switch few = absurd form
 switch-few i from labels (Mark l) form switch few = absurd form
 
 -- ---- a label
 
-pub label-adds : (source : List ℕ) (place : ℕ → ℕ) (l : ℕ) (f : Form) (old : List ℕ) → IsForm (Label l) f → Adds source place (Label l) f old old
+pub label-adds : (source : List ℕ) (place : ℕ → ℕ) (l : ℕ) (f : Form) (old : List ℕ) → IsForm (Label l) f
+    → Adds source place (Label l) f old old
 label-adds source place l (Mark m) old form = record { piece = []; appended = sym (append-nil old); long = refl; stands = λ before after h. refl }
 label-adds source place l (Fixed n) old form = absurd form
 label-adds source place l (Jump m w) old form = absurd form

@@ -1,5 +1,6 @@
 -- The turns of widening, from the shortest form of each item to the least set of wide jumps with which every other one fits.
-use Rattle.std.proofs.Common.{◌≡◌, ◌<◌, ◌+◌, ℕ, true, false, Option, Some, None, List, [], ◌∷◌, length, refl, sym, ◌∙◌, arith, All, map, ap}
+use Rattle.std.proofs.Common.{◌≡◌, ◌<◌, ◌+◌, ℕ, true, false, Option, Some, None, List, [], ◌∷◌, length, refl, sym, ◌∙◌, arith, All}
+use Rattle.std.proofs.Common.{map, ap}
 use Rattle.std.specs.Prelude.{slice_get, slice_index}
 use Rattle.std.specs.Option.{option_map}
 use Rattle.std.proofs.lemmas.Option.{slice_get-map}

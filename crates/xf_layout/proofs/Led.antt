@@ -1,5 +1,6 @@
 -- Cases that are led to labels one after the other.
-use Rattle.std.proofs.Common.{◌≡◌, ◌≢◌, ◌⊎◌, inl, inr, ℕ, zero, suc, Option, Some, None, List, [], ◌∷◌, ◌++◌, length, refl, sym, ap, ◌∙◌}
+use Rattle.std.proofs.Common.{◌≡◌, ◌≢◌, ◌⊎◌, inl, inr, ℕ, zero, suc, Option, Some, None, List, [], ◌∷◌, ◌++◌, length, refl, sym}
+use Rattle.std.proofs.Common.{ap, ◌∙◌}
 use Rattle.std.specs.Prelude.{ℤ, pos, ◌-ℤ◌, slice_get}
 use Rattle.std.specs.Option.{option_map}
 use Rattle.std.proofs.lemmas.Bool.{cases_eq}
@@ -17,7 +18,8 @@ same-lists {A} (x ∷ xs) (y ∷ ys) h =
     ap (λ (z : _). z ∷ xs) e ∙ ap (λ (zs : List _). y ∷ zs) (same-lists xs ys (λ k. h (suc k)))
 
 here-led : (place : ℕ → ℕ) (here : ℕ) (ls : List ℕ) (l : ℕ) (cs : List Case)
-    → slice_get (led place here (ls ++ l ∷ []) cs) (length ls) ≡ option_map (leading (pos (place l) -ℤ pos here)) (slice_get (led place here ls cs) (length ls))
+    → slice_get (led place here (ls ++ l ∷ []) cs) (length ls) ≡ option_map (leading (pos (place l) -ℤ pos here))
+    (slice_get (led place here ls cs) (length ls))
 here-led place here [] l [] = refl
 here-led place here [] l (c ∷ cs) = refl
 here-led place here (x ∷ ls) l [] = refl
@@ -33,7 +35,8 @@ other-led place here (x ∷ ls) l (c ∷ cs) zero h = refl
 other-led place here (x ∷ ls) l (c ∷ cs) (suc k) h = other-led place here ls l cs k (λ e. h (ap suc e))
 
 -- one more case is led to its label
-pub next-led : (place : ℕ → ℕ) (here : ℕ) (ls : List ℕ) (l : ℕ) (cs old new : List Case) (offset : ℤ) (n : ℕ) → n ≡ length ls → old ≡ led place here ls cs
+pub next-led : (place : ℕ → ℕ) (here : ℕ) (ls : List ℕ) (l : ℕ) (cs old new : List Case) (offset : ℤ) (n : ℕ) → n ≡ length ls
+    → old ≡ led place here ls cs
     → offset ≡ pos (place l) -ℤ pos here → slice_get new n ≡ option_map (leading offset) (slice_get old n)
     → ((k : ℕ) → k ≢ n → slice_get new k ≡ slice_get old k) → new ≡ led place here (ls ++ l ∷ []) cs
 next-led place here ls l cs old new offset n end so_far to changed others = same-lists new (led place here (ls ++ l ∷ []) cs) at
@@ -47,7 +50,8 @@ next-led place here ls l cs old new offset n end so_far to changed others = same
             ∙ ap (λ (xs : List Case). option_map (leading (pos (place l) -ℤ pos here)) (slice_get xs n)) so_far
             ∙ ap (λ (m : ℕ). option_map (leading (pos (place l) -ℤ pos here)) (slice_get (led place here ls cs) m)) end
             ∙ sym (here-led place here ls l cs) ∙ ap (slice_get (led place here (ls ++ l ∷ []) cs)) (sym end ∙ sym e)
-        by_place (inr other) = others k other ∙ ap (λ (xs : List Case). slice_get xs k) so_far ∙ sym (other-led place here ls l cs k (λ same. other (same ∙ sym end)))
+        by_place (inr other) =
+            others k other ∙ ap (λ (xs : List Case). slice_get xs k) so_far ∙ sym (other-led place here ls l cs k (λ same. other (same ∙ sym end)))
 
 pub length-led : (place : ℕ → ℕ) (here : ℕ) (ls : List ℕ) (cs : List Case) → length (led place here ls cs) ≡ length cs
 length-led place here [] cs = refl

@@ -1,5 +1,6 @@
 -- What is noted of labels: where each stands that is there once.
-use Rattle.std.proofs.Common.{◌≡◌, ◌≤◌, ◌<◌, ◌+◌, ℕ, Bool, true, false, Some, List, [], ◌∷◌, zero, suc, length, refl, sym, ap, ◌∙◌, subst, arith, cond, All}
+use Rattle.std.proofs.Common.{◌≡◌, ◌≤◌, ◌<◌, ◌+◌, ℕ, Bool, true, false, Some, List, [], ◌∷◌, zero, suc, length, refl, sym, ap}
+use Rattle.std.proofs.Common.{◌∙◌, subst, arith, cond, All}
 use Rattle.std.specs.Prelude.{◌==◌, slice_get, count_by}
 use Rattle.std.proofs.Math.ListN.{get_or}
 use Rattle.std.proofs.lemmas.Bool.{eqb-true, eqb-false, eq-eqb}

@@ -1,5 +1,6 @@
 -- The bytes of one item are it wherever they stand at a place.
-use Rattle.std.proofs.Common.{◌≡◌, ◌+◌, ℕ, Bool, true, false, cond, Result, Ok, Err, List, [], ◌∷◌, ◌++◌, length, refl, ap, ◌∙◌, subst, arith, map}
+use Rattle.std.proofs.Common.{◌≡◌, ◌+◌, ℕ, Bool, true, false, cond, Result, Ok, Err, List, [], ◌∷◌, ◌++◌, length, refl, ap, ◌∙◌}
+use Rattle.std.proofs.Common.{subst, arith, map}
 use Rattle.std.specs.Prelude.{ℤ, pos, ◌+ℤ◌, ◌-ℤ◌}
 use Rattle.std.proofs.lemmas.Int.{ints}
 use Rattle.std.proofs.lemmas.Bool.{or_parts, or_right}
@@ -38,7 +39,8 @@ no-cases xs at i h = by_layout (layout_of i.op) h
 essence-sized : (bytes : List ℕ) (i : Insn) → essence (sized bytes i) ≡ essence i
 essence-sized bytes i = by_kind (jumps i.op) refl (is_load_n i.op) refl (is_store_n i.op) refl
   where
-    by_kind : (a : Bool) → jumps i.op ≡ a → (b : Bool) → is_load_n i.op ≡ b → (c : Bool) → is_store_n i.op ≡ c → essence (sized bytes i) ≡ essence i
+    by_kind : (a : Bool) → jumps i.op ≡ a → (b : Bool) → is_load_n i.op ≡ b → (c : Bool) → is_store_n i.op ≡ c
+        → essence (sized bytes i) ≡ essence i
     by_kind true p b q c r = rw p refl
     by_kind false p true q c r = rw (p, q) refl
     by_kind false p false q true r = rw (p, q, r) refl
@@ -128,5 +130,6 @@ switch-piece source place here i from l ls s bytes reads alike switch x led_so c
     rw (jumps_so, led_so)
     (ap (λ (d : ℤ). d ∷ map (λ c. target here c.offset) (led place here ls (cases source from i))) (ap (target here) x ∙ there-and-back here (place l))
     ∙ ap (λ (ds : List ℤ). pos (place l) ∷ ds) (leads-led place here ls (cases source from i) count)) in
-    let keys : map (λ c. c.key) (cases bytes 0 s) ≡ map (λ c. c.key) (cases source from i) = ap (map (λ (c : Case). c.key)) led_so ∙ keys-led place here ls (cases source from i) in
+    let keys : map (λ c. c.key) (cases bytes 0 s) ≡ map (λ c. c.key) (cases source from i) = ap (map (λ (c : Case). c.key)) led_so
+    ∙ keys-led place here ls (cases source from i) in
     restated (before ++ (bytes ++ after)) here i (length bytes) _ _ _ _ leads keys stands

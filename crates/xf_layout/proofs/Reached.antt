@@ -1,5 +1,6 @@
 -- Where labels stand in code that is not too long, and that its short jumps fit.
-use Rattle.std.proofs.Common.{◌≡◌, ◌≤◌, ◌+◌, ℕ, zero, suc, Bool, true, false, cond, Some, List, [], ◌∷◌, length, refl, sym, ap, ◌∙◌, subst, arith, All, ◌<◌, get_or}
+use Rattle.std.proofs.Common.{◌≡◌, ◌≤◌, ◌+◌, ℕ, zero, suc, Bool, true, false, cond, Some, List, [], ◌∷◌, length, refl, sym, ap}
+use Rattle.std.proofs.Common.{◌∙◌, subst, arith, All, ◌<◌, get_or}
 use Rattle.std.specs.Prelude.{pos, ◌-ℤ◌, ◌==◌, slice_get, slice_index, IsTrue}
 use Rattle.std.proofs.lemmas.List.Elements.{All-nil, All-cons, All-weaker, All-get_or}
 use Rattle.std.proofs.lemmas.Option.{slice_get_read}
@@ -45,7 +46,8 @@ begins-suc (x ∷ fs) (suc k) f e = omega (arith, begins-suc fs k f e)
 pub begins-more : (fs : List Form) (k : ℕ) (f : Form) → slice_get fs k ≡ Some f → begins fs (k + 1) ≡ begins fs k + form_bytes f
 begins-more fs k f h = let e : k + 1 ≡ suc k = omega arith in ap (begins fs) e ∙ begins-suc fs k f h
 
-pub form-of : (items : List Item) (fs : List Form) → AreForms items fs → (k : ℕ) (i : Item) (f : Form) → slice_get items k ≡ Some i → slice_get fs k ≡ Some f
+pub form-of : (items : List Item) (fs : List Form) → AreForms items fs → (k : ℕ) (i : Item) (f : Form) → slice_get items k ≡ Some i
+    → slice_get fs k ≡ Some f
     → IsForm i f
 form-of [] fs h k i f e g = absurd (cc)
 form-of (x ∷ is) [] h k i f e g = absurd h
@@ -60,10 +62,12 @@ form-few [] k f e = absurd (cc)
 form-few (x ∷ fs) zero f e = let a : x ≡ f = cc in omega (arith, ap form_bytes a)
 form-few (x ∷ fs) (suc k) f e = omega (arith, form-few fs k f e)
 
-once-reached : (items : List Item) (p : LayoutPlan) → IsLayoutPlan items p → p.end ≤ 32767 → (l : ℕ) → IsOnce items l → slice_index p.places l ≤ 32767
+once-reached : (items : List Item) (p : LayoutPlan) → IsLayoutPlan items p → p.end ≤ 32767 → (l : ℕ) → IsOnce items l
+    → slice_index p.places l ≤ 32767
 once-reached items p plan few l once = omega (arith, plan.places l once, label-end p.forms.items l, plan.end, few)
 
-pub item-reached : (source : List ℕ) (items : List Item) (p : LayoutPlan) → IsLayoutPlan items p → p.end ≤ 32767 → (i : Item) → IsItem source items i
+pub item-reached : (source : List ℕ) (items : List Item) (p : LayoutPlan) → IsLayoutPlan items p → p.end ≤ 32767 → (i : Item)
+    → IsItem source items i
     → AreInReach p.places (labels_of i)
 item-reached source items p plan few (Plain i) item = All-nil (λ l. slice_index p.places l ≤ 32767)
 item-reached source items p plan few (Branch op l) item =
@@ -81,7 +85,8 @@ form-near source items p plan few ok k (Jump l false) e =
     let once = jump-once source items items p.forms.items ok plan.forms k l false e in
     subst (λ (n : ℕ). IsTrue (is_near (pos n -ℤ pos (begins p.forms.items k)))) (sym (plan.places l once)) (plan.fit few k l e)
 
-pub range-placed : (items : List Item) (p : LayoutPlan) → IsLayoutPlan items p → p.end ≤ 32767 → (r : Range) → IsRange items r → IsPlacedRange p.places r
+pub range-placed : (items : List Item) (p : LayoutPlan) → IsLayoutPlan items p → p.end ≤ 32767 → (r : Range) → IsRange items r
+    → IsPlacedRange p.places r
 range-placed items p plan few r range = record {
   to = once-reached items p plan few r.to range.to;
   entry = once-reached items p plan few r.entry range.entry;
@@ -96,7 +101,8 @@ range-placed items p plan few r range = record {
 }
 
 -- the items reach to the end of the code
-pub items-end : (source : List ℕ) (place : ℕ → ℕ) (code : List ℕ) (here : ℕ) (items : List Item) (fs : List Form) → ItemsStand source place code here items fs
+pub items-end : (source : List ℕ) (place : ℕ → ℕ) (code : List ℕ) (here : ℕ) (items : List Item) (fs : List Form)
+    → ItemsStand source place code here items fs
     → here + length_of_forms fs ≡ length code
 items-end source place code here [] [] h = omega (arith, h)
 items-end source place code here (i ∷ is) (f ∷ fs) h = let e = items-end source place code (here + form_bytes f) is fs h.1 in omega (arith, e)

@@ -1,5 +1,6 @@
 -- Items that stand one after the other in a code are its listing, read as symbols.
-use Rattle.std.proofs.Common.{◌≡◌, ◌≤◌, ◌+◌, ℕ, zero, suc, Bool, true, false, cond, List, [], ◌∷◌, ◌++◌, length, refl, sym, ap, ◌∙◌, subst, arith, map, All, append_assoc, length-append}
+use Rattle.std.proofs.Common.{◌≡◌, ◌≤◌, ◌+◌, ℕ, zero, suc, Bool, true, false, cond, List, [], ◌∷◌, ◌++◌, length, refl, sym, ap}
+use Rattle.std.proofs.Common.{◌∙◌, subst, arith, map, All, append_assoc, length-append}
 use Rattle.std.specs.Prelude.{ℤ, pos, ◌==◌}
 use Rattle.std.proofs.lemmas.List.Elements.{All-head, All-tail}
 use Rattle.jc_decode.specs.declared.insn.Insn.{Insn}
@@ -23,7 +24,8 @@ use Rattle.xf_layout.specs.Laid.{StandsHere, ItemStands, ItemsStand, Adds, label
 
 pub next-stands : (source : List ℕ) (place : ℕ → ℕ) (items : List Item) (fs : List Form) (code new : List ℕ) (item : Item) (f : Form)
     (rest : List Item) (gs : List Form) → Adds source place item f code new
-    → ((after : List ℕ) → ItemsStand source place (code ++ after) (length code) (item ∷ rest) (f ∷ gs) → ItemsStand source place (code ++ after) 0 items fs)
+    → ((after : List ℕ) → ItemsStand source place (code ++ after) (length code) (item ∷ rest) (f ∷ gs)
+    → ItemsStand source place (code ++ after) 0 items fs)
     → (after : List ℕ) → ItemsStand source place (new ++ after) (length new) rest gs → ItemsStand source place (new ++ after) 0 items fs
 next-stands source place items fs code new item f rest gs adds reach after stands =
     let whole : new ++ after ≡ code ++ (adds.piece ++ after) = ap (λ (xs : List ℕ). xs ++ after) adds.appended ∙ append_assoc code adds.piece after in
@@ -46,14 +48,16 @@ instruction-start (Jump l w ∷ fs) = refl
 instruction-start (Mark l ∷ fs) = instruction-start fs
 
 -- a label stands where the instruction after it begins
-pub label-instruction : (items : List Item) (fs : List Form) → AreForms items fs → (l : ℕ) → label_place fs l ≡ instruction_place fs (place_of l items)
+pub label-instruction : (items : List Item) (fs : List Form) → AreForms items fs → (l : ℕ)
+    → label_place fs l ≡ instruction_place fs (place_of l items)
 label-instruction [] [] h l = refl
 label-instruction (Plain i ∷ is) (Fixed n ∷ fs) h l = ap (λ (k : ℕ). n + k) (label-instruction is fs h.1 l)
 label-instruction (Branch op m ∷ is) (Jump n w ∷ fs) h l = ap (λ (k : ℕ). form_bytes (Jump n w) + k) (label-instruction is fs h.1 l)
 label-instruction (Switch i at labels ∷ is) (Fixed n ∷ fs) h l = ap (λ (k : ℕ). n + k) (label-instruction is fs h.1 l)
 label-instruction (Label m ∷ is) (Mark n ∷ fs) h l = rw h.0 (by_test (m == l) (label-instruction is fs h.1 l))
   where
-    by_test : (b : Bool) → label_place fs l ≡ instruction_place fs (place_of l is) → cond b 0 (label_place fs l) ≡ instruction_place fs (cond b 0 (place_of l is))
+    by_test : (b : Bool) → label_place fs l ≡ instruction_place fs (place_of l is) → cond b 0 (label_place fs l) ≡ instruction_place fs
+        (cond b 0 (place_of l is))
     by_test true e = sym (instruction-start fs)
     by_test false e = e
 label-instruction [] (f ∷ fs) h l = absurd h
@@ -67,7 +71,8 @@ label-instruction (Switch i at labels ∷ is) (Mark n ∷ fs) h l = absurd h.0
 label-instruction (Label m ∷ is) (Fixed n ∷ fs) h l = absurd h.0
 label-instruction (Label m ∷ is) (Jump n w ∷ fs) h l = absurd h.0
 
-leads-agree : (place to : ℕ → ℕ) (all : List Item) → ((l : ℕ) → IsOnce all l → place l ≡ to (place_of l all)) → (labels : List ℕ) → All (IsOnce all) labels
+leads-agree : (place to : ℕ → ℕ) (all : List Item) → ((l : ℕ) → IsOnce all l → place l ≡ to (place_of l all)) → (labels : List ℕ)
+    → All (IsOnce all) labels
     → label_targets place labels ≡ map (λ t. pos (to t)) (map (λ l. place_of l all) labels)
 leads-agree place to all agree [] h = refl
 leads-agree place to all agree (l ∷ ls) h =
@@ -76,7 +81,8 @@ leads-agree place to all agree (l ∷ ls) h =
 
 -- ---- the steps
 
-one-step : ListingIsOne → (code : List ℕ) (to : ℕ → ℕ) (n here : ℕ) (same : Insn) (long : ℕ) (leads keys : List ℤ) (targets : List ℕ) (rest : List Step)
+one-step : ListingIsOne → (code : List ℕ) (to : ℕ → ℕ) (n here : ℕ) (same : Insn) (long : ℕ) (leads keys : List ℤ) (targets : List ℕ)
+    (rest : List Step)
     → StandsHere code here same long leads keys → leads ≡ map (λ t. pos (to t)) targets → here ≡ to n → here + long ≡ to (suc n)
     → AreSteps code to (suc n) rest (listing_from code (here + long))
     → AreSteps code to n (record { insn = same; targets = targets; keys = keys } ∷ rest) (listing_from code here)
@@ -125,14 +131,17 @@ steps-stand one past source place to all agree code (Branch op l ∷ is) (Jump m
     one-step one code to n here (jump op) (form_bytes (Jump m w)) (label_targets place (l ∷ [])) [] (place_of l all ∷ []) (steps_in source all is) stands.0
     (ap (λ (k : ℕ). pos k ∷ []) (agree l item.1))
     (shifted-start to n here (Jump m w ∷ fs) shift) (shifted-start to (suc n) (here + form_bytes (Jump m w)) fs next)
-    (steps-stand one past source place to all agree code is fs (suc n) (here + form_bytes (Jump m w)) (All-tail (IsItem source all) (Branch op l) is ok) forms.1 next stands.1)
+    (steps-stand one past source place to all agree code is fs (suc n) (here + form_bytes (Jump m w)) (All-tail (IsItem source all) (Branch op l) is ok)
+    forms.1 next stands.1)
 steps-stand one past source place to all agree code (Switch i at labels ∷ is) (Fixed b ∷ fs) n here ok forms shift stands =
     let next = shifted-next to n here b (Fixed b) fs shift (λ m. refl) in
     let item = All-head (IsItem source all) (Switch i at labels) is ok in
-    one-step one code to n here i b (label_targets place labels) (map (λ c. c.key) (cases source at i)) (map (λ l. place_of l all) labels) (steps_in source all is) stands.0
+    one-step one code to n here i b (label_targets place labels) (map (λ c. c.key) (cases source at i)) (map (λ l. place_of l all) labels)
+    (steps_in source all is) stands.0
     (leads-agree place to all agree labels item.3)
     (shifted-start to n here (Fixed b ∷ fs) shift) (shifted-start to (suc n) (here + b) fs next)
-    (steps-stand one past source place to all agree code is fs (suc n) (here + b) (All-tail (IsItem source all) (Switch i at labels) is ok) forms.1 next stands.1)
+    (steps-stand one past source place to all agree code is fs (suc n) (here + b) (All-tail (IsItem source all) (Switch i at labels) is ok) forms.1 next
+    stands.1)
 steps-stand one past source place to all agree code [] (f ∷ fs) n here ok forms shift stands = absurd forms
 steps-stand one past source place to all agree code (i ∷ is) [] n here ok forms shift stands = absurd forms
 steps-stand one past source place to all agree code (Plain i ∷ is) (Jump m w ∷ fs) n here ok forms shift stands = absurd forms.0

@@ -1,6 +1,7 @@
 -- A turn of widening: it keeps the forms those of their items, makes no jump wide that is short where all fit, and where it makes
 -- none wide all fit.
-use Rattle.std.proofs.Common.{◌≡◌, ◌≤◌, ◌+◌, ℕ, zero, suc, Bool, true, false, Option, Some, None, List, [], ◌∷◌, refl, sym, ap, ◌∙◌, arith, cond}
+use Rattle.std.proofs.Common.{◌≡◌, ◌≤◌, ◌+◌, ℕ, zero, suc, Bool, true, false, Option, Some, None, List, [], ◌∷◌, refl, sym, ap}
+use Rattle.std.proofs.Common.{◌∙◌, arith, cond}
 use Rattle.std.specs.Prelude.{pos, ◌-ℤ◌, not, slice_get, count_by}
 use Rattle.std.specs.Option.{option_map}
 use Rattle.std.proofs.lemmas.Bool.{false≢true, not-false}
@@ -71,7 +72,8 @@ widened-least place items fs others placed p q fit wide k l e = by_form (slice_g
         let at : place m ≡ label_place fs n = placed.at k m false here ∙ ap (label_place fs) (sym h.0) in
         let start : begins fs k ≡ 0 + begins fs k = omega arith in
         let bad : not (is_near (distance fs k n)) ≡ true =
-        ap (λ (x : ℕ). not (is_near (pos x -ℤ pos (begins fs k)))) (sym at) ∙ ap (λ (x : ℕ). not (is_near (pos (place m) -ℤ pos x))) start ∙ far in
+        ap (λ (x : ℕ). not (is_near (pos x -ℤ pos (begins fs k)))) (sym at) ∙ ap (λ (x : ℕ). not (is_near (pos (place m) -ℤ pos x))) start
+        ∙ far in
         absurd (false≢true (sym (ap not near) ∙ bad))
 
     by_form : (o : Option Form) → slice_get fs k ≡ o → option_map (widened_form place (0 + begins fs k)) o ≡ Some (Jump l true)
@@ -135,7 +137,8 @@ same-widened place at (f ∷ fs) e =
 pub fit-same : (place : ℕ → ℕ) (fs : List Form) → ArePlaced place fs → widened place 0 fs ≡ fs → Fit fs
 fit-same place fs placed same k l here =
     let now : Some (Jump l (not (is_near (pos (place l) -ℤ pos (0 + begins fs k))))) ≡ Some (Jump l false) =
-    ap (option_map (widened_form place (0 + begins fs k))) (sym here) ∙ sym (get-widened place 0 fs k) ∙ ap (λ (xs : List Form). slice_get xs k) same ∙ here in
+    ap (option_map (widened_form place (0 + begins fs k))) (sym here) ∙ sym (get-widened place 0 fs k) ∙ ap (λ (xs : List Form). slice_get xs k) same
+    ∙ here in
     let at : place l ≡ label_place fs l = placed.at k l false here in
     let start : begins fs k ≡ 0 + begins fs k = omega arith in
     let far : not (is_near (distance fs k l)) ≡ false =

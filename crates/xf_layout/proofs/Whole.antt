@@ -1,5 +1,6 @@
 -- Laid code as a whole.
-use Rattle.std.proofs.Common.{◌≡◌, ◌+◌, ◌-◌, ℕ, Result, Ok, Err, List, [], ◌++◌, length, take, drop, cond, sym, ap, ◌∙◌, subst, arith, map, All}
+use Rattle.std.proofs.Common.{◌≡◌, ◌+◌, ◌-◌, ℕ, Result, Ok, Err, List, [], ◌++◌, length, take, drop, cond, sym, ap, ◌∙◌, subst, arith}
+use Rattle.std.proofs.Common.{map, All}
 use Rattle.std.specs.Prelude.{OnOk, is_ok, slice_index}
 use Rattle.std.proofs.lemmas.List.{append-nil, take_all, drop_all, length-drop}
 use Rattle.jc_decode.specs.declared.insn.Placed.{Placed}
@@ -21,7 +22,8 @@ back new items n long end =
     let none : drop (length new) items ≡ [] = drop_all (length new) items (omega (arith, long)) in
     ap (λ (xs : List ℕ). take n (new ++ xs)) none ∙ ap (take n) (append-nil new) ∙ take_all n new (omega (arith, long, end))
 
-pub appended-ok : {E P : Type 0} (r : Result Unit E) (new old xs : List ℕ) → new ≡ cond (is_ok r) (old ++ xs) old → (new ≡ old ++ xs → P) → OnOk r P
+pub appended-ok : {E P : Type 0} (r : Result Unit E) (new old xs : List ℕ) → new ≡ cond (is_ok r) (old ++ xs) old → (new ≡ old ++ xs → P)
+    → OnOk r P
 appended-ok (Ok x) new old xs e f = f e
 appended-ok (Err x) new old xs e f = tt
 
@@ -48,7 +50,8 @@ stands-at source symbols p laid plan one past items ranges stands handlers max_s
     λ l once. plan.places l once ∙ label-instruction symbols.items p.forms.items plan.forms l in
     let start : IsShifted to 0 0 p.forms.items =
     record { at = λ m. let e : 0 + m ≡ m = omega arith in let f : to m ≡ 0 + to m = omega arith in ap to e ∙ f } in
-    let all = steps-stand one past source (slice_index p.places) to symbols.items agree laid.code symbols.items p.forms.items 0 0 items plan.forms start stands in
+    let all = steps-stand one past source (slice_index p.places) to symbols.items agree laid.code symbols.items p.forms.items 0 0 items plan.forms start
+    stands in
     let end = end-stands source (slice_index p.places) symbols.items laid.code symbols.items p.forms.items 0 plan.forms stands in
     record {
       begins = instruction-start p.forms.items;

@@ -1,5 +1,6 @@
 -- Items as bytes, one after the other. No public promise rests on it.
-use Rattle.std.specs.Prelude.{◌≡◌, ◌≤◌, ◌+◌, ℕ, ℤ, pos, ◌-ℤ◌, true, false, List, [], ◌∷◌, ◌++◌, All, length, map, slice_index, Ok, IsTrue}
+use Rattle.std.specs.Prelude.{◌≡◌, ◌≤◌, ◌+◌, ℕ, ℤ, pos, ◌-ℤ◌, true, false, List, [], ◌∷◌, ◌++◌, All}
+use Rattle.std.specs.Prelude.{length, map, slice_index, Ok, IsTrue}
 use Rattle.jc_decode.specs.declared.insn.Insn.{Insn}
 use Rattle.jc_decode.specs.declared.insn.Case.{Case}
 use Rattle.jc_decode.specs.declared.symbols.Item.{Item}

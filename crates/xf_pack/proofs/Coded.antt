@@ -1,5 +1,6 @@
 -- A method with code: the homes of its locals, the symbols to which it is rewritten, and what is told where a limit is passed.
-use Rattle.std.proofs.Common.{◌≡◌, ◌⊎◌, ℕ, ◌<◌, ◌≤◌, List, length, All, Option, Some, None, option_map, Result, Ok, Err, IsSomeAnd, slice_get, refl, sym, subst, inl, inr}
+use Rattle.std.proofs.Common.{◌≡◌, ◌⊎◌, ℕ, ◌<◌, ◌≤◌, List, length, All, Option, Some, None, option_map, Result, Ok, Err, IsSomeAnd}
+use Rattle.std.proofs.Common.{slice_get, refl, sym, subst, inl, inr}
 use Rattle.std.specs.Prelude.{◌↔◌}
 use Rattle.std.proofs.Math.Nat.{eq-or-lt_of_le}
 use Rattle.jc_base.specs.declared.record.MethodRec.{MethodRec}
@@ -75,11 +76,17 @@ module _ (w : Linked) (n : ℕ) (rec : MethodRec) (here : slice_get w.methods n 
       symbols-told StackLimit limit =
           of-it (IsUnlaid w limits.StackLimit) (record {
             method = its-code;
-            passes = record { homes = its-homes; full = (its-record (λ r. (◌≡◌ {A = Result Symbols RewriteEnd} (Err StackLimit) (Err StackLimit)) ↔ (r.max_stack ≡ 255)) limit).0 refl };
+            passes =
+                record {
+                  homes = its-homes;
+                  full = (its-record (λ r. (◌≡◌ {A = Result Symbols RewriteEnd} (Err StackLimit) (Err StackLimit)) ↔ (r.max_stack ≡ 255)) limit).0
+                      refl;
+                };
           })
       symbols-told NoSymbols limit = tt {0}
 
-      room : (symbols : Symbols) → (◌≡◌ {A = Result Symbols RewriteEnd} (Ok symbols) (Err StackLimit)) ↔ (rec.max_stack ≡ 255) → rec.max_stack ≤ 255 → rec.max_stack < 255
+      room : (symbols : Symbols) → (◌≡◌ {A = Result Symbols RewriteEnd} (Ok symbols) (Err StackLimit)) ↔ (rec.max_stack ≡ 255)
+          → rec.max_stack ≤ 255 → rec.max_stack < 255
       room symbols limit byte = by (eq-or-lt_of_le byte)
         where
           by : (rec.max_stack ≡ 255) ⊎ (rec.max_stack < 255) → rec.max_stack < 255
@@ -106,7 +113,9 @@ module _ (w : Linked) (n : ℕ) (rec : MethodRec) (here : slice_get w.methods n 
             homes = homes;
             are = its (λ m. AreHomes w m (state_at typing) homes) are;
             few = few;
-            room = room symbols (its-record (λ r. (◌≡◌ {A = Result Symbols RewriteEnd} (Ok symbols) (Err StackLimit)) ↔ (r.max_stack ≡ 255)) limit) byte;
+            room =
+                room symbols (its-record (λ r. (◌≡◌ {A = Result Symbols RewriteEnd} (Ok symbols) (Err StackLimit)) ↔ (r.max_stack ≡ 255)) limit)
+                byte;
             rewritten = its (λ m. AreSymbolsOf w m (state_at typing) homes symbols) rewritten;
             types = its (λ m. HasTypingByHomes w m homes symbols) types;
             live = its (λ m. KeepsLive m m.rec.handlers symbols.ranges) live;
@@ -145,9 +154,11 @@ module _ (w : Linked) (m : Method) (symbols : Symbols) (known : IsRewrittenTo w 
     short = short;
   }
 
-  pub laid-sound : InstructionsAreListed → LaidIsTyped w → IsMethod w.infos w.pools w.classes m.rec → (laid : Laid) → StandsShortest m.code symbols laid → length laid.code ≤ 32767 → FitsMethod m.rec laid
+  pub laid-sound : InstructionsAreListed → LaidIsTyped w → IsMethod w.infos w.pools w.classes m.rec → (laid : Laid)
+      → StandsShortest m.code symbols laid → length laid.code ≤ 32767 → FitsMethod m.rec laid
   laid-sound listed landed is laid stands short =
-      is-sound w m (state_at known.typing) known.homes symbols laid _ listed landed known.method is.result known.typed.typed.least.typing known.rewritten known.types known.live
+      is-sound w m (state_at known.typing) known.homes symbols laid _ listed landed known.method is.result known.typed.typed.least.typing known.rewritten
+      known.types known.live
       known.numbers known.few stands.2 short
 
 pub bytes-told : (w : Linked) (n : ℕ) (symbols : Symbols) → IsSomeAnd (method_in w n) (IsRewrittenTo w symbols) → (end : LayEnd)

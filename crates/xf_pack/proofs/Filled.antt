@@ -1,5 +1,6 @@
 -- Rewritten code has an instruction, and so has what is laid for it.
-use Rattle.std.proofs.Common.{◌≡◌, ℕ, zero, suc, ◌+◌, ◌<◌, ◌≤◌, List, [], ◌∷◌, ◌++◌, length, flat_map, Option, Some, Result, Ok, Err, refl, sym, ap, subst, ◌∙◌, arith}
+use Rattle.std.proofs.Common.{◌≡◌, ℕ, zero, suc, ◌+◌, ◌<◌, ◌≤◌, List, [], ◌∷◌, ◌++◌, length, flat_map, Option, Some, Result, Ok}
+use Rattle.std.proofs.Common.{Err, refl, sym, ap, subst, ◌∙◌, arith}
 use Rattle.std.specs.Prelude.{slice_get}
 use Rattle.jc_base.specs.declared.ty.Ty.TheVariants.{Top}
 use Rattle.jc_base.specs.World.{Linked}
@@ -54,7 +55,8 @@ module _ (s : Source) (i : Placed) where
 -- ---- a method
 
 -- code that is listed to its end begins with an instruction
-first-listed : (code : List ℕ) (ps : List Placed) → Lists code 0 ps → end_from 0 ps ≡ length code → 0 < length code → (i : Placed) × (rest : List Placed) × (ps ≡ i ∷ rest) × (i.place ≡ 0)
+first-listed : (code : List ℕ) (ps : List Placed) → Lists code 0 ps → end_from 0 ps ≡ length code → 0 < length code → (i : Placed)
+    × (rest : List Placed) × (ps ≡ i ∷ rest) × (i.place ≡ 0)
 first-listed code [] lists ends filled = absurd (omega (arith, ends, filled))
 first-listed code (i ∷ rest) lists ends filled = (i, rest, refl, lists.0)
 
@@ -75,12 +77,14 @@ module _ (s : Source) (listed : InstructionsAreListed) (mo : IsMethodOf s.world 
 
 -- ---- laid code
 
-laid-by : (code : List ℕ) (place : ℕ → ℕ) (ss : List Step) (ps : List Placed) → AreSteps code place 0 ss ps → 0 < length ss → (i : Placed) × (slice_get ps 0 ≡ Some i)
+laid-by : (code : List ℕ) (place : ℕ → ℕ) (ss : List Step) (ps : List Placed) → AreSteps code place 0 ss ps → 0 < length ss → (i : Placed)
+    × (slice_get ps 0 ≡ Some i)
 laid-by code place [] ps are some = absurd (omega (arith, some))
 laid-by code place (s ∷ ss) [] are some = absurd are
 laid-by code place (s ∷ ss) (i ∷ ps) are some = (i, refl)
 
-pub laid-filled : (w : Linked) (m : Method) (frames : ℕ → Option Frame) (homes : List Home) (symbols : Symbols) (laid : Laid) (place : ℕ → ℕ) → InstructionsAreListed → IsMethodOf w m → FlowTyping w m Top frames
+pub laid-filled : (w : Linked) (m : Method) (frames : ℕ → Option Frame) (homes : List Home) (symbols : Symbols) (laid : Laid) (place : ℕ → ℕ)
+    → InstructionsAreListed → IsMethodOf w m → FlowTyping w m Top frames
     → AreSymbolsOf w m frames homes symbols → StandsAt place m.code symbols laid → 1 ≤ length laid.code
 unfolding rewritten
 laid-filled w m frames homes symbols laid place listed mo typing r stands =

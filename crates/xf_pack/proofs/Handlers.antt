@@ -1,5 +1,6 @@
 -- Each entry of the handler table of a package belongs to one method, so that the handlers of all methods are no more than the table has.
-use Rattle.std.proofs.Common.{◌≡◌, ℕ, zero, suc, ◌+◌, ◌-◌, ◌<◌, ◌≤◌, Bool, true, false, ◌&&◌, ltb, leb, min, List, [], ◌∷◌, ◌++◌, length, filter, cond, refl, sym, ap, subst, ◌∙◌, arith}
+use Rattle.std.proofs.Common.{◌≡◌, ℕ, zero, suc, ◌+◌, ◌-◌, ◌<◌, ◌≤◌, Bool, true, false, ◌&&◌, ltb, leb, min, List, [], ◌∷◌}
+use Rattle.std.proofs.Common.{◌++◌, length, filter, cond, refl, sym, ap, subst, ◌∙◌, arith}
 use Rattle.std.specs.List.{filter_map, enumerate_from}
 use Rattle.std.proofs.lemmas.Bool.{ltb-true, ltb-false, leb-true, leb-false}
 use Rattle.cap_desc.specs.DescriptorFormat.{MethodDescriptor, ClassDescriptor}
@@ -30,12 +31,14 @@ one-more : (many : ℕ) (m : MethodDescriptor) → entry_count (suc many) m ≡ 
 unfolding one_if
 one-more many m = by (leb m.handler_index many) (ltb many (m.handler_index + m.handler_count)) refl refl
   where
-    by : (a b : Bool) → leb m.handler_index many ≡ a → ltb many (m.handler_index + m.handler_count) ≡ b → entry_count (suc many) m ≡ one_if (a && b) + entry_count many m
+    by : (a b : Bool) → leb m.handler_index many ≡ a → ltb many (m.handler_index + m.handler_count) ≡ b
+        → entry_count (suc many) m ≡ one_if (a && b) + entry_count many m
     by true true e f = let le = leb-true m.handler_index many e in let lt = ltb-true many (m.handler_index + m.handler_count) f in omega (arith, le, lt)
     by true false e f = let le = leb-true m.handler_index many e in let ge = ltb-false many (m.handler_index + m.handler_count) f in omega (arith, le, ge)
     by false b e f = let gt = leb-false m.handler_index many e in omega (arith, gt)
 
-filter-count : (n : ℕ) (m : MethodDescriptor) (ms : List MethodDescriptor) → length (filter (claims n) (m ∷ ms)) ≡ one_if (claims n m) + length (filter (claims n) ms)
+filter-count : (n : ℕ) (m : MethodDescriptor) (ms : List MethodDescriptor) → length (filter (claims n) (m ∷ ms)) ≡ one_if (claims n m) + length
+    (filter (claims n) ms)
 unfolding one_if
 filter-count n m ms = by (claims n m)
   where
@@ -70,13 +73,15 @@ module _ (p : PackageRecord) (agreed : StandsFor p.parts p) where
   entries-owned : filter_map (numbered_fault p.methods.info (described_methods p)) (enumerate_from 0 p.methods.handlers) ≡ []
   entries-owned =
       let all = agreed.agree.1.1.1.1.1.1.1.1.1.1.1.1.1.1.0 in
-      (both_empty (filter_map (numbered_fault p.methods.info (described_methods p)) (enumerate_from 0 p.methods.handlers)) (filter_map (claim_fault (length p.methods.handlers)) (described_methods p)) all).0
+      (both_empty (filter_map (numbered_fault p.methods.info (described_methods p)) (enumerate_from 0 p.methods.handlers))
+      (filter_map (claim_fault (length p.methods.handlers)) (described_methods p)) all).0
 
   once : (n : ℕ) → n < length p.methods.handlers → length (filter (claims n) (described_methods p)) ≤ 1
   once n lt =
       let h = slice_get-some p.methods.handlers n lt in
       let place : 0 + n ≡ n = omega arith in
-      let fault = faultless (numbered_fault p.methods.info (described_methods p)) (enumerate_from 0 p.methods.handlers) (0 + n, h.0) entries-owned (entry_numbered p.methods.handlers 0 n h.0 h.1) in
+      let fault = faultless (numbered_fault p.methods.info (described_methods p)) (enumerate_from 0 p.methods.handlers) (0 + n, h.0) entries-owned
+      (entry_numbered p.methods.handlers 0 n h.0 h.1) in
       one_owner p.methods.info (described_methods p) n h.0 (rw place at fault)
 
   pub entries-within : entry_sum (length p.methods.handlers) (described_methods p) ≤ length p.methods.handlers

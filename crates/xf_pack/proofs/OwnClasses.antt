@@ -1,5 +1,6 @@
 -- The classes that a Descriptor describes are its package's own: no reference has its high bit set.
-use Rattle.std.proofs.Common.{◌≡◌, ℕ, ◌<◌, Bool, true, false, ◌&&◌, ltb, cond, List, [], ◌∷◌, ◌++◌, map, inl, inr, Some, None, refl, ap}
+use Rattle.std.proofs.Common.{◌≡◌, ℕ, ◌<◌, Bool, true, false, ◌&&◌, ltb, cond, List, [], ◌∷◌, ◌++◌, map, inl, inr, Some, None, refl}
+use Rattle.std.proofs.Common.{ap}
 use Rattle.std.specs.List.{filter_map}
 use Rattle.std.proofs.lemmas.Bool.{ltb-true}
 use Rattle.cap_class.specs.ClassFormat as of_class

@@ -1,5 +1,6 @@
 -- The methods of a world whose packages have a last one: those of the libraries, and then those of that package.
-use Rattle.std.proofs.Common.{◌≡◌, ◌⊎◌, Bool, true, false, MatchBool, IsSomeAnd, ℕ, zero, suc, ◌+◌, ◌<◌, ◌≤◌, List, [], ◌∷◌, ◌++◌, length, map, drop, Option, Some, None, refl, sym, ap, subst, ◌∙◌, arith, inl, inr, length-append}
+use Rattle.std.proofs.Common.{◌≡◌, ◌⊎◌, Bool, true, false, MatchBool, IsSomeAnd, ℕ, zero, suc, ◌+◌, ◌<◌, ◌≤◌, List, [], ◌∷◌}
+use Rattle.std.proofs.Common.{◌++◌, length, map, drop, Option, Some, None, refl, sym, ap, subst, ◌∙◌, arith, inl, inr, length-append}
 use Rattle.std.specs.Prelude.{All, slice_get}
 use Rattle.std.proofs.lemmas.Bool.{cases_lt}
 use Rattle.std.proofs.lemmas.List.{length-map, map-append, append-nil, append_assoc}
@@ -34,19 +35,26 @@ all-back P (z ∷ xs) ys (suc n) x all e le = all-back P xs ys n x all e (omega 
 
 -- ---- numbered methods
 
-after-last : (k : ℕ) (ps : List PackageRecord) (p : PackageRecord) → methods_after k (and_last ps p) ≡ methods_after k ps ++ methods_of_classes (k + length ps) p 0 p.description.items.classes
+after-last : (k : ℕ) (ps : List PackageRecord) (p : PackageRecord) → methods_after k (and_last ps p) ≡ methods_after k ps ++ methods_of_classes
+    (k + length ps) p 0 p.description.items.classes
 after-last k [] p =
     let same : k + 0 ≡ k = omega arith in
     rw same (append-nil (methods_of_classes k p 0 p.description.items.classes))
 after-last k (q ∷ ps) p =
     let same : (k + 1) + length ps ≡ k + suc (length ps) = omega arith in
     ap (λ ms. methods_of_classes k q 0 q.description.items.classes ++ ms) (after-last (k + 1) ps p)
-    ∙ sym (append_assoc (methods_of_classes k q 0 q.description.items.classes) (methods_after (k + 1) ps) (methods_of_classes ((k + 1) + length ps) p 0 p.description.items.classes))
-    ∙ ap (λ n. (methods_of_classes k q 0 q.description.items.classes ++ methods_after (k + 1) ps) ++ methods_of_classes n p 0 p.description.items.classes) same
+    ∙ sym
+    (append_assoc (methods_of_classes k q 0 q.description.items.classes) (methods_after (k + 1) ps)
+    (methods_of_classes ((k + 1) + length ps) p 0 p.description.items.classes))
+    ∙ ap (λ n. (methods_of_classes k q 0 q.description.items.classes ++ methods_after (k + 1) ps) ++ methods_of_classes n p 0
+    p.description.items.classes) same
 
-class-home : (k : ℕ) (p : PackageRecord) (i : ℕ) (c : ClassDescriptor) (j : ℕ) (ms : List MethodDescriptor) → All (λ (m : NumberedMethod). m.home ≡ k) (methods_of_class k p i c j ms)
+class-home : (k : ℕ) (p : PackageRecord) (i : ℕ) (c : ClassDescriptor) (j : ℕ) (ms : List MethodDescriptor)
+    → All (λ (m : NumberedMethod). m.home ≡ k) (methods_of_class k p i c j ms)
 class-home k p i c j [] = All-nil (λ (m : NumberedMethod). m.home ≡ k)
-class-home k p i c j (m ∷ ms) = All-cons (λ (m : NumberedMethod). m.home ≡ k) (numbered_method k p i c j m) (methods_of_class k p i c (j + 1) ms) refl (class-home k p i c (j + 1) ms)
+class-home k p i c j (m ∷ ms) =
+    All-cons (λ (m : NumberedMethod). m.home ≡ k) (numbered_method k p i c j m) (methods_of_class k p i c (j + 1) ms) refl
+    (class-home k p i c (j + 1) ms)
 
 home-is : (k : ℕ) (p : PackageRecord) (i : ℕ) (cs : List ClassDescriptor) → All (λ (m : NumberedMethod). m.home ≡ k) (methods_of_classes k p i cs)
 home-is k p i [] = All-nil (λ (m : NumberedMethod). m.home ≡ k)
@@ -96,8 +104,10 @@ module _ (ps : List PackageRecord) (p : PackageRecord) (roles : List ℕ) where
 
     pub last : All (λ (r : MethodRec). r.package + 1 ≡ length w.infos) own_of
     last =
-        All-map (λ (r : MethodRec). r.package + 1 ≡ length w.infos) (named_method (and_last ps p) roles) (methods_of_classes (length ps) p 0 p.description.items.classes)
-        (All-weaker (λ (m : NumberedMethod). m.home ≡ length ps) (λ (m : NumberedMethod). (named_method (and_last ps p) roles m).package + 1 ≡ length w.infos)
+        All-map (λ (r : MethodRec). r.package + 1 ≡ length w.infos) (named_method (and_last ps p) roles)
+        (methods_of_classes (length ps) p 0 p.description.items.classes)
+        (All-weaker (λ (m : NumberedMethod). m.home ≡ length ps)
+        (λ (m : NumberedMethod). (named_method (and_last ps p) roles m).package + 1 ≡ length w.infos)
         (λ m e. let home = home_of m in omega (arith, home, e, count))
         (methods_of_classes (length ps) p 0 p.description.items.classes) (home-is (length ps) p 0 p.description.items.classes))
 
@@ -107,8 +117,12 @@ module _ (ps : List PackageRecord) (p : PackageRecord) (roles : List ℕ) where
     pub begins : BeginsLast w (length earlier_of)
     begins = record {
       within = omega (arith, long);
-      before = λ n r e lt. all-front (λ (r : MethodRec). r.package + 1 < length w.infos) earlier_of own_of n r before (subst (λ (ms : List MethodRec). slice_get ms n ≡ Some r) parts e) lt;
-      last = λ n r e le. all-back (λ (r : MethodRec). r.package + 1 ≡ length w.infos) earlier_of own_of n r last (subst (λ (ms : List MethodRec). slice_get ms n ≡ Some r) parts e) le;
+      before =
+          λ n r e lt. all-front (λ (r : MethodRec). r.package + 1 < length w.infos) earlier_of own_of n r before
+          (subst (λ (ms : List MethodRec). slice_get ms n ≡ Some r) parts e) lt;
+      last =
+          λ n r e le. all-back (λ (r : MethodRec). r.package + 1 ≡ length w.infos) earlier_of own_of n r last
+          (subst (λ (ms : List MethodRec). slice_get ms n ≡ Some r) parts e) le;
     }
 
     pub has-last : HasLast w
@@ -136,23 +150,31 @@ begins-once w f g a b = by (cases_lt f g)
 
 -- they are looked for from the first method on
 module _ (w : Linked) (n first : ℕ) (is : BeginsLast w first) (le : n ≤ first) where
-  pub first-later : (b : Bool) → IsSomeAnd (slice_get w.methods n) (λ r. MatchBool b (r.package + 1 ≡ length w.infos) (¬ (r.package + 1 ≡ length w.infos))) → b ≡ false → n + 1 ≤ first
+  pub first-later : (b : Bool)
+      → IsSomeAnd (slice_get w.methods n) (λ r. MatchBool b (r.package + 1 ≡ length w.infos) (¬ (r.package + 1 ≡ length w.infos))) → b ≡ false
+      → n + 1 ≤ first
   first-later b h e = by (slice_get w.methods n) refl (cases_lt n first) h
     where
-      by : (o : Option MethodRec) → slice_get w.methods n ≡ o → (n < first) ⊎ (first ≤ n) → IsSomeAnd o (λ r. MatchBool b (r.package + 1 ≡ length w.infos) (¬ (r.package + 1 ≡ length w.infos))) → n + 1 ≤ first
+      by : (o : Option MethodRec) → slice_get w.methods n ≡ o → (n < first) ⊎ (first ≤ n)
+          → IsSomeAnd o (λ r. MatchBool b (r.package + 1 ≡ length w.infos) (¬ (r.package + 1 ≡ length w.infos))) → n + 1 ≤ first
       by o at (inl lt) h = omega (arith, lt)
       by None at (inr ge) h = absurd h
       by (Some r) at (inr ge) h =
-          let other : ¬ (r.package + 1 ≡ length w.infos) = subst (λ (a : Bool). MatchBool a (r.package + 1 ≡ length w.infos) (¬ (r.package + 1 ≡ length w.infos))) e h in
+          let other : ¬ (r.package + 1 ≡ length w.infos) = subst
+          (λ (a : Bool). MatchBool a (r.package + 1 ≡ length w.infos) (¬ (r.package + 1 ≡ length w.infos))) e h in
           absurd (other (is.last n r at ge))
 
-  pub first-here : (b : Bool) → IsSomeAnd (slice_get w.methods n) (λ r. MatchBool b (r.package + 1 ≡ length w.infos) (¬ (r.package + 1 ≡ length w.infos))) → b ≡ true → BeginsLast w n
+  pub first-here : (b : Bool)
+      → IsSomeAnd (slice_get w.methods n) (λ r. MatchBool b (r.package + 1 ≡ length w.infos) (¬ (r.package + 1 ≡ length w.infos))) → b ≡ true
+      → BeginsLast w n
   first-here b h e = by (slice_get w.methods n) refl (cases_lt n first) h
     where
-      by : (o : Option MethodRec) → slice_get w.methods n ≡ o → (n < first) ⊎ (first ≤ n) → IsSomeAnd o (λ r. MatchBool b (r.package + 1 ≡ length w.infos) (¬ (r.package + 1 ≡ length w.infos))) → BeginsLast w n
+      by : (o : Option MethodRec) → slice_get w.methods n ≡ o → (n < first) ⊎ (first ≤ n)
+          → IsSomeAnd o (λ r. MatchBool b (r.package + 1 ≡ length w.infos) (¬ (r.package + 1 ≡ length w.infos))) → BeginsLast w n
       by None at side h = absurd h
       by (Some r) at (inl lt) h =
-          let own : r.package + 1 ≡ length w.infos = subst (λ (a : Bool). MatchBool a (r.package + 1 ≡ length w.infos) (¬ (r.package + 1 ≡ length w.infos))) e h in
+          let own : r.package + 1 ≡ length w.infos = subst
+          (λ (a : Bool). MatchBool a (r.package + 1 ≡ length w.infos) (¬ (r.package + 1 ≡ length w.infos))) e h in
           let less = is.before n r at lt in
           absurd (omega (arith, own, less))
       by (Some r) at (inr ge) h = let same : first ≡ n = omega (arith, ge, le) in subst (BeginsLast w) same is
@@ -160,7 +182,8 @@ module _ (w : Linked) (n first : ℕ) (is : BeginsLast w first) (le : n ≤ firs
   pub none-left : length w.methods ≤ n → BeginsLast w n
   none-left end = let within = is.within in let same : first ≡ n = omega (arith, le, end, within) in subst (BeginsLast w) same is
 
-module _ (ps : List PackageRecord) (p : PackageRecord) (roles : List ℕ) (w : Linked) (linked : IsLinked (and_last ps p) roles w) (first : ℕ) (is : BeginsLast w first) where
+module _ (ps : List PackageRecord) (p : PackageRecord) (roles : List ℕ) (w : Linked) (linked : IsLinked (and_last ps p) roles w) (first : ℕ)
+    (is : BeginsLast w first) where
   pub first-is : first ≡ length (earlier_of ps p roles)
   first-is = begins-once w first (length (earlier_of ps p roles)) is (begins ps p roles w linked)
 

@@ -1,5 +1,6 @@
 -- The passes over the methods of libraries and of the last package, one method after the other.
-use Rattle.std.proofs.Common.{◌≡◌, ◌⊎◌, ℕ, ◌+◌, ◌-◌, ◌<◌, ◌≤◌, List, length, take, drop, Option, Some, None, option_map, IsSomeAnd, slice_get, refl, sym, ap, subst, ◌∙◌, inl, inr, arith, length-take}
+use Rattle.std.proofs.Common.{◌≡◌, ◌⊎◌, ℕ, ◌+◌, ◌-◌, ◌<◌, ◌≤◌, List, length, take, drop, Option, Some, None, option_map}
+use Rattle.std.proofs.Common.{IsSomeAnd, slice_get, refl, sym, ap, subst, ◌∙◌, inl, inr, arith, length-take}
 use Rattle.std.specs.Prelude.{All}
 use Rattle.std.proofs.Math.Nat.{eq-or-lt_of_le}
 use Rattle.std.proofs.lemmas.Bool.{cases_lt}
@@ -66,11 +67,13 @@ code-long w r is =
     let inside = is.inside in
     omega (arith, few, rest, inside)
 
-pub method-of : (w : Linked) (n : ℕ) (r : MethodRec) → slice_get w.methods n ≡ Some r → IsMethod w.infos w.pools w.classes r → 0 < r.code_len → IsMethodOf w (method_with w n r)
+pub method-of : (w : Linked) (n : ℕ) (r : MethodRec) → slice_get w.methods n ≡ Some r → IsMethod w.infos w.pools w.classes r → 0 < r.code_len
+    → IsMethodOf w (method_with w n r)
 method-of w n r at is some = let long = code-long w r is in record { rec = at; code = refl; filled = omega (arith, long, some) }
 
 -- what holds of the method of a number
-pub its-fact : (w : Linked) (m : Method) (n : ℕ) (P : ℕ → MethodRec → Type 0) → IsMethodOf w m → m.number ≡ n → IsSomeAnd (slice_get w.methods n) (P n) → P m.number m.rec
+pub its-fact : (w : Linked) (m : Method) (n : ℕ) (P : ℕ → MethodRec → Type 0) → IsMethodOf w m → m.number ≡ n
+    → IsSomeAnd (slice_get w.methods n) (P n) → P m.number m.rec
 its-fact w m n P is e h = subst (λ (o : Option MethodRec). IsSomeAnd o (P m.number)) is.rec (subst (λ k. IsSomeAnd (slice_get w.methods k) (P k)) (sym e) h)
 
 module _ (w : Linked) (first : ℕ) (is : BeginsLast w first) where
@@ -101,13 +104,15 @@ module _ (w : Linked) (first : ℕ) (is : BeginsLast w first) where
       let at : IsAcceptedAt w m.number = subst (IsAcceptedAt w) (sym e) accepted in
       subst (HasCardTyping w) (method-is w m of.method) (at m.rec of.method.rec (has-code w m of.method)).card
 
-  pub library-more : (n : ℕ) → AllHaveBelow (IsOfLibrary w) (HasCardTyping w) n → IsAcceptedAt w n → AllHaveBelow (IsOfLibrary w) (HasCardTyping w) (n + 1)
+  pub library-more : (n : ℕ) → AllHaveBelow (IsOfLibrary w) (HasCardTyping w) n → IsAcceptedAt w n
+      → AllHaveBelow (IsOfLibrary w) (HasCardTyping w) (n + 1)
   library-more n below accepted = below-more (IsOfLibrary w) (HasCardTyping w) n below (library-at n accepted)
 
   pub library-all : (n : ℕ) → first ≤ n → AllHaveBelow (IsOfLibrary w) (HasCardTyping w) n → AreAcceptedLibraries w
   library-all n le below = λ m of. below m of (let lt = library-below m of in omega (arith, lt, le))
 
-  pub refused-library : IsWorld w → (n : ℕ) (fault : CardFault) → n < first → AllHaveBelow (IsOfLibrary w) (HasCardTyping w) n → IsRefusedAt w n fault → IsRefusedLibrary w n fault
+  pub refused-library : IsWorld w → (n : ℕ) (fault : CardFault) → n < first → AllHaveBelow (IsOfLibrary w) (HasCardTyping w) n
+      → IsRefusedAt w n fault → IsRefusedLibrary w n fault
   refused-library world n fault lt below refused =
       let method = All-slice_get (IsMethod w.infos w.pools w.classes) w.methods n refused.rec world.methods refused.is in
       record {
@@ -129,10 +134,12 @@ module _ (w : Linked) (first : ℕ) (is : BeginsLast w first) where
   typed-by m (Some typing) of h =
       subst (λ (k : Method). HasFlowTyping w k Top) (method-is w m of) (record { frames = state_at typing; typing = h.1.typed.least.typing })
 
-  typed-at : (n : ℕ) (kept : Option (List (Option Frame))) → IsTypingAt w n kept → (m : Method) → IsOfLast w m → m.number ≡ n → HasFlowTyping w m Top
+  typed-at : (n : ℕ) (kept : Option (List (Option Frame))) → IsTypingAt w n kept → (m : Method) → IsOfLast w m → m.number ≡ n
+      → HasFlowTyping w m Top
   typed-at n kept h m of e = typed-by m kept of.method (its-fact w m n (λ k r. IsKeptTyping w k r kept) of.method e h)
 
-  pub typed-more : (n : ℕ) (kept : Option (List (Option Frame))) → AllHaveBelow (IsOfLast w) (λ m. HasFlowTyping w m Top) n → IsTypingAt w n kept → AllHaveBelow (IsOfLast w) (λ m. HasFlowTyping w m Top) (n + 1)
+  pub typed-more : (n : ℕ) (kept : Option (List (Option Frame))) → AllHaveBelow (IsOfLast w) (λ m. HasFlowTyping w m Top) n → IsTypingAt w n kept
+      → AllHaveBelow (IsOfLast w) (λ m. HasFlowTyping w m Top) (n + 1)
   typed-more n kept below h = below-more (IsOfLast w) (λ m. HasFlowTyping w m Top) n below (typed-at n kept h)
 
   no-typing : (m : Method) (end : FlowEnd) → (end ≡ flow.Memory → ⊥) → LacksTyping w m end → HasFlowTyping w m Top → ⊥
@@ -143,7 +150,8 @@ module _ (w : Linked) (first : ℕ) (is : BeginsLast w first) where
   no-typing m (flow.BadTarget p target) known none = none
   no-typing m (flow.BadHandler entry number) known none = none
 
-  untyped-last : (n : ℕ) (end : FlowEnd) → first ≤ n → AreAcceptedLibraries w → AllHaveBelow (IsOfLast w) (λ m. HasFlowTyping w m Top) n → HasNoTyping w n end → (end ≡ flow.Memory → ⊥) → IsUntypedLast w n end
+  untyped-last : (n : ℕ) (end : FlowEnd) → first ≤ n → AreAcceptedLibraries w → AllHaveBelow (IsOfLast w) (λ m. HasFlowTyping w m Top) n
+      → HasNoTyping w n end → (end ≡ flow.Memory → ⊥) → IsUntypedLast w n end
   untyped-last n end le accepted below h known = by (slice_get w.methods n) refl h
     where
       by : (o : Option MethodRec) → slice_get w.methods n ≡ o → IsSomeAnd (option_map (method_with w n) o) (IsUntyped w end) → IsUntypedLast w n end
@@ -161,7 +169,8 @@ module _ (w : Linked) (first : ℕ) (is : BeginsLast w first) where
         tells = h.tells;
       }
 
-  pub untyped-tells : (n : ℕ) (end : FlowEnd) → first ≤ n → AreAcceptedLibraries w → AllHaveBelow (IsOfLast w) (λ m. HasFlowTyping w m Top) n → HasNoTyping w n end → (ps : List PackageRecord) → TellsOf ps w (untyped n end)
+  pub untyped-tells : (n : ℕ) (end : FlowEnd) → first ≤ n → AreAcceptedLibraries w → AllHaveBelow (IsOfLast w) (λ m. HasFlowTyping w m Top) n
+      → HasNoTyping w n end → (ps : List PackageRecord) → TellsOf ps w (untyped n end)
   untyped-tells n flow.Memory le accepted below h ps = accepted
   untyped-tells n (flow.NoTyping p fault) le accepted below h ps = untyped-last n (flow.NoTyping p fault) le accepted below h (λ e. absurd (cc))
   untyped-tells n (flow.FallsOff p) le accepted below h ps = untyped-last n (flow.FallsOff p) le accepted below h (λ e. absurd (cc))
@@ -178,10 +187,12 @@ module _ (w : Linked) (first : ℕ) (is : BeginsLast w first) where
   laid-at : (n : ℕ) (laid : Option Laid) → IsLaidAt w n laid → (m : Method) → IsOfLast w m → m.number ≡ n → HasLaidCode w m
   laid-at n laid h m of e = laid-by m laid of.method (its-fact w m n (λ k r. IsLaidWell w k laid r) of.method e h)
 
-  pub laid-more : (n : ℕ) (laid : Option Laid) → AllHaveBelow (IsOfLast w) (HasLaidCode w) n → IsLaidAt w n laid → AllHaveBelow (IsOfLast w) (HasLaidCode w) (n + 1)
+  pub laid-more : (n : ℕ) (laid : Option Laid) → AllHaveBelow (IsOfLast w) (HasLaidCode w) n → IsLaidAt w n laid
+      → AllHaveBelow (IsOfLast w) (HasLaidCode w) (n + 1)
   laid-more n laid below h = below-more (IsOfLast w) (HasLaidCode w) n below (laid-at n laid h)
 
-  limited : (n : ℕ) (limit : MethodLimit) → first ≤ n → AreAcceptedLibraries w → IsTypedLast w → AllHaveBelow (IsOfLast w) (HasLaidCode w) n → IsSomeAnd (method_in w n) (IsUnlaid w limit) → IsLimited w n limit
+  limited : (n : ℕ) (limit : MethodLimit) → first ≤ n → AreAcceptedLibraries w → IsTypedLast w → AllHaveBelow (IsOfLast w) (HasLaidCode w) n
+      → IsSomeAnd (method_in w n) (IsUnlaid w limit) → IsLimited w n limit
   limited n limit le accepted typed below h = by (slice_get w.methods n) refl h
     where
       by : (o : Option MethodRec) → slice_get w.methods n ≡ o → IsSomeAnd (option_map (method_with w n) o) (IsUnlaid w limit) → IsLimited w n limit
@@ -196,6 +207,7 @@ module _ (w : Linked) (first : ℕ) (is : BeginsLast w first) where
         passes = h.passes;
       }
 
-  pub unlaid-tells : (n : ℕ) (end : LayingEnd) → first ≤ n → AreAcceptedLibraries w → IsTypedLast w → AllHaveBelow (IsOfLast w) (HasLaidCode w) n → TellsUnlaid w n end → (ps : List PackageRecord) → TellsOf ps w (unlaid n end)
+  pub unlaid-tells : (n : ℕ) (end : LayingEnd) → first ≤ n → AreAcceptedLibraries w → IsTypedLast w
+      → AllHaveBelow (IsOfLast w) (HasLaidCode w) n → TellsUnlaid w n end → (ps : List PackageRecord) → TellsOf ps w (unlaid n end)
   unlaid-tells n laying.Memory le accepted typed below h ps = accepted
   unlaid-tells n (laying.Passed limit) le accepted typed below h ps = limited n limit le accepted typed below h

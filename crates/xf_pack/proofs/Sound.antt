@@ -1,5 +1,6 @@
 -- The code that is laid for a method may stand in its place.
-use Rattle.std.proofs.Common.{◌≡◌, ◌⊎◌, ℕ, zero, suc, ◌+◌, ◌-◌, ◌<◌, ◌≤◌, List, [], ◌∷◌, ◌++◌, length, map, All, Option, refl, sym, ap, subst, ◌∙◌, inl, inr, arith, length-append}
+use Rattle.std.proofs.Common.{◌≡◌, ◌⊎◌, ℕ, zero, suc, ◌+◌, ◌-◌, ◌<◌, ◌≤◌, List, [], ◌∷◌, ◌++◌, length, map, All}
+use Rattle.std.proofs.Common.{Option, refl, sym, ap, subst, ◌∙◌, inl, inr, arith, length-append}
 use Rattle.std.specs.Prelude.{IfSome}
 use Rattle.std.proofs.lemmas.List.{length-map}
 use Rattle.std.proofs.lemmas.List.Elements.{All-head, All-tail}
@@ -52,7 +53,8 @@ module _ (listed : InstructionsAreListed) (code : List ℕ) where
       let end = boundary-inside (h.start + h.length) is.end in
       record { range = end; short = omega (arith, end, short); entry = place-inside h.entry is.entry }
 
-  handlers-inside : (hs : List Handler) (ls : List Laying) → length code ≤ 32767 → All (IsHandlerOf code) (map (catching hs) ls) → AreInside (length code) ls
+  handlers-inside : (hs : List Handler) (ls : List Laying) → length code ≤ 32767 → All (IsHandlerOf code) (map (catching hs) ls)
+      → AreInside (length code) ls
   handlers-inside hs [] short all = tt {0}
   handlers-inside hs (h ∷ ls) short all = (
     handler-inside hs h short (All-head (IsHandlerOf code) (catching hs h) (map (catching hs) ls) all),
@@ -73,12 +75,15 @@ has-laid : (m : Method) (laid : Laid) → HasLaid m.rec laid (with_laid m laid)
 has-laid m laid = record { same = refl; code = refl; nargs = refl; max_locals = refl; max_stack = refl; handlers = refl }
 
 pub is-sound : (w : Linked) (m : Method) (frames : ℕ → Option Frame) (homes : List Home) (symbols : Symbols) (laid : Laid) (place : ℕ → ℕ)
-    → InstructionsAreListed → LaidIsTyped w → IsMethodOf w m → IfSome m.rec.sig.result (IsDeclared w.classes) → FlowTyping w m Top frames → AreSymbolsOf w m frames homes symbols → HasTypingByHomes w m homes symbols
-    → KeepsLive m m.rec.handlers symbols.ranges → HasNumbers m.rec homes symbols → register_sum homes ≤ 255 → StandsAt place m.code symbols laid → length laid.code ≤ 32767 → FitsMethod m.rec laid
+    → InstructionsAreListed → LaidIsTyped w → IsMethodOf w m → IfSome m.rec.sig.result (IsDeclared w.classes) → FlowTyping w m Top frames
+    → AreSymbolsOf w m frames homes symbols → HasTypingByHomes w m homes symbols
+    → KeepsLive m m.rec.handlers symbols.ranges → HasNumbers m.rec homes symbols → register_sum homes ≤ 255 → StandsAt place m.code symbols laid
+    → length laid.code ≤ 32767 → FitsMethod m.rec laid
 is-sound w m frames homes symbols laid place listed landed mo result typing r types live numbers few stands short =
     let typed = landed m.rec m.code symbols laid place (with_laid m laid) _ types.stacks result stands (has-laid m laid) types.typing in
     let formed : IsWellFormed (with_laid m laid) = typed.typing.formed in
-    let many : length laid.handlers ≡ length symbols.ranges = ap length stands.handlers ∙ length-map symbols.ranges (handler (λ l. place (place_of l symbols.items))) in
+    let many : length laid.handlers ≡ length symbols.ranges = ap length stands.handlers
+    ∙ length-map symbols.ranges (handler (λ l. place (place_of l symbols.items))) in
     let kept = few-live m m.rec.handlers symbols.ranges live in
     let all = numbers.registers in
     let nargs = stands.nargs in

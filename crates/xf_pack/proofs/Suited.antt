@@ -1,5 +1,6 @@
 -- What is laid for the methods of the last package is what its writer takes.
-use Rattle.std.proofs.Common.{◌≡◌, ℕ, zero, suc, ◌+◌, ◌-◌, ◌<◌, ◌≤◌, Bool, true, false, MatchBool, cond, min, List, [], ◌∷◌, ◌++◌, length, map, take, drop, Option, Some, None, refl, sym, ap, subst, ◌∙◌, inl, inr, arith, length-take}
+use Rattle.std.proofs.Common.{◌≡◌, ℕ, zero, suc, ◌+◌, ◌-◌, ◌<◌, ◌≤◌, Bool, true, false, MatchBool, cond, min, List, [], ◌∷◌}
+use Rattle.std.proofs.Common.{◌++◌, length, map, take, drop, Option, Some, None, refl, sym, ap, subst, ◌∙◌, inl, inr, arith, length-take}
 use Rattle.std.specs.Prelude.{slice_get, slice_index}
 use Rattle.std.proofs.lemmas.List.{length-map, length-drop}
 use Rattle.cap_desc.specs.DescriptorFormat.{ClassDescriptor, MethodDescriptor}
@@ -52,7 +53,8 @@ AreSuited info many [] (l ∷ ls) = ⊥
 AreSuited info many (m ∷ ms) [] = ⊥
 AreSuited info many (m ∷ ms) (l ∷ ls) = Suits info many m l × AreSuited info many ms ls
 
-elements-of : (info : List ℕ) (many : ℕ) (ms : List (Option MethodDescriptor)) (ls : List (Option Laid)) → AreSuited info many ms ls → AreElements info ms ls
+elements-of : (info : List ℕ) (many : ℕ) (ms : List (Option MethodDescriptor)) (ls : List (Option Laid)) → AreSuited info many ms ls
+    → AreElements info ms ls
 elements-of info many [] [] h = tt {0}
 elements-of info many [] (l ∷ ls) h = absurd h
 elements-of info many (m ∷ ms) [] h = absurd h
@@ -62,7 +64,8 @@ abbrev room_sum : ℕ → List (Option MethodDescriptor) → ℕ
 room_sum many [] = 0
 room_sum many (m ∷ ms) = room_of many m + room_sum many ms
 
-sum-of : (info : List ℕ) (many : ℕ) (ms : List (Option MethodDescriptor)) (ls : List (Option Laid)) → AreSuited info many ms ls → handler_sum ls ≤ room_sum many ms
+sum-of : (info : List ℕ) (many : ℕ) (ms : List (Option MethodDescriptor)) (ls : List (Option Laid)) → AreSuited info many ms ls
+    → handler_sum ls ≤ room_sum many ms
 sum-of info many [] [] h = omega arith
 sum-of info many [] (l ∷ ls) h = absurd h
 sum-of info many (m ∷ ms) [] h = absurd h
@@ -105,7 +108,8 @@ room-all many set (c ∷ cs) = by (set c.class_ref) (room-all many set cs)
 -- ---- a method of the world and its record in the Descriptor
 
 module _ (ps : List PackageRecord) (p : PackageRecord) (roles : List ℕ) (agreed : StandsFor p.parts p) (none : AllEmpty (conditions (and_last ps p)))
-    (at : slice_get (and_last ps p) (length ps) ≡ Some p) (internal : (c : ClassDescriptor) → IsOneOf p.description.items.classes c → c.class_ref < 0x8000) where
+    (at : slice_get (and_last ps p) (length ps) ≡ Some p) (internal : (c : ClassDescriptor) → IsOneOf p.description.items.classes c
+    → c.class_ref < 0x8000) where
   abbrev method_of : ℕ → ClassDescriptor → ℕ → MethodDescriptor → MethodRec
   method_of i c j m = named_method (and_last ps p) roles (numbered_method (length ps) p i c j m)
 
@@ -132,7 +136,8 @@ module _ (ps : List PackageRecord) (p : PackageRecord) (roles : List ℕ) (agree
   unfolding body_of
   bodiless c m e = rw (no-headers (and_last ps p) (length ps) p at c e) refl
 
-  interface-suits : (many i j : ℕ) (c : ClassDescriptor) (m : MethodDescriptor) (w : Linked) (n : ℕ) (l : Option Laid) → names_interface p.classes c.class_ref ≡ true → IsLaidWell w n l (method_of i c j m) → Suits p.methods.info many None l
+  interface-suits : (many i j : ℕ) (c : ClassDescriptor) (m : MethodDescriptor) (w : Linked) (n : ℕ) (l : Option Laid)
+      → names_interface p.classes c.class_ref ≡ true → IsLaidWell w n l (method_of i c j m) → Suits p.methods.info many None l
   interface-suits many i j c m w n None e h = record { element = tt {0}; few = omega arith }
   interface-suits many i j c m w n (Some l) e h =
       let empty : (method_of i c j m).code_len ≡ 0 = code-len i j c m ∙ ap (λ (b : Body). b.code_len) (bodiless c m e) in
@@ -140,7 +145,8 @@ module _ (ps : List PackageRecord) (p : PackageRecord) (roles : List ℕ) (agree
       absurd (omega (arith, empty, some))
 
   -- the body of a method of a class
-  with-body : (c : ClassDescriptor) (m : MethodDescriptor) (x : IsPlaced p m) → IsOneOf p.description.items.classes c → names_interface p.classes c.class_ref ≡ false
+  with-body : (c : ClassDescriptor) (m : MethodDescriptor) (x : IsPlaced p m) → IsOneOf p.description.items.classes c
+      → names_interface p.classes c.class_ref ≡ false
       → body c m ≡ body_after (and_last ps p) (slice_index roles 1) (length ps) p m x.header (offset_in_info (m.method_offset + x.header.size))
   unfolding body_of
   with-body c m x one e = rw (headers (and_last ps p) (length ps) p at c none one (internal c one) e, x.there) refl
@@ -152,10 +158,13 @@ module _ (ps : List PackageRecord) (p : PackageRecord) (roles : List ℕ) (agree
   abstract-by true n h e = refl
   abstract-by false n h e = let some = h.least in absurd (omega (arith, some, e))
 
-  class-suits : (i j : ℕ) (c : ClassDescriptor) (m : MethodDescriptor) (w : Linked) (n : ℕ) (l : Option Laid) → IsOneOf p.description.items.classes c → IsOneOf c.methods m
-      → names_interface p.classes c.class_ref ≡ false → IsLaidWell w n l (method_of i c j m) → Suits p.methods.info (length p.methods.handlers) (Some m) l
+  class-suits : (i j : ℕ) (c : ClassDescriptor) (m : MethodDescriptor) (w : Linked) (n : ℕ) (l : Option Laid) → IsOneOf p.description.items.classes c
+      → IsOneOf c.methods m
+      → names_interface p.classes c.class_ref ≡ false → IsLaidWell w n l (method_of i c j m)
+      → Suits p.methods.info (length p.methods.handlers) (Some m) l
   class-suits i j c m w n l one own e h =
-      let x = is-placed p agreed m (from-class (names_interface p.classes) p.description.items.classes c m one e own) (from-any p.description.items.classes c m one own) in
+      let x = is-placed p agreed m (from-class (names_interface p.classes) p.description.items.classes c m one e own)
+      (from-any p.description.items.classes c m one own) in
       by l x h
     where
       by : (l : Option Laid) (x : IsPlaced p m) → IsLaidWell w n l (method_of i c j m) → Suits p.methods.info (length p.methods.handlers) (Some m) l
@@ -163,7 +172,10 @@ module _ (ps : List PackageRecord) (p : PackageRecord) (roles : List ℕ) (agree
           let count : (method_of i c j m).code_len ≡ m.bytecode_count = code-len i j c m ∙ ap (λ (b : Body). b.code_len) (with-body c m x one e) in
           let empty : m.bytecode_count ≡ 0 = sym count ∙ h.is in
           record {
-            element = λ header there. subst (λ (g : Header). is_abstract g ≡ true) (same-header x.header header (header_in p.methods.info m.method_offset) x.there there) (abstract-by (is_abstract x.header) m.bytecode_count x.length empty);
+            element =
+                λ header there. subst (λ (g : Header). is_abstract g ≡ true)
+                (same-header x.header header (header_in p.methods.info m.method_offset) x.there there)
+                (abstract-by (is_abstract x.header) m.bytecode_count x.length empty);
             few = omega arith;
           }
       by (Some laid) x h =
@@ -177,15 +189,19 @@ module _ (ps : List PackageRecord) (p : PackageRecord) (roles : List ℕ) (agree
           ∙ ap (λ k. min m.handler_count k) (length-drop m.handler_index p.methods.handlers) in
           let few = s.few in
           record {
-            element = λ header there. subst (λ (g : Header). IsCodeFor g laid) (same-header x.header header (header_in p.methods.info m.method_offset) x.there there)
+            element =
+                λ header there. subst (λ (g : Header). IsCodeFor g laid)
+                (same-header x.header header (header_in p.methods.info m.method_offset) x.there there)
                 (record { some = s.some; short = s.short; arguments = s.arguments ∙ nargs; registers = s.registers; inside = s.inside });
             few = omega (arith, few, held);
           }
 
   -- ---- all methods
 
-  in-interface : (w : Linked) (i : ℕ) (c : ClassDescriptor) → names_interface p.classes c.class_ref ≡ true → (j : ℕ) (ms : List MethodDescriptor) (others : List NumberedMethod) (tail : List (Option MethodDescriptor)) (n : ℕ) (ls : List (Option Laid))
-      → ((k : ℕ) (ls' : List (Option Laid)) → AreWell w k (map (named_method (and_last ps p) roles) others) ls' → AreSuited p.methods.info (length p.methods.handlers) tail ls')
+  in-interface : (w : Linked) (i : ℕ) (c : ClassDescriptor) → names_interface p.classes c.class_ref ≡ true
+      → (j : ℕ) (ms : List MethodDescriptor) (others : List NumberedMethod) (tail : List (Option MethodDescriptor)) (n : ℕ) (ls : List (Option Laid))
+      → ((k : ℕ) (ls' : List (Option Laid)) → AreWell w k (map (named_method (and_last ps p) roles) others) ls'
+      → AreSuited p.methods.info (length p.methods.handlers) tail ls')
       → AreWell w n (map (named_method (and_last ps p) roles) (methods_of_class (length ps) p i c j ms ++ others)) ls
       → AreSuited p.methods.info (length p.methods.handlers) (map no_method ms ++ tail) ls
   in-interface w i c e j [] others tail n ls go well = go n ls well
@@ -193,9 +209,11 @@ module _ (ps : List PackageRecord) (p : PackageRecord) (roles : List ℕ) (agree
   in-interface w i c e j (m ∷ ms) others tail n (l ∷ ls) go well =
       (interface-suits (length p.methods.handlers) i j c m w n l e well.0, in-interface w i c e (j + 1) ms others tail (suc n) ls go well.1)
 
-  in-class : (w : Linked) (i : ℕ) (c : ClassDescriptor) → IsOneOf p.description.items.classes c → names_interface p.classes c.class_ref ≡ false → (j : ℕ) (ms : List MethodDescriptor) → ((m : MethodDescriptor) → IsOneOf ms m → IsOneOf c.methods m)
+  in-class : (w : Linked) (i : ℕ) (c : ClassDescriptor) → IsOneOf p.description.items.classes c → names_interface p.classes c.class_ref ≡ false
+      → (j : ℕ) (ms : List MethodDescriptor) → ((m : MethodDescriptor) → IsOneOf ms m → IsOneOf c.methods m)
       → (others : List NumberedMethod) (tail : List (Option MethodDescriptor)) (n : ℕ) (ls : List (Option Laid))
-      → ((k : ℕ) (ls' : List (Option Laid)) → AreWell w k (map (named_method (and_last ps p) roles) others) ls' → AreSuited p.methods.info (length p.methods.handlers) tail ls')
+      → ((k : ℕ) (ls' : List (Option Laid)) → AreWell w k (map (named_method (and_last ps p) roles) others) ls'
+      → AreSuited p.methods.info (length p.methods.handlers) tail ls')
       → AreWell w n (map (named_method (and_last ps p) roles) (methods_of_class (length ps) p i c j ms ++ others)) ls
       → AreSuited p.methods.info (length p.methods.handlers) (map (λ m. Some m) ms ++ tail) ls
   in-class w i c one e j [] among others tail n ls go well = go n ls well
@@ -203,21 +221,28 @@ module _ (ps : List PackageRecord) (p : PackageRecord) (roles : List ℕ) (agree
   in-class w i c one e j (m ∷ ms) among others tail n (l ∷ ls) go well =
       (class-suits i j c m w n l one (among m (inl refl)) e well.0, in-class w i c one e (j + 1) ms (λ k h. among k (inr h)) others tail (suc n) ls go well.1)
 
-  in-classes : (w : Linked) (i : ℕ) (cs : List ClassDescriptor) → ((c : ClassDescriptor) → IsOneOf cs c → IsOneOf p.description.items.classes c) → (n : ℕ) (ls : List (Option Laid))
+  in-classes : (w : Linked) (i : ℕ) (cs : List ClassDescriptor) → ((c : ClassDescriptor) → IsOneOf cs c → IsOneOf p.description.items.classes c)
+      → (n : ℕ) (ls : List (Option Laid))
       → AreWell w n (map (named_method (and_last ps p) roles) (methods_of_classes (length ps) p i cs)) ls
       → AreSuited p.methods.info (length p.methods.handlers) (methods_for (names_interface p.classes) cs) ls
   in-classes w i [] among n [] well = tt {0}
   in-classes w i [] among n (l ∷ ls) well = absurd well
-  in-classes w i (c ∷ cs) among n ls well = by (names_interface p.classes c.class_ref) refl (λ k others h. in-classes w (i + 1) cs (λ d one. among d (inr one)) k others h)
+  in-classes w i (c ∷ cs) among n ls well =
+      by (names_interface p.classes c.class_ref) refl (λ k others h. in-classes w (i + 1) cs (λ d one. among d (inr one)) k others h)
     where
       by : (b : Bool) → names_interface p.classes c.class_ref ≡ b
-          → ((k : ℕ) (others : List (Option Laid)) → AreWell w k (map (named_method (and_last ps p) roles) (methods_of_classes (length ps) p (i + 1) cs)) others
+          → ((k : ℕ) (others : List (Option Laid))
+          → AreWell w k (map (named_method (and_last ps p) roles) (methods_of_classes (length ps) p (i + 1) cs)) others
           → AreSuited p.methods.info (length p.methods.handlers) (methods_for (names_interface p.classes) cs) others)
-          → AreSuited p.methods.info (length p.methods.handlers) ((cond b (map no_method c.methods) (map (λ m. Some m) c.methods)) ++ methods_for (names_interface p.classes) cs) ls
+          → AreSuited p.methods.info (length p.methods.handlers)
+          ((cond b (map no_method c.methods) (map (λ m. Some m) c.methods)) ++ methods_for (names_interface p.classes) cs) ls
       by true e go = in-interface w i c e 0 c.methods (methods_of_classes (length ps) p (i + 1) cs) (methods_for (names_interface p.classes) cs) n ls go well
-      by false e go = in-class w i c (among c (inl refl)) e 0 c.methods (λ m h. h) (methods_of_classes (length ps) p (i + 1) cs) (methods_for (names_interface p.classes) cs) n ls go well
+      by false e go =
+          in-class w i c (among c (inl refl)) e 0 c.methods (λ m h. h) (methods_of_classes (length ps) p (i + 1) cs)
+          (methods_for (names_interface p.classes) cs) n ls go well
 
-  may-be : (w : Linked) (n : ℕ) (laid : List (Option Laid)) → AreWell w n (own_of ps p roles) laid → length p.methods.handlers ≤ 255 → MayBeLaid p laid
+  may-be : (w : Linked) (n : ℕ) (laid : List (Option Laid)) → AreWell w n (own_of ps p roles) laid → length p.methods.handlers ≤ 255
+      → MayBeLaid p laid
   may-be w n laid well few =
       let suited = in-classes w 0 p.description.items.classes (λ c h. h) n laid well in
       let sum = sum-of p.methods.info (length p.methods.handlers) (methods_for (names_interface p.classes) p.description.items.classes) laid suited in
@@ -237,8 +262,11 @@ names-faultless qs roles w linked =
     let f = linked.faultless in
     (f.0, (f.1.0, (f.1.1.0, (f.1.1.1.0, (f.1.1.1.1.0, tt {0})))))
 
-pub may-be-laid : (ps : List PackageRecord) (p : PackageRecord) (roles : List ℕ) (w : Linked) (linked : IsLinked (and_last ps p) roles w) (first : ℕ) (is : BeginsLast w first)
+pub may-be-laid : (ps : List PackageRecord) (p : PackageRecord) (roles : List ℕ) (w : Linked) (linked : IsLinked (and_last ps p) roles w) (first : ℕ)
+    (is : BeginsLast w first)
     (laid : List (Option Laid)) (each : EachFrom (IsLaidAt w) first laid) (all : first + length laid ≡ length w.methods)
-    → StandsFor p.parts p → ((c : ClassDescriptor) → IsOneOf p.description.items.classes c → c.class_ref < 0x8000) → length p.methods.handlers ≤ 255 → MayBeLaid p laid
+    → StandsFor p.parts p → ((c : ClassDescriptor) → IsOneOf p.description.items.classes c → c.class_ref < 0x8000)
+    → length p.methods.handlers ≤ 255 → MayBeLaid p laid
 may-be-laid ps p roles w linked first is laid each all agreed internal few =
-    may-be ps p roles agreed (names-faultless (and_last ps p) roles w linked) (at-last ps p) internal w first laid (own-well ps p roles w linked first is laid each all) few
+    may-be ps p roles agreed (names-faultless (and_last ps p) roles w linked) (at-last ps p) internal w first laid
+    (own-well ps p roles w linked first is laid each all) few

@@ -1,5 +1,6 @@
 -- The last package is written with what is laid for its methods, and what is told where it is not.
-use Rattle.std.proofs.Common.{◌≡◌, ℕ, ◌+◌, ◌-◌, ◌<◌, ◌≤◌, Bool, true, false, List, [], ◌∷◌, inl, inr, length, Option, Some, None, cond, refl, sym, ap, subst, ◌∙◌, arith}
+use Rattle.std.proofs.Common.{◌≡◌, ℕ, ◌+◌, ◌-◌, ◌<◌, ◌≤◌, Bool, true, false, List, [], ◌∷◌, inl, inr, length, Option, Some}
+use Rattle.std.proofs.Common.{None, cond, refl, sym, ap, subst, ◌∙◌, arith}
 use Rattle.std.specs.Prelude.{All, slice_get, nat_lt, ◌==◌, ◌||◌, min, if◌then◌else◌}
 use Rattle.std.specs.Option.{option_to_list}
 use Rattle.std.proofs.lemmas.Bool.{eqb-false}
@@ -42,7 +43,8 @@ pub linked-some : (ps : List PackageRecord) (roles : List ℕ) (w : Linked) → 
 linked-some ps roles w l = some-package (length ps) (TooManyPackages (min (length ps) 4294967295)) (length ps == 0) (nat_lt 16 (length ps)) refl l.faultless.0
 
 -- the last of them
-module _ (ps : List PackageRecord) (roles : List ℕ) (w : Linked) (linked : IsLinked ps roles w) (p : PackageRecord) (n : ℕ) (at : slice_get ps n ≡ Some p) (long : n + 1 ≡ length ps) where
+module _ (ps : List PackageRecord) (roles : List ℕ) (w : Linked) (linked : IsLinked ps roles w) (p : PackageRecord) (n : ℕ)
+    (at : slice_get ps n ≡ Some p) (long : n + 1 ≡ length ps) where
   parted : (qs : List PackageRecord) × (ps ≡ and_last qs p)
   parted = with-last ps p n at long
 
@@ -52,12 +54,14 @@ module _ (ps : List PackageRecord) (roles : List ℕ) (w : Linked) (linked : IsL
   pub linked-last : HasLast w
   linked-last = has-last parted.0 p roles w last-linked
 
-  module _ (first : ℕ) (is : BeginsLast w first) (laid : List (Option Laid)) (each : EachFrom (IsLaidAt w) first laid) (all : first + length laid ≡ length w.methods) where
+  module _ (first : ℕ) (is : BeginsLast w first) (laid : List (Option Laid)) (each : EachFrom (IsLaidAt w) first laid)
+      (all : first + length laid ≡ length w.methods) where
     pub last-may-be-laid : StandsFor p.parts p → length p.methods.handlers ≤ 255 → MayBeLaid p laid
     last-may-be-laid agreed few = may-be-laid parted.0 p roles w last-linked first is laid each all agreed (own-reference p agreed) few
 
     module _ (accepted : AreAcceptedLibraries w) (typed : IsTypedLast w) where
-      pub transformed : StandsFor p.parts p → LaidIsAccepted w → LaidEndAlike w → (parts : List Lent) → IsWritten p laid parts → HaveRewritten p laid parts
+      pub transformed : StandsFor p.parts p → LaidIsAccepted w → LaidEndAlike w → (parts : List Lent) → IsWritten p laid parts
+          → HaveRewritten p laid parts
           → IsTransformed ps roles w parts
       transformed agreed law alike parts written again =
           let code = are-laid parted.0 p roles w last-linked first is laid each all in
@@ -100,7 +104,8 @@ linked-has-last ps roles w l =
 
 -- ---- what is told of packages that link
 
-pub tells-linked : (ps : List PackageRecord) (roles : List ℕ) (w : Linked) (end : TransformEnd) → IsLinked ps roles w → TellsOf ps w end → TellsTransform ps roles end
+pub tells-linked : (ps : List PackageRecord) (roles : List ℕ) (w : Linked) (end : TransformEnd) → IsLinked ps roles w → TellsOf ps w end
+    → TellsTransform ps roles end
 tells-linked ps roles w (Link fault) linked tells = absurd tells
 tells-linked ps roles w (Library method fault) linked tells = record { world = w; linked = linked; tells = tells }
 tells-linked ps roles w (Typing method end) linked tells = record { world = w; linked = linked; tells = tells }

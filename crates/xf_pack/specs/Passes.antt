@@ -1,5 +1,6 @@
 -- What the passes over the methods of the last package keep of each.
-use Rattle.std.specs.Prelude.{◌≡◌, ◌≤◌, ◌<◌, ℕ, suc, ◌+◌, List, [], ◌∷◌, length, Option, Some, None, All, IsSomeAnd, slice_get}
+use Rattle.std.specs.Prelude.{◌≡◌, ◌≤◌, ◌<◌, ℕ, suc, ◌+◌, List, [], ◌∷◌, length, Option, Some, None, All}
+use Rattle.std.specs.Prelude.{IsSomeAnd, slice_get}
 use Rattle.cap_laying.specs.HandlerTable.{AreInside}
 use Rattle.jc_base.specs.declared.record.MethodRec.{MethodRec}
 use Rattle.jc_base.specs.World.{Linked}

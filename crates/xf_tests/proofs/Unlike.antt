@@ -1,5 +1,6 @@
 -- A run of a method that returns a value, beside a run of other code that ends otherwise: nothing matches the one with the other.
-use Rattle.std.proofs.Common.{◌≡◌, ℕ, suc, ◌+◌, Bool, true, false, if◌then◌else◌, List, [], ◌∷◌, length, refl, sym, ap, ◌∙◌, subst, arith}
+use Rattle.std.proofs.Common.{◌≡◌, ℕ, suc, ◌+◌, Bool, true, false, if◌then◌else◌, List, [], ◌∷◌, length, refl, sym, ap, ◌∙◌}
+use Rattle.std.proofs.Common.{subst, arith}
 use Rattle.std.specs.Prelude.{Option, None, find, slice_index, ⊤}
 use Rattle.jc_base.specs.Dispatch.{cells_of}
 use Rattle.jc_base.specs.declared.record.Handler.{Handler}
@@ -25,7 +26,8 @@ use Rattle.vm_step.specs.Laws.{StepsAreOne}
 use Rattle.vm_step.proofs.Running.{steps-one}
 use Rattle.xf_homes.specs.Source.{Source}
 use Rattle.law_groups.specs.Beside.{AreEqualBut, IsAtGroup, IsTypedAt}
-use Rattle.law_groups.specs.Comes.{AreAtGroup, ComesToGroup, ComesWithin, GroupComes, GroupRuns, group_calls, group_ends, group_gives, group_leaves, group_raises, group_stays, group_throws}
+use Rattle.law_groups.specs.Comes.{AreAtGroup, ComesToGroup, ComesWithin, GroupComes, GroupRuns, group_calls, group_ends, group_gives, group_leaves}
+use Rattle.law_groups.specs.Comes.{group_raises, group_stays, group_throws}
 use Rattle.law_groups.specs.Matching.{RunsBeside}
 use Rattle.law_groups.proofs.Branching.{same-state}
 

@@ -11,7 +11,8 @@ use Rattle.cap_components.proofs.reading.interface_offsets.Goals as goal
 pub classes-preserved-then-is_interface : goal.classes-preserved-then-is_interface
 classes-preserved-then-is_interface c =
     let interface : is_interface (class_seen c.in-Some.class).flags ≡ true = search rules in
-    ap (λ (set : ℕ → Bool). either set (names_interface (classes_left c.next.new.self))) (c.insert.ensures ∙ ap (λ (n : ℕ). also n (holds c.classes.offsets)) c.offset.ensures)
+    ap (λ (set : ℕ → Bool). either set (names_interface (classes_left c.next.new.self)))
+    (c.insert.ensures ∙ ap (λ (n : ℕ). also n (holds c.classes.offsets)) c.offset.ensures)
     ∙ one_interface (holds c.classes.offsets) (class_seen c.in-Some.class) (classes_left c.next.new.self) interface
     ∙ ap (λ (cs : List Class). either (holds c.classes.offsets) (names_interface cs)) (sym c.in-Some.ensures.steps)
     ∙ c.classes.invariant

@@ -19,8 +19,10 @@ returns-clause-exact c =
     let code = c.args.code.bytes.now in
     let place = flag c.in_ok-places.places in
     let old : c.in_ok-flags.flags.items ≡ replicate (length code) false = search rules in
-    let fs : c.mark_all.new.flags.items ≡ all_marked code place (replicate (length code) false) (listing code) = c.mark_all.ensures ∙ ap (λ xs. all_marked code place xs (listing code)) old in
-    exact_of_flags code c.in_ok-places.places c.mark_all.new.flags.items c.in_ok-index.index.items c.in_ok-places.ensures (c.instructions_are_listed.ensures code) fs (c.in_ok-index.ensures.places ∙ ap (flagged_from 0) c.deref.ensures.value)
+    let fs : c.mark_all.new.flags.items ≡ all_marked code place (replicate (length code) false) (listing code) = c.mark_all.ensures
+    ∙ ap (λ xs. all_marked code place xs (listing code)) old in
+    exact_of_flags code c.in_ok-places.places c.mark_all.new.flags.items c.in_ok-index.index.items c.in_ok-places.ensures
+    (c.instructions_are_listed.ensures code) fs (c.in_ok-index.ensures.places ∙ ap (flagged_from 0) c.deref.ensures.value)
 
 pub returns-clause-few : goal.returns-clause-few
 returns-clause-few c =

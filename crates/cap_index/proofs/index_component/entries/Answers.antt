@@ -22,7 +22,8 @@ methods-preserved c =
     let lt : n < length laid = first_of (omega arith, search rules) in
     let is : slice_index_or laid n m ≡ m = first_of (cc, search rules) in
     let left : drop n laid ≡ m ∷ drop (n + 1) laid = drop_more laid n m lt ∙ ap (λ x. x ∷ drop (n + 1) laid) is in
-    entries_next laid (drop n laid) (drop (n + 1) laid) m c.methods.entries.items c.put_method.new.entries.items c.methods.invariant left c.in_ok-put_method.ensures
+    entries_next laid (drop n laid) (drop (n + 1) laid) m c.methods.entries.items c.put_method.new.entries.items c.methods.invariant left
+    c.in_ok-put_method.ensures
 
 pub returns : goal.returns
 returns c =

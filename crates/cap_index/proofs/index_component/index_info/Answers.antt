@@ -8,4 +8,5 @@ overflow_cast-count c = omega (arith, few_methods c.args.laid.now c.in_ok-entrie
 pub returns : goal.returns
 returns c =
     let few : length c.in_ok-entries.entries.items ≤ 32766 = omega arith in
-    one_info c.args.laid.now c.in_ok-entries.entries.items c.count-count.result c.extend_from_slice.new.self.items c.put_numbers.new.out.items c.in_ok-entries.ensures few c.count-count.ensures (search rules) (search rules)
+    one_info c.args.laid.now c.in_ok-entries.entries.items c.count-count.result c.extend_from_slice.new.self.items c.put_numbers.new.out.items
+    c.in_ok-entries.ensures few c.count-count.ensures (search rules) (search rules)

@@ -6,5 +6,6 @@ use Rattle.cap_laying.proofs.blocks.put_table.Given as goal
 abbrev pub invariant-members : goal.invariant-members
 invariant-members l = record {
   placed : ArePlacedBodies l.news (drop l.block-index l.blocks);
-  so_far : l.out.items ++ table_bytes (entries_of_blocks l.news (drop l.block-index l.blocks)) ≡ l.initial.out.items ++ table_bytes (entries_of_blocks l.news l.blocks);
+  so_far : l.out.items ++ table_bytes (entries_of_blocks l.news (drop l.block-index l.blocks)) ≡ l.initial.out.items ++ table_bytes
+      (entries_of_blocks l.news l.blocks);
 }

@@ -9,7 +9,8 @@ invariant-handlers l = record {
   place : l.at ≡ l.start + 8 * l.handler-index;
   order : l.told.last ≤ l.at;
   few : IsFew l.told;
-  bytes : l.told.bytes.items ++ distances l.told.last (catch_places l.at (drop l.handler-index l.handlers)) ≡ l.initial.told.bytes.items ++ distances l.initial.told.last (catch_places l.start l.handlers);
+  bytes : l.told.bytes.items ++ distances l.told.last (catch_places l.at (drop l.handler-index l.handlers)) ≡ l.initial.told.bytes.items ++ distances
+      l.initial.told.last (catch_places l.start l.handlers);
   begun : take (length l.initial.told.bytes.items) l.told.bytes.items ≡ l.initial.told.bytes.items;
   last : last_of l.told.last (catch_places l.at (drop l.handler-index l.handlers)) ≡ last_of l.initial.told.last (catch_places l.start l.handlers);
 }

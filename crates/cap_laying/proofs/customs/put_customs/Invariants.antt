@@ -9,5 +9,6 @@ use Rattle.cap_laying.proofs.customs.put_customs.Given as goal
 abbrev pub invariant-customs : goal.invariant-customs
 invariant-customs l = record {
   short : AreShort (customs_left l.custom-iterator);
-  so_far : l.out.items ++ flat_map custom_bytes (filter (stays_in_index l.change) (customs_left l.custom-iterator)) ≡ l.initial.out.items ++ flat_map custom_bytes (filter (stays_in_index l.change) (directory_items l.directory).customs);
+  so_far : l.out.items ++ flat_map custom_bytes (filter (stays_in_index l.change) (customs_left l.custom-iterator)) ≡ l.initial.out.items ++ flat_map
+      custom_bytes (filter (stays_in_index l.change) (directory_items l.directory).customs);
 }

@@ -29,14 +29,22 @@ walk-preserved c =
     let w = bytes_of_index c.args.width in
     let xs = index_by w (c.args.start + c.walk.at) (pool_index c.in-Ok.insn) in
     let ys = indices w c.args.start (listing_from code (c.walk.at + c.in-Ok.insn.len)) in
-    let e : indices w c.args.start (listing_from code c.walk.at) ≡ xs ++ ys = ap (indices w c.args.start) (listing_from-more code c.walk.at c.in-Ok.insn (sym c.in-Ok.ensures.value)) in
+    let e : indices w c.args.start (listing_from code c.walk.at) ≡ xs ++ ys = ap (indices w c.args.start)
+    (listing_from-more code c.walk.at c.in-Ok.insn (sym c.in-Ok.ensures.value)) in
     record {
       within = c.in-Ok.ensures.within.reaches;
       order = omega (arith, c.in_ok-tell_insn.ensures.last);
       few = c.in_ok-tell_insn.ensures.few;
-      bytes = told_more c.walk.told c.tell_insn.new.told xs ys (indices w c.args.start (listing_from code c.walk.at)) (c.args.told.now.bytes.items ++ distances c.args.told.now.last (indices w c.args.start (listing code))) e c.in_ok-tell_insn.ensures.told c.walk.invariant.bytes;
-      begun = begun_more c.args.told.now.bytes.items c.walk.told.bytes.items c.tell_insn.new.told.bytes.items (distances c.walk.told.last xs) c.walk.invariant.begun c.in_ok-tell_insn.ensures.told.bytes;
-      last = last_more c.walk.told c.tell_insn.new.told xs ys (indices w c.args.start (listing_from code c.walk.at)) (last_of c.args.told.now.last (indices w c.args.start (listing code))) e c.in_ok-tell_insn.ensures.told c.walk.invariant.last;
+      bytes =
+          told_more c.walk.told c.tell_insn.new.told xs ys (indices w c.args.start (listing_from code c.walk.at))
+          (c.args.told.now.bytes.items ++ distances c.args.told.now.last (indices w c.args.start (listing code))) e c.in_ok-tell_insn.ensures.told
+          c.walk.invariant.bytes;
+      begun =
+          begun_more c.args.told.now.bytes.items c.walk.told.bytes.items c.tell_insn.new.told.bytes.items (distances c.walk.told.last xs)
+          c.walk.invariant.begun c.in_ok-tell_insn.ensures.told.bytes;
+      last =
+          last_more c.walk.told c.tell_insn.new.told xs ys (indices w c.args.start (listing_from code c.walk.at))
+          (last_of c.args.told.now.last (indices w c.args.start (listing code))) e c.in_ok-tell_insn.ensures.told c.walk.invariant.last;
     }
 
 pub returns-clause-told : goal.returns-clause-told

@@ -11,9 +11,11 @@ invariant-walk l = record {
   within : l.at ≤ length l.code.bytes.now;
   order : l.told.last ≤ l.start + l.at;
   few : IsFew l.told;
-  bytes : l.told.bytes.items ++ distances l.told.last (indices (bytes_of_index l.width) l.start (listing_from l.code.bytes.now l.at)) ≡ l.initial.told.bytes.items ++ distances l.initial.told.last (indices (bytes_of_index l.width) l.start (listing l.code.bytes.now));
+  bytes : l.told.bytes.items ++ distances l.told.last (indices (bytes_of_index l.width) l.start (listing_from l.code.bytes.now l.at))
+      ≡ l.initial.told.bytes.items ++ distances l.initial.told.last (indices (bytes_of_index l.width) l.start (listing l.code.bytes.now));
   begun : take (length l.initial.told.bytes.items) l.told.bytes.items ≡ l.initial.told.bytes.items;
-  last : last_of l.told.last (indices (bytes_of_index l.width) l.start (listing_from l.code.bytes.now l.at)) ≡ last_of l.initial.told.last (indices (bytes_of_index l.width) l.start (listing l.code.bytes.now));
+  last : last_of l.told.last (indices (bytes_of_index l.width) l.start (listing_from l.code.bytes.now l.at)) ≡ last_of l.initial.told.last
+      (indices (bytes_of_index l.width) l.start (listing l.code.bytes.now));
 }
 
 abbrev pub decreases-walk : goal.decreases-walk

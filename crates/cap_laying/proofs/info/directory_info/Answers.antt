@@ -45,7 +45,8 @@ returns-clause-stands c =
     let fit : IsFit c.args.new.index = search rules in
     let n = new_may_stand c.args.format c.args.new d m (search rules) (search rules) fit in
     let e : c.put_directory.new.out.items ≡ directory_bytes (new_directory c.args.new d) = search rules in
-    subst (λ bytes. Stands (directory_info c.args.format) bytes (new_directory c.args.new d)) (sym e) (directories_stand c.args.format (new_directory c.args.new d) n)
+    subst (λ bytes. Stands (directory_info c.args.format) bytes (new_directory c.args.new d)) (sym e)
+    (directories_stand c.args.format (new_directory c.args.new d) n)
 
 pub returns-clause-size : goal.returns-clause-size
 returns-clause-size c =

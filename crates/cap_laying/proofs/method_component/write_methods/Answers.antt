@@ -18,8 +18,10 @@ put_table-requires c =
     let four : c.deref-4.result.now ≡ by_offset size ms = c.deref-4.ensures.value ∙ c.in_ok-table.ensures in
     let five : c.deref-5.result.now ≡ c.in_ok-indexes.indexes.items = c.deref-5.ensures.value in
     let six : c.deref-6.result.now ≡ blocks room ms = c.deref-6.ensures.value ∙ c.in_ok-blocks.ensures in
-    let end : methods_end_from start (by_offset size ms) ≤ 65535 = subst (λ t. methods_end_from start t ≤ 65535) two (subst (λ e. e ≤ 65535) c.in-Some.ensures.0 c.in-Some.ensures.1) in
-    let news : c.in_ok-news.news ≡ news_from c.deref-5.result.now start (by_offset size ms) = c.in_ok-news.ensures ∙ ap (news_from c.deref-5.result.now start) four in
+    let end : methods_end_from start (by_offset size ms) ≤ 65535 = subst (λ t. methods_end_from start t ≤ 65535) two
+    (subst (λ e. e ≤ 65535) c.in-Some.ensures.0 c.in-Some.ensures.1) in
+    let news : c.in_ok-news.news ≡ news_from c.deref-5.result.now start (by_offset size ms) = c.in_ok-news.ensures
+    ∙ ap (news_from c.deref-5.result.now start) four in
     rw (news, six) (blocks_placed size room start c.deref-5.result.now ms c.requires.each c.requires.apart end)
 
 pub returns : goal.returns
@@ -35,21 +37,36 @@ returns c =
     let two : c.deref-2.result.now ≡ by_offset size ms = c.deref-2.ensures.value ∙ c.in_ok-table.ensures in
     let three : c.deref-3.result.now ≡ blocks room ms = c.deref-3.ensures.value ∙ c.in_ok-blocks.ensures in
     let four : c.deref-4.result.now ≡ by_offset size ms = c.deref-4.ensures.value ∙ c.in_ok-table.ensures in
-    let indexes : c.deref-5.result.now ≡ handler_indexes size (blocks room ms) = c.deref-5.ensures.value ∙ c.in_ok-indexes.ensures ∙ ap (handler_indexes size) three in
+    let indexes : c.deref-5.result.now ≡ handler_indexes size (blocks room ms) = c.deref-5.ensures.value ∙ c.in_ok-indexes.ensures
+    ∙ ap (handler_indexes size) three in
     let six : c.deref-6.result.now ≡ blocks room ms = c.deref-6.ensures.value ∙ c.in_ok-blocks.ensures in
     let seven : c.deref-7.result.now ≡ by_offset size ms = c.deref-7.ensures.value ∙ c.in_ok-table.ensures in
     let eight : c.deref-8.result.now ≡ by_offset size ms = c.deref-8.ensures.value ∙ c.in_ok-table.ensures in
     let nine : c.deref-9.result.now ≡ blocks room ms = c.deref-9.ensures.value ∙ c.in_ok-blocks.ensures in
     let news : c.in_ok-news.news ≡ news_from (handler_indexes size (blocks room ms)) (1 + 8 * total_handlers (blocks room ms)) (by_offset size ms) =
-    c.in_ok-news.ensures ∙ ap (λ t. news_from c.deref-5.result.now start t) four ∙ ap (λ i. news_from i start (by_offset size ms)) indexes ∙ ap (λ k. news_from (handler_indexes size (blocks room ms)) k (by_offset size ms)) begins in
-    let entries = entries_of_blocks (news_from (handler_indexes size (blocks room ms)) (1 + 8 * total_handlers (blocks room ms)) (by_offset size ms)) (blocks room ms) in
+    c.in_ok-news.ensures ∙ ap (λ t. news_from c.deref-5.result.now start t) four ∙ ap (λ i. news_from i start (by_offset size ms)) indexes
+    ∙ ap (λ k. news_from (handler_indexes size (blocks room ms)) k (by_offset size ms)) begins in
+    let entries = entries_of_blocks (news_from (handler_indexes size (blocks room ms)) (1 + 8 * total_handlers (blocks room ms)) (by_offset size ms))
+    (blocks room ms) in
     let third : c.put_table.new.out.items ≡ c.push.new.self.items ++ table_bytes entries =
-    c.in_ok-put_table.ensures ∙ ap (λ n. c.push.new.self.items ++ table_bytes (entries_of_blocks n c.deref-6.result.now)) news ∙ ap (λ b. c.push.new.self.items ++ table_bytes (entries_of_blocks (news_from (handler_indexes size (blocks room ms)) (1 + 8 * total_handlers (blocks room ms)) (by_offset size ms)) b)) six in
-    let fourth : c.put_bodies.new.out.items ≡ c.put_table.new.out.items ++ bodies (by_offset size ms) = c.in_ok-put_bodies.ensures ∙ ap (λ t. c.put_table.new.out.items ++ bodies t) seven in
-    let count : c.handler_total-total.result ≡ length entries = total ∙ sym (length_table (news_from (handler_indexes size (blocks room ms)) (1 + 8 * total_handlers (blocks room ms)) (by_offset size ms)) (blocks room ms)) in
+    c.in_ok-put_table.ensures ∙ ap (λ n. c.push.new.self.items ++ table_bytes (entries_of_blocks n c.deref-6.result.now)) news
+    ∙ ap
+    (λ b. c.push.new.self.items ++ table_bytes
+    (entries_of_blocks (news_from (handler_indexes size (blocks room ms)) (1 + 8 * total_handlers (blocks room ms)) (by_offset size ms)) b)) six in
+    let fourth : c.put_bodies.new.out.items ≡ c.put_table.new.out.items ++ bodies (by_offset size ms) = c.in_ok-put_bodies.ensures
+    ∙ ap (λ t. c.put_table.new.out.items ++ bodies t) seven in
+    let count : c.handler_total-total.result ≡ length entries = total
+    ∙ sym (length_table (news_from (handler_indexes size (blocks room ms)) (1 + 8 * total_handlers (blocks room ms)) (by_offset size ms))
+    (blocks room ms)) in
     record {
-      info = info_steps c.handler_total-total.result c.in_ok-info.info.items c.push.new.self.items c.put_table.new.out.items c.put_bodies.new.out.items entries (by_offset size ms) c.in_ok-info.ensures.items c.in_ok-push.ensures.items third fourth count;
-      references = c.in_ok-references.ensures ∙ ap (λ t. references_info start t c.deref-9.result.now) eight ∙ ap (λ b. references_info start (by_offset size ms) b) nine ∙ ap (λ k. references_info k (by_offset size ms) (blocks room ms)) begins;
+      info =
+          info_steps c.handler_total-total.result c.in_ok-info.info.items c.push.new.self.items c.put_table.new.out.items c.put_bodies.new.out.items entries
+          (by_offset size ms) c.in_ok-info.ensures.items c.in_ok-push.ensures.items third fourth count;
+      references =
+          c.in_ok-references.ensures ∙ ap (λ t. references_info start t c.deref-9.result.now) eight
+          ∙ ap (λ b. references_info start (by_offset size ms) b) nine ∙ ap (λ k. references_info k (by_offset size ms) (blocks room ms)) begins;
       news = news;
-      short = subst (λ k. methods_end_from k (by_offset size ms) ≤ 65535) begins (subst (λ t. methods_end_from start t ≤ 65535) two (subst (λ e. e ≤ 65535) c.in-Some.ensures.0 c.in-Some.ensures.1));
+      short =
+          subst (λ k. methods_end_from k (by_offset size ms) ≤ 65535) begins
+          (subst (λ t. methods_end_from start t ≤ 65535) two (subst (λ e. e ≤ 65535) c.in-Some.ensures.0 c.in-Some.ensures.1));
     }

@@ -13,5 +13,6 @@ returns-then-at-gt-LONGEST_INFO c =
     let item : slice_index_or table n c.slot-item.result ≡ Some c.in-Some.member = cc in
     let slot : slice_index_or table n None ≡ Some c.in-Some.member = get_or_default table n None c.slot-item.result lt ∙ item in
     let whole : methods_end_from c.methods.at (drop n table) ≡ methods_end_from c.args.start table = c.methods.invariant.so_far in
-    let least : c.methods.at + body_size c.in-Some.member.body ≤ methods_end_from c.methods.at (drop n table) = end_passes c.methods.at table n c.in-Some.member slot in
+    let least : c.methods.at + body_size c.in-Some.member.body ≤ methods_end_from c.methods.at (drop n table) = end_passes c.methods.at table n
+    c.in-Some.member slot in
     omega arith

@@ -30,6 +30,10 @@ members-preserved c =
       end = omega arith;
       order = subst (λ k. c.tell_block.new.told.last ≤ k) (sym end) c.in_ok-at.ensures.last;
       few = c.in_ok-at.ensures.few;
-      bytes = told_more c.members.told c.tell_block.new.told xs ys (block_catches at (drop n blocks)) (c.args.told.now.bytes.items ++ distances c.args.told.now.last (block_catches 1 blocks)) e c.in_ok-at.ensures.told c.members.invariant.bytes;
-      last = last_more c.members.told c.tell_block.new.told xs ys (block_catches at (drop n blocks)) (last_of c.args.told.now.last (block_catches 1 blocks)) e c.in_ok-at.ensures.told c.members.invariant.last;
+      bytes =
+          told_more c.members.told c.tell_block.new.told xs ys (block_catches at (drop n blocks))
+          (c.args.told.now.bytes.items ++ distances c.args.told.now.last (block_catches 1 blocks)) e c.in_ok-at.ensures.told c.members.invariant.bytes;
+      last =
+          last_more c.members.told c.tell_block.new.told xs ys (block_catches at (drop n blocks)) (last_of c.args.told.now.last (block_catches 1 blocks)) e
+          c.in_ok-at.ensures.told c.members.invariant.last;
     }

@@ -10,6 +10,7 @@ invariant-members l = record {
   end : l.at + 8 * total_handlers (drop l.block-index l.blocks) ≡ 1 + 8 * total_handlers l.blocks;
   order : l.told.last ≤ l.at;
   few : IsFew l.told;
-  bytes : l.told.bytes.items ++ distances l.told.last (block_catches l.at (drop l.block-index l.blocks)) ≡ l.initial.told.bytes.items ++ distances l.initial.told.last (block_catches 1 l.blocks);
+  bytes : l.told.bytes.items ++ distances l.told.last (block_catches l.at (drop l.block-index l.blocks)) ≡ l.initial.told.bytes.items ++ distances
+      l.initial.told.last (block_catches 1 l.blocks);
   last : last_of l.told.last (block_catches l.at (drop l.block-index l.blocks)) ≡ last_of l.initial.told.last (block_catches 1 l.blocks);
 }

@@ -17,7 +17,8 @@ tell_slot-requires-clause-end c =
     let slot = c.slot-item.result in
     let lt : n < length table = first_of (omega arith, search rules) in
     let is : slice_index_or table n slot ≡ slot = first_of (cc, search rules) in
-    let least : c.methods.at + size_if slot ≤ methods_end_from c.methods.at (drop n table) = subst (λ s. c.methods.at + size_if s ≤ methods_end_from c.methods.at (drop n table)) is (end_slot c.methods.at table n slot lt) in
+    let least : c.methods.at + size_if slot ≤ methods_end_from c.methods.at (drop n table) = subst
+    (λ s. c.methods.at + size_if s ≤ methods_end_from c.methods.at (drop n table)) is (end_slot c.methods.at table n slot lt) in
     let end = c.methods.invariant.end in
     omega arith
 
@@ -44,6 +45,11 @@ methods-preserved c =
       end = subst (λ k. methods_end_from k rest ≤ 65535) (sym end) within;
       order = subst (λ k. c.tell_slot.new.told.last ≤ k) (sym end) c.in_ok-at.ensures.last;
       few = c.in_ok-at.ensures.few;
-      bytes = told_more c.methods.told c.tell_slot.new.told xs ys (method_indices w at (drop n table)) (c.args.told.now.bytes.items ++ distances c.args.told.now.last (method_indices w c.args.start table)) e c.in_ok-at.ensures.told c.methods.invariant.bytes;
-      last = last_more c.methods.told c.tell_slot.new.told xs ys (method_indices w at (drop n table)) (last_of c.args.told.now.last (method_indices w c.args.start table)) e c.in_ok-at.ensures.told c.methods.invariant.last;
+      bytes =
+          told_more c.methods.told c.tell_slot.new.told xs ys (method_indices w at (drop n table))
+          (c.args.told.now.bytes.items ++ distances c.args.told.now.last (method_indices w c.args.start table)) e c.in_ok-at.ensures.told
+          c.methods.invariant.bytes;
+      last =
+          last_more c.methods.told c.tell_slot.new.told xs ys (method_indices w at (drop n table))
+          (last_of c.args.told.now.last (method_indices w c.args.start table)) e c.in_ok-at.ensures.told c.methods.invariant.last;
     }

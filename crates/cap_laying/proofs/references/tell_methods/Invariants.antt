@@ -13,6 +13,8 @@ invariant-methods l = record {
   end : methods_end_from l.at (drop l.slot-index l.table) ≤ 65535;
   order : l.told.last ≤ l.at;
   few : IsFew l.told;
-  bytes : l.told.bytes.items ++ distances l.told.last (method_indices (bytes_of_index l.width) l.at (drop l.slot-index l.table)) ≡ l.initial.told.bytes.items ++ distances l.initial.told.last (method_indices (bytes_of_index l.width) l.start l.table);
-  last : last_of l.told.last (method_indices (bytes_of_index l.width) l.at (drop l.slot-index l.table)) ≡ last_of l.initial.told.last (method_indices (bytes_of_index l.width) l.start l.table);
+  bytes : l.told.bytes.items ++ distances l.told.last (method_indices (bytes_of_index l.width) l.at (drop l.slot-index l.table))
+      ≡ l.initial.told.bytes.items ++ distances l.initial.told.last (method_indices (bytes_of_index l.width) l.start l.table);
+  last : last_of l.told.last (method_indices (bytes_of_index l.width) l.at (drop l.slot-index l.table)) ≡ last_of l.initial.told.last
+      (method_indices (bytes_of_index l.width) l.start l.table);
 }

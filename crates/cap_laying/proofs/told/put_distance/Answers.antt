@@ -7,6 +7,8 @@ pub whole-preserved : goal.whole-preserved
 whole-preserved c =
     let new = c.push.new.self.items in
     record {
-      bytes = put_more c.whole.left c.whole.out.items new (c.args.out.now.items ++ distance_bytes c.args.distance) (omega arith) c.in_ok-push.ensures.items c.whole.invariant.bytes;
+      bytes =
+          put_more c.whole.left c.whole.out.items new (c.args.out.now.items ++ distance_bytes c.args.distance) (omega arith) c.in_ok-push.ensures.items
+          c.whole.invariant.bytes;
       begun = begun_more c.args.out.now.items c.whole.out.items new (255 ∷ []) c.whole.invariant.begun c.in_ok-push.ensures.items;
     }

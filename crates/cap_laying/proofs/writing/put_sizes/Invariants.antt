@@ -8,5 +8,6 @@ use Rattle.cap_laying.proofs.writing.put_sizes.Given as goal
 abbrev pub invariant-sizes : goal.invariant-sizes
 invariant-sizes l = record {
   tag : l.tag ≡ l.counter + 1;
-  so_far : l.out.items ++ flat_map (big_bytes 2) (sizes_from l.own l.new l.tag (drop l.counter (directory_items l.directory).sizes)) ≡ l.initial.out.items ++ flat_map (big_bytes 2) (sizes_from l.own l.new 1 (directory_items l.directory).sizes);
+  so_far : l.out.items ++ flat_map (big_bytes 2) (sizes_from l.own l.new l.tag (drop l.counter (directory_items l.directory).sizes))
+      ≡ l.initial.out.items ++ flat_map (big_bytes 2) (sizes_from l.own l.new 1 (directory_items l.directory).sizes);
 }

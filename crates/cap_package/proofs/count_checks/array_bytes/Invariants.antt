@@ -5,4 +5,5 @@ use Rattle.cap_package.proofs.count_checks.array_bytes.Given as goal
 
 abbrev pub invariant-arrays : goal.invariant-arrays
 invariant-arrays l =
-    (l.total + array_bytes (arrays_left l.array-iterator) ≡ array_bytes (statics_seen l.statics).arrays) × (array_bytes (statics_seen l.statics).arrays ≤ 65535)
+    (l.total + array_bytes (arrays_left l.array-iterator) ≡ array_bytes (statics_seen l.statics).arrays)
+    × (array_bytes (statics_seen l.statics).arrays ≤ 65535)

@@ -7,4 +7,5 @@ use Rattle.cap_package.proofs.count_checks.instance_cells.Given as goal
 
 abbrev pub invariant-fields : goal.invariant-fields
 invariant-fields l =
-    (l.cells + own_instance_cells (description l.descriptor) (fields_left l.field-iterator) ≡ own_instance_cells (description l.descriptor) (described_class_seen l.class).fields) × (l.cells + 2 * length (fields_left l.field-iterator) ≤ 2 * l.count)
+    (l.cells + own_instance_cells (description l.descriptor) (fields_left l.field-iterator) ≡ own_instance_cells (description l.descriptor)
+    (described_class_seen l.class).fields) × (l.cells + 2 * length (fields_left l.field-iterator) ≤ 2 * l.count)

@@ -13,7 +13,8 @@ classes-preserved c =
     let same = c.classes.invariant.2 in
     let fault = fault_found (records c.args.classes.now) (description c.args.descriptor.now) _ _ _ c.instance_fault.result c.class_ref.ensures
     (c.at-entry.ensures.found ∙ ap (λ part. record_at c.class_ref.result (records part)) same) c.instance_fault.ensures in (
-      ap (λ least. least_from least (instance_fault (records c.args.classes.now) (description c.args.descriptor.now)) (described_left c.next.new.self)) (c.keep_lesser.ensures ∙ ap (lesser c.classes.least) fault)
+      ap (λ least. least_from least (instance_fault (records c.args.classes.now) (description c.args.descriptor.now)) (described_left c.next.new.self))
+          (c.keep_lesser.ensures ∙ ap (lesser c.classes.least) fault)
           ∙ ap (least_from c.classes.least (instance_fault (records c.args.classes.now) (description c.args.descriptor.now))) (sym c.in-Some.ensures.steps)
           ∙ c.classes.invariant.0,
       c.at-entry.ensures.serves,

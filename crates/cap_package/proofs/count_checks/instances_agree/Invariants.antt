@@ -9,6 +9,7 @@ use Rattle.cap_package.proofs.count_checks.instances_agree.Given as goal
 
 abbrev pub invariant-classes : goal.invariant-classes
 invariant-classes l =
-    (least_from l.least (instance_fault (records l.classes) (description l.descriptor)) (described_left l.class-iterator) ≡ least_of (instance_fault (records l.classes) (description l.descriptor)) (description l.descriptor).items.classes)
+    (least_from l.least (instance_fault (records l.classes) (description l.descriptor)) (described_left l.class-iterator)
+    ≡ least_of (instance_fault (records l.classes) (description l.descriptor)) (description l.descriptor).items.classes)
     × Serves l.search
     × (l.search.classes ≡ l.classes)

@@ -5,4 +5,6 @@ use Rattle.cap_package.specs.HeaderChecks.{abstract_fault}
 use Rattle.cap_package.proofs.header_checks.abstract_without_code.Given as goal
 
 abbrev pub invariant-methods : goal.invariant-methods
-invariant-methods l = least_from l.least (abstract_fault l.methods.info.bytes.now) (methods_but_left l.method-iterator) ≡ least_of (abstract_fault l.methods.info.bytes.now) (methods_but_left l.fn.described)
+invariant-methods l =
+    least_from l.least (abstract_fault l.methods.info.bytes.now) (methods_but_left l.method-iterator) ≡ least_of (abstract_fault l.methods.info.bytes.now)
+    (methods_but_left l.fn.described)

@@ -6,4 +6,6 @@ use Rattle.cap_package.specs.HeaderChecks.{arguments_fault}
 use Rattle.cap_package.proofs.header_checks.arguments_agree.Given as goal
 
 abbrev pub invariant-methods : goal.invariant-methods
-invariant-methods l = least_from l.least (arguments_fault l.methods.info.bytes.now (description l.descriptor)) (methods_but_left l.method-iterator) ≡ least_of (arguments_fault l.methods.info.bytes.now (description l.descriptor)) (methods_but_left l.fn.described)
+invariant-methods l =
+    least_from l.least (arguments_fault l.methods.info.bytes.now (description l.descriptor)) (methods_but_left l.method-iterator)
+    ≡ least_of (arguments_fault l.methods.info.bytes.now (description l.descriptor)) (methods_but_left l.fn.described)

@@ -5,4 +5,6 @@ use Rattle.cap_package.specs.HeaderChecks.{length_fault}
 use Rattle.cap_package.proofs.header_checks.lengths_fit.Given as goal
 
 abbrev pub invariant-methods : goal.invariant-methods
-invariant-methods l = least_from l.least (length_fault l.methods.info.bytes.now) (methods_but_left l.method-iterator) ≡ least_of (length_fault l.methods.info.bytes.now) (methods_but_left l.fn.described)
+invariant-methods l =
+    least_from l.least (length_fault l.methods.info.bytes.now) (methods_but_left l.method-iterator) ≡ least_of (length_fault l.methods.info.bytes.now)
+    (methods_but_left l.fn.described)

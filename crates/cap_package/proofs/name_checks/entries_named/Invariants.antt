@@ -7,4 +7,5 @@ use Rattle.cap_package.proofs.name_checks.entries_named.Given as goal
 
 abbrev pub invariant-classes : goal.invariant-classes
 invariant-classes l =
-    least_from l.least (no_entry_fault (holds l.described)) (table_entries (classes_left l.class-iterator)) ≡ least_of (no_entry_fault (holds l.described)) (table_entries (records l.classes))
+    least_from l.least (no_entry_fault (holds l.described)) (table_entries (classes_left l.class-iterator))
+    ≡ least_of (no_entry_fault (holds l.described)) (table_entries (records l.classes))

@@ -7,4 +7,5 @@ use Rattle.cap_package.proofs.name_checks.exports_named.Given as goal
 
 abbrev pub invariant-classes : goal.invariant-classes
 invariant-classes l =
-    least_from l.least (no_method_fault (holds l.described)) (exported_methods (exported_left l.class-iterator)) ≡ least_from l.initial.least (no_method_fault (holds l.described)) (exported_methods (exported l.export))
+    least_from l.least (no_method_fault (holds l.described)) (exported_methods (exported_left l.class-iterator)) ≡ least_from l.initial.least
+    (no_method_fault (holds l.described)) (exported_methods (exported l.export))

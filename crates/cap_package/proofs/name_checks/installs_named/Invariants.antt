@@ -8,4 +8,5 @@ use Rattle.cap_package.proofs.name_checks.installs_named.Given as goal
 
 abbrev pub invariant-applets : goal.invariant-applets
 invariant-applets l =
-    least_from l.least (no_method_fault (holds l.described)) (map (λ (a : Applet). a.install) (applets_left l.applet-iterator)) ≡ least_from l.initial.least (no_method_fault (holds l.described)) (map (λ (a : Applet). a.install) (applets_of l.applets))
+    least_from l.least (no_method_fault (holds l.described)) (map (λ (a : Applet). a.install) (applets_left l.applet-iterator))
+    ≡ least_from l.initial.least (no_method_fault (holds l.described)) (map (λ (a : Applet). a.install) (applets_of l.applets))

@@ -8,4 +8,5 @@ use Rattle.cap_package.proofs.name_checks.statics_named.Given as goal
 
 abbrev pub invariant-classes : goal.invariant-classes
 invariant-classes l =
-    least_from l.least (no_static_fault (holds l.fields)) (exported_fields (exported_left l.class-iterator)) ≡ least_of (no_static_fault (holds l.fields)) (exported_fields (exported l.export))
+    least_from l.least (no_static_fault (holds l.fields)) (exported_fields (exported_left l.class-iterator)) ≡ least_of (no_static_fault (holds l.fields))
+    (exported_fields (exported l.export))

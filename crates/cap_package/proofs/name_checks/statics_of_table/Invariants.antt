@@ -7,4 +7,5 @@ use Rattle.cap_package.proofs.name_checks.statics_of_table.Given as goal
 
 abbrev pub invariant-entries : goal.invariant-entries
 invariant-entries l =
-    least_from l.least (no_static_fault (holds l.fields)) (numbers l.offset-iterator) ≡ least_from l.initial.least (no_static_fault (holds l.fields)) (numbers l.fn.table)
+    least_from l.least (no_static_fault (holds l.fields)) (numbers l.offset-iterator) ≡ least_from l.initial.least (no_static_fault (holds l.fields))
+    (numbers l.fn.table)

@@ -17,7 +17,8 @@ fields-init c =
 
 pub fields-preserved-then-is_static : goal.fields-preserved-then-is_static
 fields-preserved-then-is_static c =
-    ap (λ (these : ℕ → Bool). either these (is_static_at (fields_of_left c.next.new.self))) (c.insert.ensures ∙ ap (λ (n : ℕ). also n (holds c.fields.offsets)) c.image_offset.ensures)
+    ap (λ (these : ℕ → Bool). either these (is_static_at (fields_of_left c.next.new.self)))
+    (c.insert.ensures ∙ ap (λ (n : ℕ). also n (holds c.fields.offsets)) c.image_offset.ensures)
     ∙ more_statics (holds c.fields.offsets) (field_seen c.in-Some.field) (fields_of_left c.next.new.self) (search rules)
     ∙ ap (λ (fs : List FieldDescriptor). either (holds c.fields.offsets) (is_static_at fs)) (sym c.in-Some.ensures.steps)
     ∙ c.fields.invariant

@@ -8,4 +8,5 @@ use Rattle.cap_package.proofs.type_checks.field_types.Given as goal
 
 abbrev pub invariant-fields : goal.invariant-fields
 invariant-fields l =
-    least_from l.least (field_type_fault (description l.descriptor)) (fields_of_left l.field-iterator) ≡ least_of (field_type_fault (description l.descriptor)) (fields_of (description l.descriptor).items.classes)
+    least_from l.least (field_type_fault (description l.descriptor)) (fields_of_left l.field-iterator)
+    ≡ least_of (field_type_fault (description l.descriptor)) (fields_of (description l.descriptor).items.classes)

@@ -9,4 +9,6 @@ use Rattle.cap_package.proofs.type_checks.interface_types.Given as goal
 
 abbrev pub invariant-classes : goal.invariant-classes
 invariant-classes l =
-    least_from l.least (method_type_fault (description l.descriptor) 254) (methods_in (holds l.interfaces) (described_left l.class-iterator)) ≡ least_from l.initial.least (method_type_fault (description l.descriptor) 254) (methods_in (holds l.interfaces) (description l.descriptor).items.classes)
+    least_from l.least (method_type_fault (description l.descriptor) 254) (methods_in (holds l.interfaces) (described_left l.class-iterator))
+    ≡ least_from l.initial.least (method_type_fault (description l.descriptor) 254)
+    (methods_in (holds l.interfaces) (description l.descriptor).items.classes)

@@ -8,4 +8,5 @@ use Rattle.cap_package.proofs.type_checks.method_types.Given as goal
 
 abbrev pub invariant-methods : goal.invariant-methods
 invariant-methods l =
-    least_from l.least (method_type_fault (description l.descriptor) 510) (methods_of_left l.method-iterator) ≡ least_from l.initial.least (method_type_fault (description l.descriptor) 510) (methods_of (description l.descriptor).items.classes)
+    least_from l.least (method_type_fault (description l.descriptor) 510) (methods_of_left l.method-iterator) ≡ least_from l.initial.least
+    (method_type_fault (description l.descriptor) 510) (methods_of (description l.descriptor).items.classes)

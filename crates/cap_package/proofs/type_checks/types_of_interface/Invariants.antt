@@ -7,4 +7,5 @@ use Rattle.cap_package.proofs.type_checks.types_of_interface.Given as goal
 
 abbrev pub invariant-methods : goal.invariant-methods
 invariant-methods l =
-    least_from l.least (method_type_fault (description l.descriptor) 254) (methods_left l.method-iterator) ≡ least_from l.initial.least (method_type_fault (description l.descriptor) 254) (methods_left l.fn.methods)
+    least_from l.least (method_type_fault (description l.descriptor) 254) (methods_left l.method-iterator) ≡ least_from l.initial.least
+    (method_type_fault (description l.descriptor) 254) (methods_left l.fn.methods)

@@ -12,32 +12,43 @@ pub applets-init : goal.applets-init
 applets-init c =
     let f = to c.args.news.now in
     let e : applets_of c.args.applets.now ≡ applets_left c.into_iter-applet-iterator.result = cc in
-    subst (λ xs. IsRenewing applet_info (applet_edits f) applet_width c.args.info.now (patched_all (applets_edits f (applets_of c.args.applets.now)) c.args.info.now) 1 xs c.args.info.now)
+    subst
+    (λ xs. IsRenewing applet_info (applet_edits f) applet_width c.args.info.now
+    (patched_all (applets_edits f (applets_of c.args.applets.now)) c.args.info.now) 1 xs c.args.info.now)
     e (applets_begin f c.args.info.now (applets_of c.args.applets.now) c.requires)
 
 pub overflow_add-at-in-applets : goal.overflow_add-at-in-applets
 overflow_add-at-in-applets c =
     let f = to c.args.news.now in
     let n : IsNext applet_info applet_width c.args.info.now c.applets.info c.applets.at (applet_seen c.in-Some.applet) =
-    renewing_next applet_info (applet_edits f) applet_width (renewed_applet f) c.args.info.now (patched_all (applets_edits f (applets_of c.args.applets.now)) c.args.info.now) c.applets.at (applets_left c.applets.applet-iterator) c.applets.info (applet_seen c.in-Some.applet) (applets_left c.next.new.self) (applet_item f c.args.info.now) c.applets.invariant c.in-Some.ensures.steps in
+    renewing_next applet_info (applet_edits f) applet_width (renewed_applet f) c.args.info.now
+    (patched_all (applets_edits f (applets_of c.args.applets.now)) c.args.info.now) c.applets.at (applets_left c.applets.applet-iterator) c.applets.info
+    (applet_seen c.in-Some.applet) (applets_left c.next.new.self) (applet_item f c.args.info.now) c.applets.invariant c.in-Some.ensures.steps in
     omega (arith, n.within)
 
 pub patch-requires : goal.patch-requires
 patch-requires c =
     let f = to c.args.news.now in
     let n : IsNext applet_info applet_width c.args.info.now c.applets.info c.applets.at (applet_seen c.in-Some.applet) =
-    renewing_next applet_info (applet_edits f) applet_width (renewed_applet f) c.args.info.now (patched_all (applets_edits f (applets_of c.args.applets.now)) c.args.info.now) c.applets.at (applets_left c.applets.applet-iterator) c.applets.info (applet_seen c.in-Some.applet) (applets_left c.next.new.self) (applet_item f c.args.info.now) c.applets.invariant c.in-Some.ensures.steps in
+    renewing_next applet_info (applet_edits f) applet_width (renewed_applet f) c.args.info.now
+    (patched_all (applets_edits f (applets_of c.args.applets.now)) c.args.info.now) c.applets.at (applets_left c.applets.applet-iterator) c.applets.info
+    (applet_seen c.in-Some.applet) (applets_left c.next.new.self) (applet_item f c.args.info.now) c.applets.invariant c.in-Some.ensures.steps in
     omega (arith, n.within)
 
 pub overflow_add-at-in-applets-2 : goal.overflow_add-at-in-applets-2
 overflow_add-at-in-applets-2 c =
     let f = to c.args.news.now in
     let n : IsNext applet_info applet_width c.args.info.now c.applets.info c.applets.at (applet_seen c.in-Some.applet) =
-    renewing_next applet_info (applet_edits f) applet_width (renewed_applet f) c.args.info.now (patched_all (applets_edits f (applets_of c.args.applets.now)) c.args.info.now) c.applets.at (applets_left c.applets.applet-iterator) c.applets.info (applet_seen c.in-Some.applet) (applets_left c.next.new.self) (applet_item f c.args.info.now) c.applets.invariant c.in-Some.ensures.steps in
+    renewing_next applet_info (applet_edits f) applet_width (renewed_applet f) c.args.info.now
+    (patched_all (applets_edits f (applets_of c.args.applets.now)) c.args.info.now) c.applets.at (applets_left c.applets.applet-iterator) c.applets.info
+    (applet_seen c.in-Some.applet) (applets_left c.next.new.self) (applet_item f c.args.info.now) c.applets.invariant c.in-Some.ensures.steps in
     omega (arith, n.within)
 
 pub applets-preserved : goal.applets-preserved
 applets-preserved c =
     let f = to c.args.news.now in
-    renewing_more applet_info (applet_edits f) applet_width (renewed_applet f) c.args.info.now (patched_all (applets_edits f (applets_of c.args.applets.now)) c.args.info.now) c.applets.at (applets_left c.applets.applet-iterator) c.applets.info (applet_seen c.in-Some.applet) (applets_left c.next.new.self)
-    (c.applets.at + (1 + length c.in-Some.applet.aid.now) + 2) c.patch.new.bytes (applet_item f c.args.info.now) c.applets.invariant c.in-Some.ensures.steps (omega arith) (cc) c.patch.ensures.long
+    renewing_more applet_info (applet_edits f) applet_width (renewed_applet f) c.args.info.now
+    (patched_all (applets_edits f (applets_of c.args.applets.now)) c.args.info.now) c.applets.at (applets_left c.applets.applet-iterator) c.applets.info
+    (applet_seen c.in-Some.applet) (applets_left c.next.new.self)
+    (c.applets.at + (1 + length c.in-Some.applet.aid.now) + 2) c.patch.new.bytes (applet_item f c.args.info.now) c.applets.invariant c.in-Some.ensures.steps
+    (omega arith) (cc) c.patch.ensures.long

@@ -8,4 +8,5 @@ use Rattle.cap_renewal.proofs.applets.write_installs.Given as goal
 
 abbrev pub invariant-applets : goal.invariant-applets
 invariant-applets l =
-    IsRenewing applet_info (applet_edits (to l.news)) applet_width l.initial.info (patched_all (applets_edits (to l.news) (applets_of l.applets)) l.initial.info) l.at (applets_left l.applet-iterator) l.info
+    IsRenewing applet_info (applet_edits (to l.news)) applet_width l.initial.info
+    (patched_all (applets_edits (to l.news) (applets_of l.applets)) l.initial.info) l.at (applets_left l.applet-iterator) l.info

@@ -13,12 +13,16 @@ pub returns-clause-renewed : goal.returns-clause-renewed
 returns-clause-renewed c =
     let f = to c.args.news.now in
     let cs = records c.args.classes.now in
-    rw c.write_classes.ensures.value (c.patches_renew.ensures (classes_edits f cs) c.args.info.now (classes_inside f c.requires.0 c.args.info.now cs c.requires.1) (classes_fit f c.requires.0 c.args.info.now cs c.are_bytes.ensures (keeps_small c.args.news.now c.are_small.ensures) c.requires.1))
+    rw c.write_classes.ensures.value
+    (c.patches_renew.ensures (classes_edits f cs) c.args.info.now (classes_inside f c.requires.0 c.args.info.now cs c.requires.1)
+    (classes_fit f c.requires.0 c.args.info.now cs c.are_bytes.ensures (keeps_small c.args.news.now c.are_small.ensures) c.requires.1))
 
 pub returns-clause-stands : goal.returns-clause-stands
 returns-clause-stands c =
     let f = to c.args.news.now in
     let cs = records c.args.classes.now in
     let r : Renews (classes_edits f cs) c.args.info.now c.write_classes.new.info =
-    rw c.write_classes.ensures.value (c.patches_renew.ensures (classes_edits f cs) c.args.info.now (classes_inside f c.requires.0 c.args.info.now cs c.requires.1) (classes_fit f c.requires.0 c.args.info.now cs c.are_bytes.ensures (keeps_small c.args.news.now c.are_small.ensures) c.requires.1)) in
+    rw c.write_classes.ensures.value
+    (c.patches_renew.ensures (classes_edits f cs) c.args.info.now (classes_inside f c.requires.0 c.args.info.now cs c.requires.1)
+    (classes_fit f c.requires.0 c.args.info.now cs c.are_bytes.ensures (keeps_small c.args.news.now c.are_small.ensures) c.requires.1)) in
     λ format s. classes_renewed f format c.args.info.now c.write_classes.new.info cs s r

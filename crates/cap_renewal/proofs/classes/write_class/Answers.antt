@@ -21,7 +21,8 @@ returns-clause-value c =
     c.renew_table.ensures.value ∙ ap (λ at. patched_all (table_edits f (at + 10) (numbers c.publics-publics.result)) c.args.info.now) offset
     ∙ ap (λ ns. patched_all (table_edits f (k.offset + 10) ns) c.args.info.now) public in
     let second : c.renew_table-2.new.info ≡ patched_all (table_edits f (k.offset + 10 + 2 * length k.public) k.visible) c.renew_table.new.info =
-    c.renew_table-2.ensures.value ∙ ap (λ at. patched_all (table_edits f (at + 10 + 2 * c.len.result) (numbers c.package_table.result)) c.renew_table.new.info) offset
+    c.renew_table-2.ensures.value
+    ∙ ap (λ at. patched_all (table_edits f (at + 10 + 2 * c.len.result) (numbers c.package_table.result)) c.renew_table.new.info) offset
     ∙ ap (λ n. patched_all (table_edits f (k.offset + 10 + 2 * n) (numbers c.package_table.result)) c.renew_table.new.info) len
     ∙ ap (λ ns. patched_all (table_edits f (k.offset + 10 + 2 * length k.public) ns) c.renew_table.new.info) visible in
     two_tables f k c.args.info.now c.renew_table.new.info c.renew_table-2.new.info class first second

@@ -16,5 +16,8 @@ classes-preserved c =
     record {
       room = rooms.1;
       long = c.write_class.ensures.long ∙ c.classes.invariant.long;
-      so_far = one_class f k rest (classes_left c.classes.class-iterator) c.classes.info c.write_class.new.info (patched_all (classes_edits f (records c.args.classes.now)) c.args.info.now) c.in-Some.ensures.steps c.write_class.ensures.value c.classes.invariant.so_far;
+      so_far =
+          one_class f k rest (classes_left c.classes.class-iterator) c.classes.info c.write_class.new.info
+          (patched_all (classes_edits f (records c.args.classes.now)) c.args.info.now) c.in-Some.ensures.steps c.write_class.ensures.value
+          c.classes.invariant.so_far;
     }

@@ -10,5 +10,6 @@ abbrev pub invariant-classes : goal.invariant-classes
 invariant-classes l = record {
   room : AllRooms (length l.initial.info) (classes_left l.class-iterator);
   long : length l.info ≡ length l.initial.info;
-  so_far : patched_all (classes_edits (to l.news) (classes_left l.class-iterator)) l.info ≡ patched_all (classes_edits (to l.news) (records l.classes)) l.initial.info;
+  so_far : patched_all (classes_edits (to l.news) (classes_left l.class-iterator)) l.info ≡ patched_all (classes_edits (to l.news) (records l.classes))
+      l.initial.info;
 }

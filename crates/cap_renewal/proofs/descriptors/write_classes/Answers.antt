@@ -14,7 +14,9 @@ classes-init c =
     let set = holds c.args.interfaces.now in
     let d = descriptor_seen c.args.descriptor.now in
     let e : d.classes ≡ described_left c.into_iter-class-iterator.result = cc in
-    subst (λ xs. IsRenewing class_descriptor_info (class_edits set c.args.news.now) class_width c.args.info.now (patched_all (descriptor_edits set c.args.news.now d.classes) c.args.info.now) 1 xs c.args.info.now)
+    subst
+    (λ xs. IsRenewing class_descriptor_info (class_edits set c.args.news.now) class_width c.args.info.now
+    (patched_all (descriptor_edits set c.args.news.now d.classes) c.args.info.now) 1 xs c.args.info.now)
     e (descriptor_begins set c.args.news.now c.args.info.now d c.requires)
 
 pub write_class-at-requires : goal.write_class-at-requires
@@ -22,12 +24,18 @@ write_class-at-requires c =
     let set = holds c.args.interfaces.now in
     let d = descriptor_seen c.args.descriptor.now in
     let n : IsNext class_descriptor_info class_width c.args.info.now c.classes.info c.classes.at (described_class_seen c.in-Some.class) =
-    renewing_next class_descriptor_info (class_edits set c.args.news.now) class_width (renewed_class set c.args.news.now) c.args.info.now (patched_all (descriptor_edits set c.args.news.now d.classes) c.args.info.now) c.classes.at (described_left c.classes.class-iterator) c.classes.info (described_class_seen c.in-Some.class) (described_left c.next.new.self) (class_item set c.args.news.now c.args.info.now) c.classes.invariant c.in-Some.ensures.steps in
+    renewing_next class_descriptor_info (class_edits set c.args.news.now) class_width (renewed_class set c.args.news.now) c.args.info.now
+    (patched_all (descriptor_edits set c.args.news.now d.classes) c.args.info.now) c.classes.at (described_left c.classes.class-iterator) c.classes.info
+    (described_class_seen c.in-Some.class) (described_left c.next.new.self) (class_item set c.args.news.now c.args.info.now) c.classes.invariant
+    c.in-Some.ensures.steps in
     n.within
 
 pub classes-preserved : goal.classes-preserved
 classes-preserved c =
     let set = holds c.args.interfaces.now in
     let d = descriptor_seen c.args.descriptor.now in
-    renewing_more class_descriptor_info (class_edits set c.args.news.now) class_width (renewed_class set c.args.news.now) c.args.info.now (patched_all (descriptor_edits set c.args.news.now d.classes) c.args.info.now) c.classes.at (described_left c.classes.class-iterator) c.classes.info (described_class_seen c.in-Some.class) (described_left c.next.new.self)
-    c.write_class-at.result c.write_class-at.new.info (class_item set c.args.news.now c.args.info.now) c.classes.invariant c.in-Some.ensures.steps c.write_class-at.ensures.end c.write_class-at.ensures.value c.write_class-at.ensures.long
+    renewing_more class_descriptor_info (class_edits set c.args.news.now) class_width (renewed_class set c.args.news.now) c.args.info.now
+    (patched_all (descriptor_edits set c.args.news.now d.classes) c.args.info.now) c.classes.at (described_left c.classes.class-iterator) c.classes.info
+    (described_class_seen c.in-Some.class) (described_left c.next.new.self)
+    c.write_class-at.result c.write_class-at.new.info (class_item set c.args.news.now c.args.info.now) c.classes.invariant c.in-Some.ensures.steps
+    c.write_class-at.ensures.end c.write_class-at.ensures.value c.write_class-at.ensures.long

@@ -9,4 +9,6 @@ use Rattle.cap_renewal.proofs.descriptors.write_classes.Given as goal
 
 abbrev pub invariant-classes : goal.invariant-classes
 invariant-classes l =
-    IsRenewing class_descriptor_info (class_edits (holds l.interfaces) l.news) class_width l.initial.info (patched_all (descriptor_edits (holds l.interfaces) l.news (descriptor_seen l.descriptor).classes) l.initial.info) l.at (described_left l.class-iterator) l.info
+    IsRenewing class_descriptor_info (class_edits (holds l.interfaces) l.news) class_width l.initial.info
+    (patched_all (descriptor_edits (holds l.interfaces) l.news (descriptor_seen l.descriptor).classes) l.initial.info) l.at
+    (described_left l.class-iterator) l.info

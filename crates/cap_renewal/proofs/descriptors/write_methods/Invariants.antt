@@ -8,5 +8,6 @@ abbrev pub invariant-methods : goal.invariant-methods
 invariant-methods l = record {
   room : l.at + 12 * length (methods_left l.method-iterator) ≤ length l.info;
   long : length l.info ≡ length l.initial.info;
-  so_far : patched_all (methods_edits l.news l.at (methods_left l.method-iterator)) l.info ≡ patched_all (methods_edits l.news l.start (methods_left l.fn.methods)) l.initial.info;
+  so_far : patched_all (methods_edits l.news l.at (methods_left l.method-iterator)) l.info
+      ≡ patched_all (methods_edits l.news l.start (methods_left l.fn.methods)) l.initial.info;
 }

@@ -14,14 +14,19 @@ pub classes-init : goal.classes-init
 classes-init c =
     let f = to c.args.news.now in
     let e : export_seen c.args.export.now ≡ exported_left c.into_iter-class-iterator.result = cc in
-    subst (λ xs. IsRenewing class_export_info (exported_edits f) exported_width c.args.info.now (patched_all (export_edits f (export_seen c.args.export.now)) c.args.info.now) 1 xs c.args.info.now)
+    subst
+    (λ xs. IsRenewing class_export_info (exported_edits f) exported_width c.args.info.now
+    (patched_all (export_edits f (export_seen c.args.export.now)) c.args.info.now) 1 xs c.args.info.now)
     e (export_begins f c.args.info.now (export_seen c.args.export.now) c.requires)
 
 pub renew_table-requires : goal.renew_table-requires
 renew_table-requires c =
     let f = to c.args.news.now in
     let n : IsNext class_export_info exported_width c.args.info.now c.classes.info c.classes.at (exported_class_seen c.in-Some.class) =
-    renewing_next class_export_info (exported_edits f) exported_width (renewed_exported f) c.args.info.now (patched_all (export_edits f (export_seen c.args.export.now)) c.args.info.now) c.classes.at (exported_left c.classes.class-iterator) c.classes.info (exported_class_seen c.in-Some.class) (exported_left c.next.new.self) (exported_item f c.args.info.now) c.classes.invariant c.in-Some.ensures.steps in
+    renewing_next class_export_info (exported_edits f) exported_width (renewed_exported f) c.args.info.now
+    (patched_all (export_edits f (export_seen c.args.export.now)) c.args.info.now) c.classes.at (exported_left c.classes.class-iterator) c.classes.info
+    (exported_class_seen c.in-Some.class) (exported_left c.next.new.self) (exported_item f c.args.info.now) c.classes.invariant
+    c.in-Some.ensures.steps in
     let w = n.within in
     omega arith
 
@@ -31,5 +36,7 @@ classes-preserved c =
     let p : c.classes.at + (4 + 2 * length (numbers c.in-Some.class.fields)) ≡ c.classes.at + 4 + 2 * c.len.result = omega arith in
     let v : c.renew_table.new.info ≡ patched_all (exported_edits f c.classes.at (exported_class_seen c.in-Some.class)) c.classes.info =
     c.renew_table.ensures.value ∙ ap (λ at. patched_all (table_edits f at (numbers c.in-Some.class.methods)) c.classes.info) (sym p) in
-    renewing_more class_export_info (exported_edits f) exported_width (renewed_exported f) c.args.info.now (patched_all (export_edits f (export_seen c.args.export.now)) c.args.info.now) c.classes.at (exported_left c.classes.class-iterator) c.classes.info (exported_class_seen c.in-Some.class) (exported_left c.next.new.self)
+    renewing_more class_export_info (exported_edits f) exported_width (renewed_exported f) c.args.info.now
+    (patched_all (export_edits f (export_seen c.args.export.now)) c.args.info.now) c.classes.at (exported_left c.classes.class-iterator) c.classes.info
+    (exported_class_seen c.in-Some.class) (exported_left c.next.new.self)
     _ c.renew_table.new.info (exported_item f c.args.info.now) c.classes.invariant c.in-Some.ensures.steps (omega arith) v c.renew_table.ensures.long

@@ -8,4 +8,5 @@ use Rattle.cap_renewal.proofs.exports.write_methods.Given as goal
 
 abbrev pub invariant-classes : goal.invariant-classes
 invariant-classes l =
-    IsRenewing class_export_info (exported_edits (to l.news)) exported_width l.initial.info (patched_all (export_edits (to l.news) (export_seen l.export)) l.initial.info) l.at (exported_left l.class-iterator) l.info
+    IsRenewing class_export_info (exported_edits (to l.news)) exported_width l.initial.info
+    (patched_all (export_edits (to l.news) (export_seen l.export)) l.initial.info) l.at (exported_left l.class-iterator) l.info

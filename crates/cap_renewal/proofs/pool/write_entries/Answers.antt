@@ -12,18 +12,24 @@ pub entries-init : goal.entries-init
 entries-init c =
     let f = to c.args.news.now in
     let e : entries c.args.pool.now ≡ entries_left c.into_iter-entry-iterator.result = cc in
-    subst (λ xs. IsRenewing entry_info (entry_edits f) entry_width c.args.info.now (patched_all (pool_edits f (entries c.args.pool.now)) c.args.info.now) 2 xs c.args.info.now)
+    subst (λ xs. IsRenewing entry_info (entry_edits f) entry_width c.args.info.now (patched_all (pool_edits f (entries c.args.pool.now)) c.args.info.now) 2
+    xs c.args.info.now)
     e (pool_begins f c.args.info.now (entries c.args.pool.now) c.requires)
 
 pub write_entry-requires : goal.write_entry-requires
 write_entry-requires c =
     let f = to c.args.news.now in
     let n : IsNext entry_info entry_width c.args.info.now c.entries.info c.entries.at (entry_seen c.in-Some.entry) =
-    renewing_next entry_info (entry_edits f) entry_width (renewed_entry f) c.args.info.now (patched_all (pool_edits f (entries c.args.pool.now)) c.args.info.now) c.entries.at (entries_left c.entries.entry-iterator) c.entries.info (entry_seen c.in-Some.entry) (entries_left c.next.new.self) (entry_item f c.args.info.now) c.entries.invariant c.in-Some.ensures.steps in
+    renewing_next entry_info (entry_edits f) entry_width (renewed_entry f) c.args.info.now
+    (patched_all (pool_edits f (entries c.args.pool.now)) c.args.info.now) c.entries.at (entries_left c.entries.entry-iterator) c.entries.info
+    (entry_seen c.in-Some.entry) (entries_left c.next.new.self) (entry_item f c.args.info.now) c.entries.invariant c.in-Some.ensures.steps in
     n.within
 
 pub entries-preserved : goal.entries-preserved
 entries-preserved c =
     let f = to c.args.news.now in
-    renewing_more entry_info (entry_edits f) entry_width (renewed_entry f) c.args.info.now (patched_all (pool_edits f (entries c.args.pool.now)) c.args.info.now) c.entries.at (entries_left c.entries.entry-iterator) c.entries.info (entry_seen c.in-Some.entry) (entries_left c.next.new.self)
-    (c.entries.at + 4) c.write_entry.new.info (entry_item f c.args.info.now) c.entries.invariant c.in-Some.ensures.steps refl c.write_entry.ensures.value c.write_entry.ensures.long
+    renewing_more entry_info (entry_edits f) entry_width (renewed_entry f) c.args.info.now
+    (patched_all (pool_edits f (entries c.args.pool.now)) c.args.info.now) c.entries.at (entries_left c.entries.entry-iterator) c.entries.info
+    (entry_seen c.in-Some.entry) (entries_left c.next.new.self)
+    (c.entries.at + 4) c.write_entry.new.info (entry_item f c.args.info.now) c.entries.invariant c.in-Some.ensures.steps refl c.write_entry.ensures.value
+    c.write_entry.ensures.long

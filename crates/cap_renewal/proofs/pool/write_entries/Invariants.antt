@@ -8,4 +8,5 @@ use Rattle.cap_renewal.proofs.pool.write_entries.Given as goal
 
 abbrev pub invariant-entries : goal.invariant-entries
 invariant-entries l =
-    IsRenewing entry_info (entry_edits (to l.news)) entry_width l.initial.info (patched_all (pool_edits (to l.news) (entries l.pool)) l.initial.info) l.at (entries_left l.entry-iterator) l.info
+    IsRenewing entry_info (entry_edits (to l.news)) entry_width l.initial.info (patched_all (pool_edits (to l.news) (entries l.pool)) l.initial.info) l.at
+    (entries_left l.entry-iterator) l.info

@@ -24,6 +24,9 @@ loop-word-preserved c =
     let whole = c.loop-word.invariant.whole in
     let seen = map (λ w. w.now) c.loop-word.yielded in
     record {
-      so_far = rw (items, map-append, map-append) (words_and_one seen (map argument_read c.loop-word.args.items) c.in-Some.word.now (argument_read c.in-Some-2.arg) c.loop-word.invariant.so_far found);
+      so_far =
+          rw (items, map-append, map-append)
+          (words_and_one seen (map argument_read c.loop-word.args.items) c.in-Some.word.now (argument_read c.in-Some-2.arg) c.loop-word.invariant.so_far
+          found);
       whole = rw (map-append, append_assoc) (ap (λ ws. seen ++ ws) (sym left) ∙ whole);
     }

@@ -11,5 +11,6 @@ pub returns-then-folder_word : goal.returns-then-folder_word
 returns-then-folder_word c =
     let rest = words_left c.next.new.self in
     let names : IsFolderWord c.in-Some.first.now = search rules in
-    let visit = cases_from_all c.all.new.self _ c.all.result IsFolderWord (λ w. IsFolderWord w → ⊥) c.all.ensures.ran (YieldsList-from_first (λ y. y.now) words_left rest refl) (λ x q k. search (rules, tests)) (λ x q k. search (rules, tests)) in
+    let visit = cases_from_all c.all.new.self _ c.all.result IsFolderWord (λ w. IsFolderWord w → ⊥) c.all.ensures.ran
+    (YieldsList-from_first (λ y. y.now) words_left rest refl) (λ x q k. search (rules, tests)) (λ x q k. search (rules, tests)) in
     tells_folders c.all.result _ c.in-Some.first.now rest c.in-Some.ensures.steps names visit

@@ -17,9 +17,12 @@ returns c =
     let p = c.args.package.now in
     let ls = c.args.laid.now in
     let ms = c.in_ok-members.members.items in
-    let bytes : c.info.result.bytes.now ≡ p.methods.info = ap (λ (v : View). v.bytes.now) c.info.ensures ∙ ap (λ (m : Methods). m.info) c.methods-methods.ensures in
-    let set : holds c.interface_offsets-interfaces.result ≡ names_interface p.classes = c.interface_offsets-interfaces.ensures ∙ ap names_interface c.classes.ensures.items in
-    let items : (descriptor_seen c.descriptor.result).classes ≡ p.description.items.classes = ap (λ (d : Description). d.items.classes) c.descriptor.ensures in
+    let bytes : c.info.result.bytes.now ≡ p.methods.info = ap (λ (v : View). v.bytes.now) c.info.ensures
+    ∙ ap (λ (m : Methods). m.info) c.methods-methods.ensures in
+    let set : holds c.interface_offsets-interfaces.result ≡ names_interface p.classes = c.interface_offsets-interfaces.ensures
+    ∙ ap names_interface c.classes.ensures.items in
+    let items : (descriptor_seen c.descriptor.result).classes ≡ p.description.items.classes = ap (λ (d : Description). d.items.classes)
+    c.descriptor.ensures in
     let are : map member_seen ms ≡ seen_package p ls =
     c.in_ok-members.ensures ∙ ap (λ (s : ℕ → Bool). seen_classes s c.info.result.bytes.now (descriptor_seen c.descriptor.result).classes ls) set
     ∙ ap (λ (b : List ℕ). seen_classes (names_interface p.classes) b (descriptor_seen c.descriptor.result).classes ls) bytes

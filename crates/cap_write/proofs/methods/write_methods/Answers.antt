@@ -16,11 +16,15 @@ returns-in-None-clause-long c =
     let ms = c.args.members.now in
     let size = length p.methods.info in
     let room = length p.methods.handlers in
-    let bytes : c.info.result.bytes.now ≡ p.methods.info = ap (λ (v : View). v.bytes.now) c.info.ensures ∙ ap (λ (m : Methods). m.info) c.methods-methods.ensures in
+    let bytes : c.info.result.bytes.now ≡ p.methods.info = ap (λ (v : View). v.bytes.now) c.info.ensures
+    ∙ ap (λ (m : Methods). m.info) c.methods-methods.ensures in
     let handlers : c.handler_count-room.result ≡ room = c.handler_count-room.ensures ∙ ap (λ (m : Methods). length m.handlers) c.methods-methods.ensures in
-    let none : WritesMethods (length c.info.result.bytes.now) c.handler_count-room.result ms None = subst (WritesMethods (length c.info.result.bytes.now) c.handler_count-room.result ms) c.in-None.is c.in_ok-written.ensures in
+    let none : WritesMethods (length c.info.result.bytes.now) c.handler_count-room.result ms None = subst
+    (WritesMethods (length c.info.result.bytes.now) c.handler_count-room.result ms) c.in-None.is c.in_ok-written.ensures in
     record {
-      long = subst (λ (n : ℕ). 65535 < written_size size n ms) handlers (subst (λ (b : List ℕ). 65535 < written_size (length b) c.handler_count-room.result ms) bytes none);
+      long =
+          subst (λ (n : ℕ). 65535 < written_size size n ms) handlers
+          (subst (λ (b : List ℕ). 65535 < written_size (length b) c.handler_count-room.result ms) bytes none);
       plain = c.plain_component.ensures;
       least = subst (λ n. written_size size room ms ≤ n) (sym c.plain_component.ensures) (plain_least size room ms);
     }

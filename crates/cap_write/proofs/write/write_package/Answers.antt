@@ -19,7 +19,9 @@ all_parts-requires c =
     let short = w.short in
     record {
       methods = omega arith;
-      references = subst (λ xs. length xs ≤ 65535) (sym w.references) (references_short (length p.methods.info) (length p.methods.handlers) c.deref-2.result.now w.short);
+      references =
+          subst (λ xs. length xs ≤ 65535) (sym w.references)
+          (references_short (length p.methods.info) (length p.methods.handlers) c.deref-2.result.now w.short);
       index = index_short p c.args.laid.now (index_seen c.in_ok-index.index) c.in_ok-index.ensures;
     }
 
@@ -32,17 +34,24 @@ pub returns-clause-written : goal.returns-clause-written
 returns-clause-written c =
     let p = c.args.package.now in
     let ms = c.in_ok-members.members.items in
-    let w : IsWrittenAs (length p.methods.info) (length p.methods.handlers) ms c.in_ok-written.written = subst (λ xs. IsWrittenAs (length p.methods.info) (length p.methods.handlers) xs c.in_ok-written.written) c.deref-2.ensures.value c.in_ok-written.ensures.ok in
+    let w : IsWrittenAs (length p.methods.info) (length p.methods.handlers) ms c.in_ok-written.written = subst
+    (λ xs. IsWrittenAs (length p.methods.info) (length p.methods.handlers) xs c.in_ok-written.written) c.deref-2.ensures.value
+    c.in_ok-written.ensures.ok in
     let fit : MembersFit ms = subst MembersFit c.deref.ensures.value c.members_fit.ensures.pools in
-    written_of p c.args.laid.now ms c.in_ok-written.written (index_seen c.in_ok-index.index) c.in_ok-parts.parts c.in_ok-members.ensures fit w c.in_ok-index.ensures c.in_ok-parts.ensures
+    written_of p c.args.laid.now ms c.in_ok-written.written (index_seen c.in_ok-index.index) c.in_ok-parts.parts c.in_ok-members.ensures fit w
+    c.in_ok-index.ensures c.in_ok-parts.ensures
 
 pub returns-clause-again : goal.returns-clause-again
 returns-clause-again c =
     let p = c.args.package.now in
     let ls = c.args.laid.now in
     let ms = c.in_ok-members.members.items in
-    let w : IsWrittenAs (length p.methods.info) (length p.methods.handlers) ms c.in_ok-written.written = subst (λ xs. IsWrittenAs (length p.methods.info) (length p.methods.handlers) xs c.in_ok-written.written) c.deref-2.ensures.value c.in_ok-written.ensures.ok in
+    let w : IsWrittenAs (length p.methods.info) (length p.methods.handlers) ms c.in_ok-written.written = subst
+    (λ xs. IsWrittenAs (length p.methods.info) (length p.methods.handlers) xs c.in_ok-written.written) c.deref-2.ensures.value
+    c.in_ok-written.ensures.ok in
     let pools : MembersFit ms = subst MembersFit c.deref.ensures.value c.members_fit.ensures.pools in
     let stacks : StacksFit ms = subst StacksFit c.deref.ensures.value c.members_fit.ensures.stacks in
-    let whole = are_written p ls ms c.in_ok-written.written (index_seen c.in_ok-index.index) c.in_ok-parts.parts c.in_ok-members.ensures pools w c.in_ok-parts.ensures in
-    again c.rewritten_is_a_package.ensures c.writing_rewrites.ensures p ls ms (index_seen c.in_ok-index.index) c.in_ok-parts.parts c.parts-parts.ensures.agree c.directory_fits.ensures c.requires stacks c.in_ok-members.ensures c.in_ok-index.ensures whole
+    let whole = are_written p ls ms c.in_ok-written.written (index_seen c.in_ok-index.index) c.in_ok-parts.parts c.in_ok-members.ensures pools w
+    c.in_ok-parts.ensures in
+    again c.rewritten_is_a_package.ensures c.writing_rewrites.ensures p ls ms (index_seen c.in_ok-index.index) c.in_ok-parts.parts
+    c.parts-parts.ensures.agree c.directory_fits.ensures c.requires stacks c.in_ok-members.ensures c.in_ok-index.ensures whole

@@ -7,7 +7,9 @@ pub methods-preserved : goal.methods-preserved
 methods-preserved c =
     let most = c.methods.invariant.most in
     record {
-      counts = one_counted c.args.world.now c.methods.number c.methods.count c.from-count.result c.has_code.result c.has_code.ensures c.from-count.ensures c.methods.invariant.counts;
+      counts =
+          one_counted c.args.world.now c.methods.number c.methods.count c.from-count.result c.has_code.result c.has_code.ensures c.from-count.ensures
+          c.methods.invariant.counts;
       most = search rules;
     }
 

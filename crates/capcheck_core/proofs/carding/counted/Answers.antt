@@ -16,5 +16,6 @@ done w (Err e) line verdict all says is = subst (AcceptsWorld w) (sym is) (tt {0
 pub returns : goal.returns
 returns c =
     done c.args.world.now c.accepted.result _ c.done.result
-    (λ said prints. carded c.args.world.now c.count_of_world.result said c.requires c.typed_code_never_fails.ensures.fault_free c.count_of_world.ensures prints)
+    (λ said prints. carded c.args.world.now c.count_of_world.result said c.requires c.typed_code_never_fails.ensures.fault_free c.count_of_world.ensures
+    prints)
     c.accepted.ensures c.done.ensures

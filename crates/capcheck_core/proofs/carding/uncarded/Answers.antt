@@ -16,5 +16,6 @@ refused w (Err e) line verdict first says is = subst (StopsAtRefused w) (sym is)
 pub returns : goal.returns
 returns c =
     refused c.args.world.now c.refused_card.result _ c.refused.result
-    (λ said prints. first_uncarded c.args.world.now c.args.number c.args.fault c.code-code.result.now c.number_of.result said c.requires c.code-code.ensures.is c.code-code.ensures.len c.number_of.ensures prints)
+    (λ said prints. first_uncarded c.args.world.now c.args.number c.args.fault c.code-code.result.now c.number_of.result said c.requires
+    c.code-code.ensures.is c.code-code.ensures.len c.number_of.ensures prints)
     c.refused_card.ensures c.refused.ensures

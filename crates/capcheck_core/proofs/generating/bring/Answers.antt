@@ -21,4 +21,5 @@ returns-in-Err g c =
     let linked = subst (λ ps. IsLinked ps roles w) c.requires.packages c.requires.linked in
     let stops = subst (λ ps. StopsBefore ps w c.untransformed.result) c.requires.packages c.untransformed.ensures in
     let now = outside (g.F.Folder.folders c.args.folder.now) (card c.args.ram.now c.args.heap.now c.args.statics.now) in
-    unbrought (generate_request c.args.operands.now) w linked c.packages_link.ensures.typed now now c.untransformed.result (record { folders = refl; card = refl }) stops
+    unbrought (generate_request c.args.operands.now) w linked c.packages_link.ensures.typed now now c.untransformed.result
+    (record { folders = refl; card = refl }) stops

@@ -13,13 +13,15 @@ sum_of-requires-clause-carded c = carded_there c.args._seed c.args.world.now c.a
 
 pub sum_of-requires-clause-entries : goal.sum_of-requires-clause-entries
 sum_of-requires-clause-entries c =
-    entries_there c.args._seed c.args.world.now c.args.new.now c.args._parts.now c.args.made_size c.requires.linked c.classes-whole.ensures.links c.requires.made
+    entries_there c.args._seed c.args.world.now c.args.new.now c.args._parts.now c.args.made_size c.requires.linked c.classes-whole.ensures.links
+    c.requires.made
     c.starts_refuse_alike.ensures.refused c.starts_refuse_alike.ensures.numbered
 
 pub returns-in-Ok : goal.returns-in-Ok
 returns-in-Ok c =
     let same : to_z w32 (of_z w32 c.in-Ok.sum) ≡ c.in-Ok.sum = to_z-of_z w32 c.in-Ok.sum (search rules) in
-    told_of c.args._seed c.args.world.now c.args.new.now c.args._parts.now (card c.args.ram.now c.args.heap.now c.args.statics.now) (card c.sum_of.new.ram c.sum_of.new.heap c.sum_of.new.statics) c.args.size c.args.made_size
+    told_of c.args._seed c.args.world.now c.args.new.now c.args._parts.now (card c.args.ram.now c.args.heap.now c.args.statics.now)
+    (card c.sum_of.new.ram c.sum_of.new.heap c.sum_of.new.statics) c.args.size c.args.made_size
     c.in-Ok.sum c.generated.result c.done.result c.requires.made c.requires.size c.in-Ok.ensures.runs
     (subst (λ z. IfOk c.generated.result (λ t. string_bytes t ≡ generate_text c.args.size c.args.made_size z)) same c.generated.ensures) c.done.ensures
 

@@ -16,8 +16,10 @@ returns-in-Err-clause-loads g c =
     let high = c.end_of-end.ensures.high in
     let asked : is_asked (first ++ c.tags.rest) c.tags.tag ≡ true
     = kept_asked c.tags.tag first (first ++ c.tags.rest) c.tags.invariant.kept ∙ sym c.asks.ensures ∙ c.if-asks.true in
-    stopped_there (g.F.Folder.folders c.args.folder.now) (g.F.Folder.folders c.tags.folder) (g.F.Folder.folders c.load_file.new.folder) c.args.dir.now c.tags.tag
-    (first ++ c.tags.rest) c.tags.rest c.load_file.new.parts c.in-Err.stop (omega (arith, high)) c.tags.invariant.loaded c.tags.invariant.same asked c.in-Err.ensures.loads
+    stopped_there (g.F.Folder.folders c.args.folder.now) (g.F.Folder.folders c.tags.folder) (g.F.Folder.folders c.load_file.new.folder) c.args.dir.now
+    c.tags.tag
+    (first ++ c.tags.rest) c.tags.rest c.load_file.new.parts c.in-Err.stop (omega (arith, high)) c.tags.invariant.loaded c.tags.invariant.same asked
+    c.in-Err.ensures.loads
 
 pub tags-preserved : goal.tags-preserved
 tags-preserved g c =
@@ -30,10 +32,12 @@ tags-preserved g c =
           let added = added_after now c.args.dir.now c.tags.tag first c.tags.rest w.load_file.new.parts w.in-Ok.ensures.loads in
           record {
             loaded = subst (λ r. AreLoaded before c.args.dir.now (c.tags.tag + 1) (first ++ r)) (sym w.rest-is)
-                (one_more before now c.args.dir.now c.tags.tag (first ++ c.tags.rest) (first ++ w.load_file.new.parts) c.tags.invariant.loaded c.tags.invariant.same
+                (one_more before now c.args.dir.now c.tags.tag (first ++ c.tags.rest) (first ++ w.load_file.new.parts) c.tags.invariant.loaded
+                c.tags.invariant.same
                 (same ∙ w.if-asks.true) added);
             kept = subst (λ r. Kept first (first ++ r)) (sym w.rest-is)
-                (kept_more now c.args.dir.now c.tags.tag first (first ++ c.tags.rest) (first ++ w.load_file.new.parts) (omega arith) c.tags.invariant.kept added);
+                (kept_more now c.args.dir.now c.tags.tag first (first ++ c.tags.rest) (first ++ w.load_file.new.parts) (omega arith) c.tags.invariant.kept
+                added);
             same = ap g.F.Folder.folders w.folder-is ∙ w.in-Ok.ensures.folders ∙ c.tags.invariant.same;
           }
       | else-asks w ↦ record {
@@ -51,8 +55,11 @@ returns-clause-loads g c =
     let low = c.end_of-end.ensures.low in
     let end : c.tags.tag ≡ c.end_of-end.result = omega (arith, low) in
     record {
-      loaded = loaded_all (g.F.Folder.folders c.args.folder.now) c.args.dir.now c.tags.tag (first ++ c.tags.rest) (omega (arith, high, end)) c.tags.invariant.loaded
-          (λ tag from below. kept_asked tag first (first ++ c.tags.rest) c.tags.invariant.kept ∙ c.end_of-end.ensures.none tag (omega (arith, from, end)) below);
+      loaded =
+          loaded_all (g.F.Folder.folders c.args.folder.now) c.args.dir.now c.tags.tag (first ++ c.tags.rest) (omega (arith, high, end))
+          c.tags.invariant.loaded
+          (λ tag from below. kept_asked tag first (first ++ c.tags.rest) c.tags.invariant.kept ∙ c.end_of-end.ensures.none tag (omega (arith, from, end))
+          below);
       header = c.tags.invariant.kept.0;
       directory = c.tags.invariant.kept.1;
     }

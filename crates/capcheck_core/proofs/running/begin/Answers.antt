@@ -8,7 +8,8 @@ use Rattle.capcheck_core.proofs.Ran.{card_same}
 use Rattle.capcheck_core.proofs.running.begin.Goals as goal
 
 pub returns-in-Ok-clause-runs : goal.returns-in-Ok-clause-runs
-returns-in-Ok-clause-runs c = record { carded = all_carded c.args.accepted.now c.requires.accepted; fault_free = c.start.ensures.fault_free; left = c.go_on.ensures }
+returns-in-Ok-clause-runs c =
+    record { carded = all_carded c.args.accepted.now c.requires.accepted; fault_free = c.start.ensures.fault_free; left = c.go_on.ensures }
 
 pub returns-in-Err-clause-runs : goal.returns-in-Err-clause-runs
 returns-in-Err-clause-runs c = (

@@ -28,5 +28,6 @@ returns c =
     left w c.args.number r c.args.machine c.args.ram.now c.args.heap.now c.args.statics.now c.args.text.now c.write_left.new.text c.run-ending.result
     c.requires.entered c.requires.begun c.run-ending.new.self c.run-ending.new.ram c.run-ending.new.heap c.run-ending.new.statics follows
     (subst TextsAreAlike c.world.ensures.is c.texts_are_alike.ensures) c.requires.empty
-    (written_in w c.world-2.result.now c.run-ending.new.heap c.run-ending.new.statics c.run-ending.new.self.counts c.run-ending.result c.args.text.now c.write_left.new.text
+    (written_in w c.world-2.result.now c.run-ending.new.heap c.run-ending.new.statics c.run-ending.new.self.counts c.run-ending.result c.args.text.now
+    c.write_left.new.text
     c.world-2.ensures.is c.write_left.ensures)

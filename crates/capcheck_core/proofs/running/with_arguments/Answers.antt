@@ -5,4 +5,5 @@ use Rattle.capcheck_core.proofs.running.with_arguments.Goals as goal
 
 pub returns-in-Ok-clause-runs : goal.returns-in-Ok-clause-runs
 returns-in-Ok-clause-runs c =
-    with_memory c.args.world.now (bounded_request c.args.run.now) (card c.with_room.new.ram c.with_room.new.heap c.with_room.new.statics) c.with_room.result c.with_room.ensures.runs
+    with_memory c.args.world.now (bounded_request c.args.run.now) (card c.with_room.new.ram c.with_room.new.heap c.with_room.new.statics) c.with_room.result
+    c.with_room.ensures.runs

@@ -5,6 +5,8 @@ use Rattle.capcheck_core.proofs.show.show.Goals as goal
 
 pub returns-in-Err : goal.returns-in-Err
 returns-in-Err g c = record {
-  answers = stop_shown (show_request c.args.show.now) (g.F.Folder.folders c.args.folder.now) (g.F.Folder.folders c.show_package.new.folder) c.in-Err.stop c.verdict.result
+  answers =
+      stop_shown (show_request c.args.show.now) (g.F.Folder.folders c.args.folder.now) (g.F.Folder.folders c.show_package.new.folder) c.in-Err.stop
+      c.verdict.result
       c.in-Err.ensures c.verdict.ensures;
 }

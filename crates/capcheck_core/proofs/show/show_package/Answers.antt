@@ -24,7 +24,8 @@ load_others-requires-clause-first g c =
 
 pub lend_after-requires : goal.lend_after-requires
 lend_after-requires g c =
-    lent_once (g.F.Folder.folders c.load_opening.new.folder) (show_request c.args.show.now).dir c.in_ok-opened.opened c.in_ok-rest.rest c.in_ok-rest.ensures.loads
+    lent_once (g.F.Folder.folders c.load_opening.new.folder) (show_request c.args.show.now).dir c.in_ok-opened.opened c.in_ok-rest.rest
+    c.in_ok-rest.ensures.loads
 
 pub read_parts-requires : goal.read_parts-requires
 read_parts-requires g c =
@@ -37,7 +38,8 @@ returns-in_err-package g c =
     let dir = (show_request c.args.show.now).dir in
     let p = err_from_is_err_and c.from_residual-in_err-package.result c.from_residual-in_err-package.ensures.1 in
     rw (p.1, p.2)
-    (reading_leaves before (g.F.Folder.folders c.load_others.new.folder) dir c.in_ok-parts.parts 0 _ (c.in_ok-rest.ensures.folders ∙ c.in_ok-first.ensures.folders)
+    (reading_leaves before (g.F.Folder.folders c.load_others.new.folder) dir c.in_ok-parts.parts 0 _
+    (c.in_ok-rest.ensures.folders ∙ c.in_ok-first.ensures.folders)
     (lent_parts before (g.F.Folder.folders c.load_opening.new.folder) dir c.in_ok-opened.opened c.in_ok-rest.rest c.in_ok-parts.parts
     c.in_ok-first.ensures.folders c.in_ok-parts.ensures c.in_ok-rest.ensures.loads)
     c.in_err-package.ensures)

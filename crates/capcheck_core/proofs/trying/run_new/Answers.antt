@@ -39,7 +39,8 @@ returns-in-Ok-clause-kept c =
     let target = string_bytes c.in-Ok.target in
     let runs = subst (RunsWorldIn c.args.new.now (with_budget (steps_each * c.from-steps.result) r) left) c.in-Ok.ensures c.run_in_card-verdict.ensures.runs in
     let both = tried c.args._packages.now c.args._roles c.args.world.now c.args._parts.now c.args.new.now r (steps_each * c.from-steps.result) left
-    c.args.source.now target (trial_text c.args.source.now target) c.requires.made (ap (λ n. steps_each * n) c.from-steps.ensures) c.requires.defended runs refl in
+    c.args.source.now target (trial_text c.args.source.now target) c.requires.made (ap (λ n. steps_each * n) c.from-steps.ensures) c.requires.defended runs
+    refl in
     said string_bytes Done (IsUntriedKept c.args._packages.now c.args._roles c.args.world.now r before left) c.tried.result
     (trial_text c.args.source.now c.as_str.result.now) c.done.result (inr (trial_text c.args.source.now target, both)) (λ t prints. tt {0})
     c.tried.ensures c.done.ensures

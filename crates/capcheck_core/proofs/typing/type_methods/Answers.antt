@@ -14,7 +14,9 @@ methods-preserved c =
     let most = c.methods.invariant.most in
     record {
       typed = one_more c.args.world.now c.methods.number c.methods.invariant.typed c.in-Ok.ensures.typed;
-      counts = one_counted c.args.world.now c.methods.number c.methods.count c.from-count.result c.in-Ok.asked c.in-Ok.ensures.counts c.from-count.ensures c.methods.invariant.counts;
+      counts =
+          one_counted c.args.world.now c.methods.number c.methods.count c.from-count.result c.in-Ok.asked c.in-Ok.ensures.counts c.from-count.ensures
+          c.methods.invariant.counts;
       most = search rules;
     }
 
@@ -26,5 +28,6 @@ done w (Err e) line verdict all says is = subst (TypesWorld w) (sym is) (tt {0})
 pub returns : goal.returns
 returns c =
     done c.args.world.now c.typed.result _ c.done.result
-    (λ said prints. all_typed c.args.world.now c.methods.number c.methods.count said c.methods.invariant.typed (omega (arith, c.method_count-number-end.ensures.is)) c.methods.invariant.counts prints)
+    (λ said prints. all_typed c.args.world.now c.methods.number c.methods.count said c.methods.invariant.typed
+    (omega (arith, c.method_count-number-end.ensures.is)) c.methods.invariant.counts prints)
     c.typed.ensures c.done.ensures

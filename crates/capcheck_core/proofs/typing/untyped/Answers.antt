@@ -17,5 +17,6 @@ refused w (Err e) line verdict first says is = subst (TypesWorld w) (sym is) (tt
 pub returns-in_default : goal.returns-in_default
 returns-in_default c =
     refused c.args.world.now c.refused_flow.result _ c.refused.result
-    (λ said prints. first_untyped c.args.world.now c.args.number c.args.end c.number_of.result said c.requires.earlier c.requires.fails c.in_default.not-Memory c.number_of.ensures prints)
+    (λ said prints. first_untyped c.args.world.now c.args.number c.args.end c.number_of.result said c.requires.earlier c.requires.fails
+    c.in_default.not-Memory c.number_of.ensures prints)
     c.refused_flow.ensures c.refused.ensures

@@ -44,7 +44,9 @@ over_parts-returns-in_err-roles g t c =
     let before = g.F.Folder.folders c.args.folder.now in
     let p = err_from_is_err_and c.from_residual-in_err-roles.result c.from_residual-in_err-roles.ensures.1 in
     rw (p.1, p.2) (record {
-      stops = stops_roles before (g.F.Folder.folders c.roles_beside.new.folder) c.args.dir.now c.args.roles (length c.args.packages) (words_left c.args.others) _
+      stops =
+          stops_roles before (g.F.Folder.folders c.roles_beside.new.folder) c.args.dir.now c.args.roles (length c.args.packages) (words_left c.args.others)
+          _
           (has_package before c.args.dir.now c.args.parts.now c.in_ok-package.package (search rules) c.in_ok-package.ensures) c.in_err-roles.ensures.loads;
       leaves = c.in_err-roles.ensures.folders;
       card = refl;
@@ -52,8 +54,10 @@ over_parts-returns-in_err-roles g t c =
 
 pub over_parts-returns : goal.over_parts-returns
 over_parts-returns g t c =
-    goes_on (OwnAnswers c.args.step) (g.F.Folder.folders c.args.folder.now) (card c.args.ram.now c.args.heap.now c.args.statics.now) c.args.dir.now (words_left c.args.others)
+    goes_on (OwnAnswers c.args.step) (g.F.Folder.folders c.args.folder.now) (card c.args.ram.now c.args.heap.now c.args.statics.now) c.args.dir.now
+    (words_left c.args.others)
     c.args.packages c.args.roles (g.F.Folder.folders c.roles_beside.new.folder)
     (outside (g.F.Folder.folders c.over_others.new.folder) (card c.over_others.new.ram c.over_others.new.heap c.over_others.new.statics))
-    c.args.parts.now c.in_ok-package.package c.in_ok-roles.roles c.push.new.self c.over_others.result (search rules) (search rules) c.in_ok-package.ensures c.in_ok-roles.ensures.loads
+    c.args.parts.now c.in_ok-package.package c.in_ok-roles.roles c.push.new.self c.over_others.result (search rules) (search rules) c.in_ok-package.ensures
+    c.in_ok-roles.ensures.loads
     c.in_ok-roles.ensures.folders c.in_ok-push.ensures.ok c.over_others.ensures

@@ -10,11 +10,13 @@ pub returns-clause-flow : goal.returns-clause-flow
 returns-clause-flow c = card-is-flow c.args.world.now c.rule_laws.ensures c.instructions_are_placed.ensures
 
 pub returns-clause-met : goal.returns-clause-met
-returns-clause-met c = met-is-below c.args.world.now (record { rules = c.rule_laws.ensures; falls = c.rule_falls.ensures.card; stays = c.rule_raises.ensures.stays })
+returns-clause-met c =
+    met-is-below c.args.world.now (record { rules = c.rule_laws.ensures; falls = c.rule_falls.ensures.card; stays = c.rule_raises.ensures.stays })
 
 pub returns-clause-refused : goal.returns-clause-refused
 returns-clause-refused c =
-    refusal-denies c.args.world.now (record { rules = c.rule_laws.ensures; falls = c.rule_falls.ensures.card; stays = c.rule_raises.ensures.stays }) c.flaws_decide.ensures
+    refusal-denies c.args.world.now (record { rules = c.rule_laws.ensures; falls = c.rule_falls.ensures.card; stays = c.rule_raises.ensures.stays })
+    c.flaws_decide.ensures
 
 pub returns-clause-one : goal.returns-clause-one
 returns-clause-one c = refusal-one c.args.world.now c.rule_laws.ensures c.first_flaw_is_one.ensures

@@ -9,7 +9,9 @@ methods-init c = record { accepted = λ n lt. absurd (omega (arith, lt)); counte
 pub methods-preserved : goal.methods-preserved
 methods-preserved c = record {
   accepted = accepted-more c.args.world.now c.methods.method c.methods.invariant.accepted c.in-Ok.ensures.accepted;
-  counted = counts-by c.args.world.now c.methods.method c.methods.by_index c.methods.invariant.counted c.in-Ok.by c.from-by_index.result c.from-by_index.ensures c.in-Ok.ensures.by_index;
+  counted =
+      counts-by c.args.world.now c.methods.method c.methods.by_index c.methods.invariant.counted c.in-Ok.by c.from-by_index.result c.from-by_index.ensures
+      c.in-Ok.ensures.by_index;
   most = count-most c.methods.method c.methods.by_index c.methods.invariant.most c.in-Ok.by c.from-by_index.result c.from-by_index.ensures;
 }
 

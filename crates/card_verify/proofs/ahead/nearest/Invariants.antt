@@ -6,4 +6,5 @@ use Rattle.card_verify.specs.Ahead.{nearer_target}
 use Rattle.card_verify.proofs.ahead.nearest.Given as goal
 
 abbrev pub invariant-targets : goal.invariant-targets
-invariant-targets l = fold (nearer_target l.from) l.best (rest_of l.target-iterator) ≡ fold (nearer_target l.from) l.initial.best (targets l.code.bytes.now l.fn.placed)
+invariant-targets l =
+    fold (nearer_target l.from) l.best (rest_of l.target-iterator) ≡ fold (nearer_target l.from) l.initial.best (targets l.code.bytes.now l.fn.placed)

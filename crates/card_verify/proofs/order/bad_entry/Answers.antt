@@ -14,13 +14,15 @@ entries-init g c =
 pub returns-then-place-least-clause-bad : goal.returns-then-place-least-clause-bad
 returns-then-place-least-clause-bad g c =
     let code = c.args.code.bytes.now in
-    ordered-low code c.args.index.now (c.instructions_are_listed.ensures code) c.entries.k c.entries.least (rest_of c.entries.left) c.entries.invariant.ordered c.from-place.result
+    ordered-low code c.args.index.now (c.instructions_are_listed.ensures code) c.entries.k c.entries.least (rest_of c.entries.left)
+    c.entries.invariant.ordered c.from-place.result
     (c.entry.ensures.is ∙ ap Some (sym c.from-place.ensures)) c.if-place-least.true
 
 pub returns-then-not-seek-clause-bad : goal.returns-then-not-seek-clause-bad
 returns-then-not-seek-clause-bad g c =
     let code = c.args.code.bytes.now in
-    ordered-none code c.args.index.now (c.instructions_are_listed.ensures code) c.entries.k c.entries.least (rest_of c.entries.left) c.entries.invariant.ordered c.from-place.result
+    ordered-none code c.args.index.now (c.instructions_are_listed.ensures code) c.entries.k c.entries.least (rest_of c.entries.left)
+    c.entries.invariant.ordered c.from-place.result
     (c.entry.ensures.is ∙ ap Some (sym c.from-place.ensures)) c.if-place-least.false c.if-not-seek.ensures
 
 pub returns-then-place-least-clause-read_to : goal.returns-then-place-least-clause-read_to
@@ -33,7 +35,9 @@ pub entries-preserved : goal.entries-preserved
 entries-preserved g c =
     let code = c.args.code.bytes.now in
     record {
-      ordered = ordered-next code c.args.index.now (c.instructions_are_listed.ensures code) c.entries.k c.entries.least (rest_of c.entries.left) c.entries.invariant.ordered c.from-place.result
+      ordered =
+          ordered-next code c.args.index.now (c.instructions_are_listed.ensures code) c.entries.k c.entries.least (rest_of c.entries.left)
+          c.entries.invariant.ordered c.from-place.result
           (c.entry.ensures.is ∙ ap Some (sym c.from-place.ensures)) (rest_of c.seek.new.left) c.if-place-least.false c.if-not-seek.ensures;
       cost = omega (arith, c.entry.ensures.one, c.entries.invariant.cost);
     }
@@ -41,13 +45,15 @@ entries-preserved g c =
 pub returns-clause-ascending : goal.returns-clause-ascending
 returns-clause-ascending g c =
     let code = c.args.code.bytes.now in
-    ordered-ascending code c.args.index.now (c.instructions_are_listed.ensures code) c.entries.k c.entries.least (rest_of c.entries.left) c.entries.invariant.ordered
+    ordered-ascending code c.args.index.now (c.instructions_are_listed.ensures code) c.entries.k c.entries.least (rest_of c.entries.left)
+    c.entries.invariant.ordered
     (omega (arith, c.entries-test.false, c.len-k-end.ensures))
 
 pub returns-clause-places : goal.returns-clause-places
 returns-clause-places g c =
     let code = c.args.code.bytes.now in
-    ordered-places code c.args.index.now (c.instructions_are_listed.ensures code) c.entries.k c.entries.least (rest_of c.entries.left) c.entries.invariant.ordered
+    ordered-places code c.args.index.now (c.instructions_are_listed.ensures code) c.entries.k c.entries.least (rest_of c.entries.left)
+    c.entries.invariant.ordered
     (omega (arith, c.entries-test.false, c.len-k-end.ensures))
 
 pub returns-clause-read : goal.returns-clause-read

@@ -16,14 +16,16 @@ pub first_lacking_of-requires-clause-decoded : goal.first_lacking_of-requires-cl
 first_lacking_of-requires-clause-decoded g c =
     let code = c.args.code.bytes.now in
     let i = c.in-Some.placed in
-    let whole = at-next c.walk.yielded (rest_of c.walk.placed-iterator) i (rest_of c.next.new.self) (listing code) c.walk.invariant.whole c.in-Some.ensures.steps in
+    let whole = at-next c.walk.yielded (rest_of c.walk.placed-iterator) i (rest_of c.next.new.self) (listing code) c.walk.invariant.whole
+    c.in-Some.ensures.steps in
     (c.instructions_are_listed.ensures code).decodes i (contained-in c.walk.yielded i (rest_of c.next.new.self) (listing code) whole)
 
 pub returns-in-Some-first_lacking_of-clause-some : goal.returns-in-Some-first_lacking_of-clause-some
 returns-in-Some-first_lacking_of-clause-some g c =
     let code = c.args.code.bytes.now in
     let i = c.in-Some.placed in
-    let whole = at-next c.walk.yielded (rest_of c.walk.placed-iterator) i (rest_of c.next.new.self) (listing code) c.walk.invariant.whole c.in-Some.ensures.steps in
+    let whole = at-next c.walk.yielded (rest_of c.walk.placed-iterator) i (rest_of c.next.new.self) (listing code) c.walk.invariant.whole
+    c.in-Some.ensures.steps in
     let lacks = c.in-Some-first_lacking_of.ensures.some in
     let t = c.in-Some-first_lacking_of.target in
     let fits : FitsSigned w32 t = search rules in
@@ -41,17 +43,32 @@ pub returns-in-Some-first_lacking_of-clause-cost : goal.returns-in-Some-first_la
 returns-in-Some-first_lacking_of-clause-cost g c = λ b lt.
     let code = c.args.code.bytes.now in
     let i = c.in-Some.placed in
-    let whole = at-next c.walk.yielded (rest_of c.walk.placed-iterator) i (rest_of c.next.new.self) (listing code) c.walk.invariant.whole c.in-Some.ensures.steps in
-    omega (arith, c.walk.invariant.cost b lt, c.first_lacking_of.ensures.cost b lt, sum-within (λ j. length (targets code j)) c.walk.yielded i (rest_of c.next.new.self) (listing code) b whole)
+    let whole = at-next c.walk.yielded (rest_of c.walk.placed-iterator) i (rest_of c.next.new.self) (listing code) c.walk.invariant.whole
+    c.in-Some.ensures.steps in
+    omega (
+      arith,
+      c.walk.invariant.cost b lt,
+      c.first_lacking_of.ensures.cost b lt,
+      sum-within (λ j. length (targets code j)) c.walk.yielded i
+          (rest_of c.next.new.self) (listing code) b whole,
+    )
 
 pub walk-preserved : goal.walk-preserved
 walk-preserved g c =
     let code = c.args.code.bytes.now in
     let i = c.in-Some.placed in
-    let whole = at-next c.walk.yielded (rest_of c.walk.placed-iterator) i (rest_of c.next.new.self) (listing code) c.walk.invariant.whole c.in-Some.ensures.steps in
+    let whole = at-next c.walk.yielded (rest_of c.walk.placed-iterator) i (rest_of c.next.new.self) (listing code) c.walk.invariant.whole
+    c.in-Some.ensures.steps in
     record {
       so_far = All-push (LeadsToListed code c.args.index.now) c.walk.yielded i c.walk.invariant.so_far c.in-None-first_lacking_of.ensures.none;
       whole = go-on c.walk.yielded i (rest_of c.next.new.self) (listing code) whole;
       forward = omega (arith, c.walk.invariant.forward, c.first_lacking_of.ensures.forward);
-      cost = λ b lt. omega (arith, c.walk.invariant.cost b lt, c.first_lacking_of.ensures.cost b lt, sum-more-cost (λ j. length (targets code j)) c.walk.yielded i b);
+      cost =
+          λ b lt. omega (
+            arith,
+            c.walk.invariant.cost b lt,
+            c.first_lacking_of.ensures.cost b lt,
+            sum-more-cost (λ j. length (targets code j))
+                c.walk.yielded i b,
+          );
     }

@@ -9,7 +9,8 @@ halves-preserved-then-found-place-2 g c =
     let high = c.halves.high in (
       so_far.0 + 1,
       omega (arith, c.entry.ensures.one, so_far.1),
-      narrowed-up c.args.index.now c.requires c.args.place low high so_far.0 (low + (high - low) / 2) c.entry.result so_far.2 c.halves-test.true refl c.entry.ensures.is
+      narrowed-up c.args.index.now c.requires c.args.place low high so_far.0 (low + (high - low) / 2) c.entry.result so_far.2 c.halves-test.true refl
+          c.entry.ensures.is
           (omega (arith, c.if-found-place-2.true, c.from-found.ensures)),
     )
 
@@ -20,7 +21,8 @@ halves-preserved g c =
     let high = c.halves.high in (
       so_far.0 + 1,
       omega (arith, c.entry.ensures.one, so_far.1),
-      narrowed-down c.args.index.now c.requires c.args.place low high so_far.0 (low + (high - low) / 2) c.entry.result so_far.2 c.halves-test.true refl c.entry.ensures.is
+      narrowed-down c.args.index.now c.requires c.args.place low high so_far.0 (low + (high - low) / 2) c.entry.result so_far.2 c.halves-test.true refl
+          c.entry.ensures.is
           (above-from c.from-found.result c.args.place c.entry.result c.from-found.ensures c.if-found-place.false c.if-found-place-2.false),
     )
 

@@ -10,7 +10,9 @@ registers-preserved c =
     let inside : c.registers.x < length c.registers.regs = omega (arith, c.registers.invariant.count, c.registers-test.true) in
     record {
       count = length-set c.registers.regs c.registers.x c.declared.result ∙ c.registers.invariant.count;
-      same = started-more (start_frame c.args.rec.now Bottom).regs c.registers.regs c.registers.x c.declared.result inside c.declared.ensures c.registers.invariant.same;
+      same =
+          started-more (start_frame c.args.rec.now Bottom).regs c.registers.regs c.registers.x c.declared.result inside c.declared.ensures
+          c.registers.invariant.same;
     }
 
 pub returns : goal.returns

@@ -4,8 +4,10 @@ use Rattle.jc_base.proofs.concrete.all_have_bodies.Goals as goal
 
 pub returns-then-at : goal.returns-then-at
 returns-then-at c =
-    let inside : c.entries.n-index < length c.args.list.now = omega arith in
-    ((λ h. absurd (cc)), (λ all. absurd (bodies-none c.args.methods.now c.args.list.now c.entries.n-index _ c.at.result.now inside c.at.ensures c.if-at.true all)))
+    let inside : c.entries.n-index < length c.args.list.now = omega arith in (
+      (λ h. absurd (cc)),
+      (λ all. absurd (bodies-none c.args.methods.now c.args.list.now c.entries.n-index _ c.at.result.now inside c.at.ensures c.if-at.true all)),
+    )
 
 pub entries-preserved : goal.entries-preserved
 entries-preserved c = bodies-more _ _ _ _ _ (omega arith) c.at.ensures c.if-at.false c.entries.invariant

@@ -4,4 +4,5 @@ use Rattle.jc_base.specs.Linked.{IsLinkedClass}
 use Rattle.jc_base.proofs.concrete.record.Goals as goal
 
 pub returns-clause-links : goal.returns-clause-links
-returns-clause-links c = subst (λ o. IfSome o (IsLinkedClass 16 c.args.classes.now c.args.methods.now c.args.class)) c.at.ensures.is (c.requires.links c.args.class)
+returns-clause-links c =
+    subst (λ o. IfSome o (IsLinkedClass 16 c.args.classes.now c.args.methods.now c.args.class)) c.at.ensures.is (c.requires.links c.args.class)

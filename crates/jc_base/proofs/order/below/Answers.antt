@@ -11,7 +11,8 @@ returns-clause-apart c = λ p q. Below-antisym c.args.classes.now c.records.ensu
 
 pub returns-clause-rises : goal.returns-clause-rises
 returns-clause-rises c =
-    λ h. rises-falls c.args.classes.now c.records.ensures.chains (Below-from_is_below c.args.classes.now c.records.ensures.chains c.args.a c.args.b (sym c.is_below.ensures ∙ h))
+    λ h. rises-falls c.args.classes.now c.records.ensures.chains
+    (Below-from_is_below c.args.classes.now c.records.ensures.chains c.args.a c.args.b (sym c.is_below.ensures ∙ h))
 
 pub returns-clause-seldom : goal.returns-clause-seldom
 returns-clause-seldom c = rises-bound c.args.classes.now c.args.a

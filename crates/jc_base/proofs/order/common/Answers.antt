@@ -19,7 +19,10 @@ climb-preserved-then-a_depth-b_depth c =
 
 pub returns-in-None-parent : goal.returns-in-None-parent
 returns-in-None-parent c =
-    absurd (c.climb-test.true (sym (not_end_left c.args.classes.now c.in-None-parent.ensures.chains c.climb.a c.climb.b c.climb.invariant.b_class c.in-None-parent.ensures.ends (omega arith))))
+    absurd
+    (c.climb-test.true
+    (sym (not_end_left c.args.classes.now c.in-None-parent.ensures.chains c.climb.a c.climb.b c.climb.invariant.b_class c.in-None-parent.ensures.ends
+    (omega arith))))
 
 pub climb-preserved : goal.climb-preserved
 climb-preserved c =
@@ -29,7 +32,9 @@ climb-preserved c =
       b_class = c.climb.invariant.b_class;
       a_is = omega (arith, ap length next.chain_is);
       b_is = c.climb.invariant.b_is;
-      asked = climb_left c.args.classes.now c.in-Some-parent.ensures.chains c.climb.a c.climb.b c.in-Some-parent.p next c.climb-test.true (omega arith) ∙ c.climb.invariant.asked;
+      asked =
+          climb_left c.args.classes.now c.in-Some-parent.ensures.chains c.climb.a c.climb.b c.in-Some-parent.p next c.climb-test.true (omega arith)
+          ∙ c.climb.invariant.asked;
     }
 
 pub returns : goal.returns

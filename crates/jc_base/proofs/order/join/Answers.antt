@@ -11,4 +11,6 @@ returns-clause-known c =
 
 pub returns-clause-monotone : goal.returns-clause-monotone
 returns-clause-monotone c =
-    rw c.join_of.ensures (λ x y k p q high. IsJoin-monotone c.args.classes.now p q (join_of-is c.args.classes.now c.records.ensures.chains c.args.a c.args.b c.requires.a_known c.requires.b_known) high)
+    rw c.join_of.ensures
+    (λ x y k p q high. IsJoin-monotone c.args.classes.now p q
+    (join_of-is c.args.classes.now c.records.ensures.chains c.args.a c.args.b c.requires.a_known c.requires.b_known) high)

@@ -12,17 +12,23 @@ pending-init c =
 
 pub pending-smaller : goal.pending-smaller
 pending-smaller c =
-    (climb-gone (above c.args.classes.now c.args.interfaces) (length c.args.classes.now) c.args.c c.in-Some.next c.pending.climb c.next.new.self c.mark_above-in-Some.new.self
-    (above-inside c.args.classes.now c.args.interfaces c.requires) c.pending.invariant c.in-Some.ensures.marked c.in-Some.ensures.pending c.in_ok-mark_above-2.ensures).falls
+    (climb-gone (above c.args.classes.now c.args.interfaces) (length c.args.classes.now) c.args.c c.in-Some.next c.pending.climb c.next.new.self
+    c.mark_above-in-Some.new.self
+    (above-inside c.args.classes.now c.args.interfaces c.requires) c.pending.invariant c.in-Some.ensures.marked c.in-Some.ensures.pending
+    c.in_ok-mark_above-2.ensures).falls
 
 pub pending-preserved : goal.pending-preserved
 pending-preserved c =
-    (climb-gone (above c.args.classes.now c.args.interfaces) (length c.args.classes.now) c.args.c c.in-Some.next c.pending.climb c.next.new.self c.mark_above-in-Some.new.self
-    (above-inside c.args.classes.now c.args.interfaces c.requires) c.pending.invariant c.in-Some.ensures.marked c.in-Some.ensures.pending c.in_ok-mark_above-2.ensures).climbs
+    (climb-gone (above c.args.classes.now c.args.interfaces) (length c.args.classes.now) c.args.c c.in-Some.next c.pending.climb c.next.new.self
+    c.mark_above-in-Some.new.self
+    (above-inside c.args.classes.now c.args.interfaces c.requires) c.pending.invariant c.in-Some.ensures.marked c.in-Some.ensures.pending
+    c.in_ok-mark_above-2.ensures).climbs
 
 pub returns : goal.returns
 returns c =
-    let read : c.has.result ≡ get_or c.pending.climb.marked c.args.a false = c.has.ensures ∙ ap (λ ms. get_or ms c.args.a false) c.in_default.ensures.marked in
+    let read : c.has.result ≡ get_or c.pending.climb.marked c.args.a false = c.has.ensures
+    ∙ ap (λ ms. get_or ms c.args.a false) c.in_default.ensures.marked in
     is_above-is c.args.classes.now c.args.interfaces c.args.a c.args.c c.has.result
     (λ e. c.pending.invariant.sound c.args.a (sym read ∙ e))
-    (λ leads. read ∙ climb-ends (above c.args.classes.now c.args.interfaces) (length c.args.classes.now) c.args.c c.args.a c.pending.climb c.pending.invariant c.in_default.ensures.pending leads)
+    (λ leads. read ∙ climb-ends (above c.args.classes.now c.args.interfaces) (length c.args.classes.now) c.args.c c.args.a c.pending.climb
+    c.pending.invariant c.in_default.ensures.pending leads)

@@ -19,7 +19,8 @@ classes-preserved c =
     let there = slice_get-get_or c.as_slice-class-items.result.now c.classes.c c.class-item.result c.classes-test.true ∙ ap Some (sym c.class-item.is) in
     let settled = settled-more c.args.classes.now c.classes.settled.items c.classes.c c.class-item.result c.classes.invariant.settled c.classes.invariant.count
     (ap (λ xs. slice_get xs c.classes.c) (sym c.as_slice-class-items.ensures) ∙ there) in
-    let rests : c.rests_on-rests.result ≡ rests_on c.classes.settled.items c.class-item.result = c.rests_on-rests.ensures ∙ ap (λ ss. rests_on ss c.class-item.result) c.as_slice.ensures.value in
+    let rests : c.rests_on-rests.result ≡ rests_on c.classes.settled.items c.class-item.result = c.rests_on-rests.ensures
+    ∙ ap (λ ss. rests_on ss c.class-item.result) c.as_slice.ensures.value in
     record {
       so_far = grind (arith, common_steps);
       count = grind (arith, common_steps);

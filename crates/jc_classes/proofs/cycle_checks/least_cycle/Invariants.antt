@@ -8,7 +8,8 @@ use Rattle.jc_classes.proofs.cycle_checks.least_cycle.Given as goal
 
 abbrev pub invariant-classes : goal.invariant-classes
 invariant-classes l = record {
-  so_far : least_from link_place l.least (cycle_fault l.classes) (numbered_from l.c l.classes) ≡ least_of link_place (cycle_fault l.classes) (numbered l.classes);
+  so_far : least_from link_place l.least (cycle_fault l.classes) (numbered_from l.c l.classes) ≡ least_of link_place (cycle_fault l.classes)
+      (numbered l.classes);
   count : length l.settled.items ≡ l.c;
   settled : AreSettled l.classes l.settled.items;
 }

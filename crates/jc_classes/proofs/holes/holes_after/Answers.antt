@@ -14,7 +14,9 @@ use Rattle.jc_classes.proofs.holes.holes_after.Goals as goal
 
 pub holes_of-requires-clause-few : goal.holes_of-requires-clause-few
 holes_of-requires-clause-few c =
-    subst HasShortLists (sym (layout_at c.args.lineage.now c.args.classes.now c.args.all.now c.args.c c.index-all-c.result c.requires.layouts c.requires.class c.index-all-c.is))
+    subst HasShortLists
+    (sym (layout_at c.args.lineage.now c.args.classes.now c.args.all.now c.args.c c.index-all-c.result c.requires.layouts c.requires.class
+    c.index-all-c.is))
     (lists_short c.args.lineage.now c.args.classes.now c.args.c c.requires.known.sized)
 
 pub returns-then-grows-clause-is : goal.returns-then-grows-clause-is
@@ -28,6 +30,7 @@ pub returns-else-is_none-clause-is : goal.returns-else-is_none-clause-is
 unfolding class_layout
 returns-else-is_none-clause-is c =
     let fault = hole_fault c.args.lineage.now c.args.methods.now in
-    let at : c.index-all-c.result ≡ class_layout c.args.lineage.now c.args.classes.now c.args.c = layout_at c.args.lineage.now c.args.classes.now c.args.all.now c.args.c c.index-all-c.result c.requires.layouts c.requires.class c.index-all-c.is in
+    let at : c.index-all-c.result ≡ class_layout c.args.lineage.now c.args.classes.now c.args.c = layout_at c.args.lineage.now c.args.classes.now
+    c.args.all.now c.args.c c.index-all-c.result c.requires.layouts c.requires.class c.index-all-c.is in
     c.holes_of.ensures.is
     ∙ ap (λ (l : ClassLayout). least_from link_place c.args.least fault (entries_from c.args.c 0 l.public ++ entries_from c.args.c 128 l.visible)) at

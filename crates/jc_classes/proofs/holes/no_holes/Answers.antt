@@ -5,7 +5,8 @@ use Rattle.jc_classes.proofs.holes.no_holes.Goals as goal
 
 pub classes-preserved : goal.classes-preserved
 classes-preserved c = (
-  c.holes_after-least.ensures.is ∙ least_next (hole_fault c.args.lineage.now c.args.methods.now) (entries_in c.args.lineage.now c.args.classes.now) c.classes.c c.classes.least c.classes.invariant.0,
+  c.holes_after-least.ensures.is ∙ least_next (hole_fault c.args.lineage.now c.args.methods.now) (entries_in c.args.lineage.now c.args.classes.now)
+      c.classes.c c.classes.least c.classes.invariant.0,
   c.holes_after-least.ensures.room,
   c.holes_after-least.ensures.none,
 )

@@ -7,4 +7,5 @@ use Rattle.jc_classes.specs.TableConditions.{interface_type_fault, implementatio
 use Rattle.jc_classes.proofs.interfaces.interfaces_served.Given as goal
 
 abbrev pub invariant-classes : goal.invariant-classes
-invariant-classes l = l.least ≡ least_of link_place (interface_type_fault l.methods) (flat_map (implementations_in l.lineage l.classes) (range_with_len 0 l.c))
+invariant-classes l =
+    l.least ≡ least_of link_place (interface_type_fault l.methods) (flat_map (implementations_in l.lineage l.classes) (range_with_len 0 l.c))

@@ -7,5 +7,7 @@ use Rattle.jc_classes.proofs.interfaces.unserved_in.Given as goal
 
 abbrev pub invariant-interfaces : goal.invariant-interfaces
 invariant-interfaces l =
-    least_from link_place l.least (interface_type_fault l.methods) (map (λ (i : Iface). record { class = l.c; public = l.public; iface = i }) (drop l.iface-index l.interfaces))
-    ≡ least_from link_place l.fn.least (interface_type_fault l.methods) (map (λ (i : Iface). record { class = l.c; public = l.public; iface = i }) l.interfaces)
+    least_from link_place l.least (interface_type_fault l.methods)
+    (map (λ (i : Iface). record { class = l.c; public = l.public; iface = i }) (drop l.iface-index l.interfaces))
+    ≡ least_from link_place l.fn.least (interface_type_fault l.methods)
+    (map (λ (i : Iface). record { class = l.c; public = l.public; iface = i }) l.interfaces)

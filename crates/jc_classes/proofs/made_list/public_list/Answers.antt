@@ -9,14 +9,17 @@ use Rattle.jc_classes.proofs.made_list.public_list.Goals as goal
 
 pub invariant_of-result : goal.invariant_of-result
 invariant_of-result c =
-    let short = layout_short c.args.lineage.now c.args.classes.now c.args.all.now c.args.c c.index-all-c.result c.requires.layouts c.requires.class c.requires.known in
-    let list = c.as_slice.ensures ∙ public_is c.args.lineage.now c.args.classes.now c.args.all.now c.args.c c.index-all-c.result c.requires.layouts c.requires.class in
+    let short = layout_short c.args.lineage.now c.args.classes.now c.args.all.now c.args.c c.index-all-c.result c.requires.layouts c.requires.class
+    c.requires.known in
+    let list = c.as_slice.ensures ∙ public_is c.args.lineage.now c.args.classes.now c.args.all.now c.args.c c.index-all-c.result c.requires.layouts
+    c.requires.class in
     let up = option_map (λ l. l.now) c.layout_above-up.result in
     record {
       few = (class_sized c.args.classes.now c.args.c c.at.result.now c.requires.known.sized c.at.ensures).public;
       made =
           list
-          ∙ public_made c.args.lineage.now c.args.classes.now c.args.c c.parent-above.result c.at.result.now up c.parent-above.ensures.step c.at.ensures c.layout_above-up.ensures
+          ∙ public_made c.args.lineage.now c.args.classes.now c.args.c c.parent-above.result c.at.result.now up c.parent-above.ensures.step c.at.ensures
+          c.layout_above-up.ensures
           ∙ ap (overlaid c.at.result.now.public) (sym c.public_above.ensures);
       short = omega (arith, short.public, ap length c.as_slice.ensures);
     }

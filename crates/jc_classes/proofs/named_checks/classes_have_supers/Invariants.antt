@@ -6,4 +6,5 @@ use Rattle.jc_classes.proofs.Numbered.{numbered_from}
 use Rattle.jc_classes.proofs.named_checks.classes_have_supers.Given as goal
 
 abbrev pub invariant-classes : goal.invariant-classes
-invariant-classes l = least_from link_place l.least (root_fault l.object) (numbered_from l.c l.classes) ≡ least_of link_place (root_fault l.object) (numbered l.classes)
+invariant-classes l =
+    least_from link_place l.least (root_fault l.object) (numbered_from l.c l.classes) ≡ least_of link_place (root_fault l.object) (numbered l.classes)

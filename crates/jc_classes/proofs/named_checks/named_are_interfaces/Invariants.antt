@@ -7,4 +7,5 @@ use Rattle.jc_classes.proofs.named_checks.named_are_interfaces.Given as goal
 
 abbrev pub invariant-classes : goal.invariant-classes
 invariant-classes l =
-    least_from link_place l.least (not_interface_fault l.classes) (interfaces_of (numbered_from l.c l.classes)) ≡ least_of link_place (not_interface_fault l.classes) (named_interfaces l.classes)
+    least_from link_place l.least (not_interface_fault l.classes) (interfaces_of (numbered_from l.c l.classes)) ≡ least_of link_place
+    (not_interface_fault l.classes) (named_interfaces l.classes)

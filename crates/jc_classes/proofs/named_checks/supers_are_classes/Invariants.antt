@@ -6,4 +6,5 @@ use Rattle.jc_classes.proofs.Numbered.{numbered_from}
 use Rattle.jc_classes.proofs.named_checks.supers_are_classes.Given as goal
 
 abbrev pub invariant-classes : goal.invariant-classes
-invariant-classes l = least_from link_place l.least (super_fault l.classes) (numbered_from l.c l.classes) ≡ least_of link_place (super_fault l.classes) (numbered l.classes)
+invariant-classes l =
+    least_from link_place l.least (super_fault l.classes) (numbered_from l.c l.classes) ≡ least_of link_place (super_fault l.classes) (numbered l.classes)

@@ -6,4 +6,6 @@ use Rattle.jc_classes.proofs.Numbered.{numbered_from}
 use Rattle.jc_classes.proofs.role_checks.least_role.Given as goal
 
 abbrev pub invariant-roles : goal.invariant-roles
-invariant-roles l = least_from link_place l.least (role_fault l.classes l.first l.throwable) (numbered_from l.k l.roles) ≡ least_of link_place (role_fault l.classes l.first l.throwable) (numbered l.roles)
+invariant-roles l =
+    least_from link_place l.least (role_fault l.classes l.first l.throwable) (numbered_from l.k l.roles) ≡ least_of link_place
+    (role_fault l.classes l.first l.throwable) (numbered l.roles)

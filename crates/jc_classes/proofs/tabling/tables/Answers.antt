@@ -8,7 +8,8 @@ returns-clause-tells c = due-tells c.args.lineage.now c.args.classes.now c.args.
 
 pub returns-clause-linked : goal.returns-clause-linked
 returns-clause-linked c =
-    due-links c.args.lineage.now c.args.classes.now c.args.methods.now c.tables_or_fault.result c.tables_or_fault.ensures c.requires.outline c.facts.ensures c.requires.known c.requires.lines
+    due-links c.args.lineage.now c.args.classes.now c.args.methods.now c.tables_or_fault.result c.tables_or_fault.ensures c.requires.outline c.facts.ensures
+    c.requires.known c.requires.lines
 
 pub returns-clause-signatures : goal.returns-clause-signatures
 returns-clause-signatures c = same_signature-exact

@@ -16,4 +16,5 @@ handlers-preserved c =
 pub returns-clause-formed : goal.returns-clause-formed
 returns-clause-formed c =
     let same = c.as_slice-handler-items.ensures in
-    subst (All (IsHandlerOf c.args.code.bytes.now)) (take_all c.handlers.number c.args.handlers.now (omega (arith, ap length same, c.handlers-test.false))) c.handlers.invariant
+    subst (All (IsHandlerOf c.args.code.bytes.now)) (take_all c.handlers.number c.args.handlers.now (omega (arith, ap length same, c.handlers-test.false)))
+    c.handlers.invariant

@@ -17,14 +17,16 @@ pub stray_target-requires-clause-decoded : goal.stray_target-requires-clause-dec
 stray_target-requires-clause-decoded c =
     let code = c.args.code.bytes.now in
     let i = c.in-Some.placed in
-    let whole = at-next c.walk.yielded (rest_of c.walk.placed-iterator) i (rest_of c.next.new.self) (listing code) c.walk.invariant.whole c.in-Some.ensures.steps in
+    let whole = at-next c.walk.yielded (rest_of c.walk.placed-iterator) i (rest_of c.next.new.self) (listing code) c.walk.invariant.whole
+    c.in-Some.ensures.steps in
     (c.instructions_are_listed.ensures code).decodes i (contained-in c.walk.yielded i (rest_of c.next.new.self) (listing code) whole)
 
 pub returns-in-Some-stray_target-clause-flawed : goal.returns-in-Some-stray_target-clause-flawed
 returns-in-Some-stray_target-clause-flawed c =
     let code = c.args.code.bytes.now in
     let i = c.in-Some.placed in
-    let whole = at-next c.walk.yielded (rest_of c.walk.placed-iterator) i (rest_of c.next.new.self) (listing code) c.walk.invariant.whole c.in-Some.ensures.steps in
+    let whole = at-next c.walk.yielded (rest_of c.walk.placed-iterator) i (rest_of c.next.new.self) (listing code) c.walk.invariant.whole
+    c.in-Some.ensures.steps in
     let fits : FitsSigned w32 c.in-Some-stray_target.target = search rules in
     let stray = c.in-Some-stray_target.ensures.some in
     record {
@@ -42,7 +44,8 @@ pub overflow_cast-end : goal.overflow_cast-end
 overflow_cast-end c =
     let code = c.args.code.bytes.now in
     let i = c.in-Some.placed in
-    let whole = at-next c.walk.yielded (rest_of c.walk.placed-iterator) i (rest_of c.next.new.self) (listing code) c.walk.invariant.whole c.in-Some.ensures.steps in
+    let whole = at-next c.walk.yielded (rest_of c.walk.placed-iterator) i (rest_of c.next.new.self) (listing code) c.walk.invariant.whole
+    c.in-Some.ensures.steps in
     let within = next-within code (c.instructions_are_listed.ensures code) c.walk.yielded i (rest_of c.next.new.self) whole in
     omega (arith, within, c.requires.short)
 
@@ -50,7 +53,8 @@ pub overflow_add-end : goal.overflow_add-end
 overflow_add-end c =
     let code = c.args.code.bytes.now in
     let i = c.in-Some.placed in
-    let whole = at-next c.walk.yielded (rest_of c.walk.placed-iterator) i (rest_of c.next.new.self) (listing code) c.walk.invariant.whole c.in-Some.ensures.steps in
+    let whole = at-next c.walk.yielded (rest_of c.walk.placed-iterator) i (rest_of c.next.new.self) (listing code) c.walk.invariant.whole
+    c.in-Some.ensures.steps in
     let within = next-within code (c.instructions_are_listed.ensures code) c.walk.yielded i (rest_of c.next.new.self) whole in
     omega (arith, within, c.requires.short)
 
@@ -58,7 +62,8 @@ pub walk-preserved : goal.walk-preserved
 walk-preserved c =
     let code = c.args.code.bytes.now in
     let i = c.in-Some.placed in
-    let whole = at-next c.walk.yielded (rest_of c.walk.placed-iterator) i (rest_of c.next.new.self) (listing code) c.walk.invariant.whole c.in-Some.ensures.steps in
+    let whole = at-next c.walk.yielded (rest_of c.walk.placed-iterator) i (rest_of c.next.new.self) (listing code) c.walk.invariant.whole
+    c.in-Some.ensures.steps in
     record {
       so_far = All-push (LeadsToPlaces code) c.walk.yielded i c.walk.invariant.so_far c.in-None-stray_target.ensures.none;
       whole = go-on c.walk.yielded i (rest_of c.next.new.self) (listing code) whole;

@@ -24,7 +24,8 @@ pair_case-requires c =
     let y : FitsSigned w32 c.args.insn.y = search rules in
     let d = abs-passed c.args.insn.y y in
     let t = pairs_table c.args.code.bytes.now c.args.at c.args.insn c.in-Ok.layout c.in-Pairs.key c.requires.table (sym c.in-Ok.ensures) c.in-Pairs.is in
-    let n : pair_width c.in-Pairs.key * c.args.n ≤ pair_width c.in-Pairs.key * unsigned_abs c.args.insn.y = mul-le-mul_left (pair_width c.in-Pairs.key) (omega arith) in
+    let n : pair_width c.in-Pairs.key * c.args.n ≤ pair_width c.in-Pairs.key * unsigned_abs c.args.insn.y = mul-le-mul_left (pair_width c.in-Pairs.key)
+    (omega arith) in
     record { inside = omega (arith, t, n) }
 
 pub returns-then-n-abs_diff : goal.returns-then-n-abs_diff
@@ -47,7 +48,8 @@ returns-then-n-unsigned_abs c =
     let y : FitsSigned w32 c.args.insn.y = search rules in
     let d = abs-passed c.args.insn.y y in
     ap Some c.pair_case.ensures
-    ∙ case-pair c.args.code.bytes.now c.args.at c.args.insn c.in-Ok.layout c.in-Pairs.key _ c.args.n (sym c.in-Ok.ensures) c.in-Pairs.is (omega arith) (omega arith)
+    ∙ case-pair c.args.code.bytes.now c.args.at c.args.insn c.in-Ok.layout c.in-Pairs.key _ c.args.n (sym c.in-Ok.ensures) c.in-Pairs.is (omega arith)
+    (omega arith)
 
 pub returns-else-n-unsigned_abs : goal.returns-else-n-unsigned_abs
 returns-else-n-unsigned_abs c =

@@ -11,7 +11,8 @@ pub hop-requires : goal.hop-requires
 hop-requires c =
     let fits : FitsSigned w32 c.args.placed.insn.x = search rules in
     rw (to_z-of_z w32 c.args.placed.insn.x fits)
-    (offset-decoded c.args.code.bytes.now c.args.placed.place c.args.placed.insn c.are_bytes.ensures c.requires.decoded (sym c.jumps.ensures ∙ c.if-not-jumps.false))
+    (offset-decoded c.args.code.bytes.now c.args.placed.place c.args.placed.insn c.are_bytes.ensures c.requires.decoded
+    (sym c.jumps.ensures ∙ c.if-not-jumps.false))
 
 pub returns-then-n-eq0 : goal.returns-then-n-eq0
 returns-then-n-eq0 c =

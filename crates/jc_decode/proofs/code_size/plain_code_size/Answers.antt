@@ -20,7 +20,8 @@ overflow_add-result c =
 
 pub returns-clause-size : goal.returns-clause-size
 returns-clause-size c =
-    plain_is c.args.code.bytes.now c.walk.size c.from.result (omega (arith, c.walk.invariant, ap plain_sum c.in-None.ensures.steps.0)) (c.from.ensures ∙ c.code_end-end.ensures.place)
+    plain_is c.args.code.bytes.now c.walk.size c.from.result (omega (arith, c.walk.invariant, ap plain_sum c.in-None.ensures.steps.0))
+    (c.from.ensures ∙ c.code_end-end.ensures.place)
 
 pub returns-clause-least : goal.returns-clause-least
 returns-clause-least c =

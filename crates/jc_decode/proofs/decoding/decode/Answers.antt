@@ -12,7 +12,8 @@ returns-clause-operands c =
 
 pub returns-clause-allowed : goal.returns-clause-allowed
 returns-clause-allowed c =
-    allowed-answer c.args.code.bytes.now c.args.at c.insn_at.result c.are_bytes.ensures (c.insn_at.ensures ∙ ap (decoded c.args.code.bytes.now) c.from.ensures)
+    allowed-answer c.args.code.bytes.now c.args.at c.insn_at.result c.are_bytes.ensures
+    (c.insn_at.ensures ∙ ap (decoded c.args.code.bytes.now) c.from.ensures)
 
 pub returns-clause-within : goal.returns-clause-within
 returns-clause-within c =
@@ -36,7 +37,8 @@ returns-clause-given c =
 
 pub returns-clause-refused : goal.returns-clause-refused
 returns-clause-refused c =
-    refused-answer c.args.code.bytes.now c.args.at c.insn_at.result c.are_bytes.ensures (c.insn_at.ensures ∙ ap (decoded c.args.code.bytes.now) c.from.ensures)
+    refused-answer c.args.code.bytes.now c.args.at c.insn_at.result c.are_bytes.ensures
+    (c.insn_at.ensures ∙ ap (decoded c.args.code.bytes.now) c.from.ensures)
 
 pub returns-clause-told : goal.returns-clause-told
 returns-clause-told c =

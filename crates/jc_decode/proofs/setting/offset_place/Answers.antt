@@ -15,17 +15,20 @@ overflow_add-result c = omega (arith, offset_place-by c.args.at c.args.insn c.ar
 
 pub overflow_mul-result-in-Pairs : goal.overflow_mul-result-in-Pairs
 overflow_mul-result-in-Pairs c =
-    let pairs : (c.width-in-Pairs.result + 2) * c.args.n ≡ pair_width c.in-Pairs.key * c.args.n = ap (λ (w : ℕ). (w + 2) * c.args.n) c.width-in-Pairs.ensures in
+    let pairs : (c.width-in-Pairs.result + 2) * c.args.n ≡ pair_width c.in-Pairs.key * c.args.n = ap (λ (w : ℕ). (w + 2) * c.args.n)
+    c.width-in-Pairs.ensures in
     omega (arith, pairs, offset_place-by c.args.at c.args.insn c.args.n c.in-Ok.layout (Pairs c.in-Pairs.key) (sym c.in-Ok.ensures) c.in-Pairs.is)
 
 pub overflow_add-result-in-Pairs-2 : goal.overflow_add-result-in-Pairs-2
 overflow_add-result-in-Pairs-2 c =
-    let pairs : (c.width-in-Pairs.result + 2) * c.args.n ≡ pair_width c.in-Pairs.key * c.args.n = ap (λ (w : ℕ). (w + 2) * c.args.n) c.width-in-Pairs.ensures in
+    let pairs : (c.width-in-Pairs.result + 2) * c.args.n ≡ pair_width c.in-Pairs.key * c.args.n = ap (λ (w : ℕ). (w + 2) * c.args.n)
+    c.width-in-Pairs.ensures in
     omega (arith, pairs, offset_place-by c.args.at c.args.insn c.args.n c.in-Ok.layout (Pairs c.in-Pairs.key) (sym c.in-Ok.ensures) c.in-Pairs.is)
 
 pub overflow_add-result-in-Pairs-3 : goal.overflow_add-result-in-Pairs-3
 overflow_add-result-in-Pairs-3 c =
-    let pairs : (c.width-in-Pairs.result + 2) * c.args.n ≡ pair_width c.in-Pairs.key * c.args.n = ap (λ (w : ℕ). (w + 2) * c.args.n) c.width-in-Pairs.ensures in
+    let pairs : (c.width-in-Pairs.result + 2) * c.args.n ≡ pair_width c.in-Pairs.key * c.args.n = ap (λ (w : ℕ). (w + 2) * c.args.n)
+    c.width-in-Pairs.ensures in
     omega (arith, pairs, offset_place-by c.args.at c.args.insn c.args.n c.in-Ok.layout (Pairs c.in-Pairs.key) (sym c.in-Ok.ensures) c.in-Pairs.is)
 
 pub returns-in-Absent : goal.returns-in-Absent
@@ -36,5 +39,6 @@ returns-in-Range c = omega (arith, offset_place-by c.args.at c.args.insn c.args.
 
 pub returns-in-Pairs : goal.returns-in-Pairs
 returns-in-Pairs c =
-    let pairs : (c.width-in-Pairs.result + 2) * c.args.n ≡ pair_width c.in-Pairs.key * c.args.n = ap (λ (w : ℕ). (w + 2) * c.args.n) c.width-in-Pairs.ensures in
+    let pairs : (c.width-in-Pairs.result + 2) * c.args.n ≡ pair_width c.in-Pairs.key * c.args.n = ap (λ (w : ℕ). (w + 2) * c.args.n)
+    c.width-in-Pairs.ensures in
     omega (arith, pairs, offset_place-by c.args.at c.args.insn c.args.n c.in-Ok.layout (Pairs c.in-Pairs.key) (sym c.in-Ok.ensures) c.in-Pairs.is)

@@ -7,11 +7,13 @@ use Rattle.jc_decode.proofs.setting.set_case.Goals as goal
 
 pub offset_place-place-requires : goal.offset_place-place-requires
 offset_place-place-requires c =
-    let s = SetCase-offset c.args.code.now c.args.at c.args.n c.args.insn c.args.offset c.requires.decoded c.requires.counted c.ranges.offset in omega (arith, s.inside)
+    let s = SetCase-offset c.args.code.now c.args.at c.args.n c.args.insn c.args.offset c.requires.decoded c.requires.counted c.ranges.offset in
+    omega (arith, s.inside)
 
 pub write_offset-requires : goal.write_offset-requires
 write_offset-requires c =
-    let s = SetCase-offset c.args.code.now c.args.at c.args.n c.args.insn c.args.offset c.requires.decoded c.requires.counted c.ranges.offset in omega (arith, s.inside)
+    let s = SetCase-offset c.args.code.now c.args.at c.args.n c.args.insn c.args.offset c.requires.decoded c.requires.counted c.ranges.offset in
+    omega (arith, s.inside)
 
 pub returns-clause-insn : goal.returns-clause-insn
 returns-clause-insn c =

@@ -8,7 +8,9 @@ use Rattle.jc_link.proofs.catches.handlers_catch.Given as goal
 
 abbrev pub invariant-handlers : goal.invariant-handlers
 invariant-handlers l = record {
-  fault : least_from link_place l.least (catch_fault l.names.packages l.classes) (handlers_from l.«package» (entries l.pool) l.number (handlers_left l.handler-iterator))
-      ≡ least_from link_place l.initial.least (catch_fault l.names.packages l.classes) (handlers_from l.«package» (entries l.pool) 0 (handlers_left l.fn.handlers));
+  fault : least_from link_place l.least (catch_fault l.names.packages l.classes)
+      (handlers_from l.«package» (entries l.pool) l.number (handlers_left l.handler-iterator))
+      ≡ least_from link_place l.initial.least (catch_fault l.names.packages l.classes)
+      (handlers_from l.«package» (entries l.pool) 0 (handlers_left l.fn.handlers));
   count : l.number + length (handlers_left l.handler-iterator) ≤ 255;
 }

@@ -8,4 +8,5 @@ returns-then-token-lt128 c =
 
 pub returns-else-token-lt128 : goal.returns-else-token-lt128
 returns-else-token-lt128 c =
-    c.number_at-else-token-lt128.ensures ∙ entry-visible c.args.classes.now c.args.class c.args.token c.at-record.result.now c.at-record.ensures.is c.if-token-lt128.false
+    c.number_at-else-token-lt128.ensures ∙ entry-visible c.args.classes.now c.args.class c.args.token c.at-record.result.now c.at-record.ensures.is
+    c.if-token-lt128.false

@@ -13,5 +13,7 @@ classes-init c =
       entered = grind (arith, common_steps);
       known = grind (arith, common_steps);
       room = subst (FieldsFitIn c.args.names.now.packages c.args.classes.now c.args.number c.args.«package».now c.args.first) (sym all) c.requires.room;
-      described = subst (AreDescribedOnce c.args.«package».now.description.items.classes) (sym all) (described_once c.args.«package».now c.parts-parts.ensures.agree);
+      described =
+          subst (AreDescribedOnce c.args.«package».now.description.items.classes) (sym all)
+          (described_once c.args.«package».now c.parts-parts.ensures.agree);
     }

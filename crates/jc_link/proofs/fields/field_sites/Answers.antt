@@ -10,7 +10,8 @@ use Rattle.jc_link.proofs.fields.field_sites.Goals as goal
 
 pub enter_package-requires-clause-at : goal.enter_package-requires-clause-at
 enter_package-requires-clause-at c =
-    first_left c.args.names.now.packages c.packages.k c.in-Some.package.now (packages_left c.next.new.self) (sym c.packages.invariant.left ∙ c.in-Some.ensures.steps)
+    first_left c.args.names.now.packages c.packages.k c.in-Some.package.now (packages_left c.next.new.self)
+    (sym c.packages.invariant.left ∙ c.in-Some.ensures.steps)
 
 pub packages-preserved : goal.packages-preserved
 packages-preserved c = record {
@@ -25,6 +26,9 @@ packages-preserved c = record {
         c.packages.invariant.known,
       );
   room = search rules;
-  left = sym (others_left c.args.names.now.packages c.packages.k c.in-Some.package.now (packages_left c.next.new.self) (sym c.packages.invariant.left ∙ c.in-Some.ensures.steps));
+  left =
+      sym
+      (others_left c.args.names.now.packages c.packages.k c.in-Some.package.now (packages_left c.next.new.self)
+      (sym c.packages.invariant.left ∙ c.in-Some.ensures.steps));
   count = omega (arith, ap length c.in-Some.ensures.steps, c.packages.invariant.count);
 }

@@ -6,7 +6,8 @@ of-requires c =
     let n = c.args.tabled.names in
     let x = c.args.taken in
     world-made n.packages n.roles n c.requires.names c.args.tabled.classes c.requires.table c.args.resolved c.requires.resolved
-    x.infos c.requires.taken.infos c.into_methods-methods.result c.into_methods-methods.ensures x.arrays c.requires.taken.arrays x.indexes c.requires.taken.indexes
+    x.infos c.requires.taken.infos c.into_methods-methods.result c.into_methods-methods.ensures x.arrays c.requires.taken.arrays x.indexes
+    c.requires.taken.indexes
     c.concrete_decides.ensures c.requires.members c.requires.taken.bytes c.requires.taken.elements
 
 pub returns : goal.returns
@@ -14,5 +15,6 @@ returns c =
     let n = c.args.tabled.names in
     let x = c.args.taken in
     linked-made n.packages n.roles n c.requires.names c.args.tabled.classes c.requires.table c.args.resolved c.requires.resolved
-    x.infos c.requires.taken.infos c.into_methods-methods.result c.into_methods-methods.ensures x.arrays c.requires.taken.arrays x.indexes c.requires.taken.indexes
+    x.infos c.requires.taken.infos c.into_methods-methods.result c.into_methods-methods.ensures x.arrays c.requires.taken.arrays x.indexes
+    c.requires.taken.indexes
     c.of.result c.of.ensures c.requires.classes c.requires.members

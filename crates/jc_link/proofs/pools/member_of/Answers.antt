@@ -15,6 +15,7 @@ member_referred-requires-clause-count c =
 pub returns-clause-linked : goal.returns-clause-linked
 returns-clause-linked c =
     let low : slice_index (entry_seen c.args.entry).bytes 2 < 256 = omega arith in
-    member_there c.args.names.now c.args.classes.now c.args.statics.now c.args.package (entry_seen c.args.entry) c.member_referred.result c.facts.ensures.classes
+    member_there c.args.names.now c.args.classes.now c.args.statics.now c.args.package (entry_seen c.args.entry) c.member_referred.result
+    c.facts.ensures.classes
     c.facts.ensures.methods c.records-records.ensures.chains c.requires.linked c.requires.cells low
     (c.member_referred.ensures ∙ ap (member_referred c.args.names.now.packages c.args.classes.now c.args.statics.now c.args.package) c.reference.ensures)

@@ -38,7 +38,8 @@ packages-preserved c =
           ∙ ap (λ left. items ++ pools_after (member_of ps t s) k left) (sym is)
           ∙ c.packages.invariant.pools;
       linked = subst (λ (xs : List (List Member)). All (All (IsMember t c.args.names.now.methods s)) xs) (sym pushed)
-          (All-push (All (IsMember t c.args.names.now.methods s)) items c.in_ok-members.members.items c.packages.invariant.linked c.in_ok-members.ensures.linked);
+          (All-push (All (IsMember t c.args.names.now.methods s)) items c.in_ok-members.members.items c.packages.invariant.linked
+          c.in_ok-members.ensures.linked);
       few = subst (λ (xs : List (List Member)). All (λ pool. length pool ≤ 65535) xs) (sym pushed)
           (All-push (λ pool. length pool ≤ 65535) items c.in_ok-members.members.items c.packages.invariant.few c.in_ok-members.ensures.few);
       count = omega (arith, ap length is, c.packages.invariant.count);

@@ -11,7 +11,8 @@ abbrev pub invariant-packages : goal.invariant-packages
 invariant-packages l = record {
   fault : least_from link_place l.least (member_fault l.names.packages l.classes l.statics) (places_after l.k (packages_left l.package-iterator))
       ≡ least_of link_place (member_fault l.names.packages l.classes l.statics) (pool_places l.names.packages);
-  pools : l.pools.items ++ pools_after (member_of l.names.packages l.classes l.statics) l.k (packages_left l.package-iterator) ≡ pools l.names.packages l.classes l.statics;
+  pools : l.pools.items ++ pools_after (member_of l.names.packages l.classes l.statics) l.k (packages_left l.package-iterator) ≡ pools l.names.packages
+      l.classes l.statics;
   linked : All (All (IsMember l.classes l.names.methods l.statics)) l.pools.items;
   few : All (λ pool. length pool ≤ 65535) l.pools.items;
   count : l.k + length (packages_left l.package-iterator) ≡ length l.names.packages;

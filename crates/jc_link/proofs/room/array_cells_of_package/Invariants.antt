@@ -5,4 +5,5 @@ use Rattle.jc_link.proofs.room.array_cells_of_package.Given as goal
 
 abbrev pub invariant-arrays : goal.invariant-arrays
 invariant-arrays l =
-    (l.total + initial_cells (map array_record (arrays_left l.array-iterator)) ≡ initial_cells (map array_record (statics_seen l.statics).arrays)) × (initial_cells (map array_record (statics_seen l.statics).arrays) ≤ 65535)
+    (l.total + initial_cells (map array_record (arrays_left l.array-iterator)) ≡ initial_cells (map array_record (statics_seen l.statics).arrays))
+    × (initial_cells (map array_record (statics_seen l.statics).arrays) ≤ 65535)

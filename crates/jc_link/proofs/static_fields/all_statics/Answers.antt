@@ -24,11 +24,14 @@ packages-preserved c =
     let told = type_of c.args.names.now.packages (slice_index c.args.names.now.roles 0) in
     record {
       all =
-          statics_more told c.packages.records.items c.push_statics.new.records.items (static_records told c.args.packages.now) c.args.packages.now c.packages.n c.packages.first c.packages.slot c.in_ok-slot.slot (c.packages.first + c.array_init_count.result) c.at-package.result.now
+          statics_more told c.packages.records.items c.push_statics.new.records.items (static_records told c.args.packages.now) c.args.packages.now
+          c.packages.n c.packages.first c.packages.slot c.in_ok-slot.slot (c.packages.first + c.array_init_count.result) c.at-package.result.now
           c.at-package.ensures c.packages.invariant.all c.in_ok-slot.ensures.is c.in_ok-slot.ensures.next last;
       cells = omega (arith, cells, c.in_ok-slot.ensures.next);
       arrays = omega arith;
-      known = taken_more AreStaticsKnown c.args.packages.now c.packages.n c.at-package.result.now c.at-package.ensures c.packages.invariant.known c.in_ok-slot.ensures.known;
+      known =
+          taken_more AreStaticsKnown c.args.packages.now c.packages.n c.at-package.result.now c.at-package.ensures c.packages.invariant.known
+          c.in_ok-slot.ensures.known;
     }
 
 pub returns-clause-known : goal.returns-clause-known

@@ -16,7 +16,9 @@ places-init c =
     let p = c.args.«package».now in
     let all : places_left c.into_iter-place-iterator.result ≡ static_places p = search rules in
     record {
-      all = ap (λ (places : List ImagePlace). c.args.records.now.items ++ records_from (type_of names.packages object) c.args.slot (map (site home.«package» home.first p.statics) places)) all;
+      all =
+          ap (λ (places : List ImagePlace). c.args.records.now.items ++ records_from (type_of names.packages object) c.args.slot
+          (map (site home.«package» home.first p.statics) places)) all;
       types =
           c.static_types-types.ensures
           ∙ static_types_known names.packages object home.«package» p c.requires.at
@@ -25,4 +27,9 @@ places-init c =
     }
 
 pub returns-clause-known : goal.returns-clause-known
-returns-clause-known c = record { places = c.static_places-place-items.ensures.known; apart = c.static_places-place-items.ensures.apart; arrays = kinds_known c.statics-statics.result c.args.«package».now.statics c.statics-statics.ensures.items }
+returns-clause-known c =
+    record {
+      places = c.static_places-place-items.ensures.known;
+      apart = c.static_places-place-items.ensures.apart;
+      arrays = kinds_known c.statics-statics.result c.args.«package».now.statics c.statics-statics.ensures.items;
+    }

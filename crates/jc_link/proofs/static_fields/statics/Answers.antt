@@ -13,7 +13,9 @@ returns-clause-fields c =
     let names = c.args.names.now in
     let same : c.packages.result.now ≡ names.packages = cc in
     let told = type_of names.packages (slice_index names.roles 0) in
-    statics_typed told (types_told names.packages (slice_index names.roles 0)) names.packages (subst (λ ps. All AreStaticsKnown ps) same c.in_ok-fields.ensures.known) c.in_ok-fields.fields (c.in_ok-fields.ensures.is ∙ ap (static_records told) same)
+    statics_typed told (types_told names.packages (slice_index names.roles 0)) names.packages
+    (subst (λ ps. All AreStaticsKnown ps) same c.in_ok-fields.ensures.known) c.in_ok-fields.fields
+    (c.in_ok-fields.ensures.is ∙ ap (static_records told) same)
 
 pub returns-clause-apart : goal.returns-clause-apart
 returns-clause-apart c = statics_stand_apart _ c.packages.result.now c.in_ok-fields.ensures.known c.in_ok-fields.fields c.in_ok-fields.ensures.is

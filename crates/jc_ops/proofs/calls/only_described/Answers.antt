@@ -9,7 +9,8 @@ unfolding described
 returns-in-Some-clause-is c =
     let p : ℕ → Bool = λ n. passes_test (is_described c.args.interface c.args.token) (slice_get c.args.world.now.methods n) in
     let here : p c.methods.n ≡ true =
-    passes-read c.args.world.now.methods c.args.interface c.args.token c.methods.n c.method.result.now c.is_described.result c.method.ensures.is c.is_described.ensures ∙ c.if-is_described.true in
+    passes-read c.args.world.now.methods c.args.interface c.args.token c.methods.n c.method.result.now c.is_described.result c.method.ensures.is
+    c.is_described.ensures ∙ c.if-is_described.true in
     Finds-two p (length c.args.world.now.methods) c.methods.n c.in-Some.field-0 (omega arith) here
     (subst (λ o. Finds p (length c.args.world.now.methods) o c.methods.n) c.in-Some.is c.methods.invariant.finds)
 
@@ -18,7 +19,8 @@ methods-preserved c =
     let p : ℕ → Bool = λ n. passes_test (is_described c.args.interface c.args.token) (slice_get c.args.world.now.methods n) in
     let inside : c.methods.n < length c.args.world.now.methods = omega arith in
     let here : p c.methods.n ≡ c.is_described.result =
-    passes-read c.args.world.now.methods c.args.interface c.args.token c.methods.n c.method.result.now c.is_described.result c.method.ensures.is c.is_described.ensures in
+    passes-read c.args.world.now.methods c.args.interface c.args.token c.methods.n c.method.result.now c.is_described.result c.method.ensures.is
+    c.is_described.ensures in
     elim c.if-is_described.branch [
       | then-is_described+in-None w ↦ record {
         inside = subst (λ o. IfSome o (λ n. n < length c.args.world.now.methods)) (sym w.found-is) inside;
@@ -36,4 +38,5 @@ methods-preserved c =
 pub returns-clause-is : goal.returns-clause-is
 unfolding described
 returns-clause-is c =
-    Finds-end (λ n. passes_test (is_described c.args.interface c.args.token) (slice_get c.args.world.now.methods n)) (length c.args.world.now.methods) c.methods.n c.methods.found (omega arith) c.methods.invariant.finds
+    Finds-end (λ n. passes_test (is_described c.args.interface c.args.token) (slice_get c.args.world.now.methods n)) (length c.args.world.now.methods)
+    c.methods.n c.methods.found (omega arith) c.methods.invariant.finds

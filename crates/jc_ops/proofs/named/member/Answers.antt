@@ -6,7 +6,9 @@ use Rattle.jc_ops.proofs.Members.{member-known}
 use Rattle.jc_ops.proofs.named.member.Goals as goal
 
 pub returns-then-pool-pool_count-clause-known : goal.returns-then-pool-pool_count-clause-known
-returns-then-pool-pool_count-clause-known c = member-known c.args.world.now c.classes.ensures.links (subst DeclaredAreKnown c.classes.ensures.is c.types_are_ordered.ensures.declared) c.member.result c.member.ensures.links
+returns-then-pool-pool_count-clause-known c =
+    member-known c.args.world.now c.classes.ensures.links (subst DeclaredAreKnown c.classes.ensures.is c.types_are_ordered.ensures.declared) c.member.result
+    c.member.ensures.links
 
 pub returns-else-pool-pool_count-clause-is : goal.returns-else-pool-pool_count-clause-is
 returns-else-pool-pool_count-clause-is c =

@@ -24,7 +24,8 @@ packages-preserved c =
     let own = map (λ (x : Class). is_interface x.flags) p.classes in
     let flags : c.number_package.new.interfaces.items ≡ items ++ own = search rules in
     let next : c.number_package.new.numbers.next ≡ c.packages.numbers.next + length p.classes = search rules in
-    let total : class_total (packages_left c.packages.package-iterator) ≡ length p.classes + class_total others = ap class_total is ∙ sum_by-cons (λ (q : PackageRecord). length q.classes) p others in (
+    let total : class_total (packages_left c.packages.package-iterator) ≡ length p.classes + class_total others = ap class_total is
+    ∙ sum_by-cons (λ (q : PackageRecord). length q.classes) p others in (
       ap (λ t. with_all t (class_spots (k + 1) others)) new
           ∙ sym (with_both c.packages.numbers (map (spot_of_class k) p.classes) (class_spots (k + 1) others))
           ∙ ap (λ ps. with_all c.packages.numbers (class_spots k ps)) (sym is)

@@ -9,6 +9,7 @@ use Rattle.jc_resolve.proofs.class_records.implemented_interfaces.Given as goal
 
 abbrev pub invariant-interfaces : goal.invariant-interfaces
 invariant-interfaces l =
-    (l.named.items ++ implemented_interfaces l.index l.«package» (interfaces_left l.interface-iterator) ≡ implemented_interfaces l.index l.«package» (interfaces_left l.fn.interfaces))
+    (l.named.items ++ implemented_interfaces l.index l.«package» (interfaces_left l.interface-iterator) ≡ implemented_interfaces l.index l.«package»
+    (interfaces_left l.fn.interfaces))
     × (least_from link_place l.least (reference_fault l.index l.«package») (map (λ (i : Interface). i.class_ref) (interfaces_left l.interface-iterator))
     ≡ least_from link_place l.initial.least (reference_fault l.index l.«package») (map (λ (i : Interface). i.class_ref) (interfaces_left l.fn.interfaces)))

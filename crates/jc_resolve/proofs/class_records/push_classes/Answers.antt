@@ -16,7 +16,8 @@ classes-init c =
     let all : classes_left c.into_iter-class-iterator.result ≡ c.args.home.of_package.now.classes = search rules in (
       grind (arith, common_steps),
       c.requires.sized,
-      subst (AreDescribedOnce c.args.home.of_package.now.description.items.classes) (sym all) (described_once c.args.home.of_package.now c.parts-parts.ensures.agree),
+      subst (AreDescribedOnce c.args.home.of_package.now.description.items.classes) (sym all)
+          (described_once c.args.home.of_package.now c.parts-parts.ensures.agree),
       grind (arith, common_steps),
     )
 
@@ -29,7 +30,8 @@ classes-preserved c =
           ∙ append_assoc items (f (g (class_seen c.in-Some.class)) ∷ []) (map f (map g (classes_left c.next.new.self)))
           ∙ ap (λ l. items ++ map f (map g l)) (sym c.in-Some.ensures.steps)
           ∙ c.classes.invariant.0,
-      subst (λ l. All IsSized l) (sym c.in_ok-push.ensures.items) (All-push IsSized items c.in_ok-named_class.field-0 c.classes.invariant.1 c.in_ok-named_class.ensures.sized),
+      subst (λ l. All IsSized l) (sym c.in_ok-push.ensures.items)
+          (All-push IsSized items c.in_ok-named_class.field-0 c.classes.invariant.1 c.in_ok-named_class.ensures.sized),
       (subst (AreDescribedOnce c.args.home.of_package.now.description.items.classes) c.in-Some.ensures.steps c.classes.invariant.2).1,
       grind (arith, common_steps, least_classes),
     )

@@ -12,7 +12,8 @@ use Rattle.jc_resolve.proofs.class_records.push_classes.Given as goal
 
 abbrev pub invariant-classes : goal.invariant-classes
 invariant-classes l =
-    (l.named.items ++ map (named_class l.home.index.now (slice_index l.home.roles 0)) (map (numbered_class l.home.number l.home.of_package.now) (classes_left l.class-iterator))
+    (l.named.items ++ map (named_class l.home.index.now (slice_index l.home.roles 0))
+    (map (numbered_class l.home.number l.home.of_package.now) (classes_left l.class-iterator))
     ≡ l.initial.named.items ++ map (named_class l.home.index.now (slice_index l.home.roles 0)) (numbered_classes_of l.home.number l.home.of_package.now))
     × All IsSized l.named.items
     × AreDescribedOnce l.home.of_package.now.description.items.classes (classes_left l.class-iterator)

@@ -41,8 +41,11 @@ records-preserved c =
           ∙ c.records.invariant.numbers;
       next = omega (arith, c.in_ok-push.ensures.next, ap length is, c.records.invariant.next);
       least =
-          ap (λ before. least_from link_place before (reference_fault home.index.now home.number) (flat_map (references_of_field_type d) (fields_of others))) c.in_ok-fields_of_record.ensures.least
+          ap
+          (λ before. least_from link_place before (reference_fault home.index.now home.number)
+          (flat_map (references_of_field_type d) (fields_of others))) c.in_ok-fields_of_record.ensures.least
           ∙ sym (least_record_types home.index.now home.number d x others c.records.least)
-          ∙ ap (λ (ds : List ClassDescriptor). least_from link_place c.records.least (reference_fault home.index.now home.number) (flat_map (references_of_field_type d) (fields_of ds))) (sym is)
+          ∙ ap (λ (ds : List ClassDescriptor). least_from link_place c.records.least (reference_fault home.index.now home.number)
+          (flat_map (references_of_field_type d) (fields_of ds))) (sym is)
           ∙ c.records.invariant.least;
     }

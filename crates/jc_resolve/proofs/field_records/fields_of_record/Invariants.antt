@@ -12,12 +12,17 @@ use Rattle.jc_resolve.proofs.field_records.fields_of_record.Given as goal
 abbrev pub invariant-fields : goal.invariant-fields
 invariant-fields l = record {
   own :
-      l.own.items ++ filter_map (own_field l.home.index.now (slice_index l.home.roles 0) l.home.number l.home.of_package.now.description) (fields_left l.field-iterator)
+      l.own.items ++ filter_map (own_field l.home.index.now (slice_index l.home.roles 0) l.home.number l.home.of_package.now.description)
+      (fields_left l.field-iterator)
       ≡ fields_of_record l.home.index.now (slice_index l.home.roles 0) l.home.number l.home.of_package.now.description (described_class_seen l.fn.described);
   statics :
-      l.statics.items ++ filter_map (static_type l.home.index.now (slice_index l.home.roles 0) l.home.number l.home.of_package.now.description) (fields_left l.field-iterator)
-      ≡ l.initial.statics.items ++ filter_map (static_type l.home.index.now (slice_index l.home.roles 0) l.home.number l.home.of_package.now.description) (described_class_seen l.fn.described).fields;
+      l.statics.items ++ filter_map (static_type l.home.index.now (slice_index l.home.roles 0) l.home.number l.home.of_package.now.description)
+      (fields_left l.field-iterator)
+      ≡ l.initial.statics.items ++ filter_map (static_type l.home.index.now (slice_index l.home.roles 0) l.home.number l.home.of_package.now.description)
+      (described_class_seen l.fn.described).fields;
   least :
-      least_from link_place l.least (reference_fault l.home.index.now l.home.number) (flat_map (references_of_field_type l.home.of_package.now.description) (fields_left l.field-iterator))
-      ≡ least_from link_place l.initial.least (reference_fault l.home.index.now l.home.number) (flat_map (references_of_field_type l.home.of_package.now.description) (described_class_seen l.fn.described).fields);
+      least_from link_place l.least (reference_fault l.home.index.now l.home.number)
+      (flat_map (references_of_field_type l.home.of_package.now.description) (fields_left l.field-iterator))
+      ≡ least_from link_place l.initial.least (reference_fault l.home.index.now l.home.number)
+      (flat_map (references_of_field_type l.home.of_package.now.description) (described_class_seen l.fn.described).fields);
 }

@@ -7,4 +7,5 @@ use Rattle.jc_resolve.proofs.import_checks.imports_of.Given as goal
 
 abbrev pub invariant-imports : goal.invariant-imports
 invariant-imports l =
-    least_from link_place l.least (import_fault l.packages l.«package») (range_with_len l.token (l.count - l.token)) ≡ least_from link_place l.initial.least (import_fault l.packages l.«package») (range_with_len 0 l.count)
+    least_from link_place l.least (import_fault l.packages l.«package») (range_with_len l.token (l.count - l.token)) ≡ least_from link_place
+    l.initial.least (import_fault l.packages l.«package») (range_with_len 0 l.count)

@@ -6,4 +6,5 @@ use Rattle.jc_resolve.proofs.imports.met_in.Given as goal
 
 abbrev pub invariant-imports : goal.invariant-imports
 invariant-imports l =
-    l.met.items ++ map (first_meeting (packages_left l.packages)) (imports_left l.asked-iterator) ≡ map (first_meeting (packages_left l.packages)) (imports_left l.fn.imports)
+    l.met.items ++ map (first_meeting (packages_left l.packages)) (imports_left l.asked-iterator) ≡ map (first_meeting (packages_left l.packages))
+    (imports_left l.fn.imports)

@@ -11,7 +11,8 @@ use Rattle.jc_resolve.proofs.Steps.{methods_step}
 use Rattle.jc_resolve.proofs.method_records.methods_after.Goals as goal
 
 -- of a package and those after it, where it is of the package and once it is of the others
-all_with : (P : PackageRecord → Type 0) (p : PackageRecord) (left others : List PackageRecord) → left ≡ p ∷ others → P p → All P others → All P left
+all_with : (P : PackageRecord → Type 0) (p : PackageRecord) (left others : List PackageRecord) → left ≡ p ∷ others → P p → All P others
+    → All P left
 all_with P p left others is here all = subst (λ (ps : List PackageRecord). All P ps) (sym is) (All-cons P p others here all)
 
 none_left : (P : PackageRecord → Type 0) (left : List PackageRecord) → left ≡ [] → All P left

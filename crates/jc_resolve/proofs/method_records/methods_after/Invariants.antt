@@ -13,9 +13,11 @@ use Rattle.jc_resolve.proofs.method_records.methods_after.Given as goal
 -- of all packages it is known, once it is of those that are left
 abbrev pub invariant-packages : goal.invariant-packages
 invariant-packages l = record {
-  named : l.methods.items ++ map (named_method l.index l.roles) (methods_after l.k (packages_left l.package-iterator)) ≡ map (named_method l.index l.roles) (numbered_methods l.packages);
+  named : l.methods.items ++ map (named_method l.index l.roles) (methods_after l.k (packages_left l.package-iterator))
+      ≡ map (named_method l.index l.roles) (numbered_methods l.packages);
   agreed : All IsAgreed (packages_left l.package-iterator) → All IsAgreed l.packages;
   few : All HasFewHandlers (packages_left l.package-iterator) → All HasFewHandlers l.packages;
-  least : least_from link_place l.least (no_class_fault l.index) (named_after references_for_methods l.k (packages_left l.package-iterator)) ≡ least_from link_place l.initial.least (no_class_fault l.index) (named_in references_for_methods l.packages);
+  least : least_from link_place l.least (no_class_fault l.index) (named_after references_for_methods l.k (packages_left l.package-iterator))
+      ≡ least_from link_place l.initial.least (no_class_fault l.index) (named_in references_for_methods l.packages);
   count : l.k + length (packages_left l.package-iterator) ≡ length l.packages;
 }

@@ -10,8 +10,11 @@ use Rattle.jc_resolve.proofs.method_records.push_package.Given as goal
 
 abbrev pub invariant-classes : goal.invariant-classes
 invariant-classes l =
-    (l.methods.items ++ map (named_method l.home.index.now l.home.roles) (methods_of_classes l.home.number l.home.of_package.now l.class_no (described_left l.class-iterator))
-    ≡ l.initial.methods.items ++ map (named_method l.home.index.now l.home.roles) (methods_of_classes l.home.number l.home.of_package.now 0 l.home.of_package.now.description.items.classes))
+    (l.methods.items ++ map (named_method l.home.index.now l.home.roles)
+    (methods_of_classes l.home.number l.home.of_package.now l.class_no (described_left l.class-iterator))
+    ≡ l.initial.methods.items ++ map (named_method l.home.index.now l.home.roles)
+    (methods_of_classes l.home.number l.home.of_package.now 0 l.home.of_package.now.description.items.classes))
     × (l.class_no + length (described_left l.class-iterator) ≡ length l.home.of_package.now.description.items.classes)
-    × (least_from link_place l.least (reference_fault l.home.index.now l.home.number) (flat_map (references_with_methods l.home.of_package.now.description) (described_left l.class-iterator))
+    × (least_from link_place l.least (reference_fault l.home.index.now l.home.number)
+    (flat_map (references_with_methods l.home.of_package.now.description) (described_left l.class-iterator))
     ≡ least_from link_place l.initial.least (reference_fault l.home.index.now l.home.number) (references_for_methods l.home.of_package.now))

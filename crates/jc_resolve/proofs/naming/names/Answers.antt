@@ -7,7 +7,8 @@ returns-clause-tells c = names_told c.args.packages.now c.args.roles c.names_or_
 
 pub returns-clause-named : goal.returns-clause-named
 returns-clause-named c =
-    answer_right c.args.packages.now c.args.roles c.names_or_fault.result c.names_or_fault.ensures.value c.names_or_fault.ensures.sized c.names_or_fault.ensures.agreed c.names_or_fault.ensures.few
+    answer_right c.args.packages.now c.args.roles c.names_or_fault.result c.names_or_fault.ensures.value c.names_or_fault.ensures.sized
+    c.names_or_fault.ensures.agreed c.names_or_fault.ensures.few
 
 pub returns-clause-own : goal.returns-clause-own
 returns-clause-own c = answer_apart c.args.packages.now c.args.roles c.names_or_fault.result c.names_or_fault.ensures.value c.names_or_fault.ensures.agreed

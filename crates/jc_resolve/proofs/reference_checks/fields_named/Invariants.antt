@@ -7,4 +7,5 @@ use Rattle.jc_resolve.proofs.reference_checks.fields_named.Given as goal
 
 abbrev pub invariant-fields : goal.invariant-fields
 invariant-fields l =
-    least_from link_place l.least (reference_fault l.index l.«package») (flat_map reference_of_field (fields_left l.field-iterator)) ≡ least_from link_place l.initial.least (reference_fault l.index l.«package») (flat_map reference_of_field (fields_left l.fn.fields))
+    least_from link_place l.least (reference_fault l.index l.«package») (flat_map reference_of_field (fields_left l.field-iterator))
+    ≡ least_from link_place l.initial.least (reference_fault l.index l.«package») (flat_map reference_of_field (fields_left l.fn.fields))

@@ -8,4 +8,6 @@ use Rattle.jc_resolve.proofs.reference_checks.least_of_records.Given as goal
 
 abbrev pub invariant-records : goal.invariant-records
 invariant-records l =
-    least_from link_place l.least (reference_fault l.index l.«package») (flat_map references_without_methods (described_left l.described-iterator)) ≡ least_from link_place l.initial.least (reference_fault l.index l.«package») (flat_map references_without_methods (described_left l.fn.records))
+    least_from link_place l.least (reference_fault l.index l.«package») (flat_map references_without_methods (described_left l.described-iterator))
+    ≡ least_from link_place l.initial.least (reference_fault l.index l.«package»)
+    (flat_map references_without_methods (described_left l.fn.records))

@@ -7,4 +7,5 @@ use Rattle.jc_resolve.proofs.reference_checks.table_named.Given as goal
 
 abbrev pub invariant-references : goal.invariant-references
 invariant-references l =
-    least_from link_place l.least (reference_fault l.index l.«package») (numbers l.reference-iterator) ≡ least_from link_place l.initial.least (reference_fault l.index l.«package») (numbers l.fn.table)
+    least_from link_place l.least (reference_fault l.index l.«package») (numbers l.reference-iterator) ≡ least_from link_place l.initial.least
+    (reference_fault l.index l.«package») (numbers l.fn.table)

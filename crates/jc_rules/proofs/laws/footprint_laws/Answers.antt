@@ -1,4 +1,5 @@
-use Rattle.jc_rules.proofs.Footprints.{met-is-there, asked-is-there, operation-reads, footprint-is-one, operation-leaves, operation-names-none, alike-leave-alike}
+use Rattle.jc_rules.proofs.Footprints.{met-is-there, asked-is-there, operation-reads, footprint-is-one, operation-leaves, operation-names-none}
+use Rattle.jc_rules.proofs.Footprints.{alike-leave-alike}
 use Rattle.jc_rules.proofs.laws.footprint_laws.Goals as goal
 
 pub returns-clause-met : goal.returns-clause-met

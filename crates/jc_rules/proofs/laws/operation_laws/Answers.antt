@@ -17,7 +17,8 @@ pub returns-clause-falls : goal.returns-clause-falls
 returns-clause-falls c = operation-falls c.args.world.now (subst IsOrderOfTypes c.classes.ensures.is c.types_are_ordered.ensures.order)
 
 pub returns-clause-falls_on_card : goal.returns-clause-falls_on_card
-returns-clause-falls_on_card c = operation-falls-on-card c.args.world.now c.classes.ensures.links (subst IsOrderOfTypes c.classes.ensures.is c.types_are_ordered.ensures.order)
+returns-clause-falls_on_card c =
+    operation-falls-on-card c.args.world.now c.classes.ensures.links (subst IsOrderOfTypes c.classes.ensures.is c.types_are_ordered.ensures.order)
 
 pub returns-clause-raises : goal.returns-clause-raises
 returns-clause-raises c = operation-raises c.args.world.now (subst IsOrderOfTypes c.classes.ensures.is c.types_are_ordered.ensures.order)

@@ -9,4 +9,5 @@ returns-clause-flow c = rule-falls c.args.world.now (subst IsOrderOfTypes c.clas
 
 pub returns-clause-card : goal.returns-clause-card
 returns-clause-card c =
-    rule-falls-on-card c.args.world.now c.classes.ensures.links (subst IsOrderOfTypes c.classes.ensures.is c.types_are_ordered.ensures.order) c.operations_are_sound.ensures.sound
+    rule-falls-on-card c.args.world.now c.classes.ensures.links (subst IsOrderOfTypes c.classes.ensures.is c.types_are_ordered.ensures.order)
+    c.operations_are_sound.ensures.sound

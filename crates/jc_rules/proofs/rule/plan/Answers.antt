@@ -18,7 +18,8 @@ returns-then-depth_after-max_stack c =
     let e = c.in_ok-effect.effect in
     let more : c.args.max_stack < depth_after e.change (length c.args.stack.now) = omega (arith, c.depth_after.ensures) in
     full c.in_ok-effect.ensures.0
-    (plan-full c.args.world.now c.requires.world f c.requires.frame c.args.operation e c.args.max_stack c.requires.known c.in_ok-effect.ensures.0 c.in_ok-effect.ensures.1
+    (plan-full c.args.world.now c.requires.world f c.requires.frame c.args.operation e c.args.max_stack c.requires.known c.in_ok-effect.ensures.0
+    c.in_ok-effect.ensures.1
     (subst (λ n. c.args.max_stack < depth_after e.change n) (sym (length-reverse c.args.stack.now)) more))
 
 pub returns : goal.returns

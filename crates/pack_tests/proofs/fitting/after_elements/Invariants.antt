@@ -4,4 +4,5 @@ use Rattle.pack_tests.proofs.SoFar.{IsSoFar}
 use Rattle.pack_tests.proofs.fitting.after_elements.Given as goal
 
 abbrev pub invariant-methods : goal.invariant-methods
-invariant-methods l = IsSoFar l.methods.info.bytes.now (listed l.interface (methods_left l.fn.records)) (listed l.interface (methods_left l.method-iterator)) l.laid l.rest
+invariant-methods l =
+    IsSoFar l.methods.info.bytes.now (listed l.interface (methods_left l.fn.records)) (listed l.interface (methods_left l.method-iterator)) l.laid l.rest

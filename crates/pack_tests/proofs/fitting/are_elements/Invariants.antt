@@ -6,4 +6,6 @@ use Rattle.pack_tests.proofs.SoFar.{IsSoFar}
 use Rattle.pack_tests.proofs.fitting.are_elements.Given as goal
 
 abbrev pub invariant-classes : goal.invariant-classes
-invariant-classes l = IsSoFar l.methods.info.bytes.now (methods_for (holds l.interfaces) (descriptor_seen l.descriptor).classes) (methods_for (holds l.interfaces) (described_left l.class-iterator)) l.laid l.rest
+invariant-classes l =
+    IsSoFar l.methods.info.bytes.now (methods_for (holds l.interfaces) (descriptor_seen l.descriptor).classes)
+    (methods_for (holds l.interfaces) (described_left l.class-iterator)) l.laid l.rest

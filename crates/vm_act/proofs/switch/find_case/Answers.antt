@@ -35,5 +35,6 @@ returns c =
     let fits : FitsSigned w32 c.args.key = search rules in
     sym (sym c.cases.invariant ∙ found-nowhere (has_key key) cs c.cases.n
     (few-cases c.args.code.bytes.now c.args.place c.args.insn c.requires.short
-    (c.targets_are_few.ensures c.args.code.bytes.now (record { place = c.args.place; insn = c.args.insn }) c.requires.decoded) c.cases.n (omega (arith, c.cases-test.false))))
+    (c.targets_are_few.ensures c.args.code.bytes.now (record { place = c.args.place; insn = c.args.insn }) c.requires.decoded) c.cases.n
+    (omega (arith, c.cases-test.false))))
     ∙ ap (λ (k : ℤ). find (has_key k) cs) (to_z-of_z w32 c.args.key fits)

@@ -7,6 +7,8 @@ use Rattle.vm_offend.proofs.starting.begun.Goals as goal
 pub returns : goal.returns
 returns c =
     let z = c.begin.new.store in
-    moved (IsBegun c.args.world.now c.args.entry c.args.args.now c.of.result) _ _ _ z.ram.now z.heap.now z.statics.now (search rules) (search rules) (search rules)
+    moved (IsBegun c.args.world.now c.args.entry c.args.args.now c.of.result) _ _ _ z.ram.now z.heap.now z.statics.now (search rules) (search rules)
+    (search rules)
     (begun-words c.args.world.now c.args.entry c.args.args.now c.requires.begins c.starts_erase.ensures c.starts_are_sized.ensures
-    c.of.result z.world.now z.counts z.ram.now z.heap.now z.statics.now c.begin.ensures.world (c.of.ensures.counts ∙ c.counts.ensures) c.of.ensures.ending c.begin.ensures.well c.begin.ensures.state)
+    c.of.result z.world.now z.counts z.ram.now z.heap.now z.statics.now c.begin.ensures.world (c.of.ensures.counts ∙ c.counts.ensures) c.of.ensures.ending
+    c.begin.ensures.well c.begin.ensures.state)

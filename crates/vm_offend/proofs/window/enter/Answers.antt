@@ -17,7 +17,8 @@ returns-clause-frame c =
     let few : count ≤ 255 = omega (arith, c.register_count-x-end.ensures.most, c.register_count-x-end.ensures.value) in
     let last : c.registers.x ≡ count = omega (arith, c.registers-test.false, c.registers.auto.x-end, c.register_count-x-end.ensures.value) in
     let Filled : ℕ → ℕ → Type 0 = λ n m. take n (drop 3 ws) ≡ take n (args ++ replicate (m - length args) 0) in
-    let written : Filled count count = subst (λ m. Filled count m) c.register_count-x-end.ensures.value (subst (λ n. Filled n end) last c.registers.invariant) in
+    let written : Filled count count = subst (λ m. Filled count m) c.register_count-x-end.ensures.value
+    (subst (λ n. Filled n end) last c.registers.invariant) in
     begun methods ws args c.args.method (c.registers.auto.window ∙ c.requires.len) few c.requires.room written
 
 pub returns-clause-fits : goal.returns-clause-fits
@@ -27,5 +28,6 @@ returns-clause-fits c =
     let few : count ≤ 255 = omega (arith, c.register_count-x-end.ensures.most, c.register_count-x-end.ensures.value) in
     let last : c.registers.x ≡ count = omega (arith, c.registers-test.false, c.registers.auto.x-end, c.register_count-x-end.ensures.value) in
     let Filled : ℕ → ℕ → Type 0 = λ n m. take n (drop 3 ws) ≡ take n (args ++ replicate (m - length args) 0) in
-    let written : Filled count count = subst (λ m. Filled count m) c.register_count-x-end.ensures.value (subst (λ n. Filled n end) last c.registers.invariant) in
+    let written : Filled count count = subst (λ m. Filled count m) c.register_count-x-end.ensures.value
+    (subst (λ n. Filled n end) last c.registers.invariant) in
     begun_fits methods ws args c.args.method (c.registers.auto.window ∙ c.requires.len) few c.requires.room written

@@ -9,7 +9,8 @@ returns-clause-frame c =
     let methods = c.args.world.now.methods in let ws = c.args.window.now in let d = get_or ws 2 0 in
     let size : 258 + d - 258 ≡ d = omega arith in
     let part : take (258 + d - 258) (drop 258 ws) ≡ take d (drop 258 ws) = ap (λ n. take n (drop 258 ws)) size in
-    let len : length c.rotate_cells.new.stack ≡ d = c.rotate_cells.auto.stack ∙ (ap length part ∙ length-stack methods ws c.requires.len c.requires.fits) in
+    let len : length c.rotate_cells.new.stack ≡ d = c.rotate_cells.auto.stack
+    ∙ (ap length part ∙ length-stack methods ws c.requires.len c.requires.fits) in
     let turned : reverse c.rotate_cells.new.stack ≡ rotated c.args.count c.args.by (reverse (take d (drop 258 ws))) =
     c.rotate_cells.ensures ∙ ap (λ xs. rotated c.args.count c.args.by (reverse xs)) part in
     let put : List ℕ → Frame ℕ = λ s. record (frame_in methods ws) { stack = s } in

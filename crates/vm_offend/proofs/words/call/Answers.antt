@@ -101,7 +101,8 @@ returns-clause-frames c =
     let now = (lower ++ c.discard.new.window) ++ (c.enter.new.window ++ rest) in
     let more : k + 1 ≡ suc (suc n) = omega (arith, last) in
     let count = c.args.count in
-    let callee : frame_in methods c.enter.new.window ≡ entered words methods c.args.method (arguments count (first_frame (frames_in methods c.args.ram.now k)).stack) =
+    let callee : frame_in methods c.enter.new.window ≡ entered words methods c.args.method
+    (arguments count (first_frame (frames_in methods c.args.ram.now k)).stack) =
     c.enter.ensures.frame ∙ ap (entered words methods c.args.method) (c.last.ensures ∙ ap (λ (f : Frame ℕ). arguments count f.stack) top) in
     let relieved : Frame ℕ → Frame ℕ = λ f. record f { stack = drop count f.stack } in
     let caller : frame_in methods c.discard.new.window ≡ relieved (first_frame (frames_in methods c.args.ram.now k)) =
@@ -111,8 +112,13 @@ returns-clause-frames c =
     ap (frames_in methods now) more
     ∙ (called_frames methods c.args.ram.now lower was c.discard.new.window c.enter.new.window above rest n whole l s s₁ s₂
     ∙ (ap (λ f. f ∷ (frame_in methods c.discard.new.window ∷ frames_in methods c.args.ram.now n)) callee
-    ∙ (ap (λ f. entered words methods c.args.method (arguments count (first_frame (frames_in methods c.args.ram.now k)).stack) ∷ (f ∷ frames_in methods c.args.ram.now n)) caller
-    ∙ ap (λ fs. entered words methods c.args.method (arguments count (first_frame (frames_in methods c.args.ram.now k)).stack) ∷ (relieved (first_frame (frames_in methods c.args.ram.now k)) ∷ fs)) others)))
+    ∙ (ap
+    (λ f. entered words methods c.args.method
+    (arguments count (first_frame (frames_in methods c.args.ram.now k)).stack) ∷ (f ∷ frames_in methods c.args.ram.now n)) caller
+    ∙ ap
+    (λ fs. entered words methods c.args.method
+    (arguments count (first_frame (frames_in methods c.args.ram.now k)).stack) ∷ (relieved (first_frame (frames_in methods c.args.ram.now k)) ∷ fs))
+    others)))
 
 pub returns-clause-fit : goal.returns-clause-fit
 returns-clause-fit c =
@@ -136,4 +142,5 @@ returns-clause-fit c =
     let now = (lower ++ c.discard.new.window) ++ (c.enter.new.window ++ rest) in
     let more : k + 1 ≡ suc (suc n) = omega (arith, last) in
     subst (FitWindows methods now) (sym more)
-    (called_fits methods c.args.ram.now lower was c.discard.new.window c.enter.new.window above rest n whole l s s₁ s₂ c.enter.ensures.fits c.discard.ensures.fits fits.1)
+    (called_fits methods c.args.ram.now lower was c.discard.new.window c.enter.new.window above rest n whole l s s₁ s₂ c.enter.ensures.fits
+    c.discard.ensures.fits fits.1)

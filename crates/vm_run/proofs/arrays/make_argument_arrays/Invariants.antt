@@ -9,7 +9,8 @@ abbrev pub invariant-each : goal.invariant-each
 invariant-each g l = record {
   state : with_arrays g.S.Cell.CellForm.cells (map argument_of (drop l.arg-index l.arg-items)) (g.S.Store.state l.store)
       ≡ with_arrays g.S.Cell.CellForm.cells l.args (g.S.Store.state l.fn.store);
-  room : first_without_room l.arg-index (length (g.S.Store.state l.store).heap) (heap_cells (g.S.Store.state l.store)) (map argument_of (drop l.arg-index l.arg-items))
+  room : first_without_room l.arg-index (length (g.S.Store.state l.store).heap) (heap_cells (g.S.Store.state l.store))
+      (map argument_of (drop l.arg-index l.arg-items))
       ≡ None;
   well : g.S.Store.well l.store;
   fixed : g.S.Store.fixed l.store ≡ g.S.Store.fixed l.fn.store;

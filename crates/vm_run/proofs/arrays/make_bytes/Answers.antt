@@ -13,7 +13,8 @@ set_object_cell-requires-clause-there g c =
     let k = g.S.Cell.CellForm.cells in
     let ws = c.args.bytes.now in
     let zeros = array_cells k Bytes (length ws) in
-    element-there (g.S.Store.state c.args.store.now) (g.S.Store.state c.bytes.store) Bytes zeros (λ b. k.short (byte_of_word b)) ws c.make_array-handle.result c.bytes.i
+    element-there (g.S.Store.state c.args.store.now) (g.S.Store.state c.bytes.store) Bytes zeros (λ b. k.short (byte_of_word b)) ws
+    c.make_array-handle.result c.bytes.i
     c.make_array-handle.ensures.handle (narrow-size k Bytes (length ws) refl) c.bytes.invariant.state (omega (arith, c.bytes-test.true))
 
 pub bytes-preserved : goal.bytes-preserved
@@ -23,7 +24,8 @@ bytes-preserved g c =
     let zeros = array_cells k Bytes (length ws) in
     record {
       state = c.set_object_cell.ensures.state
-          ∙ element-more (g.S.Store.state c.args.store.now) (g.S.Store.state c.bytes.store) Bytes zeros (λ b. k.short (byte_of_word b)) ws c.make_array-handle.result c.bytes.i
+          ∙ element-more (g.S.Store.state c.args.store.now) (g.S.Store.state c.bytes.store) Bytes zeros (λ b. k.short (byte_of_word b)) ws
+          c.make_array-handle.result c.bytes.i
           c.make_array-handle.ensures.handle (narrow-size k Bytes (length ws) refl) c.short.result c.bytes.invariant.state (omega (arith, c.bytes-test.true))
           (let fits : SFits w16 c.byte_of_word.result = search rules in
           c.short.ensures
@@ -37,5 +39,6 @@ pub returns-clause-state : goal.returns-clause-state
 returns-clause-state g c =
     let k = g.S.Cell.CellForm.cells in
     let ws = c.args.bytes.now in
-    elements-done (g.S.Store.state c.args.store.now) (g.S.Store.state c.bytes.store) Bytes (array_cells k Bytes (length ws)) (λ b. k.short (byte_of_word b)) ws c.make_array-handle.result c.bytes.i
+    elements-done (g.S.Store.state c.args.store.now) (g.S.Store.state c.bytes.store) Bytes (array_cells k Bytes (length ws))
+    (λ b. k.short (byte_of_word b)) ws c.make_array-handle.result c.bytes.i
     c.make_array-handle.ensures.handle (narrow-size k Bytes (length ws) refl) c.bytes.invariant.state (omega (arith, c.bytes-test.false))

@@ -1,4 +1,5 @@
-use Rattle.std.proofs.Common.{◌≡◌, ◌<◌, ◌≤◌, ◌+◌, ◌++◌, [], ◌∷◌, List, ℕ, length, take, map, sym, ap, ◌∙◌, subst, arith, true, length-take}
+use Rattle.std.proofs.Common.{◌≡◌, ◌<◌, ◌≤◌, ◌+◌, ◌++◌, [], ◌∷◌, List, ℕ, length, take, map, sym, ap, ◌∙◌, subst, arith}
+use Rattle.std.proofs.Common.{true, length-take}
 use Rattle.std.specs.Prelude.{sum_by, nat_lt, nat_le, ◌&&◌, All}
 use Rattle.std.proofs.lemmas.List.{length-map}
 use Rattle.std.proofs.lemmas.List.Elements.{All-take}
@@ -22,8 +23,10 @@ make_initial-requires-clause-room g c =
     let words : ArrayRec → ℕ = λ r. length r.initial in
     let limits = c.classes-facts.ensures.links.limits in
     let inside : n < length w.arrays = there-inside w.arrays n a c.array.ensures.is in
-    let kept : All (λ r. AreElementsOf r.kind r.initial) (take n w.arrays) = All-take (λ r. AreElementsOf r.kind r.initial) n w.arrays c.classes-facts.ensures.links.arrays in
-    let cells : heap_cells z ≡ sum_by words (take n w.arrays) = ap (λ (x : Z). heap_cells x) c.arrays.invariant.state ∙ initial-count k (take n w.arrays) kept in
+    let kept : All (λ r. AreElementsOf r.kind r.initial) (take n w.arrays) = All-take (λ r. AreElementsOf r.kind r.initial) n w.arrays
+    c.classes-facts.ensures.links.arrays in
+    let cells : heap_cells z ≡ sum_by words (take n w.arrays) = ap (λ (x : Z). heap_cells x) c.arrays.invariant.state
+    ∙ initial-count k (take n w.arrays) kept in
     let made : length z.heap ≡ n =
     ap (λ (x : Z). length x.heap) c.arrays.invariant.state ∙ (length-map (take n w.arrays) (initial_object k) ∙ omega (arith, length-take n w.arrays)) in
     let most = sum-most words w.arrays n a c.array.ensures.is in
@@ -39,7 +42,8 @@ arrays-preserved g c =
     record {
       state = c.make_initial.ensures.state
           ∙ (ap (λ (x : Z). record x { heap = x.heap ++ initial_object k a ∷ [] }) c.arrays.invariant.state
-          ∙ ap (λ (os : List (Object g.row.S-Cell.Denot)). record s { heap = os }) (sym (map-next (initial_object k) w.arrays c.arrays.n a c.array.ensures.is)));
+          ∙ ap (λ (os : List (Object g.row.S-Cell.Denot)). record s { heap = os })
+          (sym (map-next (initial_object k) w.arrays c.arrays.n a c.array.ensures.is)));
       well = c.make_initial.ensures.well;
       fixed = c.make_initial.ensures.fixed ∙ c.arrays.invariant.fixed;
     }

@@ -19,7 +19,9 @@ pub ints-preserved : goal.ints-preserved
 ints-preserved g c =
     let inside : 2 * c.ints.i + 1 < length c.args.words.now = omega (arith, c.ints-test.true) in
     record {
-      state = low-more g.S.Cell.CellForm.cells (g.S.Store.state c.args.store.now) (g.S.Store.state c.ints.store) c.args.words.now c.make_array-handle.result c.ints.i
+      state =
+          low-more g.S.Cell.CellForm.cells (g.S.Store.state c.args.store.now) (g.S.Store.state c.ints.store) c.args.words.now c.make_array-handle.result
+          c.ints.i
           c.make_array-handle.ensures.handle inside c.requires.whole c.ints.invariant.state
           (g.S.Store.state c.set_object_cell.new.self) (g.S.Store.state c.set_object_cell-in-ints.new.self) c.high.result c.low.result
           c.set_object_cell.ensures.state c.set_object_cell-in-ints.ensures.state (c.high.ensures) (c.low.ensures);

@@ -20,13 +20,16 @@ make_argument_arrays-requires-clause-room g c =
     let Z : Type 0 = State g.row.S-Cell.Denot in
     let z : Z = g.S.Store.state c.make_initial_arrays.new.store in
     let t = takes w c.args.entry args c.requires.begins in
-    let count : length z.heap ≡ length w.arrays = ap (λ (x : Z). length x.heap) c.make_initial_arrays.ensures.state ∙ length-map w.arrays (initial_object k) in
+    let count : length z.heap ≡ length w.arrays = ap (λ (x : Z). length x.heap) c.make_initial_arrays.ensures.state
+    ∙ length-map w.arrays (initial_object k) in
     let cells : heap_cells z ≡ sum_by (λ (a : ArrayRec). length a.initial) w.arrays =
     ap (λ (x : Z). heap_cells x) c.make_initial_arrays.ensures.state ∙ initial-count k w.arrays c.classes-facts.ensures.links.arrays in
-    ap (λ (n : ℕ). first_without_room 0 n (heap_cells z) args) count ∙ (ap (λ (n : ℕ). first_without_room 0 (length w.arrays) n args) cells ∙ t.1.room)
+    ap (λ (n : ℕ). first_without_room 0 n (heap_cells z) args) count
+    ∙ (ap (λ (n : ℕ). first_without_room 0 (length w.arrays) n args) cells ∙ t.1.room)
 
 pub begin-requires-clause-known : goal.begin-requires-clause-known
-begin-requires-clause-known g c = let t = takes c.args.world.now c.args.entry c.args.args.now c.requires.begins in there-inside c.args.world.now.methods c.args.entry t.0 t.1.is
+begin-requires-clause-known g c =
+    let t = takes c.args.world.now c.args.entry c.args.args.now c.requires.begins in there-inside c.args.world.now.methods c.args.entry t.0 t.1.is
 
 pub begin-requires-clause-room : goal.begin-requires-clause-room
 begin-requires-clause-room g c =
@@ -36,11 +39,13 @@ begin-requires-clause-room g c =
     let frames : y.frames ≡ [] =
     ap (λ (x : Z). x.frames) c.make_argument_arrays.ensures.state
     ∙ (arrays-frames k c.args.args.now (g.S.Store.state c.make_initial_arrays.new.store)
-    ∙ (ap (λ (x : Z). x.frames) c.make_initial_arrays.ensures.state ∙ (ap (λ (x : Z). x.frames) c.write_statics.ensures.state ∙ c.requires.no_frame))) in
+    ∙ (ap (λ (x : Z). x.frames) c.make_initial_arrays.ensures.state
+    ∙ (ap (λ (x : Z). x.frames) c.write_statics.ensures.state ∙ c.requires.no_frame))) in
     omega (arith, ap length frames)
 
 pub method-requires : goal.method-requires
-method-requires g c = let t = takes c.args.world.now c.args.entry c.args.args.now c.requires.begins in there-inside c.args.world.now.methods c.args.entry t.0 t.1.is
+method-requires g c =
+    let t = takes c.args.world.now c.args.entry c.args.args.now c.requires.begins in there-inside c.args.world.now.methods c.args.entry t.0 t.1.is
 
 pub hand_arguments-requires-clause-handles : goal.hand_arguments-requires-clause-handles
 hand_arguments-requires-clause-handles g c =
@@ -69,5 +74,6 @@ returns-clause-state g c =
     let final : g.S.Store.state c.hand_arguments.new.store ≡ made z (length w.arrays) c.method.result.now.sig.args =
     c.hand_arguments.ensures.state
     ∙ (ap (λ (x : Z). made x c.array_count.result c.as_slice-types.result.now) c.begin.ensures.state
-    ∙ (ap (λ (n : ℕ). made z n c.as_slice-types.result.now) c.array_count.ensures.is ∙ ap (λ (ts : List Ty). made z (length w.arrays) ts) c.as_slice-types.ensures)) in
+    ∙ (ap (λ (n : ℕ). made z n c.as_slice-types.result.now) c.array_count.ensures.is
+    ∙ ap (λ (ts : List Ty). made z (length w.arrays) ts) c.as_slice-types.ensures)) in
     entry-made k w c.args.entry c.args.args.now c.method.result.now y (g.S.Store.state c.hand_arguments.new.store) c.method.ensures.is arrays final

@@ -1,4 +1,5 @@
-use Rattle.std.proofs.Common.{◌≡◌, ◌<◌, ◌≤◌, ◌+◌, ◌++◌, ℕ, List, [], ◌∷◌, length, drop, get_or, sym, ap, ◌∙◌, subst, arith, refl, true, false, Some, None, IsTrue}
+use Rattle.std.proofs.Common.{◌≡◌, ◌<◌, ◌≤◌, ◌+◌, ◌++◌, ℕ, List, [], ◌∷◌, length, drop, get_or, sym, ap, ◌∙◌, subst}
+use Rattle.std.proofs.Common.{arith, refl, true, false, Some, None, IsTrue}
 use Rattle.std.specs.Prelude.{filter, slice_get}
 use Rattle.jc_base.specs.declared.ty.Ty.{Ty}
 use Rattle.jc_base.specs.declared.ty.Ty.TheVariants.{Bottom}
@@ -9,7 +10,8 @@ use Rattle.vm_step.specs.Start.{argument_cells, arrays_made, cells_handed, first
 use Rattle.vm_store.proofs.Fills.{overwritten-nil}
 use Rattle.vm_run.proofs.Sums.{there-inside}
 use Rattle.vm_run.proofs.WritesInOrder.{length-overwritten}
-use Rattle.vm_run.proofs.Handing.{handed-size, fits-next, count-next, room-next, left-next, written-next, made-next, framed-next, framed-itself, framed-runs, framed-first, handed-none, none-left}
+use Rattle.vm_run.proofs.Handing.{handed-size, fits-next, count-next, room-next, left-next, written-next, made-next, framed-next, framed-itself, framed-runs}
+use Rattle.vm_run.proofs.Handing.{framed-first, handed-none, none-left}
 use Rattle.vm_run.proofs.frame.hand_arguments.Goals as goal
 
 pub types-init : goal.types-init
@@ -32,18 +34,21 @@ types-init g c =
 
 pub hand_argument-x-requires-clause-fits : goal.hand_argument-x-requires-clause-fits
 hand_argument-x-requires-clause-fits g c =
-    (fits-next g.S.Cell.CellForm.cells c.args.args.now c.args.types.now c.types.n c.types.ty-index c.types.made (argument_of c.at-arg.result) c.at-arg.ensures c.types-test.true
+    (fits-next g.S.Cell.CellForm.cells c.args.args.now c.args.types.now c.types.n c.types.ty-index c.types.made (argument_of c.at-arg.result)
+    c.at-arg.ensures c.types-test.true
     (sym c.is_parameter.ensures ∙ c.if-not-is_parameter.false) c.types.invariant.fit).0
 
 pub hand_argument-x-requires-clause-there : goal.hand_argument-x-requires-clause-there
 hand_argument-x-requires-clause-there g c =
-    let room = room-next g.S.Cell.CellForm.cells c.args.args.now c.args.types.now c.types.n c.types.ty-index c.types.made (argument_of c.at-arg.result) c.at-arg.ensures c.types-test.true
+    let room = room-next g.S.Cell.CellForm.cells c.args.args.now c.args.types.now c.types.n c.types.ty-index c.types.made (argument_of c.at-arg.result)
+    c.at-arg.ensures c.types-test.true
     (sym c.is_parameter.ensures ∙ c.if-not-is_parameter.false) c.types.x c.types.invariant.room in
     omega (arith, room, c.requires.registers, c.types.invariant.size)
 
 pub hand_argument-x-requires-clause-few : goal.hand_argument-x-requires-clause-few
 hand_argument-x-requires-clause-few g c =
-    let room = room-next g.S.Cell.CellForm.cells c.args.args.now c.args.types.now c.types.n c.types.ty-index c.types.made (argument_of c.at-arg.result) c.at-arg.ensures c.types-test.true
+    let room = room-next g.S.Cell.CellForm.cells c.args.args.now c.args.types.now c.types.n c.types.ty-index c.types.made (argument_of c.at-arg.result)
+    c.at-arg.ensures c.types-test.true
     (sym c.is_parameter.ensures ∙ c.if-not-is_parameter.false) c.types.x c.types.invariant.room in
     omega (arith, room, c.requires.few)
 
@@ -77,11 +82,13 @@ types-preserved g c =
       size = ap length now ∙ (length-overwritten regs own c.types.x less ∙ c.types.invariant.size);
       written = ap (λ (rs : List g.row.S-Cell.Denot). overwritten rs c.hand_argument-x.result (rest (c.types.made + c.arrays_made-made.result))) now
           ∙ (ap (λ (m : ℕ). overwritten (overwritten regs c.types.x own) c.hand_argument-x.result (rest m)) made
-          ∙ (written-next k args tys n i c.types.made arg c.at-arg.ensures c.types-test.true begins regs c.types.x c.hand_argument-x.result c.hand_argument-x.ensures.next
+          ∙ (written-next k args tys n i c.types.made arg c.at-arg.ensures c.types-test.true begins regs c.types.x c.hand_argument-x.result
+          c.hand_argument-x.ensures.next
           (omega (arith, less, c.hand_argument-x.ensures.next))
           ∙ c.types.invariant.written));
       room = ap (λ (m : ℕ). c.hand_argument-x.result + length (rest m)) made
-          ∙ left-next k args tys n i c.types.made arg c.at-arg.ensures c.types-test.true begins c.types.x c.hand_argument-x.result c.hand_argument-x.ensures.next c.types.invariant.room;
+          ∙ left-next k args tys n i c.types.made arg c.at-arg.ensures c.types-test.true begins c.types.x c.hand_argument-x.result
+          c.hand_argument-x.ensures.next c.types.invariant.room;
       count = count-next k args tys n i c.types.made arg c.at-arg.ensures c.types-test.true begins c.types.invariant.count;
       fit = fits.1;
       handles = subst (λ (m : ℕ). m ≤ c.args.objects + (n + 1)) (sym made) (made-next arg c.types.made c.args.objects n c.types.invariant.handles);

@@ -15,5 +15,6 @@ pub arrays-preserved : goal.arrays-preserved
 arrays-preserved c =
     let words : ArrayRec → ℕ = λ r. length r.initial in
     let next = sum-next words c.args.world.now.arrays c.arrays.n c.array.result.now c.array.ensures.is in
-    let e : c.arrays.cells + c.len-cells.result ≡ sum_by words (take (c.arrays.n + 1) c.args.world.now.arrays) = omega (arith, next, c.arrays.invariant, c.len-cells.ensures) in
+    let e : c.arrays.cells + c.len-cells.result ≡ sum_by words (take (c.arrays.n + 1) c.args.world.now.arrays) = omega
+    (arith, next, c.arrays.invariant, c.len-cells.ensures) in
     e

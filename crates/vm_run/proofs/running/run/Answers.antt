@@ -12,11 +12,13 @@ steps-init g c = record { runs = stands; going = c.requires.running; keeps = c.r
 
 pub returns-in-Some-clause-runs : goal.returns-in-Some-clause-runs
 returns-in-Some-clause-runs g c =
-    run-ends g.M.Cell.CellForm.cells c.args.world.now c.steps.invariant.runs c.args.budget c.in-Some.ending (g.M.Store.state c.step.new.store) c.in-Some.ensures.steps c.steps-test.true
+    run-ends g.M.Cell.CellForm.cells c.args.world.now c.steps.invariant.runs c.args.budget c.in-Some.ending (g.M.Store.state c.step.new.store)
+    c.in-Some.ensures.steps c.steps-test.true
 
 pub returns-in-Some-clause-shaped : goal.returns-in-Some-clause-shaped
 returns-in-Some-clause-shaped g c =
-    c.tests_suffice.ensures.ends (g.M.Store.state c.steps.store) (g.M.Store.state c.step.new.store) c.in-Some.ending c.steps.invariant.keeps c.in-Some.ensures.steps
+    c.tests_suffice.ensures.ends (g.M.Store.state c.steps.store) (g.M.Store.state c.step.new.store) c.in-Some.ending c.steps.invariant.keeps
+    c.in-Some.ensures.steps
 
 pub steps-preserved : goal.steps-preserved
 steps-preserved g c =
@@ -36,7 +38,8 @@ steps-preserved g c =
 pub returns-clause-runs : goal.returns-clause-runs
 returns-clause-runs g c =
     let all : c.steps._taken ≡ c.args.budget = omega arith in
-    subst (λ (n : ℕ). Runs g.M.Cell.CellForm.cells c.args.world.now n (g.M.Store.state c.args.store.now) (running (g.M.Store.state c.steps.store))) all c.steps.invariant.runs
+    subst (λ (n : ℕ). Runs g.M.Cell.CellForm.cells c.args.world.now n (g.M.Store.state c.args.store.now) (running (g.M.Store.state c.steps.store))) all
+    c.steps.invariant.runs
 
 pub returns-clause-shaped : goal.returns-clause-shaped
 returns-clause-shaped g c = c.tests_suffice.ensures.shape (g.M.Store.state c.steps.store) c.steps.invariant.keeps

@@ -19,7 +19,8 @@ returns-in-Ref-clause-state g c =
     ∙ (ap (λ (n : ℕ). put (set s.statics n c.reference.result)) c.from-in-Ref.ensures
     ∙ (ap put (write-cell s.statics c.args.slot c.reference.result inside)
     ∙ (ap (λ (x : g.row.S-Cell.Denot). put (overwritten s.statics c.args.slot (x ∷ []))) c.reference.ensures
-    ∙ ap (λ (cs : List g.row.S-Cell.Denot). put (overwritten s.statics c.args.slot cs)) (reference-cells k f.kind f.initial c.at-first.result.now c.in-Ref.is c.requires.words c.at-first.ensures))))
+    ∙ ap (λ (cs : List g.row.S-Cell.Denot). put (overwritten s.statics c.args.slot cs))
+    (reference-cells k f.kind f.initial c.at-first.result.now c.in-Ref.is c.requires.words c.at-first.ensures))))
 
 pub returns-in_default-clause-state : goal.returns-in_default-clause-state
 returns-in_default-clause-state g c =

@@ -44,12 +44,14 @@ fields-preserved g c =
     let size = c.fields.invariant.size in
     let count = c.requires.count in
     let slot = c.fields.invariant.slot in
-    let own : length (Cells f) ≡ width f.kind = field-size k f.kind f.initial (words-size w.classes w.arrays f.kind f.ty f.initial c.static_field.ensures.links.words) in
+    let own : length (Cells f) ≡ width f.kind = field-size k f.kind f.initial
+    (words-size w.classes w.arrays f.kind f.ty f.initial c.static_field.ensures.links.words) in
     let more : flat_map Cells (take (n + 1) w.statics) ≡ done ++ Cells f = flat-next Cells w.statics n f c.static_field.ensures.is in
     record {
       state = c.write_field-slot.ensures.state
           ∙ (ap (λ (x : Z). record x { statics = overwritten x.statics c.fields.slot (Cells f) }) c.fields.invariant.state
-          ∙ (ap (λ (cs : List g.row.S-Cell.Denot). record s { statics = cs }) (overwritten-append s.statics done (Cells f) 0 c.fields.slot (omega arith) (omega (arith, most)))
+          ∙ (ap (λ (cs : List g.row.S-Cell.Denot). record s { statics = cs })
+          (overwritten-append s.statics done (Cells f) 0 c.fields.slot (omega arith) (omega (arith, most)))
           ∙ ap (λ (cs : List g.row.S-Cell.Denot). record s { statics = overwritten s.statics 0 cs }) (sym more)));
       slot = omega (arith, c.write_field-slot.ensures.next, next);
       size = ap length more ∙ (length-append done (Cells f) ∙ omega (arith, own, c.write_field-slot.ensures.next));

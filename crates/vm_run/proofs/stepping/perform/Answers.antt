@@ -18,7 +18,8 @@ stack_limit-requires-clause-method g c =
 pub fault_before-requires-clause-tested : goal.fault_before-requires-clause-tested
 fault_before-requires-clause-tested g c =
     let s : State g.row.M-Cell.Denot = g.M.Store.state c.args.store.now in
-    can-test c.args.world.now g.M.Cell.CellForm.cells s (c.tests_suffice.ensures.shape s c.requires.keeps) (c.tests_suffice.ensures.known s c.requires.keeps) c.requires.running
+    can-test c.args.world.now g.M.Cell.CellForm.cells s (c.tests_suffice.ensures.shape s c.requires.keeps)
+    (c.tests_suffice.ensures.known s c.requires.keeps) c.requires.running
 
 pub fault_before-requires-clause-known : goal.fault_before-requires-clause-known
 fault_before-requires-clause-known g c =
@@ -28,13 +29,15 @@ fault_before-requires-clause-known g c =
 pub act-lead-requires-clause-reaches : goal.act-lead-requires-clause-reaches
 act-lead-requires-clause-reaches g c =
     let s : State g.row.M-Cell.Denot = g.M.Store.state c.args.store.now in
-    reaches-by c.args.world.now g.M.Cell.CellForm.cells g.M.Store.stack_room (g.M.Machine.keeps c.args.world.now) c.tests_suffice.ensures.reaches s c.args.placed c.args.operation
+    reaches-by c.args.world.now g.M.Cell.CellForm.cells g.M.Store.stack_room (g.M.Machine.keeps c.args.world.now) c.tests_suffice.ensures.reaches s
+    c.args.placed c.args.operation
     c.requires.keeps c.requires.running c.requires.instruction c.stack_limit.ensures.most c.requires.resolves (sym c.in-None.ensures)
 
 pub settle-requires-clause-methods : goal.settle-requires-clause-methods
 settle-requires-clause-methods g c =
     let s : State g.row.M-Cell.Denot = g.M.Store.state c.args.store.now in
-    methods-after c.args.world.now s (g.M.Store.state c.act-lead.new.store) (c.tests_suffice.ensures.shape s c.requires.keeps) c.requires.running c.act-lead.ensures.frames
+    methods-after c.args.world.now s (g.M.Store.state c.act-lead.new.store) (c.tests_suffice.ensures.shape s c.requires.keeps) c.requires.running
+    c.act-lead.ensures.frames
 
 pub settle-requires-clause-leads : goal.settle-requires-clause-leads
 settle-requires-clause-leads g c =
@@ -42,9 +45,12 @@ settle-requires-clause-leads g c =
     let k = g.M.Cell.CellForm.cells in
     let s : State g.row.M-Cell.Denot = g.M.Store.state c.args.store.now in
     let z : State g.row.M-Cell.Denot = g.M.Store.state c.act-lead.new.store in
-    let m = some-and (slice_get w.methods (top s).method) (λ m. Resolves w m c.args.placed.place c.args.placed.insn (Ok c.args.operation)) c.requires.resolves in
-    leads-on w k g.M.Store.stack_room (g.M.Machine.keeps w) s z m.0 c.args.placed c.args.operation c.requires.keeps (c.tests_suffice.ensures.shape s c.requires.keeps) c.requires.running
-    (fetched w s m.0 c.args.placed c.requires.running m.1 c.requires.instruction) m.2 c.steps_stand.ensures.room c.steps_stand.ensures.verified c.act-lead.ensures.frames
+    let m = some-and (slice_get w.methods (top s).method) (λ m. Resolves w m c.args.placed.place c.args.placed.insn (Ok c.args.operation))
+    c.requires.resolves in
+    leads-on w k g.M.Store.stack_room (g.M.Machine.keeps w) s z m.0 c.args.placed c.args.operation c.requires.keeps
+    (c.tests_suffice.ensures.shape s c.requires.keeps) c.requires.running
+    (fetched w s m.0 c.args.placed c.requires.running m.1 c.requires.instruction) m.2 c.steps_stand.ensures.room c.steps_stand.ensures.verified
+    c.act-lead.ensures.frames
     c.args.known c.act-lead.result c.requires.places c.act-lead.ensures.act c.act-lead.ensures.stays
 
 pub returns-in-None-clause-outcome : goal.returns-in-None-clause-outcome

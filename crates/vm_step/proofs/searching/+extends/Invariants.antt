@@ -9,4 +9,5 @@ decreases-extends l = extended_count l.world.now.classes l.interface
 
 -- none of the interfaces so far leads to the one that is sought
 abbrev pub invariant-extended : goal.invariant-extended
-invariant-extended l = record { none : NoneExtends l.world.classes l.sought (take l.extended-index l.extended-items); left : AreLeft l.world.classes l.sought l.searched }
+invariant-extended l =
+    record { none : NoneExtends l.world.classes l.sought (take l.extended-index l.extended-items); left : AreLeft l.world.classes l.sought l.searched }

@@ -16,7 +16,9 @@ climb-preserved c =
     record {
       class = next.class;
       left = c.names.ensures.left c.if-names.false;
-      same = sym (implements-next t c.climb.at c.in-Some.parent c.args.sought next ∙ or-first _ _ (sym c.names.ensures.is ∙ c.if-names.false)) ∙ c.climb.invariant.same;
+      same =
+          sym (implements-next t c.climb.at c.in-Some.parent c.args.sought next ∙ or-first _ _ (sym c.names.ensures.is ∙ c.if-names.false))
+          ∙ c.climb.invariant.same;
     }
 
 pub returns-in-None : goal.returns-in-None

@@ -4,4 +4,5 @@ use Rattle.vm_step.proofs.Search.{NoneExtends}
 use Rattle.vm_step.proofs.searching.names.Given as goal
 
 abbrev pub invariant-named : goal.invariant-named
-invariant-named l = record { none : NoneExtends l.world.classes l.sought (take l.named-index l.named-items); left : AreLeft l.world.classes l.sought l.searched }
+invariant-named l =
+    record { none : NoneExtends l.world.classes l.sought (take l.named-index l.named-items); left : AreLeft l.world.classes l.sought l.searched }

@@ -10,5 +10,6 @@ returns-else-class-len c =
     let t = c.args.classes.now in
     elim c.else-class-len.branch [
       | else-class-len-via-then-class-len+else-is_interface w ↦ ap (λ b. if b then object t else c.args.class) w.if-is_interface.ensures
-      | else-class-len-via-else-class-len w ↦ ap (λ b. if b then object t else c.args.class) (sym (not-interface t c.args.class (omega (arith, w.if-class-len.false, c.len.ensures))))
+      | else-class-len-via-else-class-len w ↦ ap (λ b. if b then object t else c.args.class)
+          (sym (not-interface t c.args.class (omega (arith, w.if-class-len.false, c.len.ensures))))
     ]

@@ -4,4 +4,5 @@ use Rattle.vm_store.proofs.stack.rotate_cells.Goals as goal
 
 pub returns : goal.returns
 returns g c =
-    rotated_in_place c.args.stack.now c.rotate_right.new.self _ _ _ c.args.count c.args.by c.requires.there c.requires.part refl refl refl c.rotate_right.ensures.after
+    rotated_in_place c.args.stack.now c.rotate_right.new.self _ _ _ c.args.count c.args.by c.requires.there c.requires.part refl refl refl
+    c.rotate_right.ensures.after

@@ -22,7 +22,8 @@ elements-preserved g c =
           let same : to_z w32 (of_z w32 w.in-Some.n) ≡ w.in-Some.n = search rules in
           record {
             writes = subst (λ r. Writes c.args.room.now r (flat_map element_text (take (c.elements.element + 1) xs))) (sym w.room-is)
-                (one_element c.args.room.now c.elements.room w.write_element.new.room xs c.elements.element w.in-Some.n (found ∙ w.in-Some.is) c.elements.invariant.writes
+                (one_element c.args.room.now c.elements.room w.write_element.new.room xs c.elements.element w.in-Some.n (found ∙ w.in-Some.is)
+                c.elements.invariant.writes
                 (subst (λ z. Writes c.elements.room w.write_element.new.room (element_text z)) same w.write_element.ensures.writes));
             few = subst (λ r. WritesAtMost c.args.room.now r (12 * (c.elements.element + 1))) (sym w.room-is) (omega (arith, before, more));
           }

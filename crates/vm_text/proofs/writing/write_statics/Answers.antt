@@ -15,7 +15,9 @@ fields-preserved g c =
     let all = c.static_count-n-end.ensures.all in
     let long = taken xs c.fields.n (omega (arith, below, all)) in
     record {
-      writes = one_field c.args.room.now c.fields.room c.write_static.new.room xs c.fields.n c.static_value.result long c.static_value.ensures c.fields.invariant.writes c.write_static.ensures.writes;
+      writes =
+          one_field c.args.room.now c.fields.room c.write_static.new.room xs c.fields.n c.static_value.result long c.static_value.ensures
+          c.fields.invariant.writes c.write_static.ensures.writes;
       few = omega (arith, before, more);
     }
 

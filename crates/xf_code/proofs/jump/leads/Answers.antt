@@ -28,7 +28,8 @@ pub add_lead-requires-clause-near : goal.add_lead-requires-clause-near
 add_lead-requires-clause-near c =
     let t = c.in-Some.target in
     let fits : FitsSigned w32 t = search rules in
-    subst IsNearBy (sym (to_z-of_z w32 t fits)) (all-first IsNearBy (rest_of c.targets.target-iterator) (rest_of c.next.new.self) t c.in-Some.ensures.steps c.targets.invariant.near)
+    subst IsNearBy (sym (to_z-of_z w32 t fits))
+    (all-first IsNearBy (rest_of c.targets.target-iterator) (rest_of c.next.new.self) t c.in-Some.ensures.steps c.targets.invariant.near)
 
 pub overflow_add-n : goal.overflow_add-n
 overflow_add-n c = omega (arith, ap length c.in-Some.ensures.steps, c.targets.invariant.count, c.requires.few)
@@ -40,9 +41,13 @@ targets-preserved c =
     let fits : FitsSigned w32 t = search rules in
     let same = to_z-of_z w32 t fits in
     record {
-      so_far = goes-on c.targets.labels.items (lead s c.args.fork.place c.args.fork.operation c.args.fork.operands c.targets.n t ∷ []) _ _ _ c.add_lead.new.labels.items
-          (leads-next s c.args.fork.place c.args.fork.operation c.args.fork.operands c.targets.n (rest_of c.targets.target-iterator) (rest_of c.next.new.self) t c.in-Some.ensures.steps)
-          (subst (λ (x : ℤ). c.add_lead.new.labels.items ≡ c.targets.labels.items ++ lead s c.args.fork.place c.args.fork.operation c.args.fork.operands c.targets.n x ∷ []) same c.in_default.ensures)
+      so_far =
+          goes-on c.targets.labels.items (lead s c.args.fork.place c.args.fork.operation c.args.fork.operands c.targets.n t ∷ []) _ _ _
+          c.add_lead.new.labels.items
+          (leads-next s c.args.fork.place c.args.fork.operation c.args.fork.operands c.targets.n (rest_of c.targets.target-iterator)
+          (rest_of c.next.new.self) t c.in-Some.ensures.steps)
+          (subst (λ (x : ℤ). c.add_lead.new.labels.items ≡ c.targets.labels.items ++ lead s c.args.fork.place c.args.fork.operation
+          c.args.fork.operands c.targets.n x ∷ []) same c.in_default.ensures)
           c.targets.invariant.so_far;
       near = all-rest IsNearBy (rest_of c.targets.target-iterator) (rest_of c.next.new.self) t c.in-Some.ensures.steps c.targets.invariant.near;
       count = omega (arith, ap length c.in-Some.ensures.steps, c.targets.invariant.count);
@@ -51,5 +56,6 @@ targets-preserved c =
 pub returns : goal.returns
 returns c =
     ended c.targets.labels.items _ _
-    (leads-none (source c.args.plan.now) c.args.fork.place c.args.fork.operation c.args.fork.operands c.targets.n (rest_of c.targets.target-iterator) c.in-None.ensures.steps.0)
+    (leads-none (source c.args.plan.now) c.args.fork.place c.args.fork.operation c.args.fork.operands c.targets.n (rest_of c.targets.target-iterator)
+    c.in-None.ensures.steps.0)
     c.targets.invariant.so_far

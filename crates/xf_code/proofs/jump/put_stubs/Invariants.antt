@@ -8,7 +8,8 @@ use Rattle.xf_code.proofs.jump.put_stubs.Given as goal
 abbrev pub invariant-targets : goal.invariant-targets
 invariant-targets l = record {
   so_far : l.items.items ++ stubs_of (source l.plan) l.fork.place l.fork.operation l.fork.operands l.n (rest_of l.target-iterator)
-      ≡ l.fn.items.items ++ stubs_of (source l.plan) l.fork.place l.fork.operation l.fork.operands 0 (targets l.plan.walk.code.bytes.now (record { place = l.fork.place; insn = l.fn.insn }));
+      ≡ l.fn.items.items ++ stubs_of (source l.plan) l.fork.place l.fork.operation l.fork.operands 0
+      (targets l.plan.walk.code.bytes.now (record { place = l.fork.place; insn = l.fn.insn }));
   near : All IsNearBy (rest_of l.target-iterator);
   count : l.n + length (rest_of l.target-iterator) ≡ length (targets l.plan.walk.code.bytes.now (record { place = l.fork.place; insn = l.fn.insn }));
 }

@@ -21,7 +21,8 @@ use Rattle.xf_code.proofs.rewriting.rewrite.Goals as goal
 
 pub unreachable-requires : goal.unreachable-requires
 unreachable-requires c =
-    flaw-never c.flaws_decide.ensures c.args.world.now c.args.typing.now (method_in c.args.world.now c.args.method) c.in-Err-Flawed.field-0 c.in-Err-Flawed.field-0-0 c.in-Err-Flawed.field-0-is
+    flaw-never c.flaws_decide.ensures c.args.world.now c.args.typing.now (method_in c.args.world.now c.args.method) c.in-Err-Flawed.field-0
+    c.in-Err-Flawed.field-0-0 c.in-Err-Flawed.field-0-is
     c.requires.typing c.in-Err-Flawed.ensures.flawed
 
 pub code-requires : goal.code-requires
@@ -36,7 +37,8 @@ rewritten-requires-clause-subject c =
     let m : Method = record { number = n; rec = rec; code = code } in
     let bytes : option_map (code_of w.infos) (slice_get w.methods n) ≡ Some code = cc in
     let mo : IsMethodOf w m = of-method w n rec code c.method-rec.ensures.is bytes (IsMethodOf w) c.in-Ok.ensures.known in
-    let typed : IsTypingOf w m c.args.typing.now = of-method w n rec code c.method-rec.ensures.is bytes (λ m. IsTypingOf w m c.args.typing.now) c.requires.typing in
+    let typed : IsTypingOf w m c.args.typing.now = of-method w n rec code c.method-rec.ensures.is bytes (λ m. IsTypingOf w m c.args.typing.now)
+    c.requires.typing in
     is-subject _ mo c.method-rec.ensures.links typed.least.typing.formed (c.instructions_are_listed.ensures code)
 
 pub returns-in-Ok-rewritten-clause-live : goal.returns-in-Ok-rewritten-clause-live
@@ -48,10 +50,13 @@ returns-in-Ok-rewritten-clause-live c =
     let m : Method = record { number = n; rec = rec; code = code } in
     let bytes : option_map (code_of w.infos) (slice_get w.methods n) ≡ Some code = cc in
     let mo : IsMethodOf w m = of-method w n rec code c.method-rec.ensures.is bytes (IsMethodOf w) c.in-Ok.ensures.known in
-    let flow : IsControlFlow m c.in-Ok.control = of-method w n rec code c.method-rec.ensures.is bytes (λ m. IsControlFlow m c.in-Ok.control) c.in-Ok.ensures.formed in
-    let typed : IsTypingOf w m c.args.typing.now = of-method w n rec code c.method-rec.ensures.is bytes (λ m. IsTypingOf w m c.args.typing.now) c.requires.typing in
+    let flow : IsControlFlow m c.in-Ok.control = of-method w n rec code c.method-rec.ensures.is bytes (λ m. IsControlFlow m c.in-Ok.control)
+    c.in-Ok.ensures.formed in
+    let typed : IsTypingOf w m c.args.typing.now = of-method w n rec code c.method-rec.ensures.is bytes (λ m. IsTypingOf w m c.args.typing.now)
+    c.requires.typing in
     to-method w n rec code c.method-rec.ensures.is bytes (λ m. KeepsLive m m.rec.handlers c.in-Ok-rewritten.symbols.ranges)
-    (live-by w m c.args.typing.now c.in-Ok.control c.args.homes.now typed flow (c.instructions_are_placed.ensures m typed.least.typing.formed) (c.instructions_are_listed.ensures code) mo
+    (live-by w m c.args.typing.now c.in-Ok.control c.args.homes.now typed flow (c.instructions_are_placed.ensures m typed.least.typing.formed)
+    (c.instructions_are_listed.ensures code) mo
     c.method-rec.ensures.links c.are_bytes.ensures c.in-Ok-rewritten.symbols c.in-Ok-rewritten.ensures c.live_are_kept.ensures)
 
 pub returns-in-Ok-rewritten-clause-numbers : goal.returns-in-Ok-rewritten-clause-numbers
@@ -62,10 +67,13 @@ returns-in-Ok-rewritten-clause-numbers c =
     let code = c.of-code.result.bytes.now in
     let m : Method = record { number = n; rec = rec; code = code } in
     let bytes : option_map (code_of w.infos) (slice_get w.methods n) ≡ Some code = cc in
-    let flow : IsControlFlow m c.in-Ok.control = of-method w n rec code c.method-rec.ensures.is bytes (λ m. IsControlFlow m c.in-Ok.control) c.in-Ok.ensures.formed in
-    let are : AreHomes w m (state_at c.args.typing.now) c.args.homes.now = of-method w n rec code c.method-rec.ensures.is bytes (λ m. AreHomes w m (state_at c.args.typing.now) c.args.homes.now) c.requires.homes in
+    let flow : IsControlFlow m c.in-Ok.control = of-method w n rec code c.method-rec.ensures.is bytes (λ m. IsControlFlow m c.in-Ok.control)
+    c.in-Ok.ensures.formed in
+    let are : AreHomes w m (state_at c.args.typing.now) c.args.homes.now = of-method w n rec code c.method-rec.ensures.is bytes
+    (λ m. AreHomes w m (state_at c.args.typing.now) c.args.homes.now) c.requires.homes in
     to-method w n rec code c.method-rec.ensures.is bytes (λ m. HasNumbers m.rec c.args.homes.now c.in-Ok-rewritten.symbols)
-    (has-numbers w m (state_at c.args.typing.now) c.args.homes.now are c.in-Ok-rewritten.symbols (record { leaders = c.in-Ok.control.leaders; marked = flow.leaders; are = c.in-Ok-rewritten.ensures }))
+    (has-numbers w m (state_at c.args.typing.now) c.args.homes.now are c.in-Ok-rewritten.symbols
+    (record { leaders = c.in-Ok.control.leaders; marked = flow.leaders; are = c.in-Ok-rewritten.ensures }))
 
 pub returns-in-Ok-rewritten-clause-size : goal.returns-in-Ok-rewritten-clause-size
 returns-in-Ok-rewritten-clause-size c =
@@ -75,9 +83,12 @@ returns-in-Ok-rewritten-clause-size c =
     let code = c.of-code.result.bytes.now in
     let m : Method = record { number = n; rec = rec; code = code } in
     let bytes : option_map (code_of w.infos) (slice_get w.methods n) ≡ Some code = cc in
-    let flow : IsControlFlow m c.in-Ok.control = of-method w n rec code c.method-rec.ensures.is bytes (λ m. IsControlFlow m c.in-Ok.control) c.in-Ok.ensures.formed in
-    to-method w n rec code c.method-rec.ensures.is bytes (λ m. IsPlainSize w m (state_at c.args.typing.now) c.args.homes.now (plain_size c.in-Ok-rewritten.symbols.items))
-    (has-size w m (state_at c.args.typing.now) c.args.homes.now c.in-Ok-rewritten.symbols (record { leaders = c.in-Ok.control.leaders; marked = flow.leaders; are = c.in-Ok-rewritten.ensures }))
+    let flow : IsControlFlow m c.in-Ok.control = of-method w n rec code c.method-rec.ensures.is bytes (λ m. IsControlFlow m c.in-Ok.control)
+    c.in-Ok.ensures.formed in
+    to-method w n rec code c.method-rec.ensures.is bytes
+    (λ m. IsPlainSize w m (state_at c.args.typing.now) c.args.homes.now (plain_size c.in-Ok-rewritten.symbols.items))
+    (has-size w m (state_at c.args.typing.now) c.args.homes.now c.in-Ok-rewritten.symbols
+    (record { leaders = c.in-Ok.control.leaders; marked = flow.leaders; are = c.in-Ok-rewritten.ensures }))
 
 pub returns-in-Ok-rewritten-clause-ranged : goal.returns-in-Ok-rewritten-clause-ranged
 returns-in-Ok-rewritten-clause-ranged c =
@@ -88,9 +99,12 @@ returns-in-Ok-rewritten-clause-ranged c =
     let m : Method = record { number = n; rec = rec; code = code } in
     let bytes : option_map (code_of w.infos) (slice_get w.methods n) ≡ Some code = cc in
     let mo : IsMethodOf w m = of-method w n rec code c.method-rec.ensures.is bytes (IsMethodOf w) c.in-Ok.ensures.known in
-    let flow : IsControlFlow m c.in-Ok.control = of-method w n rec code c.method-rec.ensures.is bytes (λ m. IsControlFlow m c.in-Ok.control) c.in-Ok.ensures.formed in
-    let typed : IsTypingOf w m c.args.typing.now = of-method w n rec code c.method-rec.ensures.is bytes (λ m. IsTypingOf w m c.args.typing.now) c.requires.typing in
-    ranged-by w m c.args.typing.now c.in-Ok.control c.args.homes.now typed flow (c.instructions_are_placed.ensures m typed.least.typing.formed) (c.instructions_are_listed.ensures code) mo
+    let flow : IsControlFlow m c.in-Ok.control = of-method w n rec code c.method-rec.ensures.is bytes (λ m. IsControlFlow m c.in-Ok.control)
+    c.in-Ok.ensures.formed in
+    let typed : IsTypingOf w m c.args.typing.now = of-method w n rec code c.method-rec.ensures.is bytes (λ m. IsTypingOf w m c.args.typing.now)
+    c.requires.typing in
+    ranged-by w m c.args.typing.now c.in-Ok.control c.args.homes.now typed flow (c.instructions_are_placed.ensures m typed.least.typing.formed)
+    (c.instructions_are_listed.ensures code) mo
     c.method-rec.ensures.links c.are_bytes.ensures c.in-Ok-rewritten.symbols c.in-Ok-rewritten.ensures c.ranges_stand.ensures
 
 pub returns-in-Ok-rewritten-clause-items : goal.returns-in-Ok-rewritten-clause-items
@@ -102,10 +116,13 @@ returns-in-Ok-rewritten-clause-items c =
     let m : Method = record { number = n; rec = rec; code = code } in
     let bytes : option_map (code_of w.infos) (slice_get w.methods n) ≡ Some code = cc in
     let mo : IsMethodOf w m = of-method w n rec code c.method-rec.ensures.is bytes (IsMethodOf w) c.in-Ok.ensures.known in
-    let flow : IsControlFlow m c.in-Ok.control = of-method w n rec code c.method-rec.ensures.is bytes (λ m. IsControlFlow m c.in-Ok.control) c.in-Ok.ensures.formed in
-    let typed : IsTypingOf w m c.args.typing.now = of-method w n rec code c.method-rec.ensures.is bytes (λ m. IsTypingOf w m c.args.typing.now) c.requires.typing in
+    let flow : IsControlFlow m c.in-Ok.control = of-method w n rec code c.method-rec.ensures.is bytes (λ m. IsControlFlow m c.in-Ok.control)
+    c.in-Ok.ensures.formed in
+    let typed : IsTypingOf w m c.args.typing.now = of-method w n rec code c.method-rec.ensures.is bytes (λ m. IsTypingOf w m c.args.typing.now)
+    c.requires.typing in
     to-method w n rec code c.method-rec.ensures.is bytes (λ m. All (IsItem m.code c.in-Ok-rewritten.symbols.items) c.in-Ok-rewritten.symbols.items)
-    (items-by w m c.args.typing.now c.in-Ok.control c.args.homes.now typed flow (c.instructions_are_placed.ensures m typed.least.typing.formed) (c.instructions_are_listed.ensures code) mo
+    (items-by w m c.args.typing.now c.in-Ok.control c.args.homes.now typed flow (c.instructions_are_placed.ensures m typed.least.typing.formed)
+    (c.instructions_are_listed.ensures code) mo
     c.method-rec.ensures.links c.are_bytes.ensures c.in-Ok-rewritten.symbols c.in-Ok-rewritten.ensures c.items_suit.ensures c.are_few.ensures)
 
 pub returns-in-Ok-rewritten-clause-small : goal.returns-in-Ok-rewritten-clause-small
@@ -117,11 +134,16 @@ returns-in-Ok-rewritten-clause-small c =
     let m : Method = record { number = n; rec = rec; code = code } in
     let bytes : option_map (code_of w.infos) (slice_get w.methods n) ≡ Some code = cc in
     let mo : IsMethodOf w m = of-method w n rec code c.method-rec.ensures.is bytes (IsMethodOf w) c.in-Ok.ensures.known in
-    let flow : IsControlFlow m c.in-Ok.control = of-method w n rec code c.method-rec.ensures.is bytes (λ m. IsControlFlow m c.in-Ok.control) c.in-Ok.ensures.formed in
-    let typed : IsTypingOf w m c.args.typing.now = of-method w n rec code c.method-rec.ensures.is bytes (λ m. IsTypingOf w m c.args.typing.now) c.requires.typing in
-    let are : AreHomes w m (state_at c.args.typing.now) c.args.homes.now = of-method w n rec code c.method-rec.ensures.is bytes (λ m. AreHomes w m (state_at c.args.typing.now) c.args.homes.now) c.requires.homes in
-    small-by w m c.args.typing.now c.in-Ok.control c.args.homes.now typed flow (c.instructions_are_placed.ensures m typed.least.typing.formed) (c.instructions_are_listed.ensures code) mo
-    c.method-rec.ensures.links c.are_bytes.ensures c.in-Ok-rewritten.symbols c.in-Ok-rewritten.ensures c.plain_size_fits.ensures are c.are_few.ensures c.is_a_byte.ensures
+    let flow : IsControlFlow m c.in-Ok.control = of-method w n rec code c.method-rec.ensures.is bytes (λ m. IsControlFlow m c.in-Ok.control)
+    c.in-Ok.ensures.formed in
+    let typed : IsTypingOf w m c.args.typing.now = of-method w n rec code c.method-rec.ensures.is bytes (λ m. IsTypingOf w m c.args.typing.now)
+    c.requires.typing in
+    let are : AreHomes w m (state_at c.args.typing.now) c.args.homes.now = of-method w n rec code c.method-rec.ensures.is bytes
+    (λ m. AreHomes w m (state_at c.args.typing.now) c.args.homes.now) c.requires.homes in
+    small-by w m c.args.typing.now c.in-Ok.control c.args.homes.now typed flow (c.instructions_are_placed.ensures m typed.least.typing.formed)
+    (c.instructions_are_listed.ensures code) mo
+    c.method-rec.ensures.links c.are_bytes.ensures c.in-Ok-rewritten.symbols c.in-Ok-rewritten.ensures c.plain_size_fits.ensures are c.are_few.ensures
+    c.is_a_byte.ensures
 
 pub returns-in-Ok-rewritten-clause-typed : goal.returns-in-Ok-rewritten-clause-typed
 returns-in-Ok-rewritten-clause-typed c =
@@ -132,13 +154,19 @@ returns-in-Ok-rewritten-clause-typed c =
     let m : Method = record { number = n; rec = rec; code = code } in
     let bytes : option_map (code_of w.infos) (slice_get w.methods n) ≡ Some code = cc in
     let mo : IsMethodOf w m = of-method w n rec code c.method-rec.ensures.is bytes (IsMethodOf w) c.in-Ok.ensures.known in
-    let flow : IsControlFlow m c.in-Ok.control = of-method w n rec code c.method-rec.ensures.is bytes (λ m. IsControlFlow m c.in-Ok.control) c.in-Ok.ensures.formed in
-    let typed : IsTypingOf w m c.args.typing.now = of-method w n rec code c.method-rec.ensures.is bytes (λ m. IsTypingOf w m c.args.typing.now) c.requires.typing in
-    let derived : AreDerived w m c.args.typing.now = of-method w n rec code c.method-rec.ensures.is bytes (λ m. AreDerived w m c.args.typing.now) c.requires.derived in
-    let are : AreHomes w m (state_at c.args.typing.now) c.args.homes.now = of-method w n rec code c.method-rec.ensures.is bytes (λ m. AreHomes w m (state_at c.args.typing.now) c.args.homes.now) c.requires.homes in
+    let flow : IsControlFlow m c.in-Ok.control = of-method w n rec code c.method-rec.ensures.is bytes (λ m. IsControlFlow m c.in-Ok.control)
+    c.in-Ok.ensures.formed in
+    let typed : IsTypingOf w m c.args.typing.now = of-method w n rec code c.method-rec.ensures.is bytes (λ m. IsTypingOf w m c.args.typing.now)
+    c.requires.typing in
+    let derived : AreDerived w m c.args.typing.now = of-method w n rec code c.method-rec.ensures.is bytes (λ m. AreDerived w m c.args.typing.now)
+    c.requires.derived in
+    let are : AreHomes w m (state_at c.args.typing.now) c.args.homes.now = of-method w n rec code c.method-rec.ensures.is bytes
+    (λ m. AreHomes w m (state_at c.args.typing.now) c.args.homes.now) c.requires.homes in
     to-method w n rec code c.method-rec.ensures.is bytes (λ m. HasTypingByHomes w m c.args.homes.now c.in-Ok-rewritten.symbols)
-    (typed-by w m c.args.typing.now c.in-Ok.control c.args.homes.now typed flow (c.instructions_are_placed.ensures m typed.least.typing.formed) (c.instructions_are_listed.ensures code) mo
-    c.method-rec.ensures.links c.are_bytes.ensures c.in-Ok-rewritten.symbols c.in-Ok-rewritten.ensures c.rewritten_is_typed.ensures derived are c.are_few.ensures)
+    (typed-by w m c.args.typing.now c.in-Ok.control c.args.homes.now typed flow (c.instructions_are_placed.ensures m typed.least.typing.formed)
+    (c.instructions_are_listed.ensures code) mo
+    c.method-rec.ensures.links c.are_bytes.ensures c.in-Ok-rewritten.symbols c.in-Ok-rewritten.ensures c.rewritten_is_typed.ensures derived are
+    c.are_few.ensures)
 
 pub returns-in-Ok-rewritten-clause-matches : goal.returns-in-Ok-rewritten-clause-matches
 returns-in-Ok-rewritten-clause-matches c =
@@ -149,10 +177,16 @@ returns-in-Ok-rewritten-clause-matches c =
     let m : Method = record { number = n; rec = rec; code = code } in
     let bytes : option_map (code_of w.infos) (slice_get w.methods n) ≡ Some code = cc in
     let mo : IsMethodOf w m = of-method w n rec code c.method-rec.ensures.is bytes (IsMethodOf w) c.in-Ok.ensures.known in
-    let flow : IsControlFlow m c.in-Ok.control = of-method w n rec code c.method-rec.ensures.is bytes (λ m. IsControlFlow m c.in-Ok.control) c.in-Ok.ensures.formed in
-    let typed : IsTypingOf w m c.args.typing.now = of-method w n rec code c.method-rec.ensures.is bytes (λ m. IsTypingOf w m c.args.typing.now) c.requires.typing in
-    let derived : AreDerived w m c.args.typing.now = of-method w n rec code c.method-rec.ensures.is bytes (λ m. AreDerived w m c.args.typing.now) c.requires.derived in
-    let are : AreHomes w m (state_at c.args.typing.now) c.args.homes.now = of-method w n rec code c.method-rec.ensures.is bytes (λ m. AreHomes w m (state_at c.args.typing.now) c.args.homes.now) c.requires.homes in
+    let flow : IsControlFlow m c.in-Ok.control = of-method w n rec code c.method-rec.ensures.is bytes (λ m. IsControlFlow m c.in-Ok.control)
+    c.in-Ok.ensures.formed in
+    let typed : IsTypingOf w m c.args.typing.now = of-method w n rec code c.method-rec.ensures.is bytes (λ m. IsTypingOf w m c.args.typing.now)
+    c.requires.typing in
+    let derived : AreDerived w m c.args.typing.now = of-method w n rec code c.method-rec.ensures.is bytes (λ m. AreDerived w m c.args.typing.now)
+    c.requires.derived in
+    let are : AreHomes w m (state_at c.args.typing.now) c.args.homes.now = of-method w n rec code c.method-rec.ensures.is bytes
+    (λ m. AreHomes w m (state_at c.args.typing.now) c.args.homes.now) c.requires.homes in
     to-method w n rec code c.method-rec.ensures.is bytes (λ m. MatchesMethod w m (state_at c.args.typing.now) c.args.homes.now c.in-Ok-rewritten.symbols)
-    (matches-by w m c.args.typing.now c.in-Ok.control c.args.homes.now typed flow (c.instructions_are_placed.ensures m typed.least.typing.formed) (c.instructions_are_listed.ensures code) mo
-    c.method-rec.ensures.links c.are_bytes.ensures c.rewritten_matches.ensures derived are c.are_few.ensures (omega (arith, c.is_a_byte.ensures, c.if-rec.false)) c.in-Ok-rewritten.symbols c.in-Ok-rewritten.ensures)
+    (matches-by w m c.args.typing.now c.in-Ok.control c.args.homes.now typed flow (c.instructions_are_placed.ensures m typed.least.typing.formed)
+    (c.instructions_are_listed.ensures code) mo
+    c.method-rec.ensures.links c.are_bytes.ensures c.rewritten_matches.ensures derived are c.are_few.ensures
+    (omega (arith, c.is_a_byte.ensures, c.if-rec.false)) c.in-Ok-rewritten.symbols c.in-Ok-rewritten.ensures)

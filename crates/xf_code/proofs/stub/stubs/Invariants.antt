@@ -7,6 +7,7 @@ use Rattle.xf_code.proofs.stub.stubs.Given as goal
 
 abbrev pub invariant-walk : goal.invariant-walk
 invariant-walk l = record {
-  so_far : l.items.items ++ flat_map (stubs (source l.plan)) (rest_of l.placed-iterator) ≡ l.fn.items.items ++ flat_map (stubs (source l.plan)) (listing l.plan.walk.code.bytes.now);
+  so_far : l.items.items ++ flat_map (stubs (source l.plan)) (rest_of l.placed-iterator) ≡ l.fn.items.items ++ flat_map (stubs (source l.plan))
+      (listing l.plan.walk.code.bytes.now);
   whole : l.yielded ++ rest_of l.placed-iterator ≡ listing l.plan.walk.code.bytes.now;
 }

@@ -11,7 +11,8 @@ use Rattle.xf_homes.proofs.finding.homes.Goals as goal
 
 pub unreachable-requires : goal.unreachable-requires
 unreachable-requires c =
-    flaw-never c.flaws_decide.ensures c.args.world.now c.args.typing.now (method_in c.args.world.now c.args.method) c.in-Err-Flawed.field-0 c.in-Err-Flawed.field-0-0 c.in-Err-Flawed.field-0-is
+    flaw-never c.flaws_decide.ensures c.args.world.now c.args.typing.now (method_in c.args.world.now c.args.method) c.in-Err-Flawed.field-0
+    c.in-Err-Flawed.field-0-0 c.in-Err-Flawed.field-0-is
     c.requires.typing c.in-Err-Flawed.ensures.flawed
 
 pub method-rec-requires : goal.method-rec-requires
@@ -29,12 +30,15 @@ returns-clause-homes c =
     let m : Method = record { number = n; rec = rec; code = code } in
     let bytes : option_map (code_of w.infos) (slice_get w.methods n) ≡ Some code = cc in
     let mo : IsMethodOf w m = of-method w n rec code c.method-rec.ensures.is bytes (IsMethodOf w) c.in-Ok.ensures.known in
-    let typed : IsTypingOf w m c.args.typing.now = of-method w n rec code c.method-rec.ensures.is bytes (λ m. IsTypingOf w m c.args.typing.now) c.requires.typing in
-    let flow : IsControlFlow m c.in-Ok.control = of-method w n rec code c.method-rec.ensures.is bytes (λ m. IsControlFlow m c.in-Ok.control) c.in-Ok.ensures.formed in
+    let typed : IsTypingOf w m c.args.typing.now = of-method w n rec code c.method-rec.ensures.is bytes (λ m. IsTypingOf w m c.args.typing.now)
+    c.requires.typing in
+    let flow : IsControlFlow m c.in-Ok.control = of-method w n rec code c.method-rec.ensures.is bytes (λ m. IsControlFlow m c.in-Ok.control)
+    c.in-Ok.ensures.formed in
     let is : c.find.new.homes.items ≡ with_events (argument_homes rec) (code_events w m (state_at c.args.typing.now) c.in-Ok.control.leaders) =
     c.in_ok-find.ensures ∙ ap (λ hs. with_events hs (code_events w m (state_at c.args.typing.now) c.in-Ok.control.leaders)) c.in_ok-homes.ensures in
     to-method w n rec code c.method-rec.ensures.is bytes _
-    (answered-homes w m c.args.typing.now typed c.in-Ok.control flow (c.instructions_are_placed.ensures m typed.least.typing.formed) (c.instructions_are_listed.ensures code) mo
+    (answered-homes w m c.args.typing.now typed c.in-Ok.control flow (c.instructions_are_placed.ensures m typed.least.typing.formed)
+    (c.instructions_are_listed.ensures code) mo
     c.method-rec.ensures.links c.types_are_ordered.ensures.same c.find.new.homes.items is c.counted.result c.counted.ensures.homes)
 
 pub returns-clause-end : goal.returns-clause-end
@@ -46,12 +50,15 @@ returns-clause-end c =
     let m : Method = record { number = n; rec = rec; code = code } in
     let bytes : option_map (code_of w.infos) (slice_get w.methods n) ≡ Some code = cc in
     let mo : IsMethodOf w m = of-method w n rec code c.method-rec.ensures.is bytes (IsMethodOf w) c.in-Ok.ensures.known in
-    let typed : IsTypingOf w m c.args.typing.now = of-method w n rec code c.method-rec.ensures.is bytes (λ m. IsTypingOf w m c.args.typing.now) c.requires.typing in
-    let flow : IsControlFlow m c.in-Ok.control = of-method w n rec code c.method-rec.ensures.is bytes (λ m. IsControlFlow m c.in-Ok.control) c.in-Ok.ensures.formed in
+    let typed : IsTypingOf w m c.args.typing.now = of-method w n rec code c.method-rec.ensures.is bytes (λ m. IsTypingOf w m c.args.typing.now)
+    c.requires.typing in
+    let flow : IsControlFlow m c.in-Ok.control = of-method w n rec code c.method-rec.ensures.is bytes (λ m. IsControlFlow m c.in-Ok.control)
+    c.in-Ok.ensures.formed in
     let is : c.find.new.homes.items ≡ with_events (argument_homes rec) (code_events w m (state_at c.args.typing.now) c.in-Ok.control.leaders) =
     c.in_ok-find.ensures ∙ ap (λ hs. with_events hs (code_events w m (state_at c.args.typing.now) c.in-Ok.control.leaders)) c.in_ok-homes.ensures in
     to-method w n rec code c.method-rec.ensures.is bytes _
-    (answered-end w m c.args.typing.now typed c.in-Ok.control flow (c.instructions_are_placed.ensures m typed.least.typing.formed) (c.instructions_are_listed.ensures code) mo
+    (answered-end w m c.args.typing.now typed c.in-Ok.control flow (c.instructions_are_placed.ensures m typed.least.typing.formed)
+    (c.instructions_are_listed.ensures code) mo
     c.method-rec.ensures.links c.types_are_ordered.ensures.same c.find.new.homes.items is c.counted.result c.counted.ensures.end)
 
 pub find-requires-clause-method : goal.find-requires-clause-method
@@ -65,4 +72,5 @@ find-requires-clause-short c =
     let w = c.args.world.now in
     let bytes : option_map (code_of w.infos) (slice_get w.methods c.args.method) ≡ Some c.of.result.bytes.now = cc in
     let m : Method = record { number = c.args.method; rec = c.method-rec.result.now; code = c.of.result.bytes.now } in
-    code-short w m (of-method w c.args.method c.method-rec.result.now c.of.result.bytes.now c.method-rec.ensures.is bytes (IsMethodOf w) c.in-Ok.ensures.known) c.method-rec.ensures.links
+    code-short w m (of-method w c.args.method c.method-rec.result.now c.of.result.bytes.now c.method-rec.ensures.is bytes (IsMethodOf w)
+    c.in-Ok.ensures.known) c.method-rec.ensures.links

@@ -1,4 +1,5 @@
-use Rattle.std.proofs.Common.{◌≡◌, ◌-◌, ◌∙◌, ◌<◌, ◌≤◌, ◌++◌, List, ℕ, length, get_or, take, drop, arith, rules, sym, ap, subst, cond}
+use Rattle.std.proofs.Common.{◌≡◌, ◌-◌, ◌∙◌, ◌<◌, ◌≤◌, ◌++◌, List, ℕ, length, get_or, take, drop, arith, rules, sym, ap, subst}
+use Rattle.std.proofs.Common.{cond}
 use Rattle.std.specs.Prelude.{FitsSigned, slice_index, is_ok, pos, ◌-ℤ◌}
 use Rattle.std.specs.Int.{w16}
 use Rattle.std.proofs.lemmas.Int.{to_z-of_z}

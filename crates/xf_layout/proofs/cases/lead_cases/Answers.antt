@@ -25,7 +25,8 @@ cases-preserved c =
     let fits : FitsSigned w16 c.distance-offset.result = search rules in
     let at : c.at.result ≡ place (get_or labels n 0) = c.at.ensures ∙ ap place (get_or_default labels n _ 0 inside) in
     let to = to_z-of_z w16 c.distance-offset.result fits ∙ c.distance-offset.ensures ∙ ap (λ (m : ℕ). pos m -ℤ pos c.args.here) at in
-    let all = next-led place c.args.here (take n labels) (get_or labels n 0) old (cases c.cases.bytes 0 c.args.switch) (cases c.set_case.new.code 0 c.args.switch) _ n
+    let all = next-led place c.args.here (take n labels) (get_or labels n 0) old (cases c.cases.bytes 0 c.args.switch)
+    (cases c.set_case.new.code 0 c.args.switch) _ n
     end c.cases.invariant.cases to c.set_case.ensures.changed c.set_case.ensures.others in
     record {
       decoded = c.set_case.ensures.insn;

@@ -17,4 +17,5 @@ forms-preserved c =
 
 pub returns : goal.returns
 returns c =
-    All-same (IsInRoom c.forms.room) c.args.forms.now (take c.forms.form-index c.args.forms.now) (sym (take_all c.forms.form-index c.args.forms.now (omega arith))) c.forms.invariant
+    All-same (IsInRoom c.forms.room) c.args.forms.now (take c.forms.form-index c.args.forms.now)
+    (sym (take_all c.forms.form-index c.args.forms.now (omega arith))) c.forms.invariant

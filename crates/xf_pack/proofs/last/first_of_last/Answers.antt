@@ -8,7 +8,8 @@ methods-preserved c = λ first is.
 
 pub returns-then-is_of_last-clause-begins : goal.returns-then-is_of_last-clause-begins
 returns-then-is_of_last-clause-begins c =
-    first-here c.args.world.now c.methods.number c.requires.0 c.requires.1 (c.methods.invariant c.requires.0 c.requires.1) c.is_of_last.result c.is_of_last.ensures c.if-is_of_last.true
+    first-here c.args.world.now c.methods.number c.requires.0 c.requires.1 (c.methods.invariant c.requires.0 c.requires.1) c.is_of_last.result
+    c.is_of_last.ensures c.if-is_of_last.true
 
 pub returns-clause-begins : goal.returns-clause-begins
 returns-clause-begins c =

@@ -11,5 +11,6 @@ method-rec-requires c = number-below (λ r. 0 < r.code_len) c.args.world.now.met
 pub returns-in-Err-clause-end : goal.returns-in-Err-clause-end
 returns-in-Err-clause-end c =
     subst (TellsUnlaid c.args.world.now c.args.number) (sym c.into.ensures)
-    (homes-told c.args.world.now c.args.number c.method-rec.result.now c.method-rec.ensures.is c.method-rec.ensures.links c.requires.code c.args.typing.now c.requires.typing
+    (homes-told c.args.world.now c.args.number c.method-rec.result.now c.method-rec.ensures.is c.method-rec.ensures.links c.requires.code c.args.typing.now
+    c.requires.typing
     c.in-Err.end c.in-Err.ensures.end)

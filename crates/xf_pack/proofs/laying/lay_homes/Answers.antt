@@ -10,12 +10,15 @@ method-requires c = number-below (λ r. 0 < r.code_len) c.args.world.now.methods
 
 pub lay_symbols-requires-clause-symbols : goal.lay_symbols-requires-clause-symbols
 lay_symbols-requires-clause-symbols c =
-    symbols-known c.args.world.now c.args.number c.method.result.now c.method.ensures.is c.method.ensures.links c.requires.code c.args.typing.now c.requires.typing
-    c.args.homes.now c.requires.homes c.are_few.ensures c.in-Ok.symbols c.is_a_byte.ensures c.in-Ok.ensures.limit c.in-Ok.ensures.symbols c.in-Ok.ensures.typed c.in-Ok.ensures.live
+    symbols-known c.args.world.now c.args.number c.method.result.now c.method.ensures.is c.method.ensures.links c.requires.code c.args.typing.now
+    c.requires.typing
+    c.args.homes.now c.requires.homes c.are_few.ensures c.in-Ok.symbols c.is_a_byte.ensures c.in-Ok.ensures.limit c.in-Ok.ensures.symbols
+    c.in-Ok.ensures.typed c.in-Ok.ensures.live
     c.in-Ok.ensures.numbers c.in-Ok.ensures.items
 
 pub returns-in-Err-clause-end : goal.returns-in-Err-clause-end
 returns-in-Err-clause-end c =
     subst (TellsUnlaid c.args.world.now c.args.number) (sym c.into.ensures)
-    (symbols-told c.args.world.now c.args.number c.method.result.now c.method.ensures.is c.method.ensures.links c.requires.code c.args.typing.now c.requires.typing
+    (symbols-told c.args.world.now c.args.number c.method.result.now c.method.ensures.is c.method.ensures.links c.requires.code c.args.typing.now
+    c.requires.typing
     c.args.homes.now c.requires.homes c.are_few.ensures c.in-Err.end c.in-Err.ensures.limit)

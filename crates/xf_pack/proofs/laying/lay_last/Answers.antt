@@ -17,7 +17,8 @@ lay_method-requires-clause-typing c =
 pub returns-in-Err-clause-end : goal.returns-in-Err-clause-end
 returns-in-Err-clause-end c = λ ps.
     subst (TellsOf ps c.args.world.now) (sym c.unlaid.ensures)
-    (unlaid-tells c.args.world.now c.args.first c.requires.first (c.args.first + c.methods.k) c.in-Err.end (omega arith) c.requires.accepted c.requires.typed c.methods.invariant.below c.in-Err.ensures.end ps)
+    (unlaid-tells c.args.world.now c.args.first c.requires.first (c.args.first + c.methods.k) c.in-Err.end (omega arith) c.requires.accepted
+    c.requires.typed c.methods.invariant.below c.in-Err.ensures.end ps)
 
 pub methods-preserved : goal.methods-preserved
 methods-preserved c =
@@ -32,5 +33,6 @@ methods-preserved c =
       many = search rules;
       below =
           subst (AllHaveBelow (IsOfLast c.args.world.now) (HasLaidCode c.args.world.now)) next
-          (laid-more c.args.world.now c.args.first c.requires.first (c.args.first + c.methods.k) c.in-Ok.element c.methods.invariant.below c.in-Ok.ensures.laid);
+          (laid-more c.args.world.now c.args.first c.requires.first (c.args.first + c.methods.k) c.in-Ok.element c.methods.invariant.below
+          c.in-Ok.ensures.laid);
     }

@@ -17,7 +17,8 @@ returns-in-Ok-clause-laid c =
     let code = c.of-code.result.bytes.now in
     let m : Method = record { number = n; rec = rec; code = code } in
     let bytes : option_map (code_of w.infos) (slice_get w.methods n) ≡ Some code = cc in
-    let known : IsRewrittenTo w c.args.symbols.now m = of-method w n rec code c.method-rec.ensures.is bytes (IsRewrittenTo w c.args.symbols.now) c.requires.symbols in
+    let known : IsRewrittenTo w c.args.symbols.now m = of-method w n rec code c.method-rec.ensures.is bytes (IsRewrittenTo w c.args.symbols.now)
+    c.requires.symbols in
     to-method w n rec code c.method-rec.ensures.is bytes (λ m. IsLaidFor w m c.in-Ok.laid)
     (laid-for w m c.args.symbols.now known c.in-Ok.laid c.in-Ok.ensures.shortest c.in-Ok.ensures.few)
 
@@ -29,9 +30,11 @@ returns-in-Ok-clause-sound c =
     let code = c.of-code.result.bytes.now in
     let m : Method = record { number = n; rec = rec; code = code } in
     let bytes : option_map (code_of w.infos) (slice_get w.methods n) ≡ Some code = cc in
-    let known : IsRewrittenTo w c.args.symbols.now m = of-method w n rec code c.method-rec.ensures.is bytes (IsRewrittenTo w c.args.symbols.now) c.requires.symbols in
+    let known : IsRewrittenTo w c.args.symbols.now m = of-method w n rec code c.method-rec.ensures.is bytes (IsRewrittenTo w c.args.symbols.now)
+    c.requires.symbols in
     to-method w n rec code c.method-rec.ensures.is bytes (λ m. FitsMethod m.rec c.in-Ok.laid)
-    (laid-sound w m c.args.symbols.now known c.instructions_are_listed.ensures c.laid_is_typed.ensures c.method-rec.ensures.links c.in-Ok.laid c.in-Ok.ensures.shortest c.in-Ok.ensures.few)
+    (laid-sound w m c.args.symbols.now known c.instructions_are_listed.ensures c.laid_is_typed.ensures c.method-rec.ensures.links c.in-Ok.laid
+    c.in-Ok.ensures.shortest c.in-Ok.ensures.few)
 
 pub returns-in-Err-clause-end : goal.returns-in-Err-clause-end
 returns-in-Err-clause-end c =

@@ -8,7 +8,8 @@ use Rattle.xf_pack.specs.declared.end.TransformEnd.{TransformEnd}
 use Rattle.xf_pack.specs.Transformed.{AreTransformed, IsTransformed}
 use Rattle.xf_pack.proofs.transforming.transform.Goals as goal
 
-are-transformed : (ps : List PackageRecord) (roles : List ℕ) (w : Linked) → IsLinked ps roles w → (r : Result (List Lent) TransformEnd) → IfOk r (IsTransformed ps roles w) → IfOk r (AreTransformed ps roles)
+are-transformed : (ps : List PackageRecord) (roles : List ℕ) (w : Linked) → IsLinked ps roles w → (r : Result (List Lent) TransformEnd)
+    → IfOk r (IsTransformed ps roles w) → IfOk r (AreTransformed ps roles)
 are-transformed ps roles w linked (Ok parts) h = record { world = w; linked = linked; transformed = h }
 are-transformed ps roles w linked (Err end) h = tt
 

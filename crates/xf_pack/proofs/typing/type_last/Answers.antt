@@ -11,7 +11,8 @@ use Rattle.xf_pack.proofs.typing.type_last.Goals as goal
 pub returns-in-Err-clause-end : goal.returns-in-Err-clause-end
 returns-in-Err-clause-end c = λ ps.
     subst (TellsOf ps c.args.world.now) (sym c.untyped.ensures)
-    (untyped-tells c.args.world.now c.args.first c.requires.first c.methods.number c.in-Err.end (omega (arith, c.methods.invariant.many)) c.requires.accepted c.methods.invariant.below c.in-Err.ensures.none ps)
+    (untyped-tells c.args.world.now c.args.first c.requires.first c.methods.number c.in-Err.end (omega (arith, c.methods.invariant.many))
+    c.requires.accepted c.methods.invariant.below c.in-Err.ensures.none ps)
 
 pub methods-preserved : goal.methods-preserved
 methods-preserved c =

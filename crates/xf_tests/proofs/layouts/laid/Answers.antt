@@ -8,4 +8,5 @@ unfolding Covers
 lay-requires-clause-ranges c =
     let told : IsTrue c.are_ranges.result = c.if-not-are_ranges.false in
     let covers : All (IsRange c.as_slice-items.result.now) c.as_slice.result.now = c.are_ranges.ensures told in
-    subst (λ rs. All (IsRange c.args.symbols.now.items) rs) c.as_slice.ensures (subst (λ is. All (IsRange is) c.as_slice.result.now) c.as_slice-items.ensures covers)
+    subst (λ rs. All (IsRange c.args.symbols.now.items) rs) c.as_slice.ensures
+    (subst (λ is. All (IsRange is) c.as_slice.result.now) c.as_slice-items.ensures covers)

@@ -4,4 +4,6 @@ use Rattle.cap_class.specs.ClassPart.{class_seen}
 use Rattle.cap_class.proofs.class_info.ClassInfo.implemented.Goals as goal
 
 pub returns : goal.returns
-returns c = nth_from_yields_List c.nth.result c.nth.new.self c.args.n c.nth.ensures.ran (YieldsList-from_first interface_seen interfaces_left (class_seen c.args.self.now).interfaces c.interfaces.ensures.interfaces)
+returns c =
+    nth_from_yields_List c.nth.result c.nth.new.self c.args.n c.nth.ensures.ran
+    (YieldsList-from_first interface_seen interfaces_left (class_seen c.args.self.now).interfaces c.interfaces.ensures.interfaces)

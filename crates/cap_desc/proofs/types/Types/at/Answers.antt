@@ -7,5 +7,6 @@ use Rattle.cap_desc.proofs.types.Types.at.Goals as goal
 
 pub returns : goal.returns
 returns c =
-    let found = nth_from_yields_List c.nth.result c.nth.new.self c.args.n c.nth.ensures.ran (YieldsList-from_first (λ (x : TypeItem). x) types_left (types_left c.args.self.now) refl) in
+    let found = nth_from_yields_List c.nth.result c.nth.new.self c.args.n c.nth.ensures.ran
+    (YieldsList-from_first (λ (x : TypeItem). x) types_left (types_left c.args.self.now) refl) in
     sym found ∙ rw c.unwrap.ensures refl

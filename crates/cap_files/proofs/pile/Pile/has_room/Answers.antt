@@ -39,7 +39,8 @@ returns-in-None c =
     let es = c.self.inside.entries.items in
     let bs = c.self.inside.buffer.items in
     let parts : c.len-in-None.result ≡ length c.args.self.now.records =
-    subst (λ p. c.len-in-None.result ≡ length p.records) c.self.view_is (omega (arith, length-records es bs, c.len-in-None.ensures, c.self.inside.entries.ok.0)) in
+    subst (λ p. c.len-in-None.result ≡ length p.records) c.self.view_is
+    (omega (arith, length-records es bs, c.len-in-None.ensures, c.self.inside.entries.ok.0)) in
     let bytes : c.len-in-None-2.result ≡ sum_by size_of c.args.self.now.records =
     subst (λ p. c.len-in-None-2.result ≡ sum_by size_of p.records) c.self.view_is
     (omega (arith, sizes es bs c.self.invariant.laid, c.len-in-None-2.ensures, c.self.inside.buffer.ok.0)) in

@@ -12,7 +12,8 @@ pub end_of-start-requires-clause-fits : goal.end_of-start-requires-clause-fits
 end_of-start-requires-clause-fits c =
     let there = subst (λ p. c.args.n < length p.records) (sym c.self.view_is) c.requires in
     let here : c.args.n < length c.self.inside.entries.items = omega (arith, there, length-records c.self.inside.entries.items c.self.inside.buffer.items) in
-    let within = end_within c.self.inside.entries.items c.args.n (record { part = record { 0 = 0 }; word = 0; size = 0 }) c.self.inside.buffer.items c.self.invariant.laid here in
+    let within = end_within c.self.inside.entries.items c.args.n (record { part = record { 0 = 0 }; word = 0; size = 0 }) c.self.inside.buffer.items
+    c.self.invariant.laid here in
     omega (arith, within, c.len-filled.ensures, c.len-filled.type_inv, c.self.inside.buffer.ok.0)
 
 pub remove-entry-requires : goal.remove-entry-requires
@@ -45,4 +46,5 @@ returns c =
     let here : c.args.n < length c.self.inside.entries.items = omega (arith, there, length-records c.self.inside.entries.items c.self.inside.buffer.items) in
     let size = ap (λ (e : Entry). e.size) c.remove-entry.ensures.value in
     let left = cut-taken c.self.inside.entries.items c.args.n c.remove-entry.result c.self.inside.buffer.items c.self.invariant.laid here in
-    rw (← c.self.view_is) (rw (c.remove-entry.ensures.items, c.cut_out.ensures.items, c.end_of-start.ensures, size, left, records-cut _ _ _ c.self.invariant.laid here) refl)
+    rw (← c.self.view_is)
+    (rw (c.remove-entry.ensures.items, c.cut_out.ensures.items, c.end_of-start.ensures, size, left, records-cut _ _ _ c.self.invariant.laid here) refl)

@@ -5,4 +5,6 @@ use Rattle.cap_method.specs.MethodPart.{handlers, handlers_left}
 use Rattle.cap_method.proofs.method_part.MethodPart.handler.Goals as goal
 
 pub returns : goal.returns
-returns c = sym (option_map_id c.nth.result) ∙ nth_from_yields_List c.nth.result c.nth.new.self c.args.n c.nth.ensures.ran (YieldsList-from_first (λ x. x) handlers_left (handlers c.args.self.now) c.handlers.ensures.table)
+returns c =
+    sym (option_map_id c.nth.result) ∙ nth_from_yields_List c.nth.result c.nth.new.self c.args.n c.nth.ensures.ran
+    (YieldsList-from_first (λ x. x) handlers_left (handlers c.args.self.now) c.handlers.ensures.table)

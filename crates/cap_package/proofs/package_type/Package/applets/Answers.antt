@@ -11,4 +11,5 @@ pub returns-clause-info : goal.returns-clause-info
 returns-clause-info c =
     let all = c.self.inside.all in
     let P : PackageRecord → Type 0 = λ p. IfSome all.applets (λ x. HoldsComponent p.parts 3 applets_info x.info.bytes.now (applets_of x)) in
-    subst P c.self.view_is (holds-if applets_of (λ x. x.info.bytes.now) _ 3 applets_info _ (answer_is _ _ c.self.invariant.0).said.applets c.self.invariant.1.applets)
+    subst P c.self.view_is
+    (holds-if applets_of (λ x. x.info.bytes.now) _ 3 applets_info _ (answer_is _ _ c.self.invariant.0).said.applets c.self.invariant.1.applets)

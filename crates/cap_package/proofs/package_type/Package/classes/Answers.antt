@@ -11,4 +11,5 @@ pub returns-clause-info : goal.returns-clause-info
 returns-clause-info c =
     let all = c.self.inside.all in
     let P : PackageRecord → Type 0 = λ p. HoldsComponent p.parts 6 (classes_info p.header.format) all.classes.info.bytes.now p.classes in
-    subst P c.self.view_is (holds-info _ 6 (classes_info (header_items all.header).format) _ _ (answer_is _ _ c.self.invariant.0).said.classes c.self.invariant.1.classes)
+    subst P c.self.view_is (holds-info _ 6 (classes_info (header_items all.header).format) _ _ (answer_is _ _ c.self.invariant.0).said.classes
+    c.self.invariant.1.classes)

@@ -21,7 +21,8 @@ pub returns-in-None-clause-forward : goal.returns-in-None-clause-forward
 returns-in-None-clause-forward g c = omega (arith, c.bad_entry.ensures.forward, c.check_targets.ensures.forward)
 
 pub returns-in-Some-clause-read : goal.returns-in-Some-clause-read
-returns-in-Some-clause-read g c = not-ok (c.args.steps.now + length (listed c.args.self.now) ≤ c.bad_entry.new.steps) c.refuse_entry.result c.refuse_entry.ensures.err
+returns-in-Some-clause-read g c =
+    not-ok (c.args.steps.now + length (listed c.args.self.now) ≤ c.bad_entry.new.steps) c.refuse_entry.result c.refuse_entry.ensures.err
 
 pub returns-in-None-clause-read : goal.returns-in-None-clause-read
 returns-in-None-clause-read g c =
@@ -31,7 +32,8 @@ returns-in-None-clause-read g c =
 pub returns-in-Some-clause-read_to : goal.returns-in-Some-clause-read_to
 returns-in-Some-clause-read_to g c =
     let x = c.args.self.now in
-    read-by (length (listed x)) (c.in-Some.entry + 1) c.args.steps.now c.bad_entry.new.steps c.refuse_entry.result c.in-Some.ensures.read_to c.refuse_entry.ensures.read_to
+    read-by (length (listed x)) (c.in-Some.entry + 1) c.args.steps.now c.bad_entry.new.steps c.refuse_entry.result c.in-Some.ensures.read_to
+    c.refuse_entry.ensures.read_to
 
 pub returns-in-None-clause-read_to : goal.returns-in-None-clause-read_to
 returns-in-None-clause-read_to g c =

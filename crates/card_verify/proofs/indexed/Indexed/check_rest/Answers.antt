@@ -6,7 +6,8 @@ use Rattle.card_verify.proofs.indexed.Indexed.check_rest.Goals as goal
 pub returns-then-is_rest_formed-clause-formed : goal.returns-then-is_rest_formed-clause-formed
 returns-then-is_rest_formed-clause-formed c =
     let x = c.args.self.now in
-    formed-by (subject x) (listed x) (c.is_rest_formed.ensures.ends c.if-is_rest_formed.true) (c.is_rest_formed.ensures.handlers c.if-is_rest_formed.true) c.requires.places c.requires.leads
+    formed-by (subject x) (listed x) (c.is_rest_formed.ensures.ends c.if-is_rest_formed.true) (c.is_rest_formed.ensures.handlers c.if-is_rest_formed.true)
+    c.requires.places c.requires.leads
 
 pub returns-clause-refused : goal.returns-clause-refused
 returns-clause-refused c =

@@ -17,7 +17,8 @@ returns-in-Some-clause-cost g c = λ b lt. c.first_lacking.ensures.cost b lt
 pub returns-in-None-clause-index : goal.returns-in-None-clause-index
 returns-in-None-clause-index g c =
     let x = c.args.self.now in
-    ok-always (IsIndex (subject x) (listed x)) c.check_rest.result (whole-index (subject x) (listed x) c.requires.ascending c.requires.places c.in-None.ensures.none)
+    ok-always (IsIndex (subject x) (listed x)) c.check_rest.result
+    (whole-index (subject x) (listed x) c.requires.ascending c.requires.places c.in-None.ensures.none)
 
 pub returns-in-None-clause-cost : goal.returns-in-None-clause-cost
 returns-in-None-clause-cost g c = λ b lt. c.first_lacking.ensures.cost b lt

@@ -3,16 +3,24 @@ use Rattle.card_verify.proofs.indexed.Indexed.enter.Goals as goal
 
 pub returns-then-is_shared-clause-wrong : goal.returns-then-is_shared-clause-wrong
 returns-then-is_shared-clause-wrong c =
-    mislanded-over-entry c.args.self.now c.requires.indexed c.args.entries.from c.args.arrival c.args.here c.requires.told c.args.stack.now c.put_alone-depth.new.stack c.put_alone-depth.result c.caught.result c.requires.entry c.caught.ensures c.requires.cells c.put_alone-depth.auto.stack c.put_alone-depth.ensures c.requires.fallen c.if-is_shared.ensures
+    mislanded-over-entry c.args.self.now c.requires.indexed c.args.entries.from c.args.arrival c.args.here c.requires.told c.args.stack.now
+    c.put_alone-depth.new.stack c.put_alone-depth.result c.caught.result c.requires.entry c.caught.ensures c.requires.cells c.put_alone-depth.auto.stack
+    c.put_alone-depth.ensures c.requires.fallen c.if-is_shared.ensures
 
 pub returns-then-depth-eq0-clause-wrong : goal.returns-then-depth-eq0-clause-wrong
 returns-then-depth-eq0-clause-wrong c =
-    mislanded-over-room c.args.self.now c.requires.indexed c.args.entries.from c.args.arrival c.args.here c.requires.told c.args.stack.now c.put_alone-depth.new.stack c.put_alone-depth.result c.caught.result c.requires.entry c.caught.ensures c.requires.cells c.put_alone-depth.auto.stack c.put_alone-depth.ensures c.requires.fallen c.if-depth-eq0.true c.if-is_shared.ensures
+    mislanded-over-room c.args.self.now c.requires.indexed c.args.entries.from c.args.arrival c.args.here c.requires.told c.args.stack.now
+    c.put_alone-depth.new.stack c.put_alone-depth.result c.caught.result c.requires.entry c.caught.ensures c.requires.cells c.put_alone-depth.auto.stack
+    c.put_alone-depth.ensures c.requires.fallen c.if-depth-eq0.true c.if-is_shared.ensures
 
 pub returns-clause-landed : goal.returns-clause-landed
 returns-clause-landed c =
-    landed-over-caught c.args.self.now c.requires.indexed c.args.entries.from c.args.arrival c.args.here c.requires.told c.args.stack.now c.put_alone-depth.new.stack c.put_alone-depth.result c.caught.result c.requires.entry c.caught.ensures c.requires.cells c.put_alone-depth.auto.stack c.put_alone-depth.ensures c.requires.fallen c.if-depth-eq0.false c.if-is_shared.ensures
+    landed-over-caught c.args.self.now c.requires.indexed c.args.entries.from c.args.arrival c.args.here c.requires.told c.args.stack.now
+    c.put_alone-depth.new.stack c.put_alone-depth.result c.caught.result c.requires.entry c.caught.ensures c.requires.cells c.put_alone-depth.auto.stack
+    c.put_alone-depth.ensures c.requires.fallen c.if-depth-eq0.false c.if-is_shared.ensures
 
 pub returns-clause-depth : goal.returns-clause-depth
 returns-clause-depth c =
-    over-depth c.args.self.now c.requires.indexed c.args.entries.from c.args.arrival c.args.here c.requires.told c.args.stack.now c.put_alone-depth.new.stack c.put_alone-depth.result c.caught.result c.requires.entry c.caught.ensures c.requires.cells c.put_alone-depth.auto.stack c.put_alone-depth.ensures c.requires.fallen
+    over-depth c.args.self.now c.requires.indexed c.args.entries.from c.args.arrival c.args.here c.requires.told c.args.stack.now
+    c.put_alone-depth.new.stack c.put_alone-depth.result c.caught.result c.requires.entry c.caught.ensures c.requires.cells c.put_alone-depth.auto.stack
+    c.put_alone-depth.ensures c.requires.fallen

@@ -11,7 +11,8 @@ not_indexed-requires c =
 pub returns-in-Ok-clause-refused : goal.returns-in-Ok-clause-refused
 returns-in-Ok-clause-refused c =
     let x = c.args.self.now in
-    over-of-lacking (world_in x) (subject x) (listed x) c.args.lacks c.not_indexed.result c.in-Ok.ensures.formed c.requires.ascending c.requires.places c.requires.lacks c.not_indexed.ensures
+    over-of-lacking (world_in x) (subject x) (listed x) c.args.lacks c.not_indexed.result c.in-Ok.ensures.formed c.requires.ascending c.requires.places
+    c.requires.lacks c.not_indexed.ensures
 
 pub returns-in-Err-clause-refused : goal.returns-in-Err-clause-refused
 returns-in-Err-clause-refused c =
@@ -29,7 +30,8 @@ returns-in-Err-clause-form c = form-of-flaw (subject c.args.self.now) c.in-Err.f
 pub returns-in-Ok-clause-all_read : goal.returns-in-Ok-clause-all_read
 returns-in-Ok-clause-all_read c =
     let x = c.args.self.now in
-    reads-of-lacking (world_in x) (subject x) (listed x) c.args.lacks c.not_indexed.result (length (listed x)) c.in-Ok.ensures.formed c.requires.lacks c.not_indexed.ensures
+    reads-of-lacking (world_in x) (subject x) (listed x) c.args.lacks c.not_indexed.result (length (listed x)) c.in-Ok.ensures.formed c.requires.lacks
+    c.not_indexed.ensures
 
 pub returns-in-Err-clause-all_read : goal.returns-in-Err-clause-all_read
 returns-in-Err-clause-all_read c =

@@ -19,18 +19,37 @@ passes-preserved g c =
       twice = inr (omega (arith, c.passes.invariant.forward, c.in-Ok.ensures.counted));
       cost = λ b lt.
           let unit = instruction_count (subject x) * (b + 1) in
-          omega (arith, c.passes.invariant.cost b lt, c.pass.ensures.cost b lt, pass-paid (sum_by (rises_left (world_in x).classes) c.pass.new.regs) (sum_by (rises_left (world_in x).classes) c.passes.regs) unit raised.less);
+          omega (
+            arith,
+            c.passes.invariant.cost b lt,
+            c.pass.ensures.cost b lt,
+            pass-paid (sum_by (rises_left (world_in x).classes) c.pass.new.regs)
+                (sum_by (rises_left (world_in x).classes) c.passes.regs) unit raised.less,
+          );
     }
 
 pub returns-in-Err-clause-cost : goal.returns-in-Err-clause-cost
 returns-in-Err-clause-cost g c = λ b lt.
     let x = c.args.self.now in
-    omega (arith, c.passes.invariant.cost b lt, c.pass.ensures.cost b lt, last-pass (sum_by (rises_left (world_in x).classes) c.passes.regs) (instruction_count (subject x) * (b + 1)))
+    omega (
+      arith,
+      c.passes.invariant.cost b lt,
+      c.pass.ensures.cost b lt,
+      last-pass (sum_by (rises_left (world_in x).classes) c.passes.regs)
+          (instruction_count (subject x) * (b + 1)),
+    )
 
 pub returns-in-Err-clause-counted_to : goal.returns-in-Err-clause-counted_to
 returns-in-Err-clause-counted_to g c =
     let to = c.in-Err.ensures.counted_to in
-    record { here = to.here; at = to.at; number = to.number; stands = to.stands; counted = let old = to.counted in omega (arith, c.passes.invariant.forward, old) }
+    record {
+      here = to.here;
+      at = to.at;
+      number = to.number;
+      stands = to.stands;
+      counted = let old = to.counted in
+          omega (arith, c.passes.invariant.forward, old);
+    }
 
 pub returns-then-not-rose-clause-finished : goal.returns-then-not-rose-clause-finished
 returns-then-not-rose-clause-finished g c =
@@ -40,7 +59,13 @@ returns-then-not-rose-clause-finished g c =
 pub returns-then-not-rose-clause-cost : goal.returns-then-not-rose-clause-cost
 returns-then-not-rose-clause-cost g c = λ b lt.
     let x = c.args.self.now in
-    omega (arith, c.passes.invariant.cost b lt, c.pass.ensures.cost b lt, last-pass (sum_by (rises_left (world_in x).classes) c.passes.regs) (instruction_count (subject x) * (b + 1)))
+    omega (
+      arith,
+      c.passes.invariant.cost b lt,
+      c.pass.ensures.cost b lt,
+      last-pass (sum_by (rises_left (world_in x).classes) c.passes.regs)
+          (instruction_count (subject x) * (b + 1)),
+    )
 
 pub returns-then-not-rose-clause-counted : goal.returns-then-not-rose-clause-counted
 returns-then-not-rose-clause-counted g c = omega (arith, c.passes.invariant.forward, c.in-Ok.ensures.counted)

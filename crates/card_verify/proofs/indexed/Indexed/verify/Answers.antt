@@ -7,7 +7,8 @@ use Rattle.card_verify.proofs.indexed.Indexed.verify.Goals as goal
 pub returns-in-Ok-clause-none : goal.returns-in-Ok-clause-none
 returns-in-Ok-clause-none g c =
     let x = c.args.self.now in
-    none-over (world_in x) (subject x) (listed x) c.verify_types.new.regs c.verify_types.new.stack c.verify_types.result c.index_laws.ensures.denies c.requires.method c.verify_types.ensures.refused
+    none-over (world_in x) (subject x) (listed x) c.verify_types.new.regs c.verify_types.new.stack c.verify_types.result c.index_laws.ensures.denies
+    c.requires.method c.verify_types.ensures.refused
 
 pub returns-in-Ok-clause-cost : goal.returns-in-Ok-clause-cost
 returns-in-Ok-clause-cost g c = λ b lt.
@@ -31,12 +32,14 @@ returns-in-Err-clause-cost g c = λ b lt.
 pub returns-in-Ok-clause-counted : goal.returns-in-Ok-clause-counted
 returns-in-Ok-clause-counted g c =
     let x = c.args.self.now in
-    counted-sooner (subject x) (length (listed x)) c.args.steps.now c.check.new.steps c.verify_types.new.steps c.in-Ok.ensures.read c.verify_types.new.regs c.verify_types.result c.verify_types.ensures.counted
+    counted-sooner (subject x) (length (listed x)) c.args.steps.now c.check.new.steps c.verify_types.new.steps c.in-Ok.ensures.read c.verify_types.new.regs
+    c.verify_types.result c.verify_types.ensures.counted
 
 pub returns-in-Ok-clause-counted_to : goal.returns-in-Ok-clause-counted_to
 returns-in-Ok-clause-counted_to g c =
     let x = c.args.self.now in
-    counted-by-state (subject x) (length (listed x)) c.args.steps.now c.check.new.steps c.verify_types.new.steps c.in-Ok.ensures.read c.verify_types.result c.verify_types.ensures.counted_to
+    counted-by-state (subject x) (length (listed x)) c.args.steps.now c.check.new.steps c.verify_types.new.steps c.in-Ok.ensures.read c.verify_types.result
+    c.verify_types.ensures.counted_to
 
 pub returns-in-Err-clause-counted_to : goal.returns-in-Err-clause-counted_to
 returns-in-Err-clause-counted_to g c = inl (c.in-Err.ensures.form, c.in-Err.ensures.read_to)
@@ -44,7 +47,8 @@ returns-in-Err-clause-counted_to g c = inl (c.in-Err.ensures.form, c.in-Err.ensu
 pub returns-in-Ok-clause-as_before : goal.returns-in-Ok-clause-as_before
 returns-in-Ok-clause-as_before g c =
     let x = c.args.self.now in
-    kept-over (world_in x) (subject x) (listed x) c.verify_types.new.regs c.verify_types.new.stack c.verify_types.result _ c.card_laws.ensures.told c.in-Ok.ensures.formed c.in-Ok.ensures.index c.verify_types.ensures.refused
+    kept-over (world_in x) (subject x) (listed x) c.verify_types.new.regs c.verify_types.new.stack c.verify_types.result _ c.card_laws.ensures.told
+    c.in-Ok.ensures.formed c.in-Ok.ensures.index c.verify_types.ensures.refused
 
 pub returns-in-Err-clause-as_before : goal.returns-in-Err-clause-as_before
 returns-in-Err-clause-as_before g c = λ h. (refl, refl)

@@ -36,7 +36,8 @@ pub returns-clause-typing : goal.returns-clause-typing
 returns-clause-typing g c =
     let x = c.args.self.now in
     on-ok (IsFinishedOver x c.settle.new.regs) (HasIndexTyping (world_in x) (subject x) (listed x)) c.settle.result
-    (finished-typing x c.requires.method c.requires.formed c.card_laws.ensures.quiet c.rule_raises.ensures.rests c.instructions_are_placed.ensures c.instructions_are_listed.ensures c.requires.index c.settle.new.regs)
+    (finished-typing x c.requires.method c.requires.formed c.card_laws.ensures.quiet c.rule_raises.ensures.rests c.instructions_are_placed.ensures
+    c.instructions_are_listed.ensures c.requires.index c.settle.new.regs)
     c.settle.ensures.finished
 
 pub returns-clause-least : goal.returns-clause-least
@@ -48,8 +49,14 @@ returns-clause-least g c =
 pub returns-clause-cost : goal.returns-clause-cost
 returns-clause-cost g c = λ b lt.
     let x = c.args.self.now in
-    omega (arith, c.settle.ensures.cost b lt, passes-within (world_in x) (subject x) (listed x) c.begin.new.regs (instruction_count (subject x) * (b + 1)) (c.begin.auto.regs ∙ c.requires.slices.registers))
+    omega (
+      arith,
+      c.settle.ensures.cost b lt,
+      passes-within (world_in x) (subject x) (listed x) c.begin.new.regs (instruction_count (subject x) * (b + 1))
+          (c.begin.auto.regs ∙ c.requires.slices.registers),
+    )
 
 pub returns-clause-counted : goal.returns-clause-counted
 returns-clause-counted g c =
-    counted-of (subject c.args.self.now) c.settle.new.regs c.begin.new.regs c.args.steps.now c.settle.new.steps c.settle.result c.begin.ensures c.settle.ensures.counted c.settle.ensures.twice
+    counted-of (subject c.args.self.now) c.settle.new.regs c.begin.new.regs c.args.steps.now c.settle.new.steps c.settle.result c.begin.ensures
+    c.settle.ensures.counted c.settle.ensures.twice

@@ -12,17 +12,20 @@ pub step-requires-clause-known : goal.step-requires-clause-known
 step-requires-clause-known g c =
     let x = c.args.self.now in
     let given = cells c.land.new.stack c.in-Ok.depth in
-    let k = known-here x.verifier c.requires.indexed.verifier c.args.placed c.requires.stands c.args.arrival c.args.regs.now c.args.stack.now given c.requires.coming
+    let k = known-here x.verifier c.requires.indexed.verifier c.args.placed c.requires.stands c.args.arrival c.args.regs.now c.args.stack.now given
+    c.requires.coming
     (over-arrives x c.args.placed c.args.arrival c.args.entries.from c.requires.here c.args.regs.now c.args.stack.now given c.in-Ok.ensures.landed) in
     (k.regs, k.stack)
 
 pub step-requires-clause-suits : goal.step-requires-clause-suits
 step-requires-clause-suits g c =
-    over-suits c.args.self.now c.args.placed c.args.arrival c.args.entries.from c.requires.here c.args.regs.now c.args.stack.now (cells c.land.new.stack c.in-Ok.depth) c.in-Ok.ensures.landed
+    over-suits c.args.self.now c.args.placed c.args.arrival c.args.entries.from c.requires.here c.args.regs.now c.args.stack.now
+    (cells c.land.new.stack c.in-Ok.depth) c.in-Ok.ensures.landed
 
 pub returns-in-Err-clause-stopped : goal.returns-in-Err-clause-stopped
 returns-in-Err-clause-stopped g c =
-    stopped-over-landing c.args.self.now c.args.placed c.args.arrival c.args.entries.from c.requires.here c.args.regs.now c.args.stack.now c.land.new.stack c.in-Err.fault c.in-Err.ensures.place c.in-Err.ensures.wrong
+    stopped-over-landing c.args.self.now c.args.placed c.args.arrival c.args.entries.from c.requires.here c.args.regs.now c.args.stack.now c.land.new.stack
+    c.in-Err.fault c.in-Err.ensures.place c.in-Err.ensures.wrong
 
 pub returns-in-Err-clause-cost : goal.returns-in-Err-clause-cost
 returns-in-Err-clause-cost g c = λ b lt. omega (arith, c.land.ensures.cost b lt)

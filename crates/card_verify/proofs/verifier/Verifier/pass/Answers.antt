@@ -22,23 +22,28 @@ walk-init c = record {
 
 pub moved-ahead-requires-clause-up : goal.moved-ahead-requires-clause-up
 moved-ahead-requires-clause-up c =
-    let place = next-place c.args.self.now c.requires.verifier c.walk.yielded (rest_of c.walk.placed-iterator) c.in-Some.placed (rest_of c.next.new.self) c.walk.invariant.whole c.in-Some.ensures.steps in
+    let place = next-place c.args.self.now c.requires.verifier c.walk.yielded (rest_of c.walk.placed-iterator) c.in-Some.placed (rest_of c.next.new.self)
+    c.walk.invariant.whole c.in-Some.ensures.steps in
     subst (λ n. c.walk.ahead.from ≤ n) (sym place) c.walk.invariant.low
 
 pub visit-requires-clause-stands : goal.visit-requires-clause-stands
 visit-requires-clause-stands c =
-    next-stands c.args.self.now c.requires.verifier c.walk.yielded (rest_of c.walk.placed-iterator) c.in-Some.placed (rest_of c.next.new.self) c.walk.invariant.whole c.in-Some.ensures.steps
+    next-stands c.args.self.now c.requires.verifier c.walk.yielded (rest_of c.walk.placed-iterator) c.in-Some.placed (rest_of c.next.new.self)
+    c.walk.invariant.whole c.in-Some.ensures.steps
 
 pub visit-requires-clause-coming : goal.visit-requires-clause-coming
 visit-requires-clause-coming c =
-    let place = next-place c.args.self.now c.requires.verifier c.walk.yielded (rest_of c.walk.placed-iterator) c.in-Some.placed (rest_of c.next.new.self) c.walk.invariant.whole c.in-Some.ensures.steps in
+    let place = next-place c.args.self.now c.requires.verifier c.walk.yielded (rest_of c.walk.placed-iterator) c.in-Some.placed (rest_of c.next.new.self)
+    c.walk.invariant.whole c.in-Some.ensures.steps in
     subst (λ n. IsComing c.args.self.now n c.walk.arrival c.walk.regs c.walk.stack) (sym place) c.walk.invariant.coming
 
 pub returns-in-Err-clause-refused : goal.returns-in-Err-clause-refused
 returns-in-Err-clause-refused c =
     let v = c.args.self.now in
-    let place = next-place v c.requires.verifier c.walk.yielded (rest_of c.walk.placed-iterator) c.in-Some.placed (rest_of c.next.new.self) c.walk.invariant.whole c.in-Some.ensures.steps in
-    let there = next-stands v c.requires.verifier c.walk.yielded (rest_of c.walk.placed-iterator) c.in-Some.placed (rest_of c.next.new.self) c.walk.invariant.whole c.in-Some.ensures.steps in
+    let place = next-place v c.requires.verifier c.walk.yielded (rest_of c.walk.placed-iterator) c.in-Some.placed (rest_of c.next.new.self)
+    c.walk.invariant.whole c.in-Some.ensures.steps in
+    let there = next-stands v c.requires.verifier c.walk.yielded (rest_of c.walk.placed-iterator) c.in-Some.placed (rest_of c.next.new.self)
+    c.walk.invariant.whole c.in-Some.ensures.steps in
     refused-at v c.requires.verifier c.in-Some.placed there c.walk.arrival c.walk.regs c.walk.stack c.visit.new.regs c.visit.new.stack c.in-Err.fault
     (subst (λ n. IsComing v n c.walk.arrival c.walk.regs c.walk.stack) (sym place) c.walk.invariant.coming) c.in-Err.ensures.stopped
 
@@ -47,20 +52,29 @@ walk-preserved c =
     let v = c.args.self.now in
     let i = c.in-Some.placed in
     let o = c.in-Ok.outcome in
-    let place = next-place v c.requires.verifier c.walk.yielded (rest_of c.walk.placed-iterator) i (rest_of c.next.new.self) c.walk.invariant.whole c.in-Some.ensures.steps in
-    let there = next-stands v c.requires.verifier c.walk.yielded (rest_of c.walk.placed-iterator) i (rest_of c.next.new.self) c.walk.invariant.whole c.in-Some.ensures.steps in
+    let place = next-place v c.requires.verifier c.walk.yielded (rest_of c.walk.placed-iterator) i (rest_of c.next.new.self) c.walk.invariant.whole
+    c.in-Some.ensures.steps in
+    let there = next-stands v c.requires.verifier c.walk.yielded (rest_of c.walk.placed-iterator) i (rest_of c.next.new.self) c.walk.invariant.whole
+    c.in-Some.ensures.steps in
     let come = subst (λ n. IsComing v n c.walk.arrival c.walk.regs c.walk.stack) (sym place) c.walk.invariant.coming in
     let next : i.place + i.insn.len ≡ end_from 0 (c.walk.yielded ++ i ∷ []) = ap (λ n. n + i.insn.len) place ∙ sym (end-after 0 c.walk.yielded i) in
     let arrival : Arrival = record { may_fall = c.falls.result; depth = o.depth } in
     record {
-      whole = next-whole c.walk.yielded (rest_of c.walk.placed-iterator) i (rest_of c.next.new.self) (listing v.code.bytes.now) c.walk.invariant.whole c.in-Some.ensures.steps;
+      whole =
+          next-whole c.walk.yielded (rest_of c.walk.placed-iterator) i (rest_of c.next.new.self) (listing v.code.bytes.now) c.walk.invariant.whole
+          c.in-Some.ensures.steps;
       coming = subst (λ n. IsComing v n arrival c.visit.new.regs c.visit.new.stack) next
-          (coming-next v c.requires.verifier i there c.walk.arrival arrival c.walk.regs c.walk.stack c.visit.new.regs c.visit.new.stack o c.falls.ensures refl come c.in-Ok.ensures.passed);
+          (coming-next v c.requires.verifier i there c.walk.arrival arrival c.walk.regs c.walk.stack c.visit.new.regs c.visit.new.stack o c.falls.ensures
+          refl come c.in-Ok.ensures.passed);
       ahead = c.moved-ahead.ensures.is;
       low = omega (arith, c.moved-ahead.ensures.from, next);
-      progress = subst (λ (a : Bool). IsProgress v c.args.regs.now a c.visit.new.regs c.falls.result (cells c.visit.new.stack o.depth) (c.walk.yielded ++ i ∷ [])) (sym c.either-rose.ensures)
-          (subst (λ (b : Bool). IsProgress v c.args.regs.now (c.walk.rose || o.rose) c.visit.new.regs b (cells c.visit.new.stack o.depth) (c.walk.yielded ++ i ∷ [])) (sym c.falls.ensures)
-          (progress-next v c.requires.verifier c.args.regs.now c.walk.rose i c.walk.yielded c.walk.arrival c.walk.regs c.walk.stack c.visit.new.regs c.visit.new.stack o c.walk.invariant.progress c.in-Ok.ensures.passed));
+      progress =
+          subst (λ (a : Bool). IsProgress v c.args.regs.now a c.visit.new.regs c.falls.result (cells c.visit.new.stack o.depth)
+          (c.walk.yielded ++ i ∷ [])) (sym c.either-rose.ensures)
+          (subst (λ (b : Bool). IsProgress v c.args.regs.now (c.walk.rose || o.rose) c.visit.new.regs b (cells c.visit.new.stack o.depth)
+          (c.walk.yielded ++ i ∷ [])) (sym c.falls.ensures)
+          (progress-next v c.requires.verifier c.args.regs.now c.walk.rose i c.walk.yielded c.walk.arrival c.walk.regs c.walk.stack c.visit.new.regs
+          c.visit.new.stack o c.walk.invariant.progress c.in-Ok.ensures.passed));
     }
 
 pub returns-clause-done : goal.returns-clause-done

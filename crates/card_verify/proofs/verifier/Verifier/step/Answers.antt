@@ -7,15 +7,18 @@ apply-requires-clause-room c = has-room c.args.self.now c.requires.verifier c.ar
 
 pub returns-in-Err-clause-fails : goal.returns-in-Err-clause-fails
 returns-in-Err-clause-fails c =
-    fail-rule c.args.self.now c.requires.verifier c.args.placed c.requires.stands c.args.regs.now c.args.stack.now c.apply.new.regs c.apply.new.stack c.args.depth
+    fail-rule c.args.self.now c.requires.verifier c.args.placed c.requires.stands c.args.regs.now c.args.stack.now c.apply.new.regs c.apply.new.stack
+    c.args.depth
     (c.apply.auto.stack ∙ c.requires.slices.cells) c.requires.suits c.in-Err.fault c.requires.depth c.in-Err.ensures.as_before c.in-Err.ensures.refuses
 
 pub returns-in-None-clause-passed : goal.returns-in-None-clause-passed
 returns-in-None-clause-passed c =
     stepped c.args.self.now c.requires.verifier c.args.placed c.requires.stands c.args.regs.now c.args.stack.now c.apply.new.regs c.apply.new.stack c.args.depth
-    (c.apply.auto.stack ∙ c.requires.slices.cells) c.requires.suits c.in-Ok.outcome c.in-Ok.ensures.applies c.in-None.ensures.well (c.apply.auto.regs ∙ c.requires.slices.registers) (c.in-Ok.ensures.rises refl)
+    (c.apply.auto.stack ∙ c.requires.slices.cells) c.requires.suits c.in-Ok.outcome c.in-Ok.ensures.applies c.in-None.ensures.well
+    (c.apply.auto.regs ∙ c.requires.slices.registers) (c.in-Ok.ensures.rises refl)
 
 pub returns-in-Some-clause-fails : goal.returns-in-Some-clause-fails
 returns-in-Some-clause-fails c =
-    fail-left c.args.self.now c.requires.verifier c.args.placed c.requires.stands c.args.regs.now c.args.stack.now c.apply.new.regs c.apply.new.stack c.args.depth
+    fail-left c.args.self.now c.requires.verifier c.args.placed c.requires.stands c.args.regs.now c.args.stack.now c.apply.new.regs c.apply.new.stack
+    c.args.depth
     (c.apply.auto.stack ∙ c.requires.slices.cells) c.requires.suits c.in-Ok.outcome c.in-Ok.ensures.applies c.in-Some.kind c.in-Some.ensures.wrong

@@ -12,7 +12,9 @@ pub walk-preserved : goal.walk-preserved
 walk-preserved c =
     let code = c.args.self.now.code.bytes.now in
     record {
-      whole = next-whole c.walk.yielded (rest_of c.walk.placed-iterator) c.in-Some.placed (rest_of c.next.new.self) (listing code) c.walk.invariant.whole c.in-Some.ensures.steps;
+      whole =
+          next-whole c.walk.yielded (rest_of c.walk.placed-iterator) c.in-Some.placed (rest_of c.next.new.self) (listing code) c.walk.invariant.whole
+          c.in-Some.ensures.steps;
       least = subst (IsLeastFrom (IsTargetIn code (c.walk.yielded ++ c.in-Some.placed ∷ [])) c.args.from) (sym c.nearest-best.ensures)
           (led-more code c.args.from c.walk.yielded c.in-Some.placed c.walk.best c.walk.invariant.least);
     }

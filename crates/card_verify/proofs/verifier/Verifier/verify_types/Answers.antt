@@ -27,5 +27,6 @@ settle-requires-clause-begun c =
 
 pub returns-clause-typing : goal.returns-clause-typing
 returns-clause-typing c =
-    on-ok (IsFinished c.args.self.now c.settle.new.regs) (IsLeastCardTyping (world_of c.args.self.now) (method c.args.self.now) c.settle.new.regs) c.settle.result
+    on-ok (IsFinished c.args.self.now c.settle.new.regs) (IsLeastCardTyping (world_of c.args.self.now) (method c.args.self.now) c.settle.new.regs)
+    c.settle.result
     (least-of c.args.self.now c.settle.new.regs c.card_laws.ensures.quiet c.requires.method c.requires.formed) c.settle.ensures.finished

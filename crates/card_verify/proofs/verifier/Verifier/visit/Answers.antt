@@ -12,16 +12,19 @@ step-requires-clause-known c =
     let v = c.args.self.now in
     let given = cells c.land.new.stack c.in-Ok.depth in
     let k = known-here v c.requires.verifier c.args.placed c.requires.stands c.args.arrival c.args.regs.now c.args.stack.now given c.requires.coming
-    (landed-arrives v c.requires.verifier c.args.placed c.args.arrival c.args.ahead.from c.requires.here c.args.regs.now c.args.stack.now given c.in-Ok.ensures.landed) in
+    (landed-arrives v c.requires.verifier c.args.placed c.args.arrival c.args.ahead.from c.requires.here c.args.regs.now c.args.stack.now given
+    c.in-Ok.ensures.landed) in
     (k.regs, k.stack)
 
 pub step-requires-clause-suits : goal.step-requires-clause-suits
 step-requires-clause-suits c =
-    landed-suits c.args.self.now c.requires.verifier c.args.placed c.args.arrival c.args.ahead.from c.requires.here c.args.regs.now c.args.stack.now (cells c.land.new.stack c.in-Ok.depth) c.in-Ok.ensures.landed
+    landed-suits c.args.self.now c.requires.verifier c.args.placed c.args.arrival c.args.ahead.from c.requires.here c.args.regs.now c.args.stack.now
+    (cells c.land.new.stack c.in-Ok.depth) c.in-Ok.ensures.landed
 
 pub returns-in-Err-clause-stopped : goal.returns-in-Err-clause-stopped
 returns-in-Err-clause-stopped c =
-    stopped-landing c.args.self.now c.requires.verifier c.args.placed c.args.arrival c.args.ahead.from c.requires.here c.args.regs.now c.args.stack.now c.land.new.stack c.in-Err.fault c.in-Err.ensures.place c.in-Err.ensures.wrong
+    stopped-landing c.args.self.now c.requires.verifier c.args.placed c.args.arrival c.args.ahead.from c.requires.here c.args.regs.now c.args.stack.now
+    c.land.new.stack c.in-Err.fault c.in-Err.ensures.place c.in-Err.ensures.wrong
 
 pub returns-clause-passed : goal.returns-clause-passed
 returns-clause-passed c =

@@ -6,5 +6,6 @@ use Rattle.jc_classes.proofs.holes.Line.holes_in.Given as goal
 
 abbrev pub invariant-entries : goal.invariant-entries
 invariant-entries l =
-    (least_from link_place l.least (hole_fault l.self.lineage.now l.methods) (entries_from l.self.class l.token (drop l.entry-index l.list)) ≡ least_from link_place l.fn.least (hole_fault l.self.lineage.now l.methods) (entries_from l.self.class l.fn.first l.list))
+    (least_from link_place l.least (hole_fault l.self.lineage.now l.methods) (entries_from l.self.class l.token (drop l.entry-index l.list))
+    ≡ least_from link_place l.fn.least (hole_fault l.self.lineage.now l.methods) (entries_from l.self.class l.fn.first l.list))
     × (l.token ≡ l.fn.first + l.entry-index)

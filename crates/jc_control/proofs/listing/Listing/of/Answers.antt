@@ -11,14 +11,16 @@ use Rattle.jc_control.proofs.listing.Listing.of.Goals as goal
 pub set-requires : goal.set-requires
 set-requires c =
     let code = c.args.code.bytes.now in
-    let whole = at-next c.walk.yielded (rest_of c.walk.placed-iterator) c.in-Some.placed (rest_of c.next.new.self) (listing code) c.walk.invariant.whole c.in-Some.ensures.steps in
+    let whole = at-next c.walk.yielded (rest_of c.walk.placed-iterator) c.in-Some.placed (rest_of c.next.new.self) (listing code) c.walk.invariant.whole
+    c.in-Some.ensures.steps in
     let inside = next-inside code (c.instructions_are_listed.ensures code) c.walk.yielded c.in-Some.placed (rest_of c.next.new.self) whole in
     omega (arith, c.walk.invariant.flags)
 
 pub index_mut-requires : goal.index_mut-requires
 index_mut-requires c =
     let code = c.args.code.bytes.now in
-    let whole = at-next c.walk.yielded (rest_of c.walk.placed-iterator) c.in-Some.placed (rest_of c.next.new.self) (listing code) c.walk.invariant.whole c.in-Some.ensures.steps in
+    let whole = at-next c.walk.yielded (rest_of c.walk.placed-iterator) c.in-Some.placed (rest_of c.next.new.self) (listing code) c.walk.invariant.whole
+    c.in-Some.ensures.steps in
     let inside = next-inside code (c.instructions_are_listed.ensures code) c.walk.yielded c.in-Some.placed (rest_of c.next.new.self) whole in
     omega (arith, c.walk.invariant.room, c.from.ensures)
 
@@ -27,7 +29,8 @@ walk-preserved c =
     let code = c.args.code.bytes.now in
     let i = c.in-Some.placed in
     let law = c.instructions_are_listed.ensures code in
-    let whole = at-next c.walk.yielded (rest_of c.walk.placed-iterator) i (rest_of c.next.new.self) (listing code) c.walk.invariant.whole c.in-Some.ensures.steps in
+    let whole = at-next c.walk.yielded (rest_of c.walk.placed-iterator) i (rest_of c.next.new.self) (listing code) c.walk.invariant.whole
+    c.in-Some.ensures.steps in
     let inside = next-inside code law c.walk.yielded i (rest_of c.next.new.self) whole in
     let here = law.decodes i (contained-in c.walk.yielded i (rest_of c.next.new.self) (listing code) whole) in
     let flagged : i.place < length c.walk.begins = omega (arith, c.walk.invariant.flags) in

@@ -25,10 +25,14 @@ handlers-preserved c =
     record {
       sound = c.in_default.ensures.sound;
       grows = grows-on c.args.self.now c.handlers.self new c.handlers.invariant.grows c.in_default.ensures.grows;
-      caught = All-more (IsCaught new c.args.place) hs n _ inside (all-caught-stay c.handlers.self new c.args.place (take n hs) c.in_default.ensures.grows c.handlers.invariant.caught) here;
+      caught =
+          All-more (IsCaught new c.args.place) hs n _ inside
+          (all-caught-stay c.handlers.self new c.args.place (take n hs) c.in_default.ensures.grows c.handlers.invariant.caught) here;
     }
 
 pub returns-clause-caught : goal.returns-clause-caught
 returns-clause-caught c =
     let hs = c.args.subject.rec.now.handlers in
-    subst (All (IsCaught c.handlers.self c.args.place)) (take_all c.handlers.handler-index hs (omega (arith, ap length c.as_slice-handler-items.ensures, c.handlers-test.false))) c.handlers.invariant.caught
+    subst (All (IsCaught c.handlers.self c.args.place))
+    (take_all c.handlers.handler-index hs (omega (arith, ap length c.as_slice-handler-items.ensures, c.handlers-test.false)))
+    c.handlers.invariant.caught

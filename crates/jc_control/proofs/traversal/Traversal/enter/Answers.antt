@@ -37,4 +37,5 @@ returns-clause-caught c =
     let m = method c.args.subject in
     let inside = place-inside m.code c.args.subject.listed c.args.handler.entry c.requires.formed.entry in
     on-ok (ReachesPlace c.args.handler.entry c.args.self.now c.lead.new.self) (IsCaught c.lead.new.self c.args.place c.args.handler) c.lead.result
-    (λ r covers. led-here m c.args.handler.entry c.args.self.now c.lead.new.self c.requires.sound (omega arith) c.lead.ensures.leaders r) c.lead.ensures.reached
+    (λ r covers. led-here m c.args.handler.entry c.args.self.now c.lead.new.self c.requires.sound (omega arith) c.lead.ensures.leaders r)
+    c.lead.ensures.reached

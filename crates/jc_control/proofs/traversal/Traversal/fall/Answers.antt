@@ -47,5 +47,6 @@ returns-clause-next c =
     let m = method c.args.subject in
     let within = c.args.subject.listed.within c.args.placed c.requires.stands in
     let place = c.args.placed.place + c.args.placed.insn.len in
-    on-ok (ReachesPlace place c.args.self.now c.reach.new.self) (IsTrue (falls c.args.placed.insn.op) → IsFlagged c.reach.new.self.reached place) c.reach.result
+    on-ok (ReachesPlace place c.args.self.now c.reach.new.self) (IsTrue (falls c.args.placed.insn.op) → IsFlagged c.reach.new.self.reached place)
+    c.reach.result
     (λ r goes. reached-found m place c.args.self.now c.reach.new.self c.requires.sound within c.reach.ensures.leaders r) c.reach.ensures.reached

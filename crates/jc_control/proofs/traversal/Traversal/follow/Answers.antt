@@ -13,23 +13,27 @@ use Rattle.jc_control.proofs.traversal.Traversal.follow.Goals as goal
 pub place_of-requires-clause-low : goal.place_of-requires-clause-low
 place_of-requires-clause-low c =
     let fits : FitsSigned w32 c.args.target = search rules in
-    rw (to_z-of_z w32 c.args.target fits) ((target-range c.args.subject.code.bytes.now c.args.subject.listed c.args.target c.requires.formed c.args.subject.short).0)
+    rw (to_z-of_z w32 c.args.target fits)
+    ((target-range c.args.subject.code.bytes.now c.args.subject.listed c.args.target c.requires.formed c.args.subject.short).0)
 
 pub place_of-requires-clause-high : goal.place_of-requires-clause-high
 place_of-requires-clause-high c =
     let fits : FitsSigned w32 c.args.target = search rules in
-    rw (to_z-of_z w32 c.args.target fits) ((target-range c.args.subject.code.bytes.now c.args.subject.listed c.args.target c.requires.formed c.args.subject.short).1)
+    rw (to_z-of_z w32 c.args.target fits)
+    ((target-range c.args.subject.code.bytes.now c.args.subject.listed c.args.target c.requires.formed c.args.subject.short).1)
 
 pub lead-requires-clause-reached : goal.lead-requires-clause-reached
 lead-requires-clause-reached c =
     let fits : FitsSigned w32 c.args.target = search rules in
-    let inside = target-place c.args.subject.code.bytes.now c.args.subject.listed c.place_of.result c.args.target c.requires.formed (c.place_of.ensures ∙ to_z-of_z w32 c.args.target fits) in
+    let inside = target-place c.args.subject.code.bytes.now c.args.subject.listed c.place_of.result c.args.target c.requires.formed
+    (c.place_of.ensures ∙ to_z-of_z w32 c.args.target fits) in
     omega (arith, c.requires.sound.reached_size)
 
 pub lead-requires-clause-leaders : goal.lead-requires-clause-leaders
 lead-requires-clause-leaders c =
     let fits : FitsSigned w32 c.args.target = search rules in
-    let inside = target-place c.args.subject.code.bytes.now c.args.subject.listed c.place_of.result c.args.target c.requires.formed (c.place_of.ensures ∙ to_z-of_z w32 c.args.target fits) in
+    let inside = target-place c.args.subject.code.bytes.now c.args.subject.listed c.place_of.result c.args.target c.requires.formed
+    (c.place_of.ensures ∙ to_z-of_z w32 c.args.target fits) in
     omega (arith, c.requires.sound.leaders_size)
 
 pub returns-clause-sound : goal.returns-clause-sound
@@ -62,4 +66,5 @@ returns-clause-led c =
     let same : pos q ≡ c.args.target = c.place_of.ensures ∙ to_z-of_z w32 c.args.target fits in
     let inside = target-place m.code c.args.subject.listed q c.args.target c.requires.formed same in
     on-ok (ReachesPlace q c.args.self.now c.lead.new.self) (IsLedTo c.lead.new.self c.args.target) c.lead.result
-    (λ r. subst (IsLedTo c.lead.new.self) same (led-here m q c.args.self.now c.lead.new.self c.requires.sound (omega arith) c.lead.ensures.leaders r)) c.lead.ensures.reached
+    (λ r. subst (IsLedTo c.lead.new.self) same (led-here m q c.args.self.now c.lead.new.self c.requires.sound (omega arith) c.lead.ensures.leaders r))
+    c.lead.ensures.reached

@@ -19,25 +19,30 @@ follow-requires-clause-leads c =
     let all = targets c.args.subject.code.bytes.now c.args.placed in
     let t = c.in-Some.target in
     let fits : FitsSigned w32 t = search rules in
-    let whole = at-next c.targets.yielded (rest_of c.targets.target-iterator) t (rest_of c.next.new.self) all c.targets.invariant.whole c.in-Some.ensures.steps in
+    let whole = at-next c.targets.yielded (rest_of c.targets.target-iterator) t (rest_of c.next.new.self) all c.targets.invariant.whole
+    c.in-Some.ensures.steps in
     rw (to_z-of_z w32 t fits) (contained-in c.targets.yielded t (rest_of c.next.new.self) all whole)
 
 pub follow-requires-clause-formed : goal.follow-requires-clause-formed
 follow-requires-clause-formed c =
     let code = c.args.subject.code.bytes.now in
-    All-contains (IsTargetPlace code) (targets code c.args.placed) _ (c.requires.formed.targets c.args.placed c.requires.stands) (follow-requires-clause-leads c)
+    All-contains (IsTargetPlace code) (targets code c.args.placed) _ (c.requires.formed.targets c.args.placed c.requires.stands)
+    (follow-requires-clause-leads c)
 
 pub targets-preserved : goal.targets-preserved
 targets-preserved c =
     let all = targets c.args.subject.code.bytes.now c.args.placed in
     let t = c.in-Some.target in
     let fits : FitsSigned w32 t = search rules in
-    let whole = at-next c.targets.yielded (rest_of c.targets.target-iterator) t (rest_of c.next.new.self) all c.targets.invariant.whole c.in-Some.ensures.steps in
+    let whole = at-next c.targets.yielded (rest_of c.targets.target-iterator) t (rest_of c.next.new.self) all c.targets.invariant.whole
+    c.in-Some.ensures.steps in
     let done = c.in_default.ensures in
     record {
       sound = done.sound;
       grows = grows-on c.args.self.now c.targets.self c.follow.new.self c.targets.invariant.grows done.grows;
-      led = All-push (IsLedTo c.follow.new.self) c.targets.yielded t (all-led-stays c.targets.self c.follow.new.self c.targets.yielded done.grows c.targets.invariant.led)
+      led =
+          All-push (IsLedTo c.follow.new.self) c.targets.yielded t
+          (all-led-stays c.targets.self c.follow.new.self c.targets.yielded done.grows c.targets.invariant.led)
           (rw (to_z-of_z w32 t fits) at done.led);
       whole = go-on c.targets.yielded t (rest_of c.next.new.self) all whole;
     }

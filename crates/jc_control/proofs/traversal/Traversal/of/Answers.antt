@@ -23,7 +23,8 @@ pub visit-requires-clause-reached : goal.visit-requires-clause-reached
 visit-requires-clause-reached c =
     let m = method c.args.subject in
     let s = c.work.traversal in
-    c.work.invariant.sound.reached c.in-Some.place (c.work.invariant.sound.pending c.in-Some.place (taken-pending m c.in-Some.place s c.take.new.self c.in-Some.ensures.some))
+    c.work.invariant.sound.reached c.in-Some.place
+    (c.work.invariant.sound.pending c.in-Some.place (taken-pending m c.in-Some.place s c.take.new.self c.in-Some.ensures.some))
 
 pub work-preserved : goal.work-preserved
 work-preserved c =
@@ -40,4 +41,6 @@ work-preserved c =
     }
 
 pub returns : goal.returns
-returns c = traversed (method c.args.subject) c.work.traversal c.take.new.self c.work.invariant.sound c.work.invariant.closed c.work.invariant.start c.in_default.ensures.none c.args.listing.now c.requires.listing c.requires.formed
+returns c =
+    traversed (method c.args.subject) c.work.traversal c.take.new.self c.work.invariant.sound c.work.invariant.closed c.work.invariant.start
+    c.in_default.ensures.none c.args.listing.now c.requires.listing c.requires.formed

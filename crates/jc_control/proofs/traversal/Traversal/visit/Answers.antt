@@ -8,15 +8,18 @@ use Rattle.jc_control.proofs.traversal.Traversal.visit.Goals as goal
 
 pub returns-in-Err-clause-closed : goal.returns-in-Err-clause-closed
 returns-in-Err-clause-closed c =
-    closed-at-end (method c.args.subject) c.args.subject.listed c.requires.formed c.args.self.now c.args.place c.in-Err.field-0 c.requires.reached (sym c.in-Err.ensures.value)
+    closed-at-end (method c.args.subject) c.args.subject.listed c.requires.formed c.args.self.now c.args.place c.in-Err.field-0 c.requires.reached
+    (sym c.in-Err.ensures.value)
 
 pub fall-requires-clause-stands : goal.fall-requires-clause-stands
 fall-requires-clause-stands c =
-    stands-reached (method c.args.subject) c.args.subject.listed c.requires.formed (record { place = c.args.place; insn = c.in-Ok.insn }) c.requires.reached (sym c.in-Ok.ensures.value)
+    stands-reached (method c.args.subject) c.args.subject.listed c.requires.formed (record { place = c.args.place; insn = c.in-Ok.insn }) c.requires.reached
+    (sym c.in-Ok.ensures.value)
 
 pub jump-requires-clause-stands : goal.jump-requires-clause-stands
 jump-requires-clause-stands c =
-    stands-reached (method c.args.subject) c.args.subject.listed c.requires.formed (record { place = c.args.place; insn = c.in-Ok.insn }) c.requires.reached (sym c.in-Ok.ensures.value)
+    stands-reached (method c.args.subject) c.args.subject.listed c.requires.formed (record { place = c.args.place; insn = c.in-Ok.insn }) c.requires.reached
+    (sym c.in-Ok.ensures.value)
 
 pub returns-clause-grows : goal.returns-clause-grows
 returns-clause-grows c =
@@ -35,4 +38,5 @@ returns-clause-closed c =
     let jumped = c.jump.new.self in
     let after = c.catch.new.self in
     on-both (Grows jumped after) (All (IsCaught after c.args.place) m.rec.handlers) (IsClosedAt m after c.args.place) c.catch.result
-    (λ g caught. closed-after m c.args.subject.listed fell jumped after i c.in_ok-jump.ensures.grows g stands c.in_ok-fall.ensures.next c.in_ok-jump.ensures.led caught) c.catch.ensures.grows c.catch.ensures.caught
+    (λ g caught. closed-after m c.args.subject.listed fell jumped after i c.in_ok-jump.ensures.grows g stands c.in_ok-fall.ensures.next
+    c.in_ok-jump.ensures.led caught) c.catch.ensures.grows c.catch.ensures.caught

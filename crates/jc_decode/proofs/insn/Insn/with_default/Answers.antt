@@ -13,7 +13,8 @@ returns-clause-same c = rw (made c) (default-same c.args.self c.args.offset c.re
 
 pub returns-clause-allowed : goal.returns-clause-allowed
 returns-clause-allowed c =
-    rw (made c) (default-allowed c.args.code.bytes.now c.args.at c.args.self c.args.offset c.are_bytes.ensures c.requires.switch c.requires.table c.ranges.offset)
+    rw (made c) (default-allowed c.args.code.bytes.now c.args.at c.args.self c.args.offset c.are_bytes.ensures c.requires.switch c.requires.table
+    c.ranges.offset)
 
 pub returns-clause-table : goal.returns-clause-table
 returns-clause-table c = rw (made c) (default-table c.args.code.bytes.now c.args.at c.args.self c.args.offset c.requires.table)

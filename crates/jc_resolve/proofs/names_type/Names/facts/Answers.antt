@@ -9,7 +9,12 @@ use Rattle.jc_resolve.proofs.names_type.Names.facts.Goals as goal
 pub returns-clause-few_classes : goal.returns-clause-few_classes
 returns-clause-few_classes c =
     let few : length c.self.inside.classes ≤ 4096 =
-    omega (arith, ap length c.self.invariant.names.classes_are, named-length c.self.inside.index (slice_index c.self.inside.roles 0), c.packages.ensures.few_classes) in
+    omega (
+      arith,
+      ap length c.self.invariant.names.classes_are,
+      named-length c.self.inside.index (slice_index c.self.inside.roles 0),
+      c.packages.ensures.few_classes,
+    ) in
     subst (λ (n : NamesRecord). length n.classes ≤ 4096) c.self.view_is few
 
 pub returns-clause-few_methods : goal.returns-clause-few_methods

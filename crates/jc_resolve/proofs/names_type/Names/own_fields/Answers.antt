@@ -15,5 +15,6 @@ returns c =
     c.own_kept.ensures
     ∙ ap (λ (all : List PackageFields). own_kept all c.args.package class) c.self.invariant.fields_are
     ∙ own_are_kept c.self.inside.index (slice_index c.self.inside.roles 0) c.args.package class
-    (subst (λ (n : NamesRecord). IfSome (slice_get n.packages c.args.package) (λ (p : PackageRecord). IsDescribedOnce p.description.items.classes class)) (sym c.self.view_is) c.requires)
+    (subst (λ (n : NamesRecord). IfSome (slice_get n.packages c.args.package) (λ (p : PackageRecord). IsDescribedOnce p.description.items.classes class))
+    (sym c.self.view_is) c.requires)
     ∙ ap (λ (n : NamesRecord). own_fields_in n.packages (slice_index n.roles 0) c.args.package class) c.self.view_is

@@ -56,6 +56,7 @@ returns c =
           ∙ frames-changed i.cells.items new i.spans.items c.args.place s c.self.invariant there stays
           ∙ ap (λ (xs : List (Option Frame)). set xs c.args.place (Some (frame_of_span new s))) c.self.view_is;
       merged =
-          subst (λ (xs : List Ty). IsMerged c.args.classes.now (frame_of_span xs s) (record { regs = c.args.regs.now; stack = reverse c.args.stack.now }) (frame_of_span new s) c.merge_span.result)
+          subst (λ (xs : List Ty). IsMerged c.args.classes.now (frame_of_span xs s) (record { regs = c.args.regs.now; stack = reverse c.args.stack.now })
+          (frame_of_span new s) c.merge_span.result)
           c.deref_mut.ensures.value c.merge_span.ensures.merged;
     }

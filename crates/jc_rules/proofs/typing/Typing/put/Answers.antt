@@ -20,8 +20,10 @@ returns-clause-put c =
     let s : Span = record { at = c.len-at.result; registers = length regs; depth = length stack } in
     let f : Frame = record { regs = regs; stack = reverse stack } in
     let lt : p < length i.spans.items =
-    subst (λ (n : ℕ). p < n) (length-map i.spans.items (option_map (frame_of_span i.cells.items))) (subst (λ (xs : List (Option Frame)). p < length xs) (sym c.self.view_is) c.requires.place) in
+    subst (λ (n : ℕ). p < n) (length-map i.spans.items (option_map (frame_of_span i.cells.items)))
+    (subst (λ (xs : List (Option Frame)). p < length xs) (sym c.self.view_is) c.requires.place) in
     let at : s.at ≡ length i.cells.items = c.len-at.ensures ∙ i.cells.ok.0 in
     ap (λ (xs : List Ty). frames_at xs (set i.spans.items p (Some s))) c.in_ok-append.ensures.value
-    ∙ frames-put i.cells.items (regs ++ stack) i.spans.items c.self.invariant p lt s at (length-append regs stack) c.requires.few f (frame-put i.cells.items regs stack s at refl refl)
+    ∙ frames-put i.cells.items (regs ++ stack) i.spans.items c.self.invariant p lt s at (length-append regs stack) c.requires.few f
+    (frame-put i.cells.items regs stack s at refl refl)
     ∙ ap (λ (xs : List (Option Frame)). set xs p (Some f)) c.self.view_is

@@ -16,12 +16,16 @@ words-init c = (none-above c.args.self.now.words c.args.offset c.bits.result c.b
 
 pub returns-then-bits-ne0 : goal.returns-then-bits-ne0
 returns-then-bits-ne0 c =
-    (first-in c.args.self.now.words c.args.offset c.words.word c.bits-bits.result c.bits-bits.ensures.value c.words.invariant.1 c.words.invariant.0 c.if-bits-ne0.true c.bits-bits.type_inv).next
+    (first-in c.args.self.now.words c.args.offset c.words.word c.bits-bits.result c.bits-bits.ensures.value c.words.invariant.1 c.words.invariant.0
+    c.if-bits-ne0.true c.bits-bits.type_inv).next
 
 pub words-preserved : goal.words-preserved
 words-preserved c =
-    let farther = c.words.invariant.1 in
-    (none-in c.args.self.now.words c.args.offset c.words.word c.bits-bits.result c.bits-bits.ensures.value c.words.invariant.0 c.if-bits-ne0.false, omega arith, omega arith)
+    let farther = c.words.invariant.1 in (
+      none-in c.args.self.now.words c.args.offset c.words.word c.bits-bits.result c.bits-bits.ensures.value c.words.invariant.0 c.if-bits-ne0.false,
+      omega arith,
+      omega arith,
+    )
 
 pub returns : goal.returns
 returns c = none-left c.args.self.now.words c.args.offset c.words.word (omega arith) c.words.invariant.0 c.words-test.false

@@ -14,8 +14,10 @@ returns-clause-reaches c = tests-reach c.args.world.now c.classes-classes.ensure
 
 pub returns-clause-stays : goal.returns-clause-stays
 returns-clause-stays c = λ s z kept step.
-    step-good c.args.world.now c.classes-classes.ensures.links c.classes-classes.ensures.dispatch c.demands_are_decided.ensures c.operations_are_sound.ensures.sound s (running z) kept step
+    step-good c.args.world.now c.classes-classes.ensures.links c.classes-classes.ensures.dispatch c.demands_are_decided.ensures
+    c.operations_are_sound.ensures.sound s (running z) kept step
 
 pub returns-clause-ends : goal.returns-clause-ends
 returns-clause-ends c = λ s z e kept step.
-    step-good c.args.world.now c.classes-classes.ensures.links c.classes-classes.ensures.dispatch c.demands_are_decided.ensures c.operations_are_sound.ensures.sound s (ended e z) kept step
+    step-good c.args.world.now c.classes-classes.ensures.links c.classes-classes.ensures.dispatch c.demands_are_decided.ensures
+    c.operations_are_sound.ensures.sound s (ended e z) kept step

@@ -21,20 +21,24 @@ use Rattle.vm_offend.proofs.machine.Machine.go_on.Goals as goal
 pub run-ending-requires-clause-running : goal.run-ending-requires-clause-running
 run-ending-requires-clause-running c =
     let w = c.args.world.now in
-    can-run w (accepted-has w c.typed_code_never_fails.ensures.typings c.requires.accepted) c.typed_code_never_fails.ensures.starts c.typed_code_never_fails.ensures.runs c.runs_are_runs_of_steps.ensures.tagged_steps c.runs_exist.ensures
+    can-run w (accepted-has w c.typed_code_never_fails.ensures.typings c.requires.accepted) c.typed_code_never_fails.ensures.starts
+    c.typed_code_never_fails.ensures.runs c.runs_are_runs_of_steps.ensures.tagged_steps c.runs_exist.ensures
     c.args.self.now c.args.ram.now c.args.heap.now c.args.statics.now c.requires.going c.requires.run _ c.over-store.ensures.state
 
 pub run-ending-requires-clause-keeps : goal.run-ending-requires-clause-keeps
 run-ending-requires-clause-keeps c =
     let w = c.args.world.now in
-    run-keeps w (accepted-has w c.typed_code_never_fails.ensures.typings c.requires.accepted) c.typed_code_never_fails.ensures.starts c.typed_code_never_fails.ensures.runs c.starts_are_shaped.ensures c.tests_suffice.ensures.stays
+    run-keeps w (accepted-has w c.typed_code_never_fails.ensures.typings c.requires.accepted) c.typed_code_never_fails.ensures.starts
+    c.typed_code_never_fails.ensures.runs c.starts_are_shaped.ensures c.tests_suffice.ensures.stays
     c.args.self.now c.args.ram.now c.args.heap.now c.args.statics.now c.requires.going c.requires.run _ c.over-store.ensures.state
 
 pub plain-self-requires : goal.plain-self-requires
 plain-self-requires c =
     let w = c.args.world.now in
-    run-plain w (accepted-has w c.typed_code_never_fails.ensures.typings c.requires.accepted) c.typed_code_never_fails.ensures.starts c.typed_code_never_fails.ensures.runs c.words_run_alike.ensures.runs_follow
-    c.args.self.now c.args.ram.now c.args.heap.now c.args.statics.now c.requires.going c.requires.run c.args.budget _ _ c.run-ending.result c.over-store.ensures.state c.run-ending.ensures.runs
+    run-plain w (accepted-has w c.typed_code_never_fails.ensures.typings c.requires.accepted) c.typed_code_never_fails.ensures.starts
+    c.typed_code_never_fails.ensures.runs c.words_run_alike.ensures.runs_follow
+    c.args.self.now c.args.ram.now c.args.heap.now c.args.statics.now c.requires.going c.requires.run c.args.budget _ _ c.run-ending.result
+    c.over-store.ensures.state c.run-ending.ensures.runs
 
 pub returns-clause-follows : goal.returns-clause-follows
 returns-clause-follows c =
@@ -46,11 +50,13 @@ returns-clause-follows c =
     let same : now ≡ after =
     ap (λ (v : Linked). words_state v.methods z.ram.now z.heap.now z.statics.now z.counts) c.run-ending.ensures.world
     ∙ ap (λ (n : Counts). words_state w.methods z.ram.now z.heap.now z.statics.now n) (sym c.counts-self.ensures) in
-    let ran : Ran w c.args.self.now c.args.ram.now c.args.heap.now c.args.statics.now c.args.budget m z.ram.now z.heap.now z.statics.now c.spent_or.result = record {
+    let ran : Ran w c.args.self.now c.args.ram.now c.args.heap.now c.args.statics.now c.args.budget m z.ram.now z.heap.now z.statics.now c.spent_or.result =
+    record {
       going = c.requires.going;
       ending = c.run-ending.result;
       runs = subst (λ (x : State ℕ). Runs words w c.args.budget x (with_ending c.run-ending.result after)) c.over-store.ensures.state
-          (subst (λ (x : State ℕ). Runs words w c.args.budget (state_in_words c.over-store.result) (with_ending c.run-ending.result x)) same c.run-ending.ensures.runs);
+          (subst (λ (x : State ℕ). Runs words w c.args.budget (state_in_words c.over-store.result) (with_ending c.run-ending.result x)) same
+          c.run-ending.ensures.runs);
       shaped = subst (IsShaped w) same c.run-ending.ensures.shaped;
       laid = subst (λ (n : Counts). AreLaid w z.ram.now z.heap.now n) (sym c.counts-self.ensures)
           (subst (λ (v : Linked). AreLaid v z.ram.now z.heap.now z.counts) c.run-ending.ensures.world c.run-ending.ensures.well);
@@ -59,7 +65,8 @@ returns-clause-follows c =
     } in
     moved (λ (x y u : List ℕ). (o : Outcome Cell) → IsOutcomeOfRun w o → AreWordsOf w c.args.self.now c.args.ram.now c.args.heap.now c.args.statics.now o
     → Follows w c.args.budget o m x y u c.spent_or.result) _ _ _ z.ram.now z.heap.now z.statics.now (search rules) (search rules) (search rules)
-    (follows-each w (accepted-has w c.typed_code_never_fails.ensures.typings c.requires.accepted) c.typed_code_never_fails.ensures.starts c.typed_code_never_fails.ensures.runs c.words_run_alike.ensures.runs_follow
+    (follows-each w (accepted-has w c.typed_code_never_fails.ensures.typings c.requires.accepted) c.typed_code_never_fails.ensures.starts
+    c.typed_code_never_fails.ensures.runs c.words_run_alike.ensures.runs_follow
     c.args.self.now c.args.ram.now c.args.heap.now c.args.statics.now c.args.budget m z.ram.now z.heap.now z.statics.now c.spent_or.result ran)
 
 pub returns-clause-run : goal.returns-clause-run
@@ -72,11 +79,13 @@ returns-clause-run c =
     let same : now ≡ after =
     ap (λ (v : Linked). words_state v.methods z.ram.now z.heap.now z.statics.now z.counts) c.run-ending.ensures.world
     ∙ ap (λ (n : Counts). words_state w.methods z.ram.now z.heap.now z.statics.now n) (sym c.counts-self.ensures) in
-    let ran : Ran w c.args.self.now c.args.ram.now c.args.heap.now c.args.statics.now c.args.budget m z.ram.now z.heap.now z.statics.now c.spent_or.result = record {
+    let ran : Ran w c.args.self.now c.args.ram.now c.args.heap.now c.args.statics.now c.args.budget m z.ram.now z.heap.now z.statics.now c.spent_or.result =
+    record {
       going = c.requires.going;
       ending = c.run-ending.result;
       runs = subst (λ (x : State ℕ). Runs words w c.args.budget x (with_ending c.run-ending.result after)) c.over-store.ensures.state
-          (subst (λ (x : State ℕ). Runs words w c.args.budget (state_in_words c.over-store.result) (with_ending c.run-ending.result x)) same c.run-ending.ensures.runs);
+          (subst (λ (x : State ℕ). Runs words w c.args.budget (state_in_words c.over-store.result) (with_ending c.run-ending.result x)) same
+          c.run-ending.ensures.runs);
       shaped = subst (IsShaped w) same c.run-ending.ensures.shaped;
       laid = subst (λ (n : Counts). AreLaid w z.ram.now z.heap.now n) (sym c.counts-self.ensures)
           (subst (λ (v : Linked). AreLaid v z.ram.now z.heap.now z.counts) c.run-ending.ensures.world c.run-ending.ensures.well);
@@ -84,6 +93,7 @@ returns-clause-run c =
       answer_is = c.spent_or.ensures;
     } in
     moved (IsRunOf w m) _ _ _ z.ram.now z.heap.now z.statics.now (search rules) (search rules) (search rules)
-    (run-after w (accepted-has w c.typed_code_never_fails.ensures.typings c.requires.accepted) c.typed_code_never_fails.ensures.starts c.typed_code_never_fails.ensures.runs c.words_run_alike.ensures.runs_follow
+    (run-after w (accepted-has w c.typed_code_never_fails.ensures.typings c.requires.accepted) c.typed_code_never_fails.ensures.starts
+    c.typed_code_never_fails.ensures.runs c.words_run_alike.ensures.runs_follow
     c.args.self.now c.args.ram.now c.args.heap.now c.args.statics.now c.args.budget m z.ram.now z.heap.now z.statics.now c.spent_or.result ran
     c.runs_are_runs_of_steps.ensures.tagged_on c.requires.run)

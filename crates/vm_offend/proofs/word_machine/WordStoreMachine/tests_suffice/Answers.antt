@@ -9,7 +9,8 @@ returns-clause-known c = knows-types c.args.world.now
 
 pub returns-clause-reaches : goal.returns-clause-reaches
 returns-clause-reaches c =
-    tests-reach c.args.world.now c.classes-classes.ensures.links c.states_erase.ensures c.typed_code_never_fails.ensures.steps c.tests_suffice.ensures.reaches c.tests_suffice.ensures.known
+    tests-reach c.args.world.now c.classes-classes.ensures.links c.states_erase.ensures c.typed_code_never_fails.ensures.steps
+    c.tests_suffice.ensures.reaches c.tests_suffice.ensures.known
     c.operations_are_sound.ensures.sound c.footprint_laws.ensures.leaves c.typed_states_apply.ensures
 
 pub returns-clause-stays : goal.returns-clause-stays

@@ -16,7 +16,8 @@ returns-clause-state c =
     let s = c.args.self.now in
     let held : State ℕ = words_state s.world.now.methods s.ram.now s.heap.now s.statics.now s.counts in
     let begun : Linked → State ℕ = λ w. record held { frames = entered words w.methods c.args.method [] ∷ held.frames } in
-    next_state s.world.now s.ram.now s.heap.now s.counts c.requires.well c.requires.room s.statics.now c.enter.new.window _ c.enter.auto.window c.enter.ensures.frame
+    next_state s.world.now s.ram.now s.heap.now s.counts c.requires.well c.requires.room s.statics.now c.enter.new.window _ c.enter.auto.window
+    c.enter.ensures.frame
     ∙ ap begun c.requires.world
 
 pub returns-clause-well : goal.returns-clause-well

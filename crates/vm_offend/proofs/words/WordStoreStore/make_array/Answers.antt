@@ -1,4 +1,5 @@
-use Rattle.std.proofs.Common.{◌≡◌, ℕ, ◌+◌, ◌-◌, ◌*◌, ◌<◌, ◌≤◌, ◌∷◌, ◌++◌, [], List, length, drop, take, refl, sym, ap, ◌∙◌, subst, arith, length-drop, length-take}
+use Rattle.std.proofs.Common.{◌≡◌, ℕ, ◌+◌, ◌-◌, ◌*◌, ◌<◌, ◌≤◌, ◌∷◌, ◌++◌, [], List, length, drop, take, refl, sym, ap}
+use Rattle.std.proofs.Common.{◌∙◌, subst, arith, length-drop, length-take}
 use Rattle.std.proofs.lemmas.List.{take_all, length-map}
 use Rattle.vm_store.specs.declared.header.ObjectHeader.{ObjectHeader}
 use Rattle.vm_store.specs.Kind.{element_width}
@@ -60,8 +61,10 @@ returns-clause-state c =
     let written : ws ≡ overwritten xs s.counts.cells news = c.fill_array.ensures ∙ ap (λ ys. overwritten ys s.counts.cells news) part in
     let H = c.set_header.new.heap in
     let put : List (Object ℕ) → State ℕ = λ os. record z { heap = os } in
-    let cells : drop 12288 H ≡ ws = ap (drop 12288) c.set_header.ensures ∙ new-cells s.heap.now ws n (length s.heap.now - 12288) h few laid.heap_length refl same c.requires.class in
-    let headers : headers_in H (n + 1) ≡ hs ++ h ∷ [] = ap (λ g. headers_in g (n + 1)) c.set_header.ensures ∙ new-headers s.heap.now ws n (length s.heap.now - 12288) h few laid.heap_length refl same c.requires.class in
+    let cells : drop 12288 H ≡ ws = ap (drop 12288) c.set_header.ensures ∙ new-cells s.heap.now ws n (length s.heap.now - 12288) h few laid.heap_length
+    refl same c.requires.class in
+    let headers : headers_in H (n + 1) ≡ hs ++ h ∷ [] = ap (λ g. headers_in g (n + 1)) c.set_header.ensures
+    ∙ new-headers s.heap.now ws n (length s.heap.now - 12288) h few laid.heap_length refl same c.requires.class in
     ap (λ cs. put (objects_in cs (headers_in H (n + 1)))) cells
     ∙ (ap (λ gs. put (objects_in ws gs)) headers ∙ ap put (added xs ws news hs s.counts.cells h laid.laid enough written refl width))
 
@@ -82,7 +85,8 @@ returns-clause-well c =
     let same : length ws ≡ length s.heap.now - 12288 = c.fill_array.auto.cells ∙ (ap length part ∙ length-drop 12288 s.heap.now) in
     let written : ws ≡ overwritten xs s.counts.cells news = c.fill_array.ensures ∙ ap (λ ys. overwritten ys s.counts.cells news) part in
     let H = c.set_header.new.heap in
-    let headers : headers_in H (n + 1) ≡ hs ++ h ∷ [] = ap (λ g. headers_in g (n + 1)) c.set_header.ensures ∙ new-headers s.heap.now ws n (length s.heap.now - 12288) h few laid.heap_length refl same c.requires.class in
+    let headers : headers_in H (n + 1) ≡ hs ++ h ∷ [] = ap (λ g. headers_in g (n + 1)) c.set_header.ensures
+    ∙ new-headers s.heap.now ws n (length s.heap.now - 12288) h few laid.heap_length refl same c.requires.class in
     let longer : Follow 0 (hs ++ h ∷ []) (s.counts.cells + size h) = follow-more 0 hs s.counts.cells h laid.laid refl in
     let size_is : size h ≡ c.size.result = sym c.size.ensures in
     let follow : Follow 0 (hs ++ h ∷ []) (s.counts.cells + c.size.result) = subst (λ k. Follow 0 (hs ++ h ∷ []) (s.counts.cells + k)) size_is longer in

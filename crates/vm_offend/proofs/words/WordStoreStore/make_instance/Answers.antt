@@ -1,4 +1,5 @@
-use Rattle.std.proofs.Common.{◌≡◌, ℕ, ◌+◌, ◌-◌, ◌<◌, ◌≤◌, ◌∷◌, ◌++◌, [], List, length, drop, take, refl, sym, ap, ◌∙◌, subst, arith, length-drop, length-take}
+use Rattle.std.proofs.Common.{◌≡◌, ℕ, ◌+◌, ◌-◌, ◌<◌, ◌≤◌, ◌∷◌, ◌++◌, [], List, length, drop, take, refl, sym, ap, ◌∙◌}
+use Rattle.std.proofs.Common.{subst, arith, length-drop, length-take}
 use Rattle.std.proofs.lemmas.List.{take_all, length-map}
 use Rattle.jc_base.specs.Dispatch.{cells_of}
 use Rattle.vm_store.specs.declared.header.ObjectHeader.{ObjectHeader}
@@ -56,14 +57,17 @@ returns-clause-state c =
     let ws = c.fill_instance.new.cells in
     let h : ObjectHeader = record { kind = Instance c.args.class; start = s.counts.cells; elements = c.class.result.now.cells } in
     let news = new_instance_cells words c.args.world.now.classes c.args.class in
-    let width : size h ≡ length news = omega (arith, c.class.ensures.cells, length-map (cells_of c.args.world.now.classes c.args.class) (λ ty. zero_cell words (cell_kind ty))) in
+    let width : size h ≡ length news = omega
+    (arith, c.class.ensures.cells, length-map (cells_of c.args.world.now.classes c.args.class) (λ ty. zero_cell words (cell_kind ty))) in
     let part : take (length s.heap.now - 12288) xs ≡ xs = take_all (length s.heap.now - 12288) xs (omega (arith, length-drop 12288 s.heap.now)) in
     let same : length ws ≡ length s.heap.now - 12288 = c.fill_instance.auto.cells ∙ (ap length part ∙ length-drop 12288 s.heap.now) in
     let written : ws ≡ overwritten xs s.counts.cells news = c.fill_instance.ensures ∙ ap (λ ys. overwritten ys s.counts.cells news) part in
     let H = c.set_header.new.heap in
     let put : List (Object ℕ) → State ℕ = λ os. record z { heap = os } in
-    let cells : drop 12288 H ≡ ws = ap (drop 12288) c.set_header.ensures ∙ new-cells s.heap.now ws n (length s.heap.now - 12288) h few laid.heap_length refl same numbered in
-    let headers : headers_in H (n + 1) ≡ hs ++ h ∷ [] = ap (λ g. headers_in g (n + 1)) c.set_header.ensures ∙ new-headers s.heap.now ws n (length s.heap.now - 12288) h few laid.heap_length refl same numbered in
+    let cells : drop 12288 H ≡ ws = ap (drop 12288) c.set_header.ensures ∙ new-cells s.heap.now ws n (length s.heap.now - 12288) h few laid.heap_length
+    refl same numbered in
+    let headers : headers_in H (n + 1) ≡ hs ++ h ∷ [] = ap (λ g. headers_in g (n + 1)) c.set_header.ensures
+    ∙ new-headers s.heap.now ws n (length s.heap.now - 12288) h few laid.heap_length refl same numbered in
     ap (λ cs. put (objects_in cs (headers_in H (n + 1)))) cells
     ∙ (ap (λ gs. put (objects_in ws gs)) headers ∙ ap put (added xs ws news hs s.counts.cells h laid.laid enough written refl width))
 
@@ -80,15 +84,18 @@ returns-clause-well c =
     let ws = c.fill_instance.new.cells in
     let h : ObjectHeader = record { kind = Instance c.args.class; start = s.counts.cells; elements = c.class.result.now.cells } in
     let news = new_instance_cells words c.args.world.now.classes c.args.class in
-    let width : size h ≡ length news = omega (arith, c.class.ensures.cells, length-map (cells_of c.args.world.now.classes c.args.class) (λ ty. zero_cell words (cell_kind ty))) in
+    let width : size h ≡ length news = omega
+    (arith, c.class.ensures.cells, length-map (cells_of c.args.world.now.classes c.args.class) (λ ty. zero_cell words (cell_kind ty))) in
     let part : take (length s.heap.now - 12288) xs ≡ xs = take_all (length s.heap.now - 12288) xs (omega (arith, length-drop 12288 s.heap.now)) in
     let same : length ws ≡ length s.heap.now - 12288 = c.fill_instance.auto.cells ∙ (ap length part ∙ length-drop 12288 s.heap.now) in
     let written : ws ≡ overwritten xs s.counts.cells news = c.fill_instance.ensures ∙ ap (λ ys. overwritten ys s.counts.cells news) part in
     let H = c.set_header.new.heap in
-    let headers : headers_in H (n + 1) ≡ hs ++ h ∷ [] = ap (λ g. headers_in g (n + 1)) c.set_header.ensures ∙ new-headers s.heap.now ws n (length s.heap.now - 12288) h few laid.heap_length refl same numbered in
+    let headers : headers_in H (n + 1) ≡ hs ++ h ∷ [] = ap (λ g. headers_in g (n + 1)) c.set_header.ensures
+    ∙ new-headers s.heap.now ws n (length s.heap.now - 12288) h few laid.heap_length refl same numbered in
     let longer : Follow 0 (hs ++ h ∷ []) (s.counts.cells + size h) = follow-more 0 hs s.counts.cells h laid.laid refl in
     let size_is : size h ≡ c.class.result.now.cells = omega arith in
-    let follow : Follow 0 (hs ++ h ∷ []) (s.counts.cells + c.class.result.now.cells) = subst (λ k. Follow 0 (hs ++ h ∷ []) (s.counts.cells + k)) size_is longer in
+    let follow : Follow 0 (hs ++ h ∷ []) (s.counts.cells + c.class.result.now.cells) = subst (λ k. Follow 0 (hs ++ h ∷ []) (s.counts.cells + k))
+    size_is longer in
     record {
       ram_length = laid.ram_length;
       heap_length = ap length c.set_header.ensures ∙ new-length s.heap.now ws n (length s.heap.now - 12288) h few laid.heap_length refl same numbered;

@@ -9,4 +9,5 @@ pub returns-clause-state : goal.returns-clause-state
 returns-clause-state c =
     let s = c.args.self.now in
     let put : List ℕ → State ℕ = with_stack (words_state s.world.now.methods s.ram.now s.heap.now s.statics.now s.counts) in
-    same_state s.world.now s.ram.now s.heap.now s.counts c.requires.well c.requires.running s.statics.now ∙ ap put (sym (map-id (first_frame (frames_in s.world.now.methods s.ram.now s.counts.frames)).stack))
+    same_state s.world.now s.ram.now s.heap.now s.counts c.requires.well c.requires.running s.statics.now
+    ∙ ap put (sym (map-id (first_frame (frames_in s.world.now.methods s.ram.now s.counts.frames)).stack))

@@ -16,7 +16,8 @@ pub returns-clause-state : goal.returns-clause-state
 returns-clause-state c =
     let s = c.args.self.now in
     let change : Frame ℕ → Frame ℕ = λ f. record f { stack = rotated c.args.count c.args.by f.stack } in
-    put_top s.world.now s.ram.now s.heap.now s.counts c.requires.well c.requires.running s.statics.now c.rotate.new.window change c.rotate.auto.window c.rotate.ensures.frame
+    put_top s.world.now s.ram.now s.heap.now s.counts c.requires.well c.requires.running s.statics.now c.rotate.new.window change c.rotate.auto.window
+    c.rotate.ensures.frame
 
 pub returns-clause-well : goal.returns-clause-well
 returns-clause-well c =

@@ -1,4 +1,5 @@
-use Rattle.std.proofs.Common.{◌≡◌, ℕ, ◌+◌, ◌-◌, ◌<◌, ◌≤◌, List, length, drop, set, get_or, refl, sym, ap, ◌∙◌, subst, arith, length-drop, length-set}
+use Rattle.std.proofs.Common.{◌≡◌, ℕ, ◌+◌, ◌-◌, ◌<◌, ◌≤◌, List, length, drop, set, get_or, refl, sym, ap, ◌∙◌, subst, arith}
+use Rattle.std.proofs.Common.{length-drop, length-set}
 use Rattle.vm_store.specs.State.{State}
 use Rattle.vm_store.specs.Layout.{objects_in, Follow}
 use Rattle.vm_store.specs.declared.header.ObjectHeader.{ObjectHeader}
@@ -72,7 +73,8 @@ returns-clause-well c =
     cell_place z xs hs s.counts.cells refl laid.laid enough d c.args.handle c.args.i c.requires.there in
     let here : d.start + c.args.i < s.counts.cells = subst (λ (x : ObjectHeader). x.start + c.args.i < s.counts.cells) read place in
     let v = c.args.cell in let p = d.start + c.args.i in
-    let same : headers_in c.set_cell.new.heap n ≡ hs = ap (λ heap. headers_in heap n) c.set_cell.ensures ∙ cell-headers s.heap.now n p v laid.some_objects in
+    let same : headers_in c.set_cell.new.heap n ≡ hs = ap (λ heap. headers_in heap n) c.set_cell.ensures
+    ∙ cell-headers s.heap.now n p v laid.some_objects in
     record {
       ram_length = laid.ram_length;
       heap_length = ap length c.set_cell.ensures ∙ (length-set s.heap.now (12288 + p) v ∙ laid.heap_length);

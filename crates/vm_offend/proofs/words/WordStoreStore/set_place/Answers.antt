@@ -10,9 +10,11 @@ pub returns-clause-state : goal.returns-clause-state
 returns-clause-state c =
     let s = c.args.self.now in
     let change : Frame ℕ → Frame ℕ = λ f. record f { place = c.args.place } in
-    put_top s.world.now s.ram.now s.heap.now s.counts c.requires.well c.requires.running s.statics.now c.set_place.new.window change c.set_place.auto.window c.set_place.ensures.frame
+    put_top s.world.now s.ram.now s.heap.now s.counts c.requires.well c.requires.running s.statics.now c.set_place.new.window change c.set_place.auto.window
+    c.set_place.ensures.frame
 
 pub returns-clause-well : goal.returns-clause-well
 returns-clause-well c =
     let s = c.args.self.now in
-    put_laid s.world.now s.ram.now s.heap.now s.counts c.requires.well c.requires.running c.set_place.new.window c.set_place.auto.window c.set_place.ensures.fits
+    put_laid s.world.now s.ram.now s.heap.now s.counts c.requires.well c.requires.running c.set_place.new.window c.set_place.auto.window
+    c.set_place.ensures.fits

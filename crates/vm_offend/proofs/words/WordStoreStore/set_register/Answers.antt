@@ -16,9 +16,11 @@ pub returns-clause-state : goal.returns-clause-state
 returns-clause-state c =
     let s = c.args.self.now in
     let change : Frame ℕ → Frame ℕ = λ f. record f { registers = set f.registers c.args.x c.args.cell } in
-    put_top s.world.now s.ram.now s.heap.now s.counts c.requires.well c.requires.running s.statics.now c.set_register.new.window change c.set_register.auto.window c.set_register.ensures.frame
+    put_top s.world.now s.ram.now s.heap.now s.counts c.requires.well c.requires.running s.statics.now c.set_register.new.window change
+    c.set_register.auto.window c.set_register.ensures.frame
 
 pub returns-clause-well : goal.returns-clause-well
 returns-clause-well c =
     let s = c.args.self.now in
-    put_laid s.world.now s.ram.now s.heap.now s.counts c.requires.well c.requires.running c.set_register.new.window c.set_register.auto.window c.set_register.ensures.fits
+    put_laid s.world.now s.ram.now s.heap.now s.counts c.requires.well c.requires.running c.set_register.new.window c.set_register.auto.window
+    c.set_register.ensures.fits

@@ -28,7 +28,8 @@ invariant_of-self c =
     room_for s i.cells.items i.headers.items i.used heap c.self.invariant.laid enough (element_width c.args.kind * c.args.count) c.requires.room in
     let width : c.width.result * c.args.count ≡ element_width c.args.kind * c.args.count = ap (λ w. w * c.args.count) c.width.ensures.value in
     let wrote : length (with_items i.cells c.fill_array.new.cells).items ≡ length i.cells.items =
-    ap length (with_items_is i.cells c.fill_array.new.cells (c.fill_array.auto.cells ∙ c.as_mut_slice.ensures.len)) ∙ (c.fill_array.auto.cells ∙ ap length c.as_mut_slice.ensures.value) in
+    ap length (with_items_is i.cells c.fill_array.new.cells (c.fill_array.auto.cells ∙ c.as_mut_slice.ensures.len))
+    ∙ (c.fill_array.auto.cells ∙ ap length c.as_mut_slice.ensures.value) in
     in_order-more _ _ _ _ i.used (c.width.result * c.args.count) _ _ i.headers.items _ _ c.self.invariant room.one refl (sym width)
     (omega (arith, room.all, width)) c.push_reserved.ensures.items c.push_reserved.ensures.capacity wrote
 
@@ -38,6 +39,8 @@ returns-clause-state c =
     let heap : s.heap ≡ objects_in i.cells.items i.headers.items = ap (λ z. z.heap) (sym c.self.view_is) in
     let enough : i.used ≤ length i.cells.items = omega (arith, c.self.invariant.all_cells, c.self.invariant.some_used) in
     let wrote : (with_items i.cells c.fill_array.new.cells).items ≡ overwritten i.cells.items i.used (array_cells tagged c.args.kind c.args.count) =
-    with_items_is i.cells c.fill_array.new.cells (c.fill_array.auto.cells ∙ c.as_mut_slice.ensures.len) ∙ (c.fill_array.ensures ∙ ap (λ xs. overwritten xs i.used (array_cells tagged c.args.kind c.args.count)) c.as_mut_slice.ensures.value) in
-    state-more _ i.statics.items i.cells.items _ (array_cells tagged c.args.kind c.args.count) i.headers.items _ i.used _ s c.self.view_is c.self.invariant.laid enough wrote refl
+    with_items_is i.cells c.fill_array.new.cells (c.fill_array.auto.cells ∙ c.as_mut_slice.ensures.len)
+    ∙ (c.fill_array.ensures ∙ ap (λ xs. overwritten xs i.used (array_cells tagged c.args.kind c.args.count)) c.as_mut_slice.ensures.value) in
+    state-more _ i.statics.items i.cells.items _ (array_cells tagged c.args.kind c.args.count) i.headers.items _ i.used _ s c.self.view_is
+    c.self.invariant.laid enough wrote refl
     (sym (length-array tagged c.args.kind c.args.count)) c.push_reserved.ensures.items

@@ -28,7 +28,8 @@ invariant_of-self c =
     let room : HasRoom (length i.headers.items) i.used n =
     room_for s i.cells.items i.headers.items i.used heap c.self.invariant.laid enough n c.requires.room in
     let wrote : length (with_items i.cells c.fill_instance.new.cells).items ≡ length i.cells.items =
-    ap length (with_items_is i.cells c.fill_instance.new.cells (c.fill_instance.auto.cells ∙ c.as_mut_slice.ensures.len)) ∙ (c.fill_instance.auto.cells ∙ ap length c.as_mut_slice.ensures.value) in
+    ap length (with_items_is i.cells c.fill_instance.new.cells (c.fill_instance.auto.cells ∙ c.as_mut_slice.ensures.len))
+    ∙ (c.fill_instance.auto.cells ∙ ap length c.as_mut_slice.ensures.value) in
     in_order-more _ _ _ _ i.used c.class.result.now.cells _ _ i.headers.items _ _ c.self.invariant room.one refl (omega arith)
     (omega (arith, room.all, c.class.ensures.cells)) c.push_reserved.ensures.items c.push_reserved.ensures.capacity wrote
 
@@ -40,7 +41,8 @@ returns-clause-state c =
     let t = c.args.world.now.classes in
     let news = new_instance_cells tagged t c.args.class in
     let wrote : (with_items i.cells c.fill_instance.new.cells).items ≡ overwritten i.cells.items i.used news =
-    with_items_is i.cells c.fill_instance.new.cells (c.fill_instance.auto.cells ∙ c.as_mut_slice.ensures.len) ∙ (c.fill_instance.ensures ∙ ap (λ xs. overwritten xs i.used news) c.as_mut_slice.ensures.value) in
+    with_items_is i.cells c.fill_instance.new.cells (c.fill_instance.auto.cells ∙ c.as_mut_slice.ensures.len)
+    ∙ (c.fill_instance.ensures ∙ ap (λ xs. overwritten xs i.used news) c.as_mut_slice.ensures.value) in
     let len : length news ≡ c.class.result.now.cells = length-map (cells_of t c.args.class) _ ∙ c.class.ensures.cells in
     state-more _ i.statics.items i.cells.items _ news i.headers.items _ i.used _ s c.self.view_is c.self.invariant.laid enough wrote refl
     (omega (arith, len)) c.push_reserved.ensures.items

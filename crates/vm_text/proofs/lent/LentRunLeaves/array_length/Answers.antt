@@ -2,4 +2,6 @@ use Rattle.vm_text.proofs.Words.{length_of}
 use Rattle.vm_text.proofs.lent.LentRunLeaves.array_length.Goals as goal
 
 pub returns : goal.returns
-returns c = length_of c.args._world.now c.args.self.now.accepted.now c.args.self.now.heap.now c.args.self.now.statics.now c.args.self.now.machine.counts c.args.handle c.array_length.result c.requires c.array_length.ensures
+returns c =
+    length_of c.args._world.now c.args.self.now.accepted.now c.args.self.now.heap.now c.args.self.now.statics.now c.args.self.now.machine.counts
+    c.args.handle c.array_length.result c.requires c.array_length.ensures

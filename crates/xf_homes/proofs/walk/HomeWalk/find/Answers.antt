@@ -14,7 +14,9 @@ walk-init c =
     let s = c.args.self.now in
     let events = place_events s.world.now (walked s) (frames_of s) s.control.now.leaders in
     record {
-      same = ap (λ is. with_events c.args.homes.now.items (flat_map events is)) (ap rest_of c.into_iter-placed-iterator.ensures.into_iter_gives ∙ c.of-placed-items.ensures.instructions);
+      same =
+          ap (λ is. with_events c.args.homes.now.items (flat_map events is)) (ap rest_of c.into_iter-placed-iterator.ensures.into_iter_gives
+          ∙ c.of-placed-items.ensures.instructions);
       known = none-known (frames_of s) (register_count s.rec.now) c.args.homes.now.items s.rec.now.handlers;
     }
 
@@ -28,8 +30,10 @@ walk-preserved c =
           ∙ sym (places-step c.walk.homes.items events (rest_of c.walk.placed-iterator) c.in-Some.placed (rest_of c.next.new.self) c.in-Some.ensures.steps)
           ∙ c.walk.invariant.same;
       known =
-          subst (λ last. LocalsAreKnown (frames_of s) (register_count s.rec.now) c.keep_place.new.homes.items s.rec.now.handlers last) (sym c.last_after-last.ensures)
-          (known-after c.types_are_ordered.ensures.same s.world.now (walked s) (frames_of s) s.control.now.leaders c.walk.homes.items c.keep_place.new.homes.items c.in-Some.placed c.walk.last c.walk.invariant.known
+          subst (λ last. LocalsAreKnown (frames_of s) (register_count s.rec.now) c.keep_place.new.homes.items s.rec.now.handlers last)
+          (sym c.last_after-last.ensures)
+          (known-after c.types_are_ordered.ensures.same s.world.now (walked s) (frames_of s) s.control.now.leaders c.walk.homes.items
+          c.keep_place.new.homes.items c.in-Some.placed c.walk.last c.walk.invariant.known
           c.in_default.ensures);
     }
 

@@ -8,8 +8,10 @@ pub handlers-preserved : goal.handlers-preserved
 handlers-preserved c =
     let s = c.args.self.now in
     let hs = c.args.handlers.now in
-    ap (λ xs. with_events xs (caught_events (frames_of s) c.args.place c.args.x (c.handlers.handler-index + 1) (drop (c.handlers.handler-index + 1) hs))) c.in_default.ensures
-    ∙ sym (handlers-step c.handlers.homes.items (frames_of s) c.args.place c.args.x c.handlers.handler-index hs _ c.caught.result c.handlers-test.true c.caught.ensures)
+    ap (λ xs. with_events xs (caught_events (frames_of s) c.args.place c.args.x (c.handlers.handler-index + 1) (drop (c.handlers.handler-index + 1) hs)))
+    c.in_default.ensures
+    ∙ sym (handlers-step c.handlers.homes.items (frames_of s) c.args.place c.args.x c.handlers.handler-index hs _ c.caught.result c.handlers-test.true
+    c.caught.ensures)
     ∙ c.handlers.invariant
 
 pub returns : goal.returns

@@ -17,11 +17,15 @@ locals-preserved c =
     let inside : c.locals.x < register_count s.rec.now = omega arith in
     record {
       same =
-          ap (λ xs. with_events xs (locals_events (frames_of s) c.args.handlers.now c.args.place (c.locals.x + 1) (register_count s.rec.now - (c.locals.x + 1)))) c.in_default.ensures
+          ap
+          (λ xs. with_events xs
+          (locals_events (frames_of s) c.args.handlers.now c.args.place (c.locals.x + 1) (register_count s.rec.now - (c.locals.x + 1))))
+          c.in_default.ensures
           ∙ sym (locals-step c.locals.homes.items (frames_of s) c.args.handlers.now c.args.place c.locals.x (register_count s.rec.now) inside)
           ∙ c.locals.invariant.same;
       known =
-          last-more (frames_of s) (register_count s.rec.now) c.locals.homes.items c.keep_asked.new.homes.items (local_events (frames_of s) c.args.handlers.now c.args.place c.locals.x) c.args.last
+          last-more (frames_of s) (register_count s.rec.now) c.locals.homes.items c.keep_asked.new.homes.items
+          (local_events (frames_of s) c.args.handlers.now c.args.place c.locals.x) c.args.last
           c.in_default.ensures c.locals.invariant.known;
     }
 
