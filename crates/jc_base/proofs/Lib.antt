@@ -10,7 +10,6 @@ pub mod Climbs
 pub mod Meets
 pub mod Subtypes
 pub mod Joins
-pub mod JoinsOfAll
 pub mod Orders
 pub mod Dispatches
 pub mod Bodies

@@ -1,6 +1,6 @@
 -- The order of types and its join (Leroy 2002, section 2.1; JCVM 2.2, section 2.2).
 use Rattle.std.specs.Prelude.{◌≡◌, ℕ, ◌+◌, ◌<◌, ◌⊎◌, length, Bool, true, false, if◌then◌else◌, ◌&&◌}
-use Rattle.std.specs.Prelude.{◌==◌, List, Some, find, fold, unwrap_or, All, ⊤}
+use Rattle.std.specs.Prelude.{◌==◌, Some, find, unwrap_or, ⊤}
 use Rattle.std.specs.List.{list_any}
 use Rattle.jc_base.specs.declared.ty.Ty.{Ty}
 use Rattle.jc_base.specs.declared.ty.Ty.TheVariants.{Bottom, Short, IntHigh, IntLow, Null, Class, ArrBool, ArrByte, ArrShort, ArrInt}
@@ -32,11 +32,6 @@ pub record IsJoin (t : ClassTable) (a b j : Ty) : Type 0 where
   pub left : Below t a j
   pub right : Below t b j
   pub least : (u : Ty) → Below t a u → Below t b u → Below t j u
-
--- the type j is the least above each of a list
-pub record IsJoinOf (t : ClassTable) (types : List Ty) (j : Ty) : Type 0 where
-  pub above : All (λ a. Below t a j) types
-  pub least : (u : Ty) → All (λ a. Below t a u) types → Below t j u
 
 -- each class number in a type names a class, and no interface
 abbrev pub IsKnown : ClassTable → Ty → Type 0
@@ -132,7 +127,3 @@ unfoldable pub join_of : ClassTable → Ty → Ty → Ty
 join_of t (Class c) (Class d) = Class (common t c d)
 join_of t (ArrRef c) (ArrRef d) = ArrRef (common t c d)
 join_of t a b = join_of_others t a b
-
--- the join of a list of types; that of none is Bottom
-unfoldable pub join_of_all : ClassTable → List Ty → Ty
-join_of_all t types = fold (join_of t) Bottom types

@@ -26,7 +26,7 @@ pub use list::{
     Arrays, ClassRecs, Dispatch, Handlers, Ifaces, Indexes, Initial, Items, Members, Methods,
     Pools, Statics, Tokens, Tys,
 };
-pub use order::{below, is_reference, join, join_all};
+pub use order::{below, is_reference, join};
 pub use record::{ArrayRec, ClassRec, Handler, Iface, Member, MethodRec, Sig, StaticRec};
 pub use steps::Steps;
 pub use target_index::TargetIndex;

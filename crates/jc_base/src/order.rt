@@ -1,6 +1,6 @@
-ghost use Rattle.std.specs.Prelude.{◌≡◌, ◌+◌, ◌==◌, ◌&&◌, ◌↔◌, ◌≤◌, length, All, IsTrue};
+ghost use Rattle.std.specs.Prelude.{◌≡◌, ◌+◌, ◌==◌, ◌&&◌, ◌↔◌, ◌≤◌, length, IsTrue};
 ghost use Rattle.jc_base.specs.Class.{IsClass, chain, height, object};
-ghost use Rattle.jc_base.specs.Order.{Below, IsJoin, IsJoinOf, IsKnown, StaysOrRises, IsAntisymmetric, IsMonotone, rises_left, is_below, is_on_chain, is_reference, is_above_arrays, common, join_of, join_of_all, join_of_others};
+ghost use Rattle.jc_base.specs.Order.{Below, IsJoin, IsKnown, StaysOrRises, IsAntisymmetric, IsMonotone, rises_left, is_below, is_on_chain, is_reference, is_above_arrays, common, join_of, join_of_others};
 
 use crate::class::Classes;
 use crate::ty::Ty;
@@ -35,29 +35,6 @@ pub fn join(classes: &Classes, a: Ty, b: Ty) -> Ty
 {
     let _ = classes.records();
     join_of(classes, a, b)
-}
-
-/// The least type above all of a list, under the conditions of `below`; that of none is Bottom.
-pub fn join_all(classes: &Classes, types: &[Ty]) -> Ty
-    requires known { All (IsKnown classes.now) types.now }
-    ensures is { IsJoinOf classes.now types.now result }
-    ensures known { IsKnown classes.now result }
-    ensures computed { result ≡ join_of_all classes.now types.now }
-{
-    let _ = classes.records();
-    joined(classes, types)
-}
-
-#[tactic(auto, unfolding(crate::specs::Order::join_of_all))]
-fn joined(classes: &Classes, types: &[Ty]) -> Ty
-    requires { All (IsKnown classes.now) types.now }
-    ensures { result ≡ join_of_all classes.now types.now }
-{
-    let mut least = Ty::Bottom;
-    'types: for ty in types {
-        least = join(classes, least, *ty);
-    }
-    least
 }
 
 #[tactic(auto, unfolding(crate::specs::Order::is_below))]

@@ -23,7 +23,8 @@ use Rattle.jc_rules.proofs.Effects.{CellsKept, Suits, suits, sound-known}
 use Rattle.jc_rules.proofs.Raising.{RoseTo}
 use Rattle.jc_rules.proofs.Types.{below-computed, below-told}
 use Rattle.jc_rules.proofs.CellLists.{cells-or, cells-same, cells-trans, cells-set}
-use Rattle.jc_rules.proofs.Falls.{GivenBelow, EffectBelow, StoresBelow, asked-falls, doing-falls, applies-falls}
+use Rattle.jc_rules.proofs.Falls.{GivenBelow, EffectBelow, StoresBelow}
+use Rattle.jc_rules.proofs.RuleFalls.{asked-falls, doing-falls, applies-falls}
 use Rattle.jc_rules.proofs.Keeps.{all-or, site-sound}
 
 module _ (t : ClassTable) where

@@ -57,7 +57,8 @@ use Rattle.jc_rules.specs.Rule.{seen, type_test_effect, array_wanted, a_referenc
 use Rattle.jc_rules.specs.Known.{IsValue, IsKnownCallee, IsKnownOperation}
 use Rattle.jc_rules.specs.Flow.{IsNotFresh, IsNotTop}
 use Rattle.jc_rules.specs.Laws.{IsNotBottom}
-use Rattle.jc_rules.proofs.Falls.{plain_class, top_not_below_class, some-or}
+use Rattle.jc_rules.proofs.Falls.{plain_class, top_not_below_class}
+use Rattle.jc_rules.proofs.RuleFalls.{some-or}
 use Rattle.jc_rules.proofs.Demands.{SatisfiesAll-front, SatisfiesAll-rest, SatisfiesAll-append}
 
 -- ---- the number of cells

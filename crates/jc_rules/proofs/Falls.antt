@@ -1,21 +1,14 @@
--- A rule that applies to a frame applies in the dataflow to each lesser one, with a lesser result.
-use Rattle.std.proofs.Common.{◌≡◌, ℕ, zero, suc, ◌+◌, ◌-◌, ◌≤◌, true, false, inl, inr, List, [], ◌∷◌, ◌++◌, length, drop, map}
-use Rattle.std.proofs.Common.{reverse, get_or, set, Option, Some, None, IsSomeAnd, IfSome, slice_get, All, refl, sym, ◌∙◌, ap, subst}
+-- What lies below and above types, and what an operation asks and does at a lesser frame: it asks less, and does what is lesser.
+use Rattle.std.proofs.Common.{◌≡◌, ℕ, ◌+◌, ◌-◌, ◌≤◌, true, false, inl, inr, List, [], ◌∷◌, ◌++◌, drop, map}
+use Rattle.std.proofs.Common.{set, Option, Some, None, IsSomeAnd, IfSome, slice_get, refl, sym, ◌∙◌, ap, subst}
 use Rattle.std.specs.Bool.{⊤}
 use Rattle.jc_base.specs.declared.ty.Ty.{Ty}
 use Rattle.jc_base.specs.declared.ty.Ty.TheVariants.{Bottom, Short, IntHigh, IntLow, Null, Class, ArrBool, ArrByte, ArrShort, ArrInt, ArrRef, Fresh, Top}
-use Rattle.jc_base.specs.declared.ty.Kind.{Kind}
-use Rattle.jc_base.specs.declared.ty.Kind.TheVariants as kinds
 use Rattle.jc_base.specs.Class.{ClassTable, object}
 use Rattle.jc_base.specs.Laws.{IsOrderOfTypes}
 use Rattle.jc_base.specs.Order.{Below, same, joined, nothing, anything, null_object, null_array, subclass, array_object, array_array, of_booleans, of_bytes}
 use Rattle.jc_base.specs.Order.{of_shorts, of_ints, of_references, is_below}
 use Rattle.jc_rules.proofs.Types.{below-computed, below-told}
-use Rattle.jc_base.specs.World.{Linked}
-use Rattle.jc_ops.specs.declared.operation.Sort.{Sort}
-use Rattle.jc_ops.specs.declared.operation.Sort.TheVariants as sorts
-use Rattle.jc_ops.specs.declared.operation.Operation.{Operation}
-use Rattle.jc_ops.specs.declared.operation.Operation.TheVariants as ops
 use Rattle.jc_ops.specs.declared.want.Want.{Want}
 use Rattle.jc_ops.specs.declared.want.Want.TheVariants.{Value, Storable, ByteArray, AnyArray, Whole, Receiver}
 use Rattle.jc_rules.specs.declared.demand.Demand.{Demand}
@@ -28,18 +21,14 @@ use Rattle.jc_rules.specs.declared.effect.Effect.{Effect}
 use Rattle.jc_rules.specs.declared.effect.RegisterStore.{RegisterStore}
 use Rattle.jc_rules.specs.declared.effect.Mode.{Mode}
 use Rattle.jc_rules.specs.declared.effect.Mode.TheVariants.{Card, Flow}
-use Rattle.jc_rules.specs.declared.rule.Outcome.{Outcome}
-use Rattle.jc_rules.specs.Effect.{in_stack_order, ready, changed, reg, IsStoredOver, WritesRegister, WritesCells, StoresInRegisters, raises_register}
+use Rattle.jc_rules.specs.Effect.{in_stack_order, ready, changed, reg, IsStoredOver, WritesRegister, WritesCells, StoresInRegisters}
 use Rattle.jc_rules.specs.Demand.{Frame, IsArrayOrNull, IsHalf, IsFreshOf, Meets, Satisfies, SatisfiesAll}
-use Rattle.jc_ops.specs.Next.{falls_from, ends_at}
-use Rattle.jc_rules.specs.Rule.{cell, or_null, element, ready_with, call_demands, call_effect, cells_wanted, args_at, result_at, result_given, load_demands}
-use Rattle.jc_rules.specs.Rule.{load_effect, store_effect, array_read_demands, array_read_effect, wrote, demands, effect}
-use Rattle.jc_rules.specs.Flow.{CellsBelow, no_cells, more_cells, FrameBelow, IsNotTop, IsNotFresh}
-use Rattle.jc_rules.specs.Laws.{IsNotBottom, OperationFalls, OperationFallsTo, RuleFalls}
-use Rattle.jc_rules.specs.Apply.{OperationApplies}
-use Rattle.jc_rules.proofs.CellLists.{Each, each-from_All, each-at, PairAt, cells-at, cells-or, cells-length, cells-same, cells-append, cells-take, cells-drop}
+use Rattle.jc_rules.specs.Rule.{or_null, element, ready_with}
+use Rattle.jc_rules.specs.Rule.{demands, effect}
+use Rattle.jc_rules.specs.Flow.{CellsBelow, no_cells, more_cells, IsNotTop, IsNotFresh}
+use Rattle.jc_rules.specs.Laws.{IsNotBottom}
+use Rattle.jc_rules.proofs.CellLists.{Each, each-at, PairAt, cells-at, cells-length, cells-same, cells-append, cells-take, cells-drop}
 use Rattle.jc_rules.proofs.CellLists.{cells-set}
-use Rattle.jc_rules.proofs.Demands.{SatisfiesAll-rest}
 
 -- ---- what lies below and above
 
@@ -73,7 +62,7 @@ IsNullDown Null = ⊤
 IsNullDown _ = ⊥
 
 -- what is below class object
-ReferenceDown : Ty → Type 0
+unfoldable pub ReferenceDown : Ty → Type 0
 ReferenceDown Bottom = ⊤
 ReferenceDown Null = ⊤
 ReferenceDown (Class c) = ⊤
@@ -85,7 +74,7 @@ ReferenceDown (ArrRef c) = ⊤
 ReferenceDown _ = ⊥
 
 -- what is below an array of references
-ReferencesDown : Ty → Type 0
+unfoldable pub ReferencesDown : Ty → Type 0
 ReferencesDown Bottom = ⊤
 ReferencesDown Null = ⊤
 ReferencesDown (ArrRef c) = ⊤
@@ -156,7 +145,7 @@ module _ (t : ClassTable) where
   fresh-up p c (array_object of_references e) h = absurd h
   fresh-up p c (array_array x) h = absurd h
 
-  reference-down : {a b : Ty} → Below t a b → ReferenceDown b → ReferenceDown a
+  pub reference-down : {a b : Ty} → Below t a b → ReferenceDown b → ReferenceDown a
   unfolding ReferenceDown
   reference-down same h = h
   reference-down (joined x y) h = reference-down x (reference-down y h)
@@ -172,7 +161,7 @@ module _ (t : ClassTable) where
   reference-down (array_object of_references e) h = tt
   reference-down (array_array x) h = tt
 
-  references-down : {a b : Ty} → Below t a b → ReferencesDown b → ReferencesDown a
+  pub references-down : {a b : Ty} → Below t a b → ReferencesDown b → ReferencesDown a
   unfolding ReferencesDown
   references-down same h = h
   references-down (joined x y) h = references-down x (references-down y h)
@@ -390,7 +379,7 @@ module _ (t : ClassTable) where
     )
     holds-falls (Held x ty) h = held-falls ty (slice_get f.regs x) (slice_get g.regs x) (cells-at t x regs) h
 
-    all-falls : (ds : List Demand) → SatisfiesAll t g ds → SatisfiesAll t f ds
+    pub all-falls : (ds : List Demand) → SatisfiesAll t g ds → SatisfiesAll t f ds
     all-falls [] h = tt
     all-falls (d ∷ ds) h = (holds-falls d h.0, all-falls ds h.1)
 
@@ -404,7 +393,7 @@ GivenBelow t given.Int given.Int = ⊤
 GivenBelow t _ _ = ⊥
 
 -- the lesser effect makes the same change with lesser cells
-pub ChangeBelow : ClassTable → Change → Change → Type 0
+unfoldable pub ChangeBelow : ClassTable → Change → Change → Type 0
 ChangeBelow t (Replace m cells) (Replace n others) = (m ≡ n) × GivenBelow t cells others
 ChangeBelow t c d = c ≡ d
 
@@ -426,14 +415,14 @@ module _ (t : ClassTable) (are : IsOrderOfTypes t) where
   given-same (given.One a) = same
   given-same given.Int = tt
 
-  change-same : (c : Change) → ChangeBelow t c c
+  pub change-same : (c : Change) → ChangeBelow t c c
   unfolding ChangeBelow
   change-same (Replace m cells) = (refl, given-same cells)
   change-same (CopyUnder m n) = refl
   change-same (Exchange m n) = refl
   change-same (MakeReady m p c cells) = refl
 
-  effect-same : (e : Effect) → EffectBelow t e e
+  pub effect-same : (e : Effect) → EffectBelow t e e
   effect-same e = record { change = change-same e.change; register = refl; cells = given-same e.store.cells }
 
   listed-falls : (c d : Cells) → GivenBelow t c d → CellsBelow t (in_stack_order c) (in_stack_order d)
@@ -510,7 +499,7 @@ module _ (t : ClassTable) (are : IsOrderOfTypes t) where
   changed-same (Exchange m n) ps = cells-append t (cells-take t n (cells-drop t m ps)) (cells-append t (cells-take t m ps) (cells-drop t (m + n) ps))
   changed-same (MakeReady m p c cells) ps = cells-append t (cells-same t (in_stack_order cells)) (ready-cells p c (cells-drop t m ps))
 
-  changed-falls : (c d : Change) {xs ys : List Ty} → ChangeBelow t c d → CellsBelow t xs ys → CellsBelow t (changed c xs) (changed d ys)
+  pub changed-falls : (c d : Change) {xs ys : List Ty} → ChangeBelow t c d → CellsBelow t xs ys → CellsBelow t (changed c xs) (changed d ys)
   unfolding ChangeBelow
   changed-falls (Replace m cells) (Replace n others) {xs = xs} {ys = ys} h ps =
       subst (λ k. CellsBelow t (changed (Replace m cells) xs) (in_stack_order others ++ drop k ys)) h.0
@@ -536,7 +525,7 @@ module _ (t : ClassTable) (are : IsOrderOfTypes t) where
       subst (CellsBelow t (set xs x a)) (ap (λ n. set ys n u.value) e ∙ sym u.after_is)
       (cells-set t x (joined le (stored-below mode (reg ys y) b u.value u.stored)) ps)
 
-  store-flow : (mode : Mode) (xs ys zs : List Ty) (x y : ℕ) (c d : Cells) → x ≡ y → GivenBelow t c d → CellsBelow t xs ys
+  pub store-flow : (mode : Mode) (xs ys zs : List Ty) (x y : ℕ) (c d : Cells) → x ≡ y → GivenBelow t c d → CellsBelow t xs ys
       → WritesCells t mode y d ys zs → StoresBelow t Flow (record { register = x; cells = c }) xs zs
   unfolding GivenBelow
   store-flow mode xs ys zs x y given.Nothing given.Nothing e g ps u = record { below = xs; stores = refl; lower = subst (CellsBelow t xs) (sym u) ps }
@@ -590,7 +579,7 @@ module _ (t : ClassTable) (are : IsOrderOfTypes t) where
   or_null-above (Fresh p c) = same
   or_null-above Top = same
 
-  or_null-falls : (a b : Ty) → Below t a b → ReferenceDown b → Below t (or_null a) (or_null b)
+  pub or_null-falls : (a b : Ty) → Below t a b → ReferenceDown b → Below t (or_null a) (or_null b)
   or_null-falls Bottom b p h = null-below b h
   or_null-falls Short b p h = joined p (or_null-above b)
   or_null-falls IntHigh b p h = joined p (or_null-above b)
@@ -630,7 +619,7 @@ module _ (t : ClassTable) (are : IsOrderOfTypes t) where
   element-of_null Null b h n p = same
   element-of_null _ b h n p = absurd h
 
-  element-falls : (a b : Ty) → Below t a b → ReferencesDown b → Below t (element a) (element b)
+  pub element-falls : (a b : Ty) → Below t a b → ReferencesDown b → Below t (element a) (element b)
   unfolding ReferencesDown IsNullDown
   element-falls a (ArrRef d) p h = element-of_array a d (references-down t p h) p
   element-falls a Bottom p h = element-of_null a Bottom (references-down t p h) tt p
@@ -652,7 +641,7 @@ module _ (t : ClassTable) (are : IsOrderOfTypes t) where
   fresh_same taken cells c a _ x n h = absurd h
 
   -- a receiver that is found: both are the same uninitialised object, or neither is one
-  ready_with-falls : (taken : ℕ) (cells : Cells) (want : Want) (a b : Ty) → Below t a b → IsNotBottom a → Meets t want b
+  pub ready_with-falls : (taken : ℕ) (cells : Cells) (want : Want) (a b : Ty) → Below t a b → IsNotBottom a → Meets t want b
       → ready_with taken cells a want ≡ ready_with taken cells b want
   unfolding NotReceiver
   ready_with-falls taken cells (Receiver c) a b p n (inl h) = fresh_same taken cells c a b p n h
@@ -662,161 +651,3 @@ module _ (t : ClassTable) (are : IsOrderOfTypes t) where
   ready_with-falls taken cells ByteArray a b p n h = not_receiver taken cells ByteArray a b tt
   ready_with-falls taken cells AnyArray a b p n h = not_receiver taken cells AnyArray a b tt
   ready_with-falls taken cells Whole a b p n h = not_receiver taken cells Whole a b tt
-
--- ---- the rule
-
--- what is read of a cell that is there
-pub some-or : (P : Ty → Type 0) (xs : List Ty) (n : ℕ) → IsSomeAnd (slice_get xs n) P → P (get_or xs n Top)
-some-or P [] n h = absurd h
-some-or P (x ∷ xs) zero h = h
-some-or P (x ∷ xs) (suc n) h = some-or P xs n h
-
-each-or : (P : Ty → Type 0) (xs : List Ty) (n : ℕ) → P Top → Each P xs → P (get_or xs n Top)
-unfolding Each
-each-or P [] n top h = top
-each-or P (x ∷ xs) zero top h = h.0
-each-or P (x ∷ xs) (suc n) top h = each-or P xs n top h.1
-
-module _ (w : Linked) (are : IsOrderOfTypes w.classes) (f g : Frame) (regs : CellsBelow w.classes f.regs g.regs)
-    (stack : CellsBelow w.classes f.stack g.stack) (no_bottom : Each IsNotBottom f.stack) where
-  load-falls : (s : Sort) (x : ℕ) → SatisfiesAll w.classes g (load_demands w.classes s x) → EffectBelow w.classes (load_effect s x f) (load_effect s x g)
-  unfolding ChangeBelow GivenBelow ReferenceDown
-  load-falls sorts.Reference x h = record {
-    change = (
-      refl,
-      or_null-falls w.classes are (reg f.regs x) (reg g.regs x) (cells-or w.classes x regs)
-          (reference-down w.classes (some-or (λ b. Below w.classes b (Class (object w.classes))) g.regs x h.1.0) tt),
-    );
-    register = refl;
-    cells = tt;
-  }
-  load-falls sorts.Short x h = effect-same w.classes are (load_effect sorts.Short x g)
-  load-falls sorts.Int x h = effect-same w.classes are (load_effect sorts.Int x g)
-
-  store-falls : (s : Sort) (x : ℕ) → EffectBelow w.classes (store_effect s x f) (store_effect s x g)
-  unfolding ChangeBelow GivenBelow
-  store-falls sorts.Reference x = record { change = (refl, tt); register = refl; cells = cells-or w.classes 0 stack }
-  store-falls sorts.Short x = effect-same w.classes are (store_effect sorts.Short x g)
-  store-falls sorts.Int x = effect-same w.classes are (store_effect sorts.Int x g)
-
-  array-falls : (k : Kind) → SatisfiesAll w.classes g (array_read_demands w.classes k)
-      → EffectBelow w.classes (array_read_effect k f) (array_read_effect k g)
-  unfolding ChangeBelow GivenBelow ReferencesDown
-  array-falls kinds.Ref h = record {
-    change = (
-      refl,
-      element-falls w.classes are (cell f.stack 1) (cell g.stack 1) (cells-or w.classes 1 stack)
-          (references-down w.classes (some-or (λ b. Below w.classes b (ArrRef (object w.classes))) g.stack 1 h.1.0) tt),
-    );
-    register = refl;
-    cells = tt;
-  }
-  array-falls kinds.Byte h = effect-same w.classes are (array_read_effect kinds.Byte g)
-  array-falls kinds.Short h = effect-same w.classes are (array_read_effect kinds.Short g)
-  array-falls kinds.Int h = effect-same w.classes are (array_read_effect kinds.Int g)
-
-  call-falls : (args : List Ty) (result : Option Ty) (receiver : Option Want) → SatisfiesAll w.classes g (call_demands args receiver)
-      → EffectBelow w.classes (call_effect args result receiver f) (call_effect args result receiver g)
-  unfolding GivenBelow
-  call-falls args result None h = effect-same w.classes are (call_effect args result None g)
-  call-falls args result (Some want) h = record {
-    change = subst (λ c. ChangeBelow w.classes c (ready_with (length args + 1) (result_given result) (cell g.stack (length args)) want))
-        (sym (ready_with-falls w.classes are (length args + 1) (result_given result) want (cell f.stack (length args)) (cell g.stack (length args))
-        (cells-or w.classes (length args) stack)
-        (each-or IsNotBottom f.stack (length args) tt no_bottom)
-        (some-or (Meets w.classes want) g.stack (length args)
-        (SatisfiesAll-rest w.classes g (cells_wanted 0 (reverse args)) (Cell (length args) want ∷ []) h).0)))
-        (change-same w.classes are (ready_with (length args + 1) (result_given result) (cell g.stack (length args)) want));
-    register = refl;
-    cells = tt;
-  }
-
-  effect-falls : (op : Operation) → SatisfiesAll w.classes g (demands w op) → EffectBelow w.classes (effect w op f) (effect w op g)
-  effect-falls (ops.Load s x) h = load-falls s x h
-  effect-falls (ops.Store s x) h = store-falls s x
-  effect-falls (ops.ArrayRead k) h = array-falls k h
-  effect-falls (ops.Call c) h = call-falls (args_at (slice_get w.methods c.method)) (result_at (slice_get w.methods c.method)) c.receiver h
-  effect-falls (ops.Constant c) h = effect-same w.classes are (effect w (ops.Constant c) g)
-  effect-falls (ops.Increment width x amount) h = effect-same w.classes are (effect w (ops.Increment width x amount) g)
-  effect-falls (ops.Move m) h = effect-same w.classes are (effect w (ops.Move m) g)
-  effect-falls (ops.Arithmetic a) h = effect-same w.classes are (effect w (ops.Arithmetic a) g)
-  effect-falls (ops.ArrayWrite k) h = effect-same w.classes are (effect w (ops.ArrayWrite k) g)
-  effect-falls ops.ArrayLength h = effect-same w.classes are (effect w ops.ArrayLength g)
-  effect-falls (ops.Branch b) h = effect-same w.classes are (effect w (ops.Branch b) g)
-  effect-falls (ops.Switch width) h = effect-same w.classes are (effect w (ops.Switch width) g)
-  effect-falls (ops.StaticRead field) h = effect-same w.classes are (effect w (ops.StaticRead field) g)
-  effect-falls (ops.StaticWrite field) h = effect-same w.classes are (effect w (ops.StaticWrite field) g)
-  effect-falls (ops.FieldRead field holder) h = effect-same w.classes are (effect w (ops.FieldRead field holder) g)
-  effect-falls (ops.FieldWrite field holder) h = effect-same w.classes are (effect w (ops.FieldWrite field holder) g)
-  effect-falls (ops.New place c) h = effect-same w.classes are (effect w (ops.New place c) g)
-  effect-falls (ops.NewArray ty) h = effect-same w.classes are (effect w (ops.NewArray ty) g)
-  effect-falls ops.Throw h = effect-same w.classes are (effect w ops.Throw g)
-  effect-falls (ops.TypeTest test ty) h = effect-same w.classes are (effect w (ops.TypeTest test ty) g)
-  effect-falls (ops.Return result) h = effect-same w.classes are (effect w (ops.Return result) g)
-
--- an operation applies to a frame, and here is a lesser one
-module _ (w : Linked) (are : IsOrderOfTypes w.classes) (limit : ℕ) (op : Operation) (mode : Mode) (greater lesser after : Frame) (o : Outcome)
-    (below : FrameBelow w.classes lesser greater)
-    (no_top : All IsNotTop greater.stack) (no_bottom : All IsNotBottom lesser.stack) (a : OperationApplies w limit op mode greater after o) where
-  -- what is asked is met
-  pub asked-falls : SatisfiesAll w.classes lesser (demands w op)
-  asked-falls =
-      all-falls w.classes lesser greater below.regs below.stack (each-from_All IsNotTop greater.stack no_top)
-      (each-from_All IsNotBottom lesser.stack no_bottom) (demands w op) a.asked
-
-  -- what is done is lesser
-  pub doing-falls : EffectBelow w.classes (effect w op lesser) (effect w op greater)
-  doing-falls = effect-falls w are lesser greater below.regs below.stack (each-from_All IsNotBottom lesser.stack no_bottom) op a.asked
-
-  -- where the store can be made, the operation applies
-  pub applies-falls : (target : Mode) → StoresBelow w.classes target (effect w op lesser).store lesser.regs after.regs
-      → OperationFallsTo w limit op target lesser after
-  applies-falls target s =
-      let e = effect w op lesser in
-      let stack : CellsBelow w.classes (changed e.change lesser.stack) after.stack =
-      subst (CellsBelow w.classes (changed e.change lesser.stack)) (sym a.stack)
-      (changed-falls w.classes are e.change (effect w op greater).change doing-falls.change below.stack) in
-      record {
-        below = record { regs = s.below; stack = changed e.change lesser.stack };
-        outcome =
-            record {
-              falls = falls_from op;
-              ends = ends_at op;
-              depth = length (changed e.change lesser.stack);
-              wrote = wrote e.store.register e.store.cells;
-              rose = raises_register w.classes target e.store lesser.regs;
-            };
-        applies = record {
-          asked = asked-falls;
-          regs = s.stores;
-          stack = refl;
-          room = subst (λ n. n ≤ limit) (sym (cells-length w.classes stack)) a.room;
-          falls = refl;
-          ends = refl;
-          depth = refl;
-          wrote_is = refl;
-          rose_is = refl;
-        };
-        lower = record { regs = s.lower; stack = stack };
-      }
-
-pub operation-falls : (w : Linked) → IsOrderOfTypes w.classes → OperationFalls w
-operation-falls w are limit op mode greater lesser after o below no_top no_bottom a =
-    let d = effect w op lesser in
-    let e = effect w op greater in
-    let less : EffectBelow w.classes d e = doing-falls w are limit op mode greater lesser after o below no_top no_bottom a in
-    applies-falls w are limit op mode greater lesser after o below no_top no_bottom a Flow
-    (store-flow w.classes are mode lesser.regs greater.regs after.regs d.store.register e.store.register d.store.cells e.store.cells less.register
-    less.cells below.regs a.regs)
-
-pub rule-falls : (w : Linked) → IsOrderOfTypes w.classes → RuleFalls w
-rule-falls w are site i mode greater lesser after o below no_top no_bottom a =
-    let r = a.rule in
-    let falls : OperationFallsTo w a.method.max_stack r.operation Flow lesser after =
-    operation-falls w are a.method.max_stack r.operation mode greater lesser after o below no_top no_bottom r.does in
-    record {
-      below = falls.below;
-      outcome = falls.outcome;
-      applies = record { method = a.method; is_method = a.is_method; rule = record { operation = r.operation; resolves = r.resolves; does = falls.applies } };
-      lower = falls.lower;
-    }

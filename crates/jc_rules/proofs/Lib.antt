@@ -4,6 +4,7 @@ pub mod DecidedDemands
 pub mod Stacks
 pub mod CellLists
 pub mod Falls
+pub mod RuleFalls
 pub mod Effects
 pub mod Plans
 pub mod Keeps

@@ -51,7 +51,8 @@ use Rattle.jc_rules.specs.Rule.{element, array_wanted, a_reference, ready_with, 
 use Rattle.jc_rules.specs.Rule.{demands, effect}
 use Rattle.jc_rules.specs.Whole.{OperationKeepsWhole}
 use Rattle.jc_rules.specs.Flow.{IsNotTop}
-use Rattle.jc_rules.proofs.Falls.{low-up, LowUp, half-up, some-or}
+use Rattle.jc_rules.proofs.Falls.{low-up, LowUp, half-up}
+use Rattle.jc_rules.proofs.RuleFalls.{some-or}
 use Rattle.jc_rules.proofs.Demands.{SatisfiesAll-front, SatisfiesAll-rest, SatisfiesAll-append}
 use Rattle.jc_rules.proofs.Types.{declared-not_top, no-half}
 

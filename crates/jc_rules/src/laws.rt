@@ -2,28 +2,12 @@ ghost use Rattle.jc_rules.specs.Demand.{AreDecided};
 ghost use Rattle.jc_rules.specs.FlowLaws.{AreRules, IsOrderOfCells, JoinsStayReady, LeastIsOne, TopIsBottom};
 ghost use Rattle.jc_rules.specs.Footprint.{MetIsThere, AskedIsThere, OperationReads, FootprintIsOne, OperationLeaves, OperationNamesNone, AlikeLeaveAlike};
 ghost use Rattle.jc_rules.specs.Whole.{OperationKeepsWhole};
-ghost use Rattle.jc_rules.specs.Laws.{OperationDecides, OperationKeeps, OperationFalls, OperationFallsOnCard, OperationRaises, OperationStays, OperationRests, RuleDecides, RuleKeeps, RuleFalls, RuleFallsOnCard, RuleRaises, RuleRises, RuleStays, RuleRests};
+ghost use Rattle.jc_rules.specs.Laws.{OperationDecides, OperationKeeps, OperationFalls, OperationFallsOnCard, OperationRaises, OperationStays, OperationRests, RuleFalls, RuleFallsOnCard, RuleRaises, RuleRises, RuleStays, RuleRests};
 
 use jc_base::{World, types_are_ordered};
 use jc_control::instructions_are_placed;
 use jc_decode::instructions_are_listed;
 use jc_ops::operations_are_sound;
-
-/// A rule of a world has one result, and none where it refuses; it refuses with one fault.
-pub fn rule_decides(world: &World<'_>)
-    ensures { RuleDecides world.now }
-{
-    operations_are_sound(world);
-    types_are_ordered(world.classes());
-}
-
-/// The rules of a world keep frames well formed.
-pub fn rule_keeps(world: &World<'_>)
-    ensures { RuleKeeps world.now }
-{
-    operations_are_sound(world);
-    types_are_ordered(world.classes());
-}
 
 /// The rules of a world are monotone: where one applies, it applies to each lesser frame with a lesser result,
 /// in the dataflow in either case, and on the card where it applies there.

@@ -24,8 +24,8 @@ pub use effect::{Cells, Change, Effect, Mode, RegisterStore};
 pub use held::HeldFrame;
 pub use jc_ops::{RuleFault, Site};
 pub use laws::{
-    demands_are_decided, footprint_laws, operation_laws, rule_decides, rule_falls, rule_keeps,
-    rule_laws, rule_raises, typing_laws,
+    demands_are_decided, footprint_laws, operation_laws, rule_falls, rule_laws, rule_raises,
+    typing_laws,
 };
 pub use rule::{Outcome, apply};
 pub use state::Merged;

@@ -25,7 +25,7 @@ use Rattle.jc_rules.specs.Apply.{OperationApplies, RuleApplies}
 use Rattle.jc_rules.specs.Flow.{CellsBelow, FrameBelow, At, IsFit, IsFollowed}
 use Rattle.jc_rules.specs.Laws.{OperationFallsTo}
 use Rattle.jc_rules.proofs.CellLists.{cells-trans}
-use Rattle.jc_rules.proofs.Falls.{operation-falls}
+use Rattle.jc_rules.proofs.RuleFalls.{operation-falls}
 use Rattle.vm_store.specs.declared.cell.Cell.{Cell}
 use Rattle.vm_store.specs.declared.kind.ObjectKind.{ObjectKind}
 use Rattle.vm_store.specs.State.{Frame}

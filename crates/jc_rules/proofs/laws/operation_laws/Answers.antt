@@ -1,7 +1,7 @@
 use Rattle.std.proofs.Common.{subst}
 use Rattle.jc_base.specs.Laws.{IsOrderOfTypes}
 use Rattle.jc_rules.proofs.Decides.{operation-decides}
-use Rattle.jc_rules.proofs.Falls.{operation-falls}
+use Rattle.jc_rules.proofs.RuleFalls.{operation-falls}
 use Rattle.jc_rules.proofs.Keeps.{operation-keeps}
 use Rattle.jc_rules.proofs.Wholes.{operation-keeps-whole}
 use Rattle.jc_rules.proofs.Cards.{operation-falls-on-card, operation-raises, operation-stays, operation-rests}

@@ -1,6 +1,6 @@
 use Rattle.std.proofs.Common.{subst}
 use Rattle.jc_base.specs.Laws.{IsOrderOfTypes}
-use Rattle.jc_rules.proofs.Falls.{rule-falls}
+use Rattle.jc_rules.proofs.RuleFalls.{rule-falls}
 use Rattle.jc_rules.proofs.Cards.{rule-falls-on-card}
 use Rattle.jc_rules.proofs.laws.rule_falls.Goals as goal
 

@@ -1,7 +1,7 @@
 use Rattle.std.proofs.Common.{subst}
 use Rattle.jc_base.specs.Laws.{IsOrderOfTypes, DeclaredAreKnown}
 use Rattle.jc_rules.proofs.Decides.{rule-decides}
-use Rattle.jc_rules.proofs.Falls.{rule-falls}
+use Rattle.jc_rules.proofs.RuleFalls.{rule-falls}
 use Rattle.jc_rules.proofs.Flowing.{is-order-of-cells, joins-stay-ready}
 use Rattle.jc_rules.proofs.Keeps.{rule-keeps}
 use Rattle.jc_rules.proofs.laws.rule_laws.Goals as goal
