@@ -26,4 +26,5 @@ pub mod PastTheEnd
 pub mod Elements
 pub mod InstructionLists
 pub mod FewTargets
+pub mod NameTable
 pub mod PlainLengths

@@ -66,7 +66,7 @@ bytes-number (suc w) i xs bytes h =
     let first = drop-cons xs i 0 (omega arith) in
     rw (top, rest, first) refl
 
-AreBytes-drop : (n : ℕ) (xs : List ℕ) → AreBytes xs → AreBytes (drop n xs)
+pub AreBytes-drop : (n : ℕ) (xs : List ℕ) → AreBytes xs → AreBytes (drop n xs)
 AreBytes-drop n xs bytes k = let e = get_or-drop n xs k 0 in let b = bytes (n + k) in omega (arith, e, b)
 
 -- a number that is read is written as its bytes
@@ -107,7 +107,7 @@ bits-same ArrayType n h = refl
 bits-same TestedType n h = refl
 
 -- an operand that is read is written as its bytes
-operand-bytes : (o : Operand) (xs : List ℕ) (at : ℕ) (v : ℤ) → AreBytes xs → operand_at o xs at ≡ Ok v
+pub operand-bytes : (o : Operand) (xs : List ℕ) (at : ℕ) (v : ℤ) → AreBytes xs → operand_at o xs at ≡ Ok v
     → operand_bytes o v ≡ take (operand_width o) (drop at xs)
 operand-bytes o xs at v bytes h =
     from_bind (or_cut (operand_number o xs at)) _ v h (λ n n_is h1.
@@ -117,7 +117,7 @@ operand-bytes o xs at v bytes h =
     ∙ number_of-bytes o at n xs bytes some)
 
 -- two parts of a list, one after the other
-take-more : (xs : List ℕ) (at m n : ℕ) → take (m + n) (drop at xs) ≡ take m (drop at xs) ++ take n (drop (at + m) xs)
+pub take-more : (xs : List ℕ) (at m n : ℕ) → take (m + n) (drop at xs) ≡ take m (drop at xs) ++ take n (drop (at + m) xs)
 take-more xs at m n = take-add m n (drop at xs) ∙ ap (λ (ys : List ℕ). take m (drop at xs) ++ take n ys) (drop-drop m at xs)
 
 -- the opcode is a byte of its own

@@ -1,4 +1,5 @@
 pub mod Layout
+pub mod Names
 pub mod Decoding
 pub mod Cases
 pub mod Listing

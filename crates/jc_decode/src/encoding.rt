@@ -86,8 +86,8 @@ fn append_table(
 }
 
 impl Operand {
-    /// Appends an operand's bytes.
-    fn write(self, value: i32, to: &mut Vec<u8>) -> Result<(), AllocError>
+    /// Appends an operand's bytes. Where there is no memory nothing is appended.
+    pub fn write(self, value: i32, to: &mut Vec<u8>) -> Result<(), AllocError>
         requires { FitsOperand self value }
         ensures appended { OnOk result (to.new.items ≡ to.old.items ++ operand_bytes self value) }
         ensures unchanged { OnErr result (to.new.items ≡ to.old.items) }

@@ -13,6 +13,7 @@ mod insn;
 mod instructions;
 mod laws;
 mod layout;
+mod names;
 mod pool_index;
 mod renewed;
 mod setting;
@@ -30,6 +31,7 @@ pub use laws::{
     nothing_past_the_end, short_is_no_longer, targets_are_few,
 };
 pub use layout::{Cases, Layout, Operand};
+pub use names::{names_are_apart, opcode_name, opcode_named};
 pub use pool_index::{IndexWidth, PoolIndex};
 pub use setting::set_case;
 pub use sizes::plain_size;
