@@ -21,7 +21,7 @@ use Rattle.jc_rules.specs.Demand.{AreKnown}
 use Rattle.jc_rules.specs.Flow.{CellsBelow, no_cells, more_cells, FrameBelow, IsNotFresh, IsNotTop, caught_frame, FlowTyping}
 use Rattle.jc_rules.specs.FlowLaws.{AreRules}
 use Rattle.card_typing.specs.Place.{IsEntry, IsTarget}
-use Rattle.card_typing.specs.Typing.{frame_at, IsTyped, IsEntered, CardTyping}
+use Rattle.card_typing.specs.Typing.{frame_at, IsTyped, IsEntered, CardTypingOver, CardTyping}
 use Rattle.card_typing.specs.Laws.{CardIsFlow}
 use Rattle.card_typing.proofs.Sites.{site_of, at-site}
 use Rattle.card_typing.proofs.Own.{of_world, start-length}
@@ -47,7 +47,8 @@ pub record IsSolid (w : Linked) (stack : List Ty) : Type 0 where
 pub none-solid : (w : Linked) (stack : List Ty) → stack ≡ [] → IsSolid w stack
 none-solid w stack e = subst (IsSolid w) (sym e) (record { known = All-nil (IsKnown w.classes); no_top = All-nil IsNotTop })
 
-module _ (w : Linked) (is : AreRules w) (m : Method) (mo : IsMethodOf w m) (regs : List Ty) (stacks : ℕ → List Ty) (ty : CardTyping w m regs stacks) where
+module _ (w : Linked) (is : AreRules w) (m : Method) (mo : IsMethodOf w m) (marked : ℕ → Type 0) (regs : List Ty) (stacks : ℕ → List Ty)
+    (ty : CardTypingOver w m marked regs stacks) where
   few : length regs ≤ 255
   few = omega (arith, is.order.lengths ty.declared, start-length w is.world m mo, (of_world w is.world m mo).registers)
 
@@ -66,6 +67,7 @@ module _ (w : Linked) (is : AreRules w) (m : Method) (mo : IsMethodOf w m) (regs
       (at-site w m mo t.applies.1) in
       record { known = k.known.stack; no_top = k.no_top s.no_top }
 
+module _ (w : Linked) (is : AreRules w) (m : Method) (mo : IsMethodOf w m) (regs : List Ty) (stacks : ℕ → List Ty) (ty : CardTyping w m regs stacks) where
   entry-of : (h : Handler) → Contains m.rec.handlers h → IsEntry m h.entry
   entry-of h c = record { handler = h; listed = c; begins = refl }
 
@@ -73,13 +75,14 @@ module _ (w : Linked) (is : AreRules w) (m : Method) (mo : IsMethodOf w m) (regs
   target-of i q there among = record { from = i; stands = there; leads = among }
 
   succ-solid : (i : Placed) (q : ℕ) → HasInstruction m.code i → IsSolid w (stacks i.place) → IsSuccessor m.code i q → IsSolid w (stacks q)
-  succ-solid i _ there s (falls_through goes) = let t = ty.typed i there in subst (IsSolid w) (sym (t.goes_on goes).next) (given-solid i t s)
+  succ-solid i _ there s (falls_through goes) =
+      let t = ty.typed i there in subst (IsSolid w) (sym (t.goes_on goes).next) (given-solid w is m mo (IsTarget m) regs stacks ty i t s)
   succ-solid i q there s (jumped among) = none-solid w (stacks q) (ty.targets q (target-of i q there among)).1
 
   reached-solid : (q : ℕ) → IsReached m q → IsSolid w (stacks q)
   reached-solid _ begins = none-solid w (stacks 0) ty.start.1
   reached-solid _ (follows {i = i} {q = q} there r s) = succ-solid i q there (reached-solid i.place r) s
-  reached-solid _ (caught {h = h} r there covers) = entered-solid h.entry (ty.entries h.entry (entry-of h there))
+  reached-solid _ (caught {h = h} r there covers) = entered-solid w is m mo (IsTarget m) regs stacks ty h.entry (ty.entries h.entry (entry-of h there))
 
   place-room : (q : ℕ) → IsPlace m.code q → length (stacks q) ≤ m.rec.max_stack
   place-room q here = subst (λ p. length (stacks p) ≤ m.rec.max_stack) here.2 (ty.room here.0 here.1)

@@ -1,5 +1,6 @@
 pub mod Sites
 pub mod Own
+pub mod Fewer
 pub mod Flowing
 pub mod Sound
 pub mod Below

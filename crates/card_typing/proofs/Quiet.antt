@@ -18,9 +18,10 @@ use Rattle.jc_control.specs.Laws.{InstructionsArePlaced}
 use Rattle.jc_rules.specs.declared.rule.Outcome.{Outcome}
 use Rattle.jc_rules.specs.Flow.{CellsBelow, IsNotFresh, start_frame}
 use Rattle.jc_rules.specs.Laws.{RuleRests}
+use Rattle.card_typing.proofs.Fewer.{met-fewer}
 use Rattle.card_typing.proofs.Sites.{site_of, at-site, of-site}
 use Rattle.card_typing.specs.Place.{IsTarget, IsEntry, IsFallenInto, fallen_first, fallen_from, CatchesAt}
-use Rattle.card_typing.specs.Typing.{frame_at, GoesOn, IsTyped, IsEntered, CardTyping}
+use Rattle.card_typing.specs.Typing.{frame_at, GoesOn, IsTyped, IsEntered, CardTypingOver}
 use Rattle.card_typing.specs.Met.{Arrives, arrives_falling, arrives_empty, arrives_caught, arrives_full, IsOpenTo, IsPassed}
 use Rattle.card_typing.specs.Pass.{IsQuiet, quiet_end, quiet_more}
 use Rattle.card_typing.specs.Laws.{MetIsBelow, MetIsSound, QuietIsLeast}
@@ -70,9 +71,9 @@ module _ (w : Linked) (m : Method) where
 
 -- ---- the stacks of a pass
 
-module _ (w : Linked) (m : Method) (regs : List Ty) where
+module _ (w : Linked) (m : Method) (marked : ℕ → Type 0) (regs : List Ty) where
   -- the stack that the pass has at a place
-  unfoldable pub stack-in : (b : Bool) (given : List Ty) (is : List Placed) → IsQuiet w m regs b given is → ℕ → List Ty
+  unfoldable pub stack-in : (b : Bool) (given : List Ty) (is : List Placed) → IsQuiet w m marked regs b given is → ℕ → List Ty
   stack-in _ _ _ (quiet_end b given) q = []
   stack-in _ _ _ (quiet_more b given stack after o i is a p u) q = if q == i.place then stack else stack-in (falls i.insn.op) after is u q
 
@@ -85,18 +86,18 @@ module _ (w : Linked) (m : Method) (regs : List Ty) where
     arrives : Arrives w m may_fall given i.place (stacks i.place)
     after : List Ty
     outcome : Outcome
-    passed : IsPassed w m i (record { regs = regs; stack = stacks i.place }) (record { regs = regs; stack = after }) outcome
+    passed : IsPassed w m marked i (record { regs = regs; stack = stacks i.place }) (record { regs = regs; stack = after }) outcome
     next : Arrives w m (falls i.insn.op) after (i.place + i.insn.len) (stacks (i.place + i.insn.len))
         ⊎ ((i.place + i.insn.len ≡ length m.code) × (stacks (i.place + i.insn.len) ≡ []))
 
   module _ (mo : IsMethodOf w m) (ordered : InstructionsAreListed) (stacks : ℕ → List Ty) where
-    after-room : (i : Placed) {stack after : List Ty} {o : Outcome} → IsPassed w m i (record { regs = regs; stack = stack })
+    after-room : (i : Placed) {stack after : List Ty} {o : Outcome} → IsPassed w m marked i (record { regs = regs; stack = stack })
         (record { regs = regs; stack = after }) o → length after ≤ m.rec.max_stack
     after-room i {stack} {after} {o} p =
         p.applies.does.room
 
     -- what the pass has at the place where it goes on
-    onward : (at : ℕ) (is : List Placed) (b : Bool) (given : List Ty) (u : IsQuiet w m regs b given is) → Lists m.code at is
+    onward : (at : ℕ) (is : List Placed) (b : Bool) (given : List Ty) (u : IsQuiet w m marked regs b given is) → Lists m.code at is
         → end_from at is ≡ length m.code
         → ((q : ℕ) → at ≤ q → stacks q ≡ stack-in b given is u q) → Arrives w m b given at (stacks at)
         ⊎ ((at ≡ length m.code) × (stacks at ≡ []))
@@ -107,7 +108,7 @@ module _ (w : Linked) (m : Method) (regs : List Ty) where
         let here : stacks at ≡ stack = agree at (omega arith) ∙ ap (λ (t : Bool). if t then stack else stack-in (falls i.insn.op) after is u at) test in
         inl (subst (Arrives w m b given at) (sym here) (subst (λ n. Arrives w m b given n stack) l.0 a))
 
-    visits : (at : ℕ) (is : List Placed) (b : Bool) (given : List Ty) (u : IsQuiet w m regs b given is) → Lists m.code at is
+    visits : (at : ℕ) (is : List Placed) (b : Bool) (given : List Ty) (u : IsQuiet w m marked regs b given is) → Lists m.code at is
         → end_from at is ≡ length m.code
         → (b ≡ true → IsFallenInto m at) → length given ≤ m.rec.max_stack
         → ((q : ℕ) → at ≤ q → stacks q ≡ stack-in b given is u q) → (i : Placed) → Contains is i → IsVisited stacks i
@@ -148,7 +149,7 @@ module _ (w : Linked) (m : Method) (regs : List Ty) where
           arrives = subst (Arrives w m b given i.place) (sym here) a;
           after = after;
           outcome = o;
-          passed = subst (λ (s : List Ty). IsPassed w m i (record { regs = regs; stack = s }) (record { regs = regs; stack = after }) o) (sym here) p;
+          passed = subst (λ (s : List Ty). IsPassed w m marked i (record { regs = regs; stack = s }) (record { regs = regs; stack = after }) o) (sym here) p;
           next =
               subst (λ (n : ℕ). Arrives w m (falls i.insn.op) after (n + i.insn.len) (stacks (n + i.insn.len))
               ⊎ ((n + i.insn.len ≡ length m.code) × (stacks (n + i.insn.len) ≡ []))) (sym place) next;
@@ -157,17 +158,18 @@ module _ (w : Linked) (m : Method) (regs : List Ty) where
 -- ---- the typing
 
 module _ (w : Linked) (rests : RuleRests w) (placed : InstructionsArePlaced) (ordered : InstructionsAreListed) (m : Method) (mo : IsMethodOf w m)
-    (formed : IsWellFormed m) (regs : List Ty) (u : IsQuiet w m regs true [] (listing m.code)) where
+    (marked : ℕ → Type 0) (inside : (q : ℕ) → marked q → IsPlace m.code q) (formed : IsWellFormed m) (regs : List Ty)
+    (u : IsQuiet w m marked regs true [] (listing m.code)) where
   abbrev pub stacks : ℕ → List Ty
-  stacks = stack-in w m regs true [] (listing m.code) u
+  stacks = stack-in w m marked regs true [] (listing m.code) u
 
-  visit : (i : Placed) → HasInstruction m.code i → IsVisited w m regs stacks i
+  visit : (i : Placed) → HasInstruction m.code i → IsVisited w m marked regs stacks i
   visit i there =
-      visits w m regs mo ordered stacks 0 (listing m.code) true [] u (ordered m.code).lists formed.ends (λ e. fallen_first) (omega arith) (λ q le. refl) i
-      there
+      visits w m marked regs mo ordered stacks 0 (listing m.code) true [] u (ordered m.code).lists formed.ends (λ e. fallen_first) (omega arith)
+      (λ q le. refl) i there
 
-  open-at : (q : ℕ) → IsPlace m.code q → IsOpenTo m q (stacks q)
-  open-at q here = subst (λ p. IsOpenTo m p (stacks p)) here.2 (visit here.0 here.1).passed.suits
+  open-at : (q : ℕ) → IsPlace m.code q → IsOpenTo m marked q (stacks q)
+  open-at q here = subst (λ p. IsOpenTo m marked p (stacks p)) here.2 (visit here.0 here.1).passed.suits
 
   entry-place : (q : ℕ) → IsEntry m q → IsPlace m.code q
   entry-place q e = subst (IsPlace m.code) e.begins (All-contains (IsHandlerOf m.code) m.rec.handlers e.handler formed.handlers e.listed).entry
@@ -176,7 +178,7 @@ module _ (w : Linked) (rests : RuleRests w) (placed : InstructionsArePlaced) (or
   no-entry q fallen e = ((open-at q (entry-place q e)).entry e).0 fallen
 
   start-empty : stacks 0 ≡ []
-  start-empty = by (onward w m regs mo ordered stacks 0 (listing m.code) true [] u (ordered m.code).lists formed.ends (λ q le. refl))
+  start-empty = by (onward w m marked regs mo ordered stacks 0 (listing m.code) true [] u (ordered m.code).lists formed.ends (λ q le. refl))
     where
       by : Arrives w m true [] 0 (stacks 0) ⊎ ((0 ≡ length m.code) × (stacks 0 ≡ [])) → stacks 0 ≡ []
       by (inl a) = arrived-falling w m a refl (no-entry 0 fallen_first)
@@ -194,21 +196,18 @@ module _ (w : Linked) (rests : RuleRests w) (placed : InstructionsArePlaced) (or
           let c = arrived-caught w m v.arrives entry (v.passed.suits.caught entry) in
           record { class = c.0; catches = c.1; stack = c.2 }
 
-  target-place : (q : ℕ) → IsTarget m q → IsPlace m.code q
-  target-place q t = All-contains (IsTargetPlace m.code) (targets m.code t.from) (pos q) (formed.targets t.from t.stands) t.leads
-
-  target-empty : (i : Placed) → HasInstruction m.code i → IsTarget m i.place → ¬ (IsEntry m i.place) → stacks i.place ≡ []
-  target-empty i there t free = by (visit i there).may_fall refl
+  mark-empty : (i : Placed) → HasInstruction m.code i → marked i.place → ¬ (IsEntry m i.place) → stacks i.place ≡ []
+  mark-empty i there t free = by (visit i there).may_fall refl
     where
       by : (b : Bool) → (visit i there).may_fall ≡ b → stacks i.place ≡ []
-      by true e = (visit i there).passed.suits.target t ((visit i there).from e)
+      by true e = (visit i there).passed.suits.mark t ((visit i there).from e)
       by false e = arrived-empty w m (visit i there).arrives e free
 
-  target-at : (q : ℕ) → IsTarget m q → ¬ (IsEntry m q) × (stacks q ≡ [])
-  target-at q t =
-      let here = target-place q t in
+  mark-at : (q : ℕ) → marked q → ¬ (IsEntry m q) × (stacks q ≡ [])
+  mark-at q t =
+      let here = inside q t in
       let free : ¬ (IsEntry m q) = λ e. ((open-at q here).entry e).1 t in
-      (free, subst (λ p. IsTarget m p → ¬ (IsEntry m p) → stacks p ≡ []) here.2 (target-empty here.0 here.1) t free)
+      (free, subst (λ p. marked p → ¬ (IsEntry m p) → stacks p ≡ []) here.2 (mark-empty here.0 here.1) t free)
 
   goes-on : (i : Placed) (there : HasInstruction m.code i) → IsTrue (falls i.insn.op) → GoesOn m stacks i (visit i there).after
   goes-on i there goes =
@@ -235,7 +234,7 @@ module _ (w : Linked) (rests : RuleRests w) (placed : InstructionsArePlaced) (or
       }
 
   pub quiet-typing : All (IsKnown w.classes) regs → All IsNotFresh regs → CellsBelow w.classes (start_frame m.rec Bottom).regs regs
-      → CardTyping w m regs stacks
+      → CardTypingOver w m marked regs stacks
   quiet-typing known ready declared = record {
     formed = formed;
     types = known;
@@ -243,18 +242,30 @@ module _ (w : Linked) (rests : RuleRests w) (placed : InstructionsArePlaced) (or
     declared = declared;
     start = (no-entry 0 fallen_first, start-empty);
     entries = entered-at;
-    targets = target-at;
+    targets = mark-at;
     room = λ i there. let v = visit i there in arrived-room w m v.arrives v.room;
     typed = typed-at;
   }
 
-pub quiet-is-least : (w : Linked) → RuleRests w → InstructionsArePlaced → InstructionsAreListed → MetIsSound w → MetIsBelow w → QuietIsLeast w
-quiet-is-least w rests placed ordered sound below m regs mo formed met u =
-    let free = no-entry w rests placed ordered m mo formed regs u 0 fallen_first in
+pub target-place : (m : Method) → IsWellFormed m → (q : ℕ) → IsTarget m q → IsPlace m.code q
+target-place m formed q t = All-contains (IsTargetPlace m.code) (targets m.code t.from) (pos q) (formed.targets t.from t.stands) t.leads
+
+pub quiet-is-least :
+    (w : Linked) → RuleRests w → InstructionsArePlaced → InstructionsAreListed → (m : Method) (marked : ℕ → Type 0) → IsMethodOf w m
+    → ((q : ℕ) → IsTarget m q → marked q)
+    → (IsWellFormed m → (q : ℕ) → marked q → IsPlace m.code q)
+    → MetIsSound w m marked
+    → MetIsBelow w m (IsTarget m)
+    → QuietIsLeast w m marked
+quiet-is-least w rests placed ordered m marked mo among inside sound below regs formed met u =
+    let free = no-entry w rests placed ordered m mo marked (inside formed) formed regs u 0 fallen_first in
     let begun = met [] (arrives_falling free refl) in
-    let s = sound m 0 (record { regs = regs; stack = [] }) mo begun in
+    let s = sound 0 (record { regs = regs; stack = [] }) begun in
     record {
-      stacks = stacks w rests placed ordered m mo formed regs u;
-      typing = quiet-typing w rests placed ordered m mo formed regs u s.known.regs s.ready s.raised;
-      least = λ others other_stacks ty. (below m others other_stacks 0 (record { regs = regs; stack = [] }) mo ty begun).regs;
+      stacks = stacks w rests placed ordered m mo marked (inside formed) formed regs u;
+      typing = quiet-typing w rests placed ordered m mo marked (inside formed) formed regs u s.known.regs s.ready s.raised;
+      least =
+          λ others other_stacks ty.
+          (below others other_stacks 0 (record { regs = regs; stack = [] }) ty
+          (met-fewer w m marked (IsTarget m) among 0 (record { regs = regs; stack = [] }) begun)).regs;
     }

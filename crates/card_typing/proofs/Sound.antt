@@ -11,7 +11,7 @@ use Rattle.jc_rules.specs.Demand.{Frame}
 use Rattle.jc_rules.specs.Flow.{start_frame}
 use Rattle.jc_rules.specs.FlowLaws.{AreRules}
 use Rattle.jc_rules.specs.Laws.{RuleRaises}
-use Rattle.card_typing.specs.Met.{Arrives, arrives_falling, arrives_empty, arrives_caught, arrives_full, IsMet, met_start, met_next}
+use Rattle.card_typing.specs.Met.{Arrives, arrives_falling, arrives_empty, arrives_caught, arrives_full, IsMetAfter, met_start, met_next}
 use Rattle.card_typing.specs.Laws.{IsSoundState, MetIsSound}
 use Rattle.card_typing.proofs.Sites.{site_of, at-site}
 use Rattle.card_typing.proofs.Own.{of_world, start-length, start-known, start-ready}
@@ -24,7 +24,7 @@ arrives-known w m (arrives_empty free e) all = All-nil (IsKnown w.classes)
 arrives-known w m (arrives_caught c entry room catches) all = All-cons (IsKnown w.classes) (Class c) [] catches.class (All-nil (IsKnown w.classes))
 arrives-known w m (arrives_full entry none) all = All-nil (IsKnown w.classes)
 
-module _ (w : Linked) (is : AreRules w) (raises : RuleRaises w) (m : Method) (mo : IsMethodOf w m) where
+module _ (w : Linked) (is : AreRules w) (raises : RuleRaises w) (m : Method) (mo : IsMethodOf w m) (marked : ℕ → Type 0) where
   start-sound : (stack : List Ty) → All (IsKnown w.classes) stack → IsSoundState w m (record { regs = (start_frame m.rec Bottom).regs; stack = stack })
   start-sound stack known = record {
     known = record {
@@ -37,10 +37,10 @@ module _ (w : Linked) (is : AreRules w) (raises : RuleRaises w) (m : Method) (mo
     raised = is.order.self (start_frame m.rec Bottom).regs;
   }
 
-  sound : (q : ℕ) (met : Frame) → IsMet w m q met → IsSoundState w m met
-  sound _ _ (met_start stack a) = start-sound stack (arrives-known w m a (All-nil (IsKnown w.classes)))
-  sound _ _ (met_next i q before after o stack met passed goes a) =
-      let s = sound i.place before met in
+  sound : (visits q : ℕ) (met : Frame) → IsMetAfter w m marked visits q met → IsSoundState w m met
+  sound _ _ _ (met_start stack a) = start-sound stack (arrives-known w m a (All-nil (IsKnown w.classes)))
+  sound _ _ _ (met_next visits i q before after o stack met passed goes a) =
+      let s = sound visits i.place before met in
       let k = is.keeps (site_of m i.place) i.insn Card before after o s.known (at-site w m mo passed.applies) in
       record {
         known = record {
@@ -53,5 +53,5 @@ module _ (w : Linked) (is : AreRules w) (raises : RuleRaises w) (m : Method) (mo
         raised = is.order.through s.raised (raises (site_of m i.place) i.insn before after o (at-site w m mo passed.applies));
       }
 
-pub met-is-sound : (w : Linked) → AreRules w → RuleRaises w → MetIsSound w
-met-is-sound w is raises m place met mo h = sound w is raises m mo place met h
+pub met-is-sound : (w : Linked) → AreRules w → RuleRaises w → (m : Method) (marked : ℕ → Type 0) → IsMethodOf w m → MetIsSound w m marked
+met-is-sound w is raises m marked mo place met h = sound w is raises m mo marked h.visits place met h.after

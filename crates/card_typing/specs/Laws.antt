@@ -14,10 +14,10 @@ use Rattle.jc_rules.specs.Demand.{Frame, AreKnown}
 use Rattle.jc_rules.specs.Apply.{Applies, Refuses, RuleApplies, RuleRefuses}
 use Rattle.jc_rules.specs.Flow.{CellsBelow, FrameBelow, IsNotFresh, start_frame, HasFlowTyping}
 use Rattle.card_typing.specs.declared.fault.CardFault.{CardFault}
-use Rattle.card_typing.specs.Typing.{frame_at, CardTyping, HasCardTyping, IsLeastCardTyping}
-use Rattle.card_typing.specs.Met.{Arrives, IsMet}
-use Rattle.card_typing.specs.Refusal.{IsFlawKind, IsRefused}
-use Rattle.card_typing.specs.Pass.{IsQuiet}
+use Rattle.card_typing.specs.Typing.{frame_at, CardTypingOver, HasCardTyping, IsLeastOver}
+use Rattle.card_typing.specs.Met.{Arrives, IsMetAfter, IsMet}
+use Rattle.card_typing.specs.Refusal.{IsFlawKind, IsRefusedAfter, IsRefused}
+use Rattle.card_typing.specs.Pass.{IsQuiet, IsPassCount}
 
 -- where the rule applies to an instruction at a site of the world, or refuses it, the rule by the record of the site's method does
 pub record RuleIsOfRecord (w : Linked) : Type 0 where
@@ -36,13 +36,12 @@ pub record RuleIsOfRecord (w : Linked) : Type 0 where
 abbrev pub CardIsFlow : Linked → Type 0
 CardIsFlow w = (m : Method) → IsMethodOf w m → HasCardTyping w m → HasFlowTyping w m Bottom
 
--- each met state is below every card typing
-abbrev pub MetIsBelow : Linked → Type 0
-MetIsBelow w =
-    (m : Method) (regs : List Ty) (stacks : ℕ → List Ty) (place : ℕ) (met : Frame)
-    → IsMethodOf w m
-    → CardTyping w m regs stacks
-    → IsMet w m place met
+-- each state that is met over a set of marked places is below every card typing over them
+abbrev pub MetIsBelow : Linked → Method → (ℕ → Type 0) → Type 0
+MetIsBelow w m marked =
+    (regs : List Ty) (stacks : ℕ → List Ty) (place : ℕ) (met : Frame)
+    → CardTypingOver w m marked regs stacks
+    → IsMet w m marked place met
     → FrameBelow w.classes met (frame_at regs stacks place)
 
 -- what holds of each met state: its types are of the world, no register holds an uninitialised object, and none has fallen
@@ -52,8 +51,28 @@ pub record IsSoundState (w : Linked) (m : Method) (met : Frame) : Type 0 where
   pub ready : All IsNotFresh met.regs
   pub raised : CellsBelow w.classes (start_frame m.rec Bottom).regs met.regs
 
-abbrev pub MetIsSound : Linked → Type 0
-MetIsSound w = (m : Method) (place : ℕ) (met : Frame) → IsMethodOf w m → IsMet w m place met → IsSoundState w m met
+abbrev pub MetIsSound : Linked → Method → (ℕ → Type 0) → Type 0
+MetIsSound w m marked = (place : ℕ) (met : Frame) → IsMet w m marked place met → IsSoundState w m met
+
+-- after so many visits one state is met
+abbrev pub MetIsOne : Linked → Method → (ℕ → Type 0) → Type 0
+MetIsOne w m marked =
+    (visits p q : ℕ) (met other : Frame)
+    → IsMetAfter w m marked visits p met
+    → IsMetAfter w m marked visits q other
+    → (p ≡ q) × (met ≡ other)
+
+-- and with one met state at most something is wrong
+abbrev pub RefusedStateIsOne : Linked → Method → (ℕ → Type 0) → Type 0
+RefusedStateIsOne w m marked =
+    (visits others : ℕ) (fault other : CardFault) (kept held : Frame)
+    → IsRefusedAfter w m marked visits fault kept
+    → IsRefusedAfter w m marked others other held
+    → (visits ≡ others) × (fault ≡ other) × (kept ≡ held)
+
+-- a method has one number of passes
+abbrev pub PassCountIsOne : Linked → Method → (ℕ → Type 0) → Type 0
+PassCountIsOne w m marked = (passes others : ℕ) → IsPassCount w m marked passes → IsPassCount w m marked others → passes ≡ others
 
 -- what a refusal tells denies every card typing
 abbrev pub RefusalDenies : Linked → Type 0
@@ -74,11 +93,10 @@ FlawsAreTold w =
     (m : Method) (fault : CardFault) (kept : Frame) → IsRefused w m fault kept → IsFlawKind fault.kind ↔ ¬ (IsWellFormed m)
 
 -- registers that are met at the start of a pass, which raises none of them, are those of the least card typing
-abbrev pub QuietIsLeast : Linked → Type 0
-QuietIsLeast w =
-    (m : Method) (regs : List Ty)
-    → IsMethodOf w m
+abbrev pub QuietIsLeast : Linked → Method → (ℕ → Type 0) → Type 0
+QuietIsLeast w m marked =
+    (regs : List Ty)
     → IsWellFormed m
-    → ((given : List Ty) → Arrives w m true [] 0 given → IsMet w m 0 (record { regs = regs; stack = given }))
-    → IsQuiet w m regs true [] (listing m.code)
-    → IsLeastCardTyping w m regs
+    → ((given : List Ty) → Arrives w m true [] 0 given → IsMet w m marked 0 (record { regs = regs; stack = given }))
+    → IsQuiet w m marked regs true [] (listing m.code)
+    → IsLeastOver w m marked regs

@@ -18,7 +18,7 @@ use Rattle.jc_rules.specs.declared.rule.Outcome.{Outcome}
 use Rattle.jc_rules.specs.Demand.{Frame}
 use Rattle.jc_rules.specs.Apply.{RuleApplies}
 use Rattle.jc_rules.specs.Flow.{CellsBelow, IsNotFresh, start_frame}
-use Rattle.card_typing.specs.Place.{IsEntryAmong, AreCaughtAt}
+use Rattle.card_typing.specs.Place.{IsTarget, IsEntryAmong, AreCaughtAt}
 
 -- the registers with the stack before a place
 abbrev pub frame_at : List Ty → (ℕ → List Ty) → ℕ → Frame
@@ -62,18 +62,22 @@ pub record IsEnteredBy (w : Linked) (handlers : List Handler) (stacks : ℕ → 
 
 -- one list of registers, and a stack before each place, for a well-formed method. The registers have types of the world,
 -- and none is an uninitialised object; the receiver and the declared arguments are below them. The stack is empty at the
--- method's start and at each target; where a handler begins it is the caught object, and no target; and no stack is deeper
+-- method's start and at each marked place; where a handler begins it is the caught object, and no mark; and no stack is deeper
 -- than the method declares
-pub record TypingIn (w : Linked) (s : Subject) (regs : List Ty) (stacks : ℕ → List Ty) : Type 0 where
+pub record TypingOver (w : Linked) (s : Subject) (marked : ℕ → Type 0) (regs : List Ty) (stacks : ℕ → List Ty) : Type 0 where
   pub formed : s.formed
   pub types : All (IsKnown w.classes) regs
   pub ready : All IsNotFresh regs
   pub declared : CellsBelow w.classes (start_frame s.rec Bottom).regs regs
   pub start : ¬ (IsEntryAmong s.rec.handlers 0) × (stacks 0 ≡ [])
   pub entries : (q : ℕ) → IsEntryAmong s.rec.handlers q → IsEnteredBy w s.rec.handlers stacks q
-  pub targets : (q : ℕ) → IsTargetAmong s.stands s.leads q → ¬ (IsEntryAmong s.rec.handlers q) × (stacks q ≡ [])
+  pub targets : (q : ℕ) → marked q → ¬ (IsEntryAmong s.rec.handlers q) × (stacks q ≡ [])
   pub room : (i : Placed) → s.stands i → length (stacks i.place) ≤ s.rec.max_stack
   pub typed : (i : Placed) → s.stands i → IsTypedIn w s regs stacks i
+
+-- where the targets of the code are marked
+abbrev pub TypingIn : Linked → Subject → List Ty → (ℕ → List Ty) → Type 0
+TypingIn w s regs stacks = TypingOver w s (IsTargetAmong s.stands s.leads) regs stacks
 
 -- ---- code in bytes
 
@@ -96,8 +100,12 @@ IsTyped w m regs stacks i = IsTypedIn w (code_in_bytes m) regs stacks i
 abbrev pub IsEntered : Linked → Method → (ℕ → List Ty) → ℕ → Type 0
 IsEntered w m stacks q = IsEnteredBy w m.rec.handlers stacks q
 
+-- over any set of marked places
+abbrev pub CardTypingOver : Linked → Method → (ℕ → Type 0) → List Ty → (ℕ → List Ty) → Type 0
+CardTypingOver w m marked regs stacks = TypingOver w (code_in_bytes m) marked regs stacks
+
 abbrev pub CardTyping : Linked → Method → List Ty → (ℕ → List Ty) → Type 0
-CardTyping w m regs stacks = TypingIn w (code_in_bytes m) regs stacks
+CardTyping w m regs stacks = CardTypingOver w m (IsTarget m) regs stacks
 
 -- a card typing exists
 pub record HasCardTyping (w : Linked) (m : Method) : Type 0 where
@@ -105,9 +113,12 @@ pub record HasCardTyping (w : Linked) (m : Method) : Type 0 where
   pub stacks : ℕ → List Ty
   pub typing : CardTyping w m regs stacks
 
--- these are the registers of the least one: below those of every other
-pub record IsLeastCardTyping (w : Linked) (m : Method) (regs : List Ty) : Type 0 where
+-- these are the registers of the least one: of a card typing over the marked places, and below those of every card typing
+pub record IsLeastOver (w : Linked) (m : Method) (marked : ℕ → Type 0) (regs : List Ty) : Type 0 where
   pub stacks : ℕ → List Ty
-  pub typing : CardTyping w m regs stacks
+  pub typing : CardTypingOver w m marked regs stacks
   pub least : (others : List Ty) (other_stacks : ℕ → List Ty) → CardTyping w m others other_stacks
       → CellsBelow w.classes regs others
+
+abbrev pub IsLeastCardTyping : Linked → Method → List Ty → Type 0
+IsLeastCardTyping w m regs = IsLeastOver w m (IsTarget m) regs

@@ -1,4 +1,6 @@
-ghost use Rattle.card_typing.specs.Laws.{CardIsFlow, MetIsBelow, MetIsSound, RefusalDenies, RefusalIsOne, RuleIsOfRecord, FlawsAreTold, QuietIsLeast};
+ghost use Rattle.jc_control.specs.Method.{Method, IsMethodOf};
+ghost use Rattle.card_typing.specs.Place.{IsTarget};
+ghost use Rattle.card_typing.specs.Laws.{CardIsFlow, MetIsBelow, MetIsSound, MetIsOne, RefusedStateIsOne, PassCountIsOne, RefusalDenies, RefusalIsOne, RuleIsOfRecord, FlawsAreTold, QuietIsLeast};
 
 use jc_base::World;
 use jc_control::{first_flaw_is_one, flaws_decide, instructions_are_placed};
@@ -10,12 +12,15 @@ use jc_rules::{rule_falls, rule_laws, rule_raises};
 /// the record of its method.
 pub fn card_laws(world: &World<'_>)
     ensures flow { CardIsFlow world.now }
-    ensures met { MetIsBelow world.now }
-    ensures sound { MetIsSound world.now }
+    ensures met { (m : Method) → IsMethodOf world.now m → MetIsBelow world.now m (IsTarget m) }
+    ensures sound { (m : Method) → IsMethodOf world.now m → MetIsSound world.now m (IsTarget m) }
+    ensures one_met { (m : Method) → IsMethodOf world.now m → MetIsOne world.now m (IsTarget m) }
     ensures refused { RefusalDenies world.now }
     ensures one { RefusalIsOne world.now }
     ensures told { FlawsAreTold world.now }
-    ensures quiet { QuietIsLeast world.now }
+    ensures one_state { (m : Method) → IsMethodOf world.now m → RefusedStateIsOne world.now m (IsTarget m) }
+    ensures one_count { (m : Method) → IsMethodOf world.now m → PassCountIsOne world.now m (IsTarget m) }
+    ensures quiet { (m : Method) → IsMethodOf world.now m → QuietIsLeast world.now m (IsTarget m) }
     ensures records { RuleIsOfRecord world.now }
 {
     rule_laws(world);

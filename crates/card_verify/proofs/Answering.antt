@@ -8,50 +8,63 @@ use Rattle.jc_base.specs.declared.ty.Ty.TheVariants.{Bottom}
 use Rattle.jc_base.specs.declared.record.MethodRec.{MethodRec}
 use Rattle.jc_base.specs.World.{Linked, code_of}
 use Rattle.jc_control.specs.Method.{Method, IsMethodOf, method_in, method_with}
-use Rattle.jc_control.specs.WellFormed.{IsWellFormed}
+use Rattle.jc_control.specs.WellFormed.{IsPlace, IsWellFormed}
+use Rattle.jc_control.specs.Laws.{InstructionsArePlaced}
+use Rattle.jc_decode.specs.Laws.{InstructionsAreListed}
+use Rattle.jc_rules.specs.Laws.{RuleRaises, RuleRests}
+use Rattle.jc_rules.specs.FlowLaws.{AreRules}
 use Rattle.jc_rules.specs.Apply.{frame_of}
 use Rattle.jc_rules.specs.Flow.{start_frame, HasFlowTyping}
 use Rattle.card_typing.specs.declared.fault.CardFault.{CardFault}
-use Rattle.card_typing.specs.Typing.{HasCardTyping, IsLeastCardTyping}
-use Rattle.card_typing.specs.Met.{IsMet, met_start}
-use Rattle.card_typing.specs.Refusal.{IsFlawKind, IsRefused, refused_flaw}
-use Rattle.card_typing.specs.Laws.{CardIsFlow, RefusalDenies, FlawsAreTold, QuietIsLeast}
+use Rattle.card_typing.specs.Typing.{HasCardTyping, IsLeastOver, IsLeastCardTyping}
+use Rattle.card_typing.specs.Place.{IsTarget}
+use Rattle.card_typing.specs.Met.{IsMetAfter, met_start}
+use Rattle.card_typing.specs.Refusal.{IsFlawKind, IsRefused, refused_flaw, refused_state}
+use Rattle.card_typing.specs.Laws.{CardIsFlow, RefusalDenies, FlawsAreTold, MetIsBelow}
 use Rattle.card_verify.specs.declared.verifier.Verifier.{Verifier}
 use Rattle.card_verify.specs.Answers.{IsAccepted, IsAcceptedAt, AreAcceptedBefore, AreAccepted, IsRefusedMethod, IsRefusedAt, TellsFlaw}
+use Rattle.card_typing.proofs.Quiet.{quiet-is-least}
+use Rattle.card_typing.proofs.Sound.{met-is-sound}
+use Rattle.card_verify.specs.Counted.{AreCountedUpTo}
 use Rattle.card_verify.specs.Verifier.{method, world_of}
-use Rattle.card_verify.specs.Walk.{HasSlices, CanBeginPass, IsRaisedBy, IsSettled, IsFinished}
-
--- ---- passes
-
-pub raised : (v : Verifier) (regs after stack : List Ty) (rose : Bool) → MatchBool rose (IsRaisedBy v regs after stack) (IsSettled v regs after)
-    → rose ≡ true → IsRaisedBy v regs after stack
-raised v regs after stack true h e = h
-raised v regs after stack false h e = absurd (false≢true e)
-
-pub settled : (v : Verifier) (regs after stack : List Ty) (rose : Bool) → MatchBool rose (IsRaisedBy v regs after stack) (IsSettled v regs after)
-    → rose ≡ false → IsSettled v regs after
-settled v regs after stack true h e = absurd (false≢true (sym e))
-settled v regs after stack false h e = h
-
-pub finished : (v : Verifier) (regs after stack : List Ty) → CanBeginPass v regs stack → IsSettled v regs after → IsFinished v after
-finished v regs after stack begun s = subst (IsFinished v) (sym s.same) (record { met = begun.met; quiet = s.quiet })
+use Rattle.card_verify.specs.Walk.{HasSlices, CanBeginPass, IsFinished}
 
 -- ---- a well-formed method
 
-pub begun-start : (v : Verifier) (regs stack : List Ty) → regs ≡ (start_frame v.rec.now Bottom).regs → HasSlices v regs stack
-    → CanBeginPass v regs stack
-begun-start v regs stack e slices = record {
-  met = λ given a. subst (λ (xs : List Ty). IsMet (world_of v) (method v) 0 (record { regs = xs; stack = given })) (sym e) (met_start given a);
+pub begun-start : (v : Verifier) (marked : ℕ → Type 0) (regs stack : List Ty) → regs ≡ (start_frame v.rec.now Bottom).regs
+    → HasSlices v regs stack → CanBeginPass v marked 0 regs stack
+begun-start v marked regs stack e slices = record {
+  met = λ given a. subst (λ (xs : List Ty). IsMetAfter (world_of v) (method v) marked 0 0 (record { regs = xs; stack = given })) (sym e) (met_start given a);
   slices = slices;
 }
 
-pub least-of : (v : Verifier) (regs : List Ty) → QuietIsLeast (world_of v) → IsMethodOf (world_of v) (method v) → IsWellFormed (method v)
-    → IsFinished v regs → IsLeastCardTyping (world_of v) (method v) regs
-least-of v regs least known formed f = least (method v) regs known formed f.met f.quiet
+pub least-of :
+    (v : Verifier) (marked : ℕ → Type 0) → AreRules (world_of v) → RuleRaises (world_of v) → RuleRests (world_of v) → InstructionsArePlaced
+    → InstructionsAreListed
+    → IsMethodOf (world_of v) (method v)
+    → IsWellFormed (method v)
+    → ((q : ℕ) → IsTarget (method v) q → marked q)
+    → ((q : ℕ) → marked q → IsPlace (method v).code q)
+    → MetIsBelow (world_of v) (method v) (IsTarget (method v))
+    → (regs : List Ty)
+    → IsFinished v marked regs
+    → IsLeastOver (world_of v) (method v) marked regs
+least-of v marked rules raises rests placed ordered known formed among inside below regs f =
+    quiet-is-least (world_of v) rests placed ordered (method v) marked known among (λ formed. inside)
+    (met-is-sound (world_of v) rules raises (method v) marked known) below regs formed f.met f.quiet
 
 pub on-ok : {A B : Type 0} (P Q : Type 0) (r : Result A B) → (P → Q) → OnOk r P → OnOk r Q
 on-ok P Q (Ok a) f p = f p
 on-ok P Q (Err b) f p = p
+
+-- a refusal of the types
+pub refused-of-counted :
+    (v : Verifier) (regs stack : List Ty) (before after : ℕ) → IsWellFormed (method v) → (r : Result (Unit {0}) CardFault)
+    → IfErr r (λ (fault : CardFault). AreCountedUpTo (world_of v) (method v) (IsTarget (method v)) fault (frame_of regs stack fault.depth) 0 before after)
+    → IfErr r (λ (fault : CardFault). IsRefused (world_of v) (method v) fault (frame_of regs stack fault.depth))
+refused-of-counted v regs stack before after formed (Ok t) h = tt
+refused-of-counted v regs stack before after formed (Err fault) h =
+    refused_state fault (frame_of regs stack fault.depth) formed (record { visits = h.visits; after = h.refused })
 
 module _ (v : Verifier) where
   -- ---- what follows of a refusal

@@ -6,6 +6,7 @@ use Rattle.std.proofs.Math.Pow.{pow_mono}
 use Rattle.std.proofs.lemmas.Bool.{cases_lt}
 use Rattle.std.proofs.lemmas.Option.{slice_get_within, slice_get-get_or, get_or_from_slice_get, same_Some}
 use Rattle.jc_base.specs.Index.{IsAscending}
+use Rattle.card_verify.specs.Ahead.{IsLeastFrom}
 use Rattle.card_verify.proofs.Costs.{grow}
 
 -- ---- ascending lists
@@ -75,9 +76,6 @@ module _ (index : List ℕ) (up : IsAscending index) (place low high taken middl
   seldom-next : (b : ℕ) → length index < 2 ^ b → taken + 1 ≤ b
   seldom-next b lt = digit (high - low) taken (length index) b (omega (arith, some)) so_far.fewer lt
 
-  pub found-cost : (b : ℕ) → length index < 2 ^ b → taken + 1 ≤ b
-  found-cost = seldom-next
-
   pub narrowed-up : found < place → IsNarrowed index place (middle + 1) high (taken + 1)
   narrowed-up less = record {
     order = omega (arith, some, half);
@@ -109,11 +107,46 @@ module _ (index : List ℕ) (up : IsAscending index) (place low high taken middl
 pub contains-found : (index : List ℕ) (middle found place : ℕ) → slice_get index middle ≡ Some found → found ≡ place → Contains index place
 contains-found index middle found place at same = (middle, slice_get_within index middle found at, get_or_from_slice_get index middle found place at ∙ same)
 
-pub contains-none : (index : List ℕ) (place low high taken : ℕ) → IsNarrowed index place low high taken → high ≤ low → ¬ (Contains index place)
-contains-none index place low high taken so_far over c =
-    let there : slice_get index c.0 ≡ Some place = slice_get-get_or index c.0 place c.1 ∙ ap Some c.2 in
-    ⊎_elim (λ lt. let less = so_far.below c.0 place lt there in omega (arith, less))
-    (λ ge. let more = so_far.above c.0 place (omega (arith, ge, over)) there in omega (arith, more)) (cases_lt c.0 low)
+-- ---- the least place that is not below
+
+pub found-least : (index : List ℕ) → IsAscending index → (middle found place : ℕ) → slice_get index middle ≡ Some found → found ≡ place
+    → IsLeastFrom (Contains index) place (Some found)
+found-least index up middle found place at same = (
+  (middle, slice_get_within index middle found at, get_or_from_slice_get index middle found found at),
+  omega (arith, same),
+  λ q c le. omega (arith, same, le),
+)
+
+pub narrowed-least : (index : List ℕ) → IsAscending index → (place low high taken : ℕ) (best : Option ℕ) → IsNarrowed index place low high taken
+    → high ≤ low → slice_get index high ≡ best → IsLeastFrom (Contains index) place best
+narrowed-least index up place low high taken None so_far over e = λ q c.
+    let there : slice_get index c.0 ≡ Some q = slice_get-get_or index c.0 q c.1 ∙ ap Some c.2 in
+    ⊎_elim (λ lt. so_far.below c.0 q lt there) (λ ge. absurd (past c.0 q there (omega (arith, ge, over)))) (cases_lt c.0 low)
+  where
+    past : (k q : ℕ) → slice_get index k ≡ Some q → high ≤ k → ⊥
+    past k q there le =
+        let inside : high < length index = omega (arith, slice_get_within index k q there, le) in
+        let no : Some (get_or index high 0) ≡ None = sym (slice_get-get_or index high 0 inside) ∙ e in
+        absurd (cc)
+narrowed-least index up place low high taken (Some b) so_far over e = (
+  (high, slice_get_within index high b e, get_or_from_slice_get index high b b e),
+  let more = so_far.above high b (omega arith) e in omega (arith, more),
+  λ q c le.
+      let there : slice_get index c.0 ≡ Some q = slice_get-get_or index c.0 q c.1 ∙ ap Some c.2 in
+      ⊎_elim (λ lt. let less = so_far.below c.0 q (omega (arith, lt, over, so_far.order)) there in absurd (omega (arith, less, le))) (λ ge.
+      ⊎_elim (λ later. let far = ascending-far index up high c.0 b q later e there in omega (arith, far)) (λ no.
+      let same : high ≡ c.0 = omega (arith, ge, no) in
+      let own : b ≡ q = same_Some b q (sym e ∙ ap (slice_get index) same ∙ there) in
+      omega (arith, own)) (cases_lt high c.0)) (cases_lt c.0 high),
+)
+
+-- past the last entry there is none
+pub past-end : (index : List ℕ) (n : ℕ) → n ≡ length index → slice_get index n ≡ None
+past-end index n e = by (slice_get index n) refl
+  where
+    by : (o : Option ℕ) → slice_get index n ≡ o → slice_get index n ≡ None
+    by None is = is
+    by (Some q) is = absurd (omega (arith, slice_get_within index n q is, e))
 
 -- what is not below and not equal is above
 pub above-from : (a b c : ℕ) → a ≡ c → ¬ (a ≡ b) → b ≤ a → b < c

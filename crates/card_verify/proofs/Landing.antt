@@ -9,9 +9,9 @@ use Rattle.jc_control.specs.Method.{Method}
 use Rattle.jc_rules.specs.Stack.{cells}
 use Rattle.jc_rules.proofs.Stacks.{length-cells}
 use Rattle.card_typing.specs.declared.fault.CardKind.TheVariants.{Rule, StackAtTarget, HandlerEntered}
-use Rattle.card_typing.specs.Place.{IsTarget, IsEntry, IsFallenInto, CatchesAt}
+use Rattle.card_typing.specs.Place.{IsEntry, IsFallenInto, CatchesAt}
 use Rattle.card_typing.specs.Met.{Arrives, arrives_falling, arrives_empty, arrives_caught, arrives_full}
-use Rattle.card_typing.specs.Refusal.{wrong_entry, wrong_room, wrong_target}
+use Rattle.card_typing.specs.Refusal.{wrong_entry, wrong_room, wrong_mark}
 use Rattle.card_verify.specs.declared.verifier.Verifier.{Verifier}
 use Rattle.card_verify.specs.declared.pass.Arrival.{Arrival}
 use Rattle.card_verify.specs.Verifier.{method, world_of}
@@ -42,7 +42,7 @@ unfolding cells
 put-one [] ty e = absurd (false≢true (sym e))
 put-one (x ∷ xs) ty e = inr (λ zero_long. absurd (omega (arith, zero_long)), refl, refl)
 
-module _ (v : Verifier) (place : ℕ) (arrival : Arrival) where
+module _ (v : Verifier) (marked : ℕ → Type 0) (place : ℕ) (arrival : Arrival) where
   abbrev m : Method
   m = method v
 
@@ -53,17 +53,17 @@ module _ (v : Verifier) (place : ℕ) (arrival : Arrival) where
     arrived true e = arrives_falling free e
     arrived false e = subst (Arrives (world_of v) m arrival.may_fall (cells stack arrival.depth) place) (sym (no-cells stack)) (arrives_empty free e)
 
-    no-left : (n : ℕ) → ¬ ((0 < n) × IsTarget m place) → IsTarget m place → n ≡ 0
+    no-left : (n : ℕ) → ¬ ((0 < n) × marked place) → marked place → n ≡ 0
     no-left zero other t = refl
     no-left (suc n) other t = absurd (other (omega arith, t))
 
-    pub landed : ¬ (IsBlocked v place arrival) → IsLanded v place arrival stack (cells stack (left arrival))
+    pub landed : ¬ (IsBlocked marked place arrival) → IsLanded v marked place arrival stack (cells stack (left arrival))
     landed other = record {
       arrives = arrived arrival.may_fall refl;
       suits = record {
         entry = λ e. absurd (free e);
         caught = λ e. absurd (free e);
-        target = λ t f. ap (cells stack) (no-left (left arrival) other t) ∙ no-cells stack;
+        mark = λ t f. ap (cells stack) (no-left (left arrival) other t) ∙ no-cells stack;
       };
     }
 
@@ -75,16 +75,16 @@ module _ (v : Verifier) (place : ℕ) (arrival : Arrival) where
     within true le = le
     within false le = omega arith
 
-    pub mislanded-target : (depth : ℕ) → depth ≡ left arrival → arrival.depth ≤ length stack → IsBlocked v place arrival
-        → IsMislanded v arrival stack stack (record { place = place; depth = depth; kind = StackAtTarget })
-    mislanded-target depth is le blocked = record {
+    pub mislanded-mark : (depth : ℕ) → depth ≡ left arrival → arrival.depth ≤ length stack → IsBlocked marked place arrival
+        → IsMislanded v marked arrival stack stack (record { place = place; depth = depth; kind = StackAtTarget })
+    mislanded-mark depth is le blocked = record {
       arrives =
           subst (λ (n : ℕ). Arrives (world_of v) m arrival.may_fall (cells stack arrival.depth) place (cells stack n)) (sym is)
           (arrived arrival.may_fall refl);
       wrong = λ i regs here.
-          wrong_target
+          wrong_mark
           (λ e. free (subst (IsEntry m) here e))
-          (subst (IsTarget m) (sym here) blocked.1)
+          (subst marked (sym here) blocked.1)
           (subst (IsFallenInto m) (sym here) (when-true (IsFallenInto m place) arrival.may_fall fallen (falling arrival.may_fall refl blocked.0)))
           (subst (λ (n : ℕ). cells stack n ≢ []) (sym is) (some-cells stack (left arrival) (within arrival.may_fall le) blocked.0));
       within = subst (λ (n : ℕ). n ≤ length stack) (sym is) (within arrival.may_fall le);
@@ -130,37 +130,38 @@ module _ (v : Verifier) (place : ℕ) (arrival : Arrival) where
         by (inl full) = omega (arith, full.1)
         by (inr there) = let one = positive (length before) there.0 in omega (arith, there.1, one, room)
 
-    not-falling : ¬ (IsShared v place arrival) → (b : Bool) → arrival.may_fall ≡ b → arrival.may_fall ≡ false
+    not-falling : ¬ (IsShared marked place arrival) → (b : Bool) → arrival.may_fall ≡ b → arrival.may_fall ≡ false
     not-falling other true e = absurd (other (inl e))
     not-falling other false e = e
 
-    pub landed-caught : ¬ (depth ≡ 0) → ¬ (IsShared v place arrival) → IsLanded v place arrival before (cells after depth)
+    pub landed-caught : ¬ (depth ≡ 0) → ¬ (IsShared marked place arrival) → IsLanded v marked place arrival before (cells after depth)
     landed-caught deep other = record {
       arrives = entered;
       suits = record {
         entry = λ e. (when-false (IsFallenInto m place) arrival.may_fall fallen (not-falling other arrival.may_fall refl), λ t. other (inr t));
         caught = λ e. has-room deep;
-        target = λ t f. absurd (other (inr t));
+        mark = λ t f. absurd (other (inr t));
       };
     }
 
-    pub mislanded-entry : IsShared v place arrival → IsMislanded v arrival before after (record { place = place; depth = depth; kind = HandlerEntered })
+    pub mislanded-entry : IsShared marked place arrival
+        → IsMislanded v marked arrival before after (record { place = place; depth = depth; kind = HandlerEntered })
     mislanded-entry from = record {
       arrives = entered;
       wrong = λ i regs here.
           wrong_entry (subst (IsEntry m) (sym here) entry)
-          (subst (λ q. IsFallenInto m q ⊎ IsTarget m q) (sym here)
+          (subst (λ q. IsFallenInto m q ⊎ marked q) (sym here)
           (⊎_elim (λ falls_in. inl (when-true (IsFallenInto m place) arrival.may_fall fallen falls_in)) (λ t. inr t) from));
       within = let most = put-depth in omega (arith, most, long, room);
     }
 
-    pub mislanded-room : depth ≡ 0 → ¬ (IsShared v place arrival)
-        → IsMislanded v arrival before after (record { place = place; depth = depth; kind = Rule Overflow })
+    pub mislanded-room : depth ≡ 0 → ¬ (IsShared marked place arrival)
+        → IsMislanded v marked arrival before after (record { place = place; depth = depth; kind = Rule Overflow })
     mislanded-room none other = record {
       arrives = entered;
       wrong = λ i regs here.
           wrong_room (subst (IsEntry m) (sym here) entry)
-          (subst (λ q. ¬ (IsFallenInto m q ⊎ IsTarget m q)) (sym here)
+          (subst (λ q. ¬ (IsFallenInto m q ⊎ marked q)) (sym here)
           (λ either. ⊎_elim (when-false (IsFallenInto m place) arrival.may_fall fallen (not-falling other arrival.may_fall refl)) (λ t. other (inr t))
           either))
           (no-room none);

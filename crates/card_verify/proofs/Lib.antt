@@ -6,12 +6,13 @@ pub mod Starting
 pub mod Stepping
 pub mod Answering
 pub mod Costs
+pub mod Searching
+pub mod Passing
 pub mod Halving
-pub mod Clear
 pub mod Denying
-pub mod Landed
-pub mod Walked
 pub mod Ordered
 pub mod Verified
 pub mod OneRefusal
 pub mod Tallies
+pub mod Twice
+pub mod Totals

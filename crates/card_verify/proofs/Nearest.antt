@@ -169,6 +169,6 @@ told-here S from o false h e = λ s. e (here-least S from o h s)
 
 -- ---- no target before a place
 
-pub clear-least : (m : Method) (place : ℕ) (o : Option ℕ) → IsLeastFrom (IsTarget m) place o → IsClear m place (least_or_none o)
-clear-least m place None h = λ q t ge. let lt = h q t in absurd (omega (arith, lt, ge))
-clear-least m place (Some b) h = λ q t ge. h.2 q t ge
+pub clear-least : (marked : ℕ → Type 0) (place : ℕ) (o : Option ℕ) → IsLeastFrom marked place o → IsClear marked place (least_or_none o)
+clear-least marked place None h = λ q t ge. let lt = h q t in absurd (omega (arith, lt, ge))
+clear-least marked place (Some b) h = λ q t ge. h.2 q t ge

@@ -23,7 +23,7 @@ use Rattle.card_verify.specs.Verifier.{method, world_of}
 use Rattle.card_verify.specs.Walk.{IsVerifier, HasSlices, IsLanded, IsMislanded, IsLeftWell, IsLeftWrong, IsFailing, IsStepped, IsVisited, IsStopped}
 use Rattle.card_verify.proofs.Landing.{no-cells}
 
-module _ (v : Verifier) (is : IsVerifier v) where
+module _ (v : Verifier) (marked : ℕ → Type 0) (is : IsVerifier v marked) where
   pub has-room : (regs stack : List Ty) (depth : ℕ) → HasSlices v regs stack → depth ≤ v.rec.now.max_stack
       → IsSomeAnd (slice_get (world_of v).methods v.number) (λ m. HasDeclaredLengths m regs stack depth)
   has-room regs stack depth slices le =
@@ -32,15 +32,17 @@ module _ (v : Verifier) (is : IsVerifier v) where
 
   module _ (i : Placed) (there : HasInstruction (method v).code i) (regs stack regs_after stack_after : List Ty) (depth : ℕ)
       (long : length stack_after ≡ v.rec.now.max_stack)
-      (suits : IsOpenTo (method v) i.place (cells stack depth)) where
+      (suits : IsOpenTo (method v) marked i.place (cells stack depth)) where
     pub fail-rule : (fault : RuleFault) → depth ≤ v.rec.now.max_stack → (regs_after ≡ regs) × (stack_after ≡ stack)
         → Refuses (world_of v) (record { method = v.number; place = i.place }) i.insn (frame_of regs stack depth) fault
-        → IsFailing v i regs (cells stack depth) regs_after stack_after (record { place = i.place; depth = depth; kind = Rule fault })
+        → IsFailing v marked i regs (cells stack depth) regs_after stack_after (record { place = i.place; depth = depth; kind = Rule fault })
     fail-rule fault le same refuses = record {
       place = refl;
-      wrong = subst (λ (xs : List Ty). IsWrong (world_of v) (method v) i (frame_of regs stack depth) (Rule fault) (frame_of xs stack_after depth)) (sym same.0)
-          (subst (λ (ys : List Ty). IsWrong (world_of v) (method v) i (frame_of regs stack depth) (Rule fault) (frame_of regs ys depth)) (sym same.1)
-          (wrong_rule fault suits (is.records.refuses (method v) i.place i.insn (frame_of regs stack depth) fault is.known refuses)));
+      wrong =
+          subst (λ (xs : List Ty). IsWrong (world_of v) (method v) marked i (frame_of regs stack depth) (Rule fault) (frame_of xs stack_after depth))
+          (sym same.0)
+          (subst (λ (ys : List Ty). IsWrong (world_of v) (method v) marked i (frame_of regs stack depth) (Rule fault) (frame_of regs ys depth))
+          (sym same.1) (wrong_rule fault suits (is.records.refuses (method v) i.place i.insn (frame_of regs stack depth) fault is.known refuses)));
       within = omega (arith, le, long);
     }
 
@@ -57,7 +59,7 @@ module _ (v : Verifier) (is : IsVerifier v) where
 
       pub stepped : IsLeftWell v i o.depth → length regs_after ≡ v.rec.now.nargs + v.rec.now.max_locals
           → MatchBool o.rose (sum_by (rises_left (world_of v).classes) regs_after < sum_by (rises_left (world_of v).classes) regs) (regs_after ≡ regs)
-          → IsStepped v i regs (cells stack depth) regs_after stack_after o
+          → IsStepped v marked i regs (cells stack depth) regs_after stack_after o
       stepped well count rises = record {
         passed =
             record {
@@ -73,11 +75,11 @@ module _ (v : Verifier) (is : IsVerifier v) where
         depth = shallow;
       }
 
-      failing : (kind : CardKind) → IsWrong (world_of v) (method v) i (frame_of regs stack depth) kind (frame_of regs_after stack_after o.depth)
-          → IsFailing v i regs (cells stack depth) regs_after stack_after (record { place = i.place; depth = o.depth; kind = kind })
+      failing : (kind : CardKind) → IsWrong (world_of v) (method v) marked i (frame_of regs stack depth) kind (frame_of regs_after stack_after o.depth)
+          → IsFailing v marked i regs (cells stack depth) regs_after stack_after (record { place = i.place; depth = o.depth; kind = kind })
       failing kind wrong = record { place = refl; wrong = wrong; within = let le = shallow in omega (arith, le, long) }
 
-      pub fail-left : (kind : CardKind) → IsLeftWrong v i o.depth kind → IsFailing v i regs (cells stack depth) regs_after stack_after
+      pub fail-left : (kind : CardKind) → IsLeftWrong v i o.depth kind → IsFailing v marked i regs (cells stack depth) regs_after stack_after
           (record { place = i.place; depth = o.depth; kind = kind })
       fail-left StackAtBranch h =
           failing StackAtBranch
@@ -102,15 +104,15 @@ module _ (v : Verifier) (is : IsVerifier v) where
   -- ---- what a visit comes to
 
   module _ (i : Placed) (arrival : Arrival) (place : ℕ) (here : place ≡ i.place) (regs stack : List Ty) where
-    pub landed-suits : (given : List Ty) → IsLanded v place arrival stack given → IsOpenTo (method v) i.place given
-    landed-suits given landed = subst (λ n. IsOpenTo (method v) n given) here landed.suits
+    pub landed-suits : (given : List Ty) → IsLanded v marked place arrival stack given → IsOpenTo (method v) marked i.place given
+    landed-suits given landed = subst (λ n. IsOpenTo (method v) marked n given) here landed.suits
 
-    pub landed-arrives : (given : List Ty) → IsLanded v place arrival stack given
+    pub landed-arrives : (given : List Ty) → IsLanded v marked place arrival stack given
         → Arrives (world_of v) (method v) arrival.may_fall (cells stack arrival.depth) i.place given
     landed-arrives given landed = subst (λ n. Arrives (world_of v) (method v) arrival.may_fall (cells stack arrival.depth) n given) here landed.arrives
 
-    pub stopped-landing : (stack_after : List Ty) (fault : CardFault) → fault.place ≡ place → IsMislanded v arrival stack stack_after fault
-        → IsStopped v i arrival regs stack regs stack_after fault
+    pub stopped-landing : (stack_after : List Ty) (fault : CardFault) → fault.place ≡ place → IsMislanded v marked arrival stack stack_after fault
+        → IsStopped v marked i arrival regs stack regs stack_after fault
     stopped-landing stack_after fault at mis =
         let same : fault.place ≡ i.place = at ∙ here in
         record {
@@ -120,13 +122,13 @@ module _ (v : Verifier) (is : IsVerifier v) where
           fails = record { place = same; wrong = mis.wrong i regs (sym same); within = mis.within };
         }
 
-    module _ (given regs_after stack_after : List Ty) (landed : IsLanded v place arrival stack given) where
-      pub visited : (r : Result Outcome CardFault) → IfOk r (λ o. IsStepped v i regs given regs_after stack_after o)
-          → IfOk r (λ o. IsVisited v i arrival regs stack regs_after stack_after o)
+    module _ (given regs_after stack_after : List Ty) (landed : IsLanded v marked place arrival stack given) where
+      pub visited : (r : Result Outcome CardFault) → IfOk r (λ o. IsStepped v marked i regs given regs_after stack_after o)
+          → IfOk r (λ o. IsVisited v marked i arrival regs stack regs_after stack_after o)
       visited (Ok o) s = record { given = given; arrives = landed-arrives given landed; stepped = s }
       visited (Err f) s = tt
 
-      pub stopped : (r : Result Outcome CardFault) → IfErr r (λ f. IsFailing v i regs given regs_after stack_after f)
-          → IfErr r (λ f. IsStopped v i arrival regs stack regs_after stack_after f)
+      pub stopped : (r : Result Outcome CardFault) → IfErr r (λ f. IsFailing v marked i regs given regs_after stack_after f)
+          → IfErr r (λ f. IsStopped v marked i arrival regs stack regs_after stack_after f)
       stopped (Ok o) s = tt
       stopped (Err f) s = record { given = given; arrives = landed-arrives given landed; fails = s }

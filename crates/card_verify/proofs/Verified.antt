@@ -1,48 +1,41 @@
 -- What the verifier over an index answers.
-use Rattle.std.proofs.Common.{◌≡◌, inr, ℕ, ◌+◌, ◌*◌, ◌≤◌, List, length, All, Result, Ok, Err, IsErr, OnOk, OnErr, IfErr, sum_by, refl}
+use Rattle.std.proofs.Common.{◌≡◌, inr, ℕ, ◌+◌, ◌*◌, ◌≤◌, List, length, All, Contains, Result, Ok, Err, IsErr, OnOk, OnErr, IfErr, refl}
 use Rattle.std.proofs.Common.{sym, ◌∙◌, ap, subst, arith}
 use Rattle.std.specs.Prelude.{ℤ, pos, negsuc}
 use Rattle.std.proofs.lemmas.List.Elements.{All-contains, All-weaker}
 use Rattle.jc_base.specs.Index.{IsAscending}
 use Rattle.jc_base.specs.declared.ty.Ty.{Ty}
-use Rattle.jc_base.specs.declared.ty.Ty.TheVariants.{Bottom}
-use Rattle.jc_base.specs.Class.{height}
-use Rattle.jc_base.specs.Order.{rises_left}
 use Rattle.jc_base.specs.World.{Linked}
-use Rattle.jc_base.proofs.Joins.{rises-bound}
 use Rattle.jc_base.proofs.Lists.{All-slice_get}
 use Rattle.jc_decode.specs.Listing.{listing, listing_end, targets}
-use Rattle.jc_control.specs.Method.{Method, IsMethodOf}
-use Rattle.jc_control.specs.WellFormed.{IsPlace, IsTargetPlace, IsHandlerOf, IsWellFormed}
-use Rattle.jc_control.specs.Laws.{InstructionsArePlaced}
 use Rattle.jc_decode.specs.Laws.{InstructionsAreListed}
-use Rattle.jc_rules.specs.Demand.{Frame}
-use Rattle.jc_rules.specs.Apply.{frame_of}
-use Rattle.jc_rules.specs.Flow.{start_frame}
-use Rattle.jc_rules.specs.Laws.{RuleRests}
-use Rattle.jc_control.specs.declared.flaw.Flaw.{Flaw}
-use Rattle.jc_control.specs.declared.flaw.Flaw.TheVariants as flaws
 use Rattle.jc_decode.specs.declared.insn.Placed.{Placed}
 use Rattle.jc_decode.proofs.Elements.{Contains-slice_get}
+use Rattle.jc_control.specs.Method.{Method, IsMethodOf}
+use Rattle.jc_control.specs.WellFormed.{IsPlace, IsTargetPlace, IsHandlerOf, IsWellFormed}
+use Rattle.jc_control.specs.declared.flaw.Flaw.{Flaw}
+use Rattle.jc_control.specs.declared.flaw.Flaw.TheVariants as flaws
+use Rattle.jc_rules.specs.Demand.{Frame}
+use Rattle.jc_rules.specs.Apply.{frame_of}
 use Rattle.card_typing.specs.declared.fault.CardFault.{CardFault}
 use Rattle.card_typing.specs.declared.fault.CardKind.{CardKind}
-use Rattle.card_typing.specs.Typing.{IsLeastCardTyping}
-use Rattle.card_typing.specs.Laws.{FlawsAreTold, QuietIsLeast}
-use Rattle.card_typing.specs.Refusal.{IsWrong, wrong_entry, wrong_room, wrong_target, wrong_rule, wrong_branch, wrong_end, refused_flaw, fault_of}
+use Rattle.card_typing.specs.Place.{IsTarget}
+use Rattle.card_typing.specs.Typing.{IsLeastOver, IsLeastCardTyping}
+use Rattle.card_typing.specs.Laws.{FlawsAreTold}
+use Rattle.card_typing.specs.Refusal.{IsWrong, wrong_entry, wrong_room, wrong_mark, wrong_rule, wrong_branch, wrong_end, IsRefusedAfter, refused_at}
+use Rattle.card_typing.specs.Refusal.{refused_flaw, fault_of}
 use Rattle.card_typing.proofs.Below.{fault-kind}
+use Rattle.card_typing.proofs.Fewer.{typing-fewer}
 use Rattle.card_verify.specs.Answers.{TellsFlaw}
-use Rattle.card_verify.specs.declared.indexed.Indexed.{Indexed}
+use Rattle.card_verify.specs.Counted.{instruction_count, most_passes, AreCountedBeside, AreCountedUpTo}
+use Rattle.card_verify.proofs.Costs.{whole-bound}
 use Rattle.card_verify.specs.declared.scan.Lacking.{Lacking}
-use Rattle.card_verify.specs.Bound.{AreCounted, AreCountedTo, AreCountedBy, entries_read, instruction_count, target_count, most_passes, step_bound}
-use Rattle.card_verify.specs.Indexed.{subject, world_in, listed}
+use Rattle.card_verify.specs.Bound.{AreCounted, AreCountedBy, entries_read, target_count, step_bound}
 use Rattle.card_verify.specs.IndexTyping.{IsIndex, HasIndexTyping}
+use Rattle.card_verify.specs.Lacking.{IsPlaceNumber, IsNotIndexed}
 use Rattle.card_verify.specs.OverIndex.{RefusalDeniesOver}
-use Rattle.card_verify.specs.Refusal.{IsListedTarget, LeadsToListed, IsFirstLacking, IsFormKind, IsWrongOver, wrong_over_entry, wrong_over_room}
-use Rattle.card_verify.specs.Refusal.{wrong_over_stack, wrong_over_open, IsRefusedOver, over_flaw, over_entry, over_target, over_state}
-use Rattle.card_verify.specs.IndexWalk.{IsFinishedOver, IsPlaceNumber, IsNotIndexed}
-use Rattle.card_verify.proofs.Clear.{plain, index-typing}
+use Rattle.card_verify.specs.Refusal.{IsListedTarget, LeadsToListed, IsFirstLacking, IsFormKind, IsRefusedOver, over_flaw, over_entry, over_target, over_state}
 use Rattle.card_verify.proofs.Denying.{no-bad, lacking-target}
-use Rattle.card_verify.proofs.Costs.{grow, most-rises, whole-bound}
 
 -- ---- the form of the method and the index
 
@@ -168,26 +161,23 @@ module _ (w : Linked) (m : Method) (index : List ℕ) where
   none-over regs stack (Err fault) denies mo h = denies m index fault (frame_of regs stack fault.depth) mo h
 
   -- where the method is well formed and the index is one of it, no refusal tells its form
-  wrong-never : (i : Placed) (before : Frame) (kind : CardKind) (kept : Frame) → IsWrong w m i before kind kept → ¬ (IsFormKind kind)
+  wrong-never : (i : Placed) (before : Frame) (kind : CardKind) (kept : Frame) → IsWrong w m (Contains index) i before kind kept → ¬ (IsFormKind kind)
   wrong-never i before _ _ (wrong_entry e f) h = h
   wrong-never i before _ _ (wrong_room e f n) h = h
-  wrong-never i before _ _ (wrong_target f t n d) h = h
+  wrong-never i before _ _ (wrong_mark f t n d) h = h
   wrong-never i before _ _ (wrong_rule fault s r) h = h
   wrong-never i before _ _ (wrong_branch after o s a j d) h = h
   wrong-never i before _ _ (wrong_end after o s a j f e) h = h
 
-  over-never : (i : Placed) (before : Frame) (kind : CardKind) (kept : Frame) → IsWrongOver w m index i before kind kept → ¬ (IsFormKind kind)
-  over-never i before _ _ (wrong_over_entry e f) h = h
-  over-never i before _ _ (wrong_over_room e f n) h = h
-  over-never i before _ _ (wrong_over_stack f l n d) h = h
-  over-never i before _ _ (wrong_over_open kind kept suits wrong) h = wrong-never i before kind kept wrong h
+  state-never : (visits : ℕ) (fault : CardFault) (kept : Frame) → IsRefusedAfter w m (Contains index) visits fault kept → ¬ (IsFormKind fault.kind)
+  state-never visits _ _ (refused_at i before kept kind there met wrong) h = wrong-never i before kind kept wrong h
 
   form-never : (fault : CardFault) (kept : Frame) → FlawsAreTold w → IsWellFormed m → IsIndex m index → IsRefusedOver w m index fault kept
       → ¬ (IsFormKind fault.kind)
   form-never _ _ told formed whole (over_flaw flaw kept first) h = (told m (fault_of flaw) kept (refused_flaw flaw kept first)).0 (fault-kind flaw) formed
   form-never _ _ told formed whole (over_entry k kept f first) h = no-bad m index whole.ascending whole.places k first.bad
   form-never _ _ told formed whole (over_target place q kept f up places first) h = first.lacks.fails (whole.complete q (lacking-target m index place q first))
-  form-never _ _ told formed whole (over_state i before kept kind f is there met wrong) h = over-never i before kind kept wrong h
+  form-never _ _ told formed whole (over_state fault kept f is state) h = state-never state.visits fault kept state.after h
 
   pub kept-over : (regs stack : List Ty) (r : Result (Unit {0}) CardFault) (P : Type 0) → FlawsAreTold w → IsWellFormed m → IsIndex m index
       → IfErr r (λ (fault : CardFault). IsRefusedOver w m index fault (frame_of regs stack fault.depth))
@@ -200,24 +190,28 @@ module _ (w : Linked) (m : Method) (index : List ℕ) where
   pub bound-whole : (b : ℕ) → length index + target_count m * b + most_passes w m * (instruction_count m * (b + 1)) ≡ step_bound w m (length index) b
   bound-whole b = whole-bound (most_passes w m) (instruction_count m) (target_count m) b (length index)
 
-  pub passes-within : (regs : List Ty) (u : ℕ) → length regs ≡ m.rec.nargs + m.rec.max_locals
-      → (1 + sum_by (rises_left w.classes) regs) * u ≤ most_passes w m * u
-  passes-within regs u count =
-      let most = most-rises w.classes regs (rises-bound w.classes) in
-      let same : length regs * (height w.classes + 3) ≡ (m.rec.nargs + m.rec.max_locals) * (height w.classes + 3) = ap (λ n. n * (height w.classes + 3))
-      count in
-      grow (1 + sum_by (rises_left w.classes) regs) (most_passes w m) u (omega (arith, most, same))
-
 -- ---- the typing
 
-module _ (x : Indexed) (mo : IsMethodOf (world_in x) (subject x)) (formed : IsWellFormed (subject x)) (quiet_is_least : QuietIsLeast (world_in x)) where
-  pub finished-least : (regs : List Ty) → IsFinishedOver x regs → IsLeastCardTyping (world_in x) (subject x) regs
-  finished-least regs f = quiet_is_least (subject x) regs mo formed f.met (plain (world_in x) (subject x) (listed x) regs _ _ _ f.quiet)
+module _ (w : Linked) (m : Method) (index : List ℕ) (whole : IsIndex m index) (regs : List Ty) (least : IsLeastOver w m (Contains index) regs) where
+  pub typed-over : HasIndexTyping w m index
+  typed-over = record { regs = regs; stacks = least.stacks; typing = record { typing = least.typing; indexed = whole } }
 
-  pub finished-typing : RuleRests (world_in x) → InstructionsArePlaced → InstructionsAreListed → IsIndex (subject x) (listed x) → (regs : List Ty)
-      → IsFinishedOver x regs → HasIndexTyping (world_in x) (subject x) (listed x)
-  finished-typing rests placed ordered whole regs f =
-      index-typing (world_in x) rests placed ordered (subject x) (listed x) regs mo formed whole (finished-least regs f) f.quiet
+  pub least-over : IsLeastCardTyping w m regs
+  least-over = record {
+    stacks = least.stacks;
+    typing = typing-fewer w m (Contains index) (IsTarget m) whole.complete regs least.stacks least.typing;
+    least = least.least;
+  }
+
+-- a refusal of the types
+pub refused-over :
+    (w : Linked) (m : Method) (index : List ℕ) (regs stack : List Ty) (before after : ℕ) → IsWellFormed m → IsIndex m index
+    → (r : Result (Unit {0}) CardFault)
+    → IfErr r (λ (fault : CardFault). AreCountedUpTo w m (Contains index) fault (frame_of regs stack fault.depth) 0 before after)
+    → IfErr r (λ (fault : CardFault). IsRefusedOver w m index fault (frame_of regs stack fault.depth))
+refused-over w m index regs stack before after formed whole (Ok t) h = tt
+refused-over w m index regs stack before after formed whole (Err fault) h =
+    over_state fault (frame_of regs stack fault.depth) formed whole (record { visits = h.visits; after = h.refused })
 
 -- ---- answers
 
@@ -238,25 +232,15 @@ pub read-by : (entries most before after : ℕ) (r : Result (Unit {0}) CardFault
 read-by entries most before after (Ok t) read few = tt
 read-by entries most before after (Err fault) read few = omega (arith, read, few)
 
-pub counted-of : (m : Method) (regs begun : List Ty) (before after : ℕ) (r : Result (Unit {0}) CardFault) → begun ≡ (start_frame m.rec Bottom).regs
-    → OnOk r (before + instruction_count m ≤ after)
-    → OnOk r (¬ (regs ≡ begun) → before + 2 * instruction_count m ≤ after) → OnOk r (AreCounted m 0 regs before after)
-counted-of m regs begun before after (Ok t) start once twice =
-    record { once = omega (arith, once); twice = λ other. let paid = twice (λ same. other (same ∙ start)) in omega (arith, paid) }
-counted-of m regs begun before after (Err fault) start once twice = tt
-
 -- once each entry of the index was read
-module _ (m : Method) (entries sooner before after : ℕ) (read : sooner + entries ≤ before) where
-  pub counted-sooner : (regs : List Ty) (r : Result (Unit {0}) CardFault) → OnOk r (AreCounted m 0 regs before after)
-      → OnOk r (AreCounted m entries regs sooner after)
-  counted-sooner regs (Ok t) c =
-      record { once = let old = c.once in omega (arith, read, old); twice = λ other. let old = c.twice other in omega (arith, read, old) }
+module _ (w : Linked) (m : Method) (index : List ℕ) (sooner before after : ℕ) (read : sooner + length index ≤ before) where
+  pub counted-sooner : (regs : List Ty) (r : Result (Unit {0}) CardFault) → OnOk r (AreCountedBeside w m (Contains index) regs 0 before after)
+      → OnOk r (AreCounted w m index regs sooner after)
+  counted-sooner regs (Ok t) c = record { passes = c.passes; are = c.are; left = c.left; counted = let old = c.counted in omega (arith, read, old) }
   counted-sooner regs (Err fault) c = tt
 
-  to-sooner : (place : ℕ) → AreCountedTo m 0 place before after → AreCountedTo m entries place sooner after
-  to-sooner place c = record { here = c.here; at = c.at; number = c.number; stands = c.stands; counted = let old = c.counted in omega (arith, read, old) }
-
-  pub counted-by-state : (r : Result (Unit {0}) CardFault) → IfErr r (λ (fault : CardFault). AreCountedTo m 0 fault.place before after)
-      → IfErr r (AreCountedBy m entries sooner after)
-  counted-by-state (Ok t) c = tt
-  counted-by-state (Err fault) c = inr (to-sooner fault.place c)
+  pub counted-by-state : (regs stack : List Ty) (r : Result (Unit {0}) CardFault)
+      → IfErr r (λ (fault : CardFault). AreCountedUpTo w m (Contains index) fault (frame_of regs stack fault.depth) 0 before after)
+      → IfErr r (λ (fault : CardFault). AreCountedBy w m index sooner after fault (frame_of regs stack fault.depth))
+  counted-by-state regs stack (Ok t) c = tt
+  counted-by-state regs stack (Err fault) c = inr (record { visits = c.visits; refused = c.refused; counted = let old = c.counted in omega (arith, read, old) })

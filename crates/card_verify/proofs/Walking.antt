@@ -1,6 +1,6 @@
 -- A walk comes from one place to the next, and to the end.
-use Rattle.std.proofs.Common.{◌≡◌, ℕ, ◌+◌, ◌<◌, ◌≤◌, ⊎_elim, Bool, true, false, ◌||◌, List, [], ◌∷◌, ◌++◌, length}
-use Rattle.std.proofs.Common.{MatchBool, Contains, sum_by, refl, sym, ◌∙◌, ap, subst, arith, append_assoc}
+use Rattle.std.proofs.Common.{◌≡◌, ℕ, zero, suc, ◌+◌, ◌<◌, ◌≤◌, ⊎_elim, Bool, true, false, ◌||◌, List, [], ◌∷◌, ◌++◌}
+use Rattle.std.proofs.Common.{length, MatchBool, Contains, sum_by, refl, sym, ◌∙◌, ap, subst, arith, append_assoc}
 use Rattle.std.proofs.lemmas.Bool.{false≢true, cases_lt}
 use Rattle.std.proofs.lemmas.List.{append-nil}
 use Rattle.std.proofs.lemmas.List.Elements.{Contains-append_right}
@@ -19,15 +19,15 @@ use Rattle.jc_rules.specs.Stack.{cells}
 use Rattle.jc_rules.specs.Apply.{frame_of}
 use Rattle.jc_rules.proofs.Stacks.{length-cells}
 use Rattle.card_typing.specs.declared.fault.CardFault.{CardFault}
-use Rattle.card_typing.specs.Place.{IsFallenInto, fallen_first, fallen_from}
-use Rattle.card_typing.specs.Met.{Arrives, arrives_falling, arrives_empty, arrives_caught, arrives_full, IsPassed, GoesTo, goes_there, goes_again, IsMet}
+use Rattle.card_typing.specs.Place.{IsEntry, IsFallenInto, fallen_first, fallen_from}
+use Rattle.card_typing.specs.Met.{Arrives, arrives_falling, arrives_empty, arrives_caught, arrives_full, IsPassed, GoesTo, goes_there, goes_again, IsMetAfter}
 use Rattle.card_typing.specs.Met.{met_next}
-use Rattle.card_typing.specs.Refusal.{IsRefused, refused_state}
+use Rattle.card_typing.specs.Refusal.{IsRefusedAfter, refused_at}
 use Rattle.card_typing.specs.Pass.{IsQuiet, quiet_end, quiet_more}
 use Rattle.card_verify.specs.declared.verifier.Verifier.{Verifier}
 use Rattle.card_verify.specs.declared.pass.Arrival.{Arrival}
 use Rattle.card_verify.specs.Verifier.{method, world_of}
-use Rattle.card_verify.specs.Walk.{IsVerifier, IsComing, IsVisited, IsStopped, CanBeginPass, IsRaisedBy, IsSettled, IsProgress}
+use Rattle.card_verify.specs.Walk.{IsVerifier, IsComing, IsVisited, IsStopped, CanPass, CanBeginPass, IsPassedOver, HasLessLeft, IsSettled, IsProgress}
 
 -- ---- lists of instructions
 
@@ -78,109 +78,121 @@ again-arrives w m b given _ q e (arrives_empty free t) = absurd (false≢true (s
 again-arrives w m b given _ q e (arrives_caught c entry room catches) = arrives_caught c entry room catches
 again-arrives w m b given _ q e (arrives_full entry none) = arrives_full entry none
 
-module _ (v : Verifier) (is : IsVerifier v) where
+module _ (v : Verifier) (marked : ℕ → Type 0) (is : IsVerifier v marked) where
   abbrev m : Method
   m = method v
 
-  pub coming-first : (arrival : Arrival) (regs stack : List Ty) → arrival.may_fall ≡ true → arrival.depth ≡ 0 → cells stack arrival.depth ≡ []
-      → CanBeginPass v regs stack → IsComing v 0 arrival regs stack
-  coming-first arrival regs stack falling none empty begun = record {
+  pub coming-first : (visits : ℕ) (arrival : Arrival) (regs stack : List Ty) → arrival.may_fall ≡ true → arrival.depth ≡ 0
+      → cells stack arrival.depth ≡ [] → CanBeginPass v marked visits regs stack → IsComing v marked visits 0 arrival regs stack
+  coming-first visits arrival regs stack falling none empty begun = record {
     met = λ q given goes a. by q given goes (subst (λ (s : List Ty). Arrives (world_of v) m arrival.may_fall s q given) empty a);
     fallen = subst (λ (b : Bool). MatchBool b (IsFallenInto m 0) (¬ (IsFallenInto m 0))) (sym falling) fallen_first;
     inside = λ e. is.known.filled;
+    begins = λ lt. absurd (omega (arith, lt));
     slices = begun.slices;
     depth = omega (arith, none);
   }
     where
       by : (q : ℕ) (given : List Ty) → GoesTo m 0 q → Arrives (world_of v) m arrival.may_fall [] q given
-          → IsMet (world_of v) m q (record { regs = regs; stack = given })
+          → IsMetAfter (world_of v) m marked visits q (record { regs = regs; stack = given })
       by _ given (goes_there lt) a = begun.met given (subst (λ (b : Bool). Arrives (world_of v) m b [] 0 given) falling a)
       by _ given (goes_again e) a = begun.met given (subst (λ (b : Bool). Arrives (world_of v) m b [] 0 given) falling a)
 
+  -- no handler begins at a place to which control falls
+  begins-here : (i : Placed) (before : Arrival) (regs stack regs_after stack_after : List Ty) (o : Outcome)
+      → IsVisited v marked i before regs stack regs_after stack_after o → (¬ (i.place ≡ 0) → ¬ (IsEntry m 0)) → ¬ (IsEntry m 0)
+  begins-here i before regs stack regs_after stack_after o visited later entry =
+      ⊎_elim (λ lt. first (omega (arith, lt))) (λ le. later (λ e. absurd (omega (arith, le, e))) entry) (cases_lt i.place 1)
+    where
+      first : i.place ≡ 0 → ⊥
+      first e = (visited.stepped.passed.suits.entry (subst (IsEntry m) (sym e) entry)).0 (subst (IsFallenInto m) (sym e) fallen_first)
+
   pub coming-next :
-      (i : Placed) (there : HasInstruction m.code i) (before after : Arrival) (regs stack regs_after stack_after : List Ty) (o : Outcome)
+      (i : Placed) (there : HasInstruction m.code i) (visits : ℕ) (before after : Arrival) (regs stack regs_after stack_after : List Ty) (o : Outcome)
       → after.may_fall ≡ falls i.insn.op
       → after.depth ≡ o.depth
-      → IsComing v i.place before regs stack
-      → IsVisited v i before regs stack regs_after stack_after o
-      → IsComing v (i.place + i.insn.len) after regs_after stack_after
-  coming-next i there before after regs stack regs_after stack_after o falling deep coming visited =
+      → IsComing v marked visits i.place before regs stack
+      → IsVisited v marked i before regs stack regs_after stack_after o
+      → IsComing v marked (suc visits) (i.place + i.insn.len) after regs_after stack_after
+  coming-next i there visits before after regs stack regs_after stack_after o falling deep coming visited =
       let s = visited.stepped in
       record {
         met = λ q given goes a.
-            met_next i q (record { regs = regs; stack = visited.given }) (frame_of regs_after stack_after o.depth) o given
+            met_next visits i q (record { regs = regs; stack = visited.given }) (frame_of regs_after stack_after o.depth) o given
             (coming.met i.place visited.given (goes_there (inside m (is.order m.code) i there)) visited.arrives) s.passed goes
             (subst (λ (b : Bool). Arrives (world_of v) m b (cells stack_after o.depth) q given) falling
             (subst (λ (n : ℕ). Arrives (world_of v) m after.may_fall (cells stack_after n) q given) deep a));
         fallen = fallen-after m (is.order m.code) i there after.may_fall (sym falling);
         inside = λ e. s.passed.goes_on (sym falling ∙ e);
+        begins = λ lt. begins-here i before regs stack regs_after stack_after o visited (λ other. coming.begins (positive i.place other));
         slices = s.slices;
         depth = subst (λ n. n ≤ v.rec.now.max_stack) (sym deep) s.depth;
       }
+    where
+      positive : (n : ℕ) → ¬ (n ≡ 0) → 0 < n
+      positive zero other = absurd (other refl)
+      positive (suc n) other = omega arith
 
   -- at the end of the code nothing falls through
-  never-falls : (at : ℕ) (arrival : Arrival) (regs stack : List Ty) → at ≡ length m.code → IsComing v at arrival regs stack → (b : Bool)
-      → arrival.may_fall ≡ b → b ≡ false
-  never-falls at arrival regs stack end coming true e = absurd (omega (arith, coming.inside e, end))
-  never-falls at arrival regs stack end coming false e = refl
+  never-falls : (visits at : ℕ) (arrival : Arrival) (regs stack : List Ty) → at ≡ length m.code → IsComing v marked visits at arrival regs stack
+      → (b : Bool) → arrival.may_fall ≡ b → b ≡ false
+  never-falls visits at arrival regs stack end coming true e = absurd (omega (arith, coming.inside e, end))
+  never-falls visits at arrival regs stack end coming false e = refl
 
-  pub begun-again : (at : ℕ) (arrival : Arrival) (regs stack : List Ty) → at ≡ length m.code → IsComing v at arrival regs stack
-      → CanBeginPass v regs stack
-  begun-again at arrival regs stack end coming = record {
+  pub begun-again : (visits at : ℕ) (arrival : Arrival) (regs stack : List Ty) → at ≡ length m.code → IsComing v marked visits at arrival regs stack
+      → CanBeginPass v marked visits regs stack
+  begun-again visits at arrival regs stack end coming = record {
     met = λ given a. coming.met 0 given (goes_again end)
         (again-arrives (world_of v) m arrival.may_fall (cells stack arrival.depth) given 0
-        (never-falls at arrival regs stack end coming arrival.may_fall refl) a);
+        (never-falls visits at arrival regs stack end coming arrival.may_fall refl) a);
     slices = coming.slices;
   }
 
   -- what is wrong at a place to which a walk has come
-  pub refused-at :
-      (i : Placed) (there : HasInstruction m.code i) (arrival : Arrival) (regs stack regs_after stack_after : List Ty) (fault : CardFault)
-      → IsComing v i.place arrival regs stack
-      → IsStopped v i arrival regs stack regs_after stack_after fault
-      → IsRefused (world_of v) m fault (frame_of regs_after stack_after fault.depth)
-  refused-at i there arrival regs stack regs_after stack_after fault coming stopped =
+  pub refused-here :
+      (i : Placed) (there : HasInstruction m.code i) (visits : ℕ) (arrival : Arrival) (regs stack regs_after stack_after : List Ty) (fault : CardFault)
+      → IsComing v marked visits i.place arrival regs stack
+      → IsStopped v marked i arrival regs stack regs_after stack_after fault
+      → IsRefusedAfter (world_of v) m marked visits fault (frame_of regs_after stack_after fault.depth)
+  refused-here i there visits arrival regs stack regs_after stack_after fault coming stopped =
       let f = stopped.fails in
       let deep = sym (length-cells stack_after fault.depth f.within) in
       let met = coming.met i.place stopped.given (goes_there (inside m (is.order m.code) i there)) stopped.arrives in
       let same : record { place = i.place; depth = length (cells stack_after fault.depth); kind = fault.kind } ≡ fault =
       ap (λ (n : ℕ). record { place = n; depth = length (cells stack_after fault.depth); kind = fault.kind }) (sym f.place)
       ∙ ap (λ (n : ℕ). record { place = fault.place; depth = n; kind = fault.kind }) (sym deep) in
-      subst (λ (g : CardFault). IsRefused (world_of v) m g (frame_of regs_after stack_after fault.depth)) same
-      (refused_state i (record { regs = regs; stack = stopped.given }) (frame_of regs_after stack_after fault.depth) fault.kind is.formed there met f.wrong)
+      subst (λ (g : CardFault). IsRefusedAfter (world_of v) m marked visits g (frame_of regs_after stack_after fault.depth)) same
+      (refused_at i (record { regs = regs; stack = stopped.given }) (frame_of regs_after stack_after fault.depth) fault.kind there met f.wrong)
 
   -- ---- what a pass has done so far
 
-  less : List Ty → ℕ
-  less regs = sum_by (rises_left (world_of v).classes) regs
-
-  pub progress-first : (begun given : List Ty) → given ≡ [] → IsProgress v begun false begun true given []
+  pub progress-first : (begun given : List Ty) → given ≡ [] → IsProgress v marked begun false begun true given []
   progress-first begun given e = (
     refl,
-    λ rest whole q. subst (λ (xs : List Placed). IsQuiet (world_of v) m begun true [] xs) whole
-        (subst (λ (s : List Ty). IsQuiet (world_of v) m begun true s rest) e q),
+    λ rest whole q. subst (λ (xs : List Placed). IsQuiet (world_of v) m marked begun true [] xs) whole
+        (subst (λ (s : List Ty). IsQuiet (world_of v) m marked begun true s rest) e q),
   )
 
   pub progress-next :
       (begun : List Ty) (rose : Bool) (i : Placed) (yielded : List Placed) (before : Arrival) (regs stack regs_after stack_after : List Ty) (o : Outcome)
-      → IsProgress v begun rose regs before.may_fall (cells stack before.depth) yielded
-      → IsVisited v i before regs stack regs_after stack_after o
-      → IsProgress v begun (rose || o.rose) regs_after (falls i.insn.op) (cells stack_after o.depth) (yielded ++ i ∷ [])
+      → IsProgress v marked begun rose regs before.may_fall (cells stack before.depth) yielded
+      → IsVisited v marked i before regs stack regs_after stack_after o
+      → IsProgress v marked begun (rose || o.rose) regs_after (falls i.insn.op) (cells stack_after o.depth) (yielded ++ i ∷ [])
   progress-next begun rose i yielded before regs stack regs_after stack_after o progress visited =
       by rose o.rose progress visited.stepped.rises
     where
-      by : (a b : Bool) → IsProgress v begun a regs before.may_fall (cells stack before.depth) yielded
+      by : (a b : Bool) → IsProgress v marked begun a regs before.may_fall (cells stack before.depth) yielded
           → MatchBool b (sum_by (rises_left (world_of v).classes) regs_after < sum_by (rises_left (world_of v).classes) regs) (regs_after ≡ regs)
-          → IsProgress v begun (a || b) regs_after (falls i.insn.op) (cells stack_after o.depth) (yielded ++ i ∷ [])
+          → IsProgress v marked begun (a || b) regs_after (falls i.insn.op) (cells stack_after o.depth) (yielded ++ i ∷ [])
       by true true p r = omega (arith, p, r)
       by true false p r = subst (λ (xs : List Ty). sum_by (rises_left (world_of v).classes) xs < sum_by (rises_left (world_of v).classes) begun) (sym r) p
       by false true p r = subst (λ (xs : List Ty). sum_by (rises_left (world_of v).classes) regs_after < sum_by (rises_left (world_of v).classes) xs) p.0 r
       by false false p r =
           let passed = subst
-          (λ (xs : List Ty). IsPassed (world_of v) m i (record { regs = xs; stack = visited.given })
+          (λ (xs : List Ty). IsPassed (world_of v) m marked i (record { regs = xs; stack = visited.given })
           (record { regs = xs; stack = cells stack_after o.depth }) o) p.0
           (subst
-          (λ (xs : List Ty). IsPassed (world_of v) m i (record { regs = regs; stack = visited.given })
+          (λ (xs : List Ty). IsPassed (world_of v) m marked i (record { regs = regs; stack = visited.given })
           (record { regs = xs; stack = cells stack_after o.depth }) o) r visited.stepped.passed) in (
             r ∙ p.0,
             λ rest whole q.
@@ -189,20 +201,33 @@ module _ (v : Verifier) (is : IsVerifier v) where
           )
 
   pub pass-done :
-      (begun : List Ty) (rose : Bool) (yielded : List Placed) (arrival : Arrival) (regs stack : List Ty)
+      (begun : List Ty) (rose : Bool) (yielded : List Placed) (may_fall : Bool) (regs given : List Ty)
       → yielded ≡ listing m.code
-      → IsComing v (end_from 0 yielded) arrival regs stack
-      → IsProgress v begun rose regs arrival.may_fall (cells stack arrival.depth) yielded
-      → MatchBool rose (IsRaisedBy v begun regs stack) (IsSettled v begun regs)
-  pass-done begun rose yielded arrival regs stack whole coming progress = by rose progress
-    where
-      end : end_from 0 yielded ≡ length m.code
-      end = ap (end_from 0) whole ∙ is.formed.ends
+      → IsProgress v marked begun rose regs may_fall given yielded
+      → MatchBool rose (HasLessLeft v begun regs) (IsSettled v marked begun regs)
+  pass-done begun true yielded may_fall regs given whole p = p
+  pass-done begun false yielded may_fall regs given whole p = record { same = p.0; quiet = p.1 [] (append-nil yielded ∙ whole) (quiet_end may_fall given) }
 
-      by : (b : Bool) → IsProgress v begun b regs arrival.may_fall (cells stack arrival.depth) yielded
-          → MatchBool b (IsRaisedBy v begun regs stack) (IsSettled v begun regs)
-      by true p = record { less = p; again = begun-again (end_from 0 yielded) arrival regs stack end coming }
-      by false p = record { same = p.0; quiet = p.1 [] (append-nil yielded ∙ whole) (quiet_end arrival.may_fall (cells stack arrival.depth)) }
+  -- a pass comes to the end of the code, and begins again
+  pub passed-over :
+      (begun lent : List Ty) (yielded : List Placed) (arrival : Arrival) (regs stack : List Ty)
+      → yielded ≡ listing m.code
+      → ((visits : ℕ) → CanBeginPass v marked visits begun lent → IsComing v marked (visits + length yielded) (end_from 0 yielded) arrival regs stack)
+      → IsPassedOver v marked begun lent regs stack
+  passed-over begun lent yielded arrival regs stack whole coming = λ visits begins.
+      let end : end_from 0 yielded ≡ length m.code = ap (end_from 0) whole ∙ is.formed.ends in
+      subst (λ (n : ℕ). CanBeginPass v marked (visits + n) regs stack) (ap length whole)
+      (begun-again (visits + length yielded) (end_from 0 yielded) arrival regs stack end (coming visits begins))
+
+  pub passed-begins :
+      (begun lent : List Ty) (yielded : List Placed) (arrival : Arrival) (regs stack : List Ty)
+      → yielded ≡ listing m.code
+      → CanPass v marked begun lent
+      → ((visits : ℕ) → CanBeginPass v marked visits begun lent → IsComing v marked (visits + length yielded) (end_from 0 yielded) arrival regs stack)
+      → ¬ (IsEntry m 0)
+  passed-begins begun lent yielded arrival regs stack whole can coming =
+      let end : end_from 0 yielded ≡ length m.code = ap (end_from 0) whole ∙ is.formed.ends in
+      (coming can.0 can.1).begins (omega (arith, end, is.known.filled))
 
   -- where the next instruction stands
   pub next-place : (yielded rest : List Placed) (i : Placed) (after : List Placed) → yielded ++ rest ≡ listing m.code → rest ≡ i ∷ after
@@ -217,8 +242,10 @@ module _ (v : Verifier) (is : IsVerifier v) where
       (Contains-append_right yielded (i ∷ after) i (0, omega arith, refl))
 
   -- the types of the state that is met
-  pub known-here : (i : Placed) → HasInstruction m.code i → (arrival : Arrival) (regs stack given : List Ty) → IsComing v i.place arrival regs stack
+  pub known-here : (i : Placed) → HasInstruction m.code i → (visits : ℕ) (arrival : Arrival) (regs stack given : List Ty)
+      → IsComing v marked visits i.place arrival regs stack
       → Arrives (world_of v) m arrival.may_fall (cells stack arrival.depth) i.place given
       → AreKnown (world_of v).classes (record { regs = regs; stack = given })
-  known-here i there arrival regs stack given coming a =
-      (is.sound m i.place (record { regs = regs; stack = given }) is.known (coming.met i.place given (goes_there (inside m (is.order m.code) i there)) a)).known
+  known-here i there visits arrival regs stack given coming a =
+      (is.sound i.place (record { regs = regs; stack = given })
+      (record { visits = visits; after = coming.met i.place given (goes_there (inside m (is.order m.code) i there)) a })).known

@@ -2,7 +2,7 @@
 use Rattle.std.specs.Prelude.{ℕ, ◌<◌, ◌≤◌, ℤ, pos, negsuc, Bool, true, ◌&&◌, nat_lt, nat_le, if◌then◌else◌, Option}
 use Rattle.std.specs.Prelude.{Some, None}
 use Rattle.jc_control.specs.Method.{Method}
-use Rattle.card_typing.specs.Place.{IsTarget, IsEntry}
+use Rattle.card_typing.specs.Place.{IsEntry}
 use Rattle.card_verify.specs.declared.ahead.Ahead.{Ahead}
 
 -- the least member of a set from a number on, where there is one
@@ -10,18 +10,18 @@ abbrev pub IsLeastFrom : (ℕ → Type 0) → ℕ → Option ℕ → Type 0
 IsLeastFrom S from None = (q : ℕ) → S q → q < from
 IsLeastFrom S from (Some least) = S least × (from ≤ least) × ((q : ℕ) → S q → from ≤ q → least ≤ q)
 
--- no target from a place on lies before another
-abbrev pub IsClear : Method → ℕ → ℕ → Type 0
-IsClear m from clear = (q : ℕ) → IsTarget m q → from ≤ q → clear ≤ q
+-- no marked place from a place on lies before another
+abbrev pub IsClear : (ℕ → Type 0) → ℕ → ℕ → Type 0
+IsClear marked from clear = (q : ℕ) → marked q → from ≤ q → clear ≤ q
 
 -- what is known of the places from one on
-pub record IsKnownAhead (m : Method) (a : Ahead) : Type 0 where
+pub record IsKnownAhead (m : Method) (marked : ℕ → Type 0) (a : Ahead) : Type 0 where
   pub entry : IsLeastFrom (IsEntry m) a.from a.entry
-  pub clear : IsClear m a.from a.clear
+  pub clear : IsClear marked a.from a.clear
 
--- with so many cells left on the stack it is known whether the first of them is a target
-abbrev pub IsTargetKnown : Method → Ahead → ℕ → Type 0
-IsTargetKnown m a left = 0 < left → a.clear ≤ a.from → IsTarget m a.from
+-- with so many cells left on the stack it is known whether the first of them is marked
+abbrev pub IsMarkKnown : (ℕ → Type 0) → Ahead → ℕ → Type 0
+IsMarkKnown marked a left = 0 < left → a.clear ≤ a.from → marked a.from
 
 -- ---- as it is computed
 

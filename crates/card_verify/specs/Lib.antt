@@ -1,13 +1,12 @@
 pub mod Verifier
 pub mod Ahead
+pub mod Counted
 pub mod Walk
 pub mod Answers
 pub mod IndexTyping
-pub mod Met
 pub mod Refusal
-pub mod Pass
 pub mod Indexed
-pub mod IndexWalk
+pub mod Lacking
 pub mod Seeking
 pub mod Room
 pub mod Counting

@@ -1,25 +1,20 @@
 -- Why the verifier on the card refuses a method over a target index (Leroy 2002, section 3).
-use Rattle.std.specs.Prelude.{◌≡◌, ◌≢◌, ◌⊎◌, ℕ, ℤ, pos, negsuc, ◌+◌, ◌<◌, ◌≤◌, List, [], Some, All}
-use Rattle.std.specs.Prelude.{slice_get, Contains, ⊤}
+use Rattle.std.specs.Prelude.{◌≡◌, ℕ, ℤ, pos, negsuc, ◌+◌, ◌<◌, ◌≤◌, List, Some, All, slice_get, Contains, ⊤}
 use Rattle.jc_base.specs.Index.{IsAscending}
 use Rattle.jc_base.specs.World.{Linked}
 use Rattle.jc_decode.specs.declared.insn.Placed.{Placed}
 use Rattle.jc_decode.specs.Listing.{listing, targets}
-use Rattle.jc_ops.specs.declared.fault.RuleFault.TheVariants.{Overflow}
 use Rattle.jc_control.specs.Method.{Method}
-use Rattle.jc_control.specs.WellFormed.{HasInstruction, IsPlace, IsWellFormed}
+use Rattle.jc_control.specs.WellFormed.{IsPlace, IsWellFormed}
 use Rattle.jc_control.specs.FirstFailing.{IsFirstFailing}
 use Rattle.jc_control.specs.Flaw.{IsFirstFlaw}
 use Rattle.jc_control.specs.declared.flaw.Flaw.{Flaw}
 use Rattle.jc_rules.specs.Demand.{Frame}
 use Rattle.card_typing.specs.declared.fault.CardFault.{CardFault}
 use Rattle.card_typing.specs.declared.fault.CardKind.{CardKind}
-use Rattle.card_typing.specs.declared.fault.CardKind.TheVariants.{Code, Rule, StackAtTarget, HandlerEntered, BadTarget, BadHandler}
-use Rattle.card_typing.specs.declared.fault.CardKind.TheVariants.{BadIndex, NotIndexed}
-use Rattle.card_typing.specs.Place.{IsEntry, IsFallenInto}
-use Rattle.card_typing.specs.Refusal.{IsWrong, fault_of, fault_at}
+use Rattle.card_typing.specs.declared.fault.CardKind.TheVariants.{Code, BadTarget, BadHandler, BadIndex, NotIndexed}
+use Rattle.card_typing.specs.Refusal.{IsRefusedState, fault_of}
 use Rattle.card_verify.specs.IndexTyping.{IsIndex}
-use Rattle.card_verify.specs.Met.{IsOpenOver, IsMetOver}
 
 -- ---- what is wrong with an index
 
@@ -51,33 +46,7 @@ pub record IsFirstLacking (code index : List ℕ) (place : ℕ) (target : ℤ) :
   pub target_number : ℕ
   pub lacks : IsFirstFailing (IsListedTarget index) (targets code from) target_number target
 
--- ---- what is wrong with a state
-
--- What is wrong first at an instruction with a frame over the index, and the frame that is kept. A handler begins at the
--- place, which is fallen into or listed; or there is no room for the object that it catches; a listed place is fallen into
--- with cells on the stack; and where the place may have the stack, what is wrong without the index: the rule refuses, a
--- branch or switch leaves cells on the stack, the last instruction falls through.
-pub data IsWrongOver (w : Linked) (m : Method) (index : List ℕ) (i : Placed) (before : Frame) : CardKind → Frame → Type 0 where
-  wrong_over_entry :
-      IsEntry m i.place
-      → IsFallenInto m i.place ⊎ Contains index i.place
-      → IsWrongOver w m index i before HandlerEntered before
-  wrong_over_room :
-      IsEntry m i.place
-      → ¬ (IsFallenInto m i.place ⊎ Contains index i.place)
-      → m.rec.max_stack ≡ 0
-      → IsWrongOver w m index i before (Rule Overflow) before
-  wrong_over_stack :
-      ¬ (IsEntry m i.place)
-      → Contains index i.place
-      → IsFallenInto m i.place
-      → before.stack ≢ []
-      → IsWrongOver w m index i before StackAtTarget before
-  wrong_over_open :
-      (kind : CardKind) (kept : Frame)
-      → IsOpenOver m index i.place before.stack
-      → IsWrong w m i before kind kept
-      → IsWrongOver w m index i before kind kept
+-- ---- refusals
 
 -- the refusals that tell what is wrong with the form of the method or with the index, and none of a state
 abbrev pub IsFormKind : CardKind → Type 0
@@ -105,10 +74,8 @@ pub data IsRefusedOver (w : Linked) (m : Method) (index : List ℕ) : CardFault 
       → IsFirstLacking m.code index place (pos q)
       → IsRefusedOver w m index (record { place = place; depth = 0; kind = NotIndexed q }) kept
   over_state :
-      (i : Placed) (before kept : Frame) (kind : CardKind)
+      (fault : CardFault) (kept : Frame)
       → IsWellFormed m
       → IsIndex m index
-      → HasInstruction m.code i
-      → IsMetOver w m index i.place before
-      → IsWrongOver w m index i before kind kept
-      → IsRefusedOver w m index (fault_at i.place kind kept) kept
+      → IsRefusedState w m (Contains index) fault kept
+      → IsRefusedOver w m index fault kept

@@ -1,11 +1,13 @@
-ghost use Rattle.std.specs.Prelude.{◌≡◌, ◌≤◌, IfErr, IfOk};
+ghost use Rattle.std.specs.Prelude.{◌≡◌, ℕ, ◌+◌, ◌<◌, ◌≤◌, length, IfErr, IfOk};
 ghost use Rattle.card_verify.specs.Answers.{AreAccepted, IsFirstRefused};
+ghost use Rattle.card_verify.specs.Bound.{IsShortAt, bounds_before};
 ghost use Rattle.card_verify.specs.Counting.{IsCountByIndex};
 
 use crate::room::CardRoom;
 use card_typing::CardFault;
-use jc_base::World;
-use std::marker::Model;
+use jc_base::{Steps, World};
+use std::marker::{Brand, Model};
+use std::sync::ledger::{Blank, Ledger};
 
 /// A world of which each method with code has a card typing. It borrows the bytes that were verified, and `accept`
 /// alone makes it.
@@ -55,9 +57,43 @@ pub fn accept<'w>(
     ensures accepted { IfOk result (λ a. AreAccepted a) }
     ensures refused { IfErr result (λ e. IsFirstRefused world.now e.0 e.1) }
 {
+    accept_uncounted::<Brand>(world, room, Blank::new(1))
+}
+
+/// The same, where nobody asks for the number of steps.
+fn accept_uncounted<'w, L: Ledger>(
+    world: &'w World<'w>,
+    room: &mut CardRoom,
+    blank: Blank,
+) -> Result<Accepted<'w>, (u16, CardFault)>
+    requires name { blank.name ≡ L.name }
+    requires parts { blank.parts ≡ L.parts }
+    requires one { blank.parts ≡ 1 }
+    ensures world { IfOk result (λ a. a ≡ world.now) }
+    ensures accepted { IfOk result (λ a. AreAccepted a) }
+    ensures refused { IfErr result (λ e. IsFirstRefused world.now e.0 e.1) }
+{
+    let mut steps = Steps::none(blank);
+    accept_counted::<L>(world, room, &mut steps)
+}
+
+/// The same, where what is applied and read over the indexes is counted. What is looked for without one is not.
+pub fn accept_counted<'w, L: Ledger>(
+    world: &'w World<'w>,
+    room: &mut CardRoom,
+    steps: &mut Steps<L>,
+) -> Result<Accepted<'w>, (u16, CardFault)>
+    ensures world { IfOk result (λ a. a ≡ world.now) }
+    ensures accepted { IfOk result (λ a. AreAccepted a) }
+    ensures refused { IfErr result (λ e. IsFirstRefused world.now e.0 e.1) }
+    // No more steps than the sum of the bounds of the methods.
+    ensures cost { (digits : ℕ)
+        → ((number : ℕ) → number < length world.now.methods → IsShortAt world.now digits number)
+        → steps.new ≤ steps.old + bounds_before world.now digits (length world.now.methods) }
+{
     let mut by_index = 0;
     'methods: for method in 0..world.method_count() {
-        match room.verify(world, method) {
+        match room.verify_counted(world, method, steps) {
             Ok(by) => by_index += u16::from(by),
             Err(fault) => return Err((method, fault)),
         }

@@ -1,19 +1,22 @@
-ghost use Rattle.std.specs.Prelude.{◌≡◌, ◌<◌, ◌≤◌, fold, length, IsSomeAnd, MatchBool, Some, Ok};
+ghost use Rattle.std.specs.Prelude.{◌≡◌, ℕ, ◌+◌, ◌<◌, ◌≤◌, fold, length, IsSomeAnd, MatchBool, Some, Ok};
 ghost use Rattle.jc_decode.specs.Decoding.{decoded};
 ghost use Rattle.jc_decode.specs.Listing.{targets};
 ghost use Rattle.card_typing.specs.Place.{IsTarget, IsEntry};
-ghost use Rattle.card_verify.specs.Ahead.{IsKnownAhead, IsClear, IsTargetKnown, IsLeastFrom, is_nearer, least_or_none, nearer, nearer_target};
+ghost use Rattle.card_verify.specs.Ahead.{IsKnownAhead, IsClear, IsMarkKnown, IsLeastFrom, is_nearer, least_or_none, nearer, nearer_target};
 ghost use Rattle.card_verify.specs.Verifier.{method};
 
+use crate::marks::Marks;
 use crate::verifier::Verifier;
 use cap_bytes::View;
+use jc_base::Steps;
 use jc_control::Targets;
 use jc_decode::{Instructions, Placed, instructions_are_listed};
+use std::sync::ledger::Ledger;
 
 /// What a walk knows of the places from one on: the least entry of a handler, which is sought anew once the walk is beyond
-/// it, and a place before which there is no target.
+/// it, and a place before which none is marked.
 #[derive(Clone, Copy)]
-pub struct Ahead {
+pub(crate) struct Ahead {
     pub from: u16,
     pub entry: Option<u32>,
     pub clear: u32,
@@ -21,10 +24,11 @@ pub struct Ahead {
 
 impl Ahead {
     /// What is ahead of the method's first place.
-    pub fn of(verifier: Verifier<'_>) -> Ahead
-        ensures is { IsKnownAhead (method verifier.entry) result }
+    pub(crate) fn of<M: Marks>(verifier: Verifier<'_>, marks: &M) -> Ahead
+        ensures is { IsKnownAhead (method verifier.entry) (M.marks marks.now) result }
         ensures from { result.from ≡ 0 }
     {
+        let _marks = marks;
         Ahead {
             from: 0,
             entry: verifier.entry_from(0),
@@ -32,30 +36,49 @@ impl Ahead {
         }
     }
 
-    /// What is ahead of a place further on. Whether it is a target is sought only where cells are left on the stack.
-    pub fn moved(self, verifier: Verifier<'_>, place: u16, left: u8) -> Ahead
-        requires ahead { IsKnownAhead (method verifier) self }
+    /// What is ahead of a place further on. Whether it is marked is sought only where cells are left on the stack.
+    pub(crate) fn moved<M: Marks, L: Ledger>(
+        self,
+        verifier: Verifier<'_>,
+        marks: &M,
+        place: u16,
+        left: u8,
+        steps: &mut Steps<L>,
+    ) -> Ahead
+        requires ahead { IsKnownAhead (method verifier) (M.marks marks.now) self }
         requires up { self.from ≤ place }
-        ensures is { IsKnownAhead (method verifier.entry) result }
+        ensures is { IsKnownAhead (method verifier.entry) (M.marks marks.now) result }
         ensures from { result.from ≡ place }
-        ensures told { IsTargetKnown (method verifier.entry) result left }
+        ensures told { IsMarkKnown (M.marks marks.now) result left }
+        ensures still { left ≡ 0 → steps.new ≡ steps.old }
+        ensures forward { steps.old ≤ steps.new }
+        ensures cost { (most : ℕ) → M.takes marks.now most → steps.new ≤ steps.old + most }
     {
         Ahead {
             from: place,
             entry: self.entry_at(verifier, place),
-            clear: self.clear_at(verifier, place, left),
+            clear: self.clear_at(marks, place, left, steps),
         }
     }
 
-    /// A place before which there is no target from a place further on.
-    fn clear_at(self, verifier: Verifier<'_>, place: u16, left: u8) -> u32
-        requires ahead { IsKnownAhead (method verifier) self }
+    /// A place before which none is marked, from a place further on.
+    fn clear_at<M: Marks, L: Ledger>(
+        self,
+        marks: &M,
+        place: u16,
+        left: u8,
+        steps: &mut Steps<L>,
+    ) -> u32
+        requires clear { IsClear (M.marks marks.now) self.from self.clear }
         requires up { self.from ≤ place }
-        ensures clear { IsClear (method verifier.entry) place result }
-        ensures told { 0 < left → result ≤ place → IsTarget (method verifier.entry) place }
+        ensures clear { IsClear (M.marks marks.now) place result }
+        ensures told { 0 < left → result ≤ place → M.marks marks.now place }
+        ensures still { left ≡ 0 → steps.new ≡ steps.old }
+        ensures forward { steps.old ≤ steps.new }
+        ensures cost { (most : ℕ) → M.takes marks.now most → steps.new ≤ steps.old + most }
     {
         if left > 0 && self.clear <= u32::from(place) {
-            least_or_none(verifier.target_from(place))
+            least_or_none(marks.next_from(place, steps))
         } else {
             self.clear
         }
@@ -63,7 +86,7 @@ impl Ahead {
 
     /// The least entry from a place further on.
     fn entry_at(self, verifier: Verifier<'_>, place: u16) -> Option<u32>
-        requires ahead { IsKnownAhead (method verifier) self }
+        requires ahead { IsLeastFrom (IsEntry (method verifier)) self.from self.entry }
         requires up { self.from ≤ place }
         ensures { IsLeastFrom (IsEntry (method verifier.entry)) place result }
     {
@@ -75,8 +98,8 @@ impl Ahead {
     }
 
     /// Whether a handler begins at the place from which it looks.
-    pub fn is_entry(self, verifier: Verifier<'_>) -> bool
-        requires { IsKnownAhead (method verifier) self }
+    pub(crate) fn is_entry(self, verifier: Verifier<'_>) -> bool
+        requires { IsLeastFrom (IsEntry (method verifier)) self.from self.entry }
         ensures { MatchBool result (IsEntry (method verifier.entry) self.from) (¬ (IsEntry (method verifier.entry) self.from)) }
     {
         let _verifier = verifier;
@@ -92,6 +115,15 @@ fn least_or_none(found: Option<u32>) -> u32
         Some(place) => place,
         None => 65536,
     }
+}
+
+/// Whether a place is marked.
+pub(crate) fn is_marked<M: Marks, L: Ledger>(marks: &M, place: u16, steps: &mut Steps<L>) -> bool
+    ensures told { MatchBool result (M.marks marks.now place) (¬ (M.marks marks.now place)) }
+    ensures forward { steps.old ≤ steps.new }
+    ensures cost { (most : ℕ) → M.takes marks.now most → steps.new ≤ steps.old + most }
+{
+    is_here(marks.next_from(place, steps), place)
 }
 
 /// Whether a place is before another.
@@ -158,15 +190,8 @@ fn nearest(code: View<'_>, placed: Placed, from: u16, so_far: Option<u32>) -> Op
 }
 
 impl Verifier<'_> {
-    /// Whether a place is a target, reached or not.
-    pub fn is_target(&self, place: u16) -> bool
-        ensures { MatchBool result (IsTarget (method self.now) place) (¬ (IsTarget (method self.now) place)) }
-    {
-        is_here(self.target_from(place), place)
-    }
-
     /// The least target from a place on, reached or not.
-    fn target_from(&self, from: u16) -> Option<u32>
+    pub(crate) fn target_from(&self, from: u16) -> Option<u32>
         ensures { IsLeastFrom (IsTarget (method self.now)) from result }
     {
         instructions_are_listed();
@@ -178,7 +203,7 @@ impl Verifier<'_> {
     }
 
     /// The least entry of a handler from a place on.
-    pub fn entry_from(&self, from: u16) -> Option<u32>
+    pub(crate) fn entry_from(&self, from: u16) -> Option<u32>
         ensures { IsLeastFrom (IsEntry (method self.now)) from result }
     {
         let mut best = None;

@@ -1,18 +1,21 @@
 ghost use Rattle.std.specs.Prelude.{◌≤◌, take, length, IfSome};
 ghost use Rattle.jc_base.specs.Class.{IsClass};
 ghost use Rattle.jc_base.specs.Order.{IsJoin};
+ghost use Rattle.jc_base.specs.World.{IsWorld};
+ghost use Rattle.jc_control.specs.Method.{IsMethodOf};
 ghost use Rattle.jc_base.specs.declared.ty.Ty.TheVariants.{Class};
 ghost use Rattle.card_typing.specs.Place.{IsEntry, CatchesAt};
-ghost use Rattle.card_verify.specs.Verifier.{method};
-ghost use Rattle.card_verify.specs.Walk.{IsVerifier, IsJoined, IsCaughtWith};
+ghost use Rattle.card_verify.specs.Verifier.{method, world_of};
+ghost use Rattle.card_verify.specs.Walk.{IsJoined, IsCaughtWith};
 
 use crate::verifier::Verifier;
 use jc_base::{Classes, Handler, Ty, join};
 
 impl Verifier<'_> {
     /// The class of the object that is on the stack where handlers begin: the join of those that they catch.
-    pub fn caught(&self, place: u16) -> u16
-        requires verifier { IsVerifier self.now }
+    pub(crate) fn caught(&self, place: u16) -> u16
+        requires known { IsMethodOf (world_of self.now) (method self.now) }
+        requires world { IsWorld (world_of self.now) }
         requires entry { IsEntry (method self.now) place }
         ensures { CatchesAt self.now.world.now.classes (method self.now) place result }
     {

@@ -1,31 +1,30 @@
-ghost use Rattle.std.specs.Prelude.{◌≡◌, ◌≢◌, ℕ, ◌+◌, ◌*◌, ◌<◌, ◌≤◌, ◌^◌, length, slice_get, sum_by, All, IsErr, IsSomeAnd, IfErr, OnOk, OnErr};
+ghost use Rattle.std.specs.Prelude.{◌≡◌, ℕ, ◌+◌, ◌*◌, ◌<◌, ◌≤◌, ◌^◌, length, slice_get, All, Contains, IsErr, IsSomeAnd, IfErr, OnOk, OnErr};
 ghost use Rattle.jc_base.specs.Index.{IsAscending};
-ghost use Rattle.jc_base.specs.Order.{rises_left};
 ghost use Rattle.jc_control.specs.Method.{IsMethodOf, method_in};
 ghost use Rattle.jc_control.specs.WellFormed.{IsPlace, IsWellFormed};
 ghost use Rattle.jc_decode.specs.Listing.{listing};
 ghost use Rattle.jc_rules.specs.Demand.{Frame};
 ghost use Rattle.jc_rules.specs.Apply.{frame_of};
 ghost use Rattle.card_typing.specs.Typing.{IsLeastCardTyping};
+ghost use Rattle.card_verify.specs.Counted.{AreCountedBeside, AreCountedUpTo, instruction_count, most_passes};
 ghost use Rattle.card_verify.specs.Walk.{HasSlices};
-ghost use Rattle.card_verify.specs.Bound.{AreCounted, AreCountedTo, AreCountedBy, entries_read, instruction_count, target_count, most_passes, step_bound};
+ghost use Rattle.card_verify.specs.Bound.{AreCounted, AreCountedBy, entries_read, target_count, step_bound};
 ghost use Rattle.card_verify.specs.Indexed.{subject, world_in, listed};
 ghost use Rattle.card_verify.specs.IndexTyping.{IsIndex, HasIndexTyping};
+ghost use Rattle.card_verify.specs.Lacking.{IsPlaceNumber, IsNotIndexed};
 ghost use Rattle.card_verify.specs.Refusal.{IsFirstBadEntry, IsFirstLacking, LeadsToListed, IsFormKind, IsRefusedOver};
-ghost use Rattle.card_verify.specs.IndexWalk.{IsIndexed, IsBegunOver, IsFinishedOver, IsPlaceNumber, IsNotIndexed};
 
 use crate::Verifier;
 use crate::form::is_rest_formed;
 use crate::indexed::Indexed;
+use crate::listed::Listed;
 use crate::order::bad_entry;
 use crate::over_index::index_laws;
 use crate::scan::{Lacking, first_lacking};
 use cap_bytes::View;
 use card_typing::{CardFault, CardKind, card_laws};
 use jc_base::{Steps, TargetIndex, Ty, World};
-use jc_control::instructions_are_placed;
 use jc_decode::instructions_are_listed;
-use jc_rules::{rule_laws, rule_raises};
 use std::sync::ledger::Ledger;
 
 /// Verifies a method with code as a verifier on the card does, over a target index whose places stand for the targets, in
@@ -58,9 +57,13 @@ pub fn verify_indexed<L: Ledger>(
     ensures as_before { IfErr result (λ fault. IsFormKind fault.kind → (regs.new ≡ regs.old) × (stack.new ≡ stack.old)) }
     // What is read and applied is counted.
     ensures counted { IsSomeAnd (method_in world.now method)
-        (λ m. OnOk result (AreCounted m (length index.now) regs.new steps.old steps.new)) }
+        (λ m. OnOk result (AreCounted world.now m index.now regs.new steps.old steps.new)) }
     ensures counted_to { IsSomeAnd (method_in world.now method)
-        (λ m. IfErr result (AreCountedBy m (length index.now) steps.old steps.new)) }
+        (λ m.
+        IfErr result
+        (λ fault.
+        AreCountedBy world.now m index.now steps.old steps.new fault
+        (frame_of regs.new stack.new fault.depth))) }
     // Whatever the index lists, there are no more steps than this.
     ensures cost { IsSomeAnd (method_in world.now method)
         (λ m.
@@ -99,8 +102,11 @@ impl Indexed<'_, '_> {
             (frame_of regs.new stack.new fault.depth)) }
         ensures as_before { IfErr result (λ fault. IsFormKind fault.kind → (regs.new ≡ regs.old) × (stack.new ≡ stack.old)) }
         ensures counted { OnOk result
-            (AreCounted (subject self.now) (length (listed self.now)) regs.new steps.old steps.new) }
-        ensures counted_to { IfErr result (AreCountedBy (subject self.now) (length (listed self.now)) steps.old steps.new) }
+            (AreCounted (world_in self.now) (subject self.now) (listed self.now) regs.new steps.old steps.new) }
+        ensures counted_to { IfErr result
+            (λ fault.
+            AreCountedBy (world_in self.now) (subject self.now) (listed self.now) steps.old steps.new fault
+            (frame_of regs.new stack.new fault.depth)) }
         ensures cost { (b : ℕ)
             → length (listed self.now) < 2 ^ b
             → steps.new ≤ steps.old + step_bound (world_in self.now) (subject self.now) (length (listed self.now)) b }
@@ -238,8 +244,12 @@ impl Indexed<'_, '_> {
             (λ fault.
             IsRefusedOver (world_in self.now) (subject self.now) (listed self.now) fault
             (frame_of regs.new stack.new fault.depth)) }
-        ensures counted { OnOk result (AreCounted (subject self.now) 0 regs.new steps.old steps.new) }
-        ensures counted_to { IfErr result (λ fault. AreCountedTo (subject self.now) 0 fault.place steps.old steps.new) }
+        ensures counted { OnOk result
+            (AreCountedBeside (world_in self.now) (subject self.now) (Contains (listed self.now)) regs.new 0 steps.old steps.new) }
+        ensures counted_to { IfErr result
+            (λ fault.
+            AreCountedUpTo (world_in self.now) (subject self.now) (Contains (listed self.now)) fault
+            (frame_of regs.new stack.new fault.depth) 0 steps.old steps.new) }
         ensures cost { (b : ℕ)
             → length (listed self.now) < 2 ^ b
             → steps.new
@@ -247,51 +257,9 @@ impl Indexed<'_, '_> {
             + most_passes (world_in self.now) (subject self.now)
             * (instruction_count (subject self.now) * (b + 1)) }
     {
-        card_laws(self.verifier.world);
-        rule_laws(self.verifier.world);
-        rule_raises(self.verifier.world);
-        instructions_are_placed();
-        instructions_are_listed();
-        self.verifier.begin(regs);
-        self.settle(regs, stack, steps)
-    }
-
-    /// Passes over the code until no register rises.
-    fn settle<L: Ledger>(
-        &self,
-        regs: &mut [Ty],
-        stack: &mut [Ty],
-        steps: &mut Steps<L>,
-    ) -> Result<(), CardFault>
-        requires indexed { IsIndexed self.now }
-        requires begun { IsBegunOver self.now regs.old stack.old }
-        ensures finished { OnOk result (IsFinishedOver self.now regs.new) }
-        ensures refused { IfErr result
-            (λ fault.
-            IsRefusedOver (world_in self.now) (subject self.now) (listed self.now) fault
-            (frame_of regs.new stack.new fault.depth)) }
-        ensures counted { OnOk result (steps.old + instruction_count (subject self.now) ≤ steps.new) }
-        ensures twice { OnOk result
-            (regs.new ≢ regs.old
-            → steps.old + 2 * instruction_count (subject self.now) ≤ steps.new) }
-        ensures counted_to { IfErr result (λ fault. AreCountedTo (subject self.now) 0 fault.place steps.old steps.new) }
-        // A pass but the last raises a register.
-        ensures cost { (b : ℕ)
-            → length (listed self.now) < 2 ^ b
-            → steps.new
-            ≤ steps.old
-            + (1 + sum_by (rises_left (world_in self.now).classes) regs.old)
-            * (instruction_count (subject self.now) * (b + 1)) }
-    {
-        'passes: loop {
-            let rose = match self.pass(regs, stack, steps) {
-                Ok(rose) => rose,
-                Err(fault) => return Err(fault),
-            };
-            if !rose {
-                return Ok(());
-            }
-        }
+        let listed = Listed { index: self.index };
+        self.verifier
+            .verify_over::<Listed<'_>, L>(&listed, regs, stack, steps)
     }
 }
 

@@ -5,7 +5,7 @@ ghost use Rattle.jc_decode.specs.Instructions.{rest_of};
 ghost use Rattle.card_verify.specs.Refusal.{IsFirstBadEntry};
 ghost use Rattle.card_verify.specs.Seeking.{IsSought, HasNone};
 
-use crate::search::entry;
+use crate::listed::entry;
 use cap_bytes::View;
 use jc_base::{Steps, TargetIndex};
 use jc_decode::{Instructions, instructions_are_listed};

@@ -1,4 +1,4 @@
-ghost use Rattle.std.specs.Prelude.{◌≡◌, ◌||◌, ◌+◌, ◌<◌, ◌≤◌, [], ◌∷◌, length, All, IsTrue, IfOk, IfErr, IfNone, IfSome, MatchBool};
+ghost use Rattle.std.specs.Prelude.{◌≡◌, ℕ, ◌||◌, ◌+◌, ◌*◌, ◌<◌, ◌≤◌, true, [], ◌∷◌, length, All, IsTrue, IfOk, IfErr, IfNone, IfSome, OnOk, MatchBool};
 ghost use Rattle.jc_base.specs.Order.{IsKnown};
 ghost use Rattle.jc_decode.specs.Listing.{falls, jumps};
 ghost use Rattle.jc_control.specs.WellFormed.{HasInstruction};
@@ -6,22 +6,25 @@ ghost use Rattle.jc_rules.specs.Stack.{cells};
 ghost use Rattle.jc_rules.specs.Apply.{frame_of};
 ghost use Rattle.card_typing.specs.Place.{IsEntry, IsFallenInto};
 ghost use Rattle.card_typing.specs.Met.{IsOpenTo};
-ghost use Rattle.card_typing.specs.Refusal.{IsRefused};
 ghost use Rattle.card_verify.specs.Verifier.{method, world_of};
-ghost use Rattle.card_verify.specs.Ahead.{IsKnownAhead, IsTargetKnown};
-ghost use Rattle.card_verify.specs.Walk.{IsVerifier, HasSlices, IsComing, IsLanded, IsMislanded, IsFailing, IsStepped, IsVisited, IsStopped, CanBeginPass, IsRaisedBy, IsSettled, IsLeftWell, IsLeftWrong, IsPut, IsBlocked, IsShared, left};
+ghost use Rattle.card_verify.specs.Ahead.{IsClear, IsKnownAhead, IsMarkKnown};
+ghost use Rattle.card_verify.specs.Counted.{instruction_count};
+ghost use Rattle.card_verify.specs.Walk.{IsVerifier, HasSlices, IsComing, IsLanded, IsMislanded, IsFailing, IsStepped, IsVisited, IsStopped, CanPass, CanBeginPass, IsPassedOver, HasLessLeft, IsSettled, IsRefusedInPass, IsLeftWell, IsLeftWrong, IsPut, IsBlocked, IsShared, left};
 
-use crate::ahead::Ahead;
+use crate::ahead::{Ahead, is_marked};
+use crate::counted::apply_counted;
+use crate::marks::Marks;
 use crate::verifier::Verifier;
 use card_typing::{CardFault, CardKind};
-use jc_base::Ty;
+use jc_base::{Steps, Ty};
 use jc_decode::{Instructions, Placed};
-use jc_rules::{Mode, Outcome, RuleFault, Site, apply};
+use jc_rules::{Mode, Outcome, RuleFault, Site};
+use std::sync::ledger::Ledger;
 
 /// How a walk comes to a place: whether the instruction before it may fall through, and how many cells that leaves on
 /// the stack.
 #[derive(Clone, Copy)]
-pub struct Arrival {
+pub(crate) struct Arrival {
     pub may_fall: bool,
     pub depth: u8,
 }
@@ -37,28 +40,43 @@ impl Arrival {
 
 impl Verifier<'_> {
     /// Walks the code once, raising registers in place, and tells whether one rose.
-    pub(crate) fn pass(&self, regs: &mut [Ty], stack: &mut [Ty]) -> Result<bool, CardFault>
-        requires verifier { IsVerifier self.now }
-        requires begun { CanBeginPass self.now regs.old stack.old }
+    pub(crate) fn pass<M: Marks, L: Ledger>(
+        &self,
+        marks: &M,
+        regs: &mut [Ty],
+        stack: &mut [Ty],
+        steps: &mut Steps<L>,
+    ) -> Result<bool, CardFault>
+        requires verifier { IsVerifier self.now (M.marks marks.now) }
+        requires begun { CanPass self.now (M.marks marks.now) regs.old stack.old }
         ensures done { IfOk result
             (λ rose.
             MatchBool rose
-            (IsRaisedBy self.now regs.old regs.new stack.new)
-            (IsSettled self.now regs.old regs.new)) }
+            (HasLessLeft self.now regs.old regs.new)
+            (IsSettled self.now (M.marks marks.now) regs.old regs.new)) }
+        ensures again { OnOk result (IsPassedOver self.now (M.marks marks.now) regs.old stack.old regs.new stack.new) }
+        ensures begins { OnOk result (¬ (IsEntry (method self.now) 0)) }
         ensures refused { IfErr result
             (λ fault.
-            IsRefused (world_of self.now) (method self.now) fault
-            (frame_of regs.new stack.new fault.depth)) }
+            (visits : ℕ)
+            → CanBeginPass self.now (M.marks marks.now) visits regs.old stack.old
+            → IsRefusedInPass self.now (M.marks marks.now) visits fault
+            (frame_of regs.new stack.new fault.depth) steps.old steps.new) }
+        ensures counted { OnOk result (steps.old + instruction_count (method self.now) ≤ steps.new) }
+        ensures forward { steps.old ≤ steps.new }
+        // At each instruction a search and a rule.
+        ensures cost { (most : ℕ)
+            → M.takes marks.now most
+            → steps.new ≤ steps.old + instruction_count (method self.now) * (most + 1) }
     {
-        let mut ahead = Ahead::of(*self);
+        let mut ahead = Ahead::of(*self, marks);
         let mut arrival = Arrival {
             may_fall: true,
             depth: 0,
         };
         let mut rose = false;
         'walk: for placed in Instructions::of(self.code) {
-            ahead = ahead.moved(*self, placed.place, arrival.left());
-            let outcome = match self.visit(placed, ahead, arrival, regs, stack) {
+            let outcome = match self.visit(marks, placed, &mut ahead, arrival, regs, stack, steps) {
                 Ok(outcome) => outcome,
                 Err(fault) => return Err(fault),
             };
@@ -72,49 +90,70 @@ impl Verifier<'_> {
     }
 
     /// Comes to an instruction, and applies its rule.
-    fn visit(
+    fn visit<M: Marks, L: Ledger>(
         &self,
+        marks: &M,
         placed: Placed,
-        ahead: Ahead,
+        ahead: &mut Ahead,
         arrival: Arrival,
         regs: &mut [Ty],
         stack: &mut [Ty],
+        steps: &mut Steps<L>,
     ) -> Result<Outcome, CardFault>
-        requires verifier { IsVerifier self.now }
-        requires ahead { IsKnownAhead (method self.now) ahead }
-        requires here { ahead.from ≡ placed.place }
-        requires told { IsTargetKnown (method self.now) ahead (left arrival) }
+        requires verifier { IsVerifier self.now (M.marks marks.now) }
+        requires ahead { IsKnownAhead (method self.now) (M.marks marks.now) ahead.old }
+        requires up { ahead.old.from ≤ placed.place }
         requires stands { HasInstruction (method self.now).code placed }
-        requires coming { IsComing self.now placed.place arrival regs.old stack.old }
-        ensures passed { IfOk result (λ o. IsVisited self.now placed arrival regs.old stack.old regs.new stack.new o) }
-        ensures stopped { IfErr result (λ fault. IsStopped self.now placed arrival regs.old stack.old regs.new stack.new fault) }
+        requires coming { (visits : ℕ) × IsComing self.now (M.marks marks.now) visits placed.place arrival regs.old stack.old }
+        ensures ahead { IsKnownAhead (method self.now) (M.marks marks.now) ahead.new }
+        ensures here { ahead.new.from ≡ placed.place }
+        ensures passed { IfOk result
+            (λ o. IsVisited self.now (M.marks marks.now) placed arrival regs.old stack.old regs.new stack.new o) }
+        ensures stopped { IfErr result
+            (λ fault. IsStopped self.now (M.marks marks.now) placed arrival regs.old stack.old regs.new stack.new fault) }
+        ensures counted { OnOk result (steps.old < steps.new) }
+        ensures forward { steps.old ≤ steps.new }
+        ensures cost { (most : ℕ) → M.takes marks.now most → steps.new ≤ steps.old + (most + 1) }
     {
-        let depth = match self.land(ahead, arrival, stack) {
+        *ahead = ahead.moved(*self, marks, placed.place, arrival.left(), steps);
+        let depth = match self.land(marks, *ahead, arrival, stack, steps) {
             Ok(depth) => depth,
             Err(fault) => return Err(fault),
         };
-        self.step(placed, regs, stack, depth)
+        self.step(marks, placed, regs, stack, depth, steps)
     }
 
     /// The depth of the stack with which the walk comes to a place, if that may be.
-    fn land(&self, ahead: Ahead, arrival: Arrival, stack: &mut [Ty]) -> Result<u8, CardFault>
-        requires verifier { IsVerifier self.now }
-        requires ahead { IsKnownAhead (method self.now) ahead }
-        requires told { IsTargetKnown (method self.now) ahead (left arrival) }
+    fn land<M: Marks, L: Ledger>(
+        &self,
+        marks: &M,
+        ahead: Ahead,
+        arrival: Arrival,
+        stack: &mut [Ty],
+        steps: &mut Steps<L>,
+    ) -> Result<u8, CardFault>
+        requires verifier { IsVerifier self.now (M.marks marks.now) }
+        requires ahead { IsKnownAhead (method self.now) (M.marks marks.now) ahead }
+        requires told { IsMarkKnown (M.marks marks.now) ahead (left arrival) }
         requires fallen { MatchBool arrival.may_fall
             (IsFallenInto (method self.now) ahead.from)
             (¬ (IsFallenInto (method self.now) ahead.from)) }
         requires cells { length stack.old ≡ self.now.rec.now.max_stack }
         requires depth { arrival.depth ≤ self.now.rec.now.max_stack }
-        ensures landed { IfOk result (λ depth. IsLanded self.now ahead.from arrival stack.old (cells stack.new depth)) }
+        ensures landed { IfOk result
+            (λ depth.
+            IsLanded self.now (M.marks marks.now) ahead.from arrival stack.old (cells stack.new depth)) }
         ensures depth { IfOk result (λ depth. depth ≤ self.now.rec.now.max_stack) }
-        ensures wrong { IfErr result (λ fault. IsMislanded self.now arrival stack.old stack.new fault) }
+        ensures wrong { IfErr result (λ fault. IsMislanded self.now (M.marks marks.now) arrival stack.old stack.new fault) }
         ensures place { IfErr result (λ fault. fault.place ≡ ahead.from) }
+        ensures still { arrival.may_fall ≡ true → steps.new ≡ steps.old }
+        ensures forward { steps.old ≤ steps.new }
+        ensures cost { (most : ℕ) → M.takes marks.now most → steps.new ≤ steps.old + most }
     {
         if ahead.is_entry(*self) {
-            return self.enter(ahead, arrival, stack);
+            return self.enter(marks, ahead.from, arrival, stack, steps);
         }
-        if self.is_blocked(ahead, arrival) {
+        if is_blocked(marks, ahead, arrival) {
             return Err(CardFault {
                 place: ahead.from,
                 depth: arrival.left(),
@@ -124,47 +163,42 @@ impl Verifier<'_> {
         Ok(arrival.left())
     }
 
-    /// Whether a target is fallen into with cells on the stack.
-    fn is_blocked(&self, ahead: Ahead, arrival: Arrival) -> bool
-        requires ahead { IsKnownAhead (method self.now) ahead }
-        requires told { IsTargetKnown (method self.now) ahead (left arrival) }
-        ensures { MatchBool result (IsBlocked self.now ahead.from arrival) (¬ (IsBlocked self.now ahead.from arrival)) }
-    {
-        arrival.left() > 0 && ahead.clear <= u32::from(ahead.from)
-    }
-
-    /// Whether control comes to a handler's entry in another way too.
-    fn is_shared(&self, ahead: Ahead, arrival: Arrival) -> bool
-        ensures { MatchBool result (IsShared self.now ahead.from arrival) (¬ (IsShared self.now ahead.from arrival)) }
-    {
-        arrival.may_fall || self.is_target(ahead.from)
-    }
-
     /// Where a handler begins, the object that is caught stands alone on the stack.
-    fn enter(&self, ahead: Ahead, arrival: Arrival, stack: &mut [Ty]) -> Result<u8, CardFault>
-        requires verifier { IsVerifier self.now }
-        requires ahead { IsKnownAhead (method self.now) ahead }
-        requires entry { IsEntry (method self.now) ahead.from }
+    fn enter<M: Marks, L: Ledger>(
+        &self,
+        marks: &M,
+        place: u16,
+        arrival: Arrival,
+        stack: &mut [Ty],
+        steps: &mut Steps<L>,
+    ) -> Result<u8, CardFault>
+        requires verifier { IsVerifier self.now (M.marks marks.now) }
+        requires entry { IsEntry (method self.now) place }
         requires fallen { MatchBool arrival.may_fall
-            (IsFallenInto (method self.now) ahead.from)
-            (¬ (IsFallenInto (method self.now) ahead.from)) }
+            (IsFallenInto (method self.now) place)
+            (¬ (IsFallenInto (method self.now) place)) }
         requires cells { length stack.old ≡ self.now.rec.now.max_stack }
-        ensures landed { IfOk result (λ depth. IsLanded self.now ahead.from arrival stack.old (cells stack.new depth)) }
+        ensures landed { IfOk result
+            (λ depth.
+            IsLanded self.now (M.marks marks.now) place arrival stack.old (cells stack.new depth)) }
         ensures depth { IfOk result (λ depth. depth ≤ self.now.rec.now.max_stack) }
-        ensures wrong { IfErr result (λ fault. IsMislanded self.now arrival stack.old stack.new fault) }
-        ensures place { IfErr result (λ fault. fault.place ≡ ahead.from) }
+        ensures wrong { IfErr result (λ fault. IsMislanded self.now (M.marks marks.now) arrival stack.old stack.new fault) }
+        ensures place { IfErr result (λ fault. fault.place ≡ place) }
+        ensures still { arrival.may_fall ≡ true → steps.new ≡ steps.old }
+        ensures forward { steps.old ≤ steps.new }
+        ensures cost { (most : ℕ) → M.takes marks.now most → steps.new ≤ steps.old + most }
     {
-        let depth = put_alone(stack, Ty::Class(self.caught(ahead.from)));
-        if self.is_shared(ahead, arrival) {
+        let depth = put_alone(stack, Ty::Class(self.caught(place)));
+        if is_shared(marks, place, arrival, steps) {
             return Err(CardFault {
-                place: ahead.from,
+                place,
                 depth,
                 kind: CardKind::HandlerEntered,
             });
         }
         if depth == 0 {
             return Err(CardFault {
-                place: ahead.from,
+                place,
                 depth,
                 kind: CardKind::Rule(RuleFault::Overflow),
             });
@@ -173,29 +207,37 @@ impl Verifier<'_> {
     }
 
     /// Applies the rule of an instruction whose place may have the stack, and looks at what it leaves.
-    fn step(
+    fn step<M: Marks, L: Ledger>(
         &self,
+        marks: &M,
         placed: Placed,
         regs: &mut [Ty],
         stack: &mut [Ty],
         depth: u8,
+        steps: &mut Steps<L>,
     ) -> Result<Outcome, CardFault>
-        requires verifier { IsVerifier self.now }
+        requires verifier { IsVerifier self.now (M.marks marks.now) }
         requires stands { HasInstruction (method self.now).code placed }
         requires slices { HasSlices self.now regs.old stack.old }
         requires depth { depth ≤ self.now.rec.now.max_stack }
         requires known { All (IsKnown (world_of self.now).classes) regs.old
             × All (IsKnown (world_of self.now).classes) (cells stack.old depth) }
-        requires suits { IsOpenTo (method self.now) placed.place (cells stack.old depth) }
-        ensures passed { IfOk result (λ o. IsStepped self.now placed regs.old (cells stack.old depth) regs.new stack.new o) }
-        ensures fails { IfErr result (λ fault. IsFailing self.now placed regs.old (cells stack.old depth) regs.new stack.new fault) }
+        requires suits { IsOpenTo (method self.now) (M.marks marks.now) placed.place (cells stack.old depth) }
+        ensures passed { IfOk result
+            (λ o.
+            IsStepped self.now (M.marks marks.now) placed regs.old (cells stack.old depth) regs.new stack.new o) }
+        ensures fails { IfErr result
+            (λ fault.
+            IsFailing self.now (M.marks marks.now) placed regs.old (cells stack.old depth) regs.new stack.new fault) }
+        ensures one { steps.new ≡ steps.old + 1 }
     {
+        let _marks = marks;
         let place = placed.place;
         let site = Site {
             method: self.number,
             place,
         };
-        let outcome = match apply(
+        let outcome = match apply_counted(
             self.world,
             site,
             placed.insn,
@@ -203,6 +245,7 @@ impl Verifier<'_> {
             stack,
             depth,
             Mode::Card,
+            steps,
         ) {
             Ok(outcome) => outcome,
             Err(fault) => return Err(CardFault {
@@ -223,7 +266,7 @@ impl Verifier<'_> {
 
     /// What is wrong once a rule has left so many cells: a branch or switch leaves any, or the last instruction falls
     /// through.
-    pub fn left_wrong(&self, placed: Placed, depth: u8) -> Option<CardKind>
+    fn left_wrong(&self, placed: Placed, depth: u8) -> Option<CardKind>
         ensures well { IfNone result (IsLeftWell self.now placed depth) }
         ensures wrong { IfSome result (IsLeftWrong self.now placed depth) }
     {
@@ -238,15 +281,44 @@ impl Verifier<'_> {
     }
 }
 
+/// Whether a marked place is fallen into with cells on the stack.
+fn is_blocked<M: Marks>(marks: &M, ahead: Ahead, arrival: Arrival) -> bool
+    requires clear { IsClear (M.marks marks.now) ahead.from ahead.clear }
+    requires told { IsMarkKnown (M.marks marks.now) ahead (left arrival) }
+    ensures { MatchBool result
+        (IsBlocked (M.marks marks.now) ahead.from arrival)
+        (¬ (IsBlocked (M.marks marks.now) ahead.from arrival)) }
+{
+    let _marks = marks;
+    arrival.left() > 0 && ahead.clear <= u32::from(ahead.from)
+}
+
+/// Whether control comes to a handler's entry in another way too.
+fn is_shared<M: Marks, L: Ledger>(
+    marks: &M,
+    place: u16,
+    arrival: Arrival,
+    steps: &mut Steps<L>,
+) -> bool
+    ensures shared { MatchBool result
+        (IsShared (M.marks marks.now) place arrival)
+        (¬ (IsShared (M.marks marks.now) place arrival)) }
+    ensures still { arrival.may_fall ≡ true → steps.new ≡ steps.old }
+    ensures forward { steps.old ≤ steps.new }
+    ensures cost { (most : ℕ) → M.takes marks.now most → steps.new ≤ steps.old + most }
+{
+    arrival.may_fall || is_marked(marks, place, steps)
+}
+
 /// Whether one holds, or the other.
-pub fn either(one: bool, other: bool) -> bool
+fn either(one: bool, other: bool) -> bool
     ensures { result ≡ (one || other) }
 {
     one || other
 }
 
 /// Puts a cell alone on a stack, where it has room for one, and tells how many cells it then has.
-pub fn put_alone(stack: &mut [Ty], ty: Ty) -> u8
+fn put_alone(stack: &mut [Ty], ty: Ty) -> u8
     ensures { IsPut stack.old ty stack.new result }
 {
     if stack.is_empty() {

@@ -5,7 +5,7 @@ ghost use Rattle.jc_decode.specs.Listing.{listing, targets};
 ghost use Rattle.jc_control.specs.FirstFailing.{IsFirstFailing};
 ghost use Rattle.card_verify.specs.Refusal.{IsListedTarget, LeadsToListed, IsFirstLacking};
 
-use crate::search::is_listed;
+use crate::listed::is_listed;
 use cap_bytes::View;
 use jc_base::{Steps, TargetIndex};
 use jc_control::Targets;

@@ -1,23 +1,29 @@
-ghost use Rattle.std.specs.Prelude.{◌≡◌, ◌↔◌, ◌+◌, ◌<◌, ◌≤◌, length, slice_get, IsSomeAnd, IfErr, OnOk, OnErr};
+ghost use Rattle.std.specs.Prelude.{◌≡◌, ◌↔◌, ℕ, ◌+◌, ◌*◌, ◌<◌, ◌≤◌, length, slice_get, sum_by, IsSomeAnd, IfErr, OnOk, OnErr};
+ghost use Rattle.jc_base.specs.Order.{rises_left};
 ghost use Rattle.jc_base.specs.declared.ty.Ty.TheVariants.{Bottom};
 ghost use Rattle.jc_control.specs.Method.{IsMethodOf, method_in};
-ghost use Rattle.jc_control.specs.WellFormed.{IsWellFormed};
+ghost use Rattle.jc_control.specs.WellFormed.{IsPlace, IsWellFormed};
 ghost use Rattle.jc_rules.specs.Apply.{frame_of};
-ghost use Rattle.jc_rules.specs.Flow.{HasFlowTyping, start_frame};
-ghost use Rattle.card_typing.specs.Typing.{HasCardTyping, IsLeastCardTyping};
+ghost use Rattle.jc_rules.specs.Flow.{HasFlowTyping};
+ghost use Rattle.card_typing.specs.Typing.{HasCardTyping, IsLeastOver, IsLeastCardTyping};
+ghost use Rattle.card_typing.specs.Place.{IsTarget};
 ghost use Rattle.card_typing.specs.Refusal.{IsFlawKind, IsRefused, fault_of};
 ghost use Rattle.card_verify.specs.Answers.{TellsFlaw};
+ghost use Rattle.card_verify.specs.Counted.{AreCountedBeside, AreCountedUpTo, instruction_count, most_passes};
 ghost use Rattle.card_verify.specs.Verifier.{method, world_of};
 ghost use Rattle.card_verify.specs.Walk.{IsVerifier, HasSlices, CanBeginPass, IsFinished};
 
+use crate::marks::Marks;
 use crate::start::start;
 use crate::verifier::Verifier;
 use cap_bytes::View;
 use card_typing::{CardFault, CardKind, card_laws};
-use jc_base::{Ty, World};
-use jc_control::{Flaw, Places, Subject, find_flaw};
+use jc_base::{Steps, Ty, World};
+use jc_control::{Flaw, Places, Subject, find_flaw, instructions_are_placed};
 use jc_decode::instructions_are_listed;
-use jc_rules::rule_laws;
+use jc_rules::{rule_laws, rule_raises};
+use std::marker::Brand;
+use std::sync::ledger::{Blank, Ledger};
 
 /// Verifies a method with code as a verifier on the card does, in the registers and the stack that are lent: a cell for
 /// each argument word and local, and one for each cell of `max_stack`.
@@ -103,7 +109,7 @@ impl Verifier<'_> {
         }
     }
 
-    /// Verifies the types of a well-formed method.
+    /// Verifies the types of a well-formed method, over its own targets.
     fn verify_types(&self, regs: &mut [Ty], stack: &mut [Ty]) -> Result<(), CardFault>
         requires method { IsMethodOf (world_of self.now) (method self.now) }
         requires formed { IsWellFormed (method self.now) }
@@ -114,19 +120,68 @@ impl Verifier<'_> {
             IsRefused (world_of self.now) (method self.now) fault
             (frame_of regs.new stack.new fault.depth)) }
     {
-        card_laws(self.world);
-        rule_laws(self.world);
-        instructions_are_listed();
-        start(self.rec, regs);
-        self.settle(regs, stack)
+        self.verify_uncounted::<Brand>(regs, stack, Blank::new(1))
     }
 
-    /// Gives the registers the types with which the method starts.
-    pub fn begin(&self, regs: &mut [Ty])
-        requires { length regs.old ≡ length (start_frame self.now.rec.now Bottom).regs }
-        ensures { regs.new ≡ (start_frame self.now.rec.now Bottom).regs }
+    /// The same, where nobody asks for the number of steps.
+    fn verify_uncounted<L: Ledger>(
+        &self,
+        regs: &mut [Ty],
+        stack: &mut [Ty],
+        blank: Blank,
+    ) -> Result<(), CardFault>
+        requires name { blank.name ≡ L.name }
+        requires parts { blank.parts ≡ L.parts }
+        requires one { blank.parts ≡ 1 }
+        requires method { IsMethodOf (world_of self.now) (method self.now) }
+        requires formed { IsWellFormed (method self.now) }
+        requires slices { HasSlices self.now regs.old stack.old }
+        ensures typing { OnOk result (IsLeastCardTyping (world_of self.now) (method self.now) regs.new) }
+        ensures refused { IfErr result
+            (λ fault.
+            IsRefused (world_of self.now) (method self.now) fault
+            (frame_of regs.new stack.new fault.depth)) }
     {
+        let targets = *self;
+        let mut steps = Steps::none(blank);
+        self.verify_over::<Verifier<'_>, L>(&targets, regs, stack, &mut steps)
+    }
+
+    /// Verifies the types of a well-formed method over marked places of instructions, among which are all targets.
+    pub fn verify_over<M: Marks, L: Ledger>(
+        &self,
+        marks: &M,
+        regs: &mut [Ty],
+        stack: &mut [Ty],
+        steps: &mut Steps<L>,
+    ) -> Result<(), CardFault>
+        requires method { IsMethodOf (world_of self.now) (method self.now) }
+        requires formed { IsWellFormed (method self.now) }
+        requires targets { (q : ℕ) → IsTarget (method self.now) q → M.marks marks.now q }
+        requires places { (q : ℕ) → M.marks marks.now q → IsPlace (method self.now).code q }
+        requires slices { HasSlices self.now regs.old stack.old }
+        ensures typing { OnOk result (IsLeastOver (world_of self.now) (method self.now) (M.marks marks.now) regs.new) }
+        ensures refused { IfErr result
+            (λ fault.
+            AreCountedUpTo (world_of self.now) (method self.now) (M.marks marks.now) fault
+            (frame_of regs.new stack.new fault.depth) 0 steps.old steps.new) }
+        ensures counted { OnOk result
+            (AreCountedBeside (world_of self.now) (method self.now) (M.marks marks.now) regs.new 0 steps.old steps.new) }
+        // A pass but the last raises a register.
+        ensures cost { (most : ℕ)
+            → M.takes marks.now most
+            → steps.new
+            ≤ steps.old
+            + most_passes (world_of self.now) (method self.now)
+            * (instruction_count (method self.now) * (most + 1)) }
+    {
+        card_laws(self.world);
+        rule_laws(self.world);
+        rule_raises(self.world);
+        instructions_are_placed();
+        instructions_are_listed();
         start(self.rec, regs);
+        self.settle(marks, regs, stack, steps)
     }
 
     /// Whether the method is well formed, and else its first flaw.
@@ -149,17 +204,31 @@ impl Verifier<'_> {
     }
 
     /// Passes over the code until no register rises.
-    fn settle(&self, regs: &mut [Ty], stack: &mut [Ty]) -> Result<(), CardFault>
-        requires verifier { IsVerifier self.now }
-        requires begun { CanBeginPass self.now regs.old stack.old }
-        ensures finished { OnOk result (IsFinished self.now regs.new) }
+    fn settle<M: Marks, L: Ledger>(
+        &self,
+        marks: &M,
+        regs: &mut [Ty],
+        stack: &mut [Ty],
+        steps: &mut Steps<L>,
+    ) -> Result<(), CardFault>
+        requires verifier { IsVerifier self.now (M.marks marks.now) }
+        requires begun { CanBeginPass self.now (M.marks marks.now) 0 regs.old stack.old }
+        ensures finished { OnOk result (IsFinished self.now (M.marks marks.now) regs.new) }
         ensures refused { IfErr result
             (λ fault.
-            IsRefused (world_of self.now) (method self.now) fault
-            (frame_of regs.new stack.new fault.depth)) }
+            AreCountedUpTo (world_of self.now) (method self.now) (M.marks marks.now) fault
+            (frame_of regs.new stack.new fault.depth) 0 steps.old steps.new) }
+        ensures counted { OnOk result
+            (AreCountedBeside (world_of self.now) (method self.now) (M.marks marks.now) regs.new 0 steps.old steps.new) }
+        ensures cost { (most : ℕ)
+            → M.takes marks.now most
+            → steps.new
+            ≤ steps.old
+            + (1 + sum_by (rises_left (world_of self.now).classes) regs.old)
+            * (instruction_count (method self.now) * (most + 1)) }
     {
         'passes: loop {
-            let rose = match self.pass(regs, stack) {
+            let rose = match self.pass(marks, regs, stack, steps) {
                 Ok(rose) => rose,
                 Err(fault) => return Err(fault),
             };

@@ -76,10 +76,13 @@ pub returns-clause-counted : goal.returns-clause-counted
 returns-clause-counted g c =
     let bytes : option_map (code_of c.args.world.now.infos) (slice_get c.args.world.now.methods c.args.method) ≡ Some c.of-code.result.bytes.now = cc in
     to-method c.args.world.now c.args.method c.method-rec.result.now c.of-code.result.bytes.now c.method-rec.ensures.is bytes
-    (λ m. OnOk c.verify.result (AreCounted m (length c.args.index.now) c.verify.new.regs c.args.steps.now c.verify.new.steps)) c.verify.ensures.counted
+    (λ m. OnOk c.verify.result (AreCounted c.args.world.now m c.args.index.now c.verify.new.regs c.args.steps.now c.verify.new.steps))
+    c.verify.ensures.counted
 
 pub returns-clause-counted_to : goal.returns-clause-counted_to
 returns-clause-counted_to g c =
     let bytes : option_map (code_of c.args.world.now.infos) (slice_get c.args.world.now.methods c.args.method) ≡ Some c.of-code.result.bytes.now = cc in
     to-method c.args.world.now c.args.method c.method-rec.result.now c.of-code.result.bytes.now c.method-rec.ensures.is bytes
-    (λ m. IfErr c.verify.result (AreCountedBy m (length c.args.index.now) c.args.steps.now c.verify.new.steps)) c.verify.ensures.counted_to
+    (λ m. IfErr c.verify.result
+    (λ fault. AreCountedBy c.args.world.now m c.args.index.now c.args.steps.now c.verify.new.steps fault
+    (frame_of c.verify.new.regs c.verify.new.stack fault.depth))) c.verify.ensures.counted_to

@@ -5,4 +5,4 @@ use Rattle.card_verify.proofs.ahead.Ahead.entry_at.Goals as goal
 
 pub returns-else-is_passed : goal.returns-else-is_passed
 returns-else-is_passed c =
-    least-kept (IsEntry (method c.args.verifier)) c.args.self.from c.args.place c.args.self.entry c.requires.up c.if-is_passed.ensures c.requires.ahead.entry
+    least-kept (IsEntry (method c.args.verifier)) c.args.self.from c.args.place c.args.self.entry c.requires.up c.if-is_passed.ensures c.requires.ahead

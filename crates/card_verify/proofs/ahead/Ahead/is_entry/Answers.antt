@@ -4,4 +4,4 @@ use Rattle.card_verify.proofs.Nearest.{told-here}
 use Rattle.card_verify.proofs.ahead.Ahead.is_entry.Goals as goal
 
 pub returns : goal.returns
-returns c = told-here (IsEntry (method c.args.verifier)) c.args.self.from c.args.self.entry c.is_here.result c.requires.entry c.is_here.ensures
+returns c = told-here (IsEntry (method c.args.verifier)) c.args.self.from c.args.self.entry c.is_here.result c.requires c.is_here.ensures

@@ -32,14 +32,14 @@ returns-in-Err-clause-cost g c = λ b lt.
 pub returns-in-Ok-clause-counted : goal.returns-in-Ok-clause-counted
 returns-in-Ok-clause-counted g c =
     let x = c.args.self.now in
-    counted-sooner (subject x) (length (listed x)) c.args.steps.now c.check.new.steps c.verify_types.new.steps c.in-Ok.ensures.read c.verify_types.new.regs
-    c.verify_types.result c.verify_types.ensures.counted
+    counted-sooner (world_in x) (subject x) (listed x) c.args.steps.now c.check.new.steps c.verify_types.new.steps c.in-Ok.ensures.read
+    c.verify_types.new.regs c.verify_types.result c.verify_types.ensures.counted
 
 pub returns-in-Ok-clause-counted_to : goal.returns-in-Ok-clause-counted_to
 returns-in-Ok-clause-counted_to g c =
     let x = c.args.self.now in
-    counted-by-state (subject x) (length (listed x)) c.args.steps.now c.check.new.steps c.verify_types.new.steps c.in-Ok.ensures.read c.verify_types.result
-    c.verify_types.ensures.counted_to
+    counted-by-state (world_in x) (subject x) (listed x) c.args.steps.now c.check.new.steps c.verify_types.new.steps c.in-Ok.ensures.read
+    c.verify_types.new.regs c.verify_types.new.stack c.verify_types.result c.verify_types.ensures.counted_to
 
 pub returns-in-Err-clause-counted_to : goal.returns-in-Err-clause-counted_to
 returns-in-Err-clause-counted_to g c = inl (c.in-Err.ensures.form, c.in-Err.ensures.read_to)

@@ -1,62 +1,40 @@
-use Rattle.std.proofs.Common.{◌+◌, ◌*◌, sym, ◌∙◌, arith}
-use Rattle.card_typing.specs.Typing.{IsLeastCardTyping}
+use Rattle.std.proofs.Common.{Contains}
+use Rattle.std.proofs.lemmas.List.Elements.{All-contains}
+use Rattle.jc_control.specs.WellFormed.{IsPlace}
+use Rattle.card_typing.specs.Typing.{IsLeastOver, IsLeastCardTyping}
 use Rattle.card_verify.proofs.Answering.{on-ok}
-use Rattle.card_verify.proofs.Starting.{start-length}
-use Rattle.card_verify.specs.Bound.{instruction_count}
 use Rattle.card_verify.specs.Indexed.{subject, world_in, listed}
 use Rattle.card_verify.specs.IndexTyping.{HasIndexTyping}
-use Rattle.card_verify.specs.IndexWalk.{IsFinishedOver}
-use Rattle.card_verify.proofs.Verified.{finished-least, finished-typing, passes-within, counted-of}
-use Rattle.card_verify.proofs.Walked.{begun-over-start}
+use Rattle.card_verify.proofs.Verified.{typed-over, least-over, refused-over}
 use Rattle.card_verify.proofs.indexed.Indexed.verify_types.Goals as goal
 
-pub begin-requires : goal.begin-requires
-begin-requires g c =
-    c.requires.slices.registers ∙ sym (start-length (world_in c.args.self.now) (subject c.args.self.now) c.rule_laws.ensures.world c.requires.method)
+pub verify_over-requires-clause-targets : goal.verify_over-requires-clause-targets
+verify_over-requires-clause-targets g c = c.requires.index.complete
 
-pub settle-requires-clause-indexed : goal.settle-requires-clause-indexed
-settle-requires-clause-indexed g c = record {
-  verifier = record {
-    known = c.requires.method;
-    formed = c.requires.formed;
-    world = c.rule_laws.ensures.world;
-    sound = c.card_laws.ensures.sound;
-    order = c.instructions_are_listed.ensures;
-    records = c.card_laws.ensures.records;
-  };
-  index = c.requires.index;
-}
-
-pub settle-requires-clause-begun : goal.settle-requires-clause-begun
-settle-requires-clause-begun g c =
-    begun-over-start c.args.self.now c.begin.new.regs c.args.stack.now c.begin.ensures
-    (record { registers = c.begin.auto.regs ∙ c.requires.slices.registers; cells = c.requires.slices.cells })
+pub verify_over-requires-clause-places : goal.verify_over-requires-clause-places
+verify_over-requires-clause-places g c = λ q there.
+    let x = c.args.self.now in
+    All-contains (IsPlace (subject x).code) (listed x) q c.requires.index.places there
 
 pub returns-clause-typing : goal.returns-clause-typing
 returns-clause-typing g c =
     let x = c.args.self.now in
-    on-ok (IsFinishedOver x c.settle.new.regs) (HasIndexTyping (world_in x) (subject x) (listed x)) c.settle.result
-    (finished-typing x c.requires.method c.requires.formed c.card_laws.ensures.quiet c.rule_raises.ensures.rests c.instructions_are_placed.ensures
-    c.instructions_are_listed.ensures c.requires.index c.settle.new.regs)
-    c.settle.ensures.finished
+    on-ok (IsLeastOver (world_in x) (subject x) (Contains (listed x)) c.verify_over.new.regs) (HasIndexTyping (world_in x) (subject x) (listed x))
+    c.verify_over.result
+    (typed-over (world_in x) (subject x) (listed x) c.requires.index c.verify_over.new.regs) c.verify_over.ensures.typing
 
 pub returns-clause-least : goal.returns-clause-least
 returns-clause-least g c =
     let x = c.args.self.now in
-    on-ok (IsFinishedOver x c.settle.new.regs) (IsLeastCardTyping (world_in x) (subject x) c.settle.new.regs) c.settle.result
-    (finished-least x c.requires.method c.requires.formed c.card_laws.ensures.quiet c.settle.new.regs) c.settle.ensures.finished
+    on-ok (IsLeastOver (world_in x) (subject x) (Contains (listed x)) c.verify_over.new.regs)
+    (IsLeastCardTyping (world_in x) (subject x) c.verify_over.new.regs) c.verify_over.result
+    (least-over (world_in x) (subject x) (listed x) c.requires.index c.verify_over.new.regs) c.verify_over.ensures.typing
+
+pub returns-clause-refused : goal.returns-clause-refused
+returns-clause-refused g c =
+    let x = c.args.self.now in
+    refused-over (world_in x) (subject x) (listed x) c.verify_over.new.regs c.verify_over.new.stack c.args.steps.now c.verify_over.new.steps
+    c.requires.formed c.requires.index c.verify_over.result c.verify_over.ensures.refused
 
 pub returns-clause-cost : goal.returns-clause-cost
-returns-clause-cost g c = λ b lt.
-    let x = c.args.self.now in
-    omega (
-      arith,
-      c.settle.ensures.cost b lt,
-      passes-within (world_in x) (subject x) (listed x) c.begin.new.regs (instruction_count (subject x) * (b + 1))
-          (c.begin.auto.regs ∙ c.requires.slices.registers),
-    )
-
-pub returns-clause-counted : goal.returns-clause-counted
-returns-clause-counted g c =
-    counted-of (subject c.args.self.now) c.settle.new.regs c.begin.new.regs c.args.steps.now c.settle.new.steps c.settle.result c.begin.ensures
-    c.settle.ensures.counted c.settle.ensures.twice
+returns-clause-cost g c = λ b lt. c.verify_over.ensures.cost b lt

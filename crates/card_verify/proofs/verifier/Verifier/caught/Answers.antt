@@ -15,7 +15,7 @@ caught_with-class-requires-clause-class c =
 pub caught_with-class-requires-clause-handler : goal.caught_with-class-requires-clause-handler
 caught_with-class-requires-clause-handler c =
     handler-class c.args.self.now.world.now (method c.args.self.now) c.classes-classes.result.now c.as_slice-handler-items.result.now c.handlers.handler-index _
-    c.classes-classes.ensures.is c.requires.verifier.world c.requires.verifier.known c.as_slice-handler-items.ensures c.handlers-test.true
+    c.classes-classes.ensures.is c.requires.world c.requires.known c.as_slice-handler-items.ensures c.handlers-test.true
 
 pub handlers-preserved : goal.handlers-preserved
 handlers-preserved c =
@@ -23,7 +23,7 @@ handlers-preserved c =
     c.handlers.class c.caught_with-class.result c.as_slice-handler-items.ensures c.handlers-test.true
     (handler-class c.args.self.now.world.now (method c.args.self.now) c.classes-classes.result.now c.as_slice-handler-items.result.now
     c.handlers.handler-index _
-    c.classes-classes.ensures.is c.requires.verifier.world c.requires.verifier.known c.as_slice-handler-items.ensures c.handlers-test.true)
+    c.classes-classes.ensures.is c.requires.world c.requires.known c.as_slice-handler-items.ensures c.handlers-test.true)
     c.caught_with-class.ensures c.handlers.invariant
 
 pub returns : goal.returns

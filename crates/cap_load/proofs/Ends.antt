@@ -1,0 +1,104 @@
+-- What a loader that met no fault answers at the end.
+use Rattle.std.proofs.Common.{◌≡◌, ℕ, ◌+◌, ◌≤◌, List, [], ◌∷◌, ◌++◌, length, Option, Some, None, Result, Ok, Err, refl, sym, ap}
+use Rattle.std.proofs.Common.{subst, ◌∙◌, arith}
+use Rattle.std.proofs.lemmas.List.{append-nil}
+use Rattle.std.specs.List.{AllByRecursion, concat}
+use Rattle.cap_components.specs.Parts.{Lent}
+use Rattle.cap_load.specs.declared.fault.StreamFault.{StreamFault}
+use Rattle.cap_load.specs.declared.fault.StreamFault.TheVariants.{NoTag, Order, Full, AfterEnd, Unfinished}
+use Rattle.cap_load.specs.declared.finish_end.FinishEnd.{FinishEnd}
+use Rattle.cap_load.specs.declared.finish_end.FinishEnd.TheVariants.{Fault, Memory}
+use Rattle.cap_load.specs.declared.component.Next.{Next}
+use Rattle.cap_load.specs.declared.component.Next.TheVariants.{Tag, High, Low, Info}
+use Rattle.cap_load.specs.declared.component.Reading.{Reading}
+use Rattle.cap_load.specs.declared.block.Block.{Block}
+use Rattle.cap_load.specs.declared.block.Block.TheVariants.{Left, Ended}
+use Rattle.cap_load.specs.LoadFile.{IsBlock, in_blocks, stream_of, files_of, AreFiles, IsLoadFileWithin}
+use Rattle.cap_load.specs.Fault.{HasEnded, IsUnfinished, IsFirst, IsRefused}
+use Rattle.cap_load.specs.Loaded.{Loaded, IsNext, IsFront, IsRead, StandsBy, StandsFor}
+use Rattle.cap_load.specs.Finishing.{Finishes, Gives}
+use Rattle.cap_load.proofs.Splits.{one_split, files_split}
+use Rattle.cap_load.proofs.Fronts.{not_ended}
+use Rattle.cap_load.proofs.Shown.{tail_is}
+use Rattle.cap_load.proofs.Streams.{one_list, not_both}
+
+stands_by : (loaded : Loaded) (bytes : List ℕ) (fault : Option StreamFault) → loaded.fault ≡ fault → StandsFor loaded bytes
+    → StandsBy fault loaded bytes
+stands_by loaded bytes fault e s = subst (λ (o : Option StreamFault). StandsBy o loaded bytes) e s
+
+-- behind the ending stands nothing
+joined_whole : (bytes contents : List ℕ) (f : IsFront Ended bytes contents) → contents ≡ concat f.blocks
+joined_whole bytes contents f = f.joined ∙ ap (λ (x : List ℕ). concat f.blocks ++ x) f.left.1 ∙ append-nil (concat f.blocks)
+
+stream_whole : (bytes contents : List ℕ) (f : IsFront Ended bytes contents) → bytes ≡ stream_of f.blocks
+stream_whole bytes contents f = f.whole ∙ ap (λ (x : List ℕ). in_blocks f.blocks ++ x) f.left.0
+
+whole_by : (room : ℕ) (bytes contents : List ℕ) (parts : List Lent) → IsFront Ended bytes contents → length contents ≤ room
+    → AreFiles contents parts → IsLoadFileWithin room bytes parts
+whole_by room bytes contents parts f few files =
+    let whole = files.whole in
+    record {
+      loads = record {
+        blocks = f.blocks;
+        each = f.each;
+        whole = stream_whole bytes contents f;
+        files = subst (λ (c : List ℕ). AreFiles c parts) (joined_whole bytes contents f) files;
+      };
+      few = subst (λ (c : List ℕ). length c ≤ room) whole few;
+    }
+
+pub ends_whole : (loaded : Loaded) (parts : List Lent) → loaded.fault ≡ None → loaded.block ≡ Ended → length loaded.contents ≤ loaded.room
+    → AreFiles loaded.contents parts → Finishes loaded (Ok parts)
+ends_whole loaded parts e b few files bytes s =
+    let stands = stands_by loaded bytes None e s in
+    whole_by loaded.room bytes loaded.contents parts (subst (λ (at : Block). IsFront at bytes loaded.contents) b stands.1) few files
+
+-- a stream has an ending
+stream_ended : (bytes : List ℕ) (blocks : List (List ℕ)) → AllByRecursion IsBlock blocks → bytes ≡ stream_of blocks → HasEnded bytes
+stream_ended bytes blocks each e = record { blocks = blocks; more = []; each = each; whole = e ∙ sym (append-nil (stream_of blocks)) }
+
+pub ends_early : (loaded : Loaded) (n : ℕ) → loaded.fault ≡ None → loaded.block ≡ Left n → Finishes loaded (Err (Fault Unfinished))
+ends_early loaded n e b bytes s =
+    let stands = stands_by loaded bytes None e s in
+    let front : IsFront (Left n) bytes loaded.contents = subst (λ (at : Block). IsFront at bytes loaded.contents) b stands.1 in
+    (stands.0, λ blocks parts each files whole joined. not_ended n bytes loaded.contents front (stream_ended bytes blocks each whole))
+
+cut : (bytes contents : List ℕ) (reading : Reading) → IsFront Ended bytes contents → (r : IsRead contents reading) → (r.tail ≡ [] → ⊥)
+    → IsUnfinished bytes
+cut bytes contents reading f r some blocks parts each files whole joined =
+    let split = one_split f.blocks blocks (0 ∷ []) (0 ∷ []) f.each each (λ h. absurd (omega arith)) (λ h. absurd (omega arith))
+    (sym (stream_whole bytes contents f) ∙ whole) in
+    let same : files_of parts ++ [] ≡ files_of r.files ++ r.tail =
+    append-nil (files_of parts) ∙ sym joined ∙ ap concat (sym split.0) ∙ sym (joined_whole bytes contents f) ∙ r.whole in
+    some (sym (files_split parts r.files [] r.tail files r.each (tt {0}) (tail_is reading.next r.tail r.next) same).1)
+
+tail_some : (next : Next) (tail : List ℕ) → IsNext next tail → (next ≡ Tag → ⊥) → tail ≡ [] → ⊥
+tail_some Tag tail n h e = h refl
+tail_some High tail n h e = absurd (let t = n.1 in cc)
+tail_some (Low high) tail n h e = absurd (let t = n.1 in cc)
+tail_some (Info left) tail n h e = absurd (let t = n.4 in cc)
+
+pub ends_cut : (loaded : Loaded) → loaded.fault ≡ None → loaded.block ≡ Ended → IsRead loaded.contents loaded.reading
+    → (loaded.reading.next ≡ Tag → ⊥)
+    → Finishes loaded (Err (Fault Unfinished))
+ends_cut loaded e b r h bytes s =
+    let stands = stands_by loaded bytes None e s in
+    let front : IsFront Ended bytes loaded.contents = subst (λ (at : Block). IsFront at bytes loaded.contents) b stands.1 in
+    (stands.0, cut bytes loaded.contents loaded.reading front r (tail_some loaded.reading.next r.tail r.next h))
+
+first_refused : (room : ℕ) (bytes : List ℕ) (fault : StreamFault) → IsFirst room bytes fault → IsRefused room bytes fault
+first_refused room bytes (NoTag t) f = f
+first_refused room bytes (Order a b) f = f
+first_refused room bytes (Full n) f = f
+first_refused room bytes AfterEnd f = f
+first_refused room bytes Unfinished f = absurd f.shown
+
+pub ends_refused : (loaded : Loaded) (fault : StreamFault) → loaded.fault ≡ Some fault → Finishes loaded (Err (Fault fault))
+ends_refused loaded fault e bytes s = first_refused loaded.room bytes fault (stands_by loaded bytes (Some fault) e s)
+
+-- the answer is the one list of parts, where there is one
+pub gives : (loaded : Loaded) (result : Result (List Lent) FinishEnd) (bytes : List ℕ) (parts : List Lent) → Finishes loaded result
+    → StandsFor loaded bytes → IsLoadFileWithin loaded.room bytes parts → Gives parts result
+gives loaded (Ok others) bytes parts f s w = one_list bytes parts others w.loads (f bytes s).loads
+gives loaded (Err (Fault fault)) bytes parts f s w = not_both loaded.room bytes parts fault w (f bytes s)
+gives loaded (Err Memory) bytes parts f s w = tt {0}

@@ -1,0 +1,15 @@
+pub mod Splits
+pub mod Faults
+pub mod Streams
+pub mod Orders
+pub mod Readings
+pub mod Contents
+pub mod Fronts
+pub mod Shown
+pub mod Standing
+pub mod Parting
+pub mod Ends
+pub mod Choosing
+pub mod Framing
+pub mod Cuts
+pub mod Joins

@@ -1,0 +1,12 @@
+pub mod Order
+pub mod LoadFile
+pub mod Fault
+pub mod Packing
+pub mod Laws
+pub mod Joining
+pub mod Reading
+pub mod Loaded
+pub mod Taking
+pub mod Finishing
+pub mod Inside
+pub mod Worked

@@ -1,0 +1,14 @@
+/// Why the bytes of a Load file are refused. Several are in the order of this list.
+#[derive(Clone, Copy)]
+pub enum StreamFault {
+    /// A component begins with a tag that no component has.
+    NoTag(u8),
+    /// A component begins with the second tag after the first, which does not come before it.
+    Order(u8, u8),
+    /// The contents of the blocks pass the room of so many bytes.
+    Full(u32),
+    /// A byte follows the ending.
+    AfterEnd,
+    /// The ending is missing, or a component is cut.
+    Unfinished,
+}

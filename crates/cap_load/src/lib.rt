@@ -1,0 +1,24 @@
+//! Load files: the components of a package, one after another (Java Card 2.2 VM Specification, section 6.1), in blocks, as
+//! a card receives them. A `Loader` takes such a file in pieces, and gives the parts or the first fault; `blocks` makes one.
+//! It stands on the lists of parts of `cap_components`, and takes memory when a loader is made and a list of parts or a
+//! file is given.
+#![tactic(auto)]
+
+mod block;
+mod blocks_end;
+mod component;
+mod fault;
+mod finish_end;
+mod laws;
+mod loader;
+mod order;
+mod packing;
+
+pub use block::Block;
+pub use blocks_end::BlocksEnd;
+pub use component::{Next, Reading};
+pub use fault::StreamFault;
+pub use finish_end::FinishEnd;
+pub use laws::{not_both, one_fault, one_list, packed_is_load_file};
+pub use loader::Loader;
+pub use packing::blocks;

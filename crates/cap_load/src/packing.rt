@@ -1,0 +1,121 @@
+ghost use Rattle.std.specs.Prelude.{◌≡◌, ◌≤◌, ◌<◌, ◌^◌, ◌++◌, ℕ, slice_index, length, IfOk, IfErr, OnOk};
+ghost use Rattle.std.specs.List.{AllByRecursion, flat_map};
+ghost use Rattle.cap_load.specs.LoadFile.{block, IsBlock};
+ghost use Rattle.cap_load.specs.Packing.{IsFramed, IsPacked, IsTooLong};
+ghost use Rattle.cap_load.specs.Joining.{counted_from, in_order, file_in, ending, IsCut};
+
+use crate::blocks_end::BlocksEnd;
+use crate::order::COMPONENTS;
+use cap_bytes::Part;
+use cap_components::Parts;
+use std::alloc::{AllocError, Global};
+
+/// The most bytes that the file of a part can have: a tag, a size and 65,535 bytes.
+const MOST_BYTES: usize = 65538;
+
+/// Appends the file of a part, where it is there.
+fn append(contents: &mut Vec<u8>, parts: &Parts<'_>, tag: u8) -> Result<(), AllocError>
+    ensures { OnOk result (contents.new.items ≡ contents.old.items ++ file_in parts.now tag) }
+{
+    match parts.get(Part(tag)) {
+        None => Ok(()),
+        Some(bytes) => contents.extend_from_slice(bytes),
+    }
+}
+
+/// Appends the files of the components of the standard.
+fn append_all(contents: &mut Vec<u8>, parts: &Parts<'_>, tags: &[u8]) -> Result<(), AllocError>
+    ensures { OnOk result (contents.new.items ≡ contents.old.items ++ flat_map (file_in parts.now) tags.now) }
+{
+    'tags: for tag in tags {
+        append(contents, parts, *tag)?;
+    }
+    Ok(())
+}
+
+/// Appends the files of the custom components.
+fn append_customs(contents: &mut Vec<u8>, parts: &Parts<'_>) -> Result<(), AllocError>
+    ensures { OnOk result (contents.new.items ≡ contents.old.items ++ flat_map (file_in parts.now) (counted_from 128 128)) }
+{
+    'tags: for tag in 128..256u16 {
+        append(contents, parts, tag as u8)?;
+    }
+    Ok(())
+}
+
+/// The files of the components, one after another, in order.
+#[tactic(auto, using(crate::proofs::Choosing::joined_order))]
+fn joined(alloc: Global, parts: &Parts<'_>) -> Result<Vec<u8>, AllocError>
+    ensures { IfOk result (λ contents. contents.items ≡ flat_map (file_in parts.now) in_order) }
+{
+    let mut contents = Vec::new(alloc);
+    append_all(&mut contents, parts, &COMPONENTS)?;
+    append_customs(&mut contents, parts)?;
+    Ok(contents)
+}
+
+/// Appends a block.
+fn put_block(stream: &mut Vec<u8>, content: &[u8]) -> Result<(), AllocError>
+    requires { IsBlock content.now }
+    ensures { OnOk result (stream.new.items ≡ stream.old.items ++ block content.now) }
+{
+    stream.push(content.len() as u8)?;
+    stream.extend_from_slice(content)
+}
+
+/// Appends what is left, as the last block, and the ending.
+fn put_end(stream: &mut Vec<u8>, rest: &[u8]) -> Result<(), AllocError>
+    requires { length rest.now ≤ 255 }
+    ensures { OnOk result (stream.new.items ≡ stream.old.items ++ ending rest.now) }
+{
+    if !rest.is_empty() {
+        put_block(stream, rest)?;
+    }
+    stream.push(0)?;
+    Ok(())
+}
+
+/// Contents in blocks of 255 bytes and a last one of no more, with the ending.
+fn cut(alloc: Global, contents: &[u8]) -> Result<Vec<u8>, AllocError>
+    ensures { IfOk result (λ stream. IsCut contents.now stream.items) }
+{
+    let mut stream = Vec::new(alloc);
+    let mut rest = contents;
+    'cuts: while rest.len() > 255 {
+        let (content, behind) = rest.split_at(255);
+        put_block(&mut stream, content)?;
+        rest = behind;
+    }
+    put_end(&mut stream, rest)?;
+    Ok(stream)
+}
+
+/// What holds of every list of bytes.
+fn are_bytes(contents: &[u8])
+    ensures { (i : ℕ) → slice_index contents.now i < 256 }
+{}
+
+/// The Load file, however long it is.
+fn pack(alloc: Global, parts: &Parts<'_>) -> Result<Vec<u8>, AllocError>
+    requires { AllByRecursion IsFramed parts.now }
+    ensures { IfOk result (λ stream. IsPacked parts.now stream.items × (length stream.items < 2 ^ 32)) }
+{
+    let contents = joined(alloc, parts)?;
+    let bytes = contents.as_slice();
+    are_bytes(bytes);
+    let stream = cut(alloc, bytes)?;
+    Ok(stream)
+}
+
+/// The Load file of the components among the parts: those of the standard but Debug, and the custom ones.
+pub fn blocks(alloc: Global, parts: &Parts<'_>) -> Result<Vec<u8>, BlocksEnd>
+    requires { AllByRecursion IsFramed parts.now }
+    ensures packed { IfOk result (λ stream. IsPacked parts.now stream.items × (length stream.items ≤ 65538)) }
+    ensures long { IfErr result (λ end. IsTooLong parts.now end) }
+{
+    let stream = pack(alloc, parts)?;
+    if stream.len() > MOST_BYTES {
+        return Err(BlocksEnd::LoadLong(stream.len() as u32));
+    }
+    Ok(stream)
+}
