@@ -1,37 +1,10 @@
 """Methods in the mnemonics of the standard, laid into the Method component of a package; JCVM 2.2, chapters 6 and 7."""
-from packages import method, u2
+import os
+import sys
 
-# ---- operands
-
-POOL_BYTE, POOL, LABEL, WIDE_LABEL = "u1 pool index", "u2 pool index", "s1 branch", "s2 branch"
-REGISTER, KIND, BYTE, SHORT_NUMBER, COUNT = "u1 register", "u1 type", "s1 number", "s2 number", "u1 count"
-SIZES = {POOL_BYTE: 1, POOL: 2, LABEL: 1, WIDE_LABEL: 2, REGISTER: 1, KIND: 1, BYTE: 1, SHORT_NUMBER: 2, COUNT: 1}
-KINDS = {"object": 0, "boolean": 10, "byte": 11, "short": 12, "int": 13, "array": 14}    # what newarray and checkcast name
-
-INSTRUCTIONS = {
-    "aconst_null": (1,), "sconst_m1": (2,), "sconst_0": (3,), "sconst_1": (4,), "sconst_2": (5,), "sconst_3": (6,),
-    "bspush": (16, BYTE), "sspush": (17, SHORT_NUMBER), "aload": (21, REGISTER), "sload": (22, REGISTER),
-    "aload_0": (24,), "aload_1": (25,), "aload_2": (26,), "aload_3": (27,),
-    "sload_0": (28,), "sload_1": (29,), "sload_2": (30,), "sload_3": (31,),
-    "baload": (37,), "saload": (38,), "iaload": (39,), "astore": (40, REGISTER), "sstore": (41, REGISTER),
-    "astore_1": (44,), "astore_2": (45,), "astore_3": (46,), "sstore_1": (48,), "sstore_2": (49,), "sstore_3": (50,),
-    "sastore": (57,), "iastore": (58,), "pop": (59,), "dup": (61,), "dup2": (62,),
-    "sadd": (65,), "iadd": (66,), "ssub": (67,), "smul": (69,), "sneg": (75,),
-    "sinc": (89, REGISTER, BYTE), "s2b": (91,), "s2i": (92,),
-    "ifeq": (96, LABEL), "ifne": (97, LABEL), "iflt": (98, LABEL), "ifle": (101, LABEL), "ifnonnull": (103, LABEL),
-    "if_acmpne": (105, LABEL), "if_scmplt": (108, LABEL), "if_scmpge": (109, LABEL), "if_scmpgt": (110, LABEL),
-    "if_scmple": (111, LABEL), "goto": (112, LABEL),
-    "stableswitch": (115, WIDE_LABEL, SHORT_NUMBER, SHORT_NUMBER, WIDE_LABEL),      # the last operand once for each case
-    "areturn": (119,), "sreturn": (120,), "return": (122,),
-    "getstatic_a": (123, POOL), "getstatic_b": (124, POOL), "getstatic_s": (125, POOL), "getstatic_i": (126, POOL),
-    "putstatic_a": (127, POOL), "putstatic_b": (128, POOL), "putstatic_s": (129, POOL), "putstatic_i": (130, POOL),
-    "getfield_a": (131, POOL_BYTE), "getfield_s": (133, POOL_BYTE), "putfield_b": (136, POOL_BYTE),
-    "putfield_s": (137, POOL_BYTE),
-    "invokevirtual": (139, POOL), "invokespecial": (140, POOL), "invokestatic": (141, POOL), "new": (143, POOL),
-    "newarray": (144, KIND), "athrow": (147,), "checkcast": (148, KIND, POOL), "instanceof": (149, KIND, POOL),
-    "getfield_a_this": (173, POOL_BYTE), "getfield_b_this": (174, POOL_BYTE), "getfield_s_this": (175, POOL_BYTE),
-    "putfield_a_this": (181, POOL_BYTE), "putfield_b_this": (182, POOL_BYTE), "putfield_s_this": (183, POOL_BYTE),
-}
+sys.path.insert(0, os.path.join(os.path.dirname(os.path.dirname(os.path.realpath(__file__))), "tools"))
+from instructions import INSTRUCTIONS, KIND, KINDS, LABEL, POOL, POOL_BYTE, SIGNED, SIZES, WIDE_LABEL  # noqa: E402
+from packages import method, u2  # noqa: E402
 
 
 def parsed(text):
@@ -79,8 +52,7 @@ class Code:
                 number = self.labels[operand] - start
             else:
                 number = KINDS[operand] if kind == KIND else int(operand)
-            is_signed = kind in (LABEL, WIDE_LABEL, BYTE, SHORT_NUMBER)
-            code += number.to_bytes(SIZES[kind], "big", signed=is_signed)
+            code += number.to_bytes(SIZES[kind], "big", signed=kind in SIGNED)
         return code
 
 
@@ -111,7 +83,9 @@ class Method:
 
     def __init__(self, flags, token, nibbles, stack, arguments, text, handlers=(), variables=0):
         self.flags, self.token, self.nibbles, self.text, self.handlers = flags, token, nibbles, text, handlers
-        self.header = bytes([(64 if flags & ABSTRACT else 0) + stack, 16 * arguments + variables])
+        kind = 64 if flags & ABSTRACT else 0
+        is_short = max(stack, arguments, variables) < 16
+        self.header = bytes([kind + stack, 16 * arguments + variables] if is_short else [kind + 128, stack, arguments, variables])
 
 
 def handler_table(package, start, handlers, labels, pool):

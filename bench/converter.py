@@ -6,15 +6,17 @@ What a method names stands in its mnemonics as `C` for a class, `C.m` for a memb
 import re
 from dataclasses import dataclass, field
 
-from assembly import (CONSTRUCTOR, PRIVATE, PROTECTED, PUBLIC, STATIC, UNNAMED, class_entry, field_entry,
+from assembly import (ABSTRACT, CONSTRUCTOR, FINAL, PRIVATE, PROTECTED, PUBLIC, STATIC, UNNAMED, class_entry, field_entry,
                       imported_static_entry, lay, named, own_static_entry, super_entry, virtual_entry)
 from assembly import Method as LaidMethod
 from assembly import Types
+from exports import ExportedClass, export_bytes
 from packages import NO_SUPERCLASS, Package, class_record, u2
 
 NIBBLES = {"V": "1", "Z": "2", "B": "3", "S": "4", "I": "5", "[Z": "A", "[B": "B", "[S": "C", "[I": "D"}
 FIELD_TYPES = {"Z": 0x8002, "B": 0x8003, "S": 0x8004, "I": 0x8005}
 BYTES = {"Z": 1, "B": 1, "S": 2, "I": 4}
+ABSTRACT_CLASS = 128    # the flag of a class in the Descriptor
 ELEMENTS = {"[Z": 2, "[B": 3, "[S": 4, "[I": 5}     # types of initial arrays
 
 
@@ -119,7 +121,7 @@ class Unit:
 
 
 def parts(descriptor):
-    return re.findall(r"\[?(?:L\w+;|[VZBSI])", descriptor)
+    return re.findall(r"\[?(?:L[\w/$]+;|[VZBSI])", descriptor)
 
 
 class Conversion:
@@ -310,6 +312,31 @@ class Conversion:
                 classes += text(m.name) + text(m.type) + u2(m.flags) + offset + bytes([2]) + size + u2(0) + u2(0)
         table = b"".join(u2(len(string)) + string.encode() for string in strings)
         return u2(len(strings)) + table + head + u2(len(self.unit.classes)) + classes
+
+
+def exported(unit, path):
+    """The export file of a unit, whose classes have the names that they have in the package of this path."""
+    def named(kind):
+        return re.sub(r"L(\w+);", r"L%s/\1;" % path, kind)
+
+    classes = []
+    for one in unit.classes:
+        supers, over = [], one.above
+        while over is not None:
+            supers, over = supers + ["%s/%s" % (path, over.name)], over.above
+        fields = [(token, f.flags, f.name, named(f.type)) for token, f in enumerate(one.exported_fields())]
+        fields += [(token, f.flags, name, named(f.type)) for name, (token, f) in one.own_fields().items()
+                   if f.flags & (PUBLIC | PROTECTED)]
+        methods = [(token, access_flags(m.flags, ABSTRACT), m.name, named(m.type)) for token, m in enumerate(one.exported_methods())]
+        members = [one.member(name)[1] for name in one.virtual(True)]
+        methods += [(token, access_flags(m.flags, ABSTRACT), m.name, named(m.type)) for token, m in enumerate(members)]
+        classes.append(ExportedClass("%s/%s" % (path, one.name), access_flags(one.flags, ABSTRACT_CLASS), supers, fields=fields, methods=methods))
+    return export_bytes(path, unit.aid(), classes)
+
+
+def access_flags(flags, abstract):
+    """Flags of the Descriptor as an export file has them: those of Java, in which 0x400 is abstract."""
+    return (flags & (PUBLIC | PROTECTED | STATIC | FINAL)) | (0x400 if flags & abstract else 0)
 
 
 def number_of(kind, value):

@@ -63,7 +63,8 @@ class Package:
     def __init__(self, aid=AID):
         self.aid = aid
         self.applets = []       # pairs of an AID and the offset of the install method
-        self.imports = []       # AIDs of packages
+        self.version = 1, 0     # major and minor
+        self.imports = []       # AIDs of packages, each alone for version 1.0 or with its major and minor version
         self.pool = []          # entries of four bytes
         self.pool_types = None  # for each entry its type in the Descriptor; None: zeros
         self.classes = []       # Class records
@@ -136,11 +137,16 @@ class Package:
     def target_index(self):
         return u2(len(self.index)) + b"".join(u2(len(places)) + b"".join(map(u2, places)) for places in self.index)
 
+    def import_info(self):
+        named = [(one, 1, 0) if isinstance(one, bytes) else one for one in self.imports]
+        return bytes([len(named)]) + b"".join(bytes([minor, major, len(aid)]) + aid for aid, major, minor in named)
+
     def infos(self):
+        major, minor = self.version
         flags = (1 if self.has_ints else 0) + (0 if self.export is None else 2) + (4 if self.applets else 0)
         infos = {
-            1: bytes.fromhex("DECAFFED0202") + bytes([flags, 0, 1, len(self.aid)]) + self.aid + bytes([0]),
-            4: bytes([len(self.imports)]) + b"".join(bytes([0, 1, len(aid)]) + aid for aid in self.imports),
+            1: bytes.fromhex("DECAFFED0202") + bytes([flags, minor, major, len(self.aid)]) + self.aid + bytes([0]),
+            4: self.import_info(),
             5: u2(len(self.pool)) + b"".join(self.pool),
             6: u2(0) + b"".join(self.classes),
             7: bytes([len(self.handlers) // 8]) + self.handlers + self.methods,

@@ -1,9 +1,7 @@
 """The classes of two examples: a base package, `runtime`, and an applet over it, `counter`; in Java, and method by method
 in the mnemonics of the standard, as a compiler and a converter would lay them."""
 from assembly import ABSTRACT, CONSTRUCTOR, PRIVATE, PROTECTED, PUBLIC, STATIC
-from converter import Class, Conversion, Field, Method, Unit
-
-ABSTRACT_CLASS = 128    # the flag of a class in the Descriptor
+from converter import ABSTRACT_CLASS, Class, Conversion, Field, Method, Unit
 
 # ---- the base package
 

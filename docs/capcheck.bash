@@ -1,0 +1,15 @@
+# Completion of capcheck's words in bash:  source docs/capcheck.bash
+_capcheck() {
+    local word="${COMP_WORDS[COMP_CWORD]}"
+    if ((COMP_CWORD == 1)); then
+        mapfile -t COMPREPLY < <(compgen -W "probe show check verify run defend trial transform gen --help" -- "$word")
+        return
+    fi
+    case "${COMP_WORDS[1]}" in
+        probe) ((COMP_CWORD == 2)) || return ;;
+        run | defend | trial) ((COMP_CWORD > 3)) || return ;;
+        gen) ((COMP_CWORD == 3)) || return ;;
+    esac
+    mapfile -t COMPREPLY < <(compgen -d -- "$word")
+}
+complete -o filenames -F _capcheck capcheck ./capcheck
