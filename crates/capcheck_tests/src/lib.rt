@@ -25,6 +25,8 @@ mod gen_tests;
 #[cfg(test)]
 mod length_tests;
 #[cfg(test)]
+mod load_tests;
+#[cfg(test)]
 mod memory_tests;
 #[cfg(test)]
 mod probe_tests;
