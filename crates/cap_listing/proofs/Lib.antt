@@ -1,0 +1,14 @@
+pub mod Words
+pub mod Counted
+pub mod Appending
+pub mod Few
+pub mod Kept
+pub mod Blocks
+pub mod Tell
+pub mod Grow
+pub mod Steps
+pub mod Runs
+pub mod Ends
+pub mod Shown
+pub mod Apart
+pub mod Final

@@ -1,0 +1,128 @@
+-- The numbers of an instruction fit 32 bits.
+use Rattle.std.proofs.Common.{◌≡◌, ◌<◌, ◌≤◌, ◌+◌, ◌*◌, ◌^◌, ℕ, zero, suc, Bool, true, false, Result, Ok, Err, List, [], ◌∷◌}
+use Rattle.std.proofs.Common.{◌++◌, length, map, refl, sym, ap, subst, ◌∙◌, arith, rules}
+use Rattle.std.specs.Prelude.{ℤ, pos, negsuc, FitsSigned, unsigned_abs, ◌+ℤ◌}
+use Rattle.std.specs.Int.{w8, w16, w32}
+use Rattle.std.specs.List.{range_with_len}
+use Rattle.std.specs.Result.{result_unwrap_or}
+use Rattle.jc_decode.specs.declared.layout.Operand.{Operand}
+use Rattle.jc_decode.specs.declared.layout.Operand.TheVariants.{Absent, U1, U2, S1, S2, S4, DupWords, SwapWords, ArrayType, TestedType}
+use Rattle.jc_decode.specs.declared.layout.Cases.{Cases}
+use Rattle.jc_decode.specs.declared.layout.Cases.TheVariants.{Range, Pairs}
+use Rattle.jc_decode.specs.declared.layout.Cases.TheVariants.{Absent as NoCases}
+use Rattle.jc_decode.specs.declared.layout.Layout.{Layout}
+use Rattle.jc_decode.specs.declared.insn.CodeEnd.{CodeEnd}
+use Rattle.jc_decode.specs.declared.insn.Insn.{Insn}
+use Rattle.jc_decode.specs.declared.insn.Case.{Case}
+use Rattle.jc_decode.specs.Layout.{layout_of, total_width}
+use Rattle.jc_decode.specs.Decoding.{decoded, operand_at, range_count, AreBytes, FitsOperand, FitsLayout}
+use Rattle.jc_decode.specs.Cases.{cases, cases_in, range_case, pair_case}
+use Rattle.jc_decode.specs.Listing.{jumps, target}
+use Rattle.jc_decode.proofs.Decoded.{Begins-decoded}
+use Rattle.jc_decode.proofs.Ranges.{FitsOperand-read, FitsLayout-decoded, offset-decoded}
+use Rattle.jc_decode.proofs.Tables.{cases-by}
+use Rattle.cap_listing.specs.Numbers.{shown_operand, shown_first, shown_case, shown_cases, numbers_by, numbers_of, AreShown}
+use Rattle.cap_listing.specs.Reading.{IsOne}
+
+shown-append : (ys zs : List ℤ) → AreShown ys → AreShown zs → AreShown (ys ++ zs)
+shown-append [] zs h k = k
+shown-append (y ∷ ys) zs h k = (h.0, shown-append ys zs h.1 k)
+
+-- an operand fits
+operand-fits : (o : Operand) (v : ℤ) → FitsOperand o v → FitsSigned w32 v
+operand-fits Absent v h = subst (FitsSigned w32) (sym h) (omega arith)
+operand-fits S1 (pos n) h = omega arith
+operand-fits S1 (negsuc n) h = omega arith
+operand-fits S2 (pos n) h = omega arith
+operand-fits S2 (negsuc n) h = omega arith
+operand-fits S4 v h = h
+operand-fits U1 (pos n) h = omega arith
+operand-fits U1 (negsuc n) h = absurd h
+operand-fits U2 (pos n) h = omega arith
+operand-fits U2 (negsuc n) h = absurd h
+operand-fits DupWords (pos n) h = omega arith
+operand-fits DupWords (negsuc n) h = absurd h
+operand-fits SwapWords (pos n) h = omega arith
+operand-fits SwapWords (negsuc n) h = absurd h
+operand-fits ArrayType (pos n) h = omega arith
+operand-fits ArrayType (negsuc n) h = absurd h
+operand-fits TestedType (pos n) h = omega arith
+operand-fits TestedType (negsuc n) h = absurd h
+
+-- and where it is shown
+operand-shown : (o : Operand) (z : ℤ) → FitsSigned w32 z → AreShown (shown_operand o z)
+operand-shown Absent z h = search rules
+operand-shown U1 z h = (h, search rules)
+operand-shown U2 z h = (h, search rules)
+operand-shown S1 z h = (h, search rules)
+operand-shown S2 z h = (h, search rules)
+operand-shown S4 z h = (h, search rules)
+operand-shown DupWords z h = (h, search rules)
+operand-shown SwapWords z h = (h, search rules)
+operand-shown ArrayType z h = (h, search rules)
+operand-shown TestedType z h = (h, search rules)
+
+-- a target of a short distance
+target-fits : (place : ℕ) (x : ℤ) → place ≤ 65535 → FitsSigned w16 x → FitsSigned w32 (target place x)
+target-fits place (pos n) h k = omega arith
+target-fits place (negsuc n) h k = grind (arith)
+
+first-fits : (j : Bool) (place : ℕ) (x : ℤ) → place ≤ 65535 → FitsSigned w32 x → (j ≡ true → FitsSigned w16 x)
+    → FitsSigned w32 (shown_first j place x)
+first-fits true place x h k f = target-fits place x h (f refl)
+first-fits false place x h k f = k
+
+-- what is read of a table
+read-fits : (o : Operand) (xs : List ℕ) (p : ℕ) → AreBytes xs → FitsOperand o (result_unwrap_or (operand_at o xs p) (pos 0))
+read-fits o xs p are = by (operand_at o xs p) refl
+  where
+    none : (k : Operand) → FitsOperand k (pos 0)
+    none Absent = refl
+    none U1 = omega arith
+    none U2 = omega arith
+    none S1 = omega arith
+    none S2 = omega arith
+    none S4 = omega arith
+    none DupWords = omega arith
+    none SwapWords = omega arith
+    none ArrayType = omega arith
+    none TestedType = omega arith
+
+    by : (r : Result ℤ CodeEnd) → operand_at o xs p ≡ r → FitsOperand o (result_unwrap_or r (pos 0))
+    by (Ok v) e = FitsOperand-read o xs p v are e
+    by (Err f) e = none o
+
+ranges-shown : (xs : List ℕ) (place t : ℕ) (low : ℤ) (n a : ℕ) → AreBytes xs → place ≤ 65535
+    → AreShown (shown_cases Range place (map (range_case xs t low) (range_with_len a n)))
+ranges-shown xs place t low zero a are h = search rules
+ranges-shown xs place t low (suc n) a are h = (target-fits place _ h (read-fits S2 xs (t + 2 * a) are), ranges-shown xs place t low n (a + 1) are h)
+
+pairs-shown : (key : Operand) (xs : List ℕ) (place t n a : ℕ) → AreBytes xs → place ≤ 65535
+    → AreShown (shown_cases (Pairs key) place (map (pair_case xs t key) (range_with_len a n)))
+pairs-shown key xs place t zero a are h = search rules
+pairs-shown key xs place t (suc n) a are h =
+    (operand-fits key _ (read-fits key xs _ are), (target-fits place _ h (read-fits S2 xs _ are), pairs-shown key xs place t n (a + 1) are h))
+
+none-shown : (place : ℕ) (cs : List Case) → AreShown (shown_cases NoCases place cs)
+none-shown place [] = search rules
+none-shown place (c ∷ cs) = none-shown place cs
+
+table-shown : (k : Cases) (xs : List ℕ) (place t : ℕ) (i : Insn) → AreBytes xs → place ≤ 65535 → AreShown (shown_cases k place (cases_in k xs t i))
+table-shown NoCases xs place t i are h = search rules
+table-shown Range xs place t i are h = ranges-shown xs place t i.y (range_count i.y i.z) 0 are h
+table-shown (Pairs key) xs place t i are h = pairs-shown key xs place t (unsigned_abs i.y) 0 are h
+
+pub numbers-shown : (place : ℕ) (code : List ℕ) (at : ℕ) (i : Insn) → place ≤ 65535 → AreBytes code → decoded code at ≡ Ok i
+    → AreShown (numbers_of place i (cases code at i))
+numbers-shown place code at i h are is =
+    let b = Begins-decoded code at i is in
+    let l = b.layout in
+    let fits = subst (FitsLayout i) b.is_layout (FitsLayout-decoded code at i are is) in
+    let x = operand-shown l.x (shown_first (jumps i.op) place i.x)
+    (first-fits (jumps i.op) place i.x h (operand-fits l.x i.x fits.0) (offset-decoded code at i are is)) in
+    let y = operand-shown l.y i.y (operand-fits l.y i.y fits.1) in
+    let z = operand-shown l.z i.z (operand-fits l.z i.z fits.2) in
+    let table = subst (λ (cs : List Case). AreShown (shown_cases l.cases place cs)) (sym (cases-by code at i l l.cases b.is_layout refl))
+    (table-shown l.cases code place (at + 1 + total_width l) i are h) in
+    subst (λ (r : Result Layout CodeEnd). AreShown (numbers_by r place i (cases code at i))) (sym b.is_layout)
+    (shown-append _ _ x (shown-append _ _ y (shown-append _ _ z table)))

@@ -1,0 +1,171 @@
+-- Words, and lines of them: what is joined is cut into the same words.
+use Rattle.std.proofs.Common.{◌≡◌, ◌<◌, ◌≤◌, ◌≢◌, ◌+◌, ◌^◌, ℕ, zero, suc, Bool, true, false, cond, List, [], ◌∷◌}
+use Rattle.std.proofs.Common.{◌++◌, length, map, get_or, refl, sym, ap, ◌∙◌, ⊎_elim, ◌/◌, ◌%◌, arith, rules, append_assoc, nat_lt}
+use Rattle.std.proofs.Common.{replicate}
+use Rattle.std.specs.Prelude.{ℤ, pos, negsuc, All, decimal, codes, FitsSigned, ⊤, ◌==◌, ◌&&◌}
+use Rattle.std.specs.Int.{w32}
+use Rattle.std.specs.Fmt.{signed_decimal}
+use Rattle.std.proofs.lemmas.List.{append-nil}
+use Rattle.std.proofs.lemmas.List.Elements.{All-cons, All-nil}
+use Rattle.std.proofs.lemmas.Bool.Decides.{eqb_tells}
+use Rattle.std.proofs.lemmas.Fmt.{decimal_by_steps, decimal_nonempty}
+use Rattle.std.proofs.lemmas.Bool.{ltb-true, false≢true}
+use Rattle.std.proofs.lemmas.List.FromFn.{get_or-map-range_with_len}
+use Rattle.std.proofs.lemmas.List.{get_or-replicate}
+use Rattle.hex.specs.Hex.{encode_with, encode_lower, lower_digits}
+use Rattle.jc_decode.specs.Names.{names, name}
+use Rattle.jc_decode.specs.Decoding.{AreBytes}
+use Rattle.std.specs.List.{slice_split, list_all, range_with_len}
+use Rattle.std.proofs.lemmas.List.Splits.{slice_split_at, slice_split_none}
+use Rattle.cap_listing.specs.Words.{IsPlain, ArePlain, spaced, joined, line, text_of_lines}
+use Rattle.cap_listing.specs.Fault.{HasNoFeed}
+use Rattle.cap_listing.specs.Numbers.{AreShown}
+
+-- ---- lines
+
+pub spaced-append : (vs ws : List (List ℕ)) → spaced (vs ++ ws) ≡ spaced vs ++ spaced ws
+spaced-append [] ws = refl
+spaced-append (v ∷ vs) ws =
+    ap (λ (l : List ℕ). 32 ∷ (v ++ l)) (spaced-append vs ws) ∙ ap (λ (l : List ℕ). 32 ∷ l) (sym (append_assoc v (spaced vs) (spaced ws)))
+
+pub text-append : (ls ks : List (List (List ℕ))) → text_of_lines (ls ++ ks) ≡ text_of_lines ls ++ text_of_lines ks
+text-append [] ks = refl
+text-append (l ∷ ls) ks = ap (λ (t : List ℕ). line l ++ t) (text-append ls ks) ∙ sym (append_assoc (line l) (text_of_lines ls) (text_of_lines ks))
+
+pub free-append : (a b : List ℕ) → HasNoFeed a → HasNoFeed b → HasNoFeed (a ++ b)
+free-append [] b h k = k
+free-append (x ∷ a) b h k = (h.0, free-append a b h.1 k)
+
+pub plain-free : (w : List ℕ) → IsPlain w → HasNoFeed w
+plain-free [] h = h
+plain-free (b ∷ w) h = (λ (e : b ≡ 10). omega (arith, e, h.0), plain-free w h.1)
+
+spaced-free : (ws : List (List ℕ)) → ArePlain ws → HasNoFeed (spaced ws)
+spaced-free [] h = h
+spaced-free (w ∷ ws) h = (λ (e : 32 ≡ 10). omega (arith, e), free-append w (spaced ws) (plain-free w h.0) (spaced-free ws h.1))
+
+-- a line of plain words has no line feed but its last byte
+pub joined-free : (ws : List (List ℕ)) → ArePlain ws → HasNoFeed (joined ws)
+joined-free [] h = h
+joined-free (w ∷ ws) h = free-append w (spaced ws) (plain-free w h.0) (spaced-free ws h.1)
+
+-- two texts that are the same have the same first line, and the same rest
+pub first-line : (a x b y : List ℕ) → HasNoFeed a → HasNoFeed b → a ++ 10 ∷ x ≡ b ++ 10 ∷ y → (a ≡ b) × (x ≡ y)
+first-line [] x [] y h k e = (refl, ap (drop-one) e)
+  where
+    drop-one : List ℕ → List ℕ
+    drop-one [] = []
+    drop-one (c ∷ cs) = cs
+first-line [] x (c ∷ b) y h k e = absurd (k.0 (sym (ap (λ (l : List ℕ). get_or l 0 0) e)))
+first-line (c ∷ a) x [] y h k e = absurd (h.0 (ap (λ (l : List ℕ). get_or l 0 0) e))
+first-line (c ∷ a) x (d ∷ b) y h k e =
+    let rest = first-line a x b y h.1 k.1 (ap drop-one e) in
+    let one = ap (λ (l : List ℕ). get_or l 0 0) e in
+    (ap (λ (n : ℕ). n ∷ a) one ∙ ap (λ (l : List ℕ). d ∷ l) rest.0, rest.1)
+  where
+    drop-one : List ℕ → List ℕ
+    drop-one [] = []
+    drop-one (c ∷ cs) = cs
+
+-- ---- words
+
+pub plain-apart : (w : List ℕ) → IsPlain w → All (λ b. (b == 32) ≡ false) w
+plain-apart [] h = All-nil (λ b. (b == 32) ≡ false)
+plain-apart (b ∷ w) h =
+    All-cons (λ c. (c == 32) ≡ false) b w
+    (⊎_elim (λ same. absurd (omega (arith, same.1, h.0))) (λ other. other.0) (eqb_tells b 32))
+    (plain-apart w h.1)
+
+-- what plain words are joined to is cut into these words
+pub split-joined : (w : List ℕ) (ws : List (List ℕ)) → ArePlain (w ∷ ws) → slice_split (λ b. b == 32) (joined (w ∷ ws)) ≡ w ∷ ws
+split-joined w [] h = ap (slice_split (λ b. b == 32)) (append-nil w) ∙ slice_split_none (λ b. b == 32) w (plain-apart w h.0)
+split-joined w (v ∷ ws) h =
+    slice_split_at (λ b. b == 32) w 32 (joined (v ∷ ws)) (plain-apart w h.0) refl ∙ ap (λ (l : List (List ℕ)). w ∷ l) (split-joined v ws h.1)
+
+-- words that are joined to the same bytes are the same
+pub joined-same : (v : List ℕ) (vs : List (List ℕ)) (w : List ℕ) (ws : List (List ℕ)) → ArePlain (v ∷ vs) → ArePlain (w ∷ ws)
+    → joined (v ∷ vs) ≡ joined (w ∷ ws) → v ∷ vs ≡ w ∷ ws
+joined-same v vs w ws h k e = sym (split-joined v vs h) ∙ ap (slice_split (λ b. b == 32)) e ∙ split-joined w ws k
+
+-- ---- which words are plain
+
+pub plain-append : (v w : List ℕ) → IsPlain v → IsPlain w → IsPlain (v ++ w)
+plain-append [] w h k = k
+plain-append (b ∷ v) w h k = (h.0, plain-append v w h.1 k)
+
+-- the digits of a number
+abbrev pub IsDigits : List ℕ → Type 0
+IsDigits [] = ⊤
+IsDigits (b ∷ bs) = ((48 ≤ b) × (b ≤ 57)) × IsDigits bs
+
+digits-append : (v w : List ℕ) → IsDigits v → IsDigits w → IsDigits (v ++ w)
+digits-append [] w h k = k
+digits-append (b ∷ v) w h k = (h.0, digits-append v w h.1 k)
+
+pub decimal-digits : (n : ℕ) → n < 2 ^ 64 → IsDigits (decimal n)
+decimal-digits n h =
+    decimal_by_steps (λ m ds. IsDigits ds) (λ m below. ((omega arith, omega arith), search rules))
+    (λ m ds above more. digits-append ds ((48 + m % 10) ∷ []) more ((omega arith, omega arith), search rules)) n h
+
+digits-plain : (w : List ℕ) → IsDigits w → IsPlain w
+digits-plain [] h = h
+digits-plain (b ∷ w) h = (omega (arith, h.0.0), digits-plain w h.1)
+
+pub plain-decimal : (n : ℕ) → n < 2 ^ 64 → IsPlain (decimal n)
+plain-decimal n h = digits-plain (decimal n) (decimal-digits n h)
+
+pub plain-signed : (z : ℤ) → FitsSigned w32 z → IsPlain (signed_decimal z)
+plain-signed (pos n) h = plain-decimal n (omega arith)
+plain-signed (negsuc n) h = (omega arith, plain-decimal (suc n) (omega arith))
+
+-- the first byte of a decimal number is a digit
+pub digits-first : (w : List ℕ) → IsDigits w → zero < length w → (48 ≤ get_or w 0 0) × (get_or w 0 0 ≤ 57)
+digits-first [] h some = absurd (omega (arith, some))
+digits-first (b ∷ w) h some = h.0
+
+pub decimal-first : (n : ℕ) → n < 2 ^ 64 → (48 ≤ get_or (decimal n) 0 0) × (get_or (decimal n) 0 0 ≤ 57)
+decimal-first n h = digits-first (decimal n) (decimal-digits n h) (decimal_nonempty n h)
+
+is_plain : List ℕ → Bool
+is_plain w = list_all (λ b. nat_lt 32 b) w
+
+both : (a b : Bool) → (a && b) ≡ true → (a ≡ true) × (b ≡ true)
+both true b e = (refl, e)
+both false b e = absurd (false≢true e)
+
+is_plain-plain : (w : List ℕ) → is_plain w ≡ true → IsPlain w
+unfolding is_plain
+is_plain-plain [] e = search rules
+is_plain-plain (b ∷ w) e = let p = both (nat_lt 32 b) _ e in (ltb-true 32 b p.0, is_plain-plain w p.1)
+
+names_plain : list_all is_plain names ≡ true
+unfolding names is_plain
+names_plain = refl
+
+plain-at : (ws : List (List ℕ)) → list_all is_plain ws ≡ true → (n : ℕ) → IsPlain (get_or ws n [])
+plain-at [] e n = search rules
+plain-at (w ∷ ws) e zero = is_plain-plain w (both (is_plain w) _ e).0
+plain-at (w ∷ ws) e (suc n) = plain-at ws (both (is_plain w) _ e).1 n
+
+pub plain-name : (op : ℕ) → IsPlain (name op)
+plain-name op = plain-at names names_plain op
+
+digits_plain : map (λ k. nat_lt 32 (get_or lower_digits k 0)) (range_with_len 0 16) ≡ replicate 16 true
+digits_plain = refl
+
+digit-plain : (k : ℕ) → k < 16 → 32 < get_or lower_digits k 0
+digit-plain k h =
+    ltb-true 32 (get_or lower_digits k 0)
+    (sym (get_or-map-range_with_len (λ j. nat_lt 32 (get_or lower_digits j 0)) 0 16 k k true h (omega arith))
+    ∙ ap (λ (t : List Bool). get_or t k true) digits_plain ∙ get_or-replicate 16 k true true h)
+
+pub plain-hex : (bytes : List ℕ) → AreBytes bytes → IsPlain (encode_lower bytes)
+unfolding encode_with
+plain-hex [] h = search rules
+plain-hex (b ∷ bytes) h =
+    let small : b < 256 = h 0 in
+    (digit-plain (b / 16) (omega arith), (digit-plain (b % 16) (omega arith), plain-hex bytes (λ k. h (suc k))))
+
+pub plain-map : (zs : List ℤ) → AreShown zs → ArePlain (map signed_decimal zs)
+plain-map [] h = h
+plain-map (z ∷ zs) h = (plain-signed z h.0, plain-map zs h.1)
