@@ -31,7 +31,7 @@ use Rattle.xf_emission.specs.Edge.{cell_copies, copies}
 use Rattle.xf_emission.specs.Emission.{items}
 use Rattle.xf_emission.specs.Group.{body, branch_by, itself}
 use Rattle.xf_emission.specs.Jump.{branch, operands_slot, first_label, goto, has_under, jump_to, label_by, lead, leads, place as place_named, spill_if, stub}
-use Rattle.xf_emission.specs.Jump.{stub_label, stub_of, branch_copies, under}
+use Rattle.xf_emission.specs.Jump.{stub_label, stub_of, branch_copies, under, way_of}
 use Rattle.law_groups.specs.Laid.{count_of, steps_of}
 use Rattle.law_groups.specs.Steps.{ItemsStandFrom}
 use Rattle.law_groups.proofs.Standing.{step-at}
@@ -55,10 +55,10 @@ body-branch s i _ n e = absurd (cc)
 pub branch-alone :
     (s : Source) (i : Placed) (op : Operation) (n : ℕ)
     → has_under s i.place n ≡ false
-    → branch s i op n ≡ jump_to i op (leads s i.place op n 0 (targets s.method.code i)) ∷ []
+    → branch s i op n ≡ jump_to i op (leads s i.place op n (targets s.method.code i) (targets s.method.code i)) ∷ []
 unfolding branch
 branch-alone s i op n e =
-    ap (λ b. spill_if b s i.place n ++ jump_to i op (leads s i.place op n 0 (targets s.method.code i)) ∷ []) e
+    ap (λ b. spill_if b s i.place n ++ jump_to i op (leads s i.place op n (targets s.method.code i) (targets s.method.code i)) ∷ []) e
 
 -- ---- no cells under the operands
 
@@ -97,21 +97,18 @@ taken-is s p op n q e = ap (λ hs. cell_copies s hs (stack_homes s q) ++ copies 
 -- ---- the step
 
 abbrev pub labels_of : Source → Placed → Operation → ℕ → List ℕ
-labels_of s i op n = leads s i.place op n 0 (targets s.method.code i)
+labels_of s i op n = leads s i.place op n (targets s.method.code i) (targets s.method.code i)
 
 -- of the k-th target
 pub lead-at :
-    (s : Source) (p : ℕ) (op : Operation) (n from k : ℕ) (ts : List ℤ) (t : ℤ)
+    (s : Source) (p : ℕ) (op : Operation) (n k : ℕ) (whole ts : List ℤ) (t : ℤ)
     → slice_get ts k ≡ Some t
-    → slice_get (leads s p op n from ts) k ≡ Some (lead s p op n (from + k) t)
-lead-at s p op n from k [] t e = absurd (cc)
-lead-at s p op n from zero (u ∷ ts) t e =
+    → slice_get (leads s p op n whole ts) k ≡ Some (lead s p op n (way_of whole t) t)
+lead-at s p op n k whole [] t e = absurd (cc)
+lead-at s p op n zero whole (u ∷ ts) t e =
     let same : u ≡ t = cc in
-    let here : from ≡ from + 0 = omega arith in
-    ap (λ j. Some (lead s p op n j u)) here ∙ ap (λ x. Some (lead s p op n (from + 0) x)) same
-lead-at s p op n from (suc k) (u ∷ ts) t e =
-    let next : suc from + k ≡ from + suc k = omega arith in
-    lead-at s p op n (suc from) k ts t e ∙ ap (λ j. Some (lead s p op n j t)) next
+    ap (λ x. Some (lead s p op n (way_of whole x) x)) same
+lead-at s p op n (suc k) whole (u ∷ ts) t e = lead-at s p op n k whole ts t e
 
 -- the instruction of the step of a branch or a switch
 abbrev pub jump_insn : Placed → Operation → Insn

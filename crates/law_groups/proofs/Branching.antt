@@ -47,7 +47,7 @@ use Rattle.law_laid.proofs.Steps.{all-contained, at-contains, preimage}
 use Rattle.xf_homes.specs.Source.{Source}
 use Rattle.xf_homes.specs.Plan.{operation, register}
 use Rattle.xf_emission.specs.Emission.{items}
-use Rattle.xf_emission.specs.Jump.{lead}
+use Rattle.xf_emission.specs.Jump.{lead, way_of}
 use Rattle.law_rewritten_typing.proofs.Rows.{wide-is}
 use Rattle.law_rewritten_typing.proofs.Turns.{none-asked}
 use Rattle.law_homes.specs.Held.{HoldsValue, HoldsLocals}
@@ -132,7 +132,7 @@ pub data ForkComes (s : Source) (place : ℕ → ℕ) (i : Placed) (op : Operati
       (k : ℕ) {x : State Cell}
       → AfterFork s place i.place z u y x
       → slice_get (targets s.method.code i) k ≡ Some (pos (top y).place)
-      → (top x).place ≡ place (place_of (lead s i.place op n k (pos (top y).place)) (items s))
+      → (top x).place ≡ place (place_of (lead s i.place op n (way_of (targets s.method.code i) (pos (top y).place)) (pos (top y).place)) (items s))
       → ForkComes s place i op n m z u y (running x)
 
 pub same-state : (a b : State Cell) → running a ≡ running b → a ≡ b
@@ -151,7 +151,7 @@ module _
     (labels_inside :
     (k : ℕ) (t : ℤ)
     → slice_get (targets s.method.code i) k ≡ Some t
-    → place_of (lead s i.place op n k t) (items s) < length (steps_of s))
+    → place_of (lead s i.place op n (way_of (targets s.method.code i) t) t) (items s) < length (steps_of s))
     (next_inside : falls_from op ≡ true → IsPlace (code_at w s.method.number) (place (m + 1)))
     (z u y : State Cell) (ex : Executes v z i op) (equal_too : AreEqualBut z u) (of : AreOf s (top z) (top u)) (here : (top z).place ≡ i.place)
     (objects_stay : map (map_object (renamed_cell (rename s place))) z.heap ≡ z.heap)
@@ -300,7 +300,7 @@ module _
           → option_map (λ (q : ℕ). pos (place q)) o ≡ Some (pos (top x).place)
           → (r : ℕ)
           → slice_get (targets s.method.code i) k ≡ Some (pos (top y).place)
-          → (top x).place ≡ place (place_of (lead s i.place op n k (pos (top y).place)) (items s))
+          → (top x).place ≡ place (place_of (lead s i.place op n (way_of (targets s.method.code i) (pos (top y).place)) (pos (top y).place)) (items s))
       led None h g r own = absurd (cc)
       led (Some q) h g r own = sym (pos-same (place q) (top x).place g) ∙ ap place (j.leads_to k q (pos (top y).place) own h)
   comes o p e (call_alike method count {z = y0} stays at_y at_x handed acts enters too) = never (calls method count y0) acts (λ bad. bad)

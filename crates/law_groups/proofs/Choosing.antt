@@ -57,7 +57,8 @@ use Rattle.xf_emission.specs.declared.origin.Origin.TheVariants.{After}
 use Rattle.xf_emission.specs.Edge.{is_stored}
 use Rattle.xf_emission.specs.Emission.{items}
 use Rattle.xf_emission.specs.Group.{body, fall, fall_by, fall_over, fallen}
-use Rattle.xf_emission.specs.Jump.{goto, has_under, jump_to, label_by, lead, place as place_named, stub, stub_label, stub_of, branch_copies, under}
+use Rattle.xf_emission.specs.Jump.{goto, has_under, jump_to, label_by, lead, place as place_named, stub, stub_label, stub_of, branch_copies, under, way_of}
+use Rattle.xf_emission.proofs.Ways.{way-found}
 use Rattle.law_rewritten_typing.specs.Edges.{AreMatched, CellsFillStack, ForksMatch, LeadsTo, NeededHaveHomes, leads_after, more_matched, none_matched}
 use Rattle.law_sound.proofs.Branches.{targets-are}
 use Rattle.law_homes.specs.Edges.{CellsAreFew, CellsRun, CopiesAreFew, EdgesRun, HoldsAfter, KeptStacksStay, LeadersLoad, StacksSpill}
@@ -195,7 +196,7 @@ module _
       → operands_of s.world (Ok op) ≡ Some n
       → (k : ℕ) (t : ℤ)
       → slice_get (targets s.method.code i) k ≡ Some t
-      → place_of (lead s i.place op n k t) (items s) < length (steps_of s)
+      → place_of (lead s i.place op n (way_of (targets s.method.code i) t) t) (items s) < length (steps_of s)
   unfolding lead stub
   leads-inside i op n stands reached does some k t target_is =
       let c = Contains-slice_get (targets s.method.code i) k t target_is in
@@ -207,7 +208,8 @@ module _
           → Contains (targets s.method.code i) t
           → slice_get (targets s.method.code i) k ≡ Some t
           → IsTargetPlace s.method.code t
-          → place_of (label_by (place_named t) (stub_label i.place k) (branch_copies s i.place op n (place_named t))) (items s) < length (steps_of s)
+          → place_of (label_by (place_named t) (stub_label i.place (way_of (targets s.method.code i) t)) (branch_copies s i.place op n (place_named t)))
+          (items s) < length (steps_of s)
       by (negsuc r) c found is = absurd is
       by (pos q) c found is =
           let there : IsReached s.method q = follows stands (some-reached v w s place laid i.place reached) (jumped c) in
@@ -218,19 +220,24 @@ module _
               → branch_copies s i.place op n q ≡ ts
               → IsReached s.method q
               → slice_get (targets s.method.code i) k ≡ Some (pos q)
-              → place_of (label_by q (stub_label i.place k) (branch_copies s i.place op n q)) (items s) < length (steps_of s)
+              → place_of (label_by q (stub_label i.place (way_of (targets s.method.code i) (pos q))) (branch_copies s i.place op n q)) (items s) < length
+              (steps_of s)
           named [] e there found =
               let lt = group-inside v w s place laid stand follow q there in
-              subst (λ us. place_of (label_by q (stub_label i.place k) us) (items s) < length (steps_of s)) (sym e) lt
+              subst (λ us. place_of (label_by q (stub_label i.place (way_of (targets s.method.code i) (pos q))) us) (items s) < length (steps_of s)) (sym e) lt
           named (x ∷ xs) e there found =
-              let st = stubs s i op n k (pos q) laid.planned.code stands reached does some found
+              let st = stubs s i op n (way_of (targets s.method.code i) (pos q)) (pos q) laid.planned.code stands reached does some
+              (way-found (targets s.method.code i) k (pos q) found)
               (λ none. absurd (let bad = sym none ∙ e in not-none x xs bad)) in
-              let shown : ItemsStandFrom s (place_of (stub_label i.place k) (items s)) (stub_of (stub_label i.place k) q (x ∷ xs)) =
-              subst (λ us. ItemsStandFrom s (place_of (stub_label i.place k) (items s)) (stub_of (stub_label i.place k) q us)) e st in
-              let all = stand-inside s (place_of (stub_label i.place k) (items s)) (stub_of (stub_label i.place k) q (x ∷ xs)) shown in
+              let shown : ItemsStandFrom s (place_of (stub_label i.place (way_of (targets s.method.code i) (pos q))) (items s))
+              (stub_of (stub_label i.place (way_of (targets s.method.code i) (pos q))) q (x ∷ xs)) =
+              subst (λ us. ItemsStandFrom s (place_of (stub_label i.place (way_of (targets s.method.code i) (pos q))) (items s))
+              (stub_of (stub_label i.place (way_of (targets s.method.code i) (pos q))) q us)) e st in
+              let all = stand-inside s (place_of (stub_label i.place (way_of (targets s.method.code i) (pos q))) (items s))
+              (stub_of (stub_label i.place (way_of (targets s.method.code i) (pos q))) q (x ∷ xs)) shown in
               let both = count-append (x ∷ xs) (goto q ∷ []) in
               let one : count_of (goto q ∷ []) ≡ 1 = refl in
-              subst (λ us. place_of (label_by q (stub_label i.place k) us) (items s) < length (steps_of s)) (sym e)
+              subst (λ us. place_of (label_by q (stub_label i.place (way_of (targets s.method.code i) (pos q))) us) (items s) < length (steps_of s)) (sym e)
               (omega (arith, all, both, one))
             where
               not-none : (x : Item) (xs : List Item) → [] ≡ x ∷ xs → ⊥

@@ -42,7 +42,7 @@ use Rattle.xf_emission.specs.declared.origin.Origin.TheVariants.{After}
 use Rattle.xf_emission.specs.Edge.{copies, is_stored}
 use Rattle.xf_emission.specs.Emission.{items}
 use Rattle.xf_emission.specs.Group.{body, fall, fall_by, fall_over, fallen}
-use Rattle.xf_emission.specs.Jump.{branch, has_under, jump_to, lead, leads, operands, spill_if, branch_copies, under}
+use Rattle.xf_emission.specs.Jump.{branch, has_under, jump_to, lead, leads, operands, spill_if, branch_copies, under, way_of}
 use Rattle.xf_emission.specs.Move.{loads, spill}
 use Rattle.law_rewritten_typing.specs.Edges.{CellsFillStack, ForksAreCut, ForksMatch, IsForkedAt, LeadsTo, NeededHaveHomes, leads_after}
 use Rattle.law_rewritten_typing.proofs.ForkTypings.{each-left}
@@ -82,7 +82,7 @@ branch-over :
     → branch s i op n ≡ (spill s (stack_homes s i.place) ++ loads s (operands s i.place n)) ++ jump_to i op (labels_of s i op n) ∷ []
 unfolding branch
 branch-over s i op n e =
-    ap (λ b. spill_if b s i.place n ++ jump_to i op (leads s i.place op n 0 (targets s.method.code i)) ∷ []) e
+    ap (λ b. spill_if b s i.place n ++ jump_to i op (leads s i.place op n (targets s.method.code i) (targets s.method.code i)) ∷ []) e
 
 fallen-over :
     (s : Source) (i : Placed) (op : Operation) (n : ℕ)
@@ -331,7 +331,7 @@ module _
     led :
         (k : ℕ)
         → slice_get (targets s.method.code i) k ≡ Some (pos q')
-        → (top x).place ≡ place (place_of (lead s i.place op n k (pos q')) (items s))
+        → (top x).place ≡ place (place_of (lead s i.place op n (way_of (targets s.method.code i) (pos q')) (pos q')) (items s))
         → ComesWithin w 0 1019 x (ComesToGroup s place y x)
     led k target_is at =
         let among = Contains-slice_get (targets s.method.code i) k (pos q') target_is in

@@ -89,8 +89,8 @@ module _ (s : Source) (i : Placed) where
   some-branch op None = omega arith
   some-branch op (Some n) =
       some-last (spill_if (has_under s i.place n) s i.place n)
-      (jump_to i op (leads s i.place op n 0 (targets s.method.code i))) []
-      (some-jump op (leads s i.place op n 0 (targets s.method.code i)))
+      (jump_to i op (leads s i.place op n (targets s.method.code i) (targets s.method.code i))) []
+      (some-jump op (leads s i.place op n (targets s.method.code i) (targets s.method.code i)))
 
   pub some-body : (op : Operation) → 1 ≤ count_of (body s i op)
   unfolding body

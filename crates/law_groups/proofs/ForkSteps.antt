@@ -21,7 +21,7 @@ use Rattle.jc_ops.specs.declared.operation.Operation.TheVariants as ops
 use Rattle.law_alike.specs.Running.{HaveKeys}
 use Rattle.xf_homes.specs.Source.{Source}
 use Rattle.xf_emission.specs.Emission.{items}
-use Rattle.xf_emission.specs.Jump.{first_label, jump_to, lead, leads}
+use Rattle.xf_emission.specs.Jump.{first_label, jump_to, lead, leads, way_of}
 use Rattle.law_groups.specs.Laid.{steps_of}
 use Rattle.law_groups.specs.Steps.{ItemsStandFrom}
 use Rattle.law_groups.proofs.BareForks.{jump_insn, labels_of, lead-at}
@@ -38,12 +38,12 @@ pub record JumpStep (s : Source) (i : Placed) (op : Operation) (n at : ℕ) : Ty
       (k m : ℕ) (t : ℤ)
       → slice_get (targets s.method.code i) k ≡ Some t
       → slice_get step.targets k ≡ Some m
-      → m ≡ place_of (lead s i.place op n k t) (items s)
+      → m ≡ place_of (lead s i.place op n (way_of (targets s.method.code i) t) t) (items s)
   pub keyed : HaveKeys op (map (λ (c : Case). c.key) (cases s.method.code i.place i.insn)) step.keys
 
-leads-count : (s : Source) (p : ℕ) (op : Operation) (n k : ℕ) (ts : List ℤ) → length (leads s p op n k ts) ≡ length ts
-leads-count s p op n k [] = refl
-leads-count s p op n k (t ∷ ts) = ap suc (leads-count s p op n (suc k) ts)
+leads-count : (s : Source) (p : ℕ) (op : Operation) (n : ℕ) (whole ts : List ℤ) → length (leads s p op n whole ts) ≡ length ts
+leads-count s p op n whole [] = refl
+leads-count s p op n whole (t ∷ ts) = ap suc (leads-count s p op n whole ts)
 
 module _
     (s : Source) (i : Placed) (op : Operation) (n at : ℕ)
@@ -82,13 +82,14 @@ module _
           (k m : ℕ) (t : ℤ)
           → slice_get (targets s.method.code i) k ≡ Some t
           → slice_get (label_at (first_label (labels_of s i op n)) ∷ []) k ≡ Some m
-          → m ≡ label_at (lead s i.place op n k t)
+          → m ≡ label_at (lead s i.place op n (way_of (targets s.method.code i) t) t)
       to zero m t h e =
-          let own_first : first_label (leads s i.place op n 0 (targets s.method.code i)) ≡ lead s i.place op n 0 first =
-          ap (λ ts. first_label (leads s i.place op n 0 ts)) some in
+          let own_first : first_label (leads s i.place op n (targets s.method.code i) (targets s.method.code i)) ≡ lead s i.place op n
+          (way_of (targets s.method.code i) first) first =
+          ap (λ ts. first_label (leads s i.place op n (targets s.method.code i) ts)) some in
           let same : first ≡ t = same_Some first t (sym (ap (λ ts. slice_get ts 0) some) ∙ h) in
           sym (same_Some (label_at (first_label (labels_of s i op n))) m e)
-          ∙ (ap label_at own_first ∙ ap (λ u. label_at (lead s i.place op n 0 u)) same)
+          ∙ (ap label_at own_first ∙ ap (λ u. label_at (lead s i.place op n (way_of (targets s.method.code i) u) u)) same)
       to (suc k) m t h e = absurd (let lt = slice_get_within [] k m e in omega (arith, lt))
 
   -- of a label for each target
@@ -116,21 +117,19 @@ module _
       by k m e =
           let lt = slice_get_within (map label_at (labels_of s i op n)) k m e in
           let one = length-map (labels_of s i op n) label_at in
-          let two = leads-count s i.place op n 0 (targets s.method.code i) in
+          let two = leads-count s i.place op n (targets s.method.code i) (targets s.method.code i) in
           slice_get-some (targets s.method.code i) k (omega (arith, lt, one, two))
 
       to :
           (k m : ℕ) (t : ℤ)
           → slice_get (targets s.method.code i) k ≡ Some t
           → slice_get (map label_at (labels_of s i op n)) k ≡ Some m
-          → m ≡ label_at (lead s i.place op n k t)
+          → m ≡ label_at (lead s i.place op n (way_of (targets s.method.code i) t) t)
       to k m t h e =
-          let here : 0 + k ≡ k = omega arith in
-          let l = lead-at s i.place op n 0 k (targets s.method.code i) t h in
-          let is_there : slice_get (map label_at (labels_of s i op n)) k ≡ Some (label_at (lead s i.place op n (0 + k) t)) =
+          let l = lead-at s i.place op n k (targets s.method.code i) (targets s.method.code i) t h in
+          let is_there : slice_get (map label_at (labels_of s i op n)) k ≡ Some (label_at (lead s i.place op n (way_of (targets s.method.code i) t) t)) =
           slice_get-map label_at (labels_of s i op n) k ∙ ap (option_map label_at) l in
-          same_Some m (label_at (lead s i.place op n (0 + k) t)) (sym e ∙ is_there)
-          ∙ ap (λ j. label_at (lead s i.place op n j t)) here
+          same_Some m (label_at (lead s i.place op n (way_of (targets s.method.code i) t) t)) (sym e ∙ is_there)
 
 pub jump-step :
     (s : Source) (i : Placed) (op : Operation) (n at : ℕ)

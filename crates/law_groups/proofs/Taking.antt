@@ -29,7 +29,8 @@ use Rattle.xf_emission.specs.Edge.{cell_copies, copies}
 use Rattle.xf_emission.specs.Emission.{items}
 use Rattle.xf_emission.specs.Group.{group}
 use Rattle.xf_emission.specs.Move.{copy}
-use Rattle.xf_emission.specs.Jump.{goto, label_by, lead, place as place_named, stub, stub_label, stub_of, branch_copies, under}
+use Rattle.xf_emission.specs.Jump.{goto, label_by, lead, place as place_named, stub, stub_label, stub_of, branch_copies, under, way_of}
+use Rattle.xf_emission.proofs.Ways.{way-found}
 use Rattle.law_rewritten_typing.specs.Edges.{AreMatched, CellsFillStack, LeadsTo, NeededHaveHomes}
 use Rattle.law_homes.specs.Edges.{CellsAreFew, CellsRun, CopiesAreFew, EdgesRun, HoldsAfter, insns, top_at}
 use Rattle.law_homes.specs.Held.{HoldsValue, HoldsLocals, Waits, slots}
@@ -267,7 +268,7 @@ module _
       → operation s i ≡ Ok op
       → operands_of s.world (Ok op) ≡ Some n
       → slice_get (targets s.method.code i) k ≡ Some (pos q)
-      → (top x).place ≡ place (place_of (lead s p op n k (pos q)) (items s))
+      → (top x).place ≡ place (place_of (lead s p op n (way_of (targets s.method.code i) (pos q)) (pos q)) (items s))
       → ComesWithin w 0 1019 x (ComesToGroup s place y x)
   unfolding lead stub
   led-arrives stubs i k here stands does some target at = by (branch_copies s p op n q) refl at
@@ -291,23 +292,31 @@ module _
       by :
           (ts : List Item)
           → branch_copies s p op n q ≡ ts
-          → (top x).place ≡ place (place_of (label_by q (stub_label p k) (branch_copies s p op n q)) (items s))
+          → (top x).place ≡ place (place_of (label_by q (stub_label p (way_of (targets s.method.code i) (pos q))) (branch_copies s p op n q)) (items s))
           → ComesWithin w 0 1019 x (ComesToGroup s place y x)
-      by [] e there = wider (direct e (there ∙ ap (λ us. place (place_of (label_by q (stub_label p k) us) (items s))) e))
+      by [] e there =
+          wider (direct e (there ∙ ap (λ us. place (place_of (label_by q (stub_label p (way_of (targets s.method.code i) (pos q))) us) (items s))) e))
       by (t ∷ ts) e there =
           let some_taken : branch_copies s i.place op n q ≢ [] = λ none. absurd
           (let bad = sym none ∙ (ap (λ r. branch_copies s r op n q) here ∙ e) in not-none t ts bad) in
           let reached : is_some (s.frames i.place) ≡ true = reached-some v w s place laid i.place (subst (IsReached s.method) (sym here) from_p) in
-          let st = stubs s i op n k (pos q) laid.planned.code stands reached does some target some_taken in
-          let own : ItemsStandFrom s (place_of (stub_label p k) (items s)) (stub_of (stub_label p k) q (branch_copies s p op n q)) =
-          subst (λ r. ItemsStandFrom s (place_of (stub_label r k) (items s)) (stub_of (stub_label r k) q (branch_copies s r op n q))) here st in
-          let shown : ItemsStandFrom s (place_of (stub_label p k) (items s)) (Label (stub_label p k) ∷ ((t ∷ ts) ++ goto q ∷ [])) =
-          stand-as s (place_of (stub_label p k) (items s)) (stub_of (stub_label p k) q (branch_copies s p op n q)) _
-          (ap (stub_of (stub_label p k) q) e) own in
-          taken-goes (place_of (stub_label p k) (items s))
-          (subst (λ us. ItemsStandFrom s (place_of (stub_label p k) (items s)) (us ++ goto q ∷ [])) (sym e)
-          (stand-labelled s (place_of (stub_label p k) (items s)) (stub_label p k) ((t ∷ ts) ++ goto q ∷ []) shown))
-          (there ∙ ap (λ us. place (place_of (label_by q (stub_label p k) us) (items s))) e)
+          let st = stubs s i op n (way_of (targets s.method.code i) (pos q)) (pos q) laid.planned.code stands reached does some
+          (way-found (targets s.method.code i) k (pos q) target) some_taken in
+          let own : ItemsStandFrom s (place_of (stub_label p (way_of (targets s.method.code i) (pos q))) (items s))
+          (stub_of (stub_label p (way_of (targets s.method.code i) (pos q))) q (branch_copies s p op n q)) =
+          subst
+          (λ r. ItemsStandFrom s (place_of (stub_label r (way_of (targets s.method.code i) (pos q))) (items s))
+          (stub_of (stub_label r (way_of (targets s.method.code i) (pos q))) q (branch_copies s r op n q))) here st in
+          let shown : ItemsStandFrom s (place_of (stub_label p (way_of (targets s.method.code i) (pos q))) (items s))
+          (Label (stub_label p (way_of (targets s.method.code i) (pos q))) ∷ ((t ∷ ts) ++ goto q ∷ [])) =
+          stand-as s (place_of (stub_label p (way_of (targets s.method.code i) (pos q))) (items s))
+          (stub_of (stub_label p (way_of (targets s.method.code i) (pos q))) q (branch_copies s p op n q)) _
+          (ap (stub_of (stub_label p (way_of (targets s.method.code i) (pos q))) q) e) own in
+          taken-goes (place_of (stub_label p (way_of (targets s.method.code i) (pos q))) (items s))
+          (subst (λ us. ItemsStandFrom s (place_of (stub_label p (way_of (targets s.method.code i) (pos q))) (items s)) (us ++ goto q ∷ [])) (sym e)
+          (stand-labelled s (place_of (stub_label p (way_of (targets s.method.code i) (pos q))) (items s))
+          (stub_label p (way_of (targets s.method.code i) (pos q))) ((t ∷ ts) ++ goto q ∷ []) shown))
+          (there ∙ ap (λ us. place (place_of (label_by q (stub_label p (way_of (targets s.method.code i) (pos q))) us) (items s))) e)
         where
           not-none : (t : Item) (ts : List Item) → [] ≡ t ∷ ts → ⊥
           not-none t ts e = absurd (cc)

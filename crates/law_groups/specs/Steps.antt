@@ -15,7 +15,7 @@ use Rattle.xf_emission.specs.declared.origin.Origin.TheVariants.{Start}
 use Rattle.xf_emission.specs.Edge.{copies}
 use Rattle.xf_emission.specs.Emission.{catching_stub, is_live, items}
 use Rattle.xf_emission.specs.Group.{group}
-use Rattle.xf_emission.specs.Jump.{handler_label, place, stub, stub_label, branch_copies}
+use Rattle.xf_emission.specs.Jump.{each_once, handler_label, place, stub, stub_label, branch_copies}
 use Rattle.xf_emission.specs.Laws.{IsCode}
 use Rattle.law_groups.specs.Laid.{count_of, group_at, steps_of}
 
@@ -35,7 +35,7 @@ GroupsStandAtSteps =
     → is_some (s.frames i.place) ≡ true
     → ItemsStandFrom s (group_at s i.place) (group s i)
 
--- and so do those of the stub on the edge to the k-th target of a branch
+-- and so do those of the stub of the k-th way of a branch
 abbrev pub StubsStandAtSteps : Type 0
 StubsStandAtSteps =
     (s : Source) (i : Placed) (op : Operation) (n k : ℕ) (t : ℤ)
@@ -44,7 +44,7 @@ StubsStandAtSteps =
     → is_some (s.frames i.place) ≡ true
     → operation s i ≡ Ok op
     → operands_of s.world (Ok op) ≡ Some n
-    → slice_get (targets s.method.code i) k ≡ Some t
+    → slice_get (each_once (targets s.method.code i)) k ≡ Some t
     → branch_copies s i.place op n (place t) ≢ []
     → ItemsStandFrom s (place_of (stub_label i.place k) (items s)) (stub s i.place op n k t)
 

@@ -26,7 +26,7 @@ use Rattle.xf_homes.specs.Walk.{operands_of}
 use Rattle.xf_homes.specs.Source.{Source}
 use Rattle.xf_homes.specs.Plan.{is_leader, operation}
 use Rattle.xf_emission.specs.Group.{entrance, group}
-use Rattle.xf_emission.specs.Jump.{place, branch_copies, lead, label_by, stub_label, handler_label}
+use Rattle.xf_emission.specs.Jump.{each_once, way_of, place, branch_copies, lead, label_by, stub_label, handler_label}
 use Rattle.xf_emission.specs.Emission.{is_live, items, ranges_from, ranges, rewritten}
 use Rattle.xf_emission.specs.Laws.{IsCode, IsLabelOf, of_place, of_stub}
 use Rattle.xf_emission.proofs.Labels.{labels}
@@ -40,6 +40,7 @@ use Rattle.law_rewritten_typing.proofs.Walks.{nothing_asked, emptied, catching, 
 use Rattle.law_rewritten_typing.proofs.Ready.{IsReady}
 use Rattle.law_rewritten_typing.proofs.Running.{AreLaws, IsRecordFor}
 use Rattle.law_rewritten_typing.proofs.Listings.{filled}
+use Rattle.xf_emission.proofs.Ways.{way-found}
 use Rattle.law_rewritten_typing.proofs.Rewriting.{AreWanted}
 use Rattle.law_rewritten_typing.proofs.LabelDemands.{asks_of, are-wanted}
 use Rattle.law_rewritten_typing.proofs.Typings.{AreAsked}
@@ -93,13 +94,15 @@ module _ (s : Source) (l : AreLaws s.world) (ready : IsReady s) (code : IsCode s
       let c = Contains-slice_get (targets s.method.code i) k t e in
       target-named i st there t c (All-contains (IsTargetPlace s.method.code) (targets s.method.code i) t (ready.has.formed.targets i st) c) in
       record {
-        ways = λ n k t asks e. by n k t asks e (at k t e) (branch_copies s i.place op n (place t)) refl;
+        ways =
+            λ n k t asks e. by n (way_of (targets s.method.code i) t) t asks (way-found (targets s.method.code i) k t e) (at k t e)
+            (branch_copies s i.place op n (place t)) refl;
         places = at;
         some = λ j. omega (arith, target-count i (sym go.jumps_alike ∙ j));
       }
     where
-      by : (n k : ℕ) (t : ℤ) → operands_of s.world (Ok op) ≡ Some n → slice_get (targets s.method.code i) k ≡ Some t → IsEmptied (place t)
-          → (copied : List Item) → branch_copies s i.place op n (place t) ≡ copied
+      by : (n k : ℕ) (t : ℤ) → operands_of s.world (Ok op) ≡ Some n → slice_get (each_once (targets s.method.code i)) k ≡ Some t
+          → IsEmptied (place t) → (copied : List Item) → branch_copies s i.place op n (place t) ≡ copied
           → IsEmptied (label_by (place t) (stub_label i.place k) copied)
       by n k t asks e here [] none = here
       by n k t asks e here (x ∷ xs) more = (

@@ -193,7 +193,7 @@ module _ (new : ℕ → ℕ) (apart : (a b : ℕ) → new a ≡ new b → a ≡ 
     branch-flows i op f after n st at run is e lesser = by (has_under s i.place n) refl
       where
         labels : List ℕ
-        labels = leads s i.place op n 0 (targets s.method.code i)
+        labels = leads s i.place op n (targets s.method.code i) (targets s.method.code i)
 
         k : Fork op n f.stack after.stack
         k = fork i op f after n run is e

@@ -12,7 +12,9 @@ use Rattle.jc_control.specs.Control.{IsReached, IsLeader, jumped, follows, caugh
 use Rattle.xf_homes.specs.Source.{Source}
 use Rattle.xf_homes.specs.Plan.{is_leader}
 use Rattle.xf_emission.specs.Laws.{IsCode}
+use Rattle.xf_emission.specs.Jump.{each_once}
 use Rattle.xf_emission.proofs.TwoBytes.{two-bytes}
+use Rattle.xf_emission.proofs.Ways.{ways-few}
 use Rattle.law_rewritten_typing.proofs.Walks.{Asked, nothing_asked, emptied, catching}
 use Rattle.law_rewritten_typing.proofs.Ready.{IsReady}
 use Rattle.law_rewritten_typing.proofs.Running.{AreLaws, IsRecordFor}
@@ -79,8 +81,9 @@ module _ (new : ℕ → ℕ) (apart : (a b : ℕ) → new a ≡ new b → a ≡ 
         let a = l.rules.listed s.method.code in
         let two = two-bytes s.method.code i code.bytes (a.decodes i st) in
         let within = a.within i st in
-        let k_lt = slice_get_within (targets s.method.code i) k t e in
-        let small : i.place / 2 + k < 16384 = omega (arith, two, within, k_lt, code.short) in
+        let k_lt = slice_get_within (each_once (targets s.method.code i)) k t e in
+        let few = ways-few (targets s.method.code i) in
+        let small : i.place / 2 + k < 16384 = omega (arith, two, within, k_lt, few, code.short) in
         at-stub s (i.place / 2 + k) small;
     handlers = λ n h e. at-handler s n ∙ ap caught_by e;
   }

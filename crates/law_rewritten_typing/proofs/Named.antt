@@ -27,12 +27,13 @@ use Rattle.xf_emission.specs.declared.origin.Origin.{Origin}
 use Rattle.xf_emission.specs.declared.origin.Origin.TheVariants.{Start, After, Entry}
 use Rattle.xf_emission.specs.Move.{store, copy, loads, spill}
 use Rattle.xf_emission.specs.Edge.{home_before, homes_held, copy_new, copies_from, local_copies, locals_copies, copies, cell_copies}
-use Rattle.xf_emission.specs.Jump.{under, operands, has_under, spill_if, branch_copies, place, lead, leads, first_label, jump_to, branch, goto, stub, stub_of}
-use Rattle.xf_emission.specs.Jump.{stub_label, stubs_of}
+use Rattle.xf_emission.specs.Jump.{under, operands, has_under, spill_if, branch_copies, place, each_once, way_of, lead, leads, first_label, jump_to, branch}
+use Rattle.xf_emission.specs.Jump.{goto, stub, stub_of, stub_label, stubs_of}
 use Rattle.xf_emission.specs.Group.{itself, loaded, increased, store_to_homes, stays, field_read, field_written, gone, first_place, body, fall, fall_over}
 use Rattle.xf_emission.specs.Group.{fall_by, fallen, entrance, done, group_by, group}
 use Rattle.xf_emission.specs.Emission.{stubs, stubs_at, stubs_by, stubs_done, is_live, catching_stub, catching_stubs, items}
 use Rattle.xf_emission.proofs.Items.{each-if, each-flat}
+use Rattle.xf_emission.proofs.Ways.{way-from}
 use Rattle.law_rewritten_typing.proofs.Typings.{names}
 
 module _ (P : ℕ → Type 0) (s : Source) where
@@ -42,7 +43,7 @@ module _ (P : ℕ → Type 0) (s : Source) where
   -- an instruction with its operation: its targets, and the way to each, are such
   pub record Names (i : Placed) (op : Operation) : Type 0 where
     pub ways : (n k : ℕ) (t : ℤ) → operands_of s.world (Ok op) ≡ Some n → slice_get (targets s.method.code i) k ≡ Some t
-        → P (lead s i.place op n k t)
+        → P (lead s i.place op n (way_of (targets s.method.code i) t) t)
     pub places : (k : ℕ) (t : ℤ) → slice_get (targets s.method.code i) k ≡ Some t → P (place t)
     pub some : jumps_from op ≡ true → 0 < length (targets s.method.code i)
 
@@ -122,38 +123,31 @@ module _ (P : ℕ → Type 0) (s : Source) where
     written-names k (Some h) = each-if IsNamed (stays s h) (itself i) _ kept-names (tt {0}, (tt {0}, (tt {0}, tt {0})))
 
   module _ (i : Placed) (op : Operation) (e : Names i op) where
-    leads-name : (n k : ℕ) (ts : List ℤ) → ((j : ℕ) (t : ℤ) → slice_get ts j ≡ Some t → P (lead s i.place op n (k + j) t))
-        → Each P (leads s i.place op n k ts)
-    leads-name n k [] h = tt
-    leads-name n k (t ∷ ts) h =
-        let here : k + 0 ≡ k = omega arith in (
-          subst (λ (j : ℕ). P (lead s i.place op n j t)) here (h 0 t refl),
-          leads-name n (suc k) ts (λ j u at. let next : k + suc j ≡ suc k + j = omega arith in subst (λ (m : ℕ). P (lead s i.place op n m u)) next
-              (h (suc j) u at)),
-        )
+    leads-name : (n : ℕ) (whole ts : List ℤ) → ((j : ℕ) (t : ℤ) → slice_get ts j ≡ Some t → P (lead s i.place op n (way_of whole t) t))
+        → Each P (leads s i.place op n whole ts)
+    leads-name n whole [] h = tt
+    leads-name n whole (t ∷ ts) h = (h 0 t refl, leads-name n whole ts (λ j u at. h (suc j) u at))
 
-    leads-length : (n k : ℕ) (ts : List ℤ) → length (leads s i.place op n k ts) ≡ length ts
-    leads-length n k [] = refl
-    leads-length n k (t ∷ ts) = ap suc (leads-length n (suc k) ts)
+    leads-length : (n : ℕ) (whole ts : List ℤ) → length (leads s i.place op n whole ts) ≡ length ts
+    leads-length n whole [] = refl
+    leads-length n whole (t ∷ ts) = ap suc (leads-length n whole ts)
 
     first-name : (ls : List ℕ) → 0 < length ls → Each P ls → P (first_label ls)
     first-name [] lt o = absurd (omega (arith, lt))
     first-name (l ∷ ls) lt o = o.0
 
-    ways-name : (n : ℕ) → operands_of s.world (Ok op) ≡ Some n → Each P (leads s i.place op n 0 (targets s.method.code i))
-    ways-name n asks =
-        leads-name n 0 (targets s.method.code i)
-        (λ j t at. let same : j ≡ 0 + j = omega arith in subst (λ (m : ℕ). P (lead s i.place op n m t)) same (e.ways n j t asks at))
+    ways-name : (n : ℕ) → operands_of s.world (Ok op) ≡ Some n → Each P (leads s i.place op n (targets s.method.code i) (targets s.method.code i))
+    ways-name n asks = leads-name n (targets s.method.code i) (targets s.method.code i) (λ j t at. e.ways n j t asks at)
 
     jump-names : (n : ℕ) → operands_of s.world (Ok op) ≡ Some n → jumps_from op ≡ true
-        → IsNamed (jump_to i op (leads s i.place op n 0 (targets s.method.code i)))
+        → IsNamed (jump_to i op (leads s i.place op n (targets s.method.code i) (targets s.method.code i)))
     jump-names n asks j = by op refl
       where
         ls : List ℕ
-        ls = leads s i.place op n 0 (targets s.method.code i)
+        ls = leads s i.place op n (targets s.method.code i) (targets s.method.code i)
 
         first : P (first_label ls)
-        first = first-name ls (omega (arith, e.some j, leads-length n 0 (targets s.method.code i))) (ways-name n asks)
+        first = first-name ls (omega (arith, e.some j, leads-length n (targets s.method.code i) (targets s.method.code i))) (ways-name n asks)
 
         by : (o : Operation) → o ≡ op → IsNamed (jump_to i o ls)
         by (ops.Switch width) same = ways-name n asks
@@ -220,7 +214,8 @@ module _ (P : ℕ → Type 0) (s : Source) where
 
     stubs-by-name : (n : Option ℕ) → Each IsNamed (stubs_by s i op n)
     stubs-by-name None = tt
-    stubs-by-name (Some n) = stubs-name-from n 0 (targets s.method.code i) e.places
+    stubs-by-name (Some n) =
+        stubs-name-from n 0 (each_once (targets s.method.code i)) (λ j t at. let k = way-from (targets s.method.code i) j t at in e.places k.0 t k.1)
 
   -- ---- the instruction, by its form
 

@@ -65,8 +65,9 @@ module _ (s : Source) (i : Placed) where
   branch-some : (op : Operation) (n : ℕ) → 0 < count (branch s i op n)
   unfolding branch
   branch-some op n =
-      right-some (spill_if (has_under s i.place n) s i.place n) (jump_to i op (leads s i.place op n 0 (targets s.method.code i)) ∷ [])
-      (jump-some op (leads s i.place op n 0 (targets s.method.code i)))
+      right-some (spill_if (has_under s i.place n) s i.place n)
+      (jump_to i op (leads s i.place op n (targets s.method.code i) (targets s.method.code i)) ∷ [])
+      (jump-some op (leads s i.place op n (targets s.method.code i) (targets s.method.code i)))
 
   by-some : (op : Operation) (n : Option ℕ) → 0 < count (branch_by s i op n)
   by-some op None = omega arith

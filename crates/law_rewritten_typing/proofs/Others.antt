@@ -18,7 +18,7 @@ use Rattle.jc_rules.specs.Demand.{Frame}
 use Rattle.xf_homes.specs.Walk.{operands_of}
 use Rattle.xf_homes.specs.Source.{Source}
 use Rattle.xf_homes.specs.Plan.{is_leader, operation}
-use Rattle.xf_emission.specs.Jump.{place, branch_copies, stub, stubs_of, stub_label, handler_label}
+use Rattle.xf_emission.specs.Jump.{each_once, place, branch_copies, stub, stubs_of, stub_label, handler_label}
 use Rattle.xf_emission.specs.Group.{group}
 use Rattle.xf_emission.specs.Emission.{stubs, stubs_by, stubs_done, stubs_at, is_live, catching_stub, catching_stubs, range, ranges_from, items}
 use Rattle.xf_emission.specs.Laws.{IsCode}
@@ -26,6 +26,7 @@ use Rattle.xf_emission.proofs.Labels.{labels, labels-append, label_if, stub-labe
 use Rattle.xf_emission.proofs.Rises.{Rises}
 use Rattle.xf_emission.proofs.Stubs.{all-labels, all-rise}
 use Rattle.xf_emission.proofs.TwoBytes.{two-bytes}
+use Rattle.xf_emission.proofs.Ways.{ways-few}
 use Rattle.law_rewritten_typing.proofs.Walks.{nothing_asked, emptied, catching}
 use Rattle.law_rewritten_typing.proofs.LabelDemands.{asks_of, caught_by}
 use Rattle.law_rewritten_typing.proofs.Ordered.{rises-before}
@@ -92,8 +93,9 @@ module _ (s : Source) (listed : AreListed s.method.code) (code : IsCode s) where
       by-operands op (Some n) a =
           let two = two-bytes s.method.code i code.bytes (listed.decodes i st) in
           let within = listed.within i st in
-          let less : l < stub_label i.place (0 + length (targets s.method.code i)) = stubs-below s i.place op n 0 (targets s.method.code i) l a in
-          omega (arith, two, within, less, code.short)
+          let less : l < stub_label i.place (0 + length (each_once (targets s.method.code i))) = stubs-below s i.place op n 0
+          (each_once (targets s.method.code i)) l a in
+          omega (arith, two, within, less, ways-few (targets s.method.code i), code.short)
 
       by-operation : (r : Result Operation RuleFault) → IsAmong l (labels (stubs_done s i r)) → l < 49152
       by-operation (Err fault) a = absurd a

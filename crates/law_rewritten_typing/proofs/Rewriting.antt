@@ -26,11 +26,12 @@ use Rattle.xf_homes.specs.Source.{Source}
 use Rattle.xf_homes.specs.Plan.{is_leader}
 use Rattle.xf_emission.specs.declared.origin.Origin.TheVariants.{Start}
 use Rattle.xf_emission.specs.Edge.{copies}
-use Rattle.xf_emission.specs.Jump.{place, stub, stub_label, stubs_of, handler_label}
+use Rattle.xf_emission.specs.Jump.{each_once, place, stub, stub_label, stubs_of, handler_label}
 use Rattle.xf_emission.specs.Group.{group}
 use Rattle.xf_emission.specs.Emission.{stubs, stubs_by, stubs_done, stubs_at, is_live, catching_stub, catching_stubs, items}
 use Rattle.xf_emission.specs.Laws.{IsCode}
 use Rattle.xf_emission.proofs.Live.{live-is}
+use Rattle.xf_emission.proofs.Ways.{way-from}
 use Rattle.law_rewritten_typing.specs.Typed.{registers_of}
 use Rattle.law_rewritten_typing.proofs.Walks.{holding, left, Asked, nothing_asked, emptied, catching, Passes, Flows, flow_label, flow_end, flows-append, count}
 use Rattle.law_rewritten_typing.proofs.Ready.{IsReady, framed, reached}
@@ -48,7 +49,7 @@ module _ (new : ℕ → ℕ) (apart : (a b : ℕ) → new a ≡ new b → a ≡ 
     pub record AreWanted : Type 0 where
       pub places : (q : ℕ) → is_some (s.frames q) ≡ true → asks q ≡ (if is_leader s q then emptied else nothing_asked)
       pub end : asks (length s.method.code) ≡ nothing_asked
-      pub stubs : (i : Placed) (k : ℕ) (t : ℤ) → IsListed s.method.code i → slice_get (targets s.method.code i) k ≡ Some t
+      pub stubs : (i : Placed) (k : ℕ) (t : ℤ) → IsListed s.method.code i → slice_get (each_once (targets s.method.code i)) k ≡ Some t
           → asks (stub_label i.place k) ≡ emptied
       pub handlers : (n : ℕ) (h : Handler) → slice_get s.method.rec.handlers n ≡ Some h → asks (handler_label n) ≡ catching h.class
 
@@ -97,22 +98,24 @@ module _ (new : ℕ → ℕ) (apart : (a b : ℕ) → new a ≡ new b → a ≡ 
 
       stubs-from : (i : Placed) (f : Frame) (k : IsReachedRun new apart s l ready r own_rec asks res code i f) (n m at : ℕ) (ts : List ℤ)
           → IsListed s.method.code i → s.frames i.place ≡ Some f → IsConditional k.op → operands_of s.world (Ok k.op) ≡ Some n
-          → ((j : ℕ) (t : ℤ) → slice_get ts j ≡ Some t → slice_get (targets s.method.code i) (m + j) ≡ Some t)
+          → ((j : ℕ) (t : ℤ) → slice_get ts j ≡ Some t → slice_get (each_once (targets s.method.code i)) (m + j) ≡ Some t)
           → Flows s.world r (registers_of s.homes) asks at left (stubs_of s i.place k.op n m ts) left
       stubs-from i f k n m at [] st e is some inside = flow_end
       stubs-from i f k n m at (t ∷ ts) st e is some inside =
           let same_m : m + 0 ≡ m = omega arith in
-          let here : slice_get (targets s.method.code i) m ≡ Some t = ap (slice_get (targets s.method.code i)) (sym same_m) ∙ inside 0 t refl in
-          let own = target-is i m t st here in
+          let here : slice_get (each_once (targets s.method.code i)) m ≡ Some t = ap (slice_get (each_once (targets s.method.code i))) (sym same_m)
+          ∙ inside 0 t refl in
+          let named = way-from (targets s.method.code i) m t here in
+          let own = target-is i named.0 t st named.1 in
           let c : Contains (targets s.method.code i) (pos (place t)) = subst (Contains (targets s.method.code i)) own
-          (Contains-slice_get (targets s.method.code i) m t here) in
+          (Contains-slice_get (targets s.method.code i) named.0 t named.1) in
           let g = k.below (place t) (jumped c) in
           let lead = (ready.marks (place t)).1 (led_to {i = i} st (reached l.same_is l.needed s l.objects l.rules ready r asks i.place f e) c) in
           flows-append s.world r (registers_of s.homes) asks
           (stub-flows new apart s l ready r own_rec asks res code i k.op f k.after g.frame n m at t k.run is some g.at g.below lead
           (wanted.stubs i m t st here))
           (stubs-from i f k n (suc m) (at + count (stub s i.place k.op n m t)) ts st e is some (λ j u h. let next : m + suc j ≡ suc m + j = omega arith in
-          ap (slice_get (targets s.method.code i)) (sym next) ∙ inside (suc j) u h))
+          ap (slice_get (each_once (targets s.method.code i))) (sym next) ∙ inside (suc j) u h))
 
       conditional-of : (op : Operation) (n : ℕ) → operands_of s.world (Ok op) ≡ Some n → IsConditional op
       conditional-of (ops.Branch branches.Always) n e = absurd (cc)
@@ -128,8 +131,8 @@ module _ (new : ℕ → ℕ) (apart : (a b : ℕ) → new a ≡ new b → a ≡ 
               → operands_of s.world (Ok k.op) ≡ o → Flows s.world r (registers_of s.homes) asks at left (stubs_by s i k.op o) left
           by-operands f k e None some = flow_end
           by-operands f k e (Some n) some =
-              stubs-from i f k n 0 at (targets s.method.code i) st e (conditional-of k.op n some) some
-              (λ j t h. let same_j : 0 + j ≡ j = omega arith in ap (slice_get (targets s.method.code i)) same_j ∙ h)
+              stubs-from i f k n 0 at (each_once (targets s.method.code i)) st e (conditional-of k.op n some) some
+              (λ j t h. let same_j : 0 + j ≡ j = omega arith in ap (slice_get (each_once (targets s.method.code i))) same_j ∙ h)
 
           by : (o : Option Frame) → s.frames i.place ≡ o → Flows s.world r (registers_of s.homes) asks at left (stubs_at s i o) left
           by None e = flow_end

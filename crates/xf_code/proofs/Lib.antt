@@ -1,6 +1,8 @@
 pub mod Steps
 pub mod Copying
 pub mod Leading
+pub mod Still
+pub mod Bodies
 pub mod Targets
 pub mod Subjects
 pub mod Sources

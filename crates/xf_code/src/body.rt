@@ -1,11 +1,11 @@
-ghost use Rattle.std.specs.Prelude.{◌≡◌, ◌++◌, ◌∷◌, [], ◌≤◌, ◌<◌, ◌+◌, OnOk, flat_map};
+ghost use Rattle.std.specs.Prelude.{◌≡◌, ◌++◌, ◌∷◌, [], ◌≤◌, ◌<◌, ◌+◌, Ok, None, OnOk, flat_map};
+ghost use Rattle.xf_homes.specs.Walk.{operands_of};
 ghost use Rattle.jc_decode.specs.Listing.{targets};
 ghost use Rattle.xf_homes.specs.PlannedMethod.{source};
 ghost use Rattle.xf_emission.specs.Jump.{AreLed};
 ghost use Rattle.xf_emission.specs.Move.{copy};
-ghost use Rattle.xf_emission.specs.Group.{body, branch_by, first_place, gone, increased, loaded, pop_item, store_to_homes};
+ghost use Rattle.xf_emission.specs.Group.{body, first_place, gone, increased, loaded, pop_item, store_to_homes};
 
-use crate::branch::branch;
 use crate::edge::{EdgeScratch, copies};
 use crate::field::{field_read, field_written, keep};
 use crate::jump::goto;
@@ -15,7 +15,7 @@ use jc_decode::{Insn, Item, Placed};
 use jc_ops::{Branch, Holder, Operation, Sort};
 use std::alloc::{AllocError, Global};
 use xf_emission::Origin;
-use xf_homes::{Home, Plan, operands};
+use xf_homes::{Home, Plan};
 
 fn loaded(
     plan: &Plan<'_>,
@@ -134,25 +134,6 @@ fn gone(
     put(items, goto(to))
 }
 
-fn branch_by(
-    alloc: Global,
-    plan: &Plan<'_>,
-    placed: Placed,
-    operation: Operation,
-    operands: Option<u8>,
-    scratch: &mut EdgeScratch,
-    items: &mut Vec<Item>,
-) -> Result<(), AllocError>
-    requires { AreLed plan.now.walk.code.bytes.now placed }
-    ensures { OnOk result
-        (items.new.items ≡ items.old.items ++ branch_by (source plan.now) placed operation operands) }
-{
-    match operands {
-        Some(operands) => branch(alloc, plan, placed, operation, operands, scratch, items),
-        None => keep(placed, items),
-    }
-}
-
 /// The place after an instruction, which lies in the code.
 pub fn next_place(placed: Placed) -> u16
     requires { placed.place + placed.insn.len ≤ 65535 }
@@ -178,7 +159,7 @@ fn store_local(
     stored(plan, sort, scratch.needed.as_slice(), items)
 }
 
-/// Appends the instruction of an operation.
+/// Appends the instruction of an operation that is no conditional branch and no switch.
 #[tactic(auto, unfolding(xf_emission::specs::Group::body))]
 pub fn body(
     alloc: Global,
@@ -190,6 +171,7 @@ pub fn body(
 ) -> Result<(), AllocError>
     requires led { AreLed plan.now.walk.code.bytes.now placed }
     requires inside { placed.place + placed.insn.len ≤ 65535 }
+    requires other { operands_of plan.now.walk.world.now (Ok operation) ≡ None }
     ensures { OnOk result
         (items.new.items ≡ items.old.items ++ body (source plan.now) placed operation) }
 {
@@ -210,9 +192,6 @@ pub fn body(
             let to = first_place(plan, placed);
             gone(alloc, plan, place, operation, to, scratch, items)
         }
-        _ => {
-            let operands = operands(plan.walk.world, operation);
-            branch_by(alloc, plan, placed, operation, operands, scratch, items)
-        }
+        _ => keep(placed, items),
     }
 }

@@ -1,12 +1,14 @@
 ghost use Rattle.std.specs.Prelude.{◌≡◌, ◌++◌, OnOk};
 ghost use Rattle.jc_decode.specs.Forms.{wide};
+ghost use Rattle.jc_decode.specs.Listing.{targets};
 ghost use Rattle.xf_homes.specs.PlannedMethod.{source};
-ghost use Rattle.xf_emission.specs.Jump.{AreLed, branch, first_label, jump_to, has_under, spill_if};
+ghost use Rattle.xf_emission.specs.Jump.{AreLed, each_once, branch, first_label, jump_to, has_under, spill_if, stubs_of};
 
 use crate::edge::EdgeScratch;
-use crate::jump::{Fork, has_under, leads, operands};
+use crate::jump::{Fork, has_under, operands};
 use crate::moves::{loads, put, spill};
-use jc_decode::{Item, Labels, Placed};
+use crate::ways::leads;
+use jc_decode::{Insn, Item, Labels, Placed};
 use jc_ops::Operation;
 use std::alloc::{AllocError, Global};
 use xf_homes::Plan;
@@ -65,27 +67,32 @@ fn spill_if(
     loads(plan, operands.as_slice(), items)
 }
 
-/// Appends a conditional branch or switch.
+/// Appends a conditional branch or switch to the items, and the stubs of its ways to the stubs.
 #[tactic(auto, unfolding(xf_emission::specs::Jump::branch))]
 pub fn branch(
     alloc: Global,
     plan: &Plan<'_>,
-    placed: Placed,
-    operation: Operation,
-    operands: u8,
+    fork: Fork,
+    insn: Insn,
     scratch: &mut EdgeScratch,
     items: &mut Vec<Item>,
+    stubs: &mut Vec<Item>,
 ) -> Result<(), AllocError>
-    requires { AreLed plan.now.walk.code.bytes.now placed }
-    ensures { OnOk result
-        (items.new.items ≡ items.old.items ++ branch (source plan.now) placed operation operands) }
+    requires { AreLed plan.now.walk.code.bytes.now (record { place = fork.place; insn = insn }) }
+    ensures items { OnOk result
+        (items.new.items
+        ≡ items.old.items ++ branch (source plan.now) (record { place = fork.place; insn = insn }) fork.operation fork.operands) }
+    ensures stubs { OnOk result
+        (stubs.new.items
+        ≡ stubs.old.items
+        ++ stubs_of (source plan.now) fork.place fork.operation fork.operands 0
+        (each_once (targets plan.now.walk.code.bytes.now (record { place = fork.place; insn = insn })))) }
 {
-    let fork = Fork {
-        place: placed.place,
-        operation,
-        operands,
+    let placed = Placed {
+        place: fork.place,
+        insn,
     };
     spill_if(alloc, plan, fork, items)?;
-    let labels = leads(alloc, plan, fork, placed.insn, scratch)?;
-    put(items, jump_to(placed, operation, labels))
+    let labels = leads(alloc, plan, fork, insn, scratch, stubs)?;
+    put(items, jump_to(placed, fork.operation, labels))
 }

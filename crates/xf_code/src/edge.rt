@@ -1,22 +1,24 @@
-ghost use Rattle.std.specs.Prelude.{◌≡◌, ◌++◌, ◌∷◌, [], OnOk, flat_map, slice_get, option_copied};
+ghost use Rattle.std.specs.Prelude.{◌≡◌, ◌++◌, ◌∷◌, [], IsTrue, IfSome, OnOk, flat_map, slice_get, option_copied};
 ghost use Rattle.xf_homes.specs.Home.{argument_types};
 ghost use Rattle.xf_homes.specs.Value.{value_in_cells};
 ghost use Rattle.xf_homes.specs.PlannedMethod.{source};
+ghost use Rattle.xf_code.specs.Quiet.{IsQuiet};
 ghost use Rattle.xf_emission.specs.Edge.{is_stored, home_before, homes_held, copy_new, copies_from, local_copies, copies, cell_copies};
 
 use crate::moves::copy;
+use indexmap::IndexSet;
 use jc_base::{MethodRec, Ty};
 use jc_decode::Item;
 use jc_ops::{Operation, Sort};
 use std::alloc::AllocError;
 use xf_emission::Origin;
-use xf_homes::{Home, Plan, has, home_of, value_of};
+use xf_homes::{Home, Plan, has, home_of, is_any_new, same_value, value_of};
 
-/// Lists of homes that are made anew for each local.
+/// Tables of homes that are made anew for each local.
 #[derive(Drop)]
 pub struct EdgeScratch {
-    pub held: Vec<Home>,
-    pub needed: Vec<Home>,
+    pub held: IndexSet<Home>,
+    pub needed: IndexSet<Home>,
 }
 
 fn is_stored(operation: Operation, x: u16) -> bool
@@ -75,26 +77,26 @@ fn hold(
     from: Origin,
     x: u16,
     home: Home,
-    to: &mut Vec<Home>,
+    to: &mut IndexSet<Home>,
 ) -> Result<(), AllocError>
-    ensures { OnOk result (to.new.items ≡ homes_held (source plan.now) from x home) }
+    ensures { OnOk result (to.new.keys ≡ homes_held (source plan.now) from x home) }
 {
     if let Origin::After(place, _) = from {
         return plan.needed(place, x, to);
     }
     to.clear();
-    to.push(home)?;
+    to.insert(home)?;
     Ok(())
 }
 
 fn copy_new(
     plan: &Plan<'_>,
     from: Home,
-    there: &[Home],
+    there: &IndexSet<Home>,
     to: Home,
     items: &mut Vec<Item>,
 ) -> Result<(), AllocError>
-    ensures { OnOk result (items.new.items ≡ items.old.items ++ copy_new (source plan.now) from there.now to) }
+    ensures { OnOk result (items.new.items ≡ items.old.items ++ copy_new (source plan.now) from there.now.keys to) }
 {
     if has(there, to) {
         return Ok(());
@@ -105,13 +107,13 @@ fn copy_new(
 fn copy_all(
     plan: &Plan<'_>,
     from: Home,
-    there: &[Home],
+    there: &IndexSet<Home>,
     needed: &[Home],
     items: &mut Vec<Item>,
 ) -> Result<(), AllocError>
     ensures { OnOk result
         (items.new.items
-        ≡ items.old.items ++ flat_map (copy_new (source plan.now) from there.now) needed.now) }
+        ≡ items.old.items ++ flat_map (copy_new (source plan.now) from there.now.keys) needed.now) }
 {
     'needed: for home in needed {
         if let Err(error) = copy_new(plan, from, there, *home, items) {
@@ -138,13 +140,64 @@ fn local_copies(
     };
     hold(plan, from, x, home, &mut scratch.held)?;
     plan.needed(to, x, &mut scratch.needed)?;
-    copy_all(
-        plan,
-        home,
-        scratch.held.as_slice(),
-        scratch.needed.as_slice(),
-        items,
-    )
+    copy_all(plan, home, &scratch.held, scratch.needed.as_slice(), items)
+}
+
+/// Where an edge begins that leads on from an instruction to a place that no handler covers anew.
+fn quiet_from(plan: &Plan<'_>, from: Origin, to: u16) -> Option<u16>
+    ensures { IfSome result (IsQuiet (source plan.now) from to) }
+{
+    match from {
+        Origin::After(place, _) => {
+            if is_any_new(plan.walk.rec.handlers.as_slice(), to, Some(place)) {
+                None
+            } else {
+                Some(place)
+            }
+        }
+        _ => None,
+    }
+}
+
+/// Whether all registers have at the place the types that they have where the quiet edge begins: then nothing is copied.
+fn are_still(plan: &Plan<'_>, from: Origin, quiet: Option<u16>, to: u16) -> bool
+    requires { IfSome quiet (IsQuiet (source plan.now) from to) }
+    ensures { IsTrue result → copies (source plan.now) from to ≡ [] }
+{
+    match quiet {
+        Some(place) => plan.walk.has_same_registers(to, place),
+        None => false,
+    }
+}
+
+/// Whether a local has at the place the value that it has where the quiet edge begins: then it is not copied.
+fn is_still(plan: &Plan<'_>, from: Origin, quiet: Option<u16>, to: u16, x: u16) -> bool
+    requires { IfSome quiet (IsQuiet (source plan.now) from to) }
+    ensures { IsTrue result → local_copies (source plan.now) from to x ≡ [] }
+{
+    match quiet {
+        Some(place) => same_value(plan.walk.local(to, x), plan.walk.local(place, x)),
+        None => false,
+    }
+}
+
+/// Appends the copies of a local, unless it is still.
+fn moved_copies(
+    plan: &Plan<'_>,
+    from: Origin,
+    quiet: Option<u16>,
+    to: u16,
+    x: u16,
+    scratch: &mut EdgeScratch,
+    items: &mut Vec<Item>,
+) -> Result<(), AllocError>
+    requires { IfSome quiet (IsQuiet (source plan.now) from to) }
+    ensures { OnOk result (items.new.items ≡ items.old.items ++ local_copies (source plan.now) from to x) }
+{
+    if is_still(plan, from, quiet, to, x) {
+        return Ok(());
+    }
+    local_copies(plan, from, to, x, scratch, items)
 }
 
 /// Appends the copies of all locals on an edge to a place.
@@ -158,8 +211,12 @@ pub fn copies(
 ) -> Result<(), AllocError>
     ensures { OnOk result (items.new.items ≡ items.old.items ++ copies (source plan.now) from to) }
 {
+    let quiet = quiet_from(plan, from, to);
+    if are_still(plan, from, quiet, to) {
+        return Ok(());
+    }
     'locals: for x in 0..plan.walk.registers() {
-        if let Err(error) = local_copies(plan, from, to, x, scratch, items) {
+        if let Err(error) = moved_copies(plan, from, quiet, to, x, scratch, items) {
             return Err(error);
         }
     }

@@ -1,12 +1,11 @@
-ghost use Rattle.std.specs.Prelude.{◌≡◌, ◌≤◌, ◌+◌, ◌/◌, ◌++◌, ◌∷◌, [], OnOk, IfOk};
-ghost use Rattle.jc_decode.specs.Listing.{targets};
+ghost use Rattle.std.specs.Prelude.{◌≡◌, ◌≤◌, ◌+◌, ◌/◌, ◌++◌, OnOk, IfOk};
 ghost use Rattle.xf_homes.specs.PlannedMethod.{source};
-ghost use Rattle.xf_emission.specs.Jump.{operands_slot, under, operands, has_under, branch_copies, place, lead, stub, stub_label, goto, leads, stubs_of, AreLed, IsNearBy};
+ghost use Rattle.xf_emission.specs.Jump.{operands_slot, under, operands, has_under, branch_copies, place, stub_label, goto, IsNearBy};
 
 use crate::edge::{EdgeScratch, cell_copies, copies};
 use crate::moves::put;
-use jc_control::{Targets, place_of};
-use jc_decode::{Insn, Item, Placed};
+use jc_control::place_of;
+use jc_decode::Item;
 use jc_ops::Operation;
 use std::alloc::{AllocError, Global};
 use xf_emission::Origin;
@@ -98,8 +97,8 @@ pub fn taken(
     )
 }
 
-/// The label of the stub on the edge to a target, by its number.
-fn stub_label(place: u16, n: u16) -> u16
+/// The label of the stub of a way, by its number.
+pub fn stub_label(place: u16, n: u16) -> u16
     requires { place / 2 + n ≤ 32767 }
     ensures { result ≡ stub_label place n }
 {
@@ -107,7 +106,7 @@ fn stub_label(place: u16, n: u16) -> u16
 }
 
 /// What has to be copied where the branch is taken to a place, as a list of its own.
-fn copied(
+pub fn copied(
     alloc: Global,
     plan: &Plan<'_>,
     fork: Fork,
@@ -122,34 +121,11 @@ fn copied(
 }
 
 /// The place of a target.
-fn target_place(target: i32) -> u16
+pub fn target_place(target: i32) -> u16
     requires { IsNearBy target }
     ensures { result ≡ place target }
 {
     place_of(target)
-}
-
-/// The label to which the branch is taken for its n-th target: the target's own, or that of a stub.
-#[tactic(auto, unfolding(xf_emission::specs::Jump::lead))]
-fn lead(
-    alloc: Global,
-    plan: &Plan<'_>,
-    fork: Fork,
-    n: u16,
-    target: i32,
-    scratch: &mut EdgeScratch,
-) -> Result<u16, AllocError>
-    requires few { fork.place / 2 + n ≤ 32767 }
-    requires near { IsNearBy target }
-    ensures { IfOk result (λ l. l ≡ lead (source plan.now) fork.place fork.operation fork.operands n target) }
-{
-    let to = target_place(target);
-    let items = copied(alloc, plan, fork, to, scratch)?;
-    if items.is_empty() {
-        Ok(to)
-    } else {
-        Ok(stub_label(fork.place, n))
-    }
 }
 
 /// The goto of a place's label.
@@ -157,110 +133,4 @@ pub fn goto(to: u16) -> Item
     ensures { result ≡ goto to }
 {
     Item::Branch { op: 168, label: to }
-}
-
-/// Appends the stub on the edge to the n-th target, if something has to be copied there.
-#[tactic(auto, unfolding(xf_emission::specs::Jump::stub))]
-fn put_stub(
-    alloc: Global,
-    plan: &Plan<'_>,
-    fork: Fork,
-    n: u16,
-    target: i32,
-    scratch: &mut EdgeScratch,
-    items: &mut Vec<Item>,
-) -> Result<(), AllocError>
-    requires few { fork.place / 2 + n ≤ 32767 }
-    requires near { IsNearBy target }
-    ensures { OnOk result
-        (items.new.items
-        ≡ items.old.items ++ stub (source plan.now) fork.place fork.operation fork.operands n target) }
-{
-    let to = target_place(target);
-    let copies = copied(alloc, plan, fork, to, scratch)?;
-    if copies.is_empty() {
-        return Ok(());
-    }
-    put(items, Item::Label(stub_label(fork.place, n)))?;
-    taken(alloc, plan, fork, to, scratch, items)?;
-    put(items, goto(to))
-}
-
-/// Adds the label of the n-th target.
-fn add_lead(
-    alloc: Global,
-    plan: &Plan<'_>,
-    fork: Fork,
-    n: u16,
-    target: i32,
-    scratch: &mut EdgeScratch,
-    labels: &mut Vec<u16>,
-) -> Result<(), AllocError>
-    requires few { fork.place / 2 + n ≤ 32767 }
-    requires near { IsNearBy target }
-    ensures { OnOk result
-        (labels.new.items
-        ≡ labels.old.items ++ lead (source plan.now) fork.place fork.operation fork.operands n target ∷ []) }
-{
-    let label = lead(alloc, plan, fork, n, target, scratch)?;
-    labels.push(label)?;
-    Ok(())
-}
-
-/// The labels of all targets of the branch, in their order.
-pub fn leads(
-    alloc: Global,
-    plan: &Plan<'_>,
-    fork: Fork,
-    insn: Insn,
-    scratch: &mut EdgeScratch,
-) -> Result<Vec<u16>, AllocError>
-    requires { AreLed plan.now.walk.code.bytes.now (record { place = fork.place; insn = insn }) }
-    ensures { IfOk result (λ ls. ls.items
-        ≡ leads (source plan.now) fork.place fork.operation fork.operands 0
-        (targets plan.now.walk.code.bytes.now (record { place = fork.place; insn = insn }))) }
-{
-    let placed = Placed {
-        place: fork.place,
-        insn,
-    };
-    let mut labels = Vec::new(alloc);
-    let mut n = 0;
-    'targets: for target in Targets::of(plan.walk.code, placed) {
-        if let Err(error) = add_lead(alloc, plan, fork, n, target, scratch, &mut labels) {
-            return Err(error);
-        }
-        n += 1;
-    }
-    Ok(labels)
-}
-
-/// Appends the stubs of all targets of the branch.
-pub fn put_stubs(
-    alloc: Global,
-    plan: &Plan<'_>,
-    fork: Fork,
-    insn: Insn,
-    scratch: &mut EdgeScratch,
-    items: &mut Vec<Item>,
-) -> Result<(), AllocError>
-    requires { AreLed plan.now.walk.code.bytes.now (record { place = fork.place; insn = insn }) }
-    ensures { OnOk result
-        (items.new.items
-        ≡ items.old.items
-        ++ stubs_of (source plan.now) fork.place fork.operation fork.operands 0
-        (targets plan.now.walk.code.bytes.now (record { place = fork.place; insn = insn }))) }
-{
-    let placed = Placed {
-        place: fork.place,
-        insn,
-    };
-    let mut n = 0;
-    'targets: for target in Targets::of(plan.walk.code, placed) {
-        if let Err(error) = put_stub(alloc, plan, fork, n, target, scratch, items) {
-            return Err(error);
-        }
-        n += 1;
-    }
-    Ok(())
 }

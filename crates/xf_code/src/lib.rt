@@ -14,6 +14,6 @@ mod handlers;
 mod jump;
 mod moves;
 mod rewriting;
-mod stub;
+mod ways;
 
 pub use rewriting::{RewriteEnd, rewrite};

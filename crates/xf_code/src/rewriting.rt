@@ -18,8 +18,8 @@ use crate::edge::{EdgeScratch, copies};
 use crate::group::groups;
 use crate::handlers::{handler_stubs, ranges};
 use crate::moves::put;
-use crate::stub::stubs;
 use cap_bytes::View;
+use indexmap::IndexSet;
 use jc_base::World;
 use jc_control::{ControlEnd, control_flow, flaws_decide, instructions_are_placed};
 use jc_decode::{Item, Sequence, Symbols, instructions_are_listed};
@@ -56,14 +56,15 @@ fn items(alloc: Global, plan: &Plan<'_>) -> Result<Vec<Item>, AllocError>
     ensures { IfOk result (λ is. is.items ≡ items (source plan.now)) }
 {
     let mut scratch = EdgeScratch {
-        held: Vec::new(alloc),
-        needed: Vec::new(alloc),
+        held: IndexSet::new(alloc),
+        needed: IndexSet::new(alloc),
     };
     let mut items = Vec::new(alloc);
     copies(plan, Origin::Start, 0, &mut scratch, &mut items)?;
-    groups(alloc, plan, &mut scratch, &mut items)?;
+    let mut stubs = Vec::new(alloc);
+    groups(alloc, plan, &mut scratch, &mut items, &mut stubs)?;
     put(&mut items, Item::Label(plan.walk.code.bytes.len() as u16))?;
-    stubs(alloc, plan, &mut scratch, &mut items)?;
+    items.append(&mut stubs)?;
     handler_stubs(alloc, plan, &mut scratch, &mut items)?;
     Ok(items)
 }

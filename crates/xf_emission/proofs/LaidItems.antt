@@ -26,12 +26,13 @@ use Rattle.xf_homes.specs.Walk.{operands_of, register_from, same_home}
 use Rattle.xf_homes.specs.Source.{Source}
 use Rattle.xf_homes.specs.Plan.{operation, or_first}
 use Rattle.xf_emission.specs.Emission.{is_live, items}
-use Rattle.xf_emission.specs.Jump.{label_by, lead, place, stub_label, branch_copies}
+use Rattle.xf_emission.specs.Jump.{each_once, way_of, label_by, lead, place, stub_label, branch_copies}
 use Rattle.xf_emission.specs.Laws.{IsCode, HasFrames, IsLabelOf, of_place, of_stub, ItemsSuit}
 use Rattle.xf_emission.proofs.Forms.{suits-op}
 use Rattle.xf_emission.proofs.Live.{live-is}
 use Rattle.xf_emission.proofs.Once.{labels-stand-once}
 use Rattle.xf_emission.proofs.Suited.{IsEmitted, items-suit}
+use Rattle.xf_emission.proofs.Ways.{way-found}
 
 -- ---- registers
 
@@ -92,11 +93,13 @@ module _ (w : Linked) (alike : OperationsGoAlike w) (listing_is : InstructionsAr
         decodes = d;
         alike = go.jumps_alike;
         suits = suits-op s.world s.method.rec i.place i.insn op small is;
-        ways = λ n k t asks e. by n k t asks e (at k t e) (branch_copies s i.place op n (place t)) refl;
+        ways =
+            λ n k t asks e. by n (way_of (targets s.method.code i) t) t asks (way-found (targets s.method.code i) k t e) (at k t e)
+            (branch_copies s i.place op n (place t)) refl;
         places = at;
       }
     where
-      by : (n k : ℕ) (t : ℤ) → operands_of s.world (Ok op) ≡ Some n → slice_get (targets s.method.code i) k ≡ Some t
+      by : (n k : ℕ) (t : ℤ) → operands_of s.world (Ok op) ≡ Some n → slice_get (each_once (targets s.method.code i)) k ≡ Some t
           → IsOnce (items s) (place t) → (copied : List Item) → branch_copies s i.place op n (place t) ≡ copied
           → IsOnce (items s) (label_by (place t) (stub_label i.place k) copied)
       by n k t asks e here [] none = here

@@ -2,6 +2,7 @@ pub mod Live
 pub mod Labels
 pub mod Rises
 pub mod TwoBytes
+pub mod Ways
 pub mod Stubs
 pub mod Once
 pub mod GroupPlaces

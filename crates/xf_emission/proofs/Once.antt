@@ -15,7 +15,7 @@ use Rattle.xf_homes.specs.Walk.{operands_of}
 use Rattle.xf_homes.proofs.Events.{among-left, among-right}
 use Rattle.xf_homes.specs.Source.{Source}
 use Rattle.xf_homes.specs.Plan.{operation}
-use Rattle.xf_emission.specs.Jump.{place, stub_label, stub, stubs_of, branch_copies, handler_label}
+use Rattle.xf_emission.specs.Jump.{each_once, place, stub_label, stub, stubs_of, branch_copies, handler_label}
 use Rattle.xf_emission.specs.Group.{group}
 use Rattle.xf_emission.specs.Emission.{stubs, stubs_by, stubs_done, stubs_at, is_live, catching_stub, catching_stubs, items}
 use Rattle.xf_emission.specs.Laws.{IsLabelOf, of_place, of_end, of_stub, of_handler, LabelsStandOnce}
@@ -92,7 +92,7 @@ module _ (s : Source) where
 
   stub-there : (i : Placed) (op : Operation) (n k : ℕ) (t : ℤ) → is_some (s.frames i.place) ≡ true → operation s i ≡ Ok op
       → operands_of s.world (Ok op) ≡ Some n
-      → slice_get (targets s.method.code i) k ≡ Some t → branch_copies s i.place op n (place t) ≢ []
+      → slice_get (each_once (targets s.method.code i)) k ≡ Some t → branch_copies s i.place op n (place t) ≢ []
       → IsAmong (stub_label i.place k) (labels (stubs s i))
   unfolding stubs
   stub-there i op n k t reached is asks at some = by-frame (s.frames i.place) reached
@@ -104,9 +104,9 @@ module _ (s : Source) where
       by-operands None e = absurd (cc)
       by-operands (Some m) e =
           let same : n ≡ m = cc in
-          subst (λ (j : ℕ). IsAmong (stub_label i.place k) (labels (stubs_of s i.place op j 0 (targets s.method.code i)))) same
-          (subst (λ (j : ℕ). IsAmong (stub_label i.place j) (labels (stubs_of s i.place op n 0 (targets s.method.code i)))) zero-first
-          (in-stubs s i.place op n 0 k (targets s.method.code i) t at some))
+          subst (λ (j : ℕ). IsAmong (stub_label i.place k) (labels (stubs_of s i.place op j 0 (each_once (targets s.method.code i))))) same
+          (subst (λ (j : ℕ). IsAmong (stub_label i.place j) (labels (stubs_of s i.place op n 0 (each_once (targets s.method.code i))))) zero-first
+          (in-stubs s i.place op n 0 k (each_once (targets s.method.code i)) t at some))
 
       by-operation : (r : Result Operation RuleFault) → r ≡ Ok op → IsAmong (stub_label i.place k) (labels (stubs_done s i r))
       by-operation (Err fault) e = absurd (cc)

@@ -50,14 +50,15 @@ use Rattle.xf_emission.specs.declared.origin.Origin.{Origin}
 use Rattle.xf_emission.specs.declared.origin.Origin.TheVariants.{Start, After, Entry}
 use Rattle.xf_emission.specs.Move.{with_byte, load_op, store_op, load, store, copy, loads, spill}
 use Rattle.xf_emission.specs.Edge.{home_before, homes_held, copy_new, copies_from, local_copies, locals_copies, copies, cell_copies}
-use Rattle.xf_emission.specs.Jump.{under, operands, has_under, spill_if, branch_copies, place, leads, jump_to, branch, goto, stub, stub_of, stub_label}
-use Rattle.xf_emission.specs.Jump.{stubs_of, handler_label, operands_slot}
+use Rattle.xf_emission.specs.Jump.{under, operands, has_under, spill_if, branch_copies, place, each_once, leads, jump_to, branch, goto, stub, stub_of}
+use Rattle.xf_emission.specs.Jump.{stub_label, stubs_of, handler_label, operands_slot}
 use Rattle.xf_emission.specs.Group.{itself, loaded, increased, pop_item, store_to_homes, stays, field_read, field_written, swap_words, gone, first_place}
 use Rattle.xf_emission.specs.Group.{branch_by, body, fall, fall_over, fall_by, fallen, entrance, done, group_by, group}
 use Rattle.xf_emission.specs.Emission.{stubs, stubs_at, stubs_by, stubs_done, is_live, catching_stub, catching_stubs, items}
 use Rattle.xf_emission.specs.Laws.{IsCode, HasFrames, PlainSizeFits}
 use Rattle.xf_emission.proofs.Fewer.{Distinct, no-longer, either-among, distinct-append}
 use Rattle.xf_emission.proofs.TwoBytes.{two-bytes}
+use Rattle.xf_emission.proofs.Ways.{ways-few}
 
 -- ---- sizes of lists
 
@@ -376,7 +377,7 @@ module _ (same : SameTypeDecides) (kept_are : NeededAreKept) (s : Source) (has_f
         branch-size : (n : ℕ) → plain_size (branch s i op n) ≤ i.insn.len + 1033
         unfolding branch
         branch-size n =
-            let ls = leads s i.place op n 0 (targets s.method.code i) in
+            let ls = leads s i.place op n (targets s.method.code i) (targets s.method.code i) in
             let spilt : plain_size (spill s (stack_homes s i.place) ++ loads s (operands s i.place n)) ≤ 1020 =
             omega (
               arith,
@@ -495,7 +496,7 @@ module _ (same : SameTypeDecides) (kept_are : NeededAreKept) (s : Source) (has_f
         where
           by-operands : (op : Operation) (n : Option ℕ) → plain_size (stubs_by s i op n) ≤ 2043 * length (targets s.method.code i)
           by-operands op None = omega (arith, none-size)
-          by-operands op (Some n) = stubs-of-size i.place op n 0 (targets s.method.code i)
+          by-operands op (Some n) = omega (arith, stubs-of-size i.place op n 0 (each_once (targets s.method.code i)), ways-few (targets s.method.code i))
 
           by-operation : (r : Result Operation RuleFault) → plain_size (stubs_done s i r) ≤ 2043 * length (targets s.method.code i)
           by-operation (Err fault) = omega (arith, none-size)

@@ -21,7 +21,7 @@ use Rattle.xf_homes.specs.Plan.{stack_homes, operation}
 use Rattle.xf_emission.specs.declared.origin.Origin.TheVariants.{Start, Entry}
 use Rattle.xf_emission.specs.Move.{spill}
 use Rattle.xf_emission.specs.Edge.{copies}
-use Rattle.xf_emission.specs.Jump.{place, stub_label, handler_label, stub, stub_of, stubs_of, branch_copies, goto}
+use Rattle.xf_emission.specs.Jump.{each_once, place, stub_label, handler_label, stub, stub_of, stubs_of, branch_copies, goto}
 use Rattle.xf_emission.specs.Group.{group}
 use Rattle.xf_emission.specs.Emission.{stubs, stubs_by, stubs_done, stubs_at, is_live, catching_stub, catching_stubs, items}
 use Rattle.xf_emission.specs.Laws.{IsCode, StubStands, StubsStand, HandlersStand}
@@ -84,21 +84,21 @@ stub-parts s p op n from (suc k) (u ∷ us) t at =
     }
 
 module _ (s : Source) (i : Placed) (op : Operation) (n : ℕ) (is : operation s i ≡ Ok op) (asks : operands_of s.world (Ok op) ≡ Some n) where
-  stubs-are : is_some (s.frames i.place) ≡ true → stubs s i ≡ stubs_of s i.place op n 0 (targets s.method.code i)
+  stubs-are : is_some (s.frames i.place) ≡ true → stubs s i ≡ stubs_of s i.place op n 0 (each_once (targets s.method.code i))
   unfolding stubs
   stubs-are reached = by (s.frames i.place) reached
     where
-      by : (f : Option Frame) → is_some f ≡ true → stubs_at s i f ≡ stubs_of s i.place op n 0 (targets s.method.code i)
+      by : (f : Option Frame) → is_some f ≡ true → stubs_at s i f ≡ stubs_of s i.place op n 0 (each_once (targets s.method.code i))
       by None e = absurd (cc)
       by (Some f) e = ap (stubs_done s i) is ∙ ap (stubs_by s i op) asks
 
   stub-stands : IsCode s → HasInstruction s.method.code i → is_some (s.frames i.place) ≡ true → (k : ℕ) (t : ℤ)
-      → slice_get (targets s.method.code i) k ≡ Some t
+      → slice_get (each_once (targets s.method.code i)) k ≡ Some t
       → branch_copies s i.place op n (place t) ≢ [] → StubStands s i op n k t
   unfolding items stub
   stub-stands code st reached k t at copied =
       let p = split (listing s.method.code) i st in
-      let q = stub-parts s i.place op n 0 k (targets s.method.code i) t at in
+      let q = stub-parts s i.place op n 0 k (each_once (targets s.method.code i)) t at in
       let first : 0 + k ≡ k = omega arith in
       let own : stubs s i ≡ q.before ++ (stub s i.place op n k t ++ q.after) = stubs-are reached ∙ q.parts
       ∙ ap (λ (j : ℕ). q.before ++ (stub s i.place op n j t ++ q.after)) first in

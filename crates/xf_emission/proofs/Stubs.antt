@@ -15,7 +15,7 @@ use Rattle.jc_rules.specs.Demand.{Frame}
 use Rattle.xf_homes.specs.Walk.{operands_of}
 use Rattle.xf_homes.specs.Source.{Source}
 use Rattle.xf_homes.specs.Plan.{operation}
-use Rattle.xf_emission.specs.Jump.{place, stub_label, stub, stubs_of, branch_copies, handler_label}
+use Rattle.xf_emission.specs.Jump.{each_once, place, stub_label, stub, stubs_of, branch_copies, handler_label}
 use Rattle.xf_emission.specs.declared.origin.Origin.TheVariants.{Start}
 use Rattle.xf_emission.specs.Edge.{copies}
 use Rattle.xf_emission.specs.Group.{group}
@@ -23,6 +23,7 @@ use Rattle.xf_emission.specs.Emission.{stubs, stubs_by, stubs_done, stubs_at, is
 use Rattle.xf_emission.proofs.Labels.{labels, labels-append, label_if, copies-none, stub-label, caught-label, group-label}
 use Rattle.xf_emission.proofs.Rises.{Rises, rises-append, rises-wider, rises-below}
 use Rattle.xf_emission.proofs.TwoBytes.{two-bytes}
+use Rattle.xf_emission.proofs.Ways.{ways-few}
 
 module _ (s : Source) (p : ℕ) (op : Operation) (n : ℕ) where
   one-rises : (copied : List Item) (l : ℕ) → Rises l (suc l) (label_if copied l)
@@ -66,15 +67,17 @@ module _ (s : Source) (bytes : AreBytes s.method.code) where
     low : stub_label i.place 0 ≤ stub_label (i.place + i.insn.len) 0
     low = omega arith
 
-    high : stub_label i.place (0 + length (targets s.method.code i)) ≤ stub_label (i.place + i.insn.len) 0
-    high = omega (arith, two-bytes s.method.code i bytes d)
+    high : stub_label i.place (0 + length (each_once (targets s.method.code i))) ≤ stub_label (i.place + i.insn.len) 0
+    high = omega (arith, two-bytes s.method.code i bytes d, ways-few (targets s.method.code i))
 
     by-operands : (op : Operation) (n : Option ℕ) → Rises (stub_label i.place 0) (stub_label (i.place + i.insn.len) 0) (labels (stubs_by s i op n))
     by-operands op None = low
     by-operands op (Some n) =
-        let here : Rises (stub_label i.place 0) (stub_label i.place (0 + length (targets s.method.code i)))
-        (labels (stubs_of s i.place op n 0 (targets s.method.code i))) = stubs-of-rise s i.place op n 0 (targets s.method.code i) in
-        rises-below (stub_label i.place 0) (stub_label i.place (0 + length (targets s.method.code i))) (stub_label (i.place + i.insn.len) 0) _ high here
+        let here : Rises (stub_label i.place 0) (stub_label i.place (0 + length (each_once (targets s.method.code i))))
+        (labels (stubs_of s i.place op n 0 (each_once (targets s.method.code i)))) = stubs-of-rise s i.place op n 0
+        (each_once (targets s.method.code i)) in
+        rises-below (stub_label i.place 0) (stub_label i.place (0 + length (each_once (targets s.method.code i)))) (stub_label (i.place + i.insn.len) 0) _
+        high here
 
     by-operation : (r : Result Operation RuleFault) → Rises (stub_label i.place 0) (stub_label (i.place + i.insn.len) 0) (labels (stubs_done s i r))
     by-operation (Err fault) = low

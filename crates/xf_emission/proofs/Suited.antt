@@ -33,13 +33,14 @@ use Rattle.xf_homes.specs.Plan.{register, local, needed, stack_homes, is_leader,
 use Rattle.xf_emission.specs.declared.origin.Origin.TheVariants.{Start, After, Entry}
 use Rattle.xf_emission.specs.Move.{copy, loads, spill}
 use Rattle.xf_emission.specs.Edge.{copies}
-use Rattle.xf_emission.specs.Jump.{under, operands, has_under, spill_if, branch_copies, place, lead, leads, first_label, jump_to, branch, goto, stub, stub_of}
-use Rattle.xf_emission.specs.Jump.{stub_label, stubs_of}
+use Rattle.xf_emission.specs.Jump.{under, operands, has_under, spill_if, branch_copies, place, each_once, way_of, lead, leads, first_label, jump_to, branch}
+use Rattle.xf_emission.specs.Jump.{goto, stub, stub_of, stub_label, stubs_of}
 use Rattle.xf_emission.specs.Group.{itself, loaded, increased, store_to_homes, stays, field_read, field_written, gone, first_place, body, fall, fall_over}
 use Rattle.xf_emission.specs.Group.{fall_by, fallen, entrance, done, group_by, group}
 use Rattle.xf_emission.specs.Emission.{stubs, stubs_at, stubs_by, stubs_done, is_live, catching_stub, catching_stubs, items}
 use Rattle.xf_emission.proofs.RowByRow.{op_kind, branching_kind, switching}
 use Rattle.xf_emission.proofs.Forms.{suits_kind, first_u1, only_u1, other-register, other-opcode}
+use Rattle.xf_emission.proofs.Ways.{way-from}
 use Rattle.xf_emission.proofs.Items.{each-if, each-flat, load-suits, store-suits, copy-suits, loads-suit, spill-suits, copies-suit, taken-suits, popped-suits}
 use Rattle.xf_emission.proofs.Items.{swap-suits}
 
@@ -51,7 +52,7 @@ pub record IsEmitted (all : List Item) (s : Source) (i : Placed) (op : Operation
   pub suits : suits_kind i.insn.op (op_kind op) ≡ true
   -- each of its targets, and the way to each, has a label that stands once
   pub ways : (n k : ℕ) (t : ℤ) → operands_of s.world (Ok op) ≡ Some n → slice_get (targets s.method.code i) k ≡ Some t
-      → IsOnce all (lead s i.place op n k t)
+      → IsOnce all (lead s i.place op n (way_of (targets s.method.code i) t) t)
   pub places : (k : ℕ) (t : ℤ) → slice_get (targets s.method.code i) k ≡ Some t → IsOnce all (place t)
 
 module _ (all : List Item) (s : Source) (small : (h : Home) → register s h < 256) where
@@ -91,28 +92,23 @@ module _ (all : List Item) (s : Source) (small : (h : Home) → register s h < 2
 
     -- ---- jumps
 
-    leads-once : (n k : ℕ) (ts : List ℤ) → ((j : ℕ) (t : ℤ) → slice_get ts j ≡ Some t → IsOnce all (lead s i.place op n (k + j) t))
-        → Each (IsOnce all) (leads s i.place op n k ts)
-    leads-once n k [] h = tt
-    leads-once n k (t ∷ ts) h =
-        let here : k + 0 ≡ k = omega arith in (
-          subst (λ (j : ℕ). IsOnce all (lead s i.place op n j t)) here (h 0 t refl),
-          leads-once n (suc k) ts (λ j u at. let next : k + suc j ≡ suc k + j = omega arith in subst (λ (m : ℕ). IsOnce all (lead s i.place op n m u))
-              next (h (suc j) u at)),
-        )
+    leads-once : (n : ℕ) (whole ts : List ℤ)
+        → ((j : ℕ) (t : ℤ) → slice_get ts j ≡ Some t → IsOnce all (lead s i.place op n (way_of whole t) t))
+        → Each (IsOnce all) (leads s i.place op n whole ts)
+    leads-once n whole [] h = tt
+    leads-once n whole (t ∷ ts) h = (h 0 t refl, leads-once n whole ts (λ j u at. h (suc j) u at))
 
-    leads-length : (n k : ℕ) (ts : List ℤ) → length (leads s i.place op n k ts) ≡ length ts
-    leads-length n k [] = refl
-    leads-length n k (t ∷ ts) = ap suc (leads-length n (suc k) ts)
+    leads-length : (n : ℕ) (whole ts : List ℤ) → length (leads s i.place op n whole ts) ≡ length ts
+    leads-length n whole [] = refl
+    leads-length n whole (t ∷ ts) = ap suc (leads-length n whole ts)
 
     first-once : (ls : List ℕ) (m : ℕ) → length ls ≡ suc m → Each (IsOnce all) ls → IsOnce all (first_label ls)
     first-once [] m e o = absurd (cc)
     first-once (l ∷ ls) m e o = o.0
 
-    ways-once : (n : ℕ) → operands_of s.world (Ok op) ≡ Some n → Each (IsOnce all) (leads s i.place op n 0 (targets s.method.code i))
-    ways-once n asks =
-        leads-once n 0 (targets s.method.code i)
-        (λ j t at. let same : j ≡ 0 + j = omega arith in subst (λ (m : ℕ). IsOnce all (lead s i.place op n m t)) same (e.ways n j t asks at))
+    ways-once : (n : ℕ) → operands_of s.world (Ok op) ≡ Some n
+        → Each (IsOnce all) (leads s i.place op n (targets s.method.code i) (targets s.method.code i))
+    ways-once n asks = leads-once n (targets s.method.code i) (targets s.method.code i) (λ j t at. e.ways n j t asks at)
 
     target-count : jumps i.insn.op ≡ true → length (targets s.method.code i) ≡ length (cases s.method.code i.place i.insn) + 1
     unfolding targets
@@ -121,17 +117,17 @@ module _ (all : List Item) (s : Source) (small : (h : Home) → register s h < 2
         ∙ omega (arith, length-map (cases s.method.code i.place i.insn) (λ c. target i.place c.offset))
 
     jump-suits : (n : ℕ) → operands_of s.world (Ok op) ≡ Some n → jumps_from op ≡ true
-        → IsItem s.method.code all (jump_to i op (leads s i.place op n 0 (targets s.method.code i)))
+        → IsItem s.method.code all (jump_to i op (leads s i.place op n (targets s.method.code i) (targets s.method.code i)))
     jump-suits n asks j = by op refl j
       where
         jumping : jumps i.insn.op ≡ true
         jumping = sym e.alike ∙ j
 
         ls : List ℕ
-        ls = leads s i.place op n 0 (targets s.method.code i)
+        ls = leads s i.place op n (targets s.method.code i) (targets s.method.code i)
 
         count : length ls ≡ length (cases s.method.code i.place i.insn) + 1
-        count = leads-length n 0 (targets s.method.code i) ∙ target-count jumping
+        count = leads-length n (targets s.method.code i) (targets s.method.code i) ∙ target-count jumping
 
         switch-suits : op_kind op ≡ switching → IsItem s.method.code all (Switch i.insn i.place ls)
         switch-suits k =
@@ -221,7 +217,8 @@ module _ (all : List Item) (s : Source) (small : (h : Home) → register s h < 2
 
     pub stubs-by-suit : (n : Option ℕ) → Each (IsItem s.method.code all) (stubs_by s i op n)
     stubs-by-suit None = tt
-    stubs-by-suit (Some n) = stubs-suit-from n 0 (targets s.method.code i) e.places
+    stubs-by-suit (Some n) =
+        stubs-suit-from n 0 (each_once (targets s.method.code i)) (λ j t at. let k = way-from (targets s.method.code i) j t at in e.places k.0 t k.1)
 
   -- ---- the instruction, by its form
 

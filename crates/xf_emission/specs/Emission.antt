@@ -24,14 +24,14 @@ use Rattle.xf_homes.specs.Plan.{stack_homes, first_reached, operation}
 use Rattle.xf_emission.specs.declared.origin.Origin.TheVariants.{Start, Entry}
 use Rattle.xf_emission.specs.Move.{spill}
 use Rattle.xf_emission.specs.Edge.{copies}
-use Rattle.xf_emission.specs.Jump.{goto, handler_label, stubs_of}
+use Rattle.xf_emission.specs.Jump.{each_once, goto, handler_label, stubs_of}
 use Rattle.xf_emission.specs.Group.{group}
 
 -- ---- stubs
 
 abbrev pub stubs_by : Source → Placed → Operation → Option ℕ → List Item
 stubs_by s i op None = []
-stubs_by s i op (Some n) = stubs_of s i.place op n 0 (targets s.method.code i)
+stubs_by s i op (Some n) = stubs_of s i.place op n 0 (each_once (targets s.method.code i))
 
 abbrev pub stubs_done : Source → Placed → Result Operation RuleFault → List Item
 stubs_done s i (Err fault) = []

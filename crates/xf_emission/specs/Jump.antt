@@ -1,6 +1,8 @@
 -- Conditional branches and switches: where they lead in rewritten code, and the stubs that stand on their edges.
 use Rattle.std.specs.Prelude.{◌≡◌, ◌<◌, ◌≤◌, pos, negsuc, All, length, ℕ, ℤ, unsigned_abs, suc, ◌+◌, ◌-◌}
-use Rattle.std.specs.Prelude.{◌/◌, Bool, nat_le, nat_lt, List, [], ◌∷◌, ◌++◌, filter, Ok, if◌then◌else◌}
+use Rattle.std.specs.Prelude.{◌/◌, Bool, nat_le, nat_lt, List, [], ◌∷◌, ◌++◌, filter, fold, Ok, if◌then◌else◌}
+use Rattle.std.specs.List.{list_any, position_or_len}
+use Rattle.std.specs.Ordering.{int_eq}
 use Rattle.jc_decode.specs.declared.insn.Placed.{Placed}
 use Rattle.jc_decode.specs.declared.symbols.Item.{Item}
 use Rattle.jc_decode.specs.declared.symbols.Item.TheVariants.{Branch, Switch, Label}
@@ -20,13 +22,27 @@ use Rattle.xf_emission.specs.Edge.{copies, cell_copies}
 -- ---- labels
 
 -- a group begins with the label of its place, whose number is that place, and after the last stands that of the code's end. The stub of
--- the n-th target of the branch at a place, and that of the n-th handler, have numbers above all places: no two branches have targets
--- whose numbers are equal, since each target takes two bytes
+-- the n-th way of the branch at a place, and that of the n-th handler, have numbers above all places: no two branches have ways whose
+-- numbers are equal, since each target takes two bytes
 abbrev pub stub_label : ℕ → ℕ → ℕ
 stub_label p n = 32768 + (p / 2 + n)
 
 abbrev pub handler_label : ℕ → ℕ
 handler_label n = 49152 + n
+
+-- ---- ways
+
+-- the ways that a branch is taken: its targets, each once, at its first turn. A target is a place of the code, so that a switch goes one
+-- way for all cases that lead to one place
+abbrev pub with_target : List ℤ → ℤ → List ℤ
+with_target ts t = if list_any (int_eq t) ts then ts else ts ++ t ∷ []
+
+unfoldable pub each_once : List ℤ → List ℤ
+each_once ts = fold with_target [] ts
+
+-- which of the ways a target is
+abbrev pub way_of : List ℤ → ℤ → ℕ
+way_of ts t = position_or_len (int_eq t) (each_once ts)
 
 -- ---- operands
 
@@ -62,14 +78,14 @@ abbrev pub label_by : ℕ → ℕ → List Item → ℕ
 label_by q stub [] = q
 label_by q stub (i ∷ is) = stub
 
--- the k-th target: its own label where nothing has to be copied, and else that of a stub
+-- the k-th way: the target's own label where nothing has to be copied, and else that of a stub
 unfoldable pub lead : Source → ℕ → Operation → ℕ → ℕ → ℤ → ℕ
 lead s p op n k t = label_by (place t) (stub_label p k) (branch_copies s p op n (place t))
 
--- of targets from the k-th on
-abbrev pub leads : Source → ℕ → Operation → ℕ → ℕ → List ℤ → List ℕ
-leads s p op n k [] = []
-leads s p op n k (t ∷ ts) = lead s p op n k t ∷ leads s p op n (suc k) ts
+-- of targets that are among all of a branch
+abbrev pub leads : Source → ℕ → Operation → ℕ → List ℤ → List ℤ → List ℕ
+leads s p op n all [] = []
+leads s p op n all (t ∷ ts) = lead s p op n (way_of all t) t ∷ leads s p op n all ts
 
 abbrev pub first_label : List ℕ → ℕ
 first_label [] = 0
@@ -84,7 +100,7 @@ jump_to i op labels = Branch (wide i.insn.op) (first_label labels)
 unfoldable pub branch : Source → Placed → Operation → ℕ → List Item
 branch s i op n =
     spill_if (has_under s i.place n) s i.place n
-    ++ jump_to i op (leads s i.place op n 0 (targets s.method.code i)) ∷ []
+    ++ jump_to i op (leads s i.place op n (targets s.method.code i) (targets s.method.code i)) ∷ []
 
 -- ---- stubs
 
@@ -95,11 +111,11 @@ abbrev pub stub_of : ℕ → ℕ → List Item → List Item
 stub_of stub q [] = []
 stub_of stub q (i ∷ is) = Label stub ∷ (i ∷ is) ++ goto q ∷ []
 
--- the stub on the edge to the k-th target, where something has to be copied
+-- the stub of the k-th way, where something has to be copied
 unfoldable pub stub : Source → ℕ → Operation → ℕ → ℕ → ℤ → List Item
 stub s p op n k t = stub_of (stub_label p k) (place t) (branch_copies s p op n (place t))
 
--- of targets from the k-th on
+-- of ways from the k-th on
 abbrev pub stubs_of : Source → ℕ → Operation → ℕ → ℕ → List ℤ → List Item
 stubs_of s p op n k [] = []
 stubs_of s p op n k (t ∷ ts) = stub s p op n k t ++ stubs_of s p op n (suc k) ts

@@ -1,8 +1,9 @@
 -- Laws of rewritten methods: what their layout and their running rest on.
-use Rattle.std.specs.Prelude.{◌≡◌, ◌≢◌, ◌<◌, ◌≤◌, ◌^◌, ◌↔◌, ℕ, ℤ, true, List, [], ◌∷◌, ◌++◌}
-use Rattle.std.specs.Prelude.{flat_map, length, is_some, All, IsSome, Some, Ok, slice_get}
+use Rattle.std.specs.Prelude.{◌≡◌, ◌≢◌, ◌<◌, ◌≤◌, ◌^◌, ◌↔◌, ℕ, ℤ, ⊤, true, List, [], ◌∷◌}
+use Rattle.std.specs.Prelude.{◌++◌, flat_map, length, is_some, All, IsSome, Some, Ok, slice_get}
 use Rattle.std.specs.List.{filter}
 use Rattle.jc_base.specs.declared.record.Handler.{Handler}
+use Rattle.jc_base.specs.Each.{IsAmong}
 use Rattle.jc_base.specs.World.{Linked}
 use Rattle.jc_decode.specs.declared.insn.Placed.{Placed}
 use Rattle.jc_decode.specs.declared.symbols.Item.{Item}
@@ -16,10 +17,22 @@ use Rattle.xf_homes.specs.Order.{AreHomes, register_sum}
 use Rattle.xf_homes.specs.Walk.{operands_of}
 use Rattle.xf_homes.specs.Source.{Source}
 use Rattle.xf_homes.specs.Plan.{depth, operation}
-use Rattle.xf_emission.specs.Jump.{handler_label, place, stub, stub_label, branch_copies}
+use Rattle.xf_emission.specs.Jump.{each_once, handler_label, place, stub, stub_label, branch_copies}
 use Rattle.xf_emission.specs.Group.{group}
 use Rattle.xf_emission.specs.Emission.{catching_stub, is_live, items, ranges}
 use Rattle.xf_emission.specs.Live.{KeepsLive}
+
+-- the ways of a branch are its targets, each once
+abbrev pub AreApart : List ℤ → Type 0
+AreApart [] = ⊤
+AreApart (t ∷ ts) = ¬ (IsAmong t ts) × AreApart ts
+
+pub record AreWays (targets ways : List ℤ) : Type 0 where
+  pub same : (t : ℤ) → IsAmong t ways ↔ IsAmong t targets
+  pub once : AreApart ways
+
+abbrev pub WaysAreTargets : Type 0
+WaysAreTargets = (ts : List ℤ) → AreWays ts (each_once ts)
 
 -- the labels of a rewritten method: those of the groups of reached instructions, that of the end, those of the stubs on edges where
 -- something has to be copied, and those of the stubs of live handlers
@@ -32,7 +45,7 @@ pub data IsLabelOf (s : Source) : ℕ → Type 0 where
       → is_some (s.frames i.place) ≡ true
       → operation s i ≡ Ok op
       → operands_of s.world (Ok op) ≡ Some n
-      → slice_get (targets s.method.code i) k ≡ Some t
+      → slice_get (each_once (targets s.method.code i)) k ≡ Some t
       → branch_copies s i.place op n (place t) ≢ []
       → IsLabelOf s (stub_label i.place k)
   of_handler :
@@ -75,7 +88,7 @@ GroupsStand =
 
 -- ---- stubs
 
--- the stub on the edge to the k-th target of a branch stands where its label does
+-- the stub of the k-th way of a branch stands where its label does
 pub record StubStands (s : Source) (i : Placed) (op : Operation) (n k : ℕ) (t : ℤ) : Type 0 where
   pub before : List Item
   pub after : List Item
@@ -91,7 +104,7 @@ StubsStand =
     → is_some (s.frames i.place) ≡ true
     → operation s i ≡ Ok op
     → operands_of s.world (Ok op) ≡ Some n
-    → slice_get (targets s.method.code i) k ≡ Some t
+    → slice_get (each_once (targets s.method.code i)) k ≡ Some t
     → branch_copies s i.place op n (place t) ≢ []
     → StubStands s i op n k t
 

@@ -1,9 +1,14 @@
-ghost use Rattle.xf_emission.specs.Laws.{GroupsStand, HandlersStand, ItemsSuit, LabelsStandOnce, LiveAreKept, PlainSizeFits, RangesStand, StubsStand};
+ghost use Rattle.xf_emission.specs.Laws.{GroupsStand, HandlersStand, ItemsSuit, LabelsStandOnce, LiveAreKept, PlainSizeFits, RangesStand, StubsStand, WaysAreTargets};
 
 use jc_base::{World, types_are_ordered};
 use jc_decode::instructions_are_listed;
 use jc_ops::operations_go_alike;
 use xf_homes::{homes_serve, needed_are_kept};
+
+/// The ways that a branch is taken are its targets, each once.
+pub fn ways_are_targets()
+    ensures { WaysAreTargets }
+{}
 
 /// The labels of a rewritten method stand once each.
 pub fn labels_stand_once()

@@ -9,6 +9,6 @@ mod origin;
 
 pub use laws::{
     groups_stand, items_suit, labels_stand_once, live_are_kept, plain_size_fits, ranges_stand,
-    stubs_stand,
+    stubs_stand, ways_are_targets,
 };
 pub use origin::Origin;

@@ -15,7 +15,7 @@ use Rattle.jc_rules.specs.Flow.{IsNotTop}
 use Rattle.xf_homes.specs.declared.home.Home.{Home}
 use Rattle.xf_homes.specs.Home.{PairSpot, register_count, IsMetAt, IsMetBefore}
 use Rattle.xf_homes.specs.Order.{AreInOrder, AreHomes}
-use Rattle.xf_homes.specs.Walk.{Event, argument_homes, code_events, homes_found}
+use Rattle.xf_homes.specs.Walk.{Event, argument_homes, code_events, with_events}
 use Rattle.xf_homes.proofs.Events.{Occurs, OccursBefore, Ordered, Kept, kept}
 use Rattle.xf_homes.proofs.Rising.{code-rising}
 use Rattle.xf_homes.proofs.Meeting.{occurs-met, met-occurs}
@@ -32,6 +32,10 @@ pub record IsTyped (m : Method) (frames : ℕ → Option Frame) (leaders : List 
   pub whole : AreWhole m.rec.sig.args
   pub topless : All IsNotTop m.rec.sig.args
   pub words : m.rec.nargs ≡ length m.rec.sig.args + receiver_words m.rec.is_static
+
+-- what the walk finds
+unfoldable pub homes_found : Linked → Method → (ℕ → Option Frame) → List Bool → List Home
+homes_found w m frames leaders = with_events (argument_homes m.rec) (code_events w m frames leaders)
 
 module _ (same : SameTypeDecides) (w : Linked) (m : Method) (frames : ℕ → Option Frame) (leaders : List Bool) (t : IsTyped m frames leaders) where
   abbrev events : List Event

@@ -29,9 +29,9 @@ use Rattle.xf_homes.specs.declared.home.Home.{Home}
 use Rattle.xf_homes.specs.declared.finding.HomeEnd.{HomeEnd}
 use Rattle.xf_homes.specs.declared.finding.HomeEnd.TheVariants.{Registers, Memory}
 use Rattle.xf_homes.specs.Order.{AreHomes}
-use Rattle.xf_homes.specs.Walk.{argument_homes, code_events, with_events, homes_found}
+use Rattle.xf_homes.specs.Walk.{argument_homes, code_events, with_events}
 use Rattle.xf_homes.specs.Answer.{IsTypingOf, IsCounted, TellsHomes}
-use Rattle.xf_homes.proofs.AllHomes.{IsTyped, are-homes}
+use Rattle.xf_homes.proofs.AllHomes.{IsTyped, are-homes, homes_found}
 
 -- ---- options
 

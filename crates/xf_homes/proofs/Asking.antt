@@ -18,8 +18,8 @@ use Rattle.jc_rules.specs.Demand.{Frame}
 use Rattle.xf_homes.specs.declared.home.Home.{Home}
 use Rattle.xf_homes.specs.Walk.{Event, same_home, has, with_home, with_home_of_value, with_event, with_events, is_covered, local_of, caught_of, caught_events}
 use Rattle.xf_homes.specs.Walk.{local_events, locals_events, frame_events, place_events}
-use Rattle.xf_homes.specs.Asked.{knows, AreKnownAt, AreKnownFrom, LocalsAreKnown, covers_last, is_new, last_local, AreLastKnown, NoneIsNew, HandlersAreAsked}
-use Rattle.xf_homes.specs.Asked.{last_after}
+use Rattle.xf_homes.specs.Asked.{knows, AreKnownAt, AreKnownFrom, LocalsAreKnown, covers_last, is_new, last_local, AreLastKnown, AreStill, NoneIsNew}
+use Rattle.xf_homes.specs.Asked.{HandlersAreAsked, last_after}
 use Rattle.xf_homes.proofs.Events.{home-itself}
 
 no-events : (homes : List Home) → with_events homes [] ≡ homes
@@ -138,6 +138,23 @@ nat-cases (suc x) (suc y) le = next (nat-cases x y (omega arith))
 pub same-kept : (frames : ℕ → Option Frame) (homes : List Home) (last : Option ℕ) (x : ℕ) (v : Option Ty) → v ≡ last_local frames last x
     → knows homes x (last_local frames last x) ≡ true → homes ≡ with_home_of_value homes x v
 same-kept frames homes last x v is known = sym (value-kept homes x v (subst (λ u. knows homes x u ≡ true) (sym is) known))
+
+-- where all of them are, nothing is added
+still-locals : (frames : ℕ → Option Frame) (homes : List Home) (p : ℕ) (last : Option ℕ) (count n x : ℕ) → x + n ≤ count
+    → AreStill frames p last → AreLastKnown frames count homes last
+    → homes ≡ fold with_event homes (locals_events frames [] p x n)
+unfolding local_events
+still-locals frames homes p last count zero x inside still known = refl
+still-locals frames homes p last count (suc n) x inside still known =
+    still-locals frames homes p last count n (suc x) (omega arith) still known
+    ∙ ap (λ acc. fold with_event acc (locals_events frames [] p (suc x) n))
+    (same-kept frames homes last x (local_of (frames p) x) (still x) (known x (omega arith)))
+
+pub still-kept : (frames : ℕ → Option Frame) (homes : List Home) (p : ℕ) (last : Option ℕ) (count : ℕ) → AreStill frames p last
+    → AreLastKnown frames count homes last
+    → homes ≡ with_events homes (locals_events frames [] p 0 count)
+unfolding with_events
+still-kept frames homes p last count still known = still-locals frames homes p last count count 0 (omega arith) still known
 
 pub last-known : (frames : ℕ → Option Frame) (count : ℕ) (homes : List Home) (hs : List Handler) (last : Option ℕ)
     → LocalsAreKnown frames count homes hs last → AreLastKnown frames count homes last

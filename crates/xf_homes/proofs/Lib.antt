@@ -6,6 +6,7 @@ pub mod AllHomes
 pub mod Steps
 pub mod Asking
 pub mod Lists
+pub mod Keys
 pub mod Answered
 pub mod Serving
 pub mod OneList

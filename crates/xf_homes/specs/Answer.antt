@@ -36,4 +36,4 @@ pub record IsGreat (homes : List Home) (n : ℕ) : Type 0 where
 
 abbrev pub IsCounted : List Home → HomeEnd → Type 0
 IsCounted homes (Registers n) = IsGreat homes n
-IsCounted homes Memory = ⊥
+IsCounted homes Memory = ⊤

@@ -43,6 +43,14 @@ last_local frames (Some q) x = local_of (frames q) x
 abbrev pub AreLastKnown : (ℕ → Option Frame) → ℕ → List Home → Option ℕ → Type 0
 AreLastKnown frames count homes last = (x : ℕ) → x < count → knows homes x (last_local frames last x) ≡ true
 
+-- each local has the same value in both frames
+abbrev pub AreSameLocals : Option Frame → Option Frame → Type 0
+AreSameLocals f g = (x : ℕ) → local_of f x ≡ local_of g x
+
+-- each has the value that it has at the last place
+abbrev pub AreStill : (ℕ → Option Frame) → ℕ → Option ℕ → Type 0
+AreStill frames p last = (x : ℕ) → local_of (frames p) x ≡ last_local frames last x
+
 abbrev pub covers_last : Handler → Option ℕ → Bool
 covers_last h None = false
 covers_last h (Some q) = is_covered h q

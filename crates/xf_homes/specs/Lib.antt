@@ -2,7 +2,9 @@ pub mod Value
 pub mod Home
 pub mod Order
 pub mod Answer
+pub mod Hashed
 pub mod Walk
+pub mod Equal
 pub mod Asked
 pub mod Subject
 pub mod Laws

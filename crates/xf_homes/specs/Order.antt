@@ -27,6 +27,16 @@ pub record IsCount (homes : List Home) (n : ℕ) : Type 0 where
   pub sum : register_sum homes ≡ n
   pub few : n ≤ 255
 
+-- the first register of each, of homes whose registers follow one another from a number on
+abbrev pub begins_from : ℕ → List Home → List ℕ
+begins_from n [] = []
+begins_from n (h ∷ hs) = n ∷ begins_from (n + type_width h.ty) hs
+
+-- homes with the first register of each, and how many registers they take
+pub record AreCounted (homes : List Home) (registers : List ℕ) (n : ℕ) : Type 0 where
+  pub begins : registers ≡ begins_from 0 homes
+  pub count : IsCount homes n
+
 -- the homes of a method: the arguments at their declared types, each in its own register, and then the others in the order in which they
 -- are first met
 pub record AreHomes (w : Linked) (m : Method) (frames : ℕ → Option Frame) (homes : List Home) : Type 0 where

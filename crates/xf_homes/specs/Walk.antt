@@ -134,9 +134,6 @@ values_from slot (ty ∷ types) = record { slot = slot; ty = ty } ∷ values_fro
 abbrev pub argument_homes : MethodRec → List Home
 argument_homes r = receiver_home r ++ values_from (length (receiver_home r)) r.sig.args
 
-unfoldable pub homes_found : Linked → Method → (ℕ → Option Frame) → List Bool → List Home
-homes_found w m frames leaders = with_events (argument_homes m.rec) (code_events w m frames leaders)
-
 -- ---- registers
 
 -- where a home begins, of those whose registers follow one another from a number on

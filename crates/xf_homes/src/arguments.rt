@@ -1,7 +1,9 @@
-ghost use Rattle.std.specs.Prelude.{◌≡◌, ◌≤◌, length, IfOk};
-ghost use Rattle.xf_homes.specs.Walk.{receiver_home, argument_homes};
+ghost use Rattle.std.specs.Prelude.{◌≡◌, ◌≤◌, [], length, IfOk};
+ghost use Rattle.indexmap.specs.IndexSet.{insert_all};
+ghost use Rattle.xf_homes.specs.Walk.{receiver_home, argument_homes, same_home};
 
 use crate::home::Home;
+use indexmap::IndexSet;
 use jc_base::{MethodRec, Ty};
 use std::alloc::{AllocError, Global};
 
@@ -22,7 +24,7 @@ fn receiver_home(alloc: Global, rec: &MethodRec) -> Result<Vec<Home>, AllocError
 
 /// The arguments of a method at their declared types: the receiver, and the value that begins with each cell but the low
 /// half of an int.
-pub(crate) fn argument_homes(alloc: Global, rec: &MethodRec) -> Result<Vec<Home>, AllocError>
+fn argument_homes(alloc: Global, rec: &MethodRec) -> Result<Vec<Home>, AllocError>
     requires { length rec.now.sig.args ≤ 255 }
     ensures { IfOk result (λ homes. homes.items ≡ argument_homes rec.now) }
 {
@@ -35,4 +37,28 @@ pub(crate) fn argument_homes(alloc: Global, rec: &MethodRec) -> Result<Vec<Home>
         slot += 1;
     }
     Ok(homes)
+}
+
+/// Homes as a table, in which each stands once.
+#[tactic(auto, using(crate::proofs::Keys::table_next, crate::proofs::Keys::table_end))]
+fn table_of(alloc: Global, homes: &[Home]) -> Result<IndexSet<Home>, AllocError>
+    ensures { IfOk result (λ table. table.keys ≡ insert_all (λ a b. same_home b a) [] homes.now) }
+{
+    let mut table = IndexSet::new(alloc);
+    'homes: for home in homes {
+        if table.insert(*home).is_err() {
+            return Err(AllocError);
+        }
+    }
+    Ok(table)
+}
+
+/// The arguments of a method as a table.
+#[tactic(auto, using(crate::proofs::Keys::arguments_once))]
+pub(crate) fn argument_set(alloc: Global, rec: &MethodRec) -> Result<IndexSet<Home>, AllocError>
+    requires { length rec.now.sig.args ≤ 255 }
+    ensures { IfOk result (λ homes. homes.keys ≡ argument_homes rec.now) }
+{
+    let homes = argument_homes(alloc, rec)?;
+    table_of(alloc, homes.as_slice())
 }

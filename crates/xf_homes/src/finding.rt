@@ -4,11 +4,12 @@ ghost use Rattle.jc_rules.specs.Typing.{state_at};
 ghost use Rattle.xf_homes.specs.Order.{AreHomes, register_sum};
 ghost use Rattle.xf_homes.specs.Answer.{IsTypingOf, IsCounted, TellsHomes};
 
-use crate::arguments::argument_homes;
+use crate::arguments::argument_set;
 use crate::found::Homes;
 use crate::home::Home;
 use crate::walk::HomeWalk;
 use cap_bytes::View;
+use indexmap::IndexSet;
 use jc_base::{World, types_are_ordered};
 use jc_control::{ControlEnd, control_flow, flaws_decide, instructions_are_placed};
 use jc_decode::instructions_are_listed;
@@ -66,9 +67,9 @@ pub fn homes(
         typing,
         control: &control,
     };
-    let mut homes = argument_homes(alloc, rec)?;
+    let mut homes = argument_set(alloc, rec)?;
     walk.find(&mut homes)?;
-    counted(homes)
+    counted(alloc, homes)
 }
 
 /// The number of registers that the homes take.
@@ -83,13 +84,16 @@ fn register_sum(homes: &[Home]) -> u32
 }
 
 /// The homes, where there are registers for all.
-fn counted(homes: Vec<Home>) -> Result<Homes, HomeEnd>
-    ensures homes { IfOk result (λ found. found ≡ homes.items) }
-    ensures end { IfErr result (IsCounted homes.items) }
+fn counted(alloc: Global, homes: IndexSet<Home>) -> Result<Homes, HomeEnd>
+    ensures homes { IfOk result (λ found. found ≡ homes.keys) }
+    ensures end { IfErr result (IsCounted homes.keys) }
 {
     let sum = register_sum(homes.as_slice());
     if sum > 255 {
         return Err(HomeEnd::Registers(sum));
     }
-    Ok(Homes::of(homes, sum as u8))
+    match Homes::of(alloc, homes, sum as u8) {
+        Ok(homes) => Ok(homes),
+        Err(_) => Err(HomeEnd::Memory),
+    }
 }

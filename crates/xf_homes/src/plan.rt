@@ -5,6 +5,7 @@ ghost use Rattle.xf_homes.specs.Plan.{register, home_of, with_home_of, local, ne
 ghost use Rattle.xf_homes.specs.PlannedMethod.{source};
 
 use crate::{Home, HomeWalk, Homes, value_at};
+use indexmap::IndexSet;
 use jc_base::Ty;
 use jc_decode::Placed;
 use jc_ops::{Operation, RuleFault, Site, resolve};
@@ -71,9 +72,9 @@ impl Plan<'_> {
     /// The homes in which a local has to stand at a place, that of its type there first, in place of what the list had. Where
     /// there is no memory the list is empty.
     #[tactic(auto, unfolding(crate::specs::Plan::needed))]
-    pub fn needed(&self, place: u16, x: u16, to: &mut Vec<Home>) -> Result<(), AllocError>
-        ensures is { OnOk result (to.new.items ≡ needed (source self.now) place x) }
-        ensures empty { OnErr result (to.new.items ≡ []) }
+    pub fn needed(&self, place: u16, x: u16, to: &mut IndexSet<Home>) -> Result<(), AllocError>
+        ensures is { OnOk result (to.new.keys ≡ needed (source self.now) place x) }
+        ensures empty { OnErr result (to.new.keys ≡ []) }
     {
         to.clear();
         self.walk.keep_local(to, place, x)

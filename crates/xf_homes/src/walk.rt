@@ -4,12 +4,13 @@ ghost use Rattle.jc_control.specs.Method.{IsMethodOf};
 ghost use Rattle.jc_rules.specs.Footprint.{footprint};
 ghost use Rattle.xf_homes.specs.Home.{register_count};
 ghost use Rattle.xf_homes.specs.Walk.{local_of, is_covered, caught_events, caught_of, local_events, locals_events, cells_events, operands_of, operands_at, keeps_stack, stack_events, place_events, code_events, has, with_home, with_home_of_value, with_events};
-ghost use Rattle.xf_homes.specs.Asked.{HandlersAreAsked, LocalsAreKnown, AreLastKnown, NoneIsNew, is_new, knows, last_after, last_local};
+ghost use Rattle.xf_homes.specs.Asked.{HandlersAreAsked, LocalsAreKnown, AreLastKnown, NoneIsNew, AreSameLocals, AreStill, is_new, knows, last_after, last_local};
 ghost use Rattle.xf_homes.specs.Subject.{walked, frames_of};
 
 use crate::home::Home;
 use crate::value::value_at;
 use cap_bytes::View;
+use indexmap::IndexSet;
 use jc_base::{Handler, MethodRec, Ty, World, same_type, types_are_ordered};
 use jc_control::{ControlFlow, covers};
 use jc_decode::{Instructions, Placed};
@@ -29,31 +30,25 @@ pub struct HomeWalk<'a> {
 }
 
 /// Whether a home is among these.
-pub fn has(homes: &[Home], home: Home) -> bool
-    ensures { result ≡ has homes.now home }
+#[tactic(auto, unfolding(crate::specs::Walk::has))]
+pub fn has(homes: &IndexSet<Home>, home: Home) -> bool
+    ensures { result ≡ has homes.now.keys home }
 {
-    'kept: for kept in homes {
-        if kept.is(home) {
-            return true;
-        }
-    }
-    false
+    homes.contains(&home)
 }
 
 /// Keeps a pair that is not kept yet.
-fn keep(homes: &mut Vec<Home>, home: Home) -> Result<(), AllocError>
-    ensures { OnOk result (homes.new.items ≡ with_home homes.old.items home) }
+#[tactic(auto, unfolding(crate::specs::Walk::has))]
+fn keep(homes: &mut IndexSet<Home>, home: Home) -> Result<(), AllocError>
+    ensures { OnOk result (homes.new.keys ≡ with_home homes.old.keys home) }
 {
-    if has(homes.as_slice(), home) {
-        return Ok(());
-    }
-    homes.push(home)?;
+    homes.insert(home)?;
     Ok(())
 }
 
 /// Keeps the value of a slot, if it has one.
-fn keep_value(homes: &mut Vec<Home>, slot: u16, value: Option<Ty>) -> Result<(), AllocError>
-    ensures { OnOk result (homes.new.items ≡ with_home_of_value homes.old.items slot value) }
+fn keep_value(homes: &mut IndexSet<Home>, slot: u16, value: Option<Ty>) -> Result<(), AllocError>
+    ensures { OnOk result (homes.new.keys ≡ with_home_of_value homes.old.keys slot value) }
 {
     match value {
         Some(ty) => keep(homes, Home { slot, ty }),
@@ -68,7 +63,7 @@ fn is_covered(handler: Handler, place: u16) -> bool
 }
 
 /// Whether two values are the same, or there is none in both.
-fn same_value(a: Option<Ty>, b: Option<Ty>) -> bool
+pub fn same_value(a: Option<Ty>, b: Option<Ty>) -> bool
     ensures { IsTrue result → a ≡ b }
 {
     match a {
@@ -94,7 +89,7 @@ fn is_new(handler: Handler, place: u16, last: Option<u16>) -> bool
 
 /// Whether a handler covers a place and not the last one.
 #[tactic(auto, unfolding(crate::specs::Asked::NoneIsNew))]
-fn is_any_new(handlers: &[Handler], place: u16, last: Option<u16>) -> bool
+pub fn is_any_new(handlers: &[Handler], place: u16, last: Option<u16>) -> bool
     ensures { MatchBool result ⊤ (NoneIsNew handlers.now place last) }
 {
     'handlers: for handler in handlers {
@@ -103,6 +98,21 @@ fn is_any_new(handlers: &[Handler], place: u16, last: Option<u16>) -> bool
         }
     }
     false
+}
+
+/// Whether two lists of types are the same.
+pub fn same_types(a: &[Ty], b: &[Ty]) -> bool
+    ensures { IsTrue result → a.now ≡ b.now }
+{
+    if a.len() != b.len() {
+        return false;
+    }
+    'cells: for n in 0..a.len() {
+        if !same_type(a[n], b[n]) {
+            return false;
+        }
+    }
+    true
 }
 
 /// The handlers that are asked at a place: all, where one is new there, and else none.
@@ -132,10 +142,15 @@ pub fn operands(world: &World<'_>, operation: Operation) -> Option<u8>
 
 /// Keeps each value of a list of cells, at slots from a slot on.
 #[tactic(auto, unfolding(crate::specs::Walk::with_events))]
-fn keep_cells(homes: &mut Vec<Home>, slot: u16, place: u16, cells: &[Ty]) -> Result<(), AllocError>
+fn keep_cells(
+    homes: &mut IndexSet<Home>,
+    slot: u16,
+    place: u16,
+    cells: &[Ty],
+) -> Result<(), AllocError>
     requires few { slot + length cells.now ≤ 65535 }
     ensures { OnOk result
-        (homes.new.items ≡ with_events homes.old.items (cells_events place slot cells.now 0 (length cells.now))) }
+        (homes.new.keys ≡ with_events homes.old.keys (cells_events place slot cells.now 0 (length cells.now))) }
 {
     'values: for n in 0..cells.len() as u16 {
         if let Err(error) = keep_value(homes, slot + n, value_at(cells, n)) {
@@ -169,13 +184,13 @@ impl HomeWalk<'_> {
     /// Keeps the value of a local at a place, where it is not the one at the last place, which is kept.
     fn keep_own(
         &self,
-        homes: &mut Vec<Home>,
+        homes: &mut IndexSet<Home>,
         place: u16,
         x: u16,
         last: Option<u16>,
     ) -> Result<(), AllocError>
-        requires { knows homes.old.items x (last_local (frames_of self.now) last x) ≡ true }
-        ensures { OnOk result (homes.new.items ≡ with_home_of_value homes.old.items x (local_of (frames_of self.now place) x)) }
+        requires { knows homes.old.keys x (last_local (frames_of self.now) last x) ≡ true }
+        ensures { OnOk result (homes.new.keys ≡ with_home_of_value homes.old.keys x (local_of (frames_of self.now place) x)) }
     {
         let value = self.local(place, x);
         if same_value(value, self.last_local(last, x)) {
@@ -199,14 +214,14 @@ impl HomeWalk<'_> {
     #[tactic(auto, unfolding(crate::specs::Walk::with_events))]
     fn keep_caught(
         &self,
-        homes: &mut Vec<Home>,
+        homes: &mut IndexSet<Home>,
         place: u16,
         x: u16,
         handlers: &[Handler],
     ) -> Result<(), AllocError>
         ensures { OnOk result
-            (homes.new.items
-            ≡ with_events homes.old.items (caught_events (frames_of self.now) place x 0 handlers.now)) }
+            (homes.new.keys
+            ≡ with_events homes.old.keys (caught_events (frames_of self.now) place x 0 handlers.now)) }
     {
         'handlers: for handler in handlers {
             if let Err(error) = keep_value(homes, x, self.caught(place, x, *handler)) {
@@ -218,11 +233,16 @@ impl HomeWalk<'_> {
 
     /// Keeps what is needed for a local at a place: its type there, then those at the handlers that cover it, in the order of
     /// the table. What is kept already stays as it is. Where there is no memory the list is empty.
-    pub fn keep_local(&self, homes: &mut Vec<Home>, place: u16, x: u16) -> Result<(), AllocError>
+    pub fn keep_local(
+        &self,
+        homes: &mut IndexSet<Home>,
+        place: u16,
+        x: u16,
+    ) -> Result<(), AllocError>
         ensures kept { OnOk result
-            (homes.new.items
-            ≡ with_events homes.old.items (local_events (frames_of self.now) self.now.rec.now.handlers place x)) }
-        ensures empty { OnErr result (homes.new.items ≡ []) }
+            (homes.new.keys
+            ≡ with_events homes.old.keys (local_events (frames_of self.now) self.now.rec.now.handlers place x)) }
+        ensures empty { OnErr result (homes.new.keys ≡ []) }
     {
         let kept = self.keep_typed(homes, place, x);
         if kept.is_err() {
@@ -233,10 +253,10 @@ impl HomeWalk<'_> {
 
     /// The same, which leaves some of them where there is no memory.
     #[tactic(auto, unfolding(crate::specs::Walk::with_events, crate::specs::Walk::local_events))]
-    fn keep_typed(&self, homes: &mut Vec<Home>, place: u16, x: u16) -> Result<(), AllocError>
+    fn keep_typed(&self, homes: &mut IndexSet<Home>, place: u16, x: u16) -> Result<(), AllocError>
         ensures { OnOk result
-            (homes.new.items
-            ≡ with_events homes.old.items (local_events (frames_of self.now) self.now.rec.now.handlers place x)) }
+            (homes.new.keys
+            ≡ with_events homes.old.keys (local_events (frames_of self.now) self.now.rec.now.handlers place x)) }
     {
         keep_value(homes, x, self.local(place, x))?;
         self.keep_caught(homes, place, x, self.rec.handlers.as_slice())
@@ -246,16 +266,16 @@ impl HomeWalk<'_> {
     #[tactic(auto, unfolding(crate::specs::Walk::with_events, crate::specs::Walk::local_events))]
     fn keep_asked(
         &self,
-        homes: &mut Vec<Home>,
+        homes: &mut IndexSet<Home>,
         place: u16,
         x: u16,
         handlers: &[Handler],
         last: Option<u16>,
     ) -> Result<(), AllocError>
-        requires { knows homes.old.items x (last_local (frames_of self.now) last x) ≡ true }
+        requires { knows homes.old.keys x (last_local (frames_of self.now) last x) ≡ true }
         ensures { OnOk result
-            (homes.new.items
-            ≡ with_events homes.old.items (local_events (frames_of self.now) handlers.now place x)) }
+            (homes.new.keys
+            ≡ with_events homes.old.keys (local_events (frames_of self.now) handlers.now place x)) }
     {
         self.keep_own(homes, place, x, last)?;
         self.keep_caught(homes, place, x, handlers)
@@ -271,15 +291,15 @@ impl HomeWalk<'_> {
 
     fn keep_locals(
         &self,
-        homes: &mut Vec<Home>,
+        homes: &mut IndexSet<Home>,
         place: u16,
         handlers: &[Handler],
         last: Option<u16>,
     ) -> Result<(), AllocError>
-        requires { AreLastKnown (frames_of self.now) (register_count self.now.rec.now) homes.old.items last }
+        requires { AreLastKnown (frames_of self.now) (register_count self.now.rec.now) homes.old.keys last }
         ensures { OnOk result
-            (homes.new.items
-            ≡ with_events homes.old.items
+            (homes.new.keys
+            ≡ with_events homes.old.keys
             (locals_events (frames_of self.now) handlers.now place 0 (register_count self.now.rec.now))) }
     {
         'locals: for x in 0..self.registers() {
@@ -319,20 +339,53 @@ impl HomeWalk<'_> {
         }
     }
 
+    /// Whether the registers at a place have the types that they have at another, where control reaches both.
+    pub fn has_same_registers(&self, place: u16, other: u16) -> bool
+        ensures { IsTrue result → AreSameLocals (frames_of self.now place) (frames_of self.now other) }
+    {
+        let Some(state) = self.typing.state(place) else {
+            return false;
+        };
+        let Some(before) = self.typing.state(other) else {
+            return false;
+        };
+        same_types(state.regs(), before.regs())
+    }
+
+    /// Whether no local's value differs from that at the last place.
+    fn is_still(&self, place: u16, last: Option<u16>) -> bool
+        ensures { IsTrue result → AreStill (frames_of self.now) place last }
+    {
+        match last {
+            Some(before) => self.has_same_registers(place, before),
+            None => false,
+        }
+    }
+
+    /// Whether no handler is asked, and no local's value differs from that at the last place.
+    fn needs_none(&self, handlers: &[Handler], place: u16, last: Option<u16>) -> bool
+        ensures { IsTrue result → (handlers.now ≡ []) × AreStill (frames_of self.now) place last }
+    {
+        handlers.is_empty() && self.is_still(place, last)
+    }
+
     /// Keeps what is needed for locals at a place: of each handler where it first covers one.
     fn keep_needed(
         &self,
-        homes: &mut Vec<Home>,
+        homes: &mut IndexSet<Home>,
         place: u16,
         last: Option<u16>,
     ) -> Result<(), AllocError>
-        requires { LocalsAreKnown (frames_of self.now) (register_count self.now.rec.now) homes.old.items self.now.rec.now.handlers last }
+        requires { LocalsAreKnown (frames_of self.now) (register_count self.now.rec.now) homes.old.keys self.now.rec.now.handlers last }
         ensures { OnOk result
-            (homes.new.items
-            ≡ with_events homes.old.items
+            (homes.new.keys
+            ≡ with_events homes.old.keys
             (locals_events (frames_of self.now) self.now.rec.now.handlers place 0 (register_count self.now.rec.now))) }
     {
         let handlers = asked(self.rec.handlers.as_slice(), place, last);
+        if self.needs_none(handlers, place, last) {
+            return Ok(());
+        }
         self.keep_locals(homes, place, handlers, last)
     }
 
@@ -340,16 +393,16 @@ impl HomeWalk<'_> {
     #[tactic(auto, unfolding(crate::specs::Walk::place_events, crate::specs::Walk::with_events))]
     fn keep_place(
         &self,
-        homes: &mut Vec<Home>,
+        homes: &mut IndexSet<Home>,
         placed: Placed,
         last: Option<u16>,
     ) -> Result<(), AllocError>
         requires method { IsMethodOf self.now.world.now (walked self.now) }
         requires known { LocalsAreKnown (frames_of self.now)
-            (register_count self.now.rec.now) homes.old.items self.now.rec.now.handlers last }
+            (register_count self.now.rec.now) homes.old.keys self.now.rec.now.handlers last }
         ensures { OnOk result
-            (homes.new.items
-            ≡ with_events homes.old.items
+            (homes.new.keys
+            ≡ with_events homes.old.keys
             (place_events self.now.world.now (walked self.now) (frames_of self.now) self.now.control.now.leaders placed)) }
     {
         let Some(state) = self.typing.state(placed.place) else {
@@ -375,12 +428,12 @@ impl HomeWalk<'_> {
 
     /// Keeps what is met anywhere in the code.
     #[tactic(auto, unfolding(crate::specs::Walk::code_events, crate::specs::Walk::with_events))]
-    pub(crate) fn find(&self, homes: &mut Vec<Home>) -> Result<(), AllocError>
+    pub(crate) fn find(&self, homes: &mut IndexSet<Home>) -> Result<(), AllocError>
         requires method { IsMethodOf self.now.world.now (walked self.now) }
         requires short { length self.now.code.bytes.now ≤ 65535 }
         ensures { OnOk result
-            (homes.new.items
-            ≡ with_events homes.old.items
+            (homes.new.keys
+            ≡ with_events homes.old.keys
             (code_events self.now.world.now (walked self.now) (frames_of self.now) self.now.control.now.leaders)) }
     {
         types_are_ordered(self.world.classes());

@@ -34,12 +34,12 @@ returns-clause-homes c =
     c.requires.typing in
     let flow : IsControlFlow m c.in-Ok.control = of-method w n rec code c.method-rec.ensures.is bytes (λ m. IsControlFlow m c.in-Ok.control)
     c.in-Ok.ensures.formed in
-    let is : c.find.new.homes.items ≡ with_events (argument_homes rec) (code_events w m (state_at c.args.typing.now) c.in-Ok.control.leaders) =
+    let is : c.find.new.homes.keys ≡ with_events (argument_homes rec) (code_events w m (state_at c.args.typing.now) c.in-Ok.control.leaders) =
     c.in_ok-find.ensures ∙ ap (λ hs. with_events hs (code_events w m (state_at c.args.typing.now) c.in-Ok.control.leaders)) c.in_ok-homes.ensures in
     to-method w n rec code c.method-rec.ensures.is bytes _
     (answered-homes w m c.args.typing.now typed c.in-Ok.control flow (c.instructions_are_placed.ensures m typed.least.typing.formed)
     (c.instructions_are_listed.ensures code) mo
-    c.method-rec.ensures.links c.types_are_ordered.ensures.same c.find.new.homes.items is c.counted.result c.counted.ensures.homes)
+    c.method-rec.ensures.links c.types_are_ordered.ensures.same c.find.new.homes.keys is c.counted.result c.counted.ensures.homes)
 
 pub returns-clause-end : goal.returns-clause-end
 returns-clause-end c =
@@ -54,12 +54,12 @@ returns-clause-end c =
     c.requires.typing in
     let flow : IsControlFlow m c.in-Ok.control = of-method w n rec code c.method-rec.ensures.is bytes (λ m. IsControlFlow m c.in-Ok.control)
     c.in-Ok.ensures.formed in
-    let is : c.find.new.homes.items ≡ with_events (argument_homes rec) (code_events w m (state_at c.args.typing.now) c.in-Ok.control.leaders) =
+    let is : c.find.new.homes.keys ≡ with_events (argument_homes rec) (code_events w m (state_at c.args.typing.now) c.in-Ok.control.leaders) =
     c.in_ok-find.ensures ∙ ap (λ hs. with_events hs (code_events w m (state_at c.args.typing.now) c.in-Ok.control.leaders)) c.in_ok-homes.ensures in
     to-method w n rec code c.method-rec.ensures.is bytes _
     (answered-end w m c.args.typing.now typed c.in-Ok.control flow (c.instructions_are_placed.ensures m typed.least.typing.formed)
     (c.instructions_are_listed.ensures code) mo
-    c.method-rec.ensures.links c.types_are_ordered.ensures.same c.find.new.homes.items is c.counted.result c.counted.ensures.end)
+    c.method-rec.ensures.links c.types_are_ordered.ensures.same c.find.new.homes.keys is c.counted.result c.counted.ensures.end)
 
 pub find-requires-clause-method : goal.find-requires-clause-method
 find-requires-clause-method c =

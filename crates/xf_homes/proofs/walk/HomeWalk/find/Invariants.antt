@@ -9,8 +9,8 @@ use Rattle.xf_homes.proofs.walk.HomeWalk.find.Given as goal
 abbrev pub invariant-walk : goal.invariant-walk
 invariant-walk l = record {
   same :
-      with_events l.homes.items
+      with_events l.homes.keys
       (flat_map (place_events l.self.world.now (walked l.self) (frames_of l.self) l.self.control.now.leaders) (rest_of l.placed-iterator))
-      ≡ with_events l.fn.homes.items (code_events l.self.world.now (walked l.self) (frames_of l.self) l.self.control.now.leaders);
-  known : LocalsAreKnown (frames_of l.self) (register_count l.self.rec.now) l.homes.items l.self.rec.now.handlers l.last;
+      ≡ with_events l.fn.homes.keys (code_events l.self.world.now (walked l.self) (frames_of l.self) l.self.control.now.leaders);
+  known : LocalsAreKnown (frames_of l.self) (register_count l.self.rec.now) l.homes.keys l.self.rec.now.handlers l.last;
 }

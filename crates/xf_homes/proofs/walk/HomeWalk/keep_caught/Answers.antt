@@ -10,7 +10,7 @@ handlers-preserved c =
     let hs = c.args.handlers.now in
     ap (λ xs. with_events xs (caught_events (frames_of s) c.args.place c.args.x (c.handlers.handler-index + 1) (drop (c.handlers.handler-index + 1) hs)))
     c.in_default.ensures
-    ∙ sym (handlers-step c.handlers.homes.items (frames_of s) c.args.place c.args.x c.handlers.handler-index hs _ c.caught.result c.handlers-test.true
+    ∙ sym (handlers-step c.handlers.homes.keys (frames_of s) c.args.place c.args.x c.handlers.handler-index hs _ c.caught.result c.handlers-test.true
     c.caught.ensures)
     ∙ c.handlers.invariant
 
@@ -18,5 +18,5 @@ pub returns : goal.returns
 returns c =
     let s = c.args.self.now in
     let hs = c.args.handlers.now in
-    sym (handlers-end c.handlers.homes.items (frames_of s) c.args.place c.args.x c.handlers.handler-index hs c.handlers-test.false)
+    sym (handlers-end c.handlers.homes.keys (frames_of s) c.args.place c.args.x c.handlers.handler-index hs c.handlers-test.false)
     ∙ c.handlers.invariant

@@ -5,5 +5,5 @@ use Rattle.xf_homes.proofs.walk.HomeWalk.keep_caught.Given as goal
 
 abbrev pub invariant-handlers : goal.invariant-handlers
 invariant-handlers l =
-    with_events l.homes.items (caught_events (frames_of l.self) l.place l.x l.handler-index (drop l.handler-index l.handlers))
-    ≡ with_events l.fn.homes.items (caught_events (frames_of l.self) l.place l.x 0 l.handlers)
+    with_events l.homes.keys (caught_events (frames_of l.self) l.place l.x l.handler-index (drop l.handler-index l.handlers))
+    ≡ with_events l.fn.homes.keys (caught_events (frames_of l.self) l.place l.x 0 l.handlers)

@@ -21,10 +21,10 @@ locals-preserved c =
           (λ xs. with_events xs
           (locals_events (frames_of s) c.args.handlers.now c.args.place (c.locals.x + 1) (register_count s.rec.now - (c.locals.x + 1))))
           c.in_default.ensures
-          ∙ sym (locals-step c.locals.homes.items (frames_of s) c.args.handlers.now c.args.place c.locals.x (register_count s.rec.now) inside)
+          ∙ sym (locals-step c.locals.homes.keys (frames_of s) c.args.handlers.now c.args.place c.locals.x (register_count s.rec.now) inside)
           ∙ c.locals.invariant.same;
       known =
-          last-more (frames_of s) (register_count s.rec.now) c.locals.homes.items c.keep_asked.new.homes.items
+          last-more (frames_of s) (register_count s.rec.now) c.locals.homes.keys c.keep_asked.new.homes.keys
           (local_events (frames_of s) c.args.handlers.now c.args.place c.locals.x) c.args.last
           c.in_default.ensures c.locals.invariant.known;
     }
@@ -33,4 +33,4 @@ pub returns : goal.returns
 returns c =
     let s = c.args.self.now in
     let past : register_count s.rec.now ≤ c.locals.x = omega (arith, c.locals-test.false, c.registers-x-end.ensures.is) in
-    locals-end c.locals.homes.items (frames_of s) c.args.handlers.now c.args.place c.locals.x (register_count s.rec.now) past ∙ c.locals.invariant.same
+    locals-end c.locals.homes.keys (frames_of s) c.args.handlers.now c.args.place c.locals.x (register_count s.rec.now) past ∙ c.locals.invariant.same

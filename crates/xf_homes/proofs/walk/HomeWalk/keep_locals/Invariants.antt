@@ -8,7 +8,7 @@ use Rattle.xf_homes.proofs.walk.HomeWalk.keep_locals.Given as goal
 abbrev pub invariant-locals : goal.invariant-locals
 invariant-locals l = record {
   same :
-      with_events l.homes.items (locals_events (frames_of l.self) l.handlers l.place l.x (register_count l.self.rec.now - l.x))
-      ≡ with_events l.fn.homes.items (locals_events (frames_of l.self) l.handlers l.place 0 (register_count l.self.rec.now));
-  known : AreLastKnown (frames_of l.self) (register_count l.self.rec.now) l.homes.items l.last;
+      with_events l.homes.keys (locals_events (frames_of l.self) l.handlers l.place l.x (register_count l.self.rec.now - l.x))
+      ≡ with_events l.fn.homes.keys (locals_events (frames_of l.self) l.handlers l.place 0 (register_count l.self.rec.now));
+  known : AreLastKnown (frames_of l.self) (register_count l.self.rec.now) l.homes.keys l.last;
 }

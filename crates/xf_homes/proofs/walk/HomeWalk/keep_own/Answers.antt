@@ -9,4 +9,4 @@ returns-then-same_value c =
     let s = c.args.self.now in
     let value = local_of (frames_of s c.args.place) c.args.x in
     let is = sym c.local-value.ensures ∙ (c.same_value.ensures c.if-same_value.true ∙ c.last_local.ensures) in
-    same-kept (frames_of s) c.args.homes.now.items c.args.last c.args.x value is c.requires
+    same-kept (frames_of s) c.args.homes.now.keys c.args.last c.args.x value is c.requires
