@@ -9,9 +9,6 @@ use Rattle.vm_step.specs.Arguments.{Argument, number}
 use Rattle.vm_step.specs.declared.start_fault.StartFault.{StartFault}
 use Rattle.vm_step.specs.declared.start_fault.StartFault.TheVariants.{NoEntry, NotStatic, ArgCount, ArgKind, ArgRoom}
 use Rattle.cap_text.specs.Probe.{ProbeRequest}
-use Rattle.cap_text.specs.Show.{ShowRequest}
-use Rattle.cap_text.specs.Check.{CheckRequest}
-use Rattle.cap_text.specs.Verify.{VerifyRequest}
 use Rattle.cap_text.specs.Run.{RunRequest}
 use Rattle.cap_text.specs.Transform.{TransformRequest}
 use Rattle.cap_text.specs.Generate.{GenerateRequest}
@@ -21,29 +18,33 @@ use Rattle.cap_text.specs.Request.{Request, probe, show, check, verify, defend, 
 use Rattle.capcheck_core.specs.declared.verdict.Verdict.{Verdict}
 use Rattle.capcheck_core.specs.declared.verdict.Verdict.TheVariants.{Done, Refused, Limit, Malformed, Usage, ReadFault, StoreFault, Memory}
 use Rattle.capcheck_core.specs.Verdict.{status_of}
-use Rattle.capcheck_core.specs.Check.{ChecksWorld, Checks}
-use Rattle.capcheck_core.specs.Verify.{HaveCardTypings, VerifiesWorld, Verifies}
-use Rattle.capcheck_core.specs.Defend.{run_fault, DefendsWorld, Defends}
-use Rattle.capcheck_core.specs.Run.{RunsWorld, RunsVerified}
-use Rattle.capcheck_core.specs.Transform.{StopsBefore, TransformsWorld, Transforms}
-use Rattle.capcheck_core.specs.Trial.{TriesWorld, Tries}
-use Rattle.capcheck_core.specs.World.{of_world}
+use Rattle.capcheck_core.specs.Check.{ChecksWorld}
+use Rattle.capcheck_core.specs.Verify.{HaveCardTypings, VerifiesWorld}
+use Rattle.capcheck_core.specs.Defend.{run_fault, DefendsWorld}
+use Rattle.capcheck_core.specs.Run.{RunsWorld}
+use Rattle.capcheck_core.specs.Transform.{StopsBefore, TransformsWorld}
+use Rattle.capcheck_core.specs.Trial.{TriesWorld}
+use Rattle.capcheck_core.specs.World.{Own, of_world, OverWorld}
 use Rattle.capcheck_core.specs.Outside.{Outside}
 use Rattle.capcheck_core.specs.Answers.{Answers, IsVerdict}
-use Rattle.capcheck_core.specs.Completeness.{CanProbe, CanShow, CanCheck, CanVerify, CanDefend, CanRun, CanBring, CanTransform, CanTry, CanGenerate}
-use Rattle.capcheck_core.specs.Completeness.{AreWithinLimits, CanDo, NoFault, Completes}
+use Rattle.capcheck_core.specs.Completeness.{Needs, CanProbe, CanRead, CanOver, CanBring, CanGenerate, AreWithinLimits, CanDo, NoFault, Completes}
 use Rattle.capcheck_core.specs.MethodFile.{IsMethodFile}
 use Rattle.capcheck_core.specs.Probe.{ProbesFolder, FailsMethodPart, Probes, OfMethodPart, OfMethod, IsRefusal, IsUnstarted, IsNoMethod, method_key}
 use Rattle.capcheck_core.specs.Report.{Seen, IsReported}
 use Rattle.capcheck_core.specs.Shorts.{IsShort, AreShorts, RefusesStart}
-use Rattle.capcheck_core.specs.Show.{ShowsFolder, FailsFolder, Shows, OfParts, IsUnshown}
+use Rattle.capcheck_core.specs.OverFolders.{OverFolders}
+use Rattle.capcheck_core.specs.OverPackage.{OwnOne, StopsAtPackage, OverPackage}
+use Rattle.capcheck_core.specs.Show.{ShowsTable}
 use Rattle.capcheck_core.specs.Typed.{AreTyped}
 use Rattle.capcheck_core.proofs.MethodFiles.{same_method, no_breach}
-use Rattle.capcheck_core.proofs.Loads.{one_list, none_long}
-use Rattle.capcheck_core.proofs.WorldComplete.{no_fault, reaches}
+use Rattle.capcheck_core.proofs.WorldComplete.{no_lack, reaches}
 use Rattle.cap_package.specs.PackageRecord.{PackageRecord}
-use Rattle.cap_package.specs.StandsFor.{StandsFor}
+use Rattle.cap_package.specs.Parts.{Lent}
 use Rattle.jc_base.specs.World.{Linked}
+
+-- the command did its work, or there was no memory
+abbrev pub Completed : Verdict → Type 0
+Completed verdict = (status_of verdict ≡ 0) ⊎ (status_of verdict ≡ 6)
 
 -- the file that was read is the one that is held
 same_file : (p : ProbeRequest) (before : Folders) (can : CanProbe p before) (file : List ℕ) → IsThere before (method_key p) file → can.file ≡ file
@@ -102,8 +103,7 @@ unbroken p before can text part =
     ]
 
 -- the verdicts that stand where a probe can be done
-probed : (p : ProbeRequest) (before : Folders) (verdict : Verdict) → CanProbe p before → ProbesFolder p before verdict → (status_of verdict ≡ 0)
-    ⊎ (status_of verdict ≡ 6)
+probed : (p : ProbeRequest) (before : Folders) (verdict : Verdict) → CanProbe p before → ProbesFolder p before verdict → Completed verdict
 probed p before (Done text) can probes = inl refl
 probed p before Memory can probes = inr refl
 probed p before (Refused text) can probes = absurd (unrefused p before can (string_bytes text) probes)
@@ -121,196 +121,122 @@ unread p before after sink put ReadFault calm fails = calm.loads fails.rose
 unread p before after sink put _ calm fails = fails
 
 can_probe : (p : ProbeRequest) (before after : Folders) (sink put : Seen) (verdict : Verdict) → CanProbe p before → NoFault before after sink put
-    → Probes p before after verdict → (status_of verdict ≡ 0) ⊎ (status_of verdict ≡ 6)
+    → Probes p before after verdict → Completed verdict
 can_probe p before after sink put verdict can calm (inl probes) = probed p before verdict can probes.1
 can_probe p before after sink put verdict can calm (inr fails) = absurd (unread p before after sink put verdict calm fails)
 
-shown : (s : ShowRequest) (before : Folders) → CanShow s before → (text : List ℕ) → OfParts s before (λ parts. IsUnshown parts text) → ⊥
-shown s before can text of =
-    let same = one_list before can.held s.dir 256 can.parts of.parts can.told can.loaded of.loaded in
-    no_fault of.parts can.shown of.holds.fault (subst (λ ps. StandsFor ps can.shown) same can.stands) of.holds.refused
+-- a package that is there lacks nothing
+has_read : (dir : List ℕ) (before after : Folders) (sink put : Seen) (verdict : Verdict) → CanRead dir before → NoFault before after sink put
+    → StopsAtPackage dir before after verdict → Completed verdict
+has_read dir before after sink put Memory can calm stops = inr refl
+has_read dir before after sink put ReadFault can calm stops = absurd (calm.loads stops.1.holds.rose)
+has_read dir before after sink put (Malformed text) can calm (same, says) =
+    absurd (no_lack before can.held can.told dir can.parts can.read says.fault can.loaded can.stands says.lacks)
+has_read dir before after sink put _ can calm stops = absurd stops
 
-has_shown : (s : ShowRequest) (before : Folders) (verdict : Verdict) → CanShow s before → ShowsFolder s before verdict → (status_of verdict ≡ 0)
-    ⊎ (status_of verdict ≡ 6)
-has_shown s before (Done text) can shows = inl refl
-has_shown s before Memory can shows = inr refl
-has_shown s before (Malformed text) can (inl long) =
-    absurd (none_long before can.held s.dir 256 long.tag can.parts can.told can.loaded long.first.byte long.first)
-has_shown s before (Malformed text) can (inr of) = absurd (shown s before can (string_bytes text) of)
-has_shown s before ReadFault can shows = absurd shows
-has_shown s before (Refused text) can shows = absurd shows
-has_shown s before Usage can shows = absurd shows
-has_shown s before StoreFault can shows = absurd shows
-has_shown s before (Limit text) can shows = absurd shows
+-- a command on one package does its work there, where its own step does
+pub over_package : (own : OwnOne) (dir : List ℕ) (before after : Folders) (sink put : Seen) (verdict : Verdict)
+    → ((parts : List Lent) (p : PackageRecord) → own parts p before after verdict → Completed verdict)
+    → CanRead dir before → NoFault before after sink put → OverPackage own dir before after verdict → Completed verdict
+over_package own dir before after sink put verdict does can calm (inl stops) = has_read dir before after sink put verdict can calm stops
+over_package own dir before after sink put verdict does can calm (inr of) = does of.parts of.read of.holds
 
-unloaded : (s : ShowRequest) (before after : Folders) (sink put : Seen) (verdict : Verdict) → NoFault before after sink put
-    → FailsFolder s before after verdict → ⊥
-unloaded s before after sink put ReadFault calm fails = calm.loads fails.1.holds.rose
-unloaded s before after sink put _ calm fails = fails
+-- a table is told
+tables : (parts : List Lent) (p : PackageRecord) (before after : Folders) (verdict : Verdict) → ShowsTable parts p before after verdict → Completed verdict
+tables parts p before after (Done text) own = inl refl
+tables parts p before after Memory own = inr refl
+tables parts p before after _ own = absurd own.1
 
-can_show : (s : ShowRequest) (before after : Folders) (sink put : Seen) (verdict : Verdict) → CanShow s before → NoFault before after sink put
-    → Shows s before after verdict → (status_of verdict ≡ 0) ⊎ (status_of verdict ≡ 6)
-can_show s before after sink put verdict can calm (inl shows) = has_shown s before verdict can shows.1
-can_show s before after sink put verdict can calm (inr fails) = absurd (unloaded s before after sink put verdict calm fails)
+-- ---- over a world
 
--- the last step of a check refuses no world in which all methods are typed
-types : (w : Linked) (before after : Outside) (verdict : Verdict) → AreTyped w → ChecksWorld w before after verdict → (status_of verdict ≡ 0)
-    ⊎ (status_of verdict ≡ 6)
-types w before after (Done text) typed checks = inl refl
-types w before after Memory typed checks = inr refl
-types w before after (Refused text) typed checks = absurd (checks.1.first.lacks (typed checks.1.method checks.1.first.asked))
-types w before after (Malformed text) typed checks = absurd checks.1
-types w before after (Limit text) typed checks = absurd checks.1
-types w before after Usage typed checks = absurd checks.1
-types w before after ReadFault typed checks = absurd checks.1
-types w before after StoreFault typed checks = absurd checks.1
-
-can_check : (c : CheckRequest) (before after : Outside) (sink put : Seen) (verdict : Verdict) → CanCheck c before.folders
-    → NoFault before.folders after.folders sink put
-    → Checks c before after verdict → (status_of verdict ≡ 0) ⊎ (status_of verdict ≡ 6)
-can_check c before after sink put verdict can calm checks =
-    elim (reaches (of_world ChecksWorld) c.dirs before after can.world verdict can.links calm.loads checks) [
+-- a command over the world that the folders make does its work, where its last step does
+pub over_world : (own : Own) (needs : Needs) (dirs : List (List ℕ)) (before after : Outside) (sink put : Seen) (verdict : Verdict)
+    → ((packages : List PackageRecord) (roles : List ℕ) (w : Linked) → needs packages roles w → own packages roles w before after verdict
+    → Completed verdict)
+    → CanOver needs dirs before.folders → NoFault before.folders after.folders sink put → OverFolders (OverWorld own) dirs before after verdict
+    → Completed verdict
+over_world own needs dirs before after sink put verdict does can calm answers =
+    elim (reaches own dirs before after can.world verdict can.links calm.loads answers) [
       | inl memory ↦ inr memory
-      | inr own ↦ types can.world before after verdict can.typed own
+      | inr here ↦ does can.links.made.packages can.links.roles can.world can.has here
     ]
 
--- the last step of a verifying refuses no world in which all methods have card typings
-cards : (w : Linked) (before after : Outside) (verdict : Verdict) → HaveCardTypings w → VerifiesWorld w before after verdict
-    → (status_of verdict ≡ 0) ⊎ (status_of verdict ≡ 6)
-cards w before after (Done text) carded verifies = inl refl
-cards w before after Memory carded verifies = inr refl
-cards w before after (Refused text) carded verifies = absurd (verifies.1.first.lacks (carded verifies.1.method verifies.1.first.asked))
-cards w before after (Malformed text) carded verifies = absurd verifies.1
-cards w before after (Limit text) carded verifies = absurd verifies.1
-cards w before after Usage carded verifies = absurd verifies.1
-cards w before after ReadFault carded verifies = absurd verifies.1
-cards w before after StoreFault carded verifies = absurd verifies.1
+module _ (before after : Outside) where
+  -- the last step of a check refuses no world in which all methods are typed
+  types : (w : Linked) (verdict : Verdict) → AreTyped w → ChecksWorld w before after verdict → Completed verdict
+  types w (Done text) typed own = inl refl
+  types w Memory typed own = inr refl
+  types w (Refused text) typed own = absurd (own.1.first.lacks (typed own.1.method own.1.first.asked))
+  types w _ typed own = absurd own.1
 
-can_verify : (v : VerifyRequest) (before after : Outside) (sink put : Seen) (verdict : Verdict) → CanVerify v before.folders
-    → NoFault before.folders after.folders sink put
-    → Verifies v before after verdict → (status_of verdict ≡ 0) ⊎ (status_of verdict ≡ 6)
-can_verify v before after sink put verdict can calm verifies =
-    elim (reaches (of_world VerifiesWorld) v.dirs before after can.world verdict can.links calm.loads verifies) [
-      | inl memory ↦ inr memory
-      | inr own ↦ cards can.world before after verdict can.carded own
-    ]
+  -- that of a verifying none in which all have card typings
+  cards : (w : Linked) (verdict : Verdict) → HaveCardTypings w → VerifiesWorld w before after verdict → Completed verdict
+  cards w (Done text) carded own = inl refl
+  cards w Memory carded own = inr refl
+  cards w (Refused text) carded own = absurd (own.1.first.lacks (carded own.1.method own.1.first.asked))
+  cards w _ carded own = absurd own.1
 
--- the last step of a run refuses none that nothing keeps from beginning
-defended : (r : RunRequest) (w : Linked) (before after : Outside) (verdict : Verdict) → run_fault w r ≡ None → DefendsWorld r w before after verdict
-    → (status_of verdict ≡ 0) ⊎ (status_of verdict ≡ 6)
-defended r w before after (Done text) begins own = inl refl
-defended r w before after Memory begins own = inr refl
-defended r w before after (Malformed text) begins own = let first = own.1.first in absurd (cc)
-defended r w before after (Refused text) begins own = absurd own.1
-defended r w before after (Limit text) begins own = absurd own.1
-defended r w before after Usage begins own = absurd own.1
-defended r w before after ReadFault begins own = absurd own.1
-defended r w before after StoreFault begins own = absurd own.1
+  -- that of a run none that nothing keeps from beginning
+  defended : (r : RunRequest) (w : Linked) (verdict : Verdict) → run_fault w r ≡ None → DefendsWorld r w before after verdict → Completed verdict
+  defended r w (Done text) begins own = inl refl
+  defended r w Memory begins own = inr refl
+  defended r w (Malformed text) begins own = let first = own.1.first in absurd (cc)
+  defended r w _ begins own = absurd own.1
 
-can_defend : (r : RunRequest) (before after : Outside) (sink put : Seen) (verdict : Verdict) → CanDefend r before.folders
-    → NoFault before.folders after.folders sink put
-    → Defends r before after verdict → (status_of verdict ≡ 0) ⊎ (status_of verdict ≡ 6)
-can_defend r before after sink put verdict can calm answers =
-    elim (reaches (of_world (DefendsWorld r)) r.dirs before after can.world verdict can.links calm.loads answers) [
-      | inl memory ↦ inr memory
-      | inr own ↦ defended r can.world before after verdict can.begins own
-    ]
+  -- nor does that of a run on the machine of verified code, where all methods have card typings
+  ran : (r : RunRequest) (w : Linked) (verdict : Verdict) → HaveCardTypings w → run_fault w r ≡ None → RunsWorld r w before after verdict
+      → Completed verdict
+  ran r w (Done text) carded begins own = inl refl
+  ran r w Memory carded begins own = inr refl
+  ran r w (Malformed text) carded begins own = let first = own.1.unbegun.first in absurd (cc)
+  ran r w (Refused text) carded begins own = absurd (own.1.first.lacks (carded own.1.method own.1.first.asked))
+  ran r w _ carded begins own = absurd own.1
 
--- nor does that of a run on the machine of verified code, where all methods have card typings
-ran : (r : RunRequest) (w : Linked) (before after : Outside) (verdict : Verdict) → HaveCardTypings w → run_fault w r ≡ None
-    → RunsWorld r w before after verdict
-    → (status_of verdict ≡ 0) ⊎ (status_of verdict ≡ 6)
-ran r w before after (Done text) carded begins own = inl refl
-ran r w before after Memory carded begins own = inr refl
-ran r w before after (Malformed text) carded begins own = let first = own.1.unbegun.first in absurd (cc)
-ran r w before after (Refused text) carded begins own = absurd (own.1.first.lacks (carded own.1.method own.1.first.asked))
-ran r w before after (Limit text) carded begins own = absurd own.1
-ran r w before after Usage carded begins own = absurd own.1
-ran r w before after ReadFault carded begins own = absurd own.1
-ran r w before after StoreFault carded begins own = absurd own.1
+  -- nor does a package that can be brought into another form keep from it
+  not_stopped : (packages : List PackageRecord) (w : Linked) (verdict : Verdict) → CanBring packages w → StopsBefore packages w verdict
+      → Completed verdict
+  not_stopped packages w Memory can stops = inr refl
+  not_stopped packages w (Refused text) can (inl says) = absurd (says.is.first.lacks (can.accepted says.is.method says.is.first.asked))
+  not_stopped packages w (Refused text) can (inr says) = absurd (says.is.first.lacks (can.typed says.is.method says.is.first.asked))
+  not_stopped packages w (Limit text) can (inl says) = absurd (can.within says.is.method says.is.of_last says.limit says.is.passes)
+  not_stopped packages w (Limit text) can (inr says) = absurd (can.short says.size says.is)
+  not_stopped packages w _ can stops = absurd stops
 
-can_run : (r : RunRequest) (before after : Outside) (sink put : Seen) (verdict : Verdict) → CanRun r before.folders
-    → NoFault before.folders after.folders sink put
-    → RunsVerified r before after verdict → (status_of verdict ≡ 0) ⊎ (status_of verdict ≡ 6)
-can_run r before after sink put verdict can calm answers =
-    elim (reaches (of_world (RunsWorld r)) r.dirs before after can.world verdict can.links calm.loads answers) [
-      | inl memory ↦ inr memory
-      | inr own ↦ ran r can.world before after verdict can.carded can.begins own
-    ]
+  -- so a transformation where what it needs is there, and no store fails, does its work
+  brought : (t : TransformRequest) (packages : List PackageRecord) (roles : List ℕ) (w : Linked) (sink put : Seen) (verdict : Verdict)
+      → NoFault before.folders after.folders sink put → CanBring packages w → TransformsWorld t packages roles w before after verdict
+      → Completed verdict
+  brought t packages roles w sink put (Done text) calm can own = inl refl
+  brought t packages roles w sink put StoreFault calm can own = absurd (calm.stores own.1.broken.rose)
+  brought t packages roles w sink put Memory calm can own = not_stopped packages w Memory can own.1.1
+  brought t packages roles w sink put (Refused text) calm can own = not_stopped packages w (Refused text) can own.1.1
+  brought t packages roles w sink put (Limit text) calm can own = not_stopped packages w (Limit text) can own.1.1
+  brought t packages roles w sink put _ calm can own = absurd own.1.1
 
--- nor does a package that can be brought into another form keep from it
-not_stopped : (packages : List PackageRecord) (w : Linked) (verdict : Verdict) → CanBring packages w → StopsBefore packages w verdict
-    → (status_of verdict ≡ 0) ⊎ (status_of verdict ≡ 6)
-not_stopped packages w Memory can stops = inr refl
-not_stopped packages w (Refused text) can (inl says) = absurd (says.is.first.lacks (can.accepted says.is.method says.is.first.asked))
-not_stopped packages w (Refused text) can (inr says) = absurd (says.is.first.lacks (can.typed says.is.method says.is.first.asked))
-not_stopped packages w (Limit text) can (inl says) = absurd (can.within says.is.method says.is.of_last says.limit says.is.passes)
-not_stopped packages w (Limit text) can (inr says) = absurd (can.short says.size says.is)
-not_stopped packages w (Done text) can stops = absurd stops
-not_stopped packages w (Malformed text) can stops = absurd stops
-not_stopped packages w Usage can stops = absurd stops
-not_stopped packages w ReadFault can stops = absurd stops
-not_stopped packages w StoreFault can stops = absurd stops
-
--- so a transformation where what it needs is there, and no store fails, does its work
-brought : (t : TransformRequest) (before after : Outside) (sink put : Seen) (verdict : Verdict) (can : CanTransform t before.folders)
-    → NoFault before.folders after.folders sink put → TransformsWorld t can.links.made.packages can.links.roles can.world before after verdict
-    → (status_of verdict ≡ 0) ⊎ (status_of verdict ≡ 6)
-brought t before after sink put (Done text) can calm own = inl refl
-brought t before after sink put StoreFault can calm own = absurd (calm.stores own.1.broken.rose)
-brought t before after sink put Memory can calm own = not_stopped can.links.made.packages can.world Memory can.brings own.1.1
-brought t before after sink put (Refused text) can calm own = not_stopped can.links.made.packages can.world (Refused text) can.brings own.1.1
-brought t before after sink put (Limit text) can calm own = not_stopped can.links.made.packages can.world (Limit text) can.brings own.1.1
-brought t before after sink put (Malformed text) can calm own = absurd own.1.1
-brought t before after sink put Usage can calm own = absurd own.1.1
-brought t before after sink put ReadFault can calm own = absurd own.1.1
-
-can_transform : (t : TransformRequest) (before after : Outside) (sink put : Seen) (verdict : Verdict) → CanTransform t before.folders
-    → NoFault before.folders after.folders sink put → Transforms t before after verdict → (status_of verdict ≡ 0) ⊎ (status_of verdict ≡ 6)
-can_transform t before after sink put verdict can calm answers =
-    elim (reaches (TransformsWorld t) t.dirs before after can.world verdict can.links calm.loads answers) [
-      | inl memory ↦ inr memory
-      | inr own ↦ brought t before after sink put verdict can calm own
-    ]
-
--- and so does a trial whose entry begins
-tried : (r : RunRequest) (packages : List PackageRecord) (roles : List ℕ) (w : Linked) (before after : Outside) (verdict : Verdict)
-    → CanBring packages w → run_fault w r ≡ None → TriesWorld r packages roles w before after verdict
-    → (status_of verdict ≡ 0) ⊎ (status_of verdict ≡ 6)
-tried r packages roles w before after (Done text) can begins own = inl refl
-tried r packages roles w before after (Malformed text) can begins own = let first = own.1.unbegun.first in absurd (cc)
-tried r packages roles w before after Memory can begins own = not_stopped packages w Memory can own.1
-tried r packages roles w before after (Refused text) can begins own = not_stopped packages w (Refused text) can own.1
-tried r packages roles w before after (Limit text) can begins own = not_stopped packages w (Limit text) can own.1
-tried r packages roles w before after Usage can begins own = absurd own.1
-tried r packages roles w before after ReadFault can begins own = absurd own.1
-tried r packages roles w before after StoreFault can begins own = absurd own.1
-
-can_try : (r : RunRequest) (before after : Outside) (sink put : Seen) (verdict : Verdict) → CanTry r before.folders
-    → NoFault before.folders after.folders sink put → Tries r before after verdict → (status_of verdict ≡ 0) ⊎ (status_of verdict ≡ 6)
-can_try r before after sink put verdict can calm answers =
-    elim (reaches (TriesWorld r) r.dirs before after can.world verdict can.links calm.loads answers) [
-      | inl memory ↦ inr memory
-      | inr own ↦ tried r can.links.made.packages can.links.roles can.world before after verdict can.brings can.begins own
-    ]
+  -- and so does a trial whose entry begins
+  tried : (r : RunRequest) (packages : List PackageRecord) (roles : List ℕ) (w : Linked) (verdict : Verdict)
+      → CanBring packages w → run_fault w r ≡ None → TriesWorld r packages roles w before after verdict → Completed verdict
+  tried r packages roles w (Done text) can begins own = inl refl
+  tried r packages roles w (Malformed text) can begins own = let first = own.1.unbegun.first in absurd (cc)
+  tried r packages roles w Memory can begins own = not_stopped packages w Memory can own.1
+  tried r packages roles w (Refused text) can begins own = not_stopped packages w (Refused text) can own.1
+  tried r packages roles w (Limit text) can begins own = not_stopped packages w (Limit text) can own.1
+  tried r packages roles w _ can begins own = absurd own.1
 
 -- a package is generated and its methods run, where no limit is passed and no store fails
 has_generated : (g : GenerateRequest) (w : Linked) (before after : Outside) (sink put : Seen) (verdict : Verdict)
     → AreWithinLimits w → ((n : ℕ) → IsPartLong (generated g.seed) w n → ⊥) → NoFault before.folders after.folders sink put
-    → GeneratesIn g w before after verdict → (status_of verdict ≡ 0) ⊎ (status_of verdict ≡ 6)
+    → GeneratesIn g w before after verdict → Completed verdict
 has_generated g w before after sink put (Done text) within short calm own = inl refl
 has_generated g w before after sink put Memory within short calm own = inr refl
 has_generated g w before after sink put StoreFault within short calm own = absurd (calm.stores own.0.broken.rose)
 has_generated g w before after sink put (Limit text) within short calm (same, inl says) =
     absurd (within says.is.method says.is.of_last says.limit says.is.passes)
 has_generated g w before after sink put (Limit text) within short calm (same, inr says) = absurd (short says.size says.is)
-has_generated g w before after sink put (Refused text) within short calm own = absurd own
-has_generated g w before after sink put (Malformed text) within short calm own = absurd own
-has_generated g w before after sink put Usage within short calm own = absurd own
-has_generated g w before after sink put ReadFault within short calm own = absurd own
+has_generated g w before after sink put _ within short calm own = absurd own
 
 can_generate : (g : GenerateRequest) (before after : Outside) (sink put : Seen) (verdict : Verdict) → CanGenerate g
-    → NoFault before.folders after.folders sink put → Generates g before after verdict → (status_of verdict ≡ 0) ⊎ (status_of verdict ≡ 6)
+    → NoFault before.folders after.folders sink put → Generates g before after verdict → Completed verdict
 can_generate g before after sink put verdict can calm (inl stopped) = inr (ap status_of stopped.1)
 can_generate g before after sink put verdict can calm (inr of) =
     let free = can of.world of.linked in
@@ -318,20 +244,34 @@ can_generate g before after sink put verdict can calm (inr of) =
 
 can_do : (r : Request) (before after : Outside) (sink put : Seen) (verdict : Verdict) → CanDo r before.folders
     → NoFault before.folders after.folders sink put
-    → Answers r before after verdict → (status_of verdict ≡ 0) ⊎ (status_of verdict ≡ 6)
+    → Answers r before after verdict → Completed verdict
 can_do (probe p) before after sink put verdict can calm answers = can_probe p before.folders after.folders sink put verdict can calm answers.0
-can_do (show s) before after sink put verdict can calm answers = can_show s before.folders after.folders sink put verdict can calm answers.0
-can_do (check c) before after sink put verdict can calm answers = can_check c before after sink put verdict can calm answers
-can_do (verify v) before after sink put verdict can calm answers = can_verify v before after sink put verdict can calm answers
-can_do (defend r) before after sink put verdict can calm answers = can_defend r before after sink put verdict can calm answers
-can_do (run r) before after sink put verdict can calm answers = can_run r before after sink put verdict can calm answers
-can_do (transform t) before after sink put verdict can calm answers = can_transform t before after sink put verdict can calm answers
-can_do (trial r) before after sink put verdict can calm answers = can_try r before after sink put verdict can calm answers
+can_do (show s) before after sink put verdict can calm answers =
+    over_package ShowsTable s.dir before.folders after.folders sink put verdict (λ parts p. tables parts p before.folders after.folders verdict) can calm
+    answers.0
+can_do (check c) before after sink put verdict can calm answers =
+    over_world (of_world ChecksWorld) (λ packages roles w. AreTyped w) c.dirs before after sink put verdict
+    (λ packages roles w. types before after w verdict) can calm answers
+can_do (verify v) before after sink put verdict can calm answers =
+    over_world (of_world VerifiesWorld) (λ packages roles w. HaveCardTypings w) v.dirs before after sink put verdict
+    (λ packages roles w. cards before after w verdict) can calm answers
+can_do (defend r) before after sink put verdict can calm answers =
+    over_world (of_world (DefendsWorld r)) (λ packages roles w. run_fault w r ≡ None) r.dirs before after sink put verdict
+    (λ packages roles w. defended before after r w verdict) can calm answers
+can_do (run r) before after sink put verdict can calm answers =
+    over_world (of_world (RunsWorld r)) (λ packages roles w. HaveCardTypings w × (run_fault w r ≡ None)) r.dirs before after sink put verdict
+    (λ packages roles w has. ran before after r w verdict has.0 has.1) can calm answers
+can_do (transform t) before after sink put verdict can calm answers =
+    over_world (TransformsWorld t) (λ packages roles w. CanBring packages w) t.dirs before after sink put verdict
+    (λ packages roles w. brought before after t packages roles w sink put verdict calm) can calm answers
+can_do (trial r) before after sink put verdict can calm answers =
+    over_world (TriesWorld r) (λ packages roles w. CanBring packages w × (run_fault w r ≡ None)) r.dirs before after sink put verdict
+    (λ packages roles w has. tried before after r packages roles w verdict has.0 has.1) can calm answers
 can_do (generate g) before after sink put verdict can calm answers = can_generate g before after sink put verdict can calm answers
 
 reported : (verdict : Verdict) (before after : Folders) (sink put : Seen) (status : ℕ) → NoFault before after sink put
     → IsReported verdict sink put status
-    → (status_of verdict ≡ 0) ⊎ (status_of verdict ≡ 6) → (status ≡ 0) ⊎ (status ≡ 6)
+    → Completed verdict → (status ≡ 0) ⊎ (status ≡ 6)
 reported verdict before after sink put status calm (inr broken) known = absurd (calm.puts broken.risen)
 reported verdict before after sink put status calm (inl whole) (inl done) = inl (whole.says ∙ done)
 reported verdict before after sink put status calm (inl whole) (inr memory) = inr (whole.says ∙ memory)

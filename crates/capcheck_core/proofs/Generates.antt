@@ -54,7 +54,7 @@ use Rattle.capcheck_core.specs.declared.verdict.Verdict.TheVariants.{Done, Refus
 use Rattle.capcheck_core.specs.Generate.{generated, run_of, short_result, short_ended, AreBegun, AreRun, ComeOfRuns, HaveEntries, GeneratesIn, IsKeptOrBegun}
 use Rattle.capcheck_core.specs.Generate.{IsNew, ComesOfRun, RunsAll, TellsParts}
 use Rattle.capcheck_core.specs.Defend.{ComesTo, method_entered}
-use Rattle.capcheck_core.specs.Outside.{Card, Outside, Untouched, card}
+use Rattle.capcheck_core.specs.Outside.{CardWords, Outside, Untouched, card_words}
 use Rattle.capcheck_core.specs.Run.{HoldsWords}
 use Rattle.capcheck_core.specs.Stores.{AreInStoreOrder, AreStored}
 use Rattle.capcheck_core.specs.Transform.{StopsBefore}
@@ -164,14 +164,14 @@ ended_short (ended (endings.Faulted f) s) ending is = absurd (cc)
 -- ---- the runs so far
 
 -- the first methods were run, and the memory holds the words of what the last of them left; where none was, it is as it was
-pub record HaveRun (w : Linked) (k : ℕ) (begun c : Card) (sum : ℤ) : Type 0 where
+pub record HaveRun (w : Linked) (k : ℕ) (begun c : CardWords) (sum : ℤ) : Type 0 where
   pub outcomes : List (Outcome Cell)
   pub count : length outcomes ≡ k
   pub come : ComeOfRuns w outcomes
   pub total : sum ≡ fold ◌+ℤ◌ (pos 0) (map short_result outcomes)
   pub holds : ((k ≡ 0) × (c ≡ begun)) ⊎ IsSomeAnd (slice_get outcomes (k - 1)) (HoldsWords w c)
 
-pub none_run : (w : Linked) (c : Card) → HaveRun w 0 c c (pos 0)
+pub none_run : (w : Linked) (c : CardWords) → HaveRun w 0 c c (pos 0)
 none_run w c = record { outcomes = []; count = refl; come = λ k o there. absurd (cc); total = refl; holds = inl (refl, refl) }
 
 -- what stands in a list to which one is appended
@@ -204,7 +204,7 @@ sum_more start [] o = refl
 sum_more start (p ∷ ps) o = sum_more (start +ℤ short_result p) ps o
 
 -- one more
-pub one_run_more : (w : Linked) (k : ℕ) (begun before c : Card) (sum more : ℤ) (ending : PlainEnding) → HaveRun w k begun before sum
+pub one_run_more : (w : Linked) (k : ℕ) (begun before c : CardWords) (sum more : ℤ) (ending : PlainEnding) → HaveRun w k begun before sum
     → ComesOfRun w k c ending
     → more ≡ sum +ℤ short_ended ending → HaveRun w (k + 1) begun c more
 one_run_more w k begun before c sum more ending have is adds =
@@ -223,13 +223,13 @@ one_run_more w k begun before c sum more ending have is adds =
           (subst (λ found. IsSomeAnd found (HoldsWords w c)) (sym there) is.holds));
     }
 
-held_last : (w : Linked) (begun c : Card) (os : List (Outcome Cell)) → ((◌≡◌ {A = ℕ} 200 0) × (c ≡ begun))
+held_last : (w : Linked) (begun c : CardWords) (os : List (Outcome Cell)) → ((◌≡◌ {A = ℕ} 200 0) × (c ≡ begun))
     ⊎ IsSomeAnd (slice_get os 199) (HoldsWords w c)
     → IsSomeAnd (slice_get os 199) (HoldsWords w c)
 held_last w begun c os (inl none) = let zero_is = none.0 in absurd (cc)
 held_last w begun c os (inr holds) = holds
 
-pub all_run : (w : Linked) (begun c : Card) (sum : ℤ) → HaveRun w 200 begun c sum → AreRun w c sum
+pub all_run : (w : Linked) (begun c : CardWords) (sum : ℤ) → HaveRun w 200 begun c sum → AreRun w c sum
 all_run w begun c sum have = record {
   outcomes = have.outcomes;
   count = have.count;
@@ -239,7 +239,7 @@ all_run w begun c sum have = record {
 }
 
 -- they are begun, or the memory is as it was
-pub some_run : (w : Linked) (k : ℕ) (begun c : Card) (sum : ℤ) → k ≤ 200 → HaveRun w k begun c sum → IsKeptOrBegun w begun c
+pub some_run : (w : Linked) (k : ℕ) (begun c : CardWords) (sum : ℤ) → k ≤ 200 → HaveRun w k begun c sum → IsKeptOrBegun w begun c
 some_run w k begun c sum most have = by have.holds
   where
     by : ((k ≡ 0) × (c ≡ begun)) ⊎ IsSomeAnd (slice_get have.outcomes (k - 1)) (HoldsWords w c) → IsKeptOrBegun w begun c
@@ -260,11 +260,11 @@ some_run w k begun c sum most have = by have.holds
               holds = holds;
             })
 
-pub begun_unless : {A E : Type 0} (w : Linked) (begun c : Card) (end : Result A E) → IsKeptOrBegun w begun c → OnErr end (IsKeptOrBegun w begun c)
+pub begun_unless : {A E : Type 0} (w : Linked) (begun c : CardWords) (end : Result A E) → IsKeptOrBegun w begun c → OnErr end (IsKeptOrBegun w begun c)
 begun_unless w begun c (Ok a) some = tt {0}
 begun_unless w begun c (Err e) some = some
 
-pub run_begun : (w : Linked) (c : Card) (sum : ℤ) → AreRun w c sum → AreBegun w c
+pub run_begun : (w : Linked) (c : CardWords) (sum : ℤ) → AreRun w c sum → AreBegun w c
 run_begun w c sum run = record {
   outcomes = run.outcomes;
   last = 199;
@@ -275,8 +275,8 @@ run_begun w c sum run = record {
 }
 
 -- in the whole memory of a card
-pub run_wider : (w : Linked) (ram heap fields others : List ℕ) (sum : ℤ) → length fields ≡ static_cells w → AreRun w (card ram heap fields) sum
-    → AreRun w (card ram heap (fields ++ others)) sum
+pub run_wider : (w : Linked) (ram heap fields others : List ℕ) (sum : ℤ) → length fields ≡ static_cells w → AreRun w (card_words ram heap fields) sum
+    → AreRun w (card_words ram heap (fields ++ others)) sum
 run_wider w ram heap fields others sum long run = record {
   outcomes = run.outcomes;
   count = run.count;
@@ -285,14 +285,15 @@ run_wider w ram heap fields others sum long run = record {
   holds = by (slice_get run.outcomes 199) run.holds;
 }
   where
-    by : (o : Option (Outcome Cell)) → IsSomeAnd o (HoldsWords w (card ram heap fields)) → IsSomeAnd o (HoldsWords w (card ram heap (fields ++ others)))
+    by : (o : Option (Outcome Cell)) → IsSomeAnd o (HoldsWords w (card_words ram heap fields))
+        → IsSomeAnd o (HoldsWords w (card_words ram heap (fields ++ others)))
     by None h = h
     by (Some o) h = wider w ram heap fields others o long h
 
-pub begun_wider : (w : Linked) (ram heap fields others : List ℕ) (begun : Card) → length fields ≡ static_cells w
-    → IsKeptOrBegun w begun (card ram heap fields) → IsKeptOrBegun w (card begun.ram begun.heap (begun.statics ++ others))
-    (card ram heap (fields ++ others))
-begun_wider w ram heap fields others begun long (inl same) = inl (ap (λ (c : Card). card c.ram c.heap (c.statics ++ others)) same)
+pub begun_wider : (w : Linked) (ram heap fields others : List ℕ) (begun : CardWords) → length fields ≡ static_cells w
+    → IsKeptOrBegun w begun (card_words ram heap fields) → IsKeptOrBegun w (card_words begun.ram begun.heap (begun.statics ++ others))
+    (card_words ram heap (fields ++ others))
+begun_wider w ram heap fields others begun long (inl same) = inl (ap (λ (c : CardWords). card_words c.ram c.heap (c.statics ++ others)) same)
 begun_wider w ram heap fields others begun long (inr some) = inr (record {
   outcomes = some.outcomes;
   last = some.last;
@@ -302,22 +303,25 @@ begun_wider w ram heap fields others begun long (inr some) = inr (record {
   holds = by (slice_get some.outcomes some.last) some.holds;
 })
   where
-    by : (o : Option (Outcome Cell)) → IsSomeAnd o (HoldsWords w (card ram heap fields)) → IsSomeAnd o (HoldsWords w (card ram heap (fields ++ others)))
+    by : (o : Option (Outcome Cell)) → IsSomeAnd o (HoldsWords w (card_words ram heap fields))
+        → IsSomeAnd o (HoldsWords w (card_words ram heap (fields ++ others)))
     by None h = h
     by (Some o) h = wider w ram heap fields others o long h
 
-pub begun_in_card : {E : Type 0} (w : Linked) (ram heap fields others whole : List ℕ) (begun : Card) (end : Result ℤ E) → length fields ≡ static_cells w
-    → begun.statics ++ others ≡ whole → OnErr end (IsKeptOrBegun w begun (card ram heap fields))
-    → OnErr end (IsKeptOrBegun w (card begun.ram begun.heap whole) (card ram heap (fields ++ others)))
+pub begun_in_card : {E : Type 0} (w : Linked) (ram heap fields others whole : List ℕ) (begun : CardWords) (end : Result ℤ E)
+    → length fields ≡ static_cells w
+    → begun.statics ++ others ≡ whole → OnErr end (IsKeptOrBegun w begun (card_words ram heap fields))
+    → OnErr end (IsKeptOrBegun w (card_words begun.ram begun.heap whole) (card_words ram heap (fields ++ others)))
 begun_in_card w ram heap fields others whole begun (Ok sum) long is some = tt {0}
 begun_in_card w ram heap fields others whole begun (Err e) long is some =
-    subst (λ all. IsKeptOrBegun w (card begun.ram begun.heap all) (card ram heap (fields ++ others))) is (begun_wider w ram heap fields others begun long some)
+    subst (λ all. IsKeptOrBegun w (card_words begun.ram begun.heap all) (card_words ram heap (fields ++ others))) is
+    (begun_wider w ram heap fields others begun long some)
 
 -- what comes of one run, from what its machine did
 pub one_run : (w : Linked) (k number : ℕ) (m after : Machine) (ram heap statics ram_after heap_after statics_after : List ℕ) (ending : PlainEnding)
     → method_entered w (run_of k).entry ≡ Some number → IsBegun w number (run_of k).args m ram heap statics
     → Follows w 1000 (running (entry_state tagged w number (run_of k).args)) after ram_after heap_after statics_after ending
-    → ComesOfRun w k (card ram_after heap_after statics_after) ending
+    → ComesOfRun w k (card_words ram_after heap_after statics_after) ending
 one_run w k number m after ram heap statics ram_after heap_after statics_after ending entered begun follows = record {
   outcome = follows.after;
   comes = record { number = number; entered = entered; begins = begun.begins; runs = follows.runs };
@@ -337,7 +341,7 @@ no_library (l ∷ m ∷ ls) last p e = absurd (cc)
 module _ (seed : ℕ) (w : Linked) (parts : List Lent) (made : PackageRecord) (all : List PackageRecord) (t : IsTransformed (generated seed) roles w parts)
     (stands : StandsFor parts made) (are : all ≡ made ∷ [])
   where
-    alone : all ≡ and_last t.libraries t.made
+    alone : all ≡ and_last t.keeps.libraries t.keeps.made
     alone =
         with_made (generated seed) roles w parts t made all stands
         (λ ls last e. are ∙ ap (λ before. before ++ made ∷ []) (no_library ls last (package_record seed) e))
@@ -345,7 +349,7 @@ module _ (seed : ℕ) (w : Linked) (parts : List Lent) (made : PackageRecord) (a
     pub is_new : (new : Linked) (size : ℕ) → IsLinked all roles new → size ≡ length made.methods.info → IsNew seed w parts new size
     is_new new size linked is_size =
         let has = has_new (generated seed) roles w parts t all new alone linked in
-        let same = one_package parts made has.0.made stands has.0.stands in
+        let same = one_package parts made has.0.keeps.made stands has.0.keeps.stands in
         record { made = has.0; world = has.1; is_size = is_size ∙ ap (λ (p : PackageRecord). length p.methods.info) same }
 
     pub is_linked : (fault : LinkFault) → LinkTells all roles (Err (ends.Fault fault)) → ⊥
@@ -354,7 +358,7 @@ module _ (seed : ℕ) (w : Linked) (parts : List Lent) (made : PackageRecord) (a
 -- with the world, of which all is accepted
 pub run_in_card : {E : Type 0} (w : Linked) (ram heap fields others : List ℕ) (end : Result ℤ E) → length fields ≡ static_cells w
     → HaveCardTypings w → AreAccepted w
-    → TypedCodeIsFaultFree w → IfOk end (AreRun w (card ram heap fields)) → IfOk end (RunsAll w (card ram heap (fields ++ others)))
+    → TypedCodeIsFaultFree w → IfOk end (AreRun w (card_words ram heap fields)) → IfOk end (RunsAll w (card_words ram heap (fields ++ others)))
 run_in_card w ram heap fields others (Ok sum) long carded accepted free run =
     (carded, free Bottom (accepted-typed w accepted), run_wider w ram heap fields others sum long run)
 run_in_card w ram heap fields others (Err e) long carded accepted free run = tt {0}
@@ -364,10 +368,10 @@ new_counted : (seed : ℕ) (w new : Linked) (parts : List Lent) (size : ℕ) →
     → length new.infos ≡ length w.infos
 new_counted seed w new parts size linked n =
     let t = n.made in
-    let none = no_library t.libraries t.source (package_record seed) t.are in
+    let none = no_library t.keeps.libraries t.keeps.source (package_record seed) t.keeps.are in
     ap (λ (v : Linked). length v.infos) (sym n.world)
-    ∙ (infos_counted (and_last t.libraries t.made) roles t.world t.anew.linked
-    ∙ (ap (λ (ls : List PackageRecord). length (ls ++ t.made ∷ [])) (sym none) ∙ sym (infos_counted (generated seed) roles w linked)))
+    ∙ (infos_counted (and_last t.keeps.libraries t.keeps.made) roles t.keeps.world t.keeps.linked
+    ∙ (ap (λ (ls : List PackageRecord). length (ls ++ t.keeps.made ∷ [])) (sym none) ∙ sym (infos_counted (generated seed) roles w linked)))
 
 pub entries_there : (seed : ℕ) (w new : Linked) (parts : List Lent) (size : ℕ) → IsLinked (generated seed) roles w → IsWorld w
     → IsNew seed w parts new size → StartsRefuseAlike w → MethodsAreNumberedAlike w → HaveEntries new
@@ -376,15 +380,15 @@ entries_there seed w new parts size linked world n alike numbered =
     alike numbered
 
 pub carded_there : (seed : ℕ) (w new : Linked) (parts : List Lent) (size : ℕ) → IsNew seed w parts new size → HaveCardTypings new
-carded_there seed w new parts size n = subst HaveCardTypings n.world n.made.anew.carded
+carded_there seed w new parts size n = subst HaveCardTypings n.world n.made.keeps.carded
 
-pub told_of : {E : Type 0} (seed : ℕ) (w new : Linked) (parts : List Lent) (before c : Card) (size made_size : ℕ) (sum : ℤ) (text : Result _ E)
+pub told_of : {E : Type 0} (seed : ℕ) (w new : Linked) (parts : List Lent) (before c : CardWords) (size made_size : ℕ) (sum : ℤ) (text : Result _ E)
     (verdict : Verdict)
     → IsNew seed w parts new made_size → size ≡ length (method_info seed) → RunsAll new c sum
     → IfOk text (λ t. string_bytes t ≡ generate_text size made_size sum)
     → MatchResult text (λ t. verdict ≡ Done t) (λ _. verdict ≡ Memory) → TellsParts seed w parts before c verdict
 told_of seed w new parts before c size made_size sum (Ok t) verdict n is runs says result =
-    let there : RunsAll n.made.world c sum = subst (λ v. RunsAll v c sum) (sym n.world) runs in
+    let there : RunsAll n.made.keeps.world c sum = subst (λ v. RunsAll v c sum) (sym n.world) runs in
     subst (TellsParts seed w parts before c) (sym result) (
       n.made,
       record {
@@ -396,11 +400,11 @@ told_of seed w new parts before c size made_size sum (Ok t) verdict n is runs sa
       },
     )
 told_of seed w new parts before c size made_size sum (Err e) verdict n is runs says result =
-    let there : RunsAll n.made.world c sum = subst (λ v. RunsAll v c sum) (sym n.world) runs in
-    subst (TellsParts seed w parts before c) (sym result) (n.made, inr (run_begun n.made.world c sum there.2))
+    let there : RunsAll n.made.keeps.world c sum = subst (λ v. RunsAll v c sum) (sym n.world) runs in
+    subst (TellsParts seed w parts before c) (sym result) (n.made, inr (run_begun n.made.keeps.world c sum there.2))
 
 -- without memory for its world nothing is run
-pub untold_there : (seed : ℕ) (w : Linked) (parts : List Lent) (c : Card) → IsTransformed (generated seed) roles w parts
+pub untold_there : (seed : ℕ) (w : Linked) (parts : List Lent) (c : CardWords) → IsTransformed (generated seed) roles w parts
     → TellsParts seed w parts c c Memory
 untold_there seed w parts c made = (made, inl refl)
 

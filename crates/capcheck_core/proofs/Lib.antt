@@ -6,7 +6,7 @@ pub mod Stores
 pub mod Transforms
 pub mod Trials
 pub mod PackageLoads
-pub mod Shown
+pub mod OnPackages
 pub mod Typings
 pub mod Cardings
 pub mod Worlds
@@ -14,3 +14,4 @@ pub mod WorldComplete
 pub mod Complete
 pub mod Ran
 pub mod Generates
+pub mod Promised

@@ -302,6 +302,10 @@ rise_once low top [] rise = tt {0}
 rise_once low top (lent ∷ parts) rise =
     (ap is_some (below_none (suc lent.part) top lent.part parts rise.2 (omega arith)), rise_once (suc lent.part) top parts rise.2)
 
+-- the parts that were loaded one list after the other are each once
+pub lent_once : (before : Folders) (dir : List ℕ) (first rest : List Lent) → AreRest before dir first rest → HasEachOnce (first ++ rest)
+lent_once before dir first rest loaded = rise_once 0 256 (first ++ rest) loaded.loaded.rising
+
 -- ---- a list after another one
 
 -- a part in a list that has none of a tag is of another tag

@@ -12,21 +12,21 @@ use Rattle.capcheck_core.specs.declared.verdict.Verdict.{Verdict}
 use Rattle.capcheck_core.specs.declared.verdict.Verdict.TheVariants as verdicts
 use Rattle.capcheck_core.specs.Loads.{AreParts, FailsParts}
 use Rattle.capcheck_core.specs.OverFolders.{StopsAtLoad}
-use Rattle.capcheck_core.specs.Outside.{Outside, Card, outside}
+use Rattle.capcheck_core.specs.Outside.{Outside, CardWords, outside}
 use Rattle.capcheck_core.specs.Packages.{HasPackage, LacksPackage, IsFirstWhere}
 use Rattle.capcheck_core.specs.Roles.{AreRolesIn}
-use Rattle.capcheck_core.specs.PackageEnds.{RolesBeside, LoadsOpening, ReadsPackage, StopsPackage, PackagesStopLeaves, IsStop}
+use Rattle.capcheck_core.specs.PackageEnds.{RolesBeside, LoadsFiles, ReadsPackage, StopsPackage, PackagesStopLeaves, IsStop}
 use Rattle.capcheck_core.specs.OverLoads.{GivenAfterFirst, RolesAre, StopsOver, AnswersOverRest, GoesOver, StopsLoads, GoesOverAll}
 use Rattle.capcheck_core.specs.World.{Own, OverPackages}
 
 module _ (before after : Folders) (dir : List ℕ) where
   -- ---- why one package was not loaded
 
-  pub opening_stops : (number : ℕ) (stop : PackagesStop) → LoadsOpening before after dir number (Err stop) → StopsPackage before after dir number stop
-  opening_stops number (Malformed n fault) (is, long) = (is, inl long)
-  opening_stops number Failed loads = loads
-  opening_stops number Memory loads = loads
-  opening_stops number (TooMany count) loads = loads
+  pub loading_stops : (number : ℕ) (stop : PackagesStop) → LoadsFiles before after dir number (Err stop) → StopsPackage before after dir number stop
+  loading_stops number (Malformed n fault) (is, long) = (is, inl long)
+  loading_stops number Failed loads = loads
+  loading_stops number Memory loads = loads
+  loading_stops number (TooMany count) loads = loads
 
   pub reading_stops : (parts : List Lent) (number : ℕ) (stop : PackagesStop) → AreParts before dir parts → ReadsPackage parts number (Err stop)
       → StopsPackage before after dir number stop
@@ -75,11 +75,6 @@ module _ (before after : Folders) (dir : List ℕ) where
 
 -- ---- the folders and the place together
 
-pub opening_leaves : (before now after : Folders) (dir : List ℕ) (number : ℕ) (stop : PackagesStop) → now ≡ before → PackagesStopLeaves now after stop
-    → LoadsOpening now after dir number (Err stop) → PackagesStopLeaves before after stop × StopsPackage before after dir number stop
-opening_leaves before now after dir number stop same leaves loads =
-    subst (λ f. PackagesStopLeaves f after stop × StopsPackage f after dir number stop) same (leaves, opening_stops now after dir number stop loads)
-
 pub reading_leaves : (before after : Folders) (dir : List ℕ) (parts : List Lent) (number : ℕ) (stop : PackagesStop) → after ≡ before
     → AreParts before dir parts
     → ReadsPackage parts number (Err stop) → PackagesStopLeaves before after stop × StopsPackage before after dir number stop
@@ -103,7 +98,8 @@ beside before now dir others (Some given) roles held are is = is ∙ are
 one_longer : (made : List PackageRecord) (p : PackageRecord) → length (made ++ p ∷ []) ≡ suc (length made)
 one_longer made p = let sum = length-append made (p ∷ []) in omega (arith, sum)
 
-module _ (own : Own) (before : Folders) (card : Card) (dir : List ℕ) (others : List (List ℕ)) (made : List PackageRecord) (given : Option (List ℕ)) where
+module _ (own : Own) (before : Folders) (card : CardWords) (dir : List ℕ) (others : List (List ℕ)) (made : List PackageRecord)
+    (given : Option (List ℕ)) where
   -- with the package in the next folder the command goes on
   one_more : (now : Folders) (after : Outside) (parts : List Lent) (p : PackageRecord) (roles : List ℕ) (result : Result Verdict PackagesStop)
       → GivenAfterFirst given (length made) → AreParts before dir parts → StandsFor parts p → RolesBeside before now dir given (Ok roles)
@@ -125,16 +121,46 @@ module _ (own : Own) (before : Folders) (card : Card) (dir : List ℕ) (others :
     card = goes.card;
   }
 
-  pub goes_on : (now : Folders) (after : Outside) (parts : List Lent) (p : PackageRecord) (roles : List ℕ) (new : List PackageRecord)
-      (result : Result Verdict PackagesStop)
+  -- a package that was loaded goes before those in the other folders
+  pub goes_on : (now : Folders) (after : Outside) (parts : List Lent) (p : PackageRecord) (roles : List ℕ) (result : Result Verdict PackagesStop)
       → GivenAfterFirst given (length made) → AreParts before dir parts → StandsFor parts p → RolesBeside before now dir given (Ok roles)
-      → now ≡ before → new ≡ made ++ p ∷ []
-      → GoesOver own others new (Some roles) (outside now card) after result
+      → now ≡ before
+      → GoesOver own others (made ++ p ∷ []) (Some roles) (outside now card) after result
       → GoesOver own (dir ∷ others) made given (outside before card) after result
-  goes_on now after parts p roles new result begun loaded stands are same pushed goes =
+  goes_on now after parts p roles result begun loaded stands are same goes =
       one_more now after parts p roles result begun loaded stands are
-      (subst (λ ps. GoesOver own others ps (Some roles) (outside before card) after result) pushed
-      (subst (λ f. GoesOver own others new (Some roles) (outside f card) after result) same goes))
+      (subst (λ f. GoesOver own others (made ++ p ∷ []) (Some roles) (outside f card) after result) same goes)
+
+  -- where a load stops, the parts stand for no package, or there are no roles, the loads stop here
+  pub stops_loading : (now : Folders) (number : ℕ) (stop : PackagesStop) → GivenAfterFirst given (length made) → number ≡ length made
+      → LoadsFiles before now dir number (Err stop) → PackagesStopLeaves before now stop
+      → GoesOver own (dir ∷ others) made given (outside before card) (outside now card) (Err stop)
+  stops_loading now number stop begun is loads leaves = record {
+    stops = stops_here before now dir given (length made) others stop begun
+        (subst (λ n. StopsPackage before now dir n stop) is (loading_stops before now dir number stop loads));
+    leaves = leaves;
+    card = refl;
+  }
+
+  pub stops_reading : (now : Folders) (number : ℕ) (parts : List Lent) (stop : PackagesStop) → GivenAfterFirst given (length made)
+      → number ≡ length made → now ≡ before
+      → AreParts before dir parts → ReadsPackage parts number (Err stop) → GoesOver own (dir ∷ others) made given (outside before card)
+      (outside now card) (Err stop)
+  stops_reading now number parts stop begun is same loaded reads =
+      let at : ReadsPackage parts (length made) (Err stop) = subst (λ n. ReadsPackage parts n (Err stop)) is reads in
+      let leaves = reading_leaves before now dir parts (length made) stop same loaded at in
+      record { stops = stops_here before now dir given (length made) others stop begun leaves.1; leaves = leaves.0; card = refl }
+
+  pub stops_at_roles : (now after : Folders) (parts : List Lent) (p : PackageRecord) (stop : PackagesStop) → now ≡ before → AreParts before dir parts
+      → StandsFor parts p
+      → RolesBeside now after dir given (Err stop) → PackagesStopLeaves now after stop
+      → GoesOver own (dir ∷ others) made given (outside before card) (outside after card) (Err stop)
+  stops_at_roles now after parts p stop same loaded stands beside leaves = record {
+    stops = stops_roles before after dir given (length made) others stop (has_package before dir parts p loaded stands)
+        (subst (λ f. RolesBeside f after dir given (Err stop)) same beside);
+    leaves = subst (λ f. PackagesStopLeaves f after stop) same leaves;
+    card = refl;
+  }
 
 -- no folder is left
 pub goes_end : (own : Own) (made : List PackageRecord) (roles : List ℕ) (before after : Outside) (verdict : Verdict)

@@ -33,7 +33,7 @@ use Rattle.cap_text.specs.Run.{RunRequest}
 use Rattle.capcheck_core.specs.declared.running.RunStop.{RunStop}
 use Rattle.capcheck_core.specs.declared.verdict.Verdict.{Verdict}
 use Rattle.capcheck_core.specs.declared.verdict.Verdict.TheVariants.{Done, Refused, Limit, Malformed, Usage, ReadFault, StoreFault, Memory}
-use Rattle.capcheck_core.specs.Outside.{Card, card}
+use Rattle.capcheck_core.specs.Outside.{CardWords, card_words}
 use Rattle.capcheck_core.specs.Defend.{method_entered}
 use Rattle.capcheck_core.specs.Run.{HoldsWords, IsCardKept, IsLeft, IsRun, StopsRun, RunsWithMemory, RunsWorldIn}
 
@@ -82,7 +82,7 @@ written_in w v heap statics counts ending before after same writes =
     subst (λ x. Writes before after (left_text (left_by words x (lent_state heap statics counts)) (endings.Plain ending))) same writes
 
 pub holds : (w : Linked) (m : Machine) (ram heap statics : List ℕ) (o : Outcome Cell) → AreWordsOf w m ram heap statics o
-    → HoldsWords w (card ram heap statics) o
+    → HoldsWords w (card_words ram heap statics) o
 holds w m ram heap statics o are =
     let all : take (static_cells w) statics ≡ statics
     = ap (λ n. take n statics) (sym are.sized.statics_length) ∙ take-length statics in
@@ -141,7 +141,7 @@ pub left : (w : Linked) (number : ℕ) (r : RunRequest) (m : Machine) (ram heap 
     → TextsAreAlike w
     → IsEmpty before
     → Writes before after (left_text (left_by words w (lent_state heap_after statics_after m_after.counts)) (endings.Plain ending))
-    → IsLeft w r (card ram_after heap_after statics_after) after.text
+    → IsLeft w r (card_words ram_after heap_after statics_after) after.text
 left w number r m ram heap statics before after ending entered begun n ram_after heap_after statics_after follows alike empty writes =
     let text = writes.text ∙ ap (λ xs. xs ++ left_text (left_by words w (lent_state heap_after statics_after n.counts)) (endings.Plain ending)) empty.text in
     record {
@@ -153,8 +153,9 @@ left w number r m ram heap statics before after ending entered begun n ram_after
 
 -- ---- in the whole memory of a card
 
-pub wider : (w : Linked) (ram heap fields others : List ℕ) (o : Outcome Cell) → length fields ≡ static_cells w → HoldsWords w (card ram heap fields) o
-    → HoldsWords w (card ram heap (fields ++ others)) o
+pub wider : (w : Linked) (ram heap fields others : List ℕ) (o : Outcome Cell) → length fields ≡ static_cells w
+    → HoldsWords w (card_words ram heap fields) o
+    → HoldsWords w (card_words ram heap (fields ++ others)) o
 wider w ram heap fields others o long holds =
     let one : take (static_cells w) (fields ++ others) ≡ fields = ap (λ n. take n (fields ++ others)) (sym long) ∙ take-append_seam fields others in
     let two : take (static_cells w) fields ≡ fields = ap (λ n. take n fields) (sym long) ∙ take-length fields in
@@ -165,7 +166,7 @@ wider w ram heap fields others o long holds =
     }
 
 whole_run : (w : Linked) (r : RunRequest) (ram heap fields others text : List ℕ) → length fields ≡ static_cells w
-    → IsRun w r (card ram heap fields) text → IsRun w r (card ram heap (fields ++ others)) text
+    → IsRun w r (card_words ram heap fields) text → IsRun w r (card_words ram heap (fields ++ others)) text
 whole_run w r ram heap fields others text long run = record {
   carded = run.carded;
   fault_free = run.fault_free;
@@ -180,26 +181,26 @@ whole_run w r ram heap fields others text long run = record {
 -- whether it begins or not
 pub whole_end : {U : Type 0} (w : Linked) (r : RunRequest) (ram heap fields others text : List ℕ) (end : Result U RunStop)
     → length fields ≡ static_cells w
-    → MatchResult end (λ _. IsRun w r (card ram heap fields) text) (StopsRun w r)
-    → MatchResult end (λ _. IsRun w r (card ram heap (fields ++ others)) text) (StopsRun w r)
+    → MatchResult end (λ _. IsRun w r (card_words ram heap fields) text) (StopsRun w r)
+    → MatchResult end (λ _. IsRun w r (card_words ram heap (fields ++ others)) text) (StopsRun w r)
 whole_end w r ram heap fields others text (Ok u) long run = whole_run w r ram heap fields others text long run
 whole_end w r ram heap fields others text (Err stop) long stops = stops
 
 -- ---- where nothing ran
 
 pub card_same : (ram heap statics ram_after heap_after statics_after : List ℕ) → ram_after ≡ ram → heap_after ≡ heap → statics_after ≡ statics
-    → card ram_after heap_after statics_after ≡ card ram heap statics
-card_same ram heap statics ram_after heap_after statics_after a b c = λ i. card (a i) (b i) (c i)
+    → card_words ram_after heap_after statics_after ≡ card_words ram heap statics
+card_same ram heap statics ram_after heap_after statics_after a b c = λ i. card_words (a i) (b i) (c i)
 
 pub kept_end : {U : Type 0} (ram heap fields ram_after heap_after fields_after others whole : List ℕ) (end : Result U RunStop) → fields ++ others ≡ whole
-    → OnErr end (card ram_after heap_after fields_after ≡ card ram heap fields)
-    → OnErr end (card ram_after heap_after (fields_after ++ others) ≡ card ram heap whole)
+    → OnErr end (card_words ram_after heap_after fields_after ≡ card_words ram heap fields)
+    → OnErr end (card_words ram_after heap_after (fields_after ++ others) ≡ card_words ram heap whole)
 kept_end ram heap fields ram_after heap_after fields_after others whole (Ok u) is same = same
 kept_end ram heap fields ram_after heap_after fields_after others whole (Err stop) is same =
-    ap (λ (c : Card). card c.ram c.heap (c.statics ++ others)) same ∙ ap (card ram heap) is
+    ap (λ (c : CardWords). card_words c.ram c.heap (c.statics ++ others)) same ∙ ap (card_words ram heap) is
 
 -- what may be answered where there is memory may be answered
-pub with_memory : (w : Linked) (r : RunRequest) (c : Card) (verdict : Verdict) → RunsWithMemory w r c verdict → RunsWorldIn w r c verdict
+pub with_memory : (w : Linked) (r : RunRequest) (c : CardWords) (verdict : Verdict) → RunsWithMemory w r c verdict → RunsWorldIn w r c verdict
 with_memory w r c (Done text) runs = runs
 with_memory w r c (Refused text) runs = runs
 with_memory w r c (Limit text) runs = runs
@@ -209,7 +210,7 @@ with_memory w r c ReadFault runs = runs
 with_memory w r c StoreFault runs = runs
 with_memory w r c Memory runs = absurd runs
 
-pub kept_there : (before after : Card) (verdict : Verdict) → after ≡ before → IsCardKept before after verdict
+pub kept_there : (before after : CardWords) (verdict : Verdict) → after ≡ before → IsCardKept before after verdict
 kept_there before after (Done text) same = tt {0}
 kept_there before after (Refused text) same = same
 kept_there before after (Limit text) same = same

@@ -16,7 +16,7 @@ use Rattle.cap_components.proofs.PartsLemmas.{held-other, held-same, HasEachOnce
 use Rattle.capcheck_core.specs.Loads.{Rise, with_file}
 use Rattle.capcheck_core.specs.Roles.{roles_tag}
 use Rattle.capcheck_core.specs.Stores.{with_parts_stored, AreStored, IsPartlyStored, IsBrokenOff, AreInStoreOrder, StandWhole, HasAllButHeader, HasHeaderLast}
-use Rattle.capcheck_core.specs.Stores.{header_tag}
+use Rattle.capcheck_core.specs.Stores.{IsStoredInPart, header_tag}
 use Rattle.capcheck_core.proofs.Loads.{none_some, lent_of, above_none, below_none, rise_wider, rise_push, file_other, file_same}
 
 -- ---- one store more
@@ -123,8 +123,8 @@ pub roles_absent : (parts stores : List Lent) (top : ℕ) → AreInOrderBelow pa
 roles_absent parts stores top so_far = is_none (held stores roles_tag) (below_none 2 top 0 stores so_far.rising (omega arith))
 
 -- there is no Header before the last of the stores
-no_header_before : (others : List Lent) (top : ℕ) (roles : Option (List ℕ)) → Rise 2 top others → held (with_file others roles_tag roles) header_tag
-    ≡ None
+pub no_header_before : (others : List Lent) (top : ℕ) (roles : Option (List ℕ)) → Rise 2 top others
+    → held (with_file others roles_tag roles) header_tag ≡ None
 no_header_before others top roles rise = file_other header_tag roles_tag others roles refl ∙ below_none 2 top 1 others rise (omega arith)
 
 pub header_absent : (parts others stores : List Lent) (top : ℕ) (roles : Option (List ℕ)) → AreInOrderBelow parts top others
@@ -193,7 +193,7 @@ nothing None none = refl
 nothing (Some bytes) none = absurd cc
 
 -- a part that is stored once is there
-get_stored : (dir : List ℕ) (old : Parts) (parts : List Lent) → HasEachOnce parts → StandWhole dir parts (with_parts_stored dir old parts)
+pub get_stored : (dir : List ℕ) (old : Parts) (parts : List Lent) → HasEachOnce parts → StandWhole dir parts (with_parts_stored dir old parts)
 get_stored dir old [] each tag bytes is = absurd (none_some bytes is)
 get_stored dir old (l ∷ ls) each tag bytes is = by (eqb l.part tag) refl (get_stored dir (map.insert old (l.part ∷ dir) l.bytes) ls each.1 tag bytes)
   where
@@ -311,3 +311,21 @@ header_last dir parts roles stores before after order off = over after.held befo
     over (Some n) (Some o) begun = λ none.
         header_last_in dir order.header (with_file order.others roles_tag roles) (roles_each order.others roles order.rising)
         (no_header_before order.others 256 roles order.rising) o n none off.done off.broken off.left (sym order.all ∙ off.are) begun
+
+-- each of a package's parts is stored once
+pub stores_each : (parts : List Lent) (roles : Option (List ℕ)) (stores : List Lent) → AreInStoreOrder parts roles stores → HasEachOnce stores
+stores_each parts roles stores order =
+    let middle = with_file order.others roles_tag roles in
+    subst HasEachOnce (sym order.all)
+    (HasEachOnce-push middle (lent_of header_tag order.header) (roles_each order.others roles order.rising)
+    (is_none (held middle header_tag) (no_header_before order.others 256 roles order.rising)))
+
+-- where the stores are broken off, the Header is the last of them
+pub stored_in_part : (P : List Lent → Type 0) (given : Option (List ℕ)) (dir : List ℕ) (parts stores : List Lent) (before after : Folders)
+    → P parts → AreInStoreOrder parts given stores → IsBrokenOff dir stores before after → IsStoredInPart P given dir before after
+stored_in_part P given dir parts stores before after made order off = record {
+  stores = stores;
+  brings = record { parts = parts; made = made; order = order };
+  broken = off;
+  last = header_last dir parts given stores before after order off;
+}

@@ -11,7 +11,7 @@ use Rattle.xf_pack.specs.Transformed.{IsTransformed}
 use Rattle.capcheck_core.specs.Stores.{AreInStoreOrder, IsBrokenOff, header_tag}
 use Rattle.capcheck_core.specs.Transform.{roles_beside, IsBroughtInPart}
 use Rattle.capcheck_core.specs.Typed.{numbers_of_method}
-use Rattle.capcheck_core.proofs.Stores.{header_last}
+use Rattle.capcheck_core.proofs.Stores.{stored_in_part}
 
 -- parts that stand for a package have its Header
 pub has_header : (parts : List Lent) (p : PackageRecord) → StandsFor parts p → IsSome (held parts header_tag)
@@ -23,12 +23,7 @@ pub brought_in_part : (packages : List PackageRecord) (roles : List ℕ) (w : Li
     → IsBrokenOff out stores before after → IsBroughtInPart packages roles w out before after
 brought_in_part packages roles w out parts stores given before after made order beside off =
     let ordered : AreInStoreOrder parts (roles_beside packages roles) stores = subst (λ r. AreInStoreOrder parts r stores) beside order in
-    record {
-      stores = stores;
-      brings = record { parts = parts; made = made; order = ordered };
-      broken = off;
-      last = header_last out parts (roles_beside packages roles) stores before after ordered off;
-    }
+    stored_in_part (IsTransformed packages roles w) (roles_beside packages roles) out parts stores before after made ordered off
 
 -- ---- the method that is named
 

@@ -22,14 +22,14 @@ use Rattle.cap_text.specs.Trial.{trial_text}
 use Rattle.capcheck_core.specs.declared.verdict.Verdict.{Verdict}
 use Rattle.capcheck_core.specs.declared.verdict.Verdict.TheVariants.{Done, Refused, Limit, Malformed, Usage, ReadFault, StoreFault, Memory}
 use Rattle.capcheck_core.specs.Defend.{method_entered, fault_of, run_fault, IsDefended}
-use Rattle.capcheck_core.specs.Outside.{Card}
+use Rattle.capcheck_core.specs.Outside.{CardWords}
 use Rattle.capcheck_core.specs.Run.{with_budget, IsRun, RunsWorldIn}
 use Rattle.capcheck_core.specs.Transform.{StopsBefore}
 use Rattle.capcheck_core.specs.Trial.{steps_each, HasNew, IsDoneOrMemory, IsTried, IsUntriedKept, TriesIn}
 use Rattle.capcheck_core.proofs.WorldComplete.{one_package}
 
 -- what is not made is not tried
-pub untried : (packages : List PackageRecord) (roles : List ℕ) (w : Linked) (r : RunRequest) (c : Card) (verdict : Verdict)
+pub untried : (packages : List PackageRecord) (roles : List ℕ) (w : Linked) (r : RunRequest) (c : CardWords) (verdict : Verdict)
     → StopsBefore packages w verdict → TriesIn packages roles w r c verdict
 untried packages roles w r c (Done text) stops = absurd stops
 untried packages roles w r c (Malformed text) stops = absurd stops
@@ -42,24 +42,25 @@ untried packages roles w r c Memory stops = stops
 
 module _ (packages : List PackageRecord) (roles : List ℕ) (w : Linked) (parts : List Lent) (t : IsTransformed packages roles w parts) where
   pub have : HavePackage parts
-  have = record { made = t.made; stands = t.stands }
+  have = record { made = t.keeps.made; stands = t.keeps.stands }
 
   -- the libraries with the package that the parts stand for
   pub with_made : (made : PackageRecord) (all : List PackageRecord) → StandsFor parts made
       → ((ls : List PackageRecord) (source : PackageRecord) → packages ≡ and_last ls source → all ≡ and_last ls made)
-      → all ≡ and_last t.libraries t.made
+      → all ≡ and_last t.keeps.libraries t.keeps.made
   with_made made all stands pushed =
-      pushed t.libraries t.source t.are ∙ ap (λ p. and_last t.libraries p) (one_package parts made t.made stands t.stands)
+      pushed t.keeps.libraries t.keeps.source t.keeps.are
+      ∙ ap (λ p. and_last t.keeps.libraries p) (one_package parts made t.keeps.made stands t.keeps.stands)
 
-  pub has_new : (all : List PackageRecord) (new : Linked) → all ≡ and_last t.libraries t.made → IsLinked all roles new
+  pub has_new : (all : List PackageRecord) (new : Linked) → all ≡ and_last t.keeps.libraries t.keeps.made → IsLinked all roles new
       → HasNew packages roles w parts new
   has_new all new are linked =
-      (t, one_world (and_last t.libraries t.made) roles t.world new t.anew.linked (subst (λ ps. IsLinked ps roles new) are linked))
+      (t, one_world (and_last t.keeps.libraries t.keeps.made) roles t.keeps.world new t.keeps.linked (subst (λ ps. IsLinked ps roles new) are linked))
 
-  pub never_at_fault : (all : List PackageRecord) (fault : LinkFault) → all ≡ and_last t.libraries t.made
+  pub never_at_fault : (all : List PackageRecord) (fault : LinkFault) → all ≡ and_last t.keeps.libraries t.keeps.made
       → LinkTells all roles (Err (ends.Fault fault)) → ⊥
   never_at_fault all fault are tells =
-      linked_faultless (and_last t.libraries t.made) roles t.world fault t.anew.linked
+      linked_faultless (and_last t.keeps.libraries t.keeps.made) roles t.keeps.world fault t.keeps.linked
       (subst (λ ps. LinkTells ps roles (Err (ends.Fault fault))) are tells)
 
 -- ---- the second run
@@ -79,8 +80,8 @@ module _ (packages : List PackageRecord) (roles : List ℕ) (w : Linked) (linked
 
     counted : length new.infos ≡ length w.infos
     counted =
-        ap (λ v. length (v.infos)) (sym has.1) ∙ infos_counted (and_last t.libraries t.made) roles t.world t.anew.linked
-        ∙ as_many t.libraries t.made t.source ∙ ap length (sym t.are) ∙ sym (infos_counted packages roles w linked)
+        ap (λ v. length (v.infos)) (sym has.1) ∙ infos_counted (and_last t.keeps.libraries t.keeps.made) roles t.keeps.world t.keeps.linked
+        ∙ as_many t.keeps.libraries t.keeps.made t.keeps.source ∙ ap length (sym t.keeps.are) ∙ sym (infos_counted packages roles w linked)
 
     -- the entry of the new package is a method that begins where its source does
     begins : (r : RunRequest) (text : List ℕ) → IsDefended w r text → run_fault new r ≡ None
@@ -91,12 +92,12 @@ module _ (packages : List PackageRecord) (roles : List ℕ) (w : Linked) (linked
         ∙ sym (numbered new (length w.infos - 1) r.entry.class_no r.entry.method_no same) ∙ d.comes.entered in
         ap (fault_of new r.args) entered ∙ sym (alike new d.comes.number r.args same) ∙ d.comes.begins
 
-    pub new_runs : (r : RunRequest) (steps : ℕ) (c : Card) (text : List ℕ) (verdict : Verdict) → IsDefended w r text
+    pub new_runs : (r : RunRequest) (steps : ℕ) (c : CardWords) (text : List ℕ) (verdict : Verdict) → IsDefended w r text
         → RunsWorldIn new (with_budget steps r) c verdict → IsDoneOrMemory verdict
     new_runs r steps c text (Done said) d runs = tt {0}
     new_runs r steps c text Memory d runs = tt {0}
     new_runs r steps c text (Refused said) d runs =
-        absurd (runs.first.lacks (subst (λ v. AllHave (IsMethodOf v) (HasCardTyping v)) has.1 t.anew.carded runs.method runs.first.asked))
+        absurd (runs.first.lacks (subst (λ v. AllHave (IsMethodOf v) (HasCardTyping v)) has.1 t.keeps.carded runs.method runs.first.asked))
     new_runs r steps c text (Malformed said) d runs = let first = runs.unbegun.first in let none = begins r text d in absurd (cc)
     new_runs r steps c text (Limit said) d runs = absurd runs
     new_runs r steps c text Usage d runs = absurd runs
@@ -104,7 +105,7 @@ module _ (packages : List PackageRecord) (roles : List ℕ) (w : Linked) (linked
     new_runs r steps c text StoreFault d runs = absurd runs
 
 -- what is told of both
-pub tried : (packages : List PackageRecord) (roles : List ℕ) (w : Linked) (parts : List Lent) (new : Linked) (r : RunRequest) (steps : ℕ) (c : Card)
+pub tried : (packages : List PackageRecord) (roles : List ℕ) (w : Linked) (parts : List Lent) (new : Linked) (r : RunRequest) (steps : ℕ) (c : CardWords)
     (source target text : List ℕ) → HasNew packages roles w parts new → steps ≡ steps_each * r.budget → IsDefended w r source
     → IsRun new (with_budget steps r) c target → text ≡ trial_text source target → IsTried packages roles w r c text
 tried packages roles w parts new r steps c source target text has count d run prints = record {
@@ -119,7 +120,7 @@ tried packages roles w parts new r steps c source target text has count d run pr
 
 -- ---- where nothing ran in the card's memory
 
-pub untried_there : (packages : List PackageRecord) (roles : List ℕ) (w : Linked) (r : RunRequest) (c : Card) (verdict : Verdict)
+pub untried_there : (packages : List PackageRecord) (roles : List ℕ) (w : Linked) (r : RunRequest) (c : CardWords) (verdict : Verdict)
     → IsUntriedKept packages roles w r c c verdict
 untried_there packages roles w r c (Done text) = tt {0}
 untried_there packages roles w r c (Refused text) = refl

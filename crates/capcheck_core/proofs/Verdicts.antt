@@ -17,7 +17,7 @@ asked words r before after verdict one is answers = record {
 -- without memory to read the words nothing was done, whatever they ask for
 no_memory : (r : Request) (before after : Outside) → Untouched before after → Answers r before after Memory
 no_memory (probe p) before after same = (inl (same.folders, tt {0}), same.card)
-no_memory (show s) before after same = (inl (same.folders, tt {0}), same.card)
+no_memory (show s) before after same = (inl same.folders, same.card)
 no_memory (check c) before after same = inl same
 no_memory (verify v) before after same = inl same
 no_memory (defend r) before after same = inl same

@@ -35,7 +35,7 @@ use Rattle.capcheck_core.proofs.Loads.{one_list, none_long}
 -- ---- packages
 
 -- nothing is told against parts that stand for a package
-pub no_fault : (parts : List Lent) (p : PackageRecord) (fault : PackFault) → StandsFor parts p → Tells parts (Err fault) → ⊥
+no_fault : (parts : List Lent) (p : PackageRecord) (fault : PackFault) → StandsFor parts p → Tells parts (Err fault) → ⊥
 no_fault parts p fault stands told = let same = stands_told parts p (Err fault) stands told in absurd (cc)
 
 -- parts stand for one package
@@ -61,7 +61,7 @@ module _ (before : Folders) (held : Parts) (told : before.held ≡ Some held) wh
       let head = one_list before held dir 256 x y told s.0 t.0 in let tail = same_parts dirs xs ys s.1 t.1 in cc
 
   -- a folder with a package lacks none
-  no_lack : (dir : List ℕ) (parts : List Lent) (p : PackageRecord) (fault : PackFault) → AreParts before dir parts → StandsFor parts p
+  pub no_lack : (dir : List ℕ) (parts : List Lent) (p : PackageRecord) (fault : PackFault) → AreParts before dir parts → StandsFor parts p
       → LacksPackage before dir fault → ⊥
   no_lack dir parts p fault loaded stands (inl long) = none_long before held dir 256 long.tag parts told loaded long.first.byte long.first
   no_lack dir parts p fault loaded stands (inr refused) =

@@ -5,11 +5,6 @@ use Rattle.cap_files.specs.Folder.{Parts, Folders, Holds}
 use Rattle.cap_bare.specs.declared.bare.Bare.{Bare}
 use Rattle.cap_bare.specs.Typing.{CardTyping}
 use Rattle.cap_text.specs.Probe.{ProbeRequest}
-use Rattle.cap_text.specs.Show.{ShowRequest}
-use Rattle.cap_text.specs.Check.{CheckRequest}
-use Rattle.cap_text.specs.Verify.{VerifyRequest}
-use Rattle.cap_text.specs.Run.{RunRequest}
-use Rattle.cap_text.specs.Transform.{TransformRequest}
 use Rattle.cap_text.specs.Generate.{GenerateRequest}
 use Rattle.cap_text.specs.Request.{Request, probe, show, check, verify, defend, run, transform, trial, generate, IsRequest}
 use Rattle.cap_package.specs.Parts.{Lent}
@@ -56,13 +51,13 @@ pub record CanProbe (p : ProbeRequest) (before : Folders) : Type 0 where
   pub fit : AreShorts p.args bare.nargs values
 
 -- the parts of the folder stand for a package
-pub record CanShow (s : ShowRequest) (before : Folders) : Type 0 where
+pub record CanRead (dir : List ℕ) (before : Folders) : Type 0 where
   pub held : Parts
   pub told : before.held ≡ Some held
   pub parts : List Lent
-  pub loaded : AreParts before s.dir parts
-  pub shown : PackageRecord
-  pub stands : StandsFor parts shown
+  pub loaded : AreParts before dir parts
+  pub read : PackageRecord
+  pub stands : StandsFor parts read
 
 -- the parts in the folders and the roles beside the first make this world
 pub record CanLink (dirs : List (List ℕ)) (before : Folders) (world : Linked) : Type 0 where
@@ -73,30 +68,15 @@ pub record CanLink (dirs : List (List ℕ)) (before : Folders) (world : Linked) 
   pub given : AreGiven before dirs parts roles
   pub made : MakeWorld parts roles world
 
--- the folders make a world, and every method with code of the last package has a typing
-pub record CanCheck (c : CheckRequest) (before : Folders) : Type 0 where
-  pub world : Linked
-  pub links : CanLink c.dirs before world
-  pub typed : AreTyped world
+-- what the packages, the roles and the world that they make must be for the last step of a command
+abbrev pub Needs : Type 1
+Needs = List PackageRecord → List ℕ → Linked → Type 0
 
--- the folders make a world, and every method with code of all packages has a card typing
-pub record CanVerify (v : VerifyRequest) (before : Folders) : Type 0 where
+-- the folders make a world, and it is as the command needs it
+pub record CanOver (needs : Needs) (dirs : List (List ℕ)) (before : Folders) : Type 0 where
   pub world : Linked
-  pub links : CanLink v.dirs before world
-  pub carded : HaveCardTypings world
-
--- the folders make a world, and nothing keeps the run from beginning
-pub record CanDefend (r : RunRequest) (before : Folders) : Type 0 where
-  pub world : Linked
-  pub links : CanLink r.dirs before world
-  pub begins : run_fault world r ≡ None
-
--- the folders make a world, every method with code of all packages has a card typing, and nothing keeps the run from beginning
-pub record CanRun (r : RunRequest) (before : Folders) : Type 0 where
-  pub world : Linked
-  pub links : CanLink r.dirs before world
-  pub carded : HaveCardTypings world
-  pub begins : run_fault world r ≡ None
+  pub links : CanLink dirs before world
+  pub has : needs links.made.packages links.roles world
 
 -- no method with code of the last package passes a limit
 abbrev pub AreWithinLimits : Linked → Type 0
@@ -109,19 +89,6 @@ pub record CanBring (packages : List PackageRecord) (w : Linked) : Type 0 where
   pub within : AreWithinLimits w
   pub short : (n : ℕ) → IsPartLong packages w n → ⊥
 
--- the folders make a world, and the last package can be brought into the form that a verifier on the card accepts
-pub record CanTransform (t : TransformRequest) (before : Folders) : Type 0 where
-  pub world : Linked
-  pub links : CanLink t.dirs before world
-  pub brings : CanBring links.made.packages world
-
--- so it is, and nothing keeps the run from beginning
-pub record CanTry (r : RunRequest) (before : Folders) : Type 0 where
-  pub world : Linked
-  pub links : CanLink r.dirs before world
-  pub brings : CanBring links.made.packages world
-  pub begins : run_fault world r ≡ None
-
 -- no limit is passed on the way to the form that a verifier on the card accepts
 abbrev pub CanGenerate : GenerateRequest → Type 0
 CanGenerate g =
@@ -131,13 +98,13 @@ CanGenerate g =
 -- what a command needs is there
 abbrev pub CanDo : Request → Folders → Type 0
 CanDo (probe p) before = CanProbe p before
-CanDo (show s) before = CanShow s before
-CanDo (check c) before = CanCheck c before
-CanDo (verify v) before = CanVerify v before
-CanDo (defend r) before = CanDefend r before
-CanDo (run r) before = CanRun r before
-CanDo (transform t) before = CanTransform t before
-CanDo (trial r) before = CanTry r before
+CanDo (show s) before = CanRead s.dir before
+CanDo (check c) before = CanOver (λ packages roles w. AreTyped w) c.dirs before
+CanDo (verify v) before = CanOver (λ packages roles w. HaveCardTypings w) v.dirs before
+CanDo (defend r) before = CanOver (λ packages roles w. run_fault w r ≡ None) r.dirs before
+CanDo (run r) before = CanOver (λ packages roles w. HaveCardTypings w × (run_fault w r ≡ None)) r.dirs before
+CanDo (transform t) before = CanOver (λ packages roles w. CanBring packages w) t.dirs before
+CanDo (trial r) before = CanOver (λ packages roles w. CanBring packages w × (run_fault w r ≡ None)) r.dirs before
 CanDo (generate g) before = CanGenerate g
 
 -- where the words ask for something, what it needs is there and no device failed, the work is done or there was no memory

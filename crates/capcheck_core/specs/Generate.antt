@@ -23,7 +23,7 @@ use Rattle.xf_pack.specs.Transformed.{IsTransformed}
 use Rattle.capcheck_core.specs.declared.verdict.Verdict.{Verdict}
 use Rattle.capcheck_core.specs.declared.verdict.Verdict.TheVariants.{Done, Limit, StoreFault, Memory}
 use Rattle.capcheck_core.specs.Defend.{ComesTo, method_entered}
-use Rattle.capcheck_core.specs.Outside.{Card, Outside, Untouched}
+use Rattle.capcheck_core.specs.Outside.{CardWords, Outside, Untouched}
 use Rattle.capcheck_core.specs.Run.{HoldsWords}
 use Rattle.capcheck_core.specs.Stores.{AreStored}
 use Rattle.capcheck_core.specs.Transform.{Brings, IsBroughtInPart, SaysLimited, SaysLong}
@@ -56,7 +56,7 @@ ComeOfRuns w outcomes = (k : ℕ) (o : Outcome Cell) → slice_get outcomes k �
 
 -- the two hundred methods are run one after the other, the shorts that they return have this sum, and the memory holds the words of what
 -- the last run leaves
-pub record AreRun (w : Linked) (c : Card) (sum : ℤ) : Type 0 where
+pub record AreRun (w : Linked) (c : CardWords) (sum : ℤ) : Type 0 where
   pub outcomes : List (Outcome Cell)
   pub count : length outcomes ≡ 200
   pub come : ComeOfRuns w outcomes
@@ -64,7 +64,7 @@ pub record AreRun (w : Linked) (c : Card) (sum : ℤ) : Type 0 where
   pub holds : IsSomeAnd (slice_get outcomes 199) (HoldsWords w c)
 
 -- the first of them, at least one, are run one after the other, and the memory holds the words of what the last of these leaves
-pub record AreBegun (w : Linked) (c : Card) : Type 0 where
+pub record AreBegun (w : Linked) (c : CardWords) : Type 0 where
   pub outcomes : List (Outcome Cell)
   pub last : ℕ
   pub few : last < 200
@@ -73,7 +73,7 @@ pub record AreBegun (w : Linked) (c : Card) : Type 0 where
   pub holds : IsSomeAnd (slice_get outcomes last) (HoldsWords w c)
 
 -- the memory is as it was, or they are run in it, as far as they were begun
-abbrev pub IsKeptOrBegun : Linked → Card → Card → Type 0
+abbrev pub IsKeptOrBegun : Linked → CardWords → CardWords → Type 0
 IsKeptOrBegun w before after = (after ≡ before) ⊎ AreBegun w after
 
 -- ---- the answers
@@ -90,7 +90,7 @@ pub record IsStored (g : GenerateRequest) (w : Linked) (before after : Outside) 
 
 -- in the world that they make every method with code has a card typing, and no run meets a fault. All are run, and the text tells the
 -- sizes of the two Method components and the sum
-pub record IsTold (seed : ℕ) (made : PackageRecord) (w : Linked) (c : Card) (text : List ℕ) : Type 0 where
+pub record IsTold (seed : ℕ) (made : PackageRecord) (w : Linked) (c : CardWords) (text : List ℕ) : Type 0 where
   pub carded : HaveCardTypings w
   pub fault_free : IsFaultFree w
   pub sum : ℤ
@@ -100,12 +100,12 @@ pub record IsTold (seed : ℕ) (made : PackageRecord) (w : Linked) (c : Card) (t
 -- they are stored, and of them is told
 pub record IsGenerated (g : GenerateRequest) (w : Linked) (before after : Outside) (text : List ℕ) : Type 0 where
   pub stored : IsStored g w before after
-  pub told : IsTold g.seed stored.brings.made.made stored.brings.made.world after.card text
+  pub told : IsTold g.seed stored.brings.made.keeps.made stored.brings.made.keeps.world after.card text
 
 -- they are stored, and then there is no memory to run all methods or to tell of them
 pub record IsUntold (g : GenerateRequest) (w : Linked) (before after : Outside) : Type 0 where
   pub stored : IsStored g w before after
-  pub card : IsKeptOrBegun stored.brings.made.world before.card after.card
+  pub card : IsKeptOrBegun stored.brings.made.keeps.world before.card after.card
 
 -- the answers where the generated package makes this world. Where a limit were passed, or there is no memory, nothing is stored; but there
 -- may be no memory for the rest after all is stored. Before that the card's memory is as it was
@@ -136,7 +136,7 @@ abbrev pub HaveEntries : Linked → Type 0
 HaveEntries w = (k : ℕ) → k < 200 → BeginsRun w k
 
 -- this is what comes of the run of the method with a number, and the memory holds its words
-pub record ComesOfRun (w : Linked) (k : ℕ) (c : Card) (ending : endings.Plain) : Type 0 where
+pub record ComesOfRun (w : Linked) (k : ℕ) (c : CardWords) (ending : endings.Plain) : Type 0 where
   pub outcome : Outcome Cell
   pub comes : ComesTo w (run_of k) outcome
   pub short : short_result outcome ≡ short_ended ending
@@ -148,23 +148,23 @@ pub record IsSumOfShorts (count : ℕ) (sum : ℤ) : Type 0 where
   pub most : sum ≤ℤ pos (32768 * count)
 
 -- every method with code has a card typing, no run meets a fault, and all are run
-abbrev pub RunsAll : Linked → Card → ℤ → Type 0
+abbrev pub RunsAll : Linked → CardWords → ℤ → Type 0
 RunsAll w c sum = HaveCardTypings w × IsFaultFree w × AreRun w c sum
 
 -- the parts are those of the generated package in the form that a verifier on the card accepts; they make this world, and their Method
 -- component has so many bytes
 pub record IsNew (seed : ℕ) (w : Linked) (parts : List Lent) (new : Linked) (size : ℕ) : Type 0 where
   pub made : IsTransformed (generated seed) roles w parts
-  pub world : made.world ≡ new
-  pub is_size : size ≡ length made.made.methods.info
+  pub world : made.keeps.world ≡ new
+  pub is_size : size ≡ length made.keeps.made.methods.info
 
 -- the answers where all is stored, by the package that the parts stand for and its world
-abbrev pub TellsNew : ℕ → PackageRecord → Linked → Card → Card → Verdict → Type 0
+abbrev pub TellsNew : ℕ → PackageRecord → Linked → CardWords → CardWords → Verdict → Type 0
 TellsNew seed made w before after (Done text) = IsTold seed made w after (string_bytes text)
 TellsNew seed made w before after Memory = IsKeptOrBegun w before after
 TellsNew seed made w before after _ = ⊥
 
 -- the same by the parts
-abbrev pub TellsParts : ℕ → Linked → List Lent → Card → Card → Verdict → Type 0
+abbrev pub TellsParts : ℕ → Linked → List Lent → CardWords → CardWords → Verdict → Type 0
 TellsParts seed w parts before after verdict =
-    (made : IsTransformed (generated seed) roles w parts) × TellsNew seed made.made made.world before after verdict
+    (made : IsTransformed (generated seed) roles w parts) × TellsNew seed made.keeps.made made.keeps.world before after verdict

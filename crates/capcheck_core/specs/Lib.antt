@@ -1,7 +1,9 @@
+pub mod Headline
 pub mod Verdict
 pub mod Report
 pub mod Shorts
 pub mod Outside
+pub mod LentCard
 pub mod MethodFile
 pub mod Probe
 pub mod Loads
@@ -9,6 +11,7 @@ pub mod LoadEnds
 pub mod Roles
 pub mod Packages
 pub mod PackageEnds
+pub mod OverPackage
 pub mod Show
 pub mod OverFolders
 pub mod World
@@ -23,6 +26,5 @@ pub mod Transform
 pub mod Trial
 pub mod Generate
 pub mod CheckEnds
-pub mod Step
 pub mod Answers
 pub mod Completeness

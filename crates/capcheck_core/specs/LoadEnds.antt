@@ -30,6 +30,11 @@ abbrev pub LoadsRest : Folders → Folders → List ℕ → List Lent → Result
 LoadsRest before after dir first (Ok rest) = AreRest before dir first rest
 LoadsRest before after dir first (Err stop) = StopsParts before after dir stop
 
+-- the loads of all parts, by their answer
+abbrev pub LoadsParts : Folders → Folders → List ℕ → Result (List Lent) LoadStop → Type 0
+LoadsParts before after dir (Ok parts) = AreParts before dir parts
+LoadsParts before after dir (Err stop) = StopsParts before after dir stop
+
 -- the folders after loads: as before, unless one failed
 abbrev pub StopLeaves : Folders → Folders → LoadStop → Type 0
 StopLeaves before after (TooLong part) = after ≡ before

@@ -3,19 +3,19 @@ use Rattle.std.specs.Prelude.{◌≡◌, ℕ, List}
 use Rattle.cap_files.specs.Folder.{Folders}
 
 -- the words of the card's three memories
-pub record Card : Type 0 where
+pub record CardWords : Type 0 where
   pub ram : List ℕ
   pub heap : List ℕ
   pub statics : List ℕ
 
 pub record Outside : Type 0 where
   pub folders : Folders
-  pub card : Card
+  pub card : CardWords
 
-abbrev pub card : List ℕ → List ℕ → List ℕ → Card
-card ram heap statics = record { ram = ram; heap = heap; statics = statics }
+abbrev pub card_words : List ℕ → List ℕ → List ℕ → CardWords
+card_words ram heap statics = record { ram = ram; heap = heap; statics = statics }
 
-abbrev pub outside : Folders → Card → Outside
+abbrev pub outside : Folders → CardWords → Outside
 outside folders card = record { folders = folders; card = card }
 
 -- nothing is stored, no load fails, and the card's memory is as before

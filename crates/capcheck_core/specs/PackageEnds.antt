@@ -12,8 +12,7 @@ use Rattle.capcheck_core.specs.declared.packages.PackagesStop.{PackagesStop}
 use Rattle.capcheck_core.specs.declared.packages.PackagesStop.TheVariants.{TooMany, Malformed, Failed, Memory}
 use Rattle.capcheck_core.specs.declared.verdict.Verdict.{Verdict}
 use Rattle.capcheck_core.specs.declared.verdict.Verdict.TheVariants as verdicts
-use Rattle.capcheck_core.specs.Loads.{AreLoaded, FailsParts}
-use Rattle.capcheck_core.specs.LoadEnds.{AreRest}
+use Rattle.capcheck_core.specs.Loads.{AreParts, FailsParts}
 use Rattle.capcheck_core.specs.Roles.{AreRolesIn, LacksRoles, IsNoRoles, roles_key}
 use Rattle.capcheck_core.specs.Packages.{HasLongPart, LacksPackage}
 
@@ -52,18 +51,13 @@ RolesBeside before after dir (Some given) (Err stop) = ⊥
 
 -- ---- a package
 
--- the loads of the Header and the Directory of the package of a number, by their answer
-abbrev pub LoadsOpening : Folders → Folders → List ℕ → ℕ → Result (List Lent) PackagesStop → Type 0
-LoadsOpening before after dir number (Ok first) = AreLoaded before dir 3 first
-LoadsOpening before after dir number (Err (Malformed n fault)) = (n ≡ number) × HasLongPart before dir fault
-LoadsOpening before after dir number (Err Failed) = FailsParts before dir after
-LoadsOpening before after dir number (Err Memory) = Unit {0}
-LoadsOpening before after dir number (Err (TooMany count)) = ⊥
-
--- the loads of its other parts, by their answer
-abbrev pub LoadsOthers : Folders → Folders → List ℕ → ℕ → List Lent → Result (List Lent) PackagesStop → Type 0
-LoadsOthers before after dir number first (Ok rest) = AreRest before dir first rest
-LoadsOthers before after dir number first (Err stop) = LoadsOpening before after dir number (Err stop)
+-- the loads of the parts of the package of a number, by their answer
+abbrev pub LoadsFiles : Folders → Folders → List ℕ → ℕ → Result (List Lent) PackagesStop → Type 0
+LoadsFiles before after dir number (Ok parts) = AreParts before dir parts
+LoadsFiles before after dir number (Err (Malformed n fault)) = (n ≡ number) × HasLongPart before dir fault
+LoadsFiles before after dir number (Err Failed) = FailsParts before dir after
+LoadsFiles before after dir number (Err Memory) = Unit {0}
+LoadsFiles before after dir number (Err (TooMany count)) = ⊥
 
 -- the package of a number that parts stand for, by the answer
 abbrev pub ReadsPackage : List Lent → ℕ → Result PackageRecord PackagesStop → Type 0

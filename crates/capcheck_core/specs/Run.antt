@@ -19,7 +19,7 @@ use Rattle.capcheck_core.specs.declared.running.RunStop.{RunStop}
 use Rattle.capcheck_core.specs.declared.running.RunStop.TheVariants as stops
 use Rattle.capcheck_core.specs.declared.verdict.Verdict.{Verdict}
 use Rattle.capcheck_core.specs.declared.verdict.Verdict.TheVariants.{Done, Refused, Malformed, Memory}
-use Rattle.capcheck_core.specs.Outside.{Card, Outside}
+use Rattle.capcheck_core.specs.Outside.{CardWords, Outside}
 use Rattle.capcheck_core.specs.OverFolders.{OverFolders}
 use Rattle.capcheck_core.specs.World.{of_world, OverWorld}
 use Rattle.capcheck_core.specs.Verify.{HaveCardTypings, TellsRefused}
@@ -34,27 +34,27 @@ abbrev pub bounded_request : Bounded → RunRequest
 bounded_request b = with_budget b.steps (run_request b.run.now)
 
 -- the card's memory has the lengths that a run of any world needs
-pub record HasLengths (c : Card) : Type 0 where
+pub record HasLengths (c : CardWords) : Type 0 where
   pub ram : length c.ram ≡ 32832
   pub heap : length c.heap ≡ 45056
   pub statics : length c.statics ≡ 32768
 
 -- the memory holds the words of a state of the world: of its frames, of its objects, and of its static cells, which the first words of
 -- `statics` are
-pub record HoldsWords (w : Linked) (c : Card) (o : Outcome Cell) : Type 0 where
+pub record HoldsWords (w : Linked) (c : CardWords) (o : Outcome Cell) : Type 0 where
   pub counts : Counts
   pub laid : AreLaid w c.ram c.heap counts
   pub words : words_state w.methods c.ram c.heap (take (static_cells w) c.statics) counts ≡ erased (state_of o)
 
 -- the text tells what comes of the run, and the memory holds the words of the state that it leaves
-pub record IsLeft (w : Linked) (r : RunRequest) (c : Card) (text : List ℕ) : Type 0 where
+pub record IsLeft (w : Linked) (r : RunRequest) (c : CardWords) (text : List ℕ) : Type 0 where
   pub outcome : Outcome Cell
   pub comes : ComesTo w r outcome
   pub prints : text ≡ outcome_text tagged w outcome
   pub holds : HoldsWords w c outcome
 
 -- every method with code of all packages has a card typing, no run of any entry meets a fault, and this is what the run leaves
-pub record IsRun (w : Linked) (r : RunRequest) (c : Card) (text : List ℕ) : Type 0 where
+pub record IsRun (w : Linked) (r : RunRequest) (c : CardWords) (text : List ℕ) : Type 0 where
   pub carded : HaveCardTypings w
   pub fault_free : IsFaultFree w
   pub left : IsLeft w r c text
@@ -65,19 +65,19 @@ pub record IsNotRun (w : Linked) (r : RunRequest) (text : List ℕ) : Type 0 whe
   pub unbegun : IsUnbegun w r text
 
 -- the answers of a world once there is memory for the arguments and the text
-abbrev pub RunsWithMemory : Linked → RunRequest → Card → Verdict → Type 0
+abbrev pub RunsWithMemory : Linked → RunRequest → CardWords → Verdict → Type 0
 RunsWithMemory w r c (Done text) = IsRun w r c (string_bytes text)
 RunsWithMemory w r c (Refused text) = TellsRefused w (string_bytes text)
 RunsWithMemory w r c (Malformed text) = IsNotRun w r (string_bytes text)
 RunsWithMemory w r c _ = ⊥
 
 -- the answers of a world
-abbrev pub RunsWorldIn : Linked → RunRequest → Card → Verdict → Type 0
+abbrev pub RunsWorldIn : Linked → RunRequest → CardWords → Verdict → Type 0
 RunsWorldIn w r c Memory = Unit {0}
 RunsWorldIn w r c verdict = RunsWithMemory w r c verdict
 
 -- where nothing ran, the card's memory is as it was
-abbrev pub IsCardKept : Card → Card → Verdict → Type 0
+abbrev pub IsCardKept : CardWords → CardWords → Verdict → Type 0
 IsCardKept before after (Done text) = Unit {0}
 IsCardKept before after verdict = after ≡ before
 

@@ -83,3 +83,18 @@ pub record HasAllButHeader (dir header : List ℕ) (others : List Lent) (now : P
 abbrev pub HasHeaderLast : List ℕ → List ℕ → List Lent → Folders → Folders → Type 0
 HasHeaderLast dir header others before after = IfSome after.held (λ now. IsSomeAnd before.held (λ old.
     map.get old (header_tag ∷ dir) ≡ None → (map.get now (header_tag ∷ dir) ≡ None) ⊎ HasAllButHeader dir header others now))
+
+-- ---- the stores of a package, whatever its parts are
+
+-- these are the stores of parts of which this is true, with the roles where some are given
+pub record AreStoresOf (P : List Lent → Type 0) (given : Option (List ℕ)) (stores : List Lent) : Type 0 where
+  pub parts : List Lent
+  pub made : P parts
+  pub order : AreInStoreOrder parts given stores
+
+-- one of them failed
+pub record IsStoredInPart (P : List Lent → Type 0) (given : Option (List ℕ)) (dir : List ℕ) (before after : Folders) : Type 0 where
+  pub stores : List Lent
+  pub brings : AreStoresOf P given stores
+  pub broken : IsBrokenOff dir stores before after
+  pub last : HasHeaderLast dir brings.order.header (with_file brings.order.others roles_tag given) before after

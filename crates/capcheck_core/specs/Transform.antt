@@ -16,11 +16,9 @@ use Rattle.cap_text.specs.Transform.{TransformRequest}
 use Rattle.cap_text.specs.Transformed.{transformed_line, registers_limit_line, stack_limit_line, code_limit_line, part_limit_line}
 use Rattle.capcheck_core.specs.declared.verdict.Verdict.{Verdict}
 use Rattle.capcheck_core.specs.declared.verdict.Verdict.TheVariants.{Done, Refused, Limit, StoreFault, Memory}
-use Rattle.capcheck_core.specs.Loads.{with_file}
 use Rattle.capcheck_core.specs.Outside.{Outside}
 use Rattle.capcheck_core.specs.OverFolders.{OverFolders}
-use Rattle.capcheck_core.specs.Roles.{roles_tag}
-use Rattle.capcheck_core.specs.Stores.{AreInStoreOrder, AreStored, IsBrokenOff, HasHeaderLast}
+use Rattle.capcheck_core.specs.Stores.{AreStored, AreStoresOf, IsStoredInPart}
 use Rattle.capcheck_core.specs.Typed.{count_of_last, numbers_of_method}
 use Rattle.capcheck_core.specs.World.{Own, OverWorld}
 
@@ -31,10 +29,8 @@ abbrev pub roles_beside : List PackageRecord → List ℕ → Option (List ℕ)
 roles_beside packages roles = if length packages == 1 then Some roles else None
 
 -- these parts are stored: those of the last package in the form that a verifier on the card accepts
-pub record Brings (packages : List PackageRecord) (roles : List ℕ) (w : Linked) (stores : List Lent) : Type 0 where
-  pub parts : List Lent
-  pub made : IsTransformed packages roles w parts
-  pub order : AreInStoreOrder parts (roles_beside packages roles) stores
+abbrev pub Brings : List PackageRecord → List ℕ → Linked → List Lent → Type 0
+Brings packages roles w stores = AreStoresOf (IsTransformed packages roles w) (roles_beside packages roles) stores
 
 -- all are stored, and the text says how many methods with code the package has
 pub record IsBrought
@@ -46,14 +42,9 @@ pub record IsBrought
     pub prints : text ≡ transformed_line (count_of_last w)
 
 -- a store failed
-pub record IsBroughtInPart
-    (packages : List PackageRecord) (roles : List ℕ) (w : Linked) (out : List ℕ) (before after : Folders) : Type 0
-  where
-    pub stores : List Lent
-    pub brings : Brings packages roles w stores
-    pub broken : IsBrokenOff out stores before after
-    pub last : HasHeaderLast out brings.order.header (with_file brings.order.others roles_tag (roles_beside packages roles))
-        before after
+abbrev pub IsBroughtInPart : List PackageRecord → List ℕ → Linked → List ℕ → Folders → Folders → Type 0
+IsBroughtInPart packages roles w out before after =
+    IsStoredInPart (IsTransformed packages roles w) (roles_beside packages roles) out before after
 
 -- ---- why nothing is
 

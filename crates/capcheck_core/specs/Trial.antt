@@ -9,7 +9,7 @@ use Rattle.cap_text.specs.Run.{RunRequest}
 use Rattle.cap_text.specs.Trial.{trial_text}
 use Rattle.capcheck_core.specs.declared.verdict.Verdict.{Verdict}
 use Rattle.capcheck_core.specs.declared.verdict.Verdict.TheVariants.{Done, Malformed, Memory}
-use Rattle.capcheck_core.specs.Outside.{Card, Outside}
+use Rattle.capcheck_core.specs.Outside.{CardWords, Outside}
 use Rattle.capcheck_core.specs.OverFolders.{OverFolders}
 use Rattle.capcheck_core.specs.World.{Own, OverWorld}
 use Rattle.capcheck_core.specs.Defend.{IsDefended, IsUnbegun}
@@ -22,19 +22,20 @@ steps_each = 2000
 
 -- the last package has a form that a verifier on the card accepts. The text tells what comes of the run of its source, on a machine that
 -- tests what it does, and then what comes of the run of the new one; the memory holds what this leaves
-pub record IsTried (packages : List PackageRecord) (roles : List ℕ) (w : Linked) (r : RunRequest) (c : Card) (text : List ℕ) : Type
-    0 where
-  pub parts : List Lent
-  pub made : IsTransformed packages roles w parts
-  pub source : List ℕ
-  pub defended : IsDefended w r source
-  pub target : List ℕ
-  pub run : IsRun made.world (with_budget (steps_each * r.budget) r) c target
-  pub prints : text ≡ trial_text source target
+pub record IsTried
+    (packages : List PackageRecord) (roles : List ℕ) (w : Linked) (r : RunRequest) (c : CardWords) (text : List ℕ) : Type 0
+  where
+    pub parts : List Lent
+    pub made : IsTransformed packages roles w parts
+    pub source : List ℕ
+    pub defended : IsDefended w r source
+    pub target : List ℕ
+    pub run : IsRun made.keeps.world (with_budget (steps_each * r.budget) r) c target
+    pub prints : text ≡ trial_text source target
 
 -- the parts are those of the last package in such a form, and this is the world that they make with the libraries
 abbrev pub HasNew : List PackageRecord → List ℕ → Linked → List Lent → Linked → Type 0
-HasNew packages roles w parts new = (made : IsTransformed packages roles w parts) × (made.world ≡ new)
+HasNew packages roles w parts new = (made : IsTransformed packages roles w parts) × (made.keeps.world ≡ new)
 
 -- it has such a form, but the run of its source does not begin, and the text tells the first reason
 pub record IsUntried (packages : List PackageRecord) (roles : List ℕ) (w : Linked) (r : RunRequest) (text : List ℕ) : Type 0 where
@@ -49,13 +50,13 @@ IsDoneOrMemory Memory = Unit {0}
 IsDoneOrMemory _ = ⊥
 
 -- the answers of a world
-abbrev pub TriesIn : List PackageRecord → List ℕ → Linked → RunRequest → Card → Verdict → Type 0
+abbrev pub TriesIn : List PackageRecord → List ℕ → Linked → RunRequest → CardWords → Verdict → Type 0
 TriesIn packages roles w r c (Done text) = IsTried packages roles w r c (string_bytes text)
 TriesIn packages roles w r c (Malformed text) = IsUntried packages roles w r (string_bytes text)
 TriesIn packages roles w r c verdict = StopsBefore packages w verdict
 
 -- where nothing ran in it, the card's memory is as it was; there may be no memory for the text that tells of both runs
-abbrev pub IsUntriedKept : List PackageRecord → List ℕ → Linked → RunRequest → Card → Card → Verdict → Type 0
+abbrev pub IsUntriedKept : List PackageRecord → List ℕ → Linked → RunRequest → CardWords → CardWords → Verdict → Type 0
 IsUntriedKept packages roles w r before after (Done text) = Unit {0}
 IsUntriedKept packages roles w r before after Memory = (after ≡ before) ⊎ ((text : List ℕ) × IsTried packages roles w r after text)
 IsUntriedKept packages roles w r before after verdict = after ≡ before

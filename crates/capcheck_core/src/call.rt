@@ -2,16 +2,25 @@ ghost use Rattle.std.specs.Prelude.{◌≡◌, length};
 ghost use Rattle.cap_text.specs.Request.{request_of};
 ghost use Rattle.capcheck_core.specs.Answers.{Answers, IsVerdict};
 ghost use Rattle.capcheck_core.specs.Completeness.{Completes};
-ghost use Rattle.capcheck_core.specs.Outside.{outside, card};
+ghost use Rattle.capcheck_core.specs.Headline.{Promises};
+ghost use Rattle.capcheck_core.specs.LentCard.{IsSameCard, words_of};
+ghost use Rattle.capcheck_core.specs.Outside.{outside, card_words};
 ghost use Rattle.capcheck_core.specs.Report.{IsReported, seen};
 ghost use Rattle.capcheck_core.specs.Run.{HasLengths};
 ghost use Rattle.capcheck_core.specs.declared.verdict.Verdict.{Verdict};
 
+use crate::card::Card;
+use crate::carding::VerifyStep;
+use crate::defending::DefendStep;
 use crate::generating::generate_and_run;
+use crate::package_step::over_package;
 use crate::probe::probe;
 use crate::report::report;
-use crate::show::show;
-use crate::step::Step;
+use crate::running::RunStep;
+use crate::show::ShowStep;
+use crate::transforming::TransformStep;
+use crate::trying::TrialStep;
+use crate::typing::CheckStep;
 use crate::verdict::Verdict;
 use crate::world::over_folders;
 use cap_files::{Folder, Sink, Words};
@@ -32,36 +41,61 @@ pub fn capcheck<F: Folder, K: Sink>(
     requires ram { length ram.old ≡ 32832 }
     requires heap { length heap.old ≡ 45056 }
     requires statics { length statics.old ≡ 32768 }
+    ensures promised { Promises words.now
+        (outside (F.folders folder.old) (card_words ram.old heap.old statics.old))
+        (outside (F.folders folder.new) (card_words ram.new heap.new statics.new))
+        (seen (K.received out.old) (K.faults out.old)) (seen (K.received out.new) (K.faults out.new)) result }
     ensures answered { (verdict : Verdict)
         × IsVerdict words.now
-        (outside (F.folders folder.old) (card ram.old heap.old statics.old))
-        (outside (F.folders folder.new) (card ram.new heap.new statics.new)) verdict
+        (outside (F.folders folder.old) (card_words ram.old heap.old statics.old))
+        (outside (F.folders folder.new) (card_words ram.new heap.new statics.new)) verdict
         × IsReported verdict
         (seen (K.received out.old) (K.faults out.old)) (seen (K.received out.new) (K.faults out.new)) result }
     ensures complete { Completes words.now (F.folders folder.old) (F.folders folder.new)
         (seen (K.received out.old) (K.faults out.old)) (seen (K.received out.new) (K.faults out.new)) result }
 {
-    let verdict = answer(alloc, words, folder, ram, heap, statics);
+    let mut card = Card { ram, heap, statics };
+    in_card(alloc, words, folder, out, &mut card)
+}
+
+// The same in the memory of a card that is lent as one.
+fn in_card<F: Folder, K: Sink>(
+    alloc: Global,
+    words: &Words,
+    folder: &mut F,
+    out: &mut K,
+    card: &mut Card<'_>,
+) -> u8
+    requires { HasLengths (words_of card.old) }
+    ensures promised { Promises words.now
+        (outside (F.folders folder.old) (words_of card.old))
+        (outside (F.folders folder.new) (words_of card.new))
+        (seen (K.received out.old) (K.faults out.old)) (seen (K.received out.new) (K.faults out.new)) result }
+    ensures answered { (verdict : Verdict)
+        × IsVerdict words.now
+        (outside (F.folders folder.old) (words_of card.old))
+        (outside (F.folders folder.new) (words_of card.new)) verdict
+        × IsReported verdict
+        (seen (K.received out.old) (K.faults out.old)) (seen (K.received out.new) (K.faults out.new)) result }
+    ensures complete { Completes words.now (F.folders folder.old) (F.folders folder.new)
+        (seen (K.received out.old) (K.faults out.old)) (seen (K.received out.new) (K.faults out.new)) result }
+    ensures same { IsSameCard card.old card.new }
+{
+    let verdict = answer(alloc, words, folder, card);
     report(out, &verdict)
 }
 
 // What the command that the words spell decides.
 #[tactic(auto, using(crate::proofs::Verdicts::asked, crate::proofs::Verdicts::without_memory))]
-fn answer<F: Folder>(
-    alloc: Global,
-    words: &Words,
-    folder: &mut F,
-    ram: &mut [u16],
-    heap: &mut [u16],
-    statics: &mut [u16],
-) -> Verdict
-    requires { HasLengths (card ram.old heap.old statics.old) }
-    ensures { IsVerdict words.now
-        (outside (F.folders folder.old) (card ram.old heap.old statics.old))
-        (outside (F.folders folder.new) (card ram.new heap.new statics.new)) result }
+fn answer<F: Folder>(alloc: Global, words: &Words, folder: &mut F, card: &mut Card<'_>) -> Verdict
+    requires { HasLengths (words_of card.old) }
+    ensures is { IsVerdict words.now
+        (outside (F.folders folder.old) (words_of card.old))
+        (outside (F.folders folder.new) (words_of card.new)) result }
+    ensures same { IsSameCard card.old card.new }
 {
     match read_command(alloc, words) {
-        Ok(Some(command)) => perform(alloc, &command, folder, ram, heap, statics),
+        Ok(Some(command)) => perform(alloc, &command, folder, card),
         Ok(None) => Verdict::Usage,
         Err(_) => Verdict::Memory,
     }
@@ -72,32 +106,25 @@ fn perform<F: Folder>(
     alloc: Global,
     command: &Command<'_>,
     folder: &mut F,
-    ram: &mut [u16],
-    heap: &mut [u16],
-    statics: &mut [u16],
+    card: &mut Card<'_>,
 ) -> Verdict
-    requires { HasLengths (card ram.old heap.old statics.old) }
-    ensures { Answers (request_of command.now)
-        (outside (F.folders folder.old) (card ram.old heap.old statics.old))
-        (outside (F.folders folder.new) (card ram.new heap.new statics.new)) result }
+    requires { HasLengths (words_of card.old) }
+    ensures answers { Answers (request_of command.now)
+        (outside (F.folders folder.old) (words_of card.old))
+        (outside (F.folders folder.new) (words_of card.new)) result }
+    ensures same { IsSameCard card.old card.new }
 {
     match command {
         Command::Probe(operands) => probe(alloc, folder, operands),
-        Command::Show(operands) => show(alloc, folder, operands),
-        Command::Check(check) => {
-            over_folders(alloc, Step::Check(check), folder, ram, heap, statics)
-        }
-        Command::Verify(verify) => {
-            over_folders(alloc, Step::Verify(verify), folder, ram, heap, statics)
-        }
-        Command::Defend(run) => over_folders(alloc, Step::Defend(run), folder, ram, heap, statics),
-        Command::Run(run) => over_folders(alloc, Step::Run(run), folder, ram, heap, statics),
+        Command::Show(show) => over_package(alloc, &ShowStep, show.dir, folder),
+        Command::Check(check) => over_folders(alloc, &CheckStep, check.dirs, folder, card),
+        Command::Verify(verify) => over_folders(alloc, &VerifyStep, verify.dirs, folder, card),
+        Command::Defend(run) => over_folders(alloc, &DefendStep { run }, run.dirs, folder, card),
+        Command::Run(run) => over_folders(alloc, &RunStep { run }, run.dirs, folder, card),
         Command::Transform(asked) => {
-            over_folders(alloc, Step::Transform(asked), folder, ram, heap, statics)
+            over_folders(alloc, &TransformStep { asked }, asked.dirs, folder, card)
         }
-        Command::Trial(run) => over_folders(alloc, Step::Trial(run), folder, ram, heap, statics),
-        Command::Generate(operands) => {
-            generate_and_run(alloc, operands, folder, ram, heap, statics)
-        }
+        Command::Trial(run) => over_folders(alloc, &TrialStep { run }, run.dirs, folder, card),
+        Command::Generate(operands) => generate_and_run(alloc, operands, folder, card),
     }
 }

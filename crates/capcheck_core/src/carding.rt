@@ -3,8 +3,12 @@ ghost use Rattle.cap_index.specs.Indexes.{has_code};
 ghost use Rattle.card_verify.specs.Answers.{AreAccepted, IsFirstRefused};
 ghost use Rattle.capcheck_core.specs.Verify.{count_of_world, StopsAtRefused, AcceptsWorld};
 
+use crate::card::Card;
+use crate::step::LastStep;
 use crate::typing::number_of;
 use crate::verdict::Verdict;
+use cap_files::Folder;
+use cap_package::Packages;
 use cap_text::{accepted, refused_card};
 use card_typing::CardFault;
 use card_verify::{CardRoom, accept};
@@ -12,9 +16,32 @@ use jc_base::World;
 use law_sound::typed_code_never_fails;
 use std::alloc::Global;
 
-/// Verifies each method with code of all packages of a world, in the room of a card.
+/// The last step of `verify`: it verifies each method with code of all packages as a card does.
+#[derive(Clone, Copy)]
+pub(crate) struct VerifyStep;
+
+impl LastStep for VerifyStep {
+    ghost use Rattle.capcheck_core.specs.Verify.{VerifiesWorld};
+    ghost use Rattle.capcheck_core.specs.World.{of_world};
+
+    ghost own = { λ _. of_world VerifiesWorld };
+
+    fn take<F: Folder>(
+        &self,
+        alloc: Global,
+        _packages: &Packages<'_, '_>,
+        _roles: [u8; 8],
+        world: &World<'_>,
+        _folder: &mut F,
+        _card: &mut Card<'_>,
+    ) -> Verdict {
+        verify_methods(alloc, world)
+    }
+}
+
+// Verifies each method with code of all packages of a world, in the room of a card.
 #[tactic(auto, using(crate::proofs::Cardings::refused_world))]
-pub fn verify_methods(alloc: Global, world: &World<'_>) -> Verdict
+pub(crate) fn verify_methods(alloc: Global, world: &World<'_>) -> Verdict
     ensures { AcceptsWorld world.now result }
 {
     let mut room = CardRoom::new();

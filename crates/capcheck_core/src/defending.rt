@@ -6,13 +6,43 @@ ghost use Rattle.vm_defend.specs.Begun.{IsBegun};
 ghost use Rattle.vm_defend.specs.Held.{IsRunOf};
 ghost use Rattle.capcheck_core.specs.Defend.{method_entered, RunsDefended};
 
+use crate::card::Card;
+use crate::step::LastStep;
 use crate::verdict::Verdict;
+use cap_files::Folder;
+use cap_package::Packages;
 use cap_text::{Entry, OwnedArg, Run, not_started};
 use jc_base::World;
 use std::alloc::{AllocError, Global};
 use vm_defend::{StartEnd, State, start};
 use vm_step::{Args, StartFault};
 use vm_text::{room, write_run};
+
+/// The last step of `defend`: it runs an entry of the last package on the machine that tests what it does.
+#[derive(Clone, Copy)]
+pub(crate) struct DefendStep<'a> {
+    pub run: &'a Run<'a>,
+}
+
+impl LastStep for DefendStep<'_> {
+    ghost use Rattle.cap_text.specs.Run.{run_request};
+    ghost use Rattle.capcheck_core.specs.Defend.{DefendsWorld};
+    ghost use Rattle.capcheck_core.specs.World.{of_world};
+
+    ghost own = { λ s. of_world (DefendsWorld (run_request s.run.now)) };
+
+    fn take<F: Folder>(
+        &self,
+        alloc: Global,
+        _packages: &Packages<'_, '_>,
+        _roles: [u8; 8],
+        world: &World<'_>,
+        _folder: &mut F,
+        _card: &mut Card<'_>,
+    ) -> Verdict {
+        defend(alloc, world, self.run)
+    }
+}
 
 /// Runs an entry of the last package of a world on the machine that tests what it does.
 pub(crate) fn defend(alloc: Global, world: &World<'_>, run: &Run<'_>) -> Verdict

@@ -7,10 +7,12 @@ ghost use Rattle.jc_link.specs.World.{IsLinked};
 ghost use Rattle.vm_offend.specs.Sized.{AreSized};
 ghost use Rattle.xf_pack.specs.Transformed.{IsTransformed};
 ghost use Rattle.capcheck_core.specs.Generate.{generated, run_of, short_ended, AreRun, GeneratesIn, Generates, BeginsRun, HaveEntries, IsKeptOrBegun, IsNew, ComesOfRun, IsSumOfShorts, RunsAll, TellsParts};
-ghost use Rattle.capcheck_core.specs.Outside.{outside, card};
+ghost use Rattle.capcheck_core.specs.LentCard.{IsSameCard, words_of};
+ghost use Rattle.capcheck_core.specs.Outside.{outside, card_words};
 ghost use Rattle.capcheck_core.specs.Run.{HasLengths};
 ghost use Rattle.capcheck_core.specs.Verify.{HaveCardTypings};
 
+use crate::card::Card;
 use crate::defending::method_entered;
 use crate::running::field_words;
 use crate::storing::{in_order, store_parts};
@@ -42,14 +44,13 @@ pub(crate) fn generate_and_run<F: Folder>(
     alloc: Global,
     operands: &Generate<'_>,
     folder: &mut F,
-    ram: &mut [u16],
-    heap: &mut [u16],
-    statics: &mut [u16],
+    card: &mut Card<'_>,
 ) -> Verdict
-    requires { HasLengths (card ram.old heap.old statics.old) }
-    ensures { Generates (generate_request operands.now)
-        (outside (F.folders folder.old) (card ram.old heap.old statics.old))
-        (outside (F.folders folder.new) (card ram.new heap.new statics.new)) result }
+    requires lengths { HasLengths (words_of card.old) }
+    ensures answers { Generates (generate_request operands.now)
+        (outside (F.folders folder.old) (words_of card.old))
+        (outside (F.folders folder.new) (words_of card.new)) result }
+    ensures same { IsSameCard card.old card.new }
 {
     let Ok(parts) = generate(alloc, operands.seed) else {
         return Verdict::Memory;
@@ -65,9 +66,7 @@ pub(crate) fn generate_and_run<F: Folder>(
         return Verdict::Memory;
     };
     match link(alloc, &packages, ROLES) {
-        Ok(world) => bring(
-            alloc, operands, &packages, &world, size, folder, ram, heap, statics,
-        ),
+        Ok(world) => bring(alloc, operands, &packages, &world, size, folder, card),
         Err(LinkEnd::Fault(_)) => unreachable!(),
         Err(LinkEnd::Memory) => Verdict::Memory,
     }
@@ -90,23 +89,20 @@ fn bring<F: Folder>(
     world: &World<'_>,
     size: usize,
     folder: &mut F,
-    ram: &mut [u16],
-    heap: &mut [u16],
-    statics: &mut [u16],
+    card: &mut Card<'_>,
 ) -> Verdict
-    requires card { HasLengths (card ram.old heap.old statics.old) }
+    requires lengths { HasLengths (words_of card.old) }
     requires packages { packages.now ≡ generated operands.now.seed }
     requires linked { IsLinked packages.now roles world.now }
     requires size { size ≡ length (method_info operands.now.seed) }
-    ensures { GeneratesIn (generate_request operands.now) world.now
-        (outside (F.folders folder.old) (card ram.old heap.old statics.old))
-        (outside (F.folders folder.new) (card ram.new heap.new statics.new)) result }
+    ensures answers { GeneratesIn (generate_request operands.now) world.now
+        (outside (F.folders folder.old) (words_of card.old))
+        (outside (F.folders folder.new) (words_of card.new)) result }
+    ensures same { IsSameCard card.old card.new }
 {
     packages_link();
     match transform_linked(alloc, packages, ROLES, world) {
-        Ok(parts) => store(
-            alloc, operands, world, &parts, size, folder, ram, heap, statics,
-        ),
+        Ok(parts) => store(alloc, operands, world, &parts, size, folder, card),
         Err(end) => untransformed(alloc, packages, world, end),
     }
 }
@@ -119,23 +115,22 @@ fn store<F: Folder>(
     parts: &OwnedParts,
     size: usize,
     folder: &mut F,
-    ram: &mut [u16],
-    heap: &mut [u16],
-    statics: &mut [u16],
+    card: &mut Card<'_>,
 ) -> Verdict
-    requires card { HasLengths (card ram.old heap.old statics.old) }
+    requires lengths { HasLengths (words_of card.old) }
     requires linked { IsLinked (generated operands.now.seed) roles world.now }
     requires made { IsTransformed (generated operands.now.seed) roles world.now parts.now }
     requires size { size ≡ length (method_info operands.now.seed) }
-    ensures { GeneratesIn (generate_request operands.now) world.now
-        (outside (F.folders folder.old) (card ram.old heap.old statics.old))
-        (outside (F.folders folder.new) (card ram.new heap.new statics.new)) result }
+    ensures answers { GeneratesIn (generate_request operands.now) world.now
+        (outside (F.folders folder.old) (words_of card.old))
+        (outside (F.folders folder.new) (words_of card.new)) result }
+    ensures same { IsSameCard card.old card.new }
 {
     let Ok(stores) = in_order(alloc, parts, Some(&ROLES)) else {
         return Verdict::Memory;
     };
     match store_parts(folder, operands.out, &stores) {
-        Ok(()) => run_stored(alloc, operands.seed, world, parts, size, ram, heap, statics),
+        Ok(()) => run_stored(alloc, operands.seed, world, parts, size, card),
         Err(_) => Verdict::StoreFault,
     }
 }
@@ -148,16 +143,15 @@ fn run_stored(
     world: &World<'_>,
     parts: &OwnedParts,
     size: usize,
-    ram: &mut [u16],
-    heap: &mut [u16],
-    statics: &mut [u16],
+    card: &mut Card<'_>,
 ) -> Verdict
-    requires card { HasLengths (card ram.old heap.old statics.old) }
+    requires lengths { HasLengths (words_of card.old) }
     requires linked { IsLinked (generated seed) roles world.now }
     requires made { IsTransformed (generated seed) roles world.now parts.now }
     requires size { size ≡ length (method_info seed) }
-    ensures { TellsParts seed world.now parts.now (card ram.old heap.old statics.old)
-        (card ram.new heap.new statics.new) result }
+    ensures answers { TellsParts seed world.now parts.now (words_of card.old)
+        (words_of card.new) result }
+    ensures same { IsSameCard card.old card.new }
 {
     let Ok(lent) = parts.lend(alloc) else {
         return Verdict::Memory;
@@ -168,9 +162,7 @@ fn run_stored(
         return Verdict::Memory;
     };
     match link(alloc, &packages, ROLES) {
-        Ok(new) => run_new(
-            alloc, seed, world, parts, &new, size, made_size, ram, heap, statics,
-        ),
+        Ok(new) => run_new(alloc, seed, world, parts, &new, size, made_size, card),
         Err(LinkEnd::Fault(_)) => unreachable!(),
         Err(LinkEnd::Memory) => Verdict::Memory,
     }
@@ -185,20 +177,19 @@ fn run_new(
     new: &World<'_>,
     size: usize,
     made_size: usize,
-    ram: &mut [u16],
-    heap: &mut [u16],
-    statics: &mut [u16],
+    card: &mut Card<'_>,
 ) -> Verdict
-    requires card { HasLengths (card ram.old heap.old statics.old) }
+    requires lengths { HasLengths (words_of card.old) }
     requires linked { IsLinked (generated _seed) roles world.now }
     requires made { IsNew _seed world.now _parts.now new.now made_size }
     requires size { size ≡ length (method_info _seed) }
-    ensures { TellsParts _seed world.now _parts.now (card ram.old heap.old statics.old)
-        (card ram.new heap.new statics.new) result }
+    ensures answers { TellsParts _seed world.now _parts.now (words_of card.old)
+        (words_of card.new) result }
+    ensures same { IsSameCard card.old card.new }
 {
     starts_refuse_alike(world);
     let _whole = world.classes();
-    match sum_of(alloc, new, ram, heap, statics) {
+    match sum_of(alloc, new, card.ram, card.heap, card.statics) {
         Ok(sum) => Verdict::done(generated(alloc, size, made_size, sum)),
         Err(_) => Verdict::Memory,
     }
@@ -213,11 +204,12 @@ fn sum_of(
     heap: &mut [u16],
     statics: &mut [u16],
 ) -> Result<i32, AllocError>
-    requires card { HasLengths (card ram.old heap.old statics.old) }
+    requires card { HasLengths (card_words ram.old heap.old statics.old) }
     requires carded { HaveCardTypings world.now }
     requires entries { HaveEntries world.now }
-    ensures runs { IfOk result (RunsAll world.now (card ram.new heap.new statics.new)) }
-    ensures begun { OnErr result (IsKeptOrBegun world.now (card ram.old heap.old statics.old) (card ram.new heap.new statics.new)) }
+    ensures runs { IfOk result (RunsAll world.now (card_words ram.new heap.new statics.new)) }
+    ensures begun { OnErr result
+        (IsKeptOrBegun world.now (card_words ram.old heap.old statics.old) (card_words ram.new heap.new statics.new)) }
 {
     typed_code_never_fails(world);
     let mut room = CardRoom::new();
@@ -244,8 +236,9 @@ fn run_all(
 ) -> Result<i32, AllocError>
     requires entries { HaveEntries accepted.now }
     requires sized { AreSized accepted.now ram.old heap.old statics.old }
-    ensures runs { IfOk result (AreRun accepted.now (card ram.new heap.new statics.new)) }
-    ensures begun { OnErr result (IsKeptOrBegun accepted.now (card ram.old heap.old statics.old) (card ram.new heap.new statics.new)) }
+    ensures runs { IfOk result (AreRun accepted.now (card_words ram.new heap.new statics.new)) }
+    ensures begun { OnErr result
+        (IsKeptOrBegun accepted.now (card_words ram.old heap.old statics.old) (card_words ram.new heap.new statics.new)) }
     ensures length { length statics.new ≡ length statics.old }
 {
     let mut sum = 0i32;
@@ -289,7 +282,7 @@ fn run_method(
     requires entry { BeginsRun accepted.now number }
     requires handed { args.now ≡ (run_of number).args }
     requires sized { AreSized accepted.now ram.old heap.old statics.old }
-    ensures run { ComesOfRun accepted.now number (card ram.new heap.new statics.new) result }
+    ensures run { ComesOfRun accepted.now number (card_words ram.new heap.new statics.new) result }
     ensures sized { AreSized accepted.now ram.new heap.new statics.new }
 {
     let entry = Entry {

@@ -4,14 +4,17 @@
 #![tactic(auto)]
 
 mod call;
+mod card;
 mod carding;
 mod defending;
 mod generating;
 mod load;
 mod method_file;
+mod package_step;
 mod packages;
 mod probe;
 mod report;
+mod rest;
 mod running;
 mod shorts;
 mod show;

@@ -4,14 +4,15 @@ ghost use Rattle.cap_components.specs.Openings.{GivesOpening};
 ghost use Rattle.cap_frame.specs.Directory.{directory_items, size_in};
 ghost use Rattle.cap_package.specs.Parts.{held, HasEachOnce};
 ghost use Rattle.capcheck_core.specs.Loads.{is_required, is_optional, is_some_size, is_sized, is_asked, AreLoaded};
-ghost use Rattle.capcheck_core.specs.LoadEnds.{LoadsFile, LoadsFirst, LoadsRest, EndsAsked, EndsSized, LoadsLeave};
+ghost use Rattle.capcheck_core.specs.LoadEnds.{LoadsFile, LoadsFirst, LoadsRest, LoadsParts, EndsAsked, EndsSized, LoadsLeave};
 
 use cap_bytes::Part;
-use cap_components::{Opening, PackFault};
+use cap_components::{Opening, PackFault, opening_in};
 use cap_files::{Folder, LoadEnd};
 use cap_frame::Directory;
 use cap_package::{OwnedParts, Parts};
 use std::alloc::{AllocError, Global};
+use std::marker::Model;
 
 /// The tag of the Header.
 const HEADER: Part = Part(1);
@@ -47,12 +48,53 @@ impl From<AllocError> for LoadStop {
     }
 }
 
-/// The Header and the Directory in a package's folder, where they are there: they tell what else is asked for.
-pub fn load_first<F: Folder>(
-    alloc: Global,
-    folder: &mut F,
-    dir: &str,
-) -> Result<OwnedParts, LoadStop>
+/// The files of a package's folder as they were loaded: the Header and the Directory, and then the others.
+#[derive(Drop)]
+pub struct Files {
+    first: OwnedParts,
+    rest: OwnedParts,
+}
+
+impl Model for Files {
+    ghost use Rattle.std.specs.Prelude.{List};
+    ghost use Rattle.cap_package.specs.Parts.{Lent};
+
+    ghost Value = { List Lent };
+
+    ghost use Rattle.std.specs.Prelude.{◌++◌};
+    ghost use Rattle.cap_package.specs.Parts.{HasEachOnce};
+
+    ghost view = { λ f. f.first ++ f.rest };
+
+    ghost invariant = { λ f. HasEachOnce (f.first ++ f.rest) };
+}
+
+impl Files {
+    /// The files as parts, in the order of their tags.
+    pub fn lend(&self, alloc: Global) -> Result<Parts<'_>, AllocError>
+        ensures { IfOk result (λ parts. parts ≡ self.now) }
+    {
+        let first = self.first.lend(alloc)?;
+        lend_after(&self.rest, first)
+    }
+}
+
+/// The files of a package's folder by rising tag (sections 6.1 and 6.4 of the specification): the Header and the
+/// Directory, those that every package has, and those to which the Directory gives a size that is not 0, where they are
+/// there.
+pub fn load_parts<F: Folder>(alloc: Global, folder: &mut F, dir: &str) -> Result<Files, LoadStop>
+    ensures loads { LoadsParts (F.folders folder.old) (F.folders folder.new) dir.now result }
+    ensures folders { LoadsLeave (F.folders folder.old) (F.folders folder.new) result }
+{
+    let first = load_first(alloc, folder, dir)?;
+    match load_others(alloc, folder, dir, &first) {
+        Ok(rest) => Ok(Files { first, rest }),
+        Err(stop) => Err(stop),
+    }
+}
+
+// The Header and the Directory, where they are there: they tell what else is asked for.
+fn load_first<F: Folder>(alloc: Global, folder: &mut F, dir: &str) -> Result<OwnedParts, LoadStop>
     ensures loads { LoadsFirst (F.folders folder.old) (F.folders folder.new) dir.now result }
     ensures folders { LoadsLeave (F.folders folder.old) (F.folders folder.new) result }
 {
@@ -64,10 +106,25 @@ pub fn load_first<F: Folder>(
     }
 }
 
-/// The other parts of a package's folder, by rising tag: those that every package has, and those to which the
-/// Directory, as it was read from the first ones, gives a size that is not 0, where they are there (sections 6.1 and
-/// 6.4 of the specification).
-pub fn load_rest<F: Folder>(
+// The other parts, by what the first ones say.
+fn load_others<F: Folder>(
+    alloc: Global,
+    folder: &mut F,
+    dir: &str,
+    first: &OwnedParts,
+) -> Result<OwnedParts, LoadStop>
+    requires { AreLoaded (F.folders folder.old) dir.now 3 first.now }
+    ensures loads { LoadsRest (F.folders folder.old) (F.folders folder.new) dir.now first.now result }
+    ensures folders { LoadsLeave (F.folders folder.old) (F.folders folder.new) result }
+{
+    let opened = first.lend(alloc)?;
+    let opening = opening_in(&opened);
+    load_rest(alloc, folder, dir, &opened, &opening)
+}
+
+// The same by what was read of the first ones: those that every package has, and those to which the Directory gives a
+// size that is not 0.
+fn load_rest<F: Folder>(
     alloc: Global,
     folder: &mut F,
     dir: &str,
@@ -118,8 +175,8 @@ fn load_file<F: Folder>(
     }
 }
 
-/// A borrowed list, and after it another one.
-pub fn lend_after<'a>(more: &'a OwnedParts, parts: Parts<'a>) -> Result<Parts<'a>, AllocError>
+// A borrowed list, and after it another one.
+fn lend_after<'a>(more: &'a OwnedParts, parts: Parts<'a>) -> Result<Parts<'a>, AllocError>
     requires { HasEachOnce (parts ++ more.now) }
     ensures { IfOk result (λ all. all ≡ parts.entry ++ more.now) }
 {

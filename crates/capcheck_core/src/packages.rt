@@ -1,18 +1,15 @@
 ghost use Rattle.std.specs.Prelude.{◌≡◌, ◌≢◌, ◌≤◌, length, min};
 ghost use Rattle.cap_files.specs.WordsLeft.{words_left};
 ghost use Rattle.cap_components.specs.declared.fault.PackFault.TheVariants.{PartTooLong};
-ghost use Rattle.cap_components.specs.Openings.{GivesOpening};
 ghost use Rattle.capcheck_core.specs.declared.packages.PackagesStop.TheVariants.{Malformed};
-ghost use Rattle.capcheck_core.specs.Loads.{AreLoaded};
 ghost use Rattle.capcheck_core.specs.Roles.{IsNoRoles};
-ghost use Rattle.capcheck_core.specs.PackageEnds.{ReadsRoles, RolesBeside, LoadsRoles, LoadsOpening, LoadsOthers, ReadsPackage, PackagesLeave, IsStop};
+ghost use Rattle.capcheck_core.specs.PackageEnds.{ReadsRoles, RolesBeside, LoadsRoles, LoadsFiles, ReadsPackage, PackagesLeave, IsStop};
 
-use crate::load::{LoadStop, load_first, load_rest};
+use crate::load::{Files, LoadStop, load_parts};
 use crate::verdict::Verdict;
 use cap_bytes::{FormFault, FormKind, Part};
-use cap_components::Opening;
 use cap_files::{Folder, LoadEnd, WordsIter};
-use cap_package::{OwnedParts, PackFault, Package, Parts, package_opened};
+use cap_package::{PackFault, Package, Parts, package};
 use cap_text::{malformed, not_linked};
 use jc_link::LinkFault;
 use std::alloc::{AllocError, Global};
@@ -77,40 +74,18 @@ pub(crate) fn count_of(dirs: WordsIter<'_>) -> u32
     count
 }
 
-/// The Header and the Directory of the package of a number.
-pub(crate) fn load_opening<F: Folder>(
+/// The files of the package of a number.
+pub(crate) fn load_files<F: Folder>(
     alloc: Global,
     folder: &mut F,
     dir: &str,
     number: u16,
-) -> Result<OwnedParts, PackagesStop>
-    ensures loads { LoadsOpening (F.folders folder.old) (F.folders folder.new) dir.now number result }
+) -> Result<Files, PackagesStop>
+    ensures loads { LoadsFiles (F.folders folder.old) (F.folders folder.new) dir.now number result }
     ensures folders { PackagesLeave (F.folders folder.old) (F.folders folder.new) result }
 {
-    match load_first(alloc, folder, dir) {
-        Ok(first) => Ok(first),
-        Err(LoadStop::TooLong(part)) => Err(too_long(number, part)),
-        Err(LoadStop::Failed) => Err(PackagesStop::Failed),
-        Err(LoadStop::Memory) => Err(PackagesStop::Memory),
-    }
-}
-
-/// The other parts of the package of a number, by what was read of its Header and Directory.
-pub(crate) fn load_others<F: Folder>(
-    alloc: Global,
-    folder: &mut F,
-    dir: &str,
-    number: u16,
-    first: &Parts<'_>,
-    opening: &Result<Opening<'_>, PackFault>,
-) -> Result<OwnedParts, PackagesStop>
-    requires first { AreLoaded (F.folders folder.old) dir.now 3 first.now }
-    requires opening { GivesOpening first.now opening.now }
-    ensures loads { LoadsOthers (F.folders folder.old) (F.folders folder.new) dir.now number first.now result }
-    ensures folders { PackagesLeave (F.folders folder.old) (F.folders folder.new) result }
-{
-    match load_rest(alloc, folder, dir, first, opening) {
-        Ok(rest) => Ok(rest),
+    match load_parts(alloc, folder, dir) {
+        Ok(files) => Ok(files),
         Err(LoadStop::TooLong(part)) => Err(too_long(number, part)),
         Err(LoadStop::Failed) => Err(PackagesStop::Failed),
         Err(LoadStop::Memory) => Err(PackagesStop::Memory),
@@ -124,16 +99,14 @@ fn too_long(number: u16, part: Part) -> PackagesStop
     PackagesStop::Malformed(number, PackFault::PartTooLong(part.0))
 }
 
-/// The package of a number that the parts stand for, of which the Header and the Directory were read.
-pub(crate) fn read_parts<'p, 'a>(
+/// The package of a number that the parts stand for.
+pub(crate) fn read_package<'p, 'a>(
     parts: &'p Parts<'a>,
-    opening: Result<Opening<'a>, PackFault>,
     number: u16,
 ) -> Result<Package<'p, 'a>, PackagesStop>
-    requires { GivesOpening parts.now opening }
     ensures { ReadsPackage parts.now number result }
 {
-    match package_opened(parts, opening) {
+    match package(parts) {
         Ok(package) => Ok(package),
         Err(fault) => Err(PackagesStop::Malformed(number, fault)),
     }

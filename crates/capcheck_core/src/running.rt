@@ -13,12 +13,17 @@ ghost use Rattle.vm_text.specs.Left.{left_by};
 ghost use Rattle.vm_text.specs.Lent.{lent_state, IsLentRun};
 ghost use Rattle.vm_text.specs.Text.{left_text, most_text};
 ghost use Rattle.capcheck_core.specs.Defend.{method_entered};
-ghost use Rattle.capcheck_core.specs.Outside.{Card, card};
+ghost use Rattle.capcheck_core.specs.LentCard.{IsSameCard, words_of};
+ghost use Rattle.capcheck_core.specs.Outside.{CardWords, card_words};
 ghost use Rattle.capcheck_core.specs.Run.{bounded_request, IsCardKept, HasLengths, IsLeft, IsRun, StopsRun, RunsWithMemory, RunsWorldIn};
 
+use crate::card::Card;
 use crate::defending::{lent, method_entered};
+use crate::step::LastStep;
 use crate::typing::number_of;
 use crate::verdict::Verdict;
+use cap_files::Folder;
+use cap_package::Packages;
 use cap_text::{MethodNumber, Room, Run, write_not_started, write_refused_card};
 use card_typing::CardFault;
 use card_verify::{Accepted, CardRoom, accept};
@@ -47,6 +52,32 @@ impl<'a> Bounded<'a> {
     }
 }
 
+/// The last step of `run`: it verifies all packages as a card does, and runs an entry of the last one in its memory.
+#[derive(Clone, Copy)]
+pub(crate) struct RunStep<'a> {
+    pub run: &'a Run<'a>,
+}
+
+impl LastStep for RunStep<'_> {
+    ghost use Rattle.cap_text.specs.Run.{run_request};
+    ghost use Rattle.capcheck_core.specs.Run.{RunsWorld};
+    ghost use Rattle.capcheck_core.specs.World.{of_world};
+
+    ghost own = { λ s. of_world (RunsWorld (run_request s.run.now)) };
+
+    fn take<F: Folder>(
+        &self,
+        alloc: Global,
+        _packages: &Packages<'_, '_>,
+        _roles: [u8; 8],
+        world: &World<'_>,
+        _folder: &mut F,
+        card: &mut Card<'_>,
+    ) -> Verdict {
+        run_in_card(alloc, world, Bounded::asked(self.run), card)
+    }
+}
+
 /// Why a run of a world does not begin.
 #[derive(Clone, Copy)]
 pub(crate) enum RunStop {
@@ -62,16 +93,15 @@ pub(crate) fn run_in_card(
     alloc: Global,
     world: &World<'_>,
     run: Bounded<'_>,
-    ram: &mut [u16],
-    heap: &mut [u16],
-    statics: &mut [u16],
+    card: &mut Card<'_>,
 ) -> Verdict
-    requires { HasLengths (card ram.old heap.old statics.old) }
-    ensures runs { RunsWorldIn world.now (bounded_request run.entry) (card ram.new heap.new statics.new) result }
-    ensures kept { IsCardKept (card ram.old heap.old statics.old) (card ram.new heap.new statics.new) result }
+    requires lengths { HasLengths (words_of card.old) }
+    ensures runs { RunsWorldIn world.now (bounded_request run.entry) (words_of card.new) result }
+    ensures kept { IsCardKept (words_of card.old) (words_of card.new) result }
+    ensures same { IsSameCard card.old card.new }
 {
     match lent(alloc, &run.run.args) {
-        Ok(args) => with_arguments(alloc, world, &run, &args, ram, heap, statics),
+        Ok(args) => with_arguments(alloc, world, &run, &args, card),
         Err(_) => Verdict::Memory,
     }
 }
@@ -82,17 +112,16 @@ fn with_arguments(
     world: &World<'_>,
     run: &Bounded<'_>,
     args: &Args<'_>,
-    ram: &mut [u16],
-    heap: &mut [u16],
-    statics: &mut [u16],
+    card: &mut Card<'_>,
 ) -> Verdict
-    requires card { HasLengths (card ram.old heap.old statics.old) }
+    requires lengths { HasLengths (words_of card.old) }
     requires handed { args.now ≡ map argument_read run.now.run.now.args.items }
-    ensures runs { RunsWorldIn world.now (bounded_request run.now) (card ram.new heap.new statics.new) result }
-    ensures kept { IsCardKept (card ram.old heap.old statics.old) (card ram.new heap.new statics.new) result }
+    ensures runs { RunsWorldIn world.now (bounded_request run.now) (words_of card.new) result }
+    ensures kept { IsCardKept (words_of card.old) (words_of card.new) result }
+    ensures same { IsSameCard card.old card.new }
 {
     match room(alloc, world) {
-        Ok(text) => with_room(world, run, args, text, ram, heap, statics),
+        Ok(text) => with_room(world, run, args, text, card),
         Err(_) => Verdict::Memory,
     }
 }
@@ -103,19 +132,18 @@ fn with_room(
     run: &Bounded<'_>,
     args: &Args<'_>,
     text: Room,
-    ram: &mut [u16],
-    heap: &mut [u16],
-    statics: &mut [u16],
+    card: &mut Card<'_>,
 ) -> Verdict
-    requires card { HasLengths (card ram.old heap.old statics.old) }
+    requires lengths { HasLengths (words_of card.old) }
     requires handed { args.now ≡ map argument_read run.now.run.now.args.items }
     requires empty { IsEmpty text }
     requires room { HasRoom text (most_text world.now) }
-    ensures runs { RunsWithMemory world.now (bounded_request run.now) (card ram.new heap.new statics.new) result }
-    ensures kept { IsCardKept (card ram.old heap.old statics.old) (card ram.new heap.new statics.new) result }
+    ensures runs { RunsWithMemory world.now (bounded_request run.now) (words_of card.new) result }
+    ensures kept { IsCardKept (words_of card.old) (words_of card.new) result }
+    ensures same { IsSameCard card.old card.new }
 {
     let mut text = text;
-    match run_verified(world, run, args, &mut text, ram, heap, statics) {
+    match run_verified(world, run, args, &mut text, card) {
         Ok(()) => Verdict::Done(text.into_text()),
         Err(stop) => not_run(world, run, stop, text),
     }
@@ -127,7 +155,7 @@ fn not_run(world: &World<'_>, run: &Bounded<'_>, stop: RunStop, text: Room) -> V
     requires stops { StopsRun world.now (bounded_request run.now) stop }
     requires empty { IsEmpty text }
     requires room { HasRoom text (most_text world.now) }
-    ensures { (c : Card) → RunsWithMemory world.now (bounded_request run.now) c result }
+    ensures { (c : CardWords) → RunsWithMemory world.now (bounded_request run.now) c result }
 {
     match stop {
         RunStop::Refused(method, fault) => {
@@ -166,23 +194,22 @@ fn run_verified(
     run: &Bounded<'_>,
     args: &Args<'_>,
     text: &mut Room,
-    ram: &mut [u16],
-    heap: &mut [u16],
-    statics: &mut [u16],
+    card: &mut Card<'_>,
 ) -> Result<(), RunStop>
-    requires card { HasLengths (card ram.old heap.old statics.old) }
+    requires lengths { HasLengths (words_of card.old) }
     requires handed { args.now ≡ map argument_read run.now.run.now.args.items }
     requires empty { IsEmpty text.old }
     requires room { HasRoom text.old (most_text world.now) }
     ensures runs { MatchResult result
-        (λ _. IsRun world.now (bounded_request run.now) (card ram.new heap.new statics.new) text.new.text)
+        (λ _. IsRun world.now (bounded_request run.now) (words_of card.new) text.new.text)
         (StopsRun world.now (bounded_request run.now)) }
-    ensures kept { OnErr result (card ram.new heap.new statics.new ≡ card ram.old heap.old statics.old) }
+    ensures kept { OnErr result (words_of card.new ≡ words_of card.old) }
     ensures room { IfErr result (λ _. text.new ≡ text.old) }
+    ensures same { IsSameCard card.old card.new }
 {
     let mut room = CardRoom::new();
     match accept(world, &mut room) {
-        Ok(accepted) => run_accepted(&accepted, run, args, text, ram, heap, statics),
+        Ok(accepted) => run_accepted(&accepted, run, args, text, card),
         Err((method, fault)) => Err(RunStop::Refused(method, fault)),
     }
 }
@@ -193,23 +220,31 @@ fn run_accepted(
     run: &Bounded<'_>,
     args: &Args<'_>,
     text: &mut Room,
-    ram: &mut [u16],
-    heap: &mut [u16],
-    statics: &mut [u16],
+    card: &mut Card<'_>,
 ) -> Result<(), RunStop>
     requires accepted { AreAccepted accepted.now }
-    requires card { HasLengths (card ram.old heap.old statics.old) }
+    requires lengths { HasLengths (words_of card.old) }
     requires handed { args.now ≡ map argument_read run.now.run.now.args.items }
     requires empty { IsEmpty text.old }
     requires room { HasRoom text.old (most_text accepted.now) }
     ensures runs { MatchResult result
-        (λ _. IsRun accepted.now (bounded_request run.now) (card ram.new heap.new statics.new) text.new.text)
+        (λ _. IsRun accepted.now (bounded_request run.now) (words_of card.new) text.new.text)
         (StopsRun accepted.now (bounded_request run.now)) }
-    ensures kept { OnErr result (card ram.new heap.new statics.new ≡ card ram.old heap.old statics.old) }
+    ensures kept { OnErr result (words_of card.new ≡ words_of card.old) }
     ensures room { IfErr result (λ _. text.new ≡ text.old) }
+    ensures same { IsSameCard card.old card.new }
 {
     match method_entered(accepted.world(), run.run.entry) {
-        Some(number) => run_entry(accepted, run, number, args, text, ram, heap, statics),
+        Some(number) => run_entry(
+            accepted,
+            run,
+            number,
+            args,
+            text,
+            card.ram,
+            card.heap,
+            card.statics,
+        ),
         None => Err(RunStop::NotStarted(StartFault::NoEntry)),
     }
 }
@@ -227,14 +262,14 @@ fn run_entry(
 ) -> Result<(), RunStop>
     requires accepted { AreAccepted accepted.now }
     requires entered { method_entered accepted.now run.now.run.now.entry ≡ Some number }
-    requires card { HasLengths (card ram.old heap.old statics.old) }
+    requires card { HasLengths (card_words ram.old heap.old statics.old) }
     requires handed { args.now ≡ map argument_read run.now.run.now.args.items }
     requires empty { IsEmpty text.old }
     requires room { HasRoom text.old (most_text accepted.now) }
     ensures runs { MatchResult result
-        (λ _. IsRun accepted.now (bounded_request run.now) (card ram.new heap.new statics.new) text.new.text)
+        (λ _. IsRun accepted.now (bounded_request run.now) (card_words ram.new heap.new statics.new) text.new.text)
         (StopsRun accepted.now (bounded_request run.now)) }
-    ensures kept { OnErr result (card ram.new heap.new statics.new ≡ card ram.old heap.old statics.old) }
+    ensures kept { OnErr result (card_words ram.new heap.new statics.new ≡ card_words ram.old heap.old statics.old) }
     ensures room { IfErr result (λ _. text.new ≡ text.old) }
 {
     let count = field_words(accepted.world());
@@ -269,10 +304,10 @@ fn begin(
     requires empty { IsEmpty text.old }
     requires room { HasRoom text.old (most_text accepted.now) }
     ensures runs { MatchResult result
-        (λ _. IsRun accepted.now (bounded_request run.now) (card ram.new heap.new statics.new) text.new.text)
+        (λ _. IsRun accepted.now (bounded_request run.now) (card_words ram.new heap.new statics.new) text.new.text)
         (StopsRun accepted.now (bounded_request run.now)) }
     ensures length { length statics.new ≡ length statics.old }
-    ensures kept { OnErr result (card ram.new heap.new statics.new ≡ card ram.old heap.old statics.old) }
+    ensures kept { OnErr result (card_words ram.new heap.new statics.new ≡ card_words ram.old heap.old statics.old) }
     ensures room { IfErr result (λ _. text.new ≡ text.old) }
 {
     match start(accepted, number, args, ram, heap, statics) {
@@ -300,7 +335,7 @@ fn go_on(
     requires run { IsRunOf accepted.now machine ram.old heap.old statics.old }
     requires empty { IsEmpty text.old }
     requires room { HasRoom text.old (most_text accepted.now) }
-    ensures { IsLeft accepted.now (bounded_request run.now) (card ram.new heap.new statics.new) text.new.text }
+    ensures { IsLeft accepted.now (bounded_request run.now) (card_words ram.new heap.new statics.new) text.new.text }
 {
     let mut machine = machine;
     let ending = machine.run(accepted, ram, heap, statics, run.steps);

@@ -1,45 +1,26 @@
-ghost use Rattle.cap_text.specs.Show.{show_request};
-ghost use Rattle.capcheck_core.specs.Show.{Shows, ShowsOrStops, IsTable};
-
-use crate::load::lend_after;
-use crate::packages::{PackagesStop, load_opening, load_others, read_parts};
+use crate::package_step::PackageStep;
 use crate::verdict::Verdict;
-use cap_components::opening_in;
 use cap_files::Folder;
-use cap_package::Package;
-use cap_text::{Show, component_table};
+use cap_package::{Package, Parts};
+use cap_text::component_table;
 use std::alloc::Global;
 
-/// Prints the component table of the package of a folder.
-pub fn show<F: Folder>(alloc: Global, folder: &mut F, show: &Show<'_>) -> Verdict
-    ensures answers { Shows (show_request show.now) (F.folders folder.old) (F.folders folder.new) result }
-{
-    match show_package(alloc, folder, show) {
-        Ok(verdict) => verdict,
-        Err(stop) => stop.verdict(alloc),
+/// The step of `show`: it prints the component table of the package.
+#[derive(Clone, Copy)]
+pub(crate) struct ShowStep;
+
+impl PackageStep for ShowStep {
+    ghost use Rattle.capcheck_core.specs.Show.{ShowsTable};
+
+    ghost own = { λ _. ShowsTable };
+
+    fn take<F: Folder>(
+        &self,
+        alloc: Global,
+        _parts: &Parts<'_>,
+        read: &Package<'_, '_>,
+        _folder: &mut F,
+    ) -> Verdict {
+        Verdict::done(component_table(alloc, read))
     }
-}
-
-// The table of the package, or why its parts were not loaded.
-fn show_package<F: Folder>(
-    alloc: Global,
-    folder: &mut F,
-    show: &Show<'_>,
-) -> Result<Verdict, PackagesStop>
-    ensures { ShowsOrStops (show_request show.now) (F.folders folder.old) (F.folders folder.new) result }
-{
-    let first = load_opening(alloc, folder, show.dir, 0)?;
-    let opened = first.lend(alloc)?;
-    let opening = opening_in(&opened);
-    let rest = load_others(alloc, folder, show.dir, 0, &opened, &opening)?;
-    let parts = lend_after(&rest, opened)?;
-    let package = read_parts(&parts, opening, 0)?;
-    Ok(table_of(alloc, &package))
-}
-
-// The table of a package.
-fn table_of(alloc: Global, package: &Package<'_, '_>) -> Verdict
-    ensures { IsTable «package».now result }
-{
-    Verdict::done(component_table(alloc, package))
 }

@@ -6,18 +6,45 @@ ghost use Rattle.xf_pack.specs.Transformed.{IsTransformed};
 ghost use Rattle.capcheck_core.specs.Transform.{roles_beside, limit_line, StopsBefore, TransformsIn};
 ghost use Rattle.capcheck_core.specs.Typed.{count_of_last};
 
+use crate::card::Card;
+use crate::step::LastStep;
 use crate::storing::{in_order, store_parts};
 use crate::typing::{is_of_last, number_of};
 use crate::verdict::Verdict;
 use cap_files::Folder;
 use cap_package::{OwnedParts, Packages};
 use cap_text::{
-    MethodNumber, limit_code, limit_part, limit_registers, limit_stack, not_linked, refused_card,
-    refused_flow, transformed,
+    MethodNumber, Transform, limit_code, limit_part, limit_registers, limit_stack, not_linked,
+    refused_card, refused_flow, transformed,
 };
 use jc_base::World;
 use std::alloc::{AllocError, Global};
 use xf_pack::{MethodLimit, TransformEnd, transform_linked};
+
+/// The last step of `transform`: it stores the last package in the form that a verifier on the card accepts.
+#[derive(Clone, Copy)]
+pub(crate) struct TransformStep<'a> {
+    pub asked: &'a Transform<'a>,
+}
+
+impl LastStep for TransformStep<'_> {
+    ghost use Rattle.cap_text.specs.Transform.{transform_request};
+    ghost use Rattle.capcheck_core.specs.Transform.{TransformsWorld};
+
+    ghost own = { λ s. TransformsWorld (transform_request s.asked.now) };
+
+    fn take<F: Folder>(
+        &self,
+        alloc: Global,
+        packages: &Packages<'_, '_>,
+        roles: [u8; 8],
+        world: &World<'_>,
+        folder: &mut F,
+        _card: &mut Card<'_>,
+    ) -> Verdict {
+        transform_last(alloc, self.asked.out, packages, roles, world, folder)
+    }
+}
 
 /// Brings the last package of a world into the form that a verifier on the card accepts, and stores it in a folder. Nothing
 /// is stored before all parts and the text are made.

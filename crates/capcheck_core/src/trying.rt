@@ -5,14 +5,17 @@ ghost use Rattle.cap_text.specs.Run.{run_request};
 ghost use Rattle.jc_link.specs.World.{IsLinked};
 ghost use Rattle.xf_pack.specs.Transformed.{IsTransformed};
 ghost use Rattle.capcheck_core.specs.Defend.{IsDefended};
-ghost use Rattle.capcheck_core.specs.Outside.{card};
+ghost use Rattle.capcheck_core.specs.LentCard.{IsSameCard, words_of};
 ghost use Rattle.capcheck_core.specs.Run.{HasLengths};
 ghost use Rattle.capcheck_core.specs.Trial.{HasNew, IsDoneOrMemory, IsUntriedKept, TriesIn};
 
+use crate::card::Card;
 use crate::defending::defend;
 use crate::running::{Bounded, run_in_card};
+use crate::step::LastStep;
 use crate::transforming::untransformed;
 use crate::verdict::Verdict;
+use cap_files::Folder;
 use cap_package::{OwnedParts, Package, Packages, agreed_package};
 use cap_text::{Run, tried};
 use jc_base::World;
@@ -24,6 +27,32 @@ use xf_pack::transform_linked;
 // The steps of the new package that one of its source may take.
 const STEPS_EACH: u64 = 2000;
 
+/// The last step of `trial`: it runs an entry of the last package, and then of it in the form that a verifier on the card
+/// accepts, in the memory of the card.
+#[derive(Clone, Copy)]
+pub(crate) struct TrialStep<'a> {
+    pub run: &'a Run<'a>,
+}
+
+impl LastStep for TrialStep<'_> {
+    ghost use Rattle.cap_text.specs.Run.{run_request};
+    ghost use Rattle.capcheck_core.specs.Trial.{TriesWorld};
+
+    ghost own = { λ s. TriesWorld (run_request s.run.now) };
+
+    fn take<F: Folder>(
+        &self,
+        alloc: Global,
+        packages: &Packages<'_, '_>,
+        roles: [u8; 8],
+        world: &World<'_>,
+        _folder: &mut F,
+        card: &mut Card<'_>,
+    ) -> Verdict {
+        try_last(alloc, packages, roles, world, self.run, card)
+    }
+}
+
 /// Brings the last package of a world into the form that a verifier on the card accepts. Runs an entry of its source on the
 /// machine that tests what it does, and then the same entry of the new package in the memory of the card.
 #[tactic(auto, using(crate::proofs::Trials::untried_there))]
@@ -33,20 +62,17 @@ pub(crate) fn try_last(
     roles: [u8; 8],
     world: &World<'_>,
     run: &Run<'_>,
-    ram: &mut [u16],
-    heap: &mut [u16],
-    statics: &mut [u16],
+    card: &mut Card<'_>,
 ) -> Verdict
-    requires card { HasLengths (card ram.old heap.old statics.old) }
+    requires lengths { HasLengths (words_of card.old) }
     requires linked { IsLinked packages.now roles world.now }
-    ensures tries { TriesIn packages.now roles world.now (run_request run.now) (card ram.new heap.new statics.new) result }
+    ensures tries { TriesIn packages.now roles world.now (run_request run.now) (words_of card.new) result }
     ensures kept { IsUntriedKept packages.now roles world.now (run_request run.now)
-        (card ram.old heap.old statics.old) (card ram.new heap.new statics.new) result }
+        (words_of card.old) (words_of card.new) result }
+    ensures same { IsSameCard card.old card.new }
 {
     match transform_linked(alloc, packages, roles, world) {
-        Ok(parts) => try_parts(
-            alloc, packages, roles, world, &parts, run, ram, heap, statics,
-        ),
+        Ok(parts) => try_parts(alloc, packages, roles, world, &parts, run, card),
         Err(end) => untransformed(alloc, packages, world, end),
     }
 }
@@ -59,16 +85,15 @@ fn try_parts(
     world: &World<'_>,
     parts: &OwnedParts,
     run: &Run<'_>,
-    ram: &mut [u16],
-    heap: &mut [u16],
-    statics: &mut [u16],
+    card: &mut Card<'_>,
 ) -> Verdict
-    requires card { HasLengths (card ram.old heap.old statics.old) }
+    requires lengths { HasLengths (words_of card.old) }
     requires linked { IsLinked packages.now roles world.now }
     requires made { IsTransformed packages.now roles world.now parts.now }
-    ensures tries { TriesIn packages.now roles world.now (run_request run.now) (card ram.new heap.new statics.new) result }
+    ensures tries { TriesIn packages.now roles world.now (run_request run.now) (words_of card.new) result }
     ensures kept { IsUntriedKept packages.now roles world.now (run_request run.now)
-        (card ram.old heap.old statics.old) (card ram.new heap.new statics.new) result }
+        (words_of card.old) (words_of card.new) result }
+    ensures same { IsSameCard card.old card.new }
 {
     match defend(alloc, world, run) {
         Verdict::Done(source) => try_new(
@@ -79,9 +104,7 @@ fn try_parts(
             parts,
             source.as_str(),
             run,
-            ram,
-            heap,
-            statics,
+            card,
         ),
         Verdict::Malformed(text) => Verdict::Malformed(text),
         Verdict::Memory => Verdict::Memory,
@@ -98,17 +121,16 @@ fn try_new(
     parts: &OwnedParts,
     source: &str,
     run: &Run<'_>,
-    ram: &mut [u16],
-    heap: &mut [u16],
-    statics: &mut [u16],
+    card: &mut Card<'_>,
 ) -> Verdict
-    requires card { HasLengths (card ram.old heap.old statics.old) }
+    requires lengths { HasLengths (words_of card.old) }
     requires linked { IsLinked packages.now roles world.now }
     requires made { IsTransformed packages.now roles world.now parts.now }
     requires defended { IsDefended world.now (run_request run.now) source.now }
-    ensures tries { TriesIn packages.now roles world.now (run_request run.now) (card ram.new heap.new statics.new) result }
+    ensures tries { TriesIn packages.now roles world.now (run_request run.now) (words_of card.new) result }
     ensures kept { IsUntriedKept packages.now roles world.now (run_request run.now)
-        (card ram.old heap.old statics.old) (card ram.new heap.new statics.new) result }
+        (words_of card.old) (words_of card.new) result }
+    ensures same { IsSameCard card.old card.new }
 {
     let Ok(lent) = parts.lend(alloc) else {
         return Verdict::Memory;
@@ -119,7 +141,7 @@ fn try_new(
     };
     match link(alloc, &all, roles) {
         Ok(new) => run_new(
-            alloc, packages, roles, world, parts, &new, source, run, ram, heap, statics,
+            alloc, packages, roles, world, parts, &new, source, run, card,
         ),
         Err(LinkEnd::Fault(_)) => unreachable!(),
         Err(LinkEnd::Memory) => Verdict::Memory,
@@ -153,21 +175,20 @@ fn run_new(
     new: &World<'_>,
     source: &str,
     run: &Run<'_>,
-    ram: &mut [u16],
-    heap: &mut [u16],
-    statics: &mut [u16],
+    card: &mut Card<'_>,
 ) -> Verdict
-    requires card { HasLengths (card ram.old heap.old statics.old) }
+    requires lengths { HasLengths (words_of card.old) }
     requires linked { IsLinked _packages.now _roles world.now }
     requires made { HasNew _packages.now _roles world.now _parts.now new.now }
     requires defended { IsDefended world.now (run_request run.now) source.now }
-    ensures tries { TriesIn _packages.now _roles world.now (run_request run.now) (card ram.new heap.new statics.new) result }
+    ensures tries { TriesIn _packages.now _roles world.now (run_request run.now) (words_of card.new) result }
     ensures kept { IsUntriedKept _packages.now _roles world.now (run_request run.now)
-        (card ram.old heap.old statics.old) (card ram.new heap.new statics.new) result }
+        (words_of card.old) (words_of card.new) result }
+    ensures same { IsSameCard card.old card.new }
 {
     starts_refuse_alike(world);
     let steps = STEPS_EACH * u64::from(run.budget);
-    let verdict = run_in_card(alloc, new, Bounded { run, steps }, ram, heap, statics);
+    let verdict = run_in_card(alloc, new, Bounded { run, steps }, card);
     match text_of(verdict) {
         Ok(target) => Verdict::done(tried(alloc, source, target.as_str())),
         Err(_) => Verdict::Memory,

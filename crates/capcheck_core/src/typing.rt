@@ -3,14 +3,41 @@ ghost use Rattle.capcheck_core.specs.Typed.{is_of_last, numbers_of_method, AreTy
 ghost use Rattle.capcheck_core.specs.CheckEnds.{TypesMethod, FailsMethod};
 ghost use Rattle.capcheck_core.specs.Check.{TypesWorld};
 
+use crate::card::Card;
+use crate::step::LastStep;
 use crate::verdict::Verdict;
+use cap_files::Folder;
+use cap_package::Packages;
 use cap_text::{MethodNumber, refused_flow, typed};
 use jc_base::World;
 use jc_flow::{FlowEnd, infer};
 use std::alloc::Global;
 
-/// Types each method with code of the last package of a world.
-pub fn type_methods(alloc: Global, world: &World<'_>) -> Verdict
+/// The last step of `check`: it types each method with code of the last package.
+#[derive(Clone, Copy)]
+pub(crate) struct CheckStep;
+
+impl LastStep for CheckStep {
+    ghost use Rattle.capcheck_core.specs.Check.{ChecksWorld};
+    ghost use Rattle.capcheck_core.specs.World.{of_world};
+
+    ghost own = { λ _. of_world ChecksWorld };
+
+    fn take<F: Folder>(
+        &self,
+        alloc: Global,
+        _packages: &Packages<'_, '_>,
+        _roles: [u8; 8],
+        world: &World<'_>,
+        _folder: &mut F,
+        _card: &mut Card<'_>,
+    ) -> Verdict {
+        type_methods(alloc, world)
+    }
+}
+
+// Types each method with code of the last package of a world.
+fn type_methods(alloc: Global, world: &World<'_>) -> Verdict
     ensures { TypesWorld world.now result }
 {
     let mut count = 0u16;

@@ -67,20 +67,20 @@ module _ (ps : List PackageRecord) (roles : List ℕ) (w : Linked) (linked : IsL
           let code = are-laid parted.0 p roles w last-linked first is laid each all in
           let new = law parted.0 p again.made p.parts parts roles laid agreed again.stands again.rewritten last-linked accepted code in
           record {
-            accepted = accepted;
-            typed = typed;
-            libraries = parted.0;
-            source = p;
-            are = parted.1;
-            laid = laid;
-            code = code;
-            written = written;
-            made = again.made;
-            rewritten = again.rewritten;
-            stands = again.stands;
-            world = new.0;
-            anew = new.1;
-            alike = alike parted.0 p again.made p.parts parts roles laid new.0 agreed again.stands again.rewritten last-linked accepted code new.1;
+            keeps = record {
+              accepted = accepted;
+              typed = typed;
+              libraries = parted.0;
+              source = p;
+              are = parted.1;
+              made = again.made;
+              stands = again.stands;
+              world = new.0;
+              linked = new.1.linked;
+              carded = new.1.carded;
+              alike = alike parted.0 p again.made p.parts parts roles laid new.0 agreed again.stands again.rewritten last-linked accepted code new.1;
+            };
+            anew = record { laid = laid; code = code; written = written; rewritten = again.rewritten; same = new.1.same };
           }
 
       pub part-long : (size : ℕ) → IsPartTooLong p laid size → IsPartLong ps w size

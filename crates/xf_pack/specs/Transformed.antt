@@ -5,34 +5,46 @@ use Rattle.cap_package.specs.Parts.{Lent}
 use Rattle.cap_package.specs.StandsFor.{StandsFor}
 use Rattle.law_package.specs.Rewritten.{IsRewritten}
 use Rattle.cap_write.specs.WrittenPackage.{IsWritten}
+use Rattle.card_typing.specs.Typing.{HasCardTyping}
 use Rattle.jc_base.specs.World.{Linked}
+use Rattle.jc_control.specs.Asked.{AllHave}
+use Rattle.jc_control.specs.Method.{IsMethodOf}
 use Rattle.jc_decode.specs.declared.symbols.Laid.{Laid}
 use Rattle.jc_link.specs.World.{IsLinked}
 use Rattle.law_relink.specs.Last.{and_last}
 use Rattle.law_alike.specs.Ends.{EndsAlike}
+use Rattle.law_laid.specs.Apart.{IsSameBut}
 use Rattle.law_transform.specs.Laid.{AreLaidOf}
-use Rattle.law_transform.specs.AcceptedWorld.{IsWorldAnew}
 use Rattle.xf_pack.specs.Ends.{AreAcceptedLibraries, IsTypedLast}
 
--- the libraries are accepted, and the last package has its typings. Its methods are written anew with what is laid
--- for them, and every other file is kept but for what tells of methods; the parts stand for that package with this code.
--- With the libraries it makes a world in which each method with code has a card typing, and every run ends as it does in
--- the former world
-pub record IsTransformed (packages : List PackageRecord) (roles : List ℕ) (w : Linked) (parts : List Lent) : Type 0 where
+-- The libraries are accepted, and the last package has its typings. The parts stand for a package that makes a world with the
+-- libraries, in which each method with code has a card typing, and every run ends as it does in the former world.
+pub record KeepsBehaviour (packages : List PackageRecord) (roles : List ℕ) (w : Linked) (parts : List Lent) : Type 0 where
   pub accepted : AreAcceptedLibraries w
   pub typed : IsTypedLast w
   pub libraries : List PackageRecord
   pub source : PackageRecord
   pub are : packages ≡ and_last libraries source
+  pub made : PackageRecord
+  pub stands : StandsFor parts made
+  pub world : Linked
+  pub linked : IsLinked (and_last libraries made) roles world
+  pub carded : AllHave (IsMethodOf world) (HasCardTyping world)
+  pub alike : EndsAlike w world
+
+-- The methods of the package are written anew with what is laid for them, and every other file is kept but for what tells of
+-- methods. So the package that is made is the source with this code, and the new world the former one but for its code.
+pub record IsWrittenAnew (source made : PackageRecord) (w new : Linked) (parts : List Lent) : Type 0 where
   pub laid : List (Option Laid)
   pub code : AreLaidOf w laid
   pub written : IsWritten source laid parts
-  pub made : PackageRecord
   pub rewritten : IsRewritten source laid made
-  pub stands : StandsFor parts made
-  pub world : Linked
-  pub anew : IsWorldAnew libraries made roles w world
-  pub alike : EndsAlike w world
+  pub same : IsSameBut w new
+
+-- the parts keep the behaviour of the last package, and are written so
+pub record IsTransformed (packages : List PackageRecord) (roles : List ℕ) (w : Linked) (parts : List Lent) : Type 0 where
+  pub keeps : KeepsBehaviour packages roles w parts
+  pub anew : IsWrittenAnew keeps.source keeps.made w keeps.world parts
 
 -- the same of the world that the packages make with the roles
 pub record AreTransformed (packages : List PackageRecord) (roles : List ℕ) (parts : List Lent) : Type 0 where

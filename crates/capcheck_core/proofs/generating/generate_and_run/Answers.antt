@@ -29,8 +29,8 @@ bring-requires-clause-size g c =
     ap (λ (v : View). length v.bytes.now) c.info.ensures ∙ ap (λ (m : Methods). length m.info) c.methods.ensures
     ∙ ap (λ (p : PackageRecord). length p.methods.info) same
 
-pub returns-in-Ok-link : goal.returns-in-Ok-link
-returns-in-Ok-link g c =
+pub returns-in-Ok-link-clause-answers : goal.returns-in-Ok-link-clause-answers
+returns-in-Ok-link-clause-answers g c =
     let seed = c.args.operands.now.seed in
     let source = c.agreed_package-source.result in
     let same = source_is seed c.in-Ok-lend.lent source c.parts_stand.ensures (c.in-Ok-lend.ensures ∙ c.in-Ok.ensures) c.agreed_package-source.ensures in
@@ -38,7 +38,7 @@ returns-in-Ok-link g c =
     inr (record {
       world = c.in-Ok-link.world;
       linked = subst (λ ps. IsLinked ps roles c.in-Ok-link.world) are c.in-Ok-link.ensures.tells;
-      holds = c.bring.ensures;
+      holds = c.bring.ensures.answers;
     })
 
 pub unreachable-requires : goal.unreachable-requires

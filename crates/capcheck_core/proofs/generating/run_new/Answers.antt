@@ -4,7 +4,8 @@ use Rattle.std.proofs.lemmas.Int.{to_z-of_z}
 use Rattle.std.specs.Prelude.{IfOk, string_bytes}
 use Rattle.cap_text.specs.Generate.{generate_text}
 use Rattle.capcheck_core.specs.Generate.{IsKeptOrBegun}
-use Rattle.capcheck_core.specs.Outside.{card}
+use Rattle.capcheck_core.specs.LentCard.{words_of}
+use Rattle.capcheck_core.specs.Outside.{card_words}
 use Rattle.capcheck_core.proofs.Generates.{carded_there, entries_there, told_of}
 use Rattle.capcheck_core.proofs.generating.run_new.Goals as goal
 
@@ -17,17 +18,17 @@ sum_of-requires-clause-entries c =
     c.requires.made
     c.starts_refuse_alike.ensures.refused c.starts_refuse_alike.ensures.numbered
 
-pub returns-in-Ok : goal.returns-in-Ok
-returns-in-Ok c =
+pub returns-in-Ok-clause-answers : goal.returns-in-Ok-clause-answers
+returns-in-Ok-clause-answers c =
     let same : to_z w32 (of_z w32 c.in-Ok.sum) ≡ c.in-Ok.sum = to_z-of_z w32 c.in-Ok.sum (search rules) in
-    told_of c.args._seed c.args.world.now c.args.new.now c.args._parts.now (card c.args.ram.now c.args.heap.now c.args.statics.now)
-    (card c.sum_of.new.ram c.sum_of.new.heap c.sum_of.new.statics) c.args.size c.args.made_size
+    told_of c.args._seed c.args.world.now c.args.new.now c.args._parts.now (words_of c.args.card.now)
+    (card_words c.sum_of.new.ram c.sum_of.new.heap c.sum_of.new.statics) c.args.size c.args.made_size
     c.in-Ok.sum c.generated.result c.done.result c.requires.made c.requires.size c.in-Ok.ensures.runs
     (subst (λ z. IfOk c.generated.result (λ t. string_bytes t ≡ generate_text c.args.size c.args.made_size z)) same c.generated.ensures) c.done.ensures
 
-pub returns-in-Err : goal.returns-in-Err
-returns-in-Err c =
+pub returns-in-Err-clause-answers : goal.returns-in-Err-clause-answers
+returns-in-Err-clause-answers c =
     let w = c.args.new.now in
-    let before = card c.args.ram.now c.args.heap.now c.args.statics.now in
-    let after = card c.sum_of.new.ram c.sum_of.new.heap c.sum_of.new.statics in
+    let before = words_of c.args.card.now in
+    let after = card_words c.sum_of.new.ram c.sum_of.new.heap c.sum_of.new.statics in
     (c.requires.made.made, subst (λ v. IsKeptOrBegun v before after) (sym c.requires.made.world) c.in-Err.ensures.begun)

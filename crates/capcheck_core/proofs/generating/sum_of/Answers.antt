@@ -3,7 +3,7 @@ use Rattle.std.proofs.Common.{sym, subst, ◌∙◌}
 use Rattle.std.specs.Prelude.{IfOk, OnErr}
 use Rattle.card_verify.specs.Answers.{AreAccepted}
 use Rattle.capcheck_core.specs.Generate.{AreRun, IsKeptOrBegun}
-use Rattle.capcheck_core.specs.Outside.{card}
+use Rattle.capcheck_core.specs.Outside.{card_words}
 use Rattle.capcheck_core.proofs.Cardings.{none_refused}
 use Rattle.capcheck_core.proofs.Generates.{run_in_card, begun_in_card}
 use Rattle.capcheck_core.proofs.generating.sum_of.Goals as goal
@@ -19,7 +19,7 @@ returns-clause-runs c =
     let long = c.run_all.ensures.length ∙ c.split_at_mut-fields.ensures.front_len ∙ c.field_words-count.ensures.fields in
     run_in_card w c.run_all.new.ram c.run_all.new.heap c.run_all.new.statics c.split_at_mut-fields.result.1.now c.run_all.result long
     c.requires.carded (subst AreAccepted c.in-Ok.ensures.world c.in-Ok.ensures.accepted) c.typed_code_never_fails.ensures.fault_free
-    (subst (λ v. IfOk c.run_all.result (AreRun v (card c.run_all.new.ram c.run_all.new.heap c.run_all.new.statics))) c.in-Ok.ensures.world
+    (subst (λ v. IfOk c.run_all.result (AreRun v (card_words c.run_all.new.ram c.run_all.new.heap c.run_all.new.statics))) c.in-Ok.ensures.world
     c.run_all.ensures.runs)
 
 pub returns-clause-begun : goal.returns-clause-begun
@@ -28,8 +28,8 @@ returns-clause-begun c =
     let fields = c.split_at_mut-fields.result.0.now in
     let long = c.run_all.ensures.length ∙ c.split_at_mut-fields.ensures.front_len ∙ c.field_words-count.ensures.fields in
     begun_in_card w c.run_all.new.ram c.run_all.new.heap c.run_all.new.statics c.split_at_mut-fields.result.1.now c.args.statics.now
-    (card c.args.ram.now c.args.heap.now fields) c.run_all.result long (sym c.split_at_mut-fields.ensures.value)
+    (card_words c.args.ram.now c.args.heap.now fields) c.run_all.result long (sym c.split_at_mut-fields.ensures.value)
     (subst
     (λ v. OnErr c.run_all.result
-    (IsKeptOrBegun v (card c.args.ram.now c.args.heap.now fields) (card c.run_all.new.ram c.run_all.new.heap c.run_all.new.statics)))
+    (IsKeptOrBegun v (card_words c.args.ram.now c.args.heap.now fields) (card_words c.run_all.new.ram c.run_all.new.heap c.run_all.new.statics)))
     c.in-Ok.ensures.world c.run_all.ensures.begun)

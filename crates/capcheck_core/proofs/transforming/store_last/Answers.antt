@@ -4,7 +4,7 @@ use Rattle.capcheck_core.proofs.Transforms.{has_header, brought_in_part}
 use Rattle.capcheck_core.proofs.transforming.store_last.Goals as goal
 
 pub in_order-requires : goal.in_order-requires
-in_order-requires g c = has_header c.args.parts.now c.requires.made c.requires.stands
+in_order-requires g c = has_header c.args.parts.now c.requires.keeps.made c.requires.keeps.stands
 
 pub returns : goal.returns
 returns g c =

@@ -4,7 +4,7 @@ use Rattle.std.specs.Prelude.{string_bytes}
 use Rattle.cap_text.specs.Run.{run_request}
 use Rattle.cap_text.specs.Trial.{trial_text}
 use Rattle.capcheck_core.specs.declared.verdict.Verdict.TheVariants.{Done}
-use Rattle.capcheck_core.specs.Outside.{card}
+use Rattle.capcheck_core.specs.LentCard.{words_of}
 use Rattle.capcheck_core.specs.Run.{with_budget, IsCardKept, RunsWorldIn}
 use Rattle.capcheck_core.specs.Trial.{steps_each, IsUntriedKept, TriesIn}
 use Rattle.capcheck_core.proofs.Trials.{new_runs, tried}
@@ -15,13 +15,13 @@ pub text_of-requires : goal.text_of-requires
 text_of-requires c =
     new_runs c.args._packages.now c.args._roles c.args.world.now c.requires.linked c.args._parts.now c.args.new.now c.requires.made
     c.starts_refuse_alike.ensures.refused c.starts_refuse_alike.ensures.numbered (run_request c.args.run.now) (steps_each * c.from-steps.result)
-    (card c.run_in_card-verdict.new.ram c.run_in_card-verdict.new.heap c.run_in_card-verdict.new.statics) c.args.source.now c.run_in_card-verdict.result
+    (words_of c.run_in_card-verdict.new.card) c.args.source.now c.run_in_card-verdict.result
     c.requires.defended c.run_in_card-verdict.ensures.runs
 
 pub returns-in-Ok-clause-tries : goal.returns-in-Ok-clause-tries
 returns-in-Ok-clause-tries c =
     let r = run_request c.args.run.now in
-    let left = card c.run_in_card-verdict.new.ram c.run_in_card-verdict.new.heap c.run_in_card-verdict.new.statics in
+    let left = words_of c.run_in_card-verdict.new.card in
     let runs = subst (RunsWorldIn c.args.new.now (with_budget (steps_each * c.from-steps.result) r) left) c.in-Ok.ensures c.run_in_card-verdict.ensures.runs in
     said string_bytes Done (TriesIn c.args._packages.now c.args._roles c.args.world.now r left) c.tried.result
     (trial_text c.args.source.now c.as_str.result.now) c.done.result (tt {0})
@@ -34,8 +34,8 @@ returns-in-Ok-clause-tries c =
 pub returns-in-Ok-clause-kept : goal.returns-in-Ok-clause-kept
 returns-in-Ok-clause-kept c =
     let r = run_request c.args.run.now in
-    let before = card c.args.ram.now c.args.heap.now c.args.statics.now in
-    let left = card c.run_in_card-verdict.new.ram c.run_in_card-verdict.new.heap c.run_in_card-verdict.new.statics in
+    let before = words_of c.args.card.now in
+    let left = words_of c.run_in_card-verdict.new.card in
     let target = string_bytes c.in-Ok.target in
     let runs = subst (RunsWorldIn c.args.new.now (with_budget (steps_each * c.from-steps.result) r) left) c.in-Ok.ensures c.run_in_card-verdict.ensures.runs in
     let both = tried c.args._packages.now c.args._roles c.args.world.now c.args._parts.now c.args.new.now r (steps_each * c.from-steps.result) left
@@ -47,6 +47,6 @@ returns-in-Ok-clause-kept c =
 
 pub returns-in-Err-clause-kept : goal.returns-in-Err-clause-kept
 returns-in-Err-clause-kept c =
-    let before = card c.args.ram.now c.args.heap.now c.args.statics.now in
-    let left = card c.run_in_card-verdict.new.ram c.run_in_card-verdict.new.heap c.run_in_card-verdict.new.statics in
+    let before = words_of c.args.card.now in
+    let left = words_of c.run_in_card-verdict.new.card in
     inl (subst (IsCardKept before left) c.in-Err.ensures c.run_in_card-verdict.ensures.kept)

@@ -1,63 +1,44 @@
--- the package of one more folder is held, and the command goes on with the others
-use Rattle.std.proofs.Common.{length, Some, refl, sym, subst, rules}
+-- the package of the next folder is read, and the command goes on with the others
+use Rattle.std.proofs.Common.{◌++◌, [], ◌∷◌, Some, Ok, refl, sym, subst}
 use Rattle.std.proofs.lemmas.Result.{err_from_is_err_and}
 use Rattle.cap_files.specs.WordsLeft.{words_left}
-use Rattle.capcheck_core.specs.Loads.{AreLoaded, AreParts}
-use Rattle.capcheck_core.specs.Outside.{outside, card}
-use Rattle.capcheck_core.specs.OverLoads.{AnswersOverRest}
-use Rattle.capcheck_core.specs.Step.{OwnAnswers}
-use Rattle.capcheck_core.proofs.PackageLoads.{has_package, stops_roles, goes_on, goes_end}
-use Rattle.capcheck_core.proofs.Loads.{lent_opening}
-use Rattle.capcheck_core.proofs.Shown.{lent_once, lent_parts}
+use Rattle.capcheck_core.specs.LentCard.{words_of}
+use Rattle.capcheck_core.specs.Outside.{outside}
+use Rattle.capcheck_core.specs.OverLoads.{AnswersOverRest, GoesOver}
+use Rattle.capcheck_core.proofs.PackageLoads.{goes_end, goes_on, stops_at_roles}
 use Rattle.capcheck_core.proofs.world.+folders.Goals as goal
 
-pub over_opened-load_others-requires : goal.over_opened-load_others-requires
-over_opened-load_others-requires g t c = record {
-  first = subst (λ ps. AreLoaded (g.F.Folder.folders c.args.folder.now) c.args.dir.now 3 ps) (sym c.in_ok-opened.ensures) (search rules);
-  opening = c.opening_in-opening.ensures;
-}
-
-pub over_opened-lend_after-requires : goal.over_opened-lend_after-requires
-over_opened-lend_after-requires g t c =
-    lent_once (g.F.Folder.folders c.args.folder.now) c.args.dir.now c.in_ok-opened.opened c.in_ok-rest.rest c.in_ok-rest.ensures.loads
-
-pub over_opened-over_parts-requires : goal.over_opened-over_parts-requires
-over_opened-over_parts-requires g t c =
-    let before = g.F.Folder.folders c.args.folder.now in
-    let dir = c.args.dir.now in
-    let loaded = subst (λ f. AreParts f dir c.in_ok-parts.parts) (sym c.in_ok-rest.ensures.folders)
-    (lent_parts before before dir c.in_ok-opened.opened c.in_ok-rest.rest c.in_ok-parts.parts refl c.in_ok-parts.ensures c.in_ok-rest.ensures.loads) in
-    let opening = lent_opening before dir c.in_ok-opened.opened c.in_ok-rest.rest c.in_ok-parts.parts c.opening_in-opening.result c.in_ok-rest.ensures.loads
-    c.in_ok-parts.ensures c.opening_in-opening.ensures in
-    search (rules, loaded, opening)
-
-pub over_others-returns-in-None : goal.over_others-returns-in-None
-over_others-returns-in-None g t c =
-    let own = OwnAnswers c.args.step in
-    let before = outside (g.F.Folder.folders c.args.folder.now) (card c.args.ram.now c.args.heap.now c.args.statics.now) in
-    let after = outside (g.F.Folder.folders c.over_packages.new.folder) (card c.over_packages.new.ram c.over_packages.new.heap c.over_packages.new.statics) in
-    subst (λ ds. AnswersOverRest own ds c.args.packages (Some c.args.roles) before after c.over_packages.result) (sym c.in-None.ensures.steps.0)
-    (goes_end own c.args.packages c.args.roles before after c.over_packages.result c.over_packages.ensures)
-
-pub over_parts-returns-in_err-roles : goal.over_parts-returns-in_err-roles
-over_parts-returns-in_err-roles g t c =
+pub over_parts-returns-in_err-roles-clause-answers : goal.over_parts-returns-in_err-roles-clause-answers
+over_parts-returns-in_err-roles-clause-answers g t c =
     let before = g.F.Folder.folders c.args.folder.now in
     let p = err_from_is_err_and c.from_residual-in_err-roles.result c.from_residual-in_err-roles.ensures.1 in
-    rw (p.1, p.2) (record {
-      stops =
-          stops_roles before (g.F.Folder.folders c.roles_beside.new.folder) c.args.dir.now c.args.roles (length c.args.packages) (words_left c.args.others)
-          _
-          (has_package before c.args.dir.now c.args.parts.now c.in_ok-package.package (search rules) c.in_ok-package.ensures) c.in_err-roles.ensures.loads;
-      leaves = c.in_err-roles.ensures.folders;
-      card = refl;
-    })
+    rw (p.1, p.2)
+    (stops_at_roles (g.S.LastStep.own c.args.step.now) before (words_of c.args.card.now) c.args.rest.dir.now (words_left c.args.rest.others) c.args.packages
+    c.args.rest.roles before (g.F.Folder.folders c.roles_beside.new.folder) c.args.parts.now c.in_ok-read.read _ refl c.requires.parts c.in_ok-read.ensures
+    c.in_err-roles.ensures.loads c.in_err-roles.ensures.folders)
 
-pub over_parts-returns : goal.over_parts-returns
-over_parts-returns g t c =
-    goes_on (OwnAnswers c.args.step) (g.F.Folder.folders c.args.folder.now) (card c.args.ram.now c.args.heap.now c.args.statics.now) c.args.dir.now
-    (words_left c.args.others)
-    c.args.packages c.args.roles (g.F.Folder.folders c.roles_beside.new.folder)
-    (outside (g.F.Folder.folders c.over_others.new.folder) (card c.over_others.new.ram c.over_others.new.heap c.over_others.new.statics))
-    c.args.parts.now c.in_ok-package.package c.in_ok-roles.roles c.push.new.self c.over_others.result (search rules) (search rules) c.in_ok-package.ensures
-    c.in_ok-roles.ensures.loads
-    c.in_ok-roles.ensures.folders c.in_ok-push.ensures.ok c.over_others.ensures
+pub over_parts-returns-in-Some-clause-answers : goal.over_parts-returns-in-Some-clause-answers
+over_parts-returns-in-Some-clause-answers g t c =
+    let own = g.S.LastStep.own c.args.step.now in
+    let now = outside (g.F.Folder.folders c.roles_beside.new.folder) (words_of c.args.card.now) in
+    let after = outside (g.F.Folder.folders c.over_rest.new.folder) (words_of c.over_rest.new.card) in
+    let goes = subst (λ ds. GoesOver own ds c.push.new.self (Some c.in_ok-roles.roles) now after c.over_rest.result) (sym c.in-Some.ensures.steps)
+    c.over_rest.ensures.answers in
+    goes_on own (g.F.Folder.folders c.args.folder.now) (words_of c.args.card.now) c.args.rest.dir.now (words_left c.args.rest.others) c.args.packages
+    c.args.rest.roles (g.F.Folder.folders c.roles_beside.new.folder) after c.args.parts.now c.in_ok-read.read c.in_ok-roles.roles c.over_rest.result
+    c.requires.begun
+    c.requires.parts c.in_ok-read.ensures c.in_ok-roles.ensures.loads c.in_ok-roles.ensures.folders
+    (subst (λ ps. GoesOver own (words_left c.args.rest.others) ps (Some c.in_ok-roles.roles) now after c.over_rest.result) c.in_ok-push.ensures.ok goes)
+
+pub over_parts-returns-in-None-clause-answers : goal.over_parts-returns-in-None-clause-answers
+over_parts-returns-in-None-clause-answers g t c =
+    let own = g.S.LastStep.own c.args.step.now in
+    let made = c.args.packages ++ c.in_ok-read.read ∷ [] in
+    let now = outside (g.F.Folder.folders c.roles_beside.new.folder) (words_of c.args.card.now) in
+    let after = outside (g.F.Folder.folders c.over_packages.new.folder) (words_of c.over_packages.new.card) in
+    let ends = goes_end own c.push.new.self c.in_ok-roles.roles now after c.over_packages.result c.over_packages.ensures.answers in
+    goes_on own (g.F.Folder.folders c.args.folder.now) (words_of c.args.card.now) c.args.rest.dir.now (words_left c.args.rest.others) c.args.packages
+    c.args.rest.roles (g.F.Folder.folders c.roles_beside.new.folder) after c.args.parts.now c.in_ok-read.read c.in_ok-roles.roles (Ok c.over_packages.result)
+    c.requires.begun c.requires.parts c.in_ok-read.ensures c.in_ok-roles.ensures.loads c.in_ok-roles.ensures.folders
+    (subst (λ ds. AnswersOverRest own ds made (Some c.in_ok-roles.roles) now after c.over_packages.result) (sym c.in-None.ensures.steps.0)
+    (subst (λ ps. AnswersOverRest own [] ps (Some c.in_ok-roles.roles) now after c.over_packages.result) c.in_ok-push.ensures.ok ends))

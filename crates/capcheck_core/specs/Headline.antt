@@ -1,0 +1,158 @@
+-- What status 0 promises, command by command. A package is what parts stand for (`StandsFor`), a world what packages make (`IsLinked`);
+-- methods have dataflow typings (`HasFlowTyping`) and card typings (`HasCardTyping`); in a world no run may meet a fault (`IsFaultFree`),
+-- and the runs of two may end alike (`EndsAlike`). All else here is where these are held and which text tells of them.
+use Rattle.std.specs.Prelude.{◌≡◌, ℕ, ◌<◌, ◌≤◌, ◌*◌, List, ◌∷◌, Option, Some, IsNone, IfSome, IsSomeAnd}
+use Rattle.std.specs.FinMap as map
+use Rattle.std.specs.List.{AllZip}
+use Rattle.cap_files.specs.Folder.{Folders, IsThere}
+use Rattle.cap_gen.specs.Linked.{roles}
+use Rattle.cap_package.specs.PackageRecord.{PackageRecord}
+use Rattle.cap_package.specs.Parts.{Lent, held}
+use Rattle.cap_package.specs.StandsFor.{StandsFor}
+use Rattle.cap_text.specs.Check.{CheckRequest}
+use Rattle.cap_text.specs.Generate.{GenerateRequest}
+use Rattle.cap_text.specs.Line.{accepted_line, typed_line}
+use Rattle.cap_text.specs.Probe.{ProbeRequest}
+use Rattle.cap_text.specs.Request.{Request, probe, show, check, verify, defend, run, transform, trial, generate, IsRequest}
+use Rattle.cap_text.specs.Run.{RunRequest}
+use Rattle.cap_text.specs.Show.{ShowRequest}
+use Rattle.cap_text.specs.Table.{component_table}
+use Rattle.cap_text.specs.Transform.{TransformRequest}
+use Rattle.cap_text.specs.Transformed.{transformed_line}
+use Rattle.cap_text.specs.Trial.{trial_text}
+use Rattle.cap_text.specs.Verify.{VerifyRequest}
+use Rattle.jc_base.specs.World.{Linked}
+use Rattle.jc_link.specs.World.{IsLinked}
+use Rattle.law_sound.specs.Soundness.{IsFaultFree}
+use Rattle.xf_pack.specs.Transformed.{KeepsBehaviour}
+use Rattle.capcheck_core.specs.Defend.{IsDefended}
+use Rattle.capcheck_core.specs.Generate.{generated, IsTold}
+use Rattle.capcheck_core.specs.Loads.{AreParts}
+use Rattle.capcheck_core.specs.Outside.{CardWords, Outside, Untouched}
+use Rattle.capcheck_core.specs.Packages.{AreGiven}
+use Rattle.capcheck_core.specs.Probe.{IsBareRun, OfMethod, OfMethodPart}
+use Rattle.capcheck_core.specs.Report.{Seen, Received}
+use Rattle.capcheck_core.specs.Roles.{roles_tag}
+use Rattle.capcheck_core.specs.Run.{IsLeft, with_budget}
+use Rattle.capcheck_core.specs.Transform.{roles_beside}
+use Rattle.capcheck_core.specs.Typed.{AreTyped, count_of_last}
+use Rattle.capcheck_core.specs.Verify.{count_of_world, HaveCardTypings}
+
+-- ---- what the folders hold
+
+-- the parts in these folders stand for packages, and these make this world with the roles beside the first
+pub record HoldWorld (before : Folders) (dirs : List (List ℕ)) (w : Linked) : Type 0 where
+  pub parts : List (List Lent)
+  pub roles : List ℕ
+  pub given : AreGiven before dirs parts roles
+  pub packages : List PackageRecord
+  pub stand : AllZip StandsFor parts packages
+  pub linked : IsLinked packages roles w
+
+-- these files are in the folder afterwards, and every other file of any folder is as it was, where the folders tell what they hold
+pub record StandIn (dir : List ℕ) (stores : List Lent) (before after : Folders) : Type 0 where
+  pub there : (tag : ℕ) (bytes : List ℕ) → held stores tag ≡ Some bytes → IsThere after (tag ∷ dir) bytes
+  pub others : IfSome after.held (λ now. IsSomeAnd before.held (λ old.
+      (key : List ℕ) → ((tag : ℕ) → key ≡ tag ∷ dir → IsNone (held stores tag)) → map.get now key ≡ map.get old key))
+
+-- so are all of these parts, and the roles where some are given
+pub record AreKept (dir : List ℕ) (parts : List Lent) (given : Option (List ℕ)) (before after : Folders) : Type 0 where
+  pub stores : List Lent
+  pub components : (tag : ℕ) → 1 ≤ tag → tag < 256 → held stores tag ≡ held parts tag
+  pub roles : held stores roles_tag ≡ given
+  pub stand : StandIn dir stores before after
+
+-- ---- what each command promises
+
+-- `verify`: every method with code has a card typing, and no run meets a fault
+pub record Accepted (v : VerifyRequest) (before : Folders) (text : List ℕ) : Type 0 where
+  pub world : Linked
+  pub held : HoldWorld before v.dirs world
+  pub carded : HaveCardTypings world
+  pub fault_free : IsFaultFree world
+  pub prints : text ≡ accepted_line (count_of_world world)
+
+-- `run`: the same, and the text and the memory of the card tell what comes of the run
+pub record Ran (r : RunRequest) (before : Folders) (card : CardWords) (text : List ℕ) : Type 0 where
+  pub world : Linked
+  pub held : HoldWorld before r.dirs world
+  pub carded : HaveCardTypings world
+  pub fault_free : IsFaultFree world
+  pub left : IsLeft world r card text
+
+-- `check`: every method with code of the last package has a dataflow typing
+pub record Typed (c : CheckRequest) (before : Folders) (text : List ℕ) : Type 0 where
+  pub world : Linked
+  pub held : HoldWorld before c.dirs world
+  pub typed : AreTyped world
+  pub prints : text ≡ typed_line (count_of_last world)
+
+-- `transform`: the libraries are accepted and the last package has its typings; what is stored makes a world with the libraries in which
+-- every method with code has a card typing, and each run ends there as it does in the source
+pub record Transformed (t : TransformRequest) (before after : Folders) (text : List ℕ) : Type 0 where
+  pub source : Linked
+  pub held : HoldWorld before t.dirs source
+  pub parts : List Lent
+  pub keeps : KeepsBehaviour held.packages held.roles source parts
+  pub kept : AreKept t.out parts (roles_beside held.packages held.roles) before after
+  pub prints : text ≡ transformed_line (count_of_last source)
+
+-- `defend`: the run begins, and the text tells what comes of it on a machine that tests what it does
+pub record Defended (r : RunRequest) (before : Folders) (text : List ℕ) : Type 0 where
+  pub world : Linked
+  pub held : HoldWorld before r.dirs world
+  pub defended : IsDefended world r text
+
+-- `trial`: such a transformation, of which nothing is stored; the text tells what comes of the run in the source, and in the new world
+-- within 2,000 times the steps
+pub record Tried (r : RunRequest) (before : Folders) (card : CardWords) (text : List ℕ) : Type 0 where
+  pub source : Linked
+  pub held : HoldWorld before r.dirs source
+  pub parts : List Lent
+  pub keeps : KeepsBehaviour held.packages held.roles source parts
+  pub first : List ℕ
+  pub defended : IsDefended source r first
+  pub second : List ℕ
+  pub fault_free : IsFaultFree keeps.world
+  pub left : IsLeft keeps.world (with_budget (2000 * r.budget) r) card second
+  pub prints : text ≡ trial_text first second
+
+-- `gen`: such a transformation of the package that is generated, and all its methods are run
+pub record Generated (g : GenerateRequest) (before : Folders) (after : Outside) (text : List ℕ) : Type 0 where
+  pub source : Linked
+  pub linked : IsLinked (generated g.seed) roles source
+  pub parts : List Lent
+  pub keeps : KeepsBehaviour (generated g.seed) roles source parts
+  pub kept : AreKept g.out parts (Some roles) before after.folders
+  pub told : IsTold g.seed keeps.made keeps.world after.card text
+
+-- `show`: the parts stand for a package, and the text is its component table
+pub record Shown (s : ShowRequest) (before : Folders) (text : List ℕ) : Type 0 where
+  pub parts : List Lent
+  pub loaded : AreParts before s.dir parts
+  pub read : PackageRecord
+  pub stands : StandsFor parts read
+  pub prints : text ≡ component_table read
+
+-- `probe`: the Method part is a bare method with a card typing, and the text is how its run ends
+abbrev pub Probed : ProbeRequest → Folders → List ℕ → Type 0
+Probed p before text = OfMethodPart p before (λ file. OfMethod file (λ bare code. IsBareRun bare code p text))
+
+-- ---- the promise
+
+-- what else a command leaves as it was, and what it promises
+abbrev pub Promise : Request → Outside → Outside → List ℕ → Type 0
+Promise (probe p) before after text = Untouched before after × Probed p before.folders text
+Promise (show s) before after text = Untouched before after × Shown s before.folders text
+Promise (check c) before after text = Untouched before after × Typed c before.folders text
+Promise (verify v) before after text = Untouched before after × Accepted v before.folders text
+Promise (defend r) before after text = Untouched before after × Defended r before.folders text
+Promise (run r) before after text = (after.folders ≡ before.folders) × Ran r before.folders after.card text
+Promise (transform t) before after text = (after.card ≡ before.card) × Transformed t before.folders after.folders text
+Promise (trial r) before after text = (after.folders ≡ before.folders) × Tried r before.folders after.card text
+Promise (generate g) before after text = Generated g before.folders after text
+
+-- where the words ask for something and the status is 0, its promise holds of the text that was received
+abbrev pub Promises : List (List ℕ) → Outside → Outside → Seen → Seen → ℕ → Type 0
+Promises words before after sink put status =
+    (r : Request) → IsRequest words r → status ≡ 0 → (text : List ℕ) × Received sink put text × Promise r before after text
