@@ -1,4 +1,5 @@
 use crate::transforming::{Outcome, with_second};
+use cap_tests::METHOD;
 use std::alloc::{AllocError, Global};
 use xf_pack::MethodLimit;
 
@@ -47,6 +48,47 @@ fn has_room(alloc: Global) -> Result<bool, AllocError> {
         matches!(room, Outcome::Made(_))
             && matches!(full, Outcome::Limited(1, MethodLimit::StackLimit)),
     )
+}
+
+/// Code with a switch of 4,800 cases that lead where its default does, to a place where a byte array or null stands in local
+/// 1, which holds null at the switch: `sload_0`, `pop`, four times; `sspush 1`, `pop`, twice; `sload_0`, `ifeq` to 26,
+/// `sconst_1`, `newarray` of bytes, `astore_1`, `goto_w` 9636; at 26 `aconst_null`, `astore_1`, `sload_0`, `stableswitch` 0 to
+/// 4799, all to 9636; there `sconst_0`, `sreturn`.
+fn switching(alloc: Global) -> Result<Vec<u8>, AllocError> {
+    let mut code = Vec::from_slice(
+        alloc,
+        b"\x1C\x3B\x1C\x3B\x1C\x3B\x1C\x3B\x11\x00\x01\x3B\x11\x00\x01\x3B",
+    )?;
+    code.extend_from_slice(b"\x1C\x60\x09\x04\x90\x0B\x2C\xA8\x25\x8D\x01\x2C\x1C")?;
+    code.extend_from_slice(b"\x73\x25\x87\x00\x00\x12\xBF")?;
+    for _case in 0..4800u16 {
+        code.extend_from_slice(b"\x25\x87")?;
+    }
+    code.extend_from_slice(b"\x03\x78")?;
+    Ok(code)
+}
+
+/// The stub of all cases, at the end of the method: `aload_2`, `astore_1`, `goto` back to `sconst_0`, `sreturn`.
+const STUB: &[u8] = b"\x03\x78\x1A\x2C\x70\xFC";
+
+/// How long the Method component is whose second method has that switch, if it is made and ends with one stub.
+fn switched(alloc: Global) -> Result<Option<usize>, AllocError> {
+    let code = switching(alloc)?;
+    let outcome = with_second(alloc, (OF_SHORTS, &[0x80, 200, 1, 1], &code))?;
+    Ok(match &outcome {
+        Outcome::Made(made) => match made.get(METHOD) {
+            Some(file) if file.ends_with(STUB) => Some(file.len()),
+            _ => None,
+        },
+        _ => None,
+    })
+}
+
+#[test]
+fn cases_that_lead_to_one_place_have_one_stub(rt: HostRuntime) -> Result<(), AllocError> {
+    // four bytes before the methods, 6 of the first, and 9,646 of the second
+    assert_eq!(rt; switched(rt.alloc())?, Some(9656));
+    Ok(())
 }
 
 #[test]
