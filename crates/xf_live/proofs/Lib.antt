@@ -1,0 +1,5 @@
+pub mod Sets
+pub mod Carrying
+pub mod Beginning
+pub mod Oks
+pub mod Flows

@@ -1,0 +1,4 @@
+pub mod Set
+pub mod Live
+pub mod Liveness
+pub mod Flow

@@ -1,0 +1,14 @@
+//! Live registers of a flow graph (Aho, Lam, Sethi and Ullman, section 9.2.5): those that may be read before they are
+//! written.
+//!
+//! It stands on nothing of the project: a node has the registers that it reads and those that it writes, and the nodes
+//! from which control comes to it.
+#![tactic(auto)]
+
+mod graph;
+mod live;
+mod set;
+
+pub use graph::{Edge, Uses, live_before};
+pub use live::{Node, live_sets};
+pub use set::RegisterSet;
