@@ -1,6 +1,7 @@
-//! The files of a package, what each of its components says, and the first of the parts that is absent,
-//! breaks its format or has another size than the Directory tells (Java Card 2.2 VM Specification,
-//! chapter 6). It stands on the readers of the components, and takes no memory but for lists of parts.
+//! The files of a package, what each of its components says, and the first of the parts that is at fault
+//! (Java Card 2.2 VM Specification, chapter 6). That is one that is absent, breaks its format or has another
+//! size than the Directory tells. It stands on the readers of the components, and takes no memory but for
+//! lists of parts.
 #![tactic(auto)]
 
 mod components;

@@ -1,18 +1,18 @@
 ghost use Rattle.std.specs.Prelude.{◌≡◌, ◌≤◌, ◌++◌, length, Some, codes, decimal};
-ghost use Rattle.cap_files.specs.FileName.{name_text, part_name};
+ghost use Rattle.cap_files.specs.FileName.{name_text, part_name, extension};
 
 use cap_bytes::Part;
 use std::fmt;
 
-/// The name of a part's file in its folder, without the extension `.cap` (section 4.1.2 of the
-/// specification). It prints as that text.
+/// The name of a part's file in its folder, without its extension (section 4.1.2 of the specification). It prints as that
+/// text.
 #[derive(Clone, Copy)]
 pub struct FileName {
     pub(crate) stem: &'static str,
     pub(crate) number: Option<u8>,
 }
 
-/// The name of the file of a part: of the roles, of a component, or of a custom component.
+/// The name of the file of a part: of the roles, of a component, of a Load file, of a listing, or of a custom component.
 pub fn file_name(part: Part) -> FileName
     ensures name { name_text result ≡ part_name part.0 }
     ensures short { length (name_text result) ≤ 12 }
@@ -31,9 +31,22 @@ pub fn file_name(part: Part) -> FileName
         10 => "Export",
         11 => "Descriptor",
         12 => "Debug",
+        13 => "Load",
+        14 => "Listing",
         number => return custom_name(number),
     };
     FileName { stem, number: None }
+}
+
+/// The extension of the file of a part: a listing is a text.
+pub(crate) fn extension(part: Part) -> &'static str
+    ensures extension { result.now ≡ extension part.0 }
+    ensures short { length result.now ≡ 4 }
+{
+    match part.0 {
+        14 => ".txt",
+        _ => ".cap",
+    }
 }
 
 fn custom_name(number: u8) -> FileName

@@ -1,7 +1,7 @@
 ghost use Rattle.std.specs.Prelude.{◌≡◌, ◌≤◌, ◌+◌, ◌++◌, [], length, nat_le, string_bytes, string_len, string_capacity, IfOk, if◌then◌else◌};
 ghost use Rattle.cap_files.specs.FileName.{path_of, name_text};
 
-use crate::name::{FileName, file_name};
+use crate::name::{FileName, extension, file_name};
 use cap_bytes::Part;
 use itoa::Buffer;
 use std::alloc::{AllocError, Global};
@@ -54,7 +54,7 @@ impl Path {
         append(&mut self.text, dir);
         append(&mut self.text, "/");
         append_name(&mut self.text, file_name(part));
-        append(&mut self.text, ".cap");
+        append(&mut self.text, extension(part));
         true
     }
 

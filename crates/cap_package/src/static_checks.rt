@@ -16,6 +16,7 @@ use crate::least::keep_lesser;
 use crate::places::StaticPlaces;
 use crate::static_place::StaticPlace;
 use arrayvec::ArrayVec;
+use byteorder::{BigEndian, ByteOrder};
 use cap_components::{PackFault, field_type, refuse};
 use cap_desc::{DescPart, FieldInfo, FieldsOf, TypeItem};
 use cap_method::StaticPart;
@@ -28,7 +29,7 @@ const MOST_ARRAYS: usize = 65535;
 pub(crate) fn image_offset(field: &FieldInfo) -> u16
     ensures { result ≡ image_offset (field_seen field.now) }
 {
-    field.bytes[1] as u16 * 256 + field.bytes[2] as u16
+    BigEndian::read_u16(&field.bytes[1..])
 }
 
 /// The bytes of a value of a type in the image.

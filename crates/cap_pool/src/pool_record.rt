@@ -5,6 +5,7 @@ ghost use Rattle.cap_pool.specs.PoolReference.{class_in, referred, static_in};
 use crate::lists::PoolEntries;
 use crate::pool_items::entry;
 use crate::pool_reference::{PoolReference, StaticReference};
+use byteorder::{BigEndian, ByteOrder};
 use cap_bytes::{ClassReference, View};
 
 /// An entry of the constant pool.
@@ -20,7 +21,7 @@ pub struct PoolEntry {
 fn class_in(bytes: [u8; 3]) -> ClassReference
     ensures { result ≡ class_in bytes }
 {
-    ClassReference::of(bytes[0] as u16 * 256 + bytes[1] as u16)
+    ClassReference::of(BigEndian::read_u16(&bytes))
 }
 
 /// The static field or the method without dispatch that three bytes name.
@@ -28,7 +29,7 @@ fn static_in(bytes: [u8; 3]) -> StaticReference
     ensures { result ≡ static_in bytes }
 {
     if bytes[0] < 128 {
-        return StaticReference::Internal(bytes[1] as u16 * 256 + bytes[2] as u16);
+        return StaticReference::Internal(BigEndian::read_u16(&bytes[1..]));
     }
     StaticReference::External {
         package: bytes[0] - 128,
