@@ -1,7 +1,6 @@
-//! The types of Java Card bytecode verification with their order and join (Leroy 2002, section 2),
-//! the records of classes, methods and static fields (JCVM 2.2, chapter 6), and the linked world of
-//! packages that verifiers and machines read.
-//! Of crates it stands on `byteorder` alone.
+//! The types of Java Card bytecode verification with their order and join (Leroy 2002, section 2), the
+//! records of classes, methods and static fields (JCVM 2.2, chapter 6), and the linked world of packages.
+//! That is what verifiers and machines read. Of crates it stands on `byteorder` alone.
 #![tactic(auto)]
 
 mod class;

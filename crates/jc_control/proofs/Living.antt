@@ -4,7 +4,6 @@ use Rattle.jc_base.specs.declared.record.Handler.{Handler}
 use Rattle.jc_control.specs.Method.{Method}
 use Rattle.jc_control.specs.Control.{IsReached, follows, caught, jumped, IsLeader, led_to, entered, IsLive}
 use Rattle.jc_control.specs.ControlFlow.{Marked, IsControlFlow, IsMarkedLive}
-use Rattle.jc_control.specs.Laws.{LiveHandlersLead, LeadersAreReached}
 
 pub live-from : (m : Method) (s : Marked) → IsControlFlow m s → (h : Handler) → Contains m.rec.handlers h → IsMarkedLive s h → IsLive m h
 live-from m s control h listed live = record { listed = listed; place = live.place; reached = (control.reached live.place).0 live.marked; covers = live.covers }
@@ -12,12 +11,6 @@ live-from m s control h listed live = record { listed = listed; place = live.pla
 pub live-to : (m : Method) (s : Marked) → IsControlFlow m s → (h : Handler) → IsLive m h → IsMarkedLive s h
 live-to m s control h live = record { place = live.place; marked = (control.reached live.place).1 live.reached; covers = live.covers }
 
-pub live-handlers-lead : LiveHandlersLead
-live-handlers-lead = λ m h live. (caught live.reached live.listed live.covers, entered live.reached live.listed live.covers)
-
 pub leader-reached : (m : Method) (q : ℕ) → IsLeader m q → IsReached m q
 leader-reached m _ (led_to stands reached among) = follows stands reached (jumped among)
 leader-reached m _ (entered reached listed covers) = caught reached listed covers
-
-pub leaders-are-reached : LeadersAreReached
-leaders-are-reached = leader-reached

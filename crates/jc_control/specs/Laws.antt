@@ -1,11 +1,10 @@
 -- Laws of flaws and of reached places.
 use Rattle.std.specs.Prelude.{◌≡◌, ◌↔◌, ℕ, ◌+◌, ◌<◌, length, Ok}
-use Rattle.jc_base.specs.declared.record.Handler.{Handler}
 use Rattle.jc_decode.specs.declared.insn.Placed.{Placed}
 use Rattle.jc_decode.specs.Decoding.{decoded}
 use Rattle.jc_control.specs.Method.{Method}
 use Rattle.jc_control.specs.WellFormed.{HasInstruction, IsPlace, IsBoundary, IsWellFormed}
-use Rattle.jc_control.specs.Control.{IsReached, IsLeader, IsLive}
+use Rattle.jc_control.specs.Control.{IsReached}
 use Rattle.jc_control.specs.declared.flaw.Flaw.{Flaw}
 use Rattle.jc_control.specs.Flaw.{Spot, IsFlaw, IsFirstFlaw}
 
@@ -27,11 +26,3 @@ pub record ArePlaced (m : Method) : Type 0 where
 
 abbrev pub InstructionsArePlaced : Type 0
 InstructionsArePlaced = (m : Method) → IsWellFormed m → ArePlaced m
-
--- the entry of a live handler is reached, and a leader
-abbrev pub LiveHandlersLead : Type 0
-LiveHandlersLead = (m : Method) (h : Handler) → IsLive m h → IsReached m h.entry × IsLeader m h.entry
-
--- each leader is reached
-abbrev pub LeadersAreReached : Type 0
-LeadersAreReached = (m : Method) (q : ℕ) → IsLeader m q → IsReached m q

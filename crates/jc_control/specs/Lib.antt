@@ -1,6 +1,7 @@
 pub mod Method
 pub mod Asked
 pub mod WellFormed
+pub mod ExactIndex
 pub mod Control
 pub mod Flaw
 pub mod Laws

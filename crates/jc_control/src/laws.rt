@@ -1,4 +1,4 @@
-ghost use Rattle.jc_control.specs.Laws.{FlawsDecide, FirstFlawIsOne, InstructionsArePlaced, LiveHandlersLead, LeadersAreReached};
+ghost use Rattle.jc_control.specs.Laws.{FlawsDecide, FirstFlawIsOne, InstructionsArePlaced};
 
 use jc_decode::instructions_are_listed;
 
@@ -23,9 +23,3 @@ pub fn instructions_are_placed()
 {
     instructions_are_listed();
 }
-
-/// The entry of a live handler is reached and a leader, and each leader is reached.
-pub fn leaders_are_reached()
-    ensures live { LiveHandlersLead }
-    ensures leaders { LeadersAreReached }
-{}

@@ -22,7 +22,7 @@ pub use control::control_flow;
 pub use edge::{covers, place_of};
 pub use flags::Flags;
 pub use flaw::{ControlEnd, Flaw};
-pub use laws::{first_flaw_is_one, flaws_decide, instructions_are_placed, leaders_are_reached};
+pub use laws::{first_flaw_is_one, flaws_decide, instructions_are_placed};
 pub use listing::Listing;
 pub use places::Places;
 pub use reached::ControlFlow;

@@ -3,6 +3,7 @@ pub mod Switches
 pub mod Pairs
 pub mod Decoded
 pub mod Listing
+pub mod UntestedReads
 pub mod Tables
 pub mod Targets
 pub mod Ranges

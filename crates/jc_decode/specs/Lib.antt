@@ -1,6 +1,7 @@
 pub mod Layout
 pub mod Names
 pub mod Decoding
+pub mod Untested
 pub mod Cases
 pub mod Listing
 pub mod Places

@@ -49,6 +49,7 @@ fn insn_at(code: View, at: u32) -> Result<Insn, CodeEnd>
 }
 
 /// The instruction of an opcode at a place, with no operand but the first.
+#[inline(always)]
 fn with_one(code: View, at: u32, op: u8, x: Operand) -> Result<Insn, CodeEnd>
     requires short { length code.bytes.now ≤ 65535 }
     requires place { at ≤ 65535 }
@@ -88,6 +89,7 @@ fn with_more(code: View, at: u32, op: u8, layout: Layout) -> Result<Insn, CodeEn
     })
 }
 
+#[inline(always)]
 fn u1(code: View, at: u32) -> Result<u8, CodeEnd>
     ensures { result ≡ or_cut (number_at 1 at code.entry.bytes.now) }
 {
@@ -97,6 +99,7 @@ fn u1(code: View, at: u32) -> Result<u8, CodeEnd>
     }
 }
 
+#[inline(always)]
 fn u2(code: View, at: u32) -> Result<u16, CodeEnd>
     ensures { result ≡ or_cut (number_at 2 at code.entry.bytes.now) }
 {
@@ -106,6 +109,7 @@ fn u2(code: View, at: u32) -> Result<u16, CodeEnd>
     }
 }
 
+#[inline(always)]
 fn u4(code: View, at: u32) -> Result<u32, CodeEnd>
     ensures { result ≡ or_cut (number_at 4 at code.entry.bytes.now) }
 {
@@ -116,7 +120,8 @@ fn u4(code: View, at: u32) -> Result<u32, CodeEnd>
 }
 
 /// The place, if the code reaches to it.
-fn reach(code: View, end: u64) -> Result<u32, CodeEnd>
+#[inline(always)]
+pub(crate) fn reach(code: View, end: u64) -> Result<u32, CodeEnd>
     requires { length code.bytes.now ≤ 65535 }
     ensures value { result ≡ within_bytes code.entry.bytes.now end }
     ensures within { IfOk result (λ e. (e ≡ end) × (e ≤ length code.entry.bytes.now)) }
@@ -176,6 +181,7 @@ fn allowed(byte: u8, is_allowed: bool) -> Result<i32, CodeEnd>
 
 impl Operand {
     /// The operand at a place.
+    #[inline(always)]
     fn read(self, code: View, at: u32) -> Result<i32, CodeEnd>
         ensures { result ≡ operand_at self code.entry.bytes.now at }
     {

@@ -64,6 +64,7 @@ pub enum Opcode {
 
 impl Operand {
     /// The number of its bytes.
+    #[inline(always)]
     pub fn width(self) -> u32
         ensures { result ≡ operand_width self }
     {
@@ -78,6 +79,7 @@ impl Operand {
 
 impl Layout {
     /// The operands of the instruction of this opcode.
+    #[inline(always)]
     pub fn of(op: u8) -> Result<Layout, CodeEnd>
         ensures { result ≡ layout_of op }
     {
@@ -89,6 +91,7 @@ impl Layout {
     }
 
     /// Whether there is no operand but the first, and no table.
+    #[inline(always)]
     pub(crate) fn has_one(self) -> bool
         ensures { IsTrue result → self ≡ one self.x }
     {

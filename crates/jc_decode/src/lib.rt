@@ -1,6 +1,6 @@
-//! The instructions of Java Card bytecode (Java Card 2.2 VM Specification, chapter 7): their operands,
-//! their decoding from a method's code and their encoding, the cases of switches, and a method's code as
-//! the list of its instructions. Code whose jumps go to labels is read as such a list too, and code that
+//! The instructions of Java Card bytecode (Java Card 2.2 VM Specification, chapter 7): their operands, their
+//! decoding and encoding, the cases of switches, and a method's code as the list of its instructions. They
+//! are decoded from a method's code. Code whose jumps go to labels is read as such a list too, and code that
 //! is laid in bytes may stand for it. It stands on `cap_bytes` and `byteorder`; decoding takes no memory.
 #![tactic(auto)]
 
@@ -11,6 +11,7 @@ mod encoding;
 mod forms;
 mod insn;
 mod instructions;
+mod known;
 mod laws;
 mod layout;
 mod names;
@@ -26,6 +27,7 @@ pub use decoding::decode;
 pub use encoding::encode;
 pub use insn::{Case, CodeEnd, Insn, Placed};
 pub use instructions::{Instructions, code_end};
+pub use known::decode_known;
 pub use laws::{
     bytes_read_back, instructions_are_listed, labels_stand_between, listing_is_one,
     nothing_past_the_end, short_is_no_longer, targets_are_few,

@@ -9,6 +9,7 @@ use crate::operation::{InstanceField, Sort, StaticField};
 use jc_base::{Kind, Member, Ty, World, is_reference, types_are_ordered};
 
 /// An operand read as an unsigned byte.
+#[inline(always)]
 pub(crate) fn byte_of(x: i32) -> u8
     ensures { result ≡ byte_of x }
 {
@@ -16,6 +17,7 @@ pub(crate) fn byte_of(x: i32) -> u8
 }
 
 /// An operand read as an unsigned number of two bytes.
+#[inline(always)]
 pub(crate) fn short_of(x: i32) -> u16
     ensures { result ≡ short_of x }
 {
@@ -23,6 +25,7 @@ pub(crate) fn short_of(x: i32) -> u16
 }
 
 /// What the entry of a package's constant pool names, where there is one of this number.
+#[inline(always)]
 pub(crate) fn member(world: &World<'_>, package: u16, pool: u16) -> Option<Member>
     requires { «package» < length world.now.infos }
     ensures is { result ≡ member_at world.now «package» pool }
@@ -36,6 +39,7 @@ pub(crate) fn member(world: &World<'_>, package: u16, pool: u16) -> Option<Membe
     }
 }
 
+#[inline(always)]
 fn same_kind(a: Kind, b: Kind) -> bool
     ensures { result ≡ same_kind a b }
 {
@@ -47,6 +51,7 @@ fn same_kind(a: Kind, b: Kind) -> bool
     }
 }
 
+#[inline(always)]
 pub(crate) fn static_field(
     world: &World<'_>,
     package: u16,
@@ -72,6 +77,7 @@ pub(crate) fn static_field(
     }
 }
 
+#[inline(always)]
 pub(crate) fn instance_field(
     world: &World<'_>,
     package: u16,

@@ -35,6 +35,7 @@ fn new_object(
 }
 
 /// The operation of an instruction of a method's code.
+#[inline(always)]
 fn resolved(
     world: &World<'_>,
     method: &MethodRec,
@@ -91,6 +92,7 @@ fn resolved(
 
 /// The operation of the instruction at a site, with all that its operands name, or the fault where they name
 /// nothing that it takes: `BadMember` or `NotConcrete`, and `Mismatch` of a return that is not the signature's.
+#[inline(always)]
 pub fn resolve(world: &World<'_>, site: Site, insn: Insn) -> Result<Operation, RuleFault>
     requires { site.method < length world.now.methods }
     ensures resolves { ResolvesAt world.now site insn result }

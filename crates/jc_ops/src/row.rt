@@ -364,6 +364,7 @@ static ROWS: [Row; 256] = [
 
 impl Row {
     /// The row of an opcode.
+    #[inline(always)]
     pub(crate) fn of(op: u8) -> Row
         ensures { result ≡ row_at op }
     {
