@@ -1,6 +1,7 @@
-//! The class table of linked packages (JCVM 2.2, sections 2.2.1, 4.3.7.6, 6.8 and 6.8.2): the lines in which every chain
-//! of superclasses ends with object, dispatch lists, interfaces, roles and instance cells, or the first fault of these.
-//! It stands on the classes and methods by number of `jc_resolve` and on the records of `jc_base`.
+//! The class table of linked packages (JCVM 2.2, sections 2.2.1, 4.3.7.6, 6.8 and 6.8.2): lines of superclasses,
+//! dispatch lists, interfaces, roles and instance cells, or the first fault of these. In the lines every chain of
+//! superclasses ends with object. It stands on the classes and methods by number of `jc_resolve` and on the records of
+//! `jc_base`.
 #![tactic(auto)]
 
 mod building;

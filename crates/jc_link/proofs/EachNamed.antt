@@ -95,7 +95,7 @@ module _ (ps : List PackageRecord) (t : ClassTable) (statics : List StaticRec) w
       let names = member-names ps t statics k e m is in
       record { names = names; only = λ other h. names-only ps t statics k e m other names h }
 
-  all_named : missing_members ps t statics ≡ [] → HaveNamedMembers ps t statics (pools ps t statics)
+  pub all_named : missing_members ps t statics ≡ [] → HaveNamedMembers ps t statics (pools ps t statics)
   all_named none = λ k n e at.
       let x = pools-some ps t statics 0 ps k at.home none at.there n e at.entry in
       let same : 0 + k ≡ k = omega arith in

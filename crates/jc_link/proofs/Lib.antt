@@ -22,6 +22,7 @@ pub mod MembersLinked
 pub mod Faultless
 pub mod NamingLaws
 pub mod EachNamed
+pub mod NamesOne
 pub mod Tables
 pub mod Steps
 pub mod Asked

@@ -31,7 +31,7 @@ use Rattle.jc_link.specs.Naming.{super_methodref, static_fieldref, static_method
 
 -- ---- what was found, step by step
 
-then_some : {X Y : Type 0} (f : X → Option Y) (o : Option X) (y : Y) → option_and_then f o ≡ Some y → (x : X) × (o ≡ Some x) × (f x ≡ Some y)
+pub then_some : {X Y : Type 0} (f : X → Option Y) (o : Option X) (y : Y) → option_and_then f o ≡ Some y → (x : X) × (o ≡ Some x) × (f x ≡ Some y)
 then_some f None y h = absurd cc
 then_some f (Some x) y h = (x, refl, h)
 

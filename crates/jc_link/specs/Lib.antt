@@ -17,3 +17,4 @@ pub use Rattle.jc_resolve.specs.declared.fault.LinkEnd
 pub use Rattle.jc_resolve.specs.Fault
 pub mod World
 pub mod Known
+pub mod OneEach

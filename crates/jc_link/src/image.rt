@@ -3,6 +3,7 @@ ghost use Rattle.cap_method.specs.StaticPart.{statics_seen};
 ghost use Rattle.jc_link.specs.Image.{image, references, word_at, words_at};
 
 use crate::words::signed;
+use byteorder::{BigEndian, ByteOrder};
 use cap_method::StaticPart;
 use jc_base::{Initial, Kind};
 use std::alloc::{AllocError, Global};
@@ -33,7 +34,7 @@ fn word_at(statics: &StaticPart<'_>, offset: u32) -> u16
     requires { offset ≤ 65537 }
     ensures { result ≡ word_at (image (statics_seen statics.now)) offset }
 {
-    byte_at(statics, offset) as u16 * 256 + byte_at(statics, offset + 1) as u16
+    BigEndian::read_u16(&[byte_at(statics, offset), byte_at(statics, offset + 1)])
 }
 
 /// The handle in the reference at an offset of the image, and 0 where it is null.

@@ -2,6 +2,7 @@ ghost use Rattle.std.specs.Prelude.{◌≡◌, IfOk, map};
 ghost use Rattle.jc_link.specs.Words.{signed, element_words};
 ghost use Rattle.jc_base.specs.Index.{words_of_bytes};
 
+use byteorder::{BigEndian, ByteOrder};
 use std::alloc::{AllocError, Global};
 
 /// The type of elements that take one byte each, boolean being the other one.
@@ -36,7 +37,7 @@ fn wide_words(alloc: Global, bytes: &[u8]) -> Result<Vec<u16>, AllocError>
     let mut words = Vec::with_capacity(alloc, bytes.len() / 2)?;
     let mut rest = bytes;
     'pairs: while let [high, low, others @ ..] = rest {
-        words.push(*high as u16 * 256 + *low as u16)?;
+        words.push(BigEndian::read_u16(&[*high, *low]))?;
         rest = others;
     }
     Ok(words)

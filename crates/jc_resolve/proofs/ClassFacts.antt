@@ -101,7 +101,7 @@ module _ (ps : List PackageRecord) (object : ℕ) where
 
   -- ---- superclasses
 
-  parent_within : (k reference : ℕ) → IfSome (parent_named ps k reference) (λ c. c < many)
+  pub parent_within : (k reference : ℕ) → IfSome (parent_named ps k reference) (λ c. c < many)
   parent_within k reference =
       let P : Option ℕ → Type 0 = λ o. IfSome o (λ c. c < many) in
       either P (eqb reference 0xFFFF) None (class_named ps k reference) tt (named_within k reference)
@@ -113,7 +113,7 @@ module _ (ps : List PackageRecord) (object : ℕ) where
   named_earlier k reference None e = tt
   named_earlier k reference (Some c) e = refers_earlier ps object k (reference_of reference) c (named-refers ps k reference c e)
 
-  parent_earlier : (k reference : ℕ) → IsEarlier k (parent_named ps k reference)
+  pub parent_earlier : (k reference : ℕ) → IsEarlier k (parent_named ps k reference)
   parent_earlier k reference =
       either (IsEarlier k) (eqb reference 0xFFFF) None (class_named ps k reference) tt (named_earlier k reference (class_named ps k reference) refl)
 
@@ -127,7 +127,7 @@ module _ (ps : List PackageRecord) (object : ℕ) where
   interface_by i None others h all = all
   interface_by i (Some c) others h all = All-cons IsWithin (record { class = c; tokens = i.tokens }) others h all
 
-  interfaces_within : (k : ℕ) (is : List Interface) → All IsWithin (implemented_interfaces ps k is)
+  pub interfaces_within : (k : ℕ) (is : List Interface) → All IsWithin (implemented_interfaces ps k is)
   unfolding interface_named
   interfaces_within k [] = All-nil IsWithin
   interfaces_within k (i ∷ is) =

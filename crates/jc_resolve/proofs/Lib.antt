@@ -33,3 +33,4 @@ pub mod Describing
 pub mod TypedFields
 pub mod OwnCells
 pub mod Restored
+pub mod OwnClasses

@@ -20,6 +20,7 @@ use crate::fault::LinkFault;
 use crate::home::Home;
 use crate::reference_checks::class_or_fault;
 use crate::world_types::signature_of;
+use bitflags::Flags;
 use cap_desc::{AccessFlags, DescClass, MethodInfo};
 use cap_method::{HandlerEntries, HandlerInfo, MethodHeader};
 use cap_package::{Packages, header, interface_offsets};
@@ -27,9 +28,6 @@ use cap_pool::{Pool, PoolReference};
 use jc_base::{Handler, Items, MethodRec, Sig};
 use offset_set::Offsets;
 use std::alloc::{AllocError, Global};
-
-/// The flag of a constructor.
-const INIT: u8 = 0x80;
 
 /// The class that a Classref names; 0 where none is named.
 fn class_or_none(home: Home<'_, '_, '_, '_>, reference: PoolReference) -> u16
@@ -279,7 +277,7 @@ fn of_class<'a>(
 fn is_init(flags: AccessFlags) -> bool
     ensures { result ≡ is_init flags.0 }
 {
-    flags.0 & INIT == INIT
+    flags.contains(AccessFlags::INIT)
 }
 
 /// A method with all that its records name.

@@ -13,6 +13,7 @@ ghost use Rattle.jc_resolve.specs.References.{class_named};
 use crate::class_index::Index;
 use crate::fault::LinkFault;
 use crate::least::lesser;
+use byteorder::{BigEndian, ByteOrder};
 use cap_bytes::Table;
 use cap_desc::{DescClass, DescClasses, DescFields};
 use cap_package::Packages;
@@ -52,7 +53,7 @@ pub(crate) fn class_or_fault(
 fn reference_in(bytes: [u8; 3]) -> u16
     ensures { result ≡ reference_in bytes }
 {
-    bytes[0] as u16 * 256 + bytes[1] as u16
+    BigEndian::read_u16(&bytes)
 }
 
 /// The least fault so far, when a table of references was looked at.
