@@ -9,4 +9,5 @@ pub mod Passing
 pub mod Walks
 pub mod Running
 pub mod Verdict
+pub mod OneRefusal
 pub mod Stepping

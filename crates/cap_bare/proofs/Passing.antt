@@ -33,7 +33,7 @@ pub record Passing (code : List ℕ) (bare : Bare) (i : Placed) (depth next : �
 at-target : (depth : ℕ) (t : Bool) → (nat_lt 0 depth && t) ≡ false → t ≡ true → depth ≡ 0
 at-target depth t e h = grind (arith, nat_tests)
 
-not-target : (depth : ℕ) (t : Bool) → (t ≡ true → depth ≡ 0) → (nat_lt 0 depth && t) ≡ false
+pub not-target : (depth : ℕ) (t : Bool) → (t ≡ true → depth ≡ 0) → (nat_lt 0 depth && t) ≡ false
 not-target depth true h = let z = h refl in rw z refl
 not-target depth false h = by_test (nat_lt 0 depth)
   where

@@ -1,19 +1,23 @@
 -- What the two walks find, in the words of the contract.
 use Rattle.std.proofs.Common.{◌≡◌, ap, ℕ, ◌≤◌, ⊎_elim, Result, Ok, Err, List, length, refl}
 use Rattle.std.specs.Prelude.{IsOk, OnOk, IfErr, ◌↔◌}
+use Rattle.std.proofs.lemmas.List.Elements.{All-contains}
 use Rattle.cap_bare.specs.declared.bare.Bare.{Bare}
 use Rattle.cap_bare.specs.declared.fault.BareFault.{BareFault}
 use Rattle.cap_bare.specs.declared.fault.BareKind.{BareKind}
 use Rattle.cap_bare.specs.declared.instruction.Instruction.{Instruction}
 use Rattle.jc_decode.specs.declared.insn.Placed.{Placed}
 use Rattle.cap_bare.specs.Format.{instruction_of}
-use Rattle.cap_bare.specs.Code.{IsFirstFlaw, IsFlawKind, IsWellFormed}
+use Rattle.jc_decode.specs.Listing.{targets}
+use Rattle.cap_bare.specs.Code.{IsFirstFlaw, IsFlawKind, IsTargetPlace, IsWellFormed}
+use Rattle.cap_bare.specs.Laws.{LeadsOn}
 use Rattle.cap_bare.specs.Typing.{CardTyping, Kind}
 use Rattle.cap_bare.specs.Met.{IsRefused, IsWrong, RuleFails, fails_local, fails_cells, fails_room, wrong_target, wrong_rule, wrong_branch, wrong_end}
 use Rattle.cap_bare.specs.Met.{refused_flaw, refused_state}
 use Rattle.cap_bare.specs.Walk.{WalksFind}
 use Rattle.cap_bare.specs.Machine.{IsFaultFree}
 use Rattle.cap_bare.proofs.WellFormed.{flaw-not, flaw-kind, first-one}
+use Rattle.cap_bare.proofs.Places.{place-true}
 use Rattle.cap_bare.proofs.Walks.{typing, refused-at, accepts}
 use Rattle.cap_bare.proofs.Running.{fault-free}
 
@@ -63,6 +67,11 @@ module _ (code : List ℕ) (bare : Bare) where
       → IfErr r (λ f. IsFlawKind f.kind ↔ (IsWellFormed code → ⊥))
   verdict-kind (Ok u) h = tt
   verdict-kind (Err f) h = refused-kind code bare f (refused-by f h)
+
+  pub verdict-leads : (r : Result (Unit {0}) BareFault) → WalksFind code bare r → OnOk r (LeadsOn code)
+  verdict-leads (Ok u) h = λ i target stands leads.
+      place-true code target (All-contains (IsTargetPlace code) (targets code i) target (h.0.leads i stands) leads)
+  verdict-leads (Err f) h = tt
 
   pub verdict-safe : (r : Result (Unit {0}) BareFault) → WalksFind code bare r → 1 ≤ length code → OnOk r (IsFaultFree code bare)
   verdict-safe (Ok u) h filled = fault-free code bare filled (typing code bare h.0 h.1)

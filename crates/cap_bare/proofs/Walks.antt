@@ -38,11 +38,11 @@ written-short : (o : Option ℕ) (n : ℕ) → IfSome o (λ x. x < n)
 written-short None n h = tt
 written-short (Some x) n h = get-short n x h
 
-raised-length : (o : Option ℕ) (registers : List Kind) → length (raised_at o registers) ≡ length registers
+pub raised-length : (o : Option ℕ) (registers : List Kind) → length (raised_at o registers) ≡ length registers
 raised-length None registers = refl
 raised-length (Some x) registers = length-set registers x short
 
-declared-length : (bare : Bare) → length (declared bare) ≡ register_count bare
+pub declared-length : (bare : Bare) → length (declared bare) ≡ register_count bare
 declared-length bare =
     length-append (replicate bare.nargs short) (replicate bare.max_locals bottom)
     ∙ omega (arith, length-replicate bare.nargs short, length-replicate bare.max_locals bottom)

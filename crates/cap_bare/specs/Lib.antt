@@ -6,6 +6,7 @@ pub mod Met
 pub mod Walk
 pub mod Window
 pub mod Machine
+pub mod Laws
 pub mod Leading
 pub mod MethodFile
 pub mod BareFile

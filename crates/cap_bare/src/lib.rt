@@ -11,12 +11,14 @@ mod fault;
 mod format;
 mod frame;
 mod instruction;
+mod laws;
 mod method;
 mod run;
 mod verify;
 
 pub use bare::Bare;
 pub use fault::{BareFault, BareKind};
+pub use laws::bare_laws;
 pub use method::{BareMethod, bare_method};
 pub use run::{BareEnd, bare_run};
 pub use verify::bare_verify;

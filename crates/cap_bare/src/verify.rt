@@ -1,9 +1,10 @@
-ghost use Rattle.std.specs.Prelude.{ℤ, ◌≡◌, ◌≤◌, ◌+◌, ◌↔◌, pos, length, All, Contains, IfOk, IfErr, IfSome, IfNone, IsOk, IsTrue, OnOk};
+ghost use Rattle.std.specs.Prelude.{◌≡◌, ◌≤◌, ◌+◌, ◌↔◌, pos, length, All, Contains, IfOk, IfErr, IfSome, IfNone, IsOk, IsTrue, OnOk};
 ghost use Rattle.jc_decode.specs.Decoding.{AreBytes, FitsLayout};
 ghost use Rattle.jc_decode.specs.Layout.{layout_of};
 ghost use Rattle.jc_decode.specs.Listing.{targets};
 ghost use Rattle.cap_bare.specs.Code.{instructions, IsFirstFlaw, IsFlawKind, IsPlace, IsTarget, IsTargetPlace, IsWellFormed, HasInstruction};
 ghost use Rattle.cap_bare.specs.Typing.{CardTyping, IsCompact};
+ghost use Rattle.cap_bare.specs.Laws.{LeadsOn};
 ghost use Rattle.cap_bare.specs.Met.{IsRefused};
 ghost use Rattle.cap_bare.specs.Walk.{is_at, is_place, is_target, applied, passed, first_wrong, WalksFind};
 ghost use Rattle.cap_bare.specs.Window.{IsFromOn, IsSuffixAt, IsTrailing};
@@ -34,7 +35,7 @@ pub fn bare_verify(code: View<'_>, bare: Bare) -> Result<(), BareFault>
     // What is accepted never meets a fault when it runs; the machine asks at each step whether it goes on at the
     // place of an instruction.
     ensures fault_free { OnOk result (IsFaultFree code.entry.bytes.now bare) }
-    ensures places { (z : ℤ) → IsTrue (is_place code.entry.bytes.now z) ↔ IsTargetPlace code.entry.bytes.now z }
+    ensures leads { OnOk result (LeadsOn code.entry.bytes.now) }
 {
     walked(code, bare)
 }

@@ -73,17 +73,17 @@ coded_lists (None ∷ ls) xs e = coded_lists ls xs e
 coded_lists (Some l ∷ ls) [] e = absurd e
 coded_lists (Some l ∷ ls) (x ∷ xs) e = let r = coded_lists ls xs e.1 in omega arith
 
-lists_counted : (laid : List (Option Laid)) (lists : List (List ℕ)) → AreExact laid lists → count_by is_some laid ≡ length lists
+pub lists_counted : (laid : List (Option Laid)) (lists : List (List ℕ)) → AreExact laid lists → count_by is_some laid ≡ length lists
 lists_counted laid lists e = sym (is_count_by coded is_some refl coded_more laid) ∙ coded_lists laid lists e
 
-lists_few : (lists : List (List ℕ)) → length lists ≤ length (entries_of lists)
+pub lists_few : (lists : List (List ℕ)) → length lists ≤ length (entries_of lists)
 lists_few [] = omega arith
 lists_few (x ∷ xs) = let r = lists_few xs in omega (arith, length-append x (entries_of xs))
 
 pub few_methods : (laid : List (Option Laid)) (entries : List ℕ) → HasEntries laid entries → count_by is_some laid ≤ length entries
 few_methods laid entries h = omega (arith, lists_counted laid h.lists h.exact, lists_few h.lists, ap length h.are)
 
-bytes_long : (ns : List ℕ) → length (flat_map (big_bytes 2) ns) ≡ 2 * length ns
+pub bytes_long : (ns : List ℕ) → length (flat_map (big_bytes 2) ns) ≡ 2 * length ns
 bytes_long [] = refl
 bytes_long (n ∷ ns) = let r = bytes_long ns in omega (arith, length-append (big_bytes 2 n) (flat_map (big_bytes 2) ns))
 

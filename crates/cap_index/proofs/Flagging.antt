@@ -12,7 +12,7 @@ use Rattle.jc_decode.proofs.Elements.{nothing-in, Contains-first, Contains-later
 use Rattle.jc_control.specs.Flags.{flag, IsFlagged, Marks}
 use Rattle.jc_control.specs.WellFormed.{IsPlace}
 use Rattle.jc_control.proofs.Marked.{flag-none, flagged-inside, flag-here, flag-kept, flag-only}
-use Rattle.cap_index.specs.ExactIndex.{IsPlacedTarget, IsExactIndexOf}
+use Rattle.jc_control.specs.ExactIndex.{IsPlacedTarget, IsExactIndex}
 use Rattle.cap_index.specs.Marking.{mark, marked, all_marked, flagged_from}
 
 -- ---- one target
@@ -175,8 +175,8 @@ flag_has k (false ∷ fs) (suc n) h =
 -- ---- the exact index
 
 pub exact_of_flags : (code : List ℕ) (places fs : List Bool) (index : List ℕ) → Marks (IsPlace code) places → AreListed code
-    → fs ≡ all_marked code (flag places) (replicate (length code) false) (listing code) → index ≡ flagged_from 0 fs → IsExactIndexOf code index
-exact_of_flags code places fs index marks listed e f = subst (IsExactIndexOf code) (sym (f ∙ ap (flagged_from 0) e)) (record {
+    → fs ≡ all_marked code (flag places) (replicate (length code) false) (listing code) → index ≡ flagged_from 0 fs → IsExactIndex code index
+exact_of_flags code places fs index marks listed e f = subst (IsExactIndex code) (sym (f ∙ ap (flagged_from 0) e)) (record {
   ascending = λ k p q h g. rising 0 all k (k + 1) p q h g (omega arith);
   targets = λ q. (
     λ c. let r = has_flag 0 all q c in target q (subst (IsFlagged all) (omega (arith, r.place)) r.flagged),

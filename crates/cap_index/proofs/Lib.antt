@@ -4,3 +4,4 @@ pub mod Custom
 pub mod Listed
 pub mod Flagging
 pub mod Entries
+pub mod ReadBack

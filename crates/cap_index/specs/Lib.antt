@@ -3,6 +3,5 @@ pub mod Component
 pub mod Indexes
 pub mod Taking
 pub mod WorldIndexes
-pub mod ExactIndex
 pub mod TargetIndex
 pub mod Marking

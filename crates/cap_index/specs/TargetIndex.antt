@@ -5,7 +5,7 @@ use Rattle.std.specs.Prelude.{None, option_map, Vec}
 use Rattle.std.specs.List.{flat_map}
 use Rattle.byteorder.specs.Endian.{big_bytes}
 use Rattle.jc_decode.specs.declared.symbols.Laid.{Laid}
-use Rattle.cap_index.specs.ExactIndex.{IsExactIndexOf}
+use Rattle.jc_control.specs.ExactIndex.{IsExactIndex}
 
 -- each list is the exact index of a method with code, in order
 abbrev pub AreExact : List (Option Laid) → List (List ℕ) → Type 0
@@ -13,7 +13,7 @@ AreExact [] [] = Unit {0}
 AreExact [] (x ∷ xs) = ⊥
 AreExact (None ∷ ls) xs = AreExact ls xs
 AreExact (Some l ∷ ls) [] = ⊥
-AreExact (Some l ∷ ls) (x ∷ xs) = IsExactIndexOf l.code x × AreExact ls xs
+AreExact (Some l ∷ ls) (x ∷ xs) = IsExactIndex l.code x × AreExact ls xs
 
 -- a list after its length, and all of them
 abbrev pub counted : List ℕ → List ℕ
@@ -51,7 +51,7 @@ AreShortCodes (Some l ∷ ls) = (length l.code ≤ 32767) × AreShortCodes ls
 -- an exact index of the code is appended after its length
 pub record IsListed (code old new : List ℕ) : Type 0 where
   pub index : List ℕ
-  pub exact : IsExactIndexOf code index
+  pub exact : IsExactIndex code index
   pub appended : new ≡ old ++ counted index
 
 abbrev pub IsListedIf : Option Laid → List ℕ → List ℕ → Type 0

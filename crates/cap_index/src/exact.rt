@@ -1,5 +1,5 @@
 ghost use Rattle.std.specs.Prelude.{◌≡◌, ◌≤◌, false, length, replicate, IfOk, Ok};
-ghost use Rattle.cap_index.specs.ExactIndex.{IsExactIndexOf};
+ghost use Rattle.jc_control.specs.ExactIndex.{IsExactIndex};
 ghost use Rattle.cap_index.specs.Marking.{all_marked, flagged_from, mark, marked};
 ghost use Rattle.jc_control.specs.Flags.{flag, Marks};
 ghost use Rattle.jc_control.specs.WellFormed.{IsPlace};
@@ -15,7 +15,7 @@ use std::alloc::{AllocError, Global};
 /// ascending order.
 pub fn exact_index(alloc: Global, code: View<'_>) -> Result<Vec<u16>, AllocError>
     requires { length code.bytes.now ≤ 32767 }
-    ensures exact { IfOk result (λ index. IsExactIndexOf code.entry.bytes.now index.items) }
+    ensures exact { IfOk result (λ index. IsExactIndex code.entry.bytes.now index.items) }
     ensures few { IfOk result (λ index. length index.items ≤ length code.entry.bytes.now) }
 {
     instructions_are_listed();

@@ -1,5 +1,4 @@
-use Rattle.cap_bare.proofs.Verdict.{verdict-accepted, verdict-complete, verdict-refused, verdict-first, verdict-kind, verdict-safe}
-use Rattle.cap_bare.proofs.Places.{place-means}
+use Rattle.cap_bare.proofs.Verdict.{verdict-accepted, verdict-complete, verdict-refused, verdict-first, verdict-kind, verdict-leads, verdict-safe}
 use Rattle.cap_bare.proofs.verify.bare_verify.Goals as goal
 
 pub returns-clause-accepted : goal.returns-clause-accepted
@@ -20,5 +19,5 @@ returns-clause-ill_formed c = verdict-kind c.args.code.bytes.now c.args.bare c.w
 pub returns-clause-fault_free : goal.returns-clause-fault_free
 returns-clause-fault_free c = verdict-safe c.args.code.bytes.now c.args.bare c.walked.result c.walked.ensures c.requires.filled
 
-pub returns-clause-places : goal.returns-clause-places
-returns-clause-places c = place-means c.args.code.bytes.now
+pub returns-clause-leads : goal.returns-clause-leads
+returns-clause-leads c = verdict-leads c.args.code.bytes.now c.args.bare c.walked.result c.walked.ensures
