@@ -1,8 +1,8 @@
 //! What each operation does (JCVM 2.2, chapter 7), once for every machine: the store of a machine's state does what
-//! the operation says to the frame on top, to objects and to static fields, and a `Lead` tells what is left to do.
-//! Here are values and the operand stack, fields and elements of arrays, and which method an object runs (sections
-//! 2.2.1 and 6.8.2). It stands on the stores of `vm_store`, the arithmetic of `vm_arithmetic` and the definitions of
-//! `vm_step`.
+//! the operation says, and a `Lead` tells what is left to do. What changes is the frame on top, objects and static
+//! fields. Here are values and the operand stack, fields and elements of arrays, and which method an object runs
+//! (sections 2.2.1 and 6.8.2). It stands on the stores of `vm_store`, the arithmetic of `vm_arithmetic` and the
+//! definitions of `vm_step`.
 #![tactic(auto)]
 
 mod acting;

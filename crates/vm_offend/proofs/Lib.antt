@@ -10,3 +10,4 @@ mod Reached
 mod Following
 mod Ran
 mod Moved
+pub mod Living

@@ -157,6 +157,7 @@ module _ (w : Linked) (ram heap : List ℕ) (counts : Counts) (laid : AreLaid w 
         some_cells = laid.some_cells;
         windows = subst (FitWindows w.methods (put_mid (513 * n) 513 ram ws)) last (put_fits w.methods ram ws n within len fits fits_all.1);
         laid = laid.laid;
+        kinds = laid.kinds;
       })
 
   -- the state without the frame on top
@@ -176,6 +177,7 @@ module _ (w : Linked) (ram heap : List ℕ) (counts : Counts) (laid : AreLaid w 
         some_cells = laid.some_cells;
         windows = fits_all.1;
         laid = laid.laid;
+        kinds = laid.kinds;
       }
 
   -- nothing is done to the frame on top
@@ -236,6 +238,7 @@ module _ (w : Linked) (ram heap : List ℕ) (counts : Counts) (laid : AreLaid w 
         some_cells = laid.some_cells;
         windows = subst (FitWindows w.methods (put_mid (513 * n) 513 ram ws)) one (put_fits w.methods ram ws n next_within len fits laid.windows);
         laid = laid.laid;
+        kinds = laid.kinds;
       })
 
 -- ---- a call: the words of the frame on top and those after them

@@ -1,6 +1,6 @@
 -- The objects in the words of the heap: headers first, and all cells from word 12,288 on.
 use Rattle.std.proofs.Common.{◌≡◌, ℕ, zero, suc, ◌+◌, ◌-◌, ◌*◌, ◌<◌, ◌≤◌, true, false, List, [], ◌∷◌, ◌++◌, length}
-use Rattle.std.proofs.Common.{take, drop, set, get_or, refl, sym, ◌∙◌, ap, inl, inr, arith, length-drop, length-take, length-set}
+use Rattle.std.proofs.Common.{take, drop, set, get_or, refl, sym, ◌∙◌, ap, subst, inl, inr, arith, length-drop, length-take, length-set}
 use Rattle.std.specs.Prelude.{nat_lt, if◌then◌else◌, ◌==◌}
 use Rattle.std.proofs.lemmas.List.{get_or-set_other, get_or-set_same, get_or_append_left, get_or-append_right, get_or-take, length-append, length_push}
 use Rattle.std.proofs.lemmas.List.{drop-set-lt, drop-set-add, drop_at, drop_all, append-nil}
@@ -11,7 +11,7 @@ use Rattle.vm_store.specs.declared.kind.ObjectKind.{ObjectKind}
 use Rattle.vm_store.specs.declared.kind.ObjectKind.TheVariants.{Instance, Booleans, Bytes, Shorts, Ints, References}
 use Rattle.vm_store.specs.declared.header.ObjectHeader.{ObjectHeader}
 use Rattle.vm_store.specs.Kind.{IsNumbered}
-use Rattle.vm_offend.specs.Words.{kind_of_word, word_of_kind, header_at, headers_in}
+use Rattle.vm_offend.specs.Words.{kind_of_word, word_of_kind, header_at, headers_in, HaveKindWords}
 
 -- ---- the word of a kind
 
@@ -76,11 +76,20 @@ same_headers xs ys (suc n) m same le =
     ap (λ h. headers_in xs n ++ h ∷ []) (same_header xs ys n m same (omega arith))
     ∙ ap (λ hs. hs ++ header_at ys n ∷ []) (same_headers xs ys n m same (omega arith))
 
+-- words that agree on the headers tell the kinds alike
+pub kinds-kept : (xs ys : List ℕ) (n : ℕ) → ((k : ℕ) → k < 3 * n → get_or xs k 0 ≡ get_or ys k 0) → HaveKindWords ys n → HaveKindWords xs n
+kinds-kept xs ys n same have k lt =
+    let at : get_or xs (3 * k) 0 ≡ get_or ys (3 * k) 0 = same (3 * k) (omega (arith, lt)) in
+    at ∙ (have k lt ∙ ap (λ w. word_of_kind (kind_of_word w)) (sym at))
+
 -- ---- a write to a cell
 
 module _ (heap : List ℕ) (n p v : ℕ) (few : n ≤ 4096) where
   pub cell-headers : headers_in (set heap (12288 + p) v) n ≡ headers_in heap n
   cell-headers = same_headers (set heap (12288 + p) v) heap n n (λ k lt. get_or-set_other heap (12288 + p) k v 0 (omega arith)) (omega arith)
+
+  pub cell-kinds : HaveKindWords heap n → HaveKindWords (set heap (12288 + p) v) n
+  cell-kinds = kinds-kept (set heap (12288 + p) v) heap n (λ k lt. get_or-set_other heap (12288 + p) k v 0 (omega arith))
 
   pub cell-cells : drop 12288 (set heap (12288 + p) v) ≡ set (drop 12288 heap) p v
   cell-cells = drop-set-add 12288 heap p v
@@ -128,17 +137,32 @@ module _ (heap ws : List ℕ) (n size : ℕ) (h : ObjectHeader) (few : n < 4096)
       let ws₂ = set ws₁ (3 * n + 1) h.start in
       length-set ws₂ (3 * n + 2) h.elements ∙ (length-set ws₁ (3 * n + 1) h.start ∙ (length-set ws₀ (3 * n) (word_of_kind h.kind) ∙ filled_length))
 
-  old_headers : headers_in (set (set (set (put_mid 12288 size heap ws) (3 * n) (word_of_kind h.kind)) (3 * n + 1) h.start) (3 * n + 2) h.elements) n
-      ≡ headers_in heap n
-  old_headers =
+  old_word :
+      (k : ℕ) → k < 3 * n
+      → get_or (set (set (set (put_mid 12288 size heap ws) (3 * n) (word_of_kind h.kind)) (3 * n + 1) h.start) (3 * n + 2) h.elements) k 0 ≡ get_or heap k 0
+  old_word k lt =
       let ws₀ = put_mid 12288 size heap ws in
       let ws₁ = set ws₀ (3 * n) (word_of_kind h.kind) in
       let ws₂ = set ws₁ (3 * n + 1) h.start in
-      same_headers (set ws₂ (3 * n + 2) h.elements) heap n n
-      (λ k lt.
       get_or-set_other ws₂ (3 * n + 2) k h.elements 0 (omega arith)
       ∙ (get_or-set_other ws₁ (3 * n + 1) k h.start 0 (omega arith)
-      ∙ (get_or-set_other ws₀ (3 * n) k (word_of_kind h.kind) 0 (omega arith) ∙ filled_word k (omega arith)))) (omega arith)
+      ∙ (get_or-set_other ws₀ (3 * n) k (word_of_kind h.kind) 0 (omega arith) ∙ filled_word k (omega arith)))
+
+  old_headers : headers_in (set (set (set (put_mid 12288 size heap ws) (3 * n) (word_of_kind h.kind)) (3 * n + 1) h.start) (3 * n + 2) h.elements) n
+      ≡ headers_in heap n
+  old_headers =
+      let ws₃ = set (set (set (put_mid 12288 size heap ws) (3 * n) (word_of_kind h.kind)) (3 * n + 1) h.start) (3 * n + 2) h.elements in
+      same_headers ws₃ heap n n old_word (omega arith)
+
+  new_word : get_or (set (set (set (put_mid 12288 size heap ws) (3 * n) (word_of_kind h.kind)) (3 * n + 1) h.start) (3 * n + 2) h.elements) (3 * n) 0
+      ≡ word_of_kind h.kind
+  new_word =
+      let ws₀ = put_mid 12288 size heap ws in
+      let ws₁ = set ws₀ (3 * n) (word_of_kind h.kind) in
+      let ws₂ = set ws₁ (3 * n + 1) h.start in
+      get_or-set_other ws₂ (3 * n + 2) (3 * n) h.elements 0 (omega arith)
+      ∙ (get_or-set_other ws₁ (3 * n + 1) (3 * n) h.start 0 (omega arith)
+      ∙ get_or-set_same ws₀ (3 * n) (word_of_kind h.kind) 0 (omega (arith, filled_length)))
 
   new_header : header_at (set (set (set (put_mid 12288 size heap ws) (3 * n) (word_of_kind h.kind)) (3 * n + 1) h.start) (3 * n + 2) h.elements) n ≡ h
   new_header =
@@ -146,13 +170,9 @@ module _ (heap ws : List ℕ) (n size : ℕ) (h : ObjectHeader) (few : n < 4096)
       let ws₁ = set ws₀ (3 * n) (word_of_kind h.kind) in
       let ws₂ = set ws₁ (3 * n + 1) h.start in
       let ws₃ = set ws₂ (3 * n + 2) h.elements in
-      let l₀ : length ws₀ ≡ 45056 = filled_length in
-      let l₁ : length ws₁ ≡ 45056 = length-set ws₀ (3 * n) (word_of_kind h.kind) ∙ l₀ in
+      let l₁ : length ws₁ ≡ 45056 = length-set ws₀ (3 * n) (word_of_kind h.kind) ∙ filled_length in
       let l₂ : length ws₂ ≡ 45056 = length-set ws₁ (3 * n + 1) h.start ∙ l₁ in
-      let a : get_or ws₃ (3 * n) 0 ≡ word_of_kind h.kind =
-      get_or-set_other ws₂ (3 * n + 2) (3 * n) h.elements 0 (omega arith)
-      ∙ (get_or-set_other ws₁ (3 * n + 1) (3 * n) h.start 0 (omega arith) ∙ get_or-set_same ws₀ (3 * n) (word_of_kind h.kind) 0
-      (omega (arith, l₀))) in
+      let a : get_or ws₃ (3 * n) 0 ≡ word_of_kind h.kind = new_word in
       let b : get_or ws₃ (3 * n + 1) 0 ≡ h.start =
       get_or-set_other ws₂ (3 * n + 2) (3 * n + 1) h.elements 0 (omega arith) ∙ get_or-set_same ws₁ (3 * n + 1) h.start 0 (omega (arith, l₁)) in
       let c : get_or ws₃ (3 * n + 2) 0 ≡ h.elements = get_or-set_same ws₂ (3 * n + 2) h.elements 0 (omega (arith, l₂)) in
@@ -167,3 +187,15 @@ module _ (heap ws : List ℕ) (n size : ℕ) (h : ObjectHeader) (few : n < 4096)
       let ws₃ = set (set (set (put_mid 12288 size heap ws) (3 * n) (word_of_kind h.kind)) (3 * n + 1) h.start) (3 * n + 2) h.elements in
       let next : n + 1 ≡ suc n = omega arith in
       ap (headers_in ws₃) next ∙ (ap (λ hs. hs ++ header_at ws₃ n ∷ []) old_headers ∙ ap (λ g. headers_in heap n ++ g ∷ []) new_header)
+
+  pub new-kinds : HaveKindWords heap n
+      → HaveKindWords (set (set (set (put_mid 12288 size heap ws) (3 * n) (word_of_kind h.kind)) (3 * n + 1) h.start) (3 * n + 2) h.elements) (n + 1)
+  new-kinds have k lt =
+      let ws₃ = set (set (set (put_mid 12288 size heap ws) (3 * n) (word_of_kind h.kind)) (3 * n + 1) h.start) (3 * n + 2) h.elements in
+      elim (cases_lt k n) [
+        | inl less ↦ kinds-kept ws₃ heap n old_word have k less
+        | inr most ↦
+            let at : k ≡ n = omega (arith, lt, most) in
+            let kind : (header_at ws₃ n).kind ≡ h.kind = ap (λ (g : ObjectHeader). g.kind) new_header in
+            subst (λ i. get_or ws₃ (3 * i) 0 ≡ word_of_kind (header_at ws₃ i).kind) (sym at) (new_word ∙ ap word_of_kind (sym kind))
+      ]

@@ -3,7 +3,7 @@
 --   heap     object n, counted from 0, from word 3 n on: its kind, its first cell, its elements; all cells from word 12,288 on
 --   statics  the cells of the static fields by slot
 -- An int takes its high word first. Empty and null are 0, a reference is its handle, a short its 16 bits.
-use Rattle.std.specs.Prelude.{◌≡◌, ℕ, zero, suc, ◌+◌, ◌-◌, ◌*◌, ◌≤◌, nat_lt, ◌==◌, if◌then◌else◌, List}
+use Rattle.std.specs.Prelude.{◌≡◌, ℕ, zero, suc, ◌+◌, ◌-◌, ◌*◌, ◌<◌, ◌≤◌, nat_lt, ◌==◌, if◌then◌else◌, List}
 use Rattle.std.specs.Prelude.{[], ◌∷◌, ◌++◌, length, take, drop, reverse, slice_index}
 use Rattle.jc_base.specs.declared.record.MethodRec.{MethodRec}
 use Rattle.jc_base.specs.World.{Linked}
@@ -77,6 +77,11 @@ abbrev pub headers_in : List ℕ → ℕ → List ObjectHeader
 headers_in ws zero = []
 headers_in ws (suc n) = headers_in ws n ++ header_at ws n ∷ []
 
+-- the first word of each of the first n headers is that of its object's kind: 0xF000 for an array of booleans, 0xF001 of bytes,
+-- 0xF002 of shorts, and for one of ints 0xF003, and no word above it
+abbrev pub HaveKindWords : List ℕ → ℕ → Type 0
+HaveKindWords ws n = (k : ℕ) → k < n → slice_index ws (3 * k) ≡ word_of_kind (header_at ws k).kind
+
 -- ---- the whole
 
 -- the state that the slices hold
@@ -88,7 +93,7 @@ words_state methods ram heap statics counts =
       statics = statics;
     }
 
--- the slices have their lengths, and the frames and objects lie in them
+-- the slices have their lengths, the frames and objects lie in them, and the kind of each object is told by its word
 pub record AreLaid (w : Linked) (ram heap : List ℕ) (counts : Counts) : Type 0 where
   pub ram_length : length ram ≡ 32832
   pub heap_length : length heap ≡ 45056
@@ -97,6 +102,7 @@ pub record AreLaid (w : Linked) (ram heap : List ℕ) (counts : Counts) : Type 0
   pub some_cells : counts.cells ≤ 32768
   pub windows : FitWindows w.methods ram counts.frames
   pub laid : Follow 0 (headers_in heap counts.objects) counts.cells
+  pub kinds : HaveKindWords heap counts.objects
 
 -- the frames once the one on top called a method with the top cells of its stack
 abbrev pub called_words : List MethodRec → List (Frame ℕ) → ℕ → ℕ → List (Frame ℕ)

@@ -1,4 +1,4 @@
-ghost use Rattle.std.specs.Prelude.{◌≡◌, ◌<◌, length, None, Some, IfSome, option_map, unwrap_or};
+ghost use Rattle.std.specs.Prelude.{◌≡◌, ◌<◌, ℕ, List, length, None, Some, IfSome, option_map, unwrap_or};
 ghost use Rattle.card_verify.specs.Answers.{AreAccepted};
 ghost use Rattle.vm_store.specs.declared.cell.Cell.{Cell};
 ghost use Rattle.vm_store.specs.Cells.{tagged};
@@ -10,10 +10,12 @@ ghost use Rattle.vm_step.specs.declared.ending.Plain.TheVariants.{Spent};
 ghost use Rattle.vm_step.specs.Raising.{Outcome};
 ghost use Rattle.vm_offend.specs.Words.{AreObjectsLaid};
 ghost use Rattle.vm_offend.specs.Sized.{static_cells};
-ghost use Rattle.vm_offend.specs.Reads.{AreObjectsOf, AreStaticsOf};
+ghost use Rattle.vm_offend.specs.Reads.{AreObjectsOf, AreStaticsOf, AreFramesLaid};
+ghost use Rattle.vm_offend.specs.Held.{state_of};
+ghost use Rattle.law_chains.specs.FrameWords.{live_words};
 
 use crate::reading::{length_of, number_at, numbers_of, value_at};
-use crate::{Counts, WordStore, storing};
+use crate::{Counts, WordStore, live_frames, storing};
 use card_verify::Accepted;
 use jc_base::{Ty, World};
 use law_erasure::words_run_alike;
@@ -139,6 +141,17 @@ impl Machine {
     {
         states_erase(accepted.world());
         number_at(heap, self.counts, handle, element)
+    }
+
+    /// How many words the live frames take: three of each frame's own, its registers and the room of its operand stack
+    /// (JCVM 2.2, section 3.5).
+    pub fn live_words(&self, accepted: &Accepted<'_>, ram: &[u16]) -> u32
+        requires { AreFramesLaid ram.now self.now.counts }
+        ensures { (heap statics : List ℕ) (o : Outcome Cell)
+            → AreWordsOf accepted.now self.now ram.now heap statics o
+            → live_words accepted.now (state_of o).frames ≡ result }
+    {
+        live_frames::live_words(accepted.world(), ram, self.counts)
     }
 }
 

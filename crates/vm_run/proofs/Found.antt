@@ -64,6 +64,10 @@ module _ {X : Type 0} (p : X → Bool) where
 
 -- ---- instructions
 
+-- where an instruction is decoded at a place, it is what was read there
+abbrev pub ReadsAt : List ℕ → ℕ → Option Insn → Type 0
+ReadsAt code place read = (i : Insn) → decoded code place ≡ Ok i → read ≡ Some i
+
 module _ (code : List ℕ) (listed : AreListed code) where
   at-place : (place : ℕ) (x : Placed) → HasInstruction code x → x.place ≡ place → instruction_at code place ≡ Some x
   unfolding instruction_at
@@ -83,6 +87,24 @@ module _ (code : List ℕ) (listed : AreListed code) where
       let placed : x ≡ record { place = place; insn = insn } = ap (λ (p : ℕ). record { place = p; insn = x.insn }) is
       ∙ ap (λ (i : Insn). record { place = place; insn = i }) (sym insns) in
       at-place place x there is ∙ ap Some placed
+
+  -- what is read at the place of an instruction is the one that is decoded there
+  known-decoded : (place : ℕ) (insn : Insn) → IsPlace code place → ReadsAt code place (Some insn) → decoded code place ≡ Ok insn
+  known-decoded place insn (x, there, is) reads =
+      let here : decoded code place ≡ Ok x.insn = ap (decoded code) (sym is) ∙ listed.decodes x there in
+      let same : Some insn ≡ Some x.insn = reads x.insn here in
+      let insns : insn ≡ x.insn = cc in here ∙ ap Ok (sym insns)
+
+  pub known-there : (place : ℕ) (insn : Insn) → IsPlace code place → ReadsAt code place (Some insn)
+      → instruction_at code place ≡ Some (record { place = place; insn = insn })
+  known-there place insn there reads = placed-there place insn there (known-decoded place insn there reads)
+
+  pub known-ends : (place : ℕ) (insn : Insn) → IsPlace code place → ReadsAt code place (Some insn) → place + insn.len ≤ length code
+  known-ends place insn there reads = listed.reaches place insn (known-decoded place insn there reads)
+
+  pub known-reads : (place : ℕ) → IsPlace code place → ReadsAt code place None → ⊥
+  known-reads place (x, there, is) reads =
+      let none : None ≡ Some x.insn = reads x.insn (ap (decoded code) (sym is) ∙ listed.decodes x there) in absurd (cc)
 
   pub nothing-there : (place : ℕ) → (IsPlace code place → ⊥) → instruction_at code place ≡ None
   unfolding instruction_at

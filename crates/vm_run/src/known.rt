@@ -6,7 +6,7 @@ ghost use Rattle.vm_run.specs.Known.{KnowsAt};
 use crate::code::code;
 use crate::places::MarkedPlaces;
 use jc_base::World;
-use jc_decode::{Placed, decode, instructions_are_listed};
+use jc_decode::{Placed, decode_known, instructions_are_listed};
 
 /// How a machine knows at which places instructions begin: by flags that were made when the run began, or because the
 /// code was verified, and each place to which it leads is one.
@@ -35,7 +35,7 @@ pub fn fetch(world: &World<'_>, known: Known<'_>, method: u16, place: u16) -> Op
     }
 }
 
-/// The instruction at a place at which one begins.
+/// The instruction at a place at which one begins. Its operands and keys are not tested again.
 fn placed(world: &World<'_>, method: u16, place: u16) -> Option<Placed>
     requires method { method < length world.now.methods }
     requires there { IsPlace (code_at world.now method) place }
@@ -43,8 +43,8 @@ fn placed(world: &World<'_>, method: u16, place: u16) -> Option<Placed>
     ensures within { IfSome result (λ i. i.place + i.insn.len ≤ 32767) }
 {
     instructions_are_listed();
-    match decode(code(world, method), place) {
-        Ok(insn) => Some(Placed { place, insn }),
-        Err(_) => None,
+    match decode_known(code(world, method), place) {
+        Some(insn) => Some(Placed { place, insn }),
+        None => None,
     }
 }

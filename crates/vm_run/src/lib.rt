@@ -1,7 +1,7 @@
 //! Starts, steps and runs of a machine (JCVM 2.2, sections 2.2, 3.1 to 3.7, 6.10 and 7.5), written once over the stores in
-//! which a machine keeps its state: whether an entry begins a run and the state before the first step, which
-//! instruction is next, the tests before it, what it does, what that leads to, and how an object that is thrown finds
-//! its handler. Each is the definition of `vm_step`.
+//! which a machine keeps its state. A start tells whether an entry begins a run, and makes the state before the first
+//! step. A step tells which instruction is next, the tests before it, what it does, what that leads to, and how an object
+//! that is thrown finds its handler. Each is the definition of `vm_step`.
 #![tactic(auto)]
 
 mod after;

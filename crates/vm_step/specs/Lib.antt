@@ -16,7 +16,9 @@ pub mod Settled
 pub mod Step
 pub mod Run
 pub mod Laws
+pub mod Leaving
 pub mod Arguments
 pub mod Start
 pub mod Worked
 pub mod WorkedStart
+pub mod WorkedSteps

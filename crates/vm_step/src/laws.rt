@@ -1,4 +1,5 @@
 ghost use Rattle.vm_store.specs.Cells.{tagged, words};
+ghost use Rattle.vm_step.specs.Leaving.{EndingsLeave, RunsLeave};
 ghost use Rattle.vm_step.specs.Laws.{StepsAreOne, StepsExist, RunsAreOne, RunsExist, RunsGoOn};
 
 use jc_base::World;
@@ -24,4 +25,15 @@ pub fn runs_exist(world: &World<'_>)
     ensures { RunsExist world.now }
 {
     operations_are_sound(world);
+}
+
+/// Where a run ends, no frame is left. The static fields and the objects are those from before the last step, and one object
+/// more where this step raised an exception.
+pub fn endings_leave(world: &World<'_>)
+    ensures tagged { EndingsLeave tagged world.now }
+    ensures tagged_runs { RunsLeave tagged world.now }
+    ensures words { EndingsLeave words world.now }
+    ensures word_runs { RunsLeave words world.now }
+{
+    let _ = world.classes();
 }

@@ -1,7 +1,6 @@
-//! What the machines compute with (JCVM 2.2, chapter 3): cells and their types, frames, objects and
-//! static fields, and the stores that keep them, once with the kind of every cell and once as bare
-//! words in memory that a caller lends.
-//! It stands on the types and worlds of `jc_base`.
+//! What the machines compute with (JCVM 2.2, chapter 3): cells and their types, frames, objects and static
+//! fields, and the stores that keep them. They are kept once with the kind of every cell, and once as bare
+//! words in memory that a caller lends. It stands on the types and worlds of `jc_base`.
 #![tactic(auto)]
 
 mod cell;

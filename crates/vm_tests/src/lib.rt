@@ -1,7 +1,9 @@
-//! Worked cases of the machines' arithmetic and stores, and runs of the machine that tests nothing beside those of the machine
-//! that tests what it does, over a world of one method whose code is given.
+//! Worked cases of the machines' arithmetic and stores, and runs of the machine that tests nothing beside those of the one
+//! that tests what it does, over a world of one method with given code.
 #![tactic(auto)]
 
+#[cfg(test)]
+mod bound_tests;
 #[cfg(test)]
 mod number_tests;
 #[cfg(test)]

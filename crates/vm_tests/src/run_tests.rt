@@ -36,7 +36,15 @@ const QUOTIENT: &[u8] = &[28, 29, 71, 120];
 /// `sload_0`, `newarray` of shorts, `arraylength`, `sreturn`.
 const LENGTH: &[u8] = &[28, 144, 12, 146, 120];
 
-static RUNS: [Run; 8] = [
+/// Makes an array of one element of booleans, of bytes, of shorts, of ints and of references to class 1, and an instance
+/// of that class, each of which it drops; then `sload_0`, `sreturn`.
+const EACH_KIND: &[u8] = &[
+    28, 144, 10, 59, 28, 144, 11, 59, 28, 144, 12, 59, 28, 144, 13, 59, //
+    28, 145, 0, 0, 59, 143, 0, 0, 59, //
+    28, 120,
+];
+
+static RUNS: [Run; 9] = [
     // before the first step the frame has its method, its place, an empty stack, and the arguments in its registers
     Run {
         code: SUM,
@@ -118,6 +126,27 @@ static RUNS: [Run; 8] = [
         },
         ram: &[],
         heap: &[(0, 1)],
+    },
+    // the word of each kind of object, where its cells begin, and how many elements it has; an int takes two cells
+    Run {
+        code: EACH_KIND,
+        args: [1, 0],
+        budget: 40,
+        answer: Answer::Short(1),
+        ram: &[],
+        heap: &[
+            (0, 0xF000),
+            (3, 0xF001),
+            (6, 0xF002),
+            (9, 0xF003),
+            (11, 1),
+            (12, 0x8001),
+            (13, 5),
+            (14, 1),
+            (15, 1),
+            (16, 6),
+            (17, 0),
+        ],
     },
 ];
 

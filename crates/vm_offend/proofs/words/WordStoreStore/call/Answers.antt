@@ -41,4 +41,5 @@ returns-clause-well c =
       some_cells = laid.some_cells;
       windows = c.call.ensures.fit;
       laid = laid.laid;
+      kinds = laid.kinds;
     }

@@ -10,8 +10,8 @@ use Rattle.vm_store.specs.Layout.{size, objects_in, overwritten, Follow}
 use Rattle.vm_store.proofs.Heaps.{added, follow-more}
 use Rattle.vm_store.proofs.Fills.{length-array}
 use Rattle.vm_store.proofs.Rooms.{HasRoom, room_for}
-use Rattle.vm_offend.specs.Words.{words_state, headers_in}
-use Rattle.vm_offend.proofs.WordHeaps.{length-headers_in, new-cells, new-headers, new-length}
+use Rattle.vm_offend.specs.Words.{words_state, headers_in, HaveKindWords}
+use Rattle.vm_offend.proofs.WordHeaps.{length-headers_in, new-cells, new-headers, new-kinds, new-length}
 use Rattle.vm_offend.proofs.words.WordStoreStore.make_array.Goals as goal
 
 pub fill_array-requires-clause-room : goal.fill_array-requires-clause-room
@@ -98,4 +98,6 @@ returns-clause-well c =
       some_cells = omega (arith, room.all, c.size.ensures);
       windows = laid.windows;
       laid = subst (λ gs. Follow 0 gs (s.counts.cells + c.size.result)) (sym headers) follow;
+      kinds = subst (λ g. HaveKindWords g (n + 1)) (sym c.set_header.ensures)
+          (new-kinds s.heap.now ws n (length s.heap.now - 12288) h few laid.heap_length refl same c.requires.class laid.kinds);
     }

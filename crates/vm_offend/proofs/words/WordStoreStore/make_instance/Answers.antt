@@ -11,8 +11,8 @@ use Rattle.vm_store.specs.Objects.{new_instance_cells}
 use Rattle.vm_store.specs.Layout.{size, objects_in, overwritten, Follow}
 use Rattle.vm_store.proofs.Heaps.{added, follow-more}
 use Rattle.vm_store.proofs.Rooms.{HasRoom, room_for}
-use Rattle.vm_offend.specs.Words.{words_state, headers_in}
-use Rattle.vm_offend.proofs.WordHeaps.{length-headers_in, new-cells, new-headers, new-length}
+use Rattle.vm_offend.specs.Words.{words_state, headers_in, HaveKindWords}
+use Rattle.vm_offend.proofs.WordHeaps.{length-headers_in, new-cells, new-headers, new-kinds, new-length}
 use Rattle.vm_offend.proofs.words.WordStoreStore.make_instance.Goals as goal
 
 pub fill_instance-requires-clause-room : goal.fill_instance-requires-clause-room
@@ -104,4 +104,6 @@ returns-clause-well c =
       some_cells = omega (arith, room.all, c.class.ensures.cells);
       windows = laid.windows;
       laid = subst (λ gs. Follow 0 gs (s.counts.cells + c.class.result.now.cells)) (sym headers) follow;
+      kinds = subst (λ g. HaveKindWords g (n + 1)) (sym c.set_header.ensures)
+          (new-kinds s.heap.now ws n (length s.heap.now - 12288) h few laid.heap_length refl same numbered laid.kinds);
     }

@@ -3,8 +3,8 @@ use Rattle.std.proofs.Common.{length-drop, length-set}
 use Rattle.vm_store.specs.State.{State}
 use Rattle.vm_store.specs.Layout.{objects_in, Follow}
 use Rattle.vm_store.specs.declared.header.ObjectHeader.{ObjectHeader}
-use Rattle.vm_offend.specs.Words.{words_state, headers_in, header_at}
-use Rattle.vm_offend.proofs.WordHeaps.{length-headers_in, header-read, cell-headers, cell-cells}
+use Rattle.vm_offend.specs.Words.{words_state, headers_in, header_at, HaveKindWords}
+use Rattle.vm_offend.proofs.WordHeaps.{length-headers_in, header-read, cell-headers, cell-kinds, cell-cells}
 use Rattle.vm_store.proofs.Handles.{cell_handle, cell_place, cell_written}
 use Rattle.vm_offend.proofs.words.WordStoreStore.set_object_cell.Goals as goal
 
@@ -83,4 +83,5 @@ returns-clause-well c =
       some_cells = laid.some_cells;
       windows = laid.windows;
       laid = subst (λ gs. Follow 0 gs s.counts.cells) (sym same) laid.laid;
+      kinds = subst (λ g. HaveKindWords g n) (sym c.set_cell.ensures) (cell-kinds s.heap.now n p v laid.some_objects laid.kinds);
     }
