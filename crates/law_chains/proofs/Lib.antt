@@ -1,0 +1,4 @@
+pub mod Called
+pub mod Keeping
+pub mod Stacking
+pub mod Bounding

@@ -1,0 +1,138 @@
+-- Which classes below a class have the entry that an object runs.
+use Rattle.std.proofs.Common.{◌≡◌, ℕ, ◌-◌, ◌≤◌, Bool, true, false, if◌then◌else◌, inl, inr, refl, sym, ap, ◌∙◌, subst, arith}
+use Rattle.std.specs.Prelude.{Option, Some, None, nat_lt, ◌==◌, ◌||◌, slice_get, find}
+use Rattle.std.proofs.lemmas.Bool.{eq-eqb, eqb-true, false≢true, or_cases}
+use Rattle.std.proofs.Math.Bool.{or-true}
+use Rattle.jc_base.specs.declared.ty.Ty.TheVariants.{Class}
+use Rattle.jc_base.specs.Class.{ClassTable, IsClass, AreClasses, IsNextOnChain, parent_of, chain, list_of}
+use Rattle.jc_base.specs.Dispatch.{package_of, public_of, visible_of, entry_at, nearest_of, visible_in, dispatched}
+use Rattle.jc_base.specs.Order.{Below, same, joined, subclass, is_on_chain}
+use Rattle.jc_base.specs.World.{Linked, IsWorld}
+use Rattle.jc_base.proofs.Climbs.{chain-front, climb, on_alone, on_next, on_above, on_chain-here, parent_of-class}
+use Rattle.jc_base.proofs.Dispatches.{on_chain-from_Below, packages-fall}
+use Rattle.vm_bound.specs.Edges.{shares}
+
+or-left : (a b : Bool) → a ≡ true → (a || b) ≡ true
+or-left true b e = refl
+or-left false b e = absurd (false≢true e)
+
+or-right : (a b : Bool) → b ≡ true → (a || b) ≡ true
+or-right a b e = ap (λ (x : Bool). a || x) e ∙ or-true a
+
+-- the class below another whose own lists have the entry that an object of class r runs for the token
+pub record HasEntry (t : ClassTable) (c token r n : ℕ) : Type 0 where
+  pub class : ℕ
+  pub above : is_on_chain t c class ≡ true
+  pub below : is_on_chain t class r ≡ true
+  pub shared : shares t c token class ≡ true
+  pub entry : entry_at t class token ≡ Some n
+
+module _ (t : ClassTable) (are : AreClasses t) where
+  nearest-entry : (c r token k n : ℕ) → nat_lt token 128 ≡ false → nearest_of t (package_of t c) r ≡ Some k → dispatched t c token r ≡ Some n
+      → entry_at t k token ≡ Some n
+  unfolding dispatched visible_in entry_at
+  nearest-entry c r token k n far near runs = rw far (rw (far, near) at runs)
+
+  public-entry : (c r token n : ℕ) → nat_lt token 128 ≡ true → dispatched t c token r ≡ Some n → entry_at t r token ≡ Some n
+  unfolding dispatched entry_at
+  public-entry c r token n few runs = rw few (rw few at runs)
+
+  record IsNearest (home c r : ℕ) : Type 0 where
+    class : ℕ
+    found : nearest_of t home r ≡ Some class
+    above : is_on_chain t c class ≡ true
+    below : is_on_chain t class r ≡ true
+    package_is : package_of t class ≡ home
+
+  nearest-here : (home r : ℕ) → package_of t r ≡ home → nearest_of t home r ≡ Some r
+  unfolding nearest_of
+  nearest-here home r e = let f = chain-front t r in rw (f.1, eq-eqb (package_of t r) home e) refl
+
+  nearest-next : (home r p : ℕ) → IsNextOnChain t r p → (package_of t r == home) ≡ false → nearest_of t home r ≡ nearest_of t home p
+  unfolding nearest_of
+  nearest-next home r p next e = rw (next.chain_is, e) refl
+
+  nearest-by : (home c r p : ℕ) (b : Bool) → (package_of t r == home) ≡ b → package_of t c ≡ home → IsNextOnChain t r p
+      → (is_on_chain t c p ≡ true → IsNearest home c p) → is_on_chain t c r ≡ true → IsNearest home c r
+  nearest-by home c r p true here at next before on =
+      let e = eqb-true (package_of t r) home here in
+      record { class = r; found = nearest-here home r e; above = on; below = on_chain-here t r; package_is = e }
+  nearest-by home c r p false off at next before on = elim (on_next t c r p next on) [
+    | inl is ↦ absurd (false≢true (sym off ∙ eq-eqb (package_of t r) home (ap (package_of t) is ∙ at)))
+    | inr up ↦
+        let near = before up in
+        record {
+          class = near.class;
+          found = nearest-next home r p next off ∙ near.found;
+          above = near.above;
+          below = on_above t near.class r p next near.below;
+          package_is = near.package_is;
+        }
+  ]
+
+  nearest : (home c : ℕ) → package_of t c ≡ home → (r : ℕ) → is_on_chain t c r ≡ true → IsNearest home c r
+  nearest home c at = climb t are (λ r. is_on_chain t c r ≡ true → IsNearest home c r)
+      (λ r top alone on.
+      let e : package_of t r ≡ home = ap (package_of t) (on_alone t c r alone on) ∙ at in
+      record { class = r; found = nearest-here home r e; above = on; below = on_chain-here t r; package_is = e })
+      (λ r p link next before on. nearest-by home c r p (package_of t r == home) refl at next before on)
+
+  entry-by : (c token r n : ℕ) (b : Bool) → nat_lt token 128 ≡ b → is_on_chain t c r ≡ true → dispatched t c token r ≡ Some n → HasEntry t c token r n
+  entry-by c token r n true few on runs = record {
+    class = r;
+    above = on;
+    below = on_chain-here t r;
+    shared = or-left (nat_lt token 128) (package_of t r == package_of t c) few;
+    entry = public-entry c r token n few runs;
+  }
+  entry-by c token r n false far on runs =
+      let near = nearest (package_of t c) c refl r on in
+      record {
+        class = near.class;
+        above = near.above;
+        below = near.below;
+        shared = or-right (nat_lt token 128) (package_of t near.class == package_of t c)
+            (eq-eqb (package_of t near.class) (package_of t c) near.package_is);
+        entry = nearest-entry c r token near.class n far near.found runs;
+      }
+
+  pub has-entry : (c token r n : ℕ) → is_on_chain t c r ≡ true → dispatched t c token r ≡ Some n → HasEntry t c token r n
+  has-entry c token r n on runs = entry-by c token r n (nat_lt token 128) refl on runs
+
+  -- what is below a class is a class
+  below-class : (r c : ℕ) → IsClass t c → is_on_chain t c r ≡ true → IsClass t r
+  below-class = climb t are (λ r. (c : ℕ) → IsClass t c → is_on_chain t c r ≡ true → IsClass t r)
+      (λ r top alone c is on. subst (IsClass t) (sym (on_alone t c r alone on)) is)
+      (λ r p link next before c is on. parent_of-class t r p link)
+
+  pub entry-class : (c token r n : ℕ) → IsClass t c → is_on_chain t c r ≡ true → (h : HasEntry t c token r n) → IsClass t h.class
+  entry-class c token r n is on h = below-class h.class c is h.above
+
+  -- a class between shares too, where packages fall along the chain
+  pub shares-between : (c token k p : ℕ) → package_of t c ≤ package_of t p → package_of t p ≤ package_of t k → shares t c token k ≡ true
+      → (shares t c token p ≡ true) × (shares t p token k ≡ true)
+  shares-between c token k p low high is = elim (or_cases (nat_lt token 128) (package_of t k == package_of t c) is) [
+    | inl few ↦ (or-left (nat_lt token 128) (package_of t p == package_of t c) few, or-left (nat_lt token 128) (package_of t k == package_of t p) few)
+    | inr alike ↦
+        let e = eqb-true (package_of t k) (package_of t c) alike in
+        let first : package_of t p ≡ package_of t c = omega (arith, e, low, high) in
+        let second : package_of t k ≡ package_of t p = omega (arith, e, low, high) in (
+          or-right (nat_lt token 128) (package_of t p == package_of t c) (eq-eqb (package_of t p) (package_of t c) first),
+          or-right (nat_lt token 128) (package_of t k == package_of t p) (eq-eqb (package_of t k) (package_of t p) second),
+        )
+  ]
+
+  -- what an object runs for the token of a subclass that shares it, it runs for that of the class
+  moved : (c d token r n : ℕ) (b : Bool) → nat_lt token 128 ≡ b → shares t c token d ≡ true → dispatched t d token r ≡ Some n → dispatched t c token r ≡ Some n
+  unfolding dispatched
+  moved c d token r n true few shared runs = rw few (rw few at runs)
+  moved c d token r n false far shared runs = elim (or_cases (nat_lt token 128) (package_of t d == package_of t c) shared) [
+    | inl few ↦ absurd (false≢true (sym far ∙ few))
+    | inr alike ↦
+        let e = eqb-true (package_of t d) (package_of t c) alike in
+        let same : slice_get (visible_in t (package_of t d) r) (token - 128) ≡ Some n = rw far at runs in
+        rw far (subst (λ (h : ℕ). slice_get (visible_in t h r) (token - 128) ≡ Some n) e same)
+  ]
+
+  pub dispatched-above : (c d token r n : ℕ) → shares t c token d ≡ true → dispatched t d token r ≡ Some n → dispatched t c token r ≡ Some n
+  dispatched-above c d token r n shared runs = moved c d token r n (nat_lt token 128) refl shared runs
