@@ -12,3 +12,5 @@ pub mod Settling
 pub mod Together
 pub mod Ready
 pub mod Begins
+pub mod Simulation
+pub mod Entering

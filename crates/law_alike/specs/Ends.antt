@@ -32,13 +32,17 @@ pub record GoesOnFor (w : Linked) (entry : ℕ) (args : List Argument) (count : 
   pub state : State Cell
   pub runs : Runs tagged w count start (running state)
 
--- two worlds end alike, where for every entry and all arguments: both refuse to begin for the same reason, or neither does; what a run in
--- the first ends with within n steps, one in the second ends with within 2,000 * n steps; and where the first goes on for n steps, so
--- does the second
-pub record EndsAlike (v w : Linked) : Type 0 where
+-- two worlds end alike within a factor, where for every entry and all arguments: both refuse to begin for the same reason, or neither
+-- does; what a run in the first ends with within n steps, one in the second ends with within factor * n steps; and where the first goes
+-- on for n steps, so does the second
+pub record EndsAlikeBy (factor : ℕ) (v w : Linked) : Type 0 where
   pub begins : (entry : ℕ) (args : List Argument) → start_fault w entry args ≡ start_fault v entry args
   pub ends :
       (entry : ℕ) (args : List Argument) (n : ℕ) (left : Left)
       → EndsWithin v entry args n left
-      → EndsWithin w entry args (2000 * n) left
+      → EndsWithin w entry args (factor * n) left
   pub goes_on : (entry : ℕ) (args : List Argument) (n : ℕ) → GoesOnFor v entry args n → GoesOnFor w entry args n
+
+-- code that is rewritten may take 2,000 steps for one
+abbrev pub EndsAlike : Linked → Linked → Type 0
+EndsAlike v w = EndsAlikeBy 2000 v w

@@ -1,0 +1,16 @@
+pub mod Lists
+pub mod Numbers
+pub mod Names
+pub mod Records
+pub mod Lines
+pub mod Tables
+pub mod Members
+pub mod Statics
+pub mod Own
+pub mod Named
+pub mod Begun
+pub mod Worlds
+pub mod Rules
+pub mod Typings
+pub mod Stay
+pub mod Checked

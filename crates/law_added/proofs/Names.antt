@@ -1,0 +1,73 @@
+-- What a package names stays the same when packages are added after it.
+use Rattle.std.proofs.Common.{◌≡◌, ◌<◌, ◌≤◌, ◌+◌, ℕ, zero, suc, List, [], ◌∷◌, ◌++◌, length, take, map, slice_get, position, Bool, true, false}
+use Rattle.std.proofs.Common.{Option, Some, None, IfSome, option_map, option_and_then, refl, sym, ap, subst, ◌∙◌, arith}
+use Rattle.std.proofs.lemmas.List.{take-append-le}
+use Rattle.cap_bytes.specs.declared.class_reference.ClassReference.{ClassReference}
+use Rattle.cap_bytes.specs.declared.class_reference.ClassReference.TheVariants.{Internal, External}
+use Rattle.cap_bytes.specs.ClassReference.{reference_of}
+use Rattle.cap_frame.specs.PackageFormat.{Package}
+use Rattle.cap_package.specs.PackageRecord.{PackageRecord}
+use Rattle.cap_package.specs.Agreement.{or_none}
+use Rattle.cap_pool.specs.ExportFormat.{Exported}
+use Rattle.jc_resolve.specs.declared.place.RecordPlace.{RecordPlace}
+use Rattle.jc_resolve.specs.Numbering.{class_at, numbered_classes}
+use Rattle.jc_resolve.specs.References.{meets_import, import_of, met_by, exported_class, exported_offset, exported_place, exported_field, exported_method}
+use Rattle.jc_resolve.specs.References.{place_referred, class_referred, class_named}
+use Rattle.jc_resolve.proofs.DeclaredTypes.{named_at, named_below}
+use Rattle.jc_resolve.proofs.ImportLaws.{met_before}
+use Rattle.law_added.proofs.Lists.{get_front}
+use Rattle.law_added.proofs.Numbers.{class_at_front}
+
+module _ (ps qs : List PackageRecord) where
+  -- what is asked of a package before is answered as before
+  pub asked_front : {X : Type 0} (f : PackageRecord → Option X) (k : ℕ) → k < length ps
+      → option_and_then f (slice_get (ps ++ qs) k) ≡ option_and_then f (slice_get ps k)
+  asked_front f k lt = ap (option_and_then f) (get_front ps qs k lt)
+
+  pub met_front : (k token : ℕ) → k < length ps → met_by (ps ++ qs) k token ≡ met_by ps k token
+  unfolding met_by
+  met_front k token lt =
+      ap (option_and_then (λ asked. position (meets_import asked) (take k (ps ++ qs))))
+      (asked_front (λ (p : PackageRecord). slice_get p.imports token) k lt)
+      ∙ ap (λ earlier. option_and_then (λ asked. position (meets_import asked) earlier) (import_of ps k token))
+      (take-append-le k ps qs (omega (arith, lt)))
+
+  pub exported_front : (k token : ℕ) → k < length ps → exported_offset (ps ++ qs) k token ≡ exported_offset ps k token
+  exported_front k token lt =
+      ap (option_map (λ (c : Exported). c.class_offset)) (asked_front (λ (p : PackageRecord). slice_get (or_none p.export) token) k lt)
+
+  -- ---- classes
+
+  at_exported : (j class : ℕ) (o : Option ℕ) → j < length ps
+      → option_and_then (class_at (ps ++ qs)) (option_map (λ offset. record { «package» = j; offset = offset }) o)
+      ≡ option_and_then (class_at ps) (option_map (λ offset. record { «package» = j; offset = offset }) o)
+  at_exported j class None lt = refl
+  at_exported j class (Some offset) lt = class_at_front ps qs (record { «package» = j; offset = offset }) lt
+
+  by_import : (class k : ℕ) (o : Option ℕ) → k < length ps → IfSome o (λ j. j < k)
+      → option_and_then (class_at (ps ++ qs)) (option_and_then (λ j. exported_place (ps ++ qs) j class) o)
+      ≡ option_and_then (class_at ps) (option_and_then (λ j. exported_place ps j class) o)
+  by_import class k None lt h = refl
+  by_import class k (Some j) lt h =
+      let below : j < length ps = omega (arith, lt, h) in
+      ap (λ o. option_and_then (class_at (ps ++ qs)) (option_map (λ offset. record { «package» = j; offset = offset }) o))
+      (exported_front j class below)
+      ∙ at_exported j class (exported_offset ps j class) below
+
+  pub referred_front : (k : ℕ) (reference : ClassReference) → k < length ps
+      → class_referred (ps ++ qs) k reference ≡ class_referred ps k reference
+  unfolding class_referred
+  referred_front k (Internal offset) lt = class_at_front ps qs (record { «package» = k; offset = offset }) lt
+  referred_front k (External import class) lt =
+      ap (λ o. option_and_then (class_at (ps ++ qs)) (option_and_then (λ j. exported_place (ps ++ qs) j class) o)) (met_front k import lt)
+      ∙ by_import class k (met_by ps k import) lt (met_before ps k import (met_by ps k import) refl)
+
+  pub named_front : (k reference : ℕ) → k < length ps → class_named (ps ++ qs) k reference ≡ class_named ps k reference
+  unfolding class_named
+  named_front k reference lt = referred_front k (reference_of reference) lt
+
+-- what is referred to is a class of the packages
+pub referred_below : (ps : List PackageRecord) (k : ℕ) (reference : ClassReference)
+    → IfSome (class_referred ps k reference) (λ c. c < length (numbered_classes ps))
+unfolding class_referred
+referred_below ps k reference = named_at ps (place_referred ps k reference)

@@ -1,0 +1,4 @@
+pub mod Added
+pub mod Worlds
+pub mod Typings
+pub mod Checked

@@ -1,0 +1,13 @@
+pub mod Quiet
+pub mod Knowing
+pub mod Settling
+pub mod Throwing
+pub mod Stepping
+pub mod Ending
+pub mod Allotting
+pub mod Retyping
+pub mod Carried
+pub mod Types
+pub mod SharedTypes
+pub mod InStep
+pub mod Kept
