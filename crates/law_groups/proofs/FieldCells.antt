@@ -46,6 +46,7 @@ use Rattle.jc_ops.specs.Resolve.{Resolves}
 use Rattle.xf_emission.specs.Move.{with_byte}
 use Rattle.law_rewritten_typing.proofs.Rows.{swap-one-is, swap-two-is}
 use Rattle.xf_emission.specs.Group.{swap_words}
+use Rattle.xf_emission.specs.Mnemonics.{swap_x}
 
 -- ---- what is asked
 
@@ -222,7 +223,7 @@ module _ (t : ClassTable) (are : AreClasses t) (types : IsOrderOfTypes t) (ks : 
 
 -- swap_x of one word and those of a value
 pub swap-is : (w : Linked) (r : MethodRec) (n : ℕ) (kind : Kind)
-    → Resolves w r n (with_byte 64 (swap_words kind)) (Ok (ops.Move (moves.Exchange 1 (width kind))))
+    → Resolves w r n (with_byte swap_x (swap_words kind)) (Ok (ops.Move (moves.Exchange 1 (width kind))))
 swap-is w r n kinds_of.Ref = sym (swap-one-is w r n)
 swap-is w r n kinds_of.Byte = sym (swap-one-is w r n)
 swap-is w r n kinds_of.Short = sym (swap-one-is w r n)

@@ -31,6 +31,7 @@ use Rattle.xf_emission.specs.Move.{load, spill, with_byte}
 use Rattle.xf_emission.specs.Jump.{branch, goto, has_under, jump_to, leads, spill_if}
 use Rattle.xf_emission.specs.Group.{body, branch_by, fallen, field_read, field_written, first_place, gone, group, increased, itself, loaded, stays}
 use Rattle.xf_emission.specs.Group.{store_to_homes, swap_words}
+use Rattle.xf_emission.specs.Mnemonics.{from_read, from_write, swap_x}
 use Rattle.law_homes.proofs.Loading.{step-place}
 use Rattle.law_groups.specs.Laid.{IsLaidIn, body_at, count_of, group_at, steps_of}
 use Rattle.law_groups.specs.Steps.{GroupsFollow, GroupsStandAtSteps}
@@ -65,13 +66,13 @@ module _ (s : Source) (i : Placed) where
   some-read : (o : Option Home) → 1 ≤ count_of (field_read s i o)
   some-read None = omega arith
   some-read (Some h) =
-      some-if (stays s h) (itself i) (load s h ∷ Plain (record i.insn { op = i.insn.op - 42 }) ∷ []) (omega arith) (omega arith)
+      some-if (stays s h) (itself i) (load s h ∷ Plain (record i.insn { op = i.insn.op - from_read }) ∷ []) (omega arith) (omega arith)
 
   some-written : (k : Kind) (o : Option Home) → 1 ≤ count_of (field_written s i k o)
   some-written k None = omega arith
   some-written k (Some h) =
       some-if (stays s h) (itself i)
-      (load s h ∷ Plain (with_byte 64 (swap_words k)) ∷ Plain (record i.insn { op = i.insn.op - 46 }) ∷ [])
+      (load s h ∷ Plain (with_byte swap_x (swap_words k)) ∷ Plain (record i.insn { op = i.insn.op - from_write }) ∷ [])
       (omega arith) (omega arith)
 
   some-gone : (p : ℕ) (op : Operation) (q : ℕ) → 1 ≤ count_of (gone s p op q)

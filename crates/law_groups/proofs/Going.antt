@@ -25,6 +25,7 @@ use Rattle.xf_emission.specs.Edge.{copies}
 use Rattle.xf_emission.specs.Emission.{items}
 use Rattle.xf_emission.specs.Jump.{goto}
 use Rattle.xf_emission.specs.Move.{spill}
+use Rattle.xf_emission.specs.Mnemonics.{goto_w}
 use Rattle.law_rewritten_typing.specs.Edges.{CellsFillStack, LeadsTo, NeededHaveHomes}
 use Rattle.law_homes.specs.Edges.{CellsAreFew, CopiesAreFew, EdgesRun, HoldsBefore, StacksSpill, insns, top_at}
 use Rattle.law_homes.specs.Held.{HoldsValue, Waits, slots}
@@ -133,8 +134,8 @@ module _
         subst (λ stack. Runs tagged w (length (insns cs)) u (running (top_at u (place n) c.registers stack))) bare c.runs in
         let rest : ItemsStandFrom s n (goto q ∷ []) =
         stand-at s (m + count_of cs) n (goto q ∷ []) (ap (λ k. m + k) size) (stand-last s m cs (goto q ∷ []) st) in
-        let found : slice_get (steps_of s) n ≡ Some (record { insn = jump 168; targets = group_at s q ∷ []; keys = [] }) =
-        step-at s n (goto q) [] (record { insn = jump 168; targets = place_of q (items s) ∷ []; keys = [] }) [] rest refl in
+        let found : slice_get (steps_of s) n ≡ Some (record { insn = jump goto_w; targets = group_at s q ∷ []; keys = [] }) =
+        step-at s n (goto q) [] (record { insn = jump goto_w; targets = place_of q (items s) ∷ []; keys = [] }) [] rest refl in
         let method : (top u1).method ≡ s.method.number = of.target in
         let jumped = goto-steps w laid.new executed place (steps_of s) u1 laid.code.target.rec n (group_at s q) (omega arith)
         (ap (slice_get w.methods) method ∙ target-at v w s place laid)

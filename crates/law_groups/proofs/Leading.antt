@@ -35,6 +35,7 @@ use Rattle.law_homes.specs.Moves.{IsExecutable}
 use Rattle.law_sound.proofs.Passing.{passes-before}
 use Rattle.law_homes.specs.Laws.{ExecutesStep, StepsExecute}
 use Rattle.law_homes.proofs.Standing.{steps-stand-at-places}
+use Rattle.xf_emission.specs.Mnemonics.{goto_w}
 
 -- a jump's only target by its operand
 module _ (code : List ℕ) (j : Placed) (to : ℤ) where
@@ -49,7 +50,7 @@ module _ (code : List ℕ) (j : Placed) (to : ℤ) where
       (sym (ap (λ b. if b then target j.place j.insn.x ∷ map (λ (c : Case). target j.place c.offset) (cases code j.place j.insn) else [])
       is) ∙ e)
 
-goto-resolves : (w : Linked) (m : MethodRec) (q : ℕ) → Resolves w m q (jump 168) (Ok (ops.Branch Always))
+goto-resolves : (w : Linked) (m : MethodRec) (q : ℕ) → Resolves w m q (jump goto_w) (Ok (ops.Branch Always))
 unfolding row_at table by_sort by_width by_kind first_four by_register literals binaries orders_all branching unused
 goto-resolves w m q = refl
 
@@ -65,7 +66,7 @@ module _
   t = record { frames = f ∷ below; heap = heap; statics = statics }
 
   abbrev gone : Step
-  gone = record { insn = jump 168; targets = k ∷ []; keys = [] }
+  gone = record { insn = jump goto_w; targets = k ∷ []; keys = [] }
 
   goto-there :
       slice_get w.methods f.method ≡ Some m
@@ -104,7 +105,7 @@ pub goto-steps :
     → 0 < length t.frames
     → slice_get w.methods (top t).method ≡ Some m
     → AreSteps (code_at w (top t).method) place 0 all (listing (code_at w (top t).method))
-    → slice_get all n ≡ Some (record { insn = jump 168; targets = k ∷ []; keys = [] })
+    → slice_get all n ≡ Some (record { insn = jump goto_w; targets = k ∷ []; keys = [] })
     → (top t).place ≡ place n
     → k < length all
     → length (top t).stack ≤ max_stack_of w (top t).method

@@ -40,6 +40,7 @@ use Rattle.xf_homes.specs.Source.{Source}
 use Rattle.xf_homes.specs.Plan.{home_of, local, needed, operation, or_first, register}
 use Rattle.xf_emission.specs.Move.{load, load_op, with_byte}
 use Rattle.xf_emission.specs.Group.{body, loaded}
+use Rattle.xf_emission.specs.Mnemonics.{aload}
 use Rattle.xf_homes.specs.Laws.{HasRegister, HomesServe, NeededAreKept, Serve}
 use Rattle.law_rewritten_typing.specs.Planned.{IsPlanned}
 use Rattle.law_rewritten_typing.specs.Edges.{NeededHaveHomes}
@@ -76,7 +77,7 @@ pub record IsHomeOf (s : Source) (p x : ℕ) (letter : Sort) : Type 0 where
   pub full : All IsNotBottom frame.regs
 
 -- what is loaded as a reference
-pub reference-letter : (a : Ty) → load_op a ≡ 21 → letter_of a ≡ sorts.Reference
+pub reference-letter : (a : Ty) → load_op a ≡ aload → letter_of a ≡ sorts.Reference
 reference-letter Short e = absurd (omega (arith, e))
 reference-letter IntHigh e = absurd (omega (arith, e))
 reference-letter _ e = refl

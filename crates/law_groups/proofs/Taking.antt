@@ -31,6 +31,7 @@ use Rattle.xf_emission.specs.Group.{group}
 use Rattle.xf_emission.specs.Move.{copy}
 use Rattle.xf_emission.specs.Jump.{goto, label_by, lead, place as place_named, stub, stub_label, stub_of, branch_copies, under, way_of}
 use Rattle.xf_emission.proofs.Ways.{way-found}
+use Rattle.xf_emission.specs.Mnemonics.{goto_w}
 use Rattle.law_rewritten_typing.specs.Edges.{AreMatched, CellsFillStack, LeadsTo, NeededHaveHomes}
 use Rattle.law_homes.specs.Edges.{CellsAreFew, CellsRun, CopiesAreFew, EdgesRun, HoldsAfter, insns, top_at}
 use Rattle.law_homes.specs.Held.{HoldsValue, HoldsLocals, Waits, slots}
@@ -247,8 +248,8 @@ module _
       let k : ℕ = m + count_of ts in
       let x1 : State Cell = top_at x (place k) a.registers [] in
       let rest : ItemsStandFrom s k (goto q ∷ []) = stand-last s m ts (goto q ∷ []) st in
-      let found : slice_get (steps_of s) k ≡ Some (record { insn = jump 168; targets = group_at s q ∷ []; keys = [] }) =
-      step-at s k (goto q) [] (record { insn = jump 168; targets = place_of q (items s) ∷ []; keys = [] }) [] rest refl in
+      let found : slice_get (steps_of s) k ≡ Some (record { insn = jump goto_w; targets = group_at s q ∷ []; keys = [] }) =
+      step-at s k (goto q) [] (record { insn = jump goto_w; targets = place_of q (items s) ∷ []; keys = [] }) [] rest refl in
       let method : (top x1).method ≡ s.method.number = of.target in
       let jumped = goto-steps w laid.new executed place (steps_of s) x1 laid.code.target.rec k (group_at s q) (omega arith)
       (ap (slice_get w.methods) method ∙ target-at v w s place laid)

@@ -26,6 +26,7 @@ use Rattle.xf_homes.specs.Source.{Source}
 use Rattle.xf_homes.specs.Plan.{local, register}
 use Rattle.xf_emission.specs.Group.{body, field_read, itself, stays}
 use Rattle.xf_emission.specs.Move.{load}
+use Rattle.xf_emission.specs.Mnemonics.{from_read}
 use Rattle.law_rewritten_typing.specs.Whole.{DerivedAreWhole}
 use Rattle.law_homes.specs.Moves.{IsExecutable}
 use Rattle.law_homes.specs.Laws.{LocalsStay, StepsExecute}
@@ -57,7 +58,7 @@ kept-body :
 unfolding body
 kept-body s i f h at e =
     ap (field_read s i) at
-    ∙ ap (λ (d : Bool). if d then itself i else load s h ∷ Plain (record i.insn { op = i.insn.op - 42 }) ∷ []) e
+    ∙ ap (λ (d : Bool). if d then itself i else load s h ∷ Plain (record i.insn { op = i.insn.op - from_read }) ∷ []) e
 
 module _
     (v : Linked) (world : IsWorld v) (decided : OperationsAreDecided v) (alike_steps : StepsAreAlike v) (operations : OperationsAreKept)

@@ -64,6 +64,7 @@ use Rattle.xf_homes.specs.Source.{Source}
 use Rattle.xf_homes.specs.Plan.{needed, register}
 use Rattle.xf_emission.specs.Group.{body, field_read, itself, stays}
 use Rattle.xf_emission.specs.Move.{load}
+use Rattle.xf_emission.specs.Mnemonics.{from_read}
 use Rattle.law_rewritten_typing.proofs.Rows.{read-on-stack}
 use Rattle.law_sound.proofs.Passing.{passes-before}
 use Rattle.law_homes.specs.Edges.{insns, top_at, IsBeside}
@@ -149,7 +150,7 @@ module _
   other = ops.FieldRead fd holders.Stack
 
   abbrev insn : Insn
-  insn = record i.insn { op = i.insn.op - 42 }
+  insn = record i.insn { op = i.insn.op - from_read }
 
   abbrev n : ℕ
   n = body_at s i.place
@@ -169,11 +170,11 @@ module _
     l : AreLaws v w
     l = laws w laid.new
 
-    body_is : body s i (ops.FieldRead fd holders.This) ≡ load s (record { slot = 0; ty = home.ty }) ∷ Plain (record i.insn { op = i.insn.op - 42 }) ∷ []
+    body_is : body s i (ops.FieldRead fd holders.This) ≡ load s (record { slot = 0; ty = home.ty }) ∷ Plain (record i.insn { op = i.insn.op - from_read }) ∷ []
     unfolding body
     body_is =
         ap (field_read s i) home.at
-        ∙ ap (λ (d : Bool). if d then itself i else load s (record { slot = 0; ty = home.ty }) ∷ Plain (record i.insn { op = i.insn.op - 42 }) ∷ [])
+        ∙ ap (λ (d : Bool). if d then itself i else load s (record { slot = 0; ty = home.ty }) ∷ Plain (record i.insn { op = i.insn.op - from_read }) ∷ [])
         moves
 
     g : GroupSteps s i (ops.FieldRead fd holders.This)
@@ -182,11 +183,11 @@ module _
     count : count_of (body s i (ops.FieldRead fd holders.This)) ≡ 2
     count = ap count_of body_is
 
-    there : StandAmong (steps_of s) (body_at s i.place) (load_of s (record { slot = 0; ty = home.ty }) ∷ record i.insn { op = i.insn.op - 42 } ∷ [])
+    there : StandAmong (steps_of s) (body_at s i.place) (load_of s (record { slot = 0; ty = home.ty }) ∷ record i.insn { op = i.insn.op - from_read } ∷ [])
     there =
-        moves-stand s (body_at s i.place) (load s (record { slot = 0; ty = home.ty }) ∷ Plain (record i.insn { op = i.insn.op - 42 }) ∷ []) tt
+        moves-stand s (body_at s i.place) (load s (record { slot = 0; ty = home.ty }) ∷ Plain (record i.insn { op = i.insn.op - from_read }) ∷ []) tt
         (stand-as s (body_at s i.place) (body s i (ops.FieldRead fd holders.This))
-        (load s (record { slot = 0; ty = home.ty }) ∷ Plain (record i.insn { op = i.insn.op - 42 }) ∷ []) body_is g.body_steps)
+        (load s (record { slot = 0; ty = home.ty }) ∷ Plain (record i.insn { op = i.insn.op - from_read }) ∷ []) body_is g.body_steps)
 
     further : body_at s i.place + 2 < length (steps_of s)
     further =
@@ -245,7 +246,7 @@ module _
 
     -- ---- the field
 
-    resolves : Resolves w laid.code.target.rec i.place (record i.insn { op = i.insn.op - 42 }) (Ok (ops.FieldRead fd holders.Stack))
+    resolves : Resolves w laid.code.target.rec i.place (record i.insn { op = i.insn.op - from_read }) (Ok (ops.FieldRead fd holders.Stack))
     resolves =
         let same_method = method-is v w s place laid (executed w laid.new) i (ops.FieldRead fd holders.This) z t b g in
         let own : Resolves w laid.code.target.rec i.place i.insn (Ok (ops.FieldRead fd holders.This)) =
@@ -254,11 +255,11 @@ module _
         let small = op-fits s.method.code i.place i.insn laid.planned.code.bytes ((all-are-listed s.method.code).decodes i b.stands) in
         sym (read-on-stack w laid.code.target.rec laid.code.target.rec i.place i.place i.insn fd small refl (sym own))
 
-    ex : ExecutesStep w t1 place (body_at s i.place + 1) (record { insn = record i.insn { op = i.insn.op - 42 }; targets = []; keys = [] })
+    ex : ExecutesStep w t1 place (body_at s i.place + 1) (record { insn = record i.insn { op = i.insn.op - from_read }; targets = []; keys = [] })
         (ops.FieldRead fd holders.Stack)
     ex =
         executed w laid.new t1 laid.code.target.rec place (steps_of s) (body_at s i.place + 1) i.place
-        (record { insn = record i.insn { op = i.insn.op - 42 }; targets = []; keys = [] })
+        (record { insn = record i.insn { op = i.insn.op - from_read }; targets = []; keys = [] })
         (ops.FieldRead fd holders.Stack) (omega arith)
         (ap (slice_get w.methods) b.of.target ∙ target-at v w s place laid)
         (subst (λ m. AreSteps (code_at w m) place 0 (steps_of s) (listing (code_at w m))) (sym b.of.target) (steps-are v w s place laid))

@@ -66,6 +66,7 @@ use Rattle.xf_homes.specs.Source.{Source}
 use Rattle.xf_homes.specs.Plan.{needed, register}
 use Rattle.xf_emission.specs.Group.{body, field_written, itself, stays, swap_words}
 use Rattle.xf_emission.specs.Move.{load, with_byte}
+use Rattle.xf_emission.specs.Mnemonics.{from_write, swap_x}
 use Rattle.law_rewritten_typing.proofs.Rows.{write-on-stack}
 use Rattle.law_alike.proofs.Storing.{object-written}
 use Rattle.law_sound.proofs.Passing.{passes-before}
@@ -113,12 +114,12 @@ module _
     l = laws w laid.new
 
     body_is : body s i (ops.FieldWrite fd holders.This) ≡ load s (record { slot = 0; ty = home.ty }) ∷ Plain
-        (with_byte 64 (swap_words fd.kind)) ∷ Plain (record i.insn { op = i.insn.op - 46 }) ∷ []
+        (with_byte swap_x (swap_words fd.kind)) ∷ Plain (record i.insn { op = i.insn.op - from_write }) ∷ []
     unfolding body
     body_is =
         ap (field_written s i fd.kind) home.at
-        ∙ ap (λ (d : Bool). if d then itself i else load s (record { slot = 0; ty = home.ty }) ∷ Plain (with_byte 64 (swap_words fd.kind)) ∷ Plain
-        (record i.insn { op = i.insn.op - 46 }) ∷ []) moves
+        ∙ ap (λ (d : Bool). if d then itself i else load s (record { slot = 0; ty = home.ty }) ∷ Plain (with_byte swap_x (swap_words fd.kind)) ∷ Plain
+        (record i.insn { op = i.insn.op - from_write }) ∷ []) moves
 
     g : GroupSteps s i (ops.FieldWrite fd holders.This)
     g = steps-here v w s place laid stand follow i (ops.FieldWrite fd holders.This) b.stands b.reached b.does
@@ -127,14 +128,14 @@ module _
     count = ap count_of body_is
 
     there : StandAmong (steps_of s) (body_at s i.place)
-        (load_of s (record { slot = 0; ty = home.ty }) ∷ with_byte 64 (swap_words fd.kind) ∷ record i.insn { op = i.insn.op - 46 } ∷ [])
+        (load_of s (record { slot = 0; ty = home.ty }) ∷ with_byte swap_x (swap_words fd.kind) ∷ record i.insn { op = i.insn.op - from_write } ∷ [])
     there =
         moves-stand s (body_at s i.place)
-        (load s (record { slot = 0; ty = home.ty }) ∷ Plain (with_byte 64 (swap_words fd.kind)) ∷ Plain
-        (record i.insn { op = i.insn.op - 46 }) ∷ []) tt
+        (load s (record { slot = 0; ty = home.ty }) ∷ Plain (with_byte swap_x (swap_words fd.kind)) ∷ Plain
+        (record i.insn { op = i.insn.op - from_write }) ∷ []) tt
         (stand-as s (body_at s i.place) (body s i (ops.FieldWrite fd holders.This))
-        (load s (record { slot = 0; ty = home.ty }) ∷ Plain (with_byte 64 (swap_words fd.kind)) ∷ Plain
-        (record i.insn { op = i.insn.op - 46 }) ∷ []) body_is g.body_steps)
+        (load s (record { slot = 0; ty = home.ty }) ∷ Plain (with_byte swap_x (swap_words fd.kind)) ∷ Plain
+        (record i.insn { op = i.insn.op - from_write }) ∷ []) body_is g.body_steps)
 
     further : body_at s i.place + 3 < length (steps_of s)
     further =
@@ -245,11 +246,11 @@ module _
         let method = ap (max_stack_of w) b.of.target in
         omega (arith, deep, e, m, room, method)
 
-    ex2 : ExecutesStep w t1 place (body_at s i.place + 1) (record { insn = with_byte 64 (swap_words fd.kind); targets = []; keys = [] })
+    ex2 : ExecutesStep w t1 place (body_at s i.place + 1) (record { insn = with_byte swap_x (swap_words fd.kind); targets = []; keys = [] })
         (ops.Move (shifts.Exchange 1 (cells_of_kind fd.kind)))
     ex2 =
         executed w laid.new t1 laid.code.target.rec place (steps_of s) (body_at s i.place + 1) i.place
-        (record { insn = with_byte 64 (swap_words fd.kind); targets = []; keys = [] })
+        (record { insn = with_byte swap_x (swap_words fd.kind); targets = []; keys = [] })
         (ops.Move (shifts.Exchange 1 (cells_of_kind fd.kind))) (omega arith)
         (ap (slice_get w.methods) b.of.target ∙ target-at v w s place laid)
         (subst (λ m. AreSteps (code_at w m) place 0 (steps_of s) (listing (code_at w m))) (sym b.of.target) (steps-are v w s place laid))
@@ -268,16 +269,16 @@ module _
 
     -- ---- the field
 
-    resolves : Resolves w laid.code.target.rec i.place (record i.insn { op = i.insn.op - 46 }) (Ok (ops.FieldWrite fd holders.Stack))
+    resolves : Resolves w laid.code.target.rec i.place (record i.insn { op = i.insn.op - from_write }) (Ok (ops.FieldWrite fd holders.Stack))
     resolves =
         let small = op-fits s.method.code i.place i.insn laid.planned.code.bytes ((all-are-listed s.method.code).decodes i b.stands) in
         sym (write-on-stack w laid.code.target.rec laid.code.target.rec i.place i.place i.insn fd small refl (sym own))
 
-    ex : ExecutesStep w t2 place (body_at s i.place + 1 + 1) (record { insn = record i.insn { op = i.insn.op - 46 }; targets = []; keys = [] })
+    ex : ExecutesStep w t2 place (body_at s i.place + 1 + 1) (record { insn = record i.insn { op = i.insn.op - from_write }; targets = []; keys = [] })
         (ops.FieldWrite fd holders.Stack)
     ex =
         executed w laid.new t2 laid.code.target.rec place (steps_of s) (body_at s i.place + 1 + 1) i.place
-        (record { insn = record i.insn { op = i.insn.op - 46 }; targets = []; keys = [] })
+        (record { insn = record i.insn { op = i.insn.op - from_write }; targets = []; keys = [] })
         (ops.FieldWrite fd holders.Stack) (omega arith)
         (ap (slice_get w.methods) b.of.target ∙ target-at v w s place laid)
         (subst (λ m. AreSteps (code_at w m) place 0 (steps_of s) (listing (code_at w m))) (sym b.of.target) (steps-are v w s place laid))

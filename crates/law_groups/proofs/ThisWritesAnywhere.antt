@@ -26,6 +26,7 @@ use Rattle.xf_homes.specs.Source.{Source}
 use Rattle.xf_homes.specs.Plan.{local, register}
 use Rattle.xf_emission.specs.Group.{body, field_written, itself, stays, swap_words}
 use Rattle.xf_emission.specs.Move.{load, with_byte}
+use Rattle.xf_emission.specs.Mnemonics.{from_write, swap_x}
 use Rattle.law_rewritten_typing.specs.Whole.{DerivedAreWhole}
 use Rattle.law_homes.specs.Moves.{IsExecutable}
 use Rattle.law_homes.specs.Laws.{LocalsStay, StepsExecute}
@@ -59,8 +60,8 @@ unfolding body
 kept-body s i f h at e =
     ap (field_written s i f.kind) at
     ∙ ap
-    (λ (d : Bool). if d then itself i else load s h ∷ Plain (with_byte 64 (swap_words f.kind)) ∷ Plain
-    (record i.insn { op = i.insn.op - 46 }) ∷ []) e
+    (λ (d : Bool). if d then itself i else load s h ∷ Plain (with_byte swap_x (swap_words f.kind)) ∷ Plain
+    (record i.insn { op = i.insn.op - from_write }) ∷ []) e
 
 module _
     (v : Linked) (world : IsWorld v) (decided : OperationsAreDecided v) (alike_steps : StepsAreAlike v) (operations : OperationsAreKept)

@@ -35,6 +35,7 @@ use Rattle.xf_homes.specs.Plan.{needed, register}
 use Rattle.xf_emission.specs.declared.origin.Origin.{Origin}
 use Rattle.xf_emission.specs.Edge.{home_before, homes_held, copy_new, copies_from, local_copies, locals_copies, cell_copies}
 use Rattle.xf_emission.specs.Move.{copy, load_op}
+use Rattle.xf_emission.specs.Mnemonics.{sload, iload}
 use Rattle.law_homes.specs.Edges.{insns}
 use Rattle.law_homes.specs.Held.{HoldsValue}
 use Rattle.law_homes.specs.Moves.{IsExecutable, size, letter_of, InstructionsStandFrom, copy_of, CanLoad, OwnRegisters, IsCopy}
@@ -45,7 +46,7 @@ use Rattle.law_homes.proofs.Beside.{each-among, among-each, held-as, held-can-lo
 -- ---- letters
 
 abbrev letter_by : ℕ → Sort
-letter_by n = if n == 22 then sorts.Short else if n == 23 then sorts.Int else sorts.Reference
+letter_by n = if n == sload then sorts.Short else if n == iload then sorts.Int else sorts.Reference
 
 letter-is : (ty : Ty) → letter_of ty ≡ letter_by (load_op ty)
 letter-is Short = refl

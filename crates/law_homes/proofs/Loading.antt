@@ -33,6 +33,7 @@ use Rattle.vm_step.specs.Values.{with_load}
 use Rattle.law_sound.specs.Frames.{least_types}
 use Rattle.law_sound.proofs.Places.{instruction-there}
 use Rattle.xf_emission.specs.Move.{with_byte, load_op, store_op}
+use Rattle.xf_emission.specs.Mnemonics.{aload, sload, iload, astore, sstore, istore}
 use Rattle.xf_homes.specs.declared.home.Home.{Home}
 use Rattle.xf_homes.specs.Source.{Source}
 use Rattle.xf_homes.specs.Plan.{register}
@@ -45,15 +46,15 @@ use Rattle.law_homes.proofs.Standing.{steps-stand-at-places, steps-execute}
 -- ---- the operations of loads and stores
 
 module _ (w : Linked) (m : MethodRec) where
-  load-row : (q r : ℕ) → (resolved w m q (with_byte 21 r) (row_at 21) ≡ Ok (ops.Load sorts.Reference (r % 256)))
-      × (resolved w m q (with_byte 22 r) (row_at 22) ≡ Ok (ops.Load sorts.Short (r % 256)))
-      × (resolved w m q (with_byte 23 r) (row_at 23) ≡ Ok (ops.Load sorts.Int (r % 256)))
+  load-row : (q r : ℕ) → (resolved w m q (with_byte aload r) (row_at aload) ≡ Ok (ops.Load sorts.Reference (r % 256)))
+      × (resolved w m q (with_byte sload r) (row_at sload) ≡ Ok (ops.Load sorts.Short (r % 256)))
+      × (resolved w m q (with_byte iload r) (row_at iload) ≡ Ok (ops.Load sorts.Int (r % 256)))
   unfolding row_at table by_sort by_width by_kind first_four by_register literals binaries orders_all branching unused
   load-row q r = (refl, refl, refl)
 
-  store-row : (q r : ℕ) → (resolved w m q (with_byte 40 r) (row_at 40) ≡ Ok (ops.Store sorts.Reference (r % 256)))
-      × (resolved w m q (with_byte 41 r) (row_at 41) ≡ Ok (ops.Store sorts.Short (r % 256)))
-      × (resolved w m q (with_byte 42 r) (row_at 42) ≡ Ok (ops.Store sorts.Int (r % 256)))
+  store-row : (q r : ℕ) → (resolved w m q (with_byte astore r) (row_at astore) ≡ Ok (ops.Store sorts.Reference (r % 256)))
+      × (resolved w m q (with_byte sstore r) (row_at sstore) ≡ Ok (ops.Store sorts.Short (r % 256)))
+      × (resolved w m q (with_byte istore r) (row_at istore) ≡ Ok (ops.Store sorts.Int (r % 256)))
   unfolding row_at table by_sort by_width by_kind first_four by_register literals binaries orders_all branching unused
   store-row q r = (refl, refl, refl)
 

@@ -49,6 +49,7 @@ use Rattle.xf_homes.specs.Source.{Source}
 use Rattle.xf_homes.specs.Plan.{needed, register}
 use Rattle.xf_emission.specs.Group.{pop_item, store_to_homes as stored_items}
 use Rattle.xf_emission.specs.Move.{copy}
+use Rattle.xf_emission.specs.Mnemonics.{pop, pop2}
 use Rattle.law_rewritten_typing.specs.Planned.{IsPlanned}
 use Rattle.law_rewritten_typing.proofs.Carried.{is-short, is-high, is-low}
 use Rattle.law_rewritten_typing.proofs.Rows.{pop-is, pop-two-is}
@@ -244,8 +245,8 @@ copies-insns s h (k ∷ ks) =
     ∙ (ap (λ (is : List Insn). copy_of s h k ++ is) (copies-insns s h ks) ∙ sym (flat_map-cons (copy_of s h) k ks)))
 
 pop_insn : Sort → Insn
-pop_insn sorts.Int = record { op = 60; x = pos 0; y = pos 0; z = pos 0; len = 1 }
-pop_insn _ = record { op = 59; x = pos 0; y = pos 0; z = pos 0; len = 1 }
+pop_insn sorts.Int = record { op = pop2; x = pos 0; y = pos 0; z = pos 0; len = 1 }
+pop_insn _ = record { op = pop; x = pos 0; y = pos 0; z = pos 0; len = 1 }
 
 popped-insns : (letter : Sort) → insns (pop_item letter ∷ []) ≡ pop_insn letter ∷ []
 unfolding pop_insn

@@ -32,6 +32,7 @@ use Rattle.xf_emission.specs.Move.{loads, spill}
 use Rattle.xf_emission.specs.Edge.{copies, home_before}
 use Rattle.xf_emission.specs.Jump.{goto}
 use Rattle.xf_emission.specs.Group.{entrance, fall}
+use Rattle.xf_emission.specs.Mnemonics.{goto_w}
 use Rattle.law_rewritten_typing.specs.Typed.{registers_of}
 use Rattle.law_rewritten_typing.proofs.Walks.{State, holding, left, Asked, nothing_asked, emptied, Passes, Flows, flow_label, flow_step, flow_end, Goes}
 use Rattle.law_rewritten_typing.proofs.Walks.{goes-append}
@@ -136,7 +137,7 @@ module _ (new : ℕ → ℕ) (apart : (a b : ℕ) → new a ≡ new b → a ≡ 
     goto-flows n q =
         let does = applies-by s.world r.max_stack (ops.Branch branches.Always) (record { regs = registers_of s.homes; stack = [] })
         (record { regs = registers_of s.homes; stack = [] }) tt refl refl (omega arith) in
-        flow_step {x = Branch 168 q} refl
+        flow_step {x = Branch goto_w q} refl
         (record {
           stack = [];
           here = refl;

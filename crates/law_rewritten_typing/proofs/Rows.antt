@@ -27,6 +27,7 @@ use Rattle.jc_ops.specs.Row.{row_at, table, unused, by_sort, by_width, by_kind, 
 use Rattle.xf_emission.specs.Move.{with_byte}
 use Rattle.xf_emission.proofs.RowByRow as kind
 use Rattle.xf_emission.proofs.RowByRow.{kind_at, kinds, op_kind, kind-of}
+use Rattle.xf_emission.specs.Mnemonics.{from_read, from_write, swap_x, goto_w, pop, pop2}
 use Rattle.jc_rules.proofs.Decides.{ok-same}
 
 -- ---- the opcodes of a kind
@@ -148,7 +149,7 @@ write-again (Err fault) f e = absurd (cc)
 
 -- a read of a field of `this`, as that of an object on the stack
 pub read-on-stack : (w : Linked) (m r : MethodRec) (place n : ℕ) (i : Insn) (f : InstanceField) → i.op < 256 → m.package ≡ r.package
-    → resolved w m place i (row_at i.op) ≡ Ok (ops.FieldRead f holders.This) → resolved w r n (record i { op = i.op - 42 }) (row_at (i.op - 42))
+    → resolved w m place i (row_at i.op) ≡ Ok (ops.FieldRead f holders.This) → resolved w r n (record i { op = i.op - from_read }) (row_at (i.op - from_read))
     ≡ Ok (ops.FieldRead f holders.Stack)
 unfolding row_at table by_sort by_width by_kind first_four by_register literals binaries orders_all branching unused
 read-on-stack w m r place n i f lt home e =
@@ -160,9 +161,9 @@ read-on-stack w m r place n i f lt home e =
     here : (op : ℕ) → i.op ≡ op → resolved w m place i (row_at op) ≡ Ok (ops.FieldRead f holders.This)
     here op own = ap (λ o. resolved w m place i (row_at o)) (sym own) ∙ e
 
-    again : (op : ℕ) → i.op ≡ op → resolved w r n (record i { op = op - 42 }) (row_at (op - 42)) ≡ Ok (ops.FieldRead f holders.Stack)
-        → resolved w r n (record i { op = i.op - 42 }) (row_at (i.op - 42)) ≡ Ok (ops.FieldRead f holders.Stack)
-    again op own g = ap (λ o. resolved w r n (record i { op = o - 42 }) (row_at (o - 42))) own ∙ g
+    again : (op : ℕ) → i.op ≡ op → resolved w r n (record i { op = op - from_read }) (row_at (op - from_read)) ≡ Ok (ops.FieldRead f holders.Stack)
+        → resolved w r n (record i { op = i.op - from_read }) (row_at (i.op - from_read)) ≡ Ok (ops.FieldRead f holders.Stack)
+    again op own g = ap (λ o. resolved w r n (record i { op = o - from_read }) (row_at (o - from_read))) own ∙ g
 
     member : (k : Kind) → instance_field w.classes (short_of i.x) k (member_at w r.package (short_of i.x)) ≡ instance_field w.classes (short_of i.x) k
         (member_at w m.package (short_of i.x))
@@ -176,7 +177,7 @@ read-on-stack w m r place n i f lt home e =
         ap (on (λ g. ops.FieldRead g holders.Stack)) (member k)
         ∙ read-again (instance_field w.classes (short_of i.x) k (member_at w m.package (short_of i.x))) f g
 
-    by : (i.op ≡ 173) ⊎ (i.op ≡ 174) ⊎ (i.op ≡ 175) ⊎ (i.op ≡ 176) → resolved w r n (record i { op = i.op - 42 }) (row_at (i.op - 42))
+    by : (i.op ≡ 173) ⊎ (i.op ≡ 174) ⊎ (i.op ≡ 175) ⊎ (i.op ≡ 176) → resolved w r n (record i { op = i.op - from_read }) (row_at (i.op - from_read))
         ≡ Ok (ops.FieldRead f holders.Stack)
     by (inl own) = again 173 own (row cells.Ref (here 173 own))
     by (inr (inl own)) = again 174 own (row cells.Byte (here 174 own))
@@ -185,7 +186,7 @@ read-on-stack w m r place n i f lt home e =
 
 -- a write of a field of `this`, as that of an object on the stack
 pub write-on-stack : (w : Linked) (m r : MethodRec) (place n : ℕ) (i : Insn) (f : InstanceField) → i.op < 256 → m.package ≡ r.package
-    → resolved w m place i (row_at i.op) ≡ Ok (ops.FieldWrite f holders.This) → resolved w r n (record i { op = i.op - 46 }) (row_at (i.op - 46))
+    → resolved w m place i (row_at i.op) ≡ Ok (ops.FieldWrite f holders.This) → resolved w r n (record i { op = i.op - from_write }) (row_at (i.op - from_write))
     ≡ Ok (ops.FieldWrite f holders.Stack)
 unfolding row_at table by_sort by_width by_kind first_four by_register literals binaries orders_all branching unused
 write-on-stack w m r place n i f lt home e =
@@ -197,9 +198,9 @@ write-on-stack w m r place n i f lt home e =
     here : (op : ℕ) → i.op ≡ op → resolved w m place i (row_at op) ≡ Ok (ops.FieldWrite f holders.This)
     here op own = ap (λ o. resolved w m place i (row_at o)) (sym own) ∙ e
 
-    again : (op : ℕ) → i.op ≡ op → resolved w r n (record i { op = op - 46 }) (row_at (op - 46)) ≡ Ok (ops.FieldWrite f holders.Stack)
-        → resolved w r n (record i { op = i.op - 46 }) (row_at (i.op - 46)) ≡ Ok (ops.FieldWrite f holders.Stack)
-    again op own g = ap (λ o. resolved w r n (record i { op = o - 46 }) (row_at (o - 46))) own ∙ g
+    again : (op : ℕ) → i.op ≡ op → resolved w r n (record i { op = op - from_write }) (row_at (op - from_write)) ≡ Ok (ops.FieldWrite f holders.Stack)
+        → resolved w r n (record i { op = i.op - from_write }) (row_at (i.op - from_write)) ≡ Ok (ops.FieldWrite f holders.Stack)
+    again op own g = ap (λ o. resolved w r n (record i { op = o - from_write }) (row_at (o - from_write))) own ∙ g
 
     member : (k : Kind) → instance_field w.classes (short_of i.x) k (member_at w r.package (short_of i.x)) ≡ instance_field w.classes (short_of i.x) k
         (member_at w m.package (short_of i.x))
@@ -213,7 +214,7 @@ write-on-stack w m r place n i f lt home e =
         ap (on (λ g. ops.FieldWrite g holders.Stack)) (member k)
         ∙ write-again (instance_field w.classes (short_of i.x) k (member_at w m.package (short_of i.x))) f g
 
-    by : (i.op ≡ 181) ⊎ (i.op ≡ 182) ⊎ (i.op ≡ 183) ⊎ (i.op ≡ 184) → resolved w r n (record i { op = i.op - 46 }) (row_at (i.op - 46))
+    by : (i.op ≡ 181) ⊎ (i.op ≡ 182) ⊎ (i.op ≡ 183) ⊎ (i.op ≡ 184) → resolved w r n (record i { op = i.op - from_write }) (row_at (i.op - from_write))
         ≡ Ok (ops.FieldWrite f holders.Stack)
     by (inl own) = again 181 own (row cells.Ref (here 181 own))
     by (inr (inl own)) = again 182 own (row cells.Byte (here 182 own))
@@ -222,23 +223,23 @@ write-on-stack w m r place n i f lt home e =
 
 -- ---- goto, pop and swaps
 
-pub goto-is : (w : Linked) (r : MethodRec) (n : ℕ) → resolved w r n (jump 168) (row_at 168) ≡ Ok (ops.Branch branches.Always)
+pub goto-is : (w : Linked) (r : MethodRec) (n : ℕ) → resolved w r n (jump goto_w) (row_at goto_w) ≡ Ok (ops.Branch branches.Always)
 unfolding row_at table by_sort by_width by_kind first_four by_register literals binaries orders_all branching unused
 goto-is w r n = refl
 
-pub pop-is : (w : Linked) (r : MethodRec) (n : ℕ) (i : Insn) → resolved w r n i (row_at 59) ≡ Ok (ops.Move moves.Pop)
+pub pop-is : (w : Linked) (r : MethodRec) (n : ℕ) (i : Insn) → resolved w r n i (row_at pop) ≡ Ok (ops.Move moves.Pop)
 unfolding row_at table by_sort by_width by_kind first_four by_register literals binaries orders_all branching unused
 pop-is w r n i = refl
 
-pub pop-two-is : (w : Linked) (r : MethodRec) (n : ℕ) (i : Insn) → resolved w r n i (row_at 60) ≡ Ok (ops.Move moves.PopTwo)
+pub pop-two-is : (w : Linked) (r : MethodRec) (n : ℕ) (i : Insn) → resolved w r n i (row_at pop2) ≡ Ok (ops.Move moves.PopTwo)
 unfolding row_at table by_sort by_width by_kind first_four by_register literals binaries orders_all branching unused
 pop-two-is w r n i = refl
 
-pub swap-one-is : (w : Linked) (r : MethodRec) (n : ℕ) → resolved w r n (with_byte 64 17) (row_at 64) ≡ Ok (ops.Move (moves.Exchange 1 1))
+pub swap-one-is : (w : Linked) (r : MethodRec) (n : ℕ) → resolved w r n (with_byte swap_x 17) (row_at swap_x) ≡ Ok (ops.Move (moves.Exchange 1 1))
 unfolding row_at table by_sort by_width by_kind first_four by_register literals binaries orders_all branching unused
 swap-one-is w r n = refl
 
-pub swap-two-is : (w : Linked) (r : MethodRec) (n : ℕ) → resolved w r n (with_byte 64 18) (row_at 64) ≡ Ok (ops.Move (moves.Exchange 1 2))
+pub swap-two-is : (w : Linked) (r : MethodRec) (n : ℕ) → resolved w r n (with_byte swap_x 18) (row_at swap_x) ≡ Ok (ops.Move (moves.Exchange 1 2))
 unfolding row_at table by_sort by_width by_kind first_four by_register literals binaries orders_all branching unused
 swap-two-is w r n = refl
 

@@ -42,6 +42,7 @@ use Rattle.xf_homes.specs.Source.{Source}
 use Rattle.xf_homes.specs.Plan.{home_of, needed, register}
 use Rattle.xf_emission.specs.Move.{copy}
 use Rattle.xf_emission.specs.Group.{body, increased, pop_item, store_to_homes}
+use Rattle.xf_emission.specs.Mnemonics.{pop, pop2}
 use Rattle.law_rewritten_typing.specs.Typed.{registers_of}
 use Rattle.law_rewritten_typing.proofs.Walks.{holding, Asked, Turn, Flows, flow_plain, flow_end, Goes, goes-append, goes-nowhere}
 use Rattle.law_rewritten_typing.proofs.Moves.{Holds, IsPlainValue, cells_on, applies-by, turn-by, store-turn, same-cells, set-below, set-same, held, there}
@@ -247,28 +248,28 @@ module _ (new : ℕ → ℕ) (apart : (a b : ℕ) → new a ≡ new b → a ≡ 
   named-ready a h = refl
 
   pop-one : (n : ℕ) (v : Ty) (st : List Ty) → IsNoHalf v → length (v ∷ st) ≤ r.max_stack
-      → Flowing n (v ∷ st) (Plain (record { op = 59; x = pos 0; y = pos 0; z = pos 0; len = 1 }) ∷ []) st
+      → Flowing n (v ∷ st) (Plain (record { op = pop; x = pos 0; y = pos 0; z = pos 0; len = 1 }) ∷ []) st
   unfolding layout_of opcode
   pop-one n v st whole room =
       let does = applies-by s.world r.max_stack (ops.Move moves.Pop) (record { regs = registers_of s.homes; stack = v ∷ st })
       (record { regs = registers_of s.homes; stack = st }) (no-half v whole, tt) refl refl (omega (arith, room)) in
       flow_plain s.world r (registers_of s.homes) asks
-      (turn-by s.world l.objects r (registers_of s.homes) asks n (record { op = 59; x = pos 0; y = pos 0; z = pos 0; len = 1 }) (ops.Move moves.Pop)
+      (turn-by s.world l.objects r (registers_of s.homes) asks n (record { op = pop; x = pos 0; y = pos 0; z = pos 0; len = 1 }) (ops.Move moves.Pop)
       (v ∷ st) (record { regs = registers_of s.homes; stack = st })
-      (pop-is s.world r n (record { op = 59; x = pos 0; y = pos 0; z = pos 0; len = 1 })) does (same-cells s.world.classes (registers_of s.homes)) refl refl
+      (pop-is s.world r n (record { op = pop; x = pos 0; y = pos 0; z = pos 0; len = 1 })) does (same-cells s.world.classes (registers_of s.homes)) refl refl
       room) flow_end
 
   pop-two : (n : ℕ) (st : List Ty) → length (IntLow ∷ IntHigh ∷ st) ≤ r.max_stack
-      → Flowing n (IntLow ∷ IntHigh ∷ st) (Plain (record { op = 60; x = pos 0; y = pos 0; z = pos 0; len = 1 }) ∷ []) st
+      → Flowing n (IntLow ∷ IntHigh ∷ st) (Plain (record { op = pop2; x = pos 0; y = pos 0; z = pos 0; len = 1 }) ∷ []) st
   unfolding layout_of opcode
   pop-two n st room =
       let does = applies-by s.world r.max_stack (ops.Move moves.PopTwo) (record { regs = registers_of s.homes; stack = IntLow ∷ IntHigh ∷ st })
       (record { regs = registers_of s.homes; stack = st })
       (omega arith, (λ split. absurd (differ split.0), tt)) refl refl (omega (arith, room)) in
       flow_plain s.world r (registers_of s.homes) asks
-      (turn-by s.world l.objects r (registers_of s.homes) asks n (record { op = 60; x = pos 0; y = pos 0; z = pos 0; len = 1 }) (ops.Move moves.PopTwo)
+      (turn-by s.world l.objects r (registers_of s.homes) asks n (record { op = pop2; x = pos 0; y = pos 0; z = pos 0; len = 1 }) (ops.Move moves.PopTwo)
       (IntLow ∷ IntHigh ∷ st) (record { regs = registers_of s.homes; stack = st })
-      (pop-two-is s.world r n (record { op = 60; x = pos 0; y = pos 0; z = pos 0; len = 1 })) does (same-cells s.world.classes (registers_of s.homes)) refl
+      (pop-two-is s.world r n (record { op = pop2; x = pos 0; y = pos 0; z = pos 0; len = 1 })) does (same-cells s.world.classes (registers_of s.homes)) refl
       refl room) flow_end
     where
       differ : Some IntHigh ≡ Some IntLow → ⊥

@@ -43,6 +43,7 @@ use Rattle.xf_homes.specs.Source.{Source}
 use Rattle.xf_homes.specs.Plan.{home_of, register}
 use Rattle.xf_emission.specs.Move.{with_byte, load}
 use Rattle.xf_emission.specs.Group.{body, itself, stays, field_read, field_written, swap_words}
+use Rattle.xf_emission.specs.Mnemonics.{from_read, from_write, swap_x}
 use Rattle.law_rewritten_typing.specs.Typed.{registers_of}
 use Rattle.law_rewritten_typing.proofs.Walks.{holding, Asked, Turn, Flows, flow_plain, flow_end, flows-append}
 use Rattle.law_rewritten_typing.proofs.Moves.{cells_on, applies-by, turn-by, load-turn, same-cells, held, there}
@@ -240,7 +241,7 @@ module _ (new : ℕ → ℕ) (apart : (a b : ℕ) → new a ≡ new b → a ≡ 
       less = has-room new apart s l ready r own_rec asks res i (ops.FieldRead fld holders.This) f after st run lesser
 
       by : (b : Bool) → stays s h ≡ b
-          → Flowing n (map (named new apart) st) (if b then itself i else load s h ∷ Plain (record i.insn { op = i.insn.op - 42 }) ∷ [])
+          → Flowing n (map (named new apart) st) (if b then itself i else load s h ∷ Plain (record i.insn { op = i.insn.op - from_read }) ∷ [])
           (cells ++ map (named new apart) st)
       by true e =
           let go = l.alike s.method.rec i.place i.insn (ops.FieldRead fld holders.This) run.small (sym run.resolves) in
@@ -253,9 +254,9 @@ module _ (new : ℕ → ℕ) (apart : (a b : ℕ) → new a ≡ new b → a ≡ 
           subst (λ (us : List Ty). Flowing n (map (named new apart) st) (itself i) us) pushed
           (stays-by i (ops.FieldRead fld holders.This) f after st n run tt here lesser (cells ++ st) over refl (sym go.jumps_alike) (sym go.falls_alike))
       by false e =
-          let small : i.insn.op - 42 < 256 = omega (arith, run.small) in
+          let small : i.insn.op - from_read < 256 = omega (arith, run.small) in
           let is = read-on-stack s.world s.method.rec r i.place (suc n) i.insn fld run.small (sym own_rec.home) run.resolves in
-          let go = l.alike r (suc n) (record i.insn { op = i.insn.op - 42 }) (ops.FieldRead fld holders.Stack) small (sym is) in
+          let go = l.alike r (suc n) (record i.insn { op = i.insn.op - from_read }) (ops.FieldRead fld holders.Stack) small (sym is) in
           let full : length (cells_on k.ty ++ map (named new apart) st) ≤ r.max_stack = omega
           (arith, ap length k.is.one, length-append (cells_on k.ty) (map (named new apart) st), less, own_rec.room) in
           let turn = load-turn s.world l.objects r regs asks n k.ty (register s h) (map (named new apart) st) k.stands full
@@ -263,14 +264,14 @@ module _ (new : ℕ → ℕ) (apart : (a b : ℕ) → new a ≡ new b → a ≡ 
           let does = applies-by s.world r.max_stack (ops.FieldRead fld holders.Stack) (record { regs = regs; stack = k.ty ∷ map (named new apart) st })
           (record { regs = regs; stack = cells ++ map (named new apart) st })
           (k.below, tt) refl refl (omega (arith, room, own_rec.room)) in
-          let read : Turn s.world r regs asks (suc n) (record i.insn { op = i.insn.op - 42 }) (holding (k.ty ∷ map (named new apart) st))
+          let read : Turn s.world r regs asks (suc n) (record i.insn { op = i.insn.op - from_read }) (holding (k.ty ∷ map (named new apart) st))
           (holding (cells ++ map (named new apart) st)) =
-          turn-by s.world l.objects r regs asks (suc n) (record i.insn { op = i.insn.op - 42 }) (ops.FieldRead fld holders.Stack)
+          turn-by s.world l.objects r regs asks (suc n) (record i.insn { op = i.insn.op - from_read }) (ops.FieldRead fld holders.Stack)
           (k.ty ∷ map (named new apart) st) (record { regs = regs; stack = cells ++ map (named new apart) st })
           is does (same-cells s.world.classes regs) (sym go.jumps_alike) (sym go.falls_alike) (omega (arith, less, own_rec.room)) in
           flow_plain s.world r regs asks turn
           (flow_plain s.world r regs asks
-          (subst (λ (us : List Ty). Turn s.world r regs asks (suc n) (record i.insn { op = i.insn.op - 42 }) (holding (us ++ map (named new apart) st))
+          (subst (λ (us : List Ty). Turn s.world r regs asks (suc n) (record i.insn { op = i.insn.op - from_read }) (holding (us ++ map (named new apart) st))
           (holding (cells ++ map (named new apart) st))) (sym k.is.one) read) flow_end)
 
   -- ---- writes
@@ -319,7 +320,7 @@ module _ (new : ℕ → ℕ) (apart : (a b : ℕ) → new a ≡ new b → a ≡ 
   low-not a h e = absurd (cc)
 
   swap-one : (n : ℕ) (a v : Ty) (st : List Ty) → IsNoHalf a → v ≢ IntLow → length (a ∷ v ∷ st) ≤ r.max_stack
-      → Flowing n (a ∷ v ∷ st) (Plain (with_byte 64 17) ∷ []) (v ∷ a ∷ st)
+      → Flowing n (a ∷ v ∷ st) (Plain (with_byte swap_x 17) ∷ []) (v ∷ a ∷ st)
   unfolding layout_of opcode
   swap-one n a v st whole low room =
       let regs = registers_of s.homes in
@@ -327,14 +328,14 @@ module _ (new : ℕ → ℕ) (apart : (a b : ℕ) → new a ≡ new b → a ≡ 
       (record { regs = regs; stack = v ∷ a ∷ st })
       (omega arith, ((λ split. low-not a whole split.0), (omega arith, ((λ split. low (some-is v IntLow split.0)), tt)))) refl refl (omega (arith, room)) in
       flow_plain s.world r regs asks
-      (turn-by s.world l.objects r regs asks n (with_byte 64 17) (ops.Move (moves.Exchange 1 1)) (a ∷ v ∷ st)
+      (turn-by s.world l.objects r regs asks n (with_byte swap_x 17) (ops.Move (moves.Exchange 1 1)) (a ∷ v ∷ st)
       (record { regs = regs; stack = v ∷ a ∷ st }) (swap-one-is s.world r n) does (same-cells s.world.classes regs) refl refl room) flow_end
     where
       some-is : (x y : Ty) → Some x ≡ Some y → x ≡ y
       some-is x y e = cc
 
   swap-two : (n : ℕ) (a : Ty) (st : List Ty) → IsNoHalf a → length (a ∷ IntLow ∷ IntHigh ∷ st) ≤ r.max_stack
-      → Flowing n (a ∷ IntLow ∷ IntHigh ∷ st) (Plain (with_byte 64 18) ∷ []) (IntLow ∷ IntHigh ∷ a ∷ st)
+      → Flowing n (a ∷ IntLow ∷ IntHigh ∷ st) (Plain (with_byte swap_x 18) ∷ []) (IntLow ∷ IntHigh ∷ a ∷ st)
   unfolding layout_of opcode
   swap-two n a st whole room =
       let regs = registers_of s.homes in
@@ -342,7 +343,7 @@ module _ (new : ℕ → ℕ) (apart : (a b : ℕ) → new a ≡ new b → a ≡ 
       (record { regs = regs; stack = IntLow ∷ IntHigh ∷ a ∷ st })
       (omega arith, ((λ split. low-not a whole split.0), (omega arith, ((λ split. absurd (differ split.0)), tt)))) refl refl (omega (arith, room)) in
       flow_plain s.world r regs asks
-      (turn-by s.world l.objects r regs asks n (with_byte 64 18) (ops.Move (moves.Exchange 1 2)) (a ∷ IntLow ∷ IntHigh ∷ st)
+      (turn-by s.world l.objects r regs asks n (with_byte swap_x 18) (ops.Move (moves.Exchange 1 2)) (a ∷ IntLow ∷ IntHigh ∷ st)
       (record { regs = regs; stack = IntLow ∷ IntHigh ∷ a ∷ st }) (swap-two-is s.world r n) does (same-cells s.world.classes regs) refl refl room)
       flow_end
     where
@@ -384,7 +385,7 @@ module _ (new : ℕ → ℕ) (apart : (a b : ℕ) → new a ≡ new b → a ≡ 
       less = has-room new apart s l ready r own_rec asks res i op f after st run lesser
 
       stack_ops : Item
-      stack_ops = Plain (record i.insn { op = i.insn.op - 46 })
+      stack_ops = Plain (record i.insn { op = i.insn.op - from_write })
 
       -- the write of the object that is under the value
       written : (place : ℕ) (cells us : List Ty) → SatisfiesAll s.world.classes (record { regs = regs; stack = cells ++ us })
@@ -392,13 +393,13 @@ module _ (new : ℕ → ℕ) (apart : (a b : ℕ) → new a ≡ new b → a ≡ 
           → length (cells ++ us) ≤ r.max_stack
           → Flowing place (cells ++ us) (stack_ops ∷ []) us
       written place cells us asked e room =
-          let small : i.insn.op - 46 < 256 = omega (arith, run.small) in
+          let small : i.insn.op - from_write < 256 = omega (arith, run.small) in
           let is = write-on-stack s.world s.method.rec r i.place place i.insn fld run.small (sym own_rec.home) run.resolves in
-          let go = l.alike r place (record i.insn { op = i.insn.op - 46 }) (ops.FieldWrite fld holders.Stack) small (sym is) in
+          let go = l.alike r place (record i.insn { op = i.insn.op - from_write }) (ops.FieldWrite fld holders.Stack) small (sym is) in
           let does = applies-by s.world r.max_stack (ops.FieldWrite fld holders.Stack) (record { regs = regs; stack = cells ++ us })
           (record { regs = regs; stack = us }) asked refl e (omega (arith, length-append cells us, room)) in
           flow_plain s.world r regs asks
-          (turn-by s.world l.objects r regs asks place (record i.insn { op = i.insn.op - 46 }) (ops.FieldWrite fld holders.Stack) (cells ++ us)
+          (turn-by s.world l.objects r regs asks place (record i.insn { op = i.insn.op - from_write }) (ops.FieldWrite fld holders.Stack) (cells ++ us)
           (record { regs = regs; stack = us }) is does (same-cells s.world.classes regs) (sym go.jumps_alike) (sym go.falls_alike) room) flow_end
 
       loaded-first : (xs : List Item) (us : List Ty) → ((m : ℕ) → Flowing m (this.ty ∷ map (named new apart) st) xs us)
@@ -412,7 +413,7 @@ module _ (new : ℕ → ℕ) (apart : (a b : ℕ) → new a ≡ new b → a ≡ 
           (subst (λ (cs : List Ty). Flowing (suc n) (cs ++ map (named new apart) st) xs us) (sym this.is.one) (rest (suc n)))
 
       by-size : IsSized fld.kind fld.ty
-          → Flowing n (map (named new apart) st) (load s h ∷ Plain (with_byte 64 (swap_words fld.kind)) ∷ stack_ops ∷ [])
+          → Flowing n (map (named new apart) st) (load s h ∷ Plain (with_byte swap_x (swap_words fld.kind)) ∷ stack_ops ∷ [])
           (map (named new apart) k.frame.stack)
       by-size (sized_one words wanted size fresh no_top low) =
           let asked : SatisfiesAll s.world.classes f (Cell 0 (Value fld.ty) ∷ Held 0 (Class fld.class) ∷ []) = subst
@@ -441,11 +442,11 @@ module _ (new : ℕ → ℕ) (apart : (a b : ℕ) → new a ≡ new b → a ≡ 
               tt,
             ),
           ) in
-          subst (λ (ws : List Ty). Flowing n (map (named new apart) st) (load s h ∷ Plain (with_byte 64 (swap_words fld.kind)) ∷ stack_ops ∷ []) ws)
+          subst (λ (ws : List Ty). Flowing n (map (named new apart) st) (load s h ∷ Plain (with_byte swap_x (swap_words fld.kind)) ∷ stack_ops ∷ []) ws)
           (sym end)
-          (loaded-first (Plain (with_byte 64 (swap_words fld.kind)) ∷ stack_ops ∷ []) us
-          (λ m. subst (λ (ws : List Ty). Flowing m (this.ty ∷ ws) (Plain (with_byte 64 (swap_words fld.kind)) ∷ stack_ops ∷ []) us) (sym shape)
-          (subst (λ (c : ℕ). Flowing m (this.ty ∷ top.v ∷ us) (Plain (with_byte 64 c) ∷ stack_ops ∷ []) us) (sym words)
+          (loaded-first (Plain (with_byte swap_x (swap_words fld.kind)) ∷ stack_ops ∷ []) us
+          (λ m. subst (λ (ws : List Ty). Flowing m (this.ty ∷ ws) (Plain (with_byte swap_x (swap_words fld.kind)) ∷ stack_ops ∷ []) us) (sym shape)
+          (subst (λ (c : ℕ). Flowing m (this.ty ∷ top.v ∷ us) (Plain (with_byte swap_x c) ∷ stack_ops ∷ []) us) (sym words)
           (flows-append s.world r regs asks (swap-one m this.ty top.v us this.is.no_half low_v room)
           (written (m + 1) (top.v ∷ this.ty ∷ []) us all taken (omega (arith, room)))))))
       by-size (sized_int words int) =
@@ -473,17 +474,17 @@ module _ (new : ℕ → ℕ) (apart : (a b : ℕ) → new a ≡ new b → a ≡ 
           subst (λ (ty : Ty). SatisfiesAll s.world.classes (record { regs = regs; stack = IntLow ∷ IntHigh ∷ this.ty ∷ us })
           (value_wanted ty ++ Cell (value_size ty) (Value (Class fld.class)) ∷ [])) (sym int)
           (same, (same, (this.below, tt))) in
-          subst (λ (ws : List Ty). Flowing n (map (named new apart) st) (load s h ∷ Plain (with_byte 64 (swap_words fld.kind)) ∷ stack_ops ∷ []) ws)
+          subst (λ (ws : List Ty). Flowing n (map (named new apart) st) (load s h ∷ Plain (with_byte swap_x (swap_words fld.kind)) ∷ stack_ops ∷ []) ws)
           (sym end)
-          (loaded-first (Plain (with_byte 64 (swap_words fld.kind)) ∷ stack_ops ∷ []) us
-          (λ m. subst (λ (ws : List Ty). Flowing m (this.ty ∷ ws) (Plain (with_byte 64 (swap_words fld.kind)) ∷ stack_ops ∷ []) us) (sym shape)
-          (subst (λ (c : ℕ). Flowing m (this.ty ∷ IntLow ∷ IntHigh ∷ us) (Plain (with_byte 64 c) ∷ stack_ops ∷ []) us) (sym words)
+          (loaded-first (Plain (with_byte swap_x (swap_words fld.kind)) ∷ stack_ops ∷ []) us
+          (λ m. subst (λ (ws : List Ty). Flowing m (this.ty ∷ ws) (Plain (with_byte swap_x (swap_words fld.kind)) ∷ stack_ops ∷ []) us) (sym shape)
+          (subst (λ (c : ℕ). Flowing m (this.ty ∷ IntLow ∷ IntHigh ∷ us) (Plain (with_byte swap_x c) ∷ stack_ops ∷ []) us) (sym words)
           (flows-append s.world r regs asks (swap-two m this.ty us this.is.no_half room)
           (written (m + 1) (IntLow ∷ IntHigh ∷ this.ty ∷ []) us all taken (omega (arith, room)))))))
 
       by : (b : Bool) → stays s h ≡ b
           → Flowing n (map (named new apart) st)
-          (if b then itself i else load s h ∷ Plain (with_byte 64 (swap_words fld.kind)) ∷ Plain (record i.insn { op = i.insn.op - 46 }) ∷ [])
+          (if b then itself i else load s h ∷ Plain (with_byte swap_x (swap_words fld.kind)) ∷ Plain (record i.insn { op = i.insn.op - from_write }) ∷ [])
           (map (named new apart) k.frame.stack)
       by true e =
           let go = l.alike s.method.rec i.place i.insn op run.small (sym run.resolves) in

@@ -23,10 +23,12 @@ use Rattle.law_sound.specs.State.{IsTypedState}
 use Rattle.law_alike.specs.Ends.{Left, EndsWithin, GoesOnFor, EndsAlike}
 use Rattle.law_laid.specs.Apart.{apart_from_code}
 use Rattle.law_transform.specs.Counterparts.{AreCounterparts}
-use Rattle.law_transform.specs.Beside.{no_frames, AreBeside}
+use Rattle.law_groups.specs.Comes.{ComesWithin}
+use Rattle.law_transform.specs.Beside.{no_frames, AreBeside, OutcomesBeside}
+use Rattle.law_transform.specs.LikeEndings.{StartsAreMet, StepsAreMet}
 use Rattle.law_transform.proofs.Typed.{AreLaws}
 use Rattle.law_transform.proofs.Settling.{Settles, enters}
-use Rattle.law_transform.proofs.Simulating.{both-running, both-ended, runs-come}
+use Rattle.law_transform.proofs.Simulating.{both-running, both-ended, most, runs-come, step-comes}
 
 -- a run that goes on for so many steps goes on for fewer
 shorter : (w : Linked) (n : ℕ) {count : ℕ} {t y : State Cell} → Runs tagged w count t (running y) → n ≤ count → (x : State Cell)
@@ -142,4 +144,26 @@ counterparts-end-alike v laws w typings pair =
       begins = λ entry args. sym (laws.refuse w entry args pair.same);
       ends = λ entry args n left e. ends-too v w typings laws pair entry args n left e;
       goes_on = λ entry args n g. goes-on-too v w typings laws pair entry args n g;
+    }
+
+pub steps-are-met : (v : Linked) → AreLaws v → StepsAreMet v
+steps-are-met v laws w typings z t o pair b step =
+    let c = step-comes v w typings laws pair z t b o step in
+    let few = c.fewer in
+    let bound : most o ≤ 2000 = most-few o in
+    record { count = c.count; more = c.more; fewer = omega (arith, few, bound); outcome = c.outcome; runs = c.runs; comes = c.comes }
+  where
+    most-few : (o : Outcome Cell) → most o ≤ 2000
+    most-few (running s) = omega arith
+    most-few (ended ending s) = omega arith
+
+pub starts-are-met : (v : Linked) → AreLaws v → StartsAreMet v
+starts-are-met v laws w typings entry args z pair starts =
+    let c = settles v w typings laws pair entry args z starts in
+    let few = c.fewer in
+    record {
+      start = entry_state tagged w entry args;
+      starts = starts-too v w typings laws pair entry args z starts;
+      comes = subst (λ y. ComesWithin w 0 1000 (entry_state tagged w entry args) (OutcomesBeside v w typings (running y))) (sym starts.state)
+          (record { count = c.count; more = omega arith; fewer = omega (arith, few); outcome = c.outcome; runs = c.continues; comes = c.comes });
     }

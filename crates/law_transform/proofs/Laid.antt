@@ -38,7 +38,7 @@ use Rattle.law_homes.specs.Moves.{IsExecutable}
 use Rattle.law_groups.specs.Laid.{IsLaidIn}
 use Rattle.law_groups.specs.Steps.{GroupsStandAtSteps}
 use Rattle.law_transform.specs.Counterparts.{IsSameMethod, IsKeptOrRewritten, kept, rewritten, AreCounterparts}
-use Rattle.law_transform.specs.LikeEndings.{CounterpartsEndAlike, LaidEndAlike}
+use Rattle.law_transform.specs.LikeEndings.{LaidAreCounterparts, CounterpartsEndAlike, LaidEndAlike}
 use Rattle.law_transform.proofs.Filling.{laid-filled}
 use Rattle.law_groups.proofs.Sounding.{can-run}
 use Rattle.law_transform.proofs.Typed.{method-is}
@@ -253,15 +253,21 @@ module _ (v : Linked) (laws : AreLaws v) (laid : List (Option Laid)) (are : AreL
       let pools = pools-laid (method_with v (length are.libraries + k) r) r.handlers its.1.symbols.ranges _ l.handlers live its.1.stands.2.handlers in
       record { filled = its.0; catches = All-weaker (HasPoolOf r.handlers) (λ h. (h.pool ≡ 0) ⊎ HasPoolOf r.handlers h) (λ h p. inr p) l.handlers pools }
 
-pub laid-end-alike :
+pub laid-are-counterparts :
     (v : Linked) → AreLaws v → CatchesByPool → CardIsFlow v → LaidMethodsStand → GroupsStandAtSteps → MethodsAreKept → OperationsAreKept
     → OperationsAreSound v
-    → CounterpartsEndAlike v → LaidEndAlike v
-laid-end-alike v laws catches card stand steps methods operations sound alike libraries source made parts new_parts roles laid w s t r linked accepted are
+    → LaidAreCounterparts v
+laid-are-counterparts v laws catches card stand steps methods operations sound libraries source made parts new_parts roles laid w s t r linked accepted are
     anew =
     let cut : AreMethodsOf v are.libraries are.own = record { parts = are.parts; earlier = are.before; last = are.last } in
     let standing = stand parts new_parts libraries source made laid roles v w are.libraries are.own s t r linked anew.linked cut
     (may-replace v laws laid are) in
-    let runs : IsExecutable w = can-run v w anew.same methods operations laws.links sound in
-    alike w (by_number v laws catches card laid are accepted steps w runs anew.same standing)
-    (counterparts v laws catches card laid are accepted steps w runs anew.same standing)
+    let runs : IsExecutable w = can-run v w anew.same methods operations laws.links sound in (
+      by_number v laws catches card laid are accepted steps w runs anew.same standing,
+      counterparts v laws catches card laid are accepted steps w runs anew.same standing,
+    )
+
+pub laid-end-alike : (v : Linked) → CounterpartsEndAlike v → LaidAreCounterparts v → LaidEndAlike v
+laid-end-alike v alike laid libraries source made parts new_parts roles all w s t r linked accepted are anew =
+    let pair = laid libraries source made parts new_parts roles all w s t r linked accepted are anew in
+    alike w pair.0 pair.1

@@ -1,5 +1,5 @@
-//! The world of a package that is written with other code of its methods (Leroy 2002, section 4): a verifier on the card
-//! accepts what is laid for each method, and each run ends there as before.
+//! The world of a package that is written with other code of its methods (Leroy 2002, section 4): a card's verifier
+//! accepts what is laid for each method, and each run ends as before.
 //!
 //! It stands on the groups of rewritten code, of `law_groups`, on the steps of a method in two worlds, of `law_alike`, on
 //! states that are typed, of `law_sound`, and on packages that link as before, of `law_relink`.

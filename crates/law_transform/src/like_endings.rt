@@ -1,4 +1,4 @@
-ghost use Rattle.law_transform.specs.LikeEndings.{CounterpartsEndAlike, LaidEndAlike};
+ghost use Rattle.law_transform.specs.LikeEndings.{CounterpartsEndAlike, LaidAreCounterparts, LaidEndAlike, StartsAreMet, StepsAreMet};
 
 use crate::codes_are_bytes;
 use card_typing::card_laws;
@@ -19,9 +19,12 @@ use law_sound::{arguments_are_handed, typed_code_never_fails};
 use xf_emission::live_are_kept;
 
 /// Where each method with code is kept in another world, or rewritten there by its least typing, each run of the other ends
-/// as one of this world does.
+/// as one of this world does: each step of this world is met there, by at least one step and at most 2,000, beside which the
+/// states stand again, frame beside frame.
 pub fn worlds_end_alike(world: &World<'_>)
-    ensures { CounterpartsEndAlike world.now }
+    ensures alike { CounterpartsEndAlike world.now }
+    ensures steps { StepsAreMet world.now }
+    ensures starts { StartsAreMet world.now }
 {
     operations_are_kept();
     operations_are_sound(world);
@@ -39,7 +42,8 @@ pub fn worlds_end_alike(world: &World<'_>)
 
 /// So it is with the world that accepted libraries make with a package that is written with what is laid for its methods.
 pub fn laid_end_alike(world: &World<'_>)
-    ensures { LaidEndAlike world.now }
+    ensures alike { LaidEndAlike world.now }
+    ensures counterparts { LaidAreCounterparts world.now }
 {
     instructions_are_listed();
     instructions_are_placed();

@@ -15,6 +15,7 @@ use jc_decode::{Insn, Item, Placed};
 use jc_ops::{Branch, Holder, Operation, Sort};
 use std::alloc::{AllocError, Global};
 use xf_emission::Origin;
+use xf_emission::mnemonics::{POP, POP2};
 use xf_homes::{Home, Plan};
 
 fn loaded(
@@ -54,8 +55,8 @@ fn popped(sort: Sort) -> Item
     ensures { result ≡ pop_item sort }
 {
     let op = match sort {
-        Sort::Int => 60,
-        _ => 59,
+        Sort::Int => POP2,
+        _ => POP,
     };
     Item::Plain(Insn {
         op,

@@ -11,13 +11,18 @@ use crate::ways::leads;
 use jc_decode::{Insn, Item, Labels, Placed};
 use jc_ops::Operation;
 use std::alloc::{AllocError, Global};
+use xf_emission::mnemonics::{GOTO, IFEQ, IFEQ_W};
 use xf_homes::Plan;
 
 /// The opcode of the wide form of a jump.
 fn wide(op: u8) -> u8
     ensures { result ≡ wide op }
 {
-    if 96 <= op && op <= 112 { op + 56 } else { op }
+    if IFEQ <= op && op <= GOTO {
+        op + (IFEQ_W - IFEQ)
+    } else {
+        op
+    }
 }
 
 fn first_label(labels: &[u16]) -> u16

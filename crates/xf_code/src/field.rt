@@ -6,6 +6,7 @@ use crate::moves::{load, put, with_byte};
 use jc_base::Kind;
 use jc_decode::{Insn, Item, Placed};
 use std::alloc::AllocError;
+use xf_emission::mnemonics::{GETFIELD_A, GETFIELD_A_THIS, PUTFIELD_A, PUTFIELD_A_THIS, SWAP_X};
 use xf_homes::{Home, Plan};
 
 /// Appends an instruction as it is.
@@ -49,7 +50,7 @@ pub fn field_read(
     }
     load(plan, home, items)?;
     let insn = Insn {
-        op: placed.insn.op.saturating_sub(42),
+        op: placed.insn.op.saturating_sub(GETFIELD_A_THIS - GETFIELD_A),
         ..placed.insn
     };
     put(items, Item::Plain(insn))
@@ -73,9 +74,9 @@ pub fn field_written(
         return keep(placed, items);
     }
     load(plan, home, items)?;
-    put(items, Item::Plain(with_byte(64, swap_words(kind))))?;
+    put(items, Item::Plain(with_byte(SWAP_X, swap_words(kind))))?;
     let insn = Insn {
-        op: placed.insn.op.saturating_sub(46),
+        op: placed.insn.op.saturating_sub(PUTFIELD_A_THIS - PUTFIELD_A),
         ..placed.insn
     };
     put(items, Item::Plain(insn))

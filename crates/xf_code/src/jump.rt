@@ -9,6 +9,7 @@ use jc_decode::Item;
 use jc_ops::Operation;
 use std::alloc::{AllocError, Global};
 use xf_emission::Origin;
+use xf_emission::mnemonics::GOTO_W;
 use xf_homes::{Home, Plan};
 
 /// A conditional branch or switch at a place, with the number of cells that are its operands.
@@ -132,5 +133,8 @@ pub fn target_place(target: i32) -> u16
 pub fn goto(to: u16) -> Item
     ensures { result ≡ goto to }
 {
-    Item::Branch { op: 168, label: to }
+    Item::Branch {
+        op: GOTO_W,
+        label: to,
+    }
 }

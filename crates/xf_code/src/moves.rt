@@ -5,6 +5,7 @@ ghost use Rattle.xf_emission.specs.Move.{with_byte, load_op, store_op, load, sto
 use jc_base::Ty;
 use jc_decode::{Insn, Item};
 use std::alloc::AllocError;
+use xf_emission::mnemonics::{ALOAD, ASTORE, ILOAD, ISTORE, SLOAD, SSTORE};
 use xf_homes::{Home, Plan};
 
 /// An instruction of two bytes, with an operand.
@@ -32,9 +33,9 @@ fn load_op(ty: Ty) -> u8
     ensures { result ≡ load_op ty }
 {
     match ty {
-        Ty::Short => 22,
-        Ty::IntHigh => 23,
-        _ => 21,
+        Ty::Short => SLOAD,
+        Ty::IntHigh => ILOAD,
+        _ => ALOAD,
     }
 }
 
@@ -42,9 +43,9 @@ fn store_op(ty: Ty) -> u8
     ensures { result ≡ store_op ty }
 {
     match ty {
-        Ty::Short => 41,
-        Ty::IntHigh => 42,
-        _ => 40,
+        Ty::Short => SSTORE,
+        Ty::IntHigh => ISTORE,
+        _ => ASTORE,
     }
 }
 

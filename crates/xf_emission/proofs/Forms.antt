@@ -20,6 +20,7 @@ use Rattle.jc_ops.specs.declared.operation.Operation.{Operation}
 use Rattle.jc_ops.specs.Row.{row_at}
 use Rattle.jc_ops.specs.Resolve.{resolved}
 use Rattle.xf_emission.proofs.RowByRow.{Kind, branching_kind, switching, increasing, reading, writing, other_kind, op_kind, kinds, kind_at, kind-of}
+use Rattle.xf_emission.specs.Mnemonics.{from_read, from_write}
 
 -- ---- by opcode
 
@@ -61,8 +62,8 @@ abbrev pub suits_kind : ℕ → Kind → Bool
 suits_kind op branching_kind = is_branch op && is_wide_jump (wide op)
 suits_kind op switching = is_switch op
 suits_kind op increasing = first_u1 (layout_of op) && not (jumps op)
-suits_kind op reading = only_u1 (layout_of op) && (only_u1 (layout_of (op - 42)) && not (jumps (op - 42)))
-suits_kind op writing = only_u1 (layout_of op) && (only_u1 (layout_of (op - 46)) && not (jumps (op - 46)))
+suits_kind op reading = only_u1 (layout_of op) && (only_u1 (layout_of (op - from_read)) && not (jumps (op - from_read)))
+suits_kind op writing = only_u1 (layout_of op) && (only_u1 (layout_of (op - from_write)) && not (jumps (op - from_write)))
 suits_kind op other_kind = true
 
 abbrev suits : ℕ → Bool

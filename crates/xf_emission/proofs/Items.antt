@@ -25,6 +25,7 @@ use Rattle.xf_emission.specs.Move.{with_byte, load_op, store_op, load, store, co
 use Rattle.xf_emission.specs.Edge.{home_before, homes_held, copy_new, copies_from, local_copies, locals_copies, copies, cell_copies}
 use Rattle.xf_emission.specs.Jump.{under, branch_copies}
 use Rattle.xf_emission.specs.Group.{pop_item, swap_words}
+use Rattle.xf_emission.specs.Mnemonics.{swap_x}
 
 -- ---- lists
 
@@ -109,7 +110,7 @@ module _ (code : List ℕ) (all : List Item) (s : Source) (small : (h : Home) �
   popped-suits sorts.Int = (((refl, refl), (refl, refl), (refl, refl)), refl)
   popped-suits letter = (((refl, refl), (refl, refl), (refl, refl)), refl)
 
-  pub swap-suits : (k : Kind) → IsItem code all (Plain (with_byte 64 (swap_words k)))
+  pub swap-suits : (k : Kind) → IsItem code all (Plain (with_byte swap_x (swap_words k)))
   unfolding layout_of opcode
   swap-suits kinds.Int = (((lit< tt, refl), (refl, refl), (refl, refl)), refl)
   swap-suits k = (((lit< tt, refl), (refl, refl), (refl, refl)), refl)

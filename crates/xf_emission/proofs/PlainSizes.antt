@@ -59,6 +59,7 @@ use Rattle.xf_emission.specs.Laws.{IsCode, HasFrames, PlainSizeFits}
 use Rattle.xf_emission.proofs.Fewer.{Distinct, no-longer, either-among, distinct-append}
 use Rattle.xf_emission.proofs.TwoBytes.{two-bytes}
 use Rattle.xf_emission.proofs.Ways.{ways-few}
+use Rattle.xf_emission.specs.Mnemonics.{from_read, from_write, swap_x, pop, pop2}
 
 -- ---- sizes of lists
 
@@ -335,8 +336,8 @@ module _ (same : SameTypeDecides) (kept_are : NeededAreKept) (s : Source) (has_f
             )
 
         popped-size : (letter : Sort) → plain_bytes (pop_item letter) ≤ 14
-        popped-size sorts.Int = plain-length (record { op = 60; x = pos 0; y = pos 0; z = pos 0; len = 1 })
-        popped-size letter = plain-length (record { op = 59; x = pos 0; y = pos 0; z = pos 0; len = 1 })
+        popped-size sorts.Int = plain-length (record { op = pop2; x = pos 0; y = pos 0; z = pos 0; len = 1 })
+        popped-size letter = plain-length (record { op = pop; x = pos 0; y = pos 0; z = pos 0; len = 1 })
 
         stored-size : (letter : Sort) (hs : List Home) → length hs ≤ 255 → plain_size (store_to_homes s letter hs) ≤ 1036
         stored-size letter [] le = omega (arith, cons-size (pop_item letter) [], none-size, popped-size letter)
@@ -346,15 +347,15 @@ module _ (same : SameTypeDecides) (kept_are : NeededAreKept) (s : Source) (has_f
         read-size : (h : Option Home) → plain_size (field_read s i h) ≤ i.insn.len + 15
         read-size None = omega (arith, kept-size)
         read-size (Some h) =
-            let j : Insn = record i.insn { op = i.insn.op - 42 } in
+            let j : Insn = record i.insn { op = i.insn.op - from_read } in
             if-size (stays s h) (itself i) (load s h ∷ Plain j ∷ []) (i.insn.len + 15) (omega (arith, kept-size))
             (omega (arith, cons-size (load s h) (Plain j ∷ []), cons-size (Plain j) [], none-size, load-size s h, plain-length j))
 
         written-size : (k : Kind) (h : Option Home) → plain_size (field_written s i k h) ≤ i.insn.len + 30
         written-size k None = omega (arith, kept-size)
         written-size k (Some h) =
-            let j : Insn = record i.insn { op = i.insn.op - 46 } in
-            let swap : Insn = with_byte 64 (swap_words k) in
+            let j : Insn = record i.insn { op = i.insn.op - from_write } in
+            let swap : Insn = with_byte swap_x (swap_words k) in
             if-size (stays s h) (itself i) (load s h ∷ Plain swap ∷ Plain j ∷ []) (i.insn.len + 30) (omega (arith, kept-size))
             (omega (
               arith,

@@ -43,6 +43,7 @@ use Rattle.xf_emission.proofs.Forms.{suits_kind, first_u1, only_u1, other-regist
 use Rattle.xf_emission.proofs.Ways.{way-from}
 use Rattle.xf_emission.proofs.Items.{each-if, each-flat, load-suits, store-suits, copy-suits, loads-suit, spill-suits, copies-suit, taken-suits, popped-suits}
 use Rattle.xf_emission.proofs.Items.{swap-suits}
+use Rattle.xf_emission.specs.Mnemonics.{from_read, from_write}
 
 -- an instruction that is allowed, with its operation, in code whose labels stand once
 pub record IsEmitted (all : List Item) (s : Source) (i : Placed) (op : Operation) : Type 0 where
@@ -74,21 +75,21 @@ module _ (all : List Item) (s : Source) (small : (h : Home) → register s h < 2
     stored-suits letter (h ∷ hs) =
         (store-suits s.method.code all s small h, each-flat (IsItem s.method.code all) (copy s h) hs (λ k. copy-suits s.method.code all s small h k))
 
-    read-suits : jumps_from op ≡ false → only_u1 (layout_of i.insn.op) ≡ true → (only_u1 (layout_of (i.insn.op - 42)) ≡ true)
-        × (not (jumps (i.insn.op - 42)) ≡ true) → (h : Option Home)
+    read-suits : jumps_from op ≡ false → only_u1 (layout_of i.insn.op) ≡ true → (only_u1 (layout_of (i.insn.op - from_read)) ≡ true)
+        × (not (jumps (i.insn.op - from_read)) ≡ true) → (h : Option Home)
         → Each (IsItem s.method.code all) (field_read s i h)
     read-suits j u v None = kept-suits j
     read-suits j u v (Some h) =
         each-if (IsItem s.method.code all) (stays s h) (itself i) _ (kept-suits j)
-        (load-suits s.method.code all s small h, ((other-opcode i.insn (i.insn.op - 42) u v.0 e.allowed, v.1), tt))
+        (load-suits s.method.code all s small h, ((other-opcode i.insn (i.insn.op - from_read) u v.0 e.allowed, v.1), tt))
 
-    written-suits : jumps_from op ≡ false → only_u1 (layout_of i.insn.op) ≡ true → (only_u1 (layout_of (i.insn.op - 46)) ≡ true)
-        × (not (jumps (i.insn.op - 46)) ≡ true) → (k : Kind) (h : Option Home)
+    written-suits : jumps_from op ≡ false → only_u1 (layout_of i.insn.op) ≡ true → (only_u1 (layout_of (i.insn.op - from_write)) ≡ true)
+        × (not (jumps (i.insn.op - from_write)) ≡ true) → (k : Kind) (h : Option Home)
         → Each (IsItem s.method.code all) (field_written s i k h)
     written-suits j u v k None = kept-suits j
     written-suits j u v k (Some h) =
         each-if (IsItem s.method.code all) (stays s h) (itself i) _ (kept-suits j)
-        (load-suits s.method.code all s small h, (swap-suits s.method.code all s small k, ((other-opcode i.insn (i.insn.op - 46) u v.0 e.allowed, v.1), tt)))
+        (load-suits s.method.code all s small h, (swap-suits s.method.code all s small k, ((other-opcode i.insn (i.insn.op - from_write) u v.0 e.allowed, v.1), tt)))
 
     -- ---- jumps
 
@@ -230,11 +231,11 @@ module _ (all : List Item) (s : Source) (small : (h : Home) → register s h < 2
   body-suits i (ops.Store letter x) e = stored-suits i (ops.Store letter x) e letter (needed s (i.place + i.insn.len) x)
   body-suits i (ops.FieldRead f holders.This) e =
       let is = and_parts (only_u1 (layout_of i.insn.op)) _ e.suits in
-      read-suits i (ops.FieldRead f holders.This) e refl is.0 (and_parts (only_u1 (layout_of (i.insn.op - 42))) (not (jumps (i.insn.op - 42))) is.1)
+      read-suits i (ops.FieldRead f holders.This) e refl is.0 (and_parts (only_u1 (layout_of (i.insn.op - from_read))) (not (jumps (i.insn.op - from_read))) is.1)
       (local s i.place 0)
   body-suits i (ops.FieldWrite f holders.This) e =
       let is = and_parts (only_u1 (layout_of i.insn.op)) _ e.suits in
-      written-suits i (ops.FieldWrite f holders.This) e refl is.0 (and_parts (only_u1 (layout_of (i.insn.op - 46))) (not (jumps (i.insn.op - 46))) is.1)
+      written-suits i (ops.FieldWrite f holders.This) e refl is.0 (and_parts (only_u1 (layout_of (i.insn.op - from_write))) (not (jumps (i.insn.op - from_write))) is.1)
       f.kind (local s i.place 0)
   body-suits i (ops.Branch branches.Always) e = gone-suits i (ops.Branch branches.Always) e refl
   body-suits i (ops.Branch (branches.Zero o)) e = branch-items i (ops.Branch (branches.Zero o)) e _ refl refl

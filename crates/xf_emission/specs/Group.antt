@@ -1,4 +1,4 @@
--- The group of items that stands for an instruction of the source: by nine forms, and never by opcode.
+-- The group of items that stands for an instruction of the source: by nine forms. Opcodes are named only where they are written.
 use Rattle.std.specs.Prelude.{ℕ, ℤ, ◌+◌, ◌-◌, ◌==◌, Bool, if◌then◌else◌, pos, List, [], ◌∷◌, ◌++◌, flat_map}
 use Rattle.std.specs.Prelude.{Option, Some, None, Result, Ok, Err}
 use Rattle.jc_base.specs.declared.ty.Kind.{Kind}
@@ -21,6 +21,7 @@ use Rattle.xf_homes.specs.Walk.{operands_of}
 use Rattle.xf_homes.specs.Source.{Source}
 use Rattle.xf_homes.specs.Plan.{register, local, needed, stack_homes, is_leader, operation}
 use Rattle.xf_emission.specs.declared.origin.Origin.TheVariants.{After}
+use Rattle.xf_emission.specs.Mnemonics.{pop, pop2, swap_x, from_read, from_write}
 use Rattle.xf_emission.specs.Move.{with_byte, load, store, copy, loads, spill}
 use Rattle.xf_emission.specs.Edge.{copies}
 use Rattle.xf_emission.specs.Jump.{branch, goto, has_under, place, branch_copies, under}
@@ -40,10 +41,10 @@ abbrev pub increased : Source → Placed → Option Home → List Item
 increased s i None = itself i
 increased s i (Some h) = Plain (record i.insn { x = pos (register s h) }) ∷ []
 
--- pop, or pop2 for an int
+-- of one cell, or of the two of an int
 abbrev pub pop_item : Sort → Item
-pop_item sorts.Int = Plain (record { op = 60; x = pos 0; y = pos 0; z = pos 0; len = 1 })
-pop_item _ = Plain (record { op = 59; x = pos 0; y = pos 0; z = pos 0; len = 1 })
+pop_item sorts.Int = Plain (record { op = pop2; x = pos 0; y = pos 0; z = pos 0; len = 1 })
+pop_item _ = Plain (record { op = pop; x = pos 0; y = pos 0; z = pos 0; len = 1 })
 
 -- a store into a local, into the first of the homes that are needed afterwards, and from there to the others
 abbrev pub store_to_homes : Source → Sort → List Home → List Item
@@ -57,7 +58,7 @@ stays s h = register s h == 0
 -- getfield_<t>_this as getfield_<t> of the loaded object
 abbrev pub field_read : Source → Placed → Option Home → List Item
 field_read s i None = itself i
-field_read s i (Some h) = if stays s h then itself i else load s h ∷ Plain (record i.insn { op = i.insn.op - 42 }) ∷ []
+field_read s i (Some h) = if stays s h then itself i else load s h ∷ Plain (record i.insn { op = i.insn.op - from_read }) ∷ []
 
 -- how swap_x puts an object under a value: the words above and under it, in four bits each
 abbrev pub swap_words : Kind → ℕ
@@ -69,7 +70,7 @@ abbrev pub field_written : Source → Placed → Kind → Option Home → List I
 field_written s i k None = itself i
 field_written s i k (Some h) =
     if stays s h then itself i
-    else load s h ∷ Plain (with_byte 64 (swap_words k)) ∷ Plain (record i.insn { op = i.insn.op - 46 }) ∷ []
+    else load s h ∷ Plain (with_byte swap_x (swap_words k)) ∷ Plain (record i.insn { op = i.insn.op - from_write }) ∷ []
 
 -- goto: the stack goes into the homes of the target's cells, and then come the copies of locals
 abbrev pub gone : Source → ℕ → Operation → ℕ → List Item

@@ -16,6 +16,7 @@ use Rattle.xf_homes.specs.Home.{register_count}
 use Rattle.xf_homes.specs.Source.{Source}
 use Rattle.xf_homes.specs.Plan.{stack_homes, depth}
 use Rattle.xf_emission.specs.declared.origin.Origin.TheVariants.{After}
+use Rattle.xf_emission.specs.Mnemonics.{goto_w}
 use Rattle.xf_emission.specs.Move.{loads, spill}
 use Rattle.xf_emission.specs.Edge.{copies, cell_copies}
 
@@ -105,7 +106,7 @@ branch s i op n =
 -- ---- stubs
 
 abbrev pub goto : ℕ → Item
-goto q = Branch 168 q
+goto q = Branch goto_w q
 
 abbrev pub stub_of : ℕ → ℕ → List Item → List Item
 stub_of stub q [] = []

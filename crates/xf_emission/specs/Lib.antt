@@ -1,3 +1,4 @@
+pub mod Mnemonics
 pub mod Move
 pub mod Edge
 pub mod Jump

@@ -8,22 +8,21 @@ use Rattle.jc_decode.specs.declared.symbols.Item.TheVariants.{Plain}
 use Rattle.xf_homes.specs.declared.home.Home.{Home}
 use Rattle.xf_homes.specs.Source.{Source}
 use Rattle.xf_homes.specs.Plan.{register}
+use Rattle.xf_emission.specs.Mnemonics.{aload, sload, iload, astore, sstore, istore}
 
 -- an instruction of two bytes, with an operand
 abbrev pub with_byte : ℕ → ℕ → Insn
 with_byte op x = record { op = op; x = pos x; y = pos 0; z = pos 0; len = 2 }
 
--- sload, iload and aload
 abbrev pub load_op : Ty → ℕ
-load_op Short = 22
-load_op IntHigh = 23
-load_op ty = 21
+load_op Short = sload
+load_op IntHigh = iload
+load_op ty = aload
 
--- sstore, istore and astore
 abbrev pub store_op : Ty → ℕ
-store_op Short = 41
-store_op IntHigh = 42
-store_op ty = 40
+store_op Short = sstore
+store_op IntHigh = istore
+store_op ty = astore
 
 abbrev pub load : Source → Home → Item
 load s h = Plain (with_byte (load_op h.ty) (register s h))

@@ -5,6 +5,7 @@
 #![tactic(auto)]
 
 mod laws;
+pub mod mnemonics;
 mod origin;
 
 pub use laws::{

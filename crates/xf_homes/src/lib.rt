@@ -1,5 +1,6 @@
 //! The homes of a method: registers of their own for each value of one type that a local or a cell of the stack has to
-//! keep (Leroy 2002, section 4.1), by the method's least dataflow typing; and the plan that its rewritten code goes by.
+//! keep (Leroy 2002, section 4.1). They are found by the method's least dataflow typing; with them stands the plan that
+//! its rewritten code goes by.
 //!
 //! Which pairs of a slot and a type are homes, and in which order they get their registers, is said by place, slot and
 //! type; the walk over the code finds them. The plan looks up, at each place, the homes of the locals and of the cells

@@ -1,7 +1,7 @@
-//! Code whose jumps go to labels, laid in bytes (JCVM 2.2, chapter 7): loads and stores of the first
-//! four registers in their forms without an operand, and each jump short but for the least set that
-//! must be wide. It stands on `jc_decode`, whose definitions say what such code is and what bytes stand
-//! for it.
+//! Code whose jumps go to labels, laid in bytes (JCVM 2.2, chapter 7), with each instruction in its shortest
+//! form. Loads and stores of the first four registers have their forms without an operand, and each jump is
+//! short but for the least set that must be wide. It stands on `jc_decode`, whose definitions say what such
+//! code is and what bytes stand for it.
 #![tactic(auto)]
 
 mod cases;

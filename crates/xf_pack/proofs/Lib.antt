@@ -1,4 +1,3 @@
-mod OwnClasses
 mod OwnMethods
 mod Elements
 mod Headers

@@ -27,7 +27,7 @@ use Rattle.xf_pack.specs.Ends.{AreAcceptedLibraries, IsPartLong, IsTypedLast, Te
 use Rattle.xf_pack.specs.Passes.{BeginsLast, EachFrom, HasLast, IsLaidAt}
 use Rattle.xf_pack.specs.Transformed.{AreTransformed, IsTransformed}
 use Rattle.xf_pack.proofs.Elements.{are-laid}
-use Rattle.xf_pack.proofs.OwnClasses.{own-reference}
+use Rattle.jc_resolve.proofs.OwnClasses.{own-reference}
 use Rattle.xf_pack.proofs.OwnMethods.{has-last, with-last}
 use Rattle.xf_pack.proofs.Suited.{may-be-laid}
 

@@ -1,5 +1,6 @@
 //! Worked examples of rewritten methods (Leroy 2002, section 4), over a world of one method whose shape and code are given,
-//! and of laid code: symbols that become bytes, at the limits of short jumps, with switches and with handlers.
+//! and of laid code. The latter are symbols that become bytes, at the limits of short jumps, with switches and with
+//! handlers.
 //!
 //! It stands on `xf_homes`, `law_groups`, `xf_code` and `xf_layout`, whose tests these are. Wrong rewritings are shown to be
 //! refused.

@@ -1,9 +1,9 @@
-use Rattle.law_transform.proofs.Laid.{laid-end-alike}
+use Rattle.law_transform.proofs.Laid.{laid-are-counterparts, laid-end-alike}
 use Rattle.law_transform.proofs.like_endings.laid_end_alike.Goals as goal
 
-pub returns : goal.returns
-returns c =
-    laid-end-alike c.args.world.now
+pub returns-clause-counterparts : goal.returns-clause-counterparts
+returns-clause-counterparts c =
+    laid-are-counterparts c.args.world.now
     (record {
       links = c.classes-classes.ensures.links;
       bytes = c.codes_are_bytes.ensures;
@@ -15,4 +15,7 @@ returns c =
       kept = c.typings_are_kept.ensures.card;
     })
     c.catches_by_pool.ensures c.card_laws.ensures.flow c.laid_methods_stand.ensures c.groups_stand_at_steps.ensures.groups c.methods_are_kept.ensures
-    c.operations_are_kept.ensures.operations c.operations_are_sound.ensures.sound c.worlds_end_alike.ensures
+    c.operations_are_kept.ensures.operations c.operations_are_sound.ensures.sound
+
+pub returns-clause-alike : goal.returns-clause-alike
+returns-clause-alike c = laid-end-alike c.args.world.now c.worlds_end_alike.ensures.alike (returns-clause-counterparts c)
