@@ -66,7 +66,7 @@ head-plain m h = (
   search rules,
   (
     plain-append (decimal m.class_no) (46 ∷ decimal m.method_no) (plain-decimal m.class_no (small h.class_no))
-        (omega arith, plain-decimal m.method_no (small h.method_no)),
+        ((omega arith, omega arith), plain-decimal m.method_no (small h.method_no)),
     (
       search rules,
       (

@@ -6,12 +6,12 @@ use Rattle.std.specs.Prelude.{All}
 use Rattle.std.proofs.lemmas.List.{append-nil}
 use Rattle.std.proofs.lemmas.List.Elements.{All-append, All-cons, All-nil}
 use Rattle.cap_listing.specs.declared.method.ListedMethod.{ListedMethod}
-use Rattle.cap_listing.specs.Words.{joined, line, text_of_lines}
+use Rattle.cap_listing.specs.Words.{IsCut, joined, line, text_of_lines}
 use Rattle.cap_listing.specs.Text.{IsMethod, Lists, Begins, begun_lines, end_words, lines_of, text_of}
 use Rattle.cap_listing.specs.Reading.{Begun, State, Next, Reads, reads_nothing, reads_more, start, read_lines, lines_begun, IsState, IsBegun, MayBegin}
-use Rattle.cap_listing.specs.Fault.{HasNoFeed, AreFree, fed, IsBadLine, IsCutShort, IsNotListing, IsReadLine, IsNoLine, IsCut}
+use Rattle.cap_listing.specs.Fault.{HasNoFeed, AreFree, fed, IsBadLine, IsCutShort, IsNotListing, IsReadLine, IsNoLine}
 use Rattle.cap_listing.specs.Laws.{OneListing}
-use Rattle.cap_listing.proofs.Words.{text-append, joined-free, first-line}
+use Rattle.cap_listing.proofs.Words.{text-append, joined-free, first-cut, none-cut}
 use Rattle.cap_listing.proofs.Steps.{HasRead, reads-lines, start-state}
 use Rattle.cap_listing.proofs.Runs.{reads-append, reads-text}
 use Rattle.cap_listing.proofs.Apart.{next-plain, line-one}
@@ -20,7 +20,7 @@ abbrev Lines : Type 0
 Lines = List (List (List ℕ))
 
 -- a line that may come has no line feed but its last byte
-next-free : (st : State) (ws : List (List ℕ)) (a : State) → Next st ws a → HasNoFeed (joined ws)
+pub next-free : (st : State) (ws : List (List ℕ)) (a : State) → Next st ws a → HasNoFeed (joined ws)
 next-free st ws a n =
     let p = next-plain st ws a n in subst (λ (vs : List (List ℕ)). HasNoFeed (joined vs)) (sym p.are) (joined-free (p.first ∷ p.others) p.plain)
 
@@ -30,10 +30,6 @@ split-text ws ls = append_assoc (joined ws) (10 ∷ []) (text_of_lines ls)
 
 not-empty : (xs ys : List ℕ) → [] ≡ xs ++ 10 ∷ ys → ⊥
 not-empty xs ys e = omega (arith, ap length e, length-append xs (10 ∷ ys))
-
-not-free : (xs ys : List ℕ) → HasNoFeed (xs ++ 10 ∷ ys) → ⊥
-not-free [] ys h = h.0 refl
-not-free (x ∷ xs) ys h = not-free xs ys h.1
 
 -- what the same first lines leave
 record Ahead (st : State) (ls : Lines) (tail : List ℕ) (end : State) : Type 0 where
@@ -49,7 +45,7 @@ ahead _ _ _ _ _ tail (reads_more st ws between ls after next rest) (reads_nothin
     absurd (not-empty (joined ws) (text_of_lines ls ++ tail)
     (e ∙ ap (λ (t : List ℕ). t ++ tail) (split-text ws ls) ∙ append_assoc (joined ws) (10 ∷ text_of_lines ls) tail))
 ahead _ _ _ _ _ tail (reads_more st ws between ls after next rest) (reads_more _ vs other ks end next2 rest2) e =
-    let cut = first-line (joined vs) (text_of_lines ks) (joined ws) (text_of_lines ls ++ tail) (next-free st vs other next2) (next-free st ws between next)
+    let cut = first-cut 10 (joined vs) (text_of_lines ks) (joined ws) (text_of_lines ls ++ tail) (next-free st vs other next2) (next-free st ws between next)
     (sym (split-text vs ks) ∙ e ∙ ap (λ (t : List ℕ). t ++ tail) (split-text ws ls) ∙ append_assoc (joined ws) (10 ∷ text_of_lines ls) tail) in
     let same = line-one st vs ws other between next2 next cut.0 in
     let found = ahead between ls after ks end tail rest (subst (λ (s : State). Reads s ks end) same rest2) cut.1 in
@@ -128,7 +124,7 @@ bad-line ls st bad h free none b =
         by : Reads st (ws ∷ ks) (record { done = b.methods; begun = None }) → ⊥
         by (reads_more _ _ between _ _ next rest) =
             none ws between next
-            (sym (first-line (joined ws) (text_of_lines ks) bad b.rest (next-free st ws between next) free (sym (split-text ws ks) ∙ e)).0)
+            (sym (first-cut 10 (joined ws) (text_of_lines ks) bad b.rest (next-free st ws between next) free (sym (split-text ws ks) ∙ e)).0)
 
 -- a text of whole lines and then a rest without a line feed is a listing only where the rest is empty and no method is begun
 pub whole-only : (ls : Lines) (st : State) (rest : List ℕ) (ms : List ListedMethod) → Reads start ls st → HasNoFeed rest
@@ -140,4 +136,4 @@ whole-only ls st rest ms h free l =
     by : (ks : Lines) → Reads st ks (record { done = ms; begun = None }) → text_of_lines ks ≡ rest → (rest ≡ [])
         × (st ≡ record { done = ms; begun = None })
     by [] r e = (sym e, nothing-left st [] (record { done = ms; begun = None }) r refl)
-    by (ws ∷ ks) r e = absurd (not-free (joined ws) (text_of_lines ks) (subst HasNoFeed (sym e ∙ split-text ws ks) free))
+    by (ws ∷ ks) r e = absurd (none-cut 10 (joined ws) (text_of_lines ks) (subst HasNoFeed (sym e ∙ split-text ws ks) free))

@@ -1,4 +1,6 @@
 pub mod Words
+pub mod Cuts
+pub mod Pushed
 pub mod Counted
 pub mod Appending
 pub mod Few
@@ -12,3 +14,12 @@ pub mod Ends
 pub mod Shown
 pub mod Apart
 pub mod Final
+pub mod Ascii
+pub mod Candidates
+pub mod Added
+pub mod Progress
+pub mod OneFault
+pub mod Handled
+pub mod FirstFaults
+pub mod Placed
+pub mod Replaced

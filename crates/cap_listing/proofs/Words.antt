@@ -1,6 +1,6 @@
 -- Words, and lines of them: what is joined is cut into the same words.
 use Rattle.std.proofs.Common.{◌≡◌, ◌<◌, ◌≤◌, ◌≢◌, ◌+◌, ◌^◌, ℕ, zero, suc, Bool, true, false, cond, List, [], ◌∷◌}
-use Rattle.std.proofs.Common.{◌++◌, length, map, get_or, refl, sym, ap, ◌∙◌, ⊎_elim, ◌/◌, ◌%◌, arith, rules, append_assoc, nat_lt}
+use Rattle.std.proofs.Common.{◌++◌, length, map, get_or, refl, sym, ap, ◌∙◌, ⊎_elim, ◌/◌, ◌%◌, arith, rules, append_assoc, nat_lt, subst}
 use Rattle.std.proofs.Common.{replicate}
 use Rattle.std.specs.Prelude.{ℤ, pos, negsuc, All, decimal, codes, FitsSigned, ⊤, ◌==◌, ◌&&◌}
 use Rattle.std.specs.Int.{w32}
@@ -17,7 +17,7 @@ use Rattle.jc_decode.specs.Names.{names, name}
 use Rattle.jc_decode.specs.Decoding.{AreBytes}
 use Rattle.std.specs.List.{slice_split, list_all, range_with_len}
 use Rattle.std.proofs.lemmas.List.Splits.{slice_split_at, slice_split_none}
-use Rattle.cap_listing.specs.Words.{IsPlain, ArePlain, spaced, joined, line, text_of_lines}
+use Rattle.cap_listing.specs.Words.{IsPlain, ArePlain, HasNone, IsCut, spaced, joined, line, text_of_lines}
 use Rattle.cap_listing.specs.Fault.{HasNoFeed}
 use Rattle.cap_listing.specs.Numbers.{AreShown}
 
@@ -38,7 +38,7 @@ free-append (x ∷ a) b h k = (h.0, free-append a b h.1 k)
 
 pub plain-free : (w : List ℕ) → IsPlain w → HasNoFeed w
 plain-free [] h = h
-plain-free (b ∷ w) h = (λ (e : b ≡ 10). omega (arith, e, h.0), plain-free w h.1)
+plain-free (b ∷ w) h = (λ (e : b ≡ 10). omega (arith, e, h.0.0), plain-free w h.1)
 
 spaced-free : (ws : List (List ℕ)) → ArePlain ws → HasNoFeed (spaced ws)
 spaced-free [] h = h
@@ -49,23 +49,41 @@ pub joined-free : (ws : List (List ℕ)) → ArePlain ws → HasNoFeed (joined w
 joined-free [] h = h
 joined-free (w ∷ ws) h = free-append w (spaced ws) (plain-free w h.0) (spaced-free ws h.1)
 
--- two texts that are the same have the same first line, and the same rest
-pub first-line : (a x b y : List ℕ) → HasNoFeed a → HasNoFeed b → a ++ 10 ∷ x ≡ b ++ 10 ∷ y → (a ≡ b) × (x ≡ y)
-first-line [] x [] y h k e = (refl, ap (drop-one) e)
+-- two lists that are the same are the same up to the first byte of a value, and after it
+pub first-cut : (c : ℕ) (a x b y : List ℕ) → HasNone c a → HasNone c b → a ++ c ∷ x ≡ b ++ c ∷ y → (a ≡ b) × (x ≡ y)
+first-cut c [] x [] y h k e = (refl, ap drop-one e)
   where
     drop-one : List ℕ → List ℕ
     drop-one [] = []
-    drop-one (c ∷ cs) = cs
-first-line [] x (c ∷ b) y h k e = absurd (k.0 (sym (ap (λ (l : List ℕ). get_or l 0 0) e)))
-first-line (c ∷ a) x [] y h k e = absurd (h.0 (ap (λ (l : List ℕ). get_or l 0 0) e))
-first-line (c ∷ a) x (d ∷ b) y h k e =
-    let rest = first-line a x b y h.1 k.1 (ap drop-one e) in
+    drop-one (d ∷ ds) = ds
+first-cut c [] x (d ∷ b) y h k e = absurd (k.0 (sym (ap (λ (l : List ℕ). get_or l 0 0) e)))
+first-cut c (d ∷ a) x [] y h k e = absurd (h.0 (ap (λ (l : List ℕ). get_or l 0 0) e))
+first-cut c (d ∷ a) x (f ∷ b) y h k e =
+    let rest = first-cut c a x b y h.1 k.1 (ap drop-one e) in
     let one = ap (λ (l : List ℕ). get_or l 0 0) e in
-    (ap (λ (n : ℕ). n ∷ a) one ∙ ap (λ (l : List ℕ). d ∷ l) rest.0, rest.1)
+    (ap (λ (n : ℕ). n ∷ a) one ∙ ap (λ (l : List ℕ). f ∷ l) rest.0, rest.1)
   where
     drop-one : List ℕ → List ℕ
     drop-one [] = []
-    drop-one (c ∷ cs) = cs
+    drop-one (g ∷ gs) = gs
+
+pub none-cut : (c : ℕ) (xs ys : List ℕ) → HasNone c (xs ++ c ∷ ys) → ⊥
+none-cut c [] ys h = h.0 refl
+none-cut c (x ∷ xs) ys h = none-cut c xs ys h.1
+
+pub plain-none : (w : List ℕ) → IsPlain w → HasNone 32 w
+plain-none [] h = h
+plain-none (b ∷ w) h = (λ (e : b ≡ 32). omega (arith, e, h.0.0), plain-none w h.1)
+
+-- the first of some words, and the others
+pub word-cut : (xs a b w : List ℕ) (ws : List (List ℕ)) → IsCut 32 xs a b → IsPlain w → xs ≡ joined (w ∷ ws) → (a ≡ w) × (b ≡ joined ws)
+word-cut xs a b w [] cut plain e =
+    absurd (none-cut 32 a b (subst (HasNone 32) (sym (append-nil w) ∙ sym e ∙ cut.is) (plain-none w plain)))
+word-cut xs a b w (v ∷ ws) cut plain e = first-cut 32 a b w (joined (v ∷ ws)) cut.free (plain-none w plain) (sym cut.is ∙ e)
+
+pub word-whole : (xs w : List ℕ) (ws : List (List ℕ)) → HasNone 32 xs → xs ≡ joined (w ∷ ws) → (xs ≡ w) × ([] ≡ joined ws)
+word-whole xs w [] none e = (e ∙ append-nil w, refl)
+word-whole xs w (v ∷ ws) none e = absurd (none-cut 32 w (joined (v ∷ ws)) (subst (HasNone 32) e none))
 
 -- ---- words
 
@@ -73,7 +91,7 @@ pub plain-apart : (w : List ℕ) → IsPlain w → All (λ b. (b == 32) ≡ fals
 plain-apart [] h = All-nil (λ b. (b == 32) ≡ false)
 plain-apart (b ∷ w) h =
     All-cons (λ c. (c == 32) ≡ false) b w
-    (⊎_elim (λ same. absurd (omega (arith, same.1, h.0))) (λ other. other.0) (eqb_tells b 32))
+    (⊎_elim (λ same. absurd (omega (arith, same.1, h.0.0))) (λ other. other.0) (eqb_tells b 32))
     (plain-apart w h.1)
 
 -- what plain words are joined to is cut into these words
@@ -109,14 +127,14 @@ decimal-digits n h =
 
 digits-plain : (w : List ℕ) → IsDigits w → IsPlain w
 digits-plain [] h = h
-digits-plain (b ∷ w) h = (omega (arith, h.0.0), digits-plain w h.1)
+digits-plain (b ∷ w) h = ((omega (arith, h.0.0), omega (arith, h.0.1)), digits-plain w h.1)
 
 pub plain-decimal : (n : ℕ) → n < 2 ^ 64 → IsPlain (decimal n)
 plain-decimal n h = digits-plain (decimal n) (decimal-digits n h)
 
 pub plain-signed : (z : ℤ) → FitsSigned w32 z → IsPlain (signed_decimal z)
 plain-signed (pos n) h = plain-decimal n (omega arith)
-plain-signed (negsuc n) h = (omega arith, plain-decimal (suc n) (omega arith))
+plain-signed (negsuc n) h = ((omega arith, omega arith), plain-decimal (suc n) (omega arith))
 
 -- the first byte of a decimal number is a digit
 pub digits-first : (w : List ℕ) → IsDigits w → zero < length w → (48 ≤ get_or w 0 0) × (get_or w 0 0 ≤ 57)
@@ -126,20 +144,27 @@ digits-first (b ∷ w) h some = h.0
 pub decimal-first : (n : ℕ) → n < 2 ^ 64 → (48 ≤ get_or (decimal n) 0 0) × (get_or (decimal n) 0 0 ≤ 57)
 decimal-first n h = digits-first (decimal n) (decimal-digits n h) (decimal_nonempty n h)
 
+is_plain_byte : ℕ → Bool
+is_plain_byte b = nat_lt 32 b && nat_lt b 127
+
 is_plain : List ℕ → Bool
-is_plain w = list_all (λ b. nat_lt 32 b) w
+is_plain w = list_all is_plain_byte w
 
 both : (a b : Bool) → (a && b) ≡ true → (a ≡ true) × (b ≡ true)
 both true b e = (refl, e)
 both false b e = absurd (false≢true e)
 
+plain-byte : (b : ℕ) → is_plain_byte b ≡ true → (32 < b) × (b < 127)
+unfolding is_plain_byte
+plain-byte b e = let p = both (nat_lt 32 b) _ e in (ltb-true 32 b p.0, ltb-true b 127 p.1)
+
 is_plain-plain : (w : List ℕ) → is_plain w ≡ true → IsPlain w
 unfolding is_plain
 is_plain-plain [] e = search rules
-is_plain-plain (b ∷ w) e = let p = both (nat_lt 32 b) _ e in (ltb-true 32 b p.0, is_plain-plain w p.1)
+is_plain-plain (b ∷ w) e = let p = both (is_plain_byte b) _ e in (plain-byte b p.0, is_plain-plain w p.1)
 
 names_plain : list_all is_plain names ≡ true
-unfolding names is_plain
+unfolding names is_plain is_plain_byte
 names_plain = refl
 
 plain-at : (ws : List (List ℕ)) → list_all is_plain ws ≡ true → (n : ℕ) → IsPlain (get_or ws n [])
@@ -150,13 +175,14 @@ plain-at (w ∷ ws) e (suc n) = plain-at ws (both (is_plain w) _ e).1 n
 pub plain-name : (op : ℕ) → IsPlain (name op)
 plain-name op = plain-at names names_plain op
 
-digits_plain : map (λ k. nat_lt 32 (get_or lower_digits k 0)) (range_with_len 0 16) ≡ replicate 16 true
+digits_plain : map (λ k. is_plain_byte (get_or lower_digits k 0)) (range_with_len 0 16) ≡ replicate 16 true
+unfolding is_plain_byte
 digits_plain = refl
 
-digit-plain : (k : ℕ) → k < 16 → 32 < get_or lower_digits k 0
+digit-plain : (k : ℕ) → k < 16 → (32 < get_or lower_digits k 0) × (get_or lower_digits k 0 < 127)
 digit-plain k h =
-    ltb-true 32 (get_or lower_digits k 0)
-    (sym (get_or-map-range_with_len (λ j. nat_lt 32 (get_or lower_digits j 0)) 0 16 k k true h (omega arith))
+    plain-byte (get_or lower_digits k 0)
+    (sym (get_or-map-range_with_len (λ j. is_plain_byte (get_or lower_digits j 0)) 0 16 k k true h (omega arith))
     ∙ ap (λ (t : List Bool). get_or t k true) digits_plain ∙ get_or-replicate 16 k true true h)
 
 pub plain-hex : (bytes : List ℕ) → AreBytes bytes → IsPlain (encode_lower bytes)

@@ -2,12 +2,11 @@
 use Rattle.std.specs.Prelude.{◌≡◌, ◌≢◌, ◌⊎◌, ℕ, ◌+◌, List, [], ◌∷◌, ◌++◌, length, ⊤}
 use Rattle.cap_listing.specs.declared.method.ListedMethod.{ListedMethod}
 use Rattle.cap_listing.specs.Text.{Lists, Begins}
-use Rattle.cap_listing.specs.Words.{joined}
+use Rattle.cap_listing.specs.Words.{HasNone, joined}
 use Rattle.cap_listing.specs.Reading.{State, Next}
 
 abbrev pub HasNoFeed : List ℕ → Type 0
-HasNoFeed [] = ⊤
-HasNoFeed (b ∷ bs) = (b ≢ 10) × HasNoFeed bs
+HasNoFeed = HasNone 10
 
 abbrev pub AreFree : List (List ℕ) → Type 0
 AreFree [] = ⊤
@@ -53,8 +52,3 @@ pub record IsReadLine (st : State) (bytes : List ℕ) (after : State) : Type 0 w
 -- one that may not
 abbrev pub IsNoLine : State → List ℕ → Type 0
 IsNoLine st bytes = (words : List (List ℕ)) (after : State) → Next st words after → bytes ≢ joined words
-
--- the bytes up to a line feed, and those after it
-pub record IsCut (bytes line after : List ℕ) : Type 0 where
-  pub is : bytes ≡ line ++ 10 ∷ after
-  pub free : HasNoFeed line

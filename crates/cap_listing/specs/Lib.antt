@@ -6,3 +6,7 @@ pub mod Worked
 pub mod Reading
 pub mod Fault
 pub mod Laws
+pub mod Lines
+pub mod Assembler
+pub mod Assembling
+pub mod Placing

@@ -1,6 +1,6 @@
 -- The methods of a package that have code, as they are listed: in the order of the Descriptor, with their numbers in it
 -- (JCVM 2.2, sections 6.9 and 6.13).
-use Rattle.std.specs.Prelude.{ℕ, ◌+◌, ◌-◌, Bool, List, [], ◌∷◌, ◌++◌, take, drop, map, Option, Some, None}
+use Rattle.std.specs.Prelude.{ℕ, ◌+◌, ◌-◌, ◌<◌, ◌≤◌, ◌^◌, Bool, List, [], ◌∷◌, ◌++◌, All, length, take, drop, map, Option, Some, None}
 use Rattle.std.specs.Prelude.{if◌then◌else◌}
 use Rattle.cap_method.specs.MethodFormat.{Header}
 use Rattle.cap_method.specs.declared.handler.HandlerInfo.{HandlerInfo}
@@ -9,6 +9,7 @@ use Rattle.cap_components.specs.Components.{Methods}
 use Rattle.cap_components.specs.MethodPlaces.{code_start}
 use Rattle.cap_components.specs.PackageRecord.{PackageRecord, names_interface}
 use Rattle.cap_package.specs.HeaderChecks.{header_in, is_abstract}
+use Rattle.jc_decode.specs.Decoding.{AreBytes}
 use Rattle.jc_decode.specs.declared.symbols.Laid.{Laid}
 use Rattle.jc_decode.specs.declared.symbols.LaidHandler.{LaidHandler}
 use Rattle.cap_listing.specs.declared.method.ListedMethod.{ListedMethod}
@@ -50,3 +51,24 @@ listed_in interfaces methods class_no (c ∷ cs) =
 
 abbrev pub methods_of : PackageRecord → List ListedMethod
 methods_of p = listed_in (names_interface p.classes) p.methods 0 p.description.items.classes
+
+-- ---- what is known of each number by itself
+
+-- the places and the index of a handler are of two bytes
+pub record HasPlaces (h : LaidHandler) : Type 0 where
+  pub start : h.start < 2 ^ 16
+  pub entry : h.entry < 2 ^ 16
+  pub pool : h.pool < 2 ^ 16
+
+pub record IsCountedLaid (l : Laid) : Type 0 where
+  pub max_stack : l.max_stack < 2 ^ 8
+  pub nargs : l.nargs < 2 ^ 8
+  pub max_locals : l.max_locals < 2 ^ 8
+  pub bytes : AreBytes l.code
+  pub few : length l.code ≤ 65535
+  pub handlers : All HasPlaces l.handlers
+
+pub record IsCounted (m : ListedMethod) : Type 0 where
+  pub class_no : m.class_no < 2 ^ 16
+  pub method_no : m.method_no < 2 ^ 16
+  pub laid : IsCountedLaid m.laid

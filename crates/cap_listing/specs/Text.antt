@@ -88,6 +88,14 @@ pub record IsHandler (h : LaidHandler) : Type 0 where
   pub entry : h.entry < 2 ^ 16
   pub pool : h.pool < 2 ^ 16
 
+-- the numbers of a heading are of two bytes and of one
+pub record IsHeading (h : Heading) : Type 0 where
+  pub class_no : h.class_no < 2 ^ 16
+  pub method_no : h.method_no < 2 ^ 16
+  pub max_stack : h.max_stack < 2 ^ 8
+  pub nargs : h.nargs < 2 ^ 8
+  pub max_locals : h.max_locals < 2 ^ 8
+
 pub record IsMethod (m : ListedMethod) : Type 0 where
   pub class_no : m.class_no < 2 ^ 16
   pub method_no : m.method_no < 2 ^ 16

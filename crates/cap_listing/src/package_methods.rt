@@ -1,4 +1,4 @@
-ghost use Rattle.std.specs.Prelude.{◌≡◌, ◌++◌, ◌≤◌, [], All, length, take, drop, map, OnOk, IfOk, if◌then◌else◌};
+ghost use Rattle.std.specs.Prelude.{◌≡◌, ◌++◌, ◌≤◌, ◌<◌, ◌^◌, [], All, length, take, drop, map, OnOk, IfOk, if◌then◌else◌};
 ghost use Rattle.offset_set.specs.Bits.{holds};
 ghost use Rattle.cap_method.specs.MethodPart.{handlers_left, header_seen};
 ghost use Rattle.cap_desc.specs.MemberRecords.{method_seen};
@@ -6,10 +6,11 @@ ghost use Rattle.cap_desc.specs.ClassRecords.{described_class_seen};
 ghost use Rattle.cap_desc.specs.Descriptors.{descriptor_seen};
 ghost use Rattle.cap_components.specs.MethodsSeen.{methods_seen};
 ghost use Rattle.cap_package.specs.HeaderChecks.{header_in};
-ghost use Rattle.cap_listing.specs.Text.{IsShort};
-ghost use Rattle.cap_listing.specs.Methods.{laid_handler, laid_of, listed_by, listed_from, listed_unless, listed_in, methods_of};
+ghost use Rattle.cap_listing.specs.Text.{IsMethod};
+ghost use Rattle.cap_listing.specs.Methods.{HasPlaces, IsCounted, IsCountedLaid, laid_handler, laid_of, listed_by, listed_from, listed_unless, listed_in, methods_of};
 
 use crate::method::{Listed, ListedMethod};
+use crate::recognized::are_bytes;
 use cap_bytes::View;
 use cap_components::code_start;
 use cap_desc::{DescClass, DescPart, MethodInfo};
@@ -22,11 +23,12 @@ use std::alloc::{AllocError, Global};
 /// The methods of a package that have code, in the order of the Descriptor.
 pub fn listed_methods(alloc: Global, package: &Package<'_, '_>) -> Result<Listed, AllocError>
     ensures value { IfOk result (λ methods. methods ≡ methods_of «package».now) }
-    ensures short { IfOk result (All IsShort) }
+    ensures methods { IfOk result (All IsMethod) }
 {
     let interfaces = interface_offsets(&package.classes());
     let part = package.methods();
     let descriptor = package.descriptor();
+    let _parts = package.parts();
     let listed = all_listed(alloc, &interfaces, &part, &descriptor)?;
     Ok(Sequence::of(listed))
 }
@@ -40,7 +42,7 @@ fn all_listed(
 ) -> Result<Vec<ListedMethod>, AllocError>
     ensures value { IfOk result (λ v. v.items
         ≡ listed_in (holds interfaces.now) (methods_seen methods.now) 0 (descriptor_seen descriptor.now).classes) }
-    ensures short { IfOk result (λ v. All IsShort v.items) }
+    ensures counted { IfOk result (λ v. All IsCounted v.items) }
 {
     // Their number is one that `class_count` can answer.
     let _count = descriptor.class_count();
@@ -63,8 +65,8 @@ fn push_placed(
     class: &DescClass<'_>,
     listed: &mut Vec<ListedMethod>,
 ) -> Result<(), AllocError>
-    requires { All IsShort listed.old.items }
-    ensures short { OnOk result (All IsShort listed.new.items) }
+    requires { All IsCounted listed.old.items }
+    ensures counted { OnOk result (All IsCounted listed.new.items) }
     ensures appended { OnOk result (listed.new.items
         ≡ listed.old.items
         ++ listed_unless (holds interfaces.now) (methods_seen methods.now) class_no (described_class_seen class.now)) }
@@ -83,8 +85,8 @@ fn push_class(
     class: &DescClass<'_>,
     listed: &mut Vec<ListedMethod>,
 ) -> Result<(), AllocError>
-    requires { All IsShort listed.old.items }
-    ensures short { OnOk result (All IsShort listed.new.items) }
+    requires { All IsCounted listed.old.items }
+    ensures counted { OnOk result (All IsCounted listed.new.items) }
     ensures appended { OnOk result (listed.new.items
         ≡ listed.old.items ++ listed_from (methods_seen methods.now) class_no 0 (described_class_seen class.now).methods) }
 {
@@ -108,8 +110,8 @@ fn push_listed(
     method: &MethodInfo,
     listed: &mut Vec<ListedMethod>,
 ) -> Result<(), AllocError>
-    requires { All IsShort listed.old.items }
-    ensures short { OnOk result (All IsShort listed.new.items) }
+    requires { All IsCounted listed.old.items }
+    ensures counted { OnOk result (All IsCounted listed.new.items) }
     ensures appended { OnOk result (listed.new.items
         ≡ listed.old.items
         ++ listed_by (methods_seen methods.now) class_no method_no (method_seen method.now)
@@ -139,11 +141,14 @@ fn laid(
     header: MethodHeader,
 ) -> Result<Laid, AllocError>
     ensures value { IfOk result (λ l. l ≡ laid_of (methods_seen methods.now) (method_seen method.now) (header_seen header)) }
-    ensures short { IfOk result (λ l. length l.code ≤ 65535) }
+    ensures counted { IfOk result IsCountedLaid }
 {
     let info = methods.info();
     let start = code_start(info, method);
-    let code = Vec::from_slice(alloc, bytes_of(info, start, method.bytecode_count))?;
+    let bytes = bytes_of(info, start, method.bytecode_count);
+    are_bytes(bytes);
+    numbers_fit(header.max_stack, header.nargs, header.max_locals);
+    let code = Vec::from_slice(alloc, bytes)?;
     let farther = handlers_after(methods.handlers(), method.handler_index);
     let handlers = laid_handlers(alloc, start, farther, method.handler_count)?;
     Ok(Laid {
@@ -155,10 +160,21 @@ fn laid(
     })
 }
 
+/// Each number is one of a byte.
+fn numbers_fit(max_stack: u8, nargs: u8, max_locals: u8)
+    ensures stack { max_stack < 2 ^ 8 }
+    ensures arguments { nargs < 2 ^ 8 }
+    ensures locals { max_locals < 2 ^ 8 }
+{
+    let _ = max_stack;
+    let _ = nargs;
+    let _ = max_locals;
+}
+
 /// So many bytes from an offset on, or those that are there.
 fn bytes_of<'a>(info: View<'a>, start: u32, count: u16) -> &'a [u8]
     ensures value { result.now ≡ take count (drop start info.entry.bytes.now) }
-    ensures short { length result.now ≤ count }
+    ensures few { length result.now ≤ 65535 }
 {
     let bytes = info.bytes;
     let rest = if (start as usize) < bytes.len() {
@@ -174,7 +190,8 @@ fn bytes_of<'a>(info: View<'a>, start: u32, count: u16) -> &'a [u8]
 }
 
 fn laid_handler(start: u32, handler: HandlerInfo) -> LaidHandler
-    ensures { result ≡ laid_handler start handler }
+    ensures value { result ≡ laid_handler start handler }
+    ensures places { HasPlaces result }
 {
     LaidHandler {
         start: u32::from(handler.start).saturating_sub(start) as u16,
@@ -207,7 +224,8 @@ fn laid_handlers(
     handlers: HandlerEntries<'_>,
     count: u16,
 ) -> Result<Vec<LaidHandler>, AllocError>
-    ensures { IfOk result (λ v. v.items ≡ map (laid_handler start) (take count (handlers_left handlers.entry))) }
+    ensures value { IfOk result (λ v. v.items ≡ map (laid_handler start) (take count (handlers_left handlers.entry))) }
+    ensures counted { IfOk result (λ v. All HasPlaces v.items) }
 {
     let mut laid = Vec::new(alloc);
     let mut rest = handlers;

@@ -4,6 +4,7 @@ ghost use Rattle.cap_load.specs.Reading.{tag_fault, shown, info_left, read_byte}
 
 use crate::fault::StreamFault;
 use crate::order::{comes_before, place};
+use byteorder::{BigEndian, ByteOrder};
 
 /// What the next byte of the contents is.
 #[derive(Clone, Copy)]
@@ -92,7 +93,7 @@ impl Reading {
             },
             Next::Low(high) => Reading {
                 last: self.last,
-                next: info_left(high as u16 * 256 + byte as u16),
+                next: info_left(BigEndian::read_u16(&[high, byte])),
             },
             Next::Info(left) => Reading {
                 last: self.last,

@@ -1,4 +1,4 @@
-ghost use Rattle.std.specs.Prelude.{◌≡◌, ◌<◌, ◌≤◌, ℕ, List, [], ◌∷◌, ◌++◌, ◌-◌, length, Ok, Err, Some, None, IfOk};
+ghost use Rattle.std.specs.Prelude.{◌≡◌, ◌<◌, ◌≤◌, ℕ, List, [], ◌∷◌, ◌++◌, ◌-◌, ◌+◌, ◌*◌, slice_index, length, Ok, Err, Some, None, IfOk};
 ghost use Rattle.cap_load.specs.declared.block.Block.TheVariants.{Left};
 ghost use Rattle.cap_components.specs.Parts.{Lent};
 ghost use Rattle.cap_load.specs.declared.fault.StreamFault.{StreamFault};
@@ -13,6 +13,7 @@ use crate::block::Block;
 use crate::component::{Next, Reading};
 use crate::fault::StreamFault;
 use crate::finish_end::FinishEnd;
+use byteorder::{BigEndian, ByteOrder};
 use cap_bytes::Part;
 use cap_components::Parts;
 use std::alloc::{AllocError, Global};
@@ -202,6 +203,14 @@ impl Loader {
     }
 }
 
+/// The number of bytes of the file with which some bytes begin, by the size that it tells.
+fn file_length(bytes: &[u8]) -> usize
+    requires { 3 ≤ length bytes.now }
+    ensures { result ≡ 3 + slice_index bytes.now 1 * 256 + slice_index bytes.now 2 }
+{
+    3 + usize::from(BigEndian::read_u16(&bytes[1..]))
+}
+
 /// The parts of contents that are whole components in order.
 fn parts_of(alloc: Global, contents: &[u8]) -> Result<Parts<'_>, AllocError>
     requires { AreWhole contents.now }
@@ -210,8 +219,7 @@ fn parts_of(alloc: Global, contents: &[u8]) -> Result<Parts<'_>, AllocError>
     let mut parts = Parts::new(alloc);
     let mut rest = contents;
     'parts: while rest.len() >= 3 {
-        let size = 3 + rest[1] as usize * 256 + rest[2] as usize;
-        let (file, behind) = rest.split_at(size);
+        let (file, behind) = rest.split_at(file_length(rest));
         parts.push(Part(rest[0]), file)?;
         rest = behind;
     }

@@ -8,6 +8,7 @@ use Rattle.jc_base.proofs.Lists.{All-slice_get}
 use Rattle.jc_decode.specs.declared.insn.Placed.{Placed}
 use Rattle.jc_decode.specs.Listing.{listing, targets}
 use Rattle.jc_decode.proofs.Elements.{Contains-slice_get}
+use Rattle.jc_control.specs.ExactIndex.{IsExactIndex}
 use Rattle.jc_control.specs.Method.{Method}
 use Rattle.jc_control.specs.WellFormed.{IsPlace, IsWellFormed}
 use Rattle.jc_rules.specs.Demand.{Frame}
@@ -21,7 +22,7 @@ use Rattle.card_typing.proofs.Below.{AreCardRules, refused-never}
 use Rattle.card_typing.proofs.Fewer.{open-fewer, after-fewer, typing-fewer}
 use Rattle.card_typing.proofs.Quiet.{target-place}
 use Rattle.card_typing.specs.Typing.{HasCardTyping}
-use Rattle.card_verify.specs.IndexTyping.{IsIndex, HasIndexTyping, IsExactIndex}
+use Rattle.card_verify.specs.IndexTyping.{IsIndex, HasIndexTyping}
 use Rattle.card_verify.specs.Refusal.{IsBadEntry, bad_place, bad_order, IsFirstLacking, IsRefusedOver, over_flaw, over_entry, over_target, over_state}
 use Rattle.card_verify.specs.OverIndex.{IndexedIsTyped, ExactAnswers, RefusalDeniesOver}
 

@@ -1,11 +1,9 @@
 -- Card typings over a target index: the places that the index lists stand for the targets (Leroy 2002, section 3; JCVM 2.2,
 -- section 7.5).
-use Rattle.std.specs.Prelude.{◌↔◌, ℕ, List, All, Contains}
+use Rattle.std.specs.Prelude.{ℕ, List, All, Contains}
 use Rattle.jc_base.specs.Index.{IsAscending}
 use Rattle.jc_base.specs.declared.ty.Ty.{Ty}
 use Rattle.jc_base.specs.World.{Linked}
-use Rattle.jc_decode.specs.Listing.{listing}
-use Rattle.jc_decode.specs.Places.{IsTargetIn}
 use Rattle.jc_control.specs.Method.{Method}
 use Rattle.jc_control.specs.WellFormed.{IsPlace}
 use Rattle.card_typing.specs.Place.{IsTarget}
@@ -27,15 +25,3 @@ pub record HasIndexTyping (w : Linked) (m : Method) (index : List ℕ) : Type 0 
   pub regs : List Ty
   pub stacks : ℕ → List Ty
   pub typing : IndexTyping w m index regs stacks
-
--- ---- the exact index
-
--- an instruction of the code leads to this place, and one begins there
-pub record IsPlacedTarget (code : List ℕ) (q : ℕ) : Type 0 where
-  pub target : IsTargetIn code (listing code) q
-  pub place : IsPlace code q
-
--- the ascending list of the targets and of nothing else
-pub record IsExactIndex (code index : List ℕ) : Type 0 where
-  pub ascending : IsAscending index
-  pub targets : (q : ℕ) → Contains index q ↔ IsPlacedTarget code q

@@ -3,6 +3,7 @@ use Rattle.std.specs.Prelude.{◌≡◌, ◌≢◌, ℕ, ◌+◌, ◌*◌, ◌�
 use Rattle.jc_base.specs.declared.ty.Ty.{Ty}
 use Rattle.jc_base.specs.declared.ty.Ty.TheVariants.{Bottom}
 use Rattle.jc_base.specs.World.{Linked}
+use Rattle.jc_control.specs.ExactIndex.{IsExactIndex}
 use Rattle.jc_control.specs.Method.{Method, IsMethodOf}
 use Rattle.jc_rules.specs.Demand.{Frame}
 use Rattle.jc_rules.specs.Flow.{start_frame}
@@ -11,7 +12,7 @@ use Rattle.card_typing.specs.Typing.{HasCardTyping}
 use Rattle.card_typing.specs.Refusal.{IsRefused}
 use Rattle.card_verify.specs.Counted.{instruction_count}
 use Rattle.card_verify.specs.Bound.{AreCounted}
-use Rattle.card_verify.specs.IndexTyping.{HasIndexTyping, IsExactIndex}
+use Rattle.card_verify.specs.IndexTyping.{HasIndexTyping}
 use Rattle.card_verify.specs.Refusal.{IsFormKind, IsRefusedOver}
 
 -- a method with a card typing over any index has a card typing

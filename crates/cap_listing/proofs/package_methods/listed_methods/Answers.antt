@@ -7,8 +7,9 @@ use Rattle.cap_components.specs.Components.{Methods}
 use Rattle.cap_components.specs.MethodsSeen.{methods_seen}
 use Rattle.cap_components.specs.Descriptions.{Description}
 use Rattle.cap_components.specs.PackageRecord.{names_interface}
-use Rattle.cap_listing.specs.Text.{IsShort}
-use Rattle.cap_listing.specs.Methods.{listed_in}
+use Rattle.cap_listing.specs.Text.{IsMethod}
+use Rattle.cap_listing.specs.Methods.{IsCounted, listed_in}
+use Rattle.cap_listing.proofs.Handled.{methods-known}
 use Rattle.cap_listing.proofs.package_methods.listed_methods.Goals as goal
 
 pub returns-clause-value : goal.returns-clause-value
@@ -23,5 +24,9 @@ returns-clause-value c =
     ∙ ap (λ (m : Methods). listed_in (names_interface p.classes) m 0 (descriptor_seen c.descriptor-descriptor.result).classes) c.methods-part.ensures
     ∙ ap (λ (cs : List ClassDescriptor). listed_in (names_interface p.classes) p.methods 0 cs) items
 
-pub returns-clause-short : goal.returns-clause-short
-returns-clause-short c = subst (All IsShort) (sym c.of.ensures) c.in_ok-listed.ensures.short
+pub returns-clause-methods : goal.returns-clause-methods
+returns-clause-methods c =
+    let same = returns-clause-value c in
+    subst (All IsMethod) (sym same)
+    (methods-known c.args.package.now c.parts-parts.ensures.agree
+    (subst (All IsCounted) same (subst (All IsCounted) (sym c.of.ensures) c.in_ok-listed.ensures.counted)))

@@ -1,0 +1,227 @@
+-- A line that may come is read, and no other may come.
+use Rattle.std.proofs.Common.{◌≡◌, ◌≢◌, ◌<◌, ◌≤◌, ◌+◌, ◌^◌, ℕ, Bool, true, false, Some, None, Option, List, [], ◌∷◌, ◌++◌, length}
+use Rattle.std.proofs.Common.{refl, sym, ap, subst, ◌∙◌, arith, rules, length-append}
+use Rattle.std.specs.Prelude.{All, codes, MatchBool, IfSome, IfNone}
+use Rattle.std.proofs.lemmas.Bool.{false≢true}
+use Rattle.jc_decode.specs.declared.symbols.LaidHandler.{LaidHandler}
+use Rattle.cap_listing.specs.declared.method.ListedMethod.{ListedMethod}
+use Rattle.cap_listing.specs.declared.method.Heading.{Heading}
+use Rattle.cap_listing.specs.Words.{joined}
+use Rattle.cap_listing.specs.Text.{IsHeading, IsMethod, IsHandler, heading_words, head_words, bytes_words, handler_words, end_words}
+use Rattle.cap_listing.specs.Reading.{Begun, State, IsBare, with_bytes, with_handler, block_words, BeginsMethod, AddsInstruction, AddsBytes, AddsHandler}
+use Rattle.cap_listing.specs.Reading.{EndsMethod, Next, next_head, next_instruction, next_bytes, next_handler, next_end}
+use Rattle.cap_listing.specs.Fault.{IsReadLine, IsNoLine}
+use Rattle.cap_listing.specs.Lines.{IsInstructionLine, IsBytesLine}
+use Rattle.cap_listing.specs.declared.open_method.OpenMethod.{OpenMethod}
+use Rattle.cap_listing.specs.Assembler.{method_with, opened, fresh, between, inside, state_by, IsFewOf}
+
+abbrev method-or : Begun → Option Begun → Begun
+method-or d None = d
+method-or d (Some b) = b
+
+abbrev closed-or : Bool → Option Begun → Bool
+closed-or d None = d
+closed-or d (Some b) = b.closed
+
+abbrev is-begun : Option Begun → Bool
+is-begun None = false
+is-begun (Some b) = true
+
+abbrev begun : Heading → List ℕ → List LaidHandler → Bool → Begun
+begun h code hs closed = record { method = method_with h code hs; closed = closed }
+
+-- ---- what is read
+
+bare-method : (h : Heading) → IsHeading h → IsMethod (method_with h [] [])
+bare-method h is = record {
+  class_no = is.class_no;
+  method_no = is.method_no;
+  max_stack = is.max_stack;
+  nargs = is.nargs;
+  max_locals = is.max_locals;
+  bytes = λ k. omega arith;
+  few = omega arith;
+  handlers = λ k d l. absurd (omega (arith, l));
+}
+
+pub head-read : (done : List ListedMethod) (h : Heading) (line : List ℕ) → IsHeading h → line ≡ joined (heading_words h)
+    → IsReadLine (between done) line (fresh done h)
+head-read done h line is e = record {
+  words = heading_words h;
+  next = next_head (record {
+    method = method_with h [] [];
+    bare = record { is = bare-method h is; code = refl; handlers = refl };
+    from = refl;
+    are = refl;
+    to = refl;
+  });
+  is = e;
+}
+
+module _ (done : List ListedMethod) (h : Heading) (code : List ℕ) (hs : List LaidHandler) where
+  pub instruction-read : (bytes more line : List ℕ) → IsInstructionLine (length code) bytes line → length code + length bytes ≤ 65535
+      → more ≡ code ++ bytes → IsReadLine (opened done h code hs false) line (opened done h more hs false)
+  instruction-read bytes more line l few e = record {
+    words = block_words (length code) bytes l.insn;
+    next = next_instruction (record {
+      method = method_with h code hs;
+      bytes = bytes;
+      insn = l.insn;
+      one = l.one;
+      few = omega (arith, length-append code bytes, few);
+      from = refl;
+      are = refl;
+      to = ap (λ (c : List ℕ). opened done h c hs false) e;
+    });
+    is = l.is;
+  }
+
+  pub bytes-read : (bytes more line : List ℕ) → IsBytesLine (length code) bytes line → length code + length bytes ≤ 65535
+      → more ≡ code ++ bytes → IsReadLine (opened done h code hs false) line (opened done h more hs true)
+  bytes-read bytes more line l few e = record {
+    words = bytes_words (length code) bytes;
+    next = next_bytes (record {
+      method = method_with h code hs;
+      bytes = bytes;
+      some = l.some;
+      bare = l.bare;
+      none = l.none;
+      few = omega (arith, length-append code bytes, few);
+      from = refl;
+      are = refl;
+      to = ap (λ (c : List ℕ). opened done h c hs true) e;
+    });
+    is = l.is;
+  }
+
+  pub handler-read : (closed : Bool) (x : LaidHandler) (more : List LaidHandler) (line : List ℕ) → IsHandler x → line ≡ joined (handler_words x)
+      → more ≡ hs ++ x ∷ [] → IsReadLine (opened done h code hs closed) line (opened done h code more true)
+  handler-read closed x more line fits is e = record {
+    words = handler_words x;
+    next = next_handler (record {
+      begun = begun h code hs closed;
+      handler = x;
+      fits = fits;
+      from = refl;
+      are = refl;
+      to = ap (λ (xs : List LaidHandler). opened done h code xs true) e;
+    });
+    is = is;
+  }
+
+  pub end-read : (closed : Bool) (more : List ListedMethod) (line : List ℕ) → line ≡ codes "end" → more ≡ done ++ method_with h code hs ∷ []
+      → IsReadLine (opened done h code hs closed) line (between more)
+  end-read closed more line is e = record {
+    words = end_words;
+    next = next_end (record { begun = begun h code hs closed; from = refl; are = refl; to = ap between e });
+    is = is;
+  }
+
+-- ---- what is not
+
+pub none-between : (done : List ListedMethod) (line : List ℕ) → ((m : ListedMethod) → IsMethod m → line ≢ joined (head_words m))
+    → IsNoLine (between done) line
+none-between done line none words after (next_head n) e = none n.method n.bare.is (e ∙ ap joined n.are)
+none-between done line none words after (next_instruction n) e = absurd (false≢true (ap is-begun n.from))
+none-between done line none words after (next_bytes n) e = absurd (false≢true (ap is-begun n.from))
+none-between done line none words after (next_handler n) e = absurd (false≢true (ap is-begun n.from))
+none-between done line none words after (next_end n) e = absurd (false≢true (ap is-begun n.from))
+
+module _ (done : List ListedMethod) (h : Heading) (code : List ℕ) (hs : List LaidHandler) (line : List ℕ) (other : line ≢ codes "end")
+    (no_handler : (x : LaidHandler) → IsHandler x → line ≢ joined (handler_words x)) where
+  pub none-closed : IsNoLine (opened done h code hs true) line
+  none-closed words after (next_head n) e = absurd (false≢true (sym (ap is-begun n.from)))
+  none-closed words after (next_instruction n) e = absurd (false≢true (sym (ap (closed-or true) n.from)))
+  none-closed words after (next_bytes n) e = absurd (false≢true (sym (ap (closed-or true) n.from)))
+  none-closed words after (next_handler n) e = no_handler n.handler n.fits (e ∙ ap joined n.are)
+  none-closed words after (next_end n) e = other (e ∙ ap joined n.are)
+
+  pub none-open : ((bytes : List ℕ) → IsInstructionLine (length code) bytes line → length code + length bytes ≤ 65535 → ⊥)
+      → ((bytes : List ℕ) → IsBytesLine (length code) bytes line → length code + length bytes ≤ 65535 → ⊥)
+      → IsNoLine (opened done h code hs false) line
+  none-open no_insn no_bytes words after (next_head n) e = absurd (false≢true (sym (ap is-begun n.from)))
+  none-open no_insn no_bytes words after (next_instruction n) e =
+      let same : code ≡ n.method.laid.code = ap (λ (o : Option Begun). (method-or (begun h code hs false) o).method.laid.code) n.from in
+      no_insn n.bytes
+      (record {
+        insn = n.insn;
+        one = n.one;
+        is = e ∙ ap joined (n.are ∙ ap (λ (c : List ℕ). block_words (length c) n.bytes n.insn) (sym same));
+      })
+      (omega (arith, n.few, length-append n.method.laid.code n.bytes, ap length same))
+  none-open no_insn no_bytes words after (next_bytes n) e =
+      let same : code ≡ n.method.laid.code = ap (λ (o : Option Begun). (method-or (begun h code hs false) o).method.laid.code) n.from in
+      no_bytes n.bytes
+      (record {
+        some = n.some;
+        bare = n.bare;
+        none = n.none;
+        is = e ∙ ap joined (n.are ∙ ap (λ (c : List ℕ). bytes_words (length c) n.bytes) (sym same));
+      })
+      (omega (arith, n.few, length-append n.method.laid.code n.bytes, ap length same))
+  none-open no_insn no_bytes words after (next_handler n) e = no_handler n.handler n.fits (e ∙ ap joined n.are)
+  none-open no_insn no_bytes words after (next_end n) e = other (e ∙ ap joined n.are)
+
+-- ---- states of the assembler
+
+pub state-none : (done : List ListedMethod) (o : Option OpenMethod) → o ≡ None → state_by done o ≡ between done
+state-none done o e = ap (state_by done) e
+
+pub state-some : (done : List ListedMethod) (o : Option OpenMethod) (m : OpenMethod) → o ≡ Some m → state_by done o ≡ inside done m
+state-some done o m e = ap (state_by done) e
+
+pub few-none : (o : Option OpenMethod) → o ≡ None → IsFewOf o
+few-none o e = subst IsFewOf (sym e) (tt {0})
+
+pub few-some : (o : Option OpenMethod) (m : OpenMethod) → o ≡ Some m → IsFewOf o → length m.code.items ≤ 65535
+few-some o m e h = subst IsFewOf e h
+
+pub match-at : {X : Type 0} (P Q : X → Type 0) (b : Bool) → MatchBool b ((x : X) → P x) ((x : X) → Q x) → (x : X) → MatchBool b (P x) (Q x)
+match-at P Q true h x = h x
+match-at P Q false h x = h x
+
+-- ---- options and tests
+
+pub some-of : {X : Type 0} (o : Option X) (x : X) → o ≡ Some x → (P : X → Type 0) → IfSome o P → P x
+some-of o x e P h = subst (λ p. IfSome p P) e h
+
+pub none-of : {X : Type 0} (o : Option X) → o ≡ None → (Q : Type 0) → IfNone o Q → Q
+none-of o e Q h = subst (λ p. IfNone p Q) e h
+
+pub if-some : {X : Type 0} (o : Option X) (P Q : X → Type 0) → ((x : X) → P x → Q x) → IfSome o P → IfSome o Q
+if-some None P Q f h = h
+if-some (Some x) P Q f h = f x h
+
+pub if-none : {X : Type 0} (o : Option X) (P Q : Type 0) → (P → Q) → IfNone o P → IfNone o Q
+if-none None P Q f h = f h
+if-none (Some x) P Q f h = h
+
+pub match-yes : (b : Bool) (P Q : Type 0) → MatchBool b P Q → b ≡ true → P
+match-yes b P Q h e = subst (λ c. MatchBool c P Q) e h
+
+pub match-no : (b : Bool) (P Q : Type 0) → MatchBool b P Q → b ≡ false → Q
+match-no b P Q h e = subst (λ c. MatchBool c P Q) e h
+
+pub empty-bytes : (xs : List ℕ) → length xs ≡ 0 → xs ≡ []
+empty-bytes [] e = refl
+empty-bytes (x ∷ xs) e = absurd (omega (arith, e))
+
+pub none-begun : (done ms : List ListedMethod) (o : Option OpenMethod) → state_by done o ≡ between ms → o ≡ None
+none-begun done ms None e = refl
+none-begun done ms (Some m) e = absurd (false≢true (sym (ap (λ (s : State). is-begun s.begun) e)))
+
+-- ---- by whether the method is closed
+
+pub instruction-added : (done : List ListedMethod) (h : Heading) (code : List ℕ) (hs : List LaidHandler) (closed : Bool) (bytes more line : List ℕ)
+    → closed ≡ false → IsInstructionLine (length code) bytes line → length code + length bytes ≤ 65535 → more ≡ code ++ bytes
+    → IsReadLine (opened done h code hs closed) line (opened done h more hs closed)
+instruction-added done h code hs closed bytes more line e l few is =
+    subst (λ (b : Bool). IsReadLine (opened done h code hs b) line (opened done h more hs b)) (sym e)
+    (instruction-read done h code hs bytes more line l few is)
+
+pub bytes-added : (done : List ListedMethod) (h : Heading) (code : List ℕ) (hs : List LaidHandler) (closed : Bool) (bytes more line : List ℕ)
+    → closed ≡ false → IsBytesLine (length code) bytes line → length code + length bytes ≤ 65535 → more ≡ code ++ bytes
+    → IsReadLine (opened done h code hs closed) line (opened done h more hs true)
+bytes-added done h code hs closed bytes more line e l few is =
+    subst (λ (b : Bool). IsReadLine (opened done h code hs b) line (opened done h more hs true)) (sym e)
+    (bytes-read done h code hs bytes more line l few is)

@@ -1,0 +1,117 @@
+-- The first fault is found in one pass over the methods.
+use Rattle.std.proofs.Common.{◌≡◌, ◌≢◌, ◌<◌, ◌≤◌, ◌+◌, ℕ, zero, suc, Bool, true, false, cond, min, List, [], ◌∷◌, ◌++◌, length, drop, get_or}
+use Rattle.std.proofs.Common.{Result, Ok, Err, refl, sym, ap, subst, ◌∙◌, arith, rules}
+use Rattle.std.proofs.lemmas.Bool.{false≢true}
+use Rattle.std.proofs.lemmas.List.{drop_more, drop_all, length-drop}
+use Rattle.jc_decode.specs.declared.symbols.LaidHandler.{LaidHandler}
+use Rattle.cap_listing.specs.declared.method.ListedMethod.{ListedMethod}
+use Rattle.cap_listing.specs.declared.fault.AsmFault.{AsmFault}
+use Rattle.cap_listing.specs.declared.fault.AsmFault.TheVariants.{OtherMethod, HandlerRange}
+use Rattle.cap_listing.specs.declared.condition.Condition.{Condition}
+use Rattle.cap_listing.specs.Placing.{is_same, lies_in, other_faults, range_faults, own_faults, faults_from, handler_total, first_refused}
+
+-- ---- faults one list after the other
+
+abbrev is-fine : Result (Unit {0}) AsmFault → Bool
+is-fine (Ok u) = true
+is-fine (Err f) = false
+
+refused-not : (r : Result (Unit {0}) AsmFault) (f : AsmFault) → r ≡ Err f → r ≡ Ok (tt {0}) → ⊥
+refused-not r f e g = false≢true (sym (ap is-fine e) ∙ ap is-fine g)
+
+pub refused-after : (xs ys : List AsmFault) → first_refused xs ≡ Ok (tt {0}) → first_refused (xs ++ ys) ≡ first_refused ys
+refused-after [] ys e = refl
+refused-after (x ∷ xs) ys e = absurd (refused-not (first_refused (x ∷ xs)) x refl e)
+
+pub refused-before : (xs ys : List AsmFault) (f : AsmFault) → first_refused xs ≡ Err f → first_refused (xs ++ ys) ≡ Err f
+refused-before [] ys f e = absurd (refused-not (first_refused []) f e refl)
+refused-before (x ∷ xs) ys f e = e
+
+-- ---- methods that are not the package's own
+
+module _ (n : ℕ) (ms owns : List ListedMethod) (m own : ListedMethod) (h : n < length ms) (k : n < length owns) (is : m ≡ get_or ms n m)
+    (it : own ≡ get_or owns n own) where
+  abbrev later : List AsmFault
+  later = other_faults (n + 1) (drop (n + 1) ms) (drop (n + 1) owns)
+
+  here : other_faults n (drop n ms) (drop n owns) ≡ cond (is_same m own) later (OtherMethod n ∷ later)
+  here =
+      ap (λ (xs : List ListedMethod). other_faults n xs (drop n owns)) (drop_more ms n m h ∙ ap (λ (x : ListedMethod). x ∷ drop (n + 1) ms) (sym is))
+      ∙ ap (other_faults n (m ∷ drop (n + 1) ms)) (drop_more owns n own k ∙ ap (λ (x : ListedMethod). x ∷ drop (n + 1) owns) (sym it))
+
+  pub same-passed : is_same m own ≡ true → first_refused (other_faults n (drop n ms) (drop n owns)) ≡ first_refused later
+  same-passed e = ap first_refused (here ∙ ap (λ (b : Bool). cond b later (OtherMethod n ∷ later)) e)
+
+  pub other-refused : is_same m own ≡ false → first_refused (other_faults n (drop n ms) (drop n owns)) ≡ Err (OtherMethod n)
+  other-refused e = ap first_refused (here ∙ ap (λ (b : Bool). cond b later (OtherMethod n ∷ later)) e)
+
+one-missing : (n : ℕ) (xs ys : List ListedMethod) → length xs ≢ length ys → min (length xs) (length ys) ≡ 0
+    → first_refused (other_faults n xs ys) ≡ Err (OtherMethod n)
+one-missing n [] [] apart h = absurd (apart refl)
+one-missing n [] (y ∷ ys) apart h = refl
+one-missing n (x ∷ xs) [] apart h = refl
+one-missing n (x ∷ xs) (y ∷ ys) apart h = absurd (omega (arith, h))
+
+pub all-passed : (n : ℕ) (ms owns : List ListedMethod) → min (length ms) (length owns) ≤ n → length ms ≡ length owns
+    → first_refused (other_faults n (drop n ms) (drop n owns)) ≡ Ok (tt {0})
+all-passed n ms owns h e =
+    ap (λ (xs : List ListedMethod). first_refused (other_faults n xs (drop n owns))) (drop_all n ms (omega (arith, h, e)))
+    ∙ ap (λ (xs : List ListedMethod). first_refused (other_faults n [] xs)) (drop_all n owns (omega (arith, h, e)))
+
+pub missing-refused : (n j : ℕ) (ms owns : List ListedMethod) → n ≡ min (length ms) (length owns) → j ≡ n → length ms ≢ length owns
+    → first_refused (other_faults n (drop n ms) (drop n owns)) ≡ Err (OtherMethod j)
+missing-refused n j ms owns h same apart =
+    subst (λ (k : ℕ). first_refused (other_faults n (drop n ms) (drop n owns)) ≡ Err (OtherMethod k)) (sym same)
+    (one-missing n (drop n ms) (drop n owns) (λ e. apart (omega (arith, e, h, length-drop n ms, length-drop n owns)))
+    (omega (arith, h, length-drop n ms, length-drop n owns)))
+
+-- ---- handlers
+
+module _ (n size k : ℕ) (hs : List LaidHandler) (h : LaidHandler) (lt : k < length hs) (is : h ≡ get_or hs k h) where
+  abbrev rest : List AsmFault
+  rest = range_faults n size (k + 1) (drop (k + 1) hs)
+
+  handler-here : range_faults n size k (drop k hs) ≡ cond (lies_in h size) rest (HandlerRange n k ∷ rest)
+  handler-here =
+      ap (range_faults n size k) (drop_more hs k h lt ∙ ap (λ (x : LaidHandler). x ∷ drop (k + 1) hs) (sym is))
+
+  pub handler-passed : lies_in h size ≡ true → first_refused (range_faults n size k (drop k hs)) ≡ first_refused rest
+  handler-passed e = ap first_refused (handler-here ∙ ap (λ (b : Bool). cond b rest (HandlerRange n k ∷ rest)) e)
+
+  pub handler-refused : lies_in h size ≡ false → first_refused (range_faults n size k (drop k hs)) ≡ Err (HandlerRange n k)
+  handler-refused e = ap first_refused (handler-here ∙ ap (λ (b : Bool). cond b rest (HandlerRange n k ∷ rest)) e)
+
+pub handlers-passed : (n size k : ℕ) (hs : List LaidHandler) → length hs ≤ k → first_refused (range_faults n size k (drop k hs)) ≡ Ok (tt {0})
+handlers-passed n size k hs h = ap (λ (xs : List LaidHandler). first_refused (range_faults n size k xs)) (drop_all k hs h)
+
+-- ---- one method after the other
+
+module _ (c : Condition) (n : ℕ) (ms : List ListedMethod) (m : ListedMethod) (lt : n < length ms) (is : m ≡ get_or ms n m) where
+  method-here : faults_from c n (drop n ms) ≡ own_faults c n m ++ faults_from c (n + 1) (drop (n + 1) ms)
+  method-here =
+      ap (faults_from c n) (drop_more ms n m lt ∙ ap (λ (x : ListedMethod). x ∷ drop (n + 1) ms) (sym is))
+
+  pub method-passed : first_refused (own_faults c n m) ≡ Ok (tt {0})
+      → first_refused (faults_from c n (drop n ms)) ≡ first_refused (faults_from c (n + 1) (drop (n + 1) ms))
+  method-passed e = ap first_refused method-here ∙ refused-after (own_faults c n m) (faults_from c (n + 1) (drop (n + 1) ms)) e
+
+  pub method-refused : (f : AsmFault) → first_refused (own_faults c n m) ≡ Err f → first_refused (faults_from c n (drop n ms)) ≡ Err f
+  method-refused f e = ap first_refused method-here ∙ refused-before (own_faults c n m) (faults_from c (n + 1) (drop (n + 1) ms)) f e
+
+pub methods-passed : (c : Condition) (n : ℕ) (ms : List ListedMethod) → length ms ≤ n → first_refused (faults_from c n (drop n ms)) ≡ Ok (tt {0})
+methods-passed c n ms h = ap (λ (xs : List ListedMethod). first_refused (faults_from c n xs)) (drop_all n ms h)
+
+-- ---- the sum of the handlers, which stands still at the greatest of 64 bits
+
+pub total-step : (ms : List ListedMethod) (n : ℕ) (m : ListedMethod) (sum next : ℕ) → n < length ms → m ≡ get_or ms n m
+    → next ≡ min (sum + length m.laid.handlers) 18446744073709551615
+    → min (next + handler_total (drop (n + 1) ms)) 18446744073709551615 ≡ min (sum + handler_total (drop n ms)) 18446744073709551615
+total-step ms n m sum next lt is e =
+    let more : handler_total (drop n ms) ≡ length m.laid.handlers + handler_total (drop (n + 1) ms) =
+    ap handler_total (drop_more ms n m lt ∙ ap (λ (x : ListedMethod). x ∷ drop (n + 1) ms) (sym is)) in
+    omega (arith, e, more)
+
+pub total-end : (ms : List ListedMethod) (n sum : ℕ) → length ms ≤ n → sum ≤ 18446744073709551615
+    → min (sum + handler_total (drop n ms)) 18446744073709551615 ≡ min (handler_total ms) 18446744073709551615
+    → sum ≡ min (handler_total ms) 18446744073709551615
+total-end ms n sum h few e = omega (arith, few, e, ap handler_total (drop_all n ms h))

@@ -1,0 +1,141 @@
+ghost use Rattle.std.specs.Prelude.{◌≡◌, min};
+ghost use Rattle.cap_listing.specs.declared.condition.Condition.TheVariants as conditions;
+ghost use Rattle.cap_listing.specs.Placing.{is_same, lies_in, other_faults, range_faults, own_faults, faults_from, handler_total, total_faults, faults, first_refused};
+
+use crate::condition::Condition;
+use crate::fault::AsmFault;
+use crate::method::ListedMethod;
+use jc_decode::LaidHandler;
+
+/// Whether two methods have the same numbers and as many argument words.
+fn is_same(method: &ListedMethod, own: &ListedMethod) -> bool
+    ensures { result ≡ is_same method.now own.now }
+{
+    method.class_no == own.class_no
+        && method.method_no == own.method_no
+        && method.laid.nargs == own.laid.nargs
+}
+
+/// The less of two numbers.
+fn less(first: usize, second: usize) -> usize
+    ensures { result ≡ min first second }
+{
+    if first < second { first } else { second }
+}
+
+/// Refuses the first method that is not the package's own of its number.
+fn check_others(methods: &[ListedMethod], owns: &[ListedMethod]) -> Result<(), AsmFault>
+    ensures { result ≡ first_refused (other_faults 0 methods.now owns.now) }
+{
+    let both = less(methods.len(), owns.len());
+    'methods: for n in 0..both {
+        if !is_same(&methods[n], &owns[n]) {
+            return Err(AsmFault::OtherMethod(n));
+        }
+    }
+    if methods.len() == owns.len() {
+        Ok(())
+    } else {
+        Err(AsmFault::OtherMethod(both))
+    }
+}
+
+/// Whether a handler's range and entry lie in a code of this size.
+fn lies_in(handler: LaidHandler, size: usize) -> bool
+    ensures { result ≡ lies_in handler size }
+{
+    let end = handler.start as usize + handler.length as usize;
+    end <= size && (handler.entry as usize) < size
+}
+
+/// Refuses the first handler of the n-th method that does not lie in a code of this size.
+fn check_handlers(n: usize, size: usize, handlers: &[LaidHandler]) -> Result<(), AsmFault>
+    ensures { result ≡ first_refused (range_faults n size 0 handlers.now) }
+{
+    'handlers: for number in 0..handlers.len() {
+        if !lies_in(handlers[number], size) {
+            return Err(AsmFault::HandlerRange(n, number));
+        }
+    }
+    Ok(())
+}
+
+fn check_registers(n: usize, method: &ListedMethod) -> Result<(), AsmFault>
+    ensures { result ≡ first_refused (own_faults conditions.Registers n method.now) }
+{
+    let count = u16::from(method.laid.nargs) + u16::from(method.laid.max_locals);
+    if count > 255 {
+        return Err(AsmFault::Registers(n, count));
+    }
+    Ok(())
+}
+
+fn check_length(n: usize, method: &ListedMethod) -> Result<(), AsmFault>
+    ensures { result ≡ first_refused (own_faults conditions.Length n method.now) }
+{
+    let size = method.laid.code.len();
+    if size == 0 || size > 32767 {
+        return Err(AsmFault::CodeLength(n, size));
+    }
+    Ok(())
+}
+
+/// Refuses the n-th method where it does not meet a condition.
+fn check_one(condition: Condition, n: usize, method: &ListedMethod) -> Result<(), AsmFault>
+    ensures { result ≡ first_refused (own_faults condition n method.now) }
+{
+    match condition {
+        Condition::Registers => check_registers(n, method),
+        Condition::Handlers => {
+            check_handlers(n, method.laid.code.len(), method.laid.handlers.as_slice())
+        }
+        Condition::Length => check_length(n, method),
+    }
+}
+
+/// Refuses the first method that does not meet a condition.
+fn check_each(condition: Condition, methods: &[ListedMethod]) -> Result<(), AsmFault>
+    ensures { result ≡ first_refused (faults_from condition 0 methods.now) }
+{
+    'methods: for n in 0..methods.len() {
+        match check_one(condition, n, &methods[n]) {
+            Ok(()) => {}
+            Err(fault) => return Err(fault),
+        }
+    }
+    Ok(())
+}
+
+/// How many handlers methods have; the greatest number of 64 bits where they are more.
+fn total(methods: &[ListedMethod]) -> usize
+    ensures { result ≡ min (handler_total methods.now) 18446744073709551615 }
+{
+    let mut total: usize = 0;
+    'methods: for method in methods {
+        total = total.saturating_add(method.laid.handlers.len());
+    }
+    total
+}
+
+/// Refuses methods of more than 255 handlers together.
+fn check_total(methods: &[ListedMethod]) -> Result<(), AsmFault>
+    ensures { result ≡ first_refused (total_faults methods.now) }
+{
+    let count = total(methods);
+    if count > 255 {
+        return Err(AsmFault::TooManyHandlers(count));
+    }
+    Ok(())
+}
+
+/// Refuses methods that do not fit in place of a package's own: by the first condition that is broken, and of that the
+/// first method.
+pub(crate) fn check(methods: &[ListedMethod], owns: &[ListedMethod]) -> Result<(), AsmFault>
+    ensures { result ≡ first_refused (faults owns.now methods.now) }
+{
+    check_others(methods, owns)?;
+    check_each(Condition::Registers, methods)?;
+    check_each(Condition::Handlers, methods)?;
+    check_each(Condition::Length, methods)?;
+    check_total(methods)
+}
