@@ -7,7 +7,8 @@ use Rattle.std.proofs.lemmas.Fmt.{decimal_injective, signed_decimal_injective, d
 use Rattle.std.proofs.lemmas.Bool.{eqb-false}
 use Rattle.cap_text.specs.Word.{IsArgWord, AreArgWords}
 use Rattle.cap_text.specs.Probe.{ProbeRequest, IsProbe}
-use Rattle.cap_text.specs.Show.{ShowRequest, IsShow}
+use Rattle.cap_text.specs.OfDir.{OfDirRequest, IsOfDir}
+use Rattle.cap_text.specs.OutOfDir.{OutOfDirRequest, IsOutOfDir}
 use Rattle.cap_text.specs.Check.{CheckRequest, IsCheck}
 use Rattle.cap_text.specs.Verify.{VerifyRequest, IsVerify}
 use Rattle.cap_text.specs.Entry.{IsEntryWord}
@@ -15,7 +16,8 @@ use Rattle.std.specs.List.{after_first}
 use Rattle.cap_text.specs.Run.{RunRequest, AreRunWords, is_end}
 use Rattle.cap_text.specs.Transform.{TransformRequest, IsTransform}
 use Rattle.cap_text.specs.Generate.{GenerateRequest, IsGenerate}
-use Rattle.cap_text.specs.Request.{Request, probe, show, check, verify, defend, run, transform, trial, generate, IsRequest, IsUsage, OneRequest}
+use Rattle.cap_text.specs.EntryWords.{EntryRequest, AreEntryWords}
+use Rattle.cap_text.specs.Request.{Request, probe, show, list, asm, check, verify, defend, run, transform, trial, generate, bound, IsRequest, IsUsage, OneRequest}
 use Rattle.cap_text.specs.declared.entry.Entry.{Entry}
 use Rattle.vm_step.specs.Arguments.{Argument, number, null, bytes}
 use Rattle.hex.specs.Hex.{encode_lower, decode_of, IsBytes}
@@ -72,10 +74,19 @@ one_probe (dir ∷ budget ∷ args) p q is_p is_q =
     let same_args = one_list args p.args q.args is_p.3 is_q.3 in
     λ i. record { dir = same_dir i; budget = steps i; args = same_args i }
 
-one_show : (operands : List (List ℕ)) (s t : ShowRequest) → IsShow operands s → IsShow operands t → s ≡ t
-one_show [] s t is_s is_t = absurd is_s
-one_show (dir ∷ []) s t is_s is_t = let same : s.dir ≡ t.dir = is_s.0 ∙ sym is_t.0 in λ i. record { dir = same i }
-one_show (dir ∷ more ∷ rest) s t is_s is_t = absurd is_s
+one_of_dir : (operands : List (List ℕ)) (d e : OfDirRequest) → IsOfDir operands d → IsOfDir operands e → d ≡ e
+one_of_dir [] d e is_d is_e = absurd is_d
+one_of_dir (dir ∷ []) d e is_d is_e = let same : d.dir ≡ e.dir = is_d.0 ∙ sym is_e.0 in λ i. record { dir = same i }
+one_of_dir (dir ∷ more ∷ rest) d e is_d is_e = absurd is_d
+
+one_out_of_dir : (operands : List (List ℕ)) (o p : OutOfDirRequest) → IsOutOfDir operands o → IsOutOfDir operands p → o ≡ p
+one_out_of_dir [] o p is_o is_p = absurd is_o
+one_out_of_dir (out ∷ []) o p is_o is_p = absurd is_o
+one_out_of_dir (out ∷ dir ∷ []) o p is_o is_p =
+    let same_out : o.out ≡ p.out = is_o.0 ∙ sym is_p.0 in
+    let same_dir : o.dir ≡ p.dir = is_o.1 ∙ sym is_p.1 in
+    λ i. record { out = same_out i; dir = same_dir i }
+one_out_of_dir (out ∷ dir ∷ more ∷ rest) o p is_o is_p = absurd is_o
 
 one_check : (operands : List (List ℕ)) (c d : CheckRequest) → IsCheck operands c → IsCheck operands d → c ≡ d
 one_check operands c d is_c is_d = let same : c.dirs ≡ d.dirs = is_c.0 ∙ sym is_d.0 in λ i. record { dirs = same i }
@@ -120,6 +131,13 @@ one_generate (seed ∷ out ∷ []) g h is_g is_h =
     λ i. record { seed = same_seed i; out = same_out i }
 one_generate (seed ∷ out ∷ more ∷ rest) g h is_g is_h = absurd is_g
 
+one_at_entry : (operands : List (List ℕ)) (e f : EntryRequest) → AreEntryWords operands e → AreEntryWords operands f → e ≡ f
+one_at_entry [] e f is_e is_f = absurd is_e
+one_at_entry (entry ∷ dirs) e f is_e is_f =
+    let same_entry : e.entry ≡ f.entry = one_entry entry e.entry f.entry is_e.0 is_f.0 in
+    let same_dirs : e.dirs ≡ f.dirs = is_e.1 ∙ sym is_f.1 in
+    λ i. record { entry = same_entry i; dirs = same_dirs i }
+
 -- ---- the commands' names are apart
 
 -- a name by its first letter and its length
@@ -129,7 +147,9 @@ key name = 100 * first name + length name
 -- that of the command
 key_of : Request → ℕ
 key_of (probe p) = 11205
-key_of (show s) = 11504
+key_of (show d) = 11504
+key_of (list d) = 10804
+key_of (asm o) = 9703
 key_of (check c) = 9905
 key_of (verify v) = 11806
 key_of (defend r) = 10006
@@ -137,11 +157,14 @@ key_of (run r) = 11403
 key_of (transform t) = 11609
 key_of (trial r) = 11605
 key_of (generate g) = 10303
+key_of (bound e) = 9805
 
 named : (name : List ℕ) (operands : List (List ℕ)) (r : Request) → IsRequest (name ∷ operands) r → key name ≡ key_of r
 unfolding first key key_of
 named name operands (probe p) is = ap key is.0
-named name operands (show s) is = ap key is.0
+named name operands (show d) is = ap key is.0
+named name operands (list d) is = ap key is.0
+named name operands (asm o) is = ap key is.0
 named name operands (check c) is = ap key is.0
 named name operands (verify v) is = ap key is.0
 named name operands (defend r) is = ap key is.0
@@ -149,6 +172,7 @@ named name operands (run r) is = ap key is.0
 named name operands (transform t) is = ap key is.0
 named name operands (trial r) is = ap key is.0
 named name operands (generate g) is = ap key is.0
+named name operands (bound e) is = ap key is.0
 
 -- words that begin with the command's name and are outside its grammar ask for nothing
 only_check : (name : List ℕ) (operands : List (List ℕ)) → name ≡ codes "check" → ((c : CheckRequest) → IsCheck operands c → ⊥)
@@ -179,7 +203,9 @@ pub one_request : (words : List (List ℕ)) → OneRequest words
 unfolding key_of
 one_request [] r s is_r is_s = absurd is_r
 one_request (name ∷ operands) (probe p) (probe q) is_r is_s = ap probe (one_probe operands p q is_r.1 is_s.1)
-one_request (name ∷ operands) (show s) (show t) is_r is_s = ap show (one_show operands s t is_r.1 is_s.1)
+one_request (name ∷ operands) (show d) (show e) is_r is_s = ap show (one_of_dir operands d e is_r.1 is_s.1)
+one_request (name ∷ operands) (list d) (list e) is_r is_s = ap list (one_of_dir operands d e is_r.1 is_s.1)
+one_request (name ∷ operands) (asm o) (asm p) is_r is_s = ap asm (one_out_of_dir operands o p is_r.1 is_s.1)
 one_request (name ∷ operands) (check c) (check d) is_r is_s = ap check (one_check operands c d is_r.1 is_s.1)
 one_request (name ∷ operands) (verify v) (verify w) is_r is_s = ap verify (one_verify operands v w is_r.1 is_s.1)
 one_request (name ∷ operands) (defend r) (defend s) is_r is_s = ap defend (one_run operands r s is_r.1 is_s.1)
@@ -187,5 +213,6 @@ one_request (name ∷ operands) (run r) (run s) is_r is_s = ap run (one_run oper
 one_request (name ∷ operands) (transform t) (transform u) is_r is_s = ap transform (one_transform operands t u is_r.1 is_s.1)
 one_request (name ∷ operands) (trial r) (trial s) is_r is_s = ap trial (one_run operands r s is_r.1 is_s.1)
 one_request (name ∷ operands) (generate g) (generate h) is_r is_s = ap generate (one_generate operands g h is_r.1 is_s.1)
+one_request (name ∷ operands) (bound e) (bound f) is_r is_s = ap bound (one_at_entry operands e f is_r.1 is_s.1)
 one_request (name ∷ operands) r s is_r is_s =
     absurd (eqb-false (key_of r) (key_of s) refl (sym (named name operands r is_r) ∙ named name operands s is_s))

@@ -1,7 +1,9 @@
 pub mod Word
 pub mod Entry
+pub mod EntryWords
 pub mod Probe
-pub mod Show
+pub mod OfDir
+pub mod OutOfDir
 pub mod Check
 pub mod Verify
 pub mod Run
@@ -19,6 +21,7 @@ pub mod Room
 pub mod Ending
 pub mod Line
 pub mod Transformed
+pub mod Assembled
 pub mod Trial
 pub mod Generate
 pub mod Table

@@ -69,6 +69,14 @@ refused_flow_line method end = concat (codes "refused " ∷ method_text method �
 abbrev pub accepted_line : ℕ → List ℕ
 accepted_line count = concat (codes "accepted " ∷ decimal count ∷ codes " methods\n" ∷ [])
 
+-- the runs of an entry take so many words of frames, and so many frames, at most
+abbrev pub bound_line : ℕ → ℕ → List ℕ
+bound_line words frames = concat (codes "bound " ∷ decimal words ∷ codes " words " ∷ decimal frames ∷ codes " frames\n" ∷ [])
+
+-- calls from an entry come to a method again
+abbrev pub cycle_line : ℕ → ℕ → List ℕ
+cycle_line class_no method_no = concat (codes "cycle method " ∷ decimal class_no ∷ codes "." ∷ decimal method_no ∷ codes "\n" ∷ [])
+
 -- the method has no card typing
 abbrev pub refused_card_line : MethodNumber → CardFault → List ℕ
 refused_card_line method fault =

@@ -13,7 +13,7 @@ use Rattle.vm_step.specs.declared.ending.Ending.TheVariants as endings
 use Rattle.cap_text.specs.Ending.{ending_line, static_lines, array_line}
 use Rattle.cap_text.specs.Table.{component_line}
 use Rattle.cap_text.specs.Line.{malformed_line, not_linked_line, not_started_line, refused_bare_line, typed_line, refused_flow_line}
-use Rattle.cap_text.specs.Line.{bare_ending_line, accepted_line, refused_card_line}
+use Rattle.cap_text.specs.Line.{bare_ending_line, accepted_line, bound_line, cycle_line, refused_card_line}
 use Rattle.cap_text.specs.Transformed.{transformed_line, registers_limit_line, stack_limit_line, part_limit_line}
 use Rattle.card_typing.specs.declared.fault.CardKind.TheVariants as cards
 use Rattle.card_typing.specs.declared.fault.CardKind.TheVariants.{StackAtBranch}
@@ -80,6 +80,14 @@ handler_within_instruction : refused_flow_line (record { «package» = 0; class_
     ≡ codes "refused package 0 method 2.1 place 9 BadHandler 4\n"
 unfolding digits
 handler_within_instruction = refl
+
+bound_said : bound_line 10 1 ≡ codes "bound 10 words 1 frames\n"
+unfolding digits
+bound_said = refl
+
+cycle_said : cycle_line 0 1 ≡ codes "cycle method 0.1\n"
+unfolding digits
+cycle_said = refl
 
 two_accepted : accepted_line 2 ≡ codes "accepted 2 methods\n"
 unfolding digits

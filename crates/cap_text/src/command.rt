@@ -1,11 +1,13 @@
 ghost use Rattle.std.specs.Prelude.{IfOk, IfSome, IfNone};
 ghost use Rattle.cap_text.specs.Request.{Request, IsRequest, IsUsage, request_of, OneRequest};
 
+use crate::at_entry::AtEntry;
 use crate::check::Check;
 use crate::generate::Generate;
+use crate::of_dir::OfDir;
+use crate::out_of_dir::OutOfDir;
 use crate::probe::Probe;
 use crate::run::Run;
-use crate::show::Show;
 use crate::transform::Transform;
 use crate::verify::Verify;
 use cap_files::Words;
@@ -15,7 +17,9 @@ use std::alloc::{AllocError, Global};
 #[derive(Drop)]
 pub enum Command<'a> {
     Probe(Probe<'a>),
-    Show(Show<'a>),
+    Show(OfDir<'a>),
+    List(OfDir<'a>),
+    Asm(OutOfDir<'a>),
     Check(Check<'a>),
     Verify(Verify<'a>),
     Defend(Run<'a>),
@@ -23,6 +27,7 @@ pub enum Command<'a> {
     Transform(Transform<'a>),
     Trial(Run<'a>),
     Generate(Generate<'a>),
+    Bound(AtEntry<'a>),
 }
 
 /// The command that the words spell, where they spell one. The arguments of a run take memory.
@@ -40,7 +45,7 @@ pub fn read_command<'a>(alloc: Global, words: &'a Words) -> Result<Option<Comman
         return Ok(Probe::read(alloc, operands)?.map(Command::Probe));
     }
     if name == "show" {
-        return Ok(Show::read(operands).map(Command::Show));
+        return Ok(OfDir::read(operands).map(Command::Show));
     }
     if name == "check" {
         return Ok(Check::read(operands).map(Command::Check));
@@ -62,6 +67,15 @@ pub fn read_command<'a>(alloc: Global, words: &'a Words) -> Result<Option<Comman
     }
     if name == "gen" {
         return Ok(Generate::read(operands).map(Command::Generate));
+    }
+    if name == "list" {
+        return Ok(OfDir::read(operands).map(Command::List));
+    }
+    if name == "asm" {
+        return Ok(OutOfDir::read(operands).map(Command::Asm));
+    }
+    if name == "bound" {
+        return Ok(AtEntry::read(operands).map(Command::Bound));
     }
     Ok(None)
 }

@@ -3,7 +3,10 @@
 //! for the words, on `itoa` for numbers and on `hex` for bytes.
 #![tactic(auto)]
 
+mod asm_line;
+mod at_entry;
 mod bare;
+mod bound_line;
 mod card;
 mod check;
 mod command;
@@ -14,12 +17,13 @@ mod flow;
 mod generate;
 mod line;
 mod linked;
+mod of_dir;
+mod out_of_dir;
 mod printed;
 mod probe;
 mod room;
 mod rule;
 mod run;
-mod show;
 mod start;
 mod table;
 mod transform;
@@ -28,6 +32,9 @@ mod trial;
 mod verify;
 mod word;
 
+pub use asm_line::{assembled, not_assembled};
+pub use at_entry::AtEntry;
+pub use bound_line::{bounded, cycle};
 pub use check::Check;
 pub use command::{Command, read_command};
 pub use ending::{write_array_head, write_element, write_ending, write_static};
@@ -38,10 +45,11 @@ pub use line::{
     MethodNumber, accepted, bare_ending, malformed, not_linked, not_started, refused_bare,
     refused_card, refused_flow, typed, write_not_started, write_refused_card,
 };
+pub use of_dir::OfDir;
+pub use out_of_dir::OutOfDir;
 pub use probe::Probe;
 pub use room::Room;
 pub use run::Run;
-pub use show::Show;
 pub use table::component_table;
 pub use transform::Transform;
 pub use transform_line::{limit_code, limit_part, limit_registers, limit_stack, transformed};

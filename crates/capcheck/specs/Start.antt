@@ -28,8 +28,8 @@ abbrev pub longest_from : ℕ → List (List ℕ) → ℕ
 longest_from least [] = least
 longest_from least (word ∷ words) = longest_from (max least (in_32_bits (length word))) words
 
--- the command that the words spell ends with this status over some folders, the memory of some card and some output
-pub record EndsWith (words : List (List ℕ)) (status : ℕ) : Type 0 where
+-- the command that the words spell may end with this status: it does over some folders, the memory of some card and some output
+pub record MayEndWith (words : List (List ℕ)) (status : ℕ) : Type 0 where
   pub before : Outside
   pub after : Outside
   pub verdict : Verdict

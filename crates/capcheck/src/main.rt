@@ -7,7 +7,7 @@ ghost use Rattle.std.specs.Prelude.{◌≡◌, ◌≤◌, map, drop, length, str
 ghost use Rattle.std.specs.Vec.Iter.{into_iter_items};
 ghost use Rattle.std.specs.IoError.{error_kind};
 ghost use Rattle.capcheck.specs.declared.NoStart.TheVariants.{Memory};
-ghost use Rattle.capcheck.specs.Start.{EndsWith, in_32_bits, longest_from, start_by, status_of_no_start};
+ghost use Rattle.capcheck.specs.Start.{MayEndWith, in_32_bits, longest_from, start_by, status_of_no_start};
 
 use cap_files::{DirFolder, OutSink, Words};
 use capcheck_core::capcheck;
@@ -71,7 +71,7 @@ fn run(rt: &HostRuntime) -> Result<u8, NoStart> {
 
 /// Runs the command that the words spell, over the machine's folders and standard output.
 fn run_words(rt: &HostRuntime, words: &Words) -> Result<u8, NoStart>
-    ensures { IfOk result (EndsWith words.now) }
+    ensures { IfOk result (MayEndWith words.now) }
 {
     let alloc = rt.alloc();
     let mut folder = DirFolder::new(rt, alloc, longest(words))?;

@@ -8,18 +8,21 @@ use Rattle.cap_bare.specs.Typing.{CardTyping}
 use Rattle.vm_step.specs.Arguments.{Argument, number}
 use Rattle.vm_step.specs.declared.start_fault.StartFault.{StartFault}
 use Rattle.vm_step.specs.declared.start_fault.StartFault.TheVariants.{NoEntry, NotStatic, ArgCount, ArgKind, ArgRoom}
+use Rattle.cap_text.specs.OutOfDir.{OutOfDirRequest}
 use Rattle.cap_text.specs.Probe.{ProbeRequest}
 use Rattle.cap_text.specs.Run.{RunRequest}
 use Rattle.cap_text.specs.Transform.{TransformRequest}
+use Rattle.cap_text.specs.EntryWords.{EntryRequest}
 use Rattle.cap_text.specs.Generate.{GenerateRequest}
 use Rattle.xf_pack.specs.Ends.{IsPartLong}
 use Rattle.capcheck_core.specs.Generate.{generated, GeneratesIn, Generates}
-use Rattle.cap_text.specs.Request.{Request, probe, show, check, verify, defend, run, transform, trial, generate}
+use Rattle.cap_text.specs.Request.{Request, probe, show, list, asm, check, verify, defend, run, transform, trial, generate, bound}
 use Rattle.capcheck_core.specs.declared.verdict.Verdict.{Verdict}
 use Rattle.capcheck_core.specs.declared.verdict.Verdict.TheVariants.{Done, Refused, Limit, Malformed, Usage, ReadFault, StoreFault, Memory}
 use Rattle.capcheck_core.specs.Verdict.{status_of}
 use Rattle.capcheck_core.specs.Check.{ChecksWorld}
 use Rattle.capcheck_core.specs.Verify.{HaveCardTypings, VerifiesWorld}
+use Rattle.capcheck_core.specs.Bounding.{bound_fault, BoundsWorld}
 use Rattle.capcheck_core.specs.Defend.{run_fault, DefendsWorld}
 use Rattle.capcheck_core.specs.Run.{RunsWorld}
 use Rattle.capcheck_core.specs.Transform.{StopsBefore, TransformsWorld}
@@ -27,7 +30,8 @@ use Rattle.capcheck_core.specs.Trial.{TriesWorld}
 use Rattle.capcheck_core.specs.World.{Own, of_world, OverWorld}
 use Rattle.capcheck_core.specs.Outside.{Outside}
 use Rattle.capcheck_core.specs.Answers.{Answers, IsVerdict}
-use Rattle.capcheck_core.specs.Completeness.{Needs, CanProbe, CanRead, CanOver, CanBring, CanGenerate, AreWithinLimits, CanDo, NoFault, Completes}
+use Rattle.capcheck_core.specs.Assemble.{Assembles}
+use Rattle.capcheck_core.specs.Completeness.{Needs, CanProbe, CanRead, CanAssemble, CanOver, CanBring, CanGenerate, AreWithinLimits, CanDo, NoFault, Completes}
 use Rattle.capcheck_core.specs.MethodFile.{IsMethodFile}
 use Rattle.capcheck_core.specs.Probe.{ProbesFolder, FailsMethodPart, Probes, OfMethodPart, OfMethod, IsRefusal, IsUnstarted, IsNoMethod, method_key}
 use Rattle.capcheck_core.specs.Report.{Seen, IsReported}
@@ -35,7 +39,9 @@ use Rattle.capcheck_core.specs.Shorts.{IsShort, AreShorts, RefusesStart}
 use Rattle.capcheck_core.specs.OverFolders.{OverFolders}
 use Rattle.capcheck_core.specs.OverPackage.{OwnOne, StopsAtPackage, OverPackage}
 use Rattle.capcheck_core.specs.Show.{ShowsTable}
+use Rattle.capcheck_core.specs.Listed.{ListsMethods}
 use Rattle.capcheck_core.specs.Typed.{AreTyped}
+use Rattle.capcheck_core.proofs.Assembles.{assembles}
 use Rattle.capcheck_core.proofs.MethodFiles.{same_method, no_breach}
 use Rattle.capcheck_core.proofs.WorldComplete.{no_lack, reaches}
 use Rattle.cap_package.specs.PackageRecord.{PackageRecord}
@@ -147,6 +153,19 @@ tables parts p before after (Done text) own = inl refl
 tables parts p before after Memory own = inr refl
 tables parts p before after _ own = absurd own.1
 
+-- a listing is told
+lists : (parts : List Lent) (p : PackageRecord) (before after : Folders) (verdict : Verdict) → ListsMethods parts p before after verdict → Completed verdict
+lists parts p before after (Done text) own = inl refl
+lists parts p before after Memory own = inr refl
+lists parts p before after _ own = absurd own.1
+
+-- methods that fit the package in the folder are put into it
+can_assemble : (o : OutOfDirRequest) (before after : Folders) (sink put : Seen) (verdict : Verdict) → CanAssemble o before
+    → NoFault before after sink put → Assembles o before after verdict → Completed verdict
+can_assemble o before after sink put verdict can calm (inl stops) = has_read o.dir before after sink put verdict can.reads calm stops
+can_assemble o before after sink put verdict can calm (inr of) =
+    assembles o before after can of.parts of.read of.loaded of.stands verdict calm.loads calm.stores of.holds
+
 -- ---- over a world
 
 -- a command over the world that the folders make does its work, where its last step does
@@ -191,6 +210,15 @@ module _ (before after : Outside) where
   ran r w (Malformed text) carded begins own = let first = own.1.unbegun.first in absurd (cc)
   ran r w (Refused text) carded begins own = absurd (own.1.first.lacks (carded own.1.method own.1.first.asked))
   ran r w _ carded begins own = absurd own.1
+
+  -- nor does that of a bound, where a run of the entry may begin
+  bounded : (e : EntryRequest) (w : Linked) (verdict : Verdict) → HaveCardTypings w → bound_fault w e ≡ None → BoundsWorld e w before after verdict
+      → Completed verdict
+  bounded e w (Done text) carded begins own = inl refl
+  bounded e w Memory carded begins own = inr refl
+  bounded e w (Malformed text) carded begins own = let first = own.1.first in absurd (cc)
+  bounded e w (Refused text) carded begins own = absurd (own.1.first.lacks (carded own.1.method own.1.first.asked))
+  bounded e w _ carded begins own = absurd own.1
 
   -- nor does a package that can be brought into another form keep from it
   not_stopped : (packages : List PackageRecord) (w : Linked) (verdict : Verdict) → CanBring packages w → StopsBefore packages w verdict
@@ -246,9 +274,13 @@ can_do : (r : Request) (before after : Outside) (sink put : Seen) (verdict : Ver
     → NoFault before.folders after.folders sink put
     → Answers r before after verdict → Completed verdict
 can_do (probe p) before after sink put verdict can calm answers = can_probe p before.folders after.folders sink put verdict can calm answers.0
-can_do (show s) before after sink put verdict can calm answers =
-    over_package ShowsTable s.dir before.folders after.folders sink put verdict (λ parts p. tables parts p before.folders after.folders verdict) can calm
+can_do (show d) before after sink put verdict can calm answers =
+    over_package ShowsTable d.dir before.folders after.folders sink put verdict (λ parts p. tables parts p before.folders after.folders verdict) can calm
     answers.0
+can_do (list d) before after sink put verdict can calm answers =
+    over_package ListsMethods d.dir before.folders after.folders sink put verdict (λ parts p. lists parts p before.folders after.folders verdict) can calm
+    answers.0
+can_do (asm o) before after sink put verdict can calm answers = can_assemble o before.folders after.folders sink put verdict can calm answers.0
 can_do (check c) before after sink put verdict can calm answers =
     over_world (of_world ChecksWorld) (λ packages roles w. AreTyped w) c.dirs before after sink put verdict
     (λ packages roles w. types before after w verdict) can calm answers
@@ -268,6 +300,9 @@ can_do (trial r) before after sink put verdict can calm answers =
     over_world (TriesWorld r) (λ packages roles w. CanBring packages w × (run_fault w r ≡ None)) r.dirs before after sink put verdict
     (λ packages roles w has. tried before after r packages roles w verdict has.0 has.1) can calm answers
 can_do (generate g) before after sink put verdict can calm answers = can_generate g before after sink put verdict can calm answers
+can_do (bound e) before after sink put verdict can calm answers =
+    over_world (of_world (BoundsWorld e)) (λ packages roles w. HaveCardTypings w × (bound_fault w e ≡ None)) e.dirs before after sink put verdict
+    (λ packages roles w has. bounded before after e w verdict has.0 has.1) can calm answers
 
 reported : (verdict : Verdict) (before after : Folders) (sink put : Seen) (status : ℕ) → NoFault before after sink put
     → IsReported verdict sink put status

@@ -11,6 +11,7 @@ pub mod Typings
 pub mod Cardings
 pub mod Worlds
 pub mod WorldComplete
+pub mod Assembles
 pub mod Complete
 pub mod Ran
 pub mod Generates

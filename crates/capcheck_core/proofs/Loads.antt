@@ -135,7 +135,7 @@ opening_directory : (parts : List Lent) (o : Opening) → IsOpening parts o → 
 unfolding read_directory
 opening_directory parts o is = ap (λ h. h >>= λ items. read_part (directory_info items.format) 2 parts) is.header ∙ is.directory
 
-asked_by : (tag : ℕ) (xs ys : List Lent) → held xs 1 ≡ held ys 1 → held xs 2 ≡ held ys 2 → is_asked xs tag ≡ is_asked ys tag
+pub asked_by : (tag : ℕ) (xs ys : List Lent) → held xs 1 ≡ held ys 1 → held xs 2 ≡ held ys 2 → is_asked xs tag ≡ is_asked ys tag
 asked_by tag xs ys header directory = ap (λ d. is_required tag || (is_optional tag && is_sized d tag)) (directory_same xs ys header directory)
 
 -- of the first components the same is known whatever is held

@@ -1,7 +1,7 @@
 -- What status 0 promises, from the answers: no verdict but Done has this status, and what Done says is the promise.
 use Rattle.std.proofs.Common.{◌≡◌, ℕ, ◌<◌, ◌≤◌, List, [], ◌∷◌, Option, Some, None, IsNone, Bool, true, false, cond, eqb, refl, sym, ap}
 use Rattle.std.proofs.Common.{subst, ◌∙◌, inl, inr, arith}
-use Rattle.std.specs.Prelude.{IfSome, IsSomeAnd, string_bytes}
+use Rattle.std.specs.Prelude.{IfSome, IsSomeAnd, length, string_bytes}
 use Rattle.std.specs.FinMap as map
 use Rattle.std.specs.Cmp.Lexicographic.{slice_cmp, nat_list_cmp_total}
 use Rattle.std.specs.declared.cmp.Ordering.{Ordering}
@@ -11,18 +11,28 @@ use Rattle.cap_files.specs.Folder.{Parts, Folders}
 use Rattle.cap_files.proofs.Keys.{same_key}
 use Rattle.cap_components.proofs.PartsLemmas.{held-other, held-same}
 use Rattle.cap_gen.specs.Linked.{roles}
+use Rattle.cap_listing.specs.Methods.{methods_of}
+use Rattle.cap_listing.specs.Placing.{placed}
+use Rattle.cap_listing.specs.Text.{Lists}
+use Rattle.cap_listing.proofs.Replaced.{methods-replaced}
 use Rattle.cap_package.specs.Parts.{Lent, held, HasEachOnce}
-use Rattle.cap_text.specs.Request.{Request, probe, show, check, verify, defend, run, transform, trial, generate}
+use Rattle.cap_text.specs.Assembled.{assembled_line}
+use Rattle.law_package.specs.Rewritten.{IsRewritten}
+use Rattle.cap_text.specs.OutOfDir.{OutOfDirRequest}
+use Rattle.cap_text.specs.Request.{Request, probe, show, list, asm, check, verify, defend, run, transform, trial, generate, bound}
 use Rattle.jc_base.specs.World.{Linked}
 use Rattle.capcheck_core.specs.declared.verdict.Verdict.{Verdict}
 use Rattle.capcheck_core.specs.declared.verdict.Verdict.TheVariants.{Done, Refused, Limit, Malformed, Usage, ReadFault, StoreFault, Memory}
 use Rattle.capcheck_core.specs.Answers.{Answers, IsVerdict}
+use Rattle.capcheck_core.specs.Assemble.{AssemblesPackage}
+use Rattle.capcheck_core.specs.Bounding.{BoundsWorld}
 use Rattle.capcheck_core.specs.Check.{ChecksWorld}
 use Rattle.capcheck_core.specs.Defend.{DefendsWorld}
-use Rattle.capcheck_core.specs.Headline.{HoldWorld, StandIn, AreKept, Promise, Promises}
+use Rattle.capcheck_core.specs.Headline.{HoldWorld, StandIn, AreKept, Assembled, Promise, Promises}
 use Rattle.capcheck_core.specs.Loads.{with_file}
 use Rattle.capcheck_core.specs.Outside.{Outside}
 use Rattle.capcheck_core.specs.OverFolders.{OverFolders}
+use Rattle.capcheck_core.specs.OverPackage.{OfPackage}
 use Rattle.capcheck_core.specs.Report.{Seen, Received, IsReported}
 use Rattle.capcheck_core.specs.Roles.{roles_tag}
 use Rattle.capcheck_core.specs.Run.{RunsWorld}
@@ -154,14 +164,54 @@ over own dirs before after text (inr of) = elim of.holds.holds [
 
 -- ---- each command
 
+assembled : (o : OutOfDirRequest) (before after : Folders) (text : _)
+    → OfPackage before o.dir (λ parts p. AssemblesPackage o parts p before after (Done text)) → Assembled o before after (string_bytes text)
+assembled o before after text of = elim of.holds [
+  | inl stops ↦ absurd stops
+  | inr l ↦ elim l.holds [
+    | inl stops ↦ absurd stops
+    | inr r ↦ elim r.holds [
+      | inl stops ↦ absurd stops
+      | inr ms ↦ let is = ms.holds in
+          let new = is.brings.made.again in
+          let same : methods_of new.made ≡ ms.methods =
+          methods-replaced of.parts of.read new.made ms.methods of.stands is.brings.made.fit new.rewritten in
+          record {
+            parts = of.parts;
+            loaded = of.loaded;
+            read = of.read;
+            stands = of.stands;
+            listing = l.file;
+            there = l.there.there;
+            roles = r.file;
+            beside = r.there;
+            stored = is.brings.parts;
+            made = new.made;
+            again = new.stands;
+            lists = subst (λ ns. Lists ns l.file) (sym same) ms.lists;
+            rewritten = subst (λ ns. IsRewritten of.read (placed of.read ns) new.made) (sym same) new.rewritten;
+            kept = are_kept o.out is.brings.parts _ is.stores is.brings.order before after is.stored;
+            prints = is.prints ∙ ap (λ ns. assembled_line (length ns)) (sym same);
+          }
+    ]
+  ]
+]
+
 done : (r : Request) (before after : Outside) (text : _) → Answers r before after (Done text) → Promise r before after (string_bytes text)
 done (probe p) before after text (inl probes, card) = (record { folders = probes.0; card = card }, probes.1)
 done (probe p) before after text (inr fails, card) = absurd fails
-done (show s) before after text (inl stops, card) = absurd stops
-done (show s) before after text (inr of, card) = (
+done (show d) before after text (inl stops, card) = absurd stops
+done (show d) before after text (inr of, card) = (
   record { folders = of.holds.0; card = card },
   record { parts = of.parts; loaded = of.loaded; read = of.read; stands = of.stands; prints = of.holds.1 },
 )
+done (list d) before after text (inl stops, card) = absurd stops
+done (list d) before after text (inr of, card) = (
+  record { folders = of.holds.0; card = card },
+  record { parts = of.parts; loaded = of.loaded; read = of.read; stands = of.stands; lists = of.holds.1 },
+)
+done (asm o) before after text (inl stops, card) = absurd stops
+done (asm o) before after text (inr of, card) = (card, assembled o before.folders after.folders text of)
 done (check c) before after text answers =
     let o = over (of_world ChecksWorld) c.dirs before after text answers in
     (o.holds.0, record { world = o.world; held = o.held; typed = o.holds.1.typed; prints = o.holds.1.prints })
@@ -216,6 +266,9 @@ done (generate g) before after text (inr of) =
       kept = are_kept g.out is.stored.brings.parts (Some roles) is.stored.stores is.stored.brings.order before.folders after.folders is.stored.stored;
       told = is.told;
     }
+done (bound e) before after text answers =
+    let o = over (of_world (BoundsWorld e)) e.dirs before after text answers in
+    (o.holds.0, record { world = o.world; held = o.held; bounded = o.holds.1 })
 
 -- a verdict with status 0 is Done
 promised : (r : Request) (before after : Outside) (sink put : Seen) (verdict : Verdict) → status_of verdict ≡ 0 → Received sink put (text_of verdict)

@@ -1,7 +1,8 @@
 -- A list of words asks for one thing, so the verdict for it is the verdict for whatever they ask.
 use Rattle.std.proofs.Common.{◌≡◌, List, ℕ, subst, sym, inl, refl}
-use Rattle.std.specs.Prelude.{Result, Ok, Err, IfOk, MatchResult}
-use Rattle.cap_text.specs.Request.{Request, probe, show, check, verify, defend, run, transform, trial, generate, IsRequest, OneRequest}
+use Rattle.std.specs.Prelude.{Result, Ok, Err, IfOk, IsAscii, IsUtf8, MatchResult}
+use Rattle.std.proofs.lemmas.Str.{IsUtf8-from_ascii}
+use Rattle.cap_text.specs.Request.{Request, probe, show, list, asm, check, verify, defend, run, transform, trial, generate, bound, IsRequest, OneRequest}
 use Rattle.capcheck_core.specs.declared.verdict.Verdict.{Verdict}
 use Rattle.capcheck_core.specs.declared.verdict.Verdict.TheVariants.{Memory}
 use Rattle.capcheck_core.specs.Outside.{Outside, Untouched}
@@ -17,7 +18,9 @@ asked words r before after verdict one is answers = record {
 -- without memory to read the words nothing was done, whatever they ask for
 no_memory : (r : Request) (before after : Outside) → Untouched before after → Answers r before after Memory
 no_memory (probe p) before after same = (inl (same.folders, tt {0}), same.card)
-no_memory (show s) before after same = (inl same.folders, same.card)
+no_memory (show d) before after same = (inl same.folders, same.card)
+no_memory (list d) before after same = (inl same.folders, same.card)
+no_memory (asm o) before after same = (inl same.folders, same.card)
 no_memory (check c) before after same = inl same
 no_memory (verify v) before after same = inl same
 no_memory (defend r) before after same = inl same
@@ -25,6 +28,7 @@ no_memory (run r) before after same = inl same
 no_memory (transform t) before after same = inl same
 no_memory (trial r) before after same = inl same
 no_memory (generate g) before after same = inl (same, refl)
+no_memory (bound e) before after same = inl same
 
 pub without_memory : (words : List (List ℕ)) (outside : Outside) → IsVerdict words outside outside Memory
 without_memory words outside =
@@ -38,3 +42,7 @@ pub said : {T E : Type 0} (bytes : T → List ℕ) (as_verdict : T → Verdict) 
     → IfOk text (λ t. bytes t ≡ line) → MatchResult text (λ t. verdict ≡ as_verdict t) (λ _. verdict ≡ Memory) → P verdict
 said bytes as_verdict P (Ok t) line verdict memory all says is = subst P (sym is) (all t says)
 said bytes as_verdict P (Err e) line verdict memory all says is = subst P (sym is) memory
+
+-- bytes of ASCII are a text
+pub ascii_is_utf8 : (bytes : List ℕ) → IsAscii bytes → IsUtf8 bytes
+ascii_is_utf8 bytes ascii = IsUtf8-from_ascii bytes ascii

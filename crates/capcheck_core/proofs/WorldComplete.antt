@@ -70,10 +70,10 @@ module _ (before : Folders) (held : Parts) (told : before.held ≡ Some held) wh
 
   -- ---- roles
 
-  file_of : (key file : List ℕ) → IsThere before key file → map.get held key ≡ Some file
+  pub file_of : (key file : List ℕ) → IsThere before key file → map.get held key ≡ Some file
   file_of key file there = subst (λ h. IfSome h (λ parts. Holds parts key file)) told there
 
-  one_file : (key xs ys : List ℕ) → IsThere before key xs → IsThere before key ys → xs ≡ ys
+  pub one_file : (key xs ys : List ℕ) → IsThere before key xs → IsThere before key ys → xs ≡ ys
   one_file key xs ys s t = let a = file_of key xs s in let b = file_of key ys t in cc
 
   one_roles : (dirs : List (List ℕ)) (rs qs : List ℕ) → AreRoleBytes before dirs rs → AreRoleBytes before dirs qs → rs ≡ qs
@@ -85,13 +85,13 @@ module _ (before : Folders) (held : Parts) (told : before.held ≡ Some held) wh
   no_break file at Trailing eight breaks = absurd (omega (arith, eight, breaks.0))
   no_break file at _ eight breaks = breaks
 
-  not_absent : (key file : List ℕ) → IsThere before key file → IsAbsent before key → ⊥
+  pub not_absent : (key file : List ℕ) → IsThere before key file → IsAbsent before key → ⊥
   not_absent key file there absent =
       let is = file_of key file there in
       let none : map.get held key ≡ None = subst (λ h. IfSome h (λ parts. map.get parts key ≡ None)) told absent in
       absurd (cc)
 
-  not_long : (key file : List ℕ) → IsThere before key file → length file ≤ 65538 → IsTooLong before key → ⊥
+  pub not_long : (key file : List ℕ) → IsThere before key file → length file ≤ 65538 → IsTooLong before key → ⊥
   not_long key file there short long =
       let beyond : IsSomeAnd (map.get held key) (λ f. 65538 < length f) = subst
       (λ h. IfSome h (λ parts. IsSomeAnd (map.get parts key) (λ f. 65538 < length f))) told long in
@@ -99,7 +99,7 @@ module _ (before : Folders) (held : Parts) (told : before.held ≡ Some held) wh
       absurd (omega (arith, short, over))
 
   -- a folder with roles lacks none
-  no_roles_lack : (dir roles : List ℕ) (fault : PackFault) → AreRolesIn before dir roles → LacksRoles before dir fault → ⊥
+  pub no_roles_lack : (dir roles : List ℕ) (fault : PackFault) → AreRolesIn before dir roles → LacksRoles before dir fault → ⊥
   no_roles_lack dir roles (faults.MissingPart part) r lack = not_absent (roles_key dir) roles r.there lack.1
   no_roles_lack dir roles (faults.PartTooLong part) r lack = let eight = r.eight in not_long (roles_key dir) roles r.there (omega (arith, eight)) lack.1
   no_roles_lack dir roles (faults.Form form) r lack =

@@ -1,11 +1,13 @@
 -- What each command may answer, and what it leaves as it was.
 use Rattle.std.specs.Prelude.{◌≡◌, ℕ, List}
-use Rattle.cap_text.specs.Request.{Request, probe, show, check, verify, defend, run, transform, trial, generate, IsRequest, IsUsage}
+use Rattle.cap_text.specs.Request.{Request, probe, show, list, asm, check, verify, defend, run, transform, trial, generate, bound, IsRequest, IsUsage}
 use Rattle.capcheck_core.specs.declared.verdict.Verdict.{Verdict}
 use Rattle.capcheck_core.specs.declared.verdict.Verdict.TheVariants.{Usage, Memory}
 use Rattle.capcheck_core.specs.Outside.{Outside, Untouched}
 use Rattle.capcheck_core.specs.Probe.{Probes}
 use Rattle.capcheck_core.specs.Show.{Shows}
+use Rattle.capcheck_core.specs.Listed.{ListsPackage}
+use Rattle.capcheck_core.specs.Assemble.{Assembles}
 use Rattle.capcheck_core.specs.Check.{Checks}
 use Rattle.capcheck_core.specs.Verify.{Verifies}
 use Rattle.capcheck_core.specs.Defend.{Defends}
@@ -13,11 +15,14 @@ use Rattle.capcheck_core.specs.Run.{RunsVerified}
 use Rattle.capcheck_core.specs.Transform.{Transforms}
 use Rattle.capcheck_core.specs.Trial.{Tries}
 use Rattle.capcheck_core.specs.Generate.{Generates}
+use Rattle.capcheck_core.specs.Bounding.{Bounds}
 
 -- the verdicts of each command, and what it makes of the outside
 abbrev pub Answers : Request → Outside → Outside → Verdict → Type 0
 Answers (probe p) before after verdict = Probes p before.folders after.folders verdict × (after.card ≡ before.card)
-Answers (show s) before after verdict = Shows s before.folders after.folders verdict × (after.card ≡ before.card)
+Answers (show d) before after verdict = Shows d before.folders after.folders verdict × (after.card ≡ before.card)
+Answers (list d) before after verdict = ListsPackage d before.folders after.folders verdict × (after.card ≡ before.card)
+Answers (asm o) before after verdict = Assembles o before.folders after.folders verdict × (after.card ≡ before.card)
 Answers (check c) before after verdict = Checks c before after verdict
 Answers (verify v) before after verdict = Verifies v before after verdict
 Answers (defend r) before after verdict = Defends r before after verdict
@@ -25,6 +30,7 @@ Answers (run r) before after verdict = RunsVerified r before after verdict
 Answers (transform t) before after verdict = Transforms t before after verdict
 Answers (trial r) before after verdict = Tries r before after verdict
 Answers (generate g) before after verdict = Generates g before after verdict
+Answers (bound e) before after verdict = Bounds e before after verdict
 
 -- the verdicts where the words ask for nothing
 abbrev pub SaysUsage : Verdict → Type 0

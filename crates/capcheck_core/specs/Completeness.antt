@@ -1,12 +1,16 @@
 -- When a command does its work, unless there is no memory for it.
-use Rattle.std.specs.Prelude.{◌≡◌, ℕ, ℤ, ◌≤◌, List, length, Some, None, ◌⊎◌}
+use Rattle.std.specs.Prelude.{◌≡◌, ℕ, ℤ, ◌≤◌, List, length, Option, Some, None, ◌⊎◌}
 use Rattle.cap_files.specs.Counts.{Rose}
 use Rattle.cap_files.specs.Folder.{Parts, Folders, Holds}
 use Rattle.cap_bare.specs.declared.bare.Bare.{Bare}
 use Rattle.cap_bare.specs.Typing.{CardTyping}
+use Rattle.cap_listing.specs.declared.method.ListedMethod.{ListedMethod}
+use Rattle.cap_listing.specs.Placing.{placed}
+use Rattle.cap_listing.specs.Text.{Lists}
+use Rattle.cap_text.specs.OutOfDir.{OutOfDirRequest}
 use Rattle.cap_text.specs.Probe.{ProbeRequest}
 use Rattle.cap_text.specs.Generate.{GenerateRequest}
-use Rattle.cap_text.specs.Request.{Request, probe, show, check, verify, defend, run, transform, trial, generate, IsRequest}
+use Rattle.cap_text.specs.Request.{Request, probe, show, list, asm, check, verify, defend, run, transform, trial, generate, bound, IsRequest}
 use Rattle.cap_package.specs.Parts.{Lent}
 use Rattle.cap_package.specs.PackageRecord.{PackageRecord}
 use Rattle.cap_package.specs.StandsFor.{StandsFor}
@@ -17,14 +21,18 @@ use Rattle.xf_pack.specs.declared.end.MethodLimit.{MethodLimit}
 use Rattle.xf_pack.specs.Ends.{AreAcceptedLibraries, IsPartLong}
 use Rattle.xf_pack.specs.Limits.{PassesLimit}
 use Rattle.cap_gen.specs.Linked.{roles}
+use Rattle.cap_write.specs.WrittenPackage.{IsPartTooLong}
 use Rattle.jc_link.specs.World.{IsLinked}
+use Rattle.capcheck_core.specs.Assemble.{Fit, HasListing}
 use Rattle.capcheck_core.specs.Generate.{generated}
+use Rattle.capcheck_core.specs.Bounding.{bound_fault}
 use Rattle.capcheck_core.specs.Defend.{run_fault}
 use Rattle.capcheck_core.specs.MethodFile.{IsMethodFile}
 use Rattle.capcheck_core.specs.Loads.{AreParts}
 use Rattle.capcheck_core.specs.Packages.{AreGiven}
 use Rattle.capcheck_core.specs.Probe.{method_key}
 use Rattle.capcheck_core.specs.Report.{Seen}
+use Rattle.capcheck_core.specs.Roles.{HasRoles}
 use Rattle.capcheck_core.specs.Shorts.{AreShorts}
 use Rattle.capcheck_core.specs.Typed.{AreTyped}
 use Rattle.capcheck_core.specs.Verify.{HaveCardTypings}
@@ -58,6 +66,18 @@ pub record CanRead (dir : List ℕ) (before : Folders) : Type 0 where
   pub loaded : AreParts before dir parts
   pub read : PackageRecord
   pub stands : StandsFor parts read
+
+-- so do those of the folder, and beside them stand roles or none, and a listing of methods that fit the package and are not too long for it
+pub record CanAssemble (o : OutOfDirRequest) (before : Folders) : Type 0 where
+  pub reads : CanRead o.dir before
+  pub listing : List ℕ
+  pub there : HasListing before o.dir listing
+  pub roles : Option (List ℕ)
+  pub beside : HasRoles before o.dir roles
+  pub methods : List ListedMethod
+  pub lists : Lists methods listing
+  pub fit : Fit reads.read methods
+  pub short : (n : ℕ) → IsPartTooLong reads.read (placed reads.read methods) n → ⊥
 
 -- the parts in the folders and the roles beside the first make this world
 pub record CanLink (dirs : List (List ℕ)) (before : Folders) (world : Linked) : Type 0 where
@@ -98,7 +118,9 @@ CanGenerate g =
 -- what a command needs is there
 abbrev pub CanDo : Request → Folders → Type 0
 CanDo (probe p) before = CanProbe p before
-CanDo (show s) before = CanRead s.dir before
+CanDo (show d) before = CanRead d.dir before
+CanDo (list d) before = CanRead d.dir before
+CanDo (asm o) before = CanAssemble o before
 CanDo (check c) before = CanOver (λ packages roles w. AreTyped w) c.dirs before
 CanDo (verify v) before = CanOver (λ packages roles w. HaveCardTypings w) v.dirs before
 CanDo (defend r) before = CanOver (λ packages roles w. run_fault w r ≡ None) r.dirs before
@@ -106,6 +128,7 @@ CanDo (run r) before = CanOver (λ packages roles w. HaveCardTypings w × (run_f
 CanDo (transform t) before = CanOver (λ packages roles w. CanBring packages w) t.dirs before
 CanDo (trial r) before = CanOver (λ packages roles w. CanBring packages w × (run_fault w r ≡ None)) r.dirs before
 CanDo (generate g) before = CanGenerate g
+CanDo (bound e) before = CanOver (λ packages roles w. HaveCardTypings w × (bound_fault w e ≡ None)) e.dirs before
 
 -- where the words ask for something, what it needs is there and no device failed, the work is done or there was no memory
 abbrev pub Completes : List (List ℕ) → Folders → Folders → Seen → Seen → ℕ → Type 0

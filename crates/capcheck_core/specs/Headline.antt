@@ -1,21 +1,27 @@
 -- What status 0 promises, command by command. A package is what parts stand for (`StandsFor`), a world what packages make (`IsLinked`);
 -- methods have dataflow typings (`HasFlowTyping`) and card typings (`HasCardTyping`); in a world no run may meet a fault (`IsFaultFree`),
 -- and the runs of two may end alike (`EndsAlike`). All else here is where these are held and which text tells of them.
-use Rattle.std.specs.Prelude.{◌≡◌, ℕ, ◌<◌, ◌≤◌, ◌*◌, List, ◌∷◌, Option, Some, IsNone, IfSome, IsSomeAnd}
+use Rattle.std.specs.Prelude.{◌≡◌, ℕ, ◌<◌, ◌≤◌, ◌*◌, List, ◌∷◌, length, Option, Some, IsNone, IfSome, IsSomeAnd}
 use Rattle.std.specs.FinMap as map
 use Rattle.std.specs.List.{AllZip}
 use Rattle.cap_files.specs.Folder.{Folders, IsThere}
 use Rattle.cap_gen.specs.Linked.{roles}
+use Rattle.cap_listing.specs.Methods.{methods_of}
+use Rattle.cap_listing.specs.Placing.{placed}
+use Rattle.cap_listing.specs.Text.{Lists}
 use Rattle.cap_package.specs.PackageRecord.{PackageRecord}
 use Rattle.cap_package.specs.Parts.{Lent, held}
 use Rattle.cap_package.specs.StandsFor.{StandsFor}
 use Rattle.cap_text.specs.Check.{CheckRequest}
+use Rattle.cap_text.specs.EntryWords.{EntryRequest}
 use Rattle.cap_text.specs.Generate.{GenerateRequest}
 use Rattle.cap_text.specs.Line.{accepted_line, typed_line}
 use Rattle.cap_text.specs.Probe.{ProbeRequest}
-use Rattle.cap_text.specs.Request.{Request, probe, show, check, verify, defend, run, transform, trial, generate, IsRequest}
+use Rattle.cap_text.specs.Request.{Request, probe, show, list, asm, check, verify, defend, run, transform, trial, generate, bound, IsRequest}
 use Rattle.cap_text.specs.Run.{RunRequest}
-use Rattle.cap_text.specs.Show.{ShowRequest}
+use Rattle.cap_text.specs.Assembled.{assembled_line}
+use Rattle.cap_text.specs.OfDir.{OfDirRequest}
+use Rattle.cap_text.specs.OutOfDir.{OutOfDirRequest}
 use Rattle.cap_text.specs.Table.{component_table}
 use Rattle.cap_text.specs.Transform.{TransformRequest}
 use Rattle.cap_text.specs.Transformed.{transformed_line}
@@ -23,8 +29,11 @@ use Rattle.cap_text.specs.Trial.{trial_text}
 use Rattle.cap_text.specs.Verify.{VerifyRequest}
 use Rattle.jc_base.specs.World.{Linked}
 use Rattle.jc_link.specs.World.{IsLinked}
+use Rattle.law_package.specs.Rewritten.{IsRewritten}
 use Rattle.law_sound.specs.Soundness.{IsFaultFree}
 use Rattle.xf_pack.specs.Transformed.{KeepsBehaviour}
+use Rattle.capcheck_core.specs.Assemble.{listing_key}
+use Rattle.capcheck_core.specs.Bounding.{TellsBound}
 use Rattle.capcheck_core.specs.Defend.{IsDefended}
 use Rattle.capcheck_core.specs.Generate.{generated, IsTold}
 use Rattle.capcheck_core.specs.Loads.{AreParts}
@@ -32,7 +41,7 @@ use Rattle.capcheck_core.specs.Outside.{CardWords, Outside, Untouched}
 use Rattle.capcheck_core.specs.Packages.{AreGiven}
 use Rattle.capcheck_core.specs.Probe.{IsBareRun, OfMethod, OfMethodPart}
 use Rattle.capcheck_core.specs.Report.{Seen, Received}
-use Rattle.capcheck_core.specs.Roles.{roles_tag}
+use Rattle.capcheck_core.specs.Roles.{HasRoles, roles_tag}
 use Rattle.capcheck_core.specs.Run.{IsLeft, with_budget}
 use Rattle.capcheck_core.specs.Transform.{roles_beside}
 use Rattle.capcheck_core.specs.Typed.{AreTyped, count_of_last}
@@ -79,6 +88,13 @@ pub record Ran (r : RunRequest) (before : Folders) (card : CardWords) (text : Li
   pub carded : HaveCardTypings world
   pub fault_free : IsFaultFree world
   pub left : IsLeft world r card text
+
+-- `bound`: every method with code has a card typing, and the text tells how much of the stack every run of the entry takes at most, or
+-- the least method that stands twice in a chain of calls from it
+pub record Bounded (e : EntryRequest) (before : Folders) (text : List ℕ) : Type 0 where
+  pub world : Linked
+  pub held : HoldWorld before e.dirs world
+  pub bounded : TellsBound world e text
 
 -- `check`: every method with code of the last package has a dataflow typing
 pub record Typed (c : CheckRequest) (before : Folders) (text : List ℕ) : Type 0 where
@@ -127,12 +143,39 @@ pub record Generated (g : GenerateRequest) (before : Folders) (after : Outside) 
   pub told : IsTold g.seed keeps.made keeps.world after.card text
 
 -- `show`: the parts stand for a package, and the text is its component table
-pub record Shown (s : ShowRequest) (before : Folders) (text : List ℕ) : Type 0 where
+pub record Shown (d : OfDirRequest) (before : Folders) (text : List ℕ) : Type 0 where
   pub parts : List Lent
-  pub loaded : AreParts before s.dir parts
+  pub loaded : AreParts before d.dir parts
   pub read : PackageRecord
   pub stands : StandsFor parts read
   pub prints : text ≡ component_table read
+
+-- `list`: the same, and the text is the listing of its methods with code
+pub record Listed (d : OfDirRequest) (before : Folders) (text : List ℕ) : Type 0 where
+  pub parts : List Lent
+  pub loaded : AreParts before d.dir parts
+  pub read : PackageRecord
+  pub stands : StandsFor parts read
+  pub lists : Lists (methods_of read) text
+
+-- `asm`: the parts stand for a package. What is stored stands for one with exactly the methods that the file beside them lists, their
+-- code, handlers and three numbers, and is the former package in all else; so are the roles, where they are there
+pub record Assembled (o : OutOfDirRequest) (before after : Folders) (text : List ℕ) : Type 0 where
+  pub parts : List Lent
+  pub loaded : AreParts before o.dir parts
+  pub read : PackageRecord
+  pub stands : StandsFor parts read
+  pub listing : List ℕ
+  pub there : IsThere before (listing_key o.dir) listing
+  pub roles : Option (List ℕ)
+  pub beside : HasRoles before o.dir roles
+  pub stored : List Lent
+  pub made : PackageRecord
+  pub again : StandsFor stored made
+  pub lists : Lists (methods_of made) listing
+  pub rewritten : IsRewritten read (placed read (methods_of made)) made
+  pub kept : AreKept o.out stored roles before after
+  pub prints : text ≡ assembled_line (length (methods_of made))
 
 -- `probe`: the Method part is a bare method with a card typing, and the text is how its run ends
 abbrev pub Probed : ProbeRequest → Folders → List ℕ → Type 0
@@ -143,7 +186,9 @@ Probed p before text = OfMethodPart p before (λ file. OfMethod file (λ bare co
 -- what else a command leaves as it was, and what it promises
 abbrev pub Promise : Request → Outside → Outside → List ℕ → Type 0
 Promise (probe p) before after text = Untouched before after × Probed p before.folders text
-Promise (show s) before after text = Untouched before after × Shown s before.folders text
+Promise (show d) before after text = Untouched before after × Shown d before.folders text
+Promise (list d) before after text = Untouched before after × Listed d before.folders text
+Promise (asm o) before after text = (after.card ≡ before.card) × Assembled o before.folders after.folders text
 Promise (check c) before after text = Untouched before after × Typed c before.folders text
 Promise (verify v) before after text = Untouched before after × Accepted v before.folders text
 Promise (defend r) before after text = Untouched before after × Defended r before.folders text
@@ -151,6 +196,7 @@ Promise (run r) before after text = (after.folders ≡ before.folders) × Ran r 
 Promise (transform t) before after text = (after.card ≡ before.card) × Transformed t before.folders after.folders text
 Promise (trial r) before after text = (after.folders ≡ before.folders) × Tried r before.folders after.card text
 Promise (generate g) before after text = Generated g before.folders after text
+Promise (bound e) before after text = Untouched before after × Bounded e before.folders text
 
 -- where the words ask for something and the status is 0, its promise holds of the text that was received
 abbrev pub Promises : List (List ℕ) → Outside → Outside → Seen → Seen → ℕ → Type 0

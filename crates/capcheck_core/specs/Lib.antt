@@ -13,12 +13,17 @@ pub mod Packages
 pub mod PackageEnds
 pub mod OverPackage
 pub mod Show
+pub mod Listed
+pub mod Beside
+pub mod BesideEnds
+pub mod Assemble
 pub mod OverFolders
 pub mod World
 pub mod OverLoads
 pub mod Typed
 pub mod Check
 pub mod Verify
+pub mod Bounding
 pub mod Defend
 pub mod Run
 pub mod Stores

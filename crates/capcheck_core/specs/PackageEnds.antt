@@ -13,7 +13,8 @@ use Rattle.capcheck_core.specs.declared.packages.PackagesStop.TheVariants.{TooMa
 use Rattle.capcheck_core.specs.declared.verdict.Verdict.{Verdict}
 use Rattle.capcheck_core.specs.declared.verdict.Verdict.TheVariants as verdicts
 use Rattle.capcheck_core.specs.Loads.{AreParts, FailsParts}
-use Rattle.capcheck_core.specs.Roles.{AreRolesIn, LacksRoles, IsNoRoles, roles_key}
+use Rattle.capcheck_core.specs.BesideEnds.{StopsFile}
+use Rattle.capcheck_core.specs.Roles.{AreRolesIn, HasRoles, HasBadRoles, LacksRoles, IsNoRoles, roles_key}
 use Rattle.capcheck_core.specs.Packages.{HasLongPart, LacksPackage}
 
 -- the folders after loads of packages: as before, unless one failed
@@ -42,6 +43,11 @@ LoadsRoles before after dir (Err (Malformed number fault)) = (number ≡ 0) × L
 LoadsRoles before after dir (Err Failed) = LoadFails before (roles_key dir) after
 LoadsRoles before after dir (Err Memory) = Unit {0}
 LoadsRoles before after dir (Err (TooMany count)) = ⊥
+
+-- the load of roles that may be absent, by its answer
+abbrev pub FindsRoles : Folders → Folders → List ℕ → Result (Option (List ℕ)) PackagesStop → Type 0
+FindsRoles before after dir (Ok given) = HasRoles before dir given
+FindsRoles before after dir (Err stop) = StopsFile (HasBadRoles before dir) (roles_key dir) 0 before after stop
 
 -- the roles that were given, or else those beside the first package
 abbrev pub RolesBeside : Folders → Folders → List ℕ → Option (List ℕ) → Result (List ℕ) PackagesStop → Type 0

@@ -1,5 +1,5 @@
 -- The file of the roles beside the parts of the first package: eight bytes, the number of a class for each role.
-use Rattle.std.specs.Prelude.{◌≡◌, ℕ, ◌<◌, ◌≤◌, List, ◌∷◌, length}
+use Rattle.std.specs.Prelude.{◌≡◌, ℕ, ◌<◌, ◌≤◌, List, ◌∷◌, length, Option, Some, None}
 use Rattle.cap_bytes.specs.declared.fault.FormFault.{FormFault}
 use Rattle.cap_bytes.specs.declared.fault.FormKind.{FormKind}
 use Rattle.cap_bytes.specs.declared.fault.FormKind.TheVariants.{Cut, Trailing}
@@ -37,6 +37,17 @@ pub record IsBadFile (before : Folders) (dir : List ℕ) (fault : FormFault) : T
   pub there : IsThere before (roles_key dir) file
   pub short : length file ≤ 65538
   pub refused : IsNoRoles file fault
+
+-- what a folder has where it may be without roles: none, or these
+abbrev pub HasRoles : Folders → List ℕ → Option (List ℕ) → Type 0
+HasRoles before dir None = IsAbsent before (roles_key dir)
+HasRoles before dir (Some roles) = AreRolesIn before dir roles
+
+-- why the roles' file that a folder has holds no roles
+abbrev pub HasBadRoles : Folders → List ℕ → PackFault → Type 0
+HasBadRoles before dir (PartTooLong part) = (part ≡ roles_tag) × IsTooLong before (roles_key dir)
+HasBadRoles before dir (Form fault) = IsBadFile before dir fault
+HasBadRoles before dir _ = ⊥
 
 -- why a folder has no roles
 abbrev pub LacksRoles : Folders → List ℕ → PackFault → Type 0

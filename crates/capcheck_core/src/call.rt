@@ -9,10 +9,13 @@ ghost use Rattle.capcheck_core.specs.Report.{IsReported, seen};
 ghost use Rattle.capcheck_core.specs.Run.{HasLengths};
 ghost use Rattle.capcheck_core.specs.declared.verdict.Verdict.{Verdict};
 
+use crate::assembling::AsmStep;
+use crate::bounding::BoundStep;
 use crate::card::Card;
 use crate::carding::VerifyStep;
 use crate::defending::DefendStep;
 use crate::generating::generate_and_run;
+use crate::listed::ListStep;
 use crate::package_step::over_package;
 use crate::probe::probe;
 use crate::report::report;
@@ -116,7 +119,9 @@ fn perform<F: Folder>(
 {
     match command {
         Command::Probe(operands) => probe(alloc, folder, operands),
-        Command::Show(show) => over_package(alloc, &ShowStep, show.dir, folder),
+        Command::Show(of) => over_package(alloc, &ShowStep, of.dir, folder),
+        Command::List(of) => over_package(alloc, &ListStep, of.dir, folder),
+        Command::Asm(asked) => over_package(alloc, &AsmStep { asked }, asked.dir, folder),
         Command::Check(check) => over_folders(alloc, &CheckStep, check.dirs, folder, card),
         Command::Verify(verify) => over_folders(alloc, &VerifyStep, verify.dirs, folder, card),
         Command::Defend(run) => over_folders(alloc, &DefendStep { run }, run.dirs, folder, card),
@@ -126,5 +131,6 @@ fn perform<F: Folder>(
         }
         Command::Trial(run) => over_folders(alloc, &TrialStep { run }, run.dirs, folder, card),
         Command::Generate(operands) => generate_and_run(alloc, operands, folder, card),
+        Command::Bound(at) => over_folders(alloc, &BoundStep { at }, at.dirs, folder, card),
     }
 }

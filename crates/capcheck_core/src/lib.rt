@@ -3,11 +3,15 @@
 //! place of the text are handed in.
 #![tactic(auto)]
 
+mod assembling;
+mod beside;
+mod bounding;
 mod call;
 mod card;
 mod carding;
 mod defending;
 mod generating;
+mod listed;
 mod load;
 mod method_file;
 mod package_step;

@@ -3,7 +3,7 @@ ghost use Rattle.cap_files.specs.WordsLeft.{words_left};
 ghost use Rattle.cap_components.specs.declared.fault.PackFault.TheVariants.{PartTooLong};
 ghost use Rattle.capcheck_core.specs.declared.packages.PackagesStop.TheVariants.{Malformed};
 ghost use Rattle.capcheck_core.specs.Roles.{IsNoRoles};
-ghost use Rattle.capcheck_core.specs.PackageEnds.{ReadsRoles, RolesBeside, LoadsRoles, LoadsFiles, ReadsPackage, PackagesLeave, IsStop};
+ghost use Rattle.capcheck_core.specs.PackageEnds.{ReadsRoles, RolesBeside, LoadsRoles, FindsRoles, LoadsFiles, ReadsPackage, PackagesLeave, IsStop};
 
 use crate::load::{Files, LoadStop, load_parts};
 use crate::verdict::Verdict;
@@ -129,15 +129,35 @@ pub(crate) fn roles_beside<F: Folder>(
 }
 
 // The roles beside the first package.
+#[tactic(auto, using(crate::proofs::OnPackages::bad_roles))]
 fn load_roles<F: Folder>(alloc: Global, folder: &mut F, dir: &str) -> Result<[u8; 8], PackagesStop>
     ensures loads { LoadsRoles (F.folders folder.old) (F.folders folder.new)
         dir.now result }
     ensures folders { PackagesLeave (F.folders folder.old) (F.folders folder.new) result }
 {
+    match find_roles(alloc, folder, dir) {
+        Ok(Some(roles)) => Ok(roles),
+        Ok(None) => Err(PackagesStop::Malformed(0, PackFault::MissingPart(ROLES.0))),
+        Err(stop) => Err(stop),
+    }
+}
+
+/// The roles beside a package, where they are there.
+pub(crate) fn find_roles<F: Folder>(
+    alloc: Global,
+    folder: &mut F,
+    dir: &str,
+) -> Result<Option<[u8; 8]>, PackagesStop>
+    ensures loads { FindsRoles (F.folders folder.old) (F.folders folder.new) dir.now result }
+    ensures folders { PackagesLeave (F.folders folder.old) (F.folders folder.new) result }
+{
     let mut file = Vec::new(alloc);
     match folder.load(alloc, dir, ROLES, &mut file) {
-        Ok(true) => roles_in(file.as_slice()),
-        Ok(false) => Err(PackagesStop::Malformed(0, PackFault::MissingPart(ROLES.0))),
+        Ok(true) => match roles_in(file.as_slice()) {
+            Ok(roles) => Ok(Some(roles)),
+            Err(stop) => Err(stop),
+        },
+        Ok(false) => Ok(None),
         Err(LoadEnd::TooLong) => Err(PackagesStop::Malformed(0, PackFault::PartTooLong(ROLES.0))),
         Err(LoadEnd::Failed) => Err(PackagesStop::Failed),
         Err(LoadEnd::Memory) => Err(PackagesStop::Memory),

@@ -27,6 +27,22 @@ use xf_pack::transform_linked;
 // The steps of the new package that one of its source may take.
 const STEPS_EACH: u64 = 2000;
 
+/// A world with the packages and the roles that make it, and the parts of its last package in the other form.
+#[derive(Clone, Copy)]
+struct Made<'m, 'p, 'a, 'w> {
+    packages: &'m Packages<'p, 'a>,
+    roles: [u8; 8],
+    world: &'m World<'w>,
+    parts: &'m OwnedParts,
+}
+
+/// An entry with its arguments, and the text of its run in the source.
+#[derive(Clone, Copy)]
+struct Told<'t> {
+    run: &'t Run<'t>,
+    source: &'t str,
+}
+
 /// The last step of `trial`: it runs an entry of the last package, and then of it in the form that a verifier on the card
 /// accepts, in the memory of the card.
 #[derive(Clone, Copy)]
@@ -72,38 +88,43 @@ pub(crate) fn try_last(
     ensures same { IsSameCard card.old card.new }
 {
     match transform_linked(alloc, packages, roles, world) {
-        Ok(parts) => try_parts(alloc, packages, roles, world, &parts, run, card),
+        Ok(parts) => {
+            let made = Made {
+                packages,
+                roles,
+                world,
+                parts: &parts,
+            };
+            try_made(alloc, &made, run, card)
+        }
         Err(end) => untransformed(alloc, packages, world, end),
     }
 }
 
 // The same with the parts of the new package. Its source is run first.
-fn try_parts(
+fn try_made(
     alloc: Global,
-    packages: &Packages<'_, '_>,
-    roles: [u8; 8],
-    world: &World<'_>,
-    parts: &OwnedParts,
+    made: &Made<'_, '_, '_, '_>,
     run: &Run<'_>,
     card: &mut Card<'_>,
 ) -> Verdict
     requires lengths { HasLengths (words_of card.old) }
-    requires linked { IsLinked packages.now roles world.now }
-    requires made { IsTransformed packages.now roles world.now parts.now }
-    ensures tries { TriesIn packages.now roles world.now (run_request run.now) (words_of card.new) result }
-    ensures kept { IsUntriedKept packages.now roles world.now (run_request run.now)
+    requires linked { IsLinked made.now.packages.now made.now.roles made.now.world.now }
+    requires made { IsTransformed made.now.packages.now made.now.roles made.now.world.now made.now.parts.now }
+    ensures tries { TriesIn made.now.packages.now made.now.roles made.now.world.now (run_request run.now)
+        (words_of card.new) result }
+    ensures kept { IsUntriedKept made.now.packages.now made.now.roles made.now.world.now (run_request run.now)
         (words_of card.old) (words_of card.new) result }
     ensures same { IsSameCard card.old card.new }
 {
-    match defend(alloc, world, run) {
-        Verdict::Done(source) => try_new(
+    match defend(alloc, made.world, run) {
+        Verdict::Done(text) => try_new(
             alloc,
-            packages,
-            roles,
-            world,
-            parts,
-            source.as_str(),
-            run,
+            made,
+            &Told {
+                run,
+                source: text.as_str(),
+            },
             card,
         ),
         Verdict::Malformed(text) => Verdict::Malformed(text),
@@ -115,34 +136,29 @@ fn try_parts(
 // Links the libraries with the new package, whose source was run.
 fn try_new(
     alloc: Global,
-    packages: &Packages<'_, '_>,
-    roles: [u8; 8],
-    world: &World<'_>,
-    parts: &OwnedParts,
-    source: &str,
-    run: &Run<'_>,
+    made: &Made<'_, '_, '_, '_>,
+    told: &Told<'_>,
     card: &mut Card<'_>,
 ) -> Verdict
     requires lengths { HasLengths (words_of card.old) }
-    requires linked { IsLinked packages.now roles world.now }
-    requires made { IsTransformed packages.now roles world.now parts.now }
-    requires defended { IsDefended world.now (run_request run.now) source.now }
-    ensures tries { TriesIn packages.now roles world.now (run_request run.now) (words_of card.new) result }
-    ensures kept { IsUntriedKept packages.now roles world.now (run_request run.now)
+    requires linked { IsLinked made.now.packages.now made.now.roles made.now.world.now }
+    requires made { IsTransformed made.now.packages.now made.now.roles made.now.world.now made.now.parts.now }
+    requires defended { IsDefended made.now.world.now (run_request told.now.run.now) told.now.source.now }
+    ensures tries { TriesIn made.now.packages.now made.now.roles made.now.world.now (run_request told.now.run.now)
+        (words_of card.new) result }
+    ensures kept { IsUntriedKept made.now.packages.now made.now.roles made.now.world.now (run_request told.now.run.now)
         (words_of card.old) (words_of card.new) result }
     ensures same { IsSameCard card.old card.new }
 {
-    let Ok(lent) = parts.lend(alloc) else {
+    let Ok(lent) = made.parts.lend(alloc) else {
         return Verdict::Memory;
     };
-    let made = agreed_package(&lent);
-    let Ok(all) = with_last(alloc, packages, made) else {
+    let last = agreed_package(&lent);
+    let Ok(all) = with_last(alloc, made.packages, last) else {
         return Verdict::Memory;
     };
-    match link(alloc, &all, roles) {
-        Ok(new) => run_new(
-            alloc, packages, roles, world, parts, &new, source, run, card,
-        ),
+    match link(alloc, &all, made.roles) {
+        Ok(new) => run_new(alloc, made, &new, told, card),
         Err(LinkEnd::Fault(_)) => unreachable!(),
         Err(LinkEnd::Memory) => Verdict::Memory,
     }
@@ -168,29 +184,34 @@ fn with_last<'p, 'a>(
 // Runs the entry of the new package in the memory of the card, and tells both runs.
 fn run_new(
     alloc: Global,
-    _packages: &Packages<'_, '_>,
-    _roles: [u8; 8],
-    world: &World<'_>,
-    _parts: &OwnedParts,
+    made: &Made<'_, '_, '_, '_>,
     new: &World<'_>,
-    source: &str,
-    run: &Run<'_>,
+    told: &Told<'_>,
     card: &mut Card<'_>,
 ) -> Verdict
     requires lengths { HasLengths (words_of card.old) }
-    requires linked { IsLinked _packages.now _roles world.now }
-    requires made { HasNew _packages.now _roles world.now _parts.now new.now }
-    requires defended { IsDefended world.now (run_request run.now) source.now }
-    ensures tries { TriesIn _packages.now _roles world.now (run_request run.now) (words_of card.new) result }
-    ensures kept { IsUntriedKept _packages.now _roles world.now (run_request run.now)
+    requires linked { IsLinked made.now.packages.now made.now.roles made.now.world.now }
+    requires made { HasNew made.now.packages.now made.now.roles made.now.world.now made.now.parts.now new.now }
+    requires defended { IsDefended made.now.world.now (run_request told.now.run.now) told.now.source.now }
+    ensures tries { TriesIn made.now.packages.now made.now.roles made.now.world.now (run_request told.now.run.now)
+        (words_of card.new) result }
+    ensures kept { IsUntriedKept made.now.packages.now made.now.roles made.now.world.now (run_request told.now.run.now)
         (words_of card.old) (words_of card.new) result }
     ensures same { IsSameCard card.old card.new }
 {
-    starts_refuse_alike(world);
-    let steps = STEPS_EACH * u64::from(run.budget);
-    let verdict = run_in_card(alloc, new, Bounded { run, steps }, card);
+    starts_refuse_alike(made.world);
+    let steps = STEPS_EACH * u64::from(told.run.budget);
+    let verdict = run_in_card(
+        alloc,
+        new,
+        Bounded {
+            run: told.run,
+            steps,
+        },
+        card,
+    );
     match text_of(verdict) {
-        Ok(target) => Verdict::done(tried(alloc, source, target.as_str())),
+        Ok(target) => Verdict::done(tried(alloc, told.source, target.as_str())),
         Err(_) => Verdict::Memory,
     }
 }

@@ -1,0 +1,28 @@
+ghost use Rattle.std.specs.Prelude.{IfSome, IfNone};
+ghost use Rattle.cap_files.specs.WordsLeft.{words_left};
+ghost use Rattle.cap_text.specs.OfDir.{OfDirRequest, IsOfDir, of_dir_request};
+
+use crate::word::folder_word;
+use cap_files::WordsIter;
+
+/// `DIR`: the operand of a command on the package in this folder.
+#[derive(Clone, Copy)]
+pub struct OfDir<'a> {
+    pub dir: &'a str,
+}
+
+impl<'a> OfDir<'a> {
+    /// Reads the words after the command's name.
+    pub fn read(mut operands: WordsIter<'a>) -> Option<OfDir<'a>>
+        ensures found { IfSome result (λ d. IsOfDir (words_left operands.entry) (of_dir_request d)) }
+        ensures none { IfNone result ((d : OfDirRequest) → IsOfDir (words_left operands.entry) d → ⊥) }
+    {
+        let Some(dir) = operands.next() else {
+            return None;
+        };
+        if operands.next().is_some() || !folder_word(dir) {
+            return None;
+        }
+        Some(OfDir { dir })
+    }
+}

@@ -1,0 +1,101 @@
+ghost use Rattle.std.specs.Prelude.{◌≡◌, None, Some, IfOk, slice_get, string_bytes};
+ghost use Rattle.card_verify.specs.Answers.{AreAccepted};
+ghost use Rattle.cap_text.specs.EntryWords.{entry_request};
+ghost use Rattle.capcheck_core.specs.Bounding.{method_bounded, bound_text, cycle_of, AnswersBound};
+
+use crate::card::Card;
+use crate::carding::uncarded;
+use crate::defending::method_entered;
+use crate::step::LastStep;
+use crate::typing::number_of;
+use crate::verdict::Verdict;
+use cap_files::Folder;
+use cap_package::Packages;
+use cap_text::{AtEntry, bounded, cycle, not_started};
+use card_verify::{Accepted, CardRoom, accept};
+use jc_base::World;
+use std::alloc::{AllocError, Global};
+use vm_bound::{Bound, BoundEnd, bound};
+use vm_step::StartFault;
+
+/// The last step of `bound`: it verifies all packages as a card does, and bounds the stack of an entry of the last one.
+#[derive(Clone, Copy)]
+pub(crate) struct BoundStep<'a> {
+    pub at: &'a AtEntry<'a>,
+}
+
+impl LastStep for BoundStep<'_> {
+    ghost use Rattle.cap_text.specs.EntryWords.{entry_request};
+    ghost use Rattle.capcheck_core.specs.Bounding.{BoundsWorld};
+    ghost use Rattle.capcheck_core.specs.World.{of_world};
+
+    ghost own = { λ s. of_world (BoundsWorld (entry_request s.at.now)) };
+
+    fn take<F: Folder>(
+        &self,
+        alloc: Global,
+        _packages: &Packages<'_, '_>,
+        _roles: [u8; 8],
+        world: &World<'_>,
+        _folder: &mut F,
+        _card: &mut Card<'_>,
+    ) -> Verdict {
+        bound_entry(alloc, world, self.at)
+    }
+}
+
+/// Verifies all packages of a world as a card does, and bounds the stack of an entry of the last one.
+fn bound_entry(alloc: Global, world: &World<'_>, at: &AtEntry<'_>) -> Verdict
+    ensures { AnswersBound world.now (entry_request at.now) result }
+{
+    let mut room = CardRoom::new();
+    match accept(world, &mut room) {
+        Ok(accepted) => accepted_entry(alloc, &accepted, at),
+        Err((number, fault)) => uncarded(alloc, world, number, fault),
+    }
+}
+
+// The same, where all methods are accepted.
+fn accepted_entry(alloc: Global, accepted: &Accepted<'_>, at: &AtEntry<'_>) -> Verdict
+    requires { AreAccepted accepted.now }
+    ensures { AnswersBound accepted.now (entry_request at.now) result }
+{
+    match method_entered(accepted.world(), at.entry) {
+        Some(number) => told(alloc, accepted, at, number),
+        None => Verdict::malformed(not_started(alloc, StartFault::NoEntry)),
+    }
+}
+
+// The bound of the method of a number.
+fn told(alloc: Global, accepted: &Accepted<'_>, at: &AtEntry<'_>, number: u16) -> Verdict
+    requires accepted { AreAccepted accepted.now }
+    requires entered { method_bounded accepted.now (entry_request at.now) ≡ Some number }
+    ensures { AnswersBound accepted.now (entry_request at.now) result }
+{
+    match bound(alloc, accepted, number) {
+        Ok(found) => Verdict::done(bound_line(alloc, accepted.world(), found)),
+        Err(BoundEnd::Fault(fault)) => Verdict::malformed(not_started(alloc, fault)),
+        Err(BoundEnd::Memory) => Verdict::Memory,
+    }
+}
+
+// The line for a bound.
+fn bound_line(alloc: Global, world: &World<'_>, bound: Bound) -> Result<String, AllocError>
+    ensures { IfOk result (λ t. string_bytes t ≡ bound_text world.now bound) }
+{
+    match bound {
+        Bound::Words { words, frames } => bounded(alloc, words, frames),
+        Bound::Cycle(method) => cycle_of(alloc, world, method),
+    }
+}
+
+// The line for a method that comes again.
+fn cycle_of(alloc: Global, world: &World<'_>, method: u16) -> Result<String, AllocError>
+    ensures { IfOk result (λ t. string_bytes t ≡ cycle_of (slice_get world.now.methods method)) }
+{
+    if method >= world.method_count() {
+        return Ok(String::new(alloc));
+    }
+    let named = number_of(world, method);
+    cycle(alloc, named.class_no, named.method_no)
+}

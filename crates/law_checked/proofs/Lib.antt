@@ -1,0 +1,2 @@
+pub mod OneFolder
+pub mod OneByOne
