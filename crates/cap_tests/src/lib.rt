@@ -1,7 +1,8 @@
 //! Worked components and packages. Package T, a small package of eight classes and two methods, stands
 //! here once, in format 2.2 and in format 2.1, with what differs in its form for the card and with changes of a
 //! package by name. The tests read worked components with each reader (`cap_frame`, `cap_pool`, `cap_class`,
-//! `cap_method`, `cap_desc`), and changed packages with `cap_package`.
+//! `cap_method`, `cap_desc`), and changed packages with `cap_package`. They also try the adapters of `cap_files` over a disk in
+//! memory that fails, reads and writes a byte at a time, and fills up.
 #![tactic(auto)]
 
 mod card_package;
@@ -31,11 +32,15 @@ mod class_tests;
 #[cfg(test)]
 mod descriptor_tests;
 #[cfg(test)]
+mod edge_tests;
+#[cfg(test)]
 mod form_tests;
 #[cfg(test)]
 mod forms;
 #[cfg(test)]
 mod frame_tests;
+#[cfg(test)]
+mod mem_disk;
 #[cfg(test)]
 mod method_tests;
 #[cfg(test)]

@@ -1,4 +1,5 @@
 use crate::counter_packages::{COUNTER, RUNTIME};
+use crate::list_tests::LISTING;
 use crate::small_packages::{BELOW, CALLING, OVERRIDING};
 use cap_bytes::Part;
 use cap_files::{MemFolder, SureFolder};
@@ -12,6 +13,9 @@ use std::alloc::{AllocError, Global};
 /// The file of roles.
 pub(crate) const ROLES: Part = Part(0);
 
+/// The file of a listing.
+pub(crate) const LISTED: Part = Part(14);
+
 /// The roles of the overriding package.
 const OVERRIDING_ROLES: [u8; 8] = [0, 1, 1, 1, 1, 1, 1, 1];
 
@@ -20,6 +24,12 @@ const CALLING_ROLES: [u8; 8] = [1, 2, 2, 2, 2, 2, 2, 2];
 
 /// The second method of package T: its type descriptor, its header and its code.
 pub(crate) type Second = (&'static [u8], &'static [u8], &'static [u8]);
+
+/// The pool of package T with one entry, and what stands in the Descriptor for its type.
+pub(crate) type Constant = (&'static [u8], &'static [u8]);
+
+/// The first class of T.
+const CLASS: Constant = (b"\x00\x01\x01\x00\x02\x00", b"\x00\x01\xFF\xFF");
 
 /// What folders hold.
 #[derive(Clone, Copy)]
@@ -35,6 +45,8 @@ pub(crate) enum Held {
     /// The same without changes, with another second method in `T`, and where it is wanted with a constant: the first class
     /// of T.
     Second(Second, bool),
+    /// The same, with another second method and this constant in `T`.
+    Naming(Second, Constant),
     /// The same, with a second method that takes an array of bytes, and 4,096 initial arrays.
     Crowded(Second),
     /// This package with changes, and the roles of package T, in `T`, and this one in `W`.
@@ -121,20 +133,11 @@ fn put_second(
     alloc: Global,
     folder: &mut SureFolder,
     second: Second,
-    constant: bool,
+    constant: Option<Constant>,
 ) -> Result<bool, AllocError> {
     let (types, header, code) = second;
-    let pool: &[u8] = if constant {
-        b"\x00\x01\x01\x00\x02\x00"
-    } else {
-        b"\x00\x00"
-    };
-    let pool_types: &[u8] = if constant {
-        b"\x00\x01\xFF\xFF"
-    } else {
-        b"\x00\x00"
-    };
-    let (first_at, second_at): (u8, u8) = if constant { (4, 6) } else { (2, 4) };
+    let (pool, pool_types): Constant = constant.unwrap_or((b"\x00\x00", b"\x00\x00"));
+    let (first_at, second_at): (u8, u8) = if constant.is_some() { (4, 6) } else { (2, 4) };
     let size = u8::try_from(code.len()).unwrap_or(0);
     let changes = [
         Change::Splice(CONSTANT_POOL, 3, 5, pool),
@@ -207,7 +210,9 @@ pub(crate) fn fill(
         Held::Packages(roles, first, second) => put_packages(alloc, folder, roles, first, second),
         Held::Changed(changes) => put_packages(alloc, folder, &PLAIN_ROLES, changes, &[]),
         Held::TooLong(changes, part) => put_too_long(alloc, folder, changes, *part),
-        Held::Second(second, constant) => put_second(alloc, folder, *second, *constant),
+        Held::Second(second, false) => put_second(alloc, folder, *second, None),
+        Held::Second(second, true) => put_second(alloc, folder, *second, Some(CLASS)),
+        Held::Naming(second, constant) => put_second(alloc, folder, *second, Some(*constant)),
         Held::Crowded(second) => put_crowded(alloc, folder, *second),
         Held::Both(library, changes, user) => put_both(alloc, folder, library, changes, user),
         Held::Calls => put_with_roles(alloc, folder, "I", &CALLING, &[], &CALLING_ROLES),
@@ -222,6 +227,8 @@ pub(crate) enum Kept {
     Plain,
     /// The same with its roles.
     WithRoles,
+    /// The same, and with the listing of its methods.
+    Listed,
     /// The base package of the examples in `R`, with its roles, and the counter in `C`.
     Counter,
     /// This Method component in `P`.
@@ -245,6 +252,11 @@ pub(crate) fn keep(folder: &mut MemFolder, kept: &Kept) -> bool {
     match kept {
         Kept::Plain => put_files(folder, "T", &PLAIN),
         Kept::WithRoles => put_files(folder, "T", &PLAIN) & folder.set("T", ROLES, &PLAIN_ROLES),
+        Kept::Listed => {
+            put_files(folder, "T", &PLAIN)
+                & folder.set("T", ROLES, &PLAIN_ROLES)
+                & folder.set("T", LISTED, LISTING.as_bytes())
+        }
         Kept::Counter => {
             put_files(folder, "R", &RUNTIME)
                 & folder.set("R", ROLES, &RUNTIME_ROLES)

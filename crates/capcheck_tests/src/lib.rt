@@ -1,15 +1,21 @@
-//! Worked commands: what `capcheck_core` prints for `probe`, `show`, `check`, `verify`, `defend`, `run`, `transform`, `trial`
-//! and `gen` over folders in memory, with package T of `cap_tests`, two more small packages and the counter of the examples,
-//! what `run` and `trial` leave in the memory of the card, and where a device fails. With them stand worked cases of
-//! folders, sinks and words (`cap_files`) and of bare methods (`cap_bare`).
+//! Worked commands: what `capcheck_core` prints for each command over folders in memory, what `run` and `trial` leave in the
+//! memory of the card, and where a device fails. The commands are `probe`, `show`, `list`, `check`, `verify`, `defend`, `run`,
+//! `bound`, `transform`, `trial`, `gen` and `asm`. The folders have package T of `cap_tests`, two more small packages and the
+//! counter of the examples. With them stand worked cases of folders, sinks and words (`cap_files`) and of bare methods (`cap_bare`).
 #![tactic(auto)]
 
 #[cfg(test)]
 mod arithmetic_tests;
 #[cfg(test)]
+mod asm_tests;
+#[cfg(test)]
 mod bare_run_tests;
 #[cfg(test)]
+mod bound_tests;
+#[cfg(test)]
 mod check_tests;
+#[cfg(test)]
+mod checked_tests;
 #[cfg(test)]
 mod counter_packages;
 #[cfg(test)]
@@ -24,6 +30,8 @@ mod filling;
 mod gen_tests;
 #[cfg(test)]
 mod length_tests;
+#[cfg(test)]
+mod list_tests;
 #[cfg(test)]
 mod load_tests;
 #[cfg(test)]

@@ -27,11 +27,13 @@ fn words_are_texts(rt: HostRuntime) -> Result<(), AllocError> {
 }
 
 /// Parts with the names of their files.
-static NAMES: [(u8, &str); 5] = [
+static NAMES: [(u8, &str); 7] = [
     (0, "Roles"),
     (7, "Method"),
     (12, "Debug"),
-    (13, "Custom13"),
+    (13, "Load"),
+    (14, "Listing"),
+    (15, "Custom15"),
     (255, "Custom255"),
 ];
 
