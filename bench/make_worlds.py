@@ -18,7 +18,7 @@ target index; and it does so in each of the 255 passes of `rounds`, where a cell
 4,096 bytes (half: 2,048). In the code that
 `transform` lays for `widening` each branch that becomes wide forces one more, so that it turns 8,000 times. Each place of
 `deep_handlers` takes as many steps as there are handlers, registers and superclasses, multiplied: it has 16
-such places (half: 8).
+such places (half: 8). At each edge of `branches_in` and `cases_in` 250 handlers come to cover 250 registers.
 """
 import os
 
@@ -30,7 +30,7 @@ ROLES = 8
 POOL = 5000         # entries of a full package: with its fields and methods they fill the Descriptor
 RETURN = bytes([0x7A])
 ACONST_NULL, ALOAD, ASTORE, SCONST_0, SCONST_1, SLOAD, SSTORE, SADD = 1, 21, 40, 3, 4, 22, 41, 65
-ALOAD_0, ASTORE_0, POP, GOTO, CHECKCAST, IFEQ_W, IFNE_W = 24, 43, 59, 112, 148, 152, 153
+ALOAD_0, ASTORE_0, POP, GOTO, STABLESWITCH, CHECKCAST, IFEQ_W, IFNE_W = 24, 43, 59, 112, 115, 148, 152, 153
 
 
 def aid(number):
@@ -148,8 +148,8 @@ def class_chain(number):
     return package
 
 
-def with_method(code, max_stack, classes, handlers=()):
-    """A method with 255 registers after packages with a chain of so many classes or more, of which its
+def with_method(code, max_stack, classes, handlers=(), registers=255):
+    """A method with so many registers after packages with a chain of so many classes or more, of which its
     pool names as many from the lowest on. A handler is its first place, its length and its entry."""
     libraries = [class_chain(n) for n in range(max(1, -(-classes // CLASSES)))]
     count = len(libraries)
@@ -160,7 +160,7 @@ def with_method(code, max_stack, classes, handlers=()):
     start = 1 + 8 * len(handlers)
     first = start + 4
     package.handlers = b"".join(u2(first + at) + u2(length) + u2(first + entry) + u2(0) for at, length, entry in handlers)
-    package.methods = bytes([0x80, max_stack, 0, 255]) + code
+    package.methods = bytes([0x80, max_stack, 0, registers]) + code
     package.indices = [first + at for at in checkcasts(code)]
     package.add_class(class_record(above=external(0, 0)), [], [method(start, package.first_type(), len(code), len(handlers), 0)])
     return with_roles(libraries + [package])
@@ -302,7 +302,35 @@ def widening(share):
     return with_method(b"".join(forcing(unit, units) for unit in range(units)) + RETURN, 1, 1)
 
 
-SHAPES = [tree, chain, straight, covered, deep_handlers, climbing, waves, branches, rounds, indexed, widening]
+def entered(head, count, handlers):
+    """So many places under handlers, each with an entry of its own, over 250 registers; the head leads to them."""
+    code = head + bytes(count) + RETURN + (bytes([POP]) + RETURN) * handlers
+    after = len(head) + count + 1
+    return with_method(code, 2, 1, [(len(head), count, after + 2 * n) for n in range(handlers)], 250)
+
+
+def shorts(count):
+    return b"".join(bytes([SCONST_0, SSTORE, x]) for x in range(count))
+
+
+def branches_in(share):
+    """Branches to places under 250 handlers, from where none covers."""
+    handlers, first = part(share, 250), shorts(250)
+    count = (part(share, 30000) - len(first) - 2 * handlers - 1) // 5
+    start = len(first) + 4 * count
+    jumps = (bytes([SCONST_0]) + branch(IFEQ_W, start + n - (len(first) + 4 * n + 1)) for n in range(count))
+    return entered(first + b"".join(jumps), count, handlers)
+
+
+def cases_in(share):
+    """A switch with 4,000 cases, each of which leads to a place of its own under 250 handlers."""
+    handlers, count, first = part(share, 250), part(share, 4000), shorts(250) + bytes([SCONST_0])
+    table = 7 + 2 * count
+    ways = b"".join(u2(table + n) for n in range(count))
+    return entered(first + bytes([STABLESWITCH]) + u2(table) + u2(0) + u2(count - 1) + ways, count, handlers)
+
+
+SHAPES = [tree, chain, straight, covered, deep_handlers, branches_in, cases_in, climbing, waves, branches, rounds, indexed, widening]
 
 
 def make(shape, share, folder):
