@@ -2,11 +2,12 @@
 _capcheck() {
     local word="${COMP_WORDS[COMP_CWORD]}"
     if ((COMP_CWORD == 1)); then
-        mapfile -t COMPREPLY < <(compgen -W "probe show check verify run defend trial transform gen --help" -- "$word")
+        mapfile -t COMPREPLY < <(compgen -W "probe show list asm check verify run defend trial bound transform gen --help" -- "$word")
         return
     fi
     case "${COMP_WORDS[1]}" in
         probe) ((COMP_CWORD == 2)) || return ;;
+        bound) ((COMP_CWORD > 2)) || return ;;
         run | defend | trial) ((COMP_CWORD > 3)) || return ;;
         gen) ((COMP_CWORD == 3)) || return ;;
     esac
