@@ -22,7 +22,8 @@ use Rattle.vm_store.specs.declared.kind.ObjectKind.{ObjectKind}
 use Rattle.vm_store.specs.declared.kind.ObjectKind.TheVariants.{References}
 use Rattle.vm_store.specs.Kind.{kind_of_handle}
 use Rattle.vm_store.specs.Typing.{HasType, IsReady, short, least_type, type_of_handle}
-use Rattle.vm_store.specs.Cells.{tagged, word_of, short_of_word}
+use Rattle.vm_store.specs.Cells.{tagged, word_of}
+use Rattle.vm_arithmetic.specs.Arithmetic.{short_of_word}
 use Rattle.vm_store.specs.State.{Frame, Object, State}
 use Rattle.vm_store.specs.Value.{byte_of_word}
 use Rattle.vm_store.specs.Laws.{HasContent}

@@ -29,7 +29,8 @@ use Rattle.vm_store.specs.declared.kind.ObjectKind.{ObjectKind}
 use Rattle.vm_store.specs.declared.kind.ObjectKind.TheVariants as kinds
 use Rattle.vm_store.specs.Kind.{kind_of_handle, type_of_kind}
 use Rattle.vm_store.specs.Typing.{HasType, short, high, low, null, reference, least_type, type_of_handle}
-use Rattle.vm_store.specs.Cells.{tagged, short_of_word}
+use Rattle.vm_store.specs.Cells.{tagged}
+use Rattle.vm_arithmetic.specs.Arithmetic.{short_of_word}
 use Rattle.vm_store.specs.State.{Object, State}
 use Rattle.vm_store.specs.Objects.{repeated}
 use Rattle.vm_store.specs.Value.{byte_of_word}

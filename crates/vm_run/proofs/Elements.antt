@@ -12,7 +12,8 @@ use Rattle.jc_base.specs.Cell.{AreElementsOf}
 use Rattle.vm_store.specs.declared.kind.ObjectKind.{ObjectKind}
 use Rattle.vm_store.specs.declared.kind.ObjectKind.TheVariants.{Ints}
 use Rattle.vm_store.specs.Kind.{element_width}
-use Rattle.vm_store.specs.Cells.{Cells, short_of_word}
+use Rattle.vm_store.specs.Cells.{Cells}
+use Rattle.vm_arithmetic.specs.Arithmetic.{short_of_word}
 use Rattle.vm_store.specs.State.{State, Object}
 use Rattle.vm_store.specs.Objects.{object_cells, with_object, with_object_cell, array_cells}
 use Rattle.vm_store.specs.Layout.{overwritten}

@@ -7,7 +7,8 @@ use Rattle.jc_base.specs.declared.ty.Ty.{Ty}
 use Rattle.jc_base.specs.declared.record.ArrayRec.{ArrayRec}
 use Rattle.jc_base.specs.Class.{ClassTable}
 use Rattle.jc_base.specs.Cell.{width, AreInitialWords}
-use Rattle.vm_store.specs.Cells.{Cells, short_of_word}
+use Rattle.vm_store.specs.Cells.{Cells}
+use Rattle.vm_arithmetic.specs.Arithmetic.{short_of_word}
 use Rattle.vm_step.specs.Start.{field_cells}
 
 pub field-size : {A : Type 0} (k : Cells A) (kind : Kind) (words : List ℕ) → length words ≡ width kind

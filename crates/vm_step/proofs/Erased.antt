@@ -12,7 +12,8 @@ use Rattle.jc_base.specs.World.{Linked}
 use Rattle.vm_store.specs.declared.cell.Cell.{Cell}
 use Rattle.vm_store.specs.declared.kind.ObjectKind.{ObjectKind}
 use Rattle.vm_store.specs.declared.kind.ObjectKind.TheVariants.{Instance, Booleans, Bytes, Shorts, Ints, References}
-use Rattle.vm_store.specs.Cells.{tagged, words, word_of, short_of_word}
+use Rattle.vm_store.specs.Cells.{tagged, words, word_of}
+use Rattle.vm_arithmetic.specs.Arithmetic.{short_of_word}
 use Rattle.vm_store.specs.State.{State, Frame, Object, erased, map_object, map_frame, entered}
 use Rattle.vm_store.specs.Objects.{with_object}
 use Rattle.vm_store.specs.Value.{byte_of_word}

@@ -16,7 +16,8 @@ use Rattle.jc_base.specs.World.{Linked}
 use Rattle.jc_ops.specs.declared.operation.Width.TheVariants as widths
 use Rattle.vm_store.specs.declared.kind.ObjectKind.{ObjectKind}
 use Rattle.vm_store.specs.declared.kind.ObjectKind.TheVariants.{Bytes, Ints}
-use Rattle.vm_store.specs.Cells.{Cells, short_of_word}
+use Rattle.vm_store.specs.Cells.{Cells}
+use Rattle.vm_arithmetic.specs.Arithmetic.{short_of_word}
 use Rattle.vm_store.specs.State.{State, Object, entered}
 use Rattle.vm_store.specs.Objects.{with_object, object_limit, cell_limit}
 use Rattle.vm_store.specs.Value.{byte_of_word}

@@ -1,8 +1,8 @@
 -- The two forms in which a machine keeps a cell: with the kind of what it holds, or as a bare word
 -- of 16 bits (JCVM 2.2, section 3.1). Frames, objects and steps are defined once, over the
 -- operations in which the two differ.
-use Rattle.std.specs.Prelude.{◌≡◌, ℕ, ◌+◌, ◌*◌, ℤ, pos, Bool, true, false, ◌==◌, if◌then◌else◌, List}
-use Rattle.std.specs.Int.{w16, w32, cast_unsigned, cast_signed}
+use Rattle.std.specs.Prelude.{◌≡◌, ℕ, ℤ, pos, Bool, true, false, ◌==◌, if◌then◌else◌, List}
+use Rattle.std.specs.Int.{w16, cast_unsigned}
 use Rattle.jc_base.specs.declared.ty.Ty.{Ty}
 use Rattle.jc_base.specs.declared.ty.Ty.TheVariants.{Bottom, Top}
 use Rattle.jc_base.specs.Class.{ClassTable}
@@ -40,16 +40,6 @@ zero_cell k made.Reference = k.reference 0
 zero_cell k made.Short = k.short (pos 0)
 zero_cell k made.High = k.high 0
 zero_cell k made.Low = k.low 0
-
--- ---- the numbers in cells
-
--- the short that a word of 16 bits stands for
-abbrev pub short_of_word : ℕ → ℤ
-short_of_word w = cast_signed w16 w
-
--- the int of a high and a low word
-abbrev pub int_of_words : ℕ → ℕ → ℤ
-int_of_words high low = cast_signed w32 (high * 65536 + low)
 
 -- ---- cells with their kinds
 

@@ -1,5 +1,5 @@
 use Rattle.std.proofs.Common.{◌≡◌, ◌<◌, ◌≤◌, ℕ, List, length, get_or, sym, ap, ◌∙◌, refl, arith, rules}
-use Rattle.vm_store.specs.Cells.{short_of_word}
+use Rattle.vm_arithmetic.specs.Arithmetic.{short_of_word}
 use Rattle.std.specs.Int.{w16}
 use mir.Val.{SFits}
 use Rattle.std.proofs.lemmas.Int.{to_z-of_z}

@@ -1,6 +1,6 @@
 use Rattle.std.proofs.Common.{◌≡◌, length, take}
 use Rattle.std.specs.Prelude.{map}
-use Rattle.vm_store.specs.Cells.{short_of_word}
+use Rattle.vm_arithmetic.specs.Arithmetic.{short_of_word}
 use Rattle.vm_store.specs.Objects.{array_cells, with_object}
 use Rattle.vm_store.specs.Layout.{overwritten}
 use Rattle.vm_run.proofs.arrays.make_shorts.Given as goal
