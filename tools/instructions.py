@@ -1,5 +1,5 @@
-"""The instructions of the standard (JCVM 2.2, chapter 7): their mnemonics, opcodes and operands, and how they are read from
-the bytes of a method's code. `docs/ON-CARD.md` has the same table from the definitions, and its script compares the two."""
+"""The instructions of the standard (JCVM 2.2, chapter 7): their mnemonics, opcodes and operands. `docs/ON-CARD.md` has the same
+table from the definitions, and its script compares the two."""
 
 POOL_BYTE, POOL, LABEL, WIDE_LABEL = "u1 pool index", "u2 pool index", "s1 branch", "s2 branch"
 REGISTER, KIND, BYTE, SHORT_NUMBER, COUNT = "u1 register", "u1 type", "s1 number", "s2 number", "u1 count"
@@ -53,43 +53,3 @@ def rows():
 
 BY_OPCODE = list(rows())
 INSTRUCTIONS = {row[0]: (opcode, *row[1:]) for opcode, row in enumerate(BY_OPCODE) if row}
-SWITCHES = {"stableswitch", "itableswitch", "slookupswitch", "ilookupswitch"}
-
-
-class Unreadable(Exception):
-    """No instruction is read at a place; the text says why."""
-
-
-def number(code, at, kind):
-    size = SIZES[kind]
-    if at + size > len(code):
-        raise Unreadable("the code ends inside the instruction")
-    return int.from_bytes(code[at:at + size], "big", signed=kind in SIGNED)
-
-
-def table_of(code, at, name, operands):
-    """The cases of a switch, as pairs of a key and an offset, behind the operands before them."""
-    if name.endswith("tableswitch"):
-        low, high = operands[1][1], operands[2][1]
-        return [(low + n, number(code, at + 2 * n, WIDE_LABEL)) for n in range(high - low + 1)], 2 * max(high - low + 1, 0)
-    key = SHORT_NUMBER if name == "slookupswitch" else INT_NUMBER
-    step, count = SIZES[key] + 2, operands[1][1]
-    pairs = [(number(code, at + step * n, key), number(code, at + step * n + SIZES[key], WIDE_LABEL)) for n in range(count)]
-    return pairs, step * count
-
-
-def decode(code, at):
-    """The instruction at a place: its mnemonic, its operands as pairs of a kind and a number, the cases of a switch, and its
-    length."""
-    if not 0 <= at < len(code):
-        raise Unreadable("the code has no byte there")
-    row = BY_OPCODE[code[at]] if code[at] < len(BY_OPCODE) else None
-    if row is None:
-        raise Unreadable("opcode %d is none that capcheck takes" % code[at])
-    name, kinds = row[0], row[1:4] if row[0].endswith("tableswitch") else row[1:]
-    operands, end = [], at + 1
-    for kind in kinds:
-        operands.append((kind, number(code, end, kind)))
-        end += SIZES[kind]
-    cases, size = table_of(code, end, name, operands) if name in SWITCHES else ([], 0)
-    return name, operands, cases, end + size - at
