@@ -134,7 +134,7 @@ module _ (dir : List ℕ) where
         ∙ file_other roles_tag header_tag middle (Some inorder.header) refl
         ∙ file_same roles_tag inorder.others given (below_none 2 256 roles_tag inorder.others inorder.rising (omega arith))
 
-    are_kept : (before after : Folders) → AreStored dir stores before after → AreKept dir parts given before after
+    pub are_kept : (before after : Folders) → AreStored dir stores before after → AreKept dir parts given before after
     are_kept before after all = record {
       stores = stores;
       components = component;
@@ -145,12 +145,12 @@ module _ (dir : List ℕ) where
 -- ---- over a world
 
 -- the world of which a last step says so
-record Over (own : Own) (dirs : List (List ℕ)) (before after : Outside) (verdict : Verdict) : Type 0 where
-  world : Linked
-  held : HoldWorld before.folders dirs world
-  holds : own held.packages held.roles world before after verdict
+pub record Over (own : Own) (dirs : List (List ℕ)) (before after : Outside) (verdict : Verdict) : Type 0 where
+  pub world : Linked
+  pub held : HoldWorld before.folders dirs world
+  pub holds : own held.packages held.roles world before after verdict
 
-over : (own : Own) (dirs : List (List ℕ)) (before after : Outside) (text : _) → OverFolders (OverWorld own) dirs before after (Done text)
+pub over : (own : Own) (dirs : List (List ℕ)) (before after : Outside) (text : _) → OverFolders (OverWorld own) dirs before after (Done text)
     → Over own dirs before after (Done text)
 over own dirs before after text (inl stops) = absurd stops
 over own dirs before after text (inr of) = elim of.holds.holds [
