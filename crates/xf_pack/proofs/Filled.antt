@@ -1,39 +1,32 @@
 -- Rewritten code has an instruction, and so has what is laid for it.
-use Rattle.std.proofs.Common.{◌≡◌, ℕ, zero, suc, ◌+◌, ◌<◌, ◌≤◌, List, [], ◌∷◌, ◌++◌, length, flat_map, Option, Some, Result, Ok}
-use Rattle.std.proofs.Common.{Err, refl, sym, ap, subst, ◌∙◌, arith}
+use Rattle.std.proofs.Common.{◌≡◌, ℕ, ◌<◌, ◌≤◌, List, [], ◌∷◌, ◌++◌, length, flat_map, Option, Some, Ok}
+use Rattle.std.proofs.Common.{refl, sym, ap, subst, arith}
 use Rattle.std.specs.Prelude.{slice_get}
 use Rattle.jc_base.specs.declared.ty.Ty.TheVariants.{Top}
 use Rattle.jc_base.specs.World.{Linked}
 use Rattle.jc_base.proofs.Lists.{IsSomeAnd-some}
 use Rattle.jc_decode.specs.declared.insn.Placed.{Placed}
 use Rattle.jc_decode.specs.declared.symbols.Item.{Item}
-use Rattle.jc_decode.specs.declared.symbols.Item.TheVariants.{Label}
 use Rattle.jc_decode.specs.declared.symbols.Laid.{Laid}
 use Rattle.jc_decode.specs.declared.symbols.Symbols.{Symbols}
 use Rattle.jc_decode.specs.Laws.{InstructionsAreListed}
-use Rattle.jc_decode.specs.Listing.{listing, listing_end, end_from, Lists}
+use Rattle.jc_decode.specs.Listing.{listing, end_from, Lists}
 use Rattle.jc_decode.specs.Standing.{AreSteps, StandsAt}
 use Rattle.jc_decode.specs.Symbols.{Step, steps}
 use Rattle.jc_decode.proofs.Elements.{Contains-slice_get}
 use Rattle.jc_control.specs.Control.{IsReached, begins}
 use Rattle.jc_control.specs.Method.{Method, IsMethodOf}
 use Rattle.jc_control.specs.WellFormed.{HasInstruction}
-use Rattle.jc_ops.specs.declared.fault.RuleFault.{RuleFault}
-use Rattle.jc_ops.specs.declared.operation.Branch.TheVariants as branches
-use Rattle.jc_ops.specs.declared.operation.Holder.TheVariants as holders
-use Rattle.jc_ops.specs.declared.operation.Sort.TheVariants as sorts
 use Rattle.jc_ops.specs.declared.operation.Operation.{Operation}
-use Rattle.jc_ops.specs.declared.operation.Operation.TheVariants as ops
 use Rattle.jc_rules.specs.Demand.{Frame}
-use Rattle.jc_rules.specs.Flow.{At, FlowTyping, IsFollowed}
+use Rattle.jc_rules.specs.Flow.{FlowTyping, IsFollowed}
 use Rattle.xf_homes.specs.declared.home.Home.{Home}
 use Rattle.xf_homes.specs.Source.{Source}
-use Rattle.xf_homes.specs.Plan.{is_leader, operation}
+use Rattle.xf_homes.specs.Plan.{operation}
 use Rattle.xf_emission.specs.declared.origin.Origin.TheVariants.{Start}
-use Rattle.xf_emission.specs.Move.{copy, loads}
 use Rattle.xf_emission.specs.Edge.{copies}
-use Rattle.xf_emission.specs.Group.{body, done, entrance, fallen, group, group_by, pop_item}
-use Rattle.xf_emission.specs.Emission.{AreSymbolsOf, catching_stubs, items, rewritten, stubs}
+use Rattle.xf_emission.specs.Group.{body, done, entrance, fallen, group}
+use Rattle.xf_emission.specs.Emission.{AreSymbolsOf, items, rewritten}
 use Rattle.law_rewritten_typing.proofs.Typings.{count-steps}
 use Rattle.law_rewritten_typing.proofs.Walks.{count, count-append}
 use Rattle.law_rewritten_typing.proofs.Numbers.{right-some, body-some}

@@ -1,11 +1,10 @@
 -- Each entry of the handler table of a package belongs to one method, so that the handlers of all methods are no more than the table has.
 use Rattle.std.proofs.Common.{◌≡◌, ℕ, zero, suc, ◌+◌, ◌-◌, ◌<◌, ◌≤◌, Bool, true, false, ◌&&◌, ltb, leb, min, List, [], ◌∷◌}
-use Rattle.std.proofs.Common.{◌++◌, length, filter, cond, refl, sym, ap, subst, ◌∙◌, arith}
+use Rattle.std.proofs.Common.{length, filter, cond, refl, arith}
 use Rattle.std.specs.List.{filter_map, enumerate_from}
 use Rattle.std.proofs.lemmas.Bool.{ltb-true, ltb-false, leb-true, leb-false}
-use Rattle.cap_desc.specs.DescriptorFormat.{MethodDescriptor, ClassDescriptor}
-use Rattle.cap_desc.specs.Members.{methods_but}
-use Rattle.cap_package.specs.HandlerChecks.{claims, is_within, claim_fault, numbered_fault}
+use Rattle.cap_desc.specs.DescriptorFormat.{MethodDescriptor}
+use Rattle.cap_package.specs.HandlerChecks.{claims, claim_fault, numbered_fault}
 use Rattle.cap_package.specs.PackageRecord.{PackageRecord, described_methods}
 use Rattle.cap_package.specs.StandsFor.{StandsFor}
 use Rattle.cap_package.proofs.StaticsKnown.{both_empty}

@@ -7,4 +7,5 @@ mod Filled
 mod Sound
 pub mod Passing
 mod Coded
+mod Served
 mod Written

@@ -1,6 +1,6 @@
 -- What is laid for the methods of the last package is what its writer takes.
-use Rattle.std.proofs.Common.{◌≡◌, ℕ, zero, suc, ◌+◌, ◌-◌, ◌<◌, ◌≤◌, Bool, true, false, MatchBool, cond, min, List, [], ◌∷◌}
-use Rattle.std.proofs.Common.{◌++◌, length, map, take, drop, Option, Some, None, refl, sym, ap, subst, ◌∙◌, inl, inr, arith, length-take}
+use Rattle.std.proofs.Common.{◌≡◌, ℕ, suc, ◌+◌, ◌-◌, ◌<◌, ◌≤◌, Bool, true, false, MatchBool, cond, min, List, [], ◌∷◌}
+use Rattle.std.proofs.Common.{◌++◌, length, map, drop, Option, Some, None, refl, sym, ap, subst, ◌∙◌, inl, inr, arith, length-take}
 use Rattle.std.specs.Prelude.{slice_get, slice_index}
 use Rattle.std.proofs.lemmas.List.{length-map, length-drop}
 use Rattle.cap_desc.specs.DescriptorFormat.{ClassDescriptor, MethodDescriptor}
@@ -9,7 +9,7 @@ use Rattle.cap_method.specs.MethodFormat.{Header}
 use Rattle.cap_package.specs.HeaderChecks.{header_in, is_abstract}
 use Rattle.cap_package.specs.PackageRecord.{PackageRecord, names_interface, handlers_of}
 use Rattle.cap_package.specs.StandsFor.{StandsFor}
-use Rattle.law_package.specs.Laying.{IsFor, IsCodeFor}
+use Rattle.law_package.specs.Laying.{IsCodeFor}
 use Rattle.cap_write.specs.Condition.{AreElements, IsElement, MayBeLaid, handler_sum, methods_for, no_method}
 use Rattle.first_fault.specs.First.{AllEmpty}
 use Rattle.jc_base.specs.declared.record.MethodRec.{MethodRec}
@@ -20,7 +20,7 @@ use Rattle.jc_decode.specs.declared.symbols.Laid.{Laid}
 use Rattle.jc_link.specs.World.{IsLinked}
 use Rattle.jc_resolve.specs.declared.method_records.Body.{Body}
 use Rattle.jc_resolve.specs.Conditions.{conditions}
-use Rattle.jc_resolve.specs.NamedMethods.{body_after, body_of, handler_named, have_headers, method_with, named_method, no_body, offset_in_info, class_described}
+use Rattle.jc_resolve.specs.NamedMethods.{body_after, body_of, handler_named, have_headers, named_method, no_body, offset_in_info}
 use Rattle.jc_resolve.specs.Numbering.{NumberedMethod, numbered_method, methods_of_class, methods_of_classes}
 use Rattle.jc_resolve.specs.WorldTypes.{declared_signature}
 use Rattle.jc_resolve.proofs.Faultless.{IsOneOf}

@@ -1,11 +1,9 @@
 -- The last package is written with what is laid for its methods, and what is told where it is not.
-use Rattle.std.proofs.Common.{◌≡◌, ℕ, ◌+◌, ◌-◌, ◌<◌, ◌≤◌, Bool, true, false, List, [], ◌∷◌, inl, inr, length, Option, Some}
-use Rattle.std.proofs.Common.{None, cond, refl, sym, ap, subst, ◌∙◌, arith}
-use Rattle.std.specs.Prelude.{All, slice_get, nat_lt, ◌==◌, ◌||◌, min, if◌then◌else◌}
+use Rattle.std.proofs.Common.{◌≡◌, ℕ, ◌+◌, ◌-◌, ◌<◌, ◌≤◌, Bool, true, false, List, [], length, Option, Some}
+use Rattle.std.proofs.Common.{None, refl, subst, arith}
+use Rattle.std.specs.Prelude.{slice_get, nat_lt, ◌==◌, ◌||◌, min, if◌then◌else◌}
 use Rattle.std.specs.Option.{option_to_list}
 use Rattle.std.proofs.lemmas.Bool.{eqb-false}
-use Rattle.std.proofs.lemmas.List.Elements.{All-head, All-tail}
-use Rattle.cap_desc.specs.DescriptorFormat.{ClassDescriptor}
 use Rattle.cap_package.specs.PackageRecord.{PackageRecord}
 use Rattle.cap_package.specs.Parts.{Lent}
 use Rattle.cap_package.specs.StandsFor.{StandsFor}
@@ -17,18 +15,19 @@ use Rattle.jc_decode.specs.declared.symbols.Laid.{Laid}
 use Rattle.jc_link.specs.World.{IsLinked}
 use Rattle.jc_resolve.specs.declared.fault.LinkFault.{LinkFault}
 use Rattle.jc_resolve.specs.declared.fault.LinkFault.TheVariants.{TooManyPackages}
-use Rattle.jc_resolve.proofs.Faultless.{IsOneOf}
+use Rattle.law_index.specs.WrittenIndex.{WrittenIndexIsExact}
 use Rattle.law_relink.specs.Last.{and_last}
 use Rattle.law_transform.specs.LikeEndings.{LaidEndAlike}
 use Rattle.law_transform.specs.AcceptedWorld.{LaidIsAccepted}
 use Rattle.xf_pack.specs.declared.end.TransformEnd.{TransformEnd}
 use Rattle.xf_pack.specs.declared.end.TransformEnd.TheVariants.{Link, Library, Typing, Limit, PartLong, Memory}
-use Rattle.xf_pack.specs.Ends.{AreAcceptedLibraries, IsPartLong, IsTypedLast, TellsLinked, TellsOf, TellsTransform}
+use Rattle.xf_pack.specs.Ends.{AreAcceptedLibraries, IsPartLong, IsTypedLast, TellsOf, TellsTransform}
 use Rattle.xf_pack.specs.Passes.{BeginsLast, EachFrom, HasLast, IsLaidAt}
-use Rattle.xf_pack.specs.Transformed.{AreTransformed, IsTransformed}
-use Rattle.xf_pack.proofs.Elements.{are-laid}
+use Rattle.xf_pack.specs.Transformed.{IsTransformed}
+use Rattle.xf_pack.proofs.Elements.{are-laid, own-well}
 use Rattle.jc_resolve.proofs.OwnClasses.{own-reference}
-use Rattle.xf_pack.proofs.OwnMethods.{has-last, with-last}
+use Rattle.xf_pack.proofs.OwnMethods.{has-last, with-last, earlier_of, own_of, parts as methods-parted, before, last}
+use Rattle.xf_pack.proofs.Served.{all-served, new-codes}
 use Rattle.xf_pack.proofs.Suited.{may-be-laid}
 
 -- ---- packages that link
@@ -60,10 +59,11 @@ module _ (ps : List PackageRecord) (roles : List ℕ) (w : Linked) (linked : IsL
     last-may-be-laid agreed few = may-be-laid parted.0 p roles w last-linked first is laid each all agreed (own-reference p agreed) few
 
     module _ (accepted : AreAcceptedLibraries w) (typed : IsTypedLast w) where
-      pub transformed : StandsFor p.parts p → LaidIsAccepted w → LaidEndAlike w → (parts : List Lent) → IsWritten p laid parts
+      pub transformed : StandsFor p.parts p → LaidIsAccepted w → LaidEndAlike w → WrittenIndexIsExact → (parts : List Lent)
+          → IsWritten p laid parts
           → HaveRewritten p laid parts
           → IsTransformed ps roles w parts
-      transformed agreed law alike parts written again =
+      transformed agreed law alike exact parts written again =
           let code = are-laid parted.0 p roles w last-linked first is laid each all in
           let new = law parted.0 p again.made p.parts parts roles laid agreed again.stands again.rewritten last-linked accepted code in
           record {
@@ -80,7 +80,23 @@ module _ (ps : List PackageRecord) (roles : List ℕ) (w : Linked) (linked : IsL
               carded = new.1.carded;
               alike = alike parted.0 p again.made p.parts parts roles laid new.0 agreed again.stands again.rewritten last-linked accepted code new.1;
             };
-            anew = record { laid = laid; code = code; written = written; rewritten = again.rewritten; same = new.1.same };
+            anew = record {
+              laid = laid;
+              code = code;
+              written = written;
+              rewritten = again.rewritten;
+              same = new.1.same;
+              served = λ room.
+                  all-served new.0 new.1.carded
+                  (exact p.parts parts parted.0 p again.made laid roles w new.0 (earlier_of parted.0 p roles) (own_of parted.0 p roles) agreed
+                  again.stands again.rewritten written last-linked new.1.linked
+                  (record {
+                    parts = methods-parted parted.0 p roles w last-linked;
+                    earlier = before parted.0 p roles w last-linked;
+                    last = last parted.0 p roles w last-linked;
+                  })
+                  (new-codes w first (own_of parted.0 p roles) laid (own-well parted.0 p roles w last-linked first is laid each all)) room);
+            };
           }
 
       pub part-long : (size : ℕ) → IsPartTooLong p laid size → IsPartLong ps w size

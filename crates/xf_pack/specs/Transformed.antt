@@ -6,11 +6,13 @@ use Rattle.cap_package.specs.StandsFor.{StandsFor}
 use Rattle.law_package.specs.Rewritten.{IsRewritten}
 use Rattle.cap_write.specs.WrittenPackage.{IsWritten}
 use Rattle.card_typing.specs.Typing.{HasCardTyping}
+use Rattle.card_verify.specs.Counting.{IsByIndex}
 use Rattle.jc_base.specs.World.{Linked}
-use Rattle.jc_control.specs.Asked.{AllHave}
+use Rattle.jc_control.specs.Asked.{AllHave, IsOfLast}
 use Rattle.jc_control.specs.Method.{IsMethodOf}
 use Rattle.jc_decode.specs.declared.symbols.Laid.{Laid}
 use Rattle.jc_link.specs.World.{IsLinked}
+use Rattle.law_index.specs.WrittenIndex.{HasRoomForIndex}
 use Rattle.law_relink.specs.Last.{and_last}
 use Rattle.law_alike.specs.Ends.{EndsAlike}
 use Rattle.law_laid.specs.Apart.{IsSameBut}
@@ -33,13 +35,15 @@ pub record KeepsBehaviour (packages : List PackageRecord) (roles : List ℕ) (w 
   pub alike : EndsAlike w world
 
 -- The methods of the package are written anew with what is laid for them, and every other file is kept but for what tells of
--- methods. So the package that is made is the source with this code, and the new world the former one but for its code.
+-- methods. So the package that is made is the source with this code, and the new world the former one but for its code. Where
+-- it has room for a target index, each of its methods with code has one, over which a card typing exists.
 pub record IsWrittenAnew (source made : PackageRecord) (w new : Linked) (parts : List Lent) : Type 0 where
   pub laid : List (Option Laid)
   pub code : AreLaidOf w laid
   pub written : IsWritten source laid parts
   pub rewritten : IsRewritten source laid made
   pub same : IsSameBut w new
+  pub served : HasRoomForIndex source laid → AllHave (IsOfLast new) (λ m. IsByIndex new m.number)
 
 -- the parts keep the behaviour of the last package, and are written so
 pub record IsTransformed (packages : List PackageRecord) (roles : List ℕ) (w : Linked) (parts : List Lent) : Type 0 where

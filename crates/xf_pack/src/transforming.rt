@@ -15,8 +15,10 @@ use jc_link::{LinkEnd, link};
 use std::alloc::Global;
 
 /// The parts of the last package in the form that a verifier on the card accepts: with its libraries it makes a world again,
-/// in which each method with code has a card typing, and in which every run ends as it does in the former world. Roles are the
-/// positions of the classes that a machine needs among those of the first package.
+/// in which each method with code has a card typing, and in which every run ends as it does in the former world. Unless the
+/// package has another component with the tag of a target index, or the index would be too long, one is written over which
+/// each of its methods with code has a card typing. Roles are the positions of the classes that a machine needs among those
+/// of the first package.
 ///
 /// It ends with the first thing that fails: linking, a method of a library without a card typing, one of the last package
 /// without a dataflow typing, one that passes a limit, a Method component that would be too long.

@@ -9,6 +9,7 @@ use cap_package::{OwnedParts, Packages};
 use cap_write::{WriteEnd, write_package};
 use jc_base::World;
 use jc_decode::Laid;
+use law_index::written_index_is_exact;
 use law_transform::{laid_end_alike, laid_is_accepted};
 use std::alloc::Global;
 
@@ -32,6 +33,7 @@ pub(crate) fn write_last(
 {
     laid_is_accepted(world);
     laid_end_alike(world);
+    written_index_is_exact();
     let package = packages.at(packages.len() - 1);
     // Its parts stand for it, and its handlers are no more than one byte counts.
     let _parts = package.parts();

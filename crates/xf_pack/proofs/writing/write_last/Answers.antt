@@ -17,7 +17,7 @@ returns-in-Ok-clause-made c =
     let some = linked-some c.args.packages.now c.args.roles c.args.world.now c.requires.linked in
     transformed c.args.packages.now c.args.roles c.args.world.now c.requires.linked c.at-package.result.now (c.len.result - 1) c.at-package.ensures
     (omega (arith, some, c.len.ensures)) c.args.first c.requires.first c.args.laid.now c.requires.laid c.requires.all c.requires.accepted c.requires.typed
-    c.parts-parts.ensures.agree c.laid_is_accepted.ensures c.laid_end_alike.ensures.alike c.in-Ok.parts c.in-Ok.ensures.written c.in-Ok.ensures.again
+    c.parts-parts.ensures.agree c.laid_is_accepted.ensures c.laid_end_alike.ensures.alike c.written_index_is_exact.ensures c.in-Ok.parts c.in-Ok.ensures.written c.in-Ok.ensures.again
 
 pub returns-in-Err-PartLong-clause-end : goal.returns-in-Err-PartLong-clause-end
 returns-in-Err-PartLong-clause-end c =

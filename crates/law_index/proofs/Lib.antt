@@ -1,0 +1,4 @@
+pub mod Counts
+pub mod OwnInfo
+pub mod NewCode
+pub mod ExactIndexes
