@@ -7,6 +7,8 @@ pub mod Transforms
 pub mod Trials
 pub mod PackageLoads
 pub mod OnPackages
+pub mod Streams
+pub mod Packs
 pub mod Typings
 pub mod Cardings
 pub mod Worlds
