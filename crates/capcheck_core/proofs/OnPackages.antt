@@ -5,7 +5,6 @@ use Rattle.std.specs.Prelude.{Err}
 use Rattle.cap_components.specs.declared.fault.PackFault.{PackFault}
 use Rattle.cap_components.specs.declared.fault.PackFault.TheVariants.{Form, PartTooLong}
 use Rattle.cap_text.specs.Line.{malformed_line}
-use Rattle.capcheck_core.specs.declared.folder_fault.FolderFault.{FolderFault}
 use Rattle.capcheck_core.specs.declared.folder_fault.FolderFault.TheVariants.{Pack, Stream}
 use Rattle.capcheck_core.specs.declared.packages.PackagesStop.{PackagesStop}
 use Rattle.capcheck_core.specs.declared.packages.PackagesStop.TheVariants.{TooMany, Malformed, Failed, Memory}

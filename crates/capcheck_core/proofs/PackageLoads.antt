@@ -6,25 +6,17 @@ use Rattle.cap_files.specs.Folder.{Folders}
 use Rattle.cap_package.specs.Parts.{Lent}
 use Rattle.cap_package.specs.PackageRecord.{PackageRecord}
 use Rattle.cap_package.specs.StandsFor.{StandsFor}
-use Rattle.cap_load.specs.LoadFile.{IsLoadFile}
-use Rattle.cap_load.specs.Loaded as loaders
-use Rattle.capcheck_core.specs.declared.folder_fault.FolderFault.{FolderFault}
-use Rattle.capcheck_core.specs.declared.folder_fault.FolderFault.TheVariants.{Pack, Stream}
 use Rattle.capcheck_core.specs.declared.packages.PackagesStop.{PackagesStop}
 use Rattle.capcheck_core.specs.declared.packages.PackagesStop.TheVariants.{TooMany, Malformed, Failed, Memory}
 use Rattle.capcheck_core.specs.declared.source.Source.{Source}
-use Rattle.capcheck_core.specs.declared.source.Source.TheVariants.{Components, LoadFile}
 use Rattle.capcheck_core.specs.declared.verdict.Verdict.{Verdict}
 use Rattle.capcheck_core.specs.declared.verdict.Verdict.TheVariants as verdicts
-use Rattle.capcheck_core.specs.FolderFault.{folder_fault_line}
-use Rattle.capcheck_core.specs.InLoadFile.{AreInLoadFile}
-use Rattle.capcheck_core.specs.Loads.{AreParts}
-use Rattle.capcheck_core.specs.Place.{Place, places, source_before, in_components, in_load_file}
+use Rattle.capcheck_core.specs.Place.{Place, places}
 use Rattle.capcheck_core.specs.OverFolders.{StopsAtLoad}
 use Rattle.capcheck_core.specs.Outside.{Outside, CardWords, outside}
 use Rattle.capcheck_core.specs.Packages.{ArePartsBy, AreTooMany, FailsPartsBy, HasPackage, LacksPackage, IsFirstWhere}
 use Rattle.capcheck_core.specs.Roles.{AreRolesIn}
-use Rattle.capcheck_core.specs.PackageEnds.{RolesBeside, LoadsFiles, LoadsStream, HasLoaded, HasTaken, FinishesStream, StopsParts, ReadsPackage, StopsPackage, PackagesStopLeaves, IsStop}
+use Rattle.capcheck_core.specs.PackageEnds.{RolesBeside, StopsParts, ReadsPackage, StopsPackage, PackagesStopLeaves, IsStop}
 use Rattle.capcheck_core.specs.OverLoads.{GivenAfterFirst, RolesAre, StopsOver, AnswersOverRest, GoesOver, StopsLoads, GoesOverAll}
 use Rattle.capcheck_core.specs.World.{Own, OverPackages}
 

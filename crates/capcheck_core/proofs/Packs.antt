@@ -1,7 +1,7 @@
 -- The parts of a folder's package are framed, so that they can be packed, and how many blocks that makes.
 use Rattle.std.proofs.Common.{◌≡◌, ◌<◌, ◌≤◌, ◌+◌, ◌*◌, ◌/◌, ℕ, zero, suc, List, [], ◌∷◌, ◌++◌, Option, Some, None, IsNone, Bool, true, false}
-use Rattle.std.proofs.Common.{length, length-append, map, refl, sym, ap, subst, ◌∙◌, arith, eqb, ltb, leb, find, option_map, cond}
-use Rattle.std.specs.Prelude.{Result, Ok, Err, IsSome, ◌&&◌, ◌||◌}
+use Rattle.std.proofs.Common.{length, length-append, map, refl, sym, ap, subst, ◌∙◌, arith, eqb, leb, find, option_map, cond}
+use Rattle.std.specs.Prelude.{Result, Ok, Err, ◌&&◌, ◌||◌}
 use Rattle.std.specs.List.{AllByRecursion, cons_option}
 use Rattle.std.proofs.lemmas.Bool.{ne_eqb, eq-eqb, eqb-true, lt-leb, false≢true}
 use Rattle.std.proofs.Math.Bool.{and-false}
@@ -11,22 +11,21 @@ use Rattle.cap_bytes.specs.Reading.{reading}
 use Rattle.cap_bytes.proofs.Laws as laws
 use Rattle.cap_files.specs.Folder.{Folders}
 use Rattle.cap_frame.specs.Frame.{component}
-use Rattle.cap_frame.specs.DirectoryFormat.{Custom, DirectoryItems, directory_info}
+use Rattle.cap_frame.specs.DirectoryFormat.{Custom, directory_info}
 use Rattle.cap_frame.specs.Directory.{size_in, custom_size_in}
 use Rattle.cap_components.specs.declared.fault.PackFault.{PackFault}
 use Rattle.cap_components.specs.Components.{framed, info_in, read_part, read_directory, ◌>>=◌}
-use Rattle.cap_components.specs.Parts.{Lent, held, HasEachOnce}
-use Rattle.cap_components.specs.PartChecks.{form_by, form_fault, custom_tags}
-use Rattle.cap_components.specs.Saying.{AreSaid, HoldsComponent, Says, SaysIf}
+use Rattle.cap_components.specs.Parts.{Lent, held}
+use Rattle.cap_components.specs.PartChecks.{form_by, form_fault}
+use Rattle.cap_components.specs.Saying.{HoldsComponent, Says, SaysIf}
 use Rattle.cap_components.proofs.PartsLemmas.{held-other, held-same}
 use Rattle.cap_components.proofs.Saying.{part_read, formed_ok}
 use Rattle.cap_load.specs.LoadFile.{block, in_blocks, stream_of}
-use Rattle.cap_load.specs.Order.{place}
 use Rattle.cap_load.specs.Packing.{AreFull, IsFramed}
 use Rattle.cap_package.specs.PackageRecord.{PackageRecord}
 use Rattle.cap_package.specs.StandsFor.{StandsFor}
-use Rattle.first_fault.specs.First.{at_fault, AllEmpty}
-use Rattle.capcheck_core.specs.Loads.{is_required, is_optional, is_some_size, is_sized, is_asked, AreParts, Rise}
+use Rattle.first_fault.specs.First.{at_fault}
+use Rattle.capcheck_core.specs.Loads.{is_optional, is_some_size, is_sized, is_asked, AreParts, Rise}
 use Rattle.capcheck_core.specs.Pack.{IsOfFolder}
 use Rattle.capcheck_core.proofs.Loads.{unrequired}
 

@@ -1,10 +1,9 @@
 -- The parts of a package in its Load file, from the bytes that a loader took.
-use Rattle.std.proofs.Common.{◌≡◌, ◌≤◌, ℕ, List, [], ◌++◌, Option, Some, None, Result, Ok, Err, length, refl, sym, ap, subst, ◌∙◌}
+use Rattle.std.proofs.Common.{◌≡◌, ◌≤◌, ℕ, List, [], ◌++◌, Option, Some, None, Result, Ok, Err, length, refl, sym, subst, ◌∙◌}
 use Rattle.cap_files.specs.Folder.{Folders, IsThere}
 use Rattle.cap_components.specs.Parts.{Lent}
 use Rattle.cap_load.specs.declared.fault.StreamFault.{StreamFault}
 use Rattle.cap_load.specs.declared.fault.StreamFault.TheVariants.{NoTag, Order, Full, AfterEnd, Unfinished}
-use Rattle.cap_load.specs.declared.finish_end.FinishEnd.{FinishEnd}
 use Rattle.cap_load.specs.declared.finish_end.FinishEnd.TheVariants as ends
 use Rattle.cap_load.specs.Fault.{IsFirst, IsRefused}
 use Rattle.cap_load.specs.Finishing.{Finishes}

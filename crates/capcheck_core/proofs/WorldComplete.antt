@@ -1,6 +1,6 @@
 -- Where the parts of packages and the roles beside the first make a world, nothing stops a command before its own last step but a load
 -- that fails, or no memory.
-use Rattle.std.proofs.Common.{◌≡◌, ◌⊎◌, ◌<◌, ◌≤◌, ◌+◌, ℕ, suc, List, [], ◌∷◌, ◌++◌, length, Some, refl, sym, ap, subst, ◌∙◌, inl, inr}
+use Rattle.std.proofs.Common.{◌≡◌, ◌⊎◌, ◌<◌, ◌≤◌, ℕ, suc, List, [], ◌∷◌, length, Some, refl, sym, ap, subst, ◌∙◌, inl, inr}
 use Rattle.std.proofs.Common.{arith, length-append}
 use Rattle.std.specs.Prelude.{Err, IfSome, IsSomeAnd, None}
 use Rattle.std.specs.FinMap as map
@@ -12,7 +12,7 @@ use Rattle.cap_files.specs.Counts.{Rose}
 use Rattle.cap_files.specs.Folder.{Parts, Folders, Holds, IsThere, IsAbsent, IsTooLong, LoadFails}
 use Rattle.cap_components.specs.declared.fault.PackFault.{PackFault}
 use Rattle.cap_components.specs.declared.fault.PackFault.TheVariants as faults
-use Rattle.cap_load.specs.LoadFile.{block, in_blocks, stream_of, files_of, IsLoadFile, IsLoadFileWithin}
+use Rattle.cap_load.specs.LoadFile.{block, in_blocks, IsLoadFile, IsLoadFileWithin}
 use Rattle.cap_load.proofs.Streams as streams
 use Rattle.cap_package.specs.Parts.{Lent}
 use Rattle.cap_package.specs.PackageRecord.{PackageRecord}

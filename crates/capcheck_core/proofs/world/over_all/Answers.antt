@@ -1,5 +1,5 @@
 -- the folders are few enough, or they are counted
-use Rattle.std.proofs.Common.{[], None, refl, subst, sym, ap, length, inl, inr}
+use Rattle.std.proofs.Common.{None, refl, subst, sym, ap, length, inl, inr}
 use Rattle.cap_files.specs.WordsLeft.{words_left}
 use Rattle.capcheck_core.specs.LentCard.{words_of}
 use Rattle.capcheck_core.specs.Outside.{outside}
