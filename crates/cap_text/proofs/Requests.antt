@@ -9,15 +9,14 @@ use Rattle.cap_text.specs.Word.{IsArgWord, AreArgWords}
 use Rattle.cap_text.specs.Probe.{ProbeRequest, IsProbe}
 use Rattle.cap_text.specs.OfDir.{OfDirRequest, IsOfDir}
 use Rattle.cap_text.specs.OutOfDir.{OutOfDirRequest, IsOutOfDir}
-use Rattle.cap_text.specs.Check.{CheckRequest, IsCheck}
-use Rattle.cap_text.specs.Verify.{VerifyRequest, IsVerify}
+use Rattle.cap_text.specs.OfDirs.{OfDirsRequest, IsOfDirs}
 use Rattle.cap_text.specs.Entry.{IsEntryWord}
 use Rattle.std.specs.List.{after_first}
 use Rattle.cap_text.specs.Run.{RunRequest, AreRunWords, is_end}
 use Rattle.cap_text.specs.Transform.{TransformRequest, IsTransform}
 use Rattle.cap_text.specs.Generate.{GenerateRequest, IsGenerate}
 use Rattle.cap_text.specs.EntryWords.{EntryRequest, AreEntryWords}
-use Rattle.cap_text.specs.Request.{Request, probe, show, list, asm, check, verify, defend, run, transform, trial, generate, bound, IsRequest, IsUsage, OneRequest}
+use Rattle.cap_text.specs.Request.{Request, probe, show, list, asm, check, verify, defend, run, transform, trial, generate, bound, pack, install, IsRequest, IsUsage, OneRequest}
 use Rattle.cap_text.specs.declared.entry.Entry.{Entry}
 use Rattle.vm_step.specs.Arguments.{Argument, number, null, bytes}
 use Rattle.hex.specs.Hex.{encode_lower, decode_of, IsBytes}
@@ -88,11 +87,8 @@ one_out_of_dir (out ∷ dir ∷ []) o p is_o is_p =
     λ i. record { out = same_out i; dir = same_dir i }
 one_out_of_dir (out ∷ dir ∷ more ∷ rest) o p is_o is_p = absurd is_o
 
-one_check : (operands : List (List ℕ)) (c d : CheckRequest) → IsCheck operands c → IsCheck operands d → c ≡ d
-one_check operands c d is_c is_d = let same : c.dirs ≡ d.dirs = is_c.0 ∙ sym is_d.0 in λ i. record { dirs = same i }
-
-one_verify : (operands : List (List ℕ)) (v w : VerifyRequest) → IsVerify operands v → IsVerify operands w → v ≡ w
-one_verify operands v w is_v is_w = let same : v.dirs ≡ w.dirs = is_v.0 ∙ sym is_w.0 in λ i. record { dirs = same i }
+one_of_dirs : (operands : List (List ℕ)) (d e : OfDirsRequest) → IsOfDirs operands d → IsOfDirs operands e → d ≡ e
+one_of_dirs operands d e is_d is_e = let same : d.dirs ≡ e.dirs = is_d.0 ∙ sym is_e.0 in λ i. record { dirs = same i }
 
 -- an entry has one word
 one_entry : (word : List ℕ) (e f : Entry) → IsEntryWord word e → IsEntryWord word f → e ≡ f
@@ -150,14 +146,16 @@ key_of (probe p) = 11205
 key_of (show d) = 11504
 key_of (list d) = 10804
 key_of (asm o) = 9703
-key_of (check c) = 9905
-key_of (verify v) = 11806
+key_of (check d) = 9905
+key_of (verify d) = 11806
 key_of (defend r) = 10006
 key_of (run r) = 11403
 key_of (transform t) = 11609
 key_of (trial r) = 11605
 key_of (generate g) = 10303
 key_of (bound e) = 9805
+key_of (pack o) = 11204
+key_of (install d) = 10507
 
 named : (name : List ℕ) (operands : List (List ℕ)) (r : Request) → IsRequest (name ∷ operands) r → key name ≡ key_of r
 unfolding first key key_of
@@ -165,39 +163,51 @@ named name operands (probe p) is = ap key is.0
 named name operands (show d) is = ap key is.0
 named name operands (list d) is = ap key is.0
 named name operands (asm o) is = ap key is.0
-named name operands (check c) is = ap key is.0
-named name operands (verify v) is = ap key is.0
+named name operands (check d) is = ap key is.0
+named name operands (verify d) is = ap key is.0
 named name operands (defend r) is = ap key is.0
 named name operands (run r) is = ap key is.0
 named name operands (transform t) is = ap key is.0
 named name operands (trial r) is = ap key is.0
 named name operands (generate g) is = ap key is.0
 named name operands (bound e) is = ap key is.0
+named name operands (pack o) is = ap key is.0
+named name operands (install d) is = ap key is.0
 
 -- words that begin with the command's name and are outside its grammar ask for nothing
-only_check : (name : List ℕ) (operands : List (List ℕ)) → name ≡ codes "check" → ((c : CheckRequest) → IsCheck operands c → ⊥)
+only_check : (name : List ℕ) (operands : List (List ℕ)) → name ≡ codes "check" → ((d : OfDirsRequest) → IsOfDirs operands d → ⊥)
     → (r : Request) → IsRequest (name ∷ operands) r → ⊥
 unfolding first key key_of
-only_check name operands called none (check c) is = none c is.1
+only_check name operands called none (check d) is = none d is.1
 only_check name operands called none r is = eqb-false (key_of r) 9905 refl (sym (named name operands r is) ∙ ap key called)
 
-only_verify : (name : List ℕ) (operands : List (List ℕ)) → name ≡ codes "verify" → ((v : VerifyRequest) → IsVerify operands v → ⊥)
+only_verify : (name : List ℕ) (operands : List (List ℕ)) → name ≡ codes "verify" → ((d : OfDirsRequest) → IsOfDirs operands d → ⊥)
     → (r : Request) → IsRequest (name ∷ operands) r → ⊥
 unfolding first key key_of
-only_verify name operands called none (verify v) is = none v is.1
+only_verify name operands called none (verify d) is = none d is.1
 only_verify name operands called none r is = eqb-false (key_of r) 11806 refl (sym (named name operands r is) ∙ ap key called)
+
+only_install : (name : List ℕ) (operands : List (List ℕ)) → name ≡ codes "install" → ((d : OfDirsRequest) → IsOfDirs operands d → ⊥)
+    → (r : Request) → IsRequest (name ∷ operands) r → ⊥
+unfolding first key key_of
+only_install name operands called none (install d) is = none d is.1
+only_install name operands called none r is = eqb-false (key_of r) 10507 refl (sym (named name operands r is) ∙ ap key called)
 
 none_of : (words : List (List ℕ)) (name : List ℕ) (operands : List (List ℕ)) → words ≡ name ∷ operands
     → ((r : Request) → IsRequest (name ∷ operands) r → ⊥) → IsUsage words
 none_of words name operands is none r asks = none r (subst (λ ws. IsRequest ws r) is asks)
 
 pub no_check : (words : List (List ℕ)) (name : List ℕ) (operands : List (List ℕ)) → words ≡ name ∷ operands → name ≡ codes "check"
-    → ((c : CheckRequest) → IsCheck operands c → ⊥) → IsUsage words
+    → ((d : OfDirsRequest) → IsOfDirs operands d → ⊥) → IsUsage words
 no_check words name operands is called none = none_of words name operands is (only_check name operands called none)
 
 pub no_verify : (words : List (List ℕ)) (name : List ℕ) (operands : List (List ℕ)) → words ≡ name ∷ operands → name ≡ codes "verify"
-    → ((v : VerifyRequest) → IsVerify operands v → ⊥) → IsUsage words
+    → ((d : OfDirsRequest) → IsOfDirs operands d → ⊥) → IsUsage words
 no_verify words name operands is called none = none_of words name operands is (only_verify name operands called none)
+
+pub no_install : (words : List (List ℕ)) (name : List ℕ) (operands : List (List ℕ)) → words ≡ name ∷ operands → name ≡ codes "install"
+    → ((d : OfDirsRequest) → IsOfDirs operands d → ⊥) → IsUsage words
+no_install words name operands is called none = none_of words name operands is (only_install name operands called none)
 
 pub one_request : (words : List (List ℕ)) → OneRequest words
 unfolding key_of
@@ -206,13 +216,15 @@ one_request (name ∷ operands) (probe p) (probe q) is_r is_s = ap probe (one_pr
 one_request (name ∷ operands) (show d) (show e) is_r is_s = ap show (one_of_dir operands d e is_r.1 is_s.1)
 one_request (name ∷ operands) (list d) (list e) is_r is_s = ap list (one_of_dir operands d e is_r.1 is_s.1)
 one_request (name ∷ operands) (asm o) (asm p) is_r is_s = ap asm (one_out_of_dir operands o p is_r.1 is_s.1)
-one_request (name ∷ operands) (check c) (check d) is_r is_s = ap check (one_check operands c d is_r.1 is_s.1)
-one_request (name ∷ operands) (verify v) (verify w) is_r is_s = ap verify (one_verify operands v w is_r.1 is_s.1)
+one_request (name ∷ operands) (check d) (check e) is_r is_s = ap check (one_of_dirs operands d e is_r.1 is_s.1)
+one_request (name ∷ operands) (verify d) (verify e) is_r is_s = ap verify (one_of_dirs operands d e is_r.1 is_s.1)
 one_request (name ∷ operands) (defend r) (defend s) is_r is_s = ap defend (one_run operands r s is_r.1 is_s.1)
 one_request (name ∷ operands) (run r) (run s) is_r is_s = ap run (one_run operands r s is_r.1 is_s.1)
 one_request (name ∷ operands) (transform t) (transform u) is_r is_s = ap transform (one_transform operands t u is_r.1 is_s.1)
 one_request (name ∷ operands) (trial r) (trial s) is_r is_s = ap trial (one_run operands r s is_r.1 is_s.1)
 one_request (name ∷ operands) (generate g) (generate h) is_r is_s = ap generate (one_generate operands g h is_r.1 is_s.1)
 one_request (name ∷ operands) (bound e) (bound f) is_r is_s = ap bound (one_at_entry operands e f is_r.1 is_s.1)
+one_request (name ∷ operands) (pack o) (pack p) is_r is_s = ap pack (one_out_of_dir operands o p is_r.1 is_s.1)
+one_request (name ∷ operands) (install d) (install e) is_r is_s = ap install (one_of_dirs operands d e is_r.1 is_s.1)
 one_request (name ∷ operands) r s is_r is_s =
     absurd (eqb-false (key_of r) (key_of s) refl (sym (named name operands r is_r) ∙ named name operands s is_s))

@@ -11,6 +11,8 @@ use Rattle.cap_components.specs.declared.fault.PackFault.TheVariants.{Form, Miss
 use Rattle.cap_components.specs.declared.fault.PackFault.TheVariants.{CountDisagrees, HandlerOutside, StaticOverlaps, NoMethodAt}
 use Rattle.cap_components.specs.declared.fault.PackFault.TheVariants.{ClassUndescribed, TooManyRegisters, BadType, StaticOutside}
 use Rattle.cap_components.specs.declared.fault.PackFault.TheVariants.{MethodLength, NoStaticAt, PartTooLong}
+use Rattle.cap_load.specs.declared.fault.StreamFault.{StreamFault}
+use Rattle.cap_load.specs.declared.fault.StreamFault.TheVariants.{NoTag, Order, Full, AfterEnd, Unfinished}
 
 -- a name and one, two or three numbers
 abbrev pub name_1 : List ℕ → ℕ → List ℕ
@@ -51,3 +53,10 @@ pack_fault_text (StaticOutside at) = name_1 (codes "StaticOutside") at
 pack_fault_text (MethodLength at n) = name_2 (codes "MethodLength") at n
 pack_fault_text (NoStaticAt at) = name_1 (codes "NoStaticAt") at
 pack_fault_text (PartTooLong part) = name_1 (codes "PartTooLong") part
+
+abbrev pub stream_fault_text : StreamFault → List ℕ
+stream_fault_text (NoTag tag) = name_1 (codes "NoTag") tag
+stream_fault_text (Order first second) = name_2 (codes "Order") first second
+stream_fault_text (Full room) = name_1 (codes "Full") room
+stream_fault_text AfterEnd = codes "AfterEnd"
+stream_fault_text Unfinished = codes "Unfinished"

@@ -4,8 +4,7 @@ pub mod EntryWords
 pub mod Probe
 pub mod OfDir
 pub mod OutOfDir
-pub mod Check
-pub mod Verify
+pub mod OfDirs
 pub mod Run
 pub mod Transform
 pub mod Request
@@ -22,6 +21,7 @@ pub mod Ending
 pub mod Line
 pub mod Transformed
 pub mod Assembled
+pub mod Packed
 pub mod Trial
 pub mod Generate
 pub mod Table

@@ -7,7 +7,8 @@ use Rattle.cap_bare.specs.declared.fault.BareFault.{BareFault}
 use Rattle.cap_bare.specs.declared.run.BareEnd.{BareEnd}
 use Rattle.cap_bare.specs.declared.run.BareEnd.TheVariants.{Returned, Spent}
 use Rattle.std.specs.Fmt.{signed_decimal}
-use Rattle.cap_text.specs.Fault.{pack_fault_text}
+use Rattle.cap_load.specs.declared.fault.StreamFault.{StreamFault}
+use Rattle.cap_text.specs.Fault.{pack_fault_text, stream_fault_text}
 use Rattle.cap_text.specs.Bare.{bare_kind_text}
 use Rattle.cap_text.specs.Start.{start_fault_text}
 use Rattle.cap_text.specs.Linked.{link_fault_text}
@@ -23,6 +24,11 @@ use Rattle.jc_flow.specs.declared.end.FlowEnd.TheVariants.{Memory}
 abbrev pub malformed_line : ℕ → PackFault → List ℕ
 malformed_line number fault =
     concat (codes "malformed package " ∷ decimal number ∷ codes " " ∷ pack_fault_text fault ∷ codes "\n" ∷ [])
+
+-- the bytes of a package's Load file, by the package's number from 0, are refused
+abbrev pub malformed_stream_line : ℕ → StreamFault → List ℕ
+malformed_stream_line number fault =
+    concat (codes "malformed package " ∷ decimal number ∷ codes " " ∷ stream_fault_text fault ∷ codes "\n" ∷ [])
 
 -- the packages make no world with the roles
 abbrev pub not_linked_line : LinkFault → List ℕ

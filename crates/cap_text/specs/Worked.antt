@@ -3,6 +3,7 @@ use Rattle.std.specs.Prelude.{◌≡◌, pos, negsuc, [], ◌∷◌, codes, refl
 use Rattle.std.specs.Fmt.{digits}
 use Rattle.cap_bytes.specs.declared.fault.FormKind.TheVariants.{Cut}
 use Rattle.cap_components.specs.declared.fault.PackFault.TheVariants.{Form, MethodLength}
+use Rattle.cap_load.specs.declared.fault.StreamFault.TheVariants.{Order, Unfinished}
 use Rattle.cap_bare.specs.declared.fault.BareKind.TheVariants.{BadTarget}
 use Rattle.cap_bare.specs.declared.run.BareEnd.TheVariants.{Returned}
 use Rattle.vm_step.specs.declared.start_fault.StartFault.TheVariants.{ArgCount, ArgRoom}
@@ -12,8 +13,9 @@ use Rattle.vm_step.specs.declared.ending.Fault.TheVariants.{StackFault}
 use Rattle.vm_step.specs.declared.ending.Ending.TheVariants as endings
 use Rattle.cap_text.specs.Ending.{ending_line, static_lines, array_line}
 use Rattle.cap_text.specs.Table.{component_line}
-use Rattle.cap_text.specs.Line.{malformed_line, not_linked_line, not_started_line, refused_bare_line, typed_line, refused_flow_line}
+use Rattle.cap_text.specs.Line.{malformed_line, malformed_stream_line, not_linked_line, not_started_line, refused_bare_line, typed_line, refused_flow_line}
 use Rattle.cap_text.specs.Line.{bare_ending_line, accepted_line, bound_line, cycle_line, refused_card_line}
+use Rattle.cap_text.specs.Packed.{packed_line, load_limit_line}
 use Rattle.cap_text.specs.Transformed.{transformed_line, registers_limit_line, stack_limit_line, part_limit_line}
 use Rattle.card_typing.specs.declared.fault.CardKind.TheVariants as cards
 use Rattle.card_typing.specs.declared.fault.CardKind.TheVariants.{StackAtBranch}
@@ -31,6 +33,14 @@ malformed = refl
 too_short : malformed_line 0 (MethodLength 1 0) ≡ codes "malformed package 0 MethodLength 1 0\n"
 unfolding digits
 too_short = refl
+
+no_ending : malformed_stream_line 0 Unfinished ≡ codes "malformed package 0 Unfinished\n"
+unfolding digits
+no_ending = refl
+
+out_of_order : malformed_stream_line 1 (Order 4 2) ≡ codes "malformed package 1 Order 4 2\n"
+unfolding digits
+out_of_order = refl
 
 hole : not_linked_line (Hole 5 2) ≡ codes "not linked Hole 5 2\n"
 unfolding digits
@@ -123,6 +133,14 @@ full_stack = refl
 long_part : part_limit_line 65536 ≡ codes "limit PartLong 65536\n"
 unfolding digits
 long_part = refl
+
+two_blocks : packed_line 2 344 ≡ codes "packed 2 blocks 344 bytes\n"
+unfolding digits
+two_blocks = refl
+
+long_load : load_limit_line 65539 ≡ codes "limit LoadLong 65539\n"
+unfolding digits
+long_load = refl
 
 returned : bare_ending_line (Returned (negsuc 32767)) ≡ codes "returned short -32768\n"
 unfolding digits

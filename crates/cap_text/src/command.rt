@@ -2,14 +2,13 @@ ghost use Rattle.std.specs.Prelude.{IfOk, IfSome, IfNone};
 ghost use Rattle.cap_text.specs.Request.{Request, IsRequest, IsUsage, request_of, OneRequest};
 
 use crate::at_entry::AtEntry;
-use crate::check::Check;
 use crate::generate::Generate;
 use crate::of_dir::OfDir;
+use crate::of_dirs::OfDirs;
 use crate::out_of_dir::OutOfDir;
 use crate::probe::Probe;
 use crate::run::Run;
 use crate::transform::Transform;
-use crate::verify::Verify;
 use cap_files::Words;
 use std::alloc::{AllocError, Global};
 
@@ -20,14 +19,16 @@ pub enum Command<'a> {
     Show(OfDir<'a>),
     List(OfDir<'a>),
     Asm(OutOfDir<'a>),
-    Check(Check<'a>),
-    Verify(Verify<'a>),
+    Check(OfDirs<'a>),
+    Verify(OfDirs<'a>),
     Defend(Run<'a>),
     Run(Run<'a>),
     Transform(Transform<'a>),
     Trial(Run<'a>),
     Generate(Generate<'a>),
     Bound(AtEntry<'a>),
+    Pack(OutOfDir<'a>),
+    Install(OfDirs<'a>),
 }
 
 /// The command that the words spell, where they spell one. The arguments of a run take memory.
@@ -48,10 +49,10 @@ pub fn read_command<'a>(alloc: Global, words: &'a Words) -> Result<Option<Comman
         return Ok(OfDir::read(operands).map(Command::Show));
     }
     if name == "check" {
-        return Ok(Check::read(operands).map(Command::Check));
+        return Ok(OfDirs::read(operands).map(Command::Check));
     }
     if name == "verify" {
-        return Ok(Verify::read(operands).map(Command::Verify));
+        return Ok(OfDirs::read(operands).map(Command::Verify));
     }
     if name == "defend" {
         return Ok(Run::read(alloc, operands)?.map(Command::Defend));
@@ -76,6 +77,12 @@ pub fn read_command<'a>(alloc: Global, words: &'a Words) -> Result<Option<Comman
     }
     if name == "bound" {
         return Ok(AtEntry::read(operands).map(Command::Bound));
+    }
+    if name == "pack" {
+        return Ok(OutOfDir::read(operands).map(Command::Pack));
+    }
+    if name == "install" {
+        return Ok(OfDirs::read(operands).map(Command::Install));
     }
     Ok(None)
 }

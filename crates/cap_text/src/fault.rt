@@ -1,9 +1,10 @@
 ghost use Rattle.std.specs.Prelude.{◌≡◌, Some};
-ghost use Rattle.cap_text.specs.Fault.{form_kind_name, pack_fault_text};
+ghost use Rattle.cap_text.specs.Fault.{form_kind_name, pack_fault_text, stream_fault_text};
 ghost use Rattle.cap_text.specs.Printed.{printed_text};
 
 use crate::printed::Printed;
 use cap_bytes::FormKind;
+use cap_load::StreamFault;
 use cap_package::PackFault;
 use std::fmt;
 
@@ -60,6 +61,26 @@ fn printed(fault: PackFault) -> Printed
         PackFault::MethodLength(at, n) => Printed::Two("MethodLength", at as u64, n as u64),
         PackFault::NoStaticAt(at) => Printed::One("NoStaticAt", at as u64),
         PackFault::PartTooLong(part) => Printed::One("PartTooLong", part as u64),
+    }
+}
+
+impl fmt::Display for Shown<StreamFault> {
+    ghost output = { λ x. Some (stream_fault_text x.0) };
+
+    fn fmt<W: fmt::Write>(&self, f: &mut fmt::Formatter<W>) -> fmt::Result {
+        write!(f, "{}", Shown(printed_stream(self.0)))
+    }
+}
+
+fn printed_stream(fault: StreamFault) -> Printed
+    ensures { printed_text result ≡ stream_fault_text fault }
+{
+    match fault {
+        StreamFault::NoTag(tag) => Printed::One("NoTag", tag as u64),
+        StreamFault::Order(first, second) => Printed::Two("Order", first as u64, second as u64),
+        StreamFault::Full(room) => Printed::One("Full", room as u64),
+        StreamFault::AfterEnd => Printed::Alone("AfterEnd"),
+        StreamFault::Unfinished => Printed::Alone("Unfinished"),
     }
 }
 

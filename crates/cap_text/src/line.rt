@@ -1,6 +1,6 @@
 ghost use Rattle.std.specs.Prelude.{◌≡◌, ◌≢◌, IfOk, string_bytes};
 ghost use Rattle.jc_flow.specs.declared.end.FlowEnd.TheVariants.{Memory};
-ghost use Rattle.cap_text.specs.Line.{malformed_line, not_linked_line, not_started_line, refused_bare_line, typed_line, method_text, refused_flow_line, accepted_line, refused_card_line, bare_ending_line};
+ghost use Rattle.cap_text.specs.Line.{malformed_line, malformed_stream_line, not_linked_line, not_started_line, refused_bare_line, typed_line, method_text, refused_flow_line, accepted_line, refused_card_line, bare_ending_line};
 ghost use Rattle.cap_text.specs.Room.{HasRoom, Writes, WritesAtMost};
 
 use crate::bare::write_bare_kind;
@@ -10,6 +10,7 @@ use crate::flow::write_flow_end;
 use crate::room::Room;
 use crate::start::write_start_fault;
 use cap_bare::{BareEnd, BareFault};
+use cap_load::StreamFault;
 use cap_package::PackFault;
 use card_typing::CardFault;
 use jc_flow::FlowEnd;
@@ -52,6 +53,17 @@ fn write_method(room: &mut Room, method: MethodNumber)
 /// The line for a package, by its number, whose parts are malformed.
 pub fn malformed(alloc: Global, number: u16, fault: PackFault) -> Result<String, AllocError>
     ensures { IfOk result (λ t. string_bytes t ≡ malformed_line number fault) }
+{
+    format!(in alloc; "malformed package {number} {}\n", Shown(fault))
+}
+
+/// The line for a package, by its number, whose Load file is refused.
+pub fn malformed_stream(
+    alloc: Global,
+    number: u16,
+    fault: StreamFault,
+) -> Result<String, AllocError>
+    ensures { IfOk result (λ t. string_bytes t ≡ malformed_stream_line number fault) }
 {
     format!(in alloc; "malformed package {number} {}\n", Shown(fault))
 }

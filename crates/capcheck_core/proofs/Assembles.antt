@@ -54,14 +54,14 @@ module _ (before : Folders) (held : Parts) (told : before.held ≡ Some held) wh
       (λ h. IfSome h (λ parts. IsSomeAnd (map.get parts key) (λ f. 65538 < length f))) told long in
       subst (λ found. IsSomeAnd found (λ f. 65538 < length f)) none beyond
 
-  no_bad_roles : (dir : List ℕ) (roles : Option (List ℕ)) (fault : PackFault) → HasRoles before dir roles → HasBadRoles before dir fault → ⊥
+  pub no_bad_roles : (dir : List ℕ) (roles : Option (List ℕ)) (fault : PackFault) → HasRoles before dir roles → HasBadRoles before dir fault → ⊥
   no_bad_roles dir (Some roles) fault has bad = no_roles_lack before held told dir roles fault has (bad_lacks before dir fault bad)
   no_bad_roles dir None (faults.PartTooLong part) absent bad = absent_short (roles_key dir) absent bad.1
   no_bad_roles dir None (faults.Form form) absent bad = not_absent before held told (roles_key dir) bad.file bad.there absent
   no_bad_roles dir None _ absent bad = bad
 
 -- where nothing is at fault in a file, nothing stops its load
-unstopped : (before after : Folders) (lacks : PackFault → Type 0) (key : List ℕ) (verdict : Verdict) → ((fault : PackFault) → lacks fault → ⊥)
+pub unstopped : (before after : Folders) (lacks : PackFault → Type 0) (key : List ℕ) (verdict : Verdict) → ((fault : PackFault) → lacks fault → ⊥)
     → (Rose before.load_faults after.load_faults → ⊥) → StopsAtFile lacks key before after verdict → Completes verdict
 unstopped before after lacks key Memory none calm stops = inr refl
 unstopped before after lacks key ReadFault none calm stops = absurd (calm stops.rose)

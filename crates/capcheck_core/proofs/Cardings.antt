@@ -34,11 +34,15 @@ below_carded w n all m is below =
 pub all_carded : (w : Linked) → AreAccepted w → HaveCardTypings w
 all_carded w all m is = below_carded w (length w.methods) all m is (slice_get_within w.methods m.number m.rec is.rec)
 
+-- and no run meets a fault
+pub accepted_free : (w : Linked) → AreAccepted w → TypedCodeIsFaultFree w → IsFaultFree w
+accepted_free w all free = free Bottom (accepted-typed w all)
+
 -- the text says how many are accepted
 pub carded : (w : Linked) (count : ℕ) (text : List ℕ) → AreAccepted w → TypedCodeIsFaultFree w → count ≡ count_of_world w
     → text ≡ accepted_line count → TellsAccepted w text
 carded w count text all free counts prints =
-    record { carded = all_carded w all; fault_free = free Bottom (accepted-typed w all); prints = prints ∙ ap accepted_line counts }
+    record { carded = all_carded w all; fault_free = accepted_free w all free; prints = prints ∙ ap accepted_line counts }
 
 -- ---- the count of them
 

@@ -1,13 +1,15 @@
 -- Where what a command needs is there and no device failed, no other verdict than Done and Memory has its cause.
-use Rattle.std.proofs.Common.{◌≡◌, ◌⊎◌, List, ℕ, ℤ, ◌<◌, length, map, ap, subst, ◌∙◌, inl, inr, refl, arith, rules, suc, zero, []}
+use Rattle.std.proofs.Common.{◌≡◌, ◌⊎◌, List, ℕ, ℤ, ◌<◌, length, map, ap, subst, sym, ◌∙◌, inl, inr, refl, arith, rules, suc, zero, []}
 use Rattle.std.proofs.Common.{◌∷◌, All, FitsSigned, w16}
-use Rattle.std.specs.Prelude.{None, IfSome, IsSomeAnd, string_bytes, slice_get}
+use Rattle.std.specs.Prelude.{Option, None, IfSome, IsSomeAnd, string_bytes, slice_get}
 use Rattle.std.specs.FinMap as map
 use Rattle.cap_files.specs.Folder.{Folders, Holds, IsThere, IsAbsent, IsTooLong}
 use Rattle.cap_bare.specs.Typing.{CardTyping}
 use Rattle.vm_step.specs.Arguments.{Argument, number}
 use Rattle.vm_step.specs.declared.start_fault.StartFault.{StartFault}
 use Rattle.vm_step.specs.declared.start_fault.StartFault.TheVariants.{NoEntry, NotStatic, ArgCount, ArgKind, ArgRoom}
+use Rattle.cap_load.specs.declared.blocks_end.BlocksEnd.TheVariants.{LoadLong}
+use Rattle.cap_load.specs.Packing as packing
 use Rattle.cap_text.specs.OutOfDir.{OutOfDirRequest}
 use Rattle.cap_text.specs.Probe.{ProbeRequest}
 use Rattle.cap_text.specs.Run.{RunRequest}
@@ -16,7 +18,8 @@ use Rattle.cap_text.specs.EntryWords.{EntryRequest}
 use Rattle.cap_text.specs.Generate.{GenerateRequest}
 use Rattle.xf_pack.specs.Ends.{IsPartLong}
 use Rattle.capcheck_core.specs.Generate.{generated, GeneratesIn, Generates}
-use Rattle.cap_text.specs.Request.{Request, probe, show, list, asm, check, verify, defend, run, transform, trial, generate, bound}
+use Rattle.cap_text.specs.Request.{Request, probe, show, list, asm, check, verify, defend, run, transform, trial, generate, bound, pack, install}
+use Rattle.capcheck_core.specs.declared.folder_fault.FolderFault.TheVariants.{Pack}
 use Rattle.capcheck_core.specs.declared.verdict.Verdict.{Verdict}
 use Rattle.capcheck_core.specs.declared.verdict.Verdict.TheVariants.{Done, Refused, Limit, Malformed, Usage, ReadFault, StoreFault, Memory}
 use Rattle.capcheck_core.specs.Verdict.{status_of}
@@ -31,17 +34,22 @@ use Rattle.capcheck_core.specs.World.{Own, of_world, OverWorld}
 use Rattle.capcheck_core.specs.Outside.{Outside}
 use Rattle.capcheck_core.specs.Answers.{Answers, IsVerdict}
 use Rattle.capcheck_core.specs.Assemble.{Assembles}
-use Rattle.capcheck_core.specs.Completeness.{Needs, CanProbe, CanRead, CanAssemble, CanOver, CanBring, CanGenerate, AreWithinLimits, CanDo, NoFault, Completes}
+use Rattle.capcheck_core.specs.Completeness.{Needs, CanProbe, CanRead, CanAssemble, CanPack, CanOverPlaces, CanBring, CanGenerate, AreWithinLimits, CanDo, NoFault, Completes}
 use Rattle.capcheck_core.specs.MethodFile.{IsMethodFile}
 use Rattle.capcheck_core.specs.Probe.{ProbesFolder, FailsMethodPart, Probes, OfMethodPart, OfMethod, IsRefusal, IsUnstarted, IsNoMethod, method_key}
 use Rattle.capcheck_core.specs.Report.{Seen, IsReported}
 use Rattle.capcheck_core.specs.Shorts.{IsShort, AreShorts, RefusesStart}
-use Rattle.capcheck_core.specs.OverFolders.{OverFolders}
+use Rattle.capcheck_core.specs.declared.source.Source.TheVariants.{Components, LoadFile}
+use Rattle.capcheck_core.specs.OverFolders.{OverPlaces}
+use Rattle.capcheck_core.specs.Pack.{PacksInto, PacksPackage, Packs}
+use Rattle.capcheck_core.specs.Place.{Place, places, in_components}
+use Rattle.capcheck_core.specs.Roles.{HasBadRoles, roles_key}
 use Rattle.capcheck_core.specs.OverPackage.{OwnOne, StopsAtPackage, OverPackage}
 use Rattle.capcheck_core.specs.Show.{ShowsTable}
 use Rattle.capcheck_core.specs.Listed.{ListsMethods}
 use Rattle.capcheck_core.specs.Typed.{AreTyped}
-use Rattle.capcheck_core.proofs.Assembles.{assembles}
+use Rattle.capcheck_core.proofs.Assembles.{assembles, no_bad_roles, unstopped}
+use Rattle.capcheck_core.proofs.Loads.{one_list}
 use Rattle.capcheck_core.proofs.MethodFiles.{same_method, no_breach}
 use Rattle.capcheck_core.proofs.WorldComplete.{no_lack, reaches}
 use Rattle.cap_package.specs.PackageRecord.{PackageRecord}
@@ -137,7 +145,7 @@ has_read : (dir : List ℕ) (before after : Folders) (sink put : Seen) (verdict 
 has_read dir before after sink put Memory can calm stops = inr refl
 has_read dir before after sink put ReadFault can calm stops = absurd (calm.loads stops.1.holds.rose)
 has_read dir before after sink put (Malformed text) can calm (same, says) =
-    absurd (no_lack before can.held can.told dir can.parts can.read says.fault can.loaded can.stands says.lacks)
+    absurd (no_lack before can.held can.told (in_components dir) can.parts can.read (Pack says.fault) can.loaded can.stands says.lacks)
 has_read dir before after sink put _ can calm stops = absurd stops
 
 -- a command on one package does its work there, where its own step does
@@ -166,16 +174,42 @@ can_assemble o before after sink put verdict can calm (inl stops) = has_read o.d
 can_assemble o before after sink put verdict can calm (inr of) =
     assembles o before after can of.parts of.read of.loaded of.stands verdict calm.loads calm.stores of.holds
 
+-- parts that are not too long for a Load file are packed
+packs : (parts : List Lent) (roles : Option (List ℕ)) (out : List ℕ) (before after : Folders) (sink put : Seen) (verdict : Verdict)
+    → ((size : ℕ) → packing.IsTooLong parts (LoadLong size) → ⊥) → NoFault before after sink put → PacksInto parts roles out before after verdict
+    → Completed verdict
+packs parts roles out before after sink put (Done text) short calm own = inl refl
+packs parts roles out before after sink put Memory short calm own = inr refl
+packs parts roles out before after sink put StoreFault short calm own = absurd (calm.stores own.broken.rose)
+packs parts roles out before after sink put (Limit text) short calm (same, says) = absurd (short says.size says.is)
+packs parts roles out before after sink put _ short calm own = absurd own
+
+packs_beside : (o : OutOfDirRequest) (before after : Folders) (sink put : Seen) (can : CanPack o before) (p : PackageRecord) (verdict : Verdict)
+    → NoFault before after sink put → PacksPackage o can.reads.parts p before after verdict → Completed verdict
+packs_beside o before after sink put can p verdict calm (inl stops) =
+    unstopped before after (HasBadRoles before o.dir) (roles_key o.dir) verdict
+    (λ fault. no_bad_roles before can.reads.held can.reads.told o.dir can.roles fault can.beside) calm.loads stops
+packs_beside o before after sink put can p verdict calm (inr of) =
+    packs can.reads.parts of.file o.out before after sink put verdict can.short calm of.holds
+
+can_pack : (o : OutOfDirRequest) (before after : Folders) (sink put : Seen) (verdict : Verdict) → CanPack o before → NoFault before after sink put
+    → Packs o before after verdict → Completed verdict
+can_pack o before after sink put verdict can calm (inl stops) = has_read o.dir before after sink put verdict can.reads calm stops
+can_pack o before after sink put verdict can calm (inr of) =
+    let same = one_list before can.reads.held o.dir 256 can.reads.parts of.parts can.reads.told can.reads.loaded of.loaded in
+    packs_beside o before after sink put can of.read verdict calm
+    (subst (λ ps. PacksPackage o ps of.read before after verdict) (sym same) of.holds)
+
 -- ---- over a world
 
 -- a command over the world that the folders make does its work, where its last step does
-pub over_world : (own : Own) (needs : Needs) (dirs : List (List ℕ)) (before after : Outside) (sink put : Seen) (verdict : Verdict)
+pub over_world : (own : Own) (needs : Needs) (at : List Place) (before after : Outside) (sink put : Seen) (verdict : Verdict)
     → ((packages : List PackageRecord) (roles : List ℕ) (w : Linked) → needs packages roles w → own packages roles w before after verdict
     → Completed verdict)
-    → CanOver needs dirs before.folders → NoFault before.folders after.folders sink put → OverFolders (OverWorld own) dirs before after verdict
+    → CanOverPlaces needs at before.folders → NoFault before.folders after.folders sink put → OverPlaces (OverWorld own) at before after verdict
     → Completed verdict
-over_world own needs dirs before after sink put verdict does can calm answers =
-    elim (reaches own dirs before after can.world verdict can.links calm.loads answers) [
+over_world own needs at before after sink put verdict does can calm answers =
+    elim (reaches own at before after can.world verdict can.links calm.loads answers) [
       | inl memory ↦ inr memory
       | inr here ↦ does can.links.made.packages can.links.roles can.world can.has here
     ]
@@ -281,28 +315,32 @@ can_do (list d) before after sink put verdict can calm answers =
     over_package ListsMethods d.dir before.folders after.folders sink put verdict (λ parts p. lists parts p before.folders after.folders verdict) can calm
     answers.0
 can_do (asm o) before after sink put verdict can calm answers = can_assemble o before.folders after.folders sink put verdict can calm answers.0
-can_do (check c) before after sink put verdict can calm answers =
-    over_world (of_world ChecksWorld) (λ packages roles w. AreTyped w) c.dirs before after sink put verdict
+can_do (check d) before after sink put verdict can calm answers =
+    over_world (of_world ChecksWorld) (λ packages roles w. AreTyped w) (places Components d.dirs) before after sink put verdict
     (λ packages roles w. types before after w verdict) can calm answers
-can_do (verify v) before after sink put verdict can calm answers =
-    over_world (of_world VerifiesWorld) (λ packages roles w. HaveCardTypings w) v.dirs before after sink put verdict
+can_do (verify d) before after sink put verdict can calm answers =
+    over_world (of_world VerifiesWorld) (λ packages roles w. HaveCardTypings w) (places Components d.dirs) before after sink put verdict
     (λ packages roles w. cards before after w verdict) can calm answers
 can_do (defend r) before after sink put verdict can calm answers =
-    over_world (of_world (DefendsWorld r)) (λ packages roles w. run_fault w r ≡ None) r.dirs before after sink put verdict
+    over_world (of_world (DefendsWorld r)) (λ packages roles w. run_fault w r ≡ None) (places Components r.dirs) before after sink put verdict
     (λ packages roles w. defended before after r w verdict) can calm answers
 can_do (run r) before after sink put verdict can calm answers =
-    over_world (of_world (RunsWorld r)) (λ packages roles w. HaveCardTypings w × (run_fault w r ≡ None)) r.dirs before after sink put verdict
+    over_world (of_world (RunsWorld r)) (λ packages roles w. HaveCardTypings w × (run_fault w r ≡ None)) (places Components r.dirs) before after sink put verdict
     (λ packages roles w has. ran before after r w verdict has.0 has.1) can calm answers
 can_do (transform t) before after sink put verdict can calm answers =
-    over_world (TransformsWorld t) (λ packages roles w. CanBring packages w) t.dirs before after sink put verdict
+    over_world (TransformsWorld t) (λ packages roles w. CanBring packages w) (places Components t.dirs) before after sink put verdict
     (λ packages roles w. brought before after t packages roles w sink put verdict calm) can calm answers
 can_do (trial r) before after sink put verdict can calm answers =
-    over_world (TriesWorld r) (λ packages roles w. CanBring packages w × (run_fault w r ≡ None)) r.dirs before after sink put verdict
+    over_world (TriesWorld r) (λ packages roles w. CanBring packages w × (run_fault w r ≡ None)) (places Components r.dirs) before after sink put verdict
     (λ packages roles w has. tried before after r packages roles w verdict has.0 has.1) can calm answers
 can_do (generate g) before after sink put verdict can calm answers = can_generate g before after sink put verdict can calm answers
 can_do (bound e) before after sink put verdict can calm answers =
-    over_world (of_world (BoundsWorld e)) (λ packages roles w. HaveCardTypings w × (bound_fault w e ≡ None)) e.dirs before after sink put verdict
+    over_world (of_world (BoundsWorld e)) (λ packages roles w. HaveCardTypings w × (bound_fault w e ≡ None)) (places Components e.dirs) before after sink put verdict
     (λ packages roles w has. bounded before after e w verdict has.0 has.1) can calm answers
+can_do (pack o) before after sink put verdict can calm answers = can_pack o before.folders after.folders sink put verdict can calm answers.0
+can_do (install d) before after sink put verdict can calm answers =
+    over_world (of_world VerifiesWorld) (λ packages roles w. HaveCardTypings w) (places LoadFile d.dirs) before after sink put verdict
+    (λ packages roles w. cards before after w verdict) can calm answers
 
 reported : (verdict : Verdict) (before after : Folders) (sink put : Seen) (status : ℕ) → NoFault before after sink put
     → IsReported verdict sink put status

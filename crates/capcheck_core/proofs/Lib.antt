@@ -7,6 +7,9 @@ pub mod Transforms
 pub mod Trials
 pub mod PackageLoads
 pub mod OnPackages
+pub mod InComponents
+pub mod Streams
+pub mod Packs
 pub mod Typings
 pub mod Cardings
 pub mod Worlds

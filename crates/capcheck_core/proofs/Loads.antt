@@ -381,7 +381,7 @@ ends_sized directory none = record { low = omega arith; high = omega arith; none
 pub ends_bytes : (directory : DirectoryItems) → EndsSized directory 256
 ends_bytes directory = record { low = omega arith; high = omega arith; none = λ tag from below. absurd (omega (arith, from, below)) }
 
-unrequired : (tag : ℕ) → 13 ≤ tag → is_required tag ≡ false
+pub unrequired : (tag : ℕ) → 13 ≤ tag → is_required tag ≡ false
 unrequired tag from =
     let low : leb tag 2 ≡ false = lt-leb tag 2 (omega (arith, from)) in
     let middle : leb tag 9 ≡ false = lt-leb tag 9 (omega (arith, from)) in

@@ -1,5 +1,5 @@
--- Why the loads of packages stop, and what a command goes on with, folder by folder.
-use Rattle.std.proofs.Common.{◌≡◌, ◌≤◌, ℕ, suc, List, [], ◌∷◌, ◌++◌, Option, Some, None, Result, Ok, Err, length, append_assoc}
+-- Why the loads of packages stop, and what a command goes on with, package by package.
+use Rattle.std.proofs.Common.{◌≡◌, ◌≤◌, ◌<◌, ◌⊎◌, ap, min, ℕ, suc, List, [], ◌∷◌, ◌++◌, Option, Some, None, Result, Ok, Err, length, append_assoc}
 use Rattle.std.proofs.Common.{length-append, refl, sym, subst, ◌∙◌, inl, inr, arith}
 use Rattle.std.proofs.lemmas.List.{append-nil}
 use Rattle.cap_files.specs.Folder.{Folders}
@@ -8,37 +8,38 @@ use Rattle.cap_package.specs.PackageRecord.{PackageRecord}
 use Rattle.cap_package.specs.StandsFor.{StandsFor}
 use Rattle.capcheck_core.specs.declared.packages.PackagesStop.{PackagesStop}
 use Rattle.capcheck_core.specs.declared.packages.PackagesStop.TheVariants.{TooMany, Malformed, Failed, Memory}
+use Rattle.capcheck_core.specs.declared.source.Source.{Source}
 use Rattle.capcheck_core.specs.declared.verdict.Verdict.{Verdict}
 use Rattle.capcheck_core.specs.declared.verdict.Verdict.TheVariants as verdicts
-use Rattle.capcheck_core.specs.Loads.{AreParts, FailsParts}
+use Rattle.capcheck_core.specs.Place.{Place, places}
 use Rattle.capcheck_core.specs.OverFolders.{StopsAtLoad}
 use Rattle.capcheck_core.specs.Outside.{Outside, CardWords, outside}
-use Rattle.capcheck_core.specs.Packages.{HasPackage, LacksPackage, IsFirstWhere}
+use Rattle.capcheck_core.specs.Packages.{ArePartsBy, AreTooMany, FailsPartsBy, HasPackage, LacksPackage, IsFirstWhere}
 use Rattle.capcheck_core.specs.Roles.{AreRolesIn}
-use Rattle.capcheck_core.specs.PackageEnds.{RolesBeside, LoadsFiles, ReadsPackage, StopsPackage, PackagesStopLeaves, IsStop}
+use Rattle.capcheck_core.specs.PackageEnds.{RolesBeside, StopsParts, ReadsPackage, StopsPackage, PackagesStopLeaves, IsStop}
 use Rattle.capcheck_core.specs.OverLoads.{GivenAfterFirst, RolesAre, StopsOver, AnswersOverRest, GoesOver, StopsLoads, GoesOverAll}
 use Rattle.capcheck_core.specs.World.{Own, OverPackages}
 
-module _ (before after : Folders) (dir : List ℕ) where
+module _ (before after : Folders) (place : Place) where
   -- ---- why one package was not loaded
 
-  pub loading_stops : (number : ℕ) (stop : PackagesStop) → LoadsFiles before after dir number (Err stop) → StopsPackage before after dir number stop
-  loading_stops number (Malformed n fault) (is, long) = (is, inl long)
-  loading_stops number Failed loads = loads
-  loading_stops number Memory loads = loads
-  loading_stops number (TooMany count) loads = loads
+  pub loading_stops : (number : ℕ) (stop : PackagesStop) → StopsParts before after place number stop → StopsPackage before after place number stop
+  loading_stops number (Malformed n fault) (is, lacks) = (is, inl lacks)
+  loading_stops number Failed fails = fails
+  loading_stops number Memory stops = stops
+  loading_stops number (TooMany count) stops = stops
 
-  pub reading_stops : (parts : List Lent) (number : ℕ) (stop : PackagesStop) → AreParts before dir parts → ReadsPackage parts number (Err stop)
-      → StopsPackage before after dir number stop
+  pub reading_stops : (parts : List Lent) (number : ℕ) (stop : PackagesStop) → ArePartsBy before place parts → ReadsPackage parts number (Err stop)
+      → StopsPackage before after place number stop
   reading_stops parts number (Malformed n fault) loaded (is, tells) = (is, inr (record { parts = parts; loaded = loaded; refused = tells }))
   reading_stops parts number Failed loaded reads = absurd reads
   reading_stops parts number Memory loaded reads = absurd reads
   reading_stops parts number (TooMany count) loaded reads = reads
 
-  -- ---- the place in the folders
+  -- ---- the place among the packages
 
-  pub stops_here : (given : Option (List ℕ)) (number : ℕ) (others : List (List ℕ)) (stop : PackagesStop) → GivenAfterFirst given number
-      → StopsPackage before after dir number stop → StopsOver before after given number (dir ∷ others) stop
+  pub stops_here : (given : Option (List ℕ)) (number : ℕ) (others : List Place) (stop : PackagesStop) → GivenAfterFirst given number
+      → StopsPackage before after place number stop → StopsOver before after given number (place ∷ others) stop
   stops_here None number others (Malformed n fault) begun (is, lack) = inl (is ∙ begun, lack)
   stops_here None number others Failed begun fails = inl fails
   stops_here None number others Memory begun stops = stops
@@ -48,23 +49,23 @@ module _ (before after : Folders) (dir : List ℕ) where
   stops_here (Some roles) number others Memory begun stops = stops
   stops_here (Some roles) number others (TooMany count) begun stops = stops
 
-  pub stops_roles : (given : Option (List ℕ)) (number : ℕ) (others : List (List ℕ)) (stop : PackagesStop) → HasPackage before dir
-      → RolesBeside before after dir given (Err stop) → StopsOver before after given number (dir ∷ others) stop
+  pub stops_roles : (given : Option (List ℕ)) (number : ℕ) (others : List Place) (stop : PackagesStop) → HasPackage before place
+      → RolesBeside before after place.dir given (Err stop) → StopsOver before after given number (place ∷ others) stop
   stops_roles None number others (Malformed n fault) has loads = inr (inl (record { has = has; holds = loads }))
   stops_roles None number others Failed has loads = inr (inl (record { has = has; holds = loads }))
   stops_roles None number others Memory has loads = loads
   stops_roles None number others (TooMany count) has loads = loads
   stops_roles (Some roles) number others stop has loads = absurd loads
 
-  pub stops_after : (now : Folders) (given : Option (List ℕ)) (number : ℕ) (others : List (List ℕ)) (roles : List ℕ) (stop : PackagesStop)
+  pub stops_after : (now : Folders) (given : Option (List ℕ)) (number : ℕ) (others : List Place) (roles : List ℕ) (stop : PackagesStop)
       → GivenAfterFirst given number
-      → HasPackage before dir → RolesBeside before now dir given (Ok roles) → StopsOver before after (Some roles) (suc number) others stop
-      → StopsOver before after given number (dir ∷ others) stop
+      → HasPackage before place → RolesBeside before now place.dir given (Ok roles) → StopsOver before after (Some roles) (suc number) others stop
+      → StopsOver before after given number (place ∷ others) stop
   stops_after now None number others roles (Malformed m fault) begun has are stops =
-      let first = subst (λ k. IsFirstWhere before (suc k) others (λ n d. (m ≡ n) × LacksPackage before d fault)) begun stops in
+      let first = subst (λ k. IsFirstWhere before (suc k) others (λ n p. (m ≡ n) × LacksPackage before p fault)) begun stops in
       inr (inr (record { has = has; roles = roles; roles_are = are; first = first }))
   stops_after now None number others roles Failed begun has are stops =
-      let first = subst (λ k. IsFirstWhere before (suc k) others (λ n d. FailsParts before d after)) begun stops in
+      let first = subst (λ k. IsFirstWhere before (suc k) others (λ n p. FailsPartsBy before p after)) begun stops in
       inr (inr (record { has = has; roles = roles; roles_are = are; first = first }))
   stops_after now None number others roles Memory begun has are stops = stops
   stops_after now None number others roles (TooMany count) begun has are stops = stops
@@ -75,47 +76,47 @@ module _ (before after : Folders) (dir : List ℕ) where
 
 -- ---- the folders and the place together
 
-pub reading_leaves : (before after : Folders) (dir : List ℕ) (parts : List Lent) (number : ℕ) (stop : PackagesStop) → after ≡ before
-    → AreParts before dir parts
-    → ReadsPackage parts number (Err stop) → PackagesStopLeaves before after stop × StopsPackage before after dir number stop
-reading_leaves before after dir parts number (Malformed n fault) same loaded reads =
-    (same, reading_stops before after dir parts number (Malformed n fault) loaded reads)
-reading_leaves before after dir parts number Failed same loaded reads = absurd reads
-reading_leaves before after dir parts number Memory same loaded reads = absurd reads
-reading_leaves before after dir parts number (TooMany count) same loaded reads = absurd reads
+pub reading_leaves : (before after : Folders) (place : Place) (parts : List Lent) (number : ℕ) (stop : PackagesStop) → after ≡ before
+    → ArePartsBy before place parts
+    → ReadsPackage parts number (Err stop) → PackagesStopLeaves before after stop × StopsPackage before after place number stop
+reading_leaves before after place parts number (Malformed n fault) same loaded reads =
+    (same, reading_stops before after place parts number (Malformed n fault) loaded reads)
+reading_leaves before after place parts number Failed same loaded reads = absurd reads
+reading_leaves before after place parts number Memory same loaded reads = absurd reads
+reading_leaves before after place parts number (TooMany count) same loaded reads = absurd reads
 
-pub has_package : (before : Folders) (dir : List ℕ) (parts : List Lent) (p : PackageRecord) → AreParts before dir parts → StandsFor parts p
-    → HasPackage before dir
-has_package before dir parts p loaded stands = record { parts = parts; loaded = loaded; whole = record { made = p; stands = stands } }
+pub has_package : (before : Folders) (place : Place) (parts : List Lent) (p : PackageRecord) → ArePartsBy before place parts → StandsFor parts p
+    → HasPackage before place
+has_package before place parts p loaded stands = record { parts = parts; loaded = loaded; whole = record { made = p; stands = stands } }
 
 -- ---- one more package
 
-beside : (before now : Folders) (dir : List ℕ) (others : List (List ℕ)) (given : Option (List ℕ)) (roles held : List ℕ)
-    → RolesBeside before now dir given (Ok roles) → held ≡ roles → RolesAre before (dir ∷ others) given held
-beside before now dir others None roles held are is = subst (λ r. AreRolesIn before dir r) (sym is) are
-beside before now dir others (Some given) roles held are is = is ∙ are
+beside : (before now : Folders) (place : Place) (others : List Place) (given : Option (List ℕ)) (roles held : List ℕ)
+    → RolesBeside before now place.dir given (Ok roles) → held ≡ roles → RolesAre before (place ∷ others) given held
+beside before now place others None roles held are is = subst (λ r. AreRolesIn before place.dir r) (sym is) are
+beside before now place others (Some given) roles held are is = is ∙ are
 
 one_longer : (made : List PackageRecord) (p : PackageRecord) → length (made ++ p ∷ []) ≡ suc (length made)
 one_longer made p = let sum = length-append made (p ∷ []) in omega (arith, sum)
 
-module _ (own : Own) (before : Folders) (card : CardWords) (dir : List ℕ) (others : List (List ℕ)) (made : List PackageRecord)
+module _ (own : Own) (before : Folders) (card : CardWords) (place : Place) (others : List Place) (made : List PackageRecord)
     (given : Option (List ℕ)) where
   -- with the package in the next folder the command goes on
   one_more : (now : Folders) (after : Outside) (parts : List Lent) (p : PackageRecord) (roles : List ℕ) (result : Result Verdict PackagesStop)
-      → GivenAfterFirst given (length made) → AreParts before dir parts → StandsFor parts p → RolesBeside before now dir given (Ok roles)
+      → GivenAfterFirst given (length made) → ArePartsBy before place parts → StandsFor parts p → RolesBeside before now place.dir given (Ok roles)
       → GoesOver own others (made ++ p ∷ []) (Some roles) (outside before card) after result
-      → GoesOver own (dir ∷ others) made given (outside before card) after result
+      → GoesOver own (place ∷ others) made given (outside before card) after result
   one_more now after parts p roles (Ok verdict) begun loaded stands are goes = record {
     parts = parts ∷ goes.parts;
     loaded = (loaded, goes.loaded);
     more = p ∷ goes.more;
     stand = (stands, goes.stand);
     roles = goes.roles;
-    roles_are = beside before now dir others given roles goes.roles are goes.roles_are;
+    roles_are = beside before now place others given roles goes.roles are goes.roles_are;
     holds = subst (λ ps. OverPackages own ps goes.roles (outside before card) after verdict) (append_assoc made (p ∷ []) goes.more) goes.holds;
   }
   one_more now after parts p roles (Err stop) begun loaded stands are goes = record {
-    stops = stops_after before after.folders dir now given (length made) others roles stop begun (has_package before dir parts p loaded stands) are
+    stops = stops_after before after.folders place now given (length made) others roles stop begun (has_package before place parts p loaded stands) are
         (subst (λ n. StopsOver before after.folders (Some roles) n others stop) (one_longer made p) goes.stops);
     leaves = goes.leaves;
     card = goes.card;
@@ -123,41 +124,41 @@ module _ (own : Own) (before : Folders) (card : CardWords) (dir : List ℕ) (oth
 
   -- a package that was loaded goes before those in the other folders
   pub goes_on : (now : Folders) (after : Outside) (parts : List Lent) (p : PackageRecord) (roles : List ℕ) (result : Result Verdict PackagesStop)
-      → GivenAfterFirst given (length made) → AreParts before dir parts → StandsFor parts p → RolesBeside before now dir given (Ok roles)
+      → GivenAfterFirst given (length made) → ArePartsBy before place parts → StandsFor parts p → RolesBeside before now place.dir given (Ok roles)
       → now ≡ before
       → GoesOver own others (made ++ p ∷ []) (Some roles) (outside now card) after result
-      → GoesOver own (dir ∷ others) made given (outside before card) after result
+      → GoesOver own (place ∷ others) made given (outside before card) after result
   goes_on now after parts p roles result begun loaded stands are same goes =
       one_more now after parts p roles result begun loaded stands are
       (subst (λ f. GoesOver own others (made ++ p ∷ []) (Some roles) (outside f card) after result) same goes)
 
   -- where a load stops, the parts stand for no package, or there are no roles, the loads stop here
   pub stops_loading : (now : Folders) (number : ℕ) (stop : PackagesStop) → GivenAfterFirst given (length made) → number ≡ length made
-      → LoadsFiles before now dir number (Err stop) → PackagesStopLeaves before now stop
-      → GoesOver own (dir ∷ others) made given (outside before card) (outside now card) (Err stop)
+      → StopsParts before now place number stop → PackagesStopLeaves before now stop
+      → GoesOver own (place ∷ others) made given (outside before card) (outside now card) (Err stop)
   stops_loading now number stop begun is loads leaves = record {
-    stops = stops_here before now dir given (length made) others stop begun
-        (subst (λ n. StopsPackage before now dir n stop) is (loading_stops before now dir number stop loads));
+    stops = stops_here before now place given (length made) others stop begun
+        (subst (λ n. StopsPackage before now place n stop) is (loading_stops before now place number stop loads));
     leaves = leaves;
     card = refl;
   }
 
   pub stops_reading : (now : Folders) (number : ℕ) (parts : List Lent) (stop : PackagesStop) → GivenAfterFirst given (length made)
       → number ≡ length made → now ≡ before
-      → AreParts before dir parts → ReadsPackage parts number (Err stop) → GoesOver own (dir ∷ others) made given (outside before card)
+      → ArePartsBy before place parts → ReadsPackage parts number (Err stop) → GoesOver own (place ∷ others) made given (outside before card)
       (outside now card) (Err stop)
   stops_reading now number parts stop begun is same loaded reads =
       let at : ReadsPackage parts (length made) (Err stop) = subst (λ n. ReadsPackage parts n (Err stop)) is reads in
-      let leaves = reading_leaves before now dir parts (length made) stop same loaded at in
-      record { stops = stops_here before now dir given (length made) others stop begun leaves.1; leaves = leaves.0; card = refl }
+      let leaves = reading_leaves before now place parts (length made) stop same loaded at in
+      record { stops = stops_here before now place given (length made) others stop begun leaves.1; leaves = leaves.0; card = refl }
 
-  pub stops_at_roles : (now after : Folders) (parts : List Lent) (p : PackageRecord) (stop : PackagesStop) → now ≡ before → AreParts before dir parts
+  pub stops_at_roles : (now after : Folders) (parts : List Lent) (p : PackageRecord) (stop : PackagesStop) → now ≡ before → ArePartsBy before place parts
       → StandsFor parts p
-      → RolesBeside now after dir given (Err stop) → PackagesStopLeaves now after stop
-      → GoesOver own (dir ∷ others) made given (outside before card) (outside after card) (Err stop)
+      → RolesBeside now after place.dir given (Err stop) → PackagesStopLeaves now after stop
+      → GoesOver own (place ∷ others) made given (outside before card) (outside after card) (Err stop)
   stops_at_roles now after parts p stop same loaded stands beside leaves = record {
-    stops = stops_roles before after dir given (length made) others stop (has_package before dir parts p loaded stands)
-        (subst (λ f. RolesBeside f after dir given (Err stop)) same beside);
+    stops = stops_roles before after place given (length made) others stop (has_package before place parts p loaded stands)
+        (subst (λ f. RolesBeside f after place.dir given (Err stop)) same beside);
     leaves = subst (λ f. PackagesStopLeaves f after stop) same leaves;
     card = refl;
   }
@@ -177,36 +178,63 @@ goes_end own made roles before after verdict holds = record {
 
 -- ---- all folders
 
-stops_all : (before after : Folders) (dirs : List (List ℕ)) (stop : PackagesStop) → length dirs ≤ 16 → StopsOver before after None 0 dirs stop
-    → StopsLoads before after dirs stop
-stops_all before after dirs (Malformed number fault) few stops = record { few = few; first = stops }
-stops_all before after dirs Failed few stops = record { few = few; first = stops }
-stops_all before after dirs Memory few stops = stops
-stops_all before after dirs (TooMany count) few stops = absurd stops
+stops_all : (before after : Folders) (at : List Place) (stop : PackagesStop) → length at ≤ 16 → StopsOver before after None 0 at stop
+    → StopsLoads before after at stop
+stops_all before after at (Malformed number fault) few stops = record { few = few; first = stops }
+stops_all before after at Failed few stops = record { few = few; first = stops }
+stops_all before after at Memory few stops = stops
+stops_all before after at (TooMany count) few stops = absurd stops
 
-pub goes_over_all : (own : Own) (dirs : List (List ℕ)) (before after : Outside) (result : Result Verdict PackagesStop) → length dirs ≤ 16
-    → GoesOver own dirs [] None before after result → GoesOverAll own dirs before after result
-goes_over_all own dirs before after (Ok verdict) few goes = record {
+pub goes_over_all : (own : Own) (at : List Place) (before after : Outside) (result : Result Verdict PackagesStop) → length at ≤ 16
+    → GoesOver own at [] None before after result → GoesOverAll own at before after result
+goes_over_all own at before after (Ok verdict) few goes = record {
   few = few;
   parts = goes.parts;
   roles = goes.roles;
   given = record { parts_are = goes.loaded; roles_are = goes.roles_are };
   holds = record { packages = goes.more; stand = goes.stand; holds = goes.holds };
 }
-goes_over_all own dirs before after (Err stop) few goes =
-    record { stops = stops_all before.folders after.folders dirs stop few goes.stops; leaves = goes.leaves; card = goes.card }
+goes_over_all own at before after (Err stop) few goes =
+    record { stops = stops_all before.folders after.folders at stop few goes.stops; leaves = goes.leaves; card = goes.card }
+
+-- ---- the places of folders
+
+places_long : (last : Source) (dirs : List (List ℕ)) → length (places last dirs) ≡ length dirs
+places_long last [] = refl
+places_long last (dir ∷ dirs) = ap suc (places_long last dirs)
+
+-- so many folders as are counted are few
+pub goes_over_places : (own : Own) (last : Source) (dirs : List (List ℕ)) (before after : Outside) (result : Result Verdict PackagesStop) (count : ℕ)
+    → count ≡ min (length dirs) 4294967295 → count ≤ 16 → GoesOver own (places last dirs) [] None before after result
+    → GoesOverAll own (places last dirs) before after result
+goes_over_places own last dirs before after result count is few goes =
+    let long = places_long last dirs in
+    goes_over_all own (places last dirs) before after result (omega (arith, is, few, long)) goes
+
+-- or they are none or too many
+pub too_many : (last : Source) (dirs : List (List ℕ)) (count : ℕ) → count ≡ min (length dirs) 4294967295
+    → (length dirs ≡ 0) ⊎ (16 < count) → AreTooMany (places last dirs) count
+too_many last dirs count is wrong =
+    let long = places_long last dirs in
+    record {
+      wrong = elim wrong [
+        | inl none ↦ inl (omega (arith, none, long))
+        | inr many ↦ inr (omega (arith, is, many, long))
+      ];
+      counts = is ∙ ap (λ n. min n 4294967295) (sym long);
+    }
 
 -- ---- the verdict of a stop
 
-pub stopped : (dirs : List (List ℕ)) (before after : Outside) (stop : PackagesStop) (verdict : Verdict) → after.card ≡ before.card
-    → StopsLoads before.folders after.folders dirs stop → PackagesStopLeaves before.folders after.folders stop → IsStop stop verdict
-    → StopsAtLoad dirs before after verdict
-stopped dirs before after (TooMany count) (verdicts.Malformed text) card many same says =
+pub stopped : (at : List Place) (before after : Outside) (stop : PackagesStop) (verdict : Verdict) → after.card ≡ before.card
+    → StopsLoads before.folders after.folders at stop → PackagesStopLeaves before.folders after.folders stop → IsStop stop verdict
+    → StopsAtLoad at before after verdict
+stopped at before after (TooMany count) (verdicts.Malformed text) card many same says =
     (record { folders = same; card = card }, inl (record { count = count; many = many; prints = says }))
-stopped dirs before after (TooMany count) verdicts.Memory card many same says = record { folders = same; card = card }
-stopped dirs before after (Malformed number fault) (verdicts.Malformed text) card is same says =
+stopped at before after (TooMany count) verdicts.Memory card many same says = record { folders = same; card = card }
+stopped at before after (Malformed number fault) (verdicts.Malformed text) card is same says =
     (record { folders = same; card = card }, inr (record { number = number; fault = fault; is = is; prints = says }))
-stopped dirs before after (Malformed number fault) verdicts.Memory card is same says = record { folders = same; card = card }
-stopped dirs before after Failed verdicts.ReadFault card failed same says = (failed, card)
-stopped dirs before after Memory verdicts.Memory card loads same says = record { folders = same; card = card }
-stopped dirs before after _ _ card loads same says = absurd says
+stopped at before after (Malformed number fault) verdicts.Memory card is same says = record { folders = same; card = card }
+stopped at before after Failed verdicts.ReadFault card failed same says = (failed, card)
+stopped at before after Memory verdicts.Memory card loads same says = record { folders = same; card = card }
+stopped at before after _ _ card loads same says = absurd says

@@ -19,8 +19,10 @@ use Rattle.cap_package.specs.Parts.{Lent, held, HasEachOnce}
 use Rattle.cap_text.specs.Assembled.{assembled_line}
 use Rattle.law_package.specs.Rewritten.{IsRewritten}
 use Rattle.cap_text.specs.OutOfDir.{OutOfDirRequest}
-use Rattle.cap_text.specs.Request.{Request, probe, show, list, asm, check, verify, defend, run, transform, trial, generate, bound}
+use Rattle.cap_text.specs.Request.{Request, probe, show, list, asm, check, verify, defend, run, transform, trial, generate, bound, pack, install}
 use Rattle.jc_base.specs.World.{Linked}
+use Rattle.capcheck_core.specs.declared.source.Source.{Source}
+use Rattle.capcheck_core.specs.declared.source.Source.TheVariants.{Components, LoadFile}
 use Rattle.capcheck_core.specs.declared.verdict.Verdict.{Verdict}
 use Rattle.capcheck_core.specs.declared.verdict.Verdict.TheVariants.{Done, Refused, Limit, Malformed, Usage, ReadFault, StoreFault, Memory}
 use Rattle.capcheck_core.specs.Answers.{Answers, IsVerdict}
@@ -28,11 +30,13 @@ use Rattle.capcheck_core.specs.Assemble.{AssemblesPackage}
 use Rattle.capcheck_core.specs.Bounding.{BoundsWorld}
 use Rattle.capcheck_core.specs.Check.{ChecksWorld}
 use Rattle.capcheck_core.specs.Defend.{DefendsWorld}
-use Rattle.capcheck_core.specs.Headline.{HoldWorld, StandIn, AreKept, Assembled, Promise, Promises}
+use Rattle.capcheck_core.specs.Headline.{HoldWorldBy, StandIn, AreKept, Assembled, Packed, Promise, Promises}
 use Rattle.capcheck_core.specs.Loads.{with_file}
 use Rattle.capcheck_core.specs.Outside.{Outside}
-use Rattle.capcheck_core.specs.OverFolders.{OverFolders}
+use Rattle.capcheck_core.specs.OverFolders.{OverPlaces}
 use Rattle.capcheck_core.specs.OverPackage.{OfPackage}
+use Rattle.capcheck_core.specs.Pack.{PacksPackage, load_stores}
+use Rattle.capcheck_core.specs.Place.{places}
 use Rattle.capcheck_core.specs.Report.{Seen, Received, IsReported}
 use Rattle.capcheck_core.specs.Roles.{roles_tag}
 use Rattle.capcheck_core.specs.Run.{RunsWorld}
@@ -145,15 +149,15 @@ module _ (dir : List ℕ) where
 -- ---- over a world
 
 -- the world of which a last step says so
-pub record Over (own : Own) (dirs : List (List ℕ)) (before after : Outside) (verdict : Verdict) : Type 0 where
+pub record Over (own : Own) (last : Source) (dirs : List (List ℕ)) (before after : Outside) (verdict : Verdict) : Type 0 where
   pub world : Linked
-  pub held : HoldWorld before.folders dirs world
+  pub held : HoldWorldBy last before.folders dirs world
   pub holds : own held.packages held.roles world before after verdict
 
-pub over : (own : Own) (dirs : List (List ℕ)) (before after : Outside) (text : _) → OverFolders (OverWorld own) dirs before after (Done text)
-    → Over own dirs before after (Done text)
-over own dirs before after text (inl stops) = absurd stops
-over own dirs before after text (inr of) = elim of.holds.holds [
+over_by : (own : Own) (last : Source) (dirs : List (List ℕ)) (before after : Outside) (text : _)
+    → OverPlaces (OverWorld own) (places last dirs) before after (Done text) → Over own last dirs before after (Done text)
+over_by own last dirs before after text (inl stops) = absurd stops
+over_by own last dirs before after text (inr of) = elim of.holds.holds [
   | inl unlinked ↦ absurd unlinked.1
   | inr l ↦ record {
     world = l.world;
@@ -162,7 +166,36 @@ over own dirs before after text (inr of) = elim of.holds.holds [
   }
 ]
 
+pub over : (own : Own) (dirs : List (List ℕ)) (before after : Outside) (text : _)
+    → OverPlaces (OverWorld own) (places Components dirs) before after (Done text) → Over own Components dirs before after (Done text)
+over own dirs before after text answers = over_by own Components dirs before after text answers
+
 -- ---- each command
+
+-- the Load file and the roles are each once
+load_once : (stream : List ℕ) (roles : Option (List ℕ)) → HasEachOnce (load_stores stream roles)
+load_once stream None = (refl, tt {0})
+load_once stream (Some bytes) = (refl, (refl, tt {0}))
+
+packed : (o : OutOfDirRequest) (before after : Folders) (text : _)
+    → OfPackage before o.dir (λ parts p. PacksPackage o parts p before after (Done text)) → Packed o before after (string_bytes text)
+packed o before after text of = elim of.holds [
+  | inl stops ↦ absurd stops
+  | inr r ↦ let is = r.holds in
+      record {
+        parts = of.parts;
+        loaded = of.loaded;
+        read = of.read;
+        stands = of.stands;
+        stream = is.stream;
+        packed = is.packed;
+        short = is.short;
+        roles = r.file;
+        beside = r.there;
+        stand = stand o.out (load_stores is.stream r.file) before after (load_once is.stream r.file) is.stored;
+        prints = is.prints;
+      }
+]
 
 assembled : (o : OutOfDirRequest) (before after : Folders) (text : _)
     → OfPackage before o.dir (λ parts p. AssemblesPackage o parts p before after (Done text)) → Assembled o before after (string_bytes text)
@@ -212,11 +245,11 @@ done (list d) before after text (inr of, card) = (
 )
 done (asm o) before after text (inl stops, card) = absurd stops
 done (asm o) before after text (inr of, card) = (card, assembled o before.folders after.folders text of)
-done (check c) before after text answers =
-    let o = over (of_world ChecksWorld) c.dirs before after text answers in
+done (check d) before after text answers =
+    let o = over (of_world ChecksWorld) d.dirs before after text answers in
     (o.holds.0, record { world = o.world; held = o.held; typed = o.holds.1.typed; prints = o.holds.1.prints })
-done (verify v) before after text answers =
-    let o = over (of_world VerifiesWorld) v.dirs before after text answers in
+done (verify d) before after text answers =
+    let o = over (of_world VerifiesWorld) d.dirs before after text answers in
     (o.holds.0, record { world = o.world; held = o.held; carded = o.holds.1.carded; fault_free = o.holds.1.fault_free; prints = o.holds.1.prints })
 done (defend r) before after text answers =
     let o = over (of_world (DefendsWorld r)) r.dirs before after text answers in
@@ -269,6 +302,11 @@ done (generate g) before after text (inr of) =
 done (bound e) before after text answers =
     let o = over (of_world (BoundsWorld e)) e.dirs before after text answers in
     (o.holds.0, record { world = o.world; held = o.held; bounded = o.holds.1 })
+done (pack o) before after text (inl stops, card) = absurd stops
+done (pack o) before after text (inr of, card) = (card, packed o before.folders after.folders text of)
+done (install d) before after text answers =
+    let o = over_by (of_world VerifiesWorld) LoadFile d.dirs before after text answers in
+    (o.holds.0, record { world = o.world; held = o.held; carded = o.holds.1.carded; fault_free = o.holds.1.fault_free; prints = o.holds.1.prints })
 
 -- a verdict with status 0 is Done
 promised : (r : Request) (before after : Outside) (sink put : Seen) (verdict : Verdict) → status_of verdict ≡ 0 → Received sink put (text_of verdict)

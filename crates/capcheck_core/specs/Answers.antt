@@ -1,6 +1,6 @@
 -- What each command may answer, and what it leaves as it was.
 use Rattle.std.specs.Prelude.{◌≡◌, ℕ, List}
-use Rattle.cap_text.specs.Request.{Request, probe, show, list, asm, check, verify, defend, run, transform, trial, generate, bound, IsRequest, IsUsage}
+use Rattle.cap_text.specs.Request.{Request, probe, show, list, asm, check, verify, defend, run, transform, trial, generate, bound, pack, install, IsRequest, IsUsage}
 use Rattle.capcheck_core.specs.declared.verdict.Verdict.{Verdict}
 use Rattle.capcheck_core.specs.declared.verdict.Verdict.TheVariants.{Usage, Memory}
 use Rattle.capcheck_core.specs.Outside.{Outside, Untouched}
@@ -16,6 +16,8 @@ use Rattle.capcheck_core.specs.Transform.{Transforms}
 use Rattle.capcheck_core.specs.Trial.{Tries}
 use Rattle.capcheck_core.specs.Generate.{Generates}
 use Rattle.capcheck_core.specs.Bounding.{Bounds}
+use Rattle.capcheck_core.specs.Pack.{Packs}
+use Rattle.capcheck_core.specs.Install.{Installs}
 
 -- the verdicts of each command, and what it makes of the outside
 abbrev pub Answers : Request → Outside → Outside → Verdict → Type 0
@@ -23,14 +25,16 @@ Answers (probe p) before after verdict = Probes p before.folders after.folders v
 Answers (show d) before after verdict = Shows d before.folders after.folders verdict × (after.card ≡ before.card)
 Answers (list d) before after verdict = ListsPackage d before.folders after.folders verdict × (after.card ≡ before.card)
 Answers (asm o) before after verdict = Assembles o before.folders after.folders verdict × (after.card ≡ before.card)
-Answers (check c) before after verdict = Checks c before after verdict
-Answers (verify v) before after verdict = Verifies v before after verdict
+Answers (check d) before after verdict = Checks d before after verdict
+Answers (verify d) before after verdict = Verifies d before after verdict
 Answers (defend r) before after verdict = Defends r before after verdict
 Answers (run r) before after verdict = RunsVerified r before after verdict
 Answers (transform t) before after verdict = Transforms t before after verdict
 Answers (trial r) before after verdict = Tries r before after verdict
 Answers (generate g) before after verdict = Generates g before after verdict
 Answers (bound e) before after verdict = Bounds e before after verdict
+Answers (pack o) before after verdict = Packs o before.folders after.folders verdict × (after.card ≡ before.card)
+Answers (install d) before after verdict = Installs d before after verdict
 
 -- the verdicts where the words ask for nothing
 abbrev pub SaysUsage : Verdict → Type 0

@@ -5,10 +5,11 @@ use Rattle.cap_files.specs.Folder.{Folders, IsThere, LoadFails}
 use Rattle.capcheck_core.specs.declared.packages.PackagesStop.{PackagesStop}
 use Rattle.capcheck_core.specs.declared.packages.PackagesStop.TheVariants.{TooMany, Malformed, Failed, Memory}
 use Rattle.capcheck_core.specs.Beside.{LacksFile}
+use Rattle.capcheck_core.specs.FolderFault.{OfPack}
 
 -- why the file with this key was not loaded, for the package of a number
 abbrev pub StopsFile : (PackFault → Type 0) → List ℕ → ℕ → Folders → Folders → PackagesStop → Type 0
-StopsFile lacks key number before after (Malformed n fault) = (n ≡ number) × lacks fault
+StopsFile lacks key number before after (Malformed n fault) = (n ≡ number) × OfPack lacks fault
 StopsFile lacks key number before after Failed = LoadFails before key after
 StopsFile lacks key number before after Memory = Unit {0}
 StopsFile lacks key number before after (TooMany count) = ⊥

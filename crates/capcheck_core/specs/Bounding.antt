@@ -2,6 +2,7 @@
 use Rattle.std.specs.Prelude.{◌≡◌, ℕ, ◌-◌, List, [], length, Option, Some, None, string_bytes, slice_get}
 use Rattle.jc_base.specs.declared.record.MethodRec.{MethodRec}
 use Rattle.jc_base.specs.World.{Linked, method_numbered}
+use Rattle.law_sound.specs.Soundness.{IsFaultFree}
 use Rattle.cap_text.specs.EntryWords.{EntryRequest}
 use Rattle.cap_text.specs.Line.{bound_line, cycle_line, not_started_line}
 use Rattle.vm_bound.specs.declared.bounds.Bound.{Bound}
@@ -37,9 +38,11 @@ abbrev pub bound_text : Linked → Bound → List ℕ
 bound_text w (Words words frames) = bound_line words frames
 bound_text w (Cycle m) = cycle_of (slice_get w.methods m)
 
--- every method with code of all packages has a card typing, and the text tells the bound of the entry, which every run keeps to
+-- every method with code of all packages has a card typing, no run meets a fault, and the text tells the bound of the entry, which every
+-- run keeps to
 pub record TellsBound (w : Linked) (e : EntryRequest) (text : List ℕ) : Type 0 where
   pub carded : HaveCardTypings w
+  pub fault_free : IsFaultFree w
   pub number : ℕ
   pub entered : method_bounded w e ≡ Some number
   pub begins : entry_refused w number ≡ None

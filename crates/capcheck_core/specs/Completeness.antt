@@ -7,10 +7,12 @@ use Rattle.cap_bare.specs.Typing.{CardTyping}
 use Rattle.cap_listing.specs.declared.method.ListedMethod.{ListedMethod}
 use Rattle.cap_listing.specs.Placing.{placed}
 use Rattle.cap_listing.specs.Text.{Lists}
+use Rattle.cap_load.specs.declared.blocks_end.BlocksEnd.TheVariants.{LoadLong}
+use Rattle.cap_load.specs.Packing.{IsTooLong}
 use Rattle.cap_text.specs.OutOfDir.{OutOfDirRequest}
 use Rattle.cap_text.specs.Probe.{ProbeRequest}
 use Rattle.cap_text.specs.Generate.{GenerateRequest}
-use Rattle.cap_text.specs.Request.{Request, probe, show, list, asm, check, verify, defend, run, transform, trial, generate, bound, IsRequest}
+use Rattle.cap_text.specs.Request.{Request, probe, show, list, asm, check, verify, defend, run, transform, trial, generate, bound, pack, install, IsRequest}
 use Rattle.cap_package.specs.Parts.{Lent}
 use Rattle.cap_package.specs.PackageRecord.{PackageRecord}
 use Rattle.cap_package.specs.StandsFor.{StandsFor}
@@ -23,6 +25,7 @@ use Rattle.xf_pack.specs.Limits.{PassesLimit}
 use Rattle.cap_gen.specs.Linked.{roles}
 use Rattle.cap_write.specs.WrittenPackage.{IsPartTooLong}
 use Rattle.jc_link.specs.World.{IsLinked}
+use Rattle.capcheck_core.specs.declared.source.Source.TheVariants.{Components, LoadFile}
 use Rattle.capcheck_core.specs.Assemble.{Fit, HasListing}
 use Rattle.capcheck_core.specs.Generate.{generated}
 use Rattle.capcheck_core.specs.Bounding.{bound_fault}
@@ -30,6 +33,7 @@ use Rattle.capcheck_core.specs.Defend.{run_fault}
 use Rattle.capcheck_core.specs.MethodFile.{IsMethodFile}
 use Rattle.capcheck_core.specs.Loads.{AreParts}
 use Rattle.capcheck_core.specs.Packages.{AreGiven}
+use Rattle.capcheck_core.specs.Place.{Place, places}
 use Rattle.capcheck_core.specs.Probe.{method_key}
 use Rattle.capcheck_core.specs.Report.{Seen}
 use Rattle.capcheck_core.specs.Roles.{HasRoles}
@@ -79,24 +83,35 @@ pub record CanAssemble (o : OutOfDirRequest) (before : Folders) : Type 0 where
   pub fit : Fit reads.read methods
   pub short : (n : ℕ) → IsPartTooLong reads.read (placed reads.read methods) n → ⊥
 
--- the parts in the folders and the roles beside the first make this world
-pub record CanLink (dirs : List (List ℕ)) (before : Folders) (world : Linked) : Type 0 where
+-- the parts of the folder stand for a package, beside them stand roles or none, and the Load file is not too long
+pub record CanPack (o : OutOfDirRequest) (before : Folders) : Type 0 where
+  pub reads : CanRead o.dir before
+  pub roles : Option (List ℕ)
+  pub beside : HasRoles before o.dir roles
+  pub short : (size : ℕ) → IsTooLong reads.parts (LoadLong size) → ⊥
+
+-- the parts at these places and the roles beside the first make this world
+pub record CanLink (at : List Place) (before : Folders) (world : Linked) : Type 0 where
   pub held : Parts
   pub told : before.held ≡ Some held
   pub parts : List (List Lent)
   pub roles : List ℕ
-  pub given : AreGiven before dirs parts roles
+  pub given : AreGiven before at parts roles
   pub made : MakeWorld parts roles world
 
 -- what the packages, the roles and the world that they make must be for the last step of a command
 abbrev pub Needs : Type 1
 Needs = List PackageRecord → List ℕ → Linked → Type 0
 
--- the folders make a world, and it is as the command needs it
-pub record CanOver (needs : Needs) (dirs : List (List ℕ)) (before : Folders) : Type 0 where
+-- they make a world, and it is as the command needs it
+pub record CanOverPlaces (needs : Needs) (at : List Place) (before : Folders) : Type 0 where
   pub world : Linked
-  pub links : CanLink dirs before world
+  pub links : CanLink at before world
   pub has : needs links.made.packages links.roles world
+
+-- so do the components in these folders
+abbrev pub CanOver : Needs → List (List ℕ) → Folders → Type 0
+CanOver needs dirs before = CanOverPlaces needs (places Components dirs) before
 
 -- no method with code of the last package passes a limit
 abbrev pub AreWithinLimits : Linked → Type 0
@@ -121,14 +136,16 @@ CanDo (probe p) before = CanProbe p before
 CanDo (show d) before = CanRead d.dir before
 CanDo (list d) before = CanRead d.dir before
 CanDo (asm o) before = CanAssemble o before
-CanDo (check c) before = CanOver (λ packages roles w. AreTyped w) c.dirs before
-CanDo (verify v) before = CanOver (λ packages roles w. HaveCardTypings w) v.dirs before
+CanDo (check d) before = CanOver (λ packages roles w. AreTyped w) d.dirs before
+CanDo (verify d) before = CanOver (λ packages roles w. HaveCardTypings w) d.dirs before
 CanDo (defend r) before = CanOver (λ packages roles w. run_fault w r ≡ None) r.dirs before
 CanDo (run r) before = CanOver (λ packages roles w. HaveCardTypings w × (run_fault w r ≡ None)) r.dirs before
 CanDo (transform t) before = CanOver (λ packages roles w. CanBring packages w) t.dirs before
 CanDo (trial r) before = CanOver (λ packages roles w. CanBring packages w × (run_fault w r ≡ None)) r.dirs before
 CanDo (generate g) before = CanGenerate g
 CanDo (bound e) before = CanOver (λ packages roles w. HaveCardTypings w × (bound_fault w e ≡ None)) e.dirs before
+CanDo (pack o) before = CanPack o before
+CanDo (install d) before = CanOverPlaces (λ packages roles w. HaveCardTypings w) (places LoadFile d.dirs) before
 
 -- where the words ask for something, what it needs is there and no device failed, the work is done or there was no memory
 abbrev pub Completes : List (List ℕ) → Folders → Folders → Seen → Seen → ℕ → Type 0

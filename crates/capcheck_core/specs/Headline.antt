@@ -9,36 +9,41 @@ use Rattle.cap_gen.specs.Linked.{roles}
 use Rattle.cap_listing.specs.Methods.{methods_of}
 use Rattle.cap_listing.specs.Placing.{placed}
 use Rattle.cap_listing.specs.Text.{Lists}
+use Rattle.cap_load.specs.Packing.{IsPacked}
 use Rattle.cap_package.specs.PackageRecord.{PackageRecord}
 use Rattle.cap_package.specs.Parts.{Lent, held}
 use Rattle.cap_package.specs.StandsFor.{StandsFor}
-use Rattle.cap_text.specs.Check.{CheckRequest}
 use Rattle.cap_text.specs.EntryWords.{EntryRequest}
 use Rattle.cap_text.specs.Generate.{GenerateRequest}
 use Rattle.cap_text.specs.Line.{accepted_line, typed_line}
 use Rattle.cap_text.specs.Probe.{ProbeRequest}
-use Rattle.cap_text.specs.Request.{Request, probe, show, list, asm, check, verify, defend, run, transform, trial, generate, bound, IsRequest}
+use Rattle.cap_text.specs.Request.{Request, probe, show, list, asm, check, verify, defend, run, transform, trial, generate, bound, pack, install, IsRequest}
 use Rattle.cap_text.specs.Run.{RunRequest}
 use Rattle.cap_text.specs.Assembled.{assembled_line}
 use Rattle.cap_text.specs.OfDir.{OfDirRequest}
+use Rattle.cap_text.specs.OfDirs.{OfDirsRequest}
 use Rattle.cap_text.specs.OutOfDir.{OutOfDirRequest}
+use Rattle.cap_text.specs.Packed.{packed_line}
 use Rattle.cap_text.specs.Table.{component_table}
 use Rattle.cap_text.specs.Transform.{TransformRequest}
 use Rattle.cap_text.specs.Transformed.{transformed_line}
 use Rattle.cap_text.specs.Trial.{trial_text}
-use Rattle.cap_text.specs.Verify.{VerifyRequest}
 use Rattle.jc_base.specs.World.{Linked}
 use Rattle.jc_link.specs.World.{IsLinked}
 use Rattle.law_package.specs.Rewritten.{IsRewritten}
 use Rattle.law_sound.specs.Soundness.{IsFaultFree}
 use Rattle.xf_pack.specs.Transformed.{KeepsBehaviour}
+use Rattle.capcheck_core.specs.declared.source.Source.{Source}
+use Rattle.capcheck_core.specs.declared.source.Source.TheVariants.{Components, LoadFile}
 use Rattle.capcheck_core.specs.Assemble.{listing_key}
 use Rattle.capcheck_core.specs.Bounding.{TellsBound}
 use Rattle.capcheck_core.specs.Defend.{IsDefended}
 use Rattle.capcheck_core.specs.Generate.{generated, IsTold}
 use Rattle.capcheck_core.specs.Loads.{AreParts}
 use Rattle.capcheck_core.specs.Outside.{CardWords, Outside, Untouched}
+use Rattle.capcheck_core.specs.Pack.{load_stores}
 use Rattle.capcheck_core.specs.Packages.{AreGiven}
+use Rattle.capcheck_core.specs.Place.{places}
 use Rattle.capcheck_core.specs.Probe.{IsBareRun, OfMethod, OfMethodPart}
 use Rattle.capcheck_core.specs.Report.{Seen, Received}
 use Rattle.capcheck_core.specs.Roles.{HasRoles, roles_tag}
@@ -49,14 +54,19 @@ use Rattle.capcheck_core.specs.Verify.{count_of_world, HaveCardTypings}
 
 -- ---- what the folders hold
 
--- the parts in these folders stand for packages, and these make this world with the roles beside the first
-pub record HoldWorld (before : Folders) (dirs : List (List ℕ)) (w : Linked) : Type 0 where
+-- the parts in these folders, those of the last as `last` says, stand for packages, and these make this world with the roles beside the
+-- first
+pub record HoldWorldBy (last : Source) (before : Folders) (dirs : List (List ℕ)) (w : Linked) : Type 0 where
   pub parts : List (List Lent)
   pub roles : List ℕ
-  pub given : AreGiven before dirs parts roles
+  pub given : AreGiven before (places last dirs) parts roles
   pub packages : List PackageRecord
   pub stand : AllZip StandsFor parts packages
   pub linked : IsLinked packages roles w
+
+-- the same of the components in these folders
+abbrev pub HoldWorld : Folders → List (List ℕ) → Linked → Type 0
+HoldWorld before dirs w = HoldWorldBy Components before dirs w
 
 -- these files are in the folder afterwards, and every other file of any folder is as it was, where the folders tell what they hold
 pub record StandIn (dir : List ℕ) (stores : List Lent) (before after : Folders) : Type 0 where
@@ -73,10 +83,11 @@ pub record AreKept (dir : List ℕ) (parts : List Lent) (given : Option (List �
 
 -- ---- what each command promises
 
--- `verify`: every method with code has a card typing, and no run meets a fault
-pub record Accepted (v : VerifyRequest) (before : Folders) (text : List ℕ) : Type 0 where
+-- `verify`: every method with code has a card typing, and no run meets a fault; so it is for `install`, where the last package stands in
+-- a Load file
+pub record Accepted (last : Source) (d : OfDirsRequest) (before : Folders) (text : List ℕ) : Type 0 where
   pub world : Linked
-  pub held : HoldWorld before v.dirs world
+  pub held : HoldWorldBy last before d.dirs world
   pub carded : HaveCardTypings world
   pub fault_free : IsFaultFree world
   pub prints : text ≡ accepted_line (count_of_world world)
@@ -97,9 +108,9 @@ pub record Bounded (e : EntryRequest) (before : Folders) (text : List ℕ) : Typ
   pub bounded : TellsBound world e text
 
 -- `check`: every method with code of the last package has a dataflow typing
-pub record Typed (c : CheckRequest) (before : Folders) (text : List ℕ) : Type 0 where
+pub record Typed (d : OfDirsRequest) (before : Folders) (text : List ℕ) : Type 0 where
   pub world : Linked
-  pub held : HoldWorld before c.dirs world
+  pub held : HoldWorld before d.dirs world
   pub typed : AreTyped world
   pub prints : text ≡ typed_line (count_of_last world)
 
@@ -177,6 +188,21 @@ pub record Assembled (o : OutOfDirRequest) (before after : Folders) (text : List
   pub kept : AreKept o.out stored roles before after
   pub prints : text ≡ assembled_line (length (methods_of made))
 
+-- `pack`: the parts stand for a package. What is stored is a Load file of its components in full blocks, with the roles where they are
+-- there, and the text tells how many blocks and bytes it has
+pub record Packed (o : OutOfDirRequest) (before after : Folders) (text : List ℕ) : Type 0 where
+  pub parts : List Lent
+  pub loaded : AreParts before o.dir parts
+  pub read : PackageRecord
+  pub stands : StandsFor parts read
+  pub stream : List ℕ
+  pub packed : IsPacked parts stream
+  pub short : length stream ≤ 65538
+  pub roles : Option (List ℕ)
+  pub beside : HasRoles before o.dir roles
+  pub stand : StandIn o.out (load_stores stream roles) before after
+  pub prints : text ≡ packed_line (length packed.blocks) (length stream)
+
 -- `probe`: the Method part is a bare method with a card typing, and the text is how its run ends
 abbrev pub Probed : ProbeRequest → Folders → List ℕ → Type 0
 Probed p before text = OfMethodPart p before (λ file. OfMethod file (λ bare code. IsBareRun bare code p text))
@@ -189,14 +215,16 @@ Promise (probe p) before after text = Untouched before after × Probed p before.
 Promise (show d) before after text = Untouched before after × Shown d before.folders text
 Promise (list d) before after text = Untouched before after × Listed d before.folders text
 Promise (asm o) before after text = (after.card ≡ before.card) × Assembled o before.folders after.folders text
-Promise (check c) before after text = Untouched before after × Typed c before.folders text
-Promise (verify v) before after text = Untouched before after × Accepted v before.folders text
+Promise (check d) before after text = Untouched before after × Typed d before.folders text
+Promise (verify d) before after text = Untouched before after × Accepted Components d before.folders text
 Promise (defend r) before after text = Untouched before after × Defended r before.folders text
 Promise (run r) before after text = (after.folders ≡ before.folders) × Ran r before.folders after.card text
 Promise (transform t) before after text = (after.card ≡ before.card) × Transformed t before.folders after.folders text
 Promise (trial r) before after text = (after.folders ≡ before.folders) × Tried r before.folders after.card text
 Promise (generate g) before after text = Generated g before.folders after text
 Promise (bound e) before after text = Untouched before after × Bounded e before.folders text
+Promise (pack o) before after text = (after.card ≡ before.card) × Packed o before.folders after.folders text
+Promise (install d) before after text = Untouched before after × Accepted LoadFile d before.folders text
 
 -- where the words ask for something and the status is 0, its promise holds of the text that was received
 abbrev pub Promises : List (List ℕ) → Outside → Outside → Seen → Seen → ℕ → Type 0

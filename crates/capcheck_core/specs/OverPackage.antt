@@ -6,11 +6,13 @@ use Rattle.cap_package.specs.Parts.{Lent}
 use Rattle.cap_package.specs.PackageRecord.{PackageRecord}
 use Rattle.cap_package.specs.StandsFor.{StandsFor}
 use Rattle.cap_text.specs.Line.{malformed_line}
+use Rattle.capcheck_core.specs.declared.folder_fault.FolderFault.TheVariants.{Pack}
 use Rattle.capcheck_core.specs.declared.packages.PackagesStop.{PackagesStop}
 use Rattle.capcheck_core.specs.declared.verdict.Verdict.{Verdict}
 use Rattle.capcheck_core.specs.declared.verdict.Verdict.TheVariants.{Malformed, ReadFault, Memory}
 use Rattle.capcheck_core.specs.Loads.{AreParts, FailsParts}
 use Rattle.capcheck_core.specs.Packages.{LacksPackage}
+use Rattle.capcheck_core.specs.Place.{in_components}
 use Rattle.capcheck_core.specs.PackageEnds.{PackagesStopLeaves, StopsPackage}
 
 -- what a command answers, and makes of the folders, by the parts and the package that they stand for
@@ -20,7 +22,7 @@ OwnOne = List Lent → PackageRecord → Folders → Folders → Verdict → Typ
 -- the folder has no package, and the text names the first thing that is at fault
 pub record SaysLacking (before : Folders) (dir text : List ℕ) : Type 0 where
   pub fault : PackFault
-  pub lacks : LacksPackage before dir fault
+  pub lacks : LacksPackage before (in_components dir) (Pack fault)
   pub prints : text ≡ malformed_line 0 fault
 
 -- the answers where the package was not loaded: only a failed load leaves a trace
@@ -46,4 +48,4 @@ OverPackage own dir before after verdict =
 -- the verdict, or why the package was not loaded
 abbrev pub GoesOverOne : OwnOne → List ℕ → Folders → Folders → Result Verdict PackagesStop → Type 0
 GoesOverOne own dir before after (Ok verdict) = OfPackage before dir (λ parts read. own parts read before after verdict)
-GoesOverOne own dir before after (Err stop) = PackagesStopLeaves before after stop × StopsPackage before after dir 0 stop
+GoesOverOne own dir before after (Err stop) = PackagesStopLeaves before after stop × StopsPackage before after (in_components dir) 0 stop

@@ -9,7 +9,7 @@ use Rattle.card_typing.specs.Typing.{HasCardTyping}
 use Rattle.card_typing.specs.Refusal.{IsRefused}
 use Rattle.law_sound.specs.Soundness.{IsFaultFree}
 use Rattle.cap_text.specs.Line.{accepted_line, refused_card_line}
-use Rattle.cap_text.specs.Verify.{VerifyRequest}
+use Rattle.cap_text.specs.OfDirs.{OfDirsRequest}
 use Rattle.capcheck_core.specs.declared.verdict.Verdict.{Verdict}
 use Rattle.capcheck_core.specs.declared.verdict.Verdict.TheVariants.{Done, Refused, Memory}
 use Rattle.jc_control.specs.Asked.{AllHave, IsFirstWithout}
@@ -59,5 +59,5 @@ abbrev pub VerifiesWorld : Linked → Outside → Outside → Verdict → Type 0
 VerifiesWorld w before after verdict = Untouched before after × AcceptsWorld w verdict
 
 -- the outside is as it was when the verifying began, and as it is afterwards
-abbrev pub Verifies : VerifyRequest → Outside → Outside → Verdict → Type 0
-Verifies v before after verdict = OverFolders (OverWorld (of_world VerifiesWorld)) v.dirs before after verdict
+abbrev pub Verifies : OfDirsRequest → Outside → Outside → Verdict → Type 0
+Verifies d before after verdict = OverFolders (OverWorld (of_world VerifiesWorld)) d.dirs before after verdict

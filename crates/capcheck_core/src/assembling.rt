@@ -6,7 +6,7 @@ ghost use Rattle.capcheck_core.specs.Assemble.{AssemblesBeside, AssemblesText, I
 
 use crate::beside::load_wanted;
 use crate::package_step::PackageStep;
-use crate::packages::find_roles;
+use crate::packages::{find_roles, slice_of};
 use crate::storing::{in_order, store_parts};
 use crate::verdict::Verdict;
 use cap_bytes::Part;
@@ -62,16 +62,6 @@ fn assemble_beside<F: Folder>(
     match find_roles(alloc, folder, asked.dir) {
         Ok(roles) => assemble_text(alloc, asked.out, read, text, slice_of(&roles), folder),
         Err(stop) => stop.verdict(alloc),
-    }
-}
-
-// The roles as they are stored.
-fn slice_of(roles: &Option<[u8; 8]>) -> Option<&[u8]>
-    ensures { option_copied result ≡ roles.now }
-{
-    match roles {
-        Some(roles) => Some(roles),
-        None => None,
     }
 }
 

@@ -1,6 +1,7 @@
 ghost use Rattle.capcheck_core.specs.BesideEnds.{LoadsWanted};
 ghost use Rattle.capcheck_core.specs.PackageEnds.{PackagesLeave};
 
+use crate::folder_fault::FolderFault;
 use crate::packages::PackagesStop;
 use cap_bytes::Part;
 use cap_files::{Folder, LoadEnd};
@@ -21,10 +22,13 @@ pub(crate) fn load_wanted<F: Folder>(
     let mut file = Vec::new(alloc);
     match folder.load(alloc, dir, part, &mut file) {
         Ok(true) => Ok(file),
-        Ok(false) => Err(PackagesStop::Malformed(number, PackFault::MissingPart(part.0))),
+        Ok(false) => Err(PackagesStop::Malformed(
+            number,
+            FolderFault::Pack(PackFault::MissingPart(part.0)),
+        )),
         Err(LoadEnd::TooLong) => Err(PackagesStop::Malformed(
             number,
-            PackFault::PartTooLong(part.0),
+            FolderFault::Pack(PackFault::PartTooLong(part.0)),
         )),
         Err(LoadEnd::Failed) => Err(PackagesStop::Failed),
         Err(LoadEnd::Memory) => Err(PackagesStop::Memory),

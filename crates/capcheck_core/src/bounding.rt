@@ -14,6 +14,7 @@ use cap_package::Packages;
 use cap_text::{AtEntry, bounded, cycle, not_started};
 use card_verify::{Accepted, CardRoom, accept};
 use jc_base::World;
+use law_sound::typed_code_never_fails;
 use std::alloc::{AllocError, Global};
 use vm_bound::{Bound, BoundEnd, bound};
 use vm_step::StartFault;
@@ -72,8 +73,10 @@ fn told(alloc: Global, accepted: &Accepted<'_>, at: &AtEntry<'_>, number: u16) -
     requires entered { method_bounded accepted.now (entry_request at.now) ≡ Some number }
     ensures { AnswersBound accepted.now (entry_request at.now) result }
 {
+    let world = accepted.world();
+    typed_code_never_fails(world);
     match bound(alloc, accepted, number) {
-        Ok(found) => Verdict::done(bound_line(alloc, accepted.world(), found)),
+        Ok(found) => Verdict::done(bound_line(alloc, world, found)),
         Err(BoundEnd::Fault(fault)) => Verdict::malformed(not_started(alloc, fault)),
         Err(BoundEnd::Memory) => Verdict::Memory,
     }

@@ -17,15 +17,17 @@ use crate::defending::DefendStep;
 use crate::generating::generate_and_run;
 use crate::listed::ListStep;
 use crate::package_step::over_package;
+use crate::packing::PackStep;
 use crate::probe::probe;
 use crate::report::report;
 use crate::running::RunStep;
 use crate::show::ShowStep;
+use crate::source::Source;
 use crate::transforming::TransformStep;
 use crate::trying::TrialStep;
 use crate::typing::CheckStep;
 use crate::verdict::Verdict;
-use crate::world::over_folders;
+use crate::world::{over_folders, over_places};
 use cap_files::{Folder, Sink, Words};
 use cap_text::{Command, read_command};
 use std::alloc::Global;
@@ -122,8 +124,8 @@ fn perform<F: Folder>(
         Command::Show(of) => over_package(alloc, &ShowStep, of.dir, folder),
         Command::List(of) => over_package(alloc, &ListStep, of.dir, folder),
         Command::Asm(asked) => over_package(alloc, &AsmStep { asked }, asked.dir, folder),
-        Command::Check(check) => over_folders(alloc, &CheckStep, check.dirs, folder, card),
-        Command::Verify(verify) => over_folders(alloc, &VerifyStep, verify.dirs, folder, card),
+        Command::Check(of) => over_folders(alloc, &CheckStep, of.dirs, folder, card),
+        Command::Verify(of) => over_folders(alloc, &VerifyStep, of.dirs, folder, card),
         Command::Defend(run) => over_folders(alloc, &DefendStep { run }, run.dirs, folder, card),
         Command::Run(run) => over_folders(alloc, &RunStep { run }, run.dirs, folder, card),
         Command::Transform(asked) => {
@@ -132,5 +134,9 @@ fn perform<F: Folder>(
         Command::Trial(run) => over_folders(alloc, &TrialStep { run }, run.dirs, folder, card),
         Command::Generate(operands) => generate_and_run(alloc, operands, folder, card),
         Command::Bound(at) => over_folders(alloc, &BoundStep { at }, at.dirs, folder, card),
+        Command::Pack(asked) => over_package(alloc, &PackStep { asked }, asked.dir, folder),
+        Command::Install(of) => {
+            over_places(alloc, &VerifyStep, Source::LoadFile, of.dirs, folder, card)
+        }
     }
 }

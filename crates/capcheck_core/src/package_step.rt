@@ -1,5 +1,6 @@
 //! A command on the package of one folder: its loads, and what it does with the package.
 ghost use Rattle.cap_package.specs.StandsFor.{StandsFor};
+ghost use Rattle.capcheck_core.specs.Pack.{IsOfFolder};
 ghost use Rattle.capcheck_core.specs.OverPackage.{OwnOne, OverPackage, GoesOverOne};
 
 use crate::packages::{PackagesStop, load_files, read_package};
@@ -21,7 +22,8 @@ pub trait PackageStep {
         read: &Package<'_, '_>,
         folder: &mut F,
     ) -> Verdict
-        requires { StandsFor parts.now read.now }
+        requires stands { StandsFor parts.now read.now }
+        requires loaded { IsOfFolder parts.now }
         ensures { own self.now parts.now read.now (F.folders folder.old) (F.folders folder.new) result };
 }
 

@@ -1,16 +1,19 @@
 ghost use Rattle.std.specs.Prelude.{◌≡◌, ◌≢◌, ◌≤◌, length, min};
+ghost use Rattle.std.specs.Option.{option_copied};
 ghost use Rattle.cap_files.specs.WordsLeft.{words_left};
 ghost use Rattle.cap_components.specs.declared.fault.PackFault.TheVariants.{PartTooLong};
+ghost use Rattle.capcheck_core.specs.declared.folder_fault.FolderFault.TheVariants.{Pack};
 ghost use Rattle.capcheck_core.specs.declared.packages.PackagesStop.TheVariants.{Malformed};
 ghost use Rattle.capcheck_core.specs.Roles.{IsNoRoles};
 ghost use Rattle.capcheck_core.specs.PackageEnds.{ReadsRoles, RolesBeside, LoadsRoles, FindsRoles, LoadsFiles, ReadsPackage, PackagesLeave, IsStop};
 
+use crate::folder_fault::FolderFault;
 use crate::load::{Files, LoadStop, load_parts};
 use crate::verdict::Verdict;
 use cap_bytes::{FormFault, FormKind, Part};
 use cap_files::{Folder, LoadEnd, WordsIter};
 use cap_package::{PackFault, Package, Parts, package};
-use cap_text::{malformed, not_linked};
+use cap_text::{malformed, malformed_stream, not_linked};
 use jc_link::LinkFault;
 use std::alloc::{AllocError, Global};
 
@@ -25,8 +28,8 @@ pub(crate) const MOST: u32 = 16;
 pub enum PackagesStop {
     /// So many folders: none, or more than 16.
     TooMany(u32),
-    /// The parts of the package of this number, or the roles beside it, are at fault.
-    Malformed(u16, PackFault),
+    /// The parts of the package of this number, its Load file, or the roles beside it, are at fault.
+    Malformed(u16, FolderFault),
     /// A load failed.
     Failed,
     /// There was no memory for the parts.
@@ -54,12 +57,20 @@ impl PackagesStop {
                 alloc,
                 LinkFault::TooManyPackages(count),
             )),
-            PackagesStop::Malformed(number, fault) => Verdict::malformed(malformed(
-                alloc, number, fault,
-            )),
+            PackagesStop::Malformed(number, fault) => malformed_folder(alloc, number, fault),
             PackagesStop::Failed => Verdict::ReadFault,
             PackagesStop::Memory => Verdict::Memory,
         }
+    }
+}
+
+// The verdict for what is at fault in the folder of the package of a number.
+fn malformed_folder(alloc: Global, number: u16, fault: FolderFault) -> Verdict
+    ensures { IsStop (Malformed number fault) result }
+{
+    match fault {
+        FolderFault::Pack(fault) => Verdict::malformed(malformed(alloc, number, fault)),
+        FolderFault::Stream(fault) => { Verdict::malformed(malformed_stream(alloc, number, fault)) }
     }
 }
 
@@ -94,9 +105,9 @@ pub(crate) fn load_files<F: Folder>(
 
 // A part of the package of a number is longer than a component can be.
 fn too_long(number: u16, part: Part) -> PackagesStop
-    ensures { result ≡ Malformed number (PartTooLong part.0) }
+    ensures { result ≡ Malformed number (Pack (PartTooLong part.0)) }
 {
-    PackagesStop::Malformed(number, PackFault::PartTooLong(part.0))
+    PackagesStop::Malformed(number, FolderFault::Pack(PackFault::PartTooLong(part.0)))
 }
 
 /// The package of a number that the parts stand for.
@@ -108,7 +119,7 @@ pub(crate) fn read_package<'p, 'a>(
 {
     match package(parts) {
         Ok(package) => Ok(package),
-        Err(fault) => Err(PackagesStop::Malformed(number, fault)),
+        Err(fault) => Err(PackagesStop::Malformed(number, FolderFault::Pack(fault))),
     }
 }
 
@@ -137,7 +148,10 @@ fn load_roles<F: Folder>(alloc: Global, folder: &mut F, dir: &str) -> Result<[u8
 {
     match find_roles(alloc, folder, dir) {
         Ok(Some(roles)) => Ok(roles),
-        Ok(None) => Err(PackagesStop::Malformed(0, PackFault::MissingPart(ROLES.0))),
+        Ok(None) => Err(PackagesStop::Malformed(
+            0,
+            FolderFault::Pack(PackFault::MissingPart(ROLES.0)),
+        )),
         Err(stop) => Err(stop),
     }
 }
@@ -158,9 +172,19 @@ pub(crate) fn find_roles<F: Folder>(
             Err(stop) => Err(stop),
         },
         Ok(false) => Ok(None),
-        Err(LoadEnd::TooLong) => Err(PackagesStop::Malformed(0, PackFault::PartTooLong(ROLES.0))),
+        Err(LoadEnd::TooLong) => Err(too_long(0, ROLES)),
         Err(LoadEnd::Failed) => Err(PackagesStop::Failed),
         Err(LoadEnd::Memory) => Err(PackagesStop::Memory),
+    }
+}
+
+/// The roles as they are stored.
+pub(crate) fn slice_of(roles: &Option<[u8; 8]>) -> Option<&[u8]>
+    ensures { option_copied result ≡ roles.now }
+{
+    match roles {
+        Some(roles) => Some(roles),
+        None => None,
     }
 }
 
@@ -171,7 +195,7 @@ fn roles_in(file: &[u8]) -> Result<[u8; 8], PackagesStop>
 {
     match <[u8; 8]>::try_from(file) {
         Ok(roles) => Ok(roles),
-        Err(_) => Err(PackagesStop::Malformed(0, PackFault::Form(misfit(file)))),
+        Err(_) => Err(PackagesStop::Malformed(0, FolderFault::Pack(PackFault::Form(misfit(file))))),
     }
 }
 

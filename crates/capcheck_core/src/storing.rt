@@ -2,6 +2,7 @@ ghost use Rattle.std.specs.Prelude.{◌≡◌, IsSome, IsNone, IfOk, OnOk};
 ghost use Rattle.std.specs.Option.{option_copied};
 ghost use Rattle.cap_package.specs.Parts.{held};
 ghost use Rattle.capcheck_core.specs.Loads.{with_file};
+ghost use Rattle.capcheck_core.specs.Pack.{load_stores};
 ghost use Rattle.capcheck_core.specs.Stores.{AreInStoreOrder, StoresParts};
 
 use cap_bytes::Part;
@@ -14,6 +15,9 @@ const HEADER: Part = Part(1);
 
 /// The file of the roles.
 const ROLES: Part = Part(0);
+
+/// The Load file.
+pub(crate) const LOAD: Part = Part(13);
 
 /// Stores parts in a folder, one after the other. It stops at the first store that fails.
 pub fn store_parts<F: Folder>(
@@ -53,6 +57,20 @@ pub fn in_order<'a>(
     }
     add_file(&mut stores, ROLES, roles)?;
     add_file(&mut stores, HEADER, parts.get(HEADER))?;
+    Ok(stores)
+}
+
+/// The Load file, and then the roles where they are stored too.
+pub fn load_stores<'a>(
+    alloc: Global,
+    stream: &'a [u8],
+    roles: Option<&'a [u8]>,
+) -> Result<Parts<'a>, AllocError>
+    ensures { IfOk result (λ stores. stores ≡ load_stores stream.now (option_copied roles.entry)) }
+{
+    let mut stores = Parts::new(alloc);
+    add_file(&mut stores, LOAD, Some(stream))?;
+    add_file(&mut stores, ROLES, roles)?;
     Ok(stores)
 }
 

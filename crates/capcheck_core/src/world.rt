@@ -1,17 +1,21 @@
-ghost use Rattle.std.specs.Prelude.{◌≤◌, ◌+◌, ◌∷◌, length};
+ghost use Rattle.std.specs.Prelude.{◌≡◌, ◌≤◌, ◌+◌, ◌∷◌, length};
 ghost use Rattle.cap_files.specs.WordsLeft.{words_left};
+ghost use Rattle.capcheck_core.specs.declared.source.Source.TheVariants.{Components, LoadFile};
 ghost use Rattle.capcheck_core.specs.LentCard.{IsSameCard, words_of};
-ghost use Rattle.capcheck_core.specs.Loads.{AreParts};
 ghost use Rattle.capcheck_core.specs.Outside.{outside};
-ghost use Rattle.capcheck_core.specs.OverFolders.{OverFolders};
+ghost use Rattle.capcheck_core.specs.OverFolders.{OverFolders, OverPlaces};
 ghost use Rattle.capcheck_core.specs.OverLoads.{GivenAfterFirst, GoesOver, GoesOverAll};
+ghost use Rattle.capcheck_core.specs.Packages.{ArePartsAt};
+ghost use Rattle.capcheck_core.specs.Place.{places, source_before};
 ghost use Rattle.capcheck_core.specs.Run.{HasLengths};
 ghost use Rattle.capcheck_core.specs.World.{IsUnlinkedBy, OverWorld, OverPackages};
 
 use crate::card::Card;
 use crate::packages::{MOST, PackagesStop, count_of, load_files, read_package, roles_beside};
-use crate::rest::Rest;
+use crate::rest::{Rest, source_of};
+use crate::source::Source;
 use crate::step::LastStep;
+use crate::stream::{load_stream, parts_in};
 use crate::verdict::Verdict;
 use cap_files::{Folder, WordsIter};
 use cap_package::{Packages, Parts};
@@ -19,7 +23,7 @@ use cap_text::not_linked;
 use jc_link::{LinkEnd, link};
 use std::alloc::Global;
 
-/// A command over the packages in folders: it loads them with the roles, links them, and takes the
+/// A command over the packages in folders, each by its components: it loads them with the roles, links them, and takes the
 /// command's own last step.
 pub(crate) fn over_folders<S: LastStep, F: Folder>(
     alloc: Global,
@@ -34,7 +38,25 @@ pub(crate) fn over_folders<S: LastStep, F: Folder>(
         (outside (F.folders folder.new) (words_of card.new)) result }
     ensures same { IsSameCard card.old card.new }
 {
-    match over_all(alloc, step, dirs, folder, card) {
+    over_places(alloc, step, Source::Components, dirs, folder, card)
+}
+
+/// The same where the parts of the last package are had as `last` says.
+pub(crate) fn over_places<S: LastStep, F: Folder>(
+    alloc: Global,
+    step: &S,
+    last: Source,
+    dirs: WordsIter<'_>,
+    folder: &mut F,
+    card: &mut Card<'_>,
+) -> Verdict
+    requires { HasLengths (words_of card.old) }
+    ensures answers { OverPlaces (OverWorld (S.own step.now)) (places last (words_left dirs.entry))
+        (outside (F.folders folder.old) (words_of card.old))
+        (outside (F.folders folder.new) (words_of card.new)) result }
+    ensures same { IsSameCard card.old card.new }
+{
+    match over_all(alloc, step, last, dirs, folder, card) {
         Ok(verdict) => verdict,
         Err(stop) => stop.verdict(alloc),
     }
@@ -44,12 +66,13 @@ pub(crate) fn over_folders<S: LastStep, F: Folder>(
 fn over_all<S: LastStep, F: Folder>(
     alloc: Global,
     step: &S,
+    last: Source,
     dirs: WordsIter<'_>,
     folder: &mut F,
     card: &mut Card<'_>,
 ) -> Result<Verdict, PackagesStop>
     requires { HasLengths (words_of card.old) }
-    ensures answers { GoesOverAll (S.own step.now) (words_left dirs.entry)
+    ensures answers { GoesOverAll (S.own step.now) (places last (words_left dirs.entry))
         (outside (F.folders folder.old) (words_of card.old))
         (outside (F.folders folder.new) (words_of card.new)) result }
     ensures same { IsSameCard card.old card.new }
@@ -61,6 +84,7 @@ fn over_all<S: LastStep, F: Folder>(
             let rest = Rest {
                 dir,
                 others,
+                last,
                 roles: None,
             };
             over_rest(alloc, step, rest, Packages::new(alloc), folder, card)
@@ -83,7 +107,34 @@ fn over_rest<'k, 'c, S: LastStep, F: Folder>(
     requires few { length packages + length (words_left rest.others) ≤ 15 }
     requires begun { GivenAfterFirst rest.roles (length packages) }
     requires lengths { HasLengths (words_of card.old) }
-    ensures answers { GoesOver (S.own step.now) (rest.entry.dir.now ∷ words_left rest.entry.others) packages.entry rest.entry.roles
+    ensures answers { GoesOver (S.own step.now) (places rest.entry.last (rest.entry.dir.now ∷ words_left rest.entry.others))
+        packages.entry rest.entry.roles
+        (outside (F.folders folder.old) (words_of card.old))
+        (outside (F.folders folder.new) (words_of card.new)) result }
+    ensures same { IsSameCard card.old card.new }
+{
+    match source_of(rest.last, rest.others) {
+        Source::Components => over_components(alloc, step, rest, packages, folder, card),
+        Source::LoadFile => over_load_file(alloc, step, rest, packages, folder, card),
+    }
+}
+
+// The same where the parts in the next folder are components.
+#[cycle(folders)]
+fn over_components<'k, 'c, S: LastStep, F: Folder>(
+    alloc: Global,
+    step: &S,
+    rest: Rest<'_>,
+    packages: Packages<'_, '_>,
+    folder: &mut F,
+    card: &'k mut Card<'c>,
+) -> Result<Verdict, PackagesStop>
+    requires few { length packages + length (words_left rest.others) ≤ 15 }
+    requires begun { GivenAfterFirst rest.roles (length packages) }
+    requires source { source_before rest.last (words_left rest.others) ≡ Components }
+    requires lengths { HasLengths (words_of card.old) }
+    ensures answers { GoesOver (S.own step.now) (places rest.entry.last (rest.entry.dir.now ∷ words_left rest.entry.others))
+        packages.entry rest.entry.roles
         (outside (F.folders folder.old) (words_of card.old))
         (outside (F.folders folder.new) (words_of card.new)) result }
     ensures same { IsSameCard card.old card.new }
@@ -93,7 +144,32 @@ fn over_rest<'k, 'c, S: LastStep, F: Folder>(
     over_parts(alloc, step, rest, packages, &parts, folder, card)
 }
 
-// The same where the parts in the next folder are loaded.
+// The same where they stand in its Load file.
+#[cycle(folders)]
+fn over_load_file<'k, 'c, S: LastStep, F: Folder>(
+    alloc: Global,
+    step: &S,
+    rest: Rest<'_>,
+    packages: Packages<'_, '_>,
+    folder: &mut F,
+    card: &'k mut Card<'c>,
+) -> Result<Verdict, PackagesStop>
+    requires few { length packages + length (words_left rest.others) ≤ 15 }
+    requires begun { GivenAfterFirst rest.roles (length packages) }
+    requires source { source_before rest.last (words_left rest.others) ≡ LoadFile }
+    requires lengths { HasLengths (words_of card.old) }
+    ensures answers { GoesOver (S.own step.now) (places rest.entry.last (rest.entry.dir.now ∷ words_left rest.entry.others))
+        packages.entry rest.entry.roles
+        (outside (F.folders folder.old) (words_of card.old))
+        (outside (F.folders folder.new) (words_of card.new)) result }
+    ensures same { IsSameCard card.old card.new }
+{
+    let loader = load_stream(alloc, folder, rest.dir, packages.len() as u16)?;
+    let parts = parts_in(alloc, &loader, packages.len() as u16)?;
+    over_parts(alloc, step, rest, packages, &parts, folder, card)
+}
+
+// The same where the parts of the next package are loaded.
 #[cycle(folders)]
 fn over_parts<'k, 'c, 'p, 'a, S: LastStep, F: Folder>(
     alloc: Global,
@@ -106,9 +182,10 @@ fn over_parts<'k, 'c, 'p, 'a, S: LastStep, F: Folder>(
 ) -> Result<Verdict, PackagesStop>
     requires few { length packages + length (words_left rest.others) ≤ 15 }
     requires begun { GivenAfterFirst rest.roles (length packages) }
-    requires parts { AreParts (F.folders folder.old) rest.dir.now parts.now }
+    requires parts { ArePartsAt (F.folders folder.old) (source_before rest.last (words_left rest.others)) rest.dir.now parts.now }
     requires lengths { HasLengths (words_of card.old) }
-    ensures answers { GoesOver (S.own step.now) (rest.entry.dir.now ∷ words_left rest.entry.others) packages.entry rest.entry.roles
+    ensures answers { GoesOver (S.own step.now) (places rest.entry.last (rest.entry.dir.now ∷ words_left rest.entry.others))
+        packages.entry rest.entry.roles
         (outside (F.folders folder.old) (words_of card.old))
         (outside (F.folders folder.new) (words_of card.new)) result }
     ensures same { IsSameCard card.old card.new }
@@ -123,6 +200,7 @@ fn over_parts<'k, 'c, 'p, 'a, S: LastStep, F: Folder>(
             let left = Rest {
                 dir,
                 others,
+                last: rest.last,
                 roles: Some(roles),
             };
             over_rest(alloc, step, left, packages, folder, card)

@@ -123,6 +123,18 @@ pub(crate) fn gives(
     leaves(alloc, line, folder, &(text, status, NO_WORDS))
 }
 
+/// The status and the text of a command over a folder.
+pub(crate) fn said(
+    alloc: Global,
+    line: &str,
+    folder: &mut SureFolder,
+) -> Result<(u8, Vec<u8>), AllocError> {
+    let mut out = SureSink::new(alloc, 400)?;
+    let (status, _) = run_over(alloc, line, folder, &mut out, &NO_WORDS)?;
+    let text = Vec::from_slice(alloc, out.received())?;
+    Ok((status, text))
+}
+
 /// A command; which of its loads fails, which of its puts, and after how many bytes; the text that is received,
 /// and the status.
 pub(crate) type Failing = (&'static str, u32, u32, u32, &'static str, u8);

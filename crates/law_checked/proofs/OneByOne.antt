@@ -14,8 +14,11 @@ use Rattle.jc_link.specs.World.{IsLinked}
 use Rattle.law_sound.specs.Soundness.{IsFaultFree}
 use Rattle.law_added.specs.Checked.{IsChecked, AreCheckedOneByOne, CheckedPackagesNeverFault}
 use Rattle.capcheck_core.specs.Loads.{AreParts}
+use Rattle.capcheck_core.specs.declared.source.Source.TheVariants.{Components}
 use Rattle.capcheck_core.specs.Packages.{AreGiven, AreRoleBytes}
+use Rattle.capcheck_core.specs.Place.{Place, places}
 use Rattle.capcheck_core.specs.Headline.{HoldWorld, Typed}
+use Rattle.capcheck_core.proofs.InComponents.{components_zip}
 use Rattle.law_checked.specs.CheckedFolders.{IsCheckedTo, AreCheckedFolders, CheckedFoldersNeverFault}
 use Rattle.law_checked.proofs.OneFolder.{parts_one, roles_one}
 
@@ -55,12 +58,12 @@ agreed (p ∷ ps) (q ∷ qs) h (suc i) d lt = agreed ps qs h.1 i d (omega (arith
 -- ---- folders
 
 module _ (before : Folders) (dirs : List (List ℕ)) (w : Linked) (told : IsSome before.held) (held : HoldWorld before dirs w) where
-  some_roles : (ds : List (List ℕ)) (roles : List ℕ) → AreRoleBytes before ds roles → 0 < length roles
+  some_roles : (ds : List Place) (roles : List ℕ) → AreRoleBytes before ds roles → 0 < length roles
   some_roles [] roles h = absurd h
   some_roles (d ∷ ds) roles h = omega (arith, h.eight)
 
-  same_roles : (now : Folders) → now.held ≡ before.held → (k : ℕ) (ds : List (List ℕ)) (xs ys : List ℕ) → 1 ≤ k → AreRoleBytes before ds xs
-      → AreRoleBytes now (take k ds) ys → ys ≡ xs
+  same_roles : (now : Folders) → now.held ≡ before.held → (k : ℕ) (ds : List (List ℕ)) (xs ys : List ℕ) → 1 ≤ k
+      → AreRoleBytes before (places Components ds) xs → AreRoleBytes now (places Components (take k ds)) ys → ys ≡ xs
   same_roles now same zero ds xs ys le a b = absurd (omega (arith, le))
   same_roles now same (suc k) [] xs ys le a b = absurd a
   same_roles now same (suc k) (d ∷ ds) xs ys le a b = sym (roles_one before now same told d xs ys a b)
@@ -69,7 +72,8 @@ module _ (before : Folders) (dirs : List (List ℕ)) (w : Linked) (told : IsSome
   is_checked k le x =
       let then = x.promised.held in
       let parts = zip_taken (AreParts before) (AreParts x.then_held) (λ dir ys zs a b. parts_one before x.then_held x.same told dir ys zs a b) k dirs
-      held.parts then.parts held.given.parts_are then.given.parts_are in
+      held.parts then.parts (components_zip before dirs held.parts held.given.parts_are)
+      (components_zip x.then_held (take k dirs) then.parts then.given.parts_are) in
       let packages = zip_taken StandsFor StandsFor one_record k held.parts held.packages then.packages held.stand
       (subst (λ ps. AllZip StandsFor ps then.packages) parts then.stand) in
       let roles = same_roles x.then_held x.same k dirs held.roles then.roles le held.given.roles_are then.given.roles_are in
@@ -82,13 +86,13 @@ module _ (before : Folders) (dirs : List (List ℕ)) (w : Linked) (told : IsSome
 
   checked_all : AreCheckedFolders before dirs → AreCheckedOneByOne held.packages held.roles
   checked_all each k least most =
-      let long = zip_long (AreParts before) dirs held.parts held.given.parts_are in
+      let long = zip_long (AreParts before) dirs held.parts (components_zip before dirs held.parts held.given.parts_are) in
       let all = zip_long StandsFor held.parts held.packages held.stand in
       is_checked k least (each k least (omega (arith, most, long, all)))
 
   pub folders-checked : CheckedPackagesNeverFault w → AreCheckedFolders before dirs → IsFaultFree w
   folders-checked sound each =
-      sound held.packages held.roles (some_roles dirs held.roles held.given.roles_are) (agreed held.parts held.packages held.stand) held.linked
+      sound held.packages held.roles (some_roles (places Components dirs) held.roles held.given.roles_are) (agreed held.parts held.packages held.stand) held.linked
       (checked_all each)
 
 pub checked-folders-never-fault : (w : Linked) → CheckedPackagesNeverFault w → CheckedFoldersNeverFault w

@@ -1,7 +1,6 @@
 -- Folders that `check` was asked of one by one, each with those before it.
 use Rattle.std.specs.Prelude.{◌≡◌, ℕ, ◌≤◌, List, length, take, IsSome}
 use Rattle.cap_files.specs.Folder.{Folders}
-use Rattle.cap_text.specs.Check.{CheckRequest}
 use Rattle.jc_base.specs.World.{Linked}
 use Rattle.law_sound.specs.Soundness.{IsFaultFree}
 use Rattle.capcheck_core.specs.Headline.{HoldWorld, Typed}

@@ -19,10 +19,13 @@ use Rattle.capcheck_core.specs.Completeness.{CanDo}
 use Rattle.capcheck_core.specs.Headline.{HoldWorld, AreKept}
 use Rattle.capcheck_core.specs.Loads.{Has, AreParts, is_asked}
 use Rattle.capcheck_core.specs.Outside.{Outside}
-use Rattle.capcheck_core.specs.Packages.{AreGiven, AreRoleBytes}
+use Rattle.capcheck_core.specs.declared.source.Source.TheVariants.{Components}
+use Rattle.capcheck_core.specs.Packages.{ArePartsBy, AreRoleBytes}
+use Rattle.capcheck_core.specs.Place.{places}
 use Rattle.capcheck_core.specs.Roles.{AreRolesIn, roles_tag}
 use Rattle.capcheck_core.specs.Transform.{Transforms, TransformsWorld, IsBrought, roles_beside}
 use Rattle.capcheck_core.specs.Verdict.{status_of}
+use Rattle.capcheck_core.proofs.InComponents.{components_zip, places_zip}
 use Rattle.capcheck_core.proofs.Promised.{over, are_kept}
 use Rattle.law_stored.specs.StoredIsRead.{StoredIsRead, IsReadAgain, IsApart, with_last}
 use Rattle.law_stored.proofs.AskedParts.{IsShort, asked_short}
@@ -79,7 +82,10 @@ module _ (t : TransformRequest) (before after : Outside) (libraries : List (List
 
   -- the parts of the libraries, and those of the last package
   loaded : _
-  loaded = last_beside (AreParts before.folders) libraries last h.parts (subst (λ ds. AllZip (AreParts before.folders) ds h.parts) are h.given.parts_are)
+  loaded =
+      last_beside (AreParts before.folders) libraries last h.parts
+      (components_zip before.folders (with_last libraries last) h.parts
+      (subst (λ ds. AllZip (ArePartsBy before.folders) (places Components ds) h.parts) are h.given.parts_are))
 
   packages : _
   packages = last_beside StandsFor loaded.front loaded.end h.packages (subst (λ ps. AllZip StandsFor ps h.packages) loaded.are h.stand)
@@ -102,18 +108,18 @@ module _ (t : TransformRequest) (before after : Outside) (libraries : List (List
   libraries_stand : AllZip StandsFor loaded.front made.keeps.libraries
   libraries_stand = subst (AllZip StandsFor loaded.front) same.0 packages.beside
 
-  roles_are : (ds : List (List ℕ)) → ds ≡ libraries → AreRoleBytes after.folders (with_last ds t.out) h.roles
+  roles_are : (ds : List (List ℕ)) → ds ≡ libraries → AreRoleBytes after.folders (places Components (with_last ds t.out)) h.roles
   roles_are [] e =
       let none = none_beside (AreParts before.folders) loaded.front (subst (λ ds. AllZip (AreParts before.folders) ds loaded.front) (sym e) loaded.beside) in
       let no_libraries = none_beside StandsFor packages.front (subst (λ ps. AllZip StandsFor ps packages.front) none packages.beside) in
       let one : h.packages ≡ packages.end ∷ [] = packages.are ∙ ap (λ ps. ps ++ packages.end ∷ []) no_libraries in
       let roles : held kept.stores roles_tag ≡ Some h.roles = kept.roles ∙ lone h.packages packages.end h.roles one in
       let given : AreRolesIn before.folders last h.roles =
-      subst (λ ds. AreRoleBytes before.folders ds h.roles) (are ∙ ap (λ ds. with_last ds last) (sym e)) h.given.roles_are in
+      subst (λ ds. AreRoleBytes before.folders (places Components ds) h.roles) (are ∙ ap (λ ds. with_last ds last) (sym e)) h.given.roles_are in
       record { there = kept.stand.there roles_tag h.roles roles; eight = given.eight }
   roles_are (d ∷ ds) e =
       let given : AreRolesIn before.folders d h.roles =
-      subst (λ xs. AreRoleBytes before.folders xs h.roles) (are ∙ ap (λ xs. with_last xs last) (sym e)) h.given.roles_are in
+      subst (λ xs. AreRoleBytes before.folders (places Components xs) h.roles) (are ∙ ap (λ xs. with_last xs last) (sym e)) h.given.roles_are in
       let far = subst (λ xs. IsApart xs t.out) (sym e) apart in
       roles_kept t.out kept.stores before.folders after.folders kept.stand d far.0 h.roles given
 
@@ -122,8 +128,9 @@ module _ (t : TransformRequest) (before after : Outside) (libraries : List (List
     parts = loaded.front ++ parts ∷ [];
     roles = h.roles;
     given = record {
-      parts_are = with_last_beside (AreParts after.folders) libraries loaded.front t.out parts
-          (all_kept t.out kept.stores before.folders after.folders kept.stand libraries loaded.front apart loaded.beside) stored;
+      parts_are = places_zip after.folders (with_last libraries t.out) (loaded.front ++ parts ∷ [])
+          (with_last_beside (AreParts after.folders) libraries loaded.front t.out parts
+          (all_kept t.out kept.stores before.folders after.folders kept.stand libraries loaded.front apart loaded.beside) stored);
       roles_are = roles_are libraries refl;
     };
     packages = made.keeps.libraries ++ made.keeps.made ∷ [];

@@ -4,7 +4,8 @@ use Rattle.std.specs.Prelude.{◌≡◌, IfOk, string_bytes}
 use Rattle.cap_text.specs.EntryWords.{entry_request}
 use Rattle.capcheck_core.specs.declared.verdict.Verdict.TheVariants.{Done}
 use Rattle.capcheck_core.specs.Bounding.{bound_text, AnswersBound}
-use Rattle.capcheck_core.proofs.Cardings.{all_carded}
+use Rattle.law_sound.specs.Soundness.{TypedCodeIsFaultFree}
+use Rattle.capcheck_core.proofs.Cardings.{all_carded, accepted_free}
 use Rattle.capcheck_core.proofs.Verdicts.{said}
 use Rattle.capcheck_core.proofs.bounding.told.Goals as goal
 
@@ -16,6 +17,7 @@ returns-in-Ok c =
     (λ text prints.
     record {
       carded = all_carded w c.requires.accepted;
+      fault_free = accepted_free w c.requires.accepted (subst TypedCodeIsFaultFree c.world.ensures.is c.typed_code_never_fails.ensures.fault_free);
       number = c.args.number;
       entered = c.requires.entered;
       begins = c.in-Ok.ensures.begins;

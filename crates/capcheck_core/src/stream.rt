@@ -1,0 +1,59 @@
+//! The parts of a package in the Load file of its folder.
+ghost use Rattle.std.specs.Prelude.{ℕ, List};
+ghost use Rattle.capcheck_core.specs.PackageEnds.{FinishesStream, HasTaken, LoadsStream, PackagesLeave, TakesStream};
+
+use crate::beside::load_wanted;
+use crate::folder_fault::FolderFault;
+use crate::packages::PackagesStop;
+use crate::storing::LOAD;
+use cap_files::Folder;
+use cap_load::{FinishEnd, Loader};
+use cap_package::Parts;
+use std::alloc::Global;
+
+/// The room for contents: as many bytes as a part can have.
+const ROOM: u32 = 65538;
+
+/// A loader that took the Load file of a folder, for the package of a number.
+pub(crate) fn load_stream<F: Folder>(
+    alloc: Global,
+    folder: &mut F,
+    dir: &str,
+    number: u16,
+) -> Result<Loader, PackagesStop>
+    ensures loads { LoadsStream (F.folders folder.old) (F.folders folder.new) dir.now number result }
+    ensures folders { PackagesLeave (F.folders folder.old) (F.folders folder.new) result }
+{
+    match load_wanted(alloc, folder, dir, LOAD, number) {
+        Ok(stream) => take_stream(alloc, &stream, number),
+        Err(stop) => Err(stop),
+    }
+}
+
+// A loader that took these bytes.
+fn take_stream(alloc: Global, stream: &[u8], number: u16) -> Result<Loader, PackagesStop>
+    ensures { TakesStream stream.now number result }
+{
+    let mut loader = Loader::new(alloc, ROOM)?;
+    match loader.feed(stream) {
+        Ok(()) => Ok(loader),
+        Err(fault) => Err(PackagesStop::Malformed(number, FolderFault::Stream(fault))),
+    }
+}
+
+/// The parts in the bytes that a loader took, for the package of a number.
+pub(crate) fn parts_in(
+    alloc: Global,
+    loader: &Loader,
+    number: u16,
+) -> Result<Parts<'_>, PackagesStop>
+    ensures { (stream : List ℕ) → HasTaken loader.now stream → FinishesStream stream number result }
+{
+    match loader.finish(alloc) {
+        Ok(parts) => Ok(parts),
+        Err(FinishEnd::Fault(fault)) => {
+            Err(PackagesStop::Malformed(number, FolderFault::Stream(fault)))
+        }
+        Err(FinishEnd::Memory) => Err(PackagesStop::Memory),
+    }
+}
