@@ -1,15 +1,12 @@
 -- Which classes below a class have the entry that an object runs.
-use Rattle.std.proofs.Common.{◌≡◌, ℕ, ◌-◌, ◌≤◌, Bool, true, false, if◌then◌else◌, inl, inr, refl, sym, ap, ◌∙◌, subst, arith}
-use Rattle.std.specs.Prelude.{Option, Some, None, nat_lt, ◌==◌, ◌||◌, slice_get, find}
+use Rattle.std.proofs.Common.{◌≡◌, ℕ, ◌-◌, ◌≤◌, Bool, true, false, inl, inr, refl, sym, ap, ◌∙◌, subst, arith}
+use Rattle.std.specs.Prelude.{Some, nat_lt, ◌==◌, ◌||◌, slice_get}
 use Rattle.std.proofs.lemmas.Bool.{eq-eqb, eqb-true, false≢true, or_cases}
 use Rattle.std.proofs.Math.Bool.{or-true}
-use Rattle.jc_base.specs.declared.ty.Ty.TheVariants.{Class}
-use Rattle.jc_base.specs.Class.{ClassTable, IsClass, AreClasses, IsNextOnChain, parent_of, chain, list_of}
-use Rattle.jc_base.specs.Dispatch.{package_of, public_of, visible_of, entry_at, nearest_of, visible_in, dispatched}
-use Rattle.jc_base.specs.Order.{Below, same, joined, subclass, is_on_chain}
-use Rattle.jc_base.specs.World.{Linked, IsWorld}
+use Rattle.jc_base.specs.Class.{ClassTable, IsClass, AreClasses, IsNextOnChain}
+use Rattle.jc_base.specs.Dispatch.{package_of, entry_at, nearest_of, visible_in, dispatched}
+use Rattle.jc_base.specs.Order.{is_on_chain}
 use Rattle.jc_base.proofs.Climbs.{chain-front, climb, on_alone, on_next, on_above, on_chain-here, parent_of-class}
-use Rattle.jc_base.proofs.Dispatches.{on_chain-from_Below, packages-fall}
 use Rattle.vm_bound.specs.Edges.{shares}
 
 or-left : (a b : Bool) → a ≡ true → (a || b) ≡ true

@@ -1,23 +1,24 @@
 -- The edges of a graph of calls.
-use Rattle.std.proofs.Common.{◌≡◌, ℕ, ◌+◌, ◌*◌, ◌<◌, ◌≤◌, ◌⊎◌, inl, inr, true, List, [], ◌∷◌, length, refl, sym, ap, ◌∙◌, subst, arith}
-use Rattle.std.specs.Prelude.{Option, Some, Contains, slice_get, IsSomeAnd}
+use Rattle.std.proofs.Common.{◌≡◌, ℕ, ◌-◌, ◌<◌, ◌≤◌, inl, inr, suc, List, [], length, refl, sym, ap, subst, arith}
+use Rattle.std.specs.Prelude.{Option, Some, None, Contains, slice_get}
 use Rattle.std.proofs.lemmas.Bool.{cases_lt}
-use Rattle.std.proofs.lemmas.Option.{slice_get_within, same_Some}
+use Rattle.std.proofs.lemmas.Option.{slice_get_within}
 use Rattle.std.proofs.lemmas.List.{get_or_past}
-use Rattle.jc_base.specs.declared.record.MethodRec.{MethodRec}
-use Rattle.jc_base.specs.Class.{parent_of, chain}
+use Rattle.jc_base.specs.Class.{chain}
 use Rattle.jc_base.specs.World.{Linked, IsWorld}
 use Rattle.jc_base.proofs.Chains.{next_on_chain}
 use Rattle.jc_base.proofs.Climbs.{parent_of-class}
-use Rattle.jc_base.proofs.Lists.{IsSomeAnd-some}
-use Rattle.digraph.specs.Graph.{next, Edge}
+use Rattle.jc_base.proofs.Lists.{IsSomeAnd-some, slice_get-some}
+use Rattle.digraph.specs.Graph.{Edge}
 use Rattle.law_chains.specs.Calls.{HasCode}
+use Rattle.vm_bound.specs.declared.vertex.Meaning.{Meaning}
+use Rattle.vm_bound.specs.declared.vertex.Meaning.TheVariants.{Described, Entries, Span}
 use Rattle.vm_bound.specs.declared.vertex.Vertex.{Vertex}
-use Rattle.vm_bound.specs.declared.vertex.Vertex.TheVariants.{Method, Described, Entries}
-use Rattle.vm_bound.specs.Vertices.{vertex_count, number, vertex_at, IsFit}
-use Rattle.vm_bound.specs.Edges.{shares, Serves, Owns, IsDescribed, Goes, goes_call, goes_server, goes_own, goes_below}
-use Rattle.vm_bound.specs.Rows.{LeadsTo, HasVertex, IsRow, IsCallGraph}
-use Rattle.vm_bound.proofs.Numbering.{IsHelper, number-inside, vertex-number, helper-at}
+use Rattle.vm_bound.specs.declared.vertex.Vertex.TheVariants.{Method, Means}
+use Rattle.vm_bound.specs.Vertices.{Stands}
+use Rattle.vm_bound.specs.Blocks.{IsHalf, blocks_of}
+use Rattle.vm_bound.specs.Edges.{Leads, LeadsToBlocks, leads_block, leads_below, leads_half}
+use Rattle.vm_bound.specs.Rows.{HasVertex, IsCallGraph}
 
 -- a method with code has a number of the world
 pub code-inside : (w : Linked) (n : ℕ) → HasCode w n → n < length w.methods
@@ -25,79 +26,73 @@ code-inside w n code =
     let some = IsSomeAnd-some _ (slice_get w.methods n) code in
     slice_get_within w.methods n some.0 some.1
 
-pub nothing-in : (u : ℕ) → Contains [] u → ⊥
-nothing-in u c = let l : c.0 < 0 = c.1 in omega arith
+pub nothing-in : {A : Type 0} (x : A) → Contains [] x → ⊥
+nothing-in x c = let l : c.0 < 0 = c.1 in omega arith
 
--- how far below class object the class of a vertex is
-pub depth : Linked → Vertex → ℕ
+-- how far below class object the class of entries is; and how far down a node
+pub depth : Linked → Meaning → ℕ
+depth w (Described d) = 0
 depth w (Entries c token) = length (chain w.classes c)
-depth w v = 0
+depth w (Span x token) = suc x
+
+pub depth_in : Linked → Option Meaning → ℕ
+depth_in w None = 0
+depth_in w (Some m) = depth w m
+
+pub half-rises : (x y : ℕ) → 0 < x → IsHalf x y → x < y
+half-rises x y pos half = elim half [ inl e ↦ omega (arith, e, pos) | inr e ↦ omega (arith, e, pos) ]
 
 module _ (w : Linked) (world : IsWorld w) (g : List (List ℕ)) (graph : IsCallGraph w g) where
-  edge-inside : (v u : ℕ) → Edge g v u → v < length g
+  abbrev count : ℕ
+  count = length w.methods
+
+  pub edge-inside : (v u : ℕ) → Edge g v u → v < length g
   edge-inside v u e = elim (cases_lt v (length g)) [
     | inl inside ↦ inside
     | inr past ↦ absurd (nothing-in u (subst (λ (row : List ℕ). Contains row u) (get_or_past g v [] past) e))
   ]
 
-  row-of : (v : Vertex) → IsFit w v → IsRow w v (next g (number w v))
-  row-of v fit =
-      let inside : number w v < length g = subst (λ n. number w v < n) (sym graph.count) (number-inside w v fit) in
-      subst (λ (x : Vertex). IsRow w x (next g (number w v))) (vertex-number w v fit) (graph.rows (number w v) inside)
+  -- the vertex at the end of an edge
+  pub edge-from : (v : Vertex) (k u : ℕ) → Stands count graph.meanings v k → Edge g k u
+      → HasVertex count graph.meanings (Leads w graph.spread v) u
+  edge-from v k u stands e =
+      let inside = edge-inside k u e in
+      (graph.rows v k inside stands).only u e
 
-  -- the edges of a vertex
-  pub edge-to : (v to : Vertex) → IsFit w v → Goes w v to → HasVertex w (next g (number w v)) to
-  edge-to v to fit goes = (row-of v fit).all to goes
+  pub rank : ℕ → ℕ
+  rank u = depth_in w (slice_get graph.meanings (u - count))
 
-  pub edge-from : (v : Vertex) (u : ℕ) → IsFit w v → Edge g (number w v) u → LeadsTo w v u
-  edge-from v u fit e = (row-of v fit).only u e
+  same-rank : (m : Meaning) (k : ℕ) → slice_get graph.meanings (k - count) ≡ Some m → rank k ≡ depth w m
+  unfolding rank depth_in
+  same-rank m k e = ap (depth_in w) e
 
-  -- from entries to a method
-  pub entries-method : (c token u : ℕ) (to : Vertex) → Goes w (Entries c token) to → number w to ≡ u → u < length w.methods → Owns w c token u
-  entries-method c token u to (goes_own owns) e l = subst (Owns w c token) e owns
-  entries-method c token u to (goes_below link shared) e l = absurd (omega (arith, e, l))
-
-  pub record IsBelow (c token u : ℕ) : Type 0 where
-    pub class : ℕ
-    pub link : parent_of w.classes class ≡ Some c
-    pub shared : shares w.classes c token class ≡ true
-    pub fit : IsFit w (Entries class token)
-    pub number_is : number w (Entries class token) ≡ u
-
-  -- and to other entries
-  pub entries-below : (c token u : ℕ) (to : Vertex) → Goes w (Entries c token) to → IsFit w to → number w to ≡ u → length w.methods ≤ u → IsBelow c token u
-  entries-below c token u to (goes_own owns) fit e l = let inside = code-inside w _ owns.code in absurd (omega (arith, e, l, inside))
-  entries-below c token u to (goes_below {d = d} link shared) fit e l = record { class = d; link = link; shared = shared; fit = fit; number_is = e }
-
-  pub record IsServed (d u : ℕ) : Type 0 where
-    pub class : ℕ
-    pub rec : MethodRec
-    pub described : IsDescribed w d rec
-    pub serves : Serves w rec.class rec.token class u
-
-  -- from a described method to those that serve it
-  pub described-method : (d u : ℕ) (to : Vertex) → Goes w (Described d) to → number w to ≡ u → IsServed d u
-  described-method d u to (goes_server {c = c} {m = m} described serves) e =
-      record { class = c; rec = m; described = described; serves = subst (Serves w m.class m.token c) e serves }
-
-  -- between vertices that are no methods edges go to deeper classes
-  deeper : (v to : Vertex) → IsHelper v → Goes w v to → length w.methods ≤ number w to → depth w v < depth w to
+  -- between vertices that are no methods edges go deeper
+  deeper : (m n : Meaning) → Leads w graph.spread (Means m) (Means n) → depth w m < depth w n
   unfolding depth
-  deeper v to helper (goes_call rec stands target) l = absurd helper
-  deeper v to helper (goes_server described serves) l = let inside = code-inside w _ serves.code in absurd (omega (arith, l, inside))
-  deeper v to helper (goes_own owns) l = let inside = code-inside w _ owns.code in absurd (omega (arith, l, inside))
-  deeper v to helper (goes_below {c = c} {token = token} {d = d} link shared) l =
+  deeper (Described d) n leads = from-blocks n leads.leads
+    where
+      from-blocks : (n : Meaning) → LeadsToBlocks w.classes leads.rec (blocks_of graph.spread leads.rec.class) (Means n) → 0 < depth w n
+      from-blocks n (leads_block {b = b} among told) = omega arith
+  deeper (Entries c token) n (leads_below {d = d} link shared) =
       let e = (next_on_chain w.classes d c world.chains (parent_of-class w.classes d c link) link).chain_is in
       let same = ap length e in
       omega (arith, same)
+  deeper (Span x token) n (leads_half {y = y} pos inside half) = let more = half-rises x y pos half in omega (arith, more)
 
-  pub rank : ℕ → ℕ
-  rank v = depth w (vertex_at w v)
+  vertex-meaning : (v : Vertex) (k : ℕ) → Stands count graph.meanings v k → count ≤ k
+      → (m : Meaning) × ((v ≡ Means m) × (slice_get graph.meanings (k - count) ≡ Some m))
+  vertex-meaning (Method n) k stands far = let l = stands.0 in let e = stands.1 in absurd (omega (arith, l, e, far))
+  vertex-meaning (Means m) k stands far = (m, (refl, stands.1))
 
-  pub rank-rises : (h k : ℕ) → length w.methods ≤ h → length w.methods ≤ k → Edge g h k → rank h < rank k
-  unfolding rank depth
+  pub rank-rises : (h k : ℕ) → count ≤ h → count ≤ k → Edge g h k → rank h < rank k
   rank-rises h k past far e =
-      let to = (graph.rows h (edge-inside h k e)).only k e in
-      let there : vertex_at w k ≡ to.to = ap (vertex_at w) (sym to.number_is) ∙ vertex-number w to.to to.fit in
-      subst (λ (x : Vertex). depth w (vertex_at w h) < depth w x) (sym there)
-      (deeper (vertex_at w h) to.to (helper-at w h past) to.goes (subst (λ n. length w.methods ≤ n) (sym to.number_is) far))
+      let inside = edge-inside h k e in
+      let many = graph.count in
+      let low : h - count < length graph.meanings = omega (arith, inside, many, past) in
+      let here = slice_get-some graph.meanings (h - count) low in
+      let to = edge-from (Means here.0) h k (past, here.1) e in
+      let there = vertex-meaning to.vertex k to.stands far in
+      let leads : Leads w graph.spread (Means here.0) (Means there.0) =
+      subst (λ (v : Vertex). Leads w graph.spread (Means here.0) v) there.1.0 to.is_one in
+      subst (λ n. n < rank k) (sym (same-rank here.0 h here.1))
+      (subst (λ n. depth w here.0 < n) (sym (same-rank there.0 k there.1.1)) (deeper here.0 there.0 leads))

@@ -1,7 +1,11 @@
-pub mod Numbering
 pub mod Dispatching
 pub mod Graphing
 pub mod Told
 pub mod Answering
 pub mod Accepting
-pub mod Rowing
+mod Subclassing
+mod Targeting
+mod Numbering
+mod Placing
+mod Serving
+mod Covering

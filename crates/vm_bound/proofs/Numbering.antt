@@ -1,48 +1,202 @@
--- Vertices and their numbers.
-use Rattle.std.proofs.Common.{◌≡◌, ℕ, ◌+◌, ◌*◌, ◌-◌, ◌/◌, ◌%◌, ◌<◌, ◌≤◌, Bool, true, false, if◌then◌else◌, length, refl, ap, ◌∙◌, arith}
-use Rattle.std.specs.Prelude.{nat_lt, ⊤}
-use Rattle.std.proofs.lemmas.Bool.{lt-ltb, le-ltb}
-use Rattle.jc_base.specs.World.{Linked}
+-- Numbers of vertices, as their meanings are met.
+use Rattle.std.proofs.Common.{◌≡◌, ℕ, ◌+◌, ◌-◌, ◌^◌, ◌<◌, ◌≤◌, inl, inr, ⊎_elim, Bool, true, false, if◌then◌else◌, List, [], ◌∷◌, ◌++◌, length, refl, sym, ap, ◌∙◌, subst, arith}
+use Rattle.std.specs.Prelude.{Some, None, All, Contains, slice_get, slice_index_or}
+use Rattle.std.specs.List.{list_any}
+use Rattle.std.proofs.lemmas.Bool.{cases_lt}
+use Rattle.std.proofs.lemmas.Option.{same_Some, none-some, slice_get_within}
+use Rattle.std.proofs.lemmas.List.{get_or_append_left, get_or_push, length-append}
+use Rattle.std.proofs.lemmas.List.Elements.{All-from_get_or, Contains-get_or, Contains-append_left, Contains-push, Contains-push_cases}
+use Rattle.jc_base.specs.World.{Linked, IsWorld}
+use Rattle.jc_base.proofs.Lists.{slice_get-front, slice_get-some}
+use Rattle.indexmap.specs.IndexSet.{insert_key}
+use Rattle.digraph.specs.Graph.{next, IsGraph}
+use Rattle.vm_bound.specs.declared.spread.Spread.{Spread}
+use Rattle.vm_bound.specs.declared.vertex.Meaning.{Meaning}
 use Rattle.vm_bound.specs.declared.vertex.Vertex.{Vertex}
-use Rattle.vm_bound.specs.declared.vertex.Vertex.TheVariants.{Method, Described, Entries}
-use Rattle.vm_bound.specs.Vertices.{vertex_count, number, vertex_at, IsFit}
+use Rattle.vm_bound.specs.declared.vertex.Vertex.TheVariants.{Method, Means}
+use Rattle.vm_bound.specs.Vertices.{Stands, Extends, IsFitBelow, same_meaning}
+use Rattle.vm_bound.specs.Keys.{meaning-equal}
+use Rattle.vm_bound.specs.Edges.{Leads}
+use Rattle.vm_bound.specs.Rows.{AreTargets, HasVertex, HasNumber, AreNumbers, AreRows}
+use Rattle.vm_bound.proofs.Graphing.{nothing-in}
 
--- a vertex that is no method
-abbrev pub IsHelper : Vertex → Type 0
-IsHelper (Method n) = ⊥
-IsHelper (Described n) = ⊤
-IsHelper (Entries c token) = ⊤
+-- ---- more meanings
 
-same-entries : {c d token other : ℕ} → c ≡ d → token ≡ other → Entries c token ≡ Entries d other
-same-entries e f = cc
+pub extends-itself : (ms : List Meaning) → Extends ms ms
+extends-itself ms = λ k m e. e
 
-module _ (w : Linked) where
-  pub number-inside : (v : Vertex) → IsFit w v → number w v < vertex_count w
-  number-inside (Method n) fit = omega (arith, fit)
-  number-inside (Described n) fit = omega (arith, fit)
-  number-inside (Entries c token) fit = let a = fit.0 in let b = fit.1 in omega (arith, a, b)
+pub extends-on : (a b c : List Meaning) → Extends a b → Extends b c → Extends a c
+extends-on a b c first second = λ k m e. second k m (first k m e)
 
-  pub vertex-number : (v : Vertex) → IsFit w v → vertex_at w (number w v) ≡ v
-  vertex-number (Method n) fit = rw (lt-ltb n (length w.methods) fit) refl
-  vertex-number (Described n) fit =
-      let past : length w.methods ≤ length w.methods + n = omega arith in
-      let inside : length w.methods + n < length w.methods * 2 = omega (arith, fit) in
-      let back : length w.methods + n - length w.methods ≡ n = omega arith in
-      rw (le-ltb (length w.methods + n) (length w.methods) past, lt-ltb (length w.methods + n) (length w.methods * 2) inside) (ap Described back)
-  vertex-number (Entries c token) fit =
-      let small = fit.1 in
-      let v : ℕ = length w.methods * 2 + c * 256 + token in
-      let past : length w.methods ≤ v = omega arith in
-      let farther : length w.methods * 2 ≤ v = omega arith in
-      let class : (length w.methods * 2 + c * 256 + token - length w.methods * 2) / 256 ≡ c = omega (arith, small) in
-      let rest : (length w.methods * 2 + c * 256 + token - length w.methods * 2) % 256 ≡ token = omega (arith, small) in
-      rw (le-ltb (length w.methods * 2 + c * 256 + token) (length w.methods) past, le-ltb (length w.methods * 2 + c * 256 + token) (length w.methods * 2) farther)
-      (same-entries class rest)
+pub extends-inserted : (old : List Meaning) (m : Meaning) (new : List Meaning) → new ≡ insert_key same_meaning old m → Extends old new
+extends-inserted old m new e = subst (Extends old) (sym e) (by (list_any (same_meaning m) old))
+  where
+    by : (b : Bool) → Extends old (if b then old else old ++ m ∷ [])
+    by true = extends-itself old
+    by false = λ k x at. slice_get-front old (m ∷ []) k x at
 
-  helper-by : (v : ℕ) (b : Bool) → IsHelper (if b then Described (v - length w.methods) else Entries ((v - length w.methods * 2) / 256) ((v - length w.methods * 2) % 256))
-  helper-by v true = tt
-  helper-by v false = tt
+pub met-there : (new : List Meaning) (place : ℕ) (m k : Meaning) → slice_get new place ≡ Some k → same_meaning m k ≡ true
+    → slice_get new place ≡ Some m
+met-there new place m k at same = at ∙ ap Some (sym (meaning-equal m k same))
 
-  -- from the methods' numbers on
-  pub helper-at : (v : ℕ) → length w.methods ≤ v → IsHelper (vertex_at w v)
-  helper-at v past = rw (le-ltb v (length w.methods) past) (helper-by v (nat_lt v (length w.methods * 2)))
+pub stands-on : (methods : ℕ) (old new : List Meaning) (v : Vertex) (u : ℕ) → Extends old new → Stands methods old v u → Stands methods new v u
+stands-on methods old new (Method n) u more stands = stands
+stands-on methods old new (Means m) u more stands = (stands.0, more (u - methods) m stands.1)
+
+-- a vertex with the number of an early meaning was there
+pub stands-before : (methods : ℕ) (old new : List Meaning) (v : Vertex) (u : ℕ) → Extends old new → u < methods + length old
+    → Stands methods new v u → Stands methods old v u
+stands-before methods old new (Method n) u more low stands = stands
+stands-before methods old new (Means m) u more low stands =
+    let l = stands.0 in
+    let inside : u - methods < length old = omega (arith, l, low) in
+    let was = slice_get-some old (u - methods) inside in
+    let same : was.0 ≡ m = same_Some was.0 m (sym (more (u - methods) was.0 was.1) ∙ stands.1) in
+    (l, was.1 ∙ ap Some same)
+
+pub stands-inside : (methods : ℕ) (ms : List Meaning) (v : Vertex) (u : ℕ) → Stands methods ms v u → u < methods + length ms
+stands-inside methods ms (Method n) u stands = let l = stands.0 in let e = stands.1 in omega (arith, l, e)
+stands-inside methods ms (Means m) u stands =
+    let l = stands.0 in
+    let inside = slice_get_within ms (u - methods) m stands.1 in
+    omega (arith, l, inside)
+
+pub method-there : (methods : ℕ) (ms : List Meaning) (v : Vertex) (u : ℕ) → Stands methods ms v u → u < methods → v ≡ Method u
+method-there methods ms (Method n) u stands l = ap Method (sym stands.1)
+method-there methods ms (Means m) u stands l = let far = stands.0 in absurd (omega (arith, far, l))
+
+pub meaning-there : (methods : ℕ) (ms : List Meaning) (v : Vertex) (place : ℕ) (m : Meaning) → Stands methods ms v (methods + place)
+    → slice_get ms place ≡ Some m → v ≡ Means m
+meaning-there methods ms (Method n) place m stands at = let l = stands.0 in let e = stands.1 in absurd (omega (arith, l, e))
+meaning-there methods ms (Means k) place m stands at =
+    let back : methods + place - methods ≡ place = omega arith in
+    ap Means (same_Some k m (sym stands.1 ∙ (ap (slice_get ms) back ∙ at)))
+
+-- ---- a row
+
+pub numbers-none : (methods : ℕ) (ms : List Meaning) → AreNumbers methods ms (Contains []) []
+numbers-none methods ms = record { only = λ u c. absurd (nothing-in u c); all = λ v c. absurd (nothing-in v c) }
+
+has-later : (methods : ℕ) (old new : List Meaning) (IsOne : Vertex → Type 0) (u : ℕ) → Extends old new → HasVertex methods old IsOne u
+    → HasVertex methods new IsOne u
+has-later methods old new IsOne u more has =
+    record { vertex = has.vertex; is_one = has.is_one; stands = stands-on methods old new has.vertex u more has.stands }
+
+pub numbers-later : (methods : ℕ) (old new : List Meaning) (IsOne : Vertex → Type 0) (row : List ℕ) → Extends old new
+    → AreNumbers methods old IsOne row → AreNumbers methods new IsOne row
+numbers-later methods old new IsOne row more are = record {
+  only = λ u c. has-later methods old new IsOne u more (are.only u c);
+  all = λ v is.
+      let has = are.all v is in
+      record { number = has.number; there = has.there; stands = stands-on methods old new v has.number more has.stands };
+}
+
+pub numbers-more : (methods : ℕ) (old new : List Meaning) (seen : List Vertex) (row : List ℕ) (v : Vertex) (u : ℕ) → Extends old new
+    → Stands methods new v u → AreNumbers methods old (Contains seen) row → AreNumbers methods new (Contains (seen ++ v ∷ [])) (row ++ u ∷ [])
+numbers-more methods old new seen row v u more stands before =
+    let are = numbers-later methods old new (Contains seen) row more before in
+    record { only = only are; all = all are }
+  where
+    only : AreNumbers methods new (Contains seen) row → (k : ℕ) → Contains (row ++ u ∷ []) k → HasVertex methods new (Contains (seen ++ v ∷ [])) k
+    only are k c = ⊎_elim
+        (λ old.
+        let has = are.only k old in
+        record { vertex = has.vertex; is_one = Contains-append_left seen (v ∷ []) has.vertex has.is_one; stands = has.stands })
+        (λ is. record { vertex = v; is_one = Contains-push seen v; stands = subst (Stands methods new v) is stands }) (Contains-push_cases row u k c)
+
+    all : AreNumbers methods new (Contains seen) row → (x : Vertex) → Contains (seen ++ v ∷ []) x → HasNumber methods new (row ++ u ∷ []) x
+    all are x c = ⊎_elim
+        (λ old.
+        let has = are.all x old in
+        record { number = has.number; there = Contains-append_left row (u ∷ []) has.number has.there; stands = has.stands })
+        (λ is. record { number = u; there = Contains-push row u; stands = subst (λ (y : Vertex). Stands methods new y u) is stands })
+        (Contains-push_cases seen v x c)
+
+pub numbers-of : (w : Linked) (methods : ℕ) (ms : List Meaning) (IsTarget : Vertex → Type 0) (vertices : List Vertex) (row : List ℕ)
+    → AreTargets w IsTarget vertices → AreNumbers methods ms (Contains vertices) row → AreNumbers methods ms IsTarget row
+numbers-of w methods ms IsTarget vertices row targets are = record {
+  only = λ u c.
+      let has = are.only u c in
+      record { vertex = has.vertex; is_one = targets.only has.vertex has.is_one; stands = has.stands };
+  all = λ v is. are.all v (targets.all v is);
+}
+
+pub all-fit : (w : Linked) (IsTarget : Vertex → Type 0) (vertices xs : List Vertex) (methods : ℕ) → AreTargets w IsTarget vertices → xs ≡ vertices
+    → methods ≡ length w.methods → All (IsFitBelow methods) xs
+all-fit w IsTarget vertices xs methods are e same =
+    subst (λ (ys : List Vertex). All (IsFitBelow methods) ys) (sym e)
+    (subst (λ (m : ℕ). All (IsFitBelow m) vertices) (sym same) (λ k d l. are.fit (slice_index_or vertices k d) (Contains-get_or vertices k d l)))
+
+-- the same row, read by other names
+pub numbers-here : (w : Linked) (methods : ℕ) (ms : List Meaning) (vertices xs : List Vertex) (row : List ℕ) → xs ≡ vertices
+    → methods ≡ length w.methods → AreNumbers methods ms (Contains xs) row → AreNumbers (length w.methods) ms (Contains vertices) row
+numbers-here w methods ms vertices xs row e same are =
+    subst (λ (m : ℕ). AreNumbers m ms (Contains vertices) row) same (subst (λ (ys : List Vertex). AreNumbers methods ms (Contains ys) row) e are)
+
+-- ---- all rows
+
+pub rows-none : (w : Linked) (s : Spread) (ms : List Meaning) → AreRows w s ms []
+rows-none w s ms = λ v u l stands. absurd (omega (arith, l))
+
+pub rows-more : (w : Linked) (s : Spread) (old new : List Meaning) (rows : List (List ℕ)) (row : List ℕ)
+    → length rows ≤ length w.methods + length old → Extends old new → AreRows w s old rows
+    → ((v : Vertex) → Stands (length w.methods) new v (length rows) → AreNumbers (length w.methods) new (Leads w s v) row)
+    → AreRows w s new (rows ++ row ∷ [])
+rows-more w s old new rows row many more before here = λ v u l stands. elim (cases_lt u (length rows)) [
+  | inl lower ↦
+      let was = stands-before (length w.methods) old new v u more (omega (arith, lower, many)) stands in
+      subst (AreNumbers (length w.methods) new (Leads w s v)) (sym (get_or_append_left rows (row ∷ []) [] u lower))
+      (numbers-later (length w.methods) old new (Leads w s v) (next rows u) more (before v u lower was))
+  | inr past ↦
+      let long = length-append rows (row ∷ []) in
+      let last : length rows ≡ u = omega (arith, long, l, past) in
+      subst (AreNumbers (length w.methods) new (Leads w s v)) (sym (get_or_push rows row [] u last))
+      (here v (subst (Stands (length w.methods) new v) (sym last) stands))
+]
+
+-- the row of a method
+pub method-row : (w : Linked) (s : Spread) (ms : List Meaning) (m : ℕ) (vertices : List Vertex) (row : List ℕ) → m < length w.methods
+    → AreTargets w (Leads w s (Method m)) vertices → AreNumbers (length w.methods) ms (Contains vertices) row
+    → (v : Vertex) → Stands (length w.methods) ms v m → AreNumbers (length w.methods) ms (Leads w s v) row
+method-row w s ms m vertices row l targets are v stands =
+    subst (λ (x : Vertex). AreNumbers (length w.methods) ms (Leads w s x) row) (sym (method-there (length w.methods) ms v m stands l))
+    (numbers-of w (length w.methods) ms (Leads w s (Method m)) vertices row targets are)
+
+-- and of a meaning
+pub meaning-row : (w : Linked) (s : Spread) (ms : List Meaning) (place : ℕ) (m : Meaning) (vertices : List Vertex) (row : List ℕ)
+    → slice_get ms place ≡ Some m → AreTargets w (Leads w s (Means m)) vertices → AreNumbers (length w.methods) ms (Contains vertices) row
+    → (v : Vertex) → Stands (length w.methods) ms v (length w.methods + place) → AreNumbers (length w.methods) ms (Leads w s v) row
+meaning-row w s ms place m vertices row at targets are v stands =
+    subst (λ (x : Vertex). AreNumbers (length w.methods) ms (Leads w s x) row) (sym (meaning-there (length w.methods) ms v place m stands at))
+    (numbers-of w (length w.methods) ms (Leads w s (Means m)) vertices row targets are)
+
+vertex-of : (w : Linked) (ms : List Meaning) (u : ℕ) → u < length w.methods + length ms → (v : Vertex) × Stands (length w.methods) ms v u
+vertex-of w ms u l = elim (cases_lt u (length w.methods)) [
+  | inl inside ↦ (Method u, (inside, refl))
+  | inr past ↦
+      let there = slice_get-some ms (u - length w.methods) (omega (arith, l, past)) in
+      (Means there.0, (past, there.1))
+]
+
+pub rows-graph : (w : Linked) (s : Spread) (ms : List Meaning) (rows : List (List ℕ)) → IsWorld w → length rows ≡ length w.methods + length ms
+    → length ms ≤ 2 ^ 31 → AreRows w s ms rows → IsGraph rows
+rows-graph w s ms rows world long few are = record {
+  edges = All-from_get_or (All (λ u. u < length rows)) rows [] (λ v l. All-from_get_or (λ u. u < length rows) (next rows v) 0 (λ k inside. edge v l k inside));
+  few = (let b = world.limits.methods in omega (arith, long, few, b));
+}
+  where
+    edge : (u : ℕ) → u < length rows → (k : ℕ) → k < length (next rows u) → slice_index_or (next rows u) k 0 < length rows
+    edge u l k inside =
+        let v = vertex-of w ms u (omega (arith, l, long)) in
+        let to = (are v.0 u l v.1).only (slice_index_or (next rows u) k 0) (Contains-get_or (next rows u) k 0 inside) in
+        let low = stands-inside (length w.methods) ms to.vertex (slice_index_or (next rows u) k 0) to.stands in
+        omega (arith, low, long)
+
+-- where no meaning is, all are before
+pub none-past : (ms : List Meaning) (place : ℕ) → slice_get ms place ≡ None → length ms ≤ place
+none-past ms place e = elim (cases_lt place (length ms)) [
+  | inl inside ↦
+      let there = slice_get-some ms place inside in
+      absurd (none-some there.0 (sym e ∙ there.1))
+  | inr past ↦ past
+]

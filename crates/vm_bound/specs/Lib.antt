@@ -1,4 +1,6 @@
 pub mod Vertices
+pub mod Keys
+pub mod Blocks
 pub mod Edges
 pub mod Rows
 pub mod Weights

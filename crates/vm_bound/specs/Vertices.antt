@@ -1,29 +1,39 @@
--- The vertices over which the calls of a world are followed, and their numbers: the methods, behind them one for what a call of each
--- method means where an interface describes it, and then 256 for each class, one for each token of its dispatch lists.
-use Rattle.std.specs.Prelude.{ℕ, ◌+◌, ◌-◌, ◌*◌, ◌/◌, ◌%◌, ◌<◌, nat_lt, if◌then◌else◌, length}
+-- The vertices over which the calls of a world are followed, and their numbers: the methods, and behind them what calls mean before the
+-- machine chooses a method.
+use Rattle.std.specs.Prelude.{◌≡◌, ℕ, ◌+◌, ◌-◌, ◌*◌, ◌≤◌, ◌<◌, ◌==◌, ◌&&◌, Bool, false, List, length, Some, slice_get, ⊤}
 use Rattle.jc_base.specs.World.{Linked}
+use Rattle.vm_bound.specs.declared.vertex.Meaning.{Meaning}
+use Rattle.vm_bound.specs.declared.vertex.Meaning.TheVariants.{Described, Entries, Span}
 use Rattle.vm_bound.specs.declared.vertex.Vertex.{Vertex}
-use Rattle.vm_bound.specs.declared.vertex.Vertex.TheVariants.{Method, Described, Entries}
+use Rattle.vm_bound.specs.declared.vertex.Vertex.TheVariants.{Method, Means}
 
--- how many vertices there are
-abbrev pub vertex_count : Linked → ℕ
-vertex_count w = length w.methods * 2 + length w.classes.records * 256
+-- among these meanings a vertex has this number: a method its own, and a meaning that of its place, counted from the methods on
+abbrev pub Stands : ℕ → List Meaning → Vertex → ℕ → Type 0
+Stands methods meanings (Method n) u = (n < methods) × (u ≡ n)
+Stands methods meanings (Means m) u = (methods ≤ u) × (slice_get meanings (u - methods) ≡ Some m)
 
--- the number of a vertex
-abbrev pub number : Linked → Vertex → ℕ
-number w (Method n) = n
-number w (Described n) = length w.methods + n
-number w (Entries c token) = length w.methods * 2 + c * 256 + token
+-- meanings at their places, and more
+abbrev pub Extends : List Meaning → List Meaning → Type 0
+Extends old new = (k : ℕ) (m : Meaning) → slice_get old k ≡ Some m → slice_get new k ≡ Some m
 
--- the vertex of a number
-abbrev pub vertex_at : Linked → ℕ → Vertex
-vertex_at w v =
-    if nat_lt v (length w.methods) then Method v
-    else if nat_lt v (length w.methods * 2) then Described (v - length w.methods)
-    else Entries ((v - length w.methods * 2) / 256) ((v - length w.methods * 2) % 256)
+-- a vertex that is a method is one of so many
+abbrev pub IsFitBelow : ℕ → Vertex → Type 0
+IsFitBelow methods (Method n) = n < methods
+IsFitBelow methods (Means m) = ⊤
 
--- the method or the class is there, and a token is a byte
 abbrev pub IsFit : Linked → Vertex → Type 0
-IsFit w (Method n) = n < length w.methods
-IsFit w (Described n) = n < length w.methods
-IsFit w (Entries c token) = (c < length w.classes.records) × (token < 256)
+IsFit w v = IsFitBelow (length w.methods) v
+
+-- ---- meanings as keys of a table
+
+abbrev pub same_meaning : Meaning → Meaning → Bool
+same_meaning (Described m) (Described n) = m == n
+same_meaning (Entries c token) (Entries d other) = c == d && token == other
+same_meaning (Span x token) (Span y other) = x == y && token == other
+same_meaning a b = false
+
+-- a number by which meanings mostly differ
+abbrev pub meaning_code : Meaning → ℕ
+meaning_code (Described m) = m
+meaning_code (Entries c token) = 16777216 + c * 256 + token
+meaning_code (Span x token) = 33554432 + x * 256 + token

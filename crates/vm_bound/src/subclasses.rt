@@ -1,41 +1,55 @@
-ghost use Rattle.std.specs.Prelude.{◌≡◌, ◌<◌, ◌↔◌, Some, IfOk, IsTrue, length};
+ghost use Rattle.std.specs.Prelude.{◌≡◌, ◌<◌, [], IfOk, OnOk, length, replicate};
 ghost use Rattle.jc_base.specs.Class.{parent_of};
-ghost use Rattle.vm_bound.specs.Rows.{AreSubclasses, AreAllSubclasses};
+ghost use Rattle.vm_bound.specs.Rows.{AreAllSubclasses, IsAdded};
 
 use digraph::Row;
 use jc_base::World;
 use std::alloc::{AllocError, Global};
 
-/// The direct subclasses of each class.
+/// The direct subclasses of each class, found in one pass over the classes.
 pub(crate) fn all_subclasses(alloc: Global, world: &World<'_>) -> Result<Vec<Row>, AllocError>
     ensures subclasses { IfOk result (λ rows. AreAllSubclasses world.now.classes rows.items) }
     ensures count { IfOk result (λ rows. length rows.items ≡ length world.now.classes.records) }
 {
-    let mut rows = Vec::new(alloc);
+    let _facts = world.classes();
+    let mut rows = no_rows(alloc, world.class_count())?;
     'classes: for class in 0..world.class_count() {
-        rows.push(subclasses(alloc, world, class)?)?;
+        let Some(parent) = parent(world, class) else {
+            continue;
+        };
+        add(&mut rows, parent, class)?;
     }
     Ok(rows)
 }
 
-/// The direct subclasses of a class.
-fn subclasses(alloc: Global, world: &World<'_>, class: u16) -> Result<Row, AllocError>
-    ensures { IfOk result (AreSubclasses world.now.classes class) }
+/// So many rows with nothing in them.
+fn no_rows(alloc: Global, count: u16) -> Result<Vec<Row>, AllocError>
+    ensures { IfOk result (λ rows. rows.items ≡ replicate count []) }
 {
-    let mut row = Row::of(Vec::new(alloc));
-    'classes: for other in 0..world.class_count() {
-        if !is_subclass(world, other, class) {
-            continue;
-        }
-        row.push(u32::from(other))?;
+    let mut rows = Vec::new(alloc);
+    'rows: for _ in 0..count {
+        rows.push(Row::of(Vec::new(alloc)))?;
     }
-    Ok(row)
+    Ok(rows)
 }
 
-/// Whether a class is a direct subclass of another.
-fn is_subclass(world: &World<'_>, class: u16, of: u16) -> bool
-    ensures { IsTrue result ↔ (parent_of world.now.classes class ≡ Some of) }
+/// The superclass of a class; an interface has none.
+fn parent(world: &World<'_>, class: u16) -> Option<u16>
+    ensures { result ≡ parent_of world.now.classes class }
 {
     let classes = world.classes();
-    classes.is_class(class) && classes.parent(class) == Some(of)
+    if classes.is_class(class) {
+        classes.parent(class)
+    } else {
+        None
+    }
+}
+
+/// Adds a class to a row.
+#[tactic(auto, using(crate::proofs::Subclassing::adding))]
+fn add(rows: &mut Vec<Row>, at: u16, class: u16) -> Result<(), AllocError>
+    requires { at < length rows.old.items }
+    ensures { OnOk result (IsAdded rows.old.items at class rows.new.items) }
+{
+    rows[at as usize].push(u32::from(class))
 }

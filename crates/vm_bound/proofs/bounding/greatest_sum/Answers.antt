@@ -1,5 +1,4 @@
-use Rattle.std.proofs.Common.{◌≡◌, ℕ, List, None, Some, sym, subst}
-use Rattle.std.specs.Prelude.{Option}
+use Rattle.std.proofs.Common.{ℕ, sym, subst}
 use Rattle.digraph.specs.Settled.{IsSumFrom}
 use Rattle.vm_bound.specs.Weights.{AreWeights}
 use Rattle.vm_bound.proofs.Answering.{greatest-chain, some-sum}

@@ -1,4 +1,4 @@
-use Rattle.std.proofs.Common.{◌≡◌, ◌<◌, ℕ, length, None, Some, ◌∙◌, subst}
+use Rattle.std.proofs.Common.{◌<◌, ℕ, length, ◌∙◌, subst}
 use Rattle.std.specs.Prelude.{Option, MatchOption}
 use Rattle.digraph.specs.Graph.{Edge}
 use Rattle.digraph.specs.Way.{Recurs, IsLeastRecurring}

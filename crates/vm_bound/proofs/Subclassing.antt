@@ -1,0 +1,108 @@
+-- Direct subclasses, found in one pass.
+use Rattle.std.proofs.Common.{◌≡◌, ℕ, ◌+◌, ◌<◌, inl, inr, ⊎_elim, set, List, [], ◌∷◌, ◌++◌, length, replicate, refl, sym, ap, ◌∙◌, subst, arith}
+use Rattle.std.specs.Prelude.{Option, Some, None, Contains, slice_get}
+use Rattle.std.proofs.lemmas.Bool.{cases_lt, cases_eq}
+use Rattle.std.proofs.lemmas.Option.{same_Some, none-some, slice_get_within, get_or_from_slice_get}
+use Rattle.std.proofs.lemmas.List.{length-set, length-replicate, get_or-set_same, get_or-set_other, get_or-replicate, get_or_past}
+use Rattle.std.proofs.lemmas.List.Elements.{Contains-append_left, Contains-push, Contains-push_cases}
+use Rattle.jc_base.specs.Class.{ClassTable, IsClass, parent_of}
+use Rattle.jc_base.proofs.Climbs.{parent_of-class}
+use Rattle.digraph.specs.Graph.{next}
+use Rattle.vm_bound.specs.Rows.{AreAllSubclasses, IsAdded}
+use Rattle.vm_bound.proofs.Graphing.{nothing-in}
+
+pub added : (c d : ℕ) (old new : List (List ℕ)) (before after : List ℕ) → slice_get old c ≡ Some before → after ≡ before ++ d ∷ []
+    → new ≡ set old c after → IsAdded old c d new
+added c d old new before after found e is = record { before = before; found = found; set_is = is ∙ ap (set old c) e }
+
+pub ruleset adding = (added)
+
+-- the rows have the direct subclasses among the classes below a bound
+pub record AreSubclassesBelow (t : ClassTable) (bound : ℕ) (rows : List (List ℕ)) : Type 0 where
+  pub only : (c d : ℕ) → Contains (next rows c) d → parent_of t d ≡ Some c
+  pub all : (c d : ℕ) → c < length rows → d < bound → parent_of t d ≡ Some c → Contains (next rows c) d
+
+empty-next : (n c : ℕ) → next (replicate n []) c ≡ []
+empty-next n c = elim (cases_lt c n) [
+  | inl inside ↦ get_or-replicate n c [] [] inside
+  | inr past ↦ let e : length (replicate {A = List ℕ} n []) ≡ n = length-replicate n [] in get_or_past (replicate n []) c [] (omega (arith, e, past))
+]
+
+module _ (t : ClassTable) where
+  pub subclasses-none : (n : ℕ) → AreSubclassesBelow t 0 (replicate n [])
+  subclasses-none n = record {
+    only = λ c d h. absurd (nothing-in d (subst (λ (row : List ℕ). Contains row d) (empty-next n c) h));
+    all = λ c d k l link. absurd (omega (arith, l));
+  }
+
+  pub subclasses-not : (d : ℕ) (rows : List (List ℕ)) → parent_of t d ≡ None → AreSubclassesBelow t d rows → AreSubclassesBelow t (d + 1) rows
+  subclasses-not d rows none before = record {
+    only = before.only;
+    all = λ c k l m link. elim (cases_lt k d) [
+      | inl lower ↦ before.all c k l lower link
+      | inr past ↦ let e : k ≡ d = omega arith in absurd (none-some c (sym none ∙ subst (λ (x : ℕ). parent_of t x ≡ Some c) e link))
+    ];
+  }
+
+  pub subclasses-is : (d p : ℕ) (old new : List (List ℕ)) → parent_of t d ≡ Some p → IsAdded old p d new → AreSubclassesBelow t d old
+      → AreSubclassesBelow t (d + 1) new
+  subclasses-is d p old new link is before = record { only = only; all = all }
+    where
+      inside : p < length old
+      inside = slice_get_within old p is.before is.found
+
+      was : next old p ≡ is.before
+      was = get_or_from_slice_get old p is.before [] is.found
+
+      here : next new p ≡ is.before ++ d ∷ []
+      here = ap (λ (rows : List (List ℕ)). next rows p) is.set_is ∙ get_or-set_same old p (is.before ++ d ∷ []) [] inside
+
+      there : (c : ℕ) → (c ≡ p → ⊥) → next new c ≡ next old c
+      there c not = ap (λ (rows : List (List ℕ)). next rows c) is.set_is ∙ get_or-set_other old p c (is.before ++ d ∷ []) [] not
+
+      only : (c k : ℕ) → Contains (next new c) k → parent_of t k ≡ Some c
+      only c k h = elim (cases_eq c p) [
+        | inl e ↦
+            let pushed : Contains (is.before ++ d ∷ []) k = subst (λ (row : List ℕ). Contains row k) here (subst (λ (x : ℕ). Contains (next new x) k) e h) in
+            subst (λ (x : ℕ). parent_of t k ≡ Some x) (sym e)
+            (⊎_elim (λ old. before.only p k (subst (λ (row : List ℕ). Contains row k) (sym was) old))
+            (λ same. subst (λ (x : ℕ). parent_of t x ≡ Some p) same link) (Contains-push_cases is.before d k pushed))
+        | inr not ↦ before.only c k (subst (λ (row : List ℕ). Contains row k) (there c not) h)
+      ]
+
+      all : (c k : ℕ) → c < length new → k < d + 1 → parent_of t k ≡ Some c → Contains (next new c) k
+      all c k l m child =
+          let long : length new ≡ length old = ap length is.set_is ∙ length-set old p (is.before ++ d ∷ []) in
+          elim (cases_eq c p) [
+            | inl e ↦
+                subst (λ (x : ℕ). Contains (next new x) k) (sym e)
+                (subst (λ (row : List ℕ). Contains row k) (sym here)
+                (elim (cases_lt k d) [
+                  | inl lower ↦
+                      Contains-append_left is.before (d ∷ []) k
+                      (subst (λ (row : List ℕ). Contains row k) was (before.all p k inside lower (subst (λ (x : ℕ). parent_of t k ≡ Some x) e child)))
+                  | inr past ↦ let same : d ≡ k = omega arith in subst (λ (x : ℕ). Contains (is.before ++ d ∷ []) x) same (Contains-push is.before d)
+                ]))
+            | inr not ↦
+                let lower : k < d = elim (cases_lt k d) [
+                  | inl lower ↦ lower
+                  | inr past ↦
+                      let same : k ≡ d = omega arith in
+                      absurd (not (same_Some c p (sym (subst (λ (x : ℕ). parent_of t x ≡ Some c) same child) ∙ link)))
+                ] in
+                subst (λ (row : List ℕ). Contains row k) (sym (there c not)) (before.all c k (omega (arith, l, long)) lower child)
+          ]
+
+  pub subclasses-end : (rows : List (List ℕ)) → AreSubclassesBelow t (length t.records) rows → AreAllSubclasses t rows
+  subclasses-end rows below c l = record {
+    only = below.only c;
+    all = λ d link. let class = parent_of-class t d c link in below.all c d l class.number link;
+  }
+
+-- what is no class has no superclass
+pub parent-none : (t : ClassTable) (c : ℕ) → ¬ (IsClass t c) → None ≡ parent_of t c
+parent-none t c not = by (parent_of t c) refl
+  where
+    by : (o : Option ℕ) → parent_of t c ≡ o → None ≡ o
+    by None e = refl
+    by (Some p) e = absurd (not (parent_of-class t c p e))
