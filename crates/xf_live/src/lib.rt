@@ -1,5 +1,5 @@
 //! Live registers of a flow graph (Aho, Lam, Sethi and Ullman, section 9.2.5): those that may be read before they are
-//! written; and which registers interfere (Chaitin 1982).
+//! written. Two registers interfere where one is written while the other is live (Chaitin 1982).
 //!
 //! It stands on nothing of the project: a node has the registers that it reads and those that it writes, and the nodes
 //! from which control comes to it.
