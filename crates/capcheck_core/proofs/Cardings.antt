@@ -12,7 +12,7 @@ use Rattle.jc_control.specs.Method.{IsMethodOf, method_with}
 use Rattle.card_typing.specs.declared.fault.CardFault.{CardFault}
 use Rattle.card_typing.specs.Typing.{HasCardTyping}
 use Rattle.jc_base.specs.declared.ty.Ty.TheVariants.{Bottom}
-use Rattle.law_sound.specs.Soundness.{TypedCodeIsFaultFree}
+use Rattle.law_sound.specs.Soundness.{IsFaultFree, TypedCodeIsFaultFree}
 use Rattle.card_verify.specs.Answers.{AreAccepted, AreAcceptedBefore, IsFirstRefused}
 use Rattle.cap_text.specs.declared.line.MethodNumber.{MethodNumber}
 use Rattle.cap_text.specs.Line.{accepted_line, refused_card_line}

@@ -3,3 +3,4 @@ pub mod Carrying
 pub mod Beginning
 pub mod Oks
 pub mod Flows
+pub mod Putting

@@ -95,10 +95,7 @@ impl Liveness {
     fn at(&self, number: u16) -> RegisterSet
         ensures { result ≡ set_at self.now.sets.items number }
     {
-        match self.sets.get(number as usize) {
-            Some(set) => *set,
-            None => RegisterSet::new(),
-        }
+        set_of(self.sets.as_slice(), number)
     }
 
     // To one of them: what is live after it, and not written there.
@@ -125,5 +122,15 @@ impl Liveness {
         self.pending.push(number)?;
         self.sets[number as usize] = new;
         Ok(())
+    }
+}
+
+// The set of this number, and none past the end.
+pub(crate) fn set_of(sets: &[RegisterSet], number: u16) -> RegisterSet
+    ensures { result ≡ set_at sets.now number }
+{
+    match sets.get(number as usize) {
+        Some(set) => *set,
+        None => RegisterSet::new(),
     }
 }

@@ -1,4 +1,4 @@
-use Rattle.std.proofs.Common.{length, sym, ap, ◌∙◌, subst, arith}
+use Rattle.std.proofs.Common.{length, sym, ap, subst, arith}
 use Rattle.xf_live.specs.Live.{AreLive}
 use Rattle.xf_live.specs.Flow.{AreLiveIn, AreNodesOf}
 use Rattle.xf_live.proofs.Flows.{alone-length, live-by-edges}

@@ -1,0 +1,7 @@
+use Rattle.std.proofs.Common.{take}
+use Rattle.xf_allot.specs.Allotting.{AllFit}
+use Rattle.xf_allot.specs.Subject.{method, world_of}
+use Rattle.xf_allot.proofs.fitting.fits.Given as goal
+
+abbrev pub invariant-others : goal.invariant-others
+invariant-others l = record { fit : AllFit (world_of l.subject) (method l.subject) l.variable l.at (take l.other-index l.before) }

@@ -1,0 +1,144 @@
+ghost use Rattle.std.specs.Prelude.{◌≡◌, ◌<◌, suc, length, IfOk, OnOk};
+ghost use Rattle.jc_control.specs.Flags.{Marks};
+ghost use Rattle.jc_control.specs.Listing.{IsListingOf};
+ghost use Rattle.jc_control.specs.WellFormed.{HasInstruction};
+ghost use Rattle.law_share.specs.Live.{Operates};
+ghost use Rattle.xf_allot.specs.Building.{HasPlace, IsAwaited};
+ghost use Rattle.xf_allot.specs.Graph.{IsBound, IsGraphOf, IsGraphTo};
+ghost use Rattle.xf_allot.specs.Subject.{IsSubject, method, world_of};
+
+use crate::edges::{catch, leave};
+use crate::subject::Subject;
+use crate::uses::{no_uses, uses_of};
+use jc_control::{Flags, Listing};
+use jc_decode::Placed;
+use jc_ops::{Operation, Site, resolve};
+use std::alloc::{AllocError, Global};
+use xf_live::{Edge, Uses};
+
+/// The flow graph of a method, as far as it is built.
+#[derive(Drop)]
+pub(crate) struct Building {
+    pub(crate) uses: Vec<Uses>,
+    pub(crate) edges: Vec<Edge>,
+}
+
+impl Building {
+    /// The flow graph of a method.
+    pub(crate) fn of(alloc: Global, subject: &Subject<'_>) -> Result<Building, AllocError>
+        requires subject { IsSubject subject.now }
+        ensures { IfOk result
+            (λ graph. IsGraphOf (world_of subject.now) (method subject.now) graph.uses.items graph.edges.items) }
+    {
+        let listing = Listing::of(alloc, subject.code)?;
+        let bounds = bounds_of(alloc, subject)?;
+        let mut graph = Building::blank(alloc, subject)?;
+        'places: for place in 0..subject.code.bytes.len() {
+            if let Err(error) = graph.add_place(subject, &listing, &bounds, place as u16) {
+                return Err(error);
+            }
+        }
+        Ok(graph)
+    }
+
+    // The nodes alone, which have nothing yet.
+    fn blank(alloc: Global, subject: &Subject<'_>) -> Result<Building, AllocError>
+        requires subject { IsSubject subject.now }
+        ensures { IfOk result
+            (λ graph. IsGraphTo (world_of subject.now) (method subject.now) 0 graph.uses.items graph.edges.items) }
+    {
+        let uses = vec![in alloc; no_uses(); 2 * subject.code.bytes.len() + 1]?;
+        Ok(Building {
+            uses,
+            edges: Vec::new(alloc),
+        })
+    }
+
+    // What both nodes of a place have.
+    fn add_place(
+        &mut self,
+        subject: &Subject<'_>,
+        listing: &Listing,
+        bounds: &Flags,
+        place: u16,
+    ) -> Result<(), AllocError>
+        requires subject { IsSubject subject.now }
+        requires place { place < length subject.now.code.bytes.now }
+        requires listing { IsListingOf subject.now.code.bytes.now listing.now }
+        requires bounds { Marks (IsBound subject.now.rec.now.handlers) bounds.now }
+        requires graph { IsGraphTo (world_of subject.now) (method subject.now) place self.old.uses.items self.old.edges.items }
+        ensures { OnOk result
+            (IsGraphTo (world_of subject.now) (method subject.now) (suc place) self.new.uses.items self.new.edges.items) }
+    {
+        self.add_instruction(subject, listing, place)?;
+        catch(&mut self.edges, subject, bounds, place)
+    }
+
+    // What the node of an instruction has, where one begins at the place.
+    fn add_instruction(
+        &mut self,
+        subject: &Subject<'_>,
+        listing: &Listing,
+        place: u16,
+    ) -> Result<(), AllocError>
+        requires subject { IsSubject subject.now }
+        requires listing { IsListingOf subject.now.code.bytes.now listing.now }
+        requires awaited { IsAwaited place self.old }
+        ensures { OnOk result (HasPlace (world_of subject.now) (method subject.now) place self.old self.new) }
+    {
+        if !listing.has(u32::from(place)) {
+            return Ok(());
+        }
+        match listing.insn(subject.code, place) {
+            Ok(insn) => self.add_placed(subject, Placed { place, insn }),
+            Err(_) => Ok(()),
+        }
+    }
+
+    // What the node of an instruction has.
+    fn add_placed(&mut self, subject: &Subject<'_>, placed: Placed) -> Result<(), AllocError>
+        requires subject { IsSubject subject.now }
+        requires stands { HasInstruction subject.now.code.bytes.now placed }
+        requires awaited { IsAwaited placed.place self.old }
+        ensures { OnOk result (HasPlace (world_of subject.now) (method subject.now) placed.place self.old self.new) }
+    {
+        let site = Site {
+            method: subject.number,
+            place: placed.place,
+        };
+        match resolve(subject.world, site, placed.insn) {
+            Ok(operation) => self.add_operation(subject, placed, operation),
+            Err(_) => Ok(()),
+        }
+    }
+
+    // What the node of an operation has.
+    fn add_operation(
+        &mut self,
+        subject: &Subject<'_>,
+        placed: Placed,
+        operation: Operation,
+    ) -> Result<(), AllocError>
+        requires subject { IsSubject subject.now }
+        requires operates { Operates (world_of subject.now) (method subject.now) placed operation }
+        requires awaited { IsAwaited placed.place self.old }
+        ensures { OnOk result (HasPlace (world_of subject.now) (method subject.now) placed.place self.old self.new) }
+    {
+        self.uses[usize::from(placed.place)] = uses_of(subject.world, operation);
+        leave(&mut self.edges, subject, placed)
+    }
+}
+
+// The places at which the range of a handler begins or has ended, and the first one.
+fn bounds_of(alloc: Global, subject: &Subject<'_>) -> Result<Flags, AllocError>
+    requires subject { IsSubject subject.now }
+    ensures { IfOk result (Marks (IsBound subject.now.rec.now.handlers)) }
+{
+    let mut bounds = Flags::new(alloc, subject.code.bytes.len() + 1)?;
+    bounds.set(0);
+    'handlers: for handler in subject.rec.handlers.as_slice() {
+        bounds.set(handler.start);
+        bounds.set(handler.end);
+    }
+    Ok(bounds)
+}

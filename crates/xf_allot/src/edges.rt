@@ -1,0 +1,122 @@
+ghost use Rattle.std.specs.Prelude.{◌≡◌, ◌<◌, length, Contains, OnOk};
+ghost use Rattle.jc_base.specs.declared.record.Handler.{Handler};
+ghost use Rattle.jc_control.specs.Flags.{Marks};
+ghost use Rattle.jc_control.specs.WellFormed.{HasInstruction, IsHandlerOf};
+ghost use Rattle.xf_allot.specs.Graph.{Adds, IsBound, IsCatch, IsEnter, IsEntryOf, IsFall, IsJump, IsOut, caught_at};
+ghost use Rattle.xf_allot.specs.Subject.{IsSubject, method};
+ghost use Rattle.xf_live.specs.declared.graph.Edge.{Edge};
+
+use crate::subject::Subject;
+use jc_base::Handler;
+use jc_control::{Flags, Targets, covers, place_of};
+use jc_decode::Placed;
+use std::alloc::AllocError;
+use xf_live::Edge;
+
+/// Where control may go from an instruction: after it, to its targets, and to where its handlers begin.
+pub(crate) fn leave(
+    edges: &mut Vec<Edge>,
+    subject: &Subject<'_>,
+    placed: Placed,
+) -> Result<(), AllocError>
+    requires subject { IsSubject subject.now }
+    requires stands { HasInstruction subject.now.code.bytes.now placed }
+    ensures { OnOk result (Adds (IsOut (method subject.now) placed) edges.old.items edges.new.items) }
+{
+    fall(edges, subject, placed)?;
+    jump(edges, subject, placed)?;
+    let node = catching(subject, placed.place);
+    lead(edges, placed.place, node)
+}
+
+/// Where control goes from the node of the handlers that cover a place: to their entries where other handlers cover the
+/// place before, and else to the node of that place.
+pub(crate) fn catch(
+    edges: &mut Vec<Edge>,
+    subject: &Subject<'_>,
+    bounds: &Flags,
+    place: u16,
+) -> Result<(), AllocError>
+    requires subject { IsSubject subject.now }
+    requires place { place < length subject.now.code.bytes.now }
+    requires bounds { Marks (IsBound subject.now.rec.now.handlers) bounds.now }
+    ensures { OnOk result (Adds (IsCatch (method subject.now) place) edges.old.items edges.new.items) }
+{
+    let node = catching(subject, place);
+    if bounds.has(u32::from(place)) {
+        return enter_all(edges, subject, place, node);
+    }
+    lead(edges, node, node - 1)
+}
+
+// The node of the handlers that cover a place.
+fn catching(subject: &Subject<'_>, place: u16) -> u16
+    requires subject { IsSubject subject.now }
+    requires place { place < length subject.now.code.bytes.now }
+    ensures { result ≡ caught_at (length subject.now.code.bytes.now) place }
+{
+    subject.code.bytes.len() as u16 + 1 + place
+}
+
+// One edge more.
+fn lead(edges: &mut Vec<Edge>, from: u16, to: u16) -> Result<(), AllocError>
+    ensures { OnOk result (Adds (λ edge. edge ≡ record { «from» = from; to = to }) edges.old.items edges.new.items) }
+{
+    edges.push(Edge { from, to })?;
+    Ok(())
+}
+
+// To the instruction after, where control may come there.
+fn fall(edges: &mut Vec<Edge>, subject: &Subject<'_>, placed: Placed) -> Result<(), AllocError>
+    requires subject { IsSubject subject.now }
+    requires stands { HasInstruction subject.now.code.bytes.now placed }
+    ensures { OnOk result (Adds (IsFall placed) edges.old.items edges.new.items) }
+{
+    let _ = subject;
+    if !placed.insn.falls() {
+        return Ok(());
+    }
+    lead(edges, placed.place, placed.place + placed.insn.len as u16)
+}
+
+// To its targets.
+fn jump(edges: &mut Vec<Edge>, subject: &Subject<'_>, placed: Placed) -> Result<(), AllocError>
+    requires subject { IsSubject subject.now }
+    requires stands { HasInstruction subject.now.code.bytes.now placed }
+    ensures { OnOk result (Adds (IsJump (method subject.now) placed) edges.old.items edges.new.items) }
+{
+    'targets: for target in Targets::of(subject.code, placed) {
+        if let Err(error) = lead(edges, placed.place, place_of(target)) {
+            return Err(error);
+        }
+    }
+    Ok(())
+}
+
+// To the entries of the handlers that cover a place.
+fn enter_all(
+    edges: &mut Vec<Edge>,
+    subject: &Subject<'_>,
+    place: u16,
+    node: u16,
+) -> Result<(), AllocError>
+    requires subject { IsSubject subject.now }
+    ensures { OnOk result (Adds (IsEntryOf subject.now.rec.now.handlers place node) edges.old.items edges.new.items) }
+{
+    'handlers: for handler in subject.rec.handlers.as_slice() {
+        if let Err(error) = enter(edges, *handler, place, node) {
+            return Err(error);
+        }
+    }
+    Ok(())
+}
+
+// To the entry of a handler, where it covers a place.
+fn enter(edges: &mut Vec<Edge>, handler: Handler, place: u16, node: u16) -> Result<(), AllocError>
+    ensures { OnOk result (Adds (IsEnter handler place node) edges.old.items edges.new.items) }
+{
+    if !covers(handler, place) {
+        return Ok(());
+    }
+    lead(edges, node, handler.entry)
+}

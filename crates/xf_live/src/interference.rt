@@ -1,0 +1,91 @@
+ghost use Rattle.std.specs.Prelude.{◌≡◌, ◌≤◌, ◌^◌, length, IfOk, MatchBool};
+ghost use Rattle.xf_live.specs.Live.{set_at};
+ghost use Rattle.xf_live.specs.Interference.{AreAfter, AreInterfering, PutsTo, Tells, WritesAt};
+
+use crate::graph::{Edge, Uses, live_before};
+use crate::live::set_of;
+use crate::set::RegisterSet;
+use std::alloc::{AllocError, Global};
+
+/// Which registers of a flow graph interfere.
+#[derive(Drop)]
+pub struct Interference {
+    /// The registers that are live before the first node.
+    first: RegisterSet,
+    /// For each register those that are live where control may come from a node that writes it.
+    after: Vec<RegisterSet>,
+}
+
+/// Which registers of a flow graph interfere: one is written where the other is live after it, or both are live before
+/// the first node.
+pub fn find_interference(
+    alloc: Global,
+    uses: &[Uses],
+    edges: &[Edge],
+) -> Result<Interference, AllocError>
+    requires { length uses.now ≤ 2 ^ 16 }
+    ensures { IfOk result (AreInterfering uses.now edges.now) }
+{
+    let sets = live_before(alloc, uses, edges)?;
+    let after = live_after(alloc, uses, edges, sets.as_slice())?;
+    let first = set_of(sets.as_slice(), 0);
+    Ok(Interference { first, after })
+}
+
+impl Interference {
+    /// Whether two registers interfere.
+    pub fn has(&self, register: u8, other: u8) -> bool
+        ensures { MatchBool result (Tells self.now register other) (¬ (Tells self.now register other)) }
+    {
+        if set_of(self.after.as_slice(), u16::from(register)).has(other) {
+            return true;
+        }
+        if set_of(self.after.as_slice(), u16::from(other)).has(register) {
+            return true;
+        }
+        self.first.has(register) && self.first.has(other)
+    }
+}
+
+// For each register those that are live where control may come from a node that writes it, by the sets that are live
+// before the nodes.
+fn live_after(
+    alloc: Global,
+    uses: &[Uses],
+    edges: &[Edge],
+    sets: &[RegisterSet],
+) -> Result<Vec<RegisterSet>, AllocError>
+    ensures { IfOk result (λ after. AreAfter uses.now sets.now edges.now after.items) }
+{
+    let mut after = vec![in alloc; RegisterSet::new(); 256]?;
+    'edges: for edge in edges {
+        let written = written_at(uses, edge.from);
+        put(&mut after, written, set_of(sets, edge.to));
+    }
+    Ok(after)
+}
+
+// The registers that a node writes.
+fn written_at(uses: &[Uses], number: u16) -> RegisterSet
+    ensures { WritesAt uses.now number result }
+{
+    match uses.get(number as usize) {
+        Some(node) => node.writes,
+        None => RegisterSet::new(),
+    }
+}
+
+// These are live after each of the registers that are written.
+fn put(after: &mut Vec<RegisterSet>, written: RegisterSet, live: RegisterSet)
+    requires { length after.old.items ≡ 256 }
+    ensures { PutsTo written live 256 after.old.items after.new.items }
+{
+    if written.is(RegisterSet::new()) {
+        return;
+    }
+    'registers: for register in 0..256 {
+        if written.has(register as u8) {
+            after[register] = after[register].union(live);
+        }
+    }
+}
