@@ -17,7 +17,7 @@ returns-in-Ok c =
     (λ text prints.
     record {
       carded = all_carded w c.requires.accepted;
-      fault_free = accepted_free w c.requires.accepted (subst TypedCodeIsFaultFree c.world.ensures.is c.typed_code_never_fails.ensures.fault_free);
+      fault_free = accepted_free w c.requires.accepted (subst TypedCodeIsFaultFree c.world-world.ensures.is c.typed_code_never_fails.ensures.fault_free);
       number = c.args.number;
       entered = c.requires.entered;
       begins = c.in-Ok.ensures.begins;
@@ -26,4 +26,4 @@ returns-in-Ok c =
       runs = c.in-Ok.ensures.runs;
       prints = prints;
     })
-    (subst (λ v. IfOk c.bound_line.result (λ text. string_bytes text ≡ bound_text v c.in-Ok.found)) c.world.ensures.is c.bound_line.ensures) c.done.ensures
+    (subst (λ v. IfOk c.bound_line.result (λ text. string_bytes text ≡ bound_text v c.in-Ok.found)) c.world-world.ensures.is c.bound_line.ensures) c.done.ensures
