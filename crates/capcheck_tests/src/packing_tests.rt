@@ -128,14 +128,15 @@ fn pack_names_the_device_that_fails(rt: HostRuntime) -> Result<(), AllocError> {
     failures_are_told(&rt, rt.alloc(), &FAILING)
 }
 
-/// What `install` gives over the Load file that was packed, where its loads fail: that of the file, and that of the roles.
+/// What `install` gives over the Load file that was packed, where its loads fail: that of the file, and that of the roles. All
+/// loads count, and `pack` made ten.
 static LOADS: [Failing; 4] = [
     ("pack L T", 0, 0, 0, "packed 2 blocks 310 bytes\n", 0),
-    ("install L", 1, 0, 0, "read fault\n", 3),
-    ("install L", 2, 0, 0, "read fault\n", 3),
+    ("install L", 11, 0, 0, "read fault\n", 3),
+    ("install L", 13, 0, 0, "read fault\n", 3),
     (
         "install L",
-        3,
+        16,
         0,
         0,
         "refused package 0 method 0.1 place 2 StackAtBranch\n",
@@ -173,7 +174,7 @@ fn install_names_the_load_that_fails(rt: HostRuntime) -> Result<(), AllocError> 
 /// Where the store of the Load file fails before its first byte, and then none.
 const WITHOUT_FILE: [Answer; 4] = [
     ("pack L T", "store fault\n", 4),
-    ("install L", "malformed package 0 MissingPart 13\n", 7),
+    ("install L", "malformed package 0 Unfinished\n", 7),
     ("pack L T", "packed 2 blocks 310 bytes\n", 0),
     (
         "install L",
@@ -191,7 +192,7 @@ const WITH_A_FRONT: [Answer; 2] = [
 /// Where that of the roles fails.
 const WITHOUT_ROLES_STORED: [Answer; 2] = [
     ("pack L T", "store fault\n", 4),
-    ("install L", "malformed package 0 MissingPart 0\n", 7),
+    ("install L", "malformed package 0 Form 0 0 Cut\n", 7),
 ];
 
 static STORES: [Story; 3] = [
@@ -273,11 +274,11 @@ fn are_same(parts: &Parts<'_>, others: &Parts<'_>) -> bool {
     same
 }
 
-/// Whether two loaders give the same parts.
+/// Whether two loaders give the same parts: package T's nine, and the index of targets.
 fn give_same(alloc: Global, loader: &Loader, other: &Loader) -> bool {
     match loader.finish(alloc) {
         Ok(parts) => match other.finish(alloc) {
-            Ok(others) => parts.len() == 9 && are_same(&parts, &others),
+            Ok(others) => parts.len() == 10 && are_same(&parts, &others),
             Err(_) => false,
         },
         Err(_) => false,
@@ -348,13 +349,15 @@ fn is_told(
     Ok(put && is_answer(status, &text))
 }
 
-/// The first place at which a changed byte is answered otherwise, or the length of the file.
+/// The first place from one on at which a changed byte is answered otherwise, or the place after 86 bytes.
 fn first_untold(
     alloc: Global,
     folder: &mut SureFolder,
     file: &mut [u8],
+    from: usize,
 ) -> Result<usize, AllocError> {
-    for at in 0..file.len() {
+    let to = from.wrapping_add(86).min(file.len());
+    for at in from..to {
         let more = file[at].wrapping_add(1);
         if !is_told(alloc, folder, file, at, 0)?
             || !is_told(alloc, folder, file, at, 255)?
@@ -363,21 +366,39 @@ fn first_untold(
             return Ok(at);
         }
     }
-    Ok(file.len())
+    Ok(to)
 }
 
-fn changes(alloc: Global) -> Result<usize, AllocError> {
+fn changes(alloc: Global, from: usize) -> Result<usize, AllocError> {
     let mut folder = SureFolder::new(alloc, 48, 9000)?;
     if !put_packed(alloc, &mut folder)? {
         return Ok(0);
     }
     let mut file = packed_file(alloc, &mut folder)?;
-    first_untold(alloc, &mut folder, &mut file)
+    first_untold(alloc, &mut folder, &mut file, from)
 }
 
 #[test]
-fn each_changed_byte_of_a_load_file_is_told(rt: HostRuntime) -> Result<(), AllocError> {
-    assert_eq!(rt; changes(rt.alloc())?, 344);
+fn a_changed_byte_in_the_first_quarter_is_told(rt: HostRuntime) -> Result<(), AllocError> {
+    assert_eq!(rt; changes(rt.alloc(), 0)?, 86);
+    Ok(())
+}
+
+#[test]
+fn a_changed_byte_in_the_second_quarter_is_told(rt: HostRuntime) -> Result<(), AllocError> {
+    assert_eq!(rt; changes(rt.alloc(), 86)?, 172);
+    Ok(())
+}
+
+#[test]
+fn a_changed_byte_in_the_third_quarter_is_told(rt: HostRuntime) -> Result<(), AllocError> {
+    assert_eq!(rt; changes(rt.alloc(), 172)?, 258);
+    Ok(())
+}
+
+#[test]
+fn a_changed_byte_in_the_last_quarter_is_told(rt: HostRuntime) -> Result<(), AllocError> {
+    assert_eq!(rt; changes(rt.alloc(), 258)?, 344);
     Ok(())
 }
 
