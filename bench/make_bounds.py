@@ -197,43 +197,42 @@ def with_interfaces(record, interfaces, count):
 def served(share):
     """Interfaces that a chain of classes implements, of which the lowest has all other classes for subclasses."""
     each, many, methods = 15, 8, 8
-    packages, body = [], bytes([RETURN])
-    for number in range(part(share, 16)):
-        package, first, last = new_package(number), number == 0, number == part(share, 16) - 1
-        package.pool = [bytes([1]) + u2(external(0, 2 + n) if number else 2 + 2 * len(class_record([0])) + n) + bytes([0])
-                        for n in range(each * many)]
-        at, record = [], len(class_record([0]))
-        if first:
-            for c in range(2):
-                at.append(package.next_class())
-                own = add_method(package, body, 1, 0)
-                package.add_class(class_record([own], above=NO_SUPERCLASS if c == 0 else at[0]), [], [described(package, own, body, static=False)])
-            for n in range(each * many):
+    count, packages, body = each * many, [], bytes([RETURN])
+    for number in range(max(part(share, 16), 2)):
+        package, at, last = new_package(number), [], number == max(part(share, 16), 2) - 1
+        package.pool = [bytes([1]) + u2(external(0, n) if number else 2 + n) + bytes([0]) for n in range(count)]
+        if number == 0:
+            for n in range(count):
                 at.append(package.next_class())
                 there = [method(0, package.first_type(), 0, token=t, static=False) for t in range(methods)]
                 package.add_class(bytes([0x80]), [], there, flags=0x41)
-            for n in range(many):
-                above_it = at[0] if n == 0 else at[-1]
+            for c in range(2 + many):       # object, throwable and the chain
                 at.append(package.next_class())
                 own = add_method(package, body, 1, 0)
-                interfaces = at[2 + each * n:2 + each * (n + 1)]
-                package.add_class(with_interfaces(class_record([own], above=above_it), interfaces, methods), [],
+                top = NO_SUPERCLASS if c == 0 else at[count] if c <= 2 else at[-2]
+                interfaces = at[each * (c - 2):each * (c - 1)] if c >= 2 else []
+                package.add_class(with_interfaces(class_record([own], above=top), interfaces, methods), [],
                                   [described(package, own, body, static=False)])
-        else:
-            for c in range(CLASSES):
-                at.append(package.next_class())
-                own = add_method(package, body, 1, 0)
-                there = [described(package, own, body, static=False)]
-                if last and c == CLASSES - 1:
-                    code = b"".join(bytes([ACONST_NULL, INVOKEINTERFACE, 1]) + u2(n) + bytes([t]) for n in range(each * many) for t in range(methods))
-                    start = package.next_method()
-                    package.methods += bytes([1, 0]) + code + body
-                    package.indices += [start + 2 + 6 * k + 3 for k in range(each * many * methods)]
-                    there.append(described(package, start, code + body))
-                package.add_class(class_record([own], above=external(0, 2 + each * many + many - 1)), [], there)
+        for c in range(CLASSES if number else 0):
+            at.append(package.next_class())
+            own = add_method(package, body, 1, 0)
+            there = [described(package, own, body, static=False)]
+            if last and c == CLASSES - 1:
+                there.append(calls_of_interfaces(package, count, methods))
+            package.add_class(class_record([own], above=external(0, count + 1 + many)), [], there)
         package.export = bytes([len(at)]) + b"".join(map(exported, at))
         packages.append(package)
-    return finished(packages)
+    packages[0].roles = bytes([count] + [count + 1] * 7)
+    return packages
+
+
+def calls_of_interfaces(package, count, methods):
+    """A method that calls each method of the interfaces, the first entries of the pool."""
+    one = [bytes([ACONST_NULL, INVOKEINTERFACE, 1]) + u2(n) + bytes([t]) for n in range(count) for t in range(methods)]
+    start, code = package.next_method(), b"".join(one) + bytes([RETURN])
+    package.methods += bytes([1, 0]) + code
+    package.indices += [start + 2 + 6 * k + 3 for k in range(len(one))]
+    return described(package, start, code)
 
 
 ENTRIES = {"served": "254.1", "overriding": "254.1", "ring": "1.0", "line": "1.0", "calls": "254.7"}
