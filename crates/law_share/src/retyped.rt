@@ -1,3 +1,4 @@
+ghost use Rattle.law_share.specs.Renumbered.{OperationsAreRenumbered};
 ghost use Rattle.law_share.specs.Retyped.{RenamedAreTyped, RenumberedApply, SharedHaveTypes};
 
 use jc_base::World;
@@ -31,6 +32,13 @@ pub fn renamed_are_typed(world: &World<'_>)
 /// Registers that variables share have types, under which each register keeps its own.
 pub fn shared_have_types(world: &World<'_>)
     ensures { SharedHaveTypes world.now }
+{
+    let _ = world.classes().records();
+}
+
+/// Where variables share registers, each operation of a method has the number of its register renewed and is else the same.
+pub fn operations_are_renumbered(world: &World<'_>)
+    ensures { OperationsAreRenumbered world.now }
 {
     let _ = world.classes().records();
 }
