@@ -1,6 +1,6 @@
 -- Operations under the new numbers of registers.
 use Rattle.std.proofs.Common.{◌≡◌, ℕ, zero, suc, ◌+◌, ◌-◌, ◌<◌, ◌≤◌, ◌⊎◌, inl, inr, ⊎_elim, max, List, [], ◌∷◌, ◌++◌, length, drop, map, reverse}
-use Rattle.std.proofs.Common.{refl, sym, ap, ◌∙◌, subst, arith, Contains, set, get_or}
+use Rattle.std.proofs.Common.{refl, sym, ap, ◌∙◌, subst, arith, Contains, set}
 use Rattle.std.specs.Prelude.{Option, Some, None, Result, Ok, IsSomeAnd, slice_get, ⊤}
 use Rattle.std.proofs.lemmas.Bool.{cases_lt}
 use Rattle.std.proofs.lemmas.List.{length-drop, length-set, get_or-set_same, get_or-set_other}
@@ -11,10 +11,10 @@ use Rattle.jc_base.specs.declared.ty.Ty.{Ty}
 use Rattle.jc_base.specs.declared.ty.Ty.TheVariants.{Top, Bottom, IntHigh, IntLow}
 use Rattle.jc_base.specs.declared.ty.Ty.TheVariants as types
 use Rattle.jc_base.specs.Class.{ClassTable}
-use Rattle.jc_base.specs.Each.{IsAmong}
 use Rattle.jc_base.specs.Order.{Below, same, joined, nothing, anything, null_object, null_array, subclass, array_object, array_array, IsArray, of_booleans}
 use Rattle.jc_base.specs.Order.{of_bytes, of_shorts, of_ints, of_references}
 use Rattle.jc_base.specs.World.{Linked, IsWorld}
+use Rattle.jc_base.specs.Each.{IsAmong}
 use Rattle.jc_base.proofs.Eaching.{IsAmong-from_Contains}
 use Rattle.jc_decode.specs.declared.insn.Placed.{Placed}
 use Rattle.jc_control.specs.Method.{Method, IsMethodOf}
@@ -28,15 +28,14 @@ use Rattle.jc_ops.specs.declared.operation.Move.{Move}
 use Rattle.jc_ops.specs.declared.operation.Move.TheVariants as moves
 use Rattle.jc_ops.specs.declared.operation.Operation.{Operation}
 use Rattle.jc_ops.specs.declared.operation.Operation.TheVariants as ops
-use Rattle.jc_ops.specs.declared.operation.Sort.{Sort}
 use Rattle.jc_ops.specs.declared.operation.Sort.TheVariants as sorts
 use Rattle.jc_ops.specs.declared.operation.Width.{Width}
 use Rattle.jc_ops.specs.declared.operation.Width.TheVariants as widths
 use Rattle.jc_ops.specs.declared.want.Want.{Want}
 use Rattle.jc_ops.specs.declared.want.Want.TheVariants.{Value}
-use Rattle.jc_ops.specs.Alike.{IsAlike, equal, loads, stores, increments}
+use Rattle.jc_ops.specs.Alike.{equal, loads, stores, increments}
 use Rattle.jc_rules.specs.declared.demand.Demand.{Demand}
-use Rattle.jc_rules.specs.declared.demand.Demand.TheVariants.{Registers, Cell, Held}
+use Rattle.jc_rules.specs.declared.demand.Demand.TheVariants.{Registers, Depth, Cell, Cut, Held}
 use Rattle.jc_rules.specs.declared.effect.Mode.TheVariants.{Flow}
 use Rattle.jc_rules.specs.declared.rule.Outcome.{Outcome}
 use Rattle.jc_rules.specs.Apply.{OperationApplies}
@@ -49,14 +48,15 @@ use Rattle.jc_rules.specs.Rule.{receiver_wanted, two_numbers, value_size, value_
 use Rattle.jc_rules.proofs.CellLists.{cells-length}
 use Rattle.jc_rules.proofs.Footprints.{met-is-there, asked-is-there}
 use Rattle.card_typing.proofs.Own.{start-length}
-use Rattle.card_typing.specs.Typing.{CardTyping}
-use Rattle.law_share.specs.Live.{Operates}
+use Rattle.card_typing.specs.Typing.{CardTyping, frame_at}
+use Rattle.law_share.specs.Live.{Operates, Writes, MayLeadTo, IsLiveAt, live_read, live_on}
+use Rattle.law_share.specs.Retyped.{HasShared}
 use Rattle.law_share.specs.Variable.{Variable, IsWhole, AreVariables, HasRegister}
 use Rattle.law_share.specs.Sharing.{Allotted, AreAllotted, IsNumbered, numbered_argument, numbered_variable, end_of}
 use Rattle.law_share.specs.Laws.{HasNumber}
-use Rattle.law_share.specs.Renamed.{register_total}
-use Rattle.law_share.specs.Renumbered.{renumbered, IsRenumberedTo, OperationsAreRenumbered}
-use Rattle.law_share.proofs.Allotting.{among-variable, registers-have-numbers}
+use Rattle.law_share.specs.Renamed.{register_total, BeginsAlike}
+use Rattle.law_share.specs.Renumbered.{renumbered, IsRenumberedTo, OperationsAreRenumbered, RenumberedStayApart, RenumberedBeginAlike}
+use Rattle.law_share.proofs.Allotting.{among-variable, no-argument, registers-have-numbers, written-stay-apart}
 use Rattle.law_share.proofs.Quiet.{IsStoring, quiet-or-stores}
 use Rattle.law_share.proofs.Retyping.{below-there}
 use Rattle.law_share.proofs.SharedTypes.{get-drop}
@@ -573,6 +573,107 @@ module _ (v : Linked) (links : IsWorld v) (m : Method) (regs : List Ty) (stacks 
         subst (λ (x : Operation). Is x (renumbered f x)) one
         (renumber rule.operation m.rec.max_stack (stacks i.place) typed.after typed.applies.0 rule.does typed.stored)
 
+    -- ---- what is live
+
+    -- a register that is read is asked for
+    read-within : (ds : List Demand) (x : ℕ) → IsAmong x (registers_read ds) → x < registers_asked ds
+    read-within [] x among = absurd among
+    read-within (Held y wanted ∷ ds) x (inl here) = omega (arith, here)
+    read-within (Held y wanted ∷ ds) x (inr later) = let lt = read-within ds x later in omega (arith, lt)
+    read-within (Registers y n ∷ ds) x among = let lt = read-within ds x among in omega (arith, lt)
+    read-within (Depth n ∷ ds) x among = read-within ds x among
+    read-within (Cell n want ∷ ds) x among = read-within ds x among
+    read-within (Cut n ∷ ds) x among = read-within ds x among
+
+    -- what an operation of the method asks for is there
+    room-there : (i : Placed) (op : Operation) → Operates v m i op → registers_asked (demands v op) ≤ length regs
+    room-there i op operates =
+        let rule = (ty.typed i operates.stands).applies.1 in
+        let one : rule.operation ≡ op = ok-one rule.operation op (rule.resolves ∙ sym operates.resolves) in
+        let ds = demands v rule.operation in
+        subst (λ (o : Operation). registers_asked (demands v o) ≤ length regs) one
+        ((asked-is-there (length regs) (length (stacks i.place)) ds).registers (met-is-there v (frame_at regs stacks i.place) ds rule.does.asked))
+
+    live-within : (x q : ℕ) → IsLiveAt v m x q → x < length regs
+    live-within x _ (live_read i op operates reads) =
+        let lt = read-within (demands v op) x (IsAmong-from_Contains x (registers_read (demands v op)) reads) in
+        let room = room-there i op operates in
+        omega (arith, lt, room)
+    live-within x _ (live_on i op q operates none leads live) = live-within x q live
+
+    named : (x : ℕ) → x < length regs → IsNumbered nargs given x (f x)
+    named x lt = numbers x (let total = count in omega (arith, lt, total))
+
+    -- what is written under a new number was written under the old one
+    written-from : (a b : Operation) (y : ℕ) → IsRenumberedTo v f end a b → (footprint v b).written ≡ (footprint v a).written → Writes v b y
+        → (k : ℕ) × (k < (footprint v a).written) × (y ≡ f ((footprint v a).register + k))
+    written-from a b y is count writes =
+        let from = writes.from in
+        let before = writes.before in
+        let k : ℕ = y - (footprint v b).register in
+        let lt : k < (footprint v a).written = omega (arith, from, before, count) in
+        let at : y ≡ (footprint v b).register + k = omega (arith, from) in
+        (k, lt, at ∙ is.writes k lt)
+
+    same-count : (op : Operation) → (footprint v (renumbered f op)).written ≡ (footprint v op).written
+    same-count (ops.Load sorts.Reference x) = refl
+    same-count (ops.Load sorts.Short x) = refl
+    same-count (ops.Load sorts.Int x) = refl
+    same-count (ops.Store sorts.Reference x) = refl
+    same-count (ops.Store sorts.Short x) = refl
+    same-count (ops.Store sorts.Int x) = refl
+    same-count (ops.Increment width x amount) = refl
+    same-count _ = refl
+
+    written-inside : (op : Operation) (k : ℕ) → k < (footprint v op).written → (footprint v op).register + k < registers_asked (demands v op)
+    written-inside op k lt = ⊎_elim (λ none. absurd (omega (arith, none, lt))) (λ is. by op is lt) (quiet-or-stores v op)
+      where
+        by : (op : Operation) → IsStoring op → k < (footprint v op).written → (footprint v op).register + k < registers_asked (demands v op)
+        by (ops.Store sorts.Reference x) is lt = omega (arith, lt)
+        by (ops.Store sorts.Short x) is lt = omega (arith, lt)
+        by (ops.Store sorts.Int x) is lt = omega (arith, lt)
+        by (ops.Increment widths.Short x amount) is lt = omega (arith, lt)
+        by (ops.Increment widths.Int x amount) is lt = omega (arith, lt)
+        by _ is lt = absurd is
+
+    apart-still : (i : Placed) (op : Operation) (q x : ℕ) → Operates v m i op → MayLeadTo m i q → IsLiveAt v m x q → ¬ (Writes v op x)
+        → ¬ (Writes v (renumbered f op) (f x))
+    apart-still i op q x operates leads live none writes =
+        let w = written-from op (renumbered f op) (f x) (operation-renumbered i op operates) (same-count op) writes in
+        let y : ℕ = (footprint v op).register + w.0 in
+        let less = w.1 in
+        let inside_y = written-inside op w.0 w.1 in
+        let room = room-there i op operates in
+        written-stay-apart v m (drop nargs regs) ks given vs all i op q x y (f x) (f y) operates
+        (record { from = omega arith; before = omega (arith, less) }) none leads live (named x (live-within x q live))
+        (named y (omega (arith, inside_y, room))) w.2
+
+    begins-alike : (target : Method) (x : ℕ) → HasShared m given target → IsLiveAt v m x 0 → BeginsAlike m target f x
+    begins-alike target x has live =
+        let lt = live-within x 0 live in
+        let total = count in
+        let end_there = has.total in
+        let less = inside x lt in
+        record {
+          argument = λ argument. is-number x x lt (numbered_argument argument);
+          variable = λ local. from-there local (f x) (named x lt);
+          there = inl (omega (arith, lt, total), omega (arith, less, end_there));
+        }
+      where
+        from-there : nargs ≤ x → (y : ℕ) → IsNumbered nargs given x y → nargs ≤ y
+        from-there local _ (numbered_argument argument) = absurd (omega (arith, argument, local))
+        from-there local _ (numbered_variable a listed own) =
+            let le = no-argument v m all a (IsAmong-from_Contains a given listed) in
+            omega (arith, le)
+
 pub operations-are-renumbered : (v : Linked) → IsWorld v → OperationsAreRenumbered v
-operations-are-renumbered v links m regs stacks ks given f is ty vs all numbers i op operates =
-    operation-renumbered v links m regs stacks ks given f is ty vs all numbers i op operates
+operations-are-renumbered v links m given f i op r operates =
+    operation-renumbered v links m r.regs r.stacks r.variables given f r.method r.typed r.are r.allotted r.numbered i op operates
+
+pub renumbered-stay-apart : (v : Linked) → IsWorld v → RenumberedStayApart v
+renumbered-stay-apart v links m given f i op q x r operates leads live none =
+    apart-still v links m r.regs r.stacks r.variables given f r.method r.typed r.are r.allotted r.numbered i op q x operates leads live none
+
+pub renumbered-begin-alike : (v : Linked) → IsWorld v → RenumberedBeginAlike v
+renumbered-begin-alike v links m target given f x r has live =
+    begins-alike v links m r.regs r.stacks r.variables given f r.method r.typed r.are r.allotted r.numbered target x has live

@@ -10,10 +10,11 @@ use Rattle.jc_ops.specs.Alike.{IsAlike}
 use Rattle.jc_rules.specs.Footprint.{footprint, registers_asked, registers_read}
 use Rattle.jc_rules.specs.Rule.{demands}
 use Rattle.card_typing.specs.Typing.{CardTyping}
-use Rattle.law_share.specs.Live.{Operates}
+use Rattle.law_share.specs.Live.{Operates, Writes, MayLeadTo, IsLiveAt}
 use Rattle.law_share.specs.Variable.{Variable, AreVariables}
 use Rattle.law_share.specs.Sharing.{Allotted, AreAllotted, IsNumbered, end_of}
-use Rattle.law_share.specs.Renamed.{register_total}
+use Rattle.law_share.specs.Renamed.{register_total, BeginsAlike}
+use Rattle.law_share.specs.Retyped.{HasShared}
 
 -- an operation with the register that it names under another number
 abbrev pub renumbered : (ℕ → ℕ) → Operation → Operation
@@ -30,16 +31,42 @@ pub record IsRenumberedTo (v : Linked) (reg : ℕ → ℕ) (end : ℕ) (a b : Op
   pub asked : registers_asked (demands v b) ≤ end
   pub writes : (k : ℕ) → k < (footprint v a).written → (footprint v b).register + k ≡ reg ((footprint v a).register + k)
 
--- so is each operation of a method with a card typing, where its variables share registers: an int keeps its halves beside one another, and
--- register 0 its number
+-- the registers of a method have the numbers that its variables are given, by a card typing
+pub record IsRenumbering (v : Linked) (m : Method) (given : List Allotted) (reg : ℕ → ℕ) : Type 0 where
+  pub method : IsMethodOf v m
+  pub regs : List Ty
+  pub stacks : ℕ → List Ty
+  pub typed : CardTyping v m regs stacks
+  pub variables : List Variable
+  pub are : AreVariables m.rec.nargs (drop m.rec.nargs regs) variables
+  pub allotted : AreAllotted v m [] variables given
+  pub numbered : (x : ℕ) → x < register_total m → IsNumbered m.rec.nargs given x (reg x)
+
+-- so each operation of the method is the same but for the number of its register: an int keeps its halves beside one another, and register 0
+-- its number
 abbrev pub OperationsAreRenumbered : Linked → Type 0
 OperationsAreRenumbered v =
-    (m : Method) (regs : List Ty) (stacks : ℕ → List Ty) (ks : List Variable) (given : List Allotted) (reg : ℕ → ℕ)
-    → IsMethodOf v m
-    → CardTyping v m regs stacks
-    → AreVariables m.rec.nargs (drop m.rec.nargs regs) ks
-    → AreAllotted v m [] ks given
-    → ((x : ℕ) → x < register_total m → IsNumbered m.rec.nargs given x (reg x))
-    → (i : Placed) (op : Operation)
+    (m : Method) (given : List Allotted) (reg : ℕ → ℕ) (i : Placed) (op : Operation)
+    → IsRenumbering v m given reg
     → Operates v m i op
     → IsRenumberedTo v reg (end_of m.rec.nargs given) op (renumbered reg op)
+
+-- and it writes none that has to hold a register which is live after it, and which it did not write before
+abbrev pub RenumberedStayApart : Linked → Type 0
+RenumberedStayApart v =
+    (m : Method) (given : List Allotted) (reg : ℕ → ℕ) (i : Placed) (op : Operation) (q x : ℕ)
+    → IsRenumbering v m given reg
+    → Operates v m i op
+    → MayLeadTo m i q
+    → IsLiveAt v m x q
+    → ¬ (Writes v op x)
+    → ¬ (Writes v (renumbered reg op) (reg x))
+
+-- what is live at the start is held there under the new number
+abbrev pub RenumberedBeginAlike : Linked → Type 0
+RenumberedBeginAlike v =
+    (m target : Method) (given : List Allotted) (reg : ℕ → ℕ) (x : ℕ)
+    → IsRenumbering v m given reg
+    → HasShared m given target
+    → IsLiveAt v m x 0
+    → BeginsAlike m target reg x
