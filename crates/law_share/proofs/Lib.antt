@@ -11,3 +11,4 @@ pub mod Types
 pub mod SharedTypes
 pub mod InStep
 pub mod Kept
+pub mod Numbering

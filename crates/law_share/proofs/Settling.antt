@@ -1,5 +1,5 @@
 -- What follows the step of another method in both worlds: a method that is called begins, and one that waits goes on.
-use Rattle.std.proofs.Common.{◌≡◌, ℕ, zero, suc, ◌+◌, ◌-◌, ◌<◌, ◌≤◌, ◌⊎◌, inl, inr, ⊎_elim, Bool, true, false, if◌then◌else◌, List, [], ◌∷◌}
+use Rattle.std.proofs.Common.{◌≡◌, ℕ, zero, suc, ◌+◌, ◌-◌, ◌<◌, ◌≤◌, inl, inr, ⊎_elim, Bool, true, false, if◌then◌else◌, List, [], ◌∷◌}
 use Rattle.std.proofs.Common.{◌++◌, length, map, reverse, replicate, refl, sym, ap, ◌∙◌, subst, arith, length-append}
 use Rattle.std.specs.Prelude.{Some, None, nat_lt, nat_le, slice_get}
 use Rattle.std.proofs.lemmas.Bool.{cases_lt, le-ltb, lt-leb, leb-false, ltb-false, false≢true}

@@ -28,7 +28,7 @@ use Rattle.law_share.proofs.Types.{IsProper, all-proper, type_in, variable-type,
 
 -- ---- lists
 
-get-drop : {X : Type 0} (n k : ℕ) (xs : List X) → slice_get (drop n xs) k ≡ slice_get xs (n + k)
+pub get-drop : {X : Type 0} (n k : ℕ) (xs : List X) → slice_get (drop n xs) k ≡ slice_get xs (n + k)
 get-drop zero k xs = ap (slice_get xs) (omega arith)
 get-drop (suc n) k [] = refl
 get-drop (suc n) k (x ∷ xs) =

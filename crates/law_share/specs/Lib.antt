@@ -4,5 +4,6 @@ pub mod Sharing
 pub mod Renamed
 pub mod Beside
 pub mod Retyped
+pub mod Renumbered
 pub mod Laws
 pub mod Worked

@@ -9,5 +9,7 @@ mod retyped;
 mod sharing;
 
 pub use like_endings::{kept_are_renamed, renamed_end_alike};
-pub use retyped::{renamed_are_typed, renumbered_apply, shared_have_types};
+pub use retyped::{
+    operations_are_renumbered, renamed_are_typed, renumbered_apply, shared_have_types,
+};
 pub use sharing::{methods_share_in_one_way, sharing_is_one, written_stay_apart};

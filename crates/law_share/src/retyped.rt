@@ -1,3 +1,4 @@
+ghost use Rattle.law_share.specs.Renumbered.{OperationsAreRenumbered, RenumberedBeginAlike, RenumberedStayApart};
 ghost use Rattle.law_share.specs.Retyped.{RenamedAreTyped, RenumberedApply, SharedHaveTypes};
 
 use jc_base::World;
@@ -31,6 +32,16 @@ pub fn renamed_are_typed(world: &World<'_>)
 /// Registers that variables share have types, under which each register keeps its own.
 pub fn shared_have_types(world: &World<'_>)
     ensures { SharedHaveTypes world.now }
+{
+    let _ = world.classes().records();
+}
+
+/// Where variables share registers, each operation of a method has the number of its register renewed and is else the same. It writes none that
+/// has to hold what is live after it, and what is live at the start is held there.
+pub fn operations_are_renumbered(world: &World<'_>)
+    ensures same { OperationsAreRenumbered world.now }
+    ensures apart { RenumberedStayApart world.now }
+    ensures begin { RenumberedBeginAlike world.now }
 {
     let _ = world.classes().records();
 }
