@@ -1,7 +1,7 @@
 -- What a folder has stays where something is stored in another one.
 use Rattle.std.proofs.Common.{◌≡◌, ◌≤◌, ◌<◌, ℕ, List, [], ◌∷◌, Option, Some, None, IfSome, IsNone, Bool, true, false, refl, sym, ap, subst, ◌∙◌}
 use Rattle.std.specs.FinMap as map
-use Rattle.std.specs.Prelude.{¬, IsSomeAnd}
+use Rattle.std.specs.Prelude.{IsSomeAnd}
 use Rattle.std.specs.List.{AllByRecursion, AllZip}
 use Rattle.cap_files.specs.Folder.{Parts, Folders, IsThere, IsAbsent}
 use Rattle.cap_components.specs.Parts.{Lent, held}

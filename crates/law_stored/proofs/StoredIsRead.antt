@@ -10,6 +10,7 @@ use Rattle.cap_package.specs.StandsFor.{StandsFor}
 use Rattle.cap_text.specs.Request.{verify}
 use Rattle.cap_text.specs.Transform.{TransformRequest}
 use Rattle.jc_base.specs.World.{Linked}
+use Rattle.jc_decode.specs.declared.symbols.Laid.{Laid}
 use Rattle.law_package.specs.Rewritten.{IsRewritten}
 use Rattle.xf_pack.specs.Transformed.{IsTransformed}
 use Rattle.cap_write.specs.WrittenPackage.{IsWritten}
@@ -31,7 +32,7 @@ use Rattle.law_stored.specs.StoredIsRead.{StoredIsRead, IsReadAgain, IsApart, wi
 use Rattle.law_stored.proofs.AskedParts.{IsShort, asked_short}
 use Rattle.law_stored.proofs.UnaskedParts.{rises, unasked_none}
 use Rattle.law_stored.proofs.Kept.{roles_kept, all_kept}
-use Rattle.law_stored.proofs.Ends.{last_beside, with_last_beside, one_last, none_beside}
+use Rattle.law_stored.proofs.Ends.{HasLast, last_beside, with_last_beside, one_last, none_beside}
 
 -- ---- the parts that are stored are those that the folder is asked for
 
@@ -54,11 +55,12 @@ module _ (dir : List ℕ) (parts : List Lent) (given : Option (List ℕ)) (befor
     short_here tag = subst (λ ps. is_asked ps tag ≡ true → IsShort ps tag) now.said.same
         (asked_short q (subst (λ ps. StandsFor ps q) (sym now.said.same) now) tag)
 
-    stored_parts : (laid : List _) → IsRewritten p laid q → IsWritten p laid parts → AreParts before _ p.parts → AreParts after dir parts
-    stored_parts laid rewritten w loaded = record {
+    stored_parts : (laid : List (Option Laid)) (was_in : List ℕ) → IsRewritten p laid q → IsWritten p laid parts → AreParts before was_in p.parts
+        → AreParts after dir parts
+    stored_parts laid was_in rewritten w loaded = record {
       rising = rises 0 256 parts w.written.files.rising;
       asked = λ tag lt e. stored_has tag (least_asked tag e) lt (short_here tag e);
-      unasked = λ tag lt e. subst IsNone (sym (unasked_none p q laid parts was now rewritten w loaded.unasked tag lt e)) (tt {0});
+      unasked = λ tag lt e. subst IsNone (sym (unasked_none p q laid parts was now rewritten w loaded.unasked tag lt e)) refl;
     }
 
 -- ---- the roles
@@ -71,7 +73,7 @@ lone packages p roles e = ap (λ ps. roles_beside ps roles) e
 module _ (t : TransformRequest) (before after : Outside) (libraries : List (List ℕ)) (last : List ℕ) (are : t.dirs ≡ with_last libraries last)
     (apart : IsApart libraries t.out) (w : Linked) (h : HoldWorld before.folders t.dirs w) (text : List ℕ)
     (b : IsBrought h.packages h.roles w t.out before.folders after.folders text) where
-  parts : List Lent
+  abbrev parts : List Lent
   parts = b.brings.parts
 
   made : IsTransformed h.packages h.roles w parts
@@ -81,16 +83,16 @@ module _ (t : TransformRequest) (before after : Outside) (libraries : List (List
   kept = are_kept t.out parts (roles_beside h.packages h.roles) b.stores b.brings.order before.folders after.folders b.stored
 
   -- the parts of the libraries, and those of the last package
-  loaded : _
+  loaded : HasLast (AreParts before.folders) libraries last h.parts
   loaded =
       last_beside (AreParts before.folders) libraries last h.parts
       (components_zip before.folders (with_last libraries last) h.parts
       (subst (λ ds. AllZip (ArePartsBy before.folders) (places Components ds) h.parts) are h.given.parts_are))
 
-  packages : _
+  packages : HasLast StandsFor loaded.front loaded.end h.packages
   packages = last_beside StandsFor loaded.front loaded.end h.packages (subst (λ ps. AllZip StandsFor ps h.packages) loaded.are h.stand)
 
-  same : _
+  same : (packages.front ≡ made.keeps.libraries) × (packages.end ≡ made.keeps.source)
   same = one_last packages.front made.keeps.libraries packages.end made.keeps.source (sym packages.are ∙ made.keeps.are)
 
   source_stands : StandsFor loaded.end made.keeps.source
@@ -102,7 +104,7 @@ module _ (t : TransformRequest) (before after : Outside) (libraries : List (List
   stored : AreParts after.folders t.out parts
   stored =
       stored_parts t.out parts (roles_beside h.packages h.roles) before.folders after.folders kept made.keeps.source made.keeps.made
-      (subst (λ ps. StandsFor ps made.keeps.source) (sym source_stands.said.same) source_stands) made.keeps.stands made.anew.laid made.anew.rewritten
+      (subst (λ ps. StandsFor ps made.keeps.source) (sym source_stands.said.same) source_stands) made.keeps.stands made.anew.laid last made.anew.rewritten
       made.anew.written source_parts
 
   libraries_stand : AllZip StandsFor loaded.front made.keeps.libraries
