@@ -8,6 +8,10 @@ mod faults;
 pub use faults::{Told, named};
 
 #[cfg(test)]
+mod count_tests;
+#[cfg(test)]
+mod counting;
+#[cfg(test)]
 mod index_tests;
 #[cfg(test)]
 mod indexed_package;
@@ -29,6 +33,8 @@ mod lines;
 mod link_tests;
 #[cfg(test)]
 mod names_tests;
+#[cfg(test)]
+mod once;
 #[cfg(test)]
 mod reading;
 #[cfg(test)]
