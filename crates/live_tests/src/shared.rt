@@ -145,14 +145,12 @@ fn of_world(
 
 /// The number of the first case that fails, and past the last where none does.
 fn first_wrong(alloc: Global) -> Result<usize, AllocError> {
-    let mut number = 0;
-    for case in &CASES {
+    for (number, case) in CASES.iter().enumerate() {
         if !holds(alloc, case)? {
             return Ok(number);
         }
-        number += 1;
     }
-    Ok(number)
+    Ok(CASES.len())
 }
 
 #[test]
