@@ -42,8 +42,8 @@ pub record IsRenumbering (v : Linked) (m : Method) (given : List Allotted) (reg 
   pub allotted : AreAllotted v m [] variables given
   pub numbered : (x : ℕ) → x < register_total m → IsNumbered m.rec.nargs given x (reg x)
 
--- so each operation of the method is the same but for the number of its register: an int keeps its halves beside one another, and register 0
--- its number
+-- so each operation of the method is the same but for the number of its register: an int keeps its halves beside one another, and
+-- register 0 its number
 abbrev pub OperationsAreRenumbered : Linked → Type 0
 OperationsAreRenumbered v =
     (m : Method) (given : List Allotted) (reg : ℕ → ℕ) (i : Placed) (op : Operation)

@@ -36,8 +36,8 @@ pub fn shared_have_types(world: &World<'_>)
     let _ = world.classes().records();
 }
 
-/// Where variables share registers, each operation of a method has the number of its register renewed and is else the same. It writes none that
-/// has to hold what is live after it, and what is live at the start is held there.
+/// Where variables share registers, each operation of a method has the number of its register renewed and is else the same. It writes
+/// none that has to hold what is live after it, and what is live at the start is held there.
 pub fn operations_are_renumbered(world: &World<'_>)
     ensures same { OperationsAreRenumbered world.now }
     ensures apart { RenumberedStayApart world.now }
