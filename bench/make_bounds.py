@@ -12,7 +12,8 @@ side by side, with the first line. With PERCENT, the shapes have this much of th
 within a package and of the package before, and from the first one a call of a method of object that a class of the last one
 overrides. `calls` has 16 packages whose methods are full of calls of public methods, each of another class and token.
 `served` has 120 interfaces with 8 methods each, which one class implements by itself and its superclasses, and 3,825
-classes below it; a method calls all of them.
+classes below it; a method calls all of them. `naming` has 2,000 interfaces, and 2,040 classes in one chain, each of which
+names 15 of them; a method calls all.
 """
 import os
 
@@ -226,6 +227,34 @@ def served(share):
     return packages
 
 
+def naming(share):
+    """About as many interfaces as classes, in a chain of classes each of which names some of them."""
+    each, names, body, packages = 250, 15, bytes([RETURN]), []
+    half = max(part(share, 16) // 2, 1)
+    wanted = [external(number, n) for number in range(half) for n in range(each)]
+    for number in range(2 * half):
+        package, at, last = new_package(number), [], number == 2 * half - 1
+        package.pool = [bytes([1]) + u2(one) + bytes([0]) for one in wanted] if last else []
+        for n in range(each if number < half else 0):
+            at.append(package.next_class())
+            package.add_class(bytes([0x80]), [], [method(0, package.first_type(), 0, static=False)], flags=0x41)
+        for c in range(2 if number == 0 else CLASSES if number >= half else 0):
+            before = external(0, each + 1) if number == half else external(number - 1, CLASSES - 1)
+            top = NO_SUPERCLASS if number == c == 0 else at[-1] if c > 0 else before
+            at.append(package.next_class())
+            own = add_method(package, body, 1, 0)
+            first = ((number - half) * CLASSES + c) * names
+            interfaces = [wanted[(first + k) % len(wanted)] for k in range(names)] if number >= half else []
+            there = [described(package, own, body, static=False)]
+            if last and c == CLASSES - 1:
+                there.append(calls_of_interfaces(package, len(wanted), 1))
+            package.add_class(with_interfaces(class_record([own], above=top), interfaces, 1), [], there)
+        package.export = bytes([len(at)]) + b"".join(map(exported, at))
+        packages.append(package)
+    packages[0].roles = bytes([each] + [each + 1] * 7)
+    return packages
+
+
 def calls_of_interfaces(package, count, methods):
     """A method that calls each method of the interfaces, the first entries of the pool."""
     one = [bytes([ACONST_NULL, INVOKEINTERFACE, 1]) + u2(n) + bytes([t]) for n in range(count) for t in range(methods)]
@@ -235,7 +264,7 @@ def calls_of_interfaces(package, count, methods):
     return described(package, start, code)
 
 
-ENTRIES = {"served": "254.1", "overriding": "254.1", "ring": "1.0", "line": "1.0", "calls": "254.7"}
+ENTRIES = {"served": "254.1", "naming": "254.1", "overriding": "254.1", "ring": "1.0", "line": "1.0", "calls": "254.7"}
 
 
 def make(shape, share, folder):
@@ -247,4 +276,4 @@ def make(shape, share, folder):
 
 
 if __name__ == "__main__":
-    run(__doc__, "bound", [overriding, ring, line, calls, served], make)
+    run(__doc__, "bound", [overriding, ring, line, calls, served, naming], make)

@@ -1,6 +1,6 @@
 #!/usr/bin/env python3
 """Makes the largest worlds and the methods that take longest to type, and each of half the size, and times
-`check`, `verify` and `transform` on them.
+`check`, `verify`, `transform` and `share` on them.
 
     bench/make_worlds.py FOLDER [CAPCHECK [PERCENT]]
 
@@ -18,7 +18,8 @@ target index; and it does so in each of the 255 passes of `rounds`, where a cell
 4,096 bytes (half: 2,048). In the code that
 `transform` lays for `widening` each branch that becomes wide forces one more, so that it turns 8,000 times. Each place of
 `deep_handlers` takes as many steps as there are handlers, registers and superclasses, multiplied: it has 16
-such places (half: 8). At each edge of `branches_in` and `cases_in` 250 handlers come to cover 250 registers.
+such places (half: 8). At each edge of `branches_in` and `cases_in` 250 handlers come to cover 250 registers. `handled` is for `share`: 255 registers
+under 255 handlers, of which each begins behind the one before and reads a register.
 """
 import os
 
@@ -207,6 +208,19 @@ def covered(share):
     return with_method(padded(code, size - 1) + RETURN, 1, 1, [(0, size - 1, size - 1)] * 255)
 
 
+def handled(share):
+    """Straight code over 255 registers under 255 handlers, each with an entry of its own, at which it reads a register."""
+    size, handlers = part(share, 32767), part(share, 255)
+    code = b"".join(bytes([SCONST_0, SSTORE, x]) for x in range(255))
+    first = len(code)
+    units = (size - first - 1 - 6 * handlers) // 4
+    code += b"".join(bytes([SLOAD, unit % 255, SSTORE, (7 * unit + 3) % 255]) for unit in range(units)) + RETURN
+    entries = [len(code) + 6 * n for n in range(handlers)]
+    code += b"".join(bytes([POP, SLOAD, n, SSTORE, (n + 1) % 255]) + RETURN for n in range(handlers))
+    ranges = [(first + 4 * n, entries[0] - 1 - first - 4 * n, entry) for n, entry in enumerate(entries)]
+    return with_method(code, 1, 1, ranges)
+
+
 def all_registers(index):
     """All registers hold null as an object of the class of a pool entry."""
     first = bytes([ACONST_NULL, CHECKCAST, 0]) + u2(index) + bytes([ASTORE_0])
@@ -330,7 +344,7 @@ def cases_in(share):
     return entered(first + bytes([STABLESWITCH]) + u2(table) + u2(0) + u2(count - 1) + ways, count, handlers)
 
 
-SHAPES = [tree, chain, straight, covered, deep_handlers, branches_in, cases_in, climbing, waves, branches, rounds, indexed, widening]
+SHAPES = [tree, chain, straight, covered, handled, deep_handlers, branches_in, cases_in, climbing, waves, branches, rounds, indexed, widening]
 
 
 def make(shape, share, folder):
@@ -341,4 +355,4 @@ def make(shape, share, folder):
     return dirs
 
 
-run(__doc__, "check verify transform", SHAPES, make)
+run(__doc__, "check verify transform share", SHAPES, make)

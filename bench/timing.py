@@ -19,22 +19,22 @@ def timed(words):
     return "%6.2f s status %d %s" % (time.monotonic() - begin, done.returncode, done.stdout.split("\n", 1)[0])
 
 
-def transformed(capcheck, after):
-    """The seconds that it takes to transform the package in the last folder, and how it grew."""
+def stored(capcheck, command, after):
+    """The seconds that it takes to store what a command makes of the package in the last folder, and how it grew."""
     with tempfile.TemporaryDirectory() as out:
-        row = timed([capcheck, "transform", out, *after])
+        row = timed([capcheck, command, out, *after])
         return row + (", " + growth(after[-1], out) if os.path.exists(os.path.join(out, "Header.cap")) else "")
 
 
 def answered(capcheck, command, after):
     """The time of a command on the words after its name, with what it says."""
-    return transformed(capcheck, after) if command == "transform" else timed([capcheck, command, *after])
+    return stored(capcheck, command, after) if command in ("transform", "share") else timed([capcheck, command, *after])
 
 
 def run(usage, commands, shapes, make):
     """Runs a maker on its own words, FOLDER [CAPCHECK [PERCENT]]. `make(shape, share, folder)` makes a shape of
     this share of its full size in the folder, and gives the words that stand after a command's name. Each of the
-    commands, words of one text, is timed on it; `transform` stores in a folder of its own, and its growth is told."""
+    commands, words of one text, is timed on it; `transform` and `share` store in a folder of their own, and the growth is told."""
     words = sys.argv[1:]
     if not 1 <= len(words) <= 3:
         sys.exit(usage)

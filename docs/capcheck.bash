@@ -2,7 +2,7 @@
 _capcheck() {
     local word="${COMP_WORDS[COMP_CWORD]}"
     if ((COMP_CWORD == 1)); then
-        mapfile -t COMPREPLY < <(compgen -W "probe show list asm pack check verify install run defend trial bound transform gen --help" -- "$word")
+        mapfile -t COMPREPLY < <(compgen -W "probe show list asm pack check verify install run defend trial bound transform share gen --help" -- "$word")
         return
     fi
     case "${COMP_WORDS[1]}" in

@@ -1,6 +1,6 @@
 -- A list of words asks for one thing: each number and each argument has one word.
 use Rattle.std.proofs.Common.{◌≡◌, ℕ, ℤ, pos, negsuc, List, [], ◌∷◌, sym, ◌∙◌, ap, arith, rules, codes, subst, refl, FitsSigned, w32}
-use Rattle.std.specs.Prelude.{Ok, ◌+◌, ◌*◌, length}
+use Rattle.std.specs.Prelude.{Ok, ◌+◌, ◌*◌, Bool, true, false, length}
 use Rattle.std.specs.Fmt.{signed_decimal}
 use Rattle.std.specs.Str.Parse.{AllDigits}
 use Rattle.std.proofs.lemmas.Fmt.{decimal_injective, signed_decimal_injective, decimal_is_IsNumeral}
@@ -13,10 +13,10 @@ use Rattle.cap_text.specs.OfDirs.{OfDirsRequest, IsOfDirs}
 use Rattle.cap_text.specs.Entry.{IsEntryWord}
 use Rattle.std.specs.List.{after_first}
 use Rattle.cap_text.specs.Run.{RunRequest, AreRunWords, is_end}
-use Rattle.cap_text.specs.Transform.{TransformRequest, IsTransform}
+use Rattle.cap_text.specs.OutOfDirs.{OutOfDirsRequest, IsOutOfDirs}
 use Rattle.cap_text.specs.Generate.{GenerateRequest, IsGenerate}
 use Rattle.cap_text.specs.EntryWords.{EntryRequest, AreEntryWords}
-use Rattle.cap_text.specs.Request.{Request, probe, show, list, asm, check, verify, defend, run, transform, trial, generate, bound, pack, install, IsRequest, IsUsage, OneRequest}
+use Rattle.cap_text.specs.Request.{Request, probe, show, list, asm, check, verify, defend, run, transform, share, trial, generate, bound, pack, install, takes_arguments, IsRequest, IsUsage, NoneSuch, OneRequest}
 use Rattle.cap_text.specs.declared.entry.Entry.{Entry}
 use Rattle.vm_step.specs.Arguments.{Argument, number, null, bytes}
 use Rattle.hex.specs.Hex.{encode_lower, decode_of, IsBytes}
@@ -110,9 +110,9 @@ one_run (budget ∷ entry ∷ words) r s is_r is_s =
     let same_args : r.args ≡ s.args = one_list (after_first is_end words) r.args s.args is_r.2.arguments is_s.2.arguments in
     λ i. record { budget = steps i; entry = entries i; dirs = same_dirs i; args = same_args i }
 
-one_transform : (operands : List (List ℕ)) (t u : TransformRequest) → IsTransform operands t → IsTransform operands u → t ≡ u
-one_transform [] t u is_t is_u = absurd is_t
-one_transform (out ∷ dirs) t u is_t is_u =
+one_out_of_dirs : (operands : List (List ℕ)) (t u : OutOfDirsRequest) → IsOutOfDirs operands t → IsOutOfDirs operands u → t ≡ u
+one_out_of_dirs [] t u is_t is_u = absurd is_t
+one_out_of_dirs (out ∷ dirs) t u is_t is_u =
     let same_out : t.out ≡ u.out = is_t.0 ∙ sym is_u.0 in
     let same_dirs : t.dirs ≡ u.dirs = is_t.1 ∙ sym is_u.1 in
     λ i. record { out = same_out i; dirs = same_dirs i }
@@ -151,6 +151,7 @@ key_of (verify d) = 11806
 key_of (defend r) = 10006
 key_of (run r) = 11403
 key_of (transform t) = 11609
+key_of (share o) = 11505
 key_of (trial r) = 11605
 key_of (generate g) = 10303
 key_of (bound e) = 9805
@@ -168,46 +169,62 @@ named name operands (verify d) is = ap key is.0
 named name operands (defend r) is = ap key is.0
 named name operands (run r) is = ap key is.0
 named name operands (transform t) is = ap key is.0
+named name operands (share o) is = ap key is.0
 named name operands (trial r) is = ap key is.0
 named name operands (generate g) is = ap key is.0
 named name operands (bound e) is = ap key is.0
 named name operands (pack o) is = ap key is.0
 named name operands (install d) is = ap key is.0
 
--- words that begin with the command's name and are outside its grammar ask for nothing
-only_check : (name : List ℕ) (operands : List (List ℕ)) → name ≡ codes "check" → ((d : OfDirsRequest) → IsOfDirs operands d → ⊥)
-    → (r : Request) → IsRequest (name ∷ operands) r → ⊥
-unfolding first key key_of
-only_check name operands called none (check d) is = none d is.1
-only_check name operands called none r is = eqb-false (key_of r) 9905 refl (sym (named name operands r is) ∙ ap key called)
+-- words that begin with a command's name and are outside its grammar ask for nothing: the commands of one shape with their names
+none_called : (name : List ℕ) (operands : List (List ℕ)) (called : List ℕ) → name ≡ called
+    → ((r : Request) → key_of r ≡ key called → IsRequest (name ∷ operands) r → ⊥) → (r : Request) → IsRequest (name ∷ operands) r → ⊥
+none_called name operands called is none r asks = none r (sym (named name operands r asks) ∙ ap key is) asks
 
-only_verify : (name : List ℕ) (operands : List (List ℕ)) → name ≡ codes "verify" → ((d : OfDirsRequest) → IsOfDirs operands d → ⊥)
-    → (r : Request) → IsRequest (name ∷ operands) r → ⊥
-unfolding first key key_of
-only_verify name operands called none (verify d) is = none d is.1
-only_verify name operands called none r is = eqb-false (key_of r) 11806 refl (sym (named name operands r is) ∙ ap key called)
+only_check : (name : List ℕ) (operands : List (List ℕ)) → ((d : OfDirsRequest) → IsOfDirs operands d → ⊥)
+    → (r : Request) → key_of r ≡ 9905 → IsRequest (name ∷ operands) r → ⊥
+unfolding key_of
+only_check name operands none (check d) e is = none d is.1
+only_check name operands none r e is = eqb-false (key_of r) 9905 refl e
 
-only_install : (name : List ℕ) (operands : List (List ℕ)) → name ≡ codes "install" → ((d : OfDirsRequest) → IsOfDirs operands d → ⊥)
-    → (r : Request) → IsRequest (name ∷ operands) r → ⊥
-unfolding first key key_of
-only_install name operands called none (install d) is = none d is.1
-only_install name operands called none r is = eqb-false (key_of r) 10507 refl (sym (named name operands r is) ∙ ap key called)
+only_verify : (name : List ℕ) (operands : List (List ℕ)) → ((d : OfDirsRequest) → IsOfDirs operands d → ⊥)
+    → (r : Request) → key_of r ≡ 11806 → IsRequest (name ∷ operands) r → ⊥
+unfolding key_of
+only_verify name operands none (verify d) e is = none d is.1
+only_verify name operands none r e is = eqb-false (key_of r) 11806 refl e
 
-none_of : (words : List (List ℕ)) (name : List ℕ) (operands : List (List ℕ)) → words ≡ name ∷ operands
-    → ((r : Request) → IsRequest (name ∷ operands) r → ⊥) → IsUsage words
-none_of words name operands is none r asks = none r (subst (λ ws. IsRequest ws r) is asks)
+only_install : (name : List ℕ) (operands : List (List ℕ)) → ((d : OfDirsRequest) → IsOfDirs operands d → ⊥)
+    → (r : Request) → key_of r ≡ 10507 → IsRequest (name ∷ operands) r → ⊥
+unfolding key_of
+only_install name operands none (install d) e is = none d is.1
+only_install name operands none r e is = eqb-false (key_of r) 10507 refl e
 
-pub no_check : (words : List (List ℕ)) (name : List ℕ) (operands : List (List ℕ)) → words ≡ name ∷ operands → name ≡ codes "check"
-    → ((d : OfDirsRequest) → IsOfDirs operands d → ⊥) → IsUsage words
-no_check words name operands is called none = none_of words name operands is (only_check name operands called none)
+-- whatever command it is, with arguments of a method or without
+none_such : (takes : Bool) (words : List (List ℕ)) → ((r : Request) → IsRequest words r → ⊥) → NoneSuch takes words
+none_such takes words none r e is = none r is
 
-pub no_verify : (words : List (List ℕ)) (name : List ℕ) (operands : List (List ℕ)) → words ≡ name ∷ operands → name ≡ codes "verify"
-    → ((d : OfDirsRequest) → IsOfDirs operands d → ⊥) → IsUsage words
-no_verify words name operands is called none = none_of words name operands is (only_verify name operands called none)
+pub no_check : (name : List ℕ) (operands : List (List ℕ)) → name ≡ codes "check" → ((d : OfDirsRequest) → IsOfDirs operands d → ⊥)
+    → NoneSuch false (name ∷ operands)
+unfolding first key
+no_check name operands is none = none_such false (name ∷ operands) (none_called name operands (codes "check") is (only_check name operands none))
 
-pub no_install : (words : List (List ℕ)) (name : List ℕ) (operands : List (List ℕ)) → words ≡ name ∷ operands → name ≡ codes "install"
-    → ((d : OfDirsRequest) → IsOfDirs operands d → ⊥) → IsUsage words
-no_install words name operands is called none = none_of words name operands is (only_install name operands called none)
+pub no_verify : (name : List ℕ) (operands : List (List ℕ)) → name ≡ codes "verify" → ((d : OfDirsRequest) → IsOfDirs operands d → ⊥)
+    → NoneSuch false (name ∷ operands)
+unfolding first key
+no_verify name operands is none = none_such false (name ∷ operands) (none_called name operands (codes "verify") is (only_verify name operands none))
+
+pub no_install : (name : List ℕ) (operands : List (List ℕ)) → name ≡ codes "install" → ((d : OfDirsRequest) → IsOfDirs operands d → ⊥)
+    → NoneSuch false (name ∷ operands)
+unfolding first key
+no_install name operands is none = none_such false (name ∷ operands) (none_called name operands (codes "install") is (only_install name operands none))
+
+-- where they ask for none with such arguments and for none without, they ask for nothing
+pub none_at_all : (words : List (List ℕ)) → NoneSuch true words → NoneSuch false words → IsUsage words
+none_at_all words with without r is = by (takes_arguments r) refl
+  where
+    by : (b : Bool) → takes_arguments r ≡ b → ⊥
+    by true e = with r e is
+    by false e = without r e is
 
 pub one_request : (words : List (List ℕ)) → OneRequest words
 unfolding key_of
@@ -220,7 +237,8 @@ one_request (name ∷ operands) (check d) (check e) is_r is_s = ap check (one_of
 one_request (name ∷ operands) (verify d) (verify e) is_r is_s = ap verify (one_of_dirs operands d e is_r.1 is_s.1)
 one_request (name ∷ operands) (defend r) (defend s) is_r is_s = ap defend (one_run operands r s is_r.1 is_s.1)
 one_request (name ∷ operands) (run r) (run s) is_r is_s = ap run (one_run operands r s is_r.1 is_s.1)
-one_request (name ∷ operands) (transform t) (transform u) is_r is_s = ap transform (one_transform operands t u is_r.1 is_s.1)
+one_request (name ∷ operands) (transform t) (transform u) is_r is_s = ap transform (one_out_of_dirs operands t u is_r.1 is_s.1)
+one_request (name ∷ operands) (share o) (share p) is_r is_s = ap share (one_out_of_dirs operands o p is_r.1 is_s.1)
 one_request (name ∷ operands) (trial r) (trial s) is_r is_s = ap trial (one_run operands r s is_r.1 is_s.1)
 one_request (name ∷ operands) (generate g) (generate h) is_r is_s = ap generate (one_generate operands g h is_r.1 is_s.1)
 one_request (name ∷ operands) (bound e) (bound f) is_r is_s = ap bound (one_at_entry operands e f is_r.1 is_s.1)

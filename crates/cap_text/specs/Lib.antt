@@ -4,9 +4,9 @@ pub mod EntryWords
 pub mod Probe
 pub mod OfDir
 pub mod OutOfDir
+pub mod OutOfDirs
 pub mod OfDirs
 pub mod Run
-pub mod Transform
 pub mod Request
 pub mod Fault
 pub mod Bare
@@ -20,6 +20,7 @@ pub mod Room
 pub mod Ending
 pub mod Line
 pub mod Transformed
+pub mod Shared
 pub mod Assembled
 pub mod Packed
 pub mod Trial

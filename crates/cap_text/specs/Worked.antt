@@ -16,6 +16,7 @@ use Rattle.cap_text.specs.Table.{component_line}
 use Rattle.cap_text.specs.Line.{malformed_line, malformed_stream_line, not_linked_line, not_started_line, refused_bare_line, typed_line, refused_flow_line}
 use Rattle.cap_text.specs.Line.{bare_ending_line, accepted_line, bound_line, cycle_line, refused_card_line}
 use Rattle.cap_text.specs.Packed.{packed_line, load_limit_line}
+use Rattle.cap_text.specs.Shared.{shared_line}
 use Rattle.cap_text.specs.Transformed.{transformed_line, registers_limit_line, stack_limit_line, part_limit_line}
 use Rattle.card_typing.specs.declared.fault.CardKind.TheVariants as cards
 use Rattle.card_typing.specs.declared.fault.CardKind.TheVariants.{StackAtBranch}
@@ -120,6 +121,10 @@ handler_on_the_card = refl
 two_transformed : transformed_line 2 ≡ codes "transformed 2 methods\n"
 unfolding digits
 two_transformed = refl
+
+fewer_registers : shared_line 2 2 1 ≡ codes "shared 2 methods 2 to 1 registers\n"
+unfolding digits
+fewer_registers = refl
 
 many_registers : registers_limit_line (record { «package» = 1; class_no = 0; method_no = 3 }) 256
     ≡ codes "limit method 0.3 Registers 256\n"

@@ -1,5 +1,5 @@
 -- Where a folder has a listing of methods that fit its package, nothing keeps `asm` from its work but a device that fails, or no memory.
-use Rattle.std.proofs.Common.{◌≡◌, ◌⊎◌, ◌<◌, ℕ, List, [], length, Option, Some, refl, sym, ap, subst, ◌∙◌, inl, inr}
+use Rattle.std.proofs.Common.{◌≡◌, ◌⊎◌, ◌<◌, ℕ, List, [], length, Option, Some, refl, ap, subst, inl, inr}
 use Rattle.std.specs.Prelude.{Err, IfSome, IsSomeAnd, None}
 use Rattle.std.specs.FinMap as map
 use Rattle.cap_files.specs.Counts.{Rose}
@@ -24,8 +24,8 @@ use Rattle.cap_package.specs.StandsFor.{StandsFor}
 use Rattle.cap_text.specs.OutOfDir.{OutOfDirRequest}
 use Rattle.cap_write.specs.WrittenPackage.{IsPartTooLong}
 use Rattle.capcheck_core.specs.declared.verdict.Verdict.{Verdict}
-use Rattle.capcheck_core.specs.declared.verdict.Verdict.TheVariants.{Done, Refused, Limit, Malformed, Usage, ReadFault, StoreFault, Memory}
-use Rattle.capcheck_core.specs.Assemble.{AssemblesBeside, AssemblesPackage, AssemblesText, Fit, HasListing, IsUnassembledBy, OfListing, PutsMethods, StopsAtText}
+use Rattle.capcheck_core.specs.declared.verdict.Verdict.TheVariants.{Done, Limit, Malformed, ReadFault, StoreFault, Memory}
+use Rattle.capcheck_core.specs.Assemble.{AssemblesBeside, AssemblesPackage, AssemblesText, Fit, HasListing, IsUnassembledBy, PutsMethods, StopsAtText}
 use Rattle.capcheck_core.specs.Assemble.{listing_key, listing_tag}
 use Rattle.capcheck_core.specs.Beside.{LacksFile, StopsAtFile}
 use Rattle.capcheck_core.specs.Completeness.{CanAssemble}

@@ -13,12 +13,12 @@ use Rattle.cap_load.specs.Packing as packing
 use Rattle.cap_text.specs.OutOfDir.{OutOfDirRequest}
 use Rattle.cap_text.specs.Probe.{ProbeRequest}
 use Rattle.cap_text.specs.Run.{RunRequest}
-use Rattle.cap_text.specs.Transform.{TransformRequest}
+use Rattle.cap_text.specs.OutOfDirs.{OutOfDirsRequest}
 use Rattle.cap_text.specs.EntryWords.{EntryRequest}
 use Rattle.cap_text.specs.Generate.{GenerateRequest}
-use Rattle.xf_pack.specs.Ends.{IsPartLong}
+use Rattle.xf_pack.specs.Ends.{IsPartLong, IsTypedLast}
 use Rattle.capcheck_core.specs.Generate.{generated, GeneratesIn, Generates}
-use Rattle.cap_text.specs.Request.{Request, probe, show, list, asm, check, verify, defend, run, transform, trial, generate, bound, pack, install}
+use Rattle.cap_text.specs.Request.{Request, probe, show, list, asm, check, verify, defend, run, transform, share, trial, generate, bound, pack, install}
 use Rattle.capcheck_core.specs.declared.folder_fault.FolderFault.TheVariants.{Pack}
 use Rattle.capcheck_core.specs.declared.verdict.Verdict.{Verdict}
 use Rattle.capcheck_core.specs.declared.verdict.Verdict.TheVariants.{Done, Refused, Limit, Malformed, Usage, ReadFault, StoreFault, Memory}
@@ -34,7 +34,7 @@ use Rattle.capcheck_core.specs.World.{Own, of_world, OverWorld}
 use Rattle.capcheck_core.specs.Outside.{Outside}
 use Rattle.capcheck_core.specs.Answers.{Answers, IsVerdict}
 use Rattle.capcheck_core.specs.Assemble.{Assembles}
-use Rattle.capcheck_core.specs.Completeness.{Needs, CanProbe, CanRead, CanAssemble, CanPack, CanOverPlaces, CanBring, CanGenerate, AreWithinLimits, CanDo, NoFault, Completes}
+use Rattle.capcheck_core.specs.Completeness.{Needs, CanProbe, CanRead, CanAssemble, CanPack, CanOverPlaces, CanBring, CanShare, CanGenerate, AreWithinLimits, CanDo, NoFault, Completes}
 use Rattle.capcheck_core.specs.MethodFile.{IsMethodFile}
 use Rattle.capcheck_core.specs.Probe.{ProbesFolder, FailsMethodPart, Probes, OfMethodPart, OfMethod, IsRefusal, IsUnstarted, IsNoMethod, method_key}
 use Rattle.capcheck_core.specs.Report.{Seen, IsReported}
@@ -45,9 +45,9 @@ use Rattle.capcheck_core.specs.Pack.{PacksInto, PacksPackage, Packs}
 use Rattle.capcheck_core.specs.Place.{Place, places, in_components}
 use Rattle.capcheck_core.specs.Roles.{HasBadRoles, roles_key}
 use Rattle.capcheck_core.specs.OverPackage.{OwnOne, StopsAtPackage, OverPackage}
+use Rattle.capcheck_core.specs.Share.{StopsSharing, SharesWorld}
 use Rattle.capcheck_core.specs.Show.{ShowsTable}
 use Rattle.capcheck_core.specs.Listed.{ListsMethods}
-use Rattle.capcheck_core.specs.Typed.{AreTyped}
 use Rattle.capcheck_core.proofs.Assembles.{assembles, no_bad_roles, unstopped}
 use Rattle.capcheck_core.proofs.Loads.{one_list}
 use Rattle.capcheck_core.proofs.MethodFiles.{same_method, no_breach}
@@ -216,7 +216,7 @@ over_world own needs at before after sink put verdict does can calm answers =
 
 module _ (before after : Outside) where
   -- the last step of a check refuses no world in which all methods are typed
-  types : (w : Linked) (verdict : Verdict) → AreTyped w → ChecksWorld w before after verdict → Completed verdict
+  types : (w : Linked) (verdict : Verdict) → IsTypedLast w → ChecksWorld w before after verdict → Completed verdict
   types w (Done text) typed own = inl refl
   types w Memory typed own = inr refl
   types w (Refused text) typed own = absurd (own.1.first.lacks (typed own.1.method own.1.first.asked))
@@ -265,7 +265,7 @@ module _ (before after : Outside) where
   not_stopped packages w _ can stops = absurd stops
 
   -- so a transformation where what it needs is there, and no store fails, does its work
-  brought : (t : TransformRequest) (packages : List PackageRecord) (roles : List ℕ) (w : Linked) (sink put : Seen) (verdict : Verdict)
+  brought : (t : OutOfDirsRequest) (packages : List PackageRecord) (roles : List ℕ) (w : Linked) (sink put : Seen) (verdict : Verdict)
       → NoFault before.folders after.folders sink put → CanBring packages w → TransformsWorld t packages roles w before after verdict
       → Completed verdict
   brought t packages roles w sink put (Done text) calm can own = inl refl
@@ -274,6 +274,25 @@ module _ (before after : Outside) where
   brought t packages roles w sink put (Refused text) calm can own = not_stopped packages w (Refused text) can own.1.1
   brought t packages roles w sink put (Limit text) calm can own = not_stopped packages w (Limit text) can own.1.1
   brought t packages roles w sink put _ calm can own = absurd own.1.1
+
+  -- nor does a package whose methods can share registers keep from it
+  unshared : (packages : List PackageRecord) (w : Linked) (verdict : Verdict) → CanShare packages w → StopsSharing packages w verdict
+      → Completed verdict
+  unshared packages w Memory can stops = inr refl
+  unshared packages w (Refused text) can says = absurd (says.first.lacks (can.carded says.method says.first.asked))
+  unshared packages w (Limit text) can (inl says) = absurd (can.within says.number says.size says.is)
+  unshared packages w (Limit text) can (inr says) = absurd (can.short says.size says.is)
+  unshared packages w _ can stops = absurd stops
+
+  shared : (o : OutOfDirsRequest) (packages : List PackageRecord) (roles : List ℕ) (w : Linked) (sink put : Seen) (verdict : Verdict)
+      → NoFault before.folders after.folders sink put → CanShare packages w → SharesWorld o packages roles w before after verdict
+      → Completed verdict
+  shared o packages roles w sink put (Done text) calm can own = inl refl
+  shared o packages roles w sink put StoreFault calm can own = absurd (calm.stores own.1.broken.rose)
+  shared o packages roles w sink put Memory calm can own = unshared packages w Memory can own.1.1
+  shared o packages roles w sink put (Refused text) calm can own = unshared packages w (Refused text) can own.1.1
+  shared o packages roles w sink put (Limit text) calm can own = unshared packages w (Limit text) can own.1.1
+  shared o packages roles w sink put _ calm can own = absurd own.1.1
 
   -- and so does a trial whose entry begins
   tried : (r : RunRequest) (packages : List PackageRecord) (roles : List ℕ) (w : Linked) (verdict : Verdict)
@@ -316,7 +335,7 @@ can_do (list d) before after sink put verdict can calm answers =
     answers.0
 can_do (asm o) before after sink put verdict can calm answers = can_assemble o before.folders after.folders sink put verdict can calm answers.0
 can_do (check d) before after sink put verdict can calm answers =
-    over_world (of_world ChecksWorld) (λ packages roles w. AreTyped w) (places Components d.dirs) before after sink put verdict
+    over_world (of_world ChecksWorld) (λ packages roles w. IsTypedLast w) (places Components d.dirs) before after sink put verdict
     (λ packages roles w. types before after w verdict) can calm answers
 can_do (verify d) before after sink put verdict can calm answers =
     over_world (of_world VerifiesWorld) (λ packages roles w. HaveCardTypings w) (places Components d.dirs) before after sink put verdict
@@ -330,6 +349,9 @@ can_do (run r) before after sink put verdict can calm answers =
 can_do (transform t) before after sink put verdict can calm answers =
     over_world (TransformsWorld t) (λ packages roles w. CanBring packages w) (places Components t.dirs) before after sink put verdict
     (λ packages roles w. brought before after t packages roles w sink put verdict calm) can calm answers
+can_do (share o) before after sink put verdict can calm answers =
+    over_world (SharesWorld o) (λ packages roles w. CanShare packages w) (places Components o.dirs) before after sink put verdict
+    (λ packages roles w. shared before after o packages roles w sink put verdict calm) can calm answers
 can_do (trial r) before after sink put verdict can calm answers =
     over_world (TriesWorld r) (λ packages roles w. CanBring packages w × (run_fault w r ≡ None)) (places Components r.dirs) before after sink put verdict
     (λ packages roles w has. tried before after r packages roles w verdict has.0 has.1) can calm answers

@@ -4,6 +4,7 @@ pub mod MethodFiles
 pub mod Loads
 pub mod Stores
 pub mod Transforms
+pub mod Sharings
 pub mod Trials
 pub mod PackageLoads
 pub mod OnPackages

@@ -19,7 +19,7 @@ use Rattle.cap_package.specs.Parts.{Lent, held, HasEachOnce}
 use Rattle.cap_text.specs.Assembled.{assembled_line}
 use Rattle.law_package.specs.Rewritten.{IsRewritten}
 use Rattle.cap_text.specs.OutOfDir.{OutOfDirRequest}
-use Rattle.cap_text.specs.Request.{Request, probe, show, list, asm, check, verify, defend, run, transform, trial, generate, bound, pack, install}
+use Rattle.cap_text.specs.Request.{Request, probe, show, list, asm, check, verify, defend, run, transform, share, trial, generate, bound, pack, install}
 use Rattle.jc_base.specs.World.{Linked}
 use Rattle.capcheck_core.specs.declared.source.Source.{Source}
 use Rattle.capcheck_core.specs.declared.source.Source.TheVariants.{Components, LoadFile}
@@ -40,6 +40,7 @@ use Rattle.capcheck_core.specs.Place.{places}
 use Rattle.capcheck_core.specs.Report.{Seen, Received, IsReported}
 use Rattle.capcheck_core.specs.Roles.{roles_tag}
 use Rattle.capcheck_core.specs.Run.{RunsWorld}
+use Rattle.capcheck_core.specs.Share.{SharesWorld}
 use Rattle.capcheck_core.specs.Stores.{with_parts_stored, AreStored, AreInStoreOrder, header_tag}
 use Rattle.capcheck_core.specs.Transform.{TransformsWorld}
 use Rattle.capcheck_core.specs.Trial.{TriesWorld}
@@ -268,6 +269,19 @@ done (transform t) before after text answers =
         parts = is.brings.parts;
         keeps = is.brings.made.keeps;
         kept = are_kept t.out is.brings.parts _ is.stores is.brings.order before.folders after.folders is.stored;
+        prints = is.prints;
+      },
+    )
+done (share o) before after text answers =
+    let of = over (SharesWorld o) o.dirs before after text answers in
+    let is = of.holds.1 in (
+      of.holds.0,
+      record {
+        source = of.world;
+        held = of.held;
+        parts = is.shares.parts;
+        keeps = is.shares.made.keeps;
+        kept = are_kept o.out is.shares.parts _ is.stores is.shares.order before.folders after.folders is.stored;
         prints = is.prints;
       },
     )

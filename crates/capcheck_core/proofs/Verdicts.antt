@@ -2,7 +2,7 @@
 use Rattle.std.proofs.Common.{◌≡◌, List, ℕ, subst, sym, inl, refl}
 use Rattle.std.specs.Prelude.{Result, Ok, Err, IfOk, IsAscii, IsUtf8, MatchResult}
 use Rattle.std.proofs.lemmas.Str.{IsUtf8-from_ascii}
-use Rattle.cap_text.specs.Request.{Request, probe, show, list, asm, check, verify, defend, run, transform, trial, generate, bound, pack, install, IsRequest, OneRequest}
+use Rattle.cap_text.specs.Request.{Request, probe, show, list, asm, check, verify, defend, run, transform, share, trial, generate, bound, pack, install, IsRequest, OneRequest}
 use Rattle.capcheck_core.specs.declared.verdict.Verdict.{Verdict}
 use Rattle.capcheck_core.specs.declared.verdict.Verdict.TheVariants.{Memory}
 use Rattle.capcheck_core.specs.Outside.{Outside, Untouched}
@@ -26,6 +26,7 @@ no_memory (verify d) before after same = inl same
 no_memory (defend r) before after same = inl same
 no_memory (run r) before after same = inl same
 no_memory (transform t) before after same = inl same
+no_memory (share o) before after same = inl same
 no_memory (trial r) before after same = inl same
 no_memory (generate g) before after same = inl (same, refl)
 no_memory (bound e) before after same = inl same

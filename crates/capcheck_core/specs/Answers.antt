@@ -1,6 +1,6 @@
 -- What each command may answer, and what it leaves as it was.
 use Rattle.std.specs.Prelude.{◌≡◌, ℕ, List}
-use Rattle.cap_text.specs.Request.{Request, probe, show, list, asm, check, verify, defend, run, transform, trial, generate, bound, pack, install, IsRequest, IsUsage}
+use Rattle.cap_text.specs.Request.{Request, probe, show, list, asm, check, verify, defend, run, transform, share, trial, generate, bound, pack, install, IsRequest, IsUsage}
 use Rattle.capcheck_core.specs.declared.verdict.Verdict.{Verdict}
 use Rattle.capcheck_core.specs.declared.verdict.Verdict.TheVariants.{Usage, Memory}
 use Rattle.capcheck_core.specs.Outside.{Outside, Untouched}
@@ -13,6 +13,7 @@ use Rattle.capcheck_core.specs.Verify.{Verifies}
 use Rattle.capcheck_core.specs.Defend.{Defends}
 use Rattle.capcheck_core.specs.Run.{RunsVerified}
 use Rattle.capcheck_core.specs.Transform.{Transforms}
+use Rattle.capcheck_core.specs.Share.{Shares}
 use Rattle.capcheck_core.specs.Trial.{Tries}
 use Rattle.capcheck_core.specs.Generate.{Generates}
 use Rattle.capcheck_core.specs.Bounding.{Bounds}
@@ -30,6 +31,7 @@ Answers (verify d) before after verdict = Verifies d before after verdict
 Answers (defend r) before after verdict = Defends r before after verdict
 Answers (run r) before after verdict = RunsVerified r before after verdict
 Answers (transform t) before after verdict = Transforms t before after verdict
+Answers (share o) before after verdict = Shares o before after verdict
 Answers (trial r) before after verdict = Tries r before after verdict
 Answers (generate g) before after verdict = Generates g before after verdict
 Answers (bound e) before after verdict = Bounds e before after verdict

@@ -1,5 +1,5 @@
 -- A file of a folder beside the components of which its Directory tells: the roles of classes, a Load file, a listing.
-use Rattle.std.specs.Prelude.{◌≡◌, ℕ, ◌≤◌, List, ◌∷◌, length, string_bytes, ◌⊎◌}
+use Rattle.std.specs.Prelude.{◌≡◌, ℕ, List, ◌∷◌, string_bytes, ◌⊎◌}
 use Rattle.cap_components.specs.declared.fault.PackFault.{PackFault}
 use Rattle.cap_components.specs.declared.fault.PackFault.TheVariants.{MissingPart, PartTooLong}
 use Rattle.cap_files.specs.Folder.{Folders, IsAbsent, IsTooLong, LoadFails}

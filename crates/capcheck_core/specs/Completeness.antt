@@ -12,7 +12,7 @@ use Rattle.cap_load.specs.Packing.{IsTooLong}
 use Rattle.cap_text.specs.OutOfDir.{OutOfDirRequest}
 use Rattle.cap_text.specs.Probe.{ProbeRequest}
 use Rattle.cap_text.specs.Generate.{GenerateRequest}
-use Rattle.cap_text.specs.Request.{Request, probe, show, list, asm, check, verify, defend, run, transform, trial, generate, bound, pack, install, IsRequest}
+use Rattle.cap_text.specs.Request.{Request, probe, show, list, asm, check, verify, defend, run, transform, share, trial, generate, bound, pack, install, IsRequest}
 use Rattle.cap_package.specs.Parts.{Lent}
 use Rattle.cap_package.specs.PackageRecord.{PackageRecord}
 use Rattle.cap_package.specs.StandsFor.{StandsFor}
@@ -20,8 +20,9 @@ use Rattle.jc_base.specs.World.{Linked}
 use Rattle.jc_control.specs.Method.{Method}
 use Rattle.jc_control.specs.Asked.{IsOfLast}
 use Rattle.xf_pack.specs.declared.end.MethodLimit.{MethodLimit}
-use Rattle.xf_pack.specs.Ends.{AreAcceptedLibraries, IsPartLong}
+use Rattle.xf_pack.specs.Ends.{AreAcceptedLibraries, IsPartLong, IsTypedLast}
 use Rattle.xf_pack.specs.Limits.{PassesLimit}
+use Rattle.xf_share.specs.Ends.{IsSharedTooLong, IsSharedPartLong}
 use Rattle.cap_gen.specs.Linked.{roles}
 use Rattle.cap_write.specs.WrittenPackage.{IsPartTooLong}
 use Rattle.jc_link.specs.World.{IsLinked}
@@ -38,7 +39,6 @@ use Rattle.capcheck_core.specs.Probe.{method_key}
 use Rattle.capcheck_core.specs.Report.{Seen}
 use Rattle.capcheck_core.specs.Roles.{HasRoles}
 use Rattle.capcheck_core.specs.Shorts.{AreShorts}
-use Rattle.capcheck_core.specs.Typed.{AreTyped}
 use Rattle.capcheck_core.specs.Verify.{HaveCardTypings}
 use Rattle.capcheck_core.specs.World.{MakeWorld}
 
@@ -120,9 +120,15 @@ AreWithinLimits w = (m : Method) → IsOfLast w m → (limit : MethodLimit) → 
 -- the libraries are accepted, every method with code of the last package has a typing, and no limit is passed
 pub record CanBring (packages : List PackageRecord) (w : Linked) : Type 0 where
   pub accepted : AreAcceptedLibraries w
-  pub typed : AreTyped w
+  pub typed : IsTypedLast w
   pub within : AreWithinLimits w
   pub short : (n : ℕ) → IsPartLong packages w n → ⊥
+
+-- every method with code has a card typing, and neither the code of a method nor the Method component gets too long
+pub record CanShare (packages : List PackageRecord) (w : Linked) : Type 0 where
+  pub carded : HaveCardTypings w
+  pub within : (number n : ℕ) → IsSharedTooLong w number n → ⊥
+  pub short : (n : ℕ) → IsSharedPartLong packages w n → ⊥
 
 -- no limit is passed on the way to the form that a verifier on the card accepts
 abbrev pub CanGenerate : GenerateRequest → Type 0
@@ -136,11 +142,12 @@ CanDo (probe p) before = CanProbe p before
 CanDo (show d) before = CanRead d.dir before
 CanDo (list d) before = CanRead d.dir before
 CanDo (asm o) before = CanAssemble o before
-CanDo (check d) before = CanOver (λ packages roles w. AreTyped w) d.dirs before
+CanDo (check d) before = CanOver (λ packages roles w. IsTypedLast w) d.dirs before
 CanDo (verify d) before = CanOver (λ packages roles w. HaveCardTypings w) d.dirs before
 CanDo (defend r) before = CanOver (λ packages roles w. run_fault w r ≡ None) r.dirs before
 CanDo (run r) before = CanOver (λ packages roles w. HaveCardTypings w × (run_fault w r ≡ None)) r.dirs before
 CanDo (transform t) before = CanOver (λ packages roles w. CanBring packages w) t.dirs before
+CanDo (share o) before = CanOver (λ packages roles w. CanShare packages w) o.dirs before
 CanDo (trial r) before = CanOver (λ packages roles w. CanBring packages w × (run_fault w r ≡ None)) r.dirs before
 CanDo (generate g) before = CanGenerate g
 CanDo (bound e) before = CanOver (λ packages roles w. HaveCardTypings w × (bound_fault w e ≡ None)) e.dirs before

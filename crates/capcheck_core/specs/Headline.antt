@@ -17,22 +17,26 @@ use Rattle.cap_text.specs.EntryWords.{EntryRequest}
 use Rattle.cap_text.specs.Generate.{GenerateRequest}
 use Rattle.cap_text.specs.Line.{accepted_line, typed_line}
 use Rattle.cap_text.specs.Probe.{ProbeRequest}
-use Rattle.cap_text.specs.Request.{Request, probe, show, list, asm, check, verify, defend, run, transform, trial, generate, bound, pack, install, IsRequest}
+use Rattle.cap_text.specs.Request.{Request, probe, show, list, asm, check, verify, defend, run, transform, share, trial, generate, bound, pack, install, IsRequest}
 use Rattle.cap_text.specs.Run.{RunRequest}
 use Rattle.cap_text.specs.Assembled.{assembled_line}
 use Rattle.cap_text.specs.OfDir.{OfDirRequest}
 use Rattle.cap_text.specs.OfDirs.{OfDirsRequest}
 use Rattle.cap_text.specs.OutOfDir.{OutOfDirRequest}
 use Rattle.cap_text.specs.Packed.{packed_line}
+use Rattle.cap_text.specs.Shared.{shared_line}
 use Rattle.cap_text.specs.Table.{component_table}
-use Rattle.cap_text.specs.Transform.{TransformRequest}
+use Rattle.cap_text.specs.OutOfDirs.{OutOfDirsRequest}
 use Rattle.cap_text.specs.Transformed.{transformed_line}
 use Rattle.cap_text.specs.Trial.{trial_text}
 use Rattle.jc_base.specs.World.{Linked}
 use Rattle.jc_link.specs.World.{IsLinked}
 use Rattle.law_package.specs.Rewritten.{IsRewritten}
+use Rattle.law_shared_world.specs.SharedCode.{locals_of_last}
 use Rattle.law_sound.specs.Soundness.{IsFaultFree}
+use Rattle.xf_pack.specs.Ends.{IsTypedLast}
 use Rattle.xf_pack.specs.Transformed.{KeepsBehaviour}
+use Rattle.xf_share.specs.Shared.{KeepsRuns}
 use Rattle.capcheck_core.specs.declared.source.Source.{Source}
 use Rattle.capcheck_core.specs.declared.source.Source.TheVariants.{Components, LoadFile}
 use Rattle.capcheck_core.specs.Assemble.{listing_key}
@@ -49,7 +53,7 @@ use Rattle.capcheck_core.specs.Report.{Seen, Received}
 use Rattle.capcheck_core.specs.Roles.{HasRoles, roles_tag}
 use Rattle.capcheck_core.specs.Run.{IsLeft, with_budget}
 use Rattle.capcheck_core.specs.Transform.{roles_beside}
-use Rattle.capcheck_core.specs.Typed.{AreTyped, count_of_last}
+use Rattle.capcheck_core.specs.Typed.{count_of_last}
 use Rattle.capcheck_core.specs.Verify.{count_of_world, HaveCardTypings}
 
 -- ---- what the folders hold
@@ -111,18 +115,28 @@ pub record Bounded (e : EntryRequest) (before : Folders) (text : List ℕ) : Typ
 pub record Typed (d : OfDirsRequest) (before : Folders) (text : List ℕ) : Type 0 where
   pub world : Linked
   pub held : HoldWorld before d.dirs world
-  pub typed : AreTyped world
+  pub typed : IsTypedLast world
   pub prints : text ≡ typed_line (count_of_last world)
 
 -- `transform`: the libraries are accepted and the last package has its typings; what is stored makes a world with the libraries in which
 -- every method with code has a card typing, and each run ends there as it does in the source
-pub record Transformed (t : TransformRequest) (before after : Folders) (text : List ℕ) : Type 0 where
+pub record Transformed (t : OutOfDirsRequest) (before after : Folders) (text : List ℕ) : Type 0 where
   pub source : Linked
   pub held : HoldWorld before t.dirs source
   pub parts : List Lent
   pub keeps : KeepsBehaviour held.packages held.roles source parts
   pub kept : AreKept t.out parts (roles_beside held.packages held.roles) before after
   pub prints : text ≡ transformed_line (count_of_last source)
+
+-- `share`: every method with code has a card typing. What is stored makes a world with the libraries in which every one has a card typing
+-- too, and no more registers than before; and each run ends there in step with that in the source
+pub record Shared (o : OutOfDirsRequest) (before after : Folders) (text : List ℕ) : Type 0 where
+  pub source : Linked
+  pub held : HoldWorld before o.dirs source
+  pub parts : List Lent
+  pub keeps : KeepsRuns held.packages held.roles source parts
+  pub kept : AreKept o.out parts (roles_beside held.packages held.roles) before after
+  pub prints : text ≡ shared_line (count_of_last source) (locals_of_last source) (locals_of_last keeps.world)
 
 -- `defend`: the run begins, and the text tells what comes of it on a machine that tests what it does
 pub record Defended (r : RunRequest) (before : Folders) (text : List ℕ) : Type 0 where
@@ -220,6 +234,7 @@ Promise (verify d) before after text = Untouched before after × Accepted Compon
 Promise (defend r) before after text = Untouched before after × Defended r before.folders text
 Promise (run r) before after text = (after.folders ≡ before.folders) × Ran r before.folders after.card text
 Promise (transform t) before after text = (after.card ≡ before.card) × Transformed t before.folders after.folders text
+Promise (share o) before after text = (after.card ≡ before.card) × Shared o before.folders after.folders text
 Promise (trial r) before after text = (after.folders ≡ before.folders) × Tried r before.folders after.card text
 Promise (generate g) before after text = Generated g before.folders after text
 Promise (bound e) before after text = Untouched before after × Bounded e before.folders text

@@ -33,6 +33,7 @@ pub mod Defend
 pub mod Run
 pub mod Stores
 pub mod Transform
+pub mod Share
 pub mod Trial
 pub mod Generate
 pub mod CheckEnds

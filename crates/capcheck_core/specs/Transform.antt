@@ -12,7 +12,7 @@ use Rattle.xf_pack.specs.Ends.{IsRefusedLibrary, IsUntypedLast, IsLimited, IsPar
 use Rattle.xf_pack.specs.Transformed.{IsTransformed}
 use Rattle.cap_text.specs.declared.line.MethodNumber.{MethodNumber}
 use Rattle.cap_text.specs.Line.{refused_card_line, refused_flow_line}
-use Rattle.cap_text.specs.Transform.{TransformRequest}
+use Rattle.cap_text.specs.OutOfDirs.{OutOfDirsRequest}
 use Rattle.cap_text.specs.Transformed.{transformed_line, registers_limit_line, stack_limit_line, code_limit_line, part_limit_line}
 use Rattle.capcheck_core.specs.declared.verdict.Verdict.{Verdict}
 use Rattle.capcheck_core.specs.declared.verdict.Verdict.TheVariants.{Done, Refused, Limit, StoreFault, Memory}
@@ -97,10 +97,10 @@ TransformsIn packages roles w out before after StoreFault = IsBroughtInPart pack
 TransformsIn packages roles w out before after verdict = (after ≡ before) × StopsBefore packages w verdict
 
 -- its last step: it leaves the memory of the card as it is
-abbrev pub TransformsWorld : TransformRequest → Own
+abbrev pub TransformsWorld : OutOfDirsRequest → Own
 TransformsWorld t packages roles w before after verdict =
     (after.card ≡ before.card) × TransformsIn packages roles w t.out before.folders after.folders verdict
 
 -- the outside is as it was when the command began, and as it is afterwards
-abbrev pub Transforms : TransformRequest → Outside → Outside → Verdict → Type 0
+abbrev pub Transforms : OutOfDirsRequest → Outside → Outside → Verdict → Type 0
 Transforms t before after verdict = OverFolders (OverWorld (TransformsWorld t)) t.dirs before after verdict

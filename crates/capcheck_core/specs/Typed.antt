@@ -9,18 +9,16 @@ use Rattle.jc_flow.specs.declared.end.FlowEnd.{FlowEnd}
 use Rattle.jc_flow.specs.declared.end.FlowEnd.TheVariants.{Memory}
 use Rattle.jc_flow.specs.Infer.{TellsEnd}
 use Rattle.cap_text.specs.declared.line.MethodNumber.{MethodNumber}
-use Rattle.jc_control.specs.Asked.{AllHave, AllHaveBelow, IsFirstWithout, IsOfLast}
+use Rattle.xf_pack.specs.Ends.{IsTypedLast}
+use Rattle.jc_control.specs.Asked.{AllHaveBelow, IsFirstWithout, IsOfLast}
 use Rattle.cap_text.specs.Line.{typed_line, refused_flow_line}
 
 -- a method with code, of the last package, as a test of a record, where there are so many packages
 abbrev pub is_of_last : ℕ → MethodRec → Bool
 is_of_last packages rec = rec.package + 1 == packages && nat_lt 0 rec.code_len
 
--- every method with code of the last package has a typing, in which each register that is no argument starts as Top
-abbrev pub AreTyped : Linked → Type 0
-AreTyped w = AllHave (IsOfLast w) (λ m. HasFlowTyping w m Top)
-
--- the same of those that are numbered below this
+-- every method with code of the last package that is numbered below this has a typing, in which each register that is no argument starts
+-- as Top
 abbrev pub AreTypedBelow : Linked → ℕ → Type 0
 AreTypedBelow w n = AllHaveBelow (IsOfLast w) (λ m. HasFlowTyping w m Top) n
 
@@ -30,7 +28,7 @@ count_of_last w = count_by (is_of_last (length w.infos)) w.methods
 
 -- each of them has a typing, and the text says how many they are
 pub record TellsTyped (w : Linked) (text : List ℕ) : Type 0 where
-  pub typed : AreTyped w
+  pub typed : IsTypedLast w
   pub prints : text ≡ typed_line (count_of_last w)
 
 -- a method by the numbers of its Descriptor

@@ -21,6 +21,7 @@ use crate::packing::PackStep;
 use crate::probe::probe;
 use crate::report::report;
 use crate::running::RunStep;
+use crate::sharing::ShareStep;
 use crate::show::ShowStep;
 use crate::source::Source;
 use crate::transforming::TransformStep;
@@ -130,6 +131,9 @@ fn perform<F: Folder>(
         Command::Run(run) => over_folders(alloc, &RunStep { run }, run.dirs, folder, card),
         Command::Transform(asked) => {
             over_folders(alloc, &TransformStep { asked }, asked.dirs, folder, card)
+        }
+        Command::Share(asked) => {
+            over_folders(alloc, &ShareStep { asked }, asked.dirs, folder, card)
         }
         Command::Trial(run) => over_folders(alloc, &TrialStep { run }, run.dirs, folder, card),
         Command::Generate(operands) => generate_and_run(alloc, operands, folder, card),

@@ -22,6 +22,7 @@ mod probe;
 mod report;
 mod rest;
 mod running;
+mod sharing;
 mod shorts;
 mod show;
 mod source;

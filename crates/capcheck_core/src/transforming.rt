@@ -14,7 +14,7 @@ use crate::verdict::Verdict;
 use cap_files::Folder;
 use cap_package::{OwnedParts, Packages};
 use cap_text::{
-    MethodNumber, Transform, limit_code, limit_part, limit_registers, limit_stack, not_linked,
+    MethodNumber, OutOfDirs, limit_code, limit_part, limit_registers, limit_stack, not_linked,
     refused_card, refused_flow, transformed,
 };
 use jc_base::World;
@@ -24,14 +24,14 @@ use xf_pack::{MethodLimit, TransformEnd, transform_linked};
 /// The last step of `transform`: it stores the last package in the form that a verifier on the card accepts.
 #[derive(Clone, Copy)]
 pub(crate) struct TransformStep<'a> {
-    pub asked: &'a Transform<'a>,
+    pub asked: &'a OutOfDirs<'a>,
 }
 
 impl LastStep for TransformStep<'_> {
-    ghost use Rattle.cap_text.specs.Transform.{transform_request};
+    ghost use Rattle.cap_text.specs.OutOfDirs.{out_of_dirs_request};
     ghost use Rattle.capcheck_core.specs.Transform.{TransformsWorld};
 
-    ghost own = { λ s. TransformsWorld (transform_request s.asked.now) };
+    ghost own = { λ s. TransformsWorld (out_of_dirs_request s.asked.now) };
 
     fn take<F: Folder>(
         &self,
@@ -90,8 +90,8 @@ fn store_last<F: Folder>(
     }
 }
 
-// The roles, where they are stored beside the package: it is the only one.
-fn roles_beside<'a>(packages: &Packages<'_, '_>, roles: &'a [u8; 8]) -> Option<&'a [u8]>
+/// The roles, where they are stored beside the package: it is the only one.
+pub(crate) fn roles_beside<'a>(packages: &Packages<'_, '_>, roles: &'a [u8; 8]) -> Option<&'a [u8]>
     ensures { option_copied result ≡ roles_beside packages.now roles.now }
 {
     if packages.len() == 1 {
@@ -101,8 +101,8 @@ fn roles_beside<'a>(packages: &Packages<'_, '_>, roles: &'a [u8; 8]) -> Option<&
     }
 }
 
-// How many methods with code the last package has.
-fn count_of_last(world: &World<'_>) -> u16
+/// How many methods with code the last package has.
+pub(crate) fn count_of_last(world: &World<'_>) -> u16
     ensures { result ≡ count_of_last world.now }
 {
     let mut count = 0u16;

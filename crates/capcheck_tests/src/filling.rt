@@ -229,6 +229,8 @@ pub(crate) enum Kept {
     WithRoles,
     /// The same, and with the listing of its methods.
     Listed,
+    /// The same, and with this listing.
+    Listing(&'static str),
     /// The base package of the examples in `R`, with its roles, and the counter in `C`.
     Counter,
     /// This Method component in `P`.
@@ -247,16 +249,20 @@ fn put_files(folder: &mut MemFolder, dir: &str, files: &[File<'_>]) -> bool {
     fits
 }
 
+/// Puts package T with its roles and a listing.
+fn put_listed(folder: &mut MemFolder, text: &str) -> bool {
+    put_files(folder, "T", &PLAIN)
+        & folder.set("T", ROLES, &PLAIN_ROLES)
+        & folder.set("T", LISTED, text.as_bytes())
+}
+
 /// Fills folders, and tells whether there was room for all.
 pub(crate) fn keep(folder: &mut MemFolder, kept: &Kept) -> bool {
     match kept {
         Kept::Plain => put_files(folder, "T", &PLAIN),
         Kept::WithRoles => put_files(folder, "T", &PLAIN) & folder.set("T", ROLES, &PLAIN_ROLES),
-        Kept::Listed => {
-            put_files(folder, "T", &PLAIN)
-                & folder.set("T", ROLES, &PLAIN_ROLES)
-                & folder.set("T", LISTED, LISTING.as_bytes())
-        }
+        Kept::Listed => put_listed(folder, LISTING),
+        Kept::Listing(text) => put_listed(folder, text),
         Kept::Counter => {
             put_files(folder, "R", &RUNTIME)
                 & folder.set("R", ROLES, &RUNTIME_ROLES)

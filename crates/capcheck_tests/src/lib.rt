@@ -52,6 +52,7 @@ mod run_tests;
 #[cfg(test)]
 mod runs;
 #[cfg(test)]
+mod share_tests;
 mod show_tests;
 #[cfg(test)]
 mod small_packages;

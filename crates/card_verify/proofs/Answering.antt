@@ -102,30 +102,6 @@ module _ (v : Verifier) where
         subst (λ (f : CardFault). IsRefused (world_of v) (method v) f (frame_of regs stack fault.depth)) (sym t.2)
         (refused_flaw t.0 (frame_of regs stack fault.depth) t.1)
 
--- ---- a method of the world
-
-module _ (w : Linked) (n : ℕ) (rec : MethodRec) (code : List ℕ) (here : slice_get w.methods n ≡ Some rec)
-    (bytes : option_map (code_of w.infos) (slice_get w.methods n) ≡ Some code) where
-  own-code : code_of w.infos rec ≡ code
-  own-code = same_Some _ _ (ap (option_map (code_of w.infos)) (sym here) ∙ bytes)
-
-  method-is : method_in w n ≡ Some (record { number = n; rec = rec; code = code })
-  method-is = ap (option_map (method_with w n)) here ∙ ap (λ (c : List ℕ). Some (record { number = n; rec = rec; code = c })) own-code
-
-  pub to-method : (P : Method → Type 0) → P (record { number = n; rec = rec; code = code }) → IsSomeAnd (method_in w n) P
-  to-method P h = subst (λ (o : Option Method). IsSomeAnd o P) (sym method-is) h
-
-  pub record-fact : (P : MethodRec → Type 0) → IsSomeAnd (slice_get w.methods n) P → P rec
-  record-fact P h = subst (λ (o : Option MethodRec). IsSomeAnd o P) here h
-
-  pub is-method : length code ≡ rec.code_len → IsSomeAnd (slice_get w.methods n) (λ m. 0 < m.code_len)
-      → IsMethodOf w (record { number = n; rec = rec; code = code })
-  is-method len has = let filled = record-fact (λ m. 0 < m.code_len) has in record { rec = here; code = sym own-code; filled = omega (arith, len, filled) }
-
-pub own-length : (w : Linked) (n : ℕ) (rec : MethodRec) (code bytes : List ℕ) → slice_get w.methods n ≡ Some rec → code ≡ bytes
-    → IfSome (slice_get w.methods n) (λ m. length bytes ≡ m.code_len) → length code ≡ rec.code_len
-own-length w n rec code bytes here same h = ap length same ∙ subst (λ (o : Option MethodRec). IfSome o (λ m. length bytes ≡ m.code_len)) here h
-
 -- ---- the methods of a world
 
 accepted-at : (w : Linked) (n : ℕ) (rec : MethodRec) (regs : List Ty) (r : Result (Unit {0}) CardFault)

@@ -8,3 +8,4 @@ pub mod FlawLaws
 pub mod Growing
 pub mod Closing
 pub mod Living
+pub mod OwnMethod

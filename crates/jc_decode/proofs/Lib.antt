@@ -29,3 +29,5 @@ pub mod InstructionLists
 pub mod FewTargets
 pub mod NameTable
 pub mod PlainLengths
+pub mod KeySearches
+pub mod Readings

@@ -2,7 +2,7 @@
 -- after the other, the highest byte first, then the table of a switch.
 use Rattle.std.specs.Prelude.{[], ◌∷◌, slice_index, ◌<◌, ◌≤◌, ℕ, ◌+◌, ◌-◌, ◌*◌, ◌/◌, ◌%◌, ◌<◌}
 use Rattle.std.specs.Prelude.{◌≡◌, ◌^◌, ℤ, pos, ◌-ℤ◌, int_lt, unsigned_abs, negsuc, List, length, Option, Some, None}
-use Rattle.std.specs.Prelude.{Result, Ok, Err, Bool, true, not, ◌||◌, ◌&&◌, ◌==◌, nat_le, if◌then◌else◌, FitsSigned}
+use Rattle.std.specs.Prelude.{Result, Ok, Err, Bool, true, false, not, ◌||◌, ◌&&◌, ◌==◌, nat_le, if◌then◌else◌, FitsSigned}
 use Rattle.std.proofs.Common.{refl}
 use Rattle.std.specs.List.{find, range_with_len}
 use Rattle.std.specs.Result.{result_unwrap_or}
@@ -17,6 +17,7 @@ use Rattle.jc_decode.specs.declared.layout.Layout.{Layout}
 use Rattle.jc_decode.specs.declared.insn.CodeEnd.{CodeEnd}
 use Rattle.jc_decode.specs.declared.insn.CodeEnd.TheVariants.{Cut, BadOperand, NoOpcode, OutOfScope}
 use Rattle.jc_decode.specs.declared.insn.Insn.{Insn}
+use Rattle.jc_decode.specs.declared.insn.Operands.{Operands}
 use Rattle.jc_decode.specs.Layout.{opcode, operand_width, total_width, layout_of}
 
 infixl 10 ◌>>=◌
@@ -134,6 +135,26 @@ decoded_as op l xs at = do
   z ← operand_at l.z xs (at + 1 + operand_width l.x + operand_width l.y)
   end ← table_end l xs table y z
   Ok (record { op = op; x = x; y = y; z = z; len = end - at })
+
+abbrev pub decoded_by : ℕ → Result Layout CodeEnd → List ℕ → ℕ → Result Insn CodeEnd
+decoded_by op (Ok l) xs at = decoded_as op l xs at
+decoded_by op (Err e) xs at = Err e
+
+-- an opcode with its operands
+abbrev pub with_operands : ℕ → Operands → Insn
+with_operands op o = record { op = op; x = o.x; y = o.y; z = o.z; len = o.len }
+
+abbrev pub with_operands_or : ℕ → Result Operands CodeEnd → Result Insn CodeEnd
+with_operands_or op (Ok o) = Ok (with_operands op o)
+with_operands_or op (Err e) = Err e
+
+-- whether the bytes of an operand are tested
+abbrev pub is_tested : Operand → Bool
+is_tested DupWords = true
+is_tested SwapWords = true
+is_tested ArrayType = true
+is_tested TestedType = true
+is_tested _ = false
 
 -- the instruction at a place of the code, or why there is none
 unfoldable pub decoded : List ℕ → ℕ → Result Insn CodeEnd

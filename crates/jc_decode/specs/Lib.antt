@@ -2,7 +2,9 @@ pub mod Layout
 pub mod Names
 pub mod Decoding
 pub mod Untested
+pub mod Reading
 pub mod Cases
+pub mod Keys
 pub mod Listing
 pub mod Places
 pub mod Instructions

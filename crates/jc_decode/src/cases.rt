@@ -86,7 +86,7 @@ pub fn case(code: View, at: u16, insn: Insn, n: u32) -> Option<Case>
     }
 }
 
-fn range_case(code: View, table: u32, insn: Insn, n: u32) -> Case
+pub(crate) fn range_case(code: View, table: u32, insn: Insn, n: u32) -> Case
     requires order { insn.y ≤ℤ insn.z }
     requires counted { n < range_count insn.y insn.z }
     requires inside { table + 2 * n ≤ 65535 }
@@ -98,7 +98,7 @@ fn range_case(code: View, table: u32, insn: Insn, n: u32) -> Case
     }
 }
 
-fn pair_case(code: View, table: u32, key: Operand, n: u32) -> Case
+pub(crate) fn pair_case(code: View, table: u32, key: Operand, n: u32) -> Case
     requires inside { table + pair_width key * n ≤ 65535 }
     ensures { result ≡ pair_case code.entry.bytes.now table key n }
 {

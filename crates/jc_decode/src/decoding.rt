@@ -1,12 +1,12 @@
 ghost use Rattle.std.specs.Prelude.{◌≤ℤ◌, IsTrue, ◌≡◌, ◌+◌, ◌*◌, ◌^◌, ◌<◌, ◌≤◌, ◌-◌, length, IfOk, IfErr, Ok, Err, pos, if◌then◌else◌};
 ghost use Rattle.cap_bytes.specs.Number.{number_at};
 ghost use Rattle.jc_decode.specs.Layout.{layout_of, one, operand_width};
-ghost use Rattle.jc_decode.specs.Decoding.{is_dup_words, is_swap_words, is_array_type, is_tested_type, or_cut, within_bytes, bad_operand, operand_at, pair_width, key_at, rises, pairs_end, table_end, decoded, decoded_as, Begins, FitsLayout, FitsOperand, IsWithin, AreBytes};
+ghost use Rattle.jc_decode.specs.Decoding.{is_dup_words, is_swap_words, is_array_type, is_tested_type, or_cut, within_bytes, bad_operand, operand_at, pair_width, key_at, rises, pairs_end, table_end, decoded, decoded_as, decoded_by, is_tested, with_operands_or, Begins, FitsLayout, FitsOperand, IsWithin, AreBytes};
 ghost use Rattle.jc_decode.specs.Cases.{cases, is_table_switch, KeysRise};
 ghost use Rattle.jc_decode.specs.Refusal.{RefusesBytes};
 ghost use Rattle.jc_decode.specs.Encoding.{IsAllowed};
 
-use crate::insn::{CodeEnd, Insn};
+use crate::insn::{CodeEnd, Insn, Operands};
 use crate::layout::{Cases, Layout, Operand};
 use cap_bytes::View;
 
@@ -40,38 +40,52 @@ fn insn_at(code: View, at: u32) -> Result<Insn, CodeEnd>
     ensures { result ≡ decoded code.entry.bytes.now at }
 {
     let op = u1(code, at)?;
+    match operands(code, at, op) {
+        Ok(operands) => Ok(operands.of_opcode(op)),
+        Err(end) => Err(end),
+    }
+}
+
+/// The operands of an opcode at a place.
+#[inline(always)]
+fn operands(code: View, at: u32, op: u8) -> Result<Operands, CodeEnd>
+    requires short { length code.bytes.now ≤ 65535 }
+    requires place { at ≤ 65535 }
+    ensures { with_operands_or op result ≡ decoded_by op (layout_of op) code.entry.bytes.now at }
+{
     let layout = Layout::of(op)?;
     if layout.has_one() {
         with_one(code, at, op, layout.x)
     } else {
-        with_more(code, at, op, layout)
+        with_more(code, at, op)
     }
 }
 
-/// The instruction of an opcode at a place, with no operand but the first.
+/// Of an opcode with no operand but the first.
 #[inline(always)]
-fn with_one(code: View, at: u32, op: u8, x: Operand) -> Result<Insn, CodeEnd>
+fn with_one(code: View, at: u32, op: u8, x: Operand) -> Result<Operands, CodeEnd>
     requires short { length code.bytes.now ≤ 65535 }
     requires place { at ≤ 65535 }
-    ensures { result ≡ decoded_as op (one x) code.entry.bytes.now at }
+    ensures { with_operands_or op result ≡ decoded_as op (one x) code.entry.bytes.now at }
 {
-    let end = reach(code, u64::from(at + 1 + x.width()))?;
-    let x = x.read(code, at + 1)?;
-    Ok(Insn {
-        op,
-        x,
+    let _end = reach(code, u64::from(at + 1 + x.width()))?;
+    let operand = x.read_within(code, at + 1)?;
+    Ok(Operands {
+        x: operand,
         y: 0,
         z: 0,
-        len: end - at,
+        len: 1 + x.width(),
     })
 }
 
-/// The instruction of an opcode at a place, with these operands.
-fn with_more(code: View, at: u32, op: u8, layout: Layout) -> Result<Insn, CodeEnd>
+/// Of an opcode with any operands. The layout is read again, so that none is handed over in memory.
+#[inline(never)]
+fn with_more(code: View, at: u32, op: u8) -> Result<Operands, CodeEnd>
     requires short { length code.bytes.now ≤ 65535 }
     requires place { at ≤ 65535 }
-    ensures { result ≡ decoded_as op layout code.entry.bytes.now at }
+    ensures { with_operands_or op result ≡ decoded_by op (layout_of op) code.entry.bytes.now at }
 {
+    let layout = Layout::of(op)?;
     let operands = at + 1;
     let table = reach(code, u64::from(operands + layout.width()))?;
     let x = layout.x.read(code, operands)?;
@@ -80,8 +94,7 @@ fn with_more(code: View, at: u32, op: u8, layout: Layout) -> Result<Insn, CodeEn
         .z
         .read(code, operands + layout.x.width() + layout.y.width())?;
     let end = end_of_table(layout, code, table, y, z)?;
-    Ok(Insn {
-        op,
+    Ok(Operands {
         x,
         y,
         z,
@@ -180,8 +193,33 @@ fn allowed(byte: u8, is_allowed: bool) -> Result<i32, CodeEnd>
 }
 
 impl Operand {
-    /// The operand at a place.
+    /// Whether its bytes are tested.
     #[inline(always)]
+    fn is_tested(self) -> bool
+        ensures { result ≡ is_tested self }
+    {
+        matches!(
+            self,
+            Operand::DupWords | Operand::SwapWords | Operand::ArrayType | Operand::TestedType
+        )
+    }
+
+    /// The operand at a place from which the code reaches to its end.
+    #[inline(always)]
+    #[tactic(auto, using(crate::proofs::UntestedReads::read_within))]
+    fn read_within(self, code: View, at: u32) -> Result<i32, CodeEnd>
+        requires { at + operand_width self ≤ length code.bytes.now }
+        ensures { result ≡ operand_at self code.entry.bytes.now at }
+    {
+        if self.is_tested() {
+            self.read(code, at)
+        } else {
+            Ok(self.read_known(code, at))
+        }
+    }
+
+    /// The operand at a place.
+    #[inline(never)]
     fn read(self, code: View, at: u32) -> Result<i32, CodeEnd>
         ensures { result ≡ operand_at self code.entry.bytes.now at }
     {

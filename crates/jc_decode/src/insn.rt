@@ -1,3 +1,6 @@
+ghost use Rattle.std.specs.Prelude.{◌≡◌};
+ghost use Rattle.jc_decode.specs.Decoding.{with_operands};
+
 /// One decoded instruction.
 #[derive(Clone, Copy)]
 pub struct Insn {
@@ -11,6 +14,31 @@ pub struct Insn {
     pub z: i32,
     /// The number of its bytes, the opcode and the table of a switch among them.
     pub len: u32,
+}
+
+/// The operands of an instruction and the number of its bytes: numbers of one width, which need no memory on their way.
+#[derive(Clone, Copy)]
+pub(crate) struct Operands {
+    pub x: i32,
+    pub y: i32,
+    pub z: i32,
+    pub len: u32,
+}
+
+impl Operands {
+    /// An instruction with these operands.
+    #[inline(always)]
+    pub(crate) fn of_opcode(self, op: u8) -> Insn
+        ensures { result ≡ with_operands op self }
+    {
+        Insn {
+            op,
+            x: self.x,
+            y: self.y,
+            z: self.z,
+            len: self.len,
+        }
+    }
 }
 
 /// An instruction and the place of its opcode in the method's code.

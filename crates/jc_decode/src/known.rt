@@ -1,14 +1,15 @@
 //! An instruction that is known to begin at a place, as a step of a machine reads it: nothing is tested again.
-ghost use Rattle.std.specs.Prelude.{◌≡◌, ◌≤◌, length, Ok, Some, unwrap_or};
+ghost use Rattle.std.specs.Prelude.{◌≡◌, ◌≤◌, length, Ok, Some, pos, unwrap_or};
 ghost use Rattle.cap_bytes.specs.Number.{number_at};
 ghost use Rattle.std.specs.Result.{result_unwrap_or};
-ghost use Rattle.jc_decode.specs.Layout.{one, layout_of};
+ghost use Rattle.jc_decode.specs.Layout.{layout_of};
 ghost use Rattle.jc_decode.specs.Decoding.{decoded, within_bytes};
-ghost use Rattle.jc_decode.specs.Untested.{untested_operand, untested_end, untested_as, untested_by, untested};
+ghost use Rattle.jc_decode.specs.Untested.{untested_operand, untested_end, untested_operands, known_layout, untested};
 
 use crate::decoding::reach;
-use crate::insn::Insn;
+use crate::insn::{Insn, Operands};
 use crate::layout::{Cases, Layout, Operand};
+use crate::reading::Reading;
 use cap_bytes::View;
 
 /// The instruction at a place of a method's code at which one is known to begin: the one that `decode` gives, found without
@@ -18,83 +19,77 @@ pub fn decode_known(code: View, at: u16) -> Option<Insn>
     requires { length code.bytes.now ≤ 65535 }
     ensures { (i : Insn) → decoded code.entry.bytes.now at ≡ Ok i → result ≡ Some i }
 {
-    insn_known(code, u32::from(at))
+    Some(insn_known(code, u32::from(at)))
 }
 
+/// It always gives an instruction, so that no other way meets this one.
 #[inline(always)]
 #[tactic(auto, unfolding(crate::specs::Untested::untested))]
-fn insn_known(code: View, at: u32) -> Option<Insn>
+fn insn_known(code: View, at: u32) -> Insn
     requires short { length code.bytes.now ≤ 65535 }
     requires place { at ≤ 65535 }
     ensures { result ≡ untested code.entry.bytes.now at }
 {
-    match code.u1(at) {
-        Some(op) => of_opcode(code, at, op),
-        None => None,
-    }
+    let op = byte(code, at);
+    operands_known(code, at, op).of_opcode(op)
 }
 
-/// The instruction of an opcode.
+/// The operands of the instruction of an opcode, none where it has none.
 #[inline(always)]
-fn of_opcode(code: View, at: u32, op: u8) -> Option<Insn>
-    requires short { length code.bytes.now ≤ 65535 }
-    requires place { at ≤ 65535 }
-    ensures { result ≡ untested_by op (layout_of op) code.entry.bytes.now at }
+fn layout_known(op: u8) -> Layout
+    ensures { result ≡ known_layout (layout_of op) }
 {
     match Layout::of(op) {
-        Ok(layout) => {
-            if layout.has_one() {
-                Some(with_one(code, at, op, layout.x))
-            } else {
-                with_more(code, at, op)
-            }
-        }
-        Err(_) => None,
+        Ok(layout) => layout,
+        Err(_) => Layout {
+            x: Operand::Absent,
+            y: Operand::Absent,
+            z: Operand::Absent,
+            cases: Cases::Absent,
+        },
     }
 }
 
-/// The instruction of an opcode with no operand but the first.
 #[inline(always)]
-fn with_one(code: View, at: u32, op: u8, x: Operand) -> Insn
+fn operands_known(code: View, at: u32, op: u8) -> Operands
+    requires short { length code.bytes.now ≤ 65535 }
     requires place { at ≤ 65535 }
-    ensures { result ≡ untested_as op (one x) code.entry.bytes.now at }
+    ensures { result ≡ untested_operands (known_layout (layout_of op)) code.entry.bytes.now at }
 {
-    Insn {
-        op,
-        x: x.read_known(code, at + 1),
-        y: 0,
-        z: 0,
-        len: 1 + x.width(),
+    let x = at + 1;
+    match Reading::of(op) {
+        Reading::Plain => with_one(0, 1),
+        Reading::Byte => with_one(i32::from(byte(code, x)), 2),
+        Reading::SignedByte => with_one(i32::from(byte(code, x).cast_signed()), 2),
+        Reading::Short => with_one(i32::from(two(code, x)), 3),
+        Reading::SignedShort => with_one(i32::from(two(code, x).cast_signed()), 3),
+        Reading::More => with_more(code, at, op),
     }
 }
 
-/// The instruction of an opcode, with any operands. The layout is read again, so that none is handed over in memory.
+/// One operand alone.
+#[inline(always)]
+fn with_one(x: i32, len: u32) -> Operands
+    ensures { result ≡ record { x = x; y = pos 0; z = pos 0; len = len } }
+{
+    Operands { x, y: 0, z: 0, len }
+}
+
+/// Of an instruction with any operands. The layout is read again, so that none is handed over in memory.
 #[inline(never)]
-fn with_more(code: View, at: u32, op: u8) -> Option<Insn>
+fn with_more(code: View, at: u32, op: u8) -> Operands
     requires short { length code.bytes.now ≤ 65535 }
     requires place { at ≤ 65535 }
-    ensures { result ≡ untested_by op (layout_of op) code.entry.bytes.now at }
+    ensures { result ≡ untested_operands (known_layout (layout_of op)) code.entry.bytes.now at }
 {
-    match Layout::of(op) {
-        Ok(layout) => Some(with_layout(code, at, op, layout)),
-        Err(_) => None,
-    }
-}
-
-#[inline(always)]
-fn with_layout(code: View, at: u32, op: u8, layout: Layout) -> Insn
-    requires short { length code.bytes.now ≤ 65535 }
-    requires place { at ≤ 65535 }
-    ensures { result ≡ untested_as op layout code.entry.bytes.now at }
-{
+    let layout = layout_known(op);
     let operands = at + 1;
-    let x = layout.x.read_known(code, operands);
-    let y = layout.y.read_known(code, operands + layout.x.width());
+    let x = layout.x.read_apart(code, operands);
+    let y = layout.y.read_next(code, operands + layout.x.width());
     let z = layout
         .z
-        .read_known(code, operands + layout.x.width() + layout.y.width());
-    Insn {
-        op,
+        .read_next(code, operands + layout.x.width() + layout.y.width());
+    Operands {
         x,
         y,
         z,
@@ -103,6 +98,7 @@ fn with_layout(code: View, at: u32, op: u8, layout: Layout) -> Insn
 }
 
 /// The place after a switch's table, which begins at this place.
+#[inline(always)]
 fn end_of_cases(cases: Cases, code: View, table: u32, y: i32, z: i32) -> u32
     requires short { length code.bytes.now ≤ 65535 }
     requires near { table ≤ 65548 }
@@ -125,6 +121,7 @@ fn end_of_cases(cases: Cases, code: View, table: u32, y: i32, z: i32) -> u32
 }
 
 /// A place that is not before another, where the bytes reach to it, and else that other.
+#[inline(never)]
 fn reached(code: View, table: u32, end: u64) -> u32
     requires short { length code.bytes.now ≤ 65535 }
     requires order { table ≤ end }
@@ -138,9 +135,28 @@ fn reached(code: View, table: u32, end: u64) -> u32
 }
 
 impl Operand {
+    /// What the bytes at a place mean, where there may be no operand.
+    #[inline(always)]
+    fn read_next(self, code: View, at: u32) -> i32
+        ensures { result ≡ untested_operand self code.entry.bytes.now at }
+    {
+        match self {
+            Operand::Absent => 0,
+            _ => self.read_apart(code, at),
+        }
+    }
+
+    /// What the bytes at a place mean, read in one place for all.
+    #[inline(never)]
+    fn read_apart(self, code: View, at: u32) -> i32
+        ensures { result ≡ untested_operand self code.entry.bytes.now at }
+    {
+        self.read_known(code, at)
+    }
+
     /// What the bytes at a place mean.
     #[inline(always)]
-    fn read_known(self, code: View, at: u32) -> i32
+    pub(crate) fn read_known(self, code: View, at: u32) -> i32
         ensures { result ≡ untested_operand self code.entry.bytes.now at }
     {
         match self {

@@ -11,11 +11,13 @@ mod encoding;
 mod forms;
 mod insn;
 mod instructions;
+mod key_search;
 mod known;
 mod laws;
 mod layout;
 mod names;
 mod pool_index;
+mod reading;
 mod renewed;
 mod setting;
 mod sizes;
@@ -27,6 +29,7 @@ pub use decoding::decode;
 pub use encoding::encode;
 pub use insn::{Case, CodeEnd, Insn, Placed};
 pub use instructions::{Instructions, code_end};
+pub use key_search::case_of_key;
 pub use known::decode_known;
 pub use laws::{
     bytes_read_back, instructions_are_listed, labels_stand_between, listing_is_one,

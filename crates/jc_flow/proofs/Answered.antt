@@ -29,26 +29,11 @@ use Rattle.jc_flow.proofs.Never.{none-where-fails, none-where-falls}
 pub number-below : {X : Type 0} (P : X → Type 0) (xs : List X) (n : ℕ) → IsSomeAnd (slice_get xs n) P → n < length xs
 number-below P xs n h = some_to P (n < length xs) (slice_get xs n) (λ x e p. slice_get_within xs n x e) h
 
-module _ (w : Linked) (n : ℕ) (rec : MethodRec) (code : List ℕ) (here : slice_get w.methods n ≡ Some rec)
-    (bytes : option_map (code_of w.infos) (slice_get w.methods n) ≡ Some code) where
-  own_code : code_of w.infos rec ≡ code
-  own_code = same_Some _ _ (ap (option_map (code_of w.infos)) (sym here) ∙ bytes)
-
-  pub method-is : method_in w n ≡ Some (record { number = n; rec = rec; code = code })
-  method-is = ap (option_map (method_with w n)) here ∙ ap (λ (c : List ℕ). Some (record { number = n; rec = rec; code = c })) own_code
-
-  pub of-method : (P : Method → Type 0) → IsSomeAnd (method_in w n) P → P (record { number = n; rec = rec; code = code })
-  of-method P h = some_at P method-is h
-
-  pub to-method : (P : Method → Type 0) → P (record { number = n; rec = rec; code = code }) → IsSomeAnd (method_in w n) P
-  to-method P h = IsSomeAnd-from P _ _ method-is h
-
-  pub code-short : AreRules w → IsMethodOf w (record { number = n; rec = rec; code = code }) → length code ≤ 32767
-  code-short is mo =
-      let most : rec.code_len ≤ 32767 = length-short (lacks_code w.classes rec) rec.code_len
-      (of_world w is (record { number = n; rec = rec; code = code }) mo).code in
-      let size : length code ≡ _ = ap length mo.code ∙ length-take rec.code_len _ in
-      omega arith
+pub code-short : (w : Linked) (m : Method) → AreRules w → IsMethodOf w m → length m.code ≤ 32767
+code-short w m is mo =
+    let most : m.rec.code_len ≤ 32767 = length-short (lacks_code w.classes m.rec) m.rec.code_len (of_world w is m mo).code in
+    let size : length m.code ≡ _ = ap length mo.code ∙ length-take m.rec.code_len _ in
+    omega arith
 
 flaw-none : FlawsDecide → (w : Linked) (m : Method) (f : Flaw) → IsFirstFlaw m f → ¬ (HasFlowTyping w m Top)
 flaw-none decide w m f first has = (decide m).0 has.typing.formed first.spot f first.flaw

@@ -34,9 +34,9 @@ fn new_object(
     }
 }
 
-/// The operation of an instruction of a method's code.
-#[inline(always)]
-fn resolved(
+/// The operation of an instruction of a method's code, whatever its operands name.
+#[inline(never)]
+fn resolved_apart(
     world: &World<'_>,
     method: &MethodRec,
     place: u16,
@@ -87,6 +87,33 @@ fn resolved(
             |ty| Operation::TypeTest(test, ty),
         ),
         Row::Return(sort) => result_returned(world, sort, method.sig.result).map(Operation::Return),
+    }
+}
+
+/// The operation of an instruction of a method's code. What names nothing of the world comes from the opcode and its
+/// operands here, and all else out of line, so that what comes of it lies in memory alone.
+#[inline(always)]
+fn resolved(
+    world: &World<'_>,
+    method: &MethodRec,
+    place: u16,
+    insn: Insn,
+) -> Result<Operation, RuleFault>
+    requires { method.now.package < length world.now.infos }
+    ensures { Resolves world.now method.now place insn result }
+{
+    match Row::of(insn.op) {
+        Row::Plain(operation) => Ok(operation),
+        Row::PushShort => Ok(Operation::Constant(Constant::Short(insn.x))),
+        Row::PushInt => Ok(Operation::Constant(Constant::Int(insn.x))),
+        Row::Load(sort) => Ok(Operation::Load(sort, byte_of(insn.x))),
+        Row::Store(sort) => Ok(Operation::Store(sort, byte_of(insn.x))),
+        Row::Increment(width) => Ok(Operation::Increment {
+            width,
+            register: byte_of(insn.x),
+            amount: insn.y,
+        }),
+        _ => resolved_apart(world, method, place, insn),
     }
 }
 

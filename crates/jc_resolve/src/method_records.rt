@@ -93,6 +93,17 @@ fn handlers_after<'a>(handlers: HandlerEntries<'a>, count: u16) -> HandlerEntrie
     rest
 }
 
+/// The handlers of a method, after so many; as most methods have none, they are counted off only where there are some.
+fn handlers_of<'a>(handlers: HandlerEntries<'a>, first: u16, count: u16) -> HandlerEntries<'a>
+    ensures { take count (handlers_left result) ≡ take count (drop first (handlers_left handlers.entry)) }
+{
+    if count == 0 {
+        handlers
+    } else {
+        handlers_after(handlers, first)
+    }
+}
+
 /// The first handlers, so many, as those of a method.
 #[tactic(auto, using(crate::proofs::Parts::take_step))]
 fn handlers_named(
@@ -173,7 +184,8 @@ fn body_after(
         (offset_in_info (method.now.method_offset + header.size))) }
 {
     let code_at = method.method_offset.saturating_add(header.size as u16);
-    let farther = handlers_after(home.of_package.methods().handlers(), method.handler_index);
+    let all = home.of_package.methods().handlers();
+    let farther = handlers_of(all, method.handler_index, method.handler_count);
     let pool = home.of_package.pool();
     let handlers = handlers_named(alloc, home, &pool, code_at, farther, method.handler_count)?;
     Ok(Body {

@@ -8,7 +8,7 @@ use Rattle.cap_package.specs.PackageRecord.{PackageRecord}
 use Rattle.cap_package.specs.Parts.{Lent, held}
 use Rattle.cap_package.specs.StandsFor.{StandsFor}
 use Rattle.cap_text.specs.Request.{verify}
-use Rattle.cap_text.specs.Transform.{TransformRequest}
+use Rattle.cap_text.specs.OutOfDirs.{OutOfDirsRequest}
 use Rattle.jc_base.specs.World.{Linked}
 use Rattle.jc_decode.specs.declared.symbols.Laid.{Laid}
 use Rattle.law_package.specs.Rewritten.{IsRewritten}
@@ -70,7 +70,7 @@ lone packages p roles e = ap (λ ps. roles_beside ps roles) e
 
 -- ---- the worlds
 
-module _ (t : TransformRequest) (before after : Outside) (libraries : List (List ℕ)) (last : List ℕ) (are : t.dirs ≡ with_last libraries last)
+module _ (t : OutOfDirsRequest) (before after : Outside) (libraries : List (List ℕ)) (last : List ℕ) (are : t.dirs ≡ with_last libraries last)
     (apart : IsApart libraries t.out) (w : Linked) (h : HoldWorld before.folders t.dirs w) (text : List ℕ)
     (b : IsBrought h.packages h.roles w t.out before.folders after.folders text) where
   abbrev parts : List Lent

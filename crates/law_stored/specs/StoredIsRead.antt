@@ -4,7 +4,7 @@ use Rattle.std.specs.List.{AllByRecursion}
 use Rattle.cap_files.specs.Folder.{Folders}
 use Rattle.cap_package.specs.Parts.{Lent}
 use Rattle.cap_text.specs.Request.{verify}
-use Rattle.cap_text.specs.Transform.{TransformRequest}
+use Rattle.cap_text.specs.OutOfDirs.{OutOfDirsRequest}
 use Rattle.jc_base.specs.World.{Linked}
 use Rattle.xf_pack.specs.Transformed.{KeepsBehaviour}
 use Rattle.capcheck_core.specs.declared.verdict.Verdict.{Verdict}
@@ -21,7 +21,7 @@ with_last libraries dir = libraries ++ dir ∷ []
 
 -- The folders made the source, whose behaviour these parts keep. What is asked for in the folder in which was stored is these parts now.
 -- With the libraries they make the new world; and `verify` has what it needs there, where the folders tell what they hold.
-pub record IsReadAgain (t : TransformRequest) (libraries : List (List ℕ)) (before after : Folders) : Type 0 where
+pub record IsReadAgain (t : OutOfDirsRequest) (libraries : List (List ℕ)) (before after : Folders) : Type 0 where
   pub source : Linked
   pub held : HoldWorld before t.dirs source
   pub parts : List Lent
@@ -36,7 +36,7 @@ IsApart libraries out = AllByRecursion (λ dir. ¬ (dir ≡ out)) libraries
 
 abbrev pub StoredIsRead : Type 0
 StoredIsRead =
-    (t : TransformRequest) (before after : Outside) (verdict : Verdict) (libraries : List (List ℕ)) (last : List ℕ)
+    (t : OutOfDirsRequest) (before after : Outside) (verdict : Verdict) (libraries : List (List ℕ)) (last : List ℕ)
     → t.dirs ≡ with_last libraries last
     → IsApart libraries t.out
     → Transforms t before after verdict

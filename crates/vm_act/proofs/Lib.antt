@@ -1,5 +1,4 @@
 pub mod Copies
-mod Searching
 pub mod Climbing
 pub mod Asked
 pub mod Takes

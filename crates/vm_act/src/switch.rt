@@ -7,7 +7,7 @@ ghost use Rattle.vm_step.specs.Branching.{has_key, case_offset};
 
 use crate::number::{int_on, short_on};
 use cap_bytes::View;
-use jc_decode::{Case, Insn, case, targets_are_few};
+use jc_decode::{Insn, case_of_key};
 use jc_ops::Width;
 use vm_store::Store;
 
@@ -18,36 +18,10 @@ pub fn switch_offset(code: View<'_>, place: u16, insn: Insn, key: i32) -> i32
     requires decoded { decoded code.bytes.now place ≡ Ok insn }
     ensures { result ≡ case_offset insn.x (find (has_key key) (cases code.entry.bytes.now place insn)) }
 {
-    match find_case(code, place, insn, key) {
+    match case_of_key(code, place, insn, key) {
         Some(case) => i32::from(case.offset),
         None => insn.x,
     }
-}
-
-/// The first case with a key. A table has fewer cases than bytes.
-fn find_case(code: View<'_>, place: u16, insn: Insn, key: i32) -> Option<Case>
-    requires short { length code.bytes.now ≤ 65535 }
-    requires decoded { decoded code.bytes.now place ≡ Ok insn }
-    ensures { result ≡ find (has_key key) (cases code.entry.bytes.now place insn) }
-{
-    targets_are_few();
-    'cases: for n in 0..65536_u32 {
-        match case(code, place, insn, n) {
-            Some(case) => {
-                if has_key(case, key) {
-                    return Some(case);
-                }
-            }
-            None => return None,
-        }
-    }
-    None
-}
-
-fn has_key(case: Case, key: i32) -> bool
-    ensures { result ≡ has_key key case }
-{
-    case.key == key
 }
 
 /// Pops the number that a switch asks.

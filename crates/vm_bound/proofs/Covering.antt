@@ -1,11 +1,11 @@
 -- Blocks that cover positions.
-use Rattle.std.proofs.Common.{◌≡◌, ℕ, ◌+◌, ◌-◌, ◌*◌, ◌/◌, ◌%◌, ◌<◌, ◌≤◌, ◌⊎◌, inl, inr, ⊎_elim, List, [], ◌∷◌, ◌++◌, length, refl, sym, ap, ◌∙◌, subst, arith}
-use Rattle.std.specs.Prelude.{Option, Some, None, Contains, slice_get}
+use Rattle.std.proofs.Common.{◌≡◌, ℕ, ◌+◌, ◌-◌, ◌*◌, ◌/◌, ◌%◌, ◌<◌, ◌≤◌, ◌⊎◌, inl, inr, ⊎_elim, List, [], ◌∷◌, ◌++◌, refl, sym, subst, arith}
+use Rattle.std.specs.Prelude.{Option, Some, None, Contains}
 use Rattle.std.proofs.lemmas.Bool.{cases_lt, cases_eq, eq-eqb, ne_eqb}
-use Rattle.std.proofs.lemmas.Option.{same_Some, slice_get_within}
 use Rattle.std.proofs.lemmas.List.Elements.{Contains-append_left, Contains-push, Contains-push_cases}
 use Rattle.vm_bound.specs.declared.spread.Block.{Block}
-use Rattle.vm_bound.specs.Blocks.{IsHalf, Under, under_one, under_half, IsPart, IsInPart, IsCovered, AddsRun, with_if, IsRun, CoverRuns}
+use Rattle.vm_bound.specs.Blocks.{IsHalf, Under, under_one, under_half, IsPart, IsInPart, IsCovered, AddsRun, with_if}
+use Rattle.vm_bound.specs.Runs.{IsRun, AreRuns}
 use Rattle.vm_bound.proofs.Graphing.{nothing-in}
 
 -- the nodes from one to before another are still to be taken
@@ -195,47 +195,46 @@ module _ (count from to by : ℕ) (old : List Block) where
 
 -- ---- runs of positions
 
--- the runs before a position are covered
-pub record CoverBelow (nearest : List (Option ℕ)) (bound : ℕ) (blocks : List Block) : Type 0 where
-  pub only : (b : Block) → Contains blocks b → IsRun nearest b
-  pub all : (p by : ℕ) → p < bound → slice_get nearest p ≡ Some (Some by) → IsInPart (length nearest) by blocks p
+module _ (count : ℕ) (IsBy : ℕ → Option ℕ → Type 0) where
+  pub runs-none : AreRuns count IsBy 0 []
+  runs-none = record { only = λ b c. absurd (nothing-in b c); all = λ p l. absurd (omega (arith, l)) }
 
-module _ (nearest : List (Option ℕ)) where
-  pub runs-none : CoverBelow nearest 0 []
-  runs-none = record { only = λ b c. absurd (nothing-in b c); all = λ p by l at. absurd (omega (arith, l)) }
-
-  pub runs-more : (from to : ℕ) (o : Option ℕ) (old new : List Block) → slice_get nearest from ≡ Some o
-      → ((p : ℕ) → from ≤ p → p < to → slice_get nearest p ≡ slice_get nearest from) → AddsRun (length nearest) from to o old new
-      → CoverBelow nearest from old → CoverBelow nearest to new
-  runs-more from to None old new at same adds before = subst (CoverBelow nearest to) (sym adds) (record {
+  -- positions at which no class is the one
+  pub runs-skip : (from to : ℕ) (blocks : List Block) → ((p : ℕ) → from ≤ p → p < to → IsBy p None) → AreRuns count IsBy from blocks
+      → AreRuns count IsBy to blocks
+  runs-skip from to blocks none before = record {
     only = before.only;
-    all = λ p by l there. elim (cases_lt p from) [
-      | inl lower ↦ before.all p by lower there
-      | inr past ↦ absurd (let both : Some None ≡ Some (Some by) = sym at ∙ (sym (same p past l) ∙ there) in cc)
+    all = λ p l. elim (cases_lt p from) [
+      | inl lower ↦ before.all p lower
+      | inr past ↦ inl (none p past l)
     ];
-  })
-  runs-more from to (Some by) old new at same adds before = record {
+  }
+
+  pub runs-more : (from to : ℕ) (o : Option ℕ) (old new : List Block) → ((p : ℕ) → from ≤ p → p < to → IsBy p o)
+      → AddsRun count from to o old new → AreRuns count IsBy from old → AreRuns count IsBy to new
+  runs-more from to None old new is adds before = subst (AreRuns count IsBy to) (sym adds) (runs-skip from to old is before)
+  runs-more from to (Some by) old new is adds before = record {
     only = λ b c. ⊎_elim (λ was. before.only b was) (λ part. run b part) (adds.only b c);
-    all = λ p other l there. elim (cases_lt p from) [
+    all = λ p l. elim (cases_lt p from) [
       | inl lower ↦
-          let has = before.all p other lower there in
-          record { block = has.block; among = adds.kept has.block has.among; by_is = has.by_is; under = has.under }
-      | inr past ↦
-          let is : Some by ≡ Some other = same_Some (Some by) (Some other) (sym at ∙ (sym (same p past l) ∙ there)) in
-          subst (λ (x : ℕ). IsInPart (length nearest) x new p) (same_Some by other is) (adds.all p past l)
+          ⊎_elim (λ none. inl none)
+          (λ has. inr (record { block = has.block; among = adds.kept has.block has.among; under = has.under })) (before.all p lower)
+      | inr past ↦ let has = adds.all p past l in inr (record { block = has.block; among = has.among; under = has.under })
     ];
   }
     where
-      run : (b : Block) → IsPart (length nearest) from to by b → IsRun nearest b
+      run : (b : Block) → IsPart count from to by b → IsRun count IsBy b
       run b part = record {
         node = part.node;
         same = λ p under.
             let inside = part.inside p under in
-            same p inside.0 inside.1 ∙ (at ∙ ap (λ (x : ℕ). Some (Some x)) (sym part.by_is));
+            subst (λ (x : ℕ). IsBy p (Some x)) (sym part.by_is) (is p inside.0 inside.1);
       }
 
-  pub runs-all : (bound : ℕ) (blocks : List Block) → length nearest ≤ bound → CoverBelow nearest bound blocks → CoverRuns nearest blocks
-  runs-all bound blocks l below = record {
-    only = below.only;
-    all = λ p by at. let inside = slice_get_within nearest p (Some by) at in below.all p by (omega (arith, inside, l)) at;
-  }
+-- the same by what else is known of a class that is the one
+pub runs-carried : (count : ℕ) (IsBy IsOther : ℕ → Option ℕ → Type 0) (bound : ℕ) (blocks : List Block)
+    → ((p : ℕ) (o : Option ℕ) → IsBy p o → IsOther p o) → AreRuns count IsBy bound blocks → AreRuns count IsOther bound blocks
+runs-carried count IsBy IsOther bound blocks carry runs = record {
+  only = λ b c. let run = runs.only b c in record { node = run.node; same = λ p under. carry p (Some b.by) (run.same p under) };
+  all = λ p l. ⊎_elim (λ none. inl (carry p None none)) (λ has. inr has) (runs.all p l);
+}

@@ -9,3 +9,8 @@ mod Numbering
 mod Placing
 mod Serving
 mod Covering
+mod Stacks
+mod Ending
+mod Sweeping
+mod Names
+mod Innermost

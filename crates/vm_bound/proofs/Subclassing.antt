@@ -17,12 +17,30 @@ added c d old new before after found e is = record { before = before; found = fo
 
 pub ruleset adding = (added)
 
+-- what is added stands last in its row, and the others stay
+module _ (c d : ℕ) (old new : List (List ℕ)) (is : IsAdded old c d new) where
+  pub added-inside : c < length old
+  added-inside = slice_get_within old c is.before is.found
+
+  pub added-count : length new ≡ length old
+  added-count = ap length is.set_is ∙ length-set old c (is.before ++ d ∷ [])
+
+  pub added-here : next new c ≡ next old c ++ d ∷ []
+  added-here =
+      ap (λ (rows : List (List ℕ)). next rows c) is.set_is
+      ∙ (get_or-set_same old c (is.before ++ d ∷ []) [] added-inside
+      ∙ ap (λ (row : List ℕ). row ++ d ∷ []) (sym (get_or_from_slice_get old c is.before [] is.found)))
+
+  pub added-there : (k : ℕ) → ¬ (k ≡ c) → next new k ≡ next old k
+  added-there k not =
+      ap (λ (rows : List (List ℕ)). next rows k) is.set_is ∙ get_or-set_other old c k (is.before ++ d ∷ []) [] not
+
 -- the rows have the direct subclasses among the classes below a bound
 pub record AreSubclassesBelow (t : ClassTable) (bound : ℕ) (rows : List (List ℕ)) : Type 0 where
   pub only : (c d : ℕ) → Contains (next rows c) d → parent_of t d ≡ Some c
   pub all : (c d : ℕ) → c < length rows → d < bound → parent_of t d ≡ Some c → Contains (next rows c) d
 
-empty-next : (n c : ℕ) → next (replicate n []) c ≡ []
+pub empty-next : (n c : ℕ) → next (replicate n []) c ≡ []
 empty-next n c = elim (cases_lt c n) [
   | inl inside ↦ get_or-replicate n c [] [] inside
   | inr past ↦ let e : length (replicate {A = List ℕ} n []) ≡ n = length-replicate n [] in get_or_past (replicate n []) c [] (omega (arith, e, past))
@@ -48,40 +66,30 @@ module _ (t : ClassTable) where
       → AreSubclassesBelow t (d + 1) new
   subclasses-is d p old new link is before = record { only = only; all = all }
     where
-      inside : p < length old
-      inside = slice_get_within old p is.before is.found
-
-      was : next old p ≡ is.before
-      was = get_or_from_slice_get old p is.before [] is.found
-
-      here : next new p ≡ is.before ++ d ∷ []
-      here = ap (λ (rows : List (List ℕ)). next rows p) is.set_is ∙ get_or-set_same old p (is.before ++ d ∷ []) [] inside
-
-      there : (c : ℕ) → (c ≡ p → ⊥) → next new c ≡ next old c
-      there c not = ap (λ (rows : List (List ℕ)). next rows c) is.set_is ∙ get_or-set_other old p c (is.before ++ d ∷ []) [] not
-
       only : (c k : ℕ) → Contains (next new c) k → parent_of t k ≡ Some c
       only c k h = elim (cases_eq c p) [
         | inl e ↦
-            let pushed : Contains (is.before ++ d ∷ []) k = subst (λ (row : List ℕ). Contains row k) here (subst (λ (x : ℕ). Contains (next new x) k) e h) in
+            let pushed : Contains (next old p ++ d ∷ []) k =
+            subst (λ (row : List ℕ). Contains row k) (added-here p d old new is) (subst (λ (x : ℕ). Contains (next new x) k) e h) in
             subst (λ (x : ℕ). parent_of t k ≡ Some x) (sym e)
-            (⊎_elim (λ old. before.only p k (subst (λ (row : List ℕ). Contains row k) (sym was) old))
-            (λ same. subst (λ (x : ℕ). parent_of t x ≡ Some p) same link) (Contains-push_cases is.before d k pushed))
-        | inr not ↦ before.only c k (subst (λ (row : List ℕ). Contains row k) (there c not) h)
+            (⊎_elim (λ was. before.only p k was) (λ same. subst (λ (x : ℕ). parent_of t x ≡ Some p) same link)
+            (Contains-push_cases (next old p) d k pushed))
+        | inr not ↦ before.only c k (subst (λ (row : List ℕ). Contains row k) (added-there p d old new is c not) h)
       ]
 
       all : (c k : ℕ) → c < length new → k < d + 1 → parent_of t k ≡ Some c → Contains (next new c) k
       all c k l m child =
-          let long : length new ≡ length old = ap length is.set_is ∙ length-set old p (is.before ++ d ∷ []) in
+          let long = added-count p d old new is in
+          let inside = added-inside p d old new is in
           elim (cases_eq c p) [
             | inl e ↦
                 subst (λ (x : ℕ). Contains (next new x) k) (sym e)
-                (subst (λ (row : List ℕ). Contains row k) (sym here)
+                (subst (λ (row : List ℕ). Contains row k) (sym (added-here p d old new is))
                 (elim (cases_lt k d) [
                   | inl lower ↦
-                      Contains-append_left is.before (d ∷ []) k
-                      (subst (λ (row : List ℕ). Contains row k) was (before.all p k inside lower (subst (λ (x : ℕ). parent_of t k ≡ Some x) e child)))
-                  | inr past ↦ let same : d ≡ k = omega arith in subst (λ (x : ℕ). Contains (is.before ++ d ∷ []) x) same (Contains-push is.before d)
+                      Contains-append_left (next old p) (d ∷ []) k
+                      (before.all p k inside lower (subst (λ (x : ℕ). parent_of t k ≡ Some x) e child))
+                  | inr past ↦ let same : d ≡ k = omega arith in subst (λ (x : ℕ). Contains (next old p ++ d ∷ []) x) same (Contains-push (next old p) d)
                 ]))
             | inr not ↦
                 let lower : k < d = elim (cases_lt k d) [
@@ -90,7 +98,7 @@ module _ (t : ClassTable) where
                       let same : k ≡ d = omega arith in
                       absurd (not (same_Some c p (sym (subst (λ (x : ℕ). parent_of t x ≡ Some c) same child) ∙ link)))
                 ] in
-                subst (λ (row : List ℕ). Contains row k) (sym (there c not)) (before.all c k (omega (arith, l, long)) lower child)
+                subst (λ (row : List ℕ). Contains row k) (sym (added-there p d old new is c not)) (before.all c k (omega (arith, l, long)) lower child)
           ]
 
   pub subclasses-end : (rows : List (List ℕ)) → AreSubclassesBelow t (length t.records) rows → AreAllSubclasses t rows

@@ -1,11 +1,9 @@
 -- Which class serves an interface for which others, over blocks of an order of the classes (JCVM 2.2, section 6.8.2). An interface
 -- that many classes implement is served through few blocks, which all interfaces share.
-use Rattle.std.specs.Prelude.{◌≡◌, ℕ, ◌+◌, ◌*◌, ◌<◌, ◌≤◌, ◌⊎◌, ◌==◌, ◌++◌, true, if◌then◌else◌, List, [], ◌∷◌, length, Option, Some, None, Contains, find, slice_get, slice_index_or, ⊤}
+use Rattle.std.specs.Prelude.{◌≡◌, ℕ, ◌+◌, ◌*◌, ◌<◌, ◌≤◌, ◌⊎◌, ◌==◌, ◌++◌, true, if◌then◌else◌, List, [], ◌∷◌, length, Option, Some, None, Contains, find, slice_get, slice_index_or}
 use Rattle.jc_base.specs.declared.record.Iface.{Iface}
 use Rattle.jc_base.specs.Class.{ClassTable, IsClass, is_interface}
 use Rattle.vm_step.specs.Calls.{interfaces_of, serving}
-use Rattle.vm_bound.specs.declared.nearest.Memo.{Memo}
-use Rattle.vm_bound.specs.declared.nearest.Memo.TheVariants.{Unknown, Known}
 use Rattle.vm_bound.specs.declared.spread.Block.{Block}
 use Rattle.vm_bound.specs.declared.spread.Spread.{Spread}
 
@@ -51,16 +49,6 @@ AddsRun count from to (Some by) old new = IsCovered count from to by old new
 abbrev pub with_if : List Block → ℕ → Block → List Block
 with_if blocks odd b = if odd == 1 then blocks ++ b ∷ [] else blocks
 
--- at each position under the node stands the class of the block
-pub record IsRun (nearest : List (Option ℕ)) (b : Block) : Type 0 where
-  pub node : 0 < b.node
-  pub same : (p : ℕ) → Under (length nearest) b.node p → slice_get nearest p ≡ Some (Some b.by)
-
--- blocks of the positions at which a class stands
-pub record CoverRuns (nearest : List (Option ℕ)) (blocks : List Block) : Type 0 where
-  pub only : (b : Block) → Contains blocks b → IsRun nearest b
-  pub all : (p by : ℕ) → slice_get nearest p ≡ Some (Some by) → IsInPart (length nearest) by blocks p
-
 -- ---- what serves an interface
 
 -- the entry for an interface that a class names itself
@@ -71,19 +59,6 @@ named t interface class = find (λ (e : Iface). e.class == interface) (interface
 abbrev pub IsNearest : ClassTable → ℕ → ℕ → Option ℕ → Type 0
 IsNearest t interface class None = serving t interface class ≡ None
 IsNearest t interface class (Some by) = serving t interface class ≡ named t interface by
-
--- by position in an order of classes
-pub record AreNearest (t : ClassTable) (interface : ℕ) (order : List ℕ) (nearest : List (Option ℕ)) : Type 0 where
-  pub count : length nearest ≡ length order
-  pub are : (p c : ℕ) (by : Option ℕ) → slice_get order p ≡ Some c → slice_get nearest p ≡ Some by → IsNearest t interface c by
-
--- what is known of a class is right
-abbrev pub IsMemo : ClassTable → ℕ → ℕ → Memo → Type 0
-IsMemo t interface class Unknown = ⊤
-IsMemo t interface class (Known by) = IsNearest t interface class by
-
-abbrev pub AreMemos : ClassTable → ℕ → List Memo → Type 0
-AreMemos t interface memos = (c : ℕ) → c < length memos → IsMemo t interface c (slice_index_or memos c Unknown)
 
 -- each class stands in the order, and nothing else does
 pub record IsOrder (t : ClassTable) (order : List ℕ) : Type 0 where

@@ -1,6 +1,7 @@
 pub mod Vertices
 pub mod Keys
 pub mod Blocks
+pub mod Runs
 pub mod Edges
 pub mod Rows
 pub mod Weights

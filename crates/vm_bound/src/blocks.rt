@@ -1,13 +1,38 @@
-ghost use Rattle.std.specs.Prelude.{◌≡◌, ◌+◌, ◌*◌, ◌%◌, ◌≤◌, ◌<◌, ℕ, Some, IfOk, OnOk, IsTrue, length, slice_get};
-ghost use Rattle.vm_bound.specs.Blocks.{IsOrder, AreBlocks, CoverRuns, IsCovered, AddsRun, with_if};
+ghost use Rattle.std.specs.Prelude.{◌≡◌, ◌%◌, ◌≤◌, ◌<◌, IfOk, IfSome, OnOk, length};
+ghost use Rattle.vm_bound.specs.Blocks.{IsOrder, AreBlocks, IsCovered, AddsRun, with_if};
+ghost use Rattle.vm_bound.specs.Runs.{AreEnds, AreNaming};
 
-use crate::nearest::all_nearest;
+use crate::nearest::nearest_class;
 use crate::spread::Block;
+use crate::sweep::swept_blocks;
 use jc_base::World;
 use std::alloc::{AllocError, Global};
 
-/// The blocks of an interface, over an order of the classes.
+/// The blocks of an interface, over an order of the classes. Where all ends are told, they are found from the positions that
+/// name the interface alone.
 pub(crate) fn interface_blocks(
+    alloc: Global,
+    world: &World<'_>,
+    order: &[u16],
+    ends: &Option<Vec<u16>>,
+    naming: &[u32],
+    interface: u16,
+) -> Result<Vec<Block>, AllocError>
+    requires order { IsOrder world.now.classes order.now }
+    requires few { length order.now ≤ 8192 }
+    requires ends { IfSome ends.now (λ found. AreEnds world.now.classes order.now found.items) }
+    requires naming { AreNaming world.now.classes order.now interface naming.now }
+    ensures { IfOk result (λ blocks. AreBlocks world.now.classes order.now interface blocks.items) }
+{
+    let _facts = world.classes();
+    match ends {
+        Some(ends) => swept_blocks(alloc, order, ends.as_slice(), naming),
+        None => asked_blocks(alloc, world, order, interface),
+    }
+}
+
+/// The same, asked of each class alone.
+fn asked_blocks(
     alloc: Global,
     world: &World<'_>,
     order: &[u16],
@@ -17,58 +42,17 @@ pub(crate) fn interface_blocks(
     requires few { length order.now ≤ 8192 }
     ensures { IfOk result (λ blocks. AreBlocks world.now.classes order.now interface blocks.items) }
 {
-    let nearest = all_nearest(alloc, world, order, interface)?;
-    blocks_over(alloc, nearest.as_slice())
-}
-
-/// Blocks of positions at which the same class stands; no position at which none does.
-fn blocks_over(alloc: Global, nearest: &[Option<u16>]) -> Result<Vec<Block>, AllocError>
-    requires { length nearest.now ≤ 8192 }
-    ensures { IfOk result (λ blocks. CoverRuns nearest.now blocks.items) }
-{
-    let count = nearest.len() as u16;
+    let count = order.len() as u16;
     let mut blocks = Vec::new(alloc);
-    let mut from = 0;
-    'runs: while from < count {
-        let to = run_end(nearest, from);
-        add_run(&mut blocks, count, from, to, nearest[from as usize])?;
-        from = to;
+    'classes: for at in 0..count {
+        let by = nearest_class(world, interface, order[at as usize]);
+        add_run(&mut blocks, count, at, at + 1, by)?;
     }
     Ok(blocks)
 }
 
-/// The position up to which the same stands as at one.
-fn run_end(nearest: &[Option<u16>], from: u16) -> u16
-    requires few { length nearest.now ≤ 8192 }
-    requires from { from < length nearest.now }
-    ensures more { from < result }
-    ensures inside { result ≤ length nearest.now }
-    ensures same { (p : ℕ) → from ≤ p → p < result → slice_get nearest.now p ≡ slice_get nearest.now from }
-{
-    let count = nearest.len() as u16;
-    'run: for to in from + 1..count {
-        if !is_same(nearest[from as usize], nearest[to as usize]) {
-            return to;
-        }
-    }
-    count
-}
-
-/// Whether both are the same.
-fn is_same(a: Option<u16>, b: Option<u16>) -> bool
-    ensures { IsTrue result → b ≡ a }
-{
-    match a {
-        None => b.is_none(),
-        Some(n) => match b {
-            None => false,
-            Some(m) => m == n,
-        },
-    }
-}
-
 /// Adds blocks for the positions from one to before another, where a class stands.
-fn add_run(
+pub(crate) fn add_run(
     blocks: &mut Vec<Block>,
     count: u16,
     from: u16,

@@ -8,14 +8,17 @@
 mod blocks;
 mod bounding;
 mod bounds;
+mod ends;
 mod graph;
 mod meaning_targets;
 mod meanings;
 mod method_targets;
+mod naming;
 mod nearest;
 mod order;
 mod spread;
 mod subclasses;
+mod sweep;
 mod vertex;
 mod weighing;
 

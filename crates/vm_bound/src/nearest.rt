@@ -1,58 +1,11 @@
-ghost use Rattle.std.specs.Prelude.{◌≡◌, ◌<◌, ◌==◌, IfOk, MatchOption, None, Some, find, is_some, length};
+ghost use Rattle.std.specs.Prelude.{◌≡◌, ◌==◌, MatchOption, None, Some, find, is_some};
 ghost use Rattle.jc_base.specs.Class.{IsClass};
-ghost use Rattle.vm_bound.specs.Blocks.{named, IsNearest, AreNearest, IsOrder, AreMemos};
+ghost use Rattle.vm_bound.specs.Blocks.{named, IsNearest};
 
 use jc_base::{Iface, World};
-use std::alloc::{AllocError, Global};
 
-/// What is known of a class: nothing yet, or the nearest class whose own entry serves an interface for it.
-#[derive(Clone, Copy)]
-pub(crate) enum Memo {
-    Unknown,
-    Known(Option<u16>),
-}
-
-/// By position in an order of the classes the nearest class whose own entry serves an interface.
-pub(crate) fn all_nearest(
-    alloc: Global,
-    world: &World<'_>,
-    order: &[u16],
-    interface: u16,
-) -> Result<Vec<Option<u16>>, AllocError>
-    requires { IsOrder world.now.classes order.now }
-    ensures { IfOk result (λ nearest. AreNearest world.now.classes interface order.now nearest.items) }
-{
-    let mut memos = vec![in alloc; Memo::Unknown; world.class_count() as usize]?;
-    let mut nearest = Vec::new(alloc);
-    'classes: for class in order {
-        let by = next_nearest(world, memos.as_slice(), interface, *class);
-        memos[*class as usize] = Memo::Known(by);
-        nearest.push(by)?;
-    }
-    Ok(nearest)
-}
-
-/// The nearest class, where some are known.
-fn next_nearest(world: &World<'_>, memos: &[Memo], interface: u16, class: u16) -> Option<u16>
-    requires class { IsClass world.now.classes class }
-    requires memos { AreMemos world.now.classes interface memos.now }
-    requires count { length memos.now ≡ length world.now.classes.records }
-    ensures { IsNearest world.now.classes interface class result }
-{
-    if names(world, interface, class) {
-        return Some(class);
-    }
-    match world.classes().parent(class) {
-        None => None,
-        Some(parent) => match memos[parent as usize] {
-            Memo::Known(by) => by,
-            Memo::Unknown => climbed(world, interface, parent),
-        },
-    }
-}
-
-/// The nearest class, found by climbing.
-fn climbed(world: &World<'_>, interface: u16, class: u16) -> Option<u16>
+/// The nearest class whose own entry serves an interface for a class.
+pub(crate) fn nearest_class(world: &World<'_>, interface: u16, class: u16) -> Option<u16>
     requires { IsClass world.now.classes class }
     ensures { IsNearest world.now.classes interface class result }
 {

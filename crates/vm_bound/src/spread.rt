@@ -1,7 +1,10 @@
-ghost use Rattle.std.specs.Prelude.{◌≡◌, ◌≤◌, ◌<◌, IfOk, length};
+ghost use Rattle.std.specs.Prelude.{◌≡◌, ◌≤◌, ◌<◌, IfOk, IfSome, length};
 ghost use Rattle.vm_bound.specs.Blocks.{IsSpread, IsOrder, AreBlocksOf, AreAllBlocks};
+ghost use Rattle.vm_bound.specs.Runs.{AreEnds, AreNaming, AreAllNaming};
 
 use crate::blocks::interface_blocks;
+use crate::ends::all_ends;
+use crate::naming::all_naming;
 use crate::order::class_order;
 use digraph::Row;
 use jc_base::{Items, World};
@@ -54,10 +57,32 @@ fn all_blocks(
     ensures blocks { IfOk result (λ all. AreAllBlocks world.now.classes order.now all.items) }
     ensures count { IfOk result (λ all. length all.items ≡ length world.now.classes.records) }
 {
+    let ends = all_ends(alloc, world, order)?;
+    let naming = all_naming(alloc, world, order)?;
+    blocks_with(alloc, world, order, &ends, &naming)
+}
+
+/// The same with the ends, and with the positions that name each interface.
+fn blocks_with(
+    alloc: Global,
+    world: &World<'_>,
+    order: &[u16],
+    ends: &Option<Vec<u16>>,
+    naming: &Vec<Row>,
+) -> Result<Vec<Items<Block>>, AllocError>
+    requires order { IsOrder world.now.classes order.now }
+    requires few { length order.now ≤ 8192 }
+    requires ends { IfSome ends.now (λ found. AreEnds world.now.classes order.now found.items) }
+    requires naming { AreAllNaming world.now.classes order.now naming.now.items }
+    requires count { length naming.now.items ≡ length world.now.classes.records }
+    ensures blocks { IfOk result (λ all. AreAllBlocks world.now.classes order.now all.items) }
+    ensures count { IfOk result (λ all. length all.items ≡ length world.now.classes.records) }
+{
     let _facts = world.classes();
     let mut all = Vec::new(alloc);
     'interfaces: for interface in 0..world.class_count() {
-        all.push(blocks_of(alloc, world, order, interface)?)?;
+        let row = naming[interface as usize].as_slice();
+        all.push(blocks_of(alloc, world, order, ends, row, interface)?)?;
     }
     Ok(all)
 }
@@ -67,15 +92,19 @@ fn blocks_of(
     alloc: Global,
     world: &World<'_>,
     order: &[u16],
+    ends: &Option<Vec<u16>>,
+    naming: &[u32],
     interface: u16,
 ) -> Result<Items<Block>, AllocError>
     requires order { IsOrder world.now.classes order.now }
     requires few { length order.now ≤ 8192 }
+    requires ends { IfSome ends.now (λ found. AreEnds world.now.classes order.now found.items) }
+    requires naming { AreNaming world.now.classes order.now interface naming.now }
     requires interface { interface < length world.now.classes.records }
     ensures { IfOk result (AreBlocksOf world.now.classes order.now interface) }
 {
     if world.classes().is_interface(interface) {
-        Ok(Items::of(interface_blocks(alloc, world, order, interface)?))
+        Ok(Items::of(interface_blocks(alloc, world, order, ends, naming, interface)?))
     } else {
         Ok(Items::of(Vec::new(alloc)))
     }

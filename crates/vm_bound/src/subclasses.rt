@@ -23,7 +23,7 @@ pub(crate) fn all_subclasses(alloc: Global, world: &World<'_>) -> Result<Vec<Row
 }
 
 /// So many rows with nothing in them.
-fn no_rows(alloc: Global, count: u16) -> Result<Vec<Row>, AllocError>
+pub(crate) fn no_rows(alloc: Global, count: u16) -> Result<Vec<Row>, AllocError>
     ensures { IfOk result (λ rows. rows.items ≡ replicate count []) }
 {
     let mut rows = Vec::new(alloc);
@@ -34,7 +34,7 @@ fn no_rows(alloc: Global, count: u16) -> Result<Vec<Row>, AllocError>
 }
 
 /// The superclass of a class; an interface has none.
-fn parent(world: &World<'_>, class: u16) -> Option<u16>
+pub(crate) fn parent(world: &World<'_>, class: u16) -> Option<u16>
     ensures { result ≡ parent_of world.now.classes class }
 {
     let classes = world.classes();
@@ -45,11 +45,11 @@ fn parent(world: &World<'_>, class: u16) -> Option<u16>
     }
 }
 
-/// Adds a class to a row.
+/// Adds a number to a row.
 #[tactic(auto, using(crate::proofs::Subclassing::adding))]
-fn add(rows: &mut Vec<Row>, at: u16, class: u16) -> Result<(), AllocError>
+pub(crate) fn add(rows: &mut Vec<Row>, at: u16, number: u16) -> Result<(), AllocError>
     requires { at < length rows.old.items }
-    ensures { OnOk result (IsAdded rows.old.items at class rows.new.items) }
+    ensures { OnOk result (IsAdded rows.old.items at number rows.new.items) }
 {
-    rows[at as usize].push(u32::from(class))
+    rows[at as usize].push(u32::from(number))
 }

@@ -17,6 +17,7 @@ pub enum Known<'a> {
 }
 
 /// The instruction that begins at a place of a method's code, where one does.
+#[inline(always)]
 pub fn fetch(world: &World<'_>, known: Known<'_>, method: u16, place: u16) -> Option<Placed>
     requires method { method < length world.now.methods }
     requires places { KnowsAt world.now known method place }
@@ -36,6 +37,7 @@ pub fn fetch(world: &World<'_>, known: Known<'_>, method: u16, place: u16) -> Op
 }
 
 /// The instruction at a place at which one begins. Its operands and keys are not tested again.
+#[inline(always)]
 fn placed(world: &World<'_>, method: u16, place: u16) -> Option<Placed>
     requires method { method < length world.now.methods }
     requires there { IsPlace (code_at world.now method) place }

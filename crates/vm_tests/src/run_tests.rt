@@ -179,7 +179,7 @@ fn args<'a>(alloc: Global, run: &Run) -> Result<Args<'a>, AllocError> {
 }
 
 /// Memory of so many words, of which none is what a run begins with.
-fn memory(alloc: Global, words: usize) -> Result<Vec<u16>, AllocError>
+pub(crate) fn memory(alloc: Global, words: usize) -> Result<Vec<u16>, AllocError>
     ensures { IfOk result (λ v. length v.items ≡ words) }
 {
     vec![in alloc; 0xA5A5u16; words]

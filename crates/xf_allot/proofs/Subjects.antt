@@ -1,13 +1,12 @@
 -- A method of a world that has a card typing is a subject.
-use Rattle.std.proofs.Common.{◌≡◌, ℕ, ◌<◌, ◌≤◌, Bool, true, false, List, length, sym, ap, ◌∙◌, subst, arith}
-use Rattle.std.specs.Prelude.{Option, Some, Result, Ok, MatchBool, IfSome, IsSomeAnd, option_map, slice_get}
-use Rattle.std.proofs.lemmas.Option.{same_Some}
+use Rattle.std.proofs.Common.{◌≡◌, ℕ, ◌≤◌, Bool, true, false, List, length, sym, ◌∙◌, subst, arith}
+use Rattle.std.specs.Prelude.{Result, Ok, MatchBool}
 use Rattle.jc_base.specs.declared.record.MethodRec.{MethodRec}
 use Rattle.jc_base.specs.declared.ty.Ty.{Ty}
 use Rattle.jc_base.specs.Linked.{IsMethod, IsCodeLength, lacks_code}
-use Rattle.jc_base.specs.World.{Linked, IsWorld, code_of}
+use Rattle.jc_base.specs.World.{Linked, IsWorld}
 use Rattle.jc_base.proofs.Lists.{All-slice_get}
-use Rattle.jc_control.specs.Method.{Method, IsMethodOf, method_in, method_with}
+use Rattle.jc_control.specs.Method.{Method, IsMethodOf}
 use Rattle.jc_ops.specs.declared.fault.RuleFault.{RuleFault}
 use Rattle.jc_ops.specs.declared.operation.Operation.{Operation}
 use Rattle.jc_rules.specs.Footprint.{registers_asked}
@@ -18,36 +17,6 @@ use Rattle.card_typing.proofs.Own.{start-length}
 use Rattle.card_typing.specs.Typing.{CardTyping, frame_at}
 use Rattle.law_share.specs.Renamed.{register_total}
 use Rattle.xf_allot.specs.Subject.{AsksFew}
-
--- ---- a method of the world
-
-module _ (w : Linked) (n : ℕ) (rec : MethodRec) (code : List ℕ) (here : slice_get w.methods n ≡ Some rec)
-    (bytes : option_map (code_of w.infos) (slice_get w.methods n) ≡ Some code) where
-  abbrev own : Method
-  own = record { number = n; rec = rec; code = code }
-
-  own-code : code_of w.infos rec ≡ code
-  own-code = same_Some _ _ (ap (option_map (code_of w.infos)) (sym here) ∙ bytes)
-
-  method-is : method_in w n ≡ Some own
-  method-is = ap (option_map (method_with w n)) here ∙ ap (λ (c : List ℕ). Some (record { number = n; rec = rec; code = c })) own-code
-
-  pub to-method : (P : Method → Type 0) → P own → IsSomeAnd (method_in w n) P
-  to-method P h = subst (λ (o : Option Method). IsSomeAnd o P) (sym method-is) h
-
-  pub from-method : (P : Method → Type 0) → IsSomeAnd (method_in w n) P → P own
-  from-method P h = subst (λ (o : Option Method). IsSomeAnd o P) method-is h
-
-  pub is-own : 0 < length code → IsMethodOf w own
-  is-own filled = record { rec = here; code = sym own-code; filled = filled }
-
-pub own-length : (w : Linked) (n : ℕ) (rec : MethodRec) (code bytes : List ℕ) → slice_get w.methods n ≡ Some rec → code ≡ bytes
-    → IfSome (slice_get w.methods n) (λ m. length bytes ≡ m.code_len) → length code ≡ rec.code_len
-own-length w n rec code bytes here same h = ap length same ∙ subst (λ (o : Option MethodRec). IfSome o (λ m. length bytes ≡ m.code_len)) here h
-
-pub own-filled : (w : Linked) (n : ℕ) (rec : MethodRec) → slice_get w.methods n ≡ Some rec → IsSomeAnd (slice_get w.methods n) (λ m. 0 < m.code_len)
-    → 0 < rec.code_len
-own-filled w n rec here h = subst (λ (o : Option MethodRec). IsSomeAnd o (λ m. 0 < m.code_len)) here h
 
 -- ---- a method with a card typing
 

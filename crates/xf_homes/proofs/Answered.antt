@@ -33,23 +33,6 @@ use Rattle.xf_homes.specs.Walk.{argument_homes, code_events, with_events}
 use Rattle.xf_homes.specs.Answer.{IsTypingOf, IsCounted, TellsHomes}
 use Rattle.xf_homes.proofs.AllHomes.{IsTyped, are-homes, homes_found}
 
--- ---- options
-
--- the method of a number, by its record and its code
-module _ (w : Linked) (n : ℕ) (rec : MethodRec) (code : List ℕ) (here : slice_get w.methods n ≡ Some rec)
-    (bytes : option_map (code_of w.infos) (slice_get w.methods n) ≡ Some code) where
-  own-code : code_of w.infos rec ≡ code
-  own-code = same_Some _ _ (ap (option_map (code_of w.infos)) (sym here) ∙ bytes)
-
-  method-is : method_in w n ≡ Some (record { number = n; rec = rec; code = code })
-  method-is = ap (option_map (method_with w n)) here ∙ ap (λ (c : List ℕ). Some (record { number = n; rec = rec; code = c })) own-code
-
-  pub of-method : (P : Method → Type 0) → IsSomeAnd (method_in w n) P → P (record { number = n; rec = rec; code = code })
-  of-method P h = subst (λ o. IsSomeAnd o P) method-is h
-
-  pub to-method : (P : Method → Type 0) → P (record { number = n; rec = rec; code = code }) → IsSomeAnd (method_in w n) P
-  to-method P h = subst (λ o. IsSomeAnd o P) (sym method-is) h
-
 -- ---- a method with a typing has no flaw
 
 pub flaw-never : FlawsDecide → (w : Linked) (typing : List (Option Frame)) (o : Option Method) (end : ControlEnd) (f : Flaw) → end ≡ Flawed f

@@ -9,3 +9,4 @@ pub mod Led
 pub mod Reached
 pub mod Adding
 pub mod Whole
+pub mod Agreeing

@@ -98,13 +98,13 @@ one-step one code to n here same long leads keys targets rest stands led begins 
 pub record IsShifted (to : ℕ → ℕ) (n here : ℕ) (fs : List Form) : Type 0 where
   pub at : (m : ℕ) → to (n + m) ≡ here + instruction_place fs m
 
-shifted-start : (to : ℕ → ℕ) (n here : ℕ) (fs : List Form) → IsShifted to n here fs → here ≡ to n
+pub shifted-start : (to : ℕ → ℕ) (n here : ℕ) (fs : List Form) → IsShifted to n here fs → here ≡ to n
 shifted-start to n here fs shift =
     let e : n ≡ n + 0 = omega arith in
     let s : to (n + 0) ≡ here + instruction_place fs 0 = shift.at 0 in
     sym (ap to e ∙ s ∙ ap (λ (k : ℕ). here + k) (instruction-start fs) ∙ omega arith)
 
-shifted-next : (to : ℕ → ℕ) (n here long : ℕ) (f : Form) (fs : List Form) → IsShifted to n here (f ∷ fs)
+pub shifted-next : (to : ℕ → ℕ) (n here long : ℕ) (f : Form) (fs : List Form) → IsShifted to n here (f ∷ fs)
     → ((m : ℕ) → instruction_place (f ∷ fs) (suc m) ≡ long + instruction_place fs m) → IsShifted to (suc n) (here + long) fs
 shifted-next to n here long f fs shift step = record {
   at = λ m. let e : suc n + m ≡ n + suc m = omega arith in let s = shift.at (suc m) in let t = step m in rw e (omega (arith, s, t));

@@ -1,4 +1,4 @@
-ghost use Rattle.xf_layout.specs.Laws.{LaidIsNoLonger, ShortestIsOne};
+ghost use Rattle.xf_layout.specs.Laws.{LaidIsNoLonger, PlainSizesAgree, ShortestIsOne};
 
 use jc_decode::short_is_no_longer;
 
@@ -13,3 +13,8 @@ pub fn laid_is_no_longer()
 {
     short_is_no_longer();
 }
+
+/// Code that is laid for symbols in its shortest bytes has the plain size of these.
+pub fn plain_sizes_agree()
+    ensures { PlainSizesAgree }
+{}

@@ -16,5 +16,5 @@ mod symbols;
 mod widening;
 
 pub use form::Form;
-pub use laws::{laid_is_no_longer, shortest_is_one};
+pub use laws::{laid_is_no_longer, plain_sizes_agree, shortest_is_one};
 pub use symbols::{LayEnd, lay};

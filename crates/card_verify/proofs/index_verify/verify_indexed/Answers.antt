@@ -3,7 +3,7 @@ use Rattle.jc_base.specs.World.{code_of}
 use Rattle.jc_control.specs.Method.{IsMethodOf}
 use Rattle.jc_rules.specs.Apply.{frame_of}
 use Rattle.card_typing.specs.Typing.{IsLeastCardTyping}
-use Rattle.card_verify.proofs.Answering.{to-method, record-fact, is-method, own-length}
+use Rattle.jc_control.proofs.OwnMethod.{to-method, record-fact, is-method, own-length}
 use Rattle.card_verify.specs.Bound.{AreCounted, AreCountedBy, step_bound}
 use Rattle.card_verify.specs.IndexTyping.{HasIndexTyping}
 use Rattle.card_verify.specs.Refusal.{IsRefusedOver}

@@ -7,7 +7,7 @@ use Rattle.jc_rules.specs.Apply.{frame_of}
 use Rattle.jc_rules.specs.Flow.{HasFlowTyping}
 use Rattle.card_typing.specs.Typing.{HasCardTyping, IsLeastCardTyping}
 use Rattle.card_typing.specs.Refusal.{IsFlawKind, IsRefused}
-use Rattle.card_verify.proofs.Answering.{to-method, record-fact, is-method, own-length}
+use Rattle.jc_control.proofs.OwnMethod.{to-method, record-fact, is-method, own-length}
 use Rattle.card_verify.proofs.verify.verify_method.Goals as goal
 
 pub verify-requires-clause-method : goal.verify-requires-clause-method

@@ -1,7 +1,7 @@
-use Rattle.std.proofs.Common.{◌≡◌, ◌<◌, ◌+◌, ◌-◌, ◌*◌, ℕ, List, take, drop, ap, ◌∙◌, arith}
-use Rattle.jc_decode.specs.Names.{name, width}
+use Rattle.std.proofs.Common.{◌≡◌, ◌+◌, ◌-◌, ◌*◌, ℕ, take, drop, ap, ◌∙◌, arith}
+use Rattle.jc_decode.specs.Names.{width}
 use Rattle.jc_decode.specs.declared.names.TheConstants.{NAMES}
-use Rattle.jc_decode.proofs.NameTable.{piece-name, IsAscii-table, length-table, width-narrow, name-past}
+use Rattle.jc_decode.proofs.NameTable.{piece-name, IsAscii-table, width-narrow, name-past}
 use Rattle.jc_decode.proofs.names.opcode_name.Goals as goal
 
 pub overflow_add-start : goal.overflow_add-start

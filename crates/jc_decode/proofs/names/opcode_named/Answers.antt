@@ -1,6 +1,6 @@
-use Rattle.std.proofs.Common.{◌≡◌, ◌<◌, ◌≤◌, ◌+◌, ◌⊎◌, ⊎_elim, ℕ, Some, refl, sym, ap, ◌∙◌, arith}
+use Rattle.std.proofs.Common.{◌≡◌, ⊎_elim, Some, sym, ap, ◌∙◌, arith}
 use Rattle.std.proofs.lemmas.Bool.{cases_lt, false≢true}
-use Rattle.jc_decode.specs.Names.{name, HasName}
+use Rattle.jc_decode.specs.Names.{name}
 use Rattle.jc_decode.proofs.NameTable.{names-apart}
 use Rattle.jc_decode.proofs.names.opcode_named.Goals as goal
 

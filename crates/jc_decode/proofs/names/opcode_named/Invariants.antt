@@ -1,5 +1,5 @@
 use Rattle.std.proofs.Common.{◌≡◌, ◌<◌, ℕ}
-use Rattle.jc_decode.specs.Names.{name, HasName}
+use Rattle.jc_decode.specs.Names.{name}
 use Rattle.jc_decode.proofs.names.opcode_named.Given as goal
 
 -- no name before this one is the word

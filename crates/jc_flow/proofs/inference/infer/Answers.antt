@@ -6,7 +6,8 @@ use Rattle.jc_rules.specs.Typing.{state_at}
 use Rattle.jc_control.specs.Method.{Method, IsMethodOf, method_in}
 use Rattle.jc_control.specs.ControlFlow.{IsControlFlow}
 use Rattle.jc_flow.specs.Infer.{LacksTyping}
-use Rattle.jc_flow.proofs.Answered.{number-below, of-method, to-method, code-short, none-unformed, none-failed, unset-of}
+use Rattle.jc_control.proofs.OwnMethod.{of-method, to-method}
+use Rattle.jc_flow.proofs.Answered.{number-below, code-short, none-unformed, none-failed, unset-of}
 use Rattle.jc_flow.proofs.inference.infer.Goals as goal
 
 pub returns-in-Err-clause-none : goal.returns-in-Err-clause-none
@@ -32,7 +33,7 @@ settled-requires c =
       control =
           of-method c.args.world.now c.args.method c.method.result.now c.of.result.bytes.now c.method.ensures.is bytes
           (λ m. IsControlFlow m c.in-Ok.control) c.in-Ok.ensures.formed;
-      short = code-short c.args.world.now c.args.method c.method.result.now c.of.result.bytes.now c.method.ensures.is bytes c.rule_laws.ensures mo;
+      short = code-short c.args.world.now (record { number = c.args.method; rec = c.method.result.now; code = c.of.result.bytes.now }) c.rule_laws.ensures mo;
     }
 
 pub returns-clause-none : goal.returns-clause-none

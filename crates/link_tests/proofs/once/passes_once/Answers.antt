@@ -14,7 +14,7 @@ use Rattle.jc_rules.specs.Flow.{start_frame}
 use Rattle.jc_rules.specs.Stack.{cells}
 use Rattle.card_typing.specs.Pass.{HasAfterPasses}
 use Rattle.card_typing.proofs.Sites.{rule-is-of-record}
-use Rattle.card_verify.proofs.Answering.{to-method, record-fact, is-method, own-length}
+use Rattle.jc_control.proofs.OwnMethod.{to-method, record-fact, is-method, own-length}
 use Rattle.card_verify.proofs.Landing.{no-cells}
 use Rattle.card_verify.proofs.Nearest.{next-whole}
 use Rattle.link_tests.proofs.Walked.{IsComing, after-one, coming-begun, coming-next, known-here, met-here, stands-there}

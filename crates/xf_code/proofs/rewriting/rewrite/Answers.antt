@@ -8,7 +8,8 @@ use Rattle.jc_rules.specs.Typing.{state_at}
 use Rattle.jc_flow.proofs.Answered.{number-below}
 use Rattle.xf_homes.specs.Answer.{IsTypingOf}
 use Rattle.xf_homes.specs.Order.{AreHomes}
-use Rattle.xf_homes.proofs.Answered.{of-method, to-method, flaw-never}
+use Rattle.jc_control.proofs.OwnMethod.{of-method, to-method}
+use Rattle.xf_homes.proofs.Answered.{flaw-never}
 use Rattle.xf_emission.specs.Emission.{IsPlainSize}
 use Rattle.xf_emission.specs.Live.{KeepsLive}
 use Rattle.xf_emission.specs.Numbers.{HasNumbers}

@@ -6,7 +6,8 @@ use Rattle.jc_rules.specs.Typing.{state_at}
 use Rattle.jc_flow.proofs.Answered.{number-below}
 use Rattle.xf_homes.specs.Walk.{argument_homes, code_events, with_events}
 use Rattle.xf_homes.specs.Answer.{IsTypingOf}
-use Rattle.xf_homes.proofs.Answered.{of-method, to-method, flaw-never, answered-homes, answered-end, code-short}
+use Rattle.jc_control.proofs.OwnMethod.{of-method, to-method}
+use Rattle.xf_homes.proofs.Answered.{flaw-never, answered-homes, answered-end, code-short}
 use Rattle.xf_homes.proofs.finding.homes.Goals as goal
 
 pub unreachable-requires : goal.unreachable-requires

@@ -2,7 +2,7 @@
 use Rattle.std.proofs.Common.{◌≡◌, Some, option_map, slice_get, sym, subst}
 use Rattle.jc_base.specs.World.{code_of}
 use Rattle.jc_control.specs.Method.{Method}
-use Rattle.xf_homes.proofs.Answered.{of-method, to-method}
+use Rattle.jc_control.proofs.OwnMethod.{of-method, to-method}
 use Rattle.law_transform.specs.Laid.{IsLaidFor}
 use Rattle.xf_pack.specs.Passes.{IsRewrittenTo, FitsMethod}
 use Rattle.xf_pack.specs.Unlaid.{TellsUnlaid}

@@ -1,0 +1,9 @@
+pub mod Registers
+pub mod Items
+pub mod Places
+pub mod Moving
+pub mod Leading
+pub mod Numbers
+pub mod Instructions
+pub mod Handlers
+pub mod Renamed

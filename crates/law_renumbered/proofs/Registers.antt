@@ -1,0 +1,259 @@
+-- An instruction whose register has another number has the operation with that number.
+use Rattle.std.proofs.Common.{◌≡◌, ℕ, ◌<◌, ◌%◌, ◌∙◌, Bool, true, false, if◌then◌else◌, List, [], ◌∷◌, ◌++◌, map, get_or, cond, refl, sym, ap, arith}
+use Rattle.std.specs.Prelude.{ℤ, pos, nat_le, find, Option, Some, None, Result, Ok, Err}
+use Rattle.std.specs.List.{list_all, range_with_len}
+use Rattle.std.proofs.lemmas.Bool.{and_parts}
+use Rattle.std.proofs.lemmas.Bool.Decides.{nat_tests}
+use Rattle.std.proofs.lemmas.List.{get_or_past}
+use Rattle.std.proofs.lemmas.List.FromFn.{get_or-map-range_with_len}
+use Rattle.jc_base.specs.declared.record.Member.{Member}
+use Rattle.jc_base.specs.declared.record.Member.TheVariants.{ClassOf}
+use Rattle.jc_base.specs.declared.record.MethodRec.{MethodRec}
+use Rattle.jc_base.specs.Dispatch.{is_concrete}
+use Rattle.jc_base.specs.World.{Linked}
+use Rattle.jc_decode.specs.declared.insn.Insn.{Insn}
+use Rattle.jc_decode.specs.Cases.{is_switch, has_cases}
+use Rattle.jc_decode.specs.Forms.{with_operand, wide}
+use Rattle.jc_decode.specs.Layout.{Span, spans, is_in_span, is_out_of_scope, opcode_in_span, layout_from, layout_of, opcode}
+use Rattle.jc_decode.specs.declared.layout.Opcode.TheVariants.{Reserved, Unused}
+use Rattle.jc_decode.specs.Listing.{falls, jumps, is_branch}
+use Rattle.jc_decode.specs.Symbols.{jump}
+use Rattle.jc_ops.specs.declared.fault.RuleFault.{RuleFault}
+use Rattle.jc_ops.specs.declared.fault.RuleFault.TheVariants.{NotConcrete}
+use Rattle.jc_ops.specs.declared.operation.Operation.{Operation}
+use Rattle.jc_ops.specs.declared.operation.Operation.TheVariants as ops
+use Rattle.jc_ops.specs.Row.{table, row_at, unused, by_sort, by_width, by_kind, first_four, by_register, literals, binaries, orders_all, branching}
+use Rattle.jc_ops.specs.Resolve.{byte_of, resolved, on, new_object}
+use Rattle.jc_ops.specs.declared.operation.Holder.TheVariants as holders
+use Rattle.jc_ops.specs.declared.operation.TypeTest.TheVariants as tests
+use Rattle.law_share.specs.Renumbered.{renumbered}
+use Rattle.law_renumbered.specs.Instruction.{names_register, renumbered_instruction}
+
+-- the instruction that stands for another in symbols
+abbrev pub stated : (ℕ → ℕ) → Insn → Insn
+stated reg i = if is_switch i.op then i else if is_branch i.op then jump (wide i.op) else renumbered_instruction reg i
+
+abbrev pub renumbered_result : (ℕ → ℕ) → Result Operation RuleFault → Result Operation RuleFault
+renumbered_result reg (Ok op) = Ok (renumbered reg op)
+renumbered_result reg (Err fault) = Err fault
+
+-- a number of a register as a byte tells it
+abbrev pub in_byte : (ℕ → ℕ) → ℕ → ℕ
+in_byte reg x = reg x % 256
+
+-- ---- opcode by opcode
+
+module _ (reg : ℕ → ℕ) (x y z : ℤ) (len : ℕ) where
+  abbrev insn : ℕ → Insn
+  insn op = record { op = op; x = x; y = y; z = z; len = len }
+
+  table-falls : map (λ op. falls (stated reg (insn op)).op) (range_with_len 0 256) ≡ map falls (range_with_len 0 256)
+  unfolding layout_of opcode
+  table-falls = refl
+
+  table-jumps : map (λ op. jumps (stated reg (insn op)).op) (range_with_len 0 256) ≡ map jumps (range_with_len 0 256)
+  unfolding layout_of opcode
+  table-jumps = refl
+
+  module _ (w : Linked) (m : MethodRec) (place : ℕ) where
+    abbrev result : Insn → Result Operation RuleFault
+    result i = resolved w m place i (row_at i.op)
+
+    table-results : map (λ op. result (stated reg (insn op))) (range_with_len 0 256)
+        ≡ map (λ op. if names_register op then renumbered_result (in_byte reg) (result (insn op)) else result (insn op)) (range_with_len 0 256)
+    unfolding layout_of opcode row_at table by_sort by_width by_kind first_four by_register literals binaries orders_all branching unused
+    table-results = refl
+
+    -- what names a member is no load, no store and no increment
+    made-stays : {X : Type 0} (f : ℕ → ℕ) (make : X → Operation) → ((x : X) → renumbered f (make x) ≡ make x) → (r : Result X RuleFault)
+        → renumbered_result f (on make r) ≡ on make r
+    made-stays f make same (Ok x) = ap (λ op. Ok op) (same x)
+    made-stays f make same (Err fault) = refl
+
+    new-stays : (f : ℕ → ℕ) (pool : ℕ) (o : Option Member) → renumbered_result f (new_object w place pool o) ≡ new_object w place pool o
+    new-stays f pool (Some (ClassOf c)) = by (is_concrete w.classes w.methods c)
+      where
+        by : (b : Bool) → renumbered_result f (if b then Ok (ops.New place c) else Err (NotConcrete c))
+            ≡ (if b then Ok (ops.New place c) else Err (NotConcrete c))
+        by true = refl
+        by false = refl
+    new-stays f pool _ = refl
+
+    also : {X : Type 0} {a b : X} {xs ys : List X} → a ≡ b → xs ≡ ys → a ∷ xs ≡ b ∷ ys
+    also p q = cc
+
+    behind : {X : Type 0} {xs ys us vs : List X} → xs ≡ ys → us ≡ vs → xs ++ us ≡ ys ++ vs
+    behind p q = cc
+
+    abbrev kept : ℕ → Result Operation RuleFault
+    kept op = if names_register op then result (insn op) else renumbered_result (in_byte reg) (result (insn op))
+
+    four : {X : Type 0} (make : X → Operation) → ((x : X) → renumbered (in_byte reg) (make x) ≡ make x) → (a b c d : Result X RuleFault)
+        → renumbered_result (in_byte reg) (on make a) ∷ renumbered_result (in_byte reg) (on make b)
+        ∷ renumbered_result (in_byte reg) (on make c) ∷ renumbered_result (in_byte reg) (on make d) ∷ []
+        ≡ on make a ∷ on make b ∷ on make c ∷ on make d ∷ []
+    four make same a b c d =
+        also (made-stays (in_byte reg) make same a) (also (made-stays (in_byte reg) make same b)
+        (also (made-stays (in_byte reg) make same c) (also (made-stays (in_byte reg) make same d) refl)))
+
+    -- so many opcodes from this one on, but for those that name a register
+    abbrev Stay : ℕ → ℕ → Type 0
+    Stay op n = map kept (range_with_len op n) ≡ map (λ o. result (insn o)) (range_with_len op n)
+
+    stay-plain : Stay 0 119
+    unfolding row_at table by_sort by_width by_kind first_four by_register literals binaries orders_all branching unused
+    stay-plain = refl
+
+    stay-returns : Stay 119 4
+    unfolding row_at table by_sort by_width by_kind first_four by_register literals binaries orders_all branching unused
+    stay-returns = four ops.Return (λ x. refl) _ _ _ _
+
+    stay-static-reads : Stay 123 4
+    unfolding row_at table by_sort by_width by_kind first_four by_register literals binaries orders_all branching unused
+    stay-static-reads = four ops.StaticRead (λ x. refl) _ _ _ _
+
+    stay-static-writes : Stay 127 4
+    unfolding row_at table by_sort by_width by_kind first_four by_register literals binaries orders_all branching unused
+    stay-static-writes = four ops.StaticWrite (λ x. refl) _ _ _ _
+
+    stay-reads : Stay 131 4
+    unfolding row_at table by_sort by_width by_kind first_four by_register literals binaries orders_all branching unused
+    stay-reads = four (λ f. ops.FieldRead f holders.Stack) (λ x. refl) _ _ _ _
+
+    stay-writes : Stay 135 4
+    unfolding row_at table by_sort by_width by_kind first_four by_register literals binaries orders_all branching unused
+    stay-writes = four (λ f. ops.FieldWrite f holders.Stack) (λ x. refl) _ _ _ _
+
+    stay-calls : Stay 139 4
+    unfolding row_at table by_sort by_width by_kind first_four by_register literals binaries orders_all branching unused
+    stay-calls = four ops.Call (λ x. refl) _ _ _ _
+
+    stay-objects : Stay 143 3
+    unfolding row_at table by_sort by_width by_kind first_four by_register literals binaries orders_all branching unused
+    stay-objects = also (new-stays (in_byte reg) _ _) (also refl (also (made-stays (in_byte reg) ops.NewArray (λ x. refl) _) refl))
+
+    stay-tests : Stay 146 4
+    unfolding row_at table by_sort by_width by_kind first_four by_register literals binaries orders_all branching unused
+    stay-tests = also refl (also refl (also (made-stays (in_byte reg) (ops.TypeTest tests.Cast) (λ x. refl) _)
+        (also (made-stays (in_byte reg) (ops.TypeTest tests.InstanceOf) (λ x. refl) _) refl)))
+
+    stay-wide : Stay 150 19
+    unfolding row_at table by_sort by_width by_kind first_four by_register literals binaries orders_all branching unused
+    stay-wide = refl
+
+    stay-reads-wide : Stay 169 4
+    unfolding row_at table by_sort by_width by_kind first_four by_register literals binaries orders_all branching unused
+    stay-reads-wide = four (λ f. ops.FieldRead f holders.Stack) (λ x. refl) _ _ _ _
+
+    stay-reads-this : Stay 173 4
+    unfolding row_at table by_sort by_width by_kind first_four by_register literals binaries orders_all branching unused
+    stay-reads-this = four (λ f. ops.FieldRead f holders.This) (λ x. refl) _ _ _ _
+
+    stay-writes-wide : Stay 177 4
+    unfolding row_at table by_sort by_width by_kind first_four by_register literals binaries orders_all branching unused
+    stay-writes-wide = four (λ f. ops.FieldWrite f holders.Stack) (λ x. refl) _ _ _ _
+
+    stay-writes-this : Stay 181 4
+    unfolding row_at table by_sort by_width by_kind first_four by_register literals binaries orders_all branching unused
+    stay-writes-this = four (λ f. ops.FieldWrite f holders.This) (λ x. refl) _ _ _ _
+
+    stay-unused : Stay 185 71
+    unfolding row_at table by_sort by_width by_kind first_four by_register literals binaries orders_all branching unused
+    stay-unused = refl
+
+    stay-all : Stay 0 256
+    stay-all =
+        behind stay-plain (behind stay-returns (behind stay-static-reads (behind stay-static-writes
+        (behind stay-reads (behind stay-writes (behind stay-calls (behind stay-objects (behind stay-tests (behind stay-wide
+        (behind stay-reads-wide (behind stay-reads-this (behind stay-writes-wide (behind stay-writes-this stay-unused)))))))))))))
+
+    both-ways : (b : Bool) (r s g : Result Operation RuleFault) → r ≡ (if b then g else s) → (if b then s else g) ≡ s → r ≡ g
+    both-ways true r s g p q = p
+    both-ways false r s g p q = p ∙ sym q
+
+at-op : {X : Type 0} (f g : ℕ → X) → map f (range_with_len 0 256) ≡ map g (range_with_len 0 256) → (op : ℕ) → op < 256 → X → f op ≡ g op
+at-op f g e op lt d =
+    sym (get_or-map-range_with_len f 0 256 op op d lt (omega arith))
+    ∙ ap (λ xs. get_or xs op d) e
+    ∙ get_or-map-range_with_len g 0 256 op op d lt (omega arith)
+
+-- ---- opcodes that are no byte
+
+past-span : (op : ℕ) → 255 < op → (s : Span) (rest : Option Span) (a b : Bool) → nat_le s.last 255 ≡ a → is_in_span op s ≡ b → rest ≡ None
+    → a ≡ true → cond b (Some s) rest ≡ None
+past-span op lt s rest true false x y r e = r
+past-span op lt s rest false b x y r e = absurd (cc)
+past-span op lt s rest true true x y r e = absurd (grind (arith, nat_tests, lt, x, y))
+
+past-spans : (op : ℕ) → 255 < op → (ss : List Span) → list_all (λ s. nat_le s.last 255) ss ≡ true → find (is_in_span op) ss ≡ None
+past-spans op lt [] e = refl
+past-spans op lt (s ∷ ss) e =
+    let first = (and_parts (nat_le s.last 255) (list_all (λ s. nat_le s.last 255) ss) e).0 in
+    let rest = past-spans op lt ss (and_parts (nat_le s.last 255) (list_all (λ s. nat_le s.last 255) ss) e).1 in
+    past-span op lt s (find (is_in_span op) ss) (nat_le s.last 255) (is_in_span op s) refl refl rest first
+
+past-switch : (op : ℕ) → 255 < op → is_switch op ≡ false
+unfolding layout_of opcode
+past-switch op lt =
+    ap (λ o. has_cases (layout_from op (if is_out_of_scope op then Reserved else opcode_in_span o))) (past-spans op lt spans refl) ∙ by (is_out_of_scope op)
+  where
+    by : (b : Bool) → has_cases (layout_from op (if b then Reserved else Unused)) ≡ false
+    by true = refl
+    by false = refl
+
+neither : {X : Type 0} (a b c : Bool) (x y z i : X) → a ≡ false → b ≡ false → c ≡ false → (if a then x else if b then y else if c then z else i) ≡ i
+neither true b c x y z i p q r = absurd (cc)
+neither false true c x y z i p q r = absurd (cc)
+neither false false true x y z i p q r = absurd (cc)
+neither false false false x y z i p q r = refl
+
+past-stated : (reg : ℕ → ℕ) (i : Insn) → 255 < i.op → stated reg i ≡ i
+past-stated reg i lt =
+    let b : is_branch i.op ≡ false = grind (arith, nat_tests, lt) in
+    let c : names_register i.op ≡ false = grind (arith, nat_tests, lt) in
+    neither (is_switch i.op) (is_branch i.op) (names_register i.op) i (jump (wide i.op))
+    (record (with_operand i) { x = pos (reg (byte_of (with_operand i).x)) }) i (past-switch i.op lt) b c
+
+past-row : (op : ℕ) → 255 < op → row_at op ≡ unused
+unfolding row_at table by_sort by_width by_kind first_four by_register literals binaries orders_all branching unused
+past-row op lt = get_or_past table op unused lt
+
+by-size : {X : Type 0} (op : ℕ) → (op < 256 → X) → (255 < op → X) → X
+by-size {X = X} op small large = go (nat_le op 255) refl
+  where
+    go : (b : Bool) → nat_le op 255 ≡ b → X
+    go true e = small (grind (arith, nat_tests, e))
+    go false e = large (grind (arith, nat_tests, e))
+
+-- ---- instructions
+
+module _ (reg : ℕ → ℕ) (i : Insn) where
+  pub falls-stated : falls (stated reg i).op ≡ falls i.op
+  falls-stated = by-size i.op
+      (λ lt. at-op (λ op. falls (stated reg (insn reg i.x i.y i.z i.len op)).op) falls (table-falls reg i.x i.y i.z i.len) i.op lt true)
+      (λ lt. ap (λ j. falls j.op) (past-stated reg i lt))
+
+  pub jumps-stated : jumps (stated reg i).op ≡ jumps i.op
+  jumps-stated = by-size i.op
+      (λ lt. at-op (λ op. jumps (stated reg (insn reg i.x i.y i.z i.len op)).op) jumps (table-jumps reg i.x i.y i.z i.len) i.op lt true)
+      (λ lt. ap (λ j. jumps j.op) (past-stated reg i lt))
+
+  module _ (w : Linked) (m : MethodRec) (place : ℕ) where
+    abbrev does : Insn → Result Operation RuleFault
+    does j = resolved w m place j (row_at j.op)
+
+    unused-stays : renumbered_result (in_byte reg) (resolved w m place i unused) ≡ resolved w m place i unused
+    unfolding unused
+    unused-stays = refl
+
+    -- it does what the other does, in the register with the new number
+    pub does-stated : does (stated reg i) ≡ renumbered_result (in_byte reg) (does i)
+    does-stated = by-size i.op
+        (λ lt. both-ways reg i.x i.y i.z i.len w m place (names_register i.op) (does (stated reg i)) (does i) (renumbered_result (in_byte reg) (does i))
+        (at-op (λ op. does (stated reg (insn reg i.x i.y i.z i.len op)))
+        (λ op. if names_register op then renumbered_result (in_byte reg) (does (insn reg i.x i.y i.z i.len op)) else does (insn reg i.x i.y i.z i.len op))
+        (table-results reg i.x i.y i.z i.len w m place) i.op lt (does i))
+        (at-op (kept reg i.x i.y i.z i.len w m place) (λ op. does (insn reg i.x i.y i.z i.len op)) (stay-all reg i.x i.y i.z i.len w m place) i.op lt (does i)))
+        (λ lt. ap does (past-stated reg i lt)
+        ∙ (ap (λ row. resolved w m place i row) (past-row i.op lt) ∙ (sym unused-stays
+        ∙ ap (λ row. renumbered_result (in_byte reg) (resolved w m place i row)) (sym (past-row i.op lt)))))

@@ -1,0 +1,4 @@
+pub mod Instruction
+pub mod Symbols
+pub mod Numbers
+pub mod Laws

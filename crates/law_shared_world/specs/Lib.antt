@@ -1,0 +1,2 @@
+pub mod SharedCode
+pub mod Laws

@@ -1,0 +1,198 @@
+-- An instruction whose register has another number keeps to the operands that its opcode allows.
+use Rattle.std.proofs.Common.{◌≡◌, ◌<◌, ℕ, Bool, true, false, Result, Ok, Err, refl, sym, ap, ◌∙◌, subst, arith}
+use Rattle.std.specs.Prelude.{pos, map, replicate, not, ◌&&◌, ◌||◌, ◌==◌, ◌+◌, ◌-◌, ◌/◌, ◌%◌, if◌then◌else◌, ℤ, IsTrue}
+use Rattle.std.specs.List.{range_with_len}
+use Rattle.std.proofs.lemmas.Bool.{and_parts, eqb-true}
+use Rattle.jc_decode.specs.declared.insn.Insn.{Insn}
+use Rattle.jc_decode.specs.declared.insn.CodeEnd.{CodeEnd}
+use Rattle.jc_decode.specs.declared.layout.Layout.{Layout}
+use Rattle.jc_decode.specs.declared.layout.Operand.{Operand}
+use Rattle.jc_decode.specs.declared.layout.Operand.TheVariants.{Absent, U1, U2, S1, S2, S4, DupWords, SwapWords, ArrayType, TestedType}
+use Rattle.jc_decode.specs.Encoding.{Allows, AllowsBy, IsAllowed}
+use Rattle.jc_decode.specs.Forms.{is_load_n, is_store_n, is_wide_jump, wide, with_operand}
+use Rattle.jc_decode.specs.Layout.{layout_of, opcode}
+use Rattle.jc_decode.specs.Listing.{is_branch, jumps}
+use Rattle.jc_decode.proofs.Passed.{passed-at}
+use Rattle.jc_ops.specs.Resolve.{byte_of}
+use Rattle.law_renumbered.specs.Instruction.{names_register, renumbered_instruction}
+
+-- ---- by opcode
+
+abbrev is_u1 : Operand → Bool
+is_u1 U1 = true
+is_u1 Absent = false
+is_u1 U2 = false
+is_u1 S1 = false
+is_u1 S2 = false
+is_u1 S4 = false
+is_u1 DupWords = false
+is_u1 SwapWords = false
+is_u1 ArrayType = false
+is_u1 TestedType = false
+
+abbrev is_absent : Operand → Bool
+is_absent Absent = true
+is_absent U1 = false
+is_absent U2 = false
+is_absent S1 = false
+is_absent S2 = false
+is_absent S4 = false
+is_absent DupWords = false
+is_absent SwapWords = false
+is_absent ArrayType = false
+is_absent TestedType = false
+
+-- the first operand is a byte; there is no second and no third one
+abbrev first_u1 : Result Layout CodeEnd → Bool
+first_u1 (Ok l) = is_u1 l.x
+first_u1 (Err e) = false
+
+abbrev no_rest : Result Layout CodeEnd → Bool
+no_rest (Ok l) = is_absent l.y && is_absent l.z
+no_rest (Err e) = false
+
+-- the opcode of the form with an operand
+abbrev with_operand_op : ℕ → ℕ
+with_operand_op op = if is_load_n op then 21 + (op - 24) / 4 else if is_store_n op then 40 + (op - 43) / 4 else op
+
+-- what holds of an opcode with a register: the form with an operand has a byte first, and what comes after it is the same in both
+abbrev rest_stays : ℕ → Bool
+rest_stays op =
+    if is_load_n op || is_store_n op
+    then no_rest (layout_of op) && no_rest (layout_of (with_operand_op op))
+    else with_operand_op op == op
+
+abbrev has_operand : ℕ → Bool
+has_operand op = first_u1 (layout_of (with_operand_op op)) && (not (jumps (with_operand_op op)) && rest_stays op)
+
+abbrev suits_register : ℕ → Bool
+suits_register op = not (names_register op) || has_operand op
+
+abbrev suits_branch : ℕ → Bool
+suits_branch op = not (is_branch op) || is_wide_jump (wide op)
+
+registers-all : map suits_register (range_with_len 0 256) ≡ replicate 256 true
+unfolding layout_of opcode
+registers-all = refl
+
+branches-all : map suits_branch (range_with_len 0 256) ≡ replicate 256 true
+branches-all = refl
+
+rest-of-or : (a b : Bool) → (not a || b) ≡ true → a ≡ true → b ≡ true
+rest-of-or true b h e = h
+rest-of-or false b h e = absurd (cc)
+
+register-suits : (op : ℕ) → op < 256 → names_register op ≡ true → has_operand op ≡ true
+register-suits op lt e = rest-of-or (names_register op) (has_operand op) (passed-at suits_register registers-all op lt) e
+
+pub branch-wide : (op : ℕ) → op < 256 → is_branch op ≡ true → is_wide_jump (wide op) ≡ true
+branch-wide op lt e = rest-of-or (is_branch op) (is_wide_jump (wide op)) (passed-at suits_branch branches-all op lt) e
+
+-- ---- operands
+
+u1-allows : (o : Operand) (r : ℕ) → is_u1 o ≡ true → r < 256 → Allows o (pos r)
+u1-allows U1 r e lt = (lt, refl)
+u1-allows Absent r e lt = absurd (cc)
+u1-allows U2 r e lt = absurd (cc)
+u1-allows S1 r e lt = absurd (cc)
+u1-allows S2 r e lt = absurd (cc)
+u1-allows S4 r e lt = absurd (cc)
+u1-allows DupWords r e lt = absurd (cc)
+u1-allows SwapWords r e lt = absurd (cc)
+u1-allows ArrayType r e lt = absurd (cc)
+u1-allows TestedType r e lt = absurd (cc)
+
+absent-is : (o : Operand) → is_absent o ≡ true → o ≡ Absent
+absent-is Absent e = refl
+absent-is U1 e = absurd (cc)
+absent-is U2 e = absurd (cc)
+absent-is S1 e = absurd (cc)
+absent-is S2 e = absurd (cc)
+absent-is S4 e = absurd (cc)
+absent-is DupWords e = absurd (cc)
+absent-is SwapWords e = absurd (cc)
+absent-is ArrayType e = absurd (cc)
+absent-is TestedType e = absurd (cc)
+
+other-absent : (o p : Operand) (v : ℤ) → is_absent o ≡ true → is_absent p ≡ true → Allows o v → Allows p v
+other-absent o p v e f a = subst (λ q. Allows q v) (absent-is o e ∙ sym (absent-is p f)) a
+
+-- another opcode and another first operand
+other-both : (i : Insn) (op r : ℕ) → no_rest (layout_of i.op) ≡ true → no_rest (layout_of op) ≡ true → first_u1 (layout_of op) ≡ true → r < 256
+    → IsAllowed i → IsAllowed (record i { op = op; x = pos r })
+other-both i op r e f g lt a = by (layout_of i.op) (layout_of op) e f g a
+  where
+    by : (l k : Result Layout CodeEnd) → no_rest l ≡ true → no_rest k ≡ true → first_u1 k ≡ true → AllowsBy i l
+        → AllowsBy (record i { op = op; x = pos r }) k
+    by (Ok l) (Ok k) e f g a =
+        let first = and_parts (is_absent l.y) (is_absent l.z) e in
+        let other = and_parts (is_absent k.y) (is_absent k.z) f in
+        (u1-allows k.x r g lt, other-absent l.y k.y i.y first.0 other.0 a.1, other-absent l.z k.z i.z first.1 other.1 a.2)
+    by (Ok l) (Err t) e f g a = absurd (cc)
+    by (Err s) k e f g a = absurd (cc)
+
+-- another first operand
+other-first : (i : Insn) (r : ℕ) → first_u1 (layout_of i.op) ≡ true → r < 256 → IsAllowed i → IsAllowed (record i { x = pos r })
+other-first i r e lt a = by (layout_of i.op) e a
+  where
+    by : (l : Result Layout CodeEnd) → first_u1 l ≡ true → AllowsBy i l → AllowsBy (record i { x = pos r }) l
+    by (Ok l) e a = (u1-allows l.x r e lt, a.1, a.2)
+    by (Err s) e a = absurd (cc)
+
+-- ---- an instruction with another register
+
+-- the form with an operand, with this operand
+with-first : (i : Insn) (x : ℤ) → (record (with_operand i) { x = x }) ≡ record i { op = with_operand_op i.op; x = x }
+with-first i x = by (is_load_n i.op) (is_store_n i.op)
+  where
+    by : (a b : Bool)
+        → (record (if a then record i { op = 21 + (i.op - 24) / 4; x = pos ((i.op - 24) % 4) }
+        else if b then record i { op = 40 + (i.op - 43) / 4; x = pos ((i.op - 43) % 4) } else i) { x = x })
+        ≡ record i { op = if a then 21 + (i.op - 24) / 4 else if b then 40 + (i.op - 43) / 4 else i.op; x = x }
+    by true b = refl
+    by false true = refl
+    by false false = refl
+
+module _ (i : Insn) (r : ℕ) (small : i.op < 256) (lt : r < 256) (named : names_register i.op ≡ true) where
+  parts : (first_u1 (layout_of (with_operand_op i.op)) ≡ true) × ((not (jumps (with_operand_op i.op)) && rest_stays i.op) ≡ true)
+  parts =
+      and_parts (first_u1 (layout_of (with_operand_op i.op))) (not (jumps (with_operand_op i.op)) && rest_stays i.op)
+      (register-suits i.op small named)
+
+  rest : (not (jumps (with_operand_op i.op)) ≡ true) × (rest_stays i.op ≡ true)
+  rest = and_parts (not (jumps (with_operand_op i.op))) (rest_stays i.op) parts.1
+
+  named-allowed : IsAllowed i → IsAllowed (record i { op = with_operand_op i.op; x = pos r })
+  named-allowed a = by (is_load_n i.op || is_store_n i.op) rest.1
+    where
+      by : (b : Bool) → (if b then no_rest (layout_of i.op) && no_rest (layout_of (with_operand_op i.op)) else with_operand_op i.op == i.op) ≡ true
+          → IsAllowed (record i { op = with_operand_op i.op; x = pos r })
+      by true e =
+          let both = and_parts (no_rest (layout_of i.op)) (no_rest (layout_of (with_operand_op i.op))) e in
+          other-both i (with_operand_op i.op) r both.0 both.1 parts.0 lt a
+      by false e =
+          let same : with_operand_op i.op ≡ i.op = eqb-true (with_operand_op i.op) i.op e in
+          subst (λ op. IsAllowed (record i { op = op; x = pos r })) (sym same)
+          (other-first i r (subst (λ op. first_u1 (layout_of op) ≡ true) same parts.0) lt a)
+
+  named-plain : IsAllowed i → IsAllowed (record (with_operand i) { x = pos r }) × IsTrue (not (jumps (with_operand i).op))
+  named-plain a = (
+    subst IsAllowed (sym (with-first i (pos r))) (named-allowed a),
+    subst (λ (j : Insn). IsTrue (not (jumps j.op))) (sym (with-first i (pos r))) rest.0,
+  )
+
+byte-small : (x : ℤ) → byte_of x < 256
+byte-small x = omega arith
+
+pub plain-suits : (i : Insn) (reg : ℕ → ℕ) → i.op < 256 → ((x : ℕ) → x < 256 → reg x < 256) → jumps i.op ≡ false → IsAllowed i
+    → IsAllowed (renumbered_instruction reg i) × IsTrue (not (jumps (renumbered_instruction reg i).op))
+plain-suits i reg small few none a = by (names_register i.op) refl
+  where
+    r : ℕ
+    r = reg (byte_of (with_operand i).x)
+
+    by : (b : Bool) → names_register i.op ≡ b
+        → IsAllowed (if b then record (with_operand i) { x = pos r } else i)
+        × IsTrue (not (jumps (if b then record (with_operand i) { x = pos r } else i).op))
+    by true named = named-plain i r small (few (byte_of (with_operand i).x) (byte-small (with_operand i).x)) named a
+    by false other = (a, ap not none)

@@ -1,0 +1,5 @@
+pub mod Ends
+pub mod Shared
+pub mod Passes
+pub mod Numbering
+pub mod Unlaid

@@ -1,0 +1,22 @@
+//! A package whose methods have fewer registers (Chaitin 1982; Leroy 2002, section 4): packages of which each method has a card
+//! typing in, the parts of the last one out, in which variables of one type that are never needed together share registers.
+//!
+//! It stands on the sharing of one method, of `xf_allot`, on code that is laid, of `xf_layout`, on the writer of packages,
+//! `cap_write`, and on the laws of worlds with such packages, of `law_shared_world`.
+#![tactic(auto)]
+
+mod accepting;
+mod end;
+mod fewer;
+mod items;
+mod last;
+mod laying;
+mod numbering;
+mod renumbering;
+mod sharing;
+mod unlaid;
+mod writing;
+
+pub use end::ShareEnd;
+pub use fewer::Fewer;
+pub use sharing::{share, share_linked};

@@ -1,0 +1,81 @@
+ghost use Rattle.std.specs.Prelude.{◌≡◌, slice_index_or};
+ghost use Rattle.jc_decode.specs.Forms.{is_load_n, is_store_n, with_operand};
+ghost use Rattle.law_renumbered.specs.Instruction.{names_register, renumbered_instruction};
+ghost use Rattle.xf_share.specs.Numbering.{number_of};
+
+use jc_decode::Insn;
+use xf_allot::Sharing;
+
+/// An instruction with the register that it names, if any, under its new number.
+pub(crate) fn renumbered(insn: Insn, sharing: &Option<Sharing>) -> Insn
+    ensures { result ≡ renumbered_instruction (number_of sharing.now) insn }
+{
+    if !names_register(insn) {
+        return insn;
+    }
+    let named = with_operand(insn);
+    let register = (named.x.unsigned_abs() % 256) as u8;
+    Insn {
+        x: i32::from(number_of(sharing, register)),
+        ..named
+    }
+}
+
+// The new number of a register, where a method's variables share registers.
+fn number_of(sharing: &Option<Sharing>, register: u8) -> u8
+    ensures { result ≡ number_of sharing.now register }
+{
+    match sharing {
+        Some(sharing) => number_among(&sharing.numbers, register),
+        None => register,
+    }
+}
+
+fn number_among(numbers: &Vec<u8>, register: u8) -> u8
+    ensures { result ≡ slice_index_or numbers.now.items register 0 }
+{
+    match numbers.get(usize::from(register)) {
+        Some(number) => *number,
+        None => 0,
+    }
+}
+
+// Whether it names a register: a load, a store, `sinc`, `iinc` or a wide form of these two.
+fn names_register(insn: Insn) -> bool
+    ensures { result ≡ names_register insn.op }
+{
+    insn.is_register_move() || matches!(insn.op, 89 | 90 | 150 | 151)
+}
+
+// A load or store with the register in its opcode as the one with an operand.
+fn with_operand(insn: Insn) -> Insn
+    ensures { result ≡ with_operand insn }
+{
+    if is_load_n(insn.op) {
+        return Insn {
+            op: 21 + (insn.op - 24) / 4,
+            x: i32::from((insn.op - 24) % 4),
+            ..insn
+        };
+    }
+    if is_store_n(insn.op) {
+        return Insn {
+            op: 40 + (insn.op - 43) / 4,
+            x: i32::from((insn.op - 43) % 4),
+            ..insn
+        };
+    }
+    insn
+}
+
+fn is_load_n(op: u8) -> bool
+    ensures { result ≡ is_load_n op }
+{
+    24 <= op && op <= 35
+}
+
+fn is_store_n(op: u8) -> bool
+    ensures { result ≡ is_store_n op }
+{
+    43 <= op && op <= 54
+}
