@@ -53,6 +53,7 @@ mod run_tests;
 mod runs;
 #[cfg(test)]
 mod share_tests;
+#[cfg(test)]
 mod show_tests;
 #[cfg(test)]
 mod small_packages;
