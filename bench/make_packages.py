@@ -35,9 +35,9 @@ def statics_only(size):
 
 
 def dispatch(size):
-    """Full dispatch tables whose entries name the last method: entries and methods."""
+    """Full dispatch tables whose entries name the last method, of as many classes as references can name: entries and methods."""
     package = Package()
-    classes = size // 1032
+    classes = size // 2 // 1032
     count = (size - 9 * classes - 20) // 12
     package.methods, offsets = code(count, 1)
     entries = [offsets[-1]] * 255
