@@ -11,7 +11,8 @@ use Rattle.jc_base.specs.declared.visible_bodies.VisibleBodies.{VisibleBodies}
 use Rattle.jc_base.specs.Class.{ClassTable, IsClass, AreClasses, IsNextOnChain, IsEndOfChain, parent_of, list_of}
 use Rattle.jc_base.specs.Dispatch.{HasBody, IsConcrete, package_of, visible_of, visible_in, nearest_of}
 use Rattle.jc_base.specs.Linked.{AreLinkedClasses, IsLinkedClass}
-use Rattle.jc_base.specs.ByClass.{AllHaveBodies, OthersHaveBodies, IsKnownOf, AreConcrete, AreKnown, AreFilledBelow, IsFilled, IsFilledOnce, IsClimb, LeadsDown, known_at}
+use Rattle.jc_base.specs.ByClass.{AllHaveBodies, OthersHaveBodies, IsKnownOf, AreConcrete, AreKnown, AreFilledBelow, IsFilled, IsFilledOnce}
+use Rattle.jc_base.specs.ByClass.{IsClimb, LeadsDown, known_at}
 use Rattle.jc_base.proofs.Lists.{IfSome-is, slice_get-some, slice_get-set_here, slice_get-set_other}
 use Rattle.jc_base.proofs.Climbs.{climb, chain-front, parent_of-class}
 use Rattle.jc_base.proofs.Dispatches.{package_read}
@@ -81,7 +82,7 @@ module _ (t : ClassTable) (methods : List MethodRec) where
     ]),
   )
 
-  -- the truth of two facts that say the same
+  -- what the slot of the superclass tells
   module _ (slots : List (Option VisibleBodies)) (c p : ℕ) (k : VisibleBodies) (are : AreKnown t methods slots) (at : known_at slots p ≡ Some k) where
     known_is : IsKnownOf t methods p k
     known_is = IfSome-is (IsKnownOf t methods p) (known_at slots p) k (are.right p) at

@@ -1,5 +1,7 @@
--- What is found at once by the number of a class or an interface: where the numbers of its methods lie, and whether objects can be made of it.
-use Rattle.std.specs.Prelude.{◌≡◌, ◌≢◌, ◌↔◌, ℕ, ◌≤◌, ◌<◌, Bool, List, [], ◌∷◌, length, reverse, Option, Some, All, IfSome, IsSome, IsTrue, slice_get}
+-- What is found at once by the number of a class or an interface: where the numbers of its methods lie, and whether objects can be
+-- made of it.
+use Rattle.std.specs.Prelude.{◌≡◌, ◌≢◌, ◌↔◌, ℕ, ◌≤◌, ◌<◌, Bool, List, [], ◌∷◌, length, reverse}
+use Rattle.std.specs.Prelude.{Option, Some, All, IfSome, IsSome, IsTrue, slice_get}
 use Rattle.std.specs.Option.{option_flatten}
 use Rattle.jc_base.specs.declared.record.MethodRec.{MethodRec}
 use Rattle.jc_base.specs.declared.method_bounds.MethodBounds.{MethodBounds}

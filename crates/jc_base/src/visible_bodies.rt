@@ -2,7 +2,7 @@ ghost use Rattle.std.specs.Prelude.{◌≡◌, ◌≤◌, ◌<◌, ◌↔◌, Al
 ghost use Rattle.jc_base.specs.Class.{IsClass, parent_of};
 ghost use Rattle.jc_base.specs.Dispatch.{HasBody, visible_of};
 ghost use Rattle.jc_base.specs.Linked.{AreLinkedClasses};
-ghost use Rattle.jc_base.specs.ByClass.{AllHaveBodies, OthersHaveBodies, AreKnown, AreFilledBelow, IsFilled, IsFilledOnce, IsClimb, known_at};
+ghost use Rattle.jc_base.specs.ByClass.{OthersHaveBodies, AreKnown, AreFilledBelow, IsFilled, IsFilledOnce, IsClimb, known_at};
 
 use crate::class::Classes;
 use crate::concrete::{all_have_bodies, home_of, record};
