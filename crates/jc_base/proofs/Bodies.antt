@@ -19,7 +19,7 @@ same n = grind (arith, nat_tests)
 other : (n m : ℕ) → n ≢ m → (n == m) ≡ false
 other n m h = grind (arith, nat_tests)
 
-dec_eq : (a b : ℕ) → (a ≡ b) ⊎ (a ≢ b)
+pub dec_eq : (a b : ℕ) → (a ≡ b) ⊎ (a ≢ b)
 dec_eq a b = elim (eqb_tells a b) [ inl h ↦ inl h.1 | inr h ↦ inr h.1 ]
 
 module _ (t : ClassTable) (methods : List MethodRec) (c : ℕ) where
@@ -31,15 +31,15 @@ module _ (t : ClassTable) (methods : List MethodRec) (c : ℕ) where
   pub Climbs-start : (seen : List Bool) → ((home : ℕ) → get_or seen home false ≡ false) → Climbs seen c
   Climbs-start seen none = record { met = λ home h. absurd (true≢false (sym h ∙ none home)); rest = λ home h. refl }
 
-  nearest-here : (at : ℕ) (cs : List ℕ) → chain t at ≡ at ∷ cs → nearest_of t (package_of t at) at ≡ Some at
+  pub nearest-here : (at : ℕ) (cs : List ℕ) → chain t at ≡ at ∷ cs → nearest_of t (package_of t at) at ≡ Some at
   unfolding nearest_of
   nearest-here at cs e = rw (e, same (package_of t at)) refl
 
-  nearest-above : (at p home : ℕ) → chain t at ≡ at ∷ chain t p → package_of t at ≢ home → nearest_of t home at ≡ nearest_of t home p
+  pub nearest-above : (at p home : ℕ) → chain t at ≡ at ∷ chain t p → package_of t at ≢ home → nearest_of t home at ≡ nearest_of t home p
   unfolding nearest_of
   nearest-above at p home e ne = rw (e, other (package_of t at) home ne) refl
 
-  nearest-end : (at home : ℕ) → chain t at ≡ at ∷ [] → package_of t at ≢ home → nearest_of t home at ≡ None
+  pub nearest-end : (at home : ℕ) → chain t at ≡ at ∷ [] → package_of t at ≢ home → nearest_of t home at ≡ None
   unfolding nearest_of
   nearest-end at home e ne = rw (e, other (package_of t at) home ne) refl
 

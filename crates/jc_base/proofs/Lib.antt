@@ -15,6 +15,8 @@ pub mod Dispatches
 pub mod Bodies
 pub mod CodeLengths
 pub mod Concreteness
+pub mod Widening
+pub mod Filling
 pub mod Instances
 pub mod Objects
 pub mod Implementing

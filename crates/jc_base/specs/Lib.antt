@@ -7,6 +7,7 @@ pub mod Cell
 pub mod Dispatch
 pub mod Interface
 pub mod Linked
+pub mod ByClass
 pub mod Index
 pub mod World
 pub mod Laws

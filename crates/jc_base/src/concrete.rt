@@ -31,7 +31,7 @@ fn have_bodies(classes: &Classes, methods: &Methods, class: u16) -> bool
 }
 
 /// The record of a class with what holds of it.
-fn record<'c>(classes: &'c Classes, methods: &Methods, class: u16) -> &'c ClassRec
+pub(crate) fn record<'c>(classes: &'c Classes, methods: &Methods, class: u16) -> &'c ClassRec
     requires known { class < length classes.now.records }
     requires links { AreLinkedClasses 16 classes.now methods.now }
     ensures is { slice_get classes.now.records class ≡ Some result.now }
@@ -40,7 +40,7 @@ fn record<'c>(classes: &'c Classes, methods: &Methods, class: u16) -> &'c ClassR
     classes.at(class)
 }
 
-fn public_have_bodies(classes: &Classes, methods: &Methods, class: u16) -> bool
+pub(crate) fn public_have_bodies(classes: &Classes, methods: &Methods, class: u16) -> bool
     requires known { class < length classes.now.records }
     requires links { AreLinkedClasses 16 classes.now methods.now }
     ensures { IsTrue result ↔ All (HasBody methods.now) (public_of classes.now class) }
@@ -49,7 +49,7 @@ fn public_have_bodies(classes: &Classes, methods: &Methods, class: u16) -> bool
 }
 
 /// Whether the method of each entry has a body.
-fn all_have_bodies(methods: &Methods, list: &[u16]) -> bool
+pub(crate) fn all_have_bodies(methods: &Methods, list: &[u16]) -> bool
     requires { All (λ n. n < length methods.now) list.now }
     ensures { IsTrue result ↔ All (HasBody methods.now) list.now }
 {
@@ -62,7 +62,7 @@ fn all_have_bodies(methods: &Methods, list: &[u16]) -> bool
 }
 
 /// The package of a class; there are 16 at most.
-fn home_of(classes: &Classes, methods: &Methods, class: u16) -> usize
+pub(crate) fn home_of(classes: &Classes, methods: &Methods, class: u16) -> usize
     requires known { class < length classes.now.records }
     requires links { AreLinkedClasses 16 classes.now methods.now }
     ensures is { result ≡ package_of classes.now class }

@@ -4,18 +4,22 @@
 #![tactic(auto)]
 
 mod class;
+mod class_index;
 mod concrete;
 mod infos;
 mod laws;
 mod list;
+mod method_bounds;
 mod order;
 mod record;
 mod steps;
 mod target_index;
 mod ty;
+mod visible_bodies;
 mod world;
 
 pub use class::Classes;
+pub use class_index::ClassIndex;
 pub use concrete::is_concrete;
 pub use infos::Infos;
 pub use laws::{
@@ -25,6 +29,7 @@ pub use list::{
     Arrays, ClassRecs, Dispatch, Handlers, Ifaces, Indexes, Initial, Items, Members, Methods,
     Pools, Statics, Tokens, Tys,
 };
+pub use method_bounds::MethodBounds;
 pub use order::{below, is_reference, join};
 pub use record::{ArrayRec, ClassRec, Handler, Iface, Member, MethodRec, Sig, StaticRec};
 pub use steps::Steps;

@@ -2,13 +2,15 @@ ghost use Rattle.std.specs.Prelude.{◌≡◌, ◌<◌, ◌≤◌, ◌↔◌, le
 ghost use Rattle.jc_base.specs.Class.{IsClass};
 ghost use Rattle.jc_base.specs.Cell.{AreElementsOf};
 ghost use Rattle.jc_base.specs.Dispatch.{IsConcrete, is_concrete, cells_of};
+ghost use Rattle.jc_base.specs.ByClass.{AreBounds, IsIndexOf};
 ghost use Rattle.jc_base.specs.Linked.{AreDispatched, IsMember, IsLinkedClass, IsMethod, IsStatic, list_at};
 ghost use Rattle.jc_base.specs.World.{IsWorld, IsThrown, member_at, code_of, index_of, has_numbers, method_numbered};
 
 use crate::class::Classes;
-use crate::concrete::is_concrete;
+use crate::class_index::ClassIndex;
 use crate::infos::Infos;
 use crate::list::{Arrays, Indexes, Members, Methods, Pools, Statics};
+use crate::method_bounds::MethodBounds;
 use crate::record::{ArrayRec, ClassRec, Member, MethodRec, StaticRec};
 use crate::target_index::TargetIndex;
 use std::marker::Model;
@@ -24,10 +26,12 @@ pub struct World<'a> {
     statics: Statics,
     arrays: Arrays,
     indexes: Indexes<'a>,
+    by_class: ClassIndex,
 }
 
 impl<'a> Model for World<'a> {
     ghost use Rattle.jc_base.specs.World.{Linked, IsWorld};
+    ghost use Rattle.jc_base.specs.ByClass.{IsIndexOf};
 
     ghost Value = { Linked };
 
@@ -50,12 +54,14 @@ impl<'a> Model for World<'a> {
           statics = a.statics;
           arrays = a.arrays;
           indexes = a.indexes;
-        }) };
+        })
+        × IsIndexOf a.classes a.methods a.by_class };
 }
 
 impl<'a> World<'a> {
     /// The world of these lists: by package the Method info and what the pool entries name, and over all
-    /// packages the classes, methods, static fields and initial arrays, and by method its target index.
+    /// packages the classes, methods, static fields and initial arrays, by method its target index, and the
+    /// index of its classes.
     pub fn of(
         infos: Infos<'a>,
         pools: Pools,
@@ -64,10 +70,12 @@ impl<'a> World<'a> {
         statics: Statics,
         arrays: Arrays,
         indexes: Indexes<'a>,
+        by_class: ClassIndex,
     ) -> World<'a>
-        requires { IsWorld
+        requires world { IsWorld
             (record
             { infos = infos; pools = pools; classes = classes; methods = methods; statics = statics; arrays = arrays; indexes = indexes }) }
+        requires by_class { IsIndexOf classes methods by_class }
         ensures { result
             ≡ record {
               infos = infos.entry;
@@ -87,6 +95,7 @@ impl<'a> World<'a> {
             statics,
             arrays,
             indexes,
+            by_class,
         }
     }
 
@@ -183,7 +192,15 @@ impl<'a> World<'a> {
         ensures is { IsTrue result ↔ IsConcrete self.now.classes self.now.methods class }
         ensures computed { result ≡ is_concrete self.now.classes self.now.methods class }
     {
-        is_concrete(&self.classes, &self.methods, class)
+        self.by_class.is_concrete(class)
+    }
+
+    /// Where the numbers of the methods of a class or an interface lie.
+    pub fn method_bounds(&self, class: u16) -> MethodBounds
+        requires { class < length self.now.classes.records }
+        ensures { AreBounds self.now.methods class result }
+    {
+        self.by_class.bounds(class)
     }
 
     /// The method of this number.

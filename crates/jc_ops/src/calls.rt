@@ -168,11 +168,13 @@ fn is_described(method: &MethodRec, interface: u16, token: u8) -> bool
 
 /// The number of the method that the interface describes under the token, where there is one only.
 fn only_described(world: &World<'_>, interface: u16, token: u8) -> Option<u16>
+    requires { interface < length world.now.classes.records }
     ensures is { result ≡ only (described world.now.methods interface token) }
     ensures inside { IfSome result (λ n. n < length world.now.methods) }
 {
+    let bounds = world.method_bounds(interface);
     let mut found = None;
-    'methods: for n in 0..world.method_count() {
+    'methods: for n in bounds.first..bounds.end {
         if is_described(world.method(n), interface, token) {
             match found {
                 Some(_) => return None,

@@ -1,0 +1,115 @@
+ghost use Rattle.std.specs.Prelude.{◌≡◌, ◌≤◌, ◌<◌, ◌↔◌, All, IsTrue, IfOk, IfSome, Some, length, slice_get};
+ghost use Rattle.jc_base.specs.Class.{IsClass};
+ghost use Rattle.jc_base.specs.Dispatch.{IsConcrete};
+ghost use Rattle.jc_base.specs.Linked.{AreLinkedClasses};
+ghost use Rattle.jc_base.specs.ByClass.{AllHaveBodies, AreConcrete, AreFilledBelow, IsIndexOf};
+
+use crate::class::Classes;
+use crate::concrete::public_have_bodies;
+use crate::list::Methods;
+use crate::method_bounds::{MethodBounds, method_bounds};
+use crate::visible_bodies::{VisibleBodies, known_at, visible_bodies};
+use std::alloc::{AllocError, Global};
+use std::marker::Model;
+
+/// What is found at once by class or interface: where the numbers of its methods lie, and whether objects can
+/// be made of it. It is made with a world.
+#[derive(Drop)]
+pub struct ClassIndex {
+    bounds: Vec<MethodBounds>,
+    concrete: Vec<bool>,
+}
+
+impl Model for ClassIndex {
+    ghost use Rattle.jc_base.specs.ByClass.{ClassLists};
+
+    ghost Value = { ClassLists };
+
+    ghost view = { λ a. record { bounds = a.bounds.items; concrete = a.concrete.items } };
+}
+
+/// Whether all package-visible lists of a class have bodies only.
+fn visible_have_bodies(
+    classes: &Classes,
+    methods: &Methods,
+    slots: &Vec<Option<VisibleBodies>>,
+    c: u16,
+) -> bool
+    requires class { IsClass classes.now c }
+    requires slots { AreFilledBelow classes.now methods.now slots.now.items (length classes.now.records) }
+    ensures { IsTrue result ↔ AllHaveBodies classes.now methods.now c }
+{
+    match known_at(slots, c) {
+        Some(known) => known.all,
+        None => true,
+    }
+}
+
+/// Whether objects can be made of a class.
+fn is_concrete(
+    classes: &Classes,
+    methods: &Methods,
+    slots: &Vec<Option<VisibleBodies>>,
+    c: u16,
+) -> bool
+    requires known { c < length classes.now.records }
+    requires links { AreLinkedClasses 16 classes.now methods.now }
+    requires slots { AreFilledBelow classes.now methods.now slots.now.items (length classes.now.records) }
+    ensures { IsTrue result ↔ IsConcrete classes.now methods.now c }
+{
+    if classes.is_interface(c) || !public_have_bodies(classes, methods, c) {
+        return false;
+    }
+    visible_have_bodies(classes, methods, slots, c)
+}
+
+/// By class whether objects can be made of it.
+#[tactic(auto, using(crate::proofs::Filling::concretes))]
+fn concrete_classes(
+    alloc: Global,
+    classes: &Classes,
+    methods: &Methods,
+) -> Result<Vec<bool>, AllocError>
+    requires few { length classes.now.records ≤ 4096 }
+    requires links { AreLinkedClasses 16 classes.now methods.now }
+    ensures { IfOk result (λ flags. AreConcrete classes.now methods.now (length classes.now.records) flags.items) }
+{
+    let slots = visible_bodies(alloc, classes, methods)?;
+    let mut flags = Vec::with_capacity(alloc, classes.len())?;
+    'classes: for c in 0..classes.len() {
+        flags.push(is_concrete(classes, methods, &slots, c as u16))?;
+    }
+    Ok(flags)
+}
+
+impl ClassIndex {
+    /// The index of classes with their methods.
+    pub fn of(alloc: Global, classes: &Classes, methods: &Methods) -> Result<ClassIndex, AllocError>
+        requires few { length classes.now.records ≤ 4096 }
+        requires few_methods { length methods.now ≤ 32768 }
+        requires links { AreLinkedClasses 16 classes.now methods.now }
+        requires known { All (λ m. m.class < length classes.now.records) methods.now }
+        ensures { IfOk result (IsIndexOf classes.now methods.now) }
+    {
+        Ok(ClassIndex {
+            bounds: method_bounds(alloc, methods, classes.len())?,
+            concrete: concrete_classes(alloc, classes, methods)?,
+        })
+    }
+
+    /// Where the numbers of the methods of a class or an interface lie.
+    pub(crate) fn bounds(&self, c: u16) -> MethodBounds
+        requires { c < length self.now.bounds }
+        ensures { slice_get self.now.bounds c ≡ Some result }
+    {
+        self.bounds[c as usize]
+    }
+
+    /// Whether objects can be made of a class.
+    pub(crate) fn is_concrete(&self, c: u16) -> bool
+        requires { c < length self.now.concrete }
+        ensures { slice_get self.now.concrete c ≡ Some result }
+    {
+        self.concrete[c as usize]
+    }
+}
