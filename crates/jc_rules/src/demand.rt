@@ -34,6 +34,7 @@ pub struct Before<'a> {
 
 impl Before<'_> {
     /// Checks the demands in order; the fault is that of the first that is not met.
+    #[inline(always)]
     pub fn check(&self, demands: &[Demand]) -> Result<(), RuleFault>
         requires frame { AreKnown self.now.world.now.classes (frame self.now) }
         requires demands { AreKnownDemands self.now.world.now.classes demands.now }
@@ -50,6 +51,7 @@ impl Before<'_> {
     }
 
     /// The fault of a demand, where it is not met.
+    #[inline(always)]
     pub fn broken(&self, demand: Demand) -> Option<RuleFault>
         requires frame { AreKnown self.now.world.now.classes (frame self.now) }
         requires demand { IsKnownDemand self.now.world.now.classes demand }
@@ -67,6 +69,8 @@ impl Before<'_> {
     }
 
     /// The same, where more than the very type that is wanted may do.
+    #[cold]
+    #[inline(never)]
     fn fault_of(&self, demand: Demand) -> Option<RuleFault>
         requires frame { AreKnown self.now.world.now.classes (frame self.now) }
         requires demand { IsKnownDemand self.now.world.now.classes demand }
@@ -99,6 +103,7 @@ impl Before<'_> {
     }
 
     /// Whether the demand is met, as most are, by the very type that is wanted: the order of types is not asked.
+    #[inline(always)]
     fn plainly_holds(&self, demand: Demand) -> bool
         ensures { IsTrue result → Satisfies self.now.world.now.classes (frame self.now) demand }
     {
@@ -121,6 +126,7 @@ impl Before<'_> {
     }
 
     /// The cell under `n` others.
+    #[inline(always)]
     pub fn cell(&self, n: u8) -> Option<Ty>
         ensures { result ≡ slice_get (reverse self.now.stack.now) n }
     {
@@ -133,6 +139,7 @@ impl Before<'_> {
     }
 
     /// The type in a register, if the method has it.
+    #[inline(always)]
     pub fn reg(&self, x: u8) -> Option<Ty>
         ensures { result ≡ slice_get self.now.regs.now x }
     {
@@ -141,6 +148,7 @@ impl Before<'_> {
 }
 
 /// Whether what is found is as wanted.
+#[inline(always)]
 pub fn meets(classes: &Classes, want: Want, found: Ty) -> bool
     requires want_known { IsKnownWant classes.now want }
     requires found_known { IsKnown classes.now found }

@@ -94,6 +94,7 @@ impl Change {
 }
 
 /// Changes the stack, which is the first `depth` cells of the slice, and tells how many cells it has then.
+#[inline(always)]
 pub fn change_stack(stack: &mut [Ty], depth: u8, change: Change) -> u8
     requires depth { depth ≤ length stack.old }
     requires there { cells_needed change ≤ depth }

@@ -38,6 +38,7 @@ pub struct Outcome {
 
 impl Before<'_> {
     /// What the operation does, if the frame has what it asks.
+    #[inline(always)]
     fn rule(&self, operation: Operation) -> Result<Effect, RuleFault>
         requires frame { AreKnown self.now.world.now.classes (frame self.now) }
         requires known { IsKnownOperation self.now.world.now operation }
@@ -125,6 +126,7 @@ impl Before<'_> {
 }
 
 /// Reads what an operation would do, and decides whether it may: nothing is changed yet.
+#[inline(always)]
 fn plan(
     world: &World<'_>,
     operation: Operation,

@@ -17,6 +17,7 @@ use vm_step::Fault;
 use vm_store::{Store, register_count};
 
 /// A register out of range, then too few cells, then a cell that is not as wanted or a cut through an int.
+#[inline(always)]
 pub fn unmet<S: Store>(store: &S, world: &World<'_>, demands: &[Demand]) -> Option<Fault>
     requires well { S.well store.now }
     requires tested { CanTest S.Cell.cells world.now (S.state store.now) }
@@ -35,6 +36,7 @@ pub fn unmet<S: Store>(store: &S, world: &World<'_>, demands: &[Demand]) -> Opti
 }
 
 /// Whether demands ask for more registers than there are.
+#[inline(always)]
 fn ask_more_registers(demands: &[Demand], count: usize) -> bool
     ensures { result ≡ nat_lt count (registers_asked demands.now) }
 {
@@ -47,6 +49,7 @@ fn ask_more_registers(demands: &[Demand], count: usize) -> bool
 }
 
 /// The register that a demand names, counted from 1.
+#[inline(always)]
 fn registers_of(demand: Demand) -> usize
     ensures { result ≡ registers_asked (demand ∷ []) }
 {
@@ -58,6 +61,7 @@ fn registers_of(demand: Demand) -> usize
 }
 
 /// Whether demands ask for more cells than there are.
+#[inline(always)]
 fn ask_more_cells(demands: &[Demand], count: usize) -> bool
     ensures { result ≡ nat_lt count (cells_asked demands.now) }
 {
@@ -70,6 +74,7 @@ fn ask_more_cells(demands: &[Demand], count: usize) -> bool
 }
 
 /// The cell that a demand names, counted from 1 at the top.
+#[inline(always)]
 fn cells_of(demand: Demand) -> usize
     ensures { result ≡ cells_asked (demand ∷ []) }
 {
@@ -80,6 +85,7 @@ fn cells_of(demand: Demand) -> usize
     }
 }
 
+#[inline(always)]
 fn all_hold<S: Store>(store: &S, world: &World<'_>, demands: &[Demand]) -> bool
     requires well { S.well store.now }
     requires tested { CanTest S.Cell.cells world.now (S.state store.now) }
@@ -95,6 +101,7 @@ fn all_hold<S: Store>(store: &S, world: &World<'_>, demands: &[Demand]) -> bool
 }
 
 /// Whether one demand holds.
+#[inline(always)]
 fn satisfies<S: Store>(store: &S, world: &World<'_>, demand: Demand) -> bool
     requires well { S.well store.now }
     requires tested { CanTest S.Cell.cells world.now (S.state store.now) }
@@ -113,6 +120,7 @@ fn satisfies<S: Store>(store: &S, world: &World<'_>, demand: Demand) -> bool
 }
 
 /// Whether a cell, by its number from the top, is there and as wanted.
+#[inline(always)]
 pub fn cell_meets<S: Store>(store: &S, world: &World<'_>, n: usize, want: Want) -> bool
     requires well { S.well store.now }
     requires tested { CanTest S.Cell.cells world.now (S.state store.now) }
@@ -130,6 +138,7 @@ pub fn cell_meets<S: Store>(store: &S, world: &World<'_>, n: usize, want: Want) 
 }
 
 /// Whether the value of a register has a type.
+#[inline(always)]
 fn register_has<S: Store>(store: &S, world: &World<'_>, x: u8, ty: Ty) -> bool
     requires well { S.well store.now }
     requires tested { CanTest S.Cell.cells world.now (S.state store.now) }
@@ -173,6 +182,7 @@ fn is_high(found: Option<Ty>) -> bool
 }
 
 /// The least type of a cell, by its number from the top, where it is there.
+#[inline(always)]
 fn type_on<S: Store>(store: &S, world: &World<'_>, n: usize) -> Option<Ty>
     requires well { S.well store.now }
     requires tested { CanTest S.Cell.cells world.now (S.state store.now) }
