@@ -6,7 +6,7 @@ ghost use Rattle.jc_base.specs.ByClass.{AllHaveBodies, AreConcrete, AreFilledBel
 
 use crate::class::Classes;
 use crate::concrete::public_have_bodies;
-use crate::list::Methods;
+use crate::list::{Indexes, Methods};
 use crate::method_bounds::{MethodBounds, method_bounds};
 use crate::visible_bodies::{VisibleBodies, known_at, visible_bodies};
 use std::alloc::{AllocError, Global};
@@ -26,6 +26,14 @@ impl Model for ClassIndex {
     ghost Value = { ClassLists };
 
     ghost view = { λ a. record { bounds = a.bounds.items; concrete = a.concrete.items } };
+}
+
+/// What a world has beside its lists, so that it is found at once: by method the target index, and by class the index
+/// of its methods.
+#[derive(Drop)]
+pub struct Lookups<'a> {
+    pub targets: Indexes<'a>,
+    pub by_class: ClassIndex,
 }
 
 /// Whether all package-visible lists of a class have bodies only.

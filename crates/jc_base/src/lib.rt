@@ -19,7 +19,7 @@ mod visible_bodies;
 mod world;
 
 pub use class::Classes;
-pub use class_index::ClassIndex;
+pub use class_index::{ClassIndex, Lookups};
 pub use concrete::is_concrete;
 pub use infos::Infos;
 pub use laws::{

@@ -7,7 +7,7 @@ ghost use Rattle.jc_base.specs.Linked.{AreDispatched, IsMember, IsLinkedClass, I
 ghost use Rattle.jc_base.specs.World.{IsWorld, IsThrown, member_at, code_of, index_of, has_numbers, method_numbered};
 
 use crate::class::Classes;
-use crate::class_index::ClassIndex;
+use crate::class_index::{ClassIndex, Lookups};
 use crate::infos::Infos;
 use crate::list::{Arrays, Indexes, Members, Methods, Pools, Statics};
 use crate::method_bounds::MethodBounds;
@@ -60,8 +60,8 @@ impl<'a> Model for World<'a> {
 
 impl<'a> World<'a> {
     /// The world of these lists: by package the Method info and what the pool entries name, and over all
-    /// packages the classes, methods, static fields and initial arrays, by method its target index, and the
-    /// index of its classes.
+    /// packages the classes, methods, static fields and initial arrays, with the target indexes of these methods
+    /// and the index of these classes.
     pub fn of(
         infos: Infos<'a>,
         pools: Pools,
@@ -69,13 +69,20 @@ impl<'a> World<'a> {
         methods: Methods,
         statics: Statics,
         arrays: Arrays,
-        indexes: Indexes<'a>,
-        by_class: ClassIndex,
+        lookups: Lookups<'a>,
     ) -> World<'a>
         requires world { IsWorld
             (record
-            { infos = infos; pools = pools; classes = classes; methods = methods; statics = statics; arrays = arrays; indexes = indexes }) }
-        requires by_class { IsIndexOf classes methods by_class }
+            {
+              infos = infos;
+              pools = pools;
+              classes = classes;
+              methods = methods;
+              statics = statics;
+              arrays = arrays;
+              indexes = lookups.targets;
+            }) }
+        requires by_class { IsIndexOf classes methods lookups.by_class }
         ensures { result
             ≡ record {
               infos = infos.entry;
@@ -84,7 +91,7 @@ impl<'a> World<'a> {
               methods = methods;
               statics = statics;
               arrays = arrays;
-              indexes = indexes.entry;
+              indexes = lookups.entry.targets;
             } }
     {
         World {
@@ -94,8 +101,8 @@ impl<'a> World<'a> {
             methods,
             statics,
             arrays,
-            indexes,
-            by_class,
+            indexes: lookups.targets,
+            by_class: lookups.by_class,
         }
     }
 
