@@ -10,6 +10,7 @@ use jc_rules::{Mode, Outcome, RuleFault, Site, apply};
 use std::sync::ledger::Ledger;
 
 /// Applies the typing rule of an instruction as `apply` does, which is one step.
+#[inline(always)]
 pub fn apply_counted<L: Ledger>(
     world: &World<'_>,
     site: Site,

@@ -16,6 +16,7 @@ use cap_bytes::View;
 /// the bytes do not reach, also where there is none at the place; `BadOperand` with the first byte of
 /// the first operand that the instruction forbids. Of a table switch that is `high` where it is below
 /// `low`, of a lookup switch a key that is not above the one before it.
+#[inline(always)]
 pub fn decode(code: View, at: u16) -> Result<Insn, CodeEnd>
     requires { length code.bytes.now ≤ 65535 }
     ensures value { result ≡ decoded code.entry.bytes.now at }
@@ -33,6 +34,7 @@ pub fn decode(code: View, at: u16) -> Result<Insn, CodeEnd>
     insn_at(code, u32::from(at))
 }
 
+#[inline(always)]
 #[tactic(auto, unfolding(crate::specs::Decoding::decoded))]
 fn insn_at(code: View, at: u32) -> Result<Insn, CodeEnd>
     requires short { length code.bytes.now ≤ 65535 }
@@ -147,6 +149,7 @@ pub(crate) fn reach(code: View, end: u64) -> Result<u32, CodeEnd>
 }
 
 /// The refusal of the operand that begins at a place.
+#[inline(never)]
 fn refusal(code: View, at: u32) -> CodeEnd
     ensures { result ≡ bad_operand code.entry.bytes.now at }
 {

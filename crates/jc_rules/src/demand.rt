@@ -2,6 +2,7 @@ ghost use Rattle.std.specs.Prelude.{◌≡◌, ◌↔◌, ◌≤◌, ◌<◌, le
 ghost use Rattle.jc_base.specs.Class.{ClassTable, IsClass, object};
 ghost use Rattle.jc_base.specs.Order.{IsKnown};
 ghost use Rattle.jc_base.specs.declared.ty.Ty.TheVariants.{IntLow, IntHigh};
+ghost use Rattle.jc_ops.specs.declared.want.Want.TheVariants.{Value};
 ghost use Rattle.jc_ops.specs.Sound.{IsKnownWant};
 ghost use Rattle.jc_rules.specs.Demand.{SatisfiesAll, AreKnownDemands, AreKnown, frame, Meets, Satisfies, IsFirstUnmet, refusal, demand_fault, IsKnownDemand, IsArrayOrNull, IsHalf, IsFreshOf, Splits, refused_at, is_array_or_null, is_half, is_fresh_of, meets};
 
@@ -68,7 +69,7 @@ impl Before<'_> {
         }
     }
 
-    /// The same, where more than the very type that is wanted may do.
+    /// The same, where it is not plain.
     #[cold]
     #[inline(never)]
     fn fault_of(&self, demand: Demand) -> Option<RuleFault>
@@ -102,16 +103,18 @@ impl Before<'_> {
         }
     }
 
-    /// Whether the demand is met, as most are, by the very type that is wanted: the order of types is not asked.
+    /// Whether the demand is met, as most are; of a cut nothing is asked here.
     #[inline(always)]
     fn plainly_holds(&self, demand: Demand) -> bool
+        requires frame { AreKnown self.now.world.now.classes (frame self.now) }
+        requires demand { IsKnownDemand self.now.world.now.classes demand }
         ensures { IsTrue result → Satisfies self.now.world.now.classes (frame self.now) demand }
     {
         match demand {
             Demand::Registers(x, n) => x as usize + n as usize <= self.regs.len(),
             Demand::Depth(n) => n as usize <= self.stack.len(),
-            Demand::Cell(n, want) => plainly_meets(want, self.cell(n)),
-            Demand::Held(x, ty) => is_that(self.reg(x), ty),
+            Demand::Cell(n, want) => is_wanted(self.world.classes(), want, self.cell(n)),
+            Demand::Held(x, ty) => { is_wanted(self.world.classes(), Want::Value(ty), self.reg(x)) }
             Demand::Cut(_) => false,
         }
     }
@@ -147,9 +150,36 @@ impl Before<'_> {
     }
 }
 
-/// Whether what is found is as wanted.
+/// Whether what is found is as wanted. Mostly it is the very type that is wanted, and the order of types is not asked.
 #[inline(always)]
 pub fn meets(classes: &Classes, want: Want, found: Ty) -> bool
+    requires want_known { IsKnownWant classes.now want }
+    requires found_known { IsKnown classes.now found }
+    requires object_known { IsClass classes.now (object classes.now) }
+    ensures is { IsTrue result ↔ Meets classes.now want found }
+    ensures computed { result ≡ meets classes.now want found }
+{
+    if is_very(want, found) {
+        true
+    } else {
+        meets_in_order(classes, want, found)
+    }
+}
+
+/// Whether this very type is wanted.
+#[inline(always)]
+fn is_very(want: Want, found: Ty) -> bool
+    ensures { IsTrue result → want ≡ Value found }
+{
+    match want {
+        Want::Value(wanted) => same_type(found, wanted),
+        _ => false,
+    }
+}
+
+/// Whether what is found is as wanted, by the order of types.
+#[inline(never)]
+fn meets_in_order(classes: &Classes, want: Want, found: Ty) -> bool
     requires want_known { IsKnownWant classes.now want }
     requires found_known { IsKnown classes.now found }
     requires object_known { IsClass classes.now (object classes.now) }
@@ -168,6 +198,7 @@ pub fn meets(classes: &Classes, want: Want, found: Ty) -> bool
 }
 
 /// The fault of a cell or register that is not there, or not as wanted.
+#[inline(always)]
 fn judged(classes: &Classes, want: Want, found: Option<Ty>, absent: RuleFault) -> Option<RuleFault>
     requires want_known { IsKnownWant classes.now want }
     requires found_known { IfSome found (IsKnown classes.now) }
@@ -185,22 +216,16 @@ fn judged(classes: &Classes, want: Want, found: Option<Ty>, absent: RuleFault) -
     }
 }
 
-/// Whether what was found is the very type that is wanted.
-fn plainly_meets(want: Want, found: Option<Ty>) -> bool
-    ensures { (t : ClassTable) → IsTrue result → IsSomeAnd found (Meets t want) }
-{
-    match want {
-        Want::Value(ty) => is_that(found, ty),
-        _ => false,
-    }
-}
-
-/// Whether a type was found, and is that one.
-fn is_that(found: Option<Ty>, ty: Ty) -> bool
-    ensures { IsTrue result ↔ (found ≡ Some ty) }
+/// Whether something was found, and is as wanted.
+#[inline(always)]
+fn is_wanted(classes: &Classes, want: Want, found: Option<Ty>) -> bool
+    requires want_known { IsKnownWant classes.now want }
+    requires found_known { IfSome found (IsKnown classes.now) }
+    requires object_known { IsClass classes.now (object classes.now) }
+    ensures { IsTrue result → IsSomeAnd found (Meets classes.now want) }
 {
     match found {
-        Some(found) => same_type(found, ty),
+        Some(found) => meets(classes, want, found),
         None => false,
     }
 }

@@ -164,6 +164,7 @@ impl RegisterStore {
 /// Applies the typing rule of the instruction that is decoded at the site to registers and stack, which is
 /// the first `depth` cells of the slice. The slices have the lengths that the method declares. After a
 /// refusal both are as before.
+#[inline(always)]
 pub fn apply(
     world: &World<'_>,
     site: Site,

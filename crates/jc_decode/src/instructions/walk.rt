@@ -29,6 +29,7 @@ impl<'a> Iterator for Instructions<'a> {
 
     ghost remaining = { item_count rest_of };
 
+    #[inline(always)]
     fn next(&mut self) -> Option<Placed> {
         let place = self.at;
         match decode(self.code, place) {
