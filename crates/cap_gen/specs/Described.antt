@@ -51,7 +51,11 @@ descriptor_bytes =
 
 -- what it says: the types of the pool stand after 2480 bytes
 abbrev pub descriptor : Descriptor
-descriptor = record { classes = first_class ∷ map memberless_class (range_with_len 1 7); types_start = 2480; pool_types = 0xFFFF ∷ 0xFFFF ∷ [] }
+descriptor = record {
+  classes = first_class ∷ map memberless_class (range_with_len 1 7);
+  types_start = 2480;
+  pool_types = 0xFFFF ∷ 0xFFFF ∷ [];
+}
 
 -- the places in the Method component that name a pool entry: no instruction does, and of the handlers the first of each of fifty methods.
 -- The first such place is 7, and each of the others stands 16 bytes after the one before it
