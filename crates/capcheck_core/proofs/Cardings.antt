@@ -22,7 +22,8 @@ use Rattle.jc_control.specs.Asked.{AllHaveBelow}
 use Rattle.vm_offend.proofs.Accepting.{accepted-typed}
 use Rattle.xf_pack.proofs.Passing.{method-is}
 use Rattle.capcheck_core.specs.Typed.{numbers_of_method}
-use Rattle.capcheck_core.specs.Verify.{HaveCardTypings, TellsAccepted, TellsRefused, StopsAtRefused, AcceptsWorld}
+use Rattle.xf_share.specs.Ends.{HaveCardTypings}
+use Rattle.capcheck_core.specs.Verify.{TellsAccepted, TellsRefused, StopsAtRefused, AcceptsWorld}
 use Rattle.capcheck_core.proofs.Typings as typings
 use Rattle.capcheck_core.proofs.Typings.{counted}
 

@@ -24,7 +24,8 @@ use Rattle.capcheck_core.specs.declared.verdict.Verdict.{Verdict}
 use Rattle.capcheck_core.specs.declared.verdict.Verdict.TheVariants.{Done, Refused, Limit, Malformed, Usage, ReadFault, StoreFault, Memory}
 use Rattle.capcheck_core.specs.Verdict.{status_of}
 use Rattle.capcheck_core.specs.Check.{ChecksWorld}
-use Rattle.capcheck_core.specs.Verify.{HaveCardTypings, VerifiesWorld}
+use Rattle.xf_share.specs.Ends.{HaveCardTypings}
+use Rattle.capcheck_core.specs.Verify.{VerifiesWorld}
 use Rattle.capcheck_core.specs.Bounding.{bound_fault, BoundsWorld}
 use Rattle.capcheck_core.specs.Defend.{run_fault, DefendsWorld}
 use Rattle.capcheck_core.specs.Run.{RunsWorld}

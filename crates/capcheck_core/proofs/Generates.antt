@@ -58,7 +58,7 @@ use Rattle.capcheck_core.specs.Outside.{CardWords, Outside, Untouched, card_word
 use Rattle.capcheck_core.specs.Run.{HoldsWords}
 use Rattle.capcheck_core.specs.Stores.{AreInStoreOrder, AreStored}
 use Rattle.capcheck_core.specs.Transform.{StopsBefore}
-use Rattle.capcheck_core.specs.Verify.{HaveCardTypings}
+use Rattle.xf_share.specs.Ends.{HaveCardTypings}
 use Rattle.capcheck_core.proofs.Ran.{holds, wider}
 use Rattle.capcheck_core.proofs.Trials.{infos_counted, with_made, has_new, never_at_fault}
 use Rattle.capcheck_core.proofs.WorldComplete.{one_package}

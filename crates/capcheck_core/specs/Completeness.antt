@@ -39,7 +39,7 @@ use Rattle.capcheck_core.specs.Probe.{method_key}
 use Rattle.capcheck_core.specs.Report.{Seen}
 use Rattle.capcheck_core.specs.Roles.{HasRoles}
 use Rattle.capcheck_core.specs.Shorts.{AreShorts}
-use Rattle.capcheck_core.specs.Verify.{HaveCardTypings}
+use Rattle.xf_share.specs.Ends.{HaveCardTypings}
 use Rattle.capcheck_core.specs.World.{MakeWorld}
 
 -- no load, store or put failed

@@ -54,7 +54,7 @@ use Rattle.capcheck_core.specs.Roles.{HasRoles, roles_tag}
 use Rattle.capcheck_core.specs.Run.{IsLeft}
 use Rattle.capcheck_core.specs.Transform.{roles_beside}
 use Rattle.capcheck_core.specs.Typed.{count_of_last}
-use Rattle.capcheck_core.specs.Verify.{HaveCardTypings}
+use Rattle.xf_share.specs.Ends.{HaveCardTypings}
 
 -- ---- what the folders hold
 

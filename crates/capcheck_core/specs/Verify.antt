@@ -8,18 +8,15 @@ use Rattle.card_typing.specs.declared.fault.CardFault.{CardFault}
 use Rattle.card_typing.specs.Typing.{HasCardTyping}
 use Rattle.card_typing.specs.Refusal.{IsRefused}
 use Rattle.law_sound.specs.Soundness.{IsFaultFree}
+use Rattle.xf_share.specs.Ends.{HaveCardTypings}
 use Rattle.cap_text.specs.Line.{methods_line, refused_card_line}
 use Rattle.capcheck_core.specs.declared.verdict.Verdict.{Verdict}
 use Rattle.capcheck_core.specs.declared.verdict.Verdict.TheVariants.{Done, Refused, Memory}
-use Rattle.jc_control.specs.Asked.{AllHave, IsFirstWithout}
+use Rattle.jc_control.specs.Asked.{IsFirstWithout}
 use Rattle.capcheck_core.specs.Outside.{Outside, Untouched}
 use Rattle.capcheck_core.specs.OverFolders.{OverFolders}
 use Rattle.capcheck_core.specs.Typed.{numbers_of_method}
 use Rattle.capcheck_core.specs.World.{of_world, OverWorld}
-
--- every method with code of all packages has a card typing
-abbrev pub HaveCardTypings : Linked → Type 0
-HaveCardTypings w = AllHave (IsMethodOf w) (HasCardTyping w)
 
 -- each of them has one, no run of any entry meets a fault, and the text says how many they are
 pub record TellsAccepted (w : Linked) (text : List ℕ) : Type 0 where

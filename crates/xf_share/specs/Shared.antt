@@ -19,12 +19,12 @@ use Rattle.law_share.specs.Laws.{EndInStep}
 use Rattle.law_shared_world.specs.Laws.{HaveNoMore}
 use Rattle.law_shared_world.specs.SharedCode.{AreSharedOf, laid_locals, locals_of_last}
 use Rattle.xf_share.specs.declared.fewer.Fewer.{Fewer}
-use Rattle.xf_share.specs.Ends.{IsAccepted}
+use Rattle.xf_share.specs.Ends.{HaveCardTypings}
 
 -- Each method with code has a card typing. The parts stand for a package that makes a world with the libraries, in which each method
 -- with code has a card typing too and no more registers, and in which every run ends in step with that of the former world.
 pub record KeepsRuns (packages : List PackageRecord) (roles : List ℕ) (w : Linked) (parts : List Lent) : Type 0 where
-  pub accepted : IsAccepted w
+  pub accepted : HaveCardTypings w
   pub libraries : List PackageRecord
   pub source : PackageRecord
   pub are : packages ≡ and_last libraries source
@@ -32,7 +32,7 @@ pub record KeepsRuns (packages : List PackageRecord) (roles : List ℕ) (w : Lin
   pub stands : StandsFor parts made
   pub world : Linked
   pub linked : IsLinked (and_last libraries made) roles world
-  pub carded : AllHave (IsMethodOf world) (HasCardTyping world)
+  pub carded : HaveCardTypings world
   pub no_more : HaveNoMore w world
   pub in_step : EndInStep w world
 
