@@ -1,6 +1,7 @@
 -- The bytes of a method by its kind.
 use Rattle.std.proofs.Common.{◌≡◌, ◌+◌, ◌%◌, ℕ, zero, suc, List, [], ◌∷◌, ◌++◌, refl, sym, ap, ◌∙◌, arith, append_assoc}
-use Rattle.std.specs.Prelude.{◌*◌, ◌==◌, if◌then◌else◌}
+use Rattle.std.proofs.lemmas.Bool.{ne_eqb}
+use Rattle.std.specs.Prelude.{Bool, ◌*◌, ◌==◌, if◌then◌else◌}
 use Rattle.std.specs.List.{flat_map}
 use Rattle.byteorder.specs.Endian.{big_bytes}
 use Rattle.cap_gen.specs.Shape.{of_kind, shape_bytes}
@@ -51,10 +52,7 @@ unfolding entry_table
 division_entries k e = ap (λ (n : ℕ). if n == 2 then both_entries (code_offset k) else []) e
 
 none_of : (n : ℕ) (xs : List ℕ) → (n ≡ 2 → ⊥) → (if n == 2 then xs else []) ≡ []
-none_of zero xs h = refl
-none_of (suc zero) xs h = refl
-none_of (suc (suc zero)) xs h = absurd (h refl)
-none_of (suc (suc (suc n))) xs h = refl
+none_of n xs h = ap (λ (b : Bool). if b then xs else []) (ne_eqb n 2 h)
 
 pub no_entries : (k : ℕ) → (k % 4 ≡ 2 → ⊥) → entry_table k ≡ []
 unfolding entry_table
