@@ -5,11 +5,9 @@ use Rattle.cap_package.specs.Parts.{Lent}
 use Rattle.cap_package.specs.StandsFor.{StandsFor}
 use Rattle.law_package.specs.Rewritten.{IsRewritten}
 use Rattle.cap_write.specs.WrittenPackage.{IsWritten}
-use Rattle.card_typing.specs.Typing.{HasCardTyping}
 use Rattle.card_verify.specs.Counting.{IsByIndex}
 use Rattle.jc_base.specs.World.{Linked}
 use Rattle.jc_control.specs.Asked.{AllHave, IsOfLast}
-use Rattle.jc_control.specs.Method.{IsMethodOf}
 use Rattle.jc_decode.specs.declared.symbols.Laid.{Laid}
 use Rattle.jc_link.specs.World.{IsLinked}
 use Rattle.law_index.specs.WrittenIndex.{HasRoomForIndex}
