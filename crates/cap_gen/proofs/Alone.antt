@@ -1,7 +1,7 @@
 -- Each method of the world that a generated package makes has a dataflow typing.
 use Rattle.std.proofs.Common.{◌≡◌, ◌<◌, ◌+◌, ◌%◌, ℕ, zero, suc, List, [], ◌∷◌, map, take, drop, Some, refl, sym, ap, subst, ◌∙◌}
 use Rattle.std.proofs.Common.{arith, get_or}
-use Rattle.std.specs.Prelude.{slice_get}
+use Rattle.std.specs.Prelude.{◌*◌, slice_get}
 use Rattle.std.specs.List.{range_with_len}
 use Rattle.std.proofs.lemmas.List.FromFn.{get_or-map-range_with_len}
 use Rattle.jc_base.specs.declared.ty.Ty.TheVariants.{Top}
@@ -10,10 +10,9 @@ use Rattle.jc_base.specs.World.{Linked, code_of}
 use Rattle.jc_control.specs.Method.{Method, IsMethodOf}
 use Rattle.jc_rules.specs.Flow.{HasFlowTyping}
 use Rattle.jc_link.specs.World.{IsLinked}
-use Rattle.cap_laying.specs.HandlerTable.{entry_bytes}
-use Rattle.cap_gen.specs.Methods.{each_from, method_bytes, entry_table, entries, method_info, shape, code_offset, code_size_of_kind, first_constant}
-use Rattle.cap_gen.specs.Methods.{second_constant}
+use Rattle.cap_gen.specs.Methods.{each_method, method_bytes, entry_table, method_info, code_offset, code_size_of_kind}
 use Rattle.cap_gen.specs.Linked.{roles, method_record}
+use Rattle.cap_gen.specs.Shape.{of_kind}
 use Rattle.cap_gen.proofs.Linking.{alone, methods_are}
 use Rattle.cap_gen.proofs.Typed.{method_of, kind_typed}
 
@@ -21,11 +20,18 @@ use Rattle.cap_gen.proofs.Typed.{method_of, kind_typed}
 abbrev code_there : ℕ → ℕ → List ℕ
 code_there seed k = take (code_size_of_kind k) (drop (code_offset k) (method_info seed))
 
+-- the constants of a method
+abbrev first_constant : ℕ → ℕ → ℕ
+first_constant seed k = (seed + k) % 100
+
+abbrev second_constant : ℕ → ℕ → ℕ
+second_constant seed k = (seed + 2 * k) % 100
+
 abbrev code_is : ℕ → ℕ → List ℕ
-code_is seed k = (shape seed k).code
+code_is seed k = (of_kind (k % 4) (first_constant seed k) (second_constant seed k)).code
 
 codes_stand : (seed : ℕ) → map (code_there seed) (range_with_len 0 200) ≡ map (code_is seed) (range_with_len 0 200)
-unfolding entry_bytes each_from method_bytes entry_table entries method_info
+unfolding each_method method_bytes entry_table method_info
 codes_stand seed = refl
 
 code_stands : (seed k : ℕ) → k < 200 → code_there seed k ≡ code_is seed k

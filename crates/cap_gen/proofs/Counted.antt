@@ -18,13 +18,13 @@ use Rattle.cap_package.specs.NameChecks.{is_method_at, no_method_fault, no_entry
 use Rattle.cap_package.specs.NameChecks.{undescribed_class_fault, not_own_fault}
 use Rattle.cap_package.specs.TypeChecks.{field_type_fault, method_type_fault}
 use Rattle.cap_package.specs.CountChecks.{differ, array_bytes, image_bytes, instance_fault, described_cells, count_if}
-use Rattle.cap_gen.specs.Methods.{each_from}
+use Rattle.cap_gen.specs.Methods.{each_method}
 use Rattle.cap_gen.specs.Described.{methods, described_bytes, descriptor_bytes}
-use Rattle.cap_gen.specs.Generated.{generated}
+use Rattle.cap_gen.specs.Generated.{generated_parts}
 use Rattle.cap_gen.specs.Record.{package_record}
 
 module _ (seed : ℕ) where
-  pub no_customs : at_fault (form_fault (generated seed)) (custom_tags (package_record seed).directory) ≡ []
+  pub no_customs : at_fault (form_fault (generated_parts seed)) (custom_tags (package_record seed).directory) ≡ []
   no_customs = refl
 
   pub imports_agree : disagreements Imports (package_record seed).directory.import_count (length (package_record seed).imports) ≡ []
@@ -80,7 +80,7 @@ module _ (seed : ℕ) where
   pub all_typed : (at_fault (field_type_fault (package_record seed).description) (fields (package_record seed))
       ++ at_fault (method_type_fault (package_record seed).description 510) (methods_of (package_record seed).description.items.classes))
       ++ at_fault (method_type_fault (package_record seed).description 254) (interface_methods (package_record seed)) ≡ []
-  unfolding each_from methods described_bytes descriptor_bytes field_type_fault field_type method_type_fault argument_words types_in names_interface
+  unfolding each_method methods described_bytes descriptor_bytes field_type_fault field_type method_type_fault argument_words types_in names_interface
   all_typed = refl
 
   pub fields_inside : at_fault (image_fault (package_record seed).statics (package_record seed).description) (fields (package_record seed))

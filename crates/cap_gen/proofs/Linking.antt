@@ -5,7 +5,6 @@ use Rattle.std.specs.Option.{option_to_list}
 use Rattle.std.proofs.Common.{sym, subst}
 use Rattle.first_fault.specs.First.{AllEmpty, at_fault}
 use Rattle.cap_pool.specs.PoolReference.{referred}
-use Rattle.cap_laying.specs.HandlerTable.{entry_bytes}
 use Rattle.cap_desc.specs.TypeFormat.{types_in}
 use Rattle.cap_components.specs.Descriptions.{field_type}
 use Rattle.cap_components.specs.PackageRecord.{PackageRecord, names_interface}
@@ -44,7 +43,8 @@ use Rattle.jc_link.specs.Room.{statics_fault}
 use Rattle.cap_package.specs.StaticChecks.{place_in}
 use Rattle.cap_index.specs.Indexes.{indexes_of}
 use Rattle.jc_link.specs.World.{classes_of, conditions, table_of, methods_of, statics_of, IsLinked}
-use Rattle.cap_gen.specs.Methods.{each_from, method_bytes, entry_table, entries, method_info}
+use Rattle.cap_gen.specs.Methods.{each_method, method_bytes, entry_table, method_info}
+use Rattle.cap_gen.specs.Handlers.{entries}
 use Rattle.cap_gen.specs.Described.{methods, described_bytes, descriptor_bytes, location_bytes}
 use Rattle.cap_gen.specs.Record.{package_record}
 use Rattle.cap_gen.specs.Linked.{roles, method_record}
@@ -87,7 +87,7 @@ unfolding place_in field_type kind_of
 few_statics seed = refl
 
 faultless : (seed : ℕ) → AllEmpty (conditions (alone seed) roles)
-unfolding entry_bytes each_from method_bytes entry_table entries method_info methods described_bytes descriptor_bytes location_bytes types_in field_type
+unfolding each_method method_bytes entry_table entries method_info methods described_bytes descriptor_bytes location_bytes types_in field_type
     names_interface header_in is_interface parent_of line_parent chain line_chain chain_over line_chain_over height package_of line_package public_of
     visible_of cell_count own_cells cells_of entry_at nearest_of visible_in dispatched is_concrete is_on_chain on_line_chain is_below no_package_fault
     class_references no_class_fault named_interface named_package fields_described instance_fields with_token cells_of_field cells_of_fields dispatch_entry
@@ -145,7 +145,7 @@ packages_link seed = (
 
 -- its methods
 pub methods_are : (seed : ℕ) → named_methods (alone seed) roles ≡ map method_record (range_with_len 0 200)
-unfolding entry_bytes each_from method_bytes entry_table entries method_info methods described_bytes descriptor_bytes types_in names_interface header_in
+unfolding each_method method_bytes entry_table entries method_info methods described_bytes descriptor_bytes types_in names_interface header_in
     handler_named body_of class_described have_headers named_method named_methods class_at is_interface_number referred class_referred class_named type_of
     declared_signature
 methods_are seed = refl

@@ -3,8 +3,8 @@ use Rattle.std.proofs.Common.{◌≡◌, ◌<◌, ◌+◌, ℕ, List, [], map, t
 use Rattle.std.specs.List.{range_with_len}
 use Rattle.std.proofs.lemmas.List.FromFn.{get_or-map-range_with_len}
 use Rattle.cap_method.specs.declared.handler.HandlerInfo.{HandlerInfo}
-use Rattle.cap_laying.specs.HandlerTable.{entry_bytes}
-use Rattle.cap_gen.specs.Methods.{each_from, method_bytes, entry_table, entries, entries_of_kind, method_info, method_offset, code_size_of_kind, handlers}
+use Rattle.cap_gen.specs.Methods.{each_method, method_bytes, entry_table, method_info, method_offset, code_size_of_kind}
+use Rattle.cap_gen.specs.Handlers.{entries, entries_of_kind, handlers}
 use Rattle.cap_gen.specs.Methods.{handler_index}
 use Rattle.cap_gen.specs.GeneratedPackage.{StandsThere}
 
@@ -18,14 +18,14 @@ abbrev bytes_there : ℕ → ℕ → List ℕ
 bytes_there seed k = take (code_size_of_kind k + 2) (drop (method_offset k) (method_info seed))
 
 all_bytes : (seed : ℕ) → map (bytes_there seed) (range_with_len 0 200) ≡ map (method_bytes seed) (range_with_len 0 200)
-unfolding entry_bytes each_from method_bytes entry_table entries method_info
+unfolding each_method method_bytes entry_table method_info
 all_bytes seed = refl
 
 abbrev entries_there : ℕ → List HandlerInfo
 entries_there k = take (length (handlers k)) (drop (handler_index k) entries)
 
 all_entries : map entries_there (range_with_len 0 200) ≡ map entries_of_kind (range_with_len 0 200)
-unfolding each_from entries
+unfolding each_method entries
 all_entries = refl
 
 pub methods_stand : (seed k : ℕ) → k < 200 → StandsThere seed k

@@ -14,10 +14,6 @@ file tag info = record { part = tag; bytes = tag ∷ (big_bytes 2 (length info) 
 abbrev pub header_bytes : List ℕ
 header_bytes = 0xDE ∷ 0xCA ∷ 0xFF ∷ 0xED ∷ 2 ∷ 2 ∷ 0 ∷ 0 ∷ 1 ∷ 5 ∷ 0xF0 ∷ 1 ∷ 2 ∷ 3 ∷ 4 ∷ 0 ∷ []
 
--- no import
-abbrev pub import_bytes : List ℕ
-import_bytes = 0 ∷ []
-
 -- a Classref of the first class, and one of the fourth
 abbrev pub pool_bytes : List ℕ
 pool_bytes = 0 ∷ 2 ∷ 1 ∷ 0 ∷ 2 ∷ 0 ∷ 1 ∷ 0 ∷ 32 ∷ 0 ∷ []
@@ -36,7 +32,7 @@ static_bytes = 0 ∷ 2 ∷ 0 ∷ 0 ∷ 0 ∷ 0 ∷ 0 ∷ 0 ∷ 0 ∷ 2 ∷ 0 ∷
 
 -- the sizes of the components 1 to 12
 abbrev pub sizes : ℕ → List ℕ
-sizes seed = length header_bytes ∷ 33 ∷ 0 ∷ length import_bytes ∷ length pool_bytes ∷ length classes_bytes
+sizes seed = length header_bytes ∷ 33 ∷ 0 ∷ 1 ∷ length pool_bytes ∷ length classes_bytes
     ∷ length (method_info seed) ∷ length static_bytes ∷ length location_bytes ∷ 0 ∷ length descriptor_bytes ∷ 0 ∷ []
 
 -- an image of two bytes, with no initial array; no import, no applet and no custom component
@@ -44,11 +40,11 @@ abbrev pub directory_bytes : ℕ → List ℕ
 directory_bytes seed = flat_map (big_bytes 2) (sizes seed) ++ 0 ∷ 2 ∷ 0 ∷ 0 ∷ 0 ∷ 0 ∷ 0 ∷ 0 ∷ 0 ∷ []
 
 -- the parts
-abbrev pub generated : ℕ → List Lent
-generated seed =
+abbrev pub generated_parts : ℕ → List Lent
+generated_parts seed =
     file 1 header_bytes
     ∷ file 2 (directory_bytes seed)
-    ∷ file 4 import_bytes
+    ∷ file 4 (0 ∷ [])  -- no import
     ∷ file 5 pool_bytes
     ∷ file 6 classes_bytes
     ∷ file 7 (method_info seed)

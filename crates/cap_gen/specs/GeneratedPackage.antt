@@ -9,14 +9,14 @@ use Rattle.jc_link.specs.World.{IsLinked}
 use Rattle.jc_rules.specs.Flow.{HasFlowTyping}
 use Rattle.cap_gen.specs.Shape.{of_kind}
 use Rattle.cap_gen.specs.Linked.{record_of, roles}
-use Rattle.cap_gen.specs.Methods.{method_bytes, method_offset, code_size_of_kind, method_info, handlers, handler_index, entries}
-use Rattle.cap_gen.specs.Methods.{entries_of_kind}
-use Rattle.cap_gen.specs.Generated.{generated}
+use Rattle.cap_gen.specs.Methods.{method_bytes, method_offset, code_size_of_kind, method_info, handler_index}
+use Rattle.cap_gen.specs.Handlers.{handlers, entries, entries_of_kind}
+use Rattle.cap_gen.specs.Generated.{generated_parts}
 use Rattle.cap_gen.specs.Record.{package_record}
 
 -- the parts stand for the package
 abbrev pub PartsStand : Type 0
-PartsStand = (seed : ℕ) → StandsFor (generated seed) (package_record seed)
+PartsStand = (seed : ℕ) → StandsFor (generated_parts seed) (package_record seed)
 
 -- the header and the code of a method stand where the Descriptor tells, and its entries at their number of the handler table
 pub record StandsThere (seed k : ℕ) : Type 0 where

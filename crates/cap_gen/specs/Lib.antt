@@ -1,5 +1,6 @@
 pub mod Shape
 pub mod Methods
+pub mod Handlers
 pub mod Described
 pub mod Generated
 pub mod Record

@@ -1,12 +1,13 @@
 -- What the components of the generated package say (JCVM 2.2, chapter 6).
-use Rattle.std.specs.Prelude.{ℕ, List, [], ◌∷◌, None}
+use Rattle.std.specs.Prelude.{ℕ, List, [], ◌∷◌, replicate, None}
 use Rattle.cap_bytes.specs.declared.format.Format.TheVariants.{V22}
 use Rattle.cap_frame.specs.HeaderFormat.{HeaderItems}
 use Rattle.cap_class.specs.ClassFormat.{Class}
 use Rattle.cap_components.specs.PackageRecord.{PackageRecord}
-use Rattle.cap_gen.specs.Methods.{method_info, entries}
-use Rattle.cap_gen.specs.Described.{descriptor_bytes, descriptor, pool_distances}
-use Rattle.cap_gen.specs.Generated.{generated, sizes}
+use Rattle.cap_gen.specs.Methods.{method_info}
+use Rattle.cap_gen.specs.Handlers.{entries}
+use Rattle.cap_gen.specs.Described.{descriptor_bytes, descriptor}
+use Rattle.cap_gen.specs.Generated.{generated_parts, sizes}
 
 -- a class at an offset, below the one with a reference
 abbrev pub class_record : ℕ → ℕ → Class
@@ -41,7 +42,7 @@ header = record {
 
 abbrev pub package_record : ℕ → PackageRecord
 package_record seed = record {
-  parts = generated seed;
+  parts = generated_parts seed;
   header = header;
   directory = record {
     sizes = sizes seed;
@@ -58,7 +59,7 @@ package_record seed = record {
   classes = classes;
   methods = record { info = method_info seed; handlers = entries };
   statics = record { image_size = 2; reference_count = 0; arrays = []; default_value_count = 0; values = 0 ∷ 7 ∷ [] };
-  locations = record { byte = []; byte2 = pool_distances };
+  locations = record { byte = []; byte2 = 7 ∷ replicate 49 16 };
   export = None;
   description = record { info = descriptor_bytes; items = descriptor };
 }

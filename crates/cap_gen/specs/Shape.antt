@@ -1,8 +1,7 @@
 -- The four kinds of method of a generated package (JCVM 2.2, sections 6.9 and 7.5). Each is static and has two short
 -- arguments, a in local 0 and b in local 1, a short result, and a stack of two cells; c and d are constants in it.
-use Rattle.std.specs.Prelude.{ℕ, zero, suc, List, [], ◌∷◌, ◌++◌}
+use Rattle.std.specs.Prelude.{ℕ, zero, suc, ◌+◌, ◌*◌, List, [], ◌∷◌}
 use Rattle.jc_decode.specs.declared.symbols.LaidHandler.{LaidHandler}
-use Rattle.cap_laying.specs.HeaderBytes.{HeaderNumbers, compact_bytes}
 
 -- the locals beside the arguments, and the code
 pub record Shape : Type 0 where
@@ -62,10 +61,6 @@ handlers_of_kind (suc (suc zero)) =
     record { start = 0; length = 3; entry = 4; pool = 1 } ∷ record { start = 0; length = 8; entry = 8; pool = 0 } ∷ []
 handlers_of_kind (suc (suc (suc n))) = []
 
--- the numbers of its header
-abbrev pub numbers_of : Shape → HeaderNumbers
-numbers_of s = record { max_stack = 2; nargs = 2; max_locals = s.max_locals }
-
--- its bytes in the Method component: a compact header, and the code
+-- its bytes in the Method component: a compact header, of a stack of two cells, two arguments and the locals, and the code
 abbrev pub shape_bytes : Shape → List ℕ
-shape_bytes s = compact_bytes (numbers_of s) ++ s.code
+shape_bytes s = 2 ∷ (16 * 2 + s.max_locals) ∷ s.code

@@ -1,7 +1,7 @@
-ghost use Rattle.std.specs.Prelude.{◌≡◌, ◌<◌, ◌++◌, length, IfOk, OnOk};
+ghost use Rattle.std.specs.Prelude.{◌≡◌, ◌<◌, ◌++◌, IfOk, OnOk};
 ghost use Rattle.cap_gen.specs.Described.{described_bytes, descriptor_bytes};
 ghost use Rattle.cap_gen.specs.Generated.{file};
-ghost use Rattle.cap_gen.specs.Methods.{code_size_of_kind, each_method, handler_index, handlers};
+ghost use Rattle.cap_gen.specs.Methods.{code_size_of_kind, each_method, handler_count, handler_index};
 
 use crate::methods::{COUNT, method_offset, put_numbers};
 use crate::plain::{DESCRIPTOR_HEAD, DESCRIPTOR_TAIL};
@@ -27,7 +27,7 @@ fn handler_index(number: u8) -> u16
 
 /// How many entries it has.
 fn handler_count(number: u8) -> u16
-    ensures { result ≡ length (handlers number) }
+    ensures { result ≡ handler_count number }
 {
     if number % 4 == 2 { 2 } else { 0 }
 }

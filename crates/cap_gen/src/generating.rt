@@ -1,6 +1,6 @@
 ghost use Rattle.std.specs.Prelude.{◌≡◌, ◌∷◌, ◌++◌, [], IsNone, IfOk, OnOk};
 ghost use Rattle.cap_components.specs.Parts.{held};
-ghost use Rattle.cap_gen.specs.Generated.{generated};
+ghost use Rattle.cap_gen.specs.Generated.{generated_parts};
 ghost use Rattle.cap_gen.specs.Plain.{first_parts};
 
 use crate::described::descriptor_file;
@@ -40,7 +40,7 @@ fn first_parts(alloc: Global) -> Result<OwnedParts, AllocError>
 /// for a package, which makes a world alone where its classes in their order have the roles of object, throwable and the six
 /// exceptions, and in which each method has a dataflow typing.
 pub fn generate(alloc: Global, seed: u32) -> Result<OwnedParts, AllocError>
-    ensures { IfOk result (λ parts. parts ≡ generated seed) }
+    ensures { IfOk result (λ parts. parts ≡ generated_parts seed) }
 {
     let mut parts = first_parts(alloc)?;
     parts.put(Part(7), method_file(alloc, seed)?)?;

@@ -1,8 +1,7 @@
-ghost use Rattle.std.specs.Prelude.{◌≡◌, ◌<◌, ◌++◌, IfOk, OnOk};
+ghost use Rattle.std.specs.Prelude.{◌≡◌, ◌<◌, ◌+◌, ◌*◌, ◌%◌, ◌++◌, IfOk, OnOk};
 ghost use Rattle.byteorder.specs.Endian.{big_bytes};
 ghost use Rattle.cap_gen.specs.Generated.{file};
-ghost use Rattle.cap_gen.specs.Methods.{each_method, entry_table, first_constant, method_bytes, method_info};
-ghost use Rattle.cap_gen.specs.Methods.{method_offset, second_constant};
+ghost use Rattle.cap_gen.specs.Methods.{each_method, entry_table, method_bytes, method_info, method_offset};
 
 use std::alloc::{AllocError, Global};
 
@@ -11,14 +10,14 @@ pub(crate) const COUNT: u8 = 200;
 
 /// The first constant in the code of a method.
 fn first_constant(seed: u32, number: u8) -> u8
-    ensures { result ≡ first_constant seed number }
+    ensures { result ≡ (seed + number) % 100 }
 {
     ((u64::from(seed) + u64::from(number)) % 100) as u8
 }
 
 /// The second.
 fn second_constant(seed: u32, number: u8) -> u8
-    ensures { result ≡ second_constant seed number }
+    ensures { result ≡ (seed + 2 * number) % 100 }
 {
     ((u64::from(seed) + 2 * u64::from(number)) % 100) as u8
 }

@@ -1,7 +1,12 @@
 -- The first word that ends the folders, sought word by word.
 use Rattle.std.proofs.Common.{◌≡◌, ℕ, ◌+◌, true, false, List, [], ◌∷◌, length, drop, suc, zero, sym, ◌∙◌, ap, refl, arith}
+use Rattle.std.specs.Prelude.{Bool, codes}
 use Rattle.std.specs.List.{position_or_len, after_first}
-use Rattle.cap_text.specs.Run.{is_end}
+use Rattle.std.specs.Str.{bytes_eq}
+
+-- the word ends the folders
+abbrev pub is_end : List ℕ → Bool
+is_end word = bytes_eq word (codes "--")
 
 next_dropped : (n : ℕ) (ws : List (List ℕ)) (word : List ℕ) (tail : List (List ℕ)) → drop n ws ≡ word ∷ tail → drop (suc n) ws ≡ tail
 next_dropped zero [] word tail is = absurd (cc)

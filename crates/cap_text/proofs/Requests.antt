@@ -7,12 +7,13 @@ use Rattle.std.proofs.lemmas.Fmt.{decimal_injective, signed_decimal_injective, d
 use Rattle.std.proofs.lemmas.Bool.{eqb-false}
 use Rattle.cap_text.specs.Word.{IsArgWord, AreArgWords}
 use Rattle.cap_text.specs.Probe.{ProbeRequest, IsProbe}
-use Rattle.cap_text.specs.OfDir.{OfDirRequest, IsOfDir}
+use Rattle.cap_text.specs.OfDir.{IsOfDir}
 use Rattle.cap_text.specs.OutOfDir.{OutOfDirRequest, IsOutOfDir}
-use Rattle.cap_text.specs.OfDirs.{OfDirsRequest, IsOfDirs}
+use Rattle.cap_text.specs.OfDirs.{IsOfDirs}
 use Rattle.cap_text.specs.Entry.{IsEntryWord}
 use Rattle.std.specs.List.{after_first}
-use Rattle.cap_text.specs.Run.{RunRequest, AreRunWords, is_end}
+use Rattle.cap_text.specs.Run.{RunRequest, AreRunWords}
+use Rattle.cap_text.proofs.Ends.{is_end}
 use Rattle.cap_text.specs.OutOfDirs.{OutOfDirsRequest, IsOutOfDirs}
 use Rattle.cap_text.specs.Generate.{GenerateRequest, IsGenerate}
 use Rattle.cap_text.specs.EntryWords.{EntryRequest, AreEntryWords}
@@ -73,9 +74,9 @@ one_probe (dir ∷ budget ∷ args) p q is_p is_q =
     let same_args = one_list args p.args q.args is_p.3 is_q.3 in
     λ i. record { dir = same_dir i; budget = steps i; args = same_args i }
 
-one_of_dir : (operands : List (List ℕ)) (d e : OfDirRequest) → IsOfDir operands d → IsOfDir operands e → d ≡ e
+one_of_dir : (operands : List (List ℕ)) (d e : List ℕ) → IsOfDir operands d → IsOfDir operands e → d ≡ e
 one_of_dir [] d e is_d is_e = absurd is_d
-one_of_dir (dir ∷ []) d e is_d is_e = let same : d.dir ≡ e.dir = is_d.0 ∙ sym is_e.0 in λ i. record { dir = same i }
+one_of_dir (dir ∷ []) d e is_d is_e = is_d.0 ∙ sym is_e.0
 one_of_dir (dir ∷ more ∷ rest) d e is_d is_e = absurd is_d
 
 one_out_of_dir : (operands : List (List ℕ)) (o p : OutOfDirRequest) → IsOutOfDir operands o → IsOutOfDir operands p → o ≡ p
@@ -87,8 +88,8 @@ one_out_of_dir (out ∷ dir ∷ []) o p is_o is_p =
     λ i. record { out = same_out i; dir = same_dir i }
 one_out_of_dir (out ∷ dir ∷ more ∷ rest) o p is_o is_p = absurd is_o
 
-one_of_dirs : (operands : List (List ℕ)) (d e : OfDirsRequest) → IsOfDirs operands d → IsOfDirs operands e → d ≡ e
-one_of_dirs operands d e is_d is_e = let same : d.dirs ≡ e.dirs = is_d.0 ∙ sym is_e.0 in λ i. record { dirs = same i }
+one_of_dirs : (operands : List (List ℕ)) (d e : List (List ℕ)) → IsOfDirs operands d → IsOfDirs operands e → d ≡ e
+one_of_dirs operands d e is_d is_e = is_d.0 ∙ sym is_e.0
 
 -- an entry has one word
 one_entry : (word : List ℕ) (e f : Entry) → IsEntryWord word e → IsEntryWord word f → e ≡ f
@@ -181,19 +182,19 @@ none_called : (name : List ℕ) (operands : List (List ℕ)) (called : List ℕ)
     → ((r : Request) → key_of r ≡ key called → IsRequest (name ∷ operands) r → ⊥) → (r : Request) → IsRequest (name ∷ operands) r → ⊥
 none_called name operands called is none r asks = none r (sym (named name operands r asks) ∙ ap key is) asks
 
-only_check : (name : List ℕ) (operands : List (List ℕ)) → ((d : OfDirsRequest) → IsOfDirs operands d → ⊥)
+only_check : (name : List ℕ) (operands : List (List ℕ)) → ((d : List (List ℕ)) → IsOfDirs operands d → ⊥)
     → (r : Request) → key_of r ≡ 9905 → IsRequest (name ∷ operands) r → ⊥
 unfolding key_of
 only_check name operands none (check d) e is = none d is.1
 only_check name operands none r e is = eqb-false (key_of r) 9905 refl e
 
-only_verify : (name : List ℕ) (operands : List (List ℕ)) → ((d : OfDirsRequest) → IsOfDirs operands d → ⊥)
+only_verify : (name : List ℕ) (operands : List (List ℕ)) → ((d : List (List ℕ)) → IsOfDirs operands d → ⊥)
     → (r : Request) → key_of r ≡ 11806 → IsRequest (name ∷ operands) r → ⊥
 unfolding key_of
 only_verify name operands none (verify d) e is = none d is.1
 only_verify name operands none r e is = eqb-false (key_of r) 11806 refl e
 
-only_install : (name : List ℕ) (operands : List (List ℕ)) → ((d : OfDirsRequest) → IsOfDirs operands d → ⊥)
+only_install : (name : List ℕ) (operands : List (List ℕ)) → ((d : List (List ℕ)) → IsOfDirs operands d → ⊥)
     → (r : Request) → key_of r ≡ 10507 → IsRequest (name ∷ operands) r → ⊥
 unfolding key_of
 only_install name operands none (install d) e is = none d is.1
@@ -203,17 +204,17 @@ only_install name operands none r e is = eqb-false (key_of r) 10507 refl e
 none_such : (takes : Bool) (words : List (List ℕ)) → ((r : Request) → IsRequest words r → ⊥) → NoneSuch takes words
 none_such takes words none r e is = none r is
 
-pub no_check : (name : List ℕ) (operands : List (List ℕ)) → name ≡ codes "check" → ((d : OfDirsRequest) → IsOfDirs operands d → ⊥)
+pub no_check : (name : List ℕ) (operands : List (List ℕ)) → name ≡ codes "check" → ((d : List (List ℕ)) → IsOfDirs operands d → ⊥)
     → NoneSuch false (name ∷ operands)
 unfolding first key
 no_check name operands is none = none_such false (name ∷ operands) (none_called name operands (codes "check") is (only_check name operands none))
 
-pub no_verify : (name : List ℕ) (operands : List (List ℕ)) → name ≡ codes "verify" → ((d : OfDirsRequest) → IsOfDirs operands d → ⊥)
+pub no_verify : (name : List ℕ) (operands : List (List ℕ)) → name ≡ codes "verify" → ((d : List (List ℕ)) → IsOfDirs operands d → ⊥)
     → NoneSuch false (name ∷ operands)
 unfolding first key
 no_verify name operands is none = none_such false (name ∷ operands) (none_called name operands (codes "verify") is (only_verify name operands none))
 
-pub no_install : (name : List ℕ) (operands : List (List ℕ)) → name ≡ codes "install" → ((d : OfDirsRequest) → IsOfDirs operands d → ⊥)
+pub no_install : (name : List ℕ) (operands : List (List ℕ)) → name ≡ codes "install" → ((d : List (List ℕ)) → IsOfDirs operands d → ⊥)
     → NoneSuch false (name ∷ operands)
 unfolding first key
 no_install name operands is none = none_such false (name ∷ operands) (none_called name operands (codes "install") is (only_install name operands none))

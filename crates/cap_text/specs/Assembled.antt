@@ -1,13 +1,9 @@
 -- The lines for a package that is written with the methods of a listing, and for a listing that is at fault.
-use Rattle.std.specs.Prelude.{ℕ, List, [], ◌∷◌, codes, decimal}
+use Rattle.std.specs.Prelude.{List, [], ◌∷◌, codes}
 use Rattle.std.specs.List.{concat}
 use Rattle.cap_listing.specs.declared.fault.AsmFault.{AsmFault}
 use Rattle.cap_listing.specs.declared.fault.AsmFault.TheVariants.{NotListing, OtherMethod, Registers, HandlerRange, CodeLength, TooManyHandlers}
 use Rattle.cap_text.specs.Fault.{name_1, name_2}
-
--- the package has the methods of the listing, and they are so many
-abbrev pub assembled_line : ℕ → List ℕ
-assembled_line count = concat (codes "assembled " ∷ decimal count ∷ codes " methods\n" ∷ [])
 
 -- the text is no listing from this line on, or the listing does not fit the package
 abbrev pub asm_fault_text : AsmFault → List ℕ

@@ -23,16 +23,13 @@ value_text (values.Short n) = concat (codes "short " ∷ signed_decimal n ∷ []
 value_text (values.Int n) = concat (codes "int " ∷ signed_decimal n ∷ [])
 value_text (values.Ref handle) = if handle == 0 then codes "null" else reference_text handle
 
-abbrev pub missing_text : ℕ → List ℕ
-missing_text class = concat (codes "interface missing class " ∷ decimal class ∷ [])
-
 abbrev pub plain_text : Plain → List ℕ
 plain_text (Returned value) = concat (codes "returned " ∷ value_text value ∷ [])
 plain_text (Threw class handle) = concat (codes "threw class " ∷ decimal class ∷ codes " " ∷ reference_text handle ∷ [])
 plain_text Spent = codes "spent"
 plain_text TooDeep = codes "too deep"
 plain_text HeapFull = codes "heap full"
-plain_text (InterfaceMissing class) = missing_text class
+plain_text (InterfaceMissing class) = concat (codes "interface missing class " ∷ decimal class ∷ [])
 
 abbrev pub fault_name : Fault → List ℕ
 fault_name TypeFault = codes "type"
@@ -40,12 +37,9 @@ fault_name StackFault = codes "stack"
 fault_name LocalFault = codes "local"
 fault_name JumpFault = codes "jump"
 
-abbrev pub fault_text : Fault → List ℕ
-fault_text fault = concat (codes "fault " ∷ fault_name fault ∷ [])
-
 abbrev pub ending_text : Ending → List ℕ
 ending_text (endings.Plain plain) = plain_text plain
-ending_text (endings.Faulted fault) = fault_text fault
+ending_text (endings.Faulted fault) = concat (codes "fault " ∷ fault_name fault ∷ [])
 
 abbrev pub ending_line : Ending → List ℕ
 ending_line ending = concat (ending_text ending ∷ codes "\n" ∷ [])

@@ -56,9 +56,9 @@ abbrev pub refused_bare_line : BareFault → List ℕ
 refused_bare_line fault =
     concat (codes "refused place " ∷ decimal fault.place ∷ codes " " ∷ bare_kind_text fault.kind ∷ codes "\n" ∷ [])
 
--- each method with code of the last package has a dataflow typing, and there are so many
-abbrev pub typed_line : ℕ → List ℕ
-typed_line count = concat (codes "typed " ∷ decimal count ∷ codes " methods\n" ∷ [])
+-- what is so of methods, and how many they are
+abbrev pub methods_line : List ℕ → ℕ → List ℕ
+methods_line so count = concat (so ∷ decimal count ∷ codes " methods\n" ∷ [])
 
 -- a method by the numbers of its package, of its class in the Descriptor, and of itself in the class, each from 0
 abbrev pub method_text : MethodNumber → List ℕ
@@ -70,10 +70,6 @@ method_text m =
 abbrev pub refused_flow_line : MethodNumber → FlowEnd → List ℕ
 refused_flow_line method Memory = []
 refused_flow_line method end = concat (codes "refused " ∷ method_text method ∷ codes " " ∷ flow_end_text end ∷ codes "\n" ∷ [])
-
--- each method with code of all packages has a card typing, and there are so many
-abbrev pub accepted_line : ℕ → List ℕ
-accepted_line count = concat (codes "accepted " ∷ decimal count ∷ codes " methods\n" ∷ [])
 
 -- the runs of an entry take so many words of frames, and so many frames, at most
 abbrev pub bound_line : ℕ → ℕ → List ℕ

@@ -1,5 +1,5 @@
 -- `BUDGET ENTRY DIR+ [-- ARG*]`, the operands of the commands that run a method of the packages in folders.
-use Rattle.std.specs.Prelude.{◌≡◌, ℕ, Bool, List, ◌∷◌, codes, map}
+use Rattle.std.specs.Prelude.{◌≡◌, ℕ, List, ◌∷◌, codes, map}
 use Rattle.std.specs.List.{before_first, after_first}
 use Rattle.std.specs.Str.{bytes_eq}
 use Rattle.cap_files.specs.WordsLeft.{words_left}
@@ -16,15 +16,11 @@ pub record RunRequest : Type 0 where
   pub dirs : List (List ℕ)
   pub args : List Argument
 
--- the word ends the folders
-abbrev pub is_end : List ℕ → Bool
-is_end word = bytes_eq word (codes "--")
-
--- the words before the first that ends the folders, or all of them, name these folders, and those after it write these arguments
+-- the words before the first `--`, or all of them, name these folders, and those after it write these arguments
 pub record NamesAndHands (words dirs : List (List ℕ)) (args : List Argument) : Type 0 where
-  pub folders : dirs ≡ before_first is_end words
+  pub folders : dirs ≡ before_first (λ word. bytes_eq word (codes "--")) words
   pub named : AreFolderWords dirs
-  pub arguments : AreArgWords (after_first is_end words) args
+  pub arguments : AreArgWords (after_first (λ word. bytes_eq word (codes "--")) words) args
 
 -- the words after the command's name ask for this
 abbrev pub AreRunWords : List (List ℕ) → RunRequest → Type 0

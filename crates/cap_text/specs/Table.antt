@@ -3,7 +3,7 @@
 -- then for each component of the standard (JCVM 2.2, section 6.1) and each custom component the name of its file, its tag, and the size
 -- that the Directory gives, or that it is absent.
 use Rattle.std.specs.Prelude.{ℕ, List, [], ◌∷◌, ◌++◌, codes, decimal, unwrap_or, ◌==◌, if◌then◌else◌}
-use Rattle.std.specs.List.{concat, flat_map}
+use Rattle.std.specs.List.{concat, flat_map, range_with_len}
 use Rattle.hex.specs.Hex.{encode_lower}
 use Rattle.cap_bytes.specs.declared.format.Format.{Format}
 use Rattle.cap_bytes.specs.declared.format.Format.TheVariants.{V21, V22}
@@ -24,33 +24,22 @@ package_line format p =
     ∷ codes " format " ∷ format_name format ∷ codes "\n" ∷ [])
 
 -- a size of 0 says that the component is absent
-abbrev pub size_text : ℕ → List ℕ
-size_text size = if size == 0 then codes "absent" else decimal size
-
 abbrev pub component_line : ℕ → ℕ → List ℕ
-component_line tag size = concat (part_name tag ∷ codes " " ∷ decimal tag ∷ codes " " ∷ size_text size ∷ codes "\n" ∷ [])
+component_line tag size =
+    concat (part_name tag ∷ codes " " ∷ decimal tag ∷ codes " " ∷ (if size == 0 then codes "absent" else decimal size) ∷ codes "\n" ∷ [])
 
--- the line of a component of the standard
+-- the line of the component with a tag
 abbrev pub tag_line : DirectoryItems → ℕ → List ℕ
 tag_line d tag = component_line tag (unwrap_or (size_in d tag) 0)
 
--- the tags of the components of the standard
-abbrev pub standard_tags : List ℕ
-standard_tags = 1 ∷ 2 ∷ 3 ∷ 4 ∷ 5 ∷ 6 ∷ 7 ∷ 8 ∷ 9 ∷ 10 ∷ 11 ∷ 12 ∷ []
-
+-- those of the components of the standard
 unfoldable pub component_lines : DirectoryItems → List ℕ
-component_lines d = flat_map (tag_line d) standard_tags
+component_lines d = flat_map (tag_line d) (range_with_len 1 12)
 
--- the line of a custom component
-abbrev pub custom_line : Custom → List ℕ
-custom_line c = component_line c.tag c.size
-
+-- those of the custom components
 unfoldable pub custom_lines : DirectoryItems → List ℕ
-custom_lines d = flat_map custom_line d.customs
+custom_lines d = flat_map (λ (c : Custom). component_line c.tag c.size) d.customs
 
--- the lines of a package in this format with this identifier and version and with these sizes
-unfoldable pub table_lines : Format → Package → DirectoryItems → List ℕ
-table_lines format p d = (package_line format p ++ component_lines d) ++ custom_lines d
-
+-- the line of the package, with its format, its identifier and its version, and those of its components
 abbrev pub component_table : PackageRecord → List ℕ
-component_table p = table_lines p.header.format p.header.package_of p.directory
+component_table p = (package_line p.header.format p.header.package_of ++ component_lines p.directory) ++ custom_lines p.directory

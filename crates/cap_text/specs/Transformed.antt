@@ -4,10 +4,6 @@ use Rattle.std.specs.List.{concat}
 use Rattle.cap_text.specs.declared.line.MethodNumber.{MethodNumber}
 use Rattle.cap_text.specs.Fault.{name_1}
 
--- each method with code of the last package has such a form, and there are so many
-abbrev pub transformed_line : ℕ → List ℕ
-transformed_line count = concat (codes "transformed " ∷ decimal count ∷ codes " methods\n" ∷ [])
-
 -- a method of the last package, by the numbers of its class and of itself, and the limit that it passes
 abbrev pub method_limit_line : MethodNumber → List ℕ → List ℕ
 method_limit_line m limit =

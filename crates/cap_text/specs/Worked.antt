@@ -13,11 +13,11 @@ use Rattle.vm_step.specs.declared.ending.Fault.TheVariants.{StackFault}
 use Rattle.vm_step.specs.declared.ending.Ending.TheVariants as endings
 use Rattle.cap_text.specs.Ending.{ending_line, static_lines, array_line}
 use Rattle.cap_text.specs.Table.{component_line}
-use Rattle.cap_text.specs.Line.{malformed_line, malformed_stream_line, not_linked_line, not_started_line, refused_bare_line, typed_line, refused_flow_line}
-use Rattle.cap_text.specs.Line.{bare_ending_line, accepted_line, bound_line, cycle_line, refused_card_line}
+use Rattle.cap_text.specs.Line.{malformed_line, malformed_stream_line, not_linked_line, not_started_line, refused_bare_line, methods_line, refused_flow_line}
+use Rattle.cap_text.specs.Line.{bare_ending_line, bound_line, cycle_line, refused_card_line}
 use Rattle.cap_text.specs.Packed.{packed_line, load_limit_line}
 use Rattle.cap_text.specs.Shared.{shared_line}
-use Rattle.cap_text.specs.Transformed.{transformed_line, registers_limit_line, stack_limit_line, part_limit_line}
+use Rattle.cap_text.specs.Transformed.{registers_limit_line, stack_limit_line, part_limit_line}
 use Rattle.card_typing.specs.declared.fault.CardKind.TheVariants as cards
 use Rattle.card_typing.specs.declared.fault.CardKind.TheVariants.{StackAtBranch}
 use Rattle.cap_text.specs.Rule.{rule_fault_text}
@@ -63,7 +63,7 @@ refused : refused_bare_line (record { place = 3; kind = BadTarget (negsuc 0) }) 
 unfolding digits
 refused = refl
 
-typed : typed_line 2 ≡ codes "typed 2 methods\n"
+typed : methods_line (codes "typed ") 2 ≡ codes "typed 2 methods\n"
 unfolding digits
 typed = refl
 
@@ -100,7 +100,7 @@ cycle_said : cycle_line 0 1 ≡ codes "cycle method 0.1\n"
 unfolding digits
 cycle_said = refl
 
-two_accepted : accepted_line 2 ≡ codes "accepted 2 methods\n"
+two_accepted : methods_line (codes "accepted ") 2 ≡ codes "accepted 2 methods\n"
 unfolding digits
 two_accepted = refl
 
@@ -118,7 +118,7 @@ handler_on_the_card :
 unfolding digits
 handler_on_the_card = refl
 
-two_transformed : transformed_line 2 ≡ codes "transformed 2 methods\n"
+two_transformed : methods_line (codes "transformed ") 2 ≡ codes "transformed 2 methods\n"
 unfolding digits
 two_transformed = refl
 

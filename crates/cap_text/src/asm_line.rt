@@ -1,5 +1,6 @@
-ghost use Rattle.std.specs.Prelude.{◌≡◌, IfOk, string_bytes};
-ghost use Rattle.cap_text.specs.Assembled.{asm_fault_text, assembled_line, not_assembled_line};
+ghost use Rattle.std.specs.Prelude.{◌≡◌, IfOk, codes, string_bytes};
+ghost use Rattle.cap_text.specs.Assembled.{asm_fault_text, not_assembled_line};
+ghost use Rattle.cap_text.specs.Line.{methods_line};
 ghost use Rattle.cap_text.specs.Printed.{printed_text};
 
 use crate::fault::Shown;
@@ -9,7 +10,7 @@ use std::alloc::{AllocError, Global};
 
 /// The line for a package that is written with the methods of a listing: how many they are.
 pub fn assembled(alloc: Global, count: usize) -> Result<String, AllocError>
-    ensures { IfOk result (λ t. string_bytes t ≡ assembled_line count) }
+    ensures { IfOk result (λ t. string_bytes t ≡ methods_line (codes "assembled ") count) }
 {
     format!(in alloc; "assembled {count} methods\n")
 }

@@ -1,6 +1,7 @@
-ghost use Rattle.std.specs.Prelude.{◌≡◌};
+ghost use Rattle.std.specs.Prelude.{◌≡◌, [], ◌∷◌, codes, decimal};
+ghost use Rattle.std.specs.List.{concat};
 ghost use Rattle.cap_text.specs.Room.{HasRoom, Writes, WritesAtMost};
-ghost use Rattle.cap_text.specs.Ending.{reference_text, value_text, missing_text, plain_text, fault_name, fault_text, ending_line, static_line, kind_name, array_head, element_text};
+ghost use Rattle.cap_text.specs.Ending.{reference_text, value_text, plain_text, fault_name, ending_line, static_line, kind_name, array_head, element_text};
 
 use crate::room::Room;
 use jc_base::Ty;
@@ -40,7 +41,7 @@ fn write_value(room: &mut Room, value: Value)
 // The class of an object that has no method for a method of an interface.
 fn write_missing(room: &mut Room, class: u16)
     requires { HasRoom room.old 29 }
-    ensures writes { Writes room.old room.new (missing_text class) }
+    ensures writes { Writes room.old room.new (concat (codes "interface missing class " ∷ decimal class ∷ [])) }
     ensures few { WritesAtMost room.old room.new 29 }
 {
     room.write("interface missing class ");
@@ -86,7 +87,7 @@ fn fault_name(fault: Fault) -> &'static str
 // How a run ends that a fault ends.
 fn write_fault(room: &mut Room, fault: Fault)
     requires { HasRoom room.old 11 }
-    ensures writes { Writes room.old room.new (fault_text fault) }
+    ensures writes { Writes room.old room.new (concat (codes "fault " ∷ fault_name fault ∷ [])) }
     ensures few { WritesAtMost room.old room.new 11 }
 {
     room.write("fault ");

@@ -1,6 +1,6 @@
-ghost use Rattle.std.specs.Prelude.{◌≡◌, ◌≢◌, IfOk, string_bytes};
+ghost use Rattle.std.specs.Prelude.{◌≡◌, ◌≢◌, IfOk, codes, string_bytes};
 ghost use Rattle.jc_flow.specs.declared.end.FlowEnd.TheVariants.{Memory};
-ghost use Rattle.cap_text.specs.Line.{malformed_line, malformed_stream_line, not_linked_line, not_started_line, refused_bare_line, typed_line, method_text, refused_flow_line, accepted_line, refused_card_line, bare_ending_line};
+ghost use Rattle.cap_text.specs.Line.{malformed_line, malformed_stream_line, not_linked_line, not_started_line, refused_bare_line, methods_line, method_text, refused_flow_line, refused_card_line, bare_ending_line};
 ghost use Rattle.cap_text.specs.Room.{HasRoom, Writes, WritesAtMost};
 
 use crate::bare::write_bare_kind;
@@ -110,7 +110,7 @@ pub fn refused_bare(alloc: Global, fault: BareFault) -> Result<String, AllocErro
 /// The line for a package whose methods with code, of which there are `count`, all have a dataflow
 /// typing.
 pub fn typed(alloc: Global, count: u16) -> Result<String, AllocError>
-    ensures { IfOk result (λ t. string_bytes t ≡ typed_line count) }
+    ensures { IfOk result (λ t. string_bytes t ≡ methods_line (codes "typed ") count) }
 {
     format!(in alloc; "typed {count} methods\n")
 }
@@ -142,7 +142,7 @@ fn write_refused_flow(room: &mut Room, method: MethodNumber, end: FlowEnd)
 
 /// The line for packages whose methods with code, of which there are `count`, all have a card typing.
 pub fn accepted(alloc: Global, count: u16) -> Result<String, AllocError>
-    ensures { IfOk result (λ t. string_bytes t ≡ accepted_line count) }
+    ensures { IfOk result (λ t. string_bytes t ≡ methods_line (codes "accepted ") count) }
 {
     format!(in alloc; "accepted {count} methods\n")
 }

@@ -1,6 +1,6 @@
-ghost use Rattle.std.specs.Prelude.{IfSome, IfNone};
+ghost use Rattle.std.specs.Prelude.{ℕ, List, IfSome, IfNone};
 ghost use Rattle.cap_files.specs.WordsLeft.{words_left};
-ghost use Rattle.cap_text.specs.OfDir.{OfDirRequest, IsOfDir, of_dir_request};
+ghost use Rattle.cap_text.specs.OfDir.{IsOfDir};
 
 use crate::word::folder_word;
 use cap_files::WordsIter;
@@ -14,8 +14,8 @@ pub struct OfDir<'a> {
 impl<'a> OfDir<'a> {
     /// Reads the words after the command's name.
     pub fn read(mut operands: WordsIter<'a>) -> Option<OfDir<'a>>
-        ensures found { IfSome result (λ d. IsOfDir (words_left operands.entry) (of_dir_request d)) }
-        ensures none { IfNone result ((d : OfDirRequest) → IsOfDir (words_left operands.entry) d → ⊥) }
+        ensures found { IfSome result (λ d. IsOfDir (words_left operands.entry) d.dir.now) }
+        ensures none { IfNone result ((dir : List ℕ) → IsOfDir (words_left operands.entry) dir → ⊥) }
     {
         let Some(dir) = operands.next() else {
             return None;

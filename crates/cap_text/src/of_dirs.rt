@@ -1,6 +1,6 @@
-ghost use Rattle.std.specs.Prelude.{IfSome, IfNone};
+ghost use Rattle.std.specs.Prelude.{ℕ, List, IfSome, IfNone};
 ghost use Rattle.cap_files.specs.WordsLeft.{words_left};
-ghost use Rattle.cap_text.specs.OfDirs.{OfDirsRequest, IsOfDirs, of_dirs_request};
+ghost use Rattle.cap_text.specs.OfDirs.{IsOfDirs};
 
 use crate::word::folder_words;
 use cap_files::WordsIter;
@@ -14,8 +14,8 @@ pub struct OfDirs<'a> {
 impl<'a> OfDirs<'a> {
     /// Reads the words after the command's name.
     pub fn read(operands: WordsIter<'a>) -> Option<OfDirs<'a>>
-        ensures found { IfSome result (λ d. IsOfDirs (words_left operands.entry) (of_dirs_request d)) }
-        ensures none { IfNone result ((d : OfDirsRequest) → IsOfDirs (words_left operands.entry) d → ⊥) }
+        ensures found { IfSome result (λ d. IsOfDirs (words_left operands.entry) (words_left d.dirs)) }
+        ensures none { IfNone result ((dirs : List (List ℕ)) → IsOfDirs (words_left operands.entry) dirs → ⊥) }
     {
         if folder_words(operands) {
             Some(OfDirs { dirs: operands })

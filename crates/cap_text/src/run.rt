@@ -1,7 +1,8 @@
-ghost use Rattle.std.specs.Prelude.{◌≡◌, IfOk, IfSome, IfNone};
+ghost use Rattle.std.specs.Prelude.{◌≡◌, codes, IfOk, IfSome, IfNone};
 ghost use Rattle.cap_files.specs.WordsLeft.{words_left};
 ghost use Rattle.std.specs.List.{before_first, after_first};
-ghost use Rattle.cap_text.specs.Run.{RunRequest, AreRunWords, run_request, is_end};
+ghost use Rattle.std.specs.Str.{bytes_eq};
+ghost use Rattle.cap_text.specs.Run.{RunRequest, AreRunWords, run_request};
 
 use crate::entry::Entry;
 use crate::word::{OwnedArg, arguments, folder_words, number};
@@ -53,8 +54,8 @@ impl<'a> Run<'a> {
 
 // The words before the first that ends the folders, and those after it.
 fn split(operands: WordsIter<'_>) -> (WordsIter<'_>, WordsIter<'_>)
-    ensures before { words_left result.0 ≡ before_first is_end (words_left operands.entry) }
-    ensures after { words_left result.1 ≡ after_first is_end (words_left operands.entry) }
+    ensures before { words_left result.0 ≡ before_first (λ word. bytes_eq word (codes "--")) (words_left operands.entry) }
+    ensures after { words_left result.1 ≡ after_first (λ word. bytes_eq word (codes "--")) (words_left operands.entry) }
 {
     let mut rest = operands;
     let mut count = 0usize;

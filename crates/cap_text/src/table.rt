@@ -1,9 +1,9 @@
-ghost use Rattle.std.specs.Prelude.{◌≡◌, IfOk, string_bytes, unwrap_or};
+ghost use Rattle.std.specs.Prelude.{◌≡◌, ◌++◌, IfOk, string_bytes, unwrap_or};
 ghost use Rattle.std.specs.List.{flat_map};
 ghost use Rattle.cap_frame.specs.Directory.{directory_items, size_in};
 ghost use Rattle.cap_frame.specs.Header.{header_items};
 ghost use Rattle.cap_frame.specs.Packages.{package_seen};
-ghost use Rattle.cap_text.specs.Table.{format_name, package_line, component_line, tag_line, component_lines, custom_lines, table_lines, component_table};
+ghost use Rattle.cap_text.specs.Table.{format_name, package_line, component_line, tag_line, component_lines, custom_lines, component_table};
 
 use cap_bytes::{Format, Part};
 use cap_files::file_name;
@@ -22,14 +22,14 @@ pub fn component_table(alloc: Global, package: &Package<'_, '_>) -> Result<Strin
     table_of(alloc, &package.header(), package)
 }
 
-#[tactic(auto, unfolding(crate::specs::Table::table_lines))]
 fn table_of(
     alloc: Global,
     header: &Header<'_>,
     package: &Package<'_, '_>,
 ) -> Result<String, AllocError>
     ensures { IfOk result (λ t. string_bytes t
-        ≡ table_lines (header_items header.now).format (header_items header.now).package_of «package».now.directory) }
+        ≡ (package_line (header_items header.now).format (header_items header.now).package_of ++ component_lines «package».now.directory)
+        ++ custom_lines «package».now.directory) }
 {
     let mut text = package_line(alloc, header.format(), header.package())?;
     text.push_str(standard_lines(alloc, package)?.as_str())?;

@@ -1,6 +1,7 @@
-ghost use Rattle.std.specs.Prelude.{◌≡◌, IfOk, string_bytes};
+ghost use Rattle.std.specs.Prelude.{◌≡◌, IfOk, codes, string_bytes};
 ghost use Rattle.cap_text.specs.Printed.{printed_text};
-ghost use Rattle.cap_text.specs.Transformed.{transformed_line, method_limit_line, registers_limit_line, stack_limit_line, code_limit_line, part_limit_line};
+ghost use Rattle.cap_text.specs.Line.{methods_line};
+ghost use Rattle.cap_text.specs.Transformed.{method_limit_line, registers_limit_line, stack_limit_line, code_limit_line, part_limit_line};
 
 use crate::fault::Shown;
 use crate::line::MethodNumber;
@@ -10,7 +11,7 @@ use std::alloc::{AllocError, Global};
 /// The line for a package whose methods with code, of which there are `count`, all have a form that a verifier on the card
 /// accepts.
 pub fn transformed(alloc: Global, count: u16) -> Result<String, AllocError>
-    ensures { IfOk result (λ t. string_bytes t ≡ transformed_line count) }
+    ensures { IfOk result (λ t. string_bytes t ≡ methods_line (codes "transformed ") count) }
 {
     format!(in alloc; "transformed {count} methods\n")
 }

@@ -1,7 +1,7 @@
 -- The methods with code of all packages, as the verifier on the card answers for them.
 use Rattle.std.proofs.Common.{◌≡◌, ℕ, ◌+◌, ◌<◌, ◌≤◌, Bool, List, length, take, Option, Some, None, option_map, slice_get, count_by, refl}
 use Rattle.std.proofs.Common.{sym, ap, subst, ◌∙◌, arith}
-use Rattle.std.specs.Prelude.{IfSome}
+use Rattle.std.specs.Prelude.{IfSome, codes}
 use Rattle.std.specs.Int.{from_bool}
 use Rattle.std.proofs.lemmas.List.{take_all}
 use Rattle.std.proofs.lemmas.Option.{slice_get_within}
@@ -15,14 +15,15 @@ use Rattle.jc_base.specs.declared.ty.Ty.TheVariants.{Bottom}
 use Rattle.law_sound.specs.Soundness.{IsFaultFree, TypedCodeIsFaultFree}
 use Rattle.card_verify.specs.Answers.{AreAccepted, AreAcceptedBefore, IsFirstRefused}
 use Rattle.cap_text.specs.declared.line.MethodNumber.{MethodNumber}
-use Rattle.cap_text.specs.Line.{accepted_line, refused_card_line}
+use Rattle.cap_text.specs.Line.{methods_line, refused_card_line}
 use Rattle.capcheck_core.specs.declared.verdict.Verdict.{Verdict}
 use Rattle.capcheck_core.specs.declared.verdict.Verdict.TheVariants.{Refused, Memory}
 use Rattle.jc_control.specs.Asked.{AllHaveBelow}
 use Rattle.vm_offend.proofs.Accepting.{accepted-typed}
 use Rattle.xf_pack.proofs.Passing.{method-is}
 use Rattle.capcheck_core.specs.Typed.{numbers_of_method}
-use Rattle.capcheck_core.specs.Verify.{count_of_world, HaveCardTypings, TellsAccepted, TellsRefused, StopsAtRefused, AcceptsWorld}
+use Rattle.xf_share.specs.Ends.{HaveCardTypings}
+use Rattle.capcheck_core.specs.Verify.{TellsAccepted, TellsRefused, StopsAtRefused, AcceptsWorld}
 use Rattle.capcheck_core.proofs.Typings as typings
 use Rattle.capcheck_core.proofs.Typings.{counted}
 
@@ -39,10 +40,10 @@ pub accepted_free : (w : Linked) → AreAccepted w → TypedCodeIsFaultFree w �
 accepted_free w all free = free Bottom (accepted-typed w all)
 
 -- the text says how many are accepted
-pub carded : (w : Linked) (count : ℕ) (text : List ℕ) → AreAccepted w → TypedCodeIsFaultFree w → count ≡ count_of_world w
-    → text ≡ accepted_line count → TellsAccepted w text
+pub carded : (w : Linked) (count : ℕ) (text : List ℕ) → AreAccepted w → TypedCodeIsFaultFree w → count ≡ count_by has_code w.methods
+    → text ≡ methods_line (codes "accepted ") count → TellsAccepted w text
 carded w count text all free counts prints =
-    record { carded = all_carded w all; fault_free = accepted_free w all free; prints = prints ∙ ap accepted_line counts }
+    record { carded = all_carded w all; fault_free = accepted_free w all free; prints = prints ∙ ap (methods_line (codes "accepted ")) counts }
 
 -- ---- the count of them
 
@@ -52,7 +53,7 @@ one_counted w n count one asked e is before =
     let step = counted has_code w.methods n (slice_get w.methods n) asked refl e in
     omega (arith, step, is, before)
 
-pub all_counted : (w : Linked) (n count : ℕ) → length w.methods ≤ n → count ≡ count_by has_code (take n w.methods) → count ≡ count_of_world w
+pub all_counted : (w : Linked) (n count : ℕ) → length w.methods ≤ n → count ≡ count_by has_code (take n w.methods) → count ≡ count_by has_code w.methods
 all_counted w n count past counts = counts ∙ ap (count_by has_code) (take_all n w.methods past)
 
 -- ---- the first that is refused

@@ -24,7 +24,8 @@ use Rattle.capcheck_core.specs.declared.verdict.Verdict.{Verdict}
 use Rattle.capcheck_core.specs.declared.verdict.Verdict.TheVariants.{Done, Refused, Limit, Malformed, Usage, ReadFault, StoreFault, Memory}
 use Rattle.capcheck_core.specs.Verdict.{status_of}
 use Rattle.capcheck_core.specs.Check.{ChecksWorld}
-use Rattle.capcheck_core.specs.Verify.{HaveCardTypings, VerifiesWorld}
+use Rattle.xf_share.specs.Ends.{HaveCardTypings}
+use Rattle.capcheck_core.specs.Verify.{VerifiesWorld}
 use Rattle.capcheck_core.specs.Bounding.{bound_fault, BoundsWorld}
 use Rattle.capcheck_core.specs.Defend.{run_fault, DefendsWorld}
 use Rattle.capcheck_core.specs.Run.{RunsWorld}
@@ -327,18 +328,18 @@ can_do : (r : Request) (before after : Outside) (sink put : Seen) (verdict : Ver
     → NoFault before.folders after.folders sink put
     → Answers r before after verdict → Completed verdict
 can_do (probe p) before after sink put verdict can calm answers = can_probe p before.folders after.folders sink put verdict can calm answers.0
-can_do (show d) before after sink put verdict can calm answers =
-    over_package ShowsTable d.dir before.folders after.folders sink put verdict (λ parts p. tables parts p before.folders after.folders verdict) can calm
+can_do (show dir) before after sink put verdict can calm answers =
+    over_package ShowsTable dir before.folders after.folders sink put verdict (λ parts p. tables parts p before.folders after.folders verdict) can calm
     answers.0
-can_do (list d) before after sink put verdict can calm answers =
-    over_package ListsMethods d.dir before.folders after.folders sink put verdict (λ parts p. lists parts p before.folders after.folders verdict) can calm
+can_do (list dir) before after sink put verdict can calm answers =
+    over_package ListsMethods dir before.folders after.folders sink put verdict (λ parts p. lists parts p before.folders after.folders verdict) can calm
     answers.0
 can_do (asm o) before after sink put verdict can calm answers = can_assemble o before.folders after.folders sink put verdict can calm answers.0
-can_do (check d) before after sink put verdict can calm answers =
-    over_world (of_world ChecksWorld) (λ packages roles w. IsTypedLast w) (places Components d.dirs) before after sink put verdict
+can_do (check dirs) before after sink put verdict can calm answers =
+    over_world (of_world ChecksWorld) (λ packages roles w. IsTypedLast w) (places Components dirs) before after sink put verdict
     (λ packages roles w. types before after w verdict) can calm answers
-can_do (verify d) before after sink put verdict can calm answers =
-    over_world (of_world VerifiesWorld) (λ packages roles w. HaveCardTypings w) (places Components d.dirs) before after sink put verdict
+can_do (verify dirs) before after sink put verdict can calm answers =
+    over_world (of_world VerifiesWorld) (λ packages roles w. HaveCardTypings w) (places Components dirs) before after sink put verdict
     (λ packages roles w. cards before after w verdict) can calm answers
 can_do (defend r) before after sink put verdict can calm answers =
     over_world (of_world (DefendsWorld r)) (λ packages roles w. run_fault w r ≡ None) (places Components r.dirs) before after sink put verdict
@@ -360,8 +361,8 @@ can_do (bound e) before after sink put verdict can calm answers =
     over_world (of_world (BoundsWorld e)) (λ packages roles w. HaveCardTypings w × (bound_fault w e ≡ None)) (places Components e.dirs) before after sink put verdict
     (λ packages roles w has. bounded before after e w verdict has.0 has.1) can calm answers
 can_do (pack o) before after sink put verdict can calm answers = can_pack o before.folders after.folders sink put verdict can calm answers.0
-can_do (install d) before after sink put verdict can calm answers =
-    over_world (of_world VerifiesWorld) (λ packages roles w. HaveCardTypings w) (places LoadFile d.dirs) before after sink put verdict
+can_do (install dirs) before after sink put verdict can calm answers =
+    over_world (of_world VerifiesWorld) (λ packages roles w. HaveCardTypings w) (places LoadFile dirs) before after sink put verdict
     (λ packages roles w. cards before after w verdict) can calm answers
 
 reported : (verdict : Verdict) (before after : Folders) (sink put : Seen) (status : ℕ) → NoFault before after sink put

@@ -19,7 +19,7 @@ use Rattle.vm_store.specs.Cells.{tagged}
 use Rattle.cap_gen.proofs.Linking.{methods_are}
 use Rattle.cap_gen.specs.GeneratedPackage.{PackagesLink, PartsStand, WorldsAreTyped}
 use Rattle.cap_gen.specs.Methods.{method_info}
-use Rattle.cap_gen.specs.Generated as parts
+use Rattle.cap_gen.specs.Generated.{generated_parts}
 use Rattle.jc_base.specs.Class.{is_interface}
 use Rattle.jc_base.specs.Linked.{IsCodeLength, IsMethod}
 use Rattle.jc_base.specs.World.{Linked, IsWorld, method_numbered}
@@ -58,7 +58,7 @@ use Rattle.capcheck_core.specs.Outside.{CardWords, Outside, Untouched, card_word
 use Rattle.capcheck_core.specs.Run.{HoldsWords}
 use Rattle.capcheck_core.specs.Stores.{AreInStoreOrder, AreStored}
 use Rattle.capcheck_core.specs.Transform.{StopsBefore}
-use Rattle.capcheck_core.specs.Verify.{HaveCardTypings}
+use Rattle.xf_share.specs.Ends.{HaveCardTypings}
 use Rattle.capcheck_core.proofs.Ran.{holds, wider}
 use Rattle.capcheck_core.proofs.Trials.{infos_counted, with_made, has_new, never_at_fault}
 use Rattle.capcheck_core.proofs.WorldComplete.{one_package}
@@ -426,12 +426,12 @@ all_told g w parts stores before after StoreFault order stored told = absurd tol
 
 -- ---- the generated package
 
-pub source_is : (seed : ℕ) (lent : List Lent) (source : PackageRecord) → PartsStand → lent ≡ parts.generated seed → StandsFor lent source
+pub source_is : (seed : ℕ) (lent : List Lent) (source : PackageRecord) → PartsStand → lent ≡ generated_parts seed → StandsFor lent source
     → source ≡ package_record seed
 source_is seed lent source law are stands =
     one_package lent source (package_record seed) stands (subst (λ ps. StandsFor ps (package_record seed)) (sym are) (law seed))
 
-pub have_source : (seed : ℕ) (lent : List Lent) → PartsStand → lent ≡ parts.generated seed → HavePackage lent
+pub have_source : (seed : ℕ) (lent : List Lent) → PartsStand → lent ≡ generated_parts seed → HavePackage lent
 have_source seed lent law are = record { made = package_record seed; stands = subst (λ ps. StandsFor ps (package_record seed)) (sym are) (law seed) }
 
 pub never_unlinked : (seed : ℕ) (all : List PackageRecord) (fault : LinkFault) → PackagesLink → all ≡ generated seed

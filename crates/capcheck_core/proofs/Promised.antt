@@ -1,7 +1,7 @@
 -- What status 0 promises, from the answers: no verdict but Done has this status, and what Done says is the promise.
 use Rattle.std.proofs.Common.{◌≡◌, ℕ, ◌<◌, ◌≤◌, List, [], ◌∷◌, Option, Some, None, IsNone, Bool, true, false, cond, eqb, refl, sym, ap}
 use Rattle.std.proofs.Common.{subst, ◌∙◌, inl, inr, arith}
-use Rattle.std.specs.Prelude.{IfSome, IsSomeAnd, length, string_bytes}
+use Rattle.std.specs.Prelude.{IfSome, IsSomeAnd, length, codes, string_bytes}
 use Rattle.std.specs.FinMap as map
 use Rattle.std.specs.Cmp.Lexicographic.{slice_cmp, nat_list_cmp_total}
 use Rattle.std.specs.declared.cmp.Ordering.{Ordering}
@@ -11,12 +11,14 @@ use Rattle.cap_files.specs.Folder.{Parts, Folders}
 use Rattle.cap_files.proofs.Keys.{same_key}
 use Rattle.cap_components.proofs.PartsLemmas.{held-other, held-same}
 use Rattle.cap_gen.specs.Linked.{roles}
+use Rattle.cap_gen.specs.Record.{package_record}
+use Rattle.cap_gen.proofs.Standing.{parts_stand}
 use Rattle.cap_listing.specs.Methods.{methods_of}
 use Rattle.cap_listing.specs.Placing.{placed}
 use Rattle.cap_listing.specs.Text.{Lists}
 use Rattle.cap_listing.proofs.Replaced.{methods-replaced}
 use Rattle.cap_package.specs.Parts.{Lent, held, HasEachOnce}
-use Rattle.cap_text.specs.Assembled.{assembled_line}
+use Rattle.cap_text.specs.Line.{methods_line}
 use Rattle.law_package.specs.Rewritten.{IsRewritten}
 use Rattle.cap_text.specs.OutOfDir.{OutOfDirRequest}
 use Rattle.cap_text.specs.Request.{Request, probe, show, list, asm, check, verify, defend, run, transform, share, trial, generate, bound, pack, install}
@@ -30,9 +32,9 @@ use Rattle.capcheck_core.specs.Assemble.{AssemblesPackage}
 use Rattle.capcheck_core.specs.Bounding.{BoundsWorld}
 use Rattle.capcheck_core.specs.Check.{ChecksWorld}
 use Rattle.capcheck_core.specs.Defend.{DefendsWorld}
-use Rattle.capcheck_core.specs.Headline.{HoldWorldBy, StandIn, AreKept, Assembled, Packed, Promise, Promises}
+use Rattle.capcheck_core.specs.Headline.{HoldWorld, StandIn, AreKept, Assembled, Packed, Promise, Promises}
 use Rattle.capcheck_core.specs.Loads.{with_file}
-use Rattle.capcheck_core.specs.Outside.{Outside}
+use Rattle.capcheck_core.specs.Outside.{Outside, Untouched}
 use Rattle.capcheck_core.specs.OverFolders.{OverPlaces}
 use Rattle.capcheck_core.specs.OverPackage.{OfPackage}
 use Rattle.capcheck_core.specs.Pack.{PacksPackage, load_stores}
@@ -152,7 +154,7 @@ module _ (dir : List ℕ) where
 -- the world of which a last step says so
 pub record Over (own : Own) (last : Source) (dirs : List (List ℕ)) (before after : Outside) (verdict : Verdict) : Type 0 where
   pub world : Linked
-  pub held : HoldWorldBy last before.folders dirs world
+  pub held : HoldWorld last before.folders dirs world
   pub holds : own held.packages held.roles world before after verdict
 
 over_by : (own : Own) (last : Source) (dirs : List (List ℕ)) (before after : Outside) (text : _)
@@ -225,36 +227,53 @@ assembled o before after text of = elim of.holds [
             lists = subst (λ ns. Lists ns l.file) (sym same) ms.lists;
             rewritten = subst (λ ns. IsRewritten of.read (placed of.read ns) new.made) (sym same) new.rewritten;
             kept = are_kept o.out is.brings.parts _ is.stores is.brings.order before after is.stored;
-            prints = is.prints ∙ ap (λ ns. assembled_line (length ns)) (sym same);
+            prints = is.prints ∙ ap (λ ns. methods_line (codes "assembled ") (length ns)) (sym same);
           }
     ]
   ]
 ]
 
+untouched : (before after : Outside) → Untouched before after → after ≡ before
+untouched before after same = λ i. record { folders = same.folders i; card = same.card i }
+
 done : (r : Request) (before after : Outside) (text : _) → Answers r before after (Done text) → Promise r before after (string_bytes text)
-done (probe p) before after text (inl probes, card) = (record { folders = probes.0; card = card }, probes.1)
+done (probe p) before after text (inl probes, card) =
+    let part = probes.1 in (
+      untouched before after (record { folders = probes.0; card = card }),
+      record {
+        file = part.file;
+        there = part.there;
+        short = part.short;
+        bare = part.holds.bare;
+        code = part.holds.code;
+        method = part.holds.method;
+        run = part.holds.holds;
+      },
+    )
 done (probe p) before after text (inr fails, card) = absurd fails
-done (show d) before after text (inl stops, card) = absurd stops
-done (show d) before after text (inr of, card) = (
-  record { folders = of.holds.0; card = card },
+done (show dir) before after text (inl stops, card) = absurd stops
+done (show dir) before after text (inr of, card) = (
+  untouched before after (record { folders = of.holds.0; card = card }),
   record { parts = of.parts; loaded = of.loaded; read = of.read; stands = of.stands; prints = of.holds.1 },
 )
-done (list d) before after text (inl stops, card) = absurd stops
-done (list d) before after text (inr of, card) = (
-  record { folders = of.holds.0; card = card },
+done (list dir) before after text (inl stops, card) = absurd stops
+done (list dir) before after text (inr of, card) = (
+  untouched before after (record { folders = of.holds.0; card = card }),
   record { parts = of.parts; loaded = of.loaded; read = of.read; stands = of.stands; lists = of.holds.1 },
 )
 done (asm o) before after text (inl stops, card) = absurd stops
 done (asm o) before after text (inr of, card) = (card, assembled o before.folders after.folders text of)
-done (check d) before after text answers =
-    let o = over (of_world ChecksWorld) d.dirs before after text answers in
-    (o.holds.0, record { world = o.world; held = o.held; typed = o.holds.1.typed; prints = o.holds.1.prints })
-done (verify d) before after text answers =
-    let o = over (of_world VerifiesWorld) d.dirs before after text answers in
-    (o.holds.0, record { world = o.world; held = o.held; carded = o.holds.1.carded; fault_free = o.holds.1.fault_free; prints = o.holds.1.prints })
+done (check dirs) before after text answers =
+    let o = over (of_world ChecksWorld) dirs before after text answers in
+    (untouched before after o.holds.0, record { world = o.world; held = o.held; typed = o.holds.1.typed; prints = o.holds.1.prints })
+done (verify dirs) before after text answers =
+    let o = over (of_world VerifiesWorld) dirs before after text answers in (
+      untouched before after o.holds.0,
+      record { world = o.world; held = o.held; carded = o.holds.1.carded; fault_free = o.holds.1.fault_free; prints = o.holds.1.prints },
+    )
 done (defend r) before after text answers =
     let o = over (of_world (DefendsWorld r)) r.dirs before after text answers in
-    (o.holds.0, record { world = o.world; held = o.held; defended = o.holds.1 })
+    (untouched before after o.holds.0, record { world = o.world; held = o.held; defended = o.holds.1 })
 done (run r) before after text answers =
     let o = over (of_world (RunsWorld r)) r.dirs before after text answers in
     let is = o.holds.1 in
@@ -306,6 +325,8 @@ done (generate g) before after text (inl stopped) = let never = stopped.1 in abs
 done (generate g) before after text (inr of) =
     let is = of.holds in
     record {
+      read = package_record g.seed;
+      stands = parts_stand g.seed;
       source = of.world;
       linked = of.linked;
       parts = is.stored.brings.parts;
@@ -315,12 +336,14 @@ done (generate g) before after text (inr of) =
     }
 done (bound e) before after text answers =
     let o = over (of_world (BoundsWorld e)) e.dirs before after text answers in
-    (o.holds.0, record { world = o.world; held = o.held; bounded = o.holds.1 })
+    (untouched before after o.holds.0, record { world = o.world; held = o.held; bounded = o.holds.1 })
 done (pack o) before after text (inl stops, card) = absurd stops
 done (pack o) before after text (inr of, card) = (card, packed o before.folders after.folders text of)
-done (install d) before after text answers =
-    let o = over_by (of_world VerifiesWorld) LoadFile d.dirs before after text answers in
-    (o.holds.0, record { world = o.world; held = o.held; carded = o.holds.1.carded; fault_free = o.holds.1.fault_free; prints = o.holds.1.prints })
+done (install dirs) before after text answers =
+    let o = over_by (of_world VerifiesWorld) LoadFile dirs before after text answers in (
+      untouched before after o.holds.0,
+      record { world = o.world; held = o.held; carded = o.holds.1.carded; fault_free = o.holds.1.fault_free; prints = o.holds.1.prints },
+    )
 
 -- a verdict with status 0 is Done
 promised : (r : Request) (before after : Outside) (sink put : Seen) (verdict : Verdict) → status_of verdict ≡ 0 → Received sink put (text_of verdict)

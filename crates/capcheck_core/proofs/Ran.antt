@@ -27,7 +27,7 @@ use Rattle.vm_offend.specs.Begun.{IsBegun}
 use Rattle.vm_text.specs.Left.{Readout, number_array, left_by}
 use Rattle.vm_text.specs.Lent.{lent_state, IsLentRun}
 use Rattle.vm_text.specs.LikeTexts.{TextsAreAlike}
-use Rattle.vm_text.specs.Text.{left_text, run_text, outcome_text}
+use Rattle.vm_text.specs.Text.{left_text, outcome_text}
 use Rattle.cap_text.specs.Room.{Roomed, IsEmpty, Writes}
 use Rattle.cap_text.specs.Run.{RunRequest}
 use Rattle.capcheck_core.specs.declared.running.RunStop.{RunStop}
@@ -107,9 +107,9 @@ left_same w x y objects fields = λ i. record {
 }
 
 outcome_told : (w : Linked) (o : Outcome Cell) (ending : Plain) → TextsAreAlike w → answer (ending_of o) ≡ endings.Plain ending
-    → run_text words w (erased (state_of o)) (endings.Plain ending) ≡ outcome_text tagged w o
-outcome_told w (running s) ending alike is = alike s (endings.Plain ending) ∙ ap (run_text tagged w s) (sym is)
-outcome_told w (ended e s) ending alike is = alike s (endings.Plain ending) ∙ ap (run_text tagged w s) (sym is)
+    → left_text (left_by words w (erased (state_of o))) (endings.Plain ending) ≡ outcome_text tagged w o
+outcome_told w (running s) ending alike is = alike s (endings.Plain ending) ∙ ap (left_text (left_by tagged w s)) (sym is)
+outcome_told w (ended e s) ending alike is = alike s (endings.Plain ending) ∙ ap (left_text (left_by tagged w s)) (sym is)
 
 prints : (w : Linked) (m : Machine) (ram heap statics : List ℕ) (o : Outcome Cell) (ending : Plain) → AreWordsOf w m ram heap statics o → TextsAreAlike w
     → answer (ending_of o) ≡ endings.Plain ending

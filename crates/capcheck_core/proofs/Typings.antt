@@ -1,7 +1,7 @@
 -- The methods with code of the last package, one after the other.
 use Rattle.std.proofs.Common.{count_by, ◌≡◌, ◌⊎◌, ℕ, ◌+◌, ◌<◌, ◌≤◌, Bool, true, false, List, length, take, drop, Option, Some, None}
 use Rattle.std.proofs.Common.{option_map, slice_get, refl, sym, ap, subst, ◌∙◌, inl, inr, arith, true≢false}
-use Rattle.std.specs.Prelude.{IsSomeAnd, ◌==◌, nat_lt}
+use Rattle.std.specs.Prelude.{IsSomeAnd, codes, ◌==◌, nat_lt}
 use Rattle.std.proofs.lemmas.Bool.{eq-eqb, eqb-true, lt-ltb, ltb-true, and_parts}
 use Rattle.std.proofs.lemmas.List.{length-take, take_all}
 use Rattle.std.proofs.lemmas.List.Sums.{count_by_more_yes, count_by_more_no}
@@ -21,7 +21,7 @@ use Rattle.jc_flow.specs.declared.end.FlowEnd.{FlowEnd}
 use Rattle.jc_flow.specs.declared.end.FlowEnd.TheVariants.{NoTyping, Code, BadTarget, FallsOff, BadHandler, Memory}
 use Rattle.jc_flow.specs.Infer.{TellsEnd, LacksTyping}
 use Rattle.cap_text.specs.declared.line.MethodNumber.{MethodNumber}
-use Rattle.cap_text.specs.Line.{typed_line, refused_flow_line}
+use Rattle.cap_text.specs.Line.{methods_line, refused_flow_line}
 use Rattle.jc_control.specs.Asked.{IsOfLast}
 use Rattle.capcheck_core.specs.Typed.{is_of_last, AreTypedBelow, count_of_last, numbers_of_method, TellsTyped, TellsUntyped}
 use Rattle.capcheck_core.specs.CheckEnds.{IsTypedMethod, FailsMethod}
@@ -159,10 +159,10 @@ first_untyped w n end number text earlier f known named prints =
 -- all of them are typed
 pub all_typed : (w : Linked) (n count : ℕ) (text : List ℕ) → AreTypedBelow w n → length w.methods ≤ n
     → count ≡ count_by (is_of_last (length w.infos)) (take n w.methods)
-    → text ≡ typed_line count → TellsTyped w text
+    → text ≡ methods_line (codes "typed ") count → TellsTyped w text
 all_typed w n count text typed past counts prints =
     let whole : count ≡ count_of_last w = counts ∙ ap (count_by (is_of_last (length w.infos))) (take_all n w.methods past) in
     record {
       typed = λ m of_last. let below = slice_get_within w.methods m.number m.rec of_last.method.rec in typed m of_last (omega (arith, below, past));
-      prints = prints ∙ ap typed_line whole;
+      prints = prints ∙ ap (methods_line (codes "typed ")) whole;
     }

@@ -23,11 +23,11 @@ use Rattle.capcheck_core.specs.Install.{Installs}
 -- the verdicts of each command, and what it makes of the outside
 abbrev pub Answers : Request → Outside → Outside → Verdict → Type 0
 Answers (probe p) before after verdict = Probes p before.folders after.folders verdict × (after.card ≡ before.card)
-Answers (show d) before after verdict = Shows d before.folders after.folders verdict × (after.card ≡ before.card)
-Answers (list d) before after verdict = ListsPackage d before.folders after.folders verdict × (after.card ≡ before.card)
+Answers (show dir) before after verdict = Shows dir before.folders after.folders verdict × (after.card ≡ before.card)
+Answers (list dir) before after verdict = ListsPackage dir before.folders after.folders verdict × (after.card ≡ before.card)
 Answers (asm o) before after verdict = Assembles o before.folders after.folders verdict × (after.card ≡ before.card)
-Answers (check d) before after verdict = Checks d before after verdict
-Answers (verify d) before after verdict = Verifies d before after verdict
+Answers (check dirs) before after verdict = Checks dirs before after verdict
+Answers (verify dirs) before after verdict = Verifies dirs before after verdict
 Answers (defend r) before after verdict = Defends r before after verdict
 Answers (run r) before after verdict = RunsVerified r before after verdict
 Answers (transform t) before after verdict = Transforms t before after verdict
@@ -36,7 +36,7 @@ Answers (trial r) before after verdict = Tries r before after verdict
 Answers (generate g) before after verdict = Generates g before after verdict
 Answers (bound e) before after verdict = Bounds e before after verdict
 Answers (pack o) before after verdict = Packs o before.folders after.folders verdict × (after.card ≡ before.card)
-Answers (install d) before after verdict = Installs d before after verdict
+Answers (install dirs) before after verdict = Installs dirs before after verdict
 
 -- the verdicts where the words ask for nothing
 abbrev pub SaysUsage : Verdict → Type 0

@@ -1,5 +1,5 @@
 -- What `asm` may answer, by the package in its folder, the listing beside it and the roles, and what it stores.
-use Rattle.std.specs.Prelude.{◌≡◌, ℕ, ◌≤◌, List, [], ◌∷◌, length, Option, Err, string_bytes, ◌⊎◌}
+use Rattle.std.specs.Prelude.{◌≡◌, ℕ, ◌≤◌, List, [], ◌∷◌, length, codes, Option, Err, string_bytes, ◌⊎◌}
 use Rattle.cap_files.specs.Folder.{Folders, IsThere}
 use Rattle.cap_listing.specs.declared.fault.AsmEnd.{AsmEnd}
 use Rattle.cap_listing.specs.declared.fault.AsmEnd.TheVariants as ends
@@ -12,7 +12,8 @@ use Rattle.cap_listing.specs.Placing.{faults, first_refused, placed}
 use Rattle.cap_listing.specs.Text.{Lists}
 use Rattle.cap_package.specs.PackageRecord.{PackageRecord}
 use Rattle.cap_package.specs.Parts.{Lent}
-use Rattle.cap_text.specs.Assembled.{assembled_line, not_assembled_line}
+use Rattle.cap_text.specs.Assembled.{not_assembled_line}
+use Rattle.cap_text.specs.Line.{methods_line}
 use Rattle.cap_text.specs.OutOfDir.{OutOfDirRequest}
 use Rattle.cap_text.specs.Transformed.{part_limit_line}
 use Rattle.cap_write.specs.WrittenPackage.{HaveRewritten, IsPartTooLong, IsWritten}
@@ -43,7 +44,7 @@ pub record AreAssembled
     pub stores : List Lent
     pub brings : AreStoresOf (IsAssembled p ms) roles stores
     pub stored : AreStored out stores before after
-    pub prints : text ≡ assembled_line (length ms)
+    pub prints : text ≡ methods_line (codes "assembled ") (length ms)
 
 -- ---- why nothing is
 

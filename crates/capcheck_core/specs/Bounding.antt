@@ -14,7 +14,8 @@ use Rattle.capcheck_core.specs.declared.verdict.Verdict.{Verdict}
 use Rattle.capcheck_core.specs.declared.verdict.Verdict.TheVariants.{Done, Malformed, Refused, Memory}
 use Rattle.capcheck_core.specs.Outside.{Outside, Untouched}
 use Rattle.capcheck_core.specs.OverFolders.{OverFolders}
-use Rattle.capcheck_core.specs.Verify.{HaveCardTypings, TellsRefused}
+use Rattle.xf_share.specs.Ends.{HaveCardTypings}
+use Rattle.capcheck_core.specs.Verify.{TellsRefused}
 use Rattle.capcheck_core.specs.World.{of_world, OverWorld}
 
 -- the number in the world of the method of the last package that has the entry's numbers in the Descriptor, where there is one

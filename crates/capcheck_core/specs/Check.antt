@@ -1,6 +1,5 @@
 -- What `check` may answer, by the packages and the roles in its folders.
 use Rattle.std.specs.Prelude.{string_bytes}
-use Rattle.cap_text.specs.OfDirs.{OfDirsRequest}
 use Rattle.jc_base.specs.World.{Linked}
 use Rattle.capcheck_core.specs.declared.verdict.Verdict.{Verdict}
 use Rattle.capcheck_core.specs.declared.verdict.Verdict.TheVariants.{Done, Refused, Memory}
@@ -21,5 +20,5 @@ abbrev pub ChecksWorld : Linked → Outside → Outside → Verdict → Type 0
 ChecksWorld w before after verdict = Untouched before after × TypesWorld w verdict
 
 -- the outside is as it was when the check began, and as it is afterwards
-abbrev pub Checks : OfDirsRequest → Outside → Outside → Verdict → Type 0
-Checks d before after verdict = OverFolders (OverWorld (of_world ChecksWorld)) d.dirs before after verdict
+abbrev pub Checks : List (List ℕ) → Outside → Outside → Verdict → Type 0
+Checks dirs before after verdict = OverFolders (OverWorld (of_world ChecksWorld)) dirs before after verdict

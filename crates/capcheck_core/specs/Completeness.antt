@@ -39,7 +39,7 @@ use Rattle.capcheck_core.specs.Probe.{method_key}
 use Rattle.capcheck_core.specs.Report.{Seen}
 use Rattle.capcheck_core.specs.Roles.{HasRoles}
 use Rattle.capcheck_core.specs.Shorts.{AreShorts}
-use Rattle.capcheck_core.specs.Verify.{HaveCardTypings}
+use Rattle.xf_share.specs.Ends.{HaveCardTypings}
 use Rattle.capcheck_core.specs.World.{MakeWorld}
 
 -- no load, store or put failed
@@ -139,11 +139,11 @@ CanGenerate g =
 -- what a command needs is there
 abbrev pub CanDo : Request → Folders → Type 0
 CanDo (probe p) before = CanProbe p before
-CanDo (show d) before = CanRead d.dir before
-CanDo (list d) before = CanRead d.dir before
+CanDo (show dir) before = CanRead dir before
+CanDo (list dir) before = CanRead dir before
 CanDo (asm o) before = CanAssemble o before
-CanDo (check d) before = CanOver (λ packages roles w. IsTypedLast w) d.dirs before
-CanDo (verify d) before = CanOver (λ packages roles w. HaveCardTypings w) d.dirs before
+CanDo (check dirs) before = CanOver (λ packages roles w. IsTypedLast w) dirs before
+CanDo (verify dirs) before = CanOver (λ packages roles w. HaveCardTypings w) dirs before
 CanDo (defend r) before = CanOver (λ packages roles w. run_fault w r ≡ None) r.dirs before
 CanDo (run r) before = CanOver (λ packages roles w. HaveCardTypings w × (run_fault w r ≡ None)) r.dirs before
 CanDo (transform t) before = CanOver (λ packages roles w. CanBring packages w) t.dirs before
@@ -152,7 +152,7 @@ CanDo (trial r) before = CanOver (λ packages roles w. CanBring packages w × (r
 CanDo (generate g) before = CanGenerate g
 CanDo (bound e) before = CanOver (λ packages roles w. HaveCardTypings w × (bound_fault w e ≡ None)) e.dirs before
 CanDo (pack o) before = CanPack o before
-CanDo (install d) before = CanOverPlaces (λ packages roles w. HaveCardTypings w) (places LoadFile d.dirs) before
+CanDo (install dirs) before = CanOverPlaces (λ packages roles w. HaveCardTypings w) (places LoadFile dirs) before
 
 -- where the words ask for something, what it needs is there and no device failed, the work is done or there was no memory
 abbrev pub Completes : List (List ℕ) → Folders → Folders → Seen → Seen → ℕ → Type 0

@@ -27,7 +27,7 @@ use Rattle.capcheck_core.specs.Outside.{CardWords, Outside, Untouched}
 use Rattle.capcheck_core.specs.Run.{HoldsWords}
 use Rattle.capcheck_core.specs.Stores.{AreStored}
 use Rattle.capcheck_core.specs.Transform.{Brings, IsBroughtInPart, SaysLimited, SaysLong}
-use Rattle.capcheck_core.specs.Verify.{HaveCardTypings}
+use Rattle.xf_share.specs.Ends.{HaveCardTypings}
 use Rattle.capcheck_core.specs.World.{OfLinked}
 
 -- ---- the runs

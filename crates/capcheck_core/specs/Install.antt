@@ -1,5 +1,4 @@
 -- What `install` may answer: what `verify` does, where the parts of the last package stand in the Load file of its folder.
-use Rattle.cap_text.specs.OfDirs.{OfDirsRequest}
 use Rattle.capcheck_core.specs.declared.source.Source.TheVariants.{LoadFile}
 use Rattle.capcheck_core.specs.declared.verdict.Verdict.{Verdict}
 use Rattle.capcheck_core.specs.Outside.{Outside}
@@ -9,5 +8,5 @@ use Rattle.capcheck_core.specs.Verify.{VerifiesWorld}
 use Rattle.capcheck_core.specs.World.{of_world, OverWorld}
 
 -- the outside is as it was when the command began, and as it is afterwards
-abbrev pub Installs : OfDirsRequest → Outside → Outside → Verdict → Type 0
-Installs d before after verdict = OverPlaces (OverWorld (of_world VerifiesWorld)) (places LoadFile d.dirs) before after verdict
+abbrev pub Installs : List (List ℕ) → Outside → Outside → Verdict → Type 0
+Installs dirs before after verdict = OverPlaces (OverWorld (of_world VerifiesWorld)) (places LoadFile dirs) before after verdict

@@ -4,7 +4,6 @@ use Rattle.cap_files.specs.Folder.{Folders}
 use Rattle.cap_listing.specs.Methods.{methods_of}
 use Rattle.cap_listing.specs.Text.{Lists}
 use Rattle.cap_package.specs.PackageRecord.{PackageRecord}
-use Rattle.cap_text.specs.OfDir.{OfDirRequest}
 use Rattle.capcheck_core.specs.declared.verdict.Verdict.{Verdict}
 use Rattle.capcheck_core.specs.declared.verdict.Verdict.TheVariants.{Done, Memory}
 use Rattle.capcheck_core.specs.OverPackage.{OwnOne, OverPackage}
@@ -20,5 +19,5 @@ abbrev pub ListsMethods : OwnOne
 ListsMethods parts p before after verdict = (after ≡ before) × IsListing p verdict
 
 -- the folders are as they were when it began, and as they are afterwards
-abbrev pub ListsPackage : OfDirRequest → Folders → Folders → Verdict → Type 0
-ListsPackage d before after verdict = OverPackage ListsMethods d.dir before after verdict
+abbrev pub ListsPackage : List ℕ → Folders → Folders → Verdict → Type 0
+ListsPackage dir before after verdict = OverPackage ListsMethods dir before after verdict

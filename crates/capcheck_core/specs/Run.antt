@@ -22,7 +22,8 @@ use Rattle.capcheck_core.specs.declared.verdict.Verdict.TheVariants.{Done, Refus
 use Rattle.capcheck_core.specs.Outside.{CardWords, Outside}
 use Rattle.capcheck_core.specs.OverFolders.{OverFolders}
 use Rattle.capcheck_core.specs.World.{of_world, OverWorld}
-use Rattle.capcheck_core.specs.Verify.{HaveCardTypings, TellsRefused}
+use Rattle.xf_share.specs.Ends.{HaveCardTypings}
+use Rattle.capcheck_core.specs.Verify.{TellsRefused}
 use Rattle.capcheck_core.specs.Defend.{ComesTo, IsUnbegun, run_fault}
 
 -- the same entry and arguments, within so many steps

@@ -2,7 +2,6 @@
 use Rattle.std.specs.Prelude.{◌≡◌, string_bytes}
 use Rattle.cap_files.specs.Folder.{Folders}
 use Rattle.cap_package.specs.PackageRecord.{PackageRecord}
-use Rattle.cap_text.specs.OfDir.{OfDirRequest}
 use Rattle.cap_text.specs.Table.{component_table}
 use Rattle.capcheck_core.specs.declared.verdict.Verdict.{Verdict}
 use Rattle.capcheck_core.specs.declared.verdict.Verdict.TheVariants.{Done, Memory}
@@ -19,5 +18,5 @@ abbrev pub ShowsTable : OwnOne
 ShowsTable parts p before after verdict = (after ≡ before) × IsTable p verdict
 
 -- the folders are as they were when it began, and as they are afterwards
-abbrev pub Shows : OfDirRequest → Folders → Folders → Verdict → Type 0
-Shows d before after verdict = OverPackage ShowsTable d.dir before after verdict
+abbrev pub Shows : List ℕ → Folders → Folders → Verdict → Type 0
+Shows dir before after verdict = OverPackage ShowsTable dir before after verdict

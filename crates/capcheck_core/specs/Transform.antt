@@ -1,5 +1,5 @@
 -- What `transform` may answer, by the packages and the roles in its folders, and what it stores (Leroy 2002, section 4).
-use Rattle.std.specs.Prelude.{◌≡◌, ℕ, List, length, Option, Some, None, string_bytes, ◌⊎◌, ◌==◌, if◌then◌else◌}
+use Rattle.std.specs.Prelude.{◌≡◌, ℕ, List, length, codes, Option, Some, None, string_bytes, ◌⊎◌, ◌==◌, if◌then◌else◌}
 use Rattle.cap_files.specs.Folder.{Folders}
 use Rattle.cap_package.specs.Parts.{Lent}
 use Rattle.cap_package.specs.PackageRecord.{PackageRecord}
@@ -11,9 +11,9 @@ use Rattle.xf_pack.specs.declared.end.MethodLimit.TheVariants.{Registers, StackL
 use Rattle.xf_pack.specs.Ends.{IsRefusedLibrary, IsUntypedLast, IsLimited, IsPartLong}
 use Rattle.xf_pack.specs.Transformed.{IsTransformed}
 use Rattle.cap_text.specs.declared.line.MethodNumber.{MethodNumber}
-use Rattle.cap_text.specs.Line.{refused_card_line, refused_flow_line}
+use Rattle.cap_text.specs.Line.{methods_line, refused_card_line, refused_flow_line}
 use Rattle.cap_text.specs.OutOfDirs.{OutOfDirsRequest}
-use Rattle.cap_text.specs.Transformed.{transformed_line, registers_limit_line, stack_limit_line, code_limit_line, part_limit_line}
+use Rattle.cap_text.specs.Transformed.{registers_limit_line, stack_limit_line, code_limit_line, part_limit_line}
 use Rattle.capcheck_core.specs.declared.verdict.Verdict.{Verdict}
 use Rattle.capcheck_core.specs.declared.verdict.Verdict.TheVariants.{Done, Refused, Limit, StoreFault, Memory}
 use Rattle.capcheck_core.specs.Outside.{Outside}
@@ -39,7 +39,7 @@ pub record IsBrought
     pub stores : List Lent
     pub brings : Brings packages roles w stores
     pub stored : AreStored out stores before after
-    pub prints : text ≡ transformed_line (count_of_last w)
+    pub prints : text ≡ methods_line (codes "transformed ") (count_of_last w)
 
 -- a store failed
 abbrev pub IsBroughtInPart : List PackageRecord → List ℕ → Linked → List ℕ → Folders → Folders → Type 0

@@ -1,5 +1,5 @@
 -- Which methods of a world a command types, and that they have dataflow typings (JCVM 2.2, section 7.5; Leroy 2002, section 2.3).
-use Rattle.std.specs.Prelude.{◌≡◌, ◌≢◌, ℕ, ◌+◌, Bool, ◌&&◌, ◌==◌, nat_lt, List, length, count_by}
+use Rattle.std.specs.Prelude.{◌≡◌, ◌≢◌, ℕ, ◌+◌, Bool, ◌&&◌, ◌==◌, nat_lt, List, length, codes, count_by}
 use Rattle.jc_base.specs.declared.ty.Ty.TheVariants.{Top}
 use Rattle.jc_base.specs.declared.record.MethodRec.{MethodRec}
 use Rattle.jc_base.specs.World.{Linked}
@@ -11,7 +11,7 @@ use Rattle.jc_flow.specs.Infer.{TellsEnd}
 use Rattle.cap_text.specs.declared.line.MethodNumber.{MethodNumber}
 use Rattle.xf_pack.specs.Ends.{IsTypedLast}
 use Rattle.jc_control.specs.Asked.{AllHaveBelow, IsFirstWithout, IsOfLast}
-use Rattle.cap_text.specs.Line.{typed_line, refused_flow_line}
+use Rattle.cap_text.specs.Line.{methods_line, refused_flow_line}
 
 -- a method with code, of the last package, as a test of a record, where there are so many packages
 abbrev pub is_of_last : ℕ → MethodRec → Bool
@@ -29,7 +29,7 @@ count_of_last w = count_by (is_of_last (length w.infos)) w.methods
 -- each of them has a typing, and the text says how many they are
 pub record TellsTyped (w : Linked) (text : List ℕ) : Type 0 where
   pub typed : IsTypedLast w
-  pub prints : text ≡ typed_line (count_of_last w)
+  pub prints : text ≡ methods_line (codes "typed ") (count_of_last w)
 
 -- a method by the numbers of its Descriptor
 abbrev pub numbers_of_method : MethodRec → MethodNumber

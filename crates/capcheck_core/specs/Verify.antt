@@ -1,5 +1,5 @@
 -- What `verify` may answer, by the packages and the roles in its folders (Leroy 2002, section 3).
-use Rattle.std.specs.Prelude.{◌≡◌, ℕ, List, count_by, string_bytes}
+use Rattle.std.specs.Prelude.{◌≡◌, ℕ, List, codes, count_by, string_bytes}
 use Rattle.cap_index.specs.Indexes.{has_code}
 use Rattle.jc_base.specs.World.{Linked}
 use Rattle.jc_control.specs.Method.{Method, IsMethodOf}
@@ -8,29 +8,21 @@ use Rattle.card_typing.specs.declared.fault.CardFault.{CardFault}
 use Rattle.card_typing.specs.Typing.{HasCardTyping}
 use Rattle.card_typing.specs.Refusal.{IsRefused}
 use Rattle.law_sound.specs.Soundness.{IsFaultFree}
-use Rattle.cap_text.specs.Line.{accepted_line, refused_card_line}
-use Rattle.cap_text.specs.OfDirs.{OfDirsRequest}
+use Rattle.xf_share.specs.Ends.{HaveCardTypings}
+use Rattle.cap_text.specs.Line.{methods_line, refused_card_line}
 use Rattle.capcheck_core.specs.declared.verdict.Verdict.{Verdict}
 use Rattle.capcheck_core.specs.declared.verdict.Verdict.TheVariants.{Done, Refused, Memory}
-use Rattle.jc_control.specs.Asked.{AllHave, IsFirstWithout}
+use Rattle.jc_control.specs.Asked.{IsFirstWithout}
 use Rattle.capcheck_core.specs.Outside.{Outside, Untouched}
 use Rattle.capcheck_core.specs.OverFolders.{OverFolders}
 use Rattle.capcheck_core.specs.Typed.{numbers_of_method}
 use Rattle.capcheck_core.specs.World.{of_world, OverWorld}
 
--- how many methods with code all packages have
-abbrev pub count_of_world : Linked → ℕ
-count_of_world w = count_by has_code w.methods
-
--- every method with code of all packages has a card typing
-abbrev pub HaveCardTypings : Linked → Type 0
-HaveCardTypings w = AllHave (IsMethodOf w) (HasCardTyping w)
-
 -- each of them has one, no run of any entry meets a fault, and the text says how many they are
 pub record TellsAccepted (w : Linked) (text : List ℕ) : Type 0 where
   pub carded : HaveCardTypings w
   pub fault_free : IsFaultFree w
-  pub prints : text ≡ accepted_line (count_of_world w)
+  pub prints : text ≡ methods_line (codes "accepted ") (count_by has_code w.methods)
 
 -- one of them is the first without a card typing, and the text names it, with a place and a reason that hold
 pub record TellsRefused (w : Linked) (text : List ℕ) : Type 0 where
@@ -59,5 +51,5 @@ abbrev pub VerifiesWorld : Linked → Outside → Outside → Verdict → Type 0
 VerifiesWorld w before after verdict = Untouched before after × AcceptsWorld w verdict
 
 -- the outside is as it was when the verifying began, and as it is afterwards
-abbrev pub Verifies : OfDirsRequest → Outside → Outside → Verdict → Type 0
-Verifies d before after verdict = OverFolders (OverWorld (of_world VerifiesWorld)) d.dirs before after verdict
+abbrev pub Verifies : List (List ℕ) → Outside → Outside → Verdict → Type 0
+Verifies dirs before after verdict = OverFolders (OverWorld (of_world VerifiesWorld)) dirs before after verdict

@@ -1,7 +1,7 @@
-ghost use Rattle.std.specs.Prelude.{◌≡◌, ◌<◌, length, Some, option_map, slice_get};
+ghost use Rattle.std.specs.Prelude.{◌≡◌, ◌<◌, count_by, length, Some, option_map, slice_get};
 ghost use Rattle.cap_index.specs.Indexes.{has_code};
 ghost use Rattle.card_verify.specs.Answers.{AreAccepted, IsFirstRefused};
-ghost use Rattle.capcheck_core.specs.Verify.{count_of_world, StopsAtRefused, AcceptsWorld};
+ghost use Rattle.capcheck_core.specs.Verify.{StopsAtRefused, AcceptsWorld};
 
 use crate::card::Card;
 use crate::step::LastStep;
@@ -62,7 +62,7 @@ fn counted(alloc: Global, world: &World<'_>) -> Verdict
 
 // How many methods with code a world has.
 fn count_of_world(world: &World<'_>) -> u16
-    ensures { result ≡ count_of_world world.now }
+    ensures { result ≡ count_by has_code world.now.methods }
 {
     let mut count = 0u16;
     'methods: for number in 0..world.method_count() {

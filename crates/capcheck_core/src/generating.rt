@@ -10,7 +10,7 @@ ghost use Rattle.capcheck_core.specs.Generate.{generated, run_of, short_ended, A
 ghost use Rattle.capcheck_core.specs.LentCard.{IsSameCard, words_of};
 ghost use Rattle.capcheck_core.specs.Outside.{outside, card_words};
 ghost use Rattle.capcheck_core.specs.Run.{HasLengths};
-ghost use Rattle.capcheck_core.specs.Verify.{HaveCardTypings};
+ghost use Rattle.xf_share.specs.Ends.{HaveCardTypings};
 
 use crate::card::Card;
 use crate::defending::method_entered;

@@ -57,7 +57,7 @@ agreed (p ∷ ps) (q ∷ qs) h (suc i) d lt = agreed ps qs h.1 i d (omega (arith
 
 -- ---- folders
 
-module _ (before : Folders) (dirs : List (List ℕ)) (w : Linked) (told : IsSome before.held) (held : HoldWorld before dirs w) where
+module _ (before : Folders) (dirs : List (List ℕ)) (w : Linked) (told : IsSome before.held) (held : HoldWorld Components before dirs w) where
   some_roles : (ds : List Place) (roles : List ℕ) → AreRoleBytes before ds roles → 0 < length roles
   some_roles [] roles h = absurd h
   some_roles (d ∷ ds) roles h = omega (arith, h.eight)

@@ -27,7 +27,7 @@ use Rattle.jc_ops.specs.Resolve.{byte_of, resolved, on, new_object}
 use Rattle.jc_ops.specs.declared.operation.Holder.TheVariants as holders
 use Rattle.jc_ops.specs.declared.operation.TypeTest.TheVariants as tests
 use Rattle.law_share.specs.Renumbered.{renumbered}
-use Rattle.law_renumbered.specs.Instruction.{names_register, renumbered_instruction}
+use Rattle.law_renumbered.specs.Instruction.{uses_register, renumbered_instruction}
 
 -- the instruction that stands for another in symbols
 abbrev pub stated : (ℕ → ℕ) → Insn → Insn
@@ -60,7 +60,7 @@ module _ (reg : ℕ → ℕ) (x y z : ℤ) (len : ℕ) where
     result i = resolved w m place i (row_at i.op)
 
     table-results : map (λ op. result (stated reg (insn op))) (range_with_len 0 256)
-        ≡ map (λ op. if names_register op then renumbered_result (in_byte reg) (result (insn op)) else result (insn op)) (range_with_len 0 256)
+        ≡ map (λ op. if uses_register op then renumbered_result (in_byte reg) (result (insn op)) else result (insn op)) (range_with_len 0 256)
     unfolding layout_of opcode row_at table by_sort by_width by_kind first_four by_register literals binaries orders_all branching unused
     table-results = refl
 
@@ -86,7 +86,7 @@ module _ (reg : ℕ → ℕ) (x y z : ℤ) (len : ℕ) where
     behind p q = cc
 
     abbrev kept : ℕ → Result Operation RuleFault
-    kept op = if names_register op then result (insn op) else renumbered_result (in_byte reg) (result (insn op))
+    kept op = if uses_register op then result (insn op) else renumbered_result (in_byte reg) (result (insn op))
 
     four : {X : Type 0} (make : X → Operation) → ((x : X) → renumbered (in_byte reg) (make x) ≡ make x) → (a b c d : Result X RuleFault)
         → renumbered_result (in_byte reg) (on make a) ∷ renumbered_result (in_byte reg) (on make b)
@@ -210,8 +210,8 @@ neither false false false x y z i p q r = refl
 past-stated : (reg : ℕ → ℕ) (i : Insn) → 255 < i.op → stated reg i ≡ i
 past-stated reg i lt =
     let b : is_branch i.op ≡ false = grind (arith, nat_tests, lt) in
-    let c : names_register i.op ≡ false = grind (arith, nat_tests, lt) in
-    neither (is_switch i.op) (is_branch i.op) (names_register i.op) i (jump (wide i.op))
+    let c : uses_register i.op ≡ false = grind (arith, nat_tests, lt) in
+    neither (is_switch i.op) (is_branch i.op) (uses_register i.op) i (jump (wide i.op))
     (record (with_operand i) { x = pos (reg (byte_of (with_operand i).x)) }) i (past-switch i.op lt) b c
 
 past-row : (op : ℕ) → 255 < op → row_at op ≡ unused
@@ -249,9 +249,9 @@ module _ (reg : ℕ → ℕ) (i : Insn) where
     -- it does what the other does, in the register with the new number
     pub does-stated : does (stated reg i) ≡ renumbered_result (in_byte reg) (does i)
     does-stated = by-size i.op
-        (λ lt. both-ways reg i.x i.y i.z i.len w m place (names_register i.op) (does (stated reg i)) (does i) (renumbered_result (in_byte reg) (does i))
+        (λ lt. both-ways reg i.x i.y i.z i.len w m place (uses_register i.op) (does (stated reg i)) (does i) (renumbered_result (in_byte reg) (does i))
         (at-op (λ op. does (stated reg (insn reg i.x i.y i.z i.len op)))
-        (λ op. if names_register op then renumbered_result (in_byte reg) (does (insn reg i.x i.y i.z i.len op)) else does (insn reg i.x i.y i.z i.len op))
+        (λ op. if uses_register op then renumbered_result (in_byte reg) (does (insn reg i.x i.y i.z i.len op)) else does (insn reg i.x i.y i.z i.len op))
         (table-results reg i.x i.y i.z i.len w m place) i.op lt (does i))
         (at-op (kept reg i.x i.y i.z i.len w m place) (λ op. does (insn reg i.x i.y i.z i.len op)) (stay-all reg i.x i.y i.z i.len w m place) i.op lt (does i)))
         (λ lt. ap does (past-stated reg i lt)

@@ -6,13 +6,13 @@ use Rattle.jc_decode.specs.Forms.{is_register_move, with_operand}
 use Rattle.jc_ops.specs.Resolve.{byte_of}
 
 -- loads, stores and increments: sinc, iinc and their wide forms
-abbrev pub names_register : ℕ → Bool
-names_register op = is_register_move op || op == 89 || op == 90 || op == 150 || op == 151
+abbrev pub uses_register : ℕ → Bool
+uses_register op = is_register_move op || op == 89 || op == 90 || op == 150 || op == 151
 
 -- such an instruction names the register with this number instead, as an operand; another stays as it is
 abbrev pub renumbered_instruction : (ℕ → ℕ) → Insn → Insn
 renumbered_instruction reg i =
-    if names_register i.op
+    if uses_register i.op
     then record (with_operand i) { x = pos (reg (byte_of (with_operand i).x)) }
     else i
 

@@ -71,7 +71,7 @@ lone packages p roles e = ap (λ ps. roles_beside ps roles) e
 -- ---- the worlds
 
 module _ (t : OutOfDirsRequest) (before after : Outside) (libraries : List (List ℕ)) (last : List ℕ) (are : t.dirs ≡ with_last libraries last)
-    (apart : IsApart libraries t.out) (w : Linked) (h : HoldWorld before.folders t.dirs w) (text : List ℕ)
+    (apart : IsApart libraries t.out) (w : Linked) (h : HoldWorld Components before.folders t.dirs w) (text : List ℕ)
     (b : IsBrought h.packages h.roles w t.out before.folders after.folders text) where
   abbrev parts : List Lent
   parts = b.brings.parts
@@ -125,7 +125,7 @@ module _ (t : OutOfDirsRequest) (before after : Outside) (libraries : List (List
       let far = subst (λ xs. IsApart xs t.out) (sym e) apart in
       roles_kept t.out kept.stores before.folders after.folders kept.stand d far.0 h.roles given
 
-  again : HoldWorld after.folders (with_last libraries t.out) made.keeps.world
+  again : HoldWorld Components after.folders (with_last libraries t.out) made.keeps.world
   again = record {
     parts = loaded.front ++ parts ∷ [];
     roles = h.roles;
@@ -140,7 +140,7 @@ module _ (t : OutOfDirsRequest) (before after : Outside) (libraries : List (List
     linked = made.keeps.linked;
   }
 
-  verifies : (now : Option Parts) → after.folders.held ≡ now → IsSome now → CanDo (verify (record { dirs = with_last libraries t.out })) after.folders
+  verifies : (now : Option Parts) → after.folders.held ≡ now → IsSome now → CanDo (verify (with_last libraries t.out)) after.folders
   verifies None e told = absurd cc
   verifies (Some parts) e told = record {
     world = made.keeps.world;

@@ -7,6 +7,7 @@ use Rattle.cap_text.specs.Request.{verify}
 use Rattle.cap_text.specs.OutOfDirs.{OutOfDirsRequest}
 use Rattle.jc_base.specs.World.{Linked}
 use Rattle.xf_pack.specs.Transformed.{KeepsBehaviour}
+use Rattle.capcheck_core.specs.declared.source.Source.TheVariants.{Components}
 use Rattle.capcheck_core.specs.declared.verdict.Verdict.{Verdict}
 use Rattle.capcheck_core.specs.Completeness.{CanDo}
 use Rattle.capcheck_core.specs.Headline.{HoldWorld}
@@ -23,12 +24,12 @@ with_last libraries dir = libraries ++ dir ∷ []
 -- With the libraries they make the new world; and `verify` has what it needs there, where the folders tell what they hold.
 pub record IsReadAgain (t : OutOfDirsRequest) (libraries : List (List ℕ)) (before after : Folders) : Type 0 where
   pub source : Linked
-  pub held : HoldWorld before t.dirs source
+  pub held : HoldWorld Components before t.dirs source
   pub parts : List Lent
   pub keeps : KeepsBehaviour held.packages held.roles source parts
   pub loaded : AreParts after t.out parts
-  pub again : HoldWorld after (with_last libraries t.out) keeps.world
-  pub verifies : IsSome after.held → CanDo (verify (record { dirs = with_last libraries t.out })) after
+  pub again : HoldWorld Components after (with_last libraries t.out) keeps.world
+  pub verifies : IsSome after.held → CanDo (verify (with_last libraries t.out)) after
 
 -- no library stands in this folder
 abbrev pub IsApart : List (List ℕ) → List ℕ → Type 0

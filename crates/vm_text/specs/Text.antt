@@ -3,7 +3,6 @@ use Rattle.std.specs.Prelude.{ℕ, ◌+◌, ◌*◌, List, [], ◌∷◌, length
 use Rattle.std.specs.List.{concat}
 use Rattle.jc_base.specs.World.{Linked}
 use Rattle.vm_store.specs.Cells.{Cells}
-use Rattle.vm_store.specs.State.{State}
 use Rattle.vm_step.specs.declared.ending.Value.TheVariants.{Ref}
 use Rattle.vm_step.specs.declared.ending.Plain.TheVariants.{Returned, Spent}
 use Rattle.vm_step.specs.declared.ending.Ending.{Ending}
@@ -26,14 +25,10 @@ returned_array left ending = []
 abbrev pub left_text : Readout → Ending → List ℕ
 left_text left ending = concat (ending_line ending ∷ returned_array left ending ∷ static_lines 0 left.statics ∷ [])
 
--- the text of a run that ended in a state of a world
-abbrev pub run_text : {A : Type 0} → Cells A → Linked → State A → Ending → List ℕ
-run_text k w s ending = left_text (left_by k w s) ending
-
 -- the text of what came of a run; where no ending was reached within its steps, it is spent
 abbrev pub outcome_text : {A : Type 0} → Cells A → Linked → Outcome A → List ℕ
-outcome_text k w (running s) = run_text k w s (Plain Spent)
-outcome_text k w (ended ending s) = run_text k w s ending
+outcome_text k w (running s) = left_text (left_by k w s) (Plain Spent)
+outcome_text k w (ended ending s) = left_text (left_by k w s) ending
 
 -- no text of a run of a world is longer: 34 bytes tell an ending, 26 begin and end the line of an array, which has at most 65,535
 -- elements of 12 bytes, and a static field takes 31

@@ -27,7 +27,7 @@ use Rattle.jc_decode.specs.Symbols.{IsItem, IsOnce, IsRange, plain_bytes, plain_
 use Rattle.jc_decode.proofs.Decoded.{IsWithin-decoded}
 use Rattle.jc_decode.proofs.Ranges.{IsAllowed-decoded, op-fits}
 use Rattle.jc_ops.specs.Resolve.{byte_of}
-use Rattle.law_renumbered.specs.Instruction.{names_register, renumbered_instruction}
+use Rattle.law_renumbered.specs.Instruction.{uses_register, renumbered_instruction}
 use Rattle.law_renumbered.specs.Symbols.{item_of, items_from, labels_of, range_of}
 use Rattle.vm_step.specs.Settled.{place_number}
 use Rattle.xf_share.specs.Numbering.{IsReadable}
@@ -75,7 +75,7 @@ operand-long i = by (is_load_n i.op) (is_store_n i.op)
 
 module _ (code : List ℕ) (reg : ℕ → ℕ) where
   item-size : (i : Placed) → plain_bytes (item_of code reg i) ≤ i.insn.len + 13
-  item-size i = by (is_switch i.insn.op) (is_branch i.insn.op) (names_register i.insn.op)
+  item-size i = by (is_switch i.insn.op) (is_branch i.insn.op) (uses_register i.insn.op)
     where
       x : ℤ
       x = pos (reg (byte_of (with_operand i.insn).x))

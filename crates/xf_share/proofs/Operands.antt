@@ -14,7 +14,7 @@ use Rattle.jc_decode.specs.Layout.{layout_of, opcode}
 use Rattle.jc_decode.specs.Listing.{is_branch, jumps}
 use Rattle.jc_decode.proofs.Passed.{passed-at}
 use Rattle.jc_ops.specs.Resolve.{byte_of}
-use Rattle.law_renumbered.specs.Instruction.{names_register, renumbered_instruction}
+use Rattle.law_renumbered.specs.Instruction.{uses_register, renumbered_instruction}
 
 -- ---- by opcode
 
@@ -66,7 +66,7 @@ abbrev has_operand : ℕ → Bool
 has_operand op = first_u1 (layout_of (with_operand_op op)) && (not (jumps (with_operand_op op)) && rest_stays op)
 
 abbrev suits_register : ℕ → Bool
-suits_register op = not (names_register op) || has_operand op
+suits_register op = not (uses_register op) || has_operand op
 
 abbrev suits_branch : ℕ → Bool
 suits_branch op = not (is_branch op) || is_wide_jump (wide op)
@@ -82,8 +82,8 @@ rest-of-or : (a b : Bool) → (not a || b) ≡ true → a ≡ true → b ≡ tru
 rest-of-or true b h e = h
 rest-of-or false b h e = absurd (cc)
 
-register-suits : (op : ℕ) → op < 256 → names_register op ≡ true → has_operand op ≡ true
-register-suits op lt e = rest-of-or (names_register op) (has_operand op) (passed-at suits_register registers-all op lt) e
+register-suits : (op : ℕ) → op < 256 → uses_register op ≡ true → has_operand op ≡ true
+register-suits op lt e = rest-of-or (uses_register op) (has_operand op) (passed-at suits_register registers-all op lt) e
 
 pub branch-wide : (op : ℕ) → op < 256 → is_branch op ≡ true → is_wide_jump (wide op) ≡ true
 branch-wide op lt e = rest-of-or (is_branch op) (is_wide_jump (wide op)) (passed-at suits_branch branches-all op lt) e
@@ -153,7 +153,7 @@ with-first i x = by (is_load_n i.op) (is_store_n i.op)
     by false true = refl
     by false false = refl
 
-module _ (i : Insn) (r : ℕ) (small : i.op < 256) (lt : r < 256) (named : names_register i.op ≡ true) where
+module _ (i : Insn) (r : ℕ) (small : i.op < 256) (lt : r < 256) (named : uses_register i.op ≡ true) where
   parts : (first_u1 (layout_of (with_operand_op i.op)) ≡ true) × ((not (jumps (with_operand_op i.op)) && rest_stays i.op) ≡ true)
   parts =
       and_parts (first_u1 (layout_of (with_operand_op i.op))) (not (jumps (with_operand_op i.op)) && rest_stays i.op)
@@ -186,12 +186,12 @@ byte-small x = omega arith
 
 pub plain-suits : (i : Insn) (reg : ℕ → ℕ) → i.op < 256 → ((x : ℕ) → x < 256 → reg x < 256) → jumps i.op ≡ false → IsAllowed i
     → IsAllowed (renumbered_instruction reg i) × IsTrue (not (jumps (renumbered_instruction reg i).op))
-plain-suits i reg small few none a = by (names_register i.op) refl
+plain-suits i reg small few none a = by (uses_register i.op) refl
   where
     r : ℕ
     r = reg (byte_of (with_operand i).x)
 
-    by : (b : Bool) → names_register i.op ≡ b
+    by : (b : Bool) → uses_register i.op ≡ b
         → IsAllowed (if b then record (with_operand i) { x = pos r } else i)
         × IsTrue (not (jumps (if b then record (with_operand i) { x = pos r } else i).op))
     by true named = named-plain i r small (few (byte_of (with_operand i).x) (byte-small (with_operand i).x)) named a

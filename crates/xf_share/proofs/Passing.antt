@@ -19,7 +19,7 @@ use Rattle.jc_decode.specs.declared.symbols.Laid.{Laid}
 use Rattle.law_shared_world.specs.SharedCode.{HasSharedCode}
 use Rattle.xf_layout.specs.declared.symbols.LayEnd.{LayEnd}
 use Rattle.xf_layout.specs.declared.symbols.LayEnd.TheVariants.{MethodLong, Memory}
-use Rattle.xf_share.specs.Ends.{IsAccepted, IsRefusedFirst, IsSharedTooLong, TellsOf}
+use Rattle.xf_share.specs.Ends.{HaveCardTypings, IsRefusedFirst, IsSharedTooLong, TellsOf}
 use Rattle.xf_share.specs.Passes.{BeginsLast, IsSharedAt, IsSharedWell}
 use Rattle.xf_share.specs.Unlaid.{IsSharedLong, TellsUnlaid, unlaid}
 
@@ -75,7 +75,7 @@ module _ (w : Linked) where
       → AllHaveBelow (IsMethodOf w) (HasCardTyping w) (n + 1)
   accepted-more n below accepted = below-more (IsMethodOf w) (HasCardTyping w) n below (accepted-at n accepted)
 
-  pub accepted-all : (n : ℕ) → length w.methods ≤ n → AllHaveBelow (IsMethodOf w) (HasCardTyping w) n → IsAccepted w
+  pub accepted-all : (n : ℕ) → length w.methods ≤ n → AllHaveBelow (IsMethodOf w) (HasCardTyping w) n → HaveCardTypings w
   accepted-all n le below = λ m of. below m of (let lt = slice_get_within w.methods m.number m.rec of.rec in omega (arith, lt, le))
 
   pub refused-first : IsWorld w → (n : ℕ) (fault : CardFault) → AllHaveBelow (IsMethodOf w) (HasCardTyping w) n → IsRefusedAt w n fault
@@ -118,7 +118,7 @@ module _ (w : Linked) (first : ℕ) (is : BeginsLast w first) where
       → AllHaveBelow (IsOfLast w) (HasSharedCode w) (n + 1)
   laid-more n laid below h = below-more (IsOfLast w) (HasSharedCode w) n below (laid-at n laid h)
 
-  too-long : (n k : ℕ) → first ≤ n → IsAccepted w → AllHaveBelow (IsOfLast w) (HasSharedCode w) n
+  too-long : (n k : ℕ) → first ≤ n → HaveCardTypings w → AllHaveBelow (IsOfLast w) (HasSharedCode w) n
       → IsSomeAnd (method_in w n) (IsSharedLong w k) → IsSharedTooLong w n k
   too-long n k le accepted below h = by (slice_get w.methods n) refl h
     where
@@ -137,7 +137,7 @@ module _ (w : Linked) (first : ℕ) (is : BeginsLast w first) where
         size = h.size;
       }
 
-  pub unlaid-tells : (n : ℕ) (end : LayEnd) → first ≤ n → IsAccepted w → AllHaveBelow (IsOfLast w) (HasSharedCode w) n → TellsUnlaid w n end
+  pub unlaid-tells : (n : ℕ) (end : LayEnd) → first ≤ n → HaveCardTypings w → AllHaveBelow (IsOfLast w) (HasSharedCode w) n → TellsUnlaid w n end
       → (ps : List PackageRecord) → TellsOf ps w (unlaid n end)
   unlaid-tells n Memory le accepted below h ps = accepted
   unlaid-tells n (MethodLong k) le accepted below h ps = too-long n k le accepted below h

@@ -19,7 +19,7 @@ use Rattle.law_index.specs.WrittenIndex.{WrittenIndexIsExact}
 use Rattle.law_relink.specs.Last.{and_last}
 use Rattle.law_shared_world.specs.Laws.{SharedWorldEndsInStep}
 use Rattle.law_shared_world.specs.SharedCode.{laid_locals, locals_of_last}
-use Rattle.xf_share.specs.Ends.{IsAccepted, IsSharedPartLong}
+use Rattle.xf_share.specs.Ends.{HaveCardTypings, IsSharedPartLong}
 use Rattle.xf_share.specs.Passes.{BeginsLast, EachFrom, HasLast, IsSharedAt}
 use Rattle.xf_share.specs.Shared.{IsShared}
 use Rattle.xf_share.proofs.Elements.{are-shared, own-fit}
@@ -58,7 +58,7 @@ module _ (ps : List PackageRecord) (roles : List ℕ) (w : Linked) (linked : IsL
         may-be-laid parted.0 p roles w last-linked laid (own-fit parted.0 p roles w last-linked first is laid each all) agreed (own-reference p agreed)
         few
 
-    module _ (accepted : IsAccepted w) where
+    module _ (accepted : HaveCardTypings w) where
       pub shared : StandsFor p.parts p → SharedWorldEndsInStep w → WrittenIndexIsExact → (parts : List Lent)
           → IsWritten p laid parts
           → HaveRewritten p laid parts

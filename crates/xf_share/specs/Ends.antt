@@ -23,8 +23,8 @@ use Rattle.xf_share.specs.declared.end.ShareEnd.{ShareEnd}
 use Rattle.xf_share.specs.declared.end.ShareEnd.TheVariants.{Link, Refused, MethodLong, PartLong, Memory}
 
 -- each method with code has a card typing
-abbrev pub IsAccepted : Linked → Type 0
-IsAccepted w = AllHave (IsMethodOf w) (HasCardTyping w)
+abbrev pub HaveCardTypings : Linked → Type 0
+HaveCardTypings w = AllHave (IsMethodOf w) (HasCardTyping w)
 
 -- the method of this number is the first with code that has no card typing, and is refused so
 pub record IsRefusedFirst (w : Linked) (number : ℕ) (fault : CardFault) : Type 0 where
@@ -37,7 +37,7 @@ pub record IsRefusedFirst (w : Linked) (number : ℕ) (fault : CardFault) : Type
 -- all methods are accepted, and the method of this number is the first of the last package whose code with shared registers is longer
 -- than code of a method may be, in its shortest bytes; the number told is its plain size
 pub record IsSharedTooLong (w : Linked) (number n : ℕ) : Type 0 where
-  pub accepted : IsAccepted w
+  pub accepted : HaveCardTypings w
   pub method : Method
   pub numbered : method.number ≡ number
   pub of_last : IsOfLast w method
@@ -50,7 +50,7 @@ pub record IsSharedTooLong (w : Linked) (number n : ℕ) : Type 0 where
 
 -- no method is too long, and the Method component of the last package would be with what is laid for them
 pub record IsSharedPartLong (packages : List PackageRecord) (w : Linked) (n : ℕ) : Type 0 where
-  pub accepted : IsAccepted w
+  pub accepted : HaveCardTypings w
   pub earlier : List PackageRecord
   pub source : PackageRecord
   pub are : packages ≡ and_last earlier source
@@ -64,7 +64,7 @@ TellsOf packages w (Link fault) = ⊥
 TellsOf packages w (Refused method fault) = IsRefusedFirst w method fault
 TellsOf packages w (MethodLong method n) = IsSharedTooLong w method n
 TellsOf packages w (PartLong n) = IsSharedPartLong packages w n
-TellsOf packages w Memory = IsAccepted w
+TellsOf packages w Memory = HaveCardTypings w
 
 -- they make one, of which the end tells
 pub record TellsLinked (packages : List PackageRecord) (roles : List ℕ) (end : ShareEnd) : Type 0 where

@@ -5,11 +5,9 @@ use Rattle.cap_package.specs.Parts.{Lent}
 use Rattle.cap_package.specs.StandsFor.{StandsFor}
 use Rattle.law_package.specs.Rewritten.{IsRewritten}
 use Rattle.cap_write.specs.WrittenPackage.{IsWritten}
-use Rattle.card_typing.specs.Typing.{HasCardTyping}
 use Rattle.card_verify.specs.Counting.{IsByIndex}
 use Rattle.jc_base.specs.World.{Linked}
 use Rattle.jc_control.specs.Asked.{AllHave, IsOfLast}
-use Rattle.jc_control.specs.Method.{IsMethodOf}
 use Rattle.jc_decode.specs.declared.symbols.Laid.{Laid}
 use Rattle.jc_link.specs.World.{IsLinked}
 use Rattle.law_index.specs.WrittenIndex.{HasRoomForIndex}
@@ -19,12 +17,12 @@ use Rattle.law_share.specs.Laws.{EndInStep}
 use Rattle.law_shared_world.specs.Laws.{HaveNoMore}
 use Rattle.law_shared_world.specs.SharedCode.{AreSharedOf, laid_locals, locals_of_last}
 use Rattle.xf_share.specs.declared.fewer.Fewer.{Fewer}
-use Rattle.xf_share.specs.Ends.{IsAccepted}
+use Rattle.xf_share.specs.Ends.{HaveCardTypings}
 
 -- Each method with code has a card typing. The parts stand for a package that makes a world with the libraries, in which each method
 -- with code has a card typing too and no more registers, and in which every run ends in step with that of the former world.
 pub record KeepsRuns (packages : List PackageRecord) (roles : List ℕ) (w : Linked) (parts : List Lent) : Type 0 where
-  pub accepted : IsAccepted w
+  pub accepted : HaveCardTypings w
   pub libraries : List PackageRecord
   pub source : PackageRecord
   pub are : packages ≡ and_last libraries source
@@ -32,7 +30,7 @@ pub record KeepsRuns (packages : List PackageRecord) (roles : List ℕ) (w : Lin
   pub stands : StandsFor parts made
   pub world : Linked
   pub linked : IsLinked (and_last libraries made) roles world
-  pub carded : AllHave (IsMethodOf world) (HasCardTyping world)
+  pub carded : HaveCardTypings world
   pub no_more : HaveNoMore w world
   pub in_step : EndInStep w world
 

@@ -4,7 +4,7 @@ ghost use Rattle.jc_control.specs.Method.{method_in};
 ghost use Rattle.jc_decode.specs.Decoding.{AreBytes};
 ghost use Rattle.law_shared_world.specs.SharedCode.{IsSharedFor};
 ghost use Rattle.xf_allot.specs.Sharing.{AnswersSharing};
-ghost use Rattle.xf_share.specs.Ends.{IsAccepted, TellsOf};
+ghost use Rattle.xf_share.specs.Ends.{HaveCardTypings, TellsOf};
 ghost use Rattle.xf_share.specs.Numbering.{IsRenumbered, number_of};
 ghost use Rattle.xf_share.specs.Passes.{BeginsLast, EachFrom, FitsMethod, IsSharedAt};
 ghost use Rattle.xf_share.specs.Unlaid.{TellsUnlaid};
@@ -28,7 +28,7 @@ pub(crate) fn lay_last(
     first: u16,
 ) -> Result<Vec<Option<Laid>>, ShareEnd>
     requires first { BeginsLast world.now first }
-    requires accepted { IsAccepted world.now }
+    requires accepted { HaveCardTypings world.now }
     ensures laid { IfOk result (λ laid. EachFrom (IsSharedAt world.now) first laid.items) }
     ensures all { IfOk result (λ laid. first + vec_len laid ≡ length world.now.methods) }
     ensures end { IfErr result (λ end. (packages : List PackageRecord) → TellsOf packages world.now end) }
@@ -49,7 +49,7 @@ pub(crate) fn lay_last(
 // What is laid for a method, if it has code.
 fn lay_method(alloc: Global, world: &World<'_>, number: u16) -> Result<Option<Laid>, LayEnd>
     requires method { number < length world.now.methods }
-    requires accepted { IsAccepted world.now }
+    requires accepted { HaveCardTypings world.now }
     ensures laid { IfOk result (IsSharedAt world.now number) }
     ensures end { IfErr result (TellsUnlaid world.now number) }
 {
@@ -65,7 +65,7 @@ fn lay_method(alloc: Global, world: &World<'_>, number: u16) -> Result<Option<La
 // The code of a method in which its variables share registers.
 fn lay_code(alloc: Global, world: &World<'_>, number: u16) -> Result<Laid, LayEnd>
     requires code { IsSomeAnd (slice_get world.now.methods number) (λ r. 0 < r.code_len) }
-    requires accepted { IsAccepted world.now }
+    requires accepted { HaveCardTypings world.now }
     ensures laid { IsSomeAnd (method_in world.now number) (λ m. IfOk result (IsSharedFor world.now m)) }
     ensures fits { IsSomeAnd (method_in world.now number) (λ m. IfOk result (FitsMethod m.rec)) }
     ensures end { IfErr result (TellsUnlaid world.now number) }
@@ -83,7 +83,7 @@ fn share_method(
     number: u16,
 ) -> Result<Option<Sharing>, AllocError>
     requires code { IsSomeAnd (slice_get world.now.methods number) (λ r. 0 < r.code_len) }
-    requires accepted { IsAccepted world.now }
+    requires accepted { HaveCardTypings world.now }
     ensures { IsSomeAnd (method_in world.now number) (λ m. IfOk result (AnswersSharing world.now m)) }
 {
     let rec = world.method(number);
@@ -103,7 +103,7 @@ fn lay_shared(
     sharing: &Option<Sharing>,
 ) -> Result<Laid, LayEnd>
     requires code { IsSomeAnd (slice_get world.now.methods number) (λ r. 0 < r.code_len) }
-    requires accepted { IsAccepted world.now }
+    requires accepted { HaveCardTypings world.now }
     requires sharing { IsSomeAnd (method_in world.now number) (λ m. AnswersSharing world.now m sharing.now) }
     ensures laid { IsSomeAnd (method_in world.now number) (λ m. IfOk result (IsSharedFor world.now m)) }
     ensures fits { IsSomeAnd (method_in world.now number) (λ m. IfOk result (FitsMethod m.rec)) }

@@ -1,6 +1,6 @@
 ghost use Rattle.std.specs.Prelude.{◌≡◌, slice_index_or};
 ghost use Rattle.jc_decode.specs.Forms.{is_load_n, is_store_n, with_operand};
-ghost use Rattle.law_renumbered.specs.Instruction.{names_register, renumbered_instruction};
+ghost use Rattle.law_renumbered.specs.Instruction.{uses_register, renumbered_instruction};
 ghost use Rattle.xf_share.specs.Numbering.{number_of};
 
 use jc_decode::Insn;
@@ -10,7 +10,7 @@ use xf_allot::Sharing;
 pub(crate) fn renumbered(insn: Insn, sharing: &Option<Sharing>) -> Insn
     ensures { result ≡ renumbered_instruction (number_of sharing.now) insn }
 {
-    if !names_register(insn) {
+    if !uses_register(insn) {
         return insn;
     }
     let named = with_operand(insn);
@@ -41,8 +41,8 @@ fn number_among(numbers: &Vec<u8>, register: u8) -> u8
 }
 
 // Whether it names a register: a load, a store, `sinc`, `iinc` or a wide form of these two.
-fn names_register(insn: Insn) -> bool
-    ensures { result ≡ names_register insn.op }
+fn uses_register(insn: Insn) -> bool
+    ensures { result ≡ uses_register insn.op }
 {
     insn.is_register_move() || matches!(insn.op, 89 | 90 | 150 | 151)
 }

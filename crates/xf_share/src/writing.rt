@@ -1,6 +1,6 @@
 ghost use Rattle.std.specs.Prelude.{◌≡◌, ◌+◌, IfErr, IfOk, length};
 ghost use Rattle.jc_link.specs.World.{IsLinked};
-ghost use Rattle.xf_share.specs.Ends.{IsAccepted, TellsOf};
+ghost use Rattle.xf_share.specs.Ends.{HaveCardTypings, TellsOf};
 ghost use Rattle.xf_share.specs.Passes.{BeginsLast, EachFrom, IsSharedAt};
 ghost use Rattle.xf_share.specs.Shared.{IsSharedFrom};
 
@@ -25,7 +25,7 @@ pub(crate) fn write_last(
 ) -> Result<Fewer, ShareEnd>
     requires linked { IsLinked packages.now roles world.now }
     requires first { BeginsLast world.now first }
-    requires accepted { IsAccepted world.now }
+    requires accepted { HaveCardTypings world.now }
     requires laid { EachFrom (IsSharedAt world.now) first laid.now }
     requires all { first + length laid.now ≡ length world.now.methods }
     ensures made { IfOk result (IsSharedFrom packages.now roles world.now) }

@@ -1,5 +1,5 @@
 use Rattle.std.proofs.Common.{◌≡◌, ◌++◌}
-use Rattle.cap_gen.specs.Methods.{each_from}
+use Rattle.cap_gen.proofs.Loops.{each_from}
 use Rattle.cap_gen.specs.Described.{described_bytes}
 use Rattle.cap_gen.proofs.described.put_records.Given as goal
 

@@ -1,5 +1,6 @@
 use Rattle.std.proofs.Common.{◌≡◌, ◌++◌}
-use Rattle.cap_gen.specs.Methods.{each_from, method_bytes}
+use Rattle.cap_gen.specs.Methods.{method_bytes}
+use Rattle.cap_gen.proofs.Loops.{each_from}
 use Rattle.cap_gen.proofs.methods.put_methods.Given as goal
 
 abbrev pub invariant-methods : goal.invariant-methods

@@ -1,5 +1,6 @@
 use Rattle.std.proofs.Common.{◌≡◌, ◌++◌}
-use Rattle.cap_gen.specs.Methods.{each_from, entry_table}
+use Rattle.cap_gen.specs.Methods.{entry_table}
+use Rattle.cap_gen.proofs.Loops.{each_from}
 use Rattle.cap_gen.proofs.methods.put_table.Given as goal
 
 abbrev pub invariant-methods : goal.invariant-methods

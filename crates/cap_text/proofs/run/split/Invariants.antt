@@ -1,7 +1,7 @@
 use Rattle.std.proofs.Common.{◌≡◌, ◌+◌, drop, length}
 use Rattle.std.specs.List.{position_or_len}
 use Rattle.cap_files.specs.WordsLeft.{words_left}
-use Rattle.cap_text.specs.Run.{is_end}
+use Rattle.cap_text.proofs.Ends.{is_end}
 use Rattle.cap_text.proofs.run.split.Given as goal
 
 abbrev pub invariant-words : goal.invariant-words
