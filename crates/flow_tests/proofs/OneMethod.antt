@@ -13,7 +13,8 @@ use Rattle.jc_base.specs.Order.{same}
 use Rattle.jc_base.specs.Dispatch.{HasBody, visible_in, nearest_of, package_of, public_of, visible_of, cell_count}
 use Rattle.jc_base.specs.Interface.{extended, NoneExtendsItself}
 use Rattle.jc_base.proofs.Leading.{leads-nowhere}
-use Rattle.jc_base.specs.Linked.{IsMethod, IsHandler, IsLinkedClass, IsDispatch, IsMember}
+use Rattle.jc_base.proofs.Bodies.{linked_more}
+use Rattle.jc_base.specs.Linked.{AreLinkedClasses, IsMethod, IsHandler, IsLinkedClass, IsDispatch, IsMember}
 use Rattle.jc_base.specs.World.{IsWorld, IsThrown}
 use Rattle.flow_tests.specs.declared.shape.Shape.{Shape}
 use Rattle.flow_tests.specs.declared.shape.Shape.TheVariants as shapes
@@ -242,3 +243,19 @@ module _ (shape : Shape) (code : List ℕ) (handlers : List Handler) (filled : 0
         roles = record { count = refl; objects = is_object; throwables = is_throwable; others = all_thrown (only_method shape (length code) handlers ∷ []) };
         one_index_each = refl;
       }
+
+-- ---- what the index of the classes asks
+
+pub few_classes : length classes.records ≤ 4096
+few_classes = lit≤ tt
+
+pub all_linked : (methods : List MethodRec) → AreLinkedClasses 16 classes methods
+all_linked methods = linked_more 1 16 classes methods (lit≤ tt) (linked methods)
+
+pub one_only : (shape : Shape) (len : ℕ) (handlers : List Handler) → length (only_method shape len handlers ∷ []) ≤ 1
+one_only shape len handlers = lit≤ tt
+
+pub class_known : (shape : Shape) (len : ℕ) (handlers : List Handler)
+    → All (λ (m : MethodRec). m.class < 4) (only_method shape len handlers ∷ [])
+class_known shape len handlers =
+    All-from_recursion (λ (m : MethodRec). m.class < 4) (only_method shape len handlers ∷ []) (lit< tt, tt)

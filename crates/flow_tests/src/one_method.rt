@@ -1,4 +1,5 @@
 ghost use Rattle.std.specs.Prelude.{◌≡◌, ◌<◌, ◌≤◌, ◌∷◌, [], None, false, All, length, IfOk, IsSomeAnd, slice_get};
+ghost use Rattle.jc_base.specs.ByClass.{IsIndexOf};
 ghost use Rattle.jc_base.specs.Linked.{IsHandler};
 ghost use Rattle.flow_tests.specs.OneMethod.{arguments_of, classes, only_method, own_cells};
 
@@ -139,6 +140,16 @@ fn no_index<'a>(alloc: Global) -> Result<Indexes<'a>, AllocError>
     Ok(Items::of(vec![in alloc; None]?))
 }
 
+/// The index of its classes.
+fn class_index(alloc: Global, table: &Classes, methods: &Methods) -> Result<ClassIndex, AllocError>
+    requires table { table.now ≡ classes }
+    requires one { length methods.now ≤ 1 }
+    requires known { All (λ m. m.class < 4) methods.now }
+    ensures { IfOk result (IsIndexOf table.now methods.now) }
+{
+    ClassIndex::of(alloc, table, methods)
+}
+
 /// A world with one method of a shape, in the class object.
 pub fn world<'a>(
     alloc: Global,
@@ -156,13 +167,16 @@ pub fn world<'a>(
     let handlers = handlers(alloc, ranges, len)?;
     let methods = methods(alloc, shape, len, handlers)?;
     let indexes = no_index(alloc)?;
+    let table = table(alloc)?;
+    let by_class = class_index(alloc, &table, &methods)?;
     Ok(World::of(
         infos(alloc, code)?,
         pools(alloc)?,
-        table(alloc)?,
+        table,
         methods,
         empty(alloc),
         empty(alloc),
         indexes,
+        by_class,
     ))
 }

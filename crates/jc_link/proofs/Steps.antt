@@ -1,5 +1,5 @@
 -- From names to classes, and to what stands on them: what each step is given and what it tells.
-use Rattle.std.proofs.Common.{◌≡◌, ℕ, ◌<◌, ◌≤◌, List, length, Result, Ok, Err, sym, ap, subst, ◌∙◌, arith}
+use Rattle.std.proofs.Common.{◌≡◌, ℕ, ◌<◌, ◌≤◌, List, length, Result, Ok, Err, refl, sym, ap, subst, ◌∙◌, arith}
 use Rattle.std.specs.Prelude.{All, IfOk, slice_index}
 use Rattle.std.proofs.lemmas.List.{length-map}
 use Rattle.std.proofs.lemmas.List.Elements.{All-weaker}
@@ -223,6 +223,12 @@ module _ (ps : List PackageRecord) (roles : List ℕ) (n : NamesRecord) (of : Ar
 
   pub count_known : (t : ClassTable) → IsTableOf ps roles t → length t.records ≡ length n.classes
   count_known t is = ap (λ (u : ClassTable). length u.records) is.is ∙ counted ps roles ∙ ap length (sym classes-are)
+
+  -- the class of each method stands in the table
+  pub methods_of_table : (t : ClassTable) → IsTableOf ps roles t → (ms : List MethodRec) → ms ≡ n.methods
+      → All (λ (m : MethodRec). m.class < length t.records) ms
+  methods_of_table t is ms e =
+      subst (λ (k : ℕ). All (λ (m : MethodRec). m.class < k) ms) (sym (count_known t is)) (methods_known n.classes ms refl e)
 
   role_known : (t : ClassTable) → IsTableOf ps roles t → (k : ℕ) → k < 8 → IsClass t (slice_index t.roles k)
   role_known t is k lt = subst (λ (u : ClassTable). IsClass u (slice_index u.roles k)) (sym is.is) (role-class ps roles t is k lt)

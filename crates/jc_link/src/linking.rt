@@ -1,5 +1,6 @@
 ghost use Rattle.std.specs.Prelude.{◌≤◌, length, IfOk, OnOk};
 ghost use Rattle.first_fault.specs.First.{AllEmpty};
+ghost use Rattle.jc_base.specs.ByClass.{IsIndexOf};
 ghost use Rattle.jc_link.specs.Arrays.{array_records, initial_cells};
 ghost use Rattle.jc_link.specs.World.{TellsFirst, LinkTells, IsLinked, table_conditions, member_conditions, rest_conditions};
 ghost use Rattle.jc_link.specs.Known.{AreNamesOf, IsTableOf, AreResolved, AreTaken};
@@ -9,7 +10,9 @@ use crate::tabling::{Tabled, with_table};
 use crate::{arrays, arrays_fit, handlers_fit, members, roles_fit, statics, statics_fit};
 use cap_index::indexes;
 use cap_package::Packages;
-use jc_base::{Arrays, Classes, Indexes, Infos, Pools, Statics, World, concrete_decides};
+use jc_base::{
+    Arrays, ClassIndex, Classes, Indexes, Infos, Pools, Statics, World, concrete_decides,
+};
 use jc_resolve::{LinkEnd, Names};
 use std::alloc::{AllocError, Global};
 
@@ -74,6 +77,20 @@ fn take_lists<'a>(alloc: Global, names: &Names<'_, '_, 'a>) -> Result<Taken<'a>,
     })
 }
 
+/// The index of the classes of packages with their methods.
+fn class_index(
+    alloc: Global,
+    names: &Names<'_, '_, '_>,
+    classes: &Classes,
+) -> Result<ClassIndex, AllocError>
+    requires names { AreNamesOf names.now.packages names.now.roles names.now }
+    requires table { IsTableOf names.now.packages names.now.roles classes.now }
+    ensures { IfOk result (IsIndexOf classes.now names.now.methods) }
+{
+    names.facts();
+    ClassIndex::of(alloc, classes, names.methods())
+}
+
 /// The world of packages by number, of which nothing is at fault.
 fn made<'a>(
     alloc: Global,
@@ -88,16 +105,23 @@ fn made<'a>(
     ensures { LinkTells tabled.entry.names.packages tabled.entry.names.roles result }
 {
     let taken = take_lists(alloc, &tabled.names)?;
-    Ok(world_of(tabled, resolved, taken))
+    let by_class = class_index(alloc, &tabled.names, &tabled.classes)?;
+    Ok(world_of(tabled, resolved, taken, by_class))
 }
 
-fn world_of<'a>(tabled: Tabled<'_, '_, 'a>, resolved: Resolved, taken: Taken<'a>) -> World<'a>
+fn world_of<'a>(
+    tabled: Tabled<'_, '_, 'a>,
+    resolved: Resolved,
+    taken: Taken<'a>,
+    by_class: ClassIndex,
+) -> World<'a>
     requires names { AreNamesOf tabled.names.packages tabled.names.roles tabled.names }
     requires table { IsTableOf tabled.names.packages tabled.names.roles tabled.classes }
     requires resolved { AreResolved tabled.names.packages tabled.names.roles resolved }
     requires classes { AllEmpty (table_conditions tabled.names.packages tabled.names.roles) }
     requires members { AllEmpty (member_conditions tabled.names.packages tabled.names.roles) }
     requires taken { AreTaken tabled.names taken }
+    requires by_class { IsIndexOf tabled.classes tabled.names.methods by_class }
     ensures { IsLinked tabled.entry.names.packages tabled.entry.names.roles result }
 {
     concrete_decides();
@@ -110,6 +134,7 @@ fn world_of<'a>(tabled: Tabled<'_, '_, 'a>, resolved: Resolved, taken: Taken<'a>
         resolved.statics,
         taken.arrays,
         taken.indexes,
+        by_class,
     )
 }
 

@@ -2,7 +2,7 @@
 use Rattle.std.proofs.Common.{◌≡◌, ℕ, zero, suc, ◌+◌, ◌<◌, ◌≤◌, inl, inr, Bool, true, false, List, [], ◌∷◌, length, Some, refl, sym}
 use Rattle.std.proofs.Common.{subst, arith, lit<, lit≤}
 use Rattle.std.specs.Prelude.{All, IfSome, IsSomeAnd, slice_get, slice_index, slice_index_or, option_and_then, get_or, ◌==◌}
-use Rattle.std.proofs.lemmas.List.Elements.{All-from_recursion, All-nil}
+use Rattle.std.proofs.lemmas.List.Elements.{All-from_recursion, All-nil, All-weaker}
 use Rattle.jc_base.specs.declared.ty.Ty.TheVariants.{Short, IntHigh, IntLow, Class}
 use Rattle.jc_base.specs.declared.ty.Kind.TheVariants as kinds
 use Rattle.jc_base.specs.declared.record.Member.TheVariants.{Static, Virtual, Super}
@@ -13,7 +13,8 @@ use Rattle.jc_base.specs.Cell.{IsDeclared, no_cells, one_cell, AreElementsOf, Is
 use Rattle.jc_base.specs.Dispatch.{HasBody, visible_in, nearest_of, package_of, public_of, visible_of, cell_count, cells_of, own_cells, entry_at, signature_at}
 use Rattle.jc_base.specs.Interface.{extended, NoneExtendsItself}
 use Rattle.jc_base.proofs.Leading.{leads-nowhere}
-use Rattle.jc_base.specs.Linked.{IsMethod, IsHandler, IsLinkedClass, IsInherited, IsDispatch, IsImplemented, IsStatic, IsMember, IsField, list_at}
+use Rattle.jc_base.proofs.Bodies.{linked_more}
+use Rattle.jc_base.specs.Linked.{AreLinkedClasses, IsMethod, IsHandler, IsLinkedClass, IsInherited, IsDispatch, IsImplemented, IsStatic, IsMember, IsField, list_at}
 use Rattle.jc_base.specs.World.{IsWorld, IsThrown}
 use Rattle.jc_tests.specs.TwoPackages.{sample, HasSampleSizes, classes, methods, statics, arrays, first_pool, second_pool, first_info, second_info}
 use Rattle.jc_tests.specs.TwoPackages.{instance_method, interface_method, static_method}
@@ -414,3 +415,19 @@ is_world =
 pub has_sizes : HasSampleSizes sample
 has_sizes =
     record { infos = refl; first_pool_is = refl; second_pool_is = refl; records_are = refl; methods_are = refl; statics_are = refl; arrays_are = refl }
+
+-- ---- what the index of the classes asks
+
+pub few_classes : length classes.records ≤ 4096
+few_classes = lit≤ tt
+
+pub few_methods : length methods ≤ 32768
+few_methods = lit≤ tt
+
+pub all_linked : AreLinkedClasses 16 classes methods
+all_linked = linked_more 2 16 classes methods (lit≤ tt) linked
+
+pub classes_known : All (λ (m : MethodRec). m.class < length classes.records) methods
+classes_known =
+    All-weaker (IsMethod (first_info ∷ second_info ∷ []) (first_pool ∷ second_pool ∷ []) classes) (λ (m : MethodRec). m.class < length classes.records)
+    (λ m is. is.class) methods are_methods

@@ -1,4 +1,5 @@
 ghost use Rattle.std.specs.Prelude.{◌≡◌, ◌∷◌, [], replicate, None, IfOk};
+ghost use Rattle.jc_base.specs.ByClass.{IsIndexOf};
 ghost use Rattle.jc_tests.specs.TwoPackages.{HasSampleSizes, interface_method, interface_record, static_method, methods, derived_class, records, classes, first_pool, second_pool, statics, arrays};
 
 use crate::described::{class, instance_method, list};
@@ -183,19 +184,32 @@ pub(crate) fn table(alloc: Global) -> Result<Classes, AllocError>
     Ok(Classes::of(records(alloc)?, [0, 1, 1, 1, 1, 1, 1, 1]))
 }
 
+/// The index of its classes.
+fn class_index(alloc: Global, table: &Classes, listed: &Methods) -> Result<ClassIndex, AllocError>
+    requires table { table.now ≡ classes }
+    requires methods { listed.now ≡ methods }
+    ensures { IfOk result (IsIndexOf table.now listed.now) }
+{
+    ClassIndex::of(alloc, table, listed)
+}
+
 /// The world of the two packages.
 pub(crate) fn world<'a>(alloc: Global) -> Result<World<'a>, AllocError>
     ensures { IfOk result HasSampleSizes }
 {
     let indexes = no_index(alloc)?;
     let infos = infos(alloc, &FIRST_INFO, &SECOND_INFO)?;
+    let table = table(alloc)?;
+    let methods = methods(alloc)?;
+    let by_class = class_index(alloc, &table, &methods)?;
     Ok(World::of(
         infos,
         pools(alloc)?,
-        table(alloc)?,
-        methods(alloc)?,
+        table,
+        methods,
         statics(alloc)?,
         arrays(alloc)?,
         indexes,
+        by_class,
     ))
 }

@@ -1,8 +1,8 @@
 use Rattle.jc_tests.proofs.TwoPackages.{is_world, has_sizes}
 use Rattle.jc_tests.proofs.two_packages.world.Goals as goal
 
-pub of-requires : goal.of-requires
-of-requires c =
+pub of-requires-clause-world : goal.of-requires-clause-world
+of-requires-clause-world c =
     rw (
       c.in_ok-infos.ensures,
       c.in_ok-pools.ensures,
