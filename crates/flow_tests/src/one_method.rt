@@ -176,7 +176,9 @@ pub fn world<'a>(
         methods,
         empty(alloc),
         empty(alloc),
-        indexes,
-        by_class,
+        Lookups {
+            targets: indexes,
+            by_class,
+        },
     ))
 }

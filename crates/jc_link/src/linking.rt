@@ -11,7 +11,7 @@ use crate::{arrays, arrays_fit, handlers_fit, members, roles_fit, statics, stati
 use cap_index::indexes;
 use cap_package::Packages;
 use jc_base::{
-    Arrays, ClassIndex, Classes, Indexes, Infos, Pools, Statics, World, concrete_decides,
+    Arrays, ClassIndex, Classes, Indexes, Infos, Lookups, Pools, Statics, World, concrete_decides,
 };
 use jc_resolve::{LinkEnd, Names};
 use std::alloc::{AllocError, Global};
@@ -133,8 +133,10 @@ fn world_of<'a>(
         methods,
         resolved.statics,
         taken.arrays,
-        taken.indexes,
-        by_class,
+        Lookups {
+            targets: taken.indexes,
+            by_class,
+        },
     )
 }
 

@@ -209,7 +209,9 @@ pub(crate) fn world<'a>(alloc: Global) -> Result<World<'a>, AllocError>
         methods,
         statics(alloc)?,
         arrays(alloc)?,
-        indexes,
-        by_class,
+        Lookups {
+            targets: indexes,
+            by_class,
+        },
     ))
 }
