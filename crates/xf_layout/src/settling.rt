@@ -137,17 +137,33 @@ fn reach(from: u32, to: u32) -> u32 {
     }
 }
 
+fn start(starts: &[u32], n: usize) -> u32 {
+    match starts.get(n) {
+        Some(start) => *start,
+        None => 0,
+    }
+}
+
+/// Whether some forms have so few bytes that each jump among them can be short.
+fn are_few(forms: &[Form]) -> bool {
+    let mut bytes: u32 = 0;
+    'forms: for form in forms {
+        bytes = bytes.saturating_add(form.bytes());
+    }
+    bytes < FARTHEST
+}
+
 impl Reaches {
     fn new(alloc: Global, forms: &[Form]) -> Result<Reaches, AllocError> {
         let mut marks = LabelPlaces::new(alloc, forms)?;
-        let mut places = LabelPlaces::new(alloc, forms)?;
+        let mut starts = Vec::with_capacity(alloc, forms.len())?;
         let mut at: u32 = 0;
         let mut number: u32 = 0;
         'marks: for form in forms {
             if let Form::Mark(label) = *form {
                 marks.set(label, number);
-                places.set(label, at);
             }
+            starts.push(at)?;
             at = at.saturating_add(form.bytes());
             number = number.saturating_add(1);
         }
@@ -156,23 +172,24 @@ impl Reaches {
             reaches: Vec::with_capacity(alloc, forms.len())?,
             far: Vec::new(alloc),
         };
-        reaches.measure(forms, &places)?;
+        reaches.measure(forms, starts.as_slice())?;
         Ok(reaches)
     }
 
-    /// Measures all jumps, where labels stand at these places.
-    fn measure(&mut self, forms: &[Form], places: &LabelPlaces) -> Result<(), AllocError> {
-        let mut at: u32 = 0;
+    /// Measures all jumps, where the items begin at these places.
+    fn measure(&mut self, forms: &[Form], starts: &[u32]) -> Result<(), AllocError> {
         'jumps: for (n, form) in forms.iter().enumerate() {
             let reach = match short_label(*form) {
-                Some(label) => reach(at, places.at(label)),
+                Some(label) => reach(
+                    start(starts, n),
+                    start(starts, self.marks.at(label) as usize),
+                ),
                 None => 0,
             };
             self.reaches.push(reach)?;
             if reach > FARTHEST {
                 self.far.push(n)?;
             }
-            at = at.saturating_add(form.bytes());
         }
         Ok(())
     }
@@ -222,6 +239,9 @@ pub fn settle(alloc: Global, items: &[Item], forms: &mut Vec<Form>) -> Result<()
     requires { (source : List ℕ) × All (IsItem source items.now) items.now }
     ensures { OnOk result (Settles items.now forms.old.items forms.new.items) }
 {
+    if are_few(forms.as_slice()) {
+        return Ok(());
+    }
     let mut reaches = Reaches::new(alloc, forms.as_slice())?;
     'jumps: for _turn in 0..forms.len() {
         let Some(k) = reaches.far.pop() else {
