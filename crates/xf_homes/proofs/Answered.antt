@@ -1,17 +1,15 @@
 -- What is answered for a method of the world.
-use Rattle.std.proofs.Common.{◌≡◌, ℕ, ◌+◌, ◌<◌, ◌≤◌, inl, inr, Bool, true, false, List, length, Option, Some, None, option_map, IsSome}
-use Rattle.std.proofs.Common.{IsSomeAnd, IfSome, Result, Ok, Err, IfOk, IfErr, MatchBool, slice_get, refl, sym, ◌∙◌, ap, subst, arith, length-take}
+use Rattle.std.proofs.Common.{◌≡◌, ℕ, ◌+◌, ◌<◌, ◌≤◌, inl, inr, Bool, true, false, List, length, Option, Some, None, IsSome}
+use Rattle.std.proofs.Common.{IsSomeAnd, IfSome, Result, Ok, Err, IfOk, IfErr, MatchBool, refl, sym, ◌∙◌, ap, subst, arith, length-take}
 use Rattle.std.specs.Prelude.{pos, is_some}
-use Rattle.std.proofs.lemmas.Option.{same_Some}
 use Rattle.std.proofs.lemmas.List.Elements.{All-contains}
 use Rattle.jc_base.specs.declared.ty.Ty.TheVariants.{Top}
-use Rattle.jc_base.specs.declared.record.MethodRec.{MethodRec}
 use Rattle.jc_base.specs.Laws.{SameTypeDecides}
 use Rattle.jc_base.specs.Linked.{IsMethod, IsCodeLength, lacks_code}
-use Rattle.jc_base.specs.World.{Linked, code_of}
+use Rattle.jc_base.specs.World.{Linked}
 use Rattle.jc_decode.specs.declared.insn.Placed.{Placed}
 use Rattle.jc_decode.specs.Listing.{targets}
-use Rattle.jc_control.specs.Method.{Method, IsMethodOf, method_in, method_with}
+use Rattle.jc_control.specs.Method.{Method, IsMethodOf}
 use Rattle.jc_control.specs.WellFormed.{IsPlace, IsBoundary, IsTargetPlace, IsHandlerOf, HasInstruction}
 use Rattle.jc_control.specs.Control.{IsSuccessor, IsReached, begins, follows, caught, falls_through, jumped}
 use Rattle.jc_control.specs.ControlFlow.{Marked, IsControlFlow, TellsFlaw}

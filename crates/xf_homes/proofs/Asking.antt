@@ -8,6 +8,7 @@ use Rattle.std.proofs.lemmas.List.Elements.{All-head, All-tail}
 use Rattle.std.proofs.lemmas.List.Folds.{list_any-append}
 use Rattle.std.proofs.lemmas.List.Sums.{fold-append}
 use Rattle.jc_base.specs.declared.ty.Ty.{Ty}
+use Rattle.jc_base.proofs.SameTypes.{same_type-decides}
 use Rattle.jc_base.specs.declared.record.Handler.{Handler}
 use Rattle.jc_base.specs.Laws.{SameTypeDecides}
 use Rattle.jc_base.specs.World.{Linked}
@@ -336,3 +337,14 @@ module _ (same : SameTypeDecides) (w : Linked) (m : Method) (frames : ℕ → Op
       by (Some f) e =
           subst (λ hs. LocalsAreKnown frames (register_count m.rec) hs m.rec.handlers (Some i.place)) (sym e)
           (asked-at same frames (register_count m.rec) homes i.place m.rec.handlers _)
+
+-- ---- a value that is known to be kept, and the next one
+
+pub kept_as_known : (homes : List Home) (x : ℕ) (v u : Option Ty) → v ≡ u → knows homes x u ≡ true → homes ≡ with_home_of_value homes x v
+kept_as_known homes x v u is known = sym (value-kept homes x v (subst (λ o. knows homes x o ≡ true) (sym is) known))
+
+pub kept_none : (homes : List Home) (x : ℕ) (v : Option Ty) → v ≡ None → homes ≡ with_home_of_value homes x v
+kept_none homes x v is = ap (λ o. with_home_of_value homes x o) (sym is)
+
+pub known_after : (homes : List Home) (x : ℕ) (v : Option Ty) → knows (with_home_of_value homes x v) x v ≡ true
+known_after homes x v = value-known same_type-decides homes x v

@@ -1,4 +1,4 @@
-ghost use Rattle.std.specs.Prelude.{◌≡◌, ◌+◌, ◌≤◌, ⊤, true, [], length, reverse, IsTrue, MatchBool, OnOk, OnErr, Ok, slice_get, Some};
+ghost use Rattle.std.specs.Prelude.{◌≡◌, ◌+◌, ◌≤◌, ⊤, true, [], length, reverse, IsTrue, MatchBool, OnOk, OnErr, IfOk, Ok, slice_get, Some};
 ghost use Rattle.jc_base.specs.World.{Linked};
 ghost use Rattle.jc_control.specs.Method.{IsMethodOf};
 ghost use Rattle.jc_rules.specs.Footprint.{footprint};
@@ -53,6 +53,30 @@ fn keep_value(homes: &mut IndexSet<Home>, slot: u16, value: Option<Ty>) -> Resul
     match value {
         Some(ty) => keep(homes, Home { slot, ty }),
         None => Ok(()),
+    }
+}
+
+/// Keeps the value of a slot, where it is not one that is known to be kept, and tells which is known now.
+#[tactic(auto, using(crate::proofs::Asking::kept_as_known, crate::proofs::Asking::known_after, crate::proofs::Asking::kept_none))]
+fn keep_other(
+    homes: &mut IndexSet<Home>,
+    slot: u16,
+    value: Option<Ty>,
+    known: Option<Ty>,
+) -> Result<Option<Ty>, AllocError>
+    requires { knows homes.old.keys slot known ≡ true }
+    ensures kept { OnOk result (homes.new.keys ≡ with_home_of_value homes.old.keys slot value) }
+    ensures known { IfOk result (λ now. knows homes.new.keys slot now ≡ true) }
+{
+    if value.is_none() {
+        return Ok(known);
+    }
+    if same_value(value, known) {
+        return Ok(known);
+    }
+    match keep_value(homes, slot, value) {
+        Ok(()) => Ok(value),
+        Err(error) => Err(error),
     }
 }
 
@@ -223,9 +247,11 @@ impl HomeWalk<'_> {
             (homes.new.keys
             ≡ with_events homes.old.keys (caught_events (frames_of self.now) place x 0 handlers.now)) }
     {
+        let mut known = None;
         'handlers: for handler in handlers {
-            if let Err(error) = keep_value(homes, x, self.caught(place, x, *handler)) {
-                return Err(error);
+            match keep_other(homes, x, self.caught(place, x, *handler), known) {
+                Ok(now) => known = now,
+                Err(error) => return Err(error),
             }
         }
         Ok(())

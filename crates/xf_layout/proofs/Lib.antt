@@ -7,6 +7,7 @@ pub mod Pieces
 pub mod Stood
 pub mod Led
 pub mod Reached
+pub mod Settled
 pub mod Adding
 pub mod Whole
 pub mod Agreeing

@@ -44,7 +44,7 @@ count-marks l (i ∷ is) (f ∷ fs) h =
     )
 count-marks l _ _ h = absurd h
 
-one-more : (l : ℕ) (f : Form) (fs : List Form) → count_by (is_mark l) (f ∷ fs) ≡ cond (is_mark l f) 1 0 + count_by (is_mark l) fs
+pub one-more : (l : ℕ) (f : Form) (fs : List Form) → count_by (is_mark l) (f ∷ fs) ≡ cond (is_mark l f) 1 0 + count_by (is_mark l) fs
 one-more l f fs = sum_by-cons (λ (f : Form). cond (is_mark l f) 1 0) f fs
 
 -- a label that is not there keeps its place
@@ -78,12 +78,12 @@ marked-here (Jump m w) l h = absurd (cc)
 marked-here (Mark m) l h = ap (λ (x : ℕ). Mark x) (eqb-true m l h)
 
 -- another form moves the place of the label on
-place-after : (f : Form) (fs : List Form) (l : ℕ) → is_mark l f ≡ false → label_place (f ∷ fs) l ≡ form_bytes f + label_place fs l
+pub place-after : (f : Form) (fs : List Form) (l : ℕ) → is_mark l f ≡ false → label_place (f ∷ fs) l ≡ form_bytes f + label_place fs l
 place-after (Fixed n) fs l h = refl
 place-after (Jump m w) fs l h = refl
 place-after (Mark m) fs l h = let e : 0 + label_place fs l ≡ label_place fs l = omega arith in rw h (sym e)
 
-place-here : (fs : List Form) (l : ℕ) → label_place (Mark l ∷ fs) l ≡ 0
+pub place-here : (fs : List Form) (l : ℕ) → label_place (Mark l ∷ fs) l ≡ 0
 place-here fs l = rw (eq-eqb l l refl) refl
 
 pub noted-once : (fs : List Form) (at : ℕ) (ps : List ℕ) (l : ℕ) → FormsFit (length ps) fs → count_by (is_mark l) fs ≡ 1

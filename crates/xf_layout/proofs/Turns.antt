@@ -39,12 +39,12 @@ forms-widened place at (i ∷ is) (f ∷ fs) h = (form-widened place at i f h.0,
 forms-widened place at _ _ h = absurd h
 
 -- the form above a form
-record Above (f : Form) (gs : List Form) (k : ℕ) : Type 0 where
+pub record Above (f : Form) (gs : List Form) (k : ℕ) : Type 0 where
   pub form : Form
   pub there : slice_get gs k ≡ Some form
   pub below : IsBelow f form
 
-above-at : (fs gs : List Form) → AreBelow fs gs → (k : ℕ) (f : Form) → slice_get fs k ≡ Some f → Above f gs k
+pub above-at : (fs gs : List Form) → AreBelow fs gs → (k : ℕ) (f : Form) → slice_get fs k ≡ Some f → Above f gs k
 above-at [] gs h k f e = absurd (cc)
 above-at (x ∷ fs) [] h k f e = absurd h
 above-at (x ∷ fs) (y ∷ gs) h zero f e = let same : x ≡ f = cc in record { form = y; there = refl; below = rw (← same) h.0 }

@@ -12,6 +12,7 @@ mod laws;
 mod laying;
 mod places;
 mod plan;
+mod settling;
 mod symbols;
 mod widening;
 

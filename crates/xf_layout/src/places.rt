@@ -40,6 +40,13 @@ impl LabelPlaces {
         }
     }
 
+    /// Notes a number for a label that there is room for.
+    pub fn set(&mut self, label: u16, number: u32) {
+        if usize::from(label) < self.items.len() {
+            self.items[usize::from(label)] = number;
+        }
+    }
+
     /// Notes where the labels among some forms stand, and tells where their code ends.
     pub fn note(&mut self, forms: &[Form]) -> u32
         requires room { FormsFit (length self.old) forms.now }

@@ -4,6 +4,7 @@ ghost use Rattle.xf_layout.specs.Plan.{IsLayoutPlan};
 
 use crate::form::Form;
 use crate::places::LabelPlaces;
+use crate::settling::settle;
 use crate::widening::{shortest_forms, widen};
 use jc_decode::{Item, short_is_no_longer};
 use std::alloc::{AllocError, Global};
@@ -21,8 +22,8 @@ pub struct LayoutPlan {
 }
 
 impl LayoutPlan {
-    /// Makes jumps wide until every other one fits, or until the code is too long. It goes over the
-    /// items twice a turn, and each turn but the last makes a jump wide.
+    /// Makes jumps wide until every other one fits, or until the code is too long. What `settle` left short and does not fit
+    /// becomes wide in turns, each of which goes over the items twice; one that makes no jump wide is the last.
     pub fn of(alloc: Global, items: &[Item]) -> Result<LayoutPlan, AllocError>
         requires items { (source : List ℕ) × All (IsItem source items.now) items.now }
         requires size { plain_size items.now < 2 ^ 32 }
@@ -30,6 +31,7 @@ impl LayoutPlan {
     {
         short_is_no_longer();
         let mut forms = shortest_forms(alloc, items)?;
+        settle(alloc, items, &mut forms)?;
         let mut places = LabelPlaces::new(alloc, &forms)?;
         'turns: loop {
             let end = places.note(&forms);

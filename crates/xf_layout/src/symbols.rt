@@ -33,8 +33,7 @@ impl From<AllocError> for LayEnd {
 /// set that needs two. A switch is that of the source with other offsets. Each range becomes a handler,
 /// one that covers nothing too. Places and lengths are in bytes.
 ///
-/// It takes time in proportion to the number of items, times the number of turns in which a jump
-/// becomes wide: where each wide jump forces one more, as many as there are jumps.
+/// It takes time in proportion to the number of items, and for each jump that is wide to that of the items within 128 bytes.
 pub fn lay(alloc: Global, source: View, symbols: &Symbols) -> Result<Laid, LayEnd>
     requires short { length source.bytes.now ≤ 32767 }
     requires items { All (IsItem source.bytes.now symbols.now.items) symbols.now.items }

@@ -1,4 +1,4 @@
-use Rattle.std.proofs.Common.{◌≡◌, take, length}
+use Rattle.std.proofs.Common.{◌≡◌, take}
 use Rattle.xf_homes.proofs.walk.same_types.Given as goal
 
 abbrev pub invariant-cells : goal.invariant-cells

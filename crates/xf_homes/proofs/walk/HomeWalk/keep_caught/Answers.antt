@@ -8,15 +8,19 @@ pub handlers-preserved : goal.handlers-preserved
 handlers-preserved c =
     let s = c.args.self.now in
     let hs = c.args.handlers.now in
-    ap (λ xs. with_events xs (caught_events (frames_of s) c.args.place c.args.x (c.handlers.handler-index + 1) (drop (c.handlers.handler-index + 1) hs)))
-    c.in_default.ensures
-    ∙ sym (handlers-step c.handlers.homes.keys (frames_of s) c.args.place c.args.x c.handlers.handler-index hs _ c.caught.result c.handlers-test.true
-    c.caught.ensures)
-    ∙ c.handlers.invariant
+    record {
+      kept =
+          ap (λ xs. with_events xs (caught_events (frames_of s) c.args.place c.args.x (c.handlers.handler-index + 1) (drop (c.handlers.handler-index + 1) hs)))
+          c.in-Ok.ensures.kept
+          ∙ sym (handlers-step c.handlers.homes.keys (frames_of s) c.args.place c.args.x c.handlers.handler-index hs _ c.caught.result
+          c.handlers-test.true c.caught.ensures)
+          ∙ c.handlers.invariant.kept;
+      known = c.in-Ok.ensures.known;
+    }
 
 pub returns : goal.returns
 returns c =
     let s = c.args.self.now in
     let hs = c.args.handlers.now in
     sym (handlers-end c.handlers.homes.keys (frames_of s) c.args.place c.args.x c.handlers.handler-index hs c.handlers-test.false)
-    ∙ c.handlers.invariant
+    ∙ c.handlers.invariant.kept

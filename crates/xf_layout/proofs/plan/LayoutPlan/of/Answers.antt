@@ -4,6 +4,7 @@ use Rattle.xf_layout.specs.declared.form.Form.{Form}
 use Rattle.xf_layout.specs.Form.{AreForms, length_of_forms, label_place}
 use Rattle.xf_layout.specs.Shortest.{Fit, NoWider}
 use Rattle.xf_layout.specs.Places.{FormsFit}
+use Rattle.xf_layout.specs.Settling.{Settles}
 use Rattle.xf_layout.specs.Widening.{is_short_jump, shortest, widened}
 use Rattle.xf_layout.proofs.Sizes.{forms-no-longer}
 use Rattle.xf_layout.proofs.Notes.{rooms-widened}
@@ -15,9 +16,12 @@ pub turns-init : goal.turns-init
 turns-init c =
     let items = c.args.items.now in
     let are : c.in_ok-forms.forms.items ≡ map shortest items = c.in_ok-forms.ensures in
+    let forms = subst (AreForms items) (sym are) (forms-shortest items) in
+    let settled : Settles items c.in_ok-forms.forms.items c.settle.new.forms.items = c.in_ok-settle.ensures in
     record {
-      forms = subst (AreForms items) (sym are) (forms-shortest items);
-      least = λ others p q. subst (λ (fs : List Form). NoWider fs others) (sym are) (shortest-least items others);
+      forms = settled.forms forms;
+      least = λ others p q. settled.least forms others p q
+          (subst (λ (fs : List Form). NoWider fs others) (sym are) (shortest-least items others));
       room = subst (FormsFit (length c.in_ok-places.places)) c.deref.ensures.value c.in_ok-places.ensures;
     }
 
