@@ -3,16 +3,26 @@
 use Rattle.std.specs.Prelude.{◌≡◌, ◌≢◌, ◌↔◌, ℕ, ◌≤◌, ◌<◌, Bool, List, [], ◌∷◌, length, reverse}
 use Rattle.std.specs.Prelude.{Option, Some, All, IfSome, IsSome, IsTrue, slice_get}
 use Rattle.std.specs.Option.{option_flatten}
+use Rattle.jc_base.specs.declared.record.Member.{Member}
 use Rattle.jc_base.specs.declared.record.MethodRec.{MethodRec}
+use Rattle.jc_base.specs.declared.record.StaticRec.{StaticRec}
+use Rattle.jc_base.specs.declared.record.ArrayRec.{ArrayRec}
 use Rattle.jc_base.specs.declared.method_bounds.MethodBounds.{MethodBounds}
 use Rattle.jc_base.specs.declared.visible_bodies.VisibleBodies.{VisibleBodies}
 use Rattle.jc_base.specs.Class.{ClassTable, IsClass, parent_of}
 use Rattle.jc_base.specs.Dispatch.{HasBody, IsConcrete, package_of, visible_in}
+use Rattle.jc_base.specs.World.{Linked}
 
 -- the bounds by class, and by class whether objects can be made of it
 pub record ClassLists : Type 0 where
   pub bounds : List MethodBounds
   pub concrete : List Bool
+
+-- a linked world of these lists, in the order of its fields
+abbrev pub listed : List (List ℕ) → List (List Member) → ClassTable → List MethodRec → List StaticRec → List ArrayRec
+    → List (Option (List ℕ)) → Linked
+listed i p t ms fs xs targets =
+    record { infos = i; pools = p; classes = t; methods = ms; statics = fs; arrays = xs; indexes = targets }
 
 -- each of the methods that is of a class has a number between the bounds
 pub record AreBounds (methods : List MethodRec) (c : ℕ) (b : MethodBounds) : Type 0 where

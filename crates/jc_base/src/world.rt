@@ -2,7 +2,7 @@ ghost use Rattle.std.specs.Prelude.{◌≡◌, ◌<◌, ◌≤◌, ◌↔◌, le
 ghost use Rattle.jc_base.specs.Class.{IsClass};
 ghost use Rattle.jc_base.specs.Cell.{AreElementsOf};
 ghost use Rattle.jc_base.specs.Dispatch.{IsConcrete, is_concrete, cells_of};
-ghost use Rattle.jc_base.specs.ByClass.{AreBounds, IsIndexOf};
+ghost use Rattle.jc_base.specs.ByClass.{AreBounds, IsIndexOf, listed};
 ghost use Rattle.jc_base.specs.Linked.{AreDispatched, IsMember, IsLinkedClass, IsMethod, IsStatic, list_at};
 ghost use Rattle.jc_base.specs.World.{IsWorld, IsThrown, member_at, code_of, index_of, has_numbers, method_numbered};
 
@@ -71,28 +71,9 @@ impl<'a> World<'a> {
         arrays: Arrays,
         lookups: Lookups<'a>,
     ) -> World<'a>
-        requires world { IsWorld
-            (record
-            {
-              infos = infos;
-              pools = pools;
-              classes = classes;
-              methods = methods;
-              statics = statics;
-              arrays = arrays;
-              indexes = lookups.targets;
-            }) }
+        requires world { IsWorld (listed infos pools classes methods statics arrays lookups.targets) }
         requires by_class { IsIndexOf classes methods lookups.by_class }
-        ensures { result
-            ≡ record {
-              infos = infos.entry;
-              pools = pools;
-              classes = classes;
-              methods = methods;
-              statics = statics;
-              arrays = arrays;
-              indexes = lookups.entry.targets;
-            } }
+        ensures { result ≡ listed infos.entry pools classes methods statics arrays lookups.entry.targets }
     {
         World {
             infos,

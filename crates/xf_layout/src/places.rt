@@ -41,7 +41,7 @@ impl LabelPlaces {
     }
 
     /// Notes a number for a label that there is room for.
-    pub fn set(&mut self, label: u16, number: u32) {
+    pub(crate) fn set(&mut self, label: u16, number: u32) {
         if usize::from(label) < self.items.len() {
             self.items[usize::from(label)] = number;
         }
