@@ -1,5 +1,5 @@
 -- The lines for a package that is written with the methods of a listing, and for a listing that is at fault.
-use Rattle.std.specs.Prelude.{List, [], ◌∷◌, codes}
+use Rattle.std.specs.Prelude.{ℕ, List, [], ◌∷◌, codes}
 use Rattle.std.specs.List.{concat}
 use Rattle.cap_listing.specs.declared.fault.AsmFault.{AsmFault}
 use Rattle.cap_listing.specs.declared.fault.AsmFault.TheVariants.{NotListing, OtherMethod, Registers, HandlerRange, CodeLength, TooManyHandlers}
