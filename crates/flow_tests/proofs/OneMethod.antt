@@ -1,14 +1,18 @@
 -- The sample world meets the invariant of worlds.
-use Rattle.std.proofs.Common.{◌≡◌, ℕ, zero, suc, ◌+◌, ◌<◌, ◌≤◌, Bool, true, false, List, [], ◌∷◌, length, refl, sym, subst, arith}
+use Rattle.std.proofs.Common.{◌≡◌, ℕ, zero, suc, ◌+◌, ◌<◌, ◌≤◌, Bool, true, false, List, [], ◌∷◌, length, Option, None, refl, sym, subst, arith}
 use Rattle.std.proofs.Common.{lit<, lit≤, All}
 use Rattle.std.specs.Prelude.{IfSome, slice_get, slice_index, ◌==◌}
 use Rattle.std.proofs.lemmas.List.Elements.{All-from_recursion, All-nil}
 use Rattle.jc_base.specs.declared.ty.Ty.TheVariants.{Class, IntHigh, IntLow, Short}
+use Rattle.jc_base.specs.declared.record.Member.{Member}
 use Rattle.jc_base.specs.declared.record.Member.TheVariants.{ClassOf}
+use Rattle.jc_base.specs.declared.record.StaticRec.{StaticRec}
+use Rattle.jc_base.specs.declared.record.ArrayRec.{ArrayRec}
+use Rattle.jc_base.specs.ByClass.{listed}
 use Rattle.jc_base.specs.Cell.{IsDeclared, IsFirstCell, AreWhole, no_cells, one_cell, whole_int}
 use Rattle.jc_base.specs.declared.record.Handler.{Handler}
 use Rattle.jc_base.specs.declared.record.MethodRec.{MethodRec}
-use Rattle.jc_base.specs.Class.{IsClass, AreClasses, EndsWithObject, is_interface, parent_of, chain, chain_over}
+use Rattle.jc_base.specs.Class.{ClassTable, IsClass, AreClasses, EndsWithObject, is_interface, parent_of, chain, chain_over}
 use Rattle.jc_base.specs.Order.{same}
 use Rattle.jc_base.specs.Dispatch.{HasBody, visible_in, nearest_of, package_of, public_of, visible_of, cell_count}
 use Rattle.jc_base.specs.Interface.{extended, NoneExtendsItself}
@@ -259,3 +263,21 @@ pub class_known : (shape : Shape) (len : ℕ) (handlers : List Handler)
     → All (λ (m : MethodRec). m.class < 4) (only_method shape len handlers ∷ [])
 class_known shape len handlers =
     All-from_recursion (λ (m : MethodRec). m.class < 4) (only_method shape len handlers ∷ []) (lit< tt, tt)
+
+-- ---- the world as it is made
+
+-- lists that are those of the sample make it
+pub is_sample : {i : List (List ℕ)} {p : List (List Member)} {t : ClassTable} {ms : List MethodRec} {fs : List StaticRec} {xs : List ArrayRec}
+    {targets : List (Option (List ℕ))} (shape : Shape) (code : List ℕ) (handlers : List Handler)
+    → i ≡ code ∷ [] → p ≡ (ClassOf 1 ∷ []) ∷ [] → t ≡ classes → ms ≡ only_method shape (length code) handlers ∷ [] → fs ≡ [] → xs ≡ []
+    → targets ≡ None ∷ []
+    → listed i p t ms fs xs targets ≡ sample shape code handlers
+is_sample shape code handlers ei ep et em ef ex eg = λ k. record {
+  infos = ei k;
+  pools = ep k;
+  classes = et k;
+  methods = em k;
+  statics = ef k;
+  arrays = ex k;
+  indexes = eg k;
+}

@@ -168,17 +168,20 @@ pub fn world<'a>(
     let methods = methods(alloc, shape, len, handlers)?;
     let indexes = no_index(alloc)?;
     let table = table(alloc)?;
+    let infos = infos(alloc, code)?;
+    let pools = pools(alloc)?;
     let by_class = class_index(alloc, &table, &methods)?;
+    let lookups = Lookups {
+        targets: indexes,
+        by_class,
+    };
     Ok(World::of(
-        infos(alloc, code)?,
-        pools(alloc)?,
+        infos,
+        pools,
         table,
         methods,
         empty(alloc),
         empty(alloc),
-        Lookups {
-            targets: indexes,
-            by_class,
-        },
+        lookups,
     ))
 }

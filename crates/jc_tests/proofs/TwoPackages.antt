@@ -1,13 +1,17 @@
 -- The sample world meets the invariant of worlds.
-use Rattle.std.proofs.Common.{◌≡◌, ℕ, zero, suc, ◌+◌, ◌<◌, ◌≤◌, inl, inr, Bool, true, false, List, [], ◌∷◌, length, Some, refl, sym}
+use Rattle.std.proofs.Common.{◌≡◌, ℕ, zero, suc, ◌+◌, ◌<◌, ◌≤◌, inl, inr, Bool, true, false, List, [], ◌∷◌, length, Option, Some, None, refl, sym}
 use Rattle.std.proofs.Common.{subst, arith, lit<, lit≤}
-use Rattle.std.specs.Prelude.{All, IfSome, IsSomeAnd, slice_get, slice_index, slice_index_or, option_and_then, get_or, ◌==◌}
+use Rattle.std.specs.Prelude.{All, IfSome, IsSomeAnd, replicate, slice_get, slice_index, slice_index_or, option_and_then, get_or, ◌==◌}
 use Rattle.std.proofs.lemmas.List.Elements.{All-from_recursion, All-nil, All-weaker}
 use Rattle.jc_base.specs.declared.ty.Ty.TheVariants.{Short, IntHigh, IntLow, Class}
 use Rattle.jc_base.specs.declared.ty.Kind.TheVariants as kinds
+use Rattle.jc_base.specs.declared.record.Member.{Member}
 use Rattle.jc_base.specs.declared.record.Member.TheVariants.{Static, Virtual, Super}
+use Rattle.jc_base.specs.declared.record.StaticRec.{StaticRec}
+use Rattle.jc_base.specs.declared.record.ArrayRec.{ArrayRec}
 use Rattle.jc_base.specs.declared.record.MethodRec.{MethodRec}
-use Rattle.jc_base.specs.Class.{IsClass, AreClasses, EndsWithObject, is_interface, parent_of, chain, chain_over}
+use Rattle.jc_base.specs.ByClass.{listed}
+use Rattle.jc_base.specs.Class.{ClassTable, IsClass, AreClasses, EndsWithObject, is_interface, parent_of, chain, chain_over}
 use Rattle.jc_base.specs.Order.{Below, same, joined, subclass}
 use Rattle.jc_base.specs.Cell.{IsDeclared, no_cells, one_cell, AreElementsOf, IsByteWord}
 use Rattle.jc_base.specs.Dispatch.{HasBody, visible_in, nearest_of, package_of, public_of, visible_of, cell_count, cells_of, own_cells, entry_at, signature_at}
@@ -431,3 +435,21 @@ pub classes_known : All (λ (m : MethodRec). m.class < length classes.records) m
 classes_known =
     All-weaker (IsMethod (first_info ∷ second_info ∷ []) (first_pool ∷ second_pool ∷ []) classes) (λ (m : MethodRec). m.class < length classes.records)
     (λ m is. is.class) methods are_methods
+
+-- ---- the world as it is made
+
+-- lists that are those of the sample make it
+pub is_sample : {i : List (List ℕ)} {p : List (List Member)} {t : ClassTable} {ms : List MethodRec} {fs : List StaticRec} {xs : List ArrayRec}
+    {targets : List (Option (List ℕ))}
+    → i ≡ first_info ∷ second_info ∷ [] → p ≡ first_pool ∷ second_pool ∷ [] → t ≡ classes → ms ≡ methods → fs ≡ statics → xs ≡ arrays
+    → targets ≡ replicate 8 None
+    → listed i p t ms fs xs targets ≡ sample
+is_sample ei ep et em ef ex eg = λ k. record {
+  infos = ei k;
+  pools = ep k;
+  classes = et k;
+  methods = em k;
+  statics = ef k;
+  arrays = ex k;
+  indexes = eg k;
+}

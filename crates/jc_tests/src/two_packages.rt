@@ -201,17 +201,13 @@ pub(crate) fn world<'a>(alloc: Global) -> Result<World<'a>, AllocError>
     let infos = infos(alloc, &FIRST_INFO, &SECOND_INFO)?;
     let table = table(alloc)?;
     let methods = methods(alloc)?;
+    let pools = pools(alloc)?;
+    let statics = statics(alloc)?;
+    let arrays = arrays(alloc)?;
     let by_class = class_index(alloc, &table, &methods)?;
-    Ok(World::of(
-        infos,
-        pools(alloc)?,
-        table,
-        methods,
-        statics(alloc)?,
-        arrays(alloc)?,
-        Lookups {
-            targets: indexes,
-            by_class,
-        },
-    ))
+    let lookups = Lookups {
+        targets: indexes,
+        by_class,
+    };
+    Ok(World::of(infos, pools, table, methods, statics, arrays, lookups))
 }
