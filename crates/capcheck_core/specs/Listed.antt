@@ -1,5 +1,5 @@
 -- What `list` may answer, by the package in its folder.
-use Rattle.std.specs.Prelude.{◌≡◌, string_bytes}
+use Rattle.std.specs.Prelude.{◌≡◌, ℕ, List, string_bytes}
 use Rattle.cap_files.specs.Folder.{Folders}
 use Rattle.cap_listing.specs.Methods.{methods_of}
 use Rattle.cap_listing.specs.Text.{Lists}

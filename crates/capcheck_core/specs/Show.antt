@@ -1,5 +1,5 @@
 -- What `show` may answer, by the package in its folder.
-use Rattle.std.specs.Prelude.{◌≡◌, string_bytes}
+use Rattle.std.specs.Prelude.{◌≡◌, ℕ, List, string_bytes}
 use Rattle.cap_files.specs.Folder.{Folders}
 use Rattle.cap_package.specs.PackageRecord.{PackageRecord}
 use Rattle.cap_text.specs.Table.{component_table}
