@@ -16,7 +16,7 @@ since a Descriptor counts the classes of its package in one byte. The methods ar
 `verify` goes over the code once for each target of `branches`, but not of `indexed`, the same code with a
 target index; and it does so in each of the 255 passes of `rounds`, where a cell stands on the stack between targets: it has
 4,096 bytes (half: 2,048). In the code that
-`transform` lays for `widening` each branch that becomes wide forces one more, so that it turns 8,000 times. Each place of
+`transform` lays for `widening` each branch that becomes wide forces one more, 8,000 in all. Each place of
 `deep_handlers` takes as many steps as there are handlers, registers and superclasses, multiplied: it has 16
 such places (half: 8). At each edge of `branches_in` and `cases_in` 250 handlers come to cover 250 registers. `handled` is for `share`: 255 registers
 under 255 handlers, of which each begins behind the one before and reads a register.
