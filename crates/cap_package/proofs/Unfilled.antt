@@ -1,12 +1,13 @@
 -- Where there are no initial arrays, none fills the reference of a field.
 use Rattle.std.proofs.Common.{◌≡◌, ℕ, ◌/◌, ◌%◌, Bool, true, false, cond, List, [], ◌∷◌, Option, None, length, refl, sym, ap, ◌∙◌}
-use Rattle.std.proofs.Common.{eqb, eqb-true, slice_get}
+use Rattle.std.proofs.Common.{eqb, slice_get}
+use Rattle.cap_method.specs.StaticFormat.{Array}
 use Rattle.cap_desc.specs.DescriptorFormat.{FieldDescriptor}
 use Rattle.cap_components.specs.Descriptions.{Description}
 use Rattle.cap_components.specs.declared.fault.PackFault.{PackFault}
 use Rattle.first_fault.specs.Least.{lesser}
 use Rattle.cap_components.specs.Order.{least_from, pack_place}
-use Rattle.cap_package.specs.StaticChecks.{image_offset, place_in, kind_at, filled_by, filled_fault}
+use Rattle.cap_package.specs.StaticChecks.{image_offset, place_in, array_kinds, kind_at, filled_by, filled_fault}
 
 no_kind : (offset : ℕ) → kind_at [] offset ≡ None
 unfolding kind_at
@@ -25,7 +26,7 @@ unfolding lesser
 none_filled d [] least = refl
 none_filled d (f ∷ fs) least = ap (λ fault. least_from (lesser pack_place least fault) (filled_fault [] d) fs) (not_filled d f) ∙ none_filled d fs least
 
-pub nothing_filled : (kinds : List ℕ) (d : Description) (fs : List FieldDescriptor) (least : Option PackFault) → eqb (length kinds) 0 ≡ true
-    → least ≡ least_from least (filled_fault kinds d) fs
+pub nothing_filled : (arrays : List Array) (d : Description) (fs : List FieldDescriptor) (least : Option PackFault) → length arrays ≡ 0
+    → least ≡ least_from least (filled_fault (array_kinds arrays) d) fs
 nothing_filled [] d fs least e = sym (none_filled d fs least)
-nothing_filled (k ∷ kinds) d fs least e = let none : length (k ∷ kinds) ≡ 0 = eqb-true (length (k ∷ kinds)) 0 e in absurd cc
+nothing_filled (a ∷ arrays) d fs least e = absurd cc

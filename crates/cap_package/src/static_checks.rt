@@ -1,4 +1,4 @@
-ghost use Rattle.std.specs.Prelude.{◌≡◌, option_map, map};
+ghost use Rattle.std.specs.Prelude.{◌≡◌, ◌≤◌, length, option_map, map};
 ghost use Rattle.offset_set.specs.Tallies.{tallied, tally_of};
 ghost use Rattle.cap_method.specs.StaticPart.{statics_seen};
 ghost use Rattle.cap_desc.specs.MemberRecords.{field_seen};
@@ -24,6 +24,9 @@ use offset_set::Tally;
 
 /// The most initial arrays that two bytes can count.
 const MOST_ARRAYS: usize = 65535;
+
+/// As many as nearly every package has: room for their types is soon cleared.
+const FEW_ARRAYS: usize = 255;
 
 /// The offset of a static field in the image.
 pub(crate) fn image_offset(field: &FieldInfo) -> u16
@@ -134,7 +137,8 @@ fn image_fault(
 }
 
 /// The types of the initial arrays, in the order in which they fill the references.
-fn array_kinds(statics: &StaticPart<'_>) -> ArrayVec<u8, MOST_ARRAYS>
+fn array_kinds<const MOST: usize>(statics: &StaticPart<'_>) -> ArrayVec<u8, MOST>
+    requires { length (statics_seen statics.now).arrays ≤ MOST }
     ensures { result.items ≡ array_kinds (statics_seen statics.now).arrays }
 {
     let count = statics.array_init_count();
@@ -148,11 +152,11 @@ fn array_kinds(statics: &StaticPart<'_>) -> ArrayVec<u8, MOST_ARRAYS>
 
 /// The type of the initial array that fills the reference at an offset, if one does.
 #[tactic(auto, unfolding(crate::specs::StaticChecks::kind_at))]
-fn kind_at(kinds: &ArrayVec<u8, MOST_ARRAYS>, offset: u16) -> Option<u8>
-    ensures { result ≡ kind_at kinds.now.items offset }
+fn kind_at(kinds: &[u8], offset: u16) -> Option<u8>
+    ensures { result ≡ kind_at kinds.now offset }
 {
     if offset % 2 == 0 {
-        kinds.as_slice().get(offset as usize / 2).copied()
+        kinds.get(offset as usize / 2).copied()
     } else {
         None
     }
@@ -160,12 +164,8 @@ fn kind_at(kinds: &ArrayVec<u8, MOST_ARRAYS>, offset: u16) -> Option<u8>
 
 #[tactic(auto, unfolding(crate::specs::StaticChecks::filled_fault))]
 #[inline(always)]
-fn filled_fault(
-    kinds: &ArrayVec<u8, MOST_ARRAYS>,
-    descriptor: &DescPart<'_>,
-    field: &FieldInfo,
-) -> Option<PackFault>
-    ensures { result ≡ filled_fault kinds.now.items (description descriptor.now) (field_seen field.now) }
+fn filled_fault(kinds: &[u8], descriptor: &DescPart<'_>, field: &FieldInfo) -> Option<PackFault>
+    ensures { result ≡ filled_fault kinds.now (description descriptor.now) (field_seen field.now) }
 {
     let kind = kind_at(kinds, image_offset(field))?;
     let place = place_in(descriptor, field)?;
@@ -175,24 +175,45 @@ fn filled_fault(
     Some(PackFault::StaticOutside(place.offset))
 }
 
-/// The least fault so far, when the fields were compared with the initial arrays that fill their references.
-fn filled_faults(
-    kinds: &ArrayVec<u8, MOST_ARRAYS>,
+/// The least fault so far, when the fields were compared with initial arrays of these types.
+fn filled_by(
+    kinds: &[u8],
     descriptor: &DescPart<'_>,
     fields: FieldsOf<'_>,
     least: Option<PackFault>,
 ) -> Option<PackFault>
-    ensures { result ≡ least_from least (filled_fault kinds.now.items (description descriptor.now)) (fields_of_left fields.entry) }
+    ensures { result ≡ least_from least (filled_fault kinds.now (description descriptor.now)) (fields_of_left fields.entry) }
 {
-    // Where there are no arrays, as mostly, no field is one that they fill.
-    if kinds.as_slice().is_empty() {
-        return least;
-    }
     let mut least = least;
     'fields: for field in fields {
         keep_lesser(&mut least, filled_fault(kinds, descriptor, &field));
     }
     least
+}
+
+/// The least fault so far, when the fields were compared with the initial arrays that fill their references.
+fn filled_faults(
+    statics: &StaticPart<'_>,
+    descriptor: &DescPart<'_>,
+    fields: FieldsOf<'_>,
+    least: Option<PackFault>,
+) -> Option<PackFault>
+    ensures { result
+        ≡ least_from least
+        (filled_fault (array_kinds (statics_seen statics.now).arrays) (description descriptor.now))
+        (fields_of_left fields.entry) }
+{
+    let count = statics.array_init_count() as usize;
+    if count == 0 {
+        // No field is one that an array fills.
+        return least;
+    }
+    if count <= FEW_ARRAYS {
+        let kinds = array_kinds::<FEW_ARRAYS>(statics);
+        return filled_by(kinds.as_slice(), descriptor, fields, least);
+    }
+    let kinds = array_kinds::<MOST_ARRAYS>(statics);
+    filled_by(kinds.as_slice(), descriptor, fields, least)
 }
 
 /// The least fault of the fields' places in the image.
@@ -221,5 +242,5 @@ pub(crate) fn statics_in_image(
         (filled_fault (array_kinds (statics_seen statics.now).arrays) (description descriptor.now)) (fields_of_left fields.entry)) }
 {
     let least = image_faults(statics, descriptor, fields);
-    refuse(filled_faults(&array_kinds(statics), descriptor, fields, least))
+    refuse(filled_faults(statics, descriptor, fields, least))
 }

@@ -5,6 +5,6 @@ use Rattle.cap_package.specs.StaticChecks.{array_kinds}
 use Rattle.cap_package.proofs.static_checks.array_kinds.Given as goal
 
 abbrev pub invariant-arrays : goal.invariant-arrays
-invariant-arrays l =
+invariant-arrays g l =
     (l.kinds.items ++ array_kinds (arrays_left l.array-iterator) ≡ array_kinds (statics_seen l.statics).arrays)
     × (array_vec_len l.kinds + length (arrays_left l.array-iterator) ≡ l.count)
