@@ -12,9 +12,6 @@ use Rattle.cap_bytes.specs.Renewal.{AreSame}
 pub same_part : (low high a b : ℕ) (bytes out : List ℕ) → AreSame low high bytes out → low ≤ a → b ≤ high → AreSame a b bytes out
 same_part low high a b bytes out s l h = record { each = λ k m n. s.each k (omega arith) (omega arith) }
 
-pub same_nothing : (low high : ℕ) (bytes out : List ℕ) → high ≤ low → AreSame low high bytes out
-same_nothing low high bytes out h = record { each = λ k m n. absurd (omega arith) }
-
 -- a number is read from its bytes alone
 big_same : (n i : ℕ) (xs ys : List ℕ) → ((k : ℕ) → k < n → slice_index xs (i + k) ≡ slice_index ys (i + k))
     → big_from i n xs ≡ big_from i n ys

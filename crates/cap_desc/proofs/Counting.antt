@@ -24,10 +24,6 @@ first_of_most g n = g >>= λ x. at_most n (λ (s : Unit {0}). g) (λ s x. s) (tt
 abbrev pub with_front : {X : Type 0} → List X → Reading (List X) → Reading (List X)
 with_front front r = and_then r (λ xs after. Ok (front ++ xs, after))
 
-no_front : {X : Type 0} (r : Reading (List X)) → r ≡ with_front [] r
-no_front (Ok x) = refl
-no_front (Err e) = refl
-
 fronts : {X : Type 0} (xs ys : List X) (r : Reading (List X)) → with_front xs (with_front ys r) ≡ with_front (xs ++ ys) r
 fronts xs ys (Ok x) = ap (λ zs. Ok (zs, x.1)) (sym (append_assoc xs ys x.0))
 fronts xs ys (Err e) = refl
@@ -95,15 +91,6 @@ pub record HasCounted {X : Type 0} (g : Grammar X) (ns : List ℕ) (n at : ℕ) 
   pub items : List X
   pub front : at_place (repeat n g) ns 0 ≡ Ok (items, at)
   pub others : most g (length ns) ns 0 ≡ with_front items (most g (length ns - n) ns at)
-
-pub counted-none : {X : Type 0} (g : Grammar X) (ns : List ℕ) → HasCounted g ns 0 0
-counted-none g ns = record {
-  few = omega arith;
-  near = omega arith;
-  items = [];
-  front = refl;
-  others = let e : length ns - 0 ≡ length ns = omega arith in rw e (no_front (most g (length ns) ns 0));
-}
 
 pub counted-more : {X : Type 0} (g : Grammar X) (ns : List ℕ) (n at after : ℕ) (x : X) → HasCounted g ns n at → at < length ns → at < after
     → after ≤ 255 → at_place g ns at ≡ Ok (x, after) → HasCounted g ns (n + 1) after

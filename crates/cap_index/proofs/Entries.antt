@@ -14,9 +14,6 @@ pub record IsSoFar (laid left : List (Option Laid)) (out : List ℕ) : Type 0 wh
   pub each : (lists : List (List ℕ)) → AreExact left lists → HasEntries laid (out ++ entries_of lists)
   pub short : AreShortCodes left
 
-pub entries_begin : (laid : List (Option Laid)) → AreShortCodes laid → IsSoFar laid laid []
-entries_begin laid s = record { each = λ lists e. record { lists = lists; exact = e; are = refl }; short = s }
-
 pub entries_none : (laid left rest : List (Option Laid)) (out : List ℕ) → IsSoFar laid left out → left ≡ None ∷ rest → IsSoFar laid rest out
 entries_none laid left rest out s e =
     let t : IsSoFar laid (None ∷ rest) out = subst (λ ls. IsSoFar laid ls out) e s in

@@ -8,7 +8,7 @@ use Rattle.std.proofs.lemmas.List.{append-nil}
 use Rattle.std.proofs.lemmas.List.Sums.{sum_by-cons}
 use Rattle.byteorder.specs.Endian.{big_bytes}
 use Rattle.cap_bytes.specs.declared.fault.FormKind.TheVariants.{BadValue}
-use Rattle.cap_bytes.specs.Grammar.{Grammar, any, that, u2, number, piece, finish, give, repeat, ◌>>=◌}
+use Rattle.cap_bytes.specs.Grammar.{any, that, u2, number, piece, finish, give, repeat, ◌>>=◌}
 use Rattle.cap_bytes.specs.Spelling.{Stands}
 use Rattle.cap_bytes.specs.Writing.{SpellsInPlace}
 use Rattle.cap_bytes.proofs.Written.{writes_give, writes_number, writes_piece, writes_finish, writes_then, writes_stands}

@@ -1,5 +1,5 @@
 -- What is left of each package's lists, once those of some methods are taken.
-use Rattle.std.proofs.Common.{◌≡◌, ℕ, zero, suc, ◌+◌, ◌<◌, Bool, true, false, List, [], ◌∷◌, length, take, drop, get_or, eqb, cond}
+use Rattle.std.proofs.Common.{◌≡◌, ℕ, zero, suc, ◌+◌, ◌<◌, Bool, true, false, List, [], ◌∷◌, length, take, drop, get_or, cond}
 use Rattle.std.proofs.Common.{Option, Some, None, refl, sym, ap, subst, ◌∙◌, arith}
 use Rattle.std.specs.Prelude.{slice_get, slice_set, count_by, ◌==◌, ◌&&◌}
 use Rattle.std.proofs.lemmas.Bool.{eqb-true, false≢true, eq-eqb}
@@ -97,20 +97,4 @@ taken-with xss m xs index lt code is rest size = record {
   left = λ k.
       set-by ((m.package == k)) xss m.package k xs lt refl rest
       ∙ ap (λ b. cond ((m.package == k) && b) (drop 1 (list_at xss k)) (list_at xss k)) (sym code);
-}
-
-none-taken : (b : Bool) (k : ℕ) (m : MethodRec) (xss : List (List (List ℕ))) → has_code m ≡ false → (m.package == k) ≡ b
-    → list_at xss k ≡ cond (is_coded k m) (drop 1 (list_at xss k)) (list_at xss k)
-none-taken true k m xss code e =
-    let no : is_coded k m ≡ false = ap (λ b. b && has_code m) e ∙ code in
-    ap (λ b. cond b (drop 1 (list_at xss k)) (list_at xss k)) (sym no)
-none-taken false k m xss code e =
-    let no : is_coded k m ≡ false = ap (λ b. b && has_code m) e in
-    ap (λ b. cond b (drop 1 (list_at xss k)) (list_at xss k)) (sym no)
-
-pub taken-without : (xss : List (List (List ℕ))) (m : MethodRec) → has_code m ≡ false → IsTakenFrom xss m None xss
-taken-without xss m code = record {
-  is = ap (λ b. cond b (slice_get (list_at xss m.package) 0) None) (sym code);
-  size = refl;
-  left = λ k. none-taken ((m.package == k)) k m xss code refl;
 }

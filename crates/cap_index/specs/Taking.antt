@@ -1,5 +1,5 @@
 -- Taking the index of one method after the other from the lists that are left of each package.
-use Rattle.std.specs.Prelude.{◌≡◌, ℕ, ◌==◌, ◌&&◌, List, drop, length, Option, None, slice_get, if◌then◌else◌}
+use Rattle.std.specs.Prelude.{◌≡◌, ℕ, List, drop, length, Option, None, slice_get, if◌then◌else◌}
 use Rattle.jc_base.specs.declared.record.MethodRec.{MethodRec}
 use Rattle.jc_base.specs.Linked.{list_at}
 use Rattle.cap_index.specs.Indexes.{has_code, is_coded}

@@ -94,18 +94,6 @@ pub record IsNextCustom (change : IndexChange) (all : List Custom) (count size :
   pub counted : count + kept_count change c ≤ length all
   pub sized : size + kept_size change c ≤ 20 * length all
 
-pub next_custom : (change : IndexChange) (all : List Custom) (count size : ℕ) (left : List Custom) (c : Custom) (cs : List Custom) → AreShort all
-    → IsMeasured change all count size left → left ≡ c ∷ cs → IsNextCustom change all count size c
-next_custom change all count size left c cs shorts m e =
-    let a = ap (λ xs. length (kept change xs)) e ∙ count_more change c cs in
-    let d = ap (λ xs. customs_size (kept change xs)) e ∙ size_kept change c cs in
-    let short : AreShort (c ∷ cs) = rw e at m.short in
-    let x = m.counted in
-    let y = m.sized in
-    let f = few_kept change all in
-    let g = small_kept change all shorts in
-    record { short = short.0; counted = omega arith; sized = omega arith }
-
 -- one more was put
 pub put_more : (change : IndexChange) (c : Custom) (cs all : List Custom) (now new whole : List ℕ) → all ≡ c ∷ cs
     → new ≡ now ++ kept_bytes change c → now ++ flat_map custom_bytes (kept change all) ≡ whole → new ++ flat_map custom_bytes (kept change cs)

@@ -1,19 +1,19 @@
 -- A line that may come is read, and no other may come.
-use Rattle.std.proofs.Common.{◌≡◌, ◌≢◌, ◌<◌, ◌≤◌, ◌+◌, ◌^◌, ℕ, Bool, true, false, Some, None, Option, List, [], ◌∷◌, ◌++◌, length}
-use Rattle.std.proofs.Common.{refl, sym, ap, subst, ◌∙◌, arith, rules, length-append}
-use Rattle.std.specs.Prelude.{All, codes, MatchBool, IfSome, IfNone}
+use Rattle.std.proofs.Common.{◌≡◌, ◌≢◌, ◌≤◌, ◌+◌, ℕ, Bool, true, false, Some, None, Option, List, [], ◌∷◌, ◌++◌, length}
+use Rattle.std.proofs.Common.{refl, sym, ap, subst, ◌∙◌, arith, length-append}
+use Rattle.std.specs.Prelude.{codes, MatchBool, IfSome, IfNone}
 use Rattle.std.proofs.lemmas.Bool.{false≢true}
 use Rattle.jc_decode.specs.declared.symbols.LaidHandler.{LaidHandler}
 use Rattle.cap_listing.specs.declared.method.ListedMethod.{ListedMethod}
 use Rattle.cap_listing.specs.declared.method.Heading.{Heading}
 use Rattle.cap_listing.specs.Words.{joined}
-use Rattle.cap_listing.specs.Text.{IsHeading, IsMethod, IsHandler, heading_words, head_words, bytes_words, handler_words, end_words}
-use Rattle.cap_listing.specs.Reading.{Begun, State, IsBare, with_bytes, with_handler, block_words, BeginsMethod, AddsInstruction, AddsBytes, AddsHandler}
-use Rattle.cap_listing.specs.Reading.{EndsMethod, Next, next_head, next_instruction, next_bytes, next_handler, next_end}
+use Rattle.cap_listing.specs.Text.{IsHeading, IsMethod, IsHandler, heading_words, bytes_words, handler_words, end_words}
+use Rattle.cap_listing.specs.Reading.{Begun, State, block_words}
+use Rattle.cap_listing.specs.Reading.{next_head, next_instruction, next_bytes, next_handler, next_end}
 use Rattle.cap_listing.specs.Fault.{IsReadLine, IsNoLine}
 use Rattle.cap_listing.specs.Lines.{IsInstructionLine, IsBytesLine}
 use Rattle.cap_listing.specs.declared.open_method.OpenMethod.{OpenMethod}
-use Rattle.cap_listing.specs.Assembler.{method_with, opened, fresh, between, inside, state_by, IsFewOf}
+use Rattle.cap_listing.specs.Assembler.{method_with, opened, fresh, between, inside, state_by}
 
 abbrev method-or : Begun → Option Begun → Begun
 method-or d None = d
@@ -119,14 +119,6 @@ module _ (done : List ListedMethod) (h : Heading) (code : List ℕ) (hs : List L
 
 -- ---- what is not
 
-pub none-between : (done : List ListedMethod) (line : List ℕ) → ((m : ListedMethod) → IsMethod m → line ≢ joined (head_words m))
-    → IsNoLine (between done) line
-none-between done line none words after (next_head n) e = none n.method n.bare.is (e ∙ ap joined n.are)
-none-between done line none words after (next_instruction n) e = absurd (false≢true (ap is-begun n.from))
-none-between done line none words after (next_bytes n) e = absurd (false≢true (ap is-begun n.from))
-none-between done line none words after (next_handler n) e = absurd (false≢true (ap is-begun n.from))
-none-between done line none words after (next_end n) e = absurd (false≢true (ap is-begun n.from))
-
 module _ (done : List ListedMethod) (h : Heading) (code : List ℕ) (hs : List LaidHandler) (line : List ℕ) (other : line ≢ codes "end")
     (no_handler : (x : LaidHandler) → IsHandler x → line ≢ joined (handler_words x)) where
   pub none-closed : IsNoLine (opened done h code hs true) line
@@ -169,12 +161,6 @@ state-none done o e = ap (state_by done) e
 
 pub state-some : (done : List ListedMethod) (o : Option OpenMethod) (m : OpenMethod) → o ≡ Some m → state_by done o ≡ inside done m
 state-some done o m e = ap (state_by done) e
-
-pub few-none : (o : Option OpenMethod) → o ≡ None → IsFewOf o
-few-none o e = subst IsFewOf (sym e) (tt {0})
-
-pub few-some : (o : Option OpenMethod) (m : OpenMethod) → o ≡ Some m → IsFewOf o → length m.code.items ≤ 65535
-few-some o m e h = subst IsFewOf e h
 
 pub match-at : {X : Type 0} (P Q : X → Type 0) (b : Bool) → MatchBool b ((x : X) → P x) ((x : X) → Q x) → (x : X) → MatchBool b (P x) (Q x)
 match-at P Q true h x = h x

@@ -1,8 +1,8 @@
 -- A line tells what is read: two that are the same lead to the same state.
-use Rattle.std.proofs.Common.{◌≡◌, ◌≢◌, ◌<◌, ◌≤◌, ◌+◌, ◌^◌, ℕ, zero, suc, Bool, true, false, Some, None, Option, Result, Ok}
-use Rattle.std.proofs.Common.{Err, List, [], ◌∷◌, ◌++◌, length, map, get_or, refl, sym, ap, subst, ◌∙◌, ⊎_elim, arith, rules, append_assoc}
+use Rattle.std.proofs.Common.{◌≡◌, ◌≢◌, ◌<◌, ◌≤◌, ◌+◌, ◌^◌, ℕ, Bool, true, false, Some, None, Option, Result, Ok}
+use Rattle.std.proofs.Common.{Err, List, [], ◌∷◌, ◌++◌, length, map, get_or, refl, sym, ap, ◌∙◌, ⊎_elim, arith, rules}
 use Rattle.std.proofs.Common.{length-append}
-use Rattle.std.specs.Prelude.{All, ℤ, pos, negsuc, decimal, codes, FitsSigned, ◌==◌, ◌<ℤ◌}
+use Rattle.std.specs.Prelude.{All, ℤ, pos, negsuc, decimal, FitsSigned, ◌==◌}
 use Rattle.std.specs.Int.{w32}
 use Rattle.std.specs.List.{slice_split}
 use Rattle.std.specs.Fmt.{signed_decimal}
@@ -17,9 +17,7 @@ use Rattle.hex.proofs.HexLemmas.{decode_of-encode_lower}
 use Rattle.jc_decode.specs.declared.insn.Insn.{Insn}
 use Rattle.jc_decode.specs.declared.layout.Layout.{Layout}
 use Rattle.jc_decode.specs.declared.insn.CodeEnd.{CodeEnd}
-use Rattle.jc_decode.specs.declared.symbols.Laid.{Laid}
 use Rattle.jc_decode.specs.declared.symbols.LaidHandler.{LaidHandler}
-use Rattle.jc_decode.specs.Names.{name}
 use Rattle.jc_decode.specs.Layout.{layout_of, opcode}
 use Rattle.jc_decode.specs.Decoding.{decoded, AreBytes}
 use Rattle.jc_decode.specs.Cases.{cases}
@@ -27,17 +25,17 @@ use Rattle.jc_decode.proofs.Decoded.{Begins-decoded}
 use Rattle.jc_decode.proofs.Ranges.{op-fits}
 use Rattle.jc_decode.proofs.NameTable.{names-apart}
 use Rattle.std.specs.List.{range_with_len}
-use Rattle.std.specs.Prelude.{replicate, nat_lt, is_ok}
+use Rattle.std.specs.Prelude.{replicate, nat_lt}
 use Rattle.std.proofs.lemmas.Bool.{ltb-true}
 use Rattle.std.proofs.lemmas.List.{get_or-replicate}
 use Rattle.std.proofs.lemmas.List.FromFn.{get_or-map-range_with_len}
 use Rattle.cap_listing.specs.declared.method.ListedMethod.{ListedMethod}
-use Rattle.cap_listing.specs.Words.{IsPlain, ArePlain, joined}
+use Rattle.cap_listing.specs.Words.{ArePlain, joined}
 use Rattle.cap_listing.specs.Numbers.{numbers_of, block_of, AreShown}
 use Rattle.cap_listing.specs.Text.{IsMethod, IsHandler, head_words, bytes_words, handler_words, end_words}
-use Rattle.cap_listing.specs.Reading.{Begun, State, IsOne, IsBare, with_bytes, with_handler, block_words, BeginsMethod, AddsInstruction, AddsBytes, AddsHandler}
-use Rattle.cap_listing.specs.Reading.{EndsMethod, Next, next_head, next_instruction, next_bytes, next_handler, next_end}
-use Rattle.cap_listing.proofs.Words.{IsDigits, decimal-digits, decimal-first, plain-decimal, plain-signed, plain-name, plain-hex, plain-map, plain-append}
+use Rattle.cap_listing.specs.Reading.{Begun, State, IsOne, IsBare, with_bytes, with_handler, block_words}
+use Rattle.cap_listing.specs.Reading.{Next, next_head, next_instruction, next_bytes, next_handler, next_end}
+use Rattle.cap_listing.proofs.Words.{IsDigits, decimal-digits, decimal-first, plain-decimal, plain-name, plain-hex, plain-map, plain-append}
 use Rattle.cap_listing.proofs.Words.{joined-same}
 use Rattle.cap_listing.proofs.Tell.{numbers-tell}
 use Rattle.cap_listing.proofs.Shown.{numbers-shown}

@@ -1,15 +1,12 @@
 -- The bytes of an instruction are that instruction alone, and wherever they stand.
-use Rattle.std.proofs.Common.{◌≡◌, ◌<◌, ◌≤◌, ◌+◌, ◌-◌, ℕ, Result, Ok, Err, List, [], ◌∷◌, ◌++◌, length, take, drop, refl}
-use Rattle.std.proofs.Common.{sym, ap, subst, ◌∙◌, ⊎_elim, arith, rules, append_assoc}
+use Rattle.std.proofs.Common.{◌≡◌, ◌+◌, ◌-◌, ℕ, Ok, List, [], ◌++◌, length, take, drop}
+use Rattle.std.proofs.Common.{sym, ap, subst, ◌∙◌, ⊎_elim, arith, append_assoc}
 use Rattle.std.proofs.lemmas.List.{append-nil, take-append-drop, length-take-le, length-take, length-drop, drop-drop, get_or-take, get_or_past}
 use Rattle.std.proofs.lemmas.Bool.{cases_lt}
-use Rattle.std.specs.Prelude.{slice_index}
 use Rattle.jc_decode.specs.declared.insn.Insn.{Insn}
-use Rattle.jc_decode.specs.declared.insn.Case.{Case}
-use Rattle.jc_decode.specs.declared.insn.CodeEnd.{CodeEnd}
 use Rattle.jc_decode.specs.Decoding.{decoded, AreBytes}
 use Rattle.jc_decode.specs.Cases.{cases, with_default}
-use Rattle.jc_decode.specs.Encoding.{encoding, sized, ReadsBack}
+use Rattle.jc_decode.specs.Encoding.{sized, ReadsBack}
 use Rattle.jc_decode.proofs.Decoded.{IsWithin-decoded}
 use Rattle.jc_decode.proofs.Ranges.{IsAllowed-decoded}
 use Rattle.jc_decode.proofs.ReadBack.{ReadsBack-encoding}

@@ -1,16 +1,16 @@
 -- Bytes up to the first of a value, and numbers in decimal.
 use Rattle.std.proofs.Common.{◌≡◌, ◌≢◌, ◌<◌, ◌≤◌, ◌+◌, ◌^◌, ℕ, zero, suc, Result, Ok, Err, List, [], ◌∷◌, ◌++◌, length, take, drop}
-use Rattle.std.proofs.Common.{refl, sym, ap, subst, ◌∙◌, arith, rules, get_or, length-append}
-use Rattle.std.specs.Prelude.{decimal, ℤ, pos, negsuc, FitsSigned, slice_index}
+use Rattle.std.proofs.Common.{sym, ap, subst, ◌∙◌, arith, rules, get_or, length-append}
+use Rattle.std.specs.Prelude.{decimal, ℤ, pos, negsuc, FitsSigned}
 use Rattle.std.specs.Int.{w32}
 use Rattle.std.specs.Fmt.{signed_decimal}
 use Rattle.std.specs.Str.{IsUtf8, IsAscii}
 use Rattle.std.specs.Str.Parse.{ParsesUnsigned, ParsesSigned}
 use Rattle.std.proofs.lemmas.Fmt.{parse-decimal, parse-signed_decimal, decimal_nonempty}
 use Rattle.std.proofs.lemmas.Str.{IsUtf8-from_ascii}
-use Rattle.std.proofs.lemmas.List.{append-nil, take_more, drop_more, take_all, take-append-drop}
-use Rattle.cap_listing.specs.Words.{HasNone, IsCut, IsPlain, joined}
-use Rattle.cap_listing.proofs.Words.{IsDigits, decimal-digits, first-cut, none-cut, word-cut, word-whole}
+use Rattle.std.proofs.lemmas.List.{take_more, drop_more, take_all, take-append-drop}
+use Rattle.cap_listing.specs.Words.{HasNone, IsCut}
+use Rattle.cap_listing.proofs.Words.{IsDigits, decimal-digits, first-cut, none-cut}
 
 pub none-more : (c : ℕ) (xs : List ℕ) (b : ℕ) → HasNone c xs → b ≢ c → HasNone c (xs ++ b ∷ [])
 none-more c [] b h k = (k, search rules)

@@ -1,19 +1,19 @@
 -- Which text is a listing, and where another goes wrong.
-use Rattle.std.proofs.Common.{◌≡◌, ◌≢◌, ◌<◌, ◌≤◌, ◌+◌, ◌^◌, ◌⊎◌, inl, inr, ℕ, zero, suc, Bool, true, false, Some, None}
-use Rattle.std.proofs.Common.{Option, List, [], ◌∷◌, ◌++◌, length, map, get_or, refl, sym, ap, subst, ◌∙◌, arith, rules, append_assoc}
+use Rattle.std.proofs.Common.{◌≡◌, ◌+◌, ℕ, Some, None}
+use Rattle.std.proofs.Common.{Option, List, [], ◌∷◌, ◌++◌, length, refl, sym, ap, subst, ◌∙◌, arith, append_assoc}
 use Rattle.std.proofs.Common.{length-append}
 use Rattle.std.specs.Prelude.{All}
 use Rattle.std.proofs.lemmas.List.{append-nil}
 use Rattle.std.proofs.lemmas.List.Elements.{All-append, All-cons, All-nil}
 use Rattle.cap_listing.specs.declared.method.ListedMethod.{ListedMethod}
-use Rattle.cap_listing.specs.Words.{IsCut, joined, line, text_of_lines}
+use Rattle.cap_listing.specs.Words.{joined, line, text_of_lines}
 use Rattle.cap_listing.specs.Text.{IsMethod, Lists, Begins, begun_lines, end_words, lines_of, text_of}
-use Rattle.cap_listing.specs.Reading.{Begun, State, Next, Reads, reads_nothing, reads_more, start, read_lines, lines_begun, IsState, IsBegun, MayBegin}
-use Rattle.cap_listing.specs.Fault.{HasNoFeed, AreFree, fed, IsBadLine, IsCutShort, IsNotListing, IsReadLine, IsNoLine}
+use Rattle.cap_listing.specs.Reading.{Begun, State, Next, Reads, reads_nothing, reads_more, start, lines_begun, MayBegin}
+use Rattle.cap_listing.specs.Fault.{HasNoFeed, IsNoLine}
 use Rattle.cap_listing.specs.Laws.{OneListing}
 use Rattle.cap_listing.proofs.Words.{text-append, joined-free, first-cut, none-cut}
-use Rattle.cap_listing.proofs.Steps.{HasRead, reads-lines, start-state}
-use Rattle.cap_listing.proofs.Runs.{reads-append, reads-text}
+use Rattle.cap_listing.proofs.Steps.{reads-lines, start-state}
+use Rattle.cap_listing.proofs.Runs.{reads-text}
 use Rattle.cap_listing.proofs.Apart.{next-plain, line-one}
 
 abbrev Lines : Type 0

@@ -1,6 +1,6 @@
 -- The first fault is found in one pass over the methods.
-use Rattle.std.proofs.Common.{◌≡◌, ◌≢◌, ◌<◌, ◌≤◌, ◌+◌, ℕ, zero, suc, Bool, true, false, cond, min, List, [], ◌∷◌, ◌++◌, length, drop, get_or}
-use Rattle.std.proofs.Common.{Result, Ok, Err, refl, sym, ap, subst, ◌∙◌, arith, rules}
+use Rattle.std.proofs.Common.{◌≡◌, ◌≢◌, ◌<◌, ◌≤◌, ◌+◌, ℕ, Bool, true, false, cond, min, List, [], ◌∷◌, ◌++◌, length, drop, get_or}
+use Rattle.std.proofs.Common.{Result, Ok, Err, refl, sym, ap, subst, ◌∙◌, arith}
 use Rattle.std.proofs.lemmas.Bool.{false≢true}
 use Rattle.std.proofs.lemmas.List.{drop_more, drop_all, length-drop}
 use Rattle.jc_decode.specs.declared.symbols.LaidHandler.{LaidHandler}
@@ -52,12 +52,6 @@ one-missing n [] (y ∷ ys) apart h = refl
 one-missing n (x ∷ xs) [] apart h = refl
 one-missing n (x ∷ xs) (y ∷ ys) apart h = absurd (omega (arith, h))
 
-pub all-passed : (n : ℕ) (ms owns : List ListedMethod) → min (length ms) (length owns) ≤ n → length ms ≡ length owns
-    → first_refused (other_faults n (drop n ms) (drop n owns)) ≡ Ok (tt {0})
-all-passed n ms owns h e =
-    ap (λ (xs : List ListedMethod). first_refused (other_faults n xs (drop n owns))) (drop_all n ms (omega (arith, h, e)))
-    ∙ ap (λ (xs : List ListedMethod). first_refused (other_faults n [] xs)) (drop_all n owns (omega (arith, h, e)))
-
 pub missing-refused : (n j : ℕ) (ms owns : List ListedMethod) → n ≡ min (length ms) (length owns) → j ≡ n → length ms ≢ length owns
     → first_refused (other_faults n (drop n ms) (drop n owns)) ≡ Err (OtherMethod j)
 missing-refused n j ms owns h same apart =
@@ -81,9 +75,6 @@ module _ (n size k : ℕ) (hs : List LaidHandler) (h : LaidHandler) (lt : k < le
   pub handler-refused : lies_in h size ≡ false → first_refused (range_faults n size k (drop k hs)) ≡ Err (HandlerRange n k)
   handler-refused e = ap first_refused (handler-here ∙ ap (λ (b : Bool). cond b rest (HandlerRange n k ∷ rest)) e)
 
-pub handlers-passed : (n size k : ℕ) (hs : List LaidHandler) → length hs ≤ k → first_refused (range_faults n size k (drop k hs)) ≡ Ok (tt {0})
-handlers-passed n size k hs h = ap (λ (xs : List LaidHandler). first_refused (range_faults n size k xs)) (drop_all k hs h)
-
 -- ---- one method after the other
 
 module _ (c : Condition) (n : ℕ) (ms : List ListedMethod) (m : ListedMethod) (lt : n < length ms) (is : m ≡ get_or ms n m) where
@@ -98,18 +89,7 @@ module _ (c : Condition) (n : ℕ) (ms : List ListedMethod) (m : ListedMethod) (
   pub method-refused : (f : AsmFault) → first_refused (own_faults c n m) ≡ Err f → first_refused (faults_from c n (drop n ms)) ≡ Err f
   method-refused f e = ap first_refused method-here ∙ refused-before (own_faults c n m) (faults_from c (n + 1) (drop (n + 1) ms)) f e
 
-pub methods-passed : (c : Condition) (n : ℕ) (ms : List ListedMethod) → length ms ≤ n → first_refused (faults_from c n (drop n ms)) ≡ Ok (tt {0})
-methods-passed c n ms h = ap (λ (xs : List ListedMethod). first_refused (faults_from c n xs)) (drop_all n ms h)
-
 -- ---- the sum of the handlers, which stands still at the greatest of 64 bits
-
-pub total-step : (ms : List ListedMethod) (n : ℕ) (m : ListedMethod) (sum next : ℕ) → n < length ms → m ≡ get_or ms n m
-    → next ≡ min (sum + length m.laid.handlers) 18446744073709551615
-    → min (next + handler_total (drop (n + 1) ms)) 18446744073709551615 ≡ min (sum + handler_total (drop n ms)) 18446744073709551615
-total-step ms n m sum next lt is e =
-    let more : handler_total (drop n ms) ≡ length m.laid.handlers + handler_total (drop (n + 1) ms) =
-    ap handler_total (drop_more ms n m lt ∙ ap (λ (x : ListedMethod). x ∷ drop (n + 1) ms) (sym is)) in
-    omega (arith, e, more)
 
 pub total-end : (ms : List ListedMethod) (n sum : ℕ) → length ms ≤ n → sum ≤ 18446744073709551615
     → min (sum + handler_total (drop n ms)) 18446744073709551615 ≡ min (handler_total ms) 18446744073709551615

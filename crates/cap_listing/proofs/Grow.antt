@@ -1,7 +1,7 @@
 -- The lines of a code to which bytes are added.
-use Rattle.std.proofs.Common.{◌≡◌, ◌≢◌, ◌<◌, ◌≤◌, ◌+◌, ◌-◌, ℕ, Result, Ok, Err, List, [], ◌∷◌, ◌++◌, length, take}
-use Rattle.std.proofs.Common.{drop, map, refl, sym, ap, subst, ◌∙◌, arith, rules, append_assoc, length-append}
-use Rattle.std.specs.Prelude.{IsErr, ℤ, decimal}
+use Rattle.std.proofs.Common.{◌≡◌, ◌≢◌, ◌+◌, ◌-◌, ℕ, Result, Ok, Err, List, [], ◌∷◌, ◌++◌, length, take}
+use Rattle.std.proofs.Common.{drop, map, refl, sym, ap, subst, ◌∙◌, arith, rules, length-append}
+use Rattle.std.specs.Prelude.{IsErr, decimal}
 use Rattle.std.specs.Fmt.{signed_decimal}
 use Rattle.std.proofs.lemmas.List.{append-nil, take-append-drop, map-append, drop_all}
 use Rattle.std.proofs.Math.Seq.{drop-append_seam}
@@ -12,14 +12,13 @@ use Rattle.jc_decode.specs.declared.insn.CodeEnd.{CodeEnd}
 use Rattle.jc_decode.specs.declared.insn.CodeEnd.TheVariants.{Cut}
 use Rattle.jc_decode.specs.Names.{name}
 use Rattle.jc_decode.specs.Decoding.{decoded, AreBytes}
-use Rattle.jc_decode.specs.Cases.{cases}
 use Rattle.jc_decode.specs.Listing.{listing, listing_from, at_most, ListsFound, end_from, listing_end}
 use Rattle.jc_decode.proofs.PastTheEnd.{decoded-past}
 use Rattle.jc_decode.proofs.Listing.{Lists-listing_from, listing_from-Lists, listing_from-start}
 use Rattle.cap_listing.specs.Numbers.{numbers_of}
 use Rattle.cap_listing.specs.Text.{instruction_words, bytes_words, rest_lines, code_lines}
 use Rattle.cap_listing.specs.Reading.{IsOne, block_words}
-use Rattle.cap_listing.proofs.Blocks.{own, alone, longer, cases-longer, shifted, cases-shifted, AreBytes-take}
+use Rattle.cap_listing.proofs.Blocks.{alone, longer, cases-longer, shifted, cases-shifted, AreBytes-take}
 
 err : (r : Result Insn CodeEnd) → r ≡ Err Cut → IsErr r
 err r e = rw e (search rules)

@@ -1,7 +1,7 @@
 -- Where nothing is wrong with listed methods in place of a package's own, the package may be written with them.
-use Rattle.std.proofs.Common.{◌≡◌, ◌≢◌, ◌<◌, ◌≤◌, ◌+◌, ℕ, zero, suc, Bool, true, false, not, cond, ◌&&◌, ◌||◌, ltb, leb, eqb, List, [], ◌∷◌, ◌++◌}
-use Rattle.std.proofs.Common.{Result, Ok, Err, drop, get_or, length, map, min, Option, Some, None, refl, sym, ap, subst, ◌∙◌, arith, rules, append_assoc, length-append}
-use Rattle.std.proofs.lemmas.Bool.{false≢true, ltb-false, ltb-true, leb-true, eqb-true, eqb-false, and_parts}
+use Rattle.std.proofs.Common.{◌≡◌, ◌<◌, ◌≤◌, ◌+◌, ℕ, Bool, true, false, not, cond, ◌&&◌, ◌||◌, ltb, leb, eqb, List, [], ◌∷◌, ◌++◌}
+use Rattle.std.proofs.Common.{Ok, drop, get_or, length, map, min, Option, Some, None, refl, sym, ap, subst, ◌∙◌, arith, append_assoc}
+use Rattle.std.proofs.lemmas.Bool.{ltb-false, ltb-true, leb-true, eqb-true, eqb-false, and_parts}
 use Rattle.std.proofs.lemmas.List.{append-nil, drop_more, drop_all}
 use Rattle.cap_method.specs.MethodFormat.{Header}
 use Rattle.cap_desc.specs.DescriptorFormat.{MethodDescriptor, ClassDescriptor}
@@ -10,15 +10,14 @@ use Rattle.cap_components.specs.PackageRecord.{PackageRecord, names_interface}
 use Rattle.cap_package.specs.HeaderChecks.{header_in, is_abstract}
 use Rattle.jc_decode.specs.declared.symbols.Laid.{Laid}
 use Rattle.jc_decode.specs.declared.symbols.LaidHandler.{LaidHandler}
-use Rattle.cap_laying.specs.HandlerTable.{IsInside, AreInside}
-use Rattle.law_package.specs.Laying.{IsCodeFor, IsFor}
-use Rattle.cap_write.specs.Condition.{handler_sum, no_method, methods_for, IsElement, AreElements, MayBeLaid}
+use Rattle.cap_laying.specs.HandlerTable.{AreInside}
+use Rattle.law_package.specs.Laying.{IsCodeFor}
+use Rattle.cap_write.specs.Condition.{handler_sum, no_method, methods_for, AreElements, MayBeLaid}
 use Rattle.cap_listing.specs.declared.method.ListedMethod.{ListedMethod}
 use Rattle.cap_listing.specs.declared.fault.AsmFault.{AsmFault}
 use Rattle.cap_listing.specs.declared.fault.AsmFault.TheVariants.{OtherMethod, Registers, HandlerRange, CodeLength, TooManyHandlers}
-use Rattle.cap_listing.specs.declared.condition.Condition.{Condition}
 use Rattle.cap_listing.specs.declared.condition.Condition.TheVariants as conditions
-use Rattle.cap_listing.specs.Methods.{laid_of, listed_by, listed_from, listed_unless, listed_in, methods_of}
+use Rattle.cap_listing.specs.Methods.{laid_of, listed_by, listed_from, listed_in, methods_of}
 use Rattle.cap_listing.specs.Placing.{is_same, other_faults, range_faults, own_faults, faults_from, handler_total, total_faults, faults, has_code, is_coded, coded_in}
 use Rattle.cap_listing.specs.Placing.{coded, first_filled, rest_filled, filled, placed, first_refused}
 

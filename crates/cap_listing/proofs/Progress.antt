@@ -1,13 +1,13 @@
 -- How far a text is read, and what it is then.
-use Rattle.std.proofs.Common.{◌≡◌, ◌≢◌, ◌<◌, ◌≤◌, ◌+◌, ◌⊎◌, inl, inr, ℕ, zero, suc, Some, None, Option, List, [], ◌∷◌, ◌++◌, length, map}
+use Rattle.std.proofs.Common.{◌≡◌, ◌≤◌, ◌+◌, ◌⊎◌, inl, inr, ℕ, List, [], ◌∷◌, ◌++◌, length, map}
 use Rattle.std.proofs.Common.{refl, sym, ap, subst, ◌∙◌, arith, rules, append_assoc, length-append}
 use Rattle.std.specs.Prelude.{All}
 use Rattle.std.proofs.lemmas.List.{append-nil, length-map}
 use Rattle.cap_listing.specs.declared.method.ListedMethod.{ListedMethod}
 use Rattle.cap_listing.specs.Words.{HasNone, IsCut, joined, line, text_of_lines}
-use Rattle.cap_listing.specs.Text.{IsMethod, Lists, Begins, lines_of, text_of}
-use Rattle.cap_listing.specs.Reading.{State, Next, Reads, reads_nothing, reads_more, start, read_lines}
-use Rattle.cap_listing.specs.Fault.{HasNoFeed, AreFree, fed, IsBadLine, IsCutShort, IsNotListing, IsReadLine, IsNoLine}
+use Rattle.cap_listing.specs.Text.{IsMethod, Lists, Begins, lines_of}
+use Rattle.cap_listing.specs.Reading.{State, Reads, reads_nothing, reads_more, start, read_lines}
+use Rattle.cap_listing.specs.Fault.{AreFree, fed, IsBadLine, IsCutShort, IsNotListing, IsReadLine, IsNoLine}
 use Rattle.cap_listing.specs.Assembler.{between}
 use Rattle.cap_listing.proofs.Words.{text-append}
 use Rattle.cap_listing.proofs.Steps.{reads-lines, start-state}

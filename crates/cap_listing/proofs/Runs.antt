@@ -1,12 +1,10 @@
 -- The lines of any methods are read, one after the other.
-use Rattle.std.proofs.Common.{◌≡◌, ◌≢◌, ◌<◌, ◌≤◌, ◌+◌, ◌^◌, ℕ, zero, suc, Bool, true, false, Some, None, Option, Result, Ok}
+use Rattle.std.proofs.Common.{◌≡◌, ◌≤◌, ◌+◌, ℕ, suc, Bool, true, false, Some, None, Result, Ok}
 use Rattle.std.proofs.Common.{Err, List, [], ◌∷◌, ◌++◌, length, take, drop, map, refl, sym, ap, subst, ◌∙◌, arith, rules, append_assoc}
-use Rattle.std.proofs.Common.{length-append}
 use Rattle.std.specs.Prelude.{IsErr, All, decimal}
 use Rattle.std.specs.Fmt.{signed_decimal}
-use Rattle.std.proofs.lemmas.List.{append-nil, take-append-drop, length-take-le, length-drop}
+use Rattle.std.proofs.lemmas.List.{append-nil, take-append-drop, length-take-le}
 use Rattle.std.proofs.Math.Seq.{take-add}
-use Rattle.std.proofs.lemmas.Bool.{false≢true}
 use Rattle.jc_decode.specs.declared.insn.Insn.{Insn}
 use Rattle.jc_decode.specs.declared.insn.Case.{Case}
 use Rattle.jc_decode.specs.declared.insn.Placed.{Placed}
@@ -22,7 +20,7 @@ use Rattle.cap_listing.specs.declared.method.ListedMethod.{ListedMethod}
 use Rattle.cap_listing.specs.Numbers.{numbers_of}
 use Rattle.cap_listing.specs.Text.{IsMethod, IsHandler, head_words, instruction_words, bytes_words, handler_words, end_words, rest_lines, code_lines}
 use Rattle.cap_listing.specs.Text.{begun_lines, lines_of}
-use Rattle.cap_listing.specs.Reading.{Begun, State, IsOne, block_words, Next, next_head, next_instruction, next_bytes, next_handler, next_end, Reads}
+use Rattle.cap_listing.specs.Reading.{State, block_words, next_head, next_instruction, next_bytes, next_handler, next_end, Reads}
 use Rattle.cap_listing.specs.Reading.{reads_nothing, reads_more, start}
 use Rattle.cap_listing.proofs.Blocks.{own, own-one, cases-alone, shifted}
 use Rattle.cap_listing.proofs.Grow.{lists-all}

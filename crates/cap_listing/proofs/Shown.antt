@@ -1,8 +1,8 @@
 -- The numbers of an instruction fit 32 bits.
-use Rattle.std.proofs.Common.{◌≡◌, ◌<◌, ◌≤◌, ◌+◌, ◌*◌, ◌^◌, ℕ, zero, suc, Bool, true, false, Result, Ok, Err, List, [], ◌∷◌}
-use Rattle.std.proofs.Common.{◌++◌, length, map, refl, sym, ap, subst, ◌∙◌, arith, rules}
-use Rattle.std.specs.Prelude.{ℤ, pos, negsuc, FitsSigned, unsigned_abs, ◌+ℤ◌}
-use Rattle.std.specs.Int.{w8, w16, w32}
+use Rattle.std.proofs.Common.{◌≡◌, ◌≤◌, ◌+◌, ◌*◌, ℕ, zero, suc, Bool, true, false, Result, Ok, Err, List, [], ◌∷◌}
+use Rattle.std.proofs.Common.{◌++◌, map, refl, sym, subst, arith, rules}
+use Rattle.std.specs.Prelude.{ℤ, pos, negsuc, FitsSigned, unsigned_abs}
+use Rattle.std.specs.Int.{w16, w32}
 use Rattle.std.specs.List.{range_with_len}
 use Rattle.std.specs.Result.{result_unwrap_or}
 use Rattle.jc_decode.specs.declared.layout.Operand.{Operand}
@@ -14,15 +14,14 @@ use Rattle.jc_decode.specs.declared.layout.Layout.{Layout}
 use Rattle.jc_decode.specs.declared.insn.CodeEnd.{CodeEnd}
 use Rattle.jc_decode.specs.declared.insn.Insn.{Insn}
 use Rattle.jc_decode.specs.declared.insn.Case.{Case}
-use Rattle.jc_decode.specs.Layout.{layout_of, total_width}
+use Rattle.jc_decode.specs.Layout.{total_width}
 use Rattle.jc_decode.specs.Decoding.{decoded, operand_at, range_count, AreBytes, FitsOperand, FitsLayout}
 use Rattle.jc_decode.specs.Cases.{cases, cases_in, range_case, pair_case}
 use Rattle.jc_decode.specs.Listing.{jumps, target}
 use Rattle.jc_decode.proofs.Decoded.{Begins-decoded}
 use Rattle.jc_decode.proofs.Ranges.{FitsOperand-read, FitsLayout-decoded, offset-decoded}
 use Rattle.jc_decode.proofs.Tables.{cases-by}
-use Rattle.cap_listing.specs.Numbers.{shown_operand, shown_first, shown_case, shown_cases, numbers_by, numbers_of, AreShown}
-use Rattle.cap_listing.specs.Reading.{IsOne}
+use Rattle.cap_listing.specs.Numbers.{shown_operand, shown_first, shown_cases, numbers_by, numbers_of, AreShown}
 
 shown-append : (ys zs : List ℤ) → AreShown ys → AreShown zs → AreShown (ys ++ zs)
 shown-append [] zs h k = k

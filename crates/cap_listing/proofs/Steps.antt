@@ -1,7 +1,7 @@
 -- What is read is what the lines list: each line is that of the state which it leads to.
-use Rattle.std.proofs.Common.{◌≡◌, ◌≢◌, ◌<◌, ◌≤◌, ◌+◌, ◌^◌, ℕ, zero, suc, Bool, true, false, Some, None, Option, Result, Ok}
-use Rattle.std.proofs.Common.{Err, List, [], ◌∷◌, ◌++◌, length, map, refl, sym, ap, subst, ◌∙◌, arith, rules, append_assoc, length-append}
-use Rattle.std.specs.Prelude.{IsErr, All, slice_index}
+use Rattle.std.proofs.Common.{◌≡◌, ◌≢◌, ◌<◌, ◌≤◌, ◌+◌, ℕ, zero, suc, true, false, Some, None, Option}
+use Rattle.std.proofs.Common.{List, [], ◌∷◌, ◌++◌, length, map, refl, sym, ap, subst, ◌∙◌, append_assoc}
+use Rattle.std.specs.Prelude.{All}
 use Rattle.std.proofs.lemmas.List.{append-nil, map-append}
 use Rattle.std.proofs.lemmas.List.Elements.{All-append, All-cons, All-nil}
 use Rattle.std.proofs.lemmas.Bool.{false≢true}
@@ -10,8 +10,9 @@ use Rattle.jc_decode.specs.Decoding.{AreBytes}
 use Rattle.jc_decode.specs.Listing.{listing_end}
 use Rattle.cap_listing.specs.declared.method.ListedMethod.{ListedMethod}
 use Rattle.cap_listing.specs.Text.{IsMethod, IsHandler, head_words, handler_words, end_words, code_lines, begun_lines, lines_of}
-use Rattle.cap_listing.specs.Reading.{Begun, State, IsOne, IsBare, with_bytes, with_handler, block_words, BeginsMethod, AddsInstruction, AddsBytes, AddsHandler}
-use Rattle.cap_listing.specs.Reading.{EndsMethod, Next, next_head, next_instruction, next_bytes, next_handler, next_end, Reads, reads_nothing, reads_more}
+use Rattle.cap_listing.specs.Reading.{Begun, State, IsBare, with_bytes, with_handler}
+use Rattle.cap_listing.specs.Reading.{Next, next_head, next_instruction, next_bytes, next_handler, next_end, Reads, reads_nothing}
+use Rattle.cap_listing.specs.Reading.{reads_more}
 use Rattle.cap_listing.specs.Reading.{start, lines_begun, read_lines, IsBegun, MayBegin, IsState}
 use Rattle.cap_listing.proofs.Grow.{lines-snoc, whole-snoc, lines-stuck, lines-none, end-none}
 

@@ -1,18 +1,14 @@
 -- The numbers of an instruction tell its bytes.
-use Rattle.std.proofs.Common.{◌≡◌, ◌<◌, ◌≤◌, ◌+◌, ◌*◌, ◌-◌, ◌^◌, ℕ, zero, suc, Bool, true, false, cond, Some, None, Result}
-use Rattle.std.proofs.Common.{Ok, Err, List, [], ◌∷◌, ◌++◌, length, take, drop, map, replicate, get_or, refl, sym, ap, subst, ◌∙◌, arith, rules}
+use Rattle.std.proofs.Common.{◌≡◌, ◌<◌, ◌≤◌, ◌+◌, ◌*◌, ◌-◌, ℕ, zero, suc, Bool, true, false, Result}
+use Rattle.std.proofs.Common.{Ok, Err, List, [], ◌∷◌, ◌++◌, length, take, drop, map, replicate, get_or, refl, sym, ap, subst, ◌∙◌, arith}
 use Rattle.std.proofs.Common.{append_assoc}
-use Rattle.std.specs.Prelude.{ℤ, pos, negsuc, ◌+ℤ◌, ◌-ℤ◌, unsigned_abs, FitsSigned, IsTrue}
-use Rattle.std.specs.Int.{w16, w32, cast_signed}
+use Rattle.std.specs.Prelude.{ℤ, pos, ◌+ℤ◌, ◌-ℤ◌, unsigned_abs}
 use Rattle.std.specs.List.{range_with_len}
 use Rattle.std.specs.Result.{result_unwrap_or}
 use Rattle.std.proofs.Math.IntN.{+ℤ-neg_ℤ_cancel, +ℤ_comm}
-use Rattle.std.proofs.Math.Seq.{take-length}
-use Rattle.std.proofs.lemmas.List.{append-nil, get_or-replicate, take_all}
+use Rattle.std.proofs.lemmas.List.{get_or-replicate, take_all}
 use Rattle.std.proofs.lemmas.Bool.{false≢true}
 use Rattle.std.proofs.lemmas.List.FromFn.{get_or-map-range_with_len}
-use Rattle.byteorder.specs.Endian.{big_number}
-use Rattle.cap_bytes.specs.Number.{number_at}
 use Rattle.jc_decode.specs.declared.layout.Operand.{Operand}
 use Rattle.jc_decode.specs.declared.layout.Operand.TheVariants.{Absent, U1, U2, S1, S2, S4, DupWords, SwapWords, ArrayType, TestedType}
 use Rattle.jc_decode.specs.declared.layout.Cases.{Cases}
@@ -23,7 +19,7 @@ use Rattle.jc_decode.specs.declared.insn.CodeEnd.{CodeEnd}
 use Rattle.jc_decode.specs.declared.insn.Insn.{Insn}
 use Rattle.jc_decode.specs.declared.insn.Case.{Case}
 use Rattle.jc_decode.specs.Layout.{layout_of, opcode, operand_width, total_width}
-use Rattle.jc_decode.specs.Decoding.{decoded, operand_at, key_at, pair_width, range_count, end_of_cases, AreBytes, FitsOperand, FitsLayout, Begins}
+use Rattle.jc_decode.specs.Decoding.{operand_at, pair_width, range_count, AreBytes, FitsLayout}
 use Rattle.jc_decode.specs.Cases.{cases, cases_in, range_case, pair_case, offset_at}
 use Rattle.jc_decode.specs.Listing.{jumps, target}
 use Rattle.jc_decode.specs.Encoding.{operand_bytes, head_bytes, table_bytes, encoding, encoding_by}
@@ -33,8 +29,8 @@ use Rattle.jc_decode.proofs.ReadBack.{FitsTable, fits-table}
 use Rattle.jc_decode.proofs.Tables.{cases-by}
 use Rattle.jc_decode.proofs.Windows.{number_at-reached}
 use Rattle.jc_decode.proofs.OwnBytes.{operand-bytes, take-more, encoding-own}
-use Rattle.cap_listing.specs.Numbers.{shown_operand, shown_first, shown_case, shown_cases, numbers_by, numbers_of, read_first, kept, kept_bytes, table_of}
-use Rattle.cap_listing.specs.Numbers.{first_number, after_operand, later_bytes, block_by, block_of, AreShown}
+use Rattle.cap_listing.specs.Numbers.{shown_operand, shown_first, shown_cases, numbers_by, numbers_of, read_first, kept_bytes, table_of}
+use Rattle.cap_listing.specs.Numbers.{first_number, after_operand, later_bytes, block_by, block_of}
 use Rattle.cap_listing.specs.Reading.{IsOne}
 use Rattle.cap_listing.proofs.Kept.{kept-same, after-shown, shown-bytes}
 

@@ -1,8 +1,8 @@
 -- Words, and lines of them: what is joined is cut into the same words.
-use Rattle.std.proofs.Common.{◌≡◌, ◌<◌, ◌≤◌, ◌≢◌, ◌+◌, ◌^◌, ℕ, zero, suc, Bool, true, false, cond, List, [], ◌∷◌}
+use Rattle.std.proofs.Common.{◌≡◌, ◌<◌, ◌≤◌, ◌≢◌, ◌+◌, ◌^◌, ℕ, zero, suc, Bool, true, false, List, [], ◌∷◌}
 use Rattle.std.proofs.Common.{◌++◌, length, map, get_or, refl, sym, ap, ◌∙◌, ⊎_elim, ◌/◌, ◌%◌, arith, rules, append_assoc, nat_lt, subst}
 use Rattle.std.proofs.Common.{replicate}
-use Rattle.std.specs.Prelude.{ℤ, pos, negsuc, All, decimal, codes, FitsSigned, ⊤, ◌==◌, ◌&&◌}
+use Rattle.std.specs.Prelude.{ℤ, pos, negsuc, All, decimal, FitsSigned, ⊤, ◌==◌, ◌&&◌}
 use Rattle.std.specs.Int.{w32}
 use Rattle.std.specs.Fmt.{signed_decimal}
 use Rattle.std.proofs.lemmas.List.{append-nil}

@@ -1,11 +1,11 @@
 -- What an assembler has read.
-use Rattle.std.specs.Prelude.{◌≡◌, ◌≤◌, ℕ, Bool, false, List, [], length, Option, Some, None}
+use Rattle.std.specs.Prelude.{◌≤◌, ℕ, Bool, false, List, [], length, Option, Some, None}
 use Rattle.jc_decode.specs.declared.symbols.LaidHandler.{LaidHandler}
 use Rattle.cap_listing.specs.declared.method.ListedMethod.{ListedMethod}
 use Rattle.cap_listing.specs.declared.method.Heading.{Heading}
 use Rattle.cap_listing.specs.declared.open_method.OpenMethod.{OpenMethod}
 use Rattle.cap_listing.specs.declared.assembler.Assembler.{Assembler}
-use Rattle.cap_listing.specs.Reading.{Begun, State}
+use Rattle.cap_listing.specs.Reading.{State}
 
 -- a method of these numbers, code and handlers
 abbrev pub method_with : Heading → List ℕ → List LaidHandler → ListedMethod

@@ -14,7 +14,6 @@ use Rattle.cap_listing.specs.declared.fault.AsmEnd.{AsmEnd}
 use Rattle.cap_listing.specs.declared.fault.AsmEnd.TheVariants.{Fault, Memory}
 use Rattle.cap_listing.specs.declared.condition.Condition.{Condition}
 use Rattle.cap_listing.specs.declared.condition.Condition.TheVariants as conditions
-use Rattle.cap_listing.specs.Methods.{methods_of}
 
 -- ---- the faults of each condition, in the order of the methods from a number on
 

@@ -59,9 +59,6 @@ cut_step contents stream rest content back new c more front behind h =
     let long : length content ≡ 255 = ap length front ∙ omega (arith, length-take 255 rest) in
     cut_more contents stream rest content back new c long whole h
 
-pub cut_start : (contents : List ℕ) → IsCutUpTo contents [] contents
-cut_start contents = record { blocks = []; each = tt {0}; joined = refl; whole = refl }
-
 no_bytes : (xs : List ℕ) → length xs ≡ 0 → xs ≡ []
 no_bytes [] e = refl
 no_bytes (x ∷ xs) e = absurd (omega arith)

@@ -1,5 +1,5 @@
 -- What a loader that met no fault answers at the end.
-use Rattle.std.proofs.Common.{◌≡◌, ℕ, ◌+◌, ◌≤◌, List, [], ◌∷◌, ◌++◌, length, Option, Some, None, Result, Ok, Err, refl, sym, ap}
+use Rattle.std.proofs.Common.{◌≡◌, ℕ, ◌+◌, ◌≤◌, List, [], ◌∷◌, ◌++◌, length, Option, None, Result, Ok, Err, refl, sym, ap}
 use Rattle.std.proofs.Common.{subst, ◌∙◌, arith}
 use Rattle.std.proofs.lemmas.List.{append-nil}
 use Rattle.std.specs.List.{AllByRecursion, concat}
@@ -47,12 +47,6 @@ whole_by room bytes contents parts f few files =
       few = subst (λ (c : List ℕ). length c ≤ room) whole few;
     }
 
-pub ends_whole : (loaded : Loaded) (parts : List Lent) → loaded.fault ≡ None → loaded.block ≡ Ended → length loaded.contents ≤ loaded.room
-    → AreFiles loaded.contents parts → Finishes loaded (Ok parts)
-ends_whole loaded parts e b few files bytes s =
-    let stands = stands_by loaded bytes None e s in
-    whole_by loaded.room bytes loaded.contents parts (subst (λ (at : Block). IsFront at bytes loaded.contents) b stands.1) few files
-
 -- a stream has an ending
 stream_ended : (bytes : List ℕ) (blocks : List (List ℕ)) → AllByRecursion IsBlock blocks → bytes ≡ stream_of blocks → HasEnded bytes
 stream_ended bytes blocks each e = record { blocks = blocks; more = []; each = each; whole = e ∙ sym (append-nil (stream_of blocks)) }
@@ -92,9 +86,6 @@ first_refused room bytes (Order a b) f = f
 first_refused room bytes (Full n) f = f
 first_refused room bytes AfterEnd f = f
 first_refused room bytes Unfinished f = absurd f.shown
-
-pub ends_refused : (loaded : Loaded) (fault : StreamFault) → loaded.fault ≡ Some fault → Finishes loaded (Err (Fault fault))
-ends_refused loaded fault e bytes s = first_refused loaded.room bytes fault (stands_by loaded bytes (Some fault) e s)
 
 -- the answer is the one list of parts, where there is one
 pub gives : (loaded : Loaded) (result : Result (List Lent) FinishEnd) (bytes : List ℕ) (parts : List Lent) → Finishes loaded result

@@ -3,7 +3,7 @@ use Rattle.std.specs.Prelude.{◌≡◌, true, false, [], ◌∷◌, Some, None,
 use Rattle.std.proofs.Common.{lit<, lit≤}
 use Rattle.cap_components.specs.Parts.{Lent}
 use Rattle.cap_load.specs.declared.fault.StreamFault.TheVariants.{NoTag, Order, Full, AfterEnd}
-use Rattle.cap_load.specs.Order.{components, place, comes_before}
+use Rattle.cap_load.specs.Order.{place, comes_before}
 use Rattle.cap_load.specs.LoadFile.{IsFile, IsLoadFile}
 use Rattle.cap_load.specs.Fault.{Begins, Shows}
 

@@ -6,7 +6,7 @@ use Rattle.cap_desc.specs.DescriptorFormat.{MethodDescriptor, FieldDescriptor}
 use Rattle.cap_package.specs.HeaderChecks.{is_static}
 use Rattle.cap_class.specs.ClassFormat.{Class}
 use Rattle.cap_package.specs.NameChecks.{is_method_at, is_class_at}
-use Rattle.cap_package.specs.StaticChecks.{image_offset, is_static_at, stands_at}
+use Rattle.cap_package.specs.StaticChecks.{image_offset, is_static_at}
 use Rattle.offset_set.specs.Sets.{also, either, is_among}
 use Rattle.offset_set.specs.Tallies.{Tallied, tally_of}
 use Rattle.cap_package.specs.Reaches.{method_start}
@@ -23,9 +23,6 @@ methods_met met t ms e h = e ∙ ap (λ (u : Tallied). u.met) h ∙ fun_ext (amo
 
 pub all_statics : (these : ℕ → Bool) → either these (is_static_at []) ≡ these
 all_statics these = fun_ext (λ offset. or-false (these offset))
-
-static_first : (f : FieldDescriptor) (offset : ℕ) (b : Bool) → is_static f.flags ≡ b → b ≡ true → stands_at offset f ≡ eqb (image_offset f) offset
-static_first f offset b e h = rw (e ∙ h) refl
 
 pub more_statics : (these : ℕ → Bool) (f : FieldDescriptor) (fs : List FieldDescriptor) → is_static f.flags ≡ true
     → either (also (image_offset f) these) (is_static_at fs) ≡ either these (is_static_at (f ∷ fs))

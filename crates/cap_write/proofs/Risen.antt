@@ -1,6 +1,6 @@
 -- Parts that are put by rising tag.
 use Rattle.std.proofs.Common.{◌≡◌, ◌≤◌, ◌<◌, ◌+◌, ◌⊎◌, inl, inr, ℕ, Bool, true, false, cond, List, [], ◌∷◌, ◌++◌, Option}
-use Rattle.std.proofs.Common.{Some, None, IsNone, refl, sym, subst, ◌∙◌, arith}
+use Rattle.std.proofs.Common.{Some, None, refl, sym, subst, ◌∙◌, arith}
 use Rattle.std.specs.Prelude.{◌==◌}
 use Rattle.std.specs.Option.{option_map}
 use Rattle.std.specs.List.{find}
@@ -59,9 +59,6 @@ rising_more : (low high : ℕ) (parts : List Lent) (file : Option (List ℕ)) �
 rising_more low high parts None r = subst (λ ps. IsRising low ps (high + 1)) (sym (append-nil parts)) (rising_higher low high (high + 1) parts (omega arith) r)
 rising_more low high parts (Some file) r = rising_push low high parts file r
 
-pub filed_begin : (Is : ℕ → Option (List ℕ) → Type 0) → AreFiled Is 0 []
-filed_begin Is = record { each = λ tag lt. absurd (omega arith); none = λ tag le. refl; rising = omega arith }
-
 -- what a list holds stays where another tag is put
 held_kept : (k : ℕ) (parts : List Lent) (file : Option (List ℕ)) (tag : ℕ) → (k ≡ tag → ⊥) → held (parts ++ lents k file) tag ≡ held parts tag
 held_kept k parts file tag other = by (held parts tag) refl
@@ -83,6 +80,3 @@ filed_more Is k old new f p = subst (AreFiled Is (k + 1)) (sym p.put) (record {
         let own : held (old ++ lents k p.file) k ≡ p.file = held_new old (lents k p.file) k (f.none k (omega arith)) ∙ lents_own k p.file in
         subst (λ t. Is t (held (old ++ lents k p.file) t)) (sym e) (subst (Is k) (sym own) p.is)
     by tag lt (inr other) = subst (Is tag) (sym (held_kept k old p.file tag (λ e. other (sym e)))) (f.each tag (omega (arith, other)))
-
-pub filed_absent : (Is : ℕ → Option (List ℕ) → Type 0) (k : ℕ) (parts : List Lent) → AreFiled Is k parts → IsNone (held parts k)
-filed_absent Is k parts f = rw (f.none k (omega arith)) refl

@@ -120,10 +120,6 @@ has_told p s =
 abbrev pub Tells : PackageRecord → ℕ → Type 0
 Tells p tag = (size : ℕ) → size_in p.directory tag ≡ Some size → IsSizeOf tag size (held p.parts tag)
 
-form_absent : (parts : List Lent) (tag : ℕ) → held parts tag ≡ None → form_fault parts tag ≡ None
-unfolding form_fault
-form_absent parts tag e = ap (λ o. form_by o (info_in parts tag)) e
-
 told_if : {X : Type 0} (p : PackageRecord) (tag : ℕ) (g : Grammar X) (items : Option X) → SaysIf p.parts tag g items
     → sized_fault p.parts p.directory tag ≡ None → size_fault p.parts p.directory tag ≡ None → Tells p tag
 told_if p tag g None h a f size s = subst (IsSizeOf tag size) (sym h) (told_absent p.parts p.directory tag size h s a)

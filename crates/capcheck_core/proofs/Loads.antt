@@ -13,13 +13,12 @@ use Rattle.cap_bytes.specs.Reading.{reading}
 use Rattle.cap_frame.specs.HeaderFormat.{HeaderItems, header_info}
 use Rattle.cap_frame.specs.DirectoryFormat.{Custom, DirectoryItems, directory_info}
 use Rattle.cap_frame.specs.Directory.{directory_items, size_in, custom_size_in}
-use Rattle.cap_frame.specs.Header.{header_items}
 use Rattle.cap_files.specs.Folder.{Parts, Folders, Holds, IsTooLong, Loads}
 use Rattle.cap_files.specs.declared.folder.LoadEnd.{LoadEnd}
 use Rattle.cap_components.specs.declared.fault.PackFault.{PackFault}
 use Rattle.cap_components.specs.declared.opening.Opening.{Opening}
 use Rattle.cap_components.specs.Components.{framed, formed, info_in, read_part, read_directory, ◌>>=◌}
-use Rattle.cap_components.specs.Openings.{IsOpening, GivesOpening}
+use Rattle.cap_components.specs.Openings.{IsOpening}
 use Rattle.cap_package.specs.Parts.{Lent, held, HasEachOnce}
 use Rattle.cap_components.proofs.PartsLemmas.{held-other, held-same}
 use Rattle.cap_package.proofs.Given.{drop_here}
@@ -117,18 +116,6 @@ directory_same xs ys header directory =
         ≡ (h >>= λ items. read_part (directory_info items.format) 2 ys)
     by (Ok items) = part_same (directory_info items.format) 2 xs ys directory
     by (Err fault) = refl
-
--- what was read of the Header and the Directory is what was read of the same two in another list
-opening_same : (xs ys : List Lent) (opening : Result Opening PackFault) → held xs 1 ≡ held ys 1 → held xs 2 ≡ held ys 2
-    → GivesOpening ys opening → GivesOpening xs opening
-unfolding info_in
-opening_same xs ys (Ok o) header directory is = record {
-  header = part_same header_info 1 xs ys header ∙ is.header;
-  directory = part_same (directory_info (header_items o.header).format) 2 xs ys directory ∙ is.directory;
-  header_bytes = ap (framed 1) header ∙ is.header_bytes;
-  directory_bytes = ap (framed 2) directory ∙ is.directory_bytes;
-}
-opening_same xs ys (Err fault) header directory is = directory_same xs ys header directory ∙ is
 
 -- the Directory that was read is the one of the parts
 opening_directory : (parts : List Lent) (o : Opening) → IsOpening parts o → read_directory parts ≡ Ok (directory_items o.directory)
@@ -290,12 +277,6 @@ kept_more before dir tag first parts more from kept added = (
 pub kept_asked : (tag : ℕ) (first parts : List Lent) → Kept first parts → is_asked parts tag ≡ is_asked first tag
 kept_asked tag first parts kept = asked_by tag parts first kept.0 kept.1
 
--- what was read of the first parts is what is read of all
-pub lent_opening : (before : Folders) (dir : List ℕ) (first rest parts : List Lent) (opening : Result Opening PackFault) → AreRest before dir first rest
-    → parts ≡ first ++ rest → GivesOpening first opening → GivesOpening parts opening
-lent_opening before dir first rest parts opening loaded all gives =
-    subst (λ ps. GivesOpening ps opening) (sym all) (opening_same (first ++ rest) first opening loaded.header loaded.directory gives)
-
 -- tags that rise are each once
 pub rise_once : (low top : ℕ) (parts : List Lent) → Rise low top parts → HasEachOnce parts
 rise_once low top [] rise = tt {0}
@@ -368,19 +349,6 @@ unnamed : (customs : List Custom) (tag : ℕ) → length customs ≡ 0 → custo
 unnamed [] tag none = refl
 unnamed (custom ∷ customs) tag none = absurd cc
 
-unsized : (directory : DirectoryItems) (tag : ℕ) → 13 ≤ tag → length directory.customs ≡ 0 → is_some_size (size_in directory tag) ≡ false
-unsized directory tag from none =
-    let above : leb tag 12 ≡ false = lt-leb tag 12 (omega (arith, from)) in
-    rw (above, and-false (leb 1 tag), unnamed directory.customs tag none) refl
-
--- where there is no custom component, none after Debug has a size
-pub ends_sized : (directory : DirectoryItems) → length directory.customs ≡ 0 → EndsSized directory 13
-ends_sized directory none = record { low = omega arith; high = omega arith; none = λ tag from below. unsized directory tag from none }
-
--- no component has a tag beyond a byte
-pub ends_bytes : (directory : DirectoryItems) → EndsSized directory 256
-ends_bytes directory = record { low = omega arith; high = omega arith; none = λ tag from below. absurd (omega (arith, from, below)) }
-
 pub unrequired : (tag : ℕ) → 13 ≤ tag → is_required tag ≡ false
 unrequired tag from =
     let low : leb tag 2 ≡ false = lt-leb tag 2 (omega (arith, from)) in
@@ -407,11 +375,6 @@ ends_read parts o top is = ends_asked parts (directory_items o.directory) top (o
 pub sized_read : (parts : List Lent) (o : Opening) (tag : ℕ) → IsOpening parts o
     → is_sized (read_directory parts) tag ≡ is_some_size (size_in (directory_items o.directory) tag)
 sized_read parts o tag is = ap (λ d. is_sized d tag) (opening_directory parts o is)
-
--- where no sizes are told
-pub ends_untold : (parts : List Lent) (fault : PackFault) → read_directory parts ≡ Err fault → EndsAsked parts 13
-ends_untold parts fault read =
-    record { low = omega arith; high = omega arith; none = λ tag from below. unasked parts tag from (ap (λ d. is_sized d tag) read) }
 
 -- ---- a folder that tells has one list of parts
 

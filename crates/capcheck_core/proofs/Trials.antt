@@ -24,21 +24,8 @@ use Rattle.capcheck_core.specs.declared.verdict.Verdict.TheVariants.{Done, Refus
 use Rattle.capcheck_core.specs.Defend.{method_entered, fault_of, run_fault, IsDefended}
 use Rattle.capcheck_core.specs.Outside.{CardWords}
 use Rattle.capcheck_core.specs.Run.{with_budget, IsRun, RunsWorldIn}
-use Rattle.capcheck_core.specs.Transform.{StopsBefore}
-use Rattle.capcheck_core.specs.Trial.{steps_each, HasNew, IsDoneOrMemory, IsTried, IsUntriedKept, TriesIn}
+use Rattle.capcheck_core.specs.Trial.{steps_each, HasNew, IsDoneOrMemory, IsTried, IsUntriedKept}
 use Rattle.capcheck_core.proofs.WorldComplete.{one_package}
-
--- what is not made is not tried
-pub untried : (packages : List PackageRecord) (roles : List ℕ) (w : Linked) (r : RunRequest) (c : CardWords) (verdict : Verdict)
-    → StopsBefore packages w verdict → TriesIn packages roles w r c verdict
-untried packages roles w r c (Done text) stops = absurd stops
-untried packages roles w r c (Malformed text) stops = absurd stops
-untried packages roles w r c (Refused text) stops = stops
-untried packages roles w r c (Limit text) stops = stops
-untried packages roles w r c Usage stops = absurd stops
-untried packages roles w r c ReadFault stops = absurd stops
-untried packages roles w r c StoreFault stops = absurd stops
-untried packages roles w r c Memory stops = stops
 
 module _ (packages : List PackageRecord) (roles : List ℕ) (w : Linked) (parts : List Lent) (t : IsTransformed packages roles w parts) where
   pub have : HavePackage parts

@@ -2,7 +2,7 @@
 use Rattle.std.proofs.Common.{count_by, ◌≡◌, ◌⊎◌, ℕ, ◌+◌, ◌<◌, ◌≤◌, Bool, true, false, List, length, take, drop, Option, Some, None}
 use Rattle.std.proofs.Common.{option_map, slice_get, refl, sym, ap, subst, ◌∙◌, inl, inr, arith, true≢false}
 use Rattle.std.specs.Prelude.{IsSomeAnd, codes, ◌==◌, nat_lt}
-use Rattle.std.proofs.lemmas.Bool.{eq-eqb, eqb-true, lt-ltb, ltb-true, and_parts}
+use Rattle.std.proofs.lemmas.Bool.{eq-eqb, eqb-true, lt-ltb, and_parts}
 use Rattle.std.proofs.lemmas.List.{length-take, take_all}
 use Rattle.std.proofs.lemmas.List.Sums.{count_by_more_yes, count_by_more_no}
 use Rattle.std.specs.Int.{from_bool}
@@ -60,13 +60,6 @@ none_at w n fails = λ m of_last e.
     let test : Some (is_of_last (length w.infos) m.rec) ≡ Some false = sym (ap (option_map (is_of_last (length w.infos))) at) ∙ fails in
     absurd (true≢false (sym (of_last_passes w m of_last) ∙ (cc)))
 
--- one that passes it has code
-pub some_code : (packages : ℕ) (o : Option MethodRec) → option_map (is_of_last packages) o ≡ Some true → IsSomeAnd o (λ m. 0 < m.code_len)
-some_code packages None e = absurd cc
-some_code packages (Some rec) e =
-    let test : is_of_last packages rec ≡ true = cc in
-    ltb-true 0 rec.code_len (and_parts (rec.package + 1 == packages) (nat_lt 0 rec.code_len) test).1
-
 failed : (w : Linked) (n : ℕ) (end : FlowEnd) (o : Option MethodRec) → slice_get w.methods n ≡ o → option_map (is_of_last (length w.infos)) o
     ≡ Some true
     → IsSomeAnd (option_map (method_with w n) o) (IsMethodOf w) → IsSomeAnd (option_map (method_with w n) o) (λ m. LacksTyping w m end)
@@ -85,12 +78,6 @@ failed w n end (Some rec) at e is none tells =
       none = none;
       tells = tells;
     }
-
--- the end says why no typing of the method of a number was found
-pub fails_at : (w : Linked) (n : ℕ) (end : FlowEnd) → option_map (is_of_last (length w.infos)) (slice_get w.methods n) ≡ Some true
-    → IsSomeAnd (method_in w n) (IsMethodOf w) → IsSomeAnd (method_in w n) (λ m. LacksTyping w m end)
-    → IsSomeAnd (method_in w n) (λ m. TellsEnd w m end) → FailsMethod w n end
-fails_at w n end e is none tells = failed w n end (slice_get w.methods n) refl e is none tells
 
 -- ---- all of them
 

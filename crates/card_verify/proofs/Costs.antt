@@ -1,6 +1,6 @@
 -- Sums and products in which steps are counted.
 use Rattle.std.proofs.Common.{◌≡◌, ℕ, zero, suc, ◌+◌, ◌*◌, ◌<◌, ◌≤◌, List, [], ◌∷◌, ◌++◌, length, sum_by, Result, Ok, Err}
-use Rattle.std.proofs.Common.{OnOk, refl, sym, ap, ◌∙◌, arith}
+use Rattle.std.proofs.Common.{OnOk, sym, ap, ◌∙◌, arith}
 use Rattle.std.proofs.Math.Nat.{mul_assoc, mul-suc, suc-mul}
 use Rattle.std.proofs.lemmas.List.{length-append}
 use Rattle.std.proofs.lemmas.List.Sums.{sum_by-append, sum_by-cons}

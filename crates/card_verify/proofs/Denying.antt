@@ -1,5 +1,5 @@
 -- What a refusal over an index says of card typings.
-use Rattle.std.proofs.Common.{◌≡◌, ℕ, ⊎_elim, inl, inr, List, get_or, All, Contains, arith}
+use Rattle.std.proofs.Common.{ℕ, ⊎_elim, inl, inr, List, get_or, All, Contains, arith}
 use Rattle.std.specs.Prelude.{pos}
 use Rattle.std.proofs.lemmas.Option.{slice_get-get_or}
 use Rattle.jc_base.specs.Index.{IsAscending}

@@ -1,6 +1,6 @@
 -- A search by halving in an ascending list.
-use Rattle.std.proofs.Common.{◌≡◌, ℕ, zero, suc, ◌+◌, ◌-◌, ◌*◌, ◌/◌, ◌^◌, ◌<◌, ◌≤◌, ⊎_elim, Bool, true, false, List, []}
-use Rattle.std.proofs.Common.{◌∷◌, length, get_or, Option, Some, None, MatchBool, Contains, slice_get, refl, sym, ap, subst, ◌∙◌, arith}
+use Rattle.std.proofs.Common.{◌≡◌, ℕ, zero, suc, ◌+◌, ◌-◌, ◌*◌, ◌/◌, ◌^◌, ◌<◌, ◌≤◌, ⊎_elim, List, []}
+use Rattle.std.proofs.Common.{length, get_or, Option, Some, None, Contains, slice_get, sym, ap, ◌∙◌, arith}
 use Rattle.std.proofs.Math.Nat.{mul_assoc, suc-mul, pow-succ'}
 use Rattle.std.proofs.Math.Pow.{pow_mono}
 use Rattle.std.proofs.lemmas.Bool.{cases_lt}
@@ -35,9 +35,6 @@ pub record IsNarrowed (index : List ℕ) (place low high taken : ℕ) : Type 0 w
   pub above : (k q : ℕ) → high ≤ k → slice_get index k ≡ Some q → place < q
   pub fewer : (high - low) * 2 ^ taken ≤ length index
   pub seldom : (b : ℕ) → length index < 2 ^ b → taken ≤ b
-
-one-power : (n : ℕ) → n * 2 ^ 0 ≡ n
-one-power n = omega arith
 
 pub narrowed-first : (index : List ℕ) (place : ℕ) → IsNarrowed index place 0 (length index) 0
 narrowed-first index place = record {
@@ -104,9 +101,6 @@ module _ (index : List ℕ) (up : IsAscending index) (place low high taken middl
     seldom = seldom-next;
   }
 
-pub contains-found : (index : List ℕ) (middle found place : ℕ) → slice_get index middle ≡ Some found → found ≡ place → Contains index place
-contains-found index middle found place at same = (middle, slice_get_within index middle found at, get_or_from_slice_get index middle found place at ∙ same)
-
 -- ---- the least place that is not below
 
 pub found-least : (index : List ℕ) → IsAscending index → (middle found place : ℕ) → slice_get index middle ≡ Some found → found ≡ place
@@ -139,14 +133,6 @@ narrowed-least index up place low high taken (Some b) so_far over e = (
       let own : b ≡ q = same_Some b q (sym e ∙ ap (slice_get index) same ∙ there) in
       omega (arith, own)) (cases_lt high c.0)) (cases_lt c.0 high),
 )
-
--- past the last entry there is none
-pub past-end : (index : List ℕ) (n : ℕ) → n ≡ length index → slice_get index n ≡ None
-past-end index n e = by (slice_get index n) refl
-  where
-    by : (o : Option ℕ) → slice_get index n ≡ o → slice_get index n ≡ None
-    by None is = is
-    by (Some q) is = absurd (omega (arith, slice_get_within index n q is, e))
 
 -- what is not below and not equal is above
 pub above-from : (a b c : ℕ) → a ≡ c → ¬ (a ≡ b) → b ≤ a → b < c

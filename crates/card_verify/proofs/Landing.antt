@@ -33,10 +33,6 @@ pub when-false : (P : Type 0) (b : Bool) → MatchBool b P (¬ P) → b ≡ fals
 when-false P true h e = absurd (false≢true (sym e))
 when-false P false h e = h
 
--- a cell that is put alone
-pub put-none : (stack : List Ty) (ty : Ty) → length stack ≡ 0 → IsPut stack ty stack 0
-put-none stack ty e = inl (e, refl)
-
 pub put-one : (stack : List Ty) (ty : Ty) → (length stack == 0) ≡ false → IsPut stack ty (set stack 0 ty) 1
 unfolding cells
 put-one [] ty e = absurd (false≢true (sym e))

@@ -92,9 +92,6 @@ led-all m from is best e h = subst (λ (ps : List Placed). IsLeastFrom (IsTarget
 abbrev pub EntryBelow : List Handler → ℕ → ℕ → Type 0
 EntryBelow hs n q = (k : ℕ) × (k < n) × (h : Handler) × (slice_get hs k ≡ Some h) × (h.entry ≡ q)
 
-pub entry-none : (hs : List Handler) (from : ℕ) → IsLeastFrom (EntryBelow hs 0) from None
-entry-none hs from = λ q e. absurd (omega (arith, e.1))
-
 some-entry : (g h : Handler) (o : Option Handler) → o ≡ Some g → o ≡ Some h → g ≡ h
 some-entry g h o e f = cc
 

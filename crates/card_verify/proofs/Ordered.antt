@@ -4,7 +4,7 @@ use Rattle.std.proofs.Common.{length, get_or, All, Some, slice_get, refl, sym, a
 use Rattle.std.proofs.lemmas.Bool.{cases_lt}
 use Rattle.std.proofs.lemmas.List.{append-nil}
 use Rattle.std.proofs.lemmas.List.Elements.{Contains-push_cases}
-use Rattle.std.proofs.lemmas.Option.{slice_get_within, slice_get-get_or, get_or_from_slice_get, same_Some}
+use Rattle.std.proofs.lemmas.Option.{slice_get_within, slice_get-get_or, same_Some}
 use Rattle.jc_base.specs.Index.{IsAscending}
 use Rattle.jc_base.proofs.Lists.{slice_get-farther}
 use Rattle.jc_decode.specs.declared.insn.Placed.{Placed}
@@ -134,9 +134,6 @@ pub record IsSeeking (place : ℕ) (before left : List Placed) : Type 0 where
   pub passed : List Placed
   pub whole : before ≡ passed ++ left
   pub none : HasNone place passed
-
-pub seeking-first : (place : ℕ) (before : List Placed) → IsSeeking place before before
-seeking-first place before = record { passed = []; whole = refl; none = λ i c e. absurd (omega (arith, c.1)) }
 
 module _ (place : ℕ) (before left : List Placed) (i : Placed) (after : List Placed) (is : IsSeeking place before left) (step : left ≡ i ∷ after) where
   pub seeking-found : i.place ≡ place → IsSought place before after

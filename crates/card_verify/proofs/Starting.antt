@@ -29,10 +29,6 @@ start-static r x e =
     ap (λ (b : Bool). get_or ((if b then [] else Class r.class ∷ []) ++ r.sig.args ++ replicate r.max_locals Bottom) x Bottom) e
     ∙ argument-or r.sig.args r.max_locals x
 
--- those of any other: the receiver, and then the arguments
-pub start-receiver : (r : MethodRec) → r.is_static ≡ false → get_or (start_frame r Bottom).regs 0 Bottom ≡ Class r.class
-start-receiver r e = ap (λ (b : Bool). get_or ((if b then [] else Class r.class ∷ []) ++ r.sig.args ++ replicate r.max_locals Bottom) 0 Bottom) e
-
 pub start-argument : (r : MethodRec) (x : ℕ) → r.is_static ≡ false → ¬ (x ≡ 0) → get_or (start_frame r Bottom).regs x Bottom
     ≡ get_or r.sig.args (x - 1) Bottom
 start-argument r zero e other = absurd (other refl)

@@ -1,5 +1,5 @@
 -- A method whose registers have risen takes two passes at the least.
-use Rattle.std.proofs.Common.{◌≡◌, ◌≢◌, ℕ, zero, suc, ◌+◌, ◌*◌, ◌≤◌, List, length, Contains, refl, sym, ◌∙◌, ap, subst, arith}
+use Rattle.std.proofs.Common.{◌≡◌, ℕ, zero, suc, ◌+◌, ◌*◌, ◌≤◌, List, length, Contains, refl, ◌∙◌, ap, subst, arith}
 use Rattle.std.proofs.Math.Nat.{suc-mul}
 use Rattle.jc_base.specs.declared.ty.Ty.{Ty}
 use Rattle.jc_base.specs.declared.ty.Ty.TheVariants.{Bottom}
@@ -12,7 +12,6 @@ use Rattle.card_typing.specs.Met.{IsMetAfter, met_start, met_next}
 use Rattle.card_typing.specs.Pass.{HasAfterPasses, IsPassCount}
 use Rattle.card_typing.proofs.OneRefusal.{met-is-one}
 use Rattle.card_verify.specs.Counted.{instruction_count}
-use Rattle.card_verify.specs.Bound.{AreCounted}
 use Rattle.card_verify.specs.OverIndex.{RaisedTakesTwo}
 
 module _ (w : Linked) (m : Method) (marked : ℕ → Type 0) where

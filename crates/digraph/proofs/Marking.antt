@@ -14,9 +14,6 @@ use Rattle.digraph.proofs.Leading.{leads-more}
 nothing-in : (v : ℕ) → Contains [] v → ⊥
 nothing-in v c = let l : c.0 < 0 = c.1 in omega arith
 
-single-is : (v u : ℕ) → Contains (v ∷ []) u → v ≡ u
-single-is v u c = elim (Contains-push_cases [] v u c) [ inl none ↦ absurd (nothing-in u none) | inr is ↦ is ]
-
 pub marked-inside : (marks : List Bool) (v : ℕ) → IsMarked marks v → v < length marks
 marked-inside marks v h = elim (cases_lt v (length marks)) [
   | inl inside ↦ inside
@@ -30,17 +27,6 @@ marked-none n v h = elim (cases_lt v n) [
 ]
 
 -- ---- one vertex
-
-pub marks-had : (v : ℕ) (marks : List Bool) (pending : List ℕ) → IsMarked marks v → Marks (v ∷ []) marks pending marks pending
-marks-had v marks pending had = record {
-  lengths = refl;
-  as_many = refl;
-  kept = λ u h. h;
-  all = All-cons (IsMarked marks) v [] had (All-nil (IsMarked marks));
-  only = λ u h. inl h;
-  waits = λ u h. h;
-  fresh = λ u h. inl h;
-}
 
 pub marks-set : (v : ℕ) (marks : List Bool) (pending : List ℕ) → v < length marks → slice_index_or marks v false ≡ false
     → Marks (v ∷ []) marks pending (set marks v true) (pending ++ v ∷ [])
@@ -78,17 +64,6 @@ marks-set v marks pending inside had = record {
 
 -- ---- several
 
-pub marks-nothing : (marks : List Bool) (pending : List ℕ) → Marks [] marks pending marks pending
-marks-nothing marks pending = record {
-  lengths = refl;
-  as_many = refl;
-  kept = λ u h. h;
-  all = All-nil (IsMarked marks);
-  only = λ u h. inl h;
-  waits = λ u h. h;
-  fresh = λ u h. inl h;
-}
-
 pub marks-append :
     (vs us : List ℕ) (m1 m2 m3 : List Bool) (p1 p2 p3 : List ℕ)
     → Marks vs m1 p1 m2 p2 → Marks us m2 p2 m3 p3 → Marks (vs ++ us) m1 p1 m3 p3
@@ -105,16 +80,6 @@ marks-append vs us m1 m2 m3 p1 p2 p3 a b = record {
 }
 
 -- ---- the search
-
-pub search-begins : (g : List (List ℕ)) (from : ℕ) → IsSearch g from (replicate (length g) false) (from ∷ [])
-search-begins g from = record {
-  lengths = length-replicate (length g) false;
-  sound = λ v h. absurd (marked-none (length g) v h);
-  met = λ v h. inl (single-is from v h);
-  closed = λ v h. ⊎_elim
-      (λ is. inl (subst (Contains (from ∷ [])) is (Contains-push [] from)))
-      (λ marked. absurd (marked-none (length g) v marked)) h;
-}
 
 pub search-goes :
     (g : List (List ℕ)) (from v : ℕ) (marks marked : List Bool) (rest waiting : List ℕ)

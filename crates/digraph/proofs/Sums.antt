@@ -6,10 +6,10 @@ use Rattle.std.proofs.lemmas.Bool.{cases_eq, cases_lt}
 use Rattle.std.proofs.lemmas.List.{get_or-replicate, get_or_past, length-replicate, get_or-set_same, get_or-set_other}
 use Rattle.std.proofs.lemmas.Option.{same_Some, none-some}
 use Rattle.std.proofs.lemmas.List.Elements.{Contains-push_cases, Contains-push, Contains-append_left}
-use Rattle.std.proofs.lemmas.List.Sums.{sum_by-set, sum_by-cons}
+use Rattle.std.proofs.lemmas.List.Sums.{sum_by-cons}
 use Rattle.digraph.specs.Way.{Way, way_ends, way_goes, total, IsGreatest}
 use Rattle.digraph.specs.Graph.{next, Edge, weight_of}
-use Rattle.digraph.specs.Settled.{known_at, one_if_none, unknown, settled, IsTable, IsMostOf}
+use Rattle.digraph.specs.Settled.{known_at, settled, IsTable, IsMostOf}
 
 -- ---- what is settled
 
@@ -37,13 +37,6 @@ none-known n v b e = elim (cases_lt v n) [
   | inl inside ↦ none-some b (sym (get_or-replicate n v nothing nothing inside) ∙ e)
   | inr past ↦ none-some b (sym (get_or_past (replicate n nothing) v nothing (omega (arith, length-replicate n nothing))) ∙ e)
 ]
-
-pub table-begins : (g : List (List ℕ)) (ws : List ℕ) → IsTable g ws (replicate (length g) None)
-table-begins g ws = record {
-  lengths = length-replicate (length g) None;
-  greatest = λ v b e. absurd (none-known (length g) v b e);
-  bounded = λ v b e. absurd (none-known (length g) v b e);
-}
 
 -- ---- one more vertex
 
@@ -119,15 +112,7 @@ sum-fits g ws known v best table inside sized is most =
     let l = later.bounded v (weight_of ws v + best) here in
     let m = settled-most (set known v (Some (weight_of ws v + best))) ws in omega arith
 
-pub unknown-falls : (known : List (Option ℕ)) (v b : ℕ) → v < length known → known_at known v ≡ None → unknown (set known v (Some b)) < unknown known
-unknown-falls known v b inside is =
-    let s = sum_by-set one_if_none known v (Some b) None inside in
-    let o : one_if_none (known_at known v) ≡ 1 = ap one_if_none is in omega (arith, s, o)
-
 -- ---- the greatest of several
-
-most-nothing : (known : List (Option ℕ)) → IsMostOf known [] 0
-most-nothing known = record { each = λ v c. let l : c.0 < 0 = c.1 in absurd (omega arith); some = inl refl }
 
 at-most : (o : Option ℕ) (a b : ℕ) → a ≤ b → IsSomeAnd o (λ n. n ≤ a) → IsSomeAnd o (λ n. n ≤ b)
 at-most None a b l h = h

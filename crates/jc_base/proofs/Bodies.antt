@@ -5,12 +5,11 @@ use Rattle.std.proofs.lemmas.Bool.Decides.{nat_tests, eqb_tells}
 use Rattle.std.proofs.lemmas.Bool.{true≢false}
 use Rattle.std.proofs.lemmas.List.Elements.{All-get_or, All-more}
 use Rattle.std.proofs.lemmas.List.{take_all, get_or_default, get_or-set_same, get_or-set_other}
-use Rattle.std.proofs.lemmas.Option.{slice_get_within}
 use Rattle.jc_base.proofs.Climbs.{chain-front}
 use Rattle.jc_base.specs.declared.record.ClassRec.{ClassRec}
 use Rattle.jc_base.specs.declared.record.MethodRec.{MethodRec}
 use Rattle.jc_base.specs.Class.{ClassTable, IsNextOnChain, IsEndOfChain, chain, list_of}
-use Rattle.jc_base.specs.Linked.{AreLinkedClasses, IsLinkedClass, IsInherited}
+use Rattle.jc_base.specs.Linked.{AreLinkedClasses, IsLinkedClass}
 use Rattle.jc_base.specs.Dispatch.{HasBody, package_of, visible_of, nearest_of, visible_in}
 
 same : (n : ℕ) → (n == n) ≡ true
@@ -156,12 +155,3 @@ pub linked_more : (p q : ℕ) (t : ClassTable) (methods : List MethodRec) → p 
 linked_more p q t methods le h c = linked_by p q t methods c (slice_get t.records c) le (h c)
 
 -- ---- entries of dispatch lists are numbers of methods
-
-in_methods : (methods : List MethodRec) (n : ℕ) (o : Option MethodRec) (P : MethodRec → Type 0) → slice_get methods n ≡ o → IsSomeAnd o P
-    → n < length methods
-in_methods methods n None P e h = absurd h
-in_methods methods n (Some m) P e h = slice_get_within methods n m e
-
-pub inside_methods : (t : ClassTable) (methods : List MethodRec) (c : ℕ) (list : List ℕ)
-    → All (λ n. IsSomeAnd (slice_get methods n) (IsInherited t c)) list → All (λ n. n < length methods) list
-inside_methods t methods c list all k d lt = in_methods methods (get_or list k d) (slice_get methods (get_or list k d)) (IsInherited t c) refl (all k d lt)

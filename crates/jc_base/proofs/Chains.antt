@@ -1,7 +1,7 @@
 -- What holds of chains of superclasses.
-use Rattle.std.proofs.Common.{◌≡◌, ℕ, zero, suc, ◌<◌, ◌⊎◌, inl, inr, Bool, true, false, List, [], ◌∷◌, length, Option, Some, None, refl}
+use Rattle.std.proofs.Common.{◌≡◌, ℕ, zero, suc, ◌<◌, false, List, [], ◌∷◌, length, Option, Some, None, refl}
 use Rattle.std.proofs.Common.{sym, ap, subst, ◌∙◌, arith}
-use Rattle.std.specs.Prelude.{All, IsTrue, IfSome, IfNone, slice_get}
+use Rattle.std.specs.Prelude.{All, IfSome, IfNone, slice_get}
 use Rattle.jc_base.specs.declared.record.ClassRec.{ClassRec}
 use Rattle.std.proofs.lemmas.List.Elements.{All-head, All-tail}
 use Rattle.jc_base.specs.Class.{ClassTable, IsClass, AreClasses, IsNextOnChain, IsEndOfChain, is_interface, parent_of, chain_over, chain, list_of, last, object}
@@ -109,7 +109,3 @@ parent_ends t c r are is e = ends_at t c r.parent are is (sym (parent_read t c r
 pub interface_read : (t : ClassTable) (c : ℕ) (r : ClassRec) → slice_get t.records c ≡ Some r → r.interface ≡ is_interface t c
 unfolding is_interface
 interface_read t c r e = rw e refl
-
-pub class_read : (t : ClassTable) (c : ℕ) (b : Bool) → c < length t.records → b ≡ is_interface t c → IsTrue b ⊎ IsClass t c
-class_read t c true h e = inl refl
-class_read t c false h e = inr (record { number = h; class = sym e })

@@ -101,9 +101,6 @@ common-nearest t are c d c_is d_is =
 pub meets_same : (t : ClassTable) (c : ℕ) → c ≡ common t c c
 meets_same t c = sym (common-is t c c c (first-here t (λ x. is_on_chain t x c) c (on_chain-here t c)))
 
-not_on_shorter : (t : ClassTable) → AreClasses t → (a b : ℕ) → length (chain t b) < length (chain t a) → is_on_chain t a b ≡ false
-not_on_shorter t are a b h = false_from_ne_true (is_on_chain t a b) (λ on. absurd (omega (arith, on_chain-length t are b a on)))
-
 common-with : (t : ClassTable) (a b c d : ℕ) → first_on t (λ x. is_on_chain t x b) a ≡ first_on t (λ x. is_on_chain t x d) c
     → common t a b ≡ common t c d
 unfolding common first_on

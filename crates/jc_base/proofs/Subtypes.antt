@@ -1,5 +1,5 @@
 -- The computed order is the order of types.
-use Rattle.std.proofs.Common.{◌≡◌, ℕ, inl, inr, true, false, refl, sym, subst}
+use Rattle.std.proofs.Common.{◌≡◌, ℕ, inl, inr, true, refl, sym, subst}
 use Rattle.std.specs.Prelude.{◌==◌, ◌↔◌, IsTrue}
 use Rattle.std.proofs.lemmas.Bool.{false≢true, eqb-true, eq-eqb, and_parts}
 use Rattle.jc_base.specs.declared.ty.Ty.{Ty}

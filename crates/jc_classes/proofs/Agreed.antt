@@ -25,7 +25,7 @@ use Rattle.jc_classes.specs.Layout.{instance_cells, layouts}
 use Rattle.jc_classes.specs.TableConditions.{hole_fault, entries_in, override_fault, replacements_in, interface_type_fault, implementations_in, long_fault}
 use Rattle.jc_classes.specs.TableConditions.{class_numbers, long_instances, conditions}
 use Rattle.jc_classes.specs.Tables.{records_from, class_tables, classes_agree, tables_of, TellsTableEnd}
-use Rattle.jc_classes.proofs.Folds.{cells_are, layout_at, layouts_count}
+use Rattle.jc_classes.proofs.Folds.{cells_are, layouts_count}
 use Rattle.jc_classes.proofs.ClassLines.{IsOutline, tables-classes, records-length}
 
 -- ---- no instance is too long

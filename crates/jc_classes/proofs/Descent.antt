@@ -33,9 +33,6 @@ pub record IsPlain (cs : List NamedClass) (c : ℕ) : Type 0 where
 outline-at : (cs : List NamedClass) (c : ℕ) (r : NamedClass) → slice_get cs c ≡ Some r → slice_get (map line_of cs) c ≡ Some (line_of r)
 outline-at cs c r e = slice_get-map line_of cs c ∙ ap (option_map line_of) e
 
-outline-past : (cs : List NamedClass) (c : ℕ) → slice_get cs c ≡ None → slice_get (map line_of cs) c ≡ None
-outline-past cs c e = slice_get-map line_of cs c ∙ ap (option_map line_of) e
-
 pub class-made : (cs : List NamedClass) (roles : List ℕ) (c : ℕ) → IsPlain cs c → IsClass (outline cs roles) c
 unfolding interface_in_table
 class-made cs roles c is =

@@ -37,9 +37,6 @@ contains_none c h = omega (arith, h.1)
 contains_one : (d c : ℕ) → Contains (d ∷ []) c → d ≡ c
 contains_one d c h = elim (Contains-push_cases [] d c h) [ inl none ↦ absurd (contains_none c none) | inr e ↦ e ]
 
-not_marked : (s : MarkedNumbers) (c : ℕ) → IsMarked s c → get_or s.marked c false ≡ false → ⊥
-not_marked s c h e = false≢true (sym e ∙ h)
-
 marked_none : (s : MarkedNumbers) → Marked [] s s
 marked_none s = record {
   size = refl;

@@ -83,9 +83,6 @@ rests-acyclic cs settled c r are count at all = false_from_ne_true (is_above cs 
 
 -- ---- one more class
 
-pub settled-none : (cs : List NamedClass) → AreSettled cs []
-settled-none cs = record { closed = λ interfaces d e h up. absurd (false≢true h) }
-
 stays_settled : (settled : List Bool) (b : Bool) (e : ℕ) → IsSettled settled e → IsSettled (settled ++ b ∷ []) e
 stays_settled settled b e h = elim (cases_lt e (length settled)) [
   | inl lt ↦ get_or_append_left settled (b ∷ []) false e lt ∙ h

@@ -4,7 +4,6 @@ use Rattle.std.specs.Prelude.{replicate}
 use Rattle.std.proofs.Math.ListN.{get_or, set}
 use Rattle.std.proofs.lemmas.Bool.{cases_eq, cases_lt}
 use Rattle.std.proofs.lemmas.List.{get_or-replicate, get_or_past, length-replicate, get_or-set_same, get_or-set_other}
-use Rattle.std.proofs.lemmas.Option.{none-some}
 use Rattle.jc_decode.specs.declared.insn.Insn.{Insn}
 use Rattle.jc_decode.specs.declared.insn.CodeEnd.{CodeEnd}
 use Rattle.jc_decode.specs.Decoding.{decoded}
@@ -17,9 +16,6 @@ none-held n place = elim (cases_lt place n) [
   | inl inside ↦ get_or-replicate n place None None inside
   | inr past ↦ get_or_past (replicate n None) place None (omega (arith, length-replicate {A = Option Insn} n None))
 ]
-
-pub decoded-none : (code : List ℕ) (n : ℕ) → AreDecoded code (replicate n None)
-decoded-none code n place i h = absurd (none-some i (sym (none-held n place) ∙ h))
 
 one-held : (r : Result Insn CodeEnd) (i j : Insn) (o : Option Insn) → r ≡ Ok i → o ≡ Some i → o ≡ Some j → r ≡ Ok j
 one-held r i j o h k l = cc

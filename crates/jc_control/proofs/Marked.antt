@@ -1,5 +1,5 @@
 -- Flags as the set of the flagged places.
-use Rattle.std.proofs.Common.{◌≡◌, ◌<◌, ◌≤◌, ◌⊎◌, inl, inr, ⊎_elim, ℕ, Bool, true, false, List, [], ◌∷◌, ◌++◌, length, sym}
+use Rattle.std.proofs.Common.{◌≡◌, ◌<◌, ◌⊎◌, inl, inr, ⊎_elim, ℕ, Bool, true, false, List, [], ◌∷◌, ◌++◌, length, sym}
 use Rattle.std.proofs.Common.{ap, ◌∙◌, subst, arith}
 use Rattle.std.specs.Prelude.{replicate}
 use Rattle.std.proofs.Math.ListN.{set}
@@ -9,7 +9,6 @@ use Rattle.std.proofs.lemmas.List.Elements.{Contains-append_left, Contains-push,
 use Rattle.jc_decode.specs.declared.insn.Placed.{Placed}
 use Rattle.jc_control.specs.Flags.{flag, IsFlagged, Marks}
 use Rattle.jc_decode.specs.Places.{BeginsIn}
-use Rattle.jc_decode.proofs.Elements.{nothing-in}
 
 pub flag-none : (n p : ℕ) → flag (replicate n false) p ≡ false
 flag-none n p = elim (cases_lt p n) [
@@ -40,13 +39,6 @@ flag-only fs p q h = elim (cases_eq q p) [
 ]
 
 -- ---- the places of instructions
-
-pub marks-none : (n : ℕ) → Marks (BeginsIn []) (replicate n false)
-marks-none n p = (λ e. absurd (false≢true (sym (flag-none n p) ∙ e)), λ b. absurd (nothing-in b.0 b.1))
-
--- flags that are all no mark nothing
-pub marks-clear : (fs : List Bool) (n : ℕ) → length fs ≤ n → ((p : ℕ) → p < n → IsFlagged fs p → ⊥) → Marks (BeginsIn []) fs
-marks-clear fs n all none p = (λ e. absurd (none p (let inside = flagged-inside fs p e in omega arith) e), λ b. absurd (nothing-in b.0 b.1))
 
 pub marks-more : (is : List Placed) (i : Placed) (fs : List Bool) → i.place < length fs → Marks (BeginsIn is) fs
     → Marks (BeginsIn (is ++ i ∷ [])) (set fs i.place true)

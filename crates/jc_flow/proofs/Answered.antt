@@ -1,15 +1,13 @@
 -- What is answered for a method of the world.
-use Rattle.std.proofs.Common.{◌≡◌, ℕ, ◌<◌, ◌≤◌, List, length, Option, Some, option_map, IsSomeAnd, slice_get, sym, ◌∙◌, ap, subst}
+use Rattle.std.proofs.Common.{◌≡◌, ℕ, ◌<◌, ◌≤◌, List, length, Option, IsSomeAnd, slice_get, sym, ◌∙◌, ap, subst}
 use Rattle.std.proofs.Common.{arith, length-take}
-use Rattle.std.proofs.lemmas.Option.{slice_get_within, same_Some}
+use Rattle.std.proofs.lemmas.Option.{slice_get_within}
 use Rattle.jc_base.specs.declared.ty.Ty.TheVariants.{Top, Bottom}
-use Rattle.jc_base.specs.declared.record.MethodRec.{MethodRec}
 use Rattle.jc_base.specs.Linked.{lacks_code}
-use Rattle.jc_base.specs.World.{Linked, code_of}
-use Rattle.jc_base.proofs.Lists.{IsSomeAnd-from}
+use Rattle.jc_base.specs.World.{Linked}
 use Rattle.jc_base.proofs.CodeLengths.{length-short}
 use Rattle.jc_rules.specs.FlowLaws.{AreRules, TopIsBottom}
-use Rattle.jc_control.specs.Method.{Method, IsMethodOf, method_in, method_with}
+use Rattle.jc_control.specs.Method.{Method, IsMethodOf}
 use Rattle.jc_rules.specs.Demand.{Frame}
 use Rattle.jc_rules.specs.Flow.{HasFlowTyping, IsLeastTyping}
 use Rattle.jc_control.specs.declared.flaw.Flaw.{Flaw}
@@ -19,7 +17,7 @@ use Rattle.jc_control.specs.declared.flaw.ControlEnd.TheVariants.{Flawed, Memory
 use Rattle.jc_control.specs.Flaw.{IsFirstFlaw}
 use Rattle.jc_control.specs.ControlFlow.{TellsFlaw}
 use Rattle.jc_control.specs.Laws.{FlawsDecide}
-use Rattle.jc_flow.proofs.Derived.{some_to, some_at, some_map, of_world}
+use Rattle.jc_flow.proofs.Derived.{some_to, some_map, of_world}
 use Rattle.jc_flow.specs.declared.end.FlowEnd.{FlowEnd}
 use Rattle.jc_flow.specs.declared.end.FlowEnd.TheVariants.{NoTyping, Code, BadTarget, FallsOff, BadHandler, Memory}
 use Rattle.jc_flow.specs.Fails.{IsFailure}

@@ -11,7 +11,7 @@ use Rattle.jc_base.specs.Class.{ClassTable}
 use Rattle.jc_base.specs.Cell.{IsDeclared}
 use Rattle.jc_base.specs.Linked.{IsMethod, IsCodeLength, lacks_code, list_at}
 use Rattle.jc_resolve.specs.Named as named
-use Rattle.jc_resolve.specs.Named.{AreNamed, IsNamedMethod, HandlerLiesIn, infos_of}
+use Rattle.jc_resolve.specs.Named.{AreNamed, IsNamedMethod, infos_of}
 use Rattle.jc_resolve.specs.NamedClasses.{named_classes}
 use Rattle.jc_resolve.specs.NamedMethods.{named_method, named_methods, have_headers}
 use Rattle.jc_resolve.specs.Numbering.{NumberedMethod, numbered_classes, numbered_methods}

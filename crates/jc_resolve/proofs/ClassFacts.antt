@@ -12,7 +12,7 @@ use Rattle.jc_base.specs.declared.record.Iface.{Iface}
 use Rattle.cap_bytes.specs.declared.class_reference.ClassReference.{ClassReference}
 use Rattle.cap_bytes.specs.ClassReference.{reference_of}
 use Rattle.cap_class.specs.ClassFormat as format
-use Rattle.cap_class.specs.ClassFormat.{Class, Interface}
+use Rattle.cap_class.specs.ClassFormat.{Interface}
 use Rattle.cap_desc.specs.DescriptorFormat.{FieldDescriptor}
 use Rattle.cap_frame.specs.PackageFormat.{Package}
 use Rattle.cap_package.specs.Descriptions.{Description, field_type}

@@ -1,20 +1,15 @@
 -- Lemmas on lists of demands, met one after another.
 use Rattle.std.proofs.Common.{◌≡◌, ℕ, ◌+◌, ◌<◌, List, [], ◌∷◌, ◌++◌, ◌-◌, ◌∙◌, ap, reverse, zero, suc, ◌≤◌, length}
-use Rattle.std.proofs.Common.{get_or, drop, subst, sym, arith, Result, Ok, Err, MatchResult, Option, Some, IsSomeAnd}
+use Rattle.std.proofs.Common.{get_or, drop, subst, sym, arith, Result, Ok, Err, MatchResult}
 use Rattle.std.proofs.lemmas.List.{drop_more, drop_all, length-reverse, get_or-reverse}
 use Rattle.jc_base.specs.declared.ty.Ty.{Ty}
 use Rattle.jc_base.specs.Class.{ClassTable}
-use Rattle.jc_base.specs.Order.{same}
 use Rattle.jc_ops.specs.declared.fault.RuleFault.{RuleFault}
 use Rattle.jc_rules.specs.declared.demand.Demand.{Demand}
 use Rattle.jc_rules.specs.declared.demand.Demand.TheVariants.{Cell}
 use Rattle.jc_ops.specs.declared.want.Want.TheVariants.{Value}
 use Rattle.jc_rules.specs.Rule.{cells_wanted}
-use Rattle.jc_rules.specs.Demand.{Frame, Meets, Satisfies, SatisfiesAll, IsFirstUnmet, here, later, demand_fault, IsKnownDemand, AreKnownDemands}
-
--- the very type that is wanted is as wanted
-pub meets-itself : (t : ClassTable) (found : Option Ty) (ty : Ty) → found ≡ Some ty → IsSomeAnd found (Meets t (Value ty))
-meets-itself t found ty e = subst (λ o. IsSomeAnd o (Meets t (Value ty))) (sym e) same
+use Rattle.jc_rules.specs.Demand.{Frame, Satisfies, SatisfiesAll, IsFirstUnmet, here, later, demand_fault, IsKnownDemand, AreKnownDemands}
 
 -- what breaks the rest of the demands breaks them all
 abbrev pub Carries : ClassTable → Frame → List Demand → ℕ → Type 0
@@ -75,9 +70,6 @@ pub record Wanted (t : ClassTable) (f : Frame) (tys : List Ty) (n : ℕ) : Type 
   pub all : SatisfiesAll t f (cells_wanted n (drop n tys)) → SatisfiesAll t f (cells_wanted 0 tys)
   pub breaks : (fault : RuleFault) → IsFirstUnmet t f (cells_wanted n (drop n tys)) fault → IsFirstUnmet t f (cells_wanted 0 tys) fault
 
-pub Wanted-start : (t : ClassTable) (f : Frame) (tys : List Ty) → Wanted t f tys 0
-Wanted-start t f tys = record { all = λ h. h; breaks = λ fault b. b }
-
 module _ (t : ClassTable) (f : Frame) (args : List Ty) (n : ℕ) (d : Ty) (inside : n < length args) where
   wanted-step : cells_wanted n (drop n (reverse args)) ≡ Cell n (Value (get_or args (length args - 1 - n) d)) ∷ cells_wanted (n + 1)
       (drop (n + 1) (reverse args))
@@ -94,11 +86,6 @@ module _ (t : ClassTable) (f : Frame) (args : List Ty) (n : ℕ) (d : Ty) (insid
     all = λ k. w.all (subst (SatisfiesAll t f) (sym wanted-step) (h, k));
     breaks = λ fault b. w.breaks fault (subst (λ es. IsFirstUnmet t f es fault) (sym wanted-step) (later h b));
   }
-
-pub Wanted-end : (t : ClassTable) (f : Frame) (args : List Ty) (n : ℕ) → length args ≤ n → Wanted t f (reverse args) n
-    → SatisfiesAll t f (cells_wanted 0 (reverse args))
-Wanted-end t f args n h w =
-    w.all (subst (λ es. SatisfiesAll t f (cells_wanted n es)) (sym (drop_all n (reverse args) (subst (λ k. k ≤ n) (sym (length-reverse args)) h))) tt)
 
 pub SatisfiesAll-front : (t : ClassTable) (f : Frame) (ds es : List Demand) → SatisfiesAll t f (ds ++ es) → SatisfiesAll t f ds
 SatisfiesAll-front t f [] es h = tt

@@ -4,7 +4,7 @@ use Rattle.std.proofs.Common.{set, Option, Some, None, IsSomeAnd, IfSome, slice_
 use Rattle.std.specs.Bool.{⊤}
 use Rattle.jc_base.specs.declared.ty.Ty.{Ty}
 use Rattle.jc_base.specs.declared.ty.Ty.TheVariants.{Bottom, Short, IntHigh, IntLow, Null, Class, ArrBool, ArrByte, ArrShort, ArrInt, ArrRef, Fresh, Top}
-use Rattle.jc_base.specs.Class.{ClassTable, object}
+use Rattle.jc_base.specs.Class.{ClassTable}
 use Rattle.jc_base.specs.Laws.{IsOrderOfTypes}
 use Rattle.jc_base.specs.Order.{Below, same, joined, nothing, anything, null_object, null_array, subclass, array_object, array_array, of_booleans, of_bytes}
 use Rattle.jc_base.specs.Order.{of_shorts, of_ints, of_references, is_below}
@@ -24,7 +24,6 @@ use Rattle.jc_rules.specs.declared.effect.Mode.TheVariants.{Card, Flow}
 use Rattle.jc_rules.specs.Effect.{in_stack_order, ready, changed, reg, IsStoredOver, WritesRegister, WritesCells, StoresInRegisters}
 use Rattle.jc_rules.specs.Demand.{Frame, IsArrayOrNull, IsHalf, IsFreshOf, Meets, Satisfies, SatisfiesAll}
 use Rattle.jc_rules.specs.Rule.{or_null, element, ready_with}
-use Rattle.jc_rules.specs.Rule.{demands, effect}
 use Rattle.jc_rules.specs.Flow.{CellsBelow, no_cells, more_cells, IsNotTop, IsNotFresh}
 use Rattle.jc_rules.specs.Laws.{IsNotBottom}
 use Rattle.jc_rules.proofs.CellLists.{Each, each-at, PairAt, cells-at, cells-length, cells-same, cells-append, cells-take, cells-drop}

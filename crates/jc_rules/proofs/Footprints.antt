@@ -1,5 +1,5 @@
 -- What an operation asks and leaves, as numbers.
-use Rattle.std.proofs.Common.{◌≡◌, ℕ, zero, suc, ◌+◌, ◌-◌, ◌<◌, ◌≤◌, ◌==◌, ◌⊎◌, inl, inr, false, if◌then◌else◌, List}
+use Rattle.std.proofs.Common.{◌≡◌, ℕ, zero, suc, ◌+◌, ◌-◌, ◌<◌, ◌≤◌, ◌==◌, ◌⊎◌, inl, inr, if◌then◌else◌, List}
 use Rattle.std.proofs.Common.{[], ◌∷◌, length, Option, Some, None, IsSomeAnd, slice_get, refl, sym, ◌∙◌, ap, subst, arith}
 use Rattle.std.proofs.lemmas.List.{get_or-set_other}
 use Rattle.std.proofs.lemmas.Option.{slice_get_within}
@@ -28,7 +28,7 @@ use Rattle.jc_rules.specs.declared.effect.Cells.TheVariants as given
 use Rattle.jc_rules.specs.declared.effect.Change.{Change}
 use Rattle.jc_rules.specs.declared.effect.Change.TheVariants.{Replace, CopyUnder, Exchange, MakeReady}
 use Rattle.jc_rules.specs.declared.effect.Mode.{Mode}
-use Rattle.jc_rules.specs.declared.effect.Mode.TheVariants.{Card, Flow}
+use Rattle.jc_rules.specs.declared.effect.Mode.TheVariants.{Card}
 use Rattle.jc_rules.specs.Effect.{in_stack_order, changed, cells_needed, depth_after, reg, WritesRegister, WritesCells, StoresInRegisters, raises_register}
 use Rattle.jc_rules.specs.Demand.{Frame, Meets, Satisfies, SatisfiesAll}
 use Rattle.jc_rules.specs.Rule.{cell, on_stack, replacing, or_null, ready_with, call_effect, args_at, result_at, result_given, wrote, demands, effect}
@@ -298,10 +298,6 @@ reads-none (Held x ty ∷ ds) regs others e = absurd (omega arith)
 reads-none (Depth n ∷ ds) regs others e = reads-none ds regs others e
 reads-none (Cell n want ∷ ds) regs others e = reads-none ds regs others e
 reads-none (Cut n ∷ ds) regs others e = reads-none ds regs others e
-
-nothing-rises : (t : ClassTable) (mode : Mode) (regs : List Ty) → raises_register t mode (record { register = 0; cells = given.Nothing }) regs ≡ false
-nothing-rises t Card regs = refl
-nothing-rises t Flow regs = refl
 
 pub operation-names-none : (w : Linked) → OperationNamesNone w
 operation-names-none w limit op before after o regs none a =

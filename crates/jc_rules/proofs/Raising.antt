@@ -1,7 +1,7 @@
 -- Raising the cells of a list, one after another, to the join with those of another list.
 use Rattle.std.proofs.Common.{◌≡◌, ℕ, zero, suc, ◌+◌, ◌<◌, ◌≤◌, ◌||◌, if◌then◌else◌, Bool, true, false, ◌⊎◌, inl, inr}
 use Rattle.std.proofs.Common.{List, [], ◌∷◌, ◌++◌, length, reverse, get_or, set, All, sum_by, refl, sym, ◌∙◌, ap, subst, arith, MatchBool}
-use Rattle.std.proofs.lemmas.List.{length-set, length-reverse, reverse-append, get_or-set_same, get_or-set_other, get_or_default}
+use Rattle.std.proofs.lemmas.List.{length-set, reverse-append, get_or-set_same, get_or-set_other, get_or_default}
 use Rattle.std.proofs.lemmas.List.Elements.{All-set}
 use Rattle.std.proofs.lemmas.List.Sorted.{IsPermutation-reverse, sum_by-IsPermutation}
 use Rattle.std.proofs.lemmas.List.Sums.{sum_by-set}
@@ -12,7 +12,7 @@ use Rattle.jc_base.proofs.Lists.{All-reverse, All-turned}
 use Rattle.jc_base.specs.Order.{Below, same, anything, IsJoin, IsKnown, StaysOrRises, rises_left}
 use Rattle.jc_rules.specs.declared.state.Merged.TheVariants.{Same, Risen}
 use Rattle.jc_rules.specs.Flow.{CellsJoin, none_joined, more_joined, IsNotTop}
-use Rattle.jc_rules.specs.Typing.{Clashes, depths, cells, IsMerged}
+use Rattle.jc_rules.specs.Typing.{Clashes, cells, IsMerged}
 
 -- whether any rose
 abbrev pub RoseTo : ClassTable → List Ty → List Ty → Bool → Type 0
@@ -117,11 +117,6 @@ sum_by-reverse f xs = sum_by-IsPermutation f xs (reverse xs) (IsPermutation-reve
 pub CellsJoin-length : (t : ClassTable) {xs ys js : List Ty} → CellsJoin t xs ys js → length js ≡ length xs
 CellsJoin-length t none_joined = refl
 CellsJoin-length t (more_joined h p) = ap suc (CellsJoin-length t p)
-
--- the stacks, with their tops last, have different depths
-pub clash_depths : (t : ClassTable) (regs others old stack : List Ty) → ¬ (length old ≡ length stack)
-    → Clashes t (record { regs = regs; stack = reverse old }) (record { regs = others; stack = reverse stack })
-clash_depths t regs others old stack n = depths (λ e. n (sym (length-reverse old) ∙ e ∙ length-reverse stack))
 
 -- a cell's join is Top
 pub clash_cells : (t : ClassTable) (regs others old stack joined : List Ty) → CellsJoin t old stack joined → ¬ (All IsNotTop joined)

@@ -158,24 +158,8 @@ same-or-other (suc p) (suc q) = lifted (same-or-other p q)
 
 -- ---- the spans of a list of cells
 
--- more cells come after them
-pub spans-more : (cells more : List Ty) (spans : List (Option Span)) → AreSpans cells spans → AreSpans (cells ++ more) spans
-spans-more cells more spans is = record {
-  within = λ p s e. omega (arith, is.within p s e, length-append cells more);
-  few = is.few;
-  apart = is.apart;
-}
-
 pub frames-more : (cells more : List Ty) (spans : List (Option Span)) → AreSpans cells spans → frames_at (cells ++ more) spans ≡ frames_at cells spans
 frames-more cells more spans is = frames-same (frame_of_span (cells ++ more)) (frame_of_span cells) spans (λ q s e. frame-more cells more s (is.within q s e))
-
--- the cells change, and are as many as before
-pub spans-kept : (cells new : List Ty) (spans : List (Option Span)) → length new ≡ length cells → AreSpans cells spans → AreSpans new spans
-spans-kept cells new spans e is = record {
-  within = λ p s h. omega (arith, is.within p s h, e);
-  few = is.few;
-  apart = is.apart;
-}
 
 module _ (cells more : List Ty) (spans : List (Option Span)) (is : AreSpans cells spans) (p : ℕ) (lt : p < length spans) (new : Span)
     (at : new.at ≡ length cells) (size : length more ≡ new.registers + new.depth) (few : new.depth ≤ 255) where

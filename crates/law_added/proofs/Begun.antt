@@ -1,25 +1,25 @@
 -- What the rules of instructions read of a world is the same when packages are added to it.
-use Rattle.std.proofs.Common.{◌≡◌, ◌<◌, ◌≤◌, ◌+◌, ◌==◌, ◌&&◌, ℕ, zero, suc, Bool, true, false, not, if◌then◌else◌, ℤ, List, [], ◌∷◌, ◌++◌, length, map}
-use Rattle.std.proofs.Common.{slice_index, find, Option, Some, None, IfSome, Result, Ok, Err, slice_get, refl, sym, ◌∙◌, ap, subst, arith, All, cond, length-append, append-nil}
+use Rattle.std.proofs.Common.{◌≡◌, ◌<◌, ◌≤◌, ◌+◌, ◌==◌, ◌&&◌, ℕ, zero, suc, Bool, true, false, not, if◌then◌else◌, List, [], ◌∷◌, ◌++◌}
+use Rattle.std.proofs.Common.{length}
+use Rattle.std.proofs.Common.{slice_index, find, Option, Some, None, IfSome, slice_get, refl, sym, ◌∙◌, ap, subst, arith, All, cond}
+use Rattle.std.proofs.Common.{length-append, append-nil}
 use Rattle.std.specs.Prelude.{nat_lt, filter}
 use Rattle.std.specs.List.{list_all, range_with_len}
 use Rattle.std.proofs.lemmas.Bool.{and_parts, ltb-true, lt-ltb, false≢true}
 use Rattle.std.proofs.lemmas.Option.{slice_get_past}
-use Rattle.jc_base.specs.declared.record.ClassRec.{ClassRec}
 use Rattle.jc_base.specs.declared.record.Member.{Member}
-use Rattle.jc_base.specs.declared.record.Member.TheVariants.{ClassOf, Field, Static, Virtual, Super, StaticCall}
+use Rattle.jc_base.specs.declared.record.Member.TheVariants.{ClassOf}
 use Rattle.jc_base.specs.declared.record.MethodRec.{MethodRec}
-use Rattle.jc_base.specs.declared.ty.Ty.{Ty}
-use Rattle.jc_base.specs.declared.ty.Ty.TheVariants.{Class, ArrRef}
-use Rattle.jc_base.specs.Class.{ClassTable, AreClasses, is_interface, is_interface_record, object, throwable, chain, list_of, class_in_types}
-use Rattle.jc_base.specs.Dispatch.{of_record, package_of, public_of, visible_of, entry_at, nearest_of, visible_in, has_body_in, has_body, all_have_bodies}
+use Rattle.jc_base.specs.Class.{AreClasses, is_interface, is_interface_record, object, throwable, chain, list_of, class_in_types}
+use Rattle.jc_base.specs.Dispatch.{package_of, public_of, visible_of, entry_at, nearest_of, visible_in, has_body_in, has_body}
+use Rattle.jc_base.specs.Dispatch.{all_have_bodies}
 use Rattle.jc_base.specs.Dispatch.{is_concrete}
 use Rattle.jc_base.specs.Linked.{lacks_code}
 use Rattle.jc_base.specs.World.{Linked, member_at}
 use Rattle.jc_ops.specs.Resolve.{passes_test, is_described, described}
 use Rattle.law_added.proofs.Lists.{get_front, each_after}
 use Rattle.law_added.proofs.Members.{found_alike, found_below}
-use Rattle.law_added.proofs.Tables.{IsGrown, record_front, object_front, interface_front, package_front, public_front, visible_front, entry_front}
+use Rattle.law_added.proofs.Tables.{IsGrown, object_front, interface_front, package_front, public_front, visible_front, entry_front}
 
 -- the first world is the beginning of the second one, as the rules see it
 pub record IsBegun (v w : Linked) : Type 0 where

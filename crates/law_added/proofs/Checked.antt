@@ -9,12 +9,11 @@ use Rattle.cap_package.specs.PackageRecord.{PackageRecord}
 use Rattle.jc_base.specs.declared.record.MethodRec.{MethodRec}
 use Rattle.jc_base.specs.declared.ty.Ty.TheVariants.{Top}
 use Rattle.jc_base.specs.Linked.{list_at}
-use Rattle.jc_base.specs.World.{Linked, code_of}
+use Rattle.jc_base.specs.World.{Linked}
 use Rattle.jc_control.specs.Method.{Method, IsMethodOf}
 use Rattle.jc_resolve.specs.Named.{IsAgreed}
 use Rattle.jc_resolve.specs.NamedMethods.{named_methods, named_method}
 use Rattle.jc_resolve.specs.Numbering.{NumberedMethod, numbered_methods}
-use Rattle.jc_rules.specs.Flow.{HasFlowTyping}
 use Rattle.jc_link.specs.World.{IsLinked}
 use Rattle.law_sound.specs.Soundness.{AreTypedMethods, TypedCodeIsFaultFree}
 use Rattle.law_added.specs.Added.{HasMore}

@@ -1,6 +1,6 @@
 -- Classes of the packages before keep their superclasses, and so their dispatch lists and cells.
-use Rattle.std.proofs.Common.{◌≡◌, ◌<◌, ◌≤◌, ◌+◌, ℕ, zero, suc, List, [], ◌∷◌, ◌++◌, length, map, slice_get, slice_index, get_or, Bool, true, false}
-use Rattle.std.proofs.Common.{Option, Some, None, IfSome, refl, sym, ap, subst, ◌∙◌, arith, length-append, All, cond}
+use Rattle.std.proofs.Common.{◌≡◌, ◌<◌, ◌≤◌, ◌+◌, ℕ, zero, suc, List, [], ◌∷◌, ◌++◌, length, map, slice_get, get_or, Bool, true, false}
+use Rattle.std.proofs.Common.{Option, Some, None, IfSome, refl, sym, ap, subst, ◌∙◌, arith, All, cond}
 use Rattle.std.specs.Prelude.{if◌then◌else◌, ◌==◌}
 use Rattle.std.specs.Prelude.{take}
 use Rattle.std.specs.List.{take_while, prefix_len, sum_by}
@@ -11,8 +11,7 @@ use Rattle.first_fault.specs.First.{AllEmpty}
 use Rattle.cap_class.specs.ClassFormat.{is_interface as is_interface_flags}
 use Rattle.cap_package.specs.PackageRecord.{PackageRecord}
 use Rattle.jc_base.specs.declared.record.ClassRec.{ClassRec}
-use Rattle.jc_base.specs.Class.{ClassTable, list_of}
-use Rattle.jc_resolve.specs.declared.fault.LinkFault.{LinkFault}
+use Rattle.jc_base.specs.Class.{list_of}
 use Rattle.jc_resolve.specs.declared.named.NamedClass.{NamedClass}
 use Rattle.jc_resolve.specs.Numbering.{NumberedClass, numbered_classes}
 use Rattle.jc_resolve.specs.NamedClasses.{named_class, named_classes, named_interface, named_proper}

@@ -1,7 +1,8 @@
 -- Entries of the constant pools of the packages before name the same members when packages are added after them.
 use Rattle.std.proofs.Common.{◌≡◌, ◌<◌, ◌≤◌, ◌+◌, ℕ, zero, suc, List, [], ◌∷◌, ◌++◌, length, map, find, slice_get, Bool, true, false, cond}
-use Rattle.std.proofs.Common.{Option, Some, None, IfSome, option_map, option_and_then, refl, sym, ap, subst, ◌∙◌, arith, All, append_assoc, length-append}
-use Rattle.std.specs.Prelude.{if◌then◌else◌, ◌==◌, ◌&&◌, ◌||◌, nat_lt, is_some, filter_map, flat_map}
+use Rattle.std.proofs.Common.{Option, Some, None, IfSome, option_map, option_and_then, refl, sym, ap, ◌∙◌, arith, All, append_assoc}
+use Rattle.std.proofs.Common.{length-append}
+use Rattle.std.specs.Prelude.{if◌then◌else◌, ◌==◌, ◌&&◌, is_some, filter_map, flat_map}
 use Rattle.cap_bytes.specs.declared.class_reference.ClassReference.{ClassReference}
 use Rattle.cap_class.specs.ClassFormat.{Class, is_interface as is_interface_flags}
 use Rattle.cap_desc.specs.declared.type_item.TypeItem.{TypeItem}
@@ -15,25 +16,22 @@ use Rattle.cap_pool.specs.declared.pool_reference.PoolReference.{PoolReference}
 use Rattle.cap_pool.specs.declared.pool_reference.PoolReference.TheVariants as refs
 use Rattle.cap_pool.specs.declared.pool_reference.StaticReference.{StaticReference}
 use Rattle.cap_pool.specs.declared.pool_reference.StaticReference.TheVariants.{Internal, External}
-use Rattle.jc_base.specs.declared.record.Member.{Member}
-use Rattle.jc_base.specs.declared.record.Member.TheVariants.{ClassOf, Virtual, Super, StaticCall}
+use Rattle.jc_base.specs.declared.record.Member.TheVariants.{ClassOf, Virtual, StaticCall}
 use Rattle.jc_base.specs.declared.record.StaticRec.{StaticRec}
 use Rattle.jc_base.specs.Class.{ClassTable, chain, object, parent_of, is_interface}
-use Rattle.jc_base.specs.Dispatch.{package_of, entry_at, cell_count}
 use Rattle.jc_base.specs.Linked.{cells_above}
 use Rattle.jc_resolve.specs.declared.place.RecordPlace.{RecordPlace}
 use Rattle.jc_resolve.specs.declared.own_field.OwnField.{OwnField}
-use Rattle.jc_resolve.specs.Numbering.{NumberedClass, numbered_class, numbered_classes, classes_after, method_at}
+use Rattle.jc_resolve.specs.Numbering.{numbered_class, numbered_classes, classes_after, method_at}
 use Rattle.jc_resolve.specs.References.{class_referred, met_by, exported_field, exported_method}
 use Rattle.jc_resolve.specs.OwnFields.{field_with, own_field, fields_in, own_fields}
 use Rattle.jc_resolve.proofs.ImportLaws.{met_before}
-use Rattle.jc_link.specs.Entries.{place_in, place_by, exported_place, field_place, method_place}
+use Rattle.jc_link.specs.Entries.{place_in, place_by, field_place, method_place}
 use Rattle.jc_link.specs.Fields.{field_site, class_sites, sites_of_classes, sites_after, field_sites}
 use Rattle.jc_link.specs.Sites.{MemberSite, members_standing, same_spot, only, is_there}
-use Rattle.jc_link.specs.Members.{class_member, proper_by, proper_referred, virtual_by, virtual_member, may_name, super_by, super_of, super_member}
+use Rattle.jc_link.specs.Members.{class_member, proper_by, proper_referred, virtual_by, virtual_member, super_by, super_of, super_member}
 use Rattle.jc_link.specs.Members.{static_site, static_sites, static_at, static_member, call_member, token_of_class, holder_of, as_of, field_of, field_member}
 use Rattle.jc_link.specs.Members.{member_referred, member_of}
-use Rattle.law_added.proofs.Lists.{get_front}
 use Rattle.law_added.proofs.Numbers.{other, method_at_front}
 use Rattle.law_added.proofs.Names.{asked_front, met_front, referred_front, referred_below}
 use Rattle.law_added.proofs.Records.{type_front}

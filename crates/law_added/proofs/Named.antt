@@ -1,16 +1,14 @@
 -- A Classref of packages names one of their classes.
 use Rattle.std.proofs.Common.{◌≡◌, ◌<◌, ◌+◌, ℕ, zero, suc, List, [], ◌∷◌, ◌++◌, length, map, slice_get, Bool, true, false}
-use Rattle.std.proofs.Common.{Option, Some, None, IfSome, option_map, option_and_then, refl, sym, ap, subst, ◌∙◌, arith}
+use Rattle.std.proofs.Common.{Option, Some, None, IfSome, option_map, option_and_then, subst}
 use Rattle.std.specs.Prelude.{if◌then◌else◌, is_some, filter_map}
 use Rattle.std.specs.List.{cons_option}
-use Rattle.cap_bytes.specs.declared.class_reference.ClassReference.{ClassReference}
 use Rattle.cap_package.specs.PackageRecord.{PackageRecord}
 use Rattle.cap_class.specs.ClassFormat.{Class}
 use Rattle.cap_pool.specs.PoolFormat.{Entry}
 use Rattle.cap_pool.specs.PoolReference.{referred}
 use Rattle.cap_pool.specs.declared.pool_reference.PoolReference.{PoolReference}
 use Rattle.cap_pool.specs.declared.pool_reference.PoolReference.TheVariants as refs
-use Rattle.cap_pool.specs.declared.pool_reference.StaticReference.{StaticReference}
 use Rattle.jc_base.specs.declared.record.Member.{Member}
 use Rattle.jc_base.specs.declared.record.Member.TheVariants.{ClassOf, Field, Static, Virtual, Super, StaticCall}
 use Rattle.jc_base.specs.declared.record.StaticRec.{StaticRec}
@@ -25,7 +23,8 @@ use Rattle.jc_link.specs.Entries.{field_place, method_place}
 use Rattle.jc_link.specs.Fields.{field_site, class_sites, sites_of_classes, sites_after, field_sites}
 use Rattle.jc_link.specs.Sites.{MemberSite, members_standing, same_spot, only}
 use Rattle.jc_link.specs.Members.{class_member, proper_referred, virtual_by, virtual_member, may_name, super_by, super_of, super_member}
-use Rattle.jc_link.specs.Members.{static_site, static_sites, static_at, static_member, call_member, token_of_class, holder_of, as_of, field_of, field_member}
+use Rattle.jc_link.specs.Members.{static_sites, static_at, static_member, call_member, token_of_class, holder_of, as_of, field_of}
+use Rattle.jc_link.specs.Members.{field_member}
 use Rattle.jc_link.specs.Members.{member_referred, member_of}
 use Rattle.jc_link.specs.Pools.{pools_after, pools}
 use Rattle.law_added.proofs.Names.{referred_below}

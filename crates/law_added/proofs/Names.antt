@@ -1,19 +1,17 @@
 -- What a package names stays the same when packages are added after it.
-use Rattle.std.proofs.Common.{◌≡◌, ◌<◌, ◌≤◌, ◌+◌, ℕ, zero, suc, List, [], ◌∷◌, ◌++◌, length, take, map, slice_get, position, Bool, true, false}
-use Rattle.std.proofs.Common.{Option, Some, None, IfSome, option_map, option_and_then, refl, sym, ap, subst, ◌∙◌, arith}
+use Rattle.std.proofs.Common.{◌≡◌, ◌<◌, ◌+◌, ℕ, List, [], ◌++◌, length, take, slice_get, position}
+use Rattle.std.proofs.Common.{Option, Some, None, IfSome, option_map, option_and_then, refl, ap, ◌∙◌, arith}
 use Rattle.std.proofs.lemmas.List.{take-append-le}
 use Rattle.cap_bytes.specs.declared.class_reference.ClassReference.{ClassReference}
 use Rattle.cap_bytes.specs.declared.class_reference.ClassReference.TheVariants.{Internal, External}
 use Rattle.cap_bytes.specs.ClassReference.{reference_of}
-use Rattle.cap_frame.specs.PackageFormat.{Package}
 use Rattle.cap_package.specs.PackageRecord.{PackageRecord}
 use Rattle.cap_package.specs.Agreement.{or_none}
 use Rattle.cap_pool.specs.ExportFormat.{Exported}
-use Rattle.jc_resolve.specs.declared.place.RecordPlace.{RecordPlace}
 use Rattle.jc_resolve.specs.Numbering.{class_at, numbered_classes}
-use Rattle.jc_resolve.specs.References.{meets_import, import_of, met_by, exported_class, exported_offset, exported_place, exported_field, exported_method}
+use Rattle.jc_resolve.specs.References.{meets_import, import_of, met_by, exported_offset, exported_place}
 use Rattle.jc_resolve.specs.References.{place_referred, class_referred, class_named}
-use Rattle.jc_resolve.proofs.DeclaredTypes.{named_at, named_below}
+use Rattle.jc_resolve.proofs.DeclaredTypes.{named_at}
 use Rattle.jc_resolve.proofs.ImportLaws.{met_before}
 use Rattle.law_added.proofs.Lists.{get_front}
 use Rattle.law_added.proofs.Numbers.{class_at_front}

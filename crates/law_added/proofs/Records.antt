@@ -1,10 +1,9 @@
 -- Classes and methods of the packages before name the same when packages are added after them.
-use Rattle.std.proofs.Common.{◌≡◌, ◌<◌, ◌≤◌, ◌+◌, ◌-◌, ℕ, zero, suc, List, [], ◌∷◌, ◌++◌, length, map, slice_get, slice_index, Bool, true, false}
-use Rattle.std.proofs.Common.{not, Option, Some, None, IfSome, option_map, refl, sym, ap, subst, ◌∙◌, arith}
+use Rattle.std.proofs.Common.{◌≡◌, ◌<◌, ◌+◌, ◌-◌, ℕ, List, [], ◌∷◌, ◌++◌, length, map, slice_get, slice_index, Bool}
+use Rattle.std.proofs.Common.{not, Option, Some, None, IfSome, refl, ap, ◌∙◌, arith}
 use Rattle.std.specs.Prelude.{if◌then◌else◌, unwrap_or, ◌==◌, ◌&&◌}
-use Rattle.std.specs.List.{filter_map, flat_map}
-use Rattle.cap_bytes.specs.declared.class_reference.ClassReference.{ClassReference}
-use Rattle.cap_class.specs.ClassFormat.{Class, Interface, is_interface as is_interface_flags}
+use Rattle.std.specs.List.{flat_map}
+use Rattle.cap_class.specs.ClassFormat.{Interface, is_interface as is_interface_flags}
 use Rattle.cap_desc.specs.declared.type_item.TypeItem.{TypeItem}
 use Rattle.cap_desc.specs.DescriptorFormat.{ClassDescriptor, MethodDescriptor, FieldDescriptor}
 use Rattle.cap_method.specs.declared.handler.HandlerInfo.{HandlerInfo}
@@ -17,20 +16,17 @@ use Rattle.cap_pool.specs.declared.pool_reference.PoolReference.{PoolReference}
 use Rattle.cap_pool.specs.declared.pool_reference.PoolReference.TheVariants.{Class as ClassEntry}
 use Rattle.cap_pool.specs.PoolReference.{referred}
 use Rattle.jc_base.specs.declared.record.Sig.{Sig}
-use Rattle.jc_base.specs.declared.record.Iface.{Iface}
 use Rattle.jc_base.specs.declared.record.MethodRec.{MethodRec}
-use Rattle.jc_base.specs.declared.ty.Ty.{Ty}
-use Rattle.jc_base.specs.declared.ty.Ty.TheVariants.{IntHigh, IntLow, Class as ClassType, ArrRef, ArrBool, ArrByte, ArrShort, ArrInt, Short}
-use Rattle.jc_resolve.specs.declared.place.RecordPlace.{RecordPlace}
+use Rattle.jc_base.specs.declared.ty.Ty.TheVariants.{IntHigh, Class as ClassType, ArrRef, ArrBool, ArrByte, ArrShort, ArrInt, Short}
 use Rattle.jc_resolve.specs.declared.named.NamedClass.{NamedClass}
 use Rattle.jc_resolve.specs.Numbering.{NumberedClass, NumberedMethod, is_placed, numbered_classes, numbered_methods, classes_after, methods_after}
-use Rattle.jc_resolve.specs.Numbering.{is_interface_number, method_at}
-use Rattle.jc_resolve.specs.References.{class_named, class_referred}
+use Rattle.jc_resolve.specs.References.{class_named}
 use Rattle.jc_resolve.specs.WorldTypes.{class_or_object, type_class, type_of, cells_with, cells_of_type, arguments_before, result_after, signature_in}
 use Rattle.jc_resolve.specs.WorldTypes.{types_named, declared_signature}
 use Rattle.jc_resolve.specs.NamedClasses.{cells_by, cells_of_field, cells_of_fields, by_token, instance_fields, dispatch_entry, dispatch_table}
 use Rattle.jc_resolve.specs.NamedClasses.{interface_named, implemented_interfaces, parent_named, named_interface, named_proper, named_class, named_classes}
-use Rattle.jc_resolve.specs.NamedMethods.{class_or_none, class_in_entry, caught_class, offset_in_info, handler_named, no_body, body_after, body_by, body_of}
+use Rattle.jc_resolve.specs.NamedMethods.{class_or_none, class_in_entry, caught_class, offset_in_info, handler_named, no_body, body_by}
+use Rattle.jc_resolve.specs.NamedMethods.{body_of}
 use Rattle.jc_resolve.specs.NamedMethods.{class_described, is_class, have_headers, method_with, method_as, named_method, named_methods}
 use Rattle.jc_resolve.proofs.DeclaredTypes.{named_below}
 use Rattle.std.proofs.lemmas.List.{map-append}

@@ -1,12 +1,12 @@
 -- Where the rule of an instruction applies, it applies when packages are added: the same operation, with what it asks and what it does.
-use Rattle.std.proofs.Common.{◌≡◌, ◌<◌, ◌+◌, ℕ, zero, suc, Bool, true, false, not, if◌then◌else◌, ℤ, List, [], ◌∷◌, ◌++◌, length, map, reverse, All, Contains}
-use Rattle.std.proofs.Common.{Option, Some, None, IfSome, IsSomeAnd, Result, Ok, Err, slice_get, inl, inr, ◌⊎◌, refl, sym, ◌∙◌, ap, subst, arith}
-use Rattle.std.specs.Prelude.{◌==◌, ◌&&◌, ◌||◌}
+use Rattle.std.proofs.Common.{◌≡◌, ◌<◌, ◌+◌, ℕ, zero, suc, Bool, true, false, not, if◌then◌else◌, ℤ, List, [], ◌∷◌, ◌++◌, length, map}
+use Rattle.std.proofs.Common.{Option, Some, None, IsSomeAnd, Result, Ok, Err, slice_get, inl, inr, refl, sym, ◌∙◌, ap, subst}
+use Rattle.std.specs.Prelude.{◌==◌, ◌&&◌}
 use Rattle.std.specs.Prelude.{take, drop}
 use Rattle.std.proofs.Common.{get_or}
 use Rattle.std.proofs.Math.ListN.{get_or-map}
 use Rattle.std.specs.List.{list_all}
-use Rattle.std.proofs.lemmas.Bool.{and_parts, false≢true}
+use Rattle.std.proofs.lemmas.Bool.{and_parts}
 use Rattle.jc_base.specs.declared.ty.Ty.{Ty}
 use Rattle.jc_base.specs.declared.ty.Ty.TheVariants.{Class, ArrBool, ArrByte, ArrShort, ArrInt, ArrRef}
 use Rattle.jc_base.specs.declared.ty.Kind.{Kind}
@@ -14,8 +14,8 @@ use Rattle.jc_base.specs.declared.ty.Kind.TheVariants as kinds
 use Rattle.jc_base.specs.declared.record.Member.{Member}
 use Rattle.jc_base.specs.declared.record.Member.TheVariants.{ClassOf, Field, Static, Virtual, Super, StaticCall}
 use Rattle.jc_base.specs.declared.record.MethodRec.{MethodRec}
-use Rattle.jc_base.specs.Class.{ClassTable, is_interface, object, parent_of}
-use Rattle.jc_base.specs.Order.{Below, IsArray}
+use Rattle.jc_base.specs.Class.{is_interface, object}
+use Rattle.jc_base.specs.Order.{Below}
 use Rattle.jc_base.specs.Order.{same, joined, nothing, anything, null_object, null_array, subclass, array_object, array_array}
 use Rattle.jc_base.specs.Dispatch.{entry_at, is_concrete}
 use Rattle.jc_base.specs.Linked.{lacks_code}
@@ -42,7 +42,8 @@ use Rattle.jc_ops.specs.declared.operation.Holder.TheVariants as holders
 use Rattle.jc_ops.specs.declared.operation.TypeTest.TheVariants as tests
 use Rattle.jc_ops.specs.Row.{table, row_at, unused, by_sort, by_width, by_kind, first_four, by_register, literals, binaries, orders_all, branching}
 use Rattle.jc_ops.specs.Resolve.{byte_of, short_of, taken_if, on, static_field, instance_field, callee_if, entry_callee, virtual_callee, own_receiver}
-use Rattle.jc_ops.specs.Resolve.{special_callee, static_callee, described, only, described_callee, interface_callee, callee, class_type, array_of, tested_type}
+use Rattle.jc_ops.specs.Resolve.{special_callee, static_callee, described, only, described_callee, interface_callee, class_type, array_of}
+use Rattle.jc_ops.specs.Resolve.{tested_type}
 use Rattle.jc_ops.specs.Resolve.{result_returned, new_object, resolved}
 use Rattle.jc_rules.specs.declared.demand.Demand.{Demand}
 use Rattle.jc_rules.specs.declared.demand.Demand.TheVariants.{Registers, Depth, Cell, Cut, Held}
@@ -56,7 +57,7 @@ use Rattle.jc_rules.specs.Rule.{load_demands, array_read_demands, array_write_de
 use Rattle.jc_rules.specs.declared.effect.Cells.TheVariants as given
 use Rattle.jc_rules.specs.Rule.{replacing, type_test_effect, seen, demands, effect, wrote}
 use Rattle.law_added.proofs.Tables.{interface_front, parent_front}
-use Rattle.law_added.proofs.Begun.{IsBegun, method_there, class_there, lacks_same, interface_there, entry_there, object_same, throwable_same, in_types_same}
+use Rattle.law_added.proofs.Begun.{IsBegun, method_there, lacks_same, interface_there, entry_there, object_same, in_types_same}
 use Rattle.law_added.proofs.Begun.{described_same, concrete_there}
 
 module _ (v w : Linked) (b : IsBegun v w) where

@@ -1,16 +1,13 @@
 -- Static fields, initial arrays and target indexes of the packages before stay when packages are added after them.
-use Rattle.std.proofs.Common.{◌≡◌, ◌<◌, ◌≤◌, ◌+◌, ℕ, zero, suc, List, [], ◌∷◌, ◌++◌, length, map, slice_get, slice_index, Bool, true, false, cond}
+use Rattle.std.proofs.Common.{◌≡◌, ◌<◌, ◌≤◌, ◌+◌, ℕ, zero, suc, List, [], ◌∷◌, ◌++◌, length, map, slice_get, Bool, false, cond}
 use Rattle.std.proofs.Common.{Option, Some, None, IfSome, refl, sym, ap, subst, ◌∙◌, arith, append_assoc}
 use Rattle.std.specs.Prelude.{if◌then◌else◌, ◌==◌, ◌&&◌, count_by, flat_map}
 use Rattle.std.proofs.lemmas.List.{map-append}
 use Rattle.std.proofs.lemmas.List.Sums.{sum_by-append, sum_by-cons}
 use Rattle.cap_components.specs.PackageRecord.{initial_arrays}
 use Rattle.cap_desc.specs.declared.type_item.TypeItem.{TypeItem}
-use Rattle.cap_method.specs.StaticFormat.{Statics}
 use Rattle.cap_package.specs.PackageRecord.{PackageRecord}
-use Rattle.cap_package.specs.StaticChecks.{ImagePlace}
 use Rattle.cap_package.specs.StaticPlaces.{static_places}
-use Rattle.jc_base.specs.declared.record.ArrayRec.{ArrayRec}
 use Rattle.jc_base.specs.declared.record.MethodRec.{MethodRec}
 use Rattle.jc_base.specs.declared.record.StaticRec.{StaticRec}
 use Rattle.jc_base.specs.declared.ty.Ty.{Ty}
@@ -20,7 +17,7 @@ use Rattle.jc_link.specs.Statics.{StaticSite, site, sites_after, sites, static_r
 use Rattle.jc_link.specs.Arrays.{array_record, array_records}
 use Rattle.cap_index.specs.Component.{index_in, lists_in}
 use Rattle.cap_index.specs.Indexes.{has_code, is_coded, lists_after, package_lists, index_after, indexes_after, indexes_of}
-use Rattle.law_added.proofs.Numbers.{each_both, each_mapped, every, other}
+use Rattle.law_added.proofs.Numbers.{each_both, each_mapped, every}
 use Rattle.law_added.proofs.Records.{type_front}
 
 -- ---- initial arrays

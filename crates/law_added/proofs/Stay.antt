@@ -1,17 +1,14 @@
 -- Methods of a world are methods of the one with more packages, with their code.
-use Rattle.std.proofs.Common.{◌≡◌, ◌<◌, ◌≤◌, ◌+◌, ℕ, zero, suc, List, [], ◌∷◌, ◌++◌, length, take, drop, slice_get, Option, Some, None, IfSome, refl}
-use Rattle.std.proofs.Common.{sym, ap, subst, ◌∙◌, arith, All}
+use Rattle.std.proofs.Common.{◌≡◌, ◌<◌, ◌+◌, ℕ, zero, suc, List, [], ◌∷◌, ◌++◌, length, take, drop, refl}
+use Rattle.std.proofs.Common.{sym, ap, subst, ◌∙◌, arith}
 use Rattle.std.proofs.lemmas.List.{length-take, length-drop}
-use Rattle.cap_package.specs.PackageRecord.{PackageRecord}
 use Rattle.jc_base.specs.Linked.{list_at}
 use Rattle.jc_base.specs.World.{Linked, code_of}
 use Rattle.jc_control.specs.Method.{Method, IsMethodOf}
-use Rattle.jc_resolve.specs.Named.{IsAgreed}
-use Rattle.jc_link.specs.World.{IsLinked}
 use Rattle.card_typing.specs.Typing.{code_in_bytes}
 use Rattle.card_typing.specs.Place.{IsTarget}
-use Rattle.law_added.specs.Added.{Begins, HasMore}
-use Rattle.law_added.specs.Typings.{KeepsTypings, TypingsStay}
+use Rattle.law_added.specs.Added.{Begins}
+use Rattle.law_added.specs.Typings.{TypingsStay}
 use Rattle.law_added.proofs.Begun.{IsBegun, method_there}
 use Rattle.law_added.proofs.Worlds.{begun_list, linked-begun, worlds-begin}
 use Rattle.law_added.proofs.Typings.{flow_up, card_up}

@@ -1,14 +1,13 @@
 -- A class table with more classes after it: what is asked of a class that was there is answered as before.
-use Rattle.std.proofs.Common.{◌≡◌, ◌<◌, ◌≤◌, ◌+◌, ℕ, zero, suc, List, [], ◌∷◌, ◌++◌, length, map, find, slice_get, slice_index, Bool, true, false}
-use Rattle.std.proofs.Common.{Option, Some, None, IfSome, refl, sym, ap, subst, ◌∙◌, arith, All, cond}
-use Rattle.std.specs.Prelude.{if◌then◌else◌, ◌==◌, nat_lt}
+use Rattle.std.proofs.Common.{◌≡◌, ◌<◌, ◌+◌, ℕ, List, [], ◌++◌, length, slice_get, slice_index}
+use Rattle.std.proofs.Common.{IfSome, refl, sym, ap, subst, ◌∙◌, All}
 use Rattle.jc_base.specs.declared.record.ClassRec.{ClassRec}
-use Rattle.jc_base.specs.Class.{ClassTable, chain, object, parent_of, parent_in_record, is_interface, is_interface_record, list_of}
-use Rattle.jc_base.specs.Dispatch.{of_record, package_of, public_of, visible_of, cell_count, entry_at, nearest_of, visible_in}
+use Rattle.jc_base.specs.Class.{ClassTable, chain, object, parent_of, parent_in_record, is_interface, is_interface_record}
+use Rattle.jc_base.specs.Dispatch.{of_record, package_of, public_of, visible_of, cell_count, entry_at}
 use Rattle.jc_resolve.specs.declared.named.NamedClass.{NamedClass}
 use Rattle.jc_classes.specs.Outline.{AreLines, outline}
 use Rattle.jc_classes.specs.Tables.{class_tables}
-use Rattle.jc_classes.proofs.ClassLines.{IsOutline, tables-alike, chain-alike, records-length}
+use Rattle.jc_classes.proofs.ClassLines.{tables-alike, chain-alike, records-length}
 use Rattle.jc_classes.proofs.Outlines.{parent_known}
 use Rattle.law_added.proofs.Lists.{get_front}
 use Rattle.law_added.proofs.Lines.{tables_begin, chain_front, chain_within, added_records}

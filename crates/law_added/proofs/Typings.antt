@@ -1,16 +1,14 @@
 -- Typings of a method stay typings when packages are added.
-use Rattle.std.proofs.Common.{◌≡◌, ◌<◌, ◌+◌, ℕ, Bool, true, false, List, [], ◌∷◌, length, All, Contains, get_or, Option, Some, None, IsSomeAnd, refl, sym}
-use Rattle.std.proofs.Common.{◌∙◌, ap, subst, arith, length-append}
-use Rattle.std.specs.Prelude.{◌==◌, nat_lt}
+use Rattle.std.proofs.Common.{◌≡◌, ◌<◌, ◌+◌, ℕ, true, List, [], length, get_or, Option, Some, None, IsSomeAnd, refl, sym}
+use Rattle.std.proofs.Common.{◌∙◌, ap, arith, length-append}
+use Rattle.std.specs.Prelude.{◌==◌}
 use Rattle.std.specs.List.{list_any}
-use Rattle.std.proofs.lemmas.Bool.{ltb-true}
-use Rattle.std.proofs.lemmas.Bool.Decides.{nat_tests}
 use Rattle.jc_base.specs.declared.ty.Ty.{Ty}
 use Rattle.jc_base.specs.declared.ty.Ty.TheVariants as types
 use Rattle.jc_base.specs.declared.ty.Ty.TheVariants.{Class}
 use Rattle.jc_base.specs.declared.record.Handler.{Handler}
-use Rattle.jc_base.specs.Class.{IsClass, chain, parent_of}
-use Rattle.jc_base.specs.Order.{Below, anything, is_below, is_on_chain, IsKnown}
+use Rattle.jc_base.specs.Class.{IsClass, parent_of}
+use Rattle.jc_base.specs.Order.{Below, is_below, is_on_chain, IsKnown}
 use Rattle.jc_base.specs.World.{Linked}
 use Rattle.jc_base.proofs.Subtypes.{is_below-from_Below, Below-from_is_below}
 use Rattle.jc_base.proofs.Climbs.{on_alone, chain-alone, parent_of-class}
@@ -18,8 +16,8 @@ use Rattle.jc_decode.specs.declared.insn.Placed.{Placed}
 use Rattle.jc_control.specs.Method.{Method}
 use Rattle.jc_rules.specs.Demand.{Frame}
 use Rattle.jc_rules.specs.Flow.{CellsBelow, no_cells, more_cells, FrameBelow, At, FlowTyping, IsFollowed, caught_frame}
-use Rattle.card_typing.specs.Place.{AreCaughtAt, IsAboveCaughtBy, IsEntryAmong}
-use Rattle.card_typing.specs.Typing.{Subject, TypingOver, IsTypedIn, IsEnteredBy}
+use Rattle.card_typing.specs.Place.{AreCaughtAt}
+use Rattle.card_typing.specs.Typing.{Subject, TypingOver, IsTypedIn}
 use Rattle.law_added.proofs.Tables.{interface_front}
 use Rattle.law_added.proofs.Begun.{IsBegun}
 use Rattle.law_added.proofs.Rules.{below_up, rule_up}

@@ -1,19 +1,17 @@
 -- The world that packages make is the beginning of the one that they make with more packages after them.
-use Rattle.std.proofs.Common.{◌≡◌, ◌<◌, ◌≤◌, ◌+◌, ℕ, zero, suc, List, [], ◌∷◌, ◌++◌, length, map, slice_get, slice_index, Bool, true, false, cond}
+use Rattle.std.proofs.Common.{◌≡◌, ◌<◌, ◌≤◌, ◌+◌, ℕ, zero, suc, List, [], ◌∷◌, ◌++◌, length, slice_get, slice_index}
 use Rattle.std.proofs.Common.{Option, Some, None, IfSome, refl, sym, ap, subst, ◌∙◌, arith, All}
-use Rattle.std.specs.Prelude.{filter_map, unwrap_or}
+use Rattle.std.specs.Prelude.{filter_map}
 use Rattle.std.proofs.lemmas.List.{map-append, length-map}
 use Rattle.first_fault.specs.First.{AllEmpty}
 use Rattle.cap_package.specs.PackageRecord.{PackageRecord}
 use Rattle.cap_pool.specs.PoolFormat.{Entry}
-use Rattle.jc_base.specs.declared.record.ClassRec.{ClassRec}
 use Rattle.jc_base.specs.declared.record.Member.{Member}
 use Rattle.jc_base.specs.declared.record.MethodRec.{MethodRec}
-use Rattle.jc_base.specs.declared.record.StaticRec.{StaticRec}
 use Rattle.std.specs.Prelude.{drop}
 use Rattle.std.proofs.lemmas.List.{take-append-drop}
 use Rattle.jc_base.specs.declared.record.Member.TheVariants.{ClassOf}
-use Rattle.jc_base.specs.Class.{ClassTable, AreClasses, object}
+use Rattle.jc_base.specs.Class.{ClassTable, AreClasses}
 use Rattle.jc_base.specs.Linked.{list_at}
 use Rattle.jc_base.specs.World.{Linked, member_at}
 use Rattle.jc_resolve.specs.declared.fault.LinkFault.{LinkFault}
@@ -39,7 +37,7 @@ use Rattle.law_added.specs.Added.{Begins, HasMore}
 use Rattle.law_added.specs.Worlds.{WorldsBegin}
 use Rattle.jc_base.proofs.Lists.{All-slice_get}
 use Rattle.law_added.proofs.Lists.{begins, each_after, get_after}
-use Rattle.law_added.proofs.Numbers.{classes_are, methods_are, methods_until, methods_from, each_mapped}
+use Rattle.law_added.proofs.Numbers.{methods_are, methods_until, methods_from, each_mapped}
 use Rattle.law_added.proofs.Own.{own_number, all_at}
 use Rattle.law_added.proofs.Records.{added_classes, classes_begin, added_methods, methods_begin}
 use Rattle.jc_classes.proofs.ClassLines.{tables-classes}

@@ -1,5 +1,5 @@
 -- Worlds that differ in the code of methods alone begin runs alike.
-use Rattle.std.proofs.Common.{◌≡◌, ◌+◌, ℕ, Bool, cond, not, position, List, [], ◌∷◌, length, map, refl, sym, ap, ◌∙◌}
+use Rattle.std.proofs.Common.{◌≡◌, ◌+◌, Bool, cond, not, position, List, [], ◌∷◌, length, map, refl, sym, ap, ◌∙◌}
 use Rattle.std.specs.Prelude.{Option, Some, None, option_map, slice_get, nat_lt}
 use Rattle.std.specs.List.{position_or_len}
 use Rattle.std.proofs.lemmas.List.{length-map}
@@ -10,7 +10,7 @@ use Rattle.jc_base.specs.Class.{ClassTable}
 use Rattle.jc_base.specs.World.{Linked, has_numbers}
 use Rattle.vm_step.specs.Arguments.{Argument}
 use Rattle.vm_step.specs.Start.{entry_fault}
-use Rattle.law_laid.specs.Apart.{apart_from_code, IsSameBut}
+use Rattle.law_laid.specs.Apart.{apart_from_code}
 use Rattle.law_alike.specs.Starting.{StartsRefuseAlike, MethodsAreNumberedAlike}
 
 -- what keeps a method from beginning a run is not in its code

@@ -1,8 +1,7 @@
 -- Folders that are checked one by one hold packages that are checked one by one.
-use Rattle.std.proofs.Common.{◌≡◌, ◌<◌, ◌≤◌, ◌+◌, ◌==◌, ◌&&◌, ℕ, zero, suc, Bool, true, false, List, [], ◌∷◌, length, take, Option, Some, None, IsSome}
+use Rattle.std.proofs.Common.{◌≡◌, ◌<◌, ◌≤◌, ℕ, zero, suc, List, [], ◌∷◌, length, take, IsSome}
 use Rattle.std.proofs.Common.{All, refl, sym, ap, subst, ◌∙◌, arith}
 use Rattle.std.specs.List.{AllZip}
-use Rattle.std.proofs.lemmas.List.{length-map}
 use Rattle.cap_files.specs.Folder.{Folders}
 use Rattle.cap_package.specs.PackageRecord.{PackageRecord}
 use Rattle.cap_package.specs.Parts.{Lent}
@@ -15,9 +14,9 @@ use Rattle.law_sound.specs.Soundness.{IsFaultFree}
 use Rattle.law_added.specs.Checked.{IsChecked, AreCheckedOneByOne, CheckedPackagesNeverFault}
 use Rattle.capcheck_core.specs.Loads.{AreParts}
 use Rattle.capcheck_core.specs.declared.source.Source.TheVariants.{Components}
-use Rattle.capcheck_core.specs.Packages.{AreGiven, AreRoleBytes}
+use Rattle.capcheck_core.specs.Packages.{AreRoleBytes}
 use Rattle.capcheck_core.specs.Place.{Place, places}
-use Rattle.capcheck_core.specs.Headline.{HoldWorld, Typed}
+use Rattle.capcheck_core.specs.Headline.{HoldWorld}
 use Rattle.capcheck_core.proofs.InComponents.{components_zip}
 use Rattle.law_checked.specs.CheckedFolders.{IsCheckedTo, AreCheckedFolders, CheckedFoldersNeverFault}
 use Rattle.law_checked.proofs.OneFolder.{parts_one, roles_one}

@@ -1,13 +1,13 @@
 -- A folder that tells what it holds has one list of parts, and one file of roles.
-use Rattle.std.proofs.Common.{◌≡◌, ◌<◌, ◌≤◌, ◌+◌, ◌==◌, ℕ, zero, suc, Bool, true, false, cond, List, [], ◌∷◌, length, find, Option, Some, None, IsSome}
+use Rattle.std.proofs.Common.{◌≡◌, ◌<◌, ◌==◌, ℕ, suc, Bool, true, false, cond, List, [], ◌∷◌, find, Option, Some, None, IsSome}
 use Rattle.std.proofs.Common.{IfSome, IsNone, option_map, refl, sym, ap, subst, ◌∙◌, arith, ◌⊎◌, inl, inr}
 use Rattle.std.specs.FinMap as map
-use Rattle.std.specs.Prelude.{nat_lt, is_some}
-use Rattle.std.proofs.lemmas.Bool.{eqb-true, ne_eqb, eq-eqb, ltb-true}
+use Rattle.std.specs.Prelude.{nat_lt}
+use Rattle.std.proofs.lemmas.Bool.{eq-eqb, ltb-true}
 use Rattle.std.proofs.lemmas.Bool.Decides.{nat_tests}
 use Rattle.cap_files.specs.Folder.{Folders, Parts, IsThere, IsAbsent}
 use Rattle.cap_package.specs.Parts.{Lent, held, is_of, bytes_of}
-use Rattle.capcheck_core.specs.Loads.{is_asked, Has, Rise, AreLoaded, AreParts}
+use Rattle.capcheck_core.specs.Loads.{is_asked, Has, Rise, AreParts}
 use Rattle.capcheck_core.specs.Roles.{AreRolesIn, roles_key}
 use Rattle.capcheck_core.proofs.Loads.{asked_by}
 

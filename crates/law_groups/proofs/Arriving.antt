@@ -1,16 +1,15 @@
 -- After its instruction, a group goes on into that of the next place: the stack goes into homes where that is a leader, and locals are
 -- copied.
-use Rattle.std.proofs.Common.{◌≡◌, ℕ, suc, ◌+◌, ◌*◌, ◌<◌, ◌≤◌, Bool, true, false, if◌then◌else◌, inl, List, [], ◌∷◌}
-use Rattle.std.proofs.Common.{◌++◌, length, map, reverse, refl, sym, ap, ◌∙◌, subst, arith}
+use Rattle.std.proofs.Common.{◌≡◌, ℕ, suc, ◌+◌, ◌<◌, ◌≤◌, Bool, true, false, if◌then◌else◌, inl, List, [], ◌∷◌}
+use Rattle.std.proofs.Common.{◌++◌, length, map, refl, sym, ap, ◌∙◌, subst, arith}
 use Rattle.std.specs.Prelude.{Option, Some, None, Ok, IfSome, IsSomeAnd, is_some, slice_get}
 use Rattle.std.proofs.lemmas.List.{length-map, length-reverse}
 use Rattle.jc_base.specs.declared.ty.Ty.{Ty}
 use Rattle.jc_base.specs.declared.ty.Ty.TheVariants.{Top}
 use Rattle.jc_base.specs.Class.{ClassTable}
-use Rattle.jc_base.specs.Each.{Each, IsAmong}
+use Rattle.jc_base.specs.Each.{IsAmong}
 use Rattle.jc_base.specs.World.{Linked}
 use Rattle.jc_decode.specs.declared.insn.Placed.{Placed}
-use Rattle.jc_decode.specs.declared.symbols.Item.{Item}
 use Rattle.jc_decode.specs.Listing.{listing}
 use Rattle.jc_decode.specs.Standing.{AreSteps}
 use Rattle.jc_control.specs.Control.{IsReached, falls_through}
@@ -21,7 +20,6 @@ use Rattle.jc_rules.specs.Demand.{Frame as Types}
 use Rattle.jc_rules.specs.Flow.{At, CellsBelow, FrameBelow, IsFit, no_cells, more_cells}
 use Rattle.law_sound.proofs.Going.{goes-on}
 use Rattle.vm_store.specs.declared.cell.Cell.{Cell}
-use Rattle.vm_store.specs.declared.kind.ObjectKind.{ObjectKind}
 use Rattle.vm_store.specs.Cells.{tagged}
 use Rattle.vm_store.specs.Objects.{kinds}
 use Rattle.vm_store.specs.State.{State, Frame, Object, IsRunning, other_frames, top}
@@ -34,7 +32,6 @@ use Rattle.law_alike.specs.Alike.{renamed_cell}
 use Rattle.xf_homes.specs.declared.home.Home.{Home}
 use Rattle.xf_homes.specs.Home.{KeepsStack, register_count}
 use Rattle.xf_homes.specs.Laws.{HasRegister}
-use Rattle.xf_homes.specs.Order.{register_sum}
 use Rattle.xf_homes.specs.Value.{type_width}
 use Rattle.xf_homes.proofs.Meeting.{value-inside}
 use Rattle.xf_homes.specs.Source.{Source}
@@ -45,12 +42,12 @@ use Rattle.xf_emission.specs.Move.{spill}
 use Rattle.xf_emission.specs.Group.{body, fall, fallen, group}
 use Rattle.law_rewritten_typing.specs.Planned.{KeepsValues}
 use Rattle.law_rewritten_typing.specs.Edges.{CellsFillStack, LeadsTo, NeededHaveHomes, leads_after}
-use Rattle.law_homes.specs.Edges.{AreCarried, AreSpilled, CellsAreFew, CopiesAreFew, EdgesRun, HoldsAfter, IsBeside, KeptStacksStay, StacksSpill, insns, top_at}
-use Rattle.law_homes.specs.Held.{HoldsFrame, HoldsValue, HoldsLocals, Waits, slots}
+use Rattle.law_homes.specs.Edges.{CellsAreFew, CopiesAreFew, EdgesRun, HoldsAfter, IsBeside, KeptStacksStay, StacksSpill, insns, top_at}
+use Rattle.law_homes.specs.Held.{HoldsFrame, HoldsValue, Waits, slots}
 use Rattle.law_homes.specs.Moves.{IsAtStep}
 use Rattle.law_homes.proofs.Beside.{each-among, among-each, held-as}
 use Rattle.law_groups.specs.Laid.{IsLaidIn, body_at, count_of, group_at, rename, steps_of}
-use Rattle.law_groups.specs.Beside.{AreEqualBut, AreOf, HeldOrWaits, IsAtGroup, IsTypedAt, SameUnder}
+use Rattle.law_groups.specs.Beside.{AreOf, HeldOrWaits, IsTypedAt}
 use Rattle.law_groups.specs.Comes.{AreAtGroup}
 use Rattle.law_groups.specs.Body.{AreAfter}
 use Rattle.law_groups.specs.Steps.{GroupsFollow, GroupsStandAtSteps, ItemsStandFrom}

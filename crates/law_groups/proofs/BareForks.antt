@@ -1,21 +1,17 @@
 -- A conditional branch or a switch with no cells under its operands: its step in laid code, and where that leads.
-use Rattle.std.proofs.Common.{◌≡◌, ◌≢◌, ℕ, zero, suc, ◌+◌, ◌-◌, ◌*◌, ◌<◌, ◌≤◌, Bool, true, false, if◌then◌else◌, List}
-use Rattle.std.proofs.Common.{[], ◌∷◌, ◌++◌, length, map, refl, sym, ap, ◌∙◌, subst, arith}
-use Rattle.std.specs.Prelude.{ℤ, pos, negsuc, All, Contains, Option, Some, None, Ok, is_some, nat_le, nat_lt, slice_get}
+use Rattle.std.proofs.Common.{◌≡◌, ℕ, zero, suc, ◌+◌, ◌-◌, ◌≤◌, false, if◌then◌else◌, List}
+use Rattle.std.proofs.Common.{[], ◌∷◌, ◌++◌, refl, ap, ◌∙◌, arith}
+use Rattle.std.specs.Prelude.{ℤ, Option, Some, None, Ok, nat_lt, slice_get}
 use Rattle.std.specs.List.{filter}
 use Rattle.std.proofs.lemmas.Bool.Decides.{nat_tests}
 use Rattle.jc_base.specs.declared.ty.Ty.{Ty}
 use Rattle.jc_base.specs.Each.{Each}
-use Rattle.jc_decode.specs.declared.insn.Case.{Case}
 use Rattle.jc_decode.specs.declared.insn.Insn.{Insn}
 use Rattle.jc_decode.specs.declared.insn.Placed.{Placed}
-use Rattle.jc_decode.specs.declared.symbols.Item.{Item}
-use Rattle.jc_decode.specs.declared.symbols.Item.TheVariants.{Branch, Label, Plain, Switch}
-use Rattle.jc_decode.specs.Cases.{cases}
+use Rattle.jc_decode.specs.declared.symbols.Item.TheVariants.{Branch, Switch}
 use Rattle.jc_decode.specs.Forms.{wide}
-use Rattle.jc_decode.specs.Listing.{target, targets}
-use Rattle.jc_decode.specs.Symbols.{Step, jump, place_of, steps_in}
-use Rattle.jc_ops.specs.declared.operation.Branch.{Branch as Test}
+use Rattle.jc_decode.specs.Listing.{targets}
+use Rattle.jc_decode.specs.Symbols.{jump}
 use Rattle.jc_ops.specs.declared.operation.Branch.TheVariants as branches
 use Rattle.jc_ops.specs.declared.operation.Operation.{Operation}
 use Rattle.jc_ops.specs.declared.operation.Operation.TheVariants as ops
@@ -23,18 +19,13 @@ use Rattle.xf_homes.specs.declared.home.Home.{Home}
 use Rattle.xf_homes.specs.Home.{register_count}
 use Rattle.xf_homes.specs.Value.{value_in_cells}
 use Rattle.xf_homes.specs.Walk.{operands_of}
-use Rattle.jc_base.specs.World.{Linked}
 use Rattle.xf_homes.specs.Source.{Source}
 use Rattle.xf_homes.specs.Plan.{stack_homes, cells_from, depth, home_of, stack_of, with_home_of}
 use Rattle.xf_emission.specs.declared.origin.Origin.TheVariants.{After}
 use Rattle.xf_emission.specs.Edge.{cell_copies, copies}
-use Rattle.xf_emission.specs.Emission.{items}
-use Rattle.xf_emission.specs.Group.{body, branch_by, itself}
-use Rattle.xf_emission.specs.Jump.{branch, operands_slot, first_label, goto, has_under, jump_to, label_by, lead, leads, place as place_named, spill_if, stub}
-use Rattle.xf_emission.specs.Jump.{stub_label, stub_of, branch_copies, under, way_of}
-use Rattle.law_groups.specs.Laid.{count_of, steps_of}
-use Rattle.law_groups.specs.Steps.{ItemsStandFrom}
-use Rattle.law_groups.proofs.Standing.{step-at}
+use Rattle.xf_emission.specs.Group.{body, branch_by}
+use Rattle.xf_emission.specs.Jump.{branch, operands_slot, has_under, jump_to, lead, leads, spill_if}
+use Rattle.xf_emission.specs.Jump.{branch_copies, under, way_of}
 
 -- ---- the body
 

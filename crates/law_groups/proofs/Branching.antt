@@ -1,23 +1,21 @@
 -- One step of the target for one of the source at a conditional branch or a switch.
-use Rattle.std.proofs.Common.{◌≡◌, ℕ, suc, ◌+◌, ◌<◌, ◌≤◌, ◌⊎◌, inl, inr, Bool, true, false, List, [], ◌∷◌, length, map, refl}
+use Rattle.std.proofs.Common.{◌≡◌, ℕ, ◌+◌, ◌<◌, ◌≤◌, ◌⊎◌, inl, inr, Bool, true, false, List, [], length, map, refl}
 use Rattle.std.proofs.Common.{sym, ap, ◌∙◌, subst, arith}
-use Rattle.std.specs.Prelude.{ℤ, pos, All, Contains, Option, Some, None, Ok, is_some, option_map, slice_get, ⊤}
+use Rattle.std.specs.Prelude.{ℤ, pos, All, Contains, Option, Some, None, Ok, option_map, slice_get, ⊤}
 use Rattle.std.proofs.lemmas.Bool.{cases_lt}
 use Rattle.std.proofs.lemmas.Option.{slice_get-map}
 use Rattle.jc_base.specs.declared.record.MethodRec.{MethodRec}
-use Rattle.jc_base.specs.World.{Linked, IsWorld}
+use Rattle.jc_base.specs.World.{Linked}
 use Rattle.jc_decode.specs.declared.insn.Case.{Case}
 use Rattle.jc_decode.specs.declared.insn.Insn.{Insn}
 use Rattle.jc_decode.specs.declared.insn.Placed.{Placed}
 use Rattle.jc_decode.proofs.Ranges.{op-fits}
 use Rattle.jc_decode.specs.Cases.{cases}
-use Rattle.jc_decode.specs.Forms.{wide}
 use Rattle.jc_decode.specs.Laws.{InstructionsAreListed}
 use Rattle.jc_decode.specs.Listing.{listing, targets}
 use Rattle.jc_decode.specs.Standing.{AreSteps}
-use Rattle.jc_decode.specs.Symbols.{jump, place_of}
+use Rattle.jc_decode.specs.Symbols.{place_of}
 use Rattle.jc_control.specs.WellFormed.{IsPlace, IsTargetPlace, HasInstruction}
-use Rattle.jc_ops.specs.declared.operation.Branch.TheVariants as branches
 use Rattle.jc_ops.specs.declared.operation.Operation.{Operation}
 use Rattle.jc_ops.specs.declared.operation.Operation.TheVariants as ops
 use Rattle.jc_ops.specs.Alike.{IsAlike, equal}
@@ -34,8 +32,7 @@ use Rattle.vm_step.specs.Methods.{code_at, max_stack_of}
 use Rattle.vm_step.specs.Performed.{act}
 use Rattle.vm_step.specs.Raising.{Outcome, running}
 use Rattle.vm_step.specs.Step.{Steps}
-use Rattle.law_erasure.specs.Erasure.{IsNoFault}
-use Rattle.law_alike.specs.Alike.{AreAlike, IsOneToOne, StayAlike, renamed_cell, renamed_new}
+use Rattle.law_alike.specs.Alike.{AreAlike, StayAlike, renamed_cell, renamed_new}
 use Rattle.law_alike.specs.Likeness.{StepsAreAlike}
 use Rattle.law_alike.specs.Running.{ComeAlike, Executes, HaveKeys, call_alike, end_alike, exception_alike, keys_at, next_alike, return_alike, target_alike}
 use Rattle.law_alike.specs.Running.{throw_alike, top_code}
@@ -45,7 +42,7 @@ use Rattle.law_laid.specs.Apart.{apart_from_code}
 use Rattle.law_laid.specs.Laws.{DemandsAreKept, OperationsAreKept}
 use Rattle.law_laid.proofs.Steps.{all-contained, at-contains, preimage}
 use Rattle.xf_homes.specs.Source.{Source}
-use Rattle.xf_homes.specs.Plan.{operation, register}
+use Rattle.xf_homes.specs.Plan.{register}
 use Rattle.xf_emission.specs.Emission.{items}
 use Rattle.xf_emission.specs.Jump.{lead, way_of}
 use Rattle.law_rewritten_typing.proofs.Rows.{wide-is}

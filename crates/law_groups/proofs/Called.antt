@@ -1,5 +1,5 @@
 -- What is called is a call.
-use Rattle.std.proofs.Common.{◌≡◌, ℕ, ◌+◌, ◌*◌, ◌==◌, Bool, true, false, if◌then◌else◌, [], ◌∷◌, List, refl, subst}
+use Rattle.std.proofs.Common.{◌≡◌, ℕ, ◌+◌, ◌*◌, ◌==◌, Bool, true, false, if◌then◌else◌, [], ◌∷◌, refl, subst}
 use Rattle.std.specs.Prelude.{ℤ, pos, negsuc, Option, Some, None, ⊤}
 use Rattle.jc_base.specs.declared.ty.Ty.{Ty}
 use Rattle.jc_base.specs.declared.ty.Ty.TheVariants.{Short, IntHigh}
@@ -22,7 +22,7 @@ use Rattle.vm_store.specs.Value.{value_in}
 use Rattle.vm_arithmetic.specs.Arithmetic.{short_of_word}
 use Rattle.vm_step.specs.declared.exception.Exception.{Exception}
 use Rattle.vm_step.specs.declared.exception.Exception.TheVariants as exceptions
-use Rattle.vm_step.specs.Act.{Act, calls, goes, jumps, raises, throws, if_some, unless_null}
+use Rattle.vm_step.specs.Act.{Act, calls, goes, raises, throws, if_some, unless_null}
 use Rattle.vm_step.specs.Branching.{branch_width, is_taken, leads_if}
 use Rattle.vm_step.specs.Calls.{return_act}
 use Rattle.vm_step.specs.Fields.{elements_of, held_handle, element_index, keeps_kind, with_element, with_field_read, with_field_write}

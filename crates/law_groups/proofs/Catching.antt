@@ -1,7 +1,7 @@
 -- From a step of a group the same handlers catch as from its place, in the same order.
-use Rattle.std.proofs.Common.{◌≡◌, ℕ, zero, suc, ◌+◌, ◌-◌, ◌<◌, ◌≤◌, ◌&&◌, Bool, true, false, if◌then◌else◌, cond, inl, inr}
+use Rattle.std.proofs.Common.{◌≡◌, ℕ, suc, ◌+◌, ◌-◌, ◌<◌, ◌≤◌, ◌&&◌, Bool, true, false, if◌then◌else◌, cond, inl, inr}
 use Rattle.std.proofs.Common.{List, [], ◌∷◌, ◌++◌, length, map, flat_map, refl, sym, ap, ◌∙◌, subst, arith, append_assoc}
-use Rattle.std.specs.Prelude.{Option, Some, None, Ok, ◌==◌, find, is_some, nat_le, nat_lt, slice_get}
+use Rattle.std.specs.Prelude.{Some, None, Ok, ◌==◌, find, is_some, nat_le, nat_lt, slice_get}
 use Rattle.std.proofs.lemmas.Bool.{false≢true, and_parts, and_from, and_left, and_right}
 use Rattle.std.proofs.lemmas.Bool.Decides.{nat_tests}
 use Rattle.std.proofs.lemmas.List.{length-append}
@@ -26,7 +26,7 @@ use Rattle.jc_ops.specs.declared.operation.Operation.{Operation}
 use Rattle.vm_store.specs.declared.cell.Cell.{Cell}
 use Rattle.vm_store.specs.State.{Frame}
 use Rattle.vm_step.specs.Methods.{handlers_of, of_method}
-use Rattle.vm_step.specs.Raising.{catches, handler_for}
+use Rattle.vm_step.specs.Raising.{catches}
 use Rattle.law_laid.specs.Laid.{catching, class_by}
 use Rattle.xf_homes.specs.Source.{Source}
 use Rattle.xf_homes.specs.Plan.{first_reached, operation}
@@ -35,12 +35,12 @@ use Rattle.xf_emission.specs.Edge.{copies}
 use Rattle.xf_emission.specs.Emission.{is_live, items, range, ranges, ranges_from, rewritten}
 use Rattle.xf_emission.specs.Group.{group}
 use Rattle.xf_emission.specs.Jump.{handler_label}
-use Rattle.xf_emission.specs.Laws.{GroupStands, GroupsStand, LabelsStandOnce, IsCode, of_end, of_place}
+use Rattle.xf_emission.specs.Laws.{GroupsStand, LabelsStandOnce, IsCode, of_end, of_place}
 use Rattle.law_groups.specs.Laid.{IsInGroup, IsLaidIn, count_of, group_at, steps_of}
 use Rattle.law_groups.specs.Beside.{StandsInGroup}
 use Rattle.law_groups.specs.Laws.{CatchAlike, GroupsCatch, both_catch, none_catches}
 use Rattle.law_groups.specs.Steps.{GroupsFollow, GroupsStandAtSteps}
-use Rattle.law_groups.proofs.Context.{Here, here-at, method-of, reached-some, target-at}
+use Rattle.law_groups.proofs.Context.{here-at, method-of, reached-some, target-at}
 use Rattle.law_groups.proofs.Handling.{covers-live, first-before, first-is}
 use Rattle.law_groups.proofs.Placing.{count-append, group-begins, place-once, steps-count}
 use Rattle.law_groups.proofs.Renaming.{places-rise}

@@ -1,20 +1,19 @@
 -- The group of a conditional branch or a switch with no cells under its operands.
-use Rattle.std.proofs.Common.{◌≡◌, ℕ, suc, ◌+◌, ◌<◌, ◌≤◌, Bool, true, false, if◌then◌else◌, List, [], ◌∷◌, length, map, refl}
+use Rattle.std.proofs.Common.{◌≡◌, ℕ, ◌+◌, ◌<◌, ◌≤◌, true, false, if◌then◌else◌, List, [], ◌∷◌, length, map, refl}
 use Rattle.std.proofs.Common.{sym, ap, ◌∙◌, subst, arith}
-use Rattle.std.specs.Prelude.{ℤ, pos, negsuc, All, Contains, Option, Some, None, Ok, IsSomeAnd, IfSome, is_some, slice_get, ⊤}
+use Rattle.std.specs.Prelude.{ℤ, pos, negsuc, Contains, Option, Some, None, Ok, IsSomeAnd, is_some, slice_get, ⊤}
 use Rattle.std.proofs.lemmas.Bool.{false≢true}
 use Rattle.std.proofs.lemmas.List.{length-map, nil_from_length}
 use Rattle.std.proofs.lemmas.List.Elements.{All-contains}
 use Rattle.jc_base.specs.Each.{Each}
-use Rattle.jc_base.specs.World.{Linked, IsWorld}
+use Rattle.jc_base.specs.World.{Linked}
 use Rattle.jc_decode.specs.declared.insn.Placed.{Placed}
 use Rattle.jc_decode.specs.declared.symbols.Item.{Item}
 use Rattle.jc_decode.specs.Laws.{InstructionsAreListed}
-use Rattle.jc_decode.specs.Listing.{target, targets}
+use Rattle.jc_decode.specs.Listing.{targets}
 use Rattle.jc_decode.specs.Symbols.{place_of}
-use Rattle.jc_control.specs.Control.{IsLeader, IsReached, IsSuccessor, follows, jumped, led_to}
-use Rattle.jc_control.specs.WellFormed.{IsPlace, IsTargetPlace, HasInstruction}
-use Rattle.jc_ops.specs.declared.operation.Branch.TheVariants as branches
+use Rattle.jc_control.specs.Control.{IsReached, follows, jumped, led_to}
+use Rattle.jc_control.specs.WellFormed.{IsTargetPlace, HasInstruction}
 use Rattle.jc_ops.specs.declared.operation.Operation.{Operation}
 use Rattle.jc_ops.specs.declared.operation.Operation.TheVariants as ops
 use Rattle.jc_ops.specs.Next.{falls_from, jumps_from}
@@ -29,14 +28,11 @@ use Rattle.law_sound.specs.Frames.{least_types, types_of_frame}
 use Rattle.vm_store.specs.declared.cell.Cell.{Cell}
 use Rattle.vm_store.specs.Cells.{tagged}
 use Rattle.vm_store.specs.Objects.{kinds}
-use Rattle.vm_store.specs.State.{State, Frame, IsRunning, other_frames, top}
-use Rattle.vm_step.specs.declared.ending.Ending.{Ending}
-use Rattle.vm_step.specs.declared.ending.Ending.TheVariants as endings
+use Rattle.vm_store.specs.State.{State, IsRunning, other_frames, top}
 use Rattle.vm_step.specs.declared.ending.Fault.{Fault}
 use Rattle.vm_step.specs.Act.{Act, goes, jumps}
-use Rattle.vm_step.specs.Methods.{code_at}
 use Rattle.vm_step.specs.Performed.{act}
-use Rattle.vm_step.specs.Raising.{Outcome, ended, running}
+use Rattle.vm_step.specs.Raising.{Outcome, running}
 use Rattle.vm_step.specs.Run.{Runs}
 use Rattle.vm_step.specs.Settled.{fault_next, fault_target, settled, unless_fault}
 use Rattle.vm_step.specs.Step.{Steps, performed, performs}
@@ -53,34 +49,35 @@ use Rattle.xf_homes.specs.Walk.{operands_of}
 use Rattle.law_laid.specs.Laws.{DemandsAreKept, OperationsAreKept}
 use Rattle.xf_homes.specs.Source.{Source}
 use Rattle.xf_homes.specs.Plan.{stack_homes, is_leader, needed, operation}
-use Rattle.xf_emission.specs.declared.origin.Origin.TheVariants.{After}
 use Rattle.xf_emission.specs.Edge.{is_stored}
 use Rattle.xf_emission.specs.Emission.{items}
 use Rattle.xf_emission.specs.Group.{body, fall, fall_by, fall_over, fallen}
-use Rattle.xf_emission.specs.Jump.{goto, has_under, jump_to, label_by, lead, place as place_named, stub, stub_label, stub_of, branch_copies, under, way_of}
+use Rattle.xf_emission.specs.Jump.{goto, has_under, jump_to, label_by, lead, place as place_named, stub, stub_label, stub_of, branch_copies}
+use Rattle.xf_emission.specs.Jump.{way_of}
 use Rattle.xf_emission.proofs.Ways.{way-found}
-use Rattle.law_rewritten_typing.specs.Edges.{AreMatched, CellsFillStack, ForksMatch, LeadsTo, NeededHaveHomes, leads_after, more_matched, none_matched}
+use Rattle.law_rewritten_typing.specs.Edges.{AreMatched, CellsFillStack, ForksMatch, NeededHaveHomes, leads_after, more_matched}
+use Rattle.law_rewritten_typing.specs.Edges.{none_matched}
 use Rattle.law_sound.proofs.Branches.{targets-are}
 use Rattle.law_homes.specs.Edges.{CellsAreFew, CellsRun, CopiesAreFew, EdgesRun, HoldsAfter, KeptStacksStay, LeadersLoad, StacksSpill}
-use Rattle.law_homes.specs.Held.{HoldsFrame, HoldsValue, HoldsLocals, slots}
+use Rattle.law_homes.specs.Held.{HoldsValue, HoldsLocals, slots}
 use Rattle.law_homes.specs.Laws.{KeptRunAlike, LocalsStay, NamesNoneWritesNone, StepsExecute}
-use Rattle.law_groups.specs.Laid.{IsLaidIn, body_at, count_of, group_at, rename, steps_of}
-use Rattle.law_groups.specs.Beside.{AreEqualBut, AreOf, IsAtGroup, IsTypedAt, MovesTop, SameUnder, StaysTyped}
-use Rattle.law_groups.specs.Comes.{AreAtGroup, ComesToGroup, ComesWithin, GroupRuns, group_stays}
+use Rattle.law_groups.specs.Laid.{IsLaidIn, body_at, count_of, rename, steps_of}
+use Rattle.law_groups.specs.Beside.{AreEqualBut, IsAtGroup, IsTypedAt, MovesTop, SameUnder, StaysTyped}
+use Rattle.law_groups.specs.Comes.{GroupRuns, group_stays}
 use Rattle.law_groups.specs.Body.{AreAfter}
 use Rattle.law_groups.specs.Laws.{RenamesOneToOne}
 use Rattle.law_groups.specs.Steps.{GroupsFollow, GroupsStandAtSteps, ItemsStandFrom, StubsStandAtSteps}
 use Rattle.law_groups.proofs.Arriving.{falls-arrive, leader-keeps, runs-then, same-count}
-use Rattle.law_groups.proofs.Branching.{AfterFork, IsLeading, leading, ForkComes, fork-steps, fork_falls, fork_leads}
-use Rattle.law_groups.proofs.Context.{method-of, reached-some, some-reached, source-code, typing-of}
-use Rattle.law_groups.proofs.Entering.{Entered, enters}
+use Rattle.law_groups.proofs.Branching.{IsLeading, leading, ForkComes, fork-steps, fork_falls, fork_leads}
+use Rattle.law_groups.proofs.Context.{method-of, reached-some, some-reached, typing-of}
+use Rattle.law_groups.proofs.Entering.{enters}
 use Rattle.law_groups.proofs.Following.{next-place, steps-here}
-use Rattle.law_groups.proofs.ForkSteps.{JumpStep, jump-step}
-use Rattle.law_groups.proofs.BareForks.{body-branch, branch-alone, labels_of, taken-is, under-none}
+use Rattle.law_groups.proofs.ForkSteps.{jump-step}
+use Rattle.law_groups.proofs.BareForks.{body-branch, branch-alone, labels_of, under-none}
 use Rattle.law_groups.proofs.Going.{group-inside}
 use Rattle.law_groups.proofs.OneGroup.{no-fault, same-method, turn-by}
 use Rattle.law_groups.proofs.Placing.{count-append}
-use Rattle.law_groups.proofs.Plain.{frames-are, one-step}
+use Rattle.law_groups.proofs.Plain.{one-step}
 use Rattle.law_groups.proofs.Standing.{stand-as, stand-inside}
 use Rattle.law_groups.proofs.Taking.{led-arrives}
 

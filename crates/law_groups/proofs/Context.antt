@@ -1,29 +1,21 @@
 -- A method that is laid in a world: its code there, step by step.
-use Rattle.std.proofs.Common.{◌≡◌, ℕ, zero, suc, ◌+◌, ◌<◌, ◌≤◌, Bool, true, false, if◌then◌else◌, List, [], ◌∷◌, ◌++◌}
-use Rattle.std.proofs.Common.{length, refl, sym, ap, ◌∙◌, subst, arith}
-use Rattle.std.specs.Prelude.{ℤ, pos, Option, Some, None, Result, Ok, IsSomeAnd, IfSome, is_some, nat_lt, slice_get}
-use Rattle.std.proofs.lemmas.Bool.Decides.{nat_tests}
-use Rattle.std.proofs.lemmas.Bool.{cases_lt}
+use Rattle.std.proofs.Common.{◌≡◌, ℕ, ◌+◌, true, if◌then◌else◌, []}
+use Rattle.std.proofs.Common.{length, sym, ap, ◌∙◌, subst}
+use Rattle.std.specs.Prelude.{Option, Some, None, Ok, IsSomeAnd, is_some, slice_get}
 use Rattle.jc_base.specs.declared.ty.Ty.TheVariants.{Top}
 use Rattle.jc_base.specs.declared.record.MethodRec.{MethodRec}
-use Rattle.jc_base.specs.World.{Linked, IsWorld, code_of}
-use Rattle.jc_decode.specs.declared.insn.Insn.{Insn}
+use Rattle.jc_base.specs.World.{Linked, code_of}
 use Rattle.jc_decode.specs.declared.insn.Placed.{Placed}
-use Rattle.jc_decode.specs.declared.symbols.Item.{Item}
-use Rattle.jc_decode.specs.Laws.{InstructionsAreListed}
 use Rattle.jc_decode.specs.Listing.{listing}
 use Rattle.jc_decode.specs.Standing.{AreSteps}
-use Rattle.jc_control.specs.Control.{IsReached, falls_through, follows}
+use Rattle.jc_control.specs.Control.{IsReached}
 use Rattle.jc_control.specs.Method.{IsMethodOf}
 use Rattle.jc_control.specs.WellFormed.{IsPlace, HasInstruction}
 use Rattle.jc_ops.specs.declared.operation.Operation.{Operation}
 use Rattle.jc_ops.specs.Resolve.{Resolves}
-use Rattle.jc_rules.specs.declared.effect.Mode.TheVariants.{Flow}
 use Rattle.jc_rules.specs.Demand.{Frame}
 use Rattle.jc_rules.specs.Flow.{FlowTyping, IsFollowed}
 use Rattle.vm_step.specs.Methods.{code_at, max_stack_of, of_method}
-use Rattle.law_laid.specs.Apart.{apart_from_code}
-use Rattle.law_laid.specs.Laws.{OperationsAreKept}
 use Rattle.xf_homes.specs.Source.{Source}
 use Rattle.xf_homes.specs.Plan.{operation}
 use Rattle.xf_emission.specs.Emission.{rewritten}

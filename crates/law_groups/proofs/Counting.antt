@@ -1,11 +1,11 @@
 -- An increment of a local, in its home at the place.
-use Rattle.std.proofs.Common.{◌≡◌, ◌≢◌, ℕ, suc, ◌+◌, ◌<◌, ◌≤◌, ◌⊎◌, inl, inr, Bool, true, false, List, [], ◌∷◌, length}
+use Rattle.std.proofs.Common.{◌≡◌, ℕ, ◌+◌, ◌<◌, ◌≤◌, ◌⊎◌, inl, inr, Bool, true, false, [], ◌∷◌}
 use Rattle.std.proofs.Common.{refl, sym, ap, ◌∙◌, subst, arith}
-use Rattle.std.specs.Prelude.{ℤ, pos, Option, Some, None, Ok, All, is_some, nat_lt, slice_get}
+use Rattle.std.specs.Prelude.{ℤ, pos, Some, Ok, nat_lt, slice_get}
 use Rattle.std.proofs.lemmas.Bool.Decides.{nat_tests}
 use Rattle.jc_base.specs.declared.ty.Ty.{Ty}
 use Rattle.jc_base.specs.declared.ty.Ty.TheVariants.{Short, IntHigh, IntLow}
-use Rattle.jc_base.specs.Each.{Each, IsAmong}
+use Rattle.jc_base.specs.Each.{IsAmong}
 use Rattle.jc_base.specs.Laws.{IsOrderOfTypes}
 use Rattle.jc_base.specs.Order.{Below}
 use Rattle.jc_base.specs.World.{Linked}
@@ -15,7 +15,6 @@ use Rattle.jc_decode.specs.declared.insn.Placed.{Placed}
 use Rattle.jc_decode.specs.declared.symbols.Item.TheVariants.{Plain}
 use Rattle.jc_decode.proofs.Ranges.{op-fits}
 use Rattle.jc_decode.specs.Laws.{InstructionsAreListed}
-use Rattle.jc_control.specs.Control.{IsReached}
 use Rattle.jc_control.specs.WellFormed.{IsPlace}
 use Rattle.jc_ops.specs.declared.operation.Operation.TheVariants as ops
 use Rattle.jc_ops.specs.declared.operation.Sort.{Sort}
@@ -42,10 +41,10 @@ use Rattle.xf_homes.specs.Value.{value_in_cells, type_width}
 use Rattle.law_laid.specs.Apart.{apart_from_code}
 use Rattle.law_laid.specs.Laws.{OperationsAreKept}
 use Rattle.xf_homes.specs.Source.{Source}
-use Rattle.xf_homes.specs.Plan.{local, needed, or_first, register}
+use Rattle.xf_homes.specs.Plan.{needed, or_first, register}
 use Rattle.xf_emission.specs.Group.{body, increased}
 use Rattle.xf_emission.specs.Move.{load_op}
-use Rattle.law_rewritten_typing.specs.Planned.{IsKept, IsPlanned}
+use Rattle.law_rewritten_typing.specs.Planned.{IsKept}
 use Rattle.law_rewritten_typing.specs.Edges.{NeededHaveHomes}
 use Rattle.law_rewritten_typing.specs.Whole.{DerivedAreWhole}
 use Rattle.law_rewritten_typing.proofs.Below.{loads-same, value-below}
@@ -53,7 +52,7 @@ use Rattle.law_rewritten_typing.proofs.Carried.{is-high}
 use Rattle.law_rewritten_typing.proofs.Ready.{IsValueAt, value-is}
 use Rattle.law_rewritten_typing.proofs.Rows.{increased-at}
 use Rattle.law_rewritten_typing.proofs.EdgeHomes.{kept-not-top}
-use Rattle.law_homes.specs.Held.{HoldsValue, HoldsLocals}
+use Rattle.law_homes.specs.Held.{HoldsValue}
 use Rattle.law_homes.specs.Laws.{AreApart, HomesStay, IncrementsRunAlike, StepsExecute, WrittenHold}
 use Rattle.law_homes.specs.Moves.{IsExecutable, letter_of, size}
 use Rattle.law_homes.proofs.Beside.{among-each, each-among}

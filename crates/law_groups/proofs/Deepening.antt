@@ -1,14 +1,13 @@
 -- The group of a conditional branch or a switch over a deeper stack: this goes into its own homes, and the operands come back.
-use Rattle.std.proofs.Common.{◌≡◌, ℕ, suc, ◌+◌, ◌<◌, ◌≤◌, inl, inr, Bool, true, false, if◌then◌else◌, List, [], ◌∷◌, ◌++◌}
+use Rattle.std.proofs.Common.{◌≡◌, ℕ, ◌+◌, ◌<◌, ◌≤◌, inl, inr, Bool, true, false, if◌then◌else◌, List, [], ◌∷◌, ◌++◌}
 use Rattle.std.proofs.Common.{length, map, take, drop, refl, sym, ap, ◌∙◌, subst, arith}
-use Rattle.std.specs.Prelude.{ℤ, pos, Option, Some, None, Ok, ◌↔◌, is_some, slice_get}
+use Rattle.std.specs.Prelude.{pos, Some, Ok, ◌↔◌, is_some, slice_get}
 use Rattle.std.proofs.lemmas.Bool.{false≢true}
 use Rattle.std.proofs.lemmas.List.{drop-map, length-append, length-reverse, take-map}
 use Rattle.jc_base.specs.Each.{Each, IsAmong}
 use Rattle.jc_base.specs.World.{Linked, IsWorld}
 use Rattle.jc_base.proofs.Eaching.{Each-weaker}
 use Rattle.jc_decode.specs.declared.insn.Placed.{Placed}
-use Rattle.jc_decode.specs.declared.symbols.Item.{Item}
 use Rattle.jc_decode.specs.Laws.{InstructionsAreListed}
 use Rattle.jc_decode.specs.Listing.{targets}
 use Rattle.jc_decode.specs.Symbols.{place_of}
@@ -39,7 +38,7 @@ use Rattle.law_laid.specs.Laws.{DemandsAreKept, OperationsAreKept}
 use Rattle.xf_homes.specs.Source.{Source}
 use Rattle.xf_homes.specs.Plan.{stack_homes, is_leader, needed, operation}
 use Rattle.xf_emission.specs.declared.origin.Origin.TheVariants.{After}
-use Rattle.xf_emission.specs.Edge.{copies, is_stored}
+use Rattle.xf_emission.specs.Edge.{copies}
 use Rattle.xf_emission.specs.Emission.{items}
 use Rattle.xf_emission.specs.Group.{body, fall, fall_by, fall_over, fallen}
 use Rattle.xf_emission.specs.Jump.{branch, has_under, jump_to, lead, leads, operands, spill_if, branch_copies, under, way_of}
@@ -54,11 +53,11 @@ use Rattle.law_homes.specs.Laws.{KeptRunAlike, LocalsStay, NamesNoneWritesNone, 
 use Rattle.law_homes.proofs.Beside.{among-each, each-among, held-as}
 use Rattle.law_homes.proofs.Loading.{step-place}
 use Rattle.law_groups.specs.Laid.{IsLaidIn, body_at, count_of, group_at, rename, steps_of}
-use Rattle.law_groups.specs.Beside.{AreEqualBut, AreOf, IsAtGroup, IsTypedAt, MovesTop, SameUnder, StaysTyped}
-use Rattle.law_groups.specs.Comes.{AreAtGroup, ComesToGroup, ComesWithin, GroupRuns, group_stays}
+use Rattle.law_groups.specs.Beside.{AreEqualBut, AreOf, IsAtGroup, IsTypedAt, MovesTop, StaysTyped}
+use Rattle.law_groups.specs.Comes.{ComesToGroup, ComesWithin, GroupRuns, group_stays}
 use Rattle.law_groups.specs.Laws.{RenamesOneToOne}
 use Rattle.law_groups.specs.Steps.{GroupsFollow, GroupsStandAtSteps, ItemsStandFrom, StubsStandAtSteps}
-use Rattle.law_groups.proofs.Arriving.{at-step, beside, kept-registers, leader-holds, leader-keeps, needed-local, other-holds, runs-then, same-count}
+use Rattle.law_groups.proofs.Arriving.{at-step, beside, kept-registers, needed-local, other-holds, runs-then}
 use Rattle.law_groups.proofs.Branching.{AfterFork, ForkComes, fork-steps, fork_falls, fork_leads}
 use Rattle.law_groups.proofs.Choosing.{frame-at, jumps-too, leads-inside, one-jump, unstored-fork}
 use Rattle.law_groups.proofs.Context.{method-of, some-reached, steps-are}
@@ -67,8 +66,8 @@ use Rattle.law_groups.proofs.Entering.{Entered, enters}
 use Rattle.law_groups.proofs.Following.{Next, next-of, steps-here}
 use Rattle.law_groups.proofs.ForkSteps.{jump-step}
 use Rattle.law_groups.proofs.BareForks.{body-branch, labels_of}
-use Rattle.law_groups.proofs.OneGroup.{Turn, no-fault, same-method, turn-by}
-use Rattle.law_groups.proofs.Moving.{copies-move, count-moves, loads-count, loads-move, moves-stand, spill-count, spill-moves}
+use Rattle.law_groups.proofs.OneGroup.{no-fault, same-method}
+use Rattle.law_groups.proofs.Moving.{copies-move, count-moves, loads-move, moves-stand, spill-count, spill-moves}
 use Rattle.law_groups.proofs.Placing.{count-append}
 use Rattle.law_groups.proofs.Plain.{frames-are, one-step}
 use Rattle.law_groups.proofs.Standing.{count-loads, stand-as, stand-at, stand-first, stand-inside, stand-last}

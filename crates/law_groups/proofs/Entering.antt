@@ -1,31 +1,27 @@
 -- At the beginning of its group a leader puts its stack back; then the source is held.
-use Rattle.std.proofs.Common.{◌≡◌, ℕ, suc, ◌+◌, ◌<◌, ◌≤◌, Bool, true, false, if◌then◌else◌, List, [], ◌∷◌, length, map, refl}
+use Rattle.std.proofs.Common.{◌≡◌, ℕ, ◌+◌, ◌<◌, ◌≤◌, Bool, true, false, if◌then◌else◌, [], length, refl}
 use Rattle.std.proofs.Common.{sym, ap, ◌∙◌, subst, arith}
-use Rattle.std.specs.Prelude.{Ok, is_some}
-use Rattle.jc_base.specs.Each.{Each}
+use Rattle.std.specs.Prelude.{is_some}
 use Rattle.jc_base.specs.World.{Linked}
-use Rattle.jc_decode.specs.declared.insn.Placed.{Placed}
-use Rattle.jc_control.specs.WellFormed.{HasInstruction}
-use Rattle.jc_ops.specs.declared.operation.Operation.{Operation}
 use Rattle.vm_store.specs.declared.cell.Cell.{Cell}
 use Rattle.vm_store.specs.Cells.{tagged}
-use Rattle.vm_store.specs.State.{State, Frame, IsRunning, other_frames, top}
+use Rattle.vm_store.specs.State.{State, IsRunning, top}
 use Rattle.vm_step.specs.Raising.{running}
 use Rattle.vm_step.specs.Run.{Runs, stands as none_taken}
 use Rattle.law_alike.specs.Alike.{renamed_cell}
 use Rattle.xf_homes.specs.Source.{Source}
-use Rattle.xf_homes.specs.Plan.{stack_homes, is_leader, needed, operation}
+use Rattle.xf_homes.specs.Plan.{stack_homes, is_leader, needed}
 use Rattle.xf_emission.specs.Move.{loads}
-use Rattle.law_homes.specs.Edges.{CellsAreFew, KeptStacksStay, LeadersLoad, insns, top_at}
+use Rattle.law_homes.specs.Edges.{CellsAreFew, KeptStacksStay, LeadersLoad, top_at}
 use Rattle.law_homes.specs.Held.{HoldsFrame, HoldsValue, Waits}
 use Rattle.law_homes.proofs.Beside.{each-among, among-each, held-as}
-use Rattle.law_groups.specs.Laid.{IsLaidIn, body_at, count_of, group_at, loaded_at, rename, steps_of}
+use Rattle.law_groups.specs.Laid.{IsLaidIn, body_at, group_at, loaded_at, rename, steps_of}
 use Rattle.law_groups.specs.Beside.{AreEqualBut, AreOf, HeldOrWaits, IsAtGroup, IsTypedAt, MovesTop}
 use Rattle.law_groups.specs.Steps.{GroupsFollow, GroupsStandAtSteps, ItemsStandFrom}
 use Rattle.law_groups.proofs.Arriving.{at-step, beside, leader-keeps}
 use Rattle.law_groups.proofs.Context.{Here, here-at, reached-some}
 use Rattle.law_groups.proofs.Following.{body-inside, steps-here}
-use Rattle.law_groups.proofs.Moving.{loads-count, loads-move, moves-stand}
+use Rattle.law_groups.proofs.Moving.{loads-move, moves-stand}
 use Rattle.law_groups.proofs.Plain.{frames-are}
 
 module _

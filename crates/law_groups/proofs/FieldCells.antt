@@ -1,8 +1,7 @@
 -- The cells that a write of a field takes from the stack, and the objects after it.
-use Rattle.std.proofs.Common.{◌≡◌, ℕ, zero, suc, ◌+◌, ◌<◌, ◌≤◌, List, [], ◌∷◌, ◌++◌, length, map, refl, sym, ap, ◌∙◌}
+use Rattle.std.proofs.Common.{◌≡◌, ℕ, zero, suc, ◌+◌, ◌≤◌, List, [], ◌∷◌, ◌++◌, length, map, refl, sym}
 use Rattle.std.proofs.Common.{subst, arith}
-use Rattle.std.specs.Prelude.{Option, Some, None, Ok, IsSomeAnd, drop, slice_get}
-use Rattle.std.proofs.lemmas.Option.{slice_get-map}
+use Rattle.std.specs.Prelude.{Option, Some, Ok, IsSomeAnd, drop, slice_get}
 use Rattle.jc_base.specs.Cell.{IsNoHalf, IsOfKind, width}
 use Rattle.jc_base.specs.Class.{AreClasses, ClassTable}
 use Rattle.jc_base.specs.Laws.{IsOrderOfTypes}
@@ -11,9 +10,7 @@ use Rattle.jc_base.specs.World.{Linked}
 use Rattle.jc_base.specs.declared.ty.Kind.{Kind}
 use Rattle.jc_base.specs.declared.ty.Kind.TheVariants as kinds_of
 use Rattle.jc_base.specs.declared.ty.Ty.{Ty}
-use Rattle.jc_base.specs.declared.ty.Ty.TheVariants.{Bottom, Short, IntHigh, IntLow, Null, Class, ArrBool, ArrByte, ArrShort, ArrInt, ArrRef, Fresh, Top}
-use Rattle.jc_ops.specs.declared.operation.Holder.TheVariants as holders
-use Rattle.jc_ops.specs.declared.operation.InstanceField.{InstanceField}
+use Rattle.jc_base.specs.declared.ty.Ty.TheVariants.{Bottom, Short, IntHigh, IntLow, Class, ArrBool, ArrByte, ArrShort, ArrInt, ArrRef}
 use Rattle.jc_ops.specs.declared.operation.Move.TheVariants as moves
 use Rattle.jc_ops.specs.declared.operation.Operation.TheVariants as ops
 use Rattle.jc_ops.specs.declared.want.Want.TheVariants.{Value}
@@ -21,16 +18,14 @@ use Rattle.jc_rules.specs.declared.demand.Demand.{Demand}
 use Rattle.jc_rules.specs.declared.demand.Demand.TheVariants.{Registers, Cell as CellAt, Held}
 use Rattle.jc_rules.specs.Demand.{Frame as Types, SatisfiesAll}
 use Rattle.jc_rules.specs.Footprint.{registers_asked, registers_read}
-use Rattle.jc_rules.specs.Rule.{demands, value_wanted, value_size}
+use Rattle.jc_rules.specs.Rule.{value_wanted, value_size}
 use Rattle.vm_store.specs.declared.cell.Cell.{Cell}
 use Rattle.vm_store.specs.declared.kind.ObjectKind.{ObjectKind}
 use Rattle.vm_store.specs.Typing.{least_type}
-use Rattle.vm_store.specs.Cells.{tagged, word_of}
-use Rattle.vm_store.specs.Laws.{HasContent}
+use Rattle.vm_store.specs.Cells.{tagged}
 use Rattle.vm_store.specs.Objects.{write_object}
-use Rattle.vm_store.specs.State.{State, Object}
-use Rattle.vm_store.specs.Value.{kept_value, value_on}
-use Rattle.vm_step.specs.Numbers.{handle_at}
+use Rattle.vm_store.specs.State.{Object}
+use Rattle.vm_store.specs.Value.{value_on}
 use Rattle.vm_step.specs.Values.{moved}
 use Rattle.law_sound.specs.Frames.{least_types}
 use Rattle.law_alike.specs.Alike.{renamed_cell}
@@ -40,7 +35,6 @@ use Rattle.jc_base.specs.Cell.{IsReference}
 use Rattle.jc_rules.specs.declared.demand.Demand.TheVariants.{Depth, Cut}
 use Rattle.jc_rules.specs.Flow.{IsNotFresh, IsNotTop}
 use Rattle.vm_store.specs.State.{nth}
-use Rattle.jc_decode.specs.declared.insn.Insn.{Insn}
 use Rattle.jc_base.specs.declared.record.MethodRec.{MethodRec}
 use Rattle.jc_ops.specs.Resolve.{Resolves}
 use Rattle.xf_emission.specs.Move.{with_byte}

@@ -1,14 +1,13 @@
 -- Where an instruction goes on, a further group follows its own.
-use Rattle.std.proofs.Common.{◌≡◌, ℕ, suc, ◌+◌, ◌-◌, ◌<◌, ◌≤◌, Bool, true, false, if◌then◌else◌, List, [], ◌∷◌, ◌++◌}
-use Rattle.std.proofs.Common.{length, refl, sym, ap, ◌∙◌, subst, arith}
-use Rattle.std.specs.Prelude.{Option, Some, None, Ok, IsSomeAnd, IsSome, is_some}
+use Rattle.std.proofs.Common.{◌≡◌, ℕ, ◌+◌, ◌-◌, ◌<◌, ◌≤◌, Bool, true, false, if◌then◌else◌, List, [], ◌∷◌, ◌++◌}
+use Rattle.std.proofs.Common.{length, sym, ap, ◌∙◌, arith}
+use Rattle.std.specs.Prelude.{Option, Some, None, Ok, is_some}
 use Rattle.jc_base.specs.World.{Linked}
 use Rattle.jc_base.specs.declared.ty.Kind.{Kind}
 use Rattle.jc_decode.specs.declared.insn.Placed.{Placed}
 use Rattle.jc_decode.specs.declared.symbols.Item.{Item}
 use Rattle.jc_decode.specs.declared.symbols.Item.TheVariants.{Plain}
-use Rattle.jc_decode.specs.Listing.{listing, targets}
-use Rattle.jc_decode.specs.Standing.{AreSteps}
+use Rattle.jc_decode.specs.Listing.{targets}
 use Rattle.jc_control.specs.Control.{IsReached, falls_through, follows}
 use Rattle.jc_control.specs.WellFormed.{IsPlace, HasInstruction}
 use Rattle.jc_ops.specs.declared.operation.Branch.TheVariants as branches
@@ -18,7 +17,6 @@ use Rattle.jc_ops.specs.declared.operation.Operation.TheVariants as ops
 use Rattle.jc_ops.specs.declared.operation.Sort.{Sort}
 use Rattle.jc_ops.specs.declared.operation.Sort.TheVariants as sorts
 use Rattle.jc_ops.specs.Next.{falls_from}
-use Rattle.jc_ops.specs.Resolve.{Resolves}
 use Rattle.law_sound.proofs.Going.{goes-on}
 use Rattle.vm_step.specs.Methods.{code_at}
 use Rattle.xf_homes.specs.declared.home.Home.{Home}
@@ -29,7 +27,7 @@ use Rattle.xf_emission.specs.declared.origin.Origin.TheVariants.{After}
 use Rattle.xf_emission.specs.Edge.{copies}
 use Rattle.xf_emission.specs.Move.{load, spill, with_byte}
 use Rattle.xf_emission.specs.Jump.{branch, goto, has_under, jump_to, leads, spill_if}
-use Rattle.xf_emission.specs.Group.{body, branch_by, fallen, field_read, field_written, first_place, gone, group, increased, itself, loaded, stays}
+use Rattle.xf_emission.specs.Group.{body, branch_by, field_read, field_written, first_place, gone, group, increased, itself, loaded, stays}
 use Rattle.xf_emission.specs.Group.{store_to_homes, swap_words}
 use Rattle.xf_emission.specs.Mnemonics.{from_read, from_write, swap_x}
 use Rattle.law_homes.proofs.Loading.{step-place}
@@ -37,7 +35,7 @@ use Rattle.law_groups.specs.Laid.{IsLaidIn, body_at, count_of, group_at, steps_o
 use Rattle.law_groups.specs.Steps.{GroupsFollow, GroupsStandAtSteps}
 use Rattle.law_groups.proofs.Placing.{count-append}
 use Rattle.law_groups.proofs.Standing.{GroupSteps, group-steps, stand-inside}
-use Rattle.law_groups.proofs.Context.{Here, here-at, reached-some, steps-are, typing-of}
+use Rattle.law_groups.proofs.Context.{here-at, reached-some, steps-are}
 
 -- ---- each instruction has a step at least
 

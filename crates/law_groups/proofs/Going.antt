@@ -1,20 +1,18 @@
 -- The way over an edge that ends with a goto: the stack goes into homes, locals are copied, and control goes to the group of a leader.
-use Rattle.std.proofs.Common.{◌≡◌, ℕ, suc, ◌+◌, ◌<◌, ◌≤◌, Bool, true, false, if◌then◌else◌, List, [], ◌∷◌, ◌++◌, length}
-use Rattle.std.proofs.Common.{map, refl, sym, ap, ◌∙◌, subst, arith}
-use Rattle.std.specs.Prelude.{Some, Ok, is_some, slice_get}
+use Rattle.std.proofs.Common.{◌≡◌, ℕ, ◌+◌, ◌<◌, ◌≤◌, true, List, [], ◌∷◌, ◌++◌, length}
+use Rattle.std.proofs.Common.{refl, sym, ap, ◌∙◌, subst, arith}
+use Rattle.std.specs.Prelude.{Some, is_some, slice_get}
 use Rattle.std.proofs.lemmas.List.{length-reverse}
 use Rattle.jc_base.specs.Each.{Each}
 use Rattle.jc_base.specs.World.{Linked}
-use Rattle.jc_decode.specs.declared.symbols.Item.{Item}
-use Rattle.jc_decode.specs.declared.symbols.Item.TheVariants.{Branch}
 use Rattle.jc_decode.specs.Listing.{listing}
 use Rattle.jc_decode.specs.Standing.{AreSteps}
-use Rattle.jc_decode.specs.Symbols.{Step, jump, place_of, steps_in}
+use Rattle.jc_decode.specs.Symbols.{jump, place_of}
 use Rattle.jc_control.specs.Control.{IsReached}
 use Rattle.vm_store.specs.declared.cell.Cell.{Cell}
 use Rattle.vm_store.specs.Cells.{tagged}
 use Rattle.vm_store.specs.State.{State, Frame, IsRunning, other_frames, top}
-use Rattle.vm_step.specs.Methods.{code_at, max_stack_of}
+use Rattle.vm_step.specs.Methods.{code_at}
 use Rattle.vm_step.specs.Raising.{running}
 use Rattle.vm_step.specs.Run.{Runs, stands as none_taken, steps as after_step}
 use Rattle.xf_homes.specs.declared.home.Home.{Home}
@@ -33,10 +31,10 @@ use Rattle.law_homes.specs.Laws.{StepsExecute}
 use Rattle.law_homes.proofs.Beside.{each-among, among-each, held-as}
 use Rattle.law_groups.specs.Laid.{IsLaidIn, body_at, count_of, group_at, steps_of}
 use Rattle.law_groups.specs.Beside.{AreEqualBut, AreOf, IsTypedAt, MovesTop}
-use Rattle.law_groups.specs.Comes.{AreAtGroup, ComesToGroup, ComesWithin}
+use Rattle.law_groups.specs.Comes.{ComesToGroup, ComesWithin}
 use Rattle.law_groups.specs.Steps.{GroupsFollow, GroupsStandAtSteps, ItemsStandFrom}
 use Rattle.law_groups.proofs.Arriving.{IsLocal, at-step, beside, kept-registers, leader-holds, leader-keeps, runs-then}
-use Rattle.law_groups.proofs.Context.{here-at, reached-some, steps-are, target-at, target-room}
+use Rattle.law_groups.proofs.Context.{here-at, reached-some, steps-are, target-at}
 use Rattle.law_groups.proofs.Following.{body-inside}
 use Rattle.law_groups.proofs.Leading.{goto-steps}
 use Rattle.law_groups.proofs.Moving.{copies-move, count-moves, moves-stand, spill-count, spill-moves}

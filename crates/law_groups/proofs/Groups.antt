@@ -1,6 +1,5 @@
 -- Whole groups, by the kind of the operation.
-use Rattle.std.proofs.Common.{◌≡◌, ℕ, false, refl}
-use Rattle.std.specs.Prelude.{Ok}
+use Rattle.std.proofs.Common.{◌≡◌, ℕ, false}
 use Rattle.jc_base.specs.World.{Linked}
 use Rattle.jc_decode.specs.declared.insn.Placed.{Placed}
 use Rattle.jc_ops.specs.declared.operation.Operation.{Operation}

@@ -1,18 +1,17 @@
 -- Where a handler catches an object: its stub puts it into its home, and leads to the group of the handler's entry.
-use Rattle.std.proofs.Common.{◌≡◌, ℕ, suc, ◌+◌, ◌-◌, ◌<◌, ◌≤◌, Bool, true, false, List, [], ◌∷◌, ◌++◌, length, refl, sym}
+use Rattle.std.proofs.Common.{◌≡◌, ℕ, suc, ◌+◌, ◌-◌, ◌<◌, ◌≤◌, Bool, true, false, [], ◌∷◌, ◌++◌, length, refl, sym}
 use Rattle.std.proofs.Common.{ap, ◌∙◌, subst, arith}
 use Rattle.std.specs.Prelude.{Option, Some, None, IfSome, IsSomeAnd, is_some, nat_lt, slice_get}
 use Rattle.std.proofs.lemmas.Bool.{false≢true}
 use Rattle.std.proofs.lemmas.Bool.Decides.{nat_tests}
 use Rattle.jc_base.specs.declared.record.Handler.{Handler}
 use Rattle.jc_base.specs.declared.ty.Ty.{Ty}
-use Rattle.jc_base.specs.Each.{Each, IsAmong}
+use Rattle.jc_base.specs.Each.{IsAmong}
 use Rattle.jc_base.specs.World.{Linked}
 use Rattle.jc_decode.specs.Symbols.{place_of}
 use Rattle.jc_decode.proofs.Elements.{Contains-slice_get}
-use Rattle.jc_control.specs.Control.{Covers, IsLeader, IsReached, entered}
+use Rattle.jc_control.specs.Control.{Covers, IsLeader, entered}
 use Rattle.jc_rules.specs.Demand.{Frame as Types}
-use Rattle.jc_rules.specs.Flow.{At}
 use Rattle.vm_store.specs.declared.cell.Cell.{Cell}
 use Rattle.vm_store.specs.State.{State, Frame, top}
 use Rattle.xf_homes.specs.declared.home.Home.{Home}
@@ -21,10 +20,10 @@ use Rattle.xf_homes.specs.Laws.{NeededAreKept}
 use Rattle.xf_homes.specs.Value.{value_in_cells}
 use Rattle.xf_homes.specs.Walk.{local_of}
 use Rattle.xf_homes.specs.Source.{Source}
-use Rattle.xf_homes.specs.Plan.{stack_homes, first_of, first_reached, home_of, is_leader, local, needed}
+use Rattle.xf_homes.specs.Plan.{stack_homes, first_reached, home_of, is_leader, needed}
 use Rattle.xf_emission.specs.declared.origin.Origin.TheVariants.{Entry}
 use Rattle.xf_emission.specs.Edge.{copies}
-use Rattle.xf_emission.specs.Emission.{catching_stub, is_live, items}
+use Rattle.xf_emission.specs.Emission.{is_live, items}
 use Rattle.xf_emission.specs.Jump.{goto, handler_label}
 use Rattle.xf_emission.specs.Move.{spill}
 use Rattle.xf_emission.proofs.Live.{IsFirst, is-first}

@@ -1,46 +1,42 @@
 -- Instructions that are kept as they are, and neither jump nor name a register.
-use Rattle.std.proofs.Common.{◌≡◌, ℕ, suc, ◌+◌, ◌<◌, Bool, true, false, List, [], ◌∷◌, length, refl, sym, ap, ◌∙◌, subst, arith}
-use Rattle.std.specs.Prelude.{max, Some, Ok, IfSome, slice_get}
-use Rattle.std.proofs.lemmas.Bool.{false≢true}
+use Rattle.std.proofs.Common.{◌≡◌, ℕ, ◌+◌, false, [], ◌∷◌, refl, sym, ap, ◌∙◌, subst, arith}
+use Rattle.std.specs.Prelude.{max, Ok, IfSome}
 use Rattle.jc_base.specs.Cell.{IsDeclared}
 use Rattle.jc_base.specs.World.{Linked, IsWorld}
 use Rattle.jc_base.specs.Linked.{IsMethod}
 use Rattle.jc_base.proofs.Lists.{All-slice_get}
 use Rattle.jc_decode.specs.declared.symbols.Item.TheVariants.{Plain}
-use Rattle.jc_decode.specs.declared.insn.Placed.{Placed}
 use Rattle.jc_control.specs.WellFormed.{IsPlace}
 use Rattle.jc_ops.specs.declared.operation.Operation.{Operation}
 use Rattle.jc_ops.specs.declared.operation.Operation.TheVariants as ops
 use Rattle.jc_ops.specs.declared.operation.Sort.TheVariants as sorts
 use Rattle.jc_ops.specs.Alike.{IsAlike, equal}
-use Rattle.jc_ops.specs.Next.{falls_from, jumps_from}
 use Rattle.jc_ops.specs.Resolve.{Resolves}
 use Rattle.jc_ops.specs.Sound.{IsSound, OperationsAreSound}
 use Rattle.jc_rules.specs.Footprint.{footprint, registers_asked}
 use Rattle.jc_rules.specs.Rule.{demands}
 use Rattle.vm_store.specs.declared.cell.Cell.{Cell}
-use Rattle.vm_store.specs.State.{State, top}
+use Rattle.vm_store.specs.State.{top}
 use Rattle.vm_step.specs.Methods.{code_at}
-use Rattle.law_alike.specs.Alike.{IsOneToOne, StayAlike, renamed_cell, renamed_new}
+use Rattle.law_alike.specs.Alike.{renamed_cell, renamed_new}
 use Rattle.law_alike.specs.Likeness.{StepsAreAlike}
-use Rattle.law_alike.specs.Running.{RunAlike, top_code}
+use Rattle.law_alike.specs.Running.{RunAlike}
 use Rattle.law_laid.specs.Apart.{apart_from_code}
 use Rattle.law_laid.specs.Laws.{DemandsAreKept, OperationsAreKept}
 use Rattle.xf_homes.specs.Source.{Source}
 use Rattle.xf_emission.specs.Edge.{is_stored}
 use Rattle.xf_emission.specs.Group.{body}
 use Rattle.law_homes.specs.Moves.{IsExecutable}
-use Rattle.law_homes.specs.Held.{HoldsLocals}
 use Rattle.law_homes.specs.Laws.{KeptRunAlike, LocalsStay, NamesNoneWritesNone, StepsExecute}
-use Rattle.law_groups.specs.Laid.{IsLaidIn, body_at, count_of, rename}
+use Rattle.law_groups.specs.Laid.{body_at, count_of, rename}
 use Rattle.law_groups.specs.Laws.{RenamesOneToOne}
 use Rattle.law_groups.specs.Steps.{GroupsFollow, GroupsStandAtSteps}
-use Rattle.law_groups.specs.Body.{AreAtBody, KeptRuns}
+use Rattle.law_groups.specs.Body.{KeptRuns}
 use Rattle.law_groups.proofs.Called.{called}
-use Rattle.law_groups.proofs.Context.{rename-is, target-at}
+use Rattle.law_groups.proofs.Context.{rename-is}
 use Rattle.law_groups.proofs.Following.{next-place, steps-here}
 use Rattle.law_groups.proofs.Plain.{alike, codes, comes, ex, falls-renamed, method-is, one-step}
-use Rattle.law_groups.proofs.Standing.{GroupSteps, stand-as, step-at}
+use Rattle.law_groups.proofs.Standing.{stand-as, step-at}
 
 -- ---- what names no register
 

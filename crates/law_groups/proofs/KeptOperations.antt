@@ -1,5 +1,5 @@
 -- Which operations rewritten code keeps as they are.
-use Rattle.std.proofs.Common.{◌≡◌, ℕ, false, [], ◌∷◌, refl, arith}
+use Rattle.std.proofs.Common.{◌≡◌, false, [], ◌∷◌, refl, arith}
 use Rattle.std.specs.Prelude.{None, Ok}
 use Rattle.jc_base.specs.World.{Linked}
 use Rattle.jc_decode.specs.declared.insn.Placed.{Placed}

@@ -1,14 +1,12 @@
 -- A goto to a label leads to the step for which the label stands.
 use Rattle.std.proofs.Common.{◌≡◌, ℕ, ◌+◌, ◌<◌, ◌≤◌, Bool, true, false, if◌then◌else◌, List, [], ◌∷◌, length, map, refl, sym}
 use Rattle.std.proofs.Common.{ap, ◌∙◌, subst, arith}
-use Rattle.std.specs.Prelude.{ℤ, pos, Option, Some, None, Ok, nat_lt, slice_get}
+use Rattle.std.specs.Prelude.{ℤ, pos, Some, None, Ok, nat_lt, slice_get}
 use Rattle.std.proofs.lemmas.Bool.{le-ltb}
 use Rattle.jc_base.specs.declared.record.MethodRec.{MethodRec}
-use Rattle.jc_base.specs.declared.ty.Ty.TheVariants.{Bottom}
 use Rattle.jc_base.specs.World.{Linked}
 use Rattle.jc_base.proofs.Lists.{slice_get-some}
 use Rattle.jc_decode.specs.declared.insn.Case.{Case}
-use Rattle.jc_decode.specs.declared.insn.Insn.{Insn}
 use Rattle.jc_decode.specs.declared.insn.Placed.{Placed}
 use Rattle.jc_decode.specs.Cases.{cases}
 use Rattle.jc_decode.specs.Listing.{jumps, listing, target, targets}
@@ -23,7 +21,7 @@ use Rattle.vm_store.specs.Cells.{tagged}
 use Rattle.vm_store.specs.State.{State, Frame, Object, top, with_place}
 use Rattle.vm_step.specs.declared.ending.Fault.TheVariants.{JumpFault, StackFault}
 use Rattle.vm_step.specs.Act.{Act, jumps as jumping}
-use Rattle.vm_step.specs.Methods.{code_at, instruction_at, max_stack_of}
+use Rattle.vm_step.specs.Methods.{code_at, max_stack_of}
 use Rattle.vm_step.specs.Performed.{act}
 use Rattle.vm_step.specs.Raising.{running}
 use Rattle.vm_step.specs.Settled.{fault_target, is_target_place, is_there, settled, unless_fault}

@@ -1,6 +1,6 @@
 -- The symbols of a method match its frames, wherever they are laid.
-use Rattle.std.proofs.Common.{◌≡◌, ◌<◌, ℕ, refl, sym, subst}
-use Rattle.std.specs.Prelude.{All, Contains}
+use Rattle.std.proofs.Common.{◌≡◌, ◌<◌, refl, sym, subst}
+use Rattle.std.specs.Prelude.{Contains}
 use Rattle.std.proofs.lemmas.List.Elements.{All-contains}
 use Rattle.jc_base.specs.declared.record.Handler.{Handler}
 use Rattle.jc_base.specs.declared.record.MethodRec.{MethodRec}
@@ -13,7 +13,7 @@ use Rattle.law_laid.specs.Laws.{CatchesByPool, MethodsAreKept, OperationsAreKept
 use Rattle.xf_homes.specs.Source.{Source}
 use Rattle.xf_emission.specs.Emission.{rewritten}
 use Rattle.law_rewritten_typing.specs.Planned.{IsPlanned}
-use Rattle.law_groups.specs.Laid.{AreLaidIn, IsLaidIn}
+use Rattle.law_groups.specs.Laid.{IsLaidIn}
 use Rattle.law_groups.specs.Laws.{CallsEnd, CallsReturn, GroupsCatch, GroupsRun, HandlersEnter, HasRoomForMore, RenamesOneToOne, StartsEnter}
 use Rattle.law_groups.specs.Matching.{MatchesFrames, RewrittenMatches}
 use Rattle.law_groups.proofs.Sounding.{can-run}

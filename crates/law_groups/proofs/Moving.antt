@@ -1,12 +1,10 @@
 -- Moves, as instructions that stand among the steps of a method.
-use Rattle.std.proofs.Common.{◌≡◌, ℕ, zero, suc, ◌+◌, ◌<◌, ◌≤◌, Bool, true, false, if◌then◌else◌, List, [], ◌∷◌, ◌++◌}
-use Rattle.std.proofs.Common.{length, map, flat_map, reverse, refl, sym, ap, ◌∙◌, subst, arith}
-use Rattle.std.specs.Prelude.{Option, Some, None, slice_get, ⊤}
-use Rattle.std.proofs.lemmas.List.{length-append}
-use Rattle.jc_decode.specs.declared.insn.Insn.{Insn}
+use Rattle.std.proofs.Common.{◌≡◌, ℕ, zero, suc, ◌+◌, Bool, true, false, if◌then◌else◌, List, [], ◌∷◌, ◌++◌}
+use Rattle.std.proofs.Common.{length, map, flat_map, reverse, refl, ap}
+use Rattle.std.specs.Prelude.{Option, Some, None, ⊤}
 use Rattle.jc_decode.specs.declared.symbols.Item.{Item}
 use Rattle.jc_decode.specs.declared.symbols.Item.TheVariants.{Plain, Branch, Switch, Label}
-use Rattle.jc_decode.specs.Symbols.{Step, steps_in}
+use Rattle.jc_decode.specs.Symbols.{steps_in}
 use Rattle.xf_homes.specs.declared.home.Home.{Home}
 use Rattle.xf_homes.specs.Home.{register_count}
 use Rattle.xf_homes.specs.Walk.{has}

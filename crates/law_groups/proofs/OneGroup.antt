@@ -1,7 +1,7 @@
 -- A group: the loads of a leader, the steps for the instruction, and the way into the next place.
-use Rattle.std.proofs.Common.{◌≡◌, ℕ, suc, ◌+◌, ◌<◌, ◌≤◌, Bool, true, false, if◌then◌else◌, List, [], ◌∷◌, length, refl, sym}
+use Rattle.std.proofs.Common.{◌≡◌, ℕ, ◌+◌, ◌≤◌, true, if◌then◌else◌, [], ◌∷◌, length, refl, sym}
 use Rattle.std.proofs.Common.{ap, ◌∙◌, subst, arith}
-use Rattle.std.specs.Prelude.{Option, Some, None, Ok, is_some, slice_get}
+use Rattle.std.specs.Prelude.{Some, None, Ok, is_some, slice_get}
 use Rattle.jc_base.specs.World.{Linked}
 use Rattle.jc_base.specs.declared.record.MethodRec.{MethodRec}
 use Rattle.jc_decode.specs.declared.insn.Placed.{Placed}
@@ -13,7 +13,7 @@ use Rattle.law_sound.proofs.Places.{instruction-there}
 use Rattle.vm_store.specs.declared.cell.Cell.{Cell}
 use Rattle.vm_store.specs.Cells.{tagged}
 use Rattle.vm_store.specs.State.{State, IsRunning, other_frames, top, without_top}
-use Rattle.vm_step.specs.Methods.{code_at, instruction_at}
+use Rattle.vm_step.specs.Methods.{code_at}
 use Rattle.vm_step.specs.Raising.{Outcome, running, ended}
 use Rattle.vm_step.specs.declared.ending.Ending.TheVariants as endings
 use Rattle.vm_step.specs.Run.{Runs}
@@ -31,13 +31,13 @@ use Rattle.law_homes.specs.Held.{HoldsFrame}
 use Rattle.law_rewritten_typing.specs.Edges.{CellsFillStack, NeededHaveHomes}
 use Rattle.law_groups.specs.Laid.{IsLaidIn, body_at, rename}
 use Rattle.law_groups.specs.Beside.{AreEqualBut, IsAtGroup, IsTypedAt, MovesTop, SameUnder, StaysTyped}
-use Rattle.law_groups.specs.Comes.{AreAtGroup, CallAlike, ComesWithin, GroupComes, GroupRuns, IsWithinGroup, group_calls, group_ends, group_gives, group_leaves}
+use Rattle.law_groups.specs.Comes.{AreAtGroup, GroupComes, GroupRuns, group_calls, group_ends, group_gives, group_leaves}
 use Rattle.law_groups.specs.Comes.{group_raises, group_stays, group_throws}
-use Rattle.law_groups.specs.Body.{AreAfter, AreAtBody, BodyComes, BodyRuns, body_done, body_falls}
+use Rattle.law_groups.specs.Body.{AreAtBody, BodyComes, BodyRuns, body_done, body_falls}
 use Rattle.law_groups.specs.Steps.{GroupsFollow, GroupsStandAtSteps}
-use Rattle.law_groups.proofs.Arriving.{Arrives, falls-arrive, runs-then}
+use Rattle.law_groups.proofs.Arriving.{falls-arrive, runs-then}
 use Rattle.law_groups.proofs.Context.{method-of, reached-some, source-code}
-use Rattle.law_groups.proofs.Entering.{Entered, enters}
+use Rattle.law_groups.proofs.Entering.{enters}
 
 -- ---- the instruction of the source
 

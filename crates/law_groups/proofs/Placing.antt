@@ -1,10 +1,8 @@
 -- Where the steps of groups and stubs stand.
-use Rattle.std.proofs.Common.{◌≡◌, ◌≢◌, ℕ, zero, suc, ◌+◌, ◌≤◌, Bool, true, false, if◌then◌else◌, List, [], ◌∷◌, ◌++◌}
+use Rattle.std.proofs.Common.{◌≡◌, ℕ, suc, ◌+◌, ◌≤◌, Bool, true, false, if◌then◌else◌, List, [], ◌∷◌, ◌++◌}
 use Rattle.std.proofs.Common.{length, flat_map, refl, sym, ap, ◌∙◌, subst, arith, append_assoc}
-use Rattle.std.specs.Prelude.{ℤ, Option, Some, None, Result, Ok, IsErr, is_some, cond, count_by, ◌==◌, slice_get}
-use Rattle.std.specs.List.{filter}
+use Rattle.std.specs.Prelude.{Option, Some, None, Result, Ok, IsErr, is_some, cond, count_by, ◌==◌}
 use Rattle.std.proofs.lemmas.Bool.{eq-eqb}
-use Rattle.std.proofs.lemmas.List.{length-append}
 use Rattle.std.proofs.lemmas.List.Concat.{flat_map-cons}
 use Rattle.std.proofs.lemmas.List.Sums.{sum_by-cons}
 use Rattle.jc_decode.specs.declared.insn.CodeEnd.{CodeEnd}
@@ -16,18 +14,15 @@ use Rattle.jc_decode.specs.Decoding.{decoded}
 use Rattle.jc_decode.specs.Laws.{InstructionsAreListed}
 use Rattle.jc_decode.specs.Listing.{listing, Lists}
 use Rattle.jc_decode.specs.Symbols.{IsOnce, is_label, place_of, steps_in}
-use Rattle.jc_control.specs.WellFormed.{HasInstruction}
 use Rattle.jc_rules.specs.Demand.{Frame}
 use Rattle.xf_homes.specs.Source.{Source}
-use Rattle.xf_emission.specs.declared.origin.Origin.TheVariants.{Start}
-use Rattle.xf_emission.specs.Edge.{copies}
 use Rattle.xf_emission.specs.Emission.{items}
 use Rattle.xf_homes.specs.Plan.{stack_homes, is_leader, operation}
 use Rattle.xf_emission.specs.Move.{loads}
 use Rattle.xf_emission.specs.Group.{done, group_by, group}
-use Rattle.xf_emission.specs.Laws.{GroupStands, GroupsStand, HandlersStand, LabelsStandOnce, StubsStand, IsCode, of_place}
-use Rattle.law_groups.specs.Laid.{count_of, group_at, steps_of}
-use Rattle.law_groups.specs.Steps.{ItemsStandFrom, GroupsStandAtSteps, StubsStandAtSteps, HandlersStandAtSteps, StartsStandAtSteps, GroupsFollow}
+use Rattle.xf_emission.specs.Laws.{GroupsStand, HandlersStand, LabelsStandOnce, StubsStand, of_place}
+use Rattle.law_groups.specs.Laid.{count_of, group_at}
+use Rattle.law_groups.specs.Steps.{ItemsStandFrom, GroupsStandAtSteps, StubsStandAtSteps, HandlersStandAtSteps, GroupsFollow}
 
 -- ---- steps of items
 

@@ -1,20 +1,19 @@
 -- One step of the target for one of the source, where the steps of both are plain instructions that are equal but for registers.
-use Rattle.std.proofs.Common.{◌≡◌, ℕ, zero, suc, ◌+◌, ◌<◌, ◌≤◌, ◌==◌, Bool, true, false, if◌then◌else◌, List, [], ◌∷◌}
-use Rattle.std.proofs.Common.{length, map, drop, refl, sym, ap, ◌∙◌, subst, arith}
-use Rattle.std.specs.Prelude.{ℤ, pos, All, Option, Some, None, Ok, is_some, slice_get}
+use Rattle.std.proofs.Common.{◌≡◌, ℕ, ◌+◌, ◌<◌, ◌≤◌, true, false, List, [], ◌∷◌}
+use Rattle.std.proofs.Common.{length, drop, refl, sym, ap, ◌∙◌, subst, arith}
+use Rattle.std.specs.Prelude.{ℤ, All, Some, Ok, slice_get}
 use Rattle.std.proofs.lemmas.List.{drop-map}
 use Rattle.std.proofs.lemmas.Option.{slice_get_within, same_Some}
 use Rattle.std.proofs.lemmas.Bool.{false≢true}
-use Rattle.jc_base.specs.declared.record.MethodRec.{MethodRec}
 use Rattle.jc_base.specs.Each.{Each}
-use Rattle.jc_base.specs.World.{Linked, IsWorld}
+use Rattle.jc_base.specs.World.{Linked}
 use Rattle.jc_base.proofs.Eaching.{Each-weaker}
 use Rattle.jc_decode.specs.declared.insn.Insn.{Insn}
 use Rattle.jc_decode.specs.declared.insn.Placed.{Placed}
 use Rattle.jc_decode.specs.Listing.{listing, targets}
 use Rattle.jc_decode.specs.Standing.{AreSteps}
 use Rattle.jc_decode.specs.Symbols.{Step}
-use Rattle.jc_control.specs.WellFormed.{IsPlace, IsTargetPlace, HasInstruction}
+use Rattle.jc_control.specs.WellFormed.{IsPlace, IsTargetPlace}
 use Rattle.jc_ops.specs.declared.operation.Callee.{Callee}
 use Rattle.jc_ops.specs.declared.operation.Operation.{Operation}
 use Rattle.jc_ops.specs.declared.operation.Operation.TheVariants as ops
@@ -31,20 +30,20 @@ use Rattle.vm_step.specs.Raising.{Outcome, running, ended}
 use Rattle.vm_step.specs.Run.{Runs, stands, stops, steps as after_step}
 use Rattle.vm_step.specs.Step.{Steps}
 use Rattle.law_alike.specs.Alike.{AreAlike, KeepsPlain, StayAlike, renamed_cell, renamed_new}
-use Rattle.law_alike.specs.Running.{ComeAlike, Executes, HaveKeys, call_alike, end_alike, exception_alike, keys_at, next_alike, return_alike, target_alike}
+use Rattle.law_alike.specs.Running.{ComeAlike, HaveKeys, call_alike, end_alike, exception_alike, keys_at, next_alike, return_alike}
+use Rattle.law_alike.specs.Running.{target_alike}
 use Rattle.law_alike.specs.Running.{throw_alike, top_code}
 use Rattle.xf_homes.specs.declared.home.Home.{Home}
 use Rattle.xf_homes.specs.Order.{register_sum}
 use Rattle.xf_homes.specs.Source.{Source}
-use Rattle.xf_homes.specs.Plan.{needed, operation, register}
+use Rattle.xf_homes.specs.Plan.{needed, register}
 use Rattle.xf_emission.specs.Edge.{is_stored}
 use Rattle.xf_emission.specs.Group.{body}
 use Rattle.law_homes.specs.Held.{HoldsValue, HoldsLocals}
 use Rattle.law_homes.specs.Laws.{CodesAgree, ExecutesStep, StepsExecute}
-use Rattle.law_homes.specs.Moves.{IsAtStep}
-use Rattle.law_groups.specs.Laid.{IsInGroup, IsLaidIn, body_at, count_of, group_at, rename, steps_of}
-use Rattle.law_groups.specs.Beside.{AreEqualBut, AreOf, IsTypedAt, IsUnderCall, StandsInGroup, MovesTop, SameUnder}
-use Rattle.law_groups.specs.Comes.{CallAlike, GroupComes, group_calls, group_ends, group_gives, group_raises, group_throws}
+use Rattle.law_groups.specs.Laid.{IsLaidIn, body_at, count_of, rename, steps_of}
+use Rattle.law_groups.specs.Beside.{IsUnderCall, StandsInGroup, MovesTop}
+use Rattle.law_groups.specs.Comes.{group_calls, group_ends, group_gives, group_raises, group_throws}
 use Rattle.law_groups.specs.Body.{AreAfter, AreAtBody, BodyComes, body_done, body_falls}
 use Rattle.law_groups.proofs.Context.{method-of, source-room, steps-are, target-at, target-room}
 use Rattle.law_groups.proofs.Standing.{GroupSteps}

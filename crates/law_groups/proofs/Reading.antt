@@ -1,7 +1,7 @@
 -- A load of a local, from its home at the place.
-use Rattle.std.proofs.Common.{◌≡◌, ℕ, suc, ◌+◌, ◌<◌, ◌≤◌, true, false, List, [], ◌∷◌, length, refl, sym, ap, ◌∙◌, subst}
+use Rattle.std.proofs.Common.{◌≡◌, ℕ, ◌+◌, ◌<◌, true, [], ◌∷◌, refl, sym, ap, ◌∙◌, subst}
 use Rattle.std.proofs.Common.{arith}
-use Rattle.std.specs.Prelude.{Option, Some, None, Result, Ok, All, IfSome, IsSomeAnd, is_some, slice_get}
+use Rattle.std.specs.Prelude.{Option, Some, None, Result, Ok, All, IfSome, IsSomeAnd, is_some}
 use Rattle.jc_base.specs.declared.ty.Ty.{Ty}
 use Rattle.jc_base.specs.declared.ty.Ty.TheVariants.{Short, IntHigh, IntLow, Class, Top}
 use Rattle.jc_base.specs.Class.{object}
@@ -35,10 +35,9 @@ use Rattle.law_alike.specs.Likeness.{StepsAreAlike}
 use Rattle.xf_homes.specs.declared.home.Home.{Home}
 use Rattle.xf_homes.specs.Home.{asked_here}
 use Rattle.xf_homes.specs.Value.{value_in_cells, type_width}
-use Rattle.xf_homes.specs.Walk.{local_of}
 use Rattle.xf_homes.specs.Source.{Source}
-use Rattle.xf_homes.specs.Plan.{home_of, local, needed, operation, or_first, register}
-use Rattle.xf_emission.specs.Move.{load, load_op, with_byte}
+use Rattle.xf_homes.specs.Plan.{local, needed, operation, or_first, register}
+use Rattle.xf_emission.specs.Move.{load_op, with_byte}
 use Rattle.xf_emission.specs.Group.{body, loaded}
 use Rattle.xf_emission.specs.Mnemonics.{aload}
 use Rattle.xf_homes.specs.Laws.{HasRegister, HomesServe, NeededAreKept, Serve}
@@ -62,7 +61,7 @@ use Rattle.law_groups.proofs.Arriving.{needed-local}
 use Rattle.law_groups.proofs.Called.{called}
 use Rattle.law_groups.proofs.Context.{method-of, some-reached, typing-of}
 use Rattle.law_groups.proofs.Following.{next-place, steps-here}
-use Rattle.law_groups.proofs.Plain.{alike, codes, comes, ex, falls-renamed, one-step}
+use Rattle.law_groups.proofs.Plain.{alike, codes, comes, ex, one-step}
 use Rattle.law_groups.proofs.Standing.{stand-as, step-at}
 
 -- the home of a local that is read with a letter

@@ -1,19 +1,18 @@
 -- No two places of uninitialised objects become one.
-use Rattle.std.proofs.Common.{◌≡◌, ℕ, suc, ◌+◌, ◌<◌, ◌≤◌, Bool, true, false, if◌then◌else◌, length, refl, sym, ap, ◌∙◌, subst}
+use Rattle.std.proofs.Common.{◌≡◌, ℕ, ◌+◌, ◌<◌, ◌≤◌, Bool, true, false, if◌then◌else◌, length, refl, sym, ap, ◌∙◌, subst}
 use Rattle.std.proofs.Common.{arith}
-use Rattle.std.specs.Prelude.{Ok, is_some, nat_lt}
+use Rattle.std.specs.Prelude.{is_some, nat_lt}
 use Rattle.std.proofs.lemmas.Bool.Decides.{nat_tests}
 use Rattle.jc_base.specs.World.{Linked}
 use Rattle.jc_decode.specs.Laws.{InstructionsAreListed}
 use Rattle.vm_step.specs.Methods.{code_at}
 use Rattle.xf_homes.specs.Source.{Source}
-use Rattle.xf_emission.specs.Group.{body, fallen, group}
 use Rattle.xf_emission.specs.Laws.{GroupsStand, LabelsStandOnce}
 use Rattle.law_homes.proofs.Standing.{rises}
-use Rattle.law_groups.specs.Laid.{IsLaidIn, body_at, count_of, group_at, rename, steps_of}
+use Rattle.law_groups.specs.Laid.{IsLaidIn, body_at, rename, steps_of}
 use Rattle.law_groups.specs.Laws.{RenamesOneToOne}
 use Rattle.law_groups.specs.Steps.{GroupsFollow, GroupsStandAtSteps}
-use Rattle.law_groups.proofs.Context.{Here, here-at, rename-is, steps-are}
+use Rattle.law_groups.proofs.Context.{here-at, rename-is, steps-are}
 use Rattle.law_groups.proofs.Following.{body-inside, some-body, steps-here}
 use Rattle.law_groups.proofs.Rising.{groups-rise}
 

@@ -1,36 +1,32 @@
 -- After a call, and where it ends.
-use Rattle.std.proofs.Common.{◌≡◌, ℕ, suc, ◌+◌, ◌<◌, ◌≤◌, Bool, true, false, List, [], ◌∷◌, length, refl, sym, ap, ◌∙◌, subst}
+use Rattle.std.proofs.Common.{◌≡◌, ℕ, ◌+◌, true, List, [], ◌∷◌, refl, sym, ap, ◌∙◌, subst}
 use Rattle.std.proofs.Common.{arith}
-use Rattle.std.specs.Prelude.{Some, None, Ok, is_some, slice_get}
+use Rattle.std.specs.Prelude.{Some, is_some, slice_get}
 use Rattle.std.proofs.lemmas.Bool.{false≢true}
-use Rattle.jc_base.specs.Each.{Each}
 use Rattle.jc_base.specs.World.{Linked}
 use Rattle.jc_base.proofs.Eaching.{Each-weaker}
 use Rattle.jc_decode.specs.declared.insn.Placed.{Placed}
 use Rattle.jc_decode.specs.declared.symbols.Item.TheVariants.{Plain}
-use Rattle.jc_decode.specs.Listing.{listing}
-use Rattle.jc_decode.specs.Standing.{AreSteps}
 use Rattle.jc_decode.specs.Symbols.{Step}
-use Rattle.jc_control.specs.WellFormed.{IsPlace, HasInstruction}
+use Rattle.jc_control.specs.WellFormed.{IsPlace}
 use Rattle.jc_ops.specs.declared.operation.Callee.{Callee}
 use Rattle.jc_ops.specs.declared.operation.Operation.TheVariants.{Call}
 use Rattle.vm_store.specs.declared.cell.Cell.{Cell}
-use Rattle.vm_store.specs.State.{State, Frame, IsRunning, top}
+use Rattle.vm_store.specs.State.{State, IsRunning, top}
 use Rattle.vm_step.specs.Methods.{code_at, instruction_at}
 use Rattle.vm_step.specs.Settled.{return_place}
 use Rattle.vm_step.specs.Raising.{running}
 use Rattle.xf_homes.specs.Source.{Source}
-use Rattle.xf_homes.specs.Plan.{needed, operation}
-use Rattle.xf_emission.specs.Edge.{is_stored}
+use Rattle.xf_homes.specs.Plan.{needed}
 use Rattle.xf_emission.specs.Group.{body}
 use Rattle.law_rewritten_typing.specs.Edges.{CellsFillStack, NeededHaveHomes}
 use Rattle.law_homes.specs.Edges.{CellsAreFew, CopiesAreFew, EdgesRun, KeptStacksStay, StacksSpill}
 use Rattle.law_homes.specs.Held.{HoldsValue}
 use Rattle.law_homes.proofs.Standing.{steps-stand-at-places}
 use Rattle.law_groups.specs.Laid.{IsLaidIn, body_at, count_of, steps_of}
-use Rattle.law_groups.specs.Beside.{AreEqualBut, IsTypedAt, IsUnderCall}
+use Rattle.law_groups.specs.Beside.{AreEqualBut, IsTypedAt}
 use Rattle.law_groups.specs.Comes.{ComesToGroup, ComesWithin}
-use Rattle.law_groups.specs.Laws.{CallsEnd, EndsAtNext, IsAfterCall}
+use Rattle.law_groups.specs.Laws.{CallsEnd, IsAfterCall}
 use Rattle.law_groups.specs.Steps.{GroupsFollow, GroupsStandAtSteps}
 use Rattle.law_groups.proofs.Arriving.{falls-arrive}
 use Rattle.law_groups.proofs.Context.{reached-some, steps-are}

@@ -1,25 +1,16 @@
 -- Every group, by the operation of its instruction.
-use Rattle.std.proofs.Common.{◌≡◌, ℕ, refl}
-use Rattle.std.specs.Prelude.{Ok}
+use Rattle.std.proofs.Common.{refl}
 use Rattle.jc_base.specs.World.{Linked}
 use Rattle.jc_decode.specs.declared.insn.Placed.{Placed}
 use Rattle.jc_ops.specs.declared.operation.Branch.TheVariants as branches
 use Rattle.jc_ops.specs.declared.operation.Holder.TheVariants as holders
 use Rattle.jc_ops.specs.declared.operation.Operation.{Operation}
 use Rattle.jc_ops.specs.declared.operation.Operation.TheVariants as ops
-use Rattle.vm_store.specs.declared.cell.Cell.{Cell}
-use Rattle.vm_store.specs.Cells.{tagged}
-use Rattle.vm_store.specs.State.{State, top}
-use Rattle.vm_step.specs.Raising.{Outcome}
-use Rattle.vm_step.specs.Step.{Steps}
 use Rattle.law_alike.specs.Running.{Executes}
-use Rattle.xf_homes.specs.Source.{Source}
 use Rattle.law_rewritten_typing.specs.Edges.{CellsFillStack, NeededHaveHomes}
 use Rattle.law_rewritten_typing.proofs.Turns.{none-asked}
 use Rattle.law_homes.specs.Moves.{IsExecutable}
 use Rattle.law_homes.specs.Edges.{CellsAreFew, CopiesAreFew, EdgesRun, KeptStacksStay, LeadersLoad, StacksSpill}
-use Rattle.law_groups.specs.Laid.{IsLaidIn}
-use Rattle.law_groups.specs.Beside.{AreEqualBut, IsAtGroup, IsTypedAt, StaysTyped}
 use Rattle.law_groups.specs.Comes.{GroupRuns}
 use Rattle.law_groups.specs.Fields.{ThisReadsRun, ThisWritesRun}
 use Rattle.law_groups.specs.Increasing.{IncrementBodiesRun}

@@ -1,8 +1,8 @@
 -- What running code asks of a world that differs from another in the code of its methods alone: classes, declared results, and
 -- operations that speak of what is there.
-use Rattle.std.proofs.Common.{◌≡◌, ℕ, ◌+◌, ◌≤◌, Bool, true, false, if◌then◌else◌, List, [], ◌∷◌, length, map, refl, sym, ap}
+use Rattle.std.proofs.Common.{◌≡◌, ℕ, ◌+◌, ◌≤◌, Bool, false, if◌then◌else◌, List, [], ◌∷◌, length, map, refl, sym, ap}
 use Rattle.std.proofs.Common.{◌∙◌, subst}
-use Rattle.std.specs.Prelude.{Option, Some, None, Ok, All, IsSomeAnd, IfSome, option_map, slice_get}
+use Rattle.std.specs.Prelude.{Option, Some, None, Ok, IsSomeAnd, IfSome, option_map, slice_get}
 use Rattle.std.specs.List.{filter, range_with_len}
 use Rattle.std.proofs.lemmas.List.{length-map}
 use Rattle.std.proofs.lemmas.List.Elements.{All-weaker}
@@ -14,14 +14,13 @@ use Rattle.jc_base.specs.Linked.{IsMethod}
 use Rattle.jc_base.specs.Dispatch.{HasBody, IsConcrete}
 use Rattle.jc_base.specs.World.{Linked, IsWorld}
 use Rattle.jc_base.proofs.Eaching.{All-from_Each, Each-from_All}
-use Rattle.jc_decode.specs.declared.insn.Insn.{Insn}
 use Rattle.jc_ops.specs.declared.want.Want.{Want}
 use Rattle.jc_ops.specs.declared.operation.Callee.{Callee}
 use Rattle.jc_ops.specs.declared.operation.Choice.{Choice}
 use Rattle.jc_ops.specs.declared.operation.Choice.TheVariants as choices
 use Rattle.jc_ops.specs.declared.operation.Operation.{Operation}
 use Rattle.jc_ops.specs.declared.operation.Operation.TheVariants as ops
-use Rattle.jc_ops.specs.Resolve.{Resolves, described, is_described, only, passes_test}
+use Rattle.jc_ops.specs.Resolve.{described, is_described, only, passes_test}
 use Rattle.jc_ops.specs.Sound.{IsSound, IsChosen, IsCalleeOf, OperationsAreSound, receiver_count}
 use Rattle.law_laid.specs.Apart.{apart_from_code, IsSameBut}
 use Rattle.law_laid.specs.Laws.{MethodsAreKept, OperationsAreKept}

@@ -1,6 +1,6 @@
 -- Parts of items whose steps stand among those of a method.
-use Rattle.std.proofs.Common.{◌≡◌, ℕ, suc, ◌+◌, ◌<◌, ◌≤◌, Bool, true, false, if◌then◌else◌, List, [], ◌∷◌, ◌++◌, length}
-use Rattle.std.proofs.Common.{map, refl, sym, ap, ◌∙◌, subst, arith, append_assoc}
+use Rattle.std.proofs.Common.{◌≡◌, ℕ, suc, ◌+◌, ◌≤◌, Bool, true, false, if◌then◌else◌, List, [], ◌∷◌, ◌++◌, length}
+use Rattle.std.proofs.Common.{refl, sym, ap, ◌∙◌, subst, arith, append_assoc}
 use Rattle.std.specs.Prelude.{Option, Some, None, Ok, is_some, slice_get}
 use Rattle.std.proofs.lemmas.List.{length-append}
 use Rattle.jc_decode.specs.declared.insn.Placed.{Placed}
@@ -13,7 +13,7 @@ use Rattle.jc_rules.specs.Demand.{Frame}
 use Rattle.xf_homes.specs.declared.home.Home.{Home}
 use Rattle.xf_homes.specs.Source.{Source}
 use Rattle.xf_homes.specs.Plan.{stack_homes, is_leader, operation}
-use Rattle.xf_emission.specs.Move.{load, loads}
+use Rattle.xf_emission.specs.Move.{loads}
 use Rattle.xf_emission.specs.Emission.{items}
 use Rattle.xf_emission.specs.Group.{body, done, entrance, fallen, group, group_by}
 use Rattle.xf_emission.specs.Laws.{IsCode}

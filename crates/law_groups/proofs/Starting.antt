@@ -1,24 +1,21 @@
 -- At the start of a method: arguments are copied to their homes, and then comes the first group.
-use Rattle.std.proofs.Common.{◌≡◌, ℕ, suc, ◌+◌, ◌-◌, ◌<◌, ◌≤◌, Bool, true, false, if◌then◌else◌, List, [], ◌∷◌, ◌++◌}
+use Rattle.std.proofs.Common.{◌≡◌, ℕ, ◌+◌, ◌-◌, ◌<◌, ◌≤◌, Bool, true, false, if◌then◌else◌, List, [], ◌∷◌, ◌++◌}
 use Rattle.std.proofs.Common.{length, map, flat_map, replicate, reverse, refl, sym, ap, ◌∙◌, subst, arith, append_assoc}
-use Rattle.std.specs.Prelude.{Option, Some, None, Ok, IsSomeAnd, is_some, slice_get, sum_by}
+use Rattle.std.specs.Prelude.{Option, Some, None, IsSomeAnd, is_some, sum_by}
 use Rattle.std.proofs.lemmas.List.{length-append, length-map, length-replicate, nil_from_length}
 use Rattle.std.proofs.lemmas.List.Concat.{flat_map-cons}
 use Rattle.std.proofs.lemmas.List.Sums.{sum_by-append}
-use Rattle.jc_base.specs.declared.record.MethodRec.{MethodRec}
 use Rattle.jc_base.specs.declared.ty.Ty.TheVariants.{Class, Top}
 use Rattle.jc_base.specs.Each.{Each}
 use Rattle.jc_base.specs.Linked.{IsMethod, receiver_words}
 use Rattle.jc_base.specs.World.{Linked, IsWorld}
 use Rattle.jc_base.proofs.Lists.{All-slice_get}
-use Rattle.jc_decode.specs.declared.insn.Placed.{Placed}
 use Rattle.jc_decode.specs.declared.symbols.Item.{Item}
 use Rattle.jc_decode.specs.declared.symbols.Item.TheVariants.{Label}
 use Rattle.jc_decode.specs.Laws.{InstructionsAreListed}
 use Rattle.jc_decode.specs.Listing.{listing}
 use Rattle.jc_decode.specs.Symbols.{IsOnce, place_of, steps_in}
 use Rattle.jc_control.specs.Control.{IsReached}
-use Rattle.jc_control.specs.WellFormed.{HasInstruction}
 use Rattle.jc_rules.specs.Demand.{Frame as Types}
 use Rattle.jc_rules.specs.Flow.{FrameBelow, receiver_of}
 use Rattle.vm_store.specs.declared.cell.Cell.{Cell}
@@ -39,7 +36,7 @@ use Rattle.xf_emission.specs.declared.origin.Origin.TheVariants.{Start}
 use Rattle.xf_emission.specs.Edge.{copies}
 use Rattle.xf_emission.specs.Emission.{catching_stubs, items, rewritten, stubs}
 use Rattle.xf_emission.specs.Group.{group}
-use Rattle.xf_emission.specs.Laws.{LabelsStandOnce, IsCode, of_place}
+use Rattle.xf_emission.specs.Laws.{LabelsStandOnce, of_place}
 use Rattle.law_rewritten_typing.specs.Edges.{CellsFillStack, NeededHaveHomes, leads_start}
 use Rattle.law_homes.specs.Edges.{CellsAreFew, CopiesAreFew, EdgesRun, IsBeside, StacksSpill, StartsHold, insns, top_at}
 use Rattle.law_homes.specs.Held.{HoldsValue, HoldsLocals, slots}
@@ -48,7 +45,7 @@ use Rattle.law_homes.proofs.Beside.{among-each, each-among, held-as}
 use Rattle.law_groups.specs.Laid.{IsLaidIn, count_of, group_at, rename, steps_of}
 use Rattle.law_groups.specs.Beside.{AreEqualBut, AreOf, HeldOrWaits, IsTypedAt}
 use Rattle.law_groups.specs.Comes.{ComesToGroup, ComesWithin}
-use Rattle.law_groups.specs.Steps.{GroupsFollow, GroupsStandAtSteps, ItemsStandFrom, StartsStandAtSteps}
+use Rattle.law_groups.specs.Steps.{GroupsFollow, GroupsStandAtSteps, StartsStandAtSteps}
 use Rattle.law_groups.proofs.Arriving.{at-step, beside, leader-holds, other-holds, same-count}
 use Rattle.law_groups.proofs.Context.{here-at, method-of, reached-some, target-at}
 use Rattle.law_groups.proofs.Going.{group-inside}

@@ -1,10 +1,10 @@
 -- A store of a local in laid code: the value goes into all homes that are needed after it.
 use Rattle.std.proofs.Common.{◌≡◌, ◌⊎◌, inl, inr, ℕ, zero, suc, ◌+◌, ◌*◌, ◌<◌, ◌≤◌, ◌==◌, ◌||◌, Bool, true, false, List}
 use Rattle.std.proofs.Common.{[], ◌∷◌, ◌++◌, drop, length, map, set, length-set, refl, sym, ap, ◌∙◌, subst, arith}
-use Rattle.std.specs.Prelude.{Option, Some, None, Ok, All, IsSomeAnd, option_map, flat_map, is_some, slice_get}
+use Rattle.std.specs.Prelude.{Option, Some, None, All, IsSomeAnd, option_map, flat_map, slice_get}
 use Rattle.std.proofs.lemmas.Bool.Decides.{nat_tests}
 use Rattle.std.proofs.lemmas.List.{length-map, map-append}
-use Rattle.std.proofs.lemmas.Option.{slice_get-map, slice_get-get_or}
+use Rattle.std.proofs.lemmas.Option.{slice_get-map}
 use Rattle.std.proofs.lemmas.Bool.{or_parts}
 use Rattle.jc_base.specs.declared.ty.Ty.{Ty}
 use Rattle.jc_base.specs.declared.ty.Ty.TheVariants.{Bottom, Short, IntHigh, IntLow, Class, Top}
@@ -14,7 +14,6 @@ use Rattle.jc_base.specs.Laws.{IsOrderOfTypes, SameTypeDecides}
 use Rattle.jc_base.specs.Order.{Below}
 use Rattle.jc_base.specs.World.{Linked, IsWorld}
 use Rattle.jc_base.proofs.Lists.{All-slice_get, slice_get-set_here, slice_get-set_other}
-use Rattle.jc_decode.specs.declared.insn.Insn.{Insn}
 use Rattle.jc_decode.specs.declared.insn.Placed.{Placed}
 use Rattle.jc_decode.specs.declared.symbols.Item.{Item}
 use Rattle.jc_ops.specs.declared.operation.Operation.{Operation}
@@ -23,19 +22,18 @@ use Rattle.jc_ops.specs.declared.operation.Sort.{Sort}
 use Rattle.jc_ops.specs.declared.operation.Sort.TheVariants as sorts
 use Rattle.jc_ops.specs.Sound.{OperationsAreDecided}
 use Rattle.jc_rules.specs.Demand.{Frame as Types, SatisfiesAll}
-use Rattle.jc_rules.specs.Flow.{CellsBelow, no_cells, more_cells, FrameBelow, IsFit, IsNotTop}
+use Rattle.jc_rules.specs.Flow.{CellsBelow, no_cells, more_cells, IsFit, IsNotTop}
 use Rattle.jc_rules.specs.Rule.{demands}
 use Rattle.vm_store.specs.declared.cell.Cell.{Cell}
-use Rattle.vm_store.specs.declared.cell.Cell.TheVariants.{Empty}
 use Rattle.vm_store.specs.declared.kind.ObjectKind.{ObjectKind}
 use Rattle.vm_store.specs.Typing.{least_type}
 use Rattle.vm_store.specs.Cells.{tagged}
 use Rattle.vm_store.specs.Laws.{HasContent}
 use Rattle.vm_store.specs.Objects.{kinds}
-use Rattle.vm_store.specs.State.{State, Frame, Object, IsRunning, first_frame, nth, other_frames, top, with_place}
+use Rattle.vm_store.specs.State.{State, Frame, Object, nth, other_frames, top, with_place}
 use Rattle.vm_step.specs.Performed.{act}
 use Rattle.vm_step.specs.Raising.{Outcome, running}
-use Rattle.vm_step.specs.Settled.{fault_next, settled, unless_fault}
+use Rattle.vm_step.specs.Settled.{fault_next, settled}
 use Rattle.vm_step.specs.Step.{Steps, performed, performs}
 use Rattle.vm_step.specs.Tests.{fault_before}
 use Rattle.vm_step.specs.Values.{with_store}
@@ -63,15 +61,15 @@ use Rattle.law_homes.proofs.Few.{same-value, one-few}
 use Rattle.law_homes.proofs.Stores.{stores-run, none-low}
 use Rattle.law_homes.proofs.Beside.{AreLaws, Typed, each-among, among-each, objects, typed, types, needed-valued}
 use Rattle.law_groups.specs.Laid.{IsLaidIn, body_at, count_of, rename, steps_of}
-use Rattle.law_groups.specs.Beside.{AreEqualBut, AreOf, IsTypedAt, StaysTyped}
-use Rattle.law_groups.specs.Body.{AreAfter, AreAtBody, BodyComes, BodyRuns, body_falls}
+use Rattle.law_groups.specs.Beside.{AreOf, IsTypedAt, StaysTyped}
+use Rattle.law_groups.specs.Body.{AreAtBody, BodyRuns, body_falls}
 use Rattle.law_groups.specs.Steps.{GroupsFollow, GroupsStandAtSteps, ItemsStandFrom}
 use Rattle.law_groups.specs.Storing.{StoreBodiesRun}
 use Rattle.law_groups.proofs.Arriving.{at-step, beside, depth-fits}
 use Rattle.law_groups.proofs.Following.{next-of, steps-here}
 use Rattle.law_groups.proofs.Moving.{AreMoves, count-moves, moves-both, moves-stand}
 use Rattle.law_groups.proofs.Plain.{frames-are}
-use Rattle.law_groups.proofs.Standing.{GroupSteps, stand-inside}
+use Rattle.law_groups.proofs.Standing.{GroupSteps}
 
 -- ---- cells
 

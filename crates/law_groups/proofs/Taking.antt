@@ -1,8 +1,8 @@
 -- The way over an edge that a conditional or a switch takes: cells, then locals are copied.
-use Rattle.std.proofs.Common.{◌≡◌, ◌≢◌, ℕ, suc, ◌+◌, ◌*◌, ◌<◌, ◌≤◌, Bool, true, false, if◌then◌else◌, List, [], ◌∷◌}
-use Rattle.std.proofs.Common.{◌++◌, length, map, refl, sym, ap, ◌∙◌, subst, arith}
-use Rattle.std.specs.Prelude.{ℤ, pos, Option, Some, Ok, is_some, slice_get}
-use Rattle.jc_base.specs.Each.{Each, IsAmong}
+use Rattle.std.proofs.Common.{◌≡◌, ◌≢◌, ℕ, ◌+◌, ◌*◌, ◌<◌, ◌≤◌, Bool, true, false, if◌then◌else◌, List, [], ◌∷◌}
+use Rattle.std.proofs.Common.{◌++◌, length, refl, sym, ap, ◌∙◌, subst, arith}
+use Rattle.std.specs.Prelude.{pos, Some, Ok, is_some, slice_get}
+use Rattle.jc_base.specs.Each.{Each}
 use Rattle.jc_base.specs.World.{Linked}
 use Rattle.jc_decode.specs.declared.insn.Placed.{Placed}
 use Rattle.jc_decode.specs.declared.symbols.Item.{Item}
@@ -15,12 +15,11 @@ use Rattle.jc_control.specs.WellFormed.{HasInstruction}
 use Rattle.jc_ops.specs.declared.operation.Operation.{Operation}
 use Rattle.vm_store.specs.declared.cell.Cell.{Cell}
 use Rattle.vm_store.specs.Cells.{tagged}
-use Rattle.vm_store.specs.State.{State, Frame, IsRunning, top}
+use Rattle.vm_store.specs.State.{State, IsRunning, top}
 use Rattle.vm_step.specs.Methods.{code_at}
 use Rattle.vm_step.specs.Raising.{running}
 use Rattle.vm_step.specs.Run.{Runs, stands as none_taken, steps as after_step}
 use Rattle.xf_homes.specs.declared.home.Home.{Home}
-use Rattle.xf_homes.specs.Value.{type_width}
 use Rattle.xf_homes.specs.Walk.{operands_of, same_home}
 use Rattle.xf_homes.specs.Source.{Source}
 use Rattle.xf_homes.specs.Plan.{stack_homes, is_leader, needed, operation}
@@ -29,12 +28,12 @@ use Rattle.xf_emission.specs.Edge.{cell_copies, copies}
 use Rattle.xf_emission.specs.Emission.{items}
 use Rattle.xf_emission.specs.Group.{group}
 use Rattle.xf_emission.specs.Move.{copy}
-use Rattle.xf_emission.specs.Jump.{goto, label_by, lead, place as place_named, stub, stub_label, stub_of, branch_copies, under, way_of}
+use Rattle.xf_emission.specs.Jump.{goto, label_by, lead, stub, stub_label, stub_of, branch_copies, under, way_of}
 use Rattle.xf_emission.proofs.Ways.{way-found}
 use Rattle.xf_emission.specs.Mnemonics.{goto_w}
 use Rattle.law_rewritten_typing.specs.Edges.{AreMatched, CellsFillStack, LeadsTo, NeededHaveHomes}
 use Rattle.law_homes.specs.Edges.{CellsAreFew, CellsRun, CopiesAreFew, EdgesRun, HoldsAfter, insns, top_at}
-use Rattle.law_homes.specs.Held.{HoldsValue, HoldsLocals, Waits, slots}
+use Rattle.law_homes.specs.Held.{HoldsValue, HoldsLocals, slots}
 use Rattle.law_homes.specs.Laws.{StepsExecute}
 use Rattle.law_homes.proofs.Beside.{among-each, each-among, held-as, held-in-registers, held-in-slots}
 use Rattle.law_groups.specs.Laid.{IsLaidIn, count_of, group_at, steps_of}
@@ -42,7 +41,7 @@ use Rattle.law_groups.specs.Beside.{AreEqualBut, AreOf, IsTypedAt}
 use Rattle.law_groups.specs.Comes.{ComesToGroup, ComesWithin}
 use Rattle.law_groups.specs.Steps.{GroupsFollow, GroupsStandAtSteps, ItemsStandFrom, StubsStandAtSteps}
 use Rattle.law_groups.proofs.Arriving.{at-step, beside, kept-registers, leader-holds, leader-keeps, runs-then, still-after}
-use Rattle.law_groups.proofs.Context.{Here, here-at, reached-some, steps-are, target-at}
+use Rattle.law_groups.proofs.Context.{here-at, reached-some, steps-are, target-at}
 use Rattle.law_groups.proofs.Going.{group-inside}
 use Rattle.law_groups.proofs.Leading.{goto-steps}
 use Rattle.law_groups.proofs.Moving.{AreMoves, copies-move, count-moves, moves-both, moves-if, moves-stand}

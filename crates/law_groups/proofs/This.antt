@@ -1,5 +1,5 @@
 -- Fields of `this`: the home of local 0, and instructions that stay where its register is 0.
-use Rattle.std.proofs.Common.{◌≡◌, ℕ, suc, ◌+◌, ◌<◌, ◌≤◌, true, false, List, [], ◌∷◌, length, map, refl, sym, ap, ◌∙◌, subst}
+use Rattle.std.proofs.Common.{◌≡◌, ℕ, ◌+◌, ◌<◌, true, false, [], ◌∷◌, map, refl, sym, ap, ◌∙◌, subst}
 use Rattle.std.proofs.Common.{arith}
 use Rattle.std.specs.Prelude.{Option, Some, None, Ok, IfSome, IsSomeAnd, is_some, slice_get}
 use Rattle.jc_base.specs.declared.ty.Ty.{Ty}
@@ -57,7 +57,7 @@ use Rattle.law_groups.specs.Body.{AreAtBody, BodyRuns}
 use Rattle.law_groups.proofs.Called.{called}
 use Rattle.law_groups.proofs.Context.{method-of, some-reached, typing-of}
 use Rattle.law_groups.proofs.Following.{next-place, steps-here}
-use Rattle.law_groups.proofs.Plain.{alike, codes, comes, ex, falls-renamed, method-is, one-step}
+use Rattle.law_groups.proofs.Plain.{alike, codes, comes, ex, method-is, one-step}
 use Rattle.law_groups.proofs.Reading.{IsHomeOf, reference-letter}
 use Rattle.law_groups.proofs.Standing.{stand-as, step-at}
 

@@ -1,18 +1,16 @@
 -- Reads of fields of `this`: where register 0 is no longer the home of local 0, the object is loaded first.
 use Rattle.std.proofs.Common.{◌≡◌, ℕ, zero, suc, ◌+◌, ◌-◌, ◌<◌, ◌≤◌, ◌==◌, Bool, true, false, if◌then◌else◌, List, []}
 use Rattle.std.proofs.Common.{◌∷◌, ◌++◌, length, map, refl, sym, ap, ◌∙◌, subst, arith}
-use Rattle.std.specs.Prelude.{Option, Some, None, Ok, IsSomeAnd, is_some, slice_get, drop}
+use Rattle.std.specs.Prelude.{None, Ok, slice_get}
 use Rattle.std.proofs.lemmas.List.{length-map}
 use Rattle.jc_base.specs.Class.{ClassTable}
-use Rattle.jc_base.specs.Each.{Each, IsAmong}
-use Rattle.jc_base.specs.Laws.{IsOrderOfTypes}
+use Rattle.jc_base.specs.Each.{IsAmong}
 use Rattle.jc_base.specs.Order.{Below}
 use Rattle.jc_base.specs.World.{Linked, IsWorld}
 use Rattle.jc_base.specs.declared.ty.Ty.TheVariants.{Bottom, Class}
 use Rattle.jc_base.proofs.Eaching.{Each-weaker}
 use Rattle.jc_decode.specs.declared.insn.Insn.{Insn}
 use Rattle.jc_decode.specs.declared.insn.Placed.{Placed}
-use Rattle.jc_decode.specs.declared.symbols.Item.{Item}
 use Rattle.jc_decode.specs.declared.symbols.Item.TheVariants.{Plain}
 use Rattle.jc_decode.specs.Listing.{listing}
 use Rattle.jc_decode.specs.Standing.{AreSteps}
@@ -37,10 +35,10 @@ use Rattle.vm_store.specs.Objects.{cells_in, kinds, object_cells}
 use Rattle.vm_store.specs.State.{State, Frame, Object, nth, other_frames, top, with_place, map_object}
 use Rattle.vm_store.specs.Value.{value_in, with_value}
 use Rattle.vm_step.specs.declared.exception.Exception.TheVariants.{NullPointer}
-use Rattle.vm_step.specs.Act.{Act, goes, raises}
+use Rattle.vm_step.specs.Act.{goes, raises}
 use Rattle.vm_step.specs.Fields.{with_field_read}
 use Rattle.vm_step.specs.Methods.{code_at, max_stack_of}
-use Rattle.vm_step.specs.Numbers.{pushed, replaced}
+use Rattle.vm_step.specs.Numbers.{pushed}
 use Rattle.vm_step.specs.Performed.{act}
 use Rattle.vm_step.specs.Raising.{Outcome, running, raised}
 use Rattle.vm_step.specs.Run.{Runs}
@@ -48,7 +46,7 @@ use Rattle.vm_step.specs.Settled.{fault_next, settled, unless_fault}
 use Rattle.vm_step.specs.Step.{Steps, performed, performs}
 use Rattle.vm_step.specs.Tests.{fault_before}
 use Rattle.vm_step.proofs.Running.{steps-one}
-use Rattle.law_sound.specs.Frames.{least_types, types_of_frame}
+use Rattle.law_sound.specs.Frames.{types_of_frame}
 use Rattle.law_sound.proofs.Cells.{cell-at}
 use Rattle.law_erasure.specs.Erasure.{IsNoFault}
 use Rattle.law_alike.specs.Alike.{renamed_cell}
@@ -67,7 +65,7 @@ use Rattle.xf_emission.specs.Move.{load}
 use Rattle.xf_emission.specs.Mnemonics.{from_read}
 use Rattle.law_rewritten_typing.proofs.Rows.{read-on-stack}
 use Rattle.law_sound.proofs.Passing.{passes-before}
-use Rattle.law_homes.specs.Edges.{insns, top_at, IsBeside}
+use Rattle.law_homes.specs.Edges.{top_at, IsBeside}
 use Rattle.law_homes.specs.Held.{HoldsValue, HoldsLocals}
 use Rattle.law_homes.specs.Laws.{ExecutesStep, StepsExecute}
 use Rattle.law_homes.specs.Moves.{IsExecutable, letter_of, value_in_register, size, load_of, InstructionsStandFrom as StandAmong}
@@ -75,13 +73,12 @@ use Rattle.jc_decode.specs.Places.{place_after}
 use Rattle.law_homes.proofs.Copies.{wide}
 use Rattle.law_homes.proofs.Going.{operations-go-on}
 use Rattle.law_homes.proofs.Loading.{loads-run, step-place}
-use Rattle.law_homes.proofs.Valued.{asked_types, CellsAt}
 use Rattle.law_homes.proofs.Beside.{AreLaws, among-each, held-can-load, needed-valued, register-small}
-use Rattle.law_groups.specs.Laid.{IsLaidIn, body_at, count_of, group_at, rename, steps_of}
-use Rattle.law_groups.specs.Beside.{AreEqualBut, AreOf, IsTypedAt, StandsInGroup, StaysTyped}
-use Rattle.law_groups.specs.Body.{AreAfter, AreAtBody, BodyComes, BodyRuns, body_done, body_falls}
+use Rattle.law_groups.specs.Laid.{IsLaidIn, body_at, count_of, rename, steps_of}
+use Rattle.law_groups.specs.Beside.{IsTypedAt, StandsInGroup, StaysTyped}
+use Rattle.law_groups.specs.Body.{AreAtBody, BodyRuns, body_done, body_falls}
 use Rattle.law_groups.specs.Comes.{group_raises}
-use Rattle.law_groups.specs.Steps.{GroupsFollow, GroupsStandAtSteps, ItemsStandFrom}
+use Rattle.law_groups.specs.Steps.{GroupsFollow, GroupsStandAtSteps}
 use Rattle.law_groups.proofs.Arriving.{at-step, beside, depth-fits, runs-then}
 use Rattle.law_groups.proofs.Context.{steps-are, target-at, target-room}
 use Rattle.law_groups.proofs.Following.{next-of, steps-here}

@@ -1,7 +1,7 @@
 -- Writes of fields of `this`: where register 0 is no longer the home of local 0, the object is loaded and put under the value first.
-use Rattle.std.proofs.Common.{◌≡◌, ℕ, zero, suc, ◌+◌, ◌-◌, ◌<◌, ◌≤◌, ◌==◌, Bool, true, false, if◌then◌else◌, List, []}
+use Rattle.std.proofs.Common.{◌≡◌, ℕ, suc, ◌+◌, ◌-◌, ◌<◌, ◌≤◌, ◌==◌, Bool, true, false, if◌then◌else◌, List, []}
 use Rattle.std.proofs.Common.{◌∷◌, ◌++◌, length, map, refl, sym, ap, ◌∙◌, subst, arith}
-use Rattle.std.specs.Prelude.{Option, Some, None, Ok, IfSome, IsSomeAnd, is_some, slice_get, drop}
+use Rattle.std.specs.Prelude.{None, Ok, IfSome, slice_get, drop}
 use Rattle.jc_base.specs.Linked.{IsMethod}
 use Rattle.jc_base.proofs.Lists.{All-slice_get}
 use Rattle.jc_base.proofs.Eaching.{Each-weaker}
@@ -9,14 +9,12 @@ use Rattle.std.proofs.lemmas.List.{length-map}
 use Rattle.jc_base.specs.Cell.{IsDeclared, IsOfKind, width as cells_of_kind}
 use Rattle.jc_base.specs.Class.{ClassTable}
 use Rattle.jc_base.specs.declared.ty.Ty.{Ty}
-use Rattle.jc_base.specs.Each.{Each, IsAmong}
+use Rattle.jc_base.specs.Each.{IsAmong}
 use Rattle.jc_base.specs.Laws.{IsOrderOfTypes}
 use Rattle.jc_base.specs.Order.{Below}
 use Rattle.jc_base.specs.World.{Linked, IsWorld}
 use Rattle.jc_base.specs.declared.ty.Ty.TheVariants.{Bottom, Class}
-use Rattle.jc_decode.specs.declared.insn.Insn.{Insn}
 use Rattle.jc_decode.specs.declared.insn.Placed.{Placed}
-use Rattle.jc_decode.specs.declared.symbols.Item.{Item}
 use Rattle.jc_decode.specs.declared.symbols.Item.TheVariants.{Plain}
 use Rattle.jc_decode.specs.Listing.{listing}
 use Rattle.jc_decode.specs.Standing.{AreSteps}
@@ -25,21 +23,17 @@ use Rattle.jc_decode.proofs.Ranges.{op-fits}
 use Rattle.jc_control.specs.WellFormed.{IsPlace}
 use Rattle.jc_ops.specs.declared.operation.Holder.TheVariants as holders
 use Rattle.jc_ops.specs.declared.operation.InstanceField.{InstanceField}
-use Rattle.jc_ops.specs.declared.operation.Operation.{Operation}
 use Rattle.jc_ops.specs.declared.operation.Operation.TheVariants as ops
 use Rattle.jc_ops.specs.declared.operation.Sort.{Sort}
 use Rattle.jc_ops.specs.declared.operation.Sort.TheVariants as sorts
 use Rattle.jc_ops.specs.Resolve.{Resolves}
 use Rattle.jc_ops.specs.Sound.{IsFieldOf, OperationsAreDecided, OperationsAreSound}
 use Rattle.jc_ops.specs.declared.operation.Move.TheVariants as shifts
-use Rattle.jc_rules.specs.Demand.{SatisfiesAll}
-use Rattle.jc_rules.specs.Rule.{demands}
 use Rattle.vm_store.specs.declared.cell.Cell.{Cell}
 use Rattle.vm_store.specs.declared.kind.ObjectKind.{ObjectKind}
-use Rattle.vm_store.specs.Typing.{least_type}
 use Rattle.vm_store.specs.Cells.{tagged, word_of}
 use Rattle.vm_store.specs.Objects.{kinds}
-use Rattle.vm_store.specs.State.{State, Frame, Object, nth, other_frames, top, with_place, map_object}
+use Rattle.vm_store.specs.State.{State, Frame, Object, nth, other_frames, top, with_place}
 use Rattle.vm_store.specs.Value.{value_on, kept_value as value_kept}
 use Rattle.vm_step.specs.declared.exception.Exception.TheVariants.{NullPointer}
 use Rattle.vm_step.specs.Act.{Act, goes, raises}
@@ -58,7 +52,6 @@ use Rattle.law_erasure.specs.Erasure.{IsNoFault}
 use Rattle.law_alike.specs.Alike.{renamed_cell}
 use Rattle.law_alike.proofs.Asked.{register-same}
 use Rattle.law_alike.proofs.Settling.{unless-none}
-use Rattle.xf_homes.specs.declared.home.Home.{Home}
 use Rattle.xf_homes.specs.Value.{type_width}
 use Rattle.law_laid.specs.Apart.{apart_from_code}
 use Rattle.law_laid.specs.Laws.{OperationsAreKept}
@@ -70,7 +63,7 @@ use Rattle.xf_emission.specs.Mnemonics.{from_write, swap_x}
 use Rattle.law_rewritten_typing.proofs.Rows.{write-on-stack}
 use Rattle.law_alike.proofs.Storing.{object-written}
 use Rattle.law_sound.proofs.Passing.{passes-before}
-use Rattle.law_homes.specs.Edges.{insns, top_at, IsBeside}
+use Rattle.law_homes.specs.Edges.{top_at, IsBeside}
 use Rattle.law_homes.specs.Held.{HoldsValue, HoldsLocals}
 use Rattle.law_homes.specs.Laws.{ExecutesStep, StepsExecute}
 use Rattle.law_homes.specs.Moves.{IsExecutable, letter_of, value_in_register, size, load_of, InstructionsStandFrom as StandAmong}
@@ -78,13 +71,12 @@ use Rattle.jc_decode.specs.Places.{place_after}
 use Rattle.law_homes.proofs.Copies.{wide}
 use Rattle.law_homes.proofs.Going.{operations-go-on}
 use Rattle.law_homes.proofs.Loading.{loads-run, step-place}
-use Rattle.law_homes.proofs.Valued.{asked_types, CellsAt}
 use Rattle.law_homes.proofs.Beside.{AreLaws, among-each, held-can-load, needed-valued, register-small}
-use Rattle.law_groups.specs.Laid.{IsLaidIn, body_at, count_of, group_at, rename, steps_of}
-use Rattle.law_groups.specs.Beside.{AreEqualBut, AreOf, IsTypedAt, StandsInGroup, StaysTyped}
-use Rattle.law_groups.specs.Body.{AreAfter, AreAtBody, BodyComes, BodyRuns, body_done, body_falls}
+use Rattle.law_groups.specs.Laid.{IsLaidIn, body_at, count_of, rename, steps_of}
+use Rattle.law_groups.specs.Beside.{StandsInGroup}
+use Rattle.law_groups.specs.Body.{AreAtBody, BodyRuns, body_done, body_falls}
 use Rattle.law_groups.specs.Comes.{group_raises}
-use Rattle.law_groups.specs.Steps.{GroupsFollow, GroupsStandAtSteps, ItemsStandFrom}
+use Rattle.law_groups.specs.Steps.{GroupsFollow, GroupsStandAtSteps}
 use Rattle.law_groups.proofs.Arriving.{at-step, beside, depth-fits, runs-then}
 use Rattle.law_groups.proofs.Context.{steps-are, target-at, target-room}
 use Rattle.law_groups.proofs.Following.{next-of, steps-here}

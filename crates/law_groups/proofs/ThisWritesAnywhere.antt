@@ -1,6 +1,6 @@
 -- Writes of fields of `this`, wherever the home of local 0 is.
-use Rattle.std.proofs.Common.{◌≡◌, ℕ, ◌-◌, ◌<◌, ◌==◌, Bool, true, false, if◌then◌else◌, List, [], ◌∷◌, refl, sym, ap, ◌∙◌}
-use Rattle.std.proofs.Common.{subst, arith}
+use Rattle.std.proofs.Common.{◌≡◌, ℕ, ◌-◌, ◌==◌, Bool, true, false, if◌then◌else◌, List, [], ◌∷◌, refl, ap, ◌∙◌}
+use Rattle.std.proofs.Common.{arith}
 use Rattle.std.proofs.lemmas.Bool.Decides.{nat_tests}
 use Rattle.std.specs.Prelude.{Some}
 use Rattle.jc_base.specs.Laws.{IsOrderOfTypes}
@@ -14,10 +14,8 @@ use Rattle.jc_ops.specs.declared.operation.Sort.TheVariants as sorts
 use Rattle.jc_ops.specs.Sound.{OperationsAreDecided, OperationsAreSound}
 use Rattle.vm_store.specs.declared.cell.Cell.{Cell}
 use Rattle.vm_store.specs.Cells.{tagged}
-use Rattle.vm_store.specs.State.{State, Frame, Object}
-use Rattle.vm_step.specs.Raising.{Outcome}
+use Rattle.vm_store.specs.State.{Frame, Object}
 use Rattle.vm_step.specs.Step.{Steps}
-use Rattle.law_erasure.specs.Erasure.{IsNoFault}
 use Rattle.law_alike.specs.Likeness.{StepsAreAlike}
 use Rattle.xf_homes.specs.declared.home.Home.{Home}
 use Rattle.xf_homes.specs.Laws.{NeededAreKept}
@@ -31,10 +29,8 @@ use Rattle.law_rewritten_typing.specs.Whole.{DerivedAreWhole}
 use Rattle.law_homes.specs.Moves.{IsExecutable}
 use Rattle.law_homes.specs.Laws.{LocalsStay, StepsExecute}
 use Rattle.law_homes.proofs.Beside.{AreLaws}
-use Rattle.law_groups.specs.Laid.{IsLaidIn}
 use Rattle.law_groups.specs.Laws.{RenamesOneToOne}
 use Rattle.law_groups.specs.Steps.{GroupsFollow, GroupsStandAtSteps}
-use Rattle.law_groups.specs.Beside.{StaysTyped}
 use Rattle.law_groups.specs.Body.{AreAtBody, BodyRuns}
 use Rattle.law_groups.specs.Fields.{ThisWritesRun}
 use Rattle.law_groups.proofs.Reading.{IsHomeOf}

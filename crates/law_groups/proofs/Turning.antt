@@ -1,42 +1,37 @@
 -- A goto: the stack goes into the homes of its target, locals are copied, and control goes there.
-use Rattle.std.proofs.Common.{◌≡◌, ℕ, suc, ◌+◌, ◌<◌, ◌≤◌, Bool, true, false, List, [], ◌∷◌, ◌++◌, length, map, refl, sym, ap}
+use Rattle.std.proofs.Common.{◌≡◌, ℕ, ◌+◌, true, List, [], ◌∷◌, ◌++◌, length, map, refl, sym, ap}
 use Rattle.std.proofs.Common.{◌∙◌, subst, arith}
-use Rattle.std.specs.Prelude.{ℤ, pos, negsuc, unsigned_abs, All, Contains, Ok, is_some, slice_get}
+use Rattle.std.specs.Prelude.{ℤ, pos, negsuc, All, Contains}
 use Rattle.std.proofs.lemmas.Bool.{false≢true}
 use Rattle.jc_base.specs.Each.{Each}
-use Rattle.jc_base.specs.World.{Linked, IsWorld}
+use Rattle.jc_base.specs.World.{Linked}
 use Rattle.jc_base.proofs.Eaching.{Each-weaker}
 use Rattle.jc_decode.specs.declared.insn.Case.{Case}
 use Rattle.jc_decode.specs.declared.insn.Placed.{Placed}
 use Rattle.jc_decode.specs.Cases.{cases}
-use Rattle.jc_decode.specs.Listing.{jumps, listing, target, targets}
-use Rattle.jc_control.specs.Control.{IsLeader, IsReached, jumped, led_to}
-use Rattle.jc_control.specs.WellFormed.{IsPlace, IsTargetPlace, HasInstruction}
+use Rattle.jc_decode.specs.Listing.{jumps, target, targets}
+use Rattle.jc_control.specs.Control.{IsReached, jumped, led_to}
+use Rattle.jc_control.specs.WellFormed.{IsTargetPlace}
 use Rattle.jc_ops.specs.declared.operation.Branch.TheVariants.{Always}
-use Rattle.jc_ops.specs.declared.operation.Operation.{Operation}
 use Rattle.jc_ops.specs.declared.operation.Operation.TheVariants as ops
 use Rattle.jc_ops.specs.Sound.{OperationsAreDecided}
 use Rattle.law_sound.proofs.Going.{jumps-on}
-use Rattle.law_sound.proofs.Places.{instruction-there}
 use Rattle.vm_store.specs.declared.cell.Cell.{Cell}
 use Rattle.vm_store.specs.Cells.{tagged}
-use Rattle.vm_store.specs.State.{State, Frame, IsRunning, other_frames, top, with_place}
-use Rattle.vm_step.specs.Methods.{code_at}
+use Rattle.vm_store.specs.State.{State, other_frames, top, with_place}
 use Rattle.vm_step.specs.Numbers.{dropped}
 use Rattle.vm_step.specs.Raising.{Outcome, running}
-use Rattle.vm_step.specs.Settled.{fault_target, jumps_to, place_number as number_of}
+use Rattle.vm_step.specs.Settled.{fault_target, jumps_to}
 use Rattle.vm_step.specs.Step.{Steps, performed, performs}
 use Rattle.vm_step.specs.Tests.{fault_before}
 use Rattle.vm_step.proofs.Running.{steps-one}
 use Rattle.law_erasure.specs.Erasure.{IsNoFault}
-use Rattle.law_alike.specs.Alike.{renamed_cell}
 use Rattle.law_alike.specs.Running.{Executes}
 use Rattle.law_alike.proofs.Settling.{unless-none}
-use Rattle.xf_homes.specs.declared.home.Home.{Home}
 use Rattle.xf_homes.specs.Source.{Source}
-use Rattle.xf_homes.specs.Plan.{stack_homes, is_leader, needed, operation}
+use Rattle.xf_homes.specs.Plan.{stack_homes, is_leader, needed}
 use Rattle.xf_emission.specs.declared.origin.Origin.TheVariants.{After}
-use Rattle.xf_emission.specs.Edge.{copies, is_stored}
+use Rattle.xf_emission.specs.Edge.{copies}
 use Rattle.xf_emission.specs.Group.{body, first_place, gone}
 use Rattle.xf_emission.specs.Jump.{goto, place as place_named}
 use Rattle.xf_emission.specs.Move.{spill}
@@ -47,14 +42,14 @@ use Rattle.law_homes.specs.Held.{HoldsValue}
 use Rattle.law_homes.specs.Laws.{StepsExecute}
 use Rattle.law_groups.specs.Laid.{IsLaidIn, body_at, rename}
 use Rattle.law_groups.specs.Beside.{AreEqualBut, AreOf, IsAtGroup, IsTypedAt, StaysTyped}
-use Rattle.law_groups.specs.Comes.{AreAtGroup, GroupRuns, group_stays}
+use Rattle.law_groups.specs.Comes.{GroupRuns, group_stays}
 use Rattle.law_groups.specs.Steps.{GroupsFollow, GroupsStandAtSteps, ItemsStandFrom}
 use Rattle.law_groups.proofs.Arriving.{beside, leader-keeps, runs-then, still-after}
-use Rattle.law_groups.proofs.Context.{some-reached, source-code, typing-of}
+use Rattle.law_groups.proofs.Context.{some-reached, typing-of}
 use Rattle.law_groups.proofs.Entering.{enters}
 use Rattle.law_groups.proofs.Following.{steps-here}
 use Rattle.law_groups.proofs.Going.{spilled-goes}
-use Rattle.law_groups.proofs.OneGroup.{Turn, no-fault, turn-by}
+use Rattle.law_groups.proofs.OneGroup.{no-fault, turn-by}
 use Rattle.law_groups.proofs.Plain.{frames-are}
 use Rattle.law_groups.proofs.Standing.{stand-as}
 

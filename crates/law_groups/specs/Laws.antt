@@ -1,5 +1,5 @@
 -- Laws of the groups of rewritten code: each comes to what the instruction of its source does (Leroy 2002, section 4.1).
-use Rattle.std.specs.Prelude.{◌≡◌, ◌+◌, ℕ, false, true, List, [], ◌∷◌, length, map, Option, Some, None, Ok, slice_get}
+use Rattle.std.specs.Prelude.{◌≡◌, ◌+◌, ℕ, false, List, [], ◌∷◌, length, map, Some, None, Ok, slice_get}
 use Rattle.jc_base.specs.declared.record.Handler.{Handler}
 use Rattle.jc_base.specs.World.{Linked}
 use Rattle.jc_decode.specs.declared.insn.Placed.{Placed}
@@ -26,7 +26,7 @@ use Rattle.law_alike.specs.Running.{Executes}
 use Rattle.xf_homes.specs.Walk.{operands_of}
 use Rattle.xf_homes.specs.Source.{Source}
 use Rattle.xf_homes.specs.Plan.{operation}
-use Rattle.xf_emission.specs.Emission.{is_live, items}
+use Rattle.xf_emission.specs.Emission.{items}
 use Rattle.xf_emission.specs.Jump.{handler_label}
 use Rattle.law_homes.specs.Held.{HoldsLocals}
 use Rattle.law_groups.specs.Laid.{IsLaidIn, body_at, rename}

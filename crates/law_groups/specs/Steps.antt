@@ -1,5 +1,5 @@
 -- Where the steps of groups and stubs stand in the rewritten code.
-use Rattle.std.specs.Prelude.{◌≡◌, ◌≢◌, ◌+◌, ℕ, ℤ, true, List, [], ◌++◌, length, is_some, IsSome, Some, Ok}
+use Rattle.std.specs.Prelude.{◌≡◌, ◌≢◌, ◌+◌, ℕ, ℤ, true, List, [], ◌++◌, length, is_some, Some, Ok}
 use Rattle.std.specs.Prelude.{slice_get}
 use Rattle.jc_base.specs.declared.record.Handler.{Handler}
 use Rattle.jc_decode.specs.declared.insn.Placed.{Placed}

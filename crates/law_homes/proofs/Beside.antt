@@ -1,17 +1,17 @@
 -- What is known of a state beside a frame of the source: its homes, and the types of the cells that stand in them.
-use Rattle.std.proofs.Common.{◌≡◌, ◌⊎◌, inl, inr, ℕ, zero, suc, ◌+◌, ◌<◌, ◌≤◌, List, [], ◌∷◌, ◌++◌, length, map, reverse}
+use Rattle.std.proofs.Common.{◌≡◌, inl, inr, ℕ, zero, suc, ◌+◌, ◌<◌, ◌≤◌, List, [], ◌∷◌, ◌++◌, length, map, reverse}
 use Rattle.std.proofs.Common.{refl, sym, ap, ◌∙◌, subst, arith, length-append}
 use Rattle.std.specs.Prelude.{Option, Some, None, IsSomeAnd, IfSome, is_some, slice_get}
 use Rattle.std.proofs.lemmas.List.{length-map, map-append}
 use Rattle.jc_base.specs.declared.ty.Ty.{Ty}
-use Rattle.jc_base.specs.declared.ty.Ty.TheVariants.{Bottom, Short, IntHigh, Top}
+use Rattle.jc_base.specs.declared.ty.Ty.TheVariants.{Bottom, IntHigh, Top}
 use Rattle.jc_base.specs.Class.{ClassTable}
 use Rattle.jc_base.specs.Each.{Each, IsAmong}
 use Rattle.jc_base.specs.Laws.{ClassesAreObjects, IsOrderOfTypes, SameTypeDecides}
 use Rattle.jc_base.specs.Order.{IsKnown}
 use Rattle.jc_base.specs.World.{Linked}
 use Rattle.jc_rules.specs.Demand.{Frame as Types}
-use Rattle.jc_rules.specs.Flow.{CellsBelow, FrameBelow, At, IsFit}
+use Rattle.jc_rules.specs.Flow.{CellsBelow, FrameBelow, IsFit}
 use Rattle.jc_rules.specs.FlowLaws.{AreRules, IsOrderOfCells}
 use Rattle.vm_store.specs.declared.cell.Cell.{Cell}
 use Rattle.vm_store.specs.declared.kind.ObjectKind.{ObjectKind}
@@ -20,23 +20,21 @@ use Rattle.vm_store.specs.Objects.{kinds}
 use Rattle.vm_store.specs.State.{State, Frame, top}
 use Rattle.vm_store.proofs.Stacks.{reverse-map}
 use Rattle.law_sound.specs.Frames.{least_types, types_of_frame}
-use Rattle.vm_step.specs.Methods.{max_stack_of}
 use Rattle.xf_homes.specs.declared.home.Home.{Home}
 use Rattle.xf_homes.specs.Home.{register_count, KeepsStack}
 use Rattle.xf_homes.specs.Laws.{HasRegister, Serve, HomesServe}
 use Rattle.xf_homes.specs.Order.{register_sum}
 use Rattle.xf_homes.specs.Value.{value_in_cells, type_width}
-use Rattle.xf_homes.specs.Walk.{register_from}
 use Rattle.xf_homes.specs.Source.{Source}
 use Rattle.xf_homes.specs.Plan.{stack_homes, needed, or_first, register}
 use Rattle.law_rewritten_typing.specs.Planned.{IsPlanned, KeepsValues}
-use Rattle.law_rewritten_typing.specs.Edges.{NeededHaveHomes, IsNeededFor, slot_types, FillStack, CellsFillStack, EdgesCarry}
+use Rattle.law_rewritten_typing.specs.Edges.{NeededHaveHomes, slot_types, CellsFillStack, EdgesCarry}
 use Rattle.law_rewritten_typing.proofs.Registers.{both-below}
 use Rattle.law_homes.specs.Edges.{IsBeside}
 use Rattle.law_homes.specs.Held.{HoldsValue, slots}
-use Rattle.law_homes.specs.Moves.{IsExecutable, size, letter_of, CanLoad, OwnRegisters}
+use Rattle.law_homes.specs.Moves.{IsExecutable, letter_of, CanLoad, OwnRegisters}
 use Rattle.law_homes.proofs.Copies.{homes-own-registers, wide}
-use Rattle.law_homes.proofs.Valued.{asked_types, asked-size, CellsAt, cells-moved, cells-left, value-inside, load-asked, load-filled, value-cells}
+use Rattle.law_homes.proofs.Valued.{asked_types, asked-size, CellsAt, cells-moved, load-asked, load-filled, value-cells}
 
 -- what lists of moves rest on: laws of the source's world v, and that code can run in w
 pub record AreLaws (v w : Linked) : Type 0 where

@@ -1,13 +1,13 @@
 -- Lists of copies, one after the other: those of an edge, and those of cells.
 use Rattle.std.proofs.Common.{◌≡◌, ◌⊎◌, inl, inr, ℕ, zero, suc, ◌+◌, ◌*◌, ◌<◌, ◌≤◌, ◌==◌, Bool, true, false}
 use Rattle.std.proofs.Common.{if◌then◌else◌, List, [], ◌∷◌, ◌++◌, length, map, refl, sym, ap, ◌∙◌, subst, arith, length-append}
-use Rattle.std.specs.Prelude.{Option, Some, None, IfSome, flat_map, slice_get}
+use Rattle.std.specs.Prelude.{Option, Some, None, flat_map, slice_get}
 use Rattle.std.proofs.lemmas.Bool.{cases_lt}
 use Rattle.std.proofs.lemmas.List.Concat.{flat_map-cons}
 use Rattle.jc_base.specs.declared.ty.Ty.{Ty}
 use Rattle.jc_base.specs.declared.ty.Ty.TheVariants.{Short, IntHigh}
 use Rattle.jc_base.specs.declared.record.MethodRec.{MethodRec}
-use Rattle.jc_base.specs.Each.{Each, IsAmong}
+use Rattle.jc_base.specs.Each.{Each}
 use Rattle.jc_base.specs.Laws.{SameTypeDecides}
 use Rattle.jc_base.specs.World.{Linked}
 use Rattle.jc_decode.specs.declared.insn.Insn.{Insn}
@@ -27,7 +27,6 @@ use Rattle.vm_step.specs.Run.{Runs, stands}
 use Rattle.vm_step.proofs.Running.{continues-on}
 use Rattle.xf_homes.specs.declared.home.Home.{Home}
 use Rattle.xf_homes.specs.Laws.{HasRegister}
-use Rattle.xf_homes.specs.Value.{type_width}
 use Rattle.xf_homes.specs.Walk.{has, same_home}
 use Rattle.xf_homes.proofs.Events.{home-itself, homes-equal}
 use Rattle.xf_homes.specs.Source.{Source}
@@ -41,7 +40,7 @@ use Rattle.law_homes.specs.Held.{HoldsValue}
 use Rattle.law_homes.specs.Moves.{IsExecutable, size, letter_of, InstructionsStandFrom, copy_of, CanLoad, OwnRegisters, IsCopy}
 use Rattle.law_homes.proofs.Copies.{homes-are-copied}
 use Rattle.law_homes.proofs.Valued.{asked_types, CellsAt}
-use Rattle.law_homes.proofs.Beside.{each-among, among-each, held-as, held-can-load}
+use Rattle.law_homes.proofs.Beside.{held-as, held-can-load}
 
 -- ---- letters
 

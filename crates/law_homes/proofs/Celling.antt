@@ -1,5 +1,5 @@
 -- Cells of a stack that are copied from homes to others, and the arguments at a method's start.
-use Rattle.std.proofs.Common.{◌≡◌, ◌⊎◌, inl, inr, ℕ, ◌+◌, ◌<◌, ◌≤◌, List, [], ◌∷◌, length, map, replicate, refl, sym, ap}
+use Rattle.std.proofs.Common.{◌≡◌, ◌⊎◌, inl, inr, ℕ, ◌+◌, ◌<◌, ◌≤◌, List, [], ◌∷◌, length, replicate, refl, sym, ap}
 use Rattle.std.proofs.Common.{◌∙◌, subst, arith, length-append}
 use Rattle.std.specs.Prelude.{Option, Some, None, IfSome, slice_get}
 use Rattle.jc_base.specs.declared.ty.Ty.{Ty}
@@ -13,7 +13,7 @@ use Rattle.vm_store.specs.declared.cell.Cell.{Cell}
 use Rattle.vm_store.specs.declared.cell.Cell.TheVariants.{Empty}
 use Rattle.vm_store.specs.Cells.{tagged}
 use Rattle.vm_store.specs.Objects.{kinds}
-use Rattle.vm_store.specs.State.{State, Frame, Object, first_frame, top}
+use Rattle.vm_store.specs.State.{State, Frame, Object, first_frame}
 use Rattle.vm_step.specs.Methods.{max_stack_of}
 use Rattle.vm_step.specs.Raising.{running}
 use Rattle.vm_step.specs.Run.{Runs}
@@ -23,15 +23,14 @@ use Rattle.xf_homes.specs.Laws.{HomesServe}
 use Rattle.xf_homes.specs.Value.{value_in_cells, type_width}
 use Rattle.xf_homes.specs.Source.{Source}
 use Rattle.xf_homes.specs.Plan.{stack_homes, home_of, or_first, register}
-use Rattle.xf_emission.specs.declared.origin.Origin.TheVariants.{Start}
 use Rattle.xf_emission.specs.Edge.{cell_copies}
-use Rattle.law_rewritten_typing.specs.Planned.{IsPlanned, KeepsValues}
+use Rattle.law_rewritten_typing.specs.Planned.{IsPlanned}
 use Rattle.law_rewritten_typing.proofs.Ready.{IsValueAt, value-is}
 use Rattle.law_rewritten_typing.proofs.Moves.{get-inside}
 use Rattle.law_rewritten_typing.specs.Edges.{AreMatched, none_matched, more_matched}
-use Rattle.law_homes.specs.Edges.{insns, top_at, IsBeside, AreMoved, CellsRun, HoldsBefore, StartsHold}
+use Rattle.law_homes.specs.Edges.{insns, top_at, IsBeside, AreMoved, CellsRun, StartsHold}
 use Rattle.law_homes.specs.Held.{HoldsValue, slots}
-use Rattle.law_homes.specs.Moves.{size, letter_of, InstructionsStandFrom, IsAtStep}
+use Rattle.law_homes.specs.Moves.{letter_of, InstructionsStandFrom, IsAtStep}
 use Rattle.law_homes.proofs.Valued.{asked_types, CellsAt}
 use Rattle.law_homes.proofs.Beside.{AreLaws, each-among, among-each, own, register-inside, register-small, cells-valued, held-as, get-left}
 use Rattle.law_homes.proofs.Carrying.{same-letter, same-or-reference, ArePairs, no_pairs, more_pairs, cells-run}

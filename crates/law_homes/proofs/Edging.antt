@@ -1,46 +1,43 @@
 -- The copies of an edge: from where it begins to the homes that are needed where it leads.
-use Rattle.std.proofs.Common.{◌≡◌, ◌⊎◌, inl, inr, ℕ, zero, suc, ◌+◌, ◌*◌, ◌<◌, ◌≤◌, Bool, true, false, if◌then◌else◌}
-use Rattle.std.proofs.Common.{List, [], ◌∷◌, ◌++◌, length, map, replicate, refl, sym, ap, ◌∙◌, subst, arith, length-append}
-use Rattle.std.specs.Prelude.{Option, Some, None, IfSome, slice_get}
-use Rattle.std.proofs.lemmas.Bool.{cases_lt, both_ways}
+use Rattle.std.proofs.Common.{◌≡◌, ◌⊎◌, inl, inr, ℕ, ◌+◌, ◌<◌, ◌≤◌, Bool, true, false, if◌then◌else◌}
+use Rattle.std.proofs.Common.{List, [], ◌∷◌, length, refl, sym, ap, ◌∙◌, subst, arith}
+use Rattle.std.specs.Prelude.{Option, Some, None, IfSome}
+use Rattle.std.proofs.lemmas.Bool.{both_ways}
 use Rattle.jc_base.specs.declared.ty.Ty.{Ty}
-use Rattle.jc_base.specs.Class.{object}
 use Rattle.jc_base.specs.Each.{Each, IsAmong}
 use Rattle.jc_base.specs.Laws.{SameTypeDecides}
 use Rattle.jc_base.specs.World.{Linked}
 use Rattle.jc_decode.specs.Symbols.{Step}
-use Rattle.jc_ops.specs.declared.operation.Operation.{Operation}
 use Rattle.jc_ops.specs.declared.operation.Sort.{Sort}
 use Rattle.jc_ops.specs.declared.operation.Sort.TheVariants as sorts
 use Rattle.vm_store.specs.declared.cell.Cell.{Cell}
-use Rattle.vm_store.specs.declared.kind.ObjectKind.{ObjectKind}
 use Rattle.vm_store.specs.Cells.{tagged}
 use Rattle.vm_store.specs.Objects.{kinds}
-use Rattle.vm_store.specs.State.{State, Frame, Object, first_frame, top}
+use Rattle.vm_store.specs.State.{State, Frame, Object, first_frame}
 use Rattle.vm_step.specs.Methods.{max_stack_of}
 use Rattle.vm_step.specs.Raising.{running}
 use Rattle.vm_step.specs.Run.{Runs}
 use Rattle.xf_homes.specs.declared.home.Home.{Home}
-use Rattle.xf_homes.specs.Home.{register_count, argument_types}
+use Rattle.xf_homes.specs.Home.{register_count}
 use Rattle.xf_homes.specs.Laws.{HasRegister}
 use Rattle.xf_homes.specs.Value.{type_width}
 use Rattle.xf_homes.specs.Walk.{has}
 use Rattle.xf_homes.proofs.Events.{has-among}
 use Rattle.xf_homes.specs.Source.{Source}
-use Rattle.xf_homes.specs.Plan.{needed, local, register}
+use Rattle.xf_homes.specs.Plan.{needed, local}
 use Rattle.xf_emission.specs.declared.origin.Origin.{Origin}
 use Rattle.xf_emission.specs.declared.origin.Origin.TheVariants.{Start, After, Entry}
-use Rattle.xf_emission.specs.Edge.{is_stored, home_before, homes_held, copies, cell_copies}
+use Rattle.xf_emission.specs.Edge.{is_stored, home_before, homes_held, copies}
 use Rattle.law_rewritten_typing.specs.Planned.{IsPlanned, KeepsValues}
 use Rattle.law_rewritten_typing.specs.Edges.{LeadsTo, stored_at, IsCarried, EdgesCarry}
-use Rattle.law_homes.specs.Edges.{insns, top_at, IsBeside, HoldsAfter, HoldsBefore, AreCarried, EdgesRun}
-use Rattle.law_homes.specs.Held.{HoldsValue, HoldsLocals, slots}
-use Rattle.law_homes.specs.Moves.{size, letter_of, InstructionsStandFrom, IsAtStep, IsCopy}
+use Rattle.law_homes.specs.Edges.{insns, top_at, IsBeside, HoldsBefore, AreCarried, EdgesRun}
+use Rattle.law_homes.specs.Held.{HoldsValue, slots}
+use Rattle.law_homes.specs.Moves.{size, letter_of, InstructionsStandFrom, IsAtStep}
 use Rattle.law_homes.proofs.Copies.{wide}
 use Rattle.law_homes.proofs.Valued.{asked_types, CellsAt, cells-left, value-inside}
 use Rattle.law_homes.proofs.Beside.{AreLaws, each-among, among-each, own, register-inside, register-small, needed-valued, count-registers, held-as}
 use Rattle.law_homes.proofs.Beside.{held-in-slots, held-in-registers}
-use Rattle.law_homes.proofs.Carrying.{same-letter, same-or-reference, Stands, IsFrom, LocalIs, WentAll, locals-run}
+use Rattle.law_homes.proofs.Carrying.{same-letter, same-or-reference, IsFrom, LocalIs, locals-run}
 
 some-same : (a b : Home) → ◌≡◌ {A = Option Home} (Some a) (Some b) → a ≡ b
 some-same a b e = cc

@@ -1,18 +1,17 @@
 -- How many cells are kept and how many copies an edge has; and stacks that are kept, which have no uninitialised object.
-use Rattle.std.proofs.Common.{◌≡◌, ◌⊎◌, inl, inr, ℕ, zero, suc, ◌+◌, ◌*◌, ◌<◌, ◌≤◌, Bool, true, false, if◌then◌else◌}
+use Rattle.std.proofs.Common.{◌≡◌, ◌⊎◌, inl, inr, ℕ, zero, suc, ◌+◌, ◌*◌, ◌≤◌, Bool, true, false, if◌then◌else◌}
 use Rattle.std.proofs.Common.{List, [], ◌∷◌, ◌++◌, length, map, reverse, refl, sym, ap, ◌∙◌, subst, arith, length-append}
 use Rattle.std.specs.Prelude.{Option, Some, None, IsSome, IsSomeAnd, flat_map, is_some, slice_get}
-use Rattle.std.proofs.lemmas.List.{length-map, map-append}
+use Rattle.std.proofs.lemmas.List.{map-append}
 use Rattle.std.proofs.lemmas.List.Concat.{flat_map-cons}
 use Rattle.std.proofs.lemmas.List.Sums.{sum_by-cons}
 use Rattle.jc_base.specs.declared.ty.Ty.{Ty}
-use Rattle.jc_base.specs.declared.ty.Ty.TheVariants.{Bottom, Short, IntHigh, IntLow, Class, Fresh, Top}
+use Rattle.jc_base.specs.declared.ty.Ty.TheVariants.{Short, IntHigh, IntLow, Class, Fresh, Top}
 use Rattle.jc_base.specs.Class.{ClassTable, object}
 use Rattle.jc_base.specs.Each.{Each, IsAmong}
 use Rattle.jc_base.specs.Laws.{IsOrderOfTypes, SameTypeDecides}
 use Rattle.jc_base.specs.Order.{Below}
 use Rattle.jc_base.specs.World.{Linked}
-use Rattle.jc_decode.specs.declared.insn.Insn.{Insn}
 use Rattle.jc_decode.specs.declared.symbols.Item.{Item}
 use Rattle.jc_ops.specs.declared.operation.Sort.{Sort}
 use Rattle.jc_ops.specs.declared.operation.Sort.TheVariants as sorts
@@ -26,11 +25,11 @@ use Rattle.vm_store.specs.declared.kind.ObjectKind.TheVariants.{Instance}
 use Rattle.vm_store.specs.Typing.{type_of_fresh, fresh_seen}
 use Rattle.vm_store.specs.Cells.{tagged}
 use Rattle.vm_store.specs.Objects.{kinds}
-use Rattle.vm_store.specs.State.{State, Frame, nth}
+use Rattle.vm_store.specs.State.{nth}
 use Rattle.law_alike.specs.Alike.{renamed_cell}
 use Rattle.xf_homes.specs.declared.home.Home.{Home}
-use Rattle.xf_homes.specs.Home.{register_count, KeepsStack, IsAsked}
-use Rattle.xf_homes.specs.Laws.{HasRegister, AreNeeded, AreAskedInOrder, IsAskedBefore, NeededAreKept}
+use Rattle.xf_homes.specs.Home.{register_count}
+use Rattle.xf_homes.specs.Laws.{AreNeeded, AreAskedInOrder, IsAskedBefore, NeededAreKept}
 use Rattle.xf_homes.specs.Order.{SlotsFollow as Follow, register_sum}
 use Rattle.xf_homes.specs.Value.{type_width}
 use Rattle.xf_homes.specs.Walk.{has, register_from, same_home}
@@ -45,7 +44,7 @@ use Rattle.law_rewritten_typing.specs.Planned.{IsPlanned}
 use Rattle.law_rewritten_typing.specs.Edges.{CellsFillStack, FillStack, NeededHaveHomes, LeadsTo, leads_start, leads_after, leads_entry}
 use Rattle.law_rewritten_typing.proofs.Below.{top-only}
 use Rattle.law_rewritten_typing.proofs.Registers.{not-fresh}
-use Rattle.law_homes.specs.Edges.{insns, IsBeside, KeptStacksStay, CellsAreFew, CopiesAreFew}
+use Rattle.law_homes.specs.Edges.{insns, KeptStacksStay, CellsAreFew, CopiesAreFew}
 use Rattle.law_homes.specs.Held.{slots}
 use Rattle.law_homes.specs.Moves.{letter_of, value_in_register}
 use Rattle.law_homes.proofs.Valued.{asked_types, IsCellOf, CellsAt, at-nth}

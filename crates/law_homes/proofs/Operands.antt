@@ -1,14 +1,14 @@
 -- The loads after a conditional's stack was stored: those of its operands, and those of the cells under them.
-use Rattle.std.proofs.Common.{◌≡◌, inl, inr, ℕ, ◌+◌, ◌-◌, ◌<◌, ◌≤◌, true, List, [], ◌∷◌, ◌++◌, length, map, take, drop}
-use Rattle.std.proofs.Common.{reverse, Some, Ok, refl, sym, ap, ◌∙◌, subst, arith, append_assoc, length-append}
-use Rattle.std.proofs.lemmas.List.{append_cancel_right, length-reverse, length-take, length-drop, reverse-append, reverse-reverse, take-append-drop, take_all}
+use Rattle.std.proofs.Common.{◌≡◌, inl, inr, ℕ, ◌+◌, ◌-◌, ◌<◌, ◌≤◌, true, List, [], ◌∷◌, ◌++◌, length, take, drop}
+use Rattle.std.proofs.Common.{reverse, refl, sym, ap, ◌∙◌, subst, arith, append_assoc, length-append}
+use Rattle.std.proofs.lemmas.List.{append_cancel_right, length-reverse, length-drop, reverse-append, reverse-reverse, take-append-drop}
+use Rattle.std.proofs.lemmas.List.{take_all}
 use Rattle.std.specs.Prelude.{◌↔◌, sum_by}
 use Rattle.std.proofs.lemmas.List.Sums.{sum_by-append, sum_by-cons}
 use Rattle.jc_base.specs.Each.{Each, IsAmong}
 use Rattle.jc_base.specs.World.{Linked}
 use Rattle.jc_decode.specs.declared.insn.Placed.{Placed}
 use Rattle.jc_decode.specs.Symbols.{Step}
-use Rattle.jc_ops.specs.declared.operation.Operation.{Operation}
 use Rattle.jc_ops.specs.declared.operation.Sort.{Sort}
 use Rattle.jc_ops.specs.declared.operation.Sort.TheVariants as sorts
 use Rattle.vm_store.specs.declared.cell.Cell.{Cell}
@@ -31,7 +31,7 @@ use Rattle.law_rewritten_typing.specs.Edges.{CellsFillStack, FillStack, ForksAre
 use Rattle.law_rewritten_typing.proofs.Stacks.{turned-cons}
 use Rattle.law_homes.specs.Edges.{insns, top_at, IsBeside, OperandsLoad, UnderHold, UnderLoads}
 use Rattle.law_homes.specs.Held.{HoldsValue, slots}
-use Rattle.law_homes.specs.Moves.{size, letter_of, InstructionsStandFrom, IsAtStep, CanLoad, load_of, loaded_stack, value_in_register}
+use Rattle.law_homes.specs.Moves.{size, letter_of, InstructionsStandFrom, IsAtStep, CanLoad, loaded_stack, value_in_register}
 use Rattle.law_homes.proofs.Copies.{wide}
 use Rattle.law_homes.proofs.Loading.{loads-run}
 use Rattle.law_homes.proofs.StackStores.{piled, piled-append, piled-from}

@@ -1,7 +1,7 @@
 -- The loads of the homes of a whole stack put that stack back.
-use Rattle.std.proofs.Common.{◌≡◌, ℕ, zero, suc, ◌+◌, ◌<◌, ◌≤◌, List, [], ◌∷◌, ◌++◌, length, take, reverse, refl, sym, ap}
+use Rattle.std.proofs.Common.{◌≡◌, ℕ, suc, ◌+◌, ◌<◌, ◌≤◌, List, [], ◌∷◌, ◌++◌, length, take, reverse, refl, sym, ap}
 use Rattle.std.proofs.Common.{◌∙◌, subst, arith}
-use Rattle.std.specs.Prelude.{slice_get, sum_by}
+use Rattle.std.specs.Prelude.{sum_by}
 use Rattle.std.proofs.Math.Seq.{take-suc}
 use Rattle.std.proofs.lemmas.List.{take_all, length-reverse, reverse-append, reverse-reverse}
 use Rattle.std.proofs.lemmas.List.Sums.{sum_by-cons}
@@ -19,7 +19,7 @@ use Rattle.xf_homes.specs.Order.{SlotsFollow as Follow, register_sum}
 use Rattle.xf_homes.specs.Value.{type_width}
 use Rattle.xf_homes.specs.Source.{Source}
 use Rattle.xf_homes.specs.Plan.{register}
-use Rattle.law_homes.specs.Held.{HoldsValue, slots}
+use Rattle.law_homes.specs.Held.{HoldsValue}
 use Rattle.law_homes.specs.Moves.{size, letter_of, value_in_register, loaded_stack, LoadedIsStack}
 use Rattle.law_homes.proofs.Copies.{wide}
 

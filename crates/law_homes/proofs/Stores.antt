@@ -1,10 +1,10 @@
 -- A store of the source in rewritten code.
 use Rattle.std.proofs.Common.{◌≡◌, ◌⊎◌, inl, inr, ℕ, zero, suc, ◌+◌, ◌*◌, ◌<◌, ◌≤◌, true, List, [], ◌∷◌, ◌++◌, length}
-use Rattle.std.proofs.Common.{map, refl, sym, ap, ◌∙◌, subst, arith, length-append}
-use Rattle.std.specs.Prelude.{Option, Some, None, Ok, IsSomeAnd, flat_map, option_map, pos, slice_get}
+use Rattle.std.proofs.Common.{map, refl, sym, ap, ◌∙◌, subst, arith}
+use Rattle.std.specs.Prelude.{Option, Some, None, IsSomeAnd, flat_map, pos, slice_get}
 use Rattle.std.proofs.lemmas.List.Concat.{flat_map-cons}
 use Rattle.jc_base.specs.declared.ty.Ty.{Ty}
-use Rattle.jc_base.specs.declared.ty.Ty.TheVariants.{Bottom, Short, IntHigh, IntLow, Class, Top}
+use Rattle.jc_base.specs.declared.ty.Ty.TheVariants.{Bottom, Short, IntHigh, IntLow, Class}
 use Rattle.jc_base.specs.declared.record.MethodRec.{MethodRec}
 use Rattle.jc_base.specs.Cell.{IsNoHalf}
 use Rattle.jc_base.specs.Class.{ClassTable, object}
@@ -13,28 +13,24 @@ use Rattle.jc_base.specs.Laws.{IsOrderOfTypes}
 use Rattle.jc_base.specs.Order.{Below, is_below}
 use Rattle.jc_base.specs.World.{Linked}
 use Rattle.jc_decode.specs.declared.insn.Insn.{Insn}
-use Rattle.jc_decode.specs.declared.symbols.Item.{Item}
 use Rattle.jc_decode.specs.Listing.{listing}
 use Rattle.jc_decode.specs.Standing.{AreSteps}
 use Rattle.jc_decode.specs.Symbols.{Step}
 use Rattle.jc_control.specs.WellFormed.{IsPlace}
 use Rattle.jc_ops.specs.declared.operation.Move.TheVariants as moves
-use Rattle.jc_ops.specs.declared.operation.Operation.{Operation}
 use Rattle.jc_ops.specs.declared.operation.Operation.TheVariants as ops
 use Rattle.jc_ops.specs.declared.operation.Sort.{Sort}
 use Rattle.jc_ops.specs.declared.operation.Sort.TheVariants as sorts
-use Rattle.jc_ops.specs.Resolve.{Resolves}
-use Rattle.jc_rules.specs.Demand.{SatisfiesAll, IsHalf, Splits}
+use Rattle.jc_rules.specs.Demand.{IsHalf}
 use Rattle.jc_rules.specs.Laws.{IsNotBottom}
-use Rattle.jc_rules.specs.Rule.{demands}
 use Rattle.vm_store.specs.declared.cell.Cell.{Cell}
 use Rattle.vm_store.specs.declared.cell.Cell.TheVariants as cells
 use Rattle.vm_store.specs.declared.kind.ObjectKind.{ObjectKind}
 use Rattle.vm_store.specs.declared.kind.ObjectKind.TheVariants as kinds_of
-use Rattle.vm_store.specs.Typing.{least_type, type_seen, type_of_handle, type_of_fresh, fresh_seen}
+use Rattle.vm_store.specs.Typing.{least_type, type_seen, fresh_seen}
 use Rattle.vm_store.specs.Cells.{tagged}
 use Rattle.vm_store.specs.Objects.{kinds}
-use Rattle.vm_store.specs.State.{State, Frame, Object, first_frame, nth, top, with_place}
+use Rattle.vm_store.specs.State.{State, Frame, Object, first_frame, nth}
 use Rattle.vm_store.specs.Laws.{HasContent}
 use Rattle.vm_step.specs.Methods.{code_at, max_stack_of}
 use Rattle.vm_step.specs.Raising.{running}
@@ -57,8 +53,7 @@ use Rattle.law_rewritten_typing.proofs.Running.{is-reference}
 use Rattle.law_homes.specs.Edges.{insns, top_at, IsBeside}
 use Rattle.law_homes.specs.Held.{HoldsValue}
 use Rattle.law_homes.specs.Laws.{AreApart}
-use Rattle.law_homes.specs.Moves.{IsExecutable, size, letter_of, AreFilled, InstructionsStandFrom, IsAtStep, copy_of, value_in_register, OwnRegisters, IsCopy}
-use Rattle.jc_decode.specs.Places.{place_after}
+use Rattle.law_homes.specs.Moves.{IsExecutable, size, letter_of, InstructionsStandFrom, IsAtStep, copy_of, value_in_register, IsCopy}
 use Rattle.law_homes.specs.Stores.{HasLocal, IsInHomes, StoresRun}
 use Rattle.law_homes.proofs.Copies.{wide}
 use Rattle.law_homes.proofs.Going.{operations-go-on}
@@ -66,8 +61,8 @@ use Rattle.law_homes.proofs.Loading.{step-place}
 use Rattle.law_homes.proofs.Standing.{steps-execute}
 use Rattle.law_homes.proofs.Valued.{asked_types, IsCellOf, CellsAt, at-nth, value-inside}
 use Rattle.law_homes.proofs.StackStores.{stored, stored-count, stored-holds, stored-apart}
-use Rattle.law_homes.proofs.Spilling.{store_of, IsStored, one-store}
-use Rattle.law_homes.proofs.Carrying.{insns-append, copies-count, copy-fits, Stands}
+use Rattle.law_homes.proofs.Spilling.{one-store}
+use Rattle.law_homes.proofs.Carrying.{insns-append, copies-count, copy-fits}
 use Rattle.law_homes.proofs.Beside.{AreLaws, each-among, among-each, own, register-inside, register-small, needed-valued, types, held-as}
 
 -- ---- what was loaded is of its letter alone

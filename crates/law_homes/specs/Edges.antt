@@ -32,7 +32,7 @@ use Rattle.xf_homes.specs.Walk.{operands_of}
 use Rattle.xf_homes.specs.Source.{Source}
 use Rattle.xf_homes.specs.Plan.{stack_homes, needed, operation}
 use Rattle.xf_emission.specs.declared.origin.Origin.{Origin}
-use Rattle.xf_emission.specs.declared.origin.Origin.TheVariants.{Start, After, Entry}
+use Rattle.xf_emission.specs.declared.origin.Origin.TheVariants.{Start, After}
 use Rattle.xf_emission.specs.Edge.{is_stored, home_before, copies, cell_copies}
 use Rattle.xf_emission.specs.Jump.{has_under, operands, under}
 use Rattle.xf_emission.specs.Move.{loads, spill}

@@ -1,8 +1,8 @@
 -- Each handler catches all, or a class below throwable.
-use Rattle.std.proofs.Common.{◌≡◌, ◌≤◌, ◌<◌, ◌+◌, ◌-◌, ◌*◌, ℕ, zero, suc, List, [], ◌∷◌, length, drop, map, filter_map}
-use Rattle.std.proofs.Common.{Bool, true, false, Option, Some, None, option_map, ◌||◌, ◌&&◌, ◌⊎◌, inl, inr, slice_get, refl, sym, ap, subst}
+use Rattle.std.proofs.Common.{◌≡◌, ◌≤◌, ◌<◌, ◌+◌, ◌-◌, ℕ, zero, suc, List, [], ◌∷◌, length, drop, map, filter_map}
+use Rattle.std.proofs.Common.{Bool, true, false, Option, Some, None, option_map, ◌||◌, ◌⊎◌, inl, inr, slice_get, refl, sym, ap, subst}
 use Rattle.std.proofs.Common.{◌∙◌, arith}
-use Rattle.std.specs.Prelude.{if◌then◌else◌, All, nat_lt, slice_index, ◌==◌}
+use Rattle.std.specs.Prelude.{if◌then◌else◌, All, ◌==◌}
 use Rattle.std.proofs.lemmas.Option.{slice_get-map, slice_get_within}
 use Rattle.cap_desc.specs.DescriptorFormat.{MethodDescriptor}
 use Rattle.cap_method.specs.declared.handler.HandlerInfo.{HandlerInfo}

@@ -1,5 +1,5 @@
 -- Values of registers below others, and registers that an operation leaves as they were.
-use Rattle.std.proofs.Common.{◌≡◌, ◌≢◌, ◌⊎◌, ℕ, zero, suc, ◌+◌, ◌<◌, ◌≤◌, ◌==◌, Bool, true, false, ◌||◌, inl, inr}
+use Rattle.std.proofs.Common.{◌≡◌, ◌≢◌, ◌⊎◌, ℕ, zero, suc, ◌+◌, ◌<◌, ◌==◌, Bool, true, false, ◌||◌, inl, inr}
 use Rattle.std.proofs.Common.{List, [], ◌∷◌, ◌++◌, length, set, slice_get, replicate, All, Option, Some, None, IsSomeAnd, refl, sym, ◌∙◌, ap}
 use Rattle.std.proofs.Common.{subst, arith}
 use Rattle.std.proofs.lemmas.Bool.Decides.{nat_tests}
@@ -8,7 +8,7 @@ use Rattle.jc_base.specs.Class.{ClassTable, object}
 use Rattle.jc_base.specs.Laws.{IsOrderOfTypes}
 use Rattle.jc_base.specs.Order.{Below, is_below}
 use Rattle.jc_base.specs.declared.ty.Ty.{Ty}
-use Rattle.jc_base.specs.declared.ty.Ty.TheVariants.{Bottom, Short, IntHigh, IntLow, Class, Fresh, Top}
+use Rattle.jc_base.specs.declared.ty.Ty.TheVariants.{Short, IntHigh, IntLow, Class, Top}
 use Rattle.jc_base.specs.World.{Linked}
 use Rattle.jc_base.proofs.Lists.{All-slice_get}
 use Rattle.jc_ops.specs.declared.operation.Operation.{Operation}
@@ -22,7 +22,7 @@ use Rattle.jc_rules.specs.Demand.{Frame}
 use Rattle.jc_rules.specs.Rule.{cell}
 use Rattle.jc_rules.specs.Flow.{CellsBelow, no_cells, more_cells, IsNotTop}
 use Rattle.jc_rules.specs.Laws.{IsNotBottom}
-use Rattle.xf_homes.specs.Value.{value_in_cells, value_of, type_width}
+use Rattle.xf_homes.specs.Value.{value_in_cells}
 use Rattle.xf_emission.specs.Edge.{is_stored}
 use Rattle.xf_emission.specs.Move.{load_op}
 use Rattle.law_rewritten_typing.proofs.Moves.{set-same}

@@ -1,5 +1,5 @@
 -- The homes of what stands at a place, and of what an edge carries there.
-use Rattle.std.proofs.Common.{◌≡◌, ◌≢◌, ◌⊎◌, ℕ, zero, suc, ◌+◌, ◌<◌, ◌≤◌, Bool, true, false, if◌then◌else◌, inl, inr}
+use Rattle.std.proofs.Common.{◌≡◌, ◌⊎◌, ℕ, zero, suc, ◌+◌, ◌<◌, Bool, true, false, if◌then◌else◌, inl, inr}
 use Rattle.std.proofs.Common.{List, [], ◌∷◌, ◌++◌, length, reverse, slice_get, replicate, All, Option, Some, None, Result, Ok, IsSomeAnd, IfSome}
 use Rattle.std.proofs.Common.{refl, sym, ◌∙◌, ap, subst, arith, length-append}
 use Rattle.std.specs.Prelude.{IsSome}
@@ -18,13 +18,12 @@ use Rattle.jc_ops.specs.declared.fault.RuleFault.{RuleFault}
 use Rattle.jc_ops.specs.declared.operation.Operation.{Operation}
 use Rattle.jc_control.specs.Control.{IsReached, IsSuccessor}
 use Rattle.jc_control.specs.WellFormed.{HasInstruction}
-use Rattle.jc_rules.specs.Apply.{RuleApplies}
 use Rattle.jc_rules.specs.Demand.{Frame}
-use Rattle.jc_rules.specs.Flow.{CellsBelow, FrameBelow, IsFit, IsFollowed, IsDerived, derived_start, derived_next, IsNotFresh, IsNotTop, start_frame}
+use Rattle.jc_rules.specs.Flow.{FrameBelow, IsFit, IsFollowed, IsDerived, derived_start, derived_next, IsNotFresh, IsNotTop, start_frame}
 use Rattle.jc_rules.specs.Laws.{IsNotBottom}
 use Rattle.xf_homes.specs.declared.home.Home.{Home}
 use Rattle.xf_homes.specs.Home.{register_count, argument_types, IsAsked, asked_here, KeepsStack}
-use Rattle.xf_homes.specs.Laws.{HasRegister, HomesServe}
+use Rattle.xf_homes.specs.Laws.{HomesServe}
 use Rattle.xf_homes.specs.Order.{SlotsFollow, register_sum}
 use Rattle.xf_homes.specs.Value.{value_in_cells, value_of, type_width}
 use Rattle.xf_homes.specs.Walk.{local_of}
@@ -33,7 +32,7 @@ use Rattle.xf_homes.specs.Source.{Source}
 use Rattle.xf_homes.specs.Plan.{stack_homes, cells_from, needed, operation, stack_of, with_home_of, home_of}
 use Rattle.xf_emission.specs.declared.origin.Origin.{Origin}
 use Rattle.xf_emission.specs.declared.origin.Origin.TheVariants.{Start, After, Entry}
-use Rattle.xf_emission.specs.Edge.{home_before, is_stored}
+use Rattle.xf_emission.specs.Edge.{is_stored}
 use Rattle.law_rewritten_typing.specs.Planned.{IsPlanned, IsKept, KeepsValues}
 use Rattle.law_rewritten_typing.specs.Edges.{IsNeededFor, NeededHaveHomes, slot_types, FillStack, CellsFillStack, LeadsTo, leads_start, leads_after}
 use Rattle.law_rewritten_typing.specs.Edges.{leads_entry, stored_at, IsCarried, EdgesCarry}

@@ -1,6 +1,6 @@
 -- Conditional branches and switches: the homes of the cells under their operands, and of those where they lead.
-use Rattle.std.proofs.Common.{◌≡◌, inl, ℕ, suc, ◌+◌, ◌≤◌, Bool, true, false, List, [], ◌∷◌, ◌++◌, length, reverse, All, Option}
-use Rattle.std.proofs.Common.{Some, Ok, IfSome, refl, sym, ◌∙◌, ap, subst, arith, append_assoc, length-append}
+use Rattle.std.proofs.Common.{◌≡◌, inl, ℕ, suc, ◌+◌, ◌≤◌, Bool, true, false, List, [], ◌∷◌, ◌++◌, length, reverse, All}
+use Rattle.std.proofs.Common.{Some, Ok, IfSome, refl, sym, ◌∙◌, ap, subst, arith, length-append}
 use Rattle.std.proofs.lemmas.Bool.Decides.{nat_tests}
 use Rattle.std.proofs.lemmas.List.{append-nil, length-reverse}
 use Rattle.std.proofs.lemmas.List.Sums.{sum_by-append}
@@ -8,7 +8,6 @@ use Rattle.std.proofs.lemmas.List.Elements.{All-head, All-tail}
 use Rattle.jc_base.proofs.Lists.{All-reverse}
 use Rattle.jc_base.specs.Cell.{AreWhole, no_cells as no_whole, whole_int, one_cell, IsDeclared, IsNoHalf}
 use Rattle.jc_base.specs.Each.{Each}
-use Rattle.jc_base.specs.Order.{Below}
 use Rattle.jc_base.specs.World.{Linked}
 use Rattle.jc_base.specs.declared.record.MethodRec.{MethodRec}
 use Rattle.jc_base.specs.declared.ty.Ty.{Ty}
@@ -34,21 +33,20 @@ use Rattle.xf_homes.specs.Source.{Source}
 use Rattle.xf_homes.specs.Plan.{stack_homes, cells_from, is_leader, operation}
 use Rattle.xf_emission.specs.Emission.{rewritten}
 use Rattle.xf_emission.specs.Jump.{has_under, operands, under}
-use Rattle.xf_emission.specs.Move.{load_op}
 use Rattle.law_laid.specs.Laid.{record_with}
 use Rattle.law_rewritten_typing.specs.Planned.{IsPlanned, KeepsValues}
 use Rattle.law_rewritten_typing.specs.Edges.{AreMatched, none_matched, more_matched, IsForkedAt, ForksAreCut, ForksMatch}
 use Rattle.law_rewritten_typing.specs.Typed.{registers_of}
 use Rattle.law_rewritten_typing.specs.Whole.{DerivedAreWhole}
 use Rattle.law_rewritten_typing.proofs.Walks.{Asked, nothing_asked}
-use Rattle.law_rewritten_typing.proofs.Running.{AreLaws, IsRun}
+use Rattle.law_rewritten_typing.proofs.Running.{AreLaws}
 use Rattle.law_rewritten_typing.proofs.Cuts.{IsForked, IsCut}
-use Rattle.law_rewritten_typing.proofs.ForkTypings.{fork, cut-at, depth-is, keeps-over, all-right, each-left, empty-is}
+use Rattle.law_rewritten_typing.proofs.ForkTypings.{fork, cut-at, depth-is, keeps-over, all-right, each-left}
 use Rattle.law_rewritten_typing.proofs.Listings.{IsReachedRun, run-of}
 use Rattle.law_rewritten_typing.proofs.Matching.{home-one, home-int}
 use Rattle.law_rewritten_typing.proofs.WholeStacks.{high-only, low-only, no-half-above}
 use Rattle.law_rewritten_typing.proofs.Below.{loads-same}
-use Rattle.law_rewritten_typing.proofs.EdgeHomes.{ready, fills, Fills, cells-are, fill-stack, fit-at}
+use Rattle.law_rewritten_typing.proofs.EdgeHomes.{ready, fills, cells-are, fill-stack, fit-at}
 use Rattle.law_rewritten_typing.proofs.RewrittenTyping.{record-for}
 
 conditional-of : (s : Source) (op : Operation) (n : ℕ) → operands_of s.world (Ok op) ≡ Some n → IsConditional op

@@ -26,7 +26,7 @@ use Rattle.jc_ops.specs.Resolve.{resolved, on, instance_field, short_of}
 use Rattle.jc_ops.specs.Row.{row_at, table, unused, by_sort, by_width, by_kind, first_four, by_register, literals, binaries, orders_all, branching}
 use Rattle.xf_emission.specs.Move.{with_byte}
 use Rattle.xf_emission.proofs.RowByRow as kind
-use Rattle.xf_emission.proofs.RowByRow.{kind_at, kinds, op_kind, kind-of}
+use Rattle.xf_emission.proofs.RowByRow.{kind_at, kinds, kind-of}
 use Rattle.xf_emission.specs.Mnemonics.{from_read, from_write, swap_x, goto_w, pop, pop2}
 use Rattle.jc_rules.proofs.Decides.{ok-same}
 

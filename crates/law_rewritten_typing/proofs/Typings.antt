@@ -1,5 +1,5 @@
 -- A walk along all items of code is a card typing of it.
-use Rattle.std.proofs.Common.{◌≡◌, ℕ, zero, suc, ◌+◌, ◌<◌, ◌≤◌, Bool, true, false, if◌then◌else◌, inl, inr, List, [], ◌∷◌}
+use Rattle.std.proofs.Common.{◌≡◌, ℕ, zero, suc, ◌+◌, ◌<◌, ◌≤◌, Bool, true, false, if◌then◌else◌, List, [], ◌∷◌}
 use Rattle.std.proofs.Common.{length, map, slice_get, All, Contains, Option, Some, None, IsSomeAnd, refl, sym, ◌∙◌, ap, subst, arith}
 use Rattle.std.specs.Prelude.{pos, ◌==◌}
 use Rattle.std.proofs.lemmas.Simd.{map-map}
@@ -21,7 +21,6 @@ use Rattle.jc_decode.specs.declared.symbols.Range.{Range}
 use Rattle.jc_decode.specs.declared.symbols.Symbols.{Symbols}
 use Rattle.jc_decode.specs.Places.{IsTargetAmong}
 use Rattle.jc_decode.specs.Symbols.{Step, place_of, steps, steps_in, handler}
-use Rattle.jc_decode.proofs.Elements.{Contains-slice_get}
 use Rattle.jc_rules.specs.declared.effect.Mode.TheVariants.{Flow}
 use Rattle.jc_rules.specs.declared.rule.Outcome.{Outcome}
 use Rattle.jc_rules.specs.Apply.{RuleApplies}
@@ -39,14 +38,6 @@ use Rattle.law_rewritten_typing.proofs.Bridge.{stack_at, comes-next, left-empty,
 
 each-in : {X : Type 0} (P : X → Type 0) (xs : List X) (x : X) → Each P xs → Contains xs x → P x
 each-in P xs x h c = All-contains P xs x (All-from_Each P xs h) c
-
-among-in : {X : Type 0} (xs : List X) (x : X) → IsAmong x xs → Contains xs x
-among-in xs x a = let p = found xs x a in Contains-slice_get xs p.0 x p.1
-  where
-    found : {X : Type 0} (xs : List X) (x : X) → IsAmong x xs → (k : ℕ) × (slice_get xs k ≡ Some x)
-    found [] x a = absurd a
-    found (y ∷ ys) x (inl e) = (0, ap Some e)
-    found (y ∷ ys) x (inr a) = let r = found ys x a in (suc r.0, r.1)
 
 -- ---- steps
 

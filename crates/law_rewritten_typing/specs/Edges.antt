@@ -1,6 +1,6 @@
 -- The homes of the values that stand at a place, and on the edges that lead there.
 use Rattle.std.specs.Prelude.{◌≡◌, ◌<◌, ◌≤◌, ◌+◌, ◌⊎◌, ◌++◌, ℕ, Bool, true, false, List, [], ◌∷◌}
-use Rattle.std.specs.Prelude.{length, reverse, Option, Some, Ok}
+use Rattle.std.specs.Prelude.{length, reverse, Some, Ok}
 use Rattle.jc_base.specs.declared.ty.Ty.{Ty}
 use Rattle.jc_base.specs.Each.{Each, IsAmong}
 use Rattle.jc_base.specs.World.{Linked}

@@ -1,6 +1,6 @@
 -- A method begins with as many cells as it has parameters.
 use Rattle.std.proofs.Common.{◌≡◌, ℕ, ◌+◌, ◌*◌, ◌≤◌, ◌==◌, Bool, true, false, if◌then◌else◌, inl, inr, List, [], ◌∷◌}
-use Rattle.std.proofs.Common.{length, map, reverse, take, refl, sym, ap, ◌∙◌, subst, arith}
+use Rattle.std.proofs.Common.{length, map, take, refl, sym, ap, ◌∙◌, subst, arith}
 use Rattle.std.specs.Prelude.{ℤ, pos, negsuc, Option, Some, None, Ok, slice_get, slice_index_or, unwrap_or, ⊤}
 use Rattle.std.proofs.lemmas.Bool.{eqb-false}
 use Rattle.std.proofs.lemmas.List.{length-map, length-reverse, length-take}
@@ -14,7 +14,6 @@ use Rattle.jc_base.specs.Dispatch.{IsConcrete, dispatched}
 use Rattle.jc_base.specs.Linked.{receiver_words}
 use Rattle.jc_base.specs.Order.{Below}
 use Rattle.jc_base.specs.World.{Linked, IsWorld}
-use Rattle.jc_base.proofs.Concreteness.{concrete-decides}
 use Rattle.jc_base.proofs.Subtypes.{is_below-from_Below}
 use Rattle.jc_decode.specs.declared.insn.Insn.{Insn}
 use Rattle.jc_decode.specs.Listing.{target}
@@ -32,12 +31,10 @@ use Rattle.jc_ops.specs.declared.operation.Operation.{Operation}
 use Rattle.jc_ops.specs.declared.operation.Operation.TheVariants as ops
 use Rattle.jc_ops.specs.Resolve.{Resolves}
 use Rattle.jc_ops.specs.Sound.{IsSound, IsCalleeOf, IsVirtualCall, IsChosen}
-use Rattle.jc_ops.proofs.Soundness.{operations-are-sound}
 use Rattle.jc_rules.proofs.CellLists.{cells-length}
 use Rattle.vm_store.specs.declared.cell.Cell.{Cell}
 use Rattle.vm_store.specs.declared.cell.Cell.TheVariants as cells
 use Rattle.vm_store.specs.declared.kind.ObjectKind.{ObjectKind}
-use Rattle.vm_store.specs.declared.kind.ObjectKind.TheVariants.{Instance}
 use Rattle.vm_store.specs.Kind.{kind_of_handle, type_of_kind}
 use Rattle.vm_store.specs.Typing.{least_type}
 use Rattle.vm_store.specs.Cells.{Cells, tagged, word_of}
@@ -47,7 +44,7 @@ use Rattle.vm_store.specs.Value.{value_in}
 use Rattle.vm_arithmetic.specs.Arithmetic.{short_of_word}
 use Rattle.vm_step.specs.declared.exception.Exception.{Exception}
 use Rattle.vm_step.specs.declared.exception.Exception.TheVariants as exceptions
-use Rattle.vm_step.specs.Act.{Act, goes, jumps, makes, calls, gives, raises, throws, lacks, unless_null, if_some}
+use Rattle.vm_step.specs.Act.{Act, goes, calls, raises, throws, lacks, unless_null, if_some}
 use Rattle.vm_step.specs.Branching.{leads_if, is_taken, branch_width}
 use Rattle.vm_step.specs.Fields.{at_element, elements_of, element_index, keeps_kind, with_element, held_handle, with_field_read, with_field_write}
 use Rattle.vm_step.specs.Numbers.{handle_at, short_at, replaced, dropped, number_cells}

@@ -1,5 +1,5 @@
 -- The parts of a package that its Directory asks for are there, and none is longer than a component can be.
-use Rattle.std.proofs.Common.{◌≡◌, ◌≤◌, ◌<◌, ◌-◌, ℕ, Bool, true, false, List, [], ◌∷◌, length, find, Option, Some, None, Ok, ◌⊎◌, inl, inr}
+use Rattle.std.proofs.Common.{◌≡◌, ◌≤◌, ◌<◌, ◌-◌, ℕ, Bool, true, false, List, [], length, find, Option, Some, None, Ok, ◌⊎◌, inl, inr}
 use Rattle.std.proofs.Common.{refl, sym, ap, subst, ◌∙◌, arith, true≢false, option_map}
 use Rattle.std.specs.Prelude.{◌==◌, ◌&&◌, ◌||◌, not, nat_le, slice_get, unwrap_or, if◌then◌else◌}
 use Rattle.std.proofs.lemmas.Bool.{cases_eq}
@@ -15,7 +15,7 @@ use Rattle.cap_components.specs.Parts.{Lent, held}
 use Rattle.cap_components.specs.Saying.{HoldsComponent}
 use Rattle.cap_package.specs.StandsFor.{StandsFor}
 use Rattle.law_package.specs.RewrittenPackage.{IsSizeOf}
-use Rattle.law_package.proofs.Lists.{Each, Has, each_at}
+use Rattle.law_package.proofs.Lists.{Each, each_at}
 use Rattle.law_package.proofs.Sized.{directory_read}
 use Rattle.cap_load.proofs.Framing.{file_long}
 use Rattle.cap_write.proofs.Customs.{has_tag}

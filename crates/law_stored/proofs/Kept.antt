@@ -1,12 +1,12 @@
 -- What a folder has stays where something is stored in another one.
-use Rattle.std.proofs.Common.{◌≡◌, ◌≤◌, ◌<◌, ℕ, List, [], ◌∷◌, Option, Some, None, IfSome, IsNone, Bool, true, false, refl, sym, ap, subst, ◌∙◌}
+use Rattle.std.proofs.Common.{◌≡◌, ℕ, List, [], ◌∷◌, Option, Some, None, IfSome, IsNone, ◌∙◌}
 use Rattle.std.specs.FinMap as map
 use Rattle.std.specs.Prelude.{IsSomeAnd}
-use Rattle.std.specs.List.{AllByRecursion, AllZip}
-use Rattle.cap_files.specs.Folder.{Parts, Folders, IsThere, IsAbsent}
+use Rattle.std.specs.List.{AllZip}
+use Rattle.cap_files.specs.Folder.{Parts, Folders, IsThere}
 use Rattle.cap_components.specs.Parts.{Lent, held}
 use Rattle.capcheck_core.specs.Headline.{StandIn}
-use Rattle.capcheck_core.specs.Loads.{Has, AreParts, is_asked}
+use Rattle.capcheck_core.specs.Loads.{Has, AreParts}
 use Rattle.capcheck_core.specs.Roles.{AreRolesIn, roles_tag}
 use Rattle.law_stored.specs.StoredIsRead.{IsApart}
 

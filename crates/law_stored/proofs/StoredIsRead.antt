@@ -1,5 +1,5 @@
 -- What `transform` stores is what a later command reads.
-use Rattle.std.proofs.Common.{◌≡◌, ◌≤◌, ◌<◌, ℕ, List, [], ◌∷◌, ◌++◌, length, Option, Some, None, IsSome, IsNone, ◌⊎◌, inl, inr, true, false}
+use Rattle.std.proofs.Common.{◌≡◌, ◌≤◌, ◌<◌, ℕ, List, [], ◌∷◌, ◌++◌, Option, Some, None, IsSome, IsNone, ◌⊎◌, inl, inr, true}
 use Rattle.std.proofs.Common.{refl, sym, ap, subst, ◌∙◌, arith, true≢false}
 use Rattle.std.specs.List.{AllZip}
 use Rattle.std.proofs.lemmas.Bool.{cases_eq}
@@ -14,7 +14,6 @@ use Rattle.jc_decode.specs.declared.symbols.Laid.{Laid}
 use Rattle.law_package.specs.Rewritten.{IsRewritten}
 use Rattle.xf_pack.specs.Transformed.{IsTransformed}
 use Rattle.cap_write.specs.WrittenPackage.{IsWritten}
-use Rattle.capcheck_core.specs.declared.verdict.Verdict.{Verdict}
 use Rattle.capcheck_core.specs.declared.verdict.Verdict.TheVariants.{Done, Refused, Limit, Malformed, Usage, ReadFault, StoreFault, Memory}
 use Rattle.capcheck_core.specs.Completeness.{CanDo}
 use Rattle.capcheck_core.specs.Headline.{HoldWorld, AreKept}
@@ -24,8 +23,7 @@ use Rattle.capcheck_core.specs.declared.source.Source.TheVariants.{Components}
 use Rattle.capcheck_core.specs.Packages.{ArePartsBy, AreRoleBytes}
 use Rattle.capcheck_core.specs.Place.{places}
 use Rattle.capcheck_core.specs.Roles.{AreRolesIn, roles_tag}
-use Rattle.capcheck_core.specs.Transform.{Transforms, TransformsWorld, IsBrought, roles_beside}
-use Rattle.capcheck_core.specs.Verdict.{status_of}
+use Rattle.capcheck_core.specs.Transform.{TransformsWorld, IsBrought, roles_beside}
 use Rattle.capcheck_core.proofs.InComponents.{components_zip, places_zip}
 use Rattle.capcheck_core.proofs.Promised.{over, are_kept}
 use Rattle.law_stored.specs.StoredIsRead.{StoredIsRead, IsReadAgain, IsApart, with_last}

@@ -5,7 +5,6 @@ use Rattle.std.specs.Prelude.{◌==◌, ◌&&◌, ◌||◌, not, nat_le, slice_g
 use Rattle.std.proofs.lemmas.Bool.{cases_eq, eqb-true}
 use Rattle.std.proofs.lemmas.Bool.Decides.{nat_tests}
 use Rattle.cap_bytes.specs.Grammar.{Grammar}
-use Rattle.cap_bytes.specs.Reading.{reading}
 use Rattle.cap_bytes.specs.Spelling.{Stands, Spells, file_of}
 use Rattle.cap_bytes.proofs.Laws.{reading_where}
 use Rattle.cap_bytes.specs.declared.fault.FormFault.{FormFault}
@@ -18,7 +17,7 @@ use Rattle.cap_components.specs.declared.fault.PackFault.{PackFault}
 use Rattle.cap_components.specs.Components.{read_directory, read_part}
 use Rattle.cap_components.specs.PackageRecord.{PackageRecord}
 use Rattle.cap_components.specs.Parts.{Lent, held}
-use Rattle.cap_components.specs.Saying.{Says, SaysIf, HoldsComponent}
+use Rattle.cap_components.specs.Saying.{Says, SaysIf}
 use Rattle.cap_components.proofs.Saying.{part_read}
 use Rattle.cap_package.specs.StandsFor.{StandsFor}
 use Rattle.cap_laying.specs.declared.sizes.ComponentSizes.{ComponentSizes}
@@ -29,7 +28,7 @@ use Rattle.jc_decode.specs.declared.symbols.Laid.{Laid}
 use Rattle.cap_index.specs.TargetIndex.{index_bytes}
 use Rattle.law_package.specs.Rewritten.{IsRewritten}
 use Rattle.law_package.specs.RewrittenPackage.{IsSizeOf}
-use Rattle.law_package.proofs.Lists.{Each, Has, each_at}
+use Rattle.law_package.proofs.Lists.{Each, each_at}
 use Rattle.cap_write.specs.Filed.{IsRising}
 use Rattle.cap_write.specs.Files.{IsDirectoryFile, IsPresent, index_file, sizes_of}
 use Rattle.cap_write.specs.NewIndex.{Index, IsNewIndex, change_of, dropped, stays, written}
@@ -37,7 +36,7 @@ use Rattle.cap_write.specs.WrittenPackage.{IsWritten, ArePartsOf}
 use Rattle.cap_write.proofs.Customs.{has_tag, found_other, found_kept, found_written}
 use Rattle.cap_write.proofs.Told.{tells_sizes, tags_from, has_tag_from}
 use Rattle.capcheck_core.specs.Loads.{is_required, is_optional, is_some_size, is_sized, is_asked, Rise}
-use Rattle.law_stored.proofs.AskedParts.{directory_is, outside}
+use Rattle.law_stored.proofs.AskedParts.{directory_is}
 
 -- ---- parts rise
 

@@ -24,7 +24,7 @@ use Rattle.law_alike.specs.Ends.{Left, EndsWithin, GoesOnFor, EndsAlike}
 use Rattle.law_laid.specs.Apart.{apart_from_code}
 use Rattle.law_transform.specs.Counterparts.{AreCounterparts}
 use Rattle.law_groups.specs.Comes.{ComesWithin}
-use Rattle.law_transform.specs.Beside.{no_frames, AreBeside, OutcomesBeside}
+use Rattle.law_transform.specs.Beside.{no_frames, OutcomesBeside}
 use Rattle.law_transform.specs.LikeEndings.{StartsAreMet, StepsAreMet}
 use Rattle.law_transform.proofs.Typed.{AreLaws}
 use Rattle.law_transform.proofs.Settling.{Settles, enters}

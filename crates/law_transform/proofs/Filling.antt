@@ -1,7 +1,6 @@
 -- What is laid for a method is not empty.
-use Rattle.std.proofs.Common.{◌≡◌, ℕ, true, inl, ◌+◌, ◌<◌, ◌≤◌, List, [], ◌∷◌, length, refl, sym, ◌∙◌, ap, subst, arith}
-use Rattle.std.specs.Prelude.{Option, Some, None, Contains, is_some}
-use Rattle.jc_base.specs.World.{Linked}
+use Rattle.std.proofs.Common.{◌≡◌, ℕ, true, inl, ◌<◌, List, [], ◌∷◌, length, refl, sym, subst, arith}
+use Rattle.std.specs.Prelude.{Contains, is_some}
 use Rattle.jc_base.proofs.Eaching.{Contains-from_IsAmong}
 use Rattle.jc_base.proofs.Lists.{IsSomeAnd-some}
 use Rattle.jc_decode.specs.declared.insn.Placed.{Placed}
@@ -13,7 +12,7 @@ use Rattle.jc_decode.proofs.InstructionLists.{all-are-listed}
 use Rattle.jc_control.specs.Control.{IsReached, begins}
 use Rattle.jc_control.proofs.Closing.{instructions-are-placed}
 use Rattle.jc_rules.specs.Demand.{Frame as Types}
-use Rattle.jc_rules.specs.Flow.{At, IsFollowed}
+use Rattle.jc_rules.specs.Flow.{IsFollowed}
 use Rattle.xf_homes.specs.Source.{Source}
 use Rattle.xf_emission.specs.Emission.{rewritten}
 use Rattle.xf_emission.specs.Group.{body}

@@ -1,14 +1,11 @@
 -- What follows the step of another method in both worlds: a method that is called begins, one that waits goes on, an object is caught.
-use Rattle.std.proofs.Common.{◌≡◌, ℕ, zero, suc, ◌+◌, ◌-◌, ◌<◌, ◌≤◌, Bool, true, false, ◌&&◌, if◌then◌else◌, List, []}
+use Rattle.std.proofs.Common.{◌≡◌, ℕ, suc, ◌+◌, ◌-◌, ◌<◌, ◌≤◌, Bool, true, false, if◌then◌else◌, List, []}
 use Rattle.std.proofs.Common.{◌∷◌, ◌++◌, length, map, reverse, replicate, refl, sym, ap, ◌∙◌, subst, arith, length-append}
-use Rattle.std.specs.Prelude.{Option, Some, None, nat_lt, nat_le, slice_get, slice_index, sum_by, find}
+use Rattle.std.specs.Prelude.{Some, None, nat_lt, nat_le, slice_get}
 use Rattle.std.proofs.lemmas.Bool.{le-ltb, lt-leb, ltb-false, false≢true}
 use Rattle.std.proofs.lemmas.Bool.Decides.{nat_tests}
-use Rattle.std.proofs.lemmas.List.{length-map, length-reverse, map-append}
-use Rattle.jc_base.specs.declared.record.Handler.{Handler}
+use Rattle.std.proofs.lemmas.List.{length-map, map-append}
 use Rattle.jc_base.specs.declared.record.MethodRec.{MethodRec}
-use Rattle.jc_base.specs.Class.{ClassTable}
-use Rattle.jc_base.specs.Dispatch.{cells_of}
 use Rattle.jc_base.specs.Each.{Each}
 use Rattle.jc_base.specs.World.{Linked, code_of}
 use Rattle.jc_decode.specs.declared.insn.Placed.{Placed}
@@ -17,25 +14,18 @@ use Rattle.jc_control.specs.Control.{IsReached}
 use Rattle.jc_control.specs.Method.{IsMethodOf, method_with}
 use Rattle.jc_control.proofs.PlacesWithin.{place-inside}
 use Rattle.vm_store.specs.declared.cell.Cell.{Cell}
-use Rattle.vm_store.specs.declared.kind.ObjectKind.{ObjectKind}
-use Rattle.vm_store.specs.declared.kind.ObjectKind.TheVariants.{Instance}
 use Rattle.vm_store.specs.Cells.{tagged}
-use Rattle.vm_store.specs.Kind.{kind_of_handle}
-use Rattle.vm_store.specs.Objects.{kinds, has_room, new_instance_cells, with_object}
-use Rattle.vm_store.specs.State.{Frame, Object, State, top, other_frames, entered, register_count_of, register_count, with_stack, with_place}
+use Rattle.vm_store.specs.Objects.{kinds}
+use Rattle.vm_store.specs.State.{Frame, Object, State, top, other_frames, entered, register_count_of, register_count}
 use Rattle.vm_store.specs.Value.{with_value}
 use Rattle.vm_store.proofs.Stacks.{reverse-map}
 use Rattle.vm_step.specs.declared.ending.Ending.TheVariants as endings
-use Rattle.vm_step.specs.declared.ending.Fault.{Fault}
 use Rattle.vm_step.specs.declared.ending.Fault.TheVariants.{StackFault, JumpFault}
-use Rattle.vm_step.specs.declared.ending.Plain.TheVariants.{Returned, Threw, HeapFull}
+use Rattle.vm_step.specs.declared.ending.Plain.TheVariants.{Returned}
 use Rattle.vm_step.specs.declared.ending.Value.{Value}
-use Rattle.vm_step.specs.declared.exception.Exception.{Exception}
-use Rattle.vm_step.specs.Act.{role_of}
-use Rattle.vm_step.specs.Calls.{class_with_methods, class_of}
 use Rattle.vm_step.specs.Methods.{of_method, code_at, handlers_of, instruction_at, max_stack_of}
-use Rattle.vm_step.specs.Raising.{Outcome, running, ended, ends, catches, handler_for, caught, has_no_room, caught_by, caught_or, unwound, thrown, raised}
-use Rattle.vm_step.specs.Run.{Runs, Continues, stands}
+use Rattle.vm_step.specs.Raising.{Outcome, running, ended, ends}
+use Rattle.vm_step.specs.Run.{Continues, stands}
 use Rattle.vm_step.specs.Settled.{fault_next, goes_to, given_to, return_place, unless_fault}
 use Rattle.law_sound.specs.Frames.{Typings}
 use Rattle.law_sound.specs.State.{IsTypedState}
@@ -50,13 +40,13 @@ use Rattle.xf_homes.specs.Source.{Source}
 use Rattle.xf_homes.specs.Plan.{needed}
 use Rattle.law_erasure.proofs.Together.{safe-free}
 use Rattle.law_groups.specs.Laid.{body_at, rename}
-use Rattle.law_groups.specs.Beside.{AreEqualBut, AreOf, IsUnderCall, StandsInGroup}
+use Rattle.law_groups.specs.Beside.{AreEqualBut, AreOf, IsUnderCall}
 use Rattle.law_groups.specs.Comes.{ComesToGroup, ComesWithin}
-use Rattle.law_groups.specs.Laws.{CatchAlike, none_catches, both_catch}
 use Rattle.law_transform.specs.Counterparts.{IsSameMethod, IsRewrittenIn, IsKeptOrRewritten, kept, rewritten, AreCounterparts}
-use Rattle.law_transform.specs.Beside.{AreTop, top_kept, top_rewritten, WaitBeside, wait_kept, wait_rewritten, AreUnder, no_frames, more_frames, AreBeside}
+use Rattle.law_transform.specs.Beside.{AreTop, top_kept, top_rewritten, wait_kept, wait_rewritten, AreUnder, no_frames, more_frames}
+use Rattle.law_transform.specs.Beside.{AreBeside}
 use Rattle.law_transform.specs.Beside.{OutcomesBeside, both_run, both_end}
-use Rattle.law_transform.proofs.Typed.{AreLaws, its-method, stands-at, reached-at, typed-at}
+use Rattle.law_transform.proofs.Typed.{AreLaws, its-method, stands-at, typed-at}
 
 -- how many steps may still follow: an ending comes at once
 abbrev pub extra : Outcome Cell → ℕ

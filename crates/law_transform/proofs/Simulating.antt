@@ -1,6 +1,5 @@
 -- A step of the first world, and steps of the second that come to the same; and so runs.
-use Rattle.std.proofs.Common.{◌≡◌, ℕ, zero, suc, ◌+◌, ◌*◌, ◌≤◌, List, [], ◌∷◌, drop, refl, sym, ap, ◌∙◌, subst, arith}
-use Rattle.std.specs.Prelude.{Some, Ok, slice_get}
+use Rattle.std.proofs.Common.{◌≡◌, ℕ, suc, ◌+◌, ◌*◌, ◌≤◌, List, [], ◌∷◌, drop, refl, sym, ap, ◌∙◌, subst, arith}
 use Rattle.jc_base.specs.World.{Linked}
 use Rattle.jc_control.specs.Control.{IsReached}
 use Rattle.jc_control.specs.Method.{Method}

@@ -1,19 +1,19 @@
 -- An object that is thrown is caught by the same frame in both worlds, or ends both runs.
-use Rattle.std.proofs.Common.{◌≡◌, ℕ, ◌+◌, ◌≤◌, Bool, true, false, ◌&&◌, if◌then◌else◌, List, [], ◌∷◌, ◌++◌, length, map}
+use Rattle.std.proofs.Common.{◌≡◌, ℕ, ◌+◌, Bool, true, false, ◌&&◌, if◌then◌else◌, List, [], ◌∷◌, ◌++◌, length, map}
 use Rattle.std.proofs.Common.{refl, sym, ap, ◌∙◌, subst, arith}
-use Rattle.std.specs.Prelude.{Option, Some, None, nat_lt, nat_le, slice_get, slice_index, sum_by, find}
+use Rattle.std.specs.Prelude.{Option, Some, None, nat_lt, nat_le, slice_index, sum_by, find}
 use Rattle.std.proofs.lemmas.Bool.{le-ltb}
 use Rattle.jc_base.specs.declared.record.Handler.{Handler}
 use Rattle.jc_base.specs.Class.{ClassTable}
 use Rattle.jc_base.specs.Dispatch.{cells_of}
 use Rattle.jc_base.specs.World.{Linked}
-use Rattle.jc_control.specs.Control.{IsReached, Covers}
+use Rattle.jc_control.specs.Control.{IsReached}
 use Rattle.vm_store.specs.declared.cell.Cell.{Cell}
 use Rattle.vm_store.specs.declared.kind.ObjectKind.TheVariants.{Instance}
 use Rattle.vm_store.specs.Cells.{tagged}
 use Rattle.vm_store.specs.Kind.{kind_of_handle}
 use Rattle.vm_store.specs.Objects.{kinds, has_room, new_instance_cells, with_object}
-use Rattle.vm_store.specs.State.{Frame, Object, State, top, other_frames, without_frames}
+use Rattle.vm_store.specs.State.{Frame, Object, State, without_frames}
 use Rattle.vm_step.specs.declared.ending.Ending.TheVariants as endings
 use Rattle.vm_step.specs.declared.ending.Fault.TheVariants.{StackFault}
 use Rattle.vm_step.specs.declared.ending.Plain.TheVariants.{Threw, HeapFull}

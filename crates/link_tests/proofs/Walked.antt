@@ -3,7 +3,6 @@
 use Rattle.std.proofs.Common.{◌≡◌, ◌≢◌, ℕ, zero, suc, ◌+◌, ◌*◌, ◌<◌, ◌≤◌, Bool, true, false, List, [], ◌∷◌, ◌++◌, length, Contains, IsTrue, IsSomeAnd, Option, Some, None, inl, inr}
 use Rattle.std.proofs.Common.{refl, sym, ap, subst, ◌∙◌, arith}
 use Rattle.std.proofs.Math.Nat.{suc-mul}
-use Rattle.jc_base.specs.declared.record.Handler.{Handler}
 use Rattle.jc_base.specs.declared.ty.Ty.{Ty}
 use Rattle.jc_base.specs.declared.ty.Ty.TheVariants.{Bottom}
 use Rattle.jc_base.specs.World.{Linked}
@@ -18,7 +17,7 @@ use Rattle.jc_rules.specs.Apply.{RuleApplies}
 use Rattle.jc_rules.specs.Demand.{Frame, AreKnown}
 use Rattle.jc_rules.specs.Flow.{start_frame}
 use Rattle.jc_rules.specs.FlowLaws.{AreRules}
-use Rattle.card_typing.specs.Met.{Arrives, GoesTo, IsMetAfter, IsPassed, arrives_empty, arrives_falling, goes_again, goes_there, met_next, met_start}
+use Rattle.card_typing.specs.Met.{Arrives, GoesTo, IsMetAfter, arrives_empty, arrives_falling, goes_again, goes_there, met_next, met_start}
 use Rattle.card_typing.specs.Pass.{HasAfterPasses}
 use Rattle.card_typing.specs.Place.{IsEntry}
 use Rattle.card_typing.proofs.OneRefusal.{met-is-one}

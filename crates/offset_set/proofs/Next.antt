@@ -1,6 +1,6 @@
 -- The next offset of a set is one alone, and that of the offsets of a list is the least of those above.
 use Rattle.std.proofs.Common.{◌≡◌, ℕ, ◌<◌, ◌≤◌, Bool, true, false, ltb, eqb, min, cond, List, [], ◌∷◌, Option, Some, None, refl, sym}
-use Rattle.std.proofs.Common.{ap, subst, ◌∙◌, arith, inl, inr, ltb-true, ltb-false, eq-eqb, ne_eqb, true≢false, ◌⊎◌}
+use Rattle.std.proofs.Common.{ap, ◌∙◌, arith, inl, inr, ltb-true, ltb-false, eq-eqb, ne_eqb, true≢false, ◌⊎◌}
 use Rattle.std.specs.Prelude.{MatchBool}
 use Rattle.std.proofs.lemmas.Bool.{cases_lt, or_from, or_left, or_right}
 use Rattle.offset_set.specs.Sets.{IsNext, is_among, is_repeated, lesser_of, least_above, nearest}

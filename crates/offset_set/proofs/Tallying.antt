@@ -1,7 +1,7 @@
 -- What is known once the offsets of a list were counted one after the other.
-use Rattle.std.proofs.Common.{◌≡◌, ℕ, Bool, true, false, eqb, ◌||◌, ◌&&◌, List, [], ◌∷◌, fold, refl, sym, ap, ◌∙◌}
+use Rattle.std.proofs.Common.{◌≡◌, ℕ, Bool, true, false, eqb, ◌||◌, ◌&&◌, List, [], ◌∷◌, refl, ◌∙◌}
 use mathlib.Core.Path.{fun_ext}
-use Rattle.offset_set.specs.Sets.{nowhere, also, is_among, is_repeated}
+use Rattle.offset_set.specs.Sets.{is_among, is_repeated}
 use Rattle.offset_set.specs.Tallies.{Tallied, none_counted, with_one, with_all, tally_of}
 
 -- what is known of some offsets, and then those of a list

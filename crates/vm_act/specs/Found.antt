@@ -1,5 +1,5 @@
 -- What operations on objects find by the handles that they are given, where these are not null.
-use Rattle.std.specs.Prelude.{◌≡◌, ℕ, ◌+◌, ◌<◌, ◌≤◌, ◌==◌, MatchBool, length, IsSome, IsSomeAnd, ⊤}
+use Rattle.std.specs.Prelude.{◌≡◌, ℕ, ◌+◌, ◌<◌, ◌≤◌, ◌==◌, MatchBool, length, IsSomeAnd, ⊤}
 use Rattle.jc_base.specs.declared.ty.Kind.{Kind}
 use Rattle.jc_base.specs.declared.ty.Kind.TheVariants as fields
 use Rattle.jc_base.specs.Class.{ClassTable}
@@ -9,7 +9,7 @@ use Rattle.jc_ops.specs.declared.operation.Holder.TheVariants as holders
 use Rattle.jc_ops.specs.declared.operation.InstanceField.{InstanceField}
 use Rattle.vm_store.specs.Kind.{element_width}
 use Rattle.vm_store.specs.Cells.{Cells}
-use Rattle.vm_store.specs.State.{State, Object, top}
+use Rattle.vm_store.specs.State.{State, top}
 use Rattle.vm_store.specs.Objects.{object_at, object_cells}
 use Rattle.vm_step.specs.Instance.{IsRecorded}
 use Rattle.vm_step.specs.Numbers.{handle_at}

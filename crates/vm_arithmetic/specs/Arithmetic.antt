@@ -3,7 +3,7 @@
 use Rattle.std.specs.Prelude.{ℕ, ◌+◌, ◌*◌, ◌/◌, ◌%◌, ◌^◌, ℤ, pos, negsuc, Bool, not, ◌==◌, if◌then◌else◌}
 use Rattle.std.specs.Prelude.{int_lt, int_le, int_rem, Option, Some, None}
 use Rattle.std.specs.Int.{w8, w16, w32, cast_signed, cast_unsigned, int_wrapping_add, int_wrapping_sub, int_wrapping_mul, int_wrapping_div}
-use Rattle.std.specs.Int.{int_wrapping_neg, int_bit_and, int_bit_or, int_bit_xor, int_shl, int_shr}
+use Rattle.std.specs.Int.{int_bit_and, int_bit_or, int_bit_xor, int_shl, int_shr}
 use Rattle.jc_ops.specs.declared.operation.Operator.{Operator}
 use Rattle.jc_ops.specs.declared.operation.Operator.TheVariants.{Add, Subtract, Multiply, Divide, Remainder, ShiftLeft, ShiftRight}
 use Rattle.jc_ops.specs.declared.operation.Operator.TheVariants.{ShiftRightUnsigned, And, Or, ExclusiveOr}

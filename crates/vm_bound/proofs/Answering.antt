@@ -1,5 +1,5 @@
 -- The answers over the graph of calls are those over chains of calls.
-use Rattle.std.proofs.Common.{◌≡◌, ℕ, ◌+◌, ◌*◌, ◌^◌, ◌<◌, ◌≤◌, List, length, sym, ap, ◌∙◌, subst, arith}
+use Rattle.std.proofs.Common.{◌≡◌, ℕ, ◌+◌, ◌<◌, ◌≤◌, List, length, sym, ap, ◌∙◌, subst, arith}
 use Rattle.std.specs.Prelude.{Some, None}
 use Rattle.std.proofs.lemmas.Option.{slice_get_within}
 use Rattle.jc_base.specs.World.{Linked, IsWorld}
@@ -12,8 +12,7 @@ use Rattle.digraph.proofs.Repeating.{recurs-twice, twice-recurs}
 use Rattle.law_chains.specs.Calls.{Calls}
 use Rattle.vm_bound.specs.declared.weighing.Measure.{Measure}
 use Rattle.vm_bound.specs.Rows.{IsCallGraph}
-use Rattle.vm_bound.specs.declared.weighing.Measure.TheVariants.{Words, Frames}
-use Rattle.vm_bound.specs.Weights.{measure, most_each, AreWeights}
+use Rattle.vm_bound.specs.Weights.{measure, AreWeights}
 use Rattle.vm_bound.specs.Answer.{IsLeastTwice}
 use Rattle.vm_bound.proofs.Graphing.{code-inside, rank}
 use Rattle.vm_bound.proofs.Told.{calls-are-told}
@@ -78,8 +77,3 @@ module _ (w : Linked) (world : IsWorld w) (sound : OperationsAreSound w) (g : Li
     some-sum weights never none =
         let r = recurs-below g (length w.methods) (rank w world g graph) (Calls w) (calls-are-told w world sound g graph) entry none.0 none.1 in
         never r.0 (recurs-twice-here r.0 r.1.0 r.1.1)
-
--- the sums of any world fit 32 bits
-pub sums-fit : (by : Measure) (n : ℕ) → n ≤ 32768 → most_each by * n < 2 ^ 32
-sums-fit Words n few = omega arith
-sums-fit Frames n few = omega arith

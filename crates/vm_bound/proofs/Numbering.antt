@@ -1,14 +1,13 @@
 -- Numbers of vertices, as their meanings are met.
-use Rattle.std.proofs.Common.{◌≡◌, ℕ, ◌+◌, ◌-◌, ◌^◌, ◌<◌, ◌≤◌, inl, inr, ⊎_elim, Bool, true, false, if◌then◌else◌, List, [], ◌∷◌, ◌++◌, length, refl, sym, ap, ◌∙◌, subst, arith}
+use Rattle.std.proofs.Common.{◌≡◌, ℕ, ◌+◌, ◌-◌, ◌^◌, ◌<◌, ◌≤◌, inl, inr, ⊎_elim, true, List, [], ◌∷◌, ◌++◌, length, refl, sym, ap, ◌∙◌}
+use Rattle.std.proofs.Common.{subst, arith}
 use Rattle.std.specs.Prelude.{Some, None, All, Contains, slice_get, slice_index_or}
-use Rattle.std.specs.List.{list_any}
 use Rattle.std.proofs.lemmas.Bool.{cases_lt}
 use Rattle.std.proofs.lemmas.Option.{same_Some, none-some, slice_get_within}
 use Rattle.std.proofs.lemmas.List.{get_or_append_left, get_or_push, length-append}
 use Rattle.std.proofs.lemmas.List.Elements.{All-from_get_or, Contains-get_or, Contains-append_left, Contains-push, Contains-push_cases}
 use Rattle.jc_base.specs.World.{Linked, IsWorld}
-use Rattle.jc_base.proofs.Lists.{slice_get-front, slice_get-some}
-use Rattle.indexmap.specs.IndexSet.{insert_key}
+use Rattle.jc_base.proofs.Lists.{slice_get-some}
 use Rattle.digraph.specs.Graph.{next, IsGraph}
 use Rattle.vm_bound.specs.declared.spread.Spread.{Spread}
 use Rattle.vm_bound.specs.declared.vertex.Meaning.{Meaning}
@@ -18,22 +17,11 @@ use Rattle.vm_bound.specs.Vertices.{Stands, Extends, IsFitBelow, same_meaning}
 use Rattle.vm_bound.specs.Keys.{meaning-equal}
 use Rattle.vm_bound.specs.Edges.{Leads}
 use Rattle.vm_bound.specs.Rows.{AreTargets, HasVertex, HasNumber, AreNumbers, AreRows}
-use Rattle.vm_bound.proofs.Graphing.{nothing-in}
 
 -- ---- more meanings
 
-pub extends-itself : (ms : List Meaning) → Extends ms ms
-extends-itself ms = λ k m e. e
-
 pub extends-on : (a b c : List Meaning) → Extends a b → Extends b c → Extends a c
 extends-on a b c first second = λ k m e. second k m (first k m e)
-
-pub extends-inserted : (old : List Meaning) (m : Meaning) (new : List Meaning) → new ≡ insert_key same_meaning old m → Extends old new
-extends-inserted old m new e = subst (Extends old) (sym e) (by (list_any (same_meaning m) old))
-  where
-    by : (b : Bool) → Extends old (if b then old else old ++ m ∷ [])
-    by true = extends-itself old
-    by false = λ k x at. slice_get-front old (m ∷ []) k x at
 
 pub met-there : (new : List Meaning) (place : ℕ) (m k : Meaning) → slice_get new place ≡ Some k → same_meaning m k ≡ true
     → slice_get new place ≡ Some m
@@ -73,9 +61,6 @@ meaning-there methods ms (Means k) place m stands at =
     ap Means (same_Some k m (sym stands.1 ∙ (ap (slice_get ms) back ∙ at)))
 
 -- ---- a row
-
-pub numbers-none : (methods : ℕ) (ms : List Meaning) → AreNumbers methods ms (Contains []) []
-numbers-none methods ms = record { only = λ u c. absurd (nothing-in u c); all = λ v c. absurd (nothing-in v c) }
 
 has-later : (methods : ℕ) (old new : List Meaning) (IsOne : Vertex → Type 0) (u : ℕ) → Extends old new → HasVertex methods old IsOne u
     → HasVertex methods new IsOne u
@@ -134,9 +119,6 @@ numbers-here w methods ms vertices xs row e same are =
     subst (λ (m : ℕ). AreNumbers m ms (Contains vertices) row) same (subst (λ (ys : List Vertex). AreNumbers methods ms (Contains ys) row) e are)
 
 -- ---- all rows
-
-pub rows-none : (w : Linked) (s : Spread) (ms : List Meaning) → AreRows w s ms []
-rows-none w s ms = λ v u l stands. absurd (omega (arith, l))
 
 pub rows-more : (w : Linked) (s : Spread) (old new : List Meaning) (rows : List (List ℕ)) (row : List ℕ)
     → length rows ≤ length w.methods + length old → Extends old new → AreRows w s old rows

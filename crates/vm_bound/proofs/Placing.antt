@@ -10,7 +10,6 @@ use Rattle.indexmap.specs.IndexSet.{insert_key}
 use Rattle.indexmap.proofs.CallerLemmas.{Contains-insert_key}
 use Rattle.jc_base.specs.Class.{ClassTable, IsClass}
 use Rattle.vm_bound.specs.Blocks.{IsOrder, IsPlaced}
-use Rattle.vm_bound.proofs.Graphing.{nothing-in}
 
 abbrev pub inserted : List ℕ → ℕ → List ℕ
 inserted xs x = insert_key (λ a b. a == b) xs x
@@ -35,18 +34,11 @@ placed-class t old c new class e = subst (IsPlaced t old c) (sym e) (record {
     many true = omega arith
     many false = let e = length-append old (c ∷ []) in omega (arith, e)
 
-pub placed-none : (t : ClassTable) (xs : List ℕ) (c : ℕ) → ¬ (IsClass t c) → IsPlaced t xs c xs
-placed-none t xs c not = record { kept = λ x h. h; only = λ x h. inl h; there = λ class. absurd (not class); many = omega arith }
-
 -- some classes stand in an order, among them those below a bound
 pub record ArePlaced (t : ClassTable) (bound many : ℕ) (xs : List ℕ) : Type 0 where
   pub only : (c : ℕ) → Contains xs c → IsClass t c
   pub all : (c : ℕ) → c < bound → IsClass t c → Contains xs c
   pub most : length xs ≤ many
-
-pub placed-begin : (t : ClassTable) (xs : List ℕ) → xs ≡ [] → ArePlaced t 0 0 xs
-placed-begin t xs e = subst (ArePlaced t 0 0) (sym e)
-    (record { only = λ c h. absurd (nothing-in c h); all = λ c l class. absurd (omega (arith, l)); most = omega arith })
 
 -- one more, whichever it is
 pub placed-any : (t : ClassTable) (many c : ℕ) (old new : List ℕ) → IsPlaced t old c new → ArePlaced t 0 many old → ArePlaced t 0 (many + 1) new

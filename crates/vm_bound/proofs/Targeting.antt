@@ -2,7 +2,7 @@
 use Rattle.std.proofs.Common.{◌≡◌, ℕ, ◌+◌, ◌*◌, ◌<◌, ◌≤◌, ◌⊎◌, inl, inr, ⊎_elim, true, false, List, [], ◌∷◌, ◌++◌, length, refl, sym, ap, ◌∙◌, subst, arith}
 use Rattle.std.specs.Prelude.{Some, None, Contains, slice_get, slice_index_or}
 use Rattle.std.proofs.lemmas.Bool.{false≢true}
-use Rattle.std.proofs.lemmas.Option.{none-some, same_Some, slice_get_within}
+use Rattle.std.proofs.lemmas.Option.{none-some, same_Some}
 use Rattle.std.proofs.lemmas.List.Elements.{Contains-get_or, Contains-append_left, Contains-push, Contains-push_cases}
 use Rattle.jc_base.specs.declared.record.MethodRec.{MethodRec}
 use Rattle.jc_base.specs.Class.{ClassTable, IsNextOnChain, parent_of}
@@ -14,13 +14,12 @@ use Rattle.jc_base.proofs.Eaching.{Contains-from_IsAmong, IsAmong-from_Contains}
 use Rattle.jc_decode.specs.declared.insn.Placed.{Placed}
 use Rattle.jc_decode.specs.Listing.{listing}
 use Rattle.vm_bound.specs.declared.spread.Block.{Block}
-use Rattle.vm_bound.specs.declared.spread.Spread.{Spread}
 use Rattle.vm_bound.specs.declared.vertex.Meaning.TheVariants.{Entries, Span}
 use Rattle.vm_bound.specs.declared.vertex.Vertex.{Vertex}
 use Rattle.vm_bound.specs.declared.vertex.Vertex.TheVariants.{Method, Means}
 use Rattle.vm_bound.specs.Vertices.{IsFit}
-use Rattle.vm_bound.specs.Blocks.{blocks_of}
-use Rattle.vm_bound.specs.Edges.{target, token_told, shares, Owns, IsSupplied, LeadsFromMethod, LeadsToBlocks, leads_block, LeadsFromDescribed, LeadsFromEntries, leads_own, leads_below, LeadsFromSpan, leads_half, leads_supplied}
+use Rattle.vm_bound.specs.Edges.{target, token_told, shares, Owns, IsSupplied, LeadsFromMethod, LeadsToBlocks, leads_block}
+use Rattle.vm_bound.specs.Edges.{LeadsFromEntries, leads_own, leads_below, LeadsFromSpan, leads_half, leads_supplied}
 use Rattle.vm_bound.specs.Rows.{AreTargets, AreBlockTargets, IsOwned, is_owned, IsOwn, AreSubclasses}
 use Rattle.vm_bound.proofs.Graphing.{code-inside, nothing-in}
 
@@ -138,29 +137,7 @@ module _ (w : Linked) (rec : MethodRec) where
               (subst (λ (n : ℕ). Contains (found ++ Means (Span b.node public) ∷ []) (Means (Span b.node n))) tokens
               (Contains-push found (Means (Span b.node public))))
 
--- its blocks are those of its interface
-pub described-all : (w : Linked) (s : Spread) (d : ℕ) (rec : MethodRec) (found : List Vertex) → slice_get w.methods d ≡ Some rec
-    → AreBlockTargets w rec (blocks_of s rec.class) found → AreTargets w (LeadsFromDescribed w s d) found
-described-all w s d rec found is are = record {
-  only = λ v c. record { rec = rec; method = is; leads = are.only v c };
-  all = λ v leads.
-      let same : leads.rec ≡ rec = same_Some leads.rec rec (sym leads.method ∙ is) in
-      are.all v (subst (λ (r : MethodRec). LeadsToBlocks w.classes r (blocks_of s r.class) v) same leads.leads);
-  fit = are.fit;
-}
-
--- no method is there
-pub described-past : (w : Linked) (s : Spread) (d : ℕ) → length w.methods ≤ d → AreTargets w (LeadsFromDescribed w s d) []
-described-past w s d past = record {
-  only = none-more (LeadsFromDescribed w s d);
-  all = λ v leads. let inside = slice_get_within w.methods d leads.rec leads.method in absurd (omega (arith, inside, past));
-  fit = none-more (IsFit w);
-}
-
 -- ---- entries
-
-pub own-none : (w : Linked) (c token : ℕ) → ((n : ℕ) → ¬ (Owns w c token n)) → IsOwn w c token []
-own-none w c token none = record { only = none-more (IsOwned w c token); all = λ n owns. absurd (none n owns) }
 
 owned-equal : (w : Linked) (c token n m : ℕ) → Owns w c token n → Owns w c token m → n ≡ m
 owned-equal w c token n m a b = same_Some n m (sym a.entry ∙ b.entry)

@@ -1,12 +1,12 @@
 -- Worked cases of the tests before each kind of operation: a register out of range, too few cells, a cell that is not as wanted, and none.
 -- Class 0 is object, class 1 throwable; method 0 takes a short and an int after its receiver.
-use Rattle.std.specs.Prelude.{◌≡◌, ℕ, ℤ, pos, false, List, [], ◌∷◌, map, Option, Some, None}
+use Rattle.std.specs.Prelude.{◌≡◌, ℕ, pos, false, List, [], ◌∷◌, map, Option, Some, None}
 use Rattle.std.proofs.Common.{refl}
 use Rattle.jc_base.specs.declared.ty.Ty.TheVariants.{Short, IntHigh, IntLow, Class}
 use Rattle.jc_base.specs.declared.ty.Kind.TheVariants as fields
 use Rattle.jc_base.specs.declared.record.ClassRec.{ClassRec}
 use Rattle.jc_base.specs.declared.record.MethodRec.{MethodRec}
-use Rattle.jc_base.specs.Class.{ClassTable, parent_of, chain, chain_over}
+use Rattle.jc_base.specs.Class.{parent_of, chain, chain_over}
 use Rattle.jc_base.specs.Order.{is_on_chain, is_below}
 use Rattle.jc_base.specs.World.{Linked}
 use Rattle.jc_ops.specs.declared.want.Want.TheVariants.{Value}

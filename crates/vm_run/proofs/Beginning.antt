@@ -1,8 +1,7 @@
 -- What it means that a run begins, and what is there before its frame is made.
-use Rattle.std.proofs.Common.{◌≡◌, ◌<◌, ◌≤◌, ◌+◌, ◌-◌, ℕ, zero, suc, Bool, true, false, List, [], ◌∷◌, ◌++◌, length, drop}
-use Rattle.std.proofs.Common.{refl, sym, ap, ◌∙◌, subst, arith, Option, Some, None}
-use Rattle.std.specs.Prelude.{filter, if◌then◌else◌, not, ◌==◌, slice_get, sum_by, option_map, replicate}
-use Rattle.std.proofs.lemmas.Bool.{false≢true}
+use Rattle.std.proofs.Common.{◌≡◌, ◌≤◌, ◌+◌, ◌-◌, ℕ, suc, Bool, true, false, List, [], ◌∷◌, ◌++◌, length, drop}
+use Rattle.std.proofs.Common.{refl, sym, ap, ◌∙◌, arith, Option, Some, None}
+use Rattle.std.specs.Prelude.{filter, if◌then◌else◌, not, ◌==◌, slice_get, sum_by, replicate}
 use Rattle.std.proofs.lemmas.Bool.Decides.{nat_tests}
 use Rattle.std.proofs.lemmas.List.{drop-replicate}
 use Rattle.jc_base.specs.declared.ty.Ty.{Ty}
@@ -13,10 +12,10 @@ use Rattle.vm_store.specs.Cells.{Cells}
 use Rattle.vm_store.specs.State.{State, Frame, top, with_top, with_entry, entered, register_count}
 use Rattle.vm_store.specs.Layout.{overwritten}
 use Rattle.vm_step.specs.declared.start_fault.StartFault.{StartFault}
-use Rattle.vm_step.specs.declared.start_fault.StartFault.TheVariants.{NoEntry, NotStatic, ArgCount, ArgKind, ArgRoom}
+use Rattle.vm_step.specs.declared.start_fault.StartFault.TheVariants.{NotStatic, ArgCount}
 use Rattle.vm_step.specs.Arguments.{Argument, number, null, bytes}
 use Rattle.vm_step.specs.Methods.{of_method}
-use Rattle.vm_step.specs.Start.{can_begin, parameters, first_misfit, first_without_room, or_room, method_fault, entry_fault, start_fault, with_arrays}
+use Rattle.vm_step.specs.Start.{can_begin, parameters, first_misfit, first_without_room, or_room, entry_fault, start_fault, with_arrays}
 use Rattle.vm_step.specs.Start.{cells_handed, initial, entry_state}
 
 -- the entry is a method that takes these arguments

@@ -1,7 +1,7 @@
 -- Arrays whose elements are written one after another.
 use Rattle.std.proofs.Common.{◌≡◌, ◌<◌, ◌≤◌, ◌+◌, ◌*◌, ◌/◌, ◌%◌, ℕ, zero, suc, List, [], ◌∷◌, ◌++◌, length, take}
-use Rattle.std.proofs.Common.{map, get_or, set, refl, sym, ap, ◌∙◌, subst, arith, Option, Some, None}
-use Rattle.std.specs.Prelude.{slice_get, sum_by, All}
+use Rattle.std.proofs.Common.{map, get_or, refl, sym, ap, ◌∙◌, arith}
+use Rattle.std.specs.Prelude.{sum_by, All}
 use Rattle.std.proofs.lemmas.List.{length-map, map-append, take_more, take_all, append_assoc, length-append}
 use Rattle.std.proofs.lemmas.List.Sums.{sum_by-cons}
 use Rattle.std.proofs.lemmas.List.Elements.{All-head, All-tail}
@@ -13,7 +13,6 @@ use Rattle.vm_store.specs.declared.kind.ObjectKind.{ObjectKind}
 use Rattle.vm_store.specs.declared.kind.ObjectKind.TheVariants.{Ints}
 use Rattle.vm_store.specs.Kind.{element_width}
 use Rattle.vm_store.specs.Cells.{Cells}
-use Rattle.vm_arithmetic.specs.Arithmetic.{short_of_word}
 use Rattle.vm_store.specs.State.{State, Object}
 use Rattle.vm_store.specs.Objects.{object_cells, with_object, with_object_cell, array_cells}
 use Rattle.vm_store.specs.Layout.{overwritten}

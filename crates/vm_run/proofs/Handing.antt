@@ -1,6 +1,6 @@
 -- Arguments that are handed to the parameters of a method, one after another.
-use Rattle.std.proofs.Common.{◌≡◌, ◌<◌, ◌≤◌, ◌+◌, ℕ, zero, suc, Bool, true, false, List, [], ◌∷◌, ◌++◌, length, drop, get_or}
-use Rattle.std.proofs.Common.{refl, sym, ap, ◌∙◌, subst, arith, Option, Some, None, IsTrue}
+use Rattle.std.proofs.Common.{◌≡◌, ◌<◌, ◌≤◌, ◌+◌, ℕ, Bool, true, false, List, [], ◌∷◌, ◌++◌, length, drop, get_or}
+use Rattle.std.proofs.Common.{refl, sym, ap, ◌∙◌, subst, arith, Some, None}
 use Rattle.std.specs.Prelude.{filter, if◌then◌else◌, ℤ, slice_get}
 use Rattle.std.proofs.lemmas.Bool.{false≢true}
 use Rattle.std.proofs.lemmas.List.{length-append, drop_more}
@@ -119,16 +119,6 @@ int-argument k objects n types.Top h = refl
 pub next-parameter : (tys : List Ty) (i : ℕ) → i < length tys → is_parameter (get_or tys i types.Bottom) ≡ true
     → filter is_parameter (drop i tys) ≡ get_or tys i types.Bottom ∷ filter is_parameter (drop (i + 1) tys)
 next-parameter tys i lt h = ap (filter is_parameter) (drop_more tys i types.Bottom lt) ∙ kept-first (get_or tys i types.Bottom) (drop (i + 1) tys) h
-
-pub no-parameter : (tys : List Ty) (i : ℕ) → i < length tys → is_parameter (get_or tys i types.Bottom) ≡ false
-    → filter is_parameter (drop i tys) ≡ filter is_parameter (drop (i + 1) tys)
-no-parameter tys i lt h =
-    ap (filter is_parameter) (drop_more tys i types.Bottom lt)
-    ∙ ap (λ b. if b then get_or tys i types.Bottom ∷ filter is_parameter (drop (i + 1) tys) else filter is_parameter (drop (i + 1) tys)) h
-
--- no argument is left
-pub past-all-fit : (n : ℕ) (args : List Argument) (tys : List Ty) → args ≡ [] → first_misfit n args tys ≡ None
-past-all-fit n args tys e = ap (λ (xs : List Argument). first_misfit n xs tys) e
 
 module _ {A : Type 0} (k : Cells A) (args : List Argument) (tys : List Ty) (n i made : ℕ) (arg : Argument) (there : slice_get args n ≡ Some arg)
     (inside : i < length tys)

@@ -1,7 +1,7 @@
 -- One more of a list that is gone through.
-use Rattle.std.proofs.Common.{◌≡◌, ◌<◌, ◌≤◌, ◌+◌, ℕ, zero, suc, List, [], ◌∷◌, ◌++◌, length, take, map, refl, sym, ap}
-use Rattle.std.proofs.Common.{◌∙◌, arith, Option, Some, None, IsTrue, true}
-use Rattle.std.specs.Prelude.{slice_get, sum_by, flat_map, nat_lt, nat_le, ◌&&◌, All}
+use Rattle.std.proofs.Common.{◌≡◌, ◌<◌, ◌≤◌, ◌+◌, ℕ, zero, suc, List, [], ◌∷◌, ◌++◌, length, take, map, sym, ap}
+use Rattle.std.proofs.Common.{◌∙◌, arith, Some, true}
+use Rattle.std.specs.Prelude.{slice_get, sum_by, flat_map, nat_lt, nat_le, ◌&&◌}
 use Rattle.std.proofs.lemmas.Bool.Decides.{nat_tests}
 use Rattle.std.proofs.lemmas.List.{map-append, flat_map_more}
 use Rattle.std.proofs.lemmas.List.Sums.{sum_by_push, sum_by-take-le}

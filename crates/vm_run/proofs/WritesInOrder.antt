@@ -1,11 +1,11 @@
 -- Cells that are written one after another, in lists and in the object that was made last.
-use Rattle.std.proofs.Common.{◌≡◌, ◌<◌, ◌≤◌, ◌+◌, ◌*◌, ℕ, zero, suc, List, [], ◌∷◌, ◌++◌, length, take, drop, set, refl}
-use Rattle.std.proofs.Common.{sym, ap, ◌∙◌, subst, arith, add-one, length-take, length-append, Option, Some, None}
-use Rattle.std.specs.Prelude.{slice_get, map}
+use Rattle.std.proofs.Common.{◌≡◌, ◌<◌, ◌≤◌, ◌+◌, ℕ, zero, suc, List, [], ◌∷◌, ◌++◌, length, take, drop, set, refl}
+use Rattle.std.proofs.Common.{sym, ap, ◌∙◌, arith, add-one, length-take, length-append, Some}
+use Rattle.std.specs.Prelude.{slice_get}
 use Rattle.std.proofs.lemmas.List.{append-nil, append_assoc, take_at, drop_at, drop-drop, length-drop}
 use Rattle.vm_store.specs.declared.kind.ObjectKind.{ObjectKind}
 use Rattle.vm_store.specs.State.{State, Object}
-use Rattle.vm_store.specs.Objects.{object_at, object_cells, cells_in, write_object, with_object, with_object_cell}
+use Rattle.vm_store.specs.Objects.{object_cells, cells_in, write_object, with_object, with_object_cell}
 use Rattle.vm_store.specs.Layout.{overwritten}
 use Rattle.vm_store.proofs.Fills.{overwritten-nil, overwritten-more}
 

@@ -1,7 +1,7 @@
 -- How a machine knows at which places of the code of a world's methods instructions begin.
-use Rattle.std.specs.Prelude.{◌≡◌, ◌+◌, ◌<◌, ◌≤◌, ℕ, ℤ, Bool, true, false, List, length, IsSome}
+use Rattle.std.specs.Prelude.{◌≡◌, ◌+◌, ◌<◌, ◌≤◌, ℕ, ℤ, Bool, true, false, length, IsSome}
 use Rattle.jc_base.specs.World.{Linked}
-use Rattle.vm_store.specs.State.{Frame, State, top, without_top}
+use Rattle.vm_store.specs.State.{State, top}
 use Rattle.vm_step.specs.Settled.{is_target_place}
 use Rattle.vm_step.specs.Methods.{code_at, max_stack_of, instruction_at}
 use Rattle.vm_run.specs.Marked.{AreMarked}

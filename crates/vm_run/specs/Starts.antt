@@ -1,7 +1,6 @@
 -- Laws of how runs begin.
 use Rattle.std.specs.Prelude.{◌≡◌, ℕ, List, None}
 use Rattle.jc_base.specs.World.{Linked}
-use Rattle.vm_store.specs.declared.cell.Cell.{Cell}
 use Rattle.vm_store.specs.Cells.{tagged, words}
 use Rattle.vm_store.specs.State.{erased}
 use Rattle.vm_step.specs.Arguments.{Argument}

@@ -1,5 +1,5 @@
 -- What one turn of a machine leaves: an ending, or none where it goes on; and what it rests on.
-use Rattle.std.specs.Prelude.{◌<◌, List, length, All, Option, Some, None, ⊤}
+use Rattle.std.specs.Prelude.{◌<◌, length, All, Option, Some, None, ⊤}
 use Rattle.jc_base.specs.Class.{ClassTable, IsClass}
 use Rattle.jc_base.specs.World.{Linked}
 use Rattle.vm_store.specs.declared.kind.ObjectKind.{ObjectKind}

@@ -1,5 +1,5 @@
 -- A step that goes on leaves a frame, so there is a run of each number of steps.
-use Rattle.std.proofs.Common.{◌≡◌, ℕ, zero, suc, ◌+◌, ◌<◌, Bool, true, false, List, [], ◌∷◌, length, refl, sym, ap, ◌∙◌, subst}
+use Rattle.std.proofs.Common.{ℕ, zero, suc, ◌+◌, Bool, true, false, List, [], ◌∷◌, length, sym, subst}
 use Rattle.std.proofs.Common.{arith}
 use Rattle.std.specs.Prelude.{Option, Some, None, if◌then◌else◌, nat_lt, slice_index}
 use Rattle.jc_base.specs.declared.record.Handler.{Handler}
@@ -11,15 +11,14 @@ use Rattle.vm_store.specs.Cells.{Cells, tagged}
 use Rattle.vm_store.specs.State.{Frame, State, IsRunning, top, with_place, with_stack, with_call, without_top, frame_limit}
 use Rattle.vm_store.specs.Objects.{has_room, new_instance_cells, with_object}
 use Rattle.vm_store.specs.Value.{with_value}
-use Rattle.vm_step.specs.declared.ending.Plain.TheVariants.{Returned, TooDeep, HeapFull, InterfaceMissing}
-use Rattle.vm_step.specs.declared.ending.Ending.{Ending}
+use Rattle.vm_step.specs.declared.ending.Plain.TheVariants.{Returned, TooDeep, HeapFull}
 use Rattle.vm_step.specs.declared.ending.Ending.TheVariants.{Plain, Faulted}
 use Rattle.vm_step.specs.declared.ending.Fault.{Fault}
 use Rattle.vm_step.specs.declared.ending.Fault.TheVariants.{StackFault}
 use Rattle.vm_step.specs.Methods.{code_at, instruction_at}
 use Rattle.vm_step.specs.Calls.{class_of}
 use Rattle.vm_step.specs.Act.{Act, role_of, goes, jumps, makes, calls, gives, raises, throws, lacks}
-use Rattle.vm_step.specs.Raising.{Outcome, running, ended, ends, handler_for, has_no_room, caught, caught_or, unwound, thrown, raised}
+use Rattle.vm_step.specs.Raising.{Outcome, running, ended, ends, handler_for, has_no_room, caught, caught_or, unwound, thrown}
 use Rattle.vm_step.specs.Tests.{fault_before}
 use Rattle.vm_step.specs.Performed.{act}
 use Rattle.vm_step.specs.Settled.{unless_fault, fault_next, fault_target, place_number, return_place, goes_to, with_new, settled}

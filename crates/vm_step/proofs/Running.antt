@@ -1,5 +1,5 @@
 -- Steps and runs have one outcome, and follow one another.
-use Rattle.std.proofs.Common.{◌≡◌, ℕ, zero, suc, ◌+◌, Bool, true, List, [], refl, sym, ap, ◌∙◌, subst, arith}
+use Rattle.std.proofs.Common.{◌≡◌, ℕ, suc, ◌+◌, true, [], refl, sym, ap, ◌∙◌, subst, arith}
 use Rattle.std.specs.Prelude.{Option, Some, None, Result, Ok, Err, slice_get}
 use Rattle.std.proofs.lemmas.Option.{same_Some}
 use Rattle.jc_base.specs.declared.record.MethodRec.{MethodRec}
@@ -14,7 +14,6 @@ use Rattle.jc_ops.specs.Sound.{OperationsAreDecided}
 use Rattle.vm_store.specs.Cells.{Cells, tagged}
 use Rattle.vm_store.specs.State.{State, IsRunning, top}
 use Rattle.vm_step.specs.declared.ending.Fault.TheVariants.{TypeFault, JumpFault}
-use Rattle.vm_step.specs.declared.ending.Ending.{Ending}
 use Rattle.vm_step.specs.declared.ending.Ending.TheVariants.{Faulted}
 use Rattle.vm_step.specs.Methods.{of_method, code_at, instruction_at}
 use Rattle.vm_step.specs.Raising.{Outcome, running, ended, ends}

@@ -1,20 +1,17 @@
 -- Which method a call runs, and with what (JCVM 2.2, chapter 7, the invoke instructions; sections 2.2.1 and 6.8.2).
-use Rattle.std.specs.Prelude.{ℕ, zero, suc, ◌+◌, ◌==◌, List, [], ◌∷◌, length, map, Option, Some, None, find, flat_map}
+use Rattle.std.specs.Prelude.{ℕ, ◌+◌, ◌==◌, List, [], ◌∷◌, length, map, Option, Some, None, find, flat_map}
 use Rattle.std.specs.Prelude.{slice_get, option_and_then, unwrap_or}
 use Rattle.jc_base.specs.declared.ty.Ty.{Ty}
 use Rattle.jc_base.specs.declared.ty.Ty.TheVariants.{Short, IntHigh, Fresh}
 use Rattle.jc_base.specs.declared.record.Iface.{Iface}
-use Rattle.jc_base.specs.declared.record.MethodRec.{MethodRec}
 use Rattle.jc_base.specs.Class.{ClassTable, chain, object}
 use Rattle.jc_base.specs.Dispatch.{of_record, public_of, dispatched}
 use Rattle.jc_base.specs.World.{Linked}
 use Rattle.jc_ops.specs.declared.want.Want.{Want}
-use Rattle.jc_ops.specs.declared.want.Want.TheVariants.{Value, Receiver}
+use Rattle.jc_ops.specs.declared.want.Want.TheVariants.{Receiver}
 use Rattle.jc_ops.specs.declared.operation.Choice.{Choice}
 use Rattle.jc_ops.specs.declared.operation.Choice.TheVariants as choices
 use Rattle.jc_ops.specs.declared.operation.Callee.{Callee}
-use Rattle.jc_ops.specs.declared.operation.Width.TheVariants as widths
-use Rattle.jc_ops.specs.Sound.{receiver_count}
 use Rattle.vm_store.specs.declared.kind.ObjectKind.{ObjectKind}
 use Rattle.vm_store.specs.declared.kind.ObjectKind.TheVariants.{Instance}
 use Rattle.vm_store.specs.Kind.{kind_of_handle}
@@ -23,7 +20,7 @@ use Rattle.vm_store.specs.State.{State, top, nth, with_stack}
 use Rattle.vm_store.specs.Objects.{kinds}
 use Rattle.vm_step.specs.declared.ending.Value.TheVariants as values
 use Rattle.vm_step.specs.Act.{Act, calls, gives, lacks, unless_null}
-use Rattle.vm_step.specs.Numbers.{handle_at, short_at, int_on, number_cells}
+use Rattle.vm_step.specs.Numbers.{handle_at, short_at, int_on}
 use Rattle.vm_step.specs.Methods.{of_method}
 
 -- ---- the class of an object

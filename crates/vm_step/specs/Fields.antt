@@ -1,5 +1,5 @@
 -- Static fields, instance fields and elements of arrays (JCVM 2.2, chapter 7).
-use Rattle.std.specs.Prelude.{ℕ, ◌+◌, ◌*◌, ℤ, pos, negsuc, Bool, true, false, ◌||◌, ◌==◌, if◌then◌else◌, nat_lt}
+use Rattle.std.specs.Prelude.{ℕ, ◌+◌, ◌*◌, ℤ, pos, negsuc, Bool, true, ◌||◌, ◌==◌, if◌then◌else◌, nat_lt}
 use Rattle.std.specs.Prelude.{List, [], ◌∷◌, Option, Some, None}
 use Rattle.jc_base.specs.declared.ty.Ty.TheVariants.{Class}
 use Rattle.jc_base.specs.declared.ty.Kind.{Kind}

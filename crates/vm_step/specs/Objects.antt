@@ -1,8 +1,8 @@
 -- New objects, and what an object is an instance of (JCVM 2.2, chapter 7).
-use Rattle.std.specs.Prelude.{ℕ, ℤ, pos, negsuc, ◌==◌, ◌||◌, Bool, true, false, if◌then◌else◌, List, [], ◌∷◌}
+use Rattle.std.specs.Prelude.{ℕ, ℤ, pos, negsuc, ◌==◌, ◌||◌, Bool, true, false, if◌then◌else◌, [], ◌∷◌}
 use Rattle.std.specs.Prelude.{Option, Some, None}
 use Rattle.jc_base.specs.declared.ty.Ty.{Ty}
-use Rattle.jc_base.specs.declared.ty.Ty.TheVariants.{ArrBool, ArrByte, ArrShort, ArrInt, ArrRef}
+use Rattle.jc_base.specs.declared.ty.Ty.TheVariants.{ArrBool, ArrByte, ArrShort, ArrRef}
 use Rattle.jc_base.specs.Class.{ClassTable}
 use Rattle.jc_ops.specs.declared.operation.TypeTest.{TypeTest}
 use Rattle.jc_ops.specs.declared.operation.TypeTest.TheVariants as tests

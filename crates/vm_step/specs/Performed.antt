@@ -1,5 +1,4 @@
 -- What each operation comes to (JCVM 2.2, chapter 7).
-use Rattle.std.specs.Prelude.{ℕ}
 use Rattle.jc_base.specs.World.{Linked}
 use Rattle.jc_decode.specs.declared.insn.Insn.{Insn}
 use Rattle.jc_ops.specs.declared.operation.Operation.{Operation}

@@ -1,5 +1,5 @@
 -- Runs: so many steps from a state, or fewer where one ends the run.
-use Rattle.std.specs.Prelude.{◌≡◌, ℕ, zero, suc}
+use Rattle.std.specs.Prelude.{◌≡◌, ℕ, suc}
 use Rattle.jc_base.specs.World.{Linked}
 use Rattle.vm_store.specs.Cells.{Cells}
 use Rattle.vm_store.specs.State.{State}

@@ -1,6 +1,6 @@
 -- One step of a machine (JCVM 2.2, sections 3.5 and 7.5): what the instruction at the place of the frame on top does, or how the run
 -- ends there.
-use Rattle.std.specs.Prelude.{◌≡◌, ℕ, ◌+◌, true, Option, Some, None, Ok, Err, slice_get}
+use Rattle.std.specs.Prelude.{◌≡◌, ◌+◌, true, Some, None, Ok, Err, slice_get}
 use Rattle.jc_base.specs.declared.record.MethodRec.{MethodRec}
 use Rattle.jc_base.specs.World.{Linked}
 use Rattle.jc_decode.specs.declared.insn.Placed.{Placed}

@@ -1,6 +1,6 @@
 -- What a machine of tagged cells tests before an operation (JCVM 2.2, section 7.5): the demands of its typing rule, on the least types of
 -- the cells that are there. A machine of bare words tests nothing.
-use Rattle.std.specs.Prelude.{ℕ, if◌then◌else◌, nat_lt, List, length, map, Option, Some, None}
+use Rattle.std.specs.Prelude.{if◌then◌else◌, nat_lt, List, length, map, Option, Some, None}
 use Rattle.std.specs.List.{list_all}
 use Rattle.jc_base.specs.World.{Linked}
 use Rattle.jc_ops.specs.declared.operation.Operation.{Operation}

@@ -1,5 +1,5 @@
 -- Constants, registers, moves on the stack and arithmetic (JCVM 2.2, chapter 7).
-use Rattle.std.specs.Prelude.{ℕ, ◌+◌, ℤ, List, [], ◌∷◌, ◌++◌, take, drop, Option, Some, None, slice_set}
+use Rattle.std.specs.Prelude.{ℕ, ◌+◌, ℤ, List, [], ◌∷◌, ◌++◌, take, drop, Option}
 use Rattle.std.specs.Int.{w16, w32, int_wrapping_add, int_wrapping_neg}
 use Rattle.jc_ops.specs.declared.operation.Sort.{Sort}
 use Rattle.jc_ops.specs.declared.operation.Sort.TheVariants as sorts
@@ -18,7 +18,7 @@ use Rattle.vm_store.specs.Cells.{Cells}
 use Rattle.vm_store.specs.State.{State, top, nth, with_stack, with_register, rotated}
 use Rattle.vm_step.specs.declared.exception.Exception.TheVariants as exceptions
 use Rattle.vm_step.specs.Act.{Act, goes, if_some}
-use Rattle.vm_step.specs.Numbers.{short_at, int_on, int_in, number_on, number_under, number_cells, number_width, dropped, pushed, replaced}
+use Rattle.vm_step.specs.Numbers.{short_at, int_on, int_in, number_on, number_cells, number_width, dropped, pushed, replaced}
 
 -- ---- constants
 

@@ -1,8 +1,7 @@
 -- Worked cases of operations, on tagged cells and on words.
-use Rattle.std.specs.Prelude.{◌≡◌, ℕ, ℤ, pos, negsuc, true, false, List, [], ◌∷◌, Some, None}
+use Rattle.std.specs.Prelude.{◌≡◌, ℕ, pos, negsuc, true, List, [], ◌∷◌}
 use Rattle.std.proofs.Common.{refl}
 use Rattle.jc_base.specs.declared.ty.Kind.TheVariants as fields
-use Rattle.jc_base.specs.declared.record.Handler.{Handler}
 use Rattle.jc_ops.specs.declared.operation.Sort.TheVariants as sorts
 use Rattle.jc_ops.specs.declared.operation.Width.TheVariants as widths
 use Rattle.jc_ops.specs.declared.operation.Move.TheVariants as moves
@@ -14,7 +13,7 @@ use Rattle.vm_store.specs.declared.cell.Cell.{Cell}
 use Rattle.vm_store.specs.declared.cell.Cell.TheVariants as cells
 use Rattle.vm_store.specs.declared.kind.ObjectKind.TheVariants.{Bytes}
 use Rattle.vm_store.specs.Cells.{tagged, words}
-use Rattle.vm_store.specs.State.{State, Object}
+use Rattle.vm_store.specs.State.{State}
 use Rattle.vm_step.specs.declared.exception.Exception.TheVariants.{NullPointer, Arithmetic, ArrayIndex}
 use Rattle.vm_step.specs.Act.{goes, raises}
 use Rattle.vm_step.specs.Values.{with_load, with_store, with_move, with_increment, arithmetic_act}

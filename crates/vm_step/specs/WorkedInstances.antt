@@ -2,16 +2,13 @@
 -- implements nothing.
 use Rattle.std.specs.Prelude.{◌≡◌, ℕ, Bool, true, false, List, [], ◌∷◌, map, Option, Some, None}
 use Rattle.std.proofs.Common.{refl}
-use Rattle.jc_base.specs.declared.ty.Ty.{Ty}
 use Rattle.jc_base.specs.declared.ty.Ty.TheVariants.{Class, ArrBool, ArrByte, ArrInt, ArrRef}
-use Rattle.jc_base.specs.declared.record.Iface.{Iface}
 use Rattle.jc_base.specs.declared.record.ClassRec.{ClassRec}
 use Rattle.jc_base.specs.Class.{ClassTable, is_interface, parent_of, chain, chain_over}
 use Rattle.jc_base.specs.Leads.{leads_below}
 use Rattle.jc_base.specs.Order.{is_on_chain}
 use Rattle.jc_base.specs.Interface.{extended, implemented, is_or_extends, implements}
-use Rattle.vm_store.specs.declared.kind.ObjectKind.{ObjectKind}
-use Rattle.vm_store.specs.declared.kind.ObjectKind.TheVariants.{Instance, Booleans, Bytes, Shorts, Ints, References}
+use Rattle.vm_store.specs.declared.kind.ObjectKind.TheVariants.{Instance, Bytes, References}
 use Rattle.vm_step.specs.Instance.{is_instance}
 
 abbrev line : Bool → Option ℕ → List ℕ → ClassRec

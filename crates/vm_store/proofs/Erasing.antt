@@ -1,5 +1,5 @@
 -- The words of a state, and those of its changes.
-use Rattle.std.proofs.Common.{◌≡◌, ℕ, zero, suc, ◌+◌, ◌-◌, Bool, List, [], ◌∷◌, ◌++◌, length, map, take, drop, reverse, replicate}
+use Rattle.std.proofs.Common.{◌≡◌, ℕ, zero, suc, ◌+◌, ◌-◌, List, [], ◌∷◌, ◌++◌, length, map, take, drop, reverse, replicate}
 use Rattle.std.proofs.Common.{set, refl, sym, ap, ◌∙◌}
 use Rattle.std.specs.Prelude.{slice_get, sum, sum_by, nat_lt, nat_le, ◌&&◌}
 use Rattle.std.proofs.Math.ListN.{get_or-map}
@@ -15,12 +15,11 @@ use Rattle.vm_store.specs.declared.cell.Cell.{Cell}
 use Rattle.vm_store.specs.declared.cell.Cell.TheVariants.{Empty}
 use Rattle.vm_store.specs.declared.cell.CellKind.{CellKind}
 use Rattle.vm_store.specs.declared.cell.CellKind.TheVariants as made
-use Rattle.vm_store.specs.declared.kind.ObjectKind.{ObjectKind}
 use Rattle.vm_store.specs.Kind.{cell_kind, element_cells}
 use Rattle.vm_store.specs.Cells.{tagged, words, word_of, zero_cell}
-use Rattle.vm_store.specs.State.{State, Frame, Object, map_frame, map_object, erased, first_frame, other_frames, top, nth, with_top, with_place, with_stack}
-use Rattle.vm_store.specs.State.{with_register, with_call, with_entry, entered, arguments, register_count}
-use Rattle.vm_store.specs.Objects.{cells_in, object_cells, has_room, heap_cells, new_instance_cells, array_cells, repeated, write_object, with_object}
+use Rattle.vm_store.specs.State.{State, Frame, Object, map_frame, map_object, erased, first_frame, other_frames, top, nth, with_top}
+use Rattle.vm_store.specs.State.{entered, arguments, register_count}
+use Rattle.vm_store.specs.Objects.{cells_in, object_cells, heap_cells, repeated, write_object}
 use Rattle.vm_store.specs.Objects.{with_object_cell, with_static_cell}
 use Rattle.vm_store.specs.Value.{value_in, value_on, kept_value, byte_of_word, with_object_value, with_static_value}
 use Rattle.vm_store.specs.Erasing.{ReadsErased, FramesErase, ObjectsErase, CellsErase, StatesErase}

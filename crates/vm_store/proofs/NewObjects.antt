@@ -1,5 +1,5 @@
 -- New objects among typed ones.
-use Rattle.std.proofs.Common.{◌≡◌, ℕ, zero, suc, ◌+◌, ◌*◌, ◌/◌, ◌<◌, List, [], ◌∷◌, ◌++◌, length, map, reverse, refl, sym, ap}
+use Rattle.std.proofs.Common.{◌≡◌, ℕ, zero, suc, ◌+◌, ◌*◌, ◌/◌, ◌<◌, List, [], ◌∷◌, ◌++◌, length, map, reverse, sym, ap}
 use Rattle.std.proofs.Common.{◌∙◌, subst, arith, lit<}
 use Rattle.std.specs.Prelude.{Option, Some, None, IfSome, All, slice_get, flat_map}
 use Rattle.std.proofs.Math.Nat.{mul-div_cancel_left}
@@ -10,7 +10,7 @@ use Rattle.jc_base.specs.declared.ty.Ty.{Ty}
 use Rattle.jc_base.specs.declared.ty.Ty.TheVariants.{Bottom, Short, IntHigh, IntLow, Null, Class, ArrBool, ArrByte, ArrShort, ArrInt, ArrRef, Fresh, Top}
 use Rattle.jc_base.specs.declared.record.ClassRec.{ClassRec}
 use Rattle.jc_base.specs.declared.record.MethodRec.{MethodRec}
-use Rattle.jc_base.specs.Class.{ClassTable, IsClass, chain, class_in_types}
+use Rattle.jc_base.specs.Class.{ClassTable, chain}
 use Rattle.jc_base.specs.Order.{null_object, null_array, of_booleans, of_bytes, of_shorts, of_ints, of_references}
 use Rattle.jc_base.specs.Cell.{IsDeclared}
 use Rattle.jc_base.specs.Dispatch.{of_record, own_cells, cells_of}

@@ -1,5 +1,5 @@
 -- Every change of a state of tagged cells is the same change of the state of their words.
-use Rattle.std.specs.Prelude.{◌≡◌, ℕ, Bool, List, map}
+use Rattle.std.specs.Prelude.{◌≡◌, ℕ, List, map}
 use Rattle.jc_base.specs.declared.ty.Kind.{Kind}
 use Rattle.jc_base.specs.declared.record.MethodRec.{MethodRec}
 use Rattle.jc_base.specs.Class.{ClassTable}

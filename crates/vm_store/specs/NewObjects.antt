@@ -1,5 +1,5 @@
 -- New objects among typed ones.
-use Rattle.std.specs.Prelude.{ℕ, ℤ}
+use Rattle.std.specs.Prelude.{ℕ}
 use Rattle.jc_base.specs.Class.{ClassTable, IsClass}
 use Rattle.vm_store.specs.declared.cell.Cell.{Cell}
 use Rattle.vm_store.specs.declared.kind.ObjectKind.{ObjectKind}

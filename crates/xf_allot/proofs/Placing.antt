@@ -70,19 +70,6 @@ place-one w m i op u old new listed awaited operates are uses adds = record {
 
 -- ---- what stands there
 
--- where no instruction is decoded or its operands name nothing, no operation stands
-pub undecoded : (w : Linked) (m : Method) (place : ℕ) (end : CodeEnd) → AreListed m.code → decoded m.code place ≡ Err end
-    → (i : Placed) (op : Operation) → Operates w m i op → i.place ≡ place → ⊥
-undecoded w m place end listed e i op operates at =
-    let is : decoded m.code place ≡ Ok i.insn = ap (decoded m.code) (sym at) ∙ listed.decodes i operates.stands in
-    apart i.insn end (sym is ∙ e)
-  where
-    apart : (x : Insn) (y : CodeEnd) → ◌≡◌ {A = Result Insn CodeEnd} (Ok x) (Err y) → ⊥
-    apart x y e = absurd (cc)
-
-pub unplaced : (w : Linked) (m : Method) (place : ℕ) → ¬ (IsPlace m.code place) → (i : Placed) (op : Operation) → Operates w m i op → i.place ≡ place → ⊥
-unplaced w m place none i op operates at = none (i, operates.stands, at)
-
 -- the instruction that is decoded at a place of one
 pub stands-there : (m : Method) (place : ℕ) (insn : Insn) → AreListed m.code → IsPlace m.code place → decoded m.code place ≡ Ok insn
     → HasInstruction m.code (record { place = place; insn = insn })

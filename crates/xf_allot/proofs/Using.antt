@@ -195,14 +195,6 @@ read-asked w (ops.FieldRead field holders.Stack) = omega arith
 read-asked w (ops.FieldWrite field holders.Stack) = omega arith
 read-asked w _ = omega arith
 
-pub written-asked : (w : Linked) (op : Operation) → (written_by op).first + (written_by op).count ≤ registers_asked (demands w op)
-written-asked w (ops.Store sorts.Reference x) = first-most (x + 1) _
-written-asked w (ops.Store sorts.Short x) = first-most (x + 1) _
-written-asked w (ops.Store sorts.Int x) = first-most (x + 2) _
-written-asked w (ops.Increment widths.Short x amount) = first-most (x + 1) _
-written-asked w (ops.Increment widths.Int x amount) = first-most (x + 2) _
-written-asked w _ = omega arith
-
 -- so what has them has what the operation uses
 pub both-uses :
     (w : Linked) (op : Operation) (reads writes : RegisterSet) → ((x : ℕ) → Has reads x ↔ IsIn (read_by op) x)

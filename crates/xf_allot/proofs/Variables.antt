@@ -17,7 +17,7 @@ use Rattle.jc_control.specs.Method.{Method}
 use Rattle.law_share.specs.Variable.{AreVariables, no_variables, one_register, two_registers, HasRegister, Interferes, IsWhole}
 use Rattle.law_share.specs.Variable.{first_written, second_written, both_live}
 use Rattle.law_share.specs.Variable as law
-use Rattle.law_share.specs.Sharing.{AreAllotted, none_allotted, more_allotted, FitsBeside, IsFit, IsLeastFit, IsNumbered, numbered_argument}
+use Rattle.law_share.specs.Sharing.{AreAllotted, none_allotted, more_allotted, FitsBeside, IsLeastFit, IsNumbered, numbered_argument}
 use Rattle.law_share.specs.Sharing.{numbered_variable, end_of, fits_after, fits_before, fits_with}
 use Rattle.law_share.specs.Sharing as sharing
 use Rattle.xf_allot.specs.declared.allotting.Allotment.{Allotment}
@@ -371,10 +371,6 @@ unfit-more w m k before first at none not n from lt fits = elim (cases_lt n at) 
 ]
 
 -- ---- fitting beside one
-
-pub fits-same : (w : Linked) (m : Method) (k : Variable) (at : ℕ) (a : Allotted) → a.at ≡ at → a.variable.width ≡ k.width → a.variable.ty ≡ k.ty
-    → ¬ (Interferes w m (variable_of a.variable) (variable_of k)) → FitsBeside w m (variable_of k) at (allotted_of a)
-fits-same w m k at a here width ty apart = fits_with here width ty apart
 
 pub unfit : (w : Linked) (m : Method) (k : Variable) (at : ℕ) (a : Allotted) → ¬ (a.at + a.variable.width ≤ at) → ¬ (at + k.width ≤ a.at)
     → ((a.at ≡ at) → (a.variable.width ≡ k.width) → (a.variable.ty ≡ k.ty) → ¬ (Interferes w m (variable_of a.variable) (variable_of k)) → ⊥)

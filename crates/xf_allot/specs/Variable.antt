@@ -1,9 +1,8 @@
 -- Variables and the registers that they are given, as the code has them (Chaitin 1982).
 use Rattle.std.specs.Prelude.{◌≡◌, ℕ, ◌+◌, ◌≤◌, List, ◌∷◌, length, drop}
 use Rattle.jc_base.specs.declared.ty.Ty.{Ty}
-use Rattle.law_share.specs.Variable.{AreVariables, HasRegister}
+use Rattle.law_share.specs.Variable.{AreVariables}
 use Rattle.law_share.specs.Variable as law
-use Rattle.law_share.specs.Sharing.{AreAllotted, IsNumbered}
 use Rattle.law_share.specs.Sharing as sharing
 use Rattle.xf_allot.specs.declared.variable.Variable.{Variable}
 use Rattle.xf_allot.specs.declared.variable.Allotted.{Allotted}

@@ -1,8 +1,7 @@
 -- Steps of loops that append items.
-use Rattle.std.proofs.Common.{◌≡◌, ℕ, suc, ◌+◌, ◌<◌, List, [], ◌∷◌, ◌++◌, length, drop, All, map, flat_map, sym, ◌∙◌, ap, arith}
+use Rattle.std.proofs.Common.{◌≡◌, suc, ◌+◌, List, [], ◌∷◌, ◌++◌, All, flat_map, sym, ◌∙◌, ap, arith}
 use Rattle.std.proofs.Common.{append_assoc, subst}
-use Rattle.std.specs.Prelude.{get_or}
-use Rattle.std.proofs.lemmas.List.{append-nil, drop_more}
+use Rattle.std.proofs.lemmas.List.{append-nil}
 use Rattle.std.proofs.lemmas.List.Concat.{flat_map-cons}
 
 -- what is appended was first among what is left
@@ -15,14 +14,6 @@ goes-on items step rest left whole now first is inv =
 pub ended : {X : Type 0} (items rest whole : List X) → rest ≡ [] → items ++ rest ≡ whole → items ≡ whole
 ended items rest whole none inv = sym (append-nil items) ∙ ap (λ xs. items ++ xs) (sym none) ∙ inv
 
-pub map-first : {X Y : Type 0} (f : X → Y) (xs : List X) (n : ℕ) (d : X) → n < length xs
-    → map f (drop n xs) ≡ f (get_or xs n d) ∷ map f (drop (n + 1) xs)
-map-first f xs n d lt = ap (map f) (drop_more xs n d lt)
-
-pub flat-first : {X Y : Type 0} (f : X → List Y) (xs : List X) (n : ℕ) (d : X) → n < length xs
-    → flat_map f (drop n xs) ≡ f (get_or xs n d) ++ flat_map f (drop (n + 1) xs)
-flat-first f xs n d lt = ap (flat_map f) (drop_more xs n d lt) ∙ flat_map-cons f (get_or xs n d) (drop (n + 1) xs)
-
 pub all-first : {X : Type 0} (P : X → Type 0) (xs after : List X) (x : X) → xs ≡ x ∷ after → All P xs → P x
 all-first P xs after x e h = let all : All P (x ∷ after) = subst (All P) e h in all 0 x (omega arith)
 
@@ -31,6 +22,3 @@ all-rest P xs after x e h = let all : All P (x ∷ after) = subst (All P) e h in
 
 pub flat-next : {X Y : Type 0} (f : X → List Y) (rest after : List X) (x : X) → rest ≡ x ∷ after → flat_map f rest ≡ f x ++ flat_map f after
 flat-next f rest after x e = ap (flat_map f) e ∙ flat_map-cons f x after
-
-pub flat-none : {X Y : Type 0} (f : X → List Y) (rest : List X) → rest ≡ [] → flat_map f rest ≡ []
-flat-none f rest e = ap (flat_map f) e

@@ -1,18 +1,14 @@
 -- A local whose value is the same at both ends of an edge, where no handler comes to cover, is copied nowhere.
-use Rattle.std.proofs.Common.{◌≡◌, ℕ, zero, suc, ◌&&◌, Bool, true, false, if◌then◌else◌, not, inl, inr, List, [], ◌∷◌, ◌++◌, All}
-use Rattle.std.proofs.Common.{flat_map, Option, Some, None, slice_get, refl, sym, ◌∙◌, ap, ap₂, subst}
-use Rattle.std.proofs.lemmas.Bool.{false≢true}
+use Rattle.std.proofs.Common.{◌≡◌, ℕ, zero, suc, ◌&&◌, Bool, true, false, if◌then◌else◌, not, inl, inr, List, [], ◌∷◌, ◌++◌}
+use Rattle.std.proofs.Common.{flat_map, Option, Some, None, refl, sym, ◌∙◌, ap, ap₂}
 use Rattle.jc_base.specs.declared.ty.Ty.{Ty}
 use Rattle.jc_base.specs.declared.record.Handler.{Handler}
 use Rattle.jc_base.specs.Each.{IsAmong}
 use Rattle.jc_base.proofs.SameTypes.{same_type-decides}
-use Rattle.jc_control.specs.Control.{Covers}
-use Rattle.jc_decode.specs.declared.symbols.Item.{Item}
 use Rattle.std.proofs.lemmas.List.{append-nil}
 use Rattle.std.proofs.lemmas.List.Elements.{All-contains}
 use Rattle.jc_decode.proofs.Elements.{Contains-slice_get}
 use Rattle.jc_ops.specs.declared.operation.Operation.{Operation}
-use Rattle.jc_rules.specs.Demand.{Frame}
 use Rattle.xf_homes.specs.declared.home.Home.{Home}
 use Rattle.xf_homes.specs.Asked.{is_new, NoneIsNew}
 use Rattle.xf_homes.specs.Home.{register_count, IsAsked, asked_here, asked_caught}

@@ -226,9 +226,6 @@ caught-label s n h =
 
 -- ---- counting
 
-is-it : (m l : ℕ) (xs : List Item) → count_by (is_label l) (Label m ∷ xs) ≡ cond (m == l) 1 0 + count_by (is_label l) xs
-is-it m l xs = sum_by-cons (λ x. cond (is_label l x) 1 0) (Label m) xs
-
 -- a label occurs as often as its number
 pub count-labels : (l : ℕ) (xs : List Item) → count_by (is_label l) xs ≡ count_by (λ m. m == l) (labels xs)
 count-labels l [] = refl

@@ -24,9 +24,6 @@ rises-append low mid high (x ∷ xs) ys r s = (r.0, below mid high ys (omega (ar
     below mid high [] lt s = omega arith
     below mid high (y ∷ ys) lt s = omega (arith, s.0, s.1)
 
-pub rises-none : (low high : ℕ) → low ≤ high → Rises low high []
-rises-none low high le = le
-
 same-yes : (x : ℕ) → (x == x) ≡ true
 same-yes x = grind (arith, nat_tests)
 

@@ -10,7 +10,7 @@ use Rattle.jc_base.specs.Each.{IsAmong}
 use Rattle.jc_base.proofs.Eaching.{IsAmong-append_cases}
 use Rattle.xf_homes.proofs.Events.{among-left, among-right}
 use Rattle.xf_emission.specs.Jump.{with_target, each_once, way_of}
-use Rattle.xf_emission.specs.Laws.{AreApart, AreWays, WaysAreTargets}
+use Rattle.xf_emission.specs.Laws.{AreApart, WaysAreTargets}
 
 -- ---- whether a target is there
 

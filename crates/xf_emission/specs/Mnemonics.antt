@@ -1,5 +1,5 @@
 -- The opcodes that rewritten code is written with, by their mnemonics (JCVM 2.2, section 7.5).
-use Rattle.std.specs.Prelude.{ℕ, ◌+◌, ◌-◌}
+use Rattle.std.specs.Prelude.{ℕ, ◌-◌}
 
 abbrev pub aload : ℕ
 aload = 21

@@ -1,8 +1,7 @@
 -- Steps along cells and places.
-use Rattle.std.proofs.Common.{◌≡◌, ℕ, suc, ◌+◌, ◌-◌, ◌<◌, ◌≤◌, true, false, List, [], ◌++◌, Option, Some, None, refl, sym}
+use Rattle.std.proofs.Common.{◌≡◌, ℕ, suc, ◌+◌, ◌-◌, ◌<◌, true, false, List, [], ◌++◌, Option, Some, None, refl, sym}
 use Rattle.std.proofs.Common.{◌∙◌, ap, arith, append_assoc}
 use Rattle.std.specs.Prelude.{is_some, if◌then◌else◌}
-use Rattle.std.proofs.lemmas.List.{append-nil}
 use Rattle.jc_base.specs.declared.ty.Ty.{Ty}
 use Rattle.jc_rules.specs.Demand.{Frame}
 use Rattle.xf_homes.specs.declared.home.Home.{Home}
@@ -32,12 +31,6 @@ cells-next homes now whole slot cells n len o lt is pushed inv =
     ∙ ap (λ xs. homes ++ xs) (sym (cells-first slot cells n len lt ∙ ap (λ p. with_home_of p rest) (sym is) ∙ split-first o rest))
     ∙ inv
 
-pub cells-end : (homes whole : List Home) (slot : ℕ) (cells : List Ty) (n len : ℕ) → len ≤ n
-    → homes ++ cells_from slot cells n (len - n) ≡ whole → homes ≡ whole
-cells-end homes whole slot cells n len le inv =
-    let none : len - n ≡ 0 = omega arith in
-    sym (append-nil homes) ∙ ap (λ k. homes ++ cells_from slot cells n k) (sym none) ∙ inv
-
 -- ---- places
 
 pub first-here : (frames : ℕ → Option Frame) (at end : ℕ) → at < end → is_some (frames at) ≡ true → first_of frames at (end - at) ≡ at
@@ -52,6 +45,3 @@ first-later frames at end lt is =
     let next : suc at ≡ at + 1 = omega arith in
     ap (first_of frames at) e ∙ ap (λ b. if b then at else first_of frames (suc at) (end - (at + 1))) is
     ∙ ap (λ k. first_of frames k (end - (at + 1))) next
-
-pub first-past : (frames : ℕ → Option Frame) (at end : ℕ) → end ≤ at → first_of frames at (end - at) ≡ at
-first-past frames at end le = let none : end - at ≡ 0 = omega arith in ap (first_of frames at) none

@@ -3,18 +3,18 @@ use Rattle.std.proofs.Common.{◌≡◌, ◌≤◌, ℕ, true, false, cond, Ok, 
 use Rattle.std.specs.Prelude.{pos, ◌-ℤ◌}
 use Rattle.std.proofs.lemmas.List.{append-nil}
 use Rattle.jc_decode.specs.declared.insn.Insn.{Insn}
-use Rattle.jc_decode.specs.declared.symbols.Item.TheVariants.{Plain, Branch, Switch, Label}
+use Rattle.jc_decode.specs.declared.symbols.Item.TheVariants.{Plain, Branch, Switch}
 use Rattle.jc_decode.specs.Decoding.{decoded}
 use Rattle.jc_decode.specs.Cases.{cases, is_switch}
 use Rattle.jc_decode.specs.Encoding.{ReadsBack}
 use Rattle.jc_decode.specs.Listing.{is_branch, jumps}
-use Rattle.jc_decode.specs.Forms.{essence, is_near, length_of}
+use Rattle.jc_decode.specs.Forms.{essence, length_of}
 use Rattle.jc_decode.specs.Symbols.{jump}
 use Rattle.xf_layout.specs.declared.form.Form.{Form}
 use Rattle.xf_layout.specs.declared.form.Form.TheVariants.{Fixed, Jump, Mark}
 use Rattle.xf_layout.specs.Form.{IsForm, form_bytes}
 use Rattle.xf_layout.specs.Widening.{is_wide}
-use Rattle.xf_layout.specs.Laid.{Adds, AddsSwitch, IsNearFrom, led}
+use Rattle.xf_layout.specs.Laid.{Adds, AddsSwitch, led}
 use Rattle.xf_layout.proofs.Pieces.{plain-piece, jump-piece, switch-piece}
 
 -- ---- an instruction that names no place
@@ -34,13 +34,6 @@ plain-adds source place i short (Jump l w) old new piece xs at shortest form app
 plain-adds source place i short (Mark l) old new piece xs at shortest form appended reads long alike still = absurd form
 
 -- ---- a jump
-
-pub near-jump : (place : ℕ → ℕ) (here op l : ℕ) (f : Form) → IsForm (Branch op l) f → IsNearFrom place here f → is_wide f ≡ false
-    → is_near (pos (place l) -ℤ pos here) ≡ true
-near-jump place here op l (Fixed n) form near short = absurd form
-near-jump place here op l (Mark m) form near short = absurd form
-near-jump place here op l (Jump m true) form near short = absurd (cc)
-near-jump place here op l (Jump m false) form near short = subst (λ (k : ℕ). is_near (pos (place k) -ℤ pos here) ≡ true) form near
 
 pub jump-adds : (source : List ℕ) (place : ℕ → ℕ) (op l : ℕ) (j : Insn) (f : Form) (old new piece xs : List ℕ) (at : ℕ) → IsForm (Branch op l) f
     → new ≡ old ++ piece → ReadsBack xs at j piece → length piece ≡ length_of j → length_of j ≡ cond (is_wide f) 3 2
@@ -99,9 +92,3 @@ switch-few i from labels (Jump l w) form switch few = absurd form
 switch-few i from labels (Mark l) form switch few = absurd form
 
 -- ---- a label
-
-pub label-adds : (source : List ℕ) (place : ℕ → ℕ) (l : ℕ) (f : Form) (old : List ℕ) → IsForm (Label l) f
-    → Adds source place (Label l) f old old
-label-adds source place l (Mark m) old form = record { piece = []; appended = sym (append-nil old); long = refl; stands = λ before after h. refl }
-label-adds source place l (Fixed n) old form = absurd form
-label-adds source place l (Jump m w) old form = absurd form

@@ -138,9 +138,6 @@ settles-set source items fs k l ok here far = record {
   room = λ n fits. All-set (IsInRoom n) fs k (Jump l true) tt fits;
 }
 
-pub settles-same : (items : List Item) (fs : List Form) → Settles items fs fs
-settles-same items fs = record { forms = λ p. p; least = λ p others q fit wide. wide; room = λ n fits. fits }
-
 pub settles-then : (items : List Item) (a b c : List Form) → Settles items a b → Settles items b c → Settles items a c
 settles-then items a b c s t = record {
   forms = λ p. t.forms (s.forms p);

@@ -187,12 +187,6 @@ module _ (uses : List Uses) (edges : List Edge) (nodes : List Node) (are : AreNo
 
 -- ---- so far
 
-pub unlinked-none : AreUnlinked [] []
-unlinked-none = record { alone = tt; none = λ q node e. absurd (nothing q node e) }
-  where
-    nothing : (q : ℕ) (node : Node) → slice_get {X = Node} [] q ≡ Some node → ⊥
-    nothing q node e = cc
-
 pub unlinked-more :
     (uses : List Uses) (nodes new : List Node) (k : ℕ) (d : Uses) (node : Node) → k < length uses → AreUnlinked (take k uses) nodes
     → IsNodeOf (get_or uses k d) node → node.from.items ≡ [] → new ≡ nodes ++ node ∷ [] → AreUnlinked (take (k + 1) uses) new

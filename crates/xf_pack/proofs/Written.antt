@@ -19,9 +19,7 @@ use Rattle.law_index.specs.WrittenIndex.{WrittenIndexIsExact}
 use Rattle.law_relink.specs.Last.{and_last}
 use Rattle.law_transform.specs.LikeEndings.{LaidEndAlike}
 use Rattle.law_transform.specs.AcceptedWorld.{LaidIsAccepted}
-use Rattle.xf_pack.specs.declared.end.TransformEnd.{TransformEnd}
-use Rattle.xf_pack.specs.declared.end.TransformEnd.TheVariants.{Link, Library, Typing, Limit, PartLong, Memory}
-use Rattle.xf_pack.specs.Ends.{AreAcceptedLibraries, IsPartLong, IsTypedLast, TellsOf, TellsTransform}
+use Rattle.xf_pack.specs.Ends.{AreAcceptedLibraries, IsPartLong, IsTypedLast}
 use Rattle.xf_pack.specs.Passes.{BeginsLast, EachFrom, HasLast, IsLaidAt}
 use Rattle.xf_pack.specs.Transformed.{IsTransformed}
 use Rattle.xf_pack.proofs.Elements.{are-laid, own-well}
@@ -119,12 +117,3 @@ linked-has-last ps roles w l =
     linked-last ps roles w l p.0 (length ps - 1) p.1 (omega (arith, some))
 
 -- ---- what is told of packages that link
-
-pub tells-linked : (ps : List PackageRecord) (roles : List ℕ) (w : Linked) (end : TransformEnd) → IsLinked ps roles w → TellsOf ps w end
-    → TellsTransform ps roles end
-tells-linked ps roles w (Link fault) linked tells = absurd tells
-tells-linked ps roles w (Library method fault) linked tells = record { world = w; linked = linked; tells = tells }
-tells-linked ps roles w (Typing method end) linked tells = record { world = w; linked = linked; tells = tells }
-tells-linked ps roles w (Limit method limit) linked tells = record { world = w; linked = linked; tells = tells }
-tells-linked ps roles w (PartLong n) linked tells = record { world = w; linked = linked; tells = tells }
-tells-linked ps roles w Memory linked tells = tt {0}

@@ -1,4 +1,4 @@
-use Rattle.std.proofs.Common.{ap, ◌∙◌, ◌++◌}
+use Rattle.std.proofs.Common.{ap, ◌∙◌}
 use Rattle.cap_index.specs.Component.{index_in, lists_in}
 use Rattle.cap_index.proofs.Listing.{lists-more}
 use Rattle.cap_index.proofs.of_methods.all_lists.Goals as goal

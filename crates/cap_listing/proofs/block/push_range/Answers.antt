@@ -1,5 +1,5 @@
-use Rattle.std.proofs.Common.{◌≡◌, ◌∙◌, ◌++◌, ◌-ℤ◌, ◌*◌, ◌+◌, ℕ, ℤ, pos, List, get_or, ap, sym, to_z, of_z, w32, w64, arith, rules}
-use Rattle.std.specs.Prelude.{Bool, FitsSigned}
+use Rattle.std.proofs.Common.{◌∙◌, ◌-ℤ◌, ℤ, pos, get_or, ap, w32, rules}
+use Rattle.std.specs.Prelude.{FitsSigned}
 use Rattle.std.proofs.lemmas.Int.{to_z-of_z}
 use Rattle.cap_listing.proofs.Pushed.{range-step}
 use Rattle.cap_listing.proofs.block.push_range.Goals as goal

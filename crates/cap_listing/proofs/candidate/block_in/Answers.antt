@@ -1,4 +1,4 @@
-use Rattle.std.proofs.Common.{◌≤◌, ◌∙◌, ℤ, List, ap, arith}
+use Rattle.std.proofs.Common.{◌∙◌, ℤ, List, ap, arith}
 use Rattle.cap_listing.specs.Numbers.{block_of}
 use Rattle.cap_listing.proofs.Candidates.{block-read}
 use Rattle.cap_listing.proofs.candidate.block_in.Goals as goal

@@ -1,4 +1,4 @@
-use Rattle.std.proofs.Common.{◌≡◌, ◌+◌, ◌<◌, ◌≤◌, length, sym, subst, arith}
+use Rattle.std.proofs.Common.{◌+◌, ◌<◌, length, arith}
 use Rattle.card_verify.proofs.Answering.{accepted-more}
 use Rattle.card_verify.proofs.Totals.{cost-more, cost-within-all}
 use Rattle.card_verify.proofs.Tallies.{counts-none, counts-by, count-most}

@@ -1,4 +1,4 @@
-use Rattle.std.proofs.Common.{◌≡◌, ◌+◌, ◌≤◌, Some, sym, ap, subst, ◌∙◌, arith}
+use Rattle.std.proofs.Common.{Some, sym, ap, subst, ◌∙◌, arith}
 use Rattle.jc_decode.specs.Instructions.{rest_of}
 use Rattle.card_verify.proofs.Ordered.{IsOrderedTo, ordered-first, ordered-next, ordered-low, ordered-none, ordered-ascending, ordered-places}
 use Rattle.card_verify.proofs.order.bad_entry.Goals as goal

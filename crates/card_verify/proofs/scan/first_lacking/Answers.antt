@@ -1,4 +1,4 @@
-use Rattle.std.proofs.Common.{length, refl, sym, subst, ◌∙◌, rules, arith}
+use Rattle.std.proofs.Common.{length, refl, rules, arith}
 use Rattle.std.specs.Prelude.{FitsSigned}
 use Rattle.std.specs.Int.{w32}
 use Rattle.std.proofs.lemmas.Int.{to_z-of_z}
@@ -6,7 +6,6 @@ use Rattle.std.proofs.lemmas.List.Elements.{All-push}
 use Rattle.jc_base.proofs.Lists.{All-slice_get}
 use Rattle.jc_decode.specs.Instructions.{rest_of}
 use Rattle.jc_decode.specs.Listing.{listing, targets}
-use Rattle.jc_control.specs.FirstFailing.{IsFirstFailing}
 use Rattle.jc_control.proofs.Elements.{at-next, go-on, contained-in, first-failing}
 use Rattle.card_verify.specs.Refusal.{IsListedTarget, LeadsToListed}
 use Rattle.card_verify.proofs.Costs.{sum-more-cost, sum-within}

@@ -1,8 +1,6 @@
-use Rattle.std.proofs.Common.{◌∙◌, List, ◌≤◌, length, arith, subst, sym}
-use Rattle.std.specs.Prelude.{All}
+use Rattle.std.proofs.Common.{List, ◌≤◌, length, arith, subst, sym}
 use Rattle.jc_base.specs.declared.record.MethodRec.{MethodRec}
 use Rattle.jc_base.specs.Linked.{AreLinkedClasses}
-use Rattle.jc_base.specs.ByClass.{IsIndexOf}
 use Rattle.jc_link.proofs.Steps.{count_known, linked_few, methods_of_table}
 use Rattle.jc_link.proofs.linking.class_index.Goals as goal
 

@@ -1,7 +1,6 @@
 use Rattle.std.proofs.Common.{◌≡◌, refl, sym, subst, true}
 use Rattle.jc_base.specs.Order.{same}
 use Rattle.jc_base.proofs.Subtypes.{is_below-refl}
-use Rattle.jc_ops.specs.declared.want.Want.TheVariants.{Value}
 use Rattle.jc_rules.specs.Demand.{Meets, meets}
 use Rattle.jc_rules.proofs.demand.meets.Goals as goal
 

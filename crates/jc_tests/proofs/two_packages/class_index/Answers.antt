@@ -1,4 +1,3 @@
-use Rattle.std.proofs.Common.{◌≤◌, length, lit≤}
 use Rattle.jc_tests.proofs.TwoPackages.{few_classes, few_methods, all_linked, classes_known}
 use Rattle.jc_tests.proofs.two_packages.class_index.Goals as goal
 

@@ -1,5 +1,4 @@
-use Rattle.std.proofs.Common.{◌≡◌, ℕ, Bool, true, false, refl, sym, subst}
-use Rattle.std.specs.Prelude.{Ok, Some}
+use Rattle.std.proofs.Common.{◌≡◌, Bool, true, false, refl}
 use Rattle.jc_base.specs.World.{Linked}
 use Rattle.xf_emission.specs.Jump.{has_under}
 use Rattle.law_homes.proofs.Standing.{steps-execute}

@@ -1,6 +1,5 @@
 use Rattle.std.proofs.Common.{◌≡◌, subst}
-use Rattle.jc_base.specs.Laws.{ClassesAreObjects, IsOrderOfTypes}
-use Rattle.law_homes.proofs.Beside.{AreLaws}
+use Rattle.jc_base.specs.Laws.{ClassesAreObjects}
 use Rattle.law_homes.proofs.Standing.{steps-execute}
 use Rattle.law_groups.proofs.ThisFields.{this-reads-run}
 use Rattle.law_groups.proofs.fields.fields_in_groups.Goals as goal

@@ -1,6 +1,5 @@
 use Rattle.std.proofs.Common.{◌≡◌, subst}
-use Rattle.jc_base.specs.Laws.{ClassesAreObjects, IsOrderOfTypes}
-use Rattle.law_homes.proofs.Beside.{AreLaws}
+use Rattle.jc_base.specs.Laws.{ClassesAreObjects}
 use Rattle.law_homes.proofs.Standing.{steps-execute}
 use Rattle.law_groups.proofs.ThisWritesAnywhere.{this-writes-run}
 use Rattle.law_groups.proofs.fields.writes_in_groups.Goals as goal

@@ -1,11 +1,10 @@
-use Rattle.std.proofs.Common.{◌≡◌, refl, subst, sym}
+use Rattle.std.proofs.Common.{◌≡◌, refl, subst}
 use Rattle.jc_base.specs.Laws.{IsOrderOfTypes}
 use Rattle.jc_base.specs.World.{Linked}
 use Rattle.law_homes.proofs.Standing.{steps-execute}
 use Rattle.law_groups.proofs.OneGroup.{no-fault}
 use Rattle.law_groups.proofs.Groups.{kept-group, still-group}
 use Rattle.law_groups.proofs.Reading.{load-runs, small-register}
-use Rattle.law_groups.proofs.Branching.{fork-steps}
 use Rattle.law_groups.proofs.laws.plain_groups_run.Goals as goal
 
 pub returns-clause-kept : goal.returns-clause-kept

@@ -1,6 +1,5 @@
 use Rattle.std.proofs.Common.{◌≡◌, subst}
 use Rattle.jc_base.specs.Laws.{ClassesAreObjects}
-use Rattle.law_homes.proofs.Beside.{AreLaws}
 use Rattle.law_groups.proofs.Storing.{store-bodies-run}
 use Rattle.law_groups.proofs.stores.stores_in_groups.Goals as goal
 

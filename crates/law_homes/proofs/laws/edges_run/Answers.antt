@@ -1,7 +1,5 @@
 use Rattle.std.proofs.Common.{◌≡◌, subst}
 use Rattle.jc_base.specs.Laws.{ClassesAreObjects}
-use Rattle.jc_base.specs.World.{Linked}
-use Rattle.law_homes.specs.Moves.{IsExecutable}
 use Rattle.law_homes.proofs.Celling.{cells-all-run, starts-hold}
 use Rattle.law_homes.proofs.Edging.{edges-run}
 use Rattle.law_homes.proofs.laws.edges_run.Goals as goal

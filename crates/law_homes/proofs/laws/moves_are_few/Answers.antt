@@ -1,7 +1,5 @@
 use Rattle.std.proofs.Common.{◌≡◌, subst}
 use Rattle.jc_base.specs.Laws.{ClassesAreObjects}
-use Rattle.jc_base.specs.World.{Linked}
-use Rattle.law_homes.specs.Moves.{IsExecutable}
 use Rattle.law_homes.proofs.Few.{cells-are-few, copies-are-few, kept-stacks-stay}
 use Rattle.law_homes.proofs.laws.moves_are_few.Goals as goal
 

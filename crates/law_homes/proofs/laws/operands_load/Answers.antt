@@ -1,7 +1,5 @@
 use Rattle.std.proofs.Common.{◌≡◌, subst}
 use Rattle.jc_base.specs.Laws.{ClassesAreObjects}
-use Rattle.jc_base.specs.World.{Linked}
-use Rattle.law_homes.specs.Moves.{IsExecutable}
 use Rattle.law_homes.proofs.Operands.{operands-all-load, under-all-hold, under-all-load}
 use Rattle.law_homes.proofs.laws.operands_load.Goals as goal
 

@@ -1,6 +1,5 @@
 use Rattle.std.proofs.Common.{◌≡◌, subst}
 use Rattle.jc_base.specs.Laws.{ClassesAreObjects}
-use Rattle.law_rewritten_typing.proofs.Running.{AreLaws}
 use Rattle.law_rewritten_typing.proofs.EdgeHomes.{needed-have-homes, cells-fill-stack, edges-carry}
 use Rattle.law_rewritten_typing.proofs.ForkHomes.{forks-are-cut, forks-match}
 use Rattle.law_rewritten_typing.proofs.laws.edges_carry.Goals as goal

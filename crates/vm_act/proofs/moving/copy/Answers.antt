@@ -1,4 +1,4 @@
-use Rattle.std.proofs.Common.{◌-◌, ◌+◌, ◌∷◌, ap, ◌∙◌, arith}
+use Rattle.std.proofs.Common.{◌-◌, ◌∷◌, ap, ◌∙◌, arith}
 use Rattle.vm_store.specs.State.{top, nth, with_stack}
 use Rattle.vm_act.proofs.Copies.{copied_more}
 use Rattle.vm_act.proofs.moving.copy.Goals as goal

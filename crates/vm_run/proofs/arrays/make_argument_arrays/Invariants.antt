@@ -1,4 +1,4 @@
-use Rattle.std.proofs.Common.{◌≡◌, ◌+◌, drop, length}
+use Rattle.std.proofs.Common.{◌≡◌, drop, length}
 use Rattle.std.specs.Prelude.{None, map}
 use Rattle.vm_store.specs.Objects.{heap_cells}
 use Rattle.vm_step.specs.Arguments.{argument_of}

@@ -1,4 +1,4 @@
-use Rattle.std.proofs.Common.{◌≡◌, ◌<◌, ◌≤◌, ℕ, List, length, get_or, sym, ap, ◌∙◌, refl, arith, rules}
+use Rattle.std.proofs.Common.{length, ap, ◌∙◌, refl, arith, rules}
 use Rattle.vm_store.specs.declared.kind.ObjectKind.TheVariants.{Bytes}
 use Rattle.vm_store.specs.Value.{byte_of_word}
 use Rattle.std.specs.Int.{w16}

@@ -1,12 +1,12 @@
-use Rattle.std.proofs.Common.{◌≡◌, ◌<◌, ◌≤◌, ◌+◌, ◌++◌, [], ◌∷◌, List, ℕ, length, take, map, sym, ap, ◌∙◌, subst, arith}
-use Rattle.std.proofs.Common.{true, length-take}
-use Rattle.std.specs.Prelude.{sum_by, nat_lt, nat_le, ◌&&◌, All}
+use Rattle.std.proofs.Common.{◌≡◌, ◌<◌, ◌+◌, ◌++◌, [], ◌∷◌, List, ℕ, length, take, sym, ap, ◌∙◌, arith}
+use Rattle.std.proofs.Common.{length-take}
+use Rattle.std.specs.Prelude.{sum_by, All}
 use Rattle.std.proofs.lemmas.List.{length-map}
 use Rattle.std.proofs.lemmas.List.Elements.{All-take}
 use Rattle.jc_base.specs.declared.record.ArrayRec.{ArrayRec}
 use Rattle.jc_base.specs.Cell.{AreElementsOf}
 use Rattle.vm_store.specs.State.{State, Object}
-use Rattle.vm_store.specs.Objects.{heap_cells, has_room}
+use Rattle.vm_store.specs.Objects.{heap_cells}
 use Rattle.vm_step.specs.Start.{initial_object}
 use Rattle.vm_run.proofs.Sums.{sum-most, there-inside, map-next, room-is}
 use Rattle.vm_run.proofs.Elements.{initial-count}

@@ -1,4 +1,4 @@
-use Rattle.std.proofs.Common.{◌≡◌, ◌<◌, ◌≤◌, ◌+◌, ◌*◌, ◌/◌, ℕ, length, ◌∙◌, arith}
+use Rattle.std.proofs.Common.{◌<◌, ◌+◌, ◌*◌, length, ◌∙◌, arith}
 use Rattle.vm_run.proofs.Elements.{high-there, low-there, low-more, ints-done}
 use Rattle.vm_run.proofs.arrays.make_ints.Goals as goal
 

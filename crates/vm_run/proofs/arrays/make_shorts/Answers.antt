@@ -1,4 +1,4 @@
-use Rattle.std.proofs.Common.{◌≡◌, ◌<◌, ◌≤◌, ℕ, List, length, get_or, sym, ap, ◌∙◌, refl, arith, rules}
+use Rattle.std.proofs.Common.{length, ap, ◌∙◌, arith, rules}
 use Rattle.vm_arithmetic.specs.Arithmetic.{short_of_word}
 use Rattle.std.specs.Int.{w16}
 use mir.Val.{SFits}

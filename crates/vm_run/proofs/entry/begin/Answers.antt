@@ -1,9 +1,9 @@
-use Rattle.std.proofs.Common.{◌≡◌, ◌<◌, ◌≤◌, ◌+◌, ℕ, List, [], length, map, sym, ap, ◌∙◌, subst, arith, Some, None}
-use Rattle.std.specs.Prelude.{sum_by, slice_get, filter}
+use Rattle.std.proofs.Common.{◌≡◌, ◌≤◌, ℕ, List, [], length, map, sym, ap, ◌∙◌, subst, arith, Some}
+use Rattle.std.specs.Prelude.{sum_by, filter}
 use Rattle.std.proofs.lemmas.List.{length-map}
 use Rattle.jc_base.specs.declared.record.ArrayRec.{ArrayRec}
 use Rattle.jc_base.specs.declared.ty.Ty.{Ty}
-use Rattle.vm_store.specs.State.{State, Object, top, with_top, with_entry}
+use Rattle.vm_store.specs.State.{State, top, with_top, with_entry}
 use Rattle.vm_store.specs.Layout.{overwritten}
 use Rattle.vm_store.specs.Objects.{heap_cells}
 use Rattle.vm_step.specs.Start.{initial, initial_object, is_parameter, first_without_room, with_arrays, cells_handed}

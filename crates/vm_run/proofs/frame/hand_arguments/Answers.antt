@@ -1,12 +1,11 @@
-use Rattle.std.proofs.Common.{◌≡◌, ◌<◌, ◌≤◌, ◌+◌, ◌++◌, ℕ, List, [], ◌∷◌, length, drop, get_or, sym, ap, ◌∙◌, subst}
-use Rattle.std.proofs.Common.{arith, refl, true, false, Some, None, IsTrue}
-use Rattle.std.specs.Prelude.{filter, slice_get}
-use Rattle.jc_base.specs.declared.ty.Ty.{Ty}
+use Rattle.std.proofs.Common.{◌≡◌, ◌<◌, ◌≤◌, ◌+◌, ℕ, List, [], length, drop, get_or, sym, ap, ◌∙◌, subst}
+use Rattle.std.proofs.Common.{arith, refl, true, false}
+use Rattle.std.specs.Prelude.{filter}
 use Rattle.jc_base.specs.declared.ty.Ty.TheVariants.{Bottom}
-use Rattle.vm_store.specs.State.{State, IsRunning, top, with_top}
+use Rattle.vm_store.specs.State.{State, top, with_top}
 use Rattle.vm_store.specs.Layout.{overwritten}
-use Rattle.vm_step.specs.Arguments.{Argument, argument_of}
-use Rattle.vm_step.specs.Start.{argument_cells, arrays_made, cells_handed, first_misfit, is_parameter}
+use Rattle.vm_step.specs.Arguments.{argument_of}
+use Rattle.vm_step.specs.Start.{argument_cells, arrays_made, cells_handed, is_parameter}
 use Rattle.vm_store.proofs.Fills.{overwritten-nil}
 use Rattle.vm_run.proofs.Sums.{there-inside}
 use Rattle.vm_run.proofs.WritesInOrder.{length-overwritten}

@@ -1,4 +1,4 @@
-use Rattle.std.proofs.Common.{◌≡◌, List, ap, ◌∙◌, arith}
+use Rattle.std.proofs.Common.{List, ap, ◌∙◌, arith}
 use Rattle.vm_store.specs.State.{State, top, with_top}
 use Rattle.vm_run.proofs.WritesInOrder.{write-cell}
 use Rattle.vm_run.proofs.frame.hand_cell.Goals as goal

@@ -1,4 +1,4 @@
-use Rattle.std.proofs.Common.{◌≡◌, ◌<◌, ◌≤◌, ◌+◌, sym, ◌∙◌, arith}
+use Rattle.std.proofs.Common.{sym, ◌∙◌, arith}
 use Rattle.vm_step.specs.Arguments.{argument_of}
 use Rattle.vm_run.proofs.Handing.{misfit-found, misfit-next, misfit-none, none-left}
 use Rattle.vm_run.proofs.refusal.first_misfit.Goals as goal

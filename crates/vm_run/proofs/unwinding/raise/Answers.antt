@@ -1,4 +1,4 @@
-use Rattle.std.proofs.Common.{◌≡◌, ℕ, length, true, sym, ap, ◌∙◌}
+use Rattle.std.proofs.Common.{◌≡◌, length, true, sym, ap, ◌∙◌}
 use Rattle.std.specs.Prelude.{slice_index}
 use Rattle.jc_base.specs.Dispatch.{cells_of}
 use Rattle.vm_store.specs.Objects.{has_room}

@@ -1,6 +1,6 @@
 use Rattle.std.proofs.Common.{◌≡◌, ℕ, sym, ap, ◌∙◌, subst, arith}
 use Rattle.std.specs.Prelude.{find, None}
-use Rattle.vm_store.specs.State.{State, IsRunning, top, without_top}
+use Rattle.vm_store.specs.State.{State, IsRunning, top}
 use Rattle.vm_step.specs.Methods.{handlers_of}
 use Rattle.vm_step.specs.Raising.{catches, handler_for, unwound}
 use Rattle.vm_run.specs.Turn.{AreMethods}

@@ -1,4 +1,4 @@
-use Rattle.std.proofs.Common.{◌≡◌, ◌++◌, ◌∷◌, [], length, Some, Contains, slice_get, ap, sym, subst, ◌∙◌, rules}
+use Rattle.std.proofs.Common.{◌≡◌, ◌++◌, ◌∷◌, [], length, Some, Contains, slice_get, ap, subst, ◌∙◌, rules}
 use Rattle.std.specs.Prelude.{ℤ, FitsSigned, IfSome}
 use Rattle.std.specs.Int.{w32}
 use Rattle.std.specs.List.{position_or_len}
@@ -7,7 +7,7 @@ use Rattle.std.proofs.lemmas.Int.{to_z-of_z}
 use Rattle.jc_control.specs.Targets.{rest_of}
 use Rattle.jc_decode.specs.Listing.{targets}
 use Rattle.xf_homes.specs.PlannedMethod.{source}
-use Rattle.xf_emission.specs.Jump.{each_once, way_of, lead, leads}
+use Rattle.xf_emission.specs.Jump.{way_of, lead, leads}
 use Rattle.xf_emission.proofs.Live.{stands-next, moves-on}
 use Rattle.xf_code.specs.Ways.{way_labels}
 use Rattle.xf_code.proofs.Leading.{leads-next, leads-none, labels-length, target-label}

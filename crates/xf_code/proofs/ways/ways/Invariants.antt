@@ -1,4 +1,4 @@
-use Rattle.std.proofs.Common.{◌≡◌, length, fold}
+use Rattle.std.proofs.Common.{◌≡◌, fold}
 use Rattle.jc_control.specs.Targets.{rest_of}
 use Rattle.jc_decode.specs.Listing.{targets}
 use Rattle.xf_emission.specs.Jump.{with_target, each_once}

@@ -1,4 +1,4 @@
-use Rattle.std.proofs.Common.{◌≡◌, ◌∙◌, sym, ap, subst, Option}
+use Rattle.std.proofs.Common.{◌∙◌, sym, subst, Option}
 use Rattle.std.specs.Prelude.{Bool, IfOk, MatchBool}
 use Rattle.cap_listing.specs.declared.open_method.OpenMethod.{OpenMethod}
 use Rattle.cap_listing.specs.Reading.{State}

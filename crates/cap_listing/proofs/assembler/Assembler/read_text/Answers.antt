@@ -1,6 +1,6 @@
-use Rattle.std.proofs.Common.{◌≡◌, ◌≢◌, ◌+◌, ◌<◌, ℕ, List, [], length, None, sym, ap, subst, arith}
+use Rattle.std.proofs.Common.{◌≡◌, ℕ, [], length, None, sym, ap, subst, arith}
 use Rattle.cap_listing.specs.Text.{Lists}
-use Rattle.cap_listing.specs.Fault.{IsReadLine, IsNoLine, IsNotListing}
+use Rattle.cap_listing.specs.Fault.{IsNotListing}
 use Rattle.cap_listing.specs.Assembler.{state_of}
 use Rattle.cap_listing.proofs.Added.{match-yes, match-no, state-none, none-begun, if-some, if-none, empty-bytes}
 use Rattle.cap_listing.proofs.Progress.{nothing-read, one-read, few-read, line-bad, cut-short, whole-text}

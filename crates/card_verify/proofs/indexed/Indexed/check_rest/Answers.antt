@@ -1,4 +1,4 @@
-use Rattle.std.proofs.Common.{Result, Ok, Err, IfErr, length}
+use Rattle.std.proofs.Common.{length}
 use Rattle.card_verify.specs.Indexed.{subject, world_in, listed}
 use Rattle.card_verify.proofs.Verified.{formed-by, over-flawed, form-flawed, reads-flawed}
 use Rattle.card_verify.proofs.indexed.Indexed.check_rest.Goals as goal

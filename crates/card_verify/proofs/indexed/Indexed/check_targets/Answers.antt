@@ -1,4 +1,3 @@
-use Rattle.std.proofs.Common.{arith}
 use Rattle.jc_control.specs.WellFormed.{IsWellFormed}
 use Rattle.card_verify.specs.Indexed.{subject, listed}
 use Rattle.card_verify.specs.IndexTyping.{IsIndex}

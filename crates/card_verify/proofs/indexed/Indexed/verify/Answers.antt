@@ -1,4 +1,4 @@
-use Rattle.std.proofs.Common.{inl, length, refl, arith}
+use Rattle.std.proofs.Common.{inl, refl, arith}
 use Rattle.jc_rules.specs.Apply.{frame_of}
 use Rattle.card_verify.specs.Indexed.{subject, world_in, listed}
 use Rattle.card_verify.proofs.Verified.{none-over, kept-over, bound-whole, counted-sooner, counted-by-state}

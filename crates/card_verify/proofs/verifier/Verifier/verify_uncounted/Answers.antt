@@ -1,4 +1,3 @@
-use Rattle.jc_rules.specs.Apply.{frame_of}
 use Rattle.card_typing.proofs.Quiet.{target-place}
 use Rattle.card_verify.specs.Verifier.{method}
 use Rattle.card_verify.proofs.Answering.{refused-of-counted}

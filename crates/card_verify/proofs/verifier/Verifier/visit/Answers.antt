@@ -1,4 +1,4 @@
-use Rattle.std.proofs.Common.{◌≡◌, ◌∙◌, arith}
+use Rattle.std.proofs.Common.{◌∙◌, arith}
 use Rattle.jc_rules.specs.Stack.{cells}
 use Rattle.card_verify.proofs.Costs.{answered-ok}
 use Rattle.card_verify.proofs.Searching.{stop-paid, visit-paid}

@@ -1,5 +1,5 @@
 -- The bit is tested where the offset has it.
-use Rattle.std.proofs.Common.{◌%◌, ◌/◌, slice_index_or, refl, sym, ap, ◌∙◌}
+use Rattle.std.proofs.Common.{◌%◌, ◌/◌, slice_index_or, refl}
 use Rattle.std.proofs.lemmas.Nat.Bits.{shr_and_one}
 use Rattle.offset_set.specs.Bits.{is_set}
 use Rattle.offset_set.proofs.offsets.Offsets.has.Goals as goal

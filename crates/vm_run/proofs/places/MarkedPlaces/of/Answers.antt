@@ -1,4 +1,4 @@
-use Rattle.std.proofs.Common.{◌≡◌, ◌+◌, List, ℕ, Bool, length, sym, ap, ◌∙◌, subst, arith, rules, vec_len, length-append, [], ◌∷◌}
+use Rattle.std.proofs.Common.{◌≡◌, List, ℕ, Bool, length, sym, ap, ◌∙◌, subst, arith, length-append, [], ◌∷◌}
 use Rattle.std.specs.Prelude.{IfSome, slice_get}
 use Rattle.std.proofs.lemmas.Grind.{common_steps}
 use Rattle.jc_control.specs.WellFormed.{IsPlace}
