@@ -124,29 +124,18 @@ or_true : (b : Bool) → (b || true) ≡ true
 or_true true = refl
 or_true false = refl
 
-custom : (tag : ℕ) → tag < 256 → nat_le 128 tag ≡ true → (nat_le 128 tag && nat_lt tag (128 + 128)) ≡ true
-custom tag few e = grind (arith, nat_tests)
+place_by : (b : Bool) (tag : ℕ) → (stands_in tag components || b) ≡ is_some (if b then Some tag else position (λ t. t == tag) components)
+place_by true tag = or_true (stands_in tag components)
+place_by false tag = or_false (stands_in tag components) ∙ sym (position_some components tag)
 
-not_custom : (tag : ℕ) → nat_le 128 tag ≡ false → (nat_le 128 tag && nat_lt tag (128 + 128)) ≡ false
-not_custom tag e = grind (arith, nat_tests)
-
-place_is : (tag : ℕ) → tag < 256 → stands_in tag in_order ≡ is_some (place tag)
+place_is : (tag : ℕ) → stands_in tag in_order ≡ is_some (place tag)
 unfolding place in_order
-place_is tag few = stands_append tag components (counted_from 128 128) ∙ by (nat_le 128 tag) refl
-  where
-    by : (b : Bool) → nat_le 128 tag ≡ b
-        → (stands_in tag components || stands_in tag (counted_from 128 128))
-        ≡ is_some (if nat_le 128 tag then Some tag else position (λ t. t == tag) components)
-    by true e =
-        ap (λ (c : Bool). stands_in tag components || c) (stands_counted 128 128 tag ∙ custom tag few e) ∙ or_true (stands_in tag components)
-        ∙ ap (λ (c : Bool). is_some (if c then Some tag else position (λ t. t == tag) components)) (sym e)
-    by false e =
-        ap (λ (c : Bool). stands_in tag components || c) (stands_counted 128 128 tag ∙ not_custom tag e) ∙ or_false (stands_in tag components)
-        ∙ sym (position_some components tag)
-        ∙ ap (λ (c : Bool). is_some (if c then Some tag else position (λ t. t == tag) components)) (sym e)
+place_is tag =
+    stands_append tag components (counted_from 128 128) ∙ ap (λ (c : Bool). stands_in tag components || c) (stands_counted 128 128 tag)
+    ∙ place_by (nat_le 128 tag && nat_lt tag 256) tag
 
 pub are_components : (parts : List Lent) → AreComponents parts (chosen in_order parts)
-are_components parts tag few = held_chosen in_order parts tag ∙ ap (λ (b : Bool). if b then held parts tag else None) (place_is tag few)
+are_components parts tag = held_chosen in_order parts tag ∙ ap (λ (b : Bool). if b then held parts tag else None) (place_is tag)
 
 -- ---- they are in order
 
@@ -180,34 +169,38 @@ order_append : (ts us : List ℕ) → InOrder ts → InOrder us → AllByRecursi
 order_append [] us o p a = p
 order_append (t ∷ ts) us o p a = (o.0, all_append (λ u. comes_before t u ≡ true) ts us o.1 a.0, order_append ts us o.2 p a.1)
 
-custom_place : (tag : ℕ) → 128 ≤ tag → place tag ≡ Some tag
+is_custom : (tag : ℕ) → 128 ≤ tag → tag < 256 → (nat_le 128 tag && nat_lt tag 256) ≡ true
+is_custom tag h few = ap (λ (b : Bool). b && nat_lt tag 256) (le-leb 128 tag h) ∙ lt-ltb tag 256 few
+
+custom_place : (tag : ℕ) → 128 ≤ tag → tag < 256 → place tag ≡ Some tag
 unfolding place
-custom_place tag h = ap (λ (b : Bool). if b then Some tag else position (λ t. t == tag) components) (le-leb 128 tag h)
+custom_place tag h few = ap (λ (b : Bool). if b then Some tag else position (λ t. t == tag) components) (is_custom tag h few)
 
-customs_before : (t u : ℕ) → 128 ≤ t → t < u → comes_before t u ≡ true
+customs_before : (t u : ℕ) → 128 ≤ t → t < u → u < 256 → comes_before t u ≡ true
 unfolding comes_before
-customs_before t u h l =
-    let more : 128 ≤ u = omega arith in
-    ap (λ (o : Option ℕ). is_below o (place u)) (custom_place t h) ∙ ap (λ (o : Option ℕ). is_below (Some t) o) (custom_place u more) ∙ lt-ltb t u l
+customs_before t u h l few =
+    ap (λ (o : Option ℕ). is_below o (place u)) (custom_place t h (omega arith))
+    ∙ ap (λ (o : Option ℕ). is_below (Some t) o) (custom_place u (omega arith) few) ∙ lt-ltb t u l
 
-all_counted : (P : ℕ → Type 0) (n first : ℕ) → ((u : ℕ) → first ≤ u → P u) → AllByRecursion P (counted_from first n)
+all_counted : (P : ℕ → Type 0) (n first : ℕ) → ((u : ℕ) → first ≤ u → u < first + n → P u) → AllByRecursion P (counted_from first n)
 unfolding counted_from
 all_counted P zero first h = tt {0}
-all_counted P (suc n) first h = (h first (omega arith), all_counted P n (suc first) (λ u l. h u (omega arith)))
+all_counted P (suc n) first h = (h first (omega arith) (omega arith), all_counted P n (suc first) (λ u l m. h u (omega arith) (omega arith)))
 
-customs_order : (n first : ℕ) → 128 ≤ first → InOrder (counted_from first n)
+customs_order : (n first : ℕ) → 128 ≤ first → first + n ≤ 256 → InOrder (counted_from first n)
 unfolding counted_from
-customs_order zero first h = tt {0}
-customs_order (suc n) first h = (
-  subst (λ (o : Option ℕ). IsSome o) (sym (custom_place first h)) refl,
-  all_counted (λ u. comes_before first u ≡ true) n (suc first) (λ u l. customs_before first u h (omega arith)),
-  customs_order n (suc first) (omega arith),
+customs_order zero first h few = tt {0}
+customs_order (suc n) first h few = (
+  subst (λ (o : Option ℕ). IsSome o) (sym (custom_place first h (omega arith))) refl,
+  all_counted (λ u. comes_before first u ≡ true) n (suc first) (λ u l m. customs_before first u h (omega arith) (omega arith)),
+  customs_order n (suc first) (omega arith) (omega arith),
 )
 
 component_before : (t n : ℕ) → place t ≡ Some n → n < 128 → AllByRecursion (λ u. comes_before t u ≡ true) (counted_from 128 128)
 unfolding comes_before
-component_before t n e l = all_counted (λ u. comes_before t u ≡ true) 128 128 (λ u h.
-    ap (λ (o : Option ℕ). is_below o (place u)) e ∙ ap (λ (o : Option ℕ). is_below (Some n) o) (custom_place u h) ∙ lt-ltb n u (omega arith))
+component_before t n e l = all_counted (λ u. comes_before t u ≡ true) 128 128 (λ u h m.
+    ap (λ (o : Option ℕ). is_below o (place u)) e ∙ ap (λ (o : Option ℕ). is_below (Some n) o) (custom_place u h (omega arith))
+    ∙ lt-ltb n u (omega arith))
 
 components_order : InOrder components
 unfolding place comes_before
@@ -274,7 +267,7 @@ components_first = (
 
 pub all_placed : InOrder in_order
 unfolding in_order
-all_placed = order_append components (counted_from 128 128) components_order (customs_order 128 128 (omega arith)) components_first
+all_placed = order_append components (counted_from 128 128) components_order (customs_order 128 128 (omega arith) (omega arith)) components_first
 
 pub all_in_order : (parts : List Lent) → InOrder (map tag_of (chosen in_order parts))
 all_in_order parts = chosen_order in_order parts all_placed

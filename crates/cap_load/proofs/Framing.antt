@@ -102,6 +102,7 @@ file_is lent rest f fits =
       low = c.low;
       info = c.info;
       bytes = c.whole ∙ ap (λ (t : ℕ). t ∷ c.high ∷ c.low ∷ c.info) tag;
+      fit = (omega (arith, fits 0), high_fits, low_fits);
       size = omega arith;
     }
 

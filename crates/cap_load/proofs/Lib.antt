@@ -13,3 +13,4 @@ pub mod Choosing
 pub mod Framing
 pub mod Cuts
 pub mod Joins
+pub mod OneFile

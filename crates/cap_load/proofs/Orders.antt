@@ -22,7 +22,7 @@ below_through (Some a) None r h k = absurd (cc)
 below_through (Some a) (Some b) None h k = absurd (cc)
 below_through (Some a) (Some b) (Some c) h k = lt-ltb a c (omega (arith, ltb-true a b h, ltb-true b c k))
 
-before_through : (a b c : ℕ) → comes_before a b ≡ true → comes_before b c ≡ true → comes_before a c ≡ true
+pub before_through : (a b c : ℕ) → comes_before a b ≡ true → comes_before b c ≡ true → comes_before a c ≡ true
 unfolding comes_before
 before_through a b c h k = below_through (place a) (place b) (place c) h k
 

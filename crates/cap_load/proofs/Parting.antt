@@ -58,7 +58,7 @@ below_itself : (o : Option ℕ) → is_below o o ≡ true → ⊥
 below_itself None h = absurd (cc)
 below_itself (Some n) h = omega (arith, ltb-true n n h)
 
-before_itself : (a b : ℕ) → comes_before a b ≡ true → a ≡ b → ⊥
+pub before_itself : (a b : ℕ) → comes_before a b ≡ true → a ≡ b → ⊥
 unfolding comes_before
 before_itself a b h e = below_itself (place a) (subst (λ (n : ℕ). is_below (place a) (place n) ≡ true) (sym e) h)
 

@@ -30,6 +30,7 @@ record IsInside (contents : List ℕ) (last : Option ℕ) (left : ℕ) : Type 0 
   each : AllByRecursion IsFile files
   whole : contents ≡ files_of files ++ tag ∷ high ∷ low ∷ info
   size : length info + left ≡ 256 * high + low
+  fit : (tag < 256) × (high < 256) × (low < 256)
   order : InOrder (map tag_of files ++ tag ∷ [])
   is_last : IsLast last (map tag_of files ++ tag ∷ [])
 
@@ -38,7 +39,7 @@ read_left : (contents : List ℕ) (last : Option ℕ) (left : ℕ) → IsInside 
 read_left contents last zero i =
     let part : Lent = record { part = i.tag; bytes = i.tag ∷ i.high ∷ i.low ∷ i.info } in
     let size = i.size in
-    let file : IsFile part = record { high = i.high; low = i.low; info = i.info; bytes = refl; size = omega arith } in
+    let file : IsFile part = record { high = i.high; low = i.low; info = i.info; bytes = refl; fit = i.fit; size = omega arith } in
     let tags : map tag_of (i.files ++ part ∷ []) ++ [] ≡ map tag_of i.files ++ i.tag ∷ [] = append-nil (map tag_of (i.files ++ part ∷ []))
     ∙ tags_push i.files part in
     record {
@@ -56,7 +57,7 @@ read_left contents last (suc n) i = record {
   each = i.each;
   whole = i.whole;
   order = i.order;
-  next = (i.tag, i.high, i.low, i.info, refl, omega arith, i.size);
+  next = (i.tag, i.high, i.low, i.info, refl, omega arith, i.size, i.fit.0, i.fit.1, i.fit.2);
   last = i.is_last;
 }
 
@@ -65,8 +66,8 @@ more : (contents : List ℕ) (files : List Lent) (tail : List ℕ) (byte : ℕ) 
 more contents files tail byte e = ap (λ (x : List ℕ). x ++ byte ∷ []) e ∙ append_assoc (files_of files) tail (byte ∷ [])
 
 read_by_more : (next : Next) (last : Option ℕ) (contents : List ℕ) (byte : ℕ) → IsRead contents (record { last = last; next = next })
-    → shown_by next last byte ≡ None → IsRead (contents ++ byte ∷ []) (read_by next last byte)
-read_by_more Tag last contents byte r e =
+    → shown_by next last byte ≡ None → byte < 256 → IsRead (contents ++ byte ∷ []) (read_by next last byte)
+read_by_more Tag last contents byte r e fits =
     let no_tail : r.tail ≡ [] = r.next in
     let tags : map tag_of r.files ++ begun r.tail ≡ map tag_of r.files =
     ap (λ (t : List ℕ). map tag_of r.files ++ begun t) no_tail ∙ append-nil (map tag_of r.files) in
@@ -76,10 +77,10 @@ read_by_more Tag last contents byte r e =
       each = r.each;
       whole = more contents r.files r.tail byte r.whole ∙ ap (λ (t : List ℕ). files_of r.files ++ (t ++ byte ∷ [])) no_tail;
       order = tag_more (map tag_of r.files) last byte (subst InOrder tags r.order) (subst (IsLast last) tags r.last) e;
-      next = (byte, refl);
+      next = (byte, refl, fits);
       last = (map tag_of r.files, refl);
     }
-read_by_more High last contents byte r e =
+read_by_more High last contents byte r e fits =
     let tag = r.next.0 in
     let tail : r.tail ≡ tag ∷ [] = r.next.1 in
     record {
@@ -88,10 +89,10 @@ read_by_more High last contents byte r e =
       each = r.each;
       whole = more contents r.files r.tail byte r.whole ∙ ap (λ (t : List ℕ). files_of r.files ++ (t ++ byte ∷ [])) tail;
       order = subst (λ (t : List ℕ). InOrder (map tag_of r.files ++ begun t)) tail r.order;
-      next = (tag, refl);
+      next = (tag, refl, r.next.2, fits);
       last = subst (λ (t : List ℕ). IsLast last (map tag_of r.files ++ begun t)) tail r.last;
     }
-read_by_more (Low high) last contents byte r e =
+read_by_more (Low high) last contents byte r e fits =
     let tag = r.next.0 in
     let tail : r.tail ≡ tag ∷ high ∷ [] = r.next.1 in
     read_left (contents ++ byte ∷ []) last (high * 256 + byte) (record {
@@ -103,10 +104,11 @@ read_by_more (Low high) last contents byte r e =
       each = r.each;
       whole = more contents r.files r.tail byte r.whole ∙ ap (λ (t : List ℕ). files_of r.files ++ (t ++ byte ∷ [])) tail;
       size = omega arith;
+      fit = (r.next.2, r.next.3, fits);
       order = subst (λ (t : List ℕ). InOrder (map tag_of r.files ++ begun t)) tail r.order;
       is_last = subst (λ (t : List ℕ). IsLast last (map tag_of r.files ++ begun t)) tail r.last;
     })
-read_by_more (Info left) last contents byte r e =
+read_by_more (Info left) last contents byte r e fits =
     let n = r.next in
     let tail : r.tail ≡ n.0 ∷ n.1 ∷ n.2 ∷ n.3 = n.4 in
     let some : 0 < left = n.5 in
@@ -120,11 +122,12 @@ read_by_more (Info left) last contents byte r e =
       each = r.each;
       whole = more contents r.files r.tail byte r.whole ∙ ap (λ (t : List ℕ). files_of r.files ++ (t ++ byte ∷ [])) tail;
       size = omega (arith, length-append n.3 (byte ∷ []));
+      fit = (n.7, n.8, n.9);
       order = subst (λ (t : List ℕ). InOrder (map tag_of r.files ++ begun t)) tail r.order;
       is_last = subst (λ (t : List ℕ). IsLast last (map tag_of r.files ++ begun t)) tail r.last;
     })
 
 -- a byte that shows no fault keeps the contents components in order and a front of one
-pub read_more : (contents : List ℕ) (reading : Reading) (byte : ℕ) → IsRead contents reading → shown reading byte ≡ None
+pub read_more : (contents : List ℕ) (reading : Reading) (byte : ℕ) → IsRead contents reading → shown reading byte ≡ None → byte < 256
     → IsRead (contents ++ byte ∷ []) (read_byte reading byte)
-read_more contents reading byte r e = read_by_more reading.next reading.last contents byte r e
+read_more contents reading byte r e fits = read_by_more reading.next reading.last contents byte r e fits

@@ -49,7 +49,7 @@ IsTail (tag ∷ []) = Unit {0}
 IsTail (tag ∷ high ∷ []) = Unit {0}
 IsTail (tag ∷ high ∷ low ∷ info) = length info < 256 * high + low
 
-same_lent : (a b : ℕ) (x y : List ℕ) → a ≡ b → x ≡ y → (let l : Lent = record { part = a; bytes = x } in l)
+pub same_lent : (a b : ℕ) (x y : List ℕ) → a ≡ b → x ≡ y → (let l : Lent = record { part = a; bytes = x } in l)
     ≡ (let m : Lent = record { part = b; bytes = y } in m)
 same_lent a b x y e h = cc
 

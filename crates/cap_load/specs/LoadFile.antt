@@ -20,12 +20,13 @@ in_blocks contents = flat_map block contents
 abbrev pub stream_of : List (List ℕ) → List ℕ
 stream_of contents = in_blocks contents ++ 0 ∷ []
 
--- the file of a component (JCVM 2.2, section 6.1): u1 tag, u2 size, and so many bytes of info
+-- the file of a component (JCVM 2.2, section 6.1): u1 tag, u2 size of a high and a low byte, and so many bytes of info
 pub record IsFile (lent : Lent) : Type 0 where
   pub high : ℕ
   pub low : ℕ
   pub info : List ℕ
   pub bytes : lent.bytes ≡ lent.part ∷ high ∷ low ∷ info
+  pub fit : (lent.part < 256) × (high < 256) × (low < 256)
   pub size : length info ≡ 256 * high + low
 
 abbrev pub tag_of : Lent → ℕ

@@ -58,11 +58,11 @@ begun (tag ∷ bytes) = tag ∷ []
 -- what stands behind whole components, by what comes next
 abbrev pub IsNext : Next → List ℕ → Type 0
 IsNext Tag tail = tail ≡ []
-IsNext High tail = (tag : ℕ) × (tail ≡ tag ∷ [])
-IsNext (Low high) tail = (tag : ℕ) × (tail ≡ tag ∷ high ∷ [])
+IsNext High tail = (tag : ℕ) × (tail ≡ tag ∷ []) × (tag < 256)
+IsNext (Low high) tail = (tag : ℕ) × (tail ≡ tag ∷ high ∷ []) × (tag < 256) × (high < 256)
 IsNext (Info left) tail =
     (tag high low : ℕ) × (info : List ℕ) × (tail ≡ tag ∷ high ∷ low ∷ info) × (0 < left)
-    × (length info + left ≡ 256 * high + low)
+    × (length info + left ≡ 256 * high + low) × (tag < 256) × (high < 256) × (low < 256)
 
 -- the last of a list of tags, where there is one
 abbrev pub IsLast : Option ℕ → List ℕ → Type 0

@@ -13,9 +13,9 @@ use Rattle.cap_load.specs.LoadFile.{IsBlock, stream_of, AreFiles}
 abbrev pub IsFramed : Lent → Type 0
 IsFramed lent = IsSome (place lent.part) → (info : List ℕ) × Stands (component lent.part) lent.bytes info
 
--- the components among the parts are these
+-- the components among the parts are these: for each tag that has a place what the parts hold, for any other number nothing
 abbrev pub AreComponents : List Lent → List Lent → Type 0
-AreComponents parts chosen = (tag : ℕ) → tag < 256 → held chosen tag ≡ (if is_some (place tag) then held parts tag else None)
+AreComponents parts chosen = (tag : ℕ) → held chosen tag ≡ (if is_some (place tag) then held parts tag else None)
 
 -- blocks of 255 bytes, and a last one of no more
 abbrev pub AreFull : List (List ℕ) → Type 0
@@ -32,7 +32,7 @@ pub record IsPacked (parts : List Lent) (bytes : List ℕ) : Type 0 where
   pub full : AreFull blocks
   pub whole : bytes ≡ stream_of blocks
 
--- so many bytes it would have, and a part can have no more than 65,538
+-- the Load file of the components among the parts has so many bytes, more than the 65,538 that a part can have
 abbrev pub IsTooLong : List Lent → BlocksEnd → Type 0
 IsTooLong parts (LoadLong count) = (bytes : List ℕ) × IsPacked parts bytes × (count ≡ length bytes) × (65538 < count)
 IsTooLong parts Memory = Unit {0}

@@ -1,7 +1,7 @@
-/// Why the bytes of a Load file are refused. Several are in the order of this list.
+/// Why the bytes of a Load file are refused. Of several faults that one byte shows, the first of this list is told.
 #[derive(Clone, Copy)]
 pub enum StreamFault {
-    /// A component begins with a tag that no component has.
+    /// A component begins with a tag that no component of a Load file has.
     NoTag(u8),
     /// A component begins with the second tag after the first, which does not come before it.
     Order(u8, u8),

@@ -1,4 +1,4 @@
-ghost use Rattle.cap_load.specs.Laws.{OneList, OneFault, NotBoth, PackedIsLoadFile};
+ghost use Rattle.cap_load.specs.Laws.{OneList, OneFault, NotBoth, OnePacked, ShortNotLong, PackedIsLoadFile};
 
 /// Bytes are a Load file of at most one list of parts.
 pub fn one_list()
@@ -13,6 +13,16 @@ pub fn one_fault()
 /// Bytes that are a Load file within the room are refused for no fault.
 pub fn not_both()
     ensures { NotBoth }
+{}
+
+/// The components among some parts are packed to at most one list of bytes.
+pub fn one_packed()
+    ensures { OnePacked }
+{}
+
+/// Components of which the Load file is short enough for a part are not too long.
+pub fn short_not_long()
+    ensures { ShortNotLong }
 {}
 
 /// Bytes that `blocks` answers are a Load file of the components that it packed.

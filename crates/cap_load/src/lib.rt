@@ -19,6 +19,6 @@ pub use blocks_end::BlocksEnd;
 pub use component::{Next, Reading};
 pub use fault::StreamFault;
 pub use finish_end::FinishEnd;
-pub use laws::{not_both, one_fault, one_list, packed_is_load_file};
+pub use laws::{not_both, one_fault, one_list, one_packed, packed_is_load_file, short_not_long};
 pub use loader::Loader;
 pub use packing::blocks;

@@ -15,5 +15,6 @@ invariant_of-self c =
     record {
       room = omega (arith, c.self.invariant.room, c.push_reserved.ensures.capacity);
       few = omega (arith, fit.0, ap length c.push_reserved.ensures.items, length-append c.self.inside.contents.items (c.args.byte ∷ []));
-      read = rw (c.push_reserved.ensures.items, c.after-self-inside.ensures) (read_more _ _ _ c.self.invariant.read fit.1);
+      read = rw (c.push_reserved.ensures.items, c.after-self-inside.ensures)
+          (read_more _ _ _ c.self.invariant.read fit.1 (omega (arith, c.ranges.byte)));
     }
