@@ -15,3 +15,4 @@ pub mod Decides
 pub mod Footprints
 pub mod Flowing
 pub mod Wholes
+pub mod Groups

@@ -45,3 +45,33 @@ pub record AreSpans (cells : List Ty) (spans : List (Option Span)) : Type 0 wher
   pub within : (p : ℕ) (s : Span) → span_at spans p ≡ Some s → span_end s ≤ length cells
   pub few : (p : ℕ) (s : Span) → span_at spans p ≡ Some s → s.depth ≤ 255
   pub apart : (p q : ℕ) (s u : Span) → ¬ (p ≡ q) → span_at spans p ≡ Some s → span_at spans q ≡ Some u → AreApart s u
+
+-- two places with one number have the same registers
+abbrev pub TellRegisters : List Ty → List (Option Span) → List ℕ → Type 0
+TellRegisters cells spans groups =
+    (p q n : ℕ) (s u : Span)
+    → span_at spans p ≡ Some s
+    → span_at spans q ≡ Some u
+    → slice_get groups p ≡ Some n
+    → slice_get groups q ≡ Some n
+    → (frame_of_span cells s).regs ≡ (frame_of_span cells u).regs
+
+-- two places have one number
+abbrev pub AreOfOneGroup : List ℕ → ℕ → ℕ → Type 0
+AreOfOneGroup groups p q = (n : ℕ) × (slice_get groups p ≡ Some n) × (slice_get groups q ≡ Some n)
+
+-- a number for the place after those that have one: its own, or that of one of them with the same registers
+abbrev pub IsGroupAt : List Ty → List (Option Span) → List ℕ → ℕ → ℕ → Type 0
+IsGroupAt cells spans groups place n =
+    (n ≡ place)
+    ⊎ ((q : ℕ) × (s : Span) × (u : Span) × (span_at spans place ≡ Some s) × (span_at spans q ≡ Some u) × (slice_get groups q ≡ Some n)
+    × ((frame_of_span cells s).regs ≡ (frame_of_span cells u).regs))
+
+-- no number is above its place
+abbrev pub AreLow : List ℕ → Type 0
+AreLow groups = (p n : ℕ) → slice_get groups p ≡ Some n → n ≤ p
+
+-- what holds of a typing's cells, spans and groups
+pub record AreHeld (cells : List Ty) (spans : List (Option Span)) (groups : List ℕ) : Type 0 where
+  pub apart : AreSpans cells spans
+  pub told : TellRegisters cells spans groups

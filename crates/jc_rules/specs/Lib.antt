@@ -7,6 +7,7 @@ pub mod Known
 pub mod Apply
 pub mod Flow
 pub mod Typing
+pub mod Variant
 pub mod Whole
 pub mod Laws
 pub mod FlowLaws

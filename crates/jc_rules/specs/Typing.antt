@@ -45,3 +45,8 @@ pub record IsMergedAt
     pub there : state_at old place ≡ Some held
     pub set : new ≡ slice_set old place (Some joined)
     pub merged : IsMerged t held f joined how
+
+-- control reaches two places, and each register has one type at both
+abbrev pub HaveSameRegisters : Option Frame → Option Frame → Type 0
+HaveSameRegisters (Some f) (Some g) = f.regs ≡ g.regs
+HaveSameRegisters _ _ = ⊥

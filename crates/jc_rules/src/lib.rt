@@ -15,6 +15,7 @@ mod held;
 mod laws;
 mod objects;
 mod rule;
+mod same_types;
 mod state;
 mod typing;
 mod values;

@@ -1,10 +1,11 @@
-ghost use Rattle.std.specs.Prelude.{◌≡◌, ◌+◌, ◌<◌, ◌≤◌, ◌⊎◌, ◌++◌, ℕ, ⊤, List, Some, None, length, take, drop, reverse, replicate, All, IfOk, OnOk, OnErr, IsSomeAnd, is_some, option_map, slice_get, slice_set};
+ghost use Rattle.std.specs.Prelude.{◌≡◌, ◌+◌, ◌<◌, ◌≤◌, ◌⊎◌, ◌++◌, ℕ, ⊤, List, Some, None, length, take, drop, reverse, replicate, All, IfOk, OnOk, OnErr, IsSomeAnd, is_some, option_map, slice_get, slice_set, IsTrue, IfSome};
 ghost use Rattle.jc_base.specs.Order.{IsKnown};
 ghost use Rattle.jc_rules.specs.Flow.{At};
-ghost use Rattle.jc_rules.specs.Held.{lent, span_end, frame_of_span, span_at};
-ghost use Rattle.jc_rules.specs.Typing.{state_at, IsMerged, IsMergedAt};
+ghost use Rattle.jc_rules.specs.Held.{AreSpans, TellRegisters, AreOfOneGroup, IsGroupAt, lent, span_end, frame_of_span, span_at};
+ghost use Rattle.jc_rules.specs.Typing.{state_at, HaveSameRegisters, IsMerged, IsMergedAt};
 
 use crate::held::HeldFrame;
+use crate::same_types::same_types;
 use crate::state::{Merged, merge_cells};
 use jc_base::{Classes, Ty};
 use std::alloc::{AllocError, Global};
@@ -17,6 +18,8 @@ pub struct Typing {
     cells: Vec<Ty>,
     /// By place which of them are the state there.
     spans: Vec<Option<Span>>,
+    /// By place a number, of which equal ones tell of equal registers; none where that was not asked.
+    groups: Vec<usize>,
 }
 
 /// The cells of one state: its registers, and then the stack with its top last.
@@ -33,11 +36,11 @@ impl Model for Typing {
 
     ghost Value = { List (Option Frame) };
 
-    ghost use Rattle.jc_rules.specs.Held.{AreSpans, frames_at};
+    ghost use Rattle.jc_rules.specs.Held.{AreHeld, frames_at};
 
     ghost view = { λ t. frames_at t.cells.items t.spans.items };
 
-    ghost invariant = { λ t. AreSpans t.cells.items t.spans.items };
+    ghost invariant = { λ t. AreHeld t.cells.items t.spans.items t.groups.items };
 }
 
 impl Typing {
@@ -49,6 +52,7 @@ impl Typing {
         Ok(Typing {
             cells: Vec::new(alloc),
             spans,
+            groups: Vec::new(alloc),
         })
     }
 
@@ -69,6 +73,7 @@ impl Typing {
         ensures put { OnOk result (self.new ≡ slice_set self.old place (Some (record { regs = regs.now; stack = reverse stack.now }))) }
         ensures kept { OnErr result (self.new ≡ self.old) }
     {
+        self.groups.clear();
         let at = self.cells.len();
         append(&mut self.cells, regs, stack)?;
         self.spans[place as usize] = Some(Span {
@@ -89,10 +94,36 @@ impl Typing {
         requires own_stack_known { IsSomeAnd (state_at self.old place) (λ f. All (IsKnown classes.now) f.stack) }
         ensures { IsMergedAt classes.now self.old place (record { regs = regs.now; stack = reverse stack.now }) self.new result }
     {
+        self.groups.clear();
         match span_of(&self.spans, place) {
             Some(span) => merge_span(classes, &mut self.cells, span, regs, stack),
             None => unreachable!(),
         }
+    }
+
+    /// The same, of which it is known soon where registers are the same. Each reached place is compared with the one before.
+    pub fn grouped(self, alloc: Global) -> Result<Typing, AllocError>
+        ensures { IfOk result (λ t. t ≡ self) }
+    {
+        let groups = groups_of(alloc, &self.cells, &self.spans)?;
+        Ok(Typing {
+            cells: self.cells,
+            spans: self.spans,
+            groups,
+        })
+    }
+
+    /// Whether control reaches two places, and each register has one type at both.
+    pub fn has_same_registers(&self, place: u16, other: u16) -> bool
+        ensures { IsTrue result → HaveSameRegisters (state_at self.now place) (state_at self.now other) }
+    {
+        let Some(span) = span_of(&self.spans, place) else {
+            return false;
+        };
+        let Some(beside) = span_of(&self.spans, other) else {
+            return false;
+        };
+        are_of_one_group(&self.groups, place, other) || same_registers(&self.cells, span, beside)
     }
 
     /// Whether control reaches the place.
@@ -157,6 +188,79 @@ fn lend<'a>(cells: &'a [Ty], span: Span) -> HeldFrame<'a>
         regs: &own[..span.registers],
         stack: &own[span.registers..],
     }
+}
+
+/// Whether the registers of two spans are the same.
+fn same_registers(cells: &[Ty], span: Span, other: Span) -> bool
+    requires within { span_end span ≤ length cells.now }
+    requires few { span.depth ≤ 255 }
+    requires other_within { span_end other ≤ length cells.now }
+    requires other_few { other.depth ≤ 255 }
+    ensures { IsTrue result → (frame_of_span cells.now span).regs ≡ (frame_of_span cells.now other).regs }
+{
+    same_types(lend(cells, span).regs, lend(cells, other).regs)
+}
+
+/// Whether two places have one number.
+fn are_of_one_group(groups: &[usize], place: u16, other: u16) -> bool
+    ensures { IsTrue result → AreOfOneGroup groups.now place other }
+{
+    match groups.get(place as usize) {
+        Some(group) => match groups.get(other as usize) {
+            Some(beside) => *group == *beside,
+            None => false,
+        },
+        None => false,
+    }
+}
+
+/// The number of a place: that of the last reached place, where the registers are the same there, and else its own.
+fn group_at(
+    cells: &[Ty],
+    spans: &[Option<Span>],
+    groups: &[usize],
+    last: Option<usize>,
+    place: usize,
+) -> usize
+    requires spans { AreSpans cells.now spans.now }
+    requires place { place < length spans.now }
+    requires last { IfSome last (λ q. q < length groups.now) }
+    requires groups { length groups.now ≤ length spans.now }
+    ensures { IsGroupAt cells.now spans.now groups.now place result }
+{
+    let Some(before) = last else {
+        return place;
+    };
+    let Some(span) = spans[place] else {
+        return place;
+    };
+    let Some(other) = spans[before] else {
+        return place;
+    };
+    if same_registers(cells, span, other) {
+        groups[before]
+    } else {
+        place
+    }
+}
+
+/// By place a number, of which equal ones tell of equal registers.
+fn groups_of(alloc: Global, cells: &[Ty], spans: &[Option<Span>]) -> Result<Vec<usize>, AllocError>
+    requires { AreSpans cells.now spans.now }
+    ensures { IfOk result (λ groups. TellRegisters cells.now spans.now groups.items) }
+{
+    let mut groups = Vec::new(alloc);
+    let mut last = None;
+    'places: for place in 0..spans.len() {
+        let group = group_at(cells, spans, groups.as_slice(), last, place);
+        if let Err(error) = groups.push(group) {
+            return Err(error.into());
+        }
+        if spans[place].is_some() {
+            last = Some(place);
+        }
+    }
+    Ok(groups)
 }
 
 /// Adds registers and a stack to the cells.

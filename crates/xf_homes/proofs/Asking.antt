@@ -16,10 +16,12 @@ use Rattle.jc_control.specs.Method.{Method}
 use Rattle.jc_decode.specs.declared.insn.Placed.{Placed}
 use Rattle.xf_homes.specs.Home.{register_count}
 use Rattle.jc_rules.specs.Demand.{Frame}
+use Rattle.jc_rules.specs.Typing.{HaveSameRegisters}
+use Rattle.xf_homes.specs.Value.{value_in_cells}
 use Rattle.xf_homes.specs.declared.home.Home.{Home}
 use Rattle.xf_homes.specs.Walk.{Event, same_home, has, with_home, with_home_of_value, with_event, with_events, is_covered, local_of, caught_of, caught_events}
 use Rattle.xf_homes.specs.Walk.{local_events, locals_events, frame_events, place_events}
-use Rattle.xf_homes.specs.Asked.{knows, AreKnownAt, AreKnownFrom, LocalsAreKnown, covers_last, is_new, last_local, AreLastKnown, AreStill, NoneIsNew}
+use Rattle.xf_homes.specs.Asked.{knows, AreKnownAt, AreKnownFrom, LocalsAreKnown, covers_last, is_new, last_local, AreLastKnown, AreSameLocals, AreStill, NoneIsNew}
 use Rattle.xf_homes.specs.Asked.{HandlersAreAsked, last_after}
 use Rattle.xf_homes.proofs.Events.{home-itself}
 
@@ -139,6 +141,12 @@ nat-cases (suc x) (suc y) le = next (nat-cases x y (omega arith))
 pub same-kept : (frames : ℕ → Option Frame) (homes : List Home) (last : Option ℕ) (x : ℕ) (v : Option Ty) → v ≡ last_local frames last x
     → knows homes x (last_local frames last x) ≡ true → homes ≡ with_home_of_value homes x v
 same-kept frames homes last x v is known = sym (value-kept homes x v (subst (λ u. knows homes x u ≡ true) (sym is) known))
+
+-- in frames with the same registers
+pub same_locals : (f g : Option Frame) → HaveSameRegisters f g → AreSameLocals f g
+same_locals None g same = absurd same
+same_locals (Some f) None same = absurd same
+same_locals (Some f) (Some g) same = λ x. ap (λ regs. value_in_cells regs x) same
 
 -- where all of them are, nothing is added
 still-locals : (frames : ℕ → Option Frame) (homes : List Home) (p : ℕ) (last : Option ℕ) (count n x : ℕ) → x + n ≤ count

@@ -23,4 +23,4 @@ pub use home::Home;
 pub use laws::{homes_are_one, homes_serve, needed_are_kept};
 pub use plan::{Plan, home_of};
 pub use value::{value_at, value_of};
-pub use walk::{HomeWalk, has, is_any_new, operands, same_types, same_value};
+pub use walk::{HomeWalk, has, is_new, operands, same_value};

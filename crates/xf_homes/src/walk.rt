@@ -101,7 +101,7 @@ pub fn same_value(a: Option<Ty>, b: Option<Ty>) -> bool
 
 /// Whether a handler covers a place, and not the last one that control reaches before it.
 #[tactic(auto, unfolding(crate::specs::Asked::is_new))]
-fn is_new(handler: Handler, place: u16, last: Option<u16>) -> bool
+pub fn is_new(handler: Handler, place: u16, last: Option<u16>) -> bool
     ensures { result ≡ is_new handler place last }
 {
     let covered_last = match last {
@@ -113,7 +113,7 @@ fn is_new(handler: Handler, place: u16, last: Option<u16>) -> bool
 
 /// Whether a handler covers a place and not the last one.
 #[tactic(auto, unfolding(crate::specs::Asked::NoneIsNew))]
-pub fn is_any_new(handlers: &[Handler], place: u16, last: Option<u16>) -> bool
+fn is_any_new(handlers: &[Handler], place: u16, last: Option<u16>) -> bool
     ensures { MatchBool result ⊤ (NoneIsNew handlers.now place last) }
 {
     'handlers: for handler in handlers {
@@ -122,21 +122,6 @@ pub fn is_any_new(handlers: &[Handler], place: u16, last: Option<u16>) -> bool
         }
     }
     false
-}
-
-/// Whether two lists of types are the same.
-pub fn same_types(a: &[Ty], b: &[Ty]) -> bool
-    ensures { IsTrue result → a.now ≡ b.now }
-{
-    if a.len() != b.len() {
-        return false;
-    }
-    'cells: for n in 0..a.len() {
-        if !same_type(a[n], b[n]) {
-            return false;
-        }
-    }
-    true
 }
 
 /// The handlers that are asked at a place: all, where one is new there, and else none.
@@ -366,16 +351,11 @@ impl HomeWalk<'_> {
     }
 
     /// Whether the registers at a place have the types that they have at another, where control reaches both.
+    #[tactic(auto, using(crate::proofs::Asking::same_locals))]
     pub fn has_same_registers(&self, place: u16, other: u16) -> bool
         ensures { IsTrue result → AreSameLocals (frames_of self.now place) (frames_of self.now other) }
     {
-        let Some(state) = self.typing.state(place) else {
-            return false;
-        };
-        let Some(before) = self.typing.state(other) else {
-            return false;
-        };
-        same_types(state.regs(), before.regs())
+        self.typing.has_same_registers(place, other)
     }
 
     /// Whether no local's value differs from that at the last place.

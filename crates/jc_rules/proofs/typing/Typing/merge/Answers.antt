@@ -15,7 +15,7 @@ merge_span-requires-clause-count c =
     let there = ap (λ (xs : List (Option Span)). span_at xs c.args.place) (sym c.deref.ensures.value) ∙ sym c.in-Some.ensures in
     let held = frame-there i.cells.items i.spans.items c.args.self.now c.args.place s c.self.view_is there in
     subst (λ (o : Option Frame). IsSomeAnd o (λ f. length c.args.regs.now ≡ length f.regs)) held c.requires.count
-    ∙ frame-registers i.cells.items s (c.self.invariant.within c.args.place s there)
+    ∙ frame-registers i.cells.items s (c.self.invariant.apart.within c.args.place s there)
 
 pub merge_span-requires-clause-own_regs_known : goal.merge_span-requires-clause-own_regs_known
 merge_span-requires-clause-own_regs_known c =
@@ -53,7 +53,7 @@ returns c =
       there = frame-there i.cells.items i.spans.items c.args.self.now c.args.place s c.self.view_is there;
       set =
           ap (λ (xs : List Ty). frames_at xs i.spans.items) (with_items_is i.cells new (c.merge_span.ensures.len ∙ c.deref_mut.ensures.len))
-          ∙ frames-changed i.cells.items new i.spans.items c.args.place s c.self.invariant there stays
+          ∙ frames-changed i.cells.items new i.spans.items c.args.place s c.self.invariant.apart there stays
           ∙ ap (λ (xs : List (Option Frame)). set xs c.args.place (Some (frame_of_span new s))) c.self.view_is;
       merged =
           subst (λ (xs : List Ty). IsMerged c.args.classes.now (frame_of_span xs s) (record { regs = c.args.regs.now; stack = reverse c.args.stack.now })
