@@ -1,18 +1,18 @@
-ghost use Rattle.std.specs.Prelude.{◌≡◌, ◌++◌, ◌∷◌, [], IsTrue, IfSome, OnOk, flat_map, slice_get, option_copied};
+ghost use Rattle.std.specs.Prelude.{◌≡◌, ◌++◌, ◌∷◌, [], ⊤, All, IsTrue, IfSome, MatchBool, OnOk, flat_map, slice_get, option_copied};
 ghost use Rattle.xf_homes.specs.Home.{argument_types};
 ghost use Rattle.xf_homes.specs.Value.{value_in_cells};
 ghost use Rattle.xf_homes.specs.PlannedMethod.{source};
-ghost use Rattle.xf_code.specs.Quiet.{IsQuiet};
+ghost use Rattle.xf_code.specs.Quiet.{AsksNothing, IsQuiet};
 ghost use Rattle.xf_emission.specs.Edge.{is_stored, home_before, homes_held, copy_new, copies_from, local_copies, copies, cell_copies};
 
 use crate::moves::copy;
 use indexmap::IndexSet;
-use jc_base::{MethodRec, Ty};
+use jc_base::{Handler, MethodRec, Ty};
 use jc_decode::Item;
 use jc_ops::{Operation, Sort};
 use std::alloc::AllocError;
 use xf_emission::Origin;
-use xf_homes::{Home, Plan, has, home_of, is_any_new, same_value, value_of};
+use xf_homes::{Home, Plan, has, home_of, is_new, same_value, value_of};
 
 /// Tables of homes that are made anew for each local.
 #[derive(Drop)]
@@ -143,13 +143,36 @@ fn local_copies(
     copy_all(plan, home, &scratch.held, scratch.needed.as_slice(), items)
 }
 
-/// Where an edge begins that leads on from an instruction to a place that no handler covers anew.
+/// Whether a handler comes to cover a place on an edge to it, and its entry has other registers.
+#[tactic(auto, using(crate::proofs::Still::asks_as_before, crate::proofs::Still::asks_by_registers))]
+fn asks_anew(plan: &Plan<'_>, to: u16, place: u16, handler: Handler) -> bool
+    ensures { MatchBool result ⊤ (AsksNothing (source plan.now) to place handler) }
+{
+    if !is_new(handler, to, Some(place)) {
+        return false;
+    }
+    !plan.walk.has_same_registers(handler.entry, to)
+}
+
+/// Whether one of these handlers asks something anew on an edge.
+fn is_any_asking(plan: &Plan<'_>, to: u16, place: u16, handlers: &[Handler]) -> bool
+    ensures { MatchBool result ⊤ (All (AsksNothing (source plan.now) to place) handlers.now) }
+{
+    'handlers: for handler in handlers {
+        if asks_anew(plan, to, place, *handler) {
+            return true;
+        }
+    }
+    false
+}
+
+/// Where an edge begins that leads on from an instruction to a place where no handler asks anything anew.
 fn quiet_from(plan: &Plan<'_>, from: Origin, to: u16) -> Option<u16>
     ensures { IfSome result (IsQuiet (source plan.now) from to) }
 {
     match from {
         Origin::After(place, _) => {
-            if is_any_new(plan.walk.rec.handlers.as_slice(), to, Some(place)) {
+            if is_any_asking(plan, to, place, plan.walk.rec.handlers.as_slice()) {
                 None
             } else {
                 Some(place)

@@ -46,7 +46,10 @@ fn type_method(alloc: Global, world: &World<'_>, number: u16) -> Result<Option<T
         return Ok(None);
     }
     match infer(alloc, world, number) {
-        Ok(typing) => Ok(Some(typing)),
+        Ok(typing) => match typing.grouped(alloc) {
+            Ok(grouped) => Ok(Some(grouped)),
+            Err(_) => Err(FlowEnd::Memory),
+        },
         Err(end) => Err(end),
     }
 }
