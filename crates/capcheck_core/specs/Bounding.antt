@@ -52,8 +52,9 @@ pub record TellsBound (w : Linked) (e : EntryRequest) (text : List ℕ) : Type 0
   pub runs : BoundsRuns w number bound
   pub prints : text ≡ bound_text w bound
 
--- no run of the entry begins, and the text tells why
+-- every method with code of all packages has a card typing, no run of the entry begins, and the text tells why
 pub record TellsNoEntry (w : Linked) (e : EntryRequest) (text : List ℕ) : Type 0 where
+  pub carded : HaveCardTypings w
   pub fault : StartFault
   pub first : bound_fault w e ≡ Some fault
   pub prints : text ≡ not_started_line fault

@@ -1,7 +1,7 @@
 ghost use Rattle.std.specs.Prelude.{◌≡◌, None, Some, IfOk, slice_get, string_bytes};
 ghost use Rattle.card_verify.specs.Answers.{AreAccepted};
 ghost use Rattle.cap_text.specs.EntryWords.{entry_request};
-ghost use Rattle.capcheck_core.specs.Bounding.{method_bounded, bound_text, cycle_of, AnswersBound};
+ghost use Rattle.capcheck_core.specs.Bounding.{method_bounded, bound_fault, bound_text, cycle_of, AnswersBound};
 
 use crate::card::Card;
 use crate::carding::uncarded;
@@ -63,8 +63,18 @@ fn accepted_entry(alloc: Global, accepted: &Accepted<'_>, at: &AtEntry<'_>) -> V
 {
     match method_entered(accepted.world(), at.entry) {
         Some(number) => told(alloc, accepted, at, number),
-        None => Verdict::malformed(not_started(alloc, StartFault::NoEntry)),
+        None => not_begun(alloc, accepted, at, StartFault::NoEntry),
     }
+}
+
+// Why no run of the entry begins, where all methods are accepted.
+fn not_begun(alloc: Global, accepted: &Accepted<'_>, at: &AtEntry<'_>, fault: StartFault) -> Verdict
+    requires accepted { AreAccepted accepted.now }
+    requires first { bound_fault accepted.now (entry_request at.now) ≡ Some fault }
+    ensures { AnswersBound accepted.now (entry_request at.now) result }
+{
+    let _ = (accepted.world(), at.entry);
+    Verdict::malformed(not_started(alloc, fault))
 }
 
 // The bound of the method of a number.
@@ -77,7 +87,7 @@ fn told(alloc: Global, accepted: &Accepted<'_>, at: &AtEntry<'_>, number: u16) -
     typed_code_never_fails(world);
     match bound(alloc, accepted, number) {
         Ok(found) => Verdict::done(bound_line(alloc, world, found)),
-        Err(BoundEnd::Fault(fault)) => Verdict::malformed(not_started(alloc, fault)),
+        Err(BoundEnd::Fault(fault)) => not_begun(alloc, accepted, at, fault),
         Err(BoundEnd::Memory) => Verdict::Memory,
     }
 }
