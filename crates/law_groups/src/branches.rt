@@ -13,7 +13,7 @@ use law_laid::operations_are_kept;
 use law_rewritten_typing::edges_carry;
 
 /// The groups of a goto, of a conditional branch and of a switch come to what the source comes to.
-pub fn branch_groups_run(world: &World<'_>)
+pub(crate) fn branch_groups_run(world: &World<'_>)
     ensures gotos { GotoGroupsRun world.now }
     ensures forks { ForkGroupsRun world.now }
 {

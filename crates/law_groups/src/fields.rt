@@ -11,7 +11,7 @@ use law_rewritten_typing::{derived_are_whole, edges_carry};
 use xf_homes::{homes_serve, needed_are_kept};
 
 /// A read of a field of `this` in laid code comes to what it does in the source.
-pub fn fields_in_groups(world: &World<'_>)
+pub(crate) fn fields_in_groups(world: &World<'_>)
     ensures reads { ThisReadsRun world.now }
 {
     operations_are_sound(world);
@@ -31,7 +31,7 @@ pub fn fields_in_groups(world: &World<'_>)
 }
 
 /// A write of a field of `this` in laid code comes to what it does in the source.
-pub fn writes_in_groups(world: &World<'_>)
+pub(crate) fn writes_in_groups(world: &World<'_>)
     ensures writes { ThisWritesRun world.now }
 {
     operations_are_sound(world);

@@ -10,7 +10,7 @@ use law_rewritten_typing::{derived_are_whole, edges_carry};
 use xf_homes::{homes_serve, needed_are_kept};
 
 /// An increment of a local in laid code comes to what it does in the source.
-pub fn increments_in_groups(world: &World<'_>)
+pub(crate) fn increments_in_groups(world: &World<'_>)
     ensures { IncrementBodiesRun world.now }
 {
     types_are_ordered(world.classes());

@@ -53,7 +53,7 @@ pub fn groups_catch(world: &World<'_>)
 }
 
 /// An instruction that is kept takes one step in laid code, to what it comes to in the source.
-pub fn kept_run(world: &World<'_>)
+pub(crate) fn kept_run(world: &World<'_>)
     ensures { KeptRuns world.now }
 {
     operations_are_sound(world);
@@ -83,7 +83,7 @@ pub fn groups_are_entered(world: &World<'_>)
 }
 
 /// A group whose operation names no register and leads to no target, or loads a local, comes to what the source comes to.
-pub fn plain_groups_run(world: &World<'_>)
+pub(crate) fn plain_groups_run(world: &World<'_>)
     ensures kept { KeptGroupsRun world.now }
     ensures loads { LoadGroupsRun world.now }
 {

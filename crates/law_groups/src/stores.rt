@@ -8,7 +8,7 @@ use law_rewritten_typing::edges_carry;
 use xf_homes::{homes_serve, needed_are_kept};
 
 /// A store of a local in laid code comes to what it does in the source.
-pub fn stores_in_groups(world: &World<'_>)
+pub(crate) fn stores_in_groups(world: &World<'_>)
     ensures stores { StoreBodiesRun world.now }
 {
     operations_are_sound(world);
