@@ -51,11 +51,12 @@ abbrev pub faults_from : Condition → ℕ → List ListedMethod → List AsmFau
 faults_from c n [] = []
 faults_from c n (m ∷ ms) = own_faults c n m ++ faults_from c (n + 1) ms
 
--- the handlers of all methods; their number stands still at the greatest of 64 bits
+-- the handlers of all methods
 abbrev pub handler_total : List ListedMethod → ℕ
 handler_total [] = 0
 handler_total (m ∷ ms) = length m.laid.handlers + handler_total ms
 
+-- more than a package can have; the number that is told is at most the greatest of 64 bits
 abbrev pub total_faults : List ListedMethod → List AsmFault
 total_faults ms = if nat_lt 255 (handler_total ms) then TooManyHandlers (min (handler_total ms) 18446744073709551615) ∷ [] else []
 

@@ -11,7 +11,7 @@ use Rattle.hex.specs.Hex.{encode_with}
 use Rattle.cap_listing.specs.declared.method.ListedMethod.{ListedMethod}
 use Rattle.cap_listing.specs.Text.{text_of}
 
--- a method of two arguments that picks one of two constants and adds it to nothing
+-- a method of two arguments that picks one of two constants and adds it to the first argument
 abbrev pick : ListedMethod
 pick = record {
   class_no = 0;

@@ -10,7 +10,7 @@ use crate::method::Listed;
 use jc_decode::Sequence;
 use std::alloc::Global;
 
-/// The methods whose listing a text is, of at most 65,538 bytes. It takes time in proportion to the text.
+/// The methods whose listing a text is, of at most 65,538 bytes.
 pub fn assemble(alloc: Global, text: &[u8]) -> Result<Listed, AsmEnd>
     requires { length text.now ≤ 65538 }
     ensures answered { Assembles text.now result }

@@ -3,7 +3,8 @@ use std::alloc::AllocError;
 /// Why a text is no listing, or its methods do not fit a package.
 #[derive(Clone, Copy)]
 pub enum AsmFault {
-    /// The first line, counted from 1, with which the text begins no listing.
+    /// The first line, counted from 1, with which the text begins no listing; the last line, where it has no line feed; or the
+    /// one after the last, where `end` is missing.
     NotListing(usize),
     /// The first method, counted from 0, that is not the package's method with code of that number: another class
     /// number, method number or number of argument words, or one of the two is missing.

@@ -7,7 +7,7 @@ use crate::text::listed_text;
 use cap_package::Package;
 use std::alloc::{AllocError, Global};
 
-/// The listing of a package's methods that have code, in ASCII. It takes time in proportion to the parts.
+/// The listing of a package's methods that have code, in ASCII.
 #[tactic(auto, using(crate::proofs::Ascii::listing_ascii))]
 pub fn listing(alloc: Global, package: &Package<'_, '_>) -> Result<Vec<u8>, AllocError>
     ensures lists { IfOk result (λ text. Lists (methods_of «package».now) text.items) }

@@ -9,7 +9,7 @@ use cap_bytes::View;
 use jc_decode::{Instructions, LaidHandler, code_end};
 use std::alloc::{AllocError, Global};
 
-/// The text of methods, each of a code of at most 65,535 bytes. It takes time in proportion to their code.
+/// The text of methods, each of a code of at most 65,535 bytes.
 #[tactic(auto, using(crate::proofs::Ends::texts_are, crate::proofs::Appending::steps))]
 pub fn listed_text(alloc: Global, methods: &Listed) -> Result<Vec<u8>, AllocError>
     requires { All IsShort methods.now }

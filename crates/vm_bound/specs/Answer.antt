@@ -43,7 +43,8 @@ abbrev pub IsBound : Linked → ℕ → Bound → Type 0
 IsBound w entry (Words words frames) = AreMost w entry words frames
 IsBound w entry (Cycle m) = IsLeastTwice w entry m
 
--- in every state of every run of the entry the live frames keep to it; and where they are no more than there may be, no run is too deep
+-- in every state of every run of the entry the live frames keep to it; and where the frames of the bound are no more than there may be, no
+-- run is too deep
 pub record RunsKeepTo (w : Linked) (entry words frames : ℕ) : Type 0 where
   pub within : RunsStayWithin w entry words frames
   pub no_deeper : frames ≤ frame_limit → NoneIsTooDeep w entry

@@ -22,7 +22,7 @@ pub(crate) struct Allotment {
 }
 
 /// What the variables of a method are given, by the types of its registers; none where some register that is no argument is
-/// of no value's type, or half an int.
+/// of no value's type, or is one half of an int without the other.
 pub(crate) fn allot(
     alloc: Global,
     subject: &Subject<'_>,

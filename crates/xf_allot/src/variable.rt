@@ -23,8 +23,8 @@ pub(crate) struct Allotted {
     pub(crate) at: u8,
 }
 
-/// The variable whose registers begin at one of a method, by the types of its registers; none where that type is of no value
-/// or half an int.
+/// The variable whose registers begin at one of a method, by the types of its registers; none where that type is of no value,
+/// or is one half of an int without the other.
 pub(crate) fn variable_at(types: &[Ty], register: u8) -> Option<Variable>
     requires { register < length types.now }
     ensures some { IfSome result (IsFirstOf register (drop register types.now)) }

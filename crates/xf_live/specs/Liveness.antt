@@ -34,13 +34,14 @@ pub record IsDone (old new : Liveness) : Type 0 where
   pub sets : new.sets.items ≡ old.sets.items
   pub pending : old.pending.items ≡ []
 
--- how many cells and how much of them is left: each rise takes at least one from twice the weight, and adds a pending node
+-- the most that sets of these nodes can weigh together
 abbrev pub room : List RegisterSet → ℕ
 room sets = length sets * 2 ^ 66
 
 abbrev pub AreSmall : List RegisterSet → Type 0
 AreSmall sets = (n : ℕ) → IsSmall (set_at sets n)
 
+-- what is left to do: each rise takes at least one from what sets may still weigh, counted twice, and adds a pending node
 abbrev pub work : Liveness → ℕ
 work s = 2 * (room s.sets.items - sum_by weight s.sets.items) + length s.pending.items
 
