@@ -1,4 +1,4 @@
-use crate::sharing::{Outcome, ends_with, is_last, second, shared};
+use crate::sharing::{Outcome, ends_with, is_last, second, shared, with_field};
 use cap_bytes::Part;
 use cap_tests::{DESCRIPTOR, HANDLED, METHOD};
 use std::alloc::{AllocError, Global};
@@ -57,6 +57,47 @@ fn is_kept(alloc: Global) -> Result<bool, AllocError> {
     ))
 }
 
+/// Codes of the second method where it has no argument and two locals, and its header and its code after. Each begins with
+/// `aconst_null`, `astore_0`; `getfield_s_this` and `putfield_s_this` read that local, which has the first register in any case.
+static FIELDS: [(&[u8], &[u8]); 4] = [
+    // `getfield_s_this` behind the store of the other local
+    (
+        b"\x01\x2B\x01\x2C\x19\x3B\xAF\x00\x78",
+        b"\x01\x02\x01\x2B\x01\x2C\x19\x3B\xAF\x00\x78",
+    ),
+    // and before it
+    (
+        b"\x01\x2B\xAF\x00\x3B\x01\x2C\x19\x3B\x03\x78",
+        b"\x01\x01\x01\x2B\xAF\x00\x3B\x01\x2B\x18\x3B\x03\x78",
+    ),
+    // `putfield_s_this` behind that store
+    (
+        b"\x01\x2B\x01\x2C\x19\x3B\x03\xB7\x00\x03\x78",
+        b"\x01\x02\x01\x2B\x01\x2C\x19\x3B\x03\xB7\x00\x03\x78",
+    ),
+    // and before it
+    (
+        b"\x01\x2B\x03\xB7\x00\x01\x2C\x19\x3B\x03\x78",
+        b"\x01\x01\x01\x2B\x03\xB7\x00\x01\x2B\x18\x3B\x03\x78",
+    ),
+];
+
+/// Whether the code becomes that header and that code.
+fn has_field(alloc: Global, code: &[u8], made: &[u8]) -> Result<bool, AllocError> {
+    let outcome = shared(alloc, &with_field(code))?;
+    Ok(ends_with(&outcome, METHOD, 10, made))
+}
+
+/// Whether each code does so.
+fn have_field(alloc: Global) -> Result<bool, AllocError> {
+    for (code, made) in FIELDS.iter() {
+        if !has_field(alloc, code, made)? {
+            return Ok(false);
+        }
+    }
+    Ok(true)
+}
+
 /// The method with a handler keeps it.
 fn has_handler(alloc: Global) -> Result<bool, AllocError> {
     let outcome = shared(alloc, &HANDLED)?;
@@ -86,6 +127,9 @@ fn wrong(alloc: Global) -> Result<&'static str, AllocError> {
     }
     if !is_kept(alloc)? {
         return Ok("kept");
+    }
+    if !have_field(alloc)? {
+        return Ok("a field of this");
     }
     if !has_handler(alloc)? {
         return Ok("a handler");

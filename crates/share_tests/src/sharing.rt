@@ -1,7 +1,7 @@
 //! Packages whose registers are shared, and what came of it.
 use cap_bytes::Part;
 use cap_package::{OwnedParts, Packages, package};
-use cap_tests::{Change, DESCRIPTOR, METHOD, PLAIN, PLAIN_ROLES, changed};
+use cap_tests::{CLASS, CONSTANT_POOL, Change, DESCRIPTOR, METHOD, PLAIN, PLAIN_ROLES, changed};
 use std::alloc::{AllocError, Global};
 use xf_share::{ShareEnd, share};
 
@@ -45,6 +45,29 @@ pub(crate) fn second<'a>(header: &'a [u8], code: &'a [u8]) -> [Change<'a>; 4] {
         Change::Splice(METHOD, 10, 12, header),
         Change::Byte(DESCRIPTOR, 38, high),
         Change::Byte(DESCRIPTOR, 39, low),
+    ]
+}
+
+/// What gives throwable a field, a short, which the one constant names, and the second method other code, no argument, a short
+/// as its result, two locals and one cell of the operand stack.
+pub(crate) fn with_field<'a>(code: &'a [u8]) -> [Change<'a>; 10] {
+    let size = u8::try_from(code.len()).unwrap_or(0);
+    [
+        Change::Splice(CONSTANT_POOL, 3, 5, b"\x00\x01\x02\x00\x0C\x00"),
+        Change::Byte(CLASS, 18, 1),
+        Change::Splice(METHOD, 12, 22, code),
+        Change::Splice(METHOD, 10, 12, b"\x01\x02"),
+        Change::Splice(DESCRIPTOR, 111, 114, b"\x01\x40"),
+        Change::Splice(DESCRIPTOR, 107, 109, b"\x00\x01\x80\x04"),
+        Change::Splice(
+            DESCRIPTOR,
+            49,
+            53,
+            b"\x00\x01\x00\x00\x00\x01\x00\x0C\x00\x80\x04",
+        ),
+        Change::Byte(DESCRIPTOR, 39, size),
+        Change::Byte(DESCRIPTOR, 37, 6),
+        Change::Byte(DESCRIPTOR, 25, 4),
     ]
 }
 
