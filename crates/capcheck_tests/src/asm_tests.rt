@@ -32,7 +32,7 @@ const HEAD: &[u8] = b"method 0.0 stack 2 args 1 locals 0\n";
 type Broken = (&'static [u8], u32);
 
 /// Texts that are no listings.
-static TEXTS: [Broken; 28] = [
+static TEXTS: [Broken; 29] = [
     (b"\n", 1),
     (b" ", 1),
     (b"\xFF\n", 1),
@@ -61,6 +61,13 @@ static TEXTS: [Broken; 28] = [
     (b"method 0.0 args 1 stack 2 locals 0\nend\n", 1),
     (b"method 0.0 stack 2 args 1\nend\n", 1),
     (b"method 0.0 stack 2 args 1 locals 0 0\nend\n", 1),
+    // package T's, with a constant in its second method that no instruction pushes
+    (
+        b"method 0.0 stack 2 args 1 locals 0\n0 sload_0\n1 sconst_1\n2 sadd\n3 sreturn\nend\n\
+          method 0.1 stack 2 args 2 locals 0\n0 sload_0\n1 sload_1\n2 ifeq 7\n4 sconst_9\n5 goto 8\n\
+          7 sconst_2\n8 sadd\n9 sreturn\nend\n",
+        11,
+    ),
 ];
 
 /// The same after the first line of a method.

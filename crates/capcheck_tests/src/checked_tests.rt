@@ -7,7 +7,7 @@ use cap_tests::{
 use std::alloc::AllocError;
 
 /// A package of one class, whose static method hands its short to the static method that package T exports.
-const CALLER: [File<'static>; 9] = [
+pub(crate) const CALLER: [File<'static>; 9] = [
     (
         HEADER,
         b"\x01\x00\x10\xDE\xCA\xFF\xED\x02\x02\x00\x00\x01\x05\xF0\x01\x02\x03\x05\x00",
@@ -37,7 +37,7 @@ const CALLER: [File<'static>; 9] = [
 ];
 
 /// What makes package T export its first class with its first method.
-const EXPORTED: Change<'static> = Change::Sized(
+pub(crate) const EXPORTED: Change<'static> = Change::Sized(
     EXPORT,
     b"\x0A\x00\x07\x01\x00\x02\x00\x01\x00\x01",
 );

@@ -1,6 +1,6 @@
 use crate::counter_packages::{COUNTER, RUNTIME};
 use crate::list_tests::LISTING;
-use crate::small_packages::{BELOW, CALLING, OVERRIDING};
+use crate::small_packages::{BELOW, CALLING, DISPATCHING, EXTENDING, OVERRIDING};
 use cap_bytes::Part;
 use cap_files::{MemFolder, SureFolder};
 use cap_package::OwnedParts;
@@ -19,7 +19,7 @@ pub(crate) const LISTED: Part = Part(14);
 /// The roles of the overriding package.
 const OVERRIDING_ROLES: [u8; 8] = [0, 1, 1, 1, 1, 1, 1, 1];
 
-/// The roles of the package of calls.
+/// The roles of both packages of calls.
 const CALLING_ROLES: [u8; 8] = [1, 2, 2, 2, 2, 2, 2, 2];
 
 /// The second method of package T: its type descriptor, its header and its code.
@@ -53,6 +53,8 @@ pub(crate) enum Held {
     Both(&'static [File<'static>], &'static [Change<'static>], &'static [File<'static>]),
     /// The package of calls in `I`, with its roles.
     Calls,
+    /// The package of calls whose methods are overridden in `T`, with its roles, and the one with a class below in `W`.
+    Overridden,
     /// This Method component in `P`.
     Method(&'static [u8]),
 }
@@ -199,6 +201,12 @@ fn put_both(
     Ok(fits & below)
 }
 
+fn put_overridden(alloc: Global, folder: &mut SureFolder) -> Result<bool, AllocError> {
+    let fits = put_with_roles(alloc, folder, "T", &DISPATCHING, &[], &CALLING_ROLES)?;
+    let below = put_package(alloc, folder, "W", &EXTENDING, &[])?;
+    Ok(fits & below)
+}
+
 /// Fills folders, and tells whether there was room for all.
 pub(crate) fn fill(
     alloc: Global,
@@ -216,6 +224,7 @@ pub(crate) fn fill(
         Held::Crowded(second) => put_crowded(alloc, folder, *second),
         Held::Both(library, changes, user) => put_both(alloc, folder, library, changes, user),
         Held::Calls => put_with_roles(alloc, folder, "I", &CALLING, &[], &CALLING_ROLES),
+        Held::Overridden => put_overridden(alloc, folder),
         Held::Method(file) => Ok(folder.set("P", METHOD, file)),
     }
 }

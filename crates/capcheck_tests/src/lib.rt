@@ -1,6 +1,6 @@
 //! Worked commands: what `capcheck_core` prints for each command over folders in memory, what `run` and `trial` leave in the
 //! memory of the card, and where a device fails. The commands are `probe`, `show`, `list`, `check`, `verify`, `install`, `defend`,
-//! `run`, `bound`, `transform`, `trial`, `gen`, `asm` and `pack`. The folders have package T of `cap_tests`, two more small
+//! `run`, `bound`, `transform`, `share`, `trial`, `gen`, `asm` and `pack`. The folders have package T of `cap_tests`, other small
 //! packages and the counter of the examples. With them stand worked cases of folders, sinks and words (`cap_files`) and of bare
 //! methods (`cap_bare`).
 #![tactic(auto)]
