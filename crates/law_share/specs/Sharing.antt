@@ -64,7 +64,8 @@ pub record IsSharing (w : Linked) (m : Method) (given : List Allotted) (locals :
   pub allotted : AreAllotted w m [] variables given
   pub size : m.rec.nargs + locals ≡ end_of m.rec.nargs given
 
--- a method that keeps its registers: by the least card typing some that is no argument is of no type of a value, or a half of an int without the other one beside it
+-- a method that keeps its registers: by the least card typing some that is no argument is of no type of a value, or a half of an int
+-- without the other one beside it
 pub record KeepsRegisters (w : Linked) (m : Method) : Type 0 where
   pub regs : List Ty
   pub typed : IsLeastCardTyping w m regs
