@@ -1,13 +1,13 @@
-"""Reads definitions of specs/ and computes with them: those that are written by equations, over lists, numbers and constructors.
+"""Reads definitions of specs/ and computes with them: those that are written by equations, over lists, numbers, texts and constructors.
 
-A value is a number, a list, a Term (a constructor or an unknown word with its arguments), a record as a dict, or a function.
-What is unknown stays: an equation that has to look into an unknown gives the word itself with its arguments.
+A value is a number, a list, a text (its codes too), a Term (a constructor or an unknown word with its arguments), a record as a
+dict, or a function. What is unknown stays: an equation that has to look into an unknown gives the word itself with its arguments.
 """
 import re
 from collections import namedtuple
 
 Term = namedtuple("Term", "name args")
-TOKEN = re.compile(r"\s*(?:(\d+)|(\[\])|([A-Za-z_]\w*(?:\.[A-Za-z_]\w*)*)|(∷|\+\+|==|&&|\|\||[-+/%λ.=(){};,→≡×]))")
+TOKEN = re.compile(r"\s*(?:(\d+)|(\[\])|(\"[^\"]*\")|([A-Za-z_]\w*(?:\.[A-Za-z_]\w*)*)|(∷|\+\+|==|&&|\|\||[-+/%λ.=(){};,→≡×]))")
 LEVELS = [("∷", "++"), ("||",), ("&&",), ("==",), ("+", "-"), ("/", "%")]     # the loosest first; the first two lean right
 RESERVED = {"if", "then", "else", "record"}
 
@@ -68,7 +68,7 @@ class Parser:
 
     def application(self):
         head, arguments = self.atom(), []
-        while self.next() is not None and (self.next() in ("(", "[]") or self.next() == "record" or self.is_word()):
+        while self.next() is not None and (self.next()[0] in '(["' or self.next() == "record" or self.is_word()):
             arguments.append(self.atom())
         return ("apply", head, arguments) if arguments else head
 
@@ -88,6 +88,8 @@ class Parser:
             return ("list",)
         if word == "record":
             return self.record()
+        if word.startswith('"'):
+            return "text", word[1:-1]
         return ("number", int(word)) if word.isdigit() else ("word", word)
 
     def record(self):
@@ -133,7 +135,7 @@ class Definitions:
 
     def value(self, expression, names):
         kind = expression[0]
-        if kind == "number":
+        if kind in ("number", "text"):
             return expression[1]
         if kind == "list":
             return []
@@ -242,6 +244,7 @@ def find(definitions, test, items):
 
 
 BUILT_IN = {
+    "codes": (1, lambda _, text: text),
     "find": (2, find),
     "map": (2, lambda definitions, f, items: [definitions.apply(f, [one]) for one in items]),
     "replicate": (2, lambda _, count, one: [one] * count),

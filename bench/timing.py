@@ -28,13 +28,13 @@ def stored(capcheck, command, after):
 
 def answered(capcheck, command, after):
     """The time of a command on the words after its name, with what it says."""
-    return stored(capcheck, command, after) if command in ("transform", "share") else timed([capcheck, command, *after])
+    return stored(capcheck, command, after) if command in ("transform", "share", "asm") else timed([capcheck, command, *after])
 
 
 def run(usage, commands, shapes, make):
     """Runs a maker on its own words, FOLDER [CAPCHECK [PERCENT]]. `make(shape, share, folder)` makes a shape of
     this share of its full size in the folder, and gives the words that stand after a command's name. Each of the
-    commands, words of one text, is timed on it; `transform` and `share` store in a folder of their own, and the growth is told."""
+    commands, words of one text, is timed on it; `transform`, `share` and `asm` store in a folder of their own, and the growth is told."""
     words = sys.argv[1:]
     if not 1 <= len(words) <= 3:
         sys.exit(usage)
