@@ -68,12 +68,16 @@ fn accepted_entry(alloc: Global, accepted: &Accepted<'_>, at: &AtEntry<'_>) -> V
 }
 
 // Why no run of the entry begins, where all methods are accepted.
-fn not_begun(alloc: Global, accepted: &Accepted<'_>, at: &AtEntry<'_>, fault: StartFault) -> Verdict
-    requires accepted { AreAccepted accepted.now }
-    requires first { bound_fault accepted.now (entry_request at.now) ≡ Some fault }
-    ensures { AnswersBound accepted.now (entry_request at.now) result }
+fn not_begun(
+    alloc: Global,
+    _accepted: &Accepted<'_>,
+    _at: &AtEntry<'_>,
+    fault: StartFault,
+) -> Verdict
+    requires accepted { AreAccepted _accepted.now }
+    requires first { bound_fault _accepted.now (entry_request _at.now) ≡ Some fault }
+    ensures { AnswersBound _accepted.now (entry_request _at.now) result }
 {
-    let _ = (accepted.world(), at.entry);
     Verdict::malformed(not_started(alloc, fault))
 }
 

@@ -10,8 +10,8 @@ use Rattle.capcheck_core.proofs.bounding.not_begun.Goals as goal
 
 pub returns : goal.returns
 returns c =
-    let w = c.args.accepted.now in
-    let e = entry_request c.args.at.now in
+    let w = c.args._accepted.now in
+    let e = entry_request c.args._at.now in
     said string_bytes Malformed (AnswersBound w e) c.not_started.result (not_started_line c.args.fault) c.malformed.result (tt {0})
     (λ text prints.
     record { carded = all_carded w c.requires.accepted; fault = c.args.fault; first = c.requires.first; prints = prints })
