@@ -7,3 +7,4 @@ pub mod Targets
 pub mod Subjects
 pub mod Sources
 pub mod Numbers
+pub mod Reaching

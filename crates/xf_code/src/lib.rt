@@ -13,6 +13,7 @@ mod group;
 mod handlers;
 mod jump;
 mod moves;
+mod next_reached;
 mod rewriting;
 mod ways;
 

@@ -9,6 +9,7 @@ ghost use Rattle.jc_decode.specs.Decoding.{AreBytes};
 ghost use Rattle.jc_decode.specs.Symbols.{IsItem, IsRange, plain_size};
 ghost use Rattle.xf_emission.specs.Emission.{IsPlainSize, AreSymbolsOf, items, ranges, rewritten};
 ghost use Rattle.xf_code.specs.Known.{IsSubject};
+ghost use Rattle.xf_code.specs.NextReached.{AreNextReached};
 ghost use Rattle.xf_emission.specs.Live.{KeepsLive};
 ghost use Rattle.xf_emission.specs.Numbers.{HasNumbers};
 ghost use Rattle.law_rewritten_typing.specs.Typed.{HasTypingByHomes};
@@ -18,6 +19,7 @@ use crate::edge::{EdgeScratch, copies};
 use crate::group::groups;
 use crate::handlers::{handler_stubs, ranges};
 use crate::moves::put;
+use crate::next_reached::next_reached;
 use cap_bytes::View;
 use indexmap::IndexSet;
 use jc_base::World;
@@ -50,8 +52,9 @@ impl From<AllocError> for RewriteEnd {
 
 /// The items of a method.
 #[tactic(auto, unfolding(xf_emission::specs::Emission::items))]
-fn items(alloc: Global, plan: &Plan<'_>) -> Result<Vec<Item>, AllocError>
+fn items(alloc: Global, plan: &Plan<'_>, next: &[u16]) -> Result<Vec<Item>, AllocError>
     requires subject { IsSubject plan.now }
+    requires next { AreNextReached (source plan.now) next.now }
     requires few { length plan.now.walk.rec.now.handlers ≤ 255 }
     ensures { IfOk result (λ is. is.items ≡ items (source plan.now)) }
 {
@@ -65,7 +68,7 @@ fn items(alloc: Global, plan: &Plan<'_>) -> Result<Vec<Item>, AllocError>
     groups(alloc, plan, &mut scratch, &mut items, &mut stubs)?;
     put(&mut items, Item::Label(plan.walk.code.bytes.len() as u16))?;
     items.append(&mut stubs)?;
-    handler_stubs(alloc, plan, &mut scratch, &mut items)?;
+    handler_stubs(alloc, plan, next, &mut scratch, &mut items)?;
     Ok(items)
 }
 
@@ -78,8 +81,9 @@ fn rewritten(alloc: Global, plan: &Plan<'_>) -> Result<Symbols, AllocError>
     ensures { IfOk result (λ symbols. symbols ≡ rewritten (source plan.now)) }
 {
     let rec = plan.walk.rec;
-    let items = items(alloc, plan)?;
-    let ranges = ranges(alloc, plan)?;
+    let next = next_reached(alloc, plan)?;
+    let items = items(alloc, plan, next.as_slice())?;
+    let ranges = ranges(alloc, plan, next.as_slice())?;
     Ok(Symbols {
         items: Sequence::of(items),
         ranges: Sequence::of(ranges),
