@@ -100,7 +100,7 @@ pub record Ran (r : RunRequest) (before : Folders) (card : CardWords) (text : Li
   pub fault_free : IsFaultFree world
   pub left : IsLeft world r card text
 
--- `bound`: every method with code has a card typing, no run meets a fault, and the text tells how much of the stack every run of the entry
+-- `bound`: every method with code has a card typing, and no run meets a fault. The text tells how much of the stack every run of the entry
 -- takes at most, or the least method that stands twice in a chain of calls from it
 pub record Bounded (e : EntryRequest) (before : Folders) (text : List ℕ) : Type 0 where
   pub world : Linked
