@@ -5,6 +5,7 @@ and export files are those of chapter 5. A Malformed says what is wrong with whi
 """
 import os
 import re
+import sys
 import zipfile
 from dataclasses import dataclass, field
 
@@ -63,6 +64,23 @@ class Reader:
 
     def is_done(self):
         return self.at == len(self.data)
+
+
+def help_if_asked(words, text):
+    """Prints a tool's text and ends with status 0, where the words ask for it."""
+    if words[:1] in (["--help"], ["-help"], ["-h"]):
+        print(text.strip())
+        sys.exit(0)
+
+
+def misused(tool, cause, status=1):
+    """Ends a tool whose words are wrong."""
+    print("tools/%s: %s; see tools/%s --help" % (tool, cause, tool), file=sys.stderr)
+    sys.exit(status)
+
+
+def unknown_option(words):
+    return next((word for word in words if word.startswith("-")), None)
 
 
 def read_file(path):
