@@ -32,6 +32,20 @@ def tables(text):
                 yield prefix[1] + " " if prefix else "", 0 if heading == "How a run ends" else status, line.split(" | ")
 
 
+def meant_of(line):
+    """What the document says of the most frequent cause of a line, and what there is to do; None where it names none."""
+    with open(DOCUMENT, encoding="utf-8") as file:
+        section = re.search(r"^## You see, you probably meant, do\n(.*?)^## ", file.read(), re.M | re.S)[1]
+    for told in re.findall(r"^\| (`.*) \|$", section, re.M):
+        cells = told.split(" | ")
+        templates = re.findall(r"`([^`]*)`", cells[0])
+        # the templates after the first one have its beginning
+        wholes = templates[:1] + [templates[0].rpartition(" ")[0] + " " + one if one[:1].isupper() else one for one in templates[1:]]
+        if any(re.fullmatch(".*".join(map(pattern, whole.split(".."))), line) for whole in wholes if " " in whole.replace(" ..", "")):
+            return cells[1], cells[2]
+    return None
+
+
 def rows():
     """All lines of the document, in its order."""
     with open(DOCUMENT, encoding="utf-8") as file:
