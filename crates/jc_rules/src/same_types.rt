@@ -1,4 +1,4 @@
-ghost use Rattle.std.specs.Prelude.{◌≡◌, IsTrue};
+ghost use Rattle.std.specs.Prelude.{◌≡◌, ◌↔◌, IsTrue};
 ghost use Rattle.jc_rules.specs.Variant.{variant_of, has_names};
 
 use jc_base::{Ty, same_type};
@@ -33,7 +33,7 @@ fn has_names(ty: &Ty) -> bool
 
 /// Whether two types are the same. Their variants are compared first, since most types have nothing else.
 fn is_same(a: &Ty, b: &Ty) -> bool
-    ensures { IsTrue result → a.now ≡ b.now }
+    ensures { IsTrue result ↔ (a.now ≡ b.now) }
 {
     if variant_of(a) != variant_of(b) {
         return false;
@@ -46,7 +46,7 @@ fn is_same(a: &Ty, b: &Ty) -> bool
 
 /// Whether two lists of types are the same.
 pub(crate) fn same_types(a: &[Ty], b: &[Ty]) -> bool
-    ensures { IsTrue result → a.now ≡ b.now }
+    ensures { IsTrue result ↔ (a.now ≡ b.now) }
 {
     if a.len() != b.len() {
         return false;

@@ -1,4 +1,4 @@
-ghost use Rattle.std.specs.Prelude.{◌≡◌, ◌+◌, ◌<◌, ◌≤◌, ◌⊎◌, ◌++◌, ℕ, ⊤, List, Some, None, length, take, drop, reverse, replicate, All, IfOk, OnOk, OnErr, IsSomeAnd, is_some, option_map, slice_get, slice_set, IsTrue, IfSome};
+ghost use Rattle.std.specs.Prelude.{◌≡◌, ◌↔◌, ◌+◌, ◌<◌, ◌≤◌, ◌⊎◌, ◌++◌, ℕ, ⊤, List, Some, None, length, take, drop, reverse, replicate, All, IfOk, OnOk, OnErr, IsSomeAnd, is_some, option_map, slice_get, slice_set, IsTrue, IfSome};
 ghost use Rattle.jc_base.specs.Order.{IsKnown};
 ghost use Rattle.jc_rules.specs.Flow.{At};
 ghost use Rattle.jc_rules.specs.Held.{AreSpans, TellRegisters, AreOfOneGroup, IsGroupAt, lent, span_end, frame_of_span, span_at};
@@ -115,7 +115,7 @@ impl Typing {
 
     /// Whether control reaches two places, and each register has one type at both.
     pub fn has_same_registers(&self, place: u16, other: u16) -> bool
-        ensures { IsTrue result → HaveSameRegisters (state_at self.now place) (state_at self.now other) }
+        ensures { IsTrue result ↔ HaveSameRegisters (state_at self.now place) (state_at self.now other) }
     {
         let Some(span) = span_of(&self.spans, place) else {
             return false;
@@ -196,7 +196,7 @@ fn same_registers(cells: &[Ty], span: Span, other: Span) -> bool
     requires few { span.depth ≤ 255 }
     requires other_within { span_end other ≤ length cells.now }
     requires other_few { other.depth ≤ 255 }
-    ensures { IsTrue result → (frame_of_span cells.now span).regs ≡ (frame_of_span cells.now other).regs }
+    ensures { IsTrue result ↔ ((frame_of_span cells.now span).regs ≡ (frame_of_span cells.now other).regs) }
 {
     same_types(lend(cells, span).regs, lend(cells, other).regs)
 }

@@ -1,9 +1,10 @@
 -- A local whose value is the same at both ends of an edge, on which no handler asks anything anew, is copied nowhere.
 use Rattle.std.proofs.Common.{◌≡◌, ℕ, zero, suc, ◌&&◌, Bool, true, false, if◌then◌else◌, not, inl, inr, List, [], ◌∷◌, ◌++◌}
 use Rattle.std.proofs.Common.{flat_map, All, slice_get, Option, Some, None, refl, sym, ◌∙◌, ap, ap₂}
-use Rattle.std.specs.Prelude.{⊤, MatchBool}
+use Rattle.std.specs.Prelude.{⊤, ◌↔◌, MatchBool}
 use Rattle.jc_control.specs.Control.{Covers}
 use Rattle.jc_rules.specs.Flow.{At}
+use Rattle.jc_rules.specs.Typing.{HaveSameRegisters}
 use Rattle.xf_homes.specs.Value.{value_in_cells}
 use Rattle.jc_base.specs.declared.ty.Ty.{Ty}
 use Rattle.jc_base.specs.declared.record.Handler.{Handler}
@@ -14,10 +15,11 @@ use Rattle.std.proofs.lemmas.List.Elements.{All-contains}
 use Rattle.jc_decode.proofs.Elements.{Contains-slice_get}
 use Rattle.jc_ops.specs.declared.operation.Operation.{Operation}
 use Rattle.xf_homes.specs.declared.home.Home.{Home}
-use Rattle.xf_homes.specs.Asked.{is_new, AreSameLocals}
+use Rattle.xf_homes.specs.Asked.{is_new}
 use Rattle.xf_homes.specs.Home.{register_count, IsAsked, asked_here, asked_caught}
 use Rattle.xf_homes.specs.Laws.{AreNeeded}
 use Rattle.xf_homes.specs.Walk.{has, is_covered, local_of}
+use Rattle.xf_homes.proofs.Asking.{same_locals}
 use Rattle.xf_homes.proofs.Events.{among-has}
 use Rattle.xf_homes.proofs.Meeting.{covered, covers, local-at, at-local}
 use Rattle.xf_homes.proofs.Needed.{needed-are-kept}
@@ -34,9 +36,10 @@ use Rattle.xf_code.specs.Quiet.{AsksNothing, IsQuiet}
 pub asks_as_before : (s : Source) (q p : ℕ) (h : Handler) → is_new h q (Some p) ≡ false → AsksNothing s q p h
 asks_as_before s q p h e = inl e
 
-pub asks_by_registers : (s : Source) (q p : ℕ) (h : Handler) (same : Bool) → (same ≡ true → AreSameLocals (s.frames h.entry) (s.frames q))
+pub asks_by_registers : (s : Source) (q p : ℕ) (h : Handler) (same : Bool)
+    → (same ≡ true) ↔ HaveSameRegisters (s.frames h.entry) (s.frames q)
     → MatchBool (not same) ⊤ (AsksNothing s q p h)
-asks_by_registers s q p h true alike = inr (alike refl)
+asks_by_registers s q p h true alike = inr (same_locals (s.frames h.entry) (s.frames q) (alike.0 refl))
 asks_by_registers s q p h false alike = tt
 
 flat-nothing : {X Y : Type 0} (f : X → List Y) (xs : List X) → ((x : X) → IsAmong x xs → f x ≡ []) → flat_map f xs ≡ []

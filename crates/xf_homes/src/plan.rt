@@ -1,7 +1,7 @@
 ghost use Rattle.std.specs.Prelude.{◌≡◌, ◌≤◌, ◌+◌, ◌++◌, [], length, IfOk, OnOk, OnErr};
 ghost use Rattle.jc_control.specs.Method.{IsMethodOf};
 ghost use Rattle.xf_homes.specs.Subject.{walked};
-ghost use Rattle.xf_homes.specs.Plan.{register, home_of, with_home_of, local, needed, cells_from, stack_homes, depth, is_leader, first_reached, operation};
+ghost use Rattle.xf_homes.specs.Plan.{register, home_of, with_home_of, local, needed, cells_from, stack_homes, depth, is_leader, operation};
 ghost use Rattle.xf_homes.specs.PlannedMethod.{source};
 
 use crate::{Home, HomeWalk, Homes, value_at};
@@ -107,23 +107,6 @@ impl Plan<'_> {
         ensures { result ≡ is_leader (source self.now) place }
     {
         self.walk.control.is_leader(place)
-    }
-
-    /// The first place from a place on that control reaches, or the end of the code.
-    #[tactic(auto, unfolding(crate::specs::Plan::first_reached))]
-    pub fn first_reached(&self, place: u16) -> u16
-        requires short { length self.now.walk.code.bytes.now ≤ 65535 }
-        ensures { result ≡ first_reached (source self.now) place }
-    {
-        let end = self.walk.code.bytes.len() as u16;
-        let mut at = place;
-        'places: while at < end {
-            if self.walk.typing.reached(at) {
-                return at;
-            }
-            at += 1;
-        }
-        at
     }
 
     /// The operation of the instruction at a place.

@@ -1,10 +1,11 @@
-ghost use Rattle.std.specs.Prelude.{◌≡◌, ◌+◌, ◌≤◌, ⊤, true, [], length, reverse, IsTrue, MatchBool, OnOk, OnErr, IfOk, Ok, slice_get, Some};
+ghost use Rattle.std.specs.Prelude.{◌≡◌, ◌↔◌, ◌+◌, ◌≤◌, ⊤, true, [], length, reverse, IsTrue, MatchBool, OnOk, OnErr, IfOk, Ok, slice_get, Some};
 ghost use Rattle.jc_base.specs.World.{Linked};
 ghost use Rattle.jc_control.specs.Method.{IsMethodOf};
 ghost use Rattle.jc_rules.specs.Footprint.{footprint};
+ghost use Rattle.jc_rules.specs.Typing.{HaveSameRegisters};
 ghost use Rattle.xf_homes.specs.Home.{register_count};
 ghost use Rattle.xf_homes.specs.Walk.{local_of, is_covered, caught_events, caught_of, local_events, locals_events, cells_events, operands_of, operands_at, keeps_stack, stack_events, place_events, code_events, has, with_home, with_home_of_value, with_events};
-ghost use Rattle.xf_homes.specs.Asked.{HandlersAreAsked, LocalsAreKnown, AreLastKnown, NoneIsNew, AreSameLocals, AreStill, is_new, knows, last_after, last_local};
+ghost use Rattle.xf_homes.specs.Asked.{HandlersAreAsked, LocalsAreKnown, AreLastKnown, NoneIsNew, AreStill, is_new, knows, last_after, last_local};
 ghost use Rattle.xf_homes.specs.Subject.{walked, frames_of};
 
 use crate::home::Home;
@@ -350,15 +351,15 @@ impl HomeWalk<'_> {
         }
     }
 
-    /// Whether the registers at a place have the types that they have at another, where control reaches both.
-    #[tactic(auto, using(crate::proofs::Asking::same_locals))]
+    /// Whether control reaches two places, and each register has one type at both.
     pub fn has_same_registers(&self, place: u16, other: u16) -> bool
-        ensures { IsTrue result → AreSameLocals (frames_of self.now place) (frames_of self.now other) }
+        ensures { IsTrue result ↔ HaveSameRegisters (frames_of self.now place) (frames_of self.now other) }
     {
         self.typing.has_same_registers(place, other)
     }
 
     /// Whether no local's value differs from that at the last place.
+    #[tactic(auto, using(crate::proofs::Asking::same_locals))]
     fn is_still(&self, place: u16, last: Option<u16>) -> bool
         ensures { IsTrue result → AreStill (frames_of self.now) place last }
     {

@@ -37,5 +37,5 @@ returns-then-same_registers c =
       span-read c.args.spans.now c.args.place _ c.requires.place c.in-Some-spans.is,
       span-read c.args.spans.now before _ inside c.in-Some-spans-2.is,
       number-read c.args.groups.now before there,
-      c.same_registers.ensures c.if-same_registers.true,
+      c.same_registers.ensures.0 c.if-same_registers.true,
     )
