@@ -7,9 +7,9 @@ use Rattle.std.proofs.lemmas.List.{get_or-replicate, get_or_past, length-replica
 use Rattle.std.proofs.lemmas.Option.{same_Some, none-some}
 use Rattle.std.proofs.lemmas.List.Elements.{Contains-push_cases, Contains-push, Contains-append_left}
 use Rattle.std.proofs.lemmas.List.Sums.{sum_by-cons}
-use Rattle.digraph.specs.Way.{Way, way_ends, way_goes, total, IsGreatest}
+use Rattle.digraph.specs.Way.{Leads, by_step, by_more, Way, way_ends, way_goes, total, IsGreatest}
 use Rattle.digraph.specs.Graph.{next, Edge, weight_of}
-use Rattle.digraph.specs.Settled.{known_at, settled, IsTable, IsMostOf}
+use Rattle.digraph.specs.Settled.{known_at, settled, IsTable, IsMostOf, NoneRecurs}
 
 -- ---- what is settled
 
@@ -60,6 +60,22 @@ greatest-here g ws known v best table most = elim most.some [
         let rest = below w (total (weight_of ws) vs) (known_at known w) refl (most.each w e)
         (λ b is. (table.greatest w b is).none_more vs more) in omega arith
 
+none-here :
+    (g : List (List ℕ)) (ws : List ℕ) (known : List (Option ℕ)) (v best : ℕ)
+    → IsTable g ws known → IsMostOf known (next g v) best → NoneRecurs g v
+none-here g ws known v best table most u r = elim r.there [
+  | inl at ↦ past u (subst (λ x. Leads (Edge g) x u) (sym at) r.again) r.again
+  | inr leads ↦ past u leads r.again
+]
+  where
+    known-next : (w : ℕ) (o : Option ℕ) → known_at known w ≡ o → IsSomeAnd o (λ b. b ≤ best) → NoneRecurs g w
+    known-next w None is h = absurd h
+    known-next w (Some b) is h = table.ends w b is
+
+    past : (u : ℕ) → Leads (Edge g) v u → Leads (Edge g) u u → ⊥
+    past u (by_step e) again = known-next u (known_at known u) refl (most.each u e) u (record { there = inl refl; again = again })
+    past u (by_more {b = w} e more) again = known-next w (known_at known w) refl (most.each w e) u (record { there = inr more; again = again })
+
 pub table-more :
     (g : List (List ℕ)) (ws : List ℕ) (known : List (Option ℕ)) (v best : ℕ)
     → IsTable g ws known → v < length g → length ws ≡ length g → known_at known v ≡ None → IsMostOf known (next g v) best
@@ -68,6 +84,7 @@ table-more g ws known v best table inside sized is most = record {
   lengths = length-set known v (Some (weight_of ws v + best)) ∙ table.lengths;
   greatest = greatest;
   bounded = bounded;
+  ends = ends;
 }
   where
     there : v < length known
@@ -86,6 +103,12 @@ table-more g ws known v best table inside sized is most = record {
           let eq : weight_of ws v + best ≡ b = same_Some (weight_of ws v + best) b (sym same ∙ here) in
           subst (λ x. IsGreatest (Edge g) (weight_of ws) x b) (sym at) (subst (IsGreatest (Edge g) (weight_of ws) v) eq (greatest-here g ws known v best table most))
       | inr other ↦ table.greatest u b (sym (get_or-set_other known v u (Some (weight_of ws v + best)) None other) ∙ e)
+    ]
+
+    ends : (u b : ℕ) → known_at (set known v (Some (weight_of ws v + best))) u ≡ Some b → NoneRecurs g u
+    ends u b e = elim (cases_eq u v) [
+      | inl at ↦ subst (NoneRecurs g) (sym at) (none-here g ws known v best table most)
+      | inr other ↦ table.ends u b (sym (get_or-set_other known v u (Some (weight_of ws v + best)) None other) ∙ e)
     ]
 
     best-least : best ≤ settled known ws

@@ -22,11 +22,16 @@ settled (k ∷ ks) [] = 0
 settled (None ∷ ks) (w ∷ ws) = settled ks ws
 settled (Some b ∷ ks) (w ∷ ws) = w + settled ks ws
 
--- what is known is the greatest sum of a way from the vertex
+-- no vertex to which ways from this one lead comes again
+abbrev pub NoneRecurs : List (List ℕ) → ℕ → Type 0
+NoneRecurs g from = (v : ℕ) → ¬ (Recurs (Edge g) from v)
+
+-- what is known is the greatest sum of a way from the vertex, and no way from it comes to a vertex again
 pub record IsTable (g : List (List ℕ)) (weights : List ℕ) (known : List (Option ℕ)) : Type 0 where
   pub lengths : length known ≡ length g
   pub greatest : (v b : ℕ) → known_at known v ≡ Some b → IsGreatest (Edge g) (weight_of weights) v b
   pub bounded : (v b : ℕ) → known_at known v ≡ Some b → b ≤ settled known weights
+  pub ends : (v b : ℕ) → known_at known v ≡ Some b → NoneRecurs g v
 
 -- an edge goes to a vertex whose sum is not known
 pub record HasUnknown (known : List (Option ℕ)) (vs : List ℕ) : Type 0 where
@@ -48,7 +53,7 @@ abbrev pub Settles : List (List ℕ) → List (Option ℕ) → List (Option ℕ)
 Settles g old new IsOne true = unknown new < unknown old
 Settles g old new IsOne false = (new ≡ old) × ((v : ℕ) → IsOne v → IsStuck g old v)
 
--- the greatest sum from a vertex, or where there is none a vertex that comes again
+-- the greatest sum from a vertex from which no way comes to a vertex again; none, and a vertex that comes again
 abbrev pub IsSumFrom : List (List ℕ) → List ℕ → ℕ → Option ℕ → Type 0
 IsSumFrom g weights from None = (v : ℕ) × Recurs (Edge g) from v
-IsSumFrom g weights from (Some b) = IsGreatest (Edge g) (weight_of weights) from b
+IsSumFrom g weights from (Some b) = IsGreatest (Edge g) (weight_of weights) from b × NoneRecurs g from

@@ -6,7 +6,7 @@ use crate::graph::Digraph;
 use crate::hints::look_over;
 use std::alloc::{AllocError, Global};
 
-/// The greatest sum of the weights of the vertices of a way from a vertex; none only where ways from it come to a
+/// The greatest sum of the weights of the vertices of a way from a vertex; none exactly where a way from it comes to a
 /// vertex again.
 pub fn greatest(
     alloc: Global,

@@ -70,7 +70,7 @@ module _ (w : Linked) (world : IsWorld w) (sound : OperationsAreSound w) (g : Li
     greatest-chain by weights most are great =
         greatest-alike (weight_of weights) (measure w by) are.methods most
         (greatest-told g (length w.methods) (rank w world g graph) (Calls w) (calls-are-told w world sound g graph) (weight_of weights) are.others entry most
-        inside great)
+        inside great.0)
 
     -- where no method stands twice there is a sum
     pub some-sum : (weights : List ℕ) → ((n : ℕ) → ¬ (StandsTwiceInWay (Calls w) entry n)) → ¬ (IsSumFrom g weights entry None)
