@@ -19,9 +19,9 @@ use Rattle.vm_arithmetic.specs.Arithmetic.{succeeds}
 use Rattle.cap_bare.specs.Format.{is_bare, instruction_of}
 use Rattle.cap_bare.specs.Effects.{register_of, cells_taken, cells_given}
 use Rattle.cap_bare.specs.Code.{fetched, HasInstruction, IsPlace, IsTargetPlace}
-use Rattle.cap_bare.specs.Typing.{Kind, shorts, register_count, IsTyped, CardTyping}
+use Rattle.cap_bare.specs.Typing.{Kind, shorts, register_count, IsTyped, BareTyping}
 use Rattle.cap_bare.specs.Walk.{is_place}
-use Rattle.cap_bare.specs.Machine.{Frame, State, Outcome, running, returned, faulted, jump_fault, local_fault, stack_fault, Lead, leads, gives, frame}
+use Rattle.cap_bare.specs.Machine.{BareFrame, BareState, BareOutcome, running, returned, faulted, jump_fault, local_fault, stack_fault, Lead, leads, gives, frame}
 use Rattle.cap_bare.specs.Machine.{top_of_stack, second, acted, acts, branch_target, has_register, place_number, settled, performed, step, go_on, after}
 use Rattle.cap_bare.specs.Machine.{entered, IsFault, IsSafe, IsFaultFree}
 use Rattle.cap_bare.proofs.Operands.{branches, goes_on as falls_on, branches-jumps, goes_on-falls}
@@ -31,12 +31,12 @@ use Rattle.cap_bare.proofs.Rule.{shorts-length}
 
 -- where an instruction may lead, and what it does to the numbers of registers and of cells
 pub data IsActed (i : Instruction) (t : ℤ) (next : ℕ) (r s : List ℤ) : Lead → Type 0 where
-  acts_on : (to : ℤ) (f : Frame) → ((to ≡ pos next) × (falls_on i ≡ true)) ⊎ ((to ≡ t) × (branches i ≡ true))
+  acts_on : (to : ℤ) (f : BareFrame) → ((to ≡ pos next) × (falls_on i ≡ true)) ⊎ ((to ≡ t) × (branches i ≡ true))
       → length f.registers ≡ length r → length f.stack ≡ length s - cells_taken i + cells_given i
       → IsActed i t next r s (leads to f)
   acts_out : (n : ℤ) → cells_given i ≡ 0 → IsActed i t next r s (gives n)
 
-acted-either : (i : Instruction) (t : ℤ) (next : ℕ) (r s : List ℤ) (b : Bool) (f : Frame) → branches i ≡ true → falls_on i ≡ true
+acted-either : (i : Instruction) (t : ℤ) (next : ℕ) (r s : List ℤ) (b : Bool) (f : BareFrame) → branches i ≡ true → falls_on i ≡ true
     → length f.registers ≡ length r → length f.stack ≡ length s - cells_taken i + cells_given i
     → IsActed i t next r s (leads (if b then t else pos next) f)
 acted-either i t next r s true f e g k l = acts_on t f (inr (refl, e)) k l
@@ -62,10 +62,10 @@ acted-is Goto t next r s h = acts_on t (frame r s) (inr (refl, refl)) refl (omeg
 acted-is Return t next r s h = acts_out (top_of_stack s) refl
 
 -- where an instruction of the code may lead
-abbrev pub IsActing : List ℕ → Placed → Frame → Lead → Type 0
+abbrev pub IsActing : List ℕ → Placed → BareFrame → Lead → Type 0
 IsActing code i f l = IsActed (instruction_of i.insn) (branch_target code i) (place_after i) f.registers f.stack l
 
-pub acting : (code : List ℕ) (i : Placed) (f : Frame) → cells_taken (instruction_of i.insn) ≤ length f.stack
+pub acting : (code : List ℕ) (i : Placed) (f : BareFrame) → cells_taken (instruction_of i.insn) ≤ length f.stack
     → IsActing code i f (acts code i f)
 acting code i f h = acted-is (instruction_of i.insn) (branch_target code i) (place_after i) f.registers f.stack h
 
@@ -79,17 +79,17 @@ register-there bare (Some x) h = ltb-true _ _ h
 
 module _ (code : List ℕ) (bare : Bare) where
   -- a step's tests, passed
-  pub record Sound (s : State) (i : Insn) : Type 0 where
+  pub record Sound (s : BareState) (i : Insn) : Type 0 where
     pub found : fetched code s.place ≡ Ok i
     pub local : IfSome (register_of (instruction_of i)) (λ x. x < register_count bare)
     pub cells : cells_taken (instruction_of i) ≤ length s.frame.stack
     pub is : step code bare s ≡ settled code bare (acts code (here s.place i) s.frame)
 
   -- a step that meets no fault passes them
-  abbrev NoFault : Outcome → Type 0
+  abbrev NoFault : BareOutcome → Type 0
   NoFault o = IsFault o → ⊥
 
-  sound-from : (s : State) (b : Bool) → is_place code (pos s.place) ≡ b → (r : Result Insn CodeEnd) → fetched code s.place ≡ r
+  sound-from : (s : BareState) (b : Bool) → is_place code (pos s.place) ≡ b → (r : Result Insn CodeEnd) → fetched code s.place ≡ r
       → step code bare s ≡ (if b then performed code bare s r else faulted jump_fault)
       → NoFault (if b then performed code bare s r else faulted jump_fault) → (i : Insn) × Sound s i
   sound-from s false p r f e h = absurd (h tt)
@@ -115,17 +115,17 @@ module _ (code : List ℕ) (bare : Bare) where
         },
       )
 
-  pub sound : (s : State) → (IsFault (step code bare s) → ⊥) → (i : Insn) × Sound s i
+  pub sound : (s : BareState) → (IsFault (step code bare s) → ⊥) → (i : Insn) × Sound s i
   unfolding step
   sound s h = sound-from s (is_place code (pos s.place)) refl (fetched code s.place) refl refl h
 
   -- where a frame goes on, it has room and stands before an instruction
-  pub record Settled (to : ℤ) (f : Frame) : Type 0 where
+  pub record Settled (to : ℤ) (f : BareFrame) : Type 0 where
     pub room : length f.stack ≤ bare.max_stack
     pub there : is_place code to ≡ true
     pub is : settled code bare (leads to f) ≡ running (record { place = place_number to; frame = f })
 
-  pub settled-from : (to : ℤ) (f : Frame) → (IsFault (settled code bare (leads to f)) → ⊥) → Settled to f
+  pub settled-from : (to : ℤ) (f : BareFrame) → (IsFault (settled code bare (leads to f)) → ⊥) → Settled to f
   settled-from to f h = by_tests (nat_lt bare.max_stack (length f.stack)) refl (is_place code to) refl refl h
     where
       by_tests : (b : Bool) → nat_lt bare.max_stack (length f.stack) ≡ b → (c : Bool) → is_place code to ≡ c
@@ -138,33 +138,33 @@ module _ (code : List ℕ) (bare : Bare) where
       by_tests false k true t e h = record { room = ltb-false _ _ k; there = t; is = e }
 
   -- a run that meets no fault takes a step that meets none, and goes on so
-  pub safe-step : (s : State) → IsSafe code bare s → IsFault (step code bare s) → ⊥
+  pub safe-step : (s : BareState) → IsSafe code bare s → IsFault (step code bare s) → ⊥
   unfolding after
   safe-step s safe h = by_outcome (step code bare s) h (safe 1)
     where
-      by_outcome : (o : Outcome) → IsFault o → (IsFault (go_on o (after 0 code bare)) → ⊥) → ⊥
+      by_outcome : (o : BareOutcome) → IsFault o → (IsFault (go_on o (after 0 code bare)) → ⊥) → ⊥
       by_outcome (faulted f) h k = k h
       by_outcome (running t) h k = h
       by_outcome (returned n) h k = h
 
-  pub safe-next : (s t : State) → step code bare s ≡ running t → IsSafe code bare s → IsSafe code bare t
+  pub safe-next : (s t : BareState) → step code bare s ≡ running t → IsSafe code bare s → IsSafe code bare t
   unfolding after
   safe-next s t e safe n h =
-      safe (suc n) (subst (λ (o : Outcome). IsFault (go_on o (after n code bare))) (sym e) h)
+      safe (suc n) (subst (λ (o : BareOutcome). IsFault (go_on o (after n code bare))) (sym e) h)
 
-  pub after-next : (n : ℕ) (s t : State) → step code bare s ≡ running t → after (suc n) code bare s ≡ after n code bare t
+  pub after-next : (n : ℕ) (s t : BareState) → step code bare s ≡ running t → after (suc n) code bare s ≡ after n code bare t
   unfolding after
   after-next n s t e = rw e refl
 
-  pub after-end : (n : ℕ) (s : State) (v : ℤ) → step code bare s ≡ returned v → after (suc n) code bare s ≡ returned v
+  pub after-end : (n : ℕ) (s : BareState) (v : ℤ) → step code bare s ≡ returned v → after (suc n) code bare s ≡ returned v
   unfolding after
   after-end n s v e = rw e refl
 
-  pub after-none : (s : State) → after 0 code bare s ≡ running s
+  pub after-none : (s : BareState) → after 0 code bare s ≡ running s
   unfolding after
   after-none s = refl
 
-  module _ (filled : 1 ≤ length code) (t : CardTyping code bare) where
+  module _ (filled : 1 ≤ length code) (t : BareTyping code bare) where
     -- an instruction stands at the first place, and after each but the last
     first-place : IsPlace code 0
     first-place = by_found (fetched code 0) refl
@@ -177,16 +177,16 @@ module _ (code : List ℕ) (bare : Bare) where
     next-place i s lt = ⊎_elim (λ e. absurd (omega (arith, e, t.well_formed.ends, lt))) (λ j. j) (stands-next code i s)
 
     -- a state has the registers, the cells and a place that the typing says
-    record Agrees (s : State) : Type 0 where
+    record Agrees (s : BareState) : Type 0 where
       place : IsPlace code s.place
       registers : length s.frame.registers ≡ register_count bare
       stack : length s.frame.stack ≡ length (t.stacks s.place)
 
-    data Goes (s : State) : Type 0 where
-      goes_on : (next : State) → step code bare s ≡ running next → Agrees next → Goes s
+    data Goes (s : BareState) : Type 0 where
+      goes_on : (next : BareState) → step code bare s ≡ running next → Agrees next → Goes s
       goes_out : (n : ℤ) → step code bare s ≡ returned n → Goes s
 
-    settled-is : (to : ℤ) (f : Frame) → length f.stack ≤ bare.max_stack → is_place code to ≡ true
+    settled-is : (to : ℤ) (f : BareFrame) → length f.stack ≤ bare.max_stack → is_place code to ≡ true
         → settled code bare (leads to f) ≡ running (record { place = place_number to; frame = f })
     settled-is to f room p = let k = le-ltb bare.max_stack (length f.stack) room in rw (k, p) refl
 
@@ -235,7 +235,7 @@ module _ (code : List ℕ) (bare : Bare) where
             next-branch i k s to j leads (All-contains (IsTargetPlace code) (targets code i) to (t.well_formed.leads i s) leads)
 
     -- the tests before an instruction pass
-    performed-is : (s : State) (i : Insn) → Agrees s → fetched code s.place ≡ Ok i
+    performed-is : (s : BareState) (i : Insn) → Agrees s → fetched code s.place ≡ Ok i
         → has_register bare (register_of (instruction_of i)) ≡ true
         → cells_taken (instruction_of i) ≤ length s.frame.stack
         → step code bare s ≡ settled code bare (acts code (here s.place i) s.frame)
@@ -244,7 +244,7 @@ module _ (code : List ℕ) (bare : Bare) where
         let p : is_place code (pos s.place) ≡ true = place-true code (pos s.place) a.place in
         let k = le-ltb (length s.frame.stack) (cells_taken (instruction_of i)) c in rw (p, f, r, k) refl
 
-    one-step : (s : State) → Agrees s → Goes s
+    one-step : (s : BareState) → Agrees s → Goes s
     one-step s a =
         by_lead (acts code i s.frame)
         (acting code i s.frame cells)
@@ -295,14 +295,14 @@ module _ (code : List ℕ) (bare : Bare) where
             })
         by_lead _ (acts_out n z) e = goes_out n e
 
-    safe : (n : ℕ) (s : State) → Agrees s → IsFault (after n code bare s) → ⊥
+    safe : (n : ℕ) (s : BareState) → Agrees s → IsFault (after n code bare s) → ⊥
     unfolding after
     safe zero s a h = h
     safe (suc n) s a h = by_step (one-step s a) (safe n)
       where
-        by_step : Goes s → ((u : State) → Agrees u → IsFault (after n code bare u) → ⊥) → ⊥
-        by_step (goes_on next e b) more = more next b (subst (λ (o : Outcome). IsFault (go_on o (after n code bare))) e h)
-        by_step (goes_out v e) more = subst (λ (o : Outcome). IsFault (go_on o (after n code bare))) e h
+        by_step : Goes s → ((u : BareState) → Agrees u → IsFault (after n code bare u) → ⊥) → ⊥
+        by_step (goes_on next e b) more = more next b (subst (λ (o : BareOutcome). IsFault (go_on o (after n code bare))) e h)
+        by_step (goes_out v e) more = subst (λ (o : BareOutcome). IsFault (go_on o (after n code bare))) e h
 
     pub fault-free : IsFaultFree code bare
     fault-free args e n h =

@@ -14,14 +14,14 @@ use Rattle.cap_bare.specs.Effects.{register_of, cells_taken, cells_given}
 use Rattle.cap_bare.specs.Format.{instruction_of}
 use Rattle.cap_bare.specs.Code.{fetched, IsTargetPlace}
 use Rattle.cap_bare.specs.Typing.{register_count}
-use Rattle.cap_bare.specs.Machine.{Frame, State, running, returned, Lead, leads, gives, frame, acted, acts, branch_target, place_number, settled, step, IsFault}
+use Rattle.cap_bare.specs.Machine.{BareFrame, BareState, running, returned, Lead, leads, gives, frame, acted, acts, branch_target, place_number, settled, step, IsFault}
 use Rattle.cap_bare.specs.Machine.{IsSafe}
 use Rattle.cap_bare.specs.Leading.{CanAct, state_in_frame}
 use Rattle.cap_bare.proofs.Instructions.{here, here-inside, stands-here}
 use Rattle.cap_bare.proofs.Places.{place-from}
 use Rattle.cap_bare.proofs.Running.{IsActing, acts_on, acts_out, acting, Sound, sound, settled-from, safe-step}
 
-module _ (code : List ℕ) (bare : Bare) (s : State) (safe : IsSafe code bare s) where
+module _ (code : List ℕ) (bare : Bare) (s : BareState) (safe : IsSafe code bare s) where
   pub never-none : (end : CodeEnd) → fetched code s.place ≡ Err end → ⊥
   never-none end e = let k = sound code bare s (safe-step code bare s safe) in let found = k.1.found in cc
 
@@ -51,13 +51,13 @@ module _ (code : List ℕ) (bare : Bare) (s : State) (safe : IsSafe code bare s)
         by_lead _ (acts_out n z) h lt = absurd (omega arith)
 
     -- where the step leads to a place
-    pub record Going (to : ℤ) (f : Frame) : Type 0 where
+    pub record Going (to : ℤ) (f : BareFrame) : Type 0 where
       pub place : ℕ
       pub is : to ≡ pos place
       pub small : place < length code
       pub stepped : step code bare s ≡ running (state_in_frame place f)
 
-    going-at : (to : ℤ) (f : Frame) → IsTargetPlace code to → step code bare s ≡ running (state_in_frame (place_number to) f) → Going to f
+    going-at : (to : ℤ) (f : BareFrame) → IsTargetPlace code to → step code bare s ≡ running (state_in_frame (place_number to) f) → Going to f
     going-at (pos p) f h e =
         let inside = here-inside code h.0.place h.0 (stands-here code h.0 h.1) in
         let small : p < length code = omega (arith, h.2, inside.farther, inside.inside) in
@@ -72,7 +72,7 @@ module _ (code : List ℕ) (bare : Bare) (s : State) (safe : IsSafe code bare s)
       is-made : (l : Lead) → l ≡ made → acts code (here s.place i) s.frame ≡ l
       is-made l a = sym (a ∙ (rw (same, target) refl))
 
-      pub step-to : (to : ℤ) (f : Frame) → leads to f ≡ made → Going to f
+      pub step-to : (to : ℤ) (f : BareFrame) → leads to f ≡ made → Going to f
       step-to to f a =
           let e = is-made (leads to f) a in
           let k = settled-from code bare to f (settles (leads to f) e) in
@@ -82,7 +82,7 @@ module _ (code : List ℕ) (bare : Bare) (s : State) (safe : IsSafe code bare s)
       step-out n a = sound-at.is ∙ ap (settled code bare) (is-made (gives n) a)
 
   -- a step keeps the number of registers
-  pub registers-kept : (t : State) → step code bare s ≡ running t → length t.frame.registers ≡ length s.frame.registers
+  pub registers-kept : (t : BareState) → step code bare s ≡ running t → length t.frame.registers ≡ length s.frame.registers
   registers-kept t e =
       let k = sound code bare s (safe-step code bare s safe) in
       by_lead k.0 _ (acting code (here s.place k.0) s.frame k.1.cells) (sym k.1.is ∙ e)
@@ -92,7 +92,7 @@ module _ (code : List ℕ) (bare : Bare) (s : State) (safe : IsSafe code bare s)
       by_lead i _ (acts_on to f w r c) h =
           let k = settled-from code bare to f (λ fault. subst IsFault h fault) in
           let same : state_in_frame (place_number to) f ≡ t = cc (k.is, h) in
-          ap (λ (u : State). length u.frame.registers) (sym same) ∙ r
+          ap (λ (u : BareState). length u.frame.registers) (sym same) ∙ r
       by_lead i _ (acts_out n z) h = absurd (cc)
 
 -- a place that the machine's word holds
@@ -104,5 +104,5 @@ pub place-fits : (z : ℤ) (p : ℕ) → z ≡ pos p → p < 2 ^ 15
 place-fits z p e h = rw (word-is z p e h) (tt, omega arith)
 
 -- a frame is its registers and its stack
-pub frame-is : (f : Frame) (registers stack : List ℤ) → f.registers ≡ registers → f.stack ≡ stack → f ≡ frame registers stack
+pub frame-is : (f : BareFrame) (registers stack : List ℤ) → f.registers ≡ registers → f.stack ≡ stack → f ≡ frame registers stack
 frame-is f registers stack r s = ap (λ (xs : List ℤ). frame xs f.stack) r ∙ ap (frame registers) s

@@ -11,7 +11,7 @@ use Rattle.cap_bare.specs.Format.{instruction_of}
 use Rattle.jc_decode.specs.Listing.{targets}
 use Rattle.cap_bare.specs.Code.{IsFirstFlaw, IsFlawKind, IsTargetPlace, IsWellFormed}
 use Rattle.cap_bare.specs.Laws.{LeadsOn}
-use Rattle.cap_bare.specs.Typing.{CardTyping, Kind}
+use Rattle.cap_bare.specs.Typing.{BareTyping, Kind}
 use Rattle.cap_bare.specs.Met.{IsRefused, IsWrong, RuleFails, fails_local, fails_cells, fails_room, wrong_target, wrong_rule, wrong_branch, wrong_end}
 use Rattle.cap_bare.specs.Met.{refused_flaw, refused_state}
 use Rattle.cap_bare.specs.Walk.{WalksFind}
@@ -42,7 +42,7 @@ refused-kind code bare _ (refused_state i registers stack kind w s m k) =
     ((λ h _. wrong-kind code bare i registers stack kind k h), (λ h. absurd (h w)))
 
 module _ (code : List ℕ) (bare : Bare) where
-  pub verdict-accepted : (r : Result (Unit {0}) BareFault) → WalksFind code bare r → OnOk r (CardTyping code bare)
+  pub verdict-accepted : (r : Result (Unit {0}) BareFault) → WalksFind code bare r → OnOk r (BareTyping code bare)
   verdict-accepted (Ok u) h = typing code bare h.0 h.1
   verdict-accepted (Err f) h = tt
 
@@ -53,7 +53,7 @@ module _ (code : List ℕ) (bare : Bare) where
   verdict-refused (Ok u) h = tt
   verdict-refused (Err f) h = refused-by f h
 
-  pub verdict-complete : (r : Result (Unit {0}) BareFault) → WalksFind code bare r → CardTyping code bare → IsOk r
+  pub verdict-complete : (r : Result (Unit {0}) BareFault) → WalksFind code bare r → BareTyping code bare → IsOk r
   verdict-complete (Ok u) h t = refl
   verdict-complete (Err f) h t =
       ⊎_elim (λ first. absurd (flaw-not code f t.well_formed first.flaw)) (λ wrong. let ok = accepts code bare t in absurd (cc (ok, wrong.1))) h

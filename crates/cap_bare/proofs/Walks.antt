@@ -18,7 +18,7 @@ use Rattle.cap_bare.specs.Format.{instruction_of}
 use Rattle.cap_bare.specs.Effects.{register_written, cells_taken, cells_given}
 use Rattle.cap_bare.specs.Code.{fetched, instructions, HasInstruction, IsPlace, IsTargetPlace, IsTarget, IsWellFormed, fault}
 use Rattle.cap_bare.specs.Window.{IsSuffixAt}
-use Rattle.cap_bare.specs.Typing.{Kind, bottom, short, IsBelow, below_itself, shorts, register_count, Applies, IsTyped, CardTyping}
+use Rattle.cap_bare.specs.Typing.{Kind, bottom, short, IsBelow, below_itself, shorts, register_count, Applies, IsTyped, BareTyping}
 use Rattle.cap_bare.specs.Met.{declared, with_raised, raised_at, Passes, IsMet, met_entry, met_next, IsRefused, refused_state}
 use Rattle.cap_bare.specs.Walk.{passed, then_on, first_wrong}
 use Rattle.cap_bare.proofs.Instructions.{IsInside, here-inside, IsHere, Lists, head-here, tail-lists, lists-instructions, stands-here, reached-first}
@@ -177,7 +177,7 @@ module _ (code : List ℕ) (bare : Bare) where
     first-depth : (is : List Placed) → Lists code 0 is → depth_at 0 is 0 ≡ 0
     first-depth is l = depth-next is 0 0 l (λ none. refl)
 
-    pub typing : first_wrong code bare 0 (instructions code) ≡ Ok tt → CardTyping code bare
+    pub typing : first_wrong code bare 0 (instructions code) ≡ Ok tt → BareTyping code bare
     typing h =
         let all = accepted (instructions code) 0 0 (reached-first code) (lists-instructions code 0) h in
         let at_target : (place : ℕ) → IsTarget code place → depths place ≡ 0 =
@@ -267,7 +267,7 @@ module _ (code : List ℕ) (bare : Bare) where
         refused (instructions code) 0 0 (declared bare) f (reached-first code) (lists-instructions code 0) (declared-length bare) met_entry h
 
   -- a method with a card typing is accepted
-  module _ (t : CardTyping code bare) where
+  module _ (t : BareTyping code bare) where
     typed-leaves : (i : Placed) (after : ℕ) (stack : List Kind) (falls : Bool) → stack ≡ shorts after
         → MatchBool falls ((place_after i < length code) × (t.stacks (place_after i) ≡ stack)) (t.stacks (place_after i) ≡ [])
         → (next : ℕ) × Leaves code i after next falls × (t.stacks (place_after i) ≡ shorts next)

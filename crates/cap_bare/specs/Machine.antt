@@ -25,14 +25,14 @@ use Rattle.cap_bare.specs.Walk.{is_place}
 use Rattle.cap_bare.specs.Typing.{register_count}
 
 -- the shorts in the registers, and those on the stack, top first
-pub record Frame : Type 0 where
+pub record BareFrame : Type 0 where
   pub registers : List ℤ
   pub stack : List ℤ
 
 -- a frame before the instruction at a place
-pub record State : Type 0 where
+pub record BareState : Type 0 where
   pub place : ℕ
-  pub frame : Frame
+  pub frame : BareFrame
 
 -- a place that is none, a register that the method doesn't have, too few or too many cells
 pub data Fault : Type 0 where
@@ -40,14 +40,14 @@ pub data Fault : Type 0 where
   local_fault : Fault
   stack_fault : Fault
 
-pub data Outcome : Type 0 where
-  running : State → Outcome
-  returned : ℤ → Outcome
-  faulted : Fault → Outcome
+pub data BareOutcome : Type 0 where
+  running : BareState → BareOutcome
+  returned : ℤ → BareOutcome
+  faulted : Fault → BareOutcome
 
 -- where an instruction leads: to a place with a frame, or out of the method with its result
 pub data Lead : Type 0 where
-  leads : ℤ → Frame → Lead
+  leads : ℤ → BareFrame → Lead
   gives : ℤ → Lead
 
 abbrev pub top_of_stack : List ℤ → ℤ
@@ -56,7 +56,7 @@ top_of_stack stack = slice_index_or stack 0 (pos 0)
 abbrev pub second : List ℤ → ℤ
 second stack = slice_index_or stack 1 (pos 0)
 
-abbrev pub frame : List ℤ → List ℤ → Frame
+abbrev pub frame : List ℤ → List ℤ → BareFrame
 frame registers stack = record { registers = registers; stack = stack }
 
 -- bare methods have no division, and so a result for any two shorts
@@ -86,7 +86,7 @@ abbrev pub branch_target : List ℕ → Placed → ℤ
 branch_target code i = slice_index_or (targets code i) 0 (pos 0)
 
 -- what an instruction of the code does in a frame
-abbrev pub acts : List ℕ → Placed → Frame → Lead
+abbrev pub acts : List ℕ → Placed → BareFrame → Lead
 acts code i f = acted (instruction_of i.insn) (branch_target code i) (place_after i) f.registers f.stack
 
 abbrev pub has_register : Bare → Option ℕ → Bool
@@ -98,7 +98,7 @@ place_number (pos place) = place
 place_number _ = 0
 
 -- the tests after an instruction: room on the stack, and a place to go on at
-abbrev pub settled : List ℕ → Bare → Lead → Outcome
+abbrev pub settled : List ℕ → Bare → Lead → BareOutcome
 settled code bare (gives n) = returned n
 settled code bare (leads to f) =
     if nat_lt bare.max_stack (length f.stack) then faulted stack_fault
@@ -106,7 +106,7 @@ settled code bare (leads to f) =
     else faulted jump_fault
 
 -- the tests before an instruction: its register, and cells enough
-abbrev pub performed : List ℕ → Bare → State → Result Insn CodeEnd → Outcome
+abbrev pub performed : List ℕ → Bare → BareState → Result Insn CodeEnd → BareOutcome
 performed code bare s (Err end) = faulted jump_fault
 performed code bare s (Ok insn) =
     if has_register bare (register_of (instruction_of insn))
@@ -115,29 +115,29 @@ performed code bare s (Ok insn) =
     else faulted local_fault
 
 -- one step
-unfoldable pub step : List ℕ → Bare → State → Outcome
+unfoldable pub step : List ℕ → Bare → BareState → BareOutcome
 step code bare s = if is_place code (pos s.place) then performed code bare s (fetched code s.place) else faulted jump_fault
 
-abbrev pub go_on : Outcome → (State → Outcome) → Outcome
+abbrev pub go_on : BareOutcome → (BareState → BareOutcome) → BareOutcome
 go_on (running s) rest = rest s
 go_on (returned n) rest = returned n
 go_on (faulted f) rest = faulted f
 
 -- the ending, where one comes within so many steps, and else the state after them
-unfoldable pub after : ℕ → List ℕ → Bare → State → Outcome
+unfoldable pub after : ℕ → List ℕ → Bare → BareState → BareOutcome
 after zero code bare s = running s
 after (suc n) code bare s = go_on (step code bare s) (after n code bare)
 
 -- a method is entered with its arguments in the first registers, and 0 in the others
-abbrev pub entered : Bare → List ℤ → State
+abbrev pub entered : Bare → List ℤ → BareState
 entered bare args = record { place = 0; frame = frame (args ++ replicate bare.max_locals (pos 0)) [] }
 
-abbrev pub IsFault : Outcome → Type 0
+abbrev pub IsFault : BareOutcome → Type 0
 IsFault (faulted f) = Unit {0}
 IsFault _ = ⊥
 
 -- no number of steps from here meets a fault
-abbrev pub IsSafe : List ℕ → Bare → State → Type 0
+abbrev pub IsSafe : List ℕ → Bare → BareState → Type 0
 IsSafe code bare s = (n : ℕ) → IsFault (after n code bare s) → ⊥
 
 -- no arguments make a run that meets a fault
@@ -145,6 +145,6 @@ abbrev pub IsFaultFree : List ℕ → Bare → Type 0
 IsFaultFree code bare = (args : List ℤ) → length args ≡ bare.nargs → IsSafe code bare (entered bare args)
 
 -- a run's answer: the result, or that no ending is reached
-abbrev pub RunAnswers : BareEnd → Outcome → Type 0
+abbrev pub RunAnswers : BareEnd → BareOutcome → Type 0
 RunAnswers (Returned n) outcome = outcome ≡ returned n
-RunAnswers Spent outcome = (s : State) × (outcome ≡ running s)
+RunAnswers Spent outcome = (s : BareState) × (outcome ≡ running s)

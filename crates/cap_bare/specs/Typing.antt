@@ -58,7 +58,7 @@ pub record IsTyped (code : List ℕ) (bare : Bare) (registers : List Kind) (stac
       (stacks (place_after i) ≡ [])
 
 -- a card typing of a well-formed method: one register list, and a stack before each place
-pub record CardTyping (code : List ℕ) (bare : Bare) : Type 0 where
+pub record BareTyping (code : List ℕ) (bare : Bare) : Type 0 where
   pub well_formed : IsWellFormed code
   pub registers : List Kind
   pub stacks : ℕ → List Kind

@@ -33,9 +33,9 @@ pub enum Lead {
 
 impl Model for Frame {
     ghost use Rattle.std.specs.Prelude.{reverse, ◌≤◌};
-    ghost use Rattle.cap_bare.specs.Machine.{Frame as Shorts};
+    ghost use Rattle.cap_bare.specs.Machine.{BareFrame};
 
-    ghost Value = { Shorts };
+    ghost Value = { BareFrame };
 
     ghost view = { λ f. record { registers = f.registers.items; stack = reverse f.stack.items } };
 }

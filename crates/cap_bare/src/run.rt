@@ -1,6 +1,6 @@
 ghost use Rattle.std.specs.Prelude.{◌≡◌, ◌≤◌, length, Ok};
 ghost use Rattle.jc_decode.specs.Decoding.{decoded};
-ghost use Rattle.cap_bare.specs.Typing.{CardTyping, IsCompact, register_count};
+ghost use Rattle.cap_bare.specs.Typing.{BareTyping, IsCompact, register_count};
 ghost use Rattle.cap_bare.specs.Machine.{RunAnswers, after, branch_target, entered, step, IsSafe};
 ghost use Rattle.cap_bare.specs.Leading.{state_in_frame, stepped};
 
@@ -34,7 +34,7 @@ pub fn bare_run(code: View<'_>, bare: Bare, args: &[i16], budget: u64) -> BareEn
     requires filled { 1 ≤ length code.bytes.now }
     requires short { length code.bytes.now ≤ 32767 }
     requires compact { IsCompact bare }
-    requires accepted { CardTyping code.bytes.now bare }
+    requires accepted { BareTyping code.bytes.now bare }
     requires arguments { length args.now ≡ bare.nargs }
     ensures { RunAnswers result (after budget code.entry.bytes.now bare (entered bare args.now)) }
 {

@@ -3,7 +3,7 @@ ghost use Rattle.jc_decode.specs.Decoding.{AreBytes, FitsLayout};
 ghost use Rattle.jc_decode.specs.Layout.{layout_of};
 ghost use Rattle.jc_decode.specs.Listing.{targets};
 ghost use Rattle.cap_bare.specs.Code.{instructions, IsFirstFlaw, IsFlawKind, IsPlace, IsTarget, IsTargetPlace, IsWellFormed, HasInstruction};
-ghost use Rattle.cap_bare.specs.Typing.{CardTyping, IsCompact};
+ghost use Rattle.cap_bare.specs.Typing.{BareTyping, IsCompact};
 ghost use Rattle.cap_bare.specs.Laws.{LeadsOn};
 ghost use Rattle.cap_bare.specs.Met.{IsRefused};
 ghost use Rattle.cap_bare.specs.Walk.{is_at, is_place, is_target, applied, passed, first_wrong, WalksFind};
@@ -26,8 +26,8 @@ pub fn bare_verify(code: View<'_>, bare: Bare) -> Result<(), BareFault>
     requires filled { 1 ≤ length code.bytes.now }
     requires short { length code.bytes.now ≤ 32767 }
     requires compact { IsCompact bare }
-    ensures accepted { OnOk result (CardTyping code.entry.bytes.now bare) }
-    ensures complete { CardTyping code.entry.bytes.now bare → IsOk result }
+    ensures accepted { OnOk result (BareTyping code.entry.bytes.now bare) }
+    ensures complete { BareTyping code.entry.bytes.now bare → IsOk result }
     ensures refused { IfErr result (λ fault. IsRefused code.entry.bytes.now bare fault) }
     ensures first_flaw { (first : BareFault) → IsFirstFlaw code.entry.bytes.now first → result ≡ Err first }
     ensures ill_formed { IfErr result (λ fault. IsFlawKind fault.kind ↔ (IsWellFormed code.entry.bytes.now → ⊥)) }

@@ -4,7 +4,7 @@ use Rattle.std.proofs.Common.{◌∷◌, All, FitsSigned, w16}
 use Rattle.std.specs.Prelude.{Option, None, IfSome, IsSomeAnd, string_bytes, slice_get}
 use Rattle.std.specs.FinMap as map
 use Rattle.cap_files.specs.Folder.{Folders, Holds, IsThere, IsAbsent, IsTooLong}
-use Rattle.cap_bare.specs.Typing.{CardTyping}
+use Rattle.cap_bare.specs.Typing.{BareTyping}
 use Rattle.vm_step.specs.Arguments.{Argument, number}
 use Rattle.vm_step.specs.declared.start_fault.StartFault.{StartFault}
 use Rattle.vm_step.specs.declared.start_fault.StartFault.TheVariants.{NoEntry, NotStatic, ArgCount, ArgKind, ArgRoom}
@@ -104,7 +104,7 @@ unrefused : (p : ProbeRequest) (before : Folders) → CanProbe p before → (tex
 unrefused p before can text part =
     let of = part.holds in
     let method = subst (λ file. IsMethodFile file can.bare can.code) (same_file p before can part.file part.there) can.method in
-    of.holds.untyped (same_method part.file can.bare of.bare can.code of.code method of.method (λ bare code. CardTyping code bare) can.typed)
+    of.holds.untyped (same_method part.file can.bare of.bare can.code of.code method of.method (λ bare code. BareTyping code bare) can.typed)
 
 unbroken : (p : ProbeRequest) (before : Folders) → CanProbe p before → (text : List ℕ)
     → OfMethodPart p before (λ file. IsNoMethod file text ⊎ OfMethod file (λ bare code. IsUnstarted bare code p text)) → ⊥

@@ -3,7 +3,7 @@ use Rattle.std.specs.Prelude.{◌≡◌, ℕ, ℤ, ◌≤◌, List, length, Opti
 use Rattle.cap_files.specs.Counts.{Rose}
 use Rattle.cap_files.specs.Folder.{Parts, Folders, Holds}
 use Rattle.cap_bare.specs.declared.bare.Bare.{Bare}
-use Rattle.cap_bare.specs.Typing.{CardTyping}
+use Rattle.cap_bare.specs.Typing.{BareTyping}
 use Rattle.cap_listing.specs.declared.method.ListedMethod.{ListedMethod}
 use Rattle.cap_listing.specs.Placing.{placed}
 use Rattle.cap_listing.specs.Text.{Lists}
@@ -58,7 +58,7 @@ pub record CanProbe (p : ProbeRequest) (before : Folders) : Type 0 where
   pub bare : Bare
   pub code : List ℕ
   pub method : IsMethodFile file bare code
-  pub typed : CardTyping code bare
+  pub typed : BareTyping code bare
   pub values : List ℤ
   pub fit : AreShorts p.args bare.nargs values
 

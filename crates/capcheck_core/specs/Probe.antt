@@ -6,7 +6,7 @@ use Rattle.cap_components.specs.declared.fault.PackFault.TheVariants.{MissingPar
 use Rattle.cap_bare.specs.declared.bare.Bare.{Bare}
 use Rattle.cap_bare.specs.declared.fault.BareFault.{BareFault}
 use Rattle.cap_bare.specs.declared.run.BareEnd.{BareEnd}
-use Rattle.cap_bare.specs.Typing.{CardTyping}
+use Rattle.cap_bare.specs.Typing.{BareTyping}
 use Rattle.cap_bare.specs.Met.{IsRefused}
 use Rattle.cap_bare.specs.Machine.{RunAnswers, after, entered}
 use Rattle.vm_step.specs.declared.start_fault.StartFault.{StartFault}
@@ -19,7 +19,7 @@ use Rattle.capcheck_core.specs.Shorts.{AreShorts, RefusesStart}
 
 -- the method has a typing, and the text is how its run with the arguments ends within the budget
 pub record IsBareRun (bare : Bare) (code : List ℕ) (p : ProbeRequest) (text : List ℕ) : Type 0 where
-  pub typed : CardTyping code bare
+  pub typed : BareTyping code bare
   pub values : List ℤ
   pub fit : AreShorts p.args bare.nargs values
   pub end : BareEnd
@@ -28,14 +28,14 @@ pub record IsBareRun (bare : Bare) (code : List ℕ) (p : ProbeRequest) (text : 
 
 -- the verifier finds no typing, and the text names why
 pub record IsRefusal (bare : Bare) (code : List ℕ) (text : List ℕ) : Type 0 where
-  pub untyped : CardTyping code bare → ⊥
+  pub untyped : BareTyping code bare → ⊥
   pub fault : BareFault
   pub refused : IsRefused code bare fault
   pub prints : text ≡ refused_bare_line fault
 
 -- the method has a typing and does not start with the arguments, and the text names why
 pub record IsUnstarted (bare : Bare) (code : List ℕ) (p : ProbeRequest) (text : List ℕ) : Type 0 where
-  pub typed : CardTyping code bare
+  pub typed : BareTyping code bare
   pub fault : StartFault
   pub refused : RefusesStart p.args bare.nargs fault
   pub prints : text ≡ not_started_line fault

@@ -1,5 +1,5 @@
 ghost use Rattle.cap_bare.specs.BareFile.{IsVerifiable};
-ghost use Rattle.cap_bare.specs.Typing.{CardTyping};
+ghost use Rattle.cap_bare.specs.Typing.{BareTyping};
 ghost use Rattle.cap_text.specs.Probe.{probe_request};
 ghost use Rattle.capcheck_core.specs.Probe.{ProbesMethod, ProbesFile, Probes};
 
@@ -51,7 +51,7 @@ fn verify(alloc: Global, method: BareMethod<'_>, probe: &Probe<'_>) -> Verdict
 
 fn start(alloc: Global, method: BareMethod<'_>, probe: &Probe<'_>) -> Verdict
     requires verifiable { IsVerifiable method }
-    requires typed { CardTyping method.code.bytes.now method.bare }
+    requires typed { BareTyping method.code.bytes.now method.bare }
     ensures { ProbesMethod method.entry.bare method.entry.code.bytes.now (probe_request probe.now) result }
 {
     match shorts(&probe.args, method.bare.nargs) {

@@ -3,7 +3,7 @@ use Rattle.std.proofs.lemmas.List.{length-append, length-replicate}
 use Rattle.std.proofs.lemmas.Int.{to_z-of_z}
 use Rattle.std.specs.Int.{w16}
 use mir.Val.{SFits}
-use Rattle.cap_bare.specs.Machine.{State, after, entered, returned, IsSafe}
+use Rattle.cap_bare.specs.Machine.{BareState, after, entered, returned, IsSafe}
 use Rattle.cap_bare.specs.Leading.{state_in_frame}
 use Rattle.cap_bare.proofs.Running.{fault-free, safe-next, after-next, after-end, after-none}
 use Rattle.cap_bare.proofs.Stepping.{frame-is, registers-kept}
@@ -35,8 +35,8 @@ returns-in-Ended c =
 
 pub steps-preserved : goal.steps-preserved
 steps-preserved c =
-    let s : State = state_in_frame c.steps.place c.steps.frame in
-    let t : State = state_in_frame c.in-At.next c.step.new.frame in
+    let s : BareState = state_in_frame c.steps.place c.steps.frame in
+    let t : BareState = state_in_frame c.in-At.next c.step.new.frame in
     let n : c.args.budget - c.steps._taken ≡ suc (c.args.budget - (c.steps._taken + 1)) = omega arith in
     record {
       same =
